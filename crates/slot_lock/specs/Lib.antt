@@ -1,0 +1,4 @@
+pub mod Plan
+pub mod Slots
+pub mod Footprint
+pub mod Acquire

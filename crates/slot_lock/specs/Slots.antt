@@ -1,0 +1,179 @@
+-- What a slot map says of each page, and the changes of it
+use Rattle.std.specs.Prelude.{◌≡◌, ◌≢◌, ℕ, ◌+◌, ◌-◌, ◌^◌, ◌<◌, ◌≤◌, ◌↔◌, ◌⊎◌, Bool, true, false, Option, Some, None, is_some}
+use Rattle.vm_base.specs.declared.page.PageRange.{PageRange}
+use Rattle.vm_base.specs.declared.info.PageInfo.{PageInfo}
+use Rattle.vm_base.specs.declared.info.Meta.{Meta}
+use Rattle.vm_base.specs.declared.rights.Prot.{Prot}
+use Rattle.vm_base.specs.Functions.{put, over, across, has}
+use Rattle.vm_base.specs.Pages.{IsPage, IsPageRange}
+use Rattle.vm_base.specs.Info.{advance, info_from, is_leaf, unused, frame_of, is_recorded, info_with_prot, info_without_frame}
+use Rattle.slot_lock.specs.declared.slot_map.Fit.{Fit}
+use Rattle.slot_lock.specs.declared.slot_map.Fit.TheVariants.{Cut, Fits}
+use Rattle.slot_lock.specs.declared.slot_map.Got.{Got}
+use Rattle.slot_lock.specs.declared.slot_map.Got.TheVariants.{Split, Locked, Held}
+
+-- What a slot map says of each page: what it has, who owns its slot, and whether a slot begins at it
+pub record Slots : Type 0 where
+  pub info : ℕ → Option PageInfo
+  pub owner : ℕ → Option ℕ
+  pub edge : ℕ → Bool
+
+-- the pages from a up to b
+abbrev pub between : ℕ → ℕ → PageRange
+between a b = record { first = a; end = b }
+
+-- the pages from a up to b are one slot
+pub record IsSlot (s : Slots) (a b : ℕ) : Type 0 where
+  pub ordered : a < b
+  pub begins : s.edge a ≡ true
+  pub ends : s.edge b ≡ true
+  pub inside : (p : ℕ) → a < p → p < b → s.edge p ≡ false
+
+-- What holds of every slot map
+pub record IsSlotMap (s : Slots) : Type 0 where
+  pub limit : s.edge (2 ^ 35) ≡ true
+  -- what is no page is never mapped and never held
+  pub unmapped : (p : ℕ) → ¬ IsPage p → s.info p ≡ None
+  pub free : (p : ℕ) → ¬ IsPage p → s.owner p ≡ None
+  -- within a slot the owner is one, and the mapping goes on from page to page
+  pub same_owner : (p : ℕ) → IsPage p → s.edge (p + 1) ≡ false → s.owner (p + 1) ≡ s.owner p
+  pub goes_on : (p : ℕ) → IsPage p → s.edge (p + 1) ≡ false → s.info (p + 1) ≡ info_from (s.info p) 1
+  -- a page with a frame or a recorded core is a slot of its own
+  pub alone : (p : ℕ) → is_leaf (s.info p) ≡ true → (s.edge p ≡ true) × (s.edge (p + 1) ≡ true)
+
+-- nothing is mapped and nothing is held
+pub record IsNew (s : Slots) : Type 0 where
+  pub unmapped : (p : ℕ) → s.info p ≡ None
+  pub free : (p : ℕ) → s.owner p ≡ None
+
+-- ---- changes
+
+-- the pages from a up to b have this owner, and all else stays
+abbrev pub with_owner : Slots → ℕ → ℕ → Option ℕ → Slots
+with_owner s a b owner = record s { owner = over s.owner (has (between a b)) owner }
+
+-- the pages of the range are unmapped, and all else stays
+abbrev pub cleared : Slots → PageRange → Slots
+cleared s range = record s { info = over s.info (has range) None }
+
+-- the pages of the range are mapped anew, each later one to the next file page, and all else stays
+abbrev pub mapped : Slots → PageRange → Meta → Slots
+mapped s range meta = record s { info = across s.info (has range) (λ p. Some (unused (advance meta (p - range.first)))) }
+
+-- the pages of the range have this protection and no recorded core, and all else stays
+abbrev pub protected : Slots → PageRange → Prot → Slots
+protected s range prot = record s { info = across s.info (has range) (λ p. info_with_prot prot (s.info p)) }
+
+-- one page has this, and all else stays
+abbrev pub with_info : Slots → ℕ → Option PageInfo → Slots
+with_info s page info = record s { info = put s.info page info }
+
+-- ---- divisions and joins
+
+-- Slots of this owner were divided, a new one begins at the page, and nothing else changed
+pub record Divides (s t : Slots) (owner : Option ℕ) (at : ℕ) : Type 0 where
+  pub info : t.info ≡ s.info
+  pub owners : t.owner ≡ s.owner
+  pub kept : (p : ℕ) → s.edge p ≡ true → t.edge p ≡ true
+  pub was_inside : s.edge at ≡ false
+  pub begins : t.edge at ≡ true
+  pub elsewhere : (p : ℕ) → s.owner p ≢ owner → t.edge p ≡ s.edge p
+
+-- Slots that nobody holds were joined, and nothing else changed
+pub record Joins (s t : Slots) : Type 0 where
+  pub info : t.info ≡ s.info
+  pub owners : t.owner ≡ s.owner
+  pub kept : (p : ℕ) → s.edge p ≡ false → t.edge p ≡ false
+  pub elsewhere : (p : ℕ) → s.owner p ≢ None → t.edge p ≡ s.edge p
+  pub removed : (p : ℕ) × (s.edge p ≡ true) × (t.edge p ≡ false)
+
+-- ---- locking
+
+-- the slot of the cursor reaches past the pages from the cursor up to end, on one side or the other
+abbrev pub Crosses : Slots → ℕ → ℕ → Type 0
+Crosses s cursor end = (s.edge cursor ≡ false) ⊎ ((p : ℕ) → cursor < p → p ≤ end → s.edge p ≡ false)
+
+-- the slot from the cursor up to b was free, and the core owns it now
+pub record Locks (s t : Slots) (core cursor end b : ℕ) : Type 0 where
+  pub slot : IsSlot s cursor b
+  pub by_end : b ≤ end
+  pub was_free : (p : ℕ) → cursor ≤ p → p < b → s.owner p ≡ None
+  pub now : t ≡ with_owner s cursor b (Some core)
+
+-- the core owned the slot from the cursor up to b, and nobody does now
+pub record Unlocks (s t : Slots) (core cursor end b : ℕ) : Type 0 where
+  pub slot : IsSlot s cursor b
+  pub by_end : b ≤ end
+  pub was_held : (p : ℕ) → cursor ≤ p → p < b → s.owner p ≡ Some core
+  pub now : t ≡ with_owner s cursor b None
+
+-- a free slot that crosses an edge of the pages is divided
+pub record Splits (s t : Slots) (cursor end : ℕ) : Type 0 where
+  pub was_free : s.owner cursor ≡ None
+  pub crosses : Crosses s cursor end
+  pub divides : (at : ℕ) × IsPage at × Divides s t None at
+
+-- what one step at the cursor does
+abbrev pub Steps : Slots → Slots → ℕ → ℕ → ℕ → Got → Type 0
+Steps s t core cursor end Split = Splits s t cursor end
+Steps s t core cursor end (Locked b) = Locks s t core cursor end b
+Steps s t core cursor end (Held by) = (by ≢ core) × (s.owner cursor ≡ Some by) × (t ≡ s)
+
+-- ---- what a core holds
+
+-- the core owns each page
+pub record OwnsAll (s : Slots) (core first end : ℕ) : Type 0 where
+  pub held : (p : ℕ) → first ≤ p → p < end → s.owner p ≡ Some core
+
+-- no slot crosses an edge of the range
+pub record IsCut (s : Slots) (range : PageRange) : Type 0 where
+  pub begins : s.edge range.first ≡ true
+  pub ends : s.edge range.end ≡ true
+
+-- the core holds every page of the range, and no slot crosses an edge of it
+pub record IsHeld (s : Slots) (core : ℕ) (range : PageRange) : Type 0 where
+  pub pages : IsPageRange range
+  pub cut : IsCut s range
+  pub held : (p : ℕ) → range.first ≤ p → p < range.end → s.owner p ≡ Some core
+
+-- a slot crosses an edge of the range
+abbrev pub IsCrossed : Slots → PageRange → Type 0
+IsCrossed s range = (s.edge range.first ≡ false) ⊎ (s.edge range.end ≡ false)
+
+-- what one step of a cut does
+abbrev pub CutSteps : Slots → Slots → ℕ → PageRange → Fit → Type 0
+CutSteps s t core range Cut = IsCrossed s range × ((at : ℕ) × IsPage at × Divides s t (Some core) at)
+CutSteps s t core range Fits = IsCut s range × (t ≡ s)
+
+-- ---- frames, mappings and users of pages
+
+-- the page is mapped so
+abbrev pub HasMeta : Option PageInfo → Meta → Type 0
+HasMeta None meta = ⊥
+HasMeta (Some info) meta = info.meta ≡ meta
+
+-- no page from first up to end has a frame
+pub record NoFrames (s : Slots) (first end : ℕ) : Type 0 where
+  pub none : (p : ℕ) → first ≤ p → p < end → frame_of (s.info p) ≡ None
+
+-- the page was the first from a page on with a frame, and lost it
+pub record LosesFrame (s t : Slots) (first end page frame : ℕ) : Type 0 where
+  pub low : first ≤ page
+  pub high : page < end
+  pub before : NoFrames s first page
+  pub had : frame_of (s.info page) ≡ Some frame
+  pub now : t ≡ with_info s page (info_without_frame (s.info page))
+
+-- n unmapped pages from start on lie in the range
+pub record IsFreeRun (s : Slots) (range : PageRange) (n start : ℕ) : Type 0 where
+  pub low : range.first ≤ start
+  pub high : start + n ≤ range.end
+  pub free : (p : ℕ) → start ≤ p → p < start + n → s.info p ≡ None
+
+-- the core is recorded on a page of the range
+abbrev pub IsUser : Slots → PageRange → ℕ → Type 0
+IsUser s range core = (p : ℕ) × (has range p ≡ true) × (is_recorded (s.info p) core ≡ true)
+
+-- every page of the range is mapped
+abbrev pub AllMapped : Slots → PageRange → Type 0
+AllMapped s range = (p : ℕ) → has range p ≡ true → is_some (s.info p) ≡ true

@@ -1,0 +1,157 @@
+//! The pages that a call locks.
+ghost use Rattle.std.specs.Prelude.{◌≡◌, ℕ, ◌+◌, ◌^◌, ◌<◌, ◌≤◌, true, IfSome, Option};
+ghost use Rattle.vm_base.specs.Pages.{IsPageRange};
+ghost use Rattle.slot_lock.specs.Plan.{IsSound};
+ghost use Rattle.slot_lock.specs.Footprint.{IsFootprint, one_range, both, footprint_of, end_at, next_after, is_past, below, after};
+
+use crate::plan::Plan;
+use vm_base::PageRange;
+
+/// One or two ranges of pages, from left to right, with a gap between.
+#[derive(Clone, Copy, Debug, PartialEq, Eq)]
+pub struct Footprint {
+    pub first: PageRange,
+    pub second: Option<PageRange>,
+}
+
+impl Plan {
+    /// The pages that a call with this plan locks: an access its page; a change its range; a mapping without a place the
+    /// pages of its hint, if all are valid, and its core's window.
+    pub fn footprint(self) -> Footprint
+        requires { IsSound self }
+        ensures value { result ≡ footprint_of self }
+        ensures sound { IsFootprint result }
+    {
+        match self {
+            Plan::Place(place) => match place.hint {
+                None => Footprint::one(place.window),
+                Some(hint) => Footprint::both(hint, place.window),
+            },
+            Plan::Change(change) => Footprint::one(change.range()),
+            Plan::Touch(touch) => Footprint::one(PageRange {
+                first: touch.page,
+                end: touch.page + 1,
+            }),
+        }
+    }
+}
+
+impl Footprint {
+    /// The pages of one range.
+    pub fn one(range: PageRange) -> Footprint
+        requires { IsPageRange range }
+        ensures value { result ≡ one_range range }
+        ensures sound { IsFootprint result }
+    {
+        Footprint {
+            first: range,
+            second: None,
+        }
+    }
+
+    /// The pages of two ranges, as one range where they overlap or touch.
+    pub fn both(range: PageRange, other: PageRange) -> Footprint
+        requires one { IsPageRange range }
+        requires other { IsPageRange other }
+        ensures value { result ≡ both range other }
+        ensures sound { IsFootprint result }
+    {
+        if range.end < other.first {
+            Footprint {
+                first: range,
+                second: Some(other),
+            }
+        } else if other.end < range.first {
+            Footprint {
+                first: other,
+                second: Some(range),
+            }
+        } else {
+            Footprint::one(PageRange {
+                first: range.first.min(other.first),
+                end: range.end.max(other.end),
+            })
+        }
+    }
+
+    /// The end of the range that has the cursor.
+    pub fn end_at(&self, cursor: u64) -> u64
+        ensures { result ≡ end_at self.now cursor }
+    {
+        match self.second {
+            Some(second) if self.first.end <= cursor => second.end,
+            _ => self.first.end,
+        }
+    }
+
+    /// Where the cursor goes after the pages up to `end` of a range.
+    pub fn next_after(&self, end: u64) -> u64
+        ensures { result ≡ next_after self.now end }
+    {
+        match self.second {
+            Some(second) if end == self.first.end => second.first,
+            _ => end,
+        }
+    }
+
+    /// Tells whether a cursor is past all pages.
+    pub fn is_past(&self, cursor: u64) -> bool
+        ensures { result ≡ is_past self.now cursor }
+    {
+        match self.second {
+            Some(second) => second.end <= cursor,
+            None => self.first.end <= cursor,
+        }
+    }
+
+    /// The pages below the cursor, if there are some.
+    pub fn below(&self, cursor: u64) -> Option<Footprint>
+        ensures { result ≡ below self.now cursor }
+    {
+        if cursor <= self.first.first {
+            return None;
+        }
+        if cursor <= self.first.end {
+            return Some(Footprint {
+                first: PageRange {
+                    first: self.first.first,
+                    end: cursor,
+                },
+                second: None,
+            });
+        }
+        let second = match self.second {
+            Some(second) if second.first < cursor => Some(PageRange {
+                first: second.first,
+                end: cursor,
+            }),
+            _ => None,
+        };
+        Some(Footprint {
+            first: self.first,
+            second,
+        })
+    }
+
+    /// The pages that are left once those of the first range up to `end` are let go, if there are some.
+    pub fn after(&self, end: u64) -> Option<Footprint>
+        ensures { result ≡ after self.now end }
+    {
+        if end == self.first.end {
+            return match self.second {
+                None => None,
+                Some(second) => Some(Footprint {
+                    first: second,
+                    second: None,
+                }),
+            };
+        }
+        Some(Footprint {
+            first: PageRange {
+                first: end,
+                end: self.first.end,
+            },
+            second: self.second,
+        })
+    }
+}

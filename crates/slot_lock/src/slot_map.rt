@@ -1,0 +1,152 @@
+//! Maps of slots that cores hold.
+//!
+//! A slot is a set of neighbouring pages with one owner or none, whose mapping goes on from page to page. A new map has
+//! all valid pages unmapped and unheld. A page with a frame or a recorded core is a slot of its own.
+ghost use Rattle.std.specs.Prelude.{◌≡◌, ◌≢◌, ℕ, ◌+◌, ◌-◌, ◌^◌, ◌<◌, ◌≤◌, ◌↔◌, IfOk, OnErr, IfSome, IfNone, IsTrue, true, Option, Some, None};
+ghost use Rattle.vm_base.specs.Functions.{has};
+ghost use Rattle.vm_base.specs.Cores.{members};
+ghost use Rattle.vm_base.specs.Pages.{IsPage, IsPageRange};
+ghost use Rattle.slot_lock.specs.Plan.{FitsFile};
+ghost use Rattle.slot_lock.specs.Slots.{Slots, IsSlot, IsSlotMap, IsHeld, IsCrossed, OwnsAll, Steps, Crosses, CutSteps, Unlocks, Joins, HasMeta, IsFreeRun, LosesFrame, NoFrames, IsUser, AllMapped, cleared, mapped, protected, with_info};
+
+use vm_base::{CoreId, CoreSet, Meta, NoMemory, PageInfo, PageRange, Prot};
+
+/// What one step of an acquisition did.
+#[derive(Clone, Copy, Debug, PartialEq, Eq)]
+pub enum Got {
+    /// Some slot was divided.
+    Split,
+    /// The slot up to this page is locked.
+    Locked(u64),
+    /// Another core holds the slot.
+    Held(CoreId),
+}
+
+/// What one step of a cut did.
+#[derive(Clone, Copy, Debug, PartialEq, Eq)]
+pub enum Fit {
+    /// Some slot was divided.
+    Cut,
+    /// No slot crosses an edge of the range.
+    Fits,
+}
+
+/// Slots that are only read: a whole map, or a few slots of one.
+pub trait SlotRead {
+    /// What is said of each page.
+    ghost slots: { Self → Slots };
+
+    /// The pages that may be asked for.
+    ghost reads: { Self → ℕ → Type 0 };
+
+    /// What the page has, if it is mapped.
+    fn page(&self, page: u64) -> Option<PageInfo>
+        requires { reads self.now page }
+        ensures { result ≡ (slots self.now).info page };
+
+    /// The slot that has the page.
+    fn slot(&self, page: u64) -> PageRange
+        requires { reads self.now page }
+        ensures slot { IsSlot (slots self.now) result.first result.end }
+        ensures has { has result page ≡ true };
+
+    /// The least start of `n` unmapped pages in the range, if there is one.
+    fn first_free_run(&self, range: PageRange, n: u64) -> Option<u64>
+        requires some { 1 ≤ n }
+        requires range { IsPageRange range }
+        requires reads { (p : ℕ) → has range p ≡ true → reads self.now p }
+        ensures found { IfSome result (IsFreeRun (slots self.now) range n) }
+        ensures least { IfSome result (λ s. (r : ℕ) → r < s → ¬ IsFreeRun (slots self.now) range n r) }
+        ensures none { IfNone result ((r : ℕ) → ¬ IsFreeRun (slots self.now) range n r) };
+
+    /// The cores that are recorded on some page of the range.
+    fn recorded(&self, range: PageRange) -> CoreSet
+        requires range { IsPageRange range }
+        requires reads { (p : ℕ) → has range p ≡ true → reads self.now p }
+        ensures { (core : ℕ) → (members result core ≡ true) ↔ IsUser (slots self.now) range core };
+
+    /// Tells whether all pages of the range are mapped.
+    fn all_mapped(&self, range: PageRange) -> bool
+        requires range { IsPageRange range }
+        requires reads { (p : ℕ) → has range p ≡ true → reads self.now p }
+        ensures { IsTrue result ↔ AllMapped (slots self.now) range };
+}
+
+/// A map of slots. Only `lock_next` and `cut_next` take memory; a refusal leaves the map unchanged.
+pub trait SlotMap: SlotRead {
+    /// The owner of the page's slot, if a core holds it.
+    fn owner(&self, page: u64) -> Option<CoreId>
+        requires { IsPage page }
+        ensures { result ≡ (Self.slots self.now).owner page };
+
+    /// One step of the core towards holding the pages from the cursor up to the end: a free slot that crosses an edge of
+    /// them is divided, or the cursor's slot is locked, or it is another core's.
+    fn lock_next(&mut self, core: CoreId, cursor: u64, end: u64) -> Result<Got, NoMemory>
+        requires ordered { cursor < end }
+        requires valid { (1 ≤ cursor) × (end ≤ 2 ^ 35) }
+        requires not_held { (Self.slots self.old).owner cursor ≢ Some core }
+        ensures step { IfOk result (λ got. Steps (Self.slots self.old) (Self.slots self.new) core cursor end got) }
+        ensures err { OnErr result (Self.slots self.new ≡ Self.slots self.old) }
+        ensures err_only { OnErr result (((Self.slots self.old).owner cursor ≡ None) × Crosses (Self.slots self.old) cursor end) };
+
+    /// One step of the core towards slots that don't cross an edge of the range, whose pages it holds.
+    fn cut_next(&mut self, core: CoreId, range: PageRange) -> Result<Fit, NoMemory>
+        requires range { IsPageRange range }
+        requires held { OwnsAll (Self.slots self.old) core range.first range.end }
+        ensures step { IfOk result (λ fit. CutSteps (Self.slots self.old) (Self.slots self.new) core range fit) }
+        ensures err { OnErr result (Self.slots self.new ≡ Self.slots self.old) }
+        ensures err_only { OnErr result (IsCrossed (Self.slots self.old) range) };
+
+    /// Unlocks the slot that begins at the cursor and ends by `end`, and answers its end.
+    fn unlock_next(&mut self, core: CoreId, cursor: u64, end: u64) -> u64
+        requires pages { (cursor < end) × (1 ≤ cursor) × (end ≤ 2 ^ 35) }
+        requires held { (Self.slots self.old).owner cursor ≡ Some core }
+        requires begins { (Self.slots self.old).edge cursor ≡ true }
+        requires ends { (Self.slots self.old).edge end ≡ true }
+        ensures { Unlocks (Self.slots self.old) (Self.slots self.new) core cursor end result };
+
+    /// Maps the pages of the range anew, each later one to the next file page.
+    fn set_range(&mut self, core: CoreId, range: PageRange, meta: Meta)
+        requires held { IsHeld (Self.slots self.old) core range }
+        requires frames { NoFrames (Self.slots self.old) range.first range.end }
+        requires fits { FitsFile meta (range.end - range.first) }
+        ensures { Self.slots self.new ≡ mapped (Self.slots self.old) range meta };
+
+    /// Unmaps the pages of the range.
+    fn clear_range(&mut self, core: CoreId, range: PageRange)
+        requires held { IsHeld (Self.slots self.old) core range }
+        requires frames { NoFrames (Self.slots self.old) range.first range.end }
+        ensures { Self.slots self.new ≡ cleared (Self.slots self.old) range };
+
+    /// Changes the protection of the pages of the range, and forgets which cores are recorded there. Frames stay.
+    fn protect_range(&mut self, core: CoreId, range: PageRange, prot: Prot)
+        requires held { IsHeld (Self.slots self.old) core range }
+        requires mapped { AllMapped (Self.slots self.old) range }
+        ensures { Self.slots self.new ≡ protected (Self.slots self.old) range prot };
+
+    /// Takes the frame of the first page from `from` up to `end` that has one, and answers both.
+    fn take_frame(&mut self, core: CoreId, from: u64, end: u64) -> Option<(u64, u32)>
+        requires pages { (1 ≤ from) × (from ≤ end) × (end ≤ 2 ^ 35) }
+        requires held { OwnsAll (Self.slots self.old) core from end }
+        ensures some { IfSome result (λ taken. LosesFrame (Self.slots self.old) (Self.slots self.new) from end taken.0 taken.1) }
+        ensures none { IfNone result (NoFrames (Self.slots self.old) from end × (Self.slots self.new ≡ Self.slots self.old)) };
+
+    /// Sets the frame and the recorded cores of a mapped page that is a slot of its own.
+    fn set_leaf(&mut self, core: CoreId, page: u64, info: PageInfo)
+        requires valid { IsPage page }
+        requires held { (Self.slots self.old).owner page ≡ Some core }
+        requires alone { IsSlot (Self.slots self.old) page (page + 1) }
+        requires meta { HasMeta ((Self.slots self.old).info page) info.meta }
+        ensures { Self.slots self.new ≡ with_info (Self.slots self.old) page (Some info) };
+
+    /// Joins slots round the page that nobody holds, where their pages go on from one another. Answers whether it did.
+    fn fold(&mut self, page: u64) -> bool
+        requires { IsPage page }
+        ensures joined { IsTrue result → Joins (Self.slots self.old) (Self.slots self.new) }
+        ensures same { ¬ IsTrue result → Self.slots self.new ≡ Self.slots self.old };
+
+    // ---- what holds of every slot map
+    ghost is_slot_map: { (m : Self) → IsSlotMap (Self.slots m) };
+
+    ghost reads_all: { (m : Self) (p : ℕ) → IsPage p → Self.reads m p };
+}
