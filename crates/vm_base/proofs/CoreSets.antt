@@ -1,8 +1,8 @@
 -- The bits of a set of cores
 use Rattle.std.proofs.Common.{◌≡◌, ◌≢◌, ℕ, ◌+◌, ◌<◌, ◌≤◌, ◌^◌, ◌*◌, ◌%◌, ◌-◌, Bool, true, false, cond, ◌==◌, ◌||◌, ◌⊎◌, inl, inr, bit_or, arith, sym, ◌∙◌, ap, refl, max, min, w64}
 use Rattle.std.proofs.Math.Path.{fun_ext}
-use Rattle.std.proofs.Math.Nat.{div-eq_of_lt}
-use Rattle.std.proofs.Math.Pow.{pow_mono}
+use Rattle.std.proofs.Math.Nat.{div-eq_of_lt, mod-eq_of_lt}
+use Rattle.std.proofs.Math.Pow.{pow_mono, pow-lt}
 use Rattle.std.specs.Int.{bit_at, bit_not, trailing_zeros}
 use Rattle.std.proofs.lemmas.Nat.Bits.{bit_at_or, bit_at-lt, bit_at_set_same, bit_at_set_other, bit_at_clear_same, bit_at_clear_other, bit_at_and, bit_at-trailing_zeros}
 use lib.Bits.{bit_and}
@@ -17,6 +17,10 @@ either_max a b h g = grind (arith, nat_tests)
 
 pub members-or : (a b : ℕ) → members (bit_or a b) ≡ either (members a) (members b)
 members-or a b = fun_ext (λ k. ap (λ n. n == 1) (bit_at_or a b k) ∙ either_max _ _ (bit_at-lt a k) (bit_at-lt b k))
+
+-- the bit of a core, as it is shifted
+pub one_bit : (k : ℕ) → k < 64 → 1 * 2 ^ k % 2 ^ 64 ≡ 2 ^ k
+one_bit k h = let less : 2 ^ k < 2 ^ 64 = pow-lt h in let same : 1 * 2 ^ k ≡ 2 ^ k = omega arith in rw same (mod-eq_of_lt less)
 
 pub members-set : (s k : ℕ) → k < 64 → members (bit_or s (1 * 2 ^ k % 2 ^ 64)) ≡ put (members s) k true
 members-set s k h = fun_ext (put_all (λ j b. members (bit_or s (1 * 2 ^ k % 2 ^ 64)) j ≡ b) (members s) k true

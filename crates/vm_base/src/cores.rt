@@ -1,7 +1,7 @@
 //! Cores and sets of cores.
 ghost use Rattle.std.specs.Prelude.{◌≡◌, ℕ, ◌<◌, ◌↔◌, IsTrue, IfNone, IfSome, true, false};
 ghost use Rattle.vm_base.specs.Functions.{put};
-ghost use Rattle.vm_base.specs.Cores.{members, either};
+ghost use Rattle.vm_base.specs.Cores.{members, either, with_member};
 
 use std::marker::Model;
 
@@ -77,7 +77,8 @@ impl CoreSet {
 
     /// The set and the core.
     pub fn with(self, core: CoreId) -> CoreSet
-        ensures { members result ≡ put (members self) core true }
+        ensures members { members result ≡ put (members self) core true }
+        ensures value { result ≡ with_member self core }
     {
         CoreSet {
             bits: self.bits | (1 << core.index()),

@@ -1,0 +1,12 @@
+//! The abstract machine: its state, its events, and what each event does to it.
+#![tactic(auto)]
+
+pub mod event;
+pub mod hardware;
+pub mod log;
+pub mod phase;
+
+pub use event::{Blocker, Event, Outcome};
+pub use hardware::{Message, TlbEntry, Translation};
+pub use log::Entry;
+pub use phase::Phase;

@@ -1,0 +1,14 @@
+//! The log of a machine.
+use vm_base::{CoreId, Reply};
+
+/// An entry of the log.
+#[derive(Clone, Copy, Debug, PartialEq, Eq)]
+pub enum Entry {
+    /// The call with this number, from 1, has this reply from the event with the number `step` on, from 1.
+    Answer {
+        step: u64,
+        call: u64,
+        core: CoreId,
+        reply: Reply,
+    },
+}
