@@ -1,10 +1,10 @@
 -- The bits of a set of cores
-use Rattle.std.proofs.Common.{◌≡◌, ◌≢◌, ℕ, ◌+◌, ◌<◌, ◌≤◌, ◌^◌, ◌*◌, ◌%◌, ◌-◌, Bool, true, false, cond, ◌==◌, ◌||◌, ◌⊎◌, inl, inr, bit_or, arith, sym, ◌∙◌, ap, refl, max, min, w64}
+use Rattle.std.proofs.Common.{◌≡◌, ◌≢◌, ℕ, ◌<◌, ◌≤◌, ◌^◌, ◌*◌, ◌%◌, true, false, ◌==◌, ◌||◌, ◌⊎◌, inl, inr, bit_or, arith, sym, ◌∙◌, ap, max, min, w64}
 use Rattle.std.proofs.Math.Path.{fun_ext}
 use Rattle.std.proofs.Math.Nat.{div-eq_of_lt, mod-eq_of_lt}
 use Rattle.std.proofs.Math.Pow.{pow_mono, pow-lt}
 use Rattle.std.specs.Int.{bit_at, bit_not, trailing_zeros}
-use Rattle.std.proofs.lemmas.Nat.Bits.{bit_at_or, bit_at-lt, bit_at_set_same, bit_at_set_other, bit_at_clear_same, bit_at_clear_other, bit_at_and, bit_at-trailing_zeros}
+use Rattle.std.proofs.lemmas.Nat.Bits.{bit_at_or, bit_at-lt, bit_at_set_same, bit_at_set_other, bit_at_clear_same, bit_at_clear_other, bit_at_and, bit_at-trailing_zeros, bit_at-zero, same_from_bits}
 use lib.Bits.{bit_and}
 use Rattle.std.proofs.lemmas.Bool.{cases_lt}
 use Rattle.std.proofs.lemmas.Bool.Decides.{nat_tests}
@@ -52,3 +52,18 @@ members-least s h l = ap (λ n. n == 1) ((bit_at-trailing_zeros w64 s h l).1)
 
 pub members-below : (s : ℕ) → 0 < s → s < 2 ^ 64 → (k : ℕ) → k < trailing_zeros w64 s → members s k ≡ false
 members-below s h l k lt = ap (λ n. n == 1) ((bit_at-trailing_zeros w64 s h l).2 k lt)
+
+-- the set without a core
+pub members-empty : (k : ℕ) → members 0 k ≡ false
+members-empty k = ap (λ n. n == 1) (bit_at-zero k)
+
+bit_same : (a b : ℕ) → a < 2 → b < 2 → (a == 1) ≡ (b == 1) → a ≡ b
+bit_same a b h g e = grind (arith, nat_tests)
+
+-- sets with the same members are one set
+pub members-same : (s t : ℕ) → ((k : ℕ) → members s k ≡ members t k) → s ≡ t
+members-same s t h = same_from_bits s t (λ k. bit_same _ _ (bit_at-lt s k) (bit_at-lt t k) (h k))
+
+-- a set without members is the empty one
+pub members-none : (s : ℕ) → ((k : ℕ) → members s k ≡ false) → s ≡ 0
+members-none s h = members-same s 0 (λ k. h k ∙ sym (members-empty k))

@@ -1,4 +1,4 @@
--- What backs a page and those after it
+-- What backs a page and those after it. The pages of a mapping of a file have the pages of the file in order (POSIX.1-2017, mmap).
 use Rattle.std.specs.Prelude.{ℕ, ◌+◌, ◌==◌, ◌||◌, not, Bool, false, Option, None, Some, is_some}
 use Rattle.vm_base.specs.declared.info.Back.{Back}
 use Rattle.vm_base.specs.declared.info.Back.TheVariants.{Anon, Shared, Private}

@@ -5,7 +5,7 @@ ghost use Rattle.vm_base.specs.Cores.{members, either, with_member};
 
 use std::marker::Model;
 
-/// A core, 0 to 63. A clause sees it as its number.
+/// A core (a logical processor in the Intel SDM's words), numbered 0 to 63. A clause sees it as its number.
 #[derive(Clone, Copy, Debug, PartialEq, Eq)]
 pub struct CoreId {
     index: u8,
@@ -22,7 +22,7 @@ impl Model for CoreId {
 }
 
 impl CoreId {
-    /// The core of this number.
+    /// The core of this number. The caller has seen that it is below 64.
     pub fn new(index: u8) -> Self
         requires { index < 64 }
         ensures { result ≡ index }
@@ -30,7 +30,7 @@ impl CoreId {
         CoreId { index }
     }
 
-    /// The core's number.
+    /// The core's number, 0 to 63.
     pub fn index(self) -> u8
         ensures value { result ≡ self }
         ensures in_range { self < 64 }
@@ -39,7 +39,8 @@ impl CoreId {
     }
 }
 
-/// A set of cores. A clause sees it as a number whose bit `c` is 1 where core `c` is a member.
+/// A set of cores: those that may have a translation of a page, or those that are still waited for. It takes no
+/// memory, and is passed by value. A clause sees it as a number whose bit `c` is 1 where core `c` is a member.
 #[derive(Clone, Copy, Debug, PartialEq, Eq)]
 pub struct CoreSet {
     bits: u64,
@@ -75,7 +76,7 @@ impl CoreSet {
         (self.bits >> core.index()) & 1 == 1
     }
 
-    /// The set and the core.
+    /// The set and the core, which may be a member already.
     pub fn with(self, core: CoreId) -> CoreSet
         ensures members { members result ≡ put (members self) core true }
         ensures value { result ≡ with_member self core }
@@ -85,7 +86,7 @@ impl CoreSet {
         }
     }
 
-    /// The set without the core.
+    /// The set without the core, which need not be a member.
     pub fn without(self, core: CoreId) -> CoreSet
         ensures { members result ≡ put (members self) core false }
     {
@@ -109,7 +110,7 @@ impl CoreSet {
         ensures member { IfSome result (λ core. members self core ≡ true) }
         ensures least { IfSome result (λ core. (k : ℕ) → k < core → members self k ≡ false) }
     {
-        if self.bits == 0 {
+        if self.is_empty() {
             return None;
         }
         Some(CoreId::new(self.bits.trailing_zeros() as u8))

@@ -5,31 +5,52 @@ ghost use Rattle.vm_base.specs.Info.{advance, file_page, info_file_page, info_fr
 use crate::cores::CoreSet;
 use crate::rights::Prot;
 
-/// What backs a page: zero bytes, or a page of a file.
+/// What backs a page. Files are counted from 0 in the order in which they were opened, and a file's pages of 4096
+/// bytes from 0 too.
 #[derive(Clone, Copy, Debug, PartialEq, Eq)]
 pub enum Back {
+    /// Zero bytes. POSIX.1-2017 has no `MAP_ANONYMOUS`; it is a common extension. With one address space, shared and
+    /// private anonymous pages are alike.
     Anon,
-    Shared { file: u32, page: u64 },
-    Private { file: u32, page: u64 },
+    /// A page of a file: a store changes the file (POSIX.1-2017, mmap, `MAP_SHARED`).
+    Shared {
+        /// The file's number.
+        file: u32,
+        /// The page's number in the file.
+        page: u64,
+    },
+    /// A copy of a page of a file: a store changes the copy alone (POSIX.1-2017, mmap, `MAP_PRIVATE`).
+    Private {
+        /// The file's number.
+        file: u32,
+        /// The page's number in the file.
+        page: u64,
+    },
 }
 
-/// A mapping of the first of some pages. Each later page has the next file page.
+/// A mapping of the first of some neighbouring pages. Each later page has the next file page, and the same protection.
 #[derive(Clone, Copy, Debug, PartialEq, Eq)]
 pub struct Meta {
+    /// What backs the first page.
     pub back: Back,
+    /// What may be done with each page.
     pub prot: Prot,
 }
 
-/// What a mapped page has: its mapping, its frame, and the cores that may have a translation of it.
+/// What a mapped page has.
 #[derive(Clone, Copy, Debug, PartialEq, Eq)]
 pub struct PageInfo {
+    /// Its mapping.
     pub meta: Meta,
+    /// The number of the frame with its bytes, once a core has used the page.
     pub frame: Option<u32>,
+    /// The cores that may have a translation of it in their tables or their TLB.
     pub cores: CoreSet,
 }
 
 impl Meta {
-    /// The mapping of the page `by` pages on.
+    /// The mapping of the page `by` pages on: the next file pages, the same protection. The caller has seen that the
+    /// number of the file page fits 64 bits.
     pub fn advanced(self, by: u64) -> Meta
         requires { file_page self.back + by < 2 ^ 64 }
         ensures { result ≡ advance self by }
@@ -52,7 +73,7 @@ impl Meta {
 }
 
 impl PageInfo {
-    /// A page of a mapping that no core has used.
+    /// A page of a mapping that no core has used: it has no frame, and no core has a translation of it.
     pub fn unused(meta: Meta) -> PageInfo
         ensures { result ≡ unused meta }
     {
@@ -64,7 +85,8 @@ impl PageInfo {
     }
 }
 
-/// What the page has that lies `by` pages on in the same slot.
+/// What the page has that lies `by` pages on in the same slot: nothing if the slot is unmapped, else the next file
+/// pages. The caller has seen that the number of the file page fits 64 bits.
 pub fn info_from(info: Option<PageInfo>, by: u64) -> Option<PageInfo>
     requires { info_file_page info + by < 2 ^ 64 }
     ensures { result ≡ info_from info by }
