@@ -1,0 +1,19 @@
+-- What the next line is.
+use Rattle.std.specs.Prelude.{◌≡◌, ℕ, ◌<◌, ◌≤◌, List, [], Option, length}
+use Rattle.std.specs.Io.KnownBytes.{IsAtEnd, Keeps}
+use Rattle.trace_io.specs.Lines.{IsUnbroken, TakesLine, BeginsTooLong}
+use Rattle.trace_io.specs.Window.{Window}
+use Rattle.trace_io.specs.declared.lines.Found.{Found}
+use Rattle.trace_io.specs.declared.lines.Found.TheVariants.{Line, TooLong, End}
+
+-- all that is held is the last line, or nothing is held
+abbrev pub TakesLast : Window → Window → Found → Type 0
+TakesLast old new Line = (new.line ≡ old.held) × (new.held ≡ []) × (0 < length old.held)
+TakesLast old new TooLong = ⊥
+TakesLast old new End = (new ≡ old) × (old.held ≡ [])
+
+-- what is still to come, before and after
+abbrev pub Finds : Option (List ℕ) → Option (List ℕ) → Window → Found → Type 0
+Finds old new w Line = (length w.line ≤ 256) × IsUnbroken w.line × TakesLine old new w.line
+Finds old new w TooLong = BeginsTooLong old × Keeps old new
+Finds old new w End = IsAtEnd old × Keeps old new

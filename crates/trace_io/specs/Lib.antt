@@ -1,0 +1,6 @@
+pub mod Lines
+pub mod Source
+pub mod Sink
+pub mod Window
+pub mod Scans
+pub mod Founds
