@@ -9,4 +9,3 @@ pub mod Moves
 pub mod Way
 pub mod Least
 pub mod PartsOf
-pub mod Cleared

@@ -182,8 +182,8 @@ later v (Dec c o) w h = subst (Later v) (sym h.4) (later_then v h.2 (added c o (
 later v (Flushing c f) w h = later_flush v c f w h.0 h.1
 later v (Reviewing c r) w h = later_review v c r w h.0 h.1
 
-pub queues_open : (n : ℕ) → Queues (opening n)
-queues_open n = record { past = λ d. tt; rising = λ d. tt; found = λ o h. absurd (never h) }
+pub queues_open : (n m : ℕ) → Queues (opening n m)
+queues_open n m = record { past = λ d. tt; rising = λ d. tt; found = λ o h. absurd (never h) }
   where
     never : false ≡ true → ⊥
     never h = cc

@@ -127,8 +127,8 @@ falls u c o w t q none = record {
     never (inr h) = let l = h.0 in omega (arith, l)
 
 pub reuse : Reuse
-reuse n o before fall after f reviews late =
-    let s = split (opening n) before fall after (queues_open n) f.run in
+reuse n m o before fall after f reviews late =
+    let s = split (opening n m) before fall after (queues_open n m) f.run in
     let t : Takes s.0 (Dec f.core o) fall.counts = subst (λ z. Takes s.0 z fall.counts) f.step s.3 in
     let l = later s.0 fall.step fall.counts s.3 in
     let e = fall.counts.epoch in

@@ -266,8 +266,8 @@ settled v (Dec c p) w h f = subst Settled (sym h.4) (settled_add v c p (negsuc 0
 settled v (Flushing c r) w h f = settled_flush v c r w h.1 f
 settled v (Reviewing c r) w h f = settled_review v c r w h.1 f
 
-settled_open : (n : ℕ) → Settled (opening n)
-settled_open n = record { single = record { marks = λ o d h. absurd h; once = λ d. tt; apart = λ o d j h g. absurd h }; settled = λ d. tt }
+settled_open : (n m : ℕ) → Settled (opening n m)
+settled_open n m = record { single = record { marks = λ o d h. absurd h; once = λ d. tt; apart = λ o d j h g. absurd h }; settled = λ d. tt }
 
 -- an object is freed with nothing left
 unused : (v : Counts) (c o : ℕ) (w : Counts) → Reviews v c (review.Freed o) w → Settled v → IsUnused w o
@@ -285,7 +285,7 @@ unused v c o w h f = subst (λ z. IsUnused z o) (sym h.4) (record {
         go (inr u) = u
 
 pub freed_is_unused : FreedIsUnused
-freed_is_unused n core object before freed after run step = go (opening n) before run (settled_open n)
+freed_is_unused n m core object before freed after run step = go (opening n m) before run (settled_open n m)
   where
     go : (v : Counts) (before : List Moment) → IsRun v (before ++ freed ∷ after) → Settled v → IsUnused freed.counts object
     go v [] r f = unused v core object freed.counts (subst (λ s. Takes v s freed.counts) step r.0).1 f

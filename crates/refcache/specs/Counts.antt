@@ -5,9 +5,10 @@ use Rattle.refcache.specs.declared.reports.Queued.{Queued}
 use Rattle.vm_base.specs.Functions.{put}
 use Rattle.refcache.specs.Sums.{sum_below}
 
--- Cores are numbered from 0 up to their number; a core's delta of an object is none where it has no entry.
+-- Cores and objects are numbered from 0 up to their number; a core's delta of an object is none where it has no entry.
 pub record Counts : Type 0 where
   pub cores : ℕ
+  pub objects : ℕ
   pub epoch : ℕ
   -- of objects
   pub global : ℕ → ℤ
@@ -19,9 +20,10 @@ pub record Counts : Type 0 where
   pub flushed : ℕ → Bool
 
 -- all counts as they are made
-abbrev pub opening : ℕ → Counts
-opening n = record {
+abbrev pub opening : ℕ → ℕ → Counts
+opening n m = record {
   cores = n;
+  objects = m;
   epoch = 0;
   global = λ o. pos 0;
   queued = λ o. false;

@@ -1,11 +1,14 @@
--- Which cores have flushed in an epoch.
-use Rattle.std.specs.Prelude.{ℕ, ◌≡◌, ◌≤◌, ◌<◌, ◌+◌, ◌^◌, ◌⊎◌, Bool, true, false, List, slice_index_or}
+-- Epochs: their number, and which cores have flushed in the present one.
+use Rattle.std.specs.Prelude.{ℕ, ◌≡◌, ◌≤◌, ◌<◌, ◌+◌, ◌^◌, ◌⊎◌, Bool, true, false}
 use Rattle.refcache.specs.declared.reports.Flush.{Flush}
 use Rattle.refcache.specs.declared.reports.Flush.TheVariants as flush
 use Rattle.vm_base.specs.Functions.{put}
 
-abbrev pub is_marked : List Bool → ℕ → Bool
-is_marked marks d = slice_index_or marks d false
+-- the number of cores, the epoch, and the set of the cores that have flushed in it
+pub record Epoch : Type 0 where
+  pub cores : ℕ
+  pub number : ℕ
+  pub flushed : ℕ
 
 abbrev pub AllMarked : ℕ → (ℕ → Bool) → Type 0
 AllMarked n marks = (d : ℕ) → d < n → marks d ≡ true

@@ -1,62 +1,87 @@
 //! Epochs: one ends when every core has flushed in it.
 
-ghost use Rattle.std.specs.Prelude.{◌≡◌, ℕ, ◌<◌, ◌≤◌, ◌+◌, ◌^◌, true, false, length, IfOk, replicate, MatchBool};
+ghost use Rattle.std.specs.Prelude.{◌≡◌, ℕ, ◌<◌, ◌≤◌, ◌+◌, ◌^◌, true, false, MatchBool};
+ghost use Rattle.vm_base.specs.Cores.{members};
 ghost use Rattle.vm_base.specs.Functions.{put};
-ghost use Rattle.refcache.specs.Epochs.{is_marked, Marks, AllMarked};
+ghost use Rattle.refcache.specs.Epochs.{Marks, AllMarked};
 
 use crate::reports::Flush;
-use std::alloc::Allocator;
+use std::marker::Model;
+use vm_base::{CoreId, CoreSet};
 
-/// Whether a core has flushed once another one has.
-fn is_marked_with<A: Allocator>(flushed: &Vec<bool, A>, other: usize, core: usize) -> bool
-    requires { core < length flushed.now.items }
-    ensures { result ≡ put (is_marked flushed.now.items) other true core }
+/// Tells whether each of the first `cores` cores is in the set.
+fn has_all(flushed: CoreSet, cores: u8) -> bool
+    requires { cores ≤ 64 }
+    ensures { MatchBool result (AllMarked cores (members flushed)) (AllMarked cores (members flushed) → ⊥) }
 {
-    core == other || flushed[core]
-}
-
-/// Whether every core has flushed once this one has.
-pub fn is_last<A: Allocator>(flushed: &Vec<bool, A>, core: usize) -> bool
-    requires { core < length flushed.now.items }
-    ensures { MatchBool result (AllMarked (length flushed.now.items) (put (is_marked flushed.now.items) core true))
-        (AllMarked (length flushed.now.items) (put (is_marked flushed.now.items) core true) → ⊥) }
-{
-    'cores: for d in 0..flushed.len() {
-        if !is_marked_with(flushed, core, d) {
+    'cores: for core in 0..cores {
+        if !flushed.contains(CoreId::new(core)) {
             return false;
         }
     }
     true
 }
 
-/// No core has flushed any more.
-#[tactic(auto, using(crate::proofs::Cleared::cleared))]
-fn clear<A: Allocator>(flushed: &mut Vec<bool, A>)
-    ensures marks { is_marked flushed.new.items ≡ (λ d. false) }
-    ensures length { length flushed.new.items ≡ length flushed.old.items }
-{
-    'cores: for d in 0..flushed.len() {
-        flushed[d] = false;
-    }
+/// The present epoch, and the cores that have flushed in it.
+#[derive(Debug, Drop)]
+pub struct Epochs {
+    cores: u8,
+    number: u64,
+    flushed: CoreSet,
 }
 
-/// A core without entries flushes.
-pub fn mark<A: Allocator>(flushed: &mut Vec<bool, A>, epoch: &mut u64, core: usize) -> Flush
-    requires { core < length flushed.old.items }
-    ensures marks { Marks (length flushed.old.items) epoch.old (is_marked flushed.old.items) core result epoch.new (is_marked flushed.new.items) }
-    ensures length { length flushed.new.items ≡ length flushed.old.items }
-{
-    if flushed[core] {
-        return Flush::Idle;
+impl Model for Epochs {
+    ghost use Rattle.std.specs.Prelude.{◌≤◌};
+    ghost use Rattle.refcache.specs.Epochs.{Epoch};
+
+    ghost Value = { Epoch };
+
+    ghost view = { λ e. record { cores = e.cores; number = e.number; flushed = e.flushed } };
+
+    ghost invariant = { λ e. e.cores ≤ 64 };
+}
+
+impl Epochs {
+    /// Epoch 0 of this many cores, 1 to 64, in which none has flushed.
+    pub fn new(cores: u8) -> Self
+        requires { cores ≤ 64 }
+        ensures { result ≡ record { cores = cores; number = 0; flushed = 0 } }
+    {
+        Epochs {
+            cores,
+            number: 0,
+            flushed: CoreSet::empty(),
+        }
     }
-    if !is_last(flushed, core) {
-        flushed[core] = true;
-        return Flush::Flushed;
+
+    /// The present epoch. The first is 0.
+    pub fn number(&self) -> u64
+        ensures { result ≡ self.now.number }
+    {
+        self.number
     }
-    if *epoch == u64::MAX {
-        return Flush::Idle;
+
+    /// Marks a core without delta entries as flushed in this epoch: `Flushed`, or `EpochEnded` where it was the last
+    /// one to be marked, so that the next epoch has begun, without marks. `Idle` where the core is marked, or where
+    /// the last epoch, 2^64 - 1, would end; then nothing changes. The answer is never `Evicted`.
+    #[tactic(auto, using(crate::proofs::Way::no_members))]
+    pub fn mark(&mut self, core: CoreId) -> Flush
+        ensures marks { Marks self.old.cores self.old.number (members self.old.flushed) core result self.new.number (members self.new.flushed) }
+        ensures cores { self.new.cores ≡ self.old.cores }
+    {
+        if self.flushed.contains(core) {
+            return Flush::Idle;
+        }
+        let flushed = self.flushed.with(core);
+        if !has_all(flushed, self.cores) {
+            self.flushed = flushed;
+            return Flush::Flushed;
+        }
+        if self.number == u64::MAX {
+            return Flush::Idle;
+        }
+        self.flushed = CoreSet::empty();
+        self.number += 1;
+        Flush::EpochEnded
     }
-    clear(flushed);
-    *epoch += 1;
-    Flush::EpochEnded
 }

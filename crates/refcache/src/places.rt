@@ -1,12 +1,15 @@
 //! The places of a core for its delta entries: an object may stand in one of them alone.
 
-ghost use Rattle.std.specs.Prelude.{◌≡◌, ◌≢◌, ℕ, ◌<◌, ◌≤◌, None, Some, length, IfSome, IfNone, unwrap_or, pos};
+ghost use Rattle.std.specs.Prelude.{◌≡◌, None, Some, length, unwrap_or, pos, IfOk};
+ghost use Rattle.std.specs.List.{All};
 ghost use Rattle.vm_base.specs.Functions.{put};
 ghost use Rattle.refcache.specs.Places.{entries, IsFreeFor};
+ghost use Rattle.refcache.specs.Pieces.{ArePlaces};
+ghost use Rattle.refcache.specs.Steps.{IsDelta};
 
-use std::alloc::Allocator;
+use std::alloc::{AllocError, Allocator};
 
-/// How many places a core has.
+/// How many places a core has. Object `o` may stand in place `o % PLACES`.
 pub const PLACES: usize = 64;
 
 /// A core's delta of an object.
@@ -16,18 +19,20 @@ pub struct Entry {
     pub delta: i64,
 }
 
-/// Which entry an object's place has.
-pub fn in_place<A: Allocator>(places: &Vec<Option<Entry>, A>, object: u32) -> Option<Entry>
-    requires { length places.now.items ≡ 64 }
-    ensures some { IfSome result (λ e. (e.object ≡ object) → entries places.now.items object ≡ Some e.delta) }
-    ensures other { IfSome result (λ e. (e.object ≢ object) → entries places.now.items object ≡ None) }
-    ensures none { IfNone result (entries places.now.items object ≡ None) }
+/// Places without an entry.
+pub(crate) fn empty_places<A: Allocator>(alloc: A) -> Result<Vec<Option<Entry>, A>, AllocError>
+    ensures count { IfOk result (λ v. length v.items ≡ 64) }
+    ensures empty { IfOk result (λ v. All (λ x. x ≡ None) v.items) }
 {
-    places[object as usize % PLACES]
+    let mut places = Vec::with_capacity(alloc, PLACES)?;
+    'places: for _i in 0..PLACES {
+        places.push(None)?;
+    }
+    Ok(places)
 }
 
 /// The delta of an object, 0 where it has no entry.
-pub fn delta_of<A: Allocator>(places: &Vec<Option<Entry>, A>, object: u32) -> i64
+pub(crate) fn delta_of<A: Allocator>(places: &Vec<Option<Entry>, A>, object: u32) -> i64
     requires { length places.now.items ≡ 64 }
     ensures { result ≡ unwrap_or (entries places.now.items object) (pos 0) }
 {
@@ -38,20 +43,23 @@ pub fn delta_of<A: Allocator>(places: &Vec<Option<Entry>, A>, object: u32) -> i6
 }
 
 /// Gives an object this delta.
-pub fn put_entry<A: Allocator>(places: &mut Vec<Option<Entry>, A>, object: u32, delta: i64)
-    requires places { length places.old.items ≡ 64 }
+#[tactic(auto, using(crate::proofs::Way::places_set))]
+pub(crate) fn put_entry<A: Allocator>(places: &mut Vec<Option<Entry>, A>, object: u32, delta: i64)
+    requires places { ArePlaces places.old.items }
     requires free { IsFreeFor places.old.items object }
-    ensures places { length places.new.items ≡ 64 }
+    requires small { IsDelta delta }
+    ensures places { ArePlaces places.new.items }
     ensures entries { entries places.new.items ≡ put (entries places.old.items) object (Some delta) }
 {
     places[object as usize % PLACES] = Some(Entry { object, delta });
 }
 
 /// Drops the entry of an object.
-pub fn drop_entry<A: Allocator>(places: &mut Vec<Option<Entry>, A>, object: u32)
-    requires places { length places.old.items ≡ 64 }
+#[tactic(auto, using(crate::proofs::Way::places_dropped))]
+pub(crate) fn drop_entry<A: Allocator>(places: &mut Vec<Option<Entry>, A>, object: u32)
+    requires places { ArePlaces places.old.items }
     requires free { IsFreeFor places.old.items object }
-    ensures places { length places.new.items ≡ 64 }
+    ensures places { ArePlaces places.new.items }
     ensures entries { entries places.new.items ≡ put (entries places.old.items) object None }
 {
     places[object as usize % PLACES] = None;

@@ -7,11 +7,11 @@ use Rattle.refcache.specs.Counts.{added}
 use Rattle.refcache.specs.Places.{entries}
 use Rattle.refcache.specs.Parts.{Parts, counts_of, core_at}
 use Rattle.refcache.proofs.PartsOf.{whole_added}
-use Rattle.refcache.proofs.whole.Refcache.add.Goals as goal
+use Rattle.refcache.proofs.table.CountTable.add.Goals as goal
 
-pub returns : goal.returns
-returns g c =
-    let p : Parts = record { objects = c.self.inside.objects.items; cores = c.self.inside.cores.items; flushed = c.self.inside.flushed.items; epoch = c.self.inside.epoch } in
+pub returns-clause-counts : goal.returns-clause-counts
+returns-clause-counts g c =
+    let p : Parts = record { objects = c.self.inside.objects.items; cores = c.self.inside.cores.items; epochs = c.self.inside.epochs } in
     let seen : p ≡ c.args.self.now = c.self.view_is in
     let at : c.args.core < length p.cores = subst (λ v. c.args.core < length v.cores) (sym seen) c.requires.core in
     let core : c.index_mut.result.now ≡ core_at p.cores c.args.core = c.index_mut.ensures.value ∙ get_or_default p.cores c.args.core _ _ at in
