@@ -1,0 +1,11 @@
+pub mod Sums
+pub mod Lists
+pub mod Queues
+pub mod TrueCount
+pub mod Pending
+pub mod Reuse
+pub mod Settled
+pub mod Moves
+pub mod Way
+pub mod Least
+pub mod PartsOf

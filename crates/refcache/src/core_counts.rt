@@ -1,0 +1,217 @@
+//! What one core has: its delta entries and its review queue.
+
+ghost use Rattle.std.specs.Prelude.{◌≡◌, ℕ, ◌≤◌, None, IfSome, IfNone, unwrap_or, pos, ◌+ℤ◌, ◌≤ℤ◌, neg_ℤ, MatchBool};
+ghost use Rattle.refcache.specs.Places.{entries};
+ghost use Rattle.refcache.specs.Pieces.{ArePlaces, IsLeast, lesser_object};
+ghost use Rattle.refcache.specs.Steps.{IsInTheWay, IsDelta};
+
+use crate::object_count::ObjectCount;
+use crate::places::{Entry, PLACES, delta_of, drop_entry, empty_places, put_entry};
+use crate::reports::{Queued, Review};
+use std::alloc::{AllocError, Allocator};
+use std::collections::VecDeque;
+use std::marker::Model;
+
+/// How far a delta may go from 0.
+pub const DELTA_LIMIT: i64 = 1 << 40;
+
+/// Tells whether a delta is small enough.
+fn is_delta(delta: i64) -> bool
+    ensures { MatchBool result (IsDelta delta) (IsDelta delta → ⊥) }
+{
+    -DELTA_LIMIT <= delta && delta <= DELTA_LIMIT
+}
+
+/// The object whose entry must go before the delta of `object` changes by `by`.
+#[tactic(auto, using(crate::proofs::Way::own_way))]
+fn in_the_way<A: Allocator>(places: &Vec<Option<Entry>, A>, object: u32, by: i64) -> Option<u32>
+    requires places { ArePlaces places.now.items }
+    requires one { (neg_ℤ (pos 1) ≤ℤ by) × (by ≤ℤ pos 1) }
+    ensures some { IfSome result (λ p. IsInTheWay (entries places.now.items) object by p) }
+    ensures none { IfNone result ((p : ℕ) → IsInTheWay (entries places.now.items) object by p
+        → ⊥) }
+{
+    let entry = places[object as usize % PLACES]?;
+    if entry.object != object {
+        return Some(entry.object);
+    }
+    if is_delta(entry.delta + by) {
+        None
+    } else {
+        Some(object)
+    }
+}
+
+/// The least object that has an entry.
+fn least<A: Allocator>(places: &Vec<Option<Entry>, A>) -> Option<u32>
+    requires { ArePlaces places.now.items }
+    ensures some { IfSome result (λ o. IsLeast (entries places.now.items) o) }
+    ensures none { IfNone result ((o : ℕ) → entries places.now.items o ≡ None) }
+{
+    let mut least = None;
+    'all: for i in 0..PLACES {
+        least = lesser(least, places[i]);
+    }
+    least
+}
+
+/// The lesser object of the two.
+fn lesser(least: Option<u32>, entry: Option<Entry>) -> Option<u32>
+    ensures { result ≡ lesser_object least entry }
+{
+    let Some(entry) = entry else { return least };
+    let Some(object) = least else {
+        return Some(entry.object)
+    };
+    if entry.object < object {
+        Some(entry.object)
+    } else {
+        Some(object)
+    }
+}
+
+/// An object's delta with one more or less.
+fn counted_on<A: Allocator>(places: &Vec<Option<Entry>, A>, object: u32, by: i64) -> i64
+    requires places { ArePlaces places.now.items }
+    requires one { (neg_ℤ (pos 1) ≤ℤ by) × (by ≤ℤ pos 1) }
+    requires small { IsDelta (unwrap_or (entries places.now.items object) (pos 0)) }
+    ensures { result ≡ unwrap_or (entries places.now.items object) (pos 0) +ℤ by }
+{
+    delta_of(places, object) + by
+}
+
+/// A core's delta entries and its review queue.
+#[derive(Drop)]
+pub struct CoreCounts<A: Allocator> {
+    places: Vec<Option<Entry>, A>,
+    queue: VecDeque<Queued, A>,
+}
+
+impl<A: Allocator> Model for CoreCounts<A> {
+    ghost use Rattle.std.specs.Prelude.{length, ◌≤◌};
+    ghost use Rattle.refcache.specs.Pieces.{Core, ArePlaces};
+    ghost use Rattle.std.specs.VecDeque.{deque_capacity};
+
+    ghost Value = { Core };
+
+    ghost view = { λ c. record { places = c.places.items; queue = c.queue.items; room = deque_capacity c.queue } };
+
+    ghost invariant = { λ c. ArePlaces c.places.items × (length c.queue.items ≤ deque_capacity c.queue) };
+}
+
+impl<A: Allocator> CoreCounts<A> {
+    ghost use Rattle.std.specs.Prelude.{◌≡◌, ◌≢◌, ◌<◌, ◌≤◌, ◌==◌, nat_lt, List, [], ◌∷◌, ℕ, length, IfSome, IfNone, IfOk, None, Some, unwrap_or, pos, ◌+ℤ◌, ◌≤ℤ◌, neg_ℤ};
+    ghost use Rattle.vm_base.specs.Functions.{put};
+    ghost use Rattle.refcache.specs.Places.{entries};
+    ghost use Rattle.refcache.specs.Pieces.{IsLeast, EvictsInto, Decides, IsFrontDue, IsCount, IsNewCore};
+    ghost use Rattle.refcache.specs.Steps.{IsQuiet, IsInTheWay};
+    ghost use Rattle.refcache.specs.declared.reports.Queued.{Queued};
+
+    /// A core without entries, whose queue has room for `objects` objects.
+    #[tactic(auto, using(crate::proofs::Way::new_places, crate::proofs::Way::new_entries))]
+    pub fn new(alloc: A, objects: usize) -> Result<Self, AllocError>
+    where
+        A: Clone,
+        ensures { IfOk result (IsNewCore objects) }
+    {
+        let places = empty_places(alloc.clone()?)?;
+        let queue = VecDeque::with_capacity(alloc, objects)?;
+        Ok(CoreCounts { places, queue })
+    }
+
+    /// The least object that has an entry.
+    pub fn least(&self) -> Option<u32>
+        ensures some { IfSome result (λ o. IsLeast (entries self.now.places) o) }
+        ensures none { IfNone result ((o : ℕ) → entries self.now.places o ≡ None) }
+    {
+        least(&self.places)
+    }
+
+    /// The object whose entry must be evicted before the delta of `object` may change by `by`, 1 or -1: another object
+    /// that stands in its place, or itself, where its delta would go past `DELTA_LIMIT`.
+    pub fn in_the_way(&self, object: u32, by: i64) -> Option<u32>
+        requires one { (neg_ℤ (pos 1) ≤ℤ by) × (by ≤ℤ pos 1) }
+        ensures some { IfSome result (λ p. IsInTheWay (entries self.now.places) object by p) }
+        ensures none { IfNone result ((p : ℕ) → IsInTheWay (entries self.now.places) object by p → ⊥) }
+    {
+        in_the_way(&self.places, object, by)
+    }
+
+    /// Tells whether the queue has room for one more object.
+    pub fn has_room(&self) -> bool
+        ensures { result ≡ nat_lt (length self.now.queue) self.now.room }
+    {
+        self.queue.len() < self.queue.capacity()
+    }
+
+    /// Evicts the entry of an object: its delta goes into the object's count, and the object is queued in this epoch
+    /// where its count is then 0 and it was in no queue.
+    #[tactic(auto, using(crate::proofs::Way::own_place, crate::proofs::Way::small_delta))]
+    pub fn evict(&mut self, count: &mut ObjectCount, object: u32, epoch: u64)
+        requires entry { entries self.old.places object ≢ None }
+        requires room { length self.old.queue < self.old.room }
+        requires count { IsCount count.old.global }
+        ensures entries { entries self.new.places ≡ put (entries self.old.places) object None }
+        ensures count { EvictsInto self.old count.old object epoch count.new self.new.queue }
+        ensures room { self.new.room ≡ self.old.room }
+    {
+        let delta = delta_of(&self.places, object);
+        drop_entry(&mut self.places, object);
+        if count.add(delta) {
+            self.queue.push_back_reserved(Queued { object, epoch });
+        }
+    }
+
+    /// Adds 1 or -1 to the delta of an object, from 0 where it has no entry.
+    #[tactic(auto, using(crate::proofs::Way::free_way, crate::proofs::Way::small_delta, crate::proofs::Way::next_small))]
+    pub fn add(&mut self, object: u32, by: i64)
+        requires one { (neg_ℤ (pos 1) ≤ℤ by) × (by ≤ℤ pos 1) }
+        requires room { (p : ℕ) → IsInTheWay (entries self.old.places) object by p → ⊥ }
+        ensures entries { entries self.new.places ≡ put (entries self.old.places) object (Some (unwrap_or (entries self.old.places object) (pos 0) +ℤ by)) }
+        ensures queue { self.new.queue ≡ self.old.queue }
+        ensures room { self.new.room ≡ self.old.room }
+    {
+        let delta = counted_on(&self.places, object, by);
+        put_entry(&mut self.places, object, delta);
+    }
+
+    /// The front of the queue, where it was queued two epochs ago or more.
+    pub fn due(&self, epoch: u64) -> Option<u32>
+        ensures some { IfSome result (λ o. IsFrontDue epoch self.now.queue o) }
+        ensures none { IfNone result (IsQuiet epoch self.now.queue) }
+    {
+        let front = self.queue.front()?;
+        if epoch < 2 || epoch - 2 < front.epoch {
+            return None;
+        }
+        Some(front.object)
+    }
+
+    /// Reviews the front of the queue, an object with this count: `Dropped` where the count isn't 0, `Freed` where it is
+    /// and the object has no dirty mark, and else `Requeued`, queued anew in this epoch without the mark.
+    pub fn review(&mut self, count: &mut ObjectCount, epoch: u64) -> Review
+        requires { 0 < length self.old.queue }
+        ensures decides { (x : Queued) (rest : List Queued) → self.old.queue ≡ x ∷ rest → Decides x rest epoch count.old result count.new self.new.queue }
+        ensures places { self.new.places ≡ self.old.places }
+        ensures room { self.new.room ≡ self.old.room }
+    {
+        let Some(front) = self.queue.pop_front() else {
+            return Review::Idle;
+        };
+        if count.global != 0 {
+            count.is_queued = false;
+            return Review::Dropped(front.object);
+        }
+        if !count.is_dirty {
+            count.is_queued = false;
+            return Review::Freed(front.object);
+        }
+        count.is_dirty = false;
+        count.is_queued = true;
+        self.queue.push_back_reserved(Queued {
+            object: front.object,
+            epoch,
+        });
+        Review::Requeued(front.object)
+    }
+}

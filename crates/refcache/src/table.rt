@@ -1,0 +1,224 @@
+//! The counts of all objects and cores, as calls that rest on what holds of every run.
+
+ghost use Rattle.std.specs.Prelude.{◌≡◌, ◌<◌, length, slice_set, IfOk};
+ghost use Rattle.std.specs.List.{All};
+ghost use Rattle.refcache.specs.Parts.{object_at};
+ghost use Rattle.refcache.specs.Pieces.{IsNewCount, IsNewCore};
+
+use crate::core_counts::CoreCounts;
+use crate::epochs::Epochs;
+use crate::object_count::ObjectCount;
+use crate::reports::{Flush, Review};
+use std::alloc::{AllocError, Allocator};
+use std::marker::Model;
+use vm_base::CoreId;
+
+/// Reference counts of objects, of which each core keeps its own part.
+#[derive(Drop)]
+pub(crate) struct CountTable<A: Allocator> {
+    objects: Vec<ObjectCount, A>,
+    cores: Vec<CoreCounts<A>, A>,
+    epochs: Epochs,
+}
+
+impl<A: Allocator> Model for CountTable<A> {
+    ghost use Rattle.refcache.specs.Parts.{Parts};
+
+    ghost Value = { Parts };
+
+    ghost view = { λ r. record { objects = r.objects.items; cores = r.cores.items; epochs = r.epochs } };
+}
+
+impl<A: Allocator> CountTable<A> {
+    ghost use Rattle.std.specs.Prelude.{◌≡◌, ◌≢◌, ℕ, ◌<◌, ◌≤◌, ◌^◌, ◌+◌, IfOk, length, None, List, ◌∷◌, pos, neg_ℤ, ◌≤ℤ◌};
+    ghost use Rattle.refcache.specs.Counts.{Counts, opening, added, evicted};
+    ghost use Rattle.refcache.specs.Steps.{Begin, Takes, Flushes, Reviews, MakesRoom, IsClear, IsInTheWay, IsUnused};
+    ghost use Rattle.refcache.specs.declared.reports.Queued.{Queued};
+    ghost use Rattle.refcache.specs.Places.{entries};
+    ghost use Rattle.refcache.specs.Parts.{Parts, counts_of, core_at, rooms, CanEvict};
+
+    /// All counts 0, in epoch 0; each core's queue has room for every object and one more.
+    #[tactic(auto, using(crate::proofs::PartsOf::whole_opened))]
+    pub(crate) fn new(alloc: A, cores: u8, objects: usize) -> Result<Self, AllocError>
+    where
+        A: Clone,
+        requires cores { cores ≤ 64 }
+        requires objects { objects ≤ 2 ^ 16 }
+        ensures opening { IfOk result (λ t. counts_of t ≡ opening cores objects) }
+        ensures room { IfOk result (λ t. (c : ℕ) → c < cores → rooms t c ≡ objects + 1) }
+        ensures epochs { IfOk result (λ t. t.epochs.cores ≡ cores) }
+    {
+        let cells = zero_counts(alloc.clone()?, objects)?;
+        let parts = empty_cores(alloc, cores, objects + 1)?;
+        Ok(CountTable {
+            objects: cells,
+            cores: parts,
+            epochs: Epochs::new(cores),
+        })
+    }
+
+    /// The present epoch.
+    pub(crate) fn epoch(&self) -> u64
+        ensures { result ≡ (counts_of self.now).epoch }
+    {
+        self.epochs.number()
+    }
+
+    /// The global count of an object.
+    pub(crate) fn global(&self, object: u32) -> i64
+        requires { object < length self.now.objects }
+        ensures { result ≡ (counts_of self.now).global object }
+    {
+        self.objects[object as usize].global
+    }
+
+    /// A core evicts its entry of an object.
+    #[tactic(auto, using(crate::proofs::PartsOf::whole_evicted))]
+    fn evict(&mut self, core: usize, object: u32)
+        requires { CanEvict self.old core object }
+        ensures counts { counts_of self.new ≡ evicted core object (counts_of self.old) }
+        ensures room { rooms self.new ≡ rooms self.old }
+        ensures epochs { self.new.epochs.cores ≡ self.old.epochs.cores }
+    {
+        let epoch = self.epochs.number();
+        let part = &mut self.cores[core];
+        part.evict(&mut self.objects[object as usize], object, epoch);
+    }
+
+    /// A core without entries flushes.
+    #[tactic(auto, using(crate::proofs::PartsOf::whole_marked))]
+    fn mark(&mut self, core: CoreId) -> Flush
+        requires marks { self.old.epochs.cores ≡ length self.old.cores }
+        requires clear { IsClear (counts_of self.old) core }
+        ensures flushes { Flushes (counts_of self.old) core result (counts_of self.new) }
+        ensures room { rooms self.new ≡ rooms self.old }
+        ensures epochs { self.new.epochs.cores ≡ self.old.epochs.cores }
+    {
+        self.epochs.mark(core)
+    }
+
+    /// Evicts the core's least entry, or marks the core where it has none.
+    pub(crate) fn flush(&mut self, core: CoreId) -> Flush
+        requires core { core < length self.old.cores }
+        requires marks { self.old.epochs.cores ≡ length self.old.cores }
+        requires ready { (o : ℕ) → entries (core_at self.old.cores core).places o ≢ None → CanEvict self.old core o }
+        ensures flushes { Flushes (counts_of self.old) core result (counts_of self.new) }
+        ensures room { rooms self.new ≡ rooms self.old }
+        ensures epochs { self.new.epochs.cores ≡ self.old.epochs.cores }
+    {
+        let index = core.index() as usize;
+        let Some(object) = self.cores[index].least() else {
+            return self.mark(core);
+        };
+        self.evict(index, object);
+        Flush::Evicted(object)
+    }
+
+    /// Looks at the front of a core's queue.
+    #[tactic(auto, using(crate::proofs::PartsOf::whole_reviewed))]
+    pub(crate) fn review(&mut self, core: usize) -> Review
+        requires core { core < length self.old.cores }
+        requires object { (x : Queued) (rest : List Queued) → (core_at self.old.cores core).queue ≡ x ∷ rest → x.object < length self.old.objects }
+        ensures reviews { Reviews (counts_of self.old) core result (counts_of self.new) }
+        ensures room { rooms self.new ≡ rooms self.old }
+        ensures epochs { self.new.epochs.cores ≡ self.old.epochs.cores }
+    {
+        let epoch = self.epochs.number();
+        let part = &mut self.cores[core];
+        let Some(object) = part.due(epoch) else {
+            return Review::Idle;
+        };
+        part.review(&mut self.objects[object as usize], epoch)
+    }
+
+    /// Adds to a core's delta of an object, where nothing is in the way.
+    #[tactic(auto, using(crate::proofs::PartsOf::whole_added))]
+    fn add(&mut self, core: usize, object: u32, by: i64)
+        requires core { core < length self.old.cores }
+        requires one { (neg_ℤ (pos 1) ≤ℤ by) × (by ≤ℤ pos 1) }
+        requires room { (p : ℕ) → IsInTheWay (entries (core_at self.old.cores core).places) object by p → ⊥ }
+        ensures counts { counts_of self.new ≡ added core object by (counts_of self.old) }
+        ensures room { rooms self.new ≡ rooms self.old }
+        ensures epochs { self.new.epochs.cores ≡ self.old.epochs.cores }
+    {
+        self.cores[core].add(object, by);
+    }
+
+    /// Evicts what is in the way of an object's delta.
+    #[tactic(auto, using(crate::proofs::PartsOf::way_cleared))]
+    fn make_room(&mut self, core: usize, object: u32, by: i64)
+        requires core { core < length self.old.cores }
+        requires one { (neg_ℤ (pos 1) ≤ℤ by) × (by ≤ℤ pos 1) }
+        requires ready { (o : ℕ) → entries (core_at self.old.cores core).places o ≢ None → CanEvict self.old core o }
+        ensures makes { MakesRoom (counts_of self.old) core object by (counts_of self.new) }
+        ensures free { (p : ℕ) → IsInTheWay (entries (core_at self.new.cores core).places) object by p → ⊥ }
+        ensures room { rooms self.new ≡ rooms self.old }
+        ensures epochs { self.new.epochs.cores ≡ self.old.epochs.cores }
+    {
+        if let Some(other) = self.cores[core].in_the_way(object, by) {
+            self.evict(core, other);
+        }
+    }
+
+    /// A core counts an object up or down.
+    pub(crate) fn count(&mut self, core: usize, object: u32, by: i64)
+        requires core { core < length self.old.cores }
+        requires one { (neg_ℤ (pos 1) ≤ℤ by) × (by ≤ℤ pos 1) }
+        requires ready { (o : ℕ) → entries (core_at self.old.cores core).places o ≢ None → CanEvict self.old core o }
+        ensures counts { (m : Counts) × MakesRoom (counts_of self.old) core object by m × (counts_of self.new ≡ added core object by m) }
+        ensures room { rooms self.new ≡ rooms self.old }
+        ensures epochs { self.new.epochs.cores ≡ self.old.epochs.cores }
+    {
+        self.make_room(core, object, by);
+        self.add(core, object, by);
+    }
+
+    /// An unused object gets this count.
+    #[tactic(auto, using(crate::proofs::PartsOf::whole_begun))]
+    pub(crate) fn begin(&mut self, object: u32, count: u64)
+        requires object { object < length self.old.objects }
+        requires unused { IsUnused (counts_of self.old) object }
+        requires count { (1 ≤ count) × (count ≤ 2 ^ 40) }
+        ensures counts { Takes (counts_of self.old) (Begin object count) (counts_of self.new) }
+        ensures room { rooms self.new ≡ rooms self.old }
+        ensures epochs { self.new.epochs.cores ≡ self.old.epochs.cores }
+    {
+        set_global(&mut self.objects, object as usize, count as i64);
+    }
+}
+
+/// Sets the global count of an object.
+fn set_global<A: Allocator>(objects: &mut Vec<ObjectCount, A>, object: usize, global: i64)
+    requires { object < length objects.old.items }
+    ensures { objects.new.items ≡ slice_set objects.old.items object (record (object_at objects.old.items object) { global = global }) }
+{
+    objects[object].global = global;
+}
+
+/// So many counts of 0.
+fn zero_counts<A: Allocator>(alloc: A, objects: usize) -> Result<Vec<ObjectCount, A>, AllocError>
+    ensures count { IfOk result (λ v. length v.items ≡ objects) }
+    ensures zero { IfOk result (λ v. All IsNewCount v.items) }
+{
+    let mut counts = Vec::with_capacity(alloc, objects)?;
+    'objects: for _object in 0..objects {
+        counts.push(ObjectCount::new())?;
+    }
+    Ok(counts)
+}
+
+/// So many cores without entries, whose queues have this room.
+fn empty_cores<A: Allocator + Clone>(
+    alloc: A,
+    cores: u8,
+    room: usize,
+) -> Result<Vec<CoreCounts<A>, A>, AllocError>
+    ensures count { IfOk result (λ v. length v.items ≡ cores) }
+    ensures cores { IfOk result (λ v. All (IsNewCore room) v.items) }
+{
+    let mut parts = Vec::with_capacity(alloc.clone()?, usize::from(cores))?;
+    'cores: for _core in 0..cores {
+        parts.push(CoreCounts::new(alloc.clone()?, room)?)?;
+    }
+    Ok(parts)
+}
