@@ -1,0 +1,13 @@
+//! TLB shootdown: messages by which a core asks others to drop their translations of a range of pages, and the
+//! acknowledgements that it waits for (RadixVM, EuroSys 2013, targeted TLB shootdown).
+#![tactic(auto)]
+
+pub mod inbox;
+pub mod inboxes;
+pub mod message;
+#[cfg(test)]
+mod tests;
+
+pub use inbox::Inbox;
+pub use inboxes::Inboxes;
+pub use message::{Message, Took};
