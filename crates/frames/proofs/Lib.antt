@@ -1,0 +1,4 @@
+pub mod BitSets
+pub mod Counting
+pub mod Counted
+pub mod PageLists

@@ -1,0 +1,61 @@
+//! Frames as parts of one list of bytes.
+ghost use Rattle.std.specs.Prelude.{◌≡◌, ℕ, ◌+◌, ◌*◌, ◌<◌, ◌≤◌, length, slice_index};
+ghost use Rattle.std.specs.Vec.{vec_len};
+ghost use Rattle.vm_base.specs.Functions.{put};
+ghost use Rattle.vm_base.specs.Plain.{zeros};
+ghost use Rattle.frames.specs.Pages.{bytes_in};
+
+use std::alloc::Allocator;
+
+/// The bytes of a frame.
+pub const FRAME_SIZE: usize = 4096;
+
+/// The byte of a frame at this offset.
+pub fn byte<A: Allocator>(bytes: &Vec<u8, A>, frame: usize, offset: usize) -> u8
+    requires frame { frame * 4096 + 4096 ≤ vec_len bytes.now }
+    requires offset { offset < 4096 }
+    ensures { result ≡ bytes_in bytes.now.items frame offset }
+{
+    bytes[frame * FRAME_SIZE + offset]
+}
+
+/// Sets the byte of a frame at this offset.
+pub fn set_byte<A: Allocator>(bytes: &mut Vec<u8, A>, frame: usize, offset: usize, byte: u8)
+    requires frame { frame * 4096 + 4096 ≤ vec_len bytes.old }
+    requires offset { offset < 4096 }
+    ensures bytes { bytes_in bytes.new.items ≡ put (bytes_in bytes.old.items) frame (put (bytes_in bytes.old.items frame) offset byte) }
+    ensures len { vec_len bytes.new ≡ vec_len bytes.old }
+{
+    bytes[frame * FRAME_SIZE + offset] = byte;
+}
+
+/// Sets all bytes of a frame to 0.
+pub fn fill_zero<A: Allocator>(bytes: &mut Vec<u8, A>, frame: usize)
+    requires { frame * 4096 + 4096 ≤ vec_len bytes.old }
+    ensures bytes { bytes_in bytes.new.items ≡ put (bytes_in bytes.old.items) frame zeros }
+    ensures len { vec_len bytes.new ≡ vec_len bytes.old }
+{
+    zero_part(bytes, frame * FRAME_SIZE, FRAME_SIZE);
+}
+
+/// Sets `len` bytes from `start` on to 0.
+fn zero_part(bytes: &mut [u8], start: usize, len: usize)
+    requires { start + len ≤ length bytes.old }
+    ensures part { (k : ℕ) → start ≤ k → k < start + len → slice_index bytes.new k ≡ 0 }
+    ensures below { (k : ℕ) → k < start → slice_index bytes.new k ≡ slice_index bytes.old k }
+    ensures above { (k : ℕ) → start + len ≤ k → slice_index bytes.new k ≡ slice_index bytes.old k }
+{
+    let part = &mut bytes[start..start + len];
+    part.fill(0);
+}
+
+/// Copies all bytes of a frame to another.
+pub fn copy<A: Allocator>(bytes: &mut Vec<u8, A>, from: usize, to: usize)
+    requires from { from * 4096 + 4096 ≤ vec_len bytes.old }
+    requires to { to * 4096 + 4096 ≤ vec_len bytes.old }
+    ensures bytes { bytes_in bytes.new.items ≡ put (bytes_in bytes.old.items) to (bytes_in bytes.old.items from) }
+    ensures len { vec_len bytes.new ≡ vec_len bytes.old }
+{
+    let start = from * FRAME_SIZE;
+    bytes.copy_within(start..start + FRAME_SIZE, to * FRAME_SIZE);
+}
