@@ -23,9 +23,9 @@ use Rattle.machine_model.specs.Holding.{page_held}
 use Rattle.machine_model.specs.Actions.{to, replies}
 use Rattle.machine_model.specs.Accesses.{bytes_after, frame_for, tried_by, tried, lies_past_end, source_phase, settled_by, settled, taken, Wants, filled, info_with_core, installed}
 use Rattle.machine_laws.specs.Orderly.{IsOrderly, IsCutRange, IsCutFootprint, IsCutPage}
-use Rattle.machine_laws.proofs.Moves.{IsCallIn, call_at, goes_on, steps, answers}
+use Rattle.machine_laws.proofs.Moves.{IsCallIn, call_at, goes_on, steps, answers, no_second}
 use Rattle.machine_laws.proofs.Slots.{touches_info}
-use Rattle.machine_laws.proofs.Changing.{no_second, one_footprint}
+use Rattle.machine_laws.proofs.Changing.{one_footprint}
 
 -- ---- Try
 

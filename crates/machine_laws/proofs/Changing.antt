@@ -1,5 +1,5 @@
 -- The steps of mmap, munmap and mprotect
-use Rattle.std.proofs.Common.{◌≡◌, ◌≢◌, ℕ, ◌<◌, ◌-◌, Bool, true, false, refl, sym, ap, subst, arith, Some, None, Option, ◌∙◌}
+use Rattle.std.proofs.Common.{◌≡◌, ◌≢◌, ℕ, ◌<◌, ◌-◌, true, false, refl, sym, ap, subst, arith, Some, None, Option, ◌∙◌}
 use Rattle.std.specs.Prelude.{◌&&◌, ◌||◌, nat_lt}
 use Rattle.std.proofs.lemmas.Bool.Decides.{nat_tests}
 use Rattle.vm_base.specs.declared.info.PageInfo.{PageInfo}
@@ -31,15 +31,12 @@ use Rattle.machine_model.specs.World.{World}
 use Rattle.machine_model.specs.Actions.{to, replies}
 use Rattle.machine_model.specs.Calls.{meta_of, locking, tries, touch_of, checked_as, checked, refused_change, DecidesChange, posted, changed, reply_to, committed}
 use Rattle.machine_laws.specs.Orderly.{IsOrderly, IsCutRange, IsCutFootprint, IsMappedFor}
-use Rattle.machine_laws.proofs.Moves.{IsCallIn, Touches, call_at, steps, answers, tells}
+use Rattle.machine_laws.proofs.Moves.{IsCallIn, Touches, call_at, steps, answers, tells, no_second, true_or}
 use Rattle.machine_laws.proofs.Slots.{touches_info}
 use Rattle.machine_laws.proofs.Sound.{mmap_sound, munmap_sound, mprotect_sound, page_sound}
 
-pub no_second : (Q : PageRange → Type 0) (r : PageRange) → None ≡ Some r → Q r
-no_second Q r h = absurd cc
-
 pub one_footprint : (r : PageRange) → IsPageRange r → IsFootprint (one_range r)
-one_footprint r h = record { front = h; apart = λ q e. absurd cc }
+one_footprint r h = record { front = h; apart = no_second (λ q. (r.end < q.first) × IsPageRange q) }
 
 pub sound_range : (change : Change) → IsSoundChange change → IsPageRange (range_of change)
 sound_range (Put range meta) h = h.pages
@@ -108,10 +105,6 @@ change_posted w c change e g lt =
     steps w c (Post change) (Acks change (one_range (range_of change))) e g lt refl (λ p. refl) (k.cut, no_second (IsCutRange w.slots.edge)) (k.ready.0, k.ready.1, refl) (λ f h. absurd cc)
 
 -- ---- Acks
-
-true_or : (b : Bool) → b ≡ true → (b || false) ≡ true
-true_or true h = refl
-true_or false h = h
 
 protected_frame : (prot : Prot) (o : Option PageInfo) → frame_of (info_with_prot prot o) ≡ frame_of o
 protected_frame prot None = refl

@@ -1,5 +1,5 @@
 -- Each step from an orderly state leaves an orderly one.
-use Rattle.std.proofs.Common.{◌≡◌, ℕ, ◌≤◌, ◌<◌, ◌+◌, Bool, true, false, cond, refl, sym, ap, subst, arith, List, [], ◌∷◌, ◌++◌, length}
+use Rattle.std.proofs.Common.{◌≡◌, ℕ, ◌≤◌, ◌<◌, ◌+◌, Bool, true, false, cond, refl, sym, ap, subst, arith, [], ◌∷◌, ◌++◌, length, length-append}
 use Rattle.std.specs.Prelude.{nat_lt}
 use Rattle.std.proofs.lemmas.Bool.Decides.{nat_tests}
 use Rattle.vm_base.specs.declared.requests.Request.{Request}
@@ -23,10 +23,6 @@ use Rattle.machine_laws.proofs.Accessing.{access_tried, access_settled, frame_wa
 
 -- ---- a call begins
 
-one_more : (requests : List Request) (request : Request) → length (requests ++ request ∷ []) ≡ length requests + 1
-one_more [] request = refl
-one_more (x ∷ requests) request = let h = one_more requests request in omega (arith, h)
-
 begun : (w : World) (c : ℕ) (request : Request) → w.phase c ≡ Free → IsOrderly w → c < w.made.cores → length w.requests < w.made.calls → IsOrderly (called c request w)
 begun w c request e g lt below = record {
   owned = λ d. (calls d).owned;
@@ -40,10 +36,10 @@ begun w c request e g lt below = record {
   room =
       let a = open_put w.phase c (Check request) w.made.cores lt in
       let b : one (w.phase c) ≡ 0 = ap one e in
-      let d = one_more w.requests request in
+      let d : length (w.requests ++ request ∷ []) ≡ length w.requests + 1 = length-append w.requests (request ∷ []) in
       let f = g.room in
       omega (arith, a, b, d, f);
-  limit = let d = one_more w.requests request in omega (arith, d, below);
+  limit = let d : length (w.requests ++ request ∷ []) ≡ length w.requests + 1 = length-append w.requests (request ∷ []) in omega (arith, d, below);
 }
   where
     mine : IsCallIn w w.slots c (Check request)

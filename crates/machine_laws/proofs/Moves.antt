@@ -1,5 +1,5 @@
 -- What holds of one call, and that it stays so while another call takes a step
-use Rattle.std.proofs.Common.{◌≡◌, ◌≢◌, ℕ, ◌≤◌, ◌<◌, ◌+◌, Bool, true, false, cond, refl, sym, ap, subst, arith, Some, None, Option, List, [], ◌∷◌, ◌++◌, length, ◌∙◌}
+use Rattle.std.proofs.Common.{◌≡◌, ◌≢◌, ℕ, ◌≤◌, ◌<◌, ◌+◌, Bool, true, false, cond, refl, sym, ap, subst, arith, Some, None, Option, List, [], ◌∷◌, ◌++◌, length, length-append, ◌∙◌}
 use Rattle.std.specs.Prelude.{◌||◌, is_some}
 use Rattle.std.specs.Option.{ForSome}
 use Rattle.vm_base.specs.declared.info.PageInfo.{PageInfo}
@@ -60,6 +60,9 @@ cut_second e e2 more second h = λ r i. (more r.first (h r i).0, more r.end (h r
 cut_footprint : (e e2 : ℕ → Bool) → ((p : ℕ) → e p ≡ true → e2 p ≡ true) → (held : Footprint) → IsCutFootprint e held → IsCutFootprint e2 held
 cut_footprint e e2 more held h = ((more held.first.first h.0.0, more held.first.end h.0.1), cut_second e e2 more held.second h.1)
 
+pub no_second : (Q : PageRange → Type 0) → ForSome None Q
+no_second Q r h = absurd cc
+
 pub cut_kept : (e e2 : ℕ → Bool) → ((p : ℕ) → e p ≡ true → e2 p ≡ true) → (phase : Phase) → IsCutFor e phase → IsCutFor e2 phase
 cut_kept e e2 more Free h = h
 cut_kept e e2 more (Check request) h = h
@@ -77,7 +80,7 @@ cut_kept e e2 more (Fill touch frame) h = (more touch.page h.0, more (touch.page
 cut_kept e e2 more (Install touch) h = (more touch.page h.0, more (touch.page + 1) h.1)
 cut_kept e e2 more (Release touch) h = (more touch.page h.0, more (touch.page + 1) h.1)
 
-true_or : (b : Bool) → b ≡ true → (b || false) ≡ true
+pub true_or : (b : Bool) → b ≡ true → (b || false) ≡ true
 true_or true h = refl
 true_or false h = h
 
@@ -139,10 +142,6 @@ one_gone : (held : Option Footprint) (reply : Reply) → one (let_go held reply)
 one_gone None reply = refl
 one_gone (Some held) reply = refl
 
-one_more : (log : List Entry) (entry : Entry) → length (log ++ entry ∷ []) ≡ length log + 1
-one_more [] entry = refl
-one_more (x ∷ log) entry = let h = one_more log entry in omega (arith, h)
-
 -- with its reply
 pub tells : (w : World) (c : ℕ) (old : Phase) (held : Option Footprint) (reply : Reply) (s : Slots) (bytes : ℕ → Bytes) → w.phase c ≡ old → IsOrderly w → c < w.made.cores
     → is_open old ≡ true → Touches w.slots s c → IsCallIn w s c (let_go held reply)
@@ -153,7 +152,7 @@ tells w c old held reply s bytes e g lt was touches call frames =
     moved w c (let_go held reply) s bytes w.is_free (w.log ++ entry ∷ []) g lt touches call frames g.free
     (let a : one (w.phase c) ≡ 1 = ap (λ b. cond b 1 0) (ap is_open e ∙ was) in
     let b = one_gone held reply in
-    let d = one_more w.log entry in
+    let d : length (w.log ++ entry ∷ []) ≡ length w.log + 1 = length-append w.log (entry ∷ []) in
     omega (arith, a, b, d))
 
 -- ---- slots that stay

@@ -1,7 +1,6 @@
 -- The steps by which a call lets its pages go
 use Rattle.std.proofs.Common.{◌≡◌, ℕ, ◌≤◌, ◌<◌, ◌+◌, Bool, true, false, ◌==◌, refl, sym, subst, arith, Some, None, Option}
 use Rattle.std.specs.Prelude.{◌||◌}
-use Rattle.std.specs.Option.{ForSome}
 use Rattle.std.proofs.lemmas.Bool.Decides.{nat_tests}
 use Rattle.vm_base.specs.declared.info.PageInfo.{PageInfo}
 use Rattle.vm_base.specs.declared.page.PageRange.{PageRange}
@@ -22,7 +21,7 @@ use Rattle.machine_model.specs.Actions.{to, let_go}
 use Rattle.machine_model.specs.Calls.{UnlocksNext}
 use Rattle.machine_model.specs.Accesses.{released}
 use Rattle.machine_laws.specs.Orderly.{IsOrderly, IsCutFor, IsCutFootprint, IsCutRange, IsReady}
-use Rattle.machine_laws.proofs.Moves.{IsCallIn, call_at, goes_on, none_taken}
+use Rattle.machine_laws.proofs.Moves.{IsCallIn, call_at, goes_on, none_taken, no_second}
 use Rattle.machine_laws.proofs.Slots.{touches_owner, loses}
 
 -- the call of this phase holds what the footprint has without the pages up to b
@@ -33,9 +32,6 @@ record Remains (info : ℕ → Option PageInfo) (edge : ℕ → Bool) (held : Fo
   cut : IsCutFor edge phase
   ready : IsReady info phase
   shut : is_open phase ≡ false
-
-no_second : (Q : PageRange → Type 0) → ForSome None Q
-no_second Q r h = absurd cc
 
 remains : (info : ℕ → Option PageInfo) (edge : ℕ → Bool) (first : PageRange) (second : Option PageRange) (b : ℕ) (reply : Reply)
     → IsFootprint (record { first = first; second = second }) → IsCutFootprint edge (record { first = first; second = second }) → edge b ≡ true → first.first < b → b ≤ first.end
