@@ -1,0 +1,10 @@
+pub mod OpenCalls
+pub mod Moves
+pub mod Slots
+pub mod Sound
+pub mod Locking
+pub mod Unlocking
+pub mod Changing
+pub mod Accessing
+pub mod Kept
+pub mod Opening

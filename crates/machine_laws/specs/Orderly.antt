@@ -1,6 +1,6 @@
 -- What holds between two steps: a call owns the pages that its phase says and no others, no slot crosses an edge of them,
 -- and each call that has no reply yet finds room for it in the log.
-use Rattle.std.specs.Prelude.{◌≡◌, ℕ, zero, suc, ◌+◌, ◌<◌, ◌≤◌, Bool, true, if◌then◌else◌, length, Option, None, Some, is_some}
+use Rattle.std.specs.Prelude.{◌≡◌, ℕ, zero, suc, ◌+◌, ◌<◌, ◌≤◌, Bool, true, if◌then◌else◌, length, Option, Some, is_some}
 use Rattle.std.specs.Option.{ForSome}
 use Rattle.vm_base.specs.declared.info.PageInfo.{PageInfo}
 use Rattle.vm_base.specs.declared.page.PageRange.{PageRange}
