@@ -1,0 +1,4 @@
+pub mod Words
+pub mod Number
+pub mod Request
+pub mod Line
