@@ -1,2 +1,3 @@
+pub mod PrintingLemmas
 pub mod NumberLemmas
 pub mod WordLemmas

@@ -2,3 +2,4 @@ pub mod Words
 pub mod Number
 pub mod Request
 pub mod Line
+pub mod Printing

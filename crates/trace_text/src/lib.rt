@@ -4,11 +4,13 @@
 pub mod core_line;
 pub mod line;
 pub mod number;
+pub mod printing;
 pub mod request;
 pub mod space_line;
 pub mod words;
 
 pub use line::{Line, first_word_is_vm, is_printable, read_line};
+pub use printing::{ShortText, address_text, number_text, reply_text};
 
 #[cfg(test)]
 mod tests;

@@ -1,6 +1,7 @@
-//! Lines as the format's description gives them, good and bad.
+//! Lines as the format's description gives them, good and bad, and the texts of replies.
 use crate::line::{Line, first_word_is_vm, is_printable, read_line};
-use vm_base::{CoreId, Flags, Prot, Request};
+use crate::printing::{address_text, number_text, reply_text};
+use vm_base::{CoreId, Errno, Flags, Prot, Reply, Request, SegvCode};
 
 const READ_WRITE: Prot = Prot {
     read: true,
@@ -162,4 +163,37 @@ fn bad_lines(rt: HostRuntime) {
     assert!(rt; !is_printable(b"vm 1 1\r"));
     assert!(rt; !is_printable(b"\x7f"));
     assert!(rt; is_printable(b" ~"));
+}
+
+#[test]
+fn texts_of_replies(rt: HostRuntime) {
+    for (reply, text) in [
+        (Reply::Mapped(0x10000), "0x10000"),
+        (Reply::Mapped(0x7fff_ffff_f000), "0x7ffffffff000"),
+        (Reply::Done, "done"),
+        (Reply::Byte(0), "0"),
+        (Reply::Byte(255), "255"),
+        (Reply::Refused(Errno::EINVAL), "einval"),
+        (Reply::Refused(Errno::ENOMEM), "enomem"),
+        (Reply::Refused(Errno::EACCES), "eacces"),
+        (Reply::Refused(Errno::EBADF), "ebadf"),
+        (Reply::Refused(Errno::EOVERFLOW), "eoverflow"),
+        (Reply::Segv(SegvCode::MapErr), "segv maperr"),
+        (Reply::Segv(SegvCode::AccErr), "segv accerr"),
+        (Reply::Bus, "bus"),
+        (Reply::NoFrame, "noframe"),
+        (Reply::NoMemory, "nomemory"),
+    ] {
+        assert_eq!(rt; reply_text(reply).as_str(), text);
+    }
+}
+
+#[test]
+fn texts_of_numbers(rt: HostRuntime) {
+    assert_eq!(rt; address_text(0).as_str(), "0x0");
+    assert_eq!(rt; address_text(0xABCDEF).as_str(), "0xabcdef");
+    assert_eq!(rt; address_text(u64::MAX).as_str(), "0xffffffffffffffff");
+    assert_eq!(rt; number_text(0).as_str(), "0");
+    assert_eq!(rt; number_text(4096).as_str(), "4096");
+    assert_eq!(rt; number_text(u64::MAX).as_str(), "18446744073709551615");
 }
