@@ -1,3 +1,5 @@
+pub mod LineLemmas
+pub mod RequestLemmas
 pub mod PrintingLemmas
 pub mod NumberLemmas
 pub mod WordLemmas

@@ -3,3 +3,4 @@ pub mod Number
 pub mod Request
 pub mod Line
 pub mod Printing
+pub mod Grammar

@@ -2,6 +2,7 @@
 #![tactic(auto)]
 
 pub mod core_line;
+pub mod grammar;
 pub mod line;
 pub mod number;
 pub mod printing;

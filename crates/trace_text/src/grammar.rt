@@ -1,0 +1,8 @@
+//! What a line says, against the grammar of lines: nothing else is read, and nothing in the grammar is refused.
+ghost use Rattle.trace_text.specs.Grammar.{ReadsAll, ReadsOnly};
+
+/// Each line of the grammar is read as what it says (`all`), and what is read is in the grammar (`only`).
+pub fn grammar()
+    ensures all { ReadsAll }
+    ensures only { ReadsOnly }
+{}
