@@ -1,3 +1,4 @@
+pub mod CoreLemmas
 pub mod LineLemmas
 pub mod RequestLemmas
 pub mod PrintingLemmas

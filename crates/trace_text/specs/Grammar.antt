@@ -1,5 +1,5 @@
 -- The grammar of lines and of requests, by what is said.
-use Rattle.std.specs.Prelude.{◌≡◌, ℕ, ◌≤◌, true, List, [], ◌∷◌, ◌++◌, ◌⊎◌, Some, codes}
+use Rattle.std.specs.Prelude.{◌<◌, decimal, ◌≡◌, ℕ, ◌≤◌, true, List, [], ◌∷◌, ◌++◌, ◌⊎◌, Some, codes}
 use Rattle.vm_base.specs.declared.requests.Flags.{Flags}
 use Rattle.vm_base.specs.declared.requests.Request.{Request}
 use Rattle.vm_base.specs.declared.requests.Request.TheVariants.{Mmap, Munmap, Mprotect, Load, Store, Fetch}
@@ -48,3 +48,7 @@ ReadsAll = (line : Line) (words : List Word) → Says line words → line_of_wor
 -- what is read is said
 abbrev pub ReadsOnly : Type 0
 ReadsOnly = (line : Line) (words : List Word) → line_of_words words ≡ Some line → Says line words
+
+-- a core is named by the letter c and its number, 0 to 63, in decimal without leading zeros
+abbrev pub NamesCores : Type 0
+NamesCores = (core : ℕ) → core < 64 → core_of (codes "c" ++ decimal core) ≡ Some core
