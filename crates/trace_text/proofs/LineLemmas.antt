@@ -1,0 +1,173 @@
+-- Lines and their grammar.
+use Rattle.std.proofs.Common.{◌≡◌, ◌⊎◌, inl, inr, ℕ, ◌<◌, ◌≤◌, true, false, cond, List, [], ◌∷◌, ◌++◌, Some, None, codes, arith, refl, sym, ap, ◌∙◌, subst, eqb, length, take, get_or, ◌-◌, suc, zero}
+use Rattle.std.proofs.lemmas.Bool.Decides.{nat_tests}
+use Rattle.std.specs.Prelude.{nat_le, nat_lt, ◌&&◌, ◌+◌, ◌*◌}
+use Rattle.std.specs.Str.{bytes_eq}
+use Rattle.std.proofs.lemmas.Slice.Eq.{bytes_eq-Decides}
+use Rattle.std.specs.Io.BufRead.{ends_with_byte, strip_last}
+use Rattle.trace_text.proofs.RequestLemmas.{bind_some, ended_some, front_some, chosen, asked_is_read, read_is_asked}
+use Rattle.trace_text.specs.Words.{Word, front_word}
+use Rattle.trace_text.specs.Number.{number_of}
+use Rattle.trace_text.specs.Request.{◌>>=◌, ended, request_of}
+use Rattle.trace_text.specs.Line.{calls_of, space_of, core_number, core_of, call_of, action_of, now_of, event_of, line_of_words}
+use Rattle.trace_text.specs.Grammar.{Limits, Says, ReadsAll, ReadsOnly}
+use Rattle.trace_text.specs.declared.line.Line.{Line}
+use Rattle.trace_text.specs.declared.line.Line.TheVariants.{Blank, Space, Call, Go, Finish, Now}
+
+-- the bytes that name a core
+number_shape : (ds : List ℕ) (c : ℕ) → core_number ds ≡ Some c
+    → ((d : ℕ) × (ds ≡ d ∷ []) × (48 ≤ d)) ⊎ ((d : ℕ) × (e : ℕ) × (ds ≡ d ∷ e ∷ []) × (48 ≤ e))
+number_shape [] c p = absurd (cc)
+number_shape (d ∷ []) c p = elim (chosen (nat_le 48 d && nat_le d 57) (Some (d - 48)) None (Some c) p) [
+  | inl h ↦ inl (d, refl, grind (arith, nat_tests, h.0))
+  | inr h ↦ let bad = h.1 in absurd (cc)
+]
+number_shape (d ∷ e ∷ []) c p = elim (chosen (nat_le 49 d && nat_le d 57 && nat_le 48 e && nat_le e 57) (cond (nat_lt 63 (10 * (d - 48) + (e - 48))) None (Some (10 * (d - 48) + (e - 48)))) None (Some c) p) [
+  | inl h ↦ inr (d, e, refl, grind (arith, nat_tests, h.0))
+  | inr h ↦ let bad = h.1 in absurd (cc)
+]
+number_shape (d ∷ e ∷ f ∷ fs) c p = absurd (cc)
+
+core_first : (w : Word) (c : ℕ) → core_of w ≡ Some c → (ds : Word) × (w ≡ 99 ∷ ds) × (core_number ds ≡ Some c)
+core_first [] c p = absurd (cc)
+core_first (x ∷ ds) c p = elim (chosen (eqb x 99) (core_number ds) None (Some c) p) [
+  | inl h ↦ (ds, ap (λ y. y ∷ ds) (grind (arith, nat_tests, h.0)), h.1)
+  | inr h ↦ let bad = h.1 in absurd (cc)
+]
+
+core_shape : (w : Word) (c : ℕ) → core_of w ≡ Some c
+    → ((d : ℕ) × (w ≡ 99 ∷ d ∷ []) × (48 ≤ d)) ⊎ ((d : ℕ) × (e : ℕ) × (w ≡ 99 ∷ d ∷ e ∷ []) × (48 ≤ e))
+core_shape w c p =
+    let (ds, is, n) = core_first w c p in
+    elim (number_shape ds c n) [
+      | inl (d, e, h) ↦ inl (d, is ∙ ap (λ l. 99 ∷ l) e, h)
+      | inr (d, f, e, h) ↦ inr (d, f, is ∙ ap (λ l. 99 ∷ l) e, h)
+    ]
+
+no_bang : (d : ℕ) → 48 ≤ d → eqb d 33 ≡ false
+no_bang d h = grind (arith, nat_tests)
+
+-- a line whose first word names a core says what the core does
+acts : (w : Word) (core : ℕ) (rest : List Word) → core_of w ≡ Some core → line_of_words (w ∷ rest) ≡ action_of core rest
+unfolding line_of_words event_of
+acts w core rest k = elim (core_shape w core k) [
+  | inl (d, e, h) ↦ subst (λ v. line_of_words (v ∷ rest) ≡ action_of core rest) (sym e)
+      (ap (λ b. cond b (now_of (strip_last 33 (99 ∷ d ∷ [])) rest) (core_of (99 ∷ d ∷ []) >>= λ c. action_of c rest)) (no_bang d h)
+      ∙ ap (λ o. o >>= λ c. action_of c rest) (ap core_of (sym e) ∙ k))
+  | inr (d, f, e, h) ↦ subst (λ v. line_of_words (v ∷ rest) ≡ action_of core rest) (sym e)
+      (ap (λ b. cond b (now_of (strip_last 33 (99 ∷ d ∷ f ∷ [])) rest) (core_of (99 ∷ d ∷ f ∷ []) >>= λ c. action_of c rest)) (no_bang f h)
+      ∙ ap (λ o. o >>= λ c. action_of c rest) (ap core_of (sym e) ∙ k))
+]
+
+now_read : (w : Word) (core : ℕ) (rest : List Word) → core_of w ≡ Some core → line_of_words ((w ++ codes "!") ∷ rest) ≡ now_of w rest
+unfolding line_of_words event_of
+now_read w core rest k = elim (core_shape w core k) [
+  | inl (d, e, h) ↦ subst (λ v. line_of_words ((v ++ codes "!") ∷ rest) ≡ now_of v rest) (sym e) refl
+  | inr (d, f, e, h) ↦ subst (λ v. line_of_words ((v ++ codes "!") ∷ rest) ≡ now_of v rest) (sym e) refl
+]
+
+limits_all : (cores frames calls : ℕ) (more : List Word) → Limits calls more → calls_of cores frames more ≡ Some (Space cores frames calls)
+unfolding calls_of
+limits_all cores frames calls more (inl (e, n)) = rw (e, n) refl
+limits_all cores frames calls more (inr (w, e, n)) = rw (e, n) refl
+
+pub said_is_read : ReadsAll
+unfolding line_of_words space_of call_of action_of now_of
+said_is_read Blank words e = rw e refl
+said_is_read (Space cores frames calls) words (c, f, more, e, n, m, l) = rw (e, n, m) (limits_all cores frames calls more l)
+said_is_read (Call core request) words (c, args, e, k, a) =
+    ap line_of_words e ∙ acts c core (codes "call" ∷ args) k ∙ ap (λ o. o >>= λ q. Some (Call core q)) (asked_is_read request args a)
+said_is_read (Go core) words (c, e, k) = ap line_of_words e ∙ acts c core (codes "go" ∷ []) k
+said_is_read (Finish core) words (c, e, k) = ap line_of_words e ∙ acts c core (codes "finish" ∷ []) k
+said_is_read (Now core request) words (c, args, e, k, a) =
+    ap line_of_words e ∙ now_read c core args k ∙ ap (λ o. o >>= λ b. request_of args >>= λ q. Some (Now b q)) k
+    ∙ ap (λ o. o >>= λ q. Some (Now core q)) (asked_is_read request args a)
+
+calls_only : (cores frames : ℕ) (more : List Word) (line : Line) → calls_of cores frames more ≡ Some line
+    → (calls : ℕ) × (Space cores frames calls ≡ line) × Limits calls more
+unfolding calls_of
+calls_only cores frames [] line e = (4096, cc, inl (refl, refl))
+calls_only cores frames (w ∷ ws) line e =
+    let (calls, n, e1) = bind_some (number_of w) (λ calls. ended ws (Space cores frames calls)) line e in
+    let (none, same) = ended_some ws (Space cores frames calls) line e1 in
+    (calls, same, inr (w, ap (λ l. w ∷ l) none, n))
+
+only_space : (args : List Word) (line : Line) → space_of args ≡ Some line → Says line (codes "vm" ∷ args)
+unfolding space_of
+only_space args line e =
+    let (first, e1, f1) = bind_some (front_word args) _ line e in
+    let (cores, n1, g1) = bind_some (number_of first.0) _ line f1 in
+    let (second, e2, f2) = bind_some (front_word first.1) _ line g1 in
+    let (frames, n2, g2) = bind_some (number_of second.0) (λ frames. calls_of cores frames second.1) line f2 in
+    let (calls, same, limits) = calls_only cores frames second.1 line g2 in
+    let words = front_some args first e1 ∙ ap (λ ws. first.0 ∷ ws) (front_some first.1 second e2) in
+    subst (λ l. Says l (codes "vm" ∷ args)) same (first.0, second.0, second.1, ap (λ ws. codes "vm" ∷ ws) words, n1, n2, limits)
+
+last_is : (xs : List ℕ) (n : ℕ) → length xs ≡ suc n → get_or xs n 0 ≡ 33 → xs ≡ take n xs ++ 33 ∷ []
+last_is [] n h e = absurd (omega arith)
+last_is (x ∷ []) zero h e = ap (λ y. y ∷ []) e
+last_is (x ∷ (y ∷ ys)) zero h e = absurd (omega arith)
+last_is (x ∷ []) (suc n) h e = absurd (omega arith)
+last_is (x ∷ (y ∷ ys)) (suc n) h e = ap (λ l. x ∷ l) (last_is (y ∷ ys) n (omega arith) e)
+
+stripped : (xs : Word) → ends_with_byte 33 xs ≡ true → xs ≡ strip_last 33 xs ++ codes "!"
+stripped xs b =
+    let some : 0 < length xs = grind (arith, nat_tests, b) in
+    let last : get_or xs (length xs - 1) 0 ≡ 33 = grind (arith, nat_tests, b) in
+    last_is xs (length xs - 1) (omega arith) last ∙ ap (λ l. l ++ codes "!") (sym (ap (λ t. cond t (take (length xs - 1) xs) xs) b))
+
+only_now : (name : Word) (args : List Word) (line : Line) → ends_with_byte 33 name ≡ true → now_of (strip_last 33 name) args ≡ Some line → Says line (name ∷ args)
+unfolding now_of
+only_now name args line b e =
+    let (core, k, e1) = bind_some (core_of (strip_last 33 name)) _ line e in
+    let (request, q, e2) = bind_some (request_of args) (λ q. Some (Now core q)) line e1 in
+    let same : Now core request ≡ line = cc in
+    subst (λ l. Says l (name ∷ args)) same
+    (strip_last 33 name, args, ap (λ n. n ∷ args) (stripped name b), k, read_is_asked request args q)
+
+only_call : (name : Word) (core : ℕ) (args : List Word) (line : Line) → core_of name ≡ Some core → call_of core args ≡ Some line → Says line (name ∷ codes "call" ∷ args)
+unfolding call_of
+only_call name core args line k e =
+    let (request, q, e2) = bind_some (request_of args) (λ q. Some (Call core q)) line e in
+    let same : Call core request ≡ line = cc in
+    subst (λ l. Says l (name ∷ codes "call" ∷ args)) same (name, args, refl, k, read_is_asked request args q)
+
+-- a word that the test knew
+word_is : (w t : Word) → bytes_eq w t ≡ true → w ≡ t
+word_is w t b = (bytes_eq-Decides w t).0 b
+
+only_action : (name : Word) (core : ℕ) (args : List Word) (line : Line) → core_of name ≡ Some core → action_of core args ≡ Some line → Says line (name ∷ args)
+unfolding action_of
+only_action name core args line k a =
+    let (verb, ev, e1) = bind_some (front_word args) _ line a in
+    let is = front_some args verb ev in
+    elim (chosen (bytes_eq verb.0 (codes "call")) _ _ (Some line) e1) [
+      | inl h ↦ subst (λ ws. Says line (name ∷ ws)) (sym (is ∙ ap (λ w. w ∷ verb.1) (word_is verb.0 (codes "call") h.0)))
+          (only_call name core verb.1 line k h.1)
+      | inr h ↦ elim (chosen (bytes_eq verb.0 (codes "go")) _ _ (Some line) h.1) [
+        | inl g ↦ let (none, same) = ended_some verb.1 (Go core) line g.1 in
+            subst (λ l. Says l (name ∷ args)) same
+            (name, ap (λ ws. name ∷ ws) (is ∙ ap (λ w. w ∷ verb.1) (word_is verb.0 (codes "go") g.0) ∙ ap (λ ws. codes "go" ∷ ws) none), k)
+        | inr g ↦ elim (chosen (bytes_eq verb.0 (codes "finish")) _ _ (Some line) g.1) [
+          | inl f ↦ let (none, same) = ended_some verb.1 (Finish core) line f.1 in
+              subst (λ l. Says l (name ∷ args)) same
+              (name, ap (λ ws. name ∷ ws) (is ∙ ap (λ w. w ∷ verb.1) (word_is verb.0 (codes "finish") f.0) ∙ ap (λ ws. codes "finish" ∷ ws) none), k)
+          | inr f ↦ let bad = f.1 in absurd (cc)
+        ]
+      ]
+    ]
+
+only_event : (name : Word) (args : List Word) (line : Line) → event_of name args ≡ Some line → Says line (name ∷ args)
+unfolding event_of
+only_event name args line e = elim (chosen (ends_with_byte 33 name) (now_of (strip_last 33 name) args) (core_of name >>= λ core. action_of core args) (Some line) e) [
+  | inl h ↦ only_now name args line h.0 h.1
+  | inr h ↦ let (core, k, a) = bind_some (core_of name) (λ core. action_of core args) line h.1 in only_action name core args line k a
+]
+
+pub read_is_said : ReadsOnly
+unfolding line_of_words
+read_is_said line [] e = let same : Blank ≡ line = cc in subst (λ l. Says l []) same refl
+read_is_said line (name ∷ args) e = elim (chosen (bytes_eq name (codes "vm")) (space_of args) (event_of name args) (Some line) e) [
+  | inl h ↦ subst (λ w. Says line (w ∷ args)) (sym (word_is name (codes "vm") h.0)) (only_space args line h.1)
+  | inr h ↦ only_event name args line h.1
+]

@@ -1,0 +1,12 @@
+use Rattle.trace_text.proofs.CoreLemmas.{names_cores}
+use Rattle.trace_text.proofs.LineLemmas.{said_is_read, read_is_said}
+use Rattle.trace_text.proofs.grammar.grammar.Goals as goal
+
+pub returns-clause-all : goal.returns-clause-all
+returns-clause-all c = said_is_read
+
+pub returns-clause-only : goal.returns-clause-only
+returns-clause-only c = read_is_said
+
+pub returns-clause-cores : goal.returns-clause-cores
+returns-clause-cores c = names_cores

@@ -1,0 +1,6 @@
+pub mod Words
+pub mod Number
+pub mod Request
+pub mod Line
+pub mod Printing
+pub mod Grammar

@@ -1,0 +1,80 @@
+-- What a line of a trace says.
+use Rattle.std.specs.Prelude.{ℕ, ◌+◌, ◌-◌, ◌*◌, Bool, false, ◌&&◌, List, [], ◌∷◌, Option, None, Some, if◌then◌else◌, ◌==◌, nat_lt, nat_le, codes}
+use Rattle.std.specs.Str.{bytes_eq}
+use Rattle.std.specs.List.{list_all}
+use Rattle.std.specs.Io.BufRead.{ends_with_byte, strip_last}
+use Rattle.trace_text.specs.Words.{Word, words_of, front_word}
+use Rattle.trace_text.specs.Number.{number_of}
+use Rattle.trace_text.specs.Request.{◌>>=◌, ended, request_of}
+use Rattle.trace_text.specs.declared.line.Line.{Line}
+use Rattle.trace_text.specs.declared.line.Line.TheVariants.{Blank, Space, Call, Go, Finish, Now}
+
+-- each byte is printable ASCII
+abbrev pub are_printable : List ℕ → Bool
+are_printable bytes = list_all (λ b. nat_le 0x20 b && nat_le b 0x7e) bytes
+
+-- the first of the words is `vm`
+abbrev pub begins_with_vm : List Word → Bool
+begins_with_vm [] = false
+begins_with_vm (name ∷ args) = bytes_eq name (codes "vm")
+
+-- CALLS, which is 4096 where left out
+unfoldable pub calls_of : ℕ → ℕ → List Word → Option Line
+calls_of cores frames [] = Some (Space cores frames 4096)
+calls_of cores frames (w ∷ ws) = do
+  calls ← number_of w
+  ended ws (Space cores frames calls)
+
+unfoldable pub space_of : List Word → Option Line
+space_of words = do
+  first ← front_word words
+  cores ← number_of first.0
+  second ← front_word first.1
+  frames ← number_of second.0
+  calls_of cores frames second.1
+
+-- a number of one digit, and of two without a leading zero
+abbrev pub one_digit : ℕ → Option ℕ
+one_digit d = if nat_le 48 d && nat_le d 57 then Some (d - 48) else None
+
+abbrev pub core_number : List ℕ → Option ℕ
+core_number [] = None
+core_number (d ∷ []) = one_digit d
+core_number (d ∷ e ∷ []) = if nat_le 49 d && nat_le d 57 && nat_le 48 e && nat_le e 57 then (if nat_lt 63 (10 * (d - 48) + (e - 48)) then None else Some (10 * (d - 48) + (e - 48))) else None
+core_number (d ∷ e ∷ f ∷ fs) = None
+
+-- the core of a word `cC`
+abbrev pub core_of : Word → Option ℕ
+core_of [] = None
+core_of (c ∷ cs) = if c == 99 then core_number cs else None
+
+unfoldable pub call_of : ℕ → List Word → Option Line
+call_of core words = do
+  request ← request_of words
+  Some (Call core request)
+
+-- what a core does: begins a call, takes a step or finishes
+unfoldable pub action_of : ℕ → List Word → Option Line
+action_of core words = do
+  name ← front_word words
+  if bytes_eq name.0 (codes "call") then call_of core name.1 else if bytes_eq name.0 (codes "go") then ended name.1 (Go core) else if bytes_eq name.0 (codes "finish") then ended name.1 (Finish core) else None
+
+unfoldable pub now_of : Word → List Word → Option Line
+now_of word args = do
+  core ← core_of word
+  request ← request_of args
+  Some (Now core request)
+
+-- a line of a core: `cC! REQ`, or `cC` and what it does
+unfoldable pub event_of : Word → List Word → Option Line
+event_of name args = if ends_with_byte 33 name then now_of (strip_last 33 name) args else (core_of name >>= λ core. action_of core args)
+
+-- what the words of a line say; no word says nothing
+unfoldable pub line_of_words : List Word → Option Line
+line_of_words [] = Some Blank
+line_of_words (name ∷ args) = if bytes_eq name (codes "vm") then space_of args else event_of name args
+
+-- what printable bytes say; a line that begins with # says nothing
+abbrev pub line_of : List ℕ → Option Line
+line_of [] = line_of_words (words_of [])
+line_of (b ∷ bs) = if b == 35 then Some Blank else line_of_words (words_of (b ∷ bs))

@@ -1,0 +1,68 @@
+//! What a line of a trace says.
+ghost use Rattle.std.specs.Prelude.{◌≡◌, option_map};
+ghost use Rattle.trace_text.specs.Words.{words_of};
+ghost use Rattle.trace_text.specs.Line.{are_printable, begins_with_vm, line_of, line_of_words};
+
+use crate::core_line::read_core_line;
+use crate::space_line::read_space;
+use crate::words::next_word;
+use vm_base::{CoreId, Request};
+
+/// What a line says.
+#[derive(Clone, Copy, Debug, PartialEq, Eq)]
+pub enum Line {
+    /// Nothing: no word, or a comment.
+    Blank,
+    /// `vm CORES FRAMES CALLS`: a space of so many cores and frames, in which so many calls may begin.
+    Space { cores: u64, frames: u64, calls: u64 },
+    /// `cC call REQ`: the core begins a call.
+    Call(CoreId, Request),
+    /// `cC go`: one step of the core's call.
+    Go(CoreId),
+    /// `cC finish`: all steps of the core's call.
+    Finish(CoreId),
+    /// `cC! REQ`: the core begins a call and finishes it.
+    Now(CoreId, Request),
+}
+
+/// Tells whether each byte is printable ASCII, 0x20 to 0x7e. A line with another byte is bad, a comment too.
+pub fn is_printable(bytes: &[u8]) -> bool
+    ensures { result ≡ are_printable bytes.now }
+{
+    bytes.iter().all(|b| *b >= 0x20 && *b <= 0x7e)
+}
+
+/// Tells whether the first word is `vm`; a line without words has none.
+pub fn first_word_is_vm(bytes: &[u8]) -> bool
+    ensures { result ≡ begins_with_vm (words_of bytes.now) }
+{
+    match next_word(bytes) {
+        Some((name, _)) => name == b"vm".as_slice(),
+        None => false,
+    }
+}
+
+#[tactic(auto, unfolding(crate::specs::Line::line_of_words))]
+fn read_words(bytes: &[u8]) -> Option<Line>
+    ensures { result ≡ line_of_words (words_of bytes.now) }
+{
+    let Some((name, args)) = next_word(bytes) else {
+        return Some(Line::Blank);
+    };
+    if name == b"vm".as_slice() {
+        read_space(args)
+    } else {
+        read_core_line(name, args)
+    }
+}
+
+/// What a line of printable bytes says, without its newline; `None` where it is a bad line. A line whose first
+/// byte is `#` is a comment.
+pub fn read_line(bytes: &[u8]) -> Option<Line>
+    ensures { result ≡ line_of bytes.now }
+{
+    match bytes {
+        [b'#', ..] => Some(Line::Blank),
+        _ => read_words(bytes),
+    }
+}

@@ -1,0 +1,46 @@
+//! The line `vm CORES FRAMES` or `vm CORES FRAMES CALLS`, which says how large a space is.
+ghost use Rattle.std.specs.Prelude.{◌≡◌, option_map};
+ghost use Rattle.trace_text.specs.Words.{words_of};
+ghost use Rattle.trace_text.specs.Line.{calls_of, space_of};
+
+use crate::line::Line;
+use crate::number::read_number;
+use crate::words::next_word;
+
+/// How many calls a space may begin where the line leaves it out.
+pub const DEFAULT_CALLS: u64 = 4096;
+
+#[tactic(auto, unfolding(crate::specs::Line::calls_of))]
+fn read_calls(cores: u64, frames: u64, args: &[u8]) -> Option<Line>
+    ensures { result ≡ calls_of cores frames (words_of args.now) }
+{
+    let Some((calls, rest)) = next_word(args) else {
+        return Some(Line::Space {
+            cores,
+            frames,
+            calls: DEFAULT_CALLS,
+        });
+    };
+    let calls = read_number(calls)?;
+    if next_word(rest).is_some() {
+        return None;
+    }
+    Some(Line::Space {
+        cores,
+        frames,
+        calls,
+    })
+}
+
+/// The line of these words after `vm`; `None` where they are no such line. Whether a space of this size can be
+/// made isn't tested here.
+#[tactic(auto, unfolding(crate::specs::Line::space_of))]
+pub fn read_space(args: &[u8]) -> Option<Line>
+    ensures { result ≡ space_of (words_of args.now) }
+{
+    let (cores, rest) = next_word(args)?;
+    let cores = read_number(cores)?;
+    let (frames, rest) = next_word(rest)?;
+    let frames = read_number(frames)?;
+    read_calls(cores, frames, rest)
+}

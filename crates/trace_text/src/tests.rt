@@ -1,0 +1,199 @@
+//! Lines as the format's description gives them, good and bad, and the texts of replies.
+use crate::line::{Line, first_word_is_vm, is_printable, read_line};
+use crate::printing::{address_text, number_text, reply_text};
+use vm_base::{CoreId, Errno, Flags, Prot, Reply, Request, SegvCode};
+
+const READ_WRITE: Prot = Prot {
+    read: true,
+    write: true,
+    exec: false,
+};
+
+// `pfa`
+const PLACED: Flags = Flags {
+    private: true,
+    shared: false,
+    fixed: true,
+    anon: true,
+};
+
+// `s`
+const SHARED: Flags = Flags {
+    private: false,
+    shared: true,
+    fixed: false,
+    anon: false,
+};
+
+#[test]
+fn sizes_of_a_space(rt: HostRuntime) {
+    for (text, cores, frames, calls) in [
+        (b"vm 1 4".as_slice(), 1, 4, 4096),
+        (b"vm 1 1 2".as_slice(), 1, 1, 2),
+        (b"  vm  0x40   007 ".as_slice(), 64, 7, 4096),
+    ] {
+        assert!(rt; first_word_is_vm(text));
+        assert_eq!(rt;
+            read_line(text),
+            Some(Line::Space {
+                cores,
+                frames,
+                calls
+            })
+        );
+    }
+    assert!(rt; !first_word_is_vm(b"vmx 1 1"));
+    assert!(rt; !first_word_is_vm(b"   "));
+}
+
+#[test]
+fn requests_of_a_core(rt: HostRuntime) {
+    let core = CoreId::new(0);
+    for (text, request) in [
+        (
+            b"c0! mmap 0x10000 4096 rw- pfa".as_slice(),
+            Request::Mmap {
+                addr: 0x10000,
+                len: 4096,
+                prot: READ_WRITE,
+                flags: PLACED,
+                file: 0,
+                off: 0,
+            },
+        ),
+        (
+            b"c0! mmap 0 0x2000 rw- s 3 0x1000".as_slice(),
+            Request::Mmap {
+                addr: 0,
+                len: 8192,
+                prot: READ_WRITE,
+                flags: SHARED,
+                file: 3,
+                off: 4096,
+            },
+        ),
+        (
+            b"c0! munmap 0x10000 0x1000".as_slice(),
+            Request::Munmap {
+                addr: 65536,
+                len: 4096,
+            },
+        ),
+        (
+            b"c0! mprotect 0x10000 1 rw-".as_slice(),
+            Request::Mprotect {
+                addr: 65536,
+                len: 1,
+                prot: READ_WRITE,
+            },
+        ),
+        (
+            b"c0! load 0xFFFFffffFFFFffff".as_slice(),
+            Request::Load { addr: u64::MAX },
+        ),
+        (
+            b"c0! store 0x10004 41".as_slice(),
+            Request::Store {
+                addr: 65540,
+                byte: 41,
+            },
+        ),
+        (b"c0! fetch 00010".as_slice(), Request::Fetch { addr: 10 }),
+    ] {
+        assert!(rt; is_printable(text));
+        assert_eq!(rt; read_line(text), Some(Line::Now(core, request)));
+    }
+}
+
+#[test]
+fn other_lines_of_a_core(rt: HostRuntime) {
+    let request = Request::Load { addr: 0 };
+    assert_eq!(rt;
+        read_line(b"c7 call load 0"),
+        Some(Line::Call(CoreId::new(7), request))
+    );
+    assert_eq!(rt; read_line(b"c63 go"), Some(Line::Go(CoreId::new(63))));
+    assert_eq!(rt;
+        read_line(b"c10 finish "),
+        Some(Line::Finish(CoreId::new(10)))
+    );
+}
+
+#[test]
+fn lines_that_say_nothing(rt: HostRuntime) {
+    for text in [
+        b"".as_slice(),
+        b"   ".as_slice(),
+        b"# vm 1 1".as_slice(),
+        b"#".as_slice(),
+    ] {
+        assert_eq!(rt; read_line(text), Some(Line::Blank));
+    }
+}
+
+#[test]
+fn bad_lines(rt: HostRuntime) {
+    for text in [
+        b" # comment".as_slice(),
+        b"vm 1".as_slice(),
+        b"vm 1 4 4096 1".as_slice(),
+        b"c64 go".as_slice(),
+        b"c01 go".as_slice(),
+        b"C0 go".as_slice(),
+        b"c go".as_slice(),
+        b"c0 go on".as_slice(),
+        b"c0! go".as_slice(),
+        b"c0 ! load 0".as_slice(),
+        b"c0! frob".as_slice(),
+        b"c0! load 0x10000000000000000".as_slice(),
+        b"c0! load 0X10".as_slice(),
+        b"c0! load 0x".as_slice(),
+        b"c0! load -1".as_slice(),
+        b"c0! store 0 256".as_slice(),
+        b"c0! mmap 0 4096 rw- pp".as_slice(),
+        b"c0! mmap 0 4096 rw pa".as_slice(),
+        b"c0! mmap 0 4096 wr- pa".as_slice(),
+        b"c0! mmap 0 4096 rw- p".as_slice(),
+        b"c0! mmap 0 4096 rw- pa 1".as_slice(),
+        b"c0! mmap 0 4096 rw- ".as_slice(),
+    ] {
+        assert_eq!(rt; read_line(text), None);
+    }
+    assert!(rt; !is_printable(b"#\t"));
+    assert!(rt; !is_printable(b"vm 1 1\r"));
+    assert!(rt; !is_printable(b"\x7f"));
+    assert!(rt; is_printable(b" ~"));
+}
+
+#[test]
+fn texts_of_replies(rt: HostRuntime) {
+    for (reply, text) in [
+        (Reply::Mapped(0x10000), "0x10000"),
+        (Reply::Mapped(0x7fff_ffff_f000), "0x7ffffffff000"),
+        (Reply::Done, "done"),
+        (Reply::Byte(0), "0"),
+        (Reply::Byte(255), "255"),
+        (Reply::Refused(Errno::EINVAL), "einval"),
+        (Reply::Refused(Errno::ENOMEM), "enomem"),
+        (Reply::Refused(Errno::EACCES), "eacces"),
+        (Reply::Refused(Errno::EBADF), "ebadf"),
+        (Reply::Refused(Errno::EOVERFLOW), "eoverflow"),
+        (Reply::Segv(SegvCode::MapErr), "segv maperr"),
+        (Reply::Segv(SegvCode::AccErr), "segv accerr"),
+        (Reply::Bus, "bus"),
+        (Reply::NoFrame, "noframe"),
+        (Reply::NoMemory, "nomemory"),
+    ] {
+        assert_eq!(rt; reply_text(reply).as_str(), text);
+    }
+}
+
+#[test]
+fn texts_of_numbers(rt: HostRuntime) {
+    assert_eq!(rt; address_text(0).as_str(), "0x0");
+    assert_eq!(rt; address_text(0xABCDEF).as_str(), "0xabcdef");
+    assert_eq!(rt; address_text(u64::MAX).as_str(), "0xffffffffffffffff");
+    assert_eq!(rt; number_text(0).as_str(), "0");
+    assert_eq!(rt; number_text(4096).as_str(), "4096");
+    assert_eq!(rt; number_text(u64::MAX).as_str(), "18446744073709551615");
+}
