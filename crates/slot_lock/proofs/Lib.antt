@@ -5,3 +5,4 @@ pub mod Changes
 pub mod Joins
 pub mod Walks
 pub mod Frames
+pub mod EdgeCounts

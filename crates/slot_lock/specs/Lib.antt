@@ -7,3 +7,4 @@ pub mod RunSlots
 pub mod Places
 pub mod RunLaws
 pub mod Walks
+pub mod Edges

@@ -3,6 +3,7 @@
 
 pub mod acquire;
 pub mod footprint;
+pub mod laws;
 pub mod plan;
 pub mod run;
 pub mod run_list;
