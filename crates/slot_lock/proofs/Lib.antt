@@ -6,3 +6,4 @@ pub mod Joins
 pub mod Walks
 pub mod Frames
 pub mod EdgeCounts
+pub mod SlotLaws
