@@ -2,3 +2,9 @@ pub mod Plan
 pub mod Slots
 pub mod Footprint
 pub mod Acquire
+pub mod Runs
+pub mod RunSlots
+pub mod Places
+pub mod RunLaws
+pub mod Walks
+pub mod Edges

@@ -87,6 +87,29 @@ pub record Joins (s t : Slots) : Type 0 where
   pub elsewhere : (p : ℕ) → s.owner p ≢ None → t.edge p ≡ s.edge p
   pub removed : (p : ℕ) × (s.edge p ≡ true) × (t.edge p ≡ false)
 
+-- no slot begins at the page, and all else stays
+abbrev pub without_edge : Slots → ℕ → Slots
+without_edge s at = record s { edge = put s.edge at false }
+
+-- The page's slot ends where a slot of valid pages begins. Both are unheld, without frame and recorded core, and the
+-- second's pages go on from the first's
+pub record CanJoin (s : Slots) (page at : ℕ) : Type 0 where
+  pub above : page < at
+  pub next : (p : ℕ) → page < p → p < at → s.edge p ≡ false
+  pub edge : s.edge at ≡ true
+  pub below_limit : at < 2 ^ 35
+  pub free : s.owner page ≡ None
+  pub next_free : s.owner at ≡ None
+  pub no_leaf : is_leaf (s.info page) ≡ false
+  pub next_no_leaf : is_leaf (s.info at) ≡ false
+  pub goes_on : s.info at ≡ info_from (s.info page) (at - page)
+
+-- the page's slot was joined with the next one
+pub record Folds (s t : Slots) (page : ℕ) : Type 0 where
+  pub at : ℕ
+  pub could : CanJoin s page at
+  pub now : t ≡ without_edge s at
+
 -- ---- locking
 
 -- the slot of the cursor reaches past the pages from the cursor up to end, on one side or the other

@@ -3,10 +3,18 @@
 
 pub mod acquire;
 pub mod footprint;
+pub mod laws;
 pub mod plan;
+pub mod run;
+pub mod run_list;
 pub mod slot_map;
+pub mod walk;
 
 pub use acquire::Acquire;
 pub use footprint::Footprint;
 pub use plan::{Change, Place, Plan, Touch};
+pub use run_list::RunList;
 pub use slot_map::{Fit, Got, SlotMap, SlotRead};
+
+#[cfg(test)]
+mod tests;

@@ -1,0 +1,243 @@
+-- Runs that have another owner, another frame, or a change of their range
+use Rattle.std.proofs.Common.{◌≡◌, ◌≢◌, ℕ, ◌+◌, ◌-◌, ◌^◌, ◌<◌, ◌≤◌, ◌==◌, ◌⊎◌, ◌||◌, ⊎_elim, Bool, true, false, cond, List, length, set, Option, Some, None, is_some, refl, sym, ◌∙◌, ap, subst, arith}
+use Rattle.std.proofs.lemmas.Bool.{cases_lt}
+use Rattle.vm_base.specs.declared.info.PageInfo.{PageInfo}
+use Rattle.vm_base.specs.declared.info.Meta.{Meta}
+use Rattle.vm_base.specs.declared.info.Back.{Back}
+use Rattle.vm_base.specs.declared.info.Back.TheVariants.{Anon, Shared, Private}
+use Rattle.vm_base.specs.declared.page.PageRange.{PageRange}
+use Rattle.vm_base.specs.declared.rights.Prot.{Prot}
+use Rattle.vm_base.specs.Functions.{has}
+use Rattle.vm_base.specs.Pages.{IsPageRange}
+use Rattle.vm_base.specs.Info.{advance, advance_back, file_page, info_from, info_file_page, info_with_prot, is_leaf, unused}
+use Rattle.vm_base.proofs.Functions.{has_in}
+use Rattle.slot_lock.specs.declared.plan.Change.{Change}
+use Rattle.slot_lock.specs.declared.plan.Change.TheVariants.{Put, Clear, Protect}
+use Rattle.slot_lock.specs.declared.run.Run.{Run}
+use Rattle.slot_lock.specs.Plan.{IsSoundChange, IsSoundPut, range_of}
+use Rattle.slot_lock.specs.Runs.{IsRuns, IsAt, IsInner, get_run, run_at, nobody, owned_run, informed_run, changed_info, changed_run}
+use Rattle.slot_lock.specs.Places.{starts_rise_to, start_most, run_at_is}
+use Rattle.slot_lock.specs.Slots.{IsCut, HasMeta, between, with_owner, with_info}
+use Rattle.slot_lock.specs.RunSlots.{slots_of, changed}
+use Rattle.slot_lock.specs.RunLaws.{edge_at, is_slot, info_from_twice, info_from_zero}
+use Rattle.slot_lock.proofs.Steps.{before_limit, first_slot, slot_by_edge}
+use Rattle.slot_lock.proofs.Edits.{Edits, IsEdit, Edited, edited_each, edited_keeps, edited_edge, edited-IsRuns, same_slots, no_edits, next_edit, has_above, has_one, not_after, before, run_from, within_run}
+
+-- ---- one run
+
+-- the run at i alone is changed
+one_run : (rs : List Run) → IsRuns rs → (i : ℕ) → IsInner rs i → (g : Run → Run) → Edits rs (set rs i (g (get_run rs i))) (between (get_run rs i).start (get_run rs (i + 1)).start) g
+one_run rs ok i h g = next_edit rs rs ok (get_run rs i).start i g h.before_last (omega arith) (no_edits rs (get_run rs i).start g)
+
+one_is : (rs : List Run) → IsRuns rs → (i : ℕ) → IsInner rs i → (k : ℕ) → k < length rs → has (between (get_run rs i).start (get_run rs (i + 1)).start) (get_run rs k).start ≡ true → k ≡ i
+one_is rs ok i h k l a =
+    let b = has_in (between (get_run rs i).start (get_run rs (i + 1)).start) (get_run rs k).start a in
+    let m = not_after rs ok k (i + 1) l b.1 in
+    ⊎_elim
+    (λ (lt : k < i). let s = before rs ok k i (omega (arith, h.before_last)) lt in absurd (omega (arith, b.0)))
+    (λ (le : i ≤ k). omega arith)
+    (cases_lt k i)
+
+one_cut : (rs : List Run) → IsRuns rs → (i : ℕ) → IsInner rs i → IsCut (slots_of rs) (between (get_run rs i).start (get_run rs (i + 1)).start)
+one_cut rs ok i h = record { begins = edge_at rs ok i (omega (arith, h.before_last)); ends = edge_at rs ok (i + 1) h.before_last }
+
+one_low : (rs : List Run) → IsRuns rs → (i : ℕ) → IsInner rs i → 1 ≤ (get_run rs i).start
+one_low rs ok i h = let s = starts_rise_to rs ok 1 i h.after_first (omega (arith, h.before_last)) in omega (arith, ok.one_second)
+
+-- ---- another owner
+
+abbrev pub owned_runs : List Run → ℕ → Option ℕ → List Run
+owned_runs rs i owner = set rs i (owned_run owner (get_run rs i))
+
+owned : (rs : List Run) → IsRuns rs → (i : ℕ) (owner : Option ℕ) → IsInner rs i → Edited rs (owned_runs rs i owner) (between (get_run rs i).start (get_run rs (i + 1)).start) (owned_run owner)
+owned rs ok i owner h = record {
+  ok = ok;
+  cut = one_cut rs ok i h;
+  is = record {
+    low = one_low rs ok i h;
+    high = start_most rs ok (i + 1) h.before_last;
+    starts = λ r. refl;
+    fits = λ k l a. ok.fits k l;
+    alone = λ k l a leaf. ok.alone k l leaf;
+  };
+  done = one_run rs ok i h (owned_run owner);
+}
+
+pub owned-IsRuns : (rs : List Run) → IsRuns rs → (i : ℕ) (owner : Option ℕ) → IsInner rs i → IsRuns (owned_runs rs i owner)
+owned-IsRuns rs ok i owner h = edited-IsRuns _ _ _ _ (owned rs ok i owner h)
+
+pub slots_of-owned : (rs : List Run) → IsRuns rs → (i : ℕ) (owner : Option ℕ) → IsInner rs i → slots_of (owned_runs rs i owner) ≡ with_owner (slots_of rs) (get_run rs i).start (get_run rs (i + 1)).start owner
+slots_of-owned rs ok i owner h =
+    let e = owned rs ok i owner h in
+    same_slots _ _
+    (λ p. edited_keeps _ _ _ _ e (λ r. info_from r.info (p - r.start)) (λ r. refl) p)
+    (λ p. edited_each _ _ _ _ e (λ r. r.owner) p owner (λ _. refl))
+    (edited_edge _ _ _ _ e)
+
+-- ---- another frame and other cores
+
+abbrev pub informed_runs : List Run → ℕ → PageInfo → List Run
+informed_runs rs i info = set rs i (informed_run (Some info) (get_run rs i))
+
+same_file_page : (o : Option PageInfo) (info : PageInfo) → HasMeta o info.meta → info_file_page (Some info) ≡ info_file_page o
+same_file_page None info h = absurd h
+same_file_page (Some old) info h = ap (λ (m : Meta). file_page m.back) (sym h)
+
+pub record IsOnePage (rs : List Run) (i : ℕ) (info : PageInfo) : Type 0 where
+  pub inner : IsInner rs i
+  pub one : (get_run rs (i + 1)).start ≡ (get_run rs i).start + 1
+  pub meta : HasMeta (get_run rs i).info info.meta
+
+informed : (rs : List Run) → IsRuns rs → (i : ℕ) (info : PageInfo) → IsOnePage rs i info → Edited rs (informed_runs rs i info) (between (get_run rs i).start (get_run rs (i + 1)).start) (informed_run (Some info))
+informed rs ok i info h = record {
+  ok = ok;
+  cut = one_cut rs ok i h.inner;
+  is = record {
+    low = one_low rs ok i h.inner;
+    high = start_most rs ok (i + 1) h.inner.before_last;
+    starts = λ r. refl;
+    fits = λ k l a. let e = one_is rs ok i h.inner k l a in rw e (rw (same_file_page _ info h.meta) (ok.fits i (omega (arith, h.inner.before_last))));
+    alone = λ k l a leaf. let e = one_is rs ok i h.inner k (omega arith) a in rw e h.one;
+  };
+  done = one_run rs ok i h.inner (informed_run (Some info));
+}
+
+pub informed-IsRuns : (rs : List Run) → IsRuns rs → (i : ℕ) (info : PageInfo) → IsOnePage rs i info → IsRuns (informed_runs rs i info)
+informed-IsRuns rs ok i info h = edited-IsRuns _ _ _ _ (informed rs ok i info h)
+
+pub slots_of-informed : (rs : List Run) → IsRuns rs → (i : ℕ) (info : PageInfo) → IsOnePage rs i info → slots_of (informed_runs rs i info) ≡ with_info (slots_of rs) (get_run rs i).start (Some info)
+slots_of-informed rs ok i info h = same_slots _ _ info_is (λ p. edited_keeps _ _ _ _ e (λ r. r.owner) (λ r. refl) p) (edited_edge _ _ _ _ e)
+  where
+    e : Edited rs (informed_runs rs i info) (between (get_run rs i).start (get_run rs (i + 1)).start) (informed_run (Some info))
+    e = informed rs ok i info h
+
+    here : (p : ℕ) → has (between (get_run rs i).start (get_run rs (i + 1)).start) p ≡ true → info_from (Some info) (p - (run_at rs p).start) ≡ Some info
+    here p a =
+        let b = has_in (between (get_run rs i).start (get_run rs (i + 1)).start) p a in
+        let run = run_at_is rs ok p i (record { within = omega (arith, h.inner.before_last); from = b.0; until = λ _. b.1 }) in
+        let none : p - (run_at rs p).start ≡ 0 = rw run (omega (arith, b.0, b.1, h.one)) in
+        ap (info_from (Some info)) none ∙ info_from_zero (Some info)
+
+    info_is : (p : ℕ) → (slots_of (informed_runs rs i info)).info p ≡ (with_info (slots_of rs) (get_run rs i).start (Some info)).info p
+    info_is p =
+        let test : has (between (get_run rs i).start (get_run rs (i + 1)).start) p ≡ (p == (get_run rs i).start) = ap (λ n. has (between (get_run rs i).start n) p) h.one ∙ has_one (get_run rs i).start p in
+        edited_each _ _ _ _ e (λ r. info_from r.info (p - r.start)) p (Some info) (here p) ∙ ap (λ b. cond b (Some info) ((slots_of rs).info p)) test
+
+-- ---- a change of a range
+
+back_fits : (b : Back) (n m : ℕ) → file_page b ≤ m → file_page (advance_back b n) ≤ m + n
+back_fits Anon n m h = omega arith
+back_fits (Shared f k) n m h = omega arith
+back_fits (Private f k) n m h = omega arith
+
+prot_fits : (prot : Prot) (o : Option PageInfo) → info_file_page (info_with_prot prot o) ≡ info_file_page o
+prot_fits prot None = refl
+prot_fits prot (Some info) = refl
+
+some_frame : (a b : Bool) → a || false ≡ true → a || b ≡ true
+some_frame true b h = refl
+some_frame false b h = cc
+
+prot_leaf : (prot : Prot) (o : Option PageInfo) → is_leaf (info_with_prot prot o) ≡ true → is_leaf o ≡ true
+prot_leaf prot None h = h
+prot_leaf prot (Some info) h = some_frame (is_some info.frame) _ h
+
+prot_from : (prot : Prot) (o : Option PageInfo) (n : ℕ) → info_from (info_with_prot prot o) n ≡ info_with_prot prot (info_from o n)
+prot_from prot None n = refl
+prot_from prot (Some info) n = refl
+
+pub change-IsEdit : (rs : List Run) → IsRuns rs → (change : Change) → IsSoundChange change → IsEdit rs (range_of change) (changed_run change)
+change-IsEdit rs ok (Put range meta) h = record {
+  low = h.pages.low;
+  high = h.pages.high;
+  starts = λ r. refl;
+  fits = λ k l a. let f = back_fits meta.back ((get_run rs k).start - range.first) (2 ^ 35) (omega (arith, h.fits)) in omega arith;
+  alone = λ k l a leaf. absurd (clash leaf);
+}
+  where
+    clash : false ≡ true → ⊥
+    clash e = cc
+change-IsEdit rs ok (Clear range) h = record {
+  low = h.low;
+  high = h.high;
+  starts = λ r. refl;
+  fits = λ k l a. omega arith;
+  alone = λ k l a leaf. absurd (clash leaf);
+}
+  where
+    clash : false ≡ true → ⊥
+    clash e = cc
+change-IsEdit rs ok (Protect range prot) h = record {
+  low = h.low;
+  high = h.high;
+  starts = λ r. refl;
+  fits = λ k l a. rw (prot_fits prot (get_run rs k).info) (ok.fits k l);
+  alone = λ k l a leaf. ok.alone k l (prot_leaf prot (get_run rs k).info leaf);
+}
+
+pub slots_of-changed : (rs qs : List Run) (change : Change) → Edited rs qs (range_of change) (changed_run change) → slots_of qs ≡ changed (slots_of rs) change
+slots_of-changed rs qs (Put range meta) e = same_slots _ _
+    (λ p. edited_each _ _ _ _ e (λ r. info_from r.info (p - r.start)) p (Some (unused (advance meta (p - range.first)))) (there p))
+    (λ p. edited_keeps _ _ _ _ e (λ r. r.owner) (λ r. refl) p)
+    (edited_edge _ _ _ _ e)
+  where
+    there : (p : ℕ) → has range p ≡ true → info_from (Some (unused (advance meta ((run_at rs p).start - range.first)))) (p - (run_at rs p).start) ≡ Some (unused (advance meta (p - range.first)))
+    there p a =
+        let s = (has_in range (run_at rs p).start (within_run rs e.ok range e.cut p ∙ a)).0 in
+        let f = run_from rs e.ok p in
+        let n : (run_at rs p).start - range.first + (p - (run_at rs p).start) ≡ p - range.first = omega arith in
+        info_from_twice (Some (unused meta)) ((run_at rs p).start - range.first) (p - (run_at rs p).start) ∙ ap (λ m. Some (unused (advance meta m))) n
+slots_of-changed rs qs (Clear range) e = same_slots _ _
+    (λ p. edited_each _ _ _ _ e (λ r. info_from r.info (p - r.start)) p None (λ _. refl))
+    (λ p. edited_keeps _ _ _ _ e (λ r. r.owner) (λ r. refl) p)
+    (edited_edge _ _ _ _ e)
+slots_of-changed rs qs (Protect range prot) e = same_slots _ _
+    (λ p. edited_each _ _ _ _ e (λ r. info_from r.info (p - r.start)) p (info_with_prot prot ((slots_of rs).info p)) (λ _. prot_from prot (run_at rs p).info (p - (run_at rs p).start)))
+    (λ p. edited_keeps _ _ _ _ e (λ r. r.owner) (λ r. refl) p)
+    (edited_edge _ _ _ _ e)
+
+-- ---- a change run by run
+
+-- the runs of the range up to the one at i are changed
+pub record Changing (rs qs : List Run) (change : Change) (i : ℕ) : Type 0 where
+  pub within : i < length rs
+  pub from : (range_of change).first ≤ (get_run rs i).start
+  pub by_end : (get_run rs i).start ≤ (range_of change).end
+  pub done : Edits rs qs (between (range_of change).first (get_run rs i).start) (changed_run change)
+
+sound_pages : (change : Change) → IsSoundChange change → IsPageRange (range_of change)
+sound_pages (Put range meta) h = h.pages
+sound_pages (Clear range) h = h
+sound_pages (Protect range prot) h = h
+
+pub changing_first : (rs : List Run) → IsRuns rs → (change : Change) → IsSoundChange change → IsCut (slots_of rs) (range_of change) → (i : ℕ) → IsAt rs (range_of change).first i → Changing rs rs change i
+changing_first rs ok change h cut i at =
+    let begins : (get_run rs i).start ≡ (range_of change).first = first_slot rs ok i _ at cut.begins in
+    let pages = sound_pages change h in
+    record {
+      within = at.within;
+      from = omega arith;
+      by_end = omega (arith, pages.some);
+      done = rw begins (no_edits rs (range_of change).first (changed_run change));
+    }
+
+pub changing_next : (rs qs : List Run) → IsRuns rs → (change : Change) → IsSoundChange change → IsCut (slots_of rs) (range_of change) → (i : ℕ) → Changing rs qs change i → (get_run rs i).start < (range_of change).end → Changing rs (set qs i (changed_run change (get_run rs i))) change (i + 1)
+changing_next rs qs ok change h cut i so_far l =
+    let pages = sound_pages change h in
+    let next = before_limit rs ok i so_far.within (omega (arith, pages.high)) in
+    let rise = ok.rising i next in
+    record {
+      within = next;
+      from = omega (arith, so_far.from);
+      by_end = slot_by_edge (slots_of rs) _ _ _ (is_slot rs ok i next) cut.ends l;
+      done = next_edit rs qs ok _ i (changed_run change) next so_far.from so_far.done;
+    }
+
+-- the next run is still as it was
+pub changing_read : (rs qs : List Run) (change : Change) (i : ℕ) → Changing rs qs change i → get_run qs i ≡ get_run rs i
+changing_read rs qs change i so_far = so_far.done.outside i so_far.within (has_above (between (range_of change).first (get_run rs i).start) _ (omega arith))
+
+pub changing_done : (rs qs : List Run) → IsRuns rs → (change : Change) → IsSoundChange change → IsCut (slots_of rs) (range_of change) → (i : ℕ) → Changing rs qs change i → (range_of change).end ≤ (get_run rs i).start → Edited rs qs (range_of change) (changed_run change)
+changing_done rs qs ok change h cut i so_far l =
+    let ends : (get_run rs i).start ≡ (range_of change).end = omega (arith, so_far.by_end) in
+    record { ok = ok; cut = cut; is = change-IsEdit rs ok change h; done = rw ends at so_far.done }

@@ -1,0 +1,199 @@
+-- A run cut in two
+use Rattle.std.proofs.Common.{◌≡◌, ◌≢◌, ℕ, suc, zero, ◌+◌, ◌-◌, ◌^◌, ◌<◌, ◌≤◌, ◌==◌, ◌⊎◌, inl, inr, ⊎_elim, Bool, true, false, List, length, Option, Some, None, is_some, refl, sym, ◌∙◌, ap, arith}
+use Rattle.std.specs.List.{insert}
+use Rattle.std.proofs.lemmas.Bool.{cases_lt}
+use Rattle.std.proofs.lemmas.List.Edits.{length-insert, get_or-insert_below, get_or-insert_at, get_or-insert_above}
+use Rattle.vm_base.specs.declared.info.PageInfo.{PageInfo}
+use Rattle.vm_base.specs.declared.info.Back.{Back}
+use Rattle.vm_base.specs.declared.info.Back.TheVariants.{Anon, Shared, Private}
+use Rattle.vm_base.specs.Info.{advance_back, file_page, info_from, info_file_page, is_leaf}
+use Rattle.slot_lock.specs.declared.run.Run.{Run}
+use Rattle.slot_lock.specs.Runs.{IsRuns, IsAt, IsInside, get_run, run_at, nobody, tail_from}
+use Rattle.slot_lock.specs.Places.{Found, found, run_at_is, starts_rise_to}
+use Rattle.slot_lock.specs.Slots.{Divides}
+use Rattle.slot_lock.specs.RunSlots.{slots_of}
+use Rattle.slot_lock.specs.RunLaws.{info_from_twice, is_leaf-info_from, same_test, other_test, from_test}
+
+abbrev pub cut_runs : List Run → ℕ → ℕ → List Run
+cut_runs rs i at = insert rs (i + 1) (tail_from (get_run rs i) at)
+
+pub below : (rs : List Run) (i at : ℕ) → IsInside rs i at → (k : ℕ) → k ≤ i → get_run (cut_runs rs i at) k ≡ get_run rs k
+below rs i at h k l = get_or-insert_below rs (i + 1) (tail_from (get_run rs i) at) nobody k (omega arith) (omega (arith, h.inner.before_last))
+
+pub here : (rs : List Run) (i at : ℕ) → IsInside rs i at → get_run (cut_runs rs i at) (i + 1) ≡ tail_from (get_run rs i) at
+here rs i at h = get_or-insert_at rs (i + 1) (tail_from (get_run rs i) at) nobody (omega (arith, h.inner.before_last))
+
+pub above : (rs : List Run) (i at : ℕ) → IsInside rs i at → (k : ℕ) → i + 1 ≤ k → get_run (cut_runs rs i at) (k + 1) ≡ get_run rs k
+above rs i at h k l = get_or-insert_above rs (i + 1) (tail_from (get_run rs i) at) nobody k l (omega (arith, h.inner.before_last))
+
+pub longer : (rs : List Run) (i at : ℕ) → IsInside rs i at → length (cut_runs rs i at) ≡ length rs + 1
+longer rs i at h = length-insert rs (i + 1) (tail_from (get_run rs i) at) (omega (arith, h.inner.before_last))
+
+-- a place of the cut list: as before, the new one, or one further
+data At (i k : ℕ) : Type 0 where
+  before : k ≤ i → At i k
+  new : k ≡ i + 1 → At i k
+  after : (j : ℕ) → i + 1 ≤ j → k ≡ j + 1 → At i k
+
+which : (i k : ℕ) → At i k
+which i k = ⊎_elim (λ l. before (omega arith)) (λ l. ⊎_elim (λ m. new (omega arith)) (λ m. after (k - 1) (omega arith) (omega arith)) (cases_lt k (i + 2))) (cases_lt k (i + 1))
+
+along : (P : Run → Type 0) (a b : Run) → a ≡ b → P b → P a
+along P a b e p = rw e p
+
+along_both : (P : Run → Run → Type 0) (a b c d : Run) → a ≡ c → b ≡ d → P c d → P a b
+along_both P a b c d e f p = rw (e, f) p
+
+get_same : (rs : List Run) (j k : ℕ) → j ≡ k → get_run rs j ≡ get_run rs k
+get_same rs j k e = ap (get_run rs) e
+
+-- what holds of each run of the old list and of the new one holds of each of the cut list
+each : (P : Run → Type 0) (rs : List Run) (i at : ℕ) → (h : IsInside rs i at) → ((k : ℕ) → k < length rs → P (get_run rs k)) → P (tail_from (get_run rs i) at) → (k : ℕ) → k < length (cut_runs rs i at) → P (get_run (cut_runs rs i at) k)
+each P rs i at h old one k l = elim (which i k) as (λ _. P (get_run (cut_runs rs i at) k)) [
+  | before b ↦ along P _ _ (below rs i at h k b) (old k (omega (arith, h.inner.before_last)))
+  | new e ↦ along P _ _ (get_same _ _ _ e ∙ here rs i at h) one
+  | after j b e ↦ along P _ _ (get_same _ _ _ e ∙ above rs i at h j b) (let n = longer rs i at h in old j (omega arith))
+]
+
+-- what holds of each run and the next
+each_next : (P : Run → Run → Type 0) (rs : List Run) (i at : ℕ) → (h : IsInside rs i at) → ((k : ℕ) → k + 1 < length rs → P (get_run rs k) (get_run rs (k + 1))) → P (get_run rs i) (tail_from (get_run rs i) at) → P (tail_from (get_run rs i) at) (get_run rs (i + 1)) → (k : ℕ) → k + 1 < length (cut_runs rs i at) → P (get_run (cut_runs rs i at) k) (get_run (cut_runs rs i at) (k + 1))
+each_next P rs i at h old to from k l = elim (which i (k + 1)) as (λ _. P (get_run (cut_runs rs i at) k) (get_run (cut_runs rs i at) (k + 1))) [
+  | before b ↦ along_both P _ _ _ _ (below rs i at h k (omega arith)) (below rs i at h (k + 1) b) (old k (omega (arith, h.inner.before_last)))
+  | new e ↦ let k_is : k ≡ i = omega arith in along_both P _ _ _ _ (get_same _ _ _ k_is ∙ below rs i at h i (omega arith)) (get_same _ _ _ e ∙ here rs i at h) to
+  | after j b e ↦ elim (which i k) as (λ _. P (get_run (cut_runs rs i at) k) (get_run (cut_runs rs i at) (k + 1))) [
+    | before c ↦ absurd (omega arith)
+    | new f ↦
+        let j_is : j ≡ i + 1 = omega arith in
+        along_both P _ _ _ _ (get_same _ _ _ f ∙ here rs i at h) (get_same _ _ _ e ∙ (above rs i at h j b ∙ get_same _ _ _ j_is)) from
+    | after m c f ↦
+        let j_is : j ≡ m + 1 = omega arith in
+        let n = longer rs i at h in
+        along_both P _ _ _ _ (get_same _ _ _ f ∙ above rs i at h m c) (get_same _ _ _ e ∙ (above rs i at h j b ∙ get_same _ _ _ j_is)) (old m (omega arith))
+  ]
+]
+
+back_fits_on : (b : Back) (s n : ℕ) → file_page b ≤ s → file_page (advance_back b n) ≤ s + n
+back_fits_on Anon s n h = omega arith
+back_fits_on (Shared f k) s n h = omega arith
+back_fits_on (Private f k) s n h = omega arith
+
+fits_on : (o : Option PageInfo) (s n : ℕ) → info_file_page o ≤ s → info_file_page (info_from o n) ≤ s + n
+fits_on None s n h = omega arith
+fits_on (Some info) s n h = back_fits_on info.meta.back s n h
+
+not_leaf : (rs : List Run) → IsRuns rs → (i at : ℕ) → IsInside rs i at → is_leaf (get_run rs i).info ≡ true → ⊥
+not_leaf rs ok i at h l = let e = ok.alone i h.inner.before_last l in omega (arith, h.above, h.below)
+
+pub cut_runs-IsRuns : (rs : List Run) → IsRuns rs → (i at : ℕ) → IsInside rs i at → IsRuns (cut_runs rs i at)
+cut_runs-IsRuns rs ok i at h =
+    let n = longer rs i at h in
+    let last : length (cut_runs rs i at) - 1 ≡ length rs - 1 + 1 = omega (arith, ok.some) in
+    let end = get_same (cut_runs rs i at) _ _ last ∙ above rs i at h (length rs - 1) (omega (arith, h.inner.before_last)) in
+    let zero_is = below rs i at h 0 (omega arith) in
+    record {
+      some = omega (arith, ok.some);
+      rising = each_next (λ r s. r.start < s.start) rs i at h ok.rising h.above h.below;
+      zero_first = ap (λ (r : Run). r.start) zero_is ∙ ok.zero_first;
+      one_second = ap (λ (r : Run). r.start) (below rs i at h 1 h.inner.after_first) ∙ ok.one_second;
+      zero_unmapped = ap (λ (r : Run). is_some r.info) zero_is ∙ ok.zero_unmapped;
+      zero_free = ap (λ (r : Run). is_some r.owner) zero_is ∙ ok.zero_free;
+      limit_last = ap (λ (r : Run). r.start) end ∙ ok.limit_last;
+      limit_unmapped = ap (λ (r : Run). is_some r.info) end ∙ ok.limit_unmapped;
+      limit_free = ap (λ (r : Run). is_some r.owner) end ∙ ok.limit_free;
+      fits = each (λ r. info_file_page r.info ≤ r.start + 2 ^ 35) rs i at h ok.fits
+          (let f = fits_on (get_run rs i).info ((get_run rs i).start + 2 ^ 35) (at - (get_run rs i).start) (ok.fits i (omega (arith, h.inner.before_last))) in omega (arith, h.above));
+      alone = each_next (λ r s. is_leaf r.info ≡ true → s.start ≡ r.start + 1) rs i at h ok.alone
+          (λ l. absurd (not_leaf rs ok i at h l))
+          (λ l. absurd (not_leaf rs ok i at h (sym (is_leaf-info_from (get_run rs i).info (at - (get_run rs i).start)) ∙ l)));
+    }
+
+-- where a page is after a cut: in the run that it was in, or in the new one, cut off that run
+data Moved (rs : List Run) (i at p : ℕ) : Type 0 where
+  stays : run_at (cut_runs rs i at) p ≡ run_at rs p → Moved rs i at p
+  moves : at ≤ p → run_at rs p ≡ get_run rs i → run_at (cut_runs rs i at) p ≡ tail_from (get_run rs i) at → Moved rs i at p
+
+moved : (rs : List Run) → IsRuns rs → (i at : ℕ) → IsInside rs i at → (p : ℕ) → Moved rs i at p
+moved rs ok i at h p = go (found rs ok p)
+  where
+    cut_ok : IsRuns (cut_runs rs i at)
+    cut_ok = cut_runs-IsRuns rs ok i at h
+
+    n : length (cut_runs rs i at) ≡ length rs + 1
+    n = longer rs i at h
+
+    lower : (f : Found rs p) → f.at < i → Moved rs i at p
+    lower f l = stays (run_at_is _ cut_ok p f.at (record {
+      within = omega (arith, n, f.is.within);
+      from = rw (below rs i at h f.at (omega arith)) f.is.from;
+      until = λ _. rw (below rs i at h (f.at + 1) (omega arith)) (f.is.until (omega (arith, h.inner.before_last)));
+    }) ∙ (below rs i at h f.at (omega arith) ∙ sym f.run))
+
+    same : (f : Found rs p) → f.at ≡ i → Moved rs i at p
+    same f e = ⊎_elim
+        (λ (l : p < at). stays (run_at_is _ cut_ok p i (record {
+          within = omega (arith, n, h.inner.before_last);
+          from = rw (below rs i at h i (omega arith)) (rw e at f.is.from);
+          until = λ _. rw (here rs i at h) l;
+        }) ∙ (below rs i at h i (omega arith) ∙ (sym (get_same rs _ _ e) ∙ sym f.run))))
+        (λ (l : at ≤ p). moves l (f.run ∙ get_same rs _ _ e) (run_at_is _ cut_ok p (i + 1) (record {
+          within = omega (arith, n, h.inner.before_last);
+          from = rw (here rs i at h) l;
+          until = λ _. rw (above rs i at h (i + 1) (omega arith)) (rw e at (f.is.until (omega (arith, h.inner.before_last))));
+        }) ∙ here rs i at h))
+        (cases_lt p at)
+
+    higher : (f : Found rs p) → i < f.at → Moved rs i at p
+    higher f l = stays (run_at_is _ cut_ok p (f.at + 1) (record {
+      within = omega (arith, n, f.is.within);
+      from = rw (above rs i at h f.at (omega arith)) f.is.from;
+      until = λ m. rw (above rs i at h (f.at + 1) (omega arith)) (f.is.until (omega (arith, n)));
+    }) ∙ (above rs i at h f.at (omega arith) ∙ sym f.run))
+
+    go : Found rs p → Moved rs i at p
+    go f = ⊎_elim (λ (l : f.at < i). lower f l) (λ (l : i ≤ f.at). ⊎_elim (λ (m : i < f.at). higher f m) (λ (m : f.at ≤ i). same f (omega arith)) (cases_lt i f.at)) (cases_lt f.at i)
+
+pub cut_runs-Divides : (rs : List Run) → IsRuns rs → (i at : ℕ) → IsInside rs i at → Divides (slots_of rs) (slots_of (cut_runs rs i at)) (get_run rs i).owner at
+cut_runs-Divides rs ok i at h = record {
+  info = λ j p. same_info p (moved rs ok i at h p) j;
+  owners = λ j p. same_owner p (moved rs ok i at h p) j;
+  kept = λ p e. kept p (moved rs ok i at h p) e;
+  was_inside = rw old_at (other_test _ _ (omega (arith, h.above)));
+  begins = rw new_at (same_test _ _ refl);
+  elsewhere = λ p ne. elsewhere p (moved rs ok i at h p) ne;
+}
+  where
+    old_at : run_at rs at ≡ get_run rs i
+    old_at = run_at_is rs ok at i (record { within = omega (arith, h.inner.before_last); from = omega (arith, h.above); until = λ _. h.below })
+
+    new_at : run_at (cut_runs rs i at) at ≡ tail_from (get_run rs i) at
+    new_at = run_at_is _ (cut_runs-IsRuns rs ok i at h) at (i + 1) (record {
+      within = let n = longer rs i at h in omega (arith, h.inner.before_last);
+      from = rw (here rs i at h) (omega arith);
+      until = λ _. rw (above rs i at h (i + 1) (omega arith)) h.below;
+    }) ∙ here rs i at h
+
+    same_info : (p : ℕ) → Moved rs i at p → (slots_of (cut_runs rs i at)).info p ≡ (slots_of rs).info p
+    same_info p (stays e) = ap (λ (r : Run). info_from r.info (p - r.start)) e
+    same_info p (moves l f e) =
+        let n : at - (get_run rs i).start + (p - at) ≡ p - (get_run rs i).start = omega (arith, h.above) in
+        rw (e, f) (info_from_twice (get_run rs i).info (at - (get_run rs i).start) (p - at) ∙ ap (info_from (get_run rs i).info) n)
+
+    same_owner : (p : ℕ) → Moved rs i at p → (slots_of (cut_runs rs i at)).owner p ≡ (slots_of rs).owner p
+    same_owner p (stays e) = ap (λ (r : Run). r.owner) e
+    same_owner p (moves l f e) = rw (e, f) refl
+
+    kept : (p : ℕ) → Moved rs i at p → (slots_of rs).edge p ≡ true → (slots_of (cut_runs rs i at)).edge p ≡ true
+    kept p (stays e) k = rw e k
+    kept p (moves l f e) k = let s = from_test _ _ (rw f at k) in absurd (omega (arith, h.above))
+
+    elsewhere : (p : ℕ) → Moved rs i at p → (slots_of rs).owner p ≢ (get_run rs i).owner → (slots_of (cut_runs rs i at)).edge p ≡ (slots_of rs).edge p
+    elsewhere p (stays e) ne = rw e refl
+    elsewhere p (moves l f e) ne = absurd (ne (ap (λ (r : Run). r.owner) f))
+
+-- no other slot begins or ceases to begin
+pub cut_edge : (rs : List Run) → IsRuns rs → (i at : ℕ) → IsInside rs i at → (p : ℕ) → p ≢ at → (slots_of (cut_runs rs i at)).edge p ≡ (slots_of rs).edge p
+cut_edge rs ok i at h p ne = go (moved rs ok i at h p)
+  where
+    go : Moved rs i at p → (slots_of (cut_runs rs i at)).edge p ≡ (slots_of rs).edge p
+    go (stays e) = rw e refl
+    go (moves l f e) = rw (e, f) (other_test at p (λ same. ne (sym same)) ∙ sym (other_test (get_run rs i).start p (omega (arith, h.above))))

@@ -1,0 +1,222 @@
+-- Two runs joined
+use Rattle.std.proofs.Common.{◌≡◌, ◌≢◌, ℕ, suc, zero, ◌+◌, ◌-◌, ◌^◌, ◌<◌, ◌≤◌, ◌==◌, ◌⊎◌, inl, inr, ⊎_elim, Bool, true, false, List, length, Option, Some, None, is_some, refl, sym, ◌∙◌, ap, arith}
+use Rattle.std.specs.List.{remove}
+use Rattle.std.proofs.lemmas.Bool.{cases_lt, cases_eq}
+use Rattle.std.proofs.lemmas.List.{ext_get_or}
+use Rattle.std.proofs.lemmas.List.Edits.{length-remove, get_or-remove_below, get_or-remove_above}
+use Rattle.vm_base.specs.declared.info.PageInfo.{PageInfo}
+use Rattle.vm_base.specs.Functions.{put}
+use Rattle.vm_base.specs.Info.{info_from, info_file_page, is_leaf}
+use Rattle.vm_base.proofs.Functions.{put_same, put_other}
+use Rattle.slot_lock.specs.declared.run.Run.{Run}
+use Rattle.slot_lock.specs.Runs.{IsRuns, IsAt, IsInside, IsJoint, AreOne, get_run, run_at, nobody, tail_from}
+use Rattle.slot_lock.specs.Places.{run_at_is, before_last, start_most}
+use Rattle.slot_lock.specs.Slots.{Slots, Divides, Joins, CanJoin, Folds, without_edge}
+use Rattle.slot_lock.specs.RunSlots.{slots_of}
+use Rattle.slot_lock.specs.RunLaws.{info_from_twice, info_from_zero, is_leaf-info_from, edge_at, is_slot}
+use Rattle.slot_lock.proofs.Cuts.{cut_runs, below, here, above, longer, cut_runs-Divides, cut_edge}
+use Rattle.slot_lock.proofs.Edits.{same_slots}
+use Rattle.slot_lock.proofs.Steps.{before_limit, owner_at, slot_by_edge}
+
+-- ---- the list without the second of two runs
+
+-- the run at i, which is not page 0's, is joined with the next
+pub record CanGo (rs : List Run) (i : ℕ) : Type 0 where
+  pub after_first : 1 ≤ i
+  pub joint : IsJoint rs i
+
+abbrev pub joined_runs : List Run → ℕ → List Run
+joined_runs rs i = remove rs (i + 1)
+
+shorter : (rs : List Run) (i : ℕ) → CanGo rs i → length (joined_runs rs i) + 1 ≡ length rs
+shorter rs i h = length-remove rs (i + 1) (omega (arith, h.joint.next))
+
+low : (rs : List Run) (i : ℕ) → CanGo rs i → (k : ℕ) → k ≤ i → get_run (joined_runs rs i) k ≡ get_run rs k
+low rs i h k l = get_or-remove_below rs (i + 1) nobody k (omega arith) (omega (arith, h.joint.next))
+
+high : (rs : List Run) (i : ℕ) → CanGo rs i → (k : ℕ) → i < k → get_run (joined_runs rs i) k ≡ get_run rs (k + 1)
+high rs i h k l = get_or-remove_above rs (i + 1) nobody k (omega arith) (omega (arith, h.joint.next))
+
+pub joined-IsRuns : (rs : List Run) → IsRuns rs → (i : ℕ) → CanGo rs i → IsRuns (joined_runs rs i)
+joined-IsRuns rs ok i h =
+    let n = shorter rs i h in
+    let zero_is = low rs i h 0 (omega arith) in
+    let back : length (joined_runs rs i) - 1 + 1 ≡ length rs - 1 = omega (arith, h.joint.next) in
+    let last_is : get_run (joined_runs rs i) (length (joined_runs rs i) - 1) ≡ get_run rs (length rs - 1) = high rs i h (length (joined_runs rs i) - 1) (omega (arith, h.joint.next)) ∙ ap (get_run rs) back in
+    record {
+      some = omega (arith, h.after_first, h.joint.next);
+      rising = λ k l. rising k (omega arith);
+      zero_first = ap (λ (r : Run). r.start) zero_is ∙ ok.zero_first;
+      one_second = ap (λ (r : Run). r.start) (low rs i h 1 h.after_first) ∙ ok.one_second;
+      zero_unmapped = ap (λ (r : Run). is_some r.info) zero_is ∙ ok.zero_unmapped;
+      zero_free = ap (λ (r : Run). is_some r.owner) zero_is ∙ ok.zero_free;
+      limit_last = ap (λ (r : Run). r.start) last_is ∙ ok.limit_last;
+      limit_unmapped = ap (λ (r : Run). is_some r.info) last_is ∙ ok.limit_unmapped;
+      limit_free = ap (λ (r : Run). is_some r.owner) last_is ∙ ok.limit_free;
+      fits = λ k l. fits k (omega arith);
+      alone = λ k l leaf. alone k (omega arith) leaf;
+    }
+  where
+    rising : (k : ℕ) → k + 2 < length rs → (get_run (joined_runs rs i) k).start < (get_run (joined_runs rs i) (k + 1)).start
+    rising k l =
+        let a = ok.rising k (omega arith) in
+        let b = ok.rising (k + 1) (omega arith) in
+        ⊎_elim
+        (λ (m : k < i). rw (low rs i h k (omega arith), low rs i h (k + 1) (omega arith)) a)
+        (λ (m : i ≤ k). ⊎_elim
+        (λ (e : k ≡ i). rw (low rs i h k (omega arith), high rs i h (k + 1) (omega arith)) (omega arith))
+        (λ (ne : k ≢ i). rw (high rs i h k (omega arith), high rs i h (k + 1) (omega arith)) b)
+        (cases_eq k i))
+        (cases_lt k i)
+
+    fits : (k : ℕ) → k + 1 < length rs → info_file_page (get_run (joined_runs rs i) k).info ≤ (get_run (joined_runs rs i) k).start + 2 ^ 35
+    fits k l = ⊎_elim
+        (λ (m : i < k). rw (high rs i h k m) (ok.fits (k + 1) l))
+        (λ (m : k ≤ i). rw (low rs i h k m) (ok.fits k (omega arith)))
+        (cases_lt i k)
+
+    alone : (k : ℕ) → k + 2 < length rs → is_leaf (get_run (joined_runs rs i) k).info ≡ true → (get_run (joined_runs rs i) (k + 1)).start ≡ (get_run (joined_runs rs i) k).start + 1
+    alone k l leaf = ⊎_elim
+        (λ (m : k < i). rw (low rs i h k (omega arith), low rs i h (k + 1) (omega arith)) (ok.alone k (omega arith) (sym (ap (λ (r : Run). is_leaf r.info) (low rs i h k (omega arith))) ∙ leaf)))
+        (λ (m : i ≤ k). ⊎_elim
+        (λ (e : k ≡ i). absurd (clash (sym (ap (λ (r : Run). is_leaf r.info) (low rs i h k (omega arith) ∙ ap (get_run rs) e)) ∙ leaf)))
+        (λ (ne : k ≢ i). rw (high rs i h k (omega arith), high rs i h (k + 1) (omega arith)) (ok.alone (k + 1) (omega arith) (sym (ap (λ (r : Run). is_leaf r.info) (high rs i h k (omega arith))) ∙ leaf)))
+        (cases_eq k i))
+        (cases_lt k i)
+      where
+        clash : is_leaf (get_run rs i).info ≡ true → ⊥
+        clash e = let f = h.joint.one.no_leaf in cc
+
+joined-IsInside : (rs : List Run) → IsRuns rs → (i : ℕ) → CanGo rs i → IsInside (joined_runs rs i) i (get_run rs (i + 1)).start
+joined-IsInside rs ok i h = record {
+  inner = record { after_first = h.after_first; before_last = let n = shorter rs i h in omega (arith, h.joint.next) };
+  above = rw (low rs i h i (omega arith)) (ok.rising i (omega (arith, h.joint.next)));
+  below = rw (high rs i h (i + 1) (omega arith)) (ok.rising (i + 1) (omega (arith, h.joint.next)));
+}
+
+same_run : (r : Run) (start : ℕ) (owner : Option ℕ) (info : Option PageInfo) → start ≡ r.start → owner ≡ r.owner → info ≡ r.info → record { start = start; owner = owner; info = info } ≡ r
+same_run r start owner info a b c = λ j. record { start = a j; owner = b j; info = c j }
+
+-- a cut where they were joined gives the two runs back
+cut_again : (rs : List Run) → IsRuns rs → (i : ℕ) → CanGo rs i → cut_runs (joined_runs rs i) i (get_run rs (i + 1)).start ≡ rs
+cut_again rs ok i h = ext_get_or nobody _ rs lengths (λ k l. each k)
+  where
+    inside : IsInside (joined_runs rs i) i (get_run rs (i + 1)).start
+    inside = joined-IsInside rs ok i h
+
+    lengths : length (cut_runs (joined_runs rs i) i (get_run rs (i + 1)).start) ≡ length rs
+    lengths = longer _ i _ inside ∙ shorter rs i h
+
+    tail : tail_from (get_run (joined_runs rs i) i) (get_run rs (i + 1)).start ≡ get_run rs (i + 1)
+    tail = ap (λ r. tail_from r (get_run rs (i + 1)).start) (low rs i h i (omega arith))
+        ∙ same_run (get_run rs (i + 1)) _ _ _ refl (h.joint.one.free ∙ sym h.joint.one.next_free) (sym h.joint.one.goes_on)
+
+    each : (k : ℕ) → get_run (cut_runs (joined_runs rs i) i (get_run rs (i + 1)).start) k ≡ get_run rs k
+    each k = ⊎_elim
+        (λ (m : k ≤ i). below _ i _ inside k m ∙ low rs i h k m)
+        (λ (m : i < k). ⊎_elim
+        (λ (e : k ≡ i + 1). ap (get_run (cut_runs (joined_runs rs i) i (get_run rs (i + 1)).start)) e ∙ (here _ i _ inside ∙ (tail ∙ ap (get_run rs) (sym e))))
+        (λ (ne : k ≢ i + 1).
+        let back : k - 1 + 1 ≡ k = omega arith in
+        ap (get_run (cut_runs (joined_runs rs i) i (get_run rs (i + 1)).start)) (sym back) ∙ (above _ i _ inside (k - 1) (omega arith) ∙ (high rs i h (k - 1) (omega arith) ∙ ap (get_run rs) back)))
+        (cases_eq k (i + 1)))
+        (flip (cases_lt i k))
+      where
+        flip : (i < k) ⊎ (k ≤ i) → (k ≤ i) ⊎ (i < k)
+        flip (inl a) = inr a
+        flip (inr a) = inl a
+
+-- one edge fewer
+pub slots_of-joined : (rs : List Run) → IsRuns rs → (i : ℕ) → CanGo rs i → slots_of (joined_runs rs i) ≡ without_edge (slots_of rs) (get_run rs (i + 1)).start
+slots_of-joined rs ok i h = same_slots _ _ (λ p. sym (ap (λ f. f p) divided.info)) (λ p. sym (ap (λ f. f p) divided.owners)) edge
+  where
+    qs_ok : IsRuns (joined_runs rs i)
+    qs_ok = joined-IsRuns rs ok i h
+
+    divided : Divides (slots_of (joined_runs rs i)) (slots_of rs) (get_run (joined_runs rs i) i).owner (get_run rs (i + 1)).start
+    divided = rw (cut_again rs ok i h) at (cut_runs-Divides _ qs_ok i _ (joined-IsInside rs ok i h))
+
+    edge : (p : ℕ) → (slots_of (joined_runs rs i)).edge p ≡ put (slots_of rs).edge (get_run rs (i + 1)).start false p
+    edge p = ⊎_elim
+        (λ (e : p ≡ (get_run rs (i + 1)).start). rw e (divided.was_inside ∙ sym (put_same (slots_of rs).edge (get_run rs (i + 1)).start false)))
+        (λ (ne : p ≢ (get_run rs (i + 1)).start). sym (cut_edge _ qs_ok i _ (joined-IsInside rs ok i h) p ne) ∙ (ap (λ qs. (slots_of qs).edge p) (cut_again rs ok i h) ∙ sym (put_other (slots_of rs).edge (get_run rs (i + 1)).start false p ne)))
+        (cases_eq p (get_run rs (i + 1)).start)
+
+-- ---- which slots can be joined
+
+pub next_info : (rs : List Run) → IsRuns rs → (k : ℕ) → k + 1 < length rs → (slots_of rs).info (get_run rs k).start ≡ (get_run rs k).info
+next_info rs ok k h =
+    let run = run_at_is rs ok (get_run rs k).start k (record { within = omega arith; from = omega arith; until = λ l. ok.rising k l }) in
+    let none : (get_run rs k).start - (get_run rs k).start ≡ 0 = omega arith in
+    ap (λ (r : Run). info_from r.info ((get_run rs k).start - r.start)) run ∙ (ap (info_from (get_run rs k).info) none ∙ info_from_zero (get_run rs k).info)
+
+page_info : (rs : List Run) → IsRuns rs → (page i : ℕ) → IsAt rs page i → (slots_of rs).info page ≡ info_from (get_run rs i).info (page - (get_run rs i).start)
+page_info rs ok page i at = ap (λ (r : Run). info_from r.info (page - r.start)) (run_at_is rs ok page i at)
+
+on_info : (rs : List Run) → IsRuns rs → (page i end : ℕ) → IsAt rs page i → page ≤ end → info_from ((slots_of rs).info page) (end - page) ≡ info_from (get_run rs i).info (end - (get_run rs i).start)
+on_info rs ok page i end at l =
+    let n : page - (get_run rs i).start + (end - page) ≡ end - (get_run rs i).start = omega (arith, at.from) in
+    ap (λ o. info_from o (end - page)) (page_info rs ok page i at) ∙ (info_from_twice (get_run rs i).info (page - (get_run rs i).start) (end - page) ∙ ap (info_from (get_run rs i).info) n)
+
+pub joint-CanJoin : (rs : List Run) → IsRuns rs → (page i : ℕ) → IsAt rs page i → IsJoint rs i → CanJoin (slots_of rs) page (get_run rs (i + 1)).start
+joint-CanJoin rs ok page i at h =
+    let within : i + 1 < length rs = omega (arith, h.next) in
+    let rise = ok.rising (i + 1) (omega (arith, h.next)) in
+    let most = start_most rs ok (i + 1 + 1) (omega (arith, h.next)) in
+    let until = at.until within in
+    let next_at : IsAt rs (get_run rs (i + 1)).start (i + 1) = record { within = within; from = omega arith; until = λ _. rise } in
+    record {
+      above = until;
+      next = λ p a b. (is_slot rs ok i within).inside p (omega (arith, at.from)) b;
+      edge = edge_at rs ok (i + 1) within;
+      below_limit = omega arith;
+      free = owner_at rs ok page i at ∙ h.one.free;
+      next_free = owner_at rs ok _ (i + 1) next_at ∙ h.one.next_free;
+      no_leaf = ap is_leaf (page_info rs ok page i at) ∙ (is_leaf-info_from (get_run rs i).info _ ∙ h.one.no_leaf);
+      next_no_leaf = ap is_leaf (next_info rs ok (i + 1) (omega (arith, h.next))) ∙ h.one.next_no_leaf;
+      goes_on = next_info rs ok (i + 1) (omega (arith, h.next)) ∙ (h.one.goes_on ∙ sym (on_info rs ok page i _ at (omega arith)));
+    }
+
+pub CanJoin-joint : (rs : List Run) → IsRuns rs → (page i end : ℕ) → page < 2 ^ 35 → IsAt rs page i → CanJoin (slots_of rs) page end → IsJoint rs i
+CanJoin-joint rs ok page i end valid at h =
+    let within = before_last rs ok page i at valid in
+    let until = at.until within in
+    let by : (get_run rs (i + 1)).start ≤ end = slot_by_edge (slots_of rs) _ _ end (is_slot rs ok i within) h.edge (omega (arith, at.from, h.above)) in
+    let same : end ≡ (get_run rs (i + 1)).start = ⊎_elim
+    (λ (l : (get_run rs (i + 1)).start < end). absurd (two _ (h.next _ until l) (edge_at rs ok (i + 1) within)))
+    (λ (l : end ≤ (get_run rs (i + 1)).start). omega arith)
+    (cases_lt (get_run rs (i + 1)).start end) in
+    let more = before_limit rs ok (i + 1) within (omega (arith, h.below_limit)) in
+    let rise = ok.rising (i + 1) more in
+    let next_at : IsAt rs (get_run rs (i + 1)).start (i + 1) = record { within = within; from = omega arith; until = λ _. rise } in
+    let info = next_info rs ok (i + 1) more in
+    record {
+      next = omega arith;
+      one = record {
+        free = sym (owner_at rs ok page i at) ∙ h.free;
+        next_free = sym (owner_at rs ok _ (i + 1) next_at) ∙ (ap (slots_of rs).owner (sym same) ∙ h.next_free);
+        no_leaf = sym (is_leaf-info_from (get_run rs i).info _) ∙ (sym (ap is_leaf (page_info rs ok page i at)) ∙ h.no_leaf);
+        next_no_leaf = sym (ap is_leaf info) ∙ (ap (λ p. is_leaf ((slots_of rs).info p)) (sym same) ∙ h.next_no_leaf);
+        goes_on = sym info ∙ (ap (slots_of rs).info (sym same) ∙ (h.goes_on ∙ (on_info rs ok page i end at (omega (arith, h.above)) ∙ ap (λ n. info_from (get_run rs i).info (n - (get_run rs i).start)) same)));
+      };
+    }
+  where
+    two : (b : Bool) → b ≡ false → b ≡ true → ⊥
+    two b e f = cc
+
+-- ---- a fold joins
+
+pub Folds-Joins : (s t : Slots) (page : ℕ) → Folds s t page → Joins s t
+Folds-Joins s t page h = record {
+  info = ap (λ (u : Slots). u.info) h.now;
+  owners = ap (λ (u : Slots). u.owner) h.now;
+  kept = λ p e. ap (λ (u : Slots). u.edge p) h.now ∙ kept p e;
+  elsewhere = λ p ne. ap (λ (u : Slots). u.edge p) h.now ∙ put_other s.edge h.at false p (λ same. ne (ap s.owner same ∙ h.could.next_free));
+  removed = (h.at, h.could.edge, ap (λ (u : Slots). u.edge h.at) h.now ∙ put_same s.edge h.at false);
+}
+  where
+    kept : (p : ℕ) → s.edge p ≡ false → put s.edge h.at false p ≡ false
+    kept p e = ⊎_elim
+        (λ (same : p ≡ h.at). rw same (put_same s.edge h.at false))
+        (λ (ne : p ≢ h.at). put_other s.edge h.at false p ne ∙ e)
+        (cases_eq p h.at)

@@ -1,0 +1,128 @@
+-- What a step of a list of runs does, from what its parts do
+use Rattle.std.proofs.Common.{◌≡◌, ◌≢◌, ℕ, zero, suc, ◌+◌, ◌-◌, ◌^◌, ◌<◌, ◌≤◌, ◌⊎◌, inl, inr, ⊎_elim, true, false, List, [], ◌∷◌, length, get_or, Option, Some, None, refl, sym, ◌∙◌, ap, arith}
+use Rattle.std.specs.Prelude.{Result, Ok, Err, OnErr}
+use Rattle.std.proofs.lemmas.Bool.{cases_lt}
+use Rattle.vm_base.specs.Info.{info_from}
+use Rattle.slot_lock.specs.declared.run.Run.{Run}
+use Rattle.slot_lock.specs.Runs.{IsRuns, IsAt, get_run, run_at, place_of}
+use Rattle.slot_lock.specs.Places.{read_run, run_at_is, run_at_place, before_last, start_most}
+use Rattle.slot_lock.specs.Slots.{Slots, IsNew, IsSlot, Locks, Unlocks, Crosses, with_owner}
+use Rattle.slot_lock.specs.RunSlots.{slots_of}
+use Rattle.slot_lock.specs.RunLaws.{is_slot, from_test, other_test, edge_at}
+
+-- what an index at a page's place reads
+pub read_at : (rs : List Run) → IsRuns rs → (p i : ℕ) (r : Run) → IsAt rs p i → r ≡ get_or rs i r → r ≡ run_at rs p
+read_at rs ok p i r at e = read_run rs i r at.within e ∙ sym (run_at_is rs ok p i at)
+
+-- a slot ends by each edge after its start
+pub slot_by_edge : (s : Slots) (a b e : ℕ) → IsSlot s a b → s.edge e ≡ true → a < e → b ≤ e
+slot_by_edge s a b e slot edge l = ⊎_elim (λ (m : e < b). absurd (two (slot.inside e l m))) (λ (m : b ≤ e). m) (cases_lt e b)
+  where
+    two : s.edge e ≡ false → ⊥
+    two h = cc
+
+-- each page of a run has its owner
+pub owner_in : (rs : List Run) → IsRuns rs → (i p : ℕ) → i < length rs → (get_run rs i).start ≤ p → p < (get_run rs (i + 1)).start → (slots_of rs).owner p ≡ (get_run rs i).owner
+owner_in rs ok i p h a b = ap (λ (r : Run). r.owner) (run_at_is rs ok p i (record { within = h; from = a; until = λ _. b }))
+
+pub slot_from : (rs : List Run) → IsRuns rs → (i cursor : ℕ) → i + 1 < length rs → (get_run rs i).start ≡ cursor → IsSlot (slots_of rs) cursor (get_run rs (i + 1)).start
+slot_from rs ok i cursor h e = rw e at (is_slot rs ok i h)
+
+pub locks : (rs qs : List Run) → IsRuns rs → (i core cursor end : ℕ) → i + 1 < length rs → (get_run rs i).start ≡ cursor → (get_run rs i).owner ≡ None → (get_run rs (i + 1)).start ≤ end → slots_of qs ≡ with_owner (slots_of rs) (get_run rs i).start (get_run rs (i + 1)).start (Some core) → Locks (slots_of rs) (slots_of qs) core cursor end (get_run rs (i + 1)).start
+locks rs qs ok i core cursor end h e free by_end now = record {
+  slot = slot_from rs ok i cursor h e;
+  by_end = by_end;
+  was_free = λ p a b. owner_in rs ok i p (omega arith) (omega arith) b ∙ free;
+  now = now ∙ ap (λ n. with_owner (slots_of rs) n (get_run rs (i + 1)).start (Some core)) e;
+}
+
+pub unlocks : (rs qs : List Run) → IsRuns rs → (i core cursor end : ℕ) → i + 1 < length rs → (get_run rs i).start ≡ cursor → cursor < end → (slots_of rs).edge end ≡ true → (slots_of rs).owner cursor ≡ Some core → slots_of qs ≡ with_owner (slots_of rs) (get_run rs i).start (get_run rs (i + 1)).start None → Unlocks (slots_of rs) (slots_of qs) core cursor end (get_run rs (i + 1)).start
+unlocks rs qs ok i core cursor end h e some ends held now =
+    let slot = slot_from rs ok i cursor h e in
+    let own = owner_in rs ok i cursor (omega arith) (omega arith) (let r = ok.rising i h in omega arith) in
+    record {
+      slot = slot;
+      by_end = slot_by_edge (slots_of rs) cursor (get_run rs (i + 1)).start end slot ends some;
+      was_held = λ p a b. owner_in rs ok i p (omega arith) (omega arith) b ∙ (sym own ∙ held);
+      now = now ∙ ap (λ n. with_owner (slots_of rs) n (get_run rs (i + 1)).start None) e;
+    }
+
+-- the slot of the cursor reaches past the end
+pub crosses_end : (rs : List Run) → IsRuns rs → (i cursor end : ℕ) → i + 1 < length rs → (get_run rs i).start ≡ cursor → end < (get_run rs (i + 1)).start → Crosses (slots_of rs) cursor end
+crosses_end rs ok i cursor end h e l = inr (λ p a b. (slot_from rs ok i cursor h e).inside p a (omega arith))
+
+pub first_slot : (rs : List Run) → IsRuns rs → (i cursor : ℕ) → IsAt rs cursor i → (slots_of rs).edge cursor ≡ true → (get_run rs i).start ≡ cursor
+first_slot rs ok i cursor at edge = sym (ap (λ (r : Run). r.start) (run_at_is rs ok cursor i at)) ∙ from_test _ _ edge
+
+-- the runs of a new list
+abbrev pub new_runs : List Run
+new_runs = record { start = 0; owner = None; info = None } ∷ record { start = 1; owner = None; info = None } ∷ record { start = 2 ^ 35; owner = None; info = None } ∷ []
+
+-- nothing is in any of these runs
+empty_at : (k : ℕ) → ((get_run new_runs k).info ≡ None) × ((get_run new_runs k).owner ≡ None)
+empty_at zero = (refl, refl)
+empty_at (suc zero) = (refl, refl)
+empty_at (suc (suc zero)) = (refl, refl)
+empty_at (suc (suc (suc k))) = (refl, refl)
+
+pub new_runs-IsNew : IsNew (slots_of new_runs)
+new_runs-IsNew = record {
+  unmapped = λ p. ap (λ (r : Run). info_from r.info (p - r.start)) (run_at_place new_runs p) ∙ rw ((empty_at (place_of new_runs p)).0) refl;
+  free = λ p. ap (λ (r : Run). r.owner) (run_at_place new_runs p) ∙ (empty_at (place_of new_runs p)).1;
+}
+
+-- a page inside a run lies below all that is no page
+pub below_limit : (rs : List Run) → IsRuns rs → (j e : ℕ) → IsAt rs e j → (get_run rs j).start < e → e ≤ 2 ^ 35 → e < 2 ^ 35
+below_limit rs ok j e at l m = ⊎_elim
+    (λ (n : j + 1 < length rs). let s = start_most rs ok (j + 1) n in let u = at.until n in omega arith)
+    (λ (n : length rs ≤ j + 1).
+    let same : length rs - 1 ≡ j = omega (arith, at.within) in
+    let limit = rw same at ok.limit_last in
+    absurd (omega arith))
+    (cases_lt (j + 1) (length rs))
+
+pub owner_at : (rs : List Run) → IsRuns rs → (p i : ℕ) → IsAt rs p i → (slots_of rs).owner p ≡ (get_run rs i).owner
+owner_at rs ok p i at = ap (λ (r : Run). r.owner) (run_at_is rs ok p i at)
+
+-- the run of a page that begins no run has the page before it too
+pub owner_before : (rs : List Run) → IsRuns rs → (j e : ℕ) → IsAt rs e j → (get_run rs j).start < e → (slots_of rs).owner (e - 1) ≡ (get_run rs j).owner
+owner_before rs ok j e at l = ap (λ (r : Run). r.owner) (run_at_is rs ok (e - 1) j (record { within = at.within; from = omega arith; until = λ n. let u = at.until n in omega arith }))
+
+pub edge_of : (rs : List Run) → IsRuns rs → (j e : ℕ) → IsAt rs e j → e ≤ (get_run rs j).start → (slots_of rs).edge e ≡ true
+edge_of rs ok j e at l =
+    let same : (get_run rs j).start ≡ e = omega (arith, at.from) in
+    rw same at (edge_at rs ok j at.within)
+
+-- a slot of one page
+pub one_page : (rs : List Run) → IsRuns rs → (j p : ℕ) → IsAt rs p j → IsSlot (slots_of rs) p (p + 1) → p < 2 ^ 35 → ((get_run rs j).start ≡ p) × ((get_run rs (j + 1)).start ≡ p + 1)
+one_page rs ok j p at slot valid =
+    let last = before_last rs ok p j at valid in
+    let first = first_slot rs ok j p at slot.begins in
+    let next = slot_by_edge (slots_of rs) (get_run rs j).start (get_run rs (j + 1)).start (p + 1) (is_slot rs ok j last) slot.ends (omega arith) in
+    let above = at.until last in
+    (first, omega arith)
+
+-- a fact on an error, from the fact
+pub on_err : {T E P : Type 0} (r : Result T E) → P → OnErr r P
+on_err (Ok x) p = tt
+on_err (Err e) p = p
+
+pub on_err_both : {T E P Q : Type 0} (r : Result T E) → P → Q → OnErr r (P × Q)
+on_err_both (Ok x) p q = tt
+on_err_both (Err e) p q = (p, q)
+
+-- a page inside a run begins none
+pub no_edge : (rs : List Run) → IsRuns rs → (i p : ℕ) → IsAt rs p i → (get_run rs i).start < p → (slots_of rs).edge p ≡ false
+no_edge rs ok i p at l = rw (run_at_is rs ok p i at) (other_test (get_run rs i).start p (omega arith))
+
+pub crosses_start : (rs : List Run) → IsRuns rs → (i cursor end : ℕ) → IsAt rs cursor i → (get_run rs i).start < cursor → Crosses (slots_of rs) cursor end
+crosses_start rs ok i cursor end at l = inl (no_edge rs ok i cursor at l)
+
+-- a run that begins below all that is no page is not the last
+pub before_limit : (rs : List Run) → IsRuns rs → (i : ℕ) → i < length rs → (get_run rs i).start < 2 ^ 35 → i + 1 < length rs
+before_limit rs ok i h l = ⊎_elim (λ (n : i + 1 < length rs). n)
+    (λ (n : length rs ≤ i + 1).
+    let same : length rs - 1 ≡ i = omega arith in
+    let limit = rw same at ok.limit_last in
+    absurd (omega arith))
+    (cases_lt (i + 1) (length rs))

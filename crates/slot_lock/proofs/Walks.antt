@@ -1,0 +1,265 @@
+-- What a walk over the runs of a range has seen
+use Rattle.std.proofs.Common.{◌≡◌, ◌≢◌, ℕ, ◌+◌, ◌-◌, ◌^◌, ◌<◌, ◌≤◌, ◌⊎◌, ◌↔◌, ◌||◌, ⊎_elim, inl, inr, Bool, true, false, List, length, get_or, Option, Some, None, is_some, refl, sym, ◌∙◌, ap, max, min, arith}
+use Rattle.std.proofs.lemmas.Bool.{cases_lt}
+use Rattle.std.proofs.lemmas.List.{get_or_default}
+use Rattle.vm_base.specs.declared.info.PageInfo.{PageInfo}
+use Rattle.vm_base.specs.declared.page.PageRange.{PageRange}
+use Rattle.vm_base.specs.Functions.{has}
+use Rattle.vm_base.specs.Cores.{members}
+use Rattle.vm_base.specs.Info.{info_from, frame_of, is_recorded}
+use Rattle.vm_base.proofs.Functions.{has_in, in_has}
+use Rattle.slot_lock.specs.declared.run.Run.{Run}
+use Rattle.slot_lock.specs.Runs.{IsRuns, IsAt, get_run, run_at, nobody}
+use Rattle.slot_lock.specs.Places.{run_at_is}
+use Rattle.slot_lock.specs.Slots.{Slots, IsUser, AllMapped, IsFreeRun, NoFrames}
+use Rattle.slot_lock.specs.RunSlots.{slots_of}
+use Rattle.slot_lock.proofs.Steps.{before_limit}
+
+-- what an index at the walk's place reads
+pub read_info : (rs : List Run) (i : ℕ) (r : Run) (o : Option PageInfo) → i < length rs → (get_or rs i r).info ≡ o → (get_run rs i).info ≡ o
+read_info rs i r o h e = sym (ap (λ (r : Run). r.info) (get_or_default rs i r nobody h)) ∙ e
+
+pub is_some-from : (o : Option PageInfo) (n : ℕ) → is_some (info_from o n) ≡ is_some o
+is_some-from None n = refl
+is_some-from (Some info) n = refl
+
+pub frame_of-from : (o : Option PageInfo) (n : ℕ) → frame_of (info_from o n) ≡ frame_of o
+frame_of-from None n = refl
+frame_of-from (Some info) n = refl
+
+pub is_recorded-from : (o : Option PageInfo) (n core : ℕ) → is_recorded (info_from o n) core ≡ is_recorded o core
+is_recorded-from None n core = refl
+is_recorded-from (Some info) n core = refl
+
+-- ---- where the walk is
+
+-- the walk is at a run that has or follows the first page
+pub record IsWalk (rs : List Run) (first i : ℕ) : Type 0 where
+  pub within : i < length rs
+  pub after : i + 1 < length rs → first < (get_run rs (i + 1)).start
+
+pub walk_first : (rs : List Run) (first i : ℕ) → IsAt rs first i → IsWalk rs first i
+walk_first rs first i at = record { within = at.within; after = at.until }
+
+pub walk_more : (rs : List Run) → IsRuns rs → (first end i : ℕ) → IsWalk rs first i → (get_run rs i).start < end → end ≤ 2 ^ 35 → i + 1 < length rs
+walk_more rs ok first end i w l h = before_limit rs ok i w.within (omega arith)
+
+pub walk_next : (rs : List Run) → IsRuns rs → (first i : ℕ) → IsWalk rs first i → i + 1 < length rs → IsWalk rs first (i + 1)
+walk_next rs ok first i w h = record {
+  within = h;
+  after = λ l. let a = w.after h in let r = ok.rising (i + 1) l in omega arith;
+}
+
+-- what each page of a run has
+pub info_in : (rs : List Run) → IsRuns rs → (i p : ℕ) → i + 1 < length rs → (get_run rs i).start ≤ p → p < (get_run rs (i + 1)).start → (slots_of rs).info p ≡ info_from (get_run rs i).info (p - (get_run rs i).start)
+info_in rs ok i p h a b = ap (λ (r : Run). info_from r.info (p - r.start)) (run_at_is rs ok p i (record { within = omega arith; from = a; until = λ _. b }))
+
+-- a page of the run, from the first page on
+pub record PageIn (rs : List Run) (first i : ℕ) : Type 0 where
+  pub page : ℕ
+  pub low : first ≤ page
+  pub from : (get_run rs i).start ≤ page
+  pub until : page < (get_run rs (i + 1)).start
+  pub least : (page ≡ first) ⊎ (page ≡ (get_run rs i).start)
+
+pub page_in : (rs : List Run) → IsRuns rs → (first i : ℕ) → IsWalk rs first i → i + 1 < length rs → PageIn rs first i
+page_in rs ok first i w h = ⊎_elim
+    (λ (l : first < (get_run rs i).start). record { page = (get_run rs i).start; low = omega arith; from = omega arith; until = ok.rising i h; least = inr refl })
+    (λ (l : (get_run rs i).start ≤ first). record { page = first; low = omega arith; from = l; until = w.after h; least = inl refl })
+    (cases_lt first (get_run rs i).start)
+
+-- ---- all pages have it
+
+-- all pages from the first up to the run at i have it
+pub record Seen (rs : List Run) (Q : Option PageInfo → Type 0) (first i : ℕ) : Type 0 where
+  pub walk : IsWalk rs first i
+  pub seen : (p : ℕ) → first ≤ p → p < (get_run rs i).start → Q ((slots_of rs).info p)
+
+pub seen_first : (rs : List Run) (Q : Option PageInfo → Type 0) (first i : ℕ) → IsAt rs first i → Seen rs Q first i
+seen_first rs Q first i at = record { walk = walk_first rs first i at; seen = λ p a b. absurd (omega (arith, at.from)) }
+
+pub seen_next : (rs : List Run) → IsRuns rs → (Q : Option PageInfo → Type 0) (first i : ℕ) → Seen rs Q first i → i + 1 < length rs → ((n : ℕ) → Q (info_from (get_run rs i).info n)) → Seen rs Q first (i + 1)
+seen_next rs ok Q first i s h q = record {
+  walk = walk_next rs ok first i s.walk h;
+  seen = λ p a b. ⊎_elim
+      (λ (l : p < (get_run rs i).start). s.seen p a l)
+      (λ (l : (get_run rs i).start ≤ p). rw (info_in rs ok i p h l b) (q (p - (get_run rs i).start)))
+      (cases_lt p (get_run rs i).start);
+}
+
+abbrev pub IsMapped : Option PageInfo → Type 0
+IsMapped o = is_some o ≡ true
+
+abbrev pub HasNoFrame : Option PageInfo → Type 0
+HasNoFrame o = frame_of o ≡ None
+
+pub all_seen : (rs : List Run) (range : PageRange) (i : ℕ) → Seen rs IsMapped range.first i → range.end ≤ (get_run rs i).start → AllMapped (slots_of rs) range
+all_seen rs range i s l p h = let b = has_in range p h in s.seen p b.0 (omega (arith, b.1))
+
+pub none_seen : (rs : List Run) (from end i : ℕ) → Seen rs HasNoFrame from i → end ≤ (get_run rs i).start → NoFrames (slots_of rs) from end
+none_seen rs from end i s l = record { none = λ p a b. s.seen p a (omega arith) }
+
+pub some_unmapped : (rs : List Run) → IsRuns rs → (range : PageRange) (i : ℕ) → IsWalk rs range.first i → i + 1 < length rs → range.first < range.end → (get_run rs i).start < range.end → is_some (get_run rs i).info ≡ false → ¬ AllMapped (slots_of rs) range
+some_unmapped rs ok range i w h some l none all = go (page_in rs ok range.first i w h)
+  where
+    two : (b : Bool) → b ≡ false → b ≡ true → ⊥
+    two b e f = cc
+
+    go : PageIn rs range.first i → ⊥
+    go q =
+        let below : q.page < range.end = ⊎_elim (λ (e : q.page ≡ range.first). omega arith) (λ (e : q.page ≡ (get_run rs i).start). omega arith) q.least in
+        two _ (ap is_some (info_in rs ok i q.page h q.from q.until) ∙ (is_some-from (get_run rs i).info _ ∙ none)) (all q.page (in_has range q.page q.low below))
+
+-- ---- the cores of the pages
+
+-- the core is recorded on a page of the range below the bound
+pub record UserBelow (s : Slots) (range : PageRange) (bound core : ℕ) : Type 0 where
+  pub page : ℕ
+  pub here : has range page ≡ true
+  pub below : page < bound
+  pub is : is_recorded (s.info page) core ≡ true
+
+-- the cores are those of the pages of the range up to the run at i
+pub record Users (rs : List Run) (range : PageRange) (cores i : ℕ) : Type 0 where
+  pub walk : IsWalk rs range.first i
+  pub only : (core : ℕ) → members cores core ≡ true → UserBelow (slots_of rs) range (get_run rs i).start core
+  pub all : (core : ℕ) → UserBelow (slots_of rs) range (get_run rs i).start core → members cores core ≡ true
+
+pub users_first : (rs : List Run) (range : PageRange) (i : ℕ) → IsAt rs range.first i → ((core : ℕ) → members 0 core ≡ false) → Users rs range 0 i
+users_first rs range i at none = record {
+  walk = walk_first rs range.first i at;
+  only = λ core h. absurd (two _ (none core) h);
+  all = λ core u. let b = has_in range u.page u.here in absurd (let l = u.below in omega (arith, at.from, b.0));
+}
+  where
+    two : (b : Bool) → b ≡ false → b ≡ true → ⊥
+    two b e f = cc
+
+pub users_next : (rs : List Run) → IsRuns rs → (range : PageRange) (cores more i : ℕ) → range.first < range.end → Users rs range cores i → i + 1 < length rs → (get_run rs i).start < range.end → ((core : ℕ) → members more core ≡ (members cores core || is_recorded (get_run rs i).info core)) → Users rs range more (i + 1)
+users_next rs ok range cores more i some u h l joined = record {
+  walk = walk_next rs ok range.first i u.walk h;
+  only = λ core m. only core (members cores core) refl (sym (joined core) ∙ m);
+  all = λ core m. joined core ∙ all core m;
+}
+  where
+    older : (core : ℕ) → UserBelow (slots_of rs) range (get_run rs i).start core → UserBelow (slots_of rs) range (get_run rs (i + 1)).start core
+    older core v = record { page = v.page; here = v.here; below = (let r = ok.rising i h in let b = v.below in omega arith); is = v.is }
+
+    newer : (core : ℕ) → PageIn rs range.first i → is_recorded (get_run rs i).info core ≡ true → UserBelow (slots_of rs) range (get_run rs (i + 1)).start core
+    newer core q e =
+        let below : q.page < range.end = ⊎_elim (λ (s : q.page ≡ range.first). omega arith) (λ (s : q.page ≡ (get_run rs i).start). omega arith) q.least in
+        record {
+          page = q.page;
+          here = in_has range q.page q.low below;
+          below = q.until;
+          is = ap (λ o. is_recorded o core) (info_in rs ok i q.page h q.from q.until) ∙ (is_recorded-from (get_run rs i).info _ core ∙ e);
+        }
+
+    only : (core : ℕ) (b : Bool) → members cores core ≡ b → members cores core || is_recorded (get_run rs i).info core ≡ true → UserBelow (slots_of rs) range (get_run rs (i + 1)).start core
+    only core true e m = older core (u.only core e)
+    only core false e m = newer core (page_in rs ok range.first i u.walk h) (sym (ap (λ b. b || is_recorded (get_run rs i).info core) e) ∙ m)
+
+    either_left : (a b : Bool) → a ≡ true → a || b ≡ true
+    either_left a b e = rw e refl
+
+    either_right : (a b : Bool) → b ≡ true → a || b ≡ true
+    either_right true b e = refl
+    either_right false b e = e
+
+    all : (core : ℕ) → UserBelow (slots_of rs) range (get_run rs (i + 1)).start core → members cores core || is_recorded (get_run rs i).info core ≡ true
+    all core v = ⊎_elim
+        (λ (below : v.page < (get_run rs i).start). either_left _ _ (u.all core (record { page = v.page; here = v.here; below = below; is = v.is })))
+        (λ (from : (get_run rs i).start ≤ v.page). either_right (members cores core) _ (sym (is_recorded-from (get_run rs i).info (v.page - (get_run rs i).start) core) ∙ (sym (ap (λ o. is_recorded o core) (info_in rs ok i v.page h from v.below)) ∙ v.is)))
+        (cases_lt v.page (get_run rs i).start)
+
+pub users_all : (rs : List Run) (range : PageRange) (cores i : ℕ) → Users rs range cores i → range.end ≤ (get_run rs i).start → (core : ℕ) → (members cores core ≡ true) ↔ IsUser (slots_of rs) range core
+users_all rs range cores i u l core = (to, from)
+  where
+    to : members cores core ≡ true → IsUser (slots_of rs) range core
+    to m = let v = u.only core m in (v.page, v.here, v.is)
+
+    from : IsUser (slots_of rs) range core → members cores core ≡ true
+    from v = let b = has_in range v.0 v.1 in u.all core (record { page = v.0; here = v.1; below = omega (arith, b.1); is = v.2 })
+
+-- ---- free pages
+
+-- the pages from start up to the run at i are free and too few, and no earlier place has enough
+pub record Free (rs : List Run) (range : PageRange) (n start i : ℕ) : Type 0 where
+  pub walk : IsWalk rs range.first i
+  pub low : range.first ≤ start
+  pub by : start ≤ max range.first (get_run rs i).start
+  pub free : (p : ℕ) → start ≤ p → p < (get_run rs i).start → (slots_of rs).info p ≡ None
+  pub short : min (get_run rs i).start range.end < start + n
+  pub least : (r : ℕ) → r < start → ¬ IsFreeRun (slots_of rs) range n r
+
+pub free_first : (rs : List Run) (range : PageRange) (n i : ℕ) → 1 ≤ n → range.first < range.end → IsAt rs range.first i → Free rs range n range.first i
+free_first rs range n i some order at = record {
+  walk = walk_first rs range.first i at;
+  low = omega arith;
+  by = omega arith;
+  free = λ p a b. absurd (omega (arith, at.from));
+  short = omega (arith, at.from);
+  least = λ r l run. omega (arith, run.low);
+}
+
+pub free_mapped : (rs : List Run) → IsRuns rs → (range : PageRange) (n start i : ℕ) → 1 ≤ n → Free rs range n start i → i + 1 < length rs → (get_run rs i).start < range.end → is_some (get_run rs i).info ≡ true → Free rs range n (get_run rs (i + 1)).start (i + 1)
+free_mapped rs ok range n start i some f h l mapped = record {
+  walk = walk_next rs ok range.first i f.walk h;
+  low = let a = f.walk.after h in omega arith;
+  by = omega arith;
+  free = λ p a b. absurd (omega arith);
+  short = omega arith;
+  least = λ r m run. ⊎_elim (λ (early : r < start). f.least r early run) (λ (late : start ≤ r). clash r late m run) (cases_lt r start);
+}
+  where
+    none_some : (o : Option PageInfo) → is_some o ≡ true → o ≡ None → ⊥
+    none_some o e g = cc
+
+    taken : (p : ℕ) → (get_run rs i).start ≤ p → p < (get_run rs (i + 1)).start → (slots_of rs).info p ≡ None → ⊥
+    taken p a b e = none_some _ (ap is_some (info_in rs ok i p h a b) ∙ (is_some-from (get_run rs i).info _ ∙ mapped)) e
+
+    clash : (r : ℕ) → start ≤ r → r < (get_run rs (i + 1)).start → IsFreeRun (slots_of rs) range n r → ⊥
+    clash r late m run = ⊎_elim
+        (λ (a : r < (get_run rs i).start). taken (get_run rs i).start (omega arith) (ok.rising i h) (run.free (get_run rs i).start (omega arith) (omega (arith, f.short))))
+        (λ (a : (get_run rs i).start ≤ r). taken r a m (run.free r (omega arith) (omega arith)))
+        (cases_lt r (get_run rs i).start)
+
+unmapped_in : (rs : List Run) → IsRuns rs → (i p : ℕ) → i + 1 < length rs → (get_run rs i).start ≤ p → p < (get_run rs (i + 1)).start → is_some (get_run rs i).info ≡ false → (slots_of rs).info p ≡ None
+unmapped_in rs ok i p h a b e = info_in rs ok i p h a b ∙ none_from (get_run rs i).info (p - (get_run rs i).start) e
+  where
+    none_from : (o : Option PageInfo) (m : ℕ) → is_some o ≡ false → info_from o m ≡ None
+    none_from None m e = refl
+    none_from (Some info) m e = cc
+
+free_on : (rs : List Run) → IsRuns rs → (range : PageRange) (n start i : ℕ) → Free rs range n start i → i + 1 < length rs → is_some (get_run rs i).info ≡ false → (p : ℕ) → start ≤ p → p < (get_run rs (i + 1)).start → (slots_of rs).info p ≡ None
+free_on rs ok range n start i f h e p a b = ⊎_elim
+    (λ (l : p < (get_run rs i).start). f.free p a l)
+    (λ (l : (get_run rs i).start ≤ p). unmapped_in rs ok i p h l b e)
+    (cases_lt p (get_run rs i).start)
+
+pub free_next : (rs : List Run) → IsRuns rs → (range : PageRange) (n start i : ℕ) → Free rs range n start i → i + 1 < length rs → is_some (get_run rs i).info ≡ false → min (get_run rs (i + 1)).start range.end - start < n → Free rs range n start (i + 1)
+free_next rs ok range n start i f h e few = record {
+  walk = walk_next rs ok range.first i f.walk h;
+  low = f.low;
+  by = let r = ok.rising i h in omega (arith, f.by);
+  free = free_on rs ok range n start i f h e;
+  short = omega arith;
+  least = f.least;
+}
+
+pub free_found : (rs : List Run) → IsRuns rs → (range : PageRange) (n start i : ℕ) → 1 ≤ n → Free rs range n start i → i + 1 < length rs → is_some (get_run rs i).info ≡ false → n ≤ min (get_run rs (i + 1)).start range.end - start → IsFreeRun (slots_of rs) range n start
+free_found rs ok range n start i some f h e enough = record {
+  low = f.low;
+  high = omega arith;
+  free = λ p a b. free_on rs ok range n start i f h e p a (omega arith);
+}
+
+pub free_none : (rs : List Run) (range : PageRange) (n start i : ℕ) → Free rs range n start i → range.end ≤ (get_run rs i).start → (r : ℕ) → ¬ IsFreeRun (slots_of rs) range n r
+free_none rs range n start i f l r run = ⊎_elim
+    (λ (a : r < start). f.least r a run)
+    (λ (a : start ≤ r). omega (arith, f.short, run.high))
+    (cases_lt r start)
+
+-- the start is in reach
+pub start_by : (rs : List Run) → IsRuns rs → (range : PageRange) (n start i : ℕ) → range.first < range.end → Free rs range n start i → i + 1 < length rs → (get_run rs i).start < range.end → start ≤ min (get_run rs (i + 1)).start range.end
+start_by rs ok range n start i order f h l = let a = f.walk.after h in let r = ok.rising i h in omega (arith, f.by)

@@ -1,0 +1,39 @@
+use Rattle.std.proofs.Common.{◌≡◌, ◌+◌, ◌-◌, ◌<◌, ◌≤◌, ◌∙◌, true, false, is_some, min, length, ap, sym, arith}
+use Rattle.slot_lock.specs.declared.run.Run.{Run}
+use Rattle.slot_lock.specs.Runs.{get_run, nobody}
+use Rattle.std.proofs.lemmas.List.{get_or_default}
+use Rattle.slot_lock.proofs.Walks.{Free, walk_more, free_mapped, free_next, free_found, free_none, start_by}
+use Rattle.slot_lock.proofs.walk.first_free_run.Goals.{then-is_some, else-is_some+else-n-min}
+use Rattle.slot_lock.proofs.walk.first_free_run.Goals as goal
+
+pub returns-then-n-min-clause-found : goal.returns-then-n-min-clause-found
+returns-then-n-min-clause-found c =
+    let f = c.runs.invariant in
+    let here = get_or_default c.args.runs.now c.runs.i c.index-runs-i.result nobody f.walk.within in
+    let below : (get_run c.args.runs.now c.runs.i).start < c.args.range.end = rw here at c.runs-test.true in
+    let more = walk_more _ c.requires.runs _ _ _ f.walk below c.requires.range.high in
+    let next = get_or_default c.args.runs.now (c.runs.i + 1) c.index-runs-i-in-runs.result nobody more in
+    let here_too = get_or_default c.args.runs.now c.runs.i c.index-runs-i-in-runs-2.result nobody f.walk.within in
+    let none : is_some (get_run c.args.runs.now c.runs.i).info ≡ false = rw here_too at (sym (c.if-is_some.ensures {u = tt})) in
+    let enough : c.args.n ≤ min (get_run c.args.runs.now (c.runs.i + 1)).start c.args.range.end - c.runs.start = rw (c.min.ensures, next) at c.if-n-min.true in
+    free_found _ c.requires.runs c.args.range _ _ _ c.requires.some f more none enough
+
+pub runs-preserved : goal.runs-preserved
+runs-preserved c =
+    let f = c.runs.invariant in
+    let here = get_or_default c.args.runs.now c.runs.i c.index-runs-i.result nobody f.walk.within in
+    let below : (get_run c.args.runs.now c.runs.i).start < c.args.range.end = rw here at c.runs-test.true in
+    let more = walk_more _ c.requires.runs _ _ _ f.walk below c.requires.range.high in
+    let next = get_or_default c.args.runs.now (c.runs.i + 1) c.index-runs-i-in-runs.result nobody more in
+    let here_too = get_or_default c.args.runs.now c.runs.i c.index-runs-i-in-runs-2.result nobody f.walk.within in
+    elim c.if-is_some.branch as (λ _. Free c.args.runs.now c.args.range c.args.n c.if-is_some.start (c.runs.i + 1)) [
+      | then-is_some w ↦ rw (w.start-is, next) (free_mapped _ c.requires.runs c.args.range _ _ _ c.requires.some f more below (rw here_too at (sym (w.if-is_some.ensures {u = tt}))))
+      | else-is_some+else-n-min w ↦
+          let few : min (get_run c.args.runs.now (c.runs.i + 1)).start c.args.range.end - c.runs.start < c.args.n = rw (w.min.ensures, next) at w.if-n-min.false in
+          rw w.start-is (free_next _ c.requires.runs c.args.range _ _ _ f more (rw here_too at (sym (w.if-is_some.ensures {u = tt}))) few)
+    ]
+
+pub returns-clause-none : goal.returns-clause-none
+returns-clause-none c =
+    let here = get_or_default c.args.runs.now c.runs.i c.index-runs-i.result nobody c.runs.invariant.walk.within in
+    free_none _ c.args.range _ _ _ c.runs.invariant (rw here at c.runs-test.false)

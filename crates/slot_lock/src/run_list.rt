@@ -1,0 +1,177 @@
+//! The first slot map: a list of runs.
+ghost use Rattle.std.specs.Prelude.{◌≡◌, ◌≢◌, ℕ, ◌+◌, ◌-◌, ◌^◌, ◌<◌, ◌≤◌, IfOk, OnErr, Option, Some, Bool, length};
+ghost use Rattle.slot_lock.specs.Runs.{IsRuns};
+
+use crate::plan::Change;
+use crate::run::{self, Run};
+use crate::slot_map::{Fit, Got, SlotMap, SlotRead};
+use crate::walk;
+use std::alloc::Allocator;
+use vm_base::info::info_from;
+use vm_base::{CoreId, CoreSet, Meta, NoMemory, PageInfo, PageRange, Prot};
+
+/// A map of slots as the list of them, in order.
+#[derive(Drop)]
+pub struct RunList<A: Allocator> {
+    runs: Vec<Run, A>,
+    ghost ok: { IsRuns runs.items },
+}
+
+impl<A: Allocator> RunList<A> {
+    ghost use Rattle.slot_lock.specs.Slots.{IsNew};
+
+    /// All valid pages unmapped and unheld, in one slot.
+    pub fn new(alloc: A) -> Result<RunList<A>, NoMemory>
+        ensures { IfOk result (λ map. IsNew (⟦<RunList<A> as SlotRead>⟧.slots map)) }
+    {
+        let mut runs = Vec::with_capacity(alloc, 3)?;
+        runs.push(Run {
+            start: 0,
+            owner: None,
+            info: None,
+        })?;
+        runs.push(Run {
+            start: 1,
+            owner: None,
+            info: None,
+        })?;
+        runs.push(Run {
+            start: 0x8_0000_0000,
+            owner: None,
+            info: None,
+        })?;
+        Ok(RunList { runs })
+    }
+}
+
+impl<A: Allocator> SlotRead for RunList<A> {
+    ghost use Rattle.slot_lock.specs.RunSlots.{slots_of};
+    ghost use Rattle.vm_base.specs.Pages.{IsPage};
+
+    ghost slots = { λ m. slots_of m.runs.items };
+
+    ghost reads = { λ _ p. IsPage p };
+
+    fn page(&self, page: u64) -> Option<PageInfo> {
+        let run = self.runs[run::place(&self.runs, page)];
+        info_from(run.info, page - run.start)
+    }
+
+    fn slot(&self, page: u64) -> PageRange {
+        let i = run::place(&self.runs, page);
+        PageRange {
+            first: self.runs[i].start,
+            end: self.runs[i + 1].start,
+        }
+    }
+
+    fn first_free_run(&self, range: PageRange, n: u64) -> Option<u64> {
+        walk::first_free_run(&self.runs, range, n)
+    }
+
+    fn recorded(&self, range: PageRange) -> CoreSet {
+        walk::recorded(&self.runs, range)
+    }
+
+    fn all_mapped(&self, range: PageRange) -> bool {
+        walk::all_mapped(&self.runs, range)
+    }
+}
+
+impl<A: Allocator> SlotMap for RunList<A> {
+    ghost use Rattle.std.specs.Prelude.{◌≡◌, ℕ, IsTrue};
+    ghost use Rattle.vm_base.specs.Pages.{IsPage};
+    ghost use Rattle.slot_lock.specs.RunLaws.{slots_of-is_slot_map};
+    ghost use Rattle.slot_lock.specs.Slots.{CanJoin, Folds, Joins};
+
+    ghost is_slot_map = { λ m. slots_of-is_slot_map m.runs.items m.ok };
+
+    ghost reads_all = { λ _ _ h. h };
+
+    fn owner(&self, page: u64) -> Option<CoreId> {
+        self.runs[run::place(&self.runs, page)].owner
+    }
+
+    fn lock_next(&mut self, core: CoreId, cursor: u64, end: u64) -> Result<Got, NoMemory> {
+        let i = run::place(&self.runs, cursor);
+        let slot = self.runs[i];
+        let slot_end = self.runs[i + 1].start;
+        if let Some(owner) = slot.owner {
+            return Ok(Got::Held(owner));
+        }
+        if slot.start < cursor {
+            run::cut(&mut self.runs, i, cursor)?;
+            return Ok(Got::Split);
+        }
+        if end < slot_end {
+            run::cut(&mut self.runs, i, end)?;
+            return Ok(Got::Split);
+        }
+        run::set_owner(&mut self.runs, i, Some(core));
+        Ok(Got::Locked(slot_end))
+    }
+
+    fn cut_next(&mut self, core: CoreId, range: PageRange) -> Result<Fit, NoMemory> {
+        let i = run::place(&self.runs, range.first);
+        if self.runs[i].start < range.first {
+            run::cut(&mut self.runs, i, range.first)?;
+            return Ok(Fit::Cut);
+        }
+        let j = run::place(&self.runs, range.end);
+        if self.runs[j].start < range.end {
+            run::cut(&mut self.runs, j, range.end)?;
+            return Ok(Fit::Cut);
+        }
+        Ok(Fit::Fits)
+    }
+
+    fn unlock_next(&mut self, core: CoreId, cursor: u64, end: u64) -> u64 {
+        let i = run::place(&self.runs, cursor);
+        let slot_end = self.runs[i + 1].start;
+        run::set_owner(&mut self.runs, i, None);
+        slot_end
+    }
+
+    fn set_range(&mut self, core: CoreId, range: PageRange, meta: Meta) {
+        run::change(&mut self.runs, Change::Put { range, meta });
+    }
+
+    fn clear_range(&mut self, core: CoreId, range: PageRange) {
+        run::change(&mut self.runs, Change::Clear { range });
+    }
+
+    fn protect_range(&mut self, core: CoreId, range: PageRange, prot: Prot) {
+        run::change(&mut self.runs, Change::Protect { range, prot });
+    }
+
+    fn take_frame(&mut self, core: CoreId, from: u64, end: u64) -> Option<(u64, u32)> {
+        let Some(first) = walk::first_frame(&self.runs, from, end) else {
+            return None;
+        };
+        let page = self.runs[first.place].start;
+        let info = PageInfo {
+            frame: None,
+            ..first.info
+        };
+        run::set_info(&mut self.runs, first.place, info);
+        Some((page, first.frame))
+    }
+
+    fn set_leaf(&mut self, core: CoreId, page: u64, info: PageInfo) {
+        let i = run::place(&self.runs, page);
+        run::set_info(&mut self.runs, i, info);
+    }
+
+    /// Joins the page's slot with the next one to its right, where nobody holds them, they have no frame and no recorded
+    /// core, and the second's pages go on from the first's. Answers whether it did. Page 0 and what lies above all valid
+    /// pages stay slots of their own.
+    fn fold(&mut self, page: u64) -> bool
+        requires { IsPage page }
+        ensures joined { IsTrue result → Joins (⟦<RunList<A> as SlotRead>⟧.slots self.old) (⟦<RunList<A> as SlotRead>⟧.slots self.new) }
+        ensures same { ¬ IsTrue result → ⟦<RunList<A> as SlotRead>⟧.slots self.new ≡ ⟦<RunList<A> as SlotRead>⟧.slots self.old }
+        ensures exact { IsTrue result → Folds (⟦<RunList<A> as SlotRead>⟧.slots self.old) (⟦<RunList<A> as SlotRead>⟧.slots self.new) page }
+        ensures only { ¬ IsTrue result → (at : ℕ) → ¬ CanJoin (⟦<RunList<A> as SlotRead>⟧.slots self.old) page at }
+    {
+        run::fold(&mut self.runs, page)
+    }
+}

@@ -1,0 +1,108 @@
+//! Walks over the runs of a range, from left to right.
+ghost use Rattle.std.specs.Prelude.{◌≡◌, ℕ, ◌+◌, ◌^◌, ◌<◌, ◌≤◌, ◌↔◌, IfSome, IfNone, IsTrue, true};
+ghost use Rattle.vm_base.specs.Cores.{members};
+ghost use Rattle.vm_base.specs.Info.{is_recorded};
+ghost use Rattle.vm_base.specs.Pages.{IsPageRange};
+ghost use Rattle.slot_lock.specs.Runs.{IsRuns};
+ghost use Rattle.slot_lock.specs.Slots.{IsFreeRun, IsUser, AllMapped, NoFrames};
+ghost use Rattle.slot_lock.specs.RunSlots.{slots_of};
+ghost use Rattle.slot_lock.specs.Walks.{IsFirstFrame};
+
+use crate::run::{Run, place};
+use vm_base::{CoreSet, PageInfo, PageRange};
+
+/// The place of a run of one page with a frame, and what it has.
+#[derive(Clone, Copy, Debug)]
+pub struct Framed {
+    pub place: usize,
+    pub info: PageInfo,
+    pub frame: u32,
+}
+
+/// The least start of `n` unmapped pages in the range, if there is one.
+pub fn first_free_run(runs: &[Run], range: PageRange, n: u64) -> Option<u64>
+    requires some { 1 ≤ n }
+    requires runs { IsRuns runs.now }
+    requires range { IsPageRange range }
+    ensures found { IfSome result (IsFreeRun (slots_of runs.now) range n) }
+    ensures least { IfSome result (λ s. (r : ℕ) → r < s → ¬ IsFreeRun (slots_of runs.now) range n r) }
+    ensures none { IfNone result ((r : ℕ) → ¬ IsFreeRun (slots_of runs.now) range n r) }
+{
+    let mut i = place(runs, range.first);
+    // the pages from here up to the run at i are unmapped, and too few
+    let mut start = range.first;
+    'runs: while runs[i].start < range.end {
+        let next = runs[i + 1].start;
+        if runs[i].info.is_some() {
+            start = next;
+        } else if n <= next.min(range.end) - start {
+            return Some(start);
+        }
+        i += 1;
+    }
+    None
+}
+
+// The cores that are recorded on a page.
+fn cores_of(info: Option<PageInfo>) -> CoreSet
+    ensures { members result ≡ is_recorded info }
+{
+    match info {
+        None => CoreSet::empty(),
+        Some(info) => info.cores,
+    }
+}
+
+/// The cores that are recorded on some page of the range.
+pub fn recorded(runs: &[Run], range: PageRange) -> CoreSet
+    requires runs { IsRuns runs.now }
+    requires range { IsPageRange range }
+    ensures { (core : ℕ) → (members result core ≡ true) ↔ IsUser (slots_of runs.now) range core }
+{
+    let mut i = place(runs, range.first);
+    let mut cores = CoreSet::empty();
+    'runs: while runs[i].start < range.end {
+        cores = cores.union(cores_of(runs[i].info));
+        i += 1;
+    }
+    cores
+}
+
+/// Tells whether all pages of the range are mapped.
+pub fn all_mapped(runs: &[Run], range: PageRange) -> bool
+    requires runs { IsRuns runs.now }
+    requires range { IsPageRange range }
+    ensures { IsTrue result ↔ AllMapped (slots_of runs.now) range }
+{
+    let mut i = place(runs, range.first);
+    'runs: while runs[i].start < range.end {
+        if runs[i].info.is_none() {
+            return false;
+        }
+        i += 1;
+    }
+    true
+}
+
+/// The first run with a frame that begins from a page up to another.
+pub fn first_frame(runs: &[Run], from: u64, end: u64) -> Option<Framed>
+    requires runs { IsRuns runs.now }
+    requires end { end ≤ 2 ^ 35 }
+    ensures some { IfSome result (IsFirstFrame runs.now from end) }
+    ensures none { IfNone result (NoFrames (slots_of runs.now) from end) }
+{
+    let mut i = place(runs, from);
+    'runs: while runs[i].start < end {
+        if let Some(info) = runs[i].info {
+            if let Some(frame) = info.frame {
+                return Some(Framed {
+                    place: i,
+                    info,
+                    frame,
+                });
+            }
+        }
+        i += 1;
+    }
+    None
+}
