@@ -1,12 +1,12 @@
 -- Frames as parts of one list of bytes
-use Rattle.std.proofs.Common.{◌≡◌, ◌≢◌, ℕ, ◌+◌, ◌*◌, ◌-◌, ◌<◌, ◌≤◌, Bool, true, false, cond, nat_lt, ◌⊎◌, inl, inr, List, length, get_or, set, replicate, take, drop, ◌++◌, arith, refl, sym, ◌∙◌, ap}
+use Rattle.std.proofs.Common.{◌≡◌, ◌≢◌, ℕ, ◌+◌, ◌*◌, ◌<◌, ◌≤◌, cond, ◌⊎◌, inl, inr, List, length, get_or, set, take, drop, ◌++◌, arith, refl, sym, ◌∙◌, ap}
 use Rattle.std.proofs.Math.Path.{fun_ext}
 use Rattle.std.proofs.Math.Seq.{take-append_seam}
-use Rattle.std.proofs.lemmas.Bool.{cases_lt, cases_eq, lt-ltb, le-ltb}
+use Rattle.std.proofs.lemmas.Bool.{cases_lt, lt-ltb, le-ltb}
 use Rattle.std.proofs.lemmas.List.{get_or_past, get_or-set_same, get_or-set_other}
 use Rattle.vm_base.specs.Functions.{put}
 use Rattle.vm_base.specs.Plain.{Bytes, zeros}
-use Rattle.vm_base.proofs.Functions.{put_all, put_same, put_other}
+use Rattle.vm_base.proofs.Functions.{put_all, put_other}
 use Rattle.frames.specs.Pages.{bytes_in}
 
 pub byte-inside : (flat : List ℕ) (f i : ℕ) → i < 4096 → bytes_in flat f i ≡ get_or flat (f * 4096 + i) 0

@@ -1,4 +1,4 @@
-use Rattle.std.proofs.Common.{◌≡◌, ◌≤◌, ◌+◌, ◌*◌, length, arith, rules, sym, ◌∙◌}
+use Rattle.std.proofs.Common.{◌≡◌, ◌≤◌, ◌+◌, ◌*◌, length, rules, sym, ◌∙◌}
 use Rattle.std.proofs.lemmas.List.{get_or_read_under, get_or_past}
 use Rattle.frames.proofs.PageLists.{byte-inside}
 use Rattle.frames.proofs.page_bytes.byte.Goals as goal

@@ -1,4 +1,4 @@
-use Rattle.std.proofs.Common.{◌≡◌, ℕ, ◌+◌, ◌*◌, ◌<◌, ◌≤◌, length, get_or, arith, rules}
+use Rattle.std.proofs.Common.{◌≡◌, ◌+◌, ◌*◌, ◌≤◌, length, arith, rules}
 use Rattle.std.specs.Prelude.{IsOk}
 use Rattle.frames.proofs.PageLists.{same-reads, grown-reads}
 use Rattle.frames.proofs.page_bytes.reach.Goals as goal

@@ -1,4 +1,4 @@
-use Rattle.std.proofs.Common.{◌≡◌, ℕ, get_or, ap, ◌∙◌, refl, []}
+use Rattle.std.proofs.Common.{get_or, ap, ◌∙◌, refl}
 use Rattle.frames.proofs.PageLists.{zero-frames}
 use Rattle.frames.proofs.frames.Frames.new.Goals as goal
 
