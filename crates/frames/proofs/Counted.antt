@@ -1,9 +1,9 @@
 -- What a set of numbers with a summary keeps
-use Rattle.std.proofs.Common.{◌≡◌, ◌≢◌, ℕ, ◌+◌, ◌-◌, ◌*◌, ◌/◌, ◌<◌, ◌≤◌, Bool, true, false, cond, nat_lt, ◌⊎◌, inl, inr, List, length, get_or, arith, refl, sym, ◌∙◌, ap, subst}
+use Rattle.std.proofs.Common.{◌≡◌, ◌≢◌, ℕ, ◌+◌, ◌-◌, ◌*◌, ◌/◌, ◌<◌, ◌≤◌, Bool, true, false, nat_lt, List, length, get_or, arith, refl, sym, ◌∙◌, ap}
 use Rattle.std.proofs.Math.Path.{fun_ext}
 use Rattle.std.proofs.lemmas.Bool.{true≢false, lt-ltb, ltb-false}
 use Rattle.vm_base.specs.Functions.{put}
-use Rattle.vm_base.proofs.Functions.{put_all, put_same, put_other}
+use Rattle.vm_base.proofs.Functions.{put_all, put_same}
 use Rattle.frames.specs.Bits.{bit_in, count_below}
 use Rattle.frames.specs.Parts.{IsCounted, IsSummed}
 use Rattle.frames.proofs.BitSets.{bit_in-some, bit_in-none, bit_in-empty}

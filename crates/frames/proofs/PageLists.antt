@@ -1,12 +1,12 @@
 -- Frames as parts of one list of bytes
-use Rattle.std.proofs.Common.{◌≡◌, ◌≢◌, ℕ, ◌+◌, ◌*◌, ◌-◌, ◌<◌, ◌≤◌, Bool, true, false, cond, nat_lt, ◌⊎◌, inl, inr, List, length, get_or, set, replicate, take, drop, ◌++◌, arith, refl, sym, ◌∙◌, ap}
+use Rattle.std.proofs.Common.{◌≡◌, ◌≢◌, ℕ, ◌+◌, ◌*◌, ◌<◌, ◌≤◌, cond, ◌⊎◌, inl, inr, List, length, get_or, set, take, drop, ◌++◌, arith, refl, sym, ◌∙◌, ap}
 use Rattle.std.proofs.Math.Path.{fun_ext}
 use Rattle.std.proofs.Math.Seq.{take-append_seam}
-use Rattle.std.proofs.lemmas.Bool.{cases_lt, cases_eq, lt-ltb, le-ltb}
-use Rattle.std.proofs.lemmas.List.{get_or-set_same, get_or-set_other}
+use Rattle.std.proofs.lemmas.Bool.{cases_lt, lt-ltb, le-ltb}
+use Rattle.std.proofs.lemmas.List.{get_or_past, get_or-set_same, get_or-set_other}
 use Rattle.vm_base.specs.Functions.{put}
 use Rattle.vm_base.specs.Plain.{Bytes, zeros}
-use Rattle.vm_base.proofs.Functions.{put_all, put_same, put_other}
+use Rattle.vm_base.proofs.Functions.{put_all, put_other}
 use Rattle.frames.specs.Pages.{bytes_in}
 
 pub byte-inside : (flat : List ℕ) (f i : ℕ) → i < 4096 → bytes_in flat f i ≡ get_or flat (f * 4096 + i) 0
@@ -54,3 +54,16 @@ zero-frames flat none = fun_ext (λ f. frame-same flat f zeros (λ i lt. none (f
 -- what a slice of a whole Vec leaves in the Vec
 pub whole-vec : (new old : List ℕ) (n : ℕ) → length new ≡ n → take n (new ++ drop (length new) old) ≡ new
 whole-vec new old n e = ap (λ m. take m (new ++ drop (length new) old)) (sym e) ∙ take-append_seam new (drop (length new) old)
+
+-- two lists that read alike
+pub same-reads : (flat flat' : List ℕ) → ((k : ℕ) → get_or flat' k 0 ≡ get_or flat k 0) → bytes_in flat' ≡ bytes_in flat
+same-reads flat flat' same = fun_ext (λ f. frame-same flat' f (bytes_in flat f) (λ i lt. same (f * 4096 + i) ∙ sym (byte-inside flat f i lt)) (λ i le. byte-past flat f i le))
+
+-- a list with more zeros reads alike
+pub grown-reads : (flat flat' : List ℕ) (n : ℕ) → length flat ≤ n → length flat' ≡ n → ((k : ℕ) (d : ℕ) → k < n → k < length flat → get_or flat' k d ≡ get_or flat k d) → ((k : ℕ) (d : ℕ) → length flat ≤ k → k < n → get_or flat' k d ≡ 0) → (k : ℕ) → get_or flat' k 0 ≡ get_or flat k 0
+grown-reads flat flat' n more len before after k = by (cases_lt k (length flat)) (cases_lt k n)
+  where
+    by : (k < length flat) ⊎ (length flat ≤ k) → (k < n) ⊎ (n ≤ k) → get_or flat' k 0 ≡ get_or flat k 0
+    by (inl lt) q = before k 0 (omega (arith, lt, more)) lt
+    by (inr le) (inl lt) = after k 0 le lt ∙ sym (get_or_past flat k 0 le)
+    by (inr le) (inr past) = get_or_past flat' k 0 (omega (arith, len, past)) ∙ sym (get_or_past flat k 0 le)

@@ -10,17 +10,17 @@ use std::marker::Model;
 #[derive(Drop)]
 pub struct FrameCell<A: Allocator> {
     bytes: Vec<u8, A>,
-    is_free: bool,
+    is_taken: bool,
 }
 
 impl<A: Allocator> Model for FrameCell<A> {
-    ghost use Rattle.std.specs.Prelude.{◌≡◌};
+    ghost use Rattle.std.specs.Prelude.{◌≡◌, not};
     ghost use Rattle.std.specs.Vec.{vec_len};
     ghost use Rattle.frames.specs.Parts.{CellParts};
 
     ghost Value = { CellParts };
 
-    ghost view = { λ s. record { bytes = s.bytes.items; is_free = s.is_free } };
+    ghost view = { λ s. record { bytes = s.bytes.items; is_free = not s.is_taken } };
 
     ghost invariant = { λ s. vec_len s.bytes ≡ 4096 };
 }
@@ -39,7 +39,7 @@ impl<A: Allocator> FrameCell<A> {
         let bytes = vec![in alloc; 0u8; FRAME_SIZE]?;
         Ok(FrameCell {
             bytes,
-            is_free: true,
+            is_taken: false,
         })
     }
 
@@ -47,7 +47,7 @@ impl<A: Allocator> FrameCell<A> {
     pub fn is_free(&self) -> bool
         ensures { result ≡ self.now.is_free }
     {
-        self.is_free
+        !self.is_taken
     }
 
     /// Takes the frame, which is free. Its bytes stay.
@@ -56,7 +56,7 @@ impl<A: Allocator> FrameCell<A> {
         ensures free { self.new.is_free ≡ false }
         ensures bytes { cell_bytes self.new ≡ cell_bytes self.old }
     {
-        self.is_free = false;
+        self.is_taken = true;
     }
 
     /// Gives the frame back, which is taken. Its bytes stay.
@@ -65,7 +65,7 @@ impl<A: Allocator> FrameCell<A> {
         ensures free { self.new.is_free ≡ true }
         ensures bytes { cell_bytes self.new ≡ cell_bytes self.old }
     {
-        self.is_free = true;
+        self.is_taken = false;
     }
 
     /// The byte at an offset in bytes.

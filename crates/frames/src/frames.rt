@@ -13,20 +13,21 @@ use std::marker::Model;
 /// takes memory or fails. A clause sees the bytes of each frame as `frame_bytes`, and the free ones as `free_frames`.
 #[derive(Drop)]
 pub struct Frames<A: Allocator> {
+    // Reaches as far as a frame was written to: what is beyond is 0, and costs no time when the frames are made.
     bytes: Vec<u8, A>,
     free: FreeSet<A>,
 }
 
 impl<A: Allocator> Model for Frames<A> {
     ghost use Rattle.std.specs.Prelude.{◌≡◌, ◌*◌, ◌≤◌};
-    ghost use Rattle.std.specs.Vec.{vec_len};
+    ghost use Rattle.std.specs.Vec.{vec_capacity};
     ghost use Rattle.frames.specs.Parts.{FrameParts};
 
     ghost Value = { FrameParts };
 
     ghost view = { λ s. record { bytes = s.bytes.items; free = s.free.words; count = s.free.limit } };
 
-    ghost invariant = { λ s. (vec_len s.bytes ≡ s.free.limit * 4096) × (s.free.limit ≤ 65536) };
+    ghost invariant = { λ s. (s.free.limit * 4096 ≤ vec_capacity s.bytes) × (s.free.limit ≤ 65536) };
 }
 
 impl<A: Allocator + Clone> Frames<A> {
@@ -42,7 +43,7 @@ impl<A: Allocator + Clone> Frames<A> {
         ensures free { IfOk result (λ s. free_frames s ≡ (λ f. nat_lt f count)) }
     {
         let free = FreeSet::all(alloc.clone()?, count)?;
-        let bytes = vec![in alloc; 0u8; count as usize * FRAME_SIZE]?;
+        let bytes = Vec::with_capacity(alloc, count as usize * FRAME_SIZE)?;
         Ok(Frames { bytes, free })
     }
 }
@@ -125,6 +126,7 @@ impl<A: Allocator> Frames<A> {
         ensures free { free_frames self.new ≡ free_frames self.old }
         ensures count { self.new.count ≡ self.old.count }
     {
+        page_bytes::reach(&mut self.bytes, frame as usize);
         page_bytes::set_byte(&mut self.bytes, frame as usize, offset, byte);
     }
 
@@ -135,6 +137,7 @@ impl<A: Allocator> Frames<A> {
         ensures free { free_frames self.new ≡ free_frames self.old }
         ensures count { self.new.count ≡ self.old.count }
     {
+        page_bytes::reach(&mut self.bytes, frame as usize);
         page_bytes::fill_zero(&mut self.bytes, frame as usize);
     }
 
@@ -146,6 +149,8 @@ impl<A: Allocator> Frames<A> {
         ensures free { free_frames self.new ≡ free_frames self.old }
         ensures count { self.new.count ≡ self.old.count }
     {
+        page_bytes::reach(&mut self.bytes, from as usize);
+        page_bytes::reach(&mut self.bytes, to as usize);
         page_bytes::copy(&mut self.bytes, from as usize, to as usize);
     }
 }

@@ -1,6 +1,6 @@
 //! Frames as parts of one list of bytes.
 ghost use Rattle.std.specs.Prelude.{◌≡◌, ℕ, ◌+◌, ◌*◌, ◌<◌, ◌≤◌, length, slice_index};
-ghost use Rattle.std.specs.Vec.{vec_len};
+ghost use Rattle.std.specs.Vec.{vec_len, vec_capacity};
 ghost use Rattle.vm_base.specs.Functions.{put};
 ghost use Rattle.vm_base.specs.Plain.{zeros};
 ghost use Rattle.frames.specs.Pages.{bytes_in};
@@ -10,13 +10,28 @@ use std::alloc::Allocator;
 /// The bytes of a frame.
 pub const FRAME_SIZE: usize = 4096;
 
+/// Lets the list reach to the end of a frame, for which it has room. The bytes that it doesn't reach are 0.
+pub fn reach<A: Allocator>(bytes: &mut Vec<u8, A>, frame: usize)
+    requires { frame * 4096 + 4096 ≤ vec_capacity bytes.old }
+    ensures bytes { bytes_in bytes.new.items ≡ bytes_in bytes.old.items }
+    ensures reached { frame * 4096 + 4096 ≤ vec_len bytes.new }
+    ensures longer { vec_len bytes.old ≤ vec_len bytes.new }
+    ensures capacity { vec_capacity bytes.old ≤ vec_capacity bytes.new }
+{
+    let end = frame * FRAME_SIZE + FRAME_SIZE;
+    if bytes.len() < end {
+        let _grown = bytes.resize(end, 0);
+    }
+}
+
 /// The byte of a frame at this offset.
 pub fn byte<A: Allocator>(bytes: &Vec<u8, A>, frame: usize, offset: usize) -> u8
-    requires frame { frame * 4096 + 4096 ≤ vec_len bytes.now }
+    requires frame { frame < 65536 }
     requires offset { offset < 4096 }
     ensures { result ≡ bytes_in bytes.now.items frame offset }
 {
-    bytes[frame * FRAME_SIZE + offset]
+    let at = frame * FRAME_SIZE + offset;
+    if at < bytes.len() { bytes[at] } else { 0 }
 }
 
 /// Sets the byte of a frame at this offset.
@@ -25,6 +40,7 @@ pub fn set_byte<A: Allocator>(bytes: &mut Vec<u8, A>, frame: usize, offset: usiz
     requires offset { offset < 4096 }
     ensures bytes { bytes_in bytes.new.items ≡ put (bytes_in bytes.old.items) frame (put (bytes_in bytes.old.items frame) offset byte) }
     ensures len { vec_len bytes.new ≡ vec_len bytes.old }
+    ensures capacity { vec_capacity bytes.new ≡ vec_capacity bytes.old }
 {
     bytes[frame * FRAME_SIZE + offset] = byte;
 }
@@ -34,6 +50,7 @@ pub fn fill_zero<A: Allocator>(bytes: &mut Vec<u8, A>, frame: usize)
     requires { frame * 4096 + 4096 ≤ vec_len bytes.old }
     ensures bytes { bytes_in bytes.new.items ≡ put (bytes_in bytes.old.items) frame zeros }
     ensures len { vec_len bytes.new ≡ vec_len bytes.old }
+    ensures capacity { vec_capacity bytes.new ≡ vec_capacity bytes.old }
 {
     zero_part(bytes, frame * FRAME_SIZE, FRAME_SIZE);
 }
@@ -55,6 +72,7 @@ pub fn copy<A: Allocator>(bytes: &mut Vec<u8, A>, from: usize, to: usize)
     requires to { to * 4096 + 4096 ≤ vec_len bytes.old }
     ensures bytes { bytes_in bytes.new.items ≡ put (bytes_in bytes.old.items) to (bytes_in bytes.old.items from) }
     ensures len { vec_len bytes.new ≡ vec_len bytes.old }
+    ensures capacity { vec_capacity bytes.new ≡ vec_capacity bytes.old }
 {
     let start = from * FRAME_SIZE;
     bytes.copy_within(start..start + FRAME_SIZE, to * FRAME_SIZE);

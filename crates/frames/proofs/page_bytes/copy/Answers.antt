@@ -1,4 +1,4 @@
-use Rattle.std.proofs.Common.{◌≡◌, ℕ, ◌+◌, ◌-◌, ◌*◌, ◌<◌, ◌≤◌, get_or, arith, sym, ◌∙◌, ap}
+use Rattle.std.proofs.Common.{◌≡◌, ◌+◌, ◌-◌, ◌*◌, get_or, arith, sym, ◌∙◌, ap}
 use Rattle.frames.specs.Pages.{bytes_in}
 use Rattle.frames.proofs.PageLists.{frame-put, byte-inside, byte-past}
 use Rattle.frames.proofs.page_bytes.copy.Goals as goal

@@ -1,4 +1,4 @@
-use Rattle.std.proofs.Common.{◌≡◌, ◌+◌, ◌*◌, ◌<◌, length, get_or, arith, rules, ap, refl, ◌∙◌}
+use Rattle.std.proofs.Common.{◌≡◌, ◌+◌, ◌*◌, length, get_or, arith, rules, ap, refl, ◌∙◌}
 use Rattle.vm_base.specs.Plain.{zeros}
 use Rattle.frames.specs.Pages.{bytes_in}
 use Rattle.frames.proofs.PageLists.{frame-put, whole-vec}

@@ -1,4 +1,4 @@
-use Rattle.std.proofs.Common.{◌≡◌, ◌≤◌, ◌+◌, ◌<◌, List, ℕ, true, false, length, arith, rules, ap, sym, ◌∙◌, subst}
+use Rattle.std.proofs.Common.{◌≡◌, ◌≤◌, ◌+◌, true, false, length, arith, rules, ap, sym, ◌∙◌, subst}
 use Rattle.vm_base.specs.Functions.{put}
 use Rattle.frames.specs.Bits.{bit_in, count_below}
 use Rattle.frames.specs.Parts.{IsCounted}

@@ -1,4 +1,4 @@
-use Rattle.std.proofs.Common.{◌≡◌, ℕ, false, ap, sym, ◌∙◌}
+use Rattle.std.proofs.Common.{ap, sym, ◌∙◌}
 use Rattle.frames.specs.Bits.{bit_in}
 use Rattle.frames.proofs.Counted.{summed-empty}
 use Rattle.frames.proofs.free_set.FreeSet.least.Goals as goal

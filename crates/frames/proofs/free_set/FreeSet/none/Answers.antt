@@ -1,4 +1,4 @@
-use Rattle.std.proofs.Common.{◌≡◌, ℕ, ◌*◌, ◌<◌, ◌≤◌, length, get_or, replicate, arith, rules, ap, ◌∙◌}
+use Rattle.std.proofs.Common.{◌≡◌, ℕ, length, get_or, replicate, arith, rules, ap, ◌∙◌}
 use Rattle.frames.proofs.BitSets.{bit_in-empty, zero_words}
 use Rattle.frames.proofs.Counted.{nothing}
 use Rattle.frames.proofs.free_set.FreeSet.none.Goals as goal
