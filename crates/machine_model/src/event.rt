@@ -15,12 +15,12 @@ pub enum Event {
 
 impl Event {
     /// The core that takes the step.
-    pub fn core(self) -> CoreId
-        ensures { result ≡ core_of self }
+    pub fn core(&self) -> CoreId
+        ensures { result ≡ core_of self.now }
     {
         match self {
-            Event::Call(core, _) => core,
-            Event::Go(core) => core,
+            Event::Call(core, _) => *core,
+            Event::Go(core) => *core,
         }
     }
 }

@@ -1,0 +1,5 @@
+pub mod Known
+pub mod Lists
+pub mod Checking
+pub mod Accesses
+pub mod Calling

@@ -1,0 +1,5 @@
+pub mod Setups
+pub mod State
+pub mod Checks
+pub mod Taking
+pub mod Finishing

@@ -1,0 +1,42 @@
+//! Lists whose memory is taken when they are made.
+ghost use Rattle.std.specs.Prelude.{◌≡◌, ◌+◌, ◌<◌, ◌≤◌, ◌++◌, ◌∷◌, [], IfOk, nat_lt, length, vec_len, vec_capacity, not};
+
+use std::alloc::{AllocError, Allocator};
+
+/// A list of at most `limit` elements. Once it is made, it takes no memory.
+#[derive(Drop)]
+pub struct Reserved<T, A: Allocator> {
+    pub items: Vec<T, A>,
+    pub limit: u64,
+    ghost room: { limit ≤ vec_capacity items },
+    ghost within: { vec_len items ≤ limit },
+    ghost few: { limit ≤ 1048576 },
+}
+
+impl<T: Copy + Drop, A: Allocator> Reserved<T, A> {
+    /// An empty list with room for so many elements.
+    pub fn new(alloc: A, limit: u64) -> Result<Self, AllocError>
+        requires { limit ≤ 1048576 }
+        ensures items { IfOk result (λ list. list.items.items ≡ []) }
+        ensures limit { IfOk result (λ list. list.limit ≡ limit) }
+    {
+        let items = Vec::with_capacity(alloc, limit as usize)?;
+        Ok(Reserved { items, limit })
+    }
+
+    /// Tells whether no room is left.
+    pub fn is_full(&self) -> bool
+        ensures { result ≡ not (nat_lt (length self.now.items.items) self.now.limit) }
+    {
+        self.items.len() as u64 >= self.limit
+    }
+
+    /// One element more, for which there is room.
+    pub fn push(&mut self, value: T)
+        requires { vec_len self.old.items < self.old.limit }
+        ensures items { self.new.items.items ≡ self.old.items.items ++ value ∷ [] }
+        ensures limit { self.new.limit ≡ self.old.limit }
+    {
+        self.items.push_reserved(value);
+    }
+}
