@@ -9,3 +9,5 @@ pub mod Moves
 pub mod Way
 pub mod Least
 pub mod PartsOf
+pub mod Held
+pub mod Sound
