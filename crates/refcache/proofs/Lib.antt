@@ -11,3 +11,4 @@ pub mod Least
 pub mod PartsOf
 pub mod Held
 pub mod Sound
+pub mod Tried

@@ -7,3 +7,4 @@ pub mod Pieces
 pub mod Parts
 pub mod Epochs
 pub mod Sound
+pub mod Tried
