@@ -12,3 +12,4 @@ pub mod PartsOf
 pub mod Held
 pub mod Sound
 pub mod Tried
+pub mod Unused

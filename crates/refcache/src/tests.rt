@@ -128,6 +128,24 @@ fn object_lives_and_is_freed(rt: HostRuntime) -> Result<(), Fail> {
 }
 
 #[test]
+fn largest_is_made(rt: HostRuntime) -> Result<(), Fail> {
+    let mut trial = Trial::new(rt.alloc(), 64, 65_536)?;
+    let rows = [
+        (Call::Begin(65_535, 1 << 40), DONE),
+        (Call::Inc(0, 65_535), Answer::NotAllowed),
+        (Call::Dec(63, 65_535), DONE),
+        (Call::Inc(0, 65_535), DONE),
+        (Call::Flush(63), evicted(65_535)),
+    ];
+    for (call, want) in rows {
+        let got = trial.take(call);
+        assert_eq!(rt; got, want, "at {call:?}");
+    }
+    assert_eq!(rt; trial.global(65_535), Some((1 << 40) - 1));
+    Ok(())
+}
+
+#[test]
 fn object_counted_up_since_is_dropped(rt: HostRuntime) -> Result<(), Fail> {
     let mut trial = Trial::new(rt.alloc(), 2, 1)?;
     let rows = [
