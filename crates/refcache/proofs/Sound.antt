@@ -15,10 +15,10 @@ use Rattle.refcache.proofs.Queues.{later}
 use Rattle.refcache.proofs.Settled.{Settled, settled, settled_open, unused}
 use Rattle.refcache.proofs.Held.{Held, Counted, held, open_held, counted, counted_open, global_small}
 
-record Known (v : Counts) : Type 0 where
-  settled : Settled v
-  held : Held v
-  counted : Counted v
+pub record Known (v : Counts) : Type 0 where
+  pub settled : Settled v
+  pub held : Held v
+  pub counted : Counted v
 
 known_run : (v : Counts) (xs : List Moment) → IsRun v xs → Known v → Known (last v xs)
 known_run v [] r k = k
@@ -28,14 +28,14 @@ known_run v (x ∷ xs) r k = known_run x.counts xs r.1 (record {
   counted = counted v x.step x.counts r.0 k.counted;
 })
 
-known : (v : Counts) → IsReached v → Known v
+pub known : (v : Counts) → IsReached v → Known v
 known v r = subst Known r.end (known_run (opening v.cores v.objects) r.run r.steps (record {
   settled = settled_open v.cores v.objects;
   held = open_held v.cores v.objects;
   counted = counted_open v.cores v.objects;
 }))
 
--- one more step
+-- one more step of a run
 run_more : (u : Counts) (xs : List Moment) (x : Moment) → IsRun u xs → Takes (last u xs) x.step x.counts → IsRun u (xs ++ x ∷ [])
 run_more u [] x r t = (t, tt)
 run_more u (y ∷ ys) x r t = (r.0, run_more y.counts ys x r.1 t)
@@ -44,7 +44,7 @@ last_more : (u : Counts) (xs : List Moment) (x : Moment) → last u (xs ++ x ∷
 last_more u [] x = refl
 last_more u (y ∷ ys) x = last_more y.counts ys x
 
-reached_on : (v : Counts) (s : Step) (w : Counts) → IsReached v → Takes v s w → IsReached w
+pub reached_on : (v : Counts) (s : Step) (w : Counts) → IsReached v → Takes v s w → IsReached w
 reached_on v s w r t =
     let x : Moment = record { step = s; counts = w } in
     let l = later v s w t in
@@ -56,7 +56,7 @@ reached_on v s w r t =
       end = subst (λ u. last u (r.run ++ x ∷ []) ≡ w) (sym same) (last_more (opening v.cores v.objects) r.run x);
     }
 
-reached_open : (v : Counts) (n m : ℕ) → v ≡ opening n m → IsReached v
+pub reached_open : (v : Counts) (n m : ℕ) → v ≡ opening n m → IsReached v
 reached_open v n m e = subst IsReached (sym e) (record { run = []; steps = tt; end = refl })
 
 pub sound_open : (p : Parts) (n m : ℕ) → n ≤ 64 → counts_of p ≡ opening n m → ((c : ℕ) → c < n → rooms p c ≡ m + 1) → p.epochs.cores ≡ n → IsSound p
