@@ -227,6 +227,7 @@ fn pieces_free_an_object(rt: HostRuntime) -> Result<(), Fail> {
     let mut count = ObjectCount::new();
     count.global = 1;
     let (early, due, report) = last_dec(&mut part, &mut count);
+    assert!(rt; count.takes_any_delta());
     assert_eq!(rt; early, None);
     assert_eq!(rt; due, Some(5));
     assert_eq!(rt; report, Some(Review::Freed(5)));
