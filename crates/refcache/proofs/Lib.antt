@@ -9,3 +9,7 @@ pub mod Moves
 pub mod Way
 pub mod Least
 pub mod PartsOf
+pub mod Held
+pub mod Sound
+pub mod Tried
+pub mod Unused

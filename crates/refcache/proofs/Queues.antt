@@ -41,12 +41,13 @@ Behind v d epoch = Each (λ x. epoch < x.epoch + 2) (v.queue d)
 -- what each step keeps
 pub record Later (v w : Counts) : Type 0 where
   pub cores : w.cores ≡ v.cores
+  pub objects : w.objects ≡ v.objects
   pub epoch : v.epoch ≤ w.epoch
   pub queues : Queues v → Queues w
   pub behind : (d epoch : ℕ) → epoch ≤ v.epoch → Behind v d epoch → Behind w d epoch
 
 pub later_same : (v : Counts) → Later v v
-later_same v = record { cores = refl; epoch = omega arith; queues = λ q. q; behind = λ d e l b. b }
+later_same v = record { cores = refl; objects = refl; epoch = omega arith; queues = λ q. q; behind = λ d e l b. b }
 
 pub later_then : (u v w : Counts) → Later u v → Later v w → Later u w
 later_then u v w f g =
@@ -54,29 +55,31 @@ later_then u v w f g =
     let up2 = g.epoch in
     record {
       cores = g.cores ∙ f.cores;
+      objects = g.objects ∙ f.objects;
       epoch = omega (arith, up, up2);
       queues = λ q. g.queues (f.queues q);
       behind = λ d e l b. g.behind d e (omega (arith, l, up)) (f.behind d e l b);
     }
 
 pub later_drained : (c o : ℕ) (v : Counts) → Later v (drained c o v)
-later_drained c o v = record { cores = refl; epoch = omega arith; queues = λ q. record { past = q.past; rising = q.rising; found = q.found }; behind = λ d e l b. b }
+later_drained c o v = record { cores = refl; objects = refl; epoch = omega arith; queues = λ q. record { past = q.past; rising = q.rising; found = q.found }; behind = λ d e l b. b }
 
 pub later_added : (c o : ℕ) (by : ℤ) (v : Counts) → Later v (added c o by v)
-later_added c o by v = record { cores = refl; epoch = omega arith; queues = λ q. record { past = q.past; rising = q.rising; found = q.found }; behind = λ d e l b. b }
+later_added c o by v = record { cores = refl; objects = refl; epoch = omega arith; queues = λ q. record { past = q.past; rising = q.rising; found = q.found }; behind = λ d e l b. b }
 
 pub later_soiled : (o : ℕ) (v : Counts) → Later v (soiled o v)
-later_soiled o v = record { cores = refl; epoch = omega arith; queues = λ q. record { past = q.past; rising = q.rising; found = q.found }; behind = λ d e l b. b }
+later_soiled o v = record { cores = refl; objects = refl; epoch = omega arith; queues = λ q. record { past = q.past; rising = q.rising; found = q.found }; behind = λ d e l b. b }
 
 pub later_begun : (o k : ℕ) (v : Counts) → Later v (begun o k v)
-later_begun o k v = record { cores = refl; epoch = omega arith; queues = λ q. record { past = q.past; rising = q.rising; found = q.found }; behind = λ d e l b. b }
+later_begun o k v = record { cores = refl; objects = refl; epoch = omega arith; queues = λ q. record { past = q.past; rising = q.rising; found = q.found }; behind = λ d e l b. b }
 
 pub later_marked : (c : ℕ) (v : Counts) → Later v (marked c v)
-later_marked c v = record { cores = refl; epoch = omega arith; queues = λ q. record { past = q.past; rising = q.rising; found = q.found }; behind = λ d e l b. b }
+later_marked c v = record { cores = refl; objects = refl; epoch = omega arith; queues = λ q. record { past = q.past; rising = q.rising; found = q.found }; behind = λ d e l b. b }
 
 pub later_ended : (v : Counts) → Later v (ended v)
 later_ended v = record {
   cores = refl;
+  objects = refl;
   epoch = omega arith;
   queues = λ q. record {
     past = λ d. each_map (λ x. x.epoch ≤ v.epoch) (λ x. x.epoch ≤ v.epoch + 1) (v.queue d) (λ x l. omega (arith, l)) (q.past d);
@@ -112,6 +115,7 @@ later_enqueued c o v lt =
     let new : Queued = record { object = o; epoch = v.epoch } in
     record {
       cores = refl;
+      objects = refl;
       epoch = omega arith;
       queues = λ q. record {
         past = put_all (λ d xs. Each (λ x. x.epoch ≤ v.epoch) xs) v.queue c (v.queue c ++ new ∷ []) (each_end (λ x. x.epoch ≤ v.epoch) (v.queue c) new (q.past c) (omega arith)) (λ j _. q.past j);
@@ -131,6 +135,7 @@ later_enqueued c o v lt =
 pub later_unqueued : (c o since : ℕ) (rest : List Queued) (v : Counts) → v.queue c ≡ record { object = o; epoch = since } ∷ rest → Later v (unqueued c o rest v)
 later_unqueued c o since rest v front = record {
   cores = refl;
+  objects = refl;
   epoch = omega arith;
   queues = λ q. record {
     past = put_all (λ d xs. Each (λ x. x.epoch ≤ v.epoch) xs) v.queue c rest (tail_each (λ x. x.epoch ≤ v.epoch) (q.past c)) (λ j _. q.past j);

@@ -259,18 +259,18 @@ settled_review v c (review.Requeued p) w h f =
 settled_review v c (review.Dropped p) w h f = subst Settled (sym h.3) (settled_unqueued c p h.1.since h.0 v h.1.front f)
 settled_review v c review.Idle w h f = subst Settled (sym h.1) f
 
-settled : (v : Counts) (s : Step) (w : Counts) → Takes v s w → Settled v → Settled w
+pub settled : (v : Counts) (s : Step) (w : Counts) → Takes v s w → Settled v → Settled w
 settled v (Begin p k) w h f = subst Settled (sym h.3) (settled_begun p k v h.0 f)
 settled v (Inc c p) w h f = subst Settled (sym h.1.4) (settled_add v c p (pos 1) h.1.2 h.1.0 h.1.1 h.1.3 f)
 settled v (Dec c p) w h f = subst Settled (sym h.4) (settled_add v c p (negsuc 0) h.2 h.0 h.1 h.3 f)
 settled v (Flushing c r) w h f = settled_flush v c r w h.1 f
 settled v (Reviewing c r) w h f = settled_review v c r w h.1 f
 
-settled_open : (n m : ℕ) → Settled (opening n m)
+pub settled_open : (n m : ℕ) → Settled (opening n m)
 settled_open n m = record { single = record { marks = λ o d h. absurd h; once = λ d. tt; apart = λ o d j h g. absurd h }; settled = λ d. tt }
 
 -- an object is freed with nothing left
-unused : (v : Counts) (c o : ℕ) (w : Counts) → Reviews v c (review.Freed o) w → Settled v → IsUnused w o
+pub unused : (v : Counts) (c o : ℕ) (w : Counts) → Reviews v c (review.Freed o) w → Settled v → IsUnused w o
 unused v c o w h f = subst (λ z. IsUnused z o) (sym h.4) (record {
   zero = count_clear v o none ∙ h.2;
   entries = none;

@@ -6,3 +6,5 @@ pub mod Places
 pub mod Pieces
 pub mod Parts
 pub mod Epochs
+pub mod Sound
+pub mod Tried
