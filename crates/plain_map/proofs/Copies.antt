@@ -1,26 +1,22 @@
 -- The plain state of a plain map with one copy more, or with a byte stored
-use Rattle.std.proofs.Common.{◌≡◌, ◌≢◌, ℕ, Bool, true, false, cond, ◌==◌, ◌&&◌, List, [], ◌∷◌, ◌++◌, is_some, Option, Some, None, refl, sym, ◌∙◌, ap, subst, arith}
+use Rattle.std.proofs.Common.{◌≡◌, ℕ, Bool, true, false, cond, ◌==◌, ◌&&◌, List, [], ◌∷◌, ◌++◌, Option, Some, None, refl, sym, ◌∙◌, ap, subst, arith}
 use Rattle.std.proofs.Math.Path.{fun_ext}
 use Rattle.std.proofs.lemmas.Bool.Decides.{nat_tests}
 use Rattle.vm_base.specs.declared.rights.Prot.{Prot}
-use Rattle.vm_base.specs.declared.rights.Access.{Access}
 use Rattle.vm_base.specs.declared.info.Back.{Back}
 use Rattle.vm_base.specs.declared.info.Back.TheVariants.{Anon, Shared, Private}
 use Rattle.vm_base.specs.declared.info.Meta.{Meta}
 use Rattle.vm_base.specs.declared.replies.Reply.{Reply}
-use Rattle.vm_base.specs.declared.replies.Reply.TheVariants.{Done}
 use Rattle.vm_base.specs.Functions.{put}
-use Rattle.vm_base.specs.Rights.{is_allowed}
-use Rattle.vm_base.specs.Pages.{page_of, offset_of, is_page}
-use Rattle.vm_base.specs.Plain.{Bytes, File, Entry, Plain, zeros, bytes_of, file_bytes}
-use Rattle.vm_base.specs.Apply.{needs_copy, bytes_reply, entry_reply, access_reply, with_byte, stored_own, stored_entry, copied, detached_entry, detached}
+use Rattle.vm_base.specs.Plain.{Bytes, File, Entry, Plain, zeros, file_bytes}
+use Rattle.vm_base.specs.Apply.{with_byte, stored_own, stored_entry, copied, detached_entry, detached}
 use Rattle.vm_base.proofs.Functions.{put_all, put_same, put_other}
 use Rattle.plain_map.specs.declared.access.FilePage.{FilePage}
 use Rattle.plain_map.specs.declared.own.OwnPage.{OwnPage}
 use Rattle.plain_map.specs.Mappings.{or_else}
 use Rattle.plain_map.specs.Owned.{own_at, copy_of, written}
 use Rattle.plain_map.specs.Shown.{own_shown, entry_of, is_anonymous, lacks_bytes, back_shared, shared_of, is_done, IsUncopied}
-use Rattle.plain_map.specs.Answers.{DetachesTo, IsPrepared}
+use Rattle.plain_map.specs.Answers.{DetachesTo}
 use Rattle.plain_map.proofs.Owned.{own_at-append}
 use Rattle.plain_map.proofs.Writes.{put_self}
 use Rattle.plain_map.proofs.Views.{state}
@@ -77,9 +73,6 @@ room_same own own2 meta file p b r h e is =
 
 pub room_there : (own own2 : ℕ → Option Bytes) (m : Option Meta) (p : ℕ) (b : Bytes) → own2 ≡ put own p (Some b) → lacks_bytes (own2 p) m ≡ false
 room_there own own2 m p b is = ap (λ (o : Option Bytes). lacks_bytes o m) (ap (λ (f : ℕ → Option Bytes). f p) is ∙ put_same own p (Some b))
-
-pub room_needless : (r : Option Reply) (b : Bool) → (is_done r && b) ≡ false → r ≡ Some Done → b ≡ false
-room_needless r b h e = subst (λ (x : Option Reply). (is_done x && b) ≡ false) e h
 
 -- a store to a file's page
 

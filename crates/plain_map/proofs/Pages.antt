@@ -1,5 +1,5 @@
 -- Pages that are filled byte by byte, and files that are filled page by page
-use Rattle.std.proofs.Common.{◌≡◌, ℕ, ◌≤◌, ◌<◌, ◌+◌, ◌-◌, ◌*◌, Bool, true, false, cond, ◌==◌, List, length, refl, sym, ◌∙◌, ap, arith, min}
+use Rattle.std.proofs.Common.{◌≡◌, ℕ, ◌≤◌, ◌+◌, ◌-◌, ◌*◌, Bool, true, false, cond, ◌==◌, List, length, refl, sym, ◌∙◌, ap, arith, min}
 use Rattle.std.specs.Prelude.{nat_lt, if◌then◌else◌, slice_index}
 use Rattle.std.proofs.Math.Path.{fun_ext}
 use Rattle.std.proofs.lemmas.Bool.Decides.{nat_tests}

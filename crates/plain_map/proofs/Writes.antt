@@ -1,19 +1,16 @@
 -- Changes of one copy in a list
-use Rattle.std.proofs.Common.{◌≡◌, ◌≢◌, ℕ, ◌<◌, ◌+◌, zero, suc, Bool, true, false, cond, ◌==◌, List, [], ◌∷◌, Option, Some, None, refl, sym, ◌∙◌, ap, subst, arith, length, get_or, set, is_some, ◌≤◌, ◌⊎◌, inl, inr}
-use Rattle.std.specs.Prelude.{IfSome, nat_lt}
-use Rattle.std.proofs.lemmas.Bool.{cases_lt}
+use Rattle.std.proofs.Common.{◌≡◌, ◌≢◌, ℕ, ◌<◌, ◌+◌, zero, suc, Bool, true, false, cond, ◌==◌, List, [], ◌∷◌, Option, Some, None, refl, sym, ◌∙◌, ap, subst, arith, length, get_or, set}
+use Rattle.std.specs.Prelude.{IfSome}
 use Rattle.std.proofs.lemmas.Bool.Decides.{nat_tests}
 use Rattle.std.proofs.Math.Path.{fun_ext}
 use Rattle.vm_base.specs.Functions.{put}
-use Rattle.vm_base.specs.Plain.{Bytes, File, file_bytes}
-use Rattle.vm_base.specs.Apply.{with_byte}
+use Rattle.vm_base.specs.Plain.{Bytes}
 use Rattle.vm_base.proofs.Functions.{eq_true, eq_false, put_all}
 use Rattle.plain_map.specs.declared.own.OwnPage.{OwnPage}
-use Rattle.plain_map.specs.declared.file.PlainFile.{PlainFile}
-use Rattle.plain_map.specs.Files.{element, file_of, files_of}
+use Rattle.plain_map.specs.Files.{element}
 use Rattle.plain_map.specs.Mappings.{or_else}
 use Rattle.plain_map.specs.Owned.{own_at, copy_of, page_at, written}
-use Rattle.plain_map.proofs.Elements.{element-get, element-past, element-set}
+use Rattle.plain_map.proofs.Elements.{element-get}
 
 -- the last copy of a page that was found is one of it, and none stands after it
 pub here_more : {A : Type 0} (xs : List (OwnPage A)) (i : ℕ) (x : OwnPage A) (p : ℕ) (last : Option ℕ) → i < length xs → x ≡ get_or xs i x → IfSome last (λ k. page_at xs k ≡ p)
@@ -86,33 +83,3 @@ pub written_at : {A : Type 0} (xs l : List (OwnPage A)) (i p off b : ℕ) → l 
 written_at {A = A} xs l i p off b e here is =
     subst (λ (z : List (OwnPage A)). put (own_at z) (page_at z i) (written (element copy_of None z i) off b) ≡ put (own_at z) p (written (own_at z p) off b)) e
     (ap (λ (n : ℕ). put (own_at l) n (written (element copy_of None l i) off b)) here ∙ ap (λ (o : Option Bytes). put (own_at l) p (written o off b)) (sym is))
-
--- so is a file
-pub file_set : {A : Type 0} (fs : List (PlainFile A)) (k i off b : ℕ) (x y : PlainFile A) → k < length fs → y ≡ get_or fs k y → Some (file_of x) ≡ with_byte (Some (file_of y)) i off b
-    → files_of (set fs k x) ≡ put (files_of fs) k (with_byte (files_of fs k) i off b)
-file_set {A = A} fs k i off b x y lt is e =
-    element-set (λ (f : PlainFile A). Some (file_of f)) None fs k x lt
-    ∙ ap (λ (o : Option File). put (files_of fs) k o) (e ∙ ap (λ (o : Option File). with_byte o i off b) (sym (element-get (λ (f : PlainFile A). Some (file_of f)) None fs k y lt is)))
-
--- a page that a file has is one of a file that is there
-pub file_there : {A : Type 0} (fs : List (PlainFile A)) (k page : ℕ) → is_some (file_bytes (files_of fs k) page) ≡ true → k < length fs
-file_there {A = A} fs k page h = by (cases_lt k (length fs))
-  where
-    by : (k < length fs) ⊎ (length fs ≤ k) → k < length fs
-    by (inl lt) = lt
-    by (inr le) = let z = ap (λ (f : Option File). is_some (file_bytes f page)) (element-past (λ (f : PlainFile A). Some (file_of f)) None fs k le) in cc
-
-pub page_there : (f : File) (page : ℕ) → is_some (file_bytes (Some f) page) ≡ true → page < f.count
-page_there f page h = go (nat_lt page f.count) refl h
-  where
-    go : (b : Bool) → nat_lt page f.count ≡ b → is_some (cond b (Some (f.bytes page)) None) ≡ true → page < f.count
-    go true e g = grind (arith, nat_tests)
-    go false e g = absurd cc
-
--- the bytes of a page that a file has
-pub bytes_there : (f : File) (page : ℕ) (b : Bytes) → page < f.count → b ≡ f.bytes page → Some b ≡ file_bytes (Some f) page
-bytes_there f page b lt e = go (nat_lt page f.count) refl
-  where
-    go : (t : Bool) → nat_lt page f.count ≡ t → Some b ≡ cond t (Some (f.bytes page)) None
-    go true h = ap Some e
-    go false h = absurd (grind (arith, nat_tests))

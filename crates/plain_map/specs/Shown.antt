@@ -6,7 +6,7 @@ use Rattle.vm_base.specs.declared.info.Meta.{Meta}
 use Rattle.vm_base.specs.declared.replies.Reply.{Reply}
 use Rattle.vm_base.specs.declared.replies.Reply.TheVariants.{Done}
 use Rattle.plain_map.specs.declared.access.FilePage.{FilePage}
-use Rattle.vm_base.specs.Plain.{Bytes, Entry, Plain, zeros}
+use Rattle.vm_base.specs.Plain.{Bytes, Entry, zeros}
 
 -- anonymous pages have zero bytes before the first copy; shared ones never have own bytes
 abbrev pub own_shown : Back → Option Bytes → Option Bytes

@@ -4,7 +4,7 @@ use Rattle.plain_map.specs.declared.file.PlainFile.{PlainFile}
 use Rattle.plain_map.specs.Files.{file_of}
 use Rattle.plain_map.specs.Pages.{bytes_in}
 use Rattle.plain_map.proofs.Elements.{element-get}
-use Rattle.plain_map.proofs.Writes.{file_there, page_there, bytes_there}
+use Rattle.plain_map.proofs.FilePages.{file_there, page_there, bytes_there}
 use Rattle.plain_map.proofs.access.copy_page.Goals as goal
 
 pub offset_bounds-files-source : goal.offset_bounds-files-source

@@ -1,9 +1,9 @@
-use Rattle.std.proofs.Common.{◌≡◌, ◌<◌, ap, sym, ◌∙◌, Option, Some, None, true, is_some, length, arith, subst}
+use Rattle.std.proofs.Common.{◌≡◌, ◌<◌, Option, Some, None, true, is_some, length, arith, subst}
 use Rattle.vm_base.specs.Plain.{File, file_bytes}
 use Rattle.plain_map.specs.declared.file.PlainFile.{PlainFile}
-use Rattle.plain_map.specs.Files.{file_of, files_of}
+use Rattle.plain_map.specs.Files.{file_of}
 use Rattle.plain_map.proofs.Elements.{element-get}
-use Rattle.plain_map.proofs.Writes.{file_there, page_there, file_set}
+use Rattle.plain_map.proofs.FilePages.{file_there, page_there, file_set}
 use Rattle.plain_map.proofs.access.write_file.Goals as goal
 
 pub index_mut-requires : goal.index_mut-requires

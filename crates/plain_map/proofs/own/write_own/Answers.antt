@@ -1,5 +1,5 @@
 use Rattle.std.proofs.Common.{◌∙◌}
-use Rattle.plain_map.proofs.Writes.{written_at, put_self}
+use Rattle.plain_map.proofs.Writes.{written_at}
 use Rattle.plain_map.proofs.own.write_own.Goals as goal
 
 pub returns-in-Some : goal.returns-in-Some

@@ -1,4 +1,4 @@
-use Rattle.std.proofs.Common.{◌≡◌, ◌∙◌, ℕ, min, ◌-◌, length, arith, refl}
+use Rattle.std.proofs.Common.{◌≡◌, ◌∙◌, min, ◌-◌, length, arith, refl}
 use Rattle.plain_map.proofs.Pages.{filled-none, filled-more, filled-all}
 use Rattle.plain_map.proofs.bytes.PageBytes.part.Goals as goal
 

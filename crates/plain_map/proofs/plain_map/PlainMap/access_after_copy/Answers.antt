@@ -1,4 +1,4 @@
-use Rattle.std.proofs.Common.{◌≡◌, sym, ◌∙◌, refl}
+use Rattle.std.proofs.Common.{sym, refl}
 use Rattle.vm_base.specs.Pages.{page_of}
 use Rattle.plain_map.specs.Mappings.{meta_at}
 use Rattle.plain_map.specs.Owned.{own_at}

@@ -1,4 +1,4 @@
-use Rattle.std.proofs.Common.{ap, subst, List, ◌≡◌, Some}
+use Rattle.std.proofs.Common.{subst, List, ◌≡◌, Some}
 use Rattle.vm_base.specs.Plain.{file_bytes}
 use Rattle.plain_map.specs.declared.file.PlainFile.{PlainFile}
 use Rattle.plain_map.specs.Files.{files_of}
