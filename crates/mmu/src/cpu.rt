@@ -1,7 +1,9 @@
 //! What one core translates addresses by: tables of its own, and a TLB.
-ghost use Rattle.std.specs.Prelude.{◌≡◌, ◌&&◌, ℕ, [], None, Some, true, is_some, not, IfOk, OnOk, OnErr, if◌then◌else◌};
+ghost use Rattle.std.specs.Prelude.{◌≡◌, ◌&&◌, ℕ, [], None, Some, true, is_some, not, IfOk, OnOk, OnErr, List, Option, if◌then◌else◌};
 ghost use Rattle.vm_base.specs.Functions.{put, over, has};
 ghost use Rattle.vm_base.specs.Pages.{is_page as is_valid, are_pages};
+ghost use Rattle.mmu.specs.declared.entry.Translation.{Translation};
+ghost use Rattle.mmu.specs.declared.tlb.TlbEntry.{TlbEntry};
 ghost use Rattle.mmu.specs.Entry.{has_right, translation_of};
 ghost use Rattle.mmu.specs.Tlb.{tlb_at, tlb_without, is_page};
 ghost use Rattle.mmu.specs.Tables.{on_pages, translated, tlb_after, tlb_walked, word_of};
@@ -20,17 +22,62 @@ const PAGES: u64 = 512 * 512 * 512 * 512;
 /// The tables of the four levels, from the root.
 type Root<A> = Inner<Inner<Inner<Leaf<A>, A>, A>, A>;
 
-/// What a clause sees of a core.
-pub trait Hardware {
-    ghost use Rattle.std.specs.Prelude.{ℕ, List, Option};
-    ghost use Rattle.mmu.specs.declared.entry.Translation.{Translation};
-    ghost use Rattle.mmu.specs.declared.tlb.TlbEntry.{TlbEntry};
-
+/// One core's tables and TLB.
+pub trait Hardware: Drop {
     /// The tables: the translation of each page that has an entry.
     ghost table: { Self → ℕ → Option Translation };
 
     /// The TLB, the oldest filled first.
     ghost tlb: { Self → List TlbEntry };
+
+    /// Translates an access to a page. A translation in the TLB decides alone; without one the tables decide. A fill
+    /// enters the TLB, where the oldest filled may have to go; a fault drops the page's translation from it (Intel SDM
+    /// volume 3A, caching translation information). The tables stay.
+    fn translate(&mut self, page: u64, access: Access) -> Translated
+        requires { is_valid page ≡ true }
+        ensures value { result ≡ translated (tlb_at (tlb self.old) page) (table self.old page) access }
+        ensures table { table self.new ≡ table self.old }
+        ensures tlb { tlb self.new ≡ tlb_after result page (table self.old page) (tlb self.old) };
+
+    /// Sets the table entry of a page whose protection gives some right. Where memory is refused no entry changes. The
+    /// TLB stays in both cases.
+    fn install(&mut self, page: u64, frame: u32, prot: Prot) -> Result<(), NoMemory>
+        requires page { is_valid page ≡ true }
+        requires some_right { has_right prot ≡ true }
+        ensures ok { OnOk result (table self.new ≡ put (table self.old) page (Some (translation_of frame prot))) }
+        ensures err { OnErr result (table self.new ≡ table self.old) }
+        ensures tlb { tlb self.new ≡ tlb self.old };
+
+    /// Fills the TLB from the tables without an access, where the tables have the page and the TLB hasn't; tells
+    /// whether it did. The tables stay.
+    fn walk(&mut self, page: u64) -> bool
+        requires { is_valid page ≡ true }
+        ensures value { result ≡ not (is_some (tlb_at (tlb self.old) page)) && is_some (table self.old page) }
+        ensures table { table self.new ≡ table self.old }
+        ensures tlb { tlb self.new ≡ tlb_walked (tlb_at (tlb self.old) page) (table self.old page) page (tlb self.old) };
+
+    /// Drops the page's translation from the TLB; tells whether it had one. The tables stay.
+    fn evict(&mut self, page: u64) -> bool
+        ensures value { result ≡ is_some (tlb_at (tlb self.old) page) }
+        ensures table { table self.new ≡ table self.old }
+        ensures tlb { tlb self.new ≡ (if result then tlb_without (is_page page) (tlb self.old) else tlb self.old) };
+
+    /// Drops the table entries of the pages of the range, in the time of the tables that are there. The TLB stays.
+    fn clear_tables(&mut self, range: PageRange)
+        requires { are_pages range ≡ true }
+        ensures table { table self.new ≡ over (table self.old) (has range) None }
+        ensures tlb { tlb self.new ≡ tlb self.old };
+
+    /// Drops the translations of the pages of the range from the TLB (Intel SDM volume 3A, invalidation of TLBs). The
+    /// tables stay.
+    fn invalidate(&mut self, range: PageRange)
+        ensures table { table self.new ≡ table self.old }
+        ensures tlb { tlb self.new ≡ tlb_without (has range) (tlb self.old) };
+
+    /// The 64 bits of the page's last-level entry, if it is present.
+    fn entry(&self, page: u64) -> Option<u64>
+        requires { is_valid page ≡ true }
+        ensures { result ≡ word_of (table self.now page) };
 }
 
 /// A core's tables and TLB.
@@ -39,12 +86,6 @@ pub struct Cpu<A: Allocator + Clone> {
     root: Root<A>,
     tlb: ArrayVec<TlbEntry, PLACES>,
     alloc: A,
-}
-
-impl<A: Allocator + Clone> Hardware for Cpu<A> {
-    ghost table = { λ c. on_pages (⟦<Root<A> as Level<A>>⟧.entry_at c.root) };
-
-    ghost tlb = { λ c. c.tlb.items };
 }
 
 impl<A: Allocator + Clone> Cpu<A> {
@@ -65,16 +106,14 @@ impl<A: Allocator + Clone> Cpu<A> {
             }),
         }
     }
+}
 
-    /// Translates an access to a page. A translation in the TLB decides alone; without one the tables decide. A fill
-    /// enters the TLB, where the oldest filled may have to go; a fault drops the page's translation from it (Intel SDM
-    /// volume 3A, caching translation information). The tables stay.
-    pub fn translate(&mut self, page: u64, access: Access) -> Translated
-        requires { is_valid page ≡ true }
-        ensures value { result ≡ translated (tlb_at (⟦<Self as Hardware>⟧.tlb self.old) page) (⟦<Self as Hardware>⟧.table self.old page) access }
-        ensures table { ⟦<Self as Hardware>⟧.table self.new ≡ ⟦<Self as Hardware>⟧.table self.old }
-        ensures tlb { ⟦<Self as Hardware>⟧.tlb self.new ≡ tlb_after result page (⟦<Self as Hardware>⟧.table self.old page) (⟦<Self as Hardware>⟧.tlb self.old) }
-    {
+impl<A: Allocator + Clone> Hardware for Cpu<A> {
+    ghost table = { λ c. on_pages (⟦<Root<A> as Level<A>>⟧.entry_at c.root) };
+
+    ghost tlb = { λ c. c.tlb.items };
+
+    fn translate(&mut self, page: u64, access: Access) -> Translated {
         if let Some(cached) = tlb::find(&self.tlb, page) {
             if cached.permits(access) {
                 return Translated::Hit(cached.frame);
@@ -89,27 +128,12 @@ impl<A: Allocator + Clone> Cpu<A> {
         Translated::Fault
     }
 
-    /// Sets the table entry of a page whose protection gives some right. Where memory is refused no entry changes. The
-    /// TLB stays in both cases.
-    pub fn install(&mut self, page: u64, frame: u32, prot: Prot) -> Result<(), NoMemory>
-        requires page { is_valid page ≡ true }
-        requires some_right { has_right prot ≡ true }
-        ensures ok { OnOk result (⟦<Self as Hardware>⟧.table self.new ≡ put (⟦<Self as Hardware>⟧.table self.old) page (Some (translation_of frame prot))) }
-        ensures err { OnErr result (⟦<Self as Hardware>⟧.table self.new ≡ ⟦<Self as Hardware>⟧.table self.old) }
-        ensures tlb { ⟦<Self as Hardware>⟧.tlb self.new ≡ ⟦<Self as Hardware>⟧.tlb self.old }
-    {
+    fn install(&mut self, page: u64, frame: u32, prot: Prot) -> Result<(), NoMemory> {
         let translation = Translation::new(frame, prot);
         self.root.install(&self.alloc, PAGES, page, translation)
     }
 
-    /// Fills the TLB from the tables without an access, where the tables have the page and the TLB hasn't; tells
-    /// whether it did. The tables stay.
-    pub fn walk(&mut self, page: u64) -> bool
-        requires { is_valid page ≡ true }
-        ensures value { result ≡ not (is_some (tlb_at (⟦<Self as Hardware>⟧.tlb self.old) page)) && is_some (⟦<Self as Hardware>⟧.table self.old page) }
-        ensures table { ⟦<Self as Hardware>⟧.table self.new ≡ ⟦<Self as Hardware>⟧.table self.old }
-        ensures tlb { ⟦<Self as Hardware>⟧.tlb self.new ≡ tlb_walked (tlb_at (⟦<Self as Hardware>⟧.tlb self.old) page) (⟦<Self as Hardware>⟧.table self.old page) page (⟦<Self as Hardware>⟧.tlb self.old) }
-    {
+    fn walk(&mut self, page: u64) -> bool {
         if tlb::find(&self.tlb, page) != None {
             return false;
         }
@@ -120,12 +144,7 @@ impl<A: Allocator + Clone> Cpu<A> {
         true
     }
 
-    /// Drops the page's translation from the TLB; tells whether it had one. The tables stay.
-    pub fn evict(&mut self, page: u64) -> bool
-        ensures value { result ≡ is_some (tlb_at (⟦<Self as Hardware>⟧.tlb self.old) page) }
-        ensures table { ⟦<Self as Hardware>⟧.table self.new ≡ ⟦<Self as Hardware>⟧.table self.old }
-        ensures tlb { ⟦<Self as Hardware>⟧.tlb self.new ≡ (if result then tlb_without (is_page page) (⟦<Self as Hardware>⟧.tlb self.old) else ⟦<Self as Hardware>⟧.tlb self.old) }
-    {
+    fn evict(&mut self, page: u64) -> bool {
         match tlb::find(&self.tlb, page) {
             None => false,
             Some(_) => {
@@ -135,29 +154,15 @@ impl<A: Allocator + Clone> Cpu<A> {
         }
     }
 
-    /// Drops the table entries of the pages of the range, in the time of the tables that are there. The TLB stays.
-    pub fn clear_tables(&mut self, range: PageRange)
-        requires { are_pages range ≡ true }
-        ensures table { ⟦<Self as Hardware>⟧.table self.new ≡ over (⟦<Self as Hardware>⟧.table self.old) (has range) None }
-        ensures tlb { ⟦<Self as Hardware>⟧.tlb self.new ≡ ⟦<Self as Hardware>⟧.tlb self.old }
-    {
+    fn clear_tables(&mut self, range: PageRange) {
         self.root.clear(PAGES, range);
     }
 
-    /// Drops the translations of the pages of the range from the TLB (Intel SDM volume 3A, invalidation of TLBs). The
-    /// tables stay.
-    pub fn invalidate(&mut self, range: PageRange)
-        ensures table { ⟦<Self as Hardware>⟧.table self.new ≡ ⟦<Self as Hardware>⟧.table self.old }
-        ensures tlb { ⟦<Self as Hardware>⟧.tlb self.new ≡ tlb_without (has range) (⟦<Self as Hardware>⟧.tlb self.old) }
-    {
+    fn invalidate(&mut self, range: PageRange) {
         tlb::invalidate(&mut self.tlb, range);
     }
 
-    /// The 64 bits of the page's last-level entry, if it is present.
-    pub fn entry(&self, page: u64) -> Option<u64>
-        requires { is_valid page ≡ true }
-        ensures { result ≡ word_of (⟦<Self as Hardware>⟧.table self.now page) }
-    {
+    fn entry(&self, page: u64) -> Option<u64> {
         match self.root.entry(PAGES, page) {
             None => None,
             Some(entry) => Some(entry.word()),

@@ -1,6 +1,6 @@
 //! Each public call on its way that succeeds, with values of the manual and of the project's rules, and each allocation
 //! of `install` refused in turn.
-use crate::{Cpu, Translated, indices};
+use crate::{Cpu, Hardware, Translated, indices};
 use linked_list_allocator::LocalHeap;
 use std::alloc::{Allocator, Global};
 use vm_base::{Access, NoMemory, PageRange, Prot};
