@@ -1,10 +1,10 @@
 -- Messages that go out one by one, from the least core on
-use Rattle.std.proofs.Common.{◌≡◌, ◌≢◌, ℕ, ◌+◌, ◌<◌, ◌≤◌, ◌==◌, Bool, true, false, cond, ◌||◌, ◌&&◌, not, List, [], ◌∷◌, ◌++◌, length, refl, sym, ap, ◌∙◌, subst, arith, ◌⊎◌, inl, inr}
+use Rattle.std.proofs.Common.{◌≡◌, ◌≢◌, ℕ, ◌+◌, ◌<◌, ◌≤◌, ◌==◌, Bool, true, false, cond, ◌&&◌, not, List, [], ◌∷◌, ◌++◌, refl, sym, ap, arith, ◌⊎◌, inl, inr}
 use Rattle.std.proofs.Math.Path.{fun_ext}
 use Rattle.std.proofs.lemmas.Bool.{cases_lt}
 use Rattle.vm_base.specs.declared.page.PageRange.{PageRange}
 use Rattle.vm_base.specs.Functions.{put}
-use Rattle.vm_base.proofs.Functions.{by_test, put_all, put_same, put_other, eq_true, eq_false}
+use Rattle.vm_base.proofs.Functions.{by_test, put_all, eq_true, eq_false}
 use Rattle.shootdown.specs.declared.message.Message.{Message}
 use Rattle.shootdown.specs.Messages.{posted}
 use Rattle.shootdown.proofs.Senders.{test_of, test_itself}

@@ -1,16 +1,16 @@
 -- How messages that are sent or taken change who waits for whom
-use Rattle.std.proofs.Common.{◌≡◌, ◌≢◌, ℕ, ◌+◌, ◌<◌, ◌≤◌, ◌==◌, Bool, true, false, cond, ◌||◌, ◌&&◌, not, List, [], ◌∷◌, ◌++◌, length, Option, None, Some, is_some, refl, sym, ap, ◌∙◌, subst, arith, get_or, zero, suc, replicate}
-use Rattle.std.proofs.Math.ListN.{set, length-set}
+use Rattle.std.proofs.Common.{◌≡◌, ◌≢◌, ℕ, ◌<◌, ◌==◌, Bool, true, false, cond, ◌||◌, List, [], ◌∷◌, ◌++◌, length, Option, None, Some, is_some, refl, sym, ap, ◌∙◌, subst, arith, get_or, zero, suc, replicate}
+use Rattle.std.proofs.Math.ListN.{set}
 use Rattle.std.proofs.Math.Path.{fun_ext}
 use Rattle.std.proofs.lemmas.List.{get_or-set_same, get_or-set_other}
 use Rattle.std.proofs.lemmas.Nat.Bits.{bit_at-zero}
 use Rattle.vm_base.specs.declared.page.PageRange.{PageRange}
 use Rattle.vm_base.specs.Functions.{put}
 use Rattle.vm_base.specs.Cores.{members}
-use Rattle.vm_base.proofs.Functions.{by_test, put_all, put_same, put_other, eq_true, eq_false}
+use Rattle.vm_base.proofs.Functions.{put_same, put_other, eq_true, eq_false}
 use Rattle.shootdown.specs.declared.message.Message.{Message}
 use Rattle.shootdown.specs.Messages.{InboxOf, message_of, posted, remaining, waiter, AreFromOthers}
-use Rattle.shootdown.specs.Inboxes.{nobody, inbox, owner, sent, awaited, acknowledged, AreIndexed}
+use Rattle.shootdown.specs.Inboxes.{inbox, owner, sent, awaited, acknowledged, AreIndexed}
 use Rattle.shootdown.proofs.Senders.{message_of-push, test_itself}
 
 -- ---- what is sent

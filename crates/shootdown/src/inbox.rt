@@ -1,4 +1,4 @@
-//! The messages that one core has to act on.
+//! The messages that one core has to act on. Nothing here takes memory or fails.
 ghost use Rattle.std.specs.Prelude.{◌≡◌, ◌≢◌, ◌==◌, ◌∷◌, [], ◌++◌, false, is_some};
 ghost use Rattle.std.specs.List.{list_any};
 ghost use Rattle.shootdown.specs.Messages.{message_of, posted, oldest_of, asked, remaining, AreFromOthers};
@@ -41,10 +41,8 @@ impl Inbox {
         ensures core { result.core ≡ core }
         ensures empty { result.messages ≡ [] }
     {
-        Inbox {
-            core,
-            messages: ArrayVec::new(),
-        }
+        let messages = ArrayVec::new();
+        Inbox { core, messages }
     }
 
     /// The core whose inbox it is.

@@ -1,4 +1,4 @@
-//! The inboxes of all cores, and who waits for whom.
+//! The inboxes of all cores, and who waits for whom. Nothing here takes memory or fails.
 ghost use Rattle.std.specs.Prelude.{◌≡◌, ◌≢◌, ℕ, ◌<◌, ◌≤◌, [], ◌∷◌, ◌++◌, None, Bool, true, false, length, slice_index_or};
 ghost use Rattle.vm_base.specs.Functions.{put};
 ghost use Rattle.vm_base.specs.Cores.{members};
@@ -81,7 +81,8 @@ impl Inboxes {
     pub fn waiting(&self, from: CoreId) -> CoreSet
         ensures { members result ≡ awaited (inbox self.now) from }
     {
-        self.awaited[from.index() as usize]
+        let place = from.index() as usize;
+        self.awaited[place]
     }
 }
 

@@ -1,9 +1,8 @@
-use Rattle.std.proofs.Common.{◌≡◌, ◌≢◌, ◌<◌, ◌⊎◌, inl, inr, ℕ, Bool, true, false, ap, ◌∙◌, arith, length, sym, refl, cond, ◌==◌, ◌++◌, ◌∷◌, [], is_some}
-use Rattle.std.proofs.lemmas.Bool.{cases_lt}
+use Rattle.std.proofs.Common.{◌≡◌, ◌<◌, ℕ, Bool, true, false, ap, ◌∙◌, arith, length, sym, refl, cond, ◌==◌, ◌++◌, ◌∷◌, [], is_some}
 use Rattle.std.proofs.lemmas.Nat.Bits.{bit_at-zero}
 use Rattle.vm_base.specs.Functions.{put}
 use Rattle.vm_base.specs.Cores.{members}
-use Rattle.shootdown.specs.Inboxes.{inbox, owner, sent, awaited}
+use Rattle.shootdown.specs.Inboxes.{inbox, owner}
 use Rattle.shootdown.specs.Messages.{message_of, posted}
 use Rattle.shootdown.proofs.Targets.{done, sent_to, sent_next, not_done, all_done, none_done, passed_next}
 use Rattle.shootdown.proofs.inboxes.deliver.Goals as goal

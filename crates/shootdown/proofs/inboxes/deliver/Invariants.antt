@@ -1,4 +1,4 @@
-use Rattle.std.proofs.Common.{◌≡◌, ◌<◌, ℕ, true, false, ◌&&◌, not}
+use Rattle.std.proofs.Common.{◌≡◌, ◌<◌, ℕ, true, false}
 use Rattle.vm_base.specs.Cores.{members}
 use Rattle.shootdown.specs.Inboxes.{inbox, owner}
 use Rattle.shootdown.proofs.Targets.{sent_to, done}

@@ -1,4 +1,4 @@
-use Rattle.std.proofs.Common.{◌≡◌, ◌≢◌, None, ap, ◌∙◌, arith, rules}
+use Rattle.std.proofs.Common.{ap, ◌∙◌, arith}
 use Rattle.shootdown.specs.Messages.{message_of}
 use Rattle.shootdown.proofs.Senders.{none_from, has_room, others-push}
 use Rattle.shootdown.proofs.inbox.Inbox.post.Goals as goal

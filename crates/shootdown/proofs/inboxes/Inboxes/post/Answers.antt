@@ -1,7 +1,6 @@
-use Rattle.std.proofs.Common.{◌≡◌, ap, ◌∙◌, arith, length, sym}
-use Rattle.std.proofs.Math.ListN.{set}
+use Rattle.std.proofs.Common.{◌≡◌, ap, ◌∙◌, arith, length}
 use Rattle.arrayvec.proofs.ArrayVecLemmas.{items-with_items}
-use Rattle.shootdown.specs.Inboxes.{inbox, owner, sent, awaited, AreIndexed}
+use Rattle.shootdown.specs.Inboxes.{inbox, owner, sent, awaited}
 use Rattle.shootdown.proofs.Waits.{index_sent}
 use Rattle.shootdown.proofs.inboxes.Inboxes.post.Goals as goal
 

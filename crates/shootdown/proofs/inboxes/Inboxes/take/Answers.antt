@@ -1,4 +1,4 @@
-use Rattle.std.proofs.Common.{◌≡◌, ap, ◌∙◌, arith, subst, get_or, length}
+use Rattle.std.proofs.Common.{◌≡◌, ap, ◌∙◌, subst, get_or, length}
 use Rattle.arrayvec.proofs.ArrayVecLemmas.{items-with_items}
 use Rattle.vm_base.specs.Functions.{put}
 use Rattle.vm_base.specs.Cores.{members}

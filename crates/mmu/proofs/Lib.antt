@@ -1,0 +1,4 @@
+pub mod Empty
+pub mod Cached
+pub mod Clearing
+pub mod Valid

@@ -1,0 +1,9 @@
+use Rattle.std.proofs.Common.{arith, ◌∙◌, ap, Some}
+use Rattle.mmu.proofs.Valid.{put_pages, keep_pages, on_ok, on_err}
+use Rattle.mmu.proofs.cpu.CpuHardware.install.Goals as goal
+
+pub returns-clause-ok : goal.returns-clause-ok
+returns-clause-ok g c = on_ok c.install.result (λ there. put_pages 68719476736 _ _ c.args.page _ (omega arith) c.requires.page (there ∙ ap Some c.new-translation.ensures) c.install.ensures.others) c.install.ensures.there
+
+pub returns-clause-err : goal.returns-clause-err
+returns-clause-err g c = on_err c.install.result (λ here. keep_pages 68719476736 _ _ c.args.page (omega arith) here c.install.ensures.others) c.install.ensures.err

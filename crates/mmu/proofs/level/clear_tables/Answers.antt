@@ -1,0 +1,42 @@
+use Rattle.std.proofs.Common.{◌≡◌, ℕ, ◌+◌, ◌*◌, ◌/◌, ◌%◌, ◌<◌, ◌≤◌, ◌&&◌, nat_lt, arith, ap, sym, ◌∙◌, Option, Box, None, cond, length, get_or}
+use Rattle.std.specs.Prelude.{option_and_then}
+use Rattle.std.proofs.lemmas.List.{get_or_default}
+use Rattle.std.specs.Int.{div_ceil}
+use Rattle.vm_base.specs.Functions.{has}
+use Rattle.mmu.proofs.Clearing.{cleared_next, none_before, all_before, within_tables, past_end}
+use Rattle.mmu.proofs.level.clear_tables.Goals as goal
+
+pub tables-init : goal.tables-init
+tables-init g c =
+    let P = g.C.Level.pages in
+    let r = c.args.range in
+    record {
+      full = c.requires.full;
+      entries = λ q. sym (ap (λ b. cond b None (option_and_then (λ b. g.C.Level.entry_at b.value (q % P)) (get_or c.args.tables.now.items (q / P) None)))
+          (ap (λ k. has r q && nat_lt (q / P) (r.first / k)) c.requires.below ∙ none_before r P q g.met.C.Level.some_page));
+    }
+
+pub tables-preserved : goal.tables-preserved
+tables-preserved g c =
+    let P = g.C.Level.pages in
+    let r = c.args.range in
+    let i = c.tables.i in
+    let items = c.tables.tables.items in
+    let at = λ (o : Option (Box g.row.C.Denot g.row.A.Denot)) (k : ℕ). option_and_then (λ b. g.C.Level.entry_at b.value k) o in
+    let full : length items ≡ 512 = omega (arith, c.tables.invariant.full) in
+    let ends : c.div_ceil-end.result ≡ div_ceil r.end P = c.div_ceil-end.ensures ∙ ap (div_ceil r.end) c.requires.below in
+    let near : i < 512 = within_tables r.end P c.div_ceil-end.result i g.met.C.Level.some_page c.requires.covered ends c.tables-test.true in
+    let in' : i < length items = omega arith in
+    record {
+      full = c.tables.invariant.full;
+      entries = cleared_next at None c.args.tables.now.items None P (has r) items i (has c.part.result) c.clear_table.new.table g.met.C.Level.some_page in' c.tables.invariant.entries
+          (λ k h. c.clear_table.ensures k h ∙ ap (λ o. cond (has c.part.result k) None (at o k)) (c.index_mut.ensures.value ∙ get_or_default items i c.index_mut.result.now None in'))
+          (λ k h. c.part.ensures.pages k (rw c.requires.below h) ∙ ap (λ b. has r (i * b + k)) c.requires.below);
+    }
+
+pub returns-clause-entries : goal.returns-clause-entries
+returns-clause-entries g c =
+    let P = g.C.Level.pages in
+    let r = c.args.range in
+    let reached : r.end ≤ c.tables.i * P = past_end r.end P c.div_ceil-end.result c.tables.i g.met.C.Level.some_page (c.div_ceil-end.ensures ∙ ap (div_ceil r.end) c.requires.below) c.tables-test.false in
+    λ q. c.tables.invariant.entries q ∙ ap (λ b. cond b None (option_and_then (λ b. g.C.Level.entry_at b.value (q % P)) (get_or c.args.tables.now.items (q / P) None))) (all_before r P q c.tables.i g.met.C.Level.some_page reached)

@@ -1,0 +1,21 @@
+-- A TLB: the translations that a core holds, the oldest filled first
+use Rattle.std.specs.Prelude.{ℕ, ◌==◌, not, Bool, if◌then◌else◌, length, List, [], ◌∷◌, ◌++◌, Option, None, Some, drop, filter}
+use Rattle.mmu.specs.declared.entry.Translation.{Translation}
+use Rattle.mmu.specs.declared.tlb.TlbEntry.{TlbEntry}
+
+-- the translation of a page, if the TLB has one
+abbrev pub tlb_at : List TlbEntry → ℕ → Option Translation
+tlb_at [] p = None
+tlb_at (e ∷ es) p = if e.page == p then Some e.translation else tlb_at es p
+
+-- without the pages of a set
+abbrev pub tlb_without : (ℕ → Bool) → List TlbEntry → List TlbEntry
+tlb_without s es = filter (λ (e : TlbEntry). not (s e.page)) es
+
+-- the one page
+abbrev pub is_page : ℕ → ℕ → Bool
+is_page p q = q == p
+
+-- with one translation more, the oldest filled making room
+abbrev pub tlb_filled : ℕ → Translation → List TlbEntry → List TlbEntry
+tlb_filled p e es = (if length es == 64 then drop 1 es else es) ++ record { page = p; translation = e } ∷ []

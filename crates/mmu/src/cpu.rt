@@ -1,0 +1,171 @@
+//! What one core translates addresses by: tables of its own, and a TLB.
+ghost use Rattle.std.specs.Prelude.{◌≡◌, ◌&&◌, ℕ, [], None, Some, true, is_some, not, IfOk, OnOk, OnErr, List, Option, if◌then◌else◌};
+ghost use Rattle.vm_base.specs.Functions.{put, over, has};
+ghost use Rattle.vm_base.specs.Pages.{is_page as is_valid, are_pages};
+ghost use Rattle.mmu.specs.declared.entry.Translation.{Translation};
+ghost use Rattle.mmu.specs.declared.tlb.TlbEntry.{TlbEntry};
+ghost use Rattle.mmu.specs.Entry.{has_right, translation_of};
+ghost use Rattle.mmu.specs.Tlb.{tlb_at, tlb_without, is_page};
+ghost use Rattle.mmu.specs.Tables.{on_pages, translated, tlb_after, tlb_walked, word_of};
+
+use crate::entry::Translation;
+use crate::level::{Inner, Leaf, Level};
+use crate::tlb::{self, PLACES, TlbEntry};
+use crate::translated::Translated;
+use arrayvec::ArrayVec;
+use std::alloc::Allocator;
+use vm_base::{Access, NoMemory, PageRange, Prot};
+
+/// Page numbers that four levels of 512 entries tell apart.
+const PAGES: u64 = 512 * 512 * 512 * 512;
+
+/// The tables of the four levels, from the root.
+type Root<A> = Inner<Inner<Inner<Leaf<A>, A>, A>, A>;
+
+/// One core's tables and TLB.
+pub trait Hardware: Drop {
+    /// The tables: the translation of each page that has an entry.
+    ghost table: { Self → ℕ → Option Translation };
+
+    /// The TLB, the oldest filled first.
+    ghost tlb: { Self → List TlbEntry };
+
+    /// Translates an access to a page. A translation in the TLB decides alone; without one the tables decide. A fill
+    /// enters the TLB, where the oldest filled may have to go; a fault drops the page's translation from it (Intel SDM
+    /// volume 3A, caching translation information). The tables stay.
+    fn translate(&mut self, page: u64, access: Access) -> Translated
+        requires { is_valid page ≡ true }
+        ensures value { result ≡ translated (tlb_at (tlb self.old) page) (table self.old page) access }
+        ensures table { table self.new ≡ table self.old }
+        ensures tlb { tlb self.new ≡ tlb_after result page (table self.old page) (tlb self.old) };
+
+    /// Sets the table entry of a page whose protection gives some right. Where memory is refused no entry changes. The
+    /// TLB stays in both cases.
+    fn install(&mut self, page: u64, frame: u32, prot: Prot) -> Result<(), NoMemory>
+        requires page { is_valid page ≡ true }
+        requires some_right { has_right prot ≡ true }
+        ensures ok { OnOk result (table self.new ≡ put (table self.old) page (Some (translation_of frame prot))) }
+        ensures err { OnErr result (table self.new ≡ table self.old) }
+        ensures tlb { tlb self.new ≡ tlb self.old };
+
+    /// Fills the TLB from the tables without an access, where the tables have the page and the TLB hasn't; tells
+    /// whether it did. The tables stay.
+    fn walk(&mut self, page: u64) -> bool
+        requires { is_valid page ≡ true }
+        ensures value { result ≡ not (is_some (tlb_at (tlb self.old) page)) && is_some (table self.old page) }
+        ensures table { table self.new ≡ table self.old }
+        ensures tlb { tlb self.new ≡ tlb_walked (tlb_at (tlb self.old) page) (table self.old page) page (tlb self.old) };
+
+    /// Drops the page's translation from the TLB; tells whether it had one. The tables stay.
+    fn evict(&mut self, page: u64) -> bool
+        ensures value { result ≡ is_some (tlb_at (tlb self.old) page) }
+        ensures table { table self.new ≡ table self.old }
+        ensures tlb { tlb self.new ≡ (if result then tlb_without (is_page page) (tlb self.old) else tlb self.old) };
+
+    /// Drops the table entries of the pages of the range, in the time of the tables that are there. The TLB stays.
+    fn clear_tables(&mut self, range: PageRange)
+        requires { are_pages range ≡ true }
+        ensures table { table self.new ≡ over (table self.old) (has range) None }
+        ensures tlb { tlb self.new ≡ tlb self.old };
+
+    /// Drops the translations of the pages of the range from the TLB (Intel SDM volume 3A, invalidation of TLBs). The
+    /// tables stay.
+    fn invalidate(&mut self, range: PageRange)
+        ensures table { table self.new ≡ table self.old }
+        ensures tlb { tlb self.new ≡ tlb_without (has range) (tlb self.old) };
+
+    /// The 64 bits of the page's last-level entry, if it is present.
+    fn entry(&self, page: u64) -> Option<u64>
+        requires { is_valid page ≡ true }
+        ensures { result ≡ word_of (table self.now page) };
+}
+
+/// A core's tables and TLB.
+#[derive(Drop)]
+pub struct Cpu<A: Allocator + Clone> {
+    root: Root<A>,
+    tlb: ArrayVec<TlbEntry, PLACES>,
+    alloc: A,
+}
+
+impl<A: Allocator + Clone> Cpu<A> {
+    /// A core whose tables and TLB are empty. Only the root table is made; without memory for it there is no core.
+    pub fn new(alloc: A) -> Result<Self, NoMemory>
+        ensures table { IfOk result (λ c. (p : ℕ) → ⟦<Self as Hardware>⟧.table c p ≡ None) }
+        ensures tlb { IfOk result (λ c. ⟦<Self as Hardware>⟧.tlb c ≡ []) }
+    {
+        let Ok(of_root) = alloc.clone() else {
+            return Err(NoMemory);
+        };
+        match Root::make(of_root) {
+            Err(_) => Err(NoMemory),
+            Ok(root) => Ok(Cpu {
+                root,
+                tlb: ArrayVec::new(),
+                alloc,
+            }),
+        }
+    }
+}
+
+impl<A: Allocator + Clone> Hardware for Cpu<A> {
+    ghost table = { λ c. on_pages (⟦<Root<A> as Level<A>>⟧.entry_at c.root) };
+
+    ghost tlb = { λ c. c.tlb.items };
+
+    fn translate(&mut self, page: u64, access: Access) -> Translated {
+        if let Some(cached) = tlb::find(&self.tlb, page) {
+            if cached.permits(access) {
+                return Translated::Hit(cached.frame);
+            }
+        } else if let Some(entry) = self.root.entry(PAGES, page) {
+            if entry.permits(access) {
+                tlb::fill(&mut self.tlb, page, entry);
+                return Translated::Fill(entry.frame);
+            }
+        }
+        tlb::drop_page(&mut self.tlb, page);
+        Translated::Fault
+    }
+
+    fn install(&mut self, page: u64, frame: u32, prot: Prot) -> Result<(), NoMemory> {
+        let translation = Translation::new(frame, prot);
+        self.root.install(&self.alloc, PAGES, page, translation)
+    }
+
+    fn walk(&mut self, page: u64) -> bool {
+        if tlb::find(&self.tlb, page) != None {
+            return false;
+        }
+        let Some(entry) = self.root.entry(PAGES, page) else {
+            return false;
+        };
+        tlb::fill(&mut self.tlb, page, entry);
+        true
+    }
+
+    fn evict(&mut self, page: u64) -> bool {
+        match tlb::find(&self.tlb, page) {
+            None => false,
+            Some(_) => {
+                tlb::drop_page(&mut self.tlb, page);
+                true
+            }
+        }
+    }
+
+    fn clear_tables(&mut self, range: PageRange) {
+        self.root.clear(PAGES, range);
+    }
+
+    fn invalidate(&mut self, range: PageRange) {
+        tlb::invalidate(&mut self.tlb, range);
+    }
+
+    fn entry(&self, page: u64) -> Option<u64> {
+        match self.root.entry(PAGES, page) {
+            None => None,
+            Some(entry) => Some(entry.word()),
+        }
+    }
+}

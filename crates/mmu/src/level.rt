@@ -1,0 +1,240 @@
+//! Page tables of one level and those below: a finite map from the pages that they cover to translations.
+ghost use Rattle.std.specs.Prelude.{◌≡◌, ◌≢◌, ℕ, ◌+◌, ◌^◌, length, ◌*◌, ◌/◌, ◌%◌, ◌<◌, ◌≤◌, Option, None, Some, IfOk, OnOk, OnErr, vec_len, slice_index, slice_index_or, option_and_then};
+ghost use Rattle.vm_base.specs.Functions.{put, over, has};
+ghost use Rattle.mmu.specs.Entry.{decode};
+ghost use Rattle.mmu.specs.declared.entry.Translation.{Translation};
+ghost use Rattle.std.proofs.Common.{lit<, arith};
+
+use crate::entry::{Translation, decode};
+use std::alloc::Allocator;
+use vm_base::{NoMemory, PageRange};
+
+/// Entries of a table.
+pub const ENTRIES: u64 = 512;
+
+/// A table and all below it. The pages that it covers have numbers from 0 on.
+pub trait Level<A: Allocator>: Drop {
+    ghost pages: { ℕ };
+
+    ghost entry_at: { Self → ℕ → Option Translation };
+
+    /// The entry of a page, in a table that covers `width` pages.
+    fn entry(&self, width: u64, page: u64) -> Option<Translation>
+        requires width { width ≡ pages }
+        requires page { page < pages }
+        ensures { result ≡ entry_at self.now page };
+
+    /// Drops the entries of the pages of the range. Only tables that are there are looked at.
+    fn clear(&mut self, width: u64, range: PageRange)
+        requires width { width ≡ pages }
+        requires covered { range.end ≤ pages }
+        ensures { (q : ℕ) → q < pages → entry_at self.new q ≡ over (entry_at self.old) (has range) None q };
+
+    /// A table without entries.
+    fn make(alloc: A) -> Result<Self, NoMemory>
+    where
+        Self: Sized,
+        ensures { IfOk result (λ t. (page : ℕ) → entry_at t page ≡ None) };
+
+    /// Sets the entry of a page. Where memory is refused no entry changes.
+    fn install(
+        &mut self,
+        alloc: &A,
+        width: u64,
+        page: u64,
+        translation: Translation,
+    ) -> Result<(), NoMemory>
+        requires width { width ≡ pages }
+        requires page { page < pages }
+        ensures there { OnOk result (entry_at self.new page ≡ Some translation) }
+        ensures err { OnErr result (entry_at self.new page ≡ entry_at self.old page) }
+        ensures others { (q : ℕ) → q < pages → q ≢ page → entry_at self.new q ≡ entry_at self.old q };
+
+    ghost some_page: { 0 < pages };
+}
+
+/// A table of the last level: 512 entries of 64 bits, 0 where a page has none.
+#[derive(Drop)]
+pub struct Leaf<A: Allocator> {
+    entries: Vec<u64, A>,
+    ghost full: { vec_len entries ≡ 512 },
+}
+
+impl<A: Allocator + Clone> Level<A> for Leaf<A> {
+    ghost pages = { 512 };
+
+    ghost entry_at = { λ t page. decode (slice_index t.entries.items page) };
+
+    ghost some_page = { lit< tt };
+
+    fn entry(&self, _width: u64, page: u64) -> Option<Translation> {
+        decode(self.entries[page as usize])
+    }
+
+    fn clear(&mut self, _width: u64, range: PageRange) {
+        erase(&mut self.entries, range);
+    }
+
+    fn make(alloc: A) -> Result<Self, NoMemory> {
+        match Vec::from_elem(alloc, 0u64, 512) {
+            Ok(entries) => Ok(Leaf { entries }),
+            Err(_) => Err(NoMemory),
+        }
+    }
+
+    fn install(
+        &mut self,
+        _alloc: &A,
+        _width: u64,
+        page: u64,
+        translation: Translation,
+    ) -> Result<(), NoMemory> {
+        self.entries[page as usize] = translation.word();
+        Ok(())
+    }
+}
+
+/// Makes the words of the range 0.
+fn erase<A: Allocator>(words: &mut Vec<u64, A>, range: PageRange)
+    requires { range.end ≤ vec_len words.old }
+    ensures len { vec_len words.new ≡ vec_len words.old }
+    ensures words { (q : ℕ) → slice_index words.new.items q ≡ over (λ p. slice_index words.old.items p) (has range) 0 q }
+{
+    'pages: for page in range.first..range.end {
+        words[page as usize] = 0;
+    }
+}
+
+/// A table of a higher level: 512 tables below, each made when it is needed.
+#[derive(Drop)]
+pub struct Inner<C: Drop, A: Allocator> {
+    tables: Vec<Option<Box<C, A>>, A>,
+    ghost full: { vec_len tables ≡ 512 },
+}
+
+impl<C: Level<A>, A: Allocator + Clone> Level<A> for Inner<C, A> {
+    ghost pages = { 512 * C.pages };
+
+    ghost entry_at = { λ t page. option_and_then (λ b. C.entry_at b.value (page % C.pages)) (slice_index_or t.tables.items (page / C.pages) None) };
+
+    ghost some_page = { Prim.omega (arith, C.some_page) };
+
+    fn entry(&self, width: u64, page: u64) -> Option<Translation> {
+        let below = width / ENTRIES;
+        match &self.tables[(page / below) as usize] {
+            None => None,
+            Some(table) => table.entry(below, page % below),
+        }
+    }
+
+    fn clear(&mut self, width: u64, range: PageRange) {
+        clear_tables(&mut self.tables, width / ENTRIES, range);
+    }
+
+    fn make(alloc: A) -> Result<Self, NoMemory> {
+        let mut tables = match Vec::with_capacity(alloc, 512) {
+            Ok(tables) => tables,
+            Err(_) => return Err(NoMemory),
+        };
+        'places: for _ in 0usize..512 {
+            tables.push_reserved(None);
+        }
+        Ok(Inner { tables })
+    }
+
+    fn install(
+        &mut self,
+        alloc: &A,
+        width: u64,
+        page: u64,
+        translation: Translation,
+    ) -> Result<(), NoMemory> {
+        let below = width / ENTRIES;
+        let i = (page / below) as usize;
+        match &mut self.tables[i] {
+            Some(table) => table.install(alloc, below, page % below, translation),
+            None => {
+                let table = made::<C, A>(alloc, below, page % below, translation)?;
+                self.tables[i] = Some(table);
+                Ok(())
+            }
+        }
+    }
+}
+
+/// A table with one entry.
+fn made<C: Level<A>, A: Allocator + Clone>(
+    alloc: &A,
+    width: u64,
+    page: u64,
+    translation: Translation,
+) -> Result<Box<C, A>, NoMemory>
+    requires width { width ≡ C.pages }
+    requires page { page < C.pages }
+    ensures there { IfOk result (λ b. C.entry_at b.value page ≡ Some translation) }
+    ensures others { IfOk result (λ b. (q : ℕ) → q < C.pages → q ≢ page → C.entry_at b.value q ≡ None) }
+{
+    let Ok(one) = alloc.clone() else {
+        return Err(NoMemory);
+    };
+    let Ok(two) = alloc.clone() else {
+        return Err(NoMemory);
+    };
+    let mut table = C::make(one)?;
+    table.install(alloc, width, page, translation)?;
+    match Box::new(two, table) {
+        Ok(table) => Ok(table),
+        Err(_) => Err(NoMemory),
+    }
+}
+
+/// Drops the entries of the pages of the range, from tables that cover `below` pages each.
+fn clear_tables<C: Level<A>, A: Allocator>(
+    tables: &mut Vec<Option<Box<C, A>>, A>,
+    below: u64,
+    range: PageRange,
+)
+    requires below { below ≡ C.pages }
+    requires full { vec_len tables.old ≡ 512 }
+    requires covered { range.end ≤ 512 * C.pages }
+    ensures full { vec_len tables.new ≡ 512 }
+    ensures entries { (q : ℕ) → option_and_then (λ b. C.entry_at b.value (q % C.pages)) (slice_index_or tables.new.items (q / C.pages) None)
+        ≡ over (λ p. option_and_then (λ b. C.entry_at b.value (p % C.pages)) (slice_index_or tables.old.items (p / C.pages) None)) (has range) None q }
+{
+    let end = range.end.div_ceil(below);
+    'tables: for i in range.first / below..end {
+        clear_table(
+            &mut tables[i as usize],
+            below,
+            part(range, i * below, below),
+        );
+    }
+}
+
+/// Drops the entries of the pages of the range, where the table is there.
+fn clear_table<C: Level<A>, A: Allocator>(
+    table: &mut Option<Box<C, A>>,
+    width: u64,
+    range: PageRange,
+)
+    requires width { width ≡ C.pages }
+    requires covered { range.end ≤ C.pages }
+    ensures { (r : ℕ) → r < C.pages
+        → option_and_then (λ b. C.entry_at b.value r) table.new
+        ≡ over (λ q. option_and_then (λ b. C.entry_at b.value q) table.old) (has range) None r }
+{
+    if let Some(table) = table {
+        table.clear(width, range);
+    }
+}
+
+/// The part of the range that lies in the `count` pages from `first` on, with numbers from there on.
+fn part(range: PageRange, first: u64, count: u64) -> PageRange
+    ensures covered { result.end ≤ count }
+    ensures pages { (r : ℕ) → r < count → has result r ≡ has range (first + r) }
+{
+    PageRange {
+        first: range.first.saturating_sub(first),
+        end: range.end.saturating_sub(first).min(count),
+    }
+}

@@ -1,0 +1,15 @@
+//! A core's page tables and TLB: four-level paging of 4 KiB pages (Intel SDM volume 3A, 4-level paging).
+#![tactic(auto)]
+
+pub mod cpu;
+pub mod entry;
+pub mod level;
+#[cfg(test)]
+mod tests;
+pub mod tlb;
+pub mod translated;
+
+pub use cpu::{Cpu, Hardware};
+pub use entry::{Translation, indices};
+pub use tlb::TlbEntry;
+pub use translated::Translated;
