@@ -1,11 +1,10 @@
 -- Runs that have another owner, another frame, or a change of their range
-use Rattle.std.proofs.Common.{◌≡◌, ◌≢◌, ℕ, ◌+◌, ◌-◌, ◌^◌, ◌<◌, ◌≤◌, ◌==◌, ◌⊎◌, ◌||◌, ⊎_elim, Bool, true, false, cond, List, length, set, Option, Some, None, is_some, refl, sym, ◌∙◌, ap, subst, arith}
+use Rattle.std.proofs.Common.{◌≡◌, ℕ, ◌+◌, ◌-◌, ◌^◌, ◌<◌, ◌≤◌, ◌==◌, ◌||◌, ⊎_elim, Bool, true, false, cond, List, length, set, Option, Some, None, is_some, refl, sym, ◌∙◌, ap, arith}
 use Rattle.std.proofs.lemmas.Bool.{cases_lt}
 use Rattle.vm_base.specs.declared.info.PageInfo.{PageInfo}
 use Rattle.vm_base.specs.declared.info.Meta.{Meta}
 use Rattle.vm_base.specs.declared.info.Back.{Back}
 use Rattle.vm_base.specs.declared.info.Back.TheVariants.{Anon, Shared, Private}
-use Rattle.vm_base.specs.declared.page.PageRange.{PageRange}
 use Rattle.vm_base.specs.declared.rights.Prot.{Prot}
 use Rattle.vm_base.specs.Functions.{has}
 use Rattle.vm_base.specs.Pages.{IsPageRange}
@@ -14,8 +13,8 @@ use Rattle.vm_base.proofs.Functions.{has_in}
 use Rattle.slot_lock.specs.declared.plan.Change.{Change}
 use Rattle.slot_lock.specs.declared.plan.Change.TheVariants.{Put, Clear, Protect}
 use Rattle.slot_lock.specs.declared.run.Run.{Run}
-use Rattle.slot_lock.specs.Plan.{IsSoundChange, IsSoundPut, range_of}
-use Rattle.slot_lock.specs.Runs.{IsRuns, IsAt, IsInner, get_run, run_at, nobody, owned_run, informed_run, changed_info, changed_run}
+use Rattle.slot_lock.specs.Plan.{IsSoundChange, range_of}
+use Rattle.slot_lock.specs.Runs.{IsRuns, IsAt, IsInner, get_run, run_at, owned_run, informed_run, changed_run}
 use Rattle.slot_lock.specs.Places.{starts_rise_to, start_most, run_at_is}
 use Rattle.slot_lock.specs.Slots.{IsCut, HasMeta, between, with_owner, with_info}
 use Rattle.slot_lock.specs.RunSlots.{slots_of, changed}

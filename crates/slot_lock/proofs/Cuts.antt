@@ -1,5 +1,5 @@
 -- A run cut in two
-use Rattle.std.proofs.Common.{◌≡◌, ◌≢◌, ℕ, suc, zero, ◌+◌, ◌-◌, ◌^◌, ◌<◌, ◌≤◌, ◌==◌, ◌⊎◌, inl, inr, ⊎_elim, Bool, true, false, List, length, Option, Some, None, is_some, refl, sym, ◌∙◌, ap, arith}
+use Rattle.std.proofs.Common.{◌≡◌, ◌≢◌, ℕ, ◌+◌, ◌-◌, ◌^◌, ◌<◌, ◌≤◌, ⊎_elim, true, List, length, Option, Some, None, is_some, refl, sym, ◌∙◌, ap, arith}
 use Rattle.std.specs.List.{insert}
 use Rattle.std.proofs.lemmas.Bool.{cases_lt}
 use Rattle.std.proofs.lemmas.List.Edits.{length-insert, get_or-insert_below, get_or-insert_at, get_or-insert_above}
@@ -8,8 +8,8 @@ use Rattle.vm_base.specs.declared.info.Back.{Back}
 use Rattle.vm_base.specs.declared.info.Back.TheVariants.{Anon, Shared, Private}
 use Rattle.vm_base.specs.Info.{advance_back, file_page, info_from, info_file_page, is_leaf}
 use Rattle.slot_lock.specs.declared.run.Run.{Run}
-use Rattle.slot_lock.specs.Runs.{IsRuns, IsAt, IsInside, get_run, run_at, nobody, tail_from}
-use Rattle.slot_lock.specs.Places.{Found, found, run_at_is, starts_rise_to}
+use Rattle.slot_lock.specs.Runs.{IsRuns, IsInside, get_run, run_at, nobody, tail_from}
+use Rattle.slot_lock.specs.Places.{Found, found, run_at_is}
 use Rattle.slot_lock.specs.Slots.{Divides}
 use Rattle.slot_lock.specs.RunSlots.{slots_of}
 use Rattle.slot_lock.specs.RunLaws.{info_from_twice, is_leaf-info_from, same_test, other_test, from_test}

@@ -1,5 +1,5 @@
 -- Divisions add slots, of which there are no more than pages
-use Rattle.std.proofs.Common.{◌≡◌, ℕ, zero, suc, ◌+◌, ◌<◌, ◌≤◌, ◌⊎◌, ⊎_elim, if◌then◌else◌, Bool, true, false, Option, refl, ◌∙◌, ap, arith}
+use Rattle.std.proofs.Common.{◌≡◌, ℕ, zero, suc, ◌<◌, ◌≤◌, ⊎_elim, if◌then◌else◌, Bool, true, false, Option, refl, ◌∙◌, ap, arith}
 use Rattle.std.proofs.lemmas.Bool.{cases_lt}
 use Rattle.slot_lock.specs.Slots.{Slots, Divides}
 use Rattle.slot_lock.specs.Edges.{edges_below}

@@ -1,6 +1,5 @@
 -- The first run with a frame
-use Rattle.std.proofs.Common.{◌≡◌, ℕ, ◌+◌, ◌-◌, ◌^◌, ◌<◌, ◌≤◌, List, length, Option, Some, None, refl, sym, ◌∙◌, ap, arith}
-use Rattle.vm_base.specs.declared.info.PageInfo.{PageInfo}
+use Rattle.std.proofs.Common.{◌≡◌, ℕ, ◌^◌, ◌≤◌, List, Some, None, sym, ◌∙◌, ap, arith}
 use Rattle.vm_base.specs.Info.{frame_of, info_without_frame}
 use Rattle.slot_lock.specs.declared.run.Run.{Run}
 use Rattle.slot_lock.specs.declared.walk.Framed.{Framed}

@@ -1,5 +1,5 @@
 -- Two runs joined
-use Rattle.std.proofs.Common.{◌≡◌, ◌≢◌, ℕ, suc, zero, ◌+◌, ◌-◌, ◌^◌, ◌<◌, ◌≤◌, ◌==◌, ◌⊎◌, inl, inr, ⊎_elim, Bool, true, false, List, length, Option, Some, None, is_some, refl, sym, ◌∙◌, ap, arith}
+use Rattle.std.proofs.Common.{◌≡◌, ◌≢◌, ℕ, ◌+◌, ◌-◌, ◌^◌, ◌<◌, ◌≤◌, ◌⊎◌, inl, inr, ⊎_elim, Bool, true, false, List, length, Option, is_some, refl, sym, ◌∙◌, ap, arith}
 use Rattle.std.specs.List.{remove}
 use Rattle.std.proofs.lemmas.Bool.{cases_lt, cases_eq}
 use Rattle.std.proofs.lemmas.List.{ext_get_or}
@@ -9,7 +9,7 @@ use Rattle.vm_base.specs.Functions.{put}
 use Rattle.vm_base.specs.Info.{info_from, info_file_page, is_leaf}
 use Rattle.vm_base.proofs.Functions.{put_same, put_other}
 use Rattle.slot_lock.specs.declared.run.Run.{Run}
-use Rattle.slot_lock.specs.Runs.{IsRuns, IsAt, IsInside, IsJoint, AreOne, get_run, run_at, nobody, tail_from}
+use Rattle.slot_lock.specs.Runs.{IsRuns, IsAt, IsInside, IsJoint, get_run, nobody, tail_from}
 use Rattle.slot_lock.specs.Places.{run_at_is, before_last, start_most}
 use Rattle.slot_lock.specs.Slots.{Slots, Divides, Joins, CanJoin, Folds, without_edge}
 use Rattle.slot_lock.specs.RunSlots.{slots_of}

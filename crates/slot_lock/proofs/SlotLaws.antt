@@ -1,9 +1,8 @@
 -- What follows from the laws of a slot map
-use Rattle.std.proofs.Common.{◌≡◌, ℕ, zero, suc, ◌+◌, ◌-◌, ◌^◌, ◌<◌, ◌≤◌, Option, Some, None, add-zero, refl, sym, ◌∙◌, ap, arith}
-use Rattle.vm_base.specs.declared.info.PageInfo.{PageInfo}
+use Rattle.std.proofs.Common.{◌≡◌, ℕ, zero, suc, ◌+◌, ◌-◌, ◌^◌, ◌<◌, ◌≤◌, Some, None, add-zero, refl, ◌∙◌, ap, arith}
 use Rattle.vm_base.specs.declared.page.PageRange.{PageRange}
-use Rattle.vm_base.specs.Pages.{IsPage, IsPageRange}
-use Rattle.vm_base.specs.Info.{frame_of, info_from}
+use Rattle.vm_base.specs.Pages.{IsPageRange}
+use Rattle.vm_base.specs.Info.{frame_of}
 use Rattle.slot_lock.specs.Slots.{Slots, IsSlot, IsSlotMap, IsHeld, NoFrames}
 use Rattle.slot_lock.proofs.Walks.{frame_of-from}
 

@@ -1,5 +1,5 @@
 -- What a walk over the runs of a range has seen
-use Rattle.std.proofs.Common.{◌≡◌, ◌≢◌, ℕ, ◌+◌, ◌-◌, ◌^◌, ◌<◌, ◌≤◌, ◌⊎◌, ◌↔◌, ◌||◌, ⊎_elim, inl, inr, Bool, true, false, List, length, get_or, Option, Some, None, is_some, refl, sym, ◌∙◌, ap, max, min, arith}
+use Rattle.std.proofs.Common.{◌≡◌, ℕ, ◌+◌, ◌-◌, ◌^◌, ◌<◌, ◌≤◌, ◌⊎◌, ◌↔◌, ◌||◌, ⊎_elim, inl, inr, Bool, true, false, List, length, get_or, Option, Some, None, is_some, refl, sym, ◌∙◌, ap, max, min, arith}
 use Rattle.std.proofs.lemmas.Bool.{cases_lt}
 use Rattle.std.proofs.lemmas.List.{get_or_default}
 use Rattle.vm_base.specs.declared.info.PageInfo.{PageInfo}
@@ -9,7 +9,7 @@ use Rattle.vm_base.specs.Cores.{members}
 use Rattle.vm_base.specs.Info.{info_from, frame_of, is_recorded}
 use Rattle.vm_base.proofs.Functions.{has_in, in_has}
 use Rattle.slot_lock.specs.declared.run.Run.{Run}
-use Rattle.slot_lock.specs.Runs.{IsRuns, IsAt, get_run, run_at, nobody}
+use Rattle.slot_lock.specs.Runs.{IsRuns, IsAt, get_run, nobody}
 use Rattle.slot_lock.specs.Places.{run_at_is}
 use Rattle.slot_lock.specs.Slots.{Slots, IsUser, AllMapped, IsFreeRun, NoFrames}
 use Rattle.slot_lock.specs.RunSlots.{slots_of}

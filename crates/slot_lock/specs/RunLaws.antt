@@ -1,16 +1,15 @@
 -- What holds of each list of runs
-use Rattle.std.proofs.Common.{◌≡◌, ◌≢◌, ℕ, suc, zero, ◌+◌, ◌-◌, ◌^◌, ◌<◌, ◌≤◌, ◌==◌, ◌||◌, not, ◌⊎◌, inl, inr, ⊎_elim, Bool, true, false, List, length, Option, Some, None, is_some, add-zero, refl, sym, ◌∙◌, ap, subst, arith}
+use Rattle.std.proofs.Common.{◌≡◌, ◌≢◌, ℕ, ◌+◌, ◌-◌, ◌^◌, ◌<◌, ◌≤◌, ◌==◌, ◌⊎◌, inl, inr, ⊎_elim, true, false, List, length, Option, Some, None, is_some, refl, sym, ◌∙◌, ap, arith}
 use Rattle.std.proofs.lemmas.Bool.{cases_lt}
 use Rattle.std.proofs.lemmas.Bool.Decides.{nat_tests}
 use Rattle.vm_base.specs.declared.info.PageInfo.{PageInfo}
-use Rattle.vm_base.specs.declared.info.Meta.{Meta}
 use Rattle.vm_base.specs.declared.info.Back.{Back}
 use Rattle.vm_base.specs.declared.info.Back.TheVariants.{Anon, Shared, Private}
 use Rattle.vm_base.specs.Pages.{IsPage}
-use Rattle.vm_base.specs.Info.{advance, advance_back, info_from, is_leaf}
+use Rattle.vm_base.specs.Info.{advance_back, info_from, is_leaf}
 use Rattle.slot_lock.specs.declared.run.Run.{Run}
-use Rattle.slot_lock.specs.Runs.{IsRuns, IsAt, get_run, run_at}
-use Rattle.slot_lock.specs.Places.{Found, found, run_at_is, starts_rise_to}
+use Rattle.slot_lock.specs.Runs.{IsRuns, get_run, run_at}
+use Rattle.slot_lock.specs.Places.{Found, found, run_at_is}
 use Rattle.slot_lock.specs.Slots.{IsSlotMap, IsSlot}
 use Rattle.slot_lock.specs.RunSlots.{slots_of}
 

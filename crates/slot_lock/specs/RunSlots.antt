@@ -1,5 +1,5 @@
 -- What a list of runs says of each page
-use Rattle.std.specs.Prelude.{◌≡◌, ℕ, ◌-◌, ◌==◌, List, None}
+use Rattle.std.specs.Prelude.{◌-◌, ◌==◌, List}
 use Rattle.vm_base.specs.Info.{info_from}
 use Rattle.slot_lock.specs.declared.plan.Change.{Change}
 use Rattle.slot_lock.specs.declared.plan.Change.TheVariants.{Put, Clear, Protect}

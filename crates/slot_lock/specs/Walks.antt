@@ -1,5 +1,5 @@
 -- What a walk over the runs of a range has seen
-use Rattle.std.specs.Prelude.{◌≡◌, ℕ, ◌+◌, ◌<◌, ◌≤◌, List, length, Some}
+use Rattle.std.specs.Prelude.{◌≡◌, ℕ, ◌<◌, ◌≤◌, List, length, Some}
 use Rattle.slot_lock.specs.declared.run.Run.{Run}
 use Rattle.slot_lock.specs.declared.walk.Framed.{Framed}
 use Rattle.slot_lock.specs.Runs.{get_run}

@@ -1,5 +1,4 @@
-use Rattle.std.proofs.Common.{◌≡◌, ◌+◌, ◌-◌, ◌≤◌, ◌<◌, ◌∙◌, arith}
-use Rattle.vm_base.specs.Info.{info_file_page}
+use Rattle.std.proofs.Common.{◌≡◌, ◌+◌, arith}
 use Rattle.slot_lock.specs.Runs.{get_run}
 use Rattle.slot_lock.specs.Places.{start_most, read_run}
 use Rattle.slot_lock.proofs.Cuts.{cut_runs-IsRuns, cut_runs-Divides}

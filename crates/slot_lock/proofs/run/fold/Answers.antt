@@ -1,7 +1,7 @@
-use Rattle.std.proofs.Common.{◌≡◌, Bool, true, false, ◌+◌, ◌<◌, ◌^◌, arith}
+use Rattle.std.proofs.Common.{◌≡◌, Bool, true, false, ◌+◌}
 use Rattle.slot_lock.specs.Runs.{get_run, IsJoint}
 use Rattle.slot_lock.specs.Places.{after_first}
-use Rattle.slot_lock.proofs.Joins.{CanGo, joined-IsRuns, slots_of-joined, joint-CanJoin, CanJoin-joint}
+use Rattle.slot_lock.proofs.Joins.{joined-IsRuns, slots_of-joined, joint-CanJoin, CanJoin-joint}
 use Rattle.slot_lock.proofs.run.fold.Goals as goal
 
 pub returns-clause-runs : goal.returns-clause-runs

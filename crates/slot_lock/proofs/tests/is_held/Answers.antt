@@ -1,4 +1,4 @@
-use Rattle.std.proofs.Common.{◌≡◌, Some, sym, ◌∙◌, ap}
+use Rattle.std.proofs.Common.{Some, sym, ◌∙◌, ap}
 use Rattle.slot_lock.specs.RunLaws.{slots_of-is_slot_map, from_test}
 use Rattle.slot_lock.proofs.SlotLaws.{slot-IsHeld}
 use Rattle.slot_lock.proofs.tests.is_held.Goals as goal

@@ -1,5 +1,4 @@
-use Rattle.std.proofs.Common.{◌≡◌, ◌+◌, ◌<◌, ◌≤◌, ◌∙◌, true, false, is_some, length, ap, sym, arith}
-use Rattle.slot_lock.specs.declared.run.Run.{Run}
+use Rattle.std.proofs.Common.{◌≡◌, ◌∙◌, true, false, is_some}
 use Rattle.slot_lock.specs.Runs.{get_run, nobody}
 use Rattle.std.proofs.lemmas.List.{get_or_default}
 use Rattle.slot_lock.proofs.Walks.{IsMapped, walk_more, seen_next, some_unmapped, is_some-from}

@@ -1,6 +1,5 @@
-use Rattle.std.proofs.Common.{◌≡◌, ◌+◌, ◌<◌, ◌≤◌, ◌∙◌, None, length, ap, sym, arith}
+use Rattle.std.proofs.Common.{◌≡◌, ◌∙◌, None, ap}
 use Rattle.vm_base.specs.Info.{frame_of}
-use Rattle.slot_lock.specs.declared.run.Run.{Run}
 use Rattle.slot_lock.specs.Runs.{get_run, nobody}
 use Rattle.std.proofs.lemmas.List.{get_or_default}
 use Rattle.slot_lock.proofs.Walks.{HasNoFrame, read_info, walk_more, seen_next, frame_of-from}

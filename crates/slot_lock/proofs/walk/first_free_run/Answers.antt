@@ -1,8 +1,7 @@
-use Rattle.std.proofs.Common.{◌≡◌, ◌+◌, ◌-◌, ◌<◌, ◌≤◌, ◌∙◌, true, false, is_some, min, length, ap, sym, arith}
-use Rattle.slot_lock.specs.declared.run.Run.{Run}
+use Rattle.std.proofs.Common.{◌≡◌, ◌+◌, ◌-◌, ◌<◌, ◌≤◌, false, is_some, min, sym}
 use Rattle.slot_lock.specs.Runs.{get_run, nobody}
 use Rattle.std.proofs.lemmas.List.{get_or_default}
-use Rattle.slot_lock.proofs.Walks.{Free, walk_more, free_mapped, free_next, free_found, free_none, start_by}
+use Rattle.slot_lock.proofs.Walks.{Free, walk_more, free_mapped, free_next, free_found, free_none}
 use Rattle.slot_lock.proofs.walk.first_free_run.Goals.{then-is_some, else-is_some+else-n-min}
 use Rattle.slot_lock.proofs.walk.first_free_run.Goals as goal
 

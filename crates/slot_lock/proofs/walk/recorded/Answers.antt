@@ -1,8 +1,8 @@
-use Rattle.std.proofs.Common.{◌≡◌, ◌+◌, ◌<◌, ◌≤◌, ◌∙◌, ◌||◌, true, false, length, ap, sym, refl, arith}
+use Rattle.std.proofs.Common.{◌∙◌, ◌||◌, ap}
 use Rattle.vm_base.specs.Cores.{members}
 use Rattle.vm_base.specs.Info.{is_recorded}
 use Rattle.slot_lock.specs.declared.run.Run.{Run}
-use Rattle.slot_lock.specs.Runs.{get_run, nobody}
+use Rattle.slot_lock.specs.Runs.{nobody}
 use Rattle.std.proofs.lemmas.List.{get_or_default}
 use Rattle.slot_lock.proofs.Walks.{walk_more, users_next}
 use Rattle.slot_lock.proofs.walk.recorded.Goals as goal

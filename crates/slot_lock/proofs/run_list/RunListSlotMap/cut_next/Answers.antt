@@ -1,5 +1,4 @@
-use Rattle.std.proofs.Common.{◌≡◌, ◌<◌, ◌≤◌, ◌-◌, ◌^◌, Some, sym, ◌∙◌, refl, inl, inr, arith}
-use Rattle.slot_lock.specs.Runs.{get_run}
+use Rattle.std.proofs.Common.{◌-◌, sym, ◌∙◌, refl, inl, inr, arith}
 use Rattle.slot_lock.specs.Places.{read_run}
 use Rattle.slot_lock.proofs.Steps.{below_limit, owner_before, owner_at, edge_of, no_edge, on_err}
 use Rattle.slot_lock.proofs.run_list.RunListSlotMap.cut_next.Goals as goal

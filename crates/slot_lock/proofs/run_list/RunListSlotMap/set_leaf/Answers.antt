@@ -1,10 +1,10 @@
-use Rattle.std.proofs.Common.{◌≡◌, ◌-◌, ◌+◌, sym, ◌∙◌, ap, subst, arith, ℕ, Option}
+use Rattle.std.proofs.Common.{◌≡◌, ◌-◌, ◌+◌, sym, ◌∙◌, ap, subst, arith, Option}
 use Rattle.vm_base.specs.declared.info.PageInfo.{PageInfo}
 use Rattle.vm_base.specs.Info.{info_from}
 use Rattle.slot_lock.specs.declared.run.Run.{Run}
 use Rattle.slot_lock.specs.Runs.{get_run}
 use Rattle.slot_lock.specs.Slots.{HasMeta}
-use Rattle.slot_lock.specs.Places.{read_run, run_at_is}
+use Rattle.slot_lock.specs.Places.{run_at_is}
 use Rattle.slot_lock.specs.RunLaws.{info_from_zero}
 use Rattle.slot_lock.proofs.Steps.{one_page}
 use Rattle.slot_lock.proofs.run_list.RunListSlotMap.set_leaf.Goals as goal

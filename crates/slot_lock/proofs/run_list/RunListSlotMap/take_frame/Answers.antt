@@ -1,4 +1,3 @@
-use Rattle.std.proofs.Common.{◌≡◌}
 use Rattle.slot_lock.specs.Places.{read_run}
 use Rattle.slot_lock.proofs.Frames.{loses_frame}
 use Rattle.slot_lock.proofs.run_list.RunListSlotMap.take_frame.Goals as goal

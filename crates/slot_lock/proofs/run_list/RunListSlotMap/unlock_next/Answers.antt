@@ -1,5 +1,4 @@
-use Rattle.std.proofs.Common.{◌≡◌, ◌<◌, ◌+◌, ◌^◌, arith}
-use Rattle.slot_lock.specs.Runs.{get_run}
+use Rattle.std.proofs.Common.{◌<◌, ◌+◌, ◌^◌, arith}
 use Rattle.slot_lock.specs.Places.{read_run, before_last}
 use Rattle.slot_lock.proofs.Steps.{unlocks, first_slot}
 use Rattle.slot_lock.proofs.run_list.RunListSlotMap.unlock_next.Goals as goal

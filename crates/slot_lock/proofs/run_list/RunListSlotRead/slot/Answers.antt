@@ -1,5 +1,4 @@
-use Rattle.std.proofs.Common.{◌≡◌, ◌+◌}
-use Rattle.slot_lock.specs.Runs.{get_run}
+use Rattle.std.proofs.Common.{◌+◌}
 use Rattle.slot_lock.specs.Places.{read_run, before_last}
 use Rattle.slot_lock.specs.RunLaws.{is_slot}
 use Rattle.slot_lock.proofs.run_list.RunListSlotRead.slot.Goals as goal
