@@ -4,8 +4,8 @@ ghost use Rattle.vm_base.specs.Info.{file_page};
 
 use crate::page::is_page_start;
 use crate::{
-    Access, Back, CoreId, CoreSet, Meta, Mode, NoMemory, PageInfo, PageRange, Prot, allows,
-    info_from, is_valid, pages, window,
+    Access, Back, CoreId, CoreSet, Errno, Flags, Meta, Mode, NoMemory, PageInfo, PageRange, Prot,
+    Reply, Request, allows, info_from, is_valid, pages, refusal, window,
 };
 use std::alloc::AllocError;
 use std::test::Fail;
@@ -168,4 +168,68 @@ fn a_refused_growth_is_want_of_memory(rt: HostRuntime) -> Result<(), Fail> {
     let refused: NoMemory = AllocError.into();
     assert_eq!(rt; refused, NoMemory);
     Ok(())
+}
+
+fn refused(errno: Errno) -> Option<Reply> {
+    Some(Reply::Refused(errno))
+}
+
+// A shared, writable mapping of a file at 0x10000, so many bytes from an offset on.
+fn shared_mapping(len: u64, off: u64) -> Request {
+    Request::Mmap {
+        addr: 0x10000,
+        len,
+        prot: READ_WRITE,
+        flags: Flags {
+            private: false,
+            shared: true,
+            fixed: true,
+            anon: false,
+        },
+        file: 0,
+        off,
+    }
+}
+
+#[test]
+fn arguments_are_refused_by_the_first_test_that_holds(rt: HostRuntime) {
+    assert_eq!(rt; refusal(Some(Mode::RW), shared_mapping(4096, 0)), None);
+    assert_eq!(rt;
+        refusal(Some(Mode::RW), shared_mapping(0, 1)),
+        refused(Errno::EINVAL)
+    );
+    assert_eq!(rt;
+        refusal(Some(Mode::RW), shared_mapping(4096, 1)),
+        refused(Errno::EINVAL)
+    );
+    assert_eq!(rt;
+        refusal(None, shared_mapping(4096, 0)),
+        refused(Errno::EBADF)
+    );
+    assert_eq!(rt;
+        refusal(Some(Mode::W), shared_mapping(4096, 0)),
+        refused(Errno::EACCES)
+    );
+    assert_eq!(rt;
+        refusal(Some(Mode::R), shared_mapping(4096, 0)),
+        refused(Errno::EACCES)
+    );
+    let end = 0x8000_0000_0000;
+    assert_eq!(rt;
+        refusal(Some(Mode::RW), shared_mapping(4096, end)),
+        refused(Errno::EOVERFLOW)
+    );
+    assert_eq!(rt;
+        refusal(Some(Mode::RW), shared_mapping(4096, end - 4096)),
+        None
+    );
+    let none = Request::Mprotect {
+        addr: 0x10000,
+        len: 0,
+        prot: NONE,
+    };
+    assert_eq!(rt; refusal(None, none), Some(Reply::Done));
+    let low = Request::Munmap { addr: 0, len: 4096 };
+    assert_eq!(rt; refusal(None, low), refused(Errno::EINVAL));
+    assert_eq!(rt; refusal(None, Request::Load { addr: 0 }), None);
 }
