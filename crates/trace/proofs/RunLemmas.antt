@@ -1,0 +1,246 @@
+-- Whole runs, a line at a time.
+use Rattle.std.proofs.Common.{◌≡◌, ◌≢◌, ℕ, zero, suc, ◌+◌, ◌<◌, ◌≤◌, Bool, true, false, cond, List, [], ◌∷◌, ◌++◌, Option, None, Some, Result, Ok, Err, IfSome, IfErr, OnOk, length, take, get_or, ◌⊎◌, inl, inr, arith, refl, sym, ap, ◌∙◌, subst, eqb, append_assoc, append-nil, length-append}
+use Rattle.std.proofs.lemmas.Bool.{ne_eqb}
+use Rattle.std.proofs.Math.Seq.{take-append-add}
+use Rattle.std.proofs.lemmas.Grind.{common_steps}
+use Rattle.std.proofs.KnownBytes.{Appends-nil, Appends-trans, Appends-kept}
+use Rattle.std.specs.Io.KnownBytes.{Keeps, Appends, IsAtEnd}
+use Rattle.trace_io.specs.Lines.{onto, lines_of, IsUnbroken, IsTooLong, IsFirstLine, TakesLine, BeginsTooLong}
+use Rattle.trace_io.specs.Sink.{AppendsFront}
+use Rattle.trace_io.specs.Window.{Window, opening, left}
+use Rattle.trace.specs.declared.fault.TraceFault.{TraceFault}
+use Rattle.trace.specs.declared.fault.TraceFault.TheVariants.{BadLine, TooLong, ReadFailed, NoVmLine, NoMemory, Setup, WriteFailed}
+use Rattle.trace.specs.Stage.{Stage, Start, LineFails, CanOpen, OpenFails, Acts}
+use Rattle.trace.specs.Runs.{Runs}
+use Rattle.trace.specs.Turns.{Scene, Advances, IsOver, Fails, unread, too_long, no_memory, refused, unwritten}
+use Rattle.trace.specs.Ends.{Completes, Front, Stops, reading, wanting, overlong, refusing, unopened, writing, Ends}
+
+-- the line is before its newline
+lines-ended : (line ys : List ℕ) → IsUnbroken line → lines_of (line ++ 10 ∷ ys) ≡ line ∷ lines_of ys
+lines-ended [] ys u = refl
+lines-ended (x ∷ xs) ys u =
+    let letter : eqb x 10 ≡ false = ne_eqb x 10 (u 0 (omega arith)) in
+    let rest : lines_of (xs ++ 10 ∷ ys) ≡ xs ∷ lines_of ys = lines-ended xs ys (λ k lt. u (suc k) (omega arith)) in
+    ap (λ b. cond b ([] ∷ lines_of (xs ++ 10 ∷ ys)) (onto x (lines_of (xs ++ 10 ∷ ys)))) letter ∙ ap (onto x) rest
+
+lines-last : (line : List ℕ) → IsUnbroken line → 0 < length line → lines_of line ≡ line ∷ []
+lines-last [] u p = absurd (omega arith)
+lines-last (x ∷ []) u p =
+    let letter : eqb x 10 ≡ false = ne_eqb x 10 (u 0 (omega arith)) in ap (λ b. cond b ([] ∷ []) ((x ∷ []) ∷ [])) letter
+lines-last (x ∷ (y ∷ ys)) u p =
+    let letter : eqb x 10 ≡ false = ne_eqb x 10 (u 0 (omega arith)) in
+    let rest : lines_of (y ∷ ys) ≡ (y ∷ ys) ∷ [] = lines-last (y ∷ ys) (λ k lt. u (suc k) (omega arith)) (omega arith) in
+    ap (λ b. cond b ([] ∷ lines_of (y ∷ ys)) (onto x (lines_of (y ∷ ys)))) letter ∙ ap (onto x) rest
+
+lines-first : (xs line ys : List ℕ) → IsUnbroken line → IsFirstLine xs line ys → lines_of xs ≡ line ∷ lines_of ys
+lines-first xs line ys u (inl e) = ap lines_of e ∙ lines-ended line ys u
+lines-first xs line ys u (inr h) = ap lines_of h.0 ∙ lines-last line u h.2 ∙ ap (λ l. line ∷ lines_of l) (sym h.1)
+
+-- a first line that has no newline among its first n + 1 bytes
+pub record LongFirst (n : ℕ) (xs : List ℕ) : Type 0 where
+  pub line : List ℕ
+  pub others : List (List ℕ)
+  pub lines : lines_of xs ≡ line ∷ others
+  pub long : n < length line
+
+longer : (x : ℕ) (xs : List ℕ) (n : ℕ) → x ≢ 10 → LongFirst n xs → LongFirst (suc n) (x ∷ xs)
+longer x xs n u h =
+    let letter : eqb x 10 ≡ false = ne_eqb x 10 u in
+    record {
+      line = x ∷ h.line;
+      others = h.others;
+      lines = ap (λ b. cond b ([] ∷ lines_of xs) (onto x (lines_of xs))) letter ∙ ap (onto x) h.lines;
+      long = let l = h.long in omega arith;
+    }
+
+some_first : (x : ℕ) (xs : List ℕ) (ls : List (List ℕ)) → x ≢ 10 → lines_of xs ≡ ls → LongFirst 0 (x ∷ xs)
+some_first x xs [] u e =
+    let letter : eqb x 10 ≡ false = ne_eqb x 10 u in
+    record { line = x ∷ []; others = []; lines = ap (λ b. cond b ([] ∷ lines_of xs) (onto x (lines_of xs))) letter ∙ ap (onto x) e; long = omega arith }
+some_first x xs (l ∷ ls) u e =
+    let letter : eqb x 10 ≡ false = ne_eqb x 10 u in
+    record { line = x ∷ l; others = ls; lines = ap (λ b. cond b ([] ∷ lines_of xs) (onto x (lines_of xs))) letter ∙ ap (onto x) e; long = omega arith }
+
+long_first : (n : ℕ) (xs : List ℕ) → n < length xs → IsUnbroken (take (suc n) xs) → LongFirst n xs
+long_first n [] p u = absurd (omega arith)
+long_first zero (x ∷ xs) p u = some_first x xs (lines_of xs) (u 0 (omega arith)) refl
+long_first (suc n) (x ∷ xs) p u = longer x xs n (u 0 (omega arith)) (long_first n xs (omega arith) (λ k lt. u (suc k) (omega arith)))
+
+-- one line more
+runs-snoc : (s m n : Stage) (ls : List (List ℕ)) (l t u : List ℕ) → Runs s ls m t → length l ≤ 256 → Acts m l n u → Runs s (ls ++ l ∷ []) n (t ++ u)
+runs-snoc s m n [] l t u r p a =
+    (n, u, [], p, subst (λ x. Acts x l n u) r.0 a, (refl, refl), ap (λ x. x ++ u) r.1 ∙ sym (append-nil u))
+runs-snoc s m n (k ∷ ks) l t u r p a =
+    (r.0, r.1, r.2 ++ u, r.3, r.4, runs-snoc r.0 m n ks l r.2 u r.5 p a, ap (λ x. x ++ u) r.6 ∙ append_assoc r.1 r.2 u)
+
+-- the lines so far were acted on, and what is left has the others
+pub record HasRun (input : List ℕ) (old : Option (List ℕ)) (now : Scene) (number : ℕ) : Type 0 where
+  pub done : List (List ℕ)
+  pub text : List ℕ
+  pub rest : List ℕ
+  pub left : now.left ≡ Some rest
+  pub lines : lines_of input ≡ done ++ lines_of rest
+  pub runs : Runs Start done now.stage text
+  pub appends : Appends old now.written text
+  pub count : number ≡ length done
+
+-- nothing has been read yet
+pub run_none : (input : List ℕ) (old : Option (List ℕ)) (now : Scene) → now.left ≡ Some input → now.stage ≡ Start → now.written ≡ old → HasRun input old now 0
+run_none input old now e s w = record {
+  done = [];
+  text = [];
+  rest = input;
+  left = e;
+  lines = refl;
+  runs = (s, refl);
+  appends = subst (λ o. Appends old o []) (sym w) (Appends-nil old);
+  count = refl;
+}
+
+-- what a known reader takes as a line
+takes_known : (rest line : List ℕ) (old new : Option (List ℕ)) → old ≡ Some rest → TakesLine old new line → (ys : List ℕ) × (new ≡ Some ys) × IsFirstLine rest line ys
+takes_known rest line None new e t = absurd (cc)
+takes_known rest line (Some xs) None e t = absurd t
+takes_known rest line (Some xs) (Some ys) e t = let same : xs ≡ rest = cc in (ys, refl, subst (λ x. IsFirstLine x line ys) same t)
+
+-- the next line
+next_line : (input line rest ys : List ℕ) (done : List (List ℕ)) → lines_of input ≡ done ++ lines_of rest → IsUnbroken line → IsFirstLine rest line ys → lines_of input ≡ done ++ line ∷ lines_of ys
+next_line input line rest ys done e u f = e ∙ ap (λ l. done ++ l) (lines-first rest line ys u f)
+
+pub run_more : (input : List ℕ) (old : Option (List ℕ)) (now next : Scene) (number : ℕ) → HasRun input old now number → Advances now next → HasRun input old next (number + 1)
+run_more input old now next number h a =
+    let (ys, left, first) = takes_known h.rest a.line now.left next.left h.left a.takes in
+    record {
+      done = h.done ++ a.line ∷ [];
+      text = h.text ++ a.text;
+      rest = ys;
+      left = left;
+      lines = next_line input a.line h.rest ys h.done h.lines a.unbroken first ∙ sym (append_assoc h.done (a.line ∷ []) (lines_of ys));
+      runs = runs-snoc Start now.stage next.stage h.done a.line h.text a.text h.runs a.short a.acts;
+      appends = Appends-trans _ _ _ _ _ h.appends a.appends;
+      count = let c = h.count in omega (arith, length-append h.done (a.line ∷ []));
+    }
+
+-- a front goes behind what was written whole
+front_more : (a b c : Option (List ℕ)) (xs ys : List ℕ) → Appends a b xs → AppendsFront b c ys → AppendsFront a c (xs ++ ys)
+front_more a b c xs ys p q =
+    let fits = q.1 in
+    let size = length-append xs ys in
+    (length xs + q.0, omega arith, subst (Appends a c) (sym (take-append-add xs ys q.0)) (Appends-trans a b c xs (take q.0 ys) p q.2))
+
+-- what was acted on so far
+front_of : (input : List ℕ) (old : Option (List ℕ)) (now : Scene) (number : ℕ) → HasRun input old now number → Front input
+front_of input old now number h = record { done = h.done; more = lines_of h.rest; stage = now.stage; text = h.text; lines = h.lines; runs = h.runs }
+
+long_known : (rest : List ℕ) (old : Option (List ℕ)) → old ≡ Some rest → BeginsTooLong old → LongFirst 256 rest
+long_known rest None e b = absurd (cc)
+long_known rest (Some xs) e b = let same : xs ≡ rest = cc in long_first 256 rest (subst (λ x. 256 < length x) same b.0) (subst (λ x. IsUnbroken (take 257 x)) same b.1)
+
+pub run_fails : (input : List ℕ) (old : Option (List ℕ)) (now next : Scene) (number : ℕ) (f : TraceFault) → HasRun input old now number → Fails now next number f → Stops input old next.written f
+unfolding front_of
+run_fails input old now next number f h (unread e k) = reading e (front_of input old now number h) (Appends-kept _ _ _ _ h.appends k)
+run_fails input old now next number f h (too_long e b k) =
+    let l = long_known h.rest now.left h.left b in
+    overlong (front_of input old now number h) l.line l.others l.lines l.long (e ∙ ap (λ n. TooLong (n + 1)) h.count) (Appends-kept _ _ _ _ h.appends k)
+run_fails input old now next number f h (no_memory e k) = wanting e (front_of input old now number h) (Appends-kept _ _ _ _ h.appends k)
+run_fails input old now next number f h (refused line short u t b k) =
+    let (ys, left, first) = takes_known h.rest line now.left next.left h.left t in
+    refusing (front_of input old now number h) line (lines_of ys) (lines-first h.rest line ys u first) short (subst (λ n. LineFails now.stage (n + 1) line f) h.count b) (Appends-kept _ _ _ _ h.appends k)
+run_fails input old now next number f h (unwritten e line text short u t a w) =
+    let (ys, left, first) = takes_known h.rest line now.left next.left h.left t in
+    writing e (record {
+      done = h.done ++ line ∷ [];
+      more = lines_of ys;
+      stage = next.stage;
+      text = h.text ++ text;
+      lines = next_line input line h.rest ys h.done h.lines u first ∙ sym (append_assoc h.done (line ∷ []) (lines_of ys));
+      runs = runs-snoc Start now.stage next.stage h.done line h.text text h.runs short a;
+    }) (front_more old now.written next.written h.text text h.appends w)
+
+-- the same, where what the reader has may be unknown
+pub some_init : (o wo : Option (List ℕ)) (stage : Stage) (w : Window) → w ≡ opening → stage ≡ Start
+    → IfSome o (λ input. HasRun input wo (record { left = left o w; stage = stage; written = wo }) 0)
+some_init None wo stage w e s = tt
+some_init (Some input) wo stage w e s = run_none input wo _ (ap (left (Some input)) e) s refl
+
+pub some_more : (o wo : Option (List ℕ)) (now next : Scene) (n : ℕ) → IfSome o (λ input. HasRun input wo now n) → Advances now next → IfSome o (λ input. HasRun input wo next (n + 1))
+some_more None wo now next n h a = tt
+some_more (Some input) wo now next n h a = run_more input wo now next n h a
+
+pub some_fails : (o wo : Option (List ℕ)) (now next : Scene) (n : ℕ) (f : TraceFault) → IfSome o (λ input. HasRun input wo now n) → Fails now next n f → IfSome o (λ input. Stops input wo next.written f)
+some_fails None wo now next n f h a = tt
+some_fails (Some input) wo now next n f h a = run_fails input wo now next n f h a
+
+-- at the end no line is left
+over_left : (rest : List ℕ) (old : Option (List ℕ)) → old ≡ Some rest → IsAtEnd old → lines_of rest ≡ []
+over_left rest None e a = absurd (cc)
+over_left rest (Some xs) e a = let same : rest ≡ [] = cc in ap lines_of same
+
+run_ends : {T : Type 0} (input : List ℕ) (wo : Option (List ℕ)) (now next : Scene) (n : ℕ) (r : Result T TraceFault) → HasRun input wo now n → IsOver now next
+    → OnOk r (CanOpen next.stage) → IfErr r (λ f. OpenFails next.stage f) → Ends input wo next.written r
+unfolding front_of
+run_ends input wo now next n (Ok x) h v o e =
+    let none = over_left h.rest now.left h.left v.ended in
+    record {
+      stage = now.stage;
+      text = h.text;
+      runs = subst (λ ls. Runs Start ls now.stage h.text) (sym (h.lines ∙ ap (λ l. h.done ++ l) none ∙ append-nil h.done)) h.runs;
+      opens = subst CanOpen v.stage o;
+      appends = Appends-kept _ _ _ _ h.appends v.written;
+    }
+run_ends input wo now next n (Err f) h v o e =
+    unopened (front_of input wo now n h) (over_left h.rest now.left h.left v.ended) (subst (λ s. OpenFails s f) v.stage e) (Appends-kept _ _ _ _ h.appends v.written)
+
+pub some_ends : {T : Type 0} (o wo : Option (List ℕ)) (now next : Scene) (n : ℕ) (r : Result T TraceFault) → IfSome o (λ input. HasRun input wo now n) → IsOver now next
+    → OnOk r (CanOpen next.stage) → IfErr r (λ f. OpenFails next.stage f) → IfSome o (λ input. Ends input wo next.written r)
+some_ends None wo now next n r h v o e = tt
+some_ends (Some input) wo now next n r h v o e = run_ends input wo now next n r h v o e
+
+take_all_of : (xs : List ℕ) → take (length xs) xs ≡ xs
+take_all_of xs = grind (arith, common_steps)
+
+-- no line was acted on
+pub none_ran : (o wo : Option (List ℕ)) → IfSome o (λ input. Stops input wo wo NoMemory)
+none_ran None wo = tt
+none_ran (Some input) wo =
+    wanting refl (record { done = []; more = lines_of input; stage = Start; text = []; lines = refl; runs = (refl, refl) }) (Appends-nil wo)
+
+whole_front : (a b : Option (List ℕ)) (xs : List ℕ) → Appends a b xs → AppendsFront a b xs
+whole_front a b xs p = (length xs, omega arith, subst (Appends a b) (sym (take_all_of xs)) p)
+
+front_kept : (a b c : Option (List ℕ)) (xs : List ℕ) → AppendsFront a b xs → Keeps b c → AppendsFront a c xs
+front_kept a b c xs p k = (p.0, p.1, Appends-kept a b c (take p.0 xs) p.2 k)
+
+-- a flush keeps what was written
+stops_kept : (input : List ℕ) (a b c : Option (List ℕ)) (f : TraceFault) → Stops input a b f → Keeps b c → Stops input a c f
+stops_kept input a b c f (reading e p w) k = reading e p (Appends-kept _ _ _ _ w k)
+stops_kept input a b c f (wanting e p w) k = wanting e p (Appends-kept _ _ _ _ w k)
+stops_kept input a b c f (overlong p line others e l q w) k = overlong p line others e l q (Appends-kept _ _ _ _ w k)
+stops_kept input a b c f (refusing p line others e q l w) k = refusing p line others e q l (Appends-kept _ _ _ _ w k)
+stops_kept input a b c f (unopened p e q w) k = unopened p e q (Appends-kept _ _ _ _ w k)
+stops_kept input a b c f (writing e p w) k = writing e p (front_kept _ _ _ _ w k)
+
+ends_kept : {T : Type 0} (input : List ℕ) (a b c : Option (List ℕ)) (r : Result T TraceFault) → Ends input a b r → Keeps b c → Ends input a c r
+ends_kept input a b c (Ok x) h k = record { stage = h.stage; text = h.text; runs = h.runs; opens = h.opens; appends = Appends-kept _ _ _ _ h.appends k }
+ends_kept input a b c (Err f) h k = stops_kept input a b c f h k
+
+stops_lost : (input : List ℕ) (a b : Option (List ℕ)) (f : TraceFault) → Stops input a b f → Stops input a b WriteFailed
+stops_lost input a b f (reading e p w) = writing refl p (whole_front _ _ _ w)
+stops_lost input a b f (wanting e p w) = writing refl p (whole_front _ _ _ w)
+stops_lost input a b f (overlong p line others e l q w) = writing refl p (whole_front _ _ _ w)
+stops_lost input a b f (refusing p line others e q l w) = writing refl p (whole_front _ _ _ w)
+stops_lost input a b f (unopened p e q w) = writing refl p (whole_front _ _ _ w)
+stops_lost input a b f (writing e p w) = writing refl p w
+
+ends_lost : {T : Type 0} (input : List ℕ) (a b : Option (List ℕ)) (r : Result T TraceFault) → Ends input a b r → Stops input a b WriteFailed
+ends_lost input a b (Ok x) h =
+    writing refl (record { done = lines_of input; more = []; stage = h.stage; text = h.text; lines = sym (append-nil (lines_of input)); runs = h.runs }) (whole_front _ _ _ h.appends)
+ends_lost input a b (Err f) h = stops_lost input a b f h
+
+pub some_kept : {T : Type 0} (o a b c : Option (List ℕ)) (r : Result T TraceFault) → IfSome o (λ input. Ends input a b r) → Keeps b c → IfSome o (λ input. Ends input a c r)
+some_kept None a b c r h k = tt
+some_kept (Some input) a b c r h k = ends_kept input a b c r h k
+
+pub some_lost : {T : Type 0} (o a b c : Option (List ℕ)) (r : Result T TraceFault) → IfSome o (λ input. Ends input a b r) → Keeps b c → IfSome o (λ input. Stops input a c WriteFailed)
+some_lost None a b c r h k = tt
+some_lost (Some input) a b c r h k = stops_kept input a b c WriteFailed (ends_lost input a b r h) k

@@ -1,0 +1,101 @@
+-- Whose fault a fault is, and what a line comes to in a turn.
+use Rattle.std.proofs.Common.{◌≡◌, ℕ, ◌+◌, ◌≤◌, Bool, true, false, cond, List, Option, None, Some, ◌⊎◌, inl, inr, refl, sym, ap, ◌∙◌, subst, length}
+use Rattle.std.specs.Io.KnownBytes.{Keeps}
+use Rattle.trace_io.specs.Sink.{AppendsFront}
+use Rattle.trace_io.specs.Lines.{IsUnbroken, TakesLine}
+use Rattle.trace_text.specs.Words.{words_of}
+use Rattle.trace_text.specs.Line.{are_printable, begins_with_vm, line_of}
+use Rattle.trace_text.specs.declared.line.Line.{Line}
+use Rattle.trace_text.specs.declared.line.Line.TheVariants.{Blank, Space, Call, Go, Finish, Now}
+use Rattle.core_steps.specs.declared.setup.SetupFault.{SetupFault}
+use Rattle.core_steps.specs.Setups.{fault_of}
+use Rattle.trace.specs.declared.fault.TraceFault.{TraceFault}
+use Rattle.trace.specs.declared.fault.TraceFault.TheVariants.{BadLine, TooLong, ReadFailed, NoVmLine, NoMemory, Setup, WriteFailed}
+use Rattle.trace.specs.Stage.{Stage, Start, Declared, Running, SetupFails, OpenFails, CanOpen, BadFails, SpaceFails, SaidFails, BytesFail, LineFails, EventFails, Acts}
+use Rattle.trace.specs.Turns.{Scene, Fails, no_memory, refused, unwritten}
+
+-- neither the reader's fault nor the writer's
+pub is_own : TraceFault → Bool
+is_own (BadLine n) = true
+is_own (TooLong n) = true
+is_own ReadFailed = false
+is_own NoVmLine = true
+is_own NoMemory = true
+is_own (Setup s) = true
+is_own WriteFailed = false
+
+own_setup : (o : Option SetupFault) (f : TraceFault) → SetupFails o f → is_own f ≡ true
+unfolding is_own
+own_setup None f e = ap is_own e
+own_setup (Some s) f e = ap is_own e
+
+pub own_open : (s : Stage) (f : TraceFault) → OpenFails s f → is_own f ≡ true
+unfolding is_own
+own_open Start f e = ap is_own e
+own_open (Declared s) f e = own_setup (fault_of s) f e
+own_open (Running w) f e = absurd e
+
+own_start : (b : Bool) (n : ℕ) (f : TraceFault) → f ≡ cond b (BadLine n) NoVmLine → is_own f ≡ true
+unfolding is_own
+own_start true n f e = ap is_own e
+own_start false n f e = ap is_own e
+
+own_bad : (s : Stage) (n : ℕ) (b : Bool) (f : TraceFault) → BadFails s n b f → is_own f ≡ true
+unfolding is_own
+own_bad Start n b f e = own_start b n f e
+own_bad (Declared s) n b f (inl e) = own_setup (fault_of s) f e
+own_bad (Declared s) n b f (inr e) = ap is_own e.1
+own_bad (Running w) n b f e = ap is_own e
+
+own_space : (s : Stage) (n : ℕ) (f : TraceFault) → SpaceFails s n f → is_own f ≡ true
+own_space Start n f e = absurd e
+own_space (Declared s) n f e = own_bad (Declared s) n true f e
+own_space (Running w) n f e = own_bad (Running w) n true f e
+
+own_said : (s : Stage) (n : ℕ) (b : Bool) (l : Option Line) (f : TraceFault) → SaidFails s n b l f → is_own f ≡ true
+own_said s n b None f e = own_bad s n b f e
+own_said s n b (Some Blank) f e = absurd e
+own_said s n b (Some (Space x y z)) f e = own_space s n f e
+own_said s n b (Some (Call x y)) f e = own_open s f e
+own_said s n b (Some (Go x)) f e = own_open s f e
+own_said s n b (Some (Finish x)) f e = own_open s f e
+own_said s n b (Some (Now x y)) f e = own_open s f e
+
+own_bytes : (p : Bool) (s : Stage) (n : ℕ) (line : List ℕ) (f : TraceFault) → BytesFail p s n line f → is_own f ≡ true
+unfolding is_own
+own_bytes false s n line f e = ap is_own e
+own_bytes true s n line f e = own_said s n (begins_with_vm (words_of line)) (line_of line) f e
+
+own_act : (s : Stage) (n : ℕ) (line : List ℕ) (f : TraceFault) → (f ≡ NoMemory) ⊎ LineFails s n line f → is_own f ≡ true
+unfolding is_own
+own_act s n line f (inl e) = ap is_own e
+own_act s n line f (inr h) = own_bytes (are_printable line) s n line f h.because
+
+pub not_read : {X : Type 0} (s : Stage) (n : ℕ) (line : List ℕ) (f : TraceFault) → (f ≡ NoMemory) ⊎ LineFails s n line f → f ≡ ReadFailed → X
+unfolding is_own
+not_read s n line f h e = let clash : false ≡ true = sym (ap is_own e) ∙ own_act s n line f h in cc
+
+pub not_write : {X : Type 0} (s : Stage) (n : ℕ) (line : List ℕ) (f : TraceFault) → (f ≡ NoMemory) ⊎ LineFails s n line f → f ≡ WriteFailed → X
+unfolding is_own
+not_write s n line f h e = let clash : false ≡ true = sym (ap is_own e) ∙ own_act s n line f h in cc
+
+-- the end is neither the reader's fault nor the writer's
+pub end_not_read : {X : Type 0} (s : Stage) (f : TraceFault) → OpenFails s f → f ≡ ReadFailed → X
+unfolding is_own
+end_not_read s f h e = let clash : false ≡ true = sym (ap is_own e) ∙ own_open s f h in cc
+
+pub end_not_write : {X : Type 0} (s : Stage) (f : TraceFault) → OpenFails s f → f ≡ WriteFailed → X
+unfolding is_own
+end_not_write s f h e = let clash : false ≡ true = sym (ap is_own e) ∙ own_open s f h in cc
+
+-- a line that wasn't acted on fails the turn
+pub act_fails : (old new : Scene) (n : ℕ) (line seen : List ℕ) (f : TraceFault) → Keeps old.written new.written → length line ≤ 256 → IsUnbroken line → TakesLine old.left new.left line → seen ≡ line
+    → (f ≡ NoMemory) ⊎ LineFails old.stage (n + 1) seen f → Fails old new n f
+act_fails old new n line seen f keeps short unbroken takes same (inl e) = no_memory e keeps
+act_fails old new n line seen f keeps short unbroken takes same (inr h) = refused line short unbroken takes (subst (λ l. LineFails old.stage (n + 1) l f) same h) keeps
+
+-- a line whose text wasn't written whole fails the turn
+pub text_lost : (old new : Scene) (n : ℕ) (line seen text shown : List ℕ) → length line ≤ 256 → IsUnbroken line → TakesLine old.left new.left line → seen ≡ line → Acts old.stage seen new.stage text
+    → shown ≡ text → AppendsFront old.written new.written shown → Fails old new n WriteFailed
+text_lost old new n line seen text shown short unbroken takes same acts whole front =
+    unwritten refl line text short unbroken takes (subst (λ l. Acts old.stage l new.stage text) same acts) (subst (AppendsFront old.written new.written) whole front)

@@ -1,0 +1,20 @@
+use Rattle.std.proofs.Common.{arith, rules}
+use Rattle.trace.proofs.RunLemmas.{some_init, some_more, some_fails, some_ends}
+use Rattle.trace.proofs.replay.replay_lines.Goals as goal
+
+pub lines-init : goal.lines-init
+lines-init g c = record { budget = rw c.requires.fresh (omega arith); ran = some_init _ _ _ _ c.requires.fresh c.requires.start }
+
+pub lines-preserved : goal.lines-preserved
+lines-preserved g c =
+    let turns = rw c.in-Ok-true.field-0-test at c.in-Ok-true.ensures.turns in
+    let less = c.in-Ok-true.ensures.budget c.in-Ok-true.field-0-test in
+    record { budget = omega (arith, less, c.lines.invariant.budget); ran = some_more _ _ _ _ _ c.lines.invariant.ran turns }
+
+pub returns-in-Ok-false-clause-ends : goal.returns-in-Ok-false-clause-ends
+returns-in-Ok-false-clause-ends g c =
+    let turns = rw c.in-Ok-false.field-0-test at c.in-Ok-false.ensures.turns in
+    some_ends _ _ _ _ _ _ c.lines.invariant.ran turns c.finish.ensures.ok c.finish.ensures.err
+
+pub returns-in-Err-clause-ends : goal.returns-in-Err-clause-ends
+returns-in-Err-clause-ends g c = some_fails _ _ _ _ _ _ c.lines.invariant.ran c.in-Err.ensures.turns

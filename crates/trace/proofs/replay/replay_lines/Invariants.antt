@@ -1,0 +1,15 @@
+use Rattle.std.proofs.Common.{◌+◌, ◌*◌, ◌^◌, ◌≤◌, IfSome}
+use Rattle.trace_io.specs.Window.{left, budget}
+use Rattle.trace.proofs.RunLemmas.{HasRun}
+use Rattle.trace.proofs.replay.replay_lines.Given as goal
+
+-- each line took a byte, and the lines so far were acted on
+abbrev pub invariant-lines : goal.invariant-lines
+invariant-lines g l = record {
+  budget : l.number + budget (g.S.Source.reads l.reader) l.lines ≤ 65536 * 2 ^ 32;
+  ran : IfSome (g.S.Source.remaining l.initial.reader) (λ input. HasRun input (g.W.Sink.contents l.initial.writer)
+      (record { left = left (g.S.Source.remaining l.reader) l.lines; stage = g.R.Staged.stage l.replayer; written = g.W.Sink.contents l.writer }) l.number);
+}
+
+abbrev pub decreases-lines : goal.decreases-lines
+decreases-lines g l = budget (g.S.Source.reads l.reader) l.lines

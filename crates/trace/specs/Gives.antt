@@ -1,0 +1,47 @@
+-- What a line of an event gives: the text of the outcome that the machine comes to.
+use Rattle.std.specs.Prelude.{◌≡◌, ℕ, List, Bool, true, false, Option, None, Some}
+use Rattle.machine_model.specs.declared.event.Event.{Event}
+use Rattle.machine_model.specs.declared.event.Event.TheVariants as Ev
+use Rattle.machine_model.specs.declared.event.Outcome.{Outcome}
+use Rattle.machine_model.specs.declared.event.Outcome.TheVariants.{Stepped, Wait, Idle, Answered, Full}
+use Rattle.machine_model.specs.World.{World}
+use Rattle.machine_model.specs.Step.{Step}
+use Rattle.core_steps.specs.declared.machine.Finished.{Finished}
+use Rattle.core_steps.specs.Finishing.{Finishes}
+use Rattle.trace_text.specs.declared.line.Line.{Line}
+use Rattle.trace_text.specs.declared.line.Line.TheVariants.{Blank, Space, Call, Go, Finish, Now}
+use Rattle.trace.specs.OutcomeText.{outcome_text, finished_text}
+
+-- one step, and the text of its outcome
+abbrev pub TellsStep : World → Event → World → List ℕ → Type 0
+TellsStep w event v text = (o : Outcome) × Step w event o v × (text ≡ outcome_text o)
+
+-- the steps that finish the core's call, and the text of the last outcome
+abbrev pub TellsFinish : World → ℕ → World → List ℕ → Type 0
+TellsFinish w core v text = (f : Finished) × Finishes w core f v × (text ≡ finished_text f)
+
+-- a call that began is finished; of one that didn't the outcome is told
+abbrev pub GoesOn : World → ℕ → Outcome → World → List ℕ → Type 0
+GoesOn m core Stepped v text = TellsFinish m core v text
+GoesOn m core (Wait blocker) v text = (v ≡ m) × (text ≡ outcome_text (Wait blocker))
+GoesOn m core Idle v text = (v ≡ m) × (text ≡ outcome_text Idle)
+GoesOn m core (Answered reply) v text = (v ≡ m) × (text ≡ outcome_text (Answered reply))
+GoesOn m core Full v text = (v ≡ m) × (text ≡ outcome_text Full)
+
+abbrev pub Gives : World → Line → World → List ℕ → Type 0
+Gives w Blank v text = ⊥
+Gives w (Space cores frames calls) v text = ⊥
+Gives w (Call core request) v text = TellsStep w (Ev.Call core request) v text
+Gives w (Go core) v text = TellsStep w (Ev.Go core) v text
+Gives w (Finish core) v text = TellsFinish w core v text
+Gives w (Now core request) v text = (o : Outcome) × (m : World) × Step w (Ev.Call core request) o m × GoesOn m core o v text
+
+-- the line of an event
+abbrev pub is_event : Option Line → Bool
+is_event None = false
+is_event (Some Blank) = false
+is_event (Some (Space cores frames calls)) = false
+is_event (Some (Call core request)) = true
+is_event (Some (Go core)) = true
+is_event (Some (Finish core)) = true
+is_event (Some (Now core request)) = true

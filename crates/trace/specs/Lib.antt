@@ -1,0 +1,6 @@
+pub mod Ends
+pub mod Gives
+pub mod OutcomeText
+pub mod Runs
+pub mod Stage
+pub mod Turns

@@ -1,0 +1,43 @@
+-- What one turn of a replay does, and how it can fail.
+use Rattle.std.specs.Prelude.{◌≡◌, ℕ, ◌+◌, ◌<◌, ◌≤◌, List, Bool, true, false, Option, None, Some, Result, Ok, Err, length}
+use Rattle.std.specs.Io.KnownBytes.{Keeps, Appends, IsAtEnd}
+use Rattle.trace_io.specs.Lines.{IsUnbroken, TakesLine, BeginsTooLong}
+use Rattle.trace_io.specs.Sink.{AppendsFront}
+use Rattle.trace.specs.declared.fault.TraceFault.{TraceFault}
+use Rattle.trace.specs.declared.fault.TraceFault.TheVariants.{TooLong, ReadFailed, NoMemory, WriteFailed}
+use Rattle.trace.specs.Stage.{Stage, LineFails, Acts}
+
+-- what is still to come, the stage, and what the writer holds
+pub record Scene : Type 0 where
+  pub left : Option (List ℕ)
+  pub stage : Stage
+  pub written : Option (List ℕ)
+
+-- a line was taken, acted on, and its text written
+pub record Advances (old new : Scene) : Type 0 where
+  pub line : List ℕ
+  pub text : List ℕ
+  pub short : length line ≤ 256
+  pub unbroken : IsUnbroken line
+  pub takes : TakesLine old.left new.left line
+  pub acts : Acts old.stage line new.stage text
+  pub appends : Appends old.written new.written text
+
+-- nothing was left
+pub record IsOver (old new : Scene) : Type 0 where
+  pub ended : IsAtEnd old.left
+  pub stage : new.stage ≡ old.stage
+  pub written : Keeps old.written new.written
+
+-- line number + 1 was not acted on, for this fault
+pub data Fails (old new : Scene) (number : ℕ) (f : TraceFault) : Type 0 where
+  unread : f ≡ ReadFailed → Keeps old.written new.written → Fails old new number f
+  too_long : f ≡ TooLong (number + 1) → BeginsTooLong old.left → Keeps old.written new.written → Fails old new number f
+  no_memory : f ≡ NoMemory → Keeps old.written new.written → Fails old new number f
+  refused : (line : List ℕ) → length line ≤ 256 → IsUnbroken line → TakesLine old.left new.left line → LineFails old.stage (number + 1) line f → Keeps old.written new.written → Fails old new number f
+  unwritten : f ≡ WriteFailed → (line text : List ℕ) → length line ≤ 256 → IsUnbroken line → TakesLine old.left new.left line → Acts old.stage line new.stage text → AppendsFront old.written new.written text → Fails old new number f
+
+abbrev pub Turns : Scene → Scene → ℕ → Result Bool TraceFault → Type 0
+Turns old new number (Ok true) = Advances old new
+Turns old new number (Ok false) = IsOver old new
+Turns old new number (Err f) = Fails old new number f

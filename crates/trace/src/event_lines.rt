@@ -1,0 +1,84 @@
+//! Lines of events: each moves the machine, and its text tells the outcome.
+ghost use Rattle.std.specs.Prelude.{◌≡◌, ◌⊎◌, IfErr, OnOk, IsSomeAnd, false};
+ghost use Rattle.trace.specs.Gives.{Gives, is_event, TellsFinish, TellsStep};
+
+use crate::fault::TraceFault;
+use crate::outcome_text::{LineText, write_finished, write_outcome};
+use core_steps::Machine;
+use core_steps::engine::Modelled;
+use machine_model::{Event, Outcome};
+use slot_lock::RunList;
+use std::alloc::Allocator;
+use trace_text::Line;
+use vm_base::{CoreId, NoMemory, Request};
+
+// One step.
+fn tell_step<A: Allocator + Clone + Drop>(
+    machine: &mut Machine<RunList<A>, A>,
+    event: Event,
+    text: &mut LineText,
+) -> Result<(), NoMemory>
+    ensures { OnOk result (TellsStep (⟦<Machine<RunList<A>, A> as Modelled>⟧.world machine.old) event (⟦<Machine<RunList<A>, A> as Modelled>⟧.world machine.new) text.new.bytes) }
+{
+    let outcome = machine.step(event)?;
+    write_outcome(text, outcome);
+    Ok(())
+}
+
+// All steps of the core's call.
+fn tell_finish<A: Allocator + Clone + Drop>(
+    machine: &mut Machine<RunList<A>, A>,
+    core: CoreId,
+    text: &mut LineText,
+) -> Result<(), NoMemory>
+    ensures { OnOk result (TellsFinish (⟦<Machine<RunList<A>, A> as Modelled>⟧.world machine.old) core (⟦<Machine<RunList<A>, A> as Modelled>⟧.world machine.new) text.new.bytes) }
+{
+    let finished = machine.finish(core)?;
+    write_finished(text, finished);
+    Ok(())
+}
+
+// A call, which is finished if it could begin.
+fn tell_call<A: Allocator + Clone + Drop>(
+    machine: &mut Machine<RunList<A>, A>,
+    core: CoreId,
+    request: Request,
+    text: &mut LineText,
+) -> Result<(), NoMemory>
+    ensures { OnOk result (Gives (⟦<Machine<RunList<A>, A> as Modelled>⟧.world machine.old) (Line.Now core request) (⟦<Machine<RunList<A>, A> as Modelled>⟧.world machine.new) text.new.bytes) }
+{
+    match machine.step(Event::Call(core, request))? {
+        Outcome::Stepped => tell_finish(machine, core, text),
+        outcome => {
+            write_outcome(text, outcome);
+            Ok(())
+        }
+    }
+}
+
+/// Moves the machine as the line says, and replaces the text by what it gives. A line that is bad, or the line of
+/// a space, is a bad line here, and nothing changes. At `NoMemory` the steps before the refused one stand.
+pub fn run_line<A: Allocator + Clone + Drop>(
+    machine: &mut Machine<RunList<A>, A>,
+    line: Option<Line>,
+    number: u64,
+    text: &mut LineText,
+) -> Result<(), TraceFault>
+    ensures ok { OnOk result (IsSomeAnd line (λ l. Gives (⟦<Machine<RunList<A>, A> as Modelled>⟧.world machine.old) l (⟦<Machine<RunList<A>, A> as Modelled>⟧.world machine.new) text.new.bytes)) }
+    ensures err { IfErr result (λ f. (f ≡ TraceFault.NoMemory) ⊎ ((is_event line ≡ false) × (f ≡ TraceFault.BadLine number))) }
+{
+    let Some(line) = line else {
+        return Err(TraceFault::BadLine(number));
+    };
+    let done = match line {
+        Line::Call(core, request) => tell_step(machine, Event::Call(core, request), text),
+        Line::Go(core) => tell_step(machine, Event::Go(core), text),
+        Line::Finish(core) => tell_finish(machine, core, text),
+        Line::Now(core, request) => tell_call(machine, core, request, text),
+        Line::Blank | Line::Space { .. } => return Err(TraceFault::BadLine(number)),
+    };
+    match done {
+        Ok(()) => Ok(()),
+        Err(_) => Err(TraceFault::NoMemory),
+    }
+}

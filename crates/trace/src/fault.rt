@@ -1,0 +1,29 @@
+//! What ends a replay early.
+use core_steps::SetupFault;
+use thiserror::Error;
+
+/// Why a replay ended early. Lines are numbered from 1.
+#[derive(Clone, Copy, Debug, PartialEq, Eq, Error)]
+pub enum TraceFault {
+    /// The line says nothing that a trace may say at this place.
+    #[error("line {0}: bad line")]
+    BadLine(u64),
+    /// The line has more than 256 bytes.
+    #[error("line {0}: too long")]
+    TooLong(u64),
+    /// A read failed, or 2^32 reads were made.
+    #[error("read failed")]
+    ReadFailed,
+    /// No `vm` line came before the first other line with words, or before the end.
+    #[error("no vm line first")]
+    NoVmLine,
+    /// The allocator refused.
+    #[error("out of memory")]
+    NoMemory,
+    /// The setup of the `vm` line makes no machine.
+    #[error("setup {0}")]
+    Setup(SetupFault),
+    /// A write failed, or took no byte.
+    #[error("write failed")]
+    WriteFailed,
+}

@@ -1,0 +1,10 @@
+//! The replay of a trace: lines that move a machine, and the text that they give.
+#![tactic(auto)]
+
+pub mod event_lines;
+pub mod fault;
+pub mod outcome_text;
+pub mod replay;
+pub mod replayer;
+
+pub use fault::TraceFault;

@@ -1,0 +1,85 @@
+//! The text of an outcome: one line, in a buffer of fixed size.
+ghost use Rattle.std.specs.Prelude.{◌≡◌, ◌+◌, ◌<◌, ◌≤◌, ◌++◌, [], cond, codes, decimal, length};
+ghost use Rattle.vm_base.specs.Cores.{members};
+ghost use Rattle.trace.specs.OutcomeText.{core_text, cores_text, finished_text, outcome_text};
+
+use arrayvec::ArrayString;
+use core_steps::Finished;
+use machine_model::{Blocker, Outcome};
+use trace_text::{number_text, reply_text};
+use vm_base::{CoreId, CoreSet};
+
+/// Room for one line of output. The longest names 64 cores.
+pub type LineText = ArrayString<256>;
+
+// A core behind a space, if it is a member.
+fn push_member(text: &mut LineText, cores: CoreSet, core: CoreId)
+    requires { length text.old.bytes + 3 ≤ 256 }
+    ensures bytes { text.new.bytes ≡ text.old.bytes ++ cond (members cores core) (core_text core) [] }
+    ensures short { length text.new.bytes ≤ length text.old.bytes + 3 }
+{
+    if cores.contains(core) {
+        text.push_str(" ");
+        text.push_str(number_text(u64::from(core.index())).as_str());
+    }
+}
+
+// The members, each behind a space, ascending.
+fn push_cores(text: &mut LineText, cores: CoreSet)
+    requires { length text.old.bytes ≤ 10 }
+    ensures bytes { text.new.bytes ≡ text.old.bytes ++ cores_text cores }
+    ensures short { length text.new.bytes ≤ 202 }
+{
+    'cores: for index in 0..64u8 {
+        push_member(text, cores, CoreId::new(index));
+    }
+}
+
+fn write_word(text: &mut LineText, word: &str)
+    requires { length word.now ≤ 255 }
+    ensures { text.new.bytes ≡ word.now ++ codes "\n" }
+{
+    text.clear();
+    text.push_str(word);
+    text.push_str("\n");
+}
+
+fn write_wait(text: &mut LineText, blocker: Blocker)
+    ensures { text.new.bytes ≡ outcome_text (Outcome.Wait blocker) }
+{
+    text.clear();
+    match blocker {
+        Blocker::Slot(core) => {
+            text.push_str("wait slot ");
+            text.push_str(number_text(u64::from(core.index())).as_str());
+        }
+        Blocker::Acks(cores) => {
+            text.push_str("wait acks");
+            push_cores(text, cores);
+        }
+    }
+    text.push_str("\n");
+}
+
+/// Replaces the text by that of the outcome, with its newline.
+pub fn write_outcome(text: &mut LineText, outcome: Outcome)
+    ensures { text.new.bytes ≡ outcome_text outcome }
+{
+    match outcome {
+        Outcome::Stepped => write_word(text, "step"),
+        Outcome::Wait(blocker) => write_wait(text, blocker),
+        Outcome::Idle => write_word(text, "idle"),
+        Outcome::Answered(reply) => write_word(text, reply_text(reply).as_str()),
+        Outcome::Full => write_word(text, "full"),
+    }
+}
+
+/// Replaces the text by that of a finished call, with its newline: its last outcome, or `stuck`.
+pub fn write_finished(text: &mut LineText, finished: Finished)
+    ensures { text.new.bytes ≡ finished_text finished }
+{
+    match finished {
+        Finished::Last(outcome) => write_outcome(text, outcome),
+        Finished::Stuck => write_word(text, "stuck"),
+    }
+}

@@ -1,0 +1,102 @@
+//! The lines of a trace, acted on one by one.
+ghost use Rattle.std.specs.Prelude.{◌≡◌, ◌+◌, ◌^◌, ◌<◌, Err, IfOk, IfSome, true};
+ghost use Rattle.trace_io.specs.Source.{HasStopped};
+ghost use Rattle.trace_io.specs.Window.{left, budget, opening};
+ghost use Rattle.trace.specs.declared.fault.TraceFault.TheVariants.{ReadFailed, WriteFailed};
+ghost use Rattle.trace.specs.Turns.{Turns, Scene};
+ghost use Rattle.trace.specs.Stage.{Start};
+ghost use Rattle.trace.specs.Ends.{Ends};
+
+use crate::fault::TraceFault;
+use crate::outcome_text::LineText;
+use crate::replayer::{Replayer, Staged};
+use std::alloc::Allocator;
+use trace_io::lines::{Found, LineReader};
+use trace_io::sink::{Sink, write_all};
+use trace_io::source::Source;
+
+// Acts on the next line and writes its text, or answers false where there is none.
+fn turn<A: Allocator, S: Source, W: Sink, R: Staged>(
+    lines: &mut LineReader<A>,
+    reader: &mut S,
+    writer: &mut W,
+    replayer: &mut R,
+    number: u64,
+    text: &mut LineText,
+) -> Result<bool, TraceFault>
+    requires { number + 1 < 2 ^ 64 }
+    ensures turns { Turns
+        (record { left = left (S.remaining reader.old) lines.old; stage = R.stage replayer.old; written = W.contents writer.old })
+        (record { left = left (S.remaining reader.new) lines.new; stage = R.stage replayer.new; written = W.contents writer.new })
+        number result }
+    ensures budget { IfOk result (λ more. more ≡ true → budget (S.reads reader.new) lines.new < budget (S.reads reader.old) lines.old) }
+    ensures read { result ≡ Err ReadFailed → HasStopped (S.failed reader.new) (S.reads reader.new) }
+    ensures write { result ≡ Err WriteFailed → W.failed writer.new ≡ true }
+{
+    match lines.next_line(reader) {
+        Err(_) => Err(TraceFault::ReadFailed),
+        Ok(Found::End) => Ok(false),
+        Ok(Found::TooLong) => Err(TraceFault::TooLong(number + 1)),
+        Ok(Found::Line) => {
+            if let Err(fault) = replayer.act(number + 1, lines.line(), text) {
+                return Err(fault);
+            }
+            if let Err(_) = write_all(writer, text.as_str().as_bytes()) {
+                return Err(TraceFault::WriteFailed);
+            }
+            Ok(true)
+        }
+    }
+}
+
+// Acts on the lines until the text ends.
+fn replay_lines<A: Allocator, S: Source, W: Sink, R: Staged>(
+    lines: &mut LineReader<A>,
+    reader: &mut S,
+    writer: &mut W,
+    replayer: &mut R,
+    text: &mut LineText,
+) -> Result<(), TraceFault>
+    requires fresh { lines.old ≡ opening }
+    requires start { R.stage replayer.old ≡ Start }
+    ensures ends { IfSome (S.remaining reader.old) (λ input.
+        Ends input (W.contents writer.old) (W.contents writer.new) result) }
+    ensures read { result ≡ Err ReadFailed → HasStopped (S.failed reader.new) (S.reads reader.new) }
+    ensures write { result ≡ Err WriteFailed → W.failed writer.new ≡ true }
+{
+    let mut number = 0u64;
+    'lines: loop {
+        match turn(lines, reader, writer, replayer, number, text) {
+            Ok(true) => number += 1,
+            Ok(false) => return replayer.finish(),
+            Err(fault) => return Err(fault),
+        }
+    }
+}
+
+/// Acts on each line as it is read, and writes its text before the next line is acted on.
+pub fn replay<A: Allocator + Clone + Drop, S: Source, W: Sink>(
+    alloc: A,
+    reader: &mut S,
+    writer: &mut W,
+) -> Result<(), TraceFault>
+    // What went out, and which fault it is, where the reader tells its bytes.
+    ensures ends { IfSome (S.remaining reader.old) (λ input.
+        Ends input (W.contents writer.old) (W.contents writer.new) result) }
+    ensures read { result ≡ Err ReadFailed → HasStopped (S.failed reader.new) (S.reads reader.new) }
+    ensures write { result ≡ Err WriteFailed → W.failed writer.new ≡ true }
+{
+    let Ok(for_lines) = alloc.clone() else {
+        return Err(TraceFault::NoMemory);
+    };
+    let Ok(mut lines) = LineReader::new(for_lines) else {
+        return Err(TraceFault::NoMemory);
+    };
+    let mut replayer = Replayer::new(alloc);
+    let mut text = LineText::new();
+    let done = replay_lines(&mut lines, reader, writer, &mut replayer, &mut text);
+    match writer.flush() {
+        Ok(()) => done,
+        Err(_) => Err(TraceFault::WriteFailed),
+    }
+}

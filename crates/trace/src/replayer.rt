@@ -1,0 +1,148 @@
+//! A replay between two lines, and what one line does to it.
+ghost use Rattle.std.specs.Prelude.{◌≡◌, ◌⊎◌, [], option_map, None, IfOk, IfErr, OnOk, IsSomeAnd};
+ghost use Rattle.trace.specs.Stage.{Stage, Start, Declared, stage_of, Opens, OpenFails, CanOpen, Acts, EventActs, EventFails, LineFails};
+
+use crate::event_lines::run_line;
+use crate::fault::TraceFault;
+use crate::outcome_text::LineText;
+use core_steps::engine::Modelled;
+use core_steps::{Machine, Setup, SetupFault};
+use slot_lock::RunList;
+use std::alloc::Allocator;
+use trace_text::{Line, first_word_is_vm, is_printable, read_line};
+
+/// What acts on the lines of a trace, one at a time.
+pub trait Staged {
+    // How far the trace has come.
+    ghost stage: { Self → Stage };
+
+    /// Acts on the line with this number, and replaces the text by what it gives. A fault that isn't want of memory
+    /// is the line's first. After a fault no other line is acted on.
+    fn act(&mut self, number: u64, line: &[u8], text: &mut LineText) -> Result<(), TraceFault>
+        ensures ok { OnOk result (Acts (stage self.old) line.now (stage self.new) text.new.bytes) }
+        ensures err { IfErr result (λ f. (f ≡ TraceFault.NoMemory) ⊎ LineFails (stage self.old) number line.now f) };
+
+    /// Ends the trace: a machine is made where no line has made one yet.
+    fn finish(&self) -> Result<(), TraceFault>
+        ensures ok { OnOk result (CanOpen (stage self.now)) }
+        ensures err { IfErr result (λ f. OpenFails (stage self.now) f) };
+}
+
+/// A replay between two lines. Up to the `vm` line it has neither a setup nor a machine, then a setup, and from the
+/// first line of an event on a machine.
+#[derive(Drop)]
+pub struct Replayer<A: Allocator + Clone> {
+    alloc: A,
+    setup: Option<Setup>,
+    machine: Option<Machine<RunList<A>, A>>,
+}
+
+// The machine that a setup makes.
+fn made<A: Allocator + Clone + Drop>(
+    alloc: &A,
+    setup: Option<Setup>,
+) -> Result<Machine<RunList<A>, A>, TraceFault>
+    ensures ok { IfOk result (λ m. Opens (stage_of setup None) (⟦<Machine<RunList<A>, A> as Modelled>⟧.world m)) }
+    ensures err { IfErr result (λ f. OpenFails (stage_of setup None) f) }
+{
+    let Some(setup) = setup else {
+        return Err(TraceFault::NoVmLine);
+    };
+    if let Some(fault) = setup.fault() {
+        return Err(TraceFault::Setup(fault));
+    }
+    let Ok(for_map) = alloc.clone() else {
+        return Err(TraceFault::Setup(SetupFault::NoMemory));
+    };
+    let Ok(map) = RunList::new(for_map) else {
+        return Err(TraceFault::Setup(SetupFault::NoMemory));
+    };
+    let Ok(for_machine) = alloc.clone() else {
+        return Err(TraceFault::Setup(SetupFault::NoMemory));
+    };
+    match Machine::new(for_machine, map, &setup) {
+        Ok(machine) => Ok(machine),
+        Err(fault) => Err(TraceFault::Setup(fault)),
+    }
+}
+
+impl<A: Allocator + Clone + Drop> Replayer<A> {
+    /// A replay before the first line.
+    pub fn new(alloc: A) -> Replayer<A>
+        ensures { ⟦<Self as Staged>⟧.stage result ≡ Start }
+    {
+        Replayer {
+            alloc,
+            setup: None,
+            machine: None,
+        }
+    }
+
+    // Acts on a line that isn't the `vm` line and has words.
+    fn act_on_event(
+        &mut self,
+        number: u64,
+        line: Option<Line>,
+        text: &mut LineText,
+    ) -> Result<(), TraceFault>
+        ensures ok { OnOk result (IsSomeAnd line (λ l. EventActs (⟦<Self as Staged>⟧.stage self.old) l (⟦<Self as Staged>⟧.stage self.new) text.new.bytes)) }
+        ensures err { IfErr result (λ f. (f ≡ TraceFault.NoMemory) ⊎ EventFails (⟦<Self as Staged>⟧.stage self.old) number line f) }
+    {
+        match &mut self.machine {
+            Some(machine) => run_line(machine, line, number, text),
+            None => {
+                let mut machine = match made(&self.alloc, self.setup) {
+                    Ok(machine) => machine,
+                    Err(fault) => return Err(fault),
+                };
+                let done = run_line(&mut machine, line, number, text);
+                self.machine = Some(machine);
+                done
+            }
+        }
+    }
+}
+
+impl<A: Allocator + Clone + Drop> Staged for Replayer<A> {
+    ghost stage = { λ r. stage_of r.setup (option_map (⟦<Machine<RunList<A>, A> as Modelled>⟧.world) r.machine) };
+
+    fn act(&mut self, number: u64, line: &[u8], text: &mut LineText) -> Result<(), TraceFault> {
+        if !is_printable(line) {
+            return Err(TraceFault::BadLine(number));
+        }
+        let is_start = self.setup.is_none() && self.machine.is_none();
+        match read_line(line) {
+            Some(Line::Blank) => {
+                text.clear();
+                Ok(())
+            }
+            Some(
+                Line::Space {
+                    cores,
+                    frames,
+                    calls,
+                },
+            ) if is_start => {
+                self.setup = Some(Setup {
+                    cores,
+                    frames,
+                    calls,
+                });
+                text.clear();
+                Ok(())
+            }
+            None if is_start && first_word_is_vm(line) => Err(TraceFault::BadLine(number)),
+            event => self.act_on_event(number, event, text),
+        }
+    }
+
+    fn finish(&self) -> Result<(), TraceFault> {
+        if self.machine.is_some() {
+            return Ok(());
+        }
+        match made(&self.alloc, self.setup) {
+            Ok(_) => Ok(()),
+            Err(fault) => Err(fault),
+        }
+    }
+}
