@@ -7,7 +7,7 @@ use crate::fault::TraceFault;
 use crate::outcome_text::LineText;
 use core_steps::engine::Modelled;
 use core_steps::{Machine, Setup, SetupFault};
-use slot_lock::RunList;
+use slot_lock::{RunList, SlotMap};
 use std::alloc::Allocator;
 use trace_text::{Line, first_word_is_vm, is_printable, read_line};
 
@@ -31,7 +31,10 @@ pub trait Staged {
 /// A replay between two lines. Up to the `vm` line it has neither a setup nor a machine, then a setup, and from the
 /// first line of an event on a machine.
 #[derive(Drop)]
-pub struct Replayer<A: Allocator + Clone> {
+pub struct Replayer<A: Allocator + Clone>
+where
+    RunList<A>: SlotMap,
+{
     alloc: A,
     setup: Option<Setup>,
     machine: Option<Machine<RunList<A>, A>>,
