@@ -8,3 +8,6 @@ pub mod replay;
 pub mod replayer;
 
 pub use fault::TraceFault;
+
+#[cfg(test)]
+mod tests;

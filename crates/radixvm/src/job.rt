@@ -1,0 +1,46 @@
+//! What the program does once its words are read.
+ghost use Rattle.std.specs.Prelude.{◌≡◌, ◌≤◌, IfSome, Result};
+ghost use Rattle.radixvm.specs.Status.{fault_status, status_of};
+ghost use Rattle.trace.specs.Ends.{Ends};
+ghost use Rattle.trace.specs.declared.fault.TraceFault.{TraceFault};
+
+use core_steps::SetupFault;
+use std::alloc::Allocator;
+use std::io::Write;
+use trace::fault::TraceFault;
+use trace::replay::replay;
+use trace_io::sink::Sink;
+use trace_io::source::Source;
+
+/// The status that a fault ends the program with: 2 where the text is at fault, 3 where its surroundings are.
+pub fn status_of_fault(fault: TraceFault) -> u8
+    ensures value { result ≡ fault_status fault }
+    ensures within { result ≤ 3 }
+{
+    match fault {
+        TraceFault::BadLine(_) | TraceFault::TooLong(_) | TraceFault::NoVmLine => 2,
+        TraceFault::Setup(SetupFault::NoMemory) => 3,
+        TraceFault::Setup(_) => 2,
+        TraceFault::ReadFailed | TraceFault::NoMemory | TraceFault::WriteFailed => 3,
+    }
+}
+
+/// Replays the trace, prints a fault as `radixvm: ` and its text, and answers the status: 0, or that of the fault.
+pub fn run<A: Allocator + Clone + Drop, S: Source, W: Sink, E: Write>(
+    alloc: A,
+    reader: &mut S,
+    out: &mut W,
+    errors: &mut E,
+) -> u8
+    ensures ends { (r : Result Unit TraceFault) × (result ≡ status_of r)
+        × IfSome (S.remaining reader.old) (λ input. Ends input (W.contents out.old) (W.contents out.new) r) }
+    ensures within { result ≤ 3 }
+{
+    match replay(alloc, reader, out) {
+        Ok(()) => 0,
+        Err(fault) => {
+            let _ = writeln!(errors, "radixvm: {fault}");
+            status_of_fault(fault)
+        }
+    }
+}
