@@ -10,6 +10,8 @@ pub mod events;
 pub mod machine;
 pub mod reserved;
 pub mod setup;
+#[cfg(test)]
+mod tests;
 
 pub use machine::{Finished, Machine};
 pub use setup::{Setup, SetupFault};
