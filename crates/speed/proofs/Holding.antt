@@ -1,7 +1,6 @@
 -- How locking and unlocking one page goes from free slots to one that is held, and back
-use Rattle.std.proofs.Common.{◌≡◌, ◌≢◌, ℕ, ◌+◌, ◌^◌, ◌<◌, ◌≤◌, true, false, cond, Some, None, refl, sym, ◌∙◌, ap, arith}
-use Rattle.vm_base.specs.declared.page.PageRange.{PageRange}
-use Rattle.vm_base.specs.Functions.{over, has}
+use Rattle.std.proofs.Common.{◌≡◌, ◌≢◌, ℕ, ◌+◌, ◌<◌, ◌≤◌, false, cond, Some, None, refl, ◌∙◌, ap, arith}
+use Rattle.vm_base.specs.Functions.{has}
 use Rattle.vm_base.specs.Pages.{IsPage}
 use Rattle.vm_base.specs.Info.{frame_of}
 use Rattle.vm_base.proofs.Functions.{over_all, has_in, in_has}
