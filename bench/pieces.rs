@@ -1,0 +1,314 @@
+//! Plain Rust programs that the parts are measured against: one page locked and unlocked among many slots, a translation
+//! that the TLB has, and the table entries of a large range dropped. Standard library alone.
+//! Build: `rustc --edition 2021 -C opt-level=3 bench/pieces.rs`.
+use std::collections::BTreeMap;
+use std::hint::black_box;
+use std::time::{Duration, Instant};
+
+#[derive(Clone, Copy)]
+#[allow(dead_code)]
+struct Prot {
+    read: bool,
+    write: bool,
+    exec: bool,
+}
+
+const READ_WRITE: Prot = Prot { read: true, write: true, exec: false };
+
+// ---- slots
+
+#[derive(Clone, Copy)]
+#[allow(dead_code)]
+enum Back {
+    Anon,
+    Shared { file: u32, page: u64 },
+    Private { file: u32, page: u64 },
+}
+
+#[derive(Clone, Copy)]
+#[allow(dead_code)]
+struct Info {
+    back: Back,
+    prot: Prot,
+    frame: Option<u32>,
+    cores: u64,
+}
+
+/// The pages from its key up to `end`.
+struct Slot {
+    end: u64,
+    owner: Option<u8>,
+    #[allow(dead_code)]
+    info: Option<Info>,
+}
+
+struct Slots {
+    by_start: BTreeMap<u64, Slot>,
+}
+
+impl Slots {
+    /// Every other page from 16 on is mapped, and each page between two of them is a slot too.
+    fn filled(pages: u64) -> Slots {
+        let info = Info { back: Back::Anon, prot: READ_WRITE, frame: None, cores: 0 };
+        let mut by_start = BTreeMap::new();
+        by_start.insert(1, Slot { end: 16, owner: None, info: None });
+        for place in 0..pages {
+            let page = 16 + 2 * place;
+            by_start.insert(page, Slot { end: page + 1, owner: None, info: Some(info) });
+            let end = if place + 1 < pages { page + 2 } else { 1 << 35 };
+            by_start.insert(page + 1, Slot { end, owner: None, info: None });
+        }
+        Slots { by_start }
+    }
+
+    /// Locks the slot of the page if it lies from the page up to `end` and is free, and answers its end.
+    fn lock(&mut self, core: u8, page: u64, end: u64) -> Option<u64> {
+        let (start, slot) = self.by_start.range_mut(..=page).next_back()?;
+        if slot.owner.is_some() || *start < page || end < slot.end {
+            return None;
+        }
+        slot.owner = Some(core);
+        Some(slot.end)
+    }
+
+    /// Unlocks the slot of the page, and answers its end.
+    fn unlock(&mut self, core: u8, page: u64) -> Option<u64> {
+        let (_, slot) = self.by_start.range_mut(..=page).next_back()?;
+        if slot.owner != Some(core) {
+            return None;
+        }
+        slot.owner = None;
+        Some(slot.end)
+    }
+}
+
+fn slots(pages: u64, rounds: u64) -> Duration {
+    let mut map = Slots::filled(pages);
+    let core = black_box(1);
+    let mut place = 0;
+    let mut locked = 0u64;
+    let start = Instant::now();
+    for _ in 0..rounds {
+        place = (place + 30_011) % pages;
+        let page = 16 + 2 * place;
+        if map.lock(core, page, page + 1).is_some() && map.unlock(core, page).is_some() {
+            locked += 1;
+        }
+    }
+    let took = start.elapsed();
+    assert_eq!(locked, rounds);
+    took
+}
+
+// ---- tables and TLB
+
+#[derive(Clone, Copy, PartialEq)]
+#[allow(dead_code)]
+enum Access {
+    Load,
+    Store,
+    Fetch,
+}
+
+#[derive(Clone, Copy, Default)]
+struct Translation {
+    frame: u32,
+    write: bool,
+    exec: bool,
+}
+
+impl Translation {
+    fn permits(self, access: Access) -> bool {
+        match access {
+            Access::Load => true,
+            Access::Store => self.write,
+            Access::Fetch => self.exec,
+        }
+    }
+
+    fn word(self) -> u64 {
+        u64::from(self.frame) << 12 | 5 | u64::from(self.write) << 1 | u64::from(!self.exec) << 63
+    }
+
+    fn of_word(word: u64) -> Option<Translation> {
+        (word & 1 == 1).then_some(Translation {
+            frame: (word >> 12) as u32,
+            write: word & 2 != 0,
+            exec: word >> 63 == 0,
+        })
+    }
+}
+
+#[derive(Clone, Copy, Default)]
+struct TlbEntry {
+    page: u64,
+    translation: Translation,
+}
+
+#[derive(Clone, Copy, Debug, PartialEq)]
+enum Translated {
+    Hit(u32),
+    Fill(u32),
+    Fault,
+}
+
+struct Leaf([u64; 512]);
+struct Inner<C>([Option<Box<C>>; 512]);
+
+/// A table and those below it. The pages that it covers have numbers from 0 on.
+trait Table {
+    const PAGES: u64;
+    fn new() -> Box<Self>;
+    fn get(&self, page: u64) -> Option<Translation>;
+    fn set(&mut self, page: u64, translation: Translation);
+    fn clear(&mut self, first: u64, end: u64);
+}
+
+impl Table for Leaf {
+    const PAGES: u64 = 512;
+
+    fn new() -> Box<Self> {
+        Box::new(Leaf([0; 512]))
+    }
+
+    fn get(&self, page: u64) -> Option<Translation> {
+        Translation::of_word(self.0[page as usize])
+    }
+
+    fn set(&mut self, page: u64, translation: Translation) {
+        self.0[page as usize] = translation.word();
+    }
+
+    fn clear(&mut self, first: u64, end: u64) {
+        self.0[first as usize..end as usize].fill(0);
+    }
+}
+
+impl<C: Table> Table for Inner<C> {
+    const PAGES: u64 = 512 * C::PAGES;
+
+    fn new() -> Box<Self> {
+        Box::new(Inner([const { None }; 512]))
+    }
+
+    fn get(&self, page: u64) -> Option<Translation> {
+        self.0[(page / C::PAGES) as usize].as_ref()?.get(page % C::PAGES)
+    }
+
+    fn set(&mut self, page: u64, translation: Translation) {
+        self.0[(page / C::PAGES) as usize].get_or_insert_with(C::new).set(page % C::PAGES, translation);
+    }
+
+    fn clear(&mut self, first: u64, end: u64) {
+        let from = first / C::PAGES;
+        let to = end.div_ceil(C::PAGES);
+        for (i, table) in (from..to).zip(&mut self.0[from as usize..to as usize]) {
+            if let Some(table) = table {
+                let start = i * C::PAGES;
+                table.clear(first.saturating_sub(start), (end - start).min(C::PAGES));
+            }
+        }
+    }
+}
+
+/// One core's tables and TLB; the oldest filled goes where there is no room.
+struct Cpu {
+    root: Box<Inner<Inner<Inner<Leaf>>>>,
+    tlb: [TlbEntry; 64],
+    len: usize,
+}
+
+impl Cpu {
+    fn new() -> Cpu {
+        Cpu { root: Inner::new(), tlb: [TlbEntry::default(); 64], len: 0 }
+    }
+
+    fn install(&mut self, page: u64, frame: u32, prot: Prot) {
+        self.root.set(page, Translation { frame, write: prot.write, exec: prot.exec });
+    }
+
+    fn translate(&mut self, page: u64, access: Access) -> Translated {
+        if let Some(entry) = self.tlb[..self.len].iter().find(|entry| entry.page == page) {
+            if entry.translation.permits(access) {
+                return Translated::Hit(entry.translation.frame);
+            }
+        } else if let Some(translation) = self.root.get(page) {
+            if translation.permits(access) {
+                self.fill(page, translation);
+                return Translated::Fill(translation.frame);
+            }
+        }
+        self.drop_page(page);
+        Translated::Fault
+    }
+
+    fn fill(&mut self, page: u64, translation: Translation) {
+        if self.len == 64 {
+            self.tlb.copy_within(1.., 0);
+            self.len = 63;
+        }
+        self.tlb[self.len] = TlbEntry { page, translation };
+        self.len += 1;
+    }
+
+    fn drop_page(&mut self, page: u64) {
+        if let Some(i) = self.tlb[..self.len].iter().position(|entry| entry.page == page) {
+            self.tlb.copy_within(i + 1..self.len, i);
+            self.len -= 1;
+        }
+    }
+
+    fn clear_tables(&mut self, first: u64, end: u64) {
+        self.root.clear(first, end);
+    }
+}
+
+fn hits(rounds: u64) -> Duration {
+    let mut cpu = Cpu::new();
+    let page_at = |place: u64| 4096 + 8 * place;
+    for place in 0..64 {
+        cpu.install(page_at(place), place as u32, READ_WRITE);
+        cpu.translate(page_at(place), Access::Load);
+    }
+    let mut place = 0;
+    let mut hits = 0u64;
+    let mut sum = 0u64;
+    let start = Instant::now();
+    for _ in 0..rounds {
+        place = (place + 37) % 64;
+        if let Translated::Hit(frame) = cpu.translate(page_at(place), Access::Load) {
+            hits += 1;
+            sum = sum.wrapping_add(u64::from(frame));
+        }
+    }
+    let took = start.elapsed();
+    assert_eq!(hits, rounds);
+    black_box(sum);
+    took
+}
+
+fn clears(rounds: u64) -> Duration {
+    let mut cpu = Cpu::new();
+    let (first, end) = black_box((1 << 27, 1 << 28));
+    let mut took = Duration::ZERO;
+    for _ in 0..rounds {
+        for place in 0..10 {
+            cpu.install(first + 13_421_772 * place, place as u32, READ_WRITE);
+        }
+        let start = Instant::now();
+        cpu.clear_tables(first, end);
+        took += start.elapsed();
+    }
+    assert_eq!(cpu.translate(first, Access::Load), Translated::Fault);
+    took
+}
+
+fn main() {
+    let (took, rounds) = match std::env::args().nth(1).as_deref() {
+        Some("slots") => (slots(50_000, 5_000_000), 5_000_000),
+        Some("hit") => (hits(50_000_000), 50_000_000),
+        Some("clear") => (clears(20_000), 20_000),
+        _ => return println!("usage: pieces slots | hit | clear"),
+    };
+    println!("{:.1}", took.as_nanos() as f64 / rounds as f64);
+}
