@@ -19,15 +19,22 @@ pub trait Modelled {
     ghost world: { Self → World };
 }
 
-/// The machine's parts. Of each core: the phase of its call, and the number of its latest call.
+/// The machine's parts.
 #[derive(Drop)]
-pub struct Engine<M, A: Allocator + Clone> {
+pub(crate) struct Engine<M, A: Allocator + Clone> {
+    /// The slot map.
     pub map: M,
+    /// The frames of physical memory.
     pub frames: Frames<A>,
+    /// Of each core: where its call stands.
     pub phases: Vec<Phase, A>,
+    /// Of each core: the number of its latest call, from 1; 0 before its first.
     pub numbers: Vec<u64, A>,
+    /// The requests of the calls begun, in order.
     pub requests: Reserved<Request, A>,
+    /// The replies fixed so far, in order.
     pub log: Reserved<Entry, A>,
+    /// How many events were taken.
     pub events: u64,
     ghost numbered: { length numbers.items ≡ length phases.items },
     ghost few: { length phases.items ≤ 64 },

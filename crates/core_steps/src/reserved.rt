@@ -6,7 +6,9 @@ use std::alloc::{AllocError, Allocator};
 /// A list of at most `limit` elements. Once it is made, it takes no memory.
 #[derive(Drop)]
 pub struct Reserved<T, A: Allocator> {
+    /// The elements so far.
     pub items: Vec<T, A>,
+    /// How many elements there may be at the most.
     pub limit: u64,
     ghost room: { limit ≤ vec_capacity items },
     ghost within: { vec_len items ≤ limit },

@@ -4,11 +4,14 @@ ghost use Rattle.core_steps.specs.Setups.{fault_of};
 
 use std::fmt;
 
-/// What a machine is made with: its cores, its frames of 4,096 bytes, and how many calls may begin.
+/// What a machine is made with.
 #[derive(Clone, Copy, Debug, PartialEq, Eq)]
 pub struct Setup {
+    /// How many cores.
     pub cores: u64,
+    /// How many frames, each of 4,096 bytes.
     pub frames: u64,
+    /// How many calls may begin.
     pub calls: u64,
 }
 
