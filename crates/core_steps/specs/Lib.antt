@@ -2,4 +2,5 @@ pub mod Setups
 pub mod State
 pub mod Checks
 pub mod Taking
+pub mod Wanting
 pub mod Finishing

@@ -1,8 +1,9 @@
 //! One event: a call begins, or goes one step on.
-ghost use Rattle.std.specs.Prelude.{◌≡◌, ◌+◌, ◌^◌, ◌<◌, ◌≤◌, length, IfOk, OnErr};
+ghost use Rattle.std.specs.Prelude.{◌≡◌, ◌+◌, ◌^◌, ◌<◌, ◌≤◌, length, IfOk, OnErr, true};
 ghost use Rattle.machine_model.specs.Events.{core_of};
 ghost use Rattle.machine_model.specs.Step.{Step, Acts, Calls, Goes, counted};
 ghost use Rattle.machine_laws.specs.Orderly.{IsOrderly};
+ghost use Rattle.core_steps.specs.Wanting.{is_locking, may_want};
 
 use crate::engine::{Engine, Modelled};
 use machine_model::{Event, Outcome, Phase};
@@ -37,6 +38,7 @@ impl<M: SlotMap, A: Allocator + Clone> Engine<M, A> {
         requires orderly { ∥ IsOrderly (⟦<Self as Modelled>⟧.world self.old) ∥₁ }
         ensures step { IfOk result (λ o. Goes (⟦<Self as Modelled>⟧.world self.old) core ((⟦<Self as Modelled>⟧.world self.old).phase core) o (⟦<Self as Modelled>⟧.world self.new)) }
         ensures err { OnErr result (⟦<Self as Modelled>⟧.world self.new ≡ ⟦<Self as Modelled>⟧.world self.old) }
+        ensures err_only { OnErr result (is_locking ((⟦<Self as Modelled>⟧.world self.old).phase core) ≡ true) }
     {
         match self.phases[core.index() as usize] {
             Phase::Free => Ok(Outcome::Idle),
@@ -66,6 +68,7 @@ impl<M: SlotMap, A: Allocator + Clone> Engine<M, A> {
         requires orderly { ∥ IsOrderly (⟦<Self as Modelled>⟧.world self.old) ∥₁ }
         ensures step { IfOk result (λ o. Acts (⟦<Self as Modelled>⟧.world self.old) event o (⟦<Self as Modelled>⟧.world self.new)) }
         ensures err { OnErr result (⟦<Self as Modelled>⟧.world self.new ≡ ⟦<Self as Modelled>⟧.world self.old) }
+        ensures err_only { OnErr result (may_want (⟦<Self as Modelled>⟧.world self.old) event ≡ true) }
     {
         match event {
             Event::Call(core, request) => Ok(self.call(core, request)),
@@ -80,6 +83,7 @@ impl<M: SlotMap, A: Allocator + Clone> Engine<M, A> {
         requires orderly { ∥ IsOrderly (⟦<Self as Modelled>⟧.world self.old) ∥₁ }
         ensures step { IfOk result (λ o. Acts (counted (⟦<Self as Modelled>⟧.world self.old)) event o (⟦<Self as Modelled>⟧.world self.new)) }
         ensures err { OnErr result (⟦<Self as Modelled>⟧.world self.new ≡ ⟦<Self as Modelled>⟧.world self.old) }
+        ensures err_only { OnErr result (may_want (⟦<Self as Modelled>⟧.world self.old) event ≡ true) }
     {
         self.events += 1;
         match self.act(event) {
@@ -96,6 +100,7 @@ impl<M: SlotMap, A: Allocator + Clone> Engine<M, A> {
         requires { ∥ IsOrderly (⟦<Self as Modelled>⟧.world self.old) ∥₁ }
         ensures step { IfOk result (λ o. Step (⟦<Self as Modelled>⟧.world self.old) event o (⟦<Self as Modelled>⟧.world self.new)) }
         ensures err { OnErr result (⟦<Self as Modelled>⟧.world self.new ≡ ⟦<Self as Modelled>⟧.world self.old) }
+        ensures err_only { OnErr result (may_want (⟦<Self as Modelled>⟧.world self.old) event ≡ true) }
     {
         if self.events == u64::MAX {
             return Ok(Outcome::Full);

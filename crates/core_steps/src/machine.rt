@@ -1,11 +1,12 @@
 //! The machine as its users see it.
-ghost use Rattle.std.specs.Prelude.{◌≡◌, ◌⊎◌, ◌<◌, IfOk, IfErr, IfSome, OnErr, Some, None};
+ghost use Rattle.std.specs.Prelude.{◌≡◌, ◌⊎◌, ◌<◌, IfOk, IfErr, IfSome, OnErr, Some, None, true};
 ghost use Rattle.slot_lock.specs.Slots.{IsNew};
 ghost use Rattle.machine_model.specs.World.{opening};
 ghost use Rattle.machine_model.specs.Step.{Step};
 ghost use Rattle.machine_laws.specs.Orderly.{IsOrderly};
 ghost use Rattle.core_steps.specs.Setups.{fault_of, made_of};
 ghost use Rattle.core_steps.specs.State.{world_of};
+ghost use Rattle.core_steps.specs.Wanting.{may_want};
 ghost use Rattle.core_steps.specs.Finishing.{Finishes, IsRefused};
 
 use crate::engine::{Engine, Modelled};
@@ -60,6 +61,7 @@ impl<M: SlotMap + Drop, A: Allocator + Clone + Drop> Machine<M, A> {
     pub fn step(&mut self, event: Event) -> Result<Outcome, NoMemory>
         ensures step { IfOk result (λ outcome. Step (⟦<Self as Modelled>⟧.world self.old) event outcome (⟦<Self as Modelled>⟧.world self.new)) }
         ensures err { OnErr result (⟦<Self as Modelled>⟧.world self.new ≡ ⟦<Self as Modelled>⟧.world self.old) }
+        ensures err_only { OnErr result (may_want (⟦<Self as Modelled>⟧.world self.old) event ≡ true) }
     {
         self.engine.step(event)
     }
@@ -71,7 +73,10 @@ impl<M: SlotMap + Drop, A: Allocator + Clone + Drop> Machine<M, A> {
         ensures err { OnErr result (IsRefused (⟦<Self as Modelled>⟧.world self.old) core (⟦<Self as Modelled>⟧.world self.new)) }
     {
         'steps: for n in 0..FINISH_LIMIT {
-            let outcome = self.step(Event::Go(core))?;
+            let outcome = match self.step(Event::Go(core)) {
+                Ok(outcome) => outcome,
+                Err(refused) => return Err(refused),
+            };
             if outcome != Outcome::Stepped {
                 return Ok(Finished::Last(outcome));
             }
