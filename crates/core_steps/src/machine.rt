@@ -6,7 +6,7 @@ ghost use Rattle.machine_model.specs.Step.{Step};
 ghost use Rattle.machine_laws.specs.Orderly.{IsOrderly};
 ghost use Rattle.core_steps.specs.Setups.{fault_of, made_of};
 ghost use Rattle.core_steps.specs.State.{world_of};
-ghost use Rattle.core_steps.specs.Wanting.{may_want};
+ghost use Rattle.core_steps.specs.Wanting.{MayWant};
 ghost use Rattle.core_steps.specs.Finishing.{Finishes, IsRefused};
 
 use crate::engine::{Engine, Modelled};
@@ -57,11 +57,12 @@ impl<M: SlotMap + Drop, A: Allocator + Clone + Drop> Machine<M, A> {
         Ok(Machine { engine })
     }
 
-    /// One event. A refusal for memory leaves the machine unchanged, and comes only at a step that locks a slot.
+    /// One event. A refusal for memory leaves the machine unchanged, and comes only at a step at which a slot is to be
+    /// divided.
     pub fn step(&mut self, event: Event) -> Result<Outcome, NoMemory>
         ensures step { IfOk result (λ outcome. Step (⟦<Self as Modelled>⟧.world self.old) event outcome (⟦<Self as Modelled>⟧.world self.new)) }
         ensures err { OnErr result (⟦<Self as Modelled>⟧.world self.new ≡ ⟦<Self as Modelled>⟧.world self.old) }
-        ensures err_only { OnErr result (may_want (⟦<Self as Modelled>⟧.world self.old) event ≡ true) }
+        ensures err_only { OnErr result (MayWant (⟦<Self as Modelled>⟧.world self.old) event) }
     {
         self.engine.step(event)
     }
