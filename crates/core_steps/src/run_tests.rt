@@ -102,20 +102,23 @@ fn a_refused_call(rt: HostRuntime) -> Result<(), Fail> {
     Ok(())
 }
 
+// Want of memory is the last fault of a setup: there is none for a machine here.
 #[test]
 fn faults_of_the_setup(rt: HostRuntime) -> Result<(), Fail> {
     let setups = [
         ((0, 65_537, 1_048_577), SetupFault::Cores),
         ((1, 65_537, 1_048_577), SetupFault::Frames),
         ((1, 65_536, 1_048_577), SetupFault::Calls),
+        ((1, 65_536, 1_048_576), SetupFault::NoMemory),
     ];
+    let heap = LocalHeap::new(rt.alloc(), 64)?;
     for ((cores, frames, calls), told) in setups {
         let setup = Setup {
             cores,
             frames,
             calls,
         };
-        let fault = fault(rt.alloc(), rt.alloc(), &setup)?;
+        let fault = fault(&heap, rt.alloc(), &setup)?;
         assert!(rt; fault == Some(RunFault::Setup(told)));
     }
     Ok(())
