@@ -3,6 +3,7 @@ pub mod Moves
 pub mod Effects
 pub mod Numbered
 pub mod Bracketed
+mod Examples
 pub mod Slots
 pub mod Sound
 pub mod Locking
