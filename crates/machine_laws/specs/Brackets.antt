@@ -34,13 +34,13 @@ begun_by n _ _ = []
 
 -- the calls that events begin, in order, where the first of the events is the n-th
 abbrev pub calls_from : ℕ → List Event → List Outcome → List Begun
-calls_from n [] os = []
-calls_from n (e ∷ es) [] = []
 calls_from n (e ∷ es) (o ∷ os) = begun_by n e o ++ calls_from (suc n) es os
+calls_from n _ _ = []
 
 abbrev pub calls_of : List Event → List Outcome → List Begun
 calls_of es os = calls_from 1 es os
 
+-- their requests, in order
 abbrev pub requests_of : List Begun → List Request
 requests_of [] = []
 requests_of (b ∷ bs) = b.request ∷ requests_of bs
@@ -74,8 +74,8 @@ pub record IsBracketed (es : List Event) (os : List Outcome) (w : World) : Type 
   pub begun : (i step call core : ℕ) (reply : Reply) → IsAnswer w.log i step call core reply
       → (b : Begun) × (nth (calls_of es os) call ≡ Some b) × (b.core ≡ core) × (b.step < step)
   -- no call has two
-  pub once : (i j step later call core other : ℕ) (reply reply2 : Reply) → IsAnswer w.log i step call core reply
-      → IsAnswer w.log j later call other reply2 → i ≡ j
+  pub once : (i j step step2 call core core2 : ℕ) (reply reply2 : Reply) → IsAnswer w.log i step call core reply
+      → IsAnswer w.log j step2 call core2 reply2 → i ≡ j
   -- after n events comes one that hands out a reply: it is that of the core's latest call, and stands in the log before
   pub answered : (n : ℕ) (e : Event) (reply : Reply) → nth es (suc n) ≡ Some e → nth os (suc n) ≡ Some (Answered reply)
       → (call : ℕ) × IsLatest (calls_of (take n es) (take n os)) (core_of e) call
