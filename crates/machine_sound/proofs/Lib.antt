@@ -8,3 +8,4 @@ pub mod Changes
 pub mod Pages
 pub mod Accesses
 pub mod Kept
+pub mod Examples
