@@ -9,3 +9,4 @@ pub mod Pages
 pub mod Accesses
 pub mod Kept
 pub mod Examples
+pub mod OneMap

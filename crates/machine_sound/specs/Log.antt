@@ -70,6 +70,10 @@ abbrev pub Replays : List Request → Plain → List Entry → Plain → Type 0
 Replays requests t [] u = u ≡ t
 Replays requests t (e ∷ es) u = (m : Plain) × GoesOn requests t e m × Replays requests m es u
 
+-- There is no second map that a log leads to.
+abbrev pub EachLogLeadsToOneMap : Type 0
+EachLogLeadsToOneMap = (requests : List Request) (log : List Entry) (t u v : Plain) → Replays requests t log u → Replays requests t log v → u ≡ v
+
 -- the number of the event that made the entry
 abbrev pub step_of : Entry → ℕ
 step_of (Answer step call core reply) = step
