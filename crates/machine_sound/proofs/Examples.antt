@@ -11,10 +11,10 @@ use Rattle.machine_model.specs.declared.log.Entry.{Entry}
 use Rattle.machine_model.specs.declared.log.Entry.TheVariants.{Answer}
 use Rattle.machine_sound.specs.Log.{Stands, Replays}
 
-abbrev read_write : Prot
+abbrev pub read_write : Prot
 read_write = record { read = true; write = true; exec = false }
 
-abbrev anonymous : Bool → Flags
+abbrev pub anonymous : Bool → Flags
 anonymous fixed = record { private = true; shared = false; fixed = fixed; anon = true }
 
 -- a page at 0x10000, a store to it, a load of it, and a mapping that names no place

@@ -10,3 +10,4 @@ pub mod Accesses
 pub mod Kept
 pub mod Examples
 pub mod OneMap
+pub mod Run
