@@ -119,7 +119,8 @@ IsSettled file info _ = Unit {0}
 
 -- ---- a state that shows the plain page map t
 
-pub record Shows (file : ℕ → Option File) (info : ℕ → Option PageInfo) (phase : ℕ → Phase) (bytes : ℕ → Bytes) (is_free : ℕ → Bool) (cached : ℕ → ℕ → Option ℕ) (t : Plain) : Type 0 where
+pub record Shows (file : ℕ → Option File) (info : ℕ → Option PageInfo) (phase : ℕ → Phase) (bytes : ℕ → Bytes) (is_free : ℕ → Bool)
+    (cached : ℕ → ℕ → Option ℕ) (t : Plain) : Type 0 where
   pub pages : (p : ℕ) → ShowsPage bytes cached (info p) (t.entry p)
   pub files : (n : ℕ) → ShowsFile bytes (cached n) (file n) (t.file n)
   pub frames : AreFrames info cached is_free

@@ -72,7 +72,8 @@ Replays requests t (e ∷ es) u = (m : Plain) × GoesOn requests t e m × Replay
 
 -- There is no second map that a log leads to.
 abbrev pub EachLogLeadsToOneMap : Type 0
-EachLogLeadsToOneMap = (requests : List Request) (log : List Entry) (t u v : Plain) → Replays requests t log u → Replays requests t log v → u ≡ v
+EachLogLeadsToOneMap =
+    (requests : List Request) (log : List Entry) (t u v : Plain) → Replays requests t log u → Replays requests t log v → u ≡ v
 
 -- the number of the event that made the entry
 abbrev pub step_of : Entry → ℕ
