@@ -1,9 +1,10 @@
 -- The steps by which a change is decided and made
 use Rattle.std.proofs.Common.{◌≡◌, ℕ, zero, suc, ◌+◌, ◌-◌, ◌≤◌, ◌<◌, ◌⊎◌, inl, inr, ⊎_elim, Bool, true, false, cond, refl, sym, ap, subst, arith, Some, None, Option, ◌∙◌}
-use Rattle.std.specs.Prelude.{◌||◌, ◌&&◌, ◌==◌, not, is_some}
+use Rattle.std.specs.Prelude.{◌&&◌, ◌==◌, not, is_some}
 use Rattle.std.proofs.lemmas.Bool.{cases_lt}
 use Rattle.vm_base.specs.declared.info.Back.{Back}
 use Rattle.vm_base.specs.declared.info.Back.TheVariants.{Anon, Shared, Private}
+use Rattle.vm_base.specs.declared.info.Meta.{Meta}
 use Rattle.vm_base.specs.declared.info.PageInfo.{PageInfo}
 use Rattle.vm_base.specs.declared.page.PageRange.{PageRange}
 use Rattle.vm_base.specs.declared.replies.Errno.TheVariants.{EINVAL, EBADF, ENOMEM}
@@ -34,6 +35,7 @@ use Rattle.machine_model.specs.Holding.{holds}
 use Rattle.machine_model.specs.Actions.{to}
 use Rattle.machine_model.specs.Calls.{refused_change, DecidesChange, changed, reply_to, committed}
 use Rattle.machine_laws.specs.Orderly.{IsReady, IsMappedFor}
+use Rattle.machine_laws.proofs.Moves.{true_or}
 use Rattle.machine_sound.specs.Invariant.{Fine, Good, ShowsPage, ShowsFile, Owns, IsAnonymous, IsSettled, Serves, AsksFor, own_frame, own_frame_of}
 use Rattle.machine_sound.proofs.Moves.{Leaves, shows_less, fewer_taken, others_settled, steps, tells, answers}
 use Rattle.machine_sound.proofs.Stands.{CanMake, planned, reply_is, due_so, change_stands, absent_stands}
@@ -175,7 +177,7 @@ same_outside s (Protect range prot) p e = ap (λ b. cond b (info_with_prot prot 
 
 -- of each page, something that follows from what it had
 changed_all : (P : ℕ → Option PageInfo → Type 0) (s : Slots) (change : Change)
-    → ((range : PageRange) (meta : _) (p : ℕ) → change ≡ Put range meta → P p (Some (unused (advance meta (p - range.first)))))
+    → ((range : PageRange) (meta : Meta) (p : ℕ) → change ≡ Put range meta → P p (Some (unused (advance meta (p - range.first)))))
     → ((p : ℕ) → P p None)
     → ((prot : Prot) (p : ℕ) → P p (s.info p) → P p (info_with_prot prot (s.info p)))
     → ((p : ℕ) → P p (s.info p)) → (p : ℕ) → P p ((changed change s).info p)
@@ -231,10 +233,6 @@ can_make w t (Protect range prot) g m = (
 false_or_true : (b : Bool) → (b ≡ true → ⊥) → b ≡ false
 false_or_true true h = absurd (h refl)
 false_or_true false h = refl
-
-true_or : (b : Bool) → b ≡ true → (b || false) ≡ true
-true_or true h = refl
-true_or false h = h
 
 pub change_committed : (w : World) (c : ℕ) (change : Change) (held : Footprint) → w.phase c ≡ Acks change held → Fine w → Leaves w (committed c change held w)
 change_committed w c change held e f =
