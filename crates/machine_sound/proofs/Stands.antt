@@ -242,7 +242,7 @@ pub touch_stands : (w : World) (t : Plain) (c : ℕ) (request : Request) (touch 
 touch_stands w t c request touch y g i a passed h =
     performed w t (touched t touch y) c request y g i (access_not_placed request touch a) passed (performs_touch t c request touch y a h)
 
--- no frame for a page that could be accessed
+-- no frame for an access that would be served
 pub no_frame_stands : (t : Plain) (c : ℕ) (request : Request) (touch : Touch) → IsAccess request touch → CanAccess t.file (t.entry touch.page) touch.access → Stands t c request NoFrame t
 no_frame_stands t c (Load addr) touch a h = (subst (λ (x : Touch). CanAccess t.file (t.entry x.page) x.access) a.1 h, refl)
 no_frame_stands t c (Store addr byte) touch a h = (subst (λ (x : Touch). CanAccess t.file (t.entry x.page) x.access) a.1 h, refl)

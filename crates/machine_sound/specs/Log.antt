@@ -21,19 +21,19 @@ abbrev pub nth : {A : Type 0} → List A → ℕ → Option A
 nth xs zero = None
 nth xs (suc n) = slice_get xs n
 
--- ---- an access that wants a frame
+-- ---- accesses that would be served
 
 -- the page is mapped, its protection allows the access, and it has bytes
 abbrev pub CanAccess : (ℕ → Option File) → Option PageEntry → Access → Type 0
 CanAccess files None access = ⊥
 CanAccess files (Some e) access = (is_allowed e.prot access ≡ true) × (is_some (bytes_of files e.back e.own) ≡ true)
 
--- the request is such an access
-abbrev pub IsGoodAccess : Plain → Request → Type 0
-IsGoodAccess t (LoadOf addr) = CanAccess t.file (t.entry (page_of addr)) Load
-IsGoodAccess t (StoreOf addr byte) = CanAccess t.file (t.entry (page_of addr)) Store
-IsGoodAccess t (FetchOf addr) = CanAccess t.file (t.entry (page_of addr)) Fetch
-IsGoodAccess t _ = ⊥
+-- the request is an access of such a page
+abbrev pub IsServable : Plain → Request → Type 0
+IsServable t (LoadOf addr) = CanAccess t.file (t.entry (page_of addr)) Load
+IsServable t (StoreOf addr byte) = CanAccess t.file (t.entry (page_of addr)) Store
+IsServable t (FetchOf addr) = CanAccess t.file (t.entry (page_of addr)) Fetch
+IsServable t _ = ⊥
 
 -- ---- a mapping whose place is left open
 
@@ -53,10 +53,10 @@ FindsNoPlace t request y u = (y ≡ or_no_place (refusal (λ k. mode_of (t.file 
 
 -- ---- entries
 
--- A core's request may be answered y, and leaves u. NoFrame answers only an access that wants a frame, and NoMemory any request; both
+-- A core's request may be answered y, and leaves u. NoFrame answers only an access that would be served, and NoMemory any request; both
 -- change nothing. Every other reply, and what it leaves, is the plain page map's.
 abbrev pub Stands : Plain → ℕ → Request → Reply → Plain → Type 0
-Stands t core request NoFrame u = IsGoodAccess t request × (u ≡ t)
+Stands t core request NoFrame u = IsServable t request × (u ≡ t)
 Stands t core request NoMemory u = u ≡ t
 Stands t core request y u = cond (is_placed request) (FindsNoPlace t request y u) (Applies t core request y u)
 
