@@ -24,7 +24,7 @@ use Rattle.machine_model.specs.Holding.{holds, is_open, taken_in}
 use Rattle.machine_model.specs.Step.{Step}
 use Rattle.machine_model.specs.declared.event.Event.TheVariants.{Go}
 use Rattle.core_steps.specs.Finishing.{StepsTo, IsRefused, finish_limit}
-use Rattle.core_steps.specs.Wanting.{may_want}
+use Rattle.core_steps.specs.Wanting.{MayWant}
 use Rattle.machine_laws.specs.Orderly.{IsOrderly, IsReady, IsMappedFor, IsCutRange, open_calls}
 use Rattle.machine_laws.proofs.OpenCalls.{one, open_put}
 use Rattle.machine_laws.proofs.Moves.{call_at}
@@ -221,5 +221,5 @@ pub new_orderly : (w : World) (made : Made) (slots : Slots) → IsNew slots → 
 new_orderly w made slots n e = subst (λ u. ∥ IsOrderly u ∥₁) (sym e) ∣ opening_is_orderly made slots n ∣₁
 
 -- after some steps the next was refused, and nothing changed
-pub refused_at : (was now new : World) (c n : ℕ) → n < finish_limit → StepsTo was c n now → may_want now (Go c) ≡ true → new ≡ now → IsRefused was c new
+pub refused_at : (was now new : World) (c n : ℕ) → n < finish_limit → StepsTo was c n now → MayWant now (Go c) → new ≡ now → IsRefused was c new
 refused_at was now new c n h s m e = subst (IsRefused was c) (sym e) (n, h, m, s)

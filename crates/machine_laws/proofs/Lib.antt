@@ -1,5 +1,8 @@
 pub mod OpenCalls
 pub mod Moves
+pub mod Effects
+pub mod Numbered
+pub mod Bracketed
 pub mod Slots
 pub mod Sound
 pub mod Locking

@@ -28,7 +28,7 @@ use Rattle.machine_model.specs.Actions.{to, let_go, replies, LocksTo, LocksNext}
 use Rattle.machine_model.specs.Calls.{meta_of, locking, touch_of, checked_as, checked, after_lock, LocksChange, posted, UnlocksNext}
 use Rattle.machine_model.specs.Accesses.{LocksPage, released}
 use Rattle.machine_model.specs.Step.{called}
-use Rattle.machine_sound.specs.Log.{nth}
+use Rattle.machine_laws.specs.Brackets.{nth}
 use Rattle.machine_sound.specs.Invariant.{Fine, IsAsked, Serves, AsksFor, IsAccess}
 use Rattle.machine_sound.proofs.Logs.{nth_more, nth_last, replays_requests}
 use Rattle.machine_sound.proofs.Moves.{Leaves, stays, shows_on, steps, owns_on, divided, taken_gone, settled_gone, asked_gone, answers}

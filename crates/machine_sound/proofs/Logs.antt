@@ -5,7 +5,8 @@ use Rattle.vm_base.specs.declared.requests.Request.{Request}
 use Rattle.vm_base.specs.Plain.{Plain}
 use Rattle.machine_model.specs.declared.log.Entry.{Entry}
 use Rattle.machine_model.specs.declared.log.Entry.TheVariants.{Answer}
-use Rattle.machine_sound.specs.Log.{nth, GoesOn, Replays}
+use Rattle.machine_laws.specs.Brackets.{nth}
+use Rattle.machine_sound.specs.Log.{GoesOn, Replays}
 
 get_more : (rs : List Request) (r q : Request) (i : ℕ) → slice_get rs i ≡ Some q → slice_get (rs ++ r ∷ []) i ≡ Some q
 get_more [] r q i h = absurd cc

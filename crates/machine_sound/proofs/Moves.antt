@@ -20,7 +20,8 @@ use Rattle.machine_model.specs.World.{World}
 use Rattle.machine_model.specs.Holding.{holds, taken_in}
 use Rattle.machine_model.specs.Actions.{to, let_go, replies}
 use Rattle.machine_laws.specs.Orderly.{IsOrderly}
-use Rattle.machine_sound.specs.Log.{nth, Replays, Stands}
+use Rattle.machine_laws.specs.Brackets.{nth}
+use Rattle.machine_sound.specs.Log.{Replays, Stands}
 use Rattle.machine_sound.specs.Sound.{IsDue, Notes}
 use Rattle.machine_sound.specs.Invariant.{Fine, Shows, Good, ShowsPage, ShowsFile, IsSettled, IsUsable, IsAnonymous, IsAsked, HasNoTranslations, own_frame}
 use Rattle.machine_sound.proofs.Logs.{replays_more}

@@ -25,7 +25,8 @@ use Rattle.machine_model.specs.Holding.{taken_in}
 use Rattle.machine_model.specs.Accesses.{lies_past_end}
 use Rattle.machine_model.specs.Calls.{meta_of, touch_of}
 use Rattle.machine_laws.specs.Orderly.{IsOrderly}
-use Rattle.machine_sound.specs.Log.{nth, Replays}
+use Rattle.machine_laws.specs.Brackets.{nth}
+use Rattle.machine_sound.specs.Log.{Replays}
 
 -- ---- what this machine doesn't have yet
 

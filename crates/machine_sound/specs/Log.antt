@@ -15,11 +15,7 @@ use Rattle.vm_base.specs.Refusals.{refusal}
 use Rattle.vm_base.specs.Apply.{Applies}
 use Rattle.machine_model.specs.declared.log.Entry.{Entry}
 use Rattle.machine_model.specs.declared.log.Entry.TheVariants.{Answer}
-
--- the n-th of a list, from 1
-abbrev pub nth : {A : Type 0} → List A → ℕ → Option A
-nth xs zero = None
-nth xs (suc n) = slice_get xs n
+use Rattle.machine_laws.specs.Brackets.{nth}
 
 -- ---- accesses that would be served
 
@@ -74,7 +70,3 @@ Replays requests t (e ∷ es) u = (m : Plain) × GoesOn requests t e m × Replay
 abbrev pub EachLogLeadsToOneMap : Type 0
 EachLogLeadsToOneMap =
     (requests : List Request) (log : List Entry) (t u v : Plain) → Replays requests t log u → Replays requests t log v → u ≡ v
-
--- the number of the event that made the entry
-abbrev pub step_of : Entry → ℕ
-step_of (Answer step call core reply) = step

@@ -11,7 +11,8 @@ use Rattle.machine_model.specs.declared.log.Entry.TheVariants.{Answer}
 use Rattle.machine_model.specs.World.{World, Made, opening}
 use Rattle.machine_model.specs.Accesses.{NoneFree}
 use Rattle.machine_model.specs.Step.{Step, Run}
-use Rattle.machine_sound.specs.Log.{Replays, step_of}
+use Rattle.machine_laws.specs.Brackets.{step_of}
+use Rattle.machine_sound.specs.Log.{Replays}
 use Rattle.machine_sound.specs.Translations.{Translates, Agrees, IsNamed}
 
 -- ---- a state
