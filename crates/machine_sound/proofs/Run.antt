@@ -14,7 +14,9 @@ use Rattle.machine_model.specs.declared.event.Blocker.TheVariants.{Slot}
 use Rattle.machine_model.specs.declared.log.Entry.TheVariants.{Answer}
 use Rattle.machine_model.specs.World.{World, Made, opening}
 use Rattle.machine_model.specs.Step.{Run}
+use Rattle.machine_sound.specs.Sound.{SoundRun}
 use Rattle.machine_sound.proofs.Examples.{read_write, anonymous}
+use Rattle.machine_sound.proofs.Kept.{runs_sound}
 
 abbrev made : Made
 made = record { cores = 2; frames = 4; calls = 8; file = λ n. None }
@@ -49,94 +51,33 @@ outcomes =
     ∷ Stepped ∷ Stepped ∷ Stepped ∷ Stepped ∷ Stepped ∷ Stepped ∷ Stepped
     ∷ Answered Done ∷ Answered (Mapped 65536) ∷ []
 
+-- a step, and then the others
+then : {P Q : World → Type 0} (m : World) → P m → Q m → (x : World) × P x × Q x
+then m s r = (m, s, r)
+
 ran : (w : World) × Run (opening made slots) events outcomes w × (w.log ≡ Answer 10 1 0 (Mapped 65536) ∷ Answer 18 2 1 Done ∷ [])
 ran = (
   _,
-  (
-    _,
-    (refl, refl),
-    (
-      _,
-      (refl, refl),
+  then _ (refl, refl) (then _ (refl, refl)
       -- core 0 holds the page
-      (
-        _,
-        (Locked 17, (_, record { slot = one_page slots refl; by_end = omega arith; was_free = λ p h k. refl; now = refl }, (refl, refl))),
-        -- core 1 finds nothing mapped, and waits for the page
-        (
-          _,
-          (refl, refl),
-          (
-            _,
-            (refl, refl),
-            (
-              _,
-              (refl, refl),
-              (
-                _,
-                (Held 0, (_, (λ h. absurd cc, refl, refl), (refl, refl))),
-                -- core 0 makes the change, and lets the page go
-                (
-                  _,
-                  (refl, refl),
-                  (
-                    _,
-                    (refl, refl),
-                    (
-                      _,
-                      (refl, refl),
-                      (
-                        _,
-                        (17, (_, record { slot = one_page _ refl; by_end = omega arith; was_held = λ p h k. ap (λ b. cond b (Some 0) None) (only_16 p h k); now = refl }, (refl, refl))),
-                        -- core 1 locks the page, gives it a frame, and stores
-                        (
-                          _,
-                          (Locked 17, (_, record { slot = one_page _ refl; by_end = omega arith; was_free = λ p h k. ap (λ b. cond b None (cond b (Some 0) None)) (only_16 p h k); now = refl }, (refl, refl))),
-                          (
-                            _,
-                            (refl, refl),
-                            (
-                              _,
-                              inr (0, record { free = refl; least = λ g h. absurd (omega (arith, h)) }, (refl, refl)),
-                              (
-                                _,
-                                (refl, refl),
-                                (
-                                  _,
-                                  (refl, refl),
-                                  (
-                                    _,
-                                    (refl, refl),
-                                    (
-                                      _,
-                                      (refl, refl),
-                                      -- both hand out their replies
-                                      (
-                                        _,
-                                        (refl, refl),
-                                        (
-                                          _,
-                                          (refl, refl),
-                                          refl,
-                                        ),
-                                      ),
-                                    ),
-                                  ),
-                                ),
-                              ),
-                            ),
-                          ),
-                        ),
-                      ),
-                    ),
-                  ),
-                ),
-              ),
-            ),
-          ),
-        ),
-      ),
-    ),
-  ),
+      (then _ (Locked 17, (_, record { slot = one_page slots refl; by_end = omega arith; was_free = λ p h k. refl; now = refl }, (refl, refl)))
+      -- core 1 finds nothing mapped, and waits for the page
+      (then _ (refl, refl) (then _ (refl, refl) (then _ (refl, refl)
+      (then _ (Held 0, (_, (λ h. absurd cc, refl, refl), (refl, refl)))
+      -- core 0 makes the change, and lets the page go
+      (then _ (refl, refl) (then _ (refl, refl) (then _ (refl, refl)
+      (then _ (17, (_, record { slot = one_page _ refl; by_end = omega arith; was_held = λ p h k. ap (λ b. cond b (Some 0) None) (only_16 p h k); now = refl }, (refl, refl)))
+      -- core 1 locks the page, gives it a frame, and stores
+      (then _ (Locked 17, (_, record { slot = one_page _ refl; by_end = omega arith; was_free = λ p h k. ap (λ b. cond b None (cond b (Some 0) None)) (only_16 p h k); now = refl }, (refl, refl)))
+      (then _ (refl, refl)
+      (then _ (inr (0, record { free = refl; least = λ g h. absurd (omega (arith, h)) }, (refl, refl)))
+      (then _ (refl, refl) (then _ (refl, refl) (then _ (refl, refl) (then _ (refl, refl)
+      -- both hand out their replies
+      (then _ (refl, refl) (then _ (refl, refl)
+      refl))))))))))))))))))),
   refl,
 )
+
+-- and so it is sound
+is_sound : SoundRun (opening made slots) events outcomes ran.0
+is_sound = runs_sound made slots events outcomes ran.0 (λ n. refl) new ran.1
