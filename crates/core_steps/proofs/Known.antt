@@ -1,12 +1,12 @@
 -- What the code learns from the order, of which it knows only that it holds
-use Rattle.std.proofs.Common.{◌≡◌, ◌≢◌, ℕ, ◌+◌, ◌<◌, ◌≤◌, ◌^◌, Bool, true, false, ◌==◌, ◌&&◌, ◌||◌, nat_lt, length, Some, None, sym, subst, ap, refl, arith, cond, ◌∙◌}
+use Rattle.std.proofs.Common.{◌≡◌, ◌≢◌, ℕ, ◌+◌, ◌<◌, ◌≤◌, ◌^◌, Bool, true, false, ◌&&◌, ◌||◌, nat_lt, length, Some, None, sym, subst, ap, refl, arith, cond, ◌∙◌}
 use Rattle.std.proofs.Math.Logic.{∥∥₁_elim, ∥∥₁_map}
 use Rattle.std.proofs.Props.{props}
 use Rattle.std.proofs.lemmas.Bool.Decides.{nat_tests}
 use Rattle.vm_base.specs.declared.page.PageRange.{PageRange}
 use Rattle.vm_base.specs.declared.replies.Reply.{Reply}
 use Rattle.vm_base.specs.Functions.{has}
-use Rattle.vm_base.specs.Pages.{IsPage, IsPageRange, pages_from}
+use Rattle.vm_base.specs.Pages.{IsPage, IsPageRange}
 use Rattle.vm_base.specs.Info.{frame_of}
 use Rattle.vm_base.proofs.Functions.{in_has, has_in}
 use Rattle.slot_lock.specs.declared.footprint.Footprint.{Footprint}
@@ -18,7 +18,7 @@ use Rattle.slot_lock.specs.Slots.{Slots, IsHeld, IsNew}
 use Rattle.machine_model.specs.declared.event.Event.{Event}
 use Rattle.machine_model.specs.declared.event.Outcome.{Outcome}
 use Rattle.machine_model.specs.declared.phase.Phase.{Phase}
-use Rattle.machine_model.specs.declared.phase.Phase.TheVariants.{Free, Lock, Decide, Acks, Unlock, LockPage}
+use Rattle.machine_model.specs.declared.phase.Phase.TheVariants.{Free, Lock, Decide, Acks, Unlock}
 use Rattle.machine_model.specs.World.{World, Made, opening}
 use Rattle.machine_model.specs.Holding.{holds, is_open, taken_in}
 use Rattle.machine_model.specs.Step.{Step}

@@ -1,4 +1,4 @@
-use Rattle.std.proofs.Common.{◌≡◌, ◌+◌, refl, take, length, rules}
+use Rattle.std.proofs.Common.{◌≡◌, refl, take, rules}
 use Rattle.std.proofs.lemmas.List.{take_all}
 use Rattle.core_steps.specs.Setups.{made_of}
 use Rattle.core_steps.proofs.Runs.{next_run, all_bracketed, all_sound}
