@@ -3,7 +3,8 @@ ghost use Rattle.std.specs.Prelude.{◌≡◌, ◌⊎◌, ◌<◌, IfOk, IfErr, 
 ghost use Rattle.slot_lock.specs.Slots.{IsNew};
 ghost use Rattle.machine_model.specs.World.{opening};
 ghost use Rattle.machine_model.specs.Step.{Step};
-ghost use Rattle.machine_laws.specs.Orderly.{IsOrderly};
+ghost use Rattle.machine_sound.specs.Invariant.{Fine};
+ghost use Rattle.machine_sound.specs.Sound.{IsSoundState};
 ghost use Rattle.core_steps.specs.Setups.{fault_of, IsFirstFault, made_of};
 ghost use Rattle.core_steps.specs.State.{world_of};
 ghost use Rattle.core_steps.specs.Wanting.{MayWant};
@@ -32,7 +33,7 @@ pub enum Finished {
 #[derive(Drop)]
 pub struct Machine<M: SlotMap, A: Allocator + Clone> {
     engine: Engine<M, A>,
-    ghost orderly: { ∥ IsOrderly (world_of (M.slots engine.map) engine.frames engine.phases.items engine.numbers.items engine.requests.items.items engine.log.items.items engine.requests.limit engine.events) ∥₁ },
+    ghost fine: { ∥ Fine (world_of (M.slots engine.map) engine.frames engine.phases.items engine.numbers.items engine.requests.items.items engine.log.items.items engine.requests.limit engine.events) ∥₁ },
 }
 
 impl<M: SlotMap, A: Allocator + Clone> Modelled for Machine<M, A> {
@@ -85,9 +86,11 @@ impl<M: SlotMap + Drop, A: Allocator + Clone + Drop> Machine<M, A> {
         Ok(Finished::Stuck)
     }
 
-    /// The entries made so far, in order.
+    /// The entries made so far, in order. They are those of a plain page map (POSIX.1-2017, mmap, munmap and mprotect),
+    /// applied one after another.
     pub fn log(&self) -> &[Entry]
-        ensures { result.now ≡ (⟦<Self as Modelled>⟧.world self.now).log }
+        ensures entries { result.now ≡ (⟦<Self as Modelled>⟧.world self.now).log }
+        ensures legal { ∥ IsSoundState (⟦<Self as Modelled>⟧.world self.now) ∥₁ }
     {
         &self.engine.log.items
     }

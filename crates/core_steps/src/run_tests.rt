@@ -90,14 +90,15 @@ fn a_refused_call(rt: HostRuntime) -> Result<(), Fail> {
         reply: refused,
     };
     let events = mmap_and_go(0);
+    let log = [entry];
     let is_right = comes_to(
         rt.alloc(),
         events.as_slice(),
         outcomes.as_slice(),
-        [entry].as_slice(),
+        log.as_slice(),
     )?;
     assert!(rt; is_right);
-    let is_nothing = comes_to(rt.alloc(), [].as_slice(), [].as_slice(), [].as_slice())?;
+    let is_nothing = comes_to(rt.alloc(), &events[..0], &outcomes[..0], &log[..0])?;
     assert!(rt; is_nothing);
     Ok(())
 }
