@@ -1,0 +1,4 @@
+mod Rooms
+mod Steps
+mod Absent
+pub mod Readable

@@ -1,0 +1,13 @@
+//! What a request is to do: the check of its arguments, the decision over the pages that its call holds, and what an access
+//! finds at its page. No call takes memory.
+#![tactic(auto)]
+
+pub mod arguments;
+pub mod decision;
+pub mod fault;
+#[cfg(test)]
+mod tests;
+
+pub use arguments::check;
+pub use decision::{Decision, decide};
+pub use fault::{Settled, settle};
