@@ -1,4 +1,6 @@
 //! Each call once with ample memory, what a mode lets files be mapped for, and each allocation refused in turn.
+ghost use Rattle.std.specs.Prelude.{◌≡◌};
+
 use crate::{CachedFrame, FileSpec, Objects, Sharing};
 use frames::Frames;
 use linked_list_allocator::LocalHeap;
@@ -34,12 +36,11 @@ fn spec<A: Allocator>(
 /// File 0 has 5000 bytes from 7 on, file 1 has none, and file 2 has one page. They are open for both, for writing and for
 /// reading.
 fn three_files<A: Allocator + Clone>(alloc: A) -> Result<Objects<A>, AllocError> {
-    let specs = [
-        spec(alloc.clone()?, Mode::RW, 5000, 7)?,
-        spec(alloc.clone()?, Mode::W, 0, 0)?,
-        spec(alloc.clone()?, Mode::R, 4096, 1)?,
-    ];
-    Objects::new(alloc, &specs)
+    let mut specs = Vec::new(alloc.clone()?);
+    specs.push(spec(alloc.clone()?, Mode::RW, 5000, 7)?)?;
+    specs.push(spec(alloc.clone()?, Mode::W, 0, 0)?)?;
+    specs.push(spec(alloc.clone()?, Mode::R, 4096, 1)?)?;
+    Objects::new(alloc, &specs[..specs.len().min(16)])
 }
 
 /// The byte of a page that is there.
@@ -66,7 +67,9 @@ fn filled<A: Allocator>(
     page: u64,
     frames: &mut Frames<A>,
     frame: u32,
-) -> bool {
+) -> bool
+    ensures { frames.new.count ≡ frames.old.count }
+{
     if objects.is_past_end(file, page) || frame >= frames.count() {
         return false;
     }

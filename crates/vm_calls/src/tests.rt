@@ -118,8 +118,9 @@ fn one_file<A: Allocator + Clone>(
     len: usize,
 ) -> Result<Objects<A>, AllocError> {
     let bytes = vec![in alloc.clone()?; 1u8; len]?;
-    let specs = [FileSpec { mode, bytes }];
-    Objects::new(alloc, &specs)
+    let mut specs = Vec::new(alloc.clone()?);
+    specs.push(FileSpec { mode, bytes })?;
+    Objects::new(alloc, &specs[..specs.len().min(16)])
 }
 
 /// The decision over a whole map.
@@ -176,7 +177,7 @@ fn has_frame(info: Option<PageInfo>) -> bool
     }
 }
 
-/// Makes a change of the pages of one slot, and lets them go: whether it could.
+/// Makes a change of the pages of one slot, which the core goes on holding: whether it could.
 fn make<A: Allocator>(map: &mut RunList<A>, core: CoreId, change: Change) -> Result<bool, NoMemory>
     requires { IsSoundChange change }
 {
@@ -195,7 +196,6 @@ fn make<A: Allocator>(map: &mut RunList<A>, core: CoreId, change: Change) -> Res
             map.protect_range(core, range, prot);
         }
     }
-    map.unlock_next(core, range.first, range.end);
     Ok(true)
 }
 
@@ -512,24 +512,27 @@ fn edges_of_accesses(rt: HostRuntime) -> Result<(), Fail> {
     Ok(())
 }
 
+/// A shared page of a file that may be read.
+fn read_page(frame: Option<u32>) -> PageInfo {
+    PageInfo {
+        meta: Meta {
+            back: Back::Shared { file: 0, page: 3 },
+            prot: R,
+        },
+        frame,
+        cores: CoreSet::empty(),
+    }
+}
+
 #[test]
 fn what_an_access_finds(rt: HostRuntime) -> Result<(), Fail> {
-    let file = Back::Shared { file: 0, page: 3 };
-    let fresh = PageInfo::unused(Meta {
-        back: file,
-        prot: R,
-    });
-    let used = PageInfo {
-        frame: Some(5),
-        ..fresh
-    };
     let found = [
         settle(None, Access::Load, false, None),
-        settle(Some(fresh), Access::Store, true, None),
-        settle(Some(fresh), Access::Load, true, None),
-        settle(Some(used), Access::Load, false, Some(6)),
-        settle(Some(fresh), Access::Load, false, Some(6)),
-        settle(Some(fresh), Access::Load, false, None),
+        settle(Some(read_page(None)), Access::Store, true, None),
+        settle(Some(read_page(None)), Access::Load, true, None),
+        settle(Some(read_page(Some(5))), Access::Load, false, Some(6)),
+        settle(Some(read_page(None)), Access::Load, false, Some(6)),
+        settle(Some(read_page(None)), Access::Load, false, None),
     ];
     let expected = [
         Settled::MapErr,
