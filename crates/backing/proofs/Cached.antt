@@ -9,7 +9,7 @@ use Rattle.std.proofs.lemmas.List.{get_or-set_same, get_or-set_other, get_or-tak
 use Rattle.vm_base.specs.Functions.{put}
 use Rattle.vm_base.specs.declared.rights.Mode.{Mode}
 use Rattle.vm_base.specs.Pages.{page_count}
-use Rattle.vm_base.specs.Plain.{File, file_bytes, file_with, page_bytes}
+use Rattle.vm_base.specs.Plain.{file_bytes, file_with, page_bytes}
 use Rattle.vm_base.proofs.Functions.{put_all}
 use Rattle.backing.specs.declared.file_spec.FileSpec.{FileSpec}
 use Rattle.backing.specs.Files.{FileParts, file_of, files_of, cached_pages, cached_in}

@@ -1,11 +1,10 @@
 -- Free runs of slots are the rooms of the plain map
-use Rattle.std.proofs.Common.{◌≡◌, ℕ, ◌+◌, ◌<◌, ◌≤◌, Bool, true, false, Option, Some, None, is_some, refl, sym, subst, ap, arith}
+use Rattle.std.proofs.Common.{◌≡◌, ℕ, ◌+◌, ◌<◌, ◌≤◌, Bool, false, Option, Some, None, is_some, refl, sym, subst, ap, arith}
 use Rattle.std.specs.Prelude.{IfSome, IfNone}
 use Rattle.vm_base.specs.declared.page.PageRange.{PageRange}
 use Rattle.vm_base.specs.declared.info.PageInfo.{PageInfo}
-use Rattle.vm_base.specs.Functions.{has}
 use Rattle.vm_base.specs.Pages.{pages_from}
-use Rattle.vm_base.specs.Plain.{Entry, is_mapped}
+use Rattle.vm_base.specs.Plain.{is_mapped}
 use Rattle.vm_base.specs.Places.{IsRoom, IsLeastRoom, IsHint, IsPlace}
 use Rattle.vm_base.specs.Places.IsPlace.{in_window}
 use Rattle.vm_base.proofs.Functions.{has_in, in_has}

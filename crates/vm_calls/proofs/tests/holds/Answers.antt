@@ -1,7 +1,6 @@
-use Rattle.std.proofs.Common.{◌≡◌, Option, Some, None, Bool, false, is_some, sym, ◌∙◌, ap}
+use Rattle.std.proofs.Common.{◌≡◌, Some, false, is_some, sym, ◌∙◌, ap}
 use Rattle.vm_base.specs.Info.{frame_of}
 use Rattle.slot_lock.specs.RunLaws.{slots_of-is_slot_map, from_test, owner_free}
-use Rattle.slot_lock.specs.Slots.{IsSlot}
 use Rattle.slot_lock.specs.RunSlots.{slots_of}
 use Rattle.slot_lock.proofs.SlotLaws.{slot-IsHeld, slot-NoFrames}
 use Rattle.vm_calls.proofs.tests.holds.Goals as goal

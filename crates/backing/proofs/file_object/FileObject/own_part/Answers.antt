@@ -1,4 +1,4 @@
-use Rattle.std.proofs.Common.{◌≡◌, ◌∙◌, ◌-◌, ◌*◌, List, ℕ, ap, length, rules, arith, sym}
+use Rattle.std.proofs.Common.{◌≡◌, ◌∙◌, List, ℕ, ap, length, rules}
 use Rattle.vm_base.specs.Plain.{page_bytes}
 use Rattle.backing.specs.Files.{FileParts}
 use Rattle.backing.proofs.Cached.{part-cut}

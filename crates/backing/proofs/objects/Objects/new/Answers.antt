@@ -1,5 +1,3 @@
-use Rattle.std.proofs.Common.{sym, ap, ◌∙◌}
-use Rattle.backing.specs.Files.{cached_in}
 use Rattle.backing.proofs.Cached.{files-opened, cached-opened}
 use Rattle.backing.proofs.objects.Objects.new.Goals as goal
 

@@ -1,8 +1,8 @@
-use Rattle.std.proofs.Common.{◌≡◌, ◌<◌, List, length, Some, refl, subst, sym, rules}
-use Rattle.std.specs.Prelude.{slice_get, is_some, true}
+use Rattle.std.proofs.Common.{◌≡◌, ◌<◌, length, refl, sym}
+use Rattle.std.specs.Prelude.{is_some, true}
 use Rattle.std.proofs.lemmas.Option.{slice_get_read}
 use Rattle.vm_base.specs.Plain.{file_bytes}
-use Rattle.backing.specs.Files.{FileParts, files_of}
+use Rattle.backing.specs.Files.{files_of}
 use Rattle.backing.proofs.Cached.{cached-set, files-set, file-there}
 use Rattle.backing.proofs.objects.Objects.set_cached.Goals as goal
 
