@@ -2,3 +2,4 @@ mod Rooms
 mod Steps
 mod Absent
 pub mod Readable
+mod Plainly

@@ -5,6 +5,7 @@
 pub mod arguments;
 pub mod decision;
 pub mod fault;
+pub mod laws;
 #[cfg(test)]
 mod tests;
 
