@@ -33,7 +33,7 @@ pub fn run<A: Allocator + Clone + Drop, S: Source, W: Sink, E: Write>(
     errors: &mut E,
 ) -> u8
     ensures ends { (r : Result Unit TraceFault) × (result ≡ status_of r)
-        × IfSome (S.remaining reader.old) (λ input. Ends input (W.contents out.old) (W.contents out.new) r) }
+        × IfSome (S.remaining reader.old) (λ input. Ends input (S.remaining reader.new) (W.contents out.old) (W.contents out.new) r) }
     ensures within { result ≤ 3 }
 {
     match replay(alloc, reader, out) {

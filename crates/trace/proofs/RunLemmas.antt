@@ -1,19 +1,19 @@
 -- Whole runs, a line at a time.
-use Rattle.std.proofs.Common.{◌≡◌, ◌≢◌, ℕ, zero, suc, ◌+◌, ◌<◌, ◌≤◌, Bool, true, false, cond, List, [], ◌∷◌, ◌++◌, Option, None, Some, Result, Ok, Err, IfSome, IfErr, OnOk, length, take, get_or, ◌⊎◌, inl, inr, arith, refl, sym, ap, ◌∙◌, subst, eqb, append_assoc, append-nil, length-append}
+use Rattle.std.proofs.Common.{◌≡◌, ◌≢◌, ℕ, zero, suc, ◌+◌, ◌<◌, ◌≤◌, false, cond, List, [], ◌∷◌, ◌++◌, Option, None, Some, Result, Ok, Err, IfSome, IfErr, OnOk, length, take, ◌⊎◌, inl, inr, arith, refl, sym, ap, ◌∙◌, subst, eqb, append_assoc, append-nil, length-append}
 use Rattle.std.proofs.lemmas.Bool.{ne_eqb}
 use Rattle.std.proofs.Math.Seq.{take-append-add}
 use Rattle.std.proofs.lemmas.Grind.{common_steps}
 use Rattle.std.proofs.KnownBytes.{Appends-nil, Appends-trans, Appends-kept}
-use Rattle.std.specs.Io.KnownBytes.{Keeps, Appends, IsAtEnd}
-use Rattle.trace_io.specs.Lines.{onto, lines_of, IsUnbroken, IsTooLong, IsFirstLine, TakesLine, BeginsTooLong}
+use Rattle.std.specs.Io.KnownBytes.{Keeps, Appends, IsAtEnd, prepend_known}
+use Rattle.trace_io.specs.Lines.{onto, lines_of, IsUnbroken, IsFirstLine, TakesLine, BeginsTooLong}
 use Rattle.trace_io.specs.Sink.{AppendsFront}
 use Rattle.trace_io.specs.Window.{Window, opening, left}
 use Rattle.trace.specs.declared.fault.TraceFault.{TraceFault}
-use Rattle.trace.specs.declared.fault.TraceFault.TheVariants.{BadLine, TooLong, ReadFailed, NoVmLine, NoMemory, Setup, WriteFailed}
+use Rattle.trace.specs.declared.fault.TraceFault.TheVariants.{TooLong, NoMemory, WriteFailed}
 use Rattle.trace.specs.Stage.{Stage, Start, LineFails, CanOpen, OpenFails, Acts}
 use Rattle.trace.specs.Runs.{Runs}
-use Rattle.trace.specs.Turns.{Scene, Advances, IsOver, Fails, unread, too_long, no_memory, refused, unwritten}
-use Rattle.trace.specs.Ends.{Completes, Front, Stops, reading, wanting, overlong, refusing, unopened, writing, Ends}
+use Rattle.trace.specs.Turns.{Scene, Advances, IsOver, Fails, read_fails, too_long, no_memory, refused, unwritten}
+use Rattle.trace.specs.Ends.{Front, AreRead, Stops, reading, unmade, wanting, overlong, refusing, unopened, writing, Ends}
 
 -- the line is before its newline
 lines-ended : (line ys : List ℕ) → IsUnbroken line → lines_of (line ++ 10 ∷ ys) ≡ line ∷ lines_of ys
@@ -73,11 +73,61 @@ runs-snoc s m n [] l t u r p a =
 runs-snoc s m n (k ∷ ks) l t u r p a =
     (r.0, r.1, r.2 ++ u, r.3, r.4, runs-snoc r.0 m n ks l r.2 u r.5 p a, ap (λ x. x ++ u) r.6 ∙ append_assoc r.1 r.2 u)
 
+-- the bytes of the lines that were taken, and the rest: what comes behind those bytes are lines of its own, unless the last line had
+-- no newline
+pub record IsTaken (input whole rest : List ℕ) (done : List (List ℕ)) : Type 0 where
+  pub bytes : input ≡ whole ++ rest
+  pub lines : lines_of whole ≡ done
+  pub joins : (rest ≡ []) ⊎ ((zs : List ℕ) → lines_of (whole ++ zs) ≡ done ++ lines_of zs)
+
+joins_more : (whole line : List ℕ) (done : List (List ℕ)) → IsUnbroken line → ((zs : List ℕ) → lines_of (whole ++ zs) ≡ done ++ lines_of zs)
+    → (zs : List ℕ) → lines_of ((whole ++ (line ++ 10 ∷ [])) ++ zs) ≡ (done ++ line ∷ []) ++ lines_of zs
+joins_more whole line done u j zs =
+    ap lines_of (append_assoc whole (line ++ 10 ∷ []) zs ∙ ap (λ l. whole ++ l) (append_assoc line (10 ∷ []) zs))
+    ∙ j (line ++ 10 ∷ zs) ∙ ap (λ ls. done ++ ls) (lines-ended line zs u) ∙ sym (append_assoc done (line ∷ []) (lines_of zs))
+
+taken_more : (input whole rest line ys : List ℕ) (done : List (List ℕ)) → IsTaken input whole rest done → IsUnbroken line → IsFirstLine rest line ys
+    → (more : List ℕ) × IsTaken input more ys (done ++ line ∷ [])
+taken_more input whole rest line ys done t u (inl e) = go t.joins
+  where
+    nothing : {X : Type 0} (line ys : List ℕ) → [] ≡ line ++ 10 ∷ ys → X
+    nothing [] ys e = absurd (cc)
+    nothing (x ∷ xs) ys e = absurd (cc)
+
+    go : (rest ≡ []) ⊎ ((zs : List ℕ) → lines_of (whole ++ zs) ≡ done ++ lines_of zs) → (more : List ℕ) × IsTaken input more ys (done ++ line ∷ [])
+    go (inl z) = nothing line ys (sym z ∙ e)
+    go (inr j) =
+        let more = joins_more whole line done u j in (
+          whole ++ (line ++ 10 ∷ []),
+          record {
+            bytes = t.bytes ∙ ap (λ l. whole ++ l) (e ∙ sym (append_assoc line (10 ∷ []) ys)) ∙ sym (append_assoc whole (line ++ 10 ∷ []) ys);
+            lines = ap lines_of (sym (append-nil (whole ++ (line ++ 10 ∷ [])))) ∙ more [] ∙ append-nil (done ++ line ∷ []);
+            joins = inr more;
+          },
+        )
+taken_more input whole rest line ys done t u (inr h) = go t.joins
+  where
+    go : (rest ≡ []) ⊎ ((zs : List ℕ) → lines_of (whole ++ zs) ≡ done ++ lines_of zs) → (more : List ℕ) × IsTaken input more ys (done ++ line ∷ [])
+    go (inl z) =
+        let none : [] ≡ line = sym z ∙ h.0 in
+        let size : 0 ≡ length line = ap (λ (l : List ℕ). length l) none in
+        let some : 0 < length line = h.2 in absurd (omega (arith, size, some))
+    go (inr j) = (
+      whole ++ line,
+      record {
+        bytes = t.bytes ∙ ap (λ l. whole ++ l) h.0 ∙ sym (ap (λ l. (whole ++ line) ++ l) h.1 ∙ append-nil (whole ++ line));
+        lines = j line ∙ ap (λ ls. done ++ ls) (lines-last line u h.2);
+        joins = inl h.1;
+      },
+    )
+
 -- the lines so far were acted on, and what is left has the others
 pub record HasRun (input : List ℕ) (old : Option (List ℕ)) (now : Scene) (number : ℕ) : Type 0 where
   pub done : List (List ℕ)
   pub text : List ℕ
+  pub whole : List ℕ
   pub rest : List ℕ
+  pub taken : IsTaken input whole rest done
   pub left : now.left ≡ Some rest
   pub lines : lines_of input ≡ done ++ lines_of rest
   pub runs : Runs Start done now.stage text
@@ -89,7 +139,9 @@ pub run_none : (input : List ℕ) (old : Option (List ℕ)) (now : Scene) → no
 run_none input old now e s w = record {
   done = [];
   text = [];
+  whole = [];
   rest = input;
+  taken = record { bytes = refl; lines = refl; joins = inr (λ zs. refl) };
   left = e;
   lines = refl;
   runs = (s, refl);
@@ -110,10 +162,13 @@ next_line input line rest ys done e u f = e ∙ ap (λ l. done ++ l) (lines-firs
 pub run_more : (input : List ℕ) (old : Option (List ℕ)) (now next : Scene) (number : ℕ) → HasRun input old now number → Advances now next → HasRun input old next (number + 1)
 run_more input old now next number h a =
     let (ys, left, first) = takes_known h.rest a.line now.left next.left h.left a.takes in
+    let (whole, taken) = taken_more input h.whole h.rest a.line ys h.done h.taken a.unbroken first in
     record {
       done = h.done ++ a.line ∷ [];
       text = h.text ++ a.text;
+      whole = whole;
       rest = ys;
+      taken = taken;
       left = left;
       lines = next_line input a.line h.rest ys h.done h.lines a.unbroken first ∙ sym (append_assoc h.done (a.line ∷ []) (lines_of ys));
       runs = runs-snoc Start now.stage next.stage h.done a.line h.text a.text h.runs a.short a.acts;
@@ -136,13 +191,34 @@ long_known : (rest : List ℕ) (old : Option (List ℕ)) → old ≡ Some rest �
 long_known rest None e b = absurd (cc)
 long_known rest (Some xs) e b = let same : xs ≡ rest = cc in long_first 256 rest (subst (λ x. 256 < length x) same b.0) (subst (λ x. IsUnbroken (take 257 x)) same b.1)
 
-pub run_fails : (input : List ℕ) (old : Option (List ℕ)) (now next : Scene) (number : ℕ) (f : TraceFault) → HasRun input old now number → Fails now next number f → Stops input old next.written f
+-- what is held and what is unread is what is left
+all_read : (input whole rest held : List ℕ) (done : List (List ℕ)) (old new unread : Option (List ℕ)) → IsTaken input whole rest done → old ≡ Some rest → IsUnbroken held → new ≡ prepend_known held unread → Keeps old new → AreRead input unread done
+all_read input whole rest held done None new unread t e u l m = absurd (cc)
+all_read input whole rest held done (Some xs) None unread t e u l m = absurd m
+all_read input whole rest held done (Some xs) (Some ys) None t e u l m = absurd (cc)
+all_read input whole rest held done (Some xs) (Some ys) (Some zs) t e u l m =
+    let same : xs ≡ rest = cc in
+    let parts : ys ≡ held ++ zs = cc in
+    record {
+      whole = whole;
+      held = held;
+      rest = zs;
+      bytes = t.bytes ∙ ap (λ l. whole ++ l) (sym same ∙ sym m ∙ parts) ∙ sym (append_assoc whole held zs);
+      lines = t.lines;
+      unbroken = u;
+      reader = refl;
+    }
+
+pub run_fails : (input : List ℕ) (old : Option (List ℕ)) (now next : Scene) (number : ℕ) (f : TraceFault) → HasRun input old now number → Fails now next number f → Stops input next.unread old next.written f
 unfolding front_of
-run_fails input old now next number f h (unread e k) = reading e (front_of input old now number h) (Appends-kept _ _ _ _ h.appends k)
+run_fails input old now next number f h (read_fails e held u l m k) =
+    reading e (front_of input old now number h) (all_read input h.whole h.rest held h.done now.left next.left next.unread h.taken h.left u l m) (Appends-kept _ _ _ _ h.appends k)
 run_fails input old now next number f h (too_long e b k) =
     let l = long_known h.rest now.left h.left b in
     overlong (front_of input old now number h) l.line l.others l.lines l.long (e ∙ ap (λ n. TooLong (n + 1)) h.count) (Appends-kept _ _ _ _ h.appends k)
-run_fails input old now next number f h (no_memory e k) = wanting e (front_of input old now number h) (Appends-kept _ _ _ _ h.appends k)
+run_fails input old now next number f h (no_memory e line short u t w k) =
+    let (ys, left, first) = takes_known h.rest line now.left next.left h.left t in
+    wanting e (front_of input old now number h) line (lines_of ys) (lines-first h.rest line ys u first) w (Appends-kept _ _ _ _ h.appends k)
 run_fails input old now next number f h (refused line short u t b k) =
     let (ys, left, first) = takes_known h.rest line now.left next.left h.left t in
     refusing (front_of input old now number h) line (lines_of ys) (lines-first h.rest line ys u first) short (subst (λ n. LineFails now.stage (n + 1) line f) h.count b) (Appends-kept _ _ _ _ h.appends k)
@@ -159,7 +235,7 @@ run_fails input old now next number f h (unwritten e line text short u t a w) =
 
 -- the same, where what the reader has may be unknown
 pub some_init : (o wo : Option (List ℕ)) (stage : Stage) (w : Window) → w ≡ opening → stage ≡ Start
-    → IfSome o (λ input. HasRun input wo (record { left = left o w; stage = stage; written = wo }) 0)
+    → IfSome o (λ input. HasRun input wo (record { left = left o w; unread = o; stage = stage; written = wo }) 0)
 some_init None wo stage w e s = tt
 some_init (Some input) wo stage w e s = run_none input wo _ (ap (left (Some input)) e) s refl
 
@@ -167,7 +243,7 @@ pub some_more : (o wo : Option (List ℕ)) (now next : Scene) (n : ℕ) → IfSo
 some_more None wo now next n h a = tt
 some_more (Some input) wo now next n h a = run_more input wo now next n h a
 
-pub some_fails : (o wo : Option (List ℕ)) (now next : Scene) (n : ℕ) (f : TraceFault) → IfSome o (λ input. HasRun input wo now n) → Fails now next n f → IfSome o (λ input. Stops input wo next.written f)
+pub some_fails : (o wo : Option (List ℕ)) (now next : Scene) (n : ℕ) (f : TraceFault) → IfSome o (λ input. HasRun input wo now n) → Fails now next n f → IfSome o (λ input. Stops input next.unread wo next.written f)
 some_fails None wo now next n f h a = tt
 some_fails (Some input) wo now next n f h a = run_fails input wo now next n f h a
 
@@ -177,7 +253,7 @@ over_left rest None e a = absurd (cc)
 over_left rest (Some xs) e a = let same : rest ≡ [] = cc in ap lines_of same
 
 run_ends : {T : Type 0} (input : List ℕ) (wo : Option (List ℕ)) (now next : Scene) (n : ℕ) (r : Result T TraceFault) → HasRun input wo now n → IsOver now next
-    → OnOk r (CanOpen next.stage) → IfErr r (λ f. OpenFails next.stage f) → Ends input wo next.written r
+    → OnOk r (CanOpen next.stage) → IfErr r (λ f. OpenFails next.stage f) → Ends input next.unread wo next.written r
 unfolding front_of
 run_ends input wo now next n (Ok x) h v o e =
     let none = over_left h.rest now.left h.left v.ended in
@@ -192,7 +268,7 @@ run_ends input wo now next n (Err f) h v o e =
     unopened (front_of input wo now n h) (over_left h.rest now.left h.left v.ended) (subst (λ s. OpenFails s f) v.stage e) (Appends-kept _ _ _ _ h.appends v.written)
 
 pub some_ends : {T : Type 0} (o wo : Option (List ℕ)) (now next : Scene) (n : ℕ) (r : Result T TraceFault) → IfSome o (λ input. HasRun input wo now n) → IsOver now next
-    → OnOk r (CanOpen next.stage) → IfErr r (λ f. OpenFails next.stage f) → IfSome o (λ input. Ends input wo next.written r)
+    → OnOk r (CanOpen next.stage) → IfErr r (λ f. OpenFails next.stage f) → IfSome o (λ input. Ends input next.unread wo next.written r)
 some_ends None wo now next n r h v o e = tt
 some_ends (Some input) wo now next n r h v o e = run_ends input wo now next n r h v o e
 
@@ -200,10 +276,9 @@ take_all_of : (xs : List ℕ) → take (length xs) xs ≡ xs
 take_all_of xs = grind (arith, common_steps)
 
 -- no line was acted on
-pub none_ran : (o wo : Option (List ℕ)) → IfSome o (λ input. Stops input wo wo NoMemory)
-none_ran None wo = tt
-none_ran (Some input) wo =
-    wanting refl (record { done = []; more = lines_of input; stage = Start; text = []; lines = refl; runs = (refl, refl) }) (Appends-nil wo)
+pub none_ran : (o unread wo : Option (List ℕ)) → IfSome o (λ input. Stops input unread wo wo NoMemory)
+none_ran None unread wo = tt
+none_ran (Some input) unread wo = unmade refl (Appends-nil wo)
 
 whole_front : (a b : Option (List ℕ)) (xs : List ℕ) → Appends a b xs → AppendsFront a b xs
 whole_front a b xs p = (length xs, omega arith, subst (Appends a b) (sym (take_all_of xs)) p)
@@ -212,35 +287,41 @@ front_kept : (a b c : Option (List ℕ)) (xs : List ℕ) → AppendsFront a b xs
 front_kept a b c xs p k = (p.0, p.1, Appends-kept a b c (take p.0 xs) p.2 k)
 
 -- a flush keeps what was written
-stops_kept : (input : List ℕ) (a b c : Option (List ℕ)) (f : TraceFault) → Stops input a b f → Keeps b c → Stops input a c f
-stops_kept input a b c f (reading e p w) k = reading e p (Appends-kept _ _ _ _ w k)
-stops_kept input a b c f (wanting e p w) k = wanting e p (Appends-kept _ _ _ _ w k)
-stops_kept input a b c f (overlong p line others e l q w) k = overlong p line others e l q (Appends-kept _ _ _ _ w k)
-stops_kept input a b c f (refusing p line others e q l w) k = refusing p line others e q l (Appends-kept _ _ _ _ w k)
-stops_kept input a b c f (unopened p e q w) k = unopened p e q (Appends-kept _ _ _ _ w k)
-stops_kept input a b c f (writing e p w) k = writing e p (front_kept _ _ _ _ w k)
+stops_kept : (input : List ℕ) (unread a b c : Option (List ℕ)) (f : TraceFault) → Stops input unread a b f → Keeps b c → Stops input unread a c f
+stops_kept input unread a b c f (reading e p r w) k = reading e p r (Appends-kept _ _ _ _ w k)
+stops_kept input unread a b c f (unmade e w) k = unmade e (Appends-kept _ _ _ _ w k)
+stops_kept input unread a b c f (wanting e p line others m n w) k = wanting e p line others m n (Appends-kept _ _ _ _ w k)
+stops_kept input unread a b c f (overlong p line others e l q w) k = overlong p line others e l q (Appends-kept _ _ _ _ w k)
+stops_kept input unread a b c f (refusing p line others e q l w) k = refusing p line others e q l (Appends-kept _ _ _ _ w k)
+stops_kept input unread a b c f (unopened p e q w) k = unopened p e q (Appends-kept _ _ _ _ w k)
+stops_kept input unread a b c f (writing e p w) k = writing e p (front_kept _ _ _ _ w k)
 
-ends_kept : {T : Type 0} (input : List ℕ) (a b c : Option (List ℕ)) (r : Result T TraceFault) → Ends input a b r → Keeps b c → Ends input a c r
-ends_kept input a b c (Ok x) h k = record { stage = h.stage; text = h.text; runs = h.runs; opens = h.opens; appends = Appends-kept _ _ _ _ h.appends k }
-ends_kept input a b c (Err f) h k = stops_kept input a b c f h k
+ends_kept : {T : Type 0} (input : List ℕ) (unread a b c : Option (List ℕ)) (r : Result T TraceFault) → Ends input unread a b r → Keeps b c → Ends input unread a c r
+ends_kept input unread a b c (Ok x) h k = record { stage = h.stage; text = h.text; runs = h.runs; opens = h.opens; appends = Appends-kept _ _ _ _ h.appends k }
+ends_kept input unread a b c (Err f) h k = stops_kept input unread a b c f h k
 
-stops_lost : (input : List ℕ) (a b : Option (List ℕ)) (f : TraceFault) → Stops input a b f → Stops input a b WriteFailed
-stops_lost input a b f (reading e p w) = writing refl p (whole_front _ _ _ w)
-stops_lost input a b f (wanting e p w) = writing refl p (whole_front _ _ _ w)
-stops_lost input a b f (overlong p line others e l q w) = writing refl p (whole_front _ _ _ w)
-stops_lost input a b f (refusing p line others e q l w) = writing refl p (whole_front _ _ _ w)
-stops_lost input a b f (unopened p e q w) = writing refl p (whole_front _ _ _ w)
-stops_lost input a b f (writing e p w) = writing refl p w
+nothing_run : (input : List ℕ) → Front input
+nothing_run input = record { done = []; more = lines_of input; stage = Start; text = []; lines = refl; runs = (refl, refl) }
 
-ends_lost : {T : Type 0} (input : List ℕ) (a b : Option (List ℕ)) (r : Result T TraceFault) → Ends input a b r → Stops input a b WriteFailed
-ends_lost input a b (Ok x) h =
+stops_lost : (input : List ℕ) (unread a b : Option (List ℕ)) (f : TraceFault) → Stops input unread a b f → Stops input unread a b WriteFailed
+unfolding nothing_run
+stops_lost input unread a b f (reading e p r w) = writing refl p (whole_front _ _ _ w)
+stops_lost input unread a b f (unmade e w) = writing refl (nothing_run input) (whole_front _ _ _ w)
+stops_lost input unread a b f (wanting e p line others m n w) = writing refl p (whole_front _ _ _ w)
+stops_lost input unread a b f (overlong p line others e l q w) = writing refl p (whole_front _ _ _ w)
+stops_lost input unread a b f (refusing p line others e q l w) = writing refl p (whole_front _ _ _ w)
+stops_lost input unread a b f (unopened p e q w) = writing refl p (whole_front _ _ _ w)
+stops_lost input unread a b f (writing e p w) = writing refl p w
+
+ends_lost : {T : Type 0} (input : List ℕ) (unread a b : Option (List ℕ)) (r : Result T TraceFault) → Ends input unread a b r → Stops input unread a b WriteFailed
+ends_lost input unread a b (Ok x) h =
     writing refl (record { done = lines_of input; more = []; stage = h.stage; text = h.text; lines = sym (append-nil (lines_of input)); runs = h.runs }) (whole_front _ _ _ h.appends)
-ends_lost input a b (Err f) h = stops_lost input a b f h
+ends_lost input unread a b (Err f) h = stops_lost input unread a b f h
 
-pub some_kept : {T : Type 0} (o a b c : Option (List ℕ)) (r : Result T TraceFault) → IfSome o (λ input. Ends input a b r) → Keeps b c → IfSome o (λ input. Ends input a c r)
-some_kept None a b c r h k = tt
-some_kept (Some input) a b c r h k = ends_kept input a b c r h k
+pub some_kept : {T : Type 0} (o unread a b c : Option (List ℕ)) (r : Result T TraceFault) → IfSome o (λ input. Ends input unread a b r) → Keeps b c → IfSome o (λ input. Ends input unread a c r)
+some_kept None unread a b c r h k = tt
+some_kept (Some input) unread a b c r h k = ends_kept input unread a b c r h k
 
-pub some_lost : {T : Type 0} (o a b c : Option (List ℕ)) (r : Result T TraceFault) → IfSome o (λ input. Ends input a b r) → Keeps b c → IfSome o (λ input. Stops input a c WriteFailed)
-some_lost None a b c r h k = tt
-some_lost (Some input) a b c r h k = stops_kept input a b c WriteFailed (ends_lost input a b r h) k
+pub some_lost : {T : Type 0} (o unread a b c : Option (List ℕ)) (r : Result T TraceFault) → IfSome o (λ input. Ends input unread a b r) → Keeps b c → IfSome o (λ input. Stops input unread a c WriteFailed)
+some_lost None unread a b c r h k = tt
+some_lost (Some input) unread a b c r h k = stops_kept input unread a b c WriteFailed (ends_lost input unread a b r h) k

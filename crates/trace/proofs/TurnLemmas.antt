@@ -11,7 +11,7 @@ use Rattle.core_steps.specs.declared.setup.SetupFault.{SetupFault}
 use Rattle.core_steps.specs.Setups.{fault_of}
 use Rattle.trace.specs.declared.fault.TraceFault.{TraceFault}
 use Rattle.trace.specs.declared.fault.TraceFault.TheVariants.{BadLine, TooLong, ReadFailed, NoVmLine, NoMemory, Setup, WriteFailed}
-use Rattle.trace.specs.Stage.{Stage, Start, Declared, Running, SetupFails, OpenFails, CanOpen, BadFails, SpaceFails, SaidFails, BytesFail, LineFails, EventFails, Acts}
+use Rattle.trace.specs.Stage.{Stage, Start, Declared, Running, SetupFails, OpenFails, LineWants, BadFails, SpaceFails, SaidFails, BytesFail, LineFails, Acts}
 use Rattle.trace.specs.Turns.{Scene, Fails, no_memory, refused, unwritten}
 
 -- neither the reader's fault nor the writer's
@@ -66,16 +66,16 @@ unfolding is_own
 own_bytes false s n line f e = ap is_own e
 own_bytes true s n line f e = own_said s n (begins_with_vm (words_of line)) (line_of line) f e
 
-own_act : (s : Stage) (n : ℕ) (line : List ℕ) (f : TraceFault) → (f ≡ NoMemory) ⊎ LineFails s n line f → is_own f ≡ true
+own_act : (s : Stage) (n : ℕ) (line : List ℕ) (f : TraceFault) → ((f ≡ NoMemory) × LineWants s line) ⊎ LineFails s n line f → is_own f ≡ true
 unfolding is_own
-own_act s n line f (inl e) = ap is_own e
+own_act s n line f (inl e) = ap is_own e.0
 own_act s n line f (inr h) = own_bytes (are_printable line) s n line f h.because
 
-pub not_read : {X : Type 0} (s : Stage) (n : ℕ) (line : List ℕ) (f : TraceFault) → (f ≡ NoMemory) ⊎ LineFails s n line f → f ≡ ReadFailed → X
+pub not_read : {X : Type 0} (s : Stage) (n : ℕ) (line : List ℕ) (f : TraceFault) → ((f ≡ NoMemory) × LineWants s line) ⊎ LineFails s n line f → f ≡ ReadFailed → X
 unfolding is_own
 not_read s n line f h e = let clash : false ≡ true = sym (ap is_own e) ∙ own_act s n line f h in cc
 
-pub not_write : {X : Type 0} (s : Stage) (n : ℕ) (line : List ℕ) (f : TraceFault) → (f ≡ NoMemory) ⊎ LineFails s n line f → f ≡ WriteFailed → X
+pub not_write : {X : Type 0} (s : Stage) (n : ℕ) (line : List ℕ) (f : TraceFault) → ((f ≡ NoMemory) × LineWants s line) ⊎ LineFails s n line f → f ≡ WriteFailed → X
 unfolding is_own
 not_write s n line f h e = let clash : false ≡ true = sym (ap is_own e) ∙ own_act s n line f h in cc
 
@@ -90,8 +90,8 @@ end_not_write s f h e = let clash : false ≡ true = sym (ap is_own e) ∙ own_o
 
 -- a line that wasn't acted on fails the turn
 pub act_fails : (old new : Scene) (n : ℕ) (line seen : List ℕ) (f : TraceFault) → Keeps old.written new.written → length line ≤ 256 → IsUnbroken line → TakesLine old.left new.left line → seen ≡ line
-    → (f ≡ NoMemory) ⊎ LineFails old.stage (n + 1) seen f → Fails old new n f
-act_fails old new n line seen f keeps short unbroken takes same (inl e) = no_memory e keeps
+    → ((f ≡ NoMemory) × LineWants old.stage seen) ⊎ LineFails old.stage (n + 1) seen f → Fails old new n f
+act_fails old new n line seen f keeps short unbroken takes same (inl e) = no_memory e.0 line short unbroken takes (subst (LineWants old.stage) same e.1) keeps
 act_fails old new n line seen f keeps short unbroken takes same (inr h) = refused line short unbroken takes (subst (λ l. LineFails old.stage (n + 1) l f) same h) keeps
 
 -- a line whose text wasn't written whole fails the turn

@@ -1,5 +1,5 @@
 -- What a line of an event gives: the text of the outcome that the machine comes to.
-use Rattle.std.specs.Prelude.{◌≡◌, ℕ, List, Bool, true, false, Option, None, Some}
+use Rattle.std.specs.Prelude.{◌≡◌, ◌⊎◌, ℕ, List, Bool, true, false, Option, None, Some}
 use Rattle.machine_model.specs.declared.event.Event.{Event}
 use Rattle.machine_model.specs.declared.event.Event.TheVariants as Ev
 use Rattle.machine_model.specs.declared.event.Outcome.{Outcome}
@@ -7,7 +7,8 @@ use Rattle.machine_model.specs.declared.event.Outcome.TheVariants.{Stepped, Wait
 use Rattle.machine_model.specs.World.{World}
 use Rattle.machine_model.specs.Step.{Step}
 use Rattle.core_steps.specs.declared.machine.Finished.{Finished}
-use Rattle.core_steps.specs.Finishing.{Finishes}
+use Rattle.core_steps.specs.Finishing.{Finishes, IsRefused}
+use Rattle.core_steps.specs.Wanting.{may_want}
 use Rattle.trace_text.specs.declared.line.Line.{Line}
 use Rattle.trace_text.specs.declared.line.Line.TheVariants.{Blank, Space, Call, Go, Finish, Now}
 use Rattle.trace.specs.OutcomeText.{outcome_text, finished_text}
@@ -35,6 +36,19 @@ Gives w (Call core request) v text = TellsStep w (Ev.Call core request) v text
 Gives w (Go core) v text = TellsStep w (Ev.Go core) v text
 Gives w (Finish core) v text = TellsFinish w core v text
 Gives w (Now core request) v text = (o : Outcome) × (m : World) × Step w (Ev.Call core request) o m × GoesOn m core o v text
+
+-- some step that finishes the core's call was refused for memory
+abbrev pub WantsFinish : World → ℕ → Type 0
+WantsFinish w core = (v : World) × IsRefused w core v
+
+-- a step that the line asks for was refused for memory
+abbrev pub Wants : World → Line → Type 0
+Wants w Blank = ⊥
+Wants w (Space cores frames calls) = ⊥
+Wants w (Call core request) = may_want w (Ev.Call core request) ≡ true
+Wants w (Go core) = may_want w (Ev.Go core) ≡ true
+Wants w (Finish core) = WantsFinish w core
+Wants w (Now core request) = (may_want w (Ev.Call core request) ≡ true) ⊎ ((m : World) × Step w (Ev.Call core request) Stepped m × WantsFinish m core)
 
 -- the line of an event
 abbrev pub is_event : Option Line → Bool

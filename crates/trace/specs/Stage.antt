@@ -1,5 +1,5 @@
 -- How far a trace has come, and what one line does to it.
-use Rattle.std.specs.Prelude.{◌≡◌, ℕ, ◌≤◌, ◌⊎◌, List, [], Bool, true, false, Option, None, Some, if◌then◌else◌, length, IsSomeAnd, ⊤}
+use Rattle.std.specs.Prelude.{◌≡◌, ℕ, ◌⊎◌, List, [], Bool, true, false, Option, None, Some, if◌then◌else◌, IsSomeAnd, ⊤}
 use Rattle.slot_lock.specs.Slots.{Slots, IsNew}
 use Rattle.machine_model.specs.World.{World, opening}
 use Rattle.core_steps.specs.declared.setup.Setup.{Setup}
@@ -12,7 +12,7 @@ use Rattle.trace_text.specs.declared.line.Line.{Line}
 use Rattle.trace_text.specs.declared.line.Line.TheVariants.{Blank, Space, Call, Go, Finish, Now}
 use Rattle.trace.specs.declared.fault.TraceFault.{TraceFault}
 use Rattle.trace.specs.declared.fault.TraceFault.TheVariants as By
-use Rattle.trace.specs.Gives.{Gives, is_event}
+use Rattle.trace.specs.Gives.{Gives, Wants, is_event}
 
 -- no line with words yet; the vm line; a machine
 pub data Stage : Type 0 where
@@ -78,6 +78,15 @@ BytesFail true s number line f = SaidFails s number (begins_with_vm (words_of li
 -- why the line with this number isn't acted on
 pub record LineFails (s : Stage) (number : ℕ) (line : List ℕ) (f : TraceFault) : Type 0 where
   pub because : BytesFail (are_printable line) s number line f
+
+-- a step of the machine that an event's line finds was refused for memory
+abbrev pub EventWants : Stage → Line → Type 0
+EventWants s line = (w : World) × Opens s w × Wants w line
+
+-- the same, of a line in bytes
+pub record LineWants (s : Stage) (line : List ℕ) : Type 0 where
+  pub printable : are_printable line ≡ true
+  pub wants : IsSomeAnd (line_of line) (λ l. EventWants s l)
 
 -- a line that is acted on, by what it says
 abbrev pub EventActs : Stage → Line → Stage → List ℕ → Type 0

@@ -1,15 +1,16 @@
 -- What one turn of a replay does, and how it can fail.
-use Rattle.std.specs.Prelude.{◌≡◌, ℕ, ◌+◌, ◌<◌, ◌≤◌, List, Bool, true, false, Option, None, Some, Result, Ok, Err, length}
-use Rattle.std.specs.Io.KnownBytes.{Keeps, Appends, IsAtEnd}
+use Rattle.std.specs.Prelude.{◌≡◌, ℕ, ◌+◌, ◌≤◌, List, Bool, true, false, Option, Result, Ok, Err, length}
+use Rattle.std.specs.Io.KnownBytes.{Keeps, Appends, IsAtEnd, prepend_known}
 use Rattle.trace_io.specs.Lines.{IsUnbroken, TakesLine, BeginsTooLong}
 use Rattle.trace_io.specs.Sink.{AppendsFront}
 use Rattle.trace.specs.declared.fault.TraceFault.{TraceFault}
 use Rattle.trace.specs.declared.fault.TraceFault.TheVariants.{TooLong, ReadFailed, NoMemory, WriteFailed}
-use Rattle.trace.specs.Stage.{Stage, LineFails, Acts}
+use Rattle.trace.specs.Stage.{Stage, LineFails, LineWants, Acts}
 
--- what is still to come, the stage, and what the writer holds
+-- what is still to come, what of it has not been read yet, the stage, and what the writer holds
 pub record Scene : Type 0 where
   pub left : Option (List ℕ)
+  pub unread : Option (List ℕ)
   pub stage : Stage
   pub written : Option (List ℕ)
 
@@ -31,9 +32,9 @@ pub record IsOver (old new : Scene) : Type 0 where
 
 -- line number + 1 was not acted on, for this fault
 pub data Fails (old new : Scene) (number : ℕ) (f : TraceFault) : Type 0 where
-  unread : f ≡ ReadFailed → Keeps old.written new.written → Fails old new number f
+  read_fails : f ≡ ReadFailed → (held : List ℕ) → IsUnbroken held → new.left ≡ prepend_known held new.unread → Keeps old.left new.left → Keeps old.written new.written → Fails old new number f
   too_long : f ≡ TooLong (number + 1) → BeginsTooLong old.left → Keeps old.written new.written → Fails old new number f
-  no_memory : f ≡ NoMemory → Keeps old.written new.written → Fails old new number f
+  no_memory : f ≡ NoMemory → (line : List ℕ) → length line ≤ 256 → IsUnbroken line → TakesLine old.left new.left line → LineWants old.stage line → Keeps old.written new.written → Fails old new number f
   refused : (line : List ℕ) → length line ≤ 256 → IsUnbroken line → TakesLine old.left new.left line → LineFails old.stage (number + 1) line f → Keeps old.written new.written → Fails old new number f
   unwritten : f ≡ WriteFailed → (line text : List ℕ) → length line ≤ 256 → IsUnbroken line → TakesLine old.left new.left line → Acts old.stage line new.stage text → AppendsFront old.written new.written text → Fails old new number f
 

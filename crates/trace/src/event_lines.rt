@@ -1,6 +1,7 @@
 //! Lines of events: each moves the machine, and its text tells the outcome.
-ghost use Rattle.std.specs.Prelude.{◌≡◌, ◌⊎◌, IfErr, OnOk, IsSomeAnd, false};
-ghost use Rattle.trace.specs.Gives.{Gives, is_event, TellsFinish, TellsStep};
+ghost use Rattle.std.specs.Prelude.{◌≡◌, ◌⊎◌, IfErr, OnErr, OnOk, IsSomeAnd, true, false};
+ghost use Rattle.core_steps.specs.Wanting.{may_want};
+ghost use Rattle.trace.specs.Gives.{Gives, Wants, WantsFinish, is_event, TellsFinish, TellsStep};
 
 use crate::fault::TraceFault;
 use crate::outcome_text::{LineText, write_finished, write_outcome};
@@ -18,7 +19,8 @@ fn tell_step<A: Allocator + Clone + Drop>(
     event: Event,
     text: &mut LineText,
 ) -> Result<(), NoMemory>
-    ensures { OnOk result (TellsStep (⟦<Machine<RunList<A>, A> as Modelled>⟧.world machine.old) event (⟦<Machine<RunList<A>, A> as Modelled>⟧.world machine.new) text.new.bytes) }
+    ensures ok { OnOk result (TellsStep (⟦<Machine<RunList<A>, A> as Modelled>⟧.world machine.old) event (⟦<Machine<RunList<A>, A> as Modelled>⟧.world machine.new) text.new.bytes) }
+    ensures err { OnErr result (may_want (⟦<Machine<RunList<A>, A> as Modelled>⟧.world machine.old) event ≡ true) }
 {
     let outcome = machine.step(event)?;
     write_outcome(text, outcome);
@@ -31,7 +33,8 @@ fn tell_finish<A: Allocator + Clone + Drop>(
     core: CoreId,
     text: &mut LineText,
 ) -> Result<(), NoMemory>
-    ensures { OnOk result (TellsFinish (⟦<Machine<RunList<A>, A> as Modelled>⟧.world machine.old) core (⟦<Machine<RunList<A>, A> as Modelled>⟧.world machine.new) text.new.bytes) }
+    ensures ok { OnOk result (TellsFinish (⟦<Machine<RunList<A>, A> as Modelled>⟧.world machine.old) core (⟦<Machine<RunList<A>, A> as Modelled>⟧.world machine.new) text.new.bytes) }
+    ensures err { OnErr result (WantsFinish (⟦<Machine<RunList<A>, A> as Modelled>⟧.world machine.old) core) }
 {
     let finished = machine.finish(core)?;
     write_finished(text, finished);
@@ -45,7 +48,8 @@ fn tell_call<A: Allocator + Clone + Drop>(
     request: Request,
     text: &mut LineText,
 ) -> Result<(), NoMemory>
-    ensures { OnOk result (Gives (⟦<Machine<RunList<A>, A> as Modelled>⟧.world machine.old) (Line.Now core request) (⟦<Machine<RunList<A>, A> as Modelled>⟧.world machine.new) text.new.bytes) }
+    ensures ok { OnOk result (Gives (⟦<Machine<RunList<A>, A> as Modelled>⟧.world machine.old) (Line.Now core request) (⟦<Machine<RunList<A>, A> as Modelled>⟧.world machine.new) text.new.bytes) }
+    ensures err { OnErr result (Wants (⟦<Machine<RunList<A>, A> as Modelled>⟧.world machine.old) (Line.Now core request)) }
 {
     match machine.step(Event::Call(core, request))? {
         Outcome::Stepped => tell_finish(machine, core, text),
@@ -65,7 +69,7 @@ pub fn run_line<A: Allocator + Clone + Drop>(
     text: &mut LineText,
 ) -> Result<(), TraceFault>
     ensures ok { OnOk result (IsSomeAnd line (λ l. Gives (⟦<Machine<RunList<A>, A> as Modelled>⟧.world machine.old) l (⟦<Machine<RunList<A>, A> as Modelled>⟧.world machine.new) text.new.bytes)) }
-    ensures err { IfErr result (λ f. (f ≡ TraceFault.NoMemory) ⊎ ((is_event line ≡ false) × (f ≡ TraceFault.BadLine number))) }
+    ensures err { IfErr result (λ f. ((f ≡ TraceFault.NoMemory) × IsSomeAnd line (λ l. Wants (⟦<Machine<RunList<A>, A> as Modelled>⟧.world machine.old) l)) ⊎ ((is_event line ≡ false) × (f ≡ TraceFault.BadLine number))) }
 {
     let Some(line) = line else {
         return Err(TraceFault::BadLine(number));

@@ -26,8 +26,8 @@ fn turn<A: Allocator, S: Source, W: Sink, R: Staged>(
 ) -> Result<bool, TraceFault>
     requires { number + 1 < 2 ^ 64 }
     ensures turns { Turns
-        (record { left = left (S.remaining reader.old) lines.old; stage = R.stage replayer.old; written = W.contents writer.old })
-        (record { left = left (S.remaining reader.new) lines.new; stage = R.stage replayer.new; written = W.contents writer.new })
+        (record { left = left (S.remaining reader.old) lines.old; unread = S.remaining reader.old; stage = R.stage replayer.old; written = W.contents writer.old })
+        (record { left = left (S.remaining reader.new) lines.new; unread = S.remaining reader.new; stage = R.stage replayer.new; written = W.contents writer.new })
         number result }
     ensures budget { IfOk result (λ more. more ≡ true → budget (S.reads reader.new) lines.new < budget (S.reads reader.old) lines.old) }
     ensures read { result ≡ Err ReadFailed → HasStopped (S.failed reader.new) (S.reads reader.new) }
@@ -60,7 +60,7 @@ fn replay_lines<A: Allocator, S: Source, W: Sink, R: Staged>(
     requires fresh { lines.old ≡ opening }
     requires start { R.stage replayer.old ≡ Start }
     ensures ends { IfSome (S.remaining reader.old) (λ input.
-        Ends input (W.contents writer.old) (W.contents writer.new) result) }
+        Ends input (S.remaining reader.new) (W.contents writer.old) (W.contents writer.new) result) }
     ensures read { result ≡ Err ReadFailed → HasStopped (S.failed reader.new) (S.reads reader.new) }
     ensures write { result ≡ Err WriteFailed → W.failed writer.new ≡ true }
 {
@@ -82,7 +82,7 @@ pub fn replay<A: Allocator + Clone + Drop, S: Source, W: Sink>(
 ) -> Result<(), TraceFault>
     // What went out, and which fault it is, where the reader tells its bytes.
     ensures ends { IfSome (S.remaining reader.old) (λ input.
-        Ends input (W.contents writer.old) (W.contents writer.new) result) }
+        Ends input (S.remaining reader.new) (W.contents writer.old) (W.contents writer.new) result) }
     ensures read { result ≡ Err ReadFailed → HasStopped (S.failed reader.new) (S.reads reader.new) }
     ensures write { result ≡ Err WriteFailed → W.failed writer.new ≡ true }
 {

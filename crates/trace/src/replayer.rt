@@ -1,6 +1,6 @@
 //! A replay between two lines, and what one line does to it.
 ghost use Rattle.std.specs.Prelude.{◌≡◌, ◌⊎◌, [], option_map, None, IfOk, IfErr, OnOk, IsSomeAnd};
-ghost use Rattle.trace.specs.Stage.{Stage, Start, Declared, stage_of, Opens, OpenFails, CanOpen, Acts, EventActs, EventFails, LineFails};
+ghost use Rattle.trace.specs.Stage.{Stage, Start, Declared, stage_of, Opens, OpenFails, CanOpen, Acts, EventActs, EventFails, EventWants, LineFails, LineWants};
 
 use crate::event_lines::run_line;
 use crate::fault::TraceFault;
@@ -20,7 +20,7 @@ pub trait Staged {
     /// is the line's first. After a fault no other line is acted on.
     fn act(&mut self, number: u64, line: &[u8], text: &mut LineText) -> Result<(), TraceFault>
         ensures ok { OnOk result (Acts (stage self.old) line.now (stage self.new) text.new.bytes) }
-        ensures err { IfErr result (λ f. (f ≡ TraceFault.NoMemory) ⊎ LineFails (stage self.old) number line.now f) };
+        ensures err { IfErr result (λ f. ((f ≡ TraceFault.NoMemory) × LineWants (stage self.old) line.now) ⊎ LineFails (stage self.old) number line.now f) };
 
     /// Ends the trace: a machine is made where no line has made one yet.
     fn finish(&self) -> Result<(), TraceFault>
@@ -89,7 +89,7 @@ impl<A: Allocator + Clone + Drop> Replayer<A> {
         text: &mut LineText,
     ) -> Result<(), TraceFault>
         ensures ok { OnOk result (IsSomeAnd line (λ l. EventActs (⟦<Self as Staged>⟧.stage self.old) l (⟦<Self as Staged>⟧.stage self.new) text.new.bytes)) }
-        ensures err { IfErr result (λ f. (f ≡ TraceFault.NoMemory) ⊎ EventFails (⟦<Self as Staged>⟧.stage self.old) number line f) }
+        ensures err { IfErr result (λ f. ((f ≡ TraceFault.NoMemory) × IsSomeAnd line (λ l. EventWants (⟦<Self as Staged>⟧.stage self.old) l)) ⊎ EventFails (⟦<Self as Staged>⟧.stage self.old) number line f) }
     {
         match &mut self.machine {
             Some(machine) => run_line(machine, line, number, text),

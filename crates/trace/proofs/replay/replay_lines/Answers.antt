@@ -1,4 +1,4 @@
-use Rattle.std.proofs.Common.{arith, rules}
+use Rattle.std.proofs.Common.{arith}
 use Rattle.trace.proofs.RunLemmas.{some_init, some_more, some_fails, some_ends}
 use Rattle.trace.proofs.replay.replay_lines.Goals as goal
 

@@ -1,8 +1,11 @@
-use Rattle.std.proofs.Common.{arith, refl, subst, ◌≡◌, ◌∙◌}
+use Rattle.std.proofs.Common.{refl, ◌∙◌}
 use Rattle.std.proofs.KnownBytes.{Keeps-refl}
-use Rattle.trace.specs.Turns.{unwritten}
+use Rattle.trace.specs.Turns.{read_fails}
 use Rattle.trace.proofs.TurnLemmas.{not_read, not_write, act_fails, text_lost}
 use Rattle.trace.proofs.replay.turn.Goals as goal
+
+pub returns-in-Err-clause-turns : goal.returns-in-Err-clause-turns
+returns-in-Err-clause-turns g c = read_fails refl _ c.in-Err.ensures.unbroken refl c.in-Err.ensures.kept (Keeps-refl _)
 
 pub returns-in-Err-act-clause-turns : goal.returns-in-Err-act-clause-turns
 returns-in-Err-act-clause-turns g c =
