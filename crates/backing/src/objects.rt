@@ -61,7 +61,7 @@ impl<A: Allocator> Objects<A> {
     ghost use Rattle.std.specs.Prelude.{◌≡◌, ℕ, ◌<◌, ◌≤◌, ◌+◌, ◌^◌, Some, None, IfSome, is_some, not, true, length};
     ghost use Rattle.vm_base.specs.declared.requests.Flags.{Flags};
     ghost use Rattle.vm_base.specs.Functions.{put};
-    ghost use Rattle.vm_base.specs.Plain.{file_bytes, mode_of};
+    ghost use Rattle.vm_base.specs.Plain.{file_bytes, mode_of, page_bytes};
     ghost use Rattle.vm_base.specs.Refusals.{file_refusal};
     ghost use Rattle.frames.specs.Parts.{frame_bytes, free_frames};
     ghost use Rattle.backing.specs.Files.{files_of, cached_in, bytes_now};
@@ -119,6 +119,15 @@ impl<A: Allocator> Objects<A> {
         self.files[file as usize].byte(page, offset)
     }
 
+    /// A file's own bytes of a page that it has, up to the file's length: at most 4,096, after which the page has zeros.
+    pub fn own_bytes(&self, file: u32, page: u64) -> &[u8]
+        requires { is_some (file_bytes (files_of self.now file) page) ≡ true }
+        ensures short { length result.now ≤ 4096 }
+        ensures bytes { IfSome (file_bytes (files_of self.now file) page) (λ own. page_bytes result.now 0 ≡ own) }
+    {
+        self.files[file as usize].own_part(page)
+    }
+
     /// The frame that caches a page of a file, if one does. There may be no such page.
     pub fn cached(&self, file: u32, page: u64) -> Option<u32>
         ensures { result ≡ cached_in self.now file page }
@@ -152,7 +161,7 @@ impl<A: Allocator> Objects<A> {
     {
         match self.cached(file, page) {
             Some(cached) => frames.copy(cached, frame),
-            None => frames.fill(frame, self.files[file as usize].own_part(page)),
+            None => frames.fill(frame, self.own_bytes(file, page)),
         }
     }
 }

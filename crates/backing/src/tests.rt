@@ -95,6 +95,23 @@ fn bytes_are_zero_after_the_length(rt: HostRuntime) -> Result<(), Fail> {
     Ok(())
 }
 
+/// How many own bytes a page has that is there.
+fn own_length<A: Allocator>(objects: &Objects<A>, file: u32, page: u64) -> Option<usize> {
+    if objects.is_past_end(file, page) {
+        return None;
+    }
+    Some(objects.own_bytes(file, page).len())
+}
+
+#[test]
+fn own_bytes_end_with_the_file(rt: HostRuntime) -> Result<(), Fail> {
+    let objects = three_files(rt.alloc())?;
+    assert_eq!(rt; own_length(&objects, 0, 0), Some(4096));
+    assert_eq!(rt; own_length(&objects, 0, 1), Some(904));
+    assert_eq!(rt; own_length(&objects, 1, 0), None);
+    Ok(())
+}
+
 #[test]
 fn pages_past_the_end(rt: HostRuntime) -> Result<(), Fail> {
     let objects = three_files(rt.alloc())?;

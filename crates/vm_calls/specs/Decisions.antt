@@ -56,12 +56,9 @@ IsSoundAct (PlanOf.Change change) (Act range shoot) = IsSoundChange change × (r
 IsSoundAct (PlanOf.Touch touch) (Act range shoot) = ⊥
 
 -- the call changes the range, and shoots just the cores that are recorded on some page of it
-abbrev pub ShootsRange : Slots → PageRange → Decision → Type 0
-ShootsRange s range (Refuse e) = ⊥
-ShootsRange s range (Act changes shoot) = (changes ≡ range) × ((core : ℕ) → (members shoot core ≡ true) ↔ IsUser s range core)
-
 abbrev pub Acts : Slots → PageRange → Decision → Type 0
-Acts s range d = ShootsRange s range d
+Acts s range (Refuse e) = ⊥
+Acts s range (Act changes shoot) = (changes ≡ range) × ((core : ℕ) → (members shoot core ≡ true) ↔ IsUser s range core)
 
 -- the page where a hint begins; without one page 0, at which no mapping is placed
 abbrev pub hint_page : Option PageRange → ℕ

@@ -1,6 +1,6 @@
 //! The check of a request's arguments.
 ghost use Rattle.std.specs.Prelude.{◌≡◌, ◌≤◌, ◌^◌, IfOk, IfErr, false, true, is_some};
-ghost use Rattle.vm_base.specs.Pages.{page_count, page_of};
+ghost use Rattle.vm_base.specs.Pages.{page_of};
 ghost use Rattle.vm_base.specs.Plain.{Plain, mode_of};
 ghost use Rattle.vm_base.specs.Refusals.{refusal};
 ghost use Rattle.vm_base.specs.Apply.{Applies, back_at};

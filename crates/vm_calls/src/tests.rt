@@ -443,6 +443,37 @@ fn edges_of_mmap(rt: HostRuntime) -> Result<(), Fail> {
 }
 
 #[test]
+fn the_first_test_answers(rt: HostRuntime) -> Result<(), Fail> {
+    let objects = one_file(rt.alloc(), Mode::W, 10)?;
+    let limit = 0x8000_0000_0000;
+    let cases = [
+        // an address inside a page before an invalid page, and that before a missing file
+        (mmap(0xfff, 1, RW, PFA), Some(refused(Errno::EINVAL))),
+        (mmap_file(0, 1, R, PF, 7, 0), Some(refused(Errno::ENOMEM))),
+        // an offset inside a page before a missing file, and that before an offset past the limit
+        (mmap_file(0, 1, R, P, 7, 1), Some(refused(Errno::EINVAL))),
+        (
+            mmap_file(0, limit + 1, R, P, 7, 0),
+            Some(refused(Errno::EBADF)),
+        ),
+        // the limit before the mode, on both sides of it
+        (
+            mmap_file(0, 4097, R, P, 0, limit - 4096),
+            Some(refused(Errno::EOVERFLOW)),
+        ),
+        (
+            mmap_file(0, 4096, R, P, 0, limit - 4096),
+            Some(refused(Errno::EACCES)),
+        ),
+        // an address inside a page before a length of 0, and that before an invalid page
+        (mprotect(0x1001, 0, R), Some(refused(Errno::EINVAL))),
+        (mprotect(0, 0, R), Some(DONE)),
+    ];
+    assert!(rt; all_at_once(&objects, &cases));
+    Ok(())
+}
+
+#[test]
 fn edges_of_modes(rt: HostRuntime) -> Result<(), Fail> {
     let reading = one_file(rt.alloc(), Mode::R, 10)?;
     let read_cases = [
@@ -480,7 +511,6 @@ fn edges_of_munmap_and_mprotect(rt: HostRuntime) -> Result<(), Fail> {
         (munmap(limit, 4096), Some(refused(Errno::EINVAL))),
         (munmap(0x1000, u64::MAX), Some(refused(Errno::EINVAL))),
         (mprotect(0x1001, 1, R), Some(refused(Errno::EINVAL))),
-        (mprotect(0x1001, 0, R), Some(refused(Errno::EINVAL))),
         (mprotect(0x1000, 0, R), Some(DONE)),
         (mprotect(limit, 0, R), Some(DONE)),
         (mprotect(0x1000, 1, R), None),
