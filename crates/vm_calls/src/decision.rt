@@ -104,7 +104,8 @@ fn has_read_only<M: SlotRead, A: Allocator>(map: &M, objects: &Objects<A>, range
         if is_read_only(objects, map.page(page)) {
             return true;
         }
-        page = map.slot(page).end;
+        let slot = map.slot(page);
+        page = slot.end;
     }
     false
 }
