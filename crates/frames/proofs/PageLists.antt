@@ -5,7 +5,7 @@ use Rattle.std.proofs.Math.Seq.{take-append_seam}
 use Rattle.std.proofs.lemmas.Bool.{cases_lt, lt-ltb, le-ltb}
 use Rattle.std.proofs.lemmas.List.{get_or_past, get_or-set_same, get_or-set_other}
 use Rattle.vm_base.specs.Functions.{put}
-use Rattle.vm_base.specs.Plain.{Bytes, zeros}
+use Rattle.vm_base.specs.Plain.{Bytes, zeros, page_bytes}
 use Rattle.vm_base.proofs.Functions.{put_all, put_other}
 use Rattle.frames.specs.Pages.{bytes_in}
 
@@ -67,3 +67,12 @@ grown-reads flat flat' n more len before after k = by (cases_lt k (length flat))
     by (inl lt) q = before k 0 (omega (arith, lt, more)) lt
     by (inr le) (inl lt) = after k 0 le lt ∙ sym (get_or_past flat k 0 le)
     by (inr le) (inr past) = get_or_past flat' k 0 (omega (arith, len, past)) ∙ sym (get_or_past flat k 0 le)
+
+-- bytes with zeros after them
+pub page-inside : (from : List ℕ) (i : ℕ) → i < 4096 → get_or from i 0 ≡ page_bytes from 0 i
+page-inside from i lt =
+    let at : 0 * 4096 + i ≡ i = omega arith in
+    sym (ap (λ b. cond b (get_or from (0 * 4096 + i) 0) 0) (lt-ltb i 4096 lt) ∙ ap (λ n. get_or from n 0) at)
+
+pub page-past : (from : List ℕ) (i : ℕ) → 4096 ≤ i → page_bytes from 0 i ≡ 0
+page-past from i le = ap (λ b. cond b (get_or from (0 * 4096 + i) 0) 0) (le-ltb i 4096 le)

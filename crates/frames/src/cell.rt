@@ -26,9 +26,9 @@ impl<A: Allocator> Model for FrameCell<A> {
 }
 
 impl<A: Allocator> FrameCell<A> {
-    ghost use Rattle.std.specs.Prelude.{◌≡◌, ◌<◌, IfOk, true, false};
+    ghost use Rattle.std.specs.Prelude.{◌≡◌, ◌<◌, ◌≤◌, IfOk, true, false, length};
     ghost use Rattle.vm_base.specs.Functions.{put};
-    ghost use Rattle.vm_base.specs.Plain.{zeros};
+    ghost use Rattle.vm_base.specs.Plain.{zeros, page_bytes};
     ghost use Rattle.frames.specs.Parts.{cell_bytes};
 
     /// Makes a frame that is free, with all bytes 0. The error says that memory ran out.
@@ -91,6 +91,15 @@ impl<A: Allocator> FrameCell<A> {
         ensures free { self.new.is_free ≡ self.old.is_free }
     {
         page_bytes::fill_zero(&mut self.bytes, 0);
+    }
+
+    /// Gives the frame these bytes, and zeros after them.
+    pub fn fill(&mut self, bytes: &[u8])
+        requires { length bytes.now ≤ 4096 }
+        ensures bytes { cell_bytes self.new ≡ page_bytes bytes.now 0 }
+        ensures free { self.new.is_free ≡ self.old.is_free }
+    {
+        page_bytes::fill(&mut self.bytes, 0, bytes);
     }
 
     /// Copies all bytes from another frame.

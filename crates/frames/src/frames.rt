@@ -49,9 +49,9 @@ impl<A: Allocator + Clone> Frames<A> {
 }
 
 impl<A: Allocator> Frames<A> {
-    ghost use Rattle.std.specs.Prelude.{◌≡◌, ℕ, ◌<◌, ◌≤◌, IfNone, IfSome, true, false};
+    ghost use Rattle.std.specs.Prelude.{◌≡◌, ℕ, ◌<◌, ◌≤◌, IfNone, IfSome, true, false, length};
     ghost use Rattle.vm_base.specs.Functions.{put};
-    ghost use Rattle.vm_base.specs.Plain.{zeros};
+    ghost use Rattle.vm_base.specs.Plain.{zeros, page_bytes};
     ghost use Rattle.frames.specs.Bits.{count_below};
     ghost use Rattle.frames.specs.Parts.{frame_bytes, free_frames};
 
@@ -139,6 +139,18 @@ impl<A: Allocator> Frames<A> {
     {
         page_bytes::reach(&mut self.bytes, frame as usize);
         page_bytes::fill_zero(&mut self.bytes, frame as usize);
+    }
+
+    /// Gives a frame these bytes, and zeros after them.
+    pub fn fill(&mut self, frame: u32, bytes: &[u8])
+        requires frame { frame < self.old.count }
+        requires short { length bytes.now ≤ 4096 }
+        ensures bytes { frame_bytes self.new ≡ put (frame_bytes self.old) frame (page_bytes bytes.now 0) }
+        ensures free { free_frames self.new ≡ free_frames self.old }
+        ensures count { self.new.count ≡ self.old.count }
+    {
+        page_bytes::reach(&mut self.bytes, frame as usize);
+        page_bytes::fill(&mut self.bytes, frame as usize, bytes);
     }
 
     /// Copies all bytes of the frame `from` to the frame `to`.

@@ -81,6 +81,15 @@ fn bytes_are_kept_by_frame(rt: HostRuntime) -> Result<(), Fail> {
         frames.byte(2, 0),
     ];
     assert_eq!(rt; zeroed, [0, 0, 9, 5]);
+    frames.fill(0, &[6, 8]);
+    let filled = [
+        frames.byte(0, 0),
+        frames.byte(0, 1),
+        frames.byte(0, 2),
+        frames.byte(0, 4095),
+        frames.byte(2, 0),
+    ];
+    assert_eq!(rt; filled, [6, 8, 0, 0, 5]);
     Ok(())
 }
 
@@ -118,6 +127,14 @@ fn one_frame_by_itself(rt: HostRuntime) -> Result<(), Fail> {
     cell.fill_zero();
     assert_eq!(rt; cell.byte(4095), 0);
     assert_eq!(rt; other.byte(4095), 8);
+    other.fill(&[6, 8]);
+    let filled = [
+        other.byte(0),
+        other.byte(1),
+        other.byte(2),
+        other.byte(4095),
+    ];
+    assert_eq!(rt; filled, [6, 8, 0, 0]);
     Ok(())
 }
 

@@ -1,0 +1,11 @@
+use Rattle.std.proofs.Common.{◌≡◌, ◌∙◌, List, ℕ, ap, length, rules}
+use Rattle.vm_base.specs.Plain.{page_bytes}
+use Rattle.backing.specs.Files.{FileParts}
+use Rattle.backing.proofs.Cached.{part-cut}
+use Rattle.backing.proofs.file_object.FileObject.own_part.Goals as goal
+
+pub returns-clause-bytes : goal.returns-clause-bytes
+returns-clause-bytes g c =
+    let bytes : c.deref.result.now ≡ c.args.self.now.bytes = c.deref.ensures.value ∙ ap (λ (f : FileParts). f.bytes) c.self.view_is in
+    let len : c.len-len.result ≡ length c.deref.result.now = search rules in
+    part-cut c.deref.result.now c.args.page c.min-end.result c.len-len.result len c.min-end.ensures (rw bytes c.requires) ∙ ap (λ (l : List ℕ). page_bytes l c.args.page) bytes

@@ -1,0 +1,13 @@
+//! Open files, and the frames that cache their pages.
+#![tactic(auto)]
+
+pub mod cached_frame;
+mod file_object;
+pub mod file_spec;
+pub mod objects;
+#[cfg(test)]
+mod tests;
+
+pub use cached_frame::CachedFrame;
+pub use file_spec::{FileSpec, Sharing};
+pub use objects::Objects;

@@ -1,0 +1,5 @@
+mod Rooms
+mod Steps
+mod Absent
+pub mod Readable
+mod Plainly

@@ -1,0 +1,4 @@
+pub mod Checks
+pub mod Decisions
+pub mod Settling
+pub mod Plainly

@@ -1,0 +1,14 @@
+//! What a request is to do: the check of its arguments, the decision over the pages that its call holds, and what an access
+//! finds at its page. No call takes memory.
+#![tactic(auto)]
+
+pub mod arguments;
+pub mod decision;
+pub mod fault;
+pub mod laws;
+#[cfg(test)]
+mod tests;
+
+pub use arguments::check;
+pub use decision::{Decision, decide};
+pub use fault::{Settled, settle};
