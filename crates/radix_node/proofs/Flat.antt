@@ -188,7 +188,7 @@ runs-set {level = level} {page = page} {i = i} {rest = rest} {ss = ss} f d s t n
     let len = length-map ss part_of in
     ap (flatten (width_of level)) (map-set part_of ss i t)
     ∙ sym (with_run-flatten f (width_of level) (parts_of ss) i (part_of d) (part_of t) page rest (wide level (parts_of ss) n.fit) (omega (arith, n.full, at.slot_in)) at.page_is at.rest_in
-      (e ∙ ap (λ x. with_run f (runs_of (width_of level) x) rest) (sym (part_at d s n at.slot_in is))))
+    (e ∙ ap (λ x. with_run f (runs_of (width_of level) x) rest) (sym (part_at d s n at.slot_in is))))
 
 -- ---- a written slot
 

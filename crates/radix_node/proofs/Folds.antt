@@ -76,11 +76,11 @@ runs-Expands {level = level} {page = page} {i = i} {rest = rest} {ss = ss} d s o
     let same : state_of s ≡ h.state = some_own _ _ (sym (slot_part level i ss d (OwnSlot s) n at.slot_in is) ∙ was) in
     let one : level - 1 + 1 ≡ level = omega arith in
     let parts : new.parts ≡ set (parts_of ss) i (Below (divided (width_of (level - 1)) (state_of s))) =
-      h.parts ∙ ap (λ (v : Parts). set v.parts i (Below (divided (width_of (v.level - 1)) h.state))) o ∙ ap (λ t. set (parts_of ss) i (Below (divided (width_of (level - 1)) t))) (sym same) in
+    h.parts ∙ ap (λ (v : Parts). set v.parts i (Below (divided (width_of (v.level - 1)) h.state))) o ∙ ap (λ t. set (parts_of ss) i (Below (divided (width_of (level - 1)) t))) (sym same) in
     let len = length-map ss part_of in
     ap (λ k. flatten (width_of k) new.parts) (h.same_level ∙ lev) ∙ ap (flatten (width_of level)) parts
     ∙ sym (with_run-flatten in_parts (width_of level) (parts_of ss) i (part_of d) (Below (divided (width_of (level - 1)) (state_of s))) page rest (wide level (parts_of ss) n.fit) (omega (arith, n.full, at.slot_in)) at.page_is at.rest_in
-      (sym (in_parts-is level (level - 1) (state_of s) one) ∙ sym (with_run-one in_parts (record { width = width_of level; state = state_of s }) rest at.rest_in) ∙ ap (λ x. with_run in_parts (runs_of (width_of level) x) rest) (sym (part_at d (OwnSlot s) n at.slot_in is))))
+    (sym (in_parts-is level (level - 1) (state_of s) one) ∙ sym (with_run-one in_parts (record { width = width_of level; state = state_of s }) rest at.rest_in) ∙ ap (λ x. with_run in_parts (runs_of (width_of level) x) rest) (sym (part_at d (OwnSlot s) n at.slot_in is))))
   where
     some_own : (a b : State) → Some (Own a) ≡ Some (Own b) → a ≡ b
     some_own a b e = cc
@@ -141,7 +141,7 @@ folds_slot level i ss d b u v s n l is o same plain all =
       could = record {
         plain = plain;
         child = ap (λ (v : Parts). slice_get v.parts i) (sym o) ∙ slot_part level i ss d (Child b) n l is
-          ∙ ap (λ rs. Some (Below rs)) (ap runs (sym same) ∙ ap (flatten (width_of u.level)) all ∙ runs-divided (width_of u.level) (state_of s) ∙ ap (λ k. divided (width_of k) (state_of s)) at);
+            ∙ ap (λ rs. Some (Below rs)) (ap runs (sym same) ∙ ap (flatten (width_of u.level)) all ∙ runs-divided (width_of u.level) (state_of s) ∙ ap (λ k. divided (width_of k) (state_of s)) at);
       };
       same_level = lev;
       parts = map-set part_of ss i (OwnSlot s) ∙ ap (λ (v : Parts). set v.parts i (Own (state_of s))) o;
@@ -169,9 +169,9 @@ runs-FoldsSlot level page i rest ss d b old new n at is o h =
     let own : get_or xs i y ≡ Own h.state = get_or-set_same ps i (Own h.state) y li in
     let back : set xs i y ≡ ps = set-set ps i (Own h.state) y ∙ ap (set ps i) (sym got) ∙ set-get_or ps i y in
     let cell : cell_at (runs new) page ≡ record { state = h.state; offset = rest; width = w } =
-      ap (λ rs. cell_at rs page) now ∙ cell_at-flatten w xs i y page rest wides lx at.page_is at.rest_in ∙ ap (λ x. cell_at (runs_of w x) rest) own ∙ cell_at-here (record { width = w; state = h.state }) [] rest at.rest_in in
+    ap (λ rs. cell_at rs page) now ∙ cell_at-flatten w xs i y page rest wides lx at.page_is at.rest_in ∙ ap (λ x. cell_at (runs_of w x) rest) own ∙ cell_at-here (record { width = w; state = h.state }) [] rest at.rest_in in
     let here : runs_of w y ≡ with_run in_parts (runs_of w (get_or xs i y)) rest =
-      sym (in_parts-is level (level - 1) h.state one) ∙ sym (with_run-one in_parts (record { width = w; state = h.state }) rest at.rest_in) ∙ ap (λ x. with_run in_parts (runs_of w x) rest) (sym own) in
+    sym (in_parts-is level (level - 1) h.state one) ∙ sym (with_run-one in_parts (record { width = w; state = h.state }) rest at.rest_in) ∙ ap (λ x. with_run in_parts (runs_of w x) rest) (sym own) in
     record {
       plain = subst (λ (c : Cell). IsPlain c.state) (sym cell) h.could.plain;
       large = subst (λ (c : Cell). 1 < c.width) (sym cell) (several level (omega arith));

@@ -105,7 +105,7 @@ joins-all level k s ss d n full h =
     let f = n.full in
     owns-divided (width_of level) 512 s (parts_of ss)
     (ext_get_or (part_of d) (parts_of ss) (owns (width_of level) s 512) (lm ∙ f ∙ sym len)
-      (λ i l. let i_in : i < 512 = omega arith in get_or-map part_of ss i d (part_of d) (omega arith) ∙ h.so_far i d (omega arith) i_in ∙ sym (get_or-map-range_with_len q 0 512 i i (part_of d) i_in (omega arith))))
+    (λ i l. let i_in : i < 512 = omega arith in get_or-map part_of ss i d (part_of d) (omega arith) ∙ h.so_far i d (omega arith) i_in ∙ sym (get_or-map-range_with_len q 0 512 i i (part_of d) i_in (omega arith))))
     refl
 
 -- ---- such a node as one slot
@@ -175,7 +175,9 @@ pub joins-none : {A : Type 0} (w : ℕ) (s : State) (ss : List (Slot A)) → Joi
 joins-none w s ss = record { so_far = λ j d l m. absurd (omega arith) }
 
 pub joins-next : {A : Type 0} (w k n : ℕ) (s : State) (ss : List (Slot A)) (d : Slot A) (x : Slot A) → Joins w k s ss → k < length ss → n ≡ k + 1 → x ≡ get_or ss k d → part_of x ≡ Own (state_from s (k * w)) → Joins w n s ss
-joins-next w k n s ss d x h inside next is e = record { so_far = λ j d' l m. elim (cases_eq j k) [
+joins-next w k n s ss d x h inside next is e = record {
+  so_far = λ j d' l m. elim (cases_eq j k) [
     | inl same ↦ rw same (ap part_of (get_or_default ss k d' d inside ∙ sym is) ∙ e)
     | inr other ↦ h.so_far j d' (omega arith) m
-  ] }
+  ];
+}

@@ -46,6 +46,12 @@ IsOwn None = ⊥
 IsOwn (Some (Own s)) = Unit {0}
 IsOwn (Some (Below rs)) = ⊥
 
+-- the slot is a child
+abbrev pub IsBelow : Option Part → Type 0
+IsBelow None = ⊥
+IsBelow (Some (Own s)) = ⊥
+IsBelow (Some (Below rs)) = Unit {0}
+
 -- the slot became a child whose slots carry on its content and its owner
 pub record Expands (old new : Parts) (slot : ℕ) : Type 0 where
   pub state : State

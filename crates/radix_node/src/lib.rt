@@ -8,3 +8,5 @@ pub mod state;
 pub use node::{Found, Node, Slot};
 pub use state::{Content, SlotState};
 
+#[cfg(test)]
+mod tests;

@@ -4,7 +4,7 @@ ghost use Rattle.vm_base.specs.Info.{is_leaf, info_file_page};
 ghost use Rattle.radix_node.specs.State.{State, state_of, state_from, no_state, IsPlain};
 ghost use Rattle.radix_node.specs.Run.{width_of, Run, cell_at, with_run, in_state, in_parts, divided, Folds, IsSound, IsWhole};
 ghost use Rattle.radix_node.specs.Slots.{part_of};
-ghost use Rattle.radix_node.specs.Node.{runs, node_of, owns_divided, Own, Below, Expands, IsOwn, CanFold, FoldsSlot};
+ghost use Rattle.radix_node.specs.Node.{runs, node_of, owns_divided, Own, Below, Expands, IsOwn, IsBelow, CanFold, FoldsSlot};
 
 use crate::place::{SLOTS, place_of, slot_pages};
 use crate::state::SlotState;
@@ -61,6 +61,22 @@ pub struct Found<'a> {
 }
 
 impl<A: Allocator> Node<A> {
+    /// The node's level, 0 to 3. Its slots have 512^level pages each.
+    pub fn level(&self) -> u8
+        ensures { result ≡ self.now.level }
+    {
+        self.level
+    }
+
+    /// Tells whether the slot is a child.
+    pub fn is_child(&self, slot: usize) -> bool
+        requires { slot < 512 }
+        ensures child { IsTrue result → IsBelow (slice_get self.now.parts slot) }
+        ensures own { ¬ IsTrue result → IsOwn (slice_get self.now.parts slot) }
+    {
+        matches!(&self.slots[slot], Slot::Child(_))
+    }
+
     /// The slot that has the page, which is counted from the node's first.
     pub fn descend(&self, page: u64) -> Found<'_>
         requires { page < 512 * width_of self.now.level }
@@ -142,6 +158,13 @@ impl<A: Allocator> Node<A> {
         true
     }
 
+    // Tells whether the slot of this node that has the page is a child.
+    fn has_child_at(&self, page: u64) -> bool
+        requires { page < 512 * width_of self.now.level }
+    {
+        self.is_child(place_of(self.level, page).slot)
+    }
+
     /// Folds the deepest node that has the page, where it isn't this one. Answers whether it did.
     pub fn fold_at(&mut self, page: u64) -> bool
         requires { page < 512 * width_of self.old.level }
@@ -161,14 +184,6 @@ impl<A: Allocator> Node<A> {
                 }
             }
         }
-    }
-
-    // Tells whether the slot of this node that has the page is a child.
-    fn has_child_at(&self, page: u64) -> bool
-        requires { page < 512 * width_of self.now.level }
-    {
-        let place = place_of(self.level, page);
-        matches!(&self.slots[place.slot], Slot::Child(_))
     }
 }
 
