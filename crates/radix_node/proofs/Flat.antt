@@ -3,7 +3,7 @@ use Rattle.std.proofs.Common.{Box, suc, zero, ◌≡◌, ◌≢◌, ◌⊎◌, �
 use Rattle.std.specs.Prelude.{All}
 use Rattle.std.proofs.Math.ListN.{set, length-set}
 use Rattle.std.proofs.Math.Nat.{div-mul-le_self, lt-div-mul-add, div-lt_iff_lt-mul, mul_assoc, mul-le-mul_right}
-use Rattle.std.proofs.lemmas.Nat.{pow_pos, pow-add}
+use Rattle.std.proofs.lemmas.Nat.{pow_pos, pow-add, div-mul-add}
 use Rattle.std.proofs.lemmas.List.{get_or-map, length-map, map-set, set-get_or}
 use Rattle.std.proofs.Math.Seq.{map-set_same}
 use Rattle.std.proofs.lemmas.List.Elements.{All-head, All-tail, All-get_or, All-set}
@@ -12,7 +12,7 @@ use Rattle.radix_node.specs.declared.node.Slot.{Slot}
 use Rattle.radix_node.specs.declared.node.Slot.TheVariants.{Own as OwnSlot, Child}
 use Rattle.radix_node.specs.declared.state.SlotState.{SlotState}
 use Rattle.radix_node.specs.State.{State, state_of}
-use Rattle.radix_node.specs.Run.{Run, Cell, total, cell_at, with_run, in_state, width_of, IsSound, IsCell, IsWhole}
+use Rattle.radix_node.specs.Run.{Run, Cell, total, cell_at, with_run, in_state, width_of, level_of, IsSound, IsCell, IsWhole}
 use Rattle.radix_node.specs.Node.{Part, Own, Below, Parts, runs_of, flatten, runs, IsPart}
 use Rattle.radix_node.specs.Slots.{part_of, parts_of, IsLower, IsNode}
 use Rattle.radix_node.proofs.Runs.{total-append, cell_at-here, cell_at-left, cell_at-right, with_run-left, with_run-right, with_run-one}
@@ -91,38 +91,44 @@ place_index w page pos h =
     let lt : k < 512 = (div-lt_iff_lt-mul pos).1 h in
     (k, lt, below, above)
 
-cell_of-part : (level i page rest : ℕ) (x : Part) → IsPart level x → page ≡ i * width_of level + rest → rest < width_of level → IsCell level page (cell_at (runs_of (width_of level) x) rest)
-cell_of-part level i page rest (Own s) h e l =
-    subst (IsCell level page) (sym (cell_at-here (record { width = width_of level; state = s }) [] rest l)) (record {
-      own_level = level;
-      low = omega arith;
-      width_is = refl;
-      before = i;
-      place = e;
-      within = l;
-      sound = h;
-    })
-cell_of-part level i page rest (Below rs) h e l =
-    let c = h.cells rest l in
-    let m : ℕ = 2 ^ (9 * (level - c.own_level)) in
-    let wide : width_of level ≡ m * (cell_at rs rest).width = width-times c.own_level level (omega (arith, c.low)) ∙ ap (λ n. m * n) (sym c.width_is) in
-    let times : i * width_of level ≡ i * m * (cell_at rs rest).width = ap (λ n. i * n) wide ∙ sym (mul_assoc i m (cell_at rs rest).width) in
-    let both : (i * m + c.before) * (cell_at rs rest).width ≡ i * m * (cell_at rs rest).width + c.before * (cell_at rs rest).width = spread (i * m) c.before (cell_at rs rest).width in
+level_is : (l : ℕ) → l ≤ 3 → level_of (width_of l) ≡ l
+level_is zero h = refl
+level_is (suc zero) h = refl
+level_is (suc (suc zero)) h = refl
+level_is (suc (suc (suc zero))) h = refl
+level_is (suc (suc (suc (suc l)))) h = absurd (omega arith)
+
+pub cell_is : (level page l before : ℕ) (c : Cell) → level ≤ 3 → l ≤ level → c.width ≡ width_of l → page ≡ before * c.width + c.offset → c.offset < c.width → IsSound c.width c.state → IsCell level page c
+cell_is level page l before c most low width place within sound =
+    let is : level_of c.width ≡ l = ap level_of width ∙ level_is l (omega arith) in
+    let count : page / c.width ≡ before = ap (λ n. n / c.width) place ∙ div-mul-add before c.width c.offset within in
     record {
-      own_level = c.own_level;
-      low = omega (arith, c.low);
-      width_is = c.width_is;
-      before = i * m + c.before;
-      place = omega (arith, c.place);
-      within = c.within;
-      sound = c.sound;
+      low = omega arith;
+      width_is = width ∙ ap width_of (sym is);
+      place = place ∙ ap (λ n. n * c.width + c.offset) (sym count);
+      within = within;
+      sound = sound;
     }
+
+cell_of-part : (level i page rest : ℕ) (x : Part) → level ≤ 3 → IsPart level x → page ≡ i * width_of level + rest → rest < width_of level → IsCell level page (cell_at (runs_of (width_of level) x) rest)
+cell_of-part level i page rest (Own s) most h e l =
+    subst (IsCell level page) (sym (cell_at-here (record { width = width_of level; state = s }) [] rest l))
+    (cell_is level page level i (record { state = s; offset = rest; width = width_of level }) most (omega arith) refl e l h)
+cell_of-part level i page rest (Below rs) most h e l =
+    let c = h.cells rest l in
+    let own : ℕ = level_of (cell_at rs rest).width in
+    let before : ℕ = rest / (cell_at rs rest).width in
+    let m : ℕ = 2 ^ (9 * (level - own)) in
+    let wide : width_of level ≡ m * (cell_at rs rest).width = width-times own level (omega (arith, c.low)) ∙ ap (λ n. m * n) (sym c.width_is) in
+    let times : i * width_of level ≡ i * m * (cell_at rs rest).width = ap (λ n. i * n) wide ∙ sym (mul_assoc i m (cell_at rs rest).width) in
+    let both : (i * m + before) * (cell_at rs rest).width ≡ i * m * (cell_at rs rest).width + before * (cell_at rs rest).width = spread (i * m) before (cell_at rs rest).width in
+    cell_is level page own (i * m + before) (cell_at rs rest) most (omega (arith, c.low)) c.width_is (omega (arith, c.place)) c.within c.sound
   where
     spread : (a b n : ℕ) → (a + b) * n ≡ a * n + b * n
     spread a b n = omega arith
 
-pub whole-parts : (level : ℕ) (xs : List Part) → All (IsPart level) xs → length xs ≡ 512 → IsWhole level (512 * width_of level) (flatten (width_of level) xs)
-whole-parts level xs h n = record {
+pub whole-parts : (level : ℕ) (xs : List Part) → level ≤ 3 → All (IsPart level) xs → length xs ≡ 512 → IsWhole level (512 * width_of level) (flatten (width_of level) xs)
+whole-parts level xs most h n = record {
   pages_are = total-flatten (width_of level) xs (wide level xs h) ∙ ap (λ k. k * width_of level) n;
   cells = λ page l.
       let at = place_index (width_of level) page (width_pos level) l in
@@ -131,11 +137,11 @@ whole-parts level xs h n = record {
       let low : page - at.0 * width_of level < width_of level = omega (arith, at.2, at.3) in
       let d : Part = Below [] in
       subst (IsCell level page) (sym (cell_at-flatten (width_of level) xs at.0 d page (page - at.0 * width_of level) (wide level xs h) li rest low))
-      (cell_of-part level at.0 page (page - at.0 * width_of level) (get_or xs at.0 d) (h at.0 d li) rest low);
+      (cell_of-part level at.0 page (page - at.0 * width_of level) (get_or xs at.0 d) most (h at.0 d li) rest low);
 }
 
 pub whole-node : {A : Type 0} (level : ℕ) (ss : List (Slot A)) → IsNode level ss → IsWhole level (512 * width_of level) (flatten (width_of level) (parts_of ss))
-whole-node level ss n = whole-parts level (parts_of ss) n.fit (length-map ss part_of ∙ n.full)
+whole-node level ss n = whole-parts level (parts_of ss) n.low n.fit (length-map ss part_of ∙ n.full)
 
 -- where a page is in a node
 pub record IsPlace (level page slot rest : ℕ) : Type 0 where

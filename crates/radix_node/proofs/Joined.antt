@@ -17,11 +17,11 @@ use Rattle.radix_node.specs.declared.node.Slot.{Slot}
 use Rattle.radix_node.specs.declared.node.Slot.TheVariants.{Own as OwnSlot, Child}
 use Rattle.radix_node.specs.declared.state.SlotState.{SlotState}
 use Rattle.radix_node.specs.State.{State, state_of, state_from, IsPlain}
-use Rattle.radix_node.specs.Run.{Run, Cell, cell_at, width_of, carried, divided, IsSound, IsWhole, IsCell}
+use Rattle.radix_node.specs.Run.{Run, Cell, total, cell_at, width_of, level_of, carried, divided, IsSound, IsWhole, IsCell}
 use Rattle.radix_node.specs.Node.{Part, Own, Below, runs, runs_of, flatten, owns, owns_divided, IsPart}
 use Rattle.radix_node.specs.Slots.{part_of, parts_of, IsLower, IsNode}
 use Rattle.radix_node.proofs.Runs.{cell_at-here}
-use Rattle.radix_node.proofs.Flat.{IsWide, cell_at-flatten, cell_at-part, IsPlace, part_at, width_pos, width-times, width-below}
+use Rattle.radix_node.proofs.Flat.{IsWide, total-flatten, cell_at-flatten, cell_at-part, IsPlace, part_at, width_pos, width-times, width-below}
 use Rattle.radix_node.proofs.Divided.{runs-divided, owns-divided}
 
 -- ---- what one slot carries on
@@ -67,7 +67,7 @@ own_cell : {A : Type 0} (level : ℕ) (x : Slot A) (c : Cell) → IsLower level 
 own_cell level (OwnSlot s) c lower h e w = ap (λ (c : Cell). Own c.state) (sym (cell_at-here (record { width = width_of level; state = state_of s }) [] 0 (width_pos level)) ∙ e)
 own_cell level (Child b) c lower h e w =
     let cell = h.cells 0 (width_pos level) in
-    let l = narrower cell.own_level level (omega (arith, cell.low, lower)) in
+    let l = narrower (level_of (cell_at (runs b.value) 0).width) level (omega (arith, cell.low, lower)) in
     let width : (cell_at (runs b.value) 0).width ≡ width_of level = ap (λ (c : Cell). c.width) e ∙ w in
     absurd (omega (arith, cell.width_is))
 
@@ -181,3 +181,10 @@ joins-next w k n s ss d x h inside next is e = record {
     | inr other ↦ h.so_far j d' (omega arith) m
   ];
 }
+
+pub total-divided : (w : ℕ) (s : State) → total (divided w s) ≡ 512 * w
+unfolding owns_divided
+total-divided w s =
+    let q : ℕ → Part = λ k. Own (state_from s (k * w)) in
+    let wide : All (IsWide w) (owns w s 512) = All-map (IsWide w) q (range_with_len 0 512) (λ k. omega arith) in
+    ap total (sym (runs-divided w s)) ∙ total-flatten w (owns w s 512) wide ∙ ap (λ n. n * w) (length-map-range_with_len q 0 512)

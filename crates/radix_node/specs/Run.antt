@@ -1,5 +1,5 @@
 -- A tree of slots, seen as its slots that are no child, in order of pages
-use Rattle.std.specs.Prelude.{◌≡◌, ℕ, ◌+◌, ◌*◌, ◌-◌, ◌/◌, ◌^◌, ◌<◌, ◌≤◌, nat_lt, true, if◌then◌else◌, List, [], ◌∷◌, ◌++◌, map}
+use Rattle.std.specs.Prelude.{◌≡◌, ℕ, ◌+◌, ◌*◌, ◌-◌, ◌/◌, ◌^◌, ◌<◌, ◌≤◌, ◌==◌, nat_lt, true, if◌then◌else◌, List, [], ◌∷◌, ◌++◌, map}
 use Rattle.std.specs.List.{range_with_len}
 use Rattle.vm_base.specs.Info.{is_leaf, info_file_page}
 use Rattle.radix_node.specs.State.{State, no_state, state_from, IsPlain}
@@ -67,13 +67,15 @@ pub record IsSound (width : ℕ) (s : State) : Type 0 where
   pub fits : info_file_page s.info + width ≤ 2 ^ 36
   pub alone : is_leaf s.info ≡ true → width ≡ 1
 
+-- the level whose slots have so many pages
+abbrev pub level_of : ℕ → ℕ
+level_of width = if width == 1 then 0 else (if width == 512 then 1 else (if width == 2 ^ 18 then 2 else 3))
+
 -- the slot that has the page is one of a level up to this one, and begins at a multiple of its pages
 pub record IsCell (level page : ℕ) (c : Cell) : Type 0 where
-  pub own_level : ℕ
-  pub low : own_level ≤ level
-  pub width_is : c.width ≡ width_of own_level
-  pub before : ℕ
-  pub place : page ≡ before * c.width + c.offset
+  pub low : level_of c.width ≤ level
+  pub width_is : c.width ≡ width_of (level_of c.width)
+  pub place : page ≡ page / c.width * c.width + c.offset
   pub within : c.offset < c.width
   pub sound : IsSound c.width c.state
 

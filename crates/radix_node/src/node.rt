@@ -203,7 +203,8 @@ impl<A: Allocator + Clone> Node<A> {
     /// A node of the level with no page mapped and no slot held.
     pub fn new(alloc: A, level: u8) -> Result<Node<A>, NoMemory>
         requires { level ≤ 3 }
-        ensures { IfOk result (λ n. n ≡ node_of level no_state) }
+        ensures is { IfOk result (λ n. n ≡ node_of level no_state) }
+        ensures whole { IfOk result (λ n. IsWhole n.level (512 * width_of n.level) (runs n)) }
     {
         Node::divided(alloc, level, &SlotState::new(None, None))
     }

@@ -1,10 +1,11 @@
 //! What a slot that is no child says of its pages.
 ghost use Rattle.std.specs.Prelude.{◌≡◌, ◌+◌, ◌<◌, ◌^◌, ◌↔◌, IsTrue, Option, Some, is_some, true, false};
-ghost use Rattle.vm_base.specs.Info.{info_file_page, info_from, is_leaf};
+ghost use Rattle.vm_base.specs.Cores.{members};
+ghost use Rattle.vm_base.specs.Info.{info_file_page, info_from, is_leaf, frame_of, is_recorded};
 ghost use Rattle.radix_node.specs.State.{info_of, state_of, state_from, IsPlain};
 
 use vm_base::info::info_from;
-use vm_base::{CoreId, Meta, PageInfo};
+use vm_base::{CoreId, CoreSet, Meta, PageInfo};
 
 /// What the pages of a slot have.
 #[derive(Clone, Copy, Debug)]
@@ -54,9 +55,29 @@ impl SlotState {
         self.owner
     }
 
+    /// The cores that are recorded on the slot's first page.
+    pub fn cores(&self) -> CoreSet
+        ensures { members result ≡ is_recorded (state_of self.now).info }
+    {
+        match self.content {
+            Content::Leaf(info) => info.cores,
+            Content::Empty | Content::Folded(_) => CoreSet::empty(),
+        }
+    }
+
+    /// The frame of the slot's first page, if it has one.
+    pub fn frame(&self) -> Option<u32>
+        ensures { result ≡ frame_of (state_of self.now).info }
+    {
+        match self.content {
+            Content::Leaf(info) => info.frame,
+            Content::Empty | Content::Folded(_) => None,
+        }
+    }
+
     /// Tells whether a page of the slot is mapped.
     pub fn is_mapped(&self) -> bool
-        ensures { IsTrue result ↔ (is_some (state_of self.now).info ≡ true) }
+        ensures { result ≡ is_some (state_of self.now).info }
     {
         match self.content {
             Content::Empty => false,
