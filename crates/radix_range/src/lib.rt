@@ -7,3 +7,6 @@ pub mod slot;
 pub mod walk;
 
 pub use radix_map::RadixMap;
+
+#[cfg(test)]
+mod tests;
