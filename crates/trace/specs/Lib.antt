@@ -4,3 +4,4 @@ pub mod OutcomeText
 pub mod Runs
 pub mod Stage
 pub mod Turns
+pub mod EventRuns

@@ -3,6 +3,7 @@
 
 pub mod event_lines;
 pub mod fault;
+pub mod laws;
 pub mod outcome_text;
 pub mod replay;
 pub mod replayer;

@@ -1,0 +1,95 @@
+-- The run that the lines of a trace make: which events they ask for, and which of the outcomes they print
+use Rattle.std.specs.Prelude.{◌≡◌, ◌≢◌, ℕ, ◌<◌, List, [], ◌∷◌, ◌++◌, replicate, IsSomeAnd}
+use Rattle.vm_base.specs.declared.requests.Request.{Request}
+use Rattle.slot_lock.specs.Slots.{Slots, IsNew}
+use Rattle.machine_model.specs.declared.event.Event.{Event}
+use Rattle.machine_model.specs.declared.event.Event.TheVariants as Ev
+use Rattle.machine_model.specs.declared.event.Outcome.{Outcome}
+use Rattle.machine_model.specs.declared.event.Outcome.TheVariants.{Stepped}
+use Rattle.machine_model.specs.World.{World, opening}
+use Rattle.machine_model.specs.Step.{Run}
+use Rattle.machine_laws.specs.Brackets.{IsBracketed}
+use Rattle.machine_sound.specs.Sound.{SoundRun}
+use Rattle.core_steps.specs.declared.machine.Finished.{Finished}
+use Rattle.core_steps.specs.declared.machine.Finished.TheVariants.{Last, Stuck}
+use Rattle.core_steps.specs.declared.setup.Setup.{Setup}
+use Rattle.core_steps.specs.Finishing.{finish_limit}
+use Rattle.core_steps.specs.Setups.{made_of}
+use Rattle.trace_text.specs.Line.{line_of}
+use Rattle.trace_text.specs.declared.line.Line.{Line}
+use Rattle.trace_text.specs.declared.line.Line.TheVariants.{Blank, Space, Call, Go, Finish, Now}
+use Rattle.trace.specs.OutcomeText.{outcome_text, finished_text}
+use Rattle.trace.specs.Stage.{Start, Running}
+use Rattle.trace.specs.Runs.{Runs}
+
+-- ---- a line
+
+-- one event, whose outcome is printed
+abbrev pub AsksOne : Event → List Event → List Outcome → List ℕ → Type 0
+AsksOne e es os text = (o : Outcome) × (es ≡ e ∷ []) × (os ≡ o ∷ []) × (text ≡ outcome_text o)
+
+-- the core's call goes on until an outcome that isn't Stepped, or for as many steps as finish makes
+abbrev pub GoesUntil : ℕ → ℕ → Finished → List Event → List Outcome → Type 0
+GoesUntil core n (Last o) es os =
+    (n < finish_limit) × (o ≢ Stepped) × (es ≡ replicate n (Ev.Go core) ++ Ev.Go core ∷ []) × (os ≡ replicate n Stepped ++ o ∷ [])
+GoesUntil core n Stuck es os = (n ≡ finish_limit) × (es ≡ replicate n (Ev.Go core)) × (os ≡ replicate n Stepped)
+
+-- the last of these outcomes is printed
+abbrev pub AsksFinish : ℕ → List Event → List Outcome → List ℕ → Type 0
+AsksFinish core es os text = (n : ℕ) × (f : Finished) × GoesUntil core n f es os × (text ≡ finished_text f)
+
+-- a call that begins is finished; of one that doesn't the outcome is printed
+abbrev pub AsksCall : ℕ → Request → Outcome → List Event → List Outcome → List ℕ → Type 0
+AsksCall core request Stepped es os text =
+    (more : List Event) × (others : List Outcome) × AsksFinish core more others text
+    × (es ≡ Ev.Call core request ∷ more) × (os ≡ Stepped ∷ others)
+AsksCall core request o es os text = (es ≡ Ev.Call core request ∷ []) × (os ≡ o ∷ []) × (text ≡ outcome_text o)
+
+-- what a line asks for, the outcomes, and its text
+abbrev pub Asks : Line → List Event → List Outcome → List ℕ → Type 0
+Asks Blank es os text = (es ≡ []) × (os ≡ []) × (text ≡ [])
+Asks (Space cores frames calls) es os text = (es ≡ []) × (os ≡ []) × (text ≡ [])
+Asks (Call core request) es os text = AsksOne (Ev.Call core request) es os text
+Asks (Go core) es os text = AsksOne (Ev.Go core) es os text
+Asks (Finish core) es os text = AsksFinish core es os text
+Asks (Now core request) es os text = (o : Outcome) × AsksCall core request o es os text
+
+-- ---- lines
+
+-- a line, and then what the others ask for
+pub record AsksFirst (line : List ℕ) (Others : List Event → List Outcome → List ℕ → Type 0) (es : List Event) (os : List Outcome) (text : List ℕ) : Type 0 where
+  pub first : List Event
+  pub later : List Event
+  pub outcome : List Outcome
+  pub outcomes : List Outcome
+  pub front : List ℕ
+  pub rest : List ℕ
+  pub asks : IsSomeAnd (line_of line) (λ said. Asks said first outcome front)
+  pub others : Others later outcomes rest
+  pub events : es ≡ first ++ later
+  pub came : os ≡ outcome ++ outcomes
+  pub prints : text ≡ front ++ rest
+
+-- what the lines ask for in order, the outcomes, and the text
+abbrev pub AllAsk : List (List ℕ) → List Event → List Outcome → List ℕ → Type 0
+AllAsk [] es os text = (es ≡ []) × (os ≡ []) × (text ≡ [])
+AllAsk (line ∷ lines) es os text = AsksFirst line (AllAsk lines) es os text
+
+-- ---- a trace
+
+-- The lines ask for these events of a machine over new slots, and print of their outcomes what the text says. The run is sound: its log is
+-- that of a plain page map, in which each reply that was handed out stands once, between its call and its answer.
+pub record IsRun (lines : List (List ℕ)) (text : List ℕ) (w : World) : Type 0 where
+  pub setup : Setup
+  pub slots : Slots
+  pub new : IsNew slots
+  pub events : List Event
+  pub outcomes : List Outcome
+  pub asks : AllAsk lines events outcomes text
+  pub run : Run (opening (made_of setup) slots) events outcomes w
+  pub sound : SoundRun (opening (made_of setup) slots) events outcomes w
+  pub brackets : IsBracketed events outcomes w
+
+-- lines that are acted on from the start, up to a machine
+abbrev pub AllTracesAreRuns : Type 0
+AllTracesAreRuns = (lines : List (List ℕ)) (text : List ℕ) (w : World) → Runs Start lines (Running w) text → IsRun lines text w
