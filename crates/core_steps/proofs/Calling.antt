@@ -1,8 +1,7 @@
 -- A call that begins
-use Rattle.std.proofs.Common.{◌≡◌, ℕ, suc, ◌+◌, ◌<◌, Bool, true, false, not, nat_lt, cond, List, [], ◌∷◌, ◌++◌, length, refl, sym, ap, ◌∙◌, length-append, arith}
+use Rattle.std.proofs.Common.{◌≡◌, ℕ, suc, ◌<◌, Bool, true, false, not, nat_lt, cond, List, [], ◌∷◌, ◌++◌, length, refl, ap, ◌∙◌, length-append, arith}
 use Rattle.std.specs.Prelude.{slice_set}
 use Rattle.vm_base.specs.declared.requests.Request.{Request}
-use Rattle.vm_base.specs.Functions.{put}
 use Rattle.slot_lock.specs.Slots.{Slots}
 use Rattle.frames.specs.Parts.{FrameParts}
 use Rattle.machine_model.specs.declared.event.Outcome.TheVariants.{Stepped}
@@ -12,7 +11,7 @@ use Rattle.machine_model.specs.declared.phase.Phase.TheVariants.{Free, Check}
 use Rattle.machine_model.specs.World.{World}
 use Rattle.machine_model.specs.Actions.{to}
 use Rattle.machine_model.specs.Step.{Calls, called}
-use Rattle.core_steps.specs.State.{world_of, number_at}
+use Rattle.core_steps.specs.State.{world_of}
 use Rattle.core_steps.proofs.Lists.{number_set}
 
 -- the request is kept, and the core's call has its number

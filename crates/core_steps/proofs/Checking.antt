@@ -1,5 +1,5 @@
 -- The check of the arguments is the abstract machine's
-use Rattle.std.proofs.Common.{◌≡◌, ◌≢◌, ℕ, Bool, true, false, cond, Option, Some, None, Result, Ok, Err, refl, sym, ap, ◌∙◌}
+use Rattle.std.proofs.Common.{◌≡◌, ℕ, Bool, true, false, cond, Option, Some, None, Result, Ok, Err, refl, ap, ◌∙◌}
 use Rattle.vm_base.specs.declared.replies.Reply.{Reply}
 use Rattle.vm_base.specs.declared.requests.Request.{Request}
 use Rattle.vm_base.specs.declared.requests.Request.TheVariants.{Mmap, Munmap, Mprotect}
@@ -8,7 +8,7 @@ use Rattle.vm_base.specs.Refusals.{refusal}
 use Rattle.machine_model.specs.declared.phase.Phase.{Phase}
 use Rattle.machine_model.specs.World.{World}
 use Rattle.machine_model.specs.Actions.{to, replies}
-use Rattle.machine_model.specs.Calls.{begins, checked, checked_as}
+use Rattle.machine_model.specs.Calls.{begins, checked_as}
 use Rattle.core_steps.specs.Checks.{check_of, first_phase, phase_unless}
 
 -- where the call stands after the check

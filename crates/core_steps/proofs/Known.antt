@@ -1,12 +1,12 @@
 -- What the code learns from the order, of which it knows only that it holds
-use Rattle.std.proofs.Common.{◌≡◌, ◌≢◌, ℕ, ◌+◌, ◌<◌, ◌≤◌, ◌^◌, Bool, true, false, ◌==◌, ◌&&◌, ◌||◌, nat_lt, length, Some, None, sym, subst, ap, refl, arith, cond, ◌∙◌}
+use Rattle.std.proofs.Common.{◌≡◌, ◌≢◌, ℕ, ◌+◌, ◌<◌, ◌≤◌, ◌^◌, Bool, true, false, ◌&&◌, ◌||◌, nat_lt, length, Some, None, sym, subst, ap, refl, arith, cond, ◌∙◌}
 use Rattle.std.proofs.Math.Logic.{∥∥₁_elim, ∥∥₁_map}
 use Rattle.std.proofs.Props.{props}
 use Rattle.std.proofs.lemmas.Bool.Decides.{nat_tests}
 use Rattle.vm_base.specs.declared.page.PageRange.{PageRange}
 use Rattle.vm_base.specs.declared.replies.Reply.{Reply}
 use Rattle.vm_base.specs.Functions.{has}
-use Rattle.vm_base.specs.Pages.{IsPage, IsPageRange, pages_from}
+use Rattle.vm_base.specs.Pages.{IsPage, IsPageRange}
 use Rattle.vm_base.specs.Info.{frame_of}
 use Rattle.vm_base.proofs.Functions.{in_has, has_in}
 use Rattle.slot_lock.specs.declared.footprint.Footprint.{Footprint}
@@ -18,19 +18,22 @@ use Rattle.slot_lock.specs.Slots.{Slots, IsHeld, IsNew}
 use Rattle.machine_model.specs.declared.event.Event.{Event}
 use Rattle.machine_model.specs.declared.event.Outcome.{Outcome}
 use Rattle.machine_model.specs.declared.phase.Phase.{Phase}
-use Rattle.machine_model.specs.declared.phase.Phase.TheVariants.{Free, Lock, Decide, Acks, Unlock, LockPage}
+use Rattle.machine_model.specs.declared.phase.Phase.TheVariants.{Free, Lock, Decide, Acks, Unlock}
 use Rattle.machine_model.specs.World.{World, Made, opening}
 use Rattle.machine_model.specs.Holding.{holds, is_open, taken_in}
 use Rattle.machine_model.specs.Step.{Step}
 use Rattle.machine_model.specs.declared.event.Event.TheVariants.{Go}
 use Rattle.core_steps.specs.Finishing.{StepsTo, IsRefused, finish_limit}
-use Rattle.core_steps.specs.Wanting.{may_want}
+use Rattle.core_steps.specs.Wanting.{MayWant}
 use Rattle.machine_laws.specs.Orderly.{IsOrderly, IsReady, IsMappedFor, IsCutRange, open_calls}
 use Rattle.machine_laws.proofs.OpenCalls.{one, open_put}
 use Rattle.machine_laws.proofs.Moves.{call_at}
 use Rattle.machine_laws.proofs.Changing.{sound_range}
-use Rattle.machine_laws.proofs.Kept.{kept}
-use Rattle.machine_laws.proofs.Opening.{opening_is_orderly}
+use Rattle.machine_sound.specs.Invariant.{Fine}
+use Rattle.machine_sound.specs.Sound.{IsSoundState}
+use Rattle.machine_sound.proofs.Kept.{fine_step}
+use Rattle.machine_sound.proofs.Opening.{fine_opening}
+use Rattle.machine_sound.proofs.Sound.{fine_sound}
 use Rattle.std.specs.Prelude.{Result, Ok, Err, IfOk, OnErr}
 
 -- ---- room for a reply
@@ -75,8 +78,14 @@ range_ends w t c change cursor e = ∥∥₁_elim t (hlevel props) (λ g.
     let from = call.ready.1 in
     (call.ready.2, (omega arith, range.high)))
 
-pub still_orderly : (w : World) (e : Event) (o : Outcome) (v : World) → Step w e o v → ∥ IsOrderly w ∥₁ → ∥ IsOrderly v ∥₁
-still_orderly w e o v s t = ∥∥₁_map t (λ g. kept w v e o g s)
+pub still_fine : (w : World) (e : Event) (o : Outcome) (v : World) → Step w e o v → ∥ Fine w ∥₁ → ∥ Fine v ∥₁
+still_fine w e o v s t = ∥∥₁_map t (λ f. (fine_step w v e o f s).0)
+
+pub in_order : (w : World) → ∥ Fine w ∥₁ → ∥ IsOrderly w ∥₁
+in_order w t = ∥∥₁_map t (λ f. f.order)
+
+pub is_sound : (w : World) → ∥ Fine w ∥₁ → ∥ IsSoundState w ∥₁
+is_sound w t = ∥∥₁_map t (λ f. fine_sound w f)
 
 -- ---- the range of a change that is to be decided, told or made
 
@@ -212,14 +221,14 @@ orderly_counting w n g = record {
 pub still_counting : (w : World) (n : ℕ) → ∥ IsOrderly w ∥₁ → ∥ IsOrderly (record w { events = n }) ∥₁
 still_counting w n t = ∥∥₁_map t (orderly_counting w n)
 
--- a step keeps the order, whether it succeeds or not
-pub kept_by : {E : Type 0} (r : Result Outcome E) (w v : World) (e : Event) → IfOk r (λ o. Step w e o v) → OnErr r (v ≡ w) → ∥ IsOrderly w ∥₁ → ∥ IsOrderly v ∥₁
-kept_by (Ok o) w v e s h t = still_orderly w e o v s t
-kept_by (Err x) w v e s h t = subst (λ u. ∥ IsOrderly u ∥₁) (sym h) t
+-- what holds in each state of a run is kept by a step, whether it succeeds or not
+pub kept_by : {E : Type 0} (r : Result Outcome E) (w v : World) (e : Event) → IfOk r (λ o. Step w e o v) → OnErr r (v ≡ w) → ∥ Fine w ∥₁ → ∥ Fine v ∥₁
+kept_by (Ok o) w v e s h t = still_fine w e o v s t
+kept_by (Err x) w v e s h t = subst (λ u. ∥ Fine u ∥₁) (sym h) t
 
-pub new_orderly : (w : World) (made : Made) (slots : Slots) → IsNew slots → w ≡ opening made slots → ∥ IsOrderly w ∥₁
-new_orderly w made slots n e = subst (λ u. ∥ IsOrderly u ∥₁) (sym e) ∣ opening_is_orderly made slots n ∣₁
+pub new_fine : (w : World) (made : Made) (slots : Slots) → ((n : ℕ) → made.file n ≡ None) → IsNew slots → w ≡ opening made slots → ∥ Fine w ∥₁
+new_fine w made slots none n e = subst (λ u. ∥ Fine u ∥₁) (sym e) ∣ fine_opening made slots none n ∣₁
 
 -- after some steps the next was refused, and nothing changed
-pub refused_at : (was now new : World) (c n : ℕ) → n < finish_limit → StepsTo was c n now → may_want now (Go c) ≡ true → new ≡ now → IsRefused was c new
+pub refused_at : (was now new : World) (c n : ℕ) → n < finish_limit → StepsTo was c n now → MayWant now (Go c) → new ≡ now → IsRefused was c new
 refused_at was now new c n h s m e = subst (IsRefused was c) (sym e) (n, h, m, s)

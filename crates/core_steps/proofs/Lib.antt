@@ -3,3 +3,4 @@ pub mod Lists
 pub mod Checking
 pub mod Accesses
 pub mod Calling
+pub mod Runs

@@ -1,5 +1,5 @@
 -- Lists that are changed at one place, seen as functions, and the state of which they are a part
-use Rattle.std.proofs.Common.{◌≡◌, ◌≢◌, ℕ, zero, suc, ◌<◌, List, length, get_or, refl, sym, ap, ◌∙◌}
+use Rattle.std.proofs.Common.{◌≡◌, ℕ, zero, suc, ◌<◌, List, length, get_or, refl}
 use Rattle.std.specs.Prelude.{slice_set}
 use Rattle.std.proofs.Math.ListN.{replicate, length-set}
 use Rattle.std.proofs.Math.Path.{fun_ext}
@@ -12,7 +12,6 @@ use Rattle.frames.specs.Parts.{FrameParts}
 use Rattle.machine_model.specs.declared.log.Entry.{Entry}
 use Rattle.machine_model.specs.declared.phase.Phase.{Phase}
 use Rattle.machine_model.specs.declared.phase.Phase.TheVariants.{Free}
-use Rattle.machine_model.specs.World.{World}
 use Rattle.machine_model.specs.Actions.{to}
 use Rattle.core_steps.specs.State.{world_of, phase_at, number_at}
 

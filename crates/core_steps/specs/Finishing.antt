@@ -1,12 +1,12 @@
 -- What finishing a call comes to: steps of a core, one after another, until one is not Stepped
-use Rattle.std.specs.Prelude.{◌≡◌, ◌≢◌, ℕ, zero, suc, ◌<◌, ◌^◌, true}
+use Rattle.std.specs.Prelude.{◌≡◌, ◌≢◌, ℕ, zero, suc, ◌<◌, ◌^◌}
 use Rattle.core_steps.specs.declared.machine.Finished.{Finished}
 use Rattle.core_steps.specs.declared.machine.Finished.TheVariants.{Last, Stuck}
 use Rattle.machine_model.specs.declared.event.Event.TheVariants.{Go}
 use Rattle.machine_model.specs.declared.event.Outcome.TheVariants.{Stepped}
 use Rattle.machine_model.specs.World.{World}
 use Rattle.machine_model.specs.Step.{Step}
-use Rattle.core_steps.specs.Wanting.{may_want}
+use Rattle.core_steps.specs.Wanting.{MayWant}
 
 -- n steps of the core lead from w to v
 abbrev pub StepsTo : World → ℕ → ℕ → World → Type 0
@@ -25,6 +25,6 @@ EndsIn w core n Stuck v = (n ≡ finish_limit) × StepsTo w core n v
 abbrev pub Finishes : World → ℕ → Finished → World → Type 0
 Finishes w core finished v = (n : ℕ) × EndsIn w core n finished v
 
--- some steps were made, and the next, which locks a slot, was refused
+-- some steps were made, and the next, at which a slot is to be divided, was refused
 abbrev pub IsRefused : World → ℕ → World → Type 0
-IsRefused w core v = (n : ℕ) × (n < finish_limit) × (may_want v (Go core) ≡ true) × StepsTo w core n v
+IsRefused w core v = (n : ℕ) × (n < finish_limit) × MayWant v (Go core) × StepsTo w core n v

@@ -4,3 +4,4 @@ pub mod Checks
 pub mod Taking
 pub mod Wanting
 pub mod Finishing
+pub mod Running

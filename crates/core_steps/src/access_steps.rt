@@ -7,6 +7,7 @@ ghost use Rattle.machine_model.specs.Step.{Goes};
 ghost use Rattle.machine_model.specs.Accesses.{frame_for, accessed};
 ghost use Rattle.machine_model.specs.Holding.{page_held};
 ghost use Rattle.machine_laws.specs.Orderly.{IsOrderly};
+ghost use Rattle.core_steps.specs.Wanting.{IsToDivide};
 
 use crate::engine::{Engine, Modelled};
 use machine_model::{Blocker, Outcome, Phase};
@@ -85,6 +86,7 @@ impl<M: SlotMap, A: Allocator + Clone> Engine<M, A> {
         requires orderly { ∥ IsOrderly (⟦<Self as Modelled>⟧.world self.old) ∥₁ }
         ensures step { IfOk result (λ o. Goes (⟦<Self as Modelled>⟧.world self.old) core (Phase.LockPage touch) o (⟦<Self as Modelled>⟧.world self.new)) }
         ensures err { OnErr result (⟦<Self as Modelled>⟧.world self.new ≡ ⟦<Self as Modelled>⟧.world self.old) }
+        ensures err_only { OnErr result (IsToDivide (⟦<Self as Modelled>⟧.world self.old).slots (Phase.LockPage touch)) }
     {
         match self.map.lock_next(core, touch.page, touch.page + 1)? {
             Got::Split => Ok(Outcome::Stepped),

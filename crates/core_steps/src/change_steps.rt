@@ -4,6 +4,7 @@ ghost use Rattle.slot_lock.specs.Plan.{IsSoundChange};
 ghost use Rattle.machine_model.specs.Step.{Goes};
 ghost use Rattle.machine_model.specs.Calls.{reply_to, after_lock};
 ghost use Rattle.machine_laws.specs.Orderly.{IsOrderly};
+ghost use Rattle.core_steps.specs.Wanting.{IsToDivide};
 
 use crate::check::check;
 use crate::commit::make_change;
@@ -63,6 +64,7 @@ impl<M: SlotMap, A: Allocator + Clone> Engine<M, A> {
         requires orderly { ∥ IsOrderly (⟦<Self as Modelled>⟧.world self.old) ∥₁ }
         ensures step { IfOk result (λ o. Goes (⟦<Self as Modelled>⟧.world self.old) core (Phase.Lock change cursor) o (⟦<Self as Modelled>⟧.world self.new)) }
         ensures err { OnErr result (⟦<Self as Modelled>⟧.world self.new ≡ ⟦<Self as Modelled>⟧.world self.old) }
+        ensures err_only { OnErr result (IsToDivide (⟦<Self as Modelled>⟧.world self.old).slots (Phase.Lock change cursor)) }
     {
         let end = change.range().end;
         match self.map.lock_next(core, cursor, end)? {

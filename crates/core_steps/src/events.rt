@@ -1,9 +1,9 @@
 //! One event: a call begins, or goes one step on.
-ghost use Rattle.std.specs.Prelude.{◌≡◌, ◌+◌, ◌^◌, ◌<◌, ◌≤◌, length, IfOk, OnErr, true};
+ghost use Rattle.std.specs.Prelude.{◌≡◌, ◌+◌, ◌^◌, ◌<◌, ◌≤◌, length, IfOk, OnErr};
 ghost use Rattle.machine_model.specs.Events.{core_of};
 ghost use Rattle.machine_model.specs.Step.{Step, Acts, Calls, Goes, counted};
 ghost use Rattle.machine_laws.specs.Orderly.{IsOrderly};
-ghost use Rattle.core_steps.specs.Wanting.{is_locking, may_want};
+ghost use Rattle.core_steps.specs.Wanting.{IsToDivide, MayWant};
 
 use crate::engine::{Engine, Modelled};
 use machine_model::{Event, Outcome, Phase};
@@ -38,7 +38,7 @@ impl<M: SlotMap, A: Allocator + Clone> Engine<M, A> {
         requires orderly { ∥ IsOrderly (⟦<Self as Modelled>⟧.world self.old) ∥₁ }
         ensures step { IfOk result (λ o. Goes (⟦<Self as Modelled>⟧.world self.old) core ((⟦<Self as Modelled>⟧.world self.old).phase core) o (⟦<Self as Modelled>⟧.world self.new)) }
         ensures err { OnErr result (⟦<Self as Modelled>⟧.world self.new ≡ ⟦<Self as Modelled>⟧.world self.old) }
-        ensures err_only { OnErr result (is_locking ((⟦<Self as Modelled>⟧.world self.old).phase core) ≡ true) }
+        ensures err_only { OnErr result (IsToDivide (⟦<Self as Modelled>⟧.world self.old).slots ((⟦<Self as Modelled>⟧.world self.old).phase core)) }
     {
         match self.phases[core.index() as usize] {
             Phase::Free => Ok(Outcome::Idle),
@@ -68,7 +68,7 @@ impl<M: SlotMap, A: Allocator + Clone> Engine<M, A> {
         requires orderly { ∥ IsOrderly (⟦<Self as Modelled>⟧.world self.old) ∥₁ }
         ensures step { IfOk result (λ o. Acts (⟦<Self as Modelled>⟧.world self.old) event o (⟦<Self as Modelled>⟧.world self.new)) }
         ensures err { OnErr result (⟦<Self as Modelled>⟧.world self.new ≡ ⟦<Self as Modelled>⟧.world self.old) }
-        ensures err_only { OnErr result (may_want (⟦<Self as Modelled>⟧.world self.old) event ≡ true) }
+        ensures err_only { OnErr result (MayWant (⟦<Self as Modelled>⟧.world self.old) event) }
     {
         match event {
             Event::Call(core, request) => Ok(self.call(core, request)),
@@ -83,7 +83,7 @@ impl<M: SlotMap, A: Allocator + Clone> Engine<M, A> {
         requires orderly { ∥ IsOrderly (⟦<Self as Modelled>⟧.world self.old) ∥₁ }
         ensures step { IfOk result (λ o. Acts (counted (⟦<Self as Modelled>⟧.world self.old)) event o (⟦<Self as Modelled>⟧.world self.new)) }
         ensures err { OnErr result (⟦<Self as Modelled>⟧.world self.new ≡ ⟦<Self as Modelled>⟧.world self.old) }
-        ensures err_only { OnErr result (may_want (⟦<Self as Modelled>⟧.world self.old) event ≡ true) }
+        ensures err_only { OnErr result (MayWant (⟦<Self as Modelled>⟧.world self.old) event) }
     {
         self.events += 1;
         match self.act(event) {
@@ -100,7 +100,7 @@ impl<M: SlotMap, A: Allocator + Clone> Engine<M, A> {
         requires { ∥ IsOrderly (⟦<Self as Modelled>⟧.world self.old) ∥₁ }
         ensures step { IfOk result (λ o. Step (⟦<Self as Modelled>⟧.world self.old) event o (⟦<Self as Modelled>⟧.world self.new)) }
         ensures err { OnErr result (⟦<Self as Modelled>⟧.world self.new ≡ ⟦<Self as Modelled>⟧.world self.old) }
-        ensures err_only { OnErr result (may_want (⟦<Self as Modelled>⟧.world self.old) event ≡ true) }
+        ensures err_only { OnErr result (MayWant (⟦<Self as Modelled>⟧.world self.old) event) }
     {
         if self.events == u64::MAX {
             return Ok(Outcome::Full);

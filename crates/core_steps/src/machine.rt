@@ -3,10 +3,11 @@ ghost use Rattle.std.specs.Prelude.{◌≡◌, ◌⊎◌, ◌<◌, IfOk, IfErr, 
 ghost use Rattle.slot_lock.specs.Slots.{IsNew};
 ghost use Rattle.machine_model.specs.World.{opening};
 ghost use Rattle.machine_model.specs.Step.{Step};
-ghost use Rattle.machine_laws.specs.Orderly.{IsOrderly};
-ghost use Rattle.core_steps.specs.Setups.{fault_of, made_of};
+ghost use Rattle.machine_sound.specs.Invariant.{Fine};
+ghost use Rattle.machine_sound.specs.Sound.{IsSoundState};
+ghost use Rattle.core_steps.specs.Setups.{fault_of, IsFirstFault, made_of};
 ghost use Rattle.core_steps.specs.State.{world_of};
-ghost use Rattle.core_steps.specs.Wanting.{may_want};
+ghost use Rattle.core_steps.specs.Wanting.{MayWant};
 ghost use Rattle.core_steps.specs.Finishing.{Finishes, IsRefused};
 
 use crate::engine::{Engine, Modelled};
@@ -32,7 +33,7 @@ pub enum Finished {
 #[derive(Drop)]
 pub struct Machine<M: SlotMap, A: Allocator + Clone> {
     engine: Engine<M, A>,
-    ghost orderly: { ∥ IsOrderly (world_of (M.slots engine.map) engine.frames engine.phases.items engine.numbers.items engine.requests.items.items engine.log.items.items engine.requests.limit engine.events) ∥₁ },
+    ghost fine: { ∥ Fine (world_of (M.slots engine.map) engine.frames engine.phases.items engine.numbers.items engine.requests.items.items engine.log.items.items engine.requests.limit engine.events) ∥₁ },
 }
 
 impl<M: SlotMap, A: Allocator + Clone> Modelled for Machine<M, A> {
@@ -46,7 +47,7 @@ impl<M: SlotMap + Drop, A: Allocator + Clone + Drop> Machine<M, A> {
         requires { IsNew (M.slots map) }
         ensures opening { IfOk result (λ machine. ⟦<Self as Modelled>⟧.world machine ≡ opening (made_of setup.now) (M.slots map)) }
         ensures sound { IfOk result (λ machine. fault_of setup.now ≡ None) }
-        ensures first { IfErr result (λ fault. (fault_of setup.now ≡ Some fault) ⊎ ((fault_of setup.now ≡ None) × (fault ≡ SetupFault.NoMemory))) }
+        ensures first { IfErr result (λ fault. IsFirstFault setup.now fault) }
     {
         if let Some(fault) = setup.fault() {
             return Err(fault);
@@ -57,11 +58,12 @@ impl<M: SlotMap + Drop, A: Allocator + Clone + Drop> Machine<M, A> {
         Ok(Machine { engine })
     }
 
-    /// One event. A refusal for memory leaves the machine unchanged, and comes only at a step that locks a slot.
+    /// One event. A refusal for memory leaves the machine unchanged, and comes only at a step at which a slot is to be
+    /// divided.
     pub fn step(&mut self, event: Event) -> Result<Outcome, NoMemory>
         ensures step { IfOk result (λ outcome. Step (⟦<Self as Modelled>⟧.world self.old) event outcome (⟦<Self as Modelled>⟧.world self.new)) }
         ensures err { OnErr result (⟦<Self as Modelled>⟧.world self.new ≡ ⟦<Self as Modelled>⟧.world self.old) }
-        ensures err_only { OnErr result (may_want (⟦<Self as Modelled>⟧.world self.old) event ≡ true) }
+        ensures err_only { OnErr result (MayWant (⟦<Self as Modelled>⟧.world self.old) event) }
     {
         self.engine.step(event)
     }
@@ -84,9 +86,11 @@ impl<M: SlotMap + Drop, A: Allocator + Clone + Drop> Machine<M, A> {
         Ok(Finished::Stuck)
     }
 
-    /// The entries made so far, in order.
+    /// The entries made so far, in order. They are those of a plain page map (POSIX.1-2017, mmap, munmap and mprotect),
+    /// applied one after another.
     pub fn log(&self) -> &[Entry]
-        ensures { result.now ≡ (⟦<Self as Modelled>⟧.world self.now).log }
+        ensures entries { result.now ≡ (⟦<Self as Modelled>⟧.world self.now).log }
+        ensures legal { ∥ IsSoundState (⟦<Self as Modelled>⟧.world self.now) ∥₁ }
     {
         &self.engine.log.items
     }

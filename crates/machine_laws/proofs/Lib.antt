@@ -1,5 +1,9 @@
 pub mod OpenCalls
 pub mod Moves
+pub mod Effects
+pub mod Numbered
+pub mod Bracketed
+mod Examples
 pub mod Slots
 pub mod Sound
 pub mod Locking

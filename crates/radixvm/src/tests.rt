@@ -120,6 +120,16 @@ fn replies(rt: HostRuntime) -> Result<(), Fail> {
             b"vm 1 4\nc0! mmap 0x10000 4096 rw- pfa\nc0! store 0x10000 41\nc0! mmap 0x10000 4096 rw- pfa\nc0! load 0x10000".as_slice(),
             b"0x10000\ndone\n0x10000\n0\n".as_slice(),
         ),
+        // munmap takes every page that has some byte of its range.
+        (
+            b"vm 1 4\nc0! mmap 0x10000 0 rw- pfa\nc0! mmap 0x10000 4096 rw- pfa\nc0! munmap 0x10000 1\nc0! load 0x10fff\n".as_slice(),
+            b"einval\n0x10000\ndone\nsegv maperr\n".as_slice(),
+        ),
+        // It is no error where nothing is mapped. Address 0 is on no valid page.
+        (
+            b"vm 1 4\nc0! munmap 0x50000 8192\nc0! load 0x50000\nc0! load 0\n".as_slice(),
+            b"done\nsegv maperr\nsegv maperr\n".as_slice(),
+        ),
         // The last valid page is in reach, the one behind it isn't.
         (
             b"vm 1 4\nc0! mmap 0x1000 0x7ffffffff000 rw- pfa\nc0! mmap 0x1000 0x7ffffffff001 rw- pfa\n".as_slice(),

@@ -8,7 +8,7 @@ use Rattle.machine_model.specs.World.{World}
 use Rattle.machine_model.specs.Step.{Step}
 use Rattle.core_steps.specs.declared.machine.Finished.{Finished}
 use Rattle.core_steps.specs.Finishing.{Finishes, IsRefused}
-use Rattle.core_steps.specs.Wanting.{may_want}
+use Rattle.core_steps.specs.Wanting.{MayWant}
 use Rattle.trace_text.specs.declared.line.Line.{Line}
 use Rattle.trace_text.specs.declared.line.Line.TheVariants.{Blank, Space, Call, Go, Finish, Now}
 use Rattle.trace.specs.OutcomeText.{outcome_text, finished_text}
@@ -45,10 +45,10 @@ WantsFinish w core = (v : World) × IsRefused w core v
 abbrev pub Wants : World → Line → Type 0
 Wants w Blank = ⊥
 Wants w (Space cores frames calls) = ⊥
-Wants w (Call core request) = may_want w (Ev.Call core request) ≡ true
-Wants w (Go core) = may_want w (Ev.Go core) ≡ true
+Wants w (Call core request) = MayWant w (Ev.Call core request)
+Wants w (Go core) = MayWant w (Ev.Go core)
 Wants w (Finish core) = WantsFinish w core
-Wants w (Now core request) = (may_want w (Ev.Call core request) ≡ true) ⊎ ((m : World) × Step w (Ev.Call core request) Stepped m × WantsFinish m core)
+Wants w (Now core request) = MayWant w (Ev.Call core request) ⊎ ((m : World) × Step w (Ev.Call core request) Stepped m × WantsFinish m core)
 
 -- the line of an event
 abbrev pub is_event : Option Line → Bool

@@ -1,6 +1,6 @@
 //! Lines of events: each moves the machine, and its text tells the outcome.
 ghost use Rattle.std.specs.Prelude.{◌≡◌, ◌⊎◌, IfErr, OnErr, OnOk, IsSomeAnd, true, false};
-ghost use Rattle.core_steps.specs.Wanting.{may_want};
+ghost use Rattle.core_steps.specs.Wanting.{MayWant};
 ghost use Rattle.trace.specs.Gives.{Gives, Wants, WantsFinish, is_event, TellsFinish, TellsStep};
 
 use crate::fault::TraceFault;
@@ -20,7 +20,7 @@ fn tell_step<A: Allocator + Clone + Drop>(
     text: &mut LineText,
 ) -> Result<(), NoMemory>
     ensures ok { OnOk result (TellsStep (⟦<Machine<RunList<A>, A> as Modelled>⟧.world machine.old) event (⟦<Machine<RunList<A>, A> as Modelled>⟧.world machine.new) text.new.bytes) }
-    ensures err { OnErr result (may_want (⟦<Machine<RunList<A>, A> as Modelled>⟧.world machine.old) event ≡ true) }
+    ensures err { OnErr result (MayWant (⟦<Machine<RunList<A>, A> as Modelled>⟧.world machine.old) event) }
 {
     let outcome = machine.step(event)?;
     write_outcome(text, outcome);

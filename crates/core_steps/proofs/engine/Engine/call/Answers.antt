@@ -1,4 +1,4 @@
-use Rattle.std.proofs.Common.{◌≡◌, refl, sym, length, ◌∙◌, ◌<◌, arith, rules}
+use Rattle.std.proofs.Common.{◌≡◌, sym, length, ◌∙◌, ◌<◌, arith, rules}
 use Rattle.machine_model.specs.declared.phase.Phase.TheVariants.{Free}
 use Rattle.core_steps.specs.State.{phase_at}
 use Rattle.core_steps.proofs.Calling.{numbered, begun}

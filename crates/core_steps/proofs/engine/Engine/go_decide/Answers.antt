@@ -1,5 +1,4 @@
-use Rattle.std.proofs.Common.{refl, sym, ap, ◌∙◌, ◌≡◌}
-use Rattle.slot_lock.specs.Plan.{range_of}
+use Rattle.std.proofs.Common.{refl}
 use Rattle.vm_base.specs.Pages.{IsPageRange}
 use Rattle.core_steps.proofs.Known.{decide_range, has_page, room_for}
 use Rattle.core_steps.proofs.engine.Engine.go_decide.Goals as goal

@@ -1,5 +1,4 @@
-use Rattle.std.proofs.Common.{refl}
-use Rattle.core_steps.proofs.Known.{range_ends, not_ahead}
+use Rattle.core_steps.proofs.Known.{not_ahead}
 use Rattle.core_steps.proofs.engine.Engine.go_lock.Goals as goal
 
 pub lock_next-requires-clause-not_held : goal.lock_next-requires-clause-not_held

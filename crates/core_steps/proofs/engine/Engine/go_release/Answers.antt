@@ -1,5 +1,5 @@
 use Rattle.machine_model.specs.declared.phase.Phase.TheVariants.{Release}
-use Rattle.core_steps.proofs.Accesses.{touch_at, cut_at, page_is}
+use Rattle.core_steps.proofs.Accesses.{cut_at, page_is}
 use Rattle.core_steps.proofs.Known.{owns}
 use Rattle.core_steps.proofs.engine.Engine.go_release.Goals as goal
 

@@ -1,5 +1,4 @@
 use Rattle.core_steps.proofs.Lists.{moved}
-use Rattle.core_steps.proofs.Known.{owns}
 use Rattle.core_steps.proofs.engine.Engine.go_to.Goals as goal
 
 pub returns : goal.returns

@@ -1,7 +1,5 @@
 use Rattle.core_steps.specs.Finishing.{StepsTo}
 use Rattle.core_steps.specs.State.{world_of}
-use Rattle.core_steps.specs.declared.machine.Machine.{Machine}
-use Rattle.machine_model.specs.World.{World}
 use Rattle.core_steps.proofs.machine.Machine.finish.Given as goal
 
 -- the steps so far

@@ -1,0 +1,88 @@
+-- Brackets of calls: in the log of a run each reply stands once, between the event that began its call and the event that
+-- handed it out. Events are numbered from 1, and so are the calls begun.
+use Rattle.std.specs.Prelude.{◌≡◌, ◌≢◌, ℕ, zero, suc, ◌<◌, List, [], ◌∷◌, ◌++◌, take, slice_get, Option, None, Some}
+use Rattle.vm_base.specs.declared.replies.Reply.{Reply}
+use Rattle.vm_base.specs.declared.requests.Request.{Request}
+use Rattle.slot_lock.specs.Slots.{Slots}
+use Rattle.machine_model.specs.declared.event.Event.{Event}
+use Rattle.machine_model.specs.declared.event.Event.TheVariants.{Call}
+use Rattle.machine_model.specs.declared.event.Outcome.{Outcome}
+use Rattle.machine_model.specs.declared.event.Outcome.TheVariants.{Stepped, Answered}
+use Rattle.machine_model.specs.declared.log.Entry.{Entry}
+use Rattle.machine_model.specs.declared.log.Entry.TheVariants as EntryOf
+use Rattle.machine_model.specs.Events.{core_of}
+use Rattle.machine_model.specs.World.{World, Made, opening}
+use Rattle.machine_model.specs.Step.{Run}
+
+-- the n-th of a list, from 1
+abbrev pub nth : {A : Type 0} → List A → ℕ → Option A
+nth xs zero = None
+nth xs (suc n) = slice_get xs n
+
+-- ---- the calls of a run
+
+-- a call that was begun, and the number of the event that began it
+pub record Begun : Type 0 where
+  pub core : ℕ
+  pub request : Request
+  pub step : ℕ
+
+-- the n-th event begins a call if it is a Call that stepped
+abbrev pub begun_by : ℕ → Event → Outcome → List Begun
+begun_by n (Call core request) Stepped = record { core = core; request = request; step = n } ∷ []
+begun_by n _ _ = []
+
+-- the calls that events begin, in order, where the first of the events is the n-th
+abbrev pub calls_from : ℕ → List Event → List Outcome → List Begun
+calls_from n (e ∷ es) (o ∷ os) = begun_by n e o ++ calls_from (suc n) es os
+calls_from n _ _ = []
+
+abbrev pub calls_of : List Event → List Outcome → List Begun
+calls_of es os = calls_from 1 es os
+
+-- their requests, in order
+abbrev pub requests_of : List Begun → List Request
+requests_of [] = []
+requests_of (b ∷ bs) = b.request ∷ requests_of bs
+
+-- the core's latest call has this number
+pub record IsLatest (calls : List Begun) (core n : ℕ) : Type 0 where
+  pub is_begun : (b : Begun) × (nth calls n ≡ Some b) × (b.core ≡ core)
+  pub latest : (m : ℕ) (b : Begun) → n < m → nth calls m ≡ Some b → b.core ≢ core
+
+-- ---- the log
+
+-- the number of the event that made the entry
+abbrev pub step_of : Entry → ℕ
+step_of (EntryOf.Answer step call core reply) = step
+
+-- at this place of the log stands the reply to a call
+abbrev pub IsAnswer : List Entry → ℕ → ℕ → ℕ → ℕ → Reply → Type 0
+IsAnswer log place step call core reply = slice_get log place ≡ Some (EntryOf.Answer step call core reply)
+
+-- the log has the reply to a call from an event before the n-th
+abbrev pub IsAnsweredBefore : ℕ → List Entry → ℕ → ℕ → Reply → Type 0
+IsAnsweredBefore n log call core reply = (place step : ℕ) × IsAnswer log place step call core reply × (step < n)
+
+-- ---- the brackets
+
+-- The events came to these outcomes and left w.
+pub record IsBracketed (es : List Event) (os : List Outcome) (w : World) : Type 0 where
+  -- the steps in the log rise
+  pub rises : (i j : ℕ) (x y : Entry) → i < j → slice_get w.log i ≡ Some x → slice_get w.log j ≡ Some y → step_of x < step_of y
+  -- each reply is that of a call of its core, begun before it
+  pub begun : (i step call core : ℕ) (reply : Reply) → IsAnswer w.log i step call core reply
+      → (b : Begun) × (nth (calls_of es os) call ≡ Some b) × (b.core ≡ core) × (b.step < step)
+  -- no call has two
+  pub once : (i j step step2 call core core2 : ℕ) (reply reply2 : Reply) → IsAnswer w.log i step call core reply
+      → IsAnswer w.log j step2 call core2 reply2 → i ≡ j
+  -- after n events comes one that hands out a reply: it is that of the core's latest call, and stands in the log before
+  pub answered : (n : ℕ) (e : Event) (reply : Reply) → nth es (suc n) ≡ Some e → nth os (suc n) ≡ Some (Answered reply)
+      → (call : ℕ) × IsLatest (calls_of (take n es) (take n os)) (core_of e) call
+      × IsAnsweredBefore (suc n) w.log call (core_of e) reply
+  -- the requests kept are those of the calls
+  pub requests : w.requests ≡ requests_of (calls_of es os)
+
+abbrev pub AllRunsBracketed : Type 0
+AllRunsBracketed = (made : Made) (slots : Slots) (es : List Event) (os : List Outcome) (w : World)
+    → Run (opening made slots) es os w → IsBracketed es os w

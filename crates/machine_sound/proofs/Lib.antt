@@ -1,0 +1,13 @@
+pub mod Logs
+pub mod Opening
+pub mod Sound
+pub mod Moves
+pub mod Stands
+pub mod Calls
+pub mod Changes
+pub mod Pages
+pub mod Accesses
+pub mod Kept
+pub mod Examples
+pub mod OneMap
+pub mod Run

@@ -1,0 +1,9 @@
+use Rattle.machine_sound.proofs.Kept.{runs_sound}
+use Rattle.machine_sound.proofs.OneMap.{log_leads_to_one}
+use Rattle.machine_sound.proofs.runs_are_sound.Goals as goal
+
+pub returns-clause-sound : goal.returns-clause-sound
+returns-clause-sound c = runs_sound
+
+pub returns-clause-one : goal.returns-clause-one
+returns-clause-one c = log_leads_to_one

@@ -1,0 +1,4 @@
+pub mod Log
+pub mod Translations
+pub mod Sound
+pub mod Invariant

@@ -1,0 +1,72 @@
+-- Legal logs: applied in order, each entry says what a plain page map answers (POSIX.1-2017, mmap, munmap and mprotect).
+use Rattle.std.specs.Prelude.{◌≡◌, ℕ, zero, suc, Bool, true, false, not, cond, List, [], ◌∷◌, slice_get, Option, None, Some, is_some}
+use Rattle.vm_base.specs.declared.replies.Errno.TheVariants.{ENOMEM}
+use Rattle.vm_base.specs.declared.replies.Reply.{Reply}
+use Rattle.vm_base.specs.declared.replies.Reply.TheVariants.{Refused, NoFrame, NoMemory}
+use Rattle.vm_base.specs.declared.requests.Request.{Request}
+use Rattle.vm_base.specs.declared.requests.Request.TheVariants.{Mmap}
+use Rattle.vm_base.specs.declared.requests.Request.TheVariants.{Load as LoadOf, Store as StoreOf, Fetch as FetchOf}
+use Rattle.vm_base.specs.declared.rights.Access.{Access}
+use Rattle.vm_base.specs.declared.rights.Access.TheVariants.{Load, Store, Fetch}
+use Rattle.vm_base.specs.Pages.{page_of}
+use Rattle.vm_base.specs.Rights.{is_allowed}
+use Rattle.vm_base.specs.Plain.{File, Entry as PageEntry, Plain, bytes_of, mode_of}
+use Rattle.vm_base.specs.Refusals.{refusal}
+use Rattle.vm_base.specs.Apply.{Applies}
+use Rattle.machine_model.specs.declared.log.Entry.{Entry}
+use Rattle.machine_model.specs.declared.log.Entry.TheVariants.{Answer}
+use Rattle.machine_laws.specs.Brackets.{nth}
+
+-- ---- accesses that would be served
+
+-- the page is mapped, its protection allows the access, and it has bytes
+abbrev pub CanAccess : (ℕ → Option File) → Option PageEntry → Access → Type 0
+CanAccess files None access = ⊥
+CanAccess files (Some e) access = (is_allowed e.prot access ≡ true) × (is_some (bytes_of files e.back e.own) ≡ true)
+
+-- the request is an access of such a page
+abbrev pub IsServable : Plain → Request → Type 0
+IsServable t (LoadOf addr) = CanAccess t.file (t.entry (page_of addr)) Load
+IsServable t (StoreOf addr byte) = CanAccess t.file (t.entry (page_of addr)) Store
+IsServable t (FetchOf addr) = CanAccess t.file (t.entry (page_of addr)) Fetch
+IsServable t _ = ⊥
+
+-- ---- a mapping whose place is left open
+
+-- mmap without MAP_FIXED
+abbrev pub is_placed : Request → Bool
+is_placed (Mmap addr len prot flags file off) = not flags.fixed
+is_placed _ = false
+
+abbrev pub or_no_place : Option Reply → Reply
+or_no_place None = Refused ENOMEM
+or_no_place (Some refused) = refused
+
+-- The machine looks for no place yet: such a request gets the refusal of its arguments, or else ENOMEM, and changes nothing.
+-- (This definition goes once the machine places mappings: they are answered as the plain page map answers them.)
+abbrev pub FindsNoPlace : Plain → Request → Reply → Plain → Type 0
+FindsNoPlace t request y u = (y ≡ or_no_place (refusal (λ k. mode_of (t.file k)) request)) × (u ≡ t)
+
+-- ---- entries
+
+-- A core's request may be answered y, and leaves u. NoFrame answers only an access that would be served, and NoMemory any request; both
+-- change nothing. Every other reply, and what it leaves, is the plain page map's.
+abbrev pub Stands : Plain → ℕ → Request → Reply → Plain → Type 0
+Stands t core request NoFrame u = IsServable t request × (u ≡ t)
+Stands t core request NoMemory u = u ≡ t
+Stands t core request y u = cond (is_placed request) (FindsNoPlace t request y u) (Applies t core request y u)
+
+-- the entry, where these are the requests of the calls in order
+abbrev pub GoesOn : List Request → Plain → Entry → Plain → Type 0
+GoesOn requests t (Answer step call core reply) u =
+    (request : Request) × (nth requests call ≡ Some request) × Stands t core request reply u
+
+-- the entries, applied in order, lead from t to u
+abbrev pub Replays : List Request → Plain → List Entry → Plain → Type 0
+Replays requests t [] u = u ≡ t
+Replays requests t (e ∷ es) u = (m : Plain) × GoesOn requests t e m × Replays requests m es u
+
+-- There is no second map that a log leads to.
+abbrev pub EachLogLeadsToOneMap : Type 0
+EachLogLeadsToOneMap =
+    (requests : List Request) (log : List Entry) (t u v : Plain) → Replays requests t log u → Replays requests t log v → u ≡ v

@@ -1,0 +1,5 @@
+pub mod Runs
+pub mod Flat
+pub mod Divided
+pub mod Joined
+pub mod Folds

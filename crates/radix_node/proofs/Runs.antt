@@ -1,0 +1,69 @@
+-- Lists of runs: the slot of a page, and a change of it
+use Rattle.std.proofs.Common.{if◌then◌else◌, nat_lt, ltb, inl, inr, ◌≡◌, ◌≢◌, ◌⊎◌, ⊎_elim, ℕ, ◌+◌, ◌-◌, ◌*◌, ◌^◌, ◌<◌, ◌≤◌, List, [], ◌∷◌, ◌++◌, length, refl, sym, ap, ◌∙◌, subst, arith}
+use Rattle.std.proofs.lemmas.Bool.{cases_lt, lt-ltb, le-ltb}
+use Rattle.std.proofs.lemmas.List.{append-nil}
+use Rattle.radix_node.specs.State.{State, no_state}
+use Rattle.radix_node.specs.Run.{Run, Cell, total, cell_at, with_run}
+
+pub if_below : {X : Type 0} (a b : ℕ) (x y : X) → a < b → (if nat_lt a b then x else y) ≡ x
+if_below a b x y h = rw (lt-ltb a b h)
+
+pub if_from : {X : Type 0} (a b : ℕ) (x y : X) → b ≤ a → (if nat_lt a b then x else y) ≡ y
+if_from a b x y h = rw (le-ltb a b h)
+
+pub total-append : (xs ys : List Run) → total (xs ++ ys) ≡ total xs + total ys
+total-append [] ys = omega arith
+total-append (x ∷ xs) ys = omega (arith, total-append xs ys)
+
+-- ---- the slot of a page
+
+pub cell_at-here : (r : Run) (rs : List Run) (page : ℕ) → page < r.width → cell_at (r ∷ rs) page ≡ record { state = r.state; offset = page; width = r.width }
+cell_at-here r rs page h = if_below page r.width _ _ h
+
+pub cell_at-there : (r : Run) (rs : List Run) (page : ℕ) → r.width ≤ page → cell_at (r ∷ rs) page ≡ cell_at rs (page - r.width)
+cell_at-there r rs page h = if_from page r.width _ _ h
+
+pub cell_at-past : (rs : List Run) (page : ℕ) → total rs ≤ page → cell_at rs page ≡ record { state = no_state; offset = 0; width = 1 }
+cell_at-past [] page h = refl
+cell_at-past (r ∷ rs) page h = cell_at-there r rs page (omega arith) ∙ cell_at-past rs (page - r.width) (omega arith)
+
+pub cell_at-left : (xs ys : List Run) (page : ℕ) → page < total xs → cell_at (xs ++ ys) page ≡ cell_at xs page
+cell_at-left [] ys page h = absurd (omega arith)
+cell_at-left (x ∷ xs) ys page h = ⊎_elim
+    (λ (l : page < x.width). cell_at-here x (xs ++ ys) page l ∙ sym (cell_at-here x xs page l))
+    (λ (l : x.width ≤ page). cell_at-there x (xs ++ ys) page l ∙ cell_at-left xs ys (page - x.width) (omega arith) ∙ sym (cell_at-there x xs page l))
+    (cases_lt page x.width)
+
+pub cell_at-right : (xs ys : List Run) (page : ℕ) → total xs ≤ page → cell_at (xs ++ ys) page ≡ cell_at ys (page - total xs)
+cell_at-right [] ys page h = let e : page ≡ page - 0 = omega arith in ap (cell_at ys) e
+cell_at-right (x ∷ xs) ys page h =
+    let e : page - x.width - total xs ≡ page - (x.width + total xs) = omega arith in
+    cell_at-there x (xs ++ ys) page (omega arith) ∙ cell_at-right xs ys (page - x.width) (omega arith) ∙ ap (cell_at ys) e
+
+-- ---- a change of one slot
+
+pub with_run-here : (f : Run → List Run) (r : Run) (rs : List Run) (page : ℕ) → page < r.width → with_run f (r ∷ rs) page ≡ f r ++ rs
+with_run-here f r rs page h = if_below page r.width _ _ h
+
+pub with_run-there : (f : Run → List Run) (r : Run) (rs : List Run) (page : ℕ) → r.width ≤ page → with_run f (r ∷ rs) page ≡ r ∷ with_run f rs (page - r.width)
+with_run-there f r rs page h = if_from page r.width _ _ h
+
+append_assoc : (xs ys zs : List Run) → (xs ++ ys) ++ zs ≡ xs ++ (ys ++ zs)
+append_assoc [] ys zs = refl
+append_assoc (x ∷ xs) ys zs = ap (λ (l : List Run). x ∷ l) (append_assoc xs ys zs)
+
+pub with_run-left : (f : Run → List Run) (xs ys : List Run) (page : ℕ) → page < total xs → with_run f (xs ++ ys) page ≡ with_run f xs page ++ ys
+with_run-left f [] ys page h = absurd (omega arith)
+with_run-left f (x ∷ xs) ys page h = ⊎_elim
+    (λ (l : page < x.width). with_run-here f x (xs ++ ys) page l ∙ sym (append_assoc (f x) xs ys) ∙ ap (λ (l : List Run). l ++ ys) (sym (with_run-here f x xs page l)))
+    (λ (l : x.width ≤ page). with_run-there f x (xs ++ ys) page l ∙ ap (λ (l : List Run). x ∷ l) (with_run-left f xs ys (page - x.width) (omega arith)) ∙ ap (λ (l : List Run). l ++ ys) (sym (with_run-there f x xs page l)))
+    (cases_lt page x.width)
+
+pub with_run-right : (f : Run → List Run) (xs ys : List Run) (page : ℕ) → total xs ≤ page → with_run f (xs ++ ys) page ≡ xs ++ with_run f ys (page - total xs)
+with_run-right f [] ys page h = let e : page ≡ page - 0 = omega arith in ap (with_run f ys) e
+with_run-right f (x ∷ xs) ys page h =
+    let e : page - x.width - total xs ≡ page - (x.width + total xs) = omega arith in
+    with_run-there f x (xs ++ ys) page (omega arith) ∙ ap (λ (l : List Run). x ∷ l) (with_run-right f xs ys (page - x.width) (omega arith) ∙ ap (λ n. xs ++ with_run f ys n) e)
+
+pub with_run-one : (f : Run → List Run) (r : Run) (page : ℕ) → page < r.width → with_run f (r ∷ []) page ≡ f r
+with_run-one f r page h = with_run-here f r [] page h ∙ append-nil (f r)

@@ -1,0 +1,5 @@
+pub mod State
+pub mod Run
+pub mod Node
+pub mod Slots
+pub mod SlotsFall

@@ -1,0 +1,12 @@
+//! One node of the radix tree: 512 slots, each with what its pages have, or with a node below.
+#![tactic(auto)]
+
+pub mod node;
+pub mod place;
+pub mod state;
+
+pub use node::{Found, Node, Slot};
+pub use state::{Content, SlotState};
+
+#[cfg(test)]
+mod tests;

@@ -1,0 +1,228 @@
+-- A slot that became 512 slots, and back
+use Rattle.std.proofs.Common.{◌≡◌, ◌≢◌, ℕ, ◌+◌, ◌-◌, ◌*◌, ◌/◌, ◌^◌, ◌<◌, ◌≤◌, ◌==◌, ◌⊎◌, inl, inr, ⊎_elim, Bool, true, false, List, Option, Some, None, refl, sym, ◌∙◌, ap, subst, arith}
+use Rattle.std.specs.Prelude.{Result, Ok, Err, OnOk, OnErr}
+use Rattle.std.proofs.lemmas.Bool.{cases_lt}
+use Rattle.vm_base.specs.declared.info.PageInfo.{PageInfo}
+use Rattle.vm_base.specs.Pages.{IsPage}
+use Rattle.vm_base.specs.Info.{info_from}
+use Rattle.slot_lock.specs.Slots.{Slots, Divides, Joins, IsSlot}
+use Rattle.slot_lock.specs.RunLaws.{info_from_twice, same_test, other_test, from_test, from_other_test}
+use Rattle.slot_lock.proofs.Steps.{slot_by_edge}
+use Rattle.radix_node.specs.State.{State, no_state, state_from, IsPlain}
+use Rattle.radix_node.specs.Run.{Run, Cell, total, cell_at, with_run, in_parts, divided, width_of, level_of, Folds, IsCell, IsWhole}
+use Rattle.radix_node.specs.Node.{Parts, runs}
+use Rattle.radix_node.proofs.Flat.{place_index, width-below, width_pos}
+use Rattle.radix_node.proofs.Joined.{cell_at-divided, total-divided}
+use Rattle.radix_node.proofs.Divided.{part_ends}
+use Rattle.radix_node.proofs.Folds.{in_parts-is, large_level}
+use Rattle.radix_range.specs.Tree.{slots_of, tree_slots, IsRadix}
+use Rattle.radix_range.specs.Found.{DividesAt}
+use Rattle.radix_range.specs.Cells.{IsIn, moved, cell_in, run_of, start_of, changed_inside, changed_outside}
+use Rattle.radix_range.specs.TreeLaws.{pages_are, cell_ok, is_slot, cell_of, tree-is_slot_map}
+
+-- the page's slot became 512 slots of so many pages
+pub record IsExpanded (rs qs : List Run) (page : ℕ) : Type 0 where
+  pub part : ℕ
+  pub some : 0 < part
+  pub width : (cell_at rs page).width ≡ 512 * part
+  pub inside : (k o : ℕ) → k < 512 → o < part → cell_at qs (start_of rs page + (k * part + o)) ≡ record { state = state_from (cell_at rs page).state (k * part); offset = o; width = part }
+  pub outside : (p : ℕ) → (p < start_of rs page) ⊎ (start_of rs page + (cell_at rs page).width ≤ p) → cell_at qs p ≡ cell_at rs p
+
+pub expanded : (rs : List Run) (level page : ℕ) → page < total rs → IsCell level page (cell_at rs page) → 1 < (cell_at rs page).width → IsExpanded rs (with_run in_parts rs page) page
+expanded rs level page h c large =
+    let l : ℕ = level_of (cell_at rs page).width in
+    let pos = large_level l (let w = c.width_is in omega arith) in
+    let one : l - 1 + 1 ≡ l = omega arith in
+    let w : 512 * width_of (l - 1) ≡ (cell_at rs page).width = width-below (l - 1) l one ∙ sym c.width_is in
+    let is : in_parts (run_of (cell_at rs page)) ≡ divided (width_of (l - 1)) (cell_at rs page).state =
+    ap (λ n. in_parts (record { width = n; state = (cell_at rs page).state })) c.width_is ∙ in_parts-is l (l - 1) (cell_at rs page).state one in
+    let t : total (in_parts (run_of (cell_at rs page))) ≡ (cell_at rs page).width = ap total is ∙ total-divided (width_of (l - 1)) (cell_at rs page).state ∙ w in
+    record {
+      part = width_of (l - 1);
+      some = width_pos (l - 1);
+      width = sym w;
+      inside = λ k o m b.
+          let lt : k * width_of (l - 1) + o < (cell_at rs page).width = omega (arith, most (width_of (l - 1)) k m) in
+          changed_inside in_parts rs page (k * width_of (l - 1) + o) h t lt ∙ ap (λ qs. cell_at qs (k * width_of (l - 1) + o)) is ∙ cell_at-divided (width_of (l - 1)) k o (k * width_of (l - 1) + o) (cell_at rs page).state m b refl;
+      outside = λ p o. changed_outside in_parts rs page p h t o;
+    }
+  where
+    most : (n k : ℕ) → k < 512 → k * n + n ≤ 512 * n
+    most n k h = part_ends n k h
+
+-- the part of a slot that a page is in
+pub record IsPart (rs : List Run) (page part p : ℕ) : Type 0 where
+  pub k : ℕ
+  pub o : ℕ
+  pub k_in : k < 512
+  pub o_in : o < part
+  pub is : p ≡ start_of rs page + (k * part + o)
+
+pub part_of : (rs qs : List Run) (page p : ℕ) (e : IsExpanded rs qs page) → start_of rs page ≤ p → p < start_of rs page + (cell_at rs page).width → IsPart rs page e.part p
+part_of rs qs page p e a b =
+    let w = e.width in
+    let at = place_index e.part (p - start_of rs page) e.some (omega arith) in
+    record { k = at.0; o = p - start_of rs page - at.0 * e.part; k_in = at.1; o_in = omega (arith, at.2, at.3); is = omega (arith, at.2) }
+
+-- a page is in the slot or outside it
+pub in_or_out : (rs : List Run) (page p : ℕ) → ((start_of rs page ≤ p) × (p < start_of rs page + (cell_at rs page).width)) ⊎ ((p < start_of rs page) ⊎ (start_of rs page + (cell_at rs page).width ≤ p))
+in_or_out rs page p = ⊎_elim
+    (λ (l : p < start_of rs page). inr (inl l))
+    (λ (l : start_of rs page ≤ p). ⊎_elim (λ (m : p < start_of rs page + (cell_at rs page).width). inl (l, m)) (λ m. inr (inr m)) (cases_lt p (start_of rs page + (cell_at rs page).width)))
+    (cases_lt p (start_of rs page))
+
+pub info_kept : (rs qs : List Run) (page : ℕ) → IsExpanded rs qs page → (p : ℕ) → (slots_of qs).info p ≡ (slots_of rs).info p
+info_kept rs qs page e p = ⊎_elim (λ b. here b.0 b.1) (λ o. ap (λ (c : Cell). info_from c.state.info c.offset) (e.outside p o)) (in_or_out rs page p)
+  where
+    here : start_of rs page ≤ p → p < start_of rs page + (cell_at rs page).width → (slots_of qs).info p ≡ (slots_of rs).info p
+    here a b =
+        let at = part_of rs qs page p e a b in
+        let n : at.k * e.part + at.o ≡ p - start_of rs page = omega (arith, at.is) in
+        ap (λ (c : Cell). info_from c.state.info c.offset) (ap (cell_at qs) at.is ∙ e.inside at.k at.o at.k_in at.o_in)
+        ∙ info_from_twice (cell_at rs page).state.info (at.k * e.part) at.o
+        ∙ ap (info_from (cell_at rs page).state.info) n
+        ∙ ap (λ (c : Cell). info_from c.state.info c.offset) (sym (cell_of rs page p a b))
+
+pub owner_kept : (rs qs : List Run) (page : ℕ) → IsExpanded rs qs page → (p : ℕ) → (slots_of qs).owner p ≡ (slots_of rs).owner p
+owner_kept rs qs page e p = ⊎_elim (λ b. here b.0 b.1) (λ o. ap (λ (c : Cell). c.state.owner) (e.outside p o)) (in_or_out rs page p)
+  where
+    here : start_of rs page ≤ p → p < start_of rs page + (cell_at rs page).width → (slots_of qs).owner p ≡ (slots_of rs).owner p
+    here a b =
+        let at = part_of rs qs page p e a b in
+        ap (λ (c : Cell). c.state.owner) (ap (cell_at qs) at.is ∙ e.inside at.k at.o at.k_in at.o_in) ∙ ap (λ (c : Cell). c.state.owner) (sym (cell_of rs page p a b))
+
+edges_kept : (rs qs : List Run) (page : ℕ) → IsExpanded rs qs page → (p : ℕ) → (slots_of rs).edge p ≡ true → (slots_of qs).edge p ≡ true
+edges_kept rs qs page e p h = ⊎_elim (λ b. here b.0 b.1) (λ o. ap (λ (c : Cell). c.offset == 0) (e.outside p o) ∙ h) (in_or_out rs page p)
+  where
+    here : start_of rs page ≤ p → p < start_of rs page + (cell_at rs page).width → (slots_of qs).edge p ≡ true
+    here a b =
+        let zero : p - start_of rs page ≡ 0 = sym (ap (λ (c : Cell). c.offset) (cell_of rs page p a b)) ∙ from_test _ _ h in
+        let first : p ≡ start_of rs page + (0 * e.part + 0) = omega arith in
+        same_test _ _ (ap (λ (c : Cell). c.offset) (ap (cell_at qs) first ∙ e.inside 0 0 (omega arith) e.some))
+
+pub divides : (rs qs : List Run) (page : ℕ) (e : IsExpanded rs qs page) → Divides (slots_of rs) (slots_of qs) (cell_at rs page).state.owner (start_of rs page + e.part)
+divides rs qs page e = record {
+  info = λ j p. info_kept rs qs page e p j;
+  owners = λ j p. owner_kept rs qs page e p j;
+  kept = edges_kept rs qs page e;
+  was_inside =
+      let w = e.width in
+      let some = e.some in
+      let cell = cell_of rs page (start_of rs page + e.part) (omega arith) (omega arith) in
+      other_test _ _ (λ zero. let off = sym (ap (λ (c : Cell). c.offset) cell) ∙ zero in absurd (omega arith));
+  begins =
+      let at : start_of rs page + e.part ≡ start_of rs page + (1 * e.part + 0) = omega arith in
+      same_test _ _ (ap (λ (c : Cell). c.offset) (ap (cell_at qs) at ∙ e.inside 1 0 (omega arith) e.some));
+  elsewhere = λ p other. ⊎_elim
+      (λ b. absurd (other (ap (λ (c : Cell). c.state.owner) (cell_of rs page p b.0 b.1))))
+      (λ o. ap (λ (c : Cell). c.offset == 0) (e.outside p o))
+      (in_or_out rs page p);
+}
+
+-- ---- a tree whose slot was expanded
+
+no_state_from : (n : ℕ) → state_from no_state n ≡ no_state
+no_state_from n = refl
+
+state_kept : (rs qs : List Run) (page : ℕ) → IsExpanded rs qs page → (p : ℕ) → (cell_at rs p).state ≡ no_state → (cell_at qs p).state ≡ no_state
+state_kept rs qs page e p h = ⊎_elim (λ b. here b.0 b.1) (λ o. ap (λ (c : Cell). c.state) (e.outside p o) ∙ h) (in_or_out rs page p)
+  where
+    here : start_of rs page ≤ p → p < start_of rs page + (cell_at rs page).width → (cell_at qs p).state ≡ no_state
+    here a b =
+        let at = part_of rs qs page p e a b in
+        let none : (cell_at rs page).state ≡ no_state = ap (λ (c : Cell). c.state) (sym (cell_of rs page p a b)) ∙ h in
+        ap (λ (c : Cell). c.state) (ap (cell_at qs) at.is ∙ e.inside at.k at.o at.k_in at.o_in) ∙ ap (λ s. state_from s (at.k * e.part)) none ∙ no_state_from (at.k * e.part)
+
+pub tree_expanded : (v u : Parts) → IsRadix v → (page : ℕ) → page < 2 ^ 36 → 1 < (cell_at (runs v) page).width → runs u ≡ with_run in_parts (runs v) page → IsExpanded (runs v) (runs u) page
+tree_expanded v u ok page h large e =
+    let n = pages_are v ok in
+    subst (λ qs. IsExpanded (runs v) qs page) (sym e) (expanded (runs v) v.level page (omega (arith, ok.whole.pages_are)) (cell_ok v ok page h) large)
+
+pub expanded-IsRadix : (v u : Parts) → IsRadix v → (page : ℕ) → IsExpanded (runs v) (runs u) page → u.level ≡ v.level → IsWhole u.level (512 * width_of u.level) (runs u) → IsRadix u
+expanded-IsRadix v u ok page e same whole = record {
+  top = same ∙ ok.top;
+  whole = whole;
+  outside = λ p h. state_kept (runs v) (runs u) page e p (ok.outside p h);
+}
+
+pub divides_at : (v u : Parts) → IsRadix v → (page : ℕ) → IsPage page → IsExpanded (runs v) (runs u) page → DividesAt (tree_slots v) (tree_slots u) page
+divides_at v u ok page valid e =
+    let rs = runs v in
+    let c = cell_in rs page in
+    let w = e.width in
+    let some = e.some in
+    let limit = slot_by_edge (tree_slots v) (start_of rs page) (start_of rs page + (cell_at rs page).width) (2 ^ 35) (is_slot rs page) (tree-is_slot_map v ok).limit (omega (arith, valid.1)) in
+    record {
+      at = start_of rs page + e.part;
+      is_page = (omega arith, omega arith);
+      divides = divides rs (runs u) page e;
+    }
+
+-- ---- a tree whose slots were joined
+
+pub joins_back : (s t : Slots) (at : ℕ) → Divides t s None at → Joins s t
+joins_back s t at d = record {
+  info = sym d.info;
+  owners = sym d.owners;
+  kept = λ p h. kept p (t.edge p) refl h;
+  elsewhere = λ p h. sym (d.elsewhere p (λ none. h (owner p ∙ none)));
+  removed = (at, d.begins, d.was_inside);
+}
+  where
+    owner : (p : ℕ) → s.owner p ≡ t.owner p
+    owner p = λ j. d.owners j p
+
+    two : (b : Bool) → b ≡ false → b ≡ true → ⊥
+    two b e f = cc
+
+    kept : (p : ℕ) (b : Bool) → t.edge p ≡ b → s.edge p ≡ false → t.edge p ≡ false
+    kept p true e h = absurd (two _ h (d.kept p e))
+    kept p false e h = e
+
+pub tree_folded : (v u : Parts) → IsRadix v → (page : ℕ) → page < 2 ^ 36 → u.level ≡ v.level → IsWhole u.level (512 * width_of u.level) (runs u) → Folds (runs v) (runs u) page → IsExpanded (runs u) (runs v) page
+tree_folded v u ok page h same whole f =
+    let n = pages_are v ok in
+    let m : 512 * width_of u.level ≡ 2 ^ 36 = ap (λ k. 512 * width_of k) same ∙ n in
+    subst (λ qs. IsExpanded (runs u) qs page) (sym f.parts) (expanded (runs u) u.level page (omega (arith, whole.pages_are)) (whole.cells page (omega arith)) f.large)
+
+info_none : (o : Option PageInfo) (n : ℕ) → info_from o n ≡ None → o ≡ None
+info_none None n h = refl
+info_none (Some i) n h = cc
+
+no_state_back : (s : State) (n : ℕ) → state_from s n ≡ no_state → s ≡ no_state
+no_state_back s n h =
+    let i = info_none s.info n (ap (λ (s : State). s.info) h) in
+    let o = ap (λ (s : State). s.owner) h in
+    ap (λ x. record { info = x; owner = s.owner }) i ∙ ap (λ x. record { info = None; owner = x }) o
+
+pub folded-IsRadix : (v u : Parts) → IsRadix v → (page : ℕ) → IsExpanded (runs u) (runs v) page → u.level ≡ v.level → IsWhole u.level (512 * width_of u.level) (runs u) → IsRadix u
+folded-IsRadix v u ok page e same whole = record {
+  top = same ∙ ok.top;
+  whole = whole;
+  outside = λ p h. ⊎_elim (λ b. here p h b.0 b.1) (λ o. ap (λ (c : Cell). c.state) (sym (e.outside p o)) ∙ ok.outside p h) (in_or_out (runs u) page p);
+}
+  where
+    here : (p : ℕ) → ¬ IsPage p → start_of (runs u) page ≤ p → p < start_of (runs u) page + (cell_at (runs u) page).width → (cell_at (runs u) p).state ≡ no_state
+    here p h a b =
+        let at = part_of (runs u) (runs v) page p e a b in
+        let none = sym (ap (λ (c : Cell). c.state) (ap (cell_at (runs v)) at.is ∙ e.inside at.k at.o at.k_in at.o_in)) ∙ ok.outside p h in
+        ap (λ (c : Cell). c.state) (cell_of (runs u) page p a b) ∙ no_state_back (cell_at (runs u) page).state (at.k * e.part) none
+
+pub folded-Joins : (v u : Parts) (page : ℕ) → IsPlain (cell_at (runs u) page).state → IsExpanded (runs u) (runs v) page → Joins (tree_slots v) (tree_slots u)
+folded-Joins v u page plain e =
+    joins_back (tree_slots v) (tree_slots u) (start_of (runs u) page + e.part) (subst (λ o. Divides (tree_slots u) (tree_slots v) o (start_of (runs u) page + e.part)) plain.free (divides (runs u) (runs v) page e))
+
+pub same_or_expanded : {X E : Type 0} {P Q R : Type 0} (r : Result X E) → (P → R) → (Q → R) → OnOk r P → OnErr r Q → R
+same_or_expanded (Ok x) f g h k = f h
+same_or_expanded (Err e) f g h k = g k
+
+-- a slot that isn't the page alone has several pages
+pub several : (rs : List Run) (page : ℕ) → ¬ IsSlot (slots_of rs) page (page + 1) → 1 < (cell_at rs page).width
+several rs page h = ⊎_elim (λ (l : 1 < (cell_at rs page).width). l) (λ (l : (cell_at rs page).width ≤ 1). absurd (h (alone l))) (cases_lt 1 (cell_at rs page).width)
+  where
+    alone : (cell_at rs page).width ≤ 1 → IsSlot (slots_of rs) page (page + 1)
+    alone l =
+        let c = cell_in rs page in
+        let start : start_of rs page ≡ page = omega (arith, c.high) in
+        let end : start_of rs page + (cell_at rs page).width ≡ page + 1 = omega (arith, c.high) in
+        subst (λ n. IsSlot (slots_of rs) page n) end (subst (λ n. IsSlot (slots_of rs) n (start_of rs page + (cell_at rs page).width)) start (is_slot rs page))

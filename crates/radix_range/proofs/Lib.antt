@@ -1,0 +1,5 @@
+pub mod Walks
+pub mod Expansions
+pub mod Sets
+pub mod Changes
+pub mod New

@@ -1,0 +1,21 @@
+use Rattle.std.proofs.Common.{◌≡◌, ◌+◌, ◌<◌, ◌≤◌, Bool, true, false, refl, sym, ap, ◌∙◌, arith}
+use Rattle.std.specs.Prelude.{IsTrue}
+use Rattle.radix_range.specs.Tree.{IsRadix}
+use Rattle.radix_range.proofs.Expansions.{tree_folded, folded-IsRadix, folded-Joins}
+use Rattle.radix_range.proofs.change.fold.Goals as goal
+
+pub returns-clause-tree : goal.returns-clause-tree
+returns-clause-tree g c = by_answer c.fold_at.result
+    (λ yes. folded-IsRadix c.args.root.now c.fold_at.new.self c.requires.tree c.args.page (tree_folded c.args.root.now c.fold_at.new.self c.requires.tree c.args.page (omega (arith, c.requires.page.1)) c.fold_at.ensures.level c.fold_at.ensures.whole (c.fold_at.ensures.folded yes)) c.fold_at.ensures.level c.fold_at.ensures.whole)
+    (λ no. rw (c.fold_at.ensures.same no) c.requires.tree)
+  where
+    no_true : IsTrue false → ⊥
+    no_true h = cc
+
+    by_answer : {R : Type 0} (b : Bool) → (IsTrue b → R) → (¬ IsTrue b → R) → R
+    by_answer true f g = f refl
+    by_answer false f g = g no_true
+
+pub returns-clause-joined : goal.returns-clause-joined
+returns-clause-joined g c = λ yes.
+    folded-Joins c.args.root.now c.fold_at.new.self c.args.page (c.fold_at.ensures.folded yes).plain (tree_folded c.args.root.now c.fold_at.new.self c.requires.tree c.args.page (omega (arith, c.requires.page.1)) c.fold_at.ensures.level c.fold_at.ensures.whole (c.fold_at.ensures.folded yes))

@@ -1,0 +1,8 @@
+use Rattle.std.proofs.Common.{◌≡◌, ◌+◌, ◌-◌, ◌*◌, ◌<◌, ◌^◌, sym, ap, ◌∙◌, subst, rules, arith}
+use Rattle.radix_range.specs.TreeLaws.{is_found, pages_are}
+use Rattle.radix_range.proofs.slot.slot_at.Goals as goal
+
+pub returns : goal.returns
+returns g c =
+    let e = c.descend-found.ensures in
+    rw (e.offset, e.width, e.state) (is_found c.args.root.now c.requires.tree c.args.page c.requires.page)

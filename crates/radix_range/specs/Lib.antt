@@ -1,0 +1,4 @@
+pub mod Tree
+pub mod Found
+pub mod Cells
+pub mod TreeLaws

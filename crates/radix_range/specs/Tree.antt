@@ -1,0 +1,25 @@
+-- What a tree of slots says of each page
+use Rattle.std.specs.Prelude.{◌≡◌, ℕ, ◌*◌, ◌==◌, ◌<◌, ◌≤◌, ◌^◌, List}
+use Rattle.vm_base.specs.Info.{info_from}
+use Rattle.vm_base.specs.Pages.{IsPage}
+use Rattle.slot_lock.specs.Slots.{Slots}
+use Rattle.radix_node.specs.State.{no_state}
+use Rattle.radix_node.specs.Run.{Run, cell_at, width_of, IsWhole}
+use Rattle.radix_node.specs.Node.{Parts, runs}
+
+abbrev pub slots_of : List Run → Slots
+slots_of rs = record {
+  info = λ p. info_from (cell_at rs p).state.info (cell_at rs p).offset;
+  owner = λ p. (cell_at rs p).state.owner;
+  edge = λ p. (cell_at rs p).offset == 0;
+}
+
+-- what the tree below a root says
+abbrev pub tree_slots : Parts → Slots
+tree_slots v = slots_of (runs v)
+
+-- the root has four levels, and what is no page is never mapped and never held
+pub record IsRadix (v : Parts) : Type 0 where
+  pub top : v.level ≡ 3
+  pub whole : IsWhole v.level (512 * width_of v.level) (runs v)
+  pub outside : (p : ℕ) → ¬ IsPage p → (cell_at (runs v) p).state ≡ no_state

@@ -1,0 +1,143 @@
+//! The second slot map: a radix tree.
+ghost use Rattle.std.specs.Prelude.{◌≡◌, ◌≢◌, ℕ, ◌+◌, ◌-◌, ◌^◌, ◌<◌, ◌≤◌, IfOk, OnErr, Option, Some, Bool};
+ghost use Rattle.radix_range.specs.Tree.{IsRadix};
+
+use crate::slot::slot_at;
+use crate::{change, walk};
+use radix_node::Node;
+use slot_lock::{Change, Fit, Got, SlotMap, SlotRead};
+use std::alloc::Allocator;
+use vm_base::info::info_from;
+use vm_base::{CoreId, CoreSet, Meta, NoMemory, PageInfo, PageRange, Prot};
+
+/// A map of slots as a tree of four levels. A slot of the root has 2^27 pages, of the next levels 2^18, 2^9 and 1. The
+/// pages are those of the lower half of the addresses and as many above them, which are never mapped and never held;
+/// nor is page 0. The root is never folded.
+#[derive(Drop)]
+pub struct RadixMap<A: Allocator> {
+    root: Node<A>,
+    ghost ok: { IsRadix root },
+}
+
+impl<A: Allocator + Clone> RadixMap<A> {
+    ghost use Rattle.slot_lock.specs.Slots.{IsNew};
+
+    /// All valid pages unmapped and unheld, in the slots of the root.
+    pub fn new(alloc: A) -> Result<RadixMap<A>, NoMemory>
+        ensures { IfOk result (λ map. IsNew (⟦<RadixMap<A> as SlotRead>⟧.slots map)) }
+    {
+        match Node::new(alloc, 3) {
+            Ok(root) => Ok(RadixMap { root }),
+            Err(e) => Err(e),
+        }
+    }
+}
+
+impl<A: Allocator> SlotRead for RadixMap<A> {
+    ghost use Rattle.radix_range.specs.Tree.{tree_slots};
+    ghost use Rattle.vm_base.specs.Pages.{IsPage};
+
+    ghost slots = { λ m. tree_slots m.root };
+
+    ghost reads = { λ _ p. IsPage p };
+
+    fn page(&self, page: u64) -> Option<PageInfo> {
+        let slot = slot_at(&self.root, page);
+        info_from(slot.state.info(), page - slot.first)
+    }
+
+    fn slot(&self, page: u64) -> PageRange {
+        let slot = slot_at(&self.root, page);
+        PageRange {
+            first: slot.first,
+            end: slot.end,
+        }
+    }
+
+    fn first_free_run(&self, range: PageRange, n: u64) -> Option<u64> {
+        walk::first_free_run(&self.root, range, n)
+    }
+
+    fn recorded(&self, range: PageRange) -> CoreSet {
+        walk::recorded(&self.root, range)
+    }
+
+    fn all_mapped(&self, range: PageRange) -> bool {
+        walk::all_mapped(&self.root, range)
+    }
+}
+
+impl<A: Allocator + Clone> SlotMap for RadixMap<A> {
+    ghost use Rattle.radix_range.specs.TreeLaws.{tree-is_slot_map};
+
+    ghost is_slot_map = { λ m. tree-is_slot_map m.root m.ok };
+
+    ghost reads_all = { λ _ _ h. h };
+
+    fn owner(&self, page: u64) -> Option<CoreId> {
+        slot_at(&self.root, page).state.owner()
+    }
+
+    fn lock_next(&mut self, core: CoreId, cursor: u64, end: u64) -> Result<Got, NoMemory> {
+        let slot = slot_at(&self.root, cursor);
+        let first = slot.first;
+        let slot_end = slot.end;
+        if let Some(owner) = slot.state.owner() {
+            return Ok(Got::Held(owner));
+        }
+        if first < cursor {
+            change::expand(&mut self.root, cursor)?;
+            return Ok(Got::Split);
+        }
+        if end < slot_end {
+            change::expand(&mut self.root, cursor)?;
+            return Ok(Got::Split);
+        }
+        change::set_owner(&mut self.root, cursor, Some(core));
+        Ok(Got::Locked(slot_end))
+    }
+
+    fn cut_next(&mut self, core: CoreId, range: PageRange) -> Result<Fit, NoMemory> {
+        if slot_at(&self.root, range.first).first < range.first {
+            change::expand(&mut self.root, range.first)?;
+            return Ok(Fit::Cut);
+        }
+        if slot_at(&self.root, range.end).first < range.end {
+            change::expand(&mut self.root, range.end - 1)?;
+            return Ok(Fit::Cut);
+        }
+        Ok(Fit::Fits)
+    }
+
+    fn unlock_next(&mut self, core: CoreId, cursor: u64, end: u64) -> u64 {
+        change::set_owner(&mut self.root, cursor, None)
+    }
+
+    fn set_range(&mut self, core: CoreId, range: PageRange, meta: Meta) {
+        change::change(&mut self.root, Change::Put { range, meta });
+    }
+
+    fn clear_range(&mut self, core: CoreId, range: PageRange) {
+        change::change(&mut self.root, Change::Clear { range });
+    }
+
+    fn protect_range(&mut self, core: CoreId, range: PageRange, prot: Prot) {
+        change::change(&mut self.root, Change::Protect { range, prot });
+    }
+
+    fn take_frame(&mut self, core: CoreId, from: u64, end: u64) -> Option<(u64, u32)> {
+        let Some(taken) = walk::first_frame(&self.root, from, end) else {
+            return None;
+        };
+        change::clear_frame(&mut self.root, taken.0);
+        Some(taken)
+    }
+
+    fn set_leaf(&mut self, core: CoreId, page: u64, info: PageInfo) {
+        change::set_info(&mut self.root, page, info);
+    }
+
+    fn fold(&mut self, page: u64) -> bool {
+        change::fold(&mut self.root, page)
+    }
+}
