@@ -11,13 +11,14 @@ use Rattle.slot_lock.proofs.Steps.{slot_by_edge}
 use Rattle.radix_node.specs.State.{State, no_state, state_from, IsPlain}
 use Rattle.radix_node.specs.Run.{Run, Cell, total, cell_at, with_run, in_parts, divided, width_of, level_of, Folds, IsCell, IsWhole}
 use Rattle.radix_node.specs.Node.{Parts, runs}
+use Rattle.radix_node.proofs.Runs.{moved}
 use Rattle.radix_node.proofs.Flat.{place_index, width-below, width_pos}
 use Rattle.radix_node.proofs.Joined.{cell_at-divided, total-divided}
 use Rattle.radix_node.proofs.Divided.{part_ends}
 use Rattle.radix_node.proofs.Folds.{in_parts-is, large_level}
 use Rattle.radix_range.specs.Tree.{slots_of, tree_slots, IsRadix}
 use Rattle.radix_range.specs.Found.{DividesAt}
-use Rattle.radix_range.specs.Cells.{IsIn, moved, cell_in, run_of, start_of, changed_inside, changed_outside}
+use Rattle.radix_range.specs.Cells.{IsIn, cell_in, run_of, start_of, changed_inside, changed_outside}
 use Rattle.radix_range.specs.TreeLaws.{pages_are, cell_ok, is_slot, cell_of, tree-is_slot_map}
 
 -- the page's slot became 512 slots of so many pages
