@@ -17,7 +17,7 @@ use Rattle.radix_node.specs.declared.node.Slot.{Slot}
 use Rattle.radix_node.specs.declared.node.Slot.TheVariants.{Own as OwnSlot, Child}
 use Rattle.radix_node.specs.declared.state.SlotState.{SlotState}
 use Rattle.radix_node.specs.State.{State, state_of, state_from, IsPlain}
-use Rattle.radix_node.specs.Run.{Run, Cell, total, cell_at, width_of, level_of, carried, divided, IsSound, IsWhole, IsCell}
+use Rattle.radix_node.specs.Run.{Run, Cell, total, cell_at, width_of, level_of, carried, divided, IsCarried, IsSound, IsWhole, IsCell}
 use Rattle.radix_node.specs.Node.{Part, Own, Below, runs, runs_of, flatten, owns, owns_divided, IsPart}
 use Rattle.radix_node.specs.Slots.{part_of, parts_of, IsLower, IsNode}
 use Rattle.radix_node.proofs.Runs.{cell_at-here}
@@ -53,7 +53,7 @@ cell_at-divided w k o page s l h e =
 
 -- ---- a node that is what one slot carries on
 
-narrower : (a b : ℕ) → a + 1 ≤ b → width_of a < width_of b
+pub narrower : (a b : ℕ) → a + 1 ≤ b → width_of a < width_of b
 narrower a b h =
     let t : width_of (a + 1) ≡ 512 * width_of a = sym (width-below a (a + 1) refl) in
     let m : ℕ = 2 ^ (9 * (b - (a + 1))) in
@@ -71,25 +71,25 @@ own_cell level (Child b) c lower h e w =
     let width : (cell_at (runs b.value) 0).width ≡ width_of level = ap (λ (c : Cell). c.width) e ∙ w in
     absurd (omega (arith, cell.width_is))
 
-pub divided_slot : {A : Type 0} (level : ℕ) (ss : List (Slot A)) (s : State) → IsNode level ss → flatten (width_of level) (parts_of ss) ≡ divided (width_of level) s → (k : ℕ) (d : Slot A) → k < 512
+pub divided_slot : {A : Type 0} (level : ℕ) (ss : List (Slot A)) (s : State) → IsNode level ss → IsCarried (width_of level) s (flatten (width_of level) (parts_of ss)) → (k : ℕ) (d : Slot A) → k < 512
     → part_of (get_or ss k d) ≡ Own (state_from s (k * width_of level))
 divided_slot level ss s n e k d l =
     let at : IsPlace level (k * width_of level) k 0 = record { slot_in = l; page_is = omega arith; rest_in = width_pos level } in
     let lt : k < length ss = omega (arith, n.full) in
     let lp : k < length (parts_of ss) = omega (arith, length-map ss part_of) in
     let fit = subst (IsPart level) (part_at d (get_or ss k d) n l refl) (n.fit k (part_of d) lp) in
-    let cell = sym (cell_at-part d (get_or ss k d) n at refl) ∙ ap (λ rs. cell_at rs (k * width_of level)) e ∙ cell_at-divided (width_of level) k 0 (k * width_of level) s l (width_pos level) (omega arith) in
+    let cell = sym (cell_at-part d (get_or ss k d) n at refl) ∙ e k l in
     own_cell level (get_or ss k d) _ (n.lower k d lt) fit cell refl
 
 pub own_is : (s t : State) → Own s ≡ Own t → s ≡ t
 own_is s t e = cc
 
-pub first_is : {A : Type 0} (level : ℕ) (ss : List (Slot A)) (s : State) (d : Slot A) (f : SlotState) → IsNode level ss → flatten (width_of level) (parts_of ss) ≡ divided (width_of level) s → OwnSlot f ≡ get_or ss 0 d
+pub first_is : {A : Type 0} (level : ℕ) (ss : List (Slot A)) (s : State) (d : Slot A) (f : SlotState) → IsNode level ss → IsCarried (width_of level) s (flatten (width_of level) (parts_of ss)) → OwnSlot f ≡ get_or ss 0 d
     → state_of f ≡ s
 first_is level ss s d f n e is =
     own_is (state_of f) s (ap part_of is ∙ divided_slot level ss s n e 0 d (omega arith) ∙ ap Own (from_first s (width_of level)))
 
-pub first_no_child : {A : Type 0} (level : ℕ) (ss : List (Slot A)) (s : State) (d : Slot A) (x : Slot A) → IsNode level ss → flatten (width_of level) (parts_of ss) ≡ divided (width_of level) s → x ≡ get_or ss 0 d
+pub first_no_child : {A : Type 0} (level : ℕ) (ss : List (Slot A)) (s : State) (d : Slot A) (x : Slot A) → IsNode level ss → IsCarried (width_of level) s (flatten (width_of level) (parts_of ss)) → x ≡ get_or ss 0 d
     → part_of x ≡ Own s
 first_no_child level ss s d x n e is = ap part_of is ∙ divided_slot level ss s n e 0 d (omega arith) ∙ ap Own (from_first s (width_of level))
 
@@ -145,17 +145,17 @@ below_not_own : (rs : List Run) (s : State) → Below rs ≡ Own s → ⊥
 below_not_own rs s e = cc
 
 -- a node with a child is not what one slot carries on
-pub no_child : {A : Type 0} (level : ℕ) (ss : List (Slot A)) (s : State) (d : Slot A) (x : Slot A) (b : Box (Node A) A) → IsNode level ss → flatten (width_of level) (parts_of ss) ≡ divided (width_of level) s → x ≡ get_or ss 0 d
+pub no_child : {A : Type 0} (level : ℕ) (ss : List (Slot A)) (s : State) (d : Slot A) (x : Slot A) (b : Box (Node A) A) → IsNode level ss → IsCarried (width_of level) s (flatten (width_of level) (parts_of ss)) → x ≡ get_or ss 0 d
     → x ≡ Child b → ⊥
 no_child level ss s d x b n e is child = below_not_own (runs b.value) s (sym (ap part_of child) ∙ first_no_child level ss s d x n e is)
 
 -- nor is one whose first slot isn't plain
-pub not_plain : {A : Type 0} (level : ℕ) (ss : List (Slot A)) (s : State) (d : Slot A) (f : SlotState) → IsNode level ss → flatten (width_of level) (parts_of ss) ≡ divided (width_of level) s → OwnSlot f ≡ get_or ss 0 d
+pub not_plain : {A : Type 0} (level : ℕ) (ss : List (Slot A)) (s : State) (d : Slot A) (f : SlotState) → IsNode level ss → IsCarried (width_of level) s (flatten (width_of level) (parts_of ss)) → OwnSlot f ≡ get_or ss 0 d
     → IsPlain s → IsPlain (state_of f)
 not_plain level ss s d f n e is plain = subst IsPlain (sym (first_is level ss s d f n e is)) plain
 
 -- nor is one with a slot that doesn't go on from the first
-pub goes_on_all : {A : Type 0} (level : ℕ) (ss : List (Slot A)) (s : State) (d e : Slot A) (f : SlotState) (k : ℕ) (x : Slot A) → IsNode level ss → flatten (width_of level) (parts_of ss) ≡ divided (width_of level) s → OwnSlot f ≡ get_or ss 0 d
+pub goes_on_all : {A : Type 0} (level : ℕ) (ss : List (Slot A)) (s : State) (d e : Slot A) (f : SlotState) (k : ℕ) (x : Slot A) → IsNode level ss → IsCarried (width_of level) s (flatten (width_of level) (parts_of ss)) → OwnSlot f ≡ get_or ss 0 d
     → k < 512 → x ≡ get_or ss k e → part_of x ≡ Own (state_from (state_of f) (k * width_of level))
 goes_on_all level ss s d e f k x n same is l here =
     ap part_of here ∙ divided_slot level ss s n same k e l ∙ ap (λ t. Own (state_from t (k * width_of level))) (sym (first_is level ss s d f n same is))

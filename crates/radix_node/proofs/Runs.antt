@@ -40,6 +40,28 @@ cell_at-right (x ∷ xs) ys page h =
     let e : page - x.width - total xs ≡ page - (x.width + total xs) = omega arith in
     cell_at-there x (xs ++ ys) page (omega arith) ∙ cell_at-right xs ys (page - x.width) (omega arith) ∙ ap (cell_at ys) e
 
+abbrev pub moved : Cell → ℕ → Cell
+moved c n = record { state = c.state; offset = n; width = c.width }
+
+-- a later page of the same slot
+pub cell_later : (rs : List Run) (page n : ℕ) → (cell_at rs page).offset + n < (cell_at rs page).width → cell_at rs (page + n) ≡ moved (cell_at rs page) ((cell_at rs page).offset + n)
+cell_later [] page n h = let z : 0 ≡ 0 + n = omega arith in ap (moved (cell_at [] page)) z
+cell_later (r ∷ rs) page n h = ⊎_elim (λ (l : page < r.width). here l h) (λ (l : r.width ≤ page). there (cell_later rs (page - r.width) n) l h) (cases_lt page r.width)
+  where
+    here : page < r.width → (cell_at (r ∷ rs) page).offset + n < (cell_at (r ∷ rs) page).width → cell_at (r ∷ rs) (page + n) ≡ moved (cell_at (r ∷ rs) page) ((cell_at (r ∷ rs) page).offset + n)
+    here l h =
+        let e = cell_at-here r rs page l in
+        let m : page + n < r.width = subst (λ (c : Cell). c.offset + n < c.width) e h in
+        cell_at-here r rs (page + n) m ∙ ap (λ (c : Cell). moved c (c.offset + n)) (sym e)
+
+    there : ((cell_at rs (page - r.width)).offset + n < (cell_at rs (page - r.width)).width → cell_at rs (page - r.width + n) ≡ moved (cell_at rs (page - r.width)) ((cell_at rs (page - r.width)).offset + n))
+        → r.width ≤ page → (cell_at (r ∷ rs) page).offset + n < (cell_at (r ∷ rs) page).width → cell_at (r ∷ rs) (page + n) ≡ moved (cell_at (r ∷ rs) page) ((cell_at (r ∷ rs) page).offset + n)
+    there below l h =
+        let e = cell_at-there r rs page l in
+        let m = subst (λ (c : Cell). c.offset + n < c.width) e h in
+        let k : page + n - r.width ≡ page - r.width + n = omega arith in
+        cell_at-there r rs (page + n) (omega arith) ∙ ap (cell_at rs) k ∙ below m ∙ ap (λ (c : Cell). moved c (c.offset + n)) (sym e)
+
 -- ---- a change of one slot
 
 pub with_run-here : (f : Run → List Run) (r : Run) (rs : List Run) (page : ℕ) → page < r.width → with_run f (r ∷ rs) page ≡ f r ++ rs

@@ -2,7 +2,7 @@
 use Rattle.std.specs.Prelude.{◌≡◌, ℕ, ◌-◌, ◌*◌, List, [], ◌∷◌, ◌++◌, map, Option, Some, None, slice_set, slice_get}
 use Rattle.std.specs.List.{range_with_len}
 use Rattle.radix_node.specs.State.{State, state_from, IsPlain}
-use Rattle.radix_node.specs.Run.{Run, width_of, divided, IsSound, IsWhole}
+use Rattle.radix_node.specs.Run.{Run, width_of, divided, IsCarried, IsSound, IsWhole}
 
 pub data Part : Type 0 where
   Own : State → Part
@@ -62,11 +62,14 @@ pub record Expands (old new : Parts) (slot : ℕ) : Type 0 where
 -- the slot is a child whose slots are no children and plain, and carry on what the first says
 pub record CanFold (v : Parts) (slot : ℕ) (s : State) : Type 0 where
   pub plain : IsPlain s
-  pub child : slice_get v.parts slot ≡ Some (Below (divided (width_of (v.level - 1)) s))
+  pub below : List Run
+  pub child : slice_get v.parts slot ≡ Some (Below below)
+  pub carried : IsCarried (width_of (v.level - 1)) s below
 
 -- the slots of such a child became one
 pub record FoldsSlot (old new : Parts) (slot : ℕ) : Type 0 where
   pub state : State
-  pub could : CanFold old slot state
+  pub plain : IsPlain state
+  pub was : slice_get old.parts slot ≡ Some (Below (divided (width_of (old.level - 1)) state))
   pub same_level : new.level ≡ old.level
   pub parts : new.parts ≡ slice_set old.parts slot (Own state)

@@ -54,11 +54,26 @@ divided w s = carried w s 512
 abbrev pub in_parts : Run → List Run
 in_parts r = divided (r.width / 512) r.state
 
+-- 512 slots of w pages carry on what one slot says
+abbrev pub IsCarried : ℕ → State → List Run → Type 0
+IsCarried w s rs = (k : ℕ) → k < 512 → cell_at rs (k * w) ≡ record { state = state_from s (k * w); offset = 0; width = w }
+
 -- 512 plain slots that carry on what their first says were joined to one
 pub record Folds (old new : List Run) (page : ℕ) : Type 0 where
   pub plain : IsPlain (cell_at new page).state
   pub large : 1 < (cell_at new page).width
   pub parts : old ≡ with_run in_parts new page
+
+-- A node of a lower level than this, which has the page, has no child, and its slots are plain and carry on what the first says
+pub record CanJoin (level : ℕ) (rs : List Run) (page : ℕ) : Type 0 where
+  pub own_level : ℕ
+  pub low : own_level < level
+  pub state : State
+  pub plain : IsPlain state
+  pub before : ℕ
+  pub from : before * width_of (own_level + 1) ≤ page
+  pub until : page < before * width_of (own_level + 1) + width_of (own_level + 1)
+  pub slots : (k : ℕ) → k < 512 → cell_at rs (before * width_of (own_level + 1) + k * width_of own_level) ≡ record { state = state_from state (k * width_of own_level); offset = 0; width = width_of own_level }
 
 -- ---- what holds of each slot
 

@@ -2,7 +2,7 @@
 ghost use Rattle.std.specs.Prelude.{◌≡◌, ℕ, ◌+◌, ◌*◌, ◌-◌, ◌<◌, ◌≤◌, ◌^◌, IfOk, OnOk, OnErr, IfSome, IfNone, IsTrue, ◌↔◌, false, Some, slice_get, slice_set};
 ghost use Rattle.vm_base.specs.Info.{is_leaf, info_file_page};
 ghost use Rattle.radix_node.specs.State.{State, state_of, state_from, no_state, IsPlain};
-ghost use Rattle.radix_node.specs.Run.{width_of, Run, cell_at, with_run, in_state, in_parts, divided, Folds, IsSound, IsWhole};
+ghost use Rattle.radix_node.specs.Run.{width_of, Run, cell_at, with_run, in_state, in_parts, divided, CanJoin, Folds, IsCarried, IsSound, IsWhole};
 ghost use Rattle.radix_node.specs.Slots.{part_of};
 ghost use Rattle.radix_node.specs.Node.{runs, node_of, owns_divided, Own, Below, Expands, IsOwn, IsBelow, CanFold, FoldsSlot};
 
@@ -119,7 +119,7 @@ impl<A: Allocator> Node<A> {
     fn joined(&self) -> Option<SlotState>
         ensures some { IfSome result (λ s. IsPlain (state_of s) × (self.now.parts ≡ owns_divided (width_of self.now.level) (state_of s))) }
         ensures sound { IfSome result (λ s. IsSound (512 * width_of self.now.level) (state_of s)) }
-        ensures none { IfNone result ((s : State) → IsPlain s → ¬ (runs self.now ≡ divided (width_of self.now.level) s)) }
+        ensures none { IfNone result ((s : State) → IsPlain s → ¬ IsCarried (width_of self.now.level) s (runs self.now)) }
     {
         let first = match &self.slots[0] {
             Slot::Own(state) => *state,
@@ -158,11 +158,12 @@ impl<A: Allocator> Node<A> {
         true
     }
 
-    // Tells whether the slot of this node that has the page is a child.
-    fn has_child_at(&self, page: u64) -> bool
+    // Tells whether the page lies in a slot of a node below this one.
+    fn is_below(&self, page: u64) -> bool
         requires { page < 512 * width_of self.now.level }
+        ensures { IsTrue result ↔ ((cell_at (runs self.now) page).width < width_of self.now.level) }
     {
-        self.is_child(place_of(self.level, page).slot)
+        self.descend(page).width < slot_pages(self.level)
     }
 
     /// Folds the deepest node that has the page, where it isn't this one. Answers whether it did.
@@ -172,12 +173,13 @@ impl<A: Allocator> Node<A> {
         ensures whole { IsWhole self.new.level (512 * width_of self.new.level) (runs self.new) }
         ensures folded { IsTrue result → Folds (runs self.old) (runs self.new) page }
         ensures same { ¬ IsTrue result → self.new ≡ self.old }
+        ensures only { ¬ IsTrue result → ¬ CanJoin self.old.level (runs self.old) page }
     {
         let place = place_of(self.level, page);
         match &mut self.slots[place.slot] {
             Slot::Own(_) => false,
             Slot::Child(node) => {
-                if node.has_child_at(place.rest) {
+                if node.is_below(place.rest) {
                     node.fold_at(place.rest)
                 } else {
                     self.fold(place.slot)

@@ -84,64 +84,120 @@ fn fold_at<A: Allocator>(node: &mut Node<A>, page: u64) -> bool {
     node.fold_at(page)
 }
 
-#[test]
-fn an_expansion_carries_on(rt: HostRuntime) -> Result<(), Fail> {
-    let mut node = Node::new(rt.alloc(), 1)?;
-    assert_eq!(rt; look(&node, 1030), Some((None, None, 6, 512)));
+// The slots of six pages before and after the slot of pages 1024 up to 1536 was given a mapping and expanded, and
+// whether it was expanded, expanded once more and folded.
+#[derive(Clone, Copy)]
+struct Expansion {
+    before: [Option<Seen>; 2],
+    after: [Option<Seen>; 5],
+    expanded: [bool; 2],
+    folded: bool,
+}
+
+fn an_expansion<A: Allocator + Clone>(node: &mut Node<A>) -> Result<Expansion, NoMemory> {
+    let empty = look(node, 1030);
     put(
-        &mut node,
+        node,
         1030,
         Some(PageInfo::unused(FILE)),
         Some(CoreId::new(7)),
     );
-    assert_eq!(rt; look(&node, 1030), Some((Some(5), Some(7), 6, 512)));
-    assert!(rt; expand(&mut node, 2)?);
-    assert!(rt; !expand(&mut node, 2)?);
+    let mapped = look(node, 1030);
+    let first = expand(node, 2)?;
+    let second = expand(node, 2)?;
+    let after = [
+        look(node, 1024),
+        look(node, 1030),
+        look(node, 1535),
+        look(node, 1023),
+        look(node, 1536),
+    ];
+    Ok(Expansion {
+        before: [empty, mapped],
+        after,
+        expanded: [first, second],
+        folded: node.fold(2),
+    })
+}
+
+fn expansion_of_new<A: Allocator + Clone>(alloc: A) -> Result<Expansion, NoMemory> {
+    match Node::new(alloc, 1) {
+        Ok(mut node) => an_expansion(&mut node),
+        Err(e) => Err(e),
+    }
+}
+
+#[test]
+fn an_expansion_carries_on(rt: HostRuntime) -> Result<(), Fail> {
+    let told = expansion_of_new(rt.alloc())?;
+    assert_eq!(rt; told.before[0], Some((None, None, 6, 512)));
+    assert_eq!(rt; told.before[1], Some((Some(5), Some(7), 6, 512)));
+    assert_eq!(rt; told.expanded, [true, false]);
     // the slot's first page is 1024, with file page 5
-    assert_eq!(rt; look(&node, 1024), Some((Some(5), Some(7), 0, 1)));
-    assert_eq!(rt; look(&node, 1030), Some((Some(11), Some(7), 0, 1)));
-    assert_eq!(rt; look(&node, 1535), Some((Some(516), Some(7), 0, 1)));
-    assert_eq!(rt; look(&node, 1023), Some((None, None, 511, 512)));
-    assert_eq!(rt; look(&node, 1536), Some((None, None, 0, 512)));
+    assert_eq!(rt; told.after[0], Some((Some(5), Some(7), 0, 1)));
+    assert_eq!(rt; told.after[1], Some((Some(11), Some(7), 0, 1)));
+    assert_eq!(rt; told.after[2], Some((Some(516), Some(7), 0, 1)));
+    assert_eq!(rt; told.after[3], Some((None, None, 511, 512)));
+    assert_eq!(rt; told.after[4], Some((None, None, 0, 512)));
     // held slots aren't joined
-    assert!(rt; !node.fold(2));
+    assert!(rt; !told.folded);
     Ok(())
+}
+
+// Whether a node is folded with a gap in it, without one, and once more; and a slot of it then.
+fn folds<A: Allocator + Clone>(node: &mut Node<A>) -> Result<([bool; 3], Option<Seen>), NoMemory> {
+    put(node, 1024, Some(PageInfo::unused(FILE)), None);
+    expand_at(node, 1030)?;
+    put(node, 1030, None, None);
+    let gap = fold_at(node, 1024);
+    let back = Back::Private { file: 3, page: 11 };
+    let meta = Meta { back, ..FILE };
+    put(node, 1030, Some(PageInfo::unused(meta)), None);
+    let whole = fold_at(node, 1535);
+    // the node itself isn't folded
+    let top = fold_at(node, 1535);
+    Ok(([gap, whole, top], look(node, 1030)))
+}
+
+fn folds_of_new<A: Allocator + Clone>(alloc: A) -> Result<([bool; 3], Option<Seen>), NoMemory> {
+    match Node::new(alloc, 1) {
+        Ok(mut node) => folds(&mut node),
+        Err(e) => Err(e),
+    }
 }
 
 #[test]
 fn a_fold_joins_what_goes_on(rt: HostRuntime) -> Result<(), Fail> {
-    let mut node = Node::new(rt.alloc(), 1)?;
-    put(&mut node, 1024, Some(PageInfo::unused(FILE)), None);
-    assert!(rt; expand_at(&mut node, 1030)?);
-    assert!(rt; !expand_at(&mut node, 1030)?);
-    put(&mut node, 1030, None, None);
-    assert!(rt; !fold_at(&mut node, 1024));
-    assert_eq!(rt; look(&node, 1024), Some((Some(5), None, 0, 1)));
-    let back = Back::Private { file: 3, page: 11 };
-    put(
-        &mut node,
-        1030,
-        Some(PageInfo::unused(Meta { back, ..FILE })),
-        None,
-    );
-    assert!(rt; fold_at(&mut node, 1535));
-    assert_eq!(rt; look(&node, 1030), Some((Some(5), None, 6, 512)));
-    // the node itself isn't folded
-    assert!(rt; !fold_at(&mut node, 1535));
+    let told = folds_of_new(rt.alloc())?;
+    assert_eq!(rt; told.0, [false, true, false]);
+    assert_eq!(rt; told.1, Some((Some(5), None, 6, 512)));
     Ok(())
+}
+
+// Whether an expansion is refused in a heap with room for one node, and a slot of the node then.
+fn refusal<A: Allocator + Clone>(heap: A) -> Option<(bool, Option<Seen>)> {
+    match Node::new(heap, 1) {
+        Ok(mut node) => {
+            put(&mut node, 1024, Some(PageInfo::unused(FILE)), None);
+            let refused = if let Err(_) = expand(&mut node, 2) {
+                true
+            } else {
+                false
+            };
+            Some((refused, look(&node, 1030)))
+        }
+        Err(_) => None,
+    }
 }
 
 #[test]
 fn refusals_change_nothing(rt: HostRuntime) -> Result<(), Fail> {
     let none = LocalHeap::new(rt.alloc(), 0)?;
-    assert!(rt; Node::new(&none, 1).is_err());
+    assert!(rt; refusal(&none) == None);
     for pages in 1..100 {
         let heap = LocalHeap::new(rt.alloc(), pages * 4096)?;
-        if let Ok(mut node) = Node::new(&heap, 1) {
-            // room for one node and no more
-            put(&mut node, 1024, Some(PageInfo::unused(FILE)), None);
-            assert!(rt; expand(&mut node, 2).is_err());
-            assert_eq!(rt; look(&node, 1030), Some((Some(5), None, 6, 512)));
+        if let Some(told) = refusal(&heap) {
+            assert!(rt; told == (true, Some((Some(5), None, 6, 512))));
             return Ok(());
         }
     }
@@ -149,20 +205,41 @@ fn refusals_change_nothing(rt: HostRuntime) -> Result<(), Fail> {
     Ok(())
 }
 
-#[test]
-fn a_slot_says_what_it_was_given(rt: HostRuntime) -> Result<(), Fail> {
-    let used = PageInfo {
+fn used() -> PageInfo {
+    PageInfo {
         meta: FILE,
         frame: Some(9),
         cores: CoreSet::empty().with(CoreId::new(2)),
-    };
-    let state = SlotState::new(Some(used), None);
-    assert!(rt; state.info() == Some(used));
-    assert!(rt; state.is_mapped());
-    assert!(rt; !state.is_plain());
+    }
+}
+
+// Whether a used page's slot says what it was given, is mapped, has its frame and its core, and is plain.
+fn a_leaf() -> [bool; 5] {
+    let state = SlotState::new(Some(used()), None);
+    let same = state.info() == Some(used());
+    let core = state.cores().contains(CoreId::new(2));
+    [
+        same,
+        state.is_mapped(),
+        state.frame() == Some(9),
+        core,
+        state.is_plain(),
+    ]
+}
+
+// Whether a mapping that no core has used is plain, goes on from page to page, and from another page.
+fn a_mapping() -> [bool; 3] {
     let plain = SlotState::new(Some(PageInfo::unused(FILE)), None);
-    assert!(rt; plain.is_plain());
-    assert!(rt; plain.goes_on(&plain.advanced(3), 3));
-    assert!(rt; !plain.goes_on(&plain.advanced(3), 4));
+    if !plain.is_plain() {
+        return [false, false, false];
+    }
+    let later = plain.advanced(3);
+    [true, plain.goes_on(&later, 3), plain.goes_on(&later, 4)]
+}
+
+#[test]
+fn a_slot_says_what_it_was_given(rt: HostRuntime) -> Result<(), Fail> {
+    assert_eq!(rt; a_leaf(), [true, true, true, true, false]);
+    assert_eq!(rt; a_mapping(), [true, true, false]);
     Ok(())
 }

@@ -11,25 +11,31 @@ use Rattle.slot_lock.proofs.Steps.{slot_by_edge}
 use Rattle.radix_node.specs.State.{State, no_state, state_from, IsPlain}
 use Rattle.radix_node.specs.Run.{Run, Cell, total, cell_at, with_run, in_parts, divided, width_of, level_of, Folds, IsCell, IsWhole}
 use Rattle.radix_node.specs.Node.{Parts, runs}
+use Rattle.radix_node.proofs.Runs.{moved}
 use Rattle.radix_node.proofs.Flat.{place_index, width-below, width_pos}
 use Rattle.radix_node.proofs.Joined.{cell_at-divided, total-divided}
 use Rattle.radix_node.proofs.Divided.{part_ends}
 use Rattle.radix_node.proofs.Folds.{in_parts-is, large_level}
 use Rattle.radix_range.specs.Tree.{slots_of, tree_slots, IsRadix}
 use Rattle.radix_range.specs.Found.{DividesAt}
-use Rattle.radix_range.specs.Cells.{IsIn, moved, cell_in, run_of, start_of, changed_inside, changed_outside}
+use Rattle.radix_range.specs.Cells.{IsIn, cell_in, run_of, start_of, changed_inside, changed_outside}
 use Rattle.radix_range.specs.TreeLaws.{pages_are, cell_ok, is_slot, cell_of, tree-is_slot_map}
 
 -- the page's slot became 512 slots of so many pages
 pub record IsExpanded (rs qs : List Run) (page : ℕ) : Type 0 where
+  pub level : ℕ
+  pub below_root : level < 3
   pub part : ℕ
+  pub part_is : part ≡ width_of level
+  pub before : ℕ
+  pub start_is : start_of rs page ≡ before * width_of (level + 1)
   pub some : 0 < part
   pub width : (cell_at rs page).width ≡ 512 * part
   pub inside : (k o : ℕ) → k < 512 → o < part → cell_at qs (start_of rs page + (k * part + o)) ≡ record { state = state_from (cell_at rs page).state (k * part); offset = o; width = part }
   pub outside : (p : ℕ) → (p < start_of rs page) ⊎ (start_of rs page + (cell_at rs page).width ≤ p) → cell_at qs p ≡ cell_at rs p
 
-pub expanded : (rs : List Run) (level page : ℕ) → page < total rs → IsCell level page (cell_at rs page) → 1 < (cell_at rs page).width → IsExpanded rs (with_run in_parts rs page) page
-expanded rs level page h c large =
+pub expanded : (rs : List Run) (level page : ℕ) → level ≤ 3 → page < total rs → IsCell level page (cell_at rs page) → 1 < (cell_at rs page).width → IsExpanded rs (with_run in_parts rs page) page
+expanded rs level page top h c large =
     let l : ℕ = level_of (cell_at rs page).width in
     let pos = large_level l (let w = c.width_is in omega arith) in
     let one : l - 1 + 1 ≡ l = omega arith in
@@ -37,8 +43,15 @@ expanded rs level page h c large =
     let is : in_parts (run_of (cell_at rs page)) ≡ divided (width_of (l - 1)) (cell_at rs page).state =
     ap (λ n. in_parts (record { width = n; state = (cell_at rs page).state })) c.width_is ∙ in_parts-is l (l - 1) (cell_at rs page).state one in
     let t : total (in_parts (run_of (cell_at rs page))) ≡ (cell_at rs page).width = ap total is ∙ total-divided (width_of (l - 1)) (cell_at rs page).state ∙ w in
+    let whole : width_of (l - 1 + 1) ≡ (cell_at rs page).width = ap width_of one ∙ sym c.width_is in
+    let place = c.place in
     record {
+      level = l - 1;
+      below_root = omega (arith, c.low);
       part = width_of (l - 1);
+      part_is = refl;
+      before = page / (cell_at rs page).width;
+      start_is = (let e : start_of rs page ≡ page / (cell_at rs page).width * (cell_at rs page).width = omega arith in e) ∙ ap (λ n. page / (cell_at rs page).width * n) (sym whole);
       some = width_pos (l - 1);
       width = sym w;
       inside = λ k o m b.
@@ -136,7 +149,7 @@ state_kept rs qs page e p h = ⊎_elim (λ b. here b.0 b.1) (λ o. ap (λ (c : C
 pub tree_expanded : (v u : Parts) → IsRadix v → (page : ℕ) → page < 2 ^ 36 → 1 < (cell_at (runs v) page).width → runs u ≡ with_run in_parts (runs v) page → IsExpanded (runs v) (runs u) page
 tree_expanded v u ok page h large e =
     let n = pages_are v ok in
-    subst (λ qs. IsExpanded (runs v) qs page) (sym e) (expanded (runs v) v.level page (omega (arith, ok.whole.pages_are)) (cell_ok v ok page h) large)
+    subst (λ qs. IsExpanded (runs v) qs page) (sym e) (expanded (runs v) v.level page (let t = ok.top in omega arith) (omega (arith, ok.whole.pages_are)) (cell_ok v ok page h) large)
 
 pub expanded-IsRadix : (v u : Parts) → IsRadix v → (page : ℕ) → IsExpanded (runs v) (runs u) page → u.level ≡ v.level → IsWhole u.level (512 * width_of u.level) (runs u) → IsRadix u
 expanded-IsRadix v u ok page e same whole = record {
@@ -183,7 +196,7 @@ pub tree_folded : (v u : Parts) → IsRadix v → (page : ℕ) → page < 2 ^ 36
 tree_folded v u ok page h same whole f =
     let n = pages_are v ok in
     let m : 512 * width_of u.level ≡ 2 ^ 36 = ap (λ k. 512 * width_of k) same ∙ n in
-    subst (λ qs. IsExpanded (runs u) qs page) (sym f.parts) (expanded (runs u) u.level page (omega (arith, whole.pages_are)) (whole.cells page (omega arith)) f.large)
+    subst (λ qs. IsExpanded (runs u) qs page) (sym f.parts) (expanded (runs u) u.level page (let t = ok.top in omega arith) (omega (arith, whole.pages_are)) (whole.cells page (omega arith)) f.large)
 
 info_none : (o : Option PageInfo) (n : ℕ) → info_from o n ≡ None → o ≡ None
 info_none None n h = refl

@@ -3,3 +3,4 @@ pub mod Expansions
 pub mod Sets
 pub mod Changes
 pub mod New
+pub mod NodeFolds

@@ -2,10 +2,7 @@
 use Rattle.std.proofs.Common.{◌≡◌, ◌≢◌, ◌⊎◌, inl, inr, ⊎_elim, ℕ, ◌+◌, ◌-◌, ◌*◌, ◌<◌, ◌≤◌, List, [], ◌∷◌, ◌++◌, refl, sym, ap, ◌∙◌, subst, arith}
 use Rattle.std.proofs.lemmas.Bool.{cases_lt}
 use Rattle.radix_node.specs.Run.{Run, Cell, total, cell_at, with_run}
-use Rattle.radix_node.proofs.Runs.{cell_at-here, cell_at-there, cell_at-left, cell_at-right, with_run-here, with_run-there}
-
-abbrev pub moved : Cell → ℕ → Cell
-moved c n = record { state = c.state; offset = n; width = c.width }
+use Rattle.radix_node.proofs.Runs.{moved, cell_later, cell_at-here, cell_at-there, cell_at-left, cell_at-right, with_run-here, with_run-there}
 
 -- a page lies in its slot
 pub record IsIn (page : ℕ) (c : Cell) : Type 0 where
@@ -18,25 +15,6 @@ cell_in (r ∷ rs) page = ⊎_elim
     (λ (l : page < r.width). subst (IsIn page) (sym (cell_at-here r rs page l)) (record { low = omega arith; high = l }))
     (λ (l : r.width ≤ page). let c = cell_in rs (page - r.width) in subst (IsIn page) (sym (cell_at-there r rs page l)) (record { low = omega (arith, c.low); high = c.high }))
     (cases_lt page r.width)
-
--- a later page of the same slot
-pub cell_later : (rs : List Run) (page n : ℕ) → (cell_at rs page).offset + n < (cell_at rs page).width → cell_at rs (page + n) ≡ moved (cell_at rs page) ((cell_at rs page).offset + n)
-cell_later [] page n h = let z : 0 ≡ 0 + n = omega arith in ap (moved (cell_at [] page)) z
-cell_later (r ∷ rs) page n h = ⊎_elim (λ (l : page < r.width). here l h) (λ (l : r.width ≤ page). there (cell_later rs (page - r.width) n) l h) (cases_lt page r.width)
-  where
-    here : page < r.width → (cell_at (r ∷ rs) page).offset + n < (cell_at (r ∷ rs) page).width → cell_at (r ∷ rs) (page + n) ≡ moved (cell_at (r ∷ rs) page) ((cell_at (r ∷ rs) page).offset + n)
-    here l h =
-        let e = cell_at-here r rs page l in
-        let m : page + n < r.width = subst (λ (c : Cell). c.offset + n < c.width) e h in
-        cell_at-here r rs (page + n) m ∙ ap (λ (c : Cell). moved c (c.offset + n)) (sym e)
-
-    there : ((cell_at rs (page - r.width)).offset + n < (cell_at rs (page - r.width)).width → cell_at rs (page - r.width + n) ≡ moved (cell_at rs (page - r.width)) ((cell_at rs (page - r.width)).offset + n))
-        → r.width ≤ page → (cell_at (r ∷ rs) page).offset + n < (cell_at (r ∷ rs) page).width → cell_at (r ∷ rs) (page + n) ≡ moved (cell_at (r ∷ rs) page) ((cell_at (r ∷ rs) page).offset + n)
-    there below l h =
-        let e = cell_at-there r rs page l in
-        let m = subst (λ (c : Cell). c.offset + n < c.width) e h in
-        let k : page + n - r.width ≡ page - r.width + n = omega arith in
-        cell_at-there r rs (page + n) (omega arith) ∙ ap (cell_at rs) k ∙ below m ∙ ap (λ (c : Cell). moved c (c.offset + n)) (sym e)
 
 -- an earlier page of the same slot
 pub cell_earlier : (rs : List Run) (page n : ℕ) → n ≤ (cell_at rs page).offset → cell_at rs (page - n) ≡ moved (cell_at rs page) ((cell_at rs page).offset - n)

@@ -1,4 +1,5 @@
 pub mod Tree
 pub mod Found
+pub mod Folds
 pub mod Cells
 pub mod TreeLaws

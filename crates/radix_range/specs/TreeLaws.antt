@@ -11,10 +11,10 @@ use Rattle.slot_lock.specs.RunLaws.{info_from_twice, is_leaf-info_from, same_tes
 use Rattle.radix_node.specs.State.{State, no_state}
 use Rattle.radix_node.specs.Run.{Run, Cell, total, cell_at, width_of, level_of, IsCell, IsWhole, IsSound}
 use Rattle.radix_node.specs.Node.{Parts, runs}
-use Rattle.radix_node.proofs.Runs.{cell_at-past}
+use Rattle.radix_node.proofs.Runs.{moved, cell_later, cell_at-past}
 use Rattle.radix_range.specs.Tree.{slots_of, tree_slots, IsRadix}
 use Rattle.radix_range.specs.Found.{IsFound}
-use Rattle.radix_range.specs.Cells.{IsIn, moved, cell_in, cell_later, cell_earlier, cell_after, start_of}
+use Rattle.radix_range.specs.Cells.{IsIn, cell_in, cell_earlier, cell_after, start_of}
 
 -- ---- sizes
 

@@ -8,6 +8,7 @@ ghost use Rattle.slot_lock.specs.RunSlots.{changed};
 ghost use Rattle.radix_node.specs.State.{state_of};
 ghost use Rattle.radix_node.specs.Run.{IsSound};
 ghost use Rattle.radix_range.specs.Tree.{IsRadix, tree_slots};
+ghost use Rattle.radix_range.specs.Folds.{CanFold, FoldsNode};
 ghost use Rattle.radix_range.specs.Found.{DividesAt, anew, changed_to, restated};
 
 use crate::slot::slot_at;
@@ -169,6 +170,8 @@ pub fn fold<A: Allocator>(root: &mut Node<A>, page: u64) -> bool
     ensures tree { IsRadix root.new }
     ensures joined { IsTrue result → Joins (tree_slots root.old) (tree_slots root.new) }
     ensures same { ¬ IsTrue result → root.new ≡ root.old }
+    ensures exact { IsTrue result → FoldsNode (tree_slots root.old) (tree_slots root.new) page }
+    ensures only { ¬ IsTrue result → ¬ CanFold (tree_slots root.old) page }
 {
     root.fold_at(page)
 }

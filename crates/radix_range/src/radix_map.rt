@@ -68,7 +68,11 @@ impl<A: Allocator> SlotRead for RadixMap<A> {
 }
 
 impl<A: Allocator + Clone> SlotMap for RadixMap<A> {
+    ghost use Rattle.std.specs.Prelude.{◌≡◌, ℕ, IsTrue};
+    ghost use Rattle.vm_base.specs.Pages.{IsPage};
+    ghost use Rattle.slot_lock.specs.Slots.{Joins};
     ghost use Rattle.radix_range.specs.TreeLaws.{tree-is_slot_map};
+    ghost use Rattle.radix_range.specs.Folds.{CanFold, FoldsNode};
 
     ghost is_slot_map = { λ m. tree-is_slot_map m.root m.ok };
 
@@ -137,7 +141,16 @@ impl<A: Allocator + Clone> SlotMap for RadixMap<A> {
         change::set_info(&mut self.root, page, info);
     }
 
-    fn fold(&mut self, page: u64) -> bool {
+    /// Folds the deepest node that has the page, where it isn't the root, none of its slots is a node, nobody holds them,
+    /// they have no frame and no recorded core, and they are all unmapped or each goes on from the one before. Answers
+    /// whether it did.
+    fn fold(&mut self, page: u64) -> bool
+        requires { IsPage page }
+        ensures joined { IsTrue result → Joins (⟦<RadixMap<A> as SlotRead>⟧.slots self.old) (⟦<RadixMap<A> as SlotRead>⟧.slots self.new) }
+        ensures same { ¬ IsTrue result → ⟦<RadixMap<A> as SlotRead>⟧.slots self.new ≡ ⟦<RadixMap<A> as SlotRead>⟧.slots self.old }
+        ensures exact { IsTrue result → FoldsNode (⟦<RadixMap<A> as SlotRead>⟧.slots self.old) (⟦<RadixMap<A> as SlotRead>⟧.slots self.new) page }
+        ensures only { ¬ IsTrue result → ¬ CanFold (⟦<RadixMap<A> as SlotRead>⟧.slots self.old) page }
+    {
         change::fold(&mut self.root, page)
     }
 }

@@ -424,7 +424,8 @@ fn refusals_change_nothing(rt: HostRuntime) -> Result<(), Fail> {
     for pages in 1..100 {
         let heap = LocalHeap::new(rt.alloc(), pages * 4096)?;
         if let Ok(mut tree) = RadixMap::new(&heap) {
-            // room for the root and no more
+            // room for the root and no more: 64 bytes for each of its 512 slots at most
+            assert!(rt; pages <= 9);
             let before = seen(&tree);
             assert!(rt; acquired(&mut tree, core, one_page(16), 5).is_err());
             assert!(rt; seen(&tree) == before);

@@ -2,6 +2,7 @@ use Rattle.std.proofs.Common.{◌≡◌, ◌+◌, ◌<◌, ◌≤◌, Bool, true
 use Rattle.std.specs.Prelude.{IsTrue}
 use Rattle.radix_range.specs.Tree.{IsRadix}
 use Rattle.radix_range.proofs.Expansions.{tree_folded, folded-IsRadix, folded-Joins}
+use Rattle.radix_range.proofs.NodeFolds.{folds_node, can_join}
 use Rattle.radix_range.proofs.change.fold.Goals as goal
 
 pub returns-clause-tree : goal.returns-clause-tree
@@ -19,3 +20,10 @@ returns-clause-tree g c = by_answer c.fold_at.result
 pub returns-clause-joined : goal.returns-clause-joined
 returns-clause-joined g c = λ yes.
     folded-Joins c.args.root.now c.fold_at.new.self c.args.page (c.fold_at.ensures.folded yes).plain (tree_folded c.args.root.now c.fold_at.new.self c.requires.tree c.args.page (omega (arith, c.requires.page.1)) c.fold_at.ensures.level c.fold_at.ensures.whole (c.fold_at.ensures.folded yes))
+
+pub returns-clause-exact : goal.returns-clause-exact
+returns-clause-exact g c = λ yes.
+    folds_node c.args.root.now c.fold_at.new.self c.args.page (c.fold_at.ensures.folded yes).plain (tree_folded c.args.root.now c.fold_at.new.self c.requires.tree c.args.page (omega (arith, c.requires.page.1)) c.fold_at.ensures.level c.fold_at.ensures.whole (c.fold_at.ensures.folded yes))
+
+pub returns-clause-only : goal.returns-clause-only
+returns-clause-only g c = λ no can. c.fold_at.ensures.only no (can_join c.args.root.now c.requires.tree c.args.page can)

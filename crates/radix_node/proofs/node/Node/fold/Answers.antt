@@ -1,6 +1,6 @@
 use Rattle.std.proofs.Common.{◌≡◌, ◌*◌, sym, ap, ◌∙◌, subst, rules, get_or, arith}
 use Rattle.radix_node.proofs.Flat.{whole-node}
-use Rattle.radix_node.proofs.Folds.{own_no_fold, child_divided, fold_node, folds_slot}
+use Rattle.radix_node.proofs.Folds.{own_no_fold, child_carried, fold_node, folds_slot}
 use Rattle.radix_node.proofs.node.Node.fold.Goals as goal
 
 pub returns-in-Own-clause-whole : goal.returns-in-Own-clause-whole
@@ -15,7 +15,7 @@ returns-in_default-clause-whole g c = rw (← c.self.view_is) (whole-node c.self
 
 pub returns-in_default-clause-only : goal.returns-in_default-clause-only
 returns-in_default-clause-only g c = λ _ s can.
-    let e = child_divided c.self.inside.level c.args.slot c.self.inside.slots.items _ c.in-Child.node c.deref.result.now _ c.self.invariant c.requires (sym c.in-Child.is ∙ c.index.ensures) c.self.view_is c.deref.ensures s can in
+    let e = child_carried c.self.inside.level c.args.slot c.self.inside.slots.items _ c.in-Child.node c.deref.result.now _ c.self.invariant c.requires (sym c.in-Child.is ∙ c.index.ensures) c.self.view_is c.deref.ensures s can in
     c.in_default.ensures.none s can.plain e
 
 pub invariant_of-self : goal.invariant_of-self

@@ -1,17 +1,17 @@
-use Rattle.std.proofs.Common.{◌≡◌, ℕ, ◌+◌, ◌*◌, sym, ap, ◌∙◌, get_or, arith, rules}
+use Rattle.std.proofs.Common.{◌≡◌, ℕ, ◌+◌, ◌*◌, sym, ap, ◌∙◌, get_or, subst, arith, rules}
 use Rattle.radix_node.specs.State.{state_of, state_from, IsPlain}
-use Rattle.radix_node.specs.Run.{width_of, divided}
+use Rattle.radix_node.specs.Run.{width_of, IsCarried}
 use Rattle.radix_node.specs.Node.{Parts, Own, runs}
 use Rattle.radix_node.proofs.Joined.{no_child, not_plain, first_fits, goes_on_all, joins-all, joined_sound, joins-next}
 use Rattle.radix_node.proofs.node.Node.joined.Goals as goal
 
 pub returns-in-Child-clause-none : goal.returns-in-Child-clause-none
 returns-in-Child-clause-none g c = λ s plain e.
-    no_child c.self.inside.level c.self.inside.slots.items s _ c.index.result.now c.in-Child.field-0 c.self.invariant (ap runs c.self.view_is ∙ e ∙ ap (λ (v : Parts). divided (width_of v.level) s) (sym c.self.view_is)) c.index.ensures c.in-Child.is
+    no_child c.self.inside.level c.self.inside.slots.items s _ c.index.result.now c.in-Child.field-0 c.self.invariant (subst (λ (v : Parts). IsCarried (width_of v.level) s (runs v)) (sym c.self.view_is) e) c.index.ensures c.in-Child.is
 
 pub returns-then-not-is_plain-clause-none : goal.returns-then-not-is_plain-clause-none
 returns-then-not-is_plain-clause-none g c = λ s plain e.
-    let first = not_plain c.self.inside.level c.self.inside.slots.items s _ c.in-Own.state c.self.invariant (ap runs c.self.view_is ∙ e ∙ ap (λ (v : Parts). divided (width_of v.level) s) (sym c.self.view_is)) (sym c.in-Own.is ∙ c.index.ensures) plain in
+    let first = not_plain c.self.inside.level c.self.inside.slots.items s _ c.in-Own.state c.self.invariant (subst (λ (v : Parts). IsCarried (width_of v.level) s (runs v)) (sym c.self.view_is) e) (sym c.in-Own.is ∙ c.index.ensures) plain in
     search rules
 
 pub goes_on-requires-clause-fits : goal.goes_on-requires-clause-fits
@@ -20,7 +20,7 @@ goes_on-requires-clause-fits g c =
 
 pub returns-then-not-goes_on-clause-none : goal.returns-then-not-goes_on-clause-none
 returns-then-not-goes_on-clause-none g c = λ s plain e.
-    let on = goes_on_all c.self.inside.level c.self.inside.slots.items s _ _ c.in-Own.state c.slots.k c.index-in-slots.result.now c.self.invariant (ap runs c.self.view_is ∙ e ∙ ap (λ (v : Parts). divided (width_of v.level) s) (sym c.self.view_is)) (sym c.in-Own.is ∙ c.index.ensures) c.slots-test.true c.index-in-slots.ensures in
+    let on = goes_on_all c.self.inside.level c.self.inside.slots.items s _ _ c.in-Own.state c.slots.k c.index-in-slots.result.now c.self.invariant (subst (λ (v : Parts). IsCarried (width_of v.level) s (runs v)) (sym c.self.view_is) e) (sym c.in-Own.is ∙ c.index.ensures) c.slots-test.true c.index-in-slots.ensures in
     let here = on ∙ ap (λ w. Own (state_from (state_of c.in-Own.state) (c.slots.k * w))) (sym c.slots.invariant.1) in
     search rules
 

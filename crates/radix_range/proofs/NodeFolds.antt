@@ -1,0 +1,139 @@
+-- A folded node, and one that can't be folded
+use Rattle.std.proofs.Common.{◌≡◌, ℕ, ◌+◌, ◌-◌, ◌*◌, ◌^◌, ◌<◌, ◌≤◌, ◌==◌, ◌⊎◌, inl, inr, ⊎_elim, Bool, true, false, List, Option, Some, None, refl, sym, ◌∙◌, ap, subst, arith}
+use Rattle.std.proofs.lemmas.Bool.{cases_lt}
+use Rattle.vm_base.specs.declared.info.PageInfo.{PageInfo}
+use Rattle.vm_base.specs.Functions.{has}
+use Rattle.vm_base.specs.Info.{info_from, is_leaf}
+use Rattle.vm_base.proofs.Functions.{by_test, has_in}
+use Rattle.slot_lock.specs.Slots.{Slots, IsSlot, between}
+use Rattle.slot_lock.specs.RunLaws.{info_from_zero, is_leaf-info_from, same_test, other_test, from_test}
+use Rattle.slot_lock.proofs.Edits.{has_not, same_slots}
+use Rattle.radix_node.specs.State.{State, state_from, IsPlain}
+use Rattle.radix_node.specs.Run.{Run, Cell, cell_at, width_of, CanJoin}
+use Rattle.radix_node.specs.Node.{Parts, runs}
+use Rattle.radix_node.proofs.Flat.{width-below, width_pos}
+use Rattle.radix_node.proofs.Divided.{part_ends}
+use Rattle.radix_range.specs.Tree.{slots_of, tree_slots, IsRadix}
+use Rattle.radix_range.specs.Cells.{IsIn, cell_in, start_of}
+use Rattle.radix_range.specs.TreeLaws.{is_slot, cell_of}
+use Rattle.radix_range.specs.Folds.{CanFold, joined, FoldsNode}
+use Rattle.radix_range.proofs.Expansions.{IsExpanded, info_kept, owner_kept, in_or_out}
+use Rattle.radix_range.proofs.Sets.{begins}
+
+-- ---- where no node can be folded
+
+cell_is : (c : Cell) (i : Option PageInfo) (w : ℕ) → c.state.info ≡ i → c.state.owner ≡ None → c.offset ≡ 0 → c.width ≡ w → c ≡ record { state = record { info = i; owner = None }; offset = 0; width = w }
+cell_is c i w info owner zero width = λ j. record { state = record { info = info j; owner = owner j }; offset = zero j; width = width j }
+
+-- the slot that begins at a page
+slot_cell : (rs : List Run) (a w : ℕ) → IsSlot (slots_of rs) a (a + w) → ((cell_at rs a).offset ≡ 0) × ((cell_at rs a).width ≡ w)
+slot_cell rs a w slot =
+    let b = begins rs a (a + w) slot in
+    let width = b.width in
+    (from_test _ _ slot.begins, omega arith)
+
+info_first : (rs : List Run) (a : ℕ) → (cell_at rs a).offset ≡ 0 → (cell_at rs a).state.info ≡ (slots_of rs).info a
+info_first rs a zero = sym (info_from_zero (cell_at rs a).state.info) ∙ ap (info_from (cell_at rs a).state.info) (sym zero)
+
+pub can_join : (v : Parts) → IsRadix v → (page : ℕ) → CanFold (tree_slots v) page → CanJoin v.level (runs v) page
+can_join v ok page can =
+    let rs = runs v in
+    let base : ℕ = can.before * width_of (can.level + 1) in
+    let w : ℕ = width_of can.level in
+    let top = ok.top in
+    record {
+      own_level = can.level;
+      low = (let l = can.below_root in omega arith);
+      state = record { info = (tree_slots v).info base; owner = None };
+      plain = record { free = refl; no_leaf = can.no_leaf };
+      before = can.before;
+      from = can.from;
+      until = can.until;
+      slots = λ k l.
+          let at = slot_cell rs (base + k * w) w (can.slots k l) in
+          cell_is (cell_at rs (base + k * w)) (info_from ((tree_slots v).info base) (k * w)) w (info_first rs (base + k * w) at.0 ∙ can.goes_on k l) (can.free k l) at.0 at.1;
+    }
+
+-- ---- a folded node
+
+part_first : (rs qs : List Run) (page : ℕ) (e : IsExpanded rs qs page) (k : ℕ) → k < 512 → cell_at qs (start_of rs page + k * e.part) ≡ record { state = state_from (cell_at rs page).state (k * e.part); offset = 0; width = e.part }
+part_first rs qs page e k l =
+    let at : start_of rs page + k * e.part ≡ start_of rs page + (k * e.part + 0) = omega arith in
+    ap (cell_at qs) at ∙ e.inside k 0 l e.some
+
+part_slot : (rs qs : List Run) (page : ℕ) (e : IsExpanded rs qs page) (k : ℕ) → k < 512 → IsSlot (slots_of qs) (start_of rs page + k * e.part) (start_of rs page + k * e.part + e.part)
+part_slot rs qs page e k l =
+    let p : ℕ = start_of rs page + k * e.part in
+    let c = part_first rs qs page e k l in
+    let zero : (cell_at qs p).offset ≡ 0 = ap (λ (c : Cell). c.offset) c in
+    let start : start_of qs p ≡ p = omega arith in
+    let width : (cell_at qs p).width ≡ e.part = ap (λ (c : Cell). c.width) c in
+    subst (λ n. IsSlot (slots_of qs) p (p + n)) width (subst (λ n. IsSlot (slots_of qs) n (n + (cell_at qs p).width)) start (is_slot qs p))
+
+pub could_fold : (rs qs : List Run) (page : ℕ) → IsPlain (cell_at rs page).state → IsExpanded rs qs page → CanFold (slots_of qs) page
+could_fold rs qs page plain e =
+    let c = cell_in rs page in
+    let width = e.width in
+    let w = e.part_is in
+    let start = e.start_is in
+    let some = e.some in
+    let full : 512 * e.part ≡ width_of (e.level + 1) = ap (λ n. 512 * n) w ∙ width-below e.level (e.level + 1) refl in
+    let first : (slots_of qs).info (start_of rs page) ≡ (cell_at rs page).state.info = info_kept rs qs page e (start_of rs page) ∙ own (start_of rs page) 0 (omega arith) (omega arith) ∙ info_from_zero (cell_at rs page).state.info in
+    let place : (k : ℕ) → start_of rs page + k * e.part ≡ e.before * width_of (e.level + 1) + k * width_of e.level = λ k. ap (λ n. n + k * e.part) start ∙ ap (λ n. e.before * width_of (e.level + 1) + k * n) w in
+    record {
+      level = e.level;
+      below_root = e.below_root;
+      before = e.before;
+      from = omega (arith, c.low);
+      until = omega (arith, c.low, c.high);
+      slots = λ k l. subst (λ n. IsSlot (slots_of qs) n (n + width_of e.level)) (place k) (subst (λ n. IsSlot (slots_of qs) (start_of rs page + k * e.part) (start_of rs page + k * e.part + n)) w (part_slot rs qs page e k l));
+      free = λ k l. ap (λ p. (cell_at qs p).state.owner) (sym (place k)) ∙ ap (λ (c : Cell). c.state.owner) (part_first rs qs page e k l) ∙ plain.free;
+      no_leaf = ap (λ p. is_leaf ((slots_of qs).info p)) (sym start) ∙ ap is_leaf first ∙ plain.no_leaf;
+      goes_on = λ k l.
+          let ends = part_ends e.part k l in
+          ap (λ p. (slots_of qs).info p) (sym (place k)) ∙ info_kept rs qs page e (start_of rs page + k * e.part) ∙ own (start_of rs page + k * e.part) (k * e.part) (omega arith) (omega arith)
+          ∙ ap (λ o. info_from o (k * e.part)) (sym first) ∙ ap (λ p. info_from ((slots_of qs).info p) (k * e.part)) start ∙ ap (λ n. info_from ((slots_of qs).info (e.before * width_of (e.level + 1))) (k * n)) w;
+    }
+  where
+    own : (p n : ℕ) → p ≡ start_of rs page + n → n < (cell_at rs page).width → (slots_of rs).info p ≡ info_from (cell_at rs page).state.info n
+    own p n at l =
+        let back : p - start_of rs page ≡ n = omega arith in
+        ap (λ (c : Cell). info_from c.state.info c.offset) (cell_of rs page p (omega arith) (omega arith)) ∙ ap (info_from (cell_at rs page).state.info) back
+
+edges_joined : (rs qs : List Run) (page first end : ℕ) → IsExpanded rs qs page → first ≡ start_of rs page → end ≡ start_of rs page + (cell_at rs page).width → slots_of rs ≡ joined (slots_of qs) first end
+edges_joined rs qs page first end e is ends = same_slots _ _
+    (λ p. sym (info_kept rs qs page e p))
+    (λ p. sym (owner_kept rs qs page e p))
+    (λ p. by_test (λ x. (slots_of rs).edge p ≡ x) (has (between (first + 1) end) p) _ _
+    (λ t. let b = has_in (between (first + 1) end) p t in inner p (omega arith) (omega arith))
+    (λ t. outer p (has_not (between (first + 1) end) p t)))
+  where
+    inner : (p : ℕ) → start_of rs page < p → p < start_of rs page + (cell_at rs page).width → (slots_of rs).edge p ≡ false
+    inner p a b = other_test _ _ (λ zero. let o = sym (ap (λ (c : Cell). c.offset) (cell_of rs page p (omega arith) b)) ∙ zero in absurd (omega arith))
+
+    same_first : (p : ℕ) → p ≡ start_of rs page → (slots_of rs).edge p ≡ (slots_of qs).edge p
+    same_first p at =
+        let c = cell_in rs page in
+        let own : (cell_at rs p).offset ≡ 0 = ap (λ (c : Cell). c.offset) (cell_of rs page p (omega arith) (omega (arith, c.high))) ∙ (let z : p - start_of rs page ≡ 0 = omega arith in z) in
+        let to : p ≡ start_of rs page + (0 * e.part + 0) = omega arith in
+        let new : (cell_at qs p).offset ≡ 0 = ap (λ (c : Cell). c.offset) (ap (cell_at qs) to ∙ e.inside 0 0 (omega arith) e.some) in
+        same_test _ _ own ∙ sym (same_test _ _ new)
+
+    outer : (p : ℕ) → (p < first + 1) ⊎ (end ≤ p) → (slots_of rs).edge p ≡ (slots_of qs).edge p
+    outer p (inl l) = ⊎_elim
+        (λ (m : p < start_of rs page). ap (λ (c : Cell). c.offset == 0) (sym (e.outside p (inl m))))
+        (λ (m : start_of rs page ≤ p). same_first p (omega arith))
+        (cases_lt p (start_of rs page))
+    outer p (inr l) = ap (λ (c : Cell). c.offset == 0) (sym (e.outside p (inr (omega arith))))
+
+pub folds_node : (v u : Parts) (page : ℕ) → IsPlain (cell_at (runs u) page).state → IsExpanded (runs u) (runs v) page → FoldsNode (tree_slots v) (tree_slots u) page
+unfolding could_fold
+folds_node v u page plain e =
+    let w = e.part_is in
+    let width = e.width in
+    let full : 512 * e.part ≡ width_of (e.level + 1) = ap (λ n. 512 * n) w ∙ width-below e.level (e.level + 1) refl in
+    let start = e.start_is in
+    record {
+      could = could_fold (runs u) (runs v) page plain e;
+      now = edges_joined (runs u) (runs v) page (e.before * width_of (e.level + 1)) (e.before * width_of (e.level + 1) + width_of (e.level + 1)) e (sym start) (omega arith);
+    }
