@@ -1,0 +1,4 @@
+pub mod Rank
+pub mod Rows
+pub mod Serving
+pub mod Runs
