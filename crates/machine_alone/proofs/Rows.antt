@@ -29,6 +29,7 @@ use Rattle.slot_lock.specs.Plan.{range_of, IsSoundChange}
 use Rattle.slot_lock.specs.Slots.{Slots, Steps, with_owner}
 use Rattle.machine_model.specs.declared.event.Outcome.{Outcome}
 use Rattle.machine_model.specs.declared.event.Outcome.TheVariants.{Stepped, Answered}
+use Rattle.machine_model.specs.declared.log.Entry.TheVariants as EntryOf
 use Rattle.machine_model.specs.declared.phase.Phase.{Phase}
 use Rattle.machine_model.specs.declared.phase.Phase.TheVariants.{Free, Check, Lock, Decide, Post, Acks, Unlock, Answer, Try, LockPage, Settle, Want, Fill, Install, Release}
 use Rattle.machine_model.specs.World.{World}
@@ -38,14 +39,18 @@ use Rattle.machine_model.specs.Calls.{meta_of, locking, touch_of, checked_as, af
 use Rattle.machine_model.specs.Accesses.{NoneFree, frame_for, tried_by, lies_past_end, source_phase, settled_by, Wants, info_with_core, installed, released}
 use Rattle.machine_model.specs.Step.{Goes}
 use Rattle.machine_laws.specs.Orderly.{IsReady}
+use Rattle.machine_sound.specs.Sound.{IsDue}
 use Rattle.machine_sound.specs.Invariant.{IsSettled, IsUsable}
-use Rattle.machine_sound.proofs.Stands.{IsReply, refusal_is_reply, reply_is}
+use Rattle.machine_sound.proofs.Stands.{IsReply, due_so, refusal_is_reply, reply_is}
 use Rattle.machine_alone.proofs.Rank.{missing, missing_same, missing_less, missing_most, hits, rank, rank_of, unlock_less}
 
--- Frames are free as at the beginning until the call takes one. Then its access will find one, and "no frame" isn't its reply.
+abbrev pub IsDueReply : (ℕ → Bool) → Reply → Type 0
+IsDueReply is_free reply = (step call core : ℕ) → IsDue is_free (EntryOf.Answer step call core reply)
+
+-- Frames are free as at the beginning until the call takes one. Then its access will find one, so "no frame" isn't its reply.
 abbrev pub IsSure : (ℕ → Bool) → (ℕ → Bool) → (ℕ → Option PageInfo) → Phase → Type 0
-IsSure first free info (Unlock held reply) = reply ≡ NoFrame → NoneFree first
-IsSure first free info (Answer reply) = reply ≡ NoFrame → NoneFree first
+IsSure first free info (Unlock held reply) = IsDueReply first reply
+IsSure first free info (Answer reply) = IsDueReply first reply
 IsSure first free info (Try touch) = (free ≡ first) ⊎ (hits info touch ≡ true)
 IsSure first free info (Fill touch frame) = Unit {0}
 IsSure first free info (Install touch) = Unit {0}
@@ -72,16 +77,16 @@ steps first w c old o v phase h less sure = moves first w c old o v (to c phase 
 
 -- ---- replies
 
-sure_gone : (first free : ℕ → Bool) (info : ℕ → Option PageInfo) (held : Option Footprint) (reply : Reply) → (reply ≡ NoFrame → NoneFree first) → IsSure first free info (let_go held reply)
+sure_gone : (first free : ℕ → Bool) (info : ℕ → Option PageInfo) (held : Option Footprint) (reply : Reply) → IsDueReply first reply → IsSure first free info (let_go held reply)
 sure_gone first free info None reply h = h
 sure_gone first free info (Some held) reply h = h
 
-no_such : (first : ℕ → Bool) (reply : Reply) → IsReply reply → reply ≡ NoFrame → NoneFree first
-no_such first reply i e = absurd (subst IsReply e i)
+due_reply : (first : ℕ → Bool) (reply : Reply) → IsReply reply → IsDueReply first reply
+due_reply first reply i step call core = due_so first step call core reply i
 
 -- what is held is let go
 answers : (first : ℕ → Bool) (w : World) (c : ℕ) (old : Phase) (o : Outcome) (v : World) (held : Option Footprint) (reply : Reply) → Becomes (replies c held reply w) o v
-    → rank_of w.slots (let_go held reply) < rank_of w.slots old → (reply ≡ NoFrame → NoneFree first) → Row first w c old o v
+    → rank_of w.slots (let_go held reply) < rank_of w.slots old → IsDueReply first reply → Row first w c old o v
 answers first w c old o v held reply h less due =
     moves first w c old o v (replies c held reply w) (let_go held reply) h (put_same w.phase c (let_go held reply)) refl less
     (sure_gone first w.is_free w.slots.info held reply due)
@@ -118,10 +123,10 @@ check_row first w c asked request refused o v is_reply ready same h = go request
             let b = missing_most w.slots in
             steps first w c (Check asked) o v (Try touch) h
             (by_test (λ n. n < 2 ^ 37) (hits w.slots.info touch) 2 (missing w.slots + 12) (λ _. omega arith) (λ _. omega (arith, b))) (inl same)
-        at false h = answers first w c (Check asked) o v None (Segv MapErr) h (omega arith) (λ e. absurd cc)
+        at false h = answers first w c (Check asked) o v None (Segv MapErr) h (omega arith) (λ _ _ _. tt)
 
     go : (request : Request) (refused : Option Reply) → ((reply : Reply) → refused ≡ Some reply → IsReply reply) → Becomes (checked_as c request refused w) o v → Row first w c (Check asked) o v
-    go request (Some reply) i h = answers first w c (Check asked) o v None reply h (omega arith) (no_such first reply (i reply refl))
+    go request (Some reply) i h = answers first w c (Check asked) o v None reply h (omega arith) (due_reply first reply (i reply refl))
     go (Mmap addr len prot flags file off) None i h = at flags.fixed h
       where
         change : Change
@@ -129,7 +134,7 @@ check_row first w c asked request refused o v is_reply ready same h = go request
 
         at : (b : Bool) → Becomes (cond b (to c (locking change) w) (replies c None (Refused ENOMEM) w)) o v → Row first w c (Check asked) o v
         at true h = starts change h
-        at false h = answers first w c (Check asked) o v None (Refused ENOMEM) h (omega arith) (λ e. absurd cc)
+        at false h = answers first w c (Check asked) o v None (Refused ENOMEM) h (omega arith) (λ _ _ _. tt)
     go (Munmap addr len) None i h = starts (Clear (pages_of addr len)) h
     go (Mprotect addr len prot) None i h = starts (Protect (pages_of addr len) prot) h
     go (Load addr) None i h = tries (touch_of addr To.Load 0) h
@@ -190,7 +195,7 @@ decide_row first w c (Protect range prot) o v same h = go h.0 h.3
   where
     go : (all : Bool) → Becomes (cond all (to c (Post (Protect range prot)) w) (refused_change c (Protect range prot) w)) o v → Row first w c (Decide (Protect range prot)) o v
     go true k = steps first w c (Decide (Protect range prot)) o v (Post (Protect range prot)) k (omega arith) same
-    go false k = answers first w c (Decide (Protect range prot)) o v (Some (one_range range)) (Refused ENOMEM) k (omega arith) (λ e. absurd cc)
+    go false k = answers first w c (Decide (Protect range prot)) o v (Some (one_range range)) (Refused ENOMEM) k (omega arith) (λ _ _ _. tt)
 
 -- ---- accesses
 
@@ -208,7 +213,7 @@ try_row first w c touch o v sure h = go (frame_for touch.access (w.slots.info to
         let reply : Reply = byte_reply touch.access (w.bytes f touch.offset) in
         moves first w c (Try touch) o v (tried_by c touch (Some f) w) (Answer reply) h (put_same w.phase c (Answer reply)) refl
         (by_test (λ n. 1 < n) (hits w.slots.info touch) 2 (missing w.slots + 12) (λ _. omega arith) (λ _. omega arith))
-        (no_such first reply (byte_is_reply touch.access (w.bytes f touch.offset)))
+        (due_reply first reply (byte_is_reply touch.access (w.bytes f touch.offset)))
     go None e h =
         let missed : hits w.slots.info touch ≡ false = ap is_some e in
         steps first w c (Try touch) o v (LockPage touch) h
@@ -217,7 +222,7 @@ try_row first w c touch o v sure h = go (frame_for touch.access (w.slots.info to
 
 settle_row : (first : ℕ → Bool) (w : World) (c : ℕ) (touch : Touch) (info : Option PageInfo) (o : Outcome) (v : World) → w.is_free ≡ first
     → Becomes (settled_by c touch info w) o v → Row first w c (Settle touch) o v
-settle_row first w c touch None o v same h = answers first w c (Settle touch) o v (Some (page_held touch)) (Segv MapErr) h (omega arith) (λ e. absurd cc)
+settle_row first w c touch None o v same h = answers first w c (Settle touch) o v (Some (page_held touch)) (Segv MapErr) h (omega arith) (λ _ _ _. tt)
 settle_row first w c touch (Some info) o v same h = go (is_allowed info.meta.prot touch.access) (lies_past_end w.made.file info.meta.back) h
   where
     source : (frame : Option ℕ) → Becomes (to c (source_phase touch frame) w) o v → Row first w c (Settle touch) o v
@@ -226,12 +231,12 @@ settle_row first w c touch (Some info) o v same h = go (is_allowed info.meta.pro
 
     go : (a b : Bool) → Becomes (cond a (cond b (replies c (Some (page_held touch)) Bus w) (to c (source_phase touch info.frame) w)) (replies c (Some (page_held touch)) (Segv AccErr) w)) o v
         → Row first w c (Settle touch) o v
-    go true true k = answers first w c (Settle touch) o v (Some (page_held touch)) Bus k (omega arith) (λ e. absurd cc)
+    go true true k = answers first w c (Settle touch) o v (Some (page_held touch)) Bus k (omega arith) (λ _ _ _. tt)
     go true false k = source info.frame k
-    go false b k = answers first w c (Settle touch) o v (Some (page_held touch)) (Segv AccErr) k (omega arith) (λ e. absurd cc)
+    go false b k = answers first w c (Settle touch) o v (Some (page_held touch)) (Segv AccErr) k (omega arith) (λ _ _ _. tt)
 
 want_row : (first : ℕ → Bool) (w : World) (c : ℕ) (touch : Touch) (o : Outcome) (v : World) → w.is_free ≡ first → Wants w c touch o v → Row first w c (Want touch) o v
-want_row first w c touch o v same (inl h) = answers first w c (Want touch) o v (Some (page_held touch)) NoFrame h.1 (omega arith) (λ e. subst NoneFree same h.0)
+want_row first w c touch o v same (inl h) = answers first w c (Want touch) o v (Some (page_held touch)) NoFrame h.1 (omega arith) (λ _ _ _. subst NoneFree same h.0)
 want_row first w c touch o v same (inr h) = moves first w c (Want touch) o v _ (Fill touch h.0) h.2 (put_same w.phase c (Fill touch h.0)) refl (omega arith) tt
 
 -- a page that allows the access and has a frame lets it through
@@ -252,7 +257,7 @@ row first w c (Decide change) o v e ne only ready settled next sure h = decide_r
 row first w c (Post change) o v e ne only ready settled next sure h = steps first w c (Post change) o v (Acks change (one_range (range_of change))) h (omega arith) sure
 row first w c (Acks change held) o v e ne only ready settled next sure h =
     moves first w c (Acks change held) o v (committed c change held w) (Unlock held (reply_to change)) h (put_same w.phase c (Unlock held (reply_to change))) refl (omega arith)
-    (no_such first (reply_to change) (reply_is change))
+    (due_reply first (reply_to change) (reply_is change))
 row first w c (Unlock held reply) o v e ne only ready settled next sure h =
     let b : ℕ = h.0 in
     let t : Slots = h.1.0 in

@@ -32,7 +32,7 @@ use Rattle.machine_sound.proofs.OneMap.{log_leads_to_one}
 use Rattle.machine_sound.proofs.Kept.{fine_step}
 use Rattle.machine_alone.specs.Alone.{IsCalm, StepsTo, IsServed, IsServedAlone}
 use Rattle.machine_alone.proofs.Rank.{rank_of}
-use Rattle.machine_alone.proofs.Rows.{IsSure, IsOnly, Row, row}
+use Rattle.machine_alone.proofs.Rows.{IsDueReply, IsSure, IsOnly, Row, row}
 use Rattle.machine_alone.proofs.Rows.Row.{goes_on, returns}
 
 -- the log is that of the beginning, with the call's reply once it has one
@@ -205,13 +205,14 @@ returned w fine c request x v o reply h s at answered e =
     let from : last.0 ≡ fine.plain = log_leads_to_one x.requests w.log (opening x.made.file) last.0 fine.plain last.1 h.first in
     let number : Some last.2.0 ≡ Some request = sym last.2.1 ∙ h.number in
     let same : last.2.0 ≡ request = cc in
+    let sure : IsDueReply w.is_free reply = subst (IsSure w.is_free x.is_free x.slots.info) at h.sure in
     record {
       reply = reply;
       answered = answered;
       calm = subst (λ (v : World). IsCalm v) (sym e) (put_all (λ d phase. phase ≡ Free) x.phase c Free refl h.others);
       after = after;
       stands = subst (λ r. Stands fine.plain c r reply after.plain) same (subst (λ t. Stands t c last.2.0 reply after.plain) from last.2.2);
-      due = subst (IsSure w.is_free x.is_free x.slots.info) at h.sure;
+      due = λ step call. sure step call c;
     }
 
 -- ---- the whole call

@@ -1,18 +1,18 @@
 -- A call beside which no other call runs
 use Rattle.std.specs.Prelude.{◌≡◌, ◌≢◌, ℕ, zero, suc, ◌<◌, ◌^◌, List, None}
 use Rattle.vm_base.specs.declared.replies.Reply.{Reply}
-use Rattle.vm_base.specs.declared.replies.Reply.TheVariants.{NoFrame}
 use Rattle.vm_base.specs.declared.requests.Request.{Request}
 use Rattle.slot_lock.specs.Slots.{Slots, IsNew}
 use Rattle.machine_model.specs.declared.event.Event.{Event}
 use Rattle.machine_model.specs.declared.event.Event.TheVariants.{Call, Go}
 use Rattle.machine_model.specs.declared.event.Outcome.{Outcome}
 use Rattle.machine_model.specs.declared.event.Outcome.TheVariants.{Stepped, Answered}
+use Rattle.machine_model.specs.declared.log.Entry.TheVariants.{Answer}
 use Rattle.machine_model.specs.declared.phase.Phase.TheVariants.{Free}
 use Rattle.machine_model.specs.World.{World, Made, opening}
-use Rattle.machine_model.specs.Accesses.{NoneFree}
 use Rattle.machine_model.specs.Step.{Step, Run, event_limit}
 use Rattle.machine_sound.specs.Log.{Stands}
+use Rattle.machine_sound.specs.Sound.{IsDue}
 use Rattle.machine_sound.specs.Invariant.{Fine}
 
 -- no core has a call
@@ -25,14 +25,14 @@ StepsTo w core zero v = v ≡ w
 StepsTo w core (suc n) v = (m : World) × StepsTo w core n m × Step m (Go core) Stepped v
 
 -- A call, begun in w, comes to this outcome and leaves v: its reply, and the plain page map that v shows, are what the map that w shows
--- gives for its request. No frame is the reply only if none was free in w.
+-- gives for its request. "No frame" is the reply only if none was free in w, and "no memory" never.
 pub record IsServed (w : World) (before : Fine w) (core : ℕ) (request : Request) (outcome : Outcome) (v : World) : Type 0 where
   pub reply : Reply
   pub answered : outcome ≡ Answered reply
   pub calm : IsCalm v
   pub after : Fine v
   pub stands : Stands before.plain core request reply after.plain
-  pub due : reply ≡ NoFrame → NoneFree w.is_free
+  pub due : (step call : ℕ) → IsDue w.is_free (Answer step call core reply)
 
 -- Begun in w, the call takes few plain steps. The first that isn't plain, before the limit of events, hands out its reply.
 pub record IsServedAlone (w : World) (fine : Fine w) (core : ℕ) (request : Request) (begun : World) : Type 0 where
