@@ -2,3 +2,5 @@ pub mod RunLemmas
 pub mod TextLemmas
 pub mod TurnLemmas
 pub mod EventRunLemmas
+pub mod Limits
+pub mod PlainTextLemmas

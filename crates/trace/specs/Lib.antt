@@ -5,3 +5,4 @@ pub mod Runs
 pub mod Stage
 pub mod Turns
 pub mod EventRuns
+pub mod PlainText
