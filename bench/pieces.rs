@@ -1,5 +1,5 @@
-//! Plain Rust programs that the parts are measured against: one page locked and unlocked among many slots, a translation
-//! that the TLB has, and the table entries of a large range dropped. Standard library alone.
+//! Plain Rust programs that the parts are measured against: one page locked and unlocked among many slots, pages of a
+//! radix tree looked up and changed, a translation that the TLB has, and the table entries of a large range dropped. Standard library alone.
 //! Build: `rustc --edition 2021 -C opt-level=3 bench/pieces.rs`.
 use std::collections::BTreeMap;
 use std::hint::black_box;
@@ -92,6 +92,196 @@ fn slots(pages: u64, rounds: u64) -> Duration {
         place = (place + 30_011) % pages;
         let page = 16 + 2 * place;
         if map.lock(core, page, page + 1).is_some() && map.unlock(core, page).is_some() {
+            locked += 1;
+        }
+    }
+    let took = start.elapsed();
+    assert_eq!(locked, rounds);
+    took
+}
+
+// ---- the radix tree
+
+#[derive(Clone, Copy)]
+struct Meta {
+    back: Back,
+    prot: Prot,
+}
+
+impl Meta {
+    fn advanced(self, by: u64) -> Meta {
+        let back = match self.back {
+            Back::Anon => Back::Anon,
+            Back::Shared { file, page } => Back::Shared { file, page: page + by },
+            Back::Private { file, page } => Back::Private { file, page: page + by },
+        };
+        Meta { back, ..self }
+    }
+}
+
+#[derive(Clone, Copy)]
+enum Content {
+    Empty,
+    Folded(Meta),
+    #[allow(dead_code)]
+    Leaf(Info),
+}
+
+impl Content {
+    /// What the page `by` pages after the slot's first has.
+    fn from(self, by: u64) -> Content {
+        match self {
+            Content::Empty => Content::Empty,
+            Content::Folded(meta) => Content::Folded(meta.advanced(by)),
+            Content::Leaf(info) => {
+                let meta = Meta { back: info.back, prot: info.prot }.advanced(by);
+                Content::Leaf(Info { back: meta.back, ..info })
+            }
+        }
+    }
+}
+
+#[derive(Clone, Copy)]
+struct State {
+    content: Content,
+    owner: Option<u8>,
+}
+
+enum TreeSlot {
+    Own(State),
+    Child(Box<Node>),
+}
+
+struct Node {
+    level: u8,
+    slots: Vec<TreeSlot>,
+}
+
+impl Node {
+    fn divided(level: u8, state: State) -> Node {
+        let width = 1 << (9 * level);
+        let part = |k: u64| State { content: state.content.from(k * width), ..state };
+        Node { level, slots: (0..512).map(|k| TreeSlot::Own(part(k))).collect() }
+    }
+
+    /// The slot that has the page, how many of its pages lie before the page, and how many it has.
+    fn find(&self, page: u64) -> (&State, u64, u64) {
+        let width = 1 << (9 * self.level);
+        match &self.slots[(page / width) as usize] {
+            TreeSlot::Own(state) => (state, page % width, width),
+            TreeSlot::Child(node) => node.find(page % width),
+        }
+    }
+
+    fn find_mut(&mut self, page: u64) -> (&mut State, u64, u64) {
+        let width = 1 << (9 * self.level);
+        match &mut self.slots[(page / width) as usize] {
+            TreeSlot::Own(state) => (state, page % width, width),
+            TreeSlot::Child(node) => node.find_mut(page % width),
+        }
+    }
+
+    fn expand(&mut self, page: u64) {
+        let level = self.level;
+        let width = 1 << (9 * level);
+        match &mut self.slots[(page / width) as usize] {
+            TreeSlot::Child(node) => node.expand(page % width),
+            slot @ TreeSlot::Own(_) => {
+                if let TreeSlot::Own(state) = *slot {
+                    *slot = TreeSlot::Child(Box::new(Node::divided(level - 1, state)));
+                }
+            }
+        }
+    }
+}
+
+struct Tree {
+    root: Node,
+}
+
+impl Tree {
+    /// Every other page from 16 on is mapped, and each page between two of them is a slot too.
+    fn filled(pages: u64) -> Tree {
+        let none = State { content: Content::Empty, owner: None };
+        let mut tree = Tree { root: Node::divided(3, none) };
+        for place in 0..pages {
+            while !tree.lock(1, 16 + 2 * place) {}
+            tree.set(16 + 2 * place);
+            tree.unlock(16 + 2 * place);
+        }
+        tree
+    }
+
+    fn page(&self, page: u64) -> Option<Info> {
+        let (state, offset, _) = self.root.find(page);
+        match state.content.from(offset) {
+            Content::Empty => None,
+            Content::Folded(meta) => Some(Info { back: meta.back, prot: meta.prot, frame: None, cores: 0 }),
+            Content::Leaf(info) => Some(info),
+        }
+    }
+
+    /// Locks the page where it is free and a slot of its own; else expands its slot.
+    fn lock(&mut self, core: u8, page: u64) -> bool {
+        let (state, _, width) = self.root.find_mut(page);
+        if state.owner.is_some() {
+            return false;
+        }
+        if width > 1 {
+            self.root.expand(page);
+            return false;
+        }
+        state.owner = Some(core);
+        true
+    }
+
+    fn set(&mut self, page: u64) {
+        let (state, _, _) = self.root.find_mut(page);
+        state.content = Content::Folded(Meta { back: Back::Anon, prot: READ_WRITE });
+    }
+
+    fn clear(&mut self, page: u64) {
+        let (state, _, _) = self.root.find_mut(page);
+        state.content = Content::Empty;
+    }
+
+    fn unlock(&mut self, page: u64) {
+        let (state, _, _) = self.root.find_mut(page);
+        state.owner = None;
+    }
+}
+
+fn look_ups(pages: u64, rounds: u64) -> Duration {
+    let tree = Tree::filled(pages);
+    let mut place = 0;
+    let mut found = 0u64;
+    let start = Instant::now();
+    for _ in 0..rounds {
+        place = (place + 30_011) % pages;
+        if black_box(tree.page(16 + 2 * place)).is_some() {
+            found += 1;
+        }
+    }
+    let took = start.elapsed();
+    assert_eq!(found, rounds);
+    took
+}
+
+fn changes(pages: u64, rounds: u64) -> Duration {
+    let mut tree = Tree::filled(pages);
+    let core = black_box(1);
+    let mut place = 0;
+    let mut locked = 0u64;
+    let start = Instant::now();
+    for _ in 0..rounds {
+        place = (place + 30_011) % pages;
+        let page = 17 + 2 * place;
+        if tree.lock(core, page) {
+            if tree.page(page).is_none() {
+                tree.set(page);
+                tree.clear(page);
+            }
+            tree.unlock(page);
             locked += 1;
         }
     }
@@ -306,9 +496,11 @@ fn clears(rounds: u64) -> Duration {
 fn main() {
     let (took, rounds) = match std::env::args().nth(1).as_deref() {
         Some("slots") => (slots(50_000, 5_000_000), 5_000_000),
+        Some("look") => (look_ups(50_000, 10_000_000), 10_000_000),
+        Some("tree") => (changes(50_000, 5_000_000), 5_000_000),
         Some("hit") => (hits(50_000_000), 50_000_000),
         Some("clear") => (clears(20_000), 20_000),
-        _ => return println!("usage: pieces slots | hit | clear"),
+        _ => return println!("usage: pieces slots | look | tree | hit | clear"),
     };
     println!("{:.1}", took.as_nanos() as f64 / rounds as f64);
 }

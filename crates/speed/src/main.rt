@@ -1,4 +1,4 @@
-// How long the parts take: `speed slots`, `speed hit` and `speed clear` print nanoseconds, and with no word each part
+// How long the parts take: `speed slots`, `look`, `tree`, `hit` and `clear` print nanoseconds, and with no word each part
 // runs once with little to do. bench/pieces.sh compares them with plain Rust.
 #![tactic(auto)]
 
@@ -7,6 +7,7 @@ ghost use Rattle.std.specs.Prelude.{◌<◌};
 mod clears;
 mod hits;
 mod slots;
+mod tree;
 
 use std::alloc::Global;
 use std::rt::Clock;
@@ -38,6 +39,8 @@ fn tell(rt: &impl Print, nanos: Option<u128>) -> io::Result<()> {
 /// Each part once with little to do.
 fn try_each(rt: &(impl Print + Clock), alloc: Global) -> io::Result<()> {
     tell(rt, slots::time(rt, alloc, 8, 16)?)?;
+    tell(rt, tree::time_look_ups(rt, alloc, 8, 16)?)?;
+    tell(rt, tree::time_changes(rt, alloc, 8, 16)?)?;
     tell(rt, hits::time(rt, alloc, 128)?)?;
     tell(rt, clears::time(rt, alloc, 1)?)
 }
@@ -46,9 +49,19 @@ fn try_each(rt: &(impl Print + Clock), alloc: Global) -> io::Result<()> {
 fn run(rt: &(impl Print + Clock), alloc: Global, word: &str) -> io::Result<()> {
     match word {
         "slots" => show(rt, slots::time(rt, alloc, 50_000, 5_000_000)?, 5_000_000),
+        "look" => show(
+            rt,
+            tree::time_look_ups(rt, alloc, 50_000, 10_000_000)?,
+            10_000_000,
+        ),
+        "tree" => show(
+            rt,
+            tree::time_changes(rt, alloc, 50_000, 5_000_000)?,
+            5_000_000,
+        ),
         "hit" => show(rt, hits::time(rt, alloc, 50_000_000)?, 50_000_000),
         "clear" => show(rt, clears::time(rt, alloc, 20_000)?, 20_000),
-        _ => println!(rt; "usage: speed [slots | hit | clear]"),
+        _ => println!(rt; "usage: speed [slots | look | tree | hit | clear]"),
     }
 }
 

@@ -1,4 +1,4 @@
-//! A page locked and unlocked among many slots.
+//! A page locked and unlocked among many slots, and what the tree's parts share with it.
 ghost use Rattle.std.specs.Prelude.{◌≡◌, ◌<◌, ◌≤◌, ◌^◌, IfOk, IsTrue};
 ghost use Rattle.vm_base.specs.Pages.{IsPage};
 ghost use Rattle.speed.specs.Free.{IsFree, IsHeldAlone};
@@ -11,9 +11,9 @@ use std::time::Instant;
 use vm_base::{Back, CoreId, Meta, NoMemory, PageRange, Prot};
 
 /// How many mapped pages one round is from the next, modulo their number.
-const STRIDE: u64 = 30_011;
+pub const STRIDE: u64 = 30_011;
 
-const ZERO: Meta = Meta {
+pub const ZERO: Meta = Meta {
     back: Back::Anon,
     prot: Prot {
         read: true,
@@ -23,11 +23,11 @@ const ZERO: Meta = Meta {
 };
 
 /// Locks the page's slot; tells whether it did, the slot being free and the page alone in it.
-fn lock(map: &mut RunList<Global>, core: CoreId, page: u64) -> bool
+pub fn lock<M: SlotMap>(map: &mut M, core: CoreId, page: u64) -> bool
     requires page { IsPage page }
-    requires free { IsFree (⟦<RunList<Global> as SlotRead>⟧.slots map.old) }
-    ensures held { IsTrue result → IsHeldAlone (⟦<RunList<Global> as SlotRead>⟧.slots map.new) core page }
-    ensures free { ¬ IsTrue result → IsFree (⟦<RunList<Global> as SlotRead>⟧.slots map.new) }
+    requires free { IsFree (M.slots map.old) }
+    ensures held { IsTrue result → IsHeldAlone (M.slots map.new) core page }
+    ensures free { ¬ IsTrue result → IsFree (M.slots map.new) }
 {
     match map.lock_next(core, page, page + 1) {
         Ok(Got::Locked(_)) => true,
@@ -38,19 +38,19 @@ fn lock(map: &mut RunList<Global>, core: CoreId, page: u64) -> bool
 }
 
 /// Unlocks the page.
-fn unlock(map: &mut RunList<Global>, core: CoreId, page: u64)
+pub fn unlock<M: SlotMap>(map: &mut M, core: CoreId, page: u64)
     requires page { IsPage page }
-    requires held { IsHeldAlone (⟦<RunList<Global> as SlotRead>⟧.slots map.old) core page }
-    ensures { IsFree (⟦<RunList<Global> as SlotRead>⟧.slots map.new) }
+    requires held { IsHeldAlone (M.slots map.old) core page }
+    ensures { IsFree (M.slots map.new) }
 {
     map.unlock_next(core, page, page + 1);
 }
 
 /// Maps the page, if it isn't mapped.
-fn put(map: &mut RunList<Global>, core: CoreId, page: u64)
+pub fn put<M: SlotMap>(map: &mut M, core: CoreId, page: u64)
     requires page { IsPage page }
-    requires held { IsHeldAlone (⟦<RunList<Global> as SlotRead>⟧.slots map.old) core page }
-    ensures { IsHeldAlone (⟦<RunList<Global> as SlotRead>⟧.slots map.new) core page }
+    requires held { IsHeldAlone (M.slots map.old) core page }
+    ensures { IsHeldAlone (M.slots map.new) core page }
 {
     if let None = map.page(page) {
         let one = PageRange {
@@ -62,10 +62,10 @@ fn put(map: &mut RunList<Global>, core: CoreId, page: u64)
 }
 
 /// Locks and unlocks one page; tells whether it was free and a slot of its own.
-fn pass(map: &mut RunList<Global>, core: CoreId, page: u64) -> bool
+fn pass<M: SlotMap>(map: &mut M, core: CoreId, page: u64) -> bool
     requires page { IsPage page }
-    requires free { IsFree (⟦<RunList<Global> as SlotRead>⟧.slots map.old) }
-    ensures { IsFree (⟦<RunList<Global> as SlotRead>⟧.slots map.new) }
+    requires free { IsFree (M.slots map.old) }
+    ensures { IsFree (M.slots map.new) }
 {
     let locked = lock(map, core, page);
     if locked {
@@ -75,10 +75,10 @@ fn pass(map: &mut RunList<Global>, core: CoreId, page: u64) -> bool
 }
 
 /// Maps the page, where it is a slot of its own; else one step of the way there.
-fn map_page(map: &mut RunList<Global>, core: CoreId, page: u64)
+fn map_page<M: SlotMap>(map: &mut M, core: CoreId, page: u64)
     requires page { IsPage page }
-    requires free { IsFree (⟦<RunList<Global> as SlotRead>⟧.slots map.old) }
-    ensures { IsFree (⟦<RunList<Global> as SlotRead>⟧.slots map.new) }
+    requires free { IsFree (M.slots map.old) }
+    ensures { IsFree (M.slots map.new) }
 {
     if lock(map, core, page) {
         put(map, core, page);
@@ -87,7 +87,7 @@ fn map_page(map: &mut RunList<Global>, core: CoreId, page: u64)
 }
 
 /// The page of a place among the mapped ones: every other page from 16 on.
-fn page_at(place: u64) -> u64
+pub fn page_at(place: u64) -> u64
     requires { place < 2 ^ 20 }
     ensures { IsPage result }
 {
@@ -95,13 +95,14 @@ fn page_at(place: u64) -> u64
 }
 
 /// Maps every other page.
-fn fill(map: &mut RunList<Global>, core: CoreId, pages: u64)
+pub fn fill<M: SlotMap>(map: &mut M, core: CoreId, pages: u64)
     requires few { pages ≤ 2 ^ 20 }
-    requires free { IsFree (⟦<RunList<Global> as SlotRead>⟧.slots map.old) }
-    ensures { IsFree (⟦<RunList<Global> as SlotRead>⟧.slots map.new) }
+    requires free { IsFree (M.slots map.old) }
+    ensures { IsFree (M.slots map.new) }
 {
     'pages: for place in 0..pages {
         let page = page_at(place);
+        map_page(map, core, page);
         map_page(map, core, page);
         map_page(map, core, page);
         map_page(map, core, page);
@@ -109,7 +110,7 @@ fn fill(map: &mut RunList<Global>, core: CoreId, pages: u64)
 }
 
 /// A map of so many mapped pages, each a slot of its own, as each page between two of them is.
-fn filled(alloc: Global, core: CoreId, pages: u64) -> Result<RunList<Global>, NoMemory>
+pub fn filled(alloc: Global, core: CoreId, pages: u64) -> Result<RunList<Global>, NoMemory>
     requires { pages ≤ 2 ^ 20 }
     ensures { IfOk result (λ map. IsFree (⟦<RunList<Global> as SlotRead>⟧.slots map)) }
 {
@@ -119,10 +120,10 @@ fn filled(alloc: Global, core: CoreId, pages: u64) -> Result<RunList<Global>, No
 }
 
 /// Many passes; how many of them locked a page.
-fn passes(map: &mut RunList<Global>, core: CoreId, pages: u64, rounds: u64) -> u64
+fn passes<M: SlotMap>(map: &mut M, core: CoreId, pages: u64, rounds: u64) -> u64
     requires some { 0 < pages }
     requires few { pages ≤ 2 ^ 20 }
-    requires free { IsFree (⟦<RunList<Global> as SlotRead>⟧.slots map.old) }
+    requires free { IsFree (M.slots map.old) }
 {
     let mut place = 0;
     let mut locked = 0u64;
