@@ -11,7 +11,7 @@ use Rattle.vm_base.specs.Info.{file_page}
 use Rattle.vm_base.specs.Pages.{IsPageRange, IsPage, is_page, is_aligned, are_pages, page_of, pages_of}
 use Rattle.vm_base.specs.Refusals.{mmap_refusal, munmap_refusal, mprotect_refusal, file_refusal}
 use Rattle.slot_lock.specs.Plan.{IsSoundPut}
-use Rattle.machine_model.specs.Calls.{meta_of}
+use Rattle.vm_calls.specs.Checks.{meta_of}
 
 -- a test that didn't refuse
 passed : (b : Bool) (y : Reply) (o : Option Reply) → cond b (Some y) o ≡ None → (b ≡ false) × (o ≡ None)
