@@ -1,6 +1,13 @@
 pub mod Numbered
 pub mod OpenCalls
-pub mod Sound
 pub mod Deciding
 pub mod Shapes
 pub mod Moves
+pub mod Slots
+pub mod Changed
+pub mod Owned
+pub mod Asked
+pub mod Opening
+pub mod Kept
+pub mod Effects
+pub mod Bracketed

@@ -1,12 +1,10 @@
 -- What holds of one call, and that the order stays where one call moves on
-use Rattle.std.proofs.Common.{◌≡◌, ◌≢◌, ℕ, ◌≤◌, ◌<◌, ◌+◌, Bool, true, false, cond, refl, sym, ap, subst, arith, Some, None, Option, List, ◌∙◌, [], ◌∷◌, ◌++◌, length, length-append}
-use Rattle.vm_base.specs.declared.info.PageInfo.{PageInfo}
+use Rattle.std.proofs.Common.{◌≡◌, ◌≢◌, ℕ, ◌≤◌, ◌<◌, ◌+◌, Bool, true, cond, refl, sym, ap, subst, arith, Some, None, Option, List, ◌∙◌, [], ◌∷◌, ◌++◌, length, length-append}
 use Rattle.vm_base.specs.declared.page.PageRange.{PageRange}
 use Rattle.vm_base.specs.declared.replies.Reply.{Reply}
 use Rattle.vm_base.specs.declared.requests.Request.{Request}
-use Rattle.vm_base.specs.declared.rights.Access.{Access}
 use Rattle.vm_base.specs.Functions.{put, has}
-use Rattle.vm_base.specs.Pages.{IsPageRange, pages_from}
+use Rattle.vm_base.specs.Pages.{IsPageRange}
 use Rattle.vm_base.specs.Plain.{File}
 use Rattle.vm_base.proofs.Functions.{put_all, in_has}
 use Rattle.slot_lock.specs.declared.plan.Touch.{Touch}
@@ -17,7 +15,7 @@ use Rattle.machine_model.specs.declared.phase.Phase.TheVariants.{Free, Check, Lo
 use Rattle.machine_model.specs.World.{World, Made, Memory}
 use Rattle.machine_model.specs.Actions.{let_go}
 use Rattle.machine_model.specs.Holding.{holds, some_has, range_held, taken_in, is_open, page_of_touch}
-use Rattle.machine_laws.specs.Orderly.{Order, IsOrderly, IsAsked, IsCutFor, IsCutRange, IsReady, IsUsable, BelongsTo}
+use Rattle.machine_laws.specs.Orderly.{Order, IsOrderly, IsAsked, IsCutFor, IsReady, IsUsable, BelongsTo}
 use Rattle.machine_laws.proofs.Deciding.{decides_kept}
 use Rattle.machine_laws.proofs.OpenCalls.{one, open_put}
 

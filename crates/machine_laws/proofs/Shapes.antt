@@ -1,7 +1,7 @@
 -- What a step is: it changes nothing, begins a call, ends one, or is one of a few things that a call in some phase does. Every
 -- statement on steps is shown shape by shape, so that no row of the machine is taken apart twice.
 use Rattle.std.proofs.Common.{◌≡◌, ℕ, ◌<◌, ◌⊎◌, inl, inr, Bool, true, false, cond, refl, arith, Some, None, Option, Result, Ok, Err, [], length}
-use Rattle.std.specs.Prelude.{nat_lt, not, if◌then◌else◌}
+use Rattle.std.specs.Prelude.{nat_lt, if◌then◌else◌}
 use Rattle.std.proofs.lemmas.Bool.Decides.{nat_tests}
 use Rattle.vm_base.specs.declared.info.PageInfo.{PageInfo}
 use Rattle.vm_base.specs.declared.page.PageRange.{PageRange}
@@ -29,11 +29,10 @@ use Rattle.vm_calls.specs.declared.fault.Settled.{Settled}
 use Rattle.vm_calls.specs.declared.fault.Settled.TheVariants.{MapErr, AccErr, Bus, Has, Cached, Wants}
 use Rattle.vm_calls.specs.Decisions.{Decides}
 use Rattle.vm_calls.specs.Settling.{settled, source}
-use Rattle.machine_model.specs.declared.event.Blocker.TheVariants.{Slot}
 use Rattle.machine_model.specs.declared.event.Event.{Event}
 use Rattle.machine_model.specs.declared.event.Event.TheVariants.{Call, Go}
 use Rattle.machine_model.specs.declared.event.Outcome.{Outcome}
-use Rattle.machine_model.specs.declared.event.Outcome.TheVariants.{Stepped, Wait, Idle, Answered, Full}
+use Rattle.machine_model.specs.declared.event.Outcome.TheVariants.{Stepped, Idle, Answered, Full}
 use Rattle.machine_model.specs.declared.phase.Goal.{Goal}
 use Rattle.machine_model.specs.declared.phase.Goal.TheVariants as To
 use Rattle.machine_model.specs.declared.phase.Phase.{Phase}
@@ -44,7 +43,7 @@ use Rattle.machine_model.specs.Changes.{checked_by, after_check, decided, commit
 use Rattle.machine_model.specs.Events.{core_of}
 use Rattle.machine_model.specs.Holding.{goal_range, page_of_touch}
 use Rattle.machine_model.specs.Locks.{locking, locked_to, held_after, LocksTo}
-use Rattle.machine_model.specs.World.{World, Made}
+use Rattle.machine_model.specs.World.{World}
 use Rattle.machine_model.specs.Step.{called, Begins, Goes, Acts, is_here, counted, event_limit, Step}
 use Rattle.machine_laws.specs.Brackets.{begun_by}
 use Rattle.machine_laws.specs.Orderly.{IsUsable}

@@ -11,7 +11,6 @@ use Rattle.vm_base.specs.Plain.{File}
 use Rattle.vm_base.specs.Rights.{is_allowed}
 use Rattle.slot_lock.specs.declared.plan.Plan.{Plan}
 use Rattle.slot_lock.specs.declared.plan.Plan.TheVariants as PlanOf
-use Rattle.slot_lock.specs.declared.plan.Touch.{Touch}
 use Rattle.slot_lock.specs.Plan.{range_of}
 use Rattle.slot_lock.specs.Slots.{Slots, IsNew}
 use Rattle.vm_calls.specs.declared.decision.Decision.TheVariants.{Act}
