@@ -11,3 +11,4 @@ pub mod Opening
 pub mod Kept
 pub mod Effects
 pub mod Bracketed
+mod Examples
