@@ -1,6 +1,6 @@
 //! Each public function once, with the values that the public standards and this project's rules give.
-ghost use Rattle.std.specs.Prelude.{◌≡◌};
-ghost use Rattle.vm_base.specs.Info.{file_page};
+ghost use Rattle.std.specs.Prelude.{◌≡◌, false};
+ghost use Rattle.vm_base.specs.Info.{file_page, info_file_page, is_leaf};
 
 use crate::page::is_page_start;
 use crate::{
@@ -30,6 +30,22 @@ fn private(page: u64) -> Meta
         back: Back::Private { file: 3, page },
         prot: READ_WRITE,
     }
+}
+
+fn unused(page: u64) -> Option<PageInfo>
+    ensures leaf { is_leaf result ≡ false }
+    ensures page { info_file_page result ≡ page }
+{
+    Some(PageInfo::unused(private(page)))
+}
+
+// A page that has frame 3.
+fn framed(meta: Meta, cores: CoreSet) -> Option<PageInfo> {
+    Some(PageInfo {
+        meta,
+        frame: Some(3),
+        cores,
+    })
 }
 
 #[test]
@@ -176,30 +192,22 @@ fn later_pages_have_the_next_file_pages(rt: HostRuntime) {
 
 #[test]
 fn neighbours_make_one_slot(rt: HostRuntime) {
-    let unused = Some(PageInfo::unused(private(7)));
-    assert!(rt; goes_on(unused, info_from(unused, 5), 5));
+    assert!(rt; goes_on(unused(7), unused(12), 5));
     assert!(rt; goes_on(None, None, 5));
-    assert!(rt; !goes_on(unused, None, 5));
-    assert!(rt; !goes_on(None, unused, 5));
-    assert!(rt; !goes_on(unused, unused, 1));
-    let used = Some(PageInfo {
-        frame: Some(3),
-        cores: CoreSet::empty().with(CoreId::new(5)),
-        ..PageInfo::unused(private(7))
-    });
-    assert!(rt; is_leaf(used));
-    assert!(rt; !is_leaf(unused));
-    assert!(rt; !is_leaf(None));
+    assert!(rt; !goes_on(unused(7), None, 5));
+    assert!(rt; !goes_on(None, unused(7), 5));
+    assert!(rt; !goes_on(unused(7), unused(7), 1));
     let meta = Meta {
         prot: NONE,
         ..private(7)
     };
-    let want = PageInfo {
-        frame: Some(3),
-        ..PageInfo::unused(meta)
-    };
-    assert_eq!(rt; protected(used, NONE), Some(want));
+    let some = CoreSet::empty().with(CoreId::new(5));
+    let kept = framed(meta, CoreSet::empty());
+    assert_eq!(rt; protected(framed(private(7), some), NONE), kept);
     assert_eq!(rt; protected(None, NONE), None);
+    assert!(rt; is_leaf(framed(meta, CoreSet::empty())));
+    assert!(rt; !is_leaf(unused(7)));
+    assert!(rt; !is_leaf(None));
 }
 
 #[test]
