@@ -1,5 +1,5 @@
 -- A store before which a copy of its page is due, and the state after the copy
-use Rattle.std.proofs.Common.{◌≡◌, ℕ, Bool, true, false, cond, is_some, Option, Some, None, refl, sym, ◌∙◌, ap}
+use Rattle.std.proofs.Common.{◌≡◌, ℕ, Bool, true, false, cond, Option, Some, None, refl, ◌∙◌, ap}
 use Rattle.vm_base.specs.declared.rights.Access.TheVariants.{Store}
 use Rattle.vm_base.specs.declared.info.Back.{Back}
 use Rattle.vm_base.specs.declared.info.Back.TheVariants.{Anon, Shared, Private}
@@ -9,7 +9,7 @@ use Rattle.vm_base.specs.Functions.{put}
 use Rattle.vm_base.specs.Rights.{is_allowed}
 use Rattle.vm_base.specs.Pages.{page_of, offset_of, is_page}
 use Rattle.vm_base.specs.Plain.{Bytes, Entry, Plain, bytes_of}
-use Rattle.vm_base.specs.Apply.{is_uncopied, byte_reply, bytes_reply, entry_reply, access_reply, copied, detached_entry, detached}
+use Rattle.vm_base.specs.Apply.{is_uncopied, bytes_reply, entry_reply, access_reply, copied, detached_entry, detached}
 use Rattle.vm_base.proofs.Functions.{put_same}
 
 -- the page is valid, mapped and may be written; it isn't copied, and has bytes

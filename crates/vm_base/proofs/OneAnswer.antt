@@ -1,5 +1,4 @@
-use Rattle.std.proofs.Common.{◌≡◌, ℕ, ◌<◌, ◌≤◌, ◌⊎◌, inl, inr, Bool, true, false, cond, refl, sym, ap, subst, arith, Some, None, Option, ◌∙◌}
-use Rattle.std.specs.Prelude.{◌*◌}
+use Rattle.std.proofs.Common.{◌≡◌, ℕ, ◌<◌, Bool, true, false, refl, sym, ap, subst, arith, Some, None, Option, ◌∙◌}
 use Rattle.vm_base.specs.declared.info.Back.{Back}
 use Rattle.vm_base.specs.declared.page.PageRange.{PageRange}
 use Rattle.vm_base.specs.declared.replies.Reply.{Reply}
@@ -7,12 +6,12 @@ use Rattle.vm_base.specs.declared.requests.Request.{Request}
 use Rattle.vm_base.specs.declared.requests.Request.TheVariants.{Mmap, Munmap, Mprotect, Load as LoadOf, Store as StoreOf, Fetch as FetchOf}
 use Rattle.vm_base.specs.declared.rights.Prot.{Prot}
 use Rattle.vm_base.specs.declared.rights.Access.{Access}
-use Rattle.vm_base.specs.Pages.{page_count, pages_from, page_of, window_of}
-use Rattle.vm_base.specs.Places.{IsPlace, IsLeastRoom, IsRoom}
+use Rattle.vm_base.specs.Pages.{page_count, page_of, window_of}
+use Rattle.vm_base.specs.Places.{IsPlace, IsLeastRoom}
 use Rattle.vm_base.specs.Places.IsPlace.{at_hint, in_window}
 use Rattle.vm_base.specs.Plain.{Plain, mode_of, is_mapped}
 use Rattle.vm_base.specs.Refusals.{refusal}
-use Rattle.vm_base.specs.Apply.{Applies, AppliesAfter, Performs, Maps, MapsAt, Protects, Accesses, range_at, back_at, mapped, accessed}
+use Rattle.vm_base.specs.Apply.{Applies, AppliesAfter, Performs, Maps, MapsAt, Protects, Accesses, range_at, back_at, accessed}
 use Rattle.vm_base.specs.Apply.Protects.{no_page, no_write, done}
 
 least_one : (m : ℕ → Bool) (w : PageRange) (n : ℕ) (a b : Option ℕ) → IsLeastRoom m w n a → IsLeastRoom m w n b → a ≡ b

@@ -1,10 +1,9 @@
-use Rattle.std.proofs.Common.{◌≡◌, ℕ, ◌<◌, ◌≤◌, ◌+◌, ◌*◌, ◌/◌, ◌-◌, ◌⊎◌, inl, inr, Bool, true, false, cond, refl, sym, ap, subst, arith, ◌∙◌, max, ◌==◌}
+use Rattle.std.proofs.Common.{◌≡◌, ℕ, ◌<◌, ◌≤◌, ◌+◌, ◌*◌, ◌/◌, Bool, true, false, cond, refl, ap, arith, max, ◌==◌}
 use Rattle.std.specs.Prelude.{◌↔◌}
-use Rattle.std.proofs.lemmas.Bool.Decides.{nat_tests}
 use Rattle.vm_base.specs.Functions.{has}
-use Rattle.vm_base.specs.Pages.{page_of, pages_of}
+use Rattle.vm_base.specs.Pages.{pages_of}
 use Rattle.vm_base.specs.Laws.{HasByte}
-use Rattle.vm_base.proofs.Functions.{has_in, in_has, eq_true, eq_false, by_test}
+use Rattle.vm_base.proofs.Functions.{has_in, in_has, eq_true, eq_false}
 
 zero_end : (addr len : ℕ) → (len == 0) ≡ true → (pages_of addr len).end ≡ addr / 4096
 zero_end addr len h = ap (λ b. cond b (addr / 4096) ((addr + len + 4095) / 4096)) h

@@ -1,12 +1,13 @@
 -- Loads and fetches have a reply at once, and so has a store once its page's copy is made
-use Rattle.std.proofs.Common.{◌≡◌, ◌≢◌, ℕ, Bool, true, false, cond, is_some, Option, Some, None, refl, sym, ◌∙◌, ap}
+use Rattle.std.proofs.Common.{◌≡◌, ℕ, Bool, true, false, cond, is_some, Option, Some, None, refl, ◌∙◌, ap}
 use Rattle.vm_base.specs.declared.rights.Access.{Access}
 use Rattle.vm_base.specs.declared.rights.Access.TheVariants.{Load, Store, Fetch}
 use Rattle.vm_base.specs.declared.info.Back.{Back}
 use Rattle.vm_base.specs.declared.replies.SegvCode.TheVariants.{MapErr, AccErr}
 use Rattle.vm_base.specs.declared.replies.Reply.{Reply}
 use Rattle.vm_base.specs.declared.replies.Reply.TheVariants.{Segv}
-use Rattle.vm_base.specs.declared.requests.Request.TheVariants.{Store as StoreOf}
+use Rattle.vm_base.specs.declared.requests.Request.{Request}
+use Rattle.vm_base.specs.declared.requests.Request.TheVariants.{Mmap, Munmap, Mprotect, Load as LoadOf, Store as StoreOf, Fetch as FetchOf}
 use Rattle.vm_base.specs.Rights.{is_allowed}
 use Rattle.vm_base.specs.Pages.{page_of, offset_of, is_page}
 use Rattle.vm_base.specs.Plain.{Bytes, File, Entry, Plain, bytes_of}
@@ -59,3 +60,12 @@ store_ready t addr byte = go (access_reply t addr Store) refl
     go (Some y) e =
         let some : is_some (access_reply t addr Store) ≡ true = ap (λ (r : Option Reply). is_some r) e in
         ap (λ (x : Plain). is_some (access_reply x addr Store)) (prepared_ready t addr byte some) ∙ some
+
+-- a request that is no store is answered in the state that it finds
+pub prepared_other : (t : Plain) (request : Request) → ((addr byte : ℕ) → request ≡ StoreOf addr byte → ⊥) → t ≡ prepared t request
+prepared_other t (Mmap addr len prot flags file off) other = refl
+prepared_other t (Munmap addr len) other = refl
+prepared_other t (Mprotect addr len prot) other = refl
+prepared_other t (LoadOf addr) other = refl
+prepared_other t (StoreOf addr byte) other = absurd (other addr byte refl)
+prepared_other t (FetchOf addr) other = refl
