@@ -140,12 +140,12 @@ fn shown<A: Allocator>(
     }
 }
 
-/// Tells whether the page is a private one of a file without own bytes.
-fn needs_copy<A: Allocator>(owned: &[OwnPage<A>], back: Back, page: u64) -> bool
-    ensures { result ≡ needs_copy back (own_shown back (own_at owned.now page)) }
+/// Tells whether the access is a store to a private page of a file without own bytes.
+fn needs_copy<A: Allocator>(owned: &[OwnPage<A>], access: Access, back: Back, page: u64) -> bool
+    ensures { result ≡ needs_copy access back (own_shown back (own_at owned.now page)) }
 {
-    match back {
-        Back::Private { .. } => !has_own(owned, page),
+    match (access, back) {
+        (Access::Store, Back::Private { .. }) => !has_own(owned, page),
         _ => false,
     }
 }
@@ -181,7 +181,7 @@ pub fn page_reply<A: Allocator>(
     let Some(byte) = shown(files, owned, meta.back, page, offset) else {
         return Some(Reply::Bus);
     };
-    if needs_copy(owned, meta.back, page) {
+    if needs_copy(owned, access, meta.back, page) {
         return None;
     }
     Some(byte_reply(access, byte))
