@@ -1,7 +1,7 @@
 -- What a step is: it changes nothing, begins a call, ends one, or is one of a few things that a call in some phase does. Every
 -- statement on steps is shown shape by shape, so that no row of the machine is taken apart twice.
 use Rattle.std.proofs.Common.{◌≡◌, ℕ, ◌<◌, ◌⊎◌, inl, inr, Bool, true, false, cond, refl, arith, Some, None, Option, Result, Ok, Err, [], length}
-use Rattle.std.specs.Prelude.{nat_lt, if◌then◌else◌}
+use Rattle.std.specs.Prelude.{nat_lt, ◌&&◌, if◌then◌else◌}
 use Rattle.std.proofs.lemmas.Bool.Decides.{nat_tests}
 use Rattle.vm_base.specs.declared.info.PageInfo.{PageInfo}
 use Rattle.vm_base.specs.declared.page.PageRange.{PageRange}
@@ -26,9 +26,9 @@ use Rattle.slot_lock.specs.Slots.{Slots, Steps, Splits, Locks, Unlocks}
 use Rattle.vm_calls.specs.declared.decision.Decision.{Decision}
 use Rattle.vm_calls.specs.declared.decision.Decision.TheVariants.{Refuse, Act}
 use Rattle.vm_calls.specs.declared.fault.Settled.{Settled}
-use Rattle.vm_calls.specs.declared.fault.Settled.TheVariants.{MapErr, AccErr, Bus, Has, Cached, Wants}
+use Rattle.vm_calls.specs.declared.fault.Settled.TheVariants.{MapErr, AccErr, Bus, Has, Copies, Cached, Wants}
 use Rattle.vm_calls.specs.Decisions.{Decides}
-use Rattle.vm_calls.specs.Settling.{settled, source}
+use Rattle.vm_calls.specs.Settling.{settled, source, is_private_store}
 use Rattle.machine_model.specs.declared.event.Event.{Event}
 use Rattle.machine_model.specs.declared.event.Event.TheVariants.{Call, Go}
 use Rattle.machine_model.specs.declared.event.Outcome.{Outcome}
@@ -183,6 +183,7 @@ try_shape w c touch None v e k h = moves (locking (To.Access touch)) (faults tou
 -- what an access finds that isn't a fault
 abbrev Finds : (ℕ → Option File) → Option PageInfo → Access → Settled → Type 0
 Finds file info access (Has f) = IsUsable file info access (Some f)
+Finds file info access (Copies f) = ⊥
 Finds file info access (Cached f) = IsUsable file info access None
 Finds file info access Wants = IsUsable file info access None
 Finds file info access _ = Unit {0}
@@ -191,10 +192,15 @@ found : (file : ℕ → Option File) (info : Option PageInfo) (access : Access) 
 found file None access = tt
 found file (Some info) access = go (is_allowed info.meta.prot access) (is_past_end file (Some info)) info.frame refl refl refl
   where
+    -- no file page is cached, so none is to be copied
+    has : (f : ℕ) → IsUsable file (Some info) access (Some f) → (store : Bool) → Finds file (Some info) access (if store && false then Copies f else Has f)
+    has f u true = u
+    has f u false = u
+
     go : (a b : Bool) (f : Option ℕ) → is_allowed info.meta.prot access ≡ a → is_past_end file (Some info) ≡ b → info.frame ≡ f
-        → Finds file (Some info) access (if a then (if b then Bus else source f None) else AccErr)
+        → Finds file (Some info) access (if a then (if b then Bus else source info.meta.back f access None) else AccErr)
     go true true f i j k = tt
-    go true false (Some f) i j k = (i, j, k)
+    go true false (Some f) i j k = has f (i, j, k) (is_private_store info.meta.back access)
     go true false None i j k = (i, j, k)
     go false b f i j k = tt
 
@@ -204,6 +210,7 @@ settle_shape w c touch MapErr v e k f h = answers (Some (page_of_touch touch)) (
 settle_shape w c touch AccErr v e k f h = answers (Some (page_of_touch touch)) (ReplyOf.Segv Code.AccErr) (fails touch e refl (rw k refl)) h
 settle_shape w c touch Bus v e k f h = answers (Some (page_of_touch touch)) ReplyOf.Bus (fails touch e refl (rw k refl)) h
 settle_shape w c touch (Has g) v e k f h = moves (Install touch) (finds touch g e refl f) h
+settle_shape w c touch (Copies g) v e k f h = absurd f
 settle_shape w c touch (Cached g) v e k f h = moves (Want touch) (lacks touch e refl f) h
 settle_shape w c touch Wants v e k f h = moves (Want touch) (lacks touch e refl f) h
 
