@@ -1,5 +1,3 @@
-pub mod Rank
-pub mod Rows
+mod Rank
+mod Rows
 pub mod Serving
-pub mod Runs
-pub mod Examples

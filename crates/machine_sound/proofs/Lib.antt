@@ -1,6 +1,6 @@
 pub mod Logs
 pub mod Replies
-mod OneMap
+pub mod OneMap
 pub mod Pages
 pub mod Moves
 mod Commits
