@@ -8,3 +8,5 @@ mod Accesses
 pub mod Opening
 pub mod Sound
 pub mod Kept
+mod Examples
+mod Run
