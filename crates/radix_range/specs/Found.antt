@@ -1,15 +1,12 @@
 -- The slot that has a page, and what a walk from slot to slot has seen
-use Rattle.std.specs.Prelude.{◌≡◌, ℕ, ◌+◌, ◌-◌, ◌<◌, ◌≤◌, true, Option, None, Some, min}
+use Rattle.std.specs.Prelude.{◌≡◌, ℕ, ◌-◌, ◌/◌, ◌%◌, ◌<◌, ◌≤◌, ◌==◌, Bool, Option, None, Some}
 use Rattle.vm_base.specs.declared.page.PageRange.{PageRange}
 use Rattle.vm_base.specs.declared.info.PageInfo.{PageInfo}
-use Rattle.vm_base.specs.declared.info.Meta.{Meta}
-use Rattle.vm_base.specs.declared.rights.Prot.{Prot}
-use Rattle.vm_base.specs.Pages.{IsPage}
 use Rattle.vm_base.specs.Functions.{has, across, over}
 use Rattle.vm_base.specs.Info.{advance, frame_of, info_from, unused, info_with_prot}
 use Rattle.slot_lock.specs.declared.plan.Change.{Change}
 use Rattle.slot_lock.specs.declared.plan.Change.TheVariants.{Put, Clear, Protect}
-use Rattle.slot_lock.specs.Slots.{Slots, IsSlot, Divides, NoFrames, between}
+use Rattle.slot_lock.specs.Slots.{Slots, IsSlot, NoFrames, between}
 use Rattle.radix_node.specs.State.{State}
 use Rattle.radix_node.specs.Run.{IsSound}
 
@@ -29,11 +26,9 @@ restated s first end state = record s {
   owner = over s.owner (has (between first end)) state.owner;
 }
 
--- the page's slot was divided, and nothing else changed
-pub record DividesAt (s t : Slots) (page : ℕ) : Type 0 where
-  pub at : ℕ
-  pub is_page : IsPage at
-  pub divides : Divides s t (s.owner page) at
+-- a slot is divided in 512 of equal size
+abbrev pub in_512 : PageRange → ℕ → ℕ → Bool
+in_512 slot at p = (p - slot.first) % ((slot.end - slot.first) / 512) == 0
 
 -- what a change makes of a page that has this
 abbrev pub anew : Change → ℕ → Option PageInfo → Option PageInfo

@@ -1,15 +1,15 @@
 //! Changes of a tree's slots.
-ghost use Rattle.std.specs.Prelude.{◌≡◌, ℕ, ◌+◌, ◌-◌, ◌^◌, ◌<◌, ◌≤◌, OnOk, OnErr, IsTrue, true, Option, Some};
+ghost use Rattle.std.specs.Prelude.{◌≡◌, ℕ, ◌+◌, ◌-◌, ◌^◌, ◌<◌, ◌≤◌, ◌↔◌, OnOk, OnErr, IsTrue, true, false, Option, Some};
 ghost use Rattle.vm_base.specs.Pages.{IsPage};
 ghost use Rattle.vm_base.specs.Info.{info_with_prot, info_without_frame};
 ghost use Rattle.slot_lock.specs.Plan.{IsSoundChange, range_of};
-ghost use Rattle.slot_lock.specs.Slots.{Divides, HasMeta, IsCut, IsSlot, Joins, with_owner, with_info};
+ghost use Rattle.slot_lock.specs.Slots.{Divides, DividesAs, HasMeta, IsCut, IsSlot, Joins, with_owner, with_info};
 ghost use Rattle.slot_lock.specs.RunSlots.{changed};
 ghost use Rattle.radix_node.specs.State.{state_of};
 ghost use Rattle.radix_node.specs.Run.{IsSound};
 ghost use Rattle.radix_range.specs.Tree.{IsRadix, tree_slots};
 ghost use Rattle.radix_range.specs.Folds.{CanFold, FoldsNode};
-ghost use Rattle.radix_range.specs.Found.{DividesAt, anew, changed_to, restated};
+ghost use Rattle.radix_range.specs.Found.{in_512, anew, changed_to, restated};
 
 use crate::slot::slot_at;
 use radix_node::{Node, SlotState};
@@ -17,13 +17,14 @@ use slot_lock::Change;
 use std::alloc::Allocator;
 use vm_base::{CoreId, CoreSet, Meta, NoMemory, PageInfo, Prot};
 
-/// Makes 512 slots of the valid page's slot, which has several pages. A refusal for memory changes nothing.
+/// Makes 512 slots of the slot that has the valid page and begins before it. A refusal for memory changes nothing.
 pub fn expand<A: Allocator + Clone>(root: &mut Node<A>, page: u64) -> Result<(), NoMemory>
     requires tree { IsRadix root.old }
     requires page { IsPage page }
-    requires large { ¬ IsSlot (tree_slots root.old) page (page + 1) }
+    requires crossed { (tree_slots root.old).edge page ≡ false }
     ensures tree { IsRadix root.new }
-    ensures ok { OnOk result (DividesAt (tree_slots root.old) (tree_slots root.new) page) }
+    ensures ok { OnOk result ((at : ℕ) × IsPage at × Divides (tree_slots root.old) (tree_slots root.new) ((tree_slots root.old).owner page) at) }
+    ensures exact { OnOk result (DividesAs in_512 (tree_slots root.old) (tree_slots root.new) page) }
     ensures err { OnErr result (root.new ≡ root.old) }
 {
     root.expand_at(page)
@@ -168,10 +169,10 @@ pub fn fold<A: Allocator>(root: &mut Node<A>, page: u64) -> bool
     requires tree { IsRadix root.old }
     requires page { IsPage page }
     ensures tree { IsRadix root.new }
+    ensures can { IsTrue result ↔ CanFold (tree_slots root.old) page }
     ensures joined { IsTrue result → Joins (tree_slots root.old) (tree_slots root.new) }
     ensures same { ¬ IsTrue result → root.new ≡ root.old }
     ensures exact { IsTrue result → FoldsNode (tree_slots root.old) (tree_slots root.new) page }
-    ensures only { ¬ IsTrue result → ¬ CanFold (tree_slots root.old) page }
 {
     root.fold_at(page)
 }

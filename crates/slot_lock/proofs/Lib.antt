@@ -7,3 +7,4 @@ pub mod Walks
 pub mod Frames
 pub mod EdgeCounts
 pub mod SlotLaws
+pub mod Divisions

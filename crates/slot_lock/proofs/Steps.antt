@@ -6,7 +6,7 @@ use Rattle.vm_base.specs.Info.{info_from}
 use Rattle.slot_lock.specs.declared.run.Run.{Run}
 use Rattle.slot_lock.specs.Runs.{IsRuns, IsAt, get_run, run_at, place_of}
 use Rattle.slot_lock.specs.Places.{read_run, run_at_is, run_at_place, before_last, start_most}
-use Rattle.slot_lock.specs.Slots.{Slots, IsNew, IsSlot, Locks, Unlocks, Crosses, with_owner}
+use Rattle.slot_lock.specs.Slots.{Slots, IsNew, IsSlot, IsSlotBy, Locks, Unlocks, Crosses, with_owner}
 use Rattle.slot_lock.specs.RunSlots.{slots_of}
 use Rattle.slot_lock.specs.RunLaws.{is_slot, from_test, other_test, edge_at}
 
@@ -36,13 +36,13 @@ locks rs qs ok i core cursor end h e free by_end now = record {
   now = now ∙ ap (λ n. with_owner (slots_of rs) n (get_run rs (i + 1)).start (Some core)) e;
 }
 
-pub unlocks : (rs qs : List Run) → IsRuns rs → (i core cursor end : ℕ) → i + 1 < length rs → (get_run rs i).start ≡ cursor → cursor < end → (slots_of rs).edge end ≡ true → (slots_of rs).owner cursor ≡ Some core → slots_of qs ≡ with_owner (slots_of rs) (get_run rs i).start (get_run rs (i + 1)).start None → Unlocks (slots_of rs) (slots_of qs) core cursor end (get_run rs (i + 1)).start
-unlocks rs qs ok i core cursor end h e some ends held now =
+pub unlocks : (rs qs : List Run) → IsRuns rs → (i core cursor end : ℕ) → i + 1 < length rs → (get_run rs i).start ≡ cursor → IsSlotBy (slots_of rs) cursor end → (slots_of rs).owner cursor ≡ Some core → slots_of qs ≡ with_owner (slots_of rs) (get_run rs i).start (get_run rs (i + 1)).start None → Unlocks (slots_of rs) (slots_of qs) core cursor end (get_run rs (i + 1)).start
+unlocks rs qs ok i core cursor end h e by held now =
     let slot = slot_from rs ok i cursor h e in
     let own = owner_in rs ok i cursor (omega arith) (omega arith) (let r = ok.rising i h in omega arith) in
     record {
       slot = slot;
-      by_end = slot_by_edge (slots_of rs) cursor (get_run rs (i + 1)).start end slot ends some;
+      by_end = (let l = slot_by_edge (slots_of rs) cursor (get_run rs (i + 1)).start by.0 slot by.1.ends by.1.ordered in let m = by.2 in omega arith);
       was_held = λ p a b. owner_in rs ok i p (omega arith) (omega arith) b ∙ (sym own ∙ held);
       now = now ∙ ap (λ n. with_owner (slots_of rs) n (get_run rs (i + 1)).start None) e;
     }

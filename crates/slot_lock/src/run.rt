@@ -4,8 +4,8 @@ ghost use Rattle.vm_base.specs.Pages.{IsPage};
 ghost use Rattle.vm_base.specs.Info.{info_with_prot, info_from, info_file_page, is_leaf};
 ghost use Rattle.slot_lock.specs.Plan.{IsSoundChange, range_of};
 ghost use Rattle.slot_lock.specs.Runs.{IsRuns, IsAt, IsInner, IsInside, IsJoint, get_run};
-ghost use Rattle.slot_lock.specs.Slots.{Divides, HasMeta, IsCut, CanJoin, Folds, with_owner, with_info};
-ghost use Rattle.slot_lock.specs.RunSlots.{slots_of, changed};
+ghost use Rattle.slot_lock.specs.Slots.{Divides, DividesAs, HasMeta, IsCut, CanJoin, Folds, with_owner, with_info};
+ghost use Rattle.slot_lock.specs.RunSlots.{slots_of, changed, two_parts};
 
 use crate::plan::Change;
 use std::alloc::Allocator;
@@ -124,6 +124,7 @@ pub fn cut<A: Allocator>(runs: &mut Vec<Run, A>, i: usize, at: u64) -> Result<()
     requires inside { IsInside runs.old.items i at }
     ensures runs { IsRuns runs.new.items }
     ensures ok { OnOk result (Divides (slots_of runs.old.items) (slots_of runs.new.items) (get_run runs.old.items i).owner at) }
+    ensures exact { OnOk result (DividesAs two_parts (slots_of runs.old.items) (slots_of runs.new.items) at) }
     ensures err { OnErr result (runs.new.items ≡ runs.old.items) }
 {
     let run = runs[i];

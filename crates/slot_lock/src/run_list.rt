@@ -10,7 +10,9 @@ use std::alloc::Allocator;
 use vm_base::info::info_from;
 use vm_base::{CoreId, CoreSet, Meta, NoMemory, PageInfo, PageRange, Prot};
 
-/// A map of slots as the list of them, in order.
+/// A map of slots as the list of them, in order. A division makes two slots. A fold joins a page's slot with the next one
+/// to its right, where nobody holds them, they have no frame and no recorded core, and the second's pages go on from the
+/// first's. Page 0 and what lies above all valid pages stay slots of their own.
 #[derive(Drop)]
 pub struct RunList<A: Allocator> {
     runs: Vec<Run, A>,
@@ -79,10 +81,16 @@ impl<A: Allocator> SlotRead for RunList<A> {
 }
 
 impl<A: Allocator> SlotMap for RunList<A> {
-    ghost use Rattle.std.specs.Prelude.{◌≡◌, ℕ, IsTrue};
-    ghost use Rattle.vm_base.specs.Pages.{IsPage};
+    ghost use Rattle.std.specs.Prelude.{ℕ};
     ghost use Rattle.slot_lock.specs.RunLaws.{slots_of-is_slot_map};
-    ghost use Rattle.slot_lock.specs.Slots.{CanJoin, Folds, Joins};
+    ghost use Rattle.slot_lock.specs.RunSlots.{two_parts};
+    ghost use Rattle.slot_lock.specs.Slots.{CanJoin, Folds};
+
+    ghost parts = { two_parts };
+
+    ghost can_fold = { λ s page. (at : ℕ) × CanJoin s page at };
+
+    ghost folds = { Folds };
 
     ghost is_slot_map = { λ m. slots_of-is_slot_map m.runs.items m.ok };
 
@@ -162,16 +170,7 @@ impl<A: Allocator> SlotMap for RunList<A> {
         run::set_info(&mut self.runs, i, info);
     }
 
-    /// Joins the page's slot with the next one to its right, where nobody holds them, they have no frame and no recorded
-    /// core, and the second's pages go on from the first's. Answers whether it did. Page 0 and what lies above all valid
-    /// pages stay slots of their own.
-    fn fold(&mut self, page: u64) -> bool
-        requires { IsPage page }
-        ensures joined { IsTrue result → Joins (⟦<RunList<A> as SlotRead>⟧.slots self.old) (⟦<RunList<A> as SlotRead>⟧.slots self.new) }
-        ensures same { ¬ IsTrue result → ⟦<RunList<A> as SlotRead>⟧.slots self.new ≡ ⟦<RunList<A> as SlotRead>⟧.slots self.old }
-        ensures exact { IsTrue result → Folds (⟦<RunList<A> as SlotRead>⟧.slots self.old) (⟦<RunList<A> as SlotRead>⟧.slots self.new) page }
-        ensures only { ¬ IsTrue result → (at : ℕ) → ¬ CanJoin (⟦<RunList<A> as SlotRead>⟧.slots self.old) page at }
-    {
+    fn fold(&mut self, page: u64) -> bool {
         run::fold(&mut self.runs, page)
     }
 }
