@@ -22,6 +22,13 @@ right-or false b h = h
 pub one-covered : (r : PageRange) (p : ℕ) → has r p ≡ true → covers (one_range r) p ≡ true
 one-covered r p h = left-or (has r p) false h
 
+pub covered-one : (r : PageRange) (p : ℕ) → covers (one_range r) p ≡ true → has r p ≡ true
+covered-one r p h = go (has r p) h
+  where
+    go : (b : Bool) → (b || false) ≡ true → b ≡ true
+    go true e = refl
+    go false e = absurd cc
+
 choice : (b : Bool) (x y : Footprint) (p : ℕ) → covers x p ≡ true → covers y p ≡ true → covers (if b then x else y) p ≡ true
 choice true x y p l r = l
 choice false x y p l r = r

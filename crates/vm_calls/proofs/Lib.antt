@@ -3,7 +3,7 @@ mod Steps
 mod Absent
 pub mod Readable
 pub mod Passed
-mod Covered
+pub mod Covered
 mod Places
 pub mod Alike
 pub mod Accesses
