@@ -55,6 +55,13 @@ impl SlotState {
         self.owner
     }
 
+    /// Gives the slot another owner.
+    pub fn set_owner(&mut self, owner: Option<CoreId>)
+        ensures { state_of self.new ≡ record { info = (state_of self.old).info; owner = owner } }
+    {
+        self.owner = owner;
+    }
+
     /// The cores that are recorded on the slot's first page.
     pub fn cores(&self) -> CoreSet
         ensures { members result ≡ is_recorded (state_of self.now).info }

@@ -12,6 +12,7 @@ ghost use Rattle.radix_range.specs.Folds.{CanFold, FoldsNode};
 ghost use Rattle.radix_range.specs.Found.{DividesAt, anew, changed_to, restated};
 
 use crate::slot::slot_at;
+use radix_node::place::slot_pages;
 use radix_node::{Node, SlotState};
 use slot_lock::Change;
 use std::alloc::Allocator;
@@ -52,11 +53,8 @@ pub fn set_owner<A: Allocator>(root: &mut Node<A>, page: u64, owner: Option<Core
     ensures one_owner { (p : ℕ) → page ≤ p → p < result → (tree_slots root.old).owner p ≡ (tree_slots root.old).owner page }
     ensures slots { tree_slots root.new ≡ with_owner (tree_slots root.old) page result owner }
 {
-    let slot = slot_at(root, page);
-    let end = slot.end;
-    let state = SlotState::new(slot.state.info(), owner);
-    set_slot(root, page, end, &state);
-    end
+    let level = root.own_at(page, owner);
+    page + slot_pages(level)
 }
 
 /// Gives a mapped page that is a slot of its own another frame and other cores.
