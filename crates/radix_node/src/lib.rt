@@ -6,7 +6,7 @@ pub mod place;
 pub mod state;
 
 pub use node::{Found, Node, Slot};
-pub use state::{Content, SlotState};
+pub use state::{Kind, SlotState};
 
 #[cfg(test)]
 mod tests;
