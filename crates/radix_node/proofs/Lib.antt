@@ -3,3 +3,4 @@ pub mod Flat
 pub mod Divided
 pub mod Joined
 pub mod Folds
+pub mod Walks

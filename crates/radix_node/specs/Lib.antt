@@ -3,3 +3,4 @@ pub mod Run
 pub mod Node
 pub mod Slots
 pub mod SlotsFall
+pub mod Walk

@@ -4,9 +4,11 @@
 pub mod node;
 pub mod place;
 pub mod state;
+pub mod walk;
 
 pub use node::{Found, Node, Slot};
 pub use state::{Kind, SlotState};
+pub use walk::FreeRun;
 
 #[cfg(test)]
 mod tests;

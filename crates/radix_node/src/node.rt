@@ -27,8 +27,8 @@ pub enum Slot<A: Allocator> {
 #[cycle(node)]
 #[derive(Drop)]
 pub struct Node<A: Allocator> {
-    level: u8,
-    slots: Vec<Slot<A>, A>,
+    pub(crate) level: u8,
+    pub(crate) slots: Vec<Slot<A>, A>,
 }
 
 impl<A: Allocator> Model for Node<A> {
