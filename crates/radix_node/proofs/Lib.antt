@@ -4,3 +4,4 @@ pub mod Divided
 pub mod Joined
 pub mod Folds
 pub mod Walks
+pub mod Edits

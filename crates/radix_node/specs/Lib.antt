@@ -4,3 +4,4 @@ pub mod Node
 pub mod Slots
 pub mod SlotsFall
 pub mod Walk
+pub mod Edit

@@ -2,8 +2,10 @@
 ghost use Rattle.std.specs.Prelude.{◌≡◌, ◌+◌, ◌<◌, ◌^◌, ◌↔◌, IsTrue, Option, None, Some, is_some, true, false};
 ghost use Rattle.vm_base.specs.Cores.{members};
 ghost use Rattle.vm_base.specs.Info.{info_file_page, info_from, is_leaf, frame_of, is_recorded};
+ghost use Rattle.radix_node.specs.Edit.{CanEdit, edited};
 ghost use Rattle.radix_node.specs.State.{back_of, frame_in, state_of, state_from, IsPlain};
 
+use crate::edit::Edit;
 use vm_base::info::info_from;
 use vm_base::{Back, CoreId, CoreSet, Meta, PageInfo, Prot};
 
@@ -149,6 +151,21 @@ impl SlotState {
         ensures { state_of self.new ≡ record { info = (state_of self.old).info; owner = owner } }
     {
         self.owner = owner;
+    }
+
+    /// Changes the slot as one of a range that begins `by` pages before it.
+    pub fn edit(&mut self, edit: &Edit, by: u64)
+        requires { CanEdit edit.now (by + 1) }
+        ensures { state_of self.new ≡ edited edit.now by (state_of self.old) }
+    {
+        match edit {
+            Edit::Put(info) => *self = SlotState::new(info_from(*info, by), self.owner),
+            Edit::Protect(prot) => {
+                self.prot = *prot;
+                self.cores = CoreSet::empty();
+            }
+            Edit::DropFrame => self.has_frame = false,
+        }
     }
 
     /// The cores that are recorded on the slot's first page.
