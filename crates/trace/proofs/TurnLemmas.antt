@@ -12,7 +12,7 @@ use Rattle.core_steps.specs.Setups.{fault_of}
 use Rattle.trace.specs.declared.fault.TraceFault.{TraceFault}
 use Rattle.trace.specs.declared.fault.TraceFault.TheVariants.{BadLine, TooLong, ReadFailed, NoVmLine, NoMemory, Setup, WriteFailed}
 use Rattle.trace.specs.Stage.{Stage, Start, Declared, Running, SetupFails, OpenFails, LineWants, BadFails, SpaceFails, SaidFails, BytesFail, LineFails, Acts}
-use Rattle.trace.specs.Turns.{Scene, Fails, no_memory, refused, unwritten}
+use Rattle.trace.specs.Turns.{Scene, IsHeld, Fails, no_memory, refused, unwritten}
 
 -- neither the reader's fault nor the writer's
 pub is_own : TraceFault → Bool
@@ -89,10 +89,13 @@ unfolding is_own
 end_not_write s f h e = let clash : false ≡ true = sym (ap is_own e) ∙ own_open s f h in cc
 
 -- a line that wasn't acted on fails the turn
-pub act_fails : (old new : Scene) (n : ℕ) (line seen : List ℕ) (f : TraceFault) → Keeps old.written new.written → length line ≤ 256 → IsUnbroken line → TakesLine old.left new.left line → seen ≡ line
+pub act_fails : (old new : Scene) (n : ℕ) (line held seen : List ℕ) (f : TraceFault) → Keeps old.written new.written → length line ≤ 256
+    → IsUnbroken line → TakesLine old.left new.left line → IsHeld held new → seen ≡ line
     → ((f ≡ NoMemory) × LineWants old.stage seen) ⊎ LineFails old.stage (n + 1) seen f → Fails old new n f
-act_fails old new n line seen f keeps short unbroken takes same (inl e) = no_memory e.0 line short unbroken takes (subst (LineWants old.stage) same e.1) keeps
-act_fails old new n line seen f keeps short unbroken takes same (inr h) = refused line short unbroken takes (subst (λ l. LineFails old.stage (n + 1) l f) same h) keeps
+act_fails old new n line held seen f keeps short unbroken takes holds same (inl e) =
+    no_memory e.0 line held short unbroken takes holds (subst (LineWants old.stage) same e.1) keeps
+act_fails old new n line held seen f keeps short unbroken takes holds same (inr h) =
+    refused line short unbroken takes (subst (λ l. LineFails old.stage (n + 1) l f) same h) keeps
 
 -- a line whose text wasn't written whole fails the turn
 pub text_lost : (old new : Scene) (n : ℕ) (line seen text shown : List ℕ) → length line ≤ 256 → IsUnbroken line → TakesLine old.left new.left line → seen ≡ line → Acts old.stage seen new.stage text
