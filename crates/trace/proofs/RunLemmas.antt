@@ -1,5 +1,5 @@
 -- Whole runs, a line at a time.
-use Rattle.std.proofs.Common.{◌≡◌, ◌≢◌, ℕ, zero, suc, ◌+◌, ◌<◌, ◌≤◌, false, cond, List, [], ◌∷◌, ◌++◌, Option, None, Some, Result, Ok, Err, IfSome, IfErr, OnOk, length, take, ◌⊎◌, inl, inr, arith, refl, sym, ap, ◌∙◌, subst, eqb, append_assoc, append-nil, length-append}
+use Rattle.std.proofs.Common.{◌≡◌, ◌≢◌, ℕ, zero, suc, ◌+◌, ◌<◌, ◌≤◌, false, Bool, cond, List, [], ◌∷◌, ◌++◌, Option, None, Some, Result, Ok, Err, IfSome, IfErr, OnOk, length, take, ◌⊎◌, inl, inr, arith, refl, sym, ap, ◌∙◌, subst, eqb, append_assoc, append-nil, length-append}
 use Rattle.std.proofs.lemmas.Bool.{ne_eqb}
 use Rattle.std.proofs.Math.Seq.{take-append-add}
 use Rattle.std.proofs.lemmas.Grind.{common_steps}
@@ -336,3 +336,13 @@ some_kept (Some input) unread a b c r h k = ends_kept input unread a b c r h k
 pub some_lost : {T : Type 0} (o unread a b c : Option (List ℕ)) (r : Result T TraceFault) → IfSome o (λ input. Ends input unread a b r) → Keeps b c → IfSome o (λ input. Stops input unread a c WriteFailed)
 some_lost None unread a b c r h k = tt
 some_lost (Some input) unread a b c r h k = stops_kept input unread a b c WriteFailed (ends_lost input unread a b r h) k
+
+-- what isn't `write failed` leaves the writer's mark as it was
+pub mark_kept : {T : Type 0} (r : Result T TraceFault) (x : T) (a b : Bool) → r ≡ Ok x → (r ≡ Err WriteFailed) ⊎ (b ≡ a) → b ≡ a
+mark_kept r x a b e (inl w) = let clash : Ok x ≡ Err WriteFailed = sym e ∙ w in absurd (cc)
+mark_kept r x a b e (inr k) = k
+
+pub fault_kept : {T U : Type 0} (r : Result T TraceFault) (s : Result U TraceFault) (f : TraceFault) (a b c : Bool) → r ≡ Err f → s ≡ Err f
+    → (r ≡ Err WriteFailed) ⊎ (c ≡ b) → b ≡ a → (s ≡ Err WriteFailed) ⊎ (c ≡ a)
+fault_kept r s f a b c e d (inl w) k = let same : f ≡ WriteFailed = cc in inl (d ∙ ap Err same)
+fault_kept r s f a b c e d (inr l) k = inr (l ∙ k)

@@ -1,6 +1,6 @@
 -- Whose fault a fault is, and what a line comes to in a turn.
-use Rattle.std.proofs.Common.{◌≡◌, ℕ, ◌+◌, ◌≤◌, Bool, true, false, cond, List, Option, None, Some, ◌⊎◌, inl, inr, refl, sym, ap, ◌∙◌, subst, length}
-use Rattle.std.specs.Io.KnownBytes.{Keeps}
+use Rattle.std.proofs.Common.{◌≡◌, ℕ, ◌+◌, ◌≤◌, Bool, true, false, cond, List, ◌++◌, Option, None, Some, ◌⊎◌, inl, inr, refl, sym, ap, ◌∙◌, subst, length}
+use Rattle.std.specs.Io.KnownBytes.{Keeps, Appends}
 use Rattle.trace_io.specs.Sink.{AppendsFront}
 use Rattle.trace_io.specs.Lines.{IsUnbroken, TakesLine}
 use Rattle.trace_text.specs.Words.{words_of}
@@ -97,8 +97,17 @@ act_fails old new n line held seen f keeps short unbroken takes holds same (inl 
 act_fails old new n line held seen f keeps short unbroken takes holds same (inr h) =
     refused line short unbroken takes (subst (λ l. LineFails old.stage (n + 1) l f) same h) keeps
 
+appends_after : (a b c : Option (List ℕ)) (xs : List ℕ) → Keeps a b → Appends b c xs → Appends a c xs
+appends_after None b c xs k p = tt
+appends_after (Some x) None c xs k p = absurd k
+appends_after (Some x) (Some y) None xs k p = absurd p
+appends_after (Some x) (Some y) (Some z) xs k p = p ∙ ap (λ l. l ++ xs) k
+
 -- a line whose text wasn't written whole fails the turn
-pub text_lost : (old new : Scene) (n : ℕ) (line seen text shown : List ℕ) → length line ≤ 256 → IsUnbroken line → TakesLine old.left new.left line → seen ≡ line → Acts old.stage seen new.stage text
-    → shown ≡ text → AppendsFront old.written new.written shown → Fails old new n WriteFailed
-text_lost old new n line seen text shown short unbroken takes same acts whole front =
-    unwritten refl line text short unbroken takes (subst (λ l. Acts old.stage l new.stage text) same acts) (subst (AppendsFront old.written new.written) whole front)
+pub text_lost : (old new : Scene) (mid : Option (List ℕ)) (n : ℕ) (line seen text shown : List ℕ) → length line ≤ 256 → IsUnbroken line
+    → TakesLine old.left new.left line → seen ≡ line → Acts old.stage seen new.stage text → shown ≡ text
+    → Keeps old.written mid → AppendsFront mid new.written shown → Fails old new n WriteFailed
+text_lost old new mid n line seen text shown short unbroken takes same acts whole keeps front =
+    let from : AppendsFront old.written new.written shown = (front.0, front.1, appends_after _ _ _ _ keeps front.2) in
+    unwritten refl line text short unbroken takes (subst (λ l. Acts old.stage l new.stage text) same acts)
+    (subst (AppendsFront old.written new.written) whole from)
