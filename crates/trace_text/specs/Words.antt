@@ -6,6 +6,11 @@ use Rattle.trace_io.specs.Lines.{onto}
 abbrev pub Word : Type 0
 Word = List ℕ
 
+-- the byte of a character, as `byte (codes "a")`
+abbrev pub byte : List ℕ → ℕ
+byte [] = 0
+byte (c ∷ cs) = c
+
 -- the bytes begin with a byte of a word
 abbrev pub begins_word : List ℕ → Bool
 begins_word [] = false
