@@ -24,10 +24,10 @@ use Rattle.slot_lock.proofs.Edits.{Edits, IsEdit, Edited, edited_each, edited_ke
 -- ---- one run
 
 -- the run at i alone is changed
-one_run : (rs : List Run) → IsRuns rs → (i : ℕ) → IsInner rs i → (g : Run → Run) → Edits rs (set rs i (g (get_run rs i))) (between (get_run rs i).start (get_run rs (i + 1)).start) g
+pub one_run : (rs : List Run) → IsRuns rs → (i : ℕ) → IsInner rs i → (g : Run → Run) → Edits rs (set rs i (g (get_run rs i))) (between (get_run rs i).start (get_run rs (i + 1)).start) g
 one_run rs ok i h g = next_edit rs rs ok (get_run rs i).start i g h.before_last (omega arith) (no_edits rs (get_run rs i).start g)
 
-one_is : (rs : List Run) → IsRuns rs → (i : ℕ) → IsInner rs i → (k : ℕ) → k < length rs → has (between (get_run rs i).start (get_run rs (i + 1)).start) (get_run rs k).start ≡ true → k ≡ i
+pub one_is : (rs : List Run) → IsRuns rs → (i : ℕ) → IsInner rs i → (k : ℕ) → k < length rs → has (between (get_run rs i).start (get_run rs (i + 1)).start) (get_run rs k).start ≡ true → k ≡ i
 one_is rs ok i h k l a =
     let b = has_in (between (get_run rs i).start (get_run rs (i + 1)).start) (get_run rs k).start a in
     let m = not_after rs ok k (i + 1) l b.1 in
@@ -36,10 +36,10 @@ one_is rs ok i h k l a =
     (λ (le : i ≤ k). omega arith)
     (cases_lt k i)
 
-one_cut : (rs : List Run) → IsRuns rs → (i : ℕ) → IsInner rs i → IsCut (slots_of rs) (between (get_run rs i).start (get_run rs (i + 1)).start)
+pub one_cut : (rs : List Run) → IsRuns rs → (i : ℕ) → IsInner rs i → IsCut (slots_of rs) (between (get_run rs i).start (get_run rs (i + 1)).start)
 one_cut rs ok i h = record { begins = edge_at rs ok i (omega (arith, h.before_last)); ends = edge_at rs ok (i + 1) h.before_last }
 
-one_low : (rs : List Run) → IsRuns rs → (i : ℕ) → IsInner rs i → 1 ≤ (get_run rs i).start
+pub one_low : (rs : List Run) → IsRuns rs → (i : ℕ) → IsInner rs i → 1 ≤ (get_run rs i).start
 one_low rs ok i h = let s = starts_rise_to rs ok 1 i h.after_first (omega (arith, h.before_last)) in omega (arith, ok.one_second)
 
 -- ---- another owner

@@ -1,6 +1,5 @@
 -- A run cut in two
 use Rattle.std.proofs.Common.{◌≡◌, ◌≢◌, ℕ, ◌+◌, ◌-◌, ◌^◌, ◌<◌, ◌≤◌, ◌==◌, ◌⊎◌, inl, inr, ⊎_elim, true, List, length, is_some, refl, sym, ◌∙◌, ap, arith}
-use Rattle.std.specs.List.{insert}
 use Rattle.std.proofs.lemmas.Bool.{cases_lt, cases_eq}
 use Rattle.std.proofs.lemmas.List.Edits.{length-insert, get_or-insert_below, get_or-insert_at, get_or-insert_above}
 use Rattle.vm_base.specs.declared.page.PageRange.{PageRange}
@@ -8,15 +7,12 @@ use Rattle.vm_base.specs.Functions.{has}
 use Rattle.vm_base.specs.Info.{info_from, info_file_page, is_leaf}
 use Rattle.vm_base.proofs.Functions.{by_test, has_in}
 use Rattle.slot_lock.specs.declared.run.Run.{Run}
-use Rattle.slot_lock.specs.Runs.{IsRuns, IsInside, get_run, run_at, nobody, tail_from}
+use Rattle.slot_lock.specs.Runs.{IsRuns, IsInside, get_run, run_at, nobody, tail_from, cut_runs}
 use Rattle.slot_lock.specs.Places.{Found, found, run_at_is}
 use Rattle.slot_lock.specs.Slots.{Divides, DividesAs, divided, between}
 use Rattle.slot_lock.specs.RunSlots.{slots_of, two_parts}
 use Rattle.slot_lock.specs.RunLaws.{info_from_twice, fits_on, is_leaf-info_from, same_test, other_test, from_test, is_slot}
 use Rattle.slot_lock.proofs.Edits.{has_not, same_slots}
-
-abbrev pub cut_runs : List Run → ℕ → ℕ → List Run
-cut_runs rs i at = insert rs (i + 1) (tail_from (get_run rs i) at)
 
 pub below : (rs : List Run) (i at : ℕ) → IsInside rs i at → (k : ℕ) → k ≤ i → get_run (cut_runs rs i at) k ≡ get_run rs k
 below rs i at h k l = get_or-insert_below rs (i + 1) (tail_from (get_run rs i) at) nobody k (omega arith) (omega (arith, h.inner.before_last))

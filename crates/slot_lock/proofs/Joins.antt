@@ -9,12 +9,12 @@ use Rattle.vm_base.specs.Functions.{put}
 use Rattle.vm_base.specs.Info.{info_from, info_file_page, is_leaf}
 use Rattle.vm_base.proofs.Functions.{put_same, put_other}
 use Rattle.slot_lock.specs.declared.run.Run.{Run}
-use Rattle.slot_lock.specs.Runs.{IsRuns, IsAt, IsInside, IsJoint, get_run, nobody, tail_from}
+use Rattle.slot_lock.specs.Runs.{IsRuns, IsAt, IsInside, IsJoint, get_run, nobody, tail_from, cut_runs}
 use Rattle.slot_lock.specs.Places.{run_at_is, before_last, start_most}
 use Rattle.slot_lock.specs.Slots.{Slots, IsSlotMap, Divides, Joins, CanBeOne, CanJoin, Folds, without_edge}
 use Rattle.slot_lock.specs.RunSlots.{slots_of}
 use Rattle.slot_lock.specs.RunLaws.{info_from_twice, fits_before, info_from_zero, is_leaf-info_from, edge_at, is_slot}
-use Rattle.slot_lock.proofs.Cuts.{cut_runs, below, here, above, longer, cut_runs-Divides, cut_edge}
+use Rattle.slot_lock.proofs.Cuts.{below, here, above, longer, cut_runs-Divides, cut_edge}
 use Rattle.slot_lock.proofs.Edits.{same_slots}
 use Rattle.slot_lock.proofs.SlotLaws.{owner_on, info_on}
 use Rattle.slot_lock.proofs.Steps.{before_limit, owner_at, slot_by_edge}

@@ -8,3 +8,4 @@ pub mod Frames
 pub mod EdgeCounts
 pub mod SlotLaws
 pub mod Divisions
+pub mod Adding

@@ -2,7 +2,7 @@
 use Rattle.std.proofs.Common.{◌≡◌, ℕ, zero, suc, ◌+◌, ◌-◌, ◌^◌, ◌<◌, ◌≤◌, inl, inr, ⊎_elim, true, false, List, [], ◌∷◌, length, get_or, Some, None, refl, sym, ◌∙◌, ap, arith}
 use Rattle.std.specs.Prelude.{Result, Ok, Err, OnErr}
 use Rattle.std.proofs.lemmas.Bool.{cases_lt}
-use Rattle.vm_base.specs.Info.{info_from}
+use Rattle.vm_base.specs.Info.{info_from, info_file_page, is_leaf}
 use Rattle.slot_lock.specs.declared.run.Run.{Run}
 use Rattle.slot_lock.specs.Runs.{IsRuns, IsAt, get_run, run_at, place_of}
 use Rattle.slot_lock.specs.Places.{read_run, run_at_is, run_at_place, before_last, start_most}
@@ -64,6 +64,37 @@ empty_at zero = (refl, refl)
 empty_at (suc zero) = (refl, refl)
 empty_at (suc (suc zero)) = (refl, refl)
 empty_at (suc (suc (suc k))) = (refl, refl)
+
+pub new_runs-IsRuns : IsRuns new_runs
+new_runs-IsRuns = record {
+  some = omega arith;
+  rising = λ k l. rising k l;
+  zero_first = refl;
+  one_second = refl;
+  zero_unmapped = refl;
+  zero_free = refl;
+  limit_last = refl;
+  limit_unmapped = refl;
+  limit_free = refl;
+  fits = λ k l. fits k l;
+  alone = λ k l leaf. absurd (no_leaf k leaf);
+}
+  where
+    rising : (k : ℕ) → k + 1 < 3 → (get_run new_runs k).start < (get_run new_runs (k + 1)).start
+    rising zero l = omega arith
+    rising (suc zero) l = omega arith
+    rising (suc (suc k)) l = absurd (omega arith)
+
+    fits : (k : ℕ) → k + 1 < 3 → info_file_page (get_run new_runs k).info + ((get_run new_runs (k + 1)).start - (get_run new_runs k).start) ≤ 2 ^ 35
+    fits zero l = omega arith
+    fits (suc zero) l = omega arith
+    fits (suc (suc k)) l = absurd (omega arith)
+
+    no_leaf : (k : ℕ) → is_leaf (get_run new_runs k).info ≡ true → ⊥
+    no_leaf k h = clash (sym (ap is_leaf (empty_at k).0) ∙ h)
+      where
+        clash : false ≡ true → ⊥
+        clash e = cc
 
 pub new_runs-IsNew : IsNew (slots_of new_runs)
 new_runs-IsNew = record {

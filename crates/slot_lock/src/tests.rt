@@ -5,8 +5,11 @@ ghost use Rattle.vm_base.specs.Pages.{pages_from};
 
 use crate::footprint::Footprint;
 use crate::plan::{Change, Place, Plan, Touch};
+use crate::run_list::RunList;
+use crate::slot_map::{SlotMap, SlotRead};
+use linked_list_allocator::LocalHeap;
 use std::test::Fail;
-use vm_base::{Access, Back, Meta, PageRange, Prot};
+use vm_base::{Access, Back, CoreId, CoreSet, Meta, PageInfo, PageRange, Prot};
 
 const READ: Prot = Prot {
     read: true,
@@ -80,5 +83,61 @@ fn plans_have_footprints(rt: HostRuntime) -> Result<(), Fail> {
         Plan::Place(place).footprint(),
         Footprint::both(range, window)
     );
+    Ok(())
+}
+
+#[test]
+fn lent_slots_are_a_map(rt: HostRuntime) -> Result<(), Fail> {
+    let core = CoreId::new(1);
+    let own = Some(core);
+    let used = Some(PageInfo {
+        meta: FILE,
+        frame: Some(7),
+        cores: CoreSet::empty().with(core),
+    });
+    let unused = Some(PageInfo::unused(FILE));
+    // the last page that a file can have
+    let back = Back::Shared {
+        file: 3,
+        page: 0x7_ffff_ffff,
+    };
+    let last = Some(PageInfo::unused(Meta { back, ..FILE }));
+    let mut map = RunList::lent(rt.alloc())?;
+    assert!(rt; map.add_slot(16, 20, own, None)?);
+    assert!(rt; map.add_slot(20, 21, own, used)?);
+    // a gap, an overlap, several pages of one frame, no page, pages past the last valid one, file pages past a file's last
+    assert!(rt; !map.add_slot(22, 23, own, unused)?);
+    assert!(rt; !map.add_slot(20, 23, own, unused)?);
+    assert!(rt; !map.add_slot(21, 23, own, used)?);
+    assert!(rt; !map.add_slot(21, 21, own, unused)?);
+    assert!(rt; !map.add_slot(21, 0x8_0000_0001, own, None)?);
+    assert!(rt; !map.add_slot(21, 23, own, last)?);
+    assert!(rt; map.add_slot(21, 23, own, unused)?);
+    let next = Back::Private { file: 3, page: 6 };
+    assert!(rt; map.page(22) == Some(PageInfo::unused(Meta { back: next, ..FILE })));
+    assert!(rt; map.page(20) == used);
+    assert_eq!(rt; (map.slot(16).first, map.slot(16).end), (16, 20));
+    assert_eq!(rt; (map.slot(22).first, map.slot(22).end), (21, 23));
+    assert!(rt; map.owner(22) == own);
+    assert!(rt; map.owner(15) == None);
+    assert!(rt; map.owner(23) == None);
+    let all = PageRange { first: 16, end: 23 };
+    assert_eq!(rt; map.first_free_run(all, 4), Some(16));
+    assert!(rt; map.recorded(all).contains(core));
+    Ok(())
+}
+
+#[test]
+fn lending_is_refused_unchanged(rt: HostRuntime) -> Result<(), Fail> {
+    // room for the first three runs and no more
+    let heap = LocalHeap::new(rt.alloc(), 400)?;
+    let mut map = RunList::lent(&heap)?;
+    assert!(rt; map.add_slot(16, 17, Some(CoreId::new(1)), None).is_err());
+    let all = PageRange {
+        first: 1,
+        end: 0x8_0000_0000,
+    };
+    assert_eq!(rt; map.slot(16), all);
+    assert!(rt; map.owner(16) == None);
     Ok(())
 }

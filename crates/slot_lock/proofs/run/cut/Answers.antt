@@ -1,4 +1,4 @@
-use Rattle.std.proofs.Common.{◌≡◌, ◌+◌, arith}
+use Rattle.std.proofs.Common.{◌≡◌, ◌+◌, refl, arith}
 use Rattle.slot_lock.specs.Runs.{get_run}
 use Rattle.slot_lock.specs.Places.{start_most, read_run}
 use Rattle.slot_lock.proofs.Cuts.{cut_runs-IsRuns, cut_runs-Divides, cut_runs-DividesAs}
@@ -25,3 +25,8 @@ pub returns-clause-exact : goal.returns-clause-exact
 returns-clause-exact g c =
     let run : c.index-run.result.now ≡ get_run c.args.runs.now.items c.args.i = read_run c.args.runs.now.items c.args.i c.index-run.result.now (omega (arith, c.requires.inside.inner.before_last)) c.index-run.ensures in
     rw (c.in_ok-insert.ensures.items, c.info_from.ensures, run) (cut_runs-DividesAs _ c.requires.runs _ _ c.requires.inside)
+
+pub returns-clause-items : goal.returns-clause-items
+returns-clause-items g c =
+    let run : c.index-run.result.now ≡ get_run c.args.runs.now.items c.args.i = read_run c.args.runs.now.items c.args.i c.index-run.result.now (omega (arith, c.requires.inside.inner.before_last)) c.index-run.ensures in
+    rw (c.in_ok-insert.ensures.items, c.info_from.ensures, run) refl
