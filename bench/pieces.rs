@@ -136,18 +136,6 @@ impl Content {
         }
     }
 
-    fn protect(&mut self, prot: Prot) {
-        match self {
-            Content::Empty => {}
-            Content::Folded(meta) => meta.prot = prot,
-            Content::Leaf(info) if info.frame.is_none() => *self = Content::Folded(Meta { back: info.back, prot }),
-            Content::Leaf(info) => {
-                info.prot = prot;
-                info.cores = 0;
-            }
-        }
-    }
-
     /// What the page `by` pages after the slot's first has.
     fn from(self, by: u64) -> Content {
         match self {
@@ -388,9 +376,7 @@ fn scans(pages: u64, rounds: u64) -> Duration {
     took
 }
 
-const READ: Prot = Prot { read: true, write: false, exec: false };
-
-/// Maps ranges of single pages, protects them and unmaps them.
+/// Maps and unmaps a range of single pages.
 fn edits(pages: u64, rounds: u64) -> Duration {
     let mut tree = Tree::filled(pages);
     let (first, end) = black_box((16, 16 + SPAN));
@@ -398,8 +384,6 @@ fn edits(pages: u64, rounds: u64) -> Duration {
     for _ in 0..rounds {
         let meta = black_box(Meta { back: Back::Anon, prot: READ_WRITE });
         tree.root.edit(first, end, 0, &|content, by| *content = Content::Folded(meta.advanced(by)));
-        let prot = black_box(READ);
-        tree.root.edit(first, end, 0, &|content, _| content.protect(prot));
         tree.root.edit(first, end, 0, &|content, _| *content = Content::Empty);
     }
     let took = start.elapsed();

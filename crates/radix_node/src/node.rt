@@ -95,25 +95,6 @@ impl<A: Allocator> Node<A> {
         }
     }
 
-    /// Gives the slot that has the page another state. The caller has seen that the file pages fit, and that only a slot
-    /// of one page has a frame or a recorded core.
-    pub fn set_at(&mut self, page: u64, state: &SlotState)
-        requires within { page < 512 * width_of self.old.level }
-        requires sound { IsSound (cell_at (runs self.old) page).width (state_of state.now) }
-        ensures level { self.new.level ≡ self.old.level }
-        ensures whole { IsWhole self.new.level (512 * width_of self.new.level) (runs self.new) }
-        ensures set { runs self.new ≡ with_run (in_state (state_of state.now)) (runs self.old) page }
-    {
-        let place = place_of(self.level, page);
-        match &mut self.slots[place.slot] {
-            Slot::Own(own) => {
-                *own = *state;
-                return;
-            }
-            Slot::Child(node) => node.set_at(place.rest, state),
-        }
-    }
-
     /// Gives the slot that has the page another owner, and answers the slot's level.
     pub fn own_at(&mut self, page: u64, owner: Option<CoreId>) -> u8
         requires { page < 512 * width_of self.old.level }

@@ -4,7 +4,7 @@ use Rattle.radix_node.specs.State.{State, state_of}
 use Rattle.radix_node.specs.Run.{Cell, width_of, cell_at, in_state, with_run, IsSound, IsWhole}
 use Rattle.radix_node.specs.Node.{Parts, runs, flatten}
 use Rattle.radix_node.specs.Slots.{parts_of}
-use Rattle.radix_node.proofs.Flat.{IsPlace, cell_at-Own, cell_at-Child, child_level, child_pages, child_node, is_node-set, runs-Own, runs-Child, whole-node, own_sound}
+use Rattle.radix_node.proofs.Flat.{IsPlace, cell_at-Own, cell_at-Child, child_level, child_pages, child_node, is_node-set, runs-Own, runs-Child, whole-node}
 use Rattle.radix_node.proofs.node.Node.+own_at.Goals as goal
 
 owned : (w : ℕ) (s : State) (o : Option ℕ) → IsSound w s → IsSound w (record { info = s.info; owner = o })
