@@ -121,7 +121,8 @@ fn one_file<A: Allocator + Clone>(
     let bytes = vec![in alloc.clone()?; 1u8; len]?;
     let mut specs = Vec::new(alloc.clone()?);
     specs.push(FileSpec { mode, bytes })?;
-    Objects::new(alloc, &specs[..specs.len().min(16)])
+    specs.truncate(16);
+    Objects::new(alloc, specs)
 }
 
 /// The decision over a whole map.
