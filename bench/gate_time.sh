@@ -42,7 +42,7 @@ while read -r crate mark <&3; do
         edits=$(find "$folder/must-fail" -name '*.edit' | wc -l)
         edits_s=$(seconds . rt must-fail "$crate")
     fi
-    if [ -f "$folder/src/main.rt" ]; then program=$(seconds "$folder" rt run); fi
+    if [ -f "$folder/src/main.rt" ]; then program=$(seconds "$folder" sh -c 'rt run < /dev/null || true'); fi
     printf '%-14s %8d %8d %6d %8d %8d\n' "$crate" "$library" "$tests" "$edits" "$edits_s" "$program"
 done 3< "$work/plan" | tee "$work/table"
 awk '{ for (i = 2; i <= NF; i++) sum[i] += $i }
