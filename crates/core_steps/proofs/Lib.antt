@@ -1,6 +1,4 @@
+pub mod Changing
 pub mod Known
 pub mod Lists
-pub mod Checking
-pub mod Accesses
-pub mod Calling
-pub mod Runs
+pub mod Opened
