@@ -1,3 +1,4 @@
+pub mod Calling
 pub mod Changing
 pub mod Known
 pub mod Lists

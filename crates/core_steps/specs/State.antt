@@ -55,3 +55,7 @@ module _ {M A : Type 0} (slots : M → Slots) where
   -- the state that the engine has, by what its map says of slots
   abbrev pub world : Engine M A → World
   world it = world_of (slots it.map) it.frames it.objects it.calls
+
+-- where the call of a core stands
+abbrev pub phase_of : {M A : Type 0} → Engine M A → ℕ → Phase
+phase_of it = phase_at it.calls.phases.items

@@ -19,8 +19,8 @@ use vm_base::{Back, CoreId, PageInfo, Reply, SegvCode};
 use vm_calls::{Settled, settle};
 
 /// Tells whether the page's file page lies wholly past the end of its file.
-fn is_past_end<A: Allocator>(objects: &Objects<A>, info: Option<PageInfo>) -> bool
-    ensures { result ≡ is_past_end (files_of objects.now) info }
+fn is_past_end<A: Allocator>(objects: &Objects<A>, info: &Option<PageInfo>) -> bool
+    ensures { result ≡ is_past_end (files_of objects.now) info.now }
 {
     let Some(info) = info else {
         return false;
@@ -58,7 +58,7 @@ impl<M: SlotMap, A: Allocator> Engine<M, A> {
         ensures { Goes (world M.slots self.old) core (Phase.Settle touch) result (world M.slots self.new) }
     {
         let info = self.map.page(touch.page);
-        let past_end = is_past_end(&self.objects, info);
+        let past_end = is_past_end(&self.objects, &info);
         self.settled_to(core, touch, settle(info, touch.access, past_end, None));
         Outcome::Stepped
     }

@@ -9,6 +9,7 @@ mod check;
 mod commit;
 mod decide;
 mod engine;
+mod events;
 mod fault;
 mod reserved;
 pub mod setup;

@@ -1,0 +1,113 @@
+//! One event: a call begins, or goes one step on.
+ghost use Rattle.std.specs.Prelude.{◌≡◌, ◌+◌, ◌^◌, ◌<◌, length, true};
+ghost use Rattle.machine_model.specs.Events.{core_of};
+ghost use Rattle.machine_model.specs.Step.{Acts, Begins, Goes, Step, counted, is_here};
+ghost use Rattle.machine_laws.specs.Orderly.{IsOrderly};
+ghost use Rattle.core_steps.specs.State.{phase_of, world};
+ghost use Rattle.core_steps.specs.Moving.{IsToDivide, MayWant, Tries};
+
+use crate::engine::Engine;
+use machine_model::{Event, Outcome, Phase};
+use slot_lock::SlotMap;
+use std::alloc::Allocator;
+use vm_base::{CoreId, NoMemory, Request};
+
+impl<M: SlotMap, A: Allocator> Engine<M, A> {
+    /// A call begins, if the core has none and the limit of calls isn't reached.
+    fn call(&mut self, core: CoreId, request: Request) -> Outcome
+        requires { core < length self.old.calls.phases.items }
+        ensures { Begins (world M.slots self.old) core request (phase_of self.old core) result (world M.slots self.new) }
+    {
+        match self.calls.phases[core.index() as usize] {
+            Phase::Free => {
+                if self.calls.requests.is_full() {
+                    return Outcome::Full;
+                }
+                self.calls.requests.push(request);
+                let number = self.calls.requests.items.len() as u64;
+                self.calls.numbers[core.index() as usize] = number;
+                self.go_to(core, Phase::Check(request));
+                Outcome::Stepped
+            }
+            _ => Outcome::Idle,
+        }
+    }
+
+    /// The core's call goes one step on. A refusal for memory changes nothing.
+    fn go(&mut self, core: CoreId) -> Result<Outcome, NoMemory>
+        requires here { core < length self.old.calls.phases.items }
+        requires orderly { ∥ IsOrderly (world M.slots self.old) ∥₁ }
+        ensures { Tries (Goes (world M.slots self.old) core (phase_of self.old core)) (IsToDivide (M.slots self.old.map) (phase_of self.old core)) (world M.slots self.old) result (world M.slots self.new) }
+    {
+        match self.calls.phases[core.index() as usize] {
+            Phase::Free => Ok(Outcome::Idle),
+            Phase::Check(request) => Ok(self.go_check(core, request)),
+            Phase::Lock { goal, cursor } => self.go_lock(core, goal, cursor),
+            Phase::Decide(change) => Ok(self.go_decide(core, change)),
+            Phase::Post { change, shoot } => Ok(self.go_post(core, change, shoot)),
+            Phase::Acks { change, held } => Ok(self.go_acks(core, change, held)),
+            Phase::Unlock { held, reply } => Ok(self.go_unlock(core, held, reply)),
+            Phase::Answer(reply) => Ok(self.go_answer(core, reply)),
+            Phase::Try(touch) => Ok(self.go_try(core, touch)),
+            Phase::Settle(touch) => Ok(self.go_settle(core, touch)),
+            Phase::Want(touch) => Ok(self.go_want(core, touch)),
+            Phase::Fill { touch, frame } => Ok(self.go_fill(core, touch, frame)),
+            Phase::Install(touch) => Ok(self.go_install(core, touch)),
+            Phase::Release(touch) => Ok(self.go_release(core, touch)),
+        }
+    }
+
+    /// What the event does, its core being one of the machine's. A refusal for memory changes nothing.
+    fn act(&mut self, event: Event) -> Result<Outcome, NoMemory>
+        requires here { is_here (world M.slots self.old).made (core_of event) ≡ true }
+        requires orderly { ∥ IsOrderly (world M.slots self.old) ∥₁ }
+        ensures { Tries (Acts (world M.slots self.old) event) (MayWant (world M.slots self.old) event) (world M.slots self.old) result (world M.slots self.new) }
+    {
+        match event {
+            Event::Call(core, request) => Ok(self.call(core, request)),
+            Event::Go(core) => self.go(core),
+        }
+    }
+
+    /// What the event does, counted as one event more. A refusal for memory changes nothing.
+    fn act_counted(&mut self, event: Event) -> Result<Outcome, NoMemory>
+        requires here { is_here (world M.slots self.old).made (core_of event) ≡ true }
+        requires room { self.old.calls.events + 1 < 2 ^ 64 }
+        requires orderly { ∥ IsOrderly (world M.slots self.old) ∥₁ }
+        ensures { Tries (Acts (counted (world M.slots self.old)) event) (MayWant (world M.slots self.old) event) (world M.slots self.old) result (world M.slots self.new) }
+    {
+        self.calls.events += 1;
+        match self.act(event) {
+            Ok(outcome) => Ok(outcome),
+            Err(NoMemory) => {
+                self.calls.events -= 1;
+                Err(NoMemory)
+            }
+        }
+    }
+
+    /// Tells whether the core is the machine's, if an event has one.
+    fn is_here(&self, core: Option<CoreId>) -> bool
+        ensures { result ≡ is_here (world M.slots self.now).made core }
+    {
+        match core {
+            Some(core) => (core.index() as usize) < self.calls.phases.len(),
+            None => true,
+        }
+    }
+
+    /// One event, which is counted unless memory is refused; then nothing changes.
+    pub fn step(&mut self, event: Event) -> Result<Outcome, NoMemory>
+        requires { ∥ IsOrderly (world M.slots self.old) ∥₁ }
+        ensures { Tries (Step (world M.slots self.old) event) (MayWant (world M.slots self.old) event) (world M.slots self.old) result (world M.slots self.new) }
+    {
+        if self.calls.events == u64::MAX {
+            return Ok(Outcome::Full);
+        }
+        if !self.is_here(event.core()) {
+            self.calls.events += 1;
+            return Ok(Outcome::Idle);
+        }
+        self.act_counted(event)
+    }
+}
