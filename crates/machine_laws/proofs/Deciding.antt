@@ -7,6 +7,7 @@ use Rattle.vm_base.specs.declared.replies.Reply.{Reply}
 use Rattle.vm_base.specs.declared.requests.Request.{Request}
 use Rattle.vm_base.specs.declared.requests.Request.TheVariants.{Mmap, Munmap, Mprotect, Load, Store, Fetch}
 use Rattle.vm_base.specs.declared.rights.Mode.{Mode}
+use Rattle.vm_base.specs.Apply.{meta_of}
 use Rattle.vm_base.specs.Functions.{has}
 use Rattle.vm_base.specs.Pages.{IsPageRange, pages_of}
 use Rattle.vm_base.specs.Plain.{File}
@@ -21,7 +22,7 @@ use Rattle.slot_lock.specs.Plan.{range_of, IsSoundChange, IsSoundTouch}
 use Rattle.slot_lock.specs.Slots.{Slots}
 use Rattle.vm_calls.specs.declared.decision.Decision.{Decision}
 use Rattle.vm_calls.specs.declared.decision.Decision.TheVariants.{Act}
-use Rattle.vm_calls.specs.Checks.{checked, plan_of, unless_refused, meta_of, place_of}
+use Rattle.vm_calls.specs.Checks.{checked, plan_of, unless_refused, place_of}
 use Rattle.vm_calls.specs.Decisions.{Decides}
 use Rattle.vm_calls.specs.Decisions.DecidesProtect.{no_page, no_write, acts}
 use Rattle.vm_calls.proofs.Alike.{change_alike}

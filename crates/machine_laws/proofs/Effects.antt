@@ -22,7 +22,7 @@ use Rattle.machine_model.specs.Holding.{goal_range}
 use Rattle.machine_model.specs.Locks.{locked_to, all_locked, held_after}
 use Rattle.machine_model.specs.World.{World, Memory}
 use Rattle.machine_model.specs.Step.{called}
-use Rattle.machine_laws.proofs.Shapes.{IsInner, Moves, locks, tries, acts, tells as told, faults, finds, lacks, Replies, refuses, no_place, declines, fails, no_frame, LetsGo, unlocks, releases, GoesBy, moves, divides, owns, lets_go, answers, commits, takes, fills, installs, accesses, Shape, rests, begins, ends, goes}
+use Rattle.machine_laws.proofs.Shapes.{IsInner, rests_inner, Moves, locks, tries, acts, tells as told, faults, finds, lacks, Replies, refuses, no_place, declines, fails, no_frame, LetsGo, unlocks, releases, GoesBy, moves, divides, owns, lets_go, answers, commits, takes, fills, installs, accesses, Shape, rests, begins, ends, goes}
 
 -- a core has no call, one without a reply, or one with this reply
 pub data Status : Type 0 where
@@ -129,7 +129,7 @@ step_effect w c v (installs touch e h) = goes_on w c (Release touch) (installed 
 step_effect w c v (accesses touch f e i h) = with_reply w c None (reply_of touch f w.memory) w.slots (memory_after touch f w.memory) v (ap status e) h
 
 pub effect_of : (w : World) (e : Event) (o : Outcome) (v : World) → Shape w e o v → Effect w e o v
-effect_of w e o v (rests i h) = subst (Effect w e o) (sym h) (keeps i (record { events = refl; requests = refl; number = refl }) refl (λ d. refl))
+effect_of w e o v (rests r h) = subst (Effect w e o) (sym h) (keeps (rests_inner w e o r) (record { events = refl; requests = refl; number = refl }) refl (λ d. refl))
 effect_of w e o v (begins c request i s lt p below h) = opens c request i s (ap status p) h
 effect_of w e o v (ends c reply i s lt p h) = closes c reply i s (ap status p) h
 effect_of w e o v (goes c i s lt g) = subst (λ e. Effect w e o v) (sym i) (subst (λ o. Effect w (Go c) o v) (sym s) (step_effect w c v g))

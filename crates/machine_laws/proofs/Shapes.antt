@@ -1,7 +1,7 @@
 -- What a step is: it changes nothing, begins a call, ends one, or is one of a few things that a call in some phase does. Every
 -- statement on steps is shown shape by shape, so that no row of the machine is taken apart twice.
-use Rattle.std.proofs.Common.{◌≡◌, ℕ, ◌<◌, ◌⊎◌, inl, inr, Bool, true, false, cond, refl, arith, Some, None, Option, Result, Ok, Err, [], length}
-use Rattle.std.specs.Prelude.{nat_lt, if◌then◌else◌}
+use Rattle.std.proofs.Common.{◌≡◌, ◌≢◌, ℕ, sym, ◌∙◌, ◌<◌, ◌⊎◌, inl, inr, Bool, true, false, cond, refl, arith, Some, None, Option, Result, Ok, Err, [], length}
+use Rattle.std.specs.Prelude.{nat_lt, ◌&&◌, if◌then◌else◌}
 use Rattle.std.proofs.lemmas.Bool.Decides.{nat_tests}
 use Rattle.vm_base.specs.declared.info.PageInfo.{PageInfo}
 use Rattle.vm_base.specs.declared.page.PageRange.{PageRange}
@@ -26,13 +26,14 @@ use Rattle.slot_lock.specs.Slots.{Slots, Steps, Splits, Locks, Unlocks}
 use Rattle.vm_calls.specs.declared.decision.Decision.{Decision}
 use Rattle.vm_calls.specs.declared.decision.Decision.TheVariants.{Refuse, Act}
 use Rattle.vm_calls.specs.declared.fault.Settled.{Settled}
-use Rattle.vm_calls.specs.declared.fault.Settled.TheVariants.{MapErr, AccErr, Bus, Has, Cached, Wants}
+use Rattle.vm_calls.specs.declared.fault.Settled.TheVariants.{MapErr, AccErr, Bus, Has, Copies, Cached, Wants}
 use Rattle.vm_calls.specs.Decisions.{Decides}
-use Rattle.vm_calls.specs.Settling.{settled, source}
+use Rattle.vm_calls.specs.Settling.{settled, source, is_private_store}
+use Rattle.machine_model.specs.declared.event.Blocker.TheVariants.{Slot}
 use Rattle.machine_model.specs.declared.event.Event.{Event}
 use Rattle.machine_model.specs.declared.event.Event.TheVariants.{Call, Go}
 use Rattle.machine_model.specs.declared.event.Outcome.{Outcome}
-use Rattle.machine_model.specs.declared.event.Outcome.TheVariants.{Stepped, Idle, Answered, Full}
+use Rattle.machine_model.specs.declared.event.Outcome.TheVariants.{Stepped, Idle, Answered, Full, Wait}
 use Rattle.machine_model.specs.declared.phase.Goal.{Goal}
 use Rattle.machine_model.specs.declared.phase.Goal.TheVariants as To
 use Rattle.machine_model.specs.declared.phase.Phase.{Phase}
@@ -116,9 +117,19 @@ pub data GoesBy (w : World) (c : ℕ) (v : World) : Type 0 where
   accesses : (touch : Touch) (f : ℕ) → w.calls.phase c ≡ Try touch → frame_for touch.access (w.slots.info touch.page) ≡ Some f
       → v ≡ accessed c touch f w → GoesBy w c v
 
+-- why event e changes nothing: the machine lacks its core, its core has a call or has none, no call may begin any more, or another core
+-- holds the slot at the cursor
+pub data Rests (w : World) (e : Event) (o : Outcome) : Type 0 where
+  absent : is_here w.made (core_of e) ≡ false → o ≡ Idle → Rests w e o
+  busy : (c : ℕ) (request : Request) → e ≡ Call c request → w.calls.phase c ≢ Free → o ≡ Idle → Rests w e o
+  full : (c : ℕ) (request : Request) → e ≡ Call c request → nat_lt (length w.calls.requests) w.made.calls ≡ false → o ≡ Full → Rests w e o
+  free : (c : ℕ) → e ≡ Go c → w.calls.phase c ≡ Free → o ≡ Idle → Rests w e o
+  waits : (c : ℕ) (goal : Goal) (cursor by : ℕ) → e ≡ Go c → w.calls.phase c ≡ Lock goal cursor → by ≢ c → w.slots.owner cursor ≡ Some by
+      → o ≡ Wait (Slot by) → Rests w e o
+
 -- event e, counted in w, comes to outcome o and leaves v
 pub data Shape (w : World) (e : Event) (o : Outcome) (v : World) : Type 0 where
-  rests : IsInner e o → v ≡ w → Shape w e o v
+  rests : Rests w e o → v ≡ w → Shape w e o v
   begins : (c : ℕ) (request : Request) → e ≡ Call c request → o ≡ Stepped → c < w.made.cores → w.calls.phase c ≡ Free
       → length w.calls.requests < w.made.calls → v ≡ called c request w → Shape w e o v
   ends : (c : ℕ) (reply : Reply) → e ≡ Go c → o ≡ Answered reply → c < w.made.cores → w.calls.phase c ≡ Answer reply
@@ -132,14 +143,21 @@ pub data Comes (w : World) (e : Event) (o : Outcome) (v : World) : Type 0 where
 
 -- ---- every step has one
 
-is_inner : (e : Event) (o : Outcome) → (o ≡ Idle) ⊎ (o ≡ Full) → IsInner e o
-is_inner (Call c request) o (inl h) = rw h ((λ n. refl), refl)
-is_inner (Call c request) o (inr h) = rw h ((λ n. refl), refl)
-is_inner (Go c) o (inl h) = rw h ((λ n. refl), refl)
-is_inner (Go c) o (inr h) = rw h ((λ n. refl), refl)
+inner_full : (e : Event) → IsInner e Full
+inner_full (Call c request) = ((λ n. refl), refl)
+inner_full (Go c) = ((λ n. refl), refl)
 
-idles : (w : World) (e : Event) (o : Outcome) (v : World) → Idles w o v → Shape w e o v
-idles w e o v h = rests (is_inner e o (inl h.0)) h.1
+inner_idle : (e : Event) → IsInner e Idle
+inner_idle (Call c request) = ((λ n. refl), refl)
+inner_idle (Go c) = ((λ n. refl), refl)
+
+-- an event that changes nothing neither begins a call nor ends one
+pub rests_inner : (w : World) (e : Event) (o : Outcome) → Rests w e o → IsInner e o
+rests_inner w e o (absent h i) = rw i (inner_idle e)
+rests_inner w e o (busy c request h n i) = rw i (inner_idle e)
+rests_inner w e o (full c request h n i) = rw i (inner_full e)
+rests_inner w e o (free c h n i) = rw i (inner_idle e)
+rests_inner w e o (waits c goal cursor by h p ne own i) = rw (h, i) ((λ n. refl), refl)
 
 below : (a b : ℕ) → nat_lt a b ≡ true → a < b
 below a b h = grind (arith, nat_tests)
@@ -150,8 +168,20 @@ call_shape w c request Free o v lt e h = go (nat_lt (length w.calls.requests) w.
   where
     go : (b : Bool) → nat_lt (length w.calls.requests) w.made.calls ≡ b → cond b (Becomes (called c request w) o v) ((o ≡ Full) × (v ≡ w)) → Shape w (Call c request) o v
     go true i k = begins c request refl k.0 lt e (below _ _ i) k.1
-    go false i k = rests (is_inner (Call c request) o (inr k.0)) k.1
-call_shape w c request _ o v lt e h = idles w (Call c request) o v h
+    go false i k = rests (full c request refl i k.0) k.1
+call_shape w c request (Check r) o v lt e h = rests (busy c request refl (λ f. let a = sym e ∙ f in cc) h.0) h.1
+call_shape w c request (Lock goal cursor) o v lt e h = rests (busy c request refl (λ f. let a = sym e ∙ f in cc) h.0) h.1
+call_shape w c request (Decide change) o v lt e h = rests (busy c request refl (λ f. let a = sym e ∙ f in cc) h.0) h.1
+call_shape w c request (Post change shoot) o v lt e h = rests (busy c request refl (λ f. let a = sym e ∙ f in cc) h.0) h.1
+call_shape w c request (Acks change held) o v lt e h = rests (busy c request refl (λ f. let a = sym e ∙ f in cc) h.0) h.1
+call_shape w c request (Unlock held reply) o v lt e h = rests (busy c request refl (λ f. let a = sym e ∙ f in cc) h.0) h.1
+call_shape w c request (Answer reply) o v lt e h = rests (busy c request refl (λ f. let a = sym e ∙ f in cc) h.0) h.1
+call_shape w c request (Try touch) o v lt e h = rests (busy c request refl (λ f. let a = sym e ∙ f in cc) h.0) h.1
+call_shape w c request (Settle touch) o v lt e h = rests (busy c request refl (λ f. let a = sym e ∙ f in cc) h.0) h.1
+call_shape w c request (Want touch) o v lt e h = rests (busy c request refl (λ f. let a = sym e ∙ f in cc) h.0) h.1
+call_shape w c request (Fill touch f) o v lt e h = rests (busy c request refl (λ f. let a = sym e ∙ f in cc) h.0) h.1
+call_shape w c request (Install touch) o v lt e h = rests (busy c request refl (λ f. let a = sym e ∙ f in cc) h.0) h.1
+call_shape w c request (Release touch) o v lt e h = rests (busy c request refl (λ f. let a = sym e ∙ f in cc) h.0) h.1
 
 -- a step of core c's call that is plain
 step : (w : World) (c : ℕ) (o : Outcome) (v : World) → c < w.made.cores → o ≡ Stepped → GoesBy w c v → Shape w (Go c) o v
@@ -168,7 +198,7 @@ lock_shape : (w : World) (c : ℕ) (goal : Goal) (cursor : ℕ) (got : Got) (t :
     → Steps w.slots t c cursor (goal_range goal).end got → LocksTo w c goal t got o v → Shape w (Go c) o v
 lock_shape w c goal cursor Split t o v lt e s h = step w c o v lt h.0 (divides goal cursor t e s h.1)
 lock_shape w c goal cursor (Locked b) t o v lt e s h = step w c o v lt h.0 (owns goal cursor b t e s h.1)
-lock_shape w c goal cursor (Held by) t o v lt e s h = rests (rw (h.0) ((λ n. refl), refl)) h.1
+lock_shape w c goal cursor (Held by) t o v lt e s h = rests (waits c goal cursor by refl e s.0 s.1 h.0) h.1
 
 decide_shape : (w : World) (c : ℕ) (change : Change) (d : Decision) (v : World) → w.calls.phase c ≡ Decide change → Decides w.made.file w.slots (PlanOf.Change change) d
     → v ≡ decided c change d w → GoesBy w c v
@@ -183,6 +213,7 @@ try_shape w c touch None v e k h = moves (locking (To.Access touch)) (faults tou
 -- what an access finds that isn't a fault
 abbrev Finds : (ℕ → Option File) → Option PageInfo → Access → Settled → Type 0
 Finds file info access (Has f) = IsUsable file info access (Some f)
+Finds file info access (Copies f) = ⊥
 Finds file info access (Cached f) = IsUsable file info access None
 Finds file info access Wants = IsUsable file info access None
 Finds file info access _ = Unit {0}
@@ -191,10 +222,15 @@ found : (file : ℕ → Option File) (info : Option PageInfo) (access : Access) 
 found file None access = tt
 found file (Some info) access = go (is_allowed info.meta.prot access) (is_past_end file (Some info)) info.frame refl refl refl
   where
+    -- no file page is cached, so none is to be copied
+    has : (f : ℕ) → IsUsable file (Some info) access (Some f) → (store : Bool) → Finds file (Some info) access (if store && false then Copies f else Has f)
+    has f u true = u
+    has f u false = u
+
     go : (a b : Bool) (f : Option ℕ) → is_allowed info.meta.prot access ≡ a → is_past_end file (Some info) ≡ b → info.frame ≡ f
-        → Finds file (Some info) access (if a then (if b then Bus else source f None) else AccErr)
+        → Finds file (Some info) access (if a then (if b then Bus else source info.meta.back f access None) else AccErr)
     go true true f i j k = tt
-    go true false (Some f) i j k = (i, j, k)
+    go true false (Some f) i j k = has f (i, j, k) (is_private_store info.meta.back access)
     go true false None i j k = (i, j, k)
     go false b f i j k = tt
 
@@ -204,6 +240,7 @@ settle_shape w c touch MapErr v e k f h = answers (Some (page_of_touch touch)) (
 settle_shape w c touch AccErr v e k f h = answers (Some (page_of_touch touch)) (ReplyOf.Segv Code.AccErr) (fails touch e refl (rw k refl)) h
 settle_shape w c touch Bus v e k f h = answers (Some (page_of_touch touch)) ReplyOf.Bus (fails touch e refl (rw k refl)) h
 settle_shape w c touch (Has g) v e k f h = moves (Install touch) (finds touch g e refl f) h
+settle_shape w c touch (Copies g) v e k f h = absurd f
 settle_shape w c touch (Cached g) v e k f h = moves (Want touch) (lacks touch e refl f) h
 settle_shape w c touch Wants v e k f h = moves (Want touch) (lacks touch e refl f) h
 
@@ -212,7 +249,7 @@ want_shape w c touch o v lt e (inl h) = step w c o v lt h.1.0 (answers (Some (pa
 want_shape w c touch o v lt e (inr h) = step w c o v lt h.2.0 (takes touch h.0 e h.1 h.2.1)
 
 go_shape : (w : World) (c : ℕ) (phase : Phase) (o : Outcome) (v : World) → c < w.made.cores → w.calls.phase c ≡ phase → Goes w c phase o v → Shape w (Go c) o v
-go_shape w c Free o v lt e h = idles w (Go c) o v h
+go_shape w c Free o v lt e h = rests (free c refl e h.0) h.1
 go_shape w c (Check request) o v lt e h = step w c o v lt h.0 (check_shape w c request o v (checked_by w.made c request) e refl h.1)
 go_shape w c (Lock goal cursor) o v lt e h = lock_shape w c goal cursor h.0 h.1.0 o v lt e h.1.1 h.1.2
 go_shape w c (Decide change) o v lt e h = step w c o v lt h.2.0 (decide_shape w c change h.0 v e h.1 h.2.1)
@@ -236,8 +273,8 @@ comes w e o v s = go (nat_lt w.calls.events event_limit) refl s
   where
     known : (b : Bool) → is_here w.made (core_of e) ≡ b → cond b (Acts (counted w) e o v) (Idles (counted w) o v) → Shape (counted w) e o v
     known true i k = act_shape (counted w) e o v i k
-    known false i k = idles (counted w) e o v k
+    known false i k = rests (absent i k.0) k.1
 
     go : (b : Bool) → nat_lt w.calls.events event_limit ≡ b → cond b (cond (is_here w.made (core_of e)) (Acts (counted w) e o v) (Idles (counted w) o v)) ((o ≡ Full) × (v ≡ w)) → Comes w e o v
     go true i k = acts i (known (is_here w.made (core_of e)) refl k)
-    go false i k = stopped i (is_inner e o (inr k.0)) k.1
+    go false i k = stopped i (rw (k.0) (inner_full e)) k.1

@@ -17,7 +17,7 @@ use Rattle.vm_base.specs.Apply.{byte_reply}
 use Rattle.slot_lock.specs.declared.plan.Touch.{Touch}
 use Rattle.slot_lock.specs.Slots.{with_info}
 use Rattle.vm_calls.specs.declared.fault.Settled.{Settled}
-use Rattle.vm_calls.specs.declared.fault.Settled.TheVariants.{MapErr, AccErr, Bus, Has, Cached, Wants}
+use Rattle.vm_calls.specs.declared.fault.Settled.TheVariants.{MapErr, AccErr, Bus, Has, Copies, Cached, Wants}
 use Rattle.vm_calls.specs.Settling.{settled}
 use Rattle.machine_model.specs.declared.event.Outcome.{Outcome}
 use Rattle.machine_model.specs.declared.phase.Goal.TheVariants as To
@@ -83,6 +83,7 @@ settled_to c touch MapErr w = replies c (Some (page_of_touch touch)) (ReplyOf.Se
 settled_to c touch AccErr w = replies c (Some (page_of_touch touch)) (ReplyOf.Segv Code.AccErr) w
 settled_to c touch Bus w = replies c (Some (page_of_touch touch)) ReplyOf.Bus w
 settled_to c touch (Has f) w = to c (Install touch) w
+settled_to c touch (Copies f) w = to c (Want touch) w
 settled_to c touch (Cached f) w = to c (Want touch) w
 settled_to c touch Wants w = to c (Want touch) w
 

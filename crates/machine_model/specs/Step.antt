@@ -1,5 +1,5 @@
 -- One step of the machine, as a relation of the states before and after. Where the slot map may choose, any choice is allowed.
-use Rattle.std.specs.Prelude.{◌≡◌, ℕ, suc, ◌-◌, ◌^◌, Bool, true, cond, nat_lt, length, List, [], ◌∷◌, ◌++◌, Option, None, Some}
+use Rattle.std.specs.Prelude.{◌≡◌, ℕ, zero, suc, ◌-◌, ◌^◌, Bool, true, cond, nat_lt, length, List, [], ◌∷◌, ◌++◌, Option, None, Some}
 use Rattle.vm_base.specs.declared.requests.Request.{Request}
 use Rattle.vm_base.specs.Functions.{put}
 use Rattle.machine_model.specs.declared.phase.Phase.{Phase}
@@ -7,7 +7,7 @@ use Rattle.machine_model.specs.declared.phase.Phase.TheVariants as At
 use Rattle.machine_model.specs.declared.event.Event.{Event}
 use Rattle.machine_model.specs.declared.event.Event.TheVariants.{Call, Go}
 use Rattle.machine_model.specs.declared.event.Outcome.{Outcome}
-use Rattle.machine_model.specs.declared.event.Outcome.TheVariants.{Answered, Full}
+use Rattle.machine_model.specs.declared.event.Outcome.TheVariants.{Stepped, Answered, Full}
 use Rattle.machine_model.specs.Events.{core_of}
 use Rattle.machine_model.specs.World.{World, Made}
 use Rattle.machine_model.specs.Actions.{Idles, Becomes, to}
@@ -80,3 +80,8 @@ Run w [] [] v = v ≡ w
 Run w (e ∷ es) (o ∷ os) v = (m : World) × Step w e o m × Run m es os v
 Run w [] (o ∷ os) v = ⊥
 Run w (e ∷ es) [] v = ⊥
+
+-- n plain steps of the core's call lead from w to v
+abbrev pub StepsTo : World → ℕ → ℕ → World → Type 0
+StepsTo w core zero v = v ≡ w
+StepsTo w core (suc n) v = (m : World) × StepsTo w core n m × Step m (Go core) Stepped v

@@ -14,12 +14,12 @@ use Rattle.vm_base.specs.declared.replies.SegvCode.TheVariants.{MapErr}
 use Rattle.vm_base.specs.Pages.{is_page, page_of, offset_of, pages_of}
 use Rattle.vm_base.specs.Plain.{File, Plain, mode_of}
 use Rattle.vm_base.specs.Refusals.{refusal}
-use Rattle.vm_base.specs.Apply.{Applies, AppliesAfter, Performs, Accesses, accessed, access_reply, entry_reply}
+use Rattle.vm_base.specs.Apply.{meta_of, Applies, AppliesAfter, Performs, Accesses, accessed, access_reply, entry_reply}
 use Rattle.slot_lock.specs.declared.plan.Change.TheVariants.{Put}
 use Rattle.slot_lock.specs.declared.plan.Plan.{Plan}
 use Rattle.slot_lock.specs.declared.plan.Plan.TheVariants as PlanOf
 use Rattle.slot_lock.specs.declared.plan.Touch.{Touch}
-use Rattle.vm_calls.specs.Checks.{checked, plan_of, unless_refused, touched, touch_of, meta_of, place_of, HasModes}
+use Rattle.vm_calls.specs.Checks.{checked, plan_of, unless_refused, touched, touch_of, place_of, HasModes}
 use Rattle.vm_calls.specs.Plainly.{EntryAnswers, touched_by}
 use Rattle.vm_calls.proofs.Passed.{passed, touch-of}
 

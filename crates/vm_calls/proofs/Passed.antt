@@ -19,12 +19,12 @@ use Rattle.vm_base.specs.declared.replies.SegvCode.TheVariants.{MapErr}
 use Rattle.vm_base.specs.Info.{file_page}
 use Rattle.vm_base.specs.Pages.{IsPageRange, is_page, are_pages, is_aligned, page_of, page_count, pages_of, pages_from}
 use Rattle.vm_base.specs.Refusals.{answer, refusal, is_one_kind, mmap_refusal, munmap_refusal, mprotect_refusal, file_refusal}
-use Rattle.vm_base.specs.Apply.{back_at}
+use Rattle.vm_base.specs.Apply.{meta_of, back_at}
 use Rattle.slot_lock.specs.declared.plan.Change.TheVariants.{Put, Clear, Protect}
 use Rattle.slot_lock.specs.declared.plan.Plan.{Plan}
 use Rattle.slot_lock.specs.declared.plan.Plan.TheVariants as PlanOf
 use Rattle.slot_lock.specs.Plan.{IsSound, IsSoundPut, IsSoundPlace, IsSoundHint}
-use Rattle.vm_calls.specs.Checks.{checked, plan_of, unless_refused, touched, touch_of, meta_of, placed_count, place_of}
+use Rattle.vm_calls.specs.Checks.{checked, plan_of, unless_refused, touched, touch_of, placed_count, place_of}
 
 -- the arguments weren't refused, and make a plan
 pub passed : (o : Option Reply) (p : Result Plan Reply) (plan : Plan) → unless_refused o p ≡ Ok plan → (o ≡ None) × (p ≡ Ok plan)

@@ -26,7 +26,7 @@ use Rattle.vm_base.specs.Plain.{File, Entry, Plain, mode_of, is_mapped}
 use Rattle.vm_base.specs.Refusals.{refusal}
 use Rattle.vm_base.specs.Places.{IsPlace}
 use Rattle.vm_base.specs.Places.IsPlace.{at_hint, in_window}
-use Rattle.vm_base.specs.Apply.{Applies, AppliesAfter, Performs, Protects, MapsAt, HasPage, is_absent, is_read_only, is_read_only_back, forbids_write, mapped, unmapped, protected}
+use Rattle.vm_base.specs.Apply.{meta_of, Applies, AppliesAfter, Performs, Protects, MapsAt, HasPage, is_absent, is_read_only, is_read_only_back, forbids_write, mapped, unmapped, protected}
 use Rattle.vm_base.specs.Apply.Protects.{no_page, no_write, done}
 use Rattle.slot_lock.specs.declared.plan.Change.TheVariants.{Put, Clear, Protect}
 use Rattle.slot_lock.specs.declared.plan.Plan.{Plan}
@@ -36,7 +36,7 @@ use Rattle.slot_lock.specs.Footprint.{covers, footprint_of, one_range, with_hint
 use Rattle.slot_lock.specs.Slots.{Slots}
 use Rattle.vm_calls.specs.declared.decision.Decision.{Decision}
 use Rattle.vm_calls.specs.declared.decision.Decision.TheVariants.{Refuse, Act}
-use Rattle.vm_calls.specs.Checks.{checked, plan_of, touched, HasModes, meta_of, placed_count, hint_at, place_of}
+use Rattle.vm_calls.specs.Checks.{checked, plan_of, touched, HasModes, placed_count, hint_at, place_of}
 use Rattle.vm_calls.specs.Decisions.{Decides, DecidesProtect, DecidesPlace, GoesTo, Acts, IsNoTouch, entries, entry_of, hint_page}
 use Rattle.vm_calls.specs.Decisions.DecidesProtect.{no_page as absent_page, no_write as read_only_page, acts}
 use Rattle.vm_calls.proofs.Passed.{passed, touch-of}

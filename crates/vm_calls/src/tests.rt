@@ -542,34 +542,57 @@ fn edges_of_accesses(rt: HostRuntime) -> Result<(), Fail> {
     Ok(())
 }
 
-/// A shared page of a file that may be read.
-fn read_page(frame: Option<u32>) -> PageInfo {
-    PageInfo {
-        meta: Meta {
-            back: Back::Shared { file: 0, page: 3 },
-            prot: R,
-        },
+/// A page that is backed so.
+fn page_with(back: Back, prot: Prot, frame: Option<u32>) -> Option<PageInfo> {
+    Some(PageInfo {
+        meta: Meta { back, prot },
         frame,
         cores: CoreSet::empty(),
-    }
+    })
 }
 
 #[test]
 fn what_an_access_finds(rt: HostRuntime) -> Result<(), Fail> {
+    let back = Back::Shared { file: 0, page: 3 };
     let found = [
         settle(None, Access::Load, false, None),
-        settle(Some(read_page(None)), Access::Store, true, None),
-        settle(Some(read_page(None)), Access::Load, true, None),
-        settle(Some(read_page(Some(5))), Access::Load, false, Some(6)),
-        settle(Some(read_page(None)), Access::Load, false, Some(6)),
-        settle(Some(read_page(None)), Access::Load, false, None),
+        settle(page_with(back, R, None), Access::Store, true, None),
+        settle(page_with(back, R, None), Access::Load, true, None),
+        settle(page_with(back, R, Some(5)), Access::Load, false, Some(6)),
+        settle(page_with(back, RW, Some(6)), Access::Store, false, Some(6)),
+        settle(page_with(back, RW, None), Access::Store, false, Some(6)),
+        settle(page_with(back, R, None), Access::Load, false, None),
     ];
     let expected = [
         Settled::MapErr,
         Settled::AccErr,
         Settled::Bus,
         Settled::Has(5),
+        Settled::Has(6),
         Settled::Cached(6),
+        Settled::Wants,
+    ];
+    assert!(rt; found == expected);
+    Ok(())
+}
+
+#[test]
+fn a_private_page_shows_its_file_until_a_store(rt: HostRuntime) -> Result<(), Fail> {
+    let back = Back::Private { file: 0, page: 3 };
+    let found = [
+        settle(page_with(back, RW, None), Access::Load, false, Some(6)),
+        settle(page_with(back, RW, None), Access::Store, false, Some(6)),
+        settle(page_with(back, RW, Some(6)), Access::Load, false, Some(6)),
+        settle(page_with(back, RW, Some(6)), Access::Store, false, Some(6)),
+        settle(page_with(back, RW, Some(5)), Access::Store, false, Some(6)),
+        settle(page_with(back, RW, None), Access::Load, false, None),
+    ];
+    let expected = [
+        Settled::Cached(6),
+        Settled::Wants,
+        Settled::Has(6),
+        Settled::Copies(6),
+        Settled::Has(5),
         Settled::Wants,
     ];
     assert!(rt; found == expected);
