@@ -11,5 +11,17 @@ mod decide;
 mod engine;
 mod events;
 mod fault;
+pub mod machine;
 mod reserved;
+pub mod run_result;
+#[cfg(test)]
+mod run_tests;
+pub mod running;
 pub mod setup;
+#[cfg(test)]
+mod tests;
+
+pub use machine::{Finished, Machine};
+pub use run_result::{Run, RunFault};
+pub use running::run;
+pub use setup::{Setup, SetupFault};

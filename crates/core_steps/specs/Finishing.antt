@@ -1,0 +1,26 @@
+-- What finishing a call comes to: steps of a core, one after another, until one is not Stepped
+use Rattle.std.specs.Prelude.{◌≡◌, ◌≢◌, ℕ, ◌<◌, ◌^◌}
+use Rattle.core_steps.specs.declared.machine.Finished.{Finished}
+use Rattle.core_steps.specs.declared.machine.Finished.TheVariants.{Last, Stuck}
+use Rattle.machine_model.specs.declared.event.Event.TheVariants.{Go}
+use Rattle.machine_model.specs.declared.event.Outcome.TheVariants.{Stepped}
+use Rattle.machine_model.specs.World.{World}
+use Rattle.machine_model.specs.Step.{Step, StepsTo}
+use Rattle.core_steps.specs.Moving.{MayWant}
+
+-- so many steps at the most
+abbrev pub finish_limit : ℕ
+finish_limit = 2 ^ 40
+
+-- the last outcome is the first that isn't Stepped; the limit is told only where all of so many steps were
+abbrev pub EndsIn : World → ℕ → ℕ → Finished → World → Type 0
+EndsIn w core n (Last outcome) v =
+    (n < finish_limit) × (outcome ≢ Stepped) × ((m : World) × StepsTo w core n m × Step m (Go core) outcome v)
+EndsIn w core n Stuck v = (n ≡ finish_limit) × StepsTo w core n v
+
+abbrev pub Finishes : World → ℕ → Finished → World → Type 0
+Finishes w core finished v = (n : ℕ) × EndsIn w core n finished v
+
+-- some steps were made, and the next, at which a slot is to be divided, was refused
+abbrev pub IsRefused : World → ℕ → World → Type 0
+IsRefused w core v = (n : ℕ) × (n < finish_limit) × MayWant v (Go core) × StepsTo w core n v

@@ -1,0 +1,102 @@
+//! The machine as its users see it.
+ghost use Rattle.machine_sound.specs.Sound.{IsReached};
+ghost use Rattle.core_steps.specs.State.{world};
+
+use crate::engine::Engine;
+use crate::setup::{Setup, SetupFault};
+use machine_model::{Entry, Event, Outcome};
+use slot_lock::SlotMap;
+use std::alloc::Allocator;
+use vm_base::{CoreId, NoMemory};
+
+/// How many steps finish a call at the most.
+const FINISH_LIMIT: u64 = 1 << 40;
+
+/// What finishing a call came to.
+#[derive(Clone, Copy, Debug, PartialEq, Eq)]
+pub enum Finished {
+    /// The outcome that ended it.
+    Last(Outcome),
+    /// Each of 2^40 steps was Stepped.
+    Stuck,
+}
+
+/// One address space over a slot map, which events move step by step.
+#[derive(Drop)]
+pub struct Machine<M: SlotMap, A: Allocator> {
+    engine: Engine<M, A>,
+    ghost reached: { ∥ IsReached (world M.slots engine) ∥₁ },
+}
+
+impl<M: SlotMap + Drop, A: Allocator + Clone + Drop> Machine<M, A> {
+    ghost use Rattle.std.specs.Prelude.{◌≡◌, IfOk, IfErr, OnErr, None};
+    ghost use Rattle.slot_lock.specs.Slots.{IsNew};
+    ghost use Rattle.machine_model.specs.World.{new_world};
+    ghost use Rattle.core_steps.specs.Setups.{fault_of, IsFirstFault, made_of};
+    ghost use Rattle.core_steps.specs.Machine.{state};
+
+    /// A machine over a new slot map. It keeps room for one log entry of each call, so that a logged step takes no memory.
+    /// Of several faults the first is told, in the order of `SetupFault`.
+    pub fn new(alloc: A, map: M, setup: &Setup) -> Result<Machine<M, A>, SetupFault>
+        requires { IsNew (M.slots map) }
+        ensures opening { IfOk result (λ machine. state machine ≡ new_world (made_of setup.now) (M.slots map)) }
+        ensures sound { IfOk result (λ machine. fault_of setup.now ≡ None) }
+        ensures first { IfErr result (λ fault. IsFirstFault setup.now fault) }
+    {
+        if let Some(fault) = setup.fault() {
+            return Err(fault);
+        }
+        let Ok(engine) = Engine::new(alloc, map, setup) else {
+            return Err(SetupFault::NoMemory);
+        };
+        Ok(Machine { engine })
+    }
+}
+
+impl<M: SlotMap, A: Allocator> Machine<M, A> {
+    ghost use Rattle.std.specs.Prelude.{◌≡◌, IfOk, OnErr};
+    ghost use Rattle.machine_model.specs.Step.{Step};
+    ghost use Rattle.machine_sound.specs.Sound.{Notes};
+    ghost use Rattle.core_steps.specs.Moving.{MayWant, Tries};
+    ghost use Rattle.core_steps.specs.Finishing.{Finishes, IsRefused};
+    ghost use Rattle.core_steps.specs.Machine.{state, IsLegal};
+
+    /// One event. A refusal for memory leaves the machine unchanged, and comes only at a step at which a slot is to be
+    /// divided. The state that is left is one of a plain page map's (POSIX.1-2017, mmap, munmap and mprotect), and the step's
+    /// log entry, if it made one, was due.
+    pub fn step(&mut self, event: Event) -> Result<Outcome, NoMemory>
+        ensures step { Tries (Step (state self.old) event) (MayWant (state self.old) event) (state self.old) result (state self.new) }
+        ensures noted { IfOk result (λ outcome. ∥ Notes (state self.old) event (state self.new) ∥₁) }
+        ensures legal { IsLegal (state self.new) }
+    {
+        self.engine.step(event)
+    }
+
+    /// Steps of the core's call until one isn't Stepped, at most 2^40. After a refusal for memory the steps before it
+    /// stand.
+    pub fn finish(&mut self, core: CoreId) -> Result<Finished, NoMemory>
+        ensures ends { IfOk result (λ finished. Finishes (state self.old) core finished (state self.new)) }
+        ensures err { OnErr result (IsRefused (state self.old) core (state self.new)) }
+        ensures legal { IsLegal (state self.new) }
+    {
+        'steps: for n in 0..FINISH_LIMIT {
+            let outcome = match self.step(Event::Go(core)) {
+                Ok(outcome) => outcome,
+                Err(refused) => return Err(refused),
+            };
+            if outcome != Outcome::Stepped {
+                return Ok(Finished::Last(outcome));
+            }
+        }
+        Ok(Finished::Stuck)
+    }
+
+    /// The entries made so far, in order. They are those of a plain page map (POSIX.1-2017, mmap, munmap and mprotect),
+    /// applied one after another.
+    pub fn log(&self) -> &[Entry]
+        ensures entries { result.now ≡ (state self.now).calls.log }
+        ensures legal { IsLegal (state self.now) }
+    {
+        &self.engine.calls.log.items
+    }
+}

@@ -1,0 +1,25 @@
+//! What running a list of events comes to.
+use crate::machine::Machine;
+use crate::setup::SetupFault;
+use machine_model::Outcome;
+use slot_lock::SlotMap;
+use std::alloc::Allocator;
+
+/// A run of all events of a list.
+#[derive(Drop)]
+pub struct Run<M: SlotMap, A: Allocator> {
+    /// What each event came to, in order.
+    pub outcomes: Vec<Outcome, A>,
+    /// The machine after the last event.
+    pub machine: Machine<M, A>,
+}
+
+/// Why a run ended early.
+#[derive(Clone, Copy, Debug, PartialEq, Eq)]
+pub enum RunFault {
+    /// The setup makes no machine.
+    Setup(SetupFault),
+    /// The event with this index, from 0, was refused for memory. Where it is the number of events, the list of outcomes
+    /// found no room, and no event was run.
+    NoMemory { at: usize },
+}

@@ -1,0 +1,57 @@
+//! A list of events on a new machine.
+ghost use Rattle.std.specs.Prelude.{◌≡◌, IfOk, IfErr, length};
+ghost use Rattle.slot_lock.specs.Slots.{IsNew};
+ghost use Rattle.machine_model.specs.World.{new_world};
+ghost use Rattle.machine_model.specs.Step.{Run as RunsTo};
+ghost use Rattle.machine_laws.specs.Brackets.{IsBracketed};
+ghost use Rattle.machine_sound.specs.Sound.{SoundRun};
+ghost use Rattle.core_steps.specs.Machine.{state};
+ghost use Rattle.core_steps.specs.Setups.{IsFirstFault, made_of};
+ghost use Rattle.core_steps.specs.Running.{Fails};
+
+use crate::machine::Machine;
+use crate::run_result::{Run, RunFault};
+use crate::setup::{Setup, SetupFault};
+use machine_model::Event;
+use slot_lock::SlotMap;
+use std::alloc::Allocator;
+
+/// All events, in order, on a new machine over a new slot map. The outcomes and the machine are handed back: each reply stands
+/// once in its log, between the event that began its call and the event that handed it out. In each state of the run the log
+/// is that of a plain page map (POSIX.1-2017, mmap, munmap and mprotect), each translation agrees with that map, and no frame
+/// that something names is free.
+///
+/// A fault of the setup comes before want of memory for the list of outcomes, and that before the first event. After a fault
+/// nothing is handed back.
+pub fn run<M: SlotMap + Drop, A: Allocator + Clone + Drop>(
+    alloc: A,
+    map: M,
+    setup: &Setup,
+    events: &[Event],
+) -> Result<Run<M, A>, RunFault>
+    requires { IsNew (M.slots map) }
+    ensures run { IfOk result (λ done. RunsTo (new_world (made_of setup.now) (M.slots map)) events.now done.outcomes.items (state done.machine)) }
+    ensures all { IfOk result (λ done. length done.outcomes.items ≡ length events.now) }
+    ensures brackets { IfOk result (λ done. IsBracketed events.now done.outcomes.items (state done.machine)) }
+    ensures sound { IfOk result (λ done. SoundRun (new_world (made_of setup.now) (M.slots map)) events.now done.outcomes.items (state done.machine)) }
+    ensures fault { IfErr result (λ fault. Fails (new_world (made_of setup.now) (M.slots map)) setup.now events.now fault) }
+{
+    let Ok(own) = alloc.clone() else {
+        return Err(RunFault::Setup(setup.fault().unwrap_or(SetupFault::NoMemory)));
+    };
+    let mut machine = match Machine::new(own, map, setup) {
+        Ok(machine) => machine,
+        Err(fault) => return Err(RunFault::Setup(fault)),
+    };
+    let Ok(mut outcomes) = Vec::with_capacity(alloc, events.len()) else {
+        return Err(RunFault::NoMemory { at: events.len() });
+    };
+    'events: for at in 0..events.len() {
+        let event = events[at];
+        let Ok(outcome) = machine.step(event) else {
+            return Err(RunFault::NoMemory { at });
+        };
+        outcomes.push_reserved(outcome);
+    }
+    Ok(Run { outcomes, machine })
+}
