@@ -1,5 +1,7 @@
-pub mod Calling
-pub mod Changing
-pub mod Known
 pub mod Lists
 pub mod Opened
+pub mod Known
+pub mod Changing
+pub mod Calling
+pub mod Reached
+pub mod Runs

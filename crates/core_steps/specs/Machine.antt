@@ -1,6 +1,5 @@
 -- Which state of the abstract machine a machine has, and what holds of it
-use Rattle.std.specs.Prelude.{ℕ}
-use Rattle.slot_lock.specs.declared.slot_map.SlotMap.{Ghosts}
+use Rattle.slot_lock.specs.declared.slot_map.SlotRead.{Ghosts}
 use Rattle.machine_model.specs.World.{World}
 use Rattle.machine_sound.specs.Sound.{IsReached, IsSoundState}
 use Rattle.core_steps.specs.declared.machine.Machine.{Machine}

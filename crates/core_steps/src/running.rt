@@ -48,8 +48,9 @@ pub fn run<M: SlotMap + Drop, A: Allocator + Clone + Drop>(
     };
     'events: for at in 0..events.len() {
         let event = events[at];
-        let Ok(outcome) = machine.step(event) else {
-            return Err(RunFault::NoMemory { at });
+        let outcome = match machine.step(event) {
+            Ok(outcome) => outcome,
+            Err(_) => return Err(RunFault::NoMemory { at }),
         };
         outcomes.push_reserved(outcome);
     }

@@ -1,0 +1,22 @@
+use Rattle.std.proofs.Common.{◌≡◌, refl, take, rules}
+use Rattle.std.proofs.lemmas.List.{take_all}
+use Rattle.core_steps.specs.Setups.{made_of}
+use Rattle.core_steps.proofs.Runs.{next_run, all_bracketed, all_sound}
+use Rattle.core_steps.proofs.running.run.Goals as goal
+
+pub events-preserved : goal.events-preserved
+events-preserved g c = record {
+  run = rw c.push_reserved.ensures.items (next_run _ _ _ _ _ _ _ _ c.events-test.true c.index-events-at.is c.events.invariant.run c.in-Ok-step.ensures.step);
+  room = search rules;
+  count = search rules;
+}
+
+pub returns-clause-brackets : goal.returns-clause-brackets
+returns-clause-brackets g c =
+    let all : take c.events.at c.args.events.now ≡ c.args.events.now = take_all c.events.at c.args.events.now c.events-test.false in
+    all_bracketed (made_of c.args.setup.now) (g.M.SlotRead.slots c.args.map) _ c.args.events.now c.events.outcomes.items _ all c.events.invariant.run
+
+pub returns-clause-sound : goal.returns-clause-sound
+returns-clause-sound g c =
+    let all : take c.events.at c.args.events.now ≡ c.args.events.now = take_all c.events.at c.args.events.now c.events-test.false in
+    all_sound (made_of c.args.setup.now) (g.M.SlotRead.slots c.args.map) _ c.args.events.now c.events.outcomes.items _ (λ n. refl) c.requires all c.events.invariant.run
