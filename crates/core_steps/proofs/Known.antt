@@ -62,9 +62,10 @@ begins w c phase held e some k = subst (IsCutFor w.slots.edge) e k.cut some
 
 pub cut_at : (w : World) (c : ℕ) (phase : Phase) (held : PageRange) → IsAt w c phase → range_held phase ≡ Some held → held.first < held.end
     → IsCutRange w.slots.edge held
-cut_at w c phase held i e some =
-    (∥∥₁_elim i.orderly (hlevel props) (λ g. (begins w c phase held e some (call_at w c phase i.phase g)).0),
-    ∥∥₁_elim i.orderly (hlevel props) (λ g. (begins w c phase held e some (call_at w c phase i.phase g)).1))
+cut_at w c phase held i e some = (
+  ∥∥₁_elim i.orderly (hlevel props) (λ g. (begins w c phase held e some (call_at w c phase i.phase g)).0),
+  ∥∥₁_elim i.orderly (hlevel props) (λ g. (begins w c phase held e some (call_at w c phase i.phase g)).1),
+)
 
 -- ---- frames
 

@@ -64,7 +64,9 @@ impl<M: SlotMap, A: Allocator> Engine<M, A> {
     /// One step towards holding all pages of the goal. A refusal for memory changes nothing.
     pub fn go_lock(&mut self, core: CoreId, goal: Goal, cursor: u64) -> Result<Outcome, NoMemory>
         requires { IsAt (world M.slots self.old) core (Phase.Lock goal cursor) }
-        ensures { Tries (Goes (world M.slots self.old) core (Phase.Lock goal cursor)) (IsToDivide (M.slots self.old.map) (Phase.Lock goal cursor)) (world M.slots self.old) result (world M.slots self.new) }
+        ensures { Tries (Goes (world M.slots self.old) core (Phase.Lock goal cursor))
+            (IsToDivide (M.slots self.old.map) (Phase.Lock goal cursor))
+            (world M.slots self.old) result (world M.slots self.new) }
     {
         let end = goal_range(goal).end;
         match self.map.lock_next(core, cursor, end)? {

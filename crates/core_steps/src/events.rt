@@ -37,7 +37,9 @@ impl<M: SlotMap, A: Allocator> Engine<M, A> {
     fn go(&mut self, core: CoreId) -> Result<Outcome, NoMemory>
         requires here { core < length self.old.calls.phases.items }
         requires orderly { ∥ IsOrderly (world M.slots self.old) ∥₁ }
-        ensures { Tries (Goes (world M.slots self.old) core (phase_of self.old core)) (IsToDivide (M.slots self.old.map) (phase_of self.old core)) (world M.slots self.old) result (world M.slots self.new) }
+        ensures { Tries (Goes (world M.slots self.old) core (phase_of self.old core))
+            (IsToDivide (M.slots self.old.map) (phase_of self.old core))
+            (world M.slots self.old) result (world M.slots self.new) }
     {
         match self.calls.phases[core.index() as usize] {
             Phase::Free => Ok(Outcome::Idle),
@@ -61,7 +63,9 @@ impl<M: SlotMap, A: Allocator> Engine<M, A> {
     fn act(&mut self, event: Event) -> Result<Outcome, NoMemory>
         requires here { is_here (world M.slots self.old).made (core_of event) ≡ true }
         requires orderly { ∥ IsOrderly (world M.slots self.old) ∥₁ }
-        ensures { Tries (Acts (world M.slots self.old) event) (MayWant (world M.slots self.old) event) (world M.slots self.old) result (world M.slots self.new) }
+        ensures { Tries (Acts (world M.slots self.old) event)
+            (MayWant (world M.slots self.old) event)
+            (world M.slots self.old) result (world M.slots self.new) }
     {
         match event {
             Event::Call(core, request) => Ok(self.call(core, request)),
@@ -74,7 +78,9 @@ impl<M: SlotMap, A: Allocator> Engine<M, A> {
         requires here { is_here (world M.slots self.old).made (core_of event) ≡ true }
         requires room { self.old.calls.events + 1 < 2 ^ 64 }
         requires orderly { ∥ IsOrderly (world M.slots self.old) ∥₁ }
-        ensures { Tries (Acts (counted (world M.slots self.old)) event) (MayWant (world M.slots self.old) event) (world M.slots self.old) result (world M.slots self.new) }
+        ensures { Tries (Acts (counted (world M.slots self.old)) event)
+            (MayWant (world M.slots self.old) event)
+            (world M.slots self.old) result (world M.slots self.new) }
     {
         self.calls.events += 1;
         match self.act(event) {
@@ -99,7 +105,9 @@ impl<M: SlotMap, A: Allocator> Engine<M, A> {
     /// One event, which is counted unless memory is refused; then nothing changes.
     pub fn step(&mut self, event: Event) -> Result<Outcome, NoMemory>
         requires { ∥ IsOrderly (world M.slots self.old) ∥₁ }
-        ensures { Tries (Step (world M.slots self.old) event) (MayWant (world M.slots self.old) event) (world M.slots self.old) result (world M.slots self.new) }
+        ensures { Tries (Step (world M.slots self.old) event)
+            (MayWant (world M.slots self.old) event)
+            (world M.slots self.old) result (world M.slots self.new) }
     {
         if self.calls.events == u64::MAX {
             return Ok(Outcome::Full);

@@ -47,7 +47,10 @@ impl<M: SlotMap, A: Allocator> Engine<M, A> {
             Settled::AccErr => self.reply(core, held, Reply::Segv(SegvCode::AccErr)),
             Settled::Bus => self.reply(core, held, Reply::Bus),
             Settled::Has(_) => self.go_to(core, Phase::Install(touch)),
-            Settled::Copies(_) | Settled::Cached(_) | Settled::Wants => self.go_to(core, Phase::Want(touch)),
+            Settled::Copies(_) | Settled::Cached(_) | Settled::Wants => self.go_to(
+                core,
+                Phase::Want(touch),
+            ),
         }
     }
 

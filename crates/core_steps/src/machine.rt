@@ -65,7 +65,9 @@ impl<M: SlotMap, A: Allocator> Machine<M, A> {
     /// divided. The state that is left is one of a plain page map's (POSIX.1-2017, mmap, munmap and mprotect), and the step's
     /// log entry, if it made one, was due.
     pub fn step(&mut self, event: Event) -> Result<Outcome, NoMemory>
-        ensures step { Tries (Step (state self.old) event) (MayWant (state self.old) event) (state self.old) result (state self.new) }
+        ensures step { Tries (Step (state self.old) event)
+            (MayWant (state self.old) event)
+            (state self.old) result (state self.new) }
         ensures noted { IfOk result (λ outcome. ∥ Notes (state self.old) event (state self.new) ∥₁) }
         ensures legal { IsLegal (state self.new) }
     {
