@@ -1,0 +1,26 @@
+-- A new engine has the state of a new machine
+use Rattle.std.proofs.Common.{◌≡◌, ℕ, List, [], length, nat_lt, None, refl, ap, ◌∙◌}
+use Rattle.std.proofs.Math.Path.{fun_ext}
+use Rattle.vm_base.specs.Plain.{zeros}
+use Rattle.slot_lock.specs.Slots.{Slots}
+use Rattle.backing.specs.declared.file_spec.FileSpec.{FileSpec}
+use Rattle.backing.specs.Files.{FileParts, files_of, cached_in}
+use Rattle.backing.specs.Given.{given_files}
+use Rattle.frames.specs.Parts.{FrameParts, frame_bytes, free_frames}
+use Rattle.machine_model.specs.World.{new_world, no_calls}
+use Rattle.core_steps.specs.declared.calls.CallTable.{CallTable}
+use Rattle.core_steps.specs.declared.setup.Setup.{Setup}
+use Rattle.core_steps.specs.Setups.{made_of}
+use Rattle.core_steps.specs.State.{world_of, calls_of}
+
+-- no file was asked for
+pub no_files : {A : Type 0} (files : List FileParts) (specs : List (FileSpec A)) → files_of files ≡ given_files specs → specs ≡ []
+    → files_of files ≡ (λ n. None)
+no_files files specs e h = e ∙ ap given_files h ∙ fun_ext (λ n. refl)
+
+pub opened : {A : Type 0} (slots : Slots) (frames : FrameParts) (files : List FileParts) (calls : CallTable A) (s : Setup)
+    → frames.count ≡ s.frames → frame_bytes frames ≡ (λ f. zeros) → free_frames frames ≡ (λ f. nat_lt f s.frames)
+    → files_of files ≡ (λ n. None) → cached_in files ≡ (λ n k. None) → calls_of calls ≡ no_calls
+    → length calls.phases.items ≡ s.cores → calls.requests.limit ≡ s.calls
+    → world_of slots frames files calls ≡ new_world (made_of s) slots
+opened slots frames files calls s count bytes free file cached started cores limit = rw (count, bytes, free, file, cached, started, cores, limit) refl
