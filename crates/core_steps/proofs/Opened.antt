@@ -13,11 +13,6 @@ use Rattle.core_steps.specs.declared.setup.Setup.{Setup}
 use Rattle.core_steps.specs.Setups.{made_of}
 use Rattle.core_steps.specs.State.{world_of, calls_of}
 
--- no file was asked for
-pub no_files : {A : Type 0} (files : List FileParts) (specs : List (FileSpec A)) → files_of files ≡ given_files specs → specs ≡ []
-    → files_of files ≡ (λ n. None)
-no_files files specs e h = e ∙ ap given_files h ∙ fun_ext (λ n. refl)
-
 pub opened : {A : Type 0} (slots : Slots) (frames : FrameParts) (files : List FileParts) (calls : CallTable A) (s : Setup)
     → frames.count ≡ s.frames → frame_bytes frames ≡ (λ f. zeros) → free_frames frames ≡ (λ f. nat_lt f s.frames)
     → files_of files ≡ (λ n. None) → cached_in files ≡ (λ n k. None) → calls_of calls ≡ no_calls

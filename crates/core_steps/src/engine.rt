@@ -9,7 +9,7 @@ ghost use Rattle.core_steps.specs.State.{world, calls_of};
 use crate::calls::CallTable;
 use crate::reserved::Reserved;
 use crate::setup::Setup;
-use backing::{FileSpec, Objects};
+use backing::Objects;
 use frames::Frames;
 use machine_model::Phase;
 use slot_lock::SlotMap;
@@ -72,8 +72,7 @@ impl<M: SlotMap + Drop, A: Allocator + Clone + Drop> Engine<M, A> {
         ensures { IfOk result (λ engine. world M.slots engine ≡ new_world (made_of setup.now) (M.slots map)) }
     {
         let frames = Frames::new(alloc.clone()?, setup.frames as u32)?;
-        let no_files: Vec<FileSpec<A>, A> = Vec::new(alloc.clone()?);
-        let objects = Objects::new(alloc.clone()?, no_files.as_slice())?;
+        let objects = Objects::none(alloc.clone()?);
         let calls = call_table(alloc, setup.cores as usize, setup.calls)?;
         Ok(Engine {
             map,
