@@ -3,4 +3,6 @@
 
 pub mod held;
 pub mod histories;
+#[cfg(test)]
+mod tests;
 pub mod tree;
