@@ -153,13 +153,34 @@ impl SlotState {
         self.owner = owner;
     }
 
+    // Maps the slot's first page as the one `by` pages after a page with this.
+    fn put(&mut self, info: &PageInfo, by: u64)
+        requires { info_file_page (Some info.now) + by < 2 ^ 64 }
+        ensures { state_of self.new ≡ record { info = info_from (Some info.now) by; owner = (state_of self.old).owner } }
+    {
+        let meta = info.meta.advanced(by);
+        let (kind, file, file_page) = parts_of(meta.back);
+        let (has_frame, frame) = match info.frame {
+            None => (false, 0),
+            Some(frame) => (true, frame),
+        };
+        self.file_page = file_page;
+        self.cores = info.cores;
+        self.file = file;
+        self.frame = frame;
+        self.has_frame = has_frame;
+        self.kind = kind;
+        self.prot = meta.prot;
+    }
+
     /// Changes the slot as one of a range that begins `by` pages before it.
     pub fn edit(&mut self, edit: &Edit, by: u64)
         requires { CanEdit edit.now (by + 1) }
         ensures { state_of self.new ≡ edited edit.now by (state_of self.old) }
     {
         match edit {
-            Edit::Put(info) => *self = SlotState::new(info_from(*info, by), self.owner),
+            Edit::Put(None) => self.kind = Kind::Unmapped,
+            Edit::Put(Some(info)) => self.put(info, by),
             Edit::Protect(prot) => {
                 self.prot = *prot;
                 self.cores = CoreSet::empty();
