@@ -1,5 +1,5 @@
 -- What the code learns of a change that is to be made or whose pages are to be let go
-use Rattle.std.proofs.Common.{◌≡◌, ◌≢◌, ℕ, Bool, true, false, not, is_some, Some, None, Option, sym, subst, ap, refl, ◌∙◌}
+use Rattle.std.proofs.Common.{◌≡◌, ℕ, true, not, is_some, Some, None, Option, ap, refl}
 use Rattle.std.proofs.Math.Logic.{∥∥₁_elim}
 use Rattle.std.proofs.Props.{props}
 use Rattle.vm_base.specs.declared.info.PageInfo.{PageInfo}
@@ -8,7 +8,6 @@ use Rattle.vm_base.specs.declared.replies.Reply.{Reply}
 use Rattle.vm_base.specs.declared.rights.Prot.{Prot}
 use Rattle.vm_base.specs.Pages.{IsPageRange}
 use Rattle.vm_base.specs.Plain.{File}
-use Rattle.vm_base.specs.Functions.{has}
 use Rattle.slot_lock.specs.declared.plan.Change.{Change}
 use Rattle.slot_lock.specs.declared.plan.Change.TheVariants.{Put, Clear, Protect}
 use Rattle.slot_lock.specs.declared.plan.Plan.TheVariants as PlanOf
@@ -17,7 +16,6 @@ use Rattle.slot_lock.specs.Slots.{Slots, IsHeld}
 use Rattle.vm_calls.specs.declared.decision.Decision.TheVariants.{Act}
 use Rattle.vm_calls.specs.Decisions.{Decides, entry_of}
 use Rattle.vm_calls.specs.Decisions.DecidesProtect.{no_page, no_write, acts}
-use Rattle.machine_model.specs.declared.phase.Phase.{Phase}
 use Rattle.machine_model.specs.declared.phase.Phase.TheVariants.{Acks, Unlock}
 use Rattle.machine_model.specs.World.{World}
 use Rattle.machine_laws.proofs.Deciding.{sound_range}

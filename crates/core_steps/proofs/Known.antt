@@ -1,5 +1,5 @@
 -- What the code learns of the call that is to make a step: it knows only that the state is in order
-use Rattle.std.proofs.Common.{◌≡◌, ◌≢◌, ℕ, ◌+◌, ◌<◌, ◌≤◌, ◌^◌, Bool, true, false, ◌&&◌, nat_lt, length, Option, Some, None, sym, subst, ap, refl, arith, cond, ◌∙◌}
+use Rattle.std.proofs.Common.{◌≡◌, ◌≢◌, ℕ, ◌+◌, ◌<◌, ◌≤◌, ◌^◌, Bool, true, false, length, Option, Some, None, subst, ap, arith, cond, ◌∙◌}
 use Rattle.std.specs.Prelude.{if◌then◌else◌}
 use Rattle.std.proofs.Math.Logic.{∥∥₁_elim, ∥∥₁_map}
 use Rattle.std.proofs.Props.{props}
@@ -8,7 +8,7 @@ use Rattle.vm_base.specs.declared.info.PageInfo.{PageInfo}
 use Rattle.vm_base.specs.declared.page.PageRange.{PageRange}
 use Rattle.vm_base.specs.declared.rights.Access.{Access}
 use Rattle.vm_base.specs.Functions.{has}
-use Rattle.vm_base.specs.Pages.{IsPage, IsPageRange}
+use Rattle.vm_base.specs.Pages.{IsPageRange}
 use Rattle.vm_base.specs.Info.{frame_of}
 use Rattle.vm_base.specs.Rights.{is_allowed}
 use Rattle.vm_base.proofs.Functions.{in_has}
@@ -18,7 +18,7 @@ use Rattle.slot_lock.specs.declared.plan.Plan.{Plan}
 use Rattle.slot_lock.specs.declared.plan.Plan.TheVariants as PlanOf
 use Rattle.slot_lock.specs.declared.plan.Touch.{Touch}
 use Rattle.slot_lock.specs.Plan.{range_of, IsSound, IsSoundChange, IsSoundTouch}
-use Rattle.slot_lock.specs.Slots.{Slots, IsSlot, IsHeld}
+use Rattle.slot_lock.specs.Slots.{IsSlot, IsHeld}
 use Rattle.machine_model.specs.declared.phase.Goal.{Goal}
 use Rattle.machine_model.specs.declared.phase.Goal.TheVariants as To
 use Rattle.machine_model.specs.declared.phase.Phase.{Phase}
@@ -26,7 +26,7 @@ use Rattle.machine_model.specs.declared.phase.Phase.TheVariants.{Free, Lock}
 use Rattle.machine_model.specs.World.{World}
 use Rattle.machine_model.specs.Accesses.{frame_for}
 use Rattle.machine_model.specs.Holding.{goal_plan, goal_range, holds, is_open, page_of_touch, range_held, some_has, taken_in}
-use Rattle.machine_laws.specs.Orderly.{IsOrderly, IsAsked, IsCutFor, IsCutRange, IsReady, Serves}
+use Rattle.machine_laws.specs.Orderly.{IsOrderly, IsAsked, IsCutFor, IsCutRange, Serves}
 use Rattle.machine_laws.proofs.Deciding.{IsUnplaced, change_sound, touch_sound, sound_range}
 use Rattle.machine_laws.proofs.Moves.{call_at, IsCallOf}
 use Rattle.machine_laws.proofs.OpenCalls.{one, open_put}

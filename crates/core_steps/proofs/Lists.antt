@@ -1,7 +1,7 @@
 -- Lists that are changed at one place, seen as functions, and the state of which they are a part
 use Rattle.std.proofs.Common.{◌≡◌, ℕ, zero, suc, ◌<◌, List, length, get_or, refl}
 use Rattle.std.specs.Prelude.{slice_set}
-use Rattle.std.proofs.Math.ListN.{replicate, length-set}
+use Rattle.std.proofs.Math.ListN.{replicate}
 use Rattle.std.proofs.Math.Path.{fun_ext}
 use Rattle.std.proofs.lemmas.List.{get_or-set_same, get_or-set_other}
 use Rattle.vm_base.specs.Functions.{put}

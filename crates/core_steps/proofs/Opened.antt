@@ -1,11 +1,8 @@
 -- A new engine has the state of a new machine
-use Rattle.std.proofs.Common.{◌≡◌, ℕ, List, [], length, nat_lt, None, refl, ap, ◌∙◌}
-use Rattle.std.proofs.Math.Path.{fun_ext}
+use Rattle.std.proofs.Common.{◌≡◌, List, length, nat_lt, None, refl}
 use Rattle.vm_base.specs.Plain.{zeros}
 use Rattle.slot_lock.specs.Slots.{Slots}
-use Rattle.backing.specs.declared.file_spec.FileSpec.{FileSpec}
 use Rattle.backing.specs.Files.{FileParts, files_of, cached_in}
-use Rattle.backing.specs.Given.{given_files}
 use Rattle.frames.specs.Parts.{FrameParts, frame_bytes, free_frames}
 use Rattle.machine_model.specs.World.{new_world, no_calls}
 use Rattle.core_steps.specs.declared.calls.CallTable.{CallTable}

@@ -1,5 +1,5 @@
 -- What a step of an engine does, and which steps may be refused for memory: those at which a slot is to be divided
-use Rattle.std.specs.Prelude.{◌≡◌, ℕ, ◌<◌, length, None, Result, Ok, Err}
+use Rattle.std.specs.Prelude.{◌≡◌, ℕ, ◌<◌, None, Result, Ok, Err}
 use Rattle.slot_lock.specs.Slots.{Slots, Crosses}
 use Rattle.machine_model.specs.declared.event.Event.{Event}
 use Rattle.machine_model.specs.declared.event.Event.TheVariants.{Call, Go}

@@ -1,3 +1,4 @@
+mod Examples
 mod Rank
 mod Rows
 pub mod Serving

@@ -232,7 +232,7 @@ returned w t c request x v o reply h s at answered e =
     let logged : IsLogged w.calls.log x.calls.log (x.calls.number c) c (Told reply) = subst (λ phase. IsLogged w.calls.log x.calls.log (x.calls.number c) c (status phase)) at h.logged in
     let led : Replays x.calls.requests (nothing_mapped x.made.file) x.calls.log after.plain = subst (λ (v : World). Replays v.calls.requests (nothing_mapped v.made.file) v.calls.log after.plain) e after.log in
     let last = last_entry x.calls.requests w.calls.log (nothing_mapped x.made.file) after.plain (EntryOf.Answer logged.0 (x.calls.number c) c reply)
-        (subst (λ log. Replays x.calls.requests (nothing_mapped x.made.file) log after.plain) logged.1 led) in
+    (subst (λ log. Replays x.calls.requests (nothing_mapped x.made.file) log after.plain) logged.1 led) in
     let from : last.0 ≡ t = log_leads_to_one x.calls.requests w.calls.log (nothing_mapped x.made.file) last.0 t last.1 h.first in
     let number : Some last.2.0 ≡ Some request = sym last.2.1 ∙ h.number in
     let same : last.2.0 ≡ request = cc in

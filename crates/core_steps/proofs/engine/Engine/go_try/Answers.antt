@@ -1,6 +1,5 @@
 use Rattle.std.proofs.Common.{refl, sym, ap, ◌∙◌}
 use Rattle.slot_lock.specs.declared.plan.Plan.TheVariants.{Touch}
-use Rattle.slot_lock.specs.Plan.{IsSoundTouch}
 use Rattle.machine_model.specs.Accesses.{frame_for}
 use Rattle.machine_model.specs.declared.phase.Phase.TheVariants.{Try}
 use Rattle.core_steps.proofs.Known.{room_for, frame_below, frame_found, sound_at}

@@ -1,4 +1,4 @@
-use Rattle.std.proofs.Common.{◌≤◌, arith}
+use Rattle.std.proofs.Common.{arith}
 use Rattle.slot_lock.proofs.Divisions.{slot_by}
 use Rattle.core_steps.proofs.Changing.{unlock_held}
 use Rattle.core_steps.proofs.engine.Engine.go_unlock.Goals as goal
