@@ -1,10 +1,9 @@
 -- How many plain steps a call can still take where no other call runs
-use Rattle.std.proofs.Common.{◌≡◌, ℕ, zero, suc, ◌≤◌, ◌<◌, ◌+◌, ◌-◌, ◌^◌, Bool, cond, if◌then◌else◌, ◌==◌, refl, ap, arith, Some, None, Option}
+use Rattle.std.proofs.Common.{◌≡◌, ℕ, zero, suc, ◌≤◌, ◌<◌, ◌+◌, ◌-◌, ◌^◌, Bool, if◌then◌else◌, ◌==◌, refl, ap, arith, Some, None, Option}
 use Rattle.std.specs.Prelude.{is_some, nat_le}
 use Rattle.vm_base.specs.declared.info.PageInfo.{PageInfo}
 use Rattle.vm_base.specs.declared.page.PageRange.{PageRange}
 use Rattle.vm_base.specs.declared.replies.Reply.{Reply}
-use Rattle.vm_base.specs.Pages.{IsPageRange}
 use Rattle.vm_base.proofs.Functions.{by_test}
 use Rattle.slot_lock.specs.declared.plan.Touch.{Touch}
 use Rattle.slot_lock.specs.Edges.{edges_below}

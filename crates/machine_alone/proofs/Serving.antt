@@ -1,5 +1,5 @@
 -- A call that no other call runs beside serves its request until it hands out the reply.
-use Rattle.std.proofs.Common.{◌≡◌, ◌≢◌, ℕ, zero, suc, ◌≤◌, ◌<◌, ◌+◌, ◌==◌, ◌^◌, Bool, true, false, cond, refl, sym, subst, ap, arith, Some, None, Option, ◌∙◌, List, [], ◌∷◌, ◌++◌, length}
+use Rattle.std.proofs.Common.{◌≡◌, ◌≢◌, ℕ, zero, suc, ◌≤◌, ◌<◌, ◌+◌, ◌==◌, ◌^◌, Bool, true, false, cond, refl, sym, subst, ap, arith, Some, ◌∙◌, List, [], ◌∷◌, ◌++◌, length}
 use Rattle.std.specs.Prelude.{nat_lt}
 use Rattle.std.proofs.lemmas.Bool.Decides.{nat_tests}
 use Rattle.vm_base.specs.declared.replies.Reply.{Reply}
@@ -7,21 +7,19 @@ use Rattle.vm_base.specs.declared.requests.Request.{Request}
 use Rattle.vm_base.specs.Functions.{put}
 use Rattle.vm_base.specs.Plain.{Plain, opening as nothing_mapped}
 use Rattle.vm_base.proofs.Functions.{eq_true, eq_false, put_all, put_same, put_other}
-use Rattle.machine_model.specs.declared.event.Event.{Event}
 use Rattle.machine_model.specs.declared.event.Event.TheVariants.{Call, Go}
 use Rattle.machine_model.specs.declared.event.Outcome.{Outcome}
-use Rattle.machine_model.specs.declared.event.Outcome.TheVariants.{Stepped, Answered, Idle, Full}
+use Rattle.machine_model.specs.declared.event.Outcome.TheVariants.{Stepped, Answered, Full}
 use Rattle.machine_model.specs.declared.log.Entry.{Entry}
 use Rattle.machine_model.specs.declared.log.Entry.TheVariants as EntryOf
 use Rattle.machine_model.specs.declared.phase.Phase.{Phase}
 use Rattle.machine_model.specs.declared.phase.Phase.TheVariants.{Free, Check, Lock, Decide, Post, Acks, Unlock, Answer, Try, Settle, Want, Fill, Install, Release}
 use Rattle.machine_model.specs.World.{World}
 use Rattle.machine_model.specs.Holding.{holds}
-use Rattle.machine_model.specs.Actions.{to, answer_entry}
-use Rattle.machine_model.specs.Events.{core_of}
-use Rattle.machine_model.specs.Step.{called, is_here, counted, event_limit, Step, StepsTo}
+use Rattle.machine_model.specs.Actions.{to}
+use Rattle.machine_model.specs.Step.{called, counted, event_limit, Step, StepsTo}
 use Rattle.machine_laws.specs.Brackets.{nth}
-use Rattle.machine_laws.proofs.Effects.{Status, Closed, Asked, Told, status, statuses, SameCalls, Effect, keeps, tells, opens, closes, effect_of}
+use Rattle.machine_laws.proofs.Effects.{Status, Closed, Asked, Told, status, SameCalls, Effect, keeps, tells, opens, closes, effect_of}
 use Rattle.machine_laws.proofs.Numbered.{at_new}
 use Rattle.machine_laws.proofs.Shapes.{Rests, absent, busy, full, free, waits, GoesBy, Shape, rests, begins, ends, goes, Comes, stopped, acts as counts, comes}
 use Rattle.machine_sound.specs.Log.{GoesOn, Replays, Stands}
@@ -29,7 +27,7 @@ use Rattle.machine_sound.specs.Invariant.{Fine}
 use Rattle.machine_sound.specs.Sound.{IsReached}
 use Rattle.machine_sound.proofs.Logs.{replays_requests}
 use Rattle.machine_sound.proofs.OneMap.{log_leads_to_one}
-use Rattle.machine_sound.proofs.Kept.{fine_step, reached_fine, reached_step}
+use Rattle.machine_sound.proofs.Kept.{reached_fine, reached_step}
 use Rattle.machine_alone.specs.Alone.{IsCalm, LeadsTo, IsServed, IsServedAlone}
 use Rattle.machine_alone.proofs.Rank.{rank_of}
 use Rattle.machine_alone.proofs.Rows.{IsDueReply, IsSure, Nears, goes_near}

@@ -19,10 +19,12 @@ use Rattle.machine_model.specs.Accesses.{tried, settles, TakesFrame, filled, ins
 
 -- a call begins
 abbrev pub called : ℕ → Request → World → World
-called c request w = to c (At.Check request) (record w { calls = record w.calls {
-  requests = w.calls.requests ++ request ∷ [];
-  number = put w.calls.number c (suc (length w.calls.requests));
-} })
+called c request w = to c (At.Check request) (record w {
+  calls = record w.calls {
+    requests = w.calls.requests ++ request ∷ [];
+    number = put w.calls.number c (suc (length w.calls.requests));
+  };
+})
 
 -- a core has one call at a time; past the limit of calls none begins
 abbrev pub Begins : World → ℕ → Request → Phase → Outcome → World → Type 0
