@@ -684,7 +684,9 @@ fn recorded_cores_are_shot(rt: HostRuntime) -> Result<(), Fail> {
 }
 
 /// Two mapped pages, each a slot of its own.
-fn two_slots<A: Allocator>(alloc: A, objects: &Objects<A>) -> Result<Lent<A>, NoMemory> {
+fn two_slots<A: Allocator>(alloc: A, objects: &Objects<A>) -> Result<Lent<A>, NoMemory>
+    ensures { IfOk result (λ lent. IsPageRange lent.pages) }
+{
     let mut list = RunList::new(alloc)?;
     run(&mut list, objects, mmap(0x10000, 4096, RW, PFA))?;
     run(&mut list, objects, mmap(0x11000, 4096, R, PFA))?;
