@@ -1,5 +1,6 @@
-//! Plain Rust programs that the parts are measured against: one page locked and unlocked among many slots, pages of a
-//! radix tree looked up and changed, a translation that the TLB has, and the table entries of a large range dropped. Standard library alone.
+//! Plain Rust programs that the parts are measured against: one page locked and unlocked among many slots; of a radix tree,
+//! a page looked up, a page changed, ranges looked through, and ranges changed; a translation that the TLB has; and the
+//! table entries of a large range dropped. Standard library alone.
 //! Build: `rustc --edition 2021 -C opt-level=3 bench/pieces.rs`.
 use std::collections::BTreeMap;
 use std::hint::black_box;
@@ -128,6 +129,13 @@ enum Content {
 }
 
 impl Content {
+    fn cores(&self) -> u64 {
+        match self {
+            Content::Leaf(info) => info.cores,
+            Content::Empty | Content::Folded(_) => 0,
+        }
+    }
+
     /// What the page `by` pages after the slot's first has.
     fn from(self, by: u64) -> Content {
         match self {
@@ -178,6 +186,62 @@ impl Node {
         match &mut self.slots[(page / width) as usize] {
             TreeSlot::Own(state) => (state, page % width, width),
             TreeSlot::Child(node) => node.find_mut(page % width),
+        }
+    }
+
+    /// The cores that are recorded on the pages from `first` up to `end`.
+    fn recorded(&self, first: u64, end: u64) -> u64 {
+        let width = 1 << (9 * self.level);
+        let mut cores = 0;
+        for k in first / width..=(end - 1) / width {
+            let start = k * width;
+            cores |= match &self.slots[k as usize] {
+                TreeSlot::Own(state) => state.content.cores(),
+                TreeSlot::Child(node) => node.recorded(first.max(start) - start, end.min(start + width) - start),
+            };
+        }
+        cores
+    }
+
+    /// Finds `n` unmapped pages from `first` up to `end`; `open` is where the free pages begin that come before `first`.
+    /// The node's first page is `base`; answers the run, or where the free pages begin that come before `end`.
+    fn free_run(&self, base: u64, first: u64, end: u64, n: u64, open: u64) -> Result<u64, u64> {
+        let width = 1 << (9 * self.level);
+        let mut open = open;
+        for k in first / width..=(end - 1) / width {
+            let start = k * width;
+            let to = end.min(start + width);
+            match &self.slots[k as usize] {
+                TreeSlot::Own(state) => {
+                    if !matches!(state.content, Content::Empty) {
+                        open = base + to;
+                    } else if n <= base + to - open {
+                        return Ok(open);
+                    }
+                }
+                TreeSlot::Child(node) => {
+                    match node.free_run(base + start, first.max(start) - start, to - start, n, open) {
+                        Ok(found) => return Ok(found),
+                        Err(still) => open = still,
+                    }
+                }
+            }
+        }
+        Err(open)
+    }
+
+    /// Changes the slots from `first` up to `end`, whose edges no slot crosses, each by its distance from the range's first.
+    fn edit(&mut self, first: u64, end: u64, by: u64, change: &impl Fn(&mut Content, u64)) {
+        let width = 1 << (9 * self.level);
+        for k in first / width..=(end - 1) / width {
+            let start = k * width;
+            match &mut self.slots[k as usize] {
+                TreeSlot::Own(state) => change(&mut state.content, by + start - first),
+                TreeSlot::Child(node) => {
+                    let low = first.max(start);
+                    node.edit(low - start, end.min(start + width) - start, by + low - first, change);
+                }
+            }
         }
     }
 
@@ -287,6 +351,43 @@ fn changes(pages: u64, rounds: u64) -> Duration {
     }
     let took = start.elapsed();
     assert_eq!(locked, rounds);
+    took
+}
+
+/// How many pages a range has.
+const SPAN: u64 = 4096;
+
+/// Looks for two neighbouring free pages, and for recorded cores, in ranges of single pages; neither is there.
+fn scans(pages: u64, rounds: u64) -> Duration {
+    let tree = Tree::filled(pages);
+    let mut place = 0;
+    let mut none = 0u64;
+    let start = Instant::now();
+    for _ in 0..rounds {
+        place = (place + 30_011) % (pages - SPAN / 2);
+        let first = 16 + 2 * place;
+        let free = tree.root.free_run(0, first, first + SPAN, 2, first);
+        if black_box(free).is_err() && black_box(tree.root.recorded(first, first + SPAN)) == 0 {
+            none += 1;
+        }
+    }
+    let took = start.elapsed();
+    assert_eq!(none, rounds);
+    took
+}
+
+/// Maps and unmaps a range of single pages.
+fn edits(pages: u64, rounds: u64) -> Duration {
+    let mut tree = Tree::filled(pages);
+    let (first, end) = black_box((16, 16 + SPAN));
+    let start = Instant::now();
+    for _ in 0..rounds {
+        let meta = black_box(Meta { back: Back::Anon, prot: READ_WRITE });
+        tree.root.edit(first, end, 0, &|content, by| *content = Content::Folded(meta.advanced(by)));
+        tree.root.edit(first, end, 0, &|content, _| *content = Content::Empty);
+    }
+    let took = start.elapsed();
+    assert!(tree.page(first).is_none());
     took
 }
 
@@ -498,9 +599,11 @@ fn main() {
         Some("slots") => (slots(50_000, 5_000_000), 5_000_000),
         Some("look") => (look_ups(50_000, 10_000_000), 10_000_000),
         Some("tree") => (changes(50_000, 5_000_000), 5_000_000),
+        Some("scan") => (scans(50_000, 5_000), 5_000),
+        Some("edit") => (edits(50_000, 2_000), 2_000),
         Some("hit") => (hits(50_000_000), 50_000_000),
         Some("clear") => (clears(20_000), 20_000),
-        _ => return println!("usage: pieces slots | look | tree | hit | clear"),
+        _ => return println!("usage: pieces slots | look | tree | scan | edit | hit | clear"),
     };
     println!("{:.1}", took.as_nanos() as f64 / rounds as f64);
 }

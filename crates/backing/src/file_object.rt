@@ -42,13 +42,13 @@ impl<A: Allocator + Clone> FileObject<A> {
     ghost use Rattle.backing.specs.Given.{opened};
 
     /// The file that is asked for, with no page cached. The error says that memory ran out.
-    pub fn new(alloc: &A, spec: &FileSpec<A>) -> Result<FileObject<A>, AllocError>
-        ensures { IfOk result (λ f. f ≡ opened spec.now) }
+    pub fn new(alloc: &A, spec: FileSpec<A>) -> Result<FileObject<A>, AllocError>
+        ensures { IfOk result (λ f. f ≡ opened spec) }
     {
-        let bytes = Vec::from_slice(alloc.clone()?, spec.bytes.as_slice())?;
+        let FileSpec { mode, bytes } = spec;
         let cached = uncached(alloc.clone()?, bytes.len().div_ceil(PAGE_BYTES))?;
         Ok(FileObject {
-            mode: spec.mode,
+            mode,
             bytes,
             cached,
         })

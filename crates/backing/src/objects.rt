@@ -30,12 +30,12 @@ impl<A: Allocator> Model for Objects<A> {
 /// Opens the files, of which no page is cached.
 fn open_all<A: Allocator + Clone>(
     alloc: &A,
-    specs: &[FileSpec<A>],
+    specs: Vec<FileSpec<A>, A>,
 ) -> Result<Vec<FileObject<A>, A>, AllocError>
-    ensures { IfOk result (λ v. v.items ≡ map opened specs.now) }
+    ensures { IfOk result (λ v. v.items ≡ map opened specs.items) }
 {
     let mut files = Vec::with_capacity(alloc.clone()?, specs.len())?;
-    'files: for spec in specs.iter() {
+    'files: for spec in specs {
         files.push(FileObject::new(alloc, spec)?)?;
     }
     Ok(files)
@@ -46,10 +46,10 @@ impl<A: Allocator + Clone> Objects<A> {
     ghost use Rattle.backing.specs.Files.{files_of, cached_in};
     ghost use Rattle.backing.specs.Given.{given_files};
 
-    /// Opens the files, of which no page is cached. The error says that memory ran out.
-    pub fn new(alloc: A, files: &[FileSpec<A>]) -> Result<Objects<A>, AllocError>
-        requires { length files.now ≤ 16 }
-        ensures files { IfOk result (λ o. files_of o ≡ given_files files.now) }
+    /// Opens the files, of which no page is cached; their bytes are moved, not copied. The error says that memory ran out.
+    pub fn new(alloc: A, files: Vec<FileSpec<A>, A>) -> Result<Objects<A>, AllocError>
+        requires { length files.items ≤ 16 }
+        ensures files { IfOk result (λ o. files_of o ≡ given_files files.items) }
         ensures cached { IfOk result (λ o. cached_in o ≡ (λ n k. None)) }
     {
         let files = open_all(&alloc, files)?;
@@ -66,6 +66,16 @@ impl<A: Allocator> Objects<A> {
     ghost use Rattle.frames.specs.Parts.{frame_bytes, free_frames};
     ghost use Rattle.backing.specs.Files.{files_of, cached_in, bytes_now};
     ghost use Rattle.backing.specs.Given.{is_shared, refused_by};
+
+    /// No files. It takes no memory.
+    pub fn none(alloc: A) -> Objects<A>
+        ensures files { files_of result ≡ (λ n. None) }
+        ensures cached { cached_in result ≡ (λ n k. None) }
+    {
+        Objects {
+            files: Vec::new(alloc),
+        }
+    }
 
     /// For what a file is open, if there is a file of this number.
     pub fn mode(&self, file: u64) -> Option<Mode>

@@ -33,6 +33,15 @@ fn spec<A: Allocator>(
     Ok(FileSpec { mode, bytes })
 }
 
+/// Opens the files, of which 16 at most are taken.
+fn open_few<A: Allocator + Clone>(
+    alloc: A,
+    mut specs: Vec<FileSpec<A>, A>,
+) -> Result<Objects<A>, AllocError> {
+    specs.truncate(16);
+    Objects::new(alloc, specs)
+}
+
 /// File 0 has 5000 bytes from 7 on, file 1 has none, and file 2 has one page. They are open for both, for writing and for
 /// reading.
 fn three_files<A: Allocator + Clone>(alloc: A) -> Result<Objects<A>, AllocError> {
@@ -40,7 +49,7 @@ fn three_files<A: Allocator + Clone>(alloc: A) -> Result<Objects<A>, AllocError>
     specs.push(spec(alloc.clone()?, Mode::RW, 5000, 7)?)?;
     specs.push(spec(alloc.clone()?, Mode::W, 0, 0)?)?;
     specs.push(spec(alloc.clone()?, Mode::R, 4096, 1)?)?;
-    Objects::new(alloc, &specs[..specs.len().min(16)])
+    open_few(alloc, specs)
 }
 
 /// The byte of a page that is there.
@@ -186,15 +195,24 @@ fn frames_get_bytes_as_they_now_are(rt: HostRuntime) -> Result<(), Fail> {
 
 #[test]
 fn each_allocation_may_be_refused(rt: HostRuntime) -> Result<(), Fail> {
-    // The file takes its 4,096 bytes twice, once as what is asked for.
-    for (room, fits) in [(4608, false), (8192, false), (16384, true)] {
+    // The file takes its 4,096 bytes once: what is asked for is what is opened.
+    for (room, fits) in [(4304, false), (4992, true)] {
         let heap = LocalHeap::new(rt.alloc(), room)?;
-        let given = [spec(&heap, Mode::RW, 4096, 7)?];
-        let used = heap.used();
-        let made = Objects::new(&heap, &given);
+        let mut given = Vec::new(&heap);
+        given.push(spec(&heap, Mode::RW, 4096, 7)?)?;
+        let made = open_few(&heap, given);
         assert_eq!(rt; made.is_ok(), fits);
         drop(made);
-        assert_eq!(rt; heap.used(), used);
+        assert_eq!(rt; heap.used(), 0);
     }
+    Ok(())
+}
+
+#[test]
+fn no_files_are_open(rt: HostRuntime) -> Result<(), Fail> {
+    let objects = Objects::none(rt.alloc());
+    assert!(rt; objects.mode(0) == None);
+    assert!(rt; objects.is_past_end(0, 0));
+    assert_eq!(rt; objects.cached(0, 0), None);
     Ok(())
 }

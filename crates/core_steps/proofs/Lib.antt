@@ -1,6 +1,7 @@
-pub mod Known
 pub mod Lists
-pub mod Checking
-pub mod Accesses
+pub mod Opened
+pub mod Known
+pub mod Changing
 pub mod Calling
+pub mod Reached
 pub mod Runs

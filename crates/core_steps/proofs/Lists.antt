@@ -1,33 +1,28 @@
 -- Lists that are changed at one place, seen as functions, and the state of which they are a part
 use Rattle.std.proofs.Common.{◌≡◌, ℕ, zero, suc, ◌<◌, List, length, get_or, refl}
 use Rattle.std.specs.Prelude.{slice_set}
-use Rattle.std.proofs.Math.ListN.{replicate, length-set}
+use Rattle.std.proofs.Math.ListN.{replicate}
 use Rattle.std.proofs.Math.Path.{fun_ext}
 use Rattle.std.proofs.lemmas.List.{get_or-set_same, get_or-set_other}
-use Rattle.vm_base.specs.declared.requests.Request.{Request}
 use Rattle.vm_base.specs.Functions.{put}
 use Rattle.vm_base.proofs.Functions.{put_all}
-use Rattle.slot_lock.specs.Slots.{Slots}
-use Rattle.frames.specs.Parts.{FrameParts}
-use Rattle.machine_model.specs.declared.log.Entry.{Entry}
 use Rattle.machine_model.specs.declared.phase.Phase.{Phase}
 use Rattle.machine_model.specs.declared.phase.Phase.TheVariants.{Free}
-use Rattle.machine_model.specs.Actions.{to}
-use Rattle.core_steps.specs.State.{world_of, phase_at, number_at}
+use Rattle.core_steps.specs.State.{phase_at, number_at}
 
-set_is_put : {A : Type 0} (xs : List A) (d : A) (k : ℕ) (x : A) → k < length xs → (λ j. get_or (slice_set xs k x) j d) ≡ put (λ j. get_or xs j d) k x
-set_is_put xs d k x h = fun_ext (put_all (λ j v. get_or (slice_set xs k x) j d ≡ v) (λ j. get_or xs j d) k x (get_or-set_same xs k x d h) (λ j ne. get_or-set_other xs k j x d ne))
+set_is_put : {A : Type 0} (xs : List A) (d : A) (k : ℕ) (x : A) → k < length xs
+    → (λ j. get_or (slice_set xs k x) j d) ≡ put (λ j. get_or xs j d) k x
+set_is_put xs d k x h =
+    fun_ext (put_all (λ j v. get_or (slice_set xs k x) j d ≡ v) (λ j. get_or xs j d) k x (get_or-set_same xs k x d h)
+    (λ j ne. get_or-set_other xs k j x d ne))
 
-pub phase_set : (phases : List Phase) (c : ℕ) (phase : Phase) → c < length phases → phase_at (slice_set phases c phase) ≡ put (phase_at phases) c phase
+pub phase_set : (phases : List Phase) (c : ℕ) (phase : Phase) → c < length phases
+    → phase_at (slice_set phases c phase) ≡ put (phase_at phases) c phase
 phase_set phases c phase h = set_is_put phases Free c phase h
 
-pub number_set : (numbers : List ℕ) (c n : ℕ) → c < length numbers → number_at (slice_set numbers c n) ≡ put (number_at numbers) c n
+pub number_set : (numbers : List ℕ) (c n : ℕ) → c < length numbers
+    → number_at (slice_set numbers c n) ≡ put (number_at numbers) c n
 number_set numbers c n h = set_is_put numbers 0 c n h
-
--- the phase of one core is another
-pub moved : (slots : Slots) (frames : FrameParts) (phases : List Phase) (numbers : List ℕ) (requests : List Request) (log : List Entry) (calls events c : ℕ) (phase : Phase) → c < length phases
-    → world_of slots frames (slice_set phases c phase) numbers requests log calls events ≡ to c phase (world_of slots frames phases numbers requests log calls events)
-moved slots frames phases numbers requests log calls events c phase h = rw (phase_set phases c phase h, length-set phases c phase) refl
 
 -- all elements are the same
 pub replicate_same : {A : Type 0} (n : ℕ) (x : A) → ◌≡◌ {A = ℕ → A} (λ j. get_or (replicate n x) j x) (λ j. x)

@@ -1,17 +1,12 @@
 -- What finishing a call comes to: steps of a core, one after another, until one is not Stepped
-use Rattle.std.specs.Prelude.{◌≡◌, ◌≢◌, ℕ, zero, suc, ◌<◌, ◌^◌}
+use Rattle.std.specs.Prelude.{◌≡◌, ◌≢◌, ℕ, ◌<◌, ◌^◌}
 use Rattle.core_steps.specs.declared.machine.Finished.{Finished}
 use Rattle.core_steps.specs.declared.machine.Finished.TheVariants.{Last, Stuck}
 use Rattle.machine_model.specs.declared.event.Event.TheVariants.{Go}
 use Rattle.machine_model.specs.declared.event.Outcome.TheVariants.{Stepped}
 use Rattle.machine_model.specs.World.{World}
-use Rattle.machine_model.specs.Step.{Step}
-use Rattle.core_steps.specs.Wanting.{MayWant}
-
--- n steps of the core lead from w to v
-abbrev pub StepsTo : World → ℕ → ℕ → World → Type 0
-StepsTo w core zero v = v ≡ w
-StepsTo w core (suc n) v = (m : World) × StepsTo w core n m × Step m (Go core) Stepped v
+use Rattle.machine_model.specs.Step.{Step, StepsTo}
+use Rattle.core_steps.specs.Moving.{MayWant}
 
 -- so many steps at the most
 abbrev pub finish_limit : ℕ
@@ -19,7 +14,8 @@ finish_limit = 2 ^ 40
 
 -- the last outcome is the first that isn't Stepped; the limit is told only where all of so many steps were
 abbrev pub EndsIn : World → ℕ → ℕ → Finished → World → Type 0
-EndsIn w core n (Last outcome) v = (n < finish_limit) × (outcome ≢ Stepped) × ((m : World) × StepsTo w core n m × Step m (Go core) outcome v)
+EndsIn w core n (Last outcome) v =
+    (n < finish_limit) × (outcome ≢ Stepped) × ((m : World) × StepsTo w core n m × Step m (Go core) outcome v)
 EndsIn w core n Stuck v = (n ≡ finish_limit) × StepsTo w core n v
 
 abbrev pub Finishes : World → ℕ → Finished → World → Type 0

@@ -1,7 +1,7 @@
 pub mod Setups
 pub mod State
-pub mod Checks
+pub mod Moving
 pub mod Taking
-pub mod Wanting
+pub mod Machine
 pub mod Finishing
 pub mod Running

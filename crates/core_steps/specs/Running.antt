@@ -8,7 +8,7 @@ use Rattle.machine_model.specs.declared.event.Outcome.{Outcome}
 use Rattle.machine_model.specs.World.{World}
 use Rattle.machine_model.specs.Step.{Run}
 use Rattle.core_steps.specs.Setups.{IsFirstFault, fault_of}
-use Rattle.core_steps.specs.Wanting.{MayWant}
+use Rattle.core_steps.specs.Moving.{MayWant}
 
 -- the events before this index were run, and the one there is one that may be refused for memory
 abbrev pub IsRefusedAt : World → List Event → ℕ → Type 0

@@ -1,10 +1,19 @@
--- Slots whose pages in a range alone may differ, and only in what they have
+-- What making a change needs, and what it does first
 use Rattle.std.specs.Prelude.{◌≡◌, ℕ, false}
 use Rattle.vm_base.specs.declared.page.PageRange.{PageRange}
 use Rattle.vm_base.specs.Functions.{has}
-use Rattle.slot_lock.specs.Slots.{Slots}
+use Rattle.slot_lock.specs.declared.plan.Change.{Change}
+use Rattle.slot_lock.specs.declared.plan.Change.TheVariants.{Put, Clear, Protect}
+use Rattle.slot_lock.specs.Slots.{Slots, AllMapped}
 
+-- slots whose pages in a range alone may differ, and only in what they have
 pub record AlikeOutside (s t : Slots) (range : PageRange) : Type 0 where
   pub owner : t.owner ≡ s.owner
   pub edge : t.edge ≡ s.edge
   pub info : (p : ℕ) → has range p ≡ false → t.info p ≡ s.info p
+
+-- only mapped pages get another protection
+abbrev pub IsMappedFor : Slots → Change → Type 0
+IsMappedFor s (Put range meta) = Unit {0}
+IsMappedFor s (Clear range) = Unit {0}
+IsMappedFor s (Protect range prot) = AllMapped s range

@@ -1,30 +1,31 @@
 //! One event: a call begins, or goes one step on.
-ghost use Rattle.std.specs.Prelude.{◌≡◌, ◌+◌, ◌^◌, ◌<◌, ◌≤◌, length, IfOk, OnErr};
+ghost use Rattle.std.specs.Prelude.{◌≡◌, ◌+◌, ◌^◌, ◌<◌, length, true};
 ghost use Rattle.machine_model.specs.Events.{core_of};
-ghost use Rattle.machine_model.specs.Step.{Step, Acts, Calls, Goes, counted};
+ghost use Rattle.machine_model.specs.Step.{Acts, Begins, Goes, Step, counted, is_here};
 ghost use Rattle.machine_laws.specs.Orderly.{IsOrderly};
-ghost use Rattle.core_steps.specs.Wanting.{IsToDivide, MayWant};
+ghost use Rattle.core_steps.specs.State.{phase_of, world};
+ghost use Rattle.core_steps.specs.Moving.{IsToDivide, MayWant, Tries};
 
-use crate::engine::{Engine, Modelled};
+use crate::engine::Engine;
 use machine_model::{Event, Outcome, Phase};
 use slot_lock::SlotMap;
 use std::alloc::Allocator;
 use vm_base::{CoreId, NoMemory, Request};
 
-impl<M: SlotMap, A: Allocator + Clone> Engine<M, A> {
+impl<M: SlotMap, A: Allocator> Engine<M, A> {
     /// A call begins, if the core has none and the limit of calls isn't reached.
-    pub fn call(&mut self, core: CoreId, request: Request) -> Outcome
-        requires here { core < length self.old.phases.items }
-        ensures { Calls (⟦<Self as Modelled>⟧.world self.old) core request ((⟦<Self as Modelled>⟧.world self.old).phase core) result (⟦<Self as Modelled>⟧.world self.new) }
+    fn call(&mut self, core: CoreId, request: Request) -> Outcome
+        requires { core < length self.old.calls.phases.items }
+        ensures { Begins (world M.slots self.old) core request (phase_of self.old core) result (world M.slots self.new) }
     {
-        match self.phases[core.index() as usize] {
+        match self.calls.phases[core.index() as usize] {
             Phase::Free => {
-                if self.requests.is_full() {
+                if self.calls.requests.is_full() {
                     return Outcome::Full;
                 }
-                self.requests.push(request);
-                let number = self.requests.items.len() as u64;
-                self.numbers[core.index() as usize] = number;
+                self.calls.requests.push(request);
+                let number = self.calls.requests.items.len() as u64;
+                self.calls.numbers[core.index() as usize] = number;
                 self.go_to(core, Phase::Check(request));
                 Outcome::Stepped
             }
@@ -33,27 +34,23 @@ impl<M: SlotMap, A: Allocator + Clone> Engine<M, A> {
     }
 
     /// The core's call goes one step on. A refusal for memory changes nothing.
-    pub fn go(&mut self, core: CoreId) -> Result<Outcome, NoMemory>
-        requires here { core < length self.old.phases.items }
-        requires orderly { ∥ IsOrderly (⟦<Self as Modelled>⟧.world self.old) ∥₁ }
-        ensures step { IfOk result (λ o. Goes (⟦<Self as Modelled>⟧.world self.old) core ((⟦<Self as Modelled>⟧.world self.old).phase core) o (⟦<Self as Modelled>⟧.world self.new)) }
-        ensures err { OnErr result (⟦<Self as Modelled>⟧.world self.new ≡ ⟦<Self as Modelled>⟧.world self.old) }
-        ensures err_only { OnErr result (IsToDivide (⟦<Self as Modelled>⟧.world self.old).slots ((⟦<Self as Modelled>⟧.world self.old).phase core)) }
+    fn go(&mut self, core: CoreId) -> Result<Outcome, NoMemory>
+        requires here { core < length self.old.calls.phases.items }
+        requires orderly { ∥ IsOrderly (world M.slots self.old) ∥₁ }
+        ensures { Tries (Goes (world M.slots self.old) core (phase_of self.old core))
+            (IsToDivide (M.slots self.old.map) (phase_of self.old core))
+            (world M.slots self.old) result (world M.slots self.new) }
     {
-        match self.phases[core.index() as usize] {
+        match self.calls.phases[core.index() as usize] {
             Phase::Free => Ok(Outcome::Idle),
             Phase::Check(request) => Ok(self.go_check(core, request)),
-            Phase::Lock { change, cursor } => self.go_lock(core, change, cursor),
+            Phase::Lock { goal, cursor } => self.go_lock(core, goal, cursor),
             Phase::Decide(change) => Ok(self.go_decide(core, change)),
-            Phase::Post(change) => Ok(self.go_post(core, change)),
+            Phase::Post { change, shoot } => Ok(self.go_post(core, change, shoot)),
             Phase::Acks { change, held } => Ok(self.go_acks(core, change, held)),
             Phase::Unlock { held, reply } => Ok(self.go_unlock(core, held, reply)),
-            Phase::Answer(reply) => {
-                self.go_to(core, Phase::Free);
-                Ok(Outcome::Answered(reply))
-            }
+            Phase::Answer(reply) => Ok(self.go_answer(core, reply)),
             Phase::Try(touch) => Ok(self.go_try(core, touch)),
-            Phase::LockPage(touch) => self.go_lock_page(core, touch),
             Phase::Settle(touch) => Ok(self.go_settle(core, touch)),
             Phase::Want(touch) => Ok(self.go_want(core, touch)),
             Phase::Fill { touch, frame } => Ok(self.go_fill(core, touch, frame)),
@@ -63,12 +60,12 @@ impl<M: SlotMap, A: Allocator + Clone> Engine<M, A> {
     }
 
     /// What the event does, its core being one of the machine's. A refusal for memory changes nothing.
-    pub fn act(&mut self, event: Event) -> Result<Outcome, NoMemory>
-        requires here { core_of event < length self.old.phases.items }
-        requires orderly { ∥ IsOrderly (⟦<Self as Modelled>⟧.world self.old) ∥₁ }
-        ensures step { IfOk result (λ o. Acts (⟦<Self as Modelled>⟧.world self.old) event o (⟦<Self as Modelled>⟧.world self.new)) }
-        ensures err { OnErr result (⟦<Self as Modelled>⟧.world self.new ≡ ⟦<Self as Modelled>⟧.world self.old) }
-        ensures err_only { OnErr result (MayWant (⟦<Self as Modelled>⟧.world self.old) event) }
+    fn act(&mut self, event: Event) -> Result<Outcome, NoMemory>
+        requires here { is_here (world M.slots self.old).made (core_of event) ≡ true }
+        requires orderly { ∥ IsOrderly (world M.slots self.old) ∥₁ }
+        ensures { Tries (Acts (world M.slots self.old) event)
+            (MayWant (world M.slots self.old) event)
+            (world M.slots self.old) result (world M.slots self.new) }
     {
         match event {
             Event::Call(core, request) => Ok(self.call(core, request)),
@@ -78,36 +75,45 @@ impl<M: SlotMap, A: Allocator + Clone> Engine<M, A> {
 
     /// What the event does, counted as one event more. A refusal for memory changes nothing.
     fn act_counted(&mut self, event: Event) -> Result<Outcome, NoMemory>
-        requires here { core_of event < length self.old.phases.items }
-        requires room { self.old.events + 1 < 2 ^ 64 }
-        requires orderly { ∥ IsOrderly (⟦<Self as Modelled>⟧.world self.old) ∥₁ }
-        ensures step { IfOk result (λ o. Acts (counted (⟦<Self as Modelled>⟧.world self.old)) event o (⟦<Self as Modelled>⟧.world self.new)) }
-        ensures err { OnErr result (⟦<Self as Modelled>⟧.world self.new ≡ ⟦<Self as Modelled>⟧.world self.old) }
-        ensures err_only { OnErr result (MayWant (⟦<Self as Modelled>⟧.world self.old) event) }
+        requires here { is_here (world M.slots self.old).made (core_of event) ≡ true }
+        requires room { self.old.calls.events + 1 < 2 ^ 64 }
+        requires orderly { ∥ IsOrderly (world M.slots self.old) ∥₁ }
+        ensures { Tries (Acts (counted (world M.slots self.old)) event)
+            (MayWant (world M.slots self.old) event)
+            (world M.slots self.old) result (world M.slots self.new) }
     {
-        self.events += 1;
+        self.calls.events += 1;
         match self.act(event) {
             Ok(outcome) => Ok(outcome),
             Err(NoMemory) => {
-                self.events -= 1;
+                self.calls.events -= 1;
                 Err(NoMemory)
             }
         }
     }
 
+    /// Tells whether the core is the machine's, if an event has one.
+    fn is_here(&self, core: Option<CoreId>) -> bool
+        ensures { result ≡ is_here (world M.slots self.now).made core }
+    {
+        match core {
+            Some(core) => (core.index() as usize) < self.calls.phases.len(),
+            None => true,
+        }
+    }
+
     /// One event, which is counted unless memory is refused; then nothing changes.
     pub fn step(&mut self, event: Event) -> Result<Outcome, NoMemory>
-        requires { ∥ IsOrderly (⟦<Self as Modelled>⟧.world self.old) ∥₁ }
-        ensures step { IfOk result (λ o. Step (⟦<Self as Modelled>⟧.world self.old) event o (⟦<Self as Modelled>⟧.world self.new)) }
-        ensures err { OnErr result (⟦<Self as Modelled>⟧.world self.new ≡ ⟦<Self as Modelled>⟧.world self.old) }
-        ensures err_only { OnErr result (MayWant (⟦<Self as Modelled>⟧.world self.old) event) }
+        requires { ∥ IsOrderly (world M.slots self.old) ∥₁ }
+        ensures { Tries (Step (world M.slots self.old) event)
+            (MayWant (world M.slots self.old) event)
+            (world M.slots self.old) result (world M.slots self.new) }
     {
-        if self.events == u64::MAX {
+        if self.calls.events == u64::MAX {
             return Ok(Outcome::Full);
         }
-        let core = event.core();
-        if core.index() as usize >= self.phases.len() {
-            self.events += 1;
+        if !self.is_here(event.core()) {
+            self.calls.events += 1;
             return Ok(Outcome::Idle);
         }
         self.act_counted(event)

@@ -1,12 +1,16 @@
 //! The machine: one address space, which its cores' events move step by step as the abstract machine says.
 #![tactic(auto)]
 
-mod access_steps;
-mod change_steps;
+mod access;
+mod acquire;
+mod answer;
+mod calls;
 mod check;
 mod commit;
-pub mod engine;
+mod decide;
+mod engine;
 mod events;
+mod fault;
 pub mod machine;
 mod reserved;
 pub mod run_result;
@@ -17,7 +21,6 @@ pub mod setup;
 #[cfg(test)]
 mod tests;
 
-pub use engine::Modelled;
 pub use machine::{Finished, Machine};
 pub use run_result::{Run, RunFault};
 pub use running::run;

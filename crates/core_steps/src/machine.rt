@@ -1,16 +1,8 @@
 //! The machine as its users see it.
-ghost use Rattle.std.specs.Prelude.{◌≡◌, ◌⊎◌, ◌<◌, IfOk, IfErr, IfSome, OnErr, Some, None, true};
-ghost use Rattle.slot_lock.specs.Slots.{IsNew};
-ghost use Rattle.machine_model.specs.World.{opening};
-ghost use Rattle.machine_model.specs.Step.{Step};
-ghost use Rattle.machine_sound.specs.Invariant.{Fine};
-ghost use Rattle.machine_sound.specs.Sound.{IsSoundState};
-ghost use Rattle.core_steps.specs.Setups.{fault_of, IsFirstFault, made_of};
-ghost use Rattle.core_steps.specs.State.{world_of};
-ghost use Rattle.core_steps.specs.Wanting.{MayWant};
-ghost use Rattle.core_steps.specs.Finishing.{Finishes, IsRefused};
+ghost use Rattle.machine_sound.specs.Sound.{IsReached};
+ghost use Rattle.core_steps.specs.State.{world};
 
-use crate::engine::{Engine, Modelled};
+use crate::engine::Engine;
 use crate::setup::{Setup, SetupFault};
 use machine_model::{Entry, Event, Outcome};
 use slot_lock::SlotMap;
@@ -31,21 +23,23 @@ pub enum Finished {
 
 /// One address space over a slot map, which events move step by step.
 #[derive(Drop)]
-pub struct Machine<M: SlotMap, A: Allocator + Clone> {
+pub struct Machine<M: SlotMap, A: Allocator> {
     engine: Engine<M, A>,
-    ghost fine: { ∥ Fine (world_of (M.slots engine.map) engine.frames engine.phases.items engine.numbers.items engine.requests.items.items engine.log.items.items engine.requests.limit engine.events) ∥₁ },
-}
-
-impl<M: SlotMap, A: Allocator + Clone> Modelled for Machine<M, A> {
-    ghost world = { λ m. ⟦<Engine<M, A> as Modelled>⟧.world m.engine };
+    ghost reached: { ∥ IsReached (world M.slots engine) ∥₁ },
 }
 
 impl<M: SlotMap + Drop, A: Allocator + Clone + Drop> Machine<M, A> {
+    ghost use Rattle.std.specs.Prelude.{◌≡◌, IfOk, IfErr, OnErr, None};
+    ghost use Rattle.slot_lock.specs.Slots.{IsNew};
+    ghost use Rattle.machine_model.specs.World.{new_world};
+    ghost use Rattle.core_steps.specs.Setups.{fault_of, IsFirstFault, made_of};
+    ghost use Rattle.core_steps.specs.Machine.{state};
+
     /// A machine over a new slot map. It keeps room for one log entry of each call, so that a logged step takes no memory.
     /// Of several faults the first is told, in the order of `SetupFault`.
     pub fn new(alloc: A, map: M, setup: &Setup) -> Result<Machine<M, A>, SetupFault>
         requires { IsNew (M.slots map) }
-        ensures opening { IfOk result (λ machine. ⟦<Self as Modelled>⟧.world machine ≡ opening (made_of setup.now) (M.slots map)) }
+        ensures opening { IfOk result (λ machine. state machine ≡ new_world (made_of setup.now) (M.slots map)) }
         ensures sound { IfOk result (λ machine. fault_of setup.now ≡ None) }
         ensures first { IfErr result (λ fault. IsFirstFault setup.now fault) }
     {
@@ -57,13 +51,25 @@ impl<M: SlotMap + Drop, A: Allocator + Clone + Drop> Machine<M, A> {
         };
         Ok(Machine { engine })
     }
+}
+
+impl<M: SlotMap, A: Allocator> Machine<M, A> {
+    ghost use Rattle.std.specs.Prelude.{◌≡◌, IfOk, OnErr};
+    ghost use Rattle.machine_model.specs.Step.{Step};
+    ghost use Rattle.machine_sound.specs.Sound.{Notes};
+    ghost use Rattle.core_steps.specs.Moving.{MayWant, Tries};
+    ghost use Rattle.core_steps.specs.Finishing.{Finishes, IsRefused};
+    ghost use Rattle.core_steps.specs.Machine.{state, IsLegal};
 
     /// One event. A refusal for memory leaves the machine unchanged, and comes only at a step at which a slot is to be
-    /// divided.
+    /// divided. The state that is left is one of a plain page map's (POSIX.1-2017, mmap, munmap and mprotect), and the step's
+    /// log entry, if it made one, was due.
     pub fn step(&mut self, event: Event) -> Result<Outcome, NoMemory>
-        ensures step { IfOk result (λ outcome. Step (⟦<Self as Modelled>⟧.world self.old) event outcome (⟦<Self as Modelled>⟧.world self.new)) }
-        ensures err { OnErr result (⟦<Self as Modelled>⟧.world self.new ≡ ⟦<Self as Modelled>⟧.world self.old) }
-        ensures err_only { OnErr result (MayWant (⟦<Self as Modelled>⟧.world self.old) event) }
+        ensures step { Tries (Step (state self.old) event)
+            (MayWant (state self.old) event)
+            (state self.old) result (state self.new) }
+        ensures noted { IfOk result (λ outcome. ∥ Notes (state self.old) event (state self.new) ∥₁) }
+        ensures legal { IsLegal (state self.new) }
     {
         self.engine.step(event)
     }
@@ -71,8 +77,9 @@ impl<M: SlotMap + Drop, A: Allocator + Clone + Drop> Machine<M, A> {
     /// Steps of the core's call until one isn't Stepped, at most 2^40. After a refusal for memory the steps before it
     /// stand.
     pub fn finish(&mut self, core: CoreId) -> Result<Finished, NoMemory>
-        ensures ends { IfOk result (λ finished. Finishes (⟦<Self as Modelled>⟧.world self.old) core finished (⟦<Self as Modelled>⟧.world self.new)) }
-        ensures err { OnErr result (IsRefused (⟦<Self as Modelled>⟧.world self.old) core (⟦<Self as Modelled>⟧.world self.new)) }
+        ensures ends { IfOk result (λ finished. Finishes (state self.old) core finished (state self.new)) }
+        ensures err { OnErr result (IsRefused (state self.old) core (state self.new)) }
+        ensures legal { IsLegal (state self.new) }
     {
         'steps: for n in 0..FINISH_LIMIT {
             let outcome = match self.step(Event::Go(core)) {
@@ -89,9 +96,9 @@ impl<M: SlotMap + Drop, A: Allocator + Clone + Drop> Machine<M, A> {
     /// The entries made so far, in order. They are those of a plain page map (POSIX.1-2017, mmap, munmap and mprotect),
     /// applied one after another.
     pub fn log(&self) -> &[Entry]
-        ensures entries { result.now ≡ (⟦<Self as Modelled>⟧.world self.now).log }
-        ensures legal { ∥ IsSoundState (⟦<Self as Modelled>⟧.world self.now) ∥₁ }
+        ensures entries { result.now ≡ (state self.now).calls.log }
+        ensures legal { IsLegal (state self.now) }
     {
-        &self.engine.log.items
+        &self.engine.calls.log.items
     }
 }

@@ -7,7 +7,7 @@ use std::alloc::Allocator;
 
 /// A run of all events of a list.
 #[derive(Drop)]
-pub struct Run<M: SlotMap, A: Allocator + Clone> {
+pub struct Run<M: SlotMap, A: Allocator> {
     /// What each event came to, in order.
     pub outcomes: Vec<Outcome, A>,
     /// The machine after the last event.

@@ -1,14 +1,14 @@
 //! A list of events on a new machine.
 ghost use Rattle.std.specs.Prelude.{◌≡◌, IfOk, IfErr, length};
 ghost use Rattle.slot_lock.specs.Slots.{IsNew};
-ghost use Rattle.machine_model.specs.World.{opening};
+ghost use Rattle.machine_model.specs.World.{new_world};
 ghost use Rattle.machine_model.specs.Step.{Run as RunsTo};
 ghost use Rattle.machine_laws.specs.Brackets.{IsBracketed};
 ghost use Rattle.machine_sound.specs.Sound.{SoundRun};
+ghost use Rattle.core_steps.specs.Machine.{state};
 ghost use Rattle.core_steps.specs.Setups.{IsFirstFault, made_of};
 ghost use Rattle.core_steps.specs.Running.{Fails};
 
-use crate::engine::Modelled;
 use crate::machine::Machine;
 use crate::run_result::{Run, RunFault};
 use crate::setup::{Setup, SetupFault};
@@ -30,11 +30,11 @@ pub fn run<M: SlotMap + Drop, A: Allocator + Clone + Drop>(
     events: &[Event],
 ) -> Result<Run<M, A>, RunFault>
     requires { IsNew (M.slots map) }
-    ensures run { IfOk result (λ done. RunsTo (opening (made_of setup.now) (M.slots map)) events.now done.outcomes.items (⟦<Machine<M, A> as Modelled>⟧.world done.machine)) }
+    ensures run { IfOk result (λ done. RunsTo (new_world (made_of setup.now) (M.slots map)) events.now done.outcomes.items (state done.machine)) }
     ensures all { IfOk result (λ done. length done.outcomes.items ≡ length events.now) }
-    ensures brackets { IfOk result (λ done. IsBracketed events.now done.outcomes.items (⟦<Machine<M, A> as Modelled>⟧.world done.machine)) }
-    ensures sound { IfOk result (λ done. SoundRun (opening (made_of setup.now) (M.slots map)) events.now done.outcomes.items (⟦<Machine<M, A> as Modelled>⟧.world done.machine)) }
-    ensures fault { IfErr result (λ fault. Fails (opening (made_of setup.now) (M.slots map)) setup.now events.now fault) }
+    ensures brackets { IfOk result (λ done. IsBracketed events.now done.outcomes.items (state done.machine)) }
+    ensures sound { IfOk result (λ done. SoundRun (new_world (made_of setup.now) (M.slots map)) events.now done.outcomes.items (state done.machine)) }
+    ensures fault { IfErr result (λ fault. Fails (new_world (made_of setup.now) (M.slots map)) setup.now events.now fault) }
 {
     let Ok(own) = alloc.clone() else {
         return Err(RunFault::Setup(setup.fault().unwrap_or(SetupFault::NoMemory)));
@@ -48,8 +48,9 @@ pub fn run<M: SlotMap + Drop, A: Allocator + Clone + Drop>(
     };
     'events: for at in 0..events.len() {
         let event = events[at];
-        let Ok(outcome) = machine.step(event) else {
-            return Err(RunFault::NoMemory { at });
+        let outcome = match machine.step(event) {
+            Ok(outcome) => outcome,
+            Err(_) => return Err(RunFault::NoMemory { at }),
         };
         outcomes.push_reserved(outcome);
     }

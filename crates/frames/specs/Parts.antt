@@ -2,7 +2,7 @@
 use Rattle.std.specs.Prelude.{ℕ, ◌≡◌, ◌*◌, ◌<◌, ◌≤◌, Bool, true, List, length, slice_index, nat_lt}
 use Rattle.vm_base.specs.Plain.{Bytes}
 use Rattle.frames.specs.Bits.{bit_in, count_below}
-use Rattle.frames.specs.Pages.{bytes_in}
+use Rattle.frames.specs.Pages.{Stored, stored_bytes, all_pages}
 
 -- a set of numbers below a limit
 pub record Members : Type 0 where
@@ -22,25 +22,26 @@ pub record IsCounted (words summary : List ℕ) (limit size : ℕ) : Type 0 wher
   pub summed : IsSummed words summary
   pub counted : size ≡ count_below (bit_in words) limit
 
--- all frames: their bytes, one frame behind the other, which are free, and how many there are
+-- all frames: their bytes, which are free, and how many there are
 pub record FrameParts : Type 0 where
-  pub bytes : List ℕ
+  pub store : Stored
   pub free : List ℕ
   pub count : ℕ
 
 -- of each frame, its bytes
 abbrev pub frame_bytes : FrameParts → ℕ → Bytes
-frame_bytes p = bytes_in p.bytes
+frame_bytes p = stored_bytes p.store
 
 -- the free frames
 abbrev pub free_frames : FrameParts → ℕ → Bool
 free_frames p = bit_in p.free
 
--- one frame: its bytes, and whether it is free
+-- one frame: its page, once it was written to, for how many pages there is memory, and whether it is free
 pub record CellParts : Type 0 where
-  pub bytes : List ℕ
+  pub pages : List (List ℕ)
+  pub capacity : ℕ
   pub is_free : Bool
 
 -- its bytes
 abbrev pub cell_bytes : CellParts → Bytes
-cell_bytes p = bytes_in p.bytes 0
+cell_bytes p = all_pages p.pages 0

@@ -1,28 +1,29 @@
 //! One frame by itself.
 ghost use Rattle.std.specs.Prelude.{◌≡◌, IfOk};
 
-use crate::page_bytes::{self, FRAME_SIZE};
+use crate::page_bytes::{self, Page};
 use std::alloc::{AllocError, Allocator};
 use std::marker::Model;
 
-/// One frame of 4,096 bytes, free or taken. Once it is made, no call takes memory or fails. A clause sees its bytes
-/// as `cell_bytes`.
+/// One frame of 4,096 bytes, free or taken. Its memory is reserved when it is made, and not touched before the frame is
+/// written to; no other call takes memory or fails. A clause sees its bytes as `cell_bytes`.
 #[derive(Drop)]
 pub struct FrameCell<A: Allocator> {
-    bytes: Vec<u8, A>,
+    // Empty as long as the frame wasn't written to.
+    pages: Vec<Page, A>,
     is_taken: bool,
 }
 
 impl<A: Allocator> Model for FrameCell<A> {
-    ghost use Rattle.std.specs.Prelude.{◌≡◌, not};
-    ghost use Rattle.std.specs.Vec.{vec_len};
+    ghost use Rattle.std.specs.Prelude.{◌≤◌, not, length};
+    ghost use Rattle.std.specs.Vec.{vec_capacity};
     ghost use Rattle.frames.specs.Parts.{CellParts};
 
     ghost Value = { CellParts };
 
-    ghost view = { λ s. record { bytes = s.bytes.items; is_free = not s.is_taken } };
+    ghost view = { λ s. record { pages = s.pages.items; capacity = vec_capacity s.pages; is_free = not s.is_taken } };
 
-    ghost invariant = { λ s. vec_len s.bytes ≡ 4096 };
+    ghost invariant = { λ s. (1 ≤ vec_capacity s.pages) × (length s.pages.items ≤ 1) };
 }
 
 impl<A: Allocator> FrameCell<A> {
@@ -36,9 +37,9 @@ impl<A: Allocator> FrameCell<A> {
         ensures bytes { IfOk result (λ s. cell_bytes s ≡ zeros) }
         ensures free { IfOk result (λ s. s.is_free ≡ true) }
     {
-        let bytes = vec![in alloc; 0u8; FRAME_SIZE]?;
+        let pages = Vec::with_capacity(alloc, 1)?;
         Ok(FrameCell {
-            bytes,
+            pages,
             is_taken: false,
         })
     }
@@ -55,15 +56,16 @@ impl<A: Allocator> FrameCell<A> {
         requires { self.old.is_free ≡ true }
         ensures free { self.new.is_free ≡ false }
         ensures bytes { cell_bytes self.new ≡ cell_bytes self.old }
+        ensures capacity { self.new.capacity ≡ self.old.capacity }
     {
         self.is_taken = true;
     }
 
-    /// Gives the frame back, which is taken. Its bytes stay.
+    /// Gives the frame back: it is free then. Its bytes stay.
     pub fn give(&mut self)
-        requires { self.old.is_free ≡ false }
         ensures free { self.new.is_free ≡ true }
         ensures bytes { cell_bytes self.new ≡ cell_bytes self.old }
+        ensures capacity { self.new.capacity ≡ self.old.capacity }
     {
         self.is_taken = false;
     }
@@ -73,7 +75,10 @@ impl<A: Allocator> FrameCell<A> {
         requires { offset < 4096 }
         ensures { result ≡ cell_bytes self.now offset }
     {
-        page_bytes::byte(&self.bytes, 0, offset)
+        if self.pages.is_empty() {
+            return 0;
+        }
+        page_bytes::byte(&self.pages, 0, offset)
     }
 
     /// Sets the byte at an offset in bytes.
@@ -81,16 +86,24 @@ impl<A: Allocator> FrameCell<A> {
         requires { offset < 4096 }
         ensures bytes { cell_bytes self.new ≡ put (cell_bytes self.old) offset byte }
         ensures free { self.new.is_free ≡ self.old.is_free }
+        ensures capacity { self.new.capacity ≡ self.old.capacity }
     {
-        page_bytes::set_byte(&mut self.bytes, 0, offset, byte);
+        if self.pages.is_empty() {
+            page_bytes::push(&mut self.pages, page_bytes::page_with(offset, byte));
+        } else {
+            page_bytes::set_byte(&mut self.pages, 0, offset, byte);
+        }
     }
 
     /// Sets all bytes to 0.
     pub fn fill_zero(&mut self)
         ensures bytes { cell_bytes self.new ≡ zeros }
         ensures free { self.new.is_free ≡ self.old.is_free }
+        ensures capacity { self.new.capacity ≡ self.old.capacity }
     {
-        page_bytes::fill_zero(&mut self.bytes, 0);
+        if !self.pages.is_empty() {
+            page_bytes::fill(&mut self.pages, 0, &[]);
+        }
     }
 
     /// Gives the frame these bytes, and zeros after them.
@@ -98,15 +111,25 @@ impl<A: Allocator> FrameCell<A> {
         requires { length bytes.now ≤ 4096 }
         ensures bytes { cell_bytes self.new ≡ page_bytes bytes.now 0 }
         ensures free { self.new.is_free ≡ self.old.is_free }
+        ensures capacity { self.new.capacity ≡ self.old.capacity }
     {
-        page_bytes::fill(&mut self.bytes, 0, bytes);
+        if self.pages.is_empty() {
+            page_bytes::push(&mut self.pages, page_bytes::page_of(bytes));
+        } else {
+            page_bytes::fill(&mut self.pages, 0, bytes);
+        }
     }
 
     /// Copies all bytes from another frame.
     pub fn copy_from(&mut self, from: &FrameCell<A>)
         ensures bytes { cell_bytes self.new ≡ cell_bytes from.now }
         ensures free { self.new.is_free ≡ self.old.is_free }
+        ensures capacity { self.new.capacity ≡ self.old.capacity }
     {
-        self.bytes.copy_from_slice(&from.bytes);
+        if from.pages.is_empty() {
+            self.fill_zero();
+        } else {
+            self.fill(&from.pages[0]);
+        }
     }
 }

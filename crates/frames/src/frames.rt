@@ -4,30 +4,29 @@ ghost use Rattle.vm_base.specs.Functions.{put};
 ghost use Rattle.vm_base.specs.Plain.{zeros};
 ghost use Rattle.frames.specs.Bits.{count_below};
 
+use crate::byte_store::ByteStore;
 use crate::free_set::FreeSet;
-use crate::page_bytes::{self, FRAME_SIZE};
 use std::alloc::{AllocError, Allocator};
 use std::marker::Model;
 
 /// Frames of 4,096 bytes each, by their numbers from 0 on, and which of them are free. Once they are made, no call
-/// takes memory or fails. A clause sees the bytes of each frame as `frame_bytes`, and the free ones as `free_frames`.
+/// takes memory or fails, and only the memory of frames that were written to is touched. A clause sees the bytes of each
+/// frame as `frame_bytes`, and the free ones as `free_frames`.
 #[derive(Drop)]
 pub struct Frames<A: Allocator> {
-    // Reaches as far as a frame was written to: what is beyond is 0, and costs no time when the frames are made.
-    bytes: Vec<u8, A>,
+    bytes: ByteStore<A>,
     free: FreeSet<A>,
 }
 
 impl<A: Allocator> Model for Frames<A> {
-    ghost use Rattle.std.specs.Prelude.{◌≡◌, ◌*◌, ◌≤◌};
-    ghost use Rattle.std.specs.Vec.{vec_capacity};
+    ghost use Rattle.std.specs.Prelude.{◌≡◌, ◌≤◌, length};
     ghost use Rattle.frames.specs.Parts.{FrameParts};
 
     ghost Value = { FrameParts };
 
-    ghost view = { λ s. record { bytes = s.bytes.items; free = s.free.words; count = s.free.limit } };
+    ghost view = { λ s. record { store = s.bytes; free = s.free.words; count = s.free.limit } };
 
-    ghost invariant = { λ s. (s.free.limit * 4096 ≤ vec_capacity s.bytes) × (s.free.limit ≤ 65536) };
+    ghost invariant = { λ s. (length s.bytes.places ≡ s.free.limit) × (s.free.limit ≤ 65536) };
 }
 
 impl<A: Allocator + Clone> Frames<A> {
@@ -43,7 +42,7 @@ impl<A: Allocator + Clone> Frames<A> {
         ensures free { IfOk result (λ s. free_frames s ≡ (λ f. nat_lt f count)) }
     {
         let free = FreeSet::all(alloc.clone()?, count)?;
-        let bytes = Vec::with_capacity(alloc, count as usize * FRAME_SIZE)?;
+        let bytes = ByteStore::new(alloc, count)?;
         Ok(Frames { bytes, free })
     }
 }
@@ -94,6 +93,7 @@ impl<A: Allocator> Frames<A> {
         ensures free { free_frames self.new ≡ put (free_frames self.old) frame false }
         ensures bytes { frame_bytes self.new ≡ frame_bytes self.old }
         ensures count { self.new.count ≡ self.old.count }
+        ensures capacity { self.new.store.capacity ≡ self.old.store.capacity }
     {
         self.free.remove(frame);
     }
@@ -105,6 +105,7 @@ impl<A: Allocator> Frames<A> {
         ensures free { free_frames self.new ≡ put (free_frames self.old) frame true }
         ensures bytes { frame_bytes self.new ≡ frame_bytes self.old }
         ensures count { self.new.count ≡ self.old.count }
+        ensures capacity { self.new.store.capacity ≡ self.old.store.capacity }
     {
         self.free.insert(frame);
     }
@@ -115,7 +116,7 @@ impl<A: Allocator> Frames<A> {
         requires offset { offset < 4096 }
         ensures { result ≡ frame_bytes self.now frame offset }
     {
-        page_bytes::byte(&self.bytes, frame as usize, offset)
+        self.bytes.byte(frame, offset)
     }
 
     /// Sets the byte of a frame at an offset in bytes.
@@ -125,9 +126,9 @@ impl<A: Allocator> Frames<A> {
         ensures bytes { frame_bytes self.new ≡ put (frame_bytes self.old) frame (put (frame_bytes self.old frame) offset byte) }
         ensures free { free_frames self.new ≡ free_frames self.old }
         ensures count { self.new.count ≡ self.old.count }
+        ensures capacity { self.new.store.capacity ≡ self.old.store.capacity }
     {
-        page_bytes::reach(&mut self.bytes, frame as usize);
-        page_bytes::set_byte(&mut self.bytes, frame as usize, offset, byte);
+        self.bytes.set_byte(frame, offset, byte);
     }
 
     /// Sets all bytes of a frame to 0.
@@ -136,9 +137,9 @@ impl<A: Allocator> Frames<A> {
         ensures bytes { frame_bytes self.new ≡ put (frame_bytes self.old) frame zeros }
         ensures free { free_frames self.new ≡ free_frames self.old }
         ensures count { self.new.count ≡ self.old.count }
+        ensures capacity { self.new.store.capacity ≡ self.old.store.capacity }
     {
-        page_bytes::reach(&mut self.bytes, frame as usize);
-        page_bytes::fill_zero(&mut self.bytes, frame as usize);
+        self.bytes.fill_zero(frame);
     }
 
     /// Gives a frame these bytes, and zeros after them.
@@ -148,9 +149,9 @@ impl<A: Allocator> Frames<A> {
         ensures bytes { frame_bytes self.new ≡ put (frame_bytes self.old) frame (page_bytes bytes.now 0) }
         ensures free { free_frames self.new ≡ free_frames self.old }
         ensures count { self.new.count ≡ self.old.count }
+        ensures capacity { self.new.store.capacity ≡ self.old.store.capacity }
     {
-        page_bytes::reach(&mut self.bytes, frame as usize);
-        page_bytes::fill(&mut self.bytes, frame as usize, bytes);
+        self.bytes.fill(frame, bytes);
     }
 
     /// Copies all bytes of the frame `from` to the frame `to`.
@@ -160,9 +161,8 @@ impl<A: Allocator> Frames<A> {
         ensures bytes { frame_bytes self.new ≡ put (frame_bytes self.old) to (frame_bytes self.old from) }
         ensures free { free_frames self.new ≡ free_frames self.old }
         ensures count { self.new.count ≡ self.old.count }
+        ensures capacity { self.new.store.capacity ≡ self.old.store.capacity }
     {
-        page_bytes::reach(&mut self.bytes, from as usize);
-        page_bytes::reach(&mut self.bytes, to as usize);
-        page_bytes::copy(&mut self.bytes, from as usize, to as usize);
+        self.bytes.copy(from, to);
     }
 }

@@ -2,6 +2,7 @@
 #![tactic(auto)]
 
 mod bits;
+mod byte_store;
 pub mod cell;
 pub mod frames;
 mod free_set;

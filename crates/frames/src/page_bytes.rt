@@ -1,113 +1,130 @@
-//! Frames as parts of one list of bytes.
-ghost use Rattle.std.specs.Prelude.{◌≡◌, ℕ, ◌+◌, ◌-◌, ◌*◌, ◌<◌, ◌≤◌, length, slice_index};
+//! Pages of bytes.
+ghost use Rattle.std.specs.Prelude.{◌≡◌, ℕ, ◌+◌, ◌<◌, ◌≤◌, length, replicate, slice_index};
 ghost use Rattle.std.specs.Vec.{vec_len, vec_capacity};
 ghost use Rattle.vm_base.specs.Functions.{put};
 ghost use Rattle.vm_base.specs.Plain.{zeros, page_bytes};
-ghost use Rattle.frames.specs.Pages.{bytes_in};
+ghost use Rattle.frames.specs.Pages.{all_pages};
 
 use std::alloc::Allocator;
 
 /// The bytes of a frame.
 pub const FRAME_SIZE: usize = 4096;
 
-/// Lets the list reach to the end of a frame, for which it has room. The bytes that it doesn't reach are 0.
-pub fn reach<A: Allocator>(bytes: &mut Vec<u8, A>, frame: usize)
-    requires { frame * 4096 + 4096 ≤ vec_capacity bytes.old }
-    ensures bytes { bytes_in bytes.new.items ≡ bytes_in bytes.old.items }
-    ensures reached { frame * 4096 + 4096 ≤ vec_len bytes.new }
-    ensures longer { vec_len bytes.old ≤ vec_len bytes.new }
-    ensures capacity { vec_capacity bytes.old ≤ vec_capacity bytes.new }
+/// The bytes of one frame.
+pub type Page = [u8; FRAME_SIZE];
+
+/// A page of zeros.
+fn zero_page() -> Page
+    ensures { result ≡ replicate 4096 0 }
 {
-    let end = frame * FRAME_SIZE + FRAME_SIZE;
-    if bytes.len() < end {
-        let _grown = bytes.resize(end, 0);
-    }
+    [0; FRAME_SIZE]
 }
 
-/// The byte of a frame at this offset.
-pub fn byte<A: Allocator>(bytes: &Vec<u8, A>, frame: usize, offset: usize) -> u8
-    requires frame { frame < 65536 }
-    requires offset { offset < 4096 }
-    ensures { result ≡ bytes_in bytes.now.items frame offset }
+/// Copies bytes to the front of a page.
+fn copy_front(page: &mut [u8], from: &[u8])
+    requires { length from.now ≤ length page.old }
+    ensures { (i : ℕ) → i < length from.now → slice_index page.new i ≡ slice_index from.now i }
 {
-    let at = frame * FRAME_SIZE + offset;
-    if at < bytes.len() { bytes[at] } else { 0 }
+    let front = &mut page[..from.len()];
+    front.copy_from_slice(from);
 }
 
-/// Sets the byte of a frame at this offset.
-pub fn set_byte<A: Allocator>(bytes: &mut Vec<u8, A>, frame: usize, offset: usize, byte: u8)
-    requires frame { frame * 4096 + 4096 ≤ vec_len bytes.old }
-    requires offset { offset < 4096 }
-    ensures bytes { bytes_in bytes.new.items ≡ put (bytes_in bytes.old.items) frame (put (bytes_in bytes.old.items frame) offset byte) }
-    ensures len { vec_len bytes.new ≡ vec_len bytes.old }
-    ensures capacity { vec_capacity bytes.new ≡ vec_capacity bytes.old }
+/// Sets the bytes of a page from `start` on to 0.
+fn zero_rest(page: &mut [u8], start: usize)
+    requires { start ≤ length page.old }
+    ensures rest { (i : ℕ) → start ≤ i → slice_index page.new i ≡ 0 }
+    ensures front { (i : ℕ) → i < start → slice_index page.new i ≡ slice_index page.old i }
 {
-    bytes[frame * FRAME_SIZE + offset] = byte;
+    let rest = &mut page[start..];
+    rest.fill(0);
 }
 
-/// Sets all bytes of a frame to 0.
-pub fn fill_zero<A: Allocator>(bytes: &mut Vec<u8, A>, frame: usize)
-    requires { frame * 4096 + 4096 ≤ vec_len bytes.old }
-    ensures bytes { bytes_in bytes.new.items ≡ put (bytes_in bytes.old.items) frame zeros }
-    ensures len { vec_len bytes.new ≡ vec_len bytes.old }
-    ensures capacity { vec_capacity bytes.new ≡ vec_capacity bytes.old }
-{
-    zero_part(bytes, frame * FRAME_SIZE, FRAME_SIZE);
-}
-
-/// Sets `len` bytes from `start` on to 0.
-fn zero_part(bytes: &mut [u8], start: usize, len: usize)
-    requires { start + len ≤ length bytes.old }
-    ensures part { (k : ℕ) → start ≤ k → k < start + len → slice_index bytes.new k ≡ 0 }
-    ensures below { (k : ℕ) → k < start → slice_index bytes.new k ≡ slice_index bytes.old k }
-    ensures above { (k : ℕ) → start + len ≤ k → slice_index bytes.new k ≡ slice_index bytes.old k }
-{
-    let part = &mut bytes[start..start + len];
-    part.fill(0);
-}
-
-/// Copies bytes into a part of the list, from `start` on.
-fn copy_part(bytes: &mut [u8], start: usize, from: &[u8])
-    requires { start + length from.now ≤ length bytes.old }
-    ensures part { (k : ℕ) → start ≤ k → k < start + length from.now → slice_index bytes.new k ≡ slice_index from.now (k - start) }
-    ensures below { (k : ℕ) → k < start → slice_index bytes.new k ≡ slice_index bytes.old k }
-    ensures above { (k : ℕ) → start + length from.now ≤ k → slice_index bytes.new k ≡ slice_index bytes.old k }
-{
-    let part = &mut bytes[start..start + from.len()];
-    part.copy_from_slice(from);
-}
-
-/// Gives a part of the list of a frame's length these bytes, and zeros after them.
-fn fill_part(bytes: &mut [u8], start: usize, from: &[u8])
-    requires part { start + 4096 ≤ length bytes.old }
+/// Gives a page these bytes, and zeros after them.
+fn fill_page(page: &mut [u8], from: &[u8])
+    requires page { length page.old ≡ 4096 }
     requires short { length from.now ≤ 4096 }
-    ensures part { (i : ℕ) → i < 4096 → slice_index bytes.new (start + i) ≡ slice_index from.now i }
-    ensures below { (k : ℕ) → k < start → slice_index bytes.new k ≡ slice_index bytes.old k }
-    ensures above { (k : ℕ) → start + 4096 ≤ k → slice_index bytes.new k ≡ slice_index bytes.old k }
+    ensures { page_bytes page.new 0 ≡ page_bytes from.now 0 }
 {
-    copy_part(bytes, start, from);
-    zero_part(bytes, start + from.len(), FRAME_SIZE - from.len());
+    copy_front(page, from);
+    zero_rest(page, from.len());
 }
 
-/// Gives a frame these bytes, and zeros after them.
-pub fn fill<A: Allocator>(bytes: &mut Vec<u8, A>, frame: usize, from: &[u8])
-    requires frame { frame * 4096 + 4096 ≤ vec_len bytes.old }
+/// The page of these bytes, and zeros after them.
+pub fn page_of(from: &[u8]) -> Page
+    requires { length from.now ≤ 4096 }
+    ensures { page_bytes result 0 ≡ page_bytes from.now 0 }
+{
+    let mut page = zero_page();
+    fill_page(&mut page, from);
+    page
+}
+
+/// The page that has this byte at this offset, and else zeros.
+pub fn page_with(offset: usize, byte: u8) -> Page
+    requires { offset < 4096 }
+    ensures { page_bytes result 0 ≡ put zeros offset byte }
+{
+    let mut page = zero_page();
+    page[offset] = byte;
+    page
+}
+
+/// The byte of a page at this offset.
+pub fn byte<A: Allocator>(pages: &Vec<Page, A>, at: usize, offset: usize) -> u8
+    requires page { at < vec_len pages.now }
+    requires offset { offset < 4096 }
+    ensures { result ≡ all_pages pages.now.items at offset }
+{
+    pages[at][offset]
+}
+
+/// A page.
+pub fn page_at<A: Allocator>(pages: &Vec<Page, A>, at: usize) -> Page
+    requires { at < vec_len pages.now }
+    ensures { page_bytes result 0 ≡ all_pages pages.now.items at }
+{
+    pages[at]
+}
+
+/// Sets the byte of a page at this offset.
+pub fn set_byte<A: Allocator>(pages: &mut Vec<Page, A>, at: usize, offset: usize, byte: u8)
+    requires page { at < vec_len pages.old }
+    requires offset { offset < 4096 }
+    ensures bytes { all_pages pages.new.items ≡ put (all_pages pages.old.items) at (put (all_pages pages.old.items at) offset byte) }
+    ensures len { vec_len pages.new ≡ vec_len pages.old }
+    ensures capacity { vec_capacity pages.new ≡ vec_capacity pages.old }
+{
+    pages[at][offset] = byte;
+}
+
+/// Gives a page these bytes, and zeros after them.
+pub fn fill<A: Allocator>(pages: &mut Vec<Page, A>, at: usize, from: &[u8])
+    requires page { at < vec_len pages.old }
     requires short { length from.now ≤ 4096 }
-    ensures bytes { bytes_in bytes.new.items ≡ put (bytes_in bytes.old.items) frame (page_bytes from.now 0) }
-    ensures len { vec_len bytes.new ≡ vec_len bytes.old }
-    ensures capacity { vec_capacity bytes.new ≡ vec_capacity bytes.old }
+    ensures bytes { all_pages pages.new.items ≡ put (all_pages pages.old.items) at (page_bytes from.now 0) }
+    ensures len { vec_len pages.new ≡ vec_len pages.old }
+    ensures capacity { vec_capacity pages.new ≡ vec_capacity pages.old }
 {
-    fill_part(bytes, frame * FRAME_SIZE, from);
+    fill_page(&mut pages[at], from);
 }
 
-/// Copies all bytes of a frame to another.
-pub fn copy<A: Allocator>(bytes: &mut Vec<u8, A>, from: usize, to: usize)
-    requires from { from * 4096 + 4096 ≤ vec_len bytes.old }
-    requires to { to * 4096 + 4096 ≤ vec_len bytes.old }
-    ensures bytes { bytes_in bytes.new.items ≡ put (bytes_in bytes.old.items) to (bytes_in bytes.old.items from) }
-    ensures len { vec_len bytes.new ≡ vec_len bytes.old }
-    ensures capacity { vec_capacity bytes.new ≡ vec_capacity bytes.old }
+/// Copies all bytes of a page to another.
+pub fn copy<A: Allocator>(pages: &mut Vec<Page, A>, from: usize, to: usize)
+    requires from { from < vec_len pages.old }
+    requires to { to < vec_len pages.old }
+    ensures bytes { all_pages pages.new.items ≡ put (all_pages pages.old.items) to (all_pages pages.old.items from) }
+    ensures len { vec_len pages.new ≡ vec_len pages.old }
+    ensures capacity { vec_capacity pages.new ≡ vec_capacity pages.old }
 {
-    let start = from * FRAME_SIZE;
-    bytes.copy_within(start..start + FRAME_SIZE, to * FRAME_SIZE);
+    pages.copy_within(from..from + 1, to);
+}
+
+/// Puts a page at the end, where there is memory for it.
+pub fn push<A: Allocator>(pages: &mut Vec<Page, A>, page: Page)
+    requires { vec_len pages.old < vec_capacity pages.old }
+    ensures bytes { all_pages pages.new.items ≡ put (all_pages pages.old.items) (vec_len pages.old) (page_bytes page 0) }
+    ensures len { vec_len pages.new ≡ vec_len pages.old + 1 }
+    ensures capacity { vec_capacity pages.new ≡ vec_capacity pages.old }
+{
+    pages.push_reserved(page);
 }

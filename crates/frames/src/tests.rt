@@ -94,8 +94,27 @@ fn bytes_are_kept_by_frame(rt: HostRuntime) -> Result<(), Fail> {
 }
 
 #[test]
+fn last_frame_is_written_first(rt: HostRuntime) -> Result<(), Fail> {
+    let mut frames = Frames::new(rt.alloc(), 65_536)?;
+    frames.set_byte(65_535, 4095, 7);
+    frames.copy(9, 8);
+    frames.copy(65_535, 3);
+    frames.fill(0, &[5]);
+    frames.copy(9, 65_535);
+    let kept = [
+        frames.byte(0, 0),
+        frames.byte(0, 4095),
+        frames.byte(3, 4095),
+        frames.byte(8, 4095),
+        frames.byte(65_535, 4095),
+    ];
+    assert_eq!(rt; kept, [5, 0, 7, 0, 0]);
+    Ok(())
+}
+
+#[test]
 fn each_allocation_may_be_refused(rt: HostRuntime) -> Result<(), Fail> {
-    // The set of two frames takes a word of 8 bytes, and their bytes 8,192.
+    // The set of two frames takes a word of 8 bytes, their places 16 bytes, and their pages 8,192.
     for (room, fits) in [(0, false), (64, false), (8192, false), (16384, true)] {
         let heap = LocalHeap::new(rt.alloc(), room)?;
         let used = heap.used();

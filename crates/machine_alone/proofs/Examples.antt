@@ -1,5 +1,5 @@
 -- On a new machine every store is answered SIGSEGV, whatever steps the call takes: the law says so without looking at them.
-use Rattle.std.proofs.Common.{◌≡◌, ◌≢◌, ℕ, ◌<◌, Bool, refl, subst, None, []}
+use Rattle.std.proofs.Common.{◌≡◌, ◌≢◌, ℕ, ◌<◌, Bool, refl, subst, None}
 use Rattle.vm_base.specs.declared.replies.Reply.{Reply}
 use Rattle.vm_base.specs.declared.replies.Reply.TheVariants.{Mapped, Done, Byte, Refused, Segv, Bus, NoFrame, NoMemory}
 use Rattle.vm_base.specs.declared.replies.SegvCode.TheVariants.{MapErr}
@@ -10,19 +10,21 @@ use Rattle.machine_model.specs.declared.event.Event.TheVariants.{Call, Go}
 use Rattle.machine_model.specs.declared.event.Outcome.{Outcome}
 use Rattle.machine_model.specs.declared.event.Outcome.TheVariants.{Stepped, Answered}
 use Rattle.machine_model.specs.declared.log.Entry.TheVariants.{Answer}
-use Rattle.machine_model.specs.World.{World, Made, opening}
-use Rattle.machine_model.specs.Step.{Step, event_limit}
+use Rattle.machine_model.specs.World.{World, Made, new_world}
+use Rattle.machine_model.specs.Step.{Step, StepsTo, event_limit}
 use Rattle.machine_sound.specs.Log.{Stands}
 use Rattle.machine_sound.specs.Sound.{IsDue}
-use Rattle.machine_sound.specs.Invariant.{Fine}
-use Rattle.machine_alone.specs.Alone.{StepsTo, IsServed}
+use Rattle.machine_sound.proofs.Kept.{reached_opening}
+use Rattle.machine_alone.specs.Alone.{IsServed}
 use Rattle.machine_alone.proofs.Serving.{served_alone}
-use Rattle.machine_alone.proofs.Runs.{runs_fine}
 
 abbrev made : Made
 made = record { cores = 2; frames = 4; calls = 8; file = λ n. None }
 
-faults : (is_free : ℕ → Bool) (u : Plain) (y : Reply) → Stands (nothing_mapped (λ n. None)) 0 (Store 65540 41) y u → IsDue is_free (Answer 0 0 0 y) → y ≡ Segv MapErr
+abbrev nothing : Plain
+nothing = nothing_mapped (λ n. None)
+
+faults : (is_free : ℕ → Bool) (u : Plain) (y : Reply) → Stands nothing 0 (Store 65540 41) y u → IsDue (Go 0) is_free (Answer 0 0 0 y) → y ≡ Segv MapErr
 faults is_free u (Mapped a) h d = let e = h.0 in cc
 faults is_free u Done h d = let e = h.0 in cc
 faults is_free u (Byte b) h d = let e = h.0 in cc
@@ -32,10 +34,11 @@ faults is_free u Bus h d = let e = h.0 in cc
 faults is_free u NoFrame h d = absurd h.0
 faults is_free u NoMemory h d = absurd d
 
-stores_fault : (slots : Slots) → IsNew slots → (begun x v : World) (n : ℕ) (o : Outcome) → Step (opening made slots) (Call 0 (Store 65540 41)) Stepped begun
-    → StepsTo begun 0 n x → Step x (Go 0) o v → o ≢ Stepped → x.events < event_limit → o ≡ Answered (Segv MapErr)
+stores_fault : (slots : Slots) → IsNew slots → (begun x v : World) (n : ℕ) (o : Outcome) → Step (new_world made slots) (Call 0 (Store 65540 41)) Stepped begun
+    → StepsTo begun 0 n x → Step x (Go 0) o v → o ≢ Stepped → x.calls.events < event_limit → o ≡ Answered (Segv MapErr)
 stores_fault slots new begun x v n o call steps step not below =
-    let fine : Fine (opening made slots) = runs_fine made slots [] [] (opening made slots) (λ n. refl) new refl in
-    let k : IsServed (opening made slots) fine 0 (Store 65540 41) o v = (served_alone (opening made slots) begun fine 0 (Store 65540 41) (λ c. refl) call).ends n x v o steps step not below in
-    let reply = faults (opening made slots).is_free k.after.plain k.reply (subst (λ t. Stands t 0 (Store 65540 41) k.reply k.after.plain) fine.log k.stands) (k.due 0 0) in
+    let w : World = new_world made slots in
+    let reached = reached_opening made slots (λ n. refl) new in
+    let k : IsServed w nothing 0 (Store 65540 41) o v = (served_alone w begun nothing 0 (Store 65540 41) reached refl (λ c. refl) call).ends n x v o steps step not below in
+    let reply = faults w.memory.is_free k.after k.reply k.stands (k.due 0 0) in
     subst (λ y. o ≡ Answered y) reply k.answered

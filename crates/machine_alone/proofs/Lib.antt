@@ -1,5 +1,4 @@
-pub mod Rank
-pub mod Rows
+mod Examples
+mod Rank
+mod Rows
 pub mod Serving
-pub mod Runs
-pub mod Examples

@@ -1,23 +1,23 @@
 -- How many plain steps a call can still take where no other call runs
-use Rattle.std.proofs.Common.{◌≡◌, ℕ, zero, suc, ◌≤◌, ◌<◌, ◌+◌, ◌-◌, ◌^◌, Bool, cond, if◌then◌else◌, ◌==◌, refl, ap, arith, Some, None, Option}
-use Rattle.std.specs.Prelude.{is_some}
-use Rattle.std.specs.Option.{ForSome}
+use Rattle.std.proofs.Common.{◌≡◌, ℕ, zero, suc, ◌≤◌, ◌<◌, ◌+◌, ◌-◌, ◌^◌, Bool, if◌then◌else◌, ◌==◌, refl, ap, arith, Some, None, Option}
+use Rattle.std.specs.Prelude.{is_some, nat_le}
 use Rattle.vm_base.specs.declared.info.PageInfo.{PageInfo}
 use Rattle.vm_base.specs.declared.page.PageRange.{PageRange}
 use Rattle.vm_base.specs.declared.replies.Reply.{Reply}
-use Rattle.vm_base.specs.Pages.{IsPageRange}
 use Rattle.vm_base.proofs.Functions.{by_test}
-use Rattle.slot_lock.specs.declared.footprint.Footprint.{Footprint}
 use Rattle.slot_lock.specs.declared.plan.Touch.{Touch}
 use Rattle.slot_lock.specs.Edges.{edges_below}
-use Rattle.slot_lock.specs.Footprint.{IsFootprint, last_end, second_or, after, rest_of}
 use Rattle.slot_lock.specs.Plan.{range_of}
 use Rattle.slot_lock.specs.Slots.{Slots, Divides, between}
 use Rattle.slot_lock.proofs.EdgeCounts.{edges_below-Divides, edges_below-most}
+use Rattle.machine_model.specs.declared.phase.Goal.{Goal}
+use Rattle.machine_model.specs.declared.phase.Goal.TheVariants as To
 use Rattle.machine_model.specs.declared.phase.Phase.{Phase}
-use Rattle.machine_model.specs.declared.phase.Phase.TheVariants.{Free, Check, Lock, Decide, Post, Acks, Unlock, Answer, Try, LockPage, Settle, Want, Fill, Install, Release}
+use Rattle.machine_model.specs.declared.phase.Phase.TheVariants.{Free, Check, Lock, Decide, Post, Acks, Unlock, Answer, Try, Settle, Want, Fill, Install, Release}
 use Rattle.machine_model.specs.Accesses.{frame_for}
 use Rattle.machine_model.specs.Actions.{let_go}
+use Rattle.machine_model.specs.Holding.{goal_range}
+use Rattle.machine_model.specs.Locks.{all_locked, locked_to, held_after}
 
 -- ---- divisions that are left
 
@@ -58,26 +58,26 @@ missing_most s = omega arith
 abbrev pub size : PageRange → ℕ
 size r = r.end - r.first
 
--- the pages from the first to the last of a footprint
-abbrev pub span : Footprint → ℕ
-span held = last_end held - held.first.first
-
 -- the access finds a frame
 abbrev pub hits : (ℕ → Option PageInfo) → Touch → Bool
 hits info touch = is_some (frame_for touch.access (info touch.page))
+
+-- once all pages of the goal are locked
+abbrev pub locked_rank : Goal → ℕ
+locked_rank (To.Change change) = size (range_of change) + 4
+locked_rank (To.Access touch) = 10
 
 -- with m divisions left
 abbrev pub rank : ℕ → (ℕ → Option PageInfo) → Phase → ℕ
 rank m info Free = 0
 rank m info (Check request) = 2 ^ 37
-rank m info (Lock change cursor) = m + (((range_of change).end - cursor) + (size (range_of change) + 4))
+rank m info (Lock goal cursor) = m + (((goal_range goal).end - cursor) + locked_rank goal)
 rank m info (Decide change) = size (range_of change) + 4
-rank m info (Post change) = size (range_of change) + 3
-rank m info (Acks change held) = span held + 2
-rank m info (Unlock held reply) = span held + 1
+rank m info (Post change shoot) = size (range_of change) + 3
+rank m info (Acks change held) = size held + 2
+rank m info (Unlock held reply) = size held + 1
 rank m info (Answer reply) = 1
 rank m info (Try touch) = if hits info touch then 2 else m + 12
-rank m info (LockPage touch) = m + 11
 rank m info (Settle touch) = 10
 rank m info (Want touch) = 9
 rank m info (Fill touch frame) = 8
@@ -87,19 +87,19 @@ rank m info (Release touch) = 6
 abbrev pub rank_of : Slots → Phase → ℕ
 rank_of s phase = rank (missing s) s.info phase
 
--- ---- unlocking goes on to the right
+-- ---- locking and unlocking go on to the right
 
-unlocks_less : (m : ℕ) (info : ℕ → Option PageInfo) (reply : Reply) (a e b : ℕ) (second : Option PageRange) → ForSome second (λ r. (e < r.first) × IsPageRange r) → a < b → b ≤ e
-    → rank m info (let_go (cond (b == e) (rest_of second) (Some (record { first = between b e; second = second }))) reply) < (second_or second e (λ r. r.end) - a) + 1
-unlocks_less m info reply a e b None f l n =
-    by_test (λ o. rank m info (let_go o reply) < (e - a) + 1) (b == e) None (Some (record { first = between b e; second = None })) (λ _. omega arith) (λ _. omega arith)
-unlocks_less m info reply a e b (Some r) f l n =
-    let g : (e < r.first) × IsPageRange r = f r refl in
-    let x = g.0 in
-    let y = g.1.some in
-    by_test (λ o. rank m info (let_go o reply) < (r.end - a) + 1) (b == e) (Some (record { first = r; second = None })) (Some (record { first = between b e; second = Some r }))
-    (λ _. omega arith) (λ _. omega arith)
+all_rank : (m : ℕ) (info : ℕ → Option PageInfo) (goal : Goal) → rank m info (all_locked goal) ≡ locked_rank goal
+all_rank m info (To.Change change) = refl
+all_rank m info (To.Access touch) = refl
 
-pub unlock_less : (m n : ℕ) (info old : ℕ → Option PageInfo) (held : Footprint) (reply : Reply) (b : ℕ) → IsFootprint held → held.first.first < b → b ≤ held.first.end
-    → rank m info (let_go (after held b) reply) < rank n old (Unlock held reply)
-unlock_less m n info old held reply b f l e = unlocks_less m info reply held.first.first held.first.end b held.second f.apart l e
+pub lock_less : (m : ℕ) (info old : ℕ → Option PageInfo) (goal : Goal) (cursor b : ℕ) → cursor < b → b ≤ (goal_range goal).end
+    → rank m info (locked_to goal b) < rank m old (Lock goal cursor)
+lock_less m info old goal cursor b l n =
+    by_test (λ phase. rank m info phase < m + (((goal_range goal).end - cursor) + locked_rank goal)) (nat_le (goal_range goal).end b) (all_locked goal) (Lock goal b)
+    (λ _. let a = all_rank m info goal in omega (arith, a)) (λ _. omega arith)
+
+pub unlock_less : (m n : ℕ) (info old : ℕ → Option PageInfo) (held : PageRange) (reply : Reply) (b : ℕ) → held.first < b → b ≤ held.end
+    → rank m info (let_go (held_after held b) reply) < rank n old (Unlock held reply)
+unlock_less m n info old held reply b l e =
+    by_test (λ o. rank m info (let_go o reply) < size held + 1) (b == held.end) None (Some (between b held.end)) (λ _. omega arith) (λ _. omega arith)

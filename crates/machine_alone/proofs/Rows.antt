@@ -1,51 +1,43 @@
--- What a step of a call does beside which no other call runs: it is a plain one, after which fewer are left, or it hands out the reply.
-use Rattle.std.proofs.Common.{◌≡◌, ◌≢◌, ℕ, ◌≤◌, ◌<◌, ◌+◌, ◌^◌, Bool, true, false, cond, refl, sym, subst, ap, arith, Some, None, Option, ◌∙◌, inl, inr, ⊎_elim}
-use Rattle.std.specs.Prelude.{◌⊎◌, is_some, nat_le}
-use Rattle.std.proofs.lemmas.Bool.Decides.{nat_tests}
+-- What a step of a call does beside which no other call runs: after it fewer are left, and "no frame" isn't its reply where one was free.
+use Rattle.std.proofs.Common.{◌≡◌, ℕ, ◌≤◌, ◌<◌, ◌+◌, ◌^◌, ◌⊎◌, Bool, true, false, cond, refl, sym, subst, ap, arith, Some, None, Option, ◌∙◌, inl, inr}
+use Rattle.std.specs.Prelude.{is_some, nat_le}
 use Rattle.vm_base.specs.declared.info.PageInfo.{PageInfo}
-use Rattle.vm_base.specs.declared.replies.Errno.TheVariants.{ENOMEM}
-use Rattle.vm_base.specs.declared.replies.SegvCode.TheVariants.{MapErr, AccErr}
+use Rattle.vm_base.specs.declared.page.PageRange.{PageRange}
 use Rattle.vm_base.specs.declared.replies.Reply.{Reply}
-use Rattle.vm_base.specs.declared.replies.Reply.TheVariants.{Refused, Segv, Bus, NoFrame}
-use Rattle.vm_base.specs.declared.requests.Request.{Request}
-use Rattle.vm_base.specs.declared.requests.Request.TheVariants.{Mmap, Munmap, Mprotect, Load, Store, Fetch}
 use Rattle.vm_base.specs.declared.rights.Access.{Access}
-use Rattle.vm_base.specs.declared.rights.Access.TheVariants as To
+use Rattle.vm_base.specs.declared.rights.Access.TheVariants.{Load, Store, Fetch}
 use Rattle.vm_base.specs.Apply.{byte_reply}
-use Rattle.vm_base.specs.Info.{frame_of}
-use Rattle.vm_base.specs.Pages.{is_page, pages_of}
+use Rattle.vm_base.specs.Functions.{put}
 use Rattle.vm_base.specs.Plain.{File, mode_of}
-use Rattle.vm_base.specs.Refusals.{refusal}
-use Rattle.vm_base.specs.Rights.{is_allowed}
-use Rattle.vm_base.proofs.Functions.{by_test, put_same}
-use Rattle.slot_lock.specs.declared.footprint.Footprint.{Footprint}
-use Rattle.slot_lock.specs.declared.plan.Change.{Change}
-use Rattle.slot_lock.specs.declared.plan.Change.TheVariants.{Put, Clear, Protect}
+use Rattle.vm_base.proofs.Functions.{put_same}
 use Rattle.slot_lock.specs.declared.plan.Touch.{Touch}
-use Rattle.slot_lock.specs.declared.slot_map.Got.{Got}
-use Rattle.slot_lock.specs.declared.slot_map.Got.TheVariants.{Split, Locked, Held}
-use Rattle.slot_lock.specs.Footprint.{one_range, is_past, after}
-use Rattle.slot_lock.specs.Plan.{range_of, IsSoundChange}
-use Rattle.slot_lock.specs.Slots.{Slots, Steps, with_owner}
-use Rattle.machine_model.specs.declared.event.Outcome.{Outcome}
-use Rattle.machine_model.specs.declared.event.Outcome.TheVariants.{Stepped, Answered}
+use Rattle.slot_lock.specs.Plan.{range_of}
+use Rattle.slot_lock.specs.Slots.{Slots}
+use Rattle.vm_calls.specs.declared.fault.Settled.{Settled}
+use Rattle.vm_calls.specs.declared.fault.Settled.TheVariants.{MapErr, AccErr, Bus, Has, Copies, Cached, Wants}
+use Rattle.machine_model.specs.declared.event.Event.TheVariants.{Go}
 use Rattle.machine_model.specs.declared.log.Entry.TheVariants as EntryOf
+use Rattle.machine_model.specs.declared.phase.Goal.{Goal}
+use Rattle.machine_model.specs.declared.phase.Goal.TheVariants as To
 use Rattle.machine_model.specs.declared.phase.Phase.{Phase}
-use Rattle.machine_model.specs.declared.phase.Phase.TheVariants.{Free, Check, Lock, Decide, Post, Acks, Unlock, Answer, Try, LockPage, Settle, Want, Fill, Install, Release}
-use Rattle.machine_model.specs.World.{World}
-use Rattle.machine_model.specs.Holding.{page_held}
-use Rattle.machine_model.specs.Actions.{Becomes, to, let_go, replies, LocksTo, LocksNext}
-use Rattle.machine_model.specs.Calls.{meta_of, locking, touch_of, checked_as, after_lock, refused_change, DecidesChange, reply_to, committed}
-use Rattle.machine_model.specs.Accesses.{NoneFree, frame_for, tried_by, lies_past_end, source_phase, settled_by, Wants, info_with_core, installed, released}
-use Rattle.machine_model.specs.Step.{Goes}
-use Rattle.machine_laws.specs.Orderly.{IsReady}
+use Rattle.machine_model.specs.declared.phase.Phase.TheVariants.{Check, Lock, Decide, Post, Acks, Unlock, Answer, Try, Settle, Want, Fill, Install, Release}
+use Rattle.machine_model.specs.Accesses.{NoneFree, frame_for, info_with_core, found_at, taken, filled, installed, reply_of, memory_after}
+use Rattle.machine_model.specs.Actions.{to, let_go}
+use Rattle.machine_model.specs.Changes.{changed, reply_to}
+use Rattle.machine_model.specs.Holding.{goal_range}
+use Rattle.machine_model.specs.Locks.{locking, all_locked, locked_to, held_after}
+use Rattle.machine_model.specs.World.{World, Memory}
+use Rattle.machine_laws.specs.Orderly.{IsUsable}
+use Rattle.machine_laws.proofs.Deciding.{change_sound, sound_range}
+use Rattle.machine_laws.proofs.Moves.{IsCallOf, call_at}
+use Rattle.machine_laws.proofs.Shapes.{IsFault, Moves, locks, tries, acts, tells as told, faults, finds, lacks, Replies, refuses, no_place, declines, fails, no_frame, LetsGo, unlocks, releases, GoesBy, moves, divides, owns, lets_go, answers, commits, takes, fills, installs, accesses}
 use Rattle.machine_sound.specs.Sound.{IsDue}
-use Rattle.machine_sound.specs.Invariant.{IsSettled, IsUsable}
-use Rattle.machine_sound.proofs.Stands.{IsReply, due_so, refusal_is_reply, reply_is}
-use Rattle.machine_alone.proofs.Rank.{missing, missing_same, missing_less, missing_most, hits, rank, rank_of, unlock_less}
+use Rattle.machine_sound.specs.Invariant.{Fine}
+use Rattle.machine_sound.proofs.Replies.{IsReply, due_so, refused, reply_is}
+use Rattle.machine_alone.proofs.Rank.{missing, missing_same, missing_less, missing_most, hits, rank, rank_of, lock_less, unlock_less}
 
 abbrev pub IsDueReply : (ℕ → Bool) → Reply → Type 0
-IsDueReply is_free reply = (step call core : ℕ) → IsDue is_free (EntryOf.Answer step call core reply)
+IsDueReply is_free reply = (core step call : ℕ) → IsDue (Go core) is_free (EntryOf.Answer step call core reply)
 
 -- Frames are free as at the beginning until the call takes one. Then its access will find one, so "no frame" isn't its reply.
 abbrev pub IsSure : (ℕ → Bool) → (ℕ → Bool) → (ℕ → Option PageInfo) → Phase → Type 0
@@ -57,223 +49,190 @@ IsSure first free info (Install touch) = Unit {0}
 IsSure first free info (Release touch) = hits info touch ≡ true
 IsSure first free info _ = free ≡ first
 
--- what the step of a call in this phase comes to
-pub data Row (first : ℕ → Bool) (w : World) (c : ℕ) (phase : Phase) (o : Outcome) (v : World) : Type 0 where
-  goes_on : o ≡ Stepped → v.made ≡ w.made → rank_of v.slots (v.phase c) < rank_of w.slots phase → IsSure first v.is_free v.slots.info (v.phase c) → Row first w c phase o v
-  returns : (reply : Reply) → phase ≡ Answer reply → o ≡ Answered reply → v ≡ to c Free w → Row first w c phase o v
+-- core c's call has fewer steps left in v than in w
+pub record Nears (first : ℕ → Bool) (w : World) (c : ℕ) (v : World) : Type 0 where
+  pub made : v.made ≡ w.made
+  pub less : rank_of v.slots (v.calls.phase c) < rank_of w.slots (w.calls.phase c)
+  pub sure : IsSure first v.memory.is_free v.slots.info (v.calls.phase c)
 
--- to a phase in the state x
-moves : (first : ℕ → Bool) (w : World) (c : ℕ) (old : Phase) (o : Outcome) (v x : World) (phase : Phase) → Becomes x o v → x.phase c ≡ phase → x.made ≡ w.made
-    → rank_of x.slots phase < rank_of w.slots old → IsSure first x.is_free x.slots.info phase → Row first w c old o v
-moves first w c old o v x phase h at made less sure =
-    goes_on h.0 (subst (λ (v : World). v.made ≡ w.made) (sym h.1) made)
-    (subst (λ (v : World). rank_of v.slots (v.phase c) < rank_of w.slots old) (sym h.1) (subst (λ p. rank_of x.slots p < rank_of w.slots old) (sym at) less))
-    (subst (λ (v : World). IsSure first v.is_free v.slots.info (v.phase c)) (sym h.1) (subst (IsSure first x.is_free x.slots.info) (sym at) sure))
+-- from this phase to a new one, over these slots and this memory
+nears : (first : ℕ → Bool) (w : World) (c : ℕ) (old new : Phase) (t : Slots) (m : Memory) (v : World) → w.calls.phase c ≡ old
+    → v.made ≡ w.made → v.slots ≡ t → v.memory ≡ m → v.calls.phase ≡ put w.calls.phase c new
+    → rank_of t new < rank_of w.slots old → IsSure first m.is_free t.info new → Nears first w c v
+nears first w c old new t m v e made slots memory phase less sure =
+    let now : v.calls.phase c ≡ new = ap (λ f. f c) phase ∙ put_same w.calls.phase c new in
+    record {
+      made = made;
+      less = subst (λ p. rank_of v.slots (v.calls.phase c) < rank_of w.slots p) (sym e)
+          (subst (λ p. rank_of v.slots p < rank_of w.slots old) (sym now) (subst (λ s. rank_of s new < rank_of w.slots old) (sym slots) less));
+      sure = subst (IsSure first v.memory.is_free v.slots.info) (sym now)
+          (subst (λ (s : Slots). IsSure first v.memory.is_free s.info new) (sym slots) (subst (λ (m : Memory). IsSure first m.is_free t.info new) (sym memory) sure));
+    }
 
--- and nothing else changes
-steps : (first : ℕ → Bool) (w : World) (c : ℕ) (old : Phase) (o : Outcome) (v : World) (phase : Phase) → Becomes (to c phase w) o v
-    → rank_of w.slots phase < rank_of w.slots old → IsSure first w.is_free w.slots.info phase → Row first w c old o v
-steps first w c old o v phase h less sure = moves first w c old o v (to c phase w) phase h (put_same w.phase c phase) refl less sure
+-- what is sure of the phase in which the call is
+sure_at : (first : ℕ → Bool) (w : World) (c : ℕ) (old : Phase) → w.calls.phase c ≡ old → IsSure first w.memory.is_free w.slots.info (w.calls.phase c)
+    → IsSure first w.memory.is_free w.slots.info old
+sure_at first w c old e h = subst (IsSure first w.memory.is_free w.slots.info) e h
+
+-- ---- moves
+
+missed : (access : Access) (o : Option PageInfo) → frame_for access o ≡ None → is_some (frame_for access o) ≡ false
+missed access o h = ap is_some h
+
+tried_most : (m : ℕ) (info : ℕ → Option PageInfo) (touch : Touch) → m ≤ 2 ^ 35 → rank m info (Try touch) < 2 ^ 37
+tried_most m info touch l = go (hits info touch)
+  where
+    go : (b : Bool) → cond b 2 (m + 12) < 2 ^ 37
+    go true = omega arith
+    go false = omega (arith, l)
+
+moves_near : (first : ℕ → Bool) (w : World) (c : ℕ) (new : Phase) (v : World) → Fine w → IsSure first w.memory.is_free w.slots.info (w.calls.phase c) → Moves w c new → v ≡ to c new w
+    → Nears first w c v
+moves_near first w c new v f sure (locks request change e n passed) h =
+    let range = sound_range change (change_sound (λ k. mode_of (w.made.file k)) c request change passed) in
+    let high = range.high in
+    let most = missing_most w.slots in
+    nears first w c (Check request) (locking (To.Change change)) w.slots w.memory v e (rw h refl) (rw h refl) (rw h refl) (rw (h, n) refl)
+    (omega (arith, high, most)) (sure_at first w c (Check request) e sure)
+moves_near first w c new v f sure (tries request touch e n passed) h =
+    nears first w c (Check request) (Try touch) w.slots w.memory v e (rw h refl) (rw h refl) (rw h refl) (rw (h, n) refl)
+    (tried_most (missing w.slots) w.slots.info touch (missing_most w.slots)) (inl (sure_at first w c (Check request) e sure))
+moves_near first w c new v f sure (acts change range shoot e n d) h =
+    nears first w c (Decide change) (Post change shoot) w.slots w.memory v e (rw h refl) (rw h refl) (rw h refl) (rw (h, n) refl)
+    (omega arith) (sure_at first w c (Decide change) e sure)
+moves_near first w c new v f sure (told change shoot e n) h =
+    nears first w c (Post change shoot) (Acks change (range_of change)) w.slots w.memory v e (rw h refl) (rw h refl) (rw h refl) (rw (h, n) refl)
+    (omega arith) (sure_at first w c (Post change shoot) e sure)
+moves_near first w c new v f sure (faults touch e n k) h =
+    let none : hits w.slots.info touch ≡ false = missed touch.access (w.slots.info touch.page) k in
+    let was : (w.memory.is_free ≡ first) ⊎ (hits w.slots.info touch ≡ true) = sure_at first w c (Try touch) e sure in
+    nears first w c (Try touch) (locking (To.Access touch)) w.slots w.memory v e (rw h refl) (rw h refl) (rw h refl) (rw (h, n) refl)
+    (let a : rank_of w.slots (Try touch) ≡ missing w.slots + 12 = ap (λ b. cond b 2 (missing w.slots + 12)) none in omega (arith, a))
+    (elim was [
+      | inl same ↦ same
+      | inr hit ↦ absurd (cc (none, hit))
+    ])
+moves_near first w c new v f sure (finds touch x e n u) h =
+    nears first w c (Settle touch) (Install touch) w.slots w.memory v e (rw h refl) (rw h refl) (rw h refl) (rw (h, n) refl) (omega arith) tt
+moves_near first w c new v f sure (lacks touch e n u) h =
+    nears first w c (Settle touch) (Want touch) w.slots w.memory v e (rw h refl) (rw h refl) (rw h refl) (rw (h, n) refl)
+    (omega arith) (sure_at first w c (Settle touch) e sure)
 
 -- ---- replies
 
-sure_gone : (first free : ℕ → Bool) (info : ℕ → Option PageInfo) (held : Option Footprint) (reply : Reply) → IsDueReply first reply → IsSure first free info (let_go held reply)
+due_reply : (first : ℕ → Bool) (reply : Reply) → IsReply reply → IsDueReply first reply
+due_reply first reply i core step call = due_so (Go core) first step call core reply i
+
+sure_gone : (first free : ℕ → Bool) (info : ℕ → Option PageInfo) (held : Option PageRange) (reply : Reply) → IsDueReply first reply → IsSure first free info (let_go held reply)
 sure_gone first free info None reply h = h
 sure_gone first free info (Some held) reply h = h
 
-due_reply : (first : ℕ → Bool) (reply : Reply) → IsReply reply → IsDueReply first reply
-due_reply first reply i step call core = due_so first step call core reply i
+fault_is_reply : (s : Settled) (reply : Reply) → IsFault s reply → IsReply reply
+fault_is_reply MapErr reply h = subst IsReply (sym h) tt
+fault_is_reply AccErr reply h = subst IsReply (sym h) tt
+fault_is_reply Bus reply h = subst IsReply (sym h) tt
+fault_is_reply (Has f) reply h = absurd h
+fault_is_reply (Copies f) reply h = absurd h
+fault_is_reply (Cached f) reply h = absurd h
+fault_is_reply Wants reply h = absurd h
 
--- what is held is let go
-answers : (first : ℕ → Bool) (w : World) (c : ℕ) (old : Phase) (o : Outcome) (v : World) (held : Option Footprint) (reply : Reply) → Becomes (replies c held reply w) o v
-    → rank_of w.slots (let_go held reply) < rank_of w.slots old → IsDueReply first reply → Row first w c old o v
-answers first w c old o v held reply h less due =
-    moves first w c old o v (replies c held reply w) (let_go held reply) h (put_same w.phase c (let_go held reply)) refl less
-    (sure_gone first w.is_free w.slots.info held reply due)
+-- a reply in phase old, after which these slots and this memory are there
+tells_near : (first : ℕ → Bool) (w : World) (c : ℕ) (old : Phase) (held : Option PageRange) (reply : Reply) (t : Slots) (m : Memory) (v : World) → w.calls.phase c ≡ old
+    → v.made ≡ w.made → v.slots ≡ t → v.memory ≡ m → v.calls.phase ≡ put w.calls.phase c (let_go held reply)
+    → rank_of t (let_go held reply) < rank_of w.slots old → IsDueReply first reply → Nears first w c v
+tells_near first w c old held reply t m v e made slots memory phase less due =
+    nears first w c old (let_go held reply) t m v e made slots memory phase less (sure_gone first m.is_free t.info held reply due)
 
--- ---- Check
+replies_near : (first : ℕ → Bool) (w : World) (c : ℕ) (held : Option PageRange) (reply : Reply) (v : World) → Fine w → IsSure first w.memory.is_free w.slots.info (w.calls.phase c)
+    → Replies w c held reply → v.made ≡ w.made → v.slots ≡ w.slots → v.memory ≡ w.memory → v.calls.phase ≡ put w.calls.phase c (let_go held reply) → Nears first w c v
+replies_near first w c held reply v f sure (refuses request e h k) made slots memory phase =
+    tells_near first w c (Check request) held reply w.slots w.memory v e made slots memory phase
+    (subst (λ o. rank_of w.slots (let_go o reply) < 2 ^ 37) (sym h) (omega arith)) (due_reply first reply (refused w f.plain c request reply f.good k).0)
+replies_near first w c held reply v f sure (no_place request place e h r k) made slots memory phase =
+    tells_near first w c (Check request) held reply w.slots w.memory v e made slots memory phase
+    (subst (λ o. rank_of w.slots (let_go o reply) < 2 ^ 37) (sym h) (omega arith)) (due_reply first reply (subst IsReply (sym r) tt))
+replies_near first w c held reply v f sure (declines change errno e h r d) made slots memory phase =
+    tells_near first w c (Decide change) held reply w.slots w.memory v e made slots memory phase
+    (subst (λ o. rank_of w.slots (let_go o reply) < rank_of w.slots (Decide change)) (sym h) (omega arith)) (due_reply first reply (subst IsReply (sym r) tt))
+replies_near first w c held reply v f sure (fails touch e h x) made slots memory phase =
+    tells_near first w c (Settle touch) held reply w.slots w.memory v e made slots memory phase
+    (subst (λ o. rank_of w.slots (let_go o reply) < 10) (sym h) (omega arith)) (due_reply first reply (fault_is_reply (found_at w touch) reply x))
+replies_near first w c held reply v f sure (no_frame touch e h r none) made slots memory phase =
+    let same : w.memory.is_free ≡ first = sure_at first w c (Want touch) e sure in
+    tells_near first w c (Want touch) held reply w.slots w.memory v e made slots memory phase
+    (subst (λ o. rank_of w.slots (let_go o reply) < 9) (sym h) (omega arith))
+    (subst (λ y. IsDueReply first y) (sym r) (λ core step call. subst NoneFree same none))
 
--- the pages to lock are valid ones
-range_ends : (change : Change) → IsSoundChange change → (range_of change).end ≤ 2 ^ 35
-range_ends (Put range meta) s = s.pages.high
-range_ends (Clear range) s = s.high
-range_ends (Protect range prot) s = s.high
+-- ---- locks
 
-check_row : (first : ℕ → Bool) (w : World) (c : ℕ) (asked request : Request) (refused : Option Reply) (o : Outcome) (v : World)
-    → ((reply : Reply) → refused ≡ Some reply → IsReply reply) → IsReady v.slots.info (v.phase c) → w.is_free ≡ first
-    → Becomes (checked_as c request refused w) o v → Row first w c (Check asked) o v
-check_row first w c asked request refused o v is_reply ready same h = go request refused is_reply h
+owns_sure : (first free : ℕ → Bool) (info : ℕ → Option PageInfo) (goal : Goal) (b : ℕ) → free ≡ first → IsSure first free info (locked_to goal b)
+owns_sure first free info goal b h = go goal (nat_le (goal_range goal).end b)
   where
-    m : ℕ
-    m = missing w.slots
+    go : (goal : Goal) (p : Bool) → IsSure first free info (cond p (all_locked goal) (Lock goal b))
+    go (To.Change change) true = h
+    go (To.Access touch) true = h
+    go goal false = h
 
-    starts : (change : Change) → Becomes (to c (locking change) w) o v → Row first w c (Check asked) o v
-    starts change h =
-        let at : v.phase c ≡ locking change = ap (λ (v : World). v.phase c) h.1 ∙ put_same w.phase c (locking change) in
-        let r : IsReady v.slots.info (locking change) = subst (IsReady v.slots.info) at ready in
-        let a = range_ends change r.0 in
-        let b = missing_most w.slots in
-        steps first w c (Check asked) o v (locking change) h (omega (arith, a, b)) same
+divides_near : (first : ℕ → Bool) (w : World) (c : ℕ) (goal : Goal) (cursor : ℕ) (t : Slots) (v : World) → w.calls.phase c ≡ Lock goal cursor → w.memory.is_free ≡ first
+    → missing t < missing w.slots → v ≡ record w { slots = t } → Nears first w c v
+divides_near first w c goal cursor t v e same fewer h = record {
+  made = rw h refl;
+  less = rw h (subst (λ p. rank_of t p < rank_of w.slots p) (sym e) (omega (arith, fewer)));
+  sure = rw h (subst (IsSure first w.memory.is_free t.info) (sym e) same);
+}
 
-    tries : (touch : Touch) → Becomes (cond (is_page touch.page) (to c (Try touch) w) (replies c None (Segv MapErr) w)) o v → Row first w c (Check asked) o v
-    tries touch h = at (is_page touch.page) h
-      where
-        at : (b : Bool) → Becomes (cond b (to c (Try touch) w) (replies c None (Segv MapErr) w)) o v → Row first w c (Check asked) o v
-        at true h =
-            let b = missing_most w.slots in
-            steps first w c (Check asked) o v (Try touch) h
-            (by_test (λ n. n < 2 ^ 37) (hits w.slots.info touch) 2 (missing w.slots + 12) (λ _. omega arith) (λ _. omega (arith, b))) (inl same)
-        at false h = answers first w c (Check asked) o v None (Segv MapErr) h (omega arith) (λ _ _ _. tt)
+lets_go_near : (first : ℕ → Bool) (w : World) (c : ℕ) (held : PageRange) (b : ℕ) (t : Slots) (new : Phase) (v : World) → IsSure first w.memory.is_free w.slots.info (w.calls.phase c)
+    → LetsGo (w.calls.phase c) held b new → t.info ≡ w.slots.info → held.first < b → b ≤ held.end → v ≡ to c new (record w { slots = t }) → Nears first w c v
+lets_go_near first w c held b t new v sure (unlocks reply e n) info l m h =
+    nears first w c (Unlock held reply) (let_go (held_after held b) reply) t w.memory v e (rw h refl) (rw h refl) (rw h refl) (rw (h, n) refl)
+    (unlock_less (missing t) (missing w.slots) t.info w.slots.info held reply b l m)
+    (sure_gone first w.memory.is_free t.info (held_after held b) reply (sure_at first w c (Unlock held reply) e sure))
+lets_go_near first w c held b t new v sure (releases touch e at n) info l m h =
+    let hit : hits t.info touch ≡ true = ap (λ f. hits f touch) info ∙ sure_at first w c (Release touch) e sure in
+    nears first w c (Release touch) (Try touch) t w.memory v e (rw h refl) (rw h refl) (rw h refl) (rw (h, n) refl)
+    (let a : rank_of t (Try touch) ≡ 2 = ap (λ b. cond b 2 (missing t + 12)) hit in omega (arith, a)) (inr hit)
 
-    go : (request : Request) (refused : Option Reply) → ((reply : Reply) → refused ≡ Some reply → IsReply reply) → Becomes (checked_as c request refused w) o v → Row first w c (Check asked) o v
-    go request (Some reply) i h = answers first w c (Check asked) o v None reply h (omega arith) (due_reply first reply (i reply refl))
-    go (Mmap addr len prot flags file off) None i h = at flags.fixed h
-      where
-        change : Change
-        change = Put (pages_of addr len) (meta_of prot flags file off)
+-- ---- frames
 
-        at : (b : Bool) → Becomes (cond b (to c (locking change) w) (replies c None (Refused ENOMEM) w)) o v → Row first w c (Check asked) o v
-        at true h = starts change h
-        at false h = answers first w c (Check asked) o v None (Refused ENOMEM) h (omega arith) (λ _ _ _. tt)
-    go (Munmap addr len) None i h = starts (Clear (pages_of addr len)) h
-    go (Mprotect addr len prot) None i h = starts (Protect (pages_of addr len) prot) h
-    go (Load addr) None i h = tries (touch_of addr To.Load 0) h
-    go (Store addr byte) None i h = tries (touch_of addr To.Store byte) h
-    go (Fetch addr) None i h = tries (touch_of addr To.Fetch 0) h
-
--- ---- locking
-
--- no call holds a page but that of core c
-abbrev pub IsOnly : World → ℕ → Type 0
-IsOnly w c = (d p : ℕ) → d ≢ c → w.slots.owner p ≢ Some d
-
-lock_row : (first : ℕ → Bool) (w : World) (c : ℕ) (old : Phase) (cursor end : ℕ) (next : ℕ → Phase) (o : Outcome) (v : World) → w.phase c ≡ old → IsOnly w c
-    → ((t : Slots) → t.info ≡ w.slots.info → missing t < missing w.slots → rank_of t old < rank_of w.slots old)
-    → ((b : ℕ) → cursor < b → b ≤ end → rank_of w.slots (next b) < rank_of w.slots old)
-    → IsSure first w.is_free w.slots.info old → ((b : ℕ) → IsSure first w.is_free w.slots.info (next b))
-    → LocksNext w c cursor end next o v → Row first w c old o v
-lock_row first w c old cursor end next o v e only divided locked sure sure_next h = go h.0 h.1.0 h.1.1 h.1.2
-  where
-    go : (got : Got) (t : Slots) → Steps w.slots t c cursor end got → LocksTo w c t got next o v → Row first w c old o v
-    go Split t s becomes =
-        let d = s.divides in
-        moves first w c old o v (record w { slots = t }) old becomes e refl
-        (divided t d.2.info (missing_less w.slots t None d.0 d.1.1 d.2))
-        (subst (λ info. IsSure first w.is_free info old) (sym d.2.info) sure)
-    go (Locked b) t s becomes =
-        let x : Slots = with_owner w.slots cursor b (Some c) in
-        moves first w c old o v (to c (next b) (record w { slots = t })) (next b) becomes (put_same w.phase c (next b)) refl
-        (subst (λ (t : Slots). rank_of t (next b) < rank_of w.slots old) (sym s.now)
-        (subst (λ n. rank n w.slots.info (next b) < rank_of w.slots old) (sym (missing_same w.slots x refl)) (locked b s.slot.ordered s.by_end)))
-        (subst (λ (t : Slots). IsSure first w.is_free t.info (next b)) (sym s.now) (sure_next b))
-    go (Held by) t s becomes = absurd (only by cursor s.0 s.1)
-
-past_end : (end b : ℕ) → nat_le end b ≡ true → end ≤ b
-past_end end b h = grind (arith, nat_tests)
-
-change_locks : (first : ℕ → Bool) (w : World) (c : ℕ) (change : Change) (cursor : ℕ) (o : Outcome) (v : World) → w.phase c ≡ Lock change cursor → IsOnly w c
-    → w.is_free ≡ first → LocksNext w c cursor (range_of change).end (λ b. after_lock change b) o v → Row first w c (Lock change cursor) o v
-change_locks first w c change cursor o v e only same =
-    lock_row first w c (Lock change cursor) cursor (range_of change).end (λ b. after_lock change b) o v e only
-    (λ t i l. omega (arith, l))
-    (λ b l n. by_test (λ phase. rank_of w.slots phase < rank_of w.slots (Lock change cursor)) (is_past (one_range (range_of change)) b) (Decide change) (Lock change b)
-    (λ _. omega (arith, l, n)) (λ _. omega (arith, l, n)))
-    same
-    (λ b. by_test (IsSure first w.is_free w.slots.info) (is_past (one_range (range_of change)) b) (Decide change) (Lock change b) (λ _. same) (λ _. same))
-
-page_locks : (first : ℕ → Bool) (w : World) (c : ℕ) (touch : Touch) (o : Outcome) (v : World) → w.phase c ≡ LockPage touch → IsOnly w c
-    → w.is_free ≡ first → LocksNext w c touch.page (touch.page + 1) (λ b. Settle touch) o v → Row first w c (LockPage touch) o v
-page_locks first w c touch o v e only same =
-    lock_row first w c (LockPage touch) touch.page (touch.page + 1) (λ b. Settle touch) o v e only (λ t i l. omega (arith, l)) (λ b l n. omega arith) same (λ b. same)
-
--- ---- changes
-
-decide_row : (first : ℕ → Bool) (w : World) (c : ℕ) (change : Change) (o : Outcome) (v : World) → w.is_free ≡ first → DecidesChange w c change o v → Row first w c (Decide change) o v
-decide_row first w c (Put range meta) o v same h = steps first w c (Decide (Put range meta)) o v (Post (Put range meta)) h (omega arith) same
-decide_row first w c (Clear range) o v same h = steps first w c (Decide (Clear range)) o v (Post (Clear range)) h (omega arith) same
-decide_row first w c (Protect range prot) o v same h = go h.0 h.3
-  where
-    go : (all : Bool) → Becomes (cond all (to c (Post (Protect range prot)) w) (refused_change c (Protect range prot) w)) o v → Row first w c (Decide (Protect range prot)) o v
-    go true k = steps first w c (Decide (Protect range prot)) o v (Post (Protect range prot)) k (omega arith) same
-    go false k = answers first w c (Decide (Protect range prot)) o v (Some (one_range range)) (Refused ENOMEM) k (omega arith) (λ _ _ _. tt)
-
--- ---- accesses
+-- a usable page with a frame is hit, also once the core is recorded on it
+usable_hits : (file : ℕ → Option File) (access : Access) (o : Option PageInfo) (f c : ℕ) → IsUsable file o access (Some f) → is_some (frame_for access (info_with_core c o)) ≡ true
+usable_hits file access None f c u = absurd u
+usable_hits file access (Some info) f c u = ap (λ b. is_some (cond b info.frame None)) u.0 ∙ ap is_some u.2
 
 byte_is_reply : (access : Access) (byte : ℕ) → IsReply (byte_reply access byte)
-byte_is_reply To.Load byte = tt
-byte_is_reply To.Store byte = tt
-byte_is_reply To.Fetch byte = tt
+byte_is_reply Load byte = tt
+byte_is_reply Store byte = tt
+byte_is_reply Fetch byte = tt
 
-try_row : (first : ℕ → Bool) (w : World) (c : ℕ) (touch : Touch) (o : Outcome) (v : World) → (w.is_free ≡ first) ⊎ (hits w.slots.info touch ≡ true)
-    → Becomes (tried_by c touch (frame_for touch.access (w.slots.info touch.page)) w) o v → Row first w c (Try touch) o v
-try_row first w c touch o v sure h = go (frame_for touch.access (w.slots.info touch.page)) refl h
-  where
-    go : (frame : Option ℕ) → frame_for touch.access (w.slots.info touch.page) ≡ frame → Becomes (tried_by c touch frame w) o v → Row first w c (Try touch) o v
-    go (Some f) e h =
-        let reply : Reply = byte_reply touch.access (w.bytes f touch.offset) in
-        moves first w c (Try touch) o v (tried_by c touch (Some f) w) (Answer reply) h (put_same w.phase c (Answer reply)) refl
-        (by_test (λ n. 1 < n) (hits w.slots.info touch) 2 (missing w.slots + 12) (λ _. omega arith) (λ _. omega arith))
-        (due_reply first reply (byte_is_reply touch.access (w.bytes f touch.offset)))
-    go None e h =
-        let missed : hits w.slots.info touch ≡ false = ap is_some e in
-        steps first w c (Try touch) o v (LockPage touch) h
-        (by_test (λ n. missing w.slots + 11 < n) (hits w.slots.info touch) 2 (missing w.slots + 12) (λ i. absurd (cc (i, missed))) (λ _. omega arith))
-        (⊎_elim (λ (same : w.is_free ≡ first). same) (λ (hit : hits w.slots.info touch ≡ true). absurd (cc (hit, missed))) sure)
+-- ---- every plain step
 
-settle_row : (first : ℕ → Bool) (w : World) (c : ℕ) (touch : Touch) (info : Option PageInfo) (o : Outcome) (v : World) → w.is_free ≡ first
-    → Becomes (settled_by c touch info w) o v → Row first w c (Settle touch) o v
-settle_row first w c touch None o v same h = answers first w c (Settle touch) o v (Some (page_held touch)) (Segv MapErr) h (omega arith) (λ _ _ _. tt)
-settle_row first w c touch (Some info) o v same h = go (is_allowed info.meta.prot touch.access) (lies_past_end w.made.file info.meta.back) h
-  where
-    source : (frame : Option ℕ) → Becomes (to c (source_phase touch frame) w) o v → Row first w c (Settle touch) o v
-    source (Some f) h = steps first w c (Settle touch) o v (Install touch) h (omega arith) tt
-    source None h = steps first w c (Settle touch) o v (Want touch) h (omega arith) same
-
-    go : (a b : Bool) → Becomes (cond a (cond b (replies c (Some (page_held touch)) Bus w) (to c (source_phase touch info.frame) w)) (replies c (Some (page_held touch)) (Segv AccErr) w)) o v
-        → Row first w c (Settle touch) o v
-    go true true k = answers first w c (Settle touch) o v (Some (page_held touch)) Bus k (omega arith) (λ _ _ _. tt)
-    go true false k = source info.frame k
-    go false b k = answers first w c (Settle touch) o v (Some (page_held touch)) (Segv AccErr) k (omega arith) (λ _ _ _. tt)
-
-want_row : (first : ℕ → Bool) (w : World) (c : ℕ) (touch : Touch) (o : Outcome) (v : World) → w.is_free ≡ first → Wants w c touch o v → Row first w c (Want touch) o v
-want_row first w c touch o v same (inl h) = answers first w c (Want touch) o v (Some (page_held touch)) NoFrame h.1 (omega arith) (λ _ _ _. subst NoneFree same h.0)
-want_row first w c touch o v same (inr h) = moves first w c (Want touch) o v _ (Fill touch h.0) h.2 (put_same w.phase c (Fill touch h.0)) refl (omega arith) tt
-
--- a page that allows the access and has a frame lets it through
-will_hit : (file : ℕ → Option File) (c f : ℕ) (access : Access) (o : Option PageInfo) → IsUsable file o access → frame_of o ≡ Some f → is_some (frame_for access (info_with_core c o)) ≡ true
-will_hit file c f access None u e = absurd u
-will_hit file c f access (Some info) u e = ap (λ b. is_some (cond b info.frame None)) u.0 ∙ ap is_some e
-
--- ---- each phase
-
-pub row : (first : ℕ → Bool) (w : World) (c : ℕ) (phase : Phase) (o : Outcome) (v : World) → w.phase c ≡ phase → phase ≢ Free → IsOnly w c
-    → IsReady w.slots.info phase → IsSettled w.made.file w.slots.info phase → IsReady v.slots.info (v.phase c)
-    → IsSure first w.is_free w.slots.info phase → Goes w c phase o v → Row first w c phase o v
-row first w c Free o v e ne only ready settled next sure h = absurd (ne refl)
-row first w c (Check request) o v e ne only ready settled next sure h =
-    check_row first w c request request (refusal (λ k. mode_of (w.made.file k)) request) o v (refusal_is_reply (λ k. mode_of (w.made.file k)) request) next sure h
-row first w c (Lock change cursor) o v e ne only ready settled next sure h = change_locks first w c change cursor o v e only sure h
-row first w c (Decide change) o v e ne only ready settled next sure h = decide_row first w c change o v sure h
-row first w c (Post change) o v e ne only ready settled next sure h = steps first w c (Post change) o v (Acks change (one_range (range_of change))) h (omega arith) sure
-row first w c (Acks change held) o v e ne only ready settled next sure h =
-    moves first w c (Acks change held) o v (committed c change held w) (Unlock held (reply_to change)) h (put_same w.phase c (Unlock held (reply_to change))) refl (omega arith)
-    (due_reply first (reply_to change) (reply_is change))
-row first w c (Unlock held reply) o v e ne only ready settled next sure h =
-    let b : ℕ = h.0 in
-    let t : Slots = h.1.0 in
-    moves first w c (Unlock held reply) o v (to c (let_go (after held b) reply) (record w { slots = t })) (let_go (after held b) reply) h.1.2 (put_same w.phase c (let_go (after held b) reply)) refl
-    (unlock_less (missing t) (missing w.slots) t.info w.slots.info held reply b ready h.1.1.slot.ordered h.1.1.by_end)
-    (sure_gone first w.is_free t.info (after held b) reply sure)
-row first w c (Answer reply) o v e ne only ready settled next sure h = returns reply refl h.0 h.1
-row first w c (Try touch) o v e ne only ready settled next sure h = try_row first w c touch o v sure h
-row first w c (LockPage touch) o v e ne only ready settled next sure h = page_locks first w c touch o v e only sure h
-row first w c (Settle touch) o v e ne only ready settled next sure h = settle_row first w c touch (w.slots.info touch.page) o v sure h
-row first w c (Want touch) o v e ne only ready settled next sure h = want_row first w c touch o v sure h
-row first w c (Fill touch frame) o v e ne only ready settled next sure h = moves first w c (Fill touch frame) o v _ (Install touch) h (put_same w.phase c (Install touch)) refl (omega arith) tt
-row first w c (Install touch) o v e ne only ready settled next sure h =
-    moves first w c (Install touch) o v (installed c touch w) (Release touch) h (put_same w.phase c (Release touch)) refl (omega arith)
-    (ap (λ o. is_some (frame_for touch.access o)) (put_same w.slots.info touch.page (info_with_core c (w.slots.info touch.page)))
-    ∙ will_hit w.made.file c settled.1.0 touch.access (w.slots.info touch.page) settled.0 settled.1.1)
-row first w c (Release touch) o v e ne only ready settled next sure h =
-    moves first w c (Release touch) o v (released c touch w) (Try touch) h (put_same w.phase c (Try touch)) refl
-    (by_test (λ n. n < 6) (hits w.slots.info touch) 2 (missing (released c touch w).slots + 12) (λ _. omega arith) (λ i. absurd (cc (i, sure)))) (inr sure)
+pub goes_near : (first : ℕ → Bool) (w : World) (c : ℕ) (v : World) → Fine w → IsSure first w.memory.is_free w.slots.info (w.calls.phase c) → GoesBy w c v → Nears first w c v
+goes_near first w c v f sure (moves new m h) = moves_near first w c new v f sure m h
+goes_near first w c v f sure (divides goal cursor t e s h) =
+    divides_near first w c goal cursor t v e (sure_at first w c (Lock goal cursor) e sure) (missing_less w.slots t None s.divides.0 s.divides.1.1 s.divides.2) h
+goes_near first w c v f sure (owns goal cursor b t e l h) =
+    let edge : t.edge ≡ w.slots.edge = ap (λ (x : Slots). x.edge) l.now in
+    let same : missing t ≡ missing w.slots = missing_same w.slots t edge in
+    nears first w c (Lock goal cursor) (locked_to goal b) t w.memory v e (rw h refl) (rw h refl) (rw h refl) (rw h refl)
+    (subst (λ m. rank m t.info (locked_to goal b) < rank_of w.slots (Lock goal cursor)) (sym same)
+    (lock_less (missing w.slots) t.info w.slots.info goal cursor b l.slot.ordered l.by_end))
+    (owns_sure first w.memory.is_free t.info goal b (sure_at first w c (Lock goal cursor) e sure))
+goes_near first w c v f sure (lets_go held b t new l u h) =
+    lets_go_near first w c held b t new v sure l (ap (λ (x : Slots). x.info) u.now) u.slot.ordered u.by_end h
+goes_near first w c v f sure (answers held reply r h) = replies_near first w c held reply v f sure r (rw h refl) (rw h refl) (rw h refl) (rw h refl)
+goes_near first w c v f sure (commits change held e h) =
+    tells_near first w c (Acks change held) (Some held) (reply_to change) (changed change w.slots) w.memory v e (rw h refl) (rw h refl) (rw h refl) (rw h refl)
+    (omega arith) (due_reply first (reply_to change) (reply_is change))
+goes_near first w c v f sure (takes touch x e l h) =
+    nears first w c (Want touch) (Fill touch x) w.slots (taken c touch x w).memory v e (rw h refl) (rw h refl) (rw h refl) (rw h refl) (omega arith) tt
+goes_near first w c v f sure (fills touch x e h) =
+    nears first w c (Fill touch x) (Install touch) (filled c touch x w).slots (filled c touch x w).memory v e (rw h refl) (rw h refl) (rw h refl) (rw h refl) (omega arith) tt
+goes_near first w c v f sure (installs touch e h) =
+    let k : IsCallOf w c (Install touch) = call_at w c (Install touch) e f.order in
+    let new : Option PageInfo = info_with_core c (w.slots.info touch.page) in
+    nears first w c (Install touch) (Release touch) (installed c touch w).slots w.memory v e (rw h refl) (rw h refl) (rw h refl) (rw h refl) (omega arith)
+    (ap (λ o. is_some (frame_for touch.access o)) (put_same w.slots.info touch.page new) ∙ usable_hits w.made.file touch.access (w.slots.info touch.page) k.ready.0 c k.ready.1)
+goes_near first w c v f sure (accesses touch x e i h) =
+    tells_near first w c (Try touch) None (reply_of touch x w.memory) w.slots (memory_after touch x w.memory) v e (rw h refl) (rw h refl) (rw h refl) (rw h refl)
+    (let a : rank_of w.slots (Try touch) ≡ 2 = ap (λ (o : Option ℕ). cond (is_some o) 2 (missing w.slots + 12)) i in omega (arith, a))
+    (due_reply first (reply_of touch x w.memory) (byte_is_reply touch.access (w.memory.bytes x touch.offset)))

@@ -15,10 +15,11 @@ use Rattle.machine_model.specs.declared.log.Entry.TheVariants.{Answer}
 use Rattle.machine_model.specs.declared.phase.Phase.TheVariants.{Free, Check}
 use Rattle.machine_model.specs.Actions.{to}
 use Rattle.machine_model.specs.Events.{core_of}
-use Rattle.machine_model.specs.World.{World, Made, opening}
+use Rattle.machine_model.specs.World.{World, Made, new_world}
 use Rattle.machine_model.specs.Step.{called, counted, event_limit, Step, Run}
 use Rattle.machine_laws.specs.Brackets.{nth, Begun, begun_by, calls_from, calls_of, requests_of, IsLatest, step_of, IsAnswer, IsAnsweredBefore, AllRunsBracketed}
-use Rattle.machine_laws.proofs.Effects.{Status, Closed, Asked, Told, status, statuses, Effect, keeps, tells, opens, closes, Comes, stopped, acts, comes}
+use Rattle.machine_laws.proofs.Effects.{Status, Closed, Asked, Told, status, statuses, Effect, keeps, tells, opens, closes, effect_of}
+use Rattle.machine_laws.proofs.Shapes.{Comes, stopped, acts, comes}
 use Rattle.machine_laws.proofs.Numbered.{get_old, get_new, get_either, at_old, at_new, at_either, within}
 
 -- ---- what holds before an event
@@ -209,7 +210,7 @@ chron_opens n calls requests log call stat c request h = record {
 
 -- what holds of a state in which these calls were begun
 abbrev pub Kept : List Begun → World → Type 0
-Kept calls w = Chronicle (suc w.events) calls w.requests w.log w.call (statuses w)
+Kept calls w = Chronicle (suc w.calls.events) calls w.calls.requests w.calls.log w.calls.number (statuses w)
 
 none_more : (calls more : List Begun) → more ≡ [] → calls ++ more ≡ calls
 none_more calls more h = ap (λ l. calls ++ l) h ∙ go calls
@@ -219,25 +220,25 @@ none_more calls more h = ap (λ l. calls ++ l) h ∙ go calls
     go (x ∷ xs) = ap (λ l. x ∷ l) (go xs)
 
 -- where w is the state with the event counted
-after_effect : (calls : List Begun) (w : World) (e : Event) (o : Outcome) (v : World) → Chronicle w.events calls w.requests w.log w.call (statuses w) → Effect w e o v
-    → Kept (calls ++ begun_by w.events e o) v
+after_effect : (calls : List Begun) (w : World) (e : Event) (o : Outcome) (v : World) → Chronicle w.calls.events calls w.calls.requests w.calls.log w.calls.number (statuses w) → Effect w e o v
+    → Kept (calls ++ begun_by w.calls.events e o) v
 after_effect calls w e o v h (keeps q k l s) =
-    subst (λ b. Kept b v) (sym (none_more calls (begun_by w.events e o) (q.0 w.events)))
-    (rw (k.events, k.requests, k.call, l) (chron_stat (suc w.events) calls w.requests w.log w.call (statuses w) (statuses v) s (chron_keeps w.events calls w.requests w.log w.call (statuses w) h)))
+    subst (λ b. Kept b v) (sym (none_more calls (begun_by w.calls.events e o) (q.0 w.calls.events)))
+    (rw (k.events, k.requests, k.number, l) (chron_stat (suc w.calls.events) calls w.calls.requests w.calls.log w.calls.number (statuses w) (statuses v) s (chron_keeps w.calls.events calls w.calls.requests w.calls.log w.calls.number (statuses w) h)))
 after_effect calls w e o v h (tells c reply q k a l s) =
-    subst (λ b. Kept b v) (sym (none_more calls (begun_by w.events e o) (q.0 w.events)))
-    (rw (k.events, k.requests, k.call, l) (chron_stat (suc w.events) calls w.requests (w.log ++ Answer w.events (w.call c) c reply ∷ []) w.call (put (statuses w) c (Told reply)) (statuses v) s
-    (chron_tells w.events calls w.requests w.log w.call (statuses w) c reply a h)))
+    subst (λ b. Kept b v) (sym (none_more calls (begun_by w.calls.events e o) (q.0 w.calls.events)))
+    (rw (k.events, k.requests, k.number, l) (chron_stat (suc w.calls.events) calls w.calls.requests (w.calls.log ++ Answer w.calls.events (w.calls.number c) c reply ∷ []) w.calls.number (put (statuses w) c (Told reply)) (statuses v) s
+    (chron_tells w.calls.events calls w.calls.requests w.calls.log w.calls.number (statuses w) c reply a h)))
 after_effect calls w e o v h (opens c request f g a k) =
-    let new : Begun = record { core = c; request = request; step = w.events } in
-    let now : Kept (calls ++ new ∷ []) (called c request w) = chron_stat (suc w.events) (calls ++ new ∷ []) (w.requests ++ request ∷ []) w.log (put w.call c (suc (length w.requests))) (put (statuses w) c Asked) (statuses (called c request w))
-    (put_both (λ d x s. status x ≡ s) w.phase (statuses w) c (Check request) Asked refl (λ d ne. refl))
-    (chron_opens w.events calls w.requests w.log w.call (statuses w) c request h) in
-    subst (λ e. Kept (calls ++ begun_by w.events e o) v) (sym f) (subst (λ o. Kept (calls ++ begun_by w.events (Call c request) o) v) (sym g) (subst (Kept (calls ++ new ∷ [])) (sym k) now))
+    let new : Begun = record { core = c; request = request; step = w.calls.events } in
+    let now : Kept (calls ++ new ∷ []) (called c request w) = chron_stat (suc w.calls.events) (calls ++ new ∷ []) (w.calls.requests ++ request ∷ []) w.calls.log (put w.calls.number c (suc (length w.calls.requests))) (put (statuses w) c Asked) (statuses (called c request w))
+    (put_both (λ d x s. status x ≡ s) w.calls.phase (statuses w) c (Check request) Asked refl (λ d ne. refl))
+    (chron_opens w.calls.events calls w.calls.requests w.calls.log w.calls.number (statuses w) c request h) in
+    subst (λ e. Kept (calls ++ begun_by w.calls.events e o) v) (sym f) (subst (λ o. Kept (calls ++ begun_by w.calls.events (Call c request) o) v) (sym g) (subst (Kept (calls ++ new ∷ [])) (sym k) now))
 after_effect calls w e o v h (closes c reply f g a k) =
-    subst (λ e. Kept (calls ++ begun_by w.events e o) v) (sym f) (subst (λ b. Kept b v) (sym (none_more calls [] refl)) (subst (Kept calls) (sym k) (closed (chron_keeps w.events calls w.requests w.log w.call (statuses w) h))))
+    subst (λ e. Kept (calls ++ begun_by w.calls.events e o) v) (sym f) (subst (λ b. Kept b v) (sym (none_more calls [] refl)) (subst (Kept calls) (sym k) (closed (chron_keeps w.calls.events calls w.calls.requests w.calls.log w.calls.number (statuses w) h))))
   where
-    closed : Chronicle (suc w.events) calls w.requests w.log w.call (statuses w) → Chronicle (suc w.events) calls w.requests w.log w.call (statuses (to c Free w))
+    closed : Chronicle (suc w.calls.events) calls w.calls.requests w.calls.log w.calls.number (statuses w) → Chronicle (suc w.calls.events) calls w.calls.requests w.calls.log w.calls.number (statuses (to c Free w))
     closed g = record {
       same = g.same;
       before = g.before;
@@ -245,36 +246,38 @@ after_effect calls w e o v h (closes c reply f g a k) =
       rises = g.rises;
       begun = g.begun;
       once = g.once;
-      stands = put_all (λ d p. Stands (suc w.events) calls w.log d (w.call d) (status p)) w.phase c Free tt (λ d ne. g.stands d);
+      stands = put_all (λ d p. Stands (suc w.calls.events) calls w.calls.log d (w.calls.number d) (status p)) w.calls.phase c Free tt (λ d ne. g.stands d);
     }
 
-events_by : (w : World) (e : Event) (o : Outcome) (v : World) → Effect w e o v → v.events ≡ w.events
+events_by : (w : World) (e : Event) (o : Outcome) (v : World) → Effect w e o v → v.calls.events ≡ w.calls.events
 events_by w e o v (keeps q k l s) = k.events
 events_by w e o v (tells c reply q k a l s) = k.events
-events_by w e o v (opens c request f g a k) = ap (λ v. v.events) k
-events_by w e o v (closes c reply f g a k) = ap (λ v. v.events) k
+events_by w e o v (opens c request f g a k) = ap (λ v. v.calls.events) k
+events_by w e o v (closes c reply f g a k) = ap (λ v. v.calls.events) k
 
 -- the event that comes next is the n-th, or no event is counted any more
 abbrev pub IsNext : ℕ → World → Type 0
-IsNext n w = (n ≡ suc w.events) ⊎ (nat_lt w.events event_limit ≡ false)
+IsNext n w = (n ≡ suc w.calls.events) ⊎ (nat_lt w.calls.events event_limit ≡ false)
 
 pub record Next (n : ℕ) (calls : List Begun) (w : World) (e : Event) (o : Outcome) (v : World) : Type 0 where
   pub kept : Kept (calls ++ begun_by n e o) v
   pub next : IsNext (suc n) v
-  pub few : v.events ≤ suc w.events
+  pub few : v.calls.events ≤ suc w.calls.events
 
 next : (n : ℕ) (calls : List Begun) (w : World) (e : Event) (o : Outcome) (v : World) → IsNext n w → Kept calls w → Comes w e o v → Next n calls w e o v
 next n calls w e o v at h (stopped i q k) = record {
   kept = subst (λ b. Kept b v) (sym (none_more calls (begun_by n e o) (q.0 n))) (subst (Kept calls) (sym k) h);
-  next = inr (ap (λ v. nat_lt v.events event_limit) k ∙ i);
-  few = let same : v.events ≡ w.events = ap (λ v. v.events) k in omega (arith, same);
+  next = inr (ap (λ v. nat_lt v.calls.events event_limit) k ∙ i);
+  few = let same : v.calls.events ≡ w.calls.events = ap (λ v. v.calls.events) k in omega (arith, same);
 }
-next n calls w e o v (inl m) h (acts i f) = record {
-  kept = subst (λ k. Kept (calls ++ begun_by k e o) v) (sym m) (after_effect calls (counted w) e o v h f);
-  next = inl (ap suc m ∙ sym (ap suc (events_by (counted w) e o v f)));
-  few = let same = events_by (counted w) e o v f in omega (arith, same);
-}
-next n calls w e o v (inr m) h (acts i f) = absurd cc
+next n calls w e o v (inl m) h (acts i shape) =
+    let f : Effect (counted w) e o v = effect_of (counted w) e o v shape in
+    record {
+      kept = subst (λ k. Kept (calls ++ begun_by k e o) v) (sym m) (after_effect calls (counted w) e o v h f);
+      next = inl (ap suc m ∙ sym (ap suc (events_by (counted w) e o v f)));
+      few = let same = events_by (counted w) e o v f in omega (arith, same);
+    }
+next n calls w e o v (inr m) h (acts i shape) = absurd cc
 
 -- ---- a run
 
@@ -285,12 +288,12 @@ app_assoc (x ∷ a) b c = ap (λ l. x ∷ l) (app_assoc a b c)
 -- events from the n-th on
 pub record After (n : ℕ) (calls : List Begun) (w : World) (es : List Event) (os : List Outcome) (v : World) : Type 0 where
   pub kept : Kept (calls ++ calls_from n es os) v
-  pub few : v.events ≤ w.events + length es
+  pub few : v.calls.events ≤ w.calls.events + length es
 
 goes : (n : ℕ) (calls : List Begun) (w : World) (es : List Event) (os : List Outcome) (v : World) → IsNext n w → Kept calls w → Run w es os v → After n calls w es os v
 goes n calls w [] [] v at k r = record {
   kept = subst (λ b. Kept b v) (sym (none_more calls [] refl)) (subst (Kept calls) (sym r) k);
-  few = let same : v.events ≡ w.events = ap (λ v. v.events) r in omega (arith, same);
+  few = let same : v.calls.events ≡ w.calls.events = ap (λ v. v.calls.events) r in omega (arith, same);
 }
 goes n calls w [] (o ∷ os) v at k r = absurd r
 goes n calls w (e ∷ es) [] v at k r = absurd r
@@ -302,7 +305,7 @@ goes n calls w (e ∷ es) (o ∷ os) v at k r =
       few = let a = one.few in let b = rest.few in omega (arith, a, b);
     }
 
-kept_opening : (made : Made) (slots : Slots) → Kept [] (opening made slots)
+kept_opening : (made : Made) (slots : Slots) → Kept [] (new_world made slots)
 kept_opening made slots = record {
   same = refl;
   before = λ k b e. absurd (none k b e);
@@ -320,20 +323,20 @@ kept_opening made slots = record {
 -- ---- the log only grows
 
 abbrev pub Grows : World → World → Type 0
-Grows w v = (i : ℕ) (x : Entry) → slice_get w.log i ≡ Some x → slice_get v.log i ≡ Some x
+Grows w v = (i : ℕ) (x : Entry) → slice_get w.calls.log i ≡ Some x → slice_get v.calls.log i ≡ Some x
 
 grows_by : (w : World) (e : Event) (o : Outcome) (v : World) → Effect w e o v → Grows w v
 grows_by w e o v (keeps q k l s) = λ i x a. ap (λ l. slice_get l i) l ∙ a
-grows_by w e o v (tells c reply q k a l s) = λ i x b. ap (λ l. slice_get l i) l ∙ get_old w.log (Answer w.events (w.call c) c reply) i x b
-grows_by w e o v (opens c request f g a k) = λ i x b. ap (λ v. slice_get v.log i) k ∙ b
-grows_by w e o v (closes c reply f g a k) = λ i x b. ap (λ v. slice_get v.log i) k ∙ b
+grows_by w e o v (tells c reply q k a l s) = λ i x b. ap (λ l. slice_get l i) l ∙ get_old w.calls.log (Answer w.calls.events (w.calls.number c) c reply) i x b
+grows_by w e o v (opens c request f g a k) = λ i x b. ap (λ v. slice_get v.calls.log i) k ∙ b
+grows_by w e o v (closes c reply f g a k) = λ i x b. ap (λ v. slice_get v.calls.log i) k ∙ b
 
 grows_at : (w : World) (e : Event) (o : Outcome) (v : World) → Comes w e o v → Grows w v
-grows_at w e o v (stopped i q k) = λ i x a. ap (λ v. slice_get v.log i) k ∙ a
-grows_at w e o v (acts i f) = grows_by (counted w) e o v f
+grows_at w e o v (stopped i q k) = λ i x a. ap (λ v. slice_get v.calls.log i) k ∙ a
+grows_at w e o v (acts i shape) = grows_by (counted w) e o v (effect_of (counted w) e o v shape)
 
 grown : (w : World) (es : List Event) (os : List Outcome) (v : World) → Run w es os v → Grows w v
-grown w [] [] v r = λ i x a. ap (λ v. slice_get v.log i) r ∙ a
+grown w [] [] v r = λ i x a. ap (λ v. slice_get v.calls.log i) r ∙ a
 grown w [] (o ∷ os) v r = absurd r
 grown w (e ∷ es) [] v r = absurd r
 grown w (e ∷ es) (o ∷ os) v r = λ i x a. grown r.0 es os v r.2 i x (grows_at w e o r.0 (comes w e o r.0 r.1) i x a)
@@ -375,38 +378,44 @@ parted w (d ∷ es) (p ∷ os) v (suc n) e o r a b =
     }
 
 -- what is handed out was told before
-ends : (calls : List Begun) (w : World) (e : Event) (reply : Reply) (v : World) → Kept calls w → Comes w e (Answered reply) v
-    → (call : ℕ) × IsLatest calls (core_of e) call × IsAnsweredBefore (suc w.events) w.log call (core_of e) reply
-ends calls w e reply v h (stopped i q k) = absurd (let no = q.1 in cc)
-ends calls w e reply v h (acts i (keeps q k l s)) = absurd (let no = q.1 in cc)
-ends calls w e reply v h (acts i (tells c r q k a l s)) = absurd (let no = q.1 in cc)
-ends calls w e reply v h (acts i (opens c request f g a k)) = absurd cc
-ends calls w e reply v h (acts i (closes c r f g a k)) =
-    let told : Stands (suc w.events) calls w.log c (w.call c) (Told r) = subst (Stands (suc w.events) calls w.log c (w.call c)) a (h.stands c) in
+told_before : (calls : List Begun) (w : World) (e : Event) (core : ℕ) (reply : Reply) (v : World) → core_of e ≡ Some core → Kept calls w → Effect (counted w) e (Answered reply) v
+    → (call : ℕ) × IsLatest calls core call × IsAnsweredBefore (suc w.calls.events) w.calls.log call core reply
+told_before calls w e core reply v at h (keeps q k l s) = absurd (let no = q.1 in cc)
+told_before calls w e core reply v at h (tells c r q k a l s) = absurd (let no = q.1 in cc)
+told_before calls w e core reply v at h (opens c request f g a k) = absurd cc
+told_before calls w e core reply v at h (closes c r f g a k) =
+    let told : Stands (suc w.calls.events) calls w.calls.log c (w.calls.number c) (Told r) = subst (Stands (suc w.calls.events) calls w.calls.log c (w.calls.number c)) a (h.stands c) in
     let same : r ≡ reply = cc in
-    subst (λ d. (call : ℕ) × IsLatest calls (core_of d) call × IsAnsweredBefore (suc w.events) w.log call (core_of d) reply) (sym f)
-    (subst (λ r. (call : ℕ) × IsLatest calls c call × IsAnsweredBefore (suc w.events) w.log call c r) same (w.call c, told.0, told.1))
+    let its : core_of e ≡ Some c = ap core_of f in
+    let here : c ≡ core = cc (its, at) in
+    subst (λ d. (call : ℕ) × IsLatest calls d call × IsAnsweredBefore (suc w.calls.events) w.calls.log call d reply) here
+    (subst (λ r. (call : ℕ) × IsLatest calls c call × IsAnsweredBefore (suc w.calls.events) w.calls.log call c r) same (w.calls.number c, told.0, told.1))
 
-answered_at : (made : Made) (slots : Slots) (es : List Event) (os : List Outcome) (v : World) (n : ℕ) (e : Event) (reply : Reply)
-    → Parted (opening made slots) es os v n e (Answered reply)
-    → (call : ℕ) × IsLatest (calls_of (take n es) (take n os)) (core_of e) call × IsAnsweredBefore (suc n) v.log call (core_of e) reply
-answered_at made slots es os v n e reply p =
-    let before : After 1 [] (opening made slots) (take n es) (take n os) p.old = goes 1 [] (opening made slots) (take n es) (take n os) p.old (inl refl) (kept_opening made slots) p.first in
+ends : (calls : List Begun) (w : World) (e : Event) (core : ℕ) (reply : Reply) (v : World) → core_of e ≡ Some core → Kept calls w → Comes w e (Answered reply) v
+    → (call : ℕ) × IsLatest calls core call × IsAnsweredBefore (suc w.calls.events) w.calls.log call core reply
+ends calls w e core reply v at h (stopped i q k) = absurd (let no = q.1 in cc)
+ends calls w e core reply v at h (acts i shape) = told_before calls w e core reply v at h (effect_of (counted w) e (Answered reply) v shape)
+
+answered_at : (made : Made) (slots : Slots) (es : List Event) (os : List Outcome) (v : World) (n core : ℕ) (e : Event) (reply : Reply) → core_of e ≡ Some core
+    → Parted (new_world made slots) es os v n e (Answered reply)
+    → (call : ℕ) × IsLatest (calls_of (take n es) (take n os)) core call × IsAnsweredBefore (suc n) v.calls.log call core reply
+answered_at made slots es os v n core e reply at p =
+    let before : After 1 [] (new_world made slots) (take n es) (take n os) p.old = goes 1 [] (new_world made slots) (take n es) (take n os) p.old (inl refl) (kept_opening made slots) p.first in
     let come : Comes p.old e (Answered reply) p.new = comes p.old e (Answered reply) p.new p.step in
-    let end = ends (calls_of (take n es) (take n os)) p.old e reply p.new before.kept come in
+    let end = ends (calls_of (take n es) (take n os)) p.old e core reply p.new at before.kept come in
     let said = end.2 in
     let few = before.few in
     let size = p.few in
     let lt = said.3 in
-    (end.0, end.1, (said.0, said.1, p.after said.0 (Answer said.1 end.0 (core_of e) reply) (grows_at p.old e (Answered reply) p.new come said.0 (Answer said.1 end.0 (core_of e) reply) said.2), omega (arith, few, size, lt)))
+    (end.0, end.1, (said.0, said.1, p.after said.0 (Answer said.1 end.0 core reply) (grows_at p.old e (Answered reply) p.new come said.0 (Answer said.1 end.0 core reply) said.2), omega (arith, few, size, lt)))
 
 pub bracketed : AllRunsBracketed
 bracketed made slots es os w r =
-    let all : After 1 [] (opening made slots) es os w = goes 1 [] (opening made slots) es os w (inl refl) (kept_opening made slots) r in
+    let all : After 1 [] (new_world made slots) es os w = goes 1 [] (new_world made slots) es os w (inl refl) (kept_opening made slots) r in
     record {
       rises = all.kept.rises;
       begun = all.kept.begun;
       once = all.kept.once;
-      answered = λ n e reply a b. answered_at made slots es os w n e reply (parted (opening made slots) es os w n e (Answered reply) r a b);
+      answered = λ n core e reply a at b. answered_at made slots es os w n core e reply at (parted (new_world made slots) es os w n e (Answered reply) r a b);
       requests = all.kept.same;
     }

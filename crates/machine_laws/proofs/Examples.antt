@@ -11,7 +11,7 @@ use Rattle.machine_model.specs.declared.event.Event.TheVariants.{Call, Go}
 use Rattle.machine_model.specs.declared.event.Outcome.{Outcome}
 use Rattle.machine_model.specs.declared.event.Outcome.TheVariants.{Stepped, Idle, Answered}
 use Rattle.machine_model.specs.declared.log.Entry.TheVariants.{Answer}
-use Rattle.machine_model.specs.World.{World, Made, opening}
+use Rattle.machine_model.specs.World.{World, Made, new_world}
 use Rattle.machine_model.specs.Step.{Run}
 use Rattle.machine_laws.specs.Brackets.{IsBracketed, calls_of}
 use Rattle.machine_laws.proofs.Bracketed.{bracketed}
@@ -37,7 +37,7 @@ outcomes = Stepped ∷ Stepped ∷ Answered (Refused EINVAL) ∷ Idle ∷ []
 then : {P Q : World → Type 0} (m : World) → P m → Q m → (x : World) × P x × Q x
 then m s r = (m, s, r)
 
-ran : (w : World) × Run (opening made slots) events outcomes w × (w.log ≡ Answer 2 1 0 (Refused EINVAL) ∷ [])
+ran : (w : World) × Run (new_world made slots) events outcomes w × (w.calls.log ≡ Answer 2 1 0 (Refused EINVAL) ∷ [])
 ran = (_, then _ (refl, refl) (then _ (refl, refl) (then _ (refl, refl) (then _ (refl, refl) refl))), refl)
 
 has_brackets : IsBracketed events outcomes ran.0
@@ -49,13 +49,13 @@ began = refl
 -- ---- what the brackets rule out
 
 -- a log that repeats a call
-repeated : (es : List Event) (os : List Outcome) (w : World) (reply : Reply) → w.log ≡ Answer 2 1 0 reply ∷ Answer 3 1 0 reply ∷ [] → ¬ IsBracketed es os w
+repeated : (es : List Event) (os : List Outcome) (w : World) (reply : Reply) → w.calls.log ≡ Answer 2 1 0 reply ∷ Answer 3 1 0 reply ∷ [] → ¬ IsBracketed es os w
 repeated es os w reply e b = let same : 0 ≡ 1 = b.once 0 1 2 3 1 0 0 reply reply (ap (λ l. slice_get l 0) e) (ap (λ l. slice_get l 1) e) in absurd (omega (arith, same))
 
 -- a log in which a reply stands after the third event, which hands it out
-late : (w : World) (reply : Reply) → w.log ≡ Answer 4 1 0 reply ∷ [] → ¬ IsBracketed (Call 0 empty ∷ Go 0 ∷ Go 0 ∷ []) (Stepped ∷ Stepped ∷ Answered reply ∷ []) w
+late : (w : World) (reply : Reply) → w.calls.log ≡ Answer 4 1 0 reply ∷ [] → ¬ IsBracketed (Call 0 empty ∷ Go 0 ∷ Go 0 ∷ []) (Stepped ∷ Stepped ∷ Answered reply ∷ []) w
 late w reply e b =
-    let said = b.answered 2 (Go 0) reply refl refl in
+    let said = b.answered 2 0 (Go 0) reply refl refl refl in
     go said.2.0 said.2.1 said.0 (sym (ap (λ l. slice_get l said.2.0) e) ∙ said.2.2) said.2.3
   where
     go : (place step call : ℕ) → slice_get (Answer 4 1 0 reply ∷ []) place ≡ Some (Answer step call 0 reply) → step < 3 → ⊥

@@ -1,113 +1,475 @@
--- Each step from an orderly state leaves an orderly one.
-use Rattle.std.proofs.Common.{◌≡◌, ℕ, ◌≤◌, ◌<◌, ◌+◌, Bool, true, false, cond, refl, sym, ap, subst, arith, [], ◌∷◌, ◌++◌, length, length-append}
-use Rattle.std.specs.Prelude.{nat_lt}
+-- Every step from an orderly state leaves an orderly one.
+use Rattle.std.proofs.Common.{◌≡◌, ◌≢◌, ℕ, suc, ◌≤◌, ◌<◌, ◌+◌, Bool, true, false, refl, sym, ap, subst, arith, Some, None, Option, List, [], ◌∷◌, ◌++◌, ◌∙◌, length, length-append, ⊎_elim, ◌==◌}
+use Rattle.std.specs.Prelude.{nat_le}
+use Rattle.std.proofs.lemmas.Bool.{cases_lt}
 use Rattle.std.proofs.lemmas.Bool.Decides.{nat_tests}
+use Rattle.vm_base.specs.declared.info.PageInfo.{PageInfo}
+use Rattle.vm_base.specs.declared.page.PageRange.{PageRange}
+use Rattle.vm_base.specs.declared.replies.Reply.{Reply}
 use Rattle.vm_base.specs.declared.requests.Request.{Request}
-use Rattle.vm_base.specs.Functions.{put}
-use Rattle.vm_base.proofs.Functions.{put_all}
+use Rattle.vm_base.specs.declared.rights.Access.{Access}
+use Rattle.vm_base.specs.Functions.{put, has}
+use Rattle.vm_base.specs.Info.{info_with_frame}
+use Rattle.vm_base.specs.Pages.{IsPageRange}
+use Rattle.vm_base.specs.Plain.{mode_of, zeros}
+use Rattle.vm_base.proofs.Functions.{by_test, put_all, put_both, put_same, put_other, has_in, eq_false}
+use Rattle.slot_lock.specs.declared.plan.Change.{Change}
+use Rattle.slot_lock.specs.declared.plan.Plan.TheVariants as PlanOf
+use Rattle.slot_lock.specs.declared.plan.Touch.{Touch}
+use Rattle.slot_lock.specs.Plan.{range_of, IsSoundTouch}
+use Rattle.slot_lock.specs.Slots.{Slots, Locks, Unlocks, between, with_info, with_owner}
+use Rattle.vm_calls.specs.declared.decision.Decision.TheVariants.{Act}
+use Rattle.vm_calls.specs.Decisions.{Decides}
 use Rattle.machine_model.specs.declared.event.Event.{Event}
-use Rattle.machine_model.specs.declared.event.Event.TheVariants.{Call, Go}
 use Rattle.machine_model.specs.declared.event.Outcome.{Outcome}
+use Rattle.machine_model.specs.declared.phase.Goal.{Goal}
+use Rattle.machine_model.specs.declared.phase.Goal.TheVariants as To
 use Rattle.machine_model.specs.declared.phase.Phase.{Phase}
-use Rattle.machine_model.specs.declared.phase.Phase.TheVariants.{Free, Check, Lock, Decide, Post, Acks, Unlock, Answer, Try, LockPage, Settle, Want, Fill, Install, Release}
-use Rattle.machine_model.specs.Events.{core_of}
-use Rattle.machine_model.specs.World.{World}
-use Rattle.machine_model.specs.Step.{called, Calls, Goes, Acts, counted, event_limit, Step}
-use Rattle.machine_laws.specs.Orderly.{IsOrderly}
+use Rattle.machine_model.specs.declared.phase.Phase.TheVariants.{Free, Check, Lock, Decide, Post, Acks, Unlock, Answer, Try, Settle, Want, Fill, Install, Release}
+use Rattle.machine_model.specs.Accesses.{taken, filled, installed, accessed, memory_after, reply_of, info_with_core}
+use Rattle.machine_model.specs.Actions.{to, replies, let_go, answer_entry}
+use Rattle.machine_model.specs.Changes.{changed, committed, reply_to}
+use Rattle.machine_model.specs.Holding.{goal_range, page_of_touch, range_held, holds, some_has, taken_in, is_open}
+use Rattle.machine_model.specs.Locks.{locking, locked_to, all_locked, held_after}
+use Rattle.machine_model.specs.World.{World, Made, Memory}
+use Rattle.machine_model.specs.Step.{called, counted, Step}
+use Rattle.machine_laws.specs.Orderly.{IsOrderly, IsAsked, IsCutFor, IsReady, IsUsable, BelongsTo}
+use Rattle.machine_laws.proofs.Asked.{asked_more}
+use Rattle.machine_laws.proofs.Changed.{changed_owner, changed_edge, same_outside}
+use Rattle.machine_laws.proofs.Deciding.{change_sound, touch_sound, sound_range, acts_own}
+use Rattle.machine_laws.proofs.Moves.{IsCallOf, call_at, Touches, untouched, page_is, goes_on, tells, same_pages, none_taken, asked_gone, held_gone, IsHeldRange, ready_gone}
+use Rattle.machine_laws.proofs.Numbered.{at_new}
 use Rattle.machine_laws.proofs.OpenCalls.{one, open_put}
-use Rattle.machine_laws.proofs.Moves.{IsCallIn, call_at, steps}
-use Rattle.machine_laws.proofs.Locking.{change_locks, page_locks}
-use Rattle.machine_laws.proofs.Unlocking.{held_unlocks, page_released}
-use Rattle.machine_laws.proofs.Changing.{request_checked, change_decided, change_posted, change_committed}
-use Rattle.machine_laws.proofs.Accessing.{access_tried, access_settled, frame_wanted, page_filled, core_installed}
+use Rattle.machine_laws.proofs.Owned.{changed_belongs, framed_belongs, recorded_belongs}
+use Rattle.machine_laws.proofs.Shapes.{Moves, locks, tries, acts, tells as told, faults, finds, lacks, Replies, refuses, no_place, declines, fails, no_frame, LetsGo, unlocks, releases, GoesBy, moves, divides, owns, lets_go, answers, commits, takes, fills, installs, accesses, Shape, rests, begins, ends, goes, Comes, stopped, acts as counts, comes}
+use Rattle.machine_laws.proofs.Slots.{touches_owner, touches_info, gains, loses, divided}
+
+-- ---- the call goes on, and nothing else changes
+
+steps : (w : World) (c : ℕ) (old new : Phase) → w.calls.phase c ≡ old → IsOrderly w → c < w.made.cores → is_open new ≡ is_open old → range_held new ≡ range_held old
+    → IsAsked w.made w.calls.requests c (w.calls.number c) new → IsReady w.made w.slots new → ((f : ℕ) → taken_in new ≡ Some f → f < w.made.frames) → IsOrderly (to c new w)
+steps w c old new e g lt opened same asked ready taken =
+    goes_on w c new w.slots w.memory g lt (opened ∙ sym (ap is_open e)) (untouched w.slots c)
+    (same_pages w c old new (call_at w c old e g) same asked ready taken) g.pages g.free
+
+-- of a range that is to be locked nothing is held at first
+none_yet : (a p : ℕ) → has (between a a) p ≡ true → ⊥
+none_yet a p h = grind (arith, nat_tests)
+
+starts : (w : World) (c : ℕ) (old : Phase) (goal : Goal) → w.calls.phase c ≡ old → IsOrderly w → c < w.made.cores → is_open old ≡ true → range_held old ≡ None
+    → IsAsked w.made w.calls.requests c (w.calls.number c) (locking goal) → IsPageRange (goal_range goal) → IsOrderly (to c (locking goal) w)
+starts w c old goal e g lt opened none asked range =
+    goes_on w c (locking goal) w.slots w.memory g lt (sym (ap is_open e ∙ opened)) (untouched w.slots c)
+    (record {
+      asked = asked;
+      owned = λ p h. absurd (none_yet (goal_range goal).first p h);
+      only = λ p h. absurd (let i : holds old p ≡ true = k.only p h in let j : holds old p ≡ false = ap (λ r. some_has r p) none in cc (i, j));
+      cut = λ some. absurd (omega (arith, some));
+      ready = (omega arith, range.some);
+      taken = λ f h. absurd cc;
+    })
+    g.pages g.free
+  where
+    k : IsCallOf w c old
+    k = call_at w c old e g
+
+-- ---- pages and touches
+
+page_range : (touch : Touch) → IsSoundTouch touch → IsPageRange (page_of_touch touch)
+page_range touch h = let a = h.page.0 in let b = h.page.1 in record { some = omega arith; low = a; high = omega (arith, b) }
+
+moves_kept : (w : World) (c : ℕ) (new : Phase) → IsOrderly w → c < w.made.cores → Moves w c new → IsOrderly (to c new w)
+moves_kept w c new g lt (locks request change e n passed) =
+    subst (λ x. IsOrderly (to c x w)) (sym n)
+    (starts w c (Check request) (To.Change change) e g lt refl refl
+    (record { request = request; number = (call_at w c (Check request) e g).asked; passed = passed })
+    (sound_range change (change_sound (λ k. mode_of (w.made.file k)) c request change passed)))
+moves_kept w c new g lt (tries request touch e n passed) =
+    subst (λ x. IsOrderly (to c x w)) (sym n)
+    (steps w c (Check request) (Try touch) e g lt refl refl
+    (record { request = request; number = (call_at w c (Check request) e g).asked; passed = passed }) tt (λ f h. absurd cc))
+moves_kept w c new g lt (acts change range shoot e n d) =
+    subst (λ x. IsOrderly (to c x w)) (sym n)
+    (steps w c (Decide change) (Post change shoot) e g lt refl refl (call_at w c (Decide change) e g).asked
+    (subst (λ r. Decides w.made.file w.slots (PlanOf.Change change) (Act r shoot)) (acts_own w.made.file w.slots change range shoot d) d) (λ f h. absurd cc))
+moves_kept w c new g lt (told change shoot e n) =
+    let k : IsCallOf w c (Post change shoot) = call_at w c (Post change shoot) e g in
+    subst (λ x. IsOrderly (to c x w)) (sym n)
+    (steps w c (Post change shoot) (Acks change (range_of change)) e g lt refl refl k.asked (refl, (shoot, k.ready)) (λ f h. absurd cc))
+moves_kept w c new g lt (faults touch e n h) =
+    let k : IsCallOf w c (Try touch) = call_at w c (Try touch) e g in
+    subst (λ x. IsOrderly (to c x w)) (sym n)
+    (starts w c (Try touch) (To.Access touch) e g lt refl refl k.asked (page_range touch (touch_sound (λ k. mode_of (w.made.file k)) c k.asked.request touch k.asked.passed)))
+moves_kept w c new g lt (finds touch f e n u) =
+    subst (λ x. IsOrderly (to c x w)) (sym n)
+    (steps w c (Settle touch) (Install touch) e g lt refl refl (call_at w c (Settle touch) e g).asked (f, u) (λ f h. absurd cc))
+moves_kept w c new g lt (lacks touch e n u) =
+    subst (λ x. IsOrderly (to c x w)) (sym n)
+    (steps w c (Settle touch) (Want touch) e g lt refl refl (call_at w c (Settle touch) e g).asked u (λ f h. absurd cc))
+
+-- ---- the call has its reply, and nothing else changes
+
+-- the call was opened, and holds this, which are valid pages
+record Ends (phase : Phase) (held : Option PageRange) : Type 0 where
+  opened : is_open phase ≡ true
+  same : held ≡ range_held phase
+  valid : IsHeldRange held
+
+ends_by : (phase old : Phase) (held : Option PageRange) → phase ≡ old → Ends old held → Ends phase held
+ends_by phase old held e h = subst (λ x. Ends x held) (sym e) h
+
+reply_ends : (w : World) (c : ℕ) (held : Option PageRange) (reply : Reply) → IsOrderly w → Replies w c held reply → Ends (w.calls.phase c) held
+reply_ends w c held reply g (refuses request e h k) =
+    ends_by _ (Check request) held e (subst (Ends (Check request)) (sym h) (record { opened = refl; same = refl; valid = tt }))
+reply_ends w c held reply g (no_place request place e h r k) =
+    ends_by _ (Check request) held e (subst (Ends (Check request)) (sym h) (record { opened = refl; same = refl; valid = tt }))
+reply_ends w c held reply g (declines change errno e h r d) =
+    let k : IsCallOf w c (Decide change) = call_at w c (Decide change) e g in
+    ends_by _ (Decide change) held e (subst (Ends (Decide change)) (sym h)
+    (record { opened = refl; same = refl; valid = sound_range change (change_sound (λ k. mode_of (w.made.file k)) c k.asked.request change k.asked.passed) }))
+reply_ends w c held reply g (fails touch e h f) =
+    let k : IsCallOf w c (Settle touch) = call_at w c (Settle touch) e g in
+    ends_by _ (Settle touch) held e (subst (Ends (Settle touch)) (sym h)
+    (record { opened = refl; same = refl; valid = page_range touch (touch_sound (λ k. mode_of (w.made.file k)) c k.asked.request touch k.asked.passed) }))
+reply_ends w c held reply g (no_frame touch e h r f) =
+    let k : IsCallOf w c (Want touch) = call_at w c (Want touch) e g in
+    ends_by _ (Want touch) held e (subst (Ends (Want touch)) (sym h)
+    (record { opened = refl; same = refl; valid = page_range touch (touch_sound (λ k. mode_of (w.made.file k)) c k.asked.request touch k.asked.passed) }))
+
+-- over these slots, which it owns as before, and this memory
+replied : (w : World) (c : ℕ) (held : Option PageRange) (reply : Reply) (t : Slots) (m : Memory) → IsOrderly w → c < w.made.cores → Ends (w.calls.phase c) held
+    → Touches w.slots t c → t.owner ≡ w.slots.owner → t.edge ≡ w.slots.edge → ((p : ℕ) → BelongsTo w.made p (t.info p)) → ((f : ℕ) → m.is_free f ≡ true → f < w.made.frames)
+    → IsOrderly (replies c held reply (record w { slots = t; memory = m }))
+replied w c held reply t m g lt end touches owner edge pages free =
+    tells w c held reply t m (answer_entry w c reply) g lt end.opened touches
+    (record {
+      asked = asked_gone w.made w.calls.requests c (w.calls.number c) held reply;
+      owned = λ p h. ap (λ f. f p) owner ∙ k.owned p (sym (ap (λ r. some_has r p) same) ∙ h);
+      only = λ p h. ap (λ r. some_has r p) same ∙ k.only p (sym (ap (λ f. f p) owner) ∙ h);
+      cut = subst (λ e. IsCutFor e (range_held (let_go held reply))) (sym edge) (subst (IsCutFor w.slots.edge) (sym same) k.cut);
+      ready = ready_gone w.made t held reply end.valid;
+      taken = λ f h. absurd (none_taken held reply f h);
+    })
+    pages free
+  where
+    k : IsCallOf w c (w.calls.phase c)
+    k = call_at w c (w.calls.phase c) refl g
+
+    same : range_held (let_go held reply) ≡ range_held (w.calls.phase c)
+    same = held_gone held reply ∙ end.same
+
+-- ---- Acks
+
+-- only pages of the change are mapped otherwise
+changed_touches : (s : Slots) (c : ℕ) (change : Change) → ((p : ℕ) → has (range_of change) p ≡ true → s.owner p ≡ Some c) → Touches s (changed change s) c
+changed_touches s c change mine = record {
+  info = λ p ne. out p ne (has (range_of change) p) refl;
+  now = λ d p ne h. sym (ap (λ f. f p) (changed_owner s change)) ∙ h;
+  still = λ d p ne h. ap (λ f. f p) (changed_owner s change) ∙ h;
+  edge = λ p h. ap (λ f. f p) (changed_edge s change) ∙ h;
+}
+  where
+    out : (p : ℕ) → s.owner p ≢ Some c → (b : Bool) → has (range_of change) p ≡ b → (changed change s).info p ≡ s.info p
+    out p ne true i = absurd (ne (mine p i))
+    out p ne false i = same_outside s change p i
+
+commits_kept : (w : World) (c : ℕ) (change : Change) (held : PageRange) → IsOrderly w → c < w.made.cores → w.calls.phase c ≡ Acks change held → IsOrderly (committed c change held w)
+commits_kept w c change held g lt e =
+    replied w c (Some held) (reply_to change) (changed change w.slots) w.memory g lt
+    (ends_by _ (Acks change held) (Some held) e (record { opened = refl; same = refl; valid = subst IsPageRange (sym k.ready.0) range }))
+    (changed_touches w.slots c change (λ p i. k.owned p (subst (λ r. has r p ≡ true) (sym k.ready.0) i)))
+    (changed_owner w.slots change) (changed_edge w.slots change) (changed_belongs w.made w.slots change range g.pages) g.free
+  where
+    k : IsCallOf w c (Acks change held)
+    k = call_at w c (Acks change held) e g
+
+    range : IsPageRange (range_of change)
+    range = sound_range change (change_sound (λ k. mode_of (w.made.file k)) c k.asked.request change k.asked.passed)
+
+-- ---- a slot is locked
+
+past : (end b : ℕ) → nat_le end b ≡ true → b ≤ end → b ≡ end
+past end b h n = grind (arith, nat_tests)
+
+not_past : (end b : ℕ) → nat_le end b ≡ false → b < end
+not_past end b h = grind (arith, nat_tests)
+
+between_more : (a cursor b p : ℕ) → cursor < b → has (between a cursor) p ≡ true → has (between a b) p ≡ true
+between_more a cursor b p l h = grind (arith, nat_tests)
+
+between_new : (a cursor b p : ℕ) → a ≤ cursor → has (between cursor b) p ≡ true → has (between a b) p ≡ true
+between_new a cursor b p l h = grind (arith, nat_tests)
+
+between_back : (a cursor b p : ℕ) → has (between cursor b) p ≡ false → has (between a b) p ≡ true → has (between a cursor) p ≡ true
+between_back a cursor b p i h = grind (arith, nat_tests)
+
+whole : (r : PageRange) (b : ℕ) → b ≡ r.end → between r.first b ≡ r
+whole r b e = rw e refl
+
+-- the phase after a goal's last slot was locked
+locked_range : (goal : Goal) → range_held (all_locked goal) ≡ Some (goal_range goal)
+locked_range (To.Change change) = refl
+locked_range (To.Access touch) = refl
+
+locked_open : (goal : Goal) → is_open (all_locked goal) ≡ true
+locked_open (To.Change change) = refl
+locked_open (To.Access touch) = refl
+
+locked_asked : (w : World) (c : ℕ) (goal : Goal) (cursor : ℕ) → IsAsked w.made w.calls.requests c (w.calls.number c) (Lock goal cursor)
+    → IsAsked w.made w.calls.requests c (w.calls.number c) (all_locked goal)
+locked_asked w c (To.Change change) cursor h = h
+locked_asked w c (To.Access touch) cursor h = h
+
+locked_ready : (w : World) (goal : Goal) → IsReady w.made w.slots (all_locked goal)
+locked_ready w (To.Change change) = tt
+locked_ready w (To.Access touch) = tt
+
+locked_taken : (goal : Goal) (f : ℕ) → taken_in (all_locked goal) ≡ Some f → ⊥
+locked_taken (To.Change change) f h = cc
+locked_taken (To.Access touch) f h = cc
+
+-- the slot from the cursor up to b is core c's, which holds the pages up to b in the new phase
+owned_to : (w : World) (c : ℕ) (goal : Goal) (cursor b : ℕ) (t : Slots) (new : Phase) → w.calls.phase c ≡ Lock goal cursor → IsOrderly w → c < w.made.cores
+    → Locks w.slots t c cursor (goal_range goal).end b → is_open new ≡ true → range_held new ≡ Some (between (goal_range goal).first b)
+    → IsAsked w.made w.calls.requests c (w.calls.number c) new → IsReady w.made w.slots new → ((f : ℕ) → taken_in new ≡ Some f → ⊥)
+    → IsOrderly (to c new (record w { slots = t }))
+owned_to w c goal cursor b t new e g lt l opened held asked ready none =
+    subst (λ s. IsOrderly (to c new (record w { slots = s }))) (sym l.now)
+    (goes_on w c new (with_owner w.slots cursor b (Some c)) w.memory g lt (opened ∙ sym (ap is_open e))
+    (touches_owner w.slots c (has (between cursor b)) (Some c)
+    (λ d p ne i h. let z = has_in (between cursor b) p i in let f = l.was_free p z.0 z.1 in absurd cc)
+    (λ d ne h. ne (cc)))
+    (gains w c (Lock goal cursor) new (has (between cursor b)) k asked
+    (λ p h. now p (between_new first cursor b p k.ready.0 h))
+    (λ p h. now p (between_more first cursor b p l.slot.ordered h))
+    (λ p i h. between_back first cursor b p i (sym (ap (λ r. some_has r p) held) ∙ h))
+    (subst (IsCutFor w.slots.edge) (sym held) (λ some. (begun l.slot.begins, l.slot.ends))) ready (λ f h. absurd (none f h)))
+    g.pages g.free)
+  where
+    first : ℕ
+    first = (goal_range goal).first
+
+    k : IsCallOf w c (Lock goal cursor)
+    k = call_at w c (Lock goal cursor) e g
+
+    now : (p : ℕ) → has (between first b) p ≡ true → holds new p ≡ true
+    now p h = ap (λ r. some_has r p) held ∙ h
+
+    begun : w.slots.edge cursor ≡ true → w.slots.edge first ≡ true
+    begun h = ⊎_elim (λ (l : first < cursor). (k.cut l).0)
+        (λ (l : cursor ≤ first). let m : first ≤ cursor = k.ready.0 in let n : cursor ≡ first = omega (arith, l, m) in subst (λ p. w.slots.edge p ≡ true) n h)
+        (cases_lt first cursor)
+
+owns_kept : (w : World) (c : ℕ) (goal : Goal) (cursor b : ℕ) (t : Slots) → IsOrderly w → c < w.made.cores → w.calls.phase c ≡ Lock goal cursor
+    → Locks w.slots t c cursor (goal_range goal).end b → IsOrderly (to c (locked_to goal b) (record w { slots = t }))
+owns_kept w c goal cursor b t g lt e l =
+    by_test (λ phase. IsOrderly (to c phase (record w { slots = t }))) (nat_le (goal_range goal).end b) (all_locked goal) (Lock goal b)
+    (λ i. owned_to w c goal cursor b t (all_locked goal) e g lt l (locked_open goal)
+    (locked_range goal ∙ ap Some (sym (whole (goal_range goal) b (past (goal_range goal).end b i l.by_end))))
+    (locked_asked w c goal cursor k.asked) (locked_ready w goal) (locked_taken goal))
+    (λ i. owned_to w c goal cursor b t (Lock goal b) e g lt l refl refl k.asked
+    (let x : (goal_range goal).first ≤ cursor = k.ready.0 in let y : cursor < b = l.slot.ordered in omega (arith, x, y), not_past (goal_range goal).end b i) (λ f h. cc))
+  where
+    k : IsCallOf w c (Lock goal cursor)
+    k = call_at w c (Lock goal cursor) e g
+
+-- ---- a slot is let go
+
+-- what is left of the pages held
+record Remains (made : Made) (s : Slots) (held : PageRange) (b : ℕ) (new : Phase) : Type 0 where
+  gone : (p : ℕ) → has (between held.first b) p ≡ true → holds new p ≡ true → ⊥
+  less : (p : ℕ) → holds new p ≡ true → has held p ≡ true
+  rest : (p : ℕ) → has (between held.first b) p ≡ false → has held p ≡ true → holds new p ≡ true
+  cut : IsCutFor s.edge (range_held new)
+  ready : IsReady made s new
+
+remains : (made : Made) (s : Slots) (held : PageRange) (b : ℕ) (reply : Reply) → IsPageRange held → s.edge b ≡ true → s.edge held.end ≡ true → held.first < b → b ≤ held.end
+    → Remains made s held b (let_go (held_after held b) reply)
+remains made s held b reply range eb ee lt by =
+    by_test (λ o. Remains made s held b (let_go o reply)) (b == held.end) None (Some (between b held.end))
+    (λ i. record {
+      gone = λ p x y. cc;
+      less = λ p x. absurd cc;
+      rest = λ p x y. grind (arith, nat_tests);
+      cut = tt;
+      ready = tt;
+    })
+    (λ i. record {
+      gone = λ p x y. grind (arith, nat_tests);
+      less = λ p x. grind (arith, nat_tests);
+      rest = λ p x y. grind (arith, nat_tests);
+      cut = λ some. (eb, ee);
+      ready = record { some = let z = eq_false b held.end i in omega arith; low = let z = range.low in omega arith; high = range.high };
+    })
+
+shut : (held : Option PageRange) (reply : Reply) → is_open (let_go held reply) ≡ false
+shut None reply = refl
+shut (Some held) reply = refl
+
+-- over slots in which nobody owns the pages up to b
+let_go_to : (w : World) (c : ℕ) (old new : Phase) (held : PageRange) (b : ℕ) (t : Slots) → w.calls.phase c ≡ old → IsOrderly w → c < w.made.cores → range_held old ≡ Some held
+    → is_open new ≡ is_open old → Unlocks w.slots t c held.first held.end b → Remains w.made w.slots held b new → IsAsked w.made w.calls.requests c (w.calls.number c) new
+    → ((f : ℕ) → taken_in new ≡ Some f → ⊥) → IsOrderly (to c new (record w { slots = t }))
+let_go_to w c old new held b t e g lt was opened u m asked none =
+    subst (λ s. IsOrderly (to c new (record w { slots = s }))) (sym u.now)
+    (goes_on w c new (with_owner w.slots held.first b None) w.memory g lt (opened ∙ sym (ap is_open e))
+    (touches_owner w.slots c (has (between held.first b)) None
+    (λ d p ne i x. let z = has_in (between held.first b) p i in let y = u.was_held p z.0 z.1 in ne (cc))
+    (λ d ne x. cc))
+    (loses w c old new (has (between held.first b)) (call_at w c old e g) asked m.gone (λ p x. ap (λ r. some_has r p) was ∙ m.less p x)
+    (λ p i x. m.rest p i (sym (ap (λ r. some_has r p) was) ∙ x)) m.cut m.ready (λ f x. absurd (none f x)))
+    g.pages g.free)
+
+one_page : (touch : Touch) (b : ℕ) → touch.page < b → b ≤ touch.page + 1 → b ≡ touch.page + 1
+one_page touch b l m = omega (arith, l, m)
+
+lets_go_kept : (w : World) (c : ℕ) (held : PageRange) (b : ℕ) (t : Slots) (new : Phase) → IsOrderly w → c < w.made.cores → LetsGo (w.calls.phase c) held b new
+    → Unlocks w.slots t c held.first held.end b → IsOrderly (to c new (record w { slots = t }))
+lets_go_kept w c held b t new g lt (unlocks reply e n) u =
+    subst (λ x. IsOrderly (to c x (record w { slots = t }))) (sym n)
+    (let_go_to w c (Unlock held reply) (let_go (held_after held b) reply) held b t e g lt refl (shut (held_after held b) reply) u
+    (remains w.made w.slots held b reply k.ready u.slot.ends (k.cut k.ready.some).1 u.slot.ordered u.by_end)
+    (asked_gone w.made w.calls.requests c (w.calls.number c) (held_after held b) reply) (none_taken (held_after held b) reply))
+  where
+    k : IsCallOf w c (Unlock held reply)
+    k = call_at w c (Unlock held reply) e g
+lets_go_kept w c held b t new g lt (releases touch e h n) u =
+    subst (λ x. IsOrderly (to c x (record w { slots = t }))) (sym n)
+    (let_go_to w c (Release touch) (Try touch) held b t e g lt (ap Some (sym h)) refl u
+    (record {
+      gone = λ p x y. cc;
+      less = λ p x. absurd cc;
+      rest = λ p x y. absurd (all p x y);
+      cut = tt;
+      ready = tt;
+    })
+    (call_at w c (Release touch) e g).asked (λ f x. cc))
+  where
+    all : (p : ℕ) → has (between held.first b) p ≡ false → has held p ≡ true → ⊥
+    all p x y = let first : held.first ≡ touch.page = ap (λ r. r.first) h in let end : held.end ≡ touch.page + 1 = ap (λ r. r.end) h in
+        let l = u.slot.ordered in let m = u.by_end in
+        let same : b ≡ held.end = omega (arith, first, end, l, m) in outside held b p same x y
+      where
+        outside : (r : PageRange) (b p : ℕ) → b ≡ r.end → has (between r.first b) p ≡ false → has r p ≡ true → ⊥
+        outside r b p e x y = grind (arith, nat_tests)
+
+-- ---- frames
+
+takes_kept : (w : World) (c : ℕ) (touch : Touch) (f : ℕ) → IsOrderly w → c < w.made.cores → w.calls.phase c ≡ Want touch → w.memory.is_free f ≡ true → IsOrderly (taken c touch f w)
+takes_kept w c touch f g lt e free =
+    goes_on w c (Fill touch f) w.slots (record w.memory { is_free = put w.memory.is_free f false }) g lt (sym (ap is_open e)) (untouched w.slots c)
+    (same_pages w c (Want touch) (Fill touch f) k refl k.asked k.ready (λ x h. let same : f ≡ x = cc in subst (λ n. n < w.made.frames) same (g.free f free)))
+    g.pages (put_all (λ x b. b ≡ true → x < w.made.frames) w.memory.is_free f false (λ h. absurd cc) (λ x ne. g.free x))
+  where
+    k : IsCallOf w c (Want touch)
+    k = call_at w c (Want touch) e g
+
+-- the page of an access, which core c holds, has this now
+sets_page : (w : World) (c : ℕ) (touch : Touch) (old new : Phase) (info : Option PageInfo) (m : Memory) → w.calls.phase c ≡ old → IsOrderly w → c < w.made.cores → range_held old ≡ Some (page_of_touch touch)
+    → range_held new ≡ range_held old → is_open new ≡ is_open old → IsAsked w.made w.calls.requests c (w.calls.number c) new → IsReady w.made (with_info w.slots touch.page info) new
+    → ((f : ℕ) → taken_in new ≡ Some f → ⊥) → BelongsTo w.made touch.page info → ((f : ℕ) → m.is_free f ≡ true → f < w.made.frames)
+    → IsOrderly (to c new (record w { slots = with_info w.slots touch.page info; memory = m }))
+sets_page w c touch old new info m e g lt was same opened asked ready none belongs free =
+    goes_on w c new (with_info w.slots touch.page info) m g lt (opened ∙ sym (ap is_open e))
+    (touches_info w.slots c (put w.slots.info touch.page info) (λ p ne. put_other w.slots.info touch.page info p (λ at. ne (ap w.slots.owner at ∙ mine))))
+    (record {
+      asked = asked;
+      owned = λ p h. k.owned p (sym (ap (λ r. some_has r p) same) ∙ h);
+      only = λ p h. ap (λ r. some_has r p) same ∙ k.only p h;
+      cut = subst (IsCutFor w.slots.edge) (sym same) k.cut;
+      ready = ready;
+      taken = λ f h. absurd (none f h);
+    })
+    (put_all (BelongsTo w.made) w.slots.info touch.page info belongs (λ p ne. g.pages p)) free
+  where
+    k : IsCallOf w c old
+    k = call_at w c old e g
+
+    mine : w.slots.owner touch.page ≡ Some c
+    mine = k.owned touch.page (ap (λ r. some_has r touch.page) was ∙ page_is touch)
+
+framed_usable : (made : Made) (f : ℕ) (o : Option PageInfo) (access : Access) → IsUsable made.file o access None → IsUsable made.file (info_with_frame f o) access (Some f)
+framed_usable made f None access u = absurd u
+framed_usable made f (Some info) access u = (u.0, u.1, refl)
+
+fills_kept : (w : World) (c : ℕ) (touch : Touch) (f : ℕ) → IsOrderly w → c < w.made.cores → w.calls.phase c ≡ Fill touch f → IsOrderly (filled c touch f w)
+fills_kept w c touch f g lt e =
+    let new : Option PageInfo = info_with_frame f (w.slots.info touch.page) in
+    sets_page w c touch (Fill touch f) (Install touch) new (record w.memory { bytes = put w.memory.bytes f zeros }) e g lt refl refl refl k.asked
+    (f, subst (λ o. IsUsable w.made.file o touch.access (Some f)) (sym (put_same w.slots.info touch.page new)) (framed_usable w.made f (w.slots.info touch.page) touch.access k.ready))
+    (λ x h. cc) (framed_belongs w.made touch.page f (w.slots.info touch.page) (k.taken f refl) (g.pages touch.page)) g.free
+  where
+    k : IsCallOf w c (Fill touch f)
+    k = call_at w c (Fill touch f) e g
+
+installs_kept : (w : World) (c : ℕ) (touch : Touch) → IsOrderly w → c < w.made.cores → w.calls.phase c ≡ Install touch → IsOrderly (installed c touch w)
+installs_kept w c touch g lt e =
+    sets_page w c touch (Install touch) (Release touch) (info_with_core c (w.slots.info touch.page)) w.memory e g lt refl refl refl (call_at w c (Install touch) e g).asked tt
+    (λ x h. cc) (recorded_belongs w.made touch.page c (w.slots.info touch.page) lt (g.pages touch.page)) g.free
+
+-- ---- Try
+
+accesses_kept : (w : World) (c : ℕ) (touch : Touch) (f : ℕ) → IsOrderly w → c < w.made.cores → w.calls.phase c ≡ Try touch → IsOrderly (accessed c touch f w)
+accesses_kept w c touch f g lt e =
+    replied w c None (reply_of touch f w.memory) w.slots (memory_after touch f w.memory) g lt (ends_by _ (Try touch) None e (record { opened = refl; same = refl; valid = tt }))
+    (untouched w.slots c) refl refl g.pages g.free
 
 -- ---- a call begins
 
-begun : (w : World) (c : ℕ) (request : Request) → w.phase c ≡ Free → IsOrderly w → c < w.made.cores → length w.requests < w.made.calls → IsOrderly (called c request w)
-begun w c request e g lt below = record {
-  owned = λ d. (calls d).owned;
-  only = λ d. (calls d).only;
-  cut = λ d. (calls d).cut;
-  ready = λ d. (calls d).ready;
-  frames = g.frames;
-  taken = λ d. (calls d).taken;
+begins_kept : (w : World) (c : ℕ) (request : Request) → IsOrderly w → c < w.made.cores → w.calls.phase c ≡ Free → length w.calls.requests < w.made.calls → IsOrderly (called c request w)
+begins_kept w c request g lt e below = record {
+  asked = put_both (λ d n x. IsAsked w.made more d n x) w.calls.number w.calls.phase c (suc (length w.calls.requests)) (Check request)
+      (at_new w.calls.requests request) (λ d ne. asked_more w.made w.calls.requests request d (w.calls.number d) (w.calls.phase d) (g.asked d));
+  owned = λ d p. put_all (λ d x. holds x p ≡ true → w.slots.owner p ≡ Some d) w.calls.phase c (Check request) (λ h. absurd cc) (λ d ne. g.owned d p) d;
+  only = λ d p. put_all (λ d x. w.slots.owner p ≡ Some d → holds x p ≡ true) w.calls.phase c (Check request) (k.only p) (λ d ne. g.only d p) d;
+  cut = put_all (λ d x. IsCutFor w.slots.edge (range_held x)) w.calls.phase c (Check request) tt (λ d ne. g.cut d);
+  ready = put_all (λ d x. IsReady w.made w.slots x) w.calls.phase c (Check request) tt (λ d ne. g.ready d);
+  pages = g.pages;
+  taken = λ d f. put_all (λ d x. taken_in x ≡ Some f → f < w.made.frames) w.calls.phase c (Check request) (λ h. absurd cc) (λ d ne. g.taken d f) d;
   free = g.free;
-  outside = put_all (λ d x. w.made.cores ≤ d → x ≡ Free) w.phase c (Check request) (λ h. absurd (omega (arith, h, lt))) (λ d ne. g.outside d);
+  outside = put_all (λ d x. w.made.cores ≤ d → x ≡ Free) w.calls.phase c (Check request) (λ h. absurd (omega (arith, h, lt))) (λ d ne. g.outside d);
   room =
-      let a = open_put w.phase c (Check request) w.made.cores lt in
-      let b : one (w.phase c) ≡ 0 = ap one e in
-      let d : length (w.requests ++ request ∷ []) ≡ length w.requests + 1 = length-append w.requests (request ∷ []) in
+      let a = open_put w.calls.phase c (Check request) w.made.cores lt in
+      let b : one (w.calls.phase c) ≡ 0 = ap one e in
       let f = g.room in
-      omega (arith, a, b, d, f);
-  limit = let d : length (w.requests ++ request ∷ []) ≡ length w.requests + 1 = length-append w.requests (request ∷ []) in omega (arith, d, below);
+      omega (arith, a, b, longer, f);
+  limit = omega (arith, longer, below);
 }
   where
-    mine : IsCallIn w w.slots c (Check request)
-    mine =
-        let k : IsCallIn w w.slots c Free = call_at w c Free e g in
-        record { owned = k.owned; only = k.only; cut = tt; ready = tt; taken = λ f h. absurd cc }
+    more : List Request
+    more = w.calls.requests ++ request ∷ []
 
-    calls : (d : ℕ) → IsCallIn w w.slots d (put w.phase c (Check request) d)
-    calls = put_all (λ d x. IsCallIn w w.slots d x) w.phase c (Check request) mine (λ d ne. call_at w d (w.phase d) refl g)
+    longer : length more ≡ length w.calls.requests + 1
+    longer = length-append w.calls.requests (request ∷ [])
 
--- ---- by cases of a test that chooses what is known
+    k : IsCallOf w c Free
+    k = call_at w c Free e g
 
-pick : {C : Type 0} (A B : Type 0) (b : Bool) → cond b A B → (b ≡ true → A → C) → (B → C) → C
-pick A B true h f g = f refl h
-pick A B false h f g = g h
+-- ---- every shape
 
-less : (a b : ℕ) → nat_lt a b ≡ true → a < b
-less a b h = grind (arith, nat_tests)
+goes_kept : (w : World) (c : ℕ) (v : World) → IsOrderly w → c < w.made.cores → GoesBy w c v → IsOrderly v
+goes_kept w c v g lt (moves new m h) = subst IsOrderly (sym h) (moves_kept w c new g lt m)
+goes_kept w c v g lt (divides goal cursor t e s h) = subst IsOrderly (sym h) (divided w t None s.divides.0 s.divides.2 g)
+goes_kept w c v g lt (owns goal cursor b t e l h) = subst IsOrderly (sym h) (owns_kept w c goal cursor b t g lt e l)
+goes_kept w c v g lt (lets_go held b t new l u h) = subst IsOrderly (sym h) (lets_go_kept w c held b t new g lt l u)
+goes_kept w c v g lt (answers held reply r h) =
+    subst IsOrderly (sym h) (replied w c held reply w.slots w.memory g lt (reply_ends w c held reply g r) (untouched w.slots c) refl refl g.pages g.free)
+goes_kept w c v g lt (commits change held e h) = subst IsOrderly (sym h) (commits_kept w c change held g lt e)
+goes_kept w c v g lt (takes touch f e l h) = subst IsOrderly (sym h) (takes_kept w c touch f g lt e l.free)
+goes_kept w c v g lt (fills touch f e h) = subst IsOrderly (sym h) (fills_kept w c touch f g lt e)
+goes_kept w c v g lt (installs touch e h) = subst IsOrderly (sym h) (installs_kept w c touch g lt e)
+goes_kept w c v g lt (accesses touch f e i h) = subst IsOrderly (sym h) (accesses_kept w c touch f g lt e)
 
--- ---- the rows
+shape_kept : (w : World) (e : Event) (o : Outcome) (v : World) → IsOrderly w → Shape w e o v → IsOrderly v
+shape_kept w e o v g (rests i h) = subst IsOrderly (sym h) g
+shape_kept w e o v g (begins c request i s lt p below h) = subst IsOrderly (sym h) (begins_kept w c request g lt p below)
+shape_kept w e o v g (ends c reply i s lt p h) = subst IsOrderly (sym h) (steps w c (Answer reply) Free p g lt refl refl tt tt (λ f x. absurd cc))
+shape_kept w e o v g (goes c i s lt k) = goes_kept w c v g lt k
 
-calls_kept : (w : World) (c : ℕ) (request : Request) (phase : Phase) (o : Outcome) (v : World) → w.phase c ≡ phase → IsOrderly w → c < w.made.cores → Calls w c request phase o v → IsOrderly v
-calls_kept w c request Free o v e g lt h =
-    pick _ _ (nat_lt (length w.requests) w.made.calls) h
-    (λ i k. subst IsOrderly (sym k.1) (begun w c request e g lt (less (length w.requests) w.made.calls i)))
-    (λ k. subst IsOrderly (sym k.1) g)
-calls_kept w c request _ o v e g lt h = subst IsOrderly (sym h.1) g
-
-goes_kept : (w : World) (c : ℕ) (phase : Phase) (o : Outcome) (v : World) → w.phase c ≡ phase → IsOrderly w → c < w.made.cores → Goes w c phase o v → IsOrderly v
-goes_kept w c Free o v e g lt h = subst IsOrderly (sym h.1) g
-goes_kept w c (Check request) o v e g lt h = subst IsOrderly (sym h.1) (request_checked w c request e g lt)
-goes_kept w c (Lock change cursor) o v e g lt h = change_locks w c change cursor o v e g lt h
-goes_kept w c (Decide change) o v e g lt h = change_decided w c change o v e g lt h
-goes_kept w c (Post change) o v e g lt h = subst IsOrderly (sym h.1) (change_posted w c change e g lt)
-goes_kept w c (Acks change held) o v e g lt h = subst IsOrderly (sym h.1) (change_committed w c change held e g lt)
-goes_kept w c (Unlock held reply) o v e g lt h = held_unlocks w c held reply o v e g lt h
-goes_kept w c (Answer reply) o v e g lt h = subst IsOrderly (sym h.1) (steps w c (Answer reply) Free e g lt refl (λ p. refl) tt tt (λ f x. absurd cc))
-goes_kept w c (Try touch) o v e g lt h = subst IsOrderly (sym h.1) (access_tried w c touch e g lt)
-goes_kept w c (LockPage touch) o v e g lt h = page_locks w c touch o v e g lt h
-goes_kept w c (Settle touch) o v e g lt h = subst IsOrderly (sym h.1) (access_settled w c touch e g lt)
-goes_kept w c (Want touch) o v e g lt h = frame_wanted w c touch o v e g lt h
-goes_kept w c (Fill touch frame) o v e g lt h = subst IsOrderly (sym h.1) (page_filled w c touch frame e g lt)
-goes_kept w c (Install touch) o v e g lt h = subst IsOrderly (sym h.1) (core_installed w c touch e g lt)
-goes_kept w c (Release touch) o v e g lt h = subst IsOrderly (sym h.1) (page_released w c touch e g lt)
-
-acts_kept : (w : World) (e : Event) (o : Outcome) (v : World) → IsOrderly w → core_of e < w.made.cores → Acts w e o v → IsOrderly v
-acts_kept w (Call c request) o v g lt h = calls_kept w c request (w.phase c) o v refl g lt h
-acts_kept w (Go c) o v g lt h = goes_kept w c (w.phase c) o v refl g lt h
-
--- events are not looked at
-counted_kept : (w : World) → IsOrderly w → IsOrderly (counted w)
-counted_kept w g = record {
-  owned = g.owned;
-  only = g.only;
-  cut = g.cut;
-  ready = g.ready;
-  frames = g.frames;
-  taken = g.taken;
-  free = g.free;
-  outside = g.outside;
-  room = g.room;
-  limit = g.limit;
-}
-
+-- the order doesn't look at the number of events
 pub kept : (w v : World) (e : Event) (o : Outcome) → IsOrderly w → Step w e o v → IsOrderly v
-kept w v e o g s =
-    pick _ _ (nat_lt w.events event_limit) s
-    (λ _ k. pick _ _ (nat_lt (core_of e) w.made.cores) k
-    (λ i h. acts_kept (counted w) e o v (counted_kept w g) (less (core_of e) w.made.cores i) h)
-    (λ h. subst IsOrderly (sym h.1) (counted_kept w g)))
-    (λ k. subst IsOrderly (sym k.1) g)
+kept w v e o g s = go (comes w e o v s)
+  where
+    go : Comes w e o v → IsOrderly v
+    go (stopped n i h) = subst IsOrderly (sym h) g
+    go (counts n h) = shape_kept (counted w) e o v g h

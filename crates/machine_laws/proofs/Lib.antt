@@ -1,14 +1,14 @@
-pub mod OpenCalls
-pub mod Moves
-pub mod Effects
 pub mod Numbered
+pub mod OpenCalls
+pub mod Deciding
+pub mod Shapes
+pub mod Moves
+pub mod Slots
+pub mod Changed
+pub mod Owned
+pub mod Asked
+pub mod Opening
+pub mod Kept
+pub mod Effects
 pub mod Bracketed
 mod Examples
-pub mod Slots
-pub mod Sound
-pub mod Locking
-pub mod Unlocking
-pub mod Changing
-pub mod Accessing
-pub mod Kept
-pub mod Opening

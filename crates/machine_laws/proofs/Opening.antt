@@ -1,19 +1,20 @@
 -- A machine over new slots begins orderly.
-use Rattle.std.proofs.Common.{◌≡◌, refl, ap, arith, None}
+use Rattle.std.proofs.Common.{refl, subst, sym, arith}
 use Rattle.std.proofs.lemmas.Bool.Decides.{nat_tests}
-use Rattle.vm_base.specs.Info.{frame_of}
 use Rattle.slot_lock.specs.Slots.{Slots, IsNew}
-use Rattle.machine_model.specs.World.{Made, opening}
-use Rattle.machine_laws.specs.Orderly.{IsOrderly}
+use Rattle.machine_model.specs.World.{Made, new_world}
+use Rattle.machine_laws.specs.Orderly.{IsOrderly, BelongsTo}
 use Rattle.machine_laws.proofs.OpenCalls.{open_none}
+use Rattle.machine_laws.proofs.Owned.{unmapped_belongs}
 
-pub opening_is_orderly : (made : Made) (slots : Slots) → IsNew slots → IsOrderly (opening made slots)
+pub opening_is_orderly : (made : Made) (slots : Slots) → IsNew slots → IsOrderly (new_world made slots)
 opening_is_orderly made slots new = record {
+  asked = λ c. tt;
   owned = λ c p h. absurd cc;
   only = λ c p h. absurd (let e = new.free p in cc);
   cut = λ c. tt;
   ready = λ c. tt;
-  frames = λ p f h. absurd (let e : frame_of (slots.info p) ≡ None = ap frame_of (new.unmapped p) in cc);
+  pages = λ p. subst (BelongsTo made p) (sym (new.unmapped p)) (unmapped_belongs made p);
   taken = λ c f h. absurd cc;
   free = λ f h. grind (arith, nat_tests);
   outside = λ c h. refl;

@@ -1,15 +1,14 @@
--- Owners, edges and mappings that a step of a call changes
+-- Owners and mappings that a step of a call changes, and what pages have
 use Rattle.std.proofs.Common.{◌≡◌, ◌≢◌, ℕ, ◌<◌, Bool, true, false, refl, sym, ap, subst, Some, None, Option, ◌∙◌}
 use Rattle.vm_base.specs.declared.info.PageInfo.{PageInfo}
 use Rattle.vm_base.specs.Functions.{over}
-use Rattle.vm_base.specs.Info.{frame_of}
 use Rattle.vm_base.proofs.Functions.{over_all}
 use Rattle.slot_lock.specs.Slots.{Slots, Divides}
 use Rattle.machine_model.specs.declared.phase.Phase.{Phase}
+use Rattle.machine_model.specs.Holding.{holds, range_held, taken_in}
 use Rattle.machine_model.specs.World.{World}
-use Rattle.machine_model.specs.Holding.{holds, taken_in}
-use Rattle.machine_laws.specs.Orderly.{IsOrderly, IsCutFor, IsReady}
-use Rattle.machine_laws.proofs.Moves.{IsCallIn, Touches, cut_kept}
+use Rattle.machine_laws.specs.Orderly.{IsOrderly, IsAsked, IsCutFor, IsReady, BelongsTo}
+use Rattle.machine_laws.proofs.Moves.{IsCall, IsCallOf, Touches, cut_kept, ready_kept}
 
 -- pages that no other core owned get an owner that is no other core
 pub touches_owner : (s : Slots) (c : ℕ) (set : ℕ → Bool) (owner : Option ℕ) → ((d p : ℕ) → d ≢ c → set p ≡ true → s.owner p ≢ Some d) → ((d : ℕ) → d ≢ c → owner ≢ Some d)
@@ -26,43 +25,46 @@ pub touches_info : (s : Slots) (c : ℕ) (info : ℕ → Option PageInfo) → ((
 touches_info s c info same = record { info = same; now = λ d p ne h. h; still = λ d p ne h. h; edge = λ p h. h }
 
 -- the pages of the set are core c's now
-pub gains : (w : World) (c : ℕ) (old phase : Phase) (set : ℕ → Bool) → IsCallIn w w.slots c old
+pub gains : (w : World) (c : ℕ) (old phase : Phase) (set : ℕ → Bool) → IsCallOf w c old → IsAsked w.made w.calls.requests c (w.calls.number c) phase
     → ((p : ℕ) → set p ≡ true → holds phase p ≡ true)
     → ((p : ℕ) → holds old p ≡ true → holds phase p ≡ true)
     → ((p : ℕ) → set p ≡ false → holds phase p ≡ true → holds old p ≡ true)
-    → IsCutFor w.slots.edge phase → IsReady w.slots.info phase → ((f : ℕ) → taken_in phase ≡ Some f → f < w.made.frames)
-    → IsCallIn w (record w.slots { owner = over w.slots.owner set (Some c) }) c phase
-gains w c old phase set k new more back cut ready taken = record {
+    → IsCutFor w.slots.edge (range_held phase) → IsReady w.made w.slots phase → ((f : ℕ) → taken_in phase ≡ Some f → f < w.made.frames)
+    → IsCall w.made (record w.slots { owner = over w.slots.owner set (Some c) }) w.calls.requests c (w.calls.number c) phase
+gains w c old phase set k asked new more back cut ready taken = record {
+  asked = asked;
   owned = λ p. over_all (λ p o. holds phase p ≡ true → o ≡ Some c) w.slots.owner set (Some c) (λ p i h. refl) (λ p i h. k.owned p (back p i h)) p;
   only = λ p. over_all (λ p o. o ≡ Some c → holds phase p ≡ true) w.slots.owner set (Some c) (λ p i h. new p i) (λ p i h. more p (k.only p h)) p;
   cut = cut;
-  ready = ready;
+  ready = ready_kept w.made w.slots (record w.slots { owner = over w.slots.owner set (Some c) }) phase (λ p h. refl) ready;
   taken = taken;
 }
 
 -- the pages of the set are nobody's now
-pub loses : (w : World) (c : ℕ) (old phase : Phase) (set : ℕ → Bool) → IsCallIn w w.slots c old
+pub loses : (w : World) (c : ℕ) (old phase : Phase) (set : ℕ → Bool) → IsCallOf w c old → IsAsked w.made w.calls.requests c (w.calls.number c) phase
     → ((p : ℕ) → set p ≡ true → holds phase p ≡ true → ⊥)
     → ((p : ℕ) → holds phase p ≡ true → holds old p ≡ true)
     → ((p : ℕ) → set p ≡ false → holds old p ≡ true → holds phase p ≡ true)
-    → IsCutFor w.slots.edge phase → IsReady w.slots.info phase → ((f : ℕ) → taken_in phase ≡ Some f → f < w.made.frames)
-    → IsCallIn w (record w.slots { owner = over w.slots.owner set None }) c phase
-loses w c old phase set k gone less rest cut ready taken = record {
+    → IsCutFor w.slots.edge (range_held phase) → IsReady w.made w.slots phase → ((f : ℕ) → taken_in phase ≡ Some f → f < w.made.frames)
+    → IsCall w.made (record w.slots { owner = over w.slots.owner set None }) w.calls.requests c (w.calls.number c) phase
+loses w c old phase set k asked gone less rest cut ready taken = record {
+  asked = asked;
   owned = λ p. over_all (λ p o. holds phase p ≡ true → o ≡ Some c) w.slots.owner set None (λ p i h. absurd (gone p i h)) (λ p i h. k.owned p (less p h)) p;
   only = λ p. over_all (λ p o. o ≡ Some c → holds phase p ≡ true) w.slots.owner set None (λ p i h. absurd cc) (λ p i h. rest p i (k.only p h)) p;
   cut = cut;
-  ready = ready;
+  ready = ready_kept w.made w.slots (record w.slots { owner = over w.slots.owner set None }) phase (λ p h. refl) ready;
   taken = taken;
 }
 
 -- slots that were only divided
-pub orderly_divided : (w : World) (t : Slots) (o : Option ℕ) (at : ℕ) → Divides w.slots t o at → IsOrderly w → IsOrderly (record w { slots = t })
-orderly_divided w t o at h g = record {
+pub divided : (w : World) (t : Slots) (o : Option ℕ) (at : ℕ) → Divides w.slots t o at → IsOrderly w → IsOrderly (record w { slots = t })
+divided w t o at h g = record {
+  asked = g.asked;
   owned = λ c p i. ap (λ f. f p) h.owners ∙ g.owned c p i;
   only = λ c p i. g.only c p (sym (ap (λ f. f p) h.owners) ∙ i);
-  cut = λ c. cut_kept w.slots.edge t.edge h.kept (w.phase c) (g.cut c);
-  ready = λ c. subst (λ info. IsReady info (w.phase c)) (sym h.info) (g.ready c);
-  frames = λ p f i. g.frames p f (sym (ap (λ info. frame_of (info p)) h.info) ∙ i);
+  cut = λ c. cut_kept w.slots.edge t.edge h.kept (range_held (w.calls.phase c)) (g.cut c);
+  ready = λ c. ready_kept w.made w.slots t (w.calls.phase c) (λ p i. ap (λ f. f p) h.info) (g.ready c);
+  pages = λ p. subst (λ info. BelongsTo w.made p (info p)) (sym h.info) (g.pages p);
   taken = g.taken;
   free = g.free;
   outside = g.outside;

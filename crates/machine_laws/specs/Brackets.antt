@@ -11,7 +11,7 @@ use Rattle.machine_model.specs.declared.event.Outcome.TheVariants.{Stepped, Answ
 use Rattle.machine_model.specs.declared.log.Entry.{Entry}
 use Rattle.machine_model.specs.declared.log.Entry.TheVariants as EntryOf
 use Rattle.machine_model.specs.Events.{core_of}
-use Rattle.machine_model.specs.World.{World, Made, opening}
+use Rattle.machine_model.specs.World.{World, Made, new_world}
 use Rattle.machine_model.specs.Step.{Run}
 
 -- the n-th of a list, from 1
@@ -69,20 +69,21 @@ IsAnsweredBefore n log call core reply = (place step : ℕ) × IsAnswer log plac
 -- The events came to these outcomes and left w.
 pub record IsBracketed (es : List Event) (os : List Outcome) (w : World) : Type 0 where
   -- the steps in the log rise
-  pub rises : (i j : ℕ) (x y : Entry) → i < j → slice_get w.log i ≡ Some x → slice_get w.log j ≡ Some y → step_of x < step_of y
+  pub rises : (i j : ℕ) (x y : Entry) → i < j → slice_get w.calls.log i ≡ Some x → slice_get w.calls.log j ≡ Some y
+      → step_of x < step_of y
   -- each reply is that of a call of its core, begun before it
-  pub begun : (i step call core : ℕ) (reply : Reply) → IsAnswer w.log i step call core reply
+  pub begun : (i step call core : ℕ) (reply : Reply) → IsAnswer w.calls.log i step call core reply
       → (b : Begun) × (nth (calls_of es os) call ≡ Some b) × (b.core ≡ core) × (b.step < step)
   -- no call has two
-  pub once : (i j step step2 call core core2 : ℕ) (reply reply2 : Reply) → IsAnswer w.log i step call core reply
-      → IsAnswer w.log j step2 call core2 reply2 → i ≡ j
+  pub once : (i j step step2 call core core2 : ℕ) (reply reply2 : Reply) → IsAnswer w.calls.log i step call core reply
+      → IsAnswer w.calls.log j step2 call core2 reply2 → i ≡ j
   -- after n events comes one that hands out a reply: it is that of the core's latest call, and stands in the log before
-  pub answered : (n : ℕ) (e : Event) (reply : Reply) → nth es (suc n) ≡ Some e → nth os (suc n) ≡ Some (Answered reply)
-      → (call : ℕ) × IsLatest (calls_of (take n es) (take n os)) (core_of e) call
-      × IsAnsweredBefore (suc n) w.log call (core_of e) reply
+  pub answered : (n core : ℕ) (e : Event) (reply : Reply) → nth es (suc n) ≡ Some e → core_of e ≡ Some core
+      → nth os (suc n) ≡ Some (Answered reply)
+      → (call : ℕ) × IsLatest (calls_of (take n es) (take n os)) core call × IsAnsweredBefore (suc n) w.calls.log call core reply
   -- the requests kept are those of the calls
-  pub requests : w.requests ≡ requests_of (calls_of es os)
+  pub requests : w.calls.requests ≡ requests_of (calls_of es os)
 
 abbrev pub AllRunsBracketed : Type 0
 AllRunsBracketed = (made : Made) (slots : Slots) (es : List Event) (os : List Outcome) (w : World)
-    → Run (opening made slots) es os w → IsBracketed es os w
+    → Run (new_world made slots) es os w → IsBracketed es os w

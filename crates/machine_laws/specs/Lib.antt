@@ -1,2 +1,2 @@
-pub mod Orderly
 pub mod Brackets
+pub mod Orderly

@@ -1,79 +1,85 @@
--- What holds between two steps: a call owns the pages that its phase says and no others, no slot crosses an edge of them,
--- and each call that has no reply yet finds room for it in the log.
-use Rattle.std.specs.Prelude.{◌≡◌, ℕ, zero, suc, ◌+◌, ◌<◌, ◌≤◌, Bool, true, if◌then◌else◌, length, Option, Some, is_some}
-use Rattle.std.specs.Option.{ForSome}
+-- What holds between two steps: a call does what its request asks for, it owns the pages that its phase says and no others, no slot
+-- crosses an edge of them, and each call that has no reply yet finds room for it in the log.
+use Rattle.std.specs.Prelude.{◌≡◌, ℕ, zero, suc, ◌+◌, ◌<◌, ◌≤◌, Bool, true, false, if◌then◌else◌, List, length, Option, None, Some, Ok, is_some}
 use Rattle.vm_base.specs.declared.info.PageInfo.{PageInfo}
 use Rattle.vm_base.specs.declared.page.PageRange.{PageRange}
-use Rattle.vm_base.specs.Functions.{has}
-use Rattle.vm_base.specs.Info.{frame_of}
-use Rattle.slot_lock.specs.declared.footprint.Footprint.{Footprint}
-use Rattle.slot_lock.specs.declared.plan.Change.{Change}
-use Rattle.slot_lock.specs.declared.plan.Change.TheVariants.{Put, Clear, Protect}
-use Rattle.slot_lock.specs.declared.plan.Touch.{Touch}
-use Rattle.slot_lock.specs.Plan.{range_of, IsSoundChange, IsSoundTouch}
-use Rattle.slot_lock.specs.Footprint.{IsFootprint, one_range}
+use Rattle.vm_base.specs.declared.requests.Request.{Request}
+use Rattle.vm_base.specs.declared.rights.Access.{Access}
+use Rattle.vm_base.specs.Info.{frame_of, is_recorded}
+use Rattle.vm_base.specs.Pages.{IsPage, IsPageRange}
+use Rattle.vm_base.specs.Plain.{File}
+use Rattle.vm_base.specs.Rights.{is_allowed}
+use Rattle.slot_lock.specs.declared.plan.Plan.{Plan}
+use Rattle.slot_lock.specs.declared.plan.Plan.TheVariants as PlanOf
+use Rattle.slot_lock.specs.Plan.{range_of}
 use Rattle.slot_lock.specs.Slots.{Slots, IsNew}
+use Rattle.vm_calls.specs.declared.decision.Decision.TheVariants.{Act}
+use Rattle.vm_calls.specs.Decisions.{Decides}
 use Rattle.machine_model.specs.declared.event.Event.{Event}
 use Rattle.machine_model.specs.declared.event.Outcome.{Outcome}
+use Rattle.machine_model.specs.declared.log.Entry.{Entry}
 use Rattle.machine_model.specs.declared.phase.Phase.{Phase}
-use Rattle.machine_model.specs.declared.phase.Phase.TheVariants.{Free, Check, Lock, Decide, Post, Acks, Unlock, Answer, Try, LockPage, Settle, Want, Fill, Install, Release}
-use Rattle.machine_model.specs.World.{World, Made, opening}
-use Rattle.machine_model.specs.Holding.{holds, taken_in, is_open}
+use Rattle.machine_model.specs.declared.phase.Phase.TheVariants.{Free, Check, Lock, Post, Acks, Unlock, Want, Fill, Install}
+use Rattle.machine_model.specs.World.{World, Made, Memory, new_world}
+use Rattle.machine_model.specs.Accesses.{is_past_end}
+use Rattle.machine_model.specs.Changes.{checked_by}
+use Rattle.machine_model.specs.Holding.{goal_range, plan_in, range_held, holds, taken_in, is_open}
 use Rattle.machine_model.specs.Step.{Step}
+use Rattle.machine_laws.specs.Brackets.{nth}
+
+-- ---- which request a call serves
+
+-- the call with this number has a request that its arguments don't refuse, and that asks for this plan
+pub record Serves (made : Made) (requests : List Request) (core call : ℕ) (plan : Plan) : Type 0 where
+  pub request : Request
+  pub number : nth requests call ≡ Some request
+  pub passed : checked_by made core request ≡ Ok plan
+
+abbrev pub ServesSome : Made → List Request → ℕ → ℕ → Option Plan → Type 0
+ServesSome made requests core call None = Unit {0}
+ServesSome made requests core call (Some plan) = Serves made requests core call plan
+
+-- a call that has no reply yet does what its request asks for
+abbrev pub IsAsked : Made → List Request → ℕ → ℕ → Phase → Type 0
+IsAsked made requests core call (Check request) = nth requests call ≡ Some request
+IsAsked made requests core call phase = ServesSome made requests core call (plan_in phase)
 
 -- ---- edges
 
 abbrev pub IsCutRange : (ℕ → Bool) → PageRange → Type 0
 IsCutRange edge range = (edge range.first ≡ true) × (edge range.end ≡ true)
 
-abbrev pub IsCutFootprint : (ℕ → Bool) → Footprint → Type 0
-IsCutFootprint edge held = IsCutRange edge held.first × ForSome held.second (IsCutRange edge)
-
-abbrev pub IsCutPage : (ℕ → Bool) → Touch → Type 0
-IsCutPage edge touch = (edge touch.page ≡ true) × (edge (touch.page + 1) ≡ true)
-
 -- a slot begins at each end of what the call holds
-abbrev pub IsCutFor : (ℕ → Bool) → Phase → Type 0
-IsCutFor edge Free = Unit {0}
-IsCutFor edge (Check request) = Unit {0}
-IsCutFor edge (Lock change cursor) = (range_of change).first < cursor → (edge (range_of change).first ≡ true) × (edge cursor ≡ true)
-IsCutFor edge (Decide change) = IsCutRange edge (range_of change)
-IsCutFor edge (Post change) = IsCutRange edge (range_of change)
-IsCutFor edge (Acks change held) = IsCutFootprint edge held
-IsCutFor edge (Unlock held reply) = IsCutFootprint edge held
-IsCutFor edge (Answer reply) = Unit {0}
-IsCutFor edge (Try touch) = Unit {0}
-IsCutFor edge (LockPage touch) = Unit {0}
-IsCutFor edge (Settle touch) = IsCutPage edge touch
-IsCutFor edge (Want touch) = IsCutPage edge touch
-IsCutFor edge (Fill touch frame) = IsCutPage edge touch
-IsCutFor edge (Install touch) = IsCutPage edge touch
-IsCutFor edge (Release touch) = IsCutPage edge touch
+abbrev pub IsCutFor : (ℕ → Bool) → Option PageRange → Type 0
+IsCutFor edge None = Unit {0}
+IsCutFor edge (Some held) = held.first < held.end → IsCutRange edge held
 
 -- ---- what a call relies on
 
--- a page that is to be protected is mapped
-abbrev pub IsMappedFor : (ℕ → Option PageInfo) → Change → Type 0
-IsMappedFor info (Put range meta) = Unit {0}
-IsMappedFor info (Clear range) = Unit {0}
-IsMappedFor info (Protect range prot) = (p : ℕ) → has range p ≡ true → is_some (info p) ≡ true
+-- the page is mapped, allows the access, doesn't lie past the end of its file, and has this frame, if it has one
+abbrev pub IsUsable : (ℕ → Option File) → Option PageInfo → Access → Option ℕ → Type 0
+IsUsable file None access frame = ⊥
+IsUsable file (Some info) access frame =
+    (is_allowed info.meta.prot access ≡ true) × (is_past_end file (Some info) ≡ false) × (info.frame ≡ frame)
 
-abbrev pub IsReady : (ℕ → Option PageInfo) → Phase → Type 0
-IsReady info Free = Unit {0}
-IsReady info (Check request) = Unit {0}
-IsReady info (Lock change cursor) = IsSoundChange change × ((range_of change).first ≤ cursor) × (cursor < (range_of change).end)
-IsReady info (Decide change) = IsSoundChange change
-IsReady info (Post change) = IsSoundChange change × IsMappedFor info change
-IsReady info (Acks change held) = IsSoundChange change × IsMappedFor info change × (held ≡ one_range (range_of change))
-IsReady info (Unlock held reply) = IsFootprint held
-IsReady info (Answer reply) = Unit {0}
-IsReady info (Try touch) = IsSoundTouch touch
-IsReady info (LockPage touch) = IsSoundTouch touch
-IsReady info (Settle touch) = IsSoundTouch touch
-IsReady info (Want touch) = IsSoundTouch touch
-IsReady info (Fill touch frame) = IsSoundTouch touch
-IsReady info (Install touch) = IsSoundTouch touch
-IsReady info (Release touch) = IsSoundTouch touch
+abbrev pub IsReady : Made → Slots → Phase → Type 0
+IsReady made s (Lock goal cursor) = ((goal_range goal).first ≤ cursor) × (cursor < (goal_range goal).end)
+IsReady made s (Post change shoot) = Decides made.file s (PlanOf.Change change) (Act (range_of change) shoot)
+IsReady made s (Acks change held) =
+    (held ≡ range_of change) × ((shoot : ℕ) × Decides made.file s (PlanOf.Change change) (Act (range_of change) shoot))
+IsReady made s (Unlock held reply) = IsPageRange held
+IsReady made s (Want touch) = IsUsable made.file (s.info touch.page) touch.access None
+IsReady made s (Fill touch frame) = IsUsable made.file (s.info touch.page) touch.access None
+IsReady made s (Install touch) = (f : ℕ) × IsUsable made.file (s.info touch.page) touch.access (Some f)
+IsReady made s _ = Unit {0}
+
+-- ---- pages
+
+-- only a valid page is mapped, and its frame and the cores that are recorded on it are the machine's
+pub record BelongsTo (made : Made) (page : ℕ) (info : Option PageInfo) : Type 0 where
+  pub valid : is_some info ≡ true → IsPage page
+  pub frame : (f : ℕ) → frame_of info ≡ Some f → f < made.frames
+  pub cores : (c : ℕ) → is_recorded info c ≡ true → c < made.cores
 
 -- ---- calls without a reply
 
@@ -84,24 +90,30 @@ open_calls phase (suc n) = (if is_open (phase n) then 1 else 0) + open_calls pha
 
 -- ---- the order
 
-pub record IsOrderly (w : World) : Type 0 where
+-- of these parts of a state
+pub record Order (made : Made) (s : Slots) (m : Memory) (phase : ℕ → Phase) (number : ℕ → ℕ) (requests : List Request) (log : List Entry)
+    : Type 0 where
+  pub asked : (c : ℕ) → IsAsked made requests c (number c) (phase c)
   -- a call owns the pages that it holds, and no others
-  pub owned : (c p : ℕ) → holds (w.phase c) p ≡ true → w.slots.owner p ≡ Some c
-  pub only : (c p : ℕ) → w.slots.owner p ≡ Some c → holds (w.phase c) p ≡ true
-  pub cut : (c : ℕ) → IsCutFor w.slots.edge (w.phase c)
-  pub ready : (c : ℕ) → IsReady w.slots.info (w.phase c)
-  -- frames that pages and calls have are the machine's
-  pub frames : (p f : ℕ) → frame_of (w.slots.info p) ≡ Some f → f < w.made.frames
-  pub taken : (c f : ℕ) → taken_in (w.phase c) ≡ Some f → f < w.made.frames
-  pub free : (f : ℕ) → w.is_free f ≡ true → f < w.made.frames
+  pub owned : (c p : ℕ) → holds (phase c) p ≡ true → s.owner p ≡ Some c
+  pub only : (c p : ℕ) → s.owner p ≡ Some c → holds (phase c) p ≡ true
+  pub cut : (c : ℕ) → IsCutFor s.edge (range_held (phase c))
+  pub ready : (c : ℕ) → IsReady made s (phase c)
+  pub pages : (p : ℕ) → BelongsTo made p (s.info p)
+  -- frames that calls have and that are free are the machine's
+  pub taken : (c f : ℕ) → taken_in (phase c) ≡ Some f → f < made.frames
+  pub free : (f : ℕ) → m.is_free f ≡ true → f < made.frames
   -- only the machine's cores have calls
-  pub outside : (c : ℕ) → w.made.cores ≤ c → w.phase c ≡ Free
+  pub outside : (c : ℕ) → made.cores ≤ c → phase c ≡ Free
   -- each call without a reply finds room in the log, which is made with room for one entry of each call
-  pub room : length w.log + open_calls w.phase w.made.cores ≤ length w.requests
-  pub limit : length w.requests ≤ w.made.calls
+  pub room : length log + open_calls phase made.cores ≤ length requests
+  pub limit : length requests ≤ made.calls
+
+abbrev pub IsOrderly : World → Type 0
+IsOrderly w = Order w.made w.slots w.memory w.calls.phase w.calls.number w.calls.requests w.calls.log
 
 abbrev pub AllStepsKeepOrder : Type 0
 AllStepsKeepOrder = (w v : World) (e : Event) (o : Outcome) → IsOrderly w → Step w e o v → IsOrderly v
 
 abbrev pub AllOpeningsAreOrderly : Type 0
-AllOpeningsAreOrderly = (made : Made) (slots : Slots) → IsNew slots → IsOrderly (opening made slots)
+AllOpeningsAreOrderly = (made : Made) (slots : Slots) → IsNew slots → IsOrderly (new_world made slots)

@@ -1,51 +1,87 @@
--- Which pages and frames a call holds, by its phase
-use Rattle.std.specs.Prelude.{ℕ, Bool, true, false, ◌&&◌, nat_lt, Option, None, Some}
+-- What a call is at, by its phase: its plan, the pages that it locks, those that it holds, and the frame that it has taken
+use Rattle.std.specs.Prelude.{ℕ, Bool, true, false, Option, None, Some}
+use Rattle.vm_base.specs.declared.page.PageRange.{PageRange}
+use Rattle.vm_base.specs.Functions.{has}
 use Rattle.vm_base.specs.Pages.{pages_from}
-use Rattle.slot_lock.specs.declared.footprint.Footprint.{Footprint}
-use Rattle.slot_lock.specs.Plan.{range_of}
-use Rattle.slot_lock.specs.Footprint.{one_range, covers}
+use Rattle.slot_lock.specs.declared.plan.Plan.{Plan}
+use Rattle.slot_lock.specs.declared.plan.Plan.TheVariants as PlanOf
 use Rattle.slot_lock.specs.declared.plan.Touch.{Touch}
+use Rattle.slot_lock.specs.Plan.{range_of}
+use Rattle.slot_lock.specs.Slots.{between}
+use Rattle.machine_model.specs.declared.phase.Goal.{Goal}
+use Rattle.machine_model.specs.declared.phase.Goal.TheVariants as To
 use Rattle.machine_model.specs.declared.phase.Phase.{Phase}
-use Rattle.machine_model.specs.declared.phase.Phase.TheVariants.{Free, Check, Lock, Decide, Post, Acks, Unlock, Answer, Try, LockPage, Settle, Want, Fill, Install, Release}
+use Rattle.machine_model.specs.declared.phase.Phase.TheVariants.{Free, Check, Lock, Decide, Post, Acks, Unlock, Answer, Try, Settle, Want, Fill, Install, Release}
 
 -- the page of an access
-abbrev pub page_held : Touch → Footprint
-page_held touch = one_range (pages_from touch.page 1)
+abbrev pub page_of_touch : Touch → PageRange
+page_of_touch touch = pages_from touch.page 1
 
--- the pages that a call in this phase has locked or is to lock
-abbrev pub locks_in : Phase → Option Footprint
-locks_in Free = None
-locks_in (Check request) = None
-locks_in (Lock change cursor) = Some (one_range (range_of change))
-locks_in (Decide change) = Some (one_range (range_of change))
-locks_in (Post change) = Some (one_range (range_of change))
-locks_in (Acks change held) = Some held
-locks_in (Unlock held reply) = Some held
-locks_in (Answer reply) = None
-locks_in (Try touch) = None
-locks_in (LockPage touch) = Some (page_held touch)
-locks_in (Settle touch) = Some (page_held touch)
-locks_in (Want touch) = Some (page_held touch)
-locks_in (Fill touch frame) = Some (page_held touch)
-locks_in (Install touch) = Some (page_held touch)
-locks_in (Release touch) = Some (page_held touch)
+-- ---- goals
 
-abbrev pub covers_some : Option Footprint → ℕ → Bool
-covers_some None p = false
-covers_some (Some fp) p = covers fp p
+abbrev pub goal_range : Goal → PageRange
+goal_range (To.Change change) = range_of change
+goal_range (To.Access touch) = page_of_touch touch
 
--- the call holds the page: of what it is still locking, the pages below the cursor
+abbrev pub goal_plan : Goal → Plan
+goal_plan (To.Change change) = PlanOf.Change change
+goal_plan (To.Access touch) = PlanOf.Touch touch
+
+-- ---- phases
+
+-- what the call does, from the check of its arguments on until it has a reply
+abbrev pub plan_in : Phase → Option Plan
+plan_in Free = None
+plan_in (Check request) = None
+plan_in (Lock goal cursor) = Some (goal_plan goal)
+plan_in (Decide change) = Some (PlanOf.Change change)
+plan_in (Post change shoot) = Some (PlanOf.Change change)
+plan_in (Acks change held) = Some (PlanOf.Change change)
+plan_in (Unlock held reply) = None
+plan_in (Answer reply) = None
+plan_in (Try touch) = Some (PlanOf.Touch touch)
+plan_in (Settle touch) = Some (PlanOf.Touch touch)
+plan_in (Want touch) = Some (PlanOf.Touch touch)
+plan_in (Fill touch frame) = Some (PlanOf.Touch touch)
+plan_in (Install touch) = Some (PlanOf.Touch touch)
+plan_in (Release touch) = Some (PlanOf.Touch touch)
+
+-- the pages that the call holds
+abbrev pub range_held : Phase → Option PageRange
+range_held Free = None
+range_held (Check request) = None
+range_held (Lock goal cursor) = Some (between (goal_range goal).first cursor)
+range_held (Decide change) = Some (range_of change)
+range_held (Post change shoot) = Some (range_of change)
+range_held (Acks change held) = Some held
+range_held (Unlock held reply) = Some held
+range_held (Answer reply) = None
+range_held (Try touch) = None
+range_held (Settle touch) = Some (page_of_touch touch)
+range_held (Want touch) = Some (page_of_touch touch)
+range_held (Fill touch frame) = Some (page_of_touch touch)
+range_held (Install touch) = Some (page_of_touch touch)
+range_held (Release touch) = Some (page_of_touch touch)
+
+-- the pages that the call has locked or is to lock (its footprint)
+abbrev pub range_in : Phase → Option PageRange
+range_in (Lock goal cursor) = Some (goal_range goal)
+range_in phase = range_held phase
+
+abbrev pub some_has : Option PageRange → ℕ → Bool
+some_has None p = false
+some_has (Some r) p = has r p
+
+-- the call holds the page
 abbrev pub holds : Phase → ℕ → Bool
-holds (Lock change cursor) p = covers (one_range (range_of change)) p && nat_lt p cursor
-holds (LockPage touch) p = false
-holds phase p = covers_some (locks_in phase) p
+holds phase p = some_has (range_held phase) p
 
 -- the frame that a call has taken and that no page has yet
 abbrev pub taken_in : Phase → Option ℕ
 taken_in (Fill touch frame) = Some frame
 taken_in _ = None
 
--- the call has no entry in the log yet
+-- the call has no reply in the log yet
 abbrev pub is_open : Phase → Bool
 is_open Free = false
 is_open (Unlock held reply) = false

@@ -1,8 +1,8 @@
 pub mod Events
-pub mod Counts
 pub mod World
 pub mod Holding
 pub mod Actions
-pub mod Calls
+pub mod Locks
+pub mod Changes
 pub mod Accesses
 pub mod Step

@@ -14,13 +14,13 @@ pub enum Event {
 }
 
 impl Event {
-    /// The core that takes the step.
-    pub fn core(&self) -> CoreId
+    /// The core that takes the step, if one does.
+    pub fn core(&self) -> Option<CoreId>
         ensures { result ≡ core_of self.now }
     {
         match self {
-            Event::Call(core, _) => *core,
-            Event::Go(core) => *core,
+            Event::Call(core, _) => Some(*core),
+            Event::Go(core) => Some(*core),
         }
     }
 }

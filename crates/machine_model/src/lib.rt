@@ -2,11 +2,9 @@
 #![tactic(auto)]
 
 pub mod event;
-pub mod hardware;
 pub mod log;
 pub mod phase;
 
 pub use event::{Blocker, Event, Outcome};
-pub use hardware::{Message, TlbEntry, Translation};
 pub use log::Entry;
-pub use phase::Phase;
+pub use phase::{Goal, Phase};

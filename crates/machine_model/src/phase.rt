@@ -1,6 +1,15 @@
 //! Where the call of a core stands.
-use slot_lock::{Change, Footprint, Touch};
-use vm_base::{Reply, Request};
+use slot_lock::{Change, Touch};
+use vm_base::{CoreSet, PageRange, Reply, Request};
+
+/// What the pages are locked for.
+#[derive(Clone, Copy, Debug, PartialEq, Eq)]
+pub enum Goal {
+    /// All pages of the change are to be changed.
+    Change(Change),
+    /// An access of the page faulted.
+    Access(Touch),
+}
 
 /// Where the call of a core stands: what its next step is.
 #[derive(Clone, Copy, Debug, PartialEq, Eq)]
@@ -9,23 +18,21 @@ pub enum Phase {
     Free,
     /// The arguments are to be checked.
     Check(Request),
-    /// The pages of the change below the cursor are held, the others are to be locked.
-    Lock { change: Change, cursor: u64 },
+    /// The goal's pages below the cursor are held, the others are to be locked.
+    Lock { goal: Goal, cursor: u64 },
     /// All pages are held, and whether the change may be made is to be decided.
     Decide(Change),
-    /// The cores that use the pages are to be told.
-    Post(Change),
+    /// The cores that are recorded on the pages are to be told.
+    Post { change: Change, shoot: CoreSet },
     /// The cores that were told are awaited, and then the change is made.
-    Acks { change: Change, held: Footprint },
+    Acks { change: Change, held: PageRange },
     /// The reply is fixed, and these pages are still to be unlocked.
-    Unlock { held: Footprint, reply: Reply },
+    Unlock { held: PageRange, reply: Reply },
     /// The reply is to be handed out.
     Answer(Reply),
     /// The page is to be translated, and its byte read or written.
     Try(Touch),
-    /// There was no translation, and the page's slot is to be locked.
-    LockPage(Touch),
-    /// What the slot says is to be read.
+    /// The page is held, and what its slot says is to be read.
     Settle(Touch),
     /// A frame is to be taken.
     Want(Touch),

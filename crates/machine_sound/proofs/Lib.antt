@@ -1,13 +1,12 @@
 pub mod Logs
+pub mod Replies
+pub mod OneMap
+pub mod Pages
+pub mod Moves
+mod Commits
+mod Accesses
 pub mod Opening
 pub mod Sound
-pub mod Moves
-pub mod Stands
-pub mod Calls
-pub mod Changes
-pub mod Pages
-pub mod Accesses
 pub mod Kept
-pub mod Examples
-pub mod OneMap
-pub mod Run
+mod Examples
+mod Run

@@ -1,28 +1,14 @@
 -- Requests are looked up by number, and logs grow at their end.
-use Rattle.std.proofs.Common.{◌≡◌, ℕ, zero, suc, refl, subst, Some, List, [], ◌∷◌, ◌++◌, length}
-use Rattle.std.specs.Prelude.{slice_get}
+use Rattle.std.proofs.Common.{refl, subst, List, [], ◌∷◌, ◌++◌}
 use Rattle.vm_base.specs.declared.requests.Request.{Request}
 use Rattle.vm_base.specs.Plain.{Plain}
 use Rattle.machine_model.specs.declared.log.Entry.{Entry}
 use Rattle.machine_model.specs.declared.log.Entry.TheVariants.{Answer}
-use Rattle.machine_laws.specs.Brackets.{nth}
+use Rattle.machine_laws.proofs.Numbered.{at_old}
 use Rattle.machine_sound.specs.Log.{GoesOn, Replays}
 
-get_more : (rs : List Request) (r q : Request) (i : ℕ) → slice_get rs i ≡ Some q → slice_get (rs ++ r ∷ []) i ≡ Some q
-get_more [] r q i h = absurd cc
-get_more (x ∷ rs) r q zero h = h
-get_more (x ∷ rs) r q (suc i) h = get_more rs r q i h
-
-pub nth_more : (rs : List Request) (r q : Request) (n : ℕ) → nth rs n ≡ Some q → nth (rs ++ r ∷ []) n ≡ Some q
-nth_more rs r q zero h = h
-nth_more rs r q (suc n) h = get_more rs r q n h
-
-pub nth_last : (rs : List Request) (r : Request) → nth (rs ++ r ∷ []) (suc (length rs)) ≡ Some r
-nth_last [] r = refl
-nth_last (x ∷ rs) r = nth_last rs r
-
 goes_on_more : (rs : List Request) (r : Request) (t : Plain) (e : Entry) (u : Plain) → GoesOn rs t e u → GoesOn (rs ++ r ∷ []) t e u
-goes_on_more rs r t (Answer step call core reply) u h = (h.0, nth_more rs r h.0 call h.1, h.2)
+goes_on_more rs r t (Answer step call core reply) u h = (h.0, at_old rs r call h.0 h.1, h.2)
 
 -- one request more changes nothing of what the log says
 pub replays_requests : (rs : List Request) (r : Request) (es : List Entry) (t u : Plain) → Replays rs t es u → Replays (rs ++ r ∷ []) t es u

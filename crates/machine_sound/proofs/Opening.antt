@@ -3,7 +3,7 @@ use Rattle.std.proofs.Common.{◌≡◌, ℕ, refl, sym, subst, ap, Some, None, 
 use Rattle.vm_base.specs.Info.{frame_of}
 use Rattle.vm_base.specs.Plain.{File, zeros, opening as nothing_mapped}
 use Rattle.slot_lock.specs.Slots.{Slots, IsNew}
-use Rattle.machine_model.specs.World.{Made, opening}
+use Rattle.machine_model.specs.World.{Made, new_memory, new_world}
 use Rattle.machine_laws.proofs.Opening.{opening_is_orderly}
 use Rattle.machine_sound.specs.Invariant.{Fine, ShowsPage, ShowsFile, IsAnonymous}
 
@@ -11,13 +11,13 @@ shows_itself : (o : Option File) → ShowsFile (λ f. zeros) (λ k. None) o o
 shows_itself None = tt
 shows_itself (Some f) = (refl, refl, λ k. refl)
 
-pub fine_opening : (made : Made) (slots : Slots) → ((n : ℕ) → made.file n ≡ None) → IsNew slots → Fine (opening made slots)
+pub fine_opening : (made : Made) (slots : Slots) → ((n : ℕ) → made.file n ≡ None) → IsNew slots → Fine (new_world made slots)
 fine_opening made slots none new = record {
   order = opening_is_orderly made slots new;
   plain = nothing_mapped made.file;
   log = refl;
   good = record {
-    pages = λ p. subst (λ o. ShowsPage (λ f. zeros) (λ n k. None) o None) (sym (new.unmapped p)) tt;
+    pages = λ p. subst (λ o. ShowsPage (new_memory made) o None) (sym (new.unmapped p)) tt;
     files = λ n. shows_itself (made.file n);
     frames = record {
       busy = λ p f h. absurd (bare p f h);
@@ -27,10 +27,8 @@ fine_opening made slots none new = record {
     };
     taken = λ c. record { busy = λ f h. absurd cc; no_page = λ f p h. absurd cc; no_file = λ f n k h. absurd cc };
     alone = λ c d f h. absurd cc;
-    settled = λ c. tt;
     no_files = record { none = none; anonymous = λ p. subst IsAnonymous (sym (new.unmapped p)) tt };
   };
-  asked = λ c. tt;
   bare = record { tables = λ c p. refl; tlbs = λ c. refl };
 }
   where

@@ -12,8 +12,11 @@ use Rattle.machine_model.specs.declared.event.Outcome.{Outcome}
 use Rattle.machine_model.specs.declared.event.Outcome.TheVariants.{Stepped, Wait, Answered}
 use Rattle.machine_model.specs.declared.event.Blocker.TheVariants.{Slot}
 use Rattle.machine_model.specs.declared.log.Entry.TheVariants.{Answer}
-use Rattle.machine_model.specs.World.{World, Made, opening}
+use Rattle.machine_model.specs.World.{World, Made, new_world}
 use Rattle.machine_model.specs.Step.{Run}
+use Rattle.vm_base.specs.Cores.{members}
+use Rattle.vm_base.proofs.CoreSets.{members-empty}
+use Rattle.vm_calls.specs.declared.decision.Decision.TheVariants.{Act}
 use Rattle.machine_sound.specs.Sound.{SoundRun}
 use Rattle.machine_sound.proofs.Examples.{read_write, anonymous}
 use Rattle.machine_sound.proofs.Kept.{runs_sound}
@@ -35,6 +38,10 @@ one_page s e = record { ordered = omega arith; begins = ap (λ f. f 16) e; ends 
 only_16 : (p : ℕ) → 16 ≤ p → p < 17 → has (between 16 17) p ≡ true
 only_16 p h k = in_has (between 16 17) p h k
 
+-- nobody is recorded where nothing is mapped
+nobody : (core : ℕ) → members 0 core ≡ true → ⊥
+nobody core h = let none = members-empty core in cc (none, h)
+
 abbrev events : List Event
 events =
     Call 0 (Mmap 65536 4096 read_write (anonymous true) 0 0) ∷ Go 0 ∷ Go 0
@@ -55,7 +62,7 @@ outcomes =
 then : {P Q : World → Type 0} (m : World) → P m → Q m → (x : World) × P x × Q x
 then m s r = (m, s, r)
 
-ran : (w : World) × Run (opening made slots) events outcomes w × (w.log ≡ Answer 10 1 0 (Mapped 65536) ∷ Answer 18 2 1 Done ∷ [])
+ran : (w : World) × Run (new_world made slots) events outcomes w × (w.calls.log ≡ Answer 10 1 0 (Mapped 65536) ∷ Answer 18 2 1 Done ∷ [])
 ran = (
   _,
   then _ (refl, refl) (then _ (refl, refl)
@@ -65,13 +72,15 @@ ran = (
       (then _ (refl, refl) (then _ (refl, refl) (then _ (refl, refl)
       (then _ (Held 0, (_, (λ h. absurd cc, refl, refl), (refl, refl)))
       -- core 0 makes the change, and lets the page go
-      (then _ (refl, refl) (then _ (refl, refl) (then _ (refl, refl)
+      (then _ (Act (between 16 17) 0, (refl, λ core. (λ m. absurd (nobody core m), λ u. absurd (let z = u.2 in cc))), (refl, refl)) (then _ (refl, refl) (then _ (refl, refl)
       (then _ (17, (_, record { slot = one_page _ refl; by_end = omega arith; was_held = λ p h k. ap (λ b. cond b (Some 0) None) (only_16 p h k); now = refl }, (refl, refl)))
       -- core 1 locks the page, gives it a frame, and stores
       (then _ (Locked 17, (_, record { slot = one_page _ refl; by_end = omega arith; was_free = λ p h k. ap (λ b. cond b None (cond b (Some 0) None)) (only_16 p h k); now = refl }, (refl, refl)))
       (then _ (refl, refl)
       (then _ (inr (0, record { free = refl; least = λ g h. absurd (omega (arith, h)) }, (refl, refl)))
-      (then _ (refl, refl) (then _ (refl, refl) (then _ (refl, refl) (then _ (refl, refl)
+      (then _ (refl, refl) (then _ (refl, refl)
+      (then _ (17, (_, record { slot = one_page _ refl; by_end = omega arith; was_held = λ p h k. ap (λ b. cond b (Some 1) (cond b None (cond b (Some 0) None))) (only_16 p h k); now = refl }, (refl, refl)))
+      (then _ (refl, refl)
       -- both hand out their replies
       (then _ (refl, refl) (then _ (refl, refl)
       refl))))))))))))))))))),
@@ -79,5 +88,5 @@ ran = (
 )
 
 -- and so it is sound
-is_sound : SoundRun (opening made slots) events outcomes ran.0
+is_sound : SoundRun (new_world made slots) events outcomes ran.0
 is_sound = runs_sound made slots events outcomes ran.0 (λ n. refl) new ran.1

@@ -1,5 +1,5 @@
 -- Legal logs: applied in order, each entry says what a plain page map answers (POSIX.1-2017, mmap, munmap and mprotect).
-use Rattle.std.specs.Prelude.{◌≡◌, ℕ, zero, suc, Bool, true, false, not, cond, List, [], ◌∷◌, slice_get, Option, None, Some, is_some}
+use Rattle.std.specs.Prelude.{◌≡◌, ℕ, Bool, true, false, not, cond, List, [], ◌∷◌, Option, None, Some, is_some}
 use Rattle.vm_base.specs.declared.replies.Errno.TheVariants.{ENOMEM}
 use Rattle.vm_base.specs.declared.replies.Reply.{Reply}
 use Rattle.vm_base.specs.declared.replies.Reply.TheVariants.{Refused, NoFrame, NoMemory}
@@ -69,4 +69,5 @@ Replays requests t (e ∷ es) u = (m : Plain) × GoesOn requests t e m × Replay
 -- There is no second map that a log leads to.
 abbrev pub EachLogLeadsToOneMap : Type 0
 EachLogLeadsToOneMap =
-    (requests : List Request) (log : List Entry) (t u v : Plain) → Replays requests t log u → Replays requests t log v → u ≡ v
+    (requests : List Request) (log : List Entry) (t u v : Plain)
+    → Replays requests t log u → Replays requests t log v → u ≡ v

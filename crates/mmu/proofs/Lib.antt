@@ -1,4 +1,5 @@
 pub mod Empty
 pub mod Cached
+pub mod Distinct
 pub mod Clearing
 pub mod Valid

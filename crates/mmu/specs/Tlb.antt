@@ -1,5 +1,5 @@
 -- A TLB: the translations that a core holds, the oldest filled first
-use Rattle.std.specs.Prelude.{ℕ, ◌==◌, not, Bool, if◌then◌else◌, length, List, [], ◌∷◌, ◌++◌, Option, None, Some, drop, filter}
+use Rattle.std.specs.Prelude.{ℕ, ◌==◌, ◌&&◌, not, Bool, true, is_some, if◌then◌else◌, length, List, [], ◌∷◌, ◌++◌, Option, None, Some, drop, filter}
 use Rattle.mmu.specs.declared.entry.Translation.{Translation}
 use Rattle.mmu.specs.declared.tlb.TlbEntry.{TlbEntry}
 
@@ -7,6 +7,11 @@ use Rattle.mmu.specs.declared.tlb.TlbEntry.{TlbEntry}
 abbrev pub tlb_at : List TlbEntry → ℕ → Option Translation
 tlb_at [] p = None
 tlb_at (e ∷ es) p = if e.page == p then Some e.translation else tlb_at es p
+
+-- no page has two translations
+abbrev pub are_distinct : List TlbEntry → Bool
+are_distinct [] = true
+are_distinct (e ∷ es) = not (is_some (tlb_at es e.page)) && are_distinct es
 
 -- without the pages of a set
 abbrev pub tlb_without : (ℕ → Bool) → List TlbEntry → List TlbEntry

@@ -1,18 +1,17 @@
 //! What one core translates addresses by: tables of its own, and a TLB.
-ghost use Rattle.std.specs.Prelude.{◌≡◌, ◌&&◌, ℕ, [], None, Some, true, is_some, not, IfOk, OnOk, OnErr, List, Option, if◌then◌else◌};
+ghost use Rattle.std.specs.Prelude.{◌≡◌, ◌&&◌, ℕ, [], None, Some, true, is_some, not, length, ◌≤◌, IfOk, OnOk, OnErr, List, Option, if◌then◌else◌};
 ghost use Rattle.vm_base.specs.Functions.{put, over, has};
 ghost use Rattle.vm_base.specs.Pages.{is_page as is_valid, are_pages};
 ghost use Rattle.mmu.specs.declared.entry.Translation.{Translation};
 ghost use Rattle.mmu.specs.declared.tlb.TlbEntry.{TlbEntry};
 ghost use Rattle.mmu.specs.Entry.{has_right, translation_of};
-ghost use Rattle.mmu.specs.Tlb.{tlb_at, tlb_without, is_page};
+ghost use Rattle.mmu.specs.Tlb.{tlb_at, tlb_without, is_page, are_distinct};
 ghost use Rattle.mmu.specs.Tables.{on_pages, translated, tlb_after, tlb_walked, word_of};
 
 use crate::entry::Translation;
 use crate::level::{Inner, Leaf, Level};
-use crate::tlb::{self, PLACES, TlbEntry};
+use crate::tlb::Tlb;
 use crate::translated::Translated;
-use arrayvec::ArrayVec;
 use std::alloc::Allocator;
 use vm_base::{Access, NoMemory, PageRange, Prot};
 
@@ -39,13 +38,14 @@ pub trait Hardware: Drop {
         ensures table { table self.new ≡ table self.old }
         ensures tlb { tlb self.new ≡ tlb_after result page (table self.old page) (tlb self.old) };
 
-    /// Sets the table entry of a page whose protection gives some right. Where memory is refused no entry changes. The
-    /// TLB stays in both cases.
+    /// Sets the table entry of a page whose protection gives some right. Memory may be wanting only where the page
+    /// has no entry; then no entry changes. The TLB stays in both cases.
     fn install(&mut self, page: u64, frame: u32, prot: Prot) -> Result<(), NoMemory>
         requires page { is_valid page ≡ true }
         requires some_right { has_right prot ≡ true }
         ensures ok { OnOk result (table self.new ≡ put (table self.old) page (Some (translation_of frame prot))) }
         ensures err { OnErr result (table self.new ≡ table self.old) }
+        ensures err_only { OnErr result (table self.old page ≡ None) }
         ensures tlb { tlb self.new ≡ tlb self.old };
 
     /// Fills the TLB from the tables without an access, where the tables have the page and the TLB hasn't; tells
@@ -78,13 +78,17 @@ pub trait Hardware: Drop {
     fn entry(&self, page: u64) -> Option<u64>
         requires { is_valid page ≡ true }
         ensures { result ≡ word_of (table self.now page) };
+
+    ghost few: { (c : Self) → length (tlb c) ≤ 64 };
+
+    ghost distinct: { (c : Self) → are_distinct (tlb c) ≡ true };
 }
 
 /// A core's tables and TLB.
 #[derive(Drop)]
 pub struct Cpu<A: Allocator + Clone> {
     root: Root<A>,
-    tlb: ArrayVec<TlbEntry, PLACES>,
+    tlb: Tlb,
     alloc: A,
 }
 
@@ -101,7 +105,7 @@ impl<A: Allocator + Clone> Cpu<A> {
             Err(_) => Err(NoMemory),
             Ok(root) => Ok(Cpu {
                 root,
-                tlb: ArrayVec::new(),
+                tlb: Tlb::new(),
                 alloc,
             }),
         }
@@ -111,20 +115,24 @@ impl<A: Allocator + Clone> Cpu<A> {
 impl<A: Allocator + Clone> Hardware for Cpu<A> {
     ghost table = { λ c. on_pages (⟦<Root<A> as Level<A>>⟧.entry_at c.root) };
 
-    ghost tlb = { λ c. c.tlb.items };
+    ghost tlb = { λ c. c.tlb.entries.items };
+
+    ghost few = { λ c. c.tlb.few };
+
+    ghost distinct = { λ c. c.tlb.distinct };
 
     fn translate(&mut self, page: u64, access: Access) -> Translated {
-        if let Some(cached) = tlb::find(&self.tlb, page) {
+        if let Some(cached) = self.tlb.find(page) {
             if cached.permits(access) {
                 return Translated::Hit(cached.frame);
             }
         } else if let Some(entry) = self.root.entry(PAGES, page) {
             if entry.permits(access) {
-                tlb::fill(&mut self.tlb, page, entry);
+                self.tlb.fill(page, entry);
                 return Translated::Fill(entry.frame);
             }
         }
-        tlb::drop_page(&mut self.tlb, page);
+        self.tlb.drop_page(page);
         Translated::Fault
     }
 
@@ -134,21 +142,21 @@ impl<A: Allocator + Clone> Hardware for Cpu<A> {
     }
 
     fn walk(&mut self, page: u64) -> bool {
-        if tlb::find(&self.tlb, page) != None {
+        if self.tlb.find(page) != None {
             return false;
         }
         let Some(entry) = self.root.entry(PAGES, page) else {
             return false;
         };
-        tlb::fill(&mut self.tlb, page, entry);
+        self.tlb.fill(page, entry);
         true
     }
 
     fn evict(&mut self, page: u64) -> bool {
-        match tlb::find(&self.tlb, page) {
+        match self.tlb.find(page) {
             None => false,
             Some(_) => {
-                tlb::drop_page(&mut self.tlb, page);
+                self.tlb.drop_page(page);
                 true
             }
         }
@@ -159,7 +167,7 @@ impl<A: Allocator + Clone> Hardware for Cpu<A> {
     }
 
     fn invalidate(&mut self, range: PageRange) {
-        tlb::invalidate(&mut self.tlb, range);
+        self.tlb.invalidate(range);
     }
 
     fn entry(&self, page: u64) -> Option<u64> {

@@ -36,7 +36,7 @@ pub trait Level<A: Allocator>: Drop {
         Self: Sized,
         ensures { IfOk result (λ t. (page : ℕ) → entry_at t page ≡ None) };
 
-    /// Sets the entry of a page. Where memory is refused no entry changes.
+    /// Sets the entry of a page. Where memory is refused the page has none, and no entry changes.
     fn install(
         &mut self,
         alloc: &A,
@@ -48,6 +48,7 @@ pub trait Level<A: Allocator>: Drop {
         requires page { page < pages }
         ensures there { OnOk result (entry_at self.new page ≡ Some translation) }
         ensures err { OnErr result (entry_at self.new page ≡ entry_at self.old page) }
+        ensures err_only { OnErr result (entry_at self.old page ≡ None) }
         ensures others { (q : ℕ) → q < pages → q ≢ page → entry_at self.new q ≡ entry_at self.old q };
 
     ghost some_page: { 0 < pages };

@@ -10,6 +10,6 @@ pub mod tlb;
 pub mod translated;
 
 pub use cpu::{Cpu, Hardware};
-pub use entry::{Translation, indices};
+pub use entry::{Translation, has_right, indices};
 pub use tlb::TlbEntry;
 pub use translated::Translated;

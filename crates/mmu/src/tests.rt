@@ -1,6 +1,9 @@
 //! Each public call on its way that succeeds, with values of the manual and of the project's rules, and each allocation
 //! of `install` refused in turn.
-use crate::{Cpu, Hardware, Translated, indices};
+ghost use Rattle.std.specs.Prelude.{◌≡◌, true};
+ghost use Rattle.vm_base.specs.Pages.{is_page};
+
+use crate::{Cpu, Hardware, Translated, has_right, indices};
 use linked_list_allocator::LocalHeap;
 use std::alloc::{Allocator, Global};
 use vm_base::{Access, NoMemory, PageRange, Prot};
@@ -17,18 +20,41 @@ const READ_EXECUTE: Prot = Prot {
     exec: true,
 };
 
-/// The entries of a writable and of an executable page of frame 3.
-fn entries(alloc: Global) -> Result<[Option<u64>; 2], NoMemory> {
+const NONE: Prot = Prot {
+    read: false,
+    write: false,
+    exec: false,
+};
+
+/// Sets the entry of the page, if its protection gives some right.
+fn set<A: Allocator + Clone>(
+    cpu: &mut Cpu<A>,
+    page: u64,
+    frame: u32,
+    prot: Prot,
+) -> Result<(), NoMemory>
+    requires { is_page page ≡ true }
+{
+    if has_right(prot) {
+        cpu.install(page, frame, prot)?;
+    }
+    Ok(())
+}
+
+/// The entries of a writable page of frame 3, of the page when it is set again, and of one without rights.
+fn entries(alloc: Global) -> Result<[Option<u64>; 3], NoMemory> {
     let mut cpu = Cpu::new(alloc)?;
-    cpu.install(16, 3, READ_WRITE)?;
-    cpu.install(17, 3, READ_EXECUTE)?;
-    Ok([cpu.entry(16), cpu.entry(17)])
+    set(&mut cpu, 16, 3, READ_WRITE)?;
+    let first = cpu.entry(16);
+    set(&mut cpu, 16, 3, READ_EXECUTE)?;
+    set(&mut cpu, 17, 4, NONE)?;
+    Ok([first, cpu.entry(16), cpu.entry(17)])
 }
 
 #[test]
 fn entries_have_the_bits_of_the_manual(rt: HostRuntime) {
     let got = entries(rt.alloc());
-    assert_eq!(rt; got, Ok([Some(0x8000_0000_0000_3007), Some(0x3005)]));
+    assert_eq!(rt; got, Ok([Some(0x8000_0000_0000_3007), Some(0x3005), None]));
 }
 
 #[test]
@@ -106,7 +132,8 @@ fn a_page_is_walked_and_evicted_once(rt: HostRuntime) {
     assert_eq!(rt; got, Ok([true, false, true, false]));
 }
 
-/// Whether an installation was made with this allocator, and whether the entries then are as before it.
+/// Whether an installation was made with this allocator, and whether the entries then are as before it. Where a table is
+/// there, an entry can be set in both cases.
 fn tried<A: Allocator + Clone>(alloc: A) -> Result<(bool, bool), NoMemory> {
     let mut cpu = Cpu::new(alloc)?;
     cpu.install(1, 7, READ_WRITE)?;
@@ -117,6 +144,9 @@ fn tried<A: Allocator + Clone>(alloc: A) -> Result<(bool, bool), NoMemory> {
         Err(_) => false,
     };
     let after = seen(&cpu);
+    if let Err(_) = cpu.install(2, 10, READ_EXECUTE) {
+        return Ok((done, done));
+    }
     Ok((done, before == after))
 }
 

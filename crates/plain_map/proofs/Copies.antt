@@ -16,7 +16,7 @@ use Rattle.plain_map.specs.declared.own.OwnPage.{OwnPage}
 use Rattle.plain_map.specs.Mappings.{or_else}
 use Rattle.plain_map.specs.Owned.{own_at, copy_of, written}
 use Rattle.plain_map.specs.Shown.{own_shown, entry_of, is_anonymous, lacks_bytes, back_shared, shared_of, is_done, IsUncopied}
-use Rattle.plain_map.specs.Answers.{DetachesTo}
+use Rattle.plain_map.specs.Detaches.{DetachesTo}
 use Rattle.plain_map.proofs.Owned.{own_at-append}
 use Rattle.plain_map.proofs.Writes.{put_self}
 use Rattle.plain_map.proofs.Views.{state}

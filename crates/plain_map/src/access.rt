@@ -7,7 +7,6 @@ ghost use Rattle.plain_map.specs.Pages.{bytes_in};
 ghost use Rattle.plain_map.specs.Files.{files_of};
 ghost use Rattle.plain_map.specs.Mappings.{meta_at};
 ghost use Rattle.plain_map.specs.Owned.{own_at, byte_at};
-ghost use Rattle.plain_map.specs.Answers.{access_of};
 ghost use Rattle.plain_map.specs.Shown.{own_shown, entry_of, shared_of};
 
 use crate::bytes::PageBytes;
@@ -16,32 +15,7 @@ use crate::mapping::Mapping;
 use crate::own::{OwnPage, has_own, own_byte};
 use crate::parts::meta;
 use std::alloc::Allocator;
-use vm_base::{Access, Back, NoMemory, Reply, Request, SegvCode, allows};
-
-/// An access to the byte at an address, and the byte that is stored (0 where none is).
-#[derive(Clone, Copy, Debug)]
-pub struct ByteAccess {
-    pub addr: u64,
-    pub access: Access,
-    pub stored: u8,
-}
-
-/// The access that the request asks for, if it is one.
-pub fn access_of(request: Request) -> Option<ByteAccess>
-    ensures { result ≡ access_of request }
-{
-    let (addr, access, stored) = match request {
-        Request::Load { addr } => (addr, Access::Load, 0),
-        Request::Store { addr, byte } => (addr, Access::Store, byte),
-        Request::Fetch { addr } => (addr, Access::Fetch, 0),
-        _ => return None,
-    };
-    Some(ByteAccess {
-        addr,
-        access,
-        stored,
-    })
-}
+use vm_base::{Access, Back, NoMemory, Reply, SegvCode, allows};
 
 /// A byte of a file's page, if there is such a page.
 pub fn file_byte<A: Allocator>(
@@ -140,12 +114,12 @@ fn shown<A: Allocator>(
     }
 }
 
-/// Tells whether the page is a private one of a file without own bytes.
-fn needs_copy<A: Allocator>(owned: &[OwnPage<A>], back: Back, page: u64) -> bool
-    ensures { result ≡ needs_copy back (own_shown back (own_at owned.now page)) }
+/// Tells whether the access is a store to a private page of a file without own bytes.
+fn needs_copy<A: Allocator>(owned: &[OwnPage<A>], access: Access, back: Back, page: u64) -> bool
+    ensures { result ≡ needs_copy access back (own_shown back (own_at owned.now page)) }
 {
-    match back {
-        Back::Private { .. } => !has_own(owned, page),
+    match (access, back) {
+        (Access::Store, Back::Private { .. }) => !has_own(owned, page),
         _ => false,
     }
 }
@@ -181,7 +155,7 @@ pub fn page_reply<A: Allocator>(
     let Some(byte) = shown(files, owned, meta.back, page, offset) else {
         return Some(Reply::Bus);
     };
-    if needs_copy(owned, meta.back, page) {
+    if needs_copy(owned, access, meta.back, page) {
         return None;
     }
     Some(byte_reply(access, byte))

@@ -227,10 +227,3 @@ same_slots i ss d s is = ap (set ss i) is ∙ set-get_or ss i d
 -- a child that was written as it is
 pub same_child : {A : Type 0} (i : ℕ) (ss : List (Slot A)) (d : Slot A) (b c : Box (Node A) A) → Child b ≡ get_or ss i d → Child c ≡ Child b → parts_of (set ss i (Child c)) ≡ parts_of ss
 same_child i ss d b c is e = map-set_same part_of ss i (Child c) d (ap part_of (e ∙ is))
-
--- what the slot of a page may be written with
-pub own_sound : {A : Type 0} {level page i rest : ℕ} {ss : List (Slot A)} (d : Slot A) (s : SlotState) (t : State) (v : Parts) → IsNode level ss → IsPlace level page i rest → OwnSlot s ≡ get_or ss i d
-    → record { level = level; parts = parts_of ss } ≡ v → IsSound (cell_at (runs v) page).width t → IsSound (width_of level) t
-own_sound {page = page} d s t v n at is same h =
-    let e = ap (λ (v : Parts). (cell_at (runs v) page).width) (sym same) ∙ ap (λ (c : Cell). c.width) (cell_at-Own d s n at is) in
-    subst (λ w. IsSound w t) e h

@@ -3,3 +3,5 @@ pub mod Flat
 pub mod Divided
 pub mod Joined
 pub mod Folds
+pub mod Walks
+pub mod Edits

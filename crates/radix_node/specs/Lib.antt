@@ -3,3 +3,5 @@ pub mod Run
 pub mod Node
 pub mod Slots
 pub mod SlotsFall
+pub mod Walk
+pub mod Edit

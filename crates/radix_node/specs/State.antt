@@ -1,9 +1,11 @@
 -- What a slot that is no child says of its pages
-use Rattle.std.specs.Prelude.{◌≡◌, ℕ, false, Option, Some, None}
+use Rattle.std.specs.Prelude.{◌≡◌, ℕ, Bool, true, false, Option, Some, None}
+use Rattle.vm_base.specs.declared.info.Back.{Back}
+use Rattle.vm_base.specs.declared.info.Back.TheVariants.{Anon, Shared, Private}
 use Rattle.vm_base.specs.declared.info.PageInfo.{PageInfo}
-use Rattle.vm_base.specs.Info.{info_from, is_leaf, unused}
-use Rattle.radix_node.specs.declared.state.Content.{Content}
-use Rattle.radix_node.specs.declared.state.Content.TheVariants.{Empty, Folded, Leaf}
+use Rattle.vm_base.specs.Info.{info_from, is_leaf}
+use Rattle.radix_node.specs.declared.state.Kind.{Kind}
+use Rattle.radix_node.specs.declared.state.Kind.TheVariants.{Unmapped, Zeros, OfFile, Copies}
 use Rattle.radix_node.specs.declared.state.SlotState.{SlotState}
 
 -- what the first page has, and the core that holds the slot
@@ -11,13 +13,24 @@ pub record State : Type 0 where
   pub info : Option PageInfo
   pub owner : Option ℕ
 
-abbrev pub info_of : Content → Option PageInfo
-info_of Empty = None
-info_of (Folded meta) = Some (unused meta)
-info_of (Leaf info) = Some info
+-- what backs a page, by its kind, a file and a page of the file
+abbrev pub back_of : Kind → ℕ → ℕ → Option Back
+back_of Unmapped file page = None
+back_of Zeros file page = Some Anon
+back_of OfFile file page = Some (Shared file page)
+back_of Copies file page = Some (Private file page)
+
+abbrev pub frame_in : Bool → ℕ → Option ℕ
+frame_in false frame = None
+frame_in true frame = Some frame
+
+-- what a page with this backing has, if it is mapped
+abbrev pub info_in : Option Back → SlotState → Option PageInfo
+info_in None s = None
+info_in (Some back) s = Some (record { meta = record { back = back; prot = s.prot }; frame = frame_in s.has_frame s.frame; cores = s.cores })
 
 abbrev pub state_of : SlotState → State
-state_of s = record { info = info_of s.content; owner = s.owner }
+state_of s = record { info = info_in (back_of s.kind s.file s.file_page) s; owner = s.owner }
 
 abbrev pub no_state : State
 no_state = record { info = None; owner = None }

@@ -1,12 +1,16 @@
 //! One node of the radix tree: 512 slots, each with what its pages have, or with a node below.
 #![tactic(auto)]
 
+pub mod edit;
 pub mod node;
 pub mod place;
 pub mod state;
+pub mod walk;
 
+pub use edit::Edit;
 pub use node::{Found, Node, Slot};
-pub use state::{Content, SlotState};
+pub use state::{Kind, SlotState};
+pub use walk::FreeRun;
 
 #[cfg(test)]
 mod tests;

@@ -10,7 +10,7 @@ use crate::place::{SLOTS, place_of, slot_pages};
 use crate::state::SlotState;
 use std::alloc::Allocator;
 use std::marker::Model;
-use vm_base::NoMemory;
+use vm_base::{CoreId, NoMemory};
 
 /// A slot of a node.
 #[cycle(node)]
@@ -27,8 +27,8 @@ pub enum Slot<A: Allocator> {
 #[cycle(node)]
 #[derive(Drop)]
 pub struct Node<A: Allocator> {
-    level: u8,
-    slots: Vec<Slot<A>, A>,
+    pub(crate) level: u8,
+    pub(crate) slots: Vec<Slot<A>, A>,
 }
 
 impl<A: Allocator> Model for Node<A> {
@@ -95,22 +95,23 @@ impl<A: Allocator> Node<A> {
         }
     }
 
-    /// Gives the slot that has the page another state. The caller has seen that the file pages fit, and that only a slot
-    /// of one page has a frame or a recorded core.
-    pub fn set_at(&mut self, page: u64, state: &SlotState)
-        requires within { page < 512 * width_of self.old.level }
-        requires sound { IsSound (cell_at (runs self.old) page).width (state_of state.now) }
+    /// Gives the slot that has the page another owner, and answers the slot's level.
+    pub fn own_at(&mut self, page: u64, owner: Option<CoreId>) -> u8
+        requires { page < 512 * width_of self.old.level }
         ensures level { self.new.level ≡ self.old.level }
         ensures whole { IsWhole self.new.level (512 * width_of self.new.level) (runs self.new) }
-        ensures set { runs self.new ≡ with_run (in_state (state_of state.now)) (runs self.old) page }
+        ensures set { runs self.new ≡ with_run (in_state (record { info = (cell_at (runs self.old) page).state.info; owner = owner })) (runs self.old) page }
+        ensures low { result ≤ 3 }
+        ensures width { width_of result ≡ (cell_at (runs self.old) page).width }
     {
-        let place = place_of(self.level, page);
+        let level = self.level;
+        let place = place_of(level, page);
         match &mut self.slots[place.slot] {
             Slot::Own(own) => {
-                *own = *state;
-                return;
+                own.set_owner(owner);
+                return level;
             }
-            Slot::Child(node) => node.set_at(place.rest, state),
+            Slot::Child(node) => node.own_at(place.rest, owner),
         }
     }
 

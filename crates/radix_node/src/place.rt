@@ -1,5 +1,5 @@
 //! Where in a node a page is.
-ghost use Rattle.std.specs.Prelude.{◌≡◌, ◌+◌, ◌*◌, ◌<◌, ◌≤◌, ◌^◌};
+ghost use Rattle.std.specs.Prelude.{◌≡◌, ◌+◌, ◌*◌, ◌<◌, ◌≤◌, ◌^◌, min, max};
 ghost use Rattle.radix_node.specs.Run.{width_of};
 
 /// Slots of a node.
@@ -35,5 +35,56 @@ pub fn place_of(level: u8, page: u64) -> Place
     Place {
         slot: slot as usize,
         rest: page - slot * width,
+    }
+}
+
+/// The slots of a node that have some page of a range: from one up to another.
+#[derive(Clone, Copy, Debug)]
+pub struct SlotSpan {
+    pub from: usize,
+    pub to: usize,
+}
+
+/// The slots of a node of the level that have the pages from `first` up to `end`, which are counted from the node's first.
+#[inline(always)]
+pub fn slots_of(level: u8, first: u64, end: u64) -> SlotSpan
+    requires level { level ≤ 3 }
+    requires some { first < end }
+    requires within { end ≤ 512 * width_of level }
+    ensures to { result.to ≤ 512 }
+    ensures some { result.from < result.to }
+    ensures from_low { result.from * width_of level ≤ first }
+    ensures from_high { first < result.from * width_of level + width_of level }
+    ensures to_low { result.to * width_of level < end + width_of level }
+    ensures to_high { end ≤ result.to * width_of level }
+{
+    let from = place_of(level, first).slot;
+    let last = place_of(level, end - 1).slot;
+    SlotSpan { from, to: last + 1 }
+}
+
+/// Pages of a slot, counted from the slot's first.
+#[derive(Clone, Copy, Debug)]
+pub struct Part {
+    pub first: u64,
+    pub end: u64,
+}
+
+/// The pages from `first` up to `end` that a slot of so many pages has which begins at `start`.
+#[inline(always)]
+pub fn part_in(first: u64, end: u64, start: u64, width: u64) -> Part
+    requires some { first < end }
+    requires starts { start < end }
+    requires ends { first < start + width }
+    requires wide { 0 < width }
+    requires small { start + width ≤ 2 ^ 36 }
+    ensures first { start + result.first ≡ max first start }
+    ensures end { start + result.end ≡ min end (start + width) }
+    ensures some { result.first < result.end }
+    ensures within { result.end ≤ width }
+{
+    Part {
+        first: first.max(start) - start,
+        end: end.min(start + width) - start,
     }
 }

@@ -1,28 +1,52 @@
 //! What a slot that is no child says of its pages.
-ghost use Rattle.std.specs.Prelude.{◌≡◌, ◌+◌, ◌<◌, ◌^◌, ◌↔◌, IsTrue, Option, Some, is_some, true, false};
+ghost use Rattle.std.specs.Prelude.{◌≡◌, ◌+◌, ◌<◌, ◌^◌, ◌↔◌, IsTrue, Option, None, Some, is_some, true, false};
 ghost use Rattle.vm_base.specs.Cores.{members};
 ghost use Rattle.vm_base.specs.Info.{info_file_page, info_from, is_leaf, frame_of, is_recorded};
-ghost use Rattle.radix_node.specs.State.{info_of, state_of, state_from, IsPlain};
+ghost use Rattle.radix_node.specs.Edit.{CanEdit, edited};
+ghost use Rattle.radix_node.specs.State.{back_of, frame_in, state_of, state_from, IsPlain};
 
+use crate::edit::Edit;
 use vm_base::info::info_from;
-use vm_base::{CoreId, CoreSet, Meta, PageInfo};
+use vm_base::{Back, CoreId, CoreSet, Meta, PageInfo, Prot};
 
-/// What the pages of a slot have.
+/// What backs the pages of a slot.
 #[derive(Clone, Copy, Debug)]
-pub enum Content {
+pub enum Kind {
     /// Nothing is mapped.
-    Empty,
-    /// A mapping of the first page, which goes on from page to page. No core has used a page.
-    Folded(Meta),
-    /// What the slot's one page has.
-    Leaf(PageInfo),
+    Unmapped,
+    /// Zero bytes.
+    Zeros,
+    /// Pages of a file, which a store changes.
+    OfFile,
+    /// Copies of pages of a file.
+    Copies,
 }
 
-/// A slot that is no child: what its pages have, and the core that holds it.
+/// A slot that is no child: what its pages have, and the core that holds it. Its parts lie side by side, in 32 bytes, since
+/// a node has 512 slots.
 #[derive(Clone, Copy, Debug)]
 pub struct SlotState {
-    content: Content,
+    // the file page of the first page, where a file backs it
+    file_page: u64,
+    // this and all that follows but the owner says something where the slot is mapped
+    cores: CoreSet,
+    file: u32,
+    frame: u32,
+    has_frame: bool,
+    kind: Kind,
+    prot: Prot,
     owner: Option<CoreId>,
+}
+
+// A backing as its kind, the file, and the page in it.
+fn parts_of(back: Back) -> (Kind, u32, u64)
+    ensures { back_of result.0 result.1 result.2 ≡ Some back }
+{
+    match back {
+        Back::Anon => (Kind::Zeros, 0, 0),
+        Back::Shared { file, page } => (Kind::OfFile, file, page),
+        Back::Private { file, page } => (Kind::Copies, file, page),
+    }
 }
 
 impl SlotState {
@@ -30,21 +54,88 @@ impl SlotState {
     pub fn new(info: Option<PageInfo>, owner: Option<CoreId>) -> SlotState
         ensures { state_of result ≡ record { info = info; owner = owner } }
     {
-        let content = match info {
-            None => Content::Empty,
-            Some(info) => content_of(info),
+        match info {
+            None => SlotState::unmapped(owner),
+            Some(info) => SlotState::mapped(info, owner),
+        }
+    }
+
+    // A slot with nothing mapped.
+    fn unmapped(owner: Option<CoreId>) -> SlotState
+        ensures { state_of result ≡ record { info = None; owner = owner } }
+    {
+        SlotState {
+            file_page: 0,
+            cores: CoreSet::empty(),
+            file: 0,
+            frame: 0,
+            has_frame: false,
+            kind: Kind::Unmapped,
+            prot: Prot {
+                read: false,
+                write: false,
+                exec: false,
+            },
+            owner,
+        }
+    }
+
+    fn mapped(info: PageInfo, owner: Option<CoreId>) -> SlotState
+        ensures { state_of result ≡ record { info = Some info; owner = owner } }
+    {
+        let (kind, file, file_page) = parts_of(info.meta.back);
+        let (has_frame, frame) = match info.frame {
+            None => (false, 0),
+            Some(frame) => (true, frame),
         };
-        SlotState { content, owner }
+        SlotState {
+            file_page,
+            cores: info.cores,
+            file,
+            frame,
+            has_frame,
+            kind,
+            prot: info.meta.prot,
+            owner,
+        }
+    }
+
+    // What backs the slot's first page.
+    fn back(&self) -> Option<Back>
+        ensures { result ≡ back_of self.now.kind self.now.file self.now.file_page }
+    {
+        match self.kind {
+            Kind::Unmapped => None,
+            Kind::Zeros => Some(Back::Anon),
+            Kind::OfFile => Some(Back::Shared {
+                file: self.file,
+                page: self.file_page,
+            }),
+            Kind::Copies => Some(Back::Private {
+                file: self.file,
+                page: self.file_page,
+            }),
+        }
     }
 
     /// What the slot's first page has.
     pub fn info(&self) -> Option<PageInfo>
         ensures { result ≡ (state_of self.now).info }
     {
-        match self.content {
-            Content::Empty => None,
-            Content::Folded(meta) => Some(PageInfo::unused(meta)),
-            Content::Leaf(info) => Some(info),
+        match self.back() {
+            None => None,
+            Some(back) => Some(PageInfo {
+                meta: Meta {
+                    back,
+                    prot: self.prot,
+                },
+                frame: if self.has_frame {
+                    Some(self.frame)
+                } else {
+                    None
+                },
+                cores: self.cores,
+            }),
         }
     }
 
@@ -55,13 +146,56 @@ impl SlotState {
         self.owner
     }
 
+    /// Gives the slot another owner.
+    pub fn set_owner(&mut self, owner: Option<CoreId>)
+        ensures { state_of self.new ≡ record { info = (state_of self.old).info; owner = owner } }
+    {
+        self.owner = owner;
+    }
+
+    // Maps the slot's first page as the one `by` pages after a page with this.
+    fn put(&mut self, info: &PageInfo, by: u64)
+        requires { info_file_page (Some info.now) + by < 2 ^ 64 }
+        ensures { state_of self.new ≡ record { info = info_from (Some info.now) by; owner = (state_of self.old).owner } }
+    {
+        let meta = info.meta.advanced(by);
+        let (kind, file, file_page) = parts_of(meta.back);
+        let (has_frame, frame) = match info.frame {
+            None => (false, 0),
+            Some(frame) => (true, frame),
+        };
+        self.file_page = file_page;
+        self.cores = info.cores;
+        self.file = file;
+        self.frame = frame;
+        self.has_frame = has_frame;
+        self.kind = kind;
+        self.prot = meta.prot;
+    }
+
+    /// Changes the slot as one of a range that begins `by` pages before it.
+    pub fn edit(&mut self, edit: &Edit, by: u64)
+        requires { CanEdit edit.now (by + 1) }
+        ensures { state_of self.new ≡ edited edit.now by (state_of self.old) }
+    {
+        match edit {
+            Edit::Put(None) => self.kind = Kind::Unmapped,
+            Edit::Put(Some(info)) => self.put(info, by),
+            Edit::Protect(prot) => {
+                self.prot = *prot;
+                self.cores = CoreSet::empty();
+            }
+            Edit::DropFrame => self.has_frame = false,
+        }
+    }
+
     /// The cores that are recorded on the slot's first page.
     pub fn cores(&self) -> CoreSet
         ensures { members result ≡ is_recorded (state_of self.now).info }
     {
-        match self.content {
-            Content::Leaf(info) => info.cores,
-            Content::Empty | Content::Folded(_) => CoreSet::empty(),
+        match self.kind {
+            Kind::Unmapped => CoreSet::empty(),
+            _ => self.cores,
         }
     }
 
@@ -69,9 +203,10 @@ impl SlotState {
     pub fn frame(&self) -> Option<u32>
         ensures { result ≡ frame_of (state_of self.now).info }
     {
-        match self.content {
-            Content::Leaf(info) => info.frame,
-            Content::Empty | Content::Folded(_) => None,
+        if self.has_frame && self.is_mapped() {
+            Some(self.frame)
+        } else {
+            None
         }
     }
 
@@ -79,10 +214,7 @@ impl SlotState {
     pub fn is_mapped(&self) -> bool
         ensures { result ≡ is_some (state_of self.now).info }
     {
-        match self.content {
-            Content::Empty => false,
-            Content::Folded(_) | Content::Leaf(_) => true,
-        }
+        !matches!(self.kind, Kind::Unmapped)
     }
 
     /// What the slot says `by` pages on, as a slot of its own.
@@ -100,10 +232,9 @@ impl SlotState {
         if self.owner.is_some() {
             return false;
         }
-        match self.content {
-            Content::Empty => true,
-            Content::Folded(_) => true,
-            Content::Leaf(info) => info.frame.is_none() && info.cores.is_empty(),
+        match self.info() {
+            None => true,
+            Some(info) => !is_used(&info),
         }
     }
 
@@ -126,15 +257,6 @@ fn is_used(info: &PageInfo) -> bool
     ensures { IsTrue result ↔ (is_leaf (Some info.now) ≡ true) }
 {
     info.frame.is_some() || !info.cores.is_empty()
-}
-
-fn content_of(info: PageInfo) -> Content
-    ensures { info_of result ≡ Some info }
-{
-    if is_used(&info) {
-        return Content::Leaf(info);
-    }
-    Content::Folded(info.meta)
 }
 
 fn is_same(meta: Meta, other: Meta) -> bool

@@ -1,9 +1,11 @@
 //! Each call once with ample memory, and a making and an expansion refused for want of it.
-ghost use Rattle.std.specs.Prelude.{◌≡◌, ◌+◌, ◌<◌, ◌≤◌, ◌^◌, false};
+ghost use Rattle.std.specs.Prelude.{◌≡◌, ◌+◌, ◌<◌, ◌≤◌, ◌^◌, false, Some};
 ghost use Rattle.vm_base.specs.Info.{info_file_page, is_leaf};
 
+use crate::edit::Edit;
 use crate::node::{Found, Node};
 use crate::state::SlotState;
+use crate::walk::FreeRun;
 use linked_list_allocator::LocalHeap;
 use std::alloc::Allocator;
 use std::test::Fail;
@@ -48,15 +50,27 @@ fn look<A: Allocator>(node: &Node<A>, page: u64) -> Option<Seen> {
     Some(seen(node.descend(page)))
 }
 
-// Gives the page's slot a mapping that no core has used, or nothing.
-fn put<A: Allocator>(node: &mut Node<A>, page: u64, info: Option<PageInfo>, owner: Option<CoreId>)
+// Gives the slots from one page up to another a mapping that no core has used, or nothing.
+fn put<A: Allocator>(node: &mut Node<A>, first: u64, end: u64, info: Option<PageInfo>)
     requires unused { is_leaf info ≡ false }
     requires fits { info_file_page info ≤ 2 ^ 32 }
 {
-    if node.level() != 1 || page >= 262_144 || node.descend(page).width > 512 {
+    if node.level() != 1 || end >= 262_144 || first >= end {
         return;
     }
-    node.set_at(page, &SlotState::new(info, owner));
+    if node.descend(first).offset != 0 || node.descend(end).offset != 0 {
+        return;
+    }
+    node.edit(first, end, &Edit::Put(info), 0);
+}
+
+fn own<A: Allocator>(node: &mut Node<A>, page: u64, core: u8) -> Option<u8>
+    requires { core < 64 }
+{
+    if node.level() != 1 || page >= 262_144 {
+        return None;
+    }
+    Some(node.own_at(page, Some(CoreId::new(core))))
 }
 
 fn expand<A: Allocator + Clone>(node: &mut Node<A>, slot: usize) -> Result<bool, NoMemory>
@@ -89,6 +103,7 @@ fn fold_at<A: Allocator>(node: &mut Node<A>, page: u64) -> bool {
 #[derive(Clone, Copy)]
 struct Expansion {
     before: [Option<Seen>; 2],
+    level: Option<u8>,
     after: [Option<Seen>; 5],
     expanded: [bool; 2],
     folded: bool,
@@ -96,12 +111,8 @@ struct Expansion {
 
 fn an_expansion<A: Allocator + Clone>(node: &mut Node<A>) -> Result<Expansion, NoMemory> {
     let empty = look(node, 1030);
-    put(
-        node,
-        1030,
-        Some(PageInfo::unused(FILE)),
-        Some(CoreId::new(7)),
-    );
+    put(node, 1024, 1536, Some(PageInfo::unused(FILE)));
+    let level = own(node, 1030, 7);
     let mapped = look(node, 1030);
     let first = expand(node, 2)?;
     let second = expand(node, 2)?;
@@ -114,6 +125,7 @@ fn an_expansion<A: Allocator + Clone>(node: &mut Node<A>) -> Result<Expansion, N
     ];
     Ok(Expansion {
         before: [empty, mapped],
+        level,
         after,
         expanded: [first, second],
         folded: node.fold(2),
@@ -132,6 +144,7 @@ fn an_expansion_carries_on(rt: HostRuntime) -> Result<(), Fail> {
     let told = expansion_of_new(rt.alloc())?;
     assert_eq!(rt; told.before[0], Some((None, None, 6, 512)));
     assert_eq!(rt; told.before[1], Some((Some(5), Some(7), 6, 512)));
+    assert_eq!(rt; told.level, Some(1));
     assert_eq!(rt; told.expanded, [true, false]);
     // the slot's first page is 1024, with file page 5
     assert_eq!(rt; told.after[0], Some((Some(5), Some(7), 0, 1)));
@@ -146,13 +159,13 @@ fn an_expansion_carries_on(rt: HostRuntime) -> Result<(), Fail> {
 
 // Whether a node is folded with a gap in it, without one, and once more; and a slot of it then.
 fn folds<A: Allocator + Clone>(node: &mut Node<A>) -> Result<([bool; 3], Option<Seen>), NoMemory> {
-    put(node, 1024, Some(PageInfo::unused(FILE)), None);
+    put(node, 1024, 1536, Some(PageInfo::unused(FILE)));
     expand_at(node, 1030)?;
-    put(node, 1030, None, None);
+    put(node, 1030, 1031, None);
     let gap = fold_at(node, 1024);
     let back = Back::Private { file: 3, page: 11 };
     let meta = Meta { back, ..FILE };
-    put(node, 1030, Some(PageInfo::unused(meta)), None);
+    put(node, 1030, 1031, Some(PageInfo::unused(meta)));
     let whole = fold_at(node, 1535);
     // the node itself isn't folded
     let top = fold_at(node, 1535);
@@ -178,7 +191,7 @@ fn a_fold_joins_what_goes_on(rt: HostRuntime) -> Result<(), Fail> {
 fn refusal<A: Allocator + Clone>(heap: A) -> Option<(bool, Option<Seen>)> {
     match Node::new(heap, 1) {
         Ok(mut node) => {
-            put(&mut node, 1024, Some(PageInfo::unused(FILE)), None);
+            put(&mut node, 1024, 1536, Some(PageInfo::unused(FILE)));
             let refused = if let Err(_) = expand(&mut node, 2) {
                 true
             } else {
@@ -205,7 +218,9 @@ fn refusals_change_nothing(rt: HostRuntime) -> Result<(), Fail> {
     Ok(())
 }
 
-fn used() -> PageInfo {
+fn used() -> PageInfo
+    ensures { info_file_page (Some result) ≡ 5 }
+{
     PageInfo {
         meta: FILE,
         frame: Some(9),
@@ -241,5 +256,46 @@ fn a_mapping() -> [bool; 3] {
 fn a_slot_says_what_it_was_given(rt: HostRuntime) -> Result<(), Fail> {
     assert_eq!(rt; a_leaf(), [true, true, true, true, false]);
     assert_eq!(rt; a_mapping(), [true, true, false]);
+    Ok(())
+}
+
+// What walks over the pages round a used one find: its core, its frame, whether pages are mapped, and free pages.
+type Walked = (bool, Option<(u64, u32)>, [bool; 2], u64);
+
+fn walked<A: Allocator>(node: &mut Node<A>) -> Option<Walked> {
+    if node.level() != 1 || node.descend(1030).offset != 0 || node.descend(1031).offset != 0 {
+        return None;
+    }
+    node.edit(1030, 1031, &Edit::Put(Some(used())), 0);
+    let mapped = [node.all_mapped(1030, 1031), node.all_mapped(1030, 1032)];
+    let free = match node.free_run(0, 1000, 1100, 50, 1000) {
+        FreeRun::Found(page) => page,
+        FreeRun::Open(_) => 0,
+    };
+    Some((
+        node.recorded(1000, 2000).contains(CoreId::new(2)),
+        node.first_frame(1000, 2000),
+        mapped,
+        free,
+    ))
+}
+
+fn walked_in_parts<A: Allocator + Clone>(node: &mut Node<A>) -> Result<Option<Walked>, NoMemory> {
+    expand(node, 2)?;
+    Ok(walked(node))
+}
+
+fn walked_of_new<A: Allocator + Clone>(alloc: A) -> Result<Option<Walked>, NoMemory> {
+    match Node::new(alloc, 1) {
+        Ok(mut node) => walked_in_parts(&mut node),
+        Err(e) => Err(e),
+    }
+}
+
+#[test]
+fn walks_find_a_used_page(rt: HostRuntime) -> Result<(), Fail> {
+    let told = walked_of_new(rt.alloc())?;
+    // pages 1000 to 1029 are too few, and page 1030 is mapped
+    assert!(rt; told == Some((true, Some((1030, 9)), [true, false], 1031)));
     Ok(())
 }

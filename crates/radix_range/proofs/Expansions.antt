@@ -1,24 +1,28 @@
 -- A slot that became 512 slots, and back
-use Rattle.std.proofs.Common.{◌≡◌, ◌≢◌, ℕ, ◌+◌, ◌-◌, ◌*◌, ◌/◌, ◌^◌, ◌<◌, ◌≤◌, ◌==◌, ◌⊎◌, inl, inr, ⊎_elim, Bool, true, false, List, Option, Some, None, refl, sym, ◌∙◌, ap, subst, arith}
+use Rattle.std.proofs.Common.{◌≡◌, ℕ, ◌+◌, ◌-◌, ◌*◌, ◌/◌, ◌%◌, ◌^◌, ◌<◌, ◌≤◌, ◌==◌, ◌⊎◌, inl, inr, ⊎_elim, Bool, true, false, List, Option, Some, None, refl, sym, ◌∙◌, ap, subst, arith}
 use Rattle.std.specs.Prelude.{Result, Ok, Err, OnOk, OnErr}
 use Rattle.std.proofs.lemmas.Bool.{cases_lt}
+use Rattle.std.proofs.lemmas.Nat.{mod-mul-add}
 use Rattle.vm_base.specs.declared.info.PageInfo.{PageInfo}
 use Rattle.vm_base.specs.Pages.{IsPage}
-use Rattle.vm_base.specs.Info.{info_from}
-use Rattle.slot_lock.specs.Slots.{Slots, Divides, Joins, IsSlot}
-use Rattle.slot_lock.specs.RunLaws.{info_from_twice, same_test, other_test, from_test, from_other_test}
+use Rattle.vm_base.specs.declared.page.PageRange.{PageRange}
+use Rattle.vm_base.specs.Functions.{has}
+use Rattle.vm_base.specs.Info.{info_from, is_leaf}
+use Rattle.vm_base.proofs.Functions.{by_test, has_in}
+use Rattle.slot_lock.specs.Slots.{Slots, Divides, DividesAs, Joins, CanBeOne, between}
+use Rattle.slot_lock.specs.RunLaws.{info_from_twice, is_leaf-info_from, same_test, other_test, from_test, from_other_test}
+use Rattle.slot_lock.proofs.Edits.{has_not, same_slots}
 use Rattle.slot_lock.proofs.Steps.{slot_by_edge}
 use Rattle.radix_node.specs.State.{State, no_state, state_from, IsPlain}
 use Rattle.radix_node.specs.Run.{Run, Cell, total, cell_at, with_run, in_parts, divided, width_of, level_of, Folds, IsCell, IsWhole}
 use Rattle.radix_node.specs.Node.{Parts, runs}
-use Rattle.radix_node.proofs.Runs.{moved}
 use Rattle.radix_node.proofs.Flat.{place_index, width-below, width_pos}
 use Rattle.radix_node.proofs.Joined.{cell_at-divided, total-divided}
 use Rattle.radix_node.proofs.Divided.{part_ends}
 use Rattle.radix_node.proofs.Folds.{in_parts-is, large_level}
 use Rattle.radix_range.specs.Tree.{slots_of, tree_slots, IsRadix}
-use Rattle.radix_range.specs.Found.{DividesAt}
-use Rattle.radix_range.specs.Cells.{IsIn, cell_in, run_of, start_of, changed_inside, changed_outside}
+use Rattle.radix_range.specs.Found.{in_512}
+use Rattle.radix_range.specs.Cells.{cell_in, run_of, start_of, changed_inside, changed_outside}
 use Rattle.radix_range.specs.TreeLaws.{pages_are, cell_ok, is_slot, cell_of, tree-is_slot_map}
 
 -- the page's slot became 512 slots of so many pages
@@ -78,7 +82,7 @@ part_of rs qs page p e a b =
     record { k = at.0; o = p - start_of rs page - at.0 * e.part; k_in = at.1; o_in = omega (arith, at.2, at.3); is = omega (arith, at.2) }
 
 -- a page is in the slot or outside it
-pub in_or_out : (rs : List Run) (page p : ℕ) → ((start_of rs page ≤ p) × (p < start_of rs page + (cell_at rs page).width)) ⊎ ((p < start_of rs page) ⊎ (start_of rs page + (cell_at rs page).width ≤ p))
+in_or_out : (rs : List Run) (page p : ℕ) → ((start_of rs page ≤ p) × (p < start_of rs page + (cell_at rs page).width)) ⊎ ((p < start_of rs page) ⊎ (start_of rs page + (cell_at rs page).width ≤ p))
 in_or_out rs page p = ⊎_elim
     (λ (l : p < start_of rs page). inr (inl l))
     (λ (l : start_of rs page ≤ p). ⊎_elim (λ (m : p < start_of rs page + (cell_at rs page).width). inl (l, m)) (λ m. inr (inr m)) (cases_lt p (start_of rs page + (cell_at rs page).width)))
@@ -158,28 +162,71 @@ expanded-IsRadix v u ok page e same whole = record {
   outside = λ p h. state_kept (runs v) (runs u) page e p (ok.outside p h);
 }
 
-pub divides_at : (v u : Parts) → IsRadix v → (page : ℕ) → IsPage page → IsExpanded (runs v) (runs u) page → DividesAt (tree_slots v) (tree_slots u) page
+-- a valid page's slot ends by the limit
+ends_by_limit : (v : Parts) → IsRadix v → (page : ℕ) → page < 2 ^ 35 → start_of (runs v) page + (cell_at (runs v) page).width ≤ 2 ^ 35
+ends_by_limit v ok page l =
+    let rs = runs v in
+    let c = cell_in rs page in
+    slot_by_edge (tree_slots v) (start_of rs page) (start_of rs page + (cell_at rs page).width) (2 ^ 35) (is_slot rs page) (tree-is_slot_map v ok).limit (omega arith)
+
+pub divides_at : (v u : Parts) → IsRadix v → (page : ℕ) → IsPage page → IsExpanded (runs v) (runs u) page → (at : ℕ) × IsPage at × Divides (tree_slots v) (tree_slots u) ((tree_slots v).owner page) at
 divides_at v u ok page valid e =
     let rs = runs v in
     let c = cell_in rs page in
     let w = e.width in
     let some = e.some in
-    let limit = slot_by_edge (tree_slots v) (start_of rs page) (start_of rs page + (cell_at rs page).width) (2 ^ 35) (is_slot rs page) (tree-is_slot_map v ok).limit (omega (arith, valid.1)) in
+    let limit = ends_by_limit v ok page valid.1 in
+    (start_of rs page + e.part, (omega arith, omega arith), divides rs (runs u) page e)
+
+-- the edges outside the slot stay, and so does its first
+pub outer_edge : (rs qs : List Run) (page : ℕ) → IsExpanded rs qs page → (p : ℕ) → (p < start_of rs page + 1) ⊎ (start_of rs page + (cell_at rs page).width ≤ p) → (slots_of qs).edge p ≡ (slots_of rs).edge p
+outer_edge rs qs page e p (inr l) = ap (λ (c : Cell). c.offset == 0) (e.outside p (inr l))
+outer_edge rs qs page e p (inl l) = ⊎_elim
+    (λ (m : p < start_of rs page). ap (λ (c : Cell). c.offset == 0) (e.outside p (inl m)))
+    (λ (m : start_of rs page ≤ p).
+    let same : p ≡ start_of rs page = omega arith in
+    let old = (is_slot rs page).begins in
+    rw same (edges_kept rs qs page e (start_of rs page) old ∙ sym old))
+    (cases_lt p (start_of rs page))
+
+pub divides_as : (rs qs : List Run) (page : ℕ) → (slots_of rs).edge page ≡ false → IsExpanded rs qs page → DividesAs in_512 (slots_of rs) (slots_of qs) page
+divides_as rs qs page crossed e =
+    let c = cell_in rs page in
+    let inside = from_other_test _ _ crossed in
     record {
-      at = start_of rs page + e.part;
-      is_page = (omega arith, omega arith);
-      divides = divides rs (runs u) page e;
+      slot = slot;
+      is_slot = is_slot rs page;
+      above = omega (arith, c.low);
+      below = omega (arith, c.low, c.high);
+      now = same_slots _ _ (info_kept rs qs page e) (owner_kept rs qs page e) (λ p. by_test (λ x. (slots_of qs).edge p ≡ x) (has (between (slot.first + 1) slot.end) p) _ _
+          (λ t. let b = has_in (between (slot.first + 1) slot.end) p t in inner p (omega (arith, b.0)) b.1)
+          (λ t. outer_edge rs qs page e p (has_not (between (slot.first + 1) slot.end) p t)));
     }
+  where
+    slot : PageRange
+    slot = between (start_of rs page) (start_of rs page + (cell_at rs page).width)
+
+    inner : (p : ℕ) → start_of rs page ≤ p → p < start_of rs page + (cell_at rs page).width → (slots_of qs).edge p ≡ in_512 slot page p
+    inner p a b =
+        let at = part_of rs qs page p e a b in
+        let w = e.width in
+        let offset : (cell_at qs p).offset ≡ at.o = ap (λ (c : Cell). c.offset) (ap (cell_at qs) at.is ∙ e.inside at.k at.o at.k_in at.o_in) in
+        let size : slot.end - slot.first ≡ 512 * e.part = omega arith in
+        let part : (slot.end - slot.first) / 512 ≡ e.part = omega arith in
+        let from : p - slot.first ≡ at.k * e.part + at.o = omega (arith, at.is) in
+        let rest : (p - slot.first) % ((slot.end - slot.first) / 512) ≡ at.o = rw (part, from) (mod-mul-add at.k e.part at.o at.o_in) in
+        ap (λ n. n == 0) (offset ∙ sym rest)
 
 -- ---- a tree whose slots were joined
 
-pub joins_back : (s t : Slots) (at : ℕ) → Divides t s None at → Joins s t
-joins_back s t at d = record {
+pub joins_back : (s t : Slots) (at : ℕ) → Divides t s None at → ((p : ℕ) → s.edge p ≡ true → t.edge p ≡ false → CanBeOne s p) → Joins s t
+joins_back s t at d could = record {
   info = sym d.info;
   owners = sym d.owners;
   kept = λ p h. kept p (t.edge p) refl h;
   elsewhere = λ p h. sym (d.elsewhere p (λ none. h (owner p ∙ none)));
   removed = (at, d.begins, d.was_inside);
+  could = could;
 }
   where
     owner : (p : ℕ) → s.owner p ≡ t.owner p
@@ -221,21 +268,55 @@ folded-IsRadix v u ok page e same whole = record {
         let none = sym (ap (λ (c : Cell). c.state) (ap (cell_at (runs v)) at.is ∙ e.inside at.k at.o at.k_in at.o_in)) ∙ ok.outside p h in
         ap (λ (c : Cell). c.state) (cell_of (runs u) page p a b) ∙ no_state_back (cell_at (runs u) page).state (at.k * e.part) none
 
-pub folded-Joins : (v u : Parts) (page : ℕ) → IsPlain (cell_at (runs u) page).state → IsExpanded (runs u) (runs v) page → Joins (tree_slots v) (tree_slots u)
-folded-Joins v u page plain e =
-    joins_back (tree_slots v) (tree_slots u) (start_of (runs u) page + e.part) (subst (λ o. Divides (tree_slots u) (tree_slots v) o (start_of (runs u) page + e.part)) plain.free (divides (runs u) (runs v) page e))
+pub folded-Joins : (v u : Parts) → IsRadix u → (page : ℕ) → page < 2 ^ 35 → IsPlain (cell_at (runs u) page).state → IsExpanded (runs u) (runs v) page → Joins (tree_slots v) (tree_slots u)
+folded-Joins v u ok page l plain e =
+    joins_back (tree_slots v) (tree_slots u) (start_of (runs u) page + e.part) (subst (λ o. Divides (tree_slots u) (tree_slots v) o (start_of (runs u) page + e.part)) plain.free (divides (runs u) (runs v) page e)) could
+  where
+    rs : List Run
+    rs = runs u
+
+    state : State
+    state = (cell_at rs page).state
+
+    -- what the pages of the slot have
+    info : (p : ℕ) → start_of rs page ≤ p → p < start_of rs page + (cell_at rs page).width → (tree_slots v).info p ≡ info_from state.info (p - start_of rs page)
+    info p a b = info_kept rs (runs v) page e p ∙ ap (λ (c : Cell). info_from c.state.info c.offset) (cell_of rs page p a b)
+
+    owner : (p : ℕ) → start_of rs page ≤ p → p < start_of rs page + (cell_at rs page).width → (tree_slots v).owner p ≡ None
+    owner p a b = owner_kept rs (runs v) page e p ∙ (ap (λ (c : Cell). c.state.owner) (cell_of rs page p a b) ∙ plain.free)
+
+    leaf : (p : ℕ) → start_of rs page ≤ p → p < start_of rs page + (cell_at rs page).width → is_leaf ((tree_slots v).info p) ≡ false
+    leaf p a b = ap is_leaf (info p a b) ∙ (is_leaf-info_from state.info _ ∙ plain.no_leaf)
+
+    two : (b : Bool) → b ≡ false → b ≡ true → ⊥
+    two b e f = cc
+
+    inside : (p : ℕ) → start_of rs page + 1 ≤ p → p < start_of rs page + (cell_at rs page).width → CanBeOne (tree_slots v) p
+    inside p a b =
+        let limit = ends_by_limit u ok page l in
+        let next : p - 1 - start_of rs page + 1 ≡ p - start_of rs page = omega arith in
+        record {
+          page = (omega arith, omega arith);
+          free = owner (p - 1) (omega arith) (omega arith);
+          next_free = owner p (omega arith) b;
+          no_leaf = leaf (p - 1) (omega arith) (omega arith);
+          next_no_leaf = leaf p (omega arith) b;
+          goes_on = info p (omega arith) b ∙ (ap (info_from state.info) (sym next) ∙ (sym (info_from_twice state.info (p - 1 - start_of rs page) 1) ∙ ap (λ o. info_from o 1) (sym (info (p - 1) (omega arith) (omega arith)))));
+        }
+
+    could : (p : ℕ) → (tree_slots v).edge p ≡ true → (tree_slots u).edge p ≡ false → CanBeOne (tree_slots v) p
+    could p h f = ⊎_elim
+        (λ (a : p < start_of rs page + 1). absurd (two _ (outer_edge rs (runs v) page e p (inl a) ∙ f) h))
+        (λ (a : start_of rs page + 1 ≤ p). ⊎_elim
+        (λ (b : p < start_of rs page + (cell_at rs page).width). inside p a b)
+        (λ (b : start_of rs page + (cell_at rs page).width ≤ p). absurd (two _ (outer_edge rs (runs v) page e p (inr b) ∙ f) h))
+        (cases_lt p (start_of rs page + (cell_at rs page).width)))
+        (cases_lt p (start_of rs page + 1))
 
 pub same_or_expanded : {X E : Type 0} {P Q R : Type 0} (r : Result X E) → (P → R) → (Q → R) → OnOk r P → OnErr r Q → R
 same_or_expanded (Ok x) f g h k = f h
 same_or_expanded (Err e) f g h k = g k
 
--- a slot that isn't the page alone has several pages
-pub several : (rs : List Run) (page : ℕ) → ¬ IsSlot (slots_of rs) page (page + 1) → 1 < (cell_at rs page).width
-several rs page h = ⊎_elim (λ (l : 1 < (cell_at rs page).width). l) (λ (l : (cell_at rs page).width ≤ 1). absurd (h (alone l))) (cases_lt 1 (cell_at rs page).width)
-  where
-    alone : (cell_at rs page).width ≤ 1 → IsSlot (slots_of rs) page (page + 1)
-    alone l =
-        let c = cell_in rs page in
-        let start : start_of rs page ≡ page = omega (arith, c.high) in
-        let end : start_of rs page + (cell_at rs page).width ≡ page + 1 = omega (arith, c.high) in
-        subst (λ n. IsSlot (slots_of rs) page n) end (subst (λ n. IsSlot (slots_of rs) n (start_of rs page + (cell_at rs page).width)) start (is_slot rs page))
+-- a slot that begins before the page has several pages
+pub several : (rs : List Run) (page : ℕ) → (slots_of rs).edge page ≡ false → 1 < (cell_at rs page).width
+several rs page h = let c = cell_in rs page in let inside = from_other_test _ _ h in omega (arith, c.high)

@@ -4,3 +4,4 @@ pub mod Sets
 pub mod Changes
 pub mod New
 pub mod NodeFolds
+pub mod Edits

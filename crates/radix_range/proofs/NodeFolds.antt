@@ -17,7 +17,7 @@ use Rattle.radix_range.specs.Tree.{slots_of, tree_slots, IsRadix}
 use Rattle.radix_range.specs.Cells.{IsIn, cell_in, start_of}
 use Rattle.radix_range.specs.TreeLaws.{is_slot, cell_of}
 use Rattle.radix_range.specs.Folds.{CanFold, joined, FoldsNode}
-use Rattle.radix_range.proofs.Expansions.{IsExpanded, info_kept, owner_kept, in_or_out}
+use Rattle.radix_range.proofs.Expansions.{IsExpanded, info_kept, owner_kept, outer_edge}
 use Rattle.radix_range.proofs.Sets.{begins}
 
 -- ---- where no node can be folded
@@ -106,25 +106,14 @@ edges_joined rs qs page first end e is ends = same_slots _ _
     (λ p. sym (owner_kept rs qs page e p))
     (λ p. by_test (λ x. (slots_of rs).edge p ≡ x) (has (between (first + 1) end) p) _ _
     (λ t. let b = has_in (between (first + 1) end) p t in inner p (omega arith) (omega arith))
-    (λ t. outer p (has_not (between (first + 1) end) p t)))
+    (λ t. sym (outer_edge rs qs page e p (away p (has_not (between (first + 1) end) p t)))))
   where
     inner : (p : ℕ) → start_of rs page < p → p < start_of rs page + (cell_at rs page).width → (slots_of rs).edge p ≡ false
     inner p a b = other_test _ _ (λ zero. let o = sym (ap (λ (c : Cell). c.offset) (cell_of rs page p (omega arith) b)) ∙ zero in absurd (omega arith))
 
-    same_first : (p : ℕ) → p ≡ start_of rs page → (slots_of rs).edge p ≡ (slots_of qs).edge p
-    same_first p at =
-        let c = cell_in rs page in
-        let own : (cell_at rs p).offset ≡ 0 = ap (λ (c : Cell). c.offset) (cell_of rs page p (omega arith) (omega (arith, c.high))) ∙ (let z : p - start_of rs page ≡ 0 = omega arith in z) in
-        let to : p ≡ start_of rs page + (0 * e.part + 0) = omega arith in
-        let new : (cell_at qs p).offset ≡ 0 = ap (λ (c : Cell). c.offset) (ap (cell_at qs) to ∙ e.inside 0 0 (omega arith) e.some) in
-        same_test _ _ own ∙ sym (same_test _ _ new)
-
-    outer : (p : ℕ) → (p < first + 1) ⊎ (end ≤ p) → (slots_of rs).edge p ≡ (slots_of qs).edge p
-    outer p (inl l) = ⊎_elim
-        (λ (m : p < start_of rs page). ap (λ (c : Cell). c.offset == 0) (sym (e.outside p (inl m))))
-        (λ (m : start_of rs page ≤ p). same_first p (omega arith))
-        (cases_lt p (start_of rs page))
-    outer p (inr l) = ap (λ (c : Cell). c.offset == 0) (sym (e.outside p (inr (omega arith))))
+    away : (p : ℕ) → (p < first + 1) ⊎ (end ≤ p) → (p < start_of rs page + 1) ⊎ (start_of rs page + (cell_at rs page).width ≤ p)
+    away p (inl l) = inl (omega arith)
+    away p (inr l) = inr (omega arith)
 
 pub folds_node : (v u : Parts) (page : ℕ) → IsPlain (cell_at (runs u) page).state → IsExpanded (runs u) (runs v) page → FoldsNode (tree_slots v) (tree_slots u) page
 unfolding could_fold

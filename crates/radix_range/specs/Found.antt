@@ -1,15 +1,11 @@
 -- The slot that has a page, and what a walk from slot to slot has seen
-use Rattle.std.specs.Prelude.{◌≡◌, ℕ, ◌+◌, ◌-◌, ◌<◌, ◌≤◌, true, Option, None, Some, min}
+use Rattle.std.specs.Prelude.{◌≡◌, ℕ, ◌-◌, ◌/◌, ◌%◌, ◌<◌, ◌≤◌, ◌==◌, Bool, Option, None, Some}
 use Rattle.vm_base.specs.declared.page.PageRange.{PageRange}
-use Rattle.vm_base.specs.declared.info.PageInfo.{PageInfo}
-use Rattle.vm_base.specs.declared.info.Meta.{Meta}
-use Rattle.vm_base.specs.declared.rights.Prot.{Prot}
-use Rattle.vm_base.specs.Pages.{IsPage}
 use Rattle.vm_base.specs.Functions.{has, across, over}
-use Rattle.vm_base.specs.Info.{advance, frame_of, info_from, unused, info_with_prot}
-use Rattle.slot_lock.specs.declared.plan.Change.{Change}
-use Rattle.slot_lock.specs.declared.plan.Change.TheVariants.{Put, Clear, Protect}
-use Rattle.slot_lock.specs.Slots.{Slots, IsSlot, Divides, NoFrames, between}
+use Rattle.vm_base.specs.Info.{frame_of, info_from}
+use Rattle.slot_lock.specs.Slots.{Slots, IsSlot, NoFrames, between}
+use Rattle.radix_node.specs.declared.edit.Edit.{Edit}
+use Rattle.radix_node.specs.Edit.{edited_info}
 use Rattle.radix_node.specs.State.{State}
 use Rattle.radix_node.specs.Run.{IsSound}
 
@@ -29,21 +25,13 @@ restated s first end state = record s {
   owner = over s.owner (has (between first end)) state.owner;
 }
 
--- the page's slot was divided, and nothing else changed
-pub record DividesAt (s t : Slots) (page : ℕ) : Type 0 where
-  pub at : ℕ
-  pub is_page : IsPage at
-  pub divides : Divides s t (s.owner page) at
+-- a slot is divided in 512 of equal size
+abbrev pub in_512 : PageRange → ℕ → ℕ → Bool
+in_512 slot at p = (p - slot.first) % ((slot.end - slot.first) / 512) == 0
 
--- what a change makes of a page that has this
-abbrev pub anew : Change → ℕ → Option PageInfo → Option PageInfo
-anew (Put range meta) p info = Some (unused (advance meta (p - range.first)))
-anew (Clear range) p info = None
-anew (Protect range prot) p info = info_with_prot prot info
-
--- the pages from first up to end after a change, and all else as it is
-abbrev pub changed_to : Slots → Change → ℕ → ℕ → Slots
-changed_to s change first end = record s { info = across s.info (has (between first end)) (λ p. anew change p (s.info p)) }
+-- the pages of the range after a change, and all else as it is
+abbrev pub edited_to : Slots → PageRange → Edit → Slots
+edited_to s range edit = record s { info = across s.info (has range) (λ p. edited_info edit (p - range.first) (s.info p)) }
 
 -- the page is the first from a page on with a frame
 pub record IsFirstFrame (s : Slots) (from end page frame : ℕ) : Type 0 where

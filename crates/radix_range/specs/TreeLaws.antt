@@ -1,20 +1,20 @@
 -- What holds of each tree
-use Rattle.std.proofs.Common.{◌≡◌, ◌≢◌, ℕ, ◌+◌, ◌-◌, ◌*◌, ◌%◌, ◌/◌, ◌^◌, ◌<◌, ◌≤◌, ◌==◌, ◌⊎◌, inl, inr, ⊎_elim, Bool, true, false, List, Option, Some, None, refl, sym, ◌∙◌, ap, subst, arith}
+use Rattle.std.proofs.Common.{◌≡◌, ℕ, ◌+◌, ◌-◌, ◌*◌, ◌%◌, ◌/◌, ◌^◌, ◌<◌, ◌≤◌, ◌==◌, ⊎_elim, true, false, List, Option, Some, None, refl, sym, ◌∙◌, ap, subst, arith}
 use Rattle.std.proofs.lemmas.Bool.{cases_lt}
-use Rattle.std.proofs.lemmas.Bool.Decides.{nat_tests}
 use Rattle.std.proofs.lemmas.Nat.{pow-add, mod-mul-add}
 use Rattle.vm_base.specs.declared.info.PageInfo.{PageInfo}
-use Rattle.vm_base.specs.Pages.{IsPage}
-use Rattle.vm_base.specs.Info.{info_from, is_leaf}
+use Rattle.vm_base.specs.declared.info.Back.{Back}
+use Rattle.vm_base.specs.declared.info.Back.TheVariants.{Anon, Shared, Private}
+use Rattle.vm_base.specs.Info.{advance_back, file_page, info_from, info_file_page, is_leaf}
 use Rattle.slot_lock.specs.Slots.{IsSlotMap, IsSlot}
-use Rattle.slot_lock.specs.RunLaws.{info_from_twice, is_leaf-info_from, same_test, other_test, from_test, from_other_test}
+use Rattle.slot_lock.specs.RunLaws.{info_from_twice, is_leaf-info_from, same_test, other_test, from_other_test}
 use Rattle.radix_node.specs.State.{State, no_state}
-use Rattle.radix_node.specs.Run.{Run, Cell, total, cell_at, width_of, level_of, IsCell, IsWhole, IsSound}
+use Rattle.radix_node.specs.Run.{Run, Cell, cell_at, width_of, level_of, IsCell, IsSound}
 use Rattle.radix_node.specs.Node.{Parts, runs}
 use Rattle.radix_node.proofs.Runs.{moved, cell_later, cell_at-past}
 use Rattle.radix_range.specs.Tree.{slots_of, tree_slots, IsRadix}
 use Rattle.radix_range.specs.Found.{IsFound}
-use Rattle.radix_range.specs.Cells.{IsIn, cell_in, cell_earlier, cell_after, start_of}
+use Rattle.radix_range.specs.Cells.{cell_in, cell_earlier, cell_after, start_of}
 
 -- ---- sizes
 
@@ -104,6 +104,16 @@ limit_edge c h =
     add_zero : (n : ℕ) → n + 0 ≡ n
     add_zero n = omega arith
 
+back_from : (b : Back) (n m : ℕ) → n < m → file_page b + m ≤ 2 ^ 36 → file_page (advance_back b n) < 2 ^ 36
+back_from Anon n m l h = omega arith
+back_from (Shared f k) n m l h = omega arith
+back_from (Private f k) n m l h = omega arith
+
+-- a page of a slot that fits
+fits_from : (o : Option PageInfo) (n m : ℕ) → n < m → info_file_page o + m ≤ 2 ^ 36 → info_file_page (info_from o n) < 2 ^ 36
+fits_from None n m l h = omega arith
+fits_from (Some info) n m l h = back_from info.meta.back n m l h
+
 leaf_no_state : (n : ℕ) → is_leaf (info_from no_state.info n) ≡ true → ⊥
 leaf_no_state n h = cc
 
@@ -117,6 +127,10 @@ tree-is_slot_map v ok = record {
   alone = λ p h. ⊎_elim
       (λ (l : p < 2 ^ 36). alone p l h)
       (λ (l : 2 ^ 36 ≤ p). absurd (leaf_no_state 0 (sym (ap (λ (c : Cell). is_leaf (info_from c.state.info c.offset)) (past p l)) ∙ h)))
+      (cases_lt p (2 ^ 36));
+  fits = λ p. ⊎_elim
+      (λ (l : p < 2 ^ 36). let c = cell_ok v ok p l in fits_from (cell_at rs p).state.info (cell_at rs p).offset (cell_at rs p).width c.within c.sound.fits)
+      (λ (l : 2 ^ 36 ≤ p). let none = ap (λ (c : Cell). info_file_page (info_from c.state.info c.offset)) (past p l) in omega arith)
       (cases_lt p (2 ^ 36));
 }
   where

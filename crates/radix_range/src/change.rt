@@ -1,45 +1,32 @@
 //! Changes of a tree's slots.
-ghost use Rattle.std.specs.Prelude.{◌≡◌, ℕ, ◌+◌, ◌-◌, ◌^◌, ◌<◌, ◌≤◌, OnOk, OnErr, IsTrue, true, Option, Some};
-ghost use Rattle.vm_base.specs.Pages.{IsPage};
-ghost use Rattle.vm_base.specs.Info.{info_with_prot, info_without_frame};
+ghost use Rattle.std.specs.Prelude.{◌≡◌, ℕ, ◌+◌, ◌-◌, ◌^◌, ◌<◌, ◌≤◌, ◌↔◌, OnOk, OnErr, IsTrue, true, false, Option, Some};
+ghost use Rattle.vm_base.specs.Pages.{IsPage, IsPageRange};
+ghost use Rattle.vm_base.specs.Info.{info_without_frame};
 ghost use Rattle.slot_lock.specs.Plan.{IsSoundChange, range_of};
-ghost use Rattle.slot_lock.specs.Slots.{Divides, HasMeta, IsCut, IsSlot, Joins, with_owner, with_info};
+ghost use Rattle.slot_lock.specs.Slots.{Divides, DividesAs, HasMeta, IsCut, IsSlot, Joins, between, with_owner, with_info};
 ghost use Rattle.slot_lock.specs.RunSlots.{changed};
-ghost use Rattle.radix_node.specs.State.{state_of};
-ghost use Rattle.radix_node.specs.Run.{IsSound};
+ghost use Rattle.radix_node.specs.Edit.{CanEdit};
 ghost use Rattle.radix_range.specs.Tree.{IsRadix, tree_slots};
 ghost use Rattle.radix_range.specs.Folds.{CanFold, FoldsNode};
-ghost use Rattle.radix_range.specs.Found.{DividesAt, anew, changed_to, restated};
+ghost use Rattle.radix_range.specs.Found.{in_512, edited_to};
 
-use crate::slot::slot_at;
-use radix_node::{Node, SlotState};
+use radix_node::place::slot_pages;
+use radix_node::{Edit, Node};
 use slot_lock::Change;
 use std::alloc::Allocator;
-use vm_base::{CoreId, CoreSet, Meta, NoMemory, PageInfo, Prot};
+use vm_base::{CoreId, NoMemory, PageInfo, PageRange};
 
-/// Makes 512 slots of the valid page's slot, which has several pages. A refusal for memory changes nothing.
+/// Makes 512 slots of the slot that has the valid page and begins before it. A refusal for memory changes nothing.
 pub fn expand<A: Allocator + Clone>(root: &mut Node<A>, page: u64) -> Result<(), NoMemory>
     requires tree { IsRadix root.old }
     requires page { IsPage page }
-    requires large { ¬ IsSlot (tree_slots root.old) page (page + 1) }
+    requires crossed { (tree_slots root.old).edge page ≡ false }
     ensures tree { IsRadix root.new }
-    ensures ok { OnOk result (DividesAt (tree_slots root.old) (tree_slots root.new) page) }
+    ensures ok { OnOk result ((at : ℕ) × IsPage at × Divides (tree_slots root.old) (tree_slots root.new) ((tree_slots root.old).owner page) at) }
+    ensures exact { OnOk result (DividesAs in_512 (tree_slots root.old) (tree_slots root.new) page) }
     ensures err { OnErr result (root.new ≡ root.old) }
 {
     root.expand_at(page)
-}
-
-/// Gives the slot that begins at the valid page another state, which its pages can have.
-pub fn set_slot<A: Allocator>(root: &mut Node<A>, page: u64, end: u64, state: &SlotState)
-    requires tree { IsRadix root.old }
-    requires page { 1 ≤ page }
-    requires end { end ≤ 2 ^ 35 }
-    requires slot { IsSlot (tree_slots root.old) page end }
-    requires sound { IsSound (end - page) (state_of state.now) }
-    ensures tree { IsRadix root.new }
-    ensures slots { tree_slots root.new ≡ restated (tree_slots root.old) page end (state_of state.now) }
-{
-    root.set_at(page, state);
 }
 
 /// Gives the slot that begins at the page another owner, and answers its end.
@@ -52,11 +39,20 @@ pub fn set_owner<A: Allocator>(root: &mut Node<A>, page: u64, owner: Option<Core
     ensures one_owner { (p : ℕ) → page ≤ p → p < result → (tree_slots root.old).owner p ≡ (tree_slots root.old).owner page }
     ensures slots { tree_slots root.new ≡ with_owner (tree_slots root.old) page result owner }
 {
-    let slot = slot_at(root, page);
-    let end = slot.end;
-    let state = SlotState::new(slot.state.info(), owner);
-    set_slot(root, page, end, &state);
-    end
+    let level = root.own_at(page, owner);
+    page + slot_pages(level)
+}
+
+// Changes each page of a range that no slot crosses the edge of.
+fn edit_range<A: Allocator>(root: &mut Node<A>, range: PageRange, edit: &Edit)
+    requires tree { IsRadix root.old }
+    requires pages { IsPageRange range }
+    requires cut { IsCut (tree_slots root.old) range }
+    requires sound { CanEdit edit.now (range.end - range.first) }
+    ensures tree { IsRadix root.new }
+    ensures slots { tree_slots root.new ≡ edited_to (tree_slots root.old) range edit.now }
+{
+    root.edit(range.first, range.end, edit, 0);
 }
 
 /// Gives a mapped page that is a slot of its own another frame and other cores.
@@ -68,22 +64,7 @@ pub fn set_info<A: Allocator>(root: &mut Node<A>, page: u64, info: PageInfo)
     ensures tree { IsRadix root.new }
     ensures slots { tree_slots root.new ≡ with_info (tree_slots root.old) page (Some info) }
 {
-    let slot = slot_at(root, page);
-    let state = SlotState::new(Some(info), slot.state.owner());
-    set_slot(root, page, page + 1, &state);
-}
-
-// What a page has without its frame.
-fn unframed(info: Option<PageInfo>) -> Option<PageInfo>
-    ensures { result ≡ info_without_frame info }
-{
-    match info {
-        None => None,
-        Some(info) => Some(PageInfo {
-            frame: None,
-            ..info
-        }),
-    }
+    edit_range(root, one_page(page), &Edit::Put(Some(info)));
 }
 
 /// Takes its frame from a page that is a slot of its own.
@@ -94,61 +75,20 @@ pub fn clear_frame<A: Allocator>(root: &mut Node<A>, page: u64)
     ensures tree { IsRadix root.new }
     ensures slots { tree_slots root.new ≡ with_info (tree_slots root.old) page (info_without_frame ((tree_slots root.old).info page)) }
 {
-    let slot = slot_at(root, page);
-    let state = SlotState::new(unframed(slot.state.info()), slot.state.owner());
-    set_slot(root, page, page + 1, &state);
+    edit_range(root, one_page(page), &Edit::DropFrame);
 }
 
-// What a page has under another protection, under which no core has used it.
-fn protected(info: Option<PageInfo>, prot: Prot) -> Option<PageInfo>
-    ensures { result ≡ info_with_prot prot info }
+fn one_page(page: u64) -> PageRange
+    requires { IsPage page }
+    ensures { result ≡ between page (page + 1) }
 {
-    match info {
-        None => None,
-        Some(info) => Some(PageInfo {
-            meta: Meta { prot, ..info.meta },
-            cores: CoreSet::empty(),
-            ..info
-        }),
+    PageRange {
+        first: page,
+        end: page + 1,
     }
 }
 
-// What a change makes of a page of its range that has this.
-fn changed_info(change: Change, page: u64, info: Option<PageInfo>) -> Option<PageInfo>
-    requires sound { IsSoundChange change }
-    requires from { (range_of change).first ≤ page }
-    requires below { page < (range_of change).end }
-    ensures { result ≡ anew change page info }
-{
-    match change {
-        Change::Put { range, meta } => { Some(PageInfo::unused(meta.advanced(page - range.first))) }
-        Change::Clear { .. } => None,
-        Change::Protect { prot, .. } => protected(info, prot),
-    }
-}
-
-// Changes the slot that begins at a page of the range, and answers its end.
-fn change_slot<A: Allocator>(root: &mut Node<A>, change: Change, page: u64) -> u64
-    requires tree { IsRadix root.old }
-    requires sound { IsSoundChange change }
-    requires from { (range_of change).first ≤ page }
-    requires below { page < (range_of change).end }
-    requires begins { (tree_slots root.old).edge page ≡ true }
-    requires ends { (tree_slots root.old).edge (range_of change).end ≡ true }
-    ensures tree { IsRadix root.new }
-    ensures slot { IsSlot (tree_slots root.old) page result }
-    ensures by_end { result ≤ (range_of change).end }
-    ensures slots { tree_slots root.new ≡ changed_to (tree_slots root.old) change page result }
-{
-    let slot = slot_at(root, page);
-    let end = slot.end;
-    let info = changed_info(change, page, slot.state.info());
-    let state = SlotState::new(info, slot.state.owner());
-    set_slot(root, page, end, &state);
-    end
-}
-
-/// Changes each page of a range that no slot crosses the edge of. Only the slots of the range are read.
+/// Changes each page of a range that no slot crosses the edge of, in one walk over the range's slots.
 pub fn change<A: Allocator>(root: &mut Node<A>, change: Change)
     requires tree { IsRadix root.old }
     requires sound { IsSoundChange change }
@@ -156,10 +96,12 @@ pub fn change<A: Allocator>(root: &mut Node<A>, change: Change)
     ensures tree { IsRadix root.new }
     ensures slots { tree_slots root.new ≡ changed (tree_slots root.old) change }
 {
-    let range = change.range();
-    let mut page = range.first;
-    'slots: while page < range.end {
-        page = change_slot(root, change, page);
+    match change {
+        Change::Put { range, meta } => {
+            edit_range(root, range, &Edit::Put(Some(PageInfo::unused(meta))))
+        }
+        Change::Clear { range } => edit_range(root, range, &Edit::Put(None)),
+        Change::Protect { range, prot } => edit_range(root, range, &Edit::Protect(prot)),
     }
 }
 
@@ -168,10 +110,10 @@ pub fn fold<A: Allocator>(root: &mut Node<A>, page: u64) -> bool
     requires tree { IsRadix root.old }
     requires page { IsPage page }
     ensures tree { IsRadix root.new }
+    ensures can { IsTrue result ↔ CanFold (tree_slots root.old) page }
     ensures joined { IsTrue result → Joins (tree_slots root.old) (tree_slots root.new) }
     ensures same { ¬ IsTrue result → root.new ≡ root.old }
     ensures exact { IsTrue result → FoldsNode (tree_slots root.old) (tree_slots root.new) page }
-    ensures only { ¬ IsTrue result → ¬ CanFold (tree_slots root.old) page }
 {
     root.fold_at(page)
 }

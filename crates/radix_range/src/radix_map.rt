@@ -12,7 +12,9 @@ use vm_base::{CoreId, CoreSet, Meta, NoMemory, PageInfo, PageRange, Prot};
 
 /// A map of slots as a tree of four levels. A slot of the root has 2^27 pages, of the next levels 2^18, 2^9 and 1. The
 /// pages are those of the lower half of the addresses and as many above them, which are never mapped and never held;
-/// nor is page 0. The root is never folded.
+/// nor is page 0. A division makes 512 slots of equal size. A fold makes one slot of the deepest node that has the page,
+/// where it isn't the root, none of its slots is a node, nobody holds them, they have no frame and no recorded core, and
+/// they are all unmapped or each goes on from the one before.
 #[derive(Drop)]
 pub struct RadixMap<A: Allocator> {
     root: Node<A>,
@@ -68,11 +70,15 @@ impl<A: Allocator> SlotRead for RadixMap<A> {
 }
 
 impl<A: Allocator + Clone> SlotMap for RadixMap<A> {
-    ghost use Rattle.std.specs.Prelude.{◌≡◌, ℕ, IsTrue};
-    ghost use Rattle.vm_base.specs.Pages.{IsPage};
-    ghost use Rattle.slot_lock.specs.Slots.{Joins};
     ghost use Rattle.radix_range.specs.TreeLaws.{tree-is_slot_map};
     ghost use Rattle.radix_range.specs.Folds.{CanFold, FoldsNode};
+    ghost use Rattle.radix_range.specs.Found.{in_512};
+
+    ghost parts = { in_512 };
+
+    ghost can_fold = { CanFold };
+
+    ghost folds = { FoldsNode };
 
     ghost is_slot_map = { λ m. tree-is_slot_map m.root m.ok };
 
@@ -94,7 +100,7 @@ impl<A: Allocator + Clone> SlotMap for RadixMap<A> {
             return Ok(Got::Split);
         }
         if end < slot_end {
-            change::expand(&mut self.root, cursor)?;
+            change::expand(&mut self.root, end)?;
             return Ok(Got::Split);
         }
         change::set_owner(&mut self.root, cursor, Some(core));
@@ -107,7 +113,7 @@ impl<A: Allocator + Clone> SlotMap for RadixMap<A> {
             return Ok(Fit::Cut);
         }
         if slot_at(&self.root, range.end).first < range.end {
-            change::expand(&mut self.root, range.end - 1)?;
+            change::expand(&mut self.root, range.end)?;
             return Ok(Fit::Cut);
         }
         Ok(Fit::Fits)
@@ -141,16 +147,7 @@ impl<A: Allocator + Clone> SlotMap for RadixMap<A> {
         change::set_info(&mut self.root, page, info);
     }
 
-    /// Folds the deepest node that has the page, where it isn't the root, none of its slots is a node, nobody holds them,
-    /// they have no frame and no recorded core, and they are all unmapped or each goes on from the one before. Answers
-    /// whether it did.
-    fn fold(&mut self, page: u64) -> bool
-        requires { IsPage page }
-        ensures joined { IsTrue result → Joins (⟦<RadixMap<A> as SlotRead>⟧.slots self.old) (⟦<RadixMap<A> as SlotRead>⟧.slots self.new) }
-        ensures same { ¬ IsTrue result → ⟦<RadixMap<A> as SlotRead>⟧.slots self.new ≡ ⟦<RadixMap<A> as SlotRead>⟧.slots self.old }
-        ensures exact { IsTrue result → FoldsNode (⟦<RadixMap<A> as SlotRead>⟧.slots self.old) (⟦<RadixMap<A> as SlotRead>⟧.slots self.new) page }
-        ensures only { ¬ IsTrue result → ¬ CanFold (⟦<RadixMap<A> as SlotRead>⟧.slots self.old) page }
-    {
+    fn fold(&mut self, page: u64) -> bool {
         change::fold(&mut self.root, page)
     }
 }

@@ -1,7 +1,8 @@
-//! The same calls on both slot maps, worked acquisitions and folds of the tree, and each allocation refused in turn.
+//! The same calls on both slot maps, worked acquisitions, cuts and folds, each allocation refused in turn, and memory that
+//! comes back.
 ghost use Rattle.std.specs.Prelude.{◌≡◌, ◌+◌, ◌-◌, ◌<◌, ◌≤◌, ◌^◌, IsTrue};
 ghost use Rattle.vm_base.specs.Pages.{IsPage, IsPageRange, pages_from};
-ghost use Rattle.slot_lock.specs.Slots.{IsHeld, IsSlot, NoFrames};
+ghost use Rattle.slot_lock.specs.Slots.{IsHeld, IsSlot, NoFrames, OwnsAll};
 
 use crate::radix_map::RadixMap;
 use linked_list_allocator::LocalHeap;
@@ -65,7 +66,26 @@ fn step<M: SlotMap>(
     Ok(Some(acquire.next(map, core)?))
 }
 
-// How many slots are divided and how many are locked until the range is held, in at most so many steps.
+// How many slots are divided and how many are locked, in at most so many steps.
+fn steps_of<M: SlotMap>(
+    map: &mut M,
+    acquire: &mut Acquire,
+    core: CoreId,
+    steps: u32,
+) -> Result<(u32, u32), NoMemory> {
+    let mut splits = 0u32;
+    let mut locks = 0u32;
+    for _ in 0..steps {
+        match step(map, acquire, core)? {
+            Some(Got::Split) => splits = splits.saturating_add(1),
+            Some(Got::Locked(_)) => locks = locks.saturating_add(1),
+            _ => {}
+        }
+    }
+    Ok((splits, locks))
+}
+
+// The same, until the range is held.
 fn acquired<M: SlotMap>(
     map: &mut M,
     core: CoreId,
@@ -75,16 +95,24 @@ fn acquired<M: SlotMap>(
     requires { IsPageRange range }
 {
     let mut acquire = Acquire::new(Footprint::one(range));
-    let mut splits = 0u32;
-    let mut locks = 0u32;
-    for _ in 0..steps {
-        match step(map, &mut acquire, core)? {
-            Some(Got::Split) => splits = splits.saturating_add(1),
-            Some(Got::Locked(_)) => locks = locks.saturating_add(1),
-            _ => {}
-        }
-    }
-    Ok((splits, locks))
+    steps_of(map, &mut acquire, core, steps)
+}
+
+// What is counted so, and what of the two ranges is held by then.
+type Locked = ((u32, u32), Option<Footprint>);
+
+fn locked_two<M: SlotMap>(
+    map: &mut M,
+    core: CoreId,
+    range: PageRange,
+    other: PageRange,
+) -> Result<Locked, NoMemory>
+    requires range { IsPageRange range }
+    requires other { IsPageRange other }
+{
+    let mut acquire = Acquire::new(Footprint::both(range, other));
+    let counts = steps_of(map, &mut acquire, core, 10)?;
+    Ok((counts, acquire.footprint.below(acquire.cursor)))
 }
 
 // Tells whether the core holds the pages, which are one slot.
@@ -178,26 +206,69 @@ fn take<M: SlotMap>(map: &mut M, core: CoreId, range: PageRange) -> Option<(u64,
     map.take_frame(core, range.first, range.end)
 }
 
-fn unlock<M: SlotMap>(map: &mut M, core: CoreId, range: PageRange) -> Option<u64>
-    requires { IsPageRange range }
-{
-    if !is_held(map, core, range) {
+// The slot that begins with the pages and ends by their end.
+fn unlock<M: SlotMap>(map: &mut M, core: CoreId, range: PageRange) -> Option<u64> {
+    if !is_valid(range.first) {
         return None;
     }
-    Some(map.unlock_next(core, range.first, range.end))
+    let slot = map.slot(range.first);
+    if slot.first != range.first || range.end < slot.end {
+        return None;
+    }
+    match map.owner(range.first) {
+        Some(owner) if owner.index() == core.index() => Some(map.unlock_next(
+            core,
+            range.first,
+            range.end,
+        )),
+        _ => None,
+    }
 }
 
-// A step of a cut round one page of a held slot.
-fn cut_round<M: SlotMap>(map: &mut M, core: CoreId, page: u64) -> Result<Option<Fit>, NoMemory>
-    requires { IsPage page }
-{
-    match map.owner(page) {
-        Some(owner) if owner.index() == core.index() => Ok(Some(map.cut_next(
-            core,
-            one_page(page),
-        )?)),
-        _ => Ok(None),
+// How many slots are unlocked until nothing of the pages is held.
+fn let_go<M: SlotMap>(map: &mut M, core: CoreId, pages: Option<Footprint>) -> u32 {
+    let mut held = pages;
+    let mut count = 0u32;
+    for _ in 0..10 {
+        if let Some(footprint) = held {
+            if let Some(end) = unlock(map, core, footprint.first) {
+                held = footprint.after(end);
+                count = count.saturating_add(1);
+            }
+        }
     }
+    count
+}
+
+// A step of a cut, after which the pages are still held.
+fn cut<M: SlotMap>(map: &mut M, core: CoreId, range: PageRange) -> Result<Fit, NoMemory>
+    requires pages { IsPageRange range }
+    requires held { OwnsAll (M.slots map.old) core range.first range.end }
+    ensures { OwnsAll (M.slots map.new) core range.first range.end }
+{
+    map.cut_next(core, range)
+}
+
+// Four steps of a cut of some pages of a held slot.
+fn cut_inside<M: SlotMap>(
+    map: &mut M,
+    core: CoreId,
+    slot: PageRange,
+    range: PageRange,
+) -> Result<Option<[Fit; 4]>, NoMemory>
+    requires slot { IsPageRange slot }
+    requires pages { IsPageRange range }
+    requires low { slot.first ≤ range.first }
+    requires high { range.end ≤ slot.end }
+{
+    if !is_held(map, core, slot) {
+        return Ok(None);
+    }
+    let first = cut(map, core, range)?;
+    let second = cut(map, core, range)?;
+    let third = cut(map, core, range)?;
+    let fourth = cut(map, core, range)?;
+    Ok(Some([first, second, third, fourth]))
 }
 
 // What a map answers while page 16 is held, mapped, used, protected and freed.
@@ -309,33 +380,143 @@ fn another_core_waits_on_both_maps(rt: HostRuntime) -> Result<(), Fail> {
     Ok(())
 }
 
-// How many cuts it takes until a page of a held and mapped slot is a slot of its own, and what it has then.
-fn cuts<M: SlotMap>(map: &mut M) -> Result<(u32, Option<PageInfo>, PageRange), NoMemory> {
+// A page in the middle of the second slot of the root, and what it has once that slot is mapped: the range's first page
+// has file page 5.
+const INNER: u64 = 0x800_0258;
+
+fn inner_info() -> Option<PageInfo> {
+    let back = Back::Private { file: 3, page: 605 };
+    Some(PageInfo::unused(Meta { back, ..FILE }))
+}
+
+// Holds and maps the second slot of the root, and cuts it round some of its pages.
+fn cut_wide<M: SlotMap>(map: &mut M, range: PageRange) -> Result<Option<[Fit; 4]>, NoMemory>
+    requires pages { IsPageRange range }
+    requires low { 2 ^ 27 ≤ range.first }
+    requires high { range.end ≤ 2 ^ 28 }
+{
     let core = CoreId::new(2);
     acquired(map, core, WIDE, 5)?;
     put(map, core, WIDE);
-    let mut count = 0u32;
-    for _ in 0..5 {
-        if let Some(Fit::Cut) = cut_round(map, core, 0x800_0258)? {
-            count = count.saturating_add(1);
-        }
-    }
-    Ok((count, map.page(0x800_0258), map.slot(0x800_0258)))
+    cut_inside(map, core, WIDE, range)
 }
 
 #[test]
 fn cuts_keep_file_pages_on_both_maps(rt: HostRuntime) -> Result<(), Fail> {
     let mut list = RunList::new(rt.alloc())?;
     let mut tree = RadixMap::new(rt.alloc())?;
-    // page 600 of the range, whose first has file page 5
-    let back = Back::Private { file: 3, page: 605 };
-    let info = Some(PageInfo::unused(Meta { back, ..FILE }));
-    let slot = PageRange {
-        first: 0x800_0258,
-        end: 0x800_0259,
+    let one = one_page(INNER);
+    let two_cuts = Some([Fit::Cut, Fit::Cut, Fit::Fits, Fit::Fits]);
+    let three_cuts = Some([Fit::Cut, Fit::Cut, Fit::Cut, Fit::Fits]);
+    assert!(rt; cut_wide(&mut list, one)? == two_cuts);
+    assert!(rt; cut_wide(&mut tree, one)? == three_cuts);
+    assert_eq!(rt; (list.page(INNER), list.slot(INNER)), (inner_info(), one));
+    assert_eq!(rt; (tree.page(INNER), tree.slot(INNER)), (inner_info(), one));
+    Ok(())
+}
+
+#[test]
+fn cuts_begin_at_the_start(rt: HostRuntime) -> Result<(), Fail> {
+    let mut list = RunList::new(rt.alloc())?;
+    let mut tree = RadixMap::new(rt.alloc())?;
+    // up to the end of a slot of 512 pages
+    let range = PageRange {
+        first: INNER,
+        end: 0x800_0800,
     };
-    assert_eq!(rt; cuts(&mut list)?, (2, info, slot));
-    assert_eq!(rt; cuts(&mut tree)?, (3, info, slot));
+    let two_cuts = Some([Fit::Cut, Fit::Cut, Fit::Fits, Fit::Fits]);
+    let three_cuts = Some([Fit::Cut, Fit::Cut, Fit::Cut, Fit::Fits]);
+    assert!(rt; cut_wide(&mut list, range)? == two_cuts);
+    assert!(rt; cut_wide(&mut tree, range)? == three_cuts);
+    assert_eq!(rt; list.slot(0x800_07ff), range);
+    // the slot of the last page wasn't divided
+    let last = PageRange {
+        first: 0x800_0600,
+        end: 0x800_0800,
+    };
+    assert_eq!(rt; tree.slot(0x800_07ff), last);
+    assert_eq!(rt; tree.slot(INNER), one_page(INNER));
+    assert!(rt; tree.owner(0x800_07ff) == Some(CoreId::new(2)));
+    Ok(())
+}
+
+#[test]
+fn the_slot_of_the_cursor_is_divided(rt: HostRuntime) -> Result<(), Fail> {
+    let mut list = RunList::new(rt.alloc())?;
+    let mut tree = RadixMap::new(rt.alloc())?;
+    let core = CoreId::new(1);
+    let first = one_page(0x800_0000);
+    assert_eq!(rt; acquired(&mut list, core, first, 5)?, (2, 1));
+    assert_eq!(rt; acquired(&mut tree, core, first, 5)?, (3, 1));
+    assert_eq!(rt; list.slot(0x800_0000), first);
+    assert_eq!(rt; tree.slot(0x800_0000), first);
+    assert_eq!(rt; (list.slot(16).first, list.slot(16).end), (1, 0x800_0000));
+    assert_eq!(rt; (tree.slot(16).first, tree.slot(16).end), (0, 0x800_0000));
+    Ok(())
+}
+
+// Two ranges with a gap between.
+const LEFT: PageRange = PageRange { first: 16, end: 18 };
+
+const RIGHT: PageRange = PageRange { first: 20, end: 22 };
+
+// Which core holds each page from 15 to 22, one round the ranges.
+fn owners<M: SlotMap>(map: &M) -> [Option<CoreId>; 8] {
+    [
+        map.owner(15),
+        map.owner(16),
+        map.owner(17),
+        map.owner(18),
+        map.owner(19),
+        map.owner(20),
+        map.owner(21),
+        map.owner(22),
+    ]
+}
+
+#[test]
+fn two_ranges_on_both_maps(rt: HostRuntime) -> Result<(), Fail> {
+    let mut list = RunList::new(rt.alloc())?;
+    let mut tree = RadixMap::new(rt.alloc())?;
+    let core = CoreId::new(1);
+    let both = Some(Footprint {
+        first: LEFT,
+        second: Some(RIGHT),
+    });
+    assert_eq!(rt; locked_two(&mut list, core, RIGHT, LEFT)?, ((4, 2), both));
+    assert_eq!(rt; locked_two(&mut tree, core, RIGHT, LEFT)?, ((3, 4), both));
+    let own = Some(core);
+    let held = [None, own, own, None, None, own, own, None];
+    assert!(rt; owners(&list) == held);
+    assert!(rt; owners(&tree) == held);
+    assert_eq!(rt; let_go(&mut list, core, both), 2);
+    assert_eq!(rt; let_go(&mut tree, core, both), 4);
+    assert!(rt; owners(&list) == [None; 8]);
+    assert!(rt; owners(&tree) == [None; 8]);
+    Ok(())
+}
+
+#[test]
+fn gives_up_in_mid_lock_on_both_maps(rt: HostRuntime) -> Result<(), Fail> {
+    let mut list = RunList::new(rt.alloc())?;
+    let mut tree = RadixMap::new(rt.alloc())?;
+    let other = CoreId::new(2);
+    acquired(&mut list, other, one_page(21), 5)?;
+    acquired(&mut tree, other, one_page(21), 5)?;
+    let core = CoreId::new(1);
+    let (list_counts, list_held) = locked_two(&mut list, core, LEFT, RIGHT)?;
+    let (tree_counts, tree_held) = locked_two(&mut tree, core, LEFT, RIGHT)?;
+    let held = Some(Footprint {
+        first: LEFT,
+        second: Some(one_page(20)),
+    });
+    assert_eq!(rt; (list_counts, list_held), ((3, 2), held));
+    assert_eq!(rt; (tree_counts, tree_held), ((0, 3), held));
+    assert_eq!(rt; let_go(&mut list, core, list_held), 2);
+    assert_eq!(rt; let_go(&mut tree, core, tree_held), 3);
+    let alone = [None, None, None, None, None, None, Some(other), None];
+    assert!(rt; owners(&list) == alone);
+    assert!(rt; owners(&tree) == alone);
     Ok(())
 }
 
@@ -367,6 +548,25 @@ fn two_pages_take_four_splits(rt: HostRuntime) -> Result<(), Fail> {
     assert_eq!(rt; tree.slot(512), one_page(512));
     assert!(rt; tree.owner(512) == Some(core));
     assert!(rt; tree.owner(513) == None);
+    Ok(())
+}
+
+#[test]
+fn folds_with_the_next_slot(rt: HostRuntime) -> Result<(), Fail> {
+    let mut list = RunList::new(rt.alloc())?;
+    let core = CoreId::new(1);
+    let one = one_page(16);
+    assert_eq!(rt; acquired(&mut list, core, one, 5)?, (2, 1));
+    assert!(rt; put(&mut list, core, one));
+    assert_eq!(rt; unlock(&mut list, core, one), Some(17));
+    assert!(rt; !list.fold(1));
+    assert_eq!(rt; acquired(&mut list, core, one, 5)?, (0, 1));
+    assert!(rt; clear(&mut list, core, one));
+    assert_eq!(rt; unlock(&mut list, core, one), Some(17));
+    assert!(rt; list.fold(1));
+    assert!(rt; list.fold(1));
+    assert!(rt; !list.fold(1));
+    assert_eq!(rt; list.slot(16), ALL);
     Ok(())
 }
 
@@ -416,26 +616,74 @@ fn seen<M: SlotMap>(map: &M) -> [Seen; 4] {
     ]
 }
 
+// Tells whether a map whose heap has room for it and no more stays as it is where a division is refused, locking or
+// cutting, and can be locked where it need not be divided.
+fn refuses_unchanged<M: SlotMap>(map: &mut M, locked: PageRange) -> Result<bool, NoMemory>
+    requires pages { IsPageRange locked }
+    requires low { locked.first ≤ 2 ^ 27 }
+    requires high { 2 ^ 27 + 32 ≤ locked.end }
+{
+    let core = CoreId::new(0);
+    let before = seen(map);
+    let split = acquired(map, core, one_page(16), 5).is_err();
+    let unsplit = seen(map) == before;
+    let locks = acquired(map, core, locked, 5)? == (0, 1);
+    let held = seen(map);
+    let cut = cut_inside(map, core, locked, one_page(0x800_0010)).is_err();
+    Ok(split && unsplit && locks && cut && seen(map) == held)
+}
+
 #[test]
 fn refusals_change_nothing(rt: HostRuntime) -> Result<(), Fail> {
-    let core = CoreId::new(0);
     let none = LocalHeap::new(rt.alloc(), 0)?;
+    assert!(rt; RunList::new(&none).is_err());
     assert!(rt; RadixMap::new(&none).is_err());
+    // room for the first three runs and no more
+    let small = LocalHeap::new(rt.alloc(), 400)?;
+    assert!(rt; refuses_unchanged(&mut RunList::new(&small)?, ALL)?);
     for pages in 1..100 {
         let heap = LocalHeap::new(rt.alloc(), pages * 4096)?;
         if let Ok(mut tree) = RadixMap::new(&heap) {
             // room for the root and no more: 64 bytes for each of its 512 slots at most
             assert!(rt; pages <= 9);
-            let before = seen(&tree);
-            assert!(rt; acquired(&mut tree, core, one_page(16), 5).is_err());
-            assert!(rt; seen(&tree) == before);
-            assert_eq!(rt; acquired(&mut tree, core, WIDE, 5)?, (0, 1));
-            let held = seen(&tree);
-            assert!(rt; cut_round(&mut tree, core, 0x800_0010).is_err());
-            assert!(rt; seen(&tree) == held);
+            assert!(rt; refuses_unchanged(&mut tree, WIDE)?);
             return Ok(());
         }
     }
     assert!(rt; false);
+    Ok(())
+}
+
+// How much of a heap is used while a tree is new, has a page that is a slot of its own, and is folded again.
+fn memory_of(heap: &LocalHeap) -> Result<[usize; 3], NoMemory> {
+    let core = CoreId::new(1);
+    let one = one_page(16);
+    let mut tree = RadixMap::new(heap)?;
+    let new = heap.used();
+    acquired(&mut tree, core, one, 5)?;
+    let grown = heap.used();
+    unlock(&mut tree, core, one);
+    tree.fold(16);
+    tree.fold(16);
+    tree.fold(16);
+    Ok([new, grown, heap.used()])
+}
+
+// A tree that is dropped while it has nodes of every level.
+fn grown_and_dropped(heap: &LocalHeap) -> Result<(u32, u32), NoMemory> {
+    let mut tree = RadixMap::new(heap)?;
+    acquired(&mut tree, CoreId::new(1), one_page(16), 5)
+}
+
+#[test]
+fn memory_comes_back(rt: HostRuntime) -> Result<(), Fail> {
+    let heap = LocalHeap::new(rt.alloc(), 0x10_0000)?;
+    let before = heap.used();
+    let [new, grown, folded] = memory_of(&heap)?;
+    assert!(rt; before < new && new < grown);
+    assert_eq!(rt; folded, new);
+    assert_eq!(rt; heap.used(), before);
+    assert_eq!(rt; grown_and_dropped(&heap)?, (3, 1));
+    assert_eq!(rt; heap.used(), before);
     Ok(())
 }

@@ -1,6 +1,9 @@
 -- The status that the program ends with.
 use Rattle.std.specs.Prelude.{ℕ, Result, Ok, Err}
 use Rattle.core_steps.specs.declared.setup.SetupFault.TheVariants as Of
+use Rattle.radixvm.specs.declared.command.WordsFault.{WordsFault}
+use Rattle.radixvm.specs.declared.command.WordsFault.TheVariants as OutOf
+use Rattle.radixvm.specs.declared.command.WordsFault.TheVariants.{NotUtf8}
 use Rattle.trace.specs.declared.fault.TraceFault.{TraceFault}
 use Rattle.trace.specs.declared.fault.TraceFault.TheVariants.{BadLine, TooLong, ReadFailed, NoVmLine, NoMemory, Setup, WriteFailed}
 
@@ -20,3 +23,8 @@ fault_status WriteFailed = 3
 abbrev pub status_of : {T : Type 0} → Result T TraceFault → ℕ
 status_of (Ok x) = 0
 status_of (Err f) = fault_status f
+
+-- the same of words that can't be read
+abbrev pub words_status : WordsFault → ℕ
+words_status NotUtf8 = 2
+words_status OutOf.NoMemory = 3

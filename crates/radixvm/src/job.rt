@@ -1,7 +1,7 @@
 //! What the program does once its words are read.
 ghost use Rattle.std.specs.Prelude.{◌≡◌, ◌≤◌, IfSome, Result};
 ghost use Rattle.radixvm.specs.Status.{fault_status, status_of};
-ghost use Rattle.trace.specs.Ends.{Ends};
+ghost use Rattle.trace.specs.Ends.{Ends, TellsFaults};
 ghost use Rattle.trace.specs.declared.fault.TraceFault.{TraceFault};
 
 use core_steps::SetupFault;
@@ -33,7 +33,10 @@ pub fn run<A: Allocator + Clone + Drop, S: Source, W: Sink, E: Write>(
     errors: &mut E,
 ) -> u8
     ensures ends { (r : Result Unit TraceFault) × (result ≡ status_of r)
-        × IfSome (S.remaining reader.old) (λ input. Ends input (S.remaining reader.new) (W.contents out.old) (W.contents out.new) r) }
+        × IfSome (S.remaining reader.old) (λ input. Ends input (S.remaining reader.new)
+        (W.contents out.old) (W.contents out.new) r)
+        × TellsFaults r (S.failed reader.new) (S.reads reader.new)
+        (W.failed out.old) (W.failed out.new) (W.is_flushed out.new) }
     ensures within { result ≤ 3 }
 {
     match replay(alloc, reader, out) {

@@ -1,6 +1,9 @@
-//! Traces whose output, fault and status the format's description and POSIX fix.
-use crate::command::command;
-use std::alloc::Global;
+//! Traces whose output, fault and status the format's description and POSIX fix, and the words of the command line.
+use crate::command::program;
+use crate::job;
+use linked_list_allocator::LocalHeap;
+use std::alloc::{Allocator, Global};
+use std::env::{Env, FillError};
 use std::io;
 use std::io::{ErrorKind, Read, Write};
 use std::test::Fail;
@@ -33,13 +36,14 @@ impl Read for Dripping<'_> {
     }
 }
 
-// Holds what it was given, and from a write on fails or takes no byte.
+// Holds what it was given, and from a write on fails or takes no byte. A flush may fail too.
 #[derive(Drop)]
 struct Filling {
     held: Vec<u8>,
     writes: u64,
     full_at: u64,
     fails: bool,
+    is_closed: bool,
 }
 
 impl Write for Filling {
@@ -58,7 +62,38 @@ impl Write for Filling {
     }
 
     fn flush(&mut self) -> io::Result<()> {
+        if self.is_closed {
+            return Err(io::Error::from(ErrorKind::BrokenPipe));
+        }
         Ok(())
+    }
+}
+
+// The words of a command line, as the system gives them.
+#[derive(Drop)]
+struct Words<'a> {
+    words: &'a [&'a [u8]],
+}
+
+impl Env for Words<'_> {
+    fn arg(&self, i: usize, buffer: &mut [u8]) -> Result<usize, FillError> {
+        if i >= self.words.len() {
+            return Err(FillError::NotPresent);
+        }
+        let word = self.words[i];
+        if word.len() > buffer.len() {
+            return Err(FillError::TooLong);
+        }
+        buffer[..word.len()].copy_from_slice(word);
+        Ok(word.len())
+    }
+
+    fn var(&self, _name: &str, _buffer: &mut [u8]) -> Result<usize, FillError> {
+        Err(FillError::NotPresent)
+    }
+
+    fn var_at(&self, _i: usize, _buffer: &mut [u8]) -> Result<usize, FillError> {
+        Err(FillError::NotPresent)
     }
 }
 
@@ -75,36 +110,57 @@ struct Limits {
     reads: u64,
     writes: u64,
     fails: bool,
+    is_closed: bool,
 }
 
 const AMPLE: Limits = Limits {
     reads: 1_000_000,
     writes: 1_000_000,
     fails: true,
+    is_closed: false,
 };
 
-fn run(alloc: Global, input: &[u8], limits: Limits) -> Result<Ran, Fail> {
-    let mut words = Vec::new(alloc);
-    words.push(String::from_str(alloc, "radixvm")?)?;
-    words.push(String::from_str(alloc, "run")?)?;
-    let mut reader = Counted::new(Dripping {
+fn source_of(input: &[u8], limits: Limits) -> Counted<Dripping<'_>> {
+    Counted::new(Dripping {
         bytes: input,
         reads: 0,
         fails_at: limits.reads,
-    });
-    let mut out = Noted::new(Filling {
+    })
+}
+
+fn sink_of(alloc: Global, limits: Limits) -> Noted<Filling> {
+    Noted::new(Filling {
         held: Vec::new(alloc),
         writes: 0,
         full_at: limits.writes,
         fails: limits.fails,
-    });
+        is_closed: limits.is_closed,
+    })
+}
+
+// The whole program, but for `main` itself, which hands it the system's input and outputs.
+fn run_words<A: Allocator>(
+    alloc: Global,
+    for_words: &A,
+    words: &[&[u8]],
+    input: &[u8],
+    limits: Limits,
+) -> Ran {
+    let mut reader = source_of(input, limits);
+    let mut out = sink_of(alloc, limits);
     let mut errors = Vec::new(alloc);
-    let status = command(alloc, &words, &mut reader, &mut out, &mut errors);
-    Ok(Ran {
+    let given = Words { words };
+    let status = program(given, for_words, alloc, &mut reader, &mut out, &mut errors);
+    Ran {
         out: out.writer.held,
         errors,
         status,
-    })
+    }
+}
+
+fn run(alloc: Global, input: &[u8], limits: Limits) -> Ran {
+    let words = [b"radixvm".as_slice(), b"run".as_slice()];
+    run_words(alloc, &alloc, &words, input, limits)
 }
 
 const STORED: &[u8] =
@@ -160,7 +216,7 @@ fn replies(rt: HostRuntime) -> Result<(), Fail> {
             b"segv maperr\n".as_slice(),
         ),
     ] {
-        let ran = run(rt.alloc(), input, AMPLE)?;
+        let ran = run(rt.alloc(), input, AMPLE);
         assert_eq!(rt; ran.out.as_slice(), output);
         assert_eq!(rt; ran.errors.as_slice(), b"".as_slice());
         assert_eq!(rt; ran.status, 0);
@@ -191,7 +247,7 @@ fn faults_of_the_text(rt: HostRuntime) -> Result<(), Fail> {
         (b"vm 1 65537", b"radixvm: setup S2\n"),
         (b"vm 1 1 1048577", b"radixvm: setup S5\n"),
     ] {
-        let ran = run(rt.alloc(), input, AMPLE)?;
+        let ran = run(rt.alloc(), input, AMPLE);
         assert_eq!(rt; ran.out.as_slice(), b"".as_slice());
         assert_eq!(rt; ran.errors.as_slice(), fault);
         assert_eq!(rt; ran.status, 2);
@@ -213,14 +269,14 @@ fn with_long_comment(alloc: Global, length: usize) -> Result<Vec<u8>, Fail> {
 #[test]
 fn length_of_a_line(rt: HostRuntime) -> Result<(), Fail> {
     let fits = with_long_comment(rt.alloc(), 256)?;
-    let ran = run(rt.alloc(), &fits, AMPLE)?;
+    let ran = run(rt.alloc(), &fits, AMPLE);
     assert_eq!(rt;
         ran.out.as_slice(),
         b"segv maperr\nsegv maperr\n".as_slice()
     );
     assert_eq!(rt; ran.status, 0);
     let long = with_long_comment(rt.alloc(), 257)?;
-    let ran = run(rt.alloc(), &long, AMPLE)?;
+    let ran = run(rt.alloc(), &long, AMPLE);
     assert_eq!(rt; ran.out.as_slice(), b"segv maperr\n".as_slice());
     assert_eq!(rt;
         ran.errors.as_slice(),
@@ -234,7 +290,7 @@ fn length_of_a_line(rt: HostRuntime) -> Result<(), Fail> {
 fn each_read_fails(rt: HostRuntime) -> Result<(), Fail> {
     for reads in 0..STORED.len() as u64 {
         let limits = Limits { reads, ..AMPLE };
-        let ran = run(rt.alloc(), STORED, limits)?;
+        let ran = run(rt.alloc(), STORED, limits);
         assert!(rt; b"0x10000\ndone\n41\n0\n".starts_with(&ran.out));
         assert_eq!(rt; ran.errors.as_slice(), b"radixvm: read failed\n".as_slice());
         assert_eq!(rt; ran.status, 3);
@@ -256,7 +312,7 @@ fn each_write_fails(rt: HostRuntime) -> Result<(), Fail> {
                 fails,
                 ..AMPLE
             };
-            let ran = run(rt.alloc(), STORED, limits)?;
+            let ran = run(rt.alloc(), STORED, limits);
             assert_eq!(rt; ran.out.as_slice(), held);
             assert_eq!(rt;
                 ran.errors.as_slice(),
@@ -264,6 +320,117 @@ fn each_write_fails(rt: HostRuntime) -> Result<(), Fail> {
             );
             assert_eq!(rt; ran.status, 3);
         }
+    }
+    Ok(())
+}
+
+// A disk that is full, or a reader that went, may be noticed only when a buffer is handed on.
+#[test]
+fn a_failing_flush_is_a_fault(rt: HostRuntime) -> Result<(), Fail> {
+    let limits = Limits {
+        is_closed: true,
+        ..AMPLE
+    };
+    for word in [
+        b"run".as_slice(),
+        b"--help".as_slice(),
+        b"--version".as_slice(),
+    ] {
+        let words = [b"radixvm".as_slice(), word];
+        let ran = run_words(rt.alloc(), &rt.alloc(), &words, STORED, limits);
+        assert_eq!(rt;
+            ran.errors.as_slice(),
+            b"radixvm: write failed\n".as_slice()
+        );
+        assert_eq!(rt; ran.status, 3);
+    }
+    Ok(())
+}
+
+#[test]
+fn help_and_version(rt: HostRuntime) -> Result<(), Fail> {
+    for words in [
+        [b"radixvm".as_slice(), b"--help".as_slice()].as_slice(),
+        [b"radixvm".as_slice(), b"help".as_slice()].as_slice(),
+        [
+            b"radixvm".as_slice(),
+            b"run".as_slice(),
+            b"--help".as_slice(),
+        ]
+        .as_slice(),
+    ] {
+        let ran = run_words(rt.alloc(), &rt.alloc(), words, b"", AMPLE);
+        let text = str::from_utf8(&ran.out)?;
+        for part in [
+            "cC! REQ",
+            "mprotect ADDR LEN PROT",
+            "segv maperr",
+            "setup S5",
+        ] {
+            assert!(rt; text.contains(part));
+        }
+        assert_eq!(rt; ran.errors.as_slice(), b"".as_slice());
+        assert_eq!(rt; ran.status, 0);
+    }
+    let words = [b"radixvm".as_slice(), b"--version".as_slice()];
+    let ran = run_words(rt.alloc(), &rt.alloc(), &words, b"", AMPLE);
+    assert_eq!(rt; ran.out.as_slice(), b"radixvm 0.1.0\n".as_slice());
+    assert_eq!(rt; ran.status, 0);
+    Ok(())
+}
+
+#[test]
+fn bad_words(rt: HostRuntime) -> Result<(), Fail> {
+    for words in [
+        [].as_slice(),
+        [b"radixvm".as_slice()].as_slice(),
+        [b"radixvm".as_slice(), b"frob".as_slice()].as_slice(),
+        [b"radixvm".as_slice(), b"--frob".as_slice()].as_slice(),
+        [b"radixvm".as_slice(), b"run".as_slice(), b"now".as_slice()].as_slice(),
+        [b"radixvm".as_slice(), b"run".as_slice(), b"\xff".as_slice()].as_slice(),
+    ] {
+        let ran = run_words(rt.alloc(), &rt.alloc(), words, STORED, AMPLE);
+        assert!(rt; ran.errors.starts_with(b"radixvm: "));
+        assert!(rt; !ran.errors.starts_with(b"radixvm: error"));
+        assert_eq!(rt; ran.out.as_slice(), b"".as_slice());
+        assert_eq!(rt; ran.status, 2);
+    }
+    let words = [b"radixvm".as_slice(), b"\xff".as_slice()];
+    let ran = run_words(rt.alloc(), &rt.alloc(), &words, STORED, AMPLE);
+    assert_eq!(rt;
+        ran.errors.as_slice(),
+        b"radixvm: the words are not UTF-8\n".as_slice()
+    );
+    Ok(())
+}
+
+#[test]
+fn no_memory_for_the_words(rt: HostRuntime) -> Result<(), Fail> {
+    let heap = LocalHeap::new(rt.alloc(), 64)?;
+    let words = [[b'r'; 256].as_slice(), b"run".as_slice()];
+    let ran = run_words(rt.alloc(), &heap, &words, STORED, AMPLE);
+    assert_eq!(rt;
+        ran.errors.as_slice(),
+        b"radixvm: out of memory\n".as_slice()
+    );
+    assert_eq!(rt; ran.status, 3);
+    Ok(())
+}
+
+// A heap without room for a chunk of lines, and one that has that and no room for a machine.
+#[test]
+fn no_memory_for_the_replay(rt: HostRuntime) -> Result<(), Fail> {
+    for (size, fault) in [
+        (65_000, b"radixvm: out of memory\n".as_slice()),
+        (66_000, b"radixvm: setup S6\n".as_slice()),
+    ] {
+        let heap = LocalHeap::new(rt.alloc(), size)?;
+        let mut reader = source_of(STORED, AMPLE);
+        let mut out = sink_of(rt.alloc(), AMPLE);
+        let mut errors = Vec::new(rt.alloc());
+        let status = job::run(&heap, &mut reader, &mut out, &mut errors);
+        assert_eq!(rt; errors.as_slice(), fault);
+        assert_eq!(rt; status, 3);
     }
     Ok(())
 }

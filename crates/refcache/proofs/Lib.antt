@@ -13,3 +13,5 @@ pub mod Held
 pub mod Sound
 pub mod Tried
 pub mod Unused
+pub mod Due
+pub mod Reached

@@ -8,17 +8,17 @@ use Rattle.refcache.specs.declared.reports.Queued.{Queued}
 use Rattle.vm_base.specs.Functions.{put}
 use Rattle.refcache.specs.Counts.{Counts, opening, drained, soiled, enqueued, unqueued, noticed, evicted, added, begun}
 use Rattle.refcache.specs.Places.{entries, if_its}
-use Rattle.refcache.specs.Pieces.{Core, EvictsInto, Decides, IsFrontDue, IsNewCore, IsNewCount}
+use Rattle.refcache.specs.Pieces.{Core, EvictsInto, IsFront, ReviewsPiece, IsNewCore, IsNewCount}
 use Rattle.std.specs.List.{All}
 use Rattle.std.proofs.Math.ListN.{get_or-eq_default}
-use Rattle.refcache.proofs.Way.{own_place, no_members}
+use Rattle.refcache.proofs.Way.{way_without, no_members}
 use Rattle.refcache.proofs.Queues.{by_notice}
 use Rattle.refcache.proofs.Pending.{less_or_not}
 use Rattle.refcache.specs.declared.reports.Flush.{Flush}
 use Rattle.refcache.specs.declared.reports.Flush.TheVariants as flush
 use Rattle.refcache.specs.declared.reports.Review.{Review}
 use Rattle.refcache.specs.declared.reports.Review.TheVariants as review
-use Rattle.refcache.specs.Steps.{IsInTheWay, Begin, Takes, IsUnused, IsClear, Flushes, Reviews, IsDue}
+use Rattle.refcache.specs.Steps.{IsInTheWay, Begin, Takes, IsUnused, IsClear, IsQuiet, Flushes, Reviews, IsDue}
 use Rattle.vm_base.specs.Cores.{members}
 use Rattle.refcache.specs.Epochs.{Epoch, AllMarked, Marks}
 use Rattle.refcache.specs.Parts.{Parts, object_at, core_at, counts_of}
@@ -168,10 +168,10 @@ whole_marked p c flush.Idle new same clear h = (clear, idle h.0, fields p new p.
 
 -- a review of the pieces is one of the counts
 pub whole_reviewed : (p : Parts) (c : ℕ) (r : Review) (core : Core) (count : ObjectCount) (x : Queued) (rest : List Queued)
-    → c < length p.cores → x.object < length p.objects → (core_at p.cores c).queue ≡ x ∷ rest → x.epoch + 2 ≤ p.epochs.number → core.places ≡ (core_at p.cores c).places
-    → Decides x rest p.epochs.number (object_at p.objects x.object) r count core.queue
+    → c < length p.cores → x.object < length p.objects → (core_at p.cores c).queue ≡ x ∷ rest → core.places ≡ (core_at p.cores c).places
+    → ReviewsPiece (x ∷ rest) p.epochs.number (object_at p.objects x.object) r count core.queue
     → Reviews (counts_of p) c r (counts_of (record p { objects = slice_set p.objects x.object count; cores = slice_set p.cores c core }))
-whole_reviewed p c r core count x rest inside object front time places h = go r h
+whole_reviewed p c r core count x rest inside object front places h = go r h
   where
     o : ℕ
     o = x.object
@@ -213,18 +213,26 @@ whole_reviewed p c r core count x rest inside object front time places h = go r 
         (queues (rest ++ record { object = o; epoch = p.epochs.number } ∷ []) q ∙ twice v.queue c rest (rest ++ record { object = o; epoch = p.epochs.number } ∷ [])
         ∙ ap (λ xs. put (put v.queue c rest) c (xs ++ record { object = o; epoch = p.epochs.number } ∷ [])) (sym (put_same v.queue c rest))) refl
 
-    due : IsDue v c o rest
-    due = record { since = x.epoch; front = front; time = time }
+    -- the code looked at the count, and left it as it was
+    same : count ≡ object_at p.objects o → core.queue ≡ x ∷ rest → new ≡ v
+    same e q = same_counts new v (length_set p.cores c core) (length_set p.objects o count) refl (globals (ap (λ z. z.global) e))
+        (read_kept (λ z. z.is_queued) p.objects o count none object (ap (λ z. z.is_queued) e))
+        (read_kept (λ z. z.is_dirty) p.objects o count none object (ap (λ z. z.is_dirty) e)) deltas
+        (read_kept (λ k. k.queue) p.cores c core no_core inside (q ∙ sym front)) refl
 
-    go : (r : Review) → Decides x rest p.epochs.number (object_at p.objects x.object) r count core.queue → Reviews v c r new
-    go (review.Dropped o') h = subst (λ z. Reviews v c (review.Dropped z) new) (sym h.0) (rest, due, h.1, taken h.2 h.3)
-    go (review.Freed o') h = subst (λ z. Reviews v c (review.Freed z) new) (sym h.0) (rest, due, h.1, h.2, taken h.3 h.4)
-    go (review.Requeued o') h = subst (λ z. Reviews v c (review.Requeued z) new) (sym h.0) (rest, due, h.1, h.2, again h.3 h.4)
-    go review.Idle h = absurd h
+    due : x.epoch + 2 ≤ p.epochs.number → IsDue v c o rest
+    due time = record { since = x.epoch; front = front; time = time }
 
-pub front_due : (epoch : ℕ) (xs : List Queued) (o : ℕ) → IsFrontDue epoch xs o → (x : Queued) × (rest : List Queued) × (xs ≡ x ∷ rest) × (x.object ≡ o) × (x.epoch + 2 ≤ epoch)
-front_due epoch [] o h = absurd h
-front_due epoch (x ∷ xs) o h = (x, xs, refl, h.0, h.1)
+    go : (r : Review) → ReviewsPiece (x ∷ rest) p.epochs.number (object_at p.objects x.object) r count core.queue → Reviews v c r new
+    go (review.Dropped o') h = let d = h.1 in subst (λ z. Reviews v c (review.Dropped z) new) (sym d.0) (rest, due h.0, d.1, taken d.2 d.3)
+    go (review.Freed o') h = let d = h.1 in subst (λ z. Reviews v c (review.Freed z) new) (sym d.0) (rest, due h.0, d.1, d.2, taken d.3 d.4)
+    go (review.Requeued o') h = let d = h.1 in subst (λ z. Reviews v c (review.Requeued z) new) (sym d.0) (rest, due h.0, d.1, d.2, again d.3 d.4)
+    go review.Idle h = (subst (IsQuiet p.epochs.number) (sym front) h.0, same h.1 h.2)
+
+-- what stands at the front of a queue
+pub front_is : (xs : List Queued) (x : Queued) → IsFront xs x → (rest : List Queued) × (xs ≡ x ∷ rest)
+front_is [] x h = absurd h
+front_is (y ∷ ys) x h = (ys, ap (λ z. z ∷ ys) (sym h))
 
 -- a global count set in the pieces is an object's new beginning
 pub whole_begun : (p : Parts) (o count : ℕ) (objects : List ObjectCount) → o < length p.objects → IsUnused (counts_of p) o → (1 ≤ count) × (count ≤ 2 ^ 40)
@@ -263,20 +271,10 @@ whole_added p c o by core inside places queue =
 -- once what was in the way is evicted, nothing is
 pub way_cleared : (p : Parts) (c o : ℕ) (by : ℤ) (q : ℕ) (new : Parts) → IsInTheWay (entries (core_at p.cores c).places) o by q
     → counts_of new ≡ evicted c q (counts_of p) → (r : ℕ) → IsInTheWay (entries (core_at new.cores c).places) o by r → ⊥
-way_cleared p c o by q new way e r other = go (same_or_not r q)
+way_cleared p c o by q new way e = way_without (core_at p.cores c).places o by q (entries (core_at new.cores c).places) way left
   where
-    old : ℕ → Option ℤ
-    old = entries (core_at p.cores c).places
-
     left : entries (core_at new.cores c).places ≡ put (entries (core_at p.cores c).places) q None
     left = ap (λ v. v.delta c) e ∙ noticed_delta c q (drained c q (counts_of p)) c ∙ put_same (counts_of p).delta c (put ((counts_of p).delta c) q None)
-
-    here : put (entries (core_at p.cores c).places) q None r ≢ None
-    here none = other.entry (ap (λ f. f r) left ∙ none)
-
-    go : (r ≡ q) ⊎ (r ≢ q) → ⊥
-    go (inl same) = here (ap (put (entries (core_at p.cores c).places) q None) same ∙ put_same (entries (core_at p.cores c).places) q None)
-    go (inr ne) = here (put_other (entries (core_at p.cores c).places) q None r ne ∙ own_place (core_at p.cores c).places q way.entry r (other.place ∙ sym way.place) ne)
 
 -- the counts of the pieces as they are made
 pub whole_opened : (objects : List ObjectCount) (cores : List Core) (n m room : ℕ) → length objects ≡ m → All IsNewCount objects → length cores ≡ n → All (IsNewCore room) cores

@@ -9,8 +9,7 @@ use Rattle.refcache.specs.declared.reports.Flush.TheVariants as flush
 use Rattle.refcache.specs.declared.reports.Review.TheVariants as review
 use Rattle.vm_base.specs.Functions.{put}
 use Rattle.refcache.specs.Counts.{Counts, opening, delta_of, true_count, enqueued, unqueued, soiled, drained, evicted, added, begun, marked, ended}
-use Rattle.refcache.specs.Steps.{Step, Begin, Inc, Dec, Flushing, Reviewing, Takes, MakesRoom, HasEntry, IsUnused, IsClear, AllFlushed, Flushes, Reviews, Moment, IsRun}
-use Rattle.refcache.specs.Laws.{FreedIsUnused}
+use Rattle.refcache.specs.Steps.{Step, Begin, Inc, Dec, Flushing, Reviewing, Takes, MakesRoom, HasEntry, IsUnused, IsClear, AllFlushed, Flushes, Reviews}
 use Rattle.vm_base.proofs.Functions.{put_all, put_same, put_other}
 use Rattle.refcache.proofs.Sums.{same_or_not, cell_same, cell_row, cell_column}
 use Rattle.refcache.proofs.Lists.{Each, Stands, Once, each_map, each_both, each_end, each_in, stood_end, once_end}
@@ -283,10 +282,3 @@ unused v c o w h f = subst (λ z. IsUnused z o) (sym h.4) (record {
         go : Untouched v o h.1.since → (j : ℕ) → j < v.cores → v.delta j o ≡ None
         go (inl u) = let time = h.1.time in absurd (u.3 (inl (omega (arith, time))))
         go (inr u) = u
-
-pub freed_is_unused : FreedIsUnused
-freed_is_unused n m core object before freed after run step = go (opening n m) before run (settled_open n m)
-  where
-    go : (v : Counts) (before : List Moment) → IsRun v (before ++ freed ∷ after) → Settled v → IsUnused freed.counts object
-    go v [] r f = unused v core object freed.counts (subst (λ s. Takes v s freed.counts) step r.0).1 f
-    go v (x ∷ xs) r f = go x.counts xs r.1 (settled v x.step x.counts r.0 f)

@@ -131,8 +131,11 @@ ready p c o f lt has =
     }
 
 -- the front of a queue is an object that there is
+pub front_below : (v : Counts) (c : ℕ) (x : Queued) (rest : List Queued) → IsReached v → v.queue c ≡ x ∷ rest → x.object < v.objects
+front_below v c x rest reached front = (subst (Each (λ x. x.object < v.objects)) front ((known v reached).held.queues c)).0
+
 pub front_inside : (p : Parts) (c : ℕ) (x : Queued) (rest : List Queued) → IsSound p → (core_at p.cores c).queue ≡ x ∷ rest → x.object < length p.objects
-front_inside p c x rest f front = (subst (Each (λ x. x.object < length p.objects)) front ((known (counts_of p) f.reached).held.queues c)).0
+front_inside p c x rest f front = front_below (counts_of p) c x rest f.reached front
 
 pub freed_unused : (p q : Parts) (c o : ℕ) → IsSound p → Takes (counts_of p) (Reviewing c (review.Freed o)) (counts_of q) → IsUnused (counts_of q) o
 freed_unused p q c o f t = unused (counts_of p) c o (counts_of q) t.1 (known (counts_of p) f.reached).settled

@@ -6,47 +6,20 @@ ghost use Rattle.refcache.specs.Pieces.{ArePlaces, IsLeast, lesser_object};
 ghost use Rattle.refcache.specs.Steps.{IsInTheWay, IsDelta};
 
 use crate::object_count::ObjectCount;
-use crate::places::{Entry, PLACES, delta_of, drop_entry, empty_places, put_entry};
+use crate::places::{
+    Entry, PLACES, count_entry, delta_of, drop_entry, has_entry, in_the_way, no_entries,
+};
 use crate::reports::{Queued, Review};
+use crate::way_ahead::WayAhead;
 use std::alloc::{AllocError, Allocator};
 use std::collections::VecDeque;
 use std::marker::Model;
 
-/// How far a delta may go from 0.
-pub const DELTA_LIMIT: i64 = 1 << 40;
-
-/// Tells whether a delta is small enough.
-fn is_delta(delta: i64) -> bool
-    ensures { MatchBool result (IsDelta delta) (IsDelta delta → ⊥) }
-{
-    -DELTA_LIMIT <= delta && delta <= DELTA_LIMIT
-}
-
-/// The object whose entry must go before the delta of `object` changes by `by`.
-#[tactic(auto, using(crate::proofs::Way::own_way))]
-fn in_the_way<A: Allocator>(places: &Vec<Option<Entry>, A>, object: u32, by: i64) -> Option<u32>
-    requires places { ArePlaces places.now.items }
-    requires one { (neg_ℤ (pos 1) ≤ℤ by) × (by ≤ℤ pos 1) }
-    ensures some { IfSome result (λ p. IsInTheWay (entries places.now.items) object by p) }
-    ensures none { IfNone result ((p : ℕ) → IsInTheWay (entries places.now.items) object by p
-        → ⊥) }
-{
-    let entry = places[object as usize % PLACES]?;
-    if entry.object != object {
-        return Some(entry.object);
-    }
-    if is_delta(entry.delta + by) {
-        None
-    } else {
-        Some(object)
-    }
-}
-
 /// The least object that has an entry.
-fn least<A: Allocator>(places: &Vec<Option<Entry>, A>) -> Option<u32>
-    requires { ArePlaces places.now.items }
-    ensures some { IfSome result (λ o. IsLeast (entries places.now.items) o) }
-    ensures none { IfNone result ((o : ℕ) → entries places.now.items o ≡ None) }
+fn least(places: &[Option<Entry>]) -> Option<u32>
+    requires { ArePlaces places.now }
+    ensures some { IfSome result (λ o. IsLeast (entries places.now) o) }
+    ensures none { IfNone result ((o : ℕ) → entries places.now o ≡ None) }
 {
     let mut least = None;
     'all: for i in 0..PLACES {
@@ -70,20 +43,10 @@ fn lesser(least: Option<u32>, entry: Option<Entry>) -> Option<u32>
     }
 }
 
-/// An object's delta with one more or less.
-fn counted_on<A: Allocator>(places: &Vec<Option<Entry>, A>, object: u32, by: i64) -> i64
-    requires places { ArePlaces places.now.items }
-    requires one { (neg_ℤ (pos 1) ≤ℤ by) × (by ≤ℤ pos 1) }
-    requires small { IsDelta (unwrap_or (entries places.now.items object) (pos 0)) }
-    ensures { result ≡ unwrap_or (entries places.now.items object) (pos 0) +ℤ by }
-{
-    delta_of(places, object) + by
-}
-
 /// A core's delta entries and its review queue.
 #[derive(Drop)]
 pub struct CoreCounts<A: Allocator> {
-    places: Vec<Option<Entry>, A>,
+    places: [Option<Entry>; PLACES],
     queue: VecDeque<Queued, A>,
 }
 
@@ -94,29 +57,29 @@ impl<A: Allocator> Model for CoreCounts<A> {
 
     ghost Value = { Core };
 
-    ghost view = { λ c. record { places = c.places.items; queue = c.queue.items; room = deque_capacity c.queue } };
+    ghost view = { λ c. record { places = c.places; queue = c.queue.items; room = deque_capacity c.queue } };
 
-    ghost invariant = { λ c. ArePlaces c.places.items × (length c.queue.items ≤ deque_capacity c.queue) };
+    ghost invariant = { λ c. ArePlaces c.places × (length c.queue.items ≤ deque_capacity c.queue) };
 }
 
 impl<A: Allocator> CoreCounts<A> {
-    ghost use Rattle.std.specs.Prelude.{◌≡◌, ◌≢◌, ◌<◌, ◌≤◌, ◌==◌, nat_lt, List, [], ◌∷◌, ℕ, length, IfSome, IfNone, IfOk, None, Some, unwrap_or, pos, ◌+ℤ◌, ◌≤ℤ◌, neg_ℤ};
+    ghost use Rattle.std.specs.Prelude.{◌≡◌, ◌≢◌, true, ◌+◌, ◌<◌, ◌≤◌, ◌==◌, nat_lt, List, [], ◌∷◌, ℕ, length, IfSome, IfNone, IfOk, None, Some, unwrap_or, pos, ◌+ℤ◌, ◌≤ℤ◌, neg_ℤ};
     ghost use Rattle.vm_base.specs.Functions.{put};
     ghost use Rattle.refcache.specs.Places.{entries};
-    ghost use Rattle.refcache.specs.Pieces.{IsLeast, EvictsInto, Decides, IsFrontDue, IsCount, IsNewCore};
+    ghost use Rattle.refcache.specs.Pieces.{IsLeast, EvictsInto, Decides, IsFront, IsFrontDue, ReviewsPiece, IsCount, IsNewCore};
     ghost use Rattle.refcache.specs.Steps.{IsQuiet, IsInTheWay};
     ghost use Rattle.refcache.specs.declared.reports.Queued.{Queued};
 
-    /// A core without entries, whose queue has room for `objects` objects.
-    #[tactic(auto, using(crate::proofs::Way::new_places, crate::proofs::Way::new_entries))]
-    pub fn new(alloc: A, objects: usize) -> Result<Self, AllocError>
-    where
-        A: Clone,
-        ensures { IfOk result (IsNewCore objects) }
+    /// A core without entries, whose queue has room for `objects` objects and one more. The error is a refusal of memory;
+    /// no other call takes any.
+    pub fn new(alloc: A, objects: u32) -> Result<Self, AllocError>
+        ensures { IfOk result (IsNewCore (objects + 1)) }
     {
-        let places = empty_places(alloc.clone()?)?;
-        let queue = VecDeque::with_capacity(alloc, objects)?;
-        Ok(CoreCounts { places, queue })
+        let queue = VecDeque::with_capacity(alloc, objects as usize + 1)?;
+        Ok(CoreCounts {
+            places: no_entries(),
+            queue,
+        })
     }
 
     /// The least object that has an entry.
@@ -137,11 +100,29 @@ impl<A: Allocator> CoreCounts<A> {
         in_the_way(&self.places, object, by)
     }
 
+    /// The core's entries, to count objects ahead.
+    pub fn way_ahead(&self) -> WayAhead
+        ensures { result ≡ self.now.places }
+    {
+        WayAhead::new(self.places)
+    }
+
     /// Tells whether the queue has room for one more object.
     pub fn has_room(&self) -> bool
         ensures { result ≡ nat_lt (length self.now.queue) self.now.room }
     {
         self.queue.len() < self.queue.capacity()
+    }
+
+    /// Tells whether the entry of an object, which has this count, may be evicted: whether there is one, the queue has room
+    /// for one more object, and the count takes any delta.
+    pub fn can_evict(&self, count: &ObjectCount, object: u32) -> bool
+        ensures entry { result ≡ true → entries self.now.places object ≢ None }
+        ensures room { result ≡ true → length self.now.queue < self.now.room }
+        ensures count { result ≡ true → IsCount count.now.global }
+        ensures only { entries self.now.places object ≢ None → length self.now.queue < self.now.room → IsCount count.now.global → result ≡ true }
+    {
+        has_entry(&self.places, object) && self.has_room() && count.takes_any_delta()
     }
 
     /// Evicts the entry of an object: its delta goes into the object's count, and the object is queued in this epoch
@@ -163,7 +144,6 @@ impl<A: Allocator> CoreCounts<A> {
     }
 
     /// Adds 1 or -1 to the delta of an object, from 0 where it has no entry.
-    #[tactic(auto, using(crate::proofs::Way::free_way, crate::proofs::Way::small_delta, crate::proofs::Way::next_small))]
     pub fn add(&mut self, object: u32, by: i64)
         requires one { (neg_ℤ (pos 1) ≤ℤ by) × (by ≤ℤ pos 1) }
         requires room { (p : ℕ) → IsInTheWay (entries self.old.places) object by p → ⊥ }
@@ -171,8 +151,7 @@ impl<A: Allocator> CoreCounts<A> {
         ensures queue { self.new.queue ≡ self.old.queue }
         ensures room { self.new.room ≡ self.old.room }
     {
-        let delta = counted_on(&self.places, object, by);
-        put_entry(&mut self.places, object, delta);
+        count_entry(&mut self.places, object, by);
     }
 
     /// The front of the queue, where it was queued two epochs ago or more.
@@ -187,9 +166,32 @@ impl<A: Allocator> CoreCounts<A> {
         Some(front.object)
     }
 
-    /// Reviews the front of the queue, an object with this count: `Dropped` where the count isn't 0, `Freed` where it is
-    /// and the object has no dirty mark, and else `Requeued`, queued anew in this epoch without the mark.
+    /// The front of the queue, whenever it was queued.
+    pub fn front(&self) -> Option<Queued>
+        ensures some { IfSome result (IsFront self.now.queue) }
+        ensures none { IfNone result (self.now.queue ≡ []) }
+    {
+        self.queue.front().copied()
+    }
+
+    /// One look at the front of the queue, an object with this count. `Idle` where there is none, or where it was queued less
+    /// than two epochs ago; then nothing changes. Else the object leaves the queue: `Dropped` where the count isn't 0, `Freed`
+    /// where it is and the object has no dirty mark. With the mark it loses it and is queued anew at the end: `Requeued`.
+    #[tactic(auto, using(crate::proofs::Due::due_reviewed))]
     pub fn review(&mut self, count: &mut ObjectCount, epoch: u64) -> Review
+        ensures reviewed { ReviewsPiece self.old.queue epoch count.old result count.new self.new.queue }
+        ensures places { self.new.places ≡ self.old.places }
+        ensures room { self.new.room ≡ self.old.room }
+    {
+        let Some(_object) = self.due(epoch) else {
+            return Review::Idle;
+        };
+        let decided = self.decide(count, epoch);
+        decided
+    }
+
+    /// Decides of the front of the queue, an object with this count, as `review` does of one that is due.
+    fn decide(&mut self, count: &mut ObjectCount, epoch: u64) -> Review
         requires { 0 < length self.old.queue }
         ensures decides { (x : Queued) (rest : List Queued) → self.old.queue ≡ x ∷ rest → Decides x rest epoch count.old result count.new self.new.queue }
         ensures places { self.new.places ≡ self.old.places }

@@ -1,6 +1,6 @@
 //! The counts of all objects and cores, as calls that rest on what holds of every run.
 
-ghost use Rattle.std.specs.Prelude.{◌≡◌, ◌<◌, length, slice_set, IfOk};
+ghost use Rattle.std.specs.Prelude.{◌≡◌, ◌<◌, ◌≤◌, ◌+◌, ◌^◌, length, pos, slice_set, IfOk};
 ghost use Rattle.std.specs.List.{All};
 ghost use Rattle.refcache.specs.Parts.{object_at};
 ghost use Rattle.refcache.specs.Pieces.{IsNewCount, IsNewCore};
@@ -39,7 +39,7 @@ impl<A: Allocator> CountTable<A> {
 
     /// All counts 0, in epoch 0; each core's queue has room for every object and one more.
     #[tactic(auto, using(crate::proofs::PartsOf::whole_opened))]
-    pub(crate) fn new(alloc: A, cores: u8, objects: usize) -> Result<Self, AllocError>
+    pub(crate) fn new(alloc: A, cores: u8, objects: u32) -> Result<Self, AllocError>
     where
         A: Clone,
         requires cores { cores ≤ 64 }
@@ -48,8 +48,8 @@ impl<A: Allocator> CountTable<A> {
         ensures room { IfOk result (λ t. (c : ℕ) → c < cores → rooms t c ≡ objects + 1) }
         ensures epochs { IfOk result (λ t. t.epochs.cores ≡ cores) }
     {
-        let cells = zero_counts(alloc.clone()?, objects)?;
-        let parts = empty_cores(alloc, cores, objects + 1)?;
+        let cells = zero_counts(alloc.clone()?, objects as usize)?;
+        let parts = empty_cores(alloc, cores, objects)?;
         Ok(CountTable {
             objects: cells,
             cores: parts,
@@ -69,7 +69,7 @@ impl<A: Allocator> CountTable<A> {
         requires { object < length self.now.objects }
         ensures { result ≡ (counts_of self.now).global object }
     {
-        self.objects[object as usize].global
+        self.objects[object as usize].global()
     }
 
     /// A core evicts its entry of an object.
@@ -125,10 +125,10 @@ impl<A: Allocator> CountTable<A> {
     {
         let epoch = self.epochs.number();
         let part = &mut self.cores[core];
-        let Some(object) = part.due(epoch) else {
+        let Some(front) = part.front() else {
             return Review::Idle;
         };
-        part.review(&mut self.objects[object as usize], epoch)
+        part.review(&mut self.objects[front.object as usize], epoch)
     }
 
     /// Adds to a core's delta of an object, where nothing is in the way.
@@ -183,16 +183,17 @@ impl<A: Allocator> CountTable<A> {
         ensures room { rooms self.new ≡ rooms self.old }
         ensures epochs { self.new.epochs.cores ≡ self.old.epochs.cores }
     {
-        set_global(&mut self.objects, object as usize, count as i64);
+        begin(&mut self.objects, object as usize, count);
     }
 }
 
-/// Sets the global count of an object.
-fn set_global<A: Allocator>(objects: &mut Vec<ObjectCount, A>, object: usize, global: i64)
-    requires { object < length objects.old.items }
-    ensures { objects.new.items ≡ slice_set objects.old.items object (record (object_at objects.old.items object) { global = global }) }
+/// An object gets this count.
+fn begin<A: Allocator>(objects: &mut Vec<ObjectCount, A>, object: usize, count: u64)
+    requires object { object < length objects.old.items }
+    requires count { count ≤ 2 ^ 40 }
+    ensures { objects.new.items ≡ slice_set objects.old.items object (record (object_at objects.old.items object) { global = pos count }) }
 {
-    objects[object].global = global;
+    objects[object].begin(count);
 }
 
 /// So many counts of 0.
@@ -207,18 +208,18 @@ fn zero_counts<A: Allocator>(alloc: A, objects: usize) -> Result<Vec<ObjectCount
     Ok(counts)
 }
 
-/// So many cores without entries, whose queues have this room.
+/// So many cores without entries, whose queues have room for so many objects and one more.
 fn empty_cores<A: Allocator + Clone>(
     alloc: A,
     cores: u8,
-    room: usize,
+    objects: u32,
 ) -> Result<Vec<CoreCounts<A>, A>, AllocError>
     ensures count { IfOk result (λ v. length v.items ≡ cores) }
-    ensures cores { IfOk result (λ v. All (IsNewCore room) v.items) }
+    ensures cores { IfOk result (λ v. All (IsNewCore (objects + 1)) v.items) }
 {
     let mut parts = Vec::with_capacity(alloc.clone()?, usize::from(cores))?;
     'cores: for _core in 0..cores {
-        parts.push(CoreCounts::new(alloc.clone()?, room)?)?;
+        parts.push(CoreCounts::new(alloc.clone()?, objects)?)?;
     }
     Ok(parts)
 }

@@ -1,13 +1,11 @@
 //! Rows of calls with what each must answer: worked examples of the rules.
 
-ghost use Rattle.std.specs.Prelude.{◌≡◌, ◌<◌, None, length, pos};
-ghost use Rattle.refcache.specs.Places.{entries};
-
 use crate::core_counts::CoreCounts;
 use crate::epochs::Epochs;
 use crate::object_count::ObjectCount;
-use crate::reports::{Flush, Review};
+use crate::reports::{Flush, Queued, Review};
 use crate::trial::{Answer, Call, Trial};
+use crate::way_ahead::WayAhead;
 use crate::whole::Refcache;
 use linked_list_allocator::LocalHeap;
 use std::alloc::Allocator;
@@ -24,6 +22,16 @@ const QUIET: Answer = Answer::Review(Review::Idle);
 
 fn evicted(object: u32) -> Answer {
     Answer::Flush(Flush::Evicted(object))
+}
+
+/// The place of the first row whose call isn't answered as the row says.
+fn first_wrong<A: Allocator>(trial: &mut Trial<A>, rows: &[(Call, Answer)]) -> Option<usize> {
+    for (place, (call, want)) in rows.iter().enumerate() {
+        if trial.take(*call) != *want {
+            return Some(place);
+        }
+    }
+    None
 }
 
 #[test]
@@ -46,10 +54,7 @@ fn dirty_object_is_queued_anew(rt: HostRuntime) -> Result<(), Fail> {
         (Call::Flush(1), ENDED),
         (Call::Review(1), Answer::Review(Review::Requeued(0))),
     ];
-    for (call, want) in rows {
-        let got = trial.take(call);
-        assert_eq!(rt; got, want, "at {call:?}");
-    }
+    assert_eq!(rt; first_wrong(&mut trial, &rows), None);
     assert_eq!(rt; trial.true_count(0), Some(1));
     assert_eq!(rt; trial.global(0), Some(0));
     assert_eq!(rt; trial.epoch(), 2);
@@ -65,10 +70,7 @@ fn object_is_evicted_from_its_place(rt: HostRuntime) -> Result<(), Fail> {
         (Call::Inc(0, 0), DONE),
         (Call::Inc(0, 64), DONE),
     ];
-    for (call, want) in rows {
-        let got = trial.take(call);
-        assert_eq!(rt; got, want, "at {call:?}");
-    }
+    assert_eq!(rt; first_wrong(&mut trial, &rows), None);
     assert_eq!(rt; trial.global(0), Some(2));
     assert_eq!(rt; trial.global(64), Some(1));
     assert_eq!(rt; trial.take(Call::Flush(0)), evicted(64));
@@ -100,10 +102,7 @@ fn dirty_object_is_freed_two_epochs_later(rt: HostRuntime) -> Result<(), Fail> {
         (Call::Flush(1), ENDED),
         (Call::Review(1), Answer::Review(Review::Freed(0))),
     ];
-    for (call, want) in rows {
-        let got = trial.take(call);
-        assert_eq!(rt; got, want, "at {call:?}");
-    }
+    assert_eq!(rt; first_wrong(&mut trial, &rows), None);
     assert_eq!(rt; trial.epoch(), 4);
     Ok(())
 }
@@ -120,10 +119,7 @@ fn object_lives_and_is_freed(rt: HostRuntime) -> Result<(), Fail> {
         (Call::Flush(0), ENDED),
         (Call::Review(0), Answer::Review(Review::Freed(0))),
     ];
-    for (call, want) in rows {
-        let got = trial.take(call);
-        assert_eq!(rt; got, want, "at {call:?}");
-    }
+    assert_eq!(rt; first_wrong(&mut trial, &rows), None);
     Ok(())
 }
 
@@ -137,10 +133,7 @@ fn largest_is_made(rt: HostRuntime) -> Result<(), Fail> {
         (Call::Inc(0, 65_535), DONE),
         (Call::Flush(63), evicted(65_535)),
     ];
-    for (call, want) in rows {
-        let got = trial.take(call);
-        assert_eq!(rt; got, want, "at {call:?}");
-    }
+    assert_eq!(rt; first_wrong(&mut trial, &rows), None);
     assert_eq!(rt; trial.global(65_535), Some((1 << 40) - 1));
     Ok(())
 }
@@ -162,10 +155,7 @@ fn object_counted_up_since_is_dropped(rt: HostRuntime) -> Result<(), Fail> {
         (Call::Review(1), Answer::Review(Review::Dropped(0))),
         (Call::Review(1), QUIET),
     ];
-    for (call, want) in rows {
-        let got = trial.take(call);
-        assert_eq!(rt; got, want, "at {call:?}");
-    }
+    assert_eq!(rt; first_wrong(&mut trial, &rows), None);
     assert_eq!(rt; trial.global(0), Some(1));
     Ok(())
 }
@@ -201,40 +191,71 @@ fn each_growth_of_new_is_refused_in_turn(rt: HostRuntime) -> Result<(), Fail> {
     Ok(())
 }
 
-/// A core that counts an object down, evicts it in epoch 0 and reviews it: what is due in epochs 1 and 2, and the review.
-fn last_dec<A: Allocator>(
-    part: &mut CoreCounts<A>,
-    count: &mut ObjectCount,
-) -> (Option<u32>, Option<u32>, Option<Review>)
-    requires entries { entries part.old.places ≡ λ o. None }
-    requires room { length part.old.queue < part.old.room }
-    requires count { count.old.global ≡ pos 1 }
-{
-    part.add(5, -1);
-    part.evict(count, 5, 0);
-    let early = part.due(1);
-    let due = part.due(2);
-    let report = match due {
-        Some(_) => Some(part.review(count, 2)),
-        None => None,
-    };
-    (early, due, report)
+/// Counts an object down, where no entry is in the way: whether it did.
+fn count_down<A: Allocator>(part: &mut CoreCounts<A>, object: u32) -> bool {
+    if let None = part.in_the_way(object, -1) {
+        part.add(object, -1);
+        return true;
+    }
+    false
+}
+
+/// Evicts the entry of an object in epoch 0, if that may be done: whether it was.
+fn evict<A: Allocator>(part: &mut CoreCounts<A>, count: &mut ObjectCount, object: u32) -> bool {
+    let may = part.can_evict(count, object);
+    if may {
+        part.evict(count, object, 0);
+    }
+    may
 }
 
 #[test]
 fn pieces_free_an_object(rt: HostRuntime) -> Result<(), Fail> {
-    let mut part = CoreCounts::new(rt.alloc(), 1)?;
+    let mut part = CoreCounts::new(rt.alloc(), 0)?;
     let mut count = ObjectCount::new();
-    count.global = 1;
-    let (early, due, report) = last_dec(&mut part, &mut count);
-    assert!(rt; count.takes_any_delta());
-    assert_eq!(rt; early, None);
-    assert_eq!(rt; due, Some(5));
-    assert_eq!(rt; report, Some(Review::Freed(5)));
+    count.begin(1);
+    assert!(rt; count_down(&mut part, 5));
+    assert!(rt; !count_down(&mut part, 69));
+    assert_eq!(rt; part.least(), Some(5));
+    assert!(rt; evict(&mut part, &mut count, 5));
+    assert!(rt; !evict(&mut part, &mut count, 5));
+    assert!(rt; !part.has_room());
+    let queued = Queued {
+        object: 5,
+        epoch: 0,
+    };
+    assert_eq!(rt; part.front(), Some(queued));
+    assert_eq!(rt; part.review(&mut count, 1), Review::Idle);
+    assert_eq!(rt; part.due(2), Some(5));
+    assert_eq!(rt; part.review(&mut count, 2), Review::Freed(5));
+    assert_eq!(rt; part.review(&mut count, 9), Review::Idle);
+    assert_eq!(rt; part.front(), None);
+    assert_eq!(rt; count.global(), 0);
     assert_eq!(rt; count, ObjectCount::new());
-    assert!(rt; part.has_room());
-    assert_eq!(rt; part.least(), None);
-    assert_eq!(rt; part.in_the_way(5, 1), None);
+    Ok(())
+}
+
+/// The object in the way of counting one down ahead.
+fn down_ahead(ahead: &mut WayAhead, object: u32) -> Option<u32> {
+    ahead.count(object, -1)
+}
+
+#[test]
+fn way_ahead_tells_what_must_go(rt: HostRuntime) -> Result<(), Fail> {
+    let mut part = CoreCounts::new(rt.alloc(), 200)?;
+    assert!(rt; count_down(&mut part, 5));
+    let mut ahead = part.way_ahead();
+    let rows = [
+        (5, None),
+        (69, Some(5)),
+        (69, None),
+        (6, None),
+        (5, Some(69)),
+    ];
+    for (object, want) in rows {
+        assert_eq!(rt; down_ahead(&mut ahead, object), want);
+    }
+    assert_eq!(rt; part.least(), Some(5));
     Ok(())
 }
 

@@ -1,14 +1,13 @@
 -- Runs that have another owner, another frame, or a change of their range
-use Rattle.std.proofs.Common.{◌≡◌, ℕ, ◌+◌, ◌-◌, ◌^◌, ◌<◌, ◌≤◌, ◌==◌, ◌||◌, ⊎_elim, Bool, true, false, cond, List, length, set, Option, Some, None, is_some, refl, sym, ◌∙◌, ap, arith}
+use Rattle.std.proofs.Common.{◌≡◌, ℕ, ◌+◌, ◌-◌, ◌<◌, ◌≤◌, ◌==◌, ◌||◌, ⊎_elim, Bool, true, false, cond, List, length, set, Option, Some, None, is_some, refl, sym, ◌∙◌, ap, arith}
 use Rattle.std.proofs.lemmas.Bool.{cases_lt}
+use Rattle.vm_base.specs.declared.page.PageRange.{PageRange}
 use Rattle.vm_base.specs.declared.info.PageInfo.{PageInfo}
 use Rattle.vm_base.specs.declared.info.Meta.{Meta}
-use Rattle.vm_base.specs.declared.info.Back.{Back}
-use Rattle.vm_base.specs.declared.info.Back.TheVariants.{Anon, Shared, Private}
 use Rattle.vm_base.specs.declared.rights.Prot.{Prot}
 use Rattle.vm_base.specs.Functions.{has}
 use Rattle.vm_base.specs.Pages.{IsPageRange}
-use Rattle.vm_base.specs.Info.{advance, advance_back, file_page, info_from, info_file_page, info_with_prot, is_leaf, unused}
+use Rattle.vm_base.specs.Info.{advance, file_page, info_from, info_file_page, info_with_prot, is_leaf, unused}
 use Rattle.vm_base.proofs.Functions.{has_in}
 use Rattle.slot_lock.specs.declared.plan.Change.{Change}
 use Rattle.slot_lock.specs.declared.plan.Change.TheVariants.{Put, Clear, Protect}
@@ -18,17 +17,17 @@ use Rattle.slot_lock.specs.Runs.{IsRuns, IsAt, IsInner, get_run, run_at, owned_r
 use Rattle.slot_lock.specs.Places.{starts_rise_to, start_most, run_at_is}
 use Rattle.slot_lock.specs.Slots.{IsCut, HasMeta, between, with_owner, with_info}
 use Rattle.slot_lock.specs.RunSlots.{slots_of, changed}
-use Rattle.slot_lock.specs.RunLaws.{edge_at, is_slot, info_from_twice, info_from_zero}
+use Rattle.slot_lock.specs.RunLaws.{edge_at, fits_on, is_slot, info_from_twice, info_from_zero}
 use Rattle.slot_lock.proofs.Steps.{before_limit, first_slot, slot_by_edge}
 use Rattle.slot_lock.proofs.Edits.{Edits, IsEdit, Edited, edited_each, edited_keeps, edited_edge, edited-IsRuns, same_slots, no_edits, next_edit, has_above, has_one, not_after, before, run_from, within_run}
 
 -- ---- one run
 
 -- the run at i alone is changed
-one_run : (rs : List Run) → IsRuns rs → (i : ℕ) → IsInner rs i → (g : Run → Run) → Edits rs (set rs i (g (get_run rs i))) (between (get_run rs i).start (get_run rs (i + 1)).start) g
+pub one_run : (rs : List Run) → IsRuns rs → (i : ℕ) → IsInner rs i → (g : Run → Run) → Edits rs (set rs i (g (get_run rs i))) (between (get_run rs i).start (get_run rs (i + 1)).start) g
 one_run rs ok i h g = next_edit rs rs ok (get_run rs i).start i g h.before_last (omega arith) (no_edits rs (get_run rs i).start g)
 
-one_is : (rs : List Run) → IsRuns rs → (i : ℕ) → IsInner rs i → (k : ℕ) → k < length rs → has (between (get_run rs i).start (get_run rs (i + 1)).start) (get_run rs k).start ≡ true → k ≡ i
+pub one_is : (rs : List Run) → IsRuns rs → (i : ℕ) → IsInner rs i → (k : ℕ) → k < length rs → has (between (get_run rs i).start (get_run rs (i + 1)).start) (get_run rs k).start ≡ true → k ≡ i
 one_is rs ok i h k l a =
     let b = has_in (between (get_run rs i).start (get_run rs (i + 1)).start) (get_run rs k).start a in
     let m = not_after rs ok k (i + 1) l b.1 in
@@ -37,10 +36,10 @@ one_is rs ok i h k l a =
     (λ (le : i ≤ k). omega arith)
     (cases_lt k i)
 
-one_cut : (rs : List Run) → IsRuns rs → (i : ℕ) → IsInner rs i → IsCut (slots_of rs) (between (get_run rs i).start (get_run rs (i + 1)).start)
+pub one_cut : (rs : List Run) → IsRuns rs → (i : ℕ) → IsInner rs i → IsCut (slots_of rs) (between (get_run rs i).start (get_run rs (i + 1)).start)
 one_cut rs ok i h = record { begins = edge_at rs ok i (omega (arith, h.before_last)); ends = edge_at rs ok (i + 1) h.before_last }
 
-one_low : (rs : List Run) → IsRuns rs → (i : ℕ) → IsInner rs i → 1 ≤ (get_run rs i).start
+pub one_low : (rs : List Run) → IsRuns rs → (i : ℕ) → IsInner rs i → 1 ≤ (get_run rs i).start
 one_low rs ok i h = let s = starts_rise_to rs ok 1 i h.after_first (omega (arith, h.before_last)) in omega (arith, ok.one_second)
 
 -- ---- another owner
@@ -95,7 +94,7 @@ informed rs ok i info h = record {
     low = one_low rs ok i h.inner;
     high = start_most rs ok (i + 1) h.inner.before_last;
     starts = λ r. refl;
-    fits = λ k l a. let e = one_is rs ok i h.inner k l a in rw e (rw (same_file_page _ info h.meta) (ok.fits i (omega (arith, h.inner.before_last))));
+    fits = λ k l a. let e = one_is rs ok i h.inner k (omega arith) a in rw e (rw (same_file_page _ info h.meta) (ok.fits i h.inner.before_last));
     alone = λ k l a leaf. let e = one_is rs ok i h.inner k (omega arith) a in rw e h.one;
   };
   done = one_run rs ok i h.inner (informed_run (Some info));
@@ -124,11 +123,6 @@ slots_of-informed rs ok i info h = same_slots _ _ info_is (λ p. edited_keeps _ 
 
 -- ---- a change of a range
 
-back_fits : (b : Back) (n m : ℕ) → file_page b ≤ m → file_page (advance_back b n) ≤ m + n
-back_fits Anon n m h = omega arith
-back_fits (Shared f k) n m h = omega arith
-back_fits (Private f k) n m h = omega arith
-
 prot_fits : (prot : Prot) (o : Option PageInfo) → info_file_page (info_with_prot prot o) ≡ info_file_page o
 prot_fits prot None = refl
 prot_fits prot (Some info) = refl
@@ -145,28 +139,36 @@ prot_from : (prot : Prot) (o : Option PageInfo) (n : ℕ) → info_from (info_wi
 prot_from prot None n = refl
 prot_from prot (Some info) n = refl
 
-pub change-IsEdit : (rs : List Run) → IsRuns rs → (change : Change) → IsSoundChange change → IsEdit rs (range_of change) (changed_run change)
-change-IsEdit rs ok (Put range meta) h = record {
+-- the runs of the range end by its end
+ends_by : (rs : List Run) → IsRuns rs → (range : PageRange) → IsCut (slots_of rs) range → (k : ℕ) → k + 1 < length rs → has range (get_run rs k).start ≡ true → (get_run rs (k + 1)).start ≤ range.end
+ends_by rs ok range cut k l a = slot_by_edge (slots_of rs) _ _ range.end (is_slot rs ok k l) cut.ends (has_in range _ a).1
+
+pub change-IsEdit : (rs : List Run) → IsRuns rs → (change : Change) → IsSoundChange change → IsCut (slots_of rs) (range_of change) → IsEdit rs (range_of change) (changed_run change)
+change-IsEdit rs ok (Put range meta) h cut = record {
   low = h.pages.low;
   high = h.pages.high;
   starts = λ r. refl;
-  fits = λ k l a. let f = back_fits meta.back ((get_run rs k).start - range.first) (2 ^ 35) (omega (arith, h.fits)) in omega arith;
+  fits = λ k l a.
+      let b = has_in range (get_run rs k).start a in
+      let ends = ends_by rs ok range cut k l a in
+      let f = fits_on (Some (unused meta)) ((get_run rs k).start - range.first) (range.end - range.first) (omega (arith, b.0, b.1)) h.fits in
+      omega (arith, b.0);
   alone = λ k l a leaf. absurd (clash leaf);
 }
   where
     clash : false ≡ true → ⊥
     clash e = cc
-change-IsEdit rs ok (Clear range) h = record {
+change-IsEdit rs ok (Clear range) h cut = record {
   low = h.low;
   high = h.high;
   starts = λ r. refl;
-  fits = λ k l a. omega arith;
+  fits = λ k l a. let ends = ends_by rs ok range cut k l a in omega (arith, h.high);
   alone = λ k l a leaf. absurd (clash leaf);
 }
   where
     clash : false ≡ true → ⊥
     clash e = cc
-change-IsEdit rs ok (Protect range prot) h = record {
+change-IsEdit rs ok (Protect range prot) h cut = record {
   low = h.low;
   high = h.high;
   starts = λ r. refl;
@@ -239,4 +241,4 @@ changing_read rs qs change i so_far = so_far.done.outside i so_far.within (has_a
 pub changing_done : (rs qs : List Run) → IsRuns rs → (change : Change) → IsSoundChange change → IsCut (slots_of rs) (range_of change) → (i : ℕ) → Changing rs qs change i → (range_of change).end ≤ (get_run rs i).start → Edited rs qs (range_of change) (changed_run change)
 changing_done rs qs ok change h cut i so_far l =
     let ends : (get_run rs i).start ≡ (range_of change).end = omega (arith, so_far.by_end) in
-    record { ok = ok; cut = cut; is = change-IsEdit rs ok change h; done = rw ends at so_far.done }
+    record { ok = ok; cut = cut; is = change-IsEdit rs ok change h cut; done = rw ends at so_far.done }

@@ -1,21 +1,18 @@
 -- A run cut in two
-use Rattle.std.proofs.Common.{◌≡◌, ◌≢◌, ℕ, ◌+◌, ◌-◌, ◌^◌, ◌<◌, ◌≤◌, ⊎_elim, true, List, length, Option, Some, None, is_some, refl, sym, ◌∙◌, ap, arith}
-use Rattle.std.specs.List.{insert}
-use Rattle.std.proofs.lemmas.Bool.{cases_lt}
+use Rattle.std.proofs.Common.{◌≡◌, ◌≢◌, ℕ, ◌+◌, ◌-◌, ◌^◌, ◌<◌, ◌≤◌, ◌==◌, ◌⊎◌, inl, inr, ⊎_elim, true, List, length, is_some, refl, sym, ◌∙◌, ap, arith}
+use Rattle.std.proofs.lemmas.Bool.{cases_lt, cases_eq}
 use Rattle.std.proofs.lemmas.List.Edits.{length-insert, get_or-insert_below, get_or-insert_at, get_or-insert_above}
-use Rattle.vm_base.specs.declared.info.PageInfo.{PageInfo}
-use Rattle.vm_base.specs.declared.info.Back.{Back}
-use Rattle.vm_base.specs.declared.info.Back.TheVariants.{Anon, Shared, Private}
-use Rattle.vm_base.specs.Info.{advance_back, file_page, info_from, info_file_page, is_leaf}
+use Rattle.vm_base.specs.declared.page.PageRange.{PageRange}
+use Rattle.vm_base.specs.Functions.{has}
+use Rattle.vm_base.specs.Info.{info_from, info_file_page, is_leaf}
+use Rattle.vm_base.proofs.Functions.{by_test, has_in}
 use Rattle.slot_lock.specs.declared.run.Run.{Run}
-use Rattle.slot_lock.specs.Runs.{IsRuns, IsInside, get_run, run_at, nobody, tail_from}
+use Rattle.slot_lock.specs.Runs.{IsRuns, IsInside, get_run, run_at, nobody, tail_from, cut_runs}
 use Rattle.slot_lock.specs.Places.{Found, found, run_at_is}
-use Rattle.slot_lock.specs.Slots.{Divides}
-use Rattle.slot_lock.specs.RunSlots.{slots_of}
-use Rattle.slot_lock.specs.RunLaws.{info_from_twice, is_leaf-info_from, same_test, other_test, from_test}
-
-abbrev pub cut_runs : List Run → ℕ → ℕ → List Run
-cut_runs rs i at = insert rs (i + 1) (tail_from (get_run rs i) at)
+use Rattle.slot_lock.specs.Slots.{Divides, DividesAs, divided, between}
+use Rattle.slot_lock.specs.RunSlots.{slots_of, two_parts}
+use Rattle.slot_lock.specs.RunLaws.{info_from_twice, fits_on, is_leaf-info_from, same_test, other_test, from_test, is_slot}
+use Rattle.slot_lock.proofs.Edits.{has_not, same_slots}
 
 pub below : (rs : List Run) (i at : ℕ) → IsInside rs i at → (k : ℕ) → k ≤ i → get_run (cut_runs rs i at) k ≡ get_run rs k
 below rs i at h k l = get_or-insert_below rs (i + 1) (tail_from (get_run rs i) at) nobody k (omega arith) (omega (arith, h.inner.before_last))
@@ -72,21 +69,13 @@ each_next P rs i at h old to from k l = elim (which i (k + 1)) as (λ _. P (get_
   ]
 ]
 
-back_fits_on : (b : Back) (s n : ℕ) → file_page b ≤ s → file_page (advance_back b n) ≤ s + n
-back_fits_on Anon s n h = omega arith
-back_fits_on (Shared f k) s n h = omega arith
-back_fits_on (Private f k) s n h = omega arith
-
-fits_on : (o : Option PageInfo) (s n : ℕ) → info_file_page o ≤ s → info_file_page (info_from o n) ≤ s + n
-fits_on None s n h = omega arith
-fits_on (Some info) s n h = back_fits_on info.meta.back s n h
-
 not_leaf : (rs : List Run) → IsRuns rs → (i at : ℕ) → IsInside rs i at → is_leaf (get_run rs i).info ≡ true → ⊥
 not_leaf rs ok i at h l = let e = ok.alone i h.inner.before_last l in omega (arith, h.above, h.below)
 
 pub cut_runs-IsRuns : (rs : List Run) → IsRuns rs → (i at : ℕ) → IsInside rs i at → IsRuns (cut_runs rs i at)
 cut_runs-IsRuns rs ok i at h =
     let n = longer rs i at h in
+    let fits = ok.fits i h.inner.before_last in
     let last : length (cut_runs rs i at) - 1 ≡ length rs - 1 + 1 = omega (arith, ok.some) in
     let end = get_same (cut_runs rs i at) _ _ last ∙ above rs i at h (length rs - 1) (omega (arith, h.inner.before_last)) in
     let zero_is = below rs i at h 0 (omega arith) in
@@ -100,8 +89,9 @@ cut_runs-IsRuns rs ok i at h =
       limit_last = ap (λ (r : Run). r.start) end ∙ ok.limit_last;
       limit_unmapped = ap (λ (r : Run). is_some r.info) end ∙ ok.limit_unmapped;
       limit_free = ap (λ (r : Run). is_some r.owner) end ∙ ok.limit_free;
-      fits = each (λ r. info_file_page r.info ≤ r.start + 2 ^ 35) rs i at h ok.fits
-          (let f = fits_on (get_run rs i).info ((get_run rs i).start + 2 ^ 35) (at - (get_run rs i).start) (ok.fits i (omega (arith, h.inner.before_last))) in omega (arith, h.above));
+      fits = each_next (λ r s. info_file_page r.info + (s.start - r.start) ≤ 2 ^ 35) rs i at h ok.fits
+          (omega (arith, fits, h.above, h.below))
+          (let f = fits_on (get_run rs i).info (at - (get_run rs i).start) ((get_run rs (i + 1)).start - (get_run rs i).start) (omega (arith, h.above, h.below)) fits in omega (arith, h.above));
       alone = each_next (λ r s. is_leaf r.info ≡ true → s.start ≡ r.start + 1) rs i at h ok.alone
           (λ l. absurd (not_leaf rs ok i at h l))
           (λ l. absurd (not_leaf rs ok i at h (sym (is_leaf-info_from (get_run rs i).info (at - (get_run rs i).start)) ∙ l)));
@@ -197,3 +187,33 @@ cut_edge rs ok i at h p ne = go (moved rs ok i at h p)
     go : Moved rs i at p → (slots_of (cut_runs rs i at)).edge p ≡ (slots_of rs).edge p
     go (stays e) = rw e refl
     go (moves l f e) = rw (e, f) (other_test at p (λ same. ne (sym same)) ∙ sym (other_test (get_run rs i).start p (omega (arith, h.above))))
+
+pub cut_runs-DividesAs : (rs : List Run) → IsRuns rs → (i at : ℕ) → IsInside rs i at → DividesAs two_parts (slots_of rs) (slots_of (cut_runs rs i at)) at
+cut_runs-DividesAs rs ok i at h = record {
+  slot = slot;
+  is_slot = is_slot rs ok i h.inner.before_last;
+  above = h.above;
+  below = h.below;
+  now = same_slots _ _ (λ p. ap (λ f. f p) d.info) (λ p. ap (λ f. f p) d.owners) edge;
+}
+  where
+    slot : PageRange
+    slot = between (get_run rs i).start (get_run rs (i + 1)).start
+
+    d : Divides (slots_of rs) (slots_of (cut_runs rs i at)) (get_run rs i).owner at
+    d = cut_runs-Divides rs ok i at h
+
+    inner : (p : ℕ) → (get_run rs i).start < p → p < (get_run rs (i + 1)).start → (slots_of (cut_runs rs i at)).edge p ≡ (p == at)
+    inner p a b = ⊎_elim
+        (λ (e : p ≡ at). rw e d.begins ∙ sym (same_test p at e))
+        (λ (ne : p ≢ at). cut_edge rs ok i at h p ne ∙ ((is_slot rs ok i h.inner.before_last).inside p a b ∙ sym (other_test p at ne)))
+        (cases_eq p at)
+
+    outer : (p : ℕ) → (p < (get_run rs i).start + 1) ⊎ ((get_run rs (i + 1)).start ≤ p) → p ≢ at
+    outer p (inl l) = omega (arith, h.above)
+    outer p (inr l) = omega (arith, h.below)
+
+    edge : (p : ℕ) → (slots_of (cut_runs rs i at)).edge p ≡ (divided (slots_of rs) slot (two_parts slot at)).edge p
+    edge p = by_test (λ x. (slots_of (cut_runs rs i at)).edge p ≡ x) (has (between (slot.first + 1) slot.end) p) _ _
+        (λ t. let b = has_in (between (slot.first + 1) slot.end) p t in inner p (omega (arith, b.0)) b.1)
+        (λ t. cut_edge rs ok i at h p (outer p (has_not (between (slot.first + 1) slot.end) p t)))

@@ -70,7 +70,7 @@ pub record IsEdit (rs : List Run) (range : PageRange) (g : Run → Run) : Type 0
   pub low : 1 ≤ range.first
   pub high : range.end ≤ 2 ^ 35
   pub starts : (r : Run) → (g r).start ≡ r.start
-  pub fits : (k : ℕ) → k < length rs → has range (get_run rs k).start ≡ true → info_file_page (g (get_run rs k)).info ≤ (get_run rs k).start + 2 ^ 35
+  pub fits : (k : ℕ) → k + 1 < length rs → has range (get_run rs k).start ≡ true → info_file_page (g (get_run rs k)).info + ((get_run rs (k + 1)).start - (get_run rs k).start) ≤ 2 ^ 35
   pub alone : (k : ℕ) → k + 1 < length rs → has range (get_run rs k).start ≡ true → is_leaf (g (get_run rs k)).info ≡ true → (get_run rs (k + 1)).start ≡ (get_run rs k).start + 1
 
 starts_kept : (rs qs : List Run) (range : PageRange) (g : Run → Run) → Edits rs qs range g → IsEdit rs range g → (k : ℕ) → k < length rs → (get_run qs k).start ≡ (get_run rs k).start
@@ -96,14 +96,14 @@ edits-IsRuns rs qs ok range g e h =
       limit_last = rw last (start (length rs - 1) (omega (arith, ok.some)) ∙ ok.limit_last);
       limit_unmapped = rw last (ap (λ (r : Run). is_some r.info) last_is ∙ ok.limit_unmapped);
       limit_free = rw last (ap (λ (r : Run). is_some r.owner) last_is ∙ ok.limit_free);
-      fits = λ k l. let m : k < length rs = omega arith in rw (start k m) (fits_at k m);
+      fits = λ k l. let m : k + 1 < length rs = omega arith in rw (start k (omega arith), start (k + 1) m) (fits_at k m);
       alone = λ k l leaf. let m : k + 1 < length rs = omega arith in rw (start k (omega arith), start (k + 1) m) (alone_at k m leaf);
     }
   where
-    fits_at : (k : ℕ) → k < length rs → info_file_page (get_run qs k).info ≤ (get_run rs k).start + 2 ^ 35
+    fits_at : (k : ℕ) → k + 1 < length rs → info_file_page (get_run qs k).info + ((get_run rs (k + 1)).start - (get_run rs k).start) ≤ 2 ^ 35
     fits_at k l = ⊎_elim
-        (λ (a : has range (get_run rs k).start ≡ true). rw (e.inside k l a) (h.fits k l a))
-        (λ (a : has range (get_run rs k).start ≡ false). rw (e.outside k l a) (ok.fits k l))
+        (λ (a : has range (get_run rs k).start ≡ true). rw (e.inside k (omega arith) a) (h.fits k l a))
+        (λ (a : has range (get_run rs k).start ≡ false). rw (e.outside k (omega arith) a) (ok.fits k l))
         (has_or range (get_run rs k).start)
 
     alone_at : (k : ℕ) → k + 1 < length rs → is_leaf (get_run qs k).info ≡ true → (get_run rs (k + 1)).start ≡ (get_run rs k).start + 1

@@ -9,13 +9,14 @@ use Rattle.vm_base.specs.Functions.{put}
 use Rattle.vm_base.specs.Info.{info_from, info_file_page, is_leaf}
 use Rattle.vm_base.proofs.Functions.{put_same, put_other}
 use Rattle.slot_lock.specs.declared.run.Run.{Run}
-use Rattle.slot_lock.specs.Runs.{IsRuns, IsAt, IsInside, IsJoint, get_run, nobody, tail_from}
+use Rattle.slot_lock.specs.Runs.{IsRuns, IsAt, IsInside, IsJoint, get_run, nobody, tail_from, cut_runs}
 use Rattle.slot_lock.specs.Places.{run_at_is, before_last, start_most}
-use Rattle.slot_lock.specs.Slots.{Slots, Divides, Joins, CanJoin, Folds, without_edge}
+use Rattle.slot_lock.specs.Slots.{Slots, IsSlotMap, Divides, Joins, CanBeOne, CanJoin, Folds, without_edge}
 use Rattle.slot_lock.specs.RunSlots.{slots_of}
-use Rattle.slot_lock.specs.RunLaws.{info_from_twice, info_from_zero, is_leaf-info_from, edge_at, is_slot}
-use Rattle.slot_lock.proofs.Cuts.{cut_runs, below, here, above, longer, cut_runs-Divides, cut_edge}
+use Rattle.slot_lock.specs.RunLaws.{info_from_twice, fits_before, info_from_zero, is_leaf-info_from, edge_at, is_slot}
+use Rattle.slot_lock.proofs.Cuts.{below, here, above, longer, cut_runs-Divides, cut_edge}
 use Rattle.slot_lock.proofs.Edits.{same_slots}
+use Rattle.slot_lock.proofs.SlotLaws.{owner_on, info_on}
 use Rattle.slot_lock.proofs.Steps.{before_limit, owner_at, slot_by_edge}
 
 -- ---- the list without the second of two runs
@@ -69,11 +70,23 @@ joined-IsRuns rs ok i h =
         (cases_eq k i))
         (cases_lt k i)
 
-    fits : (k : ℕ) → k + 1 < length rs → info_file_page (get_run (joined_runs rs i) k).info ≤ (get_run (joined_runs rs i) k).start + 2 ^ 35
+    fits : (k : ℕ) → k + 2 < length rs → info_file_page (get_run (joined_runs rs i) k).info + ((get_run (joined_runs rs i) (k + 1)).start - (get_run (joined_runs rs i) k).start) ≤ 2 ^ 35
     fits k l = ⊎_elim
-        (λ (m : i < k). rw (high rs i h k m) (ok.fits (k + 1) l))
-        (λ (m : k ≤ i). rw (low rs i h k m) (ok.fits k (omega arith)))
-        (cases_lt i k)
+        (λ (m : k < i). rw (low rs i h k (omega arith), low rs i h (k + 1) (omega arith)) (ok.fits k (omega arith)))
+        (λ (m : i ≤ k). ⊎_elim
+        (λ (e : k ≡ i). rw (low rs i h k (omega arith), high rs i h (k + 1) (omega arith), e) both)
+        (λ (ne : k ≢ i). rw (high rs i h k (omega arith), high rs i h (k + 1) (omega arith)) (ok.fits (k + 1) (omega arith)))
+        (cases_eq k i))
+        (cases_lt k i)
+      where
+        both : info_file_page (get_run rs i).info + ((get_run rs (i + 1 + 1)).start - (get_run rs i).start) ≤ 2 ^ 35
+        both =
+            let a = ok.rising i (omega (arith, h.joint.next)) in
+            let b = ok.rising (i + 1) (omega (arith, h.joint.next)) in
+            let most = start_most rs ok (i + 1 + 1) (omega (arith, h.joint.next)) in
+            let next = ok.fits (i + 1) (omega (arith, h.joint.next)) in
+            let same = ap info_file_page h.joint.one.goes_on in
+            fits_before (get_run rs i).info ((get_run rs (i + 1)).start - (get_run rs i).start) ((get_run rs (i + 1 + 1)).start - (get_run rs i).start) (omega arith) (omega arith) (omega arith)
 
     alone : (k : ℕ) → k + 2 < length rs → is_leaf (get_run (joined_runs rs i) k).info ≡ true → (get_run (joined_runs rs i) (k + 1)).start ≡ (get_run (joined_runs rs i) k).start + 1
     alone k l leaf = ⊎_elim
@@ -206,15 +219,40 @@ CanJoin-joint rs ok page i end valid at h =
 
 -- ---- a fold joins
 
-pub Folds-Joins : (s t : Slots) (page : ℕ) → Folds s t page → Joins s t
-Folds-Joins s t page h = record {
+-- what is joined could be one
+could : (s : Slots) → IsSlotMap s → (page at : ℕ) → 1 ≤ page → CanJoin s page at → CanBeOne s at
+could s laws page at low h =
+    let above = h.above in
+    let limit = h.below_limit in
+    let back : page + (at - 1 - page) ≡ at - 1 = omega arith in
+    let next : at - 1 - page + 1 ≡ at - page = omega arith in
+    let owner : s.owner (at - 1) ≡ s.owner page = rw back at (owner_on s laws page at (at - 1 - page) low (omega arith) h.next (omega arith)) in
+    let info : s.info (at - 1) ≡ info_from (s.info page) (at - 1 - page) = rw back at (info_on s laws page at (at - 1 - page) low (omega arith) h.next (omega arith)) in
+    record {
+      page = (omega arith, limit);
+      free = owner ∙ h.free;
+      next_free = h.next_free;
+      no_leaf = ap is_leaf info ∙ (is_leaf-info_from (s.info page) _ ∙ h.no_leaf);
+      next_no_leaf = h.next_no_leaf;
+      goes_on = h.goes_on ∙ (ap (info_from (s.info page)) (sym next) ∙ (sym (info_from_twice (s.info page) (at - 1 - page) 1) ∙ ap (λ o. info_from o 1) (sym info)));
+    }
+
+pub Folds-Joins : (s t : Slots) → IsSlotMap s → (page : ℕ) → 1 ≤ page → Folds s t page → Joins s t
+Folds-Joins s t laws page low h = record {
   info = ap (λ (u : Slots). u.info) h.now;
   owners = ap (λ (u : Slots). u.owner) h.now;
   kept = λ p e. ap (λ (u : Slots). u.edge p) h.now ∙ kept p e;
   elsewhere = λ p ne. ap (λ (u : Slots). u.edge p) h.now ∙ put_other s.edge h.at false p (λ same. ne (ap s.owner same ∙ h.could.next_free));
   removed = (h.at, h.could.edge, ap (λ (u : Slots). u.edge h.at) h.now ∙ put_same s.edge h.at false);
+  could = λ p e f. ⊎_elim
+      (λ (same : p ≡ h.at). rw same (could s laws page h.at low h.could))
+      (λ (ne : p ≢ h.at). absurd (two (s.edge p) (sym (put_other s.edge h.at false p ne) ∙ (sym (ap (λ (u : Slots). u.edge p) h.now) ∙ f)) e))
+      (cases_eq p h.at);
 }
   where
+    two : (b : Bool) → b ≡ false → b ≡ true → ⊥
+    two b e f = cc
+
     kept : (p : ℕ) → s.edge p ≡ false → put s.edge h.at false p ≡ false
     kept p e = ⊎_elim
         (λ (same : p ≡ h.at). rw same (put_same s.edge h.at false))

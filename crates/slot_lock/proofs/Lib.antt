@@ -7,3 +7,5 @@ pub mod Walks
 pub mod Frames
 pub mod EdgeCounts
 pub mod SlotLaws
+pub mod Divisions
+pub mod Adding

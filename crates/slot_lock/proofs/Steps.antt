@@ -2,11 +2,11 @@
 use Rattle.std.proofs.Common.{◌≡◌, ℕ, zero, suc, ◌+◌, ◌-◌, ◌^◌, ◌<◌, ◌≤◌, inl, inr, ⊎_elim, true, false, List, [], ◌∷◌, length, get_or, Some, None, refl, sym, ◌∙◌, ap, arith}
 use Rattle.std.specs.Prelude.{Result, Ok, Err, OnErr}
 use Rattle.std.proofs.lemmas.Bool.{cases_lt}
-use Rattle.vm_base.specs.Info.{info_from}
+use Rattle.vm_base.specs.Info.{info_from, info_file_page, is_leaf}
 use Rattle.slot_lock.specs.declared.run.Run.{Run}
 use Rattle.slot_lock.specs.Runs.{IsRuns, IsAt, get_run, run_at, place_of}
 use Rattle.slot_lock.specs.Places.{read_run, run_at_is, run_at_place, before_last, start_most}
-use Rattle.slot_lock.specs.Slots.{Slots, IsNew, IsSlot, Locks, Unlocks, Crosses, with_owner}
+use Rattle.slot_lock.specs.Slots.{Slots, IsNew, IsSlot, IsSlotBy, Locks, Unlocks, Crosses, with_owner}
 use Rattle.slot_lock.specs.RunSlots.{slots_of}
 use Rattle.slot_lock.specs.RunLaws.{is_slot, from_test, other_test, edge_at}
 
@@ -36,13 +36,13 @@ locks rs qs ok i core cursor end h e free by_end now = record {
   now = now ∙ ap (λ n. with_owner (slots_of rs) n (get_run rs (i + 1)).start (Some core)) e;
 }
 
-pub unlocks : (rs qs : List Run) → IsRuns rs → (i core cursor end : ℕ) → i + 1 < length rs → (get_run rs i).start ≡ cursor → cursor < end → (slots_of rs).edge end ≡ true → (slots_of rs).owner cursor ≡ Some core → slots_of qs ≡ with_owner (slots_of rs) (get_run rs i).start (get_run rs (i + 1)).start None → Unlocks (slots_of rs) (slots_of qs) core cursor end (get_run rs (i + 1)).start
-unlocks rs qs ok i core cursor end h e some ends held now =
+pub unlocks : (rs qs : List Run) → IsRuns rs → (i core cursor end : ℕ) → i + 1 < length rs → (get_run rs i).start ≡ cursor → IsSlotBy (slots_of rs) cursor end → (slots_of rs).owner cursor ≡ Some core → slots_of qs ≡ with_owner (slots_of rs) (get_run rs i).start (get_run rs (i + 1)).start None → Unlocks (slots_of rs) (slots_of qs) core cursor end (get_run rs (i + 1)).start
+unlocks rs qs ok i core cursor end h e by held now =
     let slot = slot_from rs ok i cursor h e in
     let own = owner_in rs ok i cursor (omega arith) (omega arith) (let r = ok.rising i h in omega arith) in
     record {
       slot = slot;
-      by_end = slot_by_edge (slots_of rs) cursor (get_run rs (i + 1)).start end slot ends some;
+      by_end = (let l = slot_by_edge (slots_of rs) cursor (get_run rs (i + 1)).start by.0 slot by.1.ends by.1.ordered in let m = by.2 in omega arith);
       was_held = λ p a b. owner_in rs ok i p (omega arith) (omega arith) b ∙ (sym own ∙ held);
       now = now ∙ ap (λ n. with_owner (slots_of rs) n (get_run rs (i + 1)).start None) e;
     }
@@ -64,6 +64,37 @@ empty_at zero = (refl, refl)
 empty_at (suc zero) = (refl, refl)
 empty_at (suc (suc zero)) = (refl, refl)
 empty_at (suc (suc (suc k))) = (refl, refl)
+
+pub new_runs-IsRuns : IsRuns new_runs
+new_runs-IsRuns = record {
+  some = omega arith;
+  rising = λ k l. rising k l;
+  zero_first = refl;
+  one_second = refl;
+  zero_unmapped = refl;
+  zero_free = refl;
+  limit_last = refl;
+  limit_unmapped = refl;
+  limit_free = refl;
+  fits = λ k l. fits k l;
+  alone = λ k l leaf. absurd (no_leaf k leaf);
+}
+  where
+    rising : (k : ℕ) → k + 1 < 3 → (get_run new_runs k).start < (get_run new_runs (k + 1)).start
+    rising zero l = omega arith
+    rising (suc zero) l = omega arith
+    rising (suc (suc k)) l = absurd (omega arith)
+
+    fits : (k : ℕ) → k + 1 < 3 → info_file_page (get_run new_runs k).info + ((get_run new_runs (k + 1)).start - (get_run new_runs k).start) ≤ 2 ^ 35
+    fits zero l = omega arith
+    fits (suc zero) l = omega arith
+    fits (suc (suc k)) l = absurd (omega arith)
+
+    no_leaf : (k : ℕ) → is_leaf (get_run new_runs k).info ≡ true → ⊥
+    no_leaf k h = clash (sym (ap is_leaf (empty_at k).0) ∙ h)
+      where
+        clash : false ≡ true → ⊥
+        clash e = cc
 
 pub new_runs-IsNew : IsNew (slots_of new_runs)
 new_runs-IsNew = record {

@@ -6,5 +6,6 @@ pub mod Runs
 pub mod RunSlots
 pub mod Places
 pub mod RunLaws
+pub mod Adding
 pub mod Walks
 pub mod Edges

@@ -6,7 +6,7 @@ use Rattle.vm_base.specs.declared.info.PageInfo.{PageInfo}
 use Rattle.vm_base.specs.declared.info.Back.{Back}
 use Rattle.vm_base.specs.declared.info.Back.TheVariants.{Anon, Shared, Private}
 use Rattle.vm_base.specs.Pages.{IsPage}
-use Rattle.vm_base.specs.Info.{advance_back, info_from, is_leaf}
+use Rattle.vm_base.specs.Info.{advance_back, file_page, info_from, info_file_page, is_leaf}
 use Rattle.slot_lock.specs.declared.run.Run.{Run}
 use Rattle.slot_lock.specs.Runs.{IsRuns, get_run, run_at}
 use Rattle.slot_lock.specs.Places.{Found, found, run_at_is}
@@ -43,6 +43,32 @@ info_from_unmapped (Some info) n h = cc
 pub owner_free : (o : Option ℕ) → is_some o ≡ false → o ≡ None
 owner_free None h = refl
 owner_free (Some c) h = cc
+
+-- ---- file pages
+
+back_on : (b : Back) (n m : ℕ) → n < m → file_page b + m ≤ 2 ^ 35 → file_page (advance_back b n) + (m - n) ≤ 2 ^ 35
+back_on Anon n m l h = omega arith
+back_on (Shared f k) n m l h = omega arith
+back_on (Private f k) n m l h = omega arith
+
+-- the part of m pages from the n-th on
+pub fits_on : (o : Option PageInfo) (n m : ℕ) → n < m → info_file_page o + m ≤ 2 ^ 35 → info_file_page (info_from o n) + (m - n) ≤ 2 ^ 35
+fits_on None n m l h = omega arith
+fits_on (Some info) n m l h = back_on info.meta.back n m l h
+
+back_before : (b : Back) (n m : ℕ) → n ≤ m → m ≤ 2 ^ 35 → file_page (advance_back b n) + (m - n) ≤ 2 ^ 35 → file_page b + m ≤ 2 ^ 35
+back_before Anon n m l k h = omega arith
+back_before (Shared f p) n m l k h = omega arith
+back_before (Private f p) n m l k h = omega arith
+
+-- m pages whose part from the n-th on fits
+pub fits_before : (o : Option PageInfo) (n m : ℕ) → n ≤ m → m ≤ 2 ^ 35 → info_file_page (info_from o n) + (m - n) ≤ 2 ^ 35 → info_file_page o + m ≤ 2 ^ 35
+fits_before None n m l k h = omega arith
+fits_before (Some info) n m l k h = back_before info.meta.back n m l k h
+
+no_file_page : (o : Option PageInfo) (n : ℕ) → is_some o ≡ false → info_file_page (info_from o n) ≡ 0
+no_file_page None n h = refl
+no_file_page (Some info) n h = cc
 
 leaf_mapped : (o : Option PageInfo) → is_leaf o ≡ true → is_some o ≡ false → ⊥
 leaf_mapped None h k = cc
@@ -122,8 +148,22 @@ slots_of-is_slot_map rs ok = record {
       let n : p + 1 - (run_at rs p).start ≡ p - (run_at rs p).start + 1 = omega arith in
       rw (run_next rs ok p h, n) (sym (info_from_twice _ _ 1));
   alone = λ p h. alone_at p (found rs ok p) (sym (is_leaf-info_from (run_at rs p).info (p - (run_at rs p).start)) ∙ h);
+  fits = λ p. fits_at p (found rs ok p);
 }
   where
+    fits_at : (p : ℕ) (f : Found rs p) → info_file_page ((slots_of rs).info p) < 2 ^ 36
+    fits_at p f = rw f.run (⊎_elim
+        (λ l.
+        let fits = ok.fits f.at l in
+        let until = f.is.until l in
+        let on = fits_on (get_run rs f.at).info (p - (get_run rs f.at).start) ((get_run rs (f.at + 1)).start - (get_run rs f.at).start) (omega (arith, f.is.from)) fits in
+        omega (arith, f.is.from))
+        (λ l.
+        let same : f.at ≡ length rs - 1 = omega (arith, f.is.within) in
+        let none = no_file_page (get_run rs f.at).info (p - (get_run rs f.at).start) (rw same ok.limit_unmapped) in
+        omega arith)
+        (cases_lt (f.at + 1) (length rs)))
+
     alone_at : (p : ℕ) (f : Found rs p) → is_leaf (run_at rs p).info ≡ true → ((slots_of rs).edge p ≡ true) × ((slots_of rs).edge (p + 1) ≡ true)
     alone_at p f h =
         let leaf = rw f.run at h in

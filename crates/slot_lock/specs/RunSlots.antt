@@ -1,5 +1,6 @@
 -- What a list of runs says of each page
-use Rattle.std.specs.Prelude.{◌-◌, ◌==◌, List}
+use Rattle.std.specs.Prelude.{ℕ, ◌-◌, ◌==◌, Bool, List}
+use Rattle.vm_base.specs.declared.page.PageRange.{PageRange}
 use Rattle.vm_base.specs.Info.{info_from}
 use Rattle.slot_lock.specs.declared.plan.Change.{Change}
 use Rattle.slot_lock.specs.declared.plan.Change.TheVariants.{Put, Clear, Protect}
@@ -19,3 +20,7 @@ abbrev pub changed : Slots → Change → Slots
 changed s (Put range meta) = mapped s range meta
 changed s (Clear range) = cleared s range
 changed s (Protect range prot) = protected s range prot
+
+-- a slot is divided in two, at the page that it crosses
+abbrev pub two_parts : PageRange → ℕ → ℕ → Bool
+two_parts slot at p = p == at

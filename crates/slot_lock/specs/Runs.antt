@@ -1,7 +1,7 @@
 -- A list of runs, each of the pages from its start up to the next one's. The first is page 0 and the last is what
 -- lies above all valid pages: no core holds them and nothing is mapped there
 use Rattle.std.specs.Prelude.{◌≡◌, ℕ, ◌+◌, ◌-◌, ◌^◌, ◌<◌, ◌≤◌, nat_le, Bool, true, false, List, length, slice_index_or, Option, Some, None, is_some}
-use Rattle.std.specs.List.{prefix_len}
+use Rattle.std.specs.List.{insert, prefix_len}
 use Rattle.vm_base.specs.declared.info.PageInfo.{PageInfo}
 use Rattle.vm_base.specs.Info.{advance, info_from, info_file_page, info_with_prot, is_leaf, unused}
 use Rattle.slot_lock.specs.declared.plan.Change.{Change}
@@ -43,8 +43,8 @@ pub record IsRuns (rs : List Run) : Type 0 where
   pub limit_last : (get_run rs (length rs - 1)).start ≡ 2 ^ 35
   pub limit_unmapped : is_some (get_run rs (length rs - 1)).info ≡ false
   pub limit_free : is_some (get_run rs (length rs - 1)).owner ≡ false
-  -- the file page of each page fits
-  pub fits : (k : ℕ) → k < length rs → info_file_page (get_run rs k).info ≤ (get_run rs k).start + 2 ^ 35
+  -- the file pages of a run's pages are numbers that a file can have
+  pub fits : (k : ℕ) → k + 1 < length rs → info_file_page (get_run rs k).info + ((get_run rs (k + 1)).start - (get_run rs k).start) ≤ 2 ^ 35
   -- a page with a frame or a recorded core is a slot of its own
   pub alone : (k : ℕ) → k + 1 < length rs → is_leaf (get_run rs k).info ≡ true → (get_run rs (k + 1)).start ≡ (get_run rs k).start + 1
 
@@ -75,6 +75,10 @@ pub record IsJoint (rs : List Run) (i : ℕ) : Type 0 where
 -- the part of a run from a page on
 abbrev pub tail_from : Run → ℕ → Run
 tail_from r at = record { start = at; owner = r.owner; info = info_from r.info (at - r.start) }
+
+-- the runs with the one at i cut in two
+abbrev pub cut_runs : List Run → ℕ → ℕ → List Run
+cut_runs rs i at = insert rs (i + 1) (tail_from (get_run rs i) at)
 
 -- a run with this owner
 abbrev pub owned_run : Option ℕ → Run → Run

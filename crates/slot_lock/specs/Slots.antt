@@ -1,12 +1,12 @@
 -- What a slot map says of each page, and the changes of it
-use Rattle.std.specs.Prelude.{◌≡◌, ◌≢◌, ℕ, ◌+◌, ◌-◌, ◌^◌, ◌<◌, ◌≤◌, ◌⊎◌, Bool, true, false, Option, Some, None, is_some}
+use Rattle.std.specs.Prelude.{◌≡◌, ◌≢◌, ℕ, ◌+◌, ◌-◌, ◌^◌, ◌<◌, ◌≤◌, ◌⊎◌, Bool, true, false, if◌then◌else◌, Option, Some, None, is_some}
 use Rattle.vm_base.specs.declared.page.PageRange.{PageRange}
 use Rattle.vm_base.specs.declared.info.PageInfo.{PageInfo}
 use Rattle.vm_base.specs.declared.info.Meta.{Meta}
 use Rattle.vm_base.specs.declared.rights.Prot.{Prot}
 use Rattle.vm_base.specs.Functions.{put, over, across, has}
 use Rattle.vm_base.specs.Pages.{IsPage, IsPageRange}
-use Rattle.vm_base.specs.Info.{advance, info_from, is_leaf, unused, frame_of, is_recorded, info_with_prot, info_without_frame}
+use Rattle.vm_base.specs.Info.{advance, info_from, info_file_page, is_leaf, unused, frame_of, is_recorded, info_with_prot, info_without_frame}
 use Rattle.slot_lock.specs.declared.slot_map.Fit.{Fit}
 use Rattle.slot_lock.specs.declared.slot_map.Fit.TheVariants.{Cut, Fits}
 use Rattle.slot_lock.specs.declared.slot_map.Got.{Got}
@@ -40,6 +40,8 @@ pub record IsSlotMap (s : Slots) : Type 0 where
   pub goes_on : (p : ℕ) → IsPage p → s.edge (p + 1) ≡ false → s.info (p + 1) ≡ info_from (s.info p) 1
   -- a page with a frame or a recorded core is a slot of its own
   pub alone : (p : ℕ) → is_leaf (s.info p) ≡ true → (s.edge p ≡ true) × (s.edge (p + 1) ≡ true)
+  -- the file page of each page is small, so that the pages of any range have file pages that are numbers
+  pub fits : (p : ℕ) → info_file_page (s.info p) < 2 ^ 36
 
 -- nothing is mapped and nothing is held
 pub record IsNew (s : Slots) : Type 0 where
@@ -79,6 +81,41 @@ pub record Divides (s t : Slots) (owner : Option ℕ) (at : ℕ) : Type 0 where
   pub begins : t.edge at ≡ true
   pub elsewhere : (p : ℕ) → s.owner p ≢ owner → t.edge p ≡ s.edge p
 
+-- no edge changes but inside the slot that has the page
+pub record OnlySlotOf (s t : Slots) (page : ℕ) : Type 0 where
+  pub slot : PageRange
+  pub is_slot : IsSlot s slot.first slot.end
+  pub low : slot.first ≤ page
+  pub high : page < slot.end
+  pub outside : (p : ℕ) → (p ≤ slot.first) ⊎ (slot.end ≤ p) → t.edge p ≡ s.edge p
+
+-- the first edge of the range that a slot crosses: its start before its end
+abbrev pub crossed_edge : Slots → PageRange → ℕ
+crossed_edge s range = if s.edge range.first then range.end else range.first
+
+-- slots begin inside the slot at these of its pages, and all else stays
+abbrev pub divided : Slots → PageRange → (ℕ → Bool) → Slots
+divided s slot begins = record s { edge = across s.edge (has (between (slot.first + 1) slot.end)) begins }
+
+-- The slot that crosses the page was divided into parts, and all else stays. Which pages begin a part turns on the map:
+-- they are given by the slot and the page that it crosses
+pub record DividesAs (parts : PageRange → ℕ → ℕ → Bool) (s t : Slots) (at : ℕ) : Type 0 where
+  pub slot : PageRange
+  pub is_slot : IsSlot s slot.first slot.end
+  pub above : slot.first < at
+  pub below : at < slot.end
+  pub now : t ≡ divided s slot (parts slot at)
+
+-- The slot that begins at the page can be one with the slot before it: nobody holds them, they have no frame and no
+-- recorded core, and the mapping goes on from one to the other
+pub record CanBeOne (s : Slots) (at : ℕ) : Type 0 where
+  pub page : IsPage at
+  pub free : s.owner (at - 1) ≡ None
+  pub next_free : s.owner at ≡ None
+  pub no_leaf : is_leaf (s.info (at - 1)) ≡ false
+  pub next_no_leaf : is_leaf (s.info at) ≡ false
+  pub goes_on : s.info at ≡ info_from (s.info (at - 1)) 1
+
 -- Slots that nobody holds were joined, and nothing else changed
 pub record Joins (s t : Slots) : Type 0 where
   pub info : t.info ≡ s.info
@@ -86,6 +123,7 @@ pub record Joins (s t : Slots) : Type 0 where
   pub kept : (p : ℕ) → s.edge p ≡ false → t.edge p ≡ false
   pub elsewhere : (p : ℕ) → s.owner p ≢ None → t.edge p ≡ s.edge p
   pub removed : (p : ℕ) × (s.edge p ≡ true) × (t.edge p ≡ false)
+  pub could : (p : ℕ) → s.edge p ≡ true → t.edge p ≡ false → CanBeOne s p
 
 -- no slot begins at the page, and all else stays
 abbrev pub without_edge : Slots → ℕ → Slots
@@ -123,6 +161,10 @@ pub record Locks (s t : Slots) (core cursor end b : ℕ) : Type 0 where
   pub was_free : (p : ℕ) → cursor ≤ p → p < b → s.owner p ≡ None
   pub now : t ≡ with_owner s cursor b (Some core)
 
+-- a slot begins at the page and ends by another
+abbrev pub IsSlotBy : Slots → ℕ → ℕ → Type 0
+IsSlotBy s first end = (b : ℕ) × IsSlot s first b × (b ≤ end)
+
 -- the core owned the slot from the cursor up to b, and nobody does now
 pub record Unlocks (s t : Slots) (core cursor end b : ℕ) : Type 0 where
   pub slot : IsSlot s cursor b
@@ -130,11 +172,12 @@ pub record Unlocks (s t : Slots) (core cursor end b : ℕ) : Type 0 where
   pub was_held : (p : ℕ) → cursor ≤ p → p < b → s.owner p ≡ Some core
   pub now : t ≡ with_owner s cursor b None
 
--- a free slot that crosses an edge of the pages is divided
+-- the cursor's slot, which is free and crosses an edge of the pages, is divided
 pub record Splits (s t : Slots) (cursor end : ℕ) : Type 0 where
   pub was_free : s.owner cursor ≡ None
   pub crosses : Crosses s cursor end
   pub divides : (at : ℕ) × IsPage at × Divides s t None at
+  pub only : OnlySlotOf s t cursor
 
 -- what one step at the cursor does
 abbrev pub Steps : Slots → Slots → ℕ → ℕ → ℕ → Got → Type 0
@@ -163,10 +206,27 @@ pub record IsHeld (s : Slots) (core : ℕ) (range : PageRange) : Type 0 where
 abbrev pub IsCrossed : Slots → PageRange → Type 0
 IsCrossed s range = (s.edge range.first ≡ false) ⊎ (s.edge range.end ≡ false)
 
+-- the slot that crosses the range's start, or else its end, is divided
+pub record Cuts (s t : Slots) (core : ℕ) (range : PageRange) : Type 0 where
+  pub crossed : IsCrossed s range
+  pub divides : (at : ℕ) × IsPage at × Divides s t (Some core) at
+  pub only : OnlySlotOf s t (crossed_edge s range)
+
 -- what one step of a cut does
 abbrev pub CutSteps : Slots → Slots → ℕ → PageRange → Fit → Type 0
-CutSteps s t core range Cut = IsCrossed s range × ((at : ℕ) × IsPage at × Divides s t (Some core) at)
+CutSteps s t core range Cut = Cuts s t core range
 CutSteps s t core range Fits = IsCut s range × (t ≡ s)
+
+-- ---- what is said of divisions alone
+
+abbrev pub IfSplit : Got → Type 0 → Type 0
+IfSplit Split said = said
+IfSplit (Locked b) said = Unit {0}
+IfSplit (Held by) said = Unit {0}
+
+abbrev pub IfCut : Fit → Type 0 → Type 0
+IfCut Cut said = said
+IfCut Fits said = Unit {0}
 
 -- ---- frames, mappings and users of pages
 

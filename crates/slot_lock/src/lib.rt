@@ -4,6 +4,7 @@
 pub mod acquire;
 pub mod footprint;
 pub mod laws;
+pub mod lent;
 pub mod plan;
 pub mod run;
 pub mod run_list;

@@ -1,16 +1,17 @@
 //! Runs of pages in order, each up to the next one's start.
 ghost use Rattle.std.specs.Prelude.{◌≡◌, ℕ, ◌+◌, ◌-◌, ◌^◌, ◌<◌, ◌≤◌, OnOk, OnErr, IsTrue, ◌↔◌, None, Some, false, length};
+ghost use Rattle.std.specs.Vec.{vec_len, vec_capacity};
 ghost use Rattle.vm_base.specs.Pages.{IsPage};
 ghost use Rattle.vm_base.specs.Info.{info_with_prot, info_from, info_file_page, is_leaf};
 ghost use Rattle.slot_lock.specs.Plan.{IsSoundChange, range_of};
-ghost use Rattle.slot_lock.specs.Runs.{IsRuns, IsAt, IsInner, IsInside, IsJoint, get_run};
-ghost use Rattle.slot_lock.specs.Slots.{Divides, HasMeta, IsCut, CanJoin, Folds, with_owner, with_info};
-ghost use Rattle.slot_lock.specs.RunSlots.{slots_of, changed};
+ghost use Rattle.slot_lock.specs.Runs.{IsRuns, IsAt, IsInner, IsInside, IsJoint, get_run, cut_runs};
+ghost use Rattle.slot_lock.specs.Slots.{Divides, DividesAs, HasMeta, IsCut, CanJoin, Folds, with_owner, with_info};
+ghost use Rattle.slot_lock.specs.RunSlots.{slots_of, changed, two_parts};
 
 use crate::plan::Change;
 use std::alloc::Allocator;
-use vm_base::info::info_from;
-use vm_base::{CoreId, CoreSet, Meta, NoMemory, PageInfo, Prot};
+use vm_base::info::{goes_on, info_from, protected};
+use vm_base::{CoreId, NoMemory, PageInfo, is_leaf};
 
 /// A slot: the pages from `start` up to the next run's.
 #[derive(Clone, Copy, Debug)]
@@ -57,47 +58,7 @@ impl Run {
 fn is_plain(owner: Option<CoreId>, info: Option<PageInfo>) -> bool
     ensures { IsTrue result ↔ ((owner ≡ None) × (is_leaf info ≡ false)) }
 {
-    if owner.is_some() {
-        return false;
-    }
-    match info {
-        None => true,
-        Some(info) => info.frame.is_none() && info.cores.is_empty(),
-    }
-}
-
-fn is_same(meta: Meta, other: Meta) -> bool
-    ensures { IsTrue result ↔ (meta ≡ other) }
-{
-    meta == other
-}
-
-// Tells whether what pages have goes on `by` pages later, where neither has a frame or a recorded core.
-fn goes_on(info: Option<PageInfo>, next: Option<PageInfo>, by: u64) -> bool
-    requires fits { info_file_page info + by < 2 ^ 64 }
-    requires no_leaf { is_leaf info ≡ false }
-    requires next_no_leaf { is_leaf next ≡ false }
-    ensures { IsTrue result ↔ (next ≡ info_from info by) }
-{
-    match (info, next) {
-        (None, None) => true,
-        (Some(info), Some(next)) => is_same(info.meta.advanced(by), next.meta),
-        _ => false,
-    }
-}
-
-// What a page has under another protection, under which no core has used it.
-fn protected(info: Option<PageInfo>, prot: Prot) -> Option<PageInfo>
-    ensures { result ≡ info_with_prot prot info }
-{
-    match info {
-        None => None,
-        Some(info) => Some(PageInfo {
-            meta: Meta { prot, ..info.meta },
-            cores: CoreSet::empty(),
-            ..info
-        }),
-    }
+    owner.is_none() && !is_leaf(info)
 }
 
 /// The place of the run that has the page.
@@ -123,8 +84,12 @@ pub fn cut<A: Allocator>(runs: &mut Vec<Run, A>, i: usize, at: u64) -> Result<()
     requires runs { IsRuns runs.old.items }
     requires inside { IsInside runs.old.items i at }
     ensures runs { IsRuns runs.new.items }
+    ensures items { OnOk result (runs.new.items ≡ cut_runs runs.old.items i at) }
     ensures ok { OnOk result (Divides (slots_of runs.old.items) (slots_of runs.new.items) (get_run runs.old.items i).owner at) }
+    ensures exact { OnOk result (DividesAs two_parts (slots_of runs.old.items) (slots_of runs.new.items) at) }
     ensures err { OnErr result (runs.new.items ≡ runs.old.items) }
+    ensures full { OnErr result (vec_capacity runs.old ≤ vec_len runs.old) }
+    ensures capacity { vec_capacity runs.old ≤ vec_capacity runs.new }
 {
     let run = runs[i];
     let tail = Run {

@@ -5,12 +5,14 @@ ghost use Rattle.slot_lock.specs.Runs.{IsRuns};
 use crate::plan::Change;
 use crate::run::{self, Run};
 use crate::slot_map::{Fit, Got, SlotMap, SlotRead};
-use crate::walk;
+use crate::{lent, walk};
 use std::alloc::Allocator;
 use vm_base::info::info_from;
 use vm_base::{CoreId, CoreSet, Meta, NoMemory, PageInfo, PageRange, Prot};
 
-/// A map of slots as the list of them, in order.
+/// A map of slots as the list of them, in order. A division makes two slots. A fold joins a page's slot with the next one
+/// to its right, where nobody holds them, they have no frame and no recorded core, and the second's pages go on from the
+/// first's. Page 0 and what lies above all valid pages stay slots of their own.
 #[derive(Drop)]
 pub struct RunList<A: Allocator> {
     runs: Vec<Run, A>,
@@ -18,11 +20,14 @@ pub struct RunList<A: Allocator> {
 }
 
 impl<A: Allocator> RunList<A> {
+    ghost use Rattle.std.specs.Prelude.{IsTrue, ◌↔◌};
     ghost use Rattle.slot_lock.specs.Slots.{IsNew};
+    ghost use Rattle.slot_lock.specs.Adding.{IsRest, CanAdd, with_slot};
 
     /// All valid pages unmapped and unheld, in one slot.
     pub fn new(alloc: A) -> Result<RunList<A>, NoMemory>
-        ensures { IfOk result (λ map. IsNew (⟦<RunList<A> as SlotRead>⟧.slots map)) }
+        ensures rest { IfOk result (λ map. IsRest (⟦<RunList<A> as SlotRead>⟧.slots map) 1) }
+        ensures new { IfOk result (λ map. IsNew (⟦<RunList<A> as SlotRead>⟧.slots map)) }
     {
         let mut runs = Vec::with_capacity(alloc, 3)?;
         runs.push(Run {
@@ -41,6 +46,37 @@ impl<A: Allocator> RunList<A> {
             info: None,
         })?;
         Ok(RunList { runs })
+    }
+
+    /// A map to lend slots to, from left to right, so that they can be read as one: all valid pages unmapped and unheld.
+    pub fn lent(alloc: A) -> Result<RunList<A>, NoMemory>
+        ensures new { IfOk result (λ map. IsNew (⟦<RunList<A> as SlotRead>⟧.slots map)) }
+        ensures rest { IfOk result (λ map. IsRest (⟦<RunList<A> as SlotRead>⟧.slots map) 1) }
+    {
+        RunList::new(alloc)
+    }
+
+    /// Adds the slot of the pages from `first` up to `end`, with its owner and what its first page has. Answers false,
+    /// and changes nothing, where it doesn't begin at the end of the last one, has no valid page or another one too, is a
+    /// slot of several pages with a frame or a recorded core, or has file pages that no file can have. A refusal for
+    /// memory changes nothing.
+    pub fn add_slot(
+        &mut self,
+        first: u64,
+        end: u64,
+        owner: Option<CoreId>,
+        info: Option<PageInfo>,
+    ) -> Result<bool, NoMemory>
+        ensures can { IfOk result (λ is. IsTrue is ↔ CanAdd (⟦<RunList<A> as SlotRead>⟧.slots self.old) first end info) }
+        ensures added { IfOk result (λ is. IsTrue is → ⟦<RunList<A> as SlotRead>⟧.slots self.new ≡ with_slot (⟦<RunList<A> as SlotRead>⟧.slots self.old) first end owner info) }
+        ensures same { IfOk result (λ is. ¬ IsTrue is → ⟦<RunList<A> as SlotRead>⟧.slots self.new ≡ ⟦<RunList<A> as SlotRead>⟧.slots self.old) }
+        ensures err { OnErr result (⟦<RunList<A> as SlotRead>⟧.slots self.new ≡ ⟦<RunList<A> as SlotRead>⟧.slots self.old) }
+    {
+        if !lent::can_add(&self.runs, first, end, &info) {
+            return Ok(false);
+        }
+        lent::add(&mut self.runs, first, end, owner, &info)?;
+        Ok(true)
     }
 }
 
@@ -79,10 +115,16 @@ impl<A: Allocator> SlotRead for RunList<A> {
 }
 
 impl<A: Allocator> SlotMap for RunList<A> {
-    ghost use Rattle.std.specs.Prelude.{◌≡◌, ℕ, IsTrue};
-    ghost use Rattle.vm_base.specs.Pages.{IsPage};
+    ghost use Rattle.std.specs.Prelude.{ℕ};
     ghost use Rattle.slot_lock.specs.RunLaws.{slots_of-is_slot_map};
-    ghost use Rattle.slot_lock.specs.Slots.{CanJoin, Folds, Joins};
+    ghost use Rattle.slot_lock.specs.RunSlots.{two_parts};
+    ghost use Rattle.slot_lock.specs.Slots.{CanJoin, Folds};
+
+    ghost parts = { two_parts };
+
+    ghost can_fold = { λ s page. (at : ℕ) × CanJoin s page at };
+
+    ghost folds = { Folds };
 
     ghost is_slot_map = { λ m. slots_of-is_slot_map m.runs.items m.ok };
 
@@ -162,16 +204,7 @@ impl<A: Allocator> SlotMap for RunList<A> {
         run::set_info(&mut self.runs, i, info);
     }
 
-    /// Joins the page's slot with the next one to its right, where nobody holds them, they have no frame and no recorded
-    /// core, and the second's pages go on from the first's. Answers whether it did. Page 0 and what lies above all valid
-    /// pages stay slots of their own.
-    fn fold(&mut self, page: u64) -> bool
-        requires { IsPage page }
-        ensures joined { IsTrue result → Joins (⟦<RunList<A> as SlotRead>⟧.slots self.old) (⟦<RunList<A> as SlotRead>⟧.slots self.new) }
-        ensures same { ¬ IsTrue result → ⟦<RunList<A> as SlotRead>⟧.slots self.new ≡ ⟦<RunList<A> as SlotRead>⟧.slots self.old }
-        ensures exact { IsTrue result → Folds (⟦<RunList<A> as SlotRead>⟧.slots self.old) (⟦<RunList<A> as SlotRead>⟧.slots self.new) page }
-        ensures only { ¬ IsTrue result → (at : ℕ) → ¬ CanJoin (⟦<RunList<A> as SlotRead>⟧.slots self.old) page at }
-    {
+    fn fold(&mut self, page: u64) -> bool {
         run::fold(&mut self.runs, page)
     }
 }

@@ -2,12 +2,13 @@
 //!
 //! A slot is a set of neighbouring pages with one owner or none, whose mapping goes on from page to page. A new map has
 //! all valid pages unmapped and unheld. A page with a frame or a recorded core is a slot of its own.
-ghost use Rattle.std.specs.Prelude.{◌≡◌, ◌≢◌, ℕ, ◌+◌, ◌-◌, ◌^◌, ◌<◌, ◌≤◌, ◌↔◌, IfOk, OnErr, IfSome, IfNone, IsTrue, true, Option, Some, None};
+ghost use Rattle.std.specs.Prelude.{◌≡◌, ◌≢◌, ℕ, ◌+◌, ◌-◌, ◌^◌, ◌<◌, ◌≤◌, ◌↔◌, IfOk, OnErr, IfSome, IfNone, IsTrue, true, Bool, Option, Some, None};
+ghost use Rattle.vm_base.specs.declared.page.PageRange.{PageRange};
 ghost use Rattle.vm_base.specs.Functions.{has};
 ghost use Rattle.vm_base.specs.Cores.{members};
 ghost use Rattle.vm_base.specs.Pages.{IsPage, IsPageRange};
 ghost use Rattle.slot_lock.specs.Plan.{FitsFile};
-ghost use Rattle.slot_lock.specs.Slots.{Slots, IsSlot, IsSlotMap, IsHeld, IsCrossed, OwnsAll, Steps, Crosses, CutSteps, Unlocks, Joins, HasMeta, IsFreeRun, LosesFrame, NoFrames, IsUser, AllMapped, cleared, mapped, protected, with_info};
+ghost use Rattle.slot_lock.specs.Slots.{Slots, IsSlot, IsSlotBy, IsSlotMap, IsHeld, IsCrossed, OwnsAll, Steps, Crosses, CutSteps, Unlocks, Joins, HasMeta, IsFreeRun, LosesFrame, NoFrames, IsUser, AllMapped, DividesAs, IfSplit, IfCut, between, crossed_edge, cleared, mapped, protected, with_info};
 
 use vm_base::{CoreId, CoreSet, Meta, NoMemory, PageInfo, PageRange, Prot};
 
@@ -74,35 +75,45 @@ pub trait SlotRead {
 
 /// A map of slots. Only `lock_next` and `cut_next` take memory; a refusal leaves the map unchanged.
 pub trait SlotMap: SlotRead {
+    /// Which pages begin a part of a slot that is divided since it crosses a page.
+    ghost parts: { PageRange → ℕ → ℕ → Bool };
+
+    /// When the slots round a page can be joined.
+    ghost can_fold: { Slots → ℕ → Type 0 };
+
+    /// How they are joined.
+    ghost folds: { Slots → Slots → ℕ → Type 0 };
+
     /// The owner of the page's slot, if a core holds it.
     fn owner(&self, page: u64) -> Option<CoreId>
         requires { IsPage page }
         ensures { result ≡ (Self.slots self.now).owner page };
 
-    /// One step of the core towards holding the pages from the cursor up to the end: a free slot that crosses an edge of
-    /// them is divided, or the cursor's slot is locked, or it is another core's.
+    /// One step of the core towards holding the pages from the cursor up to the end: the cursor's slot is another core's,
+    /// or is divided where it crosses the first edge of them that it crosses, or is locked.
     fn lock_next(&mut self, core: CoreId, cursor: u64, end: u64) -> Result<Got, NoMemory>
         requires ordered { cursor < end }
         requires valid { (1 ≤ cursor) × (end ≤ 2 ^ 35) }
         requires not_held { (Self.slots self.old).owner cursor ≢ Some core }
         ensures step { IfOk result (λ got. Steps (Self.slots self.old) (Self.slots self.new) core cursor end got) }
+        ensures exact { IfOk result (λ got. IfSplit got (DividesAs parts (Self.slots self.old) (Self.slots self.new) (crossed_edge (Self.slots self.old) (between cursor end)))) }
         ensures err { OnErr result (Self.slots self.new ≡ Self.slots self.old) }
         ensures err_only { OnErr result (((Self.slots self.old).owner cursor ≡ None) × Crosses (Self.slots self.old) cursor end) };
 
-    /// One step of the core towards slots that don't cross an edge of the range, whose pages it holds.
+    /// One step of the core towards slots that don't cross an edge of the range, whose pages it holds: the slot that
+    /// crosses its start is divided, or else the one that crosses its end.
     fn cut_next(&mut self, core: CoreId, range: PageRange) -> Result<Fit, NoMemory>
         requires range { IsPageRange range }
         requires held { OwnsAll (Self.slots self.old) core range.first range.end }
         ensures step { IfOk result (λ fit. CutSteps (Self.slots self.old) (Self.slots self.new) core range fit) }
+        ensures exact { IfOk result (λ fit. IfCut fit (DividesAs parts (Self.slots self.old) (Self.slots self.new) (crossed_edge (Self.slots self.old) range))) }
         ensures err { OnErr result (Self.slots self.new ≡ Self.slots self.old) }
         ensures err_only { OnErr result (IsCrossed (Self.slots self.old) range) };
 
     /// Unlocks the slot that begins at the cursor and ends by `end`, and answers its end.
     fn unlock_next(&mut self, core: CoreId, cursor: u64, end: u64) -> u64
-        requires pages { (cursor < end) × (1 ≤ cursor) × (end ≤ 2 ^ 35) }
         requires held { (Self.slots self.old).owner cursor ≡ Some core }
-        requires begins { (Self.slots self.old).edge cursor ≡ true }
-        requires ends { (Self.slots self.old).edge end ≡ true }
+        requires slot { IsSlotBy (Self.slots self.old) cursor end }
         ensures { Unlocks (Self.slots self.old) (Self.slots self.new) core cursor end result };
 
     /// Maps the pages of the range anew, each later one to the next file page.
@@ -142,7 +153,9 @@ pub trait SlotMap: SlotRead {
     /// Joins slots round the page that nobody holds, where their pages go on from one another. Answers whether it did.
     fn fold(&mut self, page: u64) -> bool
         requires { IsPage page }
+        ensures can { IsTrue result ↔ can_fold (Self.slots self.old) page }
         ensures joined { IsTrue result → Joins (Self.slots self.old) (Self.slots self.new) }
+        ensures exact { IsTrue result → folds (Self.slots self.old) (Self.slots self.new) page }
         ensures same { ¬ IsTrue result → Self.slots self.new ≡ Self.slots self.old };
 
     // ---- what holds of every slot map

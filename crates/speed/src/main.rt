@@ -1,4 +1,4 @@
-// How long the parts take: `speed slots`, `look`, `tree`, `hit` and `clear` print nanoseconds, and with no word each part
+// How long the parts take: `speed slots`, `look`, `tree`, `scan`, `edit`, `hit` and `clear` print nanoseconds, and with no word each part
 // runs once with little to do. bench/pieces.sh compares them with plain Rust.
 #![tactic(auto)]
 
@@ -6,6 +6,7 @@ ghost use Rattle.std.specs.Prelude.{◌<◌};
 
 mod clears;
 mod hits;
+mod ranges;
 mod slots;
 mod tree;
 
@@ -41,6 +42,8 @@ fn try_each(rt: &(impl Print + Clock), alloc: Global) -> io::Result<()> {
     tell(rt, slots::time(rt, alloc, 8, 16)?)?;
     tell(rt, tree::time_look_ups(rt, alloc, 8, 16)?)?;
     tell(rt, tree::time_changes(rt, alloc, 8, 16)?)?;
+    tell(rt, ranges::time_scans(rt, alloc, 5_000, 2)?)?;
+    tell(rt, ranges::time_edits(rt, alloc, 5_000, 2)?)?;
     tell(rt, hits::time(rt, alloc, 128)?)?;
     tell(rt, clears::time(rt, alloc, 1)?)
 }
@@ -59,9 +62,11 @@ fn run(rt: &(impl Print + Clock), alloc: Global, word: &str) -> io::Result<()> {
             tree::time_changes(rt, alloc, 50_000, 5_000_000)?,
             5_000_000,
         ),
+        "scan" => show(rt, ranges::time_scans(rt, alloc, 50_000, 5_000)?, 5_000),
+        "edit" => show(rt, ranges::time_edits(rt, alloc, 50_000, 2_000)?, 2_000),
         "hit" => show(rt, hits::time(rt, alloc, 50_000_000)?, 50_000_000),
         "clear" => show(rt, clears::time(rt, alloc, 20_000)?, 20_000),
-        _ => println!(rt; "usage: speed [slots | look | tree | hit | clear]"),
+        _ => println!(rt; "usage: speed [slots | look | tree | scan | edit | hit | clear]"),
     }
 }
 

@@ -22,7 +22,7 @@ fn page_between(place: u64) -> u64
 }
 
 /// A tree of so many mapped pages, each a slot of its own, as each page between two of them is.
-fn filled(alloc: Global, core: CoreId, pages: u64) -> Result<RadixMap<Global>, NoMemory>
+pub fn filled(alloc: Global, core: CoreId, pages: u64) -> Result<RadixMap<Global>, NoMemory>
     requires { pages ≤ 2 ^ 20 }
     ensures { IfOk result (λ map. IsFree (⟦<RadixMap<Global> as SlotRead>⟧.slots map)) }
 {

@@ -7,14 +7,14 @@ use Rattle.machine_model.specs.declared.event.Event.{Event}
 use Rattle.machine_model.specs.declared.event.Event.TheVariants as Ev
 use Rattle.machine_model.specs.declared.event.Outcome.{Outcome}
 use Rattle.machine_model.specs.declared.event.Outcome.TheVariants.{Stepped, Wait, Idle, Answered, Full}
-use Rattle.machine_model.specs.World.{World, opening}
-use Rattle.machine_model.specs.Step.{Step, Run}
+use Rattle.machine_model.specs.World.{World, new_world}
+use Rattle.machine_model.specs.Step.{Step, StepsTo, Run}
 use Rattle.machine_laws.proofs.Bracketed.{bracketed}
 use Rattle.machine_sound.proofs.Kept.{runs_sound}
 use Rattle.core_steps.specs.declared.machine.Finished.{Finished}
 use Rattle.core_steps.specs.declared.machine.Finished.TheVariants.{Last, Stuck}
 use Rattle.core_steps.specs.declared.setup.Setup.{Setup}
-use Rattle.core_steps.specs.Finishing.{StepsTo, EndsIn}
+use Rattle.core_steps.specs.Finishing.{EndsIn}
 use Rattle.core_steps.specs.Setups.{made_of}
 use Rattle.trace_text.specs.Line.{line_of}
 use Rattle.trace_text.specs.declared.line.Line.{Line}
@@ -105,7 +105,7 @@ pub record HasRun (w : World) (es : List Event) (os : List Outcome) : Type 0 whe
   pub setup : Setup
   pub slots : Slots
   pub new : IsNew slots
-  pub run : Run (opening (made_of setup) slots) es os w
+  pub run : Run (new_world (made_of setup) slots) es os w
 
 -- so many events came before the stage
 abbrev pub IsReached : Stage → List Event → List Outcome → Type 0
@@ -119,7 +119,7 @@ opened (Declared s) w es os r o = record {
   setup = s;
   slots = o.1.0;
   new = o.1.1;
-  run = subst (λ es. Run (opening (made_of s) o.1.0) es os w) (sym r.0) (subst (λ os. Run (opening (made_of s) o.1.0) [] os w) (sym r.1) o.1.2);
+  run = subst (λ es. Run (new_world (made_of s) o.1.0) es os w) (sym r.0) (subst (λ os. Run (new_world (made_of s) o.1.0) [] os w) (sym r.1) o.1.2);
 }
 opened (Running m) w es os r o = subst (λ x. HasRun x es os) (sym o) r
 
@@ -147,7 +147,7 @@ event_next line old new es os text r (w, v, opens, gives, is) =
       outcomes = m.outcomes;
       asks = m.asks;
       reached = subst (λ s. IsReached s (es ++ m.events) (os ++ m.outcomes)) (sym is)
-          (record { setup = h.setup; slots = h.slots; new = h.new; run = run_then es m.events os m.outcomes (opening (made_of h.setup) h.slots) w v h.run m.run });
+          (record { setup = h.setup; slots = h.slots; new = h.new; run = run_then es m.events os m.outcomes (new_world (made_of h.setup) h.slots) w v h.run m.run });
     }
 
 space_next : (s : Setup) (old new : Stage) (es : List Event) (os : List Outcome) → IsReached old es os → old ≡ Start → new ≡ Declared s → IsReached new es os

@@ -1,5 +1,5 @@
 -- Whole runs, a line at a time.
-use Rattle.std.proofs.Common.{◌≡◌, ◌≢◌, ℕ, zero, suc, ◌+◌, ◌<◌, ◌≤◌, false, cond, List, [], ◌∷◌, ◌++◌, Option, None, Some, Result, Ok, Err, IfSome, IfErr, OnOk, length, take, ◌⊎◌, inl, inr, arith, refl, sym, ap, ◌∙◌, subst, eqb, append_assoc, append-nil, length-append}
+use Rattle.std.proofs.Common.{◌≡◌, ◌≢◌, ℕ, zero, suc, ◌+◌, ◌<◌, ◌≤◌, false, Bool, cond, List, [], ◌∷◌, ◌++◌, Option, None, Some, Result, Ok, Err, IfSome, IfErr, OnOk, length, take, ◌⊎◌, inl, inr, arith, refl, sym, ap, ◌∙◌, subst, eqb, append_assoc, append-nil, length-append}
 use Rattle.std.proofs.lemmas.Bool.{ne_eqb}
 use Rattle.std.proofs.Math.Seq.{take-append-add}
 use Rattle.std.proofs.lemmas.Grind.{common_steps}
@@ -12,7 +12,7 @@ use Rattle.trace.specs.declared.fault.TraceFault.{TraceFault}
 use Rattle.trace.specs.declared.fault.TraceFault.TheVariants.{TooLong, NoMemory, WriteFailed}
 use Rattle.trace.specs.Stage.{Stage, Start, LineFails, CanOpen, OpenFails, Acts}
 use Rattle.trace.specs.Runs.{Runs}
-use Rattle.trace.specs.Turns.{Scene, Advances, IsOver, Fails, read_fails, too_long, no_memory, refused, unwritten}
+use Rattle.trace.specs.Turns.{Scene, Advances, IsOver, Fails, read_fails, unsent, too_long, no_memory, refused, unwritten}
 use Rattle.trace.specs.Ends.{Front, AreRead, Stops, reading, unmade, wanting, overlong, refusing, unopened, writing, Ends}
 
 -- the line is before its newline
@@ -192,33 +192,50 @@ long_known rest None e b = absurd (cc)
 long_known rest (Some xs) e b = let same : xs ≡ rest = cc in long_first 256 rest (subst (λ x. 256 < length x) same b.0) (subst (λ x. IsUnbroken (take 257 x)) same b.1)
 
 -- what is held and what is unread is what is left
-all_read : (input whole rest held : List ℕ) (done : List (List ℕ)) (old new unread : Option (List ℕ)) → IsTaken input whole rest done → old ≡ Some rest → IsUnbroken held → new ≡ prepend_known held unread → Keeps old new → AreRead input unread done
-all_read input whole rest held done None new unread t e u l m = absurd (cc)
-all_read input whole rest held done (Some xs) None unread t e u l m = absurd m
-all_read input whole rest held done (Some xs) (Some ys) None t e u l m = absurd (cc)
-all_read input whole rest held done (Some xs) (Some ys) (Some zs) t e u l m =
-    let same : xs ≡ rest = cc in
-    let parts : ys ≡ held ++ zs = cc in
-    record {
-      whole = whole;
-      held = held;
-      rest = zs;
-      bytes = t.bytes ∙ ap (λ l. whole ++ l) (sym same ∙ sym m ∙ parts) ∙ sym (append_assoc whole held zs);
-      lines = t.lines;
-      unbroken = u;
-      reader = refl;
-    }
+known_read : (input whole rest held : List ℕ) (done : List (List ℕ)) (left unread : Option (List ℕ)) → IsTaken input whole rest done
+    → left ≡ Some rest → length held ≤ 65536 → left ≡ prepend_known held unread → (r : AreRead input unread done) × (r.held ≡ held)
+known_read input whole rest held done left None t e few l = absurd (cc)
+known_read input whole rest held done left (Some zs) t e few l =
+    let parts : rest ≡ held ++ zs = cc in (
+      record {
+        whole = whole;
+        held = held;
+        rest = zs;
+        bytes = t.bytes ∙ ap (λ l. whole ++ l) parts ∙ sym (append_assoc whole held zs);
+        lines = t.lines;
+        few = few;
+        reader = refl;
+      },
+      refl,
+    )
+
+kept_known : (rest : List ℕ) (old new : Option (List ℕ)) → old ≡ Some rest → Keeps old new → new ≡ Some rest
+kept_known rest None new e k = absurd (cc)
+kept_known rest (Some xs) None e k = absurd k
+kept_known rest (Some xs) (Some ys) e k = cc
+
+take_all_of : (xs : List ℕ) → take (length xs) xs ≡ xs
+take_all_of xs = grind (arith, common_steps)
+
+-- the whole is a front
+whole_front : (a b : Option (List ℕ)) (xs : List ℕ) → Appends a b xs → AppendsFront a b xs
+whole_front a b xs p = (length xs, omega arith, subst (Appends a b) (sym (take_all_of xs)) p)
 
 pub run_fails : (input : List ℕ) (old : Option (List ℕ)) (now next : Scene) (number : ℕ) (f : TraceFault) → HasRun input old now number → Fails now next number f → Stops input next.unread old next.written f
 unfolding front_of
 run_fails input old now next number f h (read_fails e held u l m k) =
-    reading e (front_of input old now number h) (all_read input h.whole h.rest held h.done now.left next.left next.unread h.taken h.left u l m) (Appends-kept _ _ _ _ h.appends k)
+    let (r, same) = known_read input h.whole h.rest held h.done next.left next.unread h.taken (kept_known h.rest now.left next.left h.left m) l.0 l.1 in
+    reading e (front_of input old now number h) r (subst IsUnbroken (sym same) u) (Appends-kept _ _ _ _ h.appends k)
+run_fails input old now next number f h (unsent e k) =
+    writing e (front_of input old now number h) (whole_front _ _ _ (Appends-kept _ _ _ _ h.appends k))
 run_fails input old now next number f h (too_long e b k) =
     let l = long_known h.rest now.left h.left b in
     overlong (front_of input old now number h) l.line l.others l.lines l.long (e ∙ ap (λ n. TooLong (n + 1)) h.count) (Appends-kept _ _ _ _ h.appends k)
-run_fails input old now next number f h (no_memory e line short u t w k) =
+run_fails input old now next number f h (no_memory e line held short u t l w k) =
     let (ys, left, first) = takes_known h.rest line now.left next.left h.left t in
-    wanting e (front_of input old now number h) line (lines_of ys) (lines-first h.rest line ys u first) w (Appends-kept _ _ _ _ h.appends k)
+    let (whole, taken) = taken_more input h.whole h.rest line ys h.done h.taken u first in
+    let (r, same) = known_read input whole ys held (h.done ++ line ∷ []) next.left next.unread taken left l.0 l.1 in
+    wanting e (front_of input old now number h) line (lines_of ys) (lines-first h.rest line ys u first) r w (Appends-kept _ _ _ _ h.appends k)
 run_fails input old now next number f h (refused line short u t b k) =
     let (ys, left, first) = takes_known h.rest line now.left next.left h.left t in
     refusing (front_of input old now number h) line (lines_of ys) (lines-first h.rest line ys u first) short (subst (λ n. LineFails now.stage (n + 1) line f) h.count b) (Appends-kept _ _ _ _ h.appends k)
@@ -272,25 +289,19 @@ pub some_ends : {T : Type 0} (o wo : Option (List ℕ)) (now next : Scene) (n : 
 some_ends None wo now next n r h v o e = tt
 some_ends (Some input) wo now next n r h v o e = run_ends input wo now next n r h v o e
 
-take_all_of : (xs : List ℕ) → take (length xs) xs ≡ xs
-take_all_of xs = grind (arith, common_steps)
-
 -- no line was acted on
-pub none_ran : (o unread wo : Option (List ℕ)) → IfSome o (λ input. Stops input unread wo wo NoMemory)
-none_ran None unread wo = tt
-none_ran (Some input) unread wo = unmade refl (Appends-nil wo)
-
-whole_front : (a b : Option (List ℕ)) (xs : List ℕ) → Appends a b xs → AppendsFront a b xs
-whole_front a b xs p = (length xs, omega arith, subst (Appends a b) (sym (take_all_of xs)) p)
+pub none_ran : (o wo : Option (List ℕ)) → IfSome o (λ input. Stops input o wo wo NoMemory)
+none_ran None wo = tt
+none_ran (Some input) wo = unmade refl refl (Appends-nil wo)
 
 front_kept : (a b c : Option (List ℕ)) (xs : List ℕ) → AppendsFront a b xs → Keeps b c → AppendsFront a c xs
 front_kept a b c xs p k = (p.0, p.1, Appends-kept a b c (take p.0 xs) p.2 k)
 
 -- a flush keeps what was written
 stops_kept : (input : List ℕ) (unread a b c : Option (List ℕ)) (f : TraceFault) → Stops input unread a b f → Keeps b c → Stops input unread a c f
-stops_kept input unread a b c f (reading e p r w) k = reading e p r (Appends-kept _ _ _ _ w k)
-stops_kept input unread a b c f (unmade e w) k = unmade e (Appends-kept _ _ _ _ w k)
-stops_kept input unread a b c f (wanting e p line others m n w) k = wanting e p line others m n (Appends-kept _ _ _ _ w k)
+stops_kept input unread a b c f (reading e p r u w) k = reading e p r u (Appends-kept _ _ _ _ w k)
+stops_kept input unread a b c f (unmade e u w) k = unmade e u (Appends-kept _ _ _ _ w k)
+stops_kept input unread a b c f (wanting e p line others m r n w) k = wanting e p line others m r n (Appends-kept _ _ _ _ w k)
 stops_kept input unread a b c f (overlong p line others e l q w) k = overlong p line others e l q (Appends-kept _ _ _ _ w k)
 stops_kept input unread a b c f (refusing p line others e q l w) k = refusing p line others e q l (Appends-kept _ _ _ _ w k)
 stops_kept input unread a b c f (unopened p e q w) k = unopened p e q (Appends-kept _ _ _ _ w k)
@@ -305,9 +316,9 @@ nothing_run input = record { done = []; more = lines_of input; stage = Start; te
 
 stops_lost : (input : List ℕ) (unread a b : Option (List ℕ)) (f : TraceFault) → Stops input unread a b f → Stops input unread a b WriteFailed
 unfolding nothing_run
-stops_lost input unread a b f (reading e p r w) = writing refl p (whole_front _ _ _ w)
-stops_lost input unread a b f (unmade e w) = writing refl (nothing_run input) (whole_front _ _ _ w)
-stops_lost input unread a b f (wanting e p line others m n w) = writing refl p (whole_front _ _ _ w)
+stops_lost input unread a b f (reading e p r u w) = writing refl p (whole_front _ _ _ w)
+stops_lost input unread a b f (unmade e u w) = writing refl (nothing_run input) (whole_front _ _ _ w)
+stops_lost input unread a b f (wanting e p line others m r n w) = writing refl p (whole_front _ _ _ w)
 stops_lost input unread a b f (overlong p line others e l q w) = writing refl p (whole_front _ _ _ w)
 stops_lost input unread a b f (refusing p line others e q l w) = writing refl p (whole_front _ _ _ w)
 stops_lost input unread a b f (unopened p e q w) = writing refl p (whole_front _ _ _ w)
@@ -325,3 +336,13 @@ some_kept (Some input) unread a b c r h k = ends_kept input unread a b c r h k
 pub some_lost : {T : Type 0} (o unread a b c : Option (List ℕ)) (r : Result T TraceFault) → IfSome o (λ input. Ends input unread a b r) → Keeps b c → IfSome o (λ input. Stops input unread a c WriteFailed)
 some_lost None unread a b c r h k = tt
 some_lost (Some input) unread a b c r h k = stops_kept input unread a b c WriteFailed (ends_lost input unread a b r h) k
+
+-- what isn't `write failed` leaves the writer's mark as it was
+pub mark_kept : {T : Type 0} (r : Result T TraceFault) (x : T) (a b : Bool) → r ≡ Ok x → (r ≡ Err WriteFailed) ⊎ (b ≡ a) → b ≡ a
+mark_kept r x a b e (inl w) = let clash : Ok x ≡ Err WriteFailed = sym e ∙ w in absurd (cc)
+mark_kept r x a b e (inr k) = k
+
+pub fault_kept : {T U : Type 0} (r : Result T TraceFault) (s : Result U TraceFault) (f : TraceFault) (a b c : Bool) → r ≡ Err f → s ≡ Err f
+    → (r ≡ Err WriteFailed) ⊎ (c ≡ b) → b ≡ a → (s ≡ Err WriteFailed) ⊎ (c ≡ a)
+fault_kept r s f a b c e d (inl w) k = let same : f ≡ WriteFailed = cc in inl (d ∙ ap Err same)
+fault_kept r s f a b c e d (inr l) k = inr (l ∙ k)

@@ -1,6 +1,6 @@
 -- Whose fault a fault is, and what a line comes to in a turn.
-use Rattle.std.proofs.Common.{◌≡◌, ℕ, ◌+◌, ◌≤◌, Bool, true, false, cond, List, Option, None, Some, ◌⊎◌, inl, inr, refl, sym, ap, ◌∙◌, subst, length}
-use Rattle.std.specs.Io.KnownBytes.{Keeps}
+use Rattle.std.proofs.Common.{◌≡◌, ℕ, ◌+◌, ◌≤◌, Bool, true, false, cond, List, ◌++◌, Option, None, Some, ◌⊎◌, inl, inr, refl, sym, ap, ◌∙◌, subst, length}
+use Rattle.std.specs.Io.KnownBytes.{Keeps, Appends}
 use Rattle.trace_io.specs.Sink.{AppendsFront}
 use Rattle.trace_io.specs.Lines.{IsUnbroken, TakesLine}
 use Rattle.trace_text.specs.Words.{words_of}
@@ -12,7 +12,7 @@ use Rattle.core_steps.specs.Setups.{fault_of}
 use Rattle.trace.specs.declared.fault.TraceFault.{TraceFault}
 use Rattle.trace.specs.declared.fault.TraceFault.TheVariants.{BadLine, TooLong, ReadFailed, NoVmLine, NoMemory, Setup, WriteFailed}
 use Rattle.trace.specs.Stage.{Stage, Start, Declared, Running, SetupFails, OpenFails, LineWants, BadFails, SpaceFails, SaidFails, BytesFail, LineFails, Acts}
-use Rattle.trace.specs.Turns.{Scene, Fails, no_memory, refused, unwritten}
+use Rattle.trace.specs.Turns.{Scene, IsHeld, Fails, no_memory, refused, unwritten}
 
 -- neither the reader's fault nor the writer's
 pub is_own : TraceFault → Bool
@@ -89,13 +89,25 @@ unfolding is_own
 end_not_write s f h e = let clash : false ≡ true = sym (ap is_own e) ∙ own_open s f h in cc
 
 -- a line that wasn't acted on fails the turn
-pub act_fails : (old new : Scene) (n : ℕ) (line seen : List ℕ) (f : TraceFault) → Keeps old.written new.written → length line ≤ 256 → IsUnbroken line → TakesLine old.left new.left line → seen ≡ line
+pub act_fails : (old new : Scene) (n : ℕ) (line held seen : List ℕ) (f : TraceFault) → Keeps old.written new.written → length line ≤ 256
+    → IsUnbroken line → TakesLine old.left new.left line → IsHeld held new → seen ≡ line
     → ((f ≡ NoMemory) × LineWants old.stage seen) ⊎ LineFails old.stage (n + 1) seen f → Fails old new n f
-act_fails old new n line seen f keeps short unbroken takes same (inl e) = no_memory e.0 line short unbroken takes (subst (LineWants old.stage) same e.1) keeps
-act_fails old new n line seen f keeps short unbroken takes same (inr h) = refused line short unbroken takes (subst (λ l. LineFails old.stage (n + 1) l f) same h) keeps
+act_fails old new n line held seen f keeps short unbroken takes holds same (inl e) =
+    no_memory e.0 line held short unbroken takes holds (subst (LineWants old.stage) same e.1) keeps
+act_fails old new n line held seen f keeps short unbroken takes holds same (inr h) =
+    refused line short unbroken takes (subst (λ l. LineFails old.stage (n + 1) l f) same h) keeps
+
+appends_after : (a b c : Option (List ℕ)) (xs : List ℕ) → Keeps a b → Appends b c xs → Appends a c xs
+appends_after None b c xs k p = tt
+appends_after (Some x) None c xs k p = absurd k
+appends_after (Some x) (Some y) None xs k p = absurd p
+appends_after (Some x) (Some y) (Some z) xs k p = p ∙ ap (λ l. l ++ xs) k
 
 -- a line whose text wasn't written whole fails the turn
-pub text_lost : (old new : Scene) (n : ℕ) (line seen text shown : List ℕ) → length line ≤ 256 → IsUnbroken line → TakesLine old.left new.left line → seen ≡ line → Acts old.stage seen new.stage text
-    → shown ≡ text → AppendsFront old.written new.written shown → Fails old new n WriteFailed
-text_lost old new n line seen text shown short unbroken takes same acts whole front =
-    unwritten refl line text short unbroken takes (subst (λ l. Acts old.stage l new.stage text) same acts) (subst (AppendsFront old.written new.written) whole front)
+pub text_lost : (old new : Scene) (mid : Option (List ℕ)) (n : ℕ) (line seen text shown : List ℕ) → length line ≤ 256 → IsUnbroken line
+    → TakesLine old.left new.left line → seen ≡ line → Acts old.stage seen new.stage text → shown ≡ text
+    → Keeps old.written mid → AppendsFront mid new.written shown → Fails old new n WriteFailed
+text_lost old new mid n line seen text shown short unbroken takes same acts whole keeps front =
+    let from : AppendsFront old.written new.written shown = (front.0, front.1, appends_after _ _ _ _ keeps front.2) in
+    unwritten refl line text short unbroken takes (subst (λ l. Acts old.stage l new.stage text) same acts)
+    (subst (AppendsFront old.written new.written) whole from)

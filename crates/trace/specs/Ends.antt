@@ -1,8 +1,9 @@
 -- How a replay of a whole text ends.
-use Rattle.std.specs.Prelude.{◌≡◌, ℕ, ◌+◌, ◌<◌, ◌≤◌, List, [], ◌∷◌, ◌++◌, Option, Some, Result, Ok, Err, length}
+use Rattle.std.specs.Prelude.{◌≡◌, ℕ, ◌+◌, ◌<◌, ◌≤◌, ◌⊎◌, Bool, true, List, [], ◌∷◌, ◌++◌, Option, Some, Result, Ok, Err, length}
 use Rattle.std.specs.Io.KnownBytes.{Appends}
 use Rattle.trace_io.specs.Lines.{lines_of, IsUnbroken}
 use Rattle.trace_io.specs.Sink.{AppendsFront}
+use Rattle.trace_io.specs.Source.{HasStopped}
 use Rattle.trace.specs.declared.fault.TraceFault.{TraceFault}
 use Rattle.trace.specs.declared.fault.TraceFault.TheVariants.{TooLong, ReadFailed, NoMemory, WriteFailed}
 use Rattle.trace.specs.Stage.{Stage, Start, LineFails, LineWants, CanOpen, OpenFails}
@@ -25,24 +26,29 @@ pub record Front (input : List ℕ) : Type 0 where
   pub lines : lines_of input ≡ done ++ more
   pub runs : Runs Start done stage text
 
--- these are all lines that were read whole: what was read behind them, up to what the reader has not given, has no newline
+-- these lines were read, and behind them what the reader has given besides, at most a chunk of 65,536 bytes
 pub record AreRead (input : List ℕ) (unread : Option (List ℕ)) (done : List (List ℕ)) : Type 0 where
   pub whole : List ℕ
   pub held : List ℕ
   pub rest : List ℕ
   pub bytes : input ≡ whole ++ held ++ rest
   pub lines : lines_of whole ≡ done
-  pub unbroken : IsUnbroken held
+  pub few : length held ≤ 65536
   pub reader : unread ≡ Some rest
 
--- After a fault the text of the lines before it has gone out, and after a failed write a front of the text. Memory may be wanting before the
--- first line (unmade), and where a step of the machine was refused.
+-- After a fault the text of the lines before it has gone out, and after a failed write a front of the text. After a failed read
+-- no newline is among what was read behind those lines. Memory may be wanting before anything is read (unmade), and where a step
+-- of the machine was refused; then no more than its line was read.
 pub data Stops (input : List ℕ) (unread old new : Option (List ℕ)) (f : TraceFault) : Type 0 where
-  reading : f ≡ ReadFailed → (p : Front input) → AreRead input unread p.done → Appends old new p.text → Stops input unread old new f
-  unmade : f ≡ NoMemory → Appends old new [] → Stops input unread old new f
-  wanting : f ≡ NoMemory → (p : Front input) (line : List ℕ) (others : List (List ℕ)) → p.more ≡ line ∷ others → LineWants p.stage line → Appends old new p.text → Stops input unread old new f
-  overlong : (p : Front input) (line : List ℕ) (others : List (List ℕ)) → p.more ≡ line ∷ others → 256 < length line → f ≡ TooLong (length p.done + 1) → Appends old new p.text → Stops input unread old new f
-  refusing : (p : Front input) (line : List ℕ) (others : List (List ℕ)) → p.more ≡ line ∷ others → length line ≤ 256 → LineFails p.stage (length p.done + 1) line f → Appends old new p.text → Stops input unread old new f
+  reading : f ≡ ReadFailed → (p : Front input) (r : AreRead input unread p.done) → IsUnbroken r.held
+      → Appends old new p.text → Stops input unread old new f
+  unmade : f ≡ NoMemory → unread ≡ Some input → Appends old new [] → Stops input unread old new f
+  wanting : f ≡ NoMemory → (p : Front input) (line : List ℕ) (others : List (List ℕ)) → p.more ≡ line ∷ others
+      → AreRead input unread (p.done ++ line ∷ []) → LineWants p.stage line → Appends old new p.text → Stops input unread old new f
+  overlong : (p : Front input) (line : List ℕ) (others : List (List ℕ)) → p.more ≡ line ∷ others → 256 < length line
+      → f ≡ TooLong (length p.done + 1) → Appends old new p.text → Stops input unread old new f
+  refusing : (p : Front input) (line : List ℕ) (others : List (List ℕ)) → p.more ≡ line ∷ others → length line ≤ 256
+      → LineFails p.stage (length p.done + 1) line f → Appends old new p.text → Stops input unread old new f
   unopened : (p : Front input) → p.more ≡ [] → OpenFails p.stage f → Appends old new p.text → Stops input unread old new f
   writing : f ≡ WriteFailed → (p : Front input) → AppendsFront old new p.text → Stops input unread old new f
 
@@ -50,3 +56,10 @@ pub data Stops (input : List ℕ) (unread old new : Option (List ℕ)) (f : Trac
 abbrev pub Ends : {T : Type 0} → List ℕ → Option (List ℕ) → Option (List ℕ) → Option (List ℕ) → Result T TraceFault → Type 0
 Ends input unread old new (Ok x) = Completes input old new
 Ends input unread old new (Err f) = Stops input unread old new f
+
+-- `read failed` is told only of a read that failed or was one too many, and `write failed` only where a write or a flush failed; where
+-- it isn't told, none failed, and all that was written has gone out.
+pub record TellsFaults {T : Type 0} (r : Result T TraceFault) (read_failed : Bool) (reads : ℕ) (before failed is_flushed : Bool) : Type 0 where
+  pub read : r ≡ Err ReadFailed → HasStopped read_failed reads
+  pub write : r ≡ Err WriteFailed → failed ≡ true
+  pub out : (r ≡ Err WriteFailed) ⊎ ((failed ≡ before) × (is_flushed ≡ true))

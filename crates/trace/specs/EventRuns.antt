@@ -6,7 +6,7 @@ use Rattle.machine_model.specs.declared.event.Event.{Event}
 use Rattle.machine_model.specs.declared.event.Event.TheVariants as Ev
 use Rattle.machine_model.specs.declared.event.Outcome.{Outcome}
 use Rattle.machine_model.specs.declared.event.Outcome.TheVariants.{Stepped}
-use Rattle.machine_model.specs.World.{World, opening}
+use Rattle.machine_model.specs.World.{World, new_world}
 use Rattle.machine_model.specs.Step.{Run}
 use Rattle.machine_laws.specs.Brackets.{IsBracketed}
 use Rattle.machine_sound.specs.Sound.{SoundRun}
@@ -86,8 +86,8 @@ pub record IsRun (lines : List (List ℕ)) (text : List ℕ) (w : World) : Type 
   pub events : List Event
   pub outcomes : List Outcome
   pub asks : AllAsk lines events outcomes text
-  pub run : Run (opening (made_of setup) slots) events outcomes w
-  pub sound : SoundRun (opening (made_of setup) slots) events outcomes w
+  pub run : Run (new_world (made_of setup) slots) events outcomes w
+  pub sound : SoundRun (new_world (made_of setup) slots) events outcomes w
   pub brackets : IsBracketed events outcomes w
 
 -- lines that are acted on from the start, up to a machine

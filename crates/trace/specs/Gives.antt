@@ -8,7 +8,7 @@ use Rattle.machine_model.specs.World.{World}
 use Rattle.machine_model.specs.Step.{Step}
 use Rattle.core_steps.specs.declared.machine.Finished.{Finished}
 use Rattle.core_steps.specs.Finishing.{Finishes, IsRefused}
-use Rattle.core_steps.specs.Wanting.{MayWant}
+use Rattle.core_steps.specs.Moving.{MayWant}
 use Rattle.trace_text.specs.declared.line.Line.{Line}
 use Rattle.trace_text.specs.declared.line.Line.TheVariants.{Blank, Space, Call, Go, Finish, Now}
 use Rattle.trace.specs.OutcomeText.{outcome_text, finished_text}

@@ -69,4 +69,4 @@ AreFinished (line ∷ lines) = (leaves_open (line_of line) ≡ false) × AreFini
 -- The text of such lines is that of the plain page map, line for line, while the machine can count its events.
 abbrev pub AllFinishedTracesArePlain : Type 0
 AllFinishedTracesArePlain = (lines : List (List ℕ)) (text : List ℕ) (w : World) → AreFinished lines → Runs Start lines (Running w) text
-    → w.events < event_limit → AllAnswer nothing_reached lines text
+    → w.calls.events < event_limit → AllAnswer nothing_reached lines text

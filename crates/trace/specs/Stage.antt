@@ -1,7 +1,7 @@
 -- How far a trace has come, and what one line does to it.
 use Rattle.std.specs.Prelude.{◌≡◌, ℕ, ◌⊎◌, List, [], Bool, true, false, Option, None, Some, if◌then◌else◌, IsSomeAnd, ⊤}
 use Rattle.slot_lock.specs.Slots.{Slots, IsNew}
-use Rattle.machine_model.specs.World.{World, opening}
+use Rattle.machine_model.specs.World.{World, new_world}
 use Rattle.core_steps.specs.declared.setup.Setup.{Setup}
 use Rattle.core_steps.specs.declared.setup.SetupFault.{SetupFault}
 use Rattle.core_steps.specs.declared.setup.SetupFault.TheVariants as Of
@@ -29,7 +29,7 @@ stage_of None None = Start
 -- the machine that an event's line finds: one of new slots, if there was none before
 abbrev pub Opens : Stage → World → Type 0
 Opens Start w = ⊥
-Opens (Declared s) w = (fault_of s ≡ None) × ((slots : Slots) × IsNew slots × (w ≡ opening (made_of s) slots))
+Opens (Declared s) w = (fault_of s ≡ None) × ((slots : Slots) × IsNew slots × (w ≡ new_world (made_of s) slots))
 Opens (Running v) w = w ≡ v
 
 -- a machine can be made, or is there

@@ -30,13 +30,22 @@ pub record IsOver (old new : Scene) : Type 0 where
   pub stage : new.stage ≡ old.stage
   pub written : Keeps old.written new.written
 
+-- so much of what is left was read and not taken yet, at most a chunk of 65,536 bytes
+abbrev pub IsHeld : List ℕ → Scene → Type 0
+IsHeld held s = (length held ≤ 65536) × (s.left ≡ prepend_known held s.unread)
+
 -- line number + 1 was not acted on, for this fault
 pub data Fails (old new : Scene) (number : ℕ) (f : TraceFault) : Type 0 where
-  read_fails : f ≡ ReadFailed → (held : List ℕ) → IsUnbroken held → new.left ≡ prepend_known held new.unread → Keeps old.left new.left → Keeps old.written new.written → Fails old new number f
+  read_fails : f ≡ ReadFailed → (held : List ℕ) → IsUnbroken held → IsHeld held new
+      → Keeps old.left new.left → Keeps old.written new.written → Fails old new number f
+  unsent : f ≡ WriteFailed → Keeps old.written new.written → Fails old new number f
   too_long : f ≡ TooLong (number + 1) → BeginsTooLong old.left → Keeps old.written new.written → Fails old new number f
-  no_memory : f ≡ NoMemory → (line : List ℕ) → length line ≤ 256 → IsUnbroken line → TakesLine old.left new.left line → LineWants old.stage line → Keeps old.written new.written → Fails old new number f
-  refused : (line : List ℕ) → length line ≤ 256 → IsUnbroken line → TakesLine old.left new.left line → LineFails old.stage (number + 1) line f → Keeps old.written new.written → Fails old new number f
-  unwritten : f ≡ WriteFailed → (line text : List ℕ) → length line ≤ 256 → IsUnbroken line → TakesLine old.left new.left line → Acts old.stage line new.stage text → AppendsFront old.written new.written text → Fails old new number f
+  no_memory : f ≡ NoMemory → (line held : List ℕ) → length line ≤ 256 → IsUnbroken line → TakesLine old.left new.left line
+      → IsHeld held new → LineWants old.stage line → Keeps old.written new.written → Fails old new number f
+  refused : (line : List ℕ) → length line ≤ 256 → IsUnbroken line → TakesLine old.left new.left line
+      → LineFails old.stage (number + 1) line f → Keeps old.written new.written → Fails old new number f
+  unwritten : f ≡ WriteFailed → (line text : List ℕ) → length line ≤ 256 → IsUnbroken line → TakesLine old.left new.left line
+      → Acts old.stage line new.stage text → AppendsFront old.written new.written text → Fails old new number f
 
 abbrev pub Turns : Scene → Scene → ℕ → Result Bool TraceFault → Type 0
 Turns old new number (Ok true) = Advances old new

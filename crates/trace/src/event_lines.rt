@@ -1,12 +1,12 @@
 //! Lines of events: each moves the machine, and its text tells the outcome.
 ghost use Rattle.std.specs.Prelude.{◌≡◌, ◌⊎◌, IfErr, OnErr, OnOk, IsSomeAnd, true, false};
-ghost use Rattle.core_steps.specs.Wanting.{MayWant};
+ghost use Rattle.core_steps.specs.Machine.{state};
+ghost use Rattle.core_steps.specs.Moving.{MayWant};
 ghost use Rattle.trace.specs.Gives.{Gives, Wants, WantsFinish, is_event, TellsFinish, TellsStep};
 
 use crate::fault::TraceFault;
 use crate::outcome_text::{LineText, write_finished, write_outcome};
 use core_steps::Machine;
-use core_steps::engine::Modelled;
 use machine_model::{Event, Outcome};
 use slot_lock::RunList;
 use std::alloc::Allocator;
@@ -19,8 +19,8 @@ fn tell_step<A: Allocator + Clone + Drop>(
     event: Event,
     text: &mut LineText,
 ) -> Result<(), NoMemory>
-    ensures ok { OnOk result (TellsStep (⟦<Machine<RunList<A>, A> as Modelled>⟧.world machine.old) event (⟦<Machine<RunList<A>, A> as Modelled>⟧.world machine.new) text.new.bytes) }
-    ensures err { OnErr result (MayWant (⟦<Machine<RunList<A>, A> as Modelled>⟧.world machine.old) event) }
+    ensures ok { OnOk result (TellsStep (state machine.old) event (state machine.new) text.new.bytes) }
+    ensures err { OnErr result (MayWant (state machine.old) event) }
 {
     let outcome = machine.step(event)?;
     write_outcome(text, outcome);
@@ -33,8 +33,8 @@ fn tell_finish<A: Allocator + Clone + Drop>(
     core: CoreId,
     text: &mut LineText,
 ) -> Result<(), NoMemory>
-    ensures ok { OnOk result (TellsFinish (⟦<Machine<RunList<A>, A> as Modelled>⟧.world machine.old) core (⟦<Machine<RunList<A>, A> as Modelled>⟧.world machine.new) text.new.bytes) }
-    ensures err { OnErr result (WantsFinish (⟦<Machine<RunList<A>, A> as Modelled>⟧.world machine.old) core) }
+    ensures ok { OnOk result (TellsFinish (state machine.old) core (state machine.new) text.new.bytes) }
+    ensures err { OnErr result (WantsFinish (state machine.old) core) }
 {
     let finished = machine.finish(core)?;
     write_finished(text, finished);
@@ -48,8 +48,8 @@ fn tell_call<A: Allocator + Clone + Drop>(
     request: Request,
     text: &mut LineText,
 ) -> Result<(), NoMemory>
-    ensures ok { OnOk result (Gives (⟦<Machine<RunList<A>, A> as Modelled>⟧.world machine.old) (Line.Now core request) (⟦<Machine<RunList<A>, A> as Modelled>⟧.world machine.new) text.new.bytes) }
-    ensures err { OnErr result (Wants (⟦<Machine<RunList<A>, A> as Modelled>⟧.world machine.old) (Line.Now core request)) }
+    ensures ok { OnOk result (Gives (state machine.old) (Line.Now core request) (state machine.new) text.new.bytes) }
+    ensures err { OnErr result (Wants (state machine.old) (Line.Now core request)) }
 {
     match machine.step(Event::Call(core, request))? {
         Outcome::Stepped => tell_finish(machine, core, text),
@@ -68,8 +68,8 @@ pub fn run_line<A: Allocator + Clone + Drop>(
     number: u64,
     text: &mut LineText,
 ) -> Result<(), TraceFault>
-    ensures ok { OnOk result (IsSomeAnd line (λ l. Gives (⟦<Machine<RunList<A>, A> as Modelled>⟧.world machine.old) l (⟦<Machine<RunList<A>, A> as Modelled>⟧.world machine.new) text.new.bytes)) }
-    ensures err { IfErr result (λ f. ((f ≡ TraceFault.NoMemory) × IsSomeAnd line (λ l. Wants (⟦<Machine<RunList<A>, A> as Modelled>⟧.world machine.old) l)) ⊎ ((is_event line ≡ false) × (f ≡ TraceFault.BadLine number))) }
+    ensures ok { OnOk result (IsSomeAnd line (λ l. Gives (state machine.old) l (state machine.new) text.new.bytes)) }
+    ensures err { IfErr result (λ f. ((f ≡ TraceFault.NoMemory) × IsSomeAnd line (λ l. Wants (state machine.old) l)) ⊎ ((is_event line ≡ false) × (f ≡ TraceFault.BadLine number))) }
 {
     let Some(line) = line else {
         return Err(TraceFault::BadLine(number));

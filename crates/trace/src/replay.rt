@@ -1,17 +1,17 @@
 //! The lines of a trace, acted on one by one.
-ghost use Rattle.std.specs.Prelude.{◌≡◌, ◌+◌, ◌^◌, ◌<◌, Err, IfOk, IfSome, true};
+ghost use Rattle.std.specs.Prelude.{◌≡◌, ◌+◌, ◌^◌, ◌<◌, ◌⊎◌, Err, IfOk, IfSome, true};
 ghost use Rattle.trace_io.specs.Source.{HasStopped};
 ghost use Rattle.trace_io.specs.Window.{left, budget, opening};
 ghost use Rattle.trace.specs.declared.fault.TraceFault.TheVariants.{ReadFailed, WriteFailed};
 ghost use Rattle.trace.specs.Turns.{Turns, Scene};
 ghost use Rattle.trace.specs.Stage.{Start};
-ghost use Rattle.trace.specs.Ends.{Ends};
+ghost use Rattle.trace.specs.Ends.{Ends, TellsFaults};
 
 use crate::fault::TraceFault;
 use crate::outcome_text::LineText;
 use crate::replayer::{Replayer, Staged};
 use std::alloc::Allocator;
-use trace_io::lines::{Found, LineReader};
+use trace_io::lines::{Found, LineReader, NoLine};
 use trace_io::sink::{Sink, write_all};
 use trace_io::source::Source;
 
@@ -26,15 +26,28 @@ fn turn<A: Allocator, S: Source, W: Sink, R: Staged>(
 ) -> Result<bool, TraceFault>
     requires { number + 1 < 2 ^ 64 }
     ensures turns { Turns
-        (record { left = left (S.remaining reader.old) lines.old; unread = S.remaining reader.old; stage = R.stage replayer.old; written = W.contents writer.old })
-        (record { left = left (S.remaining reader.new) lines.new; unread = S.remaining reader.new; stage = R.stage replayer.new; written = W.contents writer.new })
+        (record {
+          left = left (S.remaining reader.old) lines.old;
+          unread = S.remaining reader.old;
+          stage = R.stage replayer.old;
+          written = W.contents writer.old;
+        })
+        (record {
+          left = left (S.remaining reader.new) lines.new;
+          unread = S.remaining reader.new;
+          stage = R.stage replayer.new;
+          written = W.contents writer.new;
+        })
         number result }
-    ensures budget { IfOk result (λ more. more ≡ true → budget (S.reads reader.new) lines.new < budget (S.reads reader.old) lines.old) }
+    ensures budget { IfOk result (λ more. more ≡ true
+        → budget (S.reads reader.new) lines.new < budget (S.reads reader.old) lines.old) }
     ensures read { result ≡ Err ReadFailed → HasStopped (S.failed reader.new) (S.reads reader.new) }
     ensures write { result ≡ Err WriteFailed → W.failed writer.new ≡ true }
+    ensures kept { (result ≡ Err WriteFailed) ⊎ (W.failed writer.new ≡ W.failed writer.old) }
 {
-    match lines.next_line(reader) {
-        Err(_) => Err(TraceFault::ReadFailed),
+    match lines.next_line(reader, writer) {
+        Err(NoLine::ReadFailed) => Err(TraceFault::ReadFailed),
+        Err(NoLine::WriteFailed) => Err(TraceFault::WriteFailed),
         Ok(Found::End) => Ok(false),
         Ok(Found::TooLong) => Err(TraceFault::TooLong(number + 1)),
         Ok(Found::Line) => {
@@ -63,6 +76,7 @@ fn replay_lines<A: Allocator, S: Source, W: Sink, R: Staged>(
         Ends input (S.remaining reader.new) (W.contents writer.old) (W.contents writer.new) result) }
     ensures read { result ≡ Err ReadFailed → HasStopped (S.failed reader.new) (S.reads reader.new) }
     ensures write { result ≡ Err WriteFailed → W.failed writer.new ≡ true }
+    ensures kept { (result ≡ Err WriteFailed) ⊎ (W.failed writer.new ≡ W.failed writer.old) }
 {
     let mut number = 0u64;
     'lines: loop {
@@ -74,17 +88,17 @@ fn replay_lines<A: Allocator, S: Source, W: Sink, R: Staged>(
     }
 }
 
-/// Acts on each line as it is read, and writes its text before the next line is acted on.
-pub fn replay<A: Allocator + Clone + Drop, S: Source, W: Sink>(
+// Acts on all lines. Memory for a chunk of lines is taken before anything is read.
+fn replay_text<A: Allocator + Clone + Drop, S: Source, W: Sink>(
     alloc: A,
     reader: &mut S,
     writer: &mut W,
 ) -> Result<(), TraceFault>
-    // What went out, and which fault it is, where the reader tells its bytes.
     ensures ends { IfSome (S.remaining reader.old) (λ input.
         Ends input (S.remaining reader.new) (W.contents writer.old) (W.contents writer.new) result) }
     ensures read { result ≡ Err ReadFailed → HasStopped (S.failed reader.new) (S.reads reader.new) }
     ensures write { result ≡ Err WriteFailed → W.failed writer.new ≡ true }
+    ensures kept { (result ≡ Err WriteFailed) ⊎ (W.failed writer.new ≡ W.failed writer.old) }
 {
     let Ok(for_lines) = alloc.clone() else {
         return Err(TraceFault::NoMemory);
@@ -94,7 +108,24 @@ pub fn replay<A: Allocator + Clone + Drop, S: Source, W: Sink>(
     };
     let mut replayer = Replayer::new(alloc);
     let mut text = LineText::new();
-    let done = replay_lines(&mut lines, reader, writer, &mut replayer, &mut text);
+    replay_lines(&mut lines, reader, writer, &mut replayer, &mut text)
+}
+
+/// Acts on each line as it is read, and writes its text before the next line is acted on. The text goes out before each read that
+/// a line has to wait for, and at the end, after a fault too. A write or a flush that fails ends the replay, and is told even where
+/// another fault came first.
+pub fn replay<A: Allocator + Clone + Drop, S: Source, W: Sink>(
+    alloc: A,
+    reader: &mut S,
+    writer: &mut W,
+) -> Result<(), TraceFault>
+    // What went out, and which fault it is, where the reader tells its bytes.
+    ensures ends { IfSome (S.remaining reader.old) (λ input.
+        Ends input (S.remaining reader.new) (W.contents writer.old) (W.contents writer.new) result) }
+    ensures told { TellsFaults result (S.failed reader.new) (S.reads reader.new)
+        (W.failed writer.old) (W.failed writer.new) (W.is_flushed writer.new) }
+{
+    let done = replay_text(alloc, reader, writer);
     match writer.flush() {
         Ok(()) => done,
         Err(_) => Err(TraceFault::WriteFailed),

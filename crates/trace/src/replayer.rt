@@ -1,11 +1,11 @@
 //! A replay between two lines, and what one line does to it.
 ghost use Rattle.std.specs.Prelude.{◌≡◌, ◌⊎◌, [], option_map, None, IfOk, IfErr, OnOk, IsSomeAnd};
+ghost use Rattle.core_steps.specs.Machine.{state};
 ghost use Rattle.trace.specs.Stage.{Stage, Start, Declared, stage_of, Opens, OpenFails, CanOpen, Acts, EventActs, EventFails, EventWants, LineFails, LineWants};
 
 use crate::event_lines::run_line;
 use crate::fault::TraceFault;
 use crate::outcome_text::LineText;
-use core_steps::engine::Modelled;
 use core_steps::{Machine, Setup, SetupFault};
 use slot_lock::{RunList, SlotMap};
 use std::alloc::Allocator;
@@ -45,7 +45,7 @@ fn made<A: Allocator + Clone + Drop>(
     alloc: &A,
     setup: Option<Setup>,
 ) -> Result<Machine<RunList<A>, A>, TraceFault>
-    ensures ok { IfOk result (λ m. Opens (stage_of setup None) (⟦<Machine<RunList<A>, A> as Modelled>⟧.world m)) }
+    ensures ok { IfOk result (λ m. Opens (stage_of setup None) (state m)) }
     ensures err { IfErr result (λ f. OpenFails (stage_of setup None) f) }
 {
     let Some(setup) = setup else {
@@ -107,7 +107,7 @@ impl<A: Allocator + Clone + Drop> Replayer<A> {
 }
 
 impl<A: Allocator + Clone + Drop> Staged for Replayer<A> {
-    ghost stage = { λ r. stage_of r.setup (option_map (⟦<Machine<RunList<A>, A> as Modelled>⟧.world) r.machine) };
+    ghost stage = { λ r. stage_of r.setup (option_map state r.machine) };
 
     fn act(&mut self, number: u64, line: &[u8], text: &mut LineText) -> Result<(), TraceFault> {
         if !is_printable(line) {

@@ -1,4 +1,4 @@
-//! The texts of outcomes, lines acted on one by one, and replays in heaps that are too small.
+//! The texts of outcomes, lines acted on one by one, and replays in heaps that are too small and to writers that fail at a flush.
 use crate::fault::TraceFault;
 use crate::outcome_text::{LineText, write_finished, write_outcome};
 use crate::replay::replay;
@@ -6,6 +6,9 @@ use crate::replayer::{Replayer, Staged};
 use core_steps::{Finished, SetupFault};
 use linked_list_allocator::LocalHeap;
 use machine_model::{Blocker, Outcome};
+use std::alloc::Global;
+use std::io;
+use std::io::{ErrorKind, Read, Write};
 use std::test::Fail;
 use trace_io::sink::Noted;
 use trace_io::source::Counted;
@@ -110,5 +113,98 @@ fn each_heap_that_is_too_small(rt: HostRuntime) -> Result<(), Fail> {
         }
     }
     assert!(rt; at_start && at_making && at_a_step && is_whole);
+    Ok(())
+}
+
+// Gives up to a newline with each read, as a person at a terminal does.
+#[derive(Drop)]
+struct Typed<'a> {
+    bytes: &'a [u8],
+}
+
+impl Read for Typed<'_> {
+    fn read(&mut self, buffer: &mut [u8]) -> io::Result<usize> {
+        let count = match self.bytes.iter().position(|b| *b == b'\n') {
+            Some(place) => place + 1,
+            None => self.bytes.len(),
+        };
+        if count > buffer.len() {
+            return Err(io::Error::from(ErrorKind::Other));
+        }
+        buffer[..count].copy_from_slice(&self.bytes[..count]);
+        self.bytes = &self.bytes[count..];
+        Ok(count)
+    }
+}
+
+// Holds what it was given, and fails at the flush with this number, counted from 0, and at each later one.
+#[derive(Drop)]
+struct Closing {
+    held: Vec<u8>,
+    flushes: u64,
+    fails_at: u64,
+}
+
+impl Write for Closing {
+    fn write(&mut self, bytes: &[u8]) -> io::Result<usize> {
+        if self.held.extend_from_slice(bytes).is_err() {
+            return Err(io::Error::from(ErrorKind::OutOfMemory));
+        }
+        Ok(bytes.len())
+    }
+
+    fn flush(&mut self) -> io::Result<()> {
+        if self.flushes >= self.fails_at {
+            return Err(io::Error::from(ErrorKind::StorageFull));
+        }
+        self.flushes += 1;
+        Ok(())
+    }
+}
+
+fn failing_at(alloc: Global, fails_at: u64) -> Noted<Closing> {
+    Noted::new(Closing {
+        held: Vec::new(alloc),
+        flushes: 0,
+        fails_at,
+    })
+}
+
+// Each line comes by a read, and before each read what was written goes out, as at the end of the text.
+#[test]
+fn replies_go_out_before_the_next_read(rt: HostRuntime) -> Result<(), Fail> {
+    for (flushes, written) in [
+        (0, b"".as_slice()),
+        (1, b"".as_slice()),
+        (2, b"0x10000\n".as_slice()),
+        (3, b"0x10000\n0x20000\n".as_slice()),
+        (4, WHOLE),
+        (5, WHOLE),
+    ] {
+        let mut reader = Counted::new(Typed { bytes: TEXT });
+        let mut writer = failing_at(rt.alloc(), flushes);
+        let result = replay(rt.alloc(), &mut reader, &mut writer);
+        assert_eq!(rt; result, Err(TraceFault::WriteFailed));
+        assert_eq!(rt; writer.writer.held.as_slice(), written);
+        assert_eq!(rt; reader.reads, flushes);
+        assert!(rt; writer.failed);
+    }
+    let mut reader = Counted::new(Typed { bytes: TEXT });
+    let mut writer = failing_at(rt.alloc(), 6);
+    assert_eq!(rt; replay(rt.alloc(), &mut reader, &mut writer), Ok(()));
+    assert!(rt; writer.flushed);
+    Ok(())
+}
+
+// The first flush is before the text is read, the second before its end is, and the third after the fault.
+#[test]
+fn a_failing_flush_is_told_after_a_fault(rt: HostRuntime) -> Result<(), Fail> {
+    for (flushes, fault) in [(2, TraceFault::WriteFailed), (3, TraceFault::BadLine(2))] {
+        let mut reader = Counted::new(b"vm 1 1\nfrob".as_slice());
+        let mut writer = failing_at(rt.alloc(), flushes);
+        let result = replay(rt.alloc(), &mut reader, &mut writer);
+        assert_eq!(rt; result, Err(fault));
+        assert_eq!(rt; reader.reads, 2);
+    }
     Ok(())
 }

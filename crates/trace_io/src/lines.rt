@@ -1,8 +1,10 @@
-//! Lines of at most 256 bytes, read in chunks of fixed size: once made, a reader of lines takes no memory.
+//! Lines of at most 256 bytes, read in chunks of fixed size: once made, a reader of lines takes no memory. Before it reads,
+//! what was written goes out.
 ghost use Rattle.std.specs.Prelude.{◌≡◌, ◌+◌, ◌-◌, ◌<◌, ◌≤◌, ◌^◌, length, take, slice_range, IfOk, OnOk, OnErr};
 ghost use Rattle.std.specs.Io.KnownBytes.{Keeps, Consumes, IsAtEnd};
 ghost use Rattle.trace_io.specs.Source.{HasStopped};
 
+use crate::sink::Sink;
 use crate::source::{ReadFailed, Source};
 use memchr::memchr;
 use std::alloc::{AllocError, Allocator};
@@ -34,6 +36,15 @@ pub enum Found {
     End,
 }
 
+/// Why the next line wasn't found.
+#[derive(Clone, Copy, Debug, PartialEq, Eq)]
+pub enum NoLine {
+    /// A read failed, or one more than `READ_LIMIT` was due.
+    ReadFailed,
+    /// A read was due, and what was written before could not go out.
+    WriteFailed,
+}
+
 /// The lines of a reader, one at a time.
 #[derive(Drop)]
 pub struct LineReader<A: Allocator> {
@@ -60,7 +71,7 @@ impl<A: Allocator> Model for LineReader<A> {
 }
 
 impl<A: Allocator> LineReader<A> {
-    ghost use Rattle.std.specs.Prelude.{◌≡◌, ◌+◌, ◌<◌, ◌≤◌, length, IfOk, OnOk, OnErr, true, false};
+    ghost use Rattle.std.specs.Prelude.{◌≡◌, ◌+◌, ◌<◌, ◌≤◌, ◌⊎◌, length, IfOk, OnOk, OnErr, Err, true, false};
     ghost use Rattle.trace_io.specs.Window.{opening, left, budget, TakesHeld};
     ghost use Rattle.trace_io.specs.Lines.{IsUnbroken, IsTooLong, TakesLine, BeginsTooLong};
     ghost use Rattle.trace_io.specs.Scans.{Scans};
@@ -91,7 +102,8 @@ impl<A: Allocator> LineReader<A> {
 
     // Takes a line from the bytes held, if a newline is among them.
     fn scan(&mut self) -> Scan
-        ensures { Scans self.old self.new result }
+        ensures found { Scans self.old self.new result }
+        ensures few { length self.new.held ≤ 65536 }
     {
         match memchr(b'\n', &self.chunk[self.start..self.end]) {
             Some(n) if n <= LINE_LIMIT => {
@@ -113,6 +125,7 @@ impl<A: Allocator> LineReader<A> {
         ensures same { IfOk result (λ n. n ≡ 0 → self.new.held ≡ self.old.held) }
         ensures end { IfOk result (λ n. n ≡ 0 → IsAtEnd (S.remaining reader.new)) }
         ensures held { OnErr result (self.new.held ≡ self.old.held) }
+        ensures few { OnOk result (length self.new.held ≤ 65536) }
         ensures budget { OnOk result (budget (S.reads reader.new) self.new ≤ budget (S.reads reader.old) self.old) }
         ensures stopped { OnErr result (HasStopped (S.failed reader.new) (S.reads reader.new)) }
     {
@@ -141,10 +154,41 @@ impl<A: Allocator> LineReader<A> {
         Found::Line
     }
 
+    // Reads until a whole line is held, or the text ends.
+    fn read_line<S: Source>(&mut self, reader: &mut S) -> Result<Found, ReadFailed>
+        requires short { length self.old.held ≤ 256 }
+        requires unbroken { IsUnbroken self.old.held }
+        ensures found { IfOk result (Finds (left (S.remaining reader.old) self.old)
+            (left (S.remaining reader.new) self.new) self.new) }
+        ensures budget { IfOk result (λ f. f ≡ Found.Line
+            → budget (S.reads reader.new) self.new < budget (S.reads reader.old) self.old) }
+        ensures kept { OnErr result (Keeps (left (S.remaining reader.old) self.old)
+            (left (S.remaining reader.new) self.new)) }
+        ensures unbroken { OnErr result (IsUnbroken self.new.held) }
+        ensures few { length self.new.held ≤ 65536 }
+        ensures stopped { OnErr result (HasStopped (S.failed reader.new) (S.reads reader.new)) }
+    {
+        loop {
+            if self.fill(reader)? == 0 {
+                return Ok(self.take_last());
+            }
+            match self.scan() {
+                Scan::Line => return Ok(Found::Line),
+                Scan::TooLong => return Ok(Found::TooLong),
+                Scan::Nothing => {}
+            }
+        }
+    }
+
     /// Goes on to the next line, which `line` then gives. A line that is too long isn't taken, and is found again
-    /// by the next call. At an `Err` a read has failed or `READ_LIMIT` is reached: no byte is lost, and no newline
-    /// is among the bytes held.
-    pub fn next_line<S: Source>(&mut self, reader: &mut S) -> Result<Found, ReadFailed>
+    /// by the next call. Where no whole line is held, what was written goes out before the first read, so whoever waits for
+    /// it before they go on sees it. At an `Err` no byte is lost, and no newline is among the bytes held; where the writer
+    /// failed, no read was made.
+    pub fn next_line<S: Source, W: Sink>(
+        &mut self,
+        reader: &mut S,
+        writer: &mut W,
+    ) -> Result<Found, NoLine>
         ensures found { IfOk result (Finds (left (S.remaining reader.old) self.old)
             (left (S.remaining reader.new) self.new) self.new) }
         // Each line takes a byte, and the reads are limited.
@@ -153,18 +197,29 @@ impl<A: Allocator> LineReader<A> {
         ensures kept { OnErr result (Keeps (left (S.remaining reader.old) self.old)
             (left (S.remaining reader.new) self.new)) }
         ensures unbroken { OnErr result (IsUnbroken self.new.held) }
-        ensures stopped { OnErr result (HasStopped (S.failed reader.new) (S.reads reader.new)) }
+        ensures few { length self.new.held ≤ 65536 }
+        ensures written { Keeps (W.contents writer.old) (W.contents writer.new) }
+        ensures at_once { OnOk result ((S.reads reader.new ≡ S.reads reader.old)
+            ⊎ (W.is_flushed writer.new ≡ true)) }
+        ensures ok { OnOk result (W.failed writer.new ≡ W.failed writer.old) }
+        ensures read { result ≡ Err NoLine.ReadFailed
+            → HasStopped (S.failed reader.new) (S.reads reader.new)
+            × (W.is_flushed writer.new ≡ true) × (W.failed writer.new ≡ W.failed writer.old) }
+        ensures write { result ≡ Err NoLine.WriteFailed
+            → (W.failed writer.new ≡ true) × (S.reads reader.new ≡ S.reads reader.old)
+            × (S.remaining reader.new ≡ S.remaining reader.old) }
     {
-        loop {
-            match self.scan() {
-                Scan::Line => return Ok(Found::Line),
-                Scan::TooLong => return Ok(Found::TooLong),
-                Scan::Nothing => {
-                    if self.fill(reader)? == 0 {
-                        return Ok(self.take_last());
-                    }
-                }
-            }
+        match self.scan() {
+            Scan::Line => return Ok(Found::Line),
+            Scan::TooLong => return Ok(Found::TooLong),
+            Scan::Nothing => {}
+        }
+        if let Err(_) = writer.flush() {
+            return Err(NoLine::WriteFailed);
+        }
+        match self.read_line(reader) {
+            Ok(found) => Ok(found),
+            Err(_) => Err(NoLine::ReadFailed),
         }
     }
 }

@@ -1,8 +1,9 @@
 //! A text that comes a byte at a time, a read that fails in mid-stream, and writers that stop.
-use crate::lines::{Found, LineReader};
+use crate::lines::{Found, LineReader, NoLine};
 use crate::sink::{Noted, Sink, WriteFailed, write_all};
 use crate::source::{Counted, ReadFailed, Source};
 use linked_list_allocator::LocalHeap;
+use std::alloc::Global;
 use std::io;
 use std::io::{ErrorKind, Read, Write};
 use std::test::Fail;
@@ -62,6 +63,14 @@ impl Write for Filling {
     }
 }
 
+fn full_at(alloc: Global, full_at: u64) -> Noted<Filling> {
+    Noted::new(Filling {
+        held: Vec::new(alloc),
+        writes: 0,
+        full_at,
+    })
+}
+
 const TEXT: &[u8] = b"vm 1 4\n\nc0 go";
 
 fn drip(bytes: &[u8], fails_at: u64) -> Counted<Dripping<'_>> {
@@ -75,14 +84,15 @@ fn drip(bytes: &[u8], fails_at: u64) -> Counted<Dripping<'_>> {
 #[test]
 fn lines_come_one_by_one(rt: HostRuntime) -> Result<(), Fail> {
     let mut source = drip(TEXT, 100);
+    let mut sink = full_at(rt.alloc(), 1);
     let mut lines = LineReader::new(rt.alloc())?;
-    assert_eq!(rt; lines.next_line(&mut source), Ok(Found::Line));
+    assert_eq!(rt; lines.next_line(&mut source, &mut sink), Ok(Found::Line));
     assert_eq!(rt; lines.line(), b"vm 1 4".as_slice());
-    assert_eq!(rt; lines.next_line(&mut source), Ok(Found::Line));
+    assert_eq!(rt; lines.next_line(&mut source, &mut sink), Ok(Found::Line));
     assert_eq!(rt; lines.line(), b"".as_slice());
-    assert_eq!(rt; lines.next_line(&mut source), Ok(Found::Line));
+    assert_eq!(rt; lines.next_line(&mut source, &mut sink), Ok(Found::Line));
     assert_eq!(rt; lines.line(), b"c0 go".as_slice());
-    assert_eq!(rt; lines.next_line(&mut source), Ok(Found::End));
+    assert_eq!(rt; lines.next_line(&mut source, &mut sink), Ok(Found::End));
     Ok(())
 }
 
@@ -97,25 +107,33 @@ fn a_line_of_256_bytes_is_not_too_long(rt: HostRuntime) -> Result<(), Fail> {
         text.push(b'b')?;
     }
     let mut source = Counted::new(text.as_slice());
+    let mut sink = full_at(rt.alloc(), 1);
     let mut lines = LineReader::new(rt.alloc())?;
-    assert_eq!(rt; lines.next_line(&mut source), Ok(Found::Line));
+    assert_eq!(rt; lines.next_line(&mut source, &mut sink), Ok(Found::Line));
     assert_eq!(rt; lines.line().len(), 256);
-    assert_eq!(rt; lines.next_line(&mut source), Ok(Found::TooLong));
-    assert_eq!(rt; lines.next_line(&mut source), Ok(Found::TooLong));
+    assert_eq!(rt; lines.next_line(&mut source, &mut sink), Ok(Found::TooLong));
+    assert_eq!(rt; lines.next_line(&mut source, &mut sink), Ok(Found::TooLong));
     Ok(())
 }
 
 #[test]
 fn a_failed_read_loses_no_byte(rt: HostRuntime) -> Result<(), Fail> {
     let mut source = drip(TEXT, 9);
+    let mut sink = full_at(rt.alloc(), 1);
     let mut lines = LineReader::new(rt.alloc())?;
-    assert_eq!(rt; lines.next_line(&mut source), Ok(Found::Line));
-    assert_eq!(rt; lines.next_line(&mut source), Ok(Found::Line));
-    assert_eq!(rt; lines.next_line(&mut source), Err(ReadFailed));
+    assert_eq!(rt; lines.next_line(&mut source, &mut sink), Ok(Found::Line));
+    assert_eq!(rt; lines.next_line(&mut source, &mut sink), Ok(Found::Line));
+    assert_eq!(rt;
+        lines.next_line(&mut source, &mut sink),
+        Err(NoLine::ReadFailed)
+    );
     assert!(rt; source.failed);
-    assert_eq!(rt; lines.next_line(&mut source), Err(ReadFailed));
+    assert_eq!(rt;
+        lines.next_line(&mut source, &mut sink),
+        Err(NoLine::ReadFailed)
+    );
     source.reader.fails_at = 100;
-    assert_eq!(rt; lines.next_line(&mut source), Ok(Found::Line));
+    assert_eq!(rt; lines.next_line(&mut source, &mut sink), Ok(Found::Line));
     assert_eq!(rt; lines.line(), b"c0 go".as_slice());
     Ok(())
 }
@@ -135,13 +153,33 @@ fn no_read_past_the_limit(rt: HostRuntime) -> Result<(), Fail> {
     Ok(())
 }
 
+// Both lines come by the first read. Before the second read the text must go out, so a writer that fails at its flush stops there.
+#[test]
+fn what_was_written_goes_out_before_a_read(rt: HostRuntime) -> Result<(), Fail> {
+    let mut source = Counted::new(b"c0 go\nc1 go\nc2".as_slice());
+    let mut sink = full_at(rt.alloc(), 1);
+    let mut lines = LineReader::new(rt.alloc())?;
+    assert_eq!(rt; lines.next_line(&mut source, &mut sink), Ok(Found::Line));
+    assert_eq!(rt; write_all(&mut sink, b"ok\n"), Ok(()));
+    assert!(rt; !sink.flushed);
+    assert_eq!(rt; lines.next_line(&mut source, &mut sink), Ok(Found::Line));
+    assert_eq!(rt; source.reads, 1);
+    assert_eq!(rt;
+        lines.next_line(&mut source, &mut sink),
+        Err(NoLine::WriteFailed)
+    );
+    assert!(rt; sink.failed);
+    assert_eq!(rt; source.reads, 1);
+    sink.writer.full_at = 2;
+    assert_eq!(rt; lines.next_line(&mut source, &mut sink), Ok(Found::Line));
+    assert!(rt; sink.flushed);
+    assert_eq!(rt; lines.line(), b"c2".as_slice());
+    Ok(())
+}
+
 #[test]
 fn a_write_that_takes_no_byte_fails(rt: HostRuntime) -> Result<(), Fail> {
-    let mut sink = Noted::new(Filling {
-        held: Vec::new(rt.alloc()),
-        writes: 0,
-        full_at: 4,
-    });
+    let mut sink = full_at(rt.alloc(), 4);
     assert_eq!(rt; write_all(&mut sink, b"done\n"), Ok(()));
     assert_eq!(rt; sink.flush(), Ok(()));
     assert_eq!(rt; write_all(&mut sink, b"segv maperr\n"), Err(WriteFailed));

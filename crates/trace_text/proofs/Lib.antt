@@ -1,3 +1,6 @@
+pub mod Choices
+pub mod SpellingLemmas
+pub mod FlagLemmas
 pub mod CoreLemmas
 pub mod LineLemmas
 pub mod RequestLemmas

@@ -5,7 +5,10 @@ use Rattle.std.specs.Prelude.{nat_le, nat_lt, ◌&&◌, ◌+◌, ◌*◌}
 use Rattle.std.specs.Str.{bytes_eq}
 use Rattle.std.proofs.lemmas.Slice.Eq.{bytes_eq-Decides}
 use Rattle.std.specs.Io.BufRead.{ends_with_byte, strip_last}
-use Rattle.trace_text.proofs.RequestLemmas.{bind_some, ended_some, front_some, chosen, asked_is_read, read_is_asked}
+use Rattle.trace_text.proofs.Choices.{bind_some, ended_some, front_some, chosen}
+use Rattle.trace_text.proofs.RequestLemmas.{asked_is_read, read_is_asked}
+use Rattle.trace_text.proofs.SpellingLemmas.{number_all, number_only}
+use Rattle.trace_text.proofs.CoreLemmas.{core_all, core_only}
 use Rattle.trace_text.specs.Words.{Word, front_word}
 use Rattle.trace_text.specs.Number.{number_of}
 use Rattle.trace_text.specs.Request.{◌>>=◌, ended, request_of}
@@ -69,18 +72,22 @@ now_read w core rest k = elim (core_shape w core k) [
 limits_all : (cores frames calls : ℕ) (more : List Word) → Limits calls more → calls_of cores frames more ≡ Some (Space cores frames calls)
 unfolding calls_of
 limits_all cores frames calls more (inl (e, n)) = rw (e, n) refl
-limits_all cores frames calls more (inr (w, e, n)) = rw (e, n) refl
+limits_all cores frames calls more (inr (w, e, n)) = let k : number_of w ≡ Some calls = number_all w calls n in rw (e, k) refl
 
 pub said_is_read : ReadsAll
 unfolding line_of_words space_of call_of action_of now_of
 said_is_read Blank words e = rw e refl
-said_is_read (Space cores frames calls) words (c, f, more, e, n, m, l) = rw (e, n, m) (limits_all cores frames calls more l)
+said_is_read (Space cores frames calls) words (c, f, more, e, n, m, l) =
+    let k : number_of c ≡ Some cores = number_all c cores n in
+    let i : number_of f ≡ Some frames = number_all f frames m in
+    rw (e, k, i) (limits_all cores frames calls more l)
 said_is_read (Call core request) words (c, args, e, k, a) =
-    ap line_of_words e ∙ acts c core (codes "call" ∷ args) k ∙ ap (λ o. o >>= λ q. Some (Call core q)) (asked_is_read request args a)
-said_is_read (Go core) words (c, e, k) = ap line_of_words e ∙ acts c core (codes "go" ∷ []) k
-said_is_read (Finish core) words (c, e, k) = ap line_of_words e ∙ acts c core (codes "finish" ∷ []) k
+    ap line_of_words e ∙ acts c core (codes "call" ∷ args) (core_all c core k) ∙ ap (λ o. o >>= λ q. Some (Call core q)) (asked_is_read request args a)
+said_is_read (Go core) words (c, e, k) = ap line_of_words e ∙ acts c core (codes "go" ∷ []) (core_all c core k)
+said_is_read (Finish core) words (c, e, k) = ap line_of_words e ∙ acts c core (codes "finish" ∷ []) (core_all c core k)
 said_is_read (Now core request) words (c, args, e, k, a) =
-    ap line_of_words e ∙ now_read c core args k ∙ ap (λ o. o >>= λ b. request_of args >>= λ q. Some (Now b q)) k
+    let is : core_of c ≡ Some core = core_all c core k in
+    ap line_of_words e ∙ now_read c core args is ∙ ap (λ o. o >>= λ b. request_of args >>= λ q. Some (Now b q)) is
     ∙ ap (λ o. o >>= λ q. Some (Now core q)) (asked_is_read request args a)
 
 calls_only : (cores frames : ℕ) (more : List Word) (line : Line) → calls_of cores frames more ≡ Some line
@@ -90,7 +97,7 @@ calls_only cores frames [] line e = (4096, cc, inl (refl, refl))
 calls_only cores frames (w ∷ ws) line e =
     let (calls, n, e1) = bind_some (number_of w) (λ calls. ended ws (Space cores frames calls)) line e in
     let (none, same) = ended_some ws (Space cores frames calls) line e1 in
-    (calls, same, inr (w, ap (λ l. w ∷ l) none, n))
+    (calls, same, inr (w, ap (λ l. w ∷ l) none, number_only w calls n))
 
 only_space : (args : List Word) (line : Line) → space_of args ≡ Some line → Says line (codes "vm" ∷ args)
 unfolding space_of
@@ -101,7 +108,15 @@ only_space args line e =
     let (frames, n2, g2) = bind_some (number_of second.0) (λ frames. calls_of cores frames second.1) line f2 in
     let (calls, same, limits) = calls_only cores frames second.1 line g2 in
     let words = front_some args first e1 ∙ ap (λ ws. first.0 ∷ ws) (front_some first.1 second e2) in
-    subst (λ l. Says l (codes "vm" ∷ args)) same (first.0, second.0, second.1, ap (λ ws. codes "vm" ∷ ws) words, n1, n2, limits)
+    subst (λ l. Says l (codes "vm" ∷ args)) same (
+      first.0,
+      second.0,
+      second.1,
+      ap (λ ws. codes "vm" ∷ ws) words,
+      number_only first.0 cores n1,
+      number_only second.0 frames n2,
+      limits,
+    )
 
 last_is : (xs : List ℕ) (n : ℕ) → length xs ≡ suc n → get_or xs n 0 ≡ 33 → xs ≡ take n xs ++ 33 ∷ []
 last_is [] n h e = absurd (omega arith)
@@ -123,14 +138,14 @@ only_now name args line b e =
     let (request, q, e2) = bind_some (request_of args) (λ q. Some (Now core q)) line e1 in
     let same : Now core request ≡ line = cc in
     subst (λ l. Says l (name ∷ args)) same
-    (strip_last 33 name, args, ap (λ n. n ∷ args) (stripped name b), k, read_is_asked request args q)
+    (strip_last 33 name, args, ap (λ n. n ∷ args) (stripped name b), core_only (strip_last 33 name) core k, read_is_asked request args q)
 
 only_call : (name : Word) (core : ℕ) (args : List Word) (line : Line) → core_of name ≡ Some core → call_of core args ≡ Some line → Says line (name ∷ codes "call" ∷ args)
 unfolding call_of
 only_call name core args line k e =
     let (request, q, e2) = bind_some (request_of args) (λ q. Some (Call core q)) line e in
     let same : Call core request ≡ line = cc in
-    subst (λ l. Says l (name ∷ codes "call" ∷ args)) same (name, args, refl, k, read_is_asked request args q)
+    subst (λ l. Says l (name ∷ codes "call" ∷ args)) same (name, args, refl, core_only name core k, read_is_asked request args q)
 
 -- a word that the test knew
 word_is : (w t : Word) → bytes_eq w t ≡ true → w ≡ t
@@ -147,11 +162,11 @@ only_action name core args line k a =
       | inr h ↦ elim (chosen (bytes_eq verb.0 (codes "go")) _ _ (Some line) h.1) [
         | inl g ↦ let (none, same) = ended_some verb.1 (Go core) line g.1 in
             subst (λ l. Says l (name ∷ args)) same
-            (name, ap (λ ws. name ∷ ws) (is ∙ ap (λ w. w ∷ verb.1) (word_is verb.0 (codes "go") g.0) ∙ ap (λ ws. codes "go" ∷ ws) none), k)
+            (name, ap (λ ws. name ∷ ws) (is ∙ ap (λ w. w ∷ verb.1) (word_is verb.0 (codes "go") g.0) ∙ ap (λ ws. codes "go" ∷ ws) none), core_only name core k)
         | inr g ↦ elim (chosen (bytes_eq verb.0 (codes "finish")) _ _ (Some line) g.1) [
           | inl f ↦ let (none, same) = ended_some verb.1 (Finish core) line f.1 in
               subst (λ l. Says l (name ∷ args)) same
-              (name, ap (λ ws. name ∷ ws) (is ∙ ap (λ w. w ∷ verb.1) (word_is verb.0 (codes "finish") f.0) ∙ ap (λ ws. codes "finish" ∷ ws) none), k)
+              (name, ap (λ ws. name ∷ ws) (is ∙ ap (λ w. w ∷ verb.1) (word_is verb.0 (codes "finish") f.0) ∙ ap (λ ws. codes "finish" ∷ ws) none), core_only name core k)
           | inr f ↦ let bad = f.1 in absurd (cc)
         ]
       ]

@@ -1,5 +1,5 @@
 -- Requests and their grammar.
-use Rattle.std.proofs.Common.{◌≡◌, ◌⊎◌, inl, inr, ℕ, ◌≤◌, Bool, true, false, cond, ltb, List, [], ◌∷◌, Option, Some, None, codes, arith, refl, sym, ap, ◌∙◌, subst}
+use Rattle.std.proofs.Common.{◌≡◌, inl, inr, ℕ, ◌≤◌, true, false, cond, ltb, List, [], ◌∷◌, Some, None, codes, arith, refl, sym, ap, ◌∙◌, subst}
 use Rattle.std.proofs.lemmas.Bool.Decides.{nat_tests}
 use Rattle.std.specs.Str.{bytes_eq}
 use Rattle.std.proofs.lemmas.Slice.Eq.{bytes_eq-Decides}
@@ -8,24 +8,17 @@ use Rattle.vm_base.specs.declared.requests.Flags.{Flags}
 use Rattle.trace_text.specs.Words.{Word, front_word}
 use Rattle.trace_text.specs.Number.{number_of}
 use Rattle.trace_text.specs.Request.{◌>>=◌, ended, byte_of, request_of, load_of, store_of, fetch_of, mmap_of, munmap_of, mprotect_of, protected_of, prot_of, flags_of, backed_of}
+use Rattle.trace_text.specs.Spelling.{SpellsNumber}
 use Rattle.trace_text.specs.Grammar.{Asks, Backs}
+use Rattle.trace_text.proofs.Choices.{bind_some, ended_some, front_some, chosen}
+use Rattle.trace_text.proofs.SpellingLemmas.{number_all, number_only}
+use Rattle.trace_text.proofs.FlagLemmas.{rights_all, rights_only, flags_all, flags_only}
 use Rattle.vm_base.specs.declared.requests.Request.{Request}
 use Rattle.vm_base.specs.declared.requests.Request.TheVariants.{Mmap, Munmap, Mprotect, Load, Store, Fetch}
 
-pub bind_some : {A B : Type 0} (o : Option A) (f : A → Option B) (y : B) → (o >>= f) ≡ Some y → (x : A) × (o ≡ Some x) × (f x ≡ Some y)
-bind_some None f y e = absurd (cc)
-bind_some (Some x) f y e = (x, refl, e)
-
-pub ended_some : {A : Type 0} (ws : List Word) (x y : A) → ended ws x ≡ Some y → (ws ≡ []) × (x ≡ y)
-ended_some [] x y e = (refl, cc)
-ended_some (w ∷ ws) x y e = absurd (cc)
-
-pub front_some : (ws : List Word) (f : Word × List Word) → front_word ws ≡ Some f → ws ≡ f.0 ∷ f.1
-front_some [] f e = absurd (cc)
-front_some (w ∷ ws) f e = let same : (w, ws) ≡ f = cc in ap (λ g. g.0 ∷ g.1) same
-
-byte_all : (v : Word) (b : ℕ) → number_of v ≡ Some b → b ≤ 255 → byte_of v ≡ Some b
-byte_all v b e h =
+byte_all : (v : Word) (b : ℕ) → SpellsNumber v b → b ≤ 255 → byte_of v ≡ Some b
+byte_all v b s h =
+    let e : number_of v ≡ Some b = number_all v b s in
     let small : ltb 255 b ≡ false = grind (arith, nat_tests) in
     ap (λ o. o >>= λ n. cond (ltb 255 n) None (Some n)) e ∙ ap (λ t. cond t None (Some b)) small
 
@@ -33,28 +26,41 @@ backs_all : (addr len : ℕ) (prot : Prot) (flags : Flags) (file off : ℕ) (mor
     → backed_of addr len prot flags more ≡ Some (Mmap addr len prot flags file off)
 unfolding backed_of
 backs_all addr len prot flags file off more (inl (e, anon, f, o)) = rw (e, anon, f, o) refl
-backs_all addr len prot flags file off more (inr (v, w, e, n, m)) = rw (e, n, m) refl
+backs_all addr len prot flags file off more (inr (v, w, e, n, m)) =
+    let f : number_of v ≡ Some file = number_all v file n in
+    let o : number_of w ≡ Some off = number_all w off m in
+    rw (e, f, o) refl
 
 pub asked_is_read : (r : Request) (words : List Word) → Asks r words → request_of words ≡ Some r
 unfolding request_of load_of store_of fetch_of mmap_of munmap_of mprotect_of protected_of
-asked_is_read (Load a) words (w, e, n) = rw (e, n) refl
-asked_is_read (Fetch a) words (w, e, n) = rw (e, n) refl
-asked_is_read (Store a b) words (w, v, e, n, m, h) = let byte = byte_all v b m h in rw (e, n, byte) refl
-asked_is_read (Munmap addr len) words (a, l, e, n, m) = rw (e, n, m) refl
-asked_is_read (Mprotect addr len prot) words (a, l, p, e, n, m, pe) = rw (e, n, m, pe) refl
+asked_is_read (Load a) words (w, e, n) = let k : number_of w ≡ Some a = number_all w a n in rw (e, k) refl
+asked_is_read (Fetch a) words (w, e, n) = let k : number_of w ≡ Some a = number_all w a n in rw (e, k) refl
+asked_is_read (Store a b) words (w, v, e, n, m, h) =
+    let k : number_of w ≡ Some a = number_all w a n in
+    let byte : byte_of v ≡ Some b = byte_all v b m h in
+    rw (e, k, byte) refl
+asked_is_read (Munmap addr len) words (a, l, e, n, m) =
+    let k : number_of a ≡ Some addr = number_all a addr n in
+    let i : number_of l ≡ Some len = number_all l len m in
+    rw (e, k, i) refl
+asked_is_read (Mprotect addr len prot) words (a, l, p, e, n, m, pe) =
+    let k : number_of a ≡ Some addr = number_all a addr n in
+    let i : number_of l ≡ Some len = number_all l len m in
+    let r : prot_of p ≡ Some prot = rights_all p prot pe in
+    rw (e, k, i, r) refl
 asked_is_read (Mmap addr len prot flags file off) words (a, l, p, f, more, e, n, m, pe, fe, be) =
-    rw (e, n, m, pe, fe) (backs_all addr len prot flags file off more be)
+    let k : number_of a ≡ Some addr = number_all a addr n in
+    let i : number_of l ≡ Some len = number_all l len m in
+    let r : prot_of p ≡ Some prot = rights_all p prot pe in
+    let t : flags_of f ≡ Some flags = flags_all f flags fe in
+    rw (e, k, i, r, t) (backs_all addr len prot flags file off more be)
 
-pub chosen : {A : Type 0} (b : Bool) (x y z : A) → cond b x y ≡ z → ((b ≡ true) × (x ≡ z)) ⊎ ((b ≡ false) × (y ≡ z))
-chosen true x y z e = inl (refl, e)
-chosen false x y z e = inr (refl, e)
-
-byte_only : (v : Word) (b : ℕ) → byte_of v ≡ Some b → (number_of v ≡ Some b) × (b ≤ 255)
+byte_only : (v : Word) (b : ℕ) → byte_of v ≡ Some b → SpellsNumber v b × (b ≤ 255)
 byte_only v b e =
     let (n, en, t) = bind_some (number_of v) (λ n. cond (ltb 255 n) None (Some n)) b e in
     elim (chosen (ltb 255 n) None (Some n) (Some b) t) [
       | inl h ↦ let bad = h.1 in absurd (cc)
-      | inr h ↦ let same : n ≡ b = (let g = h.1 in cc) in (en ∙ ap (λ m. Some m) same, subst (λ m. m ≤ 255) same (grind (arith, nat_tests, h.0)))
+      | inr h ↦ let same : n ≡ b = (let g = h.1 in cc) in (number_only v b (en ∙ ap (λ m. Some m) same), subst (λ m. m ≤ 255) same (grind (arith, nat_tests, h.0)))
     ]
 
 only_load : (args : List Word) (r : Request) → load_of args ≡ Some r → Asks r (codes "load" ∷ args)
@@ -64,7 +70,7 @@ only_load args r e =
     let (a, ea, e2) = bind_some (number_of first.0) (λ a. ended first.1 (Load a)) r e1 in
     let (none, same) = ended_some first.1 (Load a) r e2 in
     subst (λ q. Asks q (codes "load" ∷ args)) same
-    (first.0, ap (λ ws. codes "load" ∷ ws) (front_some args first ef ∙ ap (λ ws. first.0 ∷ ws) none), ea)
+    (first.0, ap (λ ws. codes "load" ∷ ws) (front_some args first ef ∙ ap (λ ws. first.0 ∷ ws) none), number_only first.0 a ea)
 
 only_fetch : (args : List Word) (r : Request) → fetch_of args ≡ Some r → Asks r (codes "fetch" ∷ args)
 unfolding fetch_of
@@ -73,7 +79,7 @@ only_fetch args r e =
     let (a, ea, e2) = bind_some (number_of first.0) (λ a. ended first.1 (Fetch a)) r e1 in
     let (none, same) = ended_some first.1 (Fetch a) r e2 in
     subst (λ q. Asks q (codes "fetch" ∷ args)) same
-    (first.0, ap (λ ws. codes "fetch" ∷ ws) (front_some args first ef ∙ ap (λ ws. first.0 ∷ ws) none), ea)
+    (first.0, ap (λ ws. codes "fetch" ∷ ws) (front_some args first ef ∙ ap (λ ws. first.0 ∷ ws) none), number_only first.0 a ea)
 
 only_store : (args : List Word) (r : Request) → store_of args ≡ Some r → Asks r (codes "store" ∷ args)
 unfolding store_of
@@ -86,7 +92,7 @@ only_store args r e =
     let byte = byte_only second.0 b eb in
     let rest = front_some first.1 second es ∙ ap (λ ws. second.0 ∷ ws) none in
     subst (λ q. Asks q (codes "store" ∷ args)) same
-    (first.0, second.0, ap (λ ws. codes "store" ∷ ws) (front_some args first ef ∙ ap (λ ws. first.0 ∷ ws) rest), ea, byte.0, byte.1)
+    (first.0, second.0, ap (λ ws. codes "store" ∷ ws) (front_some args first ef ∙ ap (λ ws. first.0 ∷ ws) rest), number_only first.0 a ea, byte.0, byte.1)
 
 -- whatever backs it, it is a request to map with these arguments
 backed_only : (addr len : ℕ) (prot : Prot) (flags : Flags) (more : List Word) (r : Request) → backed_of addr len prot flags more ≡ Some r
@@ -102,7 +108,7 @@ backed_only addr len prot flags (w ∷ ws) r e =
     let (second, es, e2) = bind_some (front_word ws) _ r e1 in
     let (off, eo, e3) = bind_some (number_of second.0) (λ off. ended second.1 (Mmap addr len prot flags file off)) r e2 in
     let (none, same) = ended_some second.1 (Mmap addr len prot flags file off) r e3 in
-    (file, off, same, inr (w, second.0, ap (λ l. w ∷ l) (front_some ws second es ∙ ap (λ l. second.0 ∷ l) none), ef, eo))
+    (file, off, same, inr (w, second.0, ap (λ l. w ∷ l) (front_some ws second es ∙ ap (λ l. second.0 ∷ l) none), number_only w file ef, number_only second.0 off eo))
 
 only_munmap : (args : List Word) (r : Request) → munmap_of args ≡ Some r → Asks r (codes "munmap" ∷ args)
 unfolding munmap_of
@@ -113,7 +119,7 @@ only_munmap args r e =
     let (len, n2, g2) = bind_some (number_of second.0) (λ len. ended second.1 (Munmap addr len)) r f2 in
     let (none, same) = ended_some second.1 (Munmap addr len) r g2 in
     let words = front_some args first e1 ∙ ap (λ ws. first.0 ∷ ws) (front_some first.1 second e2 ∙ ap (λ ws. second.0 ∷ ws) none) in
-    subst (λ q. Asks q (codes "munmap" ∷ args)) same (first.0, second.0, ap (λ ws. codes "munmap" ∷ ws) words, n1, n2)
+    subst (λ q. Asks q (codes "munmap" ∷ args)) same (first.0, second.0, ap (λ ws. codes "munmap" ∷ ws) words, number_only first.0 addr n1, number_only second.0 len n2)
 
 only_mprotect : (args : List Word) (r : Request) → mprotect_of args ≡ Some r → Asks r (codes "mprotect" ∷ args)
 unfolding mprotect_of protected_of
@@ -126,7 +132,15 @@ only_mprotect args r e =
     let (prot, n3, g3) = bind_some (prot_of third.0) (λ prot. ended third.1 (Mprotect addr len prot)) r f3 in
     let (none, same) = ended_some third.1 (Mprotect addr len prot) r g3 in
     let words = front_some args first e1 ∙ ap (λ ws. first.0 ∷ ws) (front_some first.1 second e2 ∙ ap (λ ws. second.0 ∷ ws) (front_some second.1 third e3 ∙ ap (λ ws. third.0 ∷ ws) none)) in
-    subst (λ q. Asks q (codes "mprotect" ∷ args)) same (first.0, second.0, third.0, ap (λ ws. codes "mprotect" ∷ ws) words, n1, n2, n3)
+    subst (λ q. Asks q (codes "mprotect" ∷ args)) same (
+      first.0,
+      second.0,
+      third.0,
+      ap (λ ws. codes "mprotect" ∷ ws) words,
+      number_only first.0 addr n1,
+      number_only second.0 len n2,
+      rights_only third.0 prot n3,
+    )
 
 only_mmap : (args : List Word) (r : Request) → mmap_of args ≡ Some r → Asks r (codes "mmap" ∷ args)
 unfolding mmap_of
@@ -141,8 +155,19 @@ only_mmap args r e =
     let (flags, n4, g4) = bind_some (flags_of fourth.0) (λ flags. backed_of addr len prot flags fourth.1) r f4 in
     let (file, off, same, backs) = backed_only addr len prot flags fourth.1 r g4 in
     let words = front_some args first e1 ∙ ap (λ ws. first.0 ∷ ws) (front_some first.1 second e2 ∙ ap (λ ws. second.0 ∷ ws) (front_some second.1 third e3 ∙ ap (λ ws. third.0 ∷ ws) (front_some third.1 fourth e4))) in
-    subst (λ q. Asks q (codes "mmap" ∷ args)) same
-    (first.0, second.0, third.0, fourth.0, fourth.1, ap (λ ws. codes "mmap" ∷ ws) words, n1, n2, n3, n4, backs)
+    subst (λ q. Asks q (codes "mmap" ∷ args)) same (
+      first.0,
+      second.0,
+      third.0,
+      fourth.0,
+      fourth.1,
+      ap (λ ws. codes "mmap" ∷ ws) words,
+      number_only first.0 addr n1,
+      number_only second.0 len n2,
+      rights_only third.0 prot n3,
+      flags_only fourth.0 flags n4,
+      backs,
+    )
 
 -- a name that the test knew
 named : (r : Request) (w t : Word) (args words : List Word) → bytes_eq w t ≡ true → words ≡ w ∷ args → Asks r (t ∷ args) → Asks r words

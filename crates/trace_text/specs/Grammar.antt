@@ -1,45 +1,46 @@
 -- The grammar of lines and of requests, by what is said.
-use Rattle.std.specs.Prelude.{◌<◌, decimal, ◌≡◌, ℕ, ◌≤◌, true, List, [], ◌∷◌, ◌++◌, ◌⊎◌, Some, codes}
+use Rattle.std.specs.Prelude.{◌≡◌, ℕ, ◌^◌, ◌<◌, ◌≤◌, decimal, true, List, [], ◌∷◌, ◌++◌, ◌⊎◌, Some, codes}
 use Rattle.vm_base.specs.declared.requests.Flags.{Flags}
 use Rattle.vm_base.specs.declared.requests.Request.{Request}
 use Rattle.vm_base.specs.declared.requests.Request.TheVariants.{Mmap, Munmap, Mprotect, Load, Store, Fetch}
 use Rattle.trace_text.specs.Words.{Word}
 use Rattle.trace_text.specs.Number.{number_of}
-use Rattle.trace_text.specs.Request.{prot_of, flags_of}
-use Rattle.trace_text.specs.Line.{core_of, line_of_words}
+use Rattle.trace_text.specs.Printing.{address_of}
+use Rattle.trace_text.specs.Spelling.{SpellsNumber, SpellsFlags, SpellsCore, rights_text}
+use Rattle.trace_text.specs.Line.{line_of_words}
 use Rattle.trace_text.specs.declared.line.Line.{Line}
 use Rattle.trace_text.specs.declared.line.Line.TheVariants.{Blank, Space, Call, Go, Finish, Now}
 
 -- the words after the flags: a file and an offset, both 0 where a mapping of zero bytes leaves them out
 abbrev pub Backs : Flags → ℕ → ℕ → List Word → Type 0
 Backs flags file off words = ((words ≡ []) × (flags.anon ≡ true) × (file ≡ 0) × (off ≡ 0))
-    ⊎ ((f : Word) × (o : Word) × (words ≡ f ∷ o ∷ []) × (number_of f ≡ Some file) × (number_of o ≡ Some off))
+    ⊎ ((f : Word) × (o : Word) × (words ≡ f ∷ o ∷ []) × SpellsNumber f file × SpellsNumber o off)
 
 -- the words say this request
 abbrev pub Asks : Request → List Word → Type 0
 Asks (Mmap addr len prot flags file off) words = (a : Word) × (l : Word) × (p : Word) × (f : Word) × (more : List Word)
-    × (words ≡ codes "mmap" ∷ a ∷ l ∷ p ∷ f ∷ more) × (number_of a ≡ Some addr) × (number_of l ≡ Some len) × (prot_of p ≡ Some prot) × (flags_of f ≡ Some flags)
+    × (words ≡ codes "mmap" ∷ a ∷ l ∷ p ∷ f ∷ more) × SpellsNumber a addr × SpellsNumber l len × (p ≡ rights_text prot) × SpellsFlags f flags
     × Backs flags file off more
-Asks (Munmap addr len) words = (a : Word) × (l : Word) × (words ≡ codes "munmap" ∷ a ∷ l ∷ []) × (number_of a ≡ Some addr) × (number_of l ≡ Some len)
+Asks (Munmap addr len) words = (a : Word) × (l : Word) × (words ≡ codes "munmap" ∷ a ∷ l ∷ []) × SpellsNumber a addr × SpellsNumber l len
 Asks (Mprotect addr len prot) words = (a : Word) × (l : Word) × (p : Word)
-    × (words ≡ codes "mprotect" ∷ a ∷ l ∷ p ∷ []) × (number_of a ≡ Some addr) × (number_of l ≡ Some len) × (prot_of p ≡ Some prot)
-Asks (Load addr) words = (a : Word) × (words ≡ codes "load" ∷ a ∷ []) × (number_of a ≡ Some addr)
-Asks (Store addr byte) words = (a : Word) × (b : Word) × (words ≡ codes "store" ∷ a ∷ b ∷ []) × (number_of a ≡ Some addr) × (number_of b ≡ Some byte) × (byte ≤ 255)
-Asks (Fetch addr) words = (a : Word) × (words ≡ codes "fetch" ∷ a ∷ []) × (number_of a ≡ Some addr)
+    × (words ≡ codes "mprotect" ∷ a ∷ l ∷ p ∷ []) × SpellsNumber a addr × SpellsNumber l len × (p ≡ rights_text prot)
+Asks (Load addr) words = (a : Word) × (words ≡ codes "load" ∷ a ∷ []) × SpellsNumber a addr
+Asks (Store addr byte) words = (a : Word) × (b : Word) × (words ≡ codes "store" ∷ a ∷ b ∷ []) × SpellsNumber a addr × SpellsNumber b byte × (byte ≤ 255)
+Asks (Fetch addr) words = (a : Word) × (words ≡ codes "fetch" ∷ a ∷ []) × SpellsNumber a addr
 
 -- the words after CORES and FRAMES: CALLS, which is 4096 where left out
 abbrev pub Limits : ℕ → List Word → Type 0
-Limits calls words = ((words ≡ []) × (calls ≡ 4096)) ⊎ ((w : Word) × (words ≡ w ∷ []) × (number_of w ≡ Some calls))
+Limits calls words = ((words ≡ []) × (calls ≡ 4096)) ⊎ ((w : Word) × (words ≡ w ∷ []) × SpellsNumber w calls)
 
 -- the words of a line say this
 abbrev pub Says : Line → List Word → Type 0
 Says Blank words = words ≡ []
 Says (Space cores frames calls) words = (c : Word) × (f : Word) × (more : List Word)
-    × (words ≡ codes "vm" ∷ c ∷ f ∷ more) × (number_of c ≡ Some cores) × (number_of f ≡ Some frames) × Limits calls more
-Says (Call core request) words = (c : Word) × (args : List Word) × (words ≡ c ∷ codes "call" ∷ args) × (core_of c ≡ Some core) × Asks request args
-Says (Go core) words = (c : Word) × (words ≡ c ∷ codes "go" ∷ []) × (core_of c ≡ Some core)
-Says (Finish core) words = (c : Word) × (words ≡ c ∷ codes "finish" ∷ []) × (core_of c ≡ Some core)
-Says (Now core request) words = (c : Word) × (args : List Word) × (words ≡ (c ++ codes "!") ∷ args) × (core_of c ≡ Some core) × Asks request args
+    × (words ≡ codes "vm" ∷ c ∷ f ∷ more) × SpellsNumber c cores × SpellsNumber f frames × Limits calls more
+Says (Call core request) words = (c : Word) × (args : List Word) × (words ≡ c ∷ codes "call" ∷ args) × SpellsCore c core × Asks request args
+Says (Go core) words = (c : Word) × (words ≡ c ∷ codes "go" ∷ []) × SpellsCore c core
+Says (Finish core) words = (c : Word) × (words ≡ c ∷ codes "finish" ∷ []) × SpellsCore c core
+Says (Now core request) words = (c : Word) × (args : List Word) × (words ≡ (c ++ codes "!") ∷ args) × SpellsCore c core × Asks request args
 
 -- what is said is read
 abbrev pub ReadsAll : Type 0
@@ -49,6 +50,6 @@ ReadsAll = (line : Line) (words : List Word) → Says line words → line_of_wor
 abbrev pub ReadsOnly : Type 0
 ReadsOnly = (line : Line) (words : List Word) → line_of_words words ≡ Some line → Says line words
 
--- a core is named by the letter c and its number, 0 to 63, in decimal without leading zeros
-abbrev pub NamesCores : Type 0
-NamesCores = (core : ℕ) → core < 64 → core_of (codes "c" ++ decimal core) ≡ Some core
+-- numbers and addresses that are printed are read back as themselves
+abbrev pub ReadsPrinted : Type 0
+ReadsPrinted = (n : ℕ) → n < 2 ^ 64 → (number_of (decimal n) ≡ Some n) × (number_of (address_of n) ≡ Some n)

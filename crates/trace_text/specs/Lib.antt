@@ -3,4 +3,5 @@ pub mod Number
 pub mod Request
 pub mod Line
 pub mod Printing
+pub mod Spelling
 pub mod Grammar

@@ -3,15 +3,15 @@ use Rattle.std.specs.Prelude.{ℕ, ◌+◌, ◌-◌, ◌*◌, Bool, false, ◌&&
 use Rattle.std.specs.Str.{bytes_eq}
 use Rattle.std.specs.List.{list_all}
 use Rattle.std.specs.Io.BufRead.{ends_with_byte, strip_last}
-use Rattle.trace_text.specs.Words.{Word, words_of, front_word}
+use Rattle.trace_text.specs.Words.{Word, byte, words_of, front_word}
 use Rattle.trace_text.specs.Number.{number_of}
 use Rattle.trace_text.specs.Request.{◌>>=◌, ended, request_of}
 use Rattle.trace_text.specs.declared.line.Line.{Line}
 use Rattle.trace_text.specs.declared.line.Line.TheVariants.{Blank, Space, Call, Go, Finish, Now}
 
--- each byte is printable ASCII
+-- each byte is printable ASCII, from the space to the tilde
 abbrev pub are_printable : List ℕ → Bool
-are_printable bytes = list_all (λ b. nat_le 0x20 b && nat_le b 0x7e) bytes
+are_printable bytes = list_all (λ b. nat_le (byte (codes " ")) b && nat_le b (byte (codes "~"))) bytes
 
 -- the first of the words is `vm`
 abbrev pub begins_with_vm : List Word → Bool
@@ -35,18 +35,24 @@ space_of words = do
 
 -- a number of one digit, and of two without a leading zero
 abbrev pub one_digit : ℕ → Option ℕ
-one_digit d = if nat_le 48 d && nat_le d 57 then Some (d - 48) else None
+one_digit d = if nat_le (byte (codes "0")) d && nat_le d (byte (codes "9")) then Some (d - byte (codes "0")) else None
+
+abbrev pub two_digits : ℕ → ℕ → Option ℕ
+two_digits d e =
+    let n = 10 * (d - byte (codes "0")) + (e - byte (codes "0")) in
+    if nat_le (byte (codes "1")) d && nat_le d (byte (codes "9")) && nat_le (byte (codes "0")) e && nat_le e (byte (codes "9"))
+    then (if nat_lt 63 n then None else Some n) else None
 
 abbrev pub core_number : List ℕ → Option ℕ
 core_number [] = None
 core_number (d ∷ []) = one_digit d
-core_number (d ∷ e ∷ []) = if nat_le 49 d && nat_le d 57 && nat_le 48 e && nat_le e 57 then (if nat_lt 63 (10 * (d - 48) + (e - 48)) then None else Some (10 * (d - 48) + (e - 48))) else None
+core_number (d ∷ e ∷ []) = two_digits d e
 core_number (d ∷ e ∷ f ∷ fs) = None
 
 -- the core of a word `cC`
 abbrev pub core_of : Word → Option ℕ
 core_of [] = None
-core_of (c ∷ cs) = if c == 99 then core_number cs else None
+core_of (c ∷ cs) = if c == byte (codes "c") then core_number cs else None
 
 unfoldable pub call_of : ℕ → List Word → Option Line
 call_of core words = do
@@ -57,7 +63,9 @@ call_of core words = do
 unfoldable pub action_of : ℕ → List Word → Option Line
 action_of core words = do
   name ← front_word words
-  if bytes_eq name.0 (codes "call") then call_of core name.1 else if bytes_eq name.0 (codes "go") then ended name.1 (Go core) else if bytes_eq name.0 (codes "finish") then ended name.1 (Finish core) else None
+  if bytes_eq name.0 (codes "call") then call_of core name.1
+      else if bytes_eq name.0 (codes "go") then ended name.1 (Go core)
+      else if bytes_eq name.0 (codes "finish") then ended name.1 (Finish core) else None
 
 unfoldable pub now_of : Word → List Word → Option Line
 now_of word args = do
@@ -67,7 +75,8 @@ now_of word args = do
 
 -- a line of a core: `cC! REQ`, or `cC` and what it does
 unfoldable pub event_of : Word → List Word → Option Line
-event_of name args = if ends_with_byte 33 name then now_of (strip_last 33 name) args else (core_of name >>= λ core. action_of core args)
+event_of name args = if ends_with_byte (byte (codes "!")) name then now_of (strip_last (byte (codes "!")) name) args
+    else (core_of name >>= λ core. action_of core args)
 
 -- what the words of a line say; no word says nothing
 unfoldable pub line_of_words : List Word → Option Line
@@ -77,4 +86,4 @@ line_of_words (name ∷ args) = if bytes_eq name (codes "vm") then space_of args
 -- what printable bytes say; a line that begins with # says nothing
 abbrev pub line_of : List ℕ → Option Line
 line_of [] = line_of_words (words_of [])
-line_of (b ∷ bs) = if b == 35 then Some Blank else line_of_words (words_of (b ∷ bs))
+line_of (b ∷ bs) = if b == byte (codes "#") then Some Blank else line_of_words (words_of (b ∷ bs))

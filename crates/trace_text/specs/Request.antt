@@ -5,7 +5,7 @@ use Rattle.vm_base.specs.declared.rights.Prot.{Prot}
 use Rattle.vm_base.specs.declared.requests.Flags.{Flags}
 use Rattle.vm_base.specs.declared.requests.Request.{Request}
 use Rattle.vm_base.specs.declared.requests.Request.TheVariants.{Mmap, Munmap, Mprotect, Load, Store, Fetch}
-use Rattle.trace_text.specs.Words.{Word, front_word}
+use Rattle.trace_text.specs.Words.{Word, byte, front_word}
 use Rattle.trace_text.specs.Number.{number_of}
 
 infixl 10 ◌>>=◌
@@ -20,7 +20,7 @@ ended (w ∷ ws) x = None
 
 -- a right's letter, or a dash where it isn't given
 abbrev pub mark_of : ℕ → ℕ → Option Bool
-mark_of letter c = if c == letter then Some true else if c == 45 then Some false else None
+mark_of letter c = if c == letter then Some true else if c == byte (codes "-") then Some false else None
 
 -- three marks: of read, write and execute
 unfoldable pub prot_of : Word → Option Prot
@@ -28,9 +28,9 @@ prot_of [] = None
 prot_of (r ∷ []) = None
 prot_of (r ∷ w ∷ []) = None
 prot_of (r ∷ w ∷ x ∷ []) = do
-  read ← mark_of 114 r
-  write ← mark_of 119 w
-  exec ← mark_of 120 x
+  read ← mark_of (byte (codes "r")) r
+  write ← mark_of (byte (codes "w")) w
+  exec ← mark_of (byte (codes "x")) x
   Some (record { read = read; write = write; exec = exec })
 prot_of (r ∷ w ∷ x ∷ y ∷ ys) = None
 
@@ -89,7 +89,10 @@ no_flags = record { private = false; shared = false; fixed = false; anon = false
 
 -- one letter more, which was not there
 abbrev pub flag_more : Flags → ℕ → Option Flags
-flag_more f c = if (c == 112) && not f.private then Some (record f { private = true }) else if (c == 115) && not f.shared then Some (record f { shared = true }) else if (c == 102) && not f.fixed then Some (record f { fixed = true }) else if (c == 97) && not f.anon then Some (record f { anon = true }) else None
+flag_more f c = if (c == byte (codes "p")) && not f.private then Some (record f { private = true })
+    else if (c == byte (codes "s")) && not f.shared then Some (record f { shared = true })
+    else if (c == byte (codes "f")) && not f.fixed then Some (record f { fixed = true })
+    else if (c == byte (codes "a")) && not f.anon then Some (record f { anon = true }) else None
 
 -- each letter at most once
 abbrev pub flags_from : Flags → List ℕ → Option Flags
@@ -124,4 +127,9 @@ mmap_of words = do
 unfoldable pub request_of : List Word → Option Request
 request_of words = do
   name ← front_word words
-  if bytes_eq name.0 (codes "mmap") then mmap_of name.1 else if bytes_eq name.0 (codes "munmap") then munmap_of name.1 else if bytes_eq name.0 (codes "mprotect") then mprotect_of name.1 else if bytes_eq name.0 (codes "load") then load_of name.1 else if bytes_eq name.0 (codes "store") then store_of name.1 else if bytes_eq name.0 (codes "fetch") then fetch_of name.1 else None
+  if bytes_eq name.0 (codes "mmap") then mmap_of name.1
+      else if bytes_eq name.0 (codes "munmap") then munmap_of name.1
+      else if bytes_eq name.0 (codes "mprotect") then mprotect_of name.1
+      else if bytes_eq name.0 (codes "load") then load_of name.1
+      else if bytes_eq name.0 (codes "store") then store_of name.1
+      else if bytes_eq name.0 (codes "fetch") then fetch_of name.1 else None

@@ -1,6 +1,7 @@
 //! What a page has.
-ghost use Rattle.std.specs.Prelude.{◌≡◌, ◌+◌, ◌<◌, ◌^◌};
+ghost use Rattle.std.specs.Prelude.{◌≡◌, ◌+◌, ◌<◌, ◌^◌, ◌↔◌, IsTrue, false};
 ghost use Rattle.vm_base.specs.Info.{advance, file_page, info_file_page, info_from, unused};
+ghost use Rattle.vm_base.specs.Info.{is_leaf, info_with_prot};
 
 use crate::cores::CoreSet;
 use crate::rights::Prot;
@@ -95,6 +96,53 @@ pub fn info_from(info: Option<PageInfo>, by: u64) -> Option<PageInfo>
         None => None,
         Some(info) => Some(PageInfo {
             meta: info.meta.advanced(by),
+            ..info
+        }),
+    }
+}
+
+/// Tells whether the page has a frame or a recorded core, and so is a slot of its own.
+pub fn is_leaf(info: Option<PageInfo>) -> bool
+    ensures { result ≡ is_leaf info }
+{
+    match info {
+        None => false,
+        Some(info) => info.frame.is_some() || !info.cores.is_empty(),
+    }
+}
+
+/// Tells whether two mappings are the same.
+pub fn is_same(meta: Meta, other: Meta) -> bool
+    ensures { IsTrue result ↔ (meta ≡ other) }
+{
+    meta == other
+}
+
+/// Tells whether what a page has goes on at the page `by` pages later, which has `next`: whether both can be in one slot.
+/// The caller has seen that neither has a frame or a recorded core, and that the number of the file page fits 64 bits.
+pub fn goes_on(info: Option<PageInfo>, next: Option<PageInfo>, by: u64) -> bool
+    requires fits { info_file_page info + by < 2 ^ 64 }
+    requires no_leaf { is_leaf info ≡ false }
+    requires next_no_leaf { is_leaf next ≡ false }
+    ensures { IsTrue result ↔ (next ≡ info_from info by) }
+{
+    match (info, next) {
+        (None, None) => true,
+        (Some(info), Some(next)) => is_same(info.meta.advanced(by), next.meta),
+        _ => false,
+    }
+}
+
+/// What a page has under another protection, under which no core has used it yet: the same frame, and no recorded core.
+/// An unmapped page stays so.
+pub fn protected(info: Option<PageInfo>, prot: Prot) -> Option<PageInfo>
+    ensures { result ≡ info_with_prot prot info }
+{
+    match info {
+        None => None,
+        Some(info) => Some(PageInfo {
+            meta: Meta { prot, ..info.meta },
+            cores: CoreSet::empty(),
             ..info
         }),
     }

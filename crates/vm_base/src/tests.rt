@@ -1,11 +1,12 @@
 //! Each public function once, with the values that the public standards and this project's rules give.
-ghost use Rattle.std.specs.Prelude.{◌≡◌};
-ghost use Rattle.vm_base.specs.Info.{file_page};
+ghost use Rattle.std.specs.Prelude.{◌≡◌, false};
+ghost use Rattle.vm_base.specs.Info.{file_page, info_file_page, is_leaf};
 
 use crate::page::is_page_start;
 use crate::{
     Access, Back, CoreId, CoreSet, Errno, Flags, Meta, Mode, NoMemory, PageInfo, PageRange, Prot,
-    Reply, Request, allows, info_from, is_valid, pages, refusal, window,
+    Reply, Request, allows, goes_on, info_from, is_leaf, is_valid, offset_of, page_count, page_of,
+    pages, protected, refusal, window,
 };
 use std::alloc::AllocError;
 use std::test::Fail;
@@ -29,6 +30,22 @@ fn private(page: u64) -> Meta
         back: Back::Private { file: 3, page },
         prot: READ_WRITE,
     }
+}
+
+fn unused(page: u64) -> Option<PageInfo>
+    ensures leaf { is_leaf result ≡ false }
+    ensures page { info_file_page result ≡ page }
+{
+    Some(PageInfo::unused(private(page)))
+}
+
+// A page that has frame 3.
+fn framed(meta: Meta, cores: CoreSet) -> Option<PageInfo> {
+    Some(PageInfo {
+        meta,
+        frame: Some(3),
+        cores,
+    })
 }
 
 #[test]
@@ -61,8 +78,18 @@ fn sets_have_the_cores_put_into_them(rt: HostRuntime) {
 
 #[test]
 fn pages_have_4_kib(rt: HostRuntime) {
-    assert!(rt; is_page_start(0x11000));
-    assert!(rt; !is_page_start(0x10fff));
+    for (addr, page, offset, count) in [
+        (0, 0, 0, 0),
+        (0xfff, 0, 0xfff, 1),
+        (0x1000, 1, 0, 1),
+        (0x1001, 1, 1, 2),
+        (u64::MAX, 0xf_ffff_ffff_ffff, 0xfff, 0x10_0000_0000_0000),
+    ] {
+        assert_eq!(rt; page_of(addr), page);
+        assert_eq!(rt; offset_of(addr), offset);
+        assert_eq!(rt; is_page_start(addr), offset == 0);
+        assert_eq!(rt; page_count(addr), count);
+    }
     let two = PageRange {
         first: 0x10,
         end: 0x12,
@@ -164,9 +191,53 @@ fn later_pages_have_the_next_file_pages(rt: HostRuntime) {
 }
 
 #[test]
+fn neighbours_make_one_slot(rt: HostRuntime) {
+    assert!(rt; goes_on(unused(7), unused(12), 5));
+    assert!(rt; goes_on(None, None, 5));
+    assert!(rt; !goes_on(unused(7), None, 5));
+    assert!(rt; !goes_on(None, unused(7), 5));
+    assert!(rt; !goes_on(unused(7), unused(7), 1));
+    let meta = Meta {
+        prot: NONE,
+        ..private(7)
+    };
+    let some = CoreSet::empty().with(CoreId::new(5));
+    let kept = framed(meta, CoreSet::empty());
+    assert_eq!(rt; protected(framed(private(7), some), NONE), kept);
+    assert_eq!(rt; protected(None, NONE), None);
+    assert!(rt; is_leaf(framed(meta, CoreSet::empty())));
+    assert!(rt; !is_leaf(unused(7)));
+    assert!(rt; !is_leaf(None));
+}
+
+#[test]
+fn flags_and_an_offset_say_what_backs_a_page(rt: HostRuntime) {
+    let shared = Flags {
+        private: false,
+        shared: true,
+        fixed: false,
+        anon: false,
+    };
+    let private = Flags {
+        private: true,
+        shared: false,
+        ..shared
+    };
+    let anonymous = Flags {
+        anon: true,
+        ..private
+    };
+    assert_eq!(rt; shared.back(3, 0x2000), Back::Shared { file: 3, page: 2 });
+    assert_eq!(rt; private.back(3, 0x2000), Back::Private { file: 3, page: 2 });
+    assert_eq!(rt; anonymous.back(u64::MAX, 1), Back::Anon);
+}
+
+#[test]
 fn a_refused_growth_is_want_of_memory(rt: HostRuntime) -> Result<(), Fail> {
     let refused: NoMemory = AllocError.into();
     assert_eq!(rt; refused, NoMemory);
+    let text = format!(in rt.alloc(); "{refused}")?;
+    assert_eq!(rt; text.as_str(), "out of memory");
     Ok(())
 }
 

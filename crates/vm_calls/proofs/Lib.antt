@@ -2,4 +2,9 @@ mod Rooms
 mod Steps
 mod Absent
 pub mod Readable
-mod Plainly
+pub mod Passed
+pub mod Covered
+mod Places
+pub mod Alike
+pub mod Accesses
+pub mod Plainly

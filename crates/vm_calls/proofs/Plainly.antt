@@ -1,5 +1,5 @@
 -- Decisions over slots are the plain page map's answers
-use Rattle.std.proofs.Common.{◌≡◌, ℕ, ◌+◌, ◌*◌, ◌^◌, ◌<◌, ◌≤◌, ◌⊎◌, inl, inr, min, not, Bool, true, false, Option, Some, None, Result, Ok, Err, is_some, refl, sym, ◌∙◌, ap, subst, arith}
+use Rattle.std.proofs.Common.{◌≡◌, ℕ, ◌+◌, ◌*◌, ◌^◌, ◌<◌, ◌≤◌, ◌⊎◌, inl, inr, min, not, Bool, true, false, Option, Some, None, Result, Ok, is_some, refl, sym, ◌∙◌, ap, subst, arith}
 use Rattle.std.specs.Prelude.{if◌then◌else◌}
 use Rattle.std.proofs.Math.Path.{fun_ext}
 use Rattle.std.proofs.lemmas.Bool.{cases_lt}
@@ -19,25 +19,29 @@ use Rattle.vm_base.specs.declared.rights.Access.{Access}
 use Rattle.vm_base.specs.declared.rights.Access.TheVariants.{Load, Store, Fetch}
 use Rattle.vm_base.specs.declared.replies.Errno.TheVariants.{ENOMEM, EACCES}
 use Rattle.vm_base.specs.declared.replies.Reply.{Reply}
-use Rattle.vm_base.specs.declared.replies.SegvCode.TheVariants.{MapErr}
-use Rattle.vm_base.specs.declared.replies.Reply.TheVariants.{Mapped, Done, Refused, Segv}
+use Rattle.vm_base.specs.declared.replies.Reply.TheVariants.{Mapped, Done, Refused}
 use Rattle.vm_base.specs.Rights.{can_write}
-use Rattle.vm_base.specs.Pages.{is_page, are_pages, page_of, page_count, pages_of, pages_from, window_of}
+use Rattle.vm_base.specs.Pages.{are_pages, page_of, page_count, pages_of, pages_from, window_of}
 use Rattle.vm_base.specs.Plain.{File, Entry, Plain, mode_of, is_mapped}
 use Rattle.vm_base.specs.Refusals.{refusal}
 use Rattle.vm_base.specs.Places.{IsPlace}
 use Rattle.vm_base.specs.Places.IsPlace.{at_hint, in_window}
-use Rattle.vm_base.specs.Apply.{Applies, AppliesAfter, Performs, Protects, MapsAt, HasPage, is_absent, is_read_only, is_read_only_back, forbids_write, mapped, unmapped, protected}
+use Rattle.vm_base.specs.Apply.{meta_of, Applies, AppliesAfter, Performs, Protects, MapsAt, HasPage, is_absent, is_read_only, is_read_only_back, forbids_write, mapped, unmapped, protected}
 use Rattle.vm_base.specs.Apply.Protects.{no_page, no_write, done}
 use Rattle.slot_lock.specs.declared.plan.Change.TheVariants.{Put, Clear, Protect}
 use Rattle.slot_lock.specs.declared.plan.Plan.{Plan}
 use Rattle.slot_lock.specs.declared.plan.Plan.TheVariants as PlanOf
+use Rattle.slot_lock.specs.declared.footprint.Footprint.{Footprint}
+use Rattle.slot_lock.specs.Footprint.{covers, footprint_of, one_range, with_hint}
 use Rattle.slot_lock.specs.Slots.{Slots}
 use Rattle.vm_calls.specs.declared.decision.Decision.{Decision}
 use Rattle.vm_calls.specs.declared.decision.Decision.TheVariants.{Refuse, Act}
-use Rattle.vm_calls.specs.Checks.{checked, plan_of, unless_refused, touched, touch_of, HasModes, meta_of, placed_count, hint_at, place_of}
+use Rattle.vm_calls.specs.Checks.{checked, plan_of, touched, HasModes, placed_count, hint_at, place_of}
 use Rattle.vm_calls.specs.Decisions.{Decides, DecidesProtect, DecidesPlace, GoesTo, Acts, IsNoTouch, entries, entry_of, hint_page}
 use Rattle.vm_calls.specs.Decisions.DecidesProtect.{no_page as absent_page, no_write as read_only_page, acts}
+use Rattle.vm_calls.proofs.Passed.{passed, touch-of}
+use Rattle.vm_calls.proofs.Covered.{one-covered, window-covered, hint-within, hint-counts}
+use Rattle.vm_calls.proofs.Places.{place-alike}
 use Rattle.vm_calls.specs.Plainly.{ShowsPage, IsShown, IsPlain, answer_to, left_by}
 
 -- ---- the tests of a page say the same of the plain map and of the slots
@@ -65,20 +69,20 @@ same-read_only t files modes (Some e) (Some info) h = ap (λ (b : Back). is_read
 same-read_only t files modes None (Some info) h = absurd h
 same-read_only t files modes (Some e) None h = absurd h
 
-shown-mapped : (t : Plain) (files : ℕ → Option File) (s : Slots) → IsShown t files s → is_mapped t.entry ≡ is_mapped (entries s)
-shown-mapped t files s h = fun_ext (λ p. same-absent (t.entry p) (s.info p) (h.pages p))
+shown-mapped : (t : Plain) (files : ℕ → Option File) (s : Slots) (fp : Footprint) → IsShown t files s fp → (p : ℕ) → covers fp p ≡ true → is_mapped (entries s) p ≡ is_mapped t.entry p
+shown-mapped t files s fp h p in' = sym (same-absent (t.entry p) (s.info p) (h.pages p in'))
 
-absent-there : (t : Plain) (files : ℕ → Option File) (s : Slots) (r : PageRange) → IsShown t files s → HasPage is_absent (entries s) r → HasPage is_absent t.entry r
-absent-there t files s r h x = (x.0, x.1, ap not (same-absent (t.entry x.0) (s.info x.0) (h.pages x.0)) ∙ x.2)
+absent-there : (t : Plain) (files : ℕ → Option File) (s : Slots) (r : PageRange) → IsShown t files s (one_range r) → HasPage is_absent (entries s) r → HasPage is_absent t.entry r
+absent-there t files s r h x = (x.0, x.1, ap not (same-absent (t.entry x.0) (s.info x.0) (h.pages x.0 (one-covered r x.0 x.1))) ∙ x.2)
 
-absent-here : (t : Plain) (files : ℕ → Option File) (s : Slots) (r : PageRange) → IsShown t files s → HasPage is_absent t.entry r → HasPage is_absent (entries s) r
-absent-here t files s r h x = (x.0, x.1, sym (ap not (same-absent (t.entry x.0) (s.info x.0) (h.pages x.0))) ∙ x.2)
+absent-here : (t : Plain) (files : ℕ → Option File) (s : Slots) (r : PageRange) → IsShown t files s (one_range r) → HasPage is_absent t.entry r → HasPage is_absent (entries s) r
+absent-here t files s r h x = (x.0, x.1, sym (ap not (same-absent (t.entry x.0) (s.info x.0) (h.pages x.0 (one-covered r x.0 x.1)))) ∙ x.2)
 
-read_only-there : (t : Plain) (files : ℕ → Option File) (s : Slots) (r : PageRange) → IsShown t files s → HasPage (is_read_only files) (entries s) r → HasPage (is_read_only t.file) t.entry r
-read_only-there t files s r h x = (x.0, x.1, same-read_only t files h.modes (t.entry x.0) (s.info x.0) (h.pages x.0) ∙ x.2)
+read_only-there : (t : Plain) (files : ℕ → Option File) (s : Slots) (r : PageRange) → IsShown t files s (one_range r) → HasPage (is_read_only files) (entries s) r → HasPage (is_read_only t.file) t.entry r
+read_only-there t files s r h x = (x.0, x.1, same-read_only t files h.modes (t.entry x.0) (s.info x.0) (h.pages x.0 (one-covered r x.0 x.1)) ∙ x.2)
 
-read_only-here : (t : Plain) (files : ℕ → Option File) (s : Slots) (r : PageRange) → IsShown t files s → HasPage (is_read_only t.file) t.entry r → HasPage (is_read_only files) (entries s) r
-read_only-here t files s r h x = (x.0, x.1, sym (same-read_only t files h.modes (t.entry x.0) (s.info x.0) (h.pages x.0)) ∙ x.2)
+read_only-here : (t : Plain) (files : ℕ → Option File) (s : Slots) (r : PageRange) → IsShown t files s (one_range r) → HasPage (is_read_only t.file) t.entry r → HasPage (is_read_only files) (entries s) r
+read_only-here t files s r h x = (x.0, x.1, sym (same-read_only t files h.modes (t.entry x.0) (s.info x.0) (h.pages x.0 (one-covered r x.0 x.1))) ∙ x.2)
 
 -- ---- requests that no test of the arguments refuses
 
@@ -91,7 +95,7 @@ applied t core request y u ok p = performed t core request y u (refusal (λ n. m
 
 -- ---- mprotect
 
-protects : (t : Plain) (files : ℕ → Option File) (s : Slots) (core addr len : ℕ) (prot : Prot) (d : Decision) → IsShown t files s → DecidesProtect files s (pages_of addr len) prot d
+protects : (t : Plain) (files : ℕ → Option File) (s : Slots) (core addr len : ℕ) (prot : Prot) (d : Decision) → IsShown t files s (one_range (pages_of addr len)) → DecidesProtect files s (pages_of addr len) prot d
     → refusal (λ n. mode_of (t.file n)) (Mprotect addr len prot) ≡ None → IsPlain t core (Mprotect addr len prot) (PlanOf.Change (Protect (pages_of addr len) prot)) d
 protects t files s core addr len prot d h dec ok = by d dec
   where
@@ -158,7 +162,8 @@ fixed : (t : Plain) (s : Slots) (core addr len : ℕ) (meta : Meta) (d : Decisio
 fixed t s core addr len meta (Refuse e) a = absurd a
 fixed t s core addr len meta (Act changes shoot) a = (ap (λ (r : PageRange). Mapped (r.first * 4096)) a.0, ap (λ (r : PageRange). mapped t r meta.back meta.prot) a.0)
 
-placed : (t : Plain) (files : ℕ → Option File) (s : Slots) (core addr len : ℕ) (meta : Meta) (d : Decision) → core < 64 → IsShown t files s → DecidesPlace s (place_of core addr len meta) d
+placed : (t : Plain) (files : ℕ → Option File) (s : Slots) (core addr len : ℕ) (meta : Meta) (d : Decision) → core < 64
+    → IsShown t files s (with_hint (hint_at (page_of addr) (placed_count len)) (window_of core)) → DecidesPlace s (place_of core addr len meta) d
     → Answers false t core addr len meta (PlanOf.Place (place_of core addr len meta)) d
 placed t files s core addr len meta d few h dec = by d dec.0 dec.1 dec.2
   where
@@ -166,7 +171,13 @@ placed t files s core addr len meta d few h dec = by d dec.0 dec.1 dec.2
     n = page_count len
 
     there : (found : Option ℕ) → IsPlace (is_mapped (entries s)) (window_of core) (hint_page (hint_at (page_of addr) (placed_count len))) (placed_count len) found → IsPlace (is_mapped t.entry) (window_of core) (page_of addr) n found
-    there found p = subst (λ (m : ℕ → Bool). IsPlace m (window_of core) (page_of addr) n found) (sym (shown-mapped t files s h)) (place-found (is_mapped (entries s)) core (page_of addr) n found few p)
+    there found p =
+        let hint = hint_at (page_of addr) (placed_count len) in
+        let same = shown-mapped t files s (with_hint hint (window_of core)) h in
+        place-found (is_mapped t.entry) core (page_of addr) n found few
+        (place-alike (is_mapped (entries s)) (is_mapped t.entry) (window_of core) (hint_page hint) (placed_count len) found
+        (λ p in'. same p (window-covered hint (window_of core) p in'))
+        (λ v p in'. same p (hint-within hint (placed_count len) (window_of core) (hint-counts (page_of addr) (placed_count len)) p v in')) p)
 
     same-count : (f : ℕ) → IsPlace (is_mapped (entries s)) (window_of core) (hint_page (hint_at (page_of addr) (placed_count len))) (placed_count len) (Some f) → placed_count len ≡ n
     same-count f p = let l : placed_count len < 2 ^ 35 = few-found (is_mapped (entries s)) core _ (placed_count len) f few p in omega (arith, l)
@@ -180,7 +191,7 @@ placed t files s core addr len meta d few h dec = by d dec.0 dec.1 dec.2
         let range : changes ≡ pages_from f n = g.0 ∙ ap (λ (k : ℕ). pages_from f k) (same-count f p) in
         (Some f, there (Some f) p, (ap (λ (r : PageRange). Mapped (r.first * 4096)) range, ap (λ (r : PageRange). mapped t r meta.back meta.prot) range))
 
-mmaps : (t : Plain) (files : ℕ → Option File) (s : Slots) (core addr len : ℕ) (meta : Meta) (plan : Plan) (d : Decision) → core < 64 → IsShown t files s
+mmaps : (t : Plain) (files : ℕ → Option File) (s : Slots) (core addr len : ℕ) (meta : Meta) (plan : Plan) (d : Decision) → core < 64 → IsShown t files s (footprint_of plan)
     → (b : Bool) → ◌≡◌ {A = Result Plan Reply} (if b then Ok (PlanOf.Change (Put (pages_of addr len) meta)) else Ok (PlanOf.Place (place_of core addr len meta))) (Ok plan) → Decides files s plan d
     → Answers b t core addr len meta plan d
 mmaps t files s core addr len meta plan d few h true is dec =
@@ -188,7 +199,7 @@ mmaps t files s core addr len meta plan d few h true is dec =
     subst (λ (z : Plan). Decides files s z d → Answers true t core addr len meta z d) e (λ a. fixed t s core addr len meta d a) dec
 mmaps t files s core addr len meta plan d few h false is dec =
     let e : PlanOf.Place (place_of core addr len meta) ≡ plan = cc in
-    subst (λ (z : Plan). Decides files s z d → Answers false t core addr len meta z d) e (λ a. placed t files s core addr len meta d few h a) dec
+    subst (λ (z : Plan). IsShown t files s (footprint_of z) → Decides files s z d → Answers false t core addr len meta z d) e (λ shown a. placed t files s core addr len meta d few shown a) h dec
 
 mmap-applied : (t : Plain) (core addr len : ℕ) (prot : Prot) (flags : Flags) (file off : ℕ) (plan : Plan) (d : Decision) → refusal (λ n. mode_of (t.file n)) (Mmap addr len prot flags file off) ≡ None
     → Answers flags.fixed t core addr len (meta_of prot flags file off) plan d → IsPlain t core (Mmap addr len prot flags file off) plan d
@@ -205,15 +216,11 @@ unmaps t s core addr len (Act changes shoot) a ok = applied t core (Munmap addr 
 -- ---- accesses
 
 no-touch : (addr : ℕ) (access : Access) (byte : ℕ) (plan : Plan) → touched addr access byte ≡ Ok plan → IsNoTouch plan → ⊥
-no-touch addr access byte plan is some = go (is_page (page_of addr)) is
-  where
-    go : (b : Bool) → ◌≡◌ {A = Result Plan Reply} (if b then Ok (PlanOf.Touch (touch_of addr access byte)) else Err (Segv MapErr)) (Ok plan) → ⊥
-    go true e = let same : PlanOf.Touch (touch_of addr access byte) ≡ plan = cc in subst (λ (z : Plan). IsNoTouch z → ⊥) same (λ x. x) some
-    go false e = absurd cc
+no-touch addr access byte plan is some = subst (λ (z : Plan). IsNoTouch z → ⊥) (touch-of addr byte access plan is).1 (λ x. x) some
 
 -- ---- every request
 
-plan-plain : (t : Plain) (files : ℕ → Option File) (s : Slots) (core : ℕ) (request : Request) (plan : Plan) (d : Decision) → core < 64 → IsShown t files s
+plan-plain : (t : Plain) (files : ℕ → Option File) (s : Slots) (core : ℕ) (request : Request) (plan : Plan) (d : Decision) → core < 64 → IsShown t files s (footprint_of plan)
     → refusal (λ n. mode_of (t.file n)) request ≡ None → plan_of core request ≡ Ok plan → IsNoTouch plan → Decides files s plan d → IsPlain t core request plan d
 plan-plain t files s core (Mmap addr len prot flags file off) plan d few h ok is some dec =
     mmap-applied t core addr len prot flags file off plan d ok (mmaps t files s core addr len (meta_of prot flags file off) plan d few h flags.fixed is dec)
@@ -222,17 +229,13 @@ plan-plain t files s core (Munmap addr len) plan d few h ok is some dec =
     subst (λ (z : Plan). Decides files s z d → IsPlain t core (Munmap addr len) z d) e (λ a. unmaps t s core addr len d a ok) dec
 plan-plain t files s core (Mprotect addr len prot) plan d few h ok is some dec =
     let e : PlanOf.Change (Protect (pages_of addr len) prot) ≡ plan = cc in
-    subst (λ (z : Plan). Decides files s z d → IsPlain t core (Mprotect addr len prot) z d) e (λ a. protects t files s core addr len prot d h a ok) dec
+    subst (λ (z : Plan). IsShown t files s (footprint_of z) → Decides files s z d → IsPlain t core (Mprotect addr len prot) z d) e (λ shown a. protects t files s core addr len prot d shown a ok) h dec
 plan-plain t files s core (LoadOf addr) plan d few h ok is some dec = absurd (no-touch addr Load 0 plan is some)
 plan-plain t files s core (StoreOf addr byte) plan d few h ok is some dec = absurd (no-touch addr Store byte plan is some)
 plan-plain t files s core (FetchOf addr) plan d few h ok is some dec = absurd (no-touch addr Fetch 0 plan is some)
 
-passed : (o : Option Reply) (p : Result Plan Reply) (plan : Plan) → unless_refused o p ≡ Ok plan → (o ≡ None) × (p ≡ Ok plan)
-passed None p plan is = (refl, is)
-passed (Some r) p plan is = absurd cc
-
 pub plain : (t : Plain) (files : ℕ → Option File) (s : Slots) (core : ℕ) (request : Request) (plan : Plan) (d : Decision)
-    → core < 64 → IsShown t files s → checked (λ n. mode_of (files n)) core request ≡ Ok plan → IsNoTouch plan → Decides files s plan d → IsPlain t core request plan d
+    → core < 64 → IsShown t files s (footprint_of plan) → checked (λ n. mode_of (files n)) core request ≡ Ok plan → IsNoTouch plan → Decides files s plan d → IsPlain t core request plan d
 plain t files s core request plan d few h is some dec =
     let z = passed (refusal (λ n. mode_of (files n)) request) (plan_of core request) plan is in
     let modes : (λ n. mode_of (t.file n)) ≡ (λ n. mode_of (files n)) = fun_ext h.modes in

@@ -5,8 +5,6 @@ use Rattle.vm_base.specs.declared.info.Meta.{Meta}
 use Rattle.vm_base.specs.declared.rights.Access.{Access}
 use Rattle.vm_base.specs.declared.rights.Access.TheVariants.{Load, Store, Fetch}
 use Rattle.vm_base.specs.declared.rights.Mode.{Mode}
-use Rattle.vm_base.specs.declared.rights.Prot.{Prot}
-use Rattle.vm_base.specs.declared.requests.Flags.{Flags}
 use Rattle.vm_base.specs.declared.requests.Request.{Request}
 use Rattle.vm_base.specs.declared.requests.Request.TheVariants.{Mmap, Munmap, Mprotect}
 use Rattle.vm_base.specs.declared.requests.Request.TheVariants.{Load as LoadOf, Store as StoreOf, Fetch as FetchOf}
@@ -16,15 +14,12 @@ use Rattle.vm_base.specs.declared.replies.Reply.TheVariants.{Segv}
 use Rattle.vm_base.specs.Pages.{is_page, page_of, offset_of, page_count, are_pages, pages_of, pages_from, window_of}
 use Rattle.vm_base.specs.Plain.{Plain, File, mode_of}
 use Rattle.vm_base.specs.Refusals.{refusal}
-use Rattle.vm_base.specs.Apply.{back_at}
+use Rattle.vm_base.specs.Apply.{meta_of}
 use Rattle.slot_lock.specs.declared.plan.Change.TheVariants.{Put, Clear, Protect}
 use Rattle.slot_lock.specs.declared.plan.Place.{Place}
 use Rattle.slot_lock.specs.declared.plan.Touch.{Touch}
 use Rattle.slot_lock.specs.declared.plan.Plan.{Plan}
 use Rattle.slot_lock.specs.declared.plan.Plan.TheVariants as PlanOf
-
-abbrev pub meta_of : Prot → Flags → ℕ → ℕ → Meta
-meta_of prot flags file off = record { back = back_at flags file off; prot = prot }
 
 -- ---- a mapping without MAP_FIXED
 

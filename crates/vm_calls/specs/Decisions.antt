@@ -46,6 +46,10 @@ entry_of (Some info) = Some (record { back = info.meta.back; prot = info.meta.pr
 abbrev pub entries : Slots → ℕ → Option Entry
 entries s p = entry_of (s.info p)
 
+-- the slots say the same of each page of the footprint
+abbrev pub AreAlike : Footprint → Slots → Slots → Type 0
+AreAlike fp s t = (p : ℕ) → covers fp p ≡ true → s.info p ≡ t.info p
+
 -- ---- decisions
 
 -- what the pages of the range are changed to can be: there is some page, all are valid, and file pages fit

@@ -1,20 +1,25 @@
 -- What decisions have to do with the plain page map
-use Rattle.std.specs.Prelude.{◌≡◌, ℕ, ◌*◌, ◌<◌, Option, None, Some, Ok}
+use Rattle.std.specs.Prelude.{◌≡◌, ℕ, ◌*◌, ◌<◌, ◌↔◌, true, Option, None, Some, Ok, Err}
 use Rattle.vm_base.specs.declared.page.PageRange.{PageRange}
 use Rattle.vm_base.specs.declared.info.PageInfo.{PageInfo}
 use Rattle.vm_base.specs.declared.requests.Request.{Request}
 use Rattle.vm_base.specs.declared.replies.Reply.{Reply}
 use Rattle.vm_base.specs.declared.replies.Reply.TheVariants.{Mapped, Done, Refused}
+use Rattle.vm_base.specs.declared.rights.Mode.{Mode}
 use Rattle.vm_base.specs.Plain.{File, Entry, Plain, mode_of}
-use Rattle.vm_base.specs.Apply.{Applies, mapped, unmapped, protected}
+use Rattle.vm_base.specs.Apply.{Applies, mapped, unmapped, protected, entry_reply, stored_entry}
 use Rattle.slot_lock.specs.declared.plan.Change.TheVariants.{Put, Clear, Protect}
+use Rattle.slot_lock.specs.declared.plan.Touch.{Touch}
 use Rattle.slot_lock.specs.declared.plan.Plan.{Plan}
 use Rattle.slot_lock.specs.declared.plan.Plan.TheVariants as PlanOf
+use Rattle.slot_lock.specs.Plan.{IsSound}
+use Rattle.slot_lock.specs.declared.footprint.Footprint.{Footprint}
+use Rattle.slot_lock.specs.Footprint.{covers, footprint_of}
 use Rattle.slot_lock.specs.Slots.{Slots}
 use Rattle.vm_calls.specs.declared.decision.Decision.{Decision}
 use Rattle.vm_calls.specs.declared.decision.Decision.TheVariants.{Refuse, Act}
 use Rattle.vm_calls.specs.Checks.{checked, HasModes}
-use Rattle.vm_calls.specs.Decisions.{Decides, IsNoTouch}
+use Rattle.vm_calls.specs.Decisions.{Decides, IsNoTouch, AreAlike}
 
 -- the plain map has the page as the slot shows it: backed and protected alike, with whatever own bytes
 abbrev pub ShowsPage : Option Entry → Option PageInfo → Type 0
@@ -23,9 +28,10 @@ ShowsPage (Some e) (Some info) = (e.back ≡ info.meta.back) × (e.prot ≡ info
 ShowsPage None (Some info) = ⊥
 ShowsPage (Some e) None = ⊥
 
--- the slots show the plain map's pages, and its files are open for the same as these
-pub record IsShown (t : Plain) (files : ℕ → Option File) (s : Slots) : Type 0 where
-  pub pages : (p : ℕ) → ShowsPage (t.entry p) (s.info p)
+-- The slots show the plain map's pages in the footprint, and its files are open for the same as these. Of pages outside of it nothing is
+-- said: a few slots may have been lent.
+pub record IsShown (t : Plain) (files : ℕ → Option File) (s : Slots) (fp : Footprint) : Type 0 where
+  pub pages : (p : ℕ) → covers fp p ≡ true → ShowsPage (t.entry p) (s.info p)
   pub modes : HasModes t files
 
 -- the reply of a call that acts on the range
@@ -52,4 +58,39 @@ IsPlain t core request plan (Act range shoot) = Applies t core request (answer_t
 abbrev pub DecisionsArePlain : Type 0
 DecisionsArePlain =
     (t : Plain) (files : ℕ → Option File) (s : Slots) (core : ℕ) (request : Request) (plan : Plan) (d : Decision)
-    → core < 64 → IsShown t files s → checked (λ n. mode_of (files n)) core request ≡ Ok plan → IsNoTouch plan → Decides files s plan d → IsPlain t core request plan d
+    → core < 64 → IsShown t files s (footprint_of plan) → checked (λ n. mode_of (files n)) core request ≡ Ok plan → IsNoTouch plan
+    → Decides files s plan d → IsPlain t core request plan d
+
+-- A decision looks at the pages of its footprint alone
+abbrev pub DecisionsLookAtFootprints : Type 0
+DecisionsLookAtFootprints =
+    (files : ℕ → Option File) (s t : Slots) (plan : Plan) (d : Decision) → IsSound plan → AreAlike (footprint_of plan) s t → Decides files s plan d → Decides files t plan d
+
+-- ---- what the check decides
+
+-- What the check lets through is a sound plan
+abbrev pub CheckedPlansAreSound : Type 0
+CheckedPlansAreSound = (modes : ℕ → Option Mode) (core : ℕ) (request : Request) (plan : Plan) → core < 64 → checked modes core request ≡ Ok plan → IsSound plan
+
+-- what the check answers is the plain map's answer, which it leaves as it is
+abbrev pub RefusalsArePlain : Type 0
+RefusalsArePlain =
+    (t : Plain) (files : ℕ → Option File) (core : ℕ) (request : Request) (reply : Reply)
+    → HasModes t files → checked (λ n. mode_of (files n)) core request ≡ Err reply → Applies t core request reply t
+
+-- ---- accesses
+
+-- the plain map after an access: a store that was done changes its byte
+abbrev pub touched_by : Plain → Touch → Reply → Plain
+touched_by t touch Done = stored_entry t touch.page (t.entry touch.page) touch.offset touch.byte
+touched_by t touch _ = t
+
+-- the entry of its page answers an access, and says what a store changes
+abbrev pub EntryAnswers : Plain → Touch → Reply → Plain → Type 0
+EntryAnswers t touch y u = (entry_reply t.file (t.entry touch.page) touch.access touch.offset ≡ Some y) × (u ≡ touched_by t touch y)
+
+-- a request that the check finds to be an access is answered by the entry of its page
+abbrev pub AccessesArePlain : Type 0
+AccessesArePlain =
+    (t : Plain) (modes : ℕ → Option Mode) (core : ℕ) (request : Request) (touch : Touch) → checked modes core request ≡ Ok (PlanOf.Touch touch)
+    → (y : Reply) (u : Plain) → Applies t core request y u ↔ EntryAnswers t touch y u

@@ -11,10 +11,9 @@ ghost use Rattle.vm_calls.specs.Checks.{checked, HasModes, placed_count, hint_at
 use backing::Objects;
 use slot_lock::{Change, Place, Plan, Touch};
 use std::alloc::Allocator;
-use vm_base::page::PAGE_SIZE;
 use vm_base::{
-    Access, Back, CoreId, Flags, Meta, PageRange, Prot, Reply, Request, SegvCode, is_valid, pages,
-    refusal, window,
+    Access, Back, CoreId, Flags, Meta, PageRange, Prot, Reply, Request, SegvCode, is_valid,
+    offset_of, page_count, page_of, pages, refusal, window,
 };
 
 /// More pages than there are, from which on no mapping finds a place.
@@ -38,21 +37,14 @@ fn back_at<A: Allocator>(objects: &Objects<A>, flags: Flags, file: u64, off: u64
     if flags.anon || objects.mode(file).is_none() {
         return Back::Anon;
     }
-    let file = file as u32;
-    let page = off / PAGE_SIZE;
-    if flags.shared {
-        Back::Shared { file, page }
-    } else {
-        Back::Private { file, page }
-    }
+    flags.back(file, off)
 }
 
 /// How many pages are to be placed for so many bytes.
 fn placed_count(len: u64) -> u64
     ensures { result ≡ placed_count len }
 {
-    let count = (len as u128 + 4095) / 4096;
-    (count as u64).min(TOO_MANY_PAGES)
+    page_count(len).min(TOO_MANY_PAGES)
 }
 
 /// The pages of a hint, if all are valid.
@@ -60,7 +52,7 @@ fn hint_at(addr: u64, count: u64) -> Option<PageRange>
     requires { count ≤ 2 ^ 35 }
     ensures { result ≡ hint_at (page_of addr) count }
 {
-    let first = addr / PAGE_SIZE;
+    let first = page_of(addr);
     let hint = PageRange {
         first,
         end: first + count,
@@ -86,8 +78,8 @@ fn touched(addr: u64, access: Access, byte: u8) -> Result<Plan, Reply>
     ensures { result ≡ touched addr access byte }
 {
     let touch = Touch {
-        page: addr / PAGE_SIZE,
-        offset: addr % PAGE_SIZE,
+        page: page_of(addr),
+        offset: offset_of(addr),
         access,
         byte,
     };

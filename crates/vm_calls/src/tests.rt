@@ -1,7 +1,8 @@
 //! Worked requests of core 0 over a list of runs, and each test of the arguments on both sides of its edge. The replies are
 //! those of POSIX.1-2017 and of this project's profile of it.
-ghost use Rattle.std.specs.Prelude.{◌≡◌, IsTrue, IfOk, is_some};
+ghost use Rattle.std.specs.Prelude.{◌≡◌, IsTrue, IfOk, is_some, true};
 ghost use Rattle.vm_base.specs.Info.{frame_of};
+ghost use Rattle.vm_base.specs.Functions.{has};
 ghost use Rattle.vm_base.specs.Pages.{IsPage, IsPageRange};
 ghost use Rattle.slot_lock.specs.Plan.{IsSound, IsSoundChange};
 ghost use Rattle.slot_lock.specs.Slots.{IsHeld, NoFrames};
@@ -120,7 +121,8 @@ fn one_file<A: Allocator + Clone>(
     let bytes = vec![in alloc.clone()?; 1u8; len]?;
     let mut specs = Vec::new(alloc.clone()?);
     specs.push(FileSpec { mode, bytes })?;
-    Objects::new(alloc, &specs[..specs.len().min(16)])
+    specs.truncate(16);
+    Objects::new(alloc, specs)
 }
 
 /// The decision over a whole map.
@@ -130,6 +132,54 @@ fn decided<M: SlotMap, A: Allocator>(map: &M, objects: &Objects<A>, plan: Plan) 
     ensures { IsSoundAct plan result }
 {
     decide(map, objects, plan)
+}
+
+/// Slots that a call lends, as a list: only their pages may be asked for.
+#[derive(Drop)]
+struct Lent<A: Allocator> {
+    list: RunList<A>,
+    pages: PageRange,
+}
+
+impl<A: Allocator> SlotRead for Lent<A> {
+    ghost slots = { λ l. ⟦<RunList<A> as SlotRead>⟧.slots l.list };
+
+    ghost reads = { λ l p. IsPage p × (has l.pages p ≡ true) };
+
+    fn page(&self, page: u64) -> Option<PageInfo> {
+        self.list.page(page)
+    }
+
+    fn slot(&self, page: u64) -> PageRange {
+        self.list.slot(page)
+    }
+
+    fn first_free_run(&self, range: PageRange, n: u64) -> Option<u64> {
+        self.list.first_free_run(range, n)
+    }
+
+    fn recorded(&self, range: PageRange) -> CoreSet {
+        self.list.recorded(range)
+    }
+
+    fn all_mapped(&self, range: PageRange) -> bool {
+        self.list.all_mapped(range)
+    }
+}
+
+/// The decision over lent slots, if they have the pages of the change.
+fn decided_lent<A: Allocator>(
+    lent: &Lent<A>,
+    objects: &Objects<A>,
+    change: Change,
+) -> Option<Decision>
+    requires { IsSoundChange change }
+{
+    let range = change.range();
+    if range.first < lent.pages.first || lent.pages.end < range.end {
+        return None;
+    }
+    Some(decide(lent, objects, Plan::Change(change)))
 }
 
 /// What came of a request whose arguments alone are looked at: none where they pass.
@@ -542,34 +592,57 @@ fn edges_of_accesses(rt: HostRuntime) -> Result<(), Fail> {
     Ok(())
 }
 
-/// A shared page of a file that may be read.
-fn read_page(frame: Option<u32>) -> PageInfo {
-    PageInfo {
-        meta: Meta {
-            back: Back::Shared { file: 0, page: 3 },
-            prot: R,
-        },
+/// A page that is backed so.
+fn page_with(back: Back, prot: Prot, frame: Option<u32>) -> Option<PageInfo> {
+    Some(PageInfo {
+        meta: Meta { back, prot },
         frame,
         cores: CoreSet::empty(),
-    }
+    })
 }
 
 #[test]
 fn what_an_access_finds(rt: HostRuntime) -> Result<(), Fail> {
+    let back = Back::Shared { file: 0, page: 3 };
     let found = [
         settle(None, Access::Load, false, None),
-        settle(Some(read_page(None)), Access::Store, true, None),
-        settle(Some(read_page(None)), Access::Load, true, None),
-        settle(Some(read_page(Some(5))), Access::Load, false, Some(6)),
-        settle(Some(read_page(None)), Access::Load, false, Some(6)),
-        settle(Some(read_page(None)), Access::Load, false, None),
+        settle(page_with(back, R, None), Access::Store, true, None),
+        settle(page_with(back, R, None), Access::Load, true, None),
+        settle(page_with(back, R, Some(5)), Access::Load, false, Some(6)),
+        settle(page_with(back, RW, Some(6)), Access::Store, false, Some(6)),
+        settle(page_with(back, RW, None), Access::Store, false, Some(6)),
+        settle(page_with(back, R, None), Access::Load, false, None),
     ];
     let expected = [
         Settled::MapErr,
         Settled::AccErr,
         Settled::Bus,
         Settled::Has(5),
+        Settled::Has(6),
         Settled::Cached(6),
+        Settled::Wants,
+    ];
+    assert!(rt; found == expected);
+    Ok(())
+}
+
+#[test]
+fn a_private_page_shows_its_file_until_a_store(rt: HostRuntime) -> Result<(), Fail> {
+    let back = Back::Private { file: 0, page: 3 };
+    let found = [
+        settle(page_with(back, RW, None), Access::Load, false, Some(6)),
+        settle(page_with(back, RW, None), Access::Store, false, Some(6)),
+        settle(page_with(back, RW, Some(6)), Access::Load, false, Some(6)),
+        settle(page_with(back, RW, Some(6)), Access::Store, false, Some(6)),
+        settle(page_with(back, RW, Some(5)), Access::Store, false, Some(6)),
+        settle(page_with(back, RW, None), Access::Load, false, None),
+    ];
+    let expected = [
+        Settled::Cached(6),
+        Settled::Wants,
+        Settled::Has(6),
+        Settled::Copies(6),
+        Settled::Has(5),
         Settled::Wants,
     ];
     assert!(rt; found == expected);
@@ -607,5 +680,30 @@ fn recorded_cores_are_shot(rt: HostRuntime) -> Result<(), Fail> {
     let expected = Decision::Act { range, shoot };
     let decision = decided_after_use(&mut map, &objects, munmap(0xf000, 0x3000))?;
     assert!(rt; decision == Some(expected));
+    Ok(())
+}
+
+/// Two mapped pages, each a slot of its own.
+fn two_slots<A: Allocator>(alloc: A, objects: &Objects<A>) -> Result<Lent<A>, NoMemory>
+    ensures { IfOk result (λ lent. IsPageRange lent.pages) }
+{
+    let mut list = RunList::new(alloc)?;
+    run(&mut list, objects, mmap(0x10000, 4096, RW, PFA))?;
+    run(&mut list, objects, mmap(0x11000, 4096, R, PFA))?;
+    let pages = PageRange { first: 16, end: 18 };
+    Ok(Lent { list, pages })
+}
+
+#[test]
+fn two_lent_slots_read_as_a_map(rt: HostRuntime) -> Result<(), Fail> {
+    let objects = one_file(rt.alloc(), Mode::RW, 0)?;
+    let lent = two_slots(rt.alloc(), &objects)?;
+    let range = lent.pages;
+    let protect = Change::Protect { range, prot: RW };
+    let shoot = CoreSet::empty();
+    let act = Decision::Act { range, shoot };
+    assert!(rt; decided_lent(&lent, &objects, protect) == Some(act));
+    let beyond = PageRange { first: 16, end: 19 };
+    assert!(rt; decided_lent(&lent, &objects, Change::Clear { range: beyond }) == None);
     Ok(())
 }

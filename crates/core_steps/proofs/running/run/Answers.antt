@@ -1,7 +1,7 @@
-use Rattle.std.proofs.Common.{◌≡◌, refl, take, rules}
+use Rattle.std.proofs.Common.{◌≡◌, refl, take, inr, rules}
 use Rattle.std.proofs.lemmas.List.{take_all}
 use Rattle.core_steps.specs.Setups.{made_of}
-use Rattle.core_steps.proofs.Runs.{next_run, all_bracketed, all_sound}
+use Rattle.core_steps.proofs.Runs.{next_run, refused_next, all_bracketed, all_sound}
 use Rattle.core_steps.proofs.running.run.Goals as goal
 
 pub events-preserved : goal.events-preserved
@@ -20,3 +20,9 @@ pub returns-clause-sound : goal.returns-clause-sound
 returns-clause-sound g c =
     let all : take c.events.at c.args.events.now ≡ c.args.events.now = take_all c.events.at c.args.events.now c.events-test.false in
     all_sound (made_of c.args.setup.now) (g.M.SlotRead.slots c.args.map) _ c.args.events.now c.events.outcomes.items _ (λ n. refl) c.requires all c.events.invariant.run
+
+pub returns-in-Err-step-clause-fault : goal.returns-in-Err-step-clause-fault
+returns-in-Err-step-clause-fault g c = (
+  c.in-Ok-new.ensures.sound,
+  inr (refused_next _ _ c.events.at c.index-events-at.result _ _ c.events-test.true c.index-events-at.is c.events.invariant.run c.in-Err-step.ensures.step.1),
+)

@@ -1,13 +1,15 @@
-use Rattle.std.proofs.Common.{◌≡◌, ◌∙◌, true, false, is_some, refl, sym, rules, arith}
-use Rattle.radix_node.specs.State.{state_of}
-use Rattle.radix_range.specs.Tree.{tree_slots}
-use Rattle.radix_range.proofs.Walks.{some_unmapped}
+use Rattle.std.proofs.Common.{◌≡◌, ◌+◌, ◌*◌, ◌<◌, ◌≤◌, ◌^◌, ◌↔◌, true, refl, sym, ap, ◌∙◌, subst, rules, arith}
+use Rattle.vm_base.specs.Cores.{members}
+use Rattle.radix_node.specs.Run.{width_of}
+use Rattle.radix_node.specs.Node.{runs}
+use Rattle.radix_node.specs.Walk.{Finds}
+use Rattle.radix_range.proofs.Walks.{of_root, users_are, mapped_are, no_frames, nowhere, first_framed, free_run_found, free_run_least, free_run_none}
 use Rattle.radix_range.proofs.walk.all_mapped.Goals as goal
 
-pub returns-then-not-is_mapped : goal.returns-then-not-is_mapped
-returns-then-not-is_mapped g c =
-    let none : is_some (state_of c.slot_at-slot.result.state.now).info ≡ false = search rules in
-    (λ is. absurd (clash is), λ all. absurd (some_unmapped (tree_slots c.args.root.now) c.args.range c.slots.page _ _ _ c.slot_at-slot.ensures c.slots.invariant.low c.slots-test.true none all))
-  where
-    clash : false ≡ true → ⊥
-    clash e = cc
+pub all_mapped-requires-clause-within : goal.all_mapped-requires-clause-within
+all_mapped-requires-clause-within g c = of_root c.args.root.now c.requires.tree c.args.range.end (omega (arith, c.requires.range.high))
+
+pub returns : goal.returns
+returns g c =
+    let m = mapped_are (runs c.args.root.now) c.args.range in
+    (λ h. m.0 (c.all_mapped.ensures.0 h), λ h. c.all_mapped.ensures.1 (m.1 h))

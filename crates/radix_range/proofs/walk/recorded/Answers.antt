@@ -1,10 +1,13 @@
-use Rattle.std.proofs.Common.{◌∙◌, ◌||◌, ap}
+use Rattle.std.proofs.Common.{◌≡◌, ◌+◌, ◌*◌, ◌<◌, ◌≤◌, ◌^◌, ◌↔◌, true, refl, sym, ap, ◌∙◌, subst, rules, arith}
 use Rattle.vm_base.specs.Cores.{members}
-use Rattle.radix_range.specs.Tree.{tree_slots}
-use Rattle.radix_range.proofs.Walks.{users_next}
+use Rattle.radix_node.specs.Run.{width_of}
+use Rattle.radix_node.specs.Node.{runs}
+use Rattle.radix_node.specs.Walk.{Finds}
+use Rattle.radix_range.proofs.Walks.{of_root, users_are, mapped_are, no_frames, nowhere, first_framed, free_run_found, free_run_least, free_run_none}
 use Rattle.radix_range.proofs.walk.recorded.Goals as goal
 
-pub slots-preserved : goal.slots-preserved
-slots-preserved g c =
-    users_next (tree_slots c.args.root.now) c.args.range c.slots.cores c.union-cores.result c.slots.page _ _ _ c.slot_at-slot.ensures c.slots-test.true c.slots.invariant
-    (λ core. ap (λ f. f core) c.union-cores.ensures ∙ ap (λ f. members c.slots.cores core || f core) c.cores.ensures)
+pub recorded-requires-clause-within : goal.recorded-requires-clause-within
+recorded-requires-clause-within g c = of_root c.args.root.now c.requires.tree c.args.range.end (omega (arith, c.requires.range.high))
+
+pub returns : goal.returns
+returns g c = λ core. users_are (runs c.args.root.now) c.args.range core (members c.recorded.result core) (c.recorded.ensures core)

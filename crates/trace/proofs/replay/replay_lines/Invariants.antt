@@ -1,12 +1,13 @@
-use Rattle.std.proofs.Common.{◌+◌, ◌*◌, ◌^◌, ◌≤◌, IfSome}
+use Rattle.std.proofs.Common.{◌≡◌, ◌+◌, ◌*◌, ◌^◌, ◌≤◌, IfSome}
 use Rattle.trace_io.specs.Window.{left, budget}
 use Rattle.trace.proofs.RunLemmas.{HasRun}
 use Rattle.trace.proofs.replay.replay_lines.Given as goal
 
--- each line took a byte, and the lines so far were acted on
+-- each line took a byte, the lines so far were acted on, and no write failed
 abbrev pub invariant-lines : goal.invariant-lines
 invariant-lines g l = record {
   budget : l.number + budget (g.S.Source.reads l.reader) l.lines ≤ 65536 * 2 ^ 32;
+  kept : g.W.Sink.failed l.writer ≡ g.W.Sink.failed l.initial.writer;
   ran : IfSome (g.S.Source.remaining l.initial.reader) (λ input. HasRun input (g.W.Sink.contents l.initial.writer)
       (record { left = left (g.S.Source.remaining l.reader) l.lines; unread = g.S.Source.remaining l.reader; stage = g.R.Staged.stage l.replayer; written = g.W.Sink.contents l.writer }) l.number);
 }

@@ -1,5 +1,5 @@
-use Rattle.trace_text.proofs.CoreLemmas.{names_cores}
 use Rattle.trace_text.proofs.LineLemmas.{said_is_read, read_is_said}
+use Rattle.trace_text.proofs.SpellingLemmas.{reads_printed}
 use Rattle.trace_text.proofs.grammar.grammar.Goals as goal
 
 pub returns-clause-all : goal.returns-clause-all
@@ -8,5 +8,5 @@ returns-clause-all c = said_is_read
 pub returns-clause-only : goal.returns-clause-only
 returns-clause-only c = read_is_said
 
-pub returns-clause-cores : goal.returns-clause-cores
-returns-clause-cores c = names_cores
+pub returns-clause-printed : goal.returns-clause-printed
+returns-clause-printed c = reads_printed

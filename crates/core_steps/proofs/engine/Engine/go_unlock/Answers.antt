@@ -1,11 +1,12 @@
-use Rattle.core_steps.proofs.Known.{unlock_owned, unlock_begins, unlock_ends}
+use Rattle.std.proofs.Common.{arith}
+use Rattle.slot_lock.proofs.Divisions.{slot_by}
+use Rattle.core_steps.proofs.Changing.{unlock_held}
 use Rattle.core_steps.proofs.engine.Engine.go_unlock.Goals as goal
 
 pub unlock_next-unlocked_to-requires-clause-held : goal.unlock_next-unlocked_to-requires-clause-held
-unlock_next-unlocked_to-requires-clause-held g c = unlock_owned _ c.requires.orderly c.args.core _ _ c.requires.phase
+unlock_next-unlocked_to-requires-clause-held g c =
+    let h = unlock_held _ c.args.core _ _ c.requires in h.held c.args.held.first (omega arith) h.pages.some
 
-pub unlock_next-unlocked_to-requires-clause-begins : goal.unlock_next-unlocked_to-requires-clause-begins
-unlock_next-unlocked_to-requires-clause-begins g c = unlock_begins _ c.requires.orderly c.args.core _ _ c.requires.phase
-
-pub unlock_next-unlocked_to-requires-clause-ends : goal.unlock_next-unlocked_to-requires-clause-ends
-unlock_next-unlocked_to-requires-clause-ends g c = unlock_ends _ c.requires.orderly c.args.core _ _ c.requires.phase
+pub unlock_next-unlocked_to-requires-clause-slot : goal.unlock_next-unlocked_to-requires-clause-slot
+unlock_next-unlocked_to-requires-clause-slot g c =
+    let h = unlock_held _ c.args.core _ _ c.requires in slot_by _ c.args.held.first c.args.held.end h.pages.some h.cut.begins h.cut.ends

@@ -1,14 +1,21 @@
-use Rattle.std.proofs.Common.{◌≡◌, ◌∙◌}
+use Rattle.std.proofs.Common.{◌∙◌, arith}
+use Rattle.slot_lock.proofs.SlotLaws.{held_page}
 use Rattle.slot_lock.proofs.Steps.{slot_by_edge}
 use Rattle.radix_range.specs.Tree.{tree_slots}
+use Rattle.radix_range.specs.TreeLaws.{tree-is_slot_map}
 use Rattle.radix_range.proofs.radix_map.RadixMapSlotMap.unlock_next.Goals as goal
+
+pub set_owner-requires-clause-page : goal.set_owner-requires-clause-page
+set_owner-requires-clause-page g c = held_page (tree_slots c.args.self.now.root) (tree-is_slot_map c.args.self.now.root c.args.self.now.ok) c.args.cursor c.args.core c.requires.held
 
 pub returns : goal.returns
 returns g c =
     let e = c.set_owner.ensures in
+    let by = c.requires.slot in
+    let most = slot_by_edge (tree_slots c.args.self.now.root) c.args.cursor c.set_owner.result by.0 e.slot by.1.ends by.1.ordered in
     record {
       slot = e.slot;
-      by_end = slot_by_edge (tree_slots c.args.self.now.root) c.args.cursor c.set_owner.result c.args.end e.slot c.requires.ends c.requires.pages.0;
+      by_end = omega (arith, by.2);
       was_held = λ p a b. e.one_owner p a b ∙ c.requires.held;
       now = e.slots;
     }

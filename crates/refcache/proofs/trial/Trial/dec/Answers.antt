@@ -12,4 +12,4 @@ invariant_of-self g c =
     let more : 0 < c.index-count.result.now = search rules in
     let some : 0 < slice_index_or c.self.inside.trues.items c.args.object 0 = subst (λ k. 0 < k) (sym same) more in
     subst (λ k. IsTrial c.dec.new.self c.self.inside.cores (slice_set c.self.inside.trues.items c.args.object (k - 1)) false) same
-    (trial_down c.self.inside.counts c.dec.new.self c.new.result c.args.object c.self.inside.cores xs c.self.inside.fresh c.self.invariant c.dec.ensures at some)
+    (trial_down c.self.inside.counts c.dec.new.self c.new.result c.args.object c.self.inside.cores xs c.self.inside.fresh c.self.invariant c.dec.ensures.step at some)

@@ -1,8 +1,11 @@
-use Rattle.std.proofs.Common.{◌≡◌, ◌<◌, ◌+◌, ◌^◌, Some, sym, ◌∙◌, ap, refl, arith}
+use Rattle.std.proofs.Common.{◌≡◌, inl, ◌<◌, ◌+◌, ◌^◌, Some, sym, ◌∙◌, ap, refl, arith}
 use Rattle.slot_lock.specs.declared.run.Run.{Run}
 use Rattle.slot_lock.specs.Runs.{get_run}
 use Rattle.slot_lock.specs.Places.{read_run, before_last, start_most}
-use Rattle.slot_lock.proofs.Steps.{read_at, locks, crosses_end, crosses_start, on_err_both}
+use Rattle.slot_lock.specs.RunSlots.{two_parts}
+use Rattle.slot_lock.specs.Slots.{between}
+use Rattle.slot_lock.proofs.Divisions.{splits, at_first, at_end}
+use Rattle.slot_lock.proofs.Steps.{read_at, edge_of, no_edge, locks, crosses_end, crosses_start, on_err_both}
 use Rattle.slot_lock.proofs.run_list.RunListSlotMap.lock_next.Goals as goal
 
 pub returns-in-Some-clause-step : goal.returns-in-Some-clause-step
@@ -22,11 +25,36 @@ returns-then-end-slot_end-clause-step g c =
     let free = rw run at c.in_default.is in
     let above = start_most _ c.args.self.now.ok _ last in
     let past = rw next at c.if-end-slot_end.true in
-    record {
-      was_free = sym (ap (λ (r : Run). r.owner) (read_at c.args.self.now.runs.items c.args.self.now.ok c.args.cursor c.place-i.result c.index-slot.result.now at c.index-slot.ensures)) ∙ c.in_default.is;
-      crosses = crosses_end _ c.args.self.now.ok c.place-i.result c.args.cursor c.args.end last begins past;
-      divides = (c.args.end, (omega (arith, c.requires.ordered), omega arith), rw free at c.in_ok-cut-2.ensures.ok);
-    }
+    splits two_parts _ _ c.args.cursor c.args.end c.args.end c.requires.ordered
+    (sym (ap (λ (r : Run). r.owner) (read_at c.args.self.now.runs.items c.args.self.now.ok c.args.cursor c.place-i.result c.index-slot.result.now at c.index-slot.ensures)) ∙ c.in_default.is)
+    (crosses_end _ c.args.self.now.ok c.place-i.result c.args.cursor c.args.end last begins past)
+    (omega (arith, c.requires.ordered), omega arith)
+    (rw free at c.in_ok-cut-2.ensures.ok)
+    (at_end two_parts _ _ (between c.args.cursor c.args.end) (edge_of _ c.args.self.now.ok _ _ at (omega arith)) c.in_ok-cut-2.ensures.exact)
+
+pub returns-then-end-slot_end-clause-exact : goal.returns-then-end-slot_end-clause-exact
+returns-then-end-slot_end-clause-exact g c =
+    let at = rw c.deref.ensures.value at c.place-i.ensures in
+    let run = read_run c.args.self.now.runs.items c.place-i.result c.index-slot.result.now at.within c.index-slot.ensures in
+    at_end two_parts _ _ (between c.args.cursor c.args.end) (edge_of _ c.args.self.now.ok _ _ at (rw run at c.if-slot-cursor.false)) c.in_ok-cut-2.ensures.exact
+
+pub returns-then-slot-cursor-clause-step : goal.returns-then-slot-cursor-clause-step
+returns-then-slot-cursor-clause-step g c =
+    let at = rw c.deref.ensures.value at c.place-i.ensures in
+    let run = read_run c.args.self.now.runs.items c.place-i.result c.index-slot.result.now at.within c.index-slot.ensures in
+    let crossed = no_edge _ c.args.self.now.ok _ _ at (rw run at c.if-slot-cursor.true) in
+    splits two_parts _ _ c.args.cursor c.args.end c.args.cursor c.requires.ordered
+    (sym (ap (λ (r : Run). r.owner) (read_at c.args.self.now.runs.items c.args.self.now.ok c.args.cursor c.place-i.result c.index-slot.result.now at c.index-slot.ensures)) ∙ c.in_default.is)
+    (inl crossed)
+    (c.requires.valid.0, omega (arith, c.requires.ordered, c.requires.valid.1))
+    (rw (rw run at c.in_default.is) at c.in_ok-cut.ensures.ok)
+    (at_first two_parts _ _ (between c.args.cursor c.args.end) crossed c.in_ok-cut.ensures.exact)
+
+pub returns-then-slot-cursor-clause-exact : goal.returns-then-slot-cursor-clause-exact
+returns-then-slot-cursor-clause-exact g c =
+    let at = rw c.deref.ensures.value at c.place-i.ensures in
+    let run = read_run c.args.self.now.runs.items c.place-i.result c.index-slot.result.now at.within c.index-slot.ensures in
+    at_first two_parts _ _ (between c.args.cursor c.args.end) (no_edge _ c.args.self.now.ok _ _ at (rw run at c.if-slot-cursor.true)) c.in_ok-cut.ensures.exact
 
 pub returns-clause-step : goal.returns-clause-step
 returns-clause-step g c =

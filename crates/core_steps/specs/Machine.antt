@@ -1,0 +1,16 @@
+-- Which state of the abstract machine a machine has, and what holds of it
+use Rattle.slot_lock.specs.declared.slot_map.SlotMap.{Ghosts as MapGhosts}
+use Rattle.slot_lock.specs.declared.slot_map.SlotRead.{Ghosts as ReadGhosts}
+use Rattle.machine_model.specs.World.{World}
+use Rattle.machine_sound.specs.Sound.{IsReached, IsSoundState}
+use Rattle.core_steps.specs.declared.machine.Machine.{Machine}
+use Rattle.core_steps.specs.State.{world}
+
+module _ {M A : Type 0} {map : MapGhosts M} {read : ReadGhosts M} where
+  abbrev pub state : Machine M A map read → World
+  state it = world read.slots it.engine
+
+-- a run of events leads to it, and it is sound
+pub record IsLegal (w : World) : Type 0 where
+  pub reached : ∥ IsReached w ∥₁
+  pub sound : ∥ IsSoundState w ∥₁

@@ -1,0 +1,81 @@
+//! Locking all pages of a call, slot by slot from left to right.
+ghost use Rattle.std.specs.Prelude.{◌≡◌, ◌<◌, ◌≤◌};
+ghost use Rattle.slot_lock.specs.Plan.{IsSound, IsSoundTouch};
+ghost use Rattle.machine_model.specs.Holding.{goal_plan, goal_range, page_of_touch};
+ghost use Rattle.machine_model.specs.Locks.{all_locked, locked_to, locking};
+ghost use Rattle.machine_model.specs.Step.{Goes};
+ghost use Rattle.core_steps.specs.State.{world};
+ghost use Rattle.core_steps.specs.Moving.{IsAt, IsToDivide, Tries};
+
+use crate::engine::Engine;
+use machine_model::{Blocker, Goal, Outcome, Phase};
+use slot_lock::{Got, SlotMap, Touch};
+use std::alloc::Allocator;
+use vm_base::{CoreId, NoMemory, PageRange};
+
+/// The page of an access, which its call locks.
+pub fn page_of_touch(touch: Touch) -> PageRange
+    requires { IsSoundTouch touch }
+    ensures { result ≡ page_of_touch touch }
+{
+    PageRange {
+        first: touch.page,
+        end: touch.page + 1,
+    }
+}
+
+/// The pages that are to be locked.
+fn goal_range(goal: Goal) -> PageRange
+    requires { IsSound (goal_plan goal) }
+    ensures { result ≡ goal_range goal }
+{
+    match goal {
+        Goal::Change(change) => change.range(),
+        Goal::Access(touch) => page_of_touch(touch),
+    }
+}
+
+/// All pages of the goal are to be locked, from the first on.
+pub fn locking(goal: Goal) -> Phase
+    requires { IsSound (goal_plan goal) }
+    ensures { result ≡ locking goal }
+{
+    Phase::Lock {
+        goal,
+        cursor: goal_range(goal).first,
+    }
+}
+
+/// Where the call goes on once the pages up to the cursor are locked.
+fn locked_to(goal: Goal, cursor: u64) -> Phase
+    requires { IsSound (goal_plan goal) }
+    ensures { result ≡ locked_to goal cursor }
+{
+    if cursor < goal_range(goal).end {
+        return Phase::Lock { goal, cursor };
+    }
+    match goal {
+        Goal::Change(change) => Phase::Decide(change),
+        Goal::Access(touch) => Phase::Settle(touch),
+    }
+}
+
+impl<M: SlotMap, A: Allocator> Engine<M, A> {
+    /// One step towards holding all pages of the goal. A refusal for memory changes nothing.
+    pub fn go_lock(&mut self, core: CoreId, goal: Goal, cursor: u64) -> Result<Outcome, NoMemory>
+        requires { IsAt (world M.slots self.old) core (Phase.Lock goal cursor) }
+        ensures { Tries (Goes (world M.slots self.old) core (Phase.Lock goal cursor))
+            (IsToDivide (M.slots self.old.map) (Phase.Lock goal cursor))
+            (world M.slots self.old) result (world M.slots self.new) }
+    {
+        let end = goal_range(goal).end;
+        match self.map.lock_next(core, cursor, end)? {
+            Got::Split => Ok(Outcome::Stepped),
+            Got::Held(by) => Ok(Outcome::Wait(Blocker::Slot(by))),
+            Got::Locked(upto) => {
+                self.go_to(core, locked_to(goal, upto));
+                Ok(Outcome::Stepped)
+            }
+        }
+    }
+}

@@ -1,0 +1,112 @@
+//! A fault of an access whose page is held: what the page's slot says is read, a frame is taken and filled, and the core is
+//! recorded.
+ghost use Rattle.std.specs.Prelude.{◌≡◌, ◌<◌, length};
+ghost use Rattle.slot_lock.specs.Plan.{IsSoundTouch};
+ghost use Rattle.backing.specs.Files.{files_of};
+ghost use Rattle.vm_calls.specs.declared.fault.Settled.{Settled};
+ghost use Rattle.machine_model.specs.Accesses.{is_past_end, settled_to};
+ghost use Rattle.machine_model.specs.Step.{Goes};
+ghost use Rattle.core_steps.specs.State.{world};
+ghost use Rattle.core_steps.specs.Moving.{IsAt};
+
+use crate::acquire::page_of_touch;
+use crate::engine::Engine;
+use backing::Objects;
+use machine_model::{Outcome, Phase};
+use slot_lock::{SlotMap, Touch};
+use std::alloc::Allocator;
+use vm_base::{Back, CoreId, PageInfo, Reply, SegvCode};
+use vm_calls::{Settled, settle};
+
+/// Tells whether the page's file page lies wholly past the end of its file.
+fn is_past_end<A: Allocator>(objects: &Objects<A>, info: &Option<PageInfo>) -> bool
+    ensures { result ≡ is_past_end (files_of objects.now) info.now }
+{
+    let Some(info) = info else {
+        return false;
+    };
+    match info.meta.back {
+        Back::Anon => false,
+        Back::Shared { file, page } | Back::Private { file, page } => {
+            objects.is_past_end(file, page)
+        }
+    }
+}
+
+impl<M: SlotMap, A: Allocator> Engine<M, A> {
+    /// The access goes on by what it found at its page: it is answered, or the page has a frame, or wants one.
+    fn settled_to(&mut self, core: CoreId, touch: Touch, settled: Settled)
+        requires here { core < length self.old.calls.phases.items }
+        requires room { length self.old.calls.log.items.items < self.old.calls.requests.limit }
+        requires touch { IsSoundTouch touch }
+        ensures { world M.slots self.new ≡ settled_to core touch settled (world M.slots self.old) }
+    {
+        let held = Some(page_of_touch(touch));
+        match settled {
+            Settled::MapErr => self.reply(core, held, Reply::Segv(SegvCode::MapErr)),
+            Settled::AccErr => self.reply(core, held, Reply::Segv(SegvCode::AccErr)),
+            Settled::Bus => self.reply(core, held, Reply::Bus),
+            Settled::Has(_) => self.go_to(core, Phase::Install(touch)),
+            Settled::Copies(_) | Settled::Cached(_) | Settled::Wants => self.go_to(
+                core,
+                Phase::Want(touch),
+            ),
+        }
+    }
+
+    /// What the page's slot says is read: no mapping, a protection that forbids the access, a page past its file's end, a
+    /// frame that is there, or one that is still to be taken.
+    pub fn go_settle(&mut self, core: CoreId, touch: Touch) -> Outcome
+        requires { IsAt (world M.slots self.old) core (Phase.Settle touch) }
+        ensures { Goes (world M.slots self.old) core (Phase.Settle touch) result (world M.slots self.new) }
+    {
+        let info = self.map.page(touch.page);
+        let past_end = is_past_end(&self.objects, &info);
+        self.settled_to(core, touch, settle(info, touch.access, past_end, None));
+        Outcome::Stepped
+    }
+
+    /// The least free frame is taken, if one is free.
+    pub fn go_want(&mut self, core: CoreId, touch: Touch) -> Outcome
+        requires { IsAt (world M.slots self.old) core (Phase.Want touch) }
+        ensures { Goes (world M.slots self.old) core (Phase.Want touch) result (world M.slots self.new) }
+    {
+        match self.frames.least_free() {
+            None => self.reply(core, Some(page_of_touch(touch)), Reply::NoFrame),
+            Some(frame) => {
+                self.frames.take(frame);
+                self.go_to(core, Phase::Fill { touch, frame });
+            }
+        }
+        Outcome::Stepped
+    }
+
+    /// The frame gets zero bytes, and the page gets the frame.
+    pub fn go_fill(&mut self, core: CoreId, touch: Touch, frame: u32) -> Outcome
+        requires { IsAt (world M.slots self.old) core (Phase.Fill touch frame) }
+        ensures { Goes (world M.slots self.old) core (Phase.Fill touch frame) result (world M.slots self.new) }
+    {
+        self.frames.fill_zero(frame);
+        if let Some(info) = self.map.page(touch.page) {
+            let frame = Some(frame);
+            self.map
+                .set_leaf(core, touch.page, PageInfo { frame, ..info });
+        }
+        self.go_to(core, Phase::Install(touch));
+        Outcome::Stepped
+    }
+
+    /// The core is recorded on the page.
+    pub fn go_install(&mut self, core: CoreId, touch: Touch) -> Outcome
+        requires { IsAt (world M.slots self.old) core (Phase.Install touch) }
+        ensures { Goes (world M.slots self.old) core (Phase.Install touch) result (world M.slots self.new) }
+    {
+        if let Some(info) = self.map.page(touch.page) {
+            let cores = info.cores.with(core);
+            self.map
+                .set_leaf(core, touch.page, PageInfo { cores, ..info });
+        }
+        self.go_to(core, Phase::Release(touch));
+        Outcome::Stepped
+    }
+}

@@ -1,0 +1,5 @@
+pub mod Histories
+pub mod Nexts
+pub mod Parts
+pub mod Replay
+pub mod Slots

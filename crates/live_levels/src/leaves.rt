@@ -1,0 +1,78 @@
+//! The last level: slots of one page.
+ghost use Rattle.std.specs.Prelude.{◌≡◌, ℕ, ◌+◌, ◌-◌, ◌<◌, ◌≤◌, ◌^◌, IfSome};
+ghost use Rattle.live_levels.specs.Nexts.{Answers, Cuts};
+ghost use Rattle.live_levels.specs.Histories.{Grew};
+
+use crate::close::{SlotHistory, gather_slot};
+use crate::level::{Fit, Level, Next, Stepper, index_of, other_owner, put};
+use crate::parts::SLOTS;
+use crate::slot::SlotState;
+use std::alloc::Allocator;
+use std::sync::{Mutex, Wait};
+use vm_base::{CoreId, NoMemory};
+
+/// 512 slots of one page, each under its lock.
+#[derive(Drop)]
+pub struct Leaves<A: Allocator> {
+    first: u64,
+    slots: Vec<Mutex<SlotState<A>>, A>,
+}
+
+impl<A: Allocator + Clone> Level<A> for Leaves<A> {
+    fn new(alloc: A, first: u64, pages: u64) -> Result<Self, NoMemory> {
+        match Vec::with_capacity(alloc, SLOTS) {
+            Ok(slots) => Ok(Leaves { first, slots }),
+            Err(_) => Err(NoMemory),
+        }
+    }
+
+    fn fill(&mut self, slots: &mut Vec<SlotState<A>, A>) {
+        'slots: for slot in slots.drain(..) {
+            put(&mut self.slots, Mutex::new(slot));
+        }
+    }
+
+    fn lock_next<'a, R: Wait, S: Stepper>(
+        &'a self,
+        rt: &R,
+        _alloc: &A,
+        _stepper: &mut S,
+        core: CoreId,
+        cursor: u64,
+        end: u64,
+    ) -> Next<'a, A> {
+        let Some(index) = index_of(self.first, 1, cursor) else {
+            return Next::Lost;
+        };
+        let Some(slot) = self.slots.get(index) else {
+            return Next::Lost;
+        };
+        let guard = slot.lock(rt);
+        if let Some(other) = other_owner(&guard, core) {
+            return Next::Owned(other);
+        }
+        if guard.first() != cursor || guard.count() != 1 {
+            return Next::Lost;
+        }
+        Next::Whole(guard)
+    }
+
+    fn cut<S: Stepper>(
+        &self,
+        _alloc: &A,
+        _stepper: &mut S,
+        _core: CoreId,
+        _slot: &SlotState<A>,
+    ) -> Fit {
+        Fit::Lost
+    }
+
+    #[tactic(auto, using(crate::proofs::Chains::grew_trans))]
+    fn gather(&mut self, alloc: &A, slots: &mut Vec<SlotHistory<A>, A>, next: u64) -> Option<u64> {
+        let mut at = next;
+        'slots: for slot in self.slots.iter_mut() {
+            at = gather_slot(alloc, slot.get_mut(), slots, at)?;
+        }
+        Some(at)
+    }
+}

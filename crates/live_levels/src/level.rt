@@ -1,0 +1,175 @@
+//! What the levels of the shared tree do. A level is 512 slots side by side, and none of the types holds itself.
+ghost use Rattle.std.specs.Prelude.{◌≡◌, ◌≢◌, ℕ, ◌+◌, ◌*◌, ◌<◌, ◌≤◌, ◌^◌, [], ◌∷◌, ◌++◌, vec_len, vec_capacity, Some, IfSome, IfNone};
+ghost use Rattle.live_levels.specs.Nexts.{Answers, Cuts, IsFreeFor, Folds};
+ghost use Rattle.live_levels.specs.Histories.{Grew};
+
+use crate::close::SlotHistory;
+use crate::parts::{Divided, SLOTS, carry_on, side_by_side};
+use crate::slot::SlotState;
+use std::alloc::Allocator;
+use std::sync::{MutexGuard, OnceLock, Wait};
+use vm_base::{CoreId, NoMemory, PageInfo};
+
+/// Who draws a ticket and notes a step under it. Whoever calls it holds the locks of all that the step touches.
+pub trait Stepper {
+    ghost use Rattle.std.specs.Prelude.{ℕ};
+
+    /// A step can be noted.
+    ghost can_step: { Self → Type 0 };
+
+    /// One step was noted, under the ticket.
+    ghost stepped: { Self → ℕ → Self → Type 0 };
+
+    /// Draws a ticket, notes the step under it, and answers it.
+    fn step(&mut self) -> u64
+        requires { can_step self.old }
+        ensures { stepped self.old result self.new };
+}
+
+/// What a try to lock the next slot came to.
+pub enum Next<'a, A: Allocator> {
+    /// The slot is locked. It begins at the cursor and ends by the end.
+    Whole(MutexGuard<'a, SlotState<A>>),
+    /// The slot was divided, which was noted.
+    Split,
+    /// Another core is to lock the slot first.
+    Owned(CoreId),
+    /// No memory was there to divide the slot.
+    NoMemory,
+    /// A slot was in a wrong place. It never comes; the call gives up.
+    Lost,
+}
+
+/// What a try to cut a slot came to.
+#[derive(Clone, Copy, Debug, PartialEq, Eq)]
+pub enum Fit {
+    /// The slot was divided, which was noted.
+    Cut,
+    /// No memory was there to divide it.
+    NoMemory,
+    /// A slot was in a wrong place. It never comes; the call gives up.
+    Lost,
+}
+
+/// A level of the tree.
+pub trait Level<A: Allocator + Clone>: Drop {
+    /// A level with room for 512 slots of so many pages each, from the page `first` on.
+    fn new(alloc: A, first: u64, pages: u64) -> Result<Self, NoMemory>;
+
+    /// Takes the slots over, in their order and as far as there is room, each under a lock of its own. It takes no memory.
+    fn fill(&mut self, slots: &mut Vec<SlotState<A>, A>);
+
+    /// Locks the slot that has the cursor, where it begins there and ends by the end; else it divides the slot.
+    fn lock_next<'a, R: Wait, S: Stepper>(
+        &'a self,
+        rt: &R,
+        alloc: &A,
+        stepper: &mut S,
+        core: CoreId,
+        cursor: u64,
+        end: u64,
+    ) -> Next<'a, A>
+        requires range { cursor < end }
+        requires stepper { S.can_step stepper.old }
+        ensures { Answers S.stepped stepper.old stepper.new core cursor end result };
+
+    /// Divides a slot that the caller holds and lends. The core is to lock the new slots first.
+    fn cut<S: Stepper>(&self, alloc: &A, stepper: &mut S, core: CoreId, slot: &SlotState<A>) -> Fit
+        requires { S.can_step stepper.old }
+        ensures { Cuts S.stepped stepper.old stepper.new result };
+
+    /// Adds the histories of all slots, which lie side by side from the page `next` on, and answers the page after them.
+    /// `None` where memory ran out, or a slot was in a wrong place.
+    fn gather(&mut self, alloc: &A, slots: &mut Vec<SlotHistory<A>, A>, next: u64) -> Option<u64>
+        ensures { IfSome result (λ end. Grew next end slots.old.items slots.new.items) };
+}
+
+/// The number of the slot that has the page, in a level of slots of so many pages from the page `first` on.
+pub(crate) fn index_of(first: u64, pages: u64, page: u64) -> Option<usize> {
+    let from = page.checked_sub(first)?;
+    let index = from.checked_div(pages)?;
+    if index < SLOTS as u64 {
+        Some(index as usize)
+    } else {
+        None
+    }
+}
+
+/// Puts the item behind the others, where there is room. It takes no memory.
+pub(crate) fn put<T: Drop, A: Allocator>(items: &mut Vec<T, A>, item: T)
+    ensures { vec_len items.old < vec_capacity items.old → items.new.items ≡ items.old.items ++ item ∷ [] }
+{
+    if items.len() < items.capacity() {
+        items.push_reserved(item);
+    }
+}
+
+/// The other core that is to lock the slot first.
+pub(crate) fn other_owner<A: Allocator>(slot: &SlotState<A>, core: CoreId) -> Option<CoreId>
+    ensures other { IfSome result (λ other. (slot.now.owner ≡ Some other) × (other ≢ core)) }
+    ensures none { IfNone result (IsFreeFor core slot.now.owner) }
+{
+    let Some(owner) = slot.owner() else {
+        return None;
+    };
+    if owner.index() == core.index() {
+        return None;
+    }
+    Some(owner)
+}
+
+/// Divides a slot whose lock is held: the level below it gets 512 slots, which carry on what its pages have, and is shown
+/// to all threads. Only what stands before the ticket is drawn takes memory.
+pub(crate) fn divide<C: Level<A>, A: Allocator + Clone, S: Stepper>(
+    alloc: &A,
+    stepper: &mut S,
+    slot: &SlotState<A>,
+    below: &OnceLock<Box<C, A>>,
+    owner: Option<CoreId>,
+) -> Fit
+    requires { S.can_step stepper.old }
+    ensures { Cuts S.stepped stepper.old stepper.new result }
+{
+    let first = slot.first();
+    let pages = slot.count() / SLOTS as u64;
+    if pages == 0 || slot.count() != pages * SLOTS as u64 {
+        return Fit::Lost;
+    }
+    let Ok(mut parts) = side_by_side(alloc, first, pages) else {
+        return Fit::NoMemory;
+    };
+    let Ok(mut level) = boxed::<C, A>(alloc, first, pages) else {
+        return Fit::NoMemory;
+    };
+    let divided = Divided {
+        first,
+        content: slot.content(),
+        owner,
+    };
+    let ticket = stepper.step();
+    carry_on(&mut parts, &divided, ticket, pages);
+    level.fill(&mut parts);
+    let _ = below.try_set(level);
+    Fit::Cut
+}
+
+fn boxed<C: Level<A>, A: Allocator + Clone>(
+    alloc: &A,
+    first: u64,
+    pages: u64,
+) -> Result<Box<C, A>, NoMemory> {
+    let Ok(own) = alloc.clone() else {
+        return Err(NoMemory);
+    };
+    let level = match C::new(own, first, pages) {
+        Ok(level) => level,
+        Err(e) => return Err(e),
+    };
+    let Ok(own) = alloc.clone() else {
+        return Err(NoMemory);
+    };
+    match Box::new(own, level) {
+        Ok(level) => Ok(level),
+        Err(_) => Err(NoMemory),
+    }
+}

@@ -1,0 +1,11 @@
+//! The levels of the tree of slots that threads share: each slot under a lock of its own, with the history of its
+//! changes, whose replay is what its pages have.
+#![tactic(auto)]
+
+pub mod act;
+pub mod close;
+pub mod inner;
+pub mod leaves;
+pub mod level;
+pub mod parts;
+pub mod slot;

@@ -1,0 +1,138 @@
+//! What lies under a slot's lock.
+ghost use Rattle.std.specs.Prelude.{◌≡◌, ℕ, ◌+◌, ◌-◌, ◌<◌, ◌≤◌, ◌^◌, false, [], ◌∷◌, ◌++◌, None, IfOk, OnOk};
+ghost use Rattle.vm_base.specs.Info.{info_file_page, is_leaf};
+ghost use Rattle.live_levels.specs.Replay.{replay, dated};
+ghost use Rattle.live_levels.specs.Slots.{SlotView, IsSlot, Suits, changed};
+
+use crate::act::{Act, SlotChange, after};
+use std::alloc::{AllocError, Allocator};
+use std::marker::Model;
+use vm_base::{CoreId, PageInfo};
+
+/// A slot of neighbouring pages: its place, the core that is to lock it first, what its pages have, and the changes that
+/// led to it, each under its ticket. The first change stands apart, so that it takes no memory. Whenever a thread locks
+/// the slot, what its first page has is the replay of its changes; a page with a frame or a recorded core is a slot of
+/// its own.
+#[derive(Drop)]
+pub struct SlotState<A: Allocator> {
+    first: u64,
+    count: u64,
+    owner: Option<CoreId>,
+    content: Option<PageInfo>,
+    begun: Option<SlotChange>,
+    later: Vec<SlotChange, A>,
+}
+
+impl<A: Allocator> Model for SlotState<A> {
+    ghost use Rattle.std.specs.Prelude.{◌≡◌, ◌-◌, vec_len, vec_capacity};
+    ghost use Rattle.live_levels.specs.Replay.{history};
+    ghost use Rattle.live_levels.specs.Slots.{SlotView, slot_view, IsSlot};
+
+    ghost Value = { SlotView };
+
+    ghost view = { λ s. slot_view s.first s.count s.owner s.content (history s.begun s.later.items) (vec_capacity s.later - vec_len s.later) };
+
+    ghost invariant = { λ s. IsSlot (slot_view s.first s.count s.owner s.content (history s.begun s.later.items) (vec_capacity s.later - vec_len s.later)) };
+}
+
+impl<A: Allocator> SlotState<A> {
+    /// An unmapped slot with no history.
+    pub fn new(alloc: A, first: u64, count: u64) -> SlotState<A>
+        requires some { 1 ≤ count }
+        requires place { first + count ≤ 2 ^ 36 }
+        ensures place { (result.first ≡ first) × (result.count ≡ count) × (result.owner ≡ None) }
+        ensures unmapped { (result.content ≡ None) × (result.changes ≡ []) }
+    {
+        SlotState {
+            first,
+            count,
+            owner: None,
+            content: None,
+            begun: None,
+            later: Vec::new(alloc),
+        }
+    }
+
+    /// The number of the slot's first page.
+    pub fn first(&self) -> u64
+        ensures first { result ≡ self.now.first }
+        ensures place { result + self.now.count ≤ 2 ^ 36 }
+    {
+        self.first
+    }
+
+    /// How many pages the slot has.
+    pub fn count(&self) -> u64
+        ensures count { result ≡ self.now.count }
+        ensures some { 1 ≤ result }
+    {
+        self.count
+    }
+
+    /// The core that is to lock the slot first: the one that cut it from a larger slot.
+    pub fn owner(&self) -> Option<CoreId>
+        ensures { result ≡ self.now.owner }
+    {
+        self.owner
+    }
+
+    /// Lets this core, or any, lock the slot next.
+    pub fn set_owner(&mut self, owner: Option<CoreId>)
+        ensures { self.new ≡ record self.old { owner = owner } }
+    {
+        self.owner = owner;
+    }
+
+    /// What the slot's first page has: the replay of its changes.
+    pub fn content(&self) -> Option<PageInfo>
+        ensures content { result ≡ self.now.content }
+        ensures replay { result ≡ replay self.now.changes }
+        ensures fits { info_file_page result + self.now.count ≤ 2 ^ 36 }
+        ensures alone { 1 < self.now.count → is_leaf result ≡ false }
+    {
+        self.content
+    }
+
+    /// A copy of the changes, in their order.
+    pub fn history(&self, alloc: A) -> Result<Vec<SlotChange, A>, AllocError>
+        ensures { IfOk result (λ v. v.items ≡ self.now.changes) }
+    {
+        let mut all = Vec::new(alloc);
+        if let Some(begun) = self.begun {
+            all.push(begun)?;
+        }
+        all.extend_from_slice(self.later.as_slice())?;
+        Ok(all)
+    }
+
+    /// Makes room for this many changes more. A refusal changes nothing.
+    pub fn reserve(&mut self, more: usize) -> Result<(), AllocError>
+        ensures ok { OnOk result (more ≤ self.new.room) }
+        ensures same { self.new ≡ record self.old { room = self.new.room } }
+    {
+        self.later.reserve(more)
+    }
+
+    /// One change, under its ticket, in room that was made before.
+    pub fn change(&mut self, ticket: u64, act: Act)
+        requires room { 0 < self.old.room }
+        requires suits { Suits act self.old.count }
+        ensures { self.new ≡ changed self.old (dated ticket act) }
+    {
+        self.content = after(self.content, &act);
+        self.later.push_reserved(SlotChange { ticket, act });
+    }
+
+    /// The slot begins anew, with one change and this owner. It takes no memory, and keeps its place.
+    pub fn restart(&mut self, ticket: u64, act: Act, owner: Option<CoreId>)
+        requires suits { Suits act self.old.count }
+        ensures place { (self.new.first ≡ self.old.first) × (self.new.count ≡ self.old.count) × (self.new.owner ≡ owner) }
+        ensures begun { self.new.changes ≡ dated ticket act ∷ [] }
+        ensures content { self.new.content ≡ replay self.new.changes }
+    {
+        self.owner = owner;
+        self.content = after(None, &act);
+        self.begun = Some(SlotChange { ticket, act });
+        self.later.clear();
+    }
+}

@@ -1,0 +1,4 @@
+pub mod Along
+pub mod Committed
+pub mod Gathered
+pub mod Pushed

@@ -1,0 +1,13 @@
+-- The slots that guards hold
+use Rattle.std.specs.Prelude.{ℕ, [], Option, Some, None}
+use Rattle.std.specs.Sync.Mutex.{mutex_guard_value}
+use Rattle.std.specs.declared.sync.MutexGuard.{MutexGuard}
+use Rattle.live_levels.specs.Slots.{SlotView}
+
+abbrev pub no_slot : SlotView
+no_slot = record { first = 0; count = 0; owner = None; content = None; changes = []; room = 0 }
+
+-- the slot of a guard that is there
+abbrev pub slot_of : Option (MutexGuard SlotView) → SlotView
+slot_of None = no_slot
+slot_of (Some guard) = mutex_guard_value guard

@@ -1,0 +1,8 @@
+//! The tree of slots that threads share, and the slots that a call holds.
+#![tactic(auto)]
+
+pub mod held;
+pub mod histories;
+#[cfg(test)]
+mod tests;
+pub mod tree;

@@ -1,0 +1,92 @@
+//! The shared tree: four levels of slots.
+ghost use Rattle.std.specs.Prelude.{◌≡◌, ℕ, ◌<◌, ◌^◌};
+ghost use Rattle.live_levels.specs.Nexts.{Answers, Cuts};
+
+use crate::histories::Histories;
+use live_levels::inner::Inner;
+use live_levels::leaves::Leaves;
+use live_levels::level::{Fit, Level, Next, Stepper};
+use live_levels::parts::side_by_side;
+use live_levels::slot::SlotState;
+use std::alloc::Allocator;
+use std::sync::Wait;
+use vm_base::{CoreId, NoMemory};
+
+/// The first level: a slot has 2^27 pages, a slot of the levels below 2^18, 2^9 and 1.
+type Root<A> = Inner<Inner<Inner<Leaves<A>, A>, A>, A>;
+
+// Pages of a slot of the first level.
+const ROOT_PAGES: u64 = 1 << 27;
+
+// The page after the last slot.
+const END: u64 = 512 * ROOT_PAGES;
+
+/// The slots of all pages, as threads share them.
+#[derive(Drop)]
+pub struct SharedTree<A: Allocator> {
+    alloc: A,
+    root: Root<A>,
+}
+
+impl<A: Allocator + Clone> SharedTree<A> {
+    /// All pages unmapped and unheld, in the slots of the first level, with no history.
+    pub fn new(alloc: A) -> Result<SharedTree<A>, NoMemory> {
+        let mut slots = side_by_side(&alloc, 0, ROOT_PAGES)?;
+        let Ok(own) = alloc.clone() else {
+            return Err(NoMemory);
+        };
+        let mut root = match Root::new(own, 0, ROOT_PAGES) {
+            Ok(root) => root,
+            Err(e) => return Err(e),
+        };
+        root.fill(&mut slots);
+        Ok(SharedTree { alloc, root })
+    }
+
+    /// Where the tree grows, and held slots get room.
+    pub fn alloc(&self) -> &A {
+        &self.alloc
+    }
+
+    /// One step of the core towards holding the pages from the cursor up to the end: the deepest slot that has the cursor
+    /// is locked, where it begins there and ends by the end; else it is divided into 512, which is noted. It waits while
+    /// another thread has the slot locked. Want of memory changes nothing.
+    pub fn lock_next<'a, R: Wait, S: Stepper>(
+        &'a self,
+        rt: &R,
+        stepper: &mut S,
+        core: CoreId,
+        cursor: u64,
+        end: u64,
+    ) -> Next<'a, A>
+        requires range { cursor < end }
+        requires stepper { S.can_step stepper.old }
+        ensures { Answers S.stepped stepper.old stepper.new core cursor end result }
+    {
+        self.root
+            .lock_next(rt, &self.alloc, stepper, core, cursor, end)
+    }
+
+    /// Divides a slot that the core holds, and lends, into 512, which is noted. The core is to lock them first: others
+    /// that come before it let go again. The slot itself has no meaning from then on. Want of memory changes nothing.
+    pub fn cut<S: Stepper>(&self, stepper: &mut S, core: CoreId, slot: &SlotState<A>) -> Fit
+        requires { S.can_step stepper.old }
+        ensures { Cuts S.stepped stepper.old stepper.new result }
+    {
+        self.root.cut(&self.alloc, stepper, core, slot)
+    }
+
+    /// The histories of all slots in the order of their pages, which are all pages below 2^36. `None` where memory ran
+    /// out, or a slot was in a wrong place.
+    pub fn histories(&mut self) -> Option<Histories<A>> {
+        let Ok(own) = self.alloc.clone() else {
+            return None;
+        };
+        let mut slots = Vec::new(own);
+        let end = self.root.gather(&self.alloc, &mut slots, 0)?;
+        if end != END {
+            return None;
+        }
+        Some(Histories::new(slots))
+    }
+}

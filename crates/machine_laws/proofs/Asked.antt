@@ -1,0 +1,31 @@
+-- What a call serves, where requests come
+use Rattle.std.proofs.Common.{ℕ, Some, None, Option, List, [], ◌∷◌, ◌++◌}
+use Rattle.vm_base.specs.declared.requests.Request.{Request}
+use Rattle.slot_lock.specs.declared.plan.Plan.{Plan}
+use Rattle.machine_model.specs.declared.phase.Phase.{Phase}
+use Rattle.machine_model.specs.declared.phase.Phase.TheVariants.{Free, Check, Lock, Decide, Post, Acks, Unlock, Answer, Try, Settle, Want, Fill, Install, Release}
+use Rattle.machine_model.specs.Holding.{plan_in}
+use Rattle.machine_model.specs.World.{Made}
+use Rattle.machine_laws.specs.Orderly.{IsAsked, ServesSome}
+use Rattle.machine_laws.proofs.Numbered.{at_old}
+
+serves_more : (made : Made) (rs : List Request) (r : Request) (c n : ℕ) (plan : Option Plan) → ServesSome made rs c n plan → ServesSome made (rs ++ r ∷ []) c n plan
+serves_more made rs r c n None h = h
+serves_more made rs r c n (Some plan) h = record { request = h.request; number = at_old rs r n h.request h.number; passed = h.passed }
+
+-- one request more changes nothing for the calls begun before
+pub asked_more : (made : Made) (rs : List Request) (r : Request) (c n : ℕ) (phase : Phase) → IsAsked made rs c n phase → IsAsked made (rs ++ r ∷ []) c n phase
+asked_more made rs r c n Free h = h
+asked_more made rs r c n (Check request) h = at_old rs r n request h
+asked_more made rs r c n (Lock goal cursor) h = serves_more made rs r c n (plan_in (Lock goal cursor)) h
+asked_more made rs r c n (Decide change) h = serves_more made rs r c n (plan_in (Decide change)) h
+asked_more made rs r c n (Post change shoot) h = serves_more made rs r c n (plan_in (Post change shoot)) h
+asked_more made rs r c n (Acks change held) h = serves_more made rs r c n (plan_in (Acks change held)) h
+asked_more made rs r c n (Unlock held reply) h = h
+asked_more made rs r c n (Answer reply) h = h
+asked_more made rs r c n (Try touch) h = serves_more made rs r c n (plan_in (Try touch)) h
+asked_more made rs r c n (Settle touch) h = serves_more made rs r c n (plan_in (Settle touch)) h
+asked_more made rs r c n (Want touch) h = serves_more made rs r c n (plan_in (Want touch)) h
+asked_more made rs r c n (Fill touch frame) h = serves_more made rs r c n (plan_in (Fill touch frame)) h
+asked_more made rs r c n (Install touch) h = serves_more made rs r c n (plan_in (Install touch)) h
+asked_more made rs r c n (Release touch) h = serves_more made rs r c n (plan_in (Release touch)) h

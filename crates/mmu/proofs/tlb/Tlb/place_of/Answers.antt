@@ -1,0 +1,13 @@
+use Rattle.std.proofs.Common.{◌≡◌, ◌==◌, true, false, sym, ◌∙◌, ap, arith, get_or}
+use Rattle.std.proofs.lemmas.Bool.Decides.{nat_tests}
+use Rattle.mmu.specs.declared.tlb.TlbEntry.{TlbEntry}
+use Rattle.mmu.proofs.Distinct.{at_place}
+use Rattle.mmu.proofs.tlb.Tlb.place_of.Goals as goal
+
+pub returns-then-deref-noted-clause-value : goal.returns-then-deref-noted-clause-value
+returns-then-deref-noted-clause-value c =
+    let items = c.args.self.now.entries.items in
+    let none : TlbEntry = record { page = 0; translation = record { frame = 0; write = false; exec = false } } in
+    let here : (get_or items c.noted-noted.result none).page ≡ c.args.page = ap (λ xs. (get_or xs c.noted-noted.result none).page) (sym c.deref.ensures.0) ∙ c.if-deref-noted.true in
+    let test : ((get_or items c.noted-noted.result none).page == c.args.page) ≡ true = grind (arith, nat_tests) in
+    sym (at_place items c.args.page c.noted-noted.result none c.args.self.now.distinct (omega (arith, c.if-noted-len.true, c.len.ensures.value)) test)

@@ -1,0 +1,53 @@
+-- What is found on the pages of a range
+use Rattle.std.specs.Prelude.{◌≡◌, ℕ, ◌+◌, ◌<◌, ◌≤◌, true, is_some, Option, None, Some, List}
+use Rattle.vm_base.specs.declared.info.PageInfo.{PageInfo}
+use Rattle.vm_base.specs.Info.{frame_of, is_recorded}
+use Rattle.radix_node.specs.declared.walk.FreeRun.{FreeRun}
+use Rattle.radix_node.specs.declared.walk.FreeRun.TheVariants.{Found, Open}
+use Rattle.radix_node.specs.Run.{Run, cell_at}
+
+-- it holds of what the slot of each page from first up to end says
+abbrev pub OnAll : (Option PageInfo → Type 0) → List Run → ℕ → ℕ → Type 0
+OnAll Q rs first end = (p : ℕ) → first ≤ p → p < end → Q (cell_at rs p).state.info
+
+abbrev pub IsMapped : Option PageInfo → Type 0
+IsMapped info = is_some info ≡ true
+
+abbrev pub HasNoFrame : Option PageInfo → Type 0
+HasNoFrame info = frame_of info ≡ None
+
+-- the page is the first from a page on with a frame
+pub record IsFirstFramed (rs : List Run) (first end page frame : ℕ) : Type 0 where
+  pub low : first ≤ page
+  pub high : page < end
+  pub before : OnAll HasNoFrame rs first page
+  pub had : frame_of (cell_at rs page).state.info ≡ Some frame
+
+-- the core is recorded on a page from first up to end
+abbrev pub HasUser : List Run → ℕ → ℕ → ℕ → Type 0
+HasUser rs first end core = (p : ℕ) × (first ≤ p) × (p < end) × (is_recorded (cell_at rs p).state.info core ≡ true)
+
+-- ---- free pages, where the node's pages are counted from the base on
+
+-- a mapped page from first up to end keeps n pages from being free that begin at r
+abbrev pub Blocked : List Run → ℕ → ℕ → ℕ → ℕ → ℕ → Type 0
+Blocked rs base first end n r = (p : ℕ) × (first ≤ p) × (p < end) × (r ≤ base + p) × (base + p < r + n) × (is_some (cell_at rs p).state.info ≡ true)
+
+-- the pages from here on are free, and too few; from start up to here no n free pages begin
+pub record IsOpen (rs : List Run) (base first end n start here : ℕ) : Type 0 where
+  pub low : start ≤ here
+  pub high : here ≤ base + end
+  pub short : base + end < here + n
+  pub free : (p : ℕ) → first ≤ p → p < end → here ≤ base + p → (cell_at rs p).state.info ≡ None
+  pub before : (r : ℕ) → start ≤ r → r < here → Blocked rs base first end n r
+
+-- the n pages from here on are free as far as they lie in the range; from start up to here no n free pages begin
+pub record IsFree (rs : List Run) (base first end n start here : ℕ) : Type 0 where
+  pub low : start ≤ here
+  pub high : here + n ≤ base + end
+  pub free : (p : ℕ) → first ≤ p → p < end → here ≤ base + p → base + p < here + n → (cell_at rs p).state.info ≡ None
+  pub before : (r : ℕ) → start ≤ r → r < here → Blocked rs base first end n r
+
+abbrev pub Finds : List Run → ℕ → ℕ → ℕ → ℕ → ℕ → FreeRun → Type 0
+Finds rs base first end n start (Found here) = IsFree rs base first end n start here
+Finds rs base first end n start (Open here) = IsOpen rs base first end n start here

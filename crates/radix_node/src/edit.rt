@@ -1,0 +1,50 @@
+//! A change of all pages of a range.
+ghost use Rattle.std.specs.Prelude.{◌≡◌, ℕ, ◌+◌, ◌*◌, ◌-◌, ◌<◌, ◌≤◌, ◌^◌, ◌⊎◌};
+ghost use Rattle.radix_node.specs.Run.{width_of, cell_at, IsWhole};
+ghost use Rattle.radix_node.specs.Node.{runs};
+ghost use Rattle.radix_node.specs.Edit.{CanEdit, edited_cell};
+
+use crate::node::{Node, Slot};
+use crate::place::{part_in, slot_pages, slots_of};
+use std::alloc::Allocator;
+use vm_base::{PageInfo, Prot};
+
+/// What a change makes of the pages of a range.
+#[derive(Clone, Copy, Debug)]
+pub enum Edit {
+    /// The first page has this, and each later page goes on from it.
+    Put(Option<PageInfo>),
+    /// Each page has this protection, and no recorded core.
+    Protect(Prot),
+    /// No page has a frame.
+    DropFrame,
+}
+
+impl<A: Allocator> Node<A> {
+    /// Changes the node's pages from `first` up to `end`, whose edges no slot crosses, as those of a range that begins `by`
+    /// pages before them.
+    pub fn edit(&mut self, first: u64, end: u64, edit: &Edit, by: u64)
+        requires some { first < end }
+        requires within { end ≤ 512 * width_of self.old.level }
+        requires begins { (cell_at (runs self.old) first).offset ≡ 0 }
+        requires ends { (cell_at (runs self.old) end).offset ≡ 0 }
+        requires few { by + (end - first) ≤ 2 ^ 36 }
+        requires sound { CanEdit edit.now (by + (end - first)) }
+        ensures level { self.new.level ≡ self.old.level }
+        ensures whole { IsWhole self.new.level (512 * width_of self.new.level) (runs self.new) }
+        ensures inside { (p : ℕ) → first ≤ p → p < end → cell_at (runs self.new) p ≡ edited_cell edit.now (by + (p - first)) (cell_at (runs self.old) p) }
+        ensures outside { (p : ℕ) → (p < first) ⊎ (end ≤ p) → cell_at (runs self.new) p ≡ cell_at (runs self.old) p }
+    {
+        let width = slot_pages(self.level);
+        let slots = slots_of(self.level, first, end);
+        'slots: for k in slots.from..slots.to {
+            let start = k as u64 * width;
+            let part = part_in(first, end, start, width);
+            let past = by + (start + part.first - first);
+            match &mut self.slots[k] {
+                Slot::Own(state) => state.edit(edit, past),
+                Slot::Child(node) => node.edit(part.first, part.end, edit, past),
+            }
+        }
+    }
+}

@@ -1,0 +1,130 @@
+//! Walks over the slots of a range of a node's pages, from left to right: each slot, and each node below, is visited once.
+ghost use Rattle.std.specs.Prelude.{◌≡◌, ℕ, ◌+◌, ◌*◌, ◌<◌, ◌≤◌, ◌^◌, ◌↔◌, IfSome, IfNone, IsTrue, min, max, true};
+ghost use Rattle.vm_base.specs.Cores.{members};
+ghost use Rattle.radix_node.specs.Run.{width_of};
+ghost use Rattle.radix_node.specs.Node.{runs};
+ghost use Rattle.radix_node.specs.Walk.{OnAll, IsMapped, HasNoFrame, IsFirstFramed, HasUser, Finds};
+
+use crate::node::{Node, Slot};
+use crate::place::{part_in, slot_pages, slots_of};
+use std::alloc::Allocator;
+use vm_base::CoreSet;
+
+/// What a search for a run of free pages found in a range.
+#[derive(Clone, Copy, Debug)]
+pub enum FreeRun {
+    /// The run begins at this page.
+    Found(u64),
+    /// No run ends in the range. The pages from this one up to the range's end are free.
+    Open(u64),
+}
+
+impl<A: Allocator> Node<A> {
+    /// The cores that are recorded on some of the node's pages from `first` up to `end`.
+    pub fn recorded(&self, first: u64, end: u64) -> CoreSet
+        requires some { first < end }
+        requires within { end ≤ 512 * width_of self.now.level }
+        ensures { (core : ℕ) → (members result core ≡ true) ↔ HasUser (runs self.now) first end core }
+    {
+        let width = slot_pages(self.level);
+        let slots = slots_of(self.level, first, end);
+        let mut cores = CoreSet::empty();
+        'slots: for k in slots.from..slots.to {
+            match &self.slots[k] {
+                Slot::Own(state) => cores = cores.union(state.cores()),
+                Slot::Child(node) => {
+                    let part = part_in(first, end, k as u64 * width, width);
+                    cores = cores.union(node.recorded(part.first, part.end));
+                }
+            }
+        }
+        cores
+    }
+
+    /// Tells whether all of the node's pages from `first` up to `end` are mapped.
+    pub fn all_mapped(&self, first: u64, end: u64) -> bool
+        requires some { first < end }
+        requires within { end ≤ 512 * width_of self.now.level }
+        ensures { IsTrue result ↔ OnAll IsMapped (runs self.now) first end }
+    {
+        let width = slot_pages(self.level);
+        let slots = slots_of(self.level, first, end);
+        'slots: for k in slots.from..slots.to {
+            match &self.slots[k] {
+                Slot::Own(state) => {
+                    if !state.is_mapped() {
+                        return false;
+                    }
+                }
+                Slot::Child(node) => {
+                    let part = part_in(first, end, k as u64 * width, width);
+                    if !node.all_mapped(part.first, part.end) {
+                        return false;
+                    }
+                }
+            }
+        }
+        true
+    }
+
+    /// The first of the node's pages from `first` up to `end` that has a frame, and the frame.
+    pub fn first_frame(&self, first: u64, end: u64) -> Option<(u64, u32)>
+        requires some { first < end }
+        requires within { end ≤ 512 * width_of self.now.level }
+        ensures some { IfSome result (λ taken. IsFirstFramed (runs self.now) first end taken.0 taken.1) }
+        ensures none { IfNone result (OnAll HasNoFrame (runs self.now) first end) }
+    {
+        let width = slot_pages(self.level);
+        let slots = slots_of(self.level, first, end);
+        'slots: for k in slots.from..slots.to {
+            let start = k as u64 * width;
+            match &self.slots[k] {
+                Slot::Own(state) => {
+                    if let Some(frame) = state.frame() {
+                        return Some((first.max(start), frame));
+                    }
+                }
+                Slot::Child(node) => {
+                    let part = part_in(first, end, start, width);
+                    if let Some((page, frame)) = node.first_frame(part.first, part.end) {
+                        return Some((start + page, frame));
+                    }
+                }
+            }
+        }
+        None
+    }
+
+    /// Looks for the first `n` free pages that end by `end`, where the node's pages are counted from `base` on but for `first`
+    /// and `end`, and the pages from `start` up to `first` are free, and too few.
+    pub fn free_run(&self, base: u64, first: u64, end: u64, n: u64, start: u64) -> FreeRun
+        requires some { first < end }
+        requires within { end ≤ 512 * width_of self.now.level }
+        requires fits { base + 512 * width_of self.now.level ≤ 2 ^ 36 }
+        requires by { start ≤ base + first }
+        requires short { base + first < start + n }
+        ensures { Finds (runs self.now) base first end n start result }
+    {
+        let width = slot_pages(self.level);
+        let slots = slots_of(self.level, first, end);
+        let mut open_from = start;
+        'slots: for k in slots.from..slots.to {
+            let part = part_in(first, end, k as u64 * width, width);
+            let slot = base + k as u64 * width;
+            match &self.slots[k] {
+                Slot::Own(state) => {
+                    if state.is_mapped() {
+                        open_from = slot + part.end;
+                    } else if n <= slot + part.end - open_from {
+                        return FreeRun::Found(open_from);
+                    }
+                }
+                Slot::Child(node) => match node.free_run(slot, part.first, part.end, n, open_from) {
+                    FreeRun::Found(found) => return FreeRun::Found(found),
+                    FreeRun::Open(still) => open_from = still,
+                },
+            }
+        }
+        FreeRun::Open(open_from)
+    }
+}

@@ -1,0 +1,136 @@
+-- A change of the pages of a range
+use Rattle.std.proofs.Common.{◌≡◌, ℕ, ◌+◌, ◌-◌, ◌*◌, ◌^◌, ◌<◌, ◌≤◌, ◌==◌, ◌⊎◌, inl, inr, ⊎_elim, Bool, true, false, cond, Option, Some, None, List, refl, sym, ◌∙◌, ap, arith}
+use Rattle.std.proofs.lemmas.Bool.{cases_lt}
+use Rattle.vm_base.specs.declared.page.PageRange.{PageRange}
+use Rattle.vm_base.specs.declared.info.PageInfo.{PageInfo}
+use Rattle.vm_base.specs.declared.info.Meta.{Meta}
+use Rattle.vm_base.specs.declared.rights.Prot.{Prot}
+use Rattle.vm_base.specs.Functions.{has}
+use Rattle.vm_base.specs.Pages.{IsPage, IsPageRange}
+use Rattle.vm_base.specs.Info.{file_page, frame_of, info_from, info_file_page, info_with_prot, info_without_frame, is_leaf, unused}
+use Rattle.vm_base.proofs.Functions.{by_test, has_in}
+use Rattle.slot_lock.specs.declared.plan.Change.{Change}
+use Rattle.slot_lock.specs.declared.plan.Change.TheVariants as ChangeOf
+use Rattle.slot_lock.specs.Plan.{IsSoundChange, range_of, FitsFile}
+use Rattle.slot_lock.specs.Slots.{Slots, IsCut, HasMeta, between, with_info}
+use Rattle.slot_lock.specs.RunLaws.{info_from_twice, info_from_zero, from_test}
+use Rattle.slot_lock.proofs.Edits.{has_not, has_one, same_slots}
+use Rattle.radix_node.specs.declared.edit.Edit.{Edit}
+use Rattle.radix_node.specs.declared.edit.Edit.TheVariants.{Put, Protect, DropFrame}
+use Rattle.radix_node.specs.Edit.{CanEdit, edited_info, edited_cell}
+use Rattle.radix_node.specs.Run.{Run, Cell, cell_at, width_of, IsWhole}
+use Rattle.radix_node.specs.Node.{Parts, runs}
+use Rattle.radix_node.proofs.Runs.{moved}
+use Rattle.radix_range.specs.Tree.{slots_of, tree_slots, IsRadix}
+use Rattle.radix_range.specs.TreeLaws.{tree-is_slot_map, cell_ok}
+use Rattle.radix_range.specs.Found.{edited_to}
+use Rattle.radix_range.specs.Cells.{cell_earlier}
+
+-- the cells of a list whose range was changed
+pub record IsEdited (rs qs : List Run) (range : PageRange) (edit : Edit) : Type 0 where
+  pub inside : (p : ℕ) → range.first ≤ p → p < range.end → cell_at qs p ≡ edited_cell edit (0 + (p - range.first)) (cell_at rs p)
+  pub outside : (p : ℕ) → (p < range.first) ⊎ (range.end ≤ p) → cell_at qs p ≡ cell_at rs p
+
+-- a page of a range that no slot crosses into is in a slot of the range
+starts_in : (rs : List Run) (first p : ℕ) → (cell_at rs first).offset ≡ 0 → first ≤ p → (cell_at rs p).offset ≤ p - first
+starts_in rs first p begins low = ⊎_elim
+    (λ (l : p - first < (cell_at rs p).offset).
+    let k : p - (p - first) ≡ first = omega arith in
+    let e = ap (λ (c : Cell). c.offset) (sym (cell_earlier rs p (p - first) (omega arith)) ∙ ap (cell_at rs) k) in
+    absurd (omega (arith, e, begins)))
+    (λ (l : (cell_at rs p).offset ≤ p - first). l)
+    (cases_lt (p - first) (cell_at rs p).offset)
+
+prot_from : (prot : Prot) (o : Option PageInfo) (n : ℕ) → info_from (info_with_prot prot o) n ≡ info_with_prot prot (info_from o n)
+prot_from prot None n = refl
+prot_from prot (Some info) n = refl
+
+frame_from : (o : Option PageInfo) (n : ℕ) → info_from (info_without_frame o) n ≡ info_without_frame (info_from o n)
+frame_from None n = refl
+frame_from (Some info) n = refl
+
+-- a page of a slot that was changed
+edited_from : (edit : Edit) (n offset : ℕ) (o : Option PageInfo) → offset ≤ n → info_from (edited_info edit (0 + n - offset) o) offset ≡ edited_info edit n (info_from o offset)
+edited_from (Put first) n offset o l = let k : 0 + n - offset + offset ≡ n = omega arith in info_from_twice first (0 + n - offset) offset ∙ ap (info_from first) k
+edited_from (Protect prot) n offset o l = prot_from prot o offset
+edited_from DropFrame n offset o l = frame_from o offset
+
+pub edited_slots : (rs qs : List Run) (range : PageRange) (edit : Edit) → IsEdited rs qs range edit → (cell_at rs range.first).offset ≡ 0 → slots_of qs ≡ edited_to (slots_of rs) range edit
+edited_slots rs qs range edit h begins = same_slots _ _
+    (λ p. by_test (λ x. (slots_of qs).info p ≡ x) (has range p) _ _
+    (λ e. let b = has_in range p e in
+    ap (λ (c : Cell). info_from c.state.info c.offset) (h.inside p b.0 b.1)
+    ∙ edited_from edit (p - range.first) (cell_at rs p).offset (cell_at rs p).state.info (starts_in rs range.first p begins b.0))
+    (λ e. ap (λ (c : Cell). info_from c.state.info c.offset) (h.outside p (has_not range p e))))
+    (λ p. same (λ (c : Cell). c.state.owner) (λ p _ _. refl) p (has range p) refl)
+    (λ p. same (λ (c : Cell). c.offset == 0) (λ p _ _. refl) p (has range p) refl)
+  where
+    same : {X : Type 0} (f : Cell → X) → ((p : ℕ) → range.first ≤ p → p < range.end → f (edited_cell edit (0 + (p - range.first)) (cell_at rs p)) ≡ f (cell_at rs p)) → (p : ℕ) (b : Bool) → has range p ≡ b → f (cell_at qs p) ≡ f (cell_at rs p)
+    same f stays p true e = let b = has_in range p e in ap f (h.inside p b.0 b.1) ∙ stays p b.0 b.1
+    same f stays p false e = ap f (h.outside p (has_not range p e))
+
+pub edited_radix : (v u : Parts) → IsRadix v → (range : PageRange) (edit : Edit) → IsPageRange range → IsEdited (runs v) (runs u) range edit → u.level ≡ v.level → IsWhole u.level (512 * width_of u.level) (runs u) → IsRadix u
+edited_radix v u ok range edit pages h same whole = record {
+  top = same ∙ ok.top;
+  whole = whole;
+  outside = λ p not. ap (λ (c : Cell). c.state) (h.outside p (out p not)) ∙ ok.outside p not;
+}
+  where
+    out : (p : ℕ) → ¬ IsPage p → (p < range.first) ⊎ (range.end ≤ p)
+    out p not = ⊎_elim (λ (l : p < range.first). inl l) (λ (l : range.first ≤ p). ⊎_elim (λ (m : p < range.end). absurd (not (omega (arith, pages.low), omega (arith, pages.high)))) (λ (m : range.end ≤ p). inr m) (cases_lt p range.end)) (cases_lt p range.first)
+
+-- an edge of a slot begins it
+pub begins_at : (v : Parts) (p : ℕ) → (tree_slots v).edge p ≡ true → (cell_at (runs v) p).offset ≡ 0
+begins_at v p h = from_test _ _ h
+
+-- ---- one page
+
+pub edited_one : (s : Slots) (page : ℕ) (edit : Edit) (o : Option PageInfo) → edited_info edit 0 (s.info page) ≡ o → edited_to s (between page (page + 1)) edit ≡ with_info s page o
+edited_one s page edit o is = same_slots _ _ (λ p. by_test (λ x. x ≡ cond (has (between page (page + 1)) p) o (s.info p)) (has (between page (page + 1)) p) _ _
+    (λ e. here p e ∙ ap (λ b. cond b o (s.info p)) (sym e))
+    (λ e. ap (λ b. cond b o (s.info p)) (sym e))
+    ∙ ap (λ b. cond b o (s.info p)) (has_one page p)) (λ p. refl) (λ p. refl)
+  where
+    here : (p : ℕ) → has (between page (page + 1)) p ≡ true → edited_info edit (p - page) (s.info p) ≡ o
+    here p e =
+        let b = has_in (between page (page + 1)) p e in
+        let z : p - page ≡ 0 = omega (arith, b.0, b.1) in
+        let k : p ≡ page = omega (arith, b.0, b.1) in
+        ap (λ n. edited_info edit n (s.info p)) z ∙ ap (λ q. edited_info edit 0 (s.info q)) k ∙ is
+
+same_file_page : (o : Option PageInfo) (info : PageInfo) → HasMeta o info.meta → info_file_page (Some info) ≡ info_file_page o
+same_file_page None info h = absurd h
+same_file_page (Some old) info h = ap (λ (m : Meta). file_page m.back) (sym h)
+
+-- what a page of the tree can have
+pub can_put : (v : Parts) → IsRadix v → (page n : ℕ) (info : PageInfo) → page < 2 ^ 35 → n ≡ 1 → (tree_slots v).edge page ≡ true → HasMeta ((tree_slots v).info page) info.meta → CanEdit (Put (Some info)) n
+can_put v ok page n info l one edge meta =
+    let c = cell_ok v ok page (omega arith) in
+    let z = begins_at v page edge in
+    let pos = c.within in
+    let is : (tree_slots v).info page ≡ (cell_at (runs v) page).state.info = ap (info_from (cell_at (runs v) page).state.info) z ∙ info_from_zero (cell_at (runs v) page).state.info in
+    let same : info_file_page (Some info) ≡ info_file_page (cell_at (runs v) page).state.info = same_file_page ((tree_slots v).info page) info meta ∙ ap info_file_page is in
+    record {
+      fits = omega (arith, c.sound.fits, same, one, pos);
+      alone = λ _. one;
+    }
+
+-- ---- a whole change
+
+pub can_map : (meta : Meta) (n : ℕ) → FitsFile meta n → CanEdit (Put (Some (unused meta))) n
+can_map meta n fits = record {
+  fits = omega (arith, fits);
+  alone = λ leaf. absurd (clash leaf);
+}
+  where
+    clash : false ≡ true → ⊥
+    clash e = cc
+
+pub can_unmap : (n : ℕ) → n ≤ 2 ^ 36 → CanEdit (Put None) n
+can_unmap n l = record {
+  fits = omega arith;
+  alone = λ leaf. absurd (clash leaf);
+}
+  where
+    clash : false ≡ true → ⊥
+    clash e = cc

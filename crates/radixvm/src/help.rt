@@ -1,0 +1,61 @@
+//! The texts of the program's help.
+
+/// What the program is for.
+pub const ABOUT: &str =
+    "One virtual address space with mmap, munmap and mprotect, replayed step by step";
+
+/// What `run` does.
+pub const RUN_ABOUT: &str =
+    "Replays the trace on standard input, one line of output for each event line";
+
+/// What a trace may hold, what comes out, and how the program ends.
+pub const TRACE: &str = "\
+Input, a line of at most 256 bytes each; a line that begins with # says nothing:
+  vm CORES FRAMES [CALLS]   first: the size of the space (CALLS is 4096 where left out)
+  cC! REQ                   core C makes a call, whose reply is written
+  cC call REQ               core C begins a call
+  cC go                     one step of core C's call
+  cC finish                 all steps that are left of core C's call
+REQ is one of:
+  mmap ADDR LEN PROT FLAGS [FILE OFF]
+  munmap ADDR LEN
+  mprotect ADDR LEN PROT
+  load ADDR
+  store ADDR BYTE
+  fetch ADDR
+C is 0 to 63, without leading zeros. Every other number is decimal, or hexadecimal
+after 0x, below 2^64. ADDR, LEN and OFF are in bytes; a page has 4096, and a range
+takes every page that has some byte of it. BYTE is at most 255. FILE and OFF may be
+left out where FLAGS has a.
+PROT is rwx with - for a right that isn't given. FLAGS is some of p (private),
+s (shared), f (fixed) and a (anonymous) in any order, or -.
+
+Output, a line for each line of a core, as soon as no whole line is left to read:
+  0x10000       the address of a mapping that was made
+  done          an munmap, an mprotect or a store was done
+  41            the byte that was loaded or fetched, in decimal
+  einval        an argument is wrong: a length of 0, an address that no page begins at ..
+  enomem        a page is outside the space or not mapped, or no place is found
+  ebadf         there is no such file
+  segv maperr   no page is mapped there
+  segv accerr   the page's protection forbids it
+  noframe       no frame is free
+  step          one step was made, and the call isn't answered yet
+  idle          the core has no call, or has one already, or isn't there
+  full          CALLS calls have begun
+
+Example:
+  printf 'vm 1 4\\nc0! mmap 0x10000 4096 rw- pfa\\nc0! store 0x10004 41\\nc0! load 0x10004\\n' | radixvm run
+writes 0x10000, done and 41.
+
+A fault ends the replay, and is told on standard error:
+  line N: bad line    line N: too long    no vm line first
+  setup S1            CORES isn't 1
+  setup S2            FRAMES is above 65536
+  setup S3, S4        too many files, or one that is too long (there are no files yet)
+  setup S5            CALLS is above 1048576
+  setup S6            no memory for the machine
+  read failed         write failed        out of memory
+
+Status: 0, or 2 for a bad text or bad words, or 3 where reading, writing or memory
+failed (setup S6 too).";

@@ -1,0 +1,8 @@
+use Rattle.std.proofs.Common.{rules, ◌≡◌, ◌+◌, ◌-◌, length}
+use Rattle.slot_lock.proofs.Adding.{first_in_rest}
+use Rattle.slot_lock.proofs.lent.add.Goals as goal
+
+pub begin-i-requires-clause-low : goal.begin-i-requires-clause-low
+begin-i-requires-clause-low g c =
+    let last : c.len-last.result - 2 + 2 ≡ length c.args.runs.now.items = search rules in
+    rw c.reserve.ensures.items (first_in_rest _ c.requires.runs _ _ _ _ last c.requires.can)
