@@ -1,6 +1,5 @@
 -- Which run has a page
-use Rattle.std.proofs.Common.{◌≡◌, ℕ, suc, zero, ◌+◌, ◌-◌, ◌^◌, ◌<◌, ◌≤◌, true, false, nat_le, List,
-    [], ◌∷◌, length, get_or, add-zero, refl, ◌∙◌, ap, arith}
+use Rattle.std.proofs.Common.{◌≡◌, ℕ, suc, zero, ◌+◌, ◌-◌, ◌^◌, ◌<◌, ◌≤◌, true, false, nat_le, List, [], ◌∷◌, length, get_or, add-zero, refl, ◌∙◌, ap, arith}
 use Rattle.std.proofs.Common.{⊎_elim}
 use Rattle.std.proofs.lemmas.Bool.{cases_lt}
 use Rattle.std.proofs.lemmas.List.{get_or_default}
@@ -43,16 +42,16 @@ pub place_by_starts : (rs : List Run) (p i : ℕ) → i < length rs
 unfolding place_of
 place_by_starts rs p i h below above =
     let n : prefix_len (begins_by p) rs ≡ i + 1 = prefix_len_is (begins_by p) rs (i + 1) nobody (omega arith)
-            (λ k l. passes p (get_run rs k).start (below k (omega arith)))
-            (λ l. stops p (get_run rs (i + 1)).start (above l)) in
+    (λ k l. passes p (get_run rs k).start (below k (omega arith)))
+    (λ l. stops p (get_run rs (i + 1)).start (above l)) in
     omega arith
 
 -- the run of a page is at its place
 pub place_is : (rs : List Run) → IsRuns rs → (p i : ℕ) → IsAt rs p i → place_of rs p ≡ i
 place_is rs ok p i h = place_by_starts rs p i h.within
     (λ k l.
-        let a : (get_run rs k).start ≤ (get_run rs i).start = starts_rise_to rs ok k i l h.within in
-        omega (arith, h.from))
+    let a : (get_run rs k).start ≤ (get_run rs i).start = starts_rise_to rs ok k i l h.within in
+    omega (arith, h.from))
     h.until
 
 first_passes : (rs : List Run) → IsRuns rs → (p : ℕ) → 0 < prefix_len (begins_by p) rs

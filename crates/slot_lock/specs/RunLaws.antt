@@ -1,6 +1,6 @@
 -- What holds of each list of runs
-use Rattle.std.proofs.Common.{◌≡◌, ◌≢◌, ℕ, ◌+◌, ◌-◌, ◌^◌, ◌<◌, ◌≤◌, ◌==◌, ◌⊎◌, inl, inr, ⊎_elim,
-    true, false, List, length, Option, Some, None, is_some, refl, sym, ◌∙◌, ap, arith}
+use Rattle.std.proofs.Common.{◌≡◌, ◌≢◌, ℕ, ◌+◌, ◌-◌, ◌^◌, ◌<◌, ◌≤◌, ◌==◌, ◌⊎◌, inl, inr, ⊎_elim, true}
+use Rattle.std.proofs.Common.{false, List, length, Option, Some, None, is_some, refl, sym, ◌∙◌, ap, arith}
 use Rattle.std.proofs.lemmas.Bool.{cases_lt}
 use Rattle.std.proofs.lemmas.Bool.Decides.{nat_tests}
 use Rattle.vm_base.specs.declared.info.PageInfo.{PageInfo}
@@ -126,14 +126,14 @@ last_run : (rs : List Run) → IsRuns rs → (p : ℕ) → 2 ^ 35 ≤ p → run_
 last_run rs ok p h = run_at_is rs ok p (length rs - 1) (record {
   within = omega (arith, ok.some);
   from = omega (arith, ok.limit_last);
-  until = λ l. absurd (omega arith)
+  until = λ l. absurd (omega arith);
 })
 
 zero_run : (rs : List Run) → IsRuns rs → run_at rs 0 ≡ get_run rs 0
 zero_run rs ok = run_at_is rs ok 0 0 (record {
   within = omega (arith, ok.some);
   from = omega (arith, ok.zero_first);
-  until = λ l. omega (arith, ok.one_second)
+  until = λ l. omega (arith, ok.one_second);
 })
 
 outside : (p : ℕ) → ¬ IsPage p → (p ≡ 0) ⊎ (2 ^ 35 ≤ p)
@@ -167,7 +167,7 @@ slots_of-is_slot_map rs ok = record {
         let fits = ok.fits f.at l in
         let until = f.is.until l in
         let on = fits_on (get_run rs f.at).info (p - (get_run rs f.at).start)
-                ((get_run rs (f.at + 1)).start - (get_run rs f.at).start) (omega (arith, f.is.from)) fits in
+        ((get_run rs (f.at + 1)).start - (get_run rs f.at).start) (omega (arith, f.is.from)) fits in
         omega (arith, f.is.from))
         (λ l.
         let same : f.at ≡ length rs - 1 = omega (arith, f.is.within) in
