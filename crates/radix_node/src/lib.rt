@@ -11,6 +11,3 @@ pub use edit::Edit;
 pub use node::{Found, Node, Slot};
 pub use state::{Kind, SlotState};
 pub use walk::FreeRun;
-
-#[cfg(test)]
-mod tests;

@@ -1,9 +1,8 @@
-use Rattle.std.proofs.Common.{◌≡◌, ◌<◌, ◌≤◌, ◌+◌, ◌∙◌, None, Some, get_or, set, length, rules, arith, refl, sym, subst, ap}
-use Rattle.std.specs.Vec.{vec_capacity, vec_len}
+use Rattle.std.proofs.Common.{◌≡◌, ◌<◌, ◌∙◌, None, Some, get_or, length, rules, refl, sym, ap}
+use Rattle.std.specs.Vec.{vec_capacity}
 use Rattle.vm_base.specs.Functions.{put}
-use Rattle.vm_base.specs.Plain.{page_bytes, zeros}
-use Rattle.frames.specs.Pages.{Stored, IsStored, stored_bytes, all_pages}
-use Rattle.frames.proofs.Stored.{stored-put, stored-at, stored-none, stored-add, stored-added, stored-room, stored-new, stored-kept, stored-zero}
+use Rattle.frames.specs.Pages.{Stored, stored_bytes, all_pages}
+use Rattle.frames.proofs.Stored.{stored-put, stored-at}
 use Rattle.frames.proofs.byte_store.ByteStore.copy_page.Goals as goal
 
 pub copy-requires-clause-to : goal.copy-requires-clause-to

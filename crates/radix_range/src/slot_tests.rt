@@ -1,13 +1,10 @@
-//! Footprints, plans and lent slots. What a list of runs does as a slot map is tested beside the tree, by the same calls, in
-//! the crate of the tree.
+//! `slot_lock`: footprints, plans and lent slots. What a list of runs does as a slot map is tested beside the tree, by the same
+//! calls.
 ghost use Rattle.std.specs.Prelude.{◌≡◌, ◌+◌, ◌<◌, ◌^◌};
 ghost use Rattle.vm_base.specs.Pages.{pages_from};
 
-use crate::footprint::Footprint;
-use crate::plan::{Change, Place, Plan, Touch};
-use crate::run_list::RunList;
-use crate::slot_map::{SlotMap, SlotRead};
 use linked_list_allocator::LocalHeap;
+use slot_lock::{Change, Footprint, Place, Plan, RunList, SlotMap, SlotRead, Touch};
 use std::test::Fail;
 use vm_base::{Access, Back, CoreId, CoreSet, Meta, PageInfo, PageRange, Prot};
 

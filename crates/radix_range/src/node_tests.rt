@@ -1,12 +1,9 @@
-//! Each call once with ample memory, and a making and an expansion refused for want of it.
+//! `radix_node`: each call once with ample memory, and a making and an expansion refused for want of it.
 ghost use Rattle.std.specs.Prelude.{◌≡◌, ◌+◌, ◌<◌, ◌≤◌, ◌^◌, false, Some};
 ghost use Rattle.vm_base.specs.Info.{info_file_page, is_leaf};
 
-use crate::edit::Edit;
-use crate::node::{Found, Node};
-use crate::state::SlotState;
-use crate::walk::FreeRun;
 use linked_list_allocator::LocalHeap;
+use radix_node::{Edit, Found, FreeRun, Node, SlotState};
 use std::alloc::Allocator;
 use std::test::Fail;
 use vm_base::{Back, CoreId, CoreSet, Meta, NoMemory, PageInfo, Prot};

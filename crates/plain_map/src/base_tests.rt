@@ -1,15 +1,15 @@
-//! Each public function once, with the values that the public standards and this project's rules give.
+//! `vm_base`: each public function once, with the values that the public standards and this project's rules give.
 ghost use Rattle.std.specs.Prelude.{◌≡◌, false};
 ghost use Rattle.vm_base.specs.Info.{file_page, info_file_page, is_leaf};
 
-use crate::page::is_page_start;
-use crate::{
+use std::alloc::AllocError;
+use std::test::Fail;
+use vm_base::page::is_page_start;
+use vm_base::{
     Access, Back, CoreId, CoreSet, Errno, Flags, Meta, Mode, NoMemory, PageInfo, PageRange, Prot,
     Reply, Request, allows, goes_on, info_from, is_leaf, is_valid, offset_of, page_count, page_of,
     pages, protected, refusal, window,
 };
-use std::alloc::AllocError;
-use std::test::Fail;
 
 const READ_WRITE: Prot = Prot {
     read: true,

@@ -1,12 +1,12 @@
-//! A text that comes a byte at a time, a read that fails in mid-stream, and writers that stop.
-use crate::lines::{Found, LineReader, NoLine};
-use crate::sink::{Noted, Sink, WriteFailed, write_all};
-use crate::source::{Counted, ReadFailed, Source};
+//! `trace_io`: a text that comes a byte at a time, a read that fails in mid-stream, and writers that stop.
 use linked_list_allocator::LocalHeap;
 use std::alloc::Global;
 use std::io;
 use std::io::{ErrorKind, Read, Write};
 use std::test::Fail;
+use trace_io::lines::{Found, LineReader, NoLine};
+use trace_io::sink::{Noted, Sink, WriteFailed, write_all};
+use trace_io::source::{Counted, ReadFailed, Source};
 
 // Gives one byte a read, and fails at a read.
 #[derive(Drop)]
