@@ -233,3 +233,85 @@ child_ends {level = level} {i = i} d b v old first end lo hi by edit n l is same
     let pages = (child_whole d b n l is).pages_are in
     ap (λ (v : Parts). (cell_at (runs v) hi).offset) same ∙ ap (λ (c : Cell). c.offset) (cell_at-past (runs b.value) hi (omega (arith, pages, part.end_is))))
     (cases_lt end (i * width_of level + width_of level))
+
+-- ---- a range that one slot has
+
+-- the slot with this number is written, and the range's pages are changed
+pub record Narrow {A : Type 0} (level i : ℕ) (ss : List (Slot A)) (t : Slot A) (first end by : ℕ) (edit : Edit) : Type 0 where
+  pub node : IsNode level (set ss i t)
+  pub edits : Edits (flatten (width_of level) (parts_of ss)) (flatten (width_of level) (parts_of (set ss i t)))
+      first end by edit ((i + 1) * width_of level)
+  pub by_end : end ≤ (i + 1) * width_of level
+
+-- the range lies in the slot that has its first page
+pub record InSlot (level first end i rest : ℕ) : Type 0 where
+  pub place : IsPlace level first i rest
+  pub some : first < end
+  pub short : end - first ≤ width_of level - rest
+
+none_yet : {level first end i rest : ℕ} (rs : List Run) (by : ℕ) (edit : Edit) → InSlot level first end i rest
+    → Edits rs rs first end by edit (i * width_of level)
+none_yet rs by edit h = edits_none rs _ _ by edit _ (omega (arith, h.place.page_is))
+
+pub own_narrow : {A : Type 0} {level first end i rest : ℕ} {ss : List (Slot A)} (d : Slot A) (s t : SlotState) (by : ℕ) (edit : Edit)
+    → IsNode level ss → InSlot level first end i rest → OwnSlot s ≡ get_or ss i d
+    → (cell_at (flatten (width_of level) (parts_of ss)) first).offset ≡ 0
+    → (cell_at (flatten (width_of level) (parts_of ss)) end).offset ≡ 0
+    → CanEdit edit (by + (end - first)) → state_of t ≡ edited edit by (state_of s)
+    → Narrow level i ss (OwnSlot t) first end by edit
+own_narrow {level = level} {first = first} {end = end} {i = i} {ss = ss} d s t by edit n h is begins ends can is_t =
+    let rs = flatten (width_of level) (parts_of ss) in
+    let none = none_yet rs by edit h in
+    let low : i * width_of level < end = omega (arith, h.place.page_is, h.some) in
+    let past : first < i * width_of level + width_of level = omega (arith, h.place.page_is, h.place.rest_in) in
+    let inside = own_within d s rs first end by edit n h.place.slot_in is low past begins ends none in
+    let e : by ≡ by + (i * width_of level - first) = omega (arith, h.place.page_is) in
+    let node = own_node d s t first end by by edit n h.place.slot_in is inside can e is_t in
+    record {
+      node = node;
+      edits = edits_own d s t rs first end by by edit n node h.place.slot_in is past inside e is_t none;
+      by_end = omega (arith, h.place.page_is, h.place.rest_in, h.short);
+    }
+
+part_of_slot : {level first end i rest : ℕ} → InSlot level first end i rest
+    → IsPart first end (i * width_of level) (width_of level) rest (rest + (end - first))
+part_of_slot h = record {
+  first_is = omega (arith, h.place.page_is);
+  end_is = omega (arith, h.place.page_is, h.place.rest_in, h.short, h.some);
+}
+
+-- no slot of the child crosses the edges of the range
+pub record Uncrossed (rs : List Run) (first end : ℕ) : Type 0 where
+  pub begins : (cell_at rs first).offset ≡ 0
+  pub ends : (cell_at rs end).offset ≡ 0
+
+pub child_uncrossed : {A : Type 0} {level first end i rest : ℕ} {ss : List (Slot A)} (d : Slot A) (b : Box (Node A) A) (v : Parts)
+    → IsNode level ss → InSlot level first end i rest → Child b ≡ get_or ss i d → v ≡ b.value
+    → (cell_at (flatten (width_of level) (parts_of ss)) first).offset ≡ 0
+    → (cell_at (flatten (width_of level) (parts_of ss)) end).offset ≡ 0
+    → Uncrossed (runs v) rest (rest + (end - first))
+child_uncrossed {level = level} {first = first} {end = end} {rest = rest} {ss = ss} d b v n h is same begins ends =
+    let rs = flatten (width_of level) (parts_of ss) in
+    let none = none_yet rs 0 DropFrame h in
+    let order : rest < rest + (end - first) = omega (arith, h.some) in
+    record {
+      begins = child_begins d b v rs first end rest (rest + (end - first)) 0 DropFrame n h.place.slot_in is same (part_of_slot h) order begins none;
+      ends = child_ends d b v rs first end rest (rest + (end - first)) 0 DropFrame n h.place.slot_in is same (part_of_slot h) order ends none;
+    }
+
+pub child_narrow : {A : Type 0} {level first end i rest : ℕ} {ss : List (Slot A)} (d : Slot A) (b c : Box (Node A) A) (v : Parts) (by : ℕ) (edit : Edit)
+    → IsNode level ss → InSlot level first end i rest → Child b ≡ get_or ss i d → v ≡ b.value
+    → c.value.level ≡ v.level → IsWhole c.value.level (512 * width_of c.value.level) (runs c.value)
+    → ((q : ℕ) → rest ≤ q → q < rest + (end - first) → cell_at (runs c.value) q ≡ edited_cell edit (by + (q - rest)) (cell_at (runs v) q))
+    → ((q : ℕ) → (q < rest) ⊎ (rest + (end - first) ≤ q) → cell_at (runs c.value) q ≡ cell_at (runs v) q)
+    → Narrow level i ss (Child c) first end by edit
+child_narrow {level = level} {first = first} {end = end} {i = i} {rest = rest} {ss = ss} d b c v by edit n h is same lev whole inside outside =
+    let rs = flatten (width_of level) (parts_of ss) in
+    let past : first < i * width_of level + width_of level = omega (arith, h.place.page_is, h.place.rest_in) in
+    let e : by ≡ by + (i * width_of level + rest - first) = omega (arith, h.place.page_is) in
+    let node = child_node d b c v n h.place.slot_in is same lev whole in
+    record {
+      node = node;
+      edits = edits_child d b c v rs first end rest (rest + (end - first)) by by edit n node h.place.slot_in is same past (part_of_slot h) e inside outside (none_yet rs by edit h);
+      by_end = omega (arith, h.place.page_is, h.place.rest_in, h.short);
+    }

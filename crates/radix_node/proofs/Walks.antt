@@ -14,7 +14,7 @@ use Rattle.radix_node.specs.Run.{Run, Cell, cell_at, width_of}
 use Rattle.radix_node.specs.Node.{Parts, runs, flatten}
 use Rattle.radix_node.specs.Slots.{parts_of, IsNode}
 use Rattle.radix_node.specs.Walk.{OnAll, IsMapped, HasNoFrame, IsFirstFramed, HasUser, Blocked, IsOpen, IsFree, Finds}
-use Rattle.radix_node.proofs.Flat.{IsPlace, cell_at-Own, cell_at-Child, level_below, width-below, width_pos}
+use Rattle.radix_node.proofs.Flat.{IsPlace, cell_at-Own, cell_at-Child, child_level, child_pages, width_pos}
 
 -- ---- the pages of one slot
 
@@ -75,6 +75,30 @@ width_small (suc (suc (suc (suc l)))) h = absurd (omega arith)
 
 pub slot_small : {level first end k to width : ℕ} → Along level first end k to width → k < to → k * width_of level + width_of level ≤ 2 ^ 36
 slot_small {level} {first} {end} {k} {to} h l = omega (arith, mul-le-mul_right (width_of level) (let q : k + 1 ≤ 512 = omega (arith, h.last) in q), width_small level h.low)
+
+-- the slot that is next is one of the node's
+pub along_in : {level first end k to width : ℕ} → Along level first end k to width → k < to → k < 512
+along_in l h = omega (arith, l.last, h)
+
+-- the pages of the range that the next slot has
+pub along_part : {level first end k to width lo hi : ℕ} → Along level first end k to width
+    → k * width + lo ≡ max first (k * width) → k * width + hi ≡ min end (k * width + width)
+    → IsPart first end (k * width_of level) (width_of level) lo hi
+along_part {first = first} {end = end} {k = k} {lo = lo} {hi = hi} l low high =
+    subst (λ n. IsPart first end (k * n) n lo hi) l.width_is (record { first_is = low; end_is = high })
+
+-- the next slot's child, to which a walk goes down, is of a lower level, and has the pages that it is asked for
+pub record Down (level hi : ℕ) (v : Parts) : Type 0 where
+  pub falls : v.level + 1 ≡ level
+  pub pages : 512 * width_of v.level ≡ width_of level
+  pub within : hi ≤ 512 * width_of v.level
+
+pub along_down : {A : Type 0} {level first end k to width hi : ℕ} {ss : List (Slot A)} (d : Slot A) (b : Box (Node A) A) (v : Parts)
+    → Along level first end k to width → k < to → IsNode level ss → Child b ≡ get_or ss k d → v ≡ b.value → hi ≤ width → Down level hi v
+along_down d b v l h n is same most =
+    let falls = child_level d b v n (along_in l h) is same in
+    let pages = child_pages d b v n (along_in l h) is same in
+    record { falls = falls; pages = pages; within = omega (arith, pages, l.width_is, most) }
 
 -- ---- what each page has
 
@@ -408,3 +432,8 @@ reach_low h some low = omega (arith, h.first_is)
 
 pub reach_high : {first end start width lo hi next : ℕ} → IsPart first end start width lo hi → first < start + width → next ≡ start + width → start + hi ≡ reach first end next
 reach_high h past e = omega (arith, h.end_is)
+
+pub free_before : {rs : List Run} {base first end width start lo hi n from open_at : ℕ} → IsPart first end start width lo hi → first < end → start < end
+    → FreeTo rs base first end n from open_at (reach first end start) → FreeTo rs base first end n from open_at (start + lo)
+free_before {rs} {base} {first} {end} {n = n} {from = from} {open_at = open_at} part some low h =
+    subst (λ u. FreeTo rs base first end n from open_at u) (reach_low part some low) h

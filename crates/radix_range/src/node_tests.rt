@@ -3,7 +3,7 @@ ghost use Rattle.std.specs.Prelude.{◌≡◌, ◌+◌, ◌<◌, ◌≤◌, ◌^
 ghost use Rattle.vm_base.specs.Info.{info_file_page, is_leaf};
 
 use linked_list_allocator::LocalHeap;
-use radix_node::{Edit, Found, FreeRun, Node, SlotState};
+use radix_node::{Edit, Found, FreeRun, Lock, Node, SlotState};
 use std::alloc::Allocator;
 use std::test::Fail;
 use vm_base::{Back, CoreId, CoreSet, Meta, NoMemory, PageInfo, Prot};
@@ -294,5 +294,34 @@ fn walks_find_a_used_page(rt: HostRuntime) -> Result<(), Fail> {
     let told = walked_of_new(rt.alloc())?;
     // pages 1000 to 1029 are too few, and page 1030 is mapped
     assert!(rt; told == Some((true, Some((1030, 9)), [true, false], 1031)));
+    Ok(())
+}
+
+// Attempts to lock slots of 512 pages: too few pages from the first, from its second page, and one that is free, twice.
+fn attempts<A: Allocator>(node: &mut Node<A>) -> Option<[Lock; 4]> {
+    if node.level() != 1 {
+        return None;
+    }
+    let core = CoreId::new(2);
+    Some([
+        node.lock_at(0, 511, core),
+        node.lock_at(1, 1024, core),
+        node.lock_at(512, 512, core),
+        node.lock_at(513, 1, core),
+    ])
+}
+
+fn attempts_of_new<A: Allocator + Clone>(alloc: A) -> Result<Option<[Lock; 4]>, NoMemory> {
+    match Node::new(alloc, 1) {
+        Ok(mut node) => Ok(attempts(&mut node)),
+        Err(e) => Err(e),
+    }
+}
+
+#[test]
+fn a_slot_is_locked_where_it_fits(rt: HostRuntime) -> Result<(), Fail> {
+    let told = attempts_of_new(rt.alloc())?;
+    let held = Lock::Held(CoreId::new(2));
+    assert!(rt; told == Some([Lock::Beyond, Lock::Before, Lock::Locked(512), held]));
     Ok(())
 }
