@@ -131,20 +131,20 @@ edits_more : {A : Type 0} {level i : ℕ} {ss : List (Slot A)} (d t : Slot A) (o
     → Edits old (flatten (width_of level) (parts_of (set ss i t))) first end by edit ((i + 1) * width_of level)
 edits_more {level = level} {i = i} {ss = ss} d t old first end by edit n m past h inside outside =
     record {
-  inside = λ p a b c. ⊎_elim
-      (λ (x : p < i * width_of level). other_page i d t n m p (inl x) ∙ h.inside p a b x)
-      (λ (x : i * width_of level ≤ p). inside p (record { low = x; high = omega arith }) a b ∙ ap (edited_cell edit (by + (p - first))) (h.after p x))
-      (cases_lt p (i * width_of level));
-  outside = λ p o. ⊎_elim
-      (λ (x : p < i * width_of level). other_page i d t n m p (inl x) ∙ h.outside p o)
-      (λ (x : i * width_of level ≤ p). ⊎_elim
-      (λ (y : p < i * width_of level + width_of level). outside p (record { low = x; high = y }) o ∙ h.outside p o)
-      (λ (y : i * width_of level + width_of level ≤ p). other_page i d t n m p (inr y) ∙ h.outside p o)
-      (cases_lt p (i * width_of level + width_of level)))
-      (cases_lt p (i * width_of level));
-  after = λ p a. let pos = width_pos level in other_page i d t n m p (inr (omega arith))
-  ∙ h.after p (omega arith);
-}
+      inside = λ p a b c. ⊎_elim
+          (λ (x : p < i * width_of level). other_page i d t n m p (inl x) ∙ h.inside p a b x)
+          (λ (x : i * width_of level ≤ p). inside p (record { low = x; high = omega arith }) a b ∙ ap (edited_cell edit (by + (p - first))) (h.after p x))
+          (cases_lt p (i * width_of level));
+      outside = λ p o. ⊎_elim
+          (λ (x : p < i * width_of level). other_page i d t n m p (inl x) ∙ h.outside p o)
+          (λ (x : i * width_of level ≤ p). ⊎_elim
+          (λ (y : p < i * width_of level + width_of level). outside p (record { low = x; high = y }) o ∙ h.outside p o)
+          (λ (y : i * width_of level + width_of level ≤ p). other_page i d t n m p (inr y) ∙ h.outside p o)
+          (cases_lt p (i * width_of level + width_of level)))
+          (cases_lt p (i * width_of level));
+      after = λ p a. let pos = width_pos level in other_page i d t n m p (inr (omega arith))
+          ∙ h.after p (omega arith);
+    }
 
 -- a slot lies in the range, where no slot crosses the range's edges
 pub record Within (level i first end : ℕ) : Type 0 where
@@ -159,27 +159,27 @@ pub own_within : {A : Type 0} {level i : ℕ} {ss : List (Slot A)} (d : Slot A) 
     → Within level i first end
 own_within {level = level} {i = i} d s old first end by edit n l is low past begins ends h =
     record {
-  low = ⊎_elim
-      (λ (x : i * width_of level < first).
-      let e =
-      ap (λ (c : Cell). c.offset)
-      (sym (h.after first (omega arith)) ∙ own_page d s n l is first
-      (record { low = omega arith; high = past }))
-      in
-      absurd (omega (arith, e, begins)))
-      (λ (x : first ≤ i * width_of level). x)
-      (cases_lt (i * width_of level) first);
-  high = ⊎_elim
-      (λ (x : end < i * width_of level + width_of level).
-      let e =
-      ap (λ (c : Cell). c.offset)
-      (sym (h.after end (omega arith)) ∙ own_page d s n l is end
-      (record { low = omega arith; high = x }))
-      in
-      absurd (omega (arith, e, ends)))
-      (λ (x : i * width_of level + width_of level ≤ end). x)
-      (cases_lt end (i * width_of level + width_of level));
-}
+      low = ⊎_elim
+          (λ (x : i * width_of level < first).
+          let e =
+          ap (λ (c : Cell). c.offset)
+          (sym (h.after first (omega arith)) ∙ own_page d s n l is first
+          (record { low = omega arith; high = past }))
+          in
+          absurd (omega (arith, e, begins)))
+          (λ (x : first ≤ i * width_of level). x)
+          (cases_lt (i * width_of level) first);
+      high = ⊎_elim
+          (λ (x : end < i * width_of level + width_of level).
+          let e =
+          ap (λ (c : Cell). c.offset)
+          (sym (h.after end (omega arith)) ∙ own_page d s n l is end
+          (record { low = omega arith; high = x }))
+          in
+          absurd (omega (arith, e, ends)))
+          (λ (x : i * width_of level + width_of level ≤ end). x)
+          (cases_lt end (i * width_of level + width_of level));
+    }
 
 pub own_node : {A : Type 0} {level i : ℕ} {ss : List (Slot A)} (d : Slot A) (s t : SlotState) (first end by past : ℕ) (edit : Edit)
     → IsNode level ss → i < 512 → OwnSlot s ≡ get_or ss i d

@@ -86,9 +86,11 @@ width_small (suc (suc (suc (suc l)))) h = absurd (omega arith)
 pub slot_small : {level first end k to width : ℕ} → Along level first end k to width → k < to
     → k * width_of level + width_of level ≤ 2 ^ 36
 slot_small {level} {first} {end} {k} {to} h l =
-    omega
-    (arith, mul-le-mul_right (width_of level) (let q : k + 1 ≤ 512 = omega (arith, h.last) in q),
-    width_small level h.low)
+    omega (
+      arith,
+      mul-le-mul_right (width_of level) (let q : k + 1 ≤ 512 = omega (arith, h.last) in q),
+      width_small level h.low,
+    )
 
 -- the slot that is next is one of the node's
 pub along_in : {level first end k to width : ℕ} → Along level first end k to width → k < to
@@ -247,7 +249,7 @@ child_framed {level = level} {i = i} {q = q} {ss = ss} d b v first end lo hi n l
           (f.before (p - i * width_of level) (omega (arith, part.first_is)) (omega arith)))
           (cases_lt p (i * width_of level));
       had = ap (λ (c : Cell). frame_of c.state.info) (child_cell d b v n l is same part f.high)
-      ∙ f.had;
+          ∙ f.had;
     }
 
 -- ---- the cores of the pages
@@ -328,8 +330,8 @@ users_child {level = level} {i = i} {ss = ss} d b first end lo hi cores below mo
       omega (arith, part.first_is, w.1),
       omega (arith, part.end_is, w.2),
       at core (i * width_of level + w.0)
-      (record { low = omega arith; high = omega (arith, part.end_is, w.2) })
-      ∙ ap (λ n. is_recorded (cell_at (runs b.value) n).state.info core) k ∙ w.3,
+          (record { low = omega arith; high = omega (arith, part.end_is, w.2) })
+          ∙ ap (λ n. is_recorded (cell_at (runs b.value) n).state.info core) k ∙ w.3,
     ))
     (λ core p a m c e h. (found core).1 (p - i * width_of level, omega (arith, part.first_is), omega (arith, part.end_is), sym (at core p (record { low = c; high = omega arith })) ∙ h))
   where
@@ -379,18 +381,18 @@ pub free_mapped : {A : Type 0} {level i : ℕ} {ss : List (Slot A)} (d : Slot A)
     → FreeTo (flatten (width_of level) (parts_of ss)) base first end n start (base + i * width_of level + hi) (i * width_of level + hi)
 free_mapped {level = level} {i = i} {ss = ss} d s base first end lo hi n start open_at nd l is part order mapped h =
     record {
-  low = omega (arith, h.low, h.by);
-  by = omega arith;
-  short = omega (arith, h.by, h.short);
-  free = λ p a b c. absurd (omega arith);
-  before = λ r a b. ⊎_elim
-      (λ (x : r < open_at). h.before r a x)
-      (λ (x : open_at ≤ r). ⊎_elim
-      (λ (y : r < base + (i * width_of level + lo)). blocked (i * width_of level + lo) r (omega arith) (omega arith) (omega arith) (omega (arith, h.short)))
-      (λ (y : base + (i * width_of level + lo) ≤ r). blocked (r - base) r (omega arith) (omega arith) (omega arith) (omega (arith, h.by, h.short)))
-      (cases_lt r (base + (i * width_of level + lo))))
-      (cases_lt r open_at);
-}
+      low = omega (arith, h.low, h.by);
+      by = omega arith;
+      short = omega (arith, h.by, h.short);
+      free = λ p a b c. absurd (omega arith);
+      before = λ r a b. ⊎_elim
+          (λ (x : r < open_at). h.before r a x)
+          (λ (x : open_at ≤ r). ⊎_elim
+          (λ (y : r < base + (i * width_of level + lo)). blocked (i * width_of level + lo) r (omega arith) (omega arith) (omega arith) (omega (arith, h.short)))
+          (λ (y : base + (i * width_of level + lo) ≤ r). blocked (r - base) r (omega arith) (omega arith) (omega arith) (omega (arith, h.by, h.short)))
+          (cases_lt r (base + (i * width_of level + lo))))
+          (cases_lt r open_at);
+    }
   where
     blocked : (p r : ℕ) → i * width_of level + lo ≤ p → p < i * width_of level + hi → r ≤ base + p
         → base + p < r + n → Blocked (flatten (width_of level) (parts_of ss)) base first end n r
@@ -401,8 +403,8 @@ free_mapped {level = level} {i = i} {ss = ss} d s base first end lo hi n start o
       c,
       e,
       ap (λ (c : Cell). is_some c.state.info)
-      (own_page d s nd l is p (record { low = omega arith; high = omega (arith, part.end_is) }))
-      ∙ mapped,
+          (own_page d s nd l is p (record { low = omega arith; high = omega (arith, part.end_is) }))
+          ∙ mapped,
     )
 
 -- a free slot's pages follow the free ones before it
@@ -427,12 +429,12 @@ pub free_on : {A : Type 0} {level i : ℕ} {ss : List (Slot A)} (d : Slot A) (s 
     → FreeTo (flatten (width_of level) (parts_of ss)) base first end n start open_at (i * width_of level + hi)
 free_on {level = level} {i = i} d s base first end lo hi n start open_at nd l is part order none few h =
     record {
-  low = h.low;
-  by = omega (arith, h.by);
-  short = omega (arith, h.by);
-  free = own_free d s base first end lo hi n start open_at nd l is part none h;
-  before = h.before;
-}
+      low = h.low;
+      by = omega (arith, h.by);
+      short = omega (arith, h.by);
+      free = own_free d s base first end lo hi n start open_at nd l is part none h;
+      before = h.before;
+    }
 
 pub free_found : {A : Type 0} {level i : ℕ} {ss : List (Slot A)} (d : Slot A) (s : SlotState) (base first end lo hi n start open_at : ℕ)
     → IsNode level ss → i < 512 → OwnSlot s ≡ get_or ss i d
@@ -442,11 +444,11 @@ pub free_found : {A : Type 0} {level i : ℕ} {ss : List (Slot A)} (d : Slot A) 
     → IsFree (flatten (width_of level) (parts_of ss)) base first end n start open_at
 free_found {level = level} {i = i} d s base first end lo hi n start open_at nd l is part none enough h =
     record {
-  low = h.low;
-  high = omega (arith, part.end_is, h.by, h.short);
-  free = λ p a b c e. own_free d s base first end lo hi n start open_at nd l is part none h p a (omega (arith, h.by, h.short)) c;
-  before = h.before;
-}
+      low = h.low;
+      high = omega (arith, part.end_is, h.by, h.short);
+      free = λ p a b c e. own_free d s base first end lo hi n start open_at nd l is part none h p a (omega (arith, h.by, h.short)) c;
+      before = h.before;
+    }
 
 -- what a child says of its pages
 record Child_says {A : Type 0} (level i : ℕ) (ss : List (Slot A)) (rs : List Run) (base first end lo hi n start open_at here : ℕ) : Type 0 where
@@ -464,21 +466,21 @@ says : {A : Type 0} {level i : ℕ} {ss : List (Slot A)} (d : Slot A) (b : Box (
     → Child_says level i ss (runs v) base first end lo hi n start open_at here
 says {level = level} {i = i} {ss = ss} d b v base first end lo hi n start open_at here nd l is same part up free before h =
     record {
-  free = λ p a e c f. ⊎_elim
-      (λ (x : p < i * width_of level + lo). h.free p a x (omega arith))
-      (λ (x : i * width_of level + lo ≤ p).
-      let k : i * width_of level + (p - i * width_of level) ≡ p = omega arith in
-      ap (λ n. (cell_at (flatten (width_of level) (parts_of ss)) n).state.info) (sym k)
-      ∙ ap (λ (c : Cell). c.state.info)
-      (child_cell {q = p - i * width_of level} d b v nd l is same part (omega arith))
-      ∙ free (p - i * width_of level) (omega arith) (omega arith) (omega arith) (omega arith))
-      (cases_lt p (i * width_of level + lo));
-  before = λ r a e. ⊎_elim
-      (λ (x : r < open_at). h.before r a x)
-      (λ (x : open_at ≤ r). let w = before r x e in let m = lower part w.1 w.2 in
-      (i * width_of level + w.0, m.low, m.high, omega (arith, w.3), omega (arith, w.4), ap (λ (c : Cell). is_some c.state.info) (child_cell d b v nd l is same part w.2) ∙ w.5))
-      (cases_lt r open_at);
-}
+      free = λ p a e c f. ⊎_elim
+          (λ (x : p < i * width_of level + lo). h.free p a x (omega arith))
+          (λ (x : i * width_of level + lo ≤ p).
+          let k : i * width_of level + (p - i * width_of level) ≡ p = omega arith in
+          ap (λ n. (cell_at (flatten (width_of level) (parts_of ss)) n).state.info) (sym k)
+          ∙ ap (λ (c : Cell). c.state.info)
+          (child_cell {q = p - i * width_of level} d b v nd l is same part (omega arith))
+          ∙ free (p - i * width_of level) (omega arith) (omega arith) (omega arith) (omega arith))
+          (cases_lt p (i * width_of level + lo));
+      before = λ r a e. ⊎_elim
+          (λ (x : r < open_at). h.before r a x)
+          (λ (x : open_at ≤ r). let w = before r x e in let m = lower part w.1 w.2 in
+          (i * width_of level + w.0, m.low, m.high, omega (arith, w.3), omega (arith, w.4), ap (λ (c : Cell). is_some c.state.info) (child_cell d b v nd l is same part w.2) ∙ w.5))
+          (cases_lt r open_at);
+    }
 
 pub free_child : {A : Type 0} {level i : ℕ} {ss : List (Slot A)} (d : Slot A) (b : Box (Node A) A) (v : Parts) (base first end lo hi n start open_at here : ℕ)
     → IsNode level ss → i < 512 → Child b ≡ get_or ss i d

@@ -16,6 +16,9 @@ pub most_le-level : {A : Type 0} (g : _) (level : ℕ) (xs : List (Slot A)) → 
     → max (most (λ x. deep-Slot A g x) xs) 0 ≤ level
 most_le-level g level [] h = omega arith
 most_le-level {A} g level (x ∷ xs) h =
-    omega
-    (arith, deep_le {A = A} g level x (All-head (IsLower level) x xs h), most_le-level {A = A} g
-    level xs (All-tail (IsLower level) x xs h))
+    omega (
+      arith,
+      deep_le {A = A} g level x (All-head (IsLower level) x xs h),
+      most_le-level {A = A} g
+          level xs (All-tail (IsLower level) x xs h),
+    )

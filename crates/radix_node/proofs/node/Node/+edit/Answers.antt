@@ -108,11 +108,15 @@ slots-preserved g t c =
           c.args.end c.args.by
           (c.args.by + (c.slots.k * c.slot_pages-width.result + c.part_in-part.result.first - c.args.first))
           c.args.edit.now n is_in is inside c.requires.sound e w.edit-in-Own-index_mut.ensures in
-          rw w.self-inside-is
-          (along_next l refl, node, c.slots.invariant.2, edits_own _ w.in-Own-index_mut.state
-          w.edit-in-Own-index_mut.new.self old c.args.first c.args.end c.args.by
-          (c.args.by + (c.slots.k * c.slot_pages-width.result + c.part_in-part.result.first - c.args.first))
-          c.args.edit.now n node is_in is l.past inside e w.edit-in-Own-index_mut.ensures h)
+          rw w.self-inside-is (
+            along_next l refl,
+            node,
+            c.slots.invariant.2,
+            edits_own _ w.in-Own-index_mut.state
+                w.edit-in-Own-index_mut.new.self old c.args.first c.args.end c.args.by
+                (c.args.by + (c.slots.k * c.slot_pages-width.result + c.part_in-part.result.first - c.args.first))
+                c.args.edit.now n node is_in is l.past inside e w.edit-in-Own-index_mut.ensures h,
+          )
       | in-Child-index_mut w ↦
           let is = sym w.in-Child-index_mut.is ∙ c.index_mut-in-slots.ensures.value in
           let e : (c.args.by + (c.slots.k * c.slot_pages-width.result + c.part_in-part.result.first - c.args.first)) ≡ c.args.by + (c.slots.k * width_of c.slots.self-inside.level + c.part_in-part.result.first - c.args.first) =
@@ -123,14 +127,18 @@ slots-preserved g t c =
           (record w.in-Child-index_mut.node { value = w.edit-in-Child-index_mut.new.self })
           w.deref_mut-in-Child-index_mut.result.now n is_in is
           w.deref_mut-in-Child-index_mut.ensures.value r.level r.whole in
-          rw w.self-inside-is
-          (along_next l refl, node, c.slots.invariant.2, edits_child _ w.in-Child-index_mut.node
-          (record w.in-Child-index_mut.node { value = w.edit-in-Child-index_mut.new.self })
-          w.deref_mut-in-Child-index_mut.result.now old c.args.first c.args.end
-          c.part_in-part.result.first c.part_in-part.result.end c.args.by
-          (c.args.by + (c.slots.k * c.slot_pages-width.result + c.part_in-part.result.first - c.args.first))
-          c.args.edit.now n node is_in is w.deref_mut-in-Child-index_mut.ensures.value l.past part e
-          r.inside r.outside h)
+          rw w.self-inside-is (
+            along_next l refl,
+            node,
+            c.slots.invariant.2,
+            edits_child _ w.in-Child-index_mut.node
+                (record w.in-Child-index_mut.node { value = w.edit-in-Child-index_mut.new.self })
+                w.deref_mut-in-Child-index_mut.result.now old c.args.first c.args.end
+                c.part_in-part.result.first c.part_in-part.result.end c.args.by
+                (c.args.by + (c.slots.k * c.slot_pages-width.result + c.part_in-part.result.first - c.args.first))
+                c.args.edit.now n node is_in is w.deref_mut-in-Child-index_mut.ensures.value l.past part e
+                r.inside r.outside h,
+          )
     ]
 
 pub returns-clause-level : goal.returns-clause-level
