@@ -35,7 +35,7 @@ cell_earlier (r ∷ rs) page n h =
         ∙ ap (λ (c : Cell). moved c (c.offset - n)) (sym e)
 
     there : (n ≤ (cell_at rs (page - r.width)).offset
-          → cell_at rs (page - r.width - n) ≡ moved (cell_at rs (page - r.width)) ((cell_at rs (page - r.width)).offset - n))
+        → cell_at rs (page - r.width - n) ≡ moved (cell_at rs (page - r.width)) ((cell_at rs (page - r.width)).offset - n))
         → r.width ≤ page → n ≤ (cell_at (r ∷ rs) page).offset
         → cell_at (r ∷ rs) (page - n) ≡ moved (cell_at (r ∷ rs) page) ((cell_at (r ∷ rs) page).offset - n)
     there below l h =
@@ -118,8 +118,8 @@ changed_inside f (r ∷ rs) page n h t l =
         subst Goal (sym e) at
 
     there : (page - r.width < total rs
-          → total (f (run_of (cell_at rs (page - r.width)))) ≡ (cell_at rs (page - r.width)).width
-          → n < (cell_at rs (page - r.width)).width
+        → total (f (run_of (cell_at rs (page - r.width)))) ≡ (cell_at rs (page - r.width)).width
+        → n < (cell_at rs (page - r.width)).width
         → cell_at (with_run f rs (page - r.width)) (start_of rs (page - r.width) + n) ≡ cell_at (f (run_of (cell_at rs (page - r.width)))) n)
         → r.width ≤ page
         → total (f (run_of (cell_at (r ∷ rs) page))) ≡ (cell_at (r ∷ rs) page).width
@@ -166,8 +166,8 @@ changed_outside f (r ∷ rs) page p h t o =
         ∙ sym (cell_at-there r rs p l)
 
     there : (page - r.width < total rs
-          → total (f (run_of (cell_at rs (page - r.width)))) ≡ (cell_at rs (page - r.width)).width
-          → (p - r.width < start_of rs (page - r.width)) ⊎ (start_of rs (page - r.width) + (cell_at rs (page - r.width)).width ≤ p - r.width)
+        → total (f (run_of (cell_at rs (page - r.width)))) ≡ (cell_at rs (page - r.width)).width
+        → (p - r.width < start_of rs (page - r.width)) ⊎ (start_of rs (page - r.width) + (cell_at rs (page - r.width)).width ≤ p - r.width)
         → cell_at (with_run f rs (page - r.width)) (p - r.width) ≡ cell_at rs (p - r.width))
         → r.width ≤ page
         → total (f (run_of (cell_at (r ∷ rs) page))) ≡ (cell_at (r ∷ rs) page).width

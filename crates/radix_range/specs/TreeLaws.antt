@@ -182,6 +182,8 @@ tree-is_slot_map v ok = record {
         c.sound.alone (sym (is_leaf-info_from (cell_at rs p).state.info (cell_at rs p).offset) ∙ h)
         in
         let zero : (cell_at rs p).offset ≡ 0 = omega (arith, c.within) in
-        let next : p - (cell_at rs p).offset + (cell_at rs p).width ≡ p + 1 = omega arith in
-        (same_test _ _ zero, same_test _ _
-        (ap (λ n. (cell_at rs n).offset) (sym next) ∙ cell_after rs p))
+        let next : p - (cell_at rs p).offset + (cell_at rs p).width ≡ p + 1 = omega arith in (
+          same_test _ _ zero,
+          same_test _ _
+              (ap (λ n. (cell_at rs n).offset) (sym next) ∙ cell_after rs p),
+        )

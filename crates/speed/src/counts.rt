@@ -70,7 +70,10 @@ impl Counts {
         if at >= self.globals.len() {
             return false;
         }
-        matches!(self.core.review(&mut self.globals[at], epoch), Review::Freed(_))
+        matches!(
+            self.core.review(&mut self.globals[at], epoch),
+            Review::Freed(_)
+        )
     }
 }
 

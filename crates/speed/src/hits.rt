@@ -91,12 +91,7 @@ fn misses(cpu: &mut Cpu<Global>, rounds: u64) -> (u64, u64) {
 }
 
 /// The nanoseconds of so many loads; none where memory is refused or one of them didn't hit the TLB.
-pub fn time(
-    rt: &impl Clock,
-    alloc: Global,
-    order: Order,
-    rounds: u64,
-) -> io::Result<Option<u128>> {
+pub fn time(rt: &impl Clock, alloc: Global, order: Order, rounds: u64) -> io::Result<Option<u128>> {
     let mut cpu = match loaded(alloc) {
         Err(_) => return Ok(None),
         Ok(cpu) => cpu,
