@@ -1,7 +1,8 @@
 #!/usr/bin/env bash
 # Prints where the time of `rt ci` goes: for each crate the processor seconds (user and system) of its library's proof, of its tests, of its
-# must-fail edits and of its program, one after another in a clean clone of HEAD. What a crate stands on is proved first, and counted only
-# if it was asked for too. Usage: bench/gate_time.sh [CRATE..] (all of crates.txt if none is given)
+# must-fail edits and of its program, one after another in a clean clone of HEAD. Tests and edits each prove the library once more. What a
+# crate stands on is proved first, and counted only if it was asked for too. Usage: bench/gate_time.sh [CRATE..] (all of crates.txt if
+# none is given)
 set -euo pipefail
 top=$(cd "$(dirname "$0")/.." && pwd)
 work=$(mktemp -d)
@@ -37,12 +38,13 @@ while read -r crate mark <&3; do
     library=$(seconds "$folder" rt check)
     [ "$mark" = + ] || continue
     tests=0 edits=0 edits_s=0 program=0
-    if grep -rqs '^ *#\[test\]' "$folder/src"; then tests=$(seconds "$folder" rt test); fi
     if [ -d "$folder/must-fail" ]; then
         edits=$(find "$folder/must-fail" -name '*.edit' | wc -l)
         edits_s=$(seconds . rt must-fail "$crate")
     fi
     if [ -f "$folder/src/main.rt" ]; then program=$(seconds "$folder" sh -c 'rt run < /dev/null || true'); fi
+    # as in rt ci, the tests' proof begins from nothing, with the library's
+    if grep -rqs '^ *#\[test\]' "$folder/src"; then tests=$(seconds "$folder" sh -c 'rm -rf out/incremental && rt test'); fi
     printf '%-14s %8d %8d %6d %8d %8d\n' "$crate" "$library" "$tests" "$edits" "$edits_s" "$program"
 done 3< "$work/plan" | tee "$work/table"
 awk '{ for (i = 2; i <= NF; i++) sum[i] += $i }

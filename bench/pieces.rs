@@ -1,8 +1,9 @@
 //! Plain Rust programs that the parts are measured against: one page locked and unlocked among many slots; of a radix tree,
-//! a page looked up, a page changed, ranges looked through, and ranges changed; a translation that the TLB has; and the
-//! table entries of a large range dropped. Standard library alone.
+//! a page looked up, a page changed, ranges looked through, and ranges changed; translations that the TLB has, anywhere and
+//! at each of its ends, and ones that it fills; the table entries of a large range dropped; bytes of frames, filled frames
+//! and copied ones; and references counted, flushed and reviewed. Standard library alone.
 //! Build: `rustc --edition 2021 -C opt-level=3 bench/pieces.rs`.
-use std::collections::BTreeMap;
+use std::collections::{BTreeMap, VecDeque};
 use std::hint::black_box;
 use std::time::{Duration, Instant};
 
@@ -502,26 +503,48 @@ impl<C: Table> Table for Inner<C> {
     }
 }
 
-/// One core's tables and TLB; the oldest filled goes where there is no room.
+/// One core's tables and TLB; the oldest filled goes where there is no room. A table by a hash of the page's number says where
+/// its translation was seen last, and is tested before the others are looked through.
 struct Cpu {
     root: Box<Inner<Inner<Inner<Leaf>>>>,
     tlb: [TlbEntry; 64],
     len: usize,
+    places: [u8; 256],
+    gone: u8,
+}
+
+fn hash(page: u64) -> usize {
+    ((page ^ page >> 8 ^ page >> 16 ^ page >> 24) % 256) as usize
 }
 
 impl Cpu {
     fn new() -> Cpu {
-        Cpu { root: Inner::new(), tlb: [TlbEntry::default(); 64], len: 0 }
+        Cpu { root: Inner::new(), tlb: [TlbEntry::default(); 64], len: 0, places: [0; 256], gone: 0 }
     }
 
     fn install(&mut self, page: u64, frame: u32, prot: Prot) {
         self.root.set(page, Translation { frame, write: prot.write, exec: prot.exec });
     }
 
+    fn note(&mut self, page: u64, place: usize) {
+        self.places[hash(page)] = (place as u8).wrapping_add(self.gone);
+    }
+
+    fn place_of(&mut self, page: u64) -> Option<usize> {
+        let noted = usize::from(self.places[hash(page)].wrapping_sub(self.gone));
+        if noted < self.len && self.tlb[noted].page == page {
+            return Some(noted);
+        }
+        let place = self.tlb[..self.len].iter().position(|entry| entry.page == page)?;
+        self.note(page, place);
+        Some(place)
+    }
+
     fn translate(&mut self, page: u64, access: Access) -> Translated {
-        if let Some(entry) = self.tlb[..self.len].iter().find(|entry| entry.page == page) {
-            if entry.translation.permits(access) {
-                return Translated::Hit(entry.translation.frame);
+        if let Some(place) = self.place_of(page) {
+            let cached = self.tlb[place].translation;
+            if cached.permits(access) {
+                return Translated::Hit(cached.frame);
             }
         } else if let Some(translation) = self.root.get(page) {
             if translation.permits(access) {
@@ -537,7 +560,9 @@ impl Cpu {
         if self.len == 64 {
             self.tlb.copy_within(1.., 0);
             self.len = 63;
+            self.gone = self.gone.wrapping_add(1);
         }
+        self.note(page, self.len);
         self.tlb[self.len] = TlbEntry { page, translation };
         self.len += 1;
     }
@@ -554,19 +579,32 @@ impl Cpu {
     }
 }
 
-fn hits(rounds: u64) -> Duration {
+/// The page of a place among 65.
+fn page_at(place: u64) -> u64 {
+    4096 + 8 * place
+}
+
+/// A core that has a table entry of each of the 65 pages, and a cached translation of the first 64.
+fn loaded() -> Cpu {
     let mut cpu = Cpu::new();
-    let page_at = |place: u64| 4096 + 8 * place;
-    for place in 0..64 {
+    for place in 0..65 {
         cpu.install(page_at(place), place as u32, READ_WRITE);
+    }
+    for place in 0..64 {
         cpu.translate(page_at(place), Access::Load);
     }
-    let mut place = 0;
+    cpu
+}
+
+/// Loads from the first place on, each so many places after the last one, modulo their number; each hits the TLB.
+fn hits(rounds: u64, first: u64, stride: u64) -> Duration {
+    let mut cpu = loaded();
+    let (mut place, stride) = black_box((first, stride));
     let mut hits = 0u64;
     let mut sum = 0u64;
     let start = Instant::now();
     for _ in 0..rounds {
-        place = (place + 37) % 64;
+        place = (place + stride) % 64;
         if let Translated::Hit(frame) = cpu.translate(page_at(place), Access::Load) {
             hits += 1;
             sum = sum.wrapping_add(u64::from(frame));
@@ -574,6 +612,26 @@ fn hits(rounds: u64) -> Duration {
     }
     let took = start.elapsed();
     assert_eq!(hits, rounds);
+    black_box(sum);
+    took
+}
+
+/// Loads of 65 pages in turn, so that each page went from the TLB before it is loaded again.
+fn misses(rounds: u64) -> Duration {
+    let mut cpu = loaded();
+    let mut place = 63;
+    let mut fills = 0u64;
+    let mut sum = 0u64;
+    let start = Instant::now();
+    for _ in 0..rounds {
+        place = (place + 1) % 65;
+        if let Translated::Fill(frame) = cpu.translate(page_at(place), Access::Load) {
+            fills += 1;
+            sum = sum.wrapping_add(u64::from(frame));
+        }
+    }
+    let took = start.elapsed();
+    assert_eq!(fills, rounds);
     black_box(sum);
     took
 }
@@ -594,6 +652,247 @@ fn clears(rounds: u64) -> Duration {
     took
 }
 
+// ---- frames
+
+const FRAMES: u32 = 1024;
+
+/// Frames that get a page when they are first written to.
+struct Frames {
+    places: Vec<Option<u32>>,
+    pages: Vec<[u8; 4096]>,
+}
+
+impl Frames {
+    /// So many frames, each of which was written to.
+    fn written() -> Frames {
+        let mut frames = Frames {
+            places: vec![None; FRAMES as usize],
+            pages: Vec::with_capacity(FRAMES as usize),
+        };
+        for frame in 0..FRAMES {
+            frames.set_byte(frame, 0, 1);
+        }
+        frames
+    }
+
+    fn byte(&self, frame: u32, offset: usize) -> u8 {
+        match self.places[frame as usize] {
+            Some(at) => self.pages[at as usize][offset],
+            None => 0,
+        }
+    }
+
+    fn add(&mut self, frame: u32, page: [u8; 4096]) {
+        self.places[frame as usize] = Some(self.pages.len() as u32);
+        self.pages.push(page);
+    }
+
+    fn set_byte(&mut self, frame: u32, offset: usize, byte: u8) {
+        match self.places[frame as usize] {
+            Some(at) => self.pages[at as usize][offset] = byte,
+            None => {
+                let mut page = [0; 4096];
+                page[offset] = byte;
+                self.add(frame, page);
+            }
+        }
+    }
+
+    fn fill(&mut self, frame: u32, bytes: &[u8]) {
+        match self.places[frame as usize] {
+            Some(at) => {
+                let page = &mut self.pages[at as usize];
+                page[..bytes.len()].copy_from_slice(bytes);
+                page[bytes.len()..].fill(0);
+            }
+            None => {
+                let mut page = [0; 4096];
+                page[..bytes.len()].copy_from_slice(bytes);
+                self.add(frame, page);
+            }
+        }
+    }
+
+    /// Both frames were written to.
+    fn copy(&mut self, from: u32, to: u32) {
+        if let (Some(from), Some(to)) = (self.places[from as usize], self.places[to as usize]) {
+            self.pages.copy_within(from as usize..from as usize + 1, to as usize);
+        }
+    }
+}
+
+/// Sets a byte of a frame, and reads one of another.
+fn bytes(rounds: u64) -> Duration {
+    let mut frames = Frames::written();
+    let mut frame = 0;
+    let mut sum = 0u64;
+    let start = Instant::now();
+    for _ in 0..rounds {
+        frame = (frame + 389) % FRAMES;
+        frames.set_byte(frame, 7, frame as u8);
+        sum = sum.wrapping_add(u64::from(frames.byte(FRAMES - 1 - frame, 0)));
+    }
+    let took = start.elapsed();
+    black_box(sum);
+    took
+}
+
+/// Gives a frame 3000 bytes, and zeros after them.
+fn fills(rounds: u64) -> Duration {
+    let mut frames = Frames::written();
+    let from = black_box([7u8; 3000]);
+    let mut frame = 0;
+    let start = Instant::now();
+    for _ in 0..rounds {
+        frame = (frame + 389) % FRAMES;
+        frames.fill(frame, &from);
+    }
+    let took = start.elapsed();
+    black_box(frames.byte(frame, 7));
+    took
+}
+
+/// Copies a frame to another.
+fn copies(rounds: u64) -> Duration {
+    let mut frames = Frames::written();
+    let mut frame = 0;
+    let start = Instant::now();
+    for _ in 0..rounds {
+        frame = (frame + 389) % FRAMES;
+        frames.copy(frame, FRAMES - 1 - frame);
+    }
+    let took = start.elapsed();
+    black_box(frames.byte(frame, 7));
+    took
+}
+
+// ---- reference counts
+
+#[derive(Clone, Copy)]
+struct Entry {
+    object: u32,
+    delta: i64,
+}
+
+#[derive(Clone, Copy, Default)]
+struct Count {
+    global: i64,
+    is_queued: bool,
+    is_dirty: bool,
+}
+
+/// One core's entries by the object's number modulo 64, and its review queue.
+struct CoreCounts {
+    places: [Option<Entry>; 64],
+    queue: VecDeque<(u32, u64)>,
+}
+
+impl CoreCounts {
+    fn new(objects: usize) -> CoreCounts {
+        CoreCounts { places: [None; 64], queue: VecDeque::with_capacity(objects + 1) }
+    }
+
+    /// Adds to the delta of an object, where no other stands in its place and its delta is small. Tells whether it did.
+    fn count(&mut self, object: u32, by: i64) -> bool {
+        let place = &mut self.places[object as usize % 64];
+        let delta = match *place {
+            None => 0,
+            Some(entry) if entry.object == object && (entry.delta + by).abs() <= 1 << 40 => entry.delta,
+            Some(_) => return false,
+        };
+        *place = Some(Entry { object, delta: delta + by });
+        true
+    }
+
+    fn least(&self) -> Option<u32> {
+        self.places.iter().flatten().map(|entry| entry.object).min()
+    }
+
+    /// Evicts the entry of the least object, which is queued where its count is then 0.
+    fn flush(&mut self, counts: &mut [Count], epoch: u64) -> bool {
+        let Some(object) = self.least() else {
+            return false;
+        };
+        let Some(entry) = self.places[object as usize % 64].take() else {
+            return false;
+        };
+        let count = &mut counts[object as usize];
+        count.global += entry.delta;
+        if count.global == 0 {
+            if count.is_queued {
+                count.is_dirty = true;
+            } else {
+                (count.is_queued, count.is_dirty) = (true, false);
+                self.queue.push_back((object, epoch));
+            }
+        }
+        true
+    }
+
+    /// Looks at the front of the queue; tells whether it was freed.
+    fn review(&mut self, counts: &mut [Count], epoch: u64) -> bool {
+        let Some(&(object, since)) = self.queue.front() else {
+            return false;
+        };
+        if epoch < 2 || epoch - 2 < since {
+            return false;
+        }
+        self.queue.pop_front();
+        let count = &mut counts[object as usize];
+        if count.global != 0 {
+            count.is_queued = false;
+            return false;
+        }
+        if !count.is_dirty {
+            count.is_queued = false;
+            return true;
+        }
+        count.is_dirty = false;
+        self.queue.push_back((object, epoch));
+        false
+    }
+}
+
+const OBJECTS: u32 = 64;
+
+/// Counts an object up, and down again.
+fn counts(rounds: u64) -> Duration {
+    let mut core = CoreCounts::new(OBJECTS as usize);
+    let mut object = 0;
+    let mut counted = 0u64;
+    let start = Instant::now();
+    for _ in 0..rounds {
+        object = (object + 37) % OBJECTS;
+        if core.count(object, 1) && core.count(object, -1) {
+            counted += 1;
+        }
+    }
+    let took = start.elapsed();
+    assert_eq!(counted, rounds);
+    black_box(core.least());
+    took
+}
+
+/// Counts an object up and down, flushes it, and reviews it two epochs later.
+fn flushes(rounds: u64) -> Duration {
+    let mut core = CoreCounts::new(OBJECTS as usize);
+    let mut globals = [Count::default(); OBJECTS as usize];
+    let mut object = 0;
+    let mut freed = 0u64;
+    let start = Instant::now();
+    for round in 0..rounds {
+        object = (object + 37) % OBJECTS;
+        if core.count(object, 1) && core.count(object, -1) && core.flush(&mut globals, round) {
+            if core.review(&mut globals, round + 2) {
+                freed += 1;
+            }
+        }
+    }
+    let took = start.elapsed();
+    assert_eq!(freed, rounds);
+    took
+}
+
 fn main() {
     let (took, rounds) = match std::env::args().nth(1).as_deref() {
         Some("slots") => (slots(50_000, 5_000_000), 5_000_000),
@@ -601,9 +900,17 @@ fn main() {
         Some("tree") => (changes(50_000, 5_000_000), 5_000_000),
         Some("scan") => (scans(50_000, 5_000), 5_000),
         Some("edit") => (edits(50_000, 2_000), 2_000),
-        Some("hit") => (hits(50_000_000), 50_000_000),
+        Some("hit") => (hits(50_000_000, 0, 37), 50_000_000),
+        Some("oldest") => (hits(50_000_000, 0, 0), 50_000_000),
+        Some("newest") => (hits(50_000_000, 63, 0), 50_000_000),
+        Some("miss") => (misses(5_000_000), 5_000_000),
         Some("clear") => (clears(20_000), 20_000),
-        _ => return println!("usage: pieces slots | look | tree | scan | edit | hit | clear"),
+        Some("byte") => (bytes(20_000_000), 20_000_000),
+        Some("fill") => (fills(1_000_000), 1_000_000),
+        Some("copy") => (copies(1_000_000), 1_000_000),
+        Some("count") => (counts(20_000_000), 20_000_000),
+        Some("flush") => (flushes(5_000_000), 5_000_000),
+        _ => return println!("usage: pieces WORD, where WORD is one of those in bench/pieces.sh"),
     };
     println!("{:.1}", took.as_nanos() as f64 / rounds as f64);
 }

@@ -5,7 +5,7 @@ use Rattle.vm_base.specs.declared.requests.Request.{Request}
 use Rattle.slot_lock.specs.Slots.{Slots}
 use Rattle.backing.specs.Files.{FileParts, files_of, cached_in}
 use Rattle.frames.specs.Parts.{FrameParts, frame_bytes, free_frames}
-use Rattle.refcache.specs.Counts.{opening as no_counts}
+use Rattle.refcache.specs.Counts.{no_counts}
 use Rattle.machine_model.specs.declared.event.Outcome.TheVariants.{Stepped}
 use Rattle.machine_model.specs.declared.log.Entry.{Entry}
 use Rattle.machine_model.specs.declared.phase.Phase.{Phase}

@@ -3,7 +3,7 @@ use Rattle.std.specs.Prelude.{ℕ, List, length, slice_index, slice_index_or}
 use Rattle.slot_lock.specs.Slots.{Slots}
 use Rattle.backing.specs.Files.{FileParts, files_of, cached_in}
 use Rattle.frames.specs.Parts.{FrameParts, frame_bytes, free_frames}
-use Rattle.refcache.specs.Counts.{opening as no_counts}
+use Rattle.refcache.specs.Counts.{no_counts}
 use Rattle.machine_model.specs.declared.phase.Phase.{Phase}
 use Rattle.machine_model.specs.declared.phase.Phase.TheVariants.{Free}
 use Rattle.machine_model.specs.World.{World, Calls, no_translations}

@@ -1,9 +1,9 @@
 -- The pages of frames, and what a new page makes of them
-use Rattle.std.proofs.Common.{◌≡◌, ◌≢◌, ℕ, zero, suc, ◌+◌, ◌<◌, ◌≤◌, ◌⊎◌, inl, inr, Bool, cond, List, [], ◌∷◌, length, get_or, set, replicate, Option, Some, None, is_some, arith, refl, sym, subst, ◌∙◌, ap}
+use Rattle.std.proofs.Common.{◌≡◌, ◌≢◌, ℕ, zero, suc, ◌+◌, ◌<◌, ◌≤◌, ◌⊎◌, inl, inr, cond, List, [], length, get_or, set, replicate, Option, Some, None, is_some, arith, refl, sym, subst, ◌∙◌, ap}
 use Rattle.std.specs.List.{count_by}
 use Rattle.std.proofs.Math.Path.{fun_ext}
 use Rattle.std.proofs.lemmas.Bool.{cases_lt}
-use Rattle.std.proofs.lemmas.List.{get_or_past, get_or-set_same, get_or-set_other, length-set, length-replicate}
+use Rattle.std.proofs.lemmas.List.{get_or-set_same, get_or-set_other, length-set, length-replicate}
 use Rattle.std.proofs.lemmas.List.Folds.{sum_by-replicate}
 use Rattle.std.proofs.lemmas.List.Sums.{sum_by-set, count_by-le-length}
 use Rattle.vm_base.specs.Functions.{put}
@@ -53,9 +53,27 @@ stored-put s t f k page ok at places pages = fun_ext (put_all (λ g v. stored_by
         go None e = ap (λ ps. bytes_at t.pages (get_or ps g None)) places ∙ (ap (bytes_at t.pages) e ∙ sym (ap (bytes_at s.pages) e))
         go (Some j) e = now g j e ∙ (put_other (all_pages s.pages) k page j (λ same. ne (ok.apart g f k (e ∙ ap Some same) at)) ∙ sym (ap (bytes_at s.pages) e))
 
+-- ---- a frame that is read or written, of a store that is seen as a value
+
+-- its bytes are those of its page
+pub stored-held : {s v : Stored} (f k : ℕ) → s ≡ v → get_or s.places f None ≡ Some k → stored_bytes v f ≡ all_pages s.pages k
+stored-held {s} {v} f k view at = ap (λ v. stored_bytes v f) (sym view) ∙ stored-at s f k at
+
+pub stored-empty : {s v : Stored} (f : ℕ) → s ≡ v → get_or s.places f None ≡ None → stored_bytes v f ≡ zeros
+stored-empty {s} {v} f view none = ap (λ v. stored_bytes v f) (sym view) ∙ stored-none s f none
+
+-- a write of its page is one of its bytes
+pub stored-written : {s v : Stored} (t : Stored) (f k : ℕ) (page : Bytes) → IsStored s → s ≡ v → get_or s.places f None ≡ Some k
+    → t.places ≡ s.places → all_pages t.pages ≡ put (all_pages s.pages) k page → stored_bytes t ≡ put (stored_bytes v) f page
+stored-written {s} t f k page ok view at places pages =
+    stored-put s t f k page ok at places pages ∙ ap (λ v. put (stored_bytes v) f page) view
+
 -- a frame without a page has zeros already
 pub stored-zero : (s : Stored) (f : ℕ) → get_or s.places f None ≡ None → stored_bytes s ≡ put (stored_bytes s) f zeros
 stored-zero s f none = fun_ext (put_all (λ g v. stored_bytes s g ≡ v) (stored_bytes s) f zeros (stored-none s f none) (λ g ne. refl))
+
+pub stored-still : {s v : Stored} (f : ℕ) → s ≡ v → get_or s.places f None ≡ None → stored_bytes s ≡ put (stored_bytes v) f zeros
+stored-still {s} f view none = stored-zero s f none ∙ ap (λ v. put (stored_bytes v) f zeros) view
 
 -- the same frames have pages
 pub stored-kept : (s t : Stored) → IsStored s → t.places ≡ s.places → length t.pages ≡ length s.pages → t.capacity ≡ s.capacity → IsStored t

@@ -1,3 +1,4 @@
+pub mod Folding
 pub mod Histories
 pub mod Nexts
 pub mod Parts

@@ -45,3 +45,8 @@ changed s c = record s { content = after s.content c.act; changes = s.changes ++
 -- what a page of the slot has
 abbrev pub content_at : SlotView → ℕ → Option PageInfo
 content_at s page = info_from s.content (page - s.first)
+
+-- the slot has the page
+pub record HasPage (s : SlotView) (page : ℕ) : Type 0 where
+  pub from : s.first ≤ page
+  pub until : page < s.first + s.count

@@ -1,14 +1,18 @@
 //! A level above others.
 ghost use Rattle.std.specs.Prelude.{◌≡◌, ℕ, ◌+◌, ◌-◌, ◌<◌, ◌≤◌, ◌^◌, IfSome};
-ghost use Rattle.live_levels.specs.Nexts.{Answers, Cuts};
+ghost use Rattle.std.specs.Sync.Mutex.{mutex_guard_value};
+ghost use Rattle.live_levels.specs.Nexts.{Answers, Cuts, Folds};
+ghost use Rattle.live_levels.specs.Slots.{HasPage};
 ghost use Rattle.live_levels.specs.Histories.{Grew};
 
 use crate::close::{SlotHistory, gather_slot};
-use crate::level::{Fit, Level, Next, Stepper, divide, index_of, other_owner, put};
+use crate::fold::{begin_joint, join_next, replace};
+use crate::joint::Joint;
+use crate::level::{Fit, Level, Next, Stepper, divide, has_page, index_of, other_owner, put};
 use crate::parts::SLOTS;
 use crate::slot::SlotState;
 use std::alloc::Allocator;
-use std::sync::{Mutex, OnceLock, Wait};
+use std::sync::{Mutex, MutexGuard, OnceLock, Wait};
 use vm_base::{CoreId, NoMemory};
 
 /// A slot, and the level in its place once it is divided. From then on nobody looks at the slot itself.
@@ -88,6 +92,23 @@ impl<C: Level<A>, A: Allocator + Clone> Level<A> for Inner<C, A> {
         }
     }
 
+    fn lock_at<'a, R: Wait>(&'a self, rt: &R, page: u64) -> Option<MutexGuard<'a, SlotState<A>>> {
+        let index = index_of(self.first, self.pages, page)?;
+        let place = self.places.get(index)?;
+        if let Some(below) = place.below.get() {
+            return below.lock_at(rt, page);
+        }
+        let guard = place.slot.lock(rt);
+        if let Some(below) = place.below.get() {
+            drop(guard);
+            return below.lock_at(rt, page);
+        }
+        if !has_page(&guard, page) {
+            return None;
+        }
+        Some(guard)
+    }
+
     fn cut<S: Stepper>(
         &self,
         alloc: &A,
@@ -118,6 +139,67 @@ impl<C: Level<A>, A: Allocator + Clone> Level<A> for Inner<C, A> {
         }
         Some(at)
     }
+
+    fn is_divided(&mut self, page: u64) -> bool {
+        let Some(index) = index_of(self.first, self.pages, page) else {
+            return false;
+        };
+        match self.places.get_mut(index) {
+            Some(place) => place.below.get().is_some(),
+            None => false,
+        }
+    }
+
+    fn joint(&mut self) -> Option<Joint> {
+        let mut joint: Option<Joint> = None;
+        'places: for place in self.places.iter_mut() {
+            if place.below.get().is_some() {
+                return None;
+            }
+            let slot = place.slot.get_mut();
+            let next = match joint {
+                None => begin_joint(slot)?,
+                Some(joint) => join_next(joint, slot)?,
+            };
+            joint = Some(next);
+        }
+        joint
+    }
+
+    fn fold<S: Stepper>(&mut self, stepper: &mut S, page: u64) -> bool {
+        let Some(index) = index_of(self.first, self.pages, page) else {
+            return false;
+        };
+        match self.places.get_mut(index) {
+            Some(place) => fold_place(place, stepper, page),
+            None => false,
+        }
+    }
+}
+
+// Makes one slot of the deepest level below a place that has the page, where its slots can be one.
+fn fold_place<C: Level<A>, A: Allocator + Clone, S: Stepper>(
+    place: &mut Place<C, A>,
+    stepper: &mut S,
+    page: u64,
+) -> bool
+    requires { S.can_step stepper.old }
+    ensures { Folds S.stepped stepper.old stepper.new result }
+{
+    let Some(below) = place.below.get_mut() else {
+        return false;
+    };
+    if below.is_divided(page) {
+        return below.fold(stepper, page);
+    }
+    let Some(joint) = below.joint() else {
+        return false;
+    };
+    let is_replaced = replace(place.slot.get_mut(), &joint, stepper);
+    if is_replaced {
+        let _ = place.below.take();
+    }
+    is_replaced
 }
 
 // Adds the histories of all slots below a place, or the place's own.

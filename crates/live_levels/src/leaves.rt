@@ -1,14 +1,18 @@
 //! The last level: slots of one page.
 ghost use Rattle.std.specs.Prelude.{◌≡◌, ℕ, ◌+◌, ◌-◌, ◌<◌, ◌≤◌, ◌^◌, IfSome};
-ghost use Rattle.live_levels.specs.Nexts.{Answers, Cuts};
+ghost use Rattle.std.specs.Sync.Mutex.{mutex_guard_value};
+ghost use Rattle.live_levels.specs.Nexts.{Answers, Cuts, Folds};
+ghost use Rattle.live_levels.specs.Slots.{HasPage};
 ghost use Rattle.live_levels.specs.Histories.{Grew};
 
 use crate::close::{SlotHistory, gather_slot};
-use crate::level::{Fit, Level, Next, Stepper, index_of, other_owner, put};
+use crate::fold::{begin_joint, join_next};
+use crate::joint::Joint;
+use crate::level::{Fit, Level, Next, Stepper, has_page, index_of, other_owner, put};
 use crate::parts::SLOTS;
 use crate::slot::SlotState;
 use std::alloc::Allocator;
-use std::sync::{Mutex, Wait};
+use std::sync::{Mutex, MutexGuard, Wait};
 use vm_base::{CoreId, NoMemory};
 
 /// 512 slots of one page, each under its lock.
@@ -57,6 +61,16 @@ impl<A: Allocator + Clone> Level<A> for Leaves<A> {
         Next::Whole(guard)
     }
 
+    fn lock_at<'a, R: Wait>(&'a self, rt: &R, page: u64) -> Option<MutexGuard<'a, SlotState<A>>> {
+        let index = index_of(self.first, 1, page)?;
+        let slot = self.slots.get(index)?;
+        let guard = slot.lock(rt);
+        if !has_page(&guard, page) {
+            return None;
+        }
+        Some(guard)
+    }
+
     fn cut<S: Stepper>(
         &self,
         _alloc: &A,
@@ -74,5 +88,26 @@ impl<A: Allocator + Clone> Level<A> for Leaves<A> {
             at = gather_slot(alloc, slot.get_mut(), slots, at)?;
         }
         Some(at)
+    }
+
+    fn is_divided(&mut self, _page: u64) -> bool {
+        false
+    }
+
+    fn joint(&mut self) -> Option<Joint> {
+        let mut joint: Option<Joint> = None;
+        'slots: for slot in self.slots.iter_mut() {
+            let slot = slot.get_mut();
+            let next = match joint {
+                None => begin_joint(slot)?,
+                Some(joint) => join_next(joint, slot)?,
+            };
+            joint = Some(next);
+        }
+        joint
+    }
+
+    fn fold<S: Stepper>(&mut self, _stepper: &mut S, _page: u64) -> bool {
+        false
     }
 }

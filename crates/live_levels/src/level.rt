@@ -1,9 +1,12 @@
 //! What the levels of the shared tree do. A level is 512 slots side by side, and none of the types holds itself.
-ghost use Rattle.std.specs.Prelude.{◌≡◌, ◌≢◌, ℕ, ◌+◌, ◌*◌, ◌<◌, ◌≤◌, ◌^◌, [], ◌∷◌, ◌++◌, vec_len, vec_capacity, Some, IfSome, IfNone};
+ghost use Rattle.std.specs.Prelude.{◌≡◌, ◌≢◌, ℕ, ◌+◌, ◌*◌, ◌<◌, ◌≤◌, ◌^◌, [], ◌∷◌, ◌++◌, vec_len, vec_capacity, Some, IfSome, IfNone, IsTrue, ◌↔◌, ◌-◌};
+ghost use Rattle.std.specs.Sync.Mutex.{mutex_guard_value};
 ghost use Rattle.live_levels.specs.Nexts.{Answers, Cuts, IsFreeFor, Folds};
+ghost use Rattle.live_levels.specs.Slots.{HasPage};
 ghost use Rattle.live_levels.specs.Histories.{Grew};
 
 use crate::close::SlotHistory;
+use crate::joint::Joint;
 use crate::parts::{Divided, SLOTS, carry_on, side_by_side};
 use crate::slot::SlotState;
 use std::alloc::Allocator;
@@ -73,6 +76,10 @@ pub trait Level<A: Allocator + Clone>: Drop {
         requires stepper { S.can_step stepper.old }
         ensures { Answers S.stepped stepper.old stepper.new core cursor end result };
 
+    /// Locks the deepest slot that has the page, whoever is to lock it first. `None` where a slot was in a wrong place.
+    fn lock_at<'a, R: Wait>(&'a self, rt: &R, page: u64) -> Option<MutexGuard<'a, SlotState<A>>>
+        ensures { IfSome result (λ guard. HasPage (mutex_guard_value guard) page) };
+
     /// Divides a slot that the caller holds and lends. The core is to lock the new slots first.
     fn cut<S: Stepper>(&self, alloc: &A, stepper: &mut S, core: CoreId, slot: &SlotState<A>) -> Fit
         requires { S.can_step stepper.old }
@@ -82,6 +89,18 @@ pub trait Level<A: Allocator + Clone>: Drop {
     /// `None` where memory ran out, or a slot was in a wrong place.
     fn gather(&mut self, alloc: &A, slots: &mut Vec<SlotHistory<A>, A>, next: u64) -> Option<u64>
         ensures { IfSome result (λ end. Grew next end slots.old.items slots.new.items) };
+
+    /// Tells whether the slot of this level that has the page is divided.
+    fn is_divided(&mut self, page: u64) -> bool;
+
+    /// All slots of this level, where none is divided and they can be one.
+    fn joint(&mut self) -> Option<Joint>;
+
+    /// Makes one slot of the deepest level that has the page, where that isn't this one and its slots can be one. Answers
+    /// whether it did, which is noted.
+    fn fold<S: Stepper>(&mut self, stepper: &mut S, page: u64) -> bool
+        requires { S.can_step stepper.old }
+        ensures { Folds S.stepped stepper.old stepper.new result };
 }
 
 /// The number of the slot that has the page, in a level of slots of so many pages from the page `first` on.
@@ -93,6 +112,14 @@ pub(crate) fn index_of(first: u64, pages: u64, page: u64) -> Option<usize> {
     } else {
         None
     }
+}
+
+/// Tells whether the slot has the page.
+pub(crate) fn has_page<A: Allocator>(slot: &SlotState<A>, page: u64) -> bool
+    ensures { IsTrue result ↔ HasPage slot.now page }
+{
+    let first = slot.first();
+    first <= page && page - first < slot.count()
 }
 
 /// Puts the item behind the others, where there is room. It takes no memory.

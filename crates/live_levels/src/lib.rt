@@ -4,7 +4,9 @@
 
 pub mod act;
 pub mod close;
+pub mod fold;
 pub mod inner;
+pub mod joint;
 pub mod leaves;
 pub mod level;
 pub mod parts;

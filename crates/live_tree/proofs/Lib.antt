@@ -1,4 +1,9 @@
 pub mod Along
 pub mod Committed
+pub mod Cuts
 pub mod Gathered
+pub mod Lending
+pub mod Pages
 pub mod Pushed
+pub mod Refilled
+pub mod Rooms

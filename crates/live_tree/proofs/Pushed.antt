@@ -7,15 +7,15 @@ use Rattle.live_levels.specs.Slots.{SlotView}
 use Rattle.live_tree.specs.Guards.{slot_of}
 use Rattle.live_tree.specs.Held.{SideBySide}
 
-side_by_side_more : (first end n : ℕ) (ss : List SlotView) (s : SlotView) → SideBySide first end ss → s.first ≡ end → n ≡ end + s.count → SideBySide first n (ss ++ s ∷ [])
+pub side_by_side_more : (first end n : ℕ) (ss : List SlotView) (s : SlotView) → SideBySide first end ss → s.first ≡ end → n ≡ end + s.count → SideBySide first n (ss ++ s ∷ [])
 side_by_side_more first end n [] s h at is = (omega (arith, h, at), omega (arith, h, is))
 side_by_side_more first end n (x ∷ xs) s h at is = (h.0, side_by_side_more (first + x.count) end n xs s h.1 at is)
 
-map_more : (gs : List (Option (MutexGuard SlotView))) (g : MutexGuard SlotView) → map slot_of (gs ++ Some g ∷ []) ≡ map slot_of gs ++ mutex_guard_value g ∷ []
+pub map_more : (gs : List (Option (MutexGuard SlotView))) (g : MutexGuard SlotView) → map slot_of (gs ++ Some g ∷ []) ≡ map slot_of gs ++ mutex_guard_value g ∷ []
 map_more [] g = refl
 map_more (x ∷ xs) g = ap (λ l. slot_of x ∷ l) (map_more xs g)
 
-all_more : (gs : List (Option (MutexGuard SlotView))) (g : MutexGuard SlotView) → All IsSome gs → All IsSome (gs ++ Some g ∷ [])
+pub all_more : (gs : List (Option (MutexGuard SlotView))) (g : MutexGuard SlotView) → All IsSome gs → All IsSome (gs ++ Some g ∷ [])
 all_more [] g h zero d lt = refl
 all_more [] g h (suc k) d lt = absurd (omega arith)
 all_more (x ∷ xs) g h zero d lt = h zero d (omega arith)

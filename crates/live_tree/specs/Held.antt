@@ -56,3 +56,10 @@ FitsFiles (Protect range prot) = Unit {0}
 -- the held pages have all pages of the range
 abbrev pub Covers : HeldView → PageRange → Type 0
 Covers h range = (h.first ≤ range.first) × (range.end ≤ h.end)
+
+abbrev pub without_room : SlotView → SlotView
+without_room s = record s { room = 0 }
+
+-- the slots are the same but for the room that their histories have
+abbrev pub AreAlike : List SlotView → List SlotView → Type 0
+AreAlike ss ts = map without_room ss ≡ map without_room ts

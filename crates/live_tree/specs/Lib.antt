@@ -1,2 +1,5 @@
+pub mod Cutting
 pub mod Guards
 pub mod Held
+pub mod Shown
+pub mod Steps

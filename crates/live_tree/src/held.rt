@@ -5,22 +5,49 @@ ghost use Rattle.slot_lock.specs.Plan.{range_of};
 ghost use Rattle.live_levels.specs.Slots.{SlotView, Suits};
 ghost use Rattle.live_tree.specs.Guards.{slot_of};
 ghost use Rattle.live_tree.specs.Held.{HeldView, with_slot, committed, Covers, CrossesNoEdge, HasRoom, FitsFiles, act_on, is_inside};
+ghost use Rattle.live_tree.specs.Shown.{ChangesPages};
+ghost use Rattle.live_tree.specs.Steps.{Acquires};
 
+pub mod cut;
+pub mod lend;
+pub mod reserve;
+
+use crate::letting::Letting;
+use crate::tree::SharedTree;
 use live_levels::act::Act;
+use live_levels::level::{Next, Stepper};
 use live_levels::slot::SlotState;
 use slot_lock::Change;
 use smallvec::SmallVec;
 use std::alloc::Allocator;
 use std::marker::Model;
-use std::sync::MutexGuard;
-use vm_base::NoMemory;
+use std::sync::{MutexGuard, Wait};
+use vm_base::{CoreId, NoMemory};
+
+// The guards of locked slots. Each is there but while it is changed.
+pub(crate) type Guards<'a, A> = SmallVec<Option<MutexGuard<'a, SlotState<A>>>, 4, &'a A>;
+
+/// What a step towards holding pages came to.
+#[derive(Clone, Copy, Debug, PartialEq, Eq)]
+pub enum Got {
+    /// One slot more is held, which was noted.
+    Locked,
+    /// A slot was divided, which was noted.
+    Split,
+    /// Another core is to lock the slot first.
+    Owned(CoreId),
+    /// No memory was there.
+    NoMemory,
+    /// A slot was in a wrong place. It never comes; the call gives up.
+    Lost,
+}
 
 /// The locked slots of a call, from left to right and side by side. A clause sees their pages and the slots.
 #[derive(Drop)]
 pub struct Held<'a, A: Allocator> {
     first: u64,
     end: u64,
-    guards: SmallVec<Option<MutexGuard<'a, SlotState<A>>>, 4, &'a A>,
+    guards: Guards<'a, A>,
 }
 
 impl<'a, A: Allocator> Model for Held<'a, A> {
@@ -35,7 +62,7 @@ impl<'a, A: Allocator> Model for Held<'a, A> {
     ghost invariant = { λ h. All IsSome h.guards.items × SideBySide h.first h.end (map slot_of h.guards.items) };
 }
 
-impl<'a, A: Allocator> Held<'a, A> {
+impl<'a, A: Allocator + Clone> Held<'a, A> {
     /// No slot yet. The first is to begin at the page.
     pub fn new(alloc: &'a A, first: u64) -> Held<'a, A>
         ensures { result ≡ record { first = first; end = first; slots = [] } }
@@ -78,6 +105,48 @@ impl<'a, A: Allocator> Held<'a, A> {
         }
     }
 
+    /// One step of the core towards holding the pages up to the end: the deepest slot that has the next page is locked, where
+    /// it begins there and ends by the end, with room for so many changes; else it is divided into 512. Either is noted while
+    /// the slot is locked. It waits while another thread has the slot locked. Want of memory leaves the held slots as they
+    /// are, and lets go of the slot that was to be one of them.
+    pub fn lock_next<R: Wait, S: Stepper>(
+        &mut self,
+        rt: &R,
+        tree: &'a SharedTree<A>,
+        stepper: &mut S,
+        core: CoreId,
+        end: u64,
+        room: usize,
+    ) -> Got
+        requires range { self.old.end < end }
+        requires stepper { S.can_step stepper.old }
+        ensures { Acquires S.stepped stepper.old stepper.new self.old self.new core end room result }
+    {
+        let mut guard = match tree.lock_next(rt, stepper, core, self.end, end) {
+            Next::Whole(guard) => guard,
+            Next::Split => return Got::Split,
+            Next::Owned(other) => return Got::Owned(other),
+            Next::NoMemory => return Got::NoMemory,
+            Next::Lost => return Got::Lost,
+        };
+        if guard.reserve(room).is_err() {
+            return Got::NoMemory;
+        }
+        if self.push(guard).is_err() {
+            return Got::NoMemory;
+        }
+        stepper.step();
+        Got::Locked
+    }
+
+    /// All held slots are to be let go.
+    pub fn letting(self) -> Letting<'a, A>
+        ensures { result ≡ self.entry.slots }
+    {
+        let Held { guards, .. } = self;
+        Letting::of(guards)
+    }
+
     /// Makes the change in the held slots that lie in its range, each under one change more of its history, and in no
     /// other. It takes no memory.
     pub fn commit(&mut self, ticket: u64, change: Change)
@@ -85,18 +154,15 @@ impl<'a, A: Allocator> Held<'a, A> {
         requires edges { All (CrossesNoEdge (range_of change)) self.old.slots }
         requires room { All (HasRoom (range_of change)) self.old.slots }
         requires files { FitsFiles change }
-        ensures { self.new ≡ record self.old { slots = map (committed ticket change) self.old.slots } }
+        ensures slots { self.new ≡ record self.old { slots = map (committed ticket change) self.old.slots } }
+        ensures pages { ChangesPages change self.old self.new }
     {
         commit_all(&mut self.guards, ticket, change);
     }
 }
 
 // The commit at all guards.
-fn commit_all<'a, A: Allocator>(
-    guards: &mut SmallVec<Option<MutexGuard<'a, SlotState<A>>>, 4, &'a A>,
-    ticket: u64,
-    change: Change,
-)
+fn commit_all<'a, A: Allocator>(guards: &mut Guards<'a, A>, ticket: u64, change: Change)
     requires some { All IsSome guards.old.items }
     requires room { All (HasRoom (range_of change)) (map slot_of guards.old.items) }
     requires files { FitsFiles change }

@@ -3,6 +3,7 @@
 
 pub mod held;
 pub mod histories;
+pub mod letting;
 #[cfg(test)]
 mod tests;
 pub mod tree;

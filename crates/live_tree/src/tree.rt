@@ -1,6 +1,8 @@
 //! The shared tree: four levels of slots.
-ghost use Rattle.std.specs.Prelude.{◌≡◌, ℕ, ◌<◌, ◌^◌};
-ghost use Rattle.live_levels.specs.Nexts.{Answers, Cuts};
+ghost use Rattle.std.specs.Prelude.{◌≡◌, ℕ, ◌<◌, ◌^◌, IfSome};
+ghost use Rattle.std.specs.Sync.Mutex.{mutex_guard_value};
+ghost use Rattle.live_levels.specs.Nexts.{Answers, Cuts, Folds};
+ghost use Rattle.live_levels.specs.Slots.{HasPage};
 
 use crate::histories::Histories;
 use live_levels::inner::Inner;
@@ -9,7 +11,7 @@ use live_levels::level::{Fit, Level, Next, Stepper};
 use live_levels::parts::side_by_side;
 use live_levels::slot::SlotState;
 use std::alloc::Allocator;
-use std::sync::Wait;
+use std::sync::{MutexGuard, Wait};
 use vm_base::{CoreId, NoMemory};
 
 /// The first level: a slot has 2^27 pages, a slot of the levels below 2^18, 2^9 and 1.
@@ -67,6 +69,14 @@ impl<A: Allocator + Clone> SharedTree<A> {
             .lock_next(rt, &self.alloc, stepper, core, cursor, end)
     }
 
+    /// Locks the deepest slot that has the page, whoever is to lock it first. It waits while another thread has it locked.
+    /// `None` where a slot was in a wrong place, or no slot has the page.
+    pub fn lock_at<'a, R: Wait>(&'a self, rt: &R, page: u64) -> Option<MutexGuard<'a, SlotState<A>>>
+        ensures { IfSome result (λ guard. HasPage (mutex_guard_value guard) page) }
+    {
+        self.root.lock_at(rt, page)
+    }
+
     /// Divides a slot that the core holds, and lends, into 512, which is noted. The core is to lock them first: others
     /// that come before it let go again. The slot itself has no meaning from then on. Want of memory changes nothing.
     pub fn cut<S: Stepper>(&self, stepper: &mut S, core: CoreId, slot: &SlotState<A>) -> Fit
@@ -74,6 +84,17 @@ impl<A: Allocator + Clone> SharedTree<A> {
         ensures { Cuts S.stepped stepper.old stepper.new result }
     {
         self.root.cut(&self.alloc, stepper, core, slot)
+    }
+
+    /// Makes one slot of the deepest level that has the page, where that isn't the first level and its slots can be one: none
+    /// is divided, no core is to lock one first, they have no frame and no recorded core, and the mapping goes on from slot
+    /// to slot. The slot begins its history anew with one change under the ticket of the step, which is noted. Answers
+    /// whether it did; else nothing changes. It takes no memory.
+    pub fn fold<S: Stepper>(&mut self, stepper: &mut S, page: u64) -> bool
+        requires { S.can_step stepper.old }
+        ensures { Folds S.stepped stepper.old stepper.new result }
+    {
+        self.root.fold(stepper, page)
     }
 
     /// The histories of all slots in the order of their pages, which are all pages below 2^36. `None` where memory ran

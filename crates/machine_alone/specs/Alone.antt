@@ -2,7 +2,7 @@
 use Rattle.std.specs.Prelude.{◌≡◌, ◌≢◌, ℕ, ◌<◌, ◌^◌}
 use Rattle.vm_base.specs.declared.replies.Reply.{Reply}
 use Rattle.vm_base.specs.declared.requests.Request.{Request}
-use Rattle.vm_base.specs.Plain.{Plain, opening as nothing_mapped}
+use Rattle.vm_base.specs.Plain.{Plain, nothing_mapped}
 use Rattle.machine_model.specs.declared.event.Event.TheVariants.{Call, Go}
 use Rattle.machine_model.specs.declared.event.Outcome.{Outcome}
 use Rattle.machine_model.specs.declared.event.Outcome.TheVariants.{Stepped, Answered}

@@ -6,7 +6,7 @@ use Rattle.slot_lock.specs.Slots.{Slots}
 use Rattle.mmu.specs.declared.entry.Translation.{Translation}
 use Rattle.mmu.specs.declared.tlb.TlbEntry.{TlbEntry}
 use Rattle.shootdown.specs.declared.message.Message.{Message}
-use Rattle.refcache.specs.Counts.{Counts, opening as no_counts}
+use Rattle.refcache.specs.Counts.{Counts, no_counts}
 use Rattle.machine_model.specs.declared.log.Entry.{Entry}
 use Rattle.machine_model.specs.declared.phase.Phase.{Phase}
 use Rattle.machine_model.specs.declared.phase.Phase.TheVariants.{Free}

@@ -6,7 +6,7 @@ use Rattle.vm_base.specs.declared.requests.Flags.{Flags}
 use Rattle.vm_base.specs.declared.requests.Request.{Request}
 use Rattle.vm_base.specs.declared.requests.Request.TheVariants.{Mmap, Munmap, Load, Store}
 use Rattle.vm_base.specs.declared.rights.Prot.{Prot}
-use Rattle.vm_base.specs.Plain.{Plain, opening}
+use Rattle.vm_base.specs.Plain.{Plain, nothing_mapped}
 use Rattle.machine_model.specs.declared.log.Entry.{Entry}
 use Rattle.machine_model.specs.declared.log.Entry.TheVariants.{Answer}
 use Rattle.machine_sound.specs.Log.{Stands, Replays}
@@ -22,7 +22,7 @@ abbrev requests : List Request
 requests = Mmap 65536 4096 read_write (anonymous true) 0 0 ∷ Store 65540 41 ∷ Load 65540 ∷ Mmap 65536 4096 read_write (anonymous false) 0 0 ∷ []
 
 abbrev nothing : Plain
-nothing = opening (λ n. None)
+nothing = nothing_mapped (λ n. None)
 
 -- Entries stand in the order of their steps, which need not be that of their calls.
 abbrev entries : List Entry

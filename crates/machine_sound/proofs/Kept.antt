@@ -6,7 +6,7 @@ use Rattle.vm_base.specs.declared.replies.Errno.TheVariants.{ENOMEM}
 use Rattle.vm_base.specs.declared.replies.Reply.{Reply}
 use Rattle.vm_base.specs.declared.replies.Reply.TheVariants.{Refused}
 use Rattle.vm_base.specs.declared.requests.Request.{Request}
-use Rattle.vm_base.specs.Plain.{opening as nothing_mapped}
+use Rattle.vm_base.specs.Plain.{nothing_mapped}
 use Rattle.slot_lock.specs.Slots.{Slots, IsNew}
 use Rattle.machine_model.specs.declared.event.Event.{Event}
 use Rattle.machine_model.specs.declared.event.Outcome.{Outcome}

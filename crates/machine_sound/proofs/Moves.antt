@@ -6,7 +6,7 @@ use Rattle.vm_base.specs.declared.replies.Reply.{Reply}
 use Rattle.vm_base.specs.declared.requests.Request.{Request}
 use Rattle.vm_base.specs.Functions.{put}
 use Rattle.vm_base.specs.Info.{frame_of}
-use Rattle.vm_base.specs.Plain.{Bytes, Plain, opening as nothing_mapped}
+use Rattle.vm_base.specs.Plain.{Bytes, Plain, nothing_mapped}
 use Rattle.vm_base.proofs.Functions.{put_all}
 use Rattle.slot_lock.specs.Slots.{Slots}
 use Rattle.machine_model.specs.declared.event.Event.{Event}

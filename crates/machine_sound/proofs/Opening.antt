@@ -1,7 +1,7 @@
 -- A machine over new slots begins well.
 use Rattle.std.proofs.Common.{◌≡◌, ℕ, refl, sym, subst, ap, Some, None, Option}
 use Rattle.vm_base.specs.Info.{frame_of}
-use Rattle.vm_base.specs.Plain.{File, zeros, opening as nothing_mapped}
+use Rattle.vm_base.specs.Plain.{File, zeros, nothing_mapped}
 use Rattle.slot_lock.specs.Slots.{Slots, IsNew}
 use Rattle.machine_model.specs.World.{Made, new_memory, new_world}
 use Rattle.machine_laws.proofs.Opening.{opening_is_orderly}

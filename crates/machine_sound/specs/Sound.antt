@@ -1,7 +1,7 @@
 -- What holds in each state that a machine reaches, and of each step from there
 use Rattle.std.specs.Prelude.{◌≡◌, ℕ, ◌⊎◌, Bool, false, List, [], ◌∷◌, ◌++◌, None}
 use Rattle.vm_base.specs.declared.replies.Reply.TheVariants.{NoFrame, NoMemory}
-use Rattle.vm_base.specs.Plain.{Plain, opening as nothing_mapped}
+use Rattle.vm_base.specs.Plain.{Plain, nothing_mapped}
 use Rattle.slot_lock.specs.Slots.{Slots, IsNew}
 use Rattle.mmu.specs.declared.entry.Translation.{Translation}
 use Rattle.machine_model.specs.declared.event.Event.{Event}

@@ -3,3 +3,4 @@ pub mod Cached
 pub mod Distinct
 pub mod Clearing
 pub mod Valid
+pub mod LastTable

@@ -10,7 +10,7 @@ use Rattle.vm_base.proofs.Functions.{put_all, eq_true, eq_false}
 use Rattle.mmu.specs.declared.entry.Translation.{Translation}
 use Rattle.mmu.specs.Tables.{on_pages}
 
-below : (N q : ℕ) → 2 ^ 35 ≤ N → is_page q ≡ true → q < N
+pub below : (N q : ℕ) → 2 ^ 35 ≤ N → is_page q ≡ true → q < N
 below N q h e = grind (arith, nat_tests)
 
 -- tables that agree on valid pages

@@ -1,5 +1,5 @@
 //! What one core translates addresses by: tables of its own, and a TLB.
-ghost use Rattle.std.specs.Prelude.{◌≡◌, ◌&&◌, ℕ, [], None, Some, true, is_some, not, length, ◌≤◌, IfOk, OnOk, OnErr, List, Option, if◌then◌else◌};
+ghost use Rattle.std.specs.Prelude.{◌≡◌, ◌&&◌, ◌/◌, ℕ, [], None, Some, true, is_some, not, length, ◌≤◌, IfOk, OnOk, OnErr, List, Option, if◌then◌else◌};
 ghost use Rattle.vm_base.specs.Functions.{put, over, has};
 ghost use Rattle.vm_base.specs.Pages.{is_page as is_valid, are_pages};
 ghost use Rattle.mmu.specs.declared.entry.Translation.{Translation};
@@ -38,14 +38,16 @@ pub trait Hardware: Drop {
         ensures table { table self.new ≡ table self.old }
         ensures tlb { tlb self.new ≡ tlb_after result page (table self.old page) (tlb self.old) };
 
-    /// Sets the table entry of a page whose protection gives some right. Memory may be wanting only where the page
-    /// has no entry; then no entry changes. The TLB stays in both cases.
+    /// Sets the table entry of a page whose protection gives some right. Memory may be wanting only where a table is
+    /// missing: then none of the 512 pages that share the page's table of the last level has an entry, and no entry
+    /// changes. The TLB stays in both cases.
     fn install(&mut self, page: u64, frame: u32, prot: Prot) -> Result<(), NoMemory>
         requires page { is_valid page ≡ true }
         requires some_right { has_right prot ≡ true }
         ensures ok { OnOk result (table self.new ≡ put (table self.old) page (Some (translation_of frame prot))) }
         ensures err { OnErr result (table self.new ≡ table self.old) }
         ensures err_only { OnErr result (table self.old page ≡ None) }
+        ensures err_last { OnErr result ((q : ℕ) → q / 512 ≡ page / 512 → table self.old q ≡ None) }
         ensures tlb { tlb self.new ≡ tlb self.old };
 
     /// Fills the TLB from the tables without an access, where the tables have the page and the TLB hasn't; tells

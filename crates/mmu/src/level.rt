@@ -3,7 +3,7 @@ ghost use Rattle.std.specs.Prelude.{◌≡◌, ◌≢◌, ℕ, ◌+◌, ◌^◌,
 ghost use Rattle.vm_base.specs.Functions.{put, over, has};
 ghost use Rattle.mmu.specs.Entry.{decode};
 ghost use Rattle.mmu.specs.declared.entry.Translation.{Translation};
-ghost use Rattle.std.proofs.Common.{lit<, arith};
+ghost use Rattle.std.proofs.Common.{lit<, arith, refl};
 
 use crate::entry::{Translation, decode};
 use std::alloc::Allocator;
@@ -36,7 +36,8 @@ pub trait Level<A: Allocator>: Drop {
         Self: Sized,
         ensures { IfOk result (λ t. (page : ℕ) → entry_at t page ≡ None) };
 
-    /// Sets the entry of a page. Where memory is refused the page has none, and no entry changes.
+    /// Sets the entry of a page. Where memory is refused no entry changes, and none of the 512 pages has one that share the
+    /// page's table of the last level.
     fn install(
         &mut self,
         alloc: &A,
@@ -49,9 +50,13 @@ pub trait Level<A: Allocator>: Drop {
         ensures there { OnOk result (entry_at self.new page ≡ Some translation) }
         ensures err { OnErr result (entry_at self.new page ≡ entry_at self.old page) }
         ensures err_only { OnErr result (entry_at self.old page ≡ None) }
+        ensures err_last { OnErr result ((q : ℕ) → q < pages → q / 512 ≡ page / 512 → entry_at self.old q ≡ None) }
         ensures others { (q : ℕ) → q < pages → q ≢ page → entry_at self.new q ≡ entry_at self.old q };
 
     ghost some_page: { 0 < pages };
+
+    // the pages are those of whole tables of the last level
+    ghost whole: { pages ≡ 512 * (pages / 512) };
 }
 
 /// A table of the last level: 512 entries of 64 bits, 0 where a page has none.
@@ -67,6 +72,8 @@ impl<A: Allocator + Clone> Level<A> for Leaf<A> {
     ghost entry_at = { λ t page. decode (slice_index t.entries.items page) };
 
     ghost some_page = { lit< tt };
+
+    ghost whole = { refl };
 
     fn entry(&self, _width: u64, page: u64) -> Option<Translation> {
         decode(self.entries[page as usize])
@@ -119,6 +126,8 @@ impl<C: Level<A>, A: Allocator + Clone> Level<A> for Inner<C, A> {
     ghost entry_at = { λ t page. option_and_then (λ b. C.entry_at b.value (page % C.pages)) (slice_index_or t.tables.items (page / C.pages) None) };
 
     ghost some_page = { Prim.omega (arith, C.some_page) };
+
+    ghost whole = { Prim.omega arith };
 
     fn entry(&self, width: u64, page: u64) -> Option<Translation> {
         let below = width / ENTRIES;

@@ -9,13 +9,13 @@ use Rattle.vm_base.specs.declared.info.Meta.{Meta}
 use Rattle.vm_base.specs.declared.replies.Reply.{Reply}
 use Rattle.vm_base.specs.Functions.{put}
 use Rattle.vm_base.specs.Plain.{Bytes, File, Entry, Plain, zeros, file_bytes}
-use Rattle.vm_base.specs.Apply.{with_byte, stored_own, stored_entry, copied, detached_entry, detached}
+use Rattle.vm_base.specs.Apply.{is_anonymous, with_byte, stored_own, stored_entry, copied, detached_entry, detached}
 use Rattle.vm_base.proofs.Functions.{put_all, put_same, put_other}
 use Rattle.plain_map.specs.declared.access.FilePage.{FilePage}
 use Rattle.plain_map.specs.declared.own.OwnPage.{OwnPage}
 use Rattle.plain_map.specs.Mappings.{or_else}
 use Rattle.plain_map.specs.Owned.{own_at, copy_of, written}
-use Rattle.plain_map.specs.Shown.{own_shown, entry_of, is_anonymous, lacks_bytes, back_shared, shared_of, is_done, IsUncopied}
+use Rattle.plain_map.specs.Shown.{own_shown, entry_of, lacks_bytes, back_shared, shared_of, is_done, IsUncopied}
 use Rattle.plain_map.specs.Detaches.{DetachesTo}
 use Rattle.plain_map.proofs.Owned.{own_at-append}
 use Rattle.plain_map.proofs.Writes.{put_self}

@@ -8,12 +8,12 @@ use Rattle.vm_base.specs.declared.info.Meta.{Meta}
 use Rattle.vm_base.specs.declared.replies.Reply.{Reply}
 use Rattle.vm_base.specs.Pages.{page_of}
 use Rattle.vm_base.specs.Plain.{Bytes, Entry, Plain}
-use Rattle.vm_base.specs.Apply.{is_uncopied, access_reply, detached}
+use Rattle.vm_base.specs.Apply.{is_anonymous, is_uncopied, access_reply, detached}
 use Rattle.vm_base.specs.Answers.{prepared}
 use Rattle.vm_base.proofs.Functions.{put_same}
 use Rattle.vm_base.proofs.Due.{Due, due, after, with_copy, detached_due}
 use Rattle.vm_base.proofs.Ready.{prepared_due, prepared_ready, store_ready}
-use Rattle.plain_map.specs.Shown.{entry_of, is_anonymous, lacks_bytes}
+use Rattle.plain_map.specs.Shown.{entry_of, lacks_bytes}
 use Rattle.plain_map.specs.Detaches.{DetachesTo}
 
 next_is : (t u : Plain) (addr : ℕ) (d : Due t addr) (b : Bool) → DetachesTo (detached t (page_of addr)) t b u → u ≡ after t addr d

@@ -7,6 +7,7 @@ use Rattle.vm_base.specs.declared.replies.Reply.{Reply}
 use Rattle.vm_base.specs.declared.replies.Reply.TheVariants.{Done}
 use Rattle.plain_map.specs.declared.access.FilePage.{FilePage}
 use Rattle.vm_base.specs.Plain.{Bytes, Entry, zeros}
+use Rattle.vm_base.specs.Apply.{is_anonymous}
 
 -- anonymous pages have zero bytes before the first copy; shared ones never have own bytes
 abbrev pub own_shown : Back → Option Bytes → Option Bytes
@@ -18,10 +19,6 @@ own_shown (Private file page) own = own
 abbrev pub entry_of : Option Bytes → Option Meta → Option Entry
 entry_of own None = None
 entry_of own (Some m) = Some (record { back = m.back; prot = m.prot; own = own_shown m.back own })
-
-abbrev pub is_anonymous : Back → Bool
-is_anonymous Anon = true
-is_anonymous _ = false
 
 -- a store to the page needs a copy to be made first
 abbrev pub lacks_bytes : Option Bytes → Option Meta → Bool

@@ -3,7 +3,7 @@ use Rattle.std.proofs.Common.{if◌then◌else◌, nat_lt, ltb, inl, inr, ◌≡
 use Rattle.std.proofs.lemmas.Bool.{cases_lt, lt-ltb, le-ltb}
 use Rattle.std.proofs.lemmas.List.{append-nil}
 use Rattle.radix_node.specs.State.{State, no_state}
-use Rattle.radix_node.specs.Run.{Run, Cell, total, cell_at, with_run}
+use Rattle.radix_node.specs.Run.{Run, Cell, total, cell_at, with_run, in_state}
 
 pub if_below : {X : Type 0} (a b : ℕ) (x y : X) → a < b → (if nat_lt a b then x else y) ≡ x
 if_below a b x y h = rw (lt-ltb a b h)
@@ -89,3 +89,16 @@ with_run-right f (x ∷ xs) ys page h =
 
 pub with_run-one : (f : Run → List Run) (r : Run) (page : ℕ) → page < r.width → with_run f (r ∷ []) page ≡ f r
 with_run-one f r page h = with_run-here f r [] page h ∙ append-nil (f r)
+
+-- a slot that is written as it is
+pub with_run-same : (rs : List Run) (page : ℕ) → with_run (in_state (cell_at rs page).state) rs page ≡ rs
+with_run-same [] page = refl
+with_run-same (r ∷ rs) page = ⊎_elim
+    (λ (l : page < r.width).
+    ap (λ (c : Cell). with_run (in_state c.state) (r ∷ rs) page) (cell_at-here r rs page l)
+    ∙ with_run-here (in_state r.state) r rs page l)
+    (λ (l : r.width ≤ page).
+    ap (λ (c : Cell). with_run (in_state c.state) (r ∷ rs) page) (cell_at-there r rs page l)
+    ∙ with_run-there (in_state (cell_at rs (page - r.width)).state) r rs page l
+    ∙ ap (λ (l : List Run). r ∷ l) (with_run-same rs (page - r.width)))
+    (cases_lt page r.width)

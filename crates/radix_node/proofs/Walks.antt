@@ -14,7 +14,7 @@ use Rattle.radix_node.specs.Run.{Run, Cell, cell_at, width_of}
 use Rattle.radix_node.specs.Node.{Parts, runs, flatten}
 use Rattle.radix_node.specs.Slots.{parts_of, IsNode}
 use Rattle.radix_node.specs.Walk.{OnAll, IsMapped, HasNoFrame, IsFirstFramed, HasUser, Blocked, IsOpen, IsFree, Finds}
-use Rattle.radix_node.proofs.Flat.{IsPlace, cell_at-Own, cell_at-Child, level_below, width-below, width_pos}
+use Rattle.radix_node.proofs.Flat.{IsPlace, cell_at-Own, cell_at-Child, child_level, child_pages, width_pos}
 
 -- ---- the pages of one slot
 
@@ -24,13 +24,17 @@ pub record IsOf (level i p : ℕ) : Type 0 where
   pub high : p < i * width_of level + width_of level
 
 place_of : {level i p : ℕ} → i < 512 → IsOf level i p → IsPlace level p i (p - i * width_of level)
-place_of l h = record { slot_in = l; page_is = omega (arith, h.low); rest_in = omega (arith, h.low, h.high) }
+place_of l h =
+    record { slot_in = l; page_is = omega (arith, h.low); rest_in = omega (arith, h.low, h.high) }
 
-pub own_page : {A : Type 0} {level i : ℕ} {ss : List (Slot A)} (d : Slot A) (s : SlotState) → IsNode level ss → i < 512 → OwnSlot s ≡ get_or ss i d → (p : ℕ) → IsOf level i p
-    → cell_at (flatten (width_of level) (parts_of ss)) p ≡ record { state = state_of s; offset = p - i * width_of level; width = width_of level }
+pub own_page : {A : Type 0} {level i : ℕ} {ss : List (Slot A)} (d : Slot A) (s : SlotState)
+    → IsNode level ss → i < 512 → OwnSlot s ≡ get_or ss i d → (p : ℕ) → IsOf level i p
+    → cell_at (flatten (width_of level) (parts_of ss)) p
+    ≡ record { state = state_of s; offset = p - i * width_of level; width = width_of level }
 own_page d s n l is p h = cell_at-Own d s n (place_of l h) is
 
-pub child_page : {A : Type 0} {level i : ℕ} {ss : List (Slot A)} (d : Slot A) (b : Box (Node A) A) → IsNode level ss → i < 512 → Child b ≡ get_or ss i d → (p : ℕ) → IsOf level i p
+pub child_page : {A : Type 0} {level i : ℕ} {ss : List (Slot A)} (d : Slot A) (b : Box (Node A) A)
+    → IsNode level ss → i < 512 → Child b ≡ get_or ss i d → (p : ℕ) → IsOf level i p
     → cell_at (flatten (width_of level) (parts_of ss)) p ≡ cell_at (runs b.value) (p - i * width_of level)
 child_page d b n l is p h = cell_at-Child d b n (place_of l h) is
 
@@ -49,7 +53,8 @@ pub record Along (level first end k to width : ℕ) : Type 0 where
   pub to_low : to * width_of level < end + width_of level
   pub to_high : end ≤ to * width_of level
 
-pub along_next : {level first end k next to width : ℕ} → Along level first end k to width → next ≡ k + 1 → Along level first end next to width
+pub along_next : {level first end k next to width : ℕ} → Along level first end k to width
+    → next ≡ k + 1 → Along level first end next to width
 along_next {level} {first} {end} {k} {next} {to} {width} h e = record {
   low = h.low;
   width_is = h.width_is;
@@ -60,11 +65,16 @@ along_next {level} {first} {end} {k} {next} {to} {width} h e = record {
   to_high = h.to_high;
 }
 
-pub along_below : {level first end k to width : ℕ} → Along level first end k to width → k < to → k * width_of level < end
-along_below {level} {first} {end} {k} {to} h l = omega (arith, mul-le-mul_right (width_of level) (let q : k + 1 ≤ to = omega arith in q), h.to_low)
+pub along_below : {level first end k to width : ℕ} → Along level first end k to width → k < to
+    → k * width_of level < end
+along_below {level} {first} {end} {k} {to} h l =
+    omega
+    (arith, mul-le-mul_right (width_of level) (let q : k + 1 ≤ to = omega arith in q), h.to_low)
 
-pub along_done : {level first end k to width : ℕ} → Along level first end k to width → to ≤ k → end ≤ k * width_of level
-along_done {level} {first} {end} {k} {to} h l = omega (arith, mul-le-mul_right (width_of level) l, h.to_high)
+pub along_done : {level first end k to width : ℕ} → Along level first end k to width → to ≤ k
+    → end ≤ k * width_of level
+along_done {level} {first} {end} {k} {to} h l =
+    omega (arith, mul-le-mul_right (width_of level) l, h.to_high)
 
 width_small : (level : ℕ) → level ≤ 3 → width_of level ≤ 2 ^ 27
 width_small zero h = omega arith
@@ -73,8 +83,41 @@ width_small (suc (suc zero)) h = omega arith
 width_small (suc (suc (suc zero))) h = omega arith
 width_small (suc (suc (suc (suc l)))) h = absurd (omega arith)
 
-pub slot_small : {level first end k to width : ℕ} → Along level first end k to width → k < to → k * width_of level + width_of level ≤ 2 ^ 36
-slot_small {level} {first} {end} {k} {to} h l = omega (arith, mul-le-mul_right (width_of level) (let q : k + 1 ≤ 512 = omega (arith, h.last) in q), width_small level h.low)
+pub slot_small : {level first end k to width : ℕ} → Along level first end k to width → k < to
+    → k * width_of level + width_of level ≤ 2 ^ 36
+slot_small {level} {first} {end} {k} {to} h l =
+    omega (
+      arith,
+      mul-le-mul_right (width_of level) (let q : k + 1 ≤ 512 = omega (arith, h.last) in q),
+      width_small level h.low,
+    )
+
+-- the slot that is next is one of the node's
+pub along_in : {level first end k to width : ℕ} → Along level first end k to width → k < to
+    → k < 512
+along_in l h = omega (arith, l.last, h)
+
+-- the pages of the range that the next slot has
+pub along_part : {level first end k to width lo hi : ℕ} → Along level first end k to width
+    → k * width + lo ≡ max first (k * width) → k * width + hi ≡ min end (k * width + width)
+    → IsPart first end (k * width_of level) (width_of level) lo hi
+along_part {first = first} {end = end} {k = k} {lo = lo} {hi = hi} l low high =
+    subst (λ n. IsPart first end (k * n) n lo hi) l.width_is
+    (record { first_is = low; end_is = high })
+
+-- the next slot's child, to which a walk goes down, is of a lower level, and has the pages that it is asked for
+pub record Down (level hi : ℕ) (v : Parts) : Type 0 where
+  pub falls : v.level + 1 ≡ level
+  pub pages : 512 * width_of v.level ≡ width_of level
+  pub within : hi ≤ 512 * width_of v.level
+
+pub along_down : {A : Type 0} {level first end k to width hi : ℕ} {ss : List (Slot A)} (d : Slot A) (b : Box (Node A) A) (v : Parts)
+    → Along level first end k to width → k < to → IsNode level ss → Child b ≡ get_or ss k d
+    → v ≡ b.value → hi ≤ width → Down level hi v
+along_down d b v l h n is same most =
+    let falls = child_level d b v n (along_in l h) is same in
+    let pages = child_pages d b v n (along_in l h) is same in
+    record { falls = falls; pages = pages; within = omega (arith, pages, l.width_is, most) }
 
 -- ---- what each page has
 
@@ -82,8 +125,11 @@ slot_small {level} {first} {end} {k} {to} h l = omega (arith, mul-le-mul_right (
 pub record Seen (rs : List Run) (Q : Option PageInfo → Type 0) (first end upto : ℕ) : Type 0 where
   pub seen : (p : ℕ) → first ≤ p → p < end → p < upto → Q (cell_at rs p).state.info
 
-pub seen_own : {A : Type 0} {level i : ℕ} {ss : List (Slot A)} (Q : Option PageInfo → Type 0) (d : Slot A) (s : SlotState) (first end : ℕ) → IsNode level ss → i < 512 → OwnSlot s ≡ get_or ss i d
-    → Q (state_of s).info → Seen (flatten (width_of level) (parts_of ss)) Q first end (i * width_of level) → Seen (flatten (width_of level) (parts_of ss)) Q first end ((i + 1) * width_of level)
+pub seen_own : {A : Type 0} {level i : ℕ} {ss : List (Slot A)} (Q : Option PageInfo → Type 0) (d : Slot A) (s : SlotState) (first end : ℕ)
+    → IsNode level ss → i < 512 → OwnSlot s ≡ get_or ss i d
+    → Q (state_of s).info
+    → Seen (flatten (width_of level) (parts_of ss)) Q first end (i * width_of level)
+    → Seen (flatten (width_of level) (parts_of ss)) Q first end ((i + 1) * width_of level)
 seen_own {level = level} {i = i} Q d s first end n l is q h = record {
   seen = λ p a b c. ⊎_elim
       (λ (m : p < i * width_of level). h.seen p a b m)
@@ -91,61 +137,89 @@ seen_own {level = level} {i = i} Q d s first end n l is q h = record {
       (cases_lt p (i * width_of level));
 }
 
-pub seen_child : {A : Type 0} {level i : ℕ} {ss : List (Slot A)} (Q : Option PageInfo → Type 0) (d : Slot A) (b : Box (Node A) A) (v : Parts) (first end lo hi : ℕ) → IsNode level ss → i < 512 → Child b ≡ get_or ss i d
-    → v ≡ b.value → IsPart first end (i * width_of level) (width_of level) lo hi → OnAll Q (runs v) lo hi
-    → Seen (flatten (width_of level) (parts_of ss)) Q first end (i * width_of level) → Seen (flatten (width_of level) (parts_of ss)) Q first end ((i + 1) * width_of level)
+pub seen_child : {A : Type 0} {level i : ℕ} {ss : List (Slot A)} (Q : Option PageInfo → Type 0) (d : Slot A) (b : Box (Node A) A) (v : Parts) (first end lo hi : ℕ)
+    → IsNode level ss → i < 512 → Child b ≡ get_or ss i d
+    → v ≡ b.value → IsPart first end (i * width_of level) (width_of level) lo hi
+    → OnAll Q (runs v) lo hi
+    → Seen (flatten (width_of level) (parts_of ss)) Q first end (i * width_of level)
+    → Seen (flatten (width_of level) (parts_of ss)) Q first end ((i + 1) * width_of level)
 seen_child {level = level} {i = i} Q d b v first end lo hi n l is same part q h = record {
   seen = λ p a e c. ⊎_elim
       (λ (m : p < i * width_of level). h.seen p a e m)
       (λ (m : i * width_of level ≤ p). subst (λ (c : Cell). Q c.state.info)
-      (ap (λ v. cell_at (runs v) (p - i * width_of level)) same ∙ sym (child_page d b n l is p (record { low = m; high = omega arith })))
+      (ap (λ v. cell_at (runs v) (p - i * width_of level)) same ∙ sym
+      (child_page d b n l is p (record { low = m; high = omega arith })))
       (q (p - i * width_of level) (omega (arith, part.first_is)) (omega (arith, part.end_is))))
       (cases_lt p (i * width_of level));
 }
 
-pub seen_none : (rs : List Run) (Q : Option PageInfo → Type 0) (first end upto : ℕ) → upto ≤ first → Seen rs Q first end upto
+pub seen_none : (rs : List Run) (Q : Option PageInfo → Type 0) (first end upto : ℕ) → upto ≤ first
+    → Seen rs Q first end upto
 seen_none rs Q first end upto l = record { seen = λ p a b c. absurd (omega arith) }
 
-pub seen_all : (rs : List Run) (Q : Option PageInfo → Type 0) (first end upto : ℕ) → Seen rs Q first end upto → end ≤ upto → OnAll Q rs first end
+pub seen_all : (rs : List Run) (Q : Option PageInfo → Type 0) (first end upto : ℕ)
+    → Seen rs Q first end upto → end ≤ upto → OnAll Q rs first end
 seen_all rs Q first end upto h l = λ p a b. h.seen p a b (omega arith)
 
 -- the first page of the range that a slot has
-pub own_first : {A : Type 0} {level i : ℕ} {ss : List (Slot A)} (d : Slot A) (s : SlotState) (first : ℕ) → IsNode level ss → i < 512 → OwnSlot s ≡ get_or ss i d → first < i * width_of level + width_of level
+pub own_first : {A : Type 0} {level i : ℕ} {ss : List (Slot A)} (d : Slot A) (s : SlotState) (first : ℕ)
+    → IsNode level ss → i < 512 → OwnSlot s ≡ get_or ss i d
+    → first < i * width_of level + width_of level
     → (cell_at (flatten (width_of level) (parts_of ss)) (max first (i * width_of level))).state ≡ state_of s
 own_first {level = level} {i = i} d s first n l is past = let pos = width_pos level in
-    ap (λ (c : Cell). c.state) (own_page d s n l is (max first (i * width_of level)) (record { low = omega arith; high = omega arith }))
+    ap (λ (c : Cell). c.state)
+    (own_page d s n l is (max first (i * width_of level))
+    (record { low = omega arith; high = omega arith }))
 
 -- a page of a child that is a page of the range
 pub record Lower (first end start lo hi q : ℕ) : Type 0 where
   pub low : first ≤ start + q
   pub high : start + q < end
 
-pub lower : {first end start width lo hi q : ℕ} → IsPart first end start width lo hi → lo ≤ q → q < hi → Lower first end start lo hi q
+pub lower : {first end start width lo hi q : ℕ} → IsPart first end start width lo hi → lo ≤ q
+    → q < hi → Lower first end start lo hi q
 lower h a b = record { low = omega (arith, h.first_is); high = omega (arith, h.end_is) }
 
-pub child_cell : {A : Type 0} {level i first end lo hi q : ℕ} {ss : List (Slot A)} (d : Slot A) (b : Box (Node A) A) (v : Parts) → IsNode level ss → i < 512 → Child b ≡ get_or ss i d
-    → v ≡ b.value → IsPart first end (i * width_of level) (width_of level) lo hi → q < hi → cell_at (flatten (width_of level) (parts_of ss)) (i * width_of level + q) ≡ cell_at (runs v) q
+pub child_cell : {A : Type 0} {level i first end lo hi q : ℕ} {ss : List (Slot A)} (d : Slot A) (b : Box (Node A) A) (v : Parts)
+    → IsNode level ss → i < 512 → Child b ≡ get_or ss i d
+    → v ≡ b.value → IsPart first end (i * width_of level) (width_of level) lo hi → q < hi
+    → cell_at (flatten (width_of level) (parts_of ss)) (i * width_of level + q) ≡ cell_at (runs v) q
 child_cell {level = level} {i = i} {q = q} d b v n l is same part h =
     let k : i * width_of level + q - i * width_of level ≡ q = omega arith in
-    child_page d b n l is (i * width_of level + q) (record { low = omega arith; high = omega (arith, part.end_is) }) ∙ ap (λ v. cell_at (runs v) (i * width_of level + q - i * width_of level)) (sym same) ∙ ap (cell_at (runs v)) k
+    child_page d b n l is (i * width_of level + q)
+    (record { low = omega arith; high = omega (arith, part.end_is) })
+    ∙ ap (λ v. cell_at (runs v) (i * width_of level + q - i * width_of level)) (sym same)
+    ∙ ap (cell_at (runs v)) k
 
 none_some : (b : Bool) → b ≡ false → b ≡ true → ⊥
 none_some b e f = cc
 
-pub own_unmapped : {A : Type 0} {level i : ℕ} {ss : List (Slot A)} (d : Slot A) (s : SlotState) (first end : ℕ) → IsNode level ss → i < 512 → OwnSlot s ≡ get_or ss i d
-    → first < end → i * width_of level < end → first < i * width_of level + width_of level → is_some (state_of s).info ≡ false → ¬ OnAll IsMapped (flatten (width_of level) (parts_of ss)) first end
+pub own_unmapped : {A : Type 0} {level i : ℕ} {ss : List (Slot A)} (d : Slot A) (s : SlotState) (first end : ℕ)
+    → IsNode level ss → i < 512 → OwnSlot s ≡ get_or ss i d
+    → first < end → i * width_of level < end → first < i * width_of level + width_of level
+    → is_some (state_of s).info ≡ false
+    → ¬ OnAll IsMapped (flatten (width_of level) (parts_of ss)) first end
 own_unmapped {level = level} {i = i} d s first end n l is some low past none all =
-    none_some _ (ap (λ (s : State). is_some s.info) (own_first d s first n l is past) ∙ none) (all (max first (i * width_of level)) (omega arith) (omega arith))
+    none_some _ (ap (λ (s : State). is_some s.info) (own_first d s first n l is past) ∙ none)
+    (all (max first (i * width_of level)) (omega arith) (omega arith))
 
-pub child_unmapped : {A : Type 0} {level i : ℕ} {ss : List (Slot A)} (d : Slot A) (b : Box (Node A) A) (v : Parts) (first end lo hi : ℕ) → IsNode level ss → i < 512 → Child b ≡ get_or ss i d
-    → v ≡ b.value → IsPart first end (i * width_of level) (width_of level) lo hi → ¬ OnAll IsMapped (runs v) lo hi → ¬ OnAll IsMapped (flatten (width_of level) (parts_of ss)) first end
-child_unmapped {level = level} {i = i} d b v first end lo hi n l is same part none all = none (λ q x y.
+pub child_unmapped : {A : Type 0} {level i : ℕ} {ss : List (Slot A)} (d : Slot A) (b : Box (Node A) A) (v : Parts) (first end lo hi : ℕ)
+    → IsNode level ss → i < 512 → Child b ≡ get_or ss i d
+    → v ≡ b.value → IsPart first end (i * width_of level) (width_of level) lo hi
+    → ¬ OnAll IsMapped (runs v) lo hi
+    → ¬ OnAll IsMapped (flatten (width_of level) (parts_of ss)) first end
+child_unmapped {level = level} {i = i} d b v first end lo hi n l is same part none all =
+    none (λ q x y.
     let m = lower part x y in
-    subst (λ (c : Cell). IsMapped c.state.info) (child_cell d b v n l is same part y) (all (i * width_of level + q) m.low m.high))
+    subst (λ (c : Cell). IsMapped c.state.info) (child_cell d b v n l is same part y)
+    (all (i * width_of level + q) m.low m.high))
 
-pub own_framed : {A : Type 0} {level i frame : ℕ} {ss : List (Slot A)} (d : Slot A) (s : SlotState) (first end : ℕ) → IsNode level ss → i < 512 → OwnSlot s ≡ get_or ss i d
-    → first < end → i * width_of level < end → first < i * width_of level + width_of level → frame_of (state_of s).info ≡ Some frame
-    → Seen (flatten (width_of level) (parts_of ss)) HasNoFrame first end (i * width_of level) → IsFirstFramed (flatten (width_of level) (parts_of ss)) first end (max first (i * width_of level)) frame
+pub own_framed : {A : Type 0} {level i frame : ℕ} {ss : List (Slot A)} (d : Slot A) (s : SlotState) (first end : ℕ)
+    → IsNode level ss → i < 512 → OwnSlot s ≡ get_or ss i d
+    → first < end → i * width_of level < end → first < i * width_of level + width_of level
+    → frame_of (state_of s).info ≡ Some frame
+    → Seen (flatten (width_of level) (parts_of ss)) HasNoFrame first end (i * width_of level)
+    → IsFirstFramed (flatten (width_of level) (parts_of ss)) first end (max first (i * width_of level)) frame
 own_framed {level = level} {i = i} d s first end n l is some low past had h = record {
   low = omega arith;
   high = omega arith;
@@ -153,9 +227,12 @@ own_framed {level = level} {i = i} d s first end n l is some low past had h = re
   had = ap (λ (s : State). frame_of s.info) (own_first d s first n l is past) ∙ had;
 }
 
-pub child_framed : {A : Type 0} {level i q frame : ℕ} {ss : List (Slot A)} (d : Slot A) (b : Box (Node A) A) (v : Parts) (first end lo hi : ℕ) → IsNode level ss → i < 512 → Child b ≡ get_or ss i d
-    → v ≡ b.value → IsPart first end (i * width_of level) (width_of level) lo hi → IsFirstFramed (runs v) lo hi q frame
-    → Seen (flatten (width_of level) (parts_of ss)) HasNoFrame first end (i * width_of level) → IsFirstFramed (flatten (width_of level) (parts_of ss)) first end (i * width_of level + q) frame
+pub child_framed : {A : Type 0} {level i q frame : ℕ} {ss : List (Slot A)} (d : Slot A) (b : Box (Node A) A) (v : Parts) (first end lo hi : ℕ)
+    → IsNode level ss → i < 512 → Child b ≡ get_or ss i d
+    → v ≡ b.value → IsPart first end (i * width_of level) (width_of level) lo hi
+    → IsFirstFramed (runs v) lo hi q frame
+    → Seen (flatten (width_of level) (parts_of ss)) HasNoFrame first end (i * width_of level)
+    → IsFirstFramed (flatten (width_of level) (parts_of ss)) first end (i * width_of level + q) frame
 child_framed {level = level} {i = i} {q = q} {ss = ss} d b v first end lo hi n l is same part f h =
     let m = lower part f.low f.high in
     record {
@@ -166,10 +243,13 @@ child_framed {level = level} {i = i} {q = q} {ss = ss} d b v first end lo hi n l
           (λ (x : i * width_of level ≤ p).
           let k : i * width_of level + (p - i * width_of level) ≡ p = omega arith in
           subst (λ (c : Cell). HasNoFrame c.state.info)
-          (sym (child_cell {q = p - i * width_of level} d b v n l is same part (omega (arith, f.high))) ∙ ap (cell_at (flatten (width_of level) (parts_of ss))) k)
+          (sym
+          (child_cell {q = p - i * width_of level} d b v n l is same part (omega (arith, f.high))) ∙
+          ap (cell_at (flatten (width_of level) (parts_of ss))) k)
           (f.before (p - i * width_of level) (omega (arith, part.first_is)) (omega arith)))
           (cases_lt p (i * width_of level));
-      had = ap (λ (c : Cell). frame_of c.state.info) (child_cell d b v n l is same part f.high) ∙ f.had;
+      had = ap (λ (c : Cell). frame_of c.state.info) (child_cell d b v n l is same part f.high)
+          ∙ f.had;
     }
 
 -- ---- the cores of the pages
@@ -177,12 +257,14 @@ child_framed {level = level} {i = i} {q = q} {ss = ss} d b v first end lo hi n l
 -- the cores of the pages up to this one, and of no other pages than the range's
 pub record Users (rs : List Run) (first end upto cores : ℕ) : Type 0 where
   pub only : (core : ℕ) → members cores core ≡ true → HasUser rs first end core
-  pub all : (core p : ℕ) → first ≤ p → p < end → p < upto → is_recorded (cell_at rs p).state.info core ≡ true → members cores core ≡ true
+  pub all : (core p : ℕ) → first ≤ p → p < end → p < upto
+      → is_recorded (cell_at rs p).state.info core ≡ true → members cores core ≡ true
 
 two : (b : Bool) → b ≡ false → b ≡ true → ⊥
 two b e f = cc
 
-pub users_first : (rs : List Run) (first end upto cores : ℕ) → upto ≤ first → ((core : ℕ) → members cores core ≡ false) → Users rs first end upto cores
+pub users_first : (rs : List Run) (first end upto cores : ℕ) → upto ≤ first
+    → ((core : ℕ) → members cores core ≡ false) → Users rs first end upto cores
 users_first rs first end upto cores l none = record {
   only = λ core h. absurd (two _ (none core) h);
   all = λ core p a b c h. absurd (omega arith);
@@ -199,7 +281,8 @@ either : (a b : Bool) → a || b ≡ true → (a ≡ true) ⊎ (b ≡ true)
 either true b e = inl refl
 either false b e = inr e
 
-users_more : (rs : List Run) (first end upto next cores more : ℕ) (found : ℕ → Bool) → Users rs first end upto cores
+users_more : (rs : List Run) (first end upto next cores more : ℕ) (found : ℕ → Bool)
+    → Users rs first end upto cores
     → ((core : ℕ) → members more core ≡ (members cores core || found core))
     → ((core : ℕ) → found core ≡ true → HasUser rs first end core)
     → ((core p : ℕ) → first ≤ p → p < end → upto ≤ p → p < next → is_recorded (cell_at rs p).state.info core ≡ true → found core ≡ true)
@@ -213,43 +296,53 @@ users_more rs first end upto next cores more found u joined only all = record {
 }
 
 -- the cores of a slot that is no child
-pub users_own : {A : Type 0} {level i : ℕ} {ss : List (Slot A)} (d : Slot A) (s : SlotState) (first end cores more : ℕ) → IsNode level ss → i < 512 → OwnSlot s ≡ get_or ss i d
+pub users_own : {A : Type 0} {level i : ℕ} {ss : List (Slot A)} (d : Slot A) (s : SlotState) (first end cores more : ℕ)
+    → IsNode level ss → i < 512 → OwnSlot s ≡ get_or ss i d
     → first < end → first < i * width_of level + width_of level → i * width_of level < end
     → ((core : ℕ) → members more core ≡ (members cores core || is_recorded (state_of s).info core))
     → Users (flatten (width_of level) (parts_of ss)) first end (i * width_of level) cores
     → Users (flatten (width_of level) (parts_of ss)) first end ((i + 1) * width_of level) more
 users_own {level = level} {i = i} {ss = ss} d s first end cores more n l is some low high joined u =
     let pos = width_pos level in
-    users_more (flatten (width_of level) (parts_of ss)) first end (i * width_of level) ((i + 1) * width_of level) cores more (λ core. is_recorded (state_of s).info core) u joined
+    users_more (flatten (width_of level) (parts_of ss)) first end (i * width_of level)
+    ((i + 1) * width_of level) cores more (λ core. is_recorded (state_of s).info core) u joined
     (λ core h. (max first (i * width_of level), omega arith, omega arith, at core (max first (i * width_of level)) (record { low = omega arith; high = omega arith }) ∙ h))
     (λ core p a b c e h. sym (at core p (record { low = c; high = omega arith })) ∙ h)
   where
-    at : (core p : ℕ) → IsOf level i p → is_recorded (cell_at (flatten (width_of level) (parts_of ss)) p).state.info core ≡ is_recorded (state_of s).info core
+    at : (core p : ℕ) → IsOf level i p
+        → is_recorded (cell_at (flatten (width_of level) (parts_of ss)) p).state.info core ≡ is_recorded (state_of s).info core
     at core p h = ap (λ (c : Cell). is_recorded c.state.info core) (own_page d s n l is p h)
 
 -- the cores of a child's pages
-pub users_child : {A : Type 0} {level i : ℕ} {ss : List (Slot A)} (d : Slot A) (b : Box (Node A) A) (first end lo hi cores below more : ℕ) → IsNode level ss → i < 512 → Child b ≡ get_or ss i d
+pub users_child : {A : Type 0} {level i : ℕ} {ss : List (Slot A)} (d : Slot A) (b : Box (Node A) A) (first end lo hi cores below more : ℕ)
+    → IsNode level ss → i < 512 → Child b ≡ get_or ss i d
     → IsPart first end (i * width_of level) (width_of level) lo hi
     → ((core : ℕ) → members more core ≡ (members cores core || members below core))
     → ((core : ℕ) → (members below core ≡ true) ↔ HasUser (runs b.value) lo hi core)
     → Users (flatten (width_of level) (parts_of ss)) first end (i * width_of level) cores
     → Users (flatten (width_of level) (parts_of ss)) first end ((i + 1) * width_of level) more
 users_child {level = level} {i = i} {ss = ss} d b first end lo hi cores below more n l is part joined found u =
-    users_more (flatten (width_of level) (parts_of ss)) first end (i * width_of level) ((i + 1) * width_of level) cores more (λ core. members below core) u joined
+    users_more (flatten (width_of level) (parts_of ss)) first end (i * width_of level)
+    ((i + 1) * width_of level) cores more (λ core. members below core) u joined
     (λ core h. let w = (found core).0 h in
     let k : i * width_of level + w.0 - i * width_of level ≡ w.0 = omega arith in (
       i * width_of level + w.0,
       omega (arith, part.first_is, w.1),
       omega (arith, part.end_is, w.2),
-      at core (i * width_of level + w.0) (record { low = omega arith; high = omega (arith, part.end_is, w.2) }) ∙ ap (λ n. is_recorded (cell_at (runs b.value) n).state.info core) k ∙ w.3,
+      at core (i * width_of level + w.0)
+          (record { low = omega arith; high = omega (arith, part.end_is, w.2) })
+          ∙ ap (λ n. is_recorded (cell_at (runs b.value) n).state.info core) k ∙ w.3,
     ))
     (λ core p a m c e h. (found core).1 (p - i * width_of level, omega (arith, part.first_is), omega (arith, part.end_is), sym (at core p (record { low = c; high = omega arith })) ∙ h))
   where
-    at : (core p : ℕ) → IsOf level i p → is_recorded (cell_at (flatten (width_of level) (parts_of ss)) p).state.info core ≡ is_recorded (cell_at (runs b.value) (p - i * width_of level)).state.info core
+    at : (core p : ℕ) → IsOf level i p
+        → is_recorded (cell_at (flatten (width_of level) (parts_of ss)) p).state.info core ≡ is_recorded (cell_at (runs b.value) (p - i * width_of level)).state.info core
     at core p h = ap (λ (c : Cell). is_recorded c.state.info core) (child_page d b n l is p h)
 
-pub users_all : (rs : List Run) (first end upto cores : ℕ) → Users rs first end upto cores → end ≤ upto → (core : ℕ) → (members cores core ≡ true) ↔ HasUser rs first end core
-users_all rs first end upto cores u l core = (u.only core, λ w. u.all core w.0 w.1 w.2 (omega (arith, w.2)) w.3)
+pub users_all : (rs : List Run) (first end upto cores : ℕ) → Users rs first end upto cores
+    → end ≤ upto → (core : ℕ) → (members cores core ≡ true) ↔ HasUser rs first end core
+users_all rs first end upto cores u l core =
+    (u.only core, λ w. u.all core w.0 w.1 w.2 (omega (arith, w.2)) w.3)
 
 -- ---- free pages
 
@@ -265,7 +358,9 @@ pub record FreeTo (rs : List Run) (base first end n start open_at upto : ℕ) : 
 abbrev pub reach : ℕ → ℕ → ℕ → ℕ
 reach first end start = min end (max first start)
 
-pub free_first : (rs : List Run) (base first end n start upto : ℕ) → first < end → upto ≤ first → start ≤ base + first → base + first < start + n → FreeTo rs base first end n start start (reach first end upto)
+pub free_first : (rs : List Run) (base first end n start upto : ℕ) → first < end → upto ≤ first
+    → start ≤ base + first → base + first < start + n
+    → FreeTo rs base first end n start start (reach first end upto)
 free_first rs base first end n start upto some l by short = record {
   low = omega arith;
   by = omega arith;
@@ -278,100 +373,125 @@ none_is : (o : Option PageInfo) → is_some o ≡ false → o ≡ None
 none_is None e = refl
 none_is (Some info) e = cc
 
-pub free_mapped : {A : Type 0} {level i : ℕ} {ss : List (Slot A)} (d : Slot A) (s : SlotState) (base first end lo hi n start open_at : ℕ) → IsNode level ss → i < 512 → OwnSlot s ≡ get_or ss i d
-    → IsPart first end (i * width_of level) (width_of level) lo hi → lo < hi → is_some (state_of s).info ≡ true
+pub free_mapped : {A : Type 0} {level i : ℕ} {ss : List (Slot A)} (d : Slot A) (s : SlotState) (base first end lo hi n start open_at : ℕ)
+    → IsNode level ss → i < 512 → OwnSlot s ≡ get_or ss i d
+    → IsPart first end (i * width_of level) (width_of level) lo hi → lo < hi
+    → is_some (state_of s).info ≡ true
     → FreeTo (flatten (width_of level) (parts_of ss)) base first end n start open_at (i * width_of level + lo)
     → FreeTo (flatten (width_of level) (parts_of ss)) base first end n start (base + i * width_of level + hi) (i * width_of level + hi)
-free_mapped {level = level} {i = i} {ss = ss} d s base first end lo hi n start open_at nd l is part order mapped h = record {
-  low = omega (arith, h.low, h.by);
-  by = omega arith;
-  short = omega (arith, h.by, h.short);
-  free = λ p a b c. absurd (omega arith);
-  before = λ r a b. ⊎_elim
-      (λ (x : r < open_at). h.before r a x)
-      (λ (x : open_at ≤ r). ⊎_elim
-      (λ (y : r < base + (i * width_of level + lo)). blocked (i * width_of level + lo) r (omega arith) (omega arith) (omega arith) (omega (arith, h.short)))
-      (λ (y : base + (i * width_of level + lo) ≤ r). blocked (r - base) r (omega arith) (omega arith) (omega arith) (omega (arith, h.by, h.short)))
-      (cases_lt r (base + (i * width_of level + lo))))
-      (cases_lt r open_at);
-}
+free_mapped {level = level} {i = i} {ss = ss} d s base first end lo hi n start open_at nd l is part order mapped h =
+    record {
+      low = omega (arith, h.low, h.by);
+      by = omega arith;
+      short = omega (arith, h.by, h.short);
+      free = λ p a b c. absurd (omega arith);
+      before = λ r a b. ⊎_elim
+          (λ (x : r < open_at). h.before r a x)
+          (λ (x : open_at ≤ r). ⊎_elim
+          (λ (y : r < base + (i * width_of level + lo)). blocked (i * width_of level + lo) r (omega arith) (omega arith) (omega arith) (omega (arith, h.short)))
+          (λ (y : base + (i * width_of level + lo) ≤ r). blocked (r - base) r (omega arith) (omega arith) (omega arith) (omega (arith, h.by, h.short)))
+          (cases_lt r (base + (i * width_of level + lo))))
+          (cases_lt r open_at);
+    }
   where
-    blocked : (p r : ℕ) → i * width_of level + lo ≤ p → p < i * width_of level + hi → r ≤ base + p → base + p < r + n → Blocked (flatten (width_of level) (parts_of ss)) base first end n r
+    blocked : (p r : ℕ) → i * width_of level + lo ≤ p → p < i * width_of level + hi → r ≤ base + p
+        → base + p < r + n → Blocked (flatten (width_of level) (parts_of ss)) base first end n r
     blocked p r a b c e = (
       p,
       omega (arith, part.first_is),
       omega (arith, part.end_is),
       c,
       e,
-      ap (λ (c : Cell). is_some c.state.info) (own_page d s nd l is p (record { low = omega arith; high = omega (arith, part.end_is) })) ∙ mapped,
+      ap (λ (c : Cell). is_some c.state.info)
+          (own_page d s nd l is p (record { low = omega arith; high = omega (arith, part.end_is) }))
+          ∙ mapped,
     )
 
 -- a free slot's pages follow the free ones before it
-own_free : {A : Type 0} {level i : ℕ} {ss : List (Slot A)} (d : Slot A) (s : SlotState) (base first end lo hi n start open_at : ℕ) → IsNode level ss → i < 512 → OwnSlot s ≡ get_or ss i d
-    → IsPart first end (i * width_of level) (width_of level) lo hi → is_some (state_of s).info ≡ false
+own_free : {A : Type 0} {level i : ℕ} {ss : List (Slot A)} (d : Slot A) (s : SlotState) (base first end lo hi n start open_at : ℕ)
+    → IsNode level ss → i < 512 → OwnSlot s ≡ get_or ss i d
+    → IsPart first end (i * width_of level) (width_of level) lo hi
+    → is_some (state_of s).info ≡ false
     → FreeTo (flatten (width_of level) (parts_of ss)) base first end n start open_at (i * width_of level + lo)
-    → (p : ℕ) → first ≤ p → p < i * width_of level + hi → open_at ≤ base + p → (cell_at (flatten (width_of level) (parts_of ss)) p).state.info ≡ None
-own_free {level = level} {i = i} d s base first end lo hi n start open_at nd l is part none h p a b c = ⊎_elim
+    → (p : ℕ) → first ≤ p → p < i * width_of level + hi → open_at ≤ base + p
+    → (cell_at (flatten (width_of level) (parts_of ss)) p).state.info ≡ None
+own_free {level = level} {i = i} d s base first end lo hi n start open_at nd l is part none h p a b c =
+    ⊎_elim
     (λ (x : p < i * width_of level + lo). h.free p a x c)
     (λ (x : i * width_of level + lo ≤ p). ap (λ (c : Cell). c.state.info) (own_page d s nd l is p (record { low = omega arith; high = omega (arith, part.end_is) })) ∙ none_is _ none)
     (cases_lt p (i * width_of level + lo))
 
-pub free_on : {A : Type 0} {level i : ℕ} {ss : List (Slot A)} (d : Slot A) (s : SlotState) (base first end lo hi n start open_at : ℕ) → IsNode level ss → i < 512 → OwnSlot s ≡ get_or ss i d
-    → IsPart first end (i * width_of level) (width_of level) lo hi → lo < hi → is_some (state_of s).info ≡ false → base + i * width_of level + hi - open_at < n
+pub free_on : {A : Type 0} {level i : ℕ} {ss : List (Slot A)} (d : Slot A) (s : SlotState) (base first end lo hi n start open_at : ℕ)
+    → IsNode level ss → i < 512 → OwnSlot s ≡ get_or ss i d
+    → IsPart first end (i * width_of level) (width_of level) lo hi → lo < hi
+    → is_some (state_of s).info ≡ false → base + i * width_of level + hi - open_at < n
     → FreeTo (flatten (width_of level) (parts_of ss)) base first end n start open_at (i * width_of level + lo)
     → FreeTo (flatten (width_of level) (parts_of ss)) base first end n start open_at (i * width_of level + hi)
-free_on {level = level} {i = i} d s base first end lo hi n start open_at nd l is part order none few h = record {
-  low = h.low;
-  by = omega (arith, h.by);
-  short = omega (arith, h.by);
-  free = own_free d s base first end lo hi n start open_at nd l is part none h;
-  before = h.before;
-}
+free_on {level = level} {i = i} d s base first end lo hi n start open_at nd l is part order none few h =
+    record {
+      low = h.low;
+      by = omega (arith, h.by);
+      short = omega (arith, h.by);
+      free = own_free d s base first end lo hi n start open_at nd l is part none h;
+      before = h.before;
+    }
 
-pub free_found : {A : Type 0} {level i : ℕ} {ss : List (Slot A)} (d : Slot A) (s : SlotState) (base first end lo hi n start open_at : ℕ) → IsNode level ss → i < 512 → OwnSlot s ≡ get_or ss i d
-    → IsPart first end (i * width_of level) (width_of level) lo hi → is_some (state_of s).info ≡ false → n ≤ base + i * width_of level + hi - open_at
+pub free_found : {A : Type 0} {level i : ℕ} {ss : List (Slot A)} (d : Slot A) (s : SlotState) (base first end lo hi n start open_at : ℕ)
+    → IsNode level ss → i < 512 → OwnSlot s ≡ get_or ss i d
+    → IsPart first end (i * width_of level) (width_of level) lo hi
+    → is_some (state_of s).info ≡ false → n ≤ base + i * width_of level + hi - open_at
     → FreeTo (flatten (width_of level) (parts_of ss)) base first end n start open_at (i * width_of level + lo)
     → IsFree (flatten (width_of level) (parts_of ss)) base first end n start open_at
-free_found {level = level} {i = i} d s base first end lo hi n start open_at nd l is part none enough h = record {
-  low = h.low;
-  high = omega (arith, part.end_is, h.by, h.short);
-  free = λ p a b c e. own_free d s base first end lo hi n start open_at nd l is part none h p a (omega (arith, h.by, h.short)) c;
-  before = h.before;
-}
+free_found {level = level} {i = i} d s base first end lo hi n start open_at nd l is part none enough h =
+    record {
+      low = h.low;
+      high = omega (arith, part.end_is, h.by, h.short);
+      free = λ p a b c e. own_free d s base first end lo hi n start open_at nd l is part none h p a (omega (arith, h.by, h.short)) c;
+      before = h.before;
+    }
 
 -- what a child says of its pages
 record Child_says {A : Type 0} (level i : ℕ) (ss : List (Slot A)) (rs : List Run) (base first end lo hi n start open_at here : ℕ) : Type 0 where
-  pub free : (p : ℕ) → first ≤ p → p < i * width_of level + hi → here ≤ base + p → base + p < here + n → (cell_at (flatten (width_of level) (parts_of ss)) p).state.info ≡ None
-  pub before : (r : ℕ) → start ≤ r → r < here → Blocked (flatten (width_of level) (parts_of ss)) base first end n r
+  pub free : (p : ℕ) → first ≤ p → p < i * width_of level + hi → here ≤ base + p
+      → base + p < here + n → (cell_at (flatten (width_of level) (parts_of ss)) p).state.info ≡ None
+  pub before : (r : ℕ) → start ≤ r → r < here
+      → Blocked (flatten (width_of level) (parts_of ss)) base first end n r
 
-says : {A : Type 0} {level i : ℕ} {ss : List (Slot A)} (d : Slot A) (b : Box (Node A) A) (v : Parts) (base first end lo hi n start open_at here : ℕ) → IsNode level ss → i < 512 → Child b ≡ get_or ss i d
+says : {A : Type 0} {level i : ℕ} {ss : List (Slot A)} (d : Slot A) (b : Box (Node A) A) (v : Parts) (base first end lo hi n start open_at here : ℕ)
+    → IsNode level ss → i < 512 → Child b ≡ get_or ss i d
     → v ≡ b.value → IsPart first end (i * width_of level) (width_of level) lo hi → open_at ≤ here
     → ((q : ℕ) → lo ≤ q → q < hi → here ≤ base + i * width_of level + q → base + i * width_of level + q < here + n → (cell_at (runs v) q).state.info ≡ None)
     → ((r : ℕ) → open_at ≤ r → r < here → Blocked (runs v) (base + i * width_of level) lo hi n r)
     → FreeTo (flatten (width_of level) (parts_of ss)) base first end n start open_at (i * width_of level + lo)
     → Child_says level i ss (runs v) base first end lo hi n start open_at here
-says {level = level} {i = i} {ss = ss} d b v base first end lo hi n start open_at here nd l is same part up free before h = record {
-  free = λ p a e c f. ⊎_elim
-      (λ (x : p < i * width_of level + lo). h.free p a x (omega arith))
-      (λ (x : i * width_of level + lo ≤ p).
-      let k : i * width_of level + (p - i * width_of level) ≡ p = omega arith in
-      ap (λ n. (cell_at (flatten (width_of level) (parts_of ss)) n).state.info) (sym k)
-      ∙ ap (λ (c : Cell). c.state.info) (child_cell {q = p - i * width_of level} d b v nd l is same part (omega arith))
-      ∙ free (p - i * width_of level) (omega arith) (omega arith) (omega arith) (omega arith))
-      (cases_lt p (i * width_of level + lo));
-  before = λ r a e. ⊎_elim
-      (λ (x : r < open_at). h.before r a x)
-      (λ (x : open_at ≤ r). let w = before r x e in let m = lower part w.1 w.2 in
-      (i * width_of level + w.0, m.low, m.high, omega (arith, w.3), omega (arith, w.4), ap (λ (c : Cell). is_some c.state.info) (child_cell d b v nd l is same part w.2) ∙ w.5))
-      (cases_lt r open_at);
-}
+says {level = level} {i = i} {ss = ss} d b v base first end lo hi n start open_at here nd l is same part up free before h =
+    record {
+      free = λ p a e c f. ⊎_elim
+          (λ (x : p < i * width_of level + lo). h.free p a x (omega arith))
+          (λ (x : i * width_of level + lo ≤ p).
+          let k : i * width_of level + (p - i * width_of level) ≡ p = omega arith in
+          ap (λ n. (cell_at (flatten (width_of level) (parts_of ss)) n).state.info) (sym k)
+          ∙ ap (λ (c : Cell). c.state.info)
+          (child_cell {q = p - i * width_of level} d b v nd l is same part (omega arith))
+          ∙ free (p - i * width_of level) (omega arith) (omega arith) (omega arith) (omega arith))
+          (cases_lt p (i * width_of level + lo));
+      before = λ r a e. ⊎_elim
+          (λ (x : r < open_at). h.before r a x)
+          (λ (x : open_at ≤ r). let w = before r x e in let m = lower part w.1 w.2 in
+          (i * width_of level + w.0, m.low, m.high, omega (arith, w.3), omega (arith, w.4), ap (λ (c : Cell). is_some c.state.info) (child_cell d b v nd l is same part w.2) ∙ w.5))
+          (cases_lt r open_at);
+    }
 
-pub free_child : {A : Type 0} {level i : ℕ} {ss : List (Slot A)} (d : Slot A) (b : Box (Node A) A) (v : Parts) (base first end lo hi n start open_at here : ℕ) → IsNode level ss → i < 512 → Child b ≡ get_or ss i d
-    → v ≡ b.value → IsPart first end (i * width_of level) (width_of level) lo hi → IsOpen (runs v) (base + i * width_of level) lo hi n open_at here
+pub free_child : {A : Type 0} {level i : ℕ} {ss : List (Slot A)} (d : Slot A) (b : Box (Node A) A) (v : Parts) (base first end lo hi n start open_at here : ℕ)
+    → IsNode level ss → i < 512 → Child b ≡ get_or ss i d
+    → v ≡ b.value → IsPart first end (i * width_of level) (width_of level) lo hi
+    → IsOpen (runs v) (base + i * width_of level) lo hi n open_at here
     → FreeTo (flatten (width_of level) (parts_of ss)) base first end n start open_at (i * width_of level + lo)
     → FreeTo (flatten (width_of level) (parts_of ss)) base first end n start here (i * width_of level + hi)
 free_child {level = level} {i = i} d b v base first end lo hi n start open_at here nd l is same part o h =
-    let s = says d b v base first end lo hi n start open_at here nd l is same part o.low (λ q x y z _. o.free q x y z) o.before h in
+    let s =
+    says d b v base first end lo hi n start open_at here nd l is same part o.low
+    (λ q x y z _. o.free q x y z) o.before h in
     record {
       low = omega (arith, h.low, o.low);
       by = omega (arith, o.high);
@@ -380,12 +500,16 @@ free_child {level = level} {i = i} d b v base first end lo hi n start open_at he
       before = s.before;
     }
 
-pub free_found_below : {A : Type 0} {level i : ℕ} {ss : List (Slot A)} (d : Slot A) (b : Box (Node A) A) (v : Parts) (base first end lo hi n start open_at here : ℕ) → IsNode level ss → i < 512 → Child b ≡ get_or ss i d
-    → v ≡ b.value → IsPart first end (i * width_of level) (width_of level) lo hi → IsFree (runs v) (base + i * width_of level) lo hi n open_at here
+pub free_found_below : {A : Type 0} {level i : ℕ} {ss : List (Slot A)} (d : Slot A) (b : Box (Node A) A) (v : Parts) (base first end lo hi n start open_at here : ℕ)
+    → IsNode level ss → i < 512 → Child b ≡ get_or ss i d
+    → v ≡ b.value → IsPart first end (i * width_of level) (width_of level) lo hi
+    → IsFree (runs v) (base + i * width_of level) lo hi n open_at here
     → FreeTo (flatten (width_of level) (parts_of ss)) base first end n start open_at (i * width_of level + lo)
     → IsFree (flatten (width_of level) (parts_of ss)) base first end n start here
 free_found_below {level = level} {i = i} d b v base first end lo hi n start open_at here nd l is same part o h =
-    let s = says d b v base first end lo hi n start open_at here nd l is same part o.low o.free o.before h in
+    let s =
+    says d b v base first end lo hi n start open_at here nd l is same part o.low o.free o.before h
+    in
     record {
       low = omega (arith, h.low, o.low);
       high = omega (arith, o.high, part.end_is);
@@ -393,7 +517,9 @@ free_found_below {level = level} {i = i} d b v base first end lo hi n start open
       before = s.before;
     }
 
-pub free_open : (rs : List Run) (base first end n start open_at upto : ℕ) → FreeTo rs base first end n start open_at upto → upto ≡ end → IsOpen rs base first end n start open_at
+pub free_open : (rs : List Run) (base first end n start open_at upto : ℕ)
+    → FreeTo rs base first end n start open_at upto → upto ≡ end
+    → IsOpen rs base first end n start open_at
 free_open rs base first end n start open_at upto h e = record {
   low = h.low;
   high = omega (arith, h.by);
@@ -403,8 +529,17 @@ free_open rs base first end n start open_at upto h e = record {
 }
 
 -- how far the range is seen before and after a slot
-pub reach_low : {first end start width lo hi : ℕ} → IsPart first end start width lo hi → first < end → start < end → reach first end start ≡ start + lo
+pub reach_low : {first end start width lo hi : ℕ} → IsPart first end start width lo hi → first < end
+    → start < end → reach first end start ≡ start + lo
 reach_low h some low = omega (arith, h.first_is)
 
-pub reach_high : {first end start width lo hi next : ℕ} → IsPart first end start width lo hi → first < start + width → next ≡ start + width → start + hi ≡ reach first end next
+pub reach_high : {first end start width lo hi next : ℕ} → IsPart first end start width lo hi
+    → first < start + width → next ≡ start + width → start + hi ≡ reach first end next
 reach_high h past e = omega (arith, h.end_is)
+
+pub free_before : {rs : List Run} {base first end width start lo hi n from open_at : ℕ}
+    → IsPart first end start width lo hi → first < end → start < end
+    → FreeTo rs base first end n from open_at (reach first end start)
+    → FreeTo rs base first end n from open_at (start + lo)
+free_before {rs} {base} {first} {end} {n = n} {from = from} {open_at = open_at} part some low h =
+    subst (λ u. FreeTo rs base first end n from open_at u) (reach_low part some low) h

@@ -19,7 +19,8 @@ edited edit n s = record { info = edited_info edit n s.info; owner = s.owner }
 
 -- the slot of a page after a change of a range that begins so many pages before the page
 abbrev pub edited_cell : Edit → ℕ → Cell → Cell
-edited_cell edit n c = record { state = edited edit (n - c.offset) c.state; offset = c.offset; width = c.width }
+edited_cell edit n c =
+    record { state = edited edit (n - c.offset) c.state; offset = c.offset; width = c.width }
 
 -- the change can be made of a range of so many pages
 abbrev pub CanEdit : Edit → ℕ → Type 0

@@ -36,7 +36,8 @@ cell_at (r ∷ rs) page =
 -- the runs, with others in place of the one that has the page
 abbrev pub with_run : (Run → List Run) → List Run → ℕ → List Run
 with_run f [] page = []
-with_run f (r ∷ rs) page = if nat_lt page r.width then f r ++ rs else r ∷ with_run f rs (page - r.width)
+with_run f (r ∷ rs) page =
+    if nat_lt page r.width then f r ++ rs else r ∷ with_run f rs (page - r.width)
 
 -- the run in another state
 abbrev pub in_state : State → Run → List Run
@@ -56,7 +57,8 @@ in_parts r = divided (r.width / 512) r.state
 
 -- 512 slots of w pages carry on what one slot says
 abbrev pub IsCarried : ℕ → State → List Run → Type 0
-IsCarried w s rs = (k : ℕ) → k < 512 → cell_at rs (k * w) ≡ record { state = state_from s (k * w); offset = 0; width = w }
+IsCarried w s rs =
+    (k : ℕ) → k < 512 → cell_at rs (k * w) ≡ record { state = state_from s (k * w); offset = 0; width = w }
 
 -- 512 plain slots that carry on what their first says were joined to one
 pub record Folds (old new : List Run) (page : ℕ) : Type 0 where
@@ -73,7 +75,10 @@ pub record CanJoin (level : ℕ) (rs : List Run) (page : ℕ) : Type 0 where
   pub before : ℕ
   pub from : before * width_of (own_level + 1) ≤ page
   pub until : page < before * width_of (own_level + 1) + width_of (own_level + 1)
-  pub slots : (k : ℕ) → k < 512 → cell_at rs (before * width_of (own_level + 1) + k * width_of own_level) ≡ record { state = state_from state (k * width_of own_level); offset = 0; width = width_of own_level }
+  pub slots : (k : ℕ) → k < 512
+      → cell_at rs (before * width_of (own_level + 1) + k * width_of own_level)
+      ≡ record
+      { state = state_from state (k * width_of own_level); offset = 0; width = width_of own_level }
 
 -- ---- what holds of each slot
 
@@ -84,7 +89,8 @@ pub record IsSound (width : ℕ) (s : State) : Type 0 where
 
 -- the level whose slots have so many pages
 abbrev pub level_of : ℕ → ℕ
-level_of width = if width == 1 then 0 else (if width == 512 then 1 else (if width == 2 ^ 18 then 2 else 3))
+level_of width =
+    if width == 1 then 0 else (if width == 512 then 1 else (if width == 2 ^ 18 then 2 else 3))
 
 -- the slot that has the page is one of a level up to this one, and begins at a multiple of its pages
 pub record IsCell (level page : ℕ) (c : Cell) : Type 0 where

@@ -25,13 +25,16 @@ pub record IsFirstFramed (rs : List Run) (first end page frame : ℕ) : Type 0 w
 
 -- the core is recorded on a page from first up to end
 abbrev pub HasUser : List Run → ℕ → ℕ → ℕ → Type 0
-HasUser rs first end core = (p : ℕ) × (first ≤ p) × (p < end) × (is_recorded (cell_at rs p).state.info core ≡ true)
+HasUser rs first end core =
+    (p : ℕ) × (first ≤ p) × (p < end) × (is_recorded (cell_at rs p).state.info core ≡ true)
 
 -- ---- free pages, where the node's pages are counted from the base on
 
 -- a mapped page from first up to end keeps n pages from being free that begin at r
 abbrev pub Blocked : List Run → ℕ → ℕ → ℕ → ℕ → ℕ → Type 0
-Blocked rs base first end n r = (p : ℕ) × (first ≤ p) × (p < end) × (r ≤ base + p) × (base + p < r + n) × (is_some (cell_at rs p).state.info ≡ true)
+Blocked rs base first end n r =
+    (p : ℕ) × (first ≤ p) × (p < end) × (r ≤ base + p) × (base + p < r + n) ×
+    (is_some (cell_at rs p).state.info ≡ true)
 
 -- the pages from here on are free, and too few; from start up to here no n free pages begin
 pub record IsOpen (rs : List Run) (base first end n start here : ℕ) : Type 0 where
@@ -45,7 +48,8 @@ pub record IsOpen (rs : List Run) (base first end n start here : ℕ) : Type 0 w
 pub record IsFree (rs : List Run) (base first end n start here : ℕ) : Type 0 where
   pub low : start ≤ here
   pub high : here + n ≤ base + end
-  pub free : (p : ℕ) → first ≤ p → p < end → here ≤ base + p → base + p < here + n → (cell_at rs p).state.info ≡ None
+  pub free : (p : ℕ) → first ≤ p → p < end → here ≤ base + p → base + p < here + n
+      → (cell_at rs p).state.info ≡ None
   pub before : (r : ℕ) → start ≤ r → r < here → Blocked rs base first end n r
 
 abbrev pub Finds : List Run → ℕ → ℕ → ℕ → ℕ → ℕ → FreeRun → Type 0

@@ -5,7 +5,7 @@ ghost use Rattle.radix_node.specs.Node.{runs};
 ghost use Rattle.radix_node.specs.Edit.{CanEdit, edited_cell};
 
 use crate::node::{Node, Slot};
-use crate::place::{part_in, slot_pages, slots_of};
+use crate::place::{part_in, place_of, slot_pages, slots_of};
 use std::alloc::Allocator;
 use vm_base::{PageInfo, Prot};
 
@@ -36,6 +36,13 @@ impl<A: Allocator> Node<A> {
         ensures outside { (p : ℕ) → (p < first) ⊎ (end ≤ p) → cell_at (runs self.new) p ≡ cell_at (runs self.old) p }
     {
         let width = slot_pages(self.level);
+        let place = place_of(self.level, first);
+        if end - first <= width - place.rest {
+            return match &mut self.slots[place.slot] {
+                Slot::Own(state) => state.edit(edit, by),
+                Slot::Child(node) => node.edit(place.rest, place.rest + (end - first), edit, by),
+            };
+        }
         let slots = slots_of(self.level, first, end);
         'slots: for k in slots.from..slots.to {
             let start = k as u64 * width;

@@ -2,15 +2,14 @@
 #![tactic(auto)]
 
 pub mod edit;
+pub mod lock;
 pub mod node;
 pub mod place;
 pub mod state;
 pub mod walk;
 
 pub use edit::Edit;
+pub use lock::Lock;
 pub use node::{Found, Node, Slot};
 pub use state::{Kind, SlotState};
 pub use walk::FreeRun;
-
-#[cfg(test)]
-mod tests;

@@ -84,14 +84,23 @@ impl<A: Allocator> Node<A> {
         ensures offset { result.offset ≡ (cell_at (runs self.now) page).offset }
         ensures width { result.width ≡ (cell_at (runs self.now) page).width }
     {
-        let place = place_of(self.level, page);
-        match &self.slots[place.slot] {
-            Slot::Own(state) => Found {
-                state,
-                offset: place.rest,
-                width: slot_pages(self.level),
-            },
-            Slot::Child(node) => node.descend(place.rest),
+        let mut node = self;
+        let mut rest = page;
+        'levels: loop {
+            let place = place_of(node.level, rest);
+            match &node.slots[place.slot] {
+                Slot::Own(state) => {
+                    return Found {
+                        state,
+                        offset: place.rest,
+                        width: slot_pages(node.level),
+                    };
+                }
+                Slot::Child(below) => {
+                    node = below;
+                    rest = place.rest;
+                }
+            }
         }
     }
 

@@ -6,8 +6,7 @@ ghost use Rattle.radix_node.specs.Edit.{CanEdit, edited};
 ghost use Rattle.radix_node.specs.State.{back_of, frame_in, state_of, state_from, IsPlain};
 
 use crate::edit::Edit;
-use vm_base::info::info_from;
-use vm_base::{Back, CoreId, CoreSet, Meta, PageInfo, Prot};
+use vm_base::{Back, CoreId, CoreSet, Meta, PageInfo, Prot, goes_on, info_from, is_leaf};
 
 /// What backs the pages of a slot.
 #[derive(Clone, Copy, Debug)]
@@ -229,13 +228,7 @@ impl SlotState {
     pub fn is_plain(&self) -> bool
         ensures { IsTrue result ↔ IsPlain (state_of self.now) }
     {
-        if self.owner.is_some() {
-            return false;
-        }
-        match self.info() {
-            None => true,
-            Some(info) => !is_used(&info),
-        }
+        self.owner.is_none() && !is_leaf(self.info())
     }
 
     /// Tells whether two slots that nobody holds, without frame and recorded core, are such that the second's pages go
@@ -245,36 +238,6 @@ impl SlotState {
         requires plain { IsPlain (state_of self.now) }
         ensures { IsTrue result ↔ (state_of next.now ≡ state_from (state_of self.now) by) }
     {
-        if !next.is_plain() {
-            return false;
-        }
-        goes_on(self.info(), next.info(), by)
-    }
-}
-
-// Tells whether the page has a frame or a recorded core.
-fn is_used(info: &PageInfo) -> bool
-    ensures { IsTrue result ↔ (is_leaf (Some info.now) ≡ true) }
-{
-    info.frame.is_some() || !info.cores.is_empty()
-}
-
-fn is_same(meta: Meta, other: Meta) -> bool
-    ensures { IsTrue result ↔ (meta ≡ other) }
-{
-    meta == other
-}
-
-// Tells whether what pages have goes on `by` pages later, where neither has a frame or a recorded core.
-fn goes_on(info: Option<PageInfo>, next: Option<PageInfo>, by: u64) -> bool
-    requires fits { info_file_page info + by < 2 ^ 64 }
-    requires no_leaf { is_leaf info ≡ false }
-    requires next_no_leaf { is_leaf next ≡ false }
-    ensures { IsTrue result ↔ (next ≡ info_from info by) }
-{
-    match (info, next) {
-        (None, None) => true,
-        (Some(info), Some(next)) => is_same(info.meta.advanced(by), next.meta),
-        _ => false,
+        next.is_plain() && goes_on(self.info(), next.info(), by)
     }
 }

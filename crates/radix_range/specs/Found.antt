@@ -31,7 +31,8 @@ in_512 slot at p = (p - slot.first) % ((slot.end - slot.first) / 512) == 0
 
 -- the pages of the range after a change, and all else as it is
 abbrev pub edited_to : Slots → PageRange → Edit → Slots
-edited_to s range edit = record s { info = across s.info (has range) (λ p. edited_info edit (p - range.first) (s.info p)) }
+edited_to s range edit =
+    record s { info = across s.info (has range) (λ p. edited_info edit (p - range.first) (s.info p)) }
 
 -- the page is the first from a page on with a frame
 pub record IsFirstFrame (s : Slots) (from end page frame : ℕ) : Type 0 where

@@ -1,5 +1,6 @@
 pub mod Tree
 pub mod Found
+pub mod Locking
 pub mod Folds
 pub mod Cells
 pub mod TreeLaws

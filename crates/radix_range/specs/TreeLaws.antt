@@ -24,7 +24,8 @@ pages_are v ok = ap (λ n. 512 * width_of n) ok.top ∙ top_pages
     top_pages : 512 * width_of 3 ≡ 2 ^ 36
     top_pages = refl
 
-pub cell_ok : (v : Parts) → IsRadix v → (page : ℕ) → page < 2 ^ 36 → IsCell v.level page (cell_at (runs v) page)
+pub cell_ok : (v : Parts) → IsRadix v → (page : ℕ) → page < 2 ^ 36
+    → IsCell v.level page (cell_at (runs v) page)
 cell_ok v ok page h = let n = pages_are v ok in ok.whole.cells page (omega arith)
 
 -- ---- the slot of a page
@@ -32,20 +33,25 @@ cell_ok v ok page h = let n = pages_are v ok in ok.whole.cells page (omega arith
 edge_zero : (c : Cell) → c.offset ≡ 0 → (c.offset == 0) ≡ true
 edge_zero c h = same_test _ _ h
 
-pub is_slot : (rs : List Run) (page : ℕ) → IsSlot (slots_of rs) (start_of rs page) (start_of rs page + (cell_at rs page).width)
+pub is_slot : (rs : List Run) (page : ℕ)
+    → IsSlot (slots_of rs) (start_of rs page) (start_of rs page + (cell_at rs page).width)
 is_slot rs page =
     let c = cell_in rs page in
     let first = cell_earlier rs page (cell_at rs page).offset (omega arith) in
-    let zero : (cell_at rs (start_of rs page)).offset ≡ 0 = ap (λ (c : Cell). c.offset) first ∙ none (cell_at rs page).offset in
-    let wide : (cell_at rs (start_of rs page)).width ≡ (cell_at rs page).width = ap (λ (c : Cell). c.width) first in
+    let zero : (cell_at rs (start_of rs page)).offset ≡ 0 =
+    ap (λ (c : Cell). c.offset) first ∙ none (cell_at rs page).offset in
+    let wide : (cell_at rs (start_of rs page)).width ≡ (cell_at rs page).width =
+    ap (λ (c : Cell). c.width) first in
     record {
       ordered = omega (arith, c.high);
       begins = same_test _ _ zero;
       ends = same_test _ _ (cell_after rs page);
       inside = λ p a b.
           let n : start_of rs page + (p - start_of rs page) ≡ p = omega arith in
-          let later = cell_later rs (start_of rs page) (p - start_of rs page) (omega (arith, zero, wide)) in
-          let is : (cell_at rs p).offset ≡ (cell_at rs (start_of rs page)).offset + (p - start_of rs page) = ap (λ m. (cell_at rs m).offset) (sym n) ∙ ap (λ (c : Cell). c.offset) later in
+          let later =
+          cell_later rs (start_of rs page) (p - start_of rs page) (omega (arith, zero, wide)) in
+          let is : (cell_at rs p).offset ≡ (cell_at rs (start_of rs page)).offset + (p - start_of rs page) =
+          ap (λ m. (cell_at rs m).offset) (sym n) ∙ ap (λ (c : Cell). c.offset) later in
           other_test _ _ (omega (arith, zero));
     }
   where
@@ -53,25 +59,36 @@ is_slot rs page =
     none n = omega arith
 
 -- a page of the slot
-pub cell_of : (rs : List Run) (page p : ℕ) → start_of rs page ≤ p → p < start_of rs page + (cell_at rs page).width → cell_at rs p ≡ moved (cell_at rs page) (p - start_of rs page)
+pub cell_of : (rs : List Run) (page p : ℕ) → start_of rs page ≤ p
+    → p < start_of rs page + (cell_at rs page).width
+    → cell_at rs p ≡ moved (cell_at rs page) (p - start_of rs page)
 cell_of rs page p a b =
     let c = cell_in rs page in
     let first = cell_earlier rs page (cell_at rs page).offset (omega arith) in
     let n : start_of rs page + (p - start_of rs page) ≡ p = omega arith in
-    let zero : (cell_at rs (start_of rs page)).offset ≡ 0 = ap (λ (c : Cell). c.offset) first ∙ none (cell_at rs page).offset in
-    let wide : (cell_at rs (start_of rs page)).width ≡ (cell_at rs page).width = ap (λ (c : Cell). c.width) first in
-    let later = cell_later rs (start_of rs page) (p - start_of rs page) (omega (arith, zero, wide)) in
-    let sum : (cell_at rs (start_of rs page)).offset + (p - start_of rs page) ≡ p - start_of rs page = omega (arith, zero) in
-    ap (cell_at rs) (sym n) ∙ later ∙ ap (λ (c : Cell). moved c ((cell_at rs (start_of rs page)).offset + (p - start_of rs page))) first ∙ ap (moved (cell_at rs page)) sum
+    let zero : (cell_at rs (start_of rs page)).offset ≡ 0 =
+    ap (λ (c : Cell). c.offset) first ∙ none (cell_at rs page).offset in
+    let wide : (cell_at rs (start_of rs page)).width ≡ (cell_at rs page).width =
+    ap (λ (c : Cell). c.width) first in
+    let later =
+    cell_later rs (start_of rs page) (p - start_of rs page) (omega (arith, zero, wide)) in
+    let sum : (cell_at rs (start_of rs page)).offset + (p - start_of rs page) ≡ p - start_of rs page =
+    omega (arith, zero) in
+    ap (cell_at rs) (sym n) ∙ later
+    ∙ ap (λ (c : Cell). moved c ((cell_at rs (start_of rs page)).offset + (p - start_of rs page)))
+    first
+    ∙ ap (moved (cell_at rs page)) sum
   where
     none : (n : ℕ) → n - n ≡ 0
     none n = omega arith
 
-pub is_found : (v : Parts) → IsRadix v → (page : ℕ) → page < 2 ^ 36 → IsFound (tree_slots v) page (start_of (runs v) page) (start_of (runs v) page + (cell_at (runs v) page).width) (cell_at (runs v) page).state
+pub is_found : (v : Parts) → IsRadix v → (page : ℕ) → page < 2 ^ 36
+    → IsFound (tree_slots v) page (start_of (runs v) page) (start_of (runs v) page + (cell_at (runs v) page).width) (cell_at (runs v) page).state
 is_found v ok page h =
     let rs = runs v in
     let c = cell_in rs page in
-    let n : start_of rs page + (cell_at rs page).width - start_of rs page ≡ (cell_at rs page).width = omega arith in
+    let n : start_of rs page + (cell_at rs page).width - start_of rs page ≡ (cell_at rs page).width =
+    omega arith in
     record {
       slot = is_slot rs page;
       low = omega (arith, c.low);
@@ -84,7 +101,8 @@ is_found v ok page h =
 -- ---- the laws
 
 -- the page before one that begins no slot is in the same slot
-before_is : (rs : List Run) (p : ℕ) → (slots_of rs).edge (p + 1) ≡ false → cell_at rs p ≡ moved (cell_at rs (p + 1)) ((cell_at rs (p + 1)).offset - 1)
+before_is : (rs : List Run) (p : ℕ) → (slots_of rs).edge (p + 1) ≡ false
+    → cell_at rs p ≡ moved (cell_at rs (p + 1)) ((cell_at rs (p + 1)).offset - 1)
 before_is rs p h =
     let o = from_other_test _ _ h in
     let k : p + 1 - 1 ≡ p = omega arith in
@@ -97,20 +115,27 @@ limit_edge c h =
     let low = h.low in
     let w : c.width ≡ 2 ^ (9 * l) = h.width_is in
     let e : 35 ≡ 35 - 9 * l + 9 * l = omega arith in
-    let split : 2 ^ 35 ≡ 2 ^ (35 - 9 * l) * 2 ^ (9 * l) = ap (λ n. 2 ^ n) e ∙ pow-add 2 (35 - 9 * l) (9 * l) in
-    let other : 2 ^ (35 - 9 * l) * c.width + 0 ≡ 2 ^ 35 / c.width * c.width + c.offset = add_zero (2 ^ (35 - 9 * l) * c.width) ∙ ap (λ n. 2 ^ (35 - 9 * l) * n) w ∙ sym split ∙ h.place in
-    sym (mod-mul-add (2 ^ 35 / c.width) c.width c.offset h.within) ∙ ap (λ n. n % c.width) (sym other) ∙ mod-mul-add (2 ^ (35 - 9 * l)) c.width 0 (omega (arith, h.within))
+    let split : 2 ^ 35 ≡ 2 ^ (35 - 9 * l) * 2 ^ (9 * l) =
+    ap (λ n. 2 ^ n) e ∙ pow-add 2 (35 - 9 * l) (9 * l) in
+    let other : 2 ^ (35 - 9 * l) * c.width + 0 ≡ 2 ^ 35 / c.width * c.width + c.offset =
+    add_zero (2 ^ (35 - 9 * l) * c.width) ∙ ap (λ n. 2 ^ (35 - 9 * l) * n) w ∙ sym split
+    ∙ h.place in
+    sym (mod-mul-add (2 ^ 35 / c.width) c.width c.offset h.within)
+    ∙ ap (λ n. n % c.width) (sym other)
+    ∙ mod-mul-add (2 ^ (35 - 9 * l)) c.width 0 (omega (arith, h.within))
   where
     add_zero : (n : ℕ) → n + 0 ≡ n
     add_zero n = omega arith
 
-back_from : (b : Back) (n m : ℕ) → n < m → file_page b + m ≤ 2 ^ 36 → file_page (advance_back b n) < 2 ^ 36
+back_from : (b : Back) (n m : ℕ) → n < m → file_page b + m ≤ 2 ^ 36
+    → file_page (advance_back b n) < 2 ^ 36
 back_from Anon n m l h = omega arith
 back_from (Shared f k) n m l h = omega arith
 back_from (Private f k) n m l h = omega arith
 
 -- a page of a slot that fits
-fits_from : (o : Option PageInfo) (n m : ℕ) → n < m → info_file_page o + m ≤ 2 ^ 36 → info_file_page (info_from o n) < 2 ^ 36
+fits_from : (o : Option PageInfo) (n m : ℕ) → n < m → info_file_page o + m ≤ 2 ^ 36
+    → info_file_page (info_from o n) < 2 ^ 36
 fits_from None n m l h = omega arith
 fits_from (Some info) n m l h = back_from info.meta.back n m l h
 
@@ -140,17 +165,25 @@ tree-is_slot_map v ok = record {
     past : (p : ℕ) → 2 ^ 36 ≤ p → cell_at rs p ≡ record { state = no_state; offset = 0; width = 1 }
     past p l = let n = pages_are v ok in cell_at-past rs p (omega (arith, ok.whole.pages_are))
 
-    on : (p : ℕ) → (tree_slots v).edge (p + 1) ≡ false → (tree_slots v).info (p + 1) ≡ info_from ((tree_slots v).info p) 1
+    on : (p : ℕ) → (tree_slots v).edge (p + 1) ≡ false
+        → (tree_slots v).info (p + 1) ≡ info_from ((tree_slots v).info p) 1
     on p h =
         let o = from_other_test _ _ h in
         let c : Cell = cell_at rs (p + 1) in
         let k : c.offset ≡ c.offset - 1 + 1 = omega arith in
-        ap (info_from c.state.info) k ∙ sym (info_from_twice c.state.info (c.offset - 1) 1) ∙ ap (λ (c : Cell). info_from (info_from c.state.info c.offset) 1) (sym (before_is rs p h))
+        ap (info_from c.state.info) k ∙ sym (info_from_twice c.state.info (c.offset - 1) 1)
+        ∙ ap (λ (c : Cell). info_from (info_from c.state.info c.offset) 1) (sym (before_is rs p h))
 
-    alone : (p : ℕ) → p < 2 ^ 36 → is_leaf ((tree_slots v).info p) ≡ true → ((tree_slots v).edge p ≡ true) × ((tree_slots v).edge (p + 1) ≡ true)
+    alone : (p : ℕ) → p < 2 ^ 36 → is_leaf ((tree_slots v).info p) ≡ true
+        → ((tree_slots v).edge p ≡ true) × ((tree_slots v).edge (p + 1) ≡ true)
     alone p l h =
         let c = cell_ok v ok p l in
-        let one = c.sound.alone (sym (is_leaf-info_from (cell_at rs p).state.info (cell_at rs p).offset) ∙ h) in
+        let one =
+        c.sound.alone (sym (is_leaf-info_from (cell_at rs p).state.info (cell_at rs p).offset) ∙ h)
+        in
         let zero : (cell_at rs p).offset ≡ 0 = omega (arith, c.within) in
-        let next : p - (cell_at rs p).offset + (cell_at rs p).width ≡ p + 1 = omega arith in
-        (same_test _ _ zero, same_test _ _ (ap (λ n. (cell_at rs n).offset) (sym next) ∙ cell_after rs p))
+        let next : p - (cell_at rs p).offset + (cell_at rs p).width ≡ p + 1 = omega arith in (
+          same_test _ _ zero,
+          same_test _ _
+              (ap (λ n. (cell_at rs n).offset) (sym next) ∙ cell_after rs p),
+        )

@@ -9,9 +9,10 @@ ghost use Rattle.radix_node.specs.Edit.{CanEdit};
 ghost use Rattle.radix_range.specs.Tree.{IsRadix, tree_slots};
 ghost use Rattle.radix_range.specs.Folds.{CanFold, FoldsNode};
 ghost use Rattle.radix_range.specs.Found.{in_512, edited_to};
+ghost use Rattle.radix_range.specs.Locking.{Tries};
 
 use radix_node::place::slot_pages;
-use radix_node::{Edit, Node};
+use radix_node::{Edit, Lock, Node};
 use slot_lock::Change;
 use std::alloc::Allocator;
 use vm_base::{CoreId, NoMemory, PageInfo, PageRange};
@@ -27,6 +28,18 @@ pub fn expand<A: Allocator + Clone>(root: &mut Node<A>, page: u64) -> Result<(),
     ensures err { OnErr result (root.new ≡ root.old) }
 {
     root.expand_at(page)
+}
+
+/// Locks the slot that has the cursor for the core, in one walk, where nobody holds it, and it begins at the cursor and ends
+/// by `end`. Else nothing changes.
+pub fn lock<A: Allocator>(root: &mut Node<A>, core: CoreId, cursor: u64, end: u64) -> Lock
+    requires tree { IsRadix root.old }
+    requires ordered { cursor < end }
+    requires valid { (1 ≤ cursor) × (end ≤ 2 ^ 35) }
+    ensures tree { IsRadix root.new }
+    ensures tries { Tries (tree_slots root.old) (tree_slots root.new) core cursor end result }
+{
+    root.lock_at(cursor, end - cursor, core)
 }
 
 /// Gives the slot that begins at the page another owner, and answers its end.

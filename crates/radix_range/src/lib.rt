@@ -9,4 +9,8 @@ pub mod walk;
 pub use radix_map::RadixMap;
 
 #[cfg(test)]
+mod node_tests;
+#[cfg(test)]
+mod slot_tests;
+#[cfg(test)]
 mod tests;

@@ -4,7 +4,7 @@ ghost use Rattle.radix_range.specs.Tree.{IsRadix};
 
 use crate::slot::slot_at;
 use crate::{change, walk};
-use radix_node::Node;
+use radix_node::{Lock, Node};
 use slot_lock::{Change, Fit, Got, SlotMap, SlotRead};
 use std::alloc::Allocator;
 use vm_base::info::info_from;
@@ -89,22 +89,18 @@ impl<A: Allocator + Clone> SlotMap for RadixMap<A> {
     }
 
     fn lock_next(&mut self, core: CoreId, cursor: u64, end: u64) -> Result<Got, NoMemory> {
-        let slot = slot_at(&self.root, cursor);
-        let first = slot.first;
-        let slot_end = slot.end;
-        if let Some(owner) = slot.state.owner() {
-            return Ok(Got::Held(owner));
+        match change::lock(&mut self.root, core, cursor, end) {
+            Lock::Held(owner) => Ok(Got::Held(owner)),
+            Lock::Before => {
+                change::expand(&mut self.root, cursor)?;
+                Ok(Got::Split)
+            }
+            Lock::Beyond => {
+                change::expand(&mut self.root, end)?;
+                Ok(Got::Split)
+            }
+            Lock::Locked(width) => Ok(Got::Locked(cursor + width)),
         }
-        if first < cursor {
-            change::expand(&mut self.root, cursor)?;
-            return Ok(Got::Split);
-        }
-        if end < slot_end {
-            change::expand(&mut self.root, end)?;
-            return Ok(Got::Split);
-        }
-        change::set_owner(&mut self.root, cursor, Some(core));
-        Ok(Got::Locked(slot_end))
     }
 
     fn cut_next(&mut self, core: CoreId, range: PageRange) -> Result<Fit, NoMemory> {

@@ -9,7 +9,7 @@ use Rattle.refcache.specs.declared.reports.Review.TheVariants as review
 use Rattle.vm_base.specs.Functions.{put}
 use Rattle.vm_base.proofs.Functions.{by_test, eq_true, put_all, put_same, put_other}
 use Rattle.refcache.specs.Sums.{sum_below}
-use Rattle.refcache.specs.Counts.{Counts, opening, delta_of, true_count, enqueued, unqueued, drained, evicted, added}
+use Rattle.refcache.specs.Counts.{Counts, no_counts, delta_of, true_count, enqueued, unqueued, drained, evicted, added}
 use Rattle.refcache.specs.Pieces.{IsCount}
 use Rattle.refcache.specs.Laws.{change}
 use Rattle.refcache.specs.Steps.{Step, Begin, Inc, Dec, Flushing, Reviewing, Takes, MakesRoom, HasEntry, IsDelta, Flushes, Reviews}
@@ -64,7 +64,7 @@ row_some n row o d lt small own f = record {
     go p q hp hq s (inr a) (inl b) = own p (was p a hp) (s ∙ ap (λ z. z % 64) b) ∙ sym b
     go p q hp hq s (inr a) (inr b) = f.alone p q (was p a hp) (was q b hq) s
 
-held_open : (n m : ℕ) → Held (opening n m)
+held_open : (n m : ℕ) → Held (no_counts n m)
 held_open n m = record { rows = λ c. row_empty m; queues = λ c. tt }
 
 held_enqueued : (c o : ℕ) (v : Counts) → o < v.objects → Held v → Held (enqueued c o v)
@@ -172,7 +172,7 @@ held v (Dec c p) w h f = subst Held (sym h.4) (held_room v c p (negsuc 0) h.2 h.
 held v (Flushing c r) w h f = held_flush v c r w h.1 f
 held v (Reviewing c r) w h f = held_review v c r w h.1 f
 
-pub open_held : (n m : ℕ) → Held (opening n m)
+pub open_held : (n m : ℕ) → Held (no_counts n m)
 open_held = held_open
 
 -- true counts
@@ -185,7 +185,7 @@ Counted v = (o : ℕ) → InRange (true_count v o)
 stays : (z : ℤ) → InRange z → InRange (z +ℤ pos 0)
 stays z h = let a = h.0 in let b = h.1 in (omega (arith, ints, a, b), omega (arith, ints, a, b))
 
-pub counted_open : (n m : ℕ) → Counted (opening n m)
+pub counted_open : (n m : ℕ) → Counted (no_counts n m)
 counted_open n m o =
     let s : sum_below n (λ c. pos 0) ≡ pos 0 = sum_zero n (λ c. pos 0) (λ c _. refl) in
     (omega (arith, ints, s), omega (arith, ints, s))

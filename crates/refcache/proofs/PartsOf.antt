@@ -6,7 +6,7 @@ use Rattle.std.proofs.lemmas.List.{get_or-set_same, get_or-set_other, length-set
 use Rattle.refcache.specs.declared.object_count.ObjectCount.{ObjectCount}
 use Rattle.refcache.specs.declared.reports.Queued.{Queued}
 use Rattle.vm_base.specs.Functions.{put}
-use Rattle.refcache.specs.Counts.{Counts, opening, drained, soiled, enqueued, unqueued, noticed, evicted, added, begun}
+use Rattle.refcache.specs.Counts.{Counts, no_counts, drained, soiled, enqueued, unqueued, noticed, evicted, added, begun}
 use Rattle.refcache.specs.Places.{entries, if_its}
 use Rattle.refcache.specs.Pieces.{Core, EvictsInto, IsFront, ReviewsPiece, IsNewCore, IsNewCount}
 use Rattle.std.specs.List.{All}
@@ -278,9 +278,9 @@ way_cleared p c o by q new way e = way_without (core_at p.cores c).places o by q
 
 -- the counts of the pieces as they are made
 pub whole_opened : (objects : List ObjectCount) (cores : List Core) (n m room : ℕ) → length objects ≡ m → All IsNewCount objects → length cores ≡ n → All (IsNewCore room) cores
-    → counts_of (record { objects = objects; cores = cores; epochs = record { cores = n; number = 0; flushed = 0 } }) ≡ opening n m
+    → counts_of (record { objects = objects; cores = cores; epochs = record { cores = n; number = 0; flushed = 0 } }) ≡ no_counts n m
 whole_opened objects cores n m room count zeros few new =
-    same_counts (counts_of (record { objects = objects; cores = cores; epochs = record { cores = n; number = 0; flushed = 0 } })) (opening n m) few count refl
+    same_counts (counts_of (record { objects = objects; cores = cores; epochs = record { cores = n; number = 0; flushed = 0 } })) (no_counts n m) few count refl
     (fun_ext (λ o. ap (λ z. z.global) (object o))) (fun_ext (λ o. ap (λ z. z.is_queued) (object o))) (fun_ext (λ o. ap (λ z. z.is_dirty) (object o)))
     (fun_ext (λ c. (core c).0)) (fun_ext (λ c. (core c).1)) no_members
   where

@@ -142,14 +142,22 @@ soon_rest e o c p since rest v front f =
     put_all (λ d xs. Each (λ x. x.object ≡ o → IsSoon e (v.dirty o) x.epoch) xs) v.queue c rest
     (subst (Each (λ x. x.object ≡ o → IsSoon e (v.dirty o) x.epoch)) front (f.soon c)).1 (λ j _. f.soon j)
 
-pending_unqueued : (e o c p since : ℕ) (rest : List Queued) (v : Counts) → v.queue c ≡ record { object = p; epoch = since } ∷ rest → o ≢ p → Pending e o v → Pending e o (unqueued c p rest v)
-pending_unqueued e o c p since rest v front ne f = record {
+-- an object off a queue, where o still waits
+pending_without : (e o c p since : ℕ) (rest : List Queued) (v : Counts)
+    → v.queue c ≡ record { object = p; epoch = since } ∷ rest
+    → (Waits v o → Waits (unqueued c p rest v) o) → Pending e o v → Pending e o (unqueued c p rest v)
+pending_without e o c p since rest v front still f = record {
   since = f.since;
   none = f.none;
   waits = still f.waits;
   swept = f.swept;
   soon = soon_rest e o c p since rest v front f;
 }
+
+pending_unqueued : (e o c p since : ℕ) (rest : List Queued) (v : Counts)
+    → v.queue c ≡ record { object = p; epoch = since } ∷ rest
+    → o ≢ p → Pending e o v → Pending e o (unqueued c p rest v)
+pending_unqueued e o c p since rest v front ne f = pending_without e o c p since rest v front still f
   where
     still : Waits v o → Waits (unqueued c p rest v) o
     still (inl w) = inl w
@@ -157,14 +165,10 @@ pending_unqueued e o c p since rest v front ne f = record {
 
 -- steps on the object itself
 
-pending_dropped : (e o c since : ℕ) (rest : List Queued) (v : Counts) → v.queue c ≡ record { object = o; epoch = since } ∷ rest → v.global o ≢ pos 0 → Pending e o v → Pending e o (unqueued c o rest v)
-pending_dropped e o c since rest v front ne f = record {
-  since = f.since;
-  none = f.none;
-  waits = still f.waits;
-  swept = f.swept;
-  soon = soon_rest e o c o since rest v front f;
-}
+pending_dropped : (e o c since : ℕ) (rest : List Queued) (v : Counts)
+    → v.queue c ≡ record { object = o; epoch = since } ∷ rest
+    → v.global o ≢ pos 0 → Pending e o v → Pending e o (unqueued c o rest v)
+pending_dropped e o c since rest v front ne f = pending_without e o c o since rest v front still f
   where
     still : Waits v o → Waits (unqueued c o rest v) o
     still (inl w) = inl w

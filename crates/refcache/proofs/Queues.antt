@@ -8,7 +8,7 @@ use Rattle.refcache.specs.declared.reports.Review.{Review}
 use Rattle.refcache.specs.declared.reports.Flush.TheVariants as flush
 use Rattle.refcache.specs.declared.reports.Review.TheVariants as review
 use Rattle.vm_base.specs.Functions.{put}
-use Rattle.refcache.specs.Counts.{Counts, opening, enqueued, unqueued, soiled, drained, noticed, evicted, added, begun, marked, ended}
+use Rattle.refcache.specs.Counts.{Counts, no_counts, enqueued, unqueued, soiled, drained, noticed, evicted, added, begun, marked, ended}
 use Rattle.refcache.specs.Steps.{Step, Begin, Inc, Dec, Flushing, Reviewing, Takes, MakesRoom, Flushes, Reviews, IsQuiet}
 use Rattle.vm_base.proofs.Functions.{by_test, put_all, put_same, put_other}
 use Rattle.refcache.proofs.Sums.{same_or_not}
@@ -187,7 +187,7 @@ later v (Dec c o) w h = subst (Later v) (sym h.4) (later_then v h.2 (added c o (
 later v (Flushing c f) w h = later_flush v c f w h.0 h.1
 later v (Reviewing c r) w h = later_review v c r w h.0 h.1
 
-pub queues_open : (n m : ℕ) → Queues (opening n m)
+pub queues_open : (n m : ℕ) → Queues (no_counts n m)
 queues_open n m = record { past = λ d. tt; rising = λ d. tt; found = λ o h. absurd (never h) }
   where
     never : false ≡ true → ⊥

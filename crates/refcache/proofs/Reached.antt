@@ -3,7 +3,7 @@ use Rattle.std.proofs.Common.{◌≡◌, ℕ, refl, ap, ◌∙◌, ℤ, inl, inr
 use Rattle.refcache.specs.declared.reports.Flush.TheVariants as flush
 use Rattle.refcache.specs.declared.reports.Review.{Review}
 use Rattle.refcache.specs.declared.reports.Review.TheVariants as review
-use Rattle.refcache.specs.Counts.{Counts, opening, drained, evicted}
+use Rattle.refcache.specs.Counts.{Counts, no_counts, drained, evicted}
 use Rattle.refcache.specs.Steps.{Step, Begin, Inc, Dec, Flushing, Reviewing, MakesRoom, Reviews, Takes}
 use Rattle.refcache.specs.Laws.{StepsReach, FreedIsUnused, UnusedAtFirst, SizesStay, IsSameSize, ReachedIsOrderly, epoch_after}
 use Rattle.refcache.proofs.Queues.{by_notice, later}
@@ -18,7 +18,7 @@ pub freed_is_unused : FreedIsUnused
 freed_is_unused v core object w reached takes = unused v core object w takes.1 (known v reached).settled
 
 pub unused_at_first : UnusedAtFirst
-unused_at_first n m object = record { zero = count_clear (opening n m) object (λ c lt. refl); entries = λ c lt. refl; unqueued = refl }
+unused_at_first n m object = record { zero = count_clear (no_counts n m) object (λ c lt. refl); entries = λ c lt. refl; unqueued = refl }
 
 pub same_size : (v : Counts) (step : Step) (w : Counts) → Takes v step w → IsSameSize v w
 same_size v step w takes = let l = later v step w takes in (l.cores, l.objects)

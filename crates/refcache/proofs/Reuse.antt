@@ -1,7 +1,7 @@
 -- The law of reuse: an object whose true count fell to 0 in epoch e is freed before epoch e + 6 begins.
 use Rattle.std.proofs.Common.{◌≡◌, ℕ, ◌≤◌, ◌<◌, ◌+◌, Bool, true, false, refl, sym, ap, subst, arith, pos, negsuc, ◌+ℤ◌, ◌∙◌, List, [], ◌∷◌, ◌++◌, Some, None, ◌⊎◌, inl, inr}
 use Rattle.refcache.specs.declared.reports.Review.TheVariants as review
-use Rattle.refcache.specs.Counts.{Counts, opening, delta_of, true_count, added}
+use Rattle.refcache.specs.Counts.{Counts, no_counts, delta_of, true_count, added}
 use Rattle.refcache.specs.Steps.{Step, Dec, Reviewing, Takes, HasEntry, Moment, IsRun, last}
 use Rattle.refcache.specs.Laws.{Comes, ReviewsUntilIdle, FreesBefore, Reuse}
 use Rattle.refcache.proofs.Sums.{cell_same}
@@ -128,7 +128,7 @@ falls u c o w t q none = record {
 
 pub reuse : Reuse
 reuse n m o before fall after f reviews late =
-    let s = split (opening n m) before fall after (queues_open n m) f.run in
+    let s = split (no_counts n m) before fall after (queues_open n m) f.run in
     let t : Takes s.0 (Dec f.core o) fall.counts = subst (λ z. Takes s.0 z fall.counts) f.step s.3 in
     let l = later s.0 fall.step fall.counts s.3 in
     let e = fall.counts.epoch in

@@ -8,7 +8,7 @@ use Rattle.refcache.specs.declared.reports.Review.{Review}
 use Rattle.refcache.specs.declared.reports.Flush.TheVariants as flush
 use Rattle.refcache.specs.declared.reports.Review.TheVariants as review
 use Rattle.vm_base.specs.Functions.{put}
-use Rattle.refcache.specs.Counts.{Counts, opening, delta_of, true_count, enqueued, unqueued, soiled, drained, evicted, added, begun, marked, ended}
+use Rattle.refcache.specs.Counts.{Counts, no_counts, delta_of, true_count, enqueued, unqueued, soiled, drained, evicted, added, begun, marked, ended}
 use Rattle.refcache.specs.Steps.{Step, Begin, Inc, Dec, Flushing, Reviewing, Takes, MakesRoom, HasEntry, IsUnused, IsClear, AllFlushed, Flushes, Reviews}
 use Rattle.vm_base.proofs.Functions.{put_all, put_same, put_other}
 use Rattle.refcache.proofs.Sums.{same_or_not, cell_same, cell_row, cell_column}
@@ -265,7 +265,7 @@ settled v (Dec c p) w h f = subst Settled (sym h.4) (settled_add v c p (negsuc 0
 settled v (Flushing c r) w h f = settled_flush v c r w h.1 f
 settled v (Reviewing c r) w h f = settled_review v c r w h.1 f
 
-pub settled_open : (n m : ℕ) → Settled (opening n m)
+pub settled_open : (n m : ℕ) → Settled (no_counts n m)
 settled_open n m = record { single = record { marks = λ o d h. absurd h; once = λ d. tt; apart = λ o d j h g. absurd h }; settled = λ d. tt }
 
 -- an object is freed with nothing left

@@ -5,7 +5,7 @@ use Rattle.std.proofs.lemmas.Bool.Decides.{nat_tests}
 use Rattle.std.proofs.lemmas.Map.Steps.{length-le_from_distinct_below}
 use Rattle.refcache.specs.declared.reports.Queued.{Queued}
 use Rattle.refcache.specs.declared.reports.Review.TheVariants as review
-use Rattle.refcache.specs.Counts.{Counts, opening}
+use Rattle.refcache.specs.Counts.{Counts, no_counts}
 use Rattle.refcache.specs.Steps.{Step, Reviewing, Takes, Moment, IsRun, IsUnused, last}
 use Rattle.refcache.specs.Places.{entries}
 use Rattle.refcache.specs.Parts.{Parts, counts_of, core_at, rooms, CanEvict}
@@ -29,7 +29,7 @@ known_run v (x ∷ xs) r k = known_run x.counts xs r.1 (record {
 })
 
 pub known : (v : Counts) → IsReached v → Known v
-known v r = subst Known r.end (known_run (opening v.cores v.objects) r.run r.steps (record {
+known v r = subst Known r.end (known_run (no_counts v.cores v.objects) r.run r.steps (record {
   settled = settled_open v.cores v.objects;
   held = open_held v.cores v.objects;
   counted = counted_open v.cores v.objects;
@@ -48,18 +48,18 @@ pub reached_on : (v : Counts) (s : Step) (w : Counts) → IsReached v → Takes 
 reached_on v s w r t =
     let x : Moment = record { step = s; counts = w } in
     let l = later v s w t in
-    let same : opening w.cores w.objects ≡ opening v.cores v.objects = ap (λ n. opening n w.objects) l.cores ∙ ap (opening v.cores) l.objects in
-    let there : Takes (last (opening v.cores v.objects) r.run) s w = subst (λ u. Takes u s w) (sym r.end) t in
+    let same : no_counts w.cores w.objects ≡ no_counts v.cores v.objects = ap (λ n. no_counts n w.objects) l.cores ∙ ap (no_counts v.cores) l.objects in
+    let there : Takes (last (no_counts v.cores v.objects) r.run) s w = subst (λ u. Takes u s w) (sym r.end) t in
     record {
       run = r.run ++ x ∷ [];
-      steps = subst (λ u. IsRun u (r.run ++ x ∷ [])) (sym same) (run_more (opening v.cores v.objects) r.run x r.steps there);
-      end = subst (λ u. last u (r.run ++ x ∷ []) ≡ w) (sym same) (last_more (opening v.cores v.objects) r.run x);
+      steps = subst (λ u. IsRun u (r.run ++ x ∷ [])) (sym same) (run_more (no_counts v.cores v.objects) r.run x r.steps there);
+      end = subst (λ u. last u (r.run ++ x ∷ []) ≡ w) (sym same) (last_more (no_counts v.cores v.objects) r.run x);
     }
 
-pub reached_open : (v : Counts) (n m : ℕ) → v ≡ opening n m → IsReached v
+pub reached_open : (v : Counts) (n m : ℕ) → v ≡ no_counts n m → IsReached v
 reached_open v n m e = subst IsReached (sym e) (record { run = []; steps = tt; end = refl })
 
-pub sound_open : (p : Parts) (n m : ℕ) → n ≤ 64 → counts_of p ≡ opening n m → ((c : ℕ) → c < n → rooms p c ≡ m + 1) → p.epochs.cores ≡ n → IsSound p
+pub sound_open : (p : Parts) (n m : ℕ) → n ≤ 64 → counts_of p ≡ no_counts n m → ((c : ℕ) → c < n → rooms p c ≡ m + 1) → p.epochs.cores ≡ n → IsSound p
 sound_open p n m few e room epochs =
     let cores : length p.cores ≡ n = ap (λ v. v.cores) e in
     let objects : length p.objects ≡ m = ap (λ v. v.objects) e in

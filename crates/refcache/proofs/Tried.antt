@@ -6,7 +6,7 @@ use Rattle.std.proofs.lemmas.List.{get_or-set_same, get_or-set_other, length-set
 use Rattle.vm_base.proofs.Functions.{by_test, eq_true, eq_false}
 use Rattle.refcache.specs.declared.reports.Flush.{Flush}
 use Rattle.refcache.specs.declared.reports.Review.{Review}
-use Rattle.refcache.specs.Counts.{Counts, opening, true_count, begun}
+use Rattle.refcache.specs.Counts.{Counts, no_counts, true_count, begun}
 use Rattle.refcache.specs.Steps.{Step, Begin, Inc, Dec, Flushing, Reviewing, Takes, IsUnused}
 use Rattle.refcache.specs.Laws.{change}
 use Rattle.refcache.specs.Parts.{Parts, counts_of}
@@ -16,13 +16,13 @@ use Rattle.refcache.proofs.Queues.{Later, later}
 use Rattle.refcache.proofs.TrueCount.{count_clear, count_begun_other}
 use Rattle.refcache.proofs.Moves.{true_counts_move}
 
-unused_open : (n m o : ℕ) → IsUnused (opening n m) o
-unused_open n m o = record { zero = count_clear (opening n m) o (λ c lt. refl); entries = λ c lt. refl; unqueued = refl }
+unused_open : (n m o : ℕ) → IsUnused (no_counts n m) o
+unused_open n m o = record { zero = count_clear (no_counts n m) o (λ c lt. refl); entries = λ c lt. refl; unqueued = refl }
 
 unused_begun : (v : Counts) (p k o : ℕ) → o ≢ p → IsUnused v o → IsUnused (begun p k v) o
 unused_begun v p k o ne u = record { zero = count_begun_other p k v o ne ∙ u.zero; entries = u.entries; unqueued = u.unqueued }
 
-pub trial_open : (p : Parts) (n m : ℕ) (trues : List ℕ) → n ≤ 64 → counts_of p ≡ opening n m → length trues ≡ m → All (λ k. k ≡ 0) trues → IsTrial p n trues true
+pub trial_open : (p : Parts) (n m : ℕ) (trues : List ℕ) → n ≤ 64 → counts_of p ≡ no_counts n m → length trues ≡ m → All (λ k. k ≡ 0) trues → IsTrial p n trues true
 trial_open p n m trues few e count zeros = record {
   same_cores = ap (λ v. v.cores) e;
   few = few;

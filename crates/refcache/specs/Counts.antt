@@ -20,8 +20,8 @@ pub record Counts : Type 0 where
   pub flushed : ℕ → Bool
 
 -- all counts as they are made
-abbrev pub opening : ℕ → ℕ → Counts
-opening n m = record {
+abbrev pub no_counts : ℕ → ℕ → Counts
+no_counts n m = record {
   cores = n;
   objects = m;
   epoch = 0;

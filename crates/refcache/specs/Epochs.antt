@@ -16,6 +16,11 @@ AllMarked n marks = (d : ℕ) → d < n → marks d ≡ true
 -- a core without entries flushes: its mark, the epoch and the marks after it
 abbrev pub Marks : ℕ → ℕ → (ℕ → Bool) → ℕ → Flush → ℕ → (ℕ → Bool) → Type 0
 Marks n epoch marks c (flush.Evicted o) later new = ⊥
-Marks n epoch marks c flush.Flushed later new = (marks c ≡ false) × (AllMarked n (put marks c true) → ⊥) × (later ≡ epoch) × (new ≡ put marks c true)
-Marks n epoch marks c flush.EpochEnded later new = (marks c ≡ false) × AllMarked n (put marks c true) × (2 ^ 64 ≤ epoch + 1 → ⊥) × (later ≡ epoch + 1) × (new ≡ λ d. false)
-Marks n epoch marks c flush.Idle later new = ((marks c ≡ true) ⊎ (AllMarked n (put marks c true) × (2 ^ 64 ≤ epoch + 1))) × (later ≡ epoch) × (new ≡ marks)
+Marks n epoch marks c flush.Flushed later new = (marks c ≡ false)
+    × (AllMarked n (put marks c true) → ⊥) × (later ≡ epoch) × (new ≡ put marks c true)
+Marks n epoch marks c flush.EpochEnded later new = (marks c ≡ false)
+    × AllMarked n (put marks c true) × (2 ^ 64 ≤ epoch + 1 → ⊥) × (later ≡ epoch + 1)
+    × (new ≡ λ d. false)
+Marks n epoch marks c flush.Idle later new =
+    ((marks c ≡ true) ⊎ (AllMarked n (put marks c true) × (2 ^ 64 ≤ epoch + 1)))
+    × (later ≡ epoch) × (new ≡ marks)

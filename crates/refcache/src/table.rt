@@ -31,7 +31,7 @@ impl<A: Allocator> Model for CountTable<A> {
 
 impl<A: Allocator> CountTable<A> {
     ghost use Rattle.std.specs.Prelude.{◌≡◌, ◌≢◌, ℕ, ◌<◌, ◌≤◌, ◌^◌, ◌+◌, IfOk, length, None, List, ◌∷◌, pos, neg_ℤ, ◌≤ℤ◌};
-    ghost use Rattle.refcache.specs.Counts.{Counts, opening, added, evicted};
+    ghost use Rattle.refcache.specs.Counts.{Counts, no_counts, added, evicted};
     ghost use Rattle.refcache.specs.Steps.{Begin, Takes, Flushes, Reviews, MakesRoom, IsClear, IsInTheWay, IsUnused};
     ghost use Rattle.refcache.specs.declared.reports.Queued.{Queued};
     ghost use Rattle.refcache.specs.Places.{entries};
@@ -44,7 +44,7 @@ impl<A: Allocator> CountTable<A> {
         A: Clone,
         requires cores { cores ≤ 64 }
         requires objects { objects ≤ 2 ^ 16 }
-        ensures opening { IfOk result (λ t. counts_of t ≡ opening cores objects) }
+        ensures opening { IfOk result (λ t. counts_of t ≡ no_counts cores objects) }
         ensures room { IfOk result (λ t. (c : ℕ) → c < cores → rooms t c ≡ objects + 1) }
         ensures epochs { IfOk result (λ t. t.epochs.cores ≡ cores) }
     {

@@ -18,145 +18,156 @@ const FLUSHED: Answer = Answer::Flush(Flush::Flushed);
 
 const ENDED: Answer = Answer::Flush(Flush::EpochEnded);
 
+const EVICTED: Answer = Answer::Flush(Flush::Evicted(0));
+
 const QUIET: Answer = Answer::Review(Review::Idle);
 
-fn evicted(object: u32) -> Answer {
-    Answer::Flush(Flush::Evicted(object))
+/// A row of a worked example: a call and its answer, or what is counted at that point.
+#[derive(Clone, Copy, Debug)]
+enum Row {
+    Call(Call, Answer),
+    Global(u32, i64),
+    TrueCount(u32, u64),
+    Epoch(u64),
 }
 
-/// The place of the first row whose call isn't answered as the row says.
-fn first_wrong<A: Allocator>(trial: &mut Trial<A>, rows: &[(Call, Answer)]) -> Option<usize> {
-    for (place, (call, want)) in rows.iter().enumerate() {
-        if trial.take(*call) != *want {
+/// Whether the row comes as it says.
+fn comes<A: Allocator>(trial: &mut Trial<A>, row: Row) -> bool {
+    match row {
+        Row::Call(call, answer) => trial.take(call) == answer,
+        Row::Global(object, count) => trial.global(object) == Some(count),
+        Row::TrueCount(object, count) => trial.true_count(object) == Some(count),
+        Row::Epoch(number) => trial.epoch() == number,
+    }
+}
+
+/// The place of the first row that doesn't come as it says.
+fn first_wrong<A: Allocator>(trial: Trial<A>, rows: &[Row]) -> Option<usize> {
+    let mut trial = trial;
+    for (place, row) in rows.iter().enumerate() {
+        if !comes(&mut trial, *row) {
             return Some(place);
         }
     }
     None
 }
 
-#[test]
-fn dirty_object_is_queued_anew(rt: HostRuntime) -> Result<(), Fail> {
-    let mut trial = Trial::new(rt.alloc(), 2, 1)?;
-    let rows = [
-        (Call::Begin(0, 1), DONE),
-        (Call::Inc(0, 0), DONE),
-        (Call::Dec(1, 0), DONE),
-        (Call::Flush(1), evicted(0)),
-        (Call::Flush(1), FLUSHED),
-        (Call::Inc(1, 0), DONE),
-        (Call::Dec(0, 0), DONE),
-        (Call::Flush(0), evicted(0)),
-        (Call::Flush(0), ENDED),
-        (Call::Flush(0), FLUSHED),
-        (Call::Inc(0, 0), DONE),
-        (Call::Dec(1, 0), DONE),
-        (Call::Flush(1), evicted(0)),
-        (Call::Flush(1), ENDED),
-        (Call::Review(1), Answer::Review(Review::Requeued(0))),
-    ];
-    assert_eq!(rt; first_wrong(&mut trial, &rows), None);
-    assert_eq!(rt; trial.true_count(0), Some(1));
-    assert_eq!(rt; trial.global(0), Some(0));
-    assert_eq!(rt; trial.epoch(), 2);
-    Ok(())
-}
+const QUEUED_ANEW: [Row; 18] = [
+    Row::Call(Call::Begin(0, 1), DONE),
+    Row::Call(Call::Inc(0, 0), DONE),
+    Row::Call(Call::Dec(1, 0), DONE),
+    Row::Call(Call::Flush(1), EVICTED),
+    Row::Call(Call::Flush(1), FLUSHED),
+    Row::Call(Call::Inc(1, 0), DONE),
+    Row::Call(Call::Dec(0, 0), DONE),
+    Row::Call(Call::Flush(0), EVICTED),
+    Row::Call(Call::Flush(0), ENDED),
+    Row::Call(Call::Flush(0), FLUSHED),
+    Row::Call(Call::Inc(0, 0), DONE),
+    Row::Call(Call::Dec(1, 0), DONE),
+    Row::Call(Call::Flush(1), EVICTED),
+    Row::Call(Call::Flush(1), ENDED),
+    Row::Call(Call::Review(1), Answer::Review(Review::Requeued(0))),
+    Row::TrueCount(0, 1),
+    Row::Global(0, 0),
+    Row::Epoch(2),
+];
+
+const EVICTED_FROM_ITS_PLACE: [Row; 10] = [
+    Row::Call(Call::Begin(0, 1), DONE),
+    Row::Call(Call::Begin(64, 1), DONE),
+    Row::Call(Call::Inc(0, 0), DONE),
+    Row::Call(Call::Inc(0, 64), DONE),
+    Row::Global(0, 2),
+    Row::Global(64, 1),
+    Row::Call(Call::Flush(0), Answer::Flush(Flush::Evicted(64))),
+    Row::Global(64, 2),
+    Row::Call(Call::Flush(0), ENDED),
+    Row::Epoch(1),
+];
+
+const FREED_LATER: [Row; 18] = [
+    Row::Call(Call::Begin(0, 1), DONE),
+    Row::Call(Call::Inc(0, 0), DONE),
+    Row::Call(Call::Dec(1, 0), DONE),
+    Row::Call(Call::Flush(1), EVICTED),
+    Row::Call(Call::Dec(0, 0), DONE),
+    Row::Call(Call::Flush(0), EVICTED),
+    Row::Call(Call::Flush(0), FLUSHED),
+    Row::Call(Call::Flush(1), ENDED),
+    Row::Call(Call::Flush(0), FLUSHED),
+    Row::Call(Call::Flush(1), ENDED),
+    Row::Call(Call::Review(1), Answer::Review(Review::Requeued(0))),
+    Row::Call(Call::Review(1), QUIET),
+    Row::Call(Call::Flush(0), FLUSHED),
+    Row::Call(Call::Flush(1), ENDED),
+    Row::Call(Call::Flush(0), FLUSHED),
+    Row::Call(Call::Flush(1), ENDED),
+    Row::Call(Call::Review(1), Answer::Review(Review::Freed(0))),
+    Row::Epoch(4),
+];
+
+const LIVES_AND_IS_FREED: [Row; 7] = [
+    Row::Call(Call::Begin(0, 1), DONE),
+    Row::Call(Call::Dec(0, 0), DONE),
+    Row::Call(Call::Flush(0), EVICTED),
+    Row::Call(Call::Flush(0), ENDED),
+    Row::Call(Call::Review(0), QUIET),
+    Row::Call(Call::Flush(0), ENDED),
+    Row::Call(Call::Review(0), Answer::Review(Review::Freed(0))),
+];
+
+const LARGEST: [Row; 6] = [
+    Row::Call(Call::Begin(65_535, 0x100_0000_0000), DONE),
+    Row::Call(Call::Inc(0, 65_535), Answer::NotAllowed),
+    Row::Call(Call::Dec(63, 65_535), DONE),
+    Row::Call(Call::Inc(0, 65_535), DONE),
+    Row::Call(Call::Flush(63), Answer::Flush(Flush::Evicted(65_535))),
+    Row::Global(65_535, 0xff_ffff_ffff),
+];
+
+const COUNTED_UP_SINCE: [Row; 13] = [
+    Row::Call(Call::Begin(0, 1), DONE),
+    Row::Call(Call::Inc(0, 0), DONE),
+    Row::Call(Call::Dec(1, 0), DONE),
+    Row::Call(Call::Flush(1), EVICTED),
+    Row::Call(Call::Flush(1), FLUSHED),
+    Row::Call(Call::Flush(1), Answer::Flush(Flush::Idle)),
+    Row::Call(Call::Flush(0), EVICTED),
+    Row::Call(Call::Flush(0), ENDED),
+    Row::Call(Call::Flush(0), FLUSHED),
+    Row::Call(Call::Flush(1), ENDED),
+    Row::Call(Call::Review(1), Answer::Review(Review::Dropped(0))),
+    Row::Call(Call::Review(1), QUIET),
+    Row::Global(0, 1),
+];
 
 #[test]
-fn object_is_evicted_from_its_place(rt: HostRuntime) -> Result<(), Fail> {
-    let mut trial = Trial::new(rt.alloc(), 1, 65)?;
-    let rows = [
-        (Call::Begin(0, 1), DONE),
-        (Call::Begin(64, 1), DONE),
-        (Call::Inc(0, 0), DONE),
-        (Call::Inc(0, 64), DONE),
-    ];
-    assert_eq!(rt; first_wrong(&mut trial, &rows), None);
-    assert_eq!(rt; trial.global(0), Some(2));
-    assert_eq!(rt; trial.global(64), Some(1));
-    assert_eq!(rt; trial.take(Call::Flush(0)), evicted(64));
-    assert_eq!(rt; trial.global(64), Some(2));
-    assert_eq!(rt; trial.take(Call::Flush(0)), ENDED);
-    assert_eq!(rt; trial.epoch(), 1);
-    Ok(())
-}
-
-#[test]
-fn dirty_object_is_freed_two_epochs_later(rt: HostRuntime) -> Result<(), Fail> {
-    let mut trial = Trial::new(rt.alloc(), 2, 1)?;
-    let rows = [
-        (Call::Begin(0, 1), DONE),
-        (Call::Inc(0, 0), DONE),
-        (Call::Dec(1, 0), DONE),
-        (Call::Flush(1), evicted(0)),
-        (Call::Dec(0, 0), DONE),
-        (Call::Flush(0), evicted(0)),
-        (Call::Flush(0), FLUSHED),
-        (Call::Flush(1), ENDED),
-        (Call::Flush(0), FLUSHED),
-        (Call::Flush(1), ENDED),
-        (Call::Review(1), Answer::Review(Review::Requeued(0))),
-        (Call::Review(1), QUIET),
-        (Call::Flush(0), FLUSHED),
-        (Call::Flush(1), ENDED),
-        (Call::Flush(0), FLUSHED),
-        (Call::Flush(1), ENDED),
-        (Call::Review(1), Answer::Review(Review::Freed(0))),
-    ];
-    assert_eq!(rt; first_wrong(&mut trial, &rows), None);
-    assert_eq!(rt; trial.epoch(), 4);
-    Ok(())
-}
-
-#[test]
-fn object_lives_and_is_freed(rt: HostRuntime) -> Result<(), Fail> {
-    let mut trial = Trial::new(rt.alloc(), 1, 1)?;
-    let rows = [
-        (Call::Begin(0, 1), DONE),
-        (Call::Dec(0, 0), DONE),
-        (Call::Flush(0), evicted(0)),
-        (Call::Flush(0), ENDED),
-        (Call::Review(0), QUIET),
-        (Call::Flush(0), ENDED),
-        (Call::Review(0), Answer::Review(Review::Freed(0))),
-    ];
-    assert_eq!(rt; first_wrong(&mut trial, &rows), None);
-    Ok(())
-}
-
-#[test]
-fn largest_is_made(rt: HostRuntime) -> Result<(), Fail> {
-    let mut trial = Trial::new(rt.alloc(), 64, 65_536)?;
-    let rows = [
-        (Call::Begin(65_535, 1 << 40), DONE),
-        (Call::Inc(0, 65_535), Answer::NotAllowed),
-        (Call::Dec(63, 65_535), DONE),
-        (Call::Inc(0, 65_535), DONE),
-        (Call::Flush(63), evicted(65_535)),
-    ];
-    assert_eq!(rt; first_wrong(&mut trial, &rows), None);
-    assert_eq!(rt; trial.global(65_535), Some((1 << 40) - 1));
-    Ok(())
-}
-
-#[test]
-fn object_counted_up_since_is_dropped(rt: HostRuntime) -> Result<(), Fail> {
-    let mut trial = Trial::new(rt.alloc(), 2, 1)?;
-    let rows = [
-        (Call::Begin(0, 1), DONE),
-        (Call::Inc(0, 0), DONE),
-        (Call::Dec(1, 0), DONE),
-        (Call::Flush(1), evicted(0)),
-        (Call::Flush(1), FLUSHED),
-        (Call::Flush(1), Answer::Flush(Flush::Idle)),
-        (Call::Flush(0), evicted(0)),
-        (Call::Flush(0), ENDED),
-        (Call::Flush(0), FLUSHED),
-        (Call::Flush(1), ENDED),
-        (Call::Review(1), Answer::Review(Review::Dropped(0))),
-        (Call::Review(1), QUIET),
-    ];
-    assert_eq!(rt; first_wrong(&mut trial, &rows), None);
-    assert_eq!(rt; trial.global(0), Some(1));
+fn worked_examples(rt: HostRuntime) -> Result<(), Fail> {
+    assert_eq!(rt;
+        first_wrong(Trial::new(rt.alloc(), 2, 1)?, &QUEUED_ANEW),
+        None
+    );
+    assert_eq!(rt;
+        first_wrong(Trial::new(rt.alloc(), 1, 65)?, &EVICTED_FROM_ITS_PLACE),
+        None
+    );
+    assert_eq!(rt;
+        first_wrong(Trial::new(rt.alloc(), 2, 1)?, &FREED_LATER),
+        None
+    );
+    assert_eq!(rt;
+        first_wrong(Trial::new(rt.alloc(), 1, 1)?, &LIVES_AND_IS_FREED),
+        None
+    );
+    assert_eq!(rt;
+        first_wrong(Trial::new(rt.alloc(), 64, 65_536)?, &LARGEST),
+        None
+    );
+    assert_eq!(rt;
+        first_wrong(Trial::new(rt.alloc(), 2, 1)?, &COUNTED_UP_SINCE),
+        None
+    );
     Ok(())
 }
 

@@ -36,15 +36,23 @@ stopped : (p s : ℕ) → nat_le s p ≡ false → p < s
 stopped p s h = grind (arith, nat_tests)
 
 -- starts alone say which run has a page
-pub place_by_starts : (rs : List Run) (p i : ℕ) → i < length rs → ((k : ℕ) → k ≤ i → (get_run rs k).start ≤ p) → (i + 1 < length rs → p < (get_run rs (i + 1)).start) → place_of rs p ≡ i
+pub place_by_starts : (rs : List Run) (p i : ℕ) → i < length rs
+    → ((k : ℕ) → k ≤ i → (get_run rs k).start ≤ p)
+    → (i + 1 < length rs → p < (get_run rs (i + 1)).start) → place_of rs p ≡ i
 unfolding place_of
 place_by_starts rs p i h below above =
-    let n : prefix_len (begins_by p) rs ≡ i + 1 = prefix_len_is (begins_by p) rs (i + 1) nobody (omega arith) (λ k l. passes p (get_run rs k).start (below k (omega arith))) (λ l. stops p (get_run rs (i + 1)).start (above l)) in
+    let n : prefix_len (begins_by p) rs ≡ i + 1 = prefix_len_is (begins_by p) rs (i + 1) nobody (omega arith)
+    (λ k l. passes p (get_run rs k).start (below k (omega arith)))
+    (λ l. stops p (get_run rs (i + 1)).start (above l)) in
     omega arith
 
 -- the run of a page is at its place
 pub place_is : (rs : List Run) → IsRuns rs → (p i : ℕ) → IsAt rs p i → place_of rs p ≡ i
-place_is rs ok p i h = place_by_starts rs p i h.within (λ k l. let a : (get_run rs k).start ≤ (get_run rs i).start = starts_rise_to rs ok k i l h.within in omega (arith, h.from)) h.until
+place_is rs ok p i h = place_by_starts rs p i h.within
+    (λ k l.
+    let a : (get_run rs k).start ≤ (get_run rs i).start = starts_rise_to rs ok k i l h.within in
+    omega (arith, h.from))
+    h.until
 
 first_passes : (rs : List Run) → IsRuns rs → (p : ℕ) → 0 < prefix_len (begins_by p) rs
 first_passes [] ok p = absurd (omega (arith, ok.some))

@@ -1,5 +1,6 @@
 -- What holds of each list of runs
-use Rattle.std.proofs.Common.{◌≡◌, ◌≢◌, ℕ, ◌+◌, ◌-◌, ◌^◌, ◌<◌, ◌≤◌, ◌==◌, ◌⊎◌, inl, inr, ⊎_elim, true, false, List, length, Option, Some, None, is_some, refl, sym, ◌∙◌, ap, arith}
+use Rattle.std.proofs.Common.{◌≡◌, ◌≢◌, ℕ, ◌+◌, ◌-◌, ◌^◌, ◌<◌, ◌≤◌, ◌==◌, ◌⊎◌, inl, inr, ⊎_elim, true}
+use Rattle.std.proofs.Common.{false, List, length, Option, Some, None, is_some, refl, sym, ◌∙◌, ap, arith}
 use Rattle.std.proofs.lemmas.Bool.{cases_lt}
 use Rattle.std.proofs.lemmas.Bool.Decides.{nat_tests}
 use Rattle.vm_base.specs.declared.info.PageInfo.{PageInfo}
@@ -62,7 +63,8 @@ back_before (Shared f p) n m l k h = omega arith
 back_before (Private f p) n m l k h = omega arith
 
 -- m pages whose part from the n-th on fits
-pub fits_before : (o : Option PageInfo) (n m : ℕ) → n ≤ m → m ≤ 2 ^ 35 → info_file_page (info_from o n) + (m - n) ≤ 2 ^ 35 → info_file_page o + m ≤ 2 ^ 35
+pub fits_before : (o : Option PageInfo) (n m : ℕ) → n ≤ m → m ≤ 2 ^ 35
+    → info_file_page (info_from o n) + (m - n) ≤ 2 ^ 35 → info_file_page o + m ≤ 2 ^ 35
 fits_before None n m l k h = omega arith
 fits_before (Some info) n m l k h = back_before info.meta.back n m l k h
 
@@ -121,10 +123,18 @@ is_slot rs ok i h = record {
 
 -- ---- the laws
 last_run : (rs : List Run) → IsRuns rs → (p : ℕ) → 2 ^ 35 ≤ p → run_at rs p ≡ get_run rs (length rs - 1)
-last_run rs ok p h = run_at_is rs ok p (length rs - 1) (record { within = omega (arith, ok.some); from = omega (arith, ok.limit_last); until = λ l. absurd (omega arith) })
+last_run rs ok p h = run_at_is rs ok p (length rs - 1) (record {
+  within = omega (arith, ok.some);
+  from = omega (arith, ok.limit_last);
+  until = λ l. absurd (omega arith);
+})
 
 zero_run : (rs : List Run) → IsRuns rs → run_at rs 0 ≡ get_run rs 0
-zero_run rs ok = run_at_is rs ok 0 0 (record { within = omega (arith, ok.some); from = omega (arith, ok.zero_first); until = λ l. omega (arith, ok.one_second) })
+zero_run rs ok = run_at_is rs ok 0 0 (record {
+  within = omega (arith, ok.some);
+  from = omega (arith, ok.zero_first);
+  until = λ l. omega (arith, ok.one_second);
+})
 
 outside : (p : ℕ) → ¬ IsPage p → (p ≡ 0) ⊎ (2 ^ 35 ≤ p)
 outside p h = ⊎_elim (λ a. inl (omega arith)) (λ a. ⊎_elim (λ b. absurd (h (a, b))) (λ b. inr b) (cases_lt p (2 ^ 35))) (cases_lt p 1)
@@ -156,7 +166,8 @@ slots_of-is_slot_map rs ok = record {
         (λ l.
         let fits = ok.fits f.at l in
         let until = f.is.until l in
-        let on = fits_on (get_run rs f.at).info (p - (get_run rs f.at).start) ((get_run rs (f.at + 1)).start - (get_run rs f.at).start) (omega (arith, f.is.from)) fits in
+        let on = fits_on (get_run rs f.at).info (p - (get_run rs f.at).start)
+        ((get_run rs (f.at + 1)).start - (get_run rs f.at).start) (omega (arith, f.is.from)) fits in
         omega (arith, f.is.from))
         (λ l.
         let same : f.at ≡ length rs - 1 = omega (arith, f.is.within) in

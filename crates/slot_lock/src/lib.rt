@@ -16,6 +16,3 @@ pub use footprint::Footprint;
 pub use plan::{Change, Place, Plan, Touch};
 pub use run_list::RunList;
 pub use slot_map::{Fit, Got, SlotMap, SlotRead};
-
-#[cfg(test)]
-mod tests;

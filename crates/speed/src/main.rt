@@ -1,20 +1,23 @@
-// How long the parts take: `speed slots`, `look`, `tree`, `scan`, `edit`, `hit` and `clear` print nanoseconds, and with no word each part
-// runs once with little to do. bench/pieces.sh compares them with plain Rust.
+// How long the parts take: with one of the words below, nanoseconds a round; with no word each part runs with little to do.
+// bench/pieces.sh says what the parts are, and compares them with plain Rust.
 #![tactic(auto)]
 
-ghost use Rattle.std.specs.Prelude.{◌<◌};
+ghost use Rattle.std.specs.Prelude.{◌<◌, ◌≤◌, ◌^◌};
 
+mod bytes;
 mod clears;
+mod counts;
 mod hits;
 mod ranges;
 mod slots;
 mod tree;
 
+use crate::hits::Order;
 use std::alloc::Global;
 use std::rt::Clock;
 use std::{env, io};
 
-/// Shows how long one round took, in nanoseconds with one decimal, or that there was no memory.
+/// Shows how long one round took, in nanoseconds with one decimal, or that there was no memory or no such part.
 fn show(rt: &impl Print, nanos: Option<u128>, rounds: u64) -> io::Result<()>
     requires { 0 < rounds }
 {
@@ -37,37 +40,66 @@ fn tell(rt: &impl Print, nanos: Option<u128>) -> io::Result<()> {
     }
 }
 
-/// Each part once with little to do.
-fn try_each(rt: &(impl Print + Clock), alloc: Global) -> io::Result<()> {
-    tell(rt, slots::time(rt, alloc, 8, 16)?)?;
-    tell(rt, tree::time_look_ups(rt, alloc, 8, 16)?)?;
-    tell(rt, tree::time_changes(rt, alloc, 8, 16)?)?;
-    tell(rt, ranges::time_scans(rt, alloc, 5_000, 2)?)?;
-    tell(rt, ranges::time_edits(rt, alloc, 5_000, 2)?)?;
-    tell(rt, hits::time(rt, alloc, 128)?)?;
-    tell(rt, clears::time(rt, alloc, 1)?)
+/// The words of the parts.
+const WORDS: [&str; 15] = [
+    "slots", "look", "tree", "scan", "edit", "hit", "oldest", "newest", "miss", "clear", "byte",
+    "fill", "copy", "count", "flush",
+];
+
+/// How many rounds the part is timed for.
+fn rounds_of(word: &str) -> u64
+    ensures { 0 < result }
+{
+    match word {
+        "clear" => 20_000,
+        "scan" => 5_000,
+        "edit" => 2_000,
+        "hit" | "oldest" | "newest" => 50_000_000,
+        "byte" | "count" => 20_000_000,
+        "look" => 10_000_000,
+        "fill" | "copy" => 1_000_000,
+        _ => 5_000_000,
+    }
 }
 
-/// The part that the word names.
-fn run(rt: &(impl Print + Clock), alloc: Global, word: &str) -> io::Result<()> {
+/// The nanoseconds of so many rounds of the part, over so many mapped pages where it has a map; none where memory is
+/// refused, or there is no such part.
+fn time(
+    rt: &impl Clock,
+    alloc: Global,
+    word: &str,
+    pages: u64,
+    rounds: u64,
+) -> io::Result<Option<u128>>
+    requires some { 4096 < pages }
+    requires few { pages ≤ 2 ^ 20 }
+{
     match word {
-        "slots" => show(rt, slots::time(rt, alloc, 50_000, 5_000_000)?, 5_000_000),
-        "look" => show(
-            rt,
-            tree::time_look_ups(rt, alloc, 50_000, 10_000_000)?,
-            10_000_000,
-        ),
-        "tree" => show(
-            rt,
-            tree::time_changes(rt, alloc, 50_000, 5_000_000)?,
-            5_000_000,
-        ),
-        "scan" => show(rt, ranges::time_scans(rt, alloc, 50_000, 5_000)?, 5_000),
-        "edit" => show(rt, ranges::time_edits(rt, alloc, 50_000, 2_000)?, 2_000),
-        "hit" => show(rt, hits::time(rt, alloc, 50_000_000)?, 50_000_000),
-        "clear" => show(rt, clears::time(rt, alloc, 20_000)?, 20_000),
-        _ => println!(rt; "usage: speed [slots | look | tree | scan | edit | hit | clear]"),
+        "slots" => slots::time(rt, alloc, pages, rounds),
+        "look" => tree::time_look_ups(rt, alloc, pages, rounds),
+        "tree" => tree::time_changes(rt, alloc, pages, rounds),
+        "scan" => ranges::time_scans(rt, alloc, pages, rounds),
+        "edit" => ranges::time_edits(rt, alloc, pages, rounds),
+        "hit" => hits::time(rt, alloc, Order::Anywhere, rounds),
+        "oldest" => hits::time(rt, alloc, Order::Oldest, rounds),
+        "newest" => hits::time(rt, alloc, Order::Newest, rounds),
+        "miss" => hits::time_misses(rt, alloc, rounds),
+        "clear" => clears::time(rt, alloc, rounds),
+        "byte" => bytes::time_bytes(rt, alloc, rounds),
+        "fill" => bytes::time_fills(rt, alloc, rounds),
+        "copy" => bytes::time_copies(rt, alloc, rounds),
+        "count" => counts::time_counts(rt, alloc, rounds),
+        "flush" => counts::time_flushes(rt, alloc, rounds),
+        _ => Ok(None),
     }
+}
+
+/// Each part with little to do.
+fn try_each(rt: &(impl Print + Clock), alloc: Global) -> io::Result<()> {
+    'words: for i in 0..WORDS.len() {
+        tell(rt, time(rt, alloc, WORDS[i], 5_000, 2)?)?;
+    }
+    Ok(())
 }
 
 fn main(rt: HostRuntime) -> io::Result<()> {
@@ -75,6 +107,10 @@ fn main(rt: HostRuntime) -> io::Result<()> {
     let words: Vec<String> = env::args(&rt)?.collect(alloc)?;
     match words.get(1) {
         None => try_each(&rt, alloc),
-        Some(word) => run(&rt, alloc, word.as_str()),
+        Some(word) => {
+            let rounds = rounds_of(word.as_str());
+            let nanos = time(&rt, alloc, word.as_str(), 50_000, rounds)?;
+            show(&rt, nanos, rounds)
+        }
     }
 }

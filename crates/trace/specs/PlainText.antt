@@ -3,7 +3,7 @@ use Rattle.std.specs.Prelude.{◌≡◌, ◌≢◌, ℕ, suc, ◌<◌, nat_lt, c
 use Rattle.vm_base.specs.declared.replies.Reply.{Reply}
 use Rattle.vm_base.specs.declared.replies.Reply.TheVariants.{NoMemory}
 use Rattle.vm_base.specs.declared.requests.Request.{Request}
-use Rattle.vm_base.specs.Plain.{Plain, opening}
+use Rattle.vm_base.specs.Plain.{Plain, nothing_mapped}
 use Rattle.machine_model.specs.declared.event.Outcome.TheVariants.{Idle, Answered, Full}
 use Rattle.machine_model.specs.World.{World}
 use Rattle.machine_model.specs.Step.{event_limit}
@@ -24,7 +24,7 @@ pub record Reached : Type 0 where
 
 -- before the first line
 abbrev pub nothing_reached : Reached
-nothing_reached = record { cores = 0; calls = 0; begun = 0; plain = opening (λ n. None) }
+nothing_reached = record { cores = 0; calls = 0; begun = 0; plain = nothing_mapped (λ n. None) }
 
 -- The call is answered, and the plain map goes on. (Its reply is that map's; where no frame is left, "no frame" may answer an access
 -- that the map would serve, and changes nothing.)

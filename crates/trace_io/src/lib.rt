@@ -4,5 +4,3 @@
 pub mod lines;
 pub mod sink;
 pub mod source;
-#[cfg(test)]
-mod tests;

@@ -25,7 +25,8 @@ Asks (Munmap addr len) words = (a : Word) × (l : Word) × (words ≡ codes "mun
 Asks (Mprotect addr len prot) words = (a : Word) × (l : Word) × (p : Word)
     × (words ≡ codes "mprotect" ∷ a ∷ l ∷ p ∷ []) × SpellsNumber a addr × SpellsNumber l len × (p ≡ rights_text prot)
 Asks (Load addr) words = (a : Word) × (words ≡ codes "load" ∷ a ∷ []) × SpellsNumber a addr
-Asks (Store addr byte) words = (a : Word) × (b : Word) × (words ≡ codes "store" ∷ a ∷ b ∷ []) × SpellsNumber a addr × SpellsNumber b byte × (byte ≤ 255)
+Asks (Store addr byte) words = (a : Word) × (b : Word) × (words ≡ codes "store" ∷ a ∷ b ∷ [])
+    × SpellsNumber a addr × SpellsNumber b byte × (byte ≤ 255)
 Asks (Fetch addr) words = (a : Word) × (words ≡ codes "fetch" ∷ a ∷ []) × SpellsNumber a addr
 
 -- the words after CORES and FRAMES: CALLS, which is 4096 where left out

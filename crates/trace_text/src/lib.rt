@@ -14,4 +14,6 @@ pub use line::{Line, first_word_is_vm, is_printable, read_line};
 pub use printing::{ShortText, address_text, number_text, reply_text};
 
 #[cfg(test)]
+mod io_tests;
+#[cfg(test)]
 mod tests;

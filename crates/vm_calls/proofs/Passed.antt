@@ -1,5 +1,6 @@
 -- Plans that passed the check of their arguments
-use Rattle.std.proofs.Common.{◌≡◌, ℕ, ◌+◌, ◌-◌, ◌/◌, ◌^◌, ◌<◌, ◌≤◌, ◌==◌, ◌&&◌, ◌||◌, nat_lt, not, Bool, true, false, Option, Some, None, Result, Ok, Err, refl, ap, subst, arith}
+use Rattle.std.proofs.Common.{◌≡◌, ℕ, ◌+◌, ◌-◌, ◌/◌, ◌^◌, ◌<◌, ◌≤◌, ◌==◌, ◌&&◌, ◌||◌, nat_lt, not, Bool}
+use Rattle.std.proofs.Common.{true, false, Option, Some, None, Result, Ok, Err, refl, ap, subst, arith}
 use Rattle.std.specs.Prelude.{if◌then◌else◌}
 use Rattle.std.proofs.lemmas.Bool.Decides.{nat_tests}
 use Rattle.vm_base.specs.declared.info.Back.TheVariants as BackOf
@@ -46,14 +47,16 @@ record Mappable (addr len : ℕ) (flags : Flags) (off : ℕ) : Type 0 where
   aligned : flags.anon ≡ false → is_aligned off ≡ true
   fits : flags.anon ≡ false → off + len ≤ 2 ^ 47
 
-file-fits : (mode : Option Mode) (len : ℕ) (prot : Prot) (flags : Flags) (off : ℕ) → file_refusal mode len prot flags off ≡ None → off + len ≤ 2 ^ 47
+file-fits : (mode : Option Mode) (len : ℕ) (prot : Prot) (flags : Flags) (off : ℕ)
+    → file_refusal mode len prot flags off ≡ None → off + len ≤ 2 ^ 47
 file-fits None len prot flags off h = absurd cc
 file-fits (Some mode) len prot flags off h =
     let z = unless (nat_lt (2 ^ 47) (off + len)) (answer EOVERFLOW) _ _ refl h in
     let not' : nat_lt (2 ^ 47) (off + len) ≡ false = z.0 in
     grind (arith, nat_tests)
 
-mappable : (modes : ℕ → Option Mode) (addr len : ℕ) (prot : Prot) (flags : Flags) (file off : ℕ) → mmap_refusal modes addr len prot flags file off ≡ None → Mappable addr len flags off
+mappable : (modes : ℕ → Option Mode) (addr len : ℕ) (prot : Prot) (flags : Flags) (file off : ℕ)
+    → mmap_refusal modes addr len prot flags file off ≡ None → Mappable addr len flags off
 mappable modes addr len prot flags file off h =
     let a = unless (len == 0) (answer EINVAL) _ _ refl h in
     let b = unless (not (is_one_kind flags)) (answer EINVAL) _ _ refl a.1 in
@@ -76,16 +79,20 @@ mappable modes addr len prot flags file off h =
     both true false e n = absurd cc
     both false y e n = absurd cc
 
-    by-file : (b : Bool) → b ≡ false → (if b then None else file_refusal (modes file) len prot flags off) ≡ None → off + len ≤ 2 ^ 47
+    by-file : (b : Bool) → b ≡ false
+        → (if b then None else file_refusal (modes file) len prot flags off) ≡ None → off + len ≤ 2 ^ 47
     by-file true e n = absurd cc
     by-file false e n = file-fits (modes file) len prot flags off n
 
 -- the file pages of a mapping's n pages, if it is of a file
-back-fits : (flags : Flags) (file off n : ℕ) → n ≤ 2 ^ 35 → (flags.anon ≡ false → off / 4096 + n ≤ 2 ^ 35) → file_page (back_at flags file off) + n ≤ 2 ^ 35
+back-fits : (flags : Flags) (file off n : ℕ) → n ≤ 2 ^ 35
+    → (flags.anon ≡ false → off / 4096 + n ≤ 2 ^ 35)
+    → file_page (back_at flags file off) + n ≤ 2 ^ 35
 back-fits flags file off n few h = by-kind flags.anon flags.shared h
   where
     by-kind : (anon shared : Bool) → (anon ≡ false → off / 4096 + n ≤ 2 ^ 35)
-        → file_page (if anon then BackOf.Anon else if shared then BackOf.Shared file (page_of off) else BackOf.Private file (page_of off)) + n ≤ 2 ^ 35
+        → file_page (if anon then BackOf.Anon
+        else if shared then BackOf.Shared file (page_of off) else BackOf.Private file (page_of off)) + n ≤ 2 ^ 35
     by-kind true shared h = omega (arith, few)
     by-kind false true h = h refl
     by-kind false false h = h refl
@@ -93,7 +100,8 @@ back-fits flags file off n few h = by-kind flags.anon flags.shared h
 pages-sound : (addr len : ℕ) → 1 ≤ len → are_pages (pages_of addr len) ≡ true → IsPageRange (pages_of addr len)
 pages-sound addr len some valid = go (len == 0) refl valid
   where
-    go : (b : Bool) → (len == 0) ≡ b → are_pages (record { first = page_of addr; end = if b then page_of addr else page_count (addr + len) }) ≡ true
+    go : (b : Bool) → (len == 0) ≡ b
+        → are_pages (record { first = page_of addr; end = if b then page_of addr else page_count (addr + len) }) ≡ true
         → IsPageRange (record { first = page_of addr; end = if b then page_of addr else page_count (addr + len) })
     go true e v = absurd (grind (arith, nat_tests))
     go false e v = record {
@@ -102,53 +110,77 @@ pages-sound addr len some valid = go (len == 0) refl valid
       high = grind (arith, nat_tests);
     }
 
-change-sound : (addr len : ℕ) (prot : Prot) (flags : Flags) (file off : ℕ) → Mappable addr len flags off → flags.fixed ≡ true → IsSoundPut (pages_of addr len) (meta_of prot flags file off)
+change-sound : (addr len : ℕ) (prot : Prot) (flags : Flags) (file off : ℕ)
+    → Mappable addr len flags off → flags.fixed ≡ true
+    → IsSoundPut (pages_of addr len) (meta_of prot flags file off)
 change-sound addr len prot flags file off h is =
     let start : is_aligned addr ≡ true = h.fixed is in
     let sound : IsPageRange (pages_of addr len) = pages-sound addr len h.some (h.valid is) in
     let count : (pages_of addr len).end - (pages_of addr len).first ≤ page_count len = by-length start (len == 0) refl in
     record {
       pages = sound;
-      fits = back-fits flags file off _ (omega (arith, sound.high)) (λ no'. let o : is_aligned off ≡ true = h.aligned no' in let top : off + len ≤ 2 ^ 47 = h.fits no' in in-file o top _ count);
+      fits = back-fits flags file off _ (omega (arith, sound.high)) (λ no'.
+          let o : is_aligned off ≡ true = h.aligned no' in
+          let top : off + len ≤ 2 ^ 47 = h.fits no' in
+          in-file o top _ count);
     }
   where
-    by-length : is_aligned addr ≡ true → (b : Bool) → (len == 0) ≡ b → (if b then page_of addr else page_count (addr + len)) - page_of addr ≤ page_count len
+    by-length : is_aligned addr ≡ true → (b : Bool) → (len == 0) ≡ b
+        → (if b then page_of addr else page_count (addr + len)) - page_of addr ≤ page_count len
     by-length start true e = omega arith
     by-length start false e = grind (arith, nat_tests)
 
     in-file : is_aligned off ≡ true → off + len ≤ 2 ^ 47 → (n : ℕ) → n ≤ page_count len → off / 4096 + n ≤ 2 ^ 35
     in-file o top n few = grind (arith, nat_tests)
 
-place-sound : (core addr len : ℕ) (prot : Prot) (flags : Flags) (file off : ℕ) → core < 64 → Mappable addr len flags off → IsSoundPlace (place_of core addr len (meta_of prot flags file off))
+place-sound : (core addr len : ℕ) (prot : Prot) (flags : Flags) (file off : ℕ) → core < 64
+    → Mappable addr len flags off
+    → IsSoundPlace (place_of core addr len (meta_of prot flags file off))
 place-sound core addr len prot flags file off few h = record {
   some = omega (arith, h.some);
   hint = by-pages (are_pages (pages_from (page_of addr) (placed_count len))) refl;
   window = record { some = omega arith; low = omega arith; high = omega arith };
-  fits = back-fits flags file off (placed_count len) (omega arith) (λ no'. let o : is_aligned off ≡ true = h.aligned no' in let top : off + len ≤ 2 ^ 47 = h.fits no' in in-file o top);
+  fits = back-fits flags file off (placed_count len) (omega arith) (λ no'.
+      let o : is_aligned off ≡ true = h.aligned no' in
+      let top : off + len ≤ 2 ^ 47 = h.fits no' in
+      in-file o top);
 }
   where
-    by-pages : (b : Bool) → are_pages (pages_from (page_of addr) (placed_count len)) ≡ b → IsSoundHint (if b then Some (pages_from (page_of addr) (placed_count len)) else None) (placed_count len)
+    by-pages : (b : Bool) → are_pages (pages_from (page_of addr) (placed_count len)) ≡ b
+        → IsSoundHint (if b then Some (pages_from (page_of addr) (placed_count len)) else None) (placed_count len)
     by-pages false e = tt
-    by-pages true e = (record { some = omega (arith, h.some); low = grind (arith, nat_tests); high = grind (arith, nat_tests) }, refl)
+    by-pages true e =
+        (record { some = omega (arith, h.some); low = grind (arith, nat_tests); high = grind (arith, nat_tests) }, refl)
 
     in-file : is_aligned off ≡ true → off + len ≤ 2 ^ 47 → off / 4096 + placed_count len ≤ 2 ^ 35
     in-file o top = grind (arith, nat_tests)
 
-mmap-sound : (core addr len : ℕ) (prot : Prot) (flags : Flags) (file off : ℕ) (plan : Plan) → core < 64 → Mappable addr len flags off → plan_of core (Mmap addr len prot flags file off) ≡ Ok plan → IsSound plan
+mmap-sound : (core addr len : ℕ) (prot : Prot) (flags : Flags) (file off : ℕ) (plan : Plan)
+    → core < 64 → Mappable addr len flags off
+    → plan_of core (Mmap addr len prot flags file off) ≡ Ok plan → IsSound plan
 mmap-sound core addr len prot flags file off plan few h is = go flags.fixed refl is
   where
     meta : Meta
     meta = meta_of prot flags file off
 
-    go : (b : Bool) → flags.fixed ≡ b → ◌≡◌ {A = Result Plan Reply} (if b then Ok (PlanOf.Change (Put (pages_of addr len) meta)) else Ok (PlanOf.Place (place_of core addr len meta))) (Ok plan) → IsSound plan
-    go true e is = let same : PlanOf.Change (Put (pages_of addr len) meta) ≡ plan = cc in subst IsSound same (change-sound addr len prot flags file off h e)
-    go false e is = let same : PlanOf.Place (place_of core addr len meta) ≡ plan = cc in subst IsSound same (place-sound core addr len prot flags file off few h)
+    go : (b : Bool) → flags.fixed ≡ b
+        → ◌≡◌ {A = Result Plan Reply}
+        (if b then Ok (PlanOf.Change (Put (pages_of addr len) meta)) else Ok (PlanOf.Place (place_of core addr len meta)))
+        (Ok plan)
+        → IsSound plan
+    go true e is =
+        let same : PlanOf.Change (Put (pages_of addr len) meta) ≡ plan = cc in
+        subst IsSound same (change-sound addr len prot flags file off h e)
+    go false e is =
+        let same : PlanOf.Place (place_of core addr len meta) ≡ plan = cc in
+        subst IsSound same (place-sound core addr len prot flags file off few h)
 
 -- ---- munmap and mprotect
 
 clear-sound : (addr len : ℕ) → munmap_refusal addr len ≡ None → IsPageRange (pages_of addr len)
 clear-sound addr len h =
-    let a : (len == 0 || not (is_aligned addr) || not (are_pages (pages_of addr len))) ≡ false = (unless (len == 0 || not (is_aligned addr) || not (are_pages (pages_of addr len))) (answer EINVAL) None _ refl h).0 in
+    let a : (len == 0 || not (is_aligned addr) || not (are_pages (pages_of addr len))) ≡ false =
+    (unless (len == 0 || not (is_aligned addr) || not (are_pages (pages_of addr len))) (answer EINVAL) None _ refl h).0 in
     pages-sound addr len (grind (arith, nat_tests)) (grind (arith, nat_tests))
 
 protect-sound : (addr len : ℕ) → mprotect_refusal addr len ≡ None → IsPageRange (pages_of addr len)
@@ -163,10 +195,12 @@ protect-sound addr len h =
 -- ---- accesses
 
 -- an access that passed is to a valid page
-pub touch-of : (addr byte : ℕ) (access : Access) (plan : Plan) → touched addr access byte ≡ Ok plan → (is_page (page_of addr) ≡ true) × (PlanOf.Touch (touch_of addr access byte) ≡ plan)
+pub touch-of : (addr byte : ℕ) (access : Access) (plan : Plan) → touched addr access byte ≡ Ok plan
+    → (is_page (page_of addr) ≡ true) × (PlanOf.Touch (touch_of addr access byte) ≡ plan)
 touch-of addr byte access plan is = go (is_page (page_of addr)) refl is
   where
-    go : (b : Bool) → is_page (page_of addr) ≡ b → ◌≡◌ {A = Result Plan Reply} (if b then Ok (PlanOf.Touch (touch_of addr access byte)) else Err (Segv MapErr)) (Ok plan)
+    go : (b : Bool) → is_page (page_of addr) ≡ b
+        → ◌≡◌ {A = Result Plan Reply} (if b then Ok (PlanOf.Touch (touch_of addr access byte)) else Err (Segv MapErr)) (Ok plan)
         → (is_page (page_of addr) ≡ true) × (PlanOf.Touch (touch_of addr access byte) ≡ plan)
     go true e is = (e, cc)
     go false e is = absurd cc
@@ -179,13 +213,22 @@ touch-sound addr byte access plan is =
 
 -- ---- every request
 
-plan-sound : (modes : ℕ → Option Mode) (core : ℕ) (request : Request) (plan : Plan) → core < 64 → refusal modes request ≡ None → plan_of core request ≡ Ok plan → IsSound plan
-plan-sound modes core (Mmap addr len prot flags file off) plan few ok is = mmap-sound core addr len prot flags file off plan few (mappable modes addr len prot flags file off ok) is
-plan-sound modes core (Munmap addr len) plan few ok is = let same : PlanOf.Change (Clear (pages_of addr len)) ≡ plan = cc in subst IsSound same (clear-sound addr len ok)
-plan-sound modes core (Mprotect addr len prot) plan few ok is = let same : PlanOf.Change (Protect (pages_of addr len) prot) ≡ plan = cc in subst IsSound same (protect-sound addr len ok)
+plan-sound : (modes : ℕ → Option Mode) (core : ℕ) (request : Request) (plan : Plan) → core < 64
+    → refusal modes request ≡ None → plan_of core request ≡ Ok plan → IsSound plan
+plan-sound modes core (Mmap addr len prot flags file off) plan few ok is =
+    mmap-sound core addr len prot flags file off plan few (mappable modes addr len prot flags file off ok) is
+plan-sound modes core (Munmap addr len) plan few ok is =
+    let same : PlanOf.Change (Clear (pages_of addr len)) ≡ plan = cc in
+    subst IsSound same (clear-sound addr len ok)
+plan-sound modes core (Mprotect addr len prot) plan few ok is =
+    let same : PlanOf.Change (Protect (pages_of addr len) prot) ≡ plan = cc in
+    subst IsSound same (protect-sound addr len ok)
 plan-sound modes core (LoadOf addr) plan few ok is = touch-sound addr 0 Load plan is
 plan-sound modes core (StoreOf addr byte) plan few ok is = touch-sound addr byte Store plan is
 plan-sound modes core (FetchOf addr) plan few ok is = touch-sound addr 0 Fetch plan is
 
-pub checked_is_sound : (modes : ℕ → Option Mode) (core : ℕ) (request : Request) (plan : Plan) → core < 64 → checked modes core request ≡ Ok plan → IsSound plan
-checked_is_sound modes core request plan few is = let z = passed (refusal modes request) (plan_of core request) plan is in plan-sound modes core request plan few z.0 z.1
+pub checked_is_sound : (modes : ℕ → Option Mode) (core : ℕ) (request : Request) (plan : Plan)
+    → core < 64 → checked modes core request ≡ Ok plan → IsSound plan
+checked_is_sound modes core request plan few is =
+    let z = passed (refusal modes request) (plan_of core request) plan is in
+    plan-sound modes core request plan few z.0 z.1

@@ -81,8 +81,12 @@ DecidesPlace s place d =
 -- another protection is refused as by the plain map
 pub data DecidesProtect (files : ℕ → Option File) (s : Slots) (range : PageRange) (prot : Prot) (d : Decision) : Type 0 where
   no_page : HasPage is_absent (entries s) range → d ≡ Refuse ENOMEM → DecidesProtect files s range prot d
-  no_write : ¬ HasPage is_absent (entries s) range → prot.write ≡ true → HasPage (is_read_only files) (entries s) range → d ≡ Refuse EACCES → DecidesProtect files s range prot d
-  acts : ¬ HasPage is_absent (entries s) range → (prot.write ≡ true → ¬ HasPage (is_read_only files) (entries s) range) → Acts s range d → DecidesProtect files s range prot d
+  no_write : ¬ HasPage is_absent (entries s) range → prot.write ≡ true
+      → HasPage (is_read_only files) (entries s) range → d ≡ Refuse EACCES
+      → DecidesProtect files s range prot d
+  acts : ¬ HasPage is_absent (entries s) range
+      → (prot.write ≡ true → ¬ HasPage (is_read_only files) (entries s) range) → Acts s range d
+      → DecidesProtect files s range prot d
 
 abbrev pub DecidesChange : (ℕ → Option File) → Slots → Change → Decision → Type 0
 DecidesChange files s (Put range meta) d = Acts s range d

@@ -64,13 +64,16 @@ DecisionsArePlain =
 -- A decision looks at the pages of its footprint alone
 abbrev pub DecisionsLookAtFootprints : Type 0
 DecisionsLookAtFootprints =
-    (files : ℕ → Option File) (s t : Slots) (plan : Plan) (d : Decision) → IsSound plan → AreAlike (footprint_of plan) s t → Decides files s plan d → Decides files t plan d
+    (files : ℕ → Option File) (s t : Slots) (plan : Plan) (d : Decision) → IsSound plan
+    → AreAlike (footprint_of plan) s t → Decides files s plan d → Decides files t plan d
 
 -- ---- what the check decides
 
 -- What the check lets through is a sound plan
 abbrev pub CheckedPlansAreSound : Type 0
-CheckedPlansAreSound = (modes : ℕ → Option Mode) (core : ℕ) (request : Request) (plan : Plan) → core < 64 → checked modes core request ≡ Ok plan → IsSound plan
+CheckedPlansAreSound =
+    (modes : ℕ → Option Mode) (core : ℕ) (request : Request) (plan : Plan)
+    → core < 64 → checked modes core request ≡ Ok plan → IsSound plan
 
 -- what the check answers is the plain map's answer, which it leaves as it is
 abbrev pub RefusalsArePlain : Type 0

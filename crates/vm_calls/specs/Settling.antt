@@ -10,15 +10,11 @@ use Rattle.vm_base.specs.declared.replies.Reply.{Reply}
 use Rattle.vm_base.specs.declared.replies.Reply.TheVariants as ReplyOf
 use Rattle.vm_base.specs.Rights.{is_allowed}
 use Rattle.vm_base.specs.Plain.{File, Entry, bytes_of}
-use Rattle.vm_base.specs.Apply.{byte_reply}
+use Rattle.vm_base.specs.Apply.{byte_reply, is_anonymous}
 use Rattle.vm_calls.specs.declared.fault.Settled.{Settled}
 use Rattle.vm_calls.specs.declared.fault.Settled.TheVariants.{MapErr, AccErr, Bus, Has, Copies, Cached, Wants}
 
 -- ---- what it finds
-
-abbrev pub is_anonymous : Back → Bool
-is_anonymous Anon = true
-is_anonymous _ = false
 
 -- a store to a private page of a file, which the file is never to see (POSIX.1-2017, mmap, MAP_PRIVATE)
 abbrev pub is_private_store : Back → Access → Bool

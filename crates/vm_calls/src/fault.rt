@@ -1,8 +1,8 @@
 //! What an access finds at its page.
 ghost use Rattle.std.specs.Prelude.{◌≡◌, ℕ, Option};
 ghost use Rattle.vm_base.specs.Plain.{File, Entry};
-ghost use Rattle.vm_base.specs.Apply.{entry_reply};
-ghost use Rattle.vm_calls.specs.Settling.{settled, source, is_private_store, is_anonymous, IsSettled, IsEntryOf};
+ghost use Rattle.vm_base.specs.Apply.{entry_reply, is_anonymous};
+ghost use Rattle.vm_calls.specs.Settling.{settled, source, is_private_store, IsSettled, IsEntryOf};
 
 use vm_base::{Access, Back, PageInfo, allows};
 

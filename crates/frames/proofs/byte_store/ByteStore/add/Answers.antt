@@ -1,9 +1,9 @@
-use Rattle.std.proofs.Common.{◌≡◌, ◌<◌, ◌≤◌, ◌+◌, ◌∙◌, None, Some, get_or, set, length, rules, arith, refl, sym, subst, ap}
-use Rattle.std.specs.Vec.{vec_capacity, vec_len}
+use Rattle.std.proofs.Common.{◌≡◌, ◌<◌, ◌+◌, ◌∙◌, None, Some, get_or, set, length, rules, sym, subst, ap}
+use Rattle.std.specs.Vec.{vec_capacity}
 use Rattle.vm_base.specs.Functions.{put}
-use Rattle.vm_base.specs.Plain.{page_bytes, zeros}
-use Rattle.frames.specs.Pages.{Stored, IsStored, stored_bytes, all_pages}
-use Rattle.frames.proofs.Stored.{stored-put, stored-at, stored-none, stored-add, stored-added, stored-room, stored-new, stored-kept, stored-zero}
+use Rattle.vm_base.specs.Plain.{page_bytes}
+use Rattle.frames.specs.Pages.{Stored, stored_bytes, all_pages}
+use Rattle.frames.proofs.Stored.{stored-add, stored-added, stored-room}
 use Rattle.frames.proofs.byte_store.ByteStore.add.Goals as goal
 
 pub push-requires : goal.push-requires

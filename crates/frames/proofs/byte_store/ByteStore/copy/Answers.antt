@@ -1,14 +1,10 @@
-use Rattle.std.proofs.Common.{◌≡◌, ◌<◌, ◌≤◌, ◌+◌, ◌∙◌, None, Some, get_or, set, length, rules, arith, refl, sym, subst, ap}
-use Rattle.std.specs.Vec.{vec_capacity, vec_len}
+use Rattle.std.proofs.Common.{sym, ◌∙◌, ap}
 use Rattle.vm_base.specs.Functions.{put}
-use Rattle.vm_base.specs.Plain.{page_bytes, zeros}
-use Rattle.frames.specs.Pages.{Stored, IsStored, stored_bytes, all_pages}
-use Rattle.frames.proofs.Stored.{stored-put, stored-at, stored-none, stored-add, stored-added, stored-room, stored-new, stored-kept, stored-zero}
+use Rattle.frames.specs.Pages.{stored_bytes}
+use Rattle.frames.proofs.Stored.{stored-empty}
 use Rattle.frames.proofs.byte_store.ByteStore.copy.Goals as goal
 
 pub returns-in-None-clause-bytes : goal.returns-in-None-clause-bytes
 returns-in-None-clause-bytes g c =
-    let s : Stored = record { places = c.self.inside.places.items; pages = c.self.inside.pages.items; capacity = vec_capacity c.self.inside.pages } in
-    let none : get_or c.self.inside.places.items c.args.from None ≡ None = sym c.place_of-place.ensures ∙ c.in-None.is in
-    let was : stored_bytes c.args.self.now c.args.from ≡ zeros = ap (λ v. stored_bytes v c.args.from) (sym c.self.view_is) ∙ stored-none s c.args.from none in
+    let was = stored-empty c.args.from c.self.view_is (sym c.place_of-place.ensures ∙ c.in-None.is) in
     c.fill_zero.ensures.bytes ∙ ap (put (stored_bytes c.args.self.now) c.args.to) (sym was)

@@ -1,29 +1,24 @@
-use Rattle.std.proofs.Common.{◌≡◌, ◌<◌, ◌≤◌, ◌+◌, ◌∙◌, None, Some, get_or, set, length, rules, arith, refl, sym, subst, ap}
-use Rattle.std.specs.Vec.{vec_capacity, vec_len}
+use Rattle.std.proofs.Common.{◌≡◌, Some, None, get_or, sym, ◌∙◌, ap, refl, rules}
 use Rattle.vm_base.specs.Functions.{put}
-use Rattle.vm_base.specs.Plain.{page_bytes, zeros}
-use Rattle.frames.specs.Pages.{Stored, IsStored, stored_bytes, all_pages}
-use Rattle.frames.proofs.Stored.{stored-put, stored-at, stored-none, stored-add, stored-added, stored-room, stored-new, stored-kept, stored-zero}
+use Rattle.frames.specs.Pages.{Stored, stored_bytes, all_pages}
+use Rattle.frames.proofs.Stored.{stored-held, stored-written}
 use Rattle.frames.proofs.byte_store.ByteStore.copy_page.Goals as goal
 
 pub copy-requires-clause-to : goal.copy-requires-clause-to
 copy-requires-clause-to g c =
-    let at : get_or c.self.inside.places.items c.args.to None ≡ Some c.in-Some.place = sym c.place_of-place.ensures ∙ c.in-Some.is in
-    let less : c.in-Some.place < length c.self.inside.pages.items = c.self.invariant.below c.args.to c.in-Some.place at in
+    let less = c.self.invariant.below c.args.to c.in-Some.place (sym c.place_of-place.ensures ∙ c.in-Some.is) in
     search rules
 
 pub returns-in-Some-clause-bytes : goal.returns-in-Some-clause-bytes
 returns-in-Some-clause-bytes g c =
-    let s : Stored = record { places = c.self.inside.places.items; pages = c.self.inside.pages.items; capacity = vec_capacity c.self.inside.pages } in
-    let t : Stored = record { places = c.self.inside.places.items; pages = c.copy.new.pages.items; capacity = vec_capacity c.copy.new.pages } in
-    let at : get_or c.self.inside.places.items c.args.to None ≡ Some c.in-Some.place = sym c.place_of-place.ensures ∙ c.in-Some.is in
-    let from : get_or c.self.inside.places.items c.args.from None ≡ Some c.args.at = ap (λ (v : Stored). get_or v.places c.args.from None) c.self.view_is ∙ c.requires.page in
-    stored-put s t c.args.to c.in-Some.place (all_pages s.pages c.args.at) c.self.invariant at refl c.copy.ensures.bytes
-    ∙ ap (put (stored_bytes s) c.args.to) (sym (stored-at s c.args.from c.args.at from))
-    ∙ ap (λ v. put (stored_bytes v) c.args.to (stored_bytes v c.args.from)) c.self.view_is
+    let from = ap (λ (v : Stored). get_or v.places c.args.from None) c.self.view_is ∙ c.requires.page in
+    stored-written _ c.args.to c.in-Some.place (all_pages c.self.inside.pages.items c.args.at) c.self.invariant c.self.view_is
+    (sym c.place_of-place.ensures ∙ c.in-Some.is) refl c.copy.ensures.bytes
+    ∙ ap (put (stored_bytes c.args.self.now) c.args.to) (sym (stored-held c.args.from c.args.at c.self.view_is from))
 
 pub returns-in-None-clause-bytes : goal.returns-in-None-clause-bytes
 returns-in-None-clause-bytes g c =
-    let s : Stored = record { places = c.self.inside.places.items; pages = c.self.inside.pages.items; capacity = vec_capacity c.self.inside.pages } in
-    let from : get_or c.self.inside.places.items c.args.from None ≡ Some c.args.at = ap (λ (v : Stored). get_or v.places c.args.from None) c.self.view_is ∙ c.requires.page in
-    c.add.ensures.bytes ∙ ap (put (stored_bytes c.args.self.now) c.args.to) (c.page_at-page.ensures ∙ sym (stored-at s c.args.from c.args.at from) ∙ ap (λ v. stored_bytes v c.args.from) c.self.view_is)
+    let from = ap (λ (v : Stored). get_or v.places c.args.from None) c.self.view_is ∙ c.requires.page in
+    c.add.ensures.bytes
+    ∙ ap (put (stored_bytes c.args.self.now) c.args.to)
+    (c.page_at-page.ensures ∙ sym (stored-held c.args.from c.args.at c.self.view_is from))

@@ -1,21 +1,14 @@
-use Rattle.std.proofs.Common.{◌≡◌, ◌<◌, ◌≤◌, ◌+◌, ◌∙◌, None, Some, get_or, set, length, rules, arith, refl, sym, subst, ap}
-use Rattle.std.specs.Vec.{vec_capacity, vec_len}
-use Rattle.vm_base.specs.Functions.{put}
-use Rattle.vm_base.specs.Plain.{page_bytes, zeros}
-use Rattle.frames.specs.Pages.{Stored, IsStored, stored_bytes, all_pages}
-use Rattle.frames.proofs.Stored.{stored-put, stored-at, stored-none, stored-add, stored-added, stored-room, stored-new, stored-kept, stored-zero}
+use Rattle.std.proofs.Common.{sym, ◌∙◌, refl, rules}
+use Rattle.vm_base.specs.Plain.{page_bytes}
+use Rattle.frames.proofs.Stored.{stored-written}
 use Rattle.frames.proofs.byte_store.ByteStore.fill.Goals as goal
 
 pub fill-requires-clause-page : goal.fill-requires-clause-page
 fill-requires-clause-page g c =
-    let at : get_or c.self.inside.places.items c.args.frame None ≡ Some c.in-Some.at = sym c.place_of-place.ensures ∙ c.in-Some.is in
-    let less : c.in-Some.at < length c.self.inside.pages.items = c.self.invariant.below c.args.frame c.in-Some.at at in
+    let less = c.self.invariant.below c.args.frame c.in-Some.at (sym c.place_of-place.ensures ∙ c.in-Some.is) in
     search rules
 
 pub returns-in-Some-clause-bytes : goal.returns-in-Some-clause-bytes
 returns-in-Some-clause-bytes g c =
-    let s : Stored = record { places = c.self.inside.places.items; pages = c.self.inside.pages.items; capacity = vec_capacity c.self.inside.pages } in
-    let t : Stored = record { places = c.self.inside.places.items; pages = c.fill.new.pages.items; capacity = vec_capacity c.fill.new.pages } in
-    let at : get_or c.self.inside.places.items c.args.frame None ≡ Some c.in-Some.at = sym c.place_of-place.ensures ∙ c.in-Some.is in
-    stored-put s t c.args.frame c.in-Some.at (page_bytes c.args.bytes.now 0) c.self.invariant at refl c.fill.ensures.bytes
-    ∙ ap (λ v. put (stored_bytes v) c.args.frame (page_bytes c.args.bytes.now 0)) c.self.view_is
+    stored-written _ c.args.frame c.in-Some.at (page_bytes c.args.bytes.now 0) c.self.invariant c.self.view_is
+    (sym c.place_of-place.ensures ∙ c.in-Some.is) refl c.fill.ensures.bytes

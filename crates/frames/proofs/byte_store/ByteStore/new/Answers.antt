@@ -1,9 +1,7 @@
-use Rattle.std.proofs.Common.{◌≡◌, ◌<◌, ℕ, Option, [], replicate, ◌≤◌, ◌+◌, ◌∙◌, None, Some, get_or, set, length, rules, arith, refl, sym, subst, ap}
-use Rattle.std.specs.Vec.{vec_capacity, vec_len}
-use Rattle.vm_base.specs.Functions.{put}
-use Rattle.vm_base.specs.Plain.{page_bytes, zeros}
-use Rattle.frames.specs.Pages.{Stored, IsStored, stored_bytes, all_pages}
-use Rattle.frames.proofs.Stored.{stored-put, stored-at, stored-none, stored-add, stored-added, stored-room, stored-new, stored-opened, stored-kept, stored-zero}
+use Rattle.std.proofs.Common.{◌≡◌, [], rules}
+use Rattle.std.specs.Vec.{vec_capacity}
+use Rattle.frames.specs.Pages.{Stored}
+use Rattle.frames.proofs.Stored.{stored-new, stored-opened}
 use Rattle.frames.proofs.byte_store.ByteStore.new.Goals as goal
 
 pub returns-clause-bytes : goal.returns-clause-bytes

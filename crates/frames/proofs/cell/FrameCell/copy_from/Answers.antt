@@ -1,9 +1,6 @@
-use Rattle.std.proofs.Common.{◌≡◌, ◌∙◌, length, rules, refl, sym, ap}
-use Rattle.vm_base.specs.Functions.{put}
-use Rattle.vm_base.specs.Plain.{page_bytes, zeros}
-use Rattle.frames.specs.Pages.{all_pages}
+use Rattle.std.proofs.Common.{◌≡◌, ◌∙◌, length, rules, sym, ap}
 use Rattle.frames.specs.Parts.{CellParts, cell_bytes}
-use Rattle.frames.proofs.PageLists.{pages-first, pages-empty, page-none}
+use Rattle.frames.proofs.PageLists.{pages-empty}
 use Rattle.frames.proofs.cell.FrameCell.copy_from.Goals as goal
 
 pub returns-then-is_empty-clause-bytes : goal.returns-then-is_empty-clause-bytes

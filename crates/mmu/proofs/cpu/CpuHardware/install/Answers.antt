@@ -1,4 +1,5 @@
 use Rattle.std.proofs.Common.{arith, ◌∙◌, ap, Some}
+use Rattle.mmu.proofs.LastTable.{none_on_pages}
 use Rattle.mmu.proofs.Valid.{put_pages, keep_pages, on_ok, on_err}
 use Rattle.mmu.proofs.cpu.CpuHardware.install.Goals as goal
 
@@ -7,3 +8,6 @@ returns-clause-ok g c = on_ok c.install.result (λ there. put_pages 68719476736 
 
 pub returns-clause-err : goal.returns-clause-err
 returns-clause-err g c = on_err c.install.result (λ here. keep_pages 68719476736 _ _ c.args.page (omega arith) here c.install.ensures.others) c.install.ensures.err
+
+pub returns-clause-err_last : goal.returns-clause-err_last
+returns-clause-err_last g c = on_err c.install.result (none_on_pages 68719476736 _ c.args.page (omega arith)) c.install.ensures.err_last

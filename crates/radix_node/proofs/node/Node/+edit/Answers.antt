@@ -1,14 +1,14 @@
-use Rattle.std.proofs.Common.{◌≡◌, ◌+◌, ◌*◌, ◌-◌, ◌<◌, ◌≤◌, ◌^◌, refl, sym, ap, ◌∙◌, subst, rules, get_or, arith}
+use Rattle.std.proofs.Common.{ℕ, ◌≡◌, ◌+◌, ◌*◌, ◌-◌, ◌<◌, ◌≤◌, ◌^◌, refl, sym, ap, ◌∙◌, subst, rules, get_or, arith}
 use Rattle.radix_node.specs.Run.{width_of, cell_at, IsWhole}
 use Rattle.radix_node.specs.Node.{Parts, runs, flatten}
 use Rattle.radix_node.specs.Slots.{parts_of, IsNode}
 use Rattle.radix_node.specs.Edit.{CanEdit, edited_cell}
 use Rattle.radix_node.proofs.Divided.{part_ends}
-use Rattle.radix_node.proofs.Flat.{whole-node, child_level, child_pages, child_node}
+use Rattle.radix_node.proofs.Flat.{IsPlace, whole-node, child_level, child_pages, child_node}
 use Rattle.radix_node.proofs.Walks.{Along, IsPart, along_below, along_done, along_next, slot_small}
-use Rattle.radix_node.proofs.Edits.{Edits, edits_none, own_within, own_node, edits_own, edits_child, child_begins, child_ends, can_fewer}
+use Rattle.radix_node.proofs.Edits.{Edits, edits_none, own_within, own_node, edits_own, edits_child, child_begins, child_ends, can_fewer, InSlot, own_narrow, child_narrow, child_uncrossed}
 use Rattle.radix_node.proofs.node.Node.+edit.Goals as goal
-use Rattle.radix_node.proofs.node.Node.+edit.Goals.{in-Own, in-Child}
+use Rattle.radix_node.proofs.node.Node.+edit.Goals.{in-Own, in-Child, in-Own-index_mut, in-Child-index_mut}
 
 pub slots-init : goal.slots-init
 slots-init g t c =
@@ -28,34 +28,55 @@ slots-init g t c =
       rw (← c.self.view_is) (edits_none _ c.args.first c.args.end c.args.by c.args.edit.now _ from),
     )
 
-pub invariant_of-self : goal.invariant_of-self
-invariant_of-self g t c = c.slots.invariant.1
-
 pub part_in-part-requires-clause-small : goal.part_in-part-requires-clause-small
-part_in-part-requires-clause-small g t c = let w = c.slots.invariant.0.width_is in rw w (slot_small c.slots.invariant.0 c.slots-test.true)
+part_in-part-requires-clause-small g t c =
+    let w = c.slots.invariant.0.width_is in rw w (slot_small c.slots.invariant.0 c.slots-test.true)
 
-pub edit-requires-in-Child : goal.edit-requires-in-Child
-edit-requires-in-Child g t c κs within =
+pub edit-requires-in-Child-index_mut : goal.edit-requires-in-Child-index_mut
+edit-requires-in-Child-index_mut g t c κs within =
     let l = c.slots.invariant.0 in
     let n = c.slots.invariant.1 in
     let h = c.slots.invariant.3 in
     let low = along_below l c.slots-test.true in
     let is_in : c.slots.k < 512 = omega (arith, l.last, c.slots-test.true) in
-    let kw : c.slots.k * c.slot_pages-width.result ≡ c.slots.k * width_of c.slots.self-inside.level = ap (λ n. c.slots.k * n) l.width_is in
-    let part : IsPart c.args.first c.args.end (c.slots.k * width_of c.slots.self-inside.level) (width_of c.slots.self-inside.level) c.part_in-part.result.first c.part_in-part.result.end = subst (λ n. IsPart c.args.first c.args.end (c.slots.k * n) n c.part_in-part.result.first c.part_in-part.result.end) l.width_is (record { first_is = c.part_in-part.ensures.first; end_is = c.part_in-part.ensures.end }) in
-    let is = sym c.in-Child.is ∙ c.index_mut.ensures.value in
-    let e = c.deref_mut.ensures.value in
-    let w = child_pages _ c.in-Child.node c.deref_mut.result.now n is_in is e in
-    let lower = child_level _ c.in-Child.node c.deref_mut.result.now n is_in is e in
+    let kw : c.slots.k * c.slot_pages-width.result ≡ c.slots.k * width_of c.slots.self-inside.level =
+    ap (λ n. c.slots.k * n) l.width_is in
+    let part : IsPart c.args.first c.args.end (c.slots.k * width_of c.slots.self-inside.level) (width_of c.slots.self-inside.level) c.part_in-part.result.first c.part_in-part.result.end =
+    subst
+    (λ n. IsPart c.args.first c.args.end (c.slots.k * n) n c.part_in-part.result.first c.part_in-part.result.end)
+    l.width_is
+    (record { first_is = c.part_in-part.ensures.first; end_is = c.part_in-part.ensures.end }) in
+    let is = sym c.in-Child-index_mut.is ∙ c.index_mut-in-slots.ensures.value in
+    let e = c.deref_mut-in-Child-index_mut.ensures.value in
+    let w =
+    child_pages _ c.in-Child-index_mut.node c.deref_mut-in-Child-index_mut.result.now n is_in is e
+    in
+    let lower =
+    child_level _ c.in-Child-index_mut.node c.deref_mut-in-Child-index_mut.result.now n is_in is e
+    in
     let here = c.slots.invariant.2 in
     let p = c.part_in-part.ensures in
     let wide = l.width_is in
-    let within' : c.part_in-part.result.end ≤ 512 * width_of c.deref_mut.result.now.level = omega (arith, p.within, w, wide) in
-    let begins = child_begins _ c.in-Child.node c.deref_mut.result.now (runs c.args.self.now) c.args.first c.args.end c.part_in-part.result.first c.part_in-part.result.end c.args.by c.args.edit.now n is_in is e part p.some c.requires.begins h in
-    let ends = child_ends _ c.in-Child.node c.deref_mut.result.now (runs c.args.self.now) c.args.first c.args.end c.part_in-part.result.first c.part_in-part.result.end c.args.by c.args.edit.now n is_in is e part p.some c.requires.ends h in
-    let fewer : (c.args.by + (c.slots.k * c.slot_pages-width.result + c.part_in-part.result.first - c.args.first)) + (c.part_in-part.result.end - c.part_in-part.result.first) ≤ c.args.by + (c.args.end - c.args.first) = omega (arith, p.first, p.end, p.some) in
-    let few : (c.args.by + (c.slots.k * c.slot_pages-width.result + c.part_in-part.result.first - c.args.first)) + (c.part_in-part.result.end - c.part_in-part.result.first) ≤ 2 ^ 36 = omega (arith, fewer, c.requires.few) in
-    let can = can_fewer c.args.edit.now (c.args.by + (c.args.end - c.args.first)) ((c.args.by + (c.slots.k * c.slot_pages-width.result + c.part_in-part.result.first - c.args.first)) + (c.part_in-part.result.end - c.part_in-part.result.first)) c.requires.sound fewer (omega (arith, p.some)) in
+    let within' : c.part_in-part.result.end ≤ 512 * width_of c.deref_mut-in-Child-index_mut.result.now.level =
+    omega (arith, p.within, w, wide) in
+    let begins =
+    child_begins _ c.in-Child-index_mut.node c.deref_mut-in-Child-index_mut.result.now
+    (runs c.args.self.now) c.args.first c.args.end c.part_in-part.result.first
+    c.part_in-part.result.end c.args.by c.args.edit.now n is_in is e part p.some c.requires.begins h
+    in
+    let ends =
+    child_ends _ c.in-Child-index_mut.node c.deref_mut-in-Child-index_mut.result.now
+    (runs c.args.self.now) c.args.first c.args.end c.part_in-part.result.first
+    c.part_in-part.result.end c.args.by c.args.edit.now n is_in is e part p.some c.requires.ends h
+    in
+    let fewer : (c.args.by + (c.slots.k * c.slot_pages-width.result + c.part_in-part.result.first - c.args.first)) + (c.part_in-part.result.end - c.part_in-part.result.first) ≤ c.args.by + (c.args.end - c.args.first) =
+    omega (arith, p.first, p.end, p.some) in
+    let few : (c.args.by + (c.slots.k * c.slot_pages-width.result + c.part_in-part.result.first - c.args.first)) + (c.part_in-part.result.end - c.part_in-part.result.first) ≤ 2 ^ 36 =
+    omega (arith, fewer, c.requires.few) in
+    let can =
+    can_fewer c.args.edit.now (c.args.by + (c.args.end - c.args.first))
+    ((c.args.by + (c.slots.k * c.slot_pages-width.result + c.part_in-part.result.first - c.args.first)) + (c.part_in-part.result.end - c.part_in-part.result.first))
+    c.requires.sound fewer (omega (arith, p.some)) in
     search rules
 
 pub slots-preserved : goal.slots-preserved
@@ -65,33 +86,175 @@ slots-preserved g t c =
     let h = c.slots.invariant.3 in
     let low = along_below l c.slots-test.true in
     let is_in : c.slots.k < 512 = omega (arith, l.last, c.slots-test.true) in
-    let kw : c.slots.k * c.slot_pages-width.result ≡ c.slots.k * width_of c.slots.self-inside.level = ap (λ n. c.slots.k * n) l.width_is in
-    let part : IsPart c.args.first c.args.end (c.slots.k * width_of c.slots.self-inside.level) (width_of c.slots.self-inside.level) c.part_in-part.result.first c.part_in-part.result.end = subst (λ n. IsPart c.args.first c.args.end (c.slots.k * n) n c.part_in-part.result.first c.part_in-part.result.end) l.width_is (record { first_is = c.part_in-part.ensures.first; end_is = c.part_in-part.ensures.end }) in
+    let kw : c.slots.k * c.slot_pages-width.result ≡ c.slots.k * width_of c.slots.self-inside.level =
+    ap (λ n. c.slots.k * n) l.width_is in
+    let part : IsPart c.args.first c.args.end (c.slots.k * width_of c.slots.self-inside.level) (width_of c.slots.self-inside.level) c.part_in-part.result.first c.part_in-part.result.end =
+    subst
+    (λ n. IsPart c.args.first c.args.end (c.slots.k * n) n c.part_in-part.result.first c.part_in-part.result.end)
+    l.width_is
+    (record { first_is = c.part_in-part.ensures.first; end_is = c.part_in-part.ensures.end }) in
     let p = c.part_in-part.ensures in
     let old = runs c.args.self.now in
-    elim c.match-index_mut.branch [
-      | in-Own w ↦
-          let is = sym w.in-Own.is ∙ c.index_mut.ensures.value in
-          let inside = own_within _ w.in-Own.state old c.args.first c.args.end c.args.by c.args.edit.now n is_in is low l.past c.requires.begins c.requires.ends h in
-          let e : (c.args.by + (c.slots.k * c.slot_pages-width.result + c.part_in-part.result.first - c.args.first)) ≡ c.args.by + (c.slots.k * width_of c.slots.self-inside.level - c.args.first) = omega (arith, kw, part.first_is, inside.low) in
-          let node = own_node _ w.in-Own.state w.edit.new.self c.args.first c.args.end c.args.by (c.args.by + (c.slots.k * c.slot_pages-width.result + c.part_in-part.result.first - c.args.first)) c.args.edit.now n is_in is inside c.requires.sound e w.edit.ensures in
-          rw w.self-inside-is (along_next l refl, node, c.slots.invariant.2, edits_own _ w.in-Own.state w.edit.new.self old c.args.first c.args.end c.args.by (c.args.by + (c.slots.k * c.slot_pages-width.result + c.part_in-part.result.first - c.args.first)) c.args.edit.now n node is_in is l.past inside e w.edit.ensures h)
-      | in-Child w ↦
-          let is = sym w.in-Child.is ∙ c.index_mut.ensures.value in
-          let e : (c.args.by + (c.slots.k * c.slot_pages-width.result + c.part_in-part.result.first - c.args.first)) ≡ c.args.by + (c.slots.k * width_of c.slots.self-inside.level + c.part_in-part.result.first - c.args.first) = omega (arith, kw) in
-          let r = w.edit-in-Child.ensures in
-          let node = child_node _ w.in-Child.node (record w.in-Child.node { value = w.edit-in-Child.new.self }) w.deref_mut.result.now n is_in is w.deref_mut.ensures.value r.level r.whole in
-          rw w.self-inside-is (along_next l refl, node, c.slots.invariant.2, edits_child _ w.in-Child.node (record w.in-Child.node { value = w.edit-in-Child.new.self }) w.deref_mut.result.now old c.args.first c.args.end c.part_in-part.result.first c.part_in-part.result.end c.args.by (c.args.by + (c.slots.k * c.slot_pages-width.result + c.part_in-part.result.first - c.args.first)) c.args.edit.now n node is_in is w.deref_mut.ensures.value l.past part e r.inside r.outside h)
+    elim c.match-index_mut-2.branch [
+      | in-Own-index_mut w ↦
+          let is = sym w.in-Own-index_mut.is ∙ c.index_mut-in-slots.ensures.value in
+          let inside =
+          own_within _ w.in-Own-index_mut.state old c.args.first c.args.end c.args.by
+          c.args.edit.now n is_in is low l.past c.requires.begins c.requires.ends h in
+          let e : (c.args.by + (c.slots.k * c.slot_pages-width.result + c.part_in-part.result.first - c.args.first)) ≡ c.args.by + (c.slots.k * width_of c.slots.self-inside.level - c.args.first) =
+          omega (arith, kw, part.first_is, inside.low) in
+          let node =
+          own_node _ w.in-Own-index_mut.state w.edit-in-Own-index_mut.new.self c.args.first
+          c.args.end c.args.by
+          (c.args.by + (c.slots.k * c.slot_pages-width.result + c.part_in-part.result.first - c.args.first))
+          c.args.edit.now n is_in is inside c.requires.sound e w.edit-in-Own-index_mut.ensures in
+          rw w.self-inside-is (
+            along_next l refl,
+            node,
+            c.slots.invariant.2,
+            edits_own _ w.in-Own-index_mut.state
+                w.edit-in-Own-index_mut.new.self old c.args.first c.args.end c.args.by
+                (c.args.by + (c.slots.k * c.slot_pages-width.result + c.part_in-part.result.first - c.args.first))
+                c.args.edit.now n node is_in is l.past inside e w.edit-in-Own-index_mut.ensures h,
+          )
+      | in-Child-index_mut w ↦
+          let is = sym w.in-Child-index_mut.is ∙ c.index_mut-in-slots.ensures.value in
+          let e : (c.args.by + (c.slots.k * c.slot_pages-width.result + c.part_in-part.result.first - c.args.first)) ≡ c.args.by + (c.slots.k * width_of c.slots.self-inside.level + c.part_in-part.result.first - c.args.first) =
+          omega (arith, kw) in
+          let r = w.edit-in-Child-index_mut.ensures in
+          let node =
+          child_node _ w.in-Child-index_mut.node
+          (record w.in-Child-index_mut.node { value = w.edit-in-Child-index_mut.new.self })
+          w.deref_mut-in-Child-index_mut.result.now n is_in is
+          w.deref_mut-in-Child-index_mut.ensures.value r.level r.whole in
+          rw w.self-inside-is (
+            along_next l refl,
+            node,
+            c.slots.invariant.2,
+            edits_child _ w.in-Child-index_mut.node
+                (record w.in-Child-index_mut.node { value = w.edit-in-Child-index_mut.new.self })
+                w.deref_mut-in-Child-index_mut.result.now old c.args.first c.args.end
+                c.part_in-part.result.first c.part_in-part.result.end c.args.by
+                (c.args.by + (c.slots.k * c.slot_pages-width.result + c.part_in-part.result.first - c.args.first))
+                c.args.edit.now n node is_in is w.deref_mut-in-Child-index_mut.ensures.value l.past part e
+                r.inside r.outside h,
+          )
     ]
 
 pub returns-clause-level : goal.returns-clause-level
 returns-clause-level g t c = c.slots.invariant.2
 
 pub returns-clause-whole : goal.returns-clause-whole
-returns-clause-whole g t c = whole-node c.slots.self-inside.level c.slots.self-inside.slots.items c.slots.invariant.1
+returns-clause-whole g t c =
+    whole-node c.slots.self-inside.level c.slots.self-inside.slots.items c.slots.invariant.1
 
 pub returns-clause-inside : goal.returns-clause-inside
-returns-clause-inside g t c = λ p a b. c.slots.invariant.3.inside p a b (let d = along_done c.slots.invariant.0 c.slots-test.false in omega arith)
+returns-clause-inside g t c =
+    λ p a b. c.slots.invariant.3.inside p a b (let d = along_done c.slots.invariant.0 c.slots-test.false in omega arith)
 
 pub returns-clause-outside : goal.returns-clause-outside
 returns-clause-outside g t c = λ p o. c.slots.invariant.3.outside p o
+
+pub edit-requires-in-Child : goal.edit-requires-in-Child
+edit-requires-in-Child g t c κs within =
+    let p = c.place_of-place.ensures in
+    let at : InSlot c.self.inside.level c.args.first c.args.end _ _ = record {
+      place = record { slot_in = p.slot; page_is = p.page; rest_in = p.rest };
+      some = c.requires.some;
+      short = subst (λ w. c.args.end - c.args.first ≤ w - c.place_of-place.result.rest) c.slot_pages-width.ensures c.if-end-first.true;
+    } in
+    let begins =
+    ap (λ v. (cell_at (runs v) c.args.first).offset) c.self.view_is ∙ c.requires.begins in
+    let ends = ap (λ v. (cell_at (runs v) c.args.end).offset) c.self.view_is ∙ c.requires.ends in
+    let is = sym c.in-Child.is ∙ c.index_mut.ensures.value in
+    let e = c.deref_mut.ensures.value in
+    let w = child_pages _ c.in-Child.node c.deref_mut.result.now c.self.invariant p.slot is e in
+    let lower = child_level _ c.in-Child.node c.deref_mut.result.now c.self.invariant p.slot is e in
+    let here = ap (λ (v : Parts). v.level) c.self.view_is in
+    let uncrossed =
+    child_uncrossed _ c.in-Child.node c.deref_mut.result.now c.self.invariant at is e begins ends in
+    let starts = uncrossed.begins in
+    let stops = uncrossed.ends in
+    let k : c.args.by + (c.args.end - c.args.first) ≡ c.args.by + (c.place_of-place.result.rest + (c.args.end - c.args.first) - c.place_of-place.result.rest) =
+    omega arith in
+    let can = subst (CanEdit c.args.edit.now) k c.requires.sound in
+    let few : c.args.by + (c.place_of-place.result.rest + (c.args.end - c.args.first) - c.place_of-place.result.rest) ≤ 2 ^ 36 =
+    omega (arith, c.requires.few) in
+    let some : c.place_of-place.result.rest < c.place_of-place.result.rest + (c.args.end - c.args.first) =
+    omega (arith, c.requires.some) in
+    let last : c.place_of-place.result.rest + (c.args.end - c.args.first) ≤ 512 * width_of c.deref_mut.result.now.level =
+    omega (arith, w, at.short, p.rest) in
+    search rules
+
+pub invariant_of-self : goal.invariant_of-self
+invariant_of-self g t c =
+    let p = c.place_of-place.ensures in
+    let at : InSlot c.self.inside.level c.args.first c.args.end _ _ = record {
+      place = record { slot_in = p.slot; page_is = p.page; rest_in = p.rest };
+      some = c.requires.some;
+      short = subst (λ w. c.args.end - c.args.first ≤ w - c.place_of-place.result.rest) c.slot_pages-width.ensures c.if-end-first.true;
+    } in
+    let begins =
+    ap (λ v. (cell_at (runs v) c.args.first).offset) c.self.view_is ∙ c.requires.begins in
+    let ends = ap (λ v. (cell_at (runs v) c.args.end).offset) c.self.view_is ∙ c.requires.ends in
+    elim c.match-index_mut.branch [
+      | in-Own w ↦
+          rw w.self-inside-is
+          ((own_narrow _ w.in-Own.state w.edit.new.self c.args.by c.args.edit.now c.self.invariant at (sym w.in-Own.is ∙ c.index_mut.ensures.value) begins ends c.requires.sound w.edit.ensures).node)
+      | in-Child w ↦
+          rw w.self-inside-is
+          ((child_narrow _ w.in-Child.node (record w.in-Child.node { value = w.edit-in-Child.new.self }) w.deref_mut.result.now c.args.by c.args.edit.now c.self.invariant at (sym w.in-Child.is ∙ c.index_mut.ensures.value) w.deref_mut.ensures.value w.edit-in-Child.ensures.level w.edit-in-Child.ensures.whole w.edit-in-Child.ensures.inside w.edit-in-Child.ensures.outside).node)
+    ]
+
+pub returns-then-end-first-clause-whole : goal.returns-then-end-first-clause-whole
+returns-then-end-first-clause-whole g t c =
+    whole-node c.match-index_mut.self-inside.level _ (invariant_of-self g t c)
+
+pub returns-then-end-first-clause-inside : goal.returns-then-end-first-clause-inside
+returns-then-end-first-clause-inside g t c =
+    let p = c.place_of-place.ensures in
+    let at : InSlot c.self.inside.level c.args.first c.args.end _ _ = record {
+      place = record { slot_in = p.slot; page_is = p.page; rest_in = p.rest };
+      some = c.requires.some;
+      short = subst (λ w. c.args.end - c.args.first ≤ w - c.place_of-place.result.rest) c.slot_pages-width.ensures c.if-end-first.true;
+    } in
+    let begins =
+    ap (λ v. (cell_at (runs v) c.args.first).offset) c.self.view_is ∙ c.requires.begins in
+    let ends = ap (λ v. (cell_at (runs v) c.args.end).offset) c.self.view_is ∙ c.requires.ends in
+    elim c.match-index_mut.branch [
+      | in-Own w ↦
+          rw w.self-inside-is
+          (let h = own_narrow _ w.in-Own.state w.edit.new.self c.args.by c.args.edit.now c.self.invariant at (sym w.in-Own.is ∙ c.index_mut.ensures.value) begins ends c.requires.sound w.edit.ensures in rw (← c.self.view_is) (λ p a b. h.edits.inside p a b (omega (arith, h.by_end))))
+      | in-Child w ↦
+          rw w.self-inside-is
+          (let h = child_narrow _ w.in-Child.node (record w.in-Child.node { value = w.edit-in-Child.new.self }) w.deref_mut.result.now c.args.by c.args.edit.now c.self.invariant at (sym w.in-Child.is ∙ c.index_mut.ensures.value) w.deref_mut.ensures.value w.edit-in-Child.ensures.level w.edit-in-Child.ensures.whole w.edit-in-Child.ensures.inside w.edit-in-Child.ensures.outside in rw (← c.self.view_is) (λ p a b. h.edits.inside p a b (omega (arith, h.by_end))))
+    ]
+
+pub returns-then-end-first-clause-outside : goal.returns-then-end-first-clause-outside
+returns-then-end-first-clause-outside g t c =
+    let p = c.place_of-place.ensures in
+    let at : InSlot c.self.inside.level c.args.first c.args.end _ _ = record {
+      place = record { slot_in = p.slot; page_is = p.page; rest_in = p.rest };
+      some = c.requires.some;
+      short = subst (λ w. c.args.end - c.args.first ≤ w - c.place_of-place.result.rest) c.slot_pages-width.ensures c.if-end-first.true;
+    } in
+    let begins =
+    ap (λ v. (cell_at (runs v) c.args.first).offset) c.self.view_is ∙ c.requires.begins in
+    let ends = ap (λ v. (cell_at (runs v) c.args.end).offset) c.self.view_is ∙ c.requires.ends in
+    elim c.match-index_mut.branch [
+      | in-Own w ↦
+          rw w.self-inside-is
+          (rw (← c.self.view_is)
+          (own_narrow _ w.in-Own.state w.edit.new.self c.args.by c.args.edit.now c.self.invariant at
+          (sym w.in-Own.is ∙ c.index_mut.ensures.value) begins ends c.requires.sound
+          w.edit.ensures).edits.outside)
+      | in-Child w ↦
+          rw w.self-inside-is
+          (rw (← c.self.view_is)
+          (child_narrow _ w.in-Child.node
+          (record w.in-Child.node { value = w.edit-in-Child.new.self }) w.deref_mut.result.now
+          c.args.by c.args.edit.now c.self.invariant at
+          (sym w.in-Child.is ∙ c.index_mut.ensures.value) w.deref_mut.ensures.value
+          w.edit-in-Child.ensures.level w.edit-in-Child.ensures.whole w.edit-in-Child.ensures.inside
+          w.edit-in-Child.ensures.outside).edits.outside)
+    ]

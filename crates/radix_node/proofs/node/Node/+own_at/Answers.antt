@@ -5,10 +5,8 @@ use Rattle.radix_node.specs.Run.{Cell, width_of, cell_at, in_state, with_run, Is
 use Rattle.radix_node.specs.Node.{Parts, runs, flatten}
 use Rattle.radix_node.specs.Slots.{parts_of}
 use Rattle.radix_node.proofs.Flat.{IsPlace, cell_at-Own, cell_at-Child, child_level, child_pages, child_node, is_node-set, runs-Own, runs-Child, whole-node}
+use Rattle.radix_node.proofs.Locks.{owner_sound}
 use Rattle.radix_node.proofs.node.Node.+own_at.Goals as goal
-
-owned : (w : ℕ) (s : State) (o : Option ℕ) → IsSound w s → IsSound w (record { info = s.info; owner = o })
-owned w s o h = record { fits = h.fits; alone = h.alone }
 
 pub own_at-requires : goal.own_at-requires
 own_at-requires g t c κs within =
@@ -29,7 +27,7 @@ invariant_of-self g t c =
     let cell = cell_at-Own _ c.in-Own.own c.self.invariant at is in
     let within = subst (λ (l : ℕ). c.args.page < 512 * width_of l) (sym here) c.requires in
     let was = subst (λ (x : Cell). IsSound x.width x.state) cell ((whole-node _ _ c.self.invariant).cells c.args.page within).sound in
-    is_node-set c.self.inside.level c.place_of-place.result.slot c.self.inside.slots.items (Own c.set_owner.new.self) c.self.invariant tt (subst (λ (s : State). IsSound (width_of c.self.inside.level) s) (sym c.set_owner.ensures) (owned _ _ c.args.owner was))
+    is_node-set c.self.inside.level c.place_of-place.result.slot c.self.inside.slots.items (Own c.set_owner.new.self) c.self.invariant tt (subst (λ (s : State). IsSound (width_of c.self.inside.level) s) (sym c.set_owner.ensures) (owner_sound _ _ c.args.owner was))
 
 pub returns-in-Own-clause-whole : goal.returns-in-Own-clause-whole
 returns-in-Own-clause-whole g t c = whole-node c.self.inside.level _ (invariant_of-self g t c)

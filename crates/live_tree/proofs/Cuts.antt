@@ -1,0 +1,155 @@
+-- Locked slots that come in the place of one
+use Rattle.std.proofs.Common.{◌≡◌, ◌⊎◌, ℕ, zero, suc, ◌+◌, ◌<◌, ◌≤◌, List, [], ◌∷◌, ◌++◌, map, length, take, drop, get_or, Option, Some, None, refl, sym, ap, ◌∙◌, subst, arith}
+use Rattle.std.specs.Prelude.{All, IsSome}
+use Rattle.std.specs.List.{insert_slice, remove}
+use Rattle.std.specs.Sync.Mutex.{mutex_guard_value}
+use Rattle.std.specs.declared.sync.MutexGuard.{MutexGuard}
+use Rattle.std.proofs.Math.Seq.{drop-append-add, split_at, take-append_seam}
+use Rattle.std.proofs.lemmas.List.{append-nil, append_assoc, drop-drop, drop-map, length-append, length-take-le, map-append, take-map, take_all, take_more}
+use Rattle.std.proofs.lemmas.List.Elements.{All-append, All-drop, All-take}
+use Rattle.vm_base.specs.declared.page.PageRange.{PageRange}
+use Rattle.live_levels.specs.Slots.{SlotView}
+use Rattle.live_tree.specs.Cutting.{AddsSlots, CutsFirst, IsFirstCrossing}
+use Rattle.live_tree.specs.Guards.{no_slot, slot_of}
+use Rattle.live_tree.specs.Held.{CrossesNoEdge, HeldView, SideBySide}
+use Rattle.live_tree.proofs.Pushed.{all_more, map_more, side_by_side_more}
+
+-- ---- one locked slot more
+
+pub adds_none : (first : ℕ) (gs : List (Option (MutexGuard SlotView))) → AddsSlots first first 0 gs gs
+adds_none first gs = record {
+  more = [];
+  are = sym (append-nil gs);
+  count = refl;
+  some = λ k d lt. absurd (omega arith);
+  chain = refl;
+}
+
+pub adds_more : (first next end n : ℕ) (gs hs hs' : List (Option (MutexGuard SlotView))) (g : MutexGuard SlotView) → AddsSlots first next n gs hs → hs' ≡ hs ++ Some g ∷ []
+    → (mutex_guard_value g).first ≡ next → end ≡ next + (mutex_guard_value g).count → AddsSlots first end (n + 1) gs hs'
+adds_more first next end n gs hs hs' g h is at ends = record {
+  more = h.more ++ Some g ∷ [];
+  are = is ∙ (ap (λ l. l ++ Some g ∷ []) h.are ∙ append_assoc gs h.more (Some g ∷ []));
+  count = omega (arith, length-append h.more (Some g ∷ []), h.count);
+  some = all_more h.more g h.some;
+  chain = rw (map_more h.more g) (side_by_side_more first next end (map slot_of h.more) (mutex_guard_value g) h.chain at ends);
+}
+
+-- ---- the first slot that crosses an edge
+
+pub fits_more : (range : PageRange) (ss : List SlotView) (i : ℕ) (d : SlotView) → All (CrossesNoEdge range) (take i ss) → i < length ss → CrossesNoEdge range (get_or ss i d) → All (CrossesNoEdge range) (take (i + 1) ss)
+fits_more range ss i d h lt fits = rw (take_more ss i d lt) (All-append (CrossesNoEdge range) (take i ss) (get_or ss i d ∷ []) h one)
+  where
+    one : All (CrossesNoEdge range) (get_or ss i d ∷ [])
+    one zero e l = fits
+    one (suc k) e l = absurd (omega arith)
+
+length_map : (gs : List (Option (MutexGuard SlotView))) → length (map slot_of gs) ≡ length gs
+length_map [] = refl
+length_map (g ∷ gs) = ap suc (length_map gs)
+
+get_map : (gs : List (Option (MutexGuard SlotView))) (at : ℕ) (d : SlotView) (g : Option (MutexGuard SlotView)) → at < length gs → g ≡ get_or gs at g → get_or (map slot_of gs) at d ≡ slot_of g
+get_map [] at d g lt is = absurd (omega arith)
+get_map (x ∷ xs) zero d g lt is = ap slot_of (sym is)
+get_map (x ∷ xs) (suc at) d g lt is = get_map xs at d g (omega arith) is
+
+pub one_fits : (range : PageRange) (gs : List (Option (MutexGuard SlotView))) (at : ℕ) (g : Option (MutexGuard SlotView)) → at < length gs → g ≡ get_or gs at g → All (CrossesNoEdge range) (take at (map slot_of gs))
+    → CrossesNoEdge range (slot_of g) → All (CrossesNoEdge range) (take (at + 1) (map slot_of gs))
+one_fits range gs at g lt is h fits =
+    fits_more range (map slot_of gs) at (slot_of g) h (omega (arith, length_map gs, lt)) (rw (get_map gs at (slot_of g) g lt is) fits)
+
+pub first_crossing : (range : PageRange) (gs : List (Option (MutexGuard SlotView))) (at : ℕ) (g : Option (MutexGuard SlotView)) → at < length gs → g ≡ get_or gs at g → All (CrossesNoEdge range) (take at (map slot_of gs))
+    → ¬ CrossesNoEdge range (slot_of g) → IsFirstCrossing range (map slot_of gs) at
+first_crossing range gs at g lt is h not = record {
+  within = omega (arith, length_map gs, lt);
+  before = h;
+  crosses = λ d. rw (get_map gs at d g lt is) not;
+}
+
+pub all_fit : (range : PageRange) (gs : List (Option (MutexGuard SlotView))) (at : ℕ) → length gs ≤ at → All (CrossesNoEdge range) (take at (map slot_of gs)) → All (CrossesNoEdge range) (map slot_of gs)
+all_fit range gs at le h = subst (All (CrossesNoEdge range)) (take_all at (map slot_of gs) (omega (arith, length_map gs, le))) h
+
+-- ---- in the place of one
+
+pub in_place : {X : Type 0} (gs more : List X) (at n : ℕ) → at < length gs → n ≡ at + length more → remove (insert_slice gs at more) n ≡ take at gs ++ (more ++ drop (at + 1) gs)
+in_place gs more at n lt is =
+    let front = take at gs ++ more in
+    let len : n ≡ length front = omega (arith, length-append (take at gs) more, length-take-le at gs (omega arith), is) in
+    let one : suc (length front) ≡ length front + 1 = omega arith in
+    let rest : drop (length front + 1) (front ++ drop at gs) ≡ drop (at + 1) gs = drop-append-add front (drop at gs) 1 ∙ drop-drop 1 at gs in
+    ap (λ m. take m (front ++ drop at gs) ++ drop (suc m) (front ++ drop at gs)) len
+    ∙ (ap (λ l. l ++ drop (suc (length front)) (front ++ drop at gs)) (take-append_seam front (drop at gs))
+    ∙ (ap (λ m. front ++ drop m (front ++ drop at gs)) one ∙ (ap (λ l. front ++ l) rest ∙ append_assoc (take at gs) more (drop (at + 1) gs))))
+
+-- the slots, cut before one of them
+pub side_split : (first end : ℕ) (xs : List SlotView) (s : SlotView) (ys : List SlotView) → SideBySide first end (xs ++ s ∷ ys) → SideBySide first s.first xs × SideBySide (s.first + s.count) end ys
+side_split first end [] s ys h = (sym h.0, subst (λ (n : ℕ). SideBySide (n + s.count) end ys) (sym h.0) h.1)
+side_split first end (x ∷ xs) s ys h = let r = side_split (first + x.count) end xs s ys h.1 in ((h.0, r.0), r.1)
+
+side_append : (first mid end : ℕ) (xs ys : List SlotView) → SideBySide first mid xs → SideBySide mid end ys → SideBySide first end (xs ++ ys)
+side_append first mid end [] ys h k = subst (λ (n : ℕ). SideBySide n end ys) (sym h) k
+side_append first mid end (x ∷ xs) ys h k = (h.0, side_append (first + x.count) mid end xs ys h.1 k)
+
+-- what the guards show once 512 came in the place of one
+map_parts : (gs more : List (Option (MutexGuard SlotView))) (at : ℕ) → map slot_of (take at gs ++ (more ++ drop (at + 1) gs)) ≡ take at (map slot_of gs) ++ map slot_of more ++ drop (at + 1) (map slot_of gs)
+map_parts gs more at =
+    map-append slot_of (take at gs) (more ++ drop (at + 1) gs)
+    ∙ (ap (λ l. map slot_of (take at gs) ++ l) (map-append slot_of more (drop (at + 1) gs))
+    ∙ (sym (append_assoc (map slot_of (take at gs)) (map slot_of more) (map slot_of (drop (at + 1) gs)))
+    ∙ (ap (λ l. l ++ map slot_of more ++ map slot_of (drop (at + 1) gs)) (sym (take-map slot_of at gs))
+    ∙ ap (λ l. take at (map slot_of gs) ++ map slot_of more ++ l) (sym (drop-map slot_of (at + 1) gs)))))
+
+cut_at : (ss : List SlotView) (at : ℕ) → at < length ss → ss ≡ take at ss ++ get_or ss at no_slot ∷ drop (at + 1) ss
+cut_at ss at lt =
+    let one : suc at ≡ at + 1 = omega arith in
+    split_at ss at no_slot lt ∙ ap (λ n. take at ss ++ get_or ss at no_slot ∷ drop n ss) one
+
+pub cuts_first : (range : PageRange) (first end : ℕ) (gs hs more : List (Option (MutexGuard SlotView))) (at : ℕ) (s : SlotView) → IsFirstCrossing range (map slot_of gs) at → s ≡ get_or (map slot_of gs) at no_slot
+    → hs ≡ take at gs ++ (more ++ drop (at + 1) gs) → length more ≡ 512 → SideBySide s.first (s.first + s.count) (map slot_of more)
+    → CutsFirst range (record { first = first; end = end; slots = map slot_of gs }) (record { first = first; end = end; slots = map slot_of hs })
+cuts_first range first end gs hs more at s h here is count pages = let ss = map slot_of gs in record {
+  left = take at ss;
+  slot = s;
+  right = drop (at + 1) ss;
+  parts = map slot_of more;
+  before = cut_at ss at h.within ∙ ap (λ x. take at ss ++ x ∷ drop (at + 1) ss) (sym here);
+  after = ap (λ l. record { first = first; end = end; slots = map slot_of l }) is ∙ ap (λ l. record { first = first; end = end; slots = l }) (map_parts gs more at);
+  fits = h.before;
+  crosses = rw here (h.crosses no_slot);
+  count = length_map more ∙ count;
+  pages = pages;
+}
+
+pub still_held : (first end : ℕ) (gs hs more : List (Option (MutexGuard SlotView))) (at : ℕ) (s : SlotView) → at < length (map slot_of gs) → s ≡ get_or (map slot_of gs) at no_slot
+    → hs ≡ take at gs ++ (more ++ drop (at + 1) gs) → SideBySide s.first (s.first + s.count) (map slot_of more) → All IsSome more
+    → All IsSome gs × SideBySide first end (map slot_of gs) → All IsSome hs × SideBySide first end (map slot_of hs)
+still_held first end gs hs more at s lt here is pages some held =
+    let ss = map slot_of gs in
+    let at_slot : ss ≡ take at ss ++ s ∷ drop (at + 1) ss = cut_at ss at lt ∙ ap (λ x. take at ss ++ x ∷ drop (at + 1) ss) (sym here) in
+    let apart = side_split first end (take at ss) s (drop (at + 1) ss) (subst (SideBySide first end) at_slot held.1) in
+    let left = side_append first s.first (s.first + s.count) (take at ss) (map slot_of more) apart.0 pages in
+    let all = side_append first (s.first + s.count) end (take at ss ++ map slot_of more) (drop (at + 1) ss) left apart.1 in
+    rw is (
+      All-append IsSome (take at gs) (more ++ drop (at + 1) gs) (All-take IsSome at gs held.0) (All-append IsSome more (drop (at + 1) gs) some (All-drop IsSome (at + 1) gs held.0)),
+      rw (map_parts gs more at) all,
+    )
+
+-- ---- the whole step, from what its parts tell
+
+pub cut_done : (range : PageRange) (first end : ℕ) (gs hs ks : List (Option (MutexGuard SlotView))) (at from until next n : ℕ) (slot : MutexGuard SlotView)
+    → All IsSome gs × SideBySide first end (map slot_of gs) → IsFirstCrossing range (map slot_of gs) at → Some slot ≡ get_or gs at (Some slot)
+    → from ≡ (mutex_guard_value slot).first → until ≡ from + (mutex_guard_value slot).count → AddsSlots from next n gs hs → (n ≡ 512) × (next ≡ until)
+    → ((fs more : List (Option (MutexGuard SlotView))) → hs ≡ fs ++ more → length more ≡ 512 → ks ≡ take at fs ++ (more ++ drop (at + 1) fs))
+    → CutsFirst range (record { first = first; end = end; slots = map slot_of gs }) (record { first = first; end = end; slots = map slot_of ks }) × (All IsSome ks × SideBySide first end (map slot_of ks))
+cut_done range first end gs hs ks at from until next n slot held crossing item begins ends added done placed =
+    let s = mutex_guard_value slot in
+    let lt : at < length gs = omega (arith, length_map gs, crossing.within) in
+    let here : s ≡ get_or (map slot_of gs) at no_slot = sym (get_map gs at no_slot (Some slot) lt item) in
+    let count : length added.more ≡ 512 = added.count ∙ done.0 in
+    let is = placed gs added.more added.are count in
+    let last : next ≡ s.first + s.count = done.1 ∙ (ends ∙ ap (λ (k : ℕ). k + s.count) begins) in
+    let pages : SideBySide s.first (s.first + s.count) (map slot_of added.more) =
+    subst (λ (k : ℕ). SideBySide k (s.first + s.count) (map slot_of added.more)) begins (subst (λ (k : ℕ). SideBySide from k (map slot_of added.more)) last added.chain) in (
+      cuts_first range first end gs ks added.more at s crossing here is count pages,
+      still_held first end gs ks added.more at s crossing.within here is pages added.some held,
+    )

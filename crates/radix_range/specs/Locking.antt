@@ -1,0 +1,19 @@
+-- An attempt to lock the slot of a page
+use Rattle.std.specs.Prelude.{◌≡◌, ℕ, ◌+◌, ◌<◌, ◌≤◌, false, None, Some}
+use Rattle.slot_lock.specs.Slots.{Slots, IsSlot, Locks}
+use Rattle.radix_node.specs.declared.lock.Lock.{Lock}
+use Rattle.radix_node.specs.declared.lock.Lock.TheVariants.{Held, Before, Beyond, Locked}
+
+-- the slot that begins at the cursor is free, and ends after the pages up to `end`
+pub record GoesPast (s : Slots) (cursor end : ℕ) : Type 0 where
+  pub last : ℕ
+  pub slot : IsSlot s cursor last
+  pub past : end < last
+  pub free : (p : ℕ) → cursor ≤ p → p < last → s.owner p ≡ None
+
+-- what a core's attempt to lock the cursor's slot comes to, which has to begin there and to end by `end`
+abbrev pub Tries : Slots → Slots → ℕ → ℕ → ℕ → Lock → Type 0
+Tries s t core cursor end (Held by) = (s.owner cursor ≡ Some by) × (t ≡ s)
+Tries s t core cursor end Before = (s.owner cursor ≡ None) × (s.edge cursor ≡ false) × (t ≡ s)
+Tries s t core cursor end Beyond = GoesPast s cursor end × (t ≡ s)
+Tries s t core cursor end (Locked width) = Locks s t core cursor end (cursor + width)
