@@ -9,17 +9,17 @@ use Rattle.machine_model.specs.declared.event.Event.TheVariants.{Go}
 use Rattle.machine_model.specs.declared.event.Outcome.{Outcome}
 use Rattle.machine_model.specs.World.{World, new_world}
 use Rattle.machine_model.specs.Step.{Step, StepsTo}
-use Rattle.machine_laws.specs.Orderly.{IsOrderly}
-use Rattle.machine_sound.specs.Sound.{IsReached, Notes}
-use Rattle.machine_sound.proofs.Kept.{reached_fine, reached_opening, reached_sound, reached_step, steps_noted}
+use Rattle.machine_sound.specs.Invariant.{Fine}
+use Rattle.machine_sound.specs.Sound.{IsReached, IsSoundStep}
+use Rattle.machine_sound.proofs.Kept.{reached_fine, reached_opening, reached_sound, reached_step, steps_sound}
 use Rattle.core_steps.specs.declared.setup.Setup.{Setup}
 use Rattle.core_steps.specs.Finishing.{IsRefused, finish_limit}
 use Rattle.core_steps.specs.Machine.{IsLegal}
 use Rattle.core_steps.specs.Moving.{MayWant, Tries}
 use Rattle.core_steps.specs.Setups.{made_of}
 
-pub in_order : (w : World) → ∥ IsReached w ∥₁ → ∥ IsOrderly w ∥₁
-in_order w t = ∥∥₁_map t (λ h. (reached_fine w h).order)
+pub fine : (w : World) → ∥ IsReached w ∥₁ → ∥ Fine w ∥₁
+fine w t = ∥∥₁_map t (reached_fine w)
 
 pub legal : (w : World) → ∥ IsReached w ∥₁ → IsLegal w
 legal w t = record { reached = t; sound = ∥∥₁_map t (reached_sound w) }
@@ -32,10 +32,10 @@ pub kept_by : (r : Result Outcome NoMemory) (w v : World) (e : Event) → Tries 
 kept_by (Ok o) w v e s t = ∥∥₁_map t (λ h. reached_step w v e o h s)
 kept_by (Err x) w v e s t = subst (λ u. ∥ IsReached u ∥₁) (sym s.0) t
 
-pub noted_by : (r : Result Outcome NoMemory) (w v : World) (e : Event) → Tries (Step w e) (MayWant w e) w r v → ∥ IsReached w ∥₁
-    → IfOk r (λ o. ∥ Notes w e v ∥₁)
-noted_by (Ok o) w v e s t = ∥∥₁_map t (λ h. steps_noted w v e o h s)
-noted_by (Err x) w v e s t = tt
+pub sound_by : (r : Result Outcome NoMemory) (w v : World) (e : Event) → Tries (Step w e) (MayWant w e) w r v → ∥ IsReached w ∥₁
+    → IfOk r (λ o. ∥ IsSoundStep w e o v ∥₁)
+sound_by (Ok o) w v e s t = ∥∥₁_map t (λ h. steps_sound w v e o h s)
+sound_by (Err x) w v e s t = tt
 
 -- after some steps the next was refused, and nothing changed
 pub refused_at : (was now new : World) (c n : ℕ) → n < finish_limit → StepsTo was c n now → (new ≡ now) × MayWant now (Go c) → IsRefused was c new

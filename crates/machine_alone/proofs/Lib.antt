@@ -1,4 +1,5 @@
 mod Examples
 mod Rank
 mod Rows
+mod Telling
 pub mod Serving

@@ -4,7 +4,7 @@ use Rattle.machine_model.specs.declared.event.Event.{Event}
 use Rattle.machine_model.specs.declared.event.Event.TheVariants.{Go}
 use Rattle.machine_model.specs.declared.event.Outcome.{Outcome}
 use Rattle.machine_model.specs.World.{World}
-use Rattle.machine_model.specs.Step.{counted, Step}
+use Rattle.machine_model.specs.Step.{with_event, Step}
 use Rattle.machine_laws.proofs.Effects.{Effect, keeps, tells, opens, closes, effect_of}
 use Rattle.machine_laws.proofs.Shapes.{GoesBy, moves, divides, owns, lets_go, answers, commits, takes, fills, installs, accesses, Shape, rests, begins, ends, goes, Comes, stopped, acts, comes}
 
@@ -33,11 +33,11 @@ step_made w e o v s = go (comes w e o v s)
   where
     go : Comes w e o v → v.made ≡ w.made
     go (stopped n i h) = ap (λ (v : World). v.made) h
-    go (acts n shape) = shape_made (counted w) e o v shape
+    go (acts n shape) = shape_made (with_event w) e o v shape
 
 -- ---- the events, and the requests of the calls begun
 
-effect_grows : (w : World) (e : Event) (o : Outcome) (v : World) → Effect (counted w) e o v → w.calls.events ≤ v.calls.events
+effect_grows : (w : World) (e : Event) (o : Outcome) (v : World) → Effect (with_event w) e o v → w.calls.events ≤ v.calls.events
 effect_grows w e o v (keeps n same log all) = let h = same.events in omega (arith, h)
 effect_grows w e o v (tells c reply n same asked log all) = let h = same.events in omega (arith, h)
 effect_grows w e o v (opens c request is so at same) =
@@ -50,9 +50,9 @@ step_grows w e o v s = go (comes w e o v s)
   where
     go : Comes w e o v → w.calls.events ≤ v.calls.events
     go (stopped n i h) = let same : v.calls.events ≡ w.calls.events = ap (λ (v : World). v.calls.events) h in omega (arith, same)
-    go (acts n shape) = effect_grows w e o v (effect_of (counted w) e o v shape)
+    go (acts n shape) = effect_grows w e o v (effect_of (with_event w) e o v shape)
 
-effect_requests : (w : World) (c : ℕ) (o : Outcome) (v : World) → Effect (counted w) (Go c) o v → v.calls.requests ≡ w.calls.requests
+effect_requests : (w : World) (c : ℕ) (o : Outcome) (v : World) → Effect (with_event w) (Go c) o v → v.calls.requests ≡ w.calls.requests
 effect_requests w c o v (keeps n same log all) = same.requests
 effect_requests w c o v (tells d reply n same asked log all) = same.requests
 effect_requests w c o v (opens d request is so at same) = absurd cc
@@ -63,4 +63,4 @@ go_requests w c o v s = go (comes w (Go c) o v s)
   where
     go : Comes w (Go c) o v → v.calls.requests ≡ w.calls.requests
     go (stopped n i h) = ap (λ (v : World). v.calls.requests) h
-    go (acts n shape) = effect_requests w c o v (effect_of (counted w) (Go c) o v shape)
+    go (acts n shape) = effect_requests w c o v (effect_of (with_event w) (Go c) o v shape)

@@ -1,10 +1,11 @@
 -- The text of a trace that leaves no call open is that of the plain page map.
-use Rattle.std.proofs.Common.{◌≡◌, ◌≢◌, ℕ, zero, suc, ◌+◌, ◌≤◌, ◌<◌, ◌^◌, Bool, true, false, cond, List, [], ◌∷◌, ◌++◌, Option, None, Some, refl, sym, ap, subst, ◌∙◌, arith, length, length-append}
+use Rattle.std.proofs.Common.{◌≡◌, ◌≢◌, ℕ, zero, suc, ◌+◌, ◌≤◌, ◌<◌, ◌^◌, ◌⊎◌, inl, inr, Bool, true, false, cond, List, [], ◌∷◌, ◌++◌, Option, None, Some, refl, sym, ap, subst, ◌∙◌, arith, length, length-append}
 use Rattle.std.specs.Prelude.{nat_lt, IsSomeAnd}
 use Rattle.std.proofs.lemmas.Bool.Decides.{nat_tests}
 use Rattle.vm_base.specs.declared.replies.Reply.TheVariants.{NoMemory}
 use Rattle.vm_base.specs.declared.requests.Request.{Request}
 use Rattle.slot_lock.specs.Slots.{Slots, IsNew}
+use Rattle.machine_model.specs.declared.event.Blocker.TheVariants.{Acks}
 use Rattle.machine_model.specs.declared.event.Event.TheVariants as Ev
 use Rattle.machine_model.specs.declared.event.Outcome.{Outcome}
 use Rattle.machine_model.specs.declared.event.Outcome.TheVariants.{Stepped, Wait, Idle, Answered, Full}
@@ -12,7 +13,7 @@ use Rattle.machine_model.specs.declared.phase.Phase.TheVariants.{Free}
 use Rattle.machine_model.specs.declared.log.Entry.TheVariants.{Answer}
 use Rattle.machine_model.specs.World.{World, Made, new_world}
 use Rattle.machine_model.specs.Actions.{Becomes}
-use Rattle.machine_model.specs.Step.{called, Begins as BeginsBy, Goes, Acts, counted, event_limit, Step, StepsTo}
+use Rattle.machine_model.specs.Step.{after_call, Begins as BeginsBy, Goes, Acts, with_event, event_limit, Step, StepsTo}
 use Rattle.machine_sound.specs.Sound.{IsDue, IsReached}
 use Rattle.machine_sound.proofs.Kept.{reached_opening, reached_step}
 use Rattle.machine_alone.specs.Alone.{IsCalm, LeadsTo, IsServed, IsServedAlone}
@@ -24,12 +25,13 @@ use Rattle.core_steps.specs.Finishing.{EndsIn}
 use Rattle.core_steps.specs.Setups.{made_of}
 use Rattle.trace_text.specs.Line.{line_of}
 use Rattle.trace_text.specs.declared.line.Line.{Line}
-use Rattle.trace_text.specs.declared.line.Line.TheVariants.{Blank, Space, Call, Go, Finish, Now}
+use Rattle.trace_text.specs.declared.line.Line.TheVariants.{Blank, Space, Act, Fold, Finish, Now}
+use Rattle.trace.specs.Events.{event_of}
 use Rattle.trace.specs.OutcomeText.{outcome_text, finished_text}
 use Rattle.trace.specs.Gives.{Gives, GoesOn, TellsFinish}
 use Rattle.trace.specs.Stage.{Stage, Start, Declared, Running, Opens, LineActs, EventActs}
 use Rattle.trace.specs.Runs.{Runs}
-use Rattle.trace.specs.PlainText.{Reached, nothing_reached, CallAnswers, NowAnswers, LineAnswers, AllAnswer, leaves_open, AreFinished}
+use Rattle.trace.specs.PlainText.{Reached, nothing_reached, CallAnswers, NowAnswers, LineAnswers, LineWaits, AllAnswer, leaves_open, AreFinished}
 use Rattle.trace.proofs.Limits.{step_made, step_grows, go_requests}
 
 -- ---- the state of a machine between two lines
@@ -54,19 +56,19 @@ steps_kept (suc n) core w v s =
     )
 
 -- a core without a call goes no step
-idle_go : (w : World) (core : ℕ) (o : Outcome) (v : World) → w.calls.phase core ≡ Free → w.calls.events < event_limit → Step w (Ev.Go core) o v → (o ≡ Idle) × (v ≡ counted w)
+idle_go : (w : World) (core : ℕ) (o : Outcome) (v : World) → w.calls.phase core ≡ Free → w.calls.events < event_limit → Step w (Ev.Go core) o v → (o ≡ Idle) × (v ≡ with_event w)
 idle_go w core o v free below s = go (nat_lt w.calls.events event_limit) (nat_lt core w.made.cores) (grind (arith, nat_tests)) s
   where
-    go : (a b : Bool) → a ≡ true → cond a (cond b (Acts (counted w) (Ev.Go core) o v) ((o ≡ Idle) × (v ≡ counted w))) ((o ≡ Full) × (v ≡ w)) → (o ≡ Idle) × (v ≡ counted w)
-    go true true e k = subst (λ phase. Goes (counted w) core phase o v) free k
+    go : (a b : Bool) → a ≡ true → cond a (cond b (Acts (with_event w) (Ev.Go core) o v) ((o ≡ Idle) × (v ≡ with_event w))) ((o ≡ Full) × (v ≡ w)) → (o ≡ Idle) × (v ≡ with_event w)
+    go true true e k = subst (λ phase. Goes (with_event w) core phase o v) free k
     go true false e k = k
     go false b e k = absurd cc
 
 no_step : (w : World) (core : ℕ) (v : World) → w.calls.phase core ≡ Free → Step w (Ev.Go core) Stepped v → ⊥
 no_step w core v free s = go (nat_lt w.calls.events event_limit) (nat_lt core w.made.cores) s
   where
-    go : (a b : Bool) → cond a (cond b (Acts (counted w) (Ev.Go core) Stepped v) ((Stepped ≡ Idle) × (v ≡ counted w))) ((Stepped ≡ Full) × (v ≡ w)) → ⊥
-    go true true k = let e : Stepped ≡ Idle = (subst (λ phase. Goes (counted w) core phase Stepped v) free k).0 in cc
+    go : (a b : Bool) → cond a (cond b (Acts (with_event w) (Ev.Go core) Stepped v) ((Stepped ≡ Idle) × (v ≡ with_event w))) ((Stepped ≡ Full) × (v ≡ w)) → ⊥
+    go true true k = let e : Stepped ≡ Idle = (subst (λ phase. Goes (with_event w) core phase Stepped v) free k).0 in cc
     go true false k = let e = k.0 in cc
     go false b k = let e = k.0 in cc
 
@@ -124,19 +126,30 @@ served w begun v s core request o text m made asked same kept k t =
       };
     }
 
+-- or it waits for another core
+abbrev WaitsAt : Reached → List ℕ → Type 0
+WaitsAt s text = (1 < s.cores) × ((set : ℕ) × (text ≡ outcome_text (Wait (Acks set))))
+
+two_cores : (c d n : ℕ) → nat_lt c n ≡ true → nat_lt d n ≡ true → d ≢ c → 1 < n
+two_cores c d n h k ne = grind (arith, nat_tests)
+
 call_ends : (w begun : World) (core n : ℕ) (request : Request) (f : Finished) (v : World) (s : Reached) (text : List ℕ) (m : Meets w s) → Step w (Ev.Call core request) Stepped begun
-    → begun.made ≡ w.made → begun.calls.requests ≡ w.calls.requests ++ request ∷ [] → v.calls.events < event_limit → EndsIn begun core n f v → text ≡ finished_text f → IsDone w v s core request text
-call_ends w begun core n request (Last o) v s text m call made asked below h t =
+    → nat_lt core w.made.cores ≡ true → begun.made ≡ w.made → begun.calls.requests ≡ w.calls.requests ++ request ∷ [] → v.calls.events < event_limit → EndsIn begun core n f v
+    → text ≡ finished_text f → IsDone w v s core request text ⊎ WaitsAt s text
+call_ends w begun core n request (Last o) v s text m call inside made asked below h t =
     let x = h.2.0 in
     let k = steps_kept n core begun x h.2.1 in
     let up = step_grows x (Ev.Go core) o v h.2.2 in
     let alone : IsServedAlone w s.plain core request begun = served_alone w begun s.plain core request m.reached m.log m.calm call in
-    served w begun v s core request o text m made asked
-    (step_made x (Ev.Go core) o v h.2.2 ∙ k.0)
-    (go_requests x core o v h.2.2 ∙ k.1)
-    (alone.ends n x v o h.2.1 h.2.2 h.1 (omega (arith, up, below)))
-    t
-call_ends w begun core n request Stuck v s text m call made asked below h t =
+    elim (alone.ends n x v o h.2.1 h.2.2 h.1 (omega (arith, up, below))) [
+      | inl d ↦
+        inl (served w begun v s core request o text m made asked
+        (step_made x (Ev.Go core) o v h.2.2 ∙ k.0) (go_requests x core o v h.2.2 ∙ k.1) d t)
+      | inr a ↦
+        let e = (a.exact a.some.0).0 a.some.1 in
+        inr (subst (λ n. 1 < n) (sym m.cores) (two_cores core a.some.0 w.made.cores inside (a.there a.some.0 e.1) e.0), (a.set, t ∙ ap outcome_text a.waits))
+    ]
+call_ends w begun core n request Stuck v s text m call inside made asked below h t =
     let alone : IsServedAlone w s.plain core request begun = served_alone w begun s.plain core request m.reached m.log m.calm call in
     let few = alone.short n v h.1 in
     let all : n ≡ 2 ^ 40 = h.0 in
@@ -151,24 +164,24 @@ pub record IsToldOf (v : World) (s : Reached) (core : ℕ) (request : Request) (
 
 -- what a Call comes to where no core has a call
 pub data Begins (w : World) (core : ℕ) (request : Request) (o : Outcome) (m : World) : Type 0 where
-  lacks : nat_lt core w.made.cores ≡ false → o ≡ Idle → m ≡ counted w → Begins w core request o m
-  fills : nat_lt core w.made.cores ≡ true → nat_lt (length w.calls.requests) w.made.calls ≡ false → o ≡ Full → m ≡ counted w → Begins w core request o m
-  starts : nat_lt core w.made.cores ≡ true → nat_lt (length w.calls.requests) w.made.calls ≡ true → o ≡ Stepped → m ≡ called core request (counted w) → Begins w core request o m
+  lacks : nat_lt core w.made.cores ≡ false → o ≡ Idle → m ≡ with_event w → Begins w core request o m
+  fills : nat_lt core w.made.cores ≡ true → nat_lt (length w.calls.requests) w.made.calls ≡ false → o ≡ Full → m ≡ with_event w → Begins w core request o m
+  starts : nat_lt core w.made.cores ≡ true → nat_lt (length w.calls.requests) w.made.calls ≡ true → o ≡ Stepped → m ≡ after_call core request (with_event w) → Begins w core request o m
 
 begins : (w : World) (core : ℕ) (request : Request) (o : Outcome) (m : World) → w.calls.phase core ≡ Free → w.calls.events < event_limit → Step w (Ev.Call core request) o m → Begins w core request o m
 begins w core request o m free below s = go (nat_lt w.calls.events event_limit) (nat_lt core w.made.cores) (grind (arith, nat_tests)) refl s
   where
-    may : (b : Bool) → nat_lt (length w.calls.requests) w.made.calls ≡ b → nat_lt core w.made.cores ≡ true → cond b (Becomes (called core request (counted w)) o m) ((o ≡ Full) × (m ≡ counted w)) → Begins w core request o m
+    may : (b : Bool) → nat_lt (length w.calls.requests) w.made.calls ≡ b → nat_lt core w.made.cores ≡ true → cond b (Becomes (after_call core request (with_event w)) o m) ((o ≡ Full) × (m ≡ with_event w)) → Begins w core request o m
     may true e inside k = starts inside e k.0 k.1
     may false e inside k = fills inside e k.0 k.1
 
-    go : (a b : Bool) → a ≡ true → nat_lt core w.made.cores ≡ b → cond a (cond b (Acts (counted w) (Ev.Call core request) o m) ((o ≡ Idle) × (m ≡ counted w))) ((o ≡ Full) × (m ≡ w)) → Begins w core request o m
-    go true true e i k = may (nat_lt (length w.calls.requests) w.made.calls) refl i (subst (λ phase. BeginsBy (counted w) core request phase o m) free k)
+    go : (a b : Bool) → a ≡ true → nat_lt core w.made.cores ≡ b → cond a (cond b (Acts (with_event w) (Ev.Call core request) o m) ((o ≡ Idle) × (m ≡ with_event w))) ((o ≡ Full) × (m ≡ w)) → Begins w core request o m
+    go true true e i k = may (nat_lt (length w.calls.requests) w.made.calls) refl i (subst (λ phase. BeginsBy (with_event w) core request phase o m) free k)
     go true false e i k = lacks i k.0 k.1
     go false b e i k = absurd cc
 
 -- an outcome that ends the line: only the number of events moved
-stands_still : (w m v : World) (s : Reached) (core : ℕ) (request : Request) (o : Outcome) → Meets w s → Step w (Ev.Call core request) o m → m ≡ counted w → v ≡ m → Meets v s
+stands_still : (w m v : World) (s : Reached) (core : ℕ) (request : Request) (o : Outcome) → Meets w s → Step w (Ev.Call core request) o m → m ≡ with_event w → v ≡ m → Meets v s
 stands_still w m v s core request o k step e same =
     let f : IsReached m = reached_step w m (Ev.Call core request) o k.reached step in
     subst (λ v. Meets v s) (sym (same ∙ e)) (record { reached = subst IsReached e f; calm = k.calm; cores = k.cores; calls = k.calls; begun = k.begun; log = k.log })
@@ -197,28 +210,30 @@ told_one w m v s core request o text k step not b same t = elim b [
 ]
 
 told_call : (w m v : World) (s : Reached) (core : ℕ) (request : Request) (text : List ℕ) → Meets w s → Step w (Ev.Call core request) Stepped m
-    → Begins w core request Stepped m → v.calls.events < event_limit → TellsFinish m core v text → IsToldOf v s core request text
+    → Begins w core request Stepped m → v.calls.events < event_limit → TellsFinish m core v text → IsToldOf v s core request text ⊎ WaitsAt s text
 told_call w m v s core request text k step b below h = elim b [
   | lacks i e is ↦ absurd cc
   | fills i j e is ↦ absurd cc
   | starts i j e is ↦
-      let d : IsDone w v s core request text = call_ends w m core h.1.0 request h.0 v s text k step (ap (λ (v : World). v.made) is) (ap (λ (v : World). v.calls.requests) is) below h.1.1 h.2 in
-      record {
-        next = d.next;
-        answers = subst (λ x. cond x (cond (nat_lt s.begun s.calls) (CallAnswers s core request d.next text) ((d.next ≡ s) × (text ≡ outcome_text Full))) ((d.next ≡ s) × (text ≡ outcome_text Idle)))
-            (sym (by_name core core s.cores w.made.cores true refl k.cores i))
-            (subst (λ x. cond x (CallAnswers s core request d.next text) ((d.next ≡ s) × (text ≡ outcome_text Full))) (sym (by_name s.begun (length w.calls.requests) s.calls w.made.calls true k.begun k.calls j)) d.answers);
-        meets = d.meets;
-      }
+      elim (call_ends w m core h.1.0 request h.0 v s text k step i (ap (λ (v : World). v.made) is) (ap (λ (v : World). v.calls.requests) is) below h.1.1 h.2) [
+        | inl d ↦ inl (record {
+          next = d.next;
+          answers = subst (λ x. cond x (cond (nat_lt s.begun s.calls) (CallAnswers s core request d.next text) ((d.next ≡ s) × (text ≡ outcome_text Full))) ((d.next ≡ s) × (text ≡ outcome_text Idle)))
+              (sym (by_name core core s.cores w.made.cores true refl k.cores i))
+              (subst (λ x. cond x (CallAnswers s core request d.next text) ((d.next ≡ s) × (text ≡ outcome_text Full))) (sym (by_name s.begun (length w.calls.requests) s.calls w.made.calls true k.begun k.calls j)) d.answers);
+          meets = d.meets;
+        })
+        | inr waits ↦ inr waits
+      ]
 ]
 
 told : (w m v : World) (s : Reached) (core : ℕ) (request : Request) (o : Outcome) (text : List ℕ) → Meets w s → w.calls.events < event_limit → v.calls.events < event_limit
-    → Step w (Ev.Call core request) o m → GoesOn m core o v text → IsToldOf v s core request text
+    → Step w (Ev.Call core request) o m → GoesOn m core o v text → IsToldOf v s core request text ⊎ WaitsAt s text
 told w m v s core request Stepped text k low below step h = told_call w m v s core request text k step (begins w core request Stepped m (k.calm core) low step) below h
-told w m v s core request (Wait b) text k low below step h = told_one w m v s core request (Wait b) text k step (λ e. cc) (begins w core request (Wait b) m (k.calm core) low step) h.0 h.1
-told w m v s core request Idle text k low below step h = told_one w m v s core request Idle text k step (λ e. cc) (begins w core request Idle m (k.calm core) low step) h.0 h.1
-told w m v s core request (Answered r) text k low below step h = told_one w m v s core request (Answered r) text k step (λ e. cc) (begins w core request (Answered r) m (k.calm core) low step) h.0 h.1
-told w m v s core request Full text k low below step h = told_one w m v s core request Full text k step (λ e. cc) (begins w core request Full m (k.calm core) low step) h.0 h.1
+told w m v s core request (Wait b) text k low below step h = inl (told_one w m v s core request (Wait b) text k step (λ e. cc) (begins w core request (Wait b) m (k.calm core) low step) h.0 h.1)
+told w m v s core request Idle text k low below step h = inl (told_one w m v s core request Idle text k step (λ e. cc) (begins w core request Idle m (k.calm core) low step) h.0 h.1)
+told w m v s core request (Answered r) text k low below step h = inl (told_one w m v s core request (Answered r) text k step (λ e. cc) (begins w core request (Answered r) m (k.calm core) low step) h.0 h.1)
+told w m v s core request Full text k low below step h = inl (told_one w m v s core request Full text k step (λ e. cc) (begins w core request Full m (k.calm core) low step) h.0 h.1)
 
 -- ---- events only rise
 
@@ -239,8 +254,8 @@ goes_grows m core Full v text h = same_events m v h.0
 gives_grows : (w : World) (line : Line) (v : World) (text : List ℕ) → Gives w line v text → w.calls.events ≤ v.calls.events
 gives_grows w Blank v text h = absurd h
 gives_grows w (Space cores frames calls) v text h = absurd h
-gives_grows w (Call core request) v text h = step_grows w (Ev.Call core request) h.0 v h.1
-gives_grows w (Go core) v text h = step_grows w (Ev.Go core) h.0 v h.1
+gives_grows w (Act core action) v text h = step_grows w (event_of core action) h.0 v h.1
+gives_grows w (Fold page) v text h = step_grows w (Ev.Fold page) h.0 v h.1
 gives_grows w (Finish core) v text h = finish_grows w core h.1.0 h.0 v h.1.1
 gives_grows w (Now core request) v text h =
     let a = step_grows w (Ev.Call core request) h.0 h.1 h.2 in let b = goes_grows h.1 core h.0 v text h.3 in omega (arith, a, b)
@@ -268,8 +283,8 @@ line_grows : (line : Line) (old new : Stage) (text : List ℕ) → LineActs old 
 unfolding events_of
 line_grows Blank old new text a = let h : events_of new ≡ events_of old = ap events_of a.0 in omega (arith, h)
 line_grows (Space cores frames calls) old new text a = let h : events_of old ≡ 0 = ap events_of a.0 in omega (arith, h)
-line_grows (Call core request) old new text a = event_grows (Call core request) old new text a
-line_grows (Go core) old new text a = event_grows (Go core) old new text a
+line_grows (Act core action) old new text a = event_grows (Act core action) old new text a
+line_grows (Fold page) old new text a = event_grows (Fold page) old new text a
 line_grows (Finish core) old new text a = event_grows (Finish core) old new text a
 line_grows (Now core request) old new text a = event_grows (Now core request) old new text a
 
@@ -312,32 +327,37 @@ pub record IsPlain (line : Line) (new : Stage) (s : Reached) (text : List ℕ) :
   pub answers : LineAnswers s line next text
   pub reached : ReachedAt new next
 
+-- the line is answered, or its call waits
+abbrev IsPlainOrWaits : Line → Stage → Reached → List ℕ → Type 0
+IsPlainOrWaits line new s text = IsPlain line new s text ⊎ LineWaits s line text
+
 is_running : (new : Stage) (v : World) (s : Reached) → new ≡ Running v → Meets v s → ReachedAt new s
 is_running new v s e m = subst (λ x. ReachedAt x s) (sym e) m
 
-line_plain : (line : Line) (old new : Stage) (s : Reached) (text : List ℕ) → leaves_open (Some line) ≡ false → events_of new < event_limit → ReachedAt old s → LineActs old line new text → IsPlain line new s text
+line_plain : (line : Line) (old new : Stage) (s : Reached) (text : List ℕ) → leaves_open (Some line) ≡ false → events_of new < event_limit → ReachedAt old s → LineActs old line new text → IsPlainOrWaits line new s text
 unfolding events_of
-line_plain Blank old new s text f below r a = record { next = s; answers = (refl, a.1); reached = subst (λ x. ReachedAt x s) (sym a.0) r }
+line_plain Blank old new s text f below r a = inl (record { next = s; answers = (refl, a.1); reached = subst (λ x. ReachedAt x s) (sym a.0) r })
 line_plain (Space cores frames calls) old new s text f below r a =
     let first : s ≡ nothing_reached = subst (λ x. ReachedAt x s) a.0 r in
-    record {
+    inl (record {
       next = record s { cores = cores; calls = calls };
       answers = (refl, a.2);
       reached = subst (λ x. ReachedAt x (record s { cores = cores; calls = calls })) (sym a.1) (ap (λ (s : Reached). record s { cores = cores; calls = calls }) first);
-    }
-line_plain (Call core request) old new s text f below r a = absurd cc
-line_plain (Go core) old new s text f below r a = absurd cc
+    })
+line_plain (Act core action) old new s text f below r a = absurd cc
+line_plain (Fold page) old new s text f below r a = absurd cc
 line_plain (Finish core) old new s text f below r (w, v, opens, gives, is) =
     let top : events_of new ≡ v.calls.events = ap events_of is in
     let up = gives_grows w (Finish core) v text gives in
     let k : IsStill w v s text = finish_ends w core gives.1.0 gives.0 v s text (opened old w s r opens) (omega (arith, top, up, below)) gives.1.1 gives.2 in
-    record { next = s; answers = (refl, k.tells); reached = is_running new v s is k.meets }
+    inl (record { next = s; answers = (refl, k.tells); reached = is_running new v s is k.meets })
 line_plain (Now core request) old new s text f below r (w, v, opens, gives, is) =
     let top : events_of new ≡ v.calls.events = ap events_of is in
     let up = gives_grows w (Now core request) v text gives in
-    let k : IsToldOf v s core request text =
-    told w gives.1 v s core request gives.0 text (opened old w s r opens) (omega (arith, top, up, below)) (omega (arith, top, below)) gives.2 gives.3 in
-    record { next = k.next; answers = k.answers; reached = is_running new v k.next is k.meets }
+    elim (told w gives.1 v s core request gives.0 text (opened old w s r opens) (omega (arith, top, up, below)) (omega (arith, top, below)) gives.2 gives.3) [
+      | inl k ↦ inl (record { next = k.next; answers = k.answers; reached = is_running new v k.next is k.meets })
+      | inr waits ↦ inr waits
+    ]
 
 pub record IsPlainSome (line : Option Line) (new : Stage) (s : Reached) (text : List ℕ) : Type 0 where
   pub next : Reached
@@ -345,10 +365,12 @@ pub record IsPlainSome (line : Option Line) (new : Stage) (s : Reached) (text : 
   pub reached : ReachedAt new next
 
 some_plain : (line : Option Line) (old new : Stage) (s : Reached) (text : List ℕ) → leaves_open line ≡ false → events_of new < event_limit → ReachedAt old s → IsSomeAnd line (λ l. LineActs old l new text)
-    → IsPlainSome line new s text
+    → IsPlainSome line new s text ⊎ IsSomeAnd line (λ said. LineWaits s said text)
 some_plain None old new s text f below r a = absurd a
-some_plain (Some line) old new s text f below r a =
-    let k : IsPlain line new s text = line_plain line old new s text f below r a in record { next = k.next; answers = k.answers; reached = k.reached }
+some_plain (Some line) old new s text f below r a = elim (line_plain line old new s text f below r a) [
+  | inl k ↦ inl (record { next = k.next; answers = k.answers; reached = k.reached })
+  | inr waits ↦ inr waits
+]
 
 -- ---- lines
 
@@ -356,8 +378,14 @@ all_plain : (lines : List (List ℕ)) (old new : Stage) (s : Reached) (text : Li
 all_plain [] old new s text f below r h = h.1
 all_plain (l ∷ ls) old new s text f below r (mid, front, rest, short, acts, more, is) =
     let up = lines_grow ls mid new rest more in
-    let k : IsPlainSome (line_of l) mid s front = some_plain (line_of l) old mid s front f.0 (omega (arith, up, below)) r acts.acts in
-    (k.next, front, rest, k.answers, all_plain ls mid new k.next rest f.1 below k.reached more, is)
+    (front, rest, is, go (λ next reached. all_plain ls mid new next rest f.1 below reached more)
+    (some_plain (line_of l) old mid s front f.0 (omega (arith, up, below)) r acts.acts))
+  where
+    go : ((next : Reached) → ReachedAt mid next → AllAnswer next ls rest)
+        → IsPlainSome (line_of l) mid s front ⊎ IsSomeAnd (line_of l) (λ said. LineWaits s said front)
+        → ((r : Reached) × IsSomeAnd (line_of l) (λ said. LineAnswers s said r front) × AllAnswer r ls rest) ⊎ IsSomeAnd (line_of l) (λ said. LineWaits s said front)
+    go later (inl k) = inl (k.next, k.answers, later k.next k.reached)
+    go later (inr waits) = inr waits
 
 pub finished_traces_plain : (lines : List (List ℕ)) (text : List ℕ) (w : World) → AreFinished lines → Runs Start lines (Running w) text → w.calls.events < event_limit → AllAnswer nothing_reached lines text
 unfolding events_of

@@ -9,8 +9,9 @@ pub fn traces_are_runs()
     ensures { AllTracesAreRuns }
 {}
 
-/// A trace that leaves no call open, having neither a `call` nor a `go` line, gives the text of the plain page map: line for
-/// line the reply of that map's next state, which no part of the machine is needed to tell. "No frame" may stand for an
+/// A trace whose lines of events are calls that are finished in their line gives the text of the plain page map: line for line
+/// the reply of that map's next state, which no part of the machine is needed to tell. With one core that is the whole text; with
+/// more it is the text up to the first call that has to wait for another core. "No frame" may stand for an
 /// access that the map would serve, and changes nothing. At 2^64 - 1 events the machine stops counting, and nothing is said.
 pub fn finished_traces_are_plain()
     ensures { AllFinishedTracesArePlain }
