@@ -1,6 +1,7 @@
 -- Rows of the model that turn on one test
 use Rattle.std.proofs.Common.{◌≡◌, ℕ, Bool, true, false, not, ◌&&◌, List, [], ◌∷◌, Option, None, Some, Result, is_some, cond, refl, sym, ap, subst, ◌∙◌}
-use Rattle.std.specs.Prelude.{if◌then◌else◌}
+use Rattle.std.proofs.Math.Numerals.{add-one}
+use Rattle.std.specs.Prelude.{if◌then◌else◌, ◌+◌}
 use Rattle.vm_base.specs.Functions.{put}
 use Rattle.slot_lock.specs.declared.plan.Touch.{Touch}
 use Rattle.mmu.specs.declared.entry.Translation.{Translation}
@@ -11,7 +12,10 @@ use Rattle.shootdown.specs.declared.message.Message.{Message}
 use Rattle.shootdown.specs.declared.message.Took.{Took}
 use Rattle.shootdown.specs.declared.message.Took.TheVariants as TookOf
 use Rattle.shootdown.specs.Messages.{asked, remaining}
+use Rattle.machine_model.specs.declared.event.Event.{Event}
+use Rattle.machine_model.specs.declared.event.Outcome.{Outcome}
 use Rattle.machine_model.specs.declared.event.Outcome.TheVariants.{Stepped, Idle}
+use Rattle.machine_model.specs.Step.{Acts, with_event}
 use Rattle.machine_model.specs.declared.phase.Phase.{Phase}
 use Rattle.machine_model.specs.declared.phase.Phase.TheVariants.{Release, Want}
 use Rattle.machine_model.specs.World.{World, Hardware}
@@ -130,3 +134,8 @@ installed w v c touch info f e k h = h ∙ subst (λ o. now (Some (record info {
       slots = with_info w.slots touch.page page;
       hardware = with_table w.hardware c (put (w.hardware.table c) touch.page entry);
     })
+
+-- ---- an event is counted
+
+pub counted : (w v : World) (e : Event) (o : Outcome) → Acts (record w { calls = record w.calls { events = w.calls.events + 1 } }) e o v → Acts (with_event w) e o v
+counted w v e o = subst (λ n. Acts (record w { calls = record w.calls { events = n } }) e o v) (add-one w.calls.events)
