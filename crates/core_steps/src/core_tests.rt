@@ -8,10 +8,6 @@ use std::alloc::Allocator;
 use std::test::Fail;
 use vm_base::{CoreId, CoreSet, Flags, NoMemory, Prot, Reply, Request, SegvCode};
 
-const FIRST: CoreId = CoreId::new(0);
-
-const SECOND: CoreId = CoreId::new(1);
-
 /// What is done, and what it must come to.
 #[derive(Clone, Copy)]
 enum Row {
@@ -139,22 +135,24 @@ fn first_wrong<A: Allocator + Clone>(
 
 #[test]
 fn a_shootdown_waits_for_both_takes(rt: HostRuntime) -> Result<(), Fail> {
-    let second = CoreSet::empty().with(SECOND);
+    let first = CoreId::new(0);
+    let second = CoreId::new(1);
+    let waited = CoreSet::empty().with(second);
     let rows = [
-        Row::Answers(FIRST, MAP, MAPPED),
-        Row::Answers(FIRST, STORE, Reply::Done),
-        Row::Answers(SECOND, LOAD, Reply::Byte(65)),
-        Row::Does(Event::Call(FIRST, UNMAP), Outcome::Stepped),
-        Row::Ends(FIRST, Outcome::Wait(Blocker::Acks(second))),
-        Row::Answers(SECOND, LOAD, Reply::Byte(65)),
-        Row::Does(Event::Take(SECOND), Outcome::Stepped),
-        Row::Ends(FIRST, Outcome::Wait(Blocker::Acks(second))),
-        Row::Does(Event::Take(SECOND), Outcome::Stepped),
-        Row::Does(Event::Take(SECOND), Outcome::Idle),
-        Row::Does(Event::Call(SECOND, LOAD), Outcome::Stepped),
-        Row::Ends(SECOND, Outcome::Wait(Blocker::Slot(FIRST))),
-        Row::Ends(FIRST, Outcome::Answered(Reply::Done)),
-        Row::Ends(SECOND, Outcome::Answered(UNMAPPED)),
+        Row::Answers(first, MAP, MAPPED),
+        Row::Answers(first, STORE, Reply::Done),
+        Row::Answers(second, LOAD, Reply::Byte(65)),
+        Row::Does(Event::Call(first, UNMAP), Outcome::Stepped),
+        Row::Ends(first, Outcome::Wait(Blocker::Acks(waited))),
+        Row::Answers(second, LOAD, Reply::Byte(65)),
+        Row::Does(Event::Take(second), Outcome::Stepped),
+        Row::Ends(first, Outcome::Wait(Blocker::Acks(waited))),
+        Row::Does(Event::Take(second), Outcome::Stepped),
+        Row::Does(Event::Take(second), Outcome::Idle),
+        Row::Does(Event::Call(second, LOAD), Outcome::Stepped),
+        Row::Ends(second, Outcome::Wait(Blocker::Slot(first))),
+        Row::Ends(first, Outcome::Answered(Reply::Done)),
+        Row::Ends(second, Outcome::Answered(UNMAPPED)),
     ];
     let mut machine = machine(rt.alloc(), 2, 4)?;
     let wrong = first_wrong(&mut machine, rows.as_slice())?;
@@ -164,20 +162,22 @@ fn a_shootdown_waits_for_both_takes(rt: HostRuntime) -> Result<(), Fail> {
 
 #[test]
 fn a_held_slot_is_waited_for(rt: HostRuntime) -> Result<(), Fail> {
-    let held = Outcome::Wait(Blocker::Slot(FIRST));
-    let go = Row::Does(Event::Go(FIRST), Outcome::Stepped);
+    let first = CoreId::new(0);
+    let second = CoreId::new(1);
+    let held = Outcome::Wait(Blocker::Slot(first));
+    let go = Row::Does(Event::Go(first), Outcome::Stepped);
     // the check, two divisions and the lock
     let rows = [
-        Row::Does(Event::Call(FIRST, MAP), Outcome::Stepped),
+        Row::Does(Event::Call(first, MAP), Outcome::Stepped),
         go,
         go,
         go,
         go,
-        Row::Does(Event::Call(SECOND, MAP), Outcome::Stepped),
-        Row::Ends(SECOND, held),
-        Row::Does(Event::Go(SECOND), held),
-        Row::Ends(FIRST, Outcome::Answered(MAPPED)),
-        Row::Ends(SECOND, Outcome::Answered(MAPPED)),
+        Row::Does(Event::Call(second, MAP), Outcome::Stepped),
+        Row::Ends(second, held),
+        Row::Does(Event::Go(second), held),
+        Row::Ends(first, Outcome::Answered(MAPPED)),
+        Row::Ends(second, Outcome::Answered(MAPPED)),
     ];
     let mut machine = machine(rt.alloc(), 2, 4)?;
     let wrong = first_wrong(&mut machine, rows.as_slice())?;
@@ -187,18 +187,19 @@ fn a_held_slot_is_waited_for(rt: HostRuntime) -> Result<(), Fail> {
 
 #[test]
 fn a_frame_comes_back_by_review(rt: HostRuntime) -> Result<(), Fail> {
-    let flush = Row::Does(Event::Flush(FIRST), Outcome::Stepped);
+    let first = CoreId::new(0);
+    let flush = Row::Does(Event::Flush(first), Outcome::Stepped);
     let rows = [
-        Row::Answers(FIRST, MAP_TWO, MAPPED),
-        Row::Answers(FIRST, STORE, Reply::Done),
-        Row::Answers(FIRST, UNMAP, Reply::Done),
-        Row::Answers(FIRST, STORE_NEXT, Reply::NoFrame),
+        Row::Answers(first, MAP_TWO, MAPPED),
+        Row::Answers(first, STORE, Reply::Done),
+        Row::Answers(first, UNMAP, Reply::Done),
+        Row::Answers(first, STORE_NEXT, Reply::NoFrame),
         flush,
         flush,
-        Row::Does(Event::Review(FIRST), Outcome::Idle),
+        Row::Does(Event::Review(first), Outcome::Idle),
         flush,
-        Row::Does(Event::Review(FIRST), Outcome::Stepped),
-        Row::Answers(FIRST, STORE_NEXT, Reply::Done),
+        Row::Does(Event::Review(first), Outcome::Stepped),
+        Row::Answers(first, STORE_NEXT, Reply::Done),
     ];
     let mut machine = machine(rt.alloc(), 1, 1)?;
     let wrong = first_wrong(&mut machine, rows.as_slice())?;
@@ -208,18 +209,20 @@ fn a_frame_comes_back_by_review(rt: HostRuntime) -> Result<(), Fail> {
 
 #[test]
 fn a_translation_is_walked_and_evicted(rt: HostRuntime) -> Result<(), Fail> {
+    let first = CoreId::new(0);
+    let second = CoreId::new(1);
     let rows = [
-        Row::Answers(FIRST, MAP, MAPPED),
-        Row::Does(Event::Walk(FIRST, 16), Outcome::Idle),
-        Row::Answers(FIRST, STORE, Reply::Done),
-        Row::Does(Event::Walk(FIRST, 16), Outcome::Idle),
-        Row::Does(Event::Evict(FIRST, 16), Outcome::Stepped),
-        Row::Does(Event::Evict(FIRST, 16), Outcome::Idle),
-        Row::Does(Event::Walk(FIRST, 16), Outcome::Stepped),
-        Row::Does(Event::Walk(FIRST, 16), Outcome::Idle),
-        Row::Does(Event::Walk(FIRST, 0), Outcome::Idle),
-        Row::Does(Event::Walk(SECOND, 16), Outcome::Idle),
-        Row::Answers(FIRST, LOAD, Reply::Byte(65)),
+        Row::Answers(first, MAP, MAPPED),
+        Row::Does(Event::Walk(first, 16), Outcome::Idle),
+        Row::Answers(first, STORE, Reply::Done),
+        Row::Does(Event::Walk(first, 16), Outcome::Idle),
+        Row::Does(Event::Evict(first, 16), Outcome::Stepped),
+        Row::Does(Event::Evict(first, 16), Outcome::Idle),
+        Row::Does(Event::Walk(first, 16), Outcome::Stepped),
+        Row::Does(Event::Walk(first, 16), Outcome::Idle),
+        Row::Does(Event::Walk(first, 0), Outcome::Idle),
+        Row::Does(Event::Walk(second, 16), Outcome::Idle),
+        Row::Answers(first, LOAD, Reply::Byte(65)),
     ];
     let mut machine = machine(rt.alloc(), 2, 4)?;
     let wrong = first_wrong(&mut machine, rows.as_slice())?;
@@ -229,39 +232,41 @@ fn a_translation_is_walked_and_evicted(rt: HostRuntime) -> Result<(), Fail> {
 
 #[test]
 fn a_frame_is_asked_for_by_number(rt: HostRuntime) -> Result<(), Fail> {
-    let go = Row::Does(Event::Go(FIRST), Outcome::Stepped);
+    let first = CoreId::new(0);
+    let go = Row::Does(Event::Go(first), Outcome::Stepped);
     // the check, the fault, the lock and the look at the slot
     let rows = [
-        Row::Answers(FIRST, MAP, MAPPED),
-        Row::Does(Event::Call(FIRST, STORE), Outcome::Stepped),
-        Row::Does(Event::Frame(FIRST, 3), Outcome::Idle),
+        Row::Answers(first, MAP, MAPPED),
+        Row::Does(Event::Call(first, STORE), Outcome::Stepped),
+        Row::Does(Event::Frame(first, 3), Outcome::Idle),
         go,
         go,
         go,
         go,
-        Row::Does(Event::Frame(FIRST, 4), Outcome::Idle),
-        Row::Does(Event::Frame(FIRST, 3), Outcome::Stepped),
-        Row::Does(Event::Frame(FIRST, 2), Outcome::Idle),
-        Row::Ends(FIRST, Outcome::Answered(Reply::Done)),
+        Row::Does(Event::Frame(first, 4), Outcome::Idle),
+        Row::Does(Event::Frame(first, 3), Outcome::Stepped),
+        Row::Does(Event::Frame(first, 2), Outcome::Idle),
+        Row::Ends(first, Outcome::Answered(Reply::Done)),
     ];
     let mut machine = machine(rt.alloc(), 1, 4)?;
     assert_eq!(rt; machine.cores(), 1);
-    assert_eq!(rt; machine.entry(FIRST, 16), None);
+    assert_eq!(rt; machine.entry(first, 16), None);
     let wrong = first_wrong(&mut machine, rows.as_slice())?;
     assert_eq!(rt; wrong, None);
     assert_eq!(rt; machine.cores(), 1);
     // frame 3 with P, R/W, U/S and XD
-    assert_eq!(rt; machine.entry(FIRST, 16), Some(0x8000_0000_0000_3007));
+    assert_eq!(rt; machine.entry(first, 16), Some(0x8000_0000_0000_3007));
     Ok(())
 }
 
 #[test]
 fn slots_are_joined(rt: HostRuntime) -> Result<(), Fail> {
+    let first = CoreId::new(0);
     let rows = [
         Row::Does(Event::Fold(15), Outcome::Idle),
-        Row::Answers(FIRST, MAP, MAPPED),
+        Row::Answers(first, MAP, MAPPED),
         Row::Does(Event::Fold(15), Outcome::Idle),
-        Row::Answers(FIRST, UNMAP, Reply::Done),
+        Row::Answers(first, UNMAP, Reply::Done),
         Row::Does(Event::Fold(0), Outcome::Idle),
         Row::Does(Event::Fold(15), Outcome::Stepped),
         Row::Does(Event::Fold(15), Outcome::Stepped),
@@ -282,17 +287,18 @@ fn gives_up<A: Allocator + Clone + Drop>(
     came: Outcome,
     reply: Reply,
 ) -> Result<bool, NoMemory> {
+    let first = CoreId::new(0);
     let mut machine = machine(alloc, 1, 1)?;
-    let is_mapped = first_wrong(&mut machine, &[Row::Answers(FIRST, MAP, MAPPED)])? == None;
-    machine.step(Event::Call(FIRST, request))?;
+    let is_mapped = first_wrong(&mut machine, &[Row::Answers(first, MAP, MAPPED)])? == None;
+    machine.step(Event::Call(first, request))?;
     for _step in 0..steps {
-        machine.step(Event::Go(FIRST))?;
+        machine.step(Event::Go(first))?;
     }
     let rows = [
-        Row::Does(Event::GiveUp(FIRST), came),
-        Row::Ends(FIRST, Outcome::Answered(reply)),
-        Row::Does(Event::GiveUp(FIRST), Outcome::Idle),
-        Row::Answers(FIRST, request, Reply::Done),
+        Row::Does(Event::GiveUp(first), came),
+        Row::Ends(first, Outcome::Answered(reply)),
+        Row::Does(Event::GiveUp(first), Outcome::Idle),
+        Row::Answers(first, request, Reply::Done),
     ];
     let is_left = first_wrong(&mut machine, rows.as_slice())? == None;
     Ok(is_mapped && is_left)
@@ -330,6 +336,7 @@ fn store_in<A: Allocator + Clone + Drop>(
     alloc: A,
     room: usize,
 ) -> Result<(bool, bool), NoMemory> {
+    let first = CoreId::new(0);
     let map = RunList::new(alloc)?;
     let setup = Setup {
         cores: 1,
@@ -339,14 +346,14 @@ fn store_in<A: Allocator + Clone + Drop>(
     let Ok(mut machine) = Machine::new(heap, map, &setup) else {
         return Err(NoMemory);
     };
-    machine.step(Event::Call(FIRST, MAP))?;
-    machine.finish(FIRST)?;
-    machine.step(Event::Call(FIRST, STORE))?;
+    machine.step(Event::Call(first, MAP))?;
+    machine.finish(first)?;
+    machine.step(Event::Call(first, STORE))?;
     let taken: Vec<u8, _> = Vec::with_capacity(heap, heap.free().saturating_sub(room))?;
-    let is_refused = machine.finish(FIRST).is_err();
-    let is_unchanged = machine.step(Event::Go(FIRST)).is_err() && machine.log().len() == 1;
+    let is_refused = machine.finish(first).is_err();
+    let is_unchanged = machine.step(Event::Go(first)).is_err() && machine.log().len() == 1;
     drop(taken);
-    machine.finish(FIRST)?;
+    machine.finish(first)?;
     Ok((
         is_refused,
         is_unchanged == is_refused && machine.log().len() == 2,
@@ -358,12 +365,12 @@ fn a_refused_entry_changes_nothing(rt: HostRuntime) -> Result<(), Fail> {
     let heap = LocalHeap::new(rt.alloc(), 200_000)?;
     let mut refusals = 0u32;
     for step in 0..100 {
-        let (is_refused, is_right) = store_in(&heap, rt.alloc(), 256 * step)?;
+        let (is_refused, is_right) = store_in(&heap, rt.alloc(), 512 * step)?;
         assert!(rt; is_right);
         refusals = refusals.saturating_add(is_refused as u32);
     }
-    // below the root three tables of 4096 bytes are made
-    assert!(rt; refusals > 47);
+    // below the root three tables of at least 4096 bytes are made
+    assert!(rt; refusals > 23);
     assert!(rt; refusals < 99);
     Ok(())
 }
