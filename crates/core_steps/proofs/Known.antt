@@ -1,5 +1,5 @@
 -- What the code learns of the core that is to make a step: it knows only that the state is one that runs reach
-use Rattle.std.proofs.Common.{◌≡◌, ◌≢◌, ℕ, suc, ◌+◌, ◌<◌, ◌≤◌, ◌^◌, ◌==◌, ◌||◌, Bool, true, false, length, List, [], ◌∷◌, Option, Some, None, is_some, refl, sym, subst, ap, arith, cond, ◌∙◌, pos, ◌<ℤ◌}
+use Rattle.std.proofs.Common.{◌≡◌, ◌≢◌, ℕ, ◌+◌, ◌<◌, ◌≤◌, ◌^◌, ◌==◌, ◌||◌, Bool, true, false, length, List, [], ◌∷◌, Option, Some, None, is_some, refl, sym, subst, ap, arith, cond, ◌∙◌, pos, ◌<ℤ◌}
 use Rattle.std.specs.Prelude.{if◌then◌else◌, IfSome}
 use Rattle.std.proofs.Math.Logic.{∥∥₁_elim, ∥∥₁_map}
 use Rattle.std.proofs.Props.{props}
@@ -15,7 +15,7 @@ use Rattle.vm_base.specs.Functions.{has}
 use Rattle.vm_base.specs.Pages.{IsPage, IsPageRange, are_pages, is_page}
 use Rattle.vm_base.specs.Info.{frame_of}
 use Rattle.vm_base.specs.Rights.{is_allowed}
-use Rattle.vm_base.proofs.Functions.{in_has, eq_true, eq_false}
+use Rattle.vm_base.proofs.Functions.{in_has, eq_true}
 use Rattle.slot_lock.specs.declared.plan.Change.{Change}
 use Rattle.slot_lock.specs.declared.plan.Change.TheVariants.{Put, Clear, Protect}
 use Rattle.slot_lock.specs.declared.plan.Plan.{Plan}

@@ -1,11 +1,11 @@
 -- Frames that are counted down, page by page
-use Rattle.std.proofs.Common.{◌≡◌, ◌≢◌, ℕ, zero, suc, ◌+◌, ◌-◌, ◌<◌, ◌≤◌, Option, None, Some, refl, sym, ap, subst, arith, ◌∙◌, cond, Bool, true, false, ◌==◌, pos, negsuc, ◌<ℤ◌, ◌+ℤ◌}
+use Rattle.std.proofs.Common.{◌≡◌, ◌≢◌, ℕ, zero, suc, ◌+◌, ◌-◌, ◌<◌, ◌≤◌, Option, None, Some, refl, sym, ap, subst, arith, ◌∙◌, cond, false, ◌==◌, pos, negsuc, ◌+ℤ◌}
 use Rattle.std.proofs.lemmas.Bool.Decides.{nat_tests}
 use Rattle.std.proofs.lemmas.Int.{ints}
 use Rattle.vm_base.specs.declared.info.PageInfo.{PageInfo}
 use Rattle.vm_base.specs.Info.{frame_of, info_without_frame}
 use Rattle.vm_base.proofs.Functions.{put_all, put_other}
-use Rattle.slot_lock.specs.Slots.{Slots, LosesFrame, NoFrames}
+use Rattle.slot_lock.specs.Slots.{Slots, LosesFrame}
 use Rattle.refcache.specs.Counts.{Counts, true_count}
 use Rattle.refcache.specs.Laws.{change}
 use Rattle.refcache.specs.Steps.{Takes, Dec}

@@ -9,7 +9,6 @@ use Rattle.mmu.specs.declared.tlb.TlbEntry.{TlbEntry}
 use Rattle.mmu.specs.Tables.{tlb_walked}
 use Rattle.mmu.specs.Tlb.{tlb_at}
 use Rattle.shootdown.specs.declared.message.Message.{Message}
-use Rattle.shootdown.specs.declared.message.Took.{Took}
 use Rattle.shootdown.specs.declared.message.Took.TheVariants as TookOf
 use Rattle.shootdown.specs.Messages.{asked, remaining}
 use Rattle.machine_model.specs.declared.event.Event.{Event}
@@ -32,7 +31,7 @@ use Rattle.machine_model.specs.Changes.{after_check, after_plan, checked_by}
 use Rattle.machine_model.specs.GivingUp.{GivesUp, after_give_up}
 use Rattle.machine_model.specs.Holding.{can_give_up}
 use Rattle.vm_base.specs.declared.page.PageRange.{PageRange}
-use Rattle.machine_model.specs.Translating.{Evicts, TakesMessage, Walks, after_eviction, after_walk, can_walk, tables_cleared, tlb_invalidated, with_hardware, with_inbox, with_tlb, with_table, entry_for, entry_of_page}
+use Rattle.machine_model.specs.Translating.{Evicts, TakesMessage, Walks, after_eviction, after_walk, can_walk, tables_cleared, tlb_invalidated, with_hardware, with_inbox, with_table, entry_for, entry_of_page}
 use Rattle.core_steps.proofs.Each.{put_id}
 
 pub if_true : (b : Bool) (x y : Type 0) → b ≡ true → x → cond b x y

@@ -36,7 +36,15 @@ pub(crate) struct Engine<M: SlotMap, H: Hardware, A: Allocator> {
 impl<M: SlotMap, H: Hardware, A: Allocator> Engine<M, H, A> {
     ghost use Rattle.std.specs.Prelude.{◌≡◌, ◌<◌, length};
     ghost use Rattle.machine_model.specs.Actions.{to};
-    ghost use Rattle.core_steps.specs.State.{world};
+    ghost use Rattle.core_steps.specs.State.{phase_of, world};
+
+    /// Where the call of a core stands.
+    pub fn phase_of(&self, core: CoreId) -> Phase
+        requires { core < length self.now.calls.phases.items }
+        ensures { result ≡ phase_of self.now core }
+    {
+        self.calls.phases[core.index() as usize]
+    }
 
     /// The call of a core goes on in a phase.
     pub fn go_to(&mut self, core: CoreId, phase: Phase)

@@ -77,7 +77,7 @@ impl<M: SlotMap, H: Hardware, A: Allocator> Engine<M, H, A> {
         requires { IsOf (world M.slots self.old) core }
         ensures { GivesUp (world M.slots self.old) core (phase_of self.old core) result (world M.slots self.new) }
     {
-        let phase = self.calls.phases[core.index() as usize];
+        let phase = self.phase_of(core);
         if !can_give_up(&phase) {
             return Outcome::Idle;
         }

@@ -1,7 +1,4 @@
-use Rattle.std.proofs.Common.{None, sym, subst, refl}
-use Rattle.slot_lock.specs.declared.plan.Change.TheVariants.{Protect}
-use Rattle.slot_lock.specs.Plan.{range_of}
-use Rattle.machine_model.specs.Counting.{CountsDown, frame_lost}
+use Rattle.std.proofs.Common.{refl}
 use Rattle.core_steps.proofs.Lost.{lost_none}
 use Rattle.core_steps.proofs.commit.make_change.Goals as goal
 

@@ -1,4 +1,4 @@
-use Rattle.std.proofs.Common.{◌≡◌, ◌-◌, ◌+◌, ◌≤◌, ◌<◌, ℕ, arith, refl, sym, subst, ap, ◌∙◌, rules}
+use Rattle.std.proofs.Common.{◌<◌, arith, refl, sym, subst, ap, ◌∙◌, rules}
 use Rattle.vm_base.specs.Info.{frame_of}
 use Rattle.core_steps.proofs.Lost.{after_loss, counted_next, lost_all, lost_next, lost_none}
 use Rattle.core_steps.proofs.commit.take_frames.Goals as goal

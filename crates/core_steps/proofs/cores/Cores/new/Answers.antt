@@ -1,4 +1,4 @@
-use Rattle.std.proofs.Common.{◌≡◌, ℕ, None, [], rules, ap, ◌∙◌}
+use Rattle.std.proofs.Common.{None, [], rules, ap, ◌∙◌}
 use Rattle.shootdown.specs.Inboxes.{inbox}
 use Rattle.std.proofs.Math.Path.{fun_ext}
 use Rattle.core_steps.proofs.Each.{bare_parts, one_more}

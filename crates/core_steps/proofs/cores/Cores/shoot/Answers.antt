@@ -1,6 +1,5 @@
-use Rattle.std.proofs.Common.{◌≡◌, ◌≢◌, ℕ, ◌<◌, Bool, true, false, ap, sym, subst, length, ◌∙◌}
+use Rattle.std.proofs.Common.{◌≡◌, ◌<◌, true, false, ap, sym, subst, length, ◌∙◌}
 use Rattle.vm_base.specs.Cores.{members}
-use Rattle.vm_base.specs.Functions.{put}
 use Rattle.vm_base.proofs.Functions.{put_all, put_same}
 use Rattle.shootdown.specs.Inboxes.{awaited, inbox, sent}
 use Rattle.machine_model.specs.Translating.{tlb_invalidated}

@@ -1,5 +1,4 @@
 use Rattle.std.proofs.Common.{◌≡◌, Ok, refl, rules, sym, ap, ◌∙◌}
-use Rattle.slot_lock.specs.declared.plan.Place.{Place}
 use Rattle.slot_lock.specs.declared.plan.Plan.TheVariants as PlanOf
 use Rattle.machine_model.specs.declared.phase.Phase.TheVariants.{Check}
 use Rattle.machine_model.specs.Actions.{to}
@@ -26,9 +25,8 @@ returns g c = elim c.match-check.branch [
     (refl, rw w.self-is (planned (world g.M.SlotRead.slots c.args.self.now) _ c.args.core c.args.request _ (sym e ∙ c.check.ensures.value)
     w.go_to-in-Ok-Touch.ensures))
   | in-Ok-Place w ↦
-    let e : (place : Place) × (c.check.result ≡ Ok (PlanOf.Place place)) = (_, search rules) in
-    (refl, rw w.self-is (planned (world g.M.SlotRead.slots c.args.self.now) _ c.args.core c.args.request _ (sym e.1 ∙ c.check.ensures.value)
-    w.reply.ensures))
+    (refl, rw w.self-is (planned (world g.M.SlotRead.slots c.args.self.now) _ c.args.core c.args.request (Ok (PlanOf.Place w.in-Ok-Place.field-0-0))
+    (sym (w.in-Ok-Place.is ∙ ap Ok w.in-Ok-Place.field-0-is) ∙ c.check.ensures.value) w.reply.ensures))
   | in-Err w ↦
     (refl, rw w.self-is (planned (world g.M.SlotRead.slots c.args.self.now) _ c.args.core c.args.request _ (sym w.in-Err.is ∙ c.check.ensures.value)
     w.reply-in-Err.ensures))

@@ -1,4 +1,3 @@
-use Rattle.std.proofs.Common.{◌≡◌}
 use Rattle.machine_model.specs.declared.phase.Phase.TheVariants.{Post}
 use Rattle.core_steps.proofs.Known.{change_pages, nobody_awaited, shot_here}
 use Rattle.core_steps.proofs.engine.Engine.go_post.Goals as goal

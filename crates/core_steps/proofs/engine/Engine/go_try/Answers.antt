@@ -1,4 +1,4 @@
-use Rattle.std.proofs.Common.{◌≡◌, inl, inr, refl, sym, ap, ◌∙◌}
+use Rattle.std.proofs.Common.{inl, inr, refl, sym, ap, ◌∙◌}
 use Rattle.slot_lock.specs.declared.plan.Plan.TheVariants.{Touch}
 use Rattle.machine_model.specs.declared.phase.Phase.TheVariants.{Try}
 use Rattle.machine_model.specs.Translating.{frame_reached}

@@ -1,4 +1,3 @@
-use Rattle.std.proofs.Common.{◌≡◌}
 use Rattle.core_steps.specs.State.{world}
 use Rattle.core_steps.proofs.Known.{freed_below, freed_busy}
 use Rattle.core_steps.proofs.engine.Engine.review.Goals as goal

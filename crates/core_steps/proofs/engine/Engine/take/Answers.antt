@@ -1,4 +1,4 @@
-use Rattle.std.proofs.Common.{◌≡◌, refl, sym, ap, ◌∙◌}
+use Rattle.std.proofs.Common.{refl, sym, ap, ◌∙◌}
 use Rattle.machine_model.specs.Translating.{tables_cleared, tlb_invalidated}
 use Rattle.core_steps.specs.State.{world}
 use Rattle.core_steps.proofs.Known.{message_pages}

@@ -1,4 +1,4 @@
-use Rattle.std.proofs.Common.{◌≡◌, refl, sym, ◌∙◌}
+use Rattle.std.proofs.Common.{refl, sym, ◌∙◌}
 use Rattle.core_steps.specs.State.{world}
 use Rattle.core_steps.proofs.Known.{no_page_entry}
 use Rattle.core_steps.proofs.Rows.{no_entry, not_walked, walk_none}
