@@ -2,5 +2,6 @@ pub mod RunLemmas
 pub mod TextLemmas
 pub mod TurnLemmas
 pub mod EventRunLemmas
+pub mod EventLines
 pub mod Limits
 pub mod PlainTextLemmas

@@ -105,11 +105,14 @@ pub record IsDone (w v : World) (s : Reached) (core : ℕ) (request : Request) (
   pub answers : CallAnswers s core request next text
   pub meets : Meets v next
 
+no_give_up : (core : ℕ) → Ev.Go core ≡ Ev.GiveUp core → ⊥
+no_give_up core e = absurd cc
+
 served : (w begun v : World) (s : Reached) (core : ℕ) (request : Request) (o : Outcome) (text : List ℕ) (m : Meets w s) → begun.made ≡ w.made → begun.calls.requests ≡ w.calls.requests ++ request ∷ []
     → v.made ≡ begun.made → v.calls.requests ≡ begun.calls.requests → IsServed w s.plain core request o v → text ≡ outcome_text o → IsDone w v s core request text
 served w begun v s core request o text m made asked same kept k t =
     let due = k.due 0 0 in
-    let memory : k.reply ≢ NoMemory = λ e. subst (λ r. IsDue (Ev.Go core) w.memory.is_free (Answer 0 0 core r)) e due in
+    let memory : k.reply ≢ NoMemory = λ e. no_give_up core (subst (λ r. IsDue (Ev.Go core) w.memory.is_free (Answer 0 0 core r)) e due) in
     let count : length (w.calls.requests ++ request ∷ []) ≡ length w.calls.requests + 1 = length-append w.calls.requests (request ∷ []) in
     let now : length v.calls.requests ≡ length (w.calls.requests ++ request ∷ []) = ap length (kept ∙ asked) in
     let was = m.begun in

@@ -9,7 +9,7 @@ use crate::fault::TraceFault;
 use crate::outcome_text::{LineText, write_finished, write_outcome};
 use core_steps::Machine;
 use machine_model::{Event, Outcome};
-use radix_range::RadixMap;
+use slot_lock::SlotMap;
 use std::alloc::Allocator;
 use trace_text::{Action, Line};
 use vm_base::{CoreId, NoMemory, Request};
@@ -32,8 +32,8 @@ fn event_of(core: CoreId, action: Action) -> Event
 }
 
 // One step.
-fn tell_step<A: Allocator + Clone + Drop>(
-    machine: &mut Machine<RadixMap<A>, A>,
+fn tell_step<M: SlotMap, A: Allocator + Clone>(
+    machine: &mut Machine<M, A>,
     event: Event,
     text: &mut LineText,
 ) -> Result<(), NoMemory>
@@ -46,8 +46,8 @@ fn tell_step<A: Allocator + Clone + Drop>(
 }
 
 // One step, which the core is to do.
-fn tell_act<A: Allocator + Clone + Drop>(
-    machine: &mut Machine<RadixMap<A>, A>,
+fn tell_act<M: SlotMap, A: Allocator + Clone>(
+    machine: &mut Machine<M, A>,
     core: CoreId,
     action: Action,
     text: &mut LineText,
@@ -59,8 +59,8 @@ fn tell_act<A: Allocator + Clone + Drop>(
 }
 
 // All steps of the core's call.
-fn tell_finish<A: Allocator + Clone + Drop>(
-    machine: &mut Machine<RadixMap<A>, A>,
+fn tell_finish<M: SlotMap, A: Allocator + Clone>(
+    machine: &mut Machine<M, A>,
     core: CoreId,
     text: &mut LineText,
 ) -> Result<(), NoMemory>
@@ -73,8 +73,8 @@ fn tell_finish<A: Allocator + Clone + Drop>(
 }
 
 // A call, which is finished if it could begin.
-fn tell_call<A: Allocator + Clone + Drop>(
-    machine: &mut Machine<RadixMap<A>, A>,
+fn tell_call<M: SlotMap, A: Allocator + Clone>(
+    machine: &mut Machine<M, A>,
     core: CoreId,
     request: Request,
     text: &mut LineText,
@@ -93,8 +93,8 @@ fn tell_call<A: Allocator + Clone + Drop>(
 
 /// Moves the machine as the line says, and replaces the text by what it gives. A line that is bad, or the line of
 /// a space, is a bad line here, and nothing changes. At `NoMemory` the steps before the refused one stand.
-pub fn run_line<A: Allocator + Clone + Drop>(
-    machine: &mut Machine<RadixMap<A>, A>,
+pub fn run_line<M: SlotMap, A: Allocator + Clone>(
+    machine: &mut Machine<M, A>,
     line: Option<Line>,
     number: u64,
     text: &mut LineText,

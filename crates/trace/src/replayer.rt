@@ -143,12 +143,12 @@ impl<A: Allocator + Clone + Drop> Staged for Replayer<A> {
     }
 
     fn finish(&self) -> Result<(), TraceFault> {
-        if self.machine.is_some() {
-            return Ok(());
-        }
-        match made(&self.alloc, self.setup) {
-            Ok(_) => Ok(()),
-            Err(fault) => Err(fault),
+        match &self.machine {
+            Some(_) => Ok(()),
+            None => match made(&self.alloc, self.setup) {
+                Ok(_) => Ok(()),
+                Err(fault) => Err(fault),
+            },
         }
     }
 }
