@@ -351,7 +351,6 @@ held_range w c phase range i e pages =
       held = λ p a b. owns w c phase i p (ap (λ r. some_has r p) e ∙ in_has range p a b);
     }
 
-
 -- ---- shootdowns
 
 -- nobody is awaited yet

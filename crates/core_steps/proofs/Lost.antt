@@ -20,9 +20,11 @@ pub lost_none : (c : ℕ) (frame : ℕ → Option ℕ) (first n : ℕ) (v : Coun
     → CountsDown c frame first n v v
 unfolding CountsDown
 lost_none c frame first zero v none = refl
-lost_none c frame first (suc n) v none =
-    (v, subst (λ o. CountsOne c o v v) (sym (none first (omega arith) (omega arith))) refl,
-    lost_none c frame (suc first) n v (λ p a b. none p (omega (arith, a)) (omega (arith, b))))
+lost_none c frame first (suc n) v none = (
+  v,
+  subst (λ o. CountsOne c o v v) (sym (none first (omega arith) (omega arith))) refl,
+  lost_none c frame (suc first) n v (λ p a b. none p (omega (arith, a)) (omega (arith, b))),
+)
 
 -- ---- some pages, and then some more
 

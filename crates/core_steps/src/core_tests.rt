@@ -8,15 +8,41 @@ use std::alloc::Allocator;
 use std::test::Fail;
 use vm_base::{CoreId, CoreSet, Flags, NoMemory, Prot, Reply, Request, SegvCode};
 
-/// What is done, and what it must come to.
+/// What a core does, and what it must come to.
 #[derive(Clone, Copy)]
 enum Row {
     /// One event.
-    Does(Event, Outcome),
+    Does(u8, Act, Came),
     /// Steps of the core's call up to the first that isn't Stepped.
-    Ends(CoreId, Outcome),
+    Ends(u8, Came),
     /// A whole call.
-    Answers(CoreId, Request, Reply),
+    Answers(u8, Request, Reply),
+}
+
+/// An event of a core.
+#[derive(Clone, Copy)]
+enum Act {
+    Call(Request),
+    Go,
+    Frame(u64),
+    Take,
+    Walk(u64),
+    Evict(u64),
+    Flush,
+    Review,
+    Fold(u64),
+}
+
+/// What an event came to.
+#[derive(Clone, Copy)]
+enum Came {
+    Stepped,
+    Idle,
+    /// The core that holds the slot.
+    WaitsForSlot(u8),
+    /// The one core that hasn't acknowledged.
+    WaitsForAcks(u8),
+    Answered(Reply),
 }
 
 const MAPPED: Reply = Reply::Mapped(0x10000);
@@ -90,21 +116,63 @@ fn machine<A: Allocator + Clone + Drop>(
     }
 }
 
-/// What a row came to; a call that can't begin is Idle.
+/// The core of this number.
+fn core(index: u8) -> CoreId {
+    CoreId::new(index % 64)
+}
+
+/// The core's event.
+fn event_of(index: u8, act: Act) -> Event {
+    match act {
+        Act::Call(request) => Event::Call(core(index), request),
+        Act::Go => Event::Go(core(index)),
+        Act::Frame(frame) => Event::Frame(core(index), frame),
+        Act::Take => Event::Take(core(index)),
+        Act::Walk(page) => Event::Walk(core(index), page),
+        Act::Evict(page) => Event::Evict(core(index), page),
+        Act::Flush => Event::Flush(core(index)),
+        Act::Review => Event::Review(core(index)),
+        Act::Fold(page) => Event::Fold(page),
+    }
+}
+
+/// The outcome that is meant.
+fn outcome_of(came: Came) -> Outcome {
+    match came {
+        Came::Stepped => Outcome::Stepped,
+        Came::Idle => Outcome::Idle,
+        Came::WaitsForSlot(by) => Outcome::Wait(Blocker::Slot(core(by))),
+        Came::WaitsForAcks(of) => Outcome::Wait(Blocker::Acks(CoreSet::empty().with(core(of)))),
+        Came::Answered(reply) => Outcome::Answered(reply),
+    }
+}
+
+/// What a whole call comes to. One that can't begin is Stepped, which no call comes to.
+fn answer<A: Allocator + Clone>(
+    machine: &mut Machine<RunList<A>, A>,
+    core: CoreId,
+    request: Request,
+) -> Result<Outcome, NoMemory> {
+    match machine.step(Event::Call(core, request))? {
+        Outcome::Stepped => ended(machine, core),
+        _ => Ok(Outcome::Stepped),
+    }
+}
+
+/// What a row came to, and what it must come to.
 fn outcome<A: Allocator + Clone>(
     machine: &mut Machine<RunList<A>, A>,
     row: Row,
 ) -> Result<(Outcome, Outcome), NoMemory> {
     match row {
-        Row::Does(event, want) => Ok((machine.step(event)?, want)),
-        Row::Ends(core, want) => Ok((ended(machine, core)?, want)),
-        Row::Answers(core, request, reply) => {
-            let begun = machine.step(Event::Call(core, request))?;
-            if begun != Outcome::Stepped {
-                return Ok((begun, Outcome::Stepped));
-            }
-            Ok((ended(machine, core)?, Outcome::Answered(reply)))
+        Row::Does(index, act, came) => {
+            Ok((machine.step(event_of(index, act))?, outcome_of(came)))
         }
+        Row::Ends(index, came) => Ok((ended(machine, core(index))?, outcome_of(came))),
+        Row::Answers(index, request, reply) => Ok((
+            answer(machine, core(index), request)?,
+            Outcome::Answered(reply),
+        )),
     }
 }
 
@@ -133,147 +201,148 @@ fn first_wrong<A: Allocator + Clone>(
     Ok(None)
 }
 
+/// Two cores: the mapping of one is dropped by the other.
+const SHOOTDOWN: [Row; 14] = [
+    Row::Answers(0, MAP, MAPPED),
+    Row::Answers(0, STORE, Reply::Done),
+    Row::Answers(1, LOAD, Reply::Byte(65)),
+    Row::Does(0, Act::Call(UNMAP), Came::Stepped),
+    Row::Ends(0, Came::WaitsForAcks(1)),
+    Row::Answers(1, LOAD, Reply::Byte(65)),
+    Row::Does(1, Act::Take, Came::Stepped),
+    Row::Ends(0, Came::WaitsForAcks(1)),
+    Row::Does(1, Act::Take, Came::Stepped),
+    Row::Does(1, Act::Take, Came::Idle),
+    Row::Does(1, Act::Call(LOAD), Came::Stepped),
+    Row::Ends(1, Came::WaitsForSlot(0)),
+    Row::Ends(0, Came::Answered(Reply::Done)),
+    Row::Ends(1, Came::Answered(UNMAPPED)),
+];
+
 #[test]
 fn a_shootdown_waits_for_both_takes(rt: HostRuntime) -> Result<(), Fail> {
-    let first = CoreId::new(0);
-    let second = CoreId::new(1);
-    let waited = CoreSet::empty().with(second);
-    let rows = [
-        Row::Answers(first, MAP, MAPPED),
-        Row::Answers(first, STORE, Reply::Done),
-        Row::Answers(second, LOAD, Reply::Byte(65)),
-        Row::Does(Event::Call(first, UNMAP), Outcome::Stepped),
-        Row::Ends(first, Outcome::Wait(Blocker::Acks(waited))),
-        Row::Answers(second, LOAD, Reply::Byte(65)),
-        Row::Does(Event::Take(second), Outcome::Stepped),
-        Row::Ends(first, Outcome::Wait(Blocker::Acks(waited))),
-        Row::Does(Event::Take(second), Outcome::Stepped),
-        Row::Does(Event::Take(second), Outcome::Idle),
-        Row::Does(Event::Call(second, LOAD), Outcome::Stepped),
-        Row::Ends(second, Outcome::Wait(Blocker::Slot(first))),
-        Row::Ends(first, Outcome::Answered(Reply::Done)),
-        Row::Ends(second, Outcome::Answered(UNMAPPED)),
-    ];
     let mut machine = machine(rt.alloc(), 2, 4)?;
-    let wrong = first_wrong(&mut machine, rows.as_slice())?;
+    let wrong = first_wrong(&mut machine, SHOOTDOWN.as_slice())?;
     assert_eq!(rt; wrong, None);
     Ok(())
 }
+
+/// Two cores map one page: the check, two divisions and the lock, and then the other core waits.
+const HELD: [Row; 10] = [
+    Row::Does(0, Act::Call(MAP), Came::Stepped),
+    Row::Does(0, Act::Go, Came::Stepped),
+    Row::Does(0, Act::Go, Came::Stepped),
+    Row::Does(0, Act::Go, Came::Stepped),
+    Row::Does(0, Act::Go, Came::Stepped),
+    Row::Does(1, Act::Call(MAP), Came::Stepped),
+    Row::Ends(1, Came::WaitsForSlot(0)),
+    Row::Does(1, Act::Go, Came::WaitsForSlot(0)),
+    Row::Ends(0, Came::Answered(MAPPED)),
+    Row::Ends(1, Came::Answered(MAPPED)),
+];
 
 #[test]
 fn a_held_slot_is_waited_for(rt: HostRuntime) -> Result<(), Fail> {
-    let first = CoreId::new(0);
-    let second = CoreId::new(1);
-    let held = Outcome::Wait(Blocker::Slot(first));
-    let go = Row::Does(Event::Go(first), Outcome::Stepped);
-    // the check, two divisions and the lock
-    let rows = [
-        Row::Does(Event::Call(first, MAP), Outcome::Stepped),
-        go,
-        go,
-        go,
-        go,
-        Row::Does(Event::Call(second, MAP), Outcome::Stepped),
-        Row::Ends(second, held),
-        Row::Does(Event::Go(second), held),
-        Row::Ends(first, Outcome::Answered(MAPPED)),
-        Row::Ends(second, Outcome::Answered(MAPPED)),
-    ];
     let mut machine = machine(rt.alloc(), 2, 4)?;
-    let wrong = first_wrong(&mut machine, rows.as_slice())?;
+    let wrong = first_wrong(&mut machine, HELD.as_slice())?;
     assert_eq!(rt; wrong, None);
     Ok(())
 }
+
+/// One frame, which two pages want one after the other.
+const REUSED: [Row; 10] = [
+    Row::Answers(0, MAP_TWO, MAPPED),
+    Row::Answers(0, STORE, Reply::Done),
+    Row::Answers(0, UNMAP, Reply::Done),
+    Row::Answers(0, STORE_NEXT, Reply::NoFrame),
+    Row::Does(0, Act::Flush, Came::Stepped),
+    Row::Does(0, Act::Flush, Came::Stepped),
+    Row::Does(0, Act::Review, Came::Idle),
+    Row::Does(0, Act::Flush, Came::Stepped),
+    Row::Does(0, Act::Review, Came::Stepped),
+    Row::Answers(0, STORE_NEXT, Reply::Done),
+];
 
 #[test]
 fn a_frame_comes_back_by_review(rt: HostRuntime) -> Result<(), Fail> {
-    let first = CoreId::new(0);
-    let flush = Row::Does(Event::Flush(first), Outcome::Stepped);
-    let rows = [
-        Row::Answers(first, MAP_TWO, MAPPED),
-        Row::Answers(first, STORE, Reply::Done),
-        Row::Answers(first, UNMAP, Reply::Done),
-        Row::Answers(first, STORE_NEXT, Reply::NoFrame),
-        flush,
-        flush,
-        Row::Does(Event::Review(first), Outcome::Idle),
-        flush,
-        Row::Does(Event::Review(first), Outcome::Stepped),
-        Row::Answers(first, STORE_NEXT, Reply::Done),
-    ];
     let mut machine = machine(rt.alloc(), 1, 1)?;
-    let wrong = first_wrong(&mut machine, rows.as_slice())?;
+    let wrong = first_wrong(&mut machine, REUSED.as_slice())?;
     assert_eq!(rt; wrong, None);
     Ok(())
 }
+
+/// Two cores, of which the machine may have the second or not.
+const WALKED: [Row; 11] = [
+    Row::Answers(0, MAP, MAPPED),
+    Row::Does(0, Act::Walk(16), Came::Idle),
+    Row::Answers(0, STORE, Reply::Done),
+    Row::Does(0, Act::Walk(16), Came::Idle),
+    Row::Does(0, Act::Evict(16), Came::Stepped),
+    Row::Does(0, Act::Evict(16), Came::Idle),
+    Row::Does(0, Act::Walk(16), Came::Stepped),
+    Row::Does(0, Act::Walk(16), Came::Idle),
+    Row::Does(0, Act::Walk(0), Came::Idle),
+    Row::Does(1, Act::Walk(16), Came::Idle),
+    Row::Answers(0, LOAD, Reply::Byte(65)),
+];
 
 #[test]
 fn a_translation_is_walked_and_evicted(rt: HostRuntime) -> Result<(), Fail> {
-    let first = CoreId::new(0);
-    let second = CoreId::new(1);
-    let rows = [
-        Row::Answers(first, MAP, MAPPED),
-        Row::Does(Event::Walk(first, 16), Outcome::Idle),
-        Row::Answers(first, STORE, Reply::Done),
-        Row::Does(Event::Walk(first, 16), Outcome::Idle),
-        Row::Does(Event::Evict(first, 16), Outcome::Stepped),
-        Row::Does(Event::Evict(first, 16), Outcome::Idle),
-        Row::Does(Event::Walk(first, 16), Outcome::Stepped),
-        Row::Does(Event::Walk(first, 16), Outcome::Idle),
-        Row::Does(Event::Walk(first, 0), Outcome::Idle),
-        Row::Does(Event::Walk(second, 16), Outcome::Idle),
-        Row::Answers(first, LOAD, Reply::Byte(65)),
-    ];
-    let mut machine = machine(rt.alloc(), 2, 4)?;
-    let wrong = first_wrong(&mut machine, rows.as_slice())?;
-    assert_eq!(rt; wrong, None);
+    for cores in 1..3 {
+        let mut machine = machine(rt.alloc(), cores, 4)?;
+        let wrong = first_wrong(&mut machine, WALKED.as_slice())?;
+        assert_eq!(rt; wrong, None);
+    }
     Ok(())
 }
+
+/// Four frames, numbered from 0. The check, the fault, the lock and the look at the slot come before one is taken.
+const ASKED: [Row; 11] = [
+    Row::Answers(0, MAP, MAPPED),
+    Row::Does(0, Act::Call(STORE), Came::Stepped),
+    Row::Does(0, Act::Frame(3), Came::Idle),
+    Row::Does(0, Act::Go, Came::Stepped),
+    Row::Does(0, Act::Go, Came::Stepped),
+    Row::Does(0, Act::Go, Came::Stepped),
+    Row::Does(0, Act::Go, Came::Stepped),
+    Row::Does(0, Act::Frame(4), Came::Idle),
+    Row::Does(0, Act::Frame(3), Came::Stepped),
+    Row::Does(0, Act::Frame(2), Came::Idle),
+    Row::Ends(0, Came::Answered(Reply::Done)),
+];
 
 #[test]
 fn a_frame_is_asked_for_by_number(rt: HostRuntime) -> Result<(), Fail> {
-    let first = CoreId::new(0);
-    let go = Row::Does(Event::Go(first), Outcome::Stepped);
-    // the check, the fault, the lock and the look at the slot
-    let rows = [
-        Row::Answers(first, MAP, MAPPED),
-        Row::Does(Event::Call(first, STORE), Outcome::Stepped),
-        Row::Does(Event::Frame(first, 3), Outcome::Idle),
-        go,
-        go,
-        go,
-        go,
-        Row::Does(Event::Frame(first, 4), Outcome::Idle),
-        Row::Does(Event::Frame(first, 3), Outcome::Stepped),
-        Row::Does(Event::Frame(first, 2), Outcome::Idle),
-        Row::Ends(first, Outcome::Answered(Reply::Done)),
-    ];
     let mut machine = machine(rt.alloc(), 1, 4)?;
     assert_eq!(rt; machine.cores(), 1);
-    assert_eq!(rt; machine.entry(first, 16), None);
-    let wrong = first_wrong(&mut machine, rows.as_slice())?;
+    assert_eq!(rt; machine.entry(CoreId::new(0), 16), None);
+    let wrong = first_wrong(&mut machine, ASKED.as_slice())?;
     assert_eq!(rt; wrong, None);
     assert_eq!(rt; machine.cores(), 1);
     // frame 3 with P, R/W, U/S and XD
-    assert_eq!(rt; machine.entry(first, 16), Some(0x8000_0000_0000_3007));
+    assert_eq!(rt;
+        machine.entry(CoreId::new(0), 16),
+        Some(0x8000_0000_0000_3007)
+    );
     Ok(())
 }
 
+/// The slots left and right of a page that was unmapped.
+const JOINED: [Row; 8] = [
+    Row::Does(0, Act::Fold(15), Came::Idle),
+    Row::Answers(0, MAP, MAPPED),
+    Row::Does(0, Act::Fold(15), Came::Idle),
+    Row::Answers(0, UNMAP, Reply::Done),
+    Row::Does(0, Act::Fold(0), Came::Idle),
+    Row::Does(0, Act::Fold(15), Came::Stepped),
+    Row::Does(0, Act::Fold(15), Came::Stepped),
+    Row::Does(0, Act::Fold(15), Came::Idle),
+];
+
 #[test]
 fn slots_are_joined(rt: HostRuntime) -> Result<(), Fail> {
-    let first = CoreId::new(0);
-    let rows = [
-        Row::Does(Event::Fold(15), Outcome::Idle),
-        Row::Answers(first, MAP, MAPPED),
-        Row::Does(Event::Fold(15), Outcome::Idle),
-        Row::Answers(first, UNMAP, Reply::Done),
-        Row::Does(Event::Fold(0), Outcome::Idle),
-        Row::Does(Event::Fold(15), Outcome::Stepped),
-        Row::Does(Event::Fold(15), Outcome::Stepped),
-        Row::Does(Event::Fold(15), Outcome::Idle),
-    ];
     let mut machine = machine(rt.alloc(), 1, 4)?;
-    let wrong = first_wrong(&mut machine, rows.as_slice())?;
+    let wrong = first_wrong(&mut machine, JOINED.as_slice())?;
     assert_eq!(rt; wrong, None);
     Ok(())
 }
@@ -289,19 +358,21 @@ fn gives_up<A: Allocator + Clone + Drop>(
 ) -> Result<bool, NoMemory> {
     let first = CoreId::new(0);
     let mut machine = machine(alloc, 1, 1)?;
-    let is_mapped = first_wrong(&mut machine, &[Row::Answers(first, MAP, MAPPED)])? == None;
+    answer(&mut machine, first, MAP)?;
     machine.step(Event::Call(first, request))?;
     for _step in 0..steps {
         machine.step(Event::Go(first))?;
     }
-    let rows = [
-        Row::Does(Event::GiveUp(first), came),
-        Row::Ends(first, Outcome::Answered(reply)),
-        Row::Does(Event::GiveUp(first), Outcome::Idle),
-        Row::Answers(first, request, Reply::Done),
-    ];
-    let is_left = first_wrong(&mut machine, rows.as_slice())? == None;
-    Ok(is_mapped && is_left)
+    let given_up = machine.step(Event::GiveUp(first))?;
+    let last = ended(&mut machine, first)?;
+    let late = machine.step(Event::GiveUp(first))?;
+    let again = answer(&mut machine, first, request)?;
+    Ok(
+        given_up == came
+            && last == Outcome::Answered(reply)
+            && late == Outcome::Idle
+            && again == Outcome::Answered(Reply::Done),
+    )
 }
 
 #[test]

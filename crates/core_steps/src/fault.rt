@@ -144,8 +144,7 @@ impl<M: SlotMap, H: Hardware, A: Allocator> Engine<M, H, A> {
         if let Some(info) = self.map.page(touch.page)
             && let Some(frame) = info.frame
         {
-            self.cores
-                .install(core, touch.page, frame, info.meta.prot)?;
+            self.cores.install(core, touch.page, frame, info.meta.prot)?;
             let cores = info.cores.with(core);
             self.map
                 .set_leaf(core, touch.page, PageInfo { cores, ..info });

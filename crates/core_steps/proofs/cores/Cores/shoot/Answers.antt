@@ -17,8 +17,8 @@ post-requires-clause-others g c = ap (λ f. f c.args.core) c.without.ensures ∙
 pub post-requires-clause-within : goal.post-requires-clause-within
 post-requires-clause-within g c = λ d h.
     let member : members c.args.set d ≡ true =
-        put_all (λ e b. b ≡ true → members c.args.set e ≡ true) (members c.args.set) c.args.core false (λ e. absurd cc) (λ e ne k. k) d
-        (sym (ap (λ f. f d) c.without.ensures) ∙ h) in
+    put_all (λ e b. b ≡ true → members c.args.set e ≡ true) (members c.args.set) c.args.core false (λ e. absurd cc) (λ e ne k. k) d
+    (sym (ap (λ f. f d) c.without.ensures) ∙ h) in
     subst (λ n. d < n) (sym (ap length c.deref_mut.ensures.value ∙ c.invalidate.new.self.whole ∙ (c.invalidate.ensures.count ∙ c.clear_tables.ensures.count))) (c.requires.within d member)
 
 pub returns-clause-after : goal.returns-clause-after

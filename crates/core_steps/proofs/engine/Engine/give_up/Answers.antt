@@ -24,7 +24,7 @@ pub reply-requires-clause-room : goal.reply-requires-clause-room
 reply-requires-clause-room g c =
     let can : can_give_up c.phase_of-phase.result ≡ true = search rules in
     let room = room_for (world g.M.SlotRead.slots c.args.self.now) c.args.core c.phase_of-phase.result
-        (record { here = c.requires.here; phase = sym c.phase_of-phase.ensures; fine = c.requires.fine }) (opened c.phase_of-phase.result can) in
+    (record { here = c.requires.here; phase = sym c.phase_of-phase.ensures; fine = c.requires.fine }) (opened c.phase_of-phase.result can) in
     elim c.match-taken_in.branch [
       | in-Some w ↦ rw w.self-is room
       | in_default w ↦ rw w.self-is room
