@@ -602,10 +602,11 @@ joined w t j g = record {
     cut (Some r) c mine h = λ some.
         let k = h some in
         let last : suc (r.end - 1) ≡ r.end = omega (arith, some) in
-        let at : r.end - 1 + 1 ≡ r.end = omega (arith, some) in
-        (edge_stays w.slots t c r.first j (mine r.first (in_has r r.first (omega arith) some)) k.0,
-        subst (λ e. t.edge e ≡ true) at (end_stays w.slots t c (r.end - 1) j (mine (r.end - 1) (in_has r (r.end - 1) (omega (arith, some)) (omega (arith, some))))
-        (subst (λ e. w.slots.edge e ≡ true) (sym at) k.1)))
+        let at : r.end - 1 + 1 ≡ r.end = omega (arith, some) in (
+          edge_stays w.slots t c r.first j (mine r.first (in_has r r.first (omega arith) some)) k.0,
+          subst (λ e. t.edge e ≡ true) at (end_stays w.slots t c (r.end - 1) j (mine (r.end - 1) (in_has r (r.end - 1) (omega (arith, some)) (omega (arith, some))))
+              (subst (λ e. w.slots.edge e ≡ true) (sym at) k.1)),
+        )
 
 -- ---- every shape
 

@@ -99,5 +99,5 @@ pub record Awaits (h : Hardware) (c set : ℕ) : Type 0 where
 abbrev pub CommitsNext : World → ℕ → Change → PageRange → Outcome → World → Type 0
 CommitsNext w c change held o v =
     (AwaitsNobody w.hardware c
-        × ((counts : Counts) × CountsLost c change w counts × Becomes (after_commit c change held counts w) o v))
+    × ((counts : Counts) × CountsLost c change w counts × Becomes (after_commit c change held counts w) o v))
     ⊎ ((set : ℕ) × Awaits w.hardware c set × (o ≡ Wait (WaitsFor.Acks set)) × (v ≡ w))

@@ -53,8 +53,8 @@ fine_sound w fine = (
       | by_slot p h ↦ used w fine p f h
       | by_file n k h ↦ absurd (let none = fine.good.no_files.uncached n k in cc)
       | by_translation c p e h same ↦
-        let k : HasPage (w.slots.info p) e = backs (w.slots.info p) c e (backed w fine c p e h) in
-        used w fine p f (ap frame_of k.mapped ∙ (k.frame ∙ ap Some same))
+          let k : HasPage (w.slots.info p) e = backs (w.slots.info p) c e (backed w fine c p e h) in
+          used w fine p f (ap frame_of k.mapped ∙ (k.frame ∙ ap Some same))
       | by_call c h ↦ fine.counted.busy c f h
     ];
     recorded = λ c p e h. (fine.coherent.tables c p e h).recorded;

@@ -146,11 +146,11 @@ call_ends w begun core n request (Last o) v s text m call inside made asked belo
     let alone : IsServedAlone w s.plain core request begun = served_alone w begun s.plain core request m.reached m.log m.calm call in
     elim (alone.ends n x v o h.2.1 h.2.2 h.1 (omega (arith, up, below))) [
       | inl d ↦
-        inl (served w begun v s core request o text m made asked
-        (step_made x (Ev.Go core) o v h.2.2 ∙ k.0) (go_requests x core o v h.2.2 ∙ k.1) d t)
+          inl (served w begun v s core request o text m made asked
+          (step_made x (Ev.Go core) o v h.2.2 ∙ k.0) (go_requests x core o v h.2.2 ∙ k.1) d t)
       | inr a ↦
-        let e = (a.exact a.some.0).0 a.some.1 in
-        inr (subst (λ n. 1 < n) (sym m.cores) (two_cores core a.some.0 w.made.cores inside (a.there a.some.0 e.1) e.0), (a.set, t ∙ ap outcome_text a.waits))
+          let e = (a.exact a.some.0).0 a.some.1 in
+          inr (subst (λ n. 1 < n) (sym m.cores) (two_cores core a.some.0 w.made.cores inside (a.there a.some.0 e.1) e.0), (a.set, t ∙ ap outcome_text a.waits))
     ]
 call_ends w begun core n request Stuck v s text m call inside made asked below h t =
     let alone : IsServedAlone w s.plain core request begun = served_alone w begun s.plain core request m.reached m.log m.calm call in
@@ -380,9 +380,13 @@ some_plain (Some line) old new s text f below r a = elim (line_plain line old ne
 all_plain : (lines : List (List ℕ)) (old new : Stage) (s : Reached) (text : List ℕ) → AreFinished lines → events_of new < event_limit → ReachedAt old s → Runs old lines new text → AllAnswer s lines text
 all_plain [] old new s text f below r h = h.1
 all_plain (l ∷ ls) old new s text f below r (mid, front, rest, short, acts, more, is) =
-    let up = lines_grow ls mid new rest more in
-    (front, rest, is, go (λ next reached. all_plain ls mid new next rest f.1 below reached more)
-    (some_plain (line_of l) old mid s front f.0 (omega (arith, up, below)) r acts.acts))
+    let up = lines_grow ls mid new rest more in (
+      front,
+      rest,
+      is,
+      go (λ next reached. all_plain ls mid new next rest f.1 below reached more)
+          (some_plain (line_of l) old mid s front f.0 (omega (arith, up, below)) r acts.acts),
+    )
   where
     go : ((next : Reached) → ReachedAt mid next → AllAnswer next ls rest)
         → IsPlainSome (line_of l) mid s front ⊎ IsSomeAnd (line_of l) (λ said. LineWaits s said front)

@@ -11,8 +11,12 @@ returns-in-Stepped-clause-ok g c =
 
 pub returns-in_default : goal.returns-in_default
 returns-in_default g c = record {
-  ok = (c.in_ok-outcome.outcome, state c.step.new.self, c.in_ok-outcome.ensures.step,
-      told (state c.step.new.self) c.args.core c.in_ok-outcome.outcome (state c.step.new.self) c.write_outcome.new.text.bytes c.in_default.not-Stepped refl
-      c.write_outcome.ensures);
+  ok = (
+    c.in_ok-outcome.outcome,
+    state c.step.new.self,
+    c.in_ok-outcome.ensures.step,
+    told (state c.step.new.self) c.args.core c.in_ok-outcome.outcome (state c.step.new.self) c.write_outcome.new.text.bytes c.in_default.not-Stepped refl
+        c.write_outcome.ensures,
+  );
   err = tt;
 }
