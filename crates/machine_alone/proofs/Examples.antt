@@ -36,7 +36,7 @@ faults is_free u NoMemory h d = absurd cc
 
 stores_fault : (slots : Slots) → IsNew slots → (begun x v : World) (n : ℕ) (o : Outcome) → Step (new_world made slots) (Call 0 (Store 65540 41)) Stepped begun
     → StepsTo begun 0 n x → Step x (Go 0) o v → o ≢ Stepped → x.calls.events < event_limit
-    → (o ≡ Answered (Segv MapErr)) ⊎ IsAwaiting (new_world made slots) x 0 o v
+    → (o ≡ Answered (Segv MapErr)) ⊎ IsAwaiting (new_world made slots) x nothing 0 (Store 65540 41) o v
 stores_fault slots new begun x v n o call steps step not below =
     let w : World = new_world made slots in
     let reached = reached_opening made slots (λ n. refl) new in

@@ -1,5 +1,9 @@
 mod Examples
 mod Rank
 mod Rows
-mod Telling
+pub mod Telling
+pub mod Using
+pub mod Used
 pub mod Serving
+pub mod Ending
+pub mod Beside

@@ -89,7 +89,7 @@ nears first w c old new t h m v e k less sure =
     })
 
 -- what is sure of the phase in which the call is
-sure_at : (first : ℕ → Bool) (w : World) (c : ℕ) (old : Phase) → w.calls.phase c ≡ old → IsSureOf first c w
+pub sure_at : (first : ℕ → Bool) (w : World) (c : ℕ) (old : Phase) → w.calls.phase c ≡ old → IsSureOf first c w
     → IsSure first w.memory.is_free (reach_of w.hardware c) old
 sure_at first w c old e h = subst (IsSure first w.memory.is_free (reach_of w.hardware c)) e h
 
@@ -242,10 +242,10 @@ installed_hits w c touch k after =
     let z = usable_entry w.made.file touch.access (w.slots.info touch.page) k.ready.0 c k.ready.1 in
     reaches_own (after_install c touch w).hardware c touch z.0 (at_table ∙ z.1)
     (λ u e. let backed : IsBacked (put w.slots.info touch.page (info_with_core c (w.slots.info touch.page)) touch.page) c u =
-        (at_page (IsSoundEntry (after_install c touch w).slots.info c ((after_install c touch w).hardware.table c) (w.hardware.inbox c)) (w.hardware.tlb c) touch.page u (after.coherent.tlbs c) e).0 in
-      let entry : entry_of_page (info_with_core c (w.slots.info touch.page)) ≡ Some u =
-          ap entry_of_page (sym (put_same w.slots.info touch.page (info_with_core c (w.slots.info touch.page)))) ∙ backed.entry in
-      let both = z.2 in cc)
+    (at_page (IsSoundEntry (after_install c touch w).slots.info c ((after_install c touch w).hardware.table c) (w.hardware.inbox c)) (w.hardware.tlb c) touch.page u (after.coherent.tlbs c) e).0 in
+    let entry : entry_of_page (info_with_core c (w.slots.info touch.page)) ≡ Some u =
+    ap entry_of_page (sym (put_same w.slots.info touch.page (info_with_core c (w.slots.info touch.page)))) ∙ backed.entry in
+    let both = z.2 in cc)
     z.3
   where
     at_table : (after_install c touch w).hardware.table c touch.page ≡ entry_of_page (w.slots.info touch.page)

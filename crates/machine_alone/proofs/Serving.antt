@@ -1,13 +1,13 @@
 -- A call that no other call runs beside serves its request until it hands out the reply.
 use Rattle.std.proofs.Common.{◌≡◌, ◌≢◌, ℕ, zero, suc, ◌≤◌, ◌<◌, ◌+◌, ◌==◌, ◌^◌, Bool, true, false, cond, refl, sym, subst, ap, arith, inl, inr, Some, ◌∙◌, List, [], ◌∷◌, ◌++◌, length}
-use Rattle.std.specs.Prelude.{nat_lt}
+use Rattle.std.specs.Prelude.{nat_lt, if◌then◌else◌}
 use Rattle.std.proofs.lemmas.Bool.Decides.{nat_tests}
 use Rattle.vm_base.specs.declared.page.PageRange.{PageRange}
 use Rattle.vm_base.specs.declared.replies.Reply.{Reply}
 use Rattle.slot_lock.specs.declared.plan.Change.{Change}
 use Rattle.vm_base.specs.declared.requests.Request.{Request}
 use Rattle.vm_base.specs.Functions.{put}
-use Rattle.vm_base.specs.Plain.{Plain, nothing_mapped}
+use Rattle.vm_base.specs.Plain.{Plain, mode_of, nothing_mapped}
 use Rattle.vm_base.proofs.Functions.{eq_true, eq_false, put_all, put_same, put_other}
 use Rattle.machine_model.specs.declared.event.Blocker.TheVariants as WaitsFor
 use Rattle.machine_model.specs.declared.event.Event.{Event}
@@ -21,7 +21,12 @@ use Rattle.machine_model.specs.declared.phase.Phase.TheVariants.{Free, Check, Lo
 use Rattle.machine_model.specs.World.{World}
 use Rattle.machine_model.specs.Holding.{holds}
 use Rattle.machine_model.specs.Actions.{to}
-use Rattle.machine_model.specs.Changes.{Awaits}
+use Rattle.machine_model.specs.Changes.{Awaits, reply_to}
+use Rattle.slot_lock.specs.Plan.{range_of}
+use Rattle.slot_lock.specs.declared.plan.Plan.TheVariants as PlanOf
+use Rattle.vm_calls.specs.Plainly.{left_by}
+use Rattle.machine_laws.proofs.Moves.{IsCallOf, call_at}
+use Rattle.machine_sound.proofs.Replies.{acted}
 use Rattle.machine_model.specs.Step.{after_call, with_event, event_limit, Step, StepsTo}
 use Rattle.machine_laws.specs.Brackets.{nth}
 use Rattle.machine_laws.proofs.Effects.{Status, Closed, Asked, Told, status, SameCalls, Effect, keeps, tells, opens, closes, effect_of}
@@ -33,28 +38,31 @@ use Rattle.machine_sound.specs.Sound.{IsReached}
 use Rattle.machine_sound.proofs.Logs.{replays_requests}
 use Rattle.machine_sound.proofs.OneMap.{log_leads_to_one}
 use Rattle.machine_sound.proofs.Kept.{reached_fine, reached_step}
-use Rattle.machine_alone.specs.Alone.{IsCalm, LeadsTo, IsServed, IsServedAlone, IsAwaiting}
+use Rattle.machine_alone.specs.Alone.{IsCalm, LeadsTo, IsServed, IsServedAlone, IsAwaiting, IsWaiting}
+use Rattle.machine_alone.specs.Users.{Users, Same, recorded, users_after, without}
+use Rattle.machine_alone.proofs.Used.{Used, IsUsed, used_on}
+use Rattle.machine_alone.proofs.Using.{change_drops}
 use Rattle.machine_alone.proofs.Rank.{reach_of, rank_of}
 use Rattle.machine_alone.proofs.Telling.{IsTold, told_on}
 use Rattle.machine_alone.proofs.Rows.{IsDueReply, IsSure, IsSureOf, left_of, Nears, goes_near}
 
 -- the log is that of the beginning, with the call's reply once it has one
-abbrev IsLogged : List Entry → List Entry → ℕ → ℕ → Status → Type 0
+abbrev pub IsLogged : List Entry → List Entry → ℕ → ℕ → Status → Type 0
 IsLogged first log call c Closed = ⊥
 IsLogged first log call c Asked = log ≡ first
 IsLogged first log call c (Told reply) = (step : ℕ) × (log ≡ first ++ EntryOf.Answer step call c reply ∷ [])
 
 -- in x the call of core c, begun in w, whose log leads to t, serves its request
-record IsServing (w : World) (t : Plain) (c : ℕ) (request : Request) (x : World) : Type 0 where
-  reached : IsReached x
-  inside : nat_lt c x.made.cores ≡ true
-  first : Replays x.calls.requests (nothing_mapped x.made.file) w.calls.log t
-  number : nth x.calls.requests (x.calls.number c) ≡ Some request
-  others : (d : ℕ) → d ≢ c → x.calls.phase d ≡ Free
-  logged : IsLogged w.calls.log x.calls.log (x.calls.number c) c (status (x.calls.phase c))
-  sure : IsSureOf w.memory.is_free c x
-  made : x.made ≡ w.made
-  told : IsTold x.slots x.hardware c (x.calls.phase c)
+pub record IsServing (w : World) (t : Plain) (c : ℕ) (request : Request) (x : World) : Type 0 where
+  pub reached : IsReached x
+  pub inside : nat_lt c x.made.cores ≡ true
+  pub first : Replays x.calls.requests (nothing_mapped x.made.file) w.calls.log t
+  pub number : nth x.calls.requests (x.calls.number c) ≡ Some request
+  pub others : (d : ℕ) → d ≢ c → x.calls.phase d ≡ Free
+  pub logged : IsLogged w.calls.log x.calls.log (x.calls.number c) c (status (x.calls.phase c))
+  pub sure : IsSureOf w.memory.is_free c x
+  pub made : x.made ≡ w.made
+  pub used : IsUsed (recorded w.slots) c request x
 
 -- ---- what a step of the call does
 
@@ -67,12 +75,12 @@ stops A x v true e k = cc
 stops A x v false e k = let z = k.0 in cc
 
 -- a plain step is before the limit of events
-before_limit : (x : World) (c : ℕ) (v : World) → Comes x (Go c) Stepped v → Step x (Go c) Stepped v → Shape (with_event x) (Go c) Stepped v
+pub before_limit : (x : World) (c : ℕ) (v : World) → Comes x (Go c) Stepped v → Step x (Go c) Stepped v → Shape (with_event x) (Go c) Stepped v
 before_limit x c v (happens n shape) s = shape
 before_limit x c v (stopped n i h) s = absurd (stops _ x v (nat_lt x.calls.events event_limit) n s)
 
 -- what the step of the call comes to
-data Row (first : ℕ → Bool) (w : World) (c : ℕ) (o : Outcome) (v : World) : Type 0 where
+pub data Row (first : ℕ → Bool) (w : World) (c : ℕ) (o : Outcome) (v : World) : Type 0 where
   nears : o ≡ Stepped → GoesBy w c v → Nears first w c v → Row first w c o v
   returns : (reply : Reply) → w.calls.phase c ≡ Answer reply → o ≡ Answered reply → v ≡ to c Free w → Row first w c o v
   awaits_acks : (change : Change) (held : PageRange) (set : ℕ) → w.calls.phase c ≡ Acks change held → o ≡ Wait (WaitsFor.Acks set) → Awaits w.hardware c set
@@ -98,7 +106,7 @@ never w t c request x o v h (waits d goal cursor by e p ne own i) k =
     let none : holds (x.calls.phase by) cursor ≡ false = ap (λ p. holds p cursor) idle in
     absurd (cc (held, none))
 
-row_of : (w : World) (t : Plain) (c : ℕ) (request : Request) (x : World) (o : Outcome) (v : World) → IsServing w t c request x → Fine v → Shape (with_event x) (Go c) o v
+pub row_of : (w : World) (t : Plain) (c : ℕ) (request : Request) (x : World) (o : Outcome) (v : World) → IsServing w t c request x → Fine v → Shape (with_event x) (Go c) o v
     → Row w.memory.is_free (with_event x) c o v
 row_of w t c request x o v h after (rests r e) = never w t c request x o v h r e
 row_of w t c request x o v h after (begins d r e s lt p below k) = absurd cc
@@ -121,7 +129,7 @@ row_of w t c request x o v h after (works d s lt k) = absurd (no_work k)
 row_of w t c request x o v h after (joins p t2 e s page j m k) = absurd cc
 
 -- before the limit of events
-shape_at : (x : World) (c : ℕ) (o : Outcome) (v : World) → nat_lt x.calls.events event_limit ≡ true → Comes x (Go c) o v → Shape (with_event x) (Go c) o v
+pub shape_at : (x : World) (c : ℕ) (o : Outcome) (v : World) → nat_lt x.calls.events event_limit ≡ true → Comes x (Go c) o v → Shape (with_event x) (Go c) o v
 shape_at x c o v below (stopped n i h) = absurd cc
 shape_at x c o v below (happens n shape) = shape
 
@@ -144,8 +152,8 @@ closed_free (Install touch) e = absurd cc
 closed_free (Release touch) e = absurd cc
 
 serves_on : (w : World) (t : Plain) (c : ℕ) (request : Request) (x v : World) → IsServing w t c request x → Step x (Go c) Stepped v → Effect (with_event x) (Go c) Stepped v
-    → v.made ≡ x.made → IsSureOf w.memory.is_free c v → IsTold v.slots v.hardware c (v.calls.phase c) → IsServing w t c request v
-serves_on w t c request x v h s effect made sure told_now = elim effect [
+    → v.made ≡ x.made → IsSureOf w.memory.is_free c v → IsUsed (recorded w.slots) c request v → IsServing w t c request v
+serves_on w t c request x v h s effect made sure used_now = elim effect [
   | keeps _ same log sts ↦
       next same (λ d ne. sts d ∙ ap status (h.others d ne))
       (subst (IsLogged w.calls.log v.calls.log (v.calls.number c) c) (sym (sts c))
@@ -186,7 +194,7 @@ serves_on w t c request x v h s effect made sure told_now = elim effect [
       logged = logged;
       sure = sure;
       made = made ∙ h.made;
-      told = told_now;
+      used = used_now;
     }
 
 -- fewer steps are left
@@ -195,8 +203,11 @@ serves_step : (w : World) (t : Plain) (c : ℕ) (request : Request) (x v : World
 serves_step w t c request x v h s =
     let shape : Shape (with_event x) (Go c) Stepped v = before_limit x c v (comes x (Go c) Stepped v s) s in
     elim (row_of w t c request x Stepped v h (reached_fine v (reached_step x v (Go c) Stepped h.reached s)) shape) [
-      | nears _ g k ↦ (serves_on w t c request x v h s (effect_of (with_event x) (Go c) Stepped v shape) k.made k.sure
-        (told_on (with_event x) c v (reached_fine x h.reached) g), k.less)
+      | nears _ g k ↦ (
+        serves_on w t c request x v h s (effect_of (with_event x) (Go c) Stepped v shape) k.made k.sure
+            (used_on w.memory.is_free (recorded w.slots) c request (with_event x) v (reached_fine x h.reached) h.number h.sure h.used g),
+        k.less,
+      )
       | returns _ _ e _ ↦ absurd cc
       | awaits_acks _ _ _ _ e _ _ ↦ absurd cc
     ]
@@ -259,7 +270,7 @@ starts w t c request m reached leads calm s =
         logged = subst (λ phase. IsLogged w.calls.log w.calls.log (x.calls.number c) c (status phase)) (sym (put_same w.calls.phase c (Check request))) refl;
         sure = subst (IsSure w.memory.is_free w.memory.is_free (reach_of w.hardware c)) (sym (put_same w.calls.phase c (Check request))) refl;
         made = refl;
-        told = subst (IsTold w.slots w.hardware c) (sym (put_same w.calls.phase c (Check request))) tt;
+        used = subst (Used (recorded w.slots) (recorded w.slots) (reach_of w.hardware c) c request) (sym (put_same w.calls.phase c (Check request))) (λ p d. refl);
       }),
       ap (λ (m : World). m.calls.phase c) k.1 ∙ put_same w.calls.phase c (Check request),
     )
@@ -271,7 +282,7 @@ last_entry : (rs : List Request) (es : List Entry) (t u : Plain) (e : Entry) →
 last_entry rs [] t u e r = (t, refl, subst (GoesOn rs t e) (sym r.2) r.1)
 last_entry rs (x ∷ xs) t u e r = let k = last_entry rs xs r.0 u e r.2 in (k.0, (r.0, r.1, k.1), k.2)
 
-returned : (w : World) (t : Plain) (c : ℕ) (request : Request) (x v : World) (o : Outcome) (reply : Reply) → IsServing w t c request x → Step x (Go c) o v
+pub returned : (w : World) (t : Plain) (c : ℕ) (request : Request) (x v : World) (o : Outcome) (reply : Reply) → IsServing w t c request x → Step x (Go c) o v
     → x.calls.phase c ≡ Answer reply → o ≡ Answered reply → v ≡ to c Free (with_event x) → IsServed w t c request o v
 returned w t c request x v o reply h s at answered e =
     let reached : IsReached v = reached_step x v (Go c) o h.reached s in
@@ -293,43 +304,86 @@ returned w t c request x v o reply h s at answered e =
       leads = after.log;
       stands = subst (λ r. Stands t c r reply after.plain) same (subst (λ t. Stands t c last.2.0 reply after.plain) from last.2.2);
       due = λ step call. sure c step call;
+      users = λ p d. ap (λ (v : World). recorded v.slots p d) e ∙ subst (Used (recorded w.slots) (recorded x.slots) (reach_of x.hardware c) c request) at h.used p d;
     }
 
 -- ---- a wait
 
-less_test : (a b : ℕ) → a < b → nat_lt a b ≡ true
+pub less_test : (a b : ℕ) → a < b → nat_lt a b ≡ true
 less_test a b h = grind (arith, nat_tests)
 
+waiting_in : (w : World) (t : Plain) (c : ℕ) (request : Request) (x : World) (change : Change) (held : PageRange) → IsServing w t c request x
+    → x.calls.phase c ≡ Acks change held → IsWaiting x t c request
+waiting_in w t c request x change held h p = record {
+  change = change;
+  held = held;
+  at_acks = p;
+  others = h.others;
+  inside = h.inside;
+  reached = h.reached;
+  leads = subst (λ log. Replays x.calls.requests (nothing_mapped x.made.file) log t)
+      (sym (subst (λ phase. IsLogged w.calls.log x.calls.log (x.calls.number c) c (status phase)) p h.logged)) h.first;
+  number = h.number;
+}
+
 awaited_by : (w : World) (t : Plain) (c : ℕ) (request : Request) (x : World) (o : Outcome) (v : World) (change : Change) (held : PageRange) (set : ℕ)
-    → IsServing w t c request x → x.calls.phase c ≡ Acks change held → o ≡ Wait (WaitsFor.Acks set) → Awaits x.hardware c set → v ≡ with_event x
-    → IsAwaiting w x c o v
-awaited_by w t c request x o v change held set h p e a k =
-    let told : IsTold x.slots x.hardware c (Acks change held) = subst (IsTold x.slots x.hardware c) p h.told in
-    let order = (reached_fine x h.reached).order in
+    → IsServing w t c request x → IsTold x.slots x.hardware c (x.calls.phase c) → x.calls.phase c ≡ Acks change held → o ≡ Wait (WaitsFor.Acks set)
+    → Awaits x.hardware c set → v ≡ with_event x → IsAwaiting w x t c request o v
+unfolding waiting_in
+awaited_by w t c request x o v change held set h was_told p e a k =
+    let told : IsTold x.slots x.hardware c (Acks change held) = subst (IsTold x.slots x.hardware c) p was_told in
+    let f : Fine x = reached_fine x h.reached in
+    let call : IsCallOf x c (Acks change held) = call_at x c (Acks change held) p f.order in
+    let number : Some call.asked.request ≡ Some request = sym call.asked.number ∙ h.number in
+    let same : call.asked.request ≡ request = cc in
+    let waiting = waiting_in w t c request x change held h p in
+    let from : f.plain ≡ t = log_leads_to_one x.calls.requests x.calls.log (nothing_mapped x.made.file) f.plain t f.log waiting.leads in
+    let stands = acted x f.plain c call.asked.request change call.ready.1.0 f.good call.asked.passed call.ready.1.1 in
     record {
-      change = change;
-      held = held;
-      at_acks = p;
+      waiting = waiting;
       set = set;
       waits = e;
       some = (a.some.0, ap (λ f. f a.some.0) a.exact ∙ a.some.1);
       exact = λ d. (
-        λ m. (told d).0 (sym (ap (λ f. f d) a.exact) ∙ m),
-        λ u. ap (λ f. f d) a.exact ∙ (told d).1 u,
+        λ m. (told d).0.0 (sym (ap (λ f. f d) a.exact) ∙ m),
+        λ u. ap (λ f. f d) a.exact ∙ (told d).0.1 u,
       );
-      there = λ d u. ap (λ m. nat_lt d m.cores) (sym h.made) ∙ less_test d x.made.cores ((order.pages u.0).cores d u.2);
+      takes = λ d. (told d).1 ∙ ap (λ (f : ℕ → Bool). if f d then 2 else 0) (sym a.exact);
+      there = λ d u. ap (λ m. nat_lt d m.cores) (sym h.made) ∙ less_test d x.made.cores ((f.order.pages u.0).cores d u.2);
       stays = k;
+      users = subst (Used (recorded w.slots) (recorded x.slots) (reach_of x.hardware c) c request) p h.used;
+      after = left_by f.plain (PlanOf.Change change) (range_of change);
+      stands = subst (λ r. Stands t c r (reply_to change) (left_by f.plain (PlanOf.Change change) (range_of change))) same
+          (subst (λ t. Stands t c call.asked.request (reply_to change) (left_by f.plain (PlanOf.Change change) (range_of change))) from stands);
+      drops = subst (λ r. (u : Users) → Same (users_after c r (reply_to change) u) (without (range_of change) u)) same
+          (change_drops (λ k. mode_of (x.made.file k)) c call.asked.request change call.asked.passed);
     }
 
 -- ---- the whole call
 
-along : (w : World) (t : Plain) (c : ℕ) (request : Request) (m : World) → IsServing w t c request m → (n : ℕ) (x : World) → StepsTo m c n x
+told_step : (w : World) (t : Plain) (c : ℕ) (request : Request) (x v : World) → IsServing w t c request x → Step x (Go c) Stepped v
+    → IsTold v.slots v.hardware c (v.calls.phase c)
+told_step w t c request x v h s =
+    let shape : Shape (with_event x) (Go c) Stepped v = before_limit x c v (comes x (Go c) Stepped v s) s in
+    elim (row_of w t c request x Stepped v h (reached_fine v (reached_step x v (Go c) Stepped h.reached s)) shape) [
+      | nears _ g k ↦ told_on (with_event x) c v (reached_fine x h.reached) h.others g
+      | returns _ _ e _ ↦ absurd cc
+      | awaits_acks _ _ _ _ e _ _ ↦ absurd cc
+    ]
+
+pub along : (w : World) (t : Plain) (c : ℕ) (request : Request) (m : World) → IsServing w t c request m → (n : ℕ) (x : World) → StepsTo m c n x
     → IsServing w t c request x × (n + left_of x c ≤ left_of m c)
 along w t c request m h zero x s = subst (λ (x : World). IsServing w t c request x × (0 + left_of x c ≤ left_of m c)) (sym s) (h, omega arith)
 along w t c request m h (suc n) x s =
     let k = along w t c request m h n s.0 s.1 in
     let z = serves_step w t c request s.0 x k.0 s.2 in
     (z.0, let a = k.1 in let b = z.1 in omega (arith, a, b))
+
+told_along : (w : World) (t : Plain) (c : ℕ) (request : Request) (m : World) → IsServing w t c request m → IsTold m.slots m.hardware c (m.calls.phase c)
+    → (n : ℕ) (x : World) → StepsTo m c n x → IsTold x.slots x.hardware c (x.calls.phase c)
+told_along w t c request m h told zero x s = subst (λ (x : World). IsTold x.slots x.hardware c (x.calls.phase c)) (sym s) told
+told_along w t c request m h told (suc n) x s =
+    told_step w t c request s.0 x (along w t c request m h n s.0 s.1).0 s.2
 
 pub served_alone : (w begun : World) (t : Plain) (core : ℕ) (request : Request) → IsReached w → LeadsTo w t → IsCalm w → Step w (Call core request) Stepped begun
     → IsServedAlone w t core request begun
@@ -340,11 +394,11 @@ served_alone w begun t core request reached leads calm s =
       short = λ n x k. let a = (along w t core request begun start.0 n x k).1 in omega (arith, a, most);
       ends = λ n x v o k s not below.
           let h = (along w t core request begun start.0 n x k).0 in
+          let told = told_along w t core request begun start.0 (subst (IsTold begun.slots begun.hardware core) (sym start.1) tt) n x k in
           elim (row_of w t core request x o v h (reached_fine v (reached_step x v (Go core) o h.reached s))
           (shape_at x core o v (less_test x.calls.events event_limit below) (comes x (Go core) o v s))) [
             | nears e _ _ ↦ absurd (not e)
             | returns reply at answered e ↦ inl (returned w t core request x v o reply h s at answered e)
-            | awaits_acks change held set p e a k ↦ inr (awaited_by w t core request x o v change held set h p e a k)
+            | awaits_acks change held set p e a k ↦ inr (awaited_by w t core request x o v change held set h told p e a k)
           ];
     }
-

@@ -35,10 +35,12 @@ use Rattle.machine_laws.proofs.Moves.{IsCallOf, call_at}
 use Rattle.machine_laws.proofs.Shapes.{Moves, locks, tries, acts as decides, finds, lacks, LetsGo, unlocks, releases, GoesBy, moves, divides, owns, lets_go, answers, posts, commits, takes, fills, installs, accesses, faults}
 use Rattle.machine_coherence.specs.Coherent.{AreAsked}
 use Rattle.machine_sound.specs.Invariant.{Fine}
+use Rattle.machine_alone.specs.Alone.{takes_left}
 
--- while the call awaits acknowledgements, the cores that have its message are the others that are recorded on its pages
+-- while the call awaits acknowledgements, the cores that have its message are the others that are recorded on its pages, and have taken nothing of it
 abbrev pub IsTold : Slots → Hardware → ℕ → Phase → Type 0
-IsTold s h c (Acks change held) = (d : ℕ) → (awaited h.inbox c d ≡ true) ↔ ((d ≢ c) × IsUser s (range_of change) d)
+IsTold s h c (Acks change held) = (d : ℕ) →
+    ((awaited h.inbox c d ≡ true) ↔ ((d ≢ c) × IsUser s (range_of change) d)) × (takes_left (h.inbox d) ≡ (if awaited h.inbox c d then 2 else 0))
 IsTold s h c _ = Unit {0}
 
 -- what has no message of core c gets one at its end
@@ -64,6 +66,25 @@ asked_awaits phase d (m ∷ ms) c h e = go (λ k. asked_awaits phase d ms c h.3 
     go rest true i k = (m.range, subst (λ n. awaits_in (phase n) ≡ Some m.range) (eq_true m.from c i) h.1)
     go rest false i k = rest k
 
+-- where nobody awaits, there is no message
+pub no_message : (phase : ℕ → Phase) (d : ℕ) (ms : List Message) → ((b : ℕ) → awaits_in (phase b) ≡ None) → AreAsked phase d ms → ms ≡ []
+no_message phase d [] none h = refl
+no_message phase d (m ∷ ms) none h = absurd (let a = none m.from in let b = h.1 in cc)
+
+-- where only core c awaits, it has a message just where a take is left
+pub left_is_awaited : (phase : ℕ → Phase) (d : ℕ) (ms : List Message) (c : ℕ) → ((b : ℕ) → b ≢ c → awaits_in (phase b) ≡ None) → AreAsked phase d ms
+    → (is_some (message_of ms c) ≡ true) ↔ (0 < takes_left ms)
+left_is_awaited phase d [] c only h = (λ e. absurd cc, λ l. absurd (omega (arith, l)))
+left_is_awaited phase d (m ∷ ms) c only h = go (m.from == c) refl
+  where
+    some : (b : Bool) → 0 < (if b then 1 else 2)
+    some true = omega arith
+    some false = omega arith
+
+    go : (b : Bool) → (m.from == c) ≡ b → (is_some (if b then Some m else message_of ms c) ≡ true) ↔ (0 < (if m.is_cleared then 1 else 2))
+    go true e = (λ _. some m.is_cleared, λ _. refl)
+    go false e = absurd (let a = only m.from (eq_false m.from c e) in let b = h.1 in cc)
+
 -- the cores that are to be told are those that are recorded on the pages
 acts_users : (files : ℕ → Option File) (s : Slots) (change : Change) (changes : PageRange) (shoot : ℕ) → Decides files s (PlanOf.Change change) (Act changes shoot)
     → (core : ℕ) → (members shoot core ≡ true) ↔ IsUser s (range_of change) core
@@ -74,10 +95,30 @@ acts_users files s (Protect range prot) changes shoot (no_write a w r e) = absur
 acts_users files s (Protect range prot) changes shoot (acts a r k) = k.1
 
 -- just after the messages were sent
-posts_tell : (w : World) (c : ℕ) (change : Change) (shoot : ℕ) → Fine w → w.calls.phase c ≡ Post change shoot
-    → (d : ℕ) → (awaited (inboxes_after c shoot (range_of change) w.hardware.inbox) c d ≡ true) ↔ ((d ≢ c) × IsUser w.slots (range_of change) d)
-posts_tell w c change shoot f e d = go (put (members shoot) c false d) refl
+posts_tell : (w : World) (c : ℕ) (change : Change) (shoot : ℕ) → Fine w → ((b : ℕ) → b ≢ c → w.calls.phase b ≡ Free) → w.calls.phase c ≡ Post change shoot
+    → (d : ℕ) → ((awaited (inboxes_after c shoot (range_of change) w.hardware.inbox) c d ≡ true) ↔ ((d ≢ c) × IsUser w.slots (range_of change) d))
+    × (takes_left (inboxes_after c shoot (range_of change) w.hardware.inbox d)
+    ≡ (if awaited (inboxes_after c shoot (range_of change) w.hardware.inbox) c d then 2 else 0))
+posts_tell w c change shoot f others e d = (
+  go (put (members shoot) c false d) refl,
+  untaken (put (members shoot) c false d) (w.hardware.inbox d) (no_message w.calls.phase d (w.hardware.inbox d) nobody (f.coherent.asked d)),
+)
   where
+    nobody : (b : ℕ) → awaits_in (w.calls.phase b) ≡ None
+    nobody b = this (b == c) refl
+      where
+        this : (z : Bool) → (b == c) ≡ z → awaits_in (w.calls.phase b) ≡ None
+        this true i = ap (λ n. awaits_in (w.calls.phase n)) (eq_true b c i) ∙ ap awaits_in e
+        this false i = ap awaits_in (others b (eq_false b c i))
+
+    untaken : (b : Bool) (ms : List Message) → ms ≡ []
+        → takes_left (if b then ms ++ posted c (range_of change) ∷ [] else ms)
+        ≡ (if is_some (message_of (if b then ms ++ posted c (range_of change) ∷ [] else ms) c) then 2 else 0)
+    untaken true ms i =
+        subst (λ ms. takes_left (ms ++ posted c (range_of change) ∷ []) ≡ (if is_some (message_of (ms ++ posted c (range_of change) ∷ []) c) then 2 else 0)) (sym i)
+        (ap (λ (b : Bool). if b then 2 else 0) (sym (told_message [] c (range_of change))))
+    untaken false ms i = subst (λ ms. takes_left ms ≡ (if is_some (message_of ms c) then 2 else 0)) (sym i) refl
+
     k : IsCallOf w c (Post change shoot)
     k = call_at w c (Post change shoot) e f.order
 
@@ -150,23 +191,23 @@ replied_untold c held reply x v h =
     subst (λ (v : World). IsTold v.slots v.hardware c (v.calls.phase c)) (sym h)
     (untold x.slots x.hardware c (put x.calls.phase c (let_go held reply) c) (ap awaits_in (put_same x.calls.phase c (let_go held reply)) ∙ let_go_untold held reply))
 
-pub told_on : (w : World) (c : ℕ) (v : World) → Fine w → GoesBy w c v → IsTold v.slots v.hardware c (v.calls.phase c)
-told_on w c v f (moves new m h) = to_untold c new w v h (moves_untold w c new m)
-told_on w c v f (divides goal cursor t e s h) =
+pub told_on : (w : World) (c : ℕ) (v : World) → Fine w → ((b : ℕ) → b ≢ c → w.calls.phase b ≡ Free) → GoesBy w c v → IsTold v.slots v.hardware c (v.calls.phase c)
+told_on w c v f others (moves new m h) = to_untold c new w v h (moves_untold w c new m)
+told_on w c v f others (divides goal cursor t e s h) =
     subst (λ (v : World). IsTold v.slots v.hardware c (v.calls.phase c)) (sym h) (untold t w.hardware c (w.calls.phase c) (ap awaits_in e))
-told_on w c v f (owns goal cursor b t e l h) = to_untold c (locked_to goal b) (record w { slots = t }) v h (locked_untold goal b)
-told_on w c v f (lets_go held b t new l u h) = to_untold c new (record w { slots = t }) v h (lets_go_untold (w.calls.phase c) held b new l)
-told_on w c v f (answers held reply r h) = replied_untold c held reply w v h
-told_on w c v f (posts change shoot e h) =
+told_on w c v f others (owns goal cursor b t e l h) = to_untold c (locked_to goal b) (record w { slots = t }) v h (locked_untold goal b)
+told_on w c v f others (lets_go held b t new l u h) = to_untold c new (record w { slots = t }) v h (lets_go_untold (w.calls.phase c) held b new l)
+told_on w c v f others (answers held reply r h) = replied_untold c held reply w v h
+told_on w c v f others (posts change shoot e h) =
     subst (λ (v : World). IsTold v.slots v.hardware c (v.calls.phase c)) (sym h)
-    (subst (IsTold w.slots (after_post c change shoot w).hardware c) (sym (put_same w.calls.phase c (Acks change (range_of change)))) (posts_tell w c change shoot f e))
-told_on w c v f (commits change held total e n l h) = replied_untold c (Some held) (reply_to change) (with_counts total (record w { slots = slots_after change w.slots })) v h
-told_on w c v f (takes touch x e l h) = to_untold c (Fill touch x) (record w { memory = (after_frame c touch x w).memory }) v h refl
-told_on w c v f (fills touch x total e t h) =
+    (subst (IsTold w.slots (after_post c change shoot w).hardware c) (sym (put_same w.calls.phase c (Acks change (range_of change)))) (posts_tell w c change shoot f others e))
+told_on w c v f others (commits change held total e n l h) = replied_untold c (Some held) (reply_to change) (with_counts total (record w { slots = slots_after change w.slots })) v h
+told_on w c v f others (takes touch x e l h) = to_untold c (Fill touch x) (record w { memory = (after_frame c touch x w).memory }) v h refl
+told_on w c v f others (fills touch x total e t h) =
     to_untold c (Install touch) (record w { slots = (after_fill c touch x total w).slots; memory = (after_fill c touch x total w).memory }) v h refl
-told_on w c v f (installs touch e h) =
+told_on w c v f others (installs touch e h) =
     to_untold c (Release touch) (record w { slots = (after_install c touch w).slots; hardware = (after_install c touch w).hardware }) v h refl
-told_on w c v f (accesses touch x e i h) =
+told_on w c v f others (accesses touch x e i h) =
     replied_untold c None (reply_of touch x w.memory)
     (record (with_hardware (after_translating w.hardware c touch) w) { memory = memory_after touch x w.memory }) v h
-told_on w c v f (faults touch e i h) = to_untold c (locking (To.Access touch)) (with_hardware (after_translating w.hardware c touch) w) v h refl
+told_on w c v f others (faults touch e i h) = to_untold c (locking (To.Access touch)) (with_hardware (after_translating w.hardware c touch) w) v h refl
