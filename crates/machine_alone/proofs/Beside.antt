@@ -1,5 +1,5 @@
 -- What happens beside a call that waits, or where no core has a call
-use Rattle.std.proofs.Common.{◌≡◌, ◌≢◌, ℕ, zero, suc, ◌<◌, ◌==◌, ◌⊎◌, Bool, true, false, cond, inl, inr, refl, sym, ap, subst, arith, None, Some, Option, List, [], ◌∷◌, ◌∙◌}
+use Rattle.std.proofs.Common.{◌≡◌, ℕ, ◌<◌, ◌==◌, ◌⊎◌, Bool, true, false, cond, inl, inr, refl, sym, ap, subst, arith, None, Some, Option, List, [], ◌∷◌, ◌∙◌}
 use Rattle.std.specs.Prelude.{if◌then◌else◌, is_some, nat_lt, pred}
 use Rattle.std.proofs.lemmas.Bool.Decides.{nat_tests}
 use Rattle.vm_base.specs.declared.info.PageInfo.{PageInfo}
@@ -28,8 +28,8 @@ use Rattle.machine_model.specs.Accesses.{TakesThisFrame}
 use Rattle.machine_model.specs.Actions.{Becomes, Idles}
 use Rattle.machine_model.specs.Counting.{ReportsFlush, ReportsReview}
 use Rattle.machine_model.specs.Events.{core_of}
-use Rattle.machine_model.specs.GivingUp.{GivesUp, after_give_up}
-use Rattle.machine_model.specs.Holding.{awaits_in, can_give_up}
+use Rattle.machine_model.specs.GivingUp.{GivesUp}
+use Rattle.machine_model.specs.Holding.{awaits_in}
 use Rattle.machine_model.specs.Translating.{TakesMessage, after_eviction, after_walk, can_walk, tables_cleared, tlb_invalidated, with_hardware, with_inbox}
 use Rattle.machine_model.specs.World.{World, Hardware}
 use Rattle.machine_model.specs.Step.{Acts, Goes, is_here, with_event, event_limit, Step}
@@ -137,9 +137,10 @@ no_left (m ∷ ms) e = absurd (go m.is_cleared e)
 
 stepped : (w v : World) (core : ℕ) (r : IsResting w core) (c : ℕ) (o : Outcome) (h : Hardware) → h.inbox ≡ w.hardware.inbox → 0 < left_to w c
     → Becomes (with_hardware (with_inbox h c (remaining (w.hardware.inbox c))) (with_event w)) o v → IsBesideCalls w v × ComesBeside w (Take c) o v
-stepped w v core r c o h inbox some k =
-    (subst (IsBesideCalls w) (sym k.1) (record { made = refl; phases = refl; numbers = refl; requests = refl; log = refl; users = λ p d. refl }),
-    inl (k.0, some, λ d. ap (λ (v : World). left_to v d) k.1 ∙ left d))
+stepped w v core r c o h inbox some k = (
+  subst (IsBesideCalls w) (sym k.1) (record { made = refl; phases = refl; numbers = refl; requests = refl; log = refl; users = λ p d. refl }),
+  inl (k.0, some, λ d. ap (λ (v : World). left_to v d) k.1 ∙ left d),
+)
   where
     less : takes_left (remaining (w.hardware.inbox c)) ≡ pred (left_to w c)
     less = one_less (w.hardware.inbox c)

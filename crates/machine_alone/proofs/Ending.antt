@@ -1,12 +1,10 @@
 -- A call that waits, and beside which no other call runs, is answered once nobody is awaited.
-use Rattle.std.proofs.Common.{◌≡◌, ◌≢◌, ℕ, zero, suc, ◌+◌, ◌-◌, ◌≤◌, ◌<◌, ◌==◌, ◌^◌, ◌⊎◌, Bool, true, false, inl, inr, refl, sym, ap, subst, arith, Some, None, ◌∙◌}
-use Rattle.std.specs.Prelude.{nat_lt}
+use Rattle.std.proofs.Common.{◌≡◌, ◌≢◌, ℕ, zero, suc, ◌+◌, ◌<◌, ◌^◌, ◌⊎◌, true, inl, inr, refl, sym, ap, subst, arith, Some, None, ◌∙◌}
 use Rattle.vm_base.specs.declared.page.PageRange.{PageRange}
 use Rattle.vm_base.specs.declared.replies.Reply.{Reply}
 use Rattle.vm_base.specs.declared.requests.Request.{Request}
-use Rattle.vm_base.specs.Cores.{members}
 use Rattle.vm_base.specs.Plain.{Plain, mode_of}
-use Rattle.vm_base.proofs.Functions.{eq_true, eq_false, put_other, put_same}
+use Rattle.vm_base.proofs.Functions.{put_other, put_same}
 use Rattle.shootdown.specs.Inboxes.{awaited}
 use Rattle.slot_lock.specs.declared.plan.Change.{Change}
 use Rattle.slot_lock.specs.Plan.{range_of}
@@ -23,15 +21,15 @@ use Rattle.machine_model.specs.Step.{with_event, event_limit, Step, StepsTo}
 use Rattle.machine_laws.proofs.Deciding.{change_sound, sound_range}
 use Rattle.machine_laws.proofs.Effects.{Asked, Told, status, Effect, keeps, tells, opens, closes, effect_of}
 use Rattle.machine_laws.proofs.Moves.{IsCallOf, call_at}
-use Rattle.machine_laws.proofs.Shapes.{Moves, locks, tries, acts, finds, lacks, Replies, refuses, no_place, declines, fails, no_frame, LetsGo, unlocks, releases, GoesBy, moves, divides, owns, lets_go, answers, posts, commits, takes, fills, installs, accesses, faults, comes}
+use Rattle.machine_laws.proofs.Shapes.{locks, tries, acts, finds, lacks, refuses, no_place, declines, fails, no_frame, unlocks, releases, GoesBy, moves, divides, owns, lets_go, answers, posts, commits, takes, fills, installs, accesses, faults, comes}
 use Rattle.machine_sound.proofs.Kept.{reached_fine, reached_step}
-use Rattle.machine_alone.specs.Alone.{IsWaiting, IsServed, IsServedAtLast, IsAwaitingStill, takes_left}
+use Rattle.machine_alone.specs.Alone.{IsWaiting, IsServedAtLast, IsAwaitingStill, takes_left}
 use Rattle.machine_alone.specs.Users.{recorded}
 use Rattle.machine_alone.proofs.Rank.{rank_of, reach_of, size}
 use Rattle.machine_alone.proofs.Rows.{IsSure, left_of}
 use Rattle.machine_alone.proofs.Telling.{left_is_awaited}
 use Rattle.machine_alone.proofs.Used.{Used}
-use Rattle.machine_alone.proofs.Serving.{IsLogged, IsServing, Row, nears, returns, awaits_acks, row_of, before_limit, shape_at, less_test, returned, along}
+use Rattle.machine_alone.proofs.Serving.{IsLogged, IsServing, nears, returns, awaits_acks, row_of, before_limit, shape_at, less_test, returned, along}
 
 -- ---- once the change is made the call has its reply
 
@@ -126,7 +124,7 @@ nobody_left w t c request k n d =
     let f = reached_fine w k.reached in
     none_left (takes_left (w.hardware.inbox d)) (λ l.
     let a : awaited w.hardware.inbox c d ≡ true =
-        (left_is_awaited w.calls.phase d (w.hardware.inbox d) c (alone_awaits w t c request k) (f.coherent.asked d)).1 l in
+    (left_is_awaited w.calls.phase d (w.hardware.inbox d) c (alone_awaits w t c request k) (f.coherent.asked d)).1 l in
     let b = n d in cc)
 
 still : (w : World) (t : Plain) (c : ℕ) (request : Request) (o : Outcome) (v : World) (set : ℕ) → IsWaiting w t c request → o ≡ Wait (WaitsFor.Acks set)

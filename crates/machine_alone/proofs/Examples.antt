@@ -15,7 +15,7 @@ use Rattle.machine_model.specs.Step.{Step, StepsTo, event_limit}
 use Rattle.machine_sound.specs.Log.{Stands}
 use Rattle.machine_sound.specs.Sound.{IsDue}
 use Rattle.machine_sound.proofs.Kept.{reached_opening}
-use Rattle.machine_alone.specs.Alone.{IsAwaiting, IsServed}
+use Rattle.machine_alone.specs.Alone.{IsAwaiting}
 use Rattle.machine_alone.proofs.Serving.{served_alone}
 
 abbrev made : Made
@@ -41,6 +41,6 @@ stores_fault slots new begun x v n o call steps step not below =
     let w : World = new_world made slots in
     let reached = reached_opening made slots (λ n. refl) new in
     elim ((served_alone w begun nothing 0 (Store 65540 41) reached refl (λ c. refl) call).ends n x v o steps step not below) [
-      | inl k ↦ inl (subst (λ y. o ≡ Answered y) (faults w.memory.is_free k.after k.reply k.stands (k.due 0 0)) k.answered)
+      | inl k ↦ inl (subst (λ y. o ≡ Answered y) (faults w.memory.is_free k.0.after k.0.reply k.0.stands (k.0.due 0 0)) k.0.answered)
       | inr a ↦ inr a
     ]

@@ -40,7 +40,7 @@ use Rattle.machine_sound.proofs.OneMap.{log_leads_to_one}
 use Rattle.machine_sound.proofs.Kept.{reached_fine, reached_step}
 use Rattle.machine_alone.specs.Alone.{IsCalm, LeadsTo, IsServed, IsServedAlone, IsAwaiting, IsWaiting}
 use Rattle.machine_alone.specs.Users.{Users, Same, recorded, users_after, without}
-use Rattle.machine_alone.proofs.Used.{Used, IsUsed, used_on}
+use Rattle.machine_alone.proofs.Used.{Used, IsUsed, Unwaited, used_on, unwaited_on}
 use Rattle.machine_alone.proofs.Using.{change_drops}
 use Rattle.machine_alone.proofs.Rank.{reach_of, rank_of}
 use Rattle.machine_alone.proofs.Telling.{IsTold, told_on}
@@ -385,8 +385,22 @@ told_along w t c request m h told zero x s = subst (λ (x : World). IsTold x.slo
 told_along w t c request m h told (suc n) x s =
     told_step w t c request s.0 x (along w t c request m h n s.0 s.1).0 s.2
 
+unwaited_along : (w : World) (t : Plain) (c : ℕ) (request : Request) (m : World) → IsServing w t c request m → IsTold m.slots m.hardware c (m.calls.phase c)
+    → Unwaited (recorded w.slots) c request (m.calls.phase c) → (n : ℕ) (x : World) → StepsTo m c n x → Unwaited (recorded w.slots) c request (x.calls.phase c)
+unwaited_along w t c request m h told u zero x s = subst (λ (x : World). Unwaited (recorded w.slots) c request (x.calls.phase c)) (sym s) u
+unwaited_along w t c request m h told u (suc n) x s =
+    let k = (along w t c request m h n s.0 s.1).0 in
+    let shape : Shape (with_event s.0) (Go c) Stepped x = before_limit s.0 c x (comes s.0 (Go c) Stepped x s.2) s.2 in
+    elim (row_of w t c request s.0 Stepped x k (reached_fine x (reached_step s.0 x (Go c) Stepped k.reached s.2)) shape) [
+      | nears _ g _ ↦ unwaited_on (recorded w.slots) c request (with_event s.0) x (reached_fine s.0 k.reached) k.number k.used
+          (told_along w t c request m h told n s.0 s.1) (unwaited_along w t c request m h told u n s.0 s.1) g
+      | returns _ _ e _ ↦ absurd cc
+      | awaits_acks _ _ _ _ e _ _ ↦ absurd cc
+    ]
+
 pub served_alone : (w begun : World) (t : Plain) (core : ℕ) (request : Request) → IsReached w → LeadsTo w t → IsCalm w → Step w (Call core request) Stepped begun
     → IsServedAlone w t core request begun
+unfolding returned
 served_alone w begun t core request reached leads calm s =
     let start = starts w t core request begun reached leads calm s in
     let most : left_of begun core ≡ 2 ^ 37 = ap (rank_of begun.slots (reach_of begun.hardware core)) start.1 in
@@ -394,11 +408,13 @@ served_alone w begun t core request reached leads calm s =
       short = λ n x k. let a = (along w t core request begun start.0 n x k).1 in omega (arith, a, most);
       ends = λ n x v o k s not below.
           let h = (along w t core request begun start.0 n x k).0 in
-          let told = told_along w t core request begun start.0 (subst (IsTold begun.slots begun.hardware core) (sym start.1) tt) n x k in
+          let first = subst (IsTold begun.slots begun.hardware core) (sym start.1) tt in
+          let told = told_along w t core request begun start.0 first n x k in
+          let unwaited = unwaited_along w t core request begun start.0 first (subst (Unwaited (recorded w.slots) core request) (sym start.1) tt) n x k in
           elim (row_of w t core request x o v h (reached_fine v (reached_step x v (Go core) o h.reached s))
           (shape_at x core o v (less_test x.calls.events event_limit below) (comes x (Go core) o v s))) [
             | nears e _ _ ↦ absurd (not e)
-            | returns reply at answered e ↦ inl (returned w t core request x v o reply h s at answered e)
+            | returns reply at answered e ↦ inl (returned w t core request x v o reply h s at answered e, subst (Unwaited (recorded w.slots) core request) at unwaited)
             | awaits_acks change held set p e a k ↦ inr (awaited_by w t core request x o v change held set h told p e a k)
           ];
     }

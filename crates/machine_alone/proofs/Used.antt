@@ -9,12 +9,11 @@ use Rattle.vm_base.specs.declared.rights.Access.{Access}
 use Rattle.vm_base.specs.Functions.{has, put}
 use Rattle.vm_base.specs.Info.{is_recorded}
 use Rattle.vm_base.specs.Plain.{File, mode_of}
-use Rattle.vm_base.proofs.Functions.{put_both, put_same}
+use Rattle.vm_base.proofs.Functions.{put_all, put_both, put_same}
 use Rattle.mmu.specs.declared.entry.Translation.{Translation}
 use Rattle.mmu.specs.Tables.{translated}
 use Rattle.mmu.specs.Tlb.{tlb_at}
 use Rattle.slot_lock.specs.declared.plan.Change.{Change}
-use Rattle.slot_lock.specs.declared.plan.Plan.TheVariants as PlanOf
 use Rattle.slot_lock.specs.declared.plan.Touch.{Touch}
 use Rattle.slot_lock.specs.Plan.{range_of}
 use Rattle.slot_lock.specs.Slots.{Slots}
@@ -25,8 +24,8 @@ use Rattle.machine_model.specs.declared.phase.Goal.TheVariants as To
 use Rattle.machine_model.specs.declared.phase.Phase.{Phase}
 use Rattle.machine_model.specs.declared.phase.Phase.TheVariants.{Check, Lock, Decide, Post, Acks, Unlock, Answer, Try, Settle, Want, Fill, Install, Release}
 use Rattle.machine_model.specs.Accesses.{found_at, after_frame, after_fill, after_install, reply_of, memory_after}
-use Rattle.machine_model.specs.Actions.{to, let_go, after_reply}
-use Rattle.machine_model.specs.Changes.{slots_after, after_post, reply_to}
+use Rattle.machine_model.specs.Actions.{to, answer_entry, let_go, after_reply, with_entry}
+use Rattle.machine_model.specs.Changes.{AwaitsNobody, slots_after, after_post, reply_to}
 use Rattle.machine_model.specs.Counting.{with_counts}
 use Rattle.machine_model.specs.Holding.{goal_range}
 use Rattle.machine_model.specs.Locks.{locking, all_locked, locked_to, held_after}
@@ -39,9 +38,11 @@ use Rattle.machine_laws.proofs.Moves.{IsCallOf, call_at}
 use Rattle.machine_laws.proofs.Shapes.{IsFault, Moves, locks, tries, acts, finds, lacks, Replies, refuses, no_place, declines, fails, no_frame, LetsGo, unlocks, releases, GoesBy, moves, divides, owns, lets_go, answers, posts, commits, takes, fills, installs, accesses, faults}
 use Rattle.machine_sound.specs.Invariant.{Fine}
 use Rattle.machine_sound.proofs.Reaching.{at_page}
+use Rattle.machine_alone.specs.Alone.{KeepsOthers}
 use Rattle.machine_alone.specs.Users.{Users, Same, recorded, users_after, with_user, without}
 use Rattle.machine_alone.proofs.Rank.{reach_of, hits}
 use Rattle.machine_alone.proofs.Rows.{IsSureOf, sure_at}
+use Rattle.machine_alone.proofs.Telling.{IsTold}
 use Rattle.machine_alone.proofs.Using.{Keeps, refused_keeps, change_drops, touch_adds, filled_same, installed_adds, changed_drops, already}
 
 -- Before the call they were first. They are as they were until its access is installed or its reply stands.
@@ -133,21 +134,23 @@ same_request : (w : World) (c : ℕ) (r request : Request) → nth w.calls.reque
     → r ≡ request
 same_request w c r request e k = cc
 
-replies_used : (first : Users) (c : ℕ) (request : Request) (w : World) (held : Option PageRange) (reply : Reply) → Fine w
-    → nth w.calls.requests (w.calls.number c) ≡ Some request → IsUsed first c request w → Replies w c held reply
-    → Same (recorded w.slots) (users_after c request reply first)
-replies_used first c request w held reply f number u (refuses r e h j) =
+replies_keep : (c : ℕ) (request : Request) (w : World) (held : Option PageRange) (reply : Reply) → Fine w
+    → nth w.calls.requests (w.calls.number c) ≡ Some request → Replies w c held reply → Keeps c request reply
+replies_keep c request w held reply f number (refuses r e h j) =
     let is : r ≡ request = same_request w c r request (call_at w c (Check r) e f.order).asked number in
-    kept first (recorded w.slots) c request reply (used_at first c request w (Check r) e u)
-    (subst (λ r. Keeps c r reply) is (refused_keeps (λ k. mode_of (w.made.file k)) c r reply j))
-replies_used first c request w held reply f number u (no_place r place e h i j) =
-    kept first (recorded w.slots) c request reply (used_at first c request w (Check r) e u) (subst (Keeps c request) (sym i) (λ u p d. refl))
-replies_used first c request w held reply f number u (declines change errno e h i d) =
-    kept first (recorded w.slots) c request reply (used_at first c request w (Decide change) e u) (subst (Keeps c request) (sym i) (λ u p d. refl))
-replies_used first c request w held reply f number u (fails touch e h x) =
-    kept first (recorded w.slots) c request reply (used_at first c request w (Settle touch) e u) (fault_keeps c request (found_at w touch) reply x)
-replies_used first c request w held reply f number u (no_frame touch e h i none) =
-    kept first (recorded w.slots) c request reply (used_at first c request w (Want touch) e u) (subst (Keeps c request) (sym i) (λ u p d. refl))
+    subst (λ r. Keeps c r reply) is (refused_keeps (λ k. mode_of (w.made.file k)) c r reply j)
+replies_keep c request w held reply f number (no_place r place e h i j) = subst (Keeps c request) (sym i) (λ u p d. refl)
+replies_keep c request w held reply f number (declines change errno e h i d) = subst (Keeps c request) (sym i) (λ u p d. refl)
+replies_keep c request w held reply f number (fails touch e h x) = fault_keeps c request (found_at w touch) reply x
+replies_keep c request w held reply f number (no_frame touch e h i none) = subst (Keeps c request) (sym i) (λ u p d. refl)
+
+unchanged : (first : Users) (c : ℕ) (request : Request) (w : World) (held : Option PageRange) (reply : Reply) → IsUsed first c request w → Replies w c held reply
+    → Same (recorded w.slots) first
+unchanged first c request w held reply u (refuses r e h j) = used_at first c request w (Check r) e u
+unchanged first c request w held reply u (no_place r place e h i j) = used_at first c request w (Check r) e u
+unchanged first c request w held reply u (declines change errno e h i d) = used_at first c request w (Decide change) e u
+unchanged first c request w held reply u (fails touch e h x) = used_at first c request w (Settle touch) e u
+unchanged first c request w held reply u (no_frame touch e h i none) = used_at first c request w (Want touch) e u
 
 -- ---- a change that is made
 
@@ -231,7 +234,8 @@ used_on free first c request w v f number sure u (owns goal cursor b t e l h) =
 used_on free first c request w v f number sure u (lets_go held b t new l k h) =
     used_to first c request new (record w { slots = t }) v h
     (lets_go_used free first c request w t held b new (λ p d. ap (λ (s : Slots). is_recorded (s.info p) d) k.now) sure u l)
-used_on free first c request w v f number sure u (answers held reply r h) = replied first c request held reply w v h (replies_used first c request w held reply f number u r)
+used_on free first c request w v f number sure u (answers held reply r h) = replied first c request held reply w v h
+    (kept first (recorded w.slots) c request reply (unchanged first c request w held reply u r) (replies_keep c request w held reply f number r))
 used_on free first c request w v f number sure u (posts change shoot e h) =
     used_to first c request (Acks change (range_of change)) (record w { hardware = (after_post c change shoot w).hardware }) v h
     (used_at first c request w (Post change shoot) e u)
@@ -252,3 +256,111 @@ used_on free first c request w v f number sure u (accesses touch x e i h) =
     (access_used first c request w touch x f number e i u)
 used_on free first c request w v f number sure u (faults touch e i h) =
     used_to first c request (locking (To.Access touch)) (with_hardware (after_translating w.hardware c touch) w) v h (fault_used first c request w touch e i u)
+
+-- ---- whom a reply drops
+
+-- a reply that stands drops no other user
+abbrev pub Unwaited : Users → ℕ → Request → Phase → Type 0
+Unwaited first c request (Unlock held reply) = KeepsOthers first c request reply
+Unwaited first c request (Answer reply) = KeepsOthers first c request reply
+Unwaited first c request _ = Unit {0}
+
+unwaited_to : (first : Users) (c : ℕ) (request : Request) (new : Phase) (x v : World) → v ≡ to c new x → Unwaited first c request new
+    → Unwaited first c request (v.calls.phase c)
+unwaited_to first c request new x v e h =
+    subst (λ (v : World). Unwaited first c request (v.calls.phase c)) (sym e) (subst (Unwaited first c request) (sym (put_same x.calls.phase c new)) h)
+
+unwaited_reply : (first : Users) (c : ℕ) (request : Request) (held : Option PageRange) (reply : Reply) → KeepsOthers first c request reply
+    → Unwaited first c request (let_go held reply)
+unwaited_reply first c request None reply h = h
+unwaited_reply first c request (Some held) reply h = h
+
+moves_unwaited : (first : Users) (c : ℕ) (request : Request) (w : World) (new : Phase) → Moves w c new → Unwaited first c request new
+moves_unwaited first c request w new (locks r change e n k) = subst (Unwaited first c request) (sym n) tt
+moves_unwaited first c request w new (tries r touch e n k) = subst (Unwaited first c request) (sym n) tt
+moves_unwaited first c request w new (acts change range shoot e n d) = subst (Unwaited first c request) (sym n) tt
+moves_unwaited first c request w new (finds touch f e n k) = subst (Unwaited first c request) (sym n) tt
+moves_unwaited first c request w new (lacks touch e n k) = subst (Unwaited first c request) (sym n) tt
+
+locked_unwaited : (first : Users) (c : ℕ) (request : Request) (goal : Goal) (b : ℕ) → Unwaited first c request (locked_to goal b)
+locked_unwaited first c request goal b = go goal (nat_le (goal_range goal).end b)
+  where
+    go : (goal : Goal) (p : Bool) → Unwaited first c request (cond p (all_locked goal) (Lock goal b))
+    go (To.Change change) true = tt
+    go (To.Access touch) true = tt
+    go goal false = tt
+
+lets_go_unwaited : (first : Users) (c : ℕ) (request : Request) (w : World) (held : PageRange) (b : ℕ) (new : Phase) → Unwaited first c request (w.calls.phase c)
+    → LetsGo (w.calls.phase c) held b new → Unwaited first c request new
+lets_go_unwaited first c request w held b new u (unlocks reply e n) =
+    subst (Unwaited first c request) (sym n) (unwaited_reply first c request (held_after held b) reply (subst (Unwaited first c request) e u))
+lets_go_unwaited first c request w held b new u (releases touch e h n) = subst (Unwaited first c request) (sym n) tt
+
+-- where nobody is awaited, no other core uses the pages of the change
+change_unwaited : (first : Users) (c : ℕ) (request : Request) (w : World) (change : Change) (held : PageRange) → Fine w
+    → nth w.calls.requests (w.calls.number c) ≡ Some request → w.calls.phase c ≡ Acks change held → IsUsed first c request w
+    → IsTold w.slots w.hardware c (w.calls.phase c) → AwaitsNobody w.hardware c → KeepsOthers first c request (reply_to change)
+change_unwaited first c request w change held f number e u was nobody d p ne h = go (has (range_of change) p) refl
+  where
+    k : IsCallOf w c (Acks change held)
+    k = call_at w c (Acks change held) e f.order
+
+    told : IsTold w.slots w.hardware c (Acks change held)
+    told = subst (IsTold w.slots w.hardware c) e was
+
+    drops : users_after c request (reply_to change) first p d ≡ without (range_of change) first p d
+    drops = subst (λ r. users_after c r (reply_to change) first p d ≡ without (range_of change) first p d) (same_request w c k.asked.request request k.asked.number number)
+        (change_drops (λ k. mode_of (w.made.file k)) c k.asked.request change k.asked.passed first p d)
+
+    go : (b : Bool) → has (range_of change) p ≡ b → users_after c request (reply_to change) first p d ≡ true
+    go true i = absurd (
+        let r : recorded w.slots p d ≡ true = used_at first c request w (Acks change held) e u p d ∙ h in
+        let a = (told d).0.1 (ne, (p, i, r)) in
+        let z = nobody d in
+        cc)
+    go false i = drops ∙ ap (λ b. cond b false (first p d)) i ∙ h
+
+user_stays : (first : Users) (page c d p : ℕ) → first p d ≡ true → with_user page c first p d ≡ true
+user_stays first page c d p =
+    put_all (λ p f. first p d ≡ true → f d ≡ true) first page (put (first page) c true)
+    (put_all (λ d b. first page d ≡ true → b ≡ true) (first page) c true (λ h. refl) (λ j ne h. h) d) (λ j ne h. h) p
+
+access_unwaited : (first : Users) (c : ℕ) (request : Request) (w : World) (touch : Touch) (x : ℕ) → Fine w → nth w.calls.requests (w.calls.number c) ≡ Some request
+    → w.calls.phase c ≡ Try touch → KeepsOthers first c request (reply_of touch x w.memory)
+access_unwaited first c request w touch x f number e d p ne h =
+    let k : IsCallOf w c (Try touch) = call_at w c (Try touch) e f.order in
+    let is : k.asked.request ≡ request = same_request w c k.asked.request request k.asked.number number in
+    let adds = touch_adds (λ k. mode_of (w.made.file k)) c k.asked.request touch k.asked.passed (w.memory.bytes x touch.offset) first p d in
+    subst (λ r. users_after c r (reply_of touch x w.memory) first p d ≡ with_user touch.page c first p d) is adds ∙ user_stays first touch.page c d p h
+
+pub unwaited_on : (first : Users) (c : ℕ) (request : Request) (w v : World) → Fine w → nth w.calls.requests (w.calls.number c) ≡ Some request
+    → IsUsed first c request w → IsTold w.slots w.hardware c (w.calls.phase c) → Unwaited first c request (w.calls.phase c) → GoesBy w c v
+    → Unwaited first c request (v.calls.phase c)
+unwaited_on first c request w v f number u t n (moves new m h) = unwaited_to first c request new w v h (moves_unwaited first c request w new m)
+unwaited_on first c request w v f number u t n (divides goal cursor s e k h) = subst (λ (v : World). Unwaited first c request (v.calls.phase c)) (sym h) n
+unwaited_on first c request w v f number u t n (owns goal cursor b s e l h) =
+    unwaited_to first c request (locked_to goal b) (record w { slots = s }) v h (locked_unwaited first c request goal b)
+unwaited_on first c request w v f number u t n (lets_go held b s new l k h) =
+    unwaited_to first c request new (record w { slots = s }) v h (lets_go_unwaited first c request w held b new n l)
+unwaited_on first c request w v f number u t n (answers held reply r h) =
+    unwaited_to first c request (let_go held reply) (with_entry (answer_entry w c reply) w) v h
+    (unwaited_reply first c request held reply (λ d p ne i. replies_keep c request w held reply f number r first p d ∙ i))
+unwaited_on first c request w v f number u t n (posts change shoot e h) =
+    unwaited_to first c request (Acks change (range_of change)) (record w { hardware = (after_post c change shoot w).hardware }) v h tt
+unwaited_on first c request w v f number u t n (commits change held counts e nobody l h) =
+    unwaited_to first c request (let_go (Some held) (reply_to change))
+    (with_entry (answer_entry w c (reply_to change)) (with_counts counts (record w { slots = slots_after change w.slots }))) v h
+    (change_unwaited first c request w change held f number e u t nobody)
+unwaited_on first c request w v f number u t n (takes touch x e l h) =
+    unwaited_to first c request (Fill touch x) (record w { memory = (after_frame c touch x w).memory }) v h tt
+unwaited_on first c request w v f number u t n (fills touch x counts e k h) =
+    unwaited_to first c request (Install touch) (record w { slots = (after_fill c touch x counts w).slots; memory = (after_fill c touch x counts w).memory }) v h tt
+unwaited_on first c request w v f number u t n (installs touch e h) =
+    unwaited_to first c request (Release touch) (record w { slots = (after_install c touch w).slots; hardware = (after_install c touch w).hardware }) v h tt
+unwaited_on first c request w v f number u t n (accesses touch x e i h) =
+    unwaited_to first c request (let_go None (reply_of touch x w.memory))
+    (with_entry (answer_entry w c (reply_of touch x w.memory))
+    (record (with_hardware (after_translating w.hardware c touch) w) { memory = memory_after touch x w.memory })) v h
+    (access_unwaited first c request w touch x f number e)
+unwaited_on first c request w v f number u t n (faults touch e i h) =
+    unwaited_to first c request (locking (To.Access touch)) (with_hardware (after_translating w.hardware c touch) w) v h tt

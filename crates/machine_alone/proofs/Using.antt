@@ -3,7 +3,6 @@ use Rattle.std.proofs.Common.{◌≡◌, ℕ, ◌/◌, ◌%◌, ◌*◌, ◌+◌
 use Rattle.std.specs.Prelude.{if◌then◌else◌, nat_lt}
 use Rattle.std.proofs.lemmas.Bool.Decides.{nat_tests}
 use Rattle.vm_base.specs.declared.info.PageInfo.{PageInfo}
-use Rattle.vm_base.specs.declared.page.PageRange.{PageRange}
 use Rattle.vm_base.specs.declared.replies.Errno.{Errno}
 use Rattle.vm_base.specs.declared.replies.Errno.TheVariants.{EINVAL, ENOMEM, EACCES, EBADF, EOVERFLOW}
 use Rattle.vm_base.specs.declared.requests.Flags.{Flags}
@@ -18,7 +17,6 @@ use Rattle.vm_base.specs.declared.rights.Mode.{Mode}
 use Rattle.vm_base.specs.declared.rights.Prot.{Prot}
 use Rattle.vm_base.specs.Apply.{byte_reply, meta_of}
 use Rattle.vm_base.specs.Rights.{can_read, can_write}
-use Rattle.vm_base.specs.Cores.{members}
 use Rattle.vm_base.specs.Functions.{has, put}
 use Rattle.vm_base.specs.Info.{advance, is_recorded, info_with_frame, info_with_prot, unused}
 use Rattle.vm_base.specs.Pages.{are_pages, is_aligned, is_page, page_of, pages_of}

@@ -63,6 +63,10 @@ pub record IsServed (w : World) (t : Plain) (core : ℕ) (request : Request) (ou
   pub due : (step call : ℕ) → IsDue (Go core) w.memory.is_free (Answer step call core reply)
   pub users : Same (recorded v.slots) (users_after core request reply (recorded w.slots))
 
+-- the reply drops no user of a page but the core itself
+abbrev pub KeepsOthers : Users → ℕ → Request → Reply → Type 0
+KeepsOthers users core request reply = (d p : ℕ) → d ≢ core → users p d ≡ true → users_after core request reply users p d ≡ true
+
 -- A call, begun in w, waits in x for the other cores that are recorded on its pages, for just these, and nothing changes. Each of them has
 -- both takes before it. The map t answers its request with a change of these pages, which leaves them without users.
 pub record IsAwaiting (w x : World) (t : Plain) (core : ℕ) (request : Request) (outcome : Outcome) (v : World) : Type 0 where
@@ -81,11 +85,12 @@ pub record IsAwaiting (w x : World) (t : Plain) (core : ℕ) (request : Request)
   pub drops : (u : Users) → Same (users_after core request (reply_to waiting.change) u) (without (range_of waiting.change) u)
 
 -- Begun in w, whose log leads to t, the call takes few plain steps. The first that isn't plain, before the limit of events, hands out its
--- reply, or waits for other cores' acknowledgements.
+-- reply, which drops no other user, or waits for other cores' acknowledgements.
 pub record IsServedAlone (w : World) (t : Plain) (core : ℕ) (request : Request) (begun : World) : Type 0 where
   pub short : (n : ℕ) (x : World) → StepsTo begun core n x → n < 2 ^ 40
   pub ends : (n : ℕ) (x v : World) (outcome : Outcome) → StepsTo begun core n x → Step x (Go core) outcome v → outcome ≢ Stepped
-      → x.calls.events < event_limit → IsServed w t core request outcome v ⊎ IsAwaiting w x t core request outcome v
+      → x.calls.events < event_limit
+      → ((k : IsServed w t core request outcome v) × KeepsOthers (recorded w.slots) core request k.reply) ⊎ IsAwaiting w x t core request outcome v
 
 -- in each state that a machine reaches, with any number of cores
 abbrev pub AllLoneCallsAreAnswered : Type 0
