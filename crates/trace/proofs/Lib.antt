@@ -4,4 +4,5 @@ pub mod TurnLemmas
 pub mod EventRunLemmas
 pub mod EventLines
 pub mod Limits
+pub mod PlainCalls
 pub mod PlainTextLemmas
