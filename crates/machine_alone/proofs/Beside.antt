@@ -1,5 +1,5 @@
 -- What happens beside a call that waits, or where no core has a call
-use Rattle.std.proofs.Common.{◌≡◌, ℕ, ◌<◌, ◌==◌, ◌⊎◌, Bool, true, false, cond, inl, inr, refl, sym, ap, subst, arith, None, Some, Option, List, [], ◌∷◌, ◌∙◌}
+use Rattle.std.proofs.Common.{◌≡◌, ℕ, ◌<◌, ◌≤◌, ◌==◌, ◌⊎◌, Bool, true, false, cond, inl, inr, refl, sym, ap, subst, arith, None, Some, Option, List, [], ◌∷◌, ◌∙◌}
 use Rattle.std.specs.Prelude.{if◌then◌else◌, is_some, nat_lt, pred}
 use Rattle.std.proofs.lemmas.Bool.Decides.{nat_tests}
 use Rattle.vm_base.specs.declared.info.PageInfo.{PageInfo}
@@ -35,17 +35,24 @@ use Rattle.machine_model.specs.World.{World, Hardware}
 use Rattle.machine_model.specs.Step.{Acts, Goes, is_here, with_event, event_limit, Step}
 use Rattle.machine_coherence.specs.Coherent.{AreAsked}
 use Rattle.machine_sound.proofs.Kept.{reached_fine}
+use Rattle.machine_alone.specs.Taken.{frames_taken}
+use Rattle.machine_alone.proofs.Taking.{one_given}
 use Rattle.machine_alone.specs.Alone.{ComesBeside, IsBeside, IsBesideCalls, IsResting, KeepsTakes, left_to, takes_left}
 
 -- ---- a world whose calls are those of another
+
+-- no more
+least : (n : ℕ) → n ≤ n
+least n = omega arith
 
 -- as after the event was counted
 abbrev Beside : World → World → Type 0
 Beside w v = IsBesideCalls w v × KeepsTakes w v
 
 -- with other hardware, whose inboxes are the same, and other memory
-by_hardware : (w x v : World) → x.made ≡ w.made → x.calls ≡ (with_event w).calls → x.slots.info ≡ w.slots.info → x.hardware.inbox ≡ w.hardware.inbox → v ≡ x → Beside w v
-by_hardware w x v made calls info inbox e =
+by_hardware : (w x v : World) → x.made ≡ w.made → x.calls ≡ (with_event w).calls → x.slots.info ≡ w.slots.info → x.hardware.inbox ≡ w.hardware.inbox
+    → frames_taken x ≤ frames_taken w → v ≡ x → Beside w v
+by_hardware w x v made calls info inbox frames e =
     subst (Beside w) (sym e) (
       record {
         made = made;
@@ -54,12 +61,13 @@ by_hardware w x v made calls info inbox e =
         requests = ap (λ c. c.requests) calls;
         log = ap (λ c. c.log) calls;
         users = λ p d. ap (λ (i : ℕ → Option PageInfo). is_recorded (i p) d) info;
+        frames = frames;
       },
       λ d. ap (λ (i : ℕ → List Message). takes_left (i d)) inbox,
     )
 
 idles : (w v : World) → v ≡ with_event w → Beside w v
-idles w v e = by_hardware w (with_event w) v refl refl refl refl e
+idles w v e = by_hardware w (with_event w) v refl refl refl refl (least (frames_taken w)) e
 
 -- an event that is Stepped or Idle
 either : (w v : World) (o : Outcome) (new : World) → ((o ≡ Stepped) × (v ≡ new)) ⊎ ((o ≡ Idle) × (v ≡ with_event w)) → (v ≡ new → Beside w v)
@@ -138,7 +146,7 @@ no_left (m ∷ ms) e = absurd (go m.is_cleared e)
 stepped : (w v : World) (core : ℕ) (r : IsResting w core) (c : ℕ) (o : Outcome) (h : Hardware) → h.inbox ≡ w.hardware.inbox → 0 < left_to w c
     → Becomes (with_hardware (with_inbox h c (remaining (w.hardware.inbox c))) (with_event w)) o v → IsBesideCalls w v × ComesBeside w (Take c) o v
 stepped w v core r c o h inbox some k = (
-  subst (IsBesideCalls w) (sym k.1) (record { made = refl; phases = refl; numbers = refl; requests = refl; log = refl; users = λ p d. refl }),
+  subst (IsBesideCalls w) (sym k.1) (record { made = refl; phases = refl; numbers = refl; requests = refl; log = refl; users = λ p d. refl; frames = least (frames_taken w) }),
   inl (k.0, some, λ d. ap (λ (v : World). left_to v d) k.1 ∙ left d),
 )
   where
@@ -160,16 +168,16 @@ taken w v core r c o (TookOf.Invalidate range) e h = stepped w v core r c o (tlb
 flushed : (w v : World) (o : Outcome) (report : FlushReport) (counts : Counts) → ReportsFlush (with_event w) report counts o v
     → IsBesideCalls w v × (((o ≡ Stepped) ⊎ (o ≡ Idle)) × KeepsTakes w v)
 flushed w v o FlushOf.Idle counts h = either w v o (with_event w) (inr h) (idles w v)
-flushed w v o (FlushOf.Evicted f) counts h = either w v o _ (inl h) (λ e. by_hardware w _ v refl refl refl refl e)
-flushed w v o FlushOf.Flushed counts h = either w v o _ (inl h) (λ e. by_hardware w _ v refl refl refl refl e)
-flushed w v o FlushOf.EpochEnded counts h = either w v o _ (inl h) (λ e. by_hardware w _ v refl refl refl refl e)
+flushed w v o (FlushOf.Evicted f) counts h = either w v o _ (inl h) (λ e. by_hardware w _ v refl refl refl refl (least (frames_taken w)) e)
+flushed w v o FlushOf.Flushed counts h = either w v o _ (inl h) (λ e. by_hardware w _ v refl refl refl refl (least (frames_taken w)) e)
+flushed w v o FlushOf.EpochEnded counts h = either w v o _ (inl h) (λ e. by_hardware w _ v refl refl refl refl (least (frames_taken w)) e)
 
 reviewed : (w v : World) (o : Outcome) (report : ReviewReport) (counts : Counts) → ReportsReview (with_event w) report counts o v
     → IsBesideCalls w v × (((o ≡ Stepped) ⊎ (o ≡ Idle)) × KeepsTakes w v)
 reviewed w v o ReviewOf.Idle counts h = let k = idles w v h.1 in (k.0, (inr h.0, k.1))
-reviewed w v o (ReviewOf.Dropped f) counts h = either w v o _ (inl h) (λ e. by_hardware w _ v refl refl refl refl e)
-reviewed w v o (ReviewOf.Requeued f) counts h = either w v o _ (inl h) (λ e. by_hardware w _ v refl refl refl refl e)
-reviewed w v o (ReviewOf.Freed f) counts h = either w v o _ (inl h) (λ e. by_hardware w _ v refl refl refl refl e)
+reviewed w v o (ReviewOf.Dropped f) counts h = either w v o _ (inl h) (λ e. by_hardware w _ v refl refl refl refl (least (frames_taken w)) e)
+reviewed w v o (ReviewOf.Requeued f) counts h = either w v o _ (inl h) (λ e. by_hardware w _ v refl refl refl refl (least (frames_taken w)) e)
+reviewed w v o (ReviewOf.Freed f) counts h = either w v o _ (inl h) (λ e. by_hardware w _ v refl refl refl refl (one_given w.memory.is_free f w.made.frames) e)
 
 acted : (w v : World) (core : ℕ) (e : Event) (o : Outcome) → IsResting w core → IsBeside w e → Acts (with_event w) e o v → IsBesideCalls w v × ComesBeside w e o v
 acted w v core (Call c request) o r b h = absurd b
@@ -184,15 +192,15 @@ acted w v core (GiveUp c) o r b h =
     (λ z. let k = idles w v z.1 in (k.0, (z.0, k.1))) (λ change held z. let k = idles w v z.1 in (k.0, (z.0, k.1))) h
 acted w v core (Take c) o r b h = taken w v core r c o (asked (w.hardware.inbox c)) refl h
 acted w v core (Walk c p) o r b h =
-    either w v o (with_hardware (after_walk w.hardware c p) (with_event w)) (by_cond (can_walk w.hardware c p) _ _ h) (λ e. by_hardware w _ v refl refl refl refl e)
+    either w v o (with_hardware (after_walk w.hardware c p) (with_event w)) (by_cond (can_walk w.hardware c p) _ _ h) (λ e. by_hardware w _ v refl refl refl refl (least (frames_taken w)) e)
 acted w v core (Evict c p) o r b h =
     either w v o (with_hardware (after_eviction w.hardware c p) (with_event w)) (by_cond (is_some (tlb_at (w.hardware.tlb c) p)) _ _ h)
-    (λ e. by_hardware w _ v refl refl refl refl e)
+    (λ e. by_hardware w _ v refl refl refl refl (least (frames_taken w)) e)
 acted w v core (Flush c) o r b h = flushed w v o h.0 h.1.0 h.1.2
 acted w v core (Review c) o r b h = reviewed w v o h.0 h.1.0 h.1.2
 acted w v core (Fold p) o r b (inl h) = let k = idles w v h.1 in (k.0, (inr h.0, k.1))
 acted w v core (Fold p) o r b (inr h) =
-    let k = by_hardware w (record (with_event w) { slots = h.1.0 }) v refl refl h.1.1.info refl h.1.3.1 in (k.0, (inl h.1.3.0, k.1))
+    let k = by_hardware w (record (with_event w) { slots = h.1.0 }) v refl refl h.1.1.info refl (least (frames_taken w)) h.1.3.1 in (k.0, (inl h.1.3.0, k.1))
 
 absent : (w v : World) (e : Event) (o : Outcome) → IsBeside w e → is_here w.made (core_of e) ≡ false → Idles (with_event w) o v
     → IsBesideCalls w v × ComesBeside w e o v

@@ -94,6 +94,7 @@ at_last w t c request k = record {
   sure = subst (IsSure w.memory.is_free w.memory.is_free (reach_of w.hardware c)) (sym k.at_acks) refl;
   made = refl;
   used = subst (Used (recorded w.slots) (recorded w.slots) (reach_of w.hardware c) c request) (sym k.at_acks) (λ p d. refl);
+  taken = inl refl;
 }
 
 -- no step was made, or nobody was awaited and the reply stands

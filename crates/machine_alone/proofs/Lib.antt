@@ -4,6 +4,7 @@ mod Rows
 pub mod Telling
 pub mod Using
 pub mod Used
+pub mod Taking
 pub mod Serving
 pub mod Ending
 pub mod Beside

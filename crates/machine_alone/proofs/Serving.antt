@@ -18,7 +18,7 @@ use Rattle.machine_model.specs.declared.log.Entry.{Entry}
 use Rattle.machine_model.specs.declared.log.Entry.TheVariants as EntryOf
 use Rattle.machine_model.specs.declared.phase.Phase.{Phase}
 use Rattle.machine_model.specs.declared.phase.Phase.TheVariants.{Free, Check, Lock, Decide, Post, Acks, Unlock, Answer, Try, Settle, Want, Fill, Install, Release}
-use Rattle.machine_model.specs.World.{World}
+use Rattle.machine_model.specs.World.{World, Made}
 use Rattle.machine_model.specs.Holding.{holds}
 use Rattle.machine_model.specs.Actions.{to}
 use Rattle.machine_model.specs.Changes.{Awaits, reply_to}
@@ -40,6 +40,8 @@ use Rattle.machine_sound.proofs.OneMap.{log_leads_to_one}
 use Rattle.machine_sound.proofs.Kept.{reached_fine, reached_step}
 use Rattle.machine_alone.specs.Alone.{IsCalm, LeadsTo, IsServed, IsServedAlone, IsAwaiting, IsWaiting}
 use Rattle.machine_alone.specs.Users.{Users, Same, recorded, users_after, without}
+use Rattle.machine_alone.specs.Taken.{frames_for, frames_taken, taken_below}
+use Rattle.machine_alone.proofs.Taking.{HasTaken, taken_most, taken_on}
 use Rattle.machine_alone.proofs.Used.{Used, IsUsed, Unwaited, used_on, unwaited_on}
 use Rattle.machine_alone.proofs.Using.{change_drops}
 use Rattle.machine_alone.proofs.Rank.{reach_of, rank_of}
@@ -63,6 +65,7 @@ pub record IsServing (w : World) (t : Plain) (c : ℕ) (request : Request) (x : 
   pub sure : IsSureOf w.memory.is_free c x
   pub made : x.made ≡ w.made
   pub used : IsUsed (recorded w.slots) c request x
+  pub taken : HasTaken w.memory.is_free x.memory.is_free request
 
 -- ---- what a step of the call does
 
@@ -152,8 +155,9 @@ closed_free (Install touch) e = absurd cc
 closed_free (Release touch) e = absurd cc
 
 serves_on : (w : World) (t : Plain) (c : ℕ) (request : Request) (x v : World) → IsServing w t c request x → Step x (Go c) Stepped v → Effect (with_event x) (Go c) Stepped v
-    → v.made ≡ x.made → IsSureOf w.memory.is_free c v → IsUsed (recorded w.slots) c request v → IsServing w t c request v
-serves_on w t c request x v h s effect made sure used_now = elim effect [
+    → v.made ≡ x.made → IsSureOf w.memory.is_free c v → IsUsed (recorded w.slots) c request v
+    → HasTaken w.memory.is_free v.memory.is_free request → IsServing w t c request v
+serves_on w t c request x v h s effect made sure used_now taken_now = elim effect [
   | keeps _ same log sts ↦
       next same (λ d ne. sts d ∙ ap status (h.others d ne))
       (subst (IsLogged w.calls.log v.calls.log (v.calls.number c) c) (sym (sts c))
@@ -195,6 +199,7 @@ serves_on w t c request x v h s effect made sure used_now = elim effect [
       sure = sure;
       made = made ∙ h.made;
       used = used_now;
+      taken = taken_now;
     }
 
 -- fewer steps are left
@@ -205,7 +210,8 @@ serves_step w t c request x v h s =
     elim (row_of w t c request x Stepped v h (reached_fine v (reached_step x v (Go c) Stepped h.reached s)) shape) [
       | nears _ g k ↦ (
         serves_on w t c request x v h s (effect_of (with_event x) (Go c) Stepped v shape) k.made k.sure
-            (used_on w.memory.is_free (recorded w.slots) c request (with_event x) v (reached_fine x h.reached) h.number h.sure h.used g),
+            (used_on w.memory.is_free (recorded w.slots) c request (with_event x) v (reached_fine x h.reached) h.number h.sure h.used g)
+            (taken_on w.memory.is_free c request (with_event x) v (reached_fine x h.reached) h.number h.sure h.taken g),
         k.less,
       )
       | returns _ _ e _ ↦ absurd cc
@@ -271,6 +277,7 @@ starts w t c request m reached leads calm s =
         sure = subst (IsSure w.memory.is_free w.memory.is_free (reach_of w.hardware c)) (sym (put_same w.calls.phase c (Check request))) refl;
         made = refl;
         used = subst (Used (recorded w.slots) (recorded w.slots) (reach_of w.hardware c) c request) (sym (put_same w.calls.phase c (Check request))) (λ p d. refl);
+        taken = inl refl;
       }),
       ap (λ (m : World). m.calls.phase c) k.1 ∙ put_same w.calls.phase c (Check request),
     )
@@ -305,6 +312,9 @@ returned w t c request x v o reply h s at answered e =
       stands = subst (λ r. Stands t c r reply after.plain) same (subst (λ t. Stands t c last.2.0 reply after.plain) from last.2.2);
       due = λ step call. sure c step call;
       users = λ p d. ap (λ (v : World). recorded v.slots p d) e ∙ subst (Used (recorded w.slots) (recorded x.slots) (reach_of x.hardware c) c request) at h.used p d;
+      frames = subst (λ (v : World). frames_taken v ≤ frames_taken w + frames_for request) (sym e)
+          (subst (λ n. taken_below x.memory.is_free n ≤ frames_taken w + frames_for request) (sym (ap (λ (m : Made). m.frames) h.made))
+          (taken_most w.memory.is_free x.memory.is_free request w.made.frames h.taken));
     }
 
 -- ---- a wait
@@ -352,6 +362,8 @@ awaited_by w t c request x o v change held set h was_told p e a k =
       there = λ d u. ap (λ m. nat_lt d m.cores) (sym h.made) ∙ less_test d x.made.cores ((f.order.pages u.0).cores d u.2);
       stays = k;
       users = subst (Used (recorded w.slots) (recorded x.slots) (reach_of x.hardware c) c request) p h.used;
+      frames = ap (λ f. taken_below f x.made.frames) (subst (IsSure w.memory.is_free x.memory.is_free (reach_of x.hardware c)) p h.sure)
+          ∙ ap (λ (m : Made). taken_below w.memory.is_free m.frames) h.made;
       after = left_by f.plain (PlanOf.Change change) (range_of change);
       stands = subst (λ r. Stands t c r (reply_to change) (left_by f.plain (PlanOf.Change change) (range_of change))) same
           (subst (λ t. Stands t c call.asked.request (reply_to change) (left_by f.plain (PlanOf.Change change) (range_of change))) from stands);

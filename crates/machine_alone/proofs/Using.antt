@@ -103,7 +103,7 @@ segv_keeps core request addr byte access reply = go (is_page (page_of addr))
     go false e = let same : ReplyOf.Segv SegvOf.MapErr ≡ reply = cc in subst (Keeps core request) same (λ u p c. refl)
 
 -- one plan or another
-abbrev either_plan : Bool → Plan → Plan → Result Plan Reply
+abbrev pub either_plan : Bool → Plan → Plan → Result Plan Reply
 either_plan b x y = if b then Ok x else Ok y
 
 plan_keeps : (core : ℕ) (request : Request) (reply : Reply) → plan_of core request ≡ Err reply → Keeps core request reply
@@ -152,7 +152,7 @@ fixed_aligned modes addr len prot flags file off is h =
     both true false e n = absurd cc
     both false y e n = absurd cc
 
-no_change : (core : ℕ) (request : Request) (addr byte : ℕ) (access : Access) (change : Change) → touched addr access byte ≡ Ok (PlanOf.Change change) → ⊥
+pub no_change : (core : ℕ) (request : Request) (addr byte : ℕ) (access : Access) (change : Change) → touched addr access byte ≡ Ok (PlanOf.Change change) → ⊥
 no_change core request addr byte access change = go (is_page (page_of addr))
   where
     go : (b : Bool) → (if b then Ok (PlanOf.Touch (touch_of addr access byte)) else Err (ReplyOf.Segv SegvOf.MapErr)) ≡ Ok (PlanOf.Change change) → ⊥

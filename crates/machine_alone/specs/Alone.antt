@@ -1,5 +1,5 @@
 -- A call beside which no other call runs
-use Rattle.std.specs.Prelude.{◌≡◌, ◌≢◌, ℕ, ◌<◌, ◌^◌, ◌⊎◌, ◌↔◌, if◌then◌else◌, nat_lt, pred, true, false, List, [], ◌∷◌, Some}
+use Rattle.std.specs.Prelude.{◌≡◌, ◌≢◌, ℕ, ◌+◌, ◌<◌, ◌≤◌, ◌^◌, ◌⊎◌, ◌↔◌, if◌then◌else◌, nat_lt, pred, true, false, List, [], ◌∷◌, Some}
 use Rattle.vm_base.specs.declared.page.PageRange.{PageRange}
 use Rattle.vm_base.specs.declared.replies.Reply.{Reply}
 use Rattle.vm_base.specs.declared.requests.Request.{Request}
@@ -11,6 +11,7 @@ use Rattle.slot_lock.specs.Slots.{IsUser}
 use Rattle.shootdown.specs.declared.message.Message.{Message}
 use Rattle.machine_laws.specs.Brackets.{nth}
 use Rattle.machine_model.specs.Changes.{reply_to}
+use Rattle.machine_alone.specs.Taken.{frames_for, frames_taken}
 use Rattle.machine_alone.specs.Users.{Users, Same, recorded, users_after, without}
 use Rattle.vm_base.specs.Plain.{Plain, nothing_mapped}
 use Rattle.machine_model.specs.declared.event.Blocker.TheVariants as WaitsFor
@@ -50,7 +51,8 @@ pub record IsWaiting (w : World) (t : Plain) (core : ℕ) (request : Request) : 
   pub number : nth w.calls.requests (w.calls.number core) ≡ Some request
 
 -- A call of w comes to this outcome and leaves v: its reply, and the plain page map to which the log then leads, are what the map t
--- gives for its request, and the users of each page are those that its reply leaves. "No frame" is the reply only if none was free in w, and
+-- gives for its request, and the users of each page are those that its reply leaves. An access takes
+-- one frame at the most, and no other request one. "No frame" is the reply only if none was free in w, and
 -- "no memory" never.
 pub record IsServed (w : World) (t : Plain) (core : ℕ) (request : Request) (outcome : Outcome) (v : World) : Type 0 where
   pub reply : Reply
@@ -62,6 +64,7 @@ pub record IsServed (w : World) (t : Plain) (core : ℕ) (request : Request) (ou
   pub stands : Stands t core request reply after
   pub due : (step call : ℕ) → IsDue (Go core) w.memory.is_free (Answer step call core reply)
   pub users : Same (recorded v.slots) (users_after core request reply (recorded w.slots))
+  pub frames : frames_taken v ≤ frames_taken w + frames_for request
 
 -- the reply drops no user of a page but the core itself
 abbrev pub KeepsOthers : Users → ℕ → Request → Reply → Type 0
@@ -80,6 +83,7 @@ pub record IsAwaiting (w x : World) (t : Plain) (core : ℕ) (request : Request)
   pub there : (d : ℕ) → IsUser x.slots (range_of waiting.change) d → nat_lt d w.made.cores ≡ true
   pub stays : v ≡ with_event x
   pub users : Same (recorded x.slots) (recorded w.slots)
+  pub frames : frames_taken x ≡ frames_taken w
   pub after : Plain
   pub stands : Stands t core request (reply_to waiting.change) after
   pub drops : (u : Users) → Same (users_after core request (reply_to waiting.change) u) (without (range_of waiting.change) u)
@@ -131,7 +135,7 @@ IsBeside w (Call c request) = ⊥
 IsBeside w (Go c) = w.calls.phase c ≡ Free
 IsBeside w e = Unit {0}
 
--- only events are counted of the calls, and each page has the users that it had
+-- only events are counted of the calls, each page has the users that it had, and no frame is taken
 pub record IsBesideCalls (w v : World) : Type 0 where
   pub made : v.made ≡ w.made
   pub phases : v.calls.phase ≡ w.calls.phase
@@ -139,6 +143,7 @@ pub record IsBesideCalls (w v : World) : Type 0 where
   pub requests : v.calls.requests ≡ w.calls.requests
   pub log : v.calls.log ≡ w.calls.log
   pub users : Same (recorded v.slots) (recorded w.slots)
+  pub frames : frames_taken v ≤ frames_taken w
 
 -- how many takes each core still has before it
 abbrev pub left_to : World → ℕ → ℕ

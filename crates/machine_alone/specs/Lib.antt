@@ -1,2 +1,3 @@
 pub mod Users
+pub mod Taken
 pub mod Alone

@@ -3,6 +3,7 @@ use Rattle.std.proofs.Common.{◌≡◌, ◌≢◌, ℕ, zero, suc, ◌+◌, ◌
 use Rattle.std.proofs.Math.Path.{fun_ext}
 use Rattle.std.specs.Prelude.{nat_lt, pred, if◌then◌else◌}
 use Rattle.vm_base.specs.declared.replies.Reply.{Reply}
+use Rattle.vm_base.specs.declared.replies.Reply.TheVariants.{NoFrame}
 use Rattle.vm_base.specs.declared.requests.Request.{Request}
 use Rattle.vm_base.specs.Cores.{members}
 use Rattle.vm_base.specs.Functions.{has, put}
@@ -21,10 +22,13 @@ use Rattle.machine_model.specs.Holding.{awaits_in}
 use Rattle.machine_model.specs.World.{World, Made}
 use Rattle.machine_model.specs.Step.{Goes, Acts, with_event, event_limit, Step, StepsTo}
 use Rattle.machine_laws.specs.Brackets.{nth}
-use Rattle.machine_sound.specs.Log.{Replays}
+use Rattle.machine_model.specs.Accesses.{NoneFree}
+use Rattle.machine_sound.specs.Log.{Replays, Stands}
 use Rattle.machine_sound.specs.Sound.{IsDue, IsReached}
 use Rattle.machine_sound.proofs.Kept.{reached_fine, reached_step}
 use Rattle.machine_alone.specs.Alone.{ComesBeside, IsAwaiting, IsBeside, IsBesideCalls, IsCalm, IsResting, IsServed, IsServedAlone, IsServedAtLast, IsWaiting, KeepsOthers, KeepsTakes, LeadsTo, left_to, takes_left}
+use Rattle.machine_alone.specs.Taken.{frames_for, frames_taken, is_access}
+use Rattle.machine_alone.proofs.Taking.{all_taken, no_frame_access, waits_for_change}
 use Rattle.machine_alone.specs.Users.{Users, Same, recorded, users_after}
 use Rattle.machine_alone.proofs.Beside.{rests_beside}
 use Rattle.machine_alone.proofs.Ending.{served_at_last}
@@ -54,6 +58,8 @@ pub record Meets (w : World) (s : Reached) : Type 0 where
   pub calls : s.calls ≡ w.made.calls
   pub begun : s.begun ≡ length w.calls.requests
   pub log : LeadsTo w s.plain
+  pub frames : s.frames ≡ w.made.frames
+  pub taken : frames_taken w ≤ s.accesses
   pub users : recorded w.slots ≡ s.users
   pub waiting : MeetsOpen w s s.waiting
 
@@ -62,6 +68,9 @@ pub record IsNext (v : World) (Answers : Reached → Type 0) : Type 0 where
   pub next : Reached
   pub answers : Answers next
   pub meets : Meets v next
+
+least : (n : ℕ) → n ≤ n
+least n = omega arith
 
 users_same : (a b : Users) → Same a b → a ≡ b
 users_same a b h = fun_ext (λ p. fun_ext (λ c. h p c))
@@ -104,6 +113,8 @@ meets_with w v s o m r b k = record {
   calls = m.calls ∙ ap (λ (d : Made). d.calls) (sym b.made);
   begun = m.begun ∙ ap length (sym b.requests);
   log = leads_on w v s.plain b m.log;
+  frames = m.frames ∙ ap (λ (d : Made). d.frames) (sym b.made);
+  taken = let a = b.frames in let c = m.taken in omega (arith, a, c);
   users = users_same (recorded v.slots) (recorded w.slots) b.users ∙ m.users;
   waiting = k;
 }
@@ -121,7 +132,7 @@ meets_beside w v s m r b k = meets_with w v s s.waiting m r b (go s.waiting m.wa
 
 pub meets_event : (w : World) (s : Reached) → Meets w s → IsReached (with_event w) → Meets (with_event w) s
 meets_event w s m r =
-    meets_beside w (with_event w) s m r (record { made = refl; phases = refl; numbers = refl; requests = refl; log = refl; users = λ p d. refl }) (λ d. refl)
+    meets_beside w (with_event w) s m r (record { made = refl; phases = refl; numbers = refl; requests = refl; log = refl; users = λ p d. refl; frames = least (frames_taken w) }) (λ d. refl)
 
 -- ---- takes
 
@@ -193,9 +204,10 @@ no_give_up core e = absurd cc
 
 -- what a served call leaves; b is what was begun before
 served : (w v : World) (s : Reached) (core : ℕ) (request : Request) (o : Outcome) (text : List ℕ) → s.cores ≡ w.made.cores → s.calls ≡ w.made.calls
-    → recorded w.slots ≡ s.users → v.made ≡ w.made → s.begun ≡ length v.calls.requests → (k : IsServed w s.plain core request o v) → text ≡ outcome_text o
+    → recorded w.slots ≡ s.users → v.made ≡ w.made → s.begun ≡ length v.calls.requests → s.frames ≡ w.made.frames → frames_taken v ≤ s.accesses
+    → (k : IsServed w s.plain core request o v) → (k.reply ≡ NoFrame → s.frames < s.accesses) → text ≡ outcome_text o
     → IsNext v (λ r. IsAnswered s core request k.reply r text)
-served w v s core request o text cores calls users made begun k t =
+served w v s core request o text cores calls users made begun frames most k framed t =
     let due = k.due 0 0 in
     record {
       next = record s { plain = k.after; users = users_after core request k.reply s.users; waiting = None };
@@ -203,6 +215,7 @@ served w v s core request o text cores calls users made begun k t =
         after = k.after;
         stands = k.stands;
         given = λ e. no_give_up core (subst (λ r. IsDue (Ev.Go core) w.memory.is_free (Answer 0 0 core r)) e due);
+        framed = framed;
         next = refl;
         tells = t ∙ ap outcome_text k.answered;
       };
@@ -212,6 +225,8 @@ served w v s core request o text cores calls users made begun k t =
         calls = calls ∙ ap (λ (d : Made). d.calls) (sym made);
         begun = begun;
         log = k.leads;
+        frames = frames ∙ ap (λ (d : Made). d.frames) (sym made);
+        taken = most;
         users = users_same (recorded v.slots) (users_after core request k.reply (recorded w.slots)) k.users ∙ ap (users_after core request k.reply) users;
         waiting = k.calm;
       };
@@ -225,9 +240,10 @@ none_dropped s core request reply k d h = let a = k d h.1.0 h.0 h.1.1 in let b =
 
 -- of a call that waits: whom it waits for
 held_up : (w x v : World) (s : Reached) (core : ℕ) (request : Request) (o : Outcome) (text : List ℕ) → s.cores ≡ w.made.cores → s.calls ≡ w.made.calls
-    → recorded w.slots ≡ s.users → x.made ≡ w.made → s.begun ≡ length x.calls.requests → IsReached v → IsAwaiting w x s.plain core request o v
+    → recorded w.slots ≡ s.users → x.made ≡ w.made → s.begun ≡ length x.calls.requests → s.frames ≡ w.made.frames → frames_taken w ≤ s.accesses
+    → IsReached v → IsAwaiting w x s.plain core request o v
     → text ≡ outcome_text o → IsNext v (λ r. IsHeldUp s core request r text)
-held_up w x v s core request o text cores calls users made begun reached a t =
+held_up w x v s core request o text cores calls users made begun frames most reached a t =
     record {
       next = record s { waiting = Some call };
       answers = record {
@@ -246,10 +262,12 @@ held_up w x v s core request o text cores calls users made begun reached a t =
         calls = calls ∙ ap (λ (d : Made). d.calls) (sym made);
         begun = begun;
         log = a.waiting.leads;
+        frames = frames ∙ ap (λ (d : Made). d.frames) (sym made);
+        taken = let b = a.frames in omega (arith, b, most);
         users = now;
         waiting = record {
           waiting = still_waiting x (with_event x) s.plain core request a.waiting (subst IsReached a.stays reached)
-              (record { made = refl; phases = refl; numbers = refl; requests = refl; log = refl; users = λ p d. refl });
+              (record { made = refl; phases = refl; numbers = refl; requests = refl; log = refl; users = λ p d. refl; frames = least (frames_taken x) });
           takes = a.takes;
           there = λ d l. ap (λ (m : Made). nat_lt d m.cores) made ∙ a.there d ((a.exact d).0 (member d l)).1;
         };
@@ -294,7 +312,7 @@ held_up w x v s core request o text cores calls users made begun reached a t =
 pub call_ends : (w begun : World) (core n : ℕ) (request : Request) (f : Finished) (v : World) (s : Reached) (text : List ℕ) → Meets w s → IsCalm w
     → Step w (Ev.Call core request) Stepped begun → begun.made ≡ w.made → begun.calls.requests ≡ w.calls.requests ++ request ∷ []
     → v.calls.events < event_limit → EndsIn begun core n f v → text ≡ finished_text f
-    → IsNext v (λ r. AnswersAtOnce (one_more s) core request r text ⊎ IsHeldUp (one_more s) core request r text)
+    → IsNext v (λ r. AnswersAtOnce (one_more s request) core request r text ⊎ IsHeldUp (one_more s request) core request r text)
 call_ends w begun core n request (Last o) v s text m calm call made asked below h t =
     let x = h.2.0 in
     let k = steps_kept n core begun x h.2.1 in
@@ -302,19 +320,33 @@ call_ends w begun core n request (Last o) v s text m calm call made asked below 
     let alone : IsServedAlone w s.plain core request begun = served_alone w begun s.plain core request m.reached m.log calm call in
     elim (alone.ends n x v o h.2.1 h.2.2 h.1 (omega (arith, up, below))) [
       | inl d ↦
-          let z = served w v (one_more s) core request o text m.cores m.calls m.users (step_made x (Ev.Go core) o v h.2.2 ∙ (k.0 ∙ made))
-          (counted v.calls.requests (go_requests x core o v h.2.2 ∙ (k.1 ∙ asked))) d.0 t in
+          let most = d.0.frames in
+          let before = m.taken in
+          let z = served w v (one_more s request) core request o text m.cores m.calls m.users (step_made x (Ev.Go core) o v h.2.2 ∙ (k.0 ∙ made))
+          (counted v.calls.requests (go_requests x core o v h.2.2 ∙ (k.1 ∙ asked))) m.frames (omega (arith, most, before)) d.0 (λ e. framed o d.0 e) t in
           record {
             next = z.next;
-            answers = inl (d.0.reply, z.answers, none_dropped (one_more s) core request d.0.reply (subst (λ u. KeepsOthers u core request d.0.reply) m.users d.1));
+            answers = inl (d.0.reply, z.answers, none_dropped (one_more s request) core request d.0.reply (subst (λ u. KeepsOthers u core request d.0.reply) m.users d.1));
             meets = z.meets;
           }
       | inr a ↦
-          let z = held_up w x v (one_more s) core request o text m.cores m.calls m.users (k.0 ∙ made) (counted x.calls.requests (k.1 ∙ asked))
-          (reached_step x v (Ev.Go core) o a.waiting.reached h.2.2) a t in
+          let before = m.taken in
+          let z = held_up w x v (one_more s request) core request o text m.cores m.calls m.users (k.0 ∙ made) (counted x.calls.requests (k.1 ∙ asked))
+          m.frames (omega (arith, before)) (reached_step x v (Ev.Go core) o a.waiting.reached h.2.2) a t in
           record { next = z.next; answers = inr z.answers; meets = z.meets }
     ]
   where
+    -- no frame was free, so as many accesses came before as there are frames
+    framed : (o : Outcome) (d : IsServed w s.plain core request o v) → d.reply ≡ NoFrame → s.frames < s.accesses + (if is_access request then 1 else 0)
+    framed o d e =
+        let none : NoneFree w.memory.is_free = subst (λ r. IsDue (Ev.Go core) w.memory.is_free (Answer 0 0 core r)) e (d.due 0 0) in
+        let all : frames_taken w ≡ w.made.frames = all_taken w.memory.is_free w.made.frames none in
+        let access : is_access request ≡ true = no_frame_access s.plain d.after core request (subst (λ r. Stands s.plain core request r d.after) e d.stands) in
+        let one : frames_for request ≡ 1 = ap (λ (b : Bool). if b then 1 else 0) access in
+        let frames = m.frames in
+        let before = m.taken in
+        omega (arith, all, one, frames, before)
+
     counted : (rs : List Request) → rs ≡ w.calls.requests ++ request ∷ [] → suc s.begun ≡ length rs
     counted rs e =
         let count : length (w.calls.requests ++ request ∷ []) ≡ length w.calls.requests + 1 = length-append w.calls.requests (request ∷ []) in
@@ -338,8 +370,13 @@ open_ends w n (Last outcome) v s o text m z below h t =
     let last : IsServedAtLast w s.plain o.core o.request = served_at_last w s.plain o.core o.request z.waiting in
     elim (last.ends n x v outcome h.2.1 h.2.2 h.1 (omega (arith, up, below))) [
       | inl d ↦
+          let change : is_access o.request ≡ false = waits_for_change w s.plain o.core o.request z.waiting in
+          let none : frames_for o.request ≡ 0 = ap (λ (b : Bool). if b then 1 else 0) change in
+          let most = d.0.frames in
+          let before = m.taken in
           let y = served w v s o.core o.request outcome text m.cores m.calls m.users (step_made x (Ev.Go o.core) outcome v h.2.2 ∙ k.0)
-          (m.begun ∙ ap length (sym (go_requests x o.core outcome v h.2.2 ∙ k.1))) d.0 t in
+          (m.begun ∙ ap length (sym (go_requests x o.core outcome v h.2.2 ∙ k.1))) m.frames (omega (arith, most, before, none)) d.0
+          (λ e. absurd (let access = no_frame_access s.plain d.0.after o.core o.request (subst (λ r. Stands s.plain o.core o.request r d.0.after) e d.0.stands) in cc)) t in
           record { next = y.next; answers = inl (d.0.reply, y.answers, λ e. sym (z.takes e) ∙ d.1 e); meets = y.meets }
       | inr a ↦ record {
         next = s;

@@ -17,6 +17,7 @@ use Rattle.machine_model.specs.World.{World, new_world}
 use Rattle.machine_model.specs.Step.{after_call, Begins as BeginsBy, Acts, with_event, event_limit, Step}
 use Rattle.machine_sound.specs.Sound.{IsReached}
 use Rattle.machine_sound.proofs.Kept.{reached_opening, reached_step}
+use Rattle.machine_alone.proofs.Taking.{none_taken}
 use Rattle.machine_alone.specs.Alone.{IsBesideCalls, IsCalm, left_to}
 use Rattle.core_steps.specs.declared.machine.Finished.{Finished}
 use Rattle.core_steps.specs.declared.machine.Finished.TheVariants.{Last, Stuck}
@@ -161,7 +162,7 @@ by_name a b c d x e f h = ap (λ n. nat_lt n c) e ∙ ap (nat_lt b) f ∙ h
 
 -- what the line gives where the core is there, and a call may begin
 abbrev CallGives : Reached → ℕ → Request → Reached → List ℕ → Type 0
-CallGives s core request r text = AnswersAtOnce (one_more s) core request r text ⊎ IsHeldUp (one_more s) core request r text
+CallGives s core request r text = AnswersAtOnce (one_more s request) core request r text ⊎ IsHeldUp (one_more s request) core request r text
 
 by_tests : (w : World) (s : Reached) (core : ℕ) (request : Request) (r : Reached) (text : List ℕ) (x y : Bool) → Meets w s → nat_lt core w.made.cores ≡ x
     → nat_lt (length w.calls.requests) w.made.calls ≡ y
@@ -281,16 +282,18 @@ lines_grow (l ∷ ls) old new text (mid, front, rest, short, acts, more, is) =
 
 abbrev pub ReachedAt : Stage → Reached → Type 0
 ReachedAt Start s = s ≡ nothing_reached
-ReachedAt (Declared d) s = s ≡ record nothing_reached { cores = d.cores; calls = d.calls }
+ReachedAt (Declared d) s = s ≡ record nothing_reached { cores = d.cores; frames = d.frames; calls = d.calls }
 ReachedAt (Running w) s = Meets w s
 
-meets_opening : (d : Setup) (slots : Slots) (s : Reached) → IsNew slots → s ≡ record nothing_reached { cores = d.cores; calls = d.calls } → Meets (new_world (made_of d) slots) s
+meets_opening : (d : Setup) (slots : Slots) (s : Reached) → IsNew slots → s ≡ record nothing_reached { cores = d.cores; frames = d.frames; calls = d.calls } → Meets (new_world (made_of d) slots) s
 meets_opening d slots s new e = subst (Meets (new_world (made_of d) slots)) (sym e) (record {
   reached = reached_opening (made_of d) slots (λ n. refl) new;
   cores = refl;
   calls = refl;
   begun = refl;
   log = refl;
+  frames = refl;
+  taken = let z = none_taken (λ f. nat_lt f d.frames) d.frames (λ j l. grind (arith, nat_tests)) in omega (arith, z);
   users = fun_ext (λ p. fun_ext (λ c. ap (λ o. is_recorded o c) (new.unmapped p)));
   waiting = λ c. refl;
 })
@@ -320,9 +323,9 @@ line_plain Blank old new s text f below r a = inr (record { next = s; answers = 
 line_plain (Space cores frames calls) old new s text f below r a =
     let first : s ≡ nothing_reached = subst (λ x. ReachedAt x s) a.0 r in
     inr (record {
-      next = record s { cores = cores; calls = calls };
+      next = record s { cores = cores; frames = frames; calls = calls };
       answers = (refl, a.2);
-      reached = subst (λ x. ReachedAt x (record s { cores = cores; calls = calls })) (sym a.1) (ap (λ (s : Reached). record s { cores = cores; calls = calls }) first);
+      reached = subst (λ x. ReachedAt x (record s { cores = cores; frames = frames; calls = calls })) (sym a.1) (ap (λ (s : Reached). record s { cores = cores; frames = frames; calls = calls }) first);
     })
 line_plain (Act core action) old new s text f below r (w, v, opens, gives, is) =
     let top : events_of new ≡ v.calls.events = ap events_of is in

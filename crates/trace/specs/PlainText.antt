@@ -1,7 +1,7 @@
 -- The text of a trace in which no call runs beside another, as the plain page map and the users of its pages give it
-use Rattle.std.specs.Prelude.{◌≡◌, ◌≢◌, ℕ, suc, pred, ◌<◌, ◌⊎◌, ◌↔◌, ◌==◌, nat_lt, cond, if◌then◌else◌, Bool, true, false, List, [], ◌∷◌, ◌++◌, IsSomeAnd, Option, None, Some}
+use Rattle.std.specs.Prelude.{◌≡◌, ◌≢◌, ℕ, suc, ◌+◌, pred, ◌<◌, ◌⊎◌, ◌↔◌, ◌==◌, nat_lt, cond, if◌then◌else◌, Bool, true, false, List, [], ◌∷◌, ◌++◌, IsSomeAnd, Option, None, Some}
 use Rattle.vm_base.specs.declared.replies.Reply.{Reply}
-use Rattle.vm_base.specs.declared.replies.Reply.TheVariants.{NoMemory}
+use Rattle.vm_base.specs.declared.replies.Reply.TheVariants.{NoFrame, NoMemory}
 use Rattle.vm_base.specs.declared.requests.Request.{Request}
 use Rattle.vm_base.specs.Cores.{members}
 use Rattle.vm_base.specs.Functions.{put}
@@ -11,6 +11,7 @@ use Rattle.machine_model.specs.declared.event.Outcome.TheVariants.{Stepped, Wait
 use Rattle.machine_model.specs.World.{World}
 use Rattle.machine_model.specs.Step.{event_limit}
 use Rattle.machine_sound.specs.Log.{Stands}
+use Rattle.machine_alone.specs.Taken.{is_access}
 use Rattle.machine_alone.specs.Users.{Users, users_after}
 use Rattle.trace_text.specs.Line.{line_of}
 use Rattle.trace_text.specs.declared.action.Action.{Action}
@@ -27,28 +28,31 @@ pub record Open : Type 0 where
   pub request : Request
   pub takes : ℕ → ℕ
 
--- How far a trace has come: the cores and the calls that its vm line allows, the calls begun, the plain page map, the users of its pages,
--- and the call that waits, if there is one.
+-- How far a trace has come: the cores, the frames and the calls that its vm line allows, the calls begun, how many of them are loads, stores
+-- and fetches, the plain page map, the users of its pages, and the call that waits, if there is one.
 pub record Reached : Type 0 where
   pub cores : ℕ
+  pub frames : ℕ
   pub calls : ℕ
   pub begun : ℕ
+  pub accesses : ℕ
   pub plain : Plain
   pub users : Users
   pub waiting : Option Open
 
 -- before the first line
 abbrev pub nothing_reached : Reached
-nothing_reached = record { cores = 0; calls = 0; begun = 0; plain = nothing_mapped (λ n. None); users = λ p c. false; waiting = None }
+nothing_reached = record { cores = 0; frames = 0; calls = 0; begun = 0; accesses = 0; plain = nothing_mapped (λ n. None); users = λ p c. false; waiting = None }
 
 -- ---- a call
 
--- The request has this reply, and the plain map and the users go on. (The reply is that map's; where no frame is left, "no frame" may answer an
--- access that the map would serve, and changes nothing.)
+-- The request has this reply, and the plain map and the users go on. (The reply is that map's; where more accesses were made than there are
+-- frames, "no frame" may answer one that the map would serve, and changes nothing.)
 pub record IsAnswered (s : Reached) (core : ℕ) (request : Request) (reply : Reply) (r : Reached) (text : List ℕ) : Type 0 where
   pub after : Plain
   pub stands : Stands s.plain core request reply after
   pub given : reply ≢ NoMemory
+  pub framed : reply ≡ NoFrame → s.frames < s.accesses
   pub next : r ≡ record s { plain = after; users = users_after core request reply s.users; waiting = None }
   pub tells : text ≡ outcome_text (Answered reply)
 
@@ -73,14 +77,14 @@ pub record IsHeldUp (s : Reached) (core : ℕ) (request : Request) (r : Reached)
   pub tells : text ≡ outcome_text (Wait (Acks set))
 
 -- one call more has begun
-abbrev pub one_more : Reached → Reached
-one_more s = record s { begun = suc s.begun }
+abbrev pub one_more : Reached → Request → Reached
+one_more s request = record s { begun = suc s.begun; accesses = s.accesses + (if is_access request then 1 else 0) }
 
 -- a core that the space lacks begins no call, and past the limit of calls none begins
 abbrev pub NowAnswers : Reached → ℕ → Request → Reached → List ℕ → Type 0
 NowAnswers s core request r text =
     cond (nat_lt core s.cores)
-    (cond (nat_lt s.begun s.calls) (AnswersAtOnce (one_more s) core request r text ⊎ IsHeldUp (one_more s) core request r text)
+    (cond (nat_lt s.begun s.calls) (AnswersAtOnce (one_more s request) core request r text ⊎ IsHeldUp (one_more s request) core request r text)
     ((r ≡ s) × (text ≡ outcome_text Full)))
     ((r ≡ s) × (text ≡ outcome_text Idle))
 
@@ -137,7 +141,7 @@ ActAnswers s core (By.Evict page) r text = MayStep s r text
 -- what a line gives, and how far the trace has come then
 abbrev pub LineAnswers : Reached → Line → Reached → List ℕ → Type 0
 LineAnswers s Blank r text = (r ≡ s) × (text ≡ [])
-LineAnswers s (Space cores frames calls) r text = (r ≡ record s { cores = cores; calls = calls }) × (text ≡ [])
+LineAnswers s (Space cores frames calls) r text = (r ≡ record s { cores = cores; frames = frames; calls = calls }) × (text ≡ [])
 LineAnswers s (Finish core) r text = FinishAnswers s s.waiting core r text
 LineAnswers s (Now core request) r text = NowAnswers s core request r text
 LineAnswers s (Act core action) r text = ActAnswers s core action r text
