@@ -8,3 +8,4 @@ pub mod Taking
 pub mod Serving
 pub mod Ending
 pub mod Beside
+pub mod Apart

@@ -1,6 +1,7 @@
 //! What a call of the abstract machine comes to beside which no other call runs.
 #![tactic(auto)]
 
+ghost use Rattle.machine_alone.specs.Apart.{AllCallsKeepApart};
 ghost use Rattle.machine_alone.specs.Alone.{AllLoneCallsAreAnswered, AllStepsBesideRest, AllWaitingCallsAreAnswered};
 
 /// A call that begins in a reached state where no core has a call, and beside which no other call runs, takes fewer than 2^40
@@ -22,4 +23,9 @@ pub fn waiting_calls_are_answered()
 /// nor the users of a page, no frame is asked for, and no call can be given up. Of the cores just those that are awaited take.
 pub fn steps_beside_rest()
     ensures { AllStepsBesideRest }
+{}
+
+/// No page is held by two calls, and no call waits for a slot of another whose pages are disjoint from its own.
+pub fn calls_keep_apart()
+    ensures { AllCallsKeepApart }
 {}
