@@ -66,10 +66,7 @@ fn fault<A: Allocator + Clone + Drop, B: Allocator + Clone + Drop>(
     let map = RunList::new(slots)?;
     let events = mmap_and_go(4096);
     match run(alloc, map, setup, events.as_slice()) {
-        Ok(done) => {
-            drop(done);
-            Ok(None)
-        }
+        Ok(_) => Ok(None),
         Err(fault) => Ok(Some(fault)),
     }
 }
