@@ -1,4 +1,4 @@
-//! Traces of one core and of two, whose lines take messages, walk, evict, count and fold, and the text that each gives.
+//! Traces of one core and of several, whose lines take messages, walk, evict, count and fold, and the text that each gives.
 use crate::replay::replay;
 use std::test::Fail;
 use trace_io::sink::Noted;
@@ -37,9 +37,9 @@ fn events_of_one_core(rt: HostRuntime) -> Result<(), Fail> {
     Ok(())
 }
 
-// Two cores: a call waits for the slots that another holds, and for the cores that its shootdown told.
+// Several cores: a call waits for the slots that another holds, and for the cores that its shootdown told.
 #[test]
-fn events_of_two_cores(rt: HostRuntime) -> Result<(), Fail> {
+fn events_of_several_cores(rt: HostRuntime) -> Result<(), Fail> {
     for (input, output) in [
         // Disjoint pages aren't waited for.
         (
@@ -55,6 +55,11 @@ fn events_of_two_cores(rt: HostRuntime) -> Result<(), Fail> {
         (
             b"vm 2 4\nc0! mmap 0x10000 4096 rw- pfa\nc1! load 0x10000\nc0! mprotect 0x10000 4096 rw-\nc1 take\nc1 take\nc0 finish\nc0! mprotect 0x10000 4096 rw-\n".as_slice(),
             b"0x10000\n0\nwait acks 1\nstep\nstep\ndone\ndone\n".as_slice(),
+        ),
+        // Of three cores, one walks and evicts while its translation is still asked for, and takes after the other.
+        (
+            b"vm 3 4\nc0! mmap 0x10000 4096 rw- pfa\nc0! store 0x10000 65\nc1! load 0x10000\nc2! load 0x10000\nc0 call mprotect 0x10000 4096 r--\nc0 finish\nc1 take\nc1 walk 0x10000\nc2 walk 0x10000\nc2 evict 0x10000\nc2 walk 0x10000\nc1 take\nc0 finish\nc2! store 0x10000 7\nc2 take\nc2 take\nc0 finish\nc2! store 0x10000 8\nc1! load 0x10000\n".as_slice(),
+            b"0x10000\ndone\n65\n65\nstep\nwait acks 1 2\nstep\nidle\nidle\nstep\nstep\nstep\nwait acks 2\ndone\nstep\nstep\ndone\nsegv accerr\n7\n".as_slice(),
         ),
         // Up to the acknowledgement the other core still reads what it has in its TLB, and a walk between the two takes finds nothing.
         (
