@@ -1,210 +1,86 @@
-//! The plain Rust program that the traces are measured against: the same texts in and out for one core, over a `BTreeMap`
-//! of pages. Standard library alone. Build: `rustc --edition 2021 -C opt-level=3 bench/baseline.rs`.
-use std::collections::BTreeMap;
+//! The plain Rust program that the traces are measured against: the same texts in and out, for lines of whole calls (`cC!`,
+//! `call`, `finish`), takes, walks, evictions, flushes and reviews, without files. Each core has page tables and a TLB; the
+//! slots of pages stand in a radix tree. Standard library alone.
+//! Build: `rustc --edition 2021 -C opt-level=3 bench/baseline.rs`.
+mod baseline {
+    pub mod counts;
+    pub mod cpu;
+    pub mod frames;
+    pub mod machine;
+    pub mod request;
+    pub mod slots;
+}
+
+use baseline::machine::{Machine, Outcome};
+use baseline::request::{read_line, Line};
 use std::io::{self, BufRead, BufReader, BufWriter, Write};
 use std::process::ExitCode;
 
-const PAGE_SIZE: u64 = 4096;
-const PAGE_END: u64 = 1 << 35;
-
-#[derive(Clone, Copy)]
-struct Prot {
-    read: bool,
-    write: bool,
-    exec: bool,
-}
-
-struct Page {
-    prot: Prot,
-    bytes: Option<Box<[u8; PAGE_SIZE as usize]>>,
-}
-
-enum Reply {
-    Mapped(u64),
-    Done,
-    Byte(u8),
-    Error(&'static str),
-}
-
-struct Space {
-    pages: BTreeMap<u64, Page>,
-    frames_left: u64,
-}
-
-fn number(word: &str) -> Option<u64> {
-    match word.strip_prefix("0x") {
-        Some(digits) => u64::from_str_radix(digits, 16).ok(),
-        None => word.parse().ok(),
-    }
-}
-
-fn prot(word: &str) -> Option<Prot> {
-    let mark = |byte: u8, letter: u8| match byte {
-        b if b == letter => Some(true),
-        b'-' => Some(false),
-        _ => None,
+fn write_byte(out: &mut impl Write, byte: u8) -> io::Result<()> {
+    let digits = [
+        byte / 100 + b'0',
+        byte / 10 % 10 + b'0',
+        byte % 10 + b'0',
+        b'\n',
+    ];
+    let from = if byte >= 100 {
+        0
+    } else if byte >= 10 {
+        1
+    } else {
+        2
     };
-    match word.as_bytes() {
-        [r, w, x] => Some(Prot {
-            read: mark(*r, b'r')?,
-            write: mark(*w, b'w')?,
-            exec: mark(*x, b'x')?,
-        }),
-        _ => None,
-    }
+    out.write_all(&digits[from..])
 }
 
-/// The pages of a range of bytes, if all are valid.
-fn pages(addr: u64, len: u64) -> Option<(u64, u64)> {
-    let first = addr / PAGE_SIZE;
-    let end = (addr as u128 + len as u128).div_ceil(PAGE_SIZE as u128);
-    (first >= 1 && end <= PAGE_END as u128).then_some((first, end as u64))
-}
-
-impl Space {
-    fn mmap(&mut self, addr: u64, len: u64, prot: Prot, flags: &str) -> Reply {
-        let has = |letter: char| flags.contains(letter);
-        if len == 0 || has('p') == has('s') || (has('f') && addr % PAGE_SIZE != 0) {
-            return Reply::Error("einval");
-        }
-        if !has('f') {
-            return Reply::Error("enomem");
-        }
-        let Some((first, end)) = pages(addr, len) else {
-            return Reply::Error("enomem");
-        };
-        if !has('a') {
-            return Reply::Error("ebadf");
-        }
-        for page in first..end {
-            self.pages.insert(page, Page { prot, bytes: None });
-        }
-        Reply::Mapped(addr)
-    }
-
-    fn munmap(&mut self, addr: u64, len: u64) -> Reply {
-        if len == 0 || addr % PAGE_SIZE != 0 {
-            return Reply::Error("einval");
-        }
-        let Some((first, end)) = pages(addr, len) else {
-            return Reply::Error("einval");
-        };
-        let gone: Vec<u64> = self.pages.range(first..end).map(|(page, _)| *page).collect();
-        for page in gone {
-            self.pages.remove(&page);
-        }
-        Reply::Done
-    }
-
-    fn mprotect(&mut self, addr: u64, len: u64, prot: Prot) -> Reply {
-        if addr % PAGE_SIZE != 0 {
-            return Reply::Error("einval");
-        }
-        if len == 0 {
-            return Reply::Done;
-        }
-        let Some((first, end)) = pages(addr, len) else {
-            return Reply::Error("enomem");
-        };
-        if self.pages.range(first..end).count() as u64 != end - first {
-            return Reply::Error("enomem");
-        }
-        for (_, page) in self.pages.range_mut(first..end) {
-            page.prot = prot;
-        }
-        Reply::Done
-    }
-
-    fn access(
-        &mut self,
-        addr: u64,
-        allowed: impl Fn(Prot) -> bool,
-        act: impl Fn(&mut u8) -> Reply,
-    ) -> Reply {
-        let Some(page) = self.pages.get_mut(&(addr / PAGE_SIZE)) else {
-            return Reply::Error("segv maperr");
-        };
-        if !allowed(page.prot) {
-            return Reply::Error("segv accerr");
-        }
-        if page.bytes.is_none() {
-            if self.frames_left == 0 {
-                return Reply::Error("noframe");
+fn write_outcome(out: &mut impl Write, outcome: Outcome) -> io::Result<()> {
+    match outcome {
+        Outcome::Step => out.write_all(b"step\n"),
+        Outcome::Idle => out.write_all(b"idle\n"),
+        Outcome::Full => out.write_all(b"full\n"),
+        Outcome::Done => out.write_all(b"done\n"),
+        Outcome::Byte(byte) => write_byte(out, byte),
+        Outcome::Mapped(addr) => writeln!(out, "{addr:#x}"),
+        Outcome::Refused(text) => writeln!(out, "{text}"),
+        Outcome::WaitSlot(owner) => writeln!(out, "wait slot {owner}"),
+        Outcome::WaitAcks(awaited) => {
+            out.write_all(b"wait acks")?;
+            for core in (0..64).filter(|core| awaited >> core & 1 == 1) {
+                write!(out, " {core}")?;
             }
-            self.frames_left -= 1;
+            out.write_all(b"\n")
         }
-        let bytes = page
-            .bytes
-            .get_or_insert_with(|| Box::new([0; PAGE_SIZE as usize]));
-        act(&mut bytes[(addr % PAGE_SIZE) as usize])
-    }
-
-    fn request(&mut self, words: &mut dyn Iterator<Item = &str>) -> Option<Reply> {
-        let name = words.next()?;
-        let addr = number(words.next()?)?;
-        let read = |byte: &mut u8| Reply::Byte(*byte);
-        Some(match name {
-            "mmap" => {
-                let len = number(words.next()?)?;
-                let prot = prot(words.next()?)?;
-                self.mmap(addr, len, prot, words.next()?)
-            }
-            "munmap" => self.munmap(addr, number(words.next()?)?),
-            "mprotect" => {
-                let len = number(words.next()?)?;
-                self.mprotect(addr, len, prot(words.next()?)?)
-            }
-            "load" => self.access(addr, |p| p.read || p.write || p.exec, read),
-            "fetch" => self.access(addr, |p| p.exec, read),
-            "store" => {
-                let byte = u8::try_from(number(words.next()?)?).ok()?;
-                self.access(addr, |p| p.write, |place| {
-                    *place = byte;
-                    Reply::Done
-                })
-            }
-            _ => return None,
-        })
     }
 }
 
 fn main() -> io::Result<ExitCode> {
     let mut input = BufReader::with_capacity(1 << 16, io::stdin().lock());
-    let mut out = BufWriter::new(io::stdout().lock());
-    let mut space = None;
-    let mut line = String::new();
+    let mut out = BufWriter::with_capacity(1 << 16, io::stdout().lock());
+    let mut machine = None;
+    let mut line = Vec::new();
     let mut count = 0u64;
-    while input.read_line(&mut line)? > 0 {
+    while input.read_until(b'\n', &mut line)? > 0 {
         count += 1;
-        let mut words = line.split_ascii_whitespace();
-        let reply = match (words.next(), &mut space) {
-            (None, _) => None,
-            (Some("vm"), None) => {
-                let frames = words.nth(1).and_then(number).unwrap_or(0);
-                space = Some(Space {
-                    pages: BTreeMap::new(),
-                    frames_left: frames,
-                });
-                None
+        match (read_line(line.trim_ascii_end()), &mut machine) {
+            (Some(Line::Blank), _) => {}
+            (
+                Some(Line::Space {
+                    cores: cores @ 1..=64,
+                    frames: frames @ 0..=65_536,
+                    calls,
+                }),
+                None,
+            ) => {
+                machine = Some(Machine::new(cores as usize, frames as usize, calls));
             }
-            (Some("c0!"), Some(space)) => match space.request(&mut words) {
-                Some(reply) => Some(reply),
-                None => {
-                    eprintln!("line {count}: bad line");
-                    return Ok(ExitCode::from(2));
-                }
-            },
+            (Some(Line::Core { core, action }), Some(machine)) => {
+                write_outcome(&mut out, machine.act(core, action))?;
+            }
             _ => {
+                out.flush()?;
                 eprintln!("line {count}: bad line");
                 return Ok(ExitCode::from(2));
             }
-        };
-        match reply {
-            None => {}
-            Some(Reply::Mapped(addr)) => writeln!(out, "{addr:#x}")?,
-            Some(Reply::Done) => writeln!(out, "done")?,
-            Some(Reply::Byte(byte)) => writeln!(out, "{byte}")?,
-            Some(Reply::Error(text)) => writeln!(out, "{text}")?,
         }
         line.clear();
     }

@@ -1,11 +1,10 @@
 #!/usr/bin/env bash
-# Measures a trace of a million lines against the plain Rust program of bench/baseline.rs: three runs each, alternating.
-# Both must write the same text. Usage: bench/run.sh [LINES]
+# Measures two traces of a million lines, of one core and of four, against the plain Rust program of bench/baseline.rs: three
+# runs each, alternating. Both must write the same text. Each trace gets one ratio, that of the sums. Usage: bench/run.sh [LINES]
 set -eu
 cd "$(dirname "$0")/.."
 work=$(mktemp -d)
 trap 'rm -rf "$work"' EXIT
-bench/make_trace.sh "${1:-1000000}" > "$work/trace"
 rustc --edition 2021 -C opt-level=3 -o "$work/baseline" bench/baseline.rs
 ./radixvm run < /dev/null > /dev/null 2>&1 || true # proves and builds the program first
 program=crates/radixvm/out/radixvm
@@ -14,12 +13,16 @@ millis() { # the wall time of a command on the trace, in milliseconds
     "$@" < "$work/trace" > "$work/out"
     echo $((($(date +%s%N) - start) / 1000000))
 }
-ours=0
-theirs=0
-for _ in 1 2 3; do
-    a=$(millis "$program" run); cp "$work/out" "$work/ours"
-    b=$(millis "$work/baseline"); cmp "$work/ours" "$work/out"
-    echo "radixvm $a ms, baseline $b ms"
-    ours=$((ours + a)); theirs=$((theirs + b))
-done
-awk -v a="$ours" -v b="$theirs" 'BEGIN { printf "ratio %.2f\n", a / b }'
+measure() { # a trace by its name and the script that writes it
+    local ours=0 theirs=0 a b
+    "$2" "$3" > "$work/trace"
+    for _ in 1 2 3; do
+        a=$(millis "$program" run); cp "$work/out" "$work/ours"
+        b=$(millis "$work/baseline"); cmp "$work/ours" "$work/out"
+        echo "$1: radixvm $a ms, baseline $b ms"
+        ours=$((ours + a)); theirs=$((theirs + b))
+    done
+    awk -v name="$1" -v a="$ours" -v b="$theirs" 'BEGIN { printf "%s: ratio %.2f\n", name, a / b }'
+}
+measure "one core" bench/make_trace.sh "${1:-1000000}"
+measure "four cores" bench/make_trace_four.sh "${1:-1000000}"

@@ -1,55 +1,51 @@
 -- A call that begins
-use Rattle.std.proofs.Common.{◌≡◌, ℕ, suc, ◌<◌, Bool, true, false, not, nat_lt, cond, List, [], ◌∷◌, ◌++◌, length, refl, ap, ◌∙◌, length-append, arith}
+use Rattle.std.proofs.Common.{◌≡◌, ℕ, suc, ◌<◌, Bool, true, false, not, nat_lt, List, [], ◌∷◌, ◌++◌, length, refl, ap, ◌∙◌, length-append, arith}
 use Rattle.std.specs.Prelude.{slice_set}
 use Rattle.vm_base.specs.declared.requests.Request.{Request}
 use Rattle.slot_lock.specs.Slots.{Slots}
 use Rattle.backing.specs.Files.{FileParts, files_of, cached_in}
 use Rattle.frames.specs.Parts.{FrameParts, frame_bytes, free_frames}
-use Rattle.refcache.specs.Counts.{no_counts}
+use Rattle.refcache.specs.Counts.{Counts}
 use Rattle.machine_model.specs.declared.event.Outcome.TheVariants.{Stepped}
 use Rattle.machine_model.specs.declared.log.Entry.{Entry}
 use Rattle.machine_model.specs.declared.phase.Phase.{Phase}
 use Rattle.machine_model.specs.declared.phase.Phase.TheVariants.{Free, Check}
-use Rattle.machine_model.specs.World.{World, no_translations}
+use Rattle.machine_model.specs.World.{World, Hardware}
 use Rattle.machine_model.specs.Actions.{to}
-use Rattle.machine_model.specs.Step.{Begins, called}
+use Rattle.machine_model.specs.Step.{Begins, after_call}
 use Rattle.core_steps.specs.State.{phase_at, number_at}
 use Rattle.core_steps.proofs.Lists.{number_set}
+use Rattle.core_steps.proofs.Rows.{if_true}
 
 -- the state of an engine whose calls have these parts
-abbrev listed : Slots → FrameParts → List FileParts → List Phase → List ℕ → List Request → List Entry → ℕ → ℕ → World
-listed slots frames files phases numbers requests log limit events =
-    let cores = length phases in
+abbrev listed : Slots → Hardware → FrameParts → Counts → List FileParts → List Phase → List ℕ → List Request → List Entry → ℕ → ℕ → World
+listed slots hardware frames counts files phases numbers requests log limit events =
     record {
-      made = record { cores = cores; frames = frames.count; calls = limit; file = files_of files };
+      made = record { cores = length phases; frames = frames.count; calls = limit; file = files_of files };
       slots = slots;
-      hardware = no_translations;
+      hardware = hardware;
       memory = record {
         bytes = frame_bytes frames;
         is_free = free_frames frames;
-        counts = no_counts cores frames.count;
+        counts = counts;
         cached = cached_in files;
       };
       calls = record { phase = phase_at phases; number = number_at numbers; requests = requests; log = log; events = events };
     }
 
 -- the request is kept, and the core's call has its number
-pub numbered : (slots : Slots) (frames : FrameParts) (files : List FileParts) (phases : List Phase) (numbers : List ℕ) (requests more : List Request)
+pub numbered : (slots : Slots) (hardware : Hardware) (frames : FrameParts) (counts : Counts) (files : List FileParts) (phases : List Phase) (numbers : List ℕ) (requests more : List Request)
     (log : List Entry) (calls limit events c i n : ℕ) (request : Request) → c < length numbers → limit ≡ calls → i ≡ c
     → more ≡ requests ++ request ∷ [] → n ≡ length more
-    → to c (Check request) (listed slots frames files phases (slice_set numbers i n) more log limit events)
-    ≡ called c request (listed slots frames files phases numbers requests log calls events)
-numbered slots frames files phases numbers requests more log calls limit events c i n request h kept same e m =
+    → to c (Check request) (listed slots hardware frames counts files phases (slice_set numbers i n) more log limit events)
+    ≡ after_call c request (listed slots hardware frames counts files phases numbers requests log calls events)
+numbered slots hardware frames counts files phases numbers requests more log calls limit events c i n request h kept same e m =
     let number : n ≡ suc (length requests) = m ∙ ap length e ∙ length-append requests (request ∷ []) ∙ omega arith in
     rw (kept, same, e, number, number_set numbers c (suc (length requests)) h) refl
 
-begins_if : (b : Bool) (x y : Type 0) → b ≡ true → x → cond b x y
-begins_if true x y e h = h
-begins_if false x y e h = absurd (cc)
-
 pub begun : (w v : World) (c : ℕ) (request : Request) (phase : Phase) → phase ≡ Free → false ≡ not (nat_lt (length w.calls.requests) w.made.calls)
-    → v ≡ called c request w → Begins w c request phase Stepped v
-begun w v c request phase e h s = rw e (begins_if (nat_lt (length w.calls.requests) w.made.calls) _ _ (turn _ h) (refl, s))
+    → v ≡ after_call c request w → Begins w c request phase Stepped v
+begun w v c request phase e h s = rw e (if_true (nat_lt (length w.calls.requests) w.made.calls) _ _ (turn _ h) (refl, s))
   where
     turn : (b : Bool) → false ≡ not b → b ≡ true
     turn true h = refl

@@ -1,36 +1,68 @@
--- What the code learns of the call that is to make a step: it knows only that the state is in order
-use Rattle.std.proofs.Common.{◌≡◌, ◌≢◌, ℕ, ◌+◌, ◌<◌, ◌≤◌, ◌^◌, Bool, true, false, length, Option, Some, None, subst, ap, arith, cond, ◌∙◌}
-use Rattle.std.specs.Prelude.{if◌then◌else◌}
+-- What the code learns of the core that is to make a step: it knows only that the state is one that runs reach
+use Rattle.std.proofs.Common.{◌≡◌, ◌≢◌, ℕ, ◌+◌, ◌<◌, ◌≤◌, ◌^◌, ◌==◌, ◌||◌, Bool, true, false, length, List, [], ◌∷◌, Option, Some, None, is_some, refl, sym, subst, ap, arith, cond, ◌∙◌, pos, ◌<ℤ◌}
+use Rattle.std.specs.Prelude.{if◌then◌else◌, IfSome}
 use Rattle.std.proofs.Math.Logic.{∥∥₁_elim, ∥∥₁_map}
 use Rattle.std.proofs.Props.{props}
 use Rattle.std.proofs.lemmas.Bool.Decides.{nat_tests}
+use Rattle.vm_base.specs.declared.info.Back.TheVariants.{Anon}
 use Rattle.vm_base.specs.declared.info.PageInfo.{PageInfo}
 use Rattle.vm_base.specs.declared.page.PageRange.{PageRange}
 use Rattle.vm_base.specs.declared.rights.Access.{Access}
+use Rattle.vm_base.specs.declared.rights.Access.TheVariants.{Load, Store, Fetch}
+use Rattle.vm_base.specs.declared.rights.Prot.{Prot}
+use Rattle.vm_base.specs.Cores.{members}
 use Rattle.vm_base.specs.Functions.{has}
-use Rattle.vm_base.specs.Pages.{IsPageRange}
+use Rattle.vm_base.specs.Pages.{IsPage, IsPageRange, are_pages, is_page}
 use Rattle.vm_base.specs.Info.{frame_of}
 use Rattle.vm_base.specs.Rights.{is_allowed}
-use Rattle.vm_base.proofs.Functions.{in_has}
+use Rattle.vm_base.proofs.Functions.{in_has, eq_true}
 use Rattle.slot_lock.specs.declared.plan.Change.{Change}
 use Rattle.slot_lock.specs.declared.plan.Change.TheVariants.{Put, Clear, Protect}
 use Rattle.slot_lock.specs.declared.plan.Plan.{Plan}
 use Rattle.slot_lock.specs.declared.plan.Plan.TheVariants as PlanOf
 use Rattle.slot_lock.specs.declared.plan.Touch.{Touch}
 use Rattle.slot_lock.specs.Plan.{range_of, IsSound, IsSoundChange, IsSoundTouch}
-use Rattle.slot_lock.specs.Slots.{IsSlot, IsHeld}
+use Rattle.slot_lock.specs.Slots.{IsSlot, IsHeld, IsUser}
+use Rattle.vm_calls.specs.declared.decision.Decision.TheVariants.{Act}
+use Rattle.vm_calls.specs.Decisions.{Decides}
+use Rattle.vm_calls.specs.Decisions.DecidesProtect.{no_page, no_write, acts}
+use Rattle.mmu.specs.declared.entry.Translation.{Translation}
+use Rattle.mmu.specs.declared.tlb.TlbEntry.{TlbEntry}
+use Rattle.mmu.specs.declared.translated.Translated.TheVariants as By
+use Rattle.mmu.specs.Entry.{has_right, permits, translation_of}
+use Rattle.mmu.specs.Tables.{translated}
+use Rattle.mmu.specs.Tlb.{tlb_at}
+use Rattle.shootdown.specs.declared.message.Message.{Message}
+use Rattle.shootdown.specs.declared.message.Took.{Took}
+use Rattle.shootdown.specs.declared.message.Took.TheVariants as TookOf
+use Rattle.shootdown.specs.Messages.{asked, message_of}
+use Rattle.refcache.specs.declared.reports.Review.TheVariants as review
+use Rattle.refcache.specs.Counts.{Counts, true_count}
+use Rattle.refcache.specs.Sound.{IsReached}
+use Rattle.refcache.specs.Steps.{Takes, Reviewing, IsUnused}
+use Rattle.refcache.proofs.Reached.{reached_is_orderly}
 use Rattle.machine_model.specs.declared.phase.Goal.{Goal}
 use Rattle.machine_model.specs.declared.phase.Goal.TheVariants as To
 use Rattle.machine_model.specs.declared.phase.Phase.{Phase}
-use Rattle.machine_model.specs.declared.phase.Phase.TheVariants.{Free, Lock}
+use Rattle.machine_model.specs.declared.phase.Phase.TheVariants.{Free, Check, Lock, Decide, Post, Acks, Unlock, Answer, Try, Settle, Want, Fill, Install, Release}
 use Rattle.machine_model.specs.World.{World}
-use Rattle.machine_model.specs.Accesses.{frame_for}
-use Rattle.machine_model.specs.Holding.{goal_plan, goal_range, holds, is_open, page_of_touch, range_held, some_has, taken_in}
-use Rattle.machine_laws.specs.Orderly.{IsOrderly, IsAsked, IsCutFor, IsCutRange, Serves}
+use Rattle.machine_model.specs.Changes.{AwaitsNobody}
+use Rattle.machine_model.specs.Holding.{can_give_up, awaits_in, goal_plan, goal_range, holds, is_open, page_of_touch, plan_in, range_held, some_has, taken_in}
+use Rattle.machine_model.specs.Translating.{entry_for, entry_of_page, translated_by, frame_reached}
+use Rattle.machine_counting.proofs.Kept.{counted_positive}
+use Rattle.machine_laws.specs.Orderly.{IsOrderly, IsAsked, IsCutFor, IsCutRange, IsUsable, Serves}
 use Rattle.machine_laws.proofs.Deciding.{IsUnplaced, change_sound, touch_sound, sound_range}
 use Rattle.machine_laws.proofs.Moves.{call_at, IsCallOf}
 use Rattle.machine_laws.proofs.OpenCalls.{one, open_put}
+use Rattle.machine_coherence.specs.Coherent.{Every, IsSoundEntry, AreAsked}
+use Rattle.machine_sound.specs.Invariant.{Fine, IsAnonymous, own_frame, own_frame_of}
 use Rattle.core_steps.specs.Moving.{IsAt}
+use Rattle.core_steps.specs.Taking.{AreCounted}
+
+-- ---- the order
+
+pub order : {w : World} {c : ℕ} {phase : Phase} → IsAt w c phase → ∥ IsOrderly w ∥₁
+order i = ∥∥₁_map i.fine (λ g. g.order)
 
 -- ---- room for a reply
 
@@ -44,16 +76,16 @@ opens w c phase e o h g =
     omega (arith, was, put, room, limit)
 
 pub room_for : (w : World) (c : ℕ) (phase : Phase) → IsAt w c phase → is_open phase ≡ true → length w.calls.log < w.made.calls
-room_for w c phase i o = ∥∥₁_elim i.orderly (hlevel props) (opens w c phase i.phase o i.here)
+room_for w c phase i o = ∥∥₁_elim (order i) (hlevel props) (opens w c phase i.phase o i.here)
 
 -- ---- what a call owns
 
 pub owns : (w : World) (c : ℕ) (phase : Phase) → IsAt w c phase → (p : ℕ) → holds phase p ≡ true → w.slots.owner p ≡ Some c
-owns w c phase i p h = ∥∥₁_elim i.orderly (hlevel props) (λ g. (call_at w c phase i.phase g).owned p h)
+owns w c phase i p h = ∥∥₁_elim (order i) (hlevel props) (λ g. (call_at w c phase i.phase g).owned p h)
 
 pub owns_not : (w : World) (c : ℕ) (phase : Phase) → IsAt w c phase → (p : ℕ) → holds phase p ≡ false → w.slots.owner p ≢ Some c
 owns_not w c phase i p h =
-    ∥∥₁_elim i.orderly (hlevel props) (λ g o. let clash = (call_at w c phase i.phase g).only p o in absurd (cc))
+    ∥∥₁_elim (order i) (hlevel props) (λ g o. let clash = (call_at w c phase i.phase g).only p o in absurd (cc))
 
 -- a slot begins at each end of what it holds
 begins : (w : World) (c : ℕ) (phase : Phase) (held : PageRange) → range_held phase ≡ Some held → held.first < held.end → IsCallOf w c phase
@@ -63,27 +95,171 @@ begins w c phase held e some k = subst (IsCutFor w.slots.edge) e k.cut some
 pub cut_at : (w : World) (c : ℕ) (phase : Phase) (held : PageRange) → IsAt w c phase → range_held phase ≡ Some held → held.first < held.end
     → IsCutRange w.slots.edge held
 cut_at w c phase held i e some = (
-  ∥∥₁_elim i.orderly (hlevel props) (λ g. (begins w c phase held e some (call_at w c phase i.phase g)).0),
-  ∥∥₁_elim i.orderly (hlevel props) (λ g. (begins w c phase held e some (call_at w c phase i.phase g)).1),
+  ∥∥₁_elim (order i) (hlevel props) (λ g. (begins w c phase held e some (call_at w c phase i.phase g)).0),
+  ∥∥₁_elim (order i) (hlevel props) (λ g. (begins w c phase held e some (call_at w c phase i.phase g)).1),
 )
 
--- ---- frames
+-- ---- what the invariant says of the hardware, the counts and the frames
 
-pub frame_below : (w : World) (c : ℕ) (phase : Phase) → IsAt w c phase → (p f : ℕ) → frame_of (w.slots.info p) ≡ Some f → f < w.made.frames
-frame_below w c phase i p f e = ∥∥₁_elim i.orderly (hlevel props) (λ g. (g.pages p).frame f e)
+counts_reached : (w : World) → Fine w → IsReached w.memory.counts
+counts_reached w g = g.order.memory.reached
 
-pub free_below : (w : World) (c : ℕ) (phase : Phase) → IsAt w c phase → (f : ℕ) → w.memory.is_free f ≡ true → f < w.made.frames
-free_below w c phase i f e = ∥∥₁_elim i.orderly (hlevel props) (λ g. g.free f e)
+counts_sized : (w : World) → Fine w → (w.memory.counts.cores ≡ w.made.cores) × (w.memory.counts.objects ≡ w.made.frames)
+counts_sized w g = (g.order.memory.cores, g.order.memory.objects)
+
+pages_counted : (w : World) → Fine w → (p f : ℕ) → frame_of (w.slots.info p) ≡ Some f → pos 0 <ℤ true_count w.memory.counts f
+pages_counted w g p f h = counted_positive w g.order g.counted f p h
+
+-- all mapped pages are anonymous yet
+own_frame_is : (o : Option PageInfo) (f : ℕ) (cached : ℕ → ℕ → Option ℕ) → IsAnonymous o → frame_of o ≡ Some f → own_frame cached o ≡ Some f
+own_frame_is None f cached a h = absurd cc
+own_frame_is (Some info) f cached a h = rw a (go info.frame h)
+  where
+    go : (o : Option ℕ) → o ≡ Some f → own_frame_of cached Anon o ≡ Some f
+    go None e = absurd cc
+    go (Some x) e = e
+
+pages_apart : (w : World) → Fine w → (p q f : ℕ) → frame_of (w.slots.info p) ≡ Some f → frame_of (w.slots.info q) ≡ Some f → p ≡ q
+pages_apart w g p q f h i =
+    g.good.apart p q f (own_frame_is (w.slots.info p) f w.memory.cached (g.good.no_files.anonymous p) h) i
+
+free_is_unused : (w : World) → Fine w → (f : ℕ) → w.memory.is_free f ≡ true → IsUnused w.memory.counts f
+free_is_unused w g f h = g.counted.free f h
+
+taken_is_unused : (w : World) → Fine w → (c f : ℕ) → taken_in (w.calls.phase c) ≡ Some f → IsUnused w.memory.counts f
+taken_is_unused w g c f h = g.counted.taken c f h
+
+taken_is_busy : (w : World) → Fine w → (c f : ℕ) → taken_in (w.calls.phase c) ≡ Some f → w.memory.is_free f ≡ false
+taken_is_busy w g c f h = g.counted.busy c f h
+
+-- what backs a translation: a mapped page of the machine's, which has a frame of the machine's
+backed_here : (w : World) (p core : ℕ) (e : Translation) → IsOrderly w → (o : Option PageInfo) → w.slots.info p ≡ o → entry_of_page o ≡ Some e
+    → IsPage p × (e.frame < w.made.frames)
+backed_here w p core e g None same h = absurd cc
+backed_here w p core e g (Some info) same h =
+    let at = framed info.frame h in
+    ((g.pages p).valid (ap is_some same), (g.pages p).frame e.frame (ap frame_of same ∙ at))
+  where
+    framed : (o : Option ℕ) → entry_for info.meta.prot o ≡ Some e → o ≡ Some e.frame
+    framed None k = absurd cc
+    framed (Some f) k = let same_entry : translation_of f info.meta.prot ≡ e = cc in ap (λ x. Some x.frame) same_entry
+
+table_here : (w : World) → Fine w → (c p : ℕ) (e : Translation) → w.hardware.table c p ≡ Some e → IsPage p × (e.frame < w.made.frames)
+table_here w g c p e h = backed_here w p c e g.order (w.slots.info p) refl (g.coherent.tables c p e h).entry
+
+-- the first translation of the page is one that the slot backs
+first_here : (w : World) → Fine w → (c p : ℕ) (e : Translation) (es : List TlbEntry) → Every (IsSoundEntry w.slots.info c (w.hardware.table c) (w.hardware.inbox c)) es → tlb_at es p ≡ Some e
+    → e.frame < w.made.frames
+first_here w g c p e [] k h = absurd cc
+first_here w g c p e (x ∷ es) k h = by (x.page == p) (first_here w g c p e es k.1) h
+  where
+    by : (b : Bool) → (tlb_at es p ≡ Some e → e.frame < w.made.frames) → (if b then Some x.translation else tlb_at es p) ≡ Some e → e.frame < w.made.frames
+    by true rest j =
+        let same : x.translation ≡ e = cc in
+        subst (λ t. t.frame < w.made.frames) same
+        (backed_here w x.page c x.translation g.order (w.slots.info x.page) refl k.0.0.entry).1
+    by false rest j = rest j
+
+tlb_here : (w : World) → Fine w → (c p : ℕ) (e : Translation) → tlb_at (w.hardware.tlb c) p ≡ Some e → e.frame < w.made.frames
+tlb_here w g c p e h = first_here w g c p e (w.hardware.tlb c) (g.coherent.tlbs c) h
+
+-- a message is of a core that waits for its pages
+asked_by : (phase : ℕ → Phase) (d c : ℕ) (ms : List Message) (m : Message) → AreAsked phase d ms → message_of ms c ≡ Some m → awaits_in (phase c) ≡ Some m.range
+asked_by phase d c [] m k h = absurd cc
+asked_by phase d c (x ∷ ms) m k h = go (x.from == c) (asked_by phase d c ms m k.3) refl h
+  where
+    go : (b : Bool) → (message_of ms c ≡ Some m → awaits_in (phase c) ≡ Some m.range) → (x.from == c) ≡ b
+        → (if b then Some x else message_of ms c) ≡ Some m → awaits_in (phase c) ≡ Some m.range
+    go true rest e i =
+        let from : x.from ≡ c = eq_true x.from c e in
+        let same : x ≡ m = cc in
+        ap (λ n. awaits_in (phase n)) (sym from) ∙ (k.1 ∙ ap (λ y. Some y.range) same)
+    go false rest e i = rest i
+
+-- ---- cores and frames
+
+pub core_counted : (w : World) (c : ℕ) → ∥ Fine w ∥₁ → c < w.made.cores → c < w.memory.counts.cores
+core_counted w c t h = ∥∥₁_elim t (hlevel props) (λ g. subst (λ n. c < n) (sym (counts_sized w g).0) h)
+
+pub frame_counted : (w : World) (f : ℕ) → ∥ Fine w ∥₁ → f < w.made.frames → f < w.memory.counts.objects
+frame_counted w f t h = ∥∥₁_elim t (hlevel props) (λ g. subst (λ n. f < n) (sym (counts_sized w g).1) h)
+
+pub free_below : (w : World) → ∥ Fine w ∥₁ → (f : ℕ) → w.memory.is_free f ≡ true → f < w.made.frames
+free_below w t f e = ∥∥₁_elim t (hlevel props) (λ g. g.order.memory.free f e)
 
 pub taken_below : (w : World) (c : ℕ) (phase : Phase) → IsAt w c phase → (f : ℕ) → taken_in phase ≡ Some f → f < w.made.frames
-taken_below w c phase i f h = ∥∥₁_elim i.orderly (hlevel props) (λ g. (call_at w c phase i.phase g).taken f h)
+taken_below w c phase i f h = ∥∥₁_elim (order i) (hlevel props) (λ g. (call_at w c phase i.phase g).taken f h)
+
+pub taken_busy : (w : World) (c : ℕ) (phase : Phase) → IsAt w c phase → (f : ℕ) → taken_in phase ≡ Some f → w.memory.is_free f ≡ false
+taken_busy w c phase i f h = ∥∥₁_elim i.fine (hlevel props) (λ g. taken_is_busy w g c f (ap taken_in i.phase ∙ h))
+
+pub taken_unused : (w : World) (c : ℕ) (phase : Phase) → IsAt w c phase → (f : ℕ) → taken_in phase ≡ Some f → IsUnused w.memory.counts f
+taken_unused w c phase i f h = record {
+  zero = ∥∥₁_elim i.fine (hlevel props) (λ g. (taken_is_unused w g c f (ap taken_in i.phase ∙ h)).zero);
+  entries = λ d lt. ∥∥₁_elim i.fine (hlevel props) (λ g. (taken_is_unused w g c f (ap taken_in i.phase ∙ h)).entries d lt);
+  unqueued = ∥∥₁_elim i.fine (hlevel props) (λ g. (taken_is_unused w g c f (ap taken_in i.phase ∙ h)).unqueued);
+}
+
+pub are_counted : (w : World) → ∥ Fine w ∥₁ → AreCounted w.slots.info w.memory.counts
+are_counted w t = record {
+  object = λ p f h. frame_counted w f t (∥∥₁_elim t (hlevel props) (λ g. (g.order.pages p).frame f h));
+  used = λ p f h. ∥∥₁_elim t (hlevel props) (λ g. pages_counted w g p f h);
+  apart = λ p q f h i. ∥∥₁_elim t (hlevel props) (λ g. pages_apart w g p q f h i);
+}
+
+-- a frame that a review frees isn't free yet: it was queued
+pub freed_frame : (w v : Counts) (c f : ℕ) → IsReached w → Takes w (Reviewing c (review.Freed f)) v → (f < w.objects) × (w.queued f ≡ true)
+freed_frame w v c f r h = (reached_is_orderly w r).fronts c f h.1.1.since h.1.0 h.1.1.front
+
+pub freed_below : (w : World) (c f : ℕ) (v : Counts) → ∥ Fine w ∥₁ → Takes w.memory.counts (Reviewing c (review.Freed f)) v → f < w.made.frames
+freed_below w c f v t h =
+    ∥∥₁_elim t (hlevel props) (λ g. subst (λ n. f < n) (counts_sized w g).1 (freed_frame w.memory.counts v c f (counts_reached w g) h).0)
+
+pub freed_busy : (w : World) (c f : ℕ) (v : Counts) → ∥ Fine w ∥₁ → Takes w.memory.counts (Reviewing c (review.Freed f)) v → w.memory.is_free f ≡ false
+freed_busy w c f v t h = go (w.memory.is_free f) refl
+  where
+    go : (b : Bool) → w.memory.is_free f ≡ b → b ≡ false
+    go false e = refl
+    go true e =
+        ∥∥₁_elim t (hlevel props) (λ g.
+        let queued = (freed_frame w.memory.counts v c f (counts_reached w g) h).1 in
+        let unqueued = (free_is_unused w g f e).unqueued in
+        absurd cc)
+
+-- ---- translations
+
+-- the tables have entries of valid pages alone
+pub entry_page : (w : World) (c p : ℕ) (e : Translation) → ∥ Fine w ∥₁ → w.hardware.table c p ≡ Some e → IsPage p
+entry_page w c p e t h = (
+  ∥∥₁_elim t (hlevel props) (λ g. (table_here w g c p e h).0.0),
+  ∥∥₁_elim t (hlevel props) (λ g. (table_here w g c p e h).0.1),
+)
+
+pub frame_below : (w : World) (c : ℕ) (touch : Touch) (f : ℕ) → ∥ Fine w ∥₁ → frame_reached (translated_by w.hardware c touch) ≡ Some f → f < w.made.frames
+frame_below w c touch f t h = go (tlb_at (w.hardware.tlb c) touch.page) (w.hardware.table c touch.page) refl refl h
+  where
+    hits : (e : Translation) (b : Bool) → frame_reached (if b then By.Hit e.frame else By.Fault) ≡ Some f → e.frame ≡ f
+    hits e true k = cc
+    hits e false k = absurd cc
+
+    fills : (e : Translation) (b : Bool) → frame_reached (if b then By.Fill e.frame else By.Fault) ≡ Some f → e.frame ≡ f
+    fills e true k = cc
+    fills e false k = absurd cc
+
+    go : (cached entry : Option Translation) → tlb_at (w.hardware.tlb c) touch.page ≡ cached → w.hardware.table c touch.page ≡ entry
+        → frame_reached (translated cached entry touch.access) ≡ Some f → f < w.made.frames
+    go (Some e) entry a b k =
+        subst (λ n. n < w.made.frames) (hits e (permits e touch.access) k) (∥∥₁_elim t (hlevel props) (λ g. tlb_here w g c touch.page e a))
+    go None (Some e) a b k =
+        subst (λ n. n < w.made.frames) (fills e (permits e touch.access) k) (∥∥₁_elim t (hlevel props) (λ g. (table_here w g c touch.page e b).1))
+    go None None a b k = absurd cc
 
 -- ---- its plan passed the check of the arguments, and so is sound
 
 asked_at : (w : World) (c : ℕ) (phase : Phase) (plan : Plan) → IsAt w c phase
     → (IsAsked w.made w.calls.requests c (w.calls.number c) phase → Serves w.made w.calls.requests c (w.calls.number c) plan)
     → ∥ Serves w.made w.calls.requests c (w.calls.number c) plan ∥₁
-asked_at w c phase plan i serves = ∥∥₁_map i.orderly (λ g. serves (call_at w c phase i.phase g).asked)
+asked_at w c phase plan i serves = ∥∥₁_map (order i) (λ g. serves (call_at w c phase i.phase g).asked)
 
 abbrev Asked : World → ℕ → Plan → Type 0
 Asked w c plan = ∥ Serves w.made w.calls.requests c (w.calls.number c) plan ∥₁
@@ -136,10 +312,10 @@ pub range_ends : (w : World) (c : ℕ) (goal : Goal) (cursor : ℕ) → IsAt w c
 range_ends w c goal cursor i =
     let pages = goal_pages goal (goal_sound w c goal cursor i) in
     let low = pages.low in
-    (∥∥₁_elim i.orderly (hlevel props) (λ g. let from = (call_at w c (Lock goal cursor) i.phase g).ready.0 in omega (arith, low, from)), pages.high)
+    (∥∥₁_elim (order i) (hlevel props) (λ g. let from = (call_at w c (Lock goal cursor) i.phase g).ready.0 in omega (arith, low, from)), pages.high)
 
 pub is_left : (w : World) (c : ℕ) (goal : Goal) (cursor : ℕ) → IsAt w c (Lock goal cursor) → cursor < (goal_range goal).end
-is_left w c goal cursor i = ∥∥₁_elim i.orderly (hlevel props) (λ g. (call_at w c (Lock goal cursor) i.phase g).ready.1)
+is_left w c goal cursor i = ∥∥₁_elim (order i) (hlevel props) (λ g. (call_at w c (Lock goal cursor) i.phase g).ready.1)
 
 -- the cursor's page isn't held yet
 pub not_ahead : (w : World) (c : ℕ) (goal : Goal) (cursor : ℕ) → IsAt w c (Lock goal cursor) → w.slots.owner cursor ≢ Some c
@@ -175,12 +351,165 @@ held_range w c phase range i e pages =
       held = λ p a b. owns w c phase i p (ap (λ r. some_has r p) e ∙ in_has range p a b);
     }
 
--- ---- the frame through which an access goes is the page's
+-- ---- shootdowns
 
-pub frame_found : (access : Access) (info : Option PageInfo) (f : ℕ) → frame_for access info ≡ Some f → frame_of info ≡ Some f
-frame_found access None f h = h
-frame_found access (Some info) f h = go (is_allowed info.meta.prot access) h
+-- nobody is awaited yet
+pub nobody_awaited : (w : World) (c : ℕ) (change : Change) (shoot : ℕ) → IsAt w c (Post change shoot) → AwaitsNobody w.hardware c
+nobody_awaited w c change shoot i d = go (message_of (w.hardware.inbox d) c) refl
   where
-    go : (b : Bool) → (if b then info.frame else None) ≡ Some f → info.frame ≡ Some f
-    go true e = e
-    go false e = absurd cc
+    go : (m : Option Message) → message_of (w.hardware.inbox d) c ≡ m → is_some m ≡ false
+    go None e = refl
+    go (Some m) e =
+        ∥∥₁_elim i.fine (hlevel props) (λ g.
+        let awaited_one = asked_by w.calls.phase d c (w.hardware.inbox d) m (g.coherent.asked d) e in
+        let none : awaits_in (w.calls.phase c) ≡ None = ap awaits_in i.phase in
+        absurd cc)
+
+-- the cores that are told are the machine's
+user_here : (w : World) (range : PageRange) (d : ℕ) → IsOrderly w → IsUser w.slots range d → d < w.made.cores
+user_here w range d g u = (g.pages u.0).cores d u.2
+
+shot_by : (w : World) (change : Change) (shoot d : ℕ) → Decides w.made.file w.slots (PlanOf.Change change) (Act (range_of change) shoot)
+    → members shoot d ≡ true → IsUser w.slots (range_of change) d
+shot_by w (Put range meta) shoot d h m = (h.1 d).0 m
+shot_by w (Clear range) shoot d h m = (h.1 d).0 m
+shot_by w (Protect range prot) shoot d (no_page a e) m = absurd cc
+shot_by w (Protect range prot) shoot d (no_write a x r e) m = absurd cc
+shot_by w (Protect range prot) shoot d (acts a r k) m = (k.1 d).0 m
+
+pub shot_here : (w : World) (c : ℕ) (change : Change) (shoot : ℕ) → IsAt w c (Post change shoot) → (d : ℕ) → members shoot d ≡ true → d < w.made.cores
+shot_here w c change shoot i d m =
+    ∥∥₁_elim (order i) (hlevel props) (λ g. user_here w (range_of change) d g (shot_by w change shoot d (call_at w c (Post change shoot) i.phase g).ready m))
+
+valid_range : (range : PageRange) → IsPageRange range → are_pages range ≡ true
+valid_range range h = let low = h.low in let high = h.high in grind (arith, nat_tests, low, high)
+
+pub change_pages : (w : World) (c : ℕ) (phase : Phase) (change : Change) → IsAt w c phase
+    → (IsAsked w.made w.calls.requests c (w.calls.number c) phase → Serves w.made w.calls.requests c (w.calls.number c) (PlanOf.Change change))
+    → are_pages (range_of change) ≡ true
+change_pages w c phase change i serves = valid_range (range_of change) (sound_range change (sound_at w c phase (PlanOf.Change change) i tt serves))
+
+-- the oldest message is of valid pages
+abbrev pub IsValidAsked : Took → Type 0
+IsValidAsked (TookOf.Clear range) = are_pages range ≡ true
+IsValidAsked (TookOf.Invalidate range) = are_pages range ≡ true
+IsValidAsked TookOf.Idle = Unit {0}
+
+awaited_pages : (w : World) (c : ℕ) (range : PageRange) (phase : Phase) → IsOrderly w → w.calls.phase c ≡ phase → awaits_in phase ≡ Some range → are_pages range ≡ true
+awaited_pages w c range (Acks change held) g e h =
+    let call = call_at w c (Acks change held) e g in
+    let same : range_of change ≡ range = cc in
+    subst (λ r. are_pages r ≡ true) same (valid_range (range_of change) (sound_range change (sound_in w c change call.asked)))
+awaited_pages w c range Free g e h = absurd cc
+awaited_pages w c range (Check request) g e h = absurd cc
+awaited_pages w c range (Lock goal cursor) g e h = absurd cc
+awaited_pages w c range (Decide change) g e h = absurd cc
+awaited_pages w c range (Post change shoot) g e h = absurd cc
+awaited_pages w c range (Unlock held reply) g e h = absurd cc
+awaited_pages w c range (Answer reply) g e h = absurd cc
+awaited_pages w c range (Try touch) g e h = absurd cc
+awaited_pages w c range (Settle touch) g e h = absurd cc
+awaited_pages w c range (Want touch) g e h = absurd cc
+awaited_pages w c range (Fill touch frame) g e h = absurd cc
+awaited_pages w c range (Install touch) g e h = absurd cc
+awaited_pages w c range (Release touch) g e h = absurd cc
+
+pub message_pages : (w : World) (d : ℕ) → ∥ Fine w ∥₁ → (took : Took) → took ≡ asked (w.hardware.inbox d) → IsValidAsked took
+message_pages w d t took e = subst IsValidAsked (sym e) (go (w.hardware.inbox d) refl)
+  where
+    by : (m : Message) (b : Bool) → are_pages m.range ≡ true → IsValidAsked (if b then TookOf.Invalidate m.range else TookOf.Clear m.range)
+    by m true h = h
+    by m false h = h
+
+    go : (ms : List Message) → w.hardware.inbox d ≡ ms → IsValidAsked (asked ms)
+    go [] same = tt
+    go (m ∷ ms) same =
+        by m m.is_cleared (∥∥₁_elim t (hlevel props) (λ g.
+        awaited_pages w m.from m.range (w.calls.phase m.from) g.order refl (subst (AreAsked w.calls.phase d) same (g.coherent.asked d)).1))
+
+pub valid_page : (p : ℕ) → IsPage p → is_page p ≡ true
+valid_page p h = let low = h.0 in let high = h.1 in grind (arith, nat_tests, low, high)
+
+-- what is no page has no entry
+pub no_page_entry : (w : World) (c p : ℕ) → ∥ Fine w ∥₁ → is_page p ≡ false → w.hardware.table c p ≡ None
+no_page_entry w c p t not_page = go (w.hardware.table c p) refl
+  where
+    go : (o : Option Translation) → w.hardware.table c p ≡ o → o ≡ None
+    go None e = refl
+    go (Some x) e = absurd (let yes = valid_page p (entry_page w c p x t e) in cc)
+
+-- ---- a page that is to be installed
+
+pub right_allowed : (prot : Prot) (access : Access) → is_allowed prot access ≡ true → has_right prot ≡ true
+right_allowed prot Load h = h
+right_allowed prot Store h = write prot.read prot.write prot.exec h
+  where
+    write : (a b d : Bool) → b ≡ true → (a || b || d) ≡ true
+    write true b d e = refl
+    write false true d e = refl
+    write false false d e = absurd cc
+right_allowed prot Fetch h = exec prot.read prot.write prot.exec h
+  where
+    exec : (a b d : Bool) → d ≡ true → (a || b || d) ≡ true
+    exec true b d e = refl
+    exec false true d e = refl
+    exec false false d e = e
+
+-- the page of an access that is to install it is mapped, allows some access, and has a frame
+install_page : (w : World) (c : ℕ) (touch : Touch) → IsCallOf w c (Install touch) → (f : ℕ) × IsUsable w.made.file (w.slots.info touch.page) touch.access (Some f)
+install_page w c touch k = k.ready
+
+pub install_right : (w : World) (c : ℕ) (touch : Touch) (info : PageInfo) → IsAt w c (Install touch) → w.slots.info touch.page ≡ Some info
+    → has_right info.meta.prot ≡ true
+install_right w c touch info i e =
+    ∥∥₁_elim (order i) (hlevel props) (λ g.
+    let usable = install_page w c touch (call_at w c (Install touch) i.phase g) in
+    right_allowed info.meta.prot touch.access (subst (λ o. IsUsable w.made.file o touch.access (Some usable.0)) e usable.1).0)
+
+pub install_frame : (w : World) (c : ℕ) (touch : Touch) (info : PageInfo) → IsAt w c (Install touch) → w.slots.info touch.page ≡ Some info → info.frame ≡ None → ⊥
+install_frame w c touch info i e none =
+    ∥∥₁_elim (order i) (hlevel props) (λ g.
+    let usable = install_page w c touch (call_at w c (Install touch) i.phase g) in
+    let frame = (subst (λ o. IsUsable w.made.file o touch.access (Some usable.0)) e usable.1).2 in
+    absurd cc)
+
+pub install_mapped : (w : World) (c : ℕ) (touch : Touch) → IsAt w c (Install touch) → w.slots.info touch.page ≡ None → ⊥
+install_mapped w c touch i e =
+    ∥∥₁_elim (order i) (hlevel props) (λ g.
+    let usable = install_page w c touch (call_at w c (Install touch) i.phase g) in
+    subst (λ o. IsUsable w.made.file o touch.access (Some usable.0)) e usable.1)
+
+-- ---- the plan of a call, whatever its phase
+
+pub plan_sound : (w : World) (c : ℕ) (phase : Phase) → IsAt w c phase → IfSome (plan_in phase) IsSound
+plan_sound w c Free i = tt
+plan_sound w c (Check request) i = tt
+plan_sound w c (Lock goal cursor) i = goal_sound w c goal cursor i
+plan_sound w c (Decide change) i = sound_at w c (Decide change) (PlanOf.Change change) i tt (λ h. h)
+plan_sound w c (Post change shoot) i = sound_at w c (Post change shoot) (PlanOf.Change change) i tt (λ h. h)
+plan_sound w c (Acks change held) i = sound_at w c (Acks change held) (PlanOf.Change change) i tt (λ h. h)
+plan_sound w c (Unlock held reply) i = tt
+plan_sound w c (Answer reply) i = tt
+plan_sound w c (Try touch) i = sound_at w c (Try touch) (PlanOf.Touch touch) i tt (λ h. h)
+plan_sound w c (Settle touch) i = sound_at w c (Settle touch) (PlanOf.Touch touch) i tt (λ h. h)
+plan_sound w c (Want touch) i = sound_at w c (Want touch) (PlanOf.Touch touch) i tt (λ h. h)
+plan_sound w c (Fill touch frame) i = sound_at w c (Fill touch frame) (PlanOf.Touch touch) i tt (λ h. h)
+plan_sound w c (Install touch) i = sound_at w c (Install touch) (PlanOf.Touch touch) i tt (λ h. h)
+plan_sound w c (Release touch) i = sound_at w c (Release touch) (PlanOf.Touch touch) i tt (λ h. h)
+
+-- a call that may be given up has no reply yet
+pub opened : (phase : Phase) → can_give_up phase ≡ true → is_open phase ≡ true
+opened (Check request) e = refl
+opened (Lock goal cursor) e = refl
+opened (Decide change) e = refl
+opened (Post change shoot) e = refl
+opened (Try touch) e = refl
+opened (Settle touch) e = refl
+opened (Want touch) e = refl
+opened (Fill touch frame) e = refl
+opened (Install touch) e = refl
+opened (Release touch) e = refl
+opened Free e = absurd cc
+opened (Acks change held) e = absurd cc
+opened (Unlock held reply) e = absurd cc
+opened (Answer reply) e = absurd cc

@@ -1,4 +1,7 @@
 pub mod Lists
+pub mod Each
+pub mod Rows
+pub mod Lost
 pub mod Opened
 pub mod Known
 pub mod Changing

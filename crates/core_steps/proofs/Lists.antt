@@ -10,7 +10,7 @@ use Rattle.machine_model.specs.declared.phase.Phase.{Phase}
 use Rattle.machine_model.specs.declared.phase.Phase.TheVariants.{Free}
 use Rattle.core_steps.specs.State.{phase_at, number_at}
 
-set_is_put : {A : Type 0} (xs : List A) (d : A) (k : ℕ) (x : A) → k < length xs
+pub set_is_put : {A : Type 0} (xs : List A) (d : A) (k : ℕ) (x : A) → k < length xs
     → (λ j. get_or (slice_set xs k x) j d) ≡ put (λ j. get_or xs j d) k x
 set_is_put xs d k x h =
     fun_ext (put_all (λ j v. get_or (slice_set xs k x) j d ≡ v) (λ j. get_or xs j d) k x (get_or-set_same xs k x d h)

@@ -1,25 +1,28 @@
 -- What a machine knows of the state that it has: some run leads to it
-use Rattle.std.proofs.Common.{◌≡◌, ℕ, ◌<◌, sym, subst, refl, Result, Ok, Err}
-use Rattle.std.specs.Prelude.{IfOk}
+use Rattle.std.proofs.Common.{◌≡◌, ℕ, ◌<◌, ◌+◌, sym, subst, refl, Result, Ok, Err}
+use Rattle.std.proofs.Math.Numerals.{add-one}
+use Rattle.std.specs.Prelude.{IfOk, ◌≢◌}
 use Rattle.std.proofs.Math.Logic.{∥∥₁_map}
 use Rattle.vm_base.specs.declared.memory.NoMemory.{NoMemory}
 use Rattle.slot_lock.specs.Slots.{Slots, IsNew}
 use Rattle.machine_model.specs.declared.event.Event.{Event}
 use Rattle.machine_model.specs.declared.event.Event.TheVariants.{Go}
 use Rattle.machine_model.specs.declared.event.Outcome.{Outcome}
+use Rattle.machine_model.specs.declared.event.Outcome.TheVariants.{Stepped}
+use Rattle.core_steps.specs.declared.machine.Finished.TheVariants.{Last}
 use Rattle.machine_model.specs.World.{World, new_world}
 use Rattle.machine_model.specs.Step.{Step, StepsTo}
-use Rattle.machine_laws.specs.Orderly.{IsOrderly}
-use Rattle.machine_sound.specs.Sound.{IsReached, Notes}
-use Rattle.machine_sound.proofs.Kept.{reached_fine, reached_opening, reached_sound, reached_step, steps_noted}
+use Rattle.machine_sound.specs.Invariant.{Fine}
+use Rattle.machine_sound.specs.Sound.{IsReached, IsSoundStep}
+use Rattle.machine_sound.proofs.Kept.{reached_fine, reached_opening, reached_sound, reached_step, steps_sound}
 use Rattle.core_steps.specs.declared.setup.Setup.{Setup}
-use Rattle.core_steps.specs.Finishing.{IsRefused, finish_limit}
+use Rattle.core_steps.specs.Finishing.{Finishes, IsRefused, finish_limit}
 use Rattle.core_steps.specs.Machine.{IsLegal}
 use Rattle.core_steps.specs.Moving.{MayWant, Tries}
 use Rattle.core_steps.specs.Setups.{made_of}
 
-pub in_order : (w : World) → ∥ IsReached w ∥₁ → ∥ IsOrderly w ∥₁
-in_order w t = ∥∥₁_map t (λ h. (reached_fine w h).order)
+pub fine : (w : World) → ∥ IsReached w ∥₁ → ∥ Fine w ∥₁
+fine w t = ∥∥₁_map t (reached_fine w)
 
 pub legal : (w : World) → ∥ IsReached w ∥₁ → IsLegal w
 legal w t = record { reached = t; sound = ∥∥₁_map t (reached_sound w) }
@@ -32,11 +35,20 @@ pub kept_by : (r : Result Outcome NoMemory) (w v : World) (e : Event) → Tries 
 kept_by (Ok o) w v e s t = ∥∥₁_map t (λ h. reached_step w v e o h s)
 kept_by (Err x) w v e s t = subst (λ u. ∥ IsReached u ∥₁) (sym s.0) t
 
-pub noted_by : (r : Result Outcome NoMemory) (w v : World) (e : Event) → Tries (Step w e) (MayWant w e) w r v → ∥ IsReached w ∥₁
-    → IfOk r (λ o. ∥ Notes w e v ∥₁)
-noted_by (Ok o) w v e s t = ∥∥₁_map t (λ h. steps_noted w v e o h s)
-noted_by (Err x) w v e s t = tt
+pub sound_by : (r : Result Outcome NoMemory) (w v : World) (e : Event) → Tries (Step w e) (MayWant w e) w r v → ∥ IsReached w ∥₁
+    → IfOk r (λ o. ∥ IsSoundStep w e o v ∥₁)
+sound_by (Ok o) w v e s t = ∥∥₁_map t (λ h. steps_sound w v e o h s)
+sound_by (Err x) w v e s t = tt
 
 -- after some steps the next was refused, and nothing changed
 pub refused_at : (was now new : World) (c n : ℕ) → n < finish_limit → StepsTo was c n now → (new ≡ now) × MayWant now (Go c) → IsRefused was c new
 refused_at was now new c n h s r = subst (IsRefused was c) (sym r.0) (n, h, r.1, s)
+
+-- after some steps one is plain
+pub steps_more : (was now new : World) (c n : ℕ) (o : Outcome) → o ≡ Stepped → StepsTo was c n now → Step now (Go c) o new → StepsTo was c (n + 1) new
+steps_more was now new c n o e s step = subst (λ k. StepsTo was c k new) (sym (add-one n)) (now, s, subst (λ o. Step now (Go c) o new) e step)
+
+-- or is the last
+pub steps_end : (was now new : World) (c n : ℕ) (o : Outcome) → n < finish_limit → o ≢ Stepped → StepsTo was c n now → Step now (Go c) o new
+    → Finishes was c (Last o) new
+steps_end was now new c n o h other s step = (n, (h, other, (now, s, step)))

@@ -10,16 +10,9 @@ use Rattle.machine_model.specs.Step.{Step, Run}
 use Rattle.machine_laws.specs.Brackets.{IsBracketed}
 use Rattle.machine_laws.proofs.Bracketed.{bracketed}
 use Rattle.machine_sound.specs.Sound.{SoundRun}
-use Rattle.machine_sound.proofs.Kept.{runs_sound}
+use Rattle.machine_sound.proofs.Kept.{run_more, runs_sound}
 use Rattle.core_steps.specs.Moving.{MayWant}
 use Rattle.core_steps.specs.Running.{IsRefusedAt}
-
-pub run_more : (es : List Event) (os : List Outcome) (w m v : World) (e : Event) (o : Outcome) → Run w es os m → Step m e o v
-    → Run w (es ++ e ∷ []) (os ++ o ∷ []) v
-run_more [] [] w m v e o r s = (v, subst (λ w. Step w e o v) r s, refl)
-run_more [] (p ∷ os) w m v e o r s = absurd r
-run_more (d ∷ es) [] w m v e o r s = absurd r
-run_more (d ∷ es) (p ∷ os) w m v e o r s = (r.0, r.1, run_more es os r.0 m v e o r.2 s)
 
 -- the first events are all of them
 pub all_bracketed : (made : Made) (slots : Slots) (first es : List Event) (os : List Outcome) (w : World) → first ≡ es

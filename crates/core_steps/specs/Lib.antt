@@ -1,4 +1,6 @@
 pub mod Setups
+pub mod Cores
+pub mod Parts
 pub mod State
 pub mod Moving
 pub mod Taking

@@ -6,9 +6,9 @@ use Rattle.machine_sound.specs.Sound.{IsReached, IsSoundState}
 use Rattle.core_steps.specs.declared.machine.Machine.{Machine}
 use Rattle.core_steps.specs.State.{world}
 
-module _ {M A : Type 0} {map : MapGhosts M} {read : ReadGhosts M} where
-  abbrev pub state : Machine M A map read → World
-  state it = world read.slots it.engine
+-- the state that the machine has
+abbrev pub state : {M A : Type 0} {map : MapGhosts M} {read : ReadGhosts M} {clone : _} {cpu : _} → Machine M A map read clone cpu → World
+state {read = read} it = world read.slots it.engine
 
 -- a run of events leads to it, and it is sound
 pub record IsLegal (w : World) : Type 0 where

@@ -1,35 +1,59 @@
--- What a step of an engine does, and which steps may be refused for memory: those at which a slot is to be divided
-use Rattle.std.specs.Prelude.{◌≡◌, ℕ, ◌<◌, None, Result, Ok, Err}
+-- What a step of an engine does, and which steps may be refused for memory: those at which a slot is to be divided, and those that
+-- install the first entry of a page
+use Rattle.std.specs.Prelude.{◌≡◌, ℕ, ◌<◌, ◌⊎◌, None, Result, Ok, Err}
+use Rattle.vm_base.specs.Pages.{IsPage}
 use Rattle.slot_lock.specs.Slots.{Slots, Crosses}
 use Rattle.machine_model.specs.declared.event.Event.{Event}
-use Rattle.machine_model.specs.declared.event.Event.TheVariants.{Call, Go}
+use Rattle.machine_model.specs.declared.event.Event.TheVariants.{Go, Fold}
+use Rattle.machine_model.specs.declared.event.Outcome.{Outcome}
+use Rattle.machine_model.specs.declared.event.Outcome.TheVariants.{Stepped, Idle, Full}
 use Rattle.machine_model.specs.declared.phase.Phase.{Phase}
-use Rattle.machine_model.specs.declared.phase.Phase.TheVariants.{Lock}
+use Rattle.machine_model.specs.declared.phase.Phase.TheVariants.{Lock, Install}
 use Rattle.machine_model.specs.Holding.{goal_range}
 use Rattle.machine_model.specs.World.{World}
-use Rattle.machine_laws.specs.Orderly.{IsOrderly}
+use Rattle.machine_sound.specs.Invariant.{Fine}
 
 -- ---- want of memory
 
--- the slot that the call is to lock next is free, and crosses an edge of the pages that the call is to hold
-abbrev pub IsToDivide : Slots → Phase → Type 0
-IsToDivide s (Lock goal cursor) = (s.owner cursor ≡ None) × Crosses s cursor (goal_range goal).end
-IsToDivide s _ = ⊥
+-- the slot that the call of core c is to lock next is free and crosses an edge of the pages that the call is to hold, or the core's tables
+-- have no entry yet of the page that is to get one
+abbrev pub WantsMemory : World → ℕ → Phase → Type 0
+WantsMemory w c (Lock goal cursor) = (w.slots.owner cursor ≡ None) × Crosses w.slots cursor (goal_range goal).end
+WantsMemory w c (Install touch) = w.hardware.table c touch.page ≡ None
+WantsMemory w c _ = ⊥
 
 -- only a step of such a call takes memory
 abbrev pub MayWant : World → Event → Type 0
-MayWant w (Call core request) = ⊥
-MayWant w (Go core) = IsToDivide w.slots (w.calls.phase core)
+MayWant w (Go c) = WantsMemory w c (w.calls.phase c)
+MayWant w _ = ⊥
 
 -- what may be refused did this, or it was refused as it may be, and nothing changed
 abbrev pub Tries : {T E : Type 0} → (T → World → Type 0) → Type 0 → World → Result T E → World → Type 0
 Tries Does MayRefuse w (Ok done) v = Does done v
 Tries Does MayRefuse w (Err refused) v = (v ≡ w) × MayRefuse
 
--- ---- the call of a core that is to make a step
+-- ---- joins of slots
 
--- the core is the machine's, its call is in this phase, and the state is in order
+-- the slots were joined at the page as the map joins them, or they couldn't be
+abbrev pub FoldsExactly : (Slots → ℕ → Type 0) → (Slots → Slots → ℕ → Type 0) → Slots → ℕ → Outcome → Slots → Type 0
+FoldsExactly CanFold Folds s page o t =
+    ((o ≡ Stepped) × IsPage page × CanFold s page × Folds s t page)
+    ⊎ ((o ≡ Idle) × (IsPage page × CanFold s page → ⊥) × (t ≡ s))
+
+-- a Fold that is taken joins slots just where the map can, and as the map does
+abbrev pub JoinsAsMap : (Slots → ℕ → Type 0) → (Slots → Slots → ℕ → Type 0) → World → Event → Outcome → World → Type 0
+JoinsAsMap CanFold Folds w (Fold page) o v = (o ≡ Full) ⊎ FoldsExactly CanFold Folds w.slots page o v.slots
+JoinsAsMap CanFold Folds w _ o v = Unit {0}
+
+-- ---- the core that is to make a step
+
+-- the core is the machine's, and the state is one that runs reach
+pub record IsOf (w : World) (core : ℕ) : Type 0 where
+  pub here : core < w.made.cores
+  pub fine : ∥ Fine w ∥₁
+
+-- and its call is in this phase
 pub record IsAt (w : World) (core : ℕ) (at : Phase) : Type 0 where
   pub here : core < w.made.cores
   pub phase : w.calls.phase core ≡ at
-  pub orderly : ∥ IsOrderly w ∥₁
+  pub fine : ∥ Fine w ∥₁

@@ -1,14 +1,14 @@
 -- What a machine is made with, and what is wrong with a setup: the first that holds
-use Rattle.std.specs.Prelude.{◌≡◌, ◌⊎◌, ◌==◌, not, nat_lt, if◌then◌else◌, Option, None, Some}
+use Rattle.std.specs.Prelude.{◌≡◌, ◌⊎◌, ◌||◌, nat_lt, if◌then◌else◌, Option, None, Some}
 use Rattle.core_steps.specs.declared.setup.Setup.{Setup}
 use Rattle.core_steps.specs.declared.setup.SetupFault.{SetupFault}
 use Rattle.core_steps.specs.declared.setup.SetupFault.TheVariants.{Cores, Frames, Calls, NoMemory}
 use Rattle.machine_model.specs.World.{Made}
 
--- one core for now, at most 65,536 frames, at most 1,048,576 calls
+-- 1 to 64 cores, at most 65,536 frames, at most 1,048,576 calls
 abbrev pub fault_of : Setup → Option SetupFault
 fault_of s =
-    if not (s.cores == 1) then Some Cores
+    if nat_lt s.cores 1 || nat_lt 64 s.cores then Some Cores
     else if nat_lt 65536 s.frames then Some Frames
     else if nat_lt 1048576 s.calls then Some Calls
     else None

@@ -1,7 +1,7 @@
 //! The access of a byte.
 ghost use Rattle.std.specs.Prelude.{◌≡◌, ◌<◌, length};
 ghost use Rattle.vm_base.specs.Apply.{byte_reply};
-ghost use Rattle.machine_model.specs.Accesses.{accessed, frame_for};
+ghost use Rattle.machine_model.specs.Accesses.{after_access};
 ghost use Rattle.machine_model.specs.Step.{Goes};
 ghost use Rattle.core_steps.specs.State.{world};
 ghost use Rattle.core_steps.specs.Moving.{IsAt};
@@ -9,21 +9,10 @@ ghost use Rattle.core_steps.specs.Moving.{IsAt};
 use crate::acquire::locking;
 use crate::engine::Engine;
 use machine_model::{Goal, Outcome, Phase};
+use mmu::{Hardware, Translated};
 use slot_lock::{SlotMap, Touch};
 use std::alloc::Allocator;
-use vm_base::{Access, CoreId, PageInfo, Reply, allows};
-
-/// The frame through which the page lets the access go, if there is one.
-fn frame_for(access: Access, info: Option<PageInfo>) -> Option<u32>
-    ensures { result ≡ frame_for access info }
-{
-    let info = info?;
-    if allows(info.meta.prot, access) {
-        info.frame
-    } else {
-        None
-    }
-}
+use vm_base::{Access, CoreId, Reply};
 
 /// What an access answers that found this byte.
 fn byte_reply(access: Access, byte: u8) -> Reply
@@ -35,14 +24,14 @@ fn byte_reply(access: Access, byte: u8) -> Reply
     }
 }
 
-impl<M: SlotMap, A: Allocator> Engine<M, A> {
+impl<M: SlotMap, H: Hardware, A: Allocator> Engine<M, H, A> {
     /// The byte is read or written in the frame, and the call has its reply.
     fn access(&mut self, core: CoreId, touch: Touch, frame: u32)
         requires here { core < length self.old.calls.phases.items }
         requires room { length self.old.calls.log.items.items < self.old.calls.requests.limit }
         requires frame { frame < self.old.frames.count }
         requires offset { touch.offset < 4096 }
-        ensures { world M.slots self.new ≡ accessed core touch frame (world M.slots self.old) }
+        ensures { world M.slots self.new ≡ after_access core touch frame (world M.slots self.old) }
     {
         let byte = self.frames.byte(frame, touch.offset as usize);
         if touch.access == Access::Store {
@@ -52,14 +41,15 @@ impl<M: SlotMap, A: Allocator> Engine<M, A> {
         self.reply(core, None, byte_reply(touch.access, byte));
     }
 
-    /// The page is translated: the byte is read or written, or there is a fault.
+    /// The page is translated: the byte is read or written, or there is a fault (Intel SDM volume 3A, page-fault
+    /// exceptions).
     pub fn go_try(&mut self, core: CoreId, touch: Touch) -> Outcome
         requires { IsAt (world M.slots self.old) core (Phase.Try touch) }
         ensures { Goes (world M.slots self.old) core (Phase.Try touch) result (world M.slots self.new) }
     {
-        match frame_for(touch.access, self.map.page(touch.page)) {
-            Some(frame) => self.access(core, touch, frame),
-            None => self.go_to(core, locking(Goal::Access(touch))),
+        match self.cores.translate(core, touch) {
+            Translated::Hit(frame) | Translated::Fill(frame) => self.access(core, touch, frame),
+            Translated::Fault => self.go_to(core, locking(Goal::Access(touch))),
         }
         Outcome::Stepped
     }

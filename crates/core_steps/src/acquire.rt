@@ -5,10 +5,11 @@ ghost use Rattle.machine_model.specs.Holding.{goal_plan, goal_range, page_of_tou
 ghost use Rattle.machine_model.specs.Locks.{all_locked, locked_to, locking};
 ghost use Rattle.machine_model.specs.Step.{Goes};
 ghost use Rattle.core_steps.specs.State.{world};
-ghost use Rattle.core_steps.specs.Moving.{IsAt, IsToDivide, Tries};
+ghost use Rattle.core_steps.specs.Moving.{IsAt, WantsMemory, Tries};
 
 use crate::engine::Engine;
 use machine_model::{Blocker, Goal, Outcome, Phase};
+use mmu::Hardware;
 use slot_lock::{Got, SlotMap, Touch};
 use std::alloc::Allocator;
 use vm_base::{CoreId, NoMemory, PageRange};
@@ -25,7 +26,7 @@ pub fn page_of_touch(touch: Touch) -> PageRange
 }
 
 /// The pages that are to be locked.
-fn goal_range(goal: Goal) -> PageRange
+pub fn goal_range(goal: Goal) -> PageRange
     requires { IsSound (goal_plan goal) }
     ensures { result ≡ goal_range goal }
 {
@@ -60,12 +61,12 @@ fn locked_to(goal: Goal, cursor: u64) -> Phase
     }
 }
 
-impl<M: SlotMap, A: Allocator> Engine<M, A> {
+impl<M: SlotMap, H: Hardware, A: Allocator> Engine<M, H, A> {
     /// One step towards holding all pages of the goal. A refusal for memory changes nothing.
     pub fn go_lock(&mut self, core: CoreId, goal: Goal, cursor: u64) -> Result<Outcome, NoMemory>
         requires { IsAt (world M.slots self.old) core (Phase.Lock goal cursor) }
         ensures { Tries (Goes (world M.slots self.old) core (Phase.Lock goal cursor))
-            (IsToDivide (M.slots self.old.map) (Phase.Lock goal cursor))
+            (WantsMemory (world M.slots self.old) core (Phase.Lock goal cursor))
             (world M.slots self.old) result (world M.slots self.new) }
     {
         let end = goal_range(goal).end;

@@ -1,6 +1,6 @@
 //! The end of a call: its reply is fixed and logged, its pages are unlocked, and the reply is handed out.
 ghost use Rattle.std.specs.Prelude.{◌≡◌, ◌<◌, ◌≤◌, length};
-ghost use Rattle.machine_model.specs.Actions.{let_go, replies};
+ghost use Rattle.machine_model.specs.Actions.{let_go, after_reply};
 ghost use Rattle.machine_model.specs.Locks.{held_after};
 ghost use Rattle.machine_model.specs.Step.{Goes};
 ghost use Rattle.core_steps.specs.State.{world};
@@ -8,6 +8,7 @@ ghost use Rattle.core_steps.specs.Moving.{IsAt};
 
 use crate::engine::Engine;
 use machine_model::{Entry, Outcome, Phase};
+use mmu::Hardware;
 use slot_lock::{SlotMap, Touch};
 use std::alloc::Allocator;
 use vm_base::{CoreId, PageRange, Reply};
@@ -35,13 +36,13 @@ fn held_after(held: PageRange, unlocked_to: u64) -> Option<PageRange>
     })
 }
 
-impl<M: SlotMap, A: Allocator> Engine<M, A> {
+impl<M: SlotMap, H: Hardware, A: Allocator> Engine<M, H, A> {
     /// The call of a core, which holds these pages, has its reply from here on: it is logged, and the pages are unlocked
     /// next.
     pub fn reply(&mut self, core: CoreId, held: Option<PageRange>, reply: Reply)
         requires here { core < length self.old.calls.phases.items }
         requires room { length self.old.calls.log.items.items < self.old.calls.requests.limit }
-        ensures { world M.slots self.new ≡ replies core held reply (world M.slots self.old) }
+        ensures { world M.slots self.new ≡ after_reply core held reply (world M.slots self.old) }
     {
         self.calls.log.push(Entry::Answer {
             step: self.calls.events,

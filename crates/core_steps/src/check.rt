@@ -7,12 +7,13 @@ ghost use Rattle.core_steps.specs.Moving.{IsAt};
 use crate::acquire::locking;
 use crate::engine::Engine;
 use machine_model::{Goal, Outcome, Phase};
+use mmu::Hardware;
 use slot_lock::{Plan, SlotMap};
 use std::alloc::Allocator;
 use vm_base::{CoreId, Errno, Reply, Request};
 use vm_calls::check;
 
-impl<M: SlotMap, A: Allocator> Engine<M, A> {
+impl<M: SlotMap, H: Hardware, A: Allocator> Engine<M, H, A> {
     /// The arguments are checked: the call goes on, or has its reply. A mapping without `MAP_FIXED` finds no place yet.
     pub fn go_check(&mut self, core: CoreId, request: Request) -> Outcome
         requires { IsAt (world M.slots self.old) core (Phase.Check request) }

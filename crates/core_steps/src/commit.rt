@@ -1,48 +1,68 @@
 //! The change of the pages, once no core that was told is awaited any more.
-ghost use Rattle.std.specs.Prelude.{◌≡◌, ℕ, ◌≤◌, ◌<◌, true, false};
-ghost use Rattle.vm_base.specs.Functions.{has};
-ghost use Rattle.vm_base.specs.Pages.{IsPageRange};
+ghost use Rattle.std.specs.Prelude.{◌≡◌, ◌-◌, ◌<◌};
+ghost use Rattle.vm_base.specs.Info.{frame_of};
+ghost use Rattle.refcache.specs.Parts.{counts_of};
 ghost use Rattle.slot_lock.specs.Plan.{IsSoundChange, range_of};
-ghost use Rattle.slot_lock.specs.Slots.{OwnsAll, NoFrames, IsHeld};
-ghost use Rattle.machine_model.specs.Changes.{changed, reply_to};
+ghost use Rattle.slot_lock.specs.Slots.{NoFrames, IsHeld};
+ghost use Rattle.machine_model.specs.Changes.{slots_after, reply_to};
+ghost use Rattle.machine_model.specs.Counting.{CountsDown, frame_lost};
 ghost use Rattle.machine_model.specs.Step.{Goes};
 ghost use Rattle.core_steps.specs.State.{world};
 ghost use Rattle.core_steps.specs.Moving.{IsAt};
-ghost use Rattle.core_steps.specs.Taking.{AlikeOutside, IsMappedFor};
+ghost use Rattle.core_steps.specs.Taking.{AlikeOutside, AreCounted, IsMappedFor};
 
 use crate::engine::Engine;
-use machine_model::{Outcome, Phase};
+use machine_model::{Blocker, Outcome, Phase};
+use mmu::Hardware;
+use refcache::Refcache;
 use slot_lock::{Change, SlotMap};
 use std::alloc::Allocator;
 use vm_base::page::PAGE_SIZE;
 use vm_base::{CoreId, PageRange, Reply};
 
-/// Takes the frames of all pages of the range, in order of pages.
-fn take_frames<M: SlotMap>(map: &mut M, core: CoreId, range: PageRange)
+/// Takes the frames of all pages of the range and counts them down, in order of pages.
+fn take_frames<M: SlotMap, A: Allocator>(
+    map: &mut M,
+    counts: &mut Refcache<A>,
+    core: CoreId,
+    range: PageRange,
+)
     requires held { IsHeld (M.slots map.old) core range }
+    requires here { core < (counts_of counts.old).cores }
+    requires counted { AreCounted (M.slots map.old).info (counts_of counts.old) }
     ensures none { NoFrames (M.slots map.new) range.first range.end }
     ensures others { AlikeOutside (M.slots map.old) (M.slots map.new) range }
+    ensures counted { CountsDown core (λ p. frame_of ((M.slots map.old).info p)) range.first (range.end - range.first) (counts_of counts.old) (counts_of counts.new) }
 {
     let mut from = range.first;
-    'frames: while let Some((page, _)) = map.take_frame(core, from, range.end) {
+    'frames: while let Some((page, frame)) = map.take_frame(core, from, range.end) {
+        counts.dec(core, frame);
         from = page + 1;
     }
 }
 
 /// Makes the change of pages that the core holds. Replaced and unmapped pages lose their frames first.
-fn make_change<M: SlotMap>(map: &mut M, core: CoreId, change: Change)
+fn make_change<M: SlotMap, A: Allocator>(
+    map: &mut M,
+    counts: &mut Refcache<A>,
+    core: CoreId,
+    change: Change,
+)
     requires sound { IsSoundChange change }
     requires held { IsHeld (M.slots map.old) core (range_of change) }
     requires mapped { IsMappedFor (M.slots map.old) change }
-    ensures { M.slots map.new ≡ changed change (M.slots map.old) }
+    requires here { core < (counts_of counts.old).cores }
+    requires counted { AreCounted (M.slots map.old).info (counts_of counts.old) }
+    ensures slots { M.slots map.new ≡ slots_after change (M.slots map.old) }
+    ensures counted { CountsDown core (frame_lost change (M.slots map.old).info) (range_of change).first ((range_of change).end - (range_of change).first) (counts_of counts.old) (counts_of counts.new) }
 {
     match change {
         Change::Put { range, meta } => {
-            take_frames(map, core, range);
+            take_frames(map, counts, core, range);
             map.set_range(core, range, meta);
         }
         Change::Clear { range } => {
-            take_frames(map, core, range);
+            take_frames(map, counts, core, range);
             map.clear_range(core, range);
         }
         Change::Protect { range, prot } => map.protect_range(core, range, prot),
@@ -60,13 +80,17 @@ fn reply_to(change: Change) -> Reply
     }
 }
 
-impl<M: SlotMap, A: Allocator> Engine<M, A> {
-    /// Nobody is awaited yet: the change is made at once, and its reply stands from here on.
+impl<M: SlotMap, H: Hardware, A: Allocator> Engine<M, H, A> {
+    /// Once no core is awaited, the change is made at once, and its reply stands from here on.
     pub fn go_acks(&mut self, core: CoreId, change: Change, held: PageRange) -> Outcome
         requires { IsAt (world M.slots self.old) core (Phase.Acks change held) }
         ensures { Goes (world M.slots self.old) core (Phase.Acks change held) result (world M.slots self.new) }
     {
-        make_change(&mut self.map, core, change);
+        let waiting = self.cores.waiting(core);
+        if waiting.first().is_some() {
+            return Outcome::Wait(Blocker::Acks(waiting));
+        }
+        make_change(&mut self.map, &mut self.counts, core, change);
         self.reply(core, Some(held), reply_to(change));
         Outcome::Stepped
     }

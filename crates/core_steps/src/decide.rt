@@ -6,12 +6,13 @@ ghost use Rattle.core_steps.specs.Moving.{IsAt};
 
 use crate::engine::Engine;
 use machine_model::{Outcome, Phase};
+use mmu::Hardware;
 use slot_lock::{Change, Plan, SlotMap};
 use std::alloc::Allocator;
 use vm_base::{CoreId, CoreSet, Reply};
 use vm_calls::{Decision, decide};
 
-impl<M: SlotMap, A: Allocator> Engine<M, A> {
+impl<M: SlotMap, H: Hardware, A: Allocator> Engine<M, H, A> {
     /// All pages are held: the change may be made, or is refused.
     pub fn go_decide(&mut self, core: CoreId, change: Change) -> Outcome
         requires { IsAt (world M.slots self.old) core (Phase.Decide change) }
@@ -26,12 +27,13 @@ impl<M: SlotMap, A: Allocator> Engine<M, A> {
         Outcome::Stepped
     }
 
-    /// No core has a translation of the pages yet, so none is told.
+    /// The core drops its own translations of the pages, and the other recorded cores are asked to drop theirs.
     pub fn go_post(&mut self, core: CoreId, change: Change, shoot: CoreSet) -> Outcome
         requires { IsAt (world M.slots self.old) core (Phase.Post change shoot) }
         ensures { Goes (world M.slots self.old) core (Phase.Post change shoot) result (world M.slots self.new) }
     {
         let held = change.range();
+        self.cores.shoot(core, shoot, held);
         self.go_to(core, Phase::Acks { change, held });
         Outcome::Stepped
     }

@@ -1,35 +1,51 @@
 //! The state of the machine.
-ghost use Rattle.std.specs.Prelude.{◌≡◌, ◌<◌, ◌≤◌, length, IfOk, None};
-ghost use Rattle.slot_lock.specs.Slots.{IsNew};
-ghost use Rattle.machine_model.specs.Actions.{to};
-ghost use Rattle.machine_model.specs.World.{new_world, no_calls};
-ghost use Rattle.core_steps.specs.Setups.{fault_of, made_of};
-ghost use Rattle.core_steps.specs.State.{world, calls_of};
+ghost use Rattle.std.specs.Prelude.{◌≡◌, length};
+ghost use Rattle.core_steps.specs.Parts.{parts};
 
+use crate::call_table::new_call_table;
 use crate::calls::CallTable;
-use crate::reserved::Reserved;
+use crate::cores::{Bare, Cores};
 use crate::setup::Setup;
 use backing::Objects;
 use frames::Frames;
 use machine_model::Phase;
+use mmu::Hardware;
+use refcache::Refcache;
 use slot_lock::SlotMap;
 use std::alloc::Allocator;
 use vm_base::{CoreId, NoMemory};
 
 /// The machine's parts.
 #[derive(Drop)]
-pub(crate) struct Engine<M: SlotMap, A: Allocator> {
+pub(crate) struct Engine<M: SlotMap, H: Hardware, A: Allocator> {
     /// The slot map.
     pub map: M,
+    /// The cores' tables, TLBs and inboxes.
+    pub cores: Cores<H, A>,
     /// The frames of physical memory.
     pub frames: Frames<A>,
+    /// How many pages have each frame.
+    pub counts: Refcache<A>,
     /// The open files. There are none yet.
     pub objects: Objects<A>,
     /// The calls.
     pub calls: CallTable<A>,
+    ghost same_cores: { (parts cores).count ≡ length calls.phases.items },
 }
 
-impl<M: SlotMap, A: Allocator> Engine<M, A> {
+impl<M: SlotMap, H: Hardware, A: Allocator> Engine<M, H, A> {
+    ghost use Rattle.std.specs.Prelude.{◌≡◌, ◌<◌, length};
+    ghost use Rattle.machine_model.specs.Actions.{to};
+    ghost use Rattle.core_steps.specs.State.{phase_of, world};
+
+    /// Where the call of a core stands.
+    pub fn phase_of(&self, core: CoreId) -> Phase
+        requires { core < length self.now.calls.phases.items }
+        ensures { result ≡ phase_of self.now core }
+    {
+        self.calls.phases[core.index() as usize]
+    }
+
     /// The call of a core goes on in a phase.
     pub fn go_to(&mut self, core: CoreId, phase: Phase)
         requires { core < length self.old.calls.phases.items }
@@ -39,44 +55,29 @@ impl<M: SlotMap, A: Allocator> Engine<M, A> {
     }
 }
 
-/// A table for so many cores without a call, which has room for so many calls.
-fn call_table<A: Allocator + Clone>(
-    alloc: A,
-    cores: usize,
-    limit: u64,
-) -> Result<CallTable<A>, NoMemory>
-    requires cores { cores ≤ 64 }
-    requires limit { limit ≤ 1048576 }
-    ensures calls { IfOk result (λ table. calls_of table ≡ no_calls) }
-    ensures cores { IfOk result (λ table. length table.phases.items ≡ cores) }
-    ensures limit { IfOk result (λ table. table.requests.limit ≡ limit) }
-{
-    let phases = vec![in alloc.clone()?; Phase::Free; cores]?;
-    let numbers = vec![in alloc.clone()?; 0u64; cores]?;
-    let requests = Reserved::new(alloc.clone()?, limit)?;
-    let log = Reserved::new(alloc, limit)?;
-    Ok(CallTable {
-        phases,
-        numbers,
-        requests,
-        log,
-        events: 0,
-    })
-}
+impl<M: SlotMap + Drop, H: Bare<A>, A: Allocator + Clone + Drop> Engine<M, H, A> {
+    ghost use Rattle.std.specs.Prelude.{◌≡◌, IfOk, None};
+    ghost use Rattle.slot_lock.specs.Slots.{IsNew};
+    ghost use Rattle.machine_model.specs.World.{new_world};
+    ghost use Rattle.core_steps.specs.Setups.{fault_of, made_of};
+    ghost use Rattle.core_steps.specs.State.{world};
 
-impl<M: SlotMap + Drop, A: Allocator + Clone + Drop> Engine<M, A> {
     /// An engine over a new slot map.
-    pub fn new(alloc: A, map: M, setup: &Setup) -> Result<Engine<M, A>, NoMemory>
+    pub fn new(alloc: A, map: M, setup: &Setup) -> Result<Engine<M, H, A>, NoMemory>
         requires new { IsNew (M.slots map) }
         requires sound { fault_of setup.now ≡ None }
         ensures { IfOk result (λ engine. world M.slots engine ≡ new_world (made_of setup.now) (M.slots map)) }
     {
         let frames = Frames::new(alloc.clone()?, setup.frames as u32)?;
+        let counts = Refcache::new(alloc.clone()?, setup.cores as u8, setup.frames as u32)?;
         let objects = Objects::none(alloc.clone()?);
-        let calls = call_table(alloc, setup.cores as usize, setup.calls)?;
+        let cores = Cores::new(alloc.clone()?, setup.cores as u8)?;
+        let calls = new_call_table(alloc, setup.cores as usize, setup.calls)?;
         Ok(Engine {
             map,
+            cores,
             frames,
+            counts,
             objects,
             calls,
         })

@@ -1,18 +1,19 @@
-//! One event: a call begins, or goes one step on.
-ghost use Rattle.std.specs.Prelude.{◌≡◌, ◌+◌, ◌^◌, ◌<◌, length, true};
+//! One event: a call begins or goes one step on, a core acts for itself, or slots are joined.
+ghost use Rattle.std.specs.Prelude.{◌≡◌, ◌+◌, ◌^◌, ◌<◌, length, true, IfOk};
 ghost use Rattle.machine_model.specs.Events.{core_of};
-ghost use Rattle.machine_model.specs.Step.{Acts, Begins, Goes, Step, counted, is_here};
-ghost use Rattle.machine_laws.specs.Orderly.{IsOrderly};
+ghost use Rattle.machine_model.specs.Step.{Acts, Begins, Goes, Step, with_event, is_here};
+ghost use Rattle.machine_sound.specs.Invariant.{Fine};
 ghost use Rattle.core_steps.specs.State.{phase_of, world};
-ghost use Rattle.core_steps.specs.Moving.{IsToDivide, MayWant, Tries};
+ghost use Rattle.core_steps.specs.Moving.{JoinsAsMap, MayWant, Tries, WantsMemory};
 
 use crate::engine::Engine;
 use machine_model::{Event, Outcome, Phase};
+use mmu::Hardware;
 use slot_lock::SlotMap;
 use std::alloc::Allocator;
 use vm_base::{CoreId, NoMemory, Request};
 
-impl<M: SlotMap, A: Allocator> Engine<M, A> {
+impl<M: SlotMap, H: Hardware, A: Allocator> Engine<M, H, A> {
     /// A call begins, if the core has none and the limit of calls isn't reached.
     fn call(&mut self, core: CoreId, request: Request) -> Outcome
         requires { core < length self.old.calls.phases.items }
@@ -36,9 +37,9 @@ impl<M: SlotMap, A: Allocator> Engine<M, A> {
     /// The core's call goes one step on. A refusal for memory changes nothing.
     fn go(&mut self, core: CoreId) -> Result<Outcome, NoMemory>
         requires here { core < length self.old.calls.phases.items }
-        requires orderly { ∥ IsOrderly (world M.slots self.old) ∥₁ }
+        requires fine { ∥ Fine (world M.slots self.old) ∥₁ }
         ensures { Tries (Goes (world M.slots self.old) core (phase_of self.old core))
-            (IsToDivide (M.slots self.old.map) (phase_of self.old core))
+            (WantsMemory (world M.slots self.old) core (phase_of self.old core))
             (world M.slots self.old) result (world M.slots self.new) }
     {
         match self.calls.phases[core.index() as usize] {
@@ -54,7 +55,7 @@ impl<M: SlotMap, A: Allocator> Engine<M, A> {
             Phase::Settle(touch) => Ok(self.go_settle(core, touch)),
             Phase::Want(touch) => Ok(self.go_want(core, touch)),
             Phase::Fill { touch, frame } => Ok(self.go_fill(core, touch, frame)),
-            Phase::Install(touch) => Ok(self.go_install(core, touch)),
+            Phase::Install(touch) => self.go_install(core, touch),
             Phase::Release(touch) => Ok(self.go_release(core, touch)),
         }
     }
@@ -62,14 +63,23 @@ impl<M: SlotMap, A: Allocator> Engine<M, A> {
     /// What the event does, its core being one of the machine's. A refusal for memory changes nothing.
     fn act(&mut self, event: Event) -> Result<Outcome, NoMemory>
         requires here { is_here (world M.slots self.old).made (core_of event) ≡ true }
-        requires orderly { ∥ IsOrderly (world M.slots self.old) ∥₁ }
-        ensures { Tries (Acts (world M.slots self.old) event)
+        requires fine { ∥ Fine (world M.slots self.old) ∥₁ }
+        ensures row { Tries (Acts (world M.slots self.old) event)
             (MayWant (world M.slots self.old) event)
             (world M.slots self.old) result (world M.slots self.new) }
+        ensures joins { IfOk result (λ outcome. JoinsAsMap M.can_fold M.folds (world M.slots self.old) event outcome (world M.slots self.new)) }
     {
         match event {
             Event::Call(core, request) => Ok(self.call(core, request)),
             Event::Go(core) => self.go(core),
+            Event::Frame(core, frame) => Ok(self.take_frame(core, frame)),
+            Event::Take(core) => Ok(self.take(core)),
+            Event::Walk(core, page) => Ok(self.walk(core, page)),
+            Event::Evict(core, page) => Ok(self.evict(core, page)),
+            Event::Flush(core) => Ok(self.flush(core)),
+            Event::Review(core) => Ok(self.review(core)),
+            Event::Fold(page) => Ok(self.fold(page)),
+            Event::GiveUp(core) => Ok(self.give_up(core)),
         }
     }
 
@@ -77,10 +87,11 @@ impl<M: SlotMap, A: Allocator> Engine<M, A> {
     fn act_counted(&mut self, event: Event) -> Result<Outcome, NoMemory>
         requires here { is_here (world M.slots self.old).made (core_of event) ≡ true }
         requires room { self.old.calls.events + 1 < 2 ^ 64 }
-        requires orderly { ∥ IsOrderly (world M.slots self.old) ∥₁ }
-        ensures { Tries (Acts (counted (world M.slots self.old)) event)
+        requires fine { ∥ Fine (world M.slots self.old) ∥₁ }
+        ensures row { Tries (Acts (with_event (world M.slots self.old)) event)
             (MayWant (world M.slots self.old) event)
             (world M.slots self.old) result (world M.slots self.new) }
+        ensures joins { IfOk result (λ outcome. JoinsAsMap M.can_fold M.folds (world M.slots self.old) event outcome (world M.slots self.new)) }
     {
         self.calls.events += 1;
         match self.act(event) {
@@ -104,10 +115,11 @@ impl<M: SlotMap, A: Allocator> Engine<M, A> {
 
     /// One event, which is counted unless memory is refused; then nothing changes.
     pub fn step(&mut self, event: Event) -> Result<Outcome, NoMemory>
-        requires { ∥ IsOrderly (world M.slots self.old) ∥₁ }
-        ensures { Tries (Step (world M.slots self.old) event)
+        requires { ∥ Fine (world M.slots self.old) ∥₁ }
+        ensures step { Tries (Step (world M.slots self.old) event)
             (MayWant (world M.slots self.old) event)
             (world M.slots self.old) result (world M.slots self.new) }
+        ensures joins { IfOk result (λ outcome. JoinsAsMap M.can_fold M.folds (world M.slots self.old) event outcome (world M.slots self.new)) }
     {
         if self.calls.events == u64::MAX {
             return Ok(Outcome::Full);

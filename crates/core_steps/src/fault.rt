@@ -1,21 +1,23 @@
-//! A fault of an access whose page is held: what the page's slot says is read, a frame is taken and filled, and the core is
-//! recorded.
-ghost use Rattle.std.specs.Prelude.{◌≡◌, ◌<◌, length};
+//! A fault of an access whose page is held: what the page's slot says is read, a frame is taken and filled, the page's
+//! translation is installed, and the core is recorded.
+ghost use Rattle.std.specs.Prelude.{◌≡◌, ℕ, ◌<◌, true, false, length, IfNone, IfSome};
 ghost use Rattle.slot_lock.specs.Plan.{IsSoundTouch};
 ghost use Rattle.backing.specs.Files.{files_of};
 ghost use Rattle.vm_calls.specs.declared.fault.Settled.{Settled};
-ghost use Rattle.machine_model.specs.Accesses.{is_past_end, settled_to};
+ghost use Rattle.frames.specs.Parts.{free_frames};
+ghost use Rattle.machine_model.specs.Accesses.{TakesThisFrame, is_past_end, after_finding};
 ghost use Rattle.machine_model.specs.Step.{Goes};
-ghost use Rattle.core_steps.specs.State.{world};
-ghost use Rattle.core_steps.specs.Moving.{IsAt};
+ghost use Rattle.core_steps.specs.State.{phase_of, world};
+ghost use Rattle.core_steps.specs.Moving.{IsAt, IsOf, Tries, WantsMemory};
 
 use crate::acquire::page_of_touch;
 use crate::engine::Engine;
 use backing::Objects;
 use machine_model::{Outcome, Phase};
+use mmu::Hardware;
 use slot_lock::{SlotMap, Touch};
 use std::alloc::Allocator;
-use vm_base::{Back, CoreId, PageInfo, Reply, SegvCode};
+use vm_base::{Back, CoreId, NoMemory, PageInfo, Reply, SegvCode};
 use vm_calls::{Settled, settle};
 
 /// Tells whether the page's file page lies wholly past the end of its file.
@@ -33,13 +35,13 @@ fn is_past_end<A: Allocator>(objects: &Objects<A>, info: &Option<PageInfo>) -> b
     }
 }
 
-impl<M: SlotMap, A: Allocator> Engine<M, A> {
+impl<M: SlotMap, H: Hardware, A: Allocator> Engine<M, H, A> {
     /// The access goes on by what it found at its page: it is answered, or the page has a frame, or wants one.
     fn settled_to(&mut self, core: CoreId, touch: Touch, settled: Settled)
         requires here { core < length self.old.calls.phases.items }
         requires room { length self.old.calls.log.items.items < self.old.calls.requests.limit }
         requires touch { IsSoundTouch touch }
-        ensures { world M.slots self.new ≡ settled_to core touch settled (world M.slots self.old) }
+        ensures { world M.slots self.new ≡ after_finding core touch settled (world M.slots self.old) }
     {
         let held = Some(page_of_touch(touch));
         match settled {
@@ -81,12 +83,48 @@ impl<M: SlotMap, A: Allocator> Engine<M, A> {
         Outcome::Stepped
     }
 
-    /// The frame gets zero bytes, and the page gets the frame.
+    /// The frame of this number, if it is free.
+    fn free_frame(&self, frame: u64) -> Option<u32>
+        requires { (f : ℕ) → free_frames self.now.frames f ≡ true → f < self.now.frames.count }
+        ensures none { IfNone result (free_frames self.now.frames frame ≡ false) }
+        ensures some { IfSome result (λ f. (f ≡ frame) × (free_frames self.now.frames f ≡ true)) }
+    {
+        if frame >= u64::from(self.frames.count()) {
+            return None;
+        }
+        let frame = frame as u32;
+        if self.frames.is_free(frame) {
+            Some(frame)
+        } else {
+            None
+        }
+    }
+
+    /// The core's call takes this frame, if it wants one and the frame is free.
+    pub fn take_frame(&mut self, core: CoreId, frame: u64) -> Outcome
+        requires { IsOf (world M.slots self.old) core }
+        ensures { TakesThisFrame (world M.slots self.old) core (phase_of self.old core) frame result (world M.slots self.new) }
+    {
+        match self.calls.phases[core.index() as usize] {
+            Phase::Want(touch) => {
+                let Some(frame) = self.free_frame(frame) else {
+                    return Outcome::Idle;
+                };
+                self.frames.take(frame);
+                self.go_to(core, Phase::Fill { touch, frame });
+                Outcome::Stepped
+            }
+            _ => Outcome::Idle,
+        }
+    }
+
+    /// The frame gets zero bytes and is counted once, and the page gets the frame.
     pub fn go_fill(&mut self, core: CoreId, touch: Touch, frame: u32) -> Outcome
         requires { IsAt (world M.slots self.old) core (Phase.Fill touch frame) }
         ensures { Goes (world M.slots self.old) core (Phase.Fill touch frame) result (world M.slots self.new) }
     {
         self.frames.fill_zero(frame);
+        self.counts.begin(frame, 1);
         if let Some(info) = self.map.page(touch.page) {
             let frame = Some(frame);
             self.map
@@ -96,17 +134,22 @@ impl<M: SlotMap, A: Allocator> Engine<M, A> {
         Outcome::Stepped
     }
 
-    /// The core is recorded on the page.
-    pub fn go_install(&mut self, core: CoreId, touch: Touch) -> Outcome
+    /// The core's tables get the page's entry, and the core is recorded on the page. A refusal for memory changes nothing.
+    pub fn go_install(&mut self, core: CoreId, touch: Touch) -> Result<Outcome, NoMemory>
         requires { IsAt (world M.slots self.old) core (Phase.Install touch) }
-        ensures { Goes (world M.slots self.old) core (Phase.Install touch) result (world M.slots self.new) }
+        ensures { Tries (Goes (world M.slots self.old) core (Phase.Install touch))
+            (WantsMemory (world M.slots self.old) core (Phase.Install touch))
+            (world M.slots self.old) result (world M.slots self.new) }
     {
-        if let Some(info) = self.map.page(touch.page) {
+        if let Some(info) = self.map.page(touch.page)
+            && let Some(frame) = info.frame
+        {
+            self.cores.install(core, touch.page, frame, info.meta.prot)?;
             let cores = info.cores.with(core);
             self.map
                 .set_leaf(core, touch.page, PageInfo { cores, ..info });
         }
         self.go_to(core, Phase::Release(touch));
-        Outcome::Stepped
+        Ok(Outcome::Stepped)
     }
 }

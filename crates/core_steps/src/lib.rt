@@ -4,13 +4,20 @@
 mod access;
 mod acquire;
 mod answer;
+mod call_table;
 mod calls;
 mod check;
 mod commit;
+mod core_events;
+#[cfg(test)]
+mod core_tests;
+mod cores;
+mod counting;
 mod decide;
 mod engine;
 mod events;
 mod fault;
+mod give_up;
 pub mod machine;
 mod reserved;
 pub mod run_result;

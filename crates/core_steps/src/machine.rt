@@ -5,6 +5,7 @@ ghost use Rattle.core_steps.specs.State.{world};
 use crate::engine::Engine;
 use crate::setup::{Setup, SetupFault};
 use machine_model::{Entry, Event, Outcome};
+use mmu::{Cpu, Hardware};
 use slot_lock::SlotMap;
 use std::alloc::Allocator;
 use vm_base::{CoreId, NoMemory};
@@ -23,8 +24,11 @@ pub enum Finished {
 
 /// One address space over a slot map, which events move step by step.
 #[derive(Drop)]
-pub struct Machine<M: SlotMap, A: Allocator> {
-    engine: Engine<M, A>,
+pub struct Machine<M: SlotMap, A: Allocator + Clone>
+where
+    Cpu<A>: Hardware,
+{
+    engine: Engine<M, Cpu<A>, A>,
     ghost reached: { ∥ IsReached (world M.slots engine) ∥₁ },
 }
 
@@ -53,22 +57,26 @@ impl<M: SlotMap + Drop, A: Allocator + Clone + Drop> Machine<M, A> {
     }
 }
 
-impl<M: SlotMap, A: Allocator> Machine<M, A> {
-    ghost use Rattle.std.specs.Prelude.{◌≡◌, IfOk, OnErr};
+impl<M: SlotMap, A: Allocator + Clone> Machine<M, A> {
+    ghost use Rattle.std.specs.Prelude.{◌≡◌, ◌<◌, true, IfOk, OnErr};
+    ghost use Rattle.vm_base.specs.Pages.{is_page};
+    ghost use Rattle.mmu.specs.Tables.{word_of};
     ghost use Rattle.machine_model.specs.Step.{Step};
-    ghost use Rattle.machine_sound.specs.Sound.{Notes};
-    ghost use Rattle.core_steps.specs.Moving.{MayWant, Tries};
+    ghost use Rattle.machine_sound.specs.Sound.{IsSoundStep};
+    ghost use Rattle.core_steps.specs.Moving.{JoinsAsMap, MayWant, Tries};
     ghost use Rattle.core_steps.specs.Finishing.{Finishes, IsRefused};
     ghost use Rattle.core_steps.specs.Machine.{state, IsLegal};
 
-    /// One event. A refusal for memory leaves the machine unchanged, and comes only at a step at which a slot is to be
-    /// divided. The state that is left is one of a plain page map's (POSIX.1-2017, mmap, munmap and mprotect), and the step's
-    /// log entry, if it made one, was due.
+    /// One event. A refusal for memory leaves the machine unchanged, and comes only at a step of a call at which a slot is to be
+    /// divided, or which installs the first entry of a page. Slots are joined just where the map can join them. The state that
+    /// is left is one of a plain page map's (POSIX.1-2017, mmap, munmap and mprotect). The step's log entry, if it made one, was
+    /// due, a frame became free only by a review or by a call that was given up, and what is waited for is there.
     pub fn step(&mut self, event: Event) -> Result<Outcome, NoMemory>
         ensures step { Tries (Step (state self.old) event)
             (MayWant (state self.old) event)
             (state self.old) result (state self.new) }
-        ensures noted { IfOk result (λ outcome. ∥ Notes (state self.old) event (state self.new) ∥₁) }
+        ensures joins { IfOk result (λ outcome. JoinsAsMap M.can_fold M.folds (state self.old) event outcome (state self.new)) }
+        ensures sound { IfOk result (λ outcome. ∥ IsSoundStep (state self.old) event outcome (state self.new) ∥₁) }
         ensures legal { IsLegal (state self.new) }
     {
         self.engine.step(event)
@@ -100,5 +108,22 @@ impl<M: SlotMap, A: Allocator> Machine<M, A> {
         ensures legal { IsLegal (state self.now) }
     {
         &self.engine.calls.log.items
+    }
+
+    /// How many cores the machine has.
+    pub fn cores(&self) -> usize
+        ensures { result ≡ (state self.now).made.cores }
+    {
+        self.engine.calls.phases.len()
+    }
+
+    /// The 64 bits of the entry that the core's tables have of the page (Intel SDM volume 3A, 4-level paging, format of a
+    /// page-table entry that maps a 4-KByte page).
+    pub fn entry(&self, core: CoreId, page: u64) -> Option<u64>
+        requires here { core < (state self.now).made.cores }
+        requires page { is_page page ≡ true }
+        ensures { result ≡ word_of ((state self.now).hardware.table core page) }
+    {
+        self.engine.cores.entry(core, page)
     }
 }

@@ -2,12 +2,16 @@
 use crate::machine::Machine;
 use crate::setup::SetupFault;
 use machine_model::Outcome;
+use mmu::{Cpu, Hardware};
 use slot_lock::SlotMap;
 use std::alloc::Allocator;
 
 /// A run of all events of a list.
 #[derive(Drop)]
-pub struct Run<M: SlotMap, A: Allocator> {
+pub struct Run<M: SlotMap, A: Allocator + Clone>
+where
+    Cpu<A>: Hardware,
+{
     /// What each event came to, in order.
     pub outcomes: Vec<Outcome, A>,
     /// The machine after the last event.

@@ -66,10 +66,7 @@ fn fault<A: Allocator + Clone + Drop, B: Allocator + Clone + Drop>(
     let map = RunList::new(slots)?;
     let events = mmap_and_go(4096);
     match run(alloc, map, setup, events.as_slice()) {
-        Ok(done) => {
-            drop(done);
-            Ok(None)
-        }
+        Ok(_) => Ok(None),
         Err(fault) => Ok(Some(fault)),
     }
 }
@@ -108,6 +105,7 @@ fn a_refused_call(rt: HostRuntime) -> Result<(), Fail> {
 fn faults_of_the_setup(rt: HostRuntime) -> Result<(), Fail> {
     let setups = [
         ((0, 65_537, 1_048_577), SetupFault::Cores),
+        ((65, 65_537, 1_048_577), SetupFault::Cores),
         ((1, 65_537, 1_048_577), SetupFault::Frames),
         ((1, 65_536, 1_048_577), SetupFault::Calls),
         ((1, 65_536, 1_048_576), SetupFault::NoMemory),
@@ -132,7 +130,7 @@ fn heaps_that_are_too_small(rt: HostRuntime) -> Result<(), Fail> {
     let mut made = 0u32;
     let mut listed = 0u32;
     let mut whole = 0u32;
-    for n in 0..1000usize {
+    for n in 0..12_000usize {
         let heap = LocalHeap::new(rt.alloc(), 64 + 16 * n)?;
         let fault = fault(&heap, rt.alloc(), &SMALL)?;
         assert_eq!(rt; heap.used(), 0);

@@ -18,7 +18,7 @@ pub struct Setup {
 /// Why a setup makes no machine. The first that holds is told, in this order.
 #[derive(Clone, Copy, Debug, PartialEq, Eq)]
 pub enum SetupFault {
-    /// There is no core, or there are more than the machine can have: one, for now.
+    /// There is no core, or there are more than 64.
     Cores,
     /// There are more than 65,536 frames.
     Frames,
@@ -44,7 +44,7 @@ impl Setup {
     pub fn fault(&self) -> Option<SetupFault>
         ensures { result ≡ fault_of self.now }
     {
-        if self.cores != 1 {
+        if self.cores < 1 || 64 < self.cores {
             Some(SetupFault::Cores)
         } else if self.frames > 65_536 {
             Some(SetupFault::Frames)

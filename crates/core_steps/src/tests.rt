@@ -221,12 +221,12 @@ fn the_first_fault_is_told(rt: HostRuntime) -> Result<(), Fail> {
     let calls = Some(SetupFault::Calls);
     let setups = [
         ((1, 65_536, 2), None),
-        ((1, 1, 1_048_576), None),
+        ((64, 1, 1_048_576), None),
         ((0, 65_537, 1_048_577), cores),
-        ((2, 65_537, 1_048_577), cores),
-        ((2, 1, 1), cores),
+        ((65, 65_537, 1_048_577), cores),
+        ((65, 1, 1), cores),
         ((1, 65_537, 1_048_577), frames),
-        ((1, 65_537, 1), frames),
+        ((64, 65_537, 1), frames),
         ((1, 1, 1_048_577), calls),
     ];
     for ((cores, frames, calls), told) in setups {
@@ -255,7 +255,7 @@ fn refused(heap: &LocalHeap) -> (bool, usize) {
 #[test]
 fn each_allocation_of_new_is_refused(rt: HostRuntime) -> Result<(), Fail> {
     let mut refusals = 0;
-    for step in 0..4000 {
+    for step in 0..16_000 {
         let heap = LocalHeap::new(rt.alloc(), 64 + 16 * step)?;
         let (refused, used) = refused(&heap);
         assert_eq!(rt; used, 0);
@@ -264,9 +264,9 @@ fn each_allocation_of_new_is_refused(rt: HostRuntime) -> Result<(), Fail> {
             break;
         }
     }
-    // two frames alone have 8192 bytes
-    assert!(rt; refusals > 512);
-    assert!(rt; refusals < 4000);
+    // the inboxes alone have 64 times 63 messages of 16 bytes and more
+    assert!(rt; refusals > 4032);
+    assert!(rt; refusals < 16_000);
     Ok(())
 }
 

@@ -1,5 +1,5 @@
 -- On a new machine every store is answered SIGSEGV, whatever steps the call takes: the law says so without looking at them.
-use Rattle.std.proofs.Common.{◌≡◌, ◌≢◌, ℕ, ◌<◌, Bool, refl, subst, None}
+use Rattle.std.proofs.Common.{◌⊎◌, inl, inr, ◌≡◌, ◌≢◌, ℕ, ◌<◌, Bool, refl, subst, None}
 use Rattle.vm_base.specs.declared.replies.Reply.{Reply}
 use Rattle.vm_base.specs.declared.replies.Reply.TheVariants.{Mapped, Done, Byte, Refused, Segv, Bus, NoFrame, NoMemory}
 use Rattle.vm_base.specs.declared.replies.SegvCode.TheVariants.{MapErr}
@@ -15,7 +15,7 @@ use Rattle.machine_model.specs.Step.{Step, StepsTo, event_limit}
 use Rattle.machine_sound.specs.Log.{Stands}
 use Rattle.machine_sound.specs.Sound.{IsDue}
 use Rattle.machine_sound.proofs.Kept.{reached_opening}
-use Rattle.machine_alone.specs.Alone.{IsServed}
+use Rattle.machine_alone.specs.Alone.{IsAwaiting}
 use Rattle.machine_alone.proofs.Serving.{served_alone}
 
 abbrev made : Made
@@ -32,13 +32,15 @@ faults is_free u (Refused r) h d = let e = h.0 in cc
 faults is_free u (Segv s) h d = let e = h.0 in cc
 faults is_free u Bus h d = let e = h.0 in cc
 faults is_free u NoFrame h d = absurd h.0
-faults is_free u NoMemory h d = absurd d
+faults is_free u NoMemory h d = absurd cc
 
 stores_fault : (slots : Slots) → IsNew slots → (begun x v : World) (n : ℕ) (o : Outcome) → Step (new_world made slots) (Call 0 (Store 65540 41)) Stepped begun
-    → StepsTo begun 0 n x → Step x (Go 0) o v → o ≢ Stepped → x.calls.events < event_limit → o ≡ Answered (Segv MapErr)
+    → StepsTo begun 0 n x → Step x (Go 0) o v → o ≢ Stepped → x.calls.events < event_limit
+    → (o ≡ Answered (Segv MapErr)) ⊎ IsAwaiting (new_world made slots) x nothing 0 (Store 65540 41) o v
 stores_fault slots new begun x v n o call steps step not below =
     let w : World = new_world made slots in
     let reached = reached_opening made slots (λ n. refl) new in
-    let k : IsServed w nothing 0 (Store 65540 41) o v = (served_alone w begun nothing 0 (Store 65540 41) reached refl (λ c. refl) call).ends n x v o steps step not below in
-    let reply = faults w.memory.is_free k.after k.reply k.stands (k.due 0 0) in
-    subst (λ y. o ≡ Answered y) reply k.answered
+    elim ((served_alone w begun nothing 0 (Store 65540 41) reached refl (λ c. refl) call).ends n x v o steps step not below) [
+      | inl k ↦ inl (subst (λ y. o ≡ Answered y) (faults w.memory.is_free k.0.after k.0.reply k.0.stands (k.0.due 0 0)) k.0.answered)
+      | inr a ↦ inr a
+    ]

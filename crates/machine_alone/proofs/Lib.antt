@@ -1,4 +1,11 @@
 mod Examples
 mod Rank
 mod Rows
+pub mod Telling
+pub mod Using
+pub mod Used
+pub mod Taking
 pub mod Serving
+pub mod Ending
+pub mod Beside
+pub mod Apart

@@ -1,7 +1,6 @@
 -- How many plain steps a call can still take where no other call runs
 use Rattle.std.proofs.Common.{◌≡◌, ℕ, zero, suc, ◌≤◌, ◌<◌, ◌+◌, ◌-◌, ◌^◌, Bool, if◌then◌else◌, ◌==◌, refl, ap, arith, Some, None, Option}
 use Rattle.std.specs.Prelude.{is_some, nat_le}
-use Rattle.vm_base.specs.declared.info.PageInfo.{PageInfo}
 use Rattle.vm_base.specs.declared.page.PageRange.{PageRange}
 use Rattle.vm_base.specs.declared.replies.Reply.{Reply}
 use Rattle.vm_base.proofs.Functions.{by_test}
@@ -14,9 +13,10 @@ use Rattle.machine_model.specs.declared.phase.Goal.{Goal}
 use Rattle.machine_model.specs.declared.phase.Goal.TheVariants as To
 use Rattle.machine_model.specs.declared.phase.Phase.{Phase}
 use Rattle.machine_model.specs.declared.phase.Phase.TheVariants.{Free, Check, Lock, Decide, Post, Acks, Unlock, Answer, Try, Settle, Want, Fill, Install, Release}
-use Rattle.machine_model.specs.Accesses.{frame_for}
 use Rattle.machine_model.specs.Actions.{let_go}
 use Rattle.machine_model.specs.Holding.{goal_range}
+use Rattle.machine_model.specs.Translating.{translated_by, frame_reached}
+use Rattle.machine_model.specs.World.{Hardware}
 use Rattle.machine_model.specs.Locks.{all_locked, locked_to, held_after}
 
 -- ---- divisions that are left
@@ -58,9 +58,13 @@ missing_most s = omega arith
 abbrev pub size : PageRange → ℕ
 size r = r.end - r.first
 
+-- the frame to which core c's tables and TLB lead an access
+abbrev pub reach_of : Hardware → ℕ → Touch → Option ℕ
+reach_of h c touch = frame_reached (translated_by h c touch)
+
 -- the access finds a frame
-abbrev pub hits : (ℕ → Option PageInfo) → Touch → Bool
-hits info touch = is_some (frame_for touch.access (info touch.page))
+abbrev pub hits : (Touch → Option ℕ) → Touch → Bool
+hits reach touch = is_some (reach touch)
 
 -- once all pages of the goal are locked
 abbrev pub locked_rank : Goal → ℕ
@@ -68,38 +72,38 @@ locked_rank (To.Change change) = size (range_of change) + 4
 locked_rank (To.Access touch) = 10
 
 -- with m divisions left
-abbrev pub rank : ℕ → (ℕ → Option PageInfo) → Phase → ℕ
-rank m info Free = 0
-rank m info (Check request) = 2 ^ 37
-rank m info (Lock goal cursor) = m + (((goal_range goal).end - cursor) + locked_rank goal)
-rank m info (Decide change) = size (range_of change) + 4
-rank m info (Post change shoot) = size (range_of change) + 3
-rank m info (Acks change held) = size held + 2
-rank m info (Unlock held reply) = size held + 1
-rank m info (Answer reply) = 1
-rank m info (Try touch) = if hits info touch then 2 else m + 12
-rank m info (Settle touch) = 10
-rank m info (Want touch) = 9
-rank m info (Fill touch frame) = 8
-rank m info (Install touch) = 7
-rank m info (Release touch) = 6
+abbrev pub rank : ℕ → (Touch → Option ℕ) → Phase → ℕ
+rank m reach Free = 0
+rank m reach (Check request) = 2 ^ 37
+rank m reach (Lock goal cursor) = m + (((goal_range goal).end - cursor) + locked_rank goal)
+rank m reach (Decide change) = size (range_of change) + 4
+rank m reach (Post change shoot) = size (range_of change) + 3
+rank m reach (Acks change held) = size held + 2
+rank m reach (Unlock held reply) = size held + 1
+rank m reach (Answer reply) = 1
+rank m reach (Try touch) = if hits reach touch then 2 else m + 12
+rank m reach (Settle touch) = 10
+rank m reach (Want touch) = 9
+rank m reach (Fill touch frame) = 8
+rank m reach (Install touch) = 7
+rank m reach (Release touch) = 6
 
-abbrev pub rank_of : Slots → Phase → ℕ
-rank_of s phase = rank (missing s) s.info phase
+abbrev pub rank_of : Slots → (Touch → Option ℕ) → Phase → ℕ
+rank_of s reach phase = rank (missing s) reach phase
 
 -- ---- locking and unlocking go on to the right
 
-all_rank : (m : ℕ) (info : ℕ → Option PageInfo) (goal : Goal) → rank m info (all_locked goal) ≡ locked_rank goal
-all_rank m info (To.Change change) = refl
-all_rank m info (To.Access touch) = refl
+all_rank : (m : ℕ) (reach : Touch → Option ℕ) (goal : Goal) → rank m reach (all_locked goal) ≡ locked_rank goal
+all_rank m reach (To.Change change) = refl
+all_rank m reach (To.Access touch) = refl
 
-pub lock_less : (m : ℕ) (info old : ℕ → Option PageInfo) (goal : Goal) (cursor b : ℕ) → cursor < b → b ≤ (goal_range goal).end
-    → rank m info (locked_to goal b) < rank m old (Lock goal cursor)
-lock_less m info old goal cursor b l n =
-    by_test (λ phase. rank m info phase < m + (((goal_range goal).end - cursor) + locked_rank goal)) (nat_le (goal_range goal).end b) (all_locked goal) (Lock goal b)
-    (λ _. let a = all_rank m info goal in omega (arith, a)) (λ _. omega arith)
+pub lock_less : (m : ℕ) (reach old : Touch → Option ℕ) (goal : Goal) (cursor b : ℕ) → cursor < b → b ≤ (goal_range goal).end
+    → rank m reach (locked_to goal b) < rank m old (Lock goal cursor)
+lock_less m reach old goal cursor b l n =
+    by_test (λ phase. rank m reach phase < m + (((goal_range goal).end - cursor) + locked_rank goal)) (nat_le (goal_range goal).end b) (all_locked goal) (Lock goal b)
+    (λ _. let a = all_rank m reach goal in omega (arith, a)) (λ _. omega arith)
 
-pub unlock_less : (m n : ℕ) (info old : ℕ → Option PageInfo) (held : PageRange) (reply : Reply) (b : ℕ) → held.first < b → b ≤ held.end
-    → rank m info (let_go (held_after held b) reply) < rank n old (Unlock held reply)
-unlock_less m n info old held reply b l e =
-    by_test (λ o. rank m info (let_go o reply) < size held + 1) (b == held.end) None (Some (between b held.end)) (λ _. omega arith) (λ _. omega arith)
+pub unlock_less : (m n : ℕ) (reach old : Touch → Option ℕ) (held : PageRange) (reply : Reply) (b : ℕ) → held.first < b → b ≤ held.end
+    → rank m reach (let_go (held_after held b) reply) < rank n old (Unlock held reply)
+unlock_less m n reach old held reply b l e =
+    by_test (λ o. rank m reach (let_go o reply) < size held + 1) (b == held.end) None (Some (between b held.end)) (λ _. omega arith) (λ _. omega arith)

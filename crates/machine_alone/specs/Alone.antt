@@ -1,15 +1,28 @@
 -- A call beside which no other call runs
-use Rattle.std.specs.Prelude.{◌≡◌, ◌≢◌, ℕ, ◌<◌, ◌^◌}
+use Rattle.std.specs.Prelude.{◌≡◌, ◌≢◌, ℕ, ◌+◌, ◌<◌, ◌≤◌, ◌^◌, ◌⊎◌, ◌↔◌, if◌then◌else◌, nat_lt, pred, true, false, List, [], ◌∷◌, Some}
+use Rattle.vm_base.specs.declared.page.PageRange.{PageRange}
 use Rattle.vm_base.specs.declared.replies.Reply.{Reply}
 use Rattle.vm_base.specs.declared.requests.Request.{Request}
+use Rattle.vm_base.specs.Cores.{members}
+use Rattle.vm_base.specs.Functions.{put}
+use Rattle.slot_lock.specs.declared.plan.Change.{Change}
+use Rattle.slot_lock.specs.Plan.{range_of}
+use Rattle.slot_lock.specs.Slots.{IsUser}
+use Rattle.shootdown.specs.declared.message.Message.{Message}
+use Rattle.machine_laws.specs.Brackets.{nth}
+use Rattle.machine_model.specs.Changes.{reply_to}
+use Rattle.machine_alone.specs.Taken.{frames_for, frames_taken}
+use Rattle.machine_alone.specs.Users.{Users, Same, recorded, users_after, without}
 use Rattle.vm_base.specs.Plain.{Plain, nothing_mapped}
-use Rattle.machine_model.specs.declared.event.Event.TheVariants.{Call, Go}
+use Rattle.machine_model.specs.declared.event.Blocker.TheVariants as WaitsFor
+use Rattle.machine_model.specs.declared.event.Event.{Event}
+use Rattle.machine_model.specs.declared.event.Event.TheVariants.{Call, Go, Frame, Take, GiveUp}
 use Rattle.machine_model.specs.declared.event.Outcome.{Outcome}
-use Rattle.machine_model.specs.declared.event.Outcome.TheVariants.{Stepped, Answered}
+use Rattle.machine_model.specs.declared.event.Outcome.TheVariants.{Stepped, Idle, Wait, Answered}
 use Rattle.machine_model.specs.declared.log.Entry.TheVariants.{Answer}
-use Rattle.machine_model.specs.declared.phase.Phase.TheVariants.{Free}
+use Rattle.machine_model.specs.declared.phase.Phase.TheVariants.{Free, Acks}
 use Rattle.machine_model.specs.World.{World}
-use Rattle.machine_model.specs.Step.{Step, StepsTo, event_limit}
+use Rattle.machine_model.specs.Step.{Step, StepsTo, with_event, event_limit}
 use Rattle.machine_sound.specs.Log.{Replays, Stands}
 use Rattle.machine_sound.specs.Sound.{IsDue, IsReached}
 
@@ -21,8 +34,26 @@ IsCalm w = (c : ℕ) → w.calls.phase c ≡ Free
 abbrev pub LeadsTo : World → Plain → Type 0
 LeadsTo w t = Replays w.calls.requests (nothing_mapped w.made.file) w.calls.log t
 
--- A call, begun in w, comes to this outcome and leaves v: its reply, and the plain page map to which the log then leads, are what the map t
--- gives for its request. "No frame" is the reply only if none was free in w, and "no memory" never.
+-- how many takes core d's inbox still needs to be empty, where it has one message at the most
+abbrev pub takes_left : List Message → ℕ
+takes_left [] = 0
+takes_left (m ∷ ms) = if m.is_cleared then 1 else 2
+
+-- The call of core, whose log leads to t, serves its request and waits for acknowledgements. No other core has a call.
+pub record IsWaiting (w : World) (t : Plain) (core : ℕ) (request : Request) : Type 0 where
+  pub change : Change
+  pub held : PageRange
+  pub at_acks : w.calls.phase core ≡ Acks change held
+  pub others : (d : ℕ) → d ≢ core → w.calls.phase d ≡ Free
+  pub inside : nat_lt core w.made.cores ≡ true
+  pub reached : IsReached w
+  pub leads : LeadsTo w t
+  pub number : nth w.calls.requests (w.calls.number core) ≡ Some request
+
+-- A call of w comes to this outcome and leaves v: its reply, and the plain page map to which the log then leads, are what the map t
+-- gives for its request, and the users of each page are those that its reply leaves. An access takes
+-- one frame at the most, and no other request one. "No frame" is the reply only if none was free in w, and
+-- "no memory" never.
 pub record IsServed (w : World) (t : Plain) (core : ℕ) (request : Request) (outcome : Outcome) (v : World) : Type 0 where
   pub reply : Reply
   pub answered : outcome ≡ Answered reply
@@ -32,15 +63,107 @@ pub record IsServed (w : World) (t : Plain) (core : ℕ) (request : Request) (ou
   pub leads : LeadsTo v after
   pub stands : Stands t core request reply after
   pub due : (step call : ℕ) → IsDue (Go core) w.memory.is_free (Answer step call core reply)
+  pub users : Same (recorded v.slots) (users_after core request reply (recorded w.slots))
+  pub frames : frames_taken v ≤ frames_taken w + frames_for request
+
+-- the reply drops no user of a page but the core itself
+abbrev pub KeepsOthers : Users → ℕ → Request → Reply → Type 0
+KeepsOthers users core request reply = (d p : ℕ) → d ≢ core → users p d ≡ true → users_after core request reply users p d ≡ true
+
+-- A call, begun in w, waits in x for the other cores that are recorded on its pages, for just these, and nothing changes. Each of them has
+-- both takes before it. The map t answers its request with a change of these pages, which leaves them without users.
+pub record IsAwaiting (w x : World) (t : Plain) (core : ℕ) (request : Request) (outcome : Outcome) (v : World) : Type 0 where
+  pub waiting : IsWaiting x t core request
+  pub set : ℕ
+  pub waits : outcome ≡ Wait (WaitsFor.Acks set)
+  pub some : (d : ℕ) × (members set d ≡ true)
+  pub exact : (d : ℕ) → (members set d ≡ true) ↔ ((d ≢ core) × IsUser x.slots (range_of waiting.change) d)
+  pub takes : (d : ℕ) → takes_left (x.hardware.inbox d) ≡ (if members set d then 2 else 0)
+  -- they are the machine's
+  pub there : (d : ℕ) → IsUser x.slots (range_of waiting.change) d → nat_lt d w.made.cores ≡ true
+  pub stays : v ≡ with_event x
+  pub users : Same (recorded x.slots) (recorded w.slots)
+  pub frames : frames_taken x ≡ frames_taken w
+  pub after : Plain
+  pub stands : Stands t core request (reply_to waiting.change) after
+  pub drops : (u : Users) → Same (users_after core request (reply_to waiting.change) u) (without (range_of waiting.change) u)
 
 -- Begun in w, whose log leads to t, the call takes few plain steps. The first that isn't plain, before the limit of events, hands out its
--- reply.
+-- reply, which drops no other user, or waits for other cores' acknowledgements.
 pub record IsServedAlone (w : World) (t : Plain) (core : ℕ) (request : Request) (begun : World) : Type 0 where
   pub short : (n : ℕ) (x : World) → StepsTo begun core n x → n < 2 ^ 40
   pub ends : (n : ℕ) (x v : World) (outcome : Outcome) → StepsTo begun core n x → Step x (Go core) outcome v → outcome ≢ Stepped
-      → x.calls.events < event_limit → IsServed w t core request outcome v
+      → x.calls.events < event_limit
+      → ((k : IsServed w t core request outcome v) × KeepsOthers (recorded w.slots) core request k.reply) ⊎ IsAwaiting w x t core request outcome v
 
 -- in each state that a machine reaches, with any number of cores
 abbrev pub AllLoneCallsAreAnswered : Type 0
 AllLoneCallsAreAnswered = (w begun : World) (t : Plain) (core : ℕ) (request : Request) → IsReached w → LeadsTo w t → IsCalm w
     → Step w (Call core request) Stepped begun → IsServedAlone w t core request begun
+
+-- ---- a call that waits
+
+-- it goes on to wait for the cores that still have a take before them, for just these
+pub record IsAwaitingStill (w : World) (outcome : Outcome) (v : World) : Type 0 where
+  pub set : ℕ
+  pub waits : outcome ≡ Wait (WaitsFor.Acks set)
+  pub some : (d : ℕ) × (members set d ≡ true)
+  pub exact : (d : ℕ) → (members set d ≡ true) ↔ (0 < takes_left (w.hardware.inbox d))
+  pub stays : v ≡ with_event w
+
+-- The same of a call that waits in w: once nobody is awaited, it is answered.
+pub record IsServedAtLast (w : World) (t : Plain) (core : ℕ) (request : Request) : Type 0 where
+  pub short : (n : ℕ) (x : World) → StepsTo w core n x → n < 2 ^ 40
+  pub ends : (n : ℕ) (x v : World) (outcome : Outcome) → StepsTo w core n x → Step x (Go core) outcome v → outcome ≢ Stepped
+      → x.calls.events < event_limit
+      → (IsServed w t core request outcome v × ((d : ℕ) → takes_left (w.hardware.inbox d) ≡ 0)) ⊎ IsAwaitingStill w outcome v
+
+abbrev pub AllWaitingCallsAreAnswered : Type 0
+AllWaitingCallsAreAnswered = (w : World) (t : Plain) (core : ℕ) (request : Request) → IsWaiting w t core request → IsServedAtLast w t core request
+
+-- ---- what happens beside a call that waits, or where no core has a call
+
+-- the call of this core, if it has one, waits for acknowledgements, and no other core has a call
+pub record IsResting (w : World) (core : ℕ) : Type 0 where
+  pub reached : IsReached w
+  pub others : (d : ℕ) → d ≢ core → w.calls.phase d ≡ Free
+  pub own : (w.calls.phase core ≡ Free) ⊎ ((change : Change) × ((held : PageRange) × (w.calls.phase core ≡ Acks change held)))
+
+-- the event begins no call, and is no step of a call that a core has
+abbrev pub IsBeside : World → Event → Type 0
+IsBeside w (Call c request) = ⊥
+IsBeside w (Go c) = w.calls.phase c ≡ Free
+IsBeside w e = Unit {0}
+
+-- only events are counted of the calls, each page has the users that it had, and no frame is taken
+pub record IsBesideCalls (w v : World) : Type 0 where
+  pub made : v.made ≡ w.made
+  pub phases : v.calls.phase ≡ w.calls.phase
+  pub numbers : v.calls.number ≡ w.calls.number
+  pub requests : v.calls.requests ≡ w.calls.requests
+  pub log : v.calls.log ≡ w.calls.log
+  pub users : Same (recorded v.slots) (recorded w.slots)
+  pub frames : frames_taken v ≤ frames_taken w
+
+-- how many takes each core still has before it
+abbrev pub left_to : World → ℕ → ℕ
+left_to w d = takes_left (w.hardware.inbox d)
+
+-- no core has another number of takes before it
+abbrev pub KeepsTakes : World → World → Type 0
+KeepsTakes w v = (d : ℕ) → left_to v d ≡ left_to w d
+
+-- A core that is awaited, and no other, takes; no frame is asked for, and no call can be given up.
+abbrev pub ComesBeside : World → Event → Outcome → World → Type 0
+ComesBeside w (Call c request) o v = ⊥
+ComesBeside w (Go c) o v = (o ≡ Idle) × KeepsTakes w v
+ComesBeside w (Frame c f) o v = (o ≡ Idle) × KeepsTakes w v
+ComesBeside w (GiveUp c) o v = (o ≡ Idle) × KeepsTakes w v
+ComesBeside w (Take c) o v =
+    ((o ≡ Stepped) × (0 < left_to w c) × ((d : ℕ) → left_to v d ≡ put (left_to w) c (pred (left_to w c)) d))
+    ⊎ ((o ≡ Idle) × ((left_to w c ≡ 0) ⊎ (nat_lt c w.made.cores ≡ false)) × KeepsTakes w v)
+ComesBeside w e o v = ((o ≡ Stepped) ⊎ (o ≡ Idle)) × KeepsTakes w v
+
+abbrev pub AllStepsBesideRest : Type 0
+AllStepsBesideRest = (w v : World) (core : ℕ) (event : Event) (outcome : Outcome) → IsResting w core → IsBeside w event
+    → w.calls.events < event_limit → Step w event outcome v → IsBesideCalls w v × ComesBeside w event outcome v

@@ -1,1 +1,4 @@
+pub mod Users
+pub mod Taken
 pub mod Alone
+pub mod Apart

@@ -16,7 +16,7 @@ use Rattle.machine_model.specs.declared.phase.Phase.TheVariants.{Free, Check}
 use Rattle.machine_model.specs.Actions.{to}
 use Rattle.machine_model.specs.Events.{core_of}
 use Rattle.machine_model.specs.World.{World, Made, new_world}
-use Rattle.machine_model.specs.Step.{called, counted, event_limit, Step, Run}
+use Rattle.machine_model.specs.Step.{after_call, with_event, event_limit, Step, Run}
 use Rattle.machine_laws.specs.Brackets.{nth, Begun, begun_by, calls_from, calls_of, requests_of, IsLatest, step_of, IsAnswer, IsAnsweredBefore, AllRunsBracketed}
 use Rattle.machine_laws.proofs.Effects.{Status, Closed, Asked, Told, status, statuses, Effect, keeps, tells, opens, closes, effect_of}
 use Rattle.machine_laws.proofs.Shapes.{Comes, stopped, acts, comes}
@@ -231,7 +231,7 @@ after_effect calls w e o v h (tells c reply q k a l s) =
     (chron_tells w.calls.events calls w.calls.requests w.calls.log w.calls.number (statuses w) c reply a h)))
 after_effect calls w e o v h (opens c request f g a k) =
     let new : Begun = record { core = c; request = request; step = w.calls.events } in
-    let now : Kept (calls ++ new ∷ []) (called c request w) = chron_stat (suc w.calls.events) (calls ++ new ∷ []) (w.calls.requests ++ request ∷ []) w.calls.log (put w.calls.number c (suc (length w.calls.requests))) (put (statuses w) c Asked) (statuses (called c request w))
+    let now : Kept (calls ++ new ∷ []) (after_call c request w) = chron_stat (suc w.calls.events) (calls ++ new ∷ []) (w.calls.requests ++ request ∷ []) w.calls.log (put w.calls.number c (suc (length w.calls.requests))) (put (statuses w) c Asked) (statuses (after_call c request w))
     (put_both (λ d x s. status x ≡ s) w.calls.phase (statuses w) c (Check request) Asked refl (λ d ne. refl))
     (chron_opens w.calls.events calls w.calls.requests w.calls.log w.calls.number (statuses w) c request h) in
     subst (λ e. Kept (calls ++ begun_by w.calls.events e o) v) (sym f) (subst (λ o. Kept (calls ++ begun_by w.calls.events (Call c request) o) v) (sym g) (subst (Kept (calls ++ new ∷ [])) (sym k) now))
@@ -271,11 +271,11 @@ next n calls w e o v at h (stopped i q k) = record {
   few = let same : v.calls.events ≡ w.calls.events = ap (λ v. v.calls.events) k in omega (arith, same);
 }
 next n calls w e o v (inl m) h (acts i shape) =
-    let f : Effect (counted w) e o v = effect_of (counted w) e o v shape in
+    let f : Effect (with_event w) e o v = effect_of (with_event w) e o v shape in
     record {
-      kept = subst (λ k. Kept (calls ++ begun_by k e o) v) (sym m) (after_effect calls (counted w) e o v h f);
-      next = inl (ap suc m ∙ sym (ap suc (events_by (counted w) e o v f)));
-      few = let same = events_by (counted w) e o v f in omega (arith, same);
+      kept = subst (λ k. Kept (calls ++ begun_by k e o) v) (sym m) (after_effect calls (with_event w) e o v h f);
+      next = inl (ap suc m ∙ sym (ap suc (events_by (with_event w) e o v f)));
+      few = let same = events_by (with_event w) e o v f in omega (arith, same);
     }
 next n calls w e o v (inr m) h (acts i shape) = absurd cc
 
@@ -333,7 +333,7 @@ grows_by w e o v (closes c reply f g a k) = λ i x b. ap (λ v. slice_get v.call
 
 grows_at : (w : World) (e : Event) (o : Outcome) (v : World) → Comes w e o v → Grows w v
 grows_at w e o v (stopped i q k) = λ i x a. ap (λ v. slice_get v.calls.log i) k ∙ a
-grows_at w e o v (acts i shape) = grows_by (counted w) e o v (effect_of (counted w) e o v shape)
+grows_at w e o v (acts i shape) = grows_by (with_event w) e o v (effect_of (with_event w) e o v shape)
 
 grown : (w : World) (es : List Event) (os : List Outcome) (v : World) → Run w es os v → Grows w v
 grown w [] [] v r = λ i x a. ap (λ v. slice_get v.calls.log i) r ∙ a
@@ -378,7 +378,7 @@ parted w (d ∷ es) (p ∷ os) v (suc n) e o r a b =
     }
 
 -- what is handed out was told before
-told_before : (calls : List Begun) (w : World) (e : Event) (core : ℕ) (reply : Reply) (v : World) → core_of e ≡ Some core → Kept calls w → Effect (counted w) e (Answered reply) v
+told_before : (calls : List Begun) (w : World) (e : Event) (core : ℕ) (reply : Reply) (v : World) → core_of e ≡ Some core → Kept calls w → Effect (with_event w) e (Answered reply) v
     → (call : ℕ) × IsLatest calls core call × IsAnsweredBefore (suc w.calls.events) w.calls.log call core reply
 told_before calls w e core reply v at h (keeps q k l s) = absurd (let no = q.1 in cc)
 told_before calls w e core reply v at h (tells c r q k a l s) = absurd (let no = q.1 in cc)
@@ -394,7 +394,7 @@ told_before calls w e core reply v at h (closes c r f g a k) =
 ends : (calls : List Begun) (w : World) (e : Event) (core : ℕ) (reply : Reply) (v : World) → core_of e ≡ Some core → Kept calls w → Comes w e (Answered reply) v
     → (call : ℕ) × IsLatest calls core call × IsAnsweredBefore (suc w.calls.events) w.calls.log call core reply
 ends calls w e core reply v at h (stopped i q k) = absurd (let no = q.1 in cc)
-ends calls w e core reply v at h (acts i shape) = told_before calls w e core reply v at h (effect_of (counted w) e (Answered reply) v shape)
+ends calls w e core reply v at h (acts i shape) = told_before calls w e core reply v at h (effect_of (with_event w) e (Answered reply) v shape)
 
 answered_at : (made : Made) (slots : Slots) (es : List Event) (os : List Outcome) (v : World) (n core : ℕ) (e : Event) (reply : Reply) → core_of e ≡ Some core
     → Parted (new_world made slots) es os v n e (Answered reply)

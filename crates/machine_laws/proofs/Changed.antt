@@ -12,20 +12,20 @@ use Rattle.slot_lock.specs.declared.plan.Change.{Change}
 use Rattle.slot_lock.specs.declared.plan.Change.TheVariants.{Put, Clear, Protect}
 use Rattle.slot_lock.specs.Plan.{range_of}
 use Rattle.slot_lock.specs.Slots.{Slots}
-use Rattle.machine_model.specs.Changes.{changed}
+use Rattle.machine_model.specs.Changes.{slots_after}
 
 -- owners and edges stay
-pub changed_owner : (s : Slots) (change : Change) → (changed change s).owner ≡ s.owner
+pub changed_owner : (s : Slots) (change : Change) → (slots_after change s).owner ≡ s.owner
 changed_owner s (Put range meta) = refl
 changed_owner s (Clear range) = refl
 changed_owner s (Protect range prot) = refl
 
-pub changed_edge : (s : Slots) (change : Change) → (changed change s).edge ≡ s.edge
+pub changed_edge : (s : Slots) (change : Change) → (slots_after change s).edge ≡ s.edge
 changed_edge s (Put range meta) = refl
 changed_edge s (Clear range) = refl
 changed_edge s (Protect range prot) = refl
 
-pub same_outside : (s : Slots) (change : Change) (p : ℕ) → has (range_of change) p ≡ false → (changed change s).info p ≡ s.info p
+pub same_outside : (s : Slots) (change : Change) (p : ℕ) → has (range_of change) p ≡ false → (slots_after change s).info p ≡ s.info p
 same_outside s (Put range meta) p e = ap (λ b. cond b (Some (unused (advance meta (p - range.first)))) (s.info p)) e
 same_outside s (Clear range) p e = ap (λ b. cond b None (s.info p)) e
 same_outside s (Protect range prot) p e = ap (λ b. cond b (info_with_prot prot (s.info p)) (s.info p)) e
@@ -35,7 +35,7 @@ pub changed_all : (P : ℕ → Option PageInfo → Type 0) (s : Slots) (change :
     → ((range : PageRange) (meta : Meta) (p : ℕ) → change ≡ Put range meta → has range p ≡ true → P p (Some (unused (advance meta (p - range.first)))))
     → ((p : ℕ) → P p None)
     → ((prot : Prot) (p : ℕ) → P p (s.info p) → P p (info_with_prot prot (s.info p)))
-    → ((p : ℕ) → P p (s.info p)) → (p : ℕ) → P p ((changed change s).info p)
+    → ((p : ℕ) → P p (s.info p)) → (p : ℕ) → P p ((slots_after change s).info p)
 changed_all P s (Put range meta) new gone prot old p =
     across_all P s.info (has range) (λ p. Some (unused (advance meta (p - range.first)))) (λ p i. new range meta p refl i) (λ p i. old p) p
 changed_all P s (Clear range) new gone prot old p = over_all P s.info (has range) None (λ p i. gone p) (λ p i. old p) p

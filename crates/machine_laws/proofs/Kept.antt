@@ -1,23 +1,24 @@
 -- Every step from an orderly state leaves an orderly one.
-use Rattle.std.proofs.Common.{◌≡◌, ◌≢◌, ℕ, suc, ◌≤◌, ◌<◌, ◌+◌, Bool, true, false, refl, sym, ap, subst, arith, Some, None, Option, List, [], ◌∷◌, ◌++◌, ◌∙◌, length, length-append, ⊎_elim, ◌==◌}
-use Rattle.std.specs.Prelude.{nat_le}
+use Rattle.std.proofs.Common.{◌≡◌, ◌≢◌, ℕ, suc, ◌≤◌, ◌<◌, ◌+◌, Bool, true, false, cond, refl, sym, ap, subst, arith, Some, None, Option, List, [], ◌∷◌, ◌++◌, ◌∙◌, length, length-append, ⊎_elim, ◌==◌}
+use Rattle.std.specs.Prelude.{nat_le, ◌-◌}
 use Rattle.std.proofs.lemmas.Bool.{cases_lt}
 use Rattle.std.proofs.lemmas.Bool.Decides.{nat_tests}
 use Rattle.vm_base.specs.declared.info.PageInfo.{PageInfo}
 use Rattle.vm_base.specs.declared.page.PageRange.{PageRange}
 use Rattle.vm_base.specs.declared.replies.Reply.{Reply}
+use Rattle.vm_base.specs.declared.replies.Reply.TheVariants.{NoMemory}
 use Rattle.vm_base.specs.declared.requests.Request.{Request}
 use Rattle.vm_base.specs.declared.rights.Access.{Access}
 use Rattle.vm_base.specs.Functions.{put, has}
 use Rattle.vm_base.specs.Info.{info_with_frame}
 use Rattle.vm_base.specs.Pages.{IsPageRange}
 use Rattle.vm_base.specs.Plain.{mode_of, zeros}
-use Rattle.vm_base.proofs.Functions.{by_test, put_all, put_both, put_same, put_other, has_in, eq_false}
+use Rattle.vm_base.proofs.Functions.{by_test, put_all, put_both, put_same, put_other, has_in, in_has, eq_false}
 use Rattle.slot_lock.specs.declared.plan.Change.{Change}
 use Rattle.slot_lock.specs.declared.plan.Plan.TheVariants as PlanOf
 use Rattle.slot_lock.specs.declared.plan.Touch.{Touch}
 use Rattle.slot_lock.specs.Plan.{range_of, IsSoundTouch}
-use Rattle.slot_lock.specs.Slots.{Slots, Locks, Unlocks, between, with_info, with_owner}
+use Rattle.slot_lock.specs.Slots.{Slots, Locks, Unlocks, Joins, between, with_info, with_owner}
 use Rattle.vm_calls.specs.declared.decision.Decision.TheVariants.{Act}
 use Rattle.vm_calls.specs.Decisions.{Decides}
 use Rattle.machine_model.specs.declared.event.Event.{Event}
@@ -26,31 +27,36 @@ use Rattle.machine_model.specs.declared.phase.Goal.{Goal}
 use Rattle.machine_model.specs.declared.phase.Goal.TheVariants as To
 use Rattle.machine_model.specs.declared.phase.Phase.{Phase}
 use Rattle.machine_model.specs.declared.phase.Phase.TheVariants.{Free, Check, Lock, Decide, Post, Acks, Unlock, Answer, Try, Settle, Want, Fill, Install, Release}
-use Rattle.machine_model.specs.Accesses.{taken, filled, installed, accessed, memory_after, reply_of, info_with_core}
-use Rattle.machine_model.specs.Actions.{to, replies, let_go, answer_entry}
-use Rattle.machine_model.specs.Changes.{changed, committed, reply_to}
-use Rattle.machine_model.specs.Holding.{goal_range, page_of_touch, range_held, holds, some_has, taken_in, is_open}
+use Rattle.machine_model.specs.Accesses.{after_frame, after_fill, after_install, after_access, memory_after, reply_of, info_with_core}
+use Rattle.machine_model.specs.Actions.{to, after_reply, let_go, answer_entry}
+use Rattle.refcache.specs.Counts.{Counts}
+use Rattle.refcache.specs.Steps.{Takes, Begin, Flushing, Reviewing}
+use Rattle.machine_model.specs.Changes.{slots_after, after_post, after_commit, reply_to, CountsLost}
+use Rattle.machine_model.specs.Counting.{frame_lost, with_counts, with_free}
+use Rattle.machine_model.specs.GivingUp.{given_back, after_give_up}
+use Rattle.machine_model.specs.Holding.{goal_range, goal_plan, page_of_touch, range_held, holds, some_has, taken_in, is_open, can_give_up, still_held, if_some_page, plan_in}
 use Rattle.machine_model.specs.Locks.{locking, locked_to, all_locked, held_after}
 use Rattle.machine_model.specs.World.{World, Made, Memory}
-use Rattle.machine_model.specs.Step.{called, counted, Step}
-use Rattle.machine_laws.specs.Orderly.{IsOrderly, IsAsked, IsCutFor, IsReady, IsUsable, BelongsTo}
+use Rattle.machine_model.specs.Step.{after_call, with_event, Step}
+use Rattle.machine_laws.specs.Orderly.{IsOrderly, IsAsked, Serves, ServesSome, IsCutFor, IsReady, IsUsable, BelongsTo, IsMemory}
 use Rattle.machine_laws.proofs.Asked.{asked_more}
+use Rattle.machine_laws.proofs.Counted.{frees, written, counted, counts_down, freed}
 use Rattle.machine_laws.proofs.Changed.{changed_owner, changed_edge, same_outside}
 use Rattle.machine_laws.proofs.Deciding.{change_sound, touch_sound, sound_range, acts_own}
-use Rattle.machine_laws.proofs.Moves.{IsCallOf, call_at, Touches, untouched, page_is, goes_on, tells, same_pages, none_taken, asked_gone, held_gone, IsHeldRange, ready_gone}
+use Rattle.machine_laws.proofs.Moves.{IsCallOf, call_at, Touches, untouched, page_is, goes_on, tells, same_pages, none_taken, asked_gone, held_gone, IsHeldRange, ready_gone, ready_kept}
 use Rattle.machine_laws.proofs.Numbered.{at_new}
 use Rattle.machine_laws.proofs.OpenCalls.{one, open_put}
 use Rattle.machine_laws.proofs.Owned.{changed_belongs, framed_belongs, recorded_belongs}
-use Rattle.machine_laws.proofs.Shapes.{Moves, locks, tries, acts, tells as told, faults, finds, lacks, Replies, refuses, no_place, declines, fails, no_frame, LetsGo, unlocks, releases, GoesBy, moves, divides, owns, lets_go, answers, commits, takes, fills, installs, accesses, Shape, rests, begins, ends, goes, Comes, stopped, acts as counts, comes}
+use Rattle.machine_laws.proofs.Shapes.{Moves, locks, tries, acts, finds, lacks, Replies, refuses, no_place, declines, fails, no_frame, LetsGo, unlocks, releases, GoesBy, moves, divides, owns, lets_go, answers, posts, commits, takes, fills, installs, accesses, faults, Works, clears, invalidates, walks, evicts, flushes, reviews, frees as frees_frame, Shape, rests, begins, ends, goes, gives_up, works, joins, Comes, stopped, acts as happens, comes}
 use Rattle.machine_laws.proofs.Slots.{touches_owner, touches_info, gains, loses, divided}
 
 -- ---- the call goes on, and nothing else changes
 
 steps : (w : World) (c : ℕ) (old new : Phase) → w.calls.phase c ≡ old → IsOrderly w → c < w.made.cores → is_open new ≡ is_open old → range_held new ≡ range_held old
     → IsAsked w.made w.calls.requests c (w.calls.number c) new → IsReady w.made w.slots new → ((f : ℕ) → taken_in new ≡ Some f → f < w.made.frames) → IsOrderly (to c new w)
-steps w c old new e g lt opened same asked ready taken =
+steps w c old new e g lt opened same asked ready after_frame =
     goes_on w c new w.slots w.memory g lt (opened ∙ sym (ap is_open e)) (untouched w.slots c)
-    (same_pages w c old new (call_at w c old e g) same asked ready taken) g.pages g.free
+    (same_pages w c old new (call_at w c old e g) same asked ready after_frame) g.pages g.memory
 
 -- of a range that is to be locked nothing is held at first
 none_yet : (a p : ℕ) → has (between a a) p ≡ true → ⊥
@@ -68,7 +74,7 @@ starts w c old goal e g lt opened none asked range =
       ready = (omega arith, range.some);
       taken = λ f h. absurd cc;
     })
-    g.pages g.free
+    g.pages g.memory
   where
     k : IsCallOf w c old
     k = call_at w c old e g
@@ -92,14 +98,6 @@ moves_kept w c new g lt (acts change range shoot e n d) =
     subst (λ x. IsOrderly (to c x w)) (sym n)
     (steps w c (Decide change) (Post change shoot) e g lt refl refl (call_at w c (Decide change) e g).asked
     (subst (λ r. Decides w.made.file w.slots (PlanOf.Change change) (Act r shoot)) (acts_own w.made.file w.slots change range shoot d) d) (λ f h. absurd cc))
-moves_kept w c new g lt (told change shoot e n) =
-    let k : IsCallOf w c (Post change shoot) = call_at w c (Post change shoot) e g in
-    subst (λ x. IsOrderly (to c x w)) (sym n)
-    (steps w c (Post change shoot) (Acks change (range_of change)) e g lt refl refl k.asked (refl, (shoot, k.ready)) (λ f h. absurd cc))
-moves_kept w c new g lt (faults touch e n h) =
-    let k : IsCallOf w c (Try touch) = call_at w c (Try touch) e g in
-    subst (λ x. IsOrderly (to c x w)) (sym n)
-    (starts w c (Try touch) (To.Access touch) e g lt refl refl k.asked (page_range touch (touch_sound (λ k. mode_of (w.made.file k)) c k.asked.request touch k.asked.passed)))
 moves_kept w c new g lt (finds touch f e n u) =
     subst (λ x. IsOrderly (to c x w)) (sym n)
     (steps w c (Settle touch) (Install touch) e g lt refl refl (call_at w c (Settle touch) e g).asked (f, u) (λ f h. absurd cc))
@@ -107,12 +105,26 @@ moves_kept w c new g lt (lacks touch e n u) =
     subst (λ x. IsOrderly (to c x w)) (sym n)
     (steps w c (Settle touch) (Want touch) e g lt refl refl (call_at w c (Settle touch) e g).asked u (λ f h. absurd cc))
 
+posts_kept : (w : World) (c : ℕ) (change : Change) (shoot : ℕ) → IsOrderly w → c < w.made.cores → w.calls.phase c ≡ Post change shoot
+    → IsOrderly (after_post c change shoot w)
+posts_kept w c change shoot g lt e =
+    let k : IsCallOf w c (Post change shoot) = call_at w c (Post change shoot) e g in
+    steps w c (Post change shoot) (Acks change (range_of change)) e g lt refl refl k.asked (refl, (shoot, k.ready)) (λ f h. absurd cc)
+
+faults_kept : (w : World) (c : ℕ) (touch : Touch) → IsOrderly w → c < w.made.cores → w.calls.phase c ≡ Try touch
+    → IsOrderly (to c (locking (To.Access touch)) w)
+faults_kept w c touch g lt e =
+    let k : IsCallOf w c (Try touch) = call_at w c (Try touch) e g in
+    starts w c (Try touch) (To.Access touch) e g lt refl refl k.asked
+    (page_range touch (touch_sound (λ k. mode_of (w.made.file k)) c k.asked.request touch k.asked.passed))
+
 -- ---- the call has its reply, and nothing else changes
 
--- the call was opened, and holds this, which are valid pages
+-- the call was opened, and holds just this, which are valid pages
 record Ends (phase : Phase) (held : Option PageRange) : Type 0 where
   opened : is_open phase ≡ true
-  same : held ≡ range_held phase
+  same : (p : ℕ) → some_has held p ≡ holds phase p
+  cut : (edge : ℕ → Bool) → IsCutFor edge (range_held phase) → IsCutFor edge held
   valid : IsHeldRange held
 
 ends_by : (phase old : Phase) (held : Option PageRange) → phase ≡ old → Ends old held → Ends phase held
@@ -120,48 +132,49 @@ ends_by phase old held e h = subst (λ x. Ends x held) (sym e) h
 
 reply_ends : (w : World) (c : ℕ) (held : Option PageRange) (reply : Reply) → IsOrderly w → Replies w c held reply → Ends (w.calls.phase c) held
 reply_ends w c held reply g (refuses request e h k) =
-    ends_by _ (Check request) held e (subst (Ends (Check request)) (sym h) (record { opened = refl; same = refl; valid = tt }))
+    ends_by _ (Check request) held e (subst (Ends (Check request)) (sym h) (record { opened = refl; same = λ p. refl; cut = λ edge k. k; valid = tt }))
 reply_ends w c held reply g (no_place request place e h r k) =
-    ends_by _ (Check request) held e (subst (Ends (Check request)) (sym h) (record { opened = refl; same = refl; valid = tt }))
+    ends_by _ (Check request) held e (subst (Ends (Check request)) (sym h) (record { opened = refl; same = λ p. refl; cut = λ edge k. k; valid = tt }))
 reply_ends w c held reply g (declines change errno e h r d) =
     let k : IsCallOf w c (Decide change) = call_at w c (Decide change) e g in
     ends_by _ (Decide change) held e (subst (Ends (Decide change)) (sym h)
-    (record { opened = refl; same = refl; valid = sound_range change (change_sound (λ k. mode_of (w.made.file k)) c k.asked.request change k.asked.passed) }))
+    (record { opened = refl; same = λ p. refl; cut = λ edge k. k; valid = sound_range change (change_sound (λ k. mode_of (w.made.file k)) c k.asked.request change k.asked.passed) }))
 reply_ends w c held reply g (fails touch e h f) =
     let k : IsCallOf w c (Settle touch) = call_at w c (Settle touch) e g in
     ends_by _ (Settle touch) held e (subst (Ends (Settle touch)) (sym h)
-    (record { opened = refl; same = refl; valid = page_range touch (touch_sound (λ k. mode_of (w.made.file k)) c k.asked.request touch k.asked.passed) }))
+    (record { opened = refl; same = λ p. refl; cut = λ edge k. k; valid = page_range touch (touch_sound (λ k. mode_of (w.made.file k)) c k.asked.request touch k.asked.passed) }))
 reply_ends w c held reply g (no_frame touch e h r f) =
     let k : IsCallOf w c (Want touch) = call_at w c (Want touch) e g in
     ends_by _ (Want touch) held e (subst (Ends (Want touch)) (sym h)
-    (record { opened = refl; same = refl; valid = page_range touch (touch_sound (λ k. mode_of (w.made.file k)) c k.asked.request touch k.asked.passed) }))
+    (record { opened = refl; same = λ p. refl; cut = λ edge k. k; valid = page_range touch (touch_sound (λ k. mode_of (w.made.file k)) c k.asked.request touch k.asked.passed) }))
 
 -- over these slots, which it owns as before, and this memory
 replied : (w : World) (c : ℕ) (held : Option PageRange) (reply : Reply) (t : Slots) (m : Memory) → IsOrderly w → c < w.made.cores → Ends (w.calls.phase c) held
-    → Touches w.slots t c → t.owner ≡ w.slots.owner → t.edge ≡ w.slots.edge → ((p : ℕ) → BelongsTo w.made p (t.info p)) → ((f : ℕ) → m.is_free f ≡ true → f < w.made.frames)
-    → IsOrderly (replies c held reply (record w { slots = t; memory = m }))
-replied w c held reply t m g lt end touches owner edge pages free =
+    → Touches w.slots t c → t.owner ≡ w.slots.owner → t.edge ≡ w.slots.edge → ((p : ℕ) → BelongsTo w.made p (t.info p)) → IsMemory w.made m
+    → IsOrderly (after_reply c held reply (record w { slots = t; memory = m }))
+replied w c held reply t m g lt end touches owner edge pages memory =
     tells w c held reply t m (answer_entry w c reply) g lt end.opened touches
     (record {
       asked = asked_gone w.made w.calls.requests c (w.calls.number c) held reply;
-      owned = λ p h. ap (λ f. f p) owner ∙ k.owned p (sym (ap (λ r. some_has r p) same) ∙ h);
-      only = λ p h. ap (λ r. some_has r p) same ∙ k.only p (sym (ap (λ f. f p) owner) ∙ h);
-      cut = subst (λ e. IsCutFor e (range_held (let_go held reply))) (sym edge) (subst (IsCutFor w.slots.edge) (sym same) k.cut);
+      owned = λ p h. ap (λ f. f p) owner ∙ k.owned p (sym (same p) ∙ h);
+      only = λ p h. same p ∙ k.only p (sym (ap (λ f. f p) owner) ∙ h);
+      cut = subst (λ e. IsCutFor e (range_held (let_go held reply))) (sym edge)
+          (subst (IsCutFor w.slots.edge) (sym (held_gone held reply)) (end.cut w.slots.edge k.cut));
       ready = ready_gone w.made t held reply end.valid;
       taken = λ f h. absurd (none_taken held reply f h);
     })
-    pages free
+    pages memory
   where
     k : IsCallOf w c (w.calls.phase c)
     k = call_at w c (w.calls.phase c) refl g
 
-    same : range_held (let_go held reply) ≡ range_held (w.calls.phase c)
-    same = held_gone held reply ∙ end.same
+    same : (p : ℕ) → holds (let_go held reply) p ≡ holds (w.calls.phase c) p
+    same p = ap (λ r. some_has r p) (held_gone held reply) ∙ end.same p
 
 -- ---- Acks
 
 -- only pages of the change are mapped otherwise
-changed_touches : (s : Slots) (c : ℕ) (change : Change) → ((p : ℕ) → has (range_of change) p ≡ true → s.owner p ≡ Some c) → Touches s (changed change s) c
+changed_touches : (s : Slots) (c : ℕ) (change : Change) → ((p : ℕ) → has (range_of change) p ≡ true → s.owner p ≡ Some c) → Touches s (slots_after change s) c
 changed_touches s c change mine = record {
   info = λ p ne. out p ne (has (range_of change) p) refl;
   now = λ d p ne h. sym (ap (λ f. f p) (changed_owner s change)) ∙ h;
@@ -169,16 +182,18 @@ changed_touches s c change mine = record {
   edge = λ p h. ap (λ f. f p) (changed_edge s change) ∙ h;
 }
   where
-    out : (p : ℕ) → s.owner p ≢ Some c → (b : Bool) → has (range_of change) p ≡ b → (changed change s).info p ≡ s.info p
+    out : (p : ℕ) → s.owner p ≢ Some c → (b : Bool) → has (range_of change) p ≡ b → (slots_after change s).info p ≡ s.info p
     out p ne true i = absurd (ne (mine p i))
     out p ne false i = same_outside s change p i
 
-commits_kept : (w : World) (c : ℕ) (change : Change) (held : PageRange) → IsOrderly w → c < w.made.cores → w.calls.phase c ≡ Acks change held → IsOrderly (committed c change held w)
-commits_kept w c change held g lt e =
-    replied w c (Some held) (reply_to change) (changed change w.slots) w.memory g lt
-    (ends_by _ (Acks change held) (Some held) e (record { opened = refl; same = refl; valid = subst IsPageRange (sym k.ready.0) range }))
+commits_kept : (w : World) (c : ℕ) (change : Change) (held : PageRange) (counts : Counts) → IsOrderly w → c < w.made.cores → w.calls.phase c ≡ Acks change held
+    → CountsLost c change w counts → IsOrderly (after_commit c change held counts w)
+commits_kept w c change held counts g lt e l =
+    replied w c (Some held) (reply_to change) (slots_after change w.slots) (with_counts counts w).memory g lt
+    (ends_by _ (Acks change held) (Some held) e (record { opened = refl; same = λ p. refl; cut = λ edge k. k; valid = subst IsPageRange (sym k.ready.0) range }))
     (changed_touches w.slots c change (λ p i. k.owned p (subst (λ r. has r p ≡ true) (sym k.ready.0) i)))
-    (changed_owner w.slots change) (changed_edge w.slots change) (changed_belongs w.made w.slots change range g.pages) g.free
+    (changed_owner w.slots change) (changed_edge w.slots change) (changed_belongs w.made w.slots change range g.pages)
+    (counts_down w.made w.memory c (frame_lost change w.slots.info) _ _ counts g.memory l)
   where
     k : IsCallOf w c (Acks change held)
     k = call_at w c (Acks change held) e g
@@ -244,7 +259,7 @@ owned_to w c goal cursor b t new e g lt l opened held asked ready none =
     (λ p h. now p (between_more first cursor b p l.slot.ordered h))
     (λ p i h. between_back first cursor b p i (sym (ap (λ r. some_has r p) held) ∙ h))
     (subst (IsCutFor w.slots.edge) (sym held) (λ some. (begun l.slot.begins, l.slot.ends))) ready (λ f h. absurd (none f h)))
-    g.pages g.free)
+    g.pages g.memory)
   where
     first : ℕ
     first = (goal_range goal).first
@@ -318,7 +333,7 @@ let_go_to w c old new held b t e g lt was opened u m asked none =
     (λ d ne x. cc))
     (loses w c old new (has (between held.first b)) (call_at w c old e g) asked m.gone (λ p x. ap (λ r. some_has r p) was ∙ m.less p x)
     (λ p i x. m.rest p i (sym (ap (λ r. some_has r p) was) ∙ x)) m.cut m.ready (λ f x. absurd (none f x)))
-    g.pages g.free)
+    g.pages g.memory)
 
 one_page : (touch : Touch) (b : ℕ) → touch.page < b → b ≤ touch.page + 1 → b ≡ touch.page + 1
 one_page touch b l m = omega (arith, l, m)
@@ -355,11 +370,12 @@ lets_go_kept w c held b t new g lt (releases touch e h n) u =
 
 -- ---- frames
 
-takes_kept : (w : World) (c : ℕ) (touch : Touch) (f : ℕ) → IsOrderly w → c < w.made.cores → w.calls.phase c ≡ Want touch → w.memory.is_free f ≡ true → IsOrderly (taken c touch f w)
+takes_kept : (w : World) (c : ℕ) (touch : Touch) (f : ℕ) → IsOrderly w → c < w.made.cores → w.calls.phase c ≡ Want touch → w.memory.is_free f ≡ true → IsOrderly (after_frame c touch f w)
 takes_kept w c touch f g lt e free =
     goes_on w c (Fill touch f) w.slots (record w.memory { is_free = put w.memory.is_free f false }) g lt (sym (ap is_open e)) (untouched w.slots c)
-    (same_pages w c (Want touch) (Fill touch f) k refl k.asked k.ready (λ x h. let same : f ≡ x = cc in subst (λ n. n < w.made.frames) same (g.free f free)))
-    g.pages (put_all (λ x b. b ≡ true → x < w.made.frames) w.memory.is_free f false (λ h. absurd cc) (λ x ne. g.free x))
+    (same_pages w c (Want touch) (Fill touch f) k refl k.asked k.ready (λ x h. let same : f ≡ x = cc in subst (λ n. n < w.made.frames) same (g.memory.free f free)))
+    g.pages (frees w.made w.memory (put w.memory.is_free f false) g.memory
+    (put_all (λ x b. b ≡ true → x < w.made.frames) w.memory.is_free f false (λ h. absurd cc) (λ x ne. g.memory.free x)))
   where
     k : IsCallOf w c (Want touch)
     k = call_at w c (Want touch) e g
@@ -367,9 +383,9 @@ takes_kept w c touch f g lt e free =
 -- the page of an access, which core c holds, has this now
 sets_page : (w : World) (c : ℕ) (touch : Touch) (old new : Phase) (info : Option PageInfo) (m : Memory) → w.calls.phase c ≡ old → IsOrderly w → c < w.made.cores → range_held old ≡ Some (page_of_touch touch)
     → range_held new ≡ range_held old → is_open new ≡ is_open old → IsAsked w.made w.calls.requests c (w.calls.number c) new → IsReady w.made (with_info w.slots touch.page info) new
-    → ((f : ℕ) → taken_in new ≡ Some f → ⊥) → BelongsTo w.made touch.page info → ((f : ℕ) → m.is_free f ≡ true → f < w.made.frames)
+    → ((f : ℕ) → taken_in new ≡ Some f → ⊥) → BelongsTo w.made touch.page info → IsMemory w.made m
     → IsOrderly (to c new (record w { slots = with_info w.slots touch.page info; memory = m }))
-sets_page w c touch old new info m e g lt was same opened asked ready none belongs free =
+sets_page w c touch old new info m e g lt was same opened asked ready none belongs memory =
     goes_on w c new (with_info w.slots touch.page info) m g lt (opened ∙ sym (ap is_open e))
     (touches_info w.slots c (put w.slots.info touch.page info) (λ p ne. put_other w.slots.info touch.page info p (λ at. ne (ap w.slots.owner at ∙ mine))))
     (record {
@@ -380,7 +396,7 @@ sets_page w c touch old new info m e g lt was same opened asked ready none belon
       ready = ready;
       taken = λ f h. absurd (none f h);
     })
-    (put_all (BelongsTo w.made) w.slots.info touch.page info belongs (λ p ne. g.pages p)) free
+    (put_all (BelongsTo w.made) w.slots.info touch.page info belongs (λ p ne. g.pages p)) memory
   where
     k : IsCallOf w c old
     k = call_at w c old e g
@@ -392,31 +408,123 @@ framed_usable : (made : Made) (f : ℕ) (o : Option PageInfo) (access : Access) 
 framed_usable made f None access u = absurd u
 framed_usable made f (Some info) access u = (u.0, u.1, refl)
 
-fills_kept : (w : World) (c : ℕ) (touch : Touch) (f : ℕ) → IsOrderly w → c < w.made.cores → w.calls.phase c ≡ Fill touch f → IsOrderly (filled c touch f w)
-fills_kept w c touch f g lt e =
+fills_kept : (w : World) (c : ℕ) (touch : Touch) (f : ℕ) (counts : Counts) → IsOrderly w → c < w.made.cores → w.calls.phase c ≡ Fill touch f
+    → Takes w.memory.counts (Begin f 1) counts → IsOrderly (after_fill c touch f counts w)
+fills_kept w c touch f counts g lt e t =
     let new : Option PageInfo = info_with_frame f (w.slots.info touch.page) in
-    sets_page w c touch (Fill touch f) (Install touch) new (record w.memory { bytes = put w.memory.bytes f zeros }) e g lt refl refl refl k.asked
+    sets_page w c touch (Fill touch f) (Install touch) new (record w.memory { bytes = put w.memory.bytes f zeros; counts = counts }) e g lt refl refl refl k.asked
     (f, subst (λ o. IsUsable w.made.file o touch.access (Some f)) (sym (put_same w.slots.info touch.page new)) (framed_usable w.made f (w.slots.info touch.page) touch.access k.ready))
-    (λ x h. cc) (framed_belongs w.made touch.page f (w.slots.info touch.page) (k.taken f refl) (g.pages touch.page)) g.free
+    (λ x h. cc) (framed_belongs w.made touch.page f (w.slots.info touch.page) (k.taken f refl) (g.pages touch.page))
+    (written w.made (record w.memory { counts = counts }) _ (counted w.made w.memory (Begin f 1) counts g.memory t))
   where
     k : IsCallOf w c (Fill touch f)
     k = call_at w c (Fill touch f) e g
 
-installs_kept : (w : World) (c : ℕ) (touch : Touch) → IsOrderly w → c < w.made.cores → w.calls.phase c ≡ Install touch → IsOrderly (installed c touch w)
+installs_kept : (w : World) (c : ℕ) (touch : Touch) → IsOrderly w → c < w.made.cores → w.calls.phase c ≡ Install touch → IsOrderly (after_install c touch w)
 installs_kept w c touch g lt e =
     sets_page w c touch (Install touch) (Release touch) (info_with_core c (w.slots.info touch.page)) w.memory e g lt refl refl refl (call_at w c (Install touch) e g).asked tt
-    (λ x h. cc) (recorded_belongs w.made touch.page c (w.slots.info touch.page) lt (g.pages touch.page)) g.free
+    (λ x h. cc) (recorded_belongs w.made touch.page c (w.slots.info touch.page) lt (g.pages touch.page)) g.memory
 
 -- ---- Try
 
-accesses_kept : (w : World) (c : ℕ) (touch : Touch) (f : ℕ) → IsOrderly w → c < w.made.cores → w.calls.phase c ≡ Try touch → IsOrderly (accessed c touch f w)
+accesses_kept : (w : World) (c : ℕ) (touch : Touch) (f : ℕ) → IsOrderly w → c < w.made.cores → w.calls.phase c ≡ Try touch → IsOrderly (after_access c touch f w)
 accesses_kept w c touch f g lt e =
-    replied w c None (reply_of touch f w.memory) w.slots (memory_after touch f w.memory) g lt (ends_by _ (Try touch) None e (record { opened = refl; same = refl; valid = tt }))
-    (untouched w.slots c) refl refl g.pages g.free
+    replied w c None (reply_of touch f w.memory) w.slots (memory_after touch f w.memory) g lt (ends_by _ (Try touch) None e (record { opened = refl; same = λ p. refl; cut = λ edge k. k; valid = tt }))
+    (untouched w.slots c) refl refl g.pages (written w.made w.memory _ g.memory)
+
+-- ---- a call is given up
+
+-- a range with pages, all of them valid, is still held as a whole
+whole_ends : (phase : Phase) (r : PageRange) → is_open phase ≡ true → range_held phase ≡ Some r → IsPageRange r → Ends phase (still_held phase)
+whole_ends phase r opened held range =
+    record {
+      opened = opened;
+      same = λ p. ap (λ o. some_has o p) same ∙ sym (ap (λ o. some_has o p) held);
+      cut = λ edge k. subst (IsCutFor edge) (sym same) (subst (IsCutFor edge) held k);
+      valid = subst IsHeldRange (sym same) range;
+    }
+  where
+    some : (r.first == r.end) ≡ false
+    some = grind (arith, nat_tests, range.some)
+
+    same : still_held phase ≡ Some r
+    same = ap if_some_page held ∙ ap (λ b. cond b None (Some r)) some
+
+change_ends : (w : World) (c : ℕ) (phase : Phase) (change : Change) → is_open phase ≡ true → range_held phase ≡ Some (range_of change)
+    → Serves w.made w.calls.requests c (w.calls.number c) (PlanOf.Change change) → Ends phase (still_held phase)
+change_ends w c phase change opened held s =
+    whole_ends phase (range_of change) opened held (sound_range change (change_sound (λ k. mode_of (w.made.file k)) c s.request change s.passed))
+
+page_ends : (w : World) (c : ℕ) (phase : Phase) (touch : Touch) → is_open phase ≡ true → range_held phase ≡ Some (page_of_touch touch)
+    → Serves w.made w.calls.requests c (w.calls.number c) (PlanOf.Touch touch) → Ends phase (still_held phase)
+page_ends w c phase touch opened held s =
+    whole_ends phase (page_of_touch touch) opened held (page_range touch (touch_sound (λ k. mode_of (w.made.file k)) c s.request touch s.passed))
+
+-- the pages that a goal asks for
+goal_valid : (w : World) (c : ℕ) (goal : Goal) → ServesSome w.made w.calls.requests c (w.calls.number c) (Some (goal_plan goal)) → IsPageRange (goal_range goal)
+goal_valid w c (To.Change change) s = sound_range change (change_sound (λ k. mode_of (w.made.file k)) c s.request change s.passed)
+goal_valid w c (To.Access touch) s = page_range touch (touch_sound (λ k. mode_of (w.made.file k)) c s.request touch s.passed)
+
+-- while pages are being locked, those below the cursor are held, if there are any
+locked_ends : (w : World) (c : ℕ) (goal : Goal) (cursor : ℕ) → IsOrderly w → w.calls.phase c ≡ Lock goal cursor
+    → Ends (Lock goal cursor) (still_held (Lock goal cursor))
+locked_ends w c goal cursor g e = go ((goal_range goal).first == cursor) refl
+  where
+    k : IsCallOf w c (Lock goal cursor)
+    k = call_at w c (Lock goal cursor) e g
+
+    range : IsPageRange (goal_range goal)
+    range = goal_valid w c goal k.asked
+
+    empty : (a b p : ℕ) → (a == b) ≡ true → has (between a b) p ≡ false
+    empty a b p h = grind (arith, nat_tests)
+
+    go : (b : Bool) → ((goal_range goal).first == cursor) ≡ b
+        → Ends (Lock goal cursor) (cond b None (Some (between (goal_range goal).first cursor)))
+    go true i = record {
+      opened = refl;
+      same = λ p. sym (empty (goal_range goal).first cursor p i);
+      cut = λ edge h. tt;
+      valid = tt;
+    }
+    go false i = record {
+      opened = refl;
+      same = λ p. refl;
+      cut = λ edge h. h;
+      valid = record { some = grind (arith, nat_tests, i, k.ready.0); low = range.low; high = let x = range.high in let y = k.ready.1 in omega (arith, x, y) };
+    }
+
+-- what a call that may be given up still holds
+gives_up_ends : (w : World) (c : ℕ) (phase : Phase) → IsOrderly w → w.calls.phase c ≡ phase → can_give_up phase ≡ true → Ends phase (still_held phase)
+gives_up_ends w c (Check request) g e can = record { opened = refl; same = λ p. refl; cut = λ edge k. k; valid = tt }
+gives_up_ends w c (Try touch) g e can = record { opened = refl; same = λ p. refl; cut = λ edge k. k; valid = tt }
+gives_up_ends w c (Lock goal cursor) g e can = locked_ends w c goal cursor g e
+gives_up_ends w c (Decide change) g e can = change_ends w c (Decide change) change refl refl (call_at w c (Decide change) e g).asked
+gives_up_ends w c (Post change shoot) g e can = change_ends w c (Post change shoot) change refl refl (call_at w c (Post change shoot) e g).asked
+gives_up_ends w c (Settle touch) g e can = page_ends w c (Settle touch) touch refl refl (call_at w c (Settle touch) e g).asked
+gives_up_ends w c (Want touch) g e can = page_ends w c (Want touch) touch refl refl (call_at w c (Want touch) e g).asked
+gives_up_ends w c (Fill touch frame) g e can = page_ends w c (Fill touch frame) touch refl refl (call_at w c (Fill touch frame) e g).asked
+gives_up_ends w c (Install touch) g e can = page_ends w c (Install touch) touch refl refl (call_at w c (Install touch) e g).asked
+gives_up_ends w c (Release touch) g e can = page_ends w c (Release touch) touch refl refl (call_at w c (Release touch) e g).asked
+gives_up_ends w c Free g e can = absurd cc
+gives_up_ends w c (Acks change held) g e can = absurd cc
+gives_up_ends w c (Unlock held reply) g e can = absurd cc
+gives_up_ends w c (Answer reply) g e can = absurd cc
+
+gives_up_kept : (w : World) (c : ℕ) → IsOrderly w → c < w.made.cores → can_give_up (w.calls.phase c) ≡ true
+    → IsOrderly (after_give_up c (w.calls.phase c) w)
+gives_up_kept w c g lt can =
+    replied w c (still_held (w.calls.phase c)) NoMemory w.slots (record w.memory { is_free = given_back (taken_in (w.calls.phase c)) w.memory.is_free }) g lt
+    (gives_up_ends w c (w.calls.phase c) g refl can) (untouched w.slots c) refl refl g.pages
+    (frees w.made w.memory _ g.memory (back (taken_in (w.calls.phase c)) (g.taken c)))
+  where
+    back : (o : Option ℕ) → ((f : ℕ) → o ≡ Some f → f < w.made.frames) → (f : ℕ) → given_back o w.memory.is_free f ≡ true → f < w.made.frames
+    back None taken = g.memory.free
+    back (Some x) taken = put_all (λ f b. b ≡ true → f < w.made.frames) w.memory.is_free x true (λ h. taken x refl) (λ f ne. g.memory.free f)
 
 -- ---- a call begins
 
-begins_kept : (w : World) (c : ℕ) (request : Request) → IsOrderly w → c < w.made.cores → w.calls.phase c ≡ Free → length w.calls.requests < w.made.calls → IsOrderly (called c request w)
+begins_kept : (w : World) (c : ℕ) (request : Request) → IsOrderly w → c < w.made.cores → w.calls.phase c ≡ Free → length w.calls.requests < w.made.calls → IsOrderly (after_call c request w)
 begins_kept w c request g lt e below = record {
   asked = put_both (λ d n x. IsAsked w.made more d n x) w.calls.number w.calls.phase c (suc (length w.calls.requests)) (Check request)
       (at_new w.calls.requests request) (λ d ne. asked_more w.made w.calls.requests request d (w.calls.number d) (w.calls.phase d) (g.asked d));
@@ -426,7 +534,7 @@ begins_kept w c request g lt e below = record {
   ready = put_all (λ d x. IsReady w.made w.slots x) w.calls.phase c (Check request) tt (λ d ne. g.ready d);
   pages = g.pages;
   taken = λ d f. put_all (λ d x. taken_in x ≡ Some f → f < w.made.frames) w.calls.phase c (Check request) (λ h. absurd cc) (λ d ne. g.taken d f) d;
-  free = g.free;
+  memory = g.memory;
   outside = put_all (λ d x. w.made.cores ≤ d → x ≡ Free) w.calls.phase c (Check request) (λ h. absurd (omega (arith, h, lt))) (λ d ne. g.outside d);
   room =
       let a = open_put w.calls.phase c (Check request) w.made.cores lt in
@@ -445,6 +553,61 @@ begins_kept w c request g lt e below = record {
     k : IsCallOf w c Free
     k = call_at w c Free e g
 
+-- ---- slots are joined, or memory changes, beside the calls
+
+other_memory : (w : World) (m : Memory) → IsOrderly w → IsMemory w.made m → IsOrderly (record w { memory = m })
+other_memory w m g memory = record {
+  asked = g.asked;
+  owned = g.owned;
+  only = g.only;
+  cut = g.cut;
+  ready = g.ready;
+  pages = g.pages;
+  taken = g.taken;
+  memory = memory;
+  outside = g.outside;
+  room = g.room;
+  limit = g.limit;
+}
+
+-- a page that a call holds begins a slot as before, and so does the page after it
+edge_stays : (s t : Slots) (c p : ℕ) → Joins s t → s.owner p ≡ Some c → s.edge p ≡ true → t.edge p ≡ true
+edge_stays s t c p j mine at = j.elsewhere p (λ none. cc) ∙ at
+
+end_stays : (s t : Slots) (c e : ℕ) → Joins s t → s.owner e ≡ Some c → s.edge (e + 1) ≡ true → t.edge (e + 1) ≡ true
+end_stays s t c e j mine at = go (t.edge (e + 1)) refl
+  where
+    go : (b : Bool) → t.edge (e + 1) ≡ b → b ≡ true
+    go true h = refl
+    go false h = absurd (let free = (j.could (e + 1) at h).free in let same : e + 1 - 1 ≡ e = omega arith in
+        let none : s.owner e ≡ None = subst (λ p. s.owner p ≡ None) same free in cc)
+
+joined : (w : World) (t : Slots) → Joins w.slots t → IsOrderly w → IsOrderly (record w { slots = t })
+joined w t j g = record {
+  asked = g.asked;
+  owned = λ c p i. ap (λ f. f p) j.owners ∙ g.owned c p i;
+  only = λ c p i. g.only c p (sym (ap (λ f. f p) j.owners) ∙ i);
+  cut = λ c. cut (range_held (w.calls.phase c)) c (λ p i. g.owned c p i) (g.cut c);
+  ready = λ c. ready_kept w.made w.slots t (w.calls.phase c) (λ p i. ap (λ f. f p) j.info) (g.ready c);
+  pages = λ p. subst (λ info. BelongsTo w.made p (info p)) (sym j.info) (g.pages p);
+  taken = g.taken;
+  memory = g.memory;
+  outside = g.outside;
+  room = g.room;
+  limit = g.limit;
+}
+  where
+    cut : (held : Option PageRange) (c : ℕ) → ((p : ℕ) → some_has held p ≡ true → w.slots.owner p ≡ Some c) → IsCutFor w.slots.edge held → IsCutFor t.edge held
+    cut None c mine h = tt
+    cut (Some r) c mine h = λ some.
+        let k = h some in
+        let last : suc (r.end - 1) ≡ r.end = omega (arith, some) in
+        let at : r.end - 1 + 1 ≡ r.end = omega (arith, some) in (
+          edge_stays w.slots t c r.first j (mine r.first (in_has r r.first (omega arith) some)) k.0,
+          subst (λ e. t.edge e ≡ true) at (end_stays w.slots t c (r.end - 1) j (mine (r.end - 1) (in_has r (r.end - 1) (omega (arith, some)) (omega (arith, some))))
+              (subst (λ e. w.slots.edge e ≡ true) (sym at) k.1)),
+        )
+
 -- ---- every shape
 
 goes_kept : (w : World) (c : ℕ) (v : World) → IsOrderly w → c < w.made.cores → GoesBy w c v → IsOrderly v
@@ -453,18 +616,35 @@ goes_kept w c v g lt (divides goal cursor t e s h) = subst IsOrderly (sym h) (di
 goes_kept w c v g lt (owns goal cursor b t e l h) = subst IsOrderly (sym h) (owns_kept w c goal cursor b t g lt e l)
 goes_kept w c v g lt (lets_go held b t new l u h) = subst IsOrderly (sym h) (lets_go_kept w c held b t new g lt l u)
 goes_kept w c v g lt (answers held reply r h) =
-    subst IsOrderly (sym h) (replied w c held reply w.slots w.memory g lt (reply_ends w c held reply g r) (untouched w.slots c) refl refl g.pages g.free)
-goes_kept w c v g lt (commits change held e h) = subst IsOrderly (sym h) (commits_kept w c change held g lt e)
-goes_kept w c v g lt (takes touch f e l h) = subst IsOrderly (sym h) (takes_kept w c touch f g lt e l.free)
-goes_kept w c v g lt (fills touch f e h) = subst IsOrderly (sym h) (fills_kept w c touch f g lt e)
+    subst IsOrderly (sym h) (replied w c held reply w.slots w.memory g lt (reply_ends w c held reply g r) (untouched w.slots c) refl refl g.pages g.memory)
+goes_kept w c v g lt (posts change shoot e h) = subst IsOrderly (sym h) (posts_kept w c change shoot g lt e)
+goes_kept w c v g lt (commits change held counts e n l h) = subst IsOrderly (sym h) (commits_kept w c change held counts g lt e l)
+goes_kept w c v g lt (takes touch f e l h) = subst IsOrderly (sym h) (takes_kept w c touch f g lt e l)
+goes_kept w c v g lt (fills touch f counts e t h) = subst IsOrderly (sym h) (fills_kept w c touch f counts g lt e t)
 goes_kept w c v g lt (installs touch e h) = subst IsOrderly (sym h) (installs_kept w c touch g lt e)
 goes_kept w c v g lt (accesses touch f e i h) = subst IsOrderly (sym h) (accesses_kept w c touch f g lt e)
+goes_kept w c v g lt (faults touch e i h) = subst IsOrderly (sym h) (faults_kept w c touch g lt e)
+
+works_kept : (w : World) (c : ℕ) (e : Event) (v : World) → IsOrderly w → Works w c e v → IsOrderly v
+works_kept w c e v g (clears i range k h) = subst IsOrderly (sym h) g
+works_kept w c e v g (invalidates i range k h) = subst IsOrderly (sym h) g
+works_kept w c e v g (walks p i k h) = subst IsOrderly (sym h) g
+works_kept w c e v g (evicts p i k h) = subst IsOrderly (sym h) g
+works_kept w c e v g (flushes i report counts t h) =
+    subst IsOrderly (sym h) (other_memory w (with_counts counts w).memory g (counted w.made w.memory (Flushing c report) counts g.memory t))
+works_kept w c e v g (reviews i report counts t h) =
+    subst IsOrderly (sym h) (other_memory w (with_counts counts w).memory g (counted w.made w.memory (Reviewing c report) counts g.memory t))
+works_kept w c e v g (frees_frame i f counts t h) =
+    subst IsOrderly (sym h) (other_memory w (with_free f (with_counts counts w)).memory g (freed w.made w.memory c f counts g.memory t))
 
 shape_kept : (w : World) (e : Event) (o : Outcome) (v : World) → IsOrderly w → Shape w e o v → IsOrderly v
 shape_kept w e o v g (rests i h) = subst IsOrderly (sym h) g
 shape_kept w e o v g (begins c request i s lt p below h) = subst IsOrderly (sym h) (begins_kept w c request g lt p below)
 shape_kept w e o v g (ends c reply i s lt p h) = subst IsOrderly (sym h) (steps w c (Answer reply) Free p g lt refl refl tt tt (λ f x. absurd cc))
 shape_kept w e o v g (goes c i s lt k) = goes_kept w c v g lt k
+shape_kept w e o v g (gives_up c i s lt can h) = subst IsOrderly (sym h) (gives_up_kept w c g lt can)
+shape_kept w e o v g (works c s lt k) = works_kept w c e v g k
+shape_kept w e o v g (joins p t i s page j m h) = subst IsOrderly (sym h) (joined w t j g)
 
 -- the order doesn't look at the number of events
 pub kept : (w v : World) (e : Event) (o : Outcome) → IsOrderly w → Step w e o v → IsOrderly v
@@ -472,4 +652,4 @@ kept w v e o g s = go (comes w e o v s)
   where
     go : Comes w e o v → IsOrderly v
     go (stopped n i h) = subst IsOrderly (sym h) g
-    go (counts n h) = shape_kept (counted w) e o v g h
+    go (happens n h) = shape_kept (with_event w) e o v g h

@@ -5,6 +5,7 @@ pub mod Shapes
 pub mod Moves
 pub mod Slots
 pub mod Changed
+pub mod Counted
 pub mod Owned
 pub mod Asked
 pub mod Opening

@@ -15,7 +15,7 @@ use Rattle.machine_model.specs.declared.phase.Phase.TheVariants.{Free, Check, Lo
 use Rattle.machine_model.specs.World.{World, Made, Memory}
 use Rattle.machine_model.specs.Actions.{let_go}
 use Rattle.machine_model.specs.Holding.{holds, some_has, range_held, taken_in, is_open, page_of_touch}
-use Rattle.machine_laws.specs.Orderly.{Order, IsOrderly, IsAsked, IsCutFor, IsReady, IsUsable, BelongsTo}
+use Rattle.machine_laws.specs.Orderly.{Order, IsOrderly, IsAsked, IsCutFor, IsReady, IsUsable, BelongsTo, IsMemory}
 use Rattle.machine_laws.proofs.Deciding.{decides_kept}
 use Rattle.machine_laws.proofs.OpenCalls.{one, open_put}
 
@@ -94,10 +94,10 @@ other_call made s t requests c d call phase ne h k = record {
 -- ---- the call of core c moves on
 
 pub moved : (w : World) (c : ℕ) (new : Phase) (t : Slots) (m : Memory) (log : List Entry) → IsOrderly w → c < w.made.cores → Touches w.slots t c
-    → IsCall w.made t w.calls.requests c (w.calls.number c) new → ((p : ℕ) → BelongsTo w.made p (t.info p)) → ((f : ℕ) → m.is_free f ≡ true → f < w.made.frames)
+    → IsCall w.made t w.calls.requests c (w.calls.number c) new → ((p : ℕ) → BelongsTo w.made p (t.info p)) → IsMemory w.made m
     → length log + one new ≤ length w.calls.log + one (w.calls.phase c)
     → Order w.made t m (put w.calls.phase c new) w.calls.number w.calls.requests log
-moved w c new t m log g lt touches call pages free more = record {
+moved w c new t m log g lt touches call pages memory more = record {
   asked = λ d. (calls d).asked;
   owned = λ d. (calls d).owned;
   only = λ d. (calls d).only;
@@ -105,7 +105,7 @@ moved w c new t m log g lt touches call pages free more = record {
   ready = λ d. (calls d).ready;
   pages = pages;
   taken = λ d. (calls d).taken;
-  free = free;
+  memory = memory;
   outside = put_all (λ d x. w.made.cores ≤ d → x ≡ Free) w.calls.phase c new (λ h. absurd (omega (arith, h, lt))) (λ d ne. g.outside d);
   room = let a = open_put w.calls.phase c new w.made.cores lt in let b = g.room in omega (arith, a, b, more);
   limit = g.limit;
@@ -118,10 +118,10 @@ moved w c new t m log g lt touches call pages free more = record {
 -- without a reply
 pub goes_on : (w : World) (c : ℕ) (new : Phase) (t : Slots) (m : Memory) → IsOrderly w → c < w.made.cores → is_open new ≡ is_open (w.calls.phase c)
     → Touches w.slots t c → IsCall w.made t w.calls.requests c (w.calls.number c) new → ((p : ℕ) → BelongsTo w.made p (t.info p))
-    → ((f : ℕ) → m.is_free f ≡ true → f < w.made.frames)
+    → IsMemory w.made m
     → Order w.made t m (put w.calls.phase c new) w.calls.number w.calls.requests w.calls.log
-goes_on w c new t m g lt same touches call pages free =
-    moved w c new t m w.calls.log g lt touches call pages free (let a : one new ≡ one (w.calls.phase c) = ap (λ b. cond b 1 0) same in omega (arith, a))
+goes_on w c new t m g lt same touches call pages memory =
+    moved w c new t m w.calls.log g lt touches call pages memory (let a : one new ≡ one (w.calls.phase c) = ap (λ b. cond b 1 0) same in omega (arith, a))
 
 one_gone : (held : Option PageRange) (reply : Reply) → one (let_go held reply) ≡ 0
 one_gone None reply = refl
@@ -130,10 +130,10 @@ one_gone (Some held) reply = refl
 -- with its reply
 pub tells : (w : World) (c : ℕ) (held : Option PageRange) (reply : Reply) (t : Slots) (m : Memory) (entry : Entry) → IsOrderly w → c < w.made.cores
     → is_open (w.calls.phase c) ≡ true → Touches w.slots t c → IsCall w.made t w.calls.requests c (w.calls.number c) (let_go held reply)
-    → ((p : ℕ) → BelongsTo w.made p (t.info p)) → ((f : ℕ) → m.is_free f ≡ true → f < w.made.frames)
+    → ((p : ℕ) → BelongsTo w.made p (t.info p)) → IsMemory w.made m
     → Order w.made t m (put w.calls.phase c (let_go held reply)) w.calls.number w.calls.requests (w.calls.log ++ entry ∷ [])
-tells w c held reply t m entry g lt was touches call pages free =
-    moved w c (let_go held reply) t m (w.calls.log ++ entry ∷ []) g lt touches call pages free
+tells w c held reply t m entry g lt was touches call pages memory =
+    moved w c (let_go held reply) t m (w.calls.log ++ entry ∷ []) g lt touches call pages memory
     (let a : one (w.calls.phase c) ≡ 1 = ap (λ b. cond b 1 0) was in
     let b = one_gone held reply in
     let d : length (w.calls.log ++ entry ∷ []) ≡ length w.calls.log + 1 = length-append w.calls.log (entry ∷ []) in

@@ -2,6 +2,8 @@
 use Rattle.std.proofs.Common.{refl, subst, sym, arith}
 use Rattle.std.proofs.lemmas.Bool.Decides.{nat_tests}
 use Rattle.slot_lock.specs.Slots.{Slots, IsNew}
+use Rattle.refcache.specs.Counts.{no_counts}
+use Rattle.refcache.proofs.Sound.{reached_open}
 use Rattle.machine_model.specs.World.{Made, new_world}
 use Rattle.machine_laws.specs.Orderly.{IsOrderly, BelongsTo}
 use Rattle.machine_laws.proofs.OpenCalls.{open_none}
@@ -16,7 +18,12 @@ opening_is_orderly made slots new = record {
   ready = λ c. tt;
   pages = λ p. subst (BelongsTo made p) (sym (new.unmapped p)) (unmapped_belongs made p);
   taken = λ c f h. absurd cc;
-  free = λ f h. grind (arith, nat_tests);
+  memory = record {
+    free = λ f h. grind (arith, nat_tests);
+    reached = reached_open (no_counts made.cores made.frames) made.cores made.frames refl;
+    cores = refl;
+    objects = refl;
+  };
   outside = λ c h. refl;
   room = let e = open_none made.cores in omega (arith, e);
   limit = omega arith;

@@ -17,7 +17,7 @@ use Rattle.slot_lock.specs.declared.plan.Change.{Change}
 use Rattle.slot_lock.specs.Plan.{range_of}
 use Rattle.slot_lock.specs.Slots.{Slots}
 use Rattle.machine_model.specs.Accesses.{info_with_core}
-use Rattle.machine_model.specs.Changes.{changed}
+use Rattle.machine_model.specs.Changes.{slots_after}
 use Rattle.machine_model.specs.World.{Made}
 use Rattle.machine_laws.specs.Orderly.{BelongsTo}
 use Rattle.machine_laws.proofs.Changed.{changed_all}
@@ -56,7 +56,7 @@ protected_belongs : (made : Made) (p : ℕ) (prot : Prot) (o : Option PageInfo) 
 protected_belongs made p prot None h = h
 protected_belongs made p prot (Some info) h = record { valid = h.valid; frame = h.frame; cores = λ c i. absurd (no_member c i) }
 
-pub changed_belongs : (made : Made) (s : Slots) (change : Change) → IsPageRange (range_of change) → ((p : ℕ) → BelongsTo made p (s.info p)) → (p : ℕ) → BelongsTo made p ((changed change s).info p)
+pub changed_belongs : (made : Made) (s : Slots) (change : Change) → IsPageRange (range_of change) → ((p : ℕ) → BelongsTo made p (s.info p)) → (p : ℕ) → BelongsTo made p ((slots_after change s).info p)
 changed_belongs made s change range old =
     changed_all (BelongsTo made) s change
     (λ r meta p e i. unused_belongs made p _ (within r p (subst (λ x. IsPageRange (range_of x)) e range) i))

@@ -1,7 +1,7 @@
 -- What a step is: it changes nothing, begins a call, ends one, or is one of a few things that a call in some phase does. Every
 -- statement on steps is shown shape by shape, so that no row of the machine is taken apart twice.
-use Rattle.std.proofs.Common.{◌≡◌, ◌≢◌, ℕ, sym, ◌∙◌, ◌<◌, ◌⊎◌, inl, inr, Bool, true, false, cond, refl, arith, Some, None, Option, Result, Ok, Err, [], length}
-use Rattle.std.specs.Prelude.{nat_lt, ◌&&◌, if◌then◌else◌}
+use Rattle.std.proofs.Common.{◌≡◌, ◌≢◌, ℕ, sym, ap, ◌∙◌, ◌<◌, ◌⊎◌, inl, inr, Bool, true, false, cond, refl, arith, Some, None, Option, Result, Ok, Err, [], length}
+use Rattle.std.specs.Prelude.{nat_lt, ◌&&◌, is_some, if◌then◌else◌}
 use Rattle.std.proofs.lemmas.Bool.Decides.{nat_tests}
 use Rattle.vm_base.specs.declared.info.PageInfo.{PageInfo}
 use Rattle.vm_base.specs.declared.page.PageRange.{PageRange}
@@ -13,7 +13,18 @@ use Rattle.vm_base.specs.declared.replies.Reply.{Reply}
 use Rattle.vm_base.specs.declared.replies.Reply.TheVariants as ReplyOf
 use Rattle.vm_base.specs.declared.requests.Request.{Request}
 use Rattle.vm_base.specs.Plain.{File}
+use Rattle.vm_base.specs.Pages.{IsPage}
 use Rattle.vm_base.specs.Rights.{is_allowed}
+use Rattle.mmu.specs.Tlb.{tlb_at}
+use Rattle.refcache.specs.declared.reports.Flush.{Flush}
+use Rattle.refcache.specs.declared.reports.Flush.TheVariants as flush
+use Rattle.refcache.specs.declared.reports.Review.{Review}
+use Rattle.refcache.specs.declared.reports.Review.TheVariants as review
+use Rattle.refcache.specs.Counts.{Counts}
+use Rattle.refcache.specs.Steps.{Takes, Begin, Flushing, Reviewing}
+use Rattle.shootdown.specs.declared.message.Took.{Took}
+use Rattle.shootdown.specs.declared.message.Took.TheVariants as took
+use Rattle.shootdown.specs.Messages.{asked, remaining}
 use Rattle.slot_lock.specs.declared.plan.Change.{Change}
 use Rattle.slot_lock.specs.declared.plan.Place.{Place}
 use Rattle.slot_lock.specs.declared.plan.Plan.{Plan}
@@ -22,15 +33,16 @@ use Rattle.slot_lock.specs.declared.plan.Touch.{Touch}
 use Rattle.slot_lock.specs.declared.slot_map.Got.{Got}
 use Rattle.slot_lock.specs.declared.slot_map.Got.TheVariants.{Split, Locked, Held}
 use Rattle.slot_lock.specs.Plan.{range_of}
-use Rattle.slot_lock.specs.Slots.{Slots, Steps, Splits, Locks, Unlocks}
+use Rattle.slot_lock.specs.Slots.{Slots, Steps, Splits, Locks, Unlocks, Joins, IsSlotMap}
 use Rattle.vm_calls.specs.declared.decision.Decision.{Decision}
 use Rattle.vm_calls.specs.declared.decision.Decision.TheVariants.{Refuse, Act}
 use Rattle.vm_calls.specs.declared.fault.Settled.{Settled}
 use Rattle.vm_calls.specs.declared.fault.Settled.TheVariants.{MapErr, AccErr, Bus, Has, Copies, Cached, Wants}
 use Rattle.vm_calls.specs.Decisions.{Decides}
 use Rattle.vm_calls.specs.Settling.{settled, source, is_private_store}
-use Rattle.machine_model.specs.declared.event.Blocker.TheVariants.{Slot}
+use Rattle.machine_model.specs.declared.event.Blocker.TheVariants as WaitsFor
 use Rattle.machine_model.specs.declared.event.Event.{Event}
+use Rattle.machine_model.specs.declared.event.Event.TheVariants as EventOf
 use Rattle.machine_model.specs.declared.event.Event.TheVariants.{Call, Go}
 use Rattle.machine_model.specs.declared.event.Outcome.{Outcome}
 use Rattle.machine_model.specs.declared.event.Outcome.TheVariants.{Stepped, Idle, Answered, Full, Wait}
@@ -38,14 +50,17 @@ use Rattle.machine_model.specs.declared.phase.Goal.{Goal}
 use Rattle.machine_model.specs.declared.phase.Goal.TheVariants as To
 use Rattle.machine_model.specs.declared.phase.Phase.{Phase}
 use Rattle.machine_model.specs.declared.phase.Phase.TheVariants.{Free, Check, Lock, Decide, Post, Acks, Unlock, Answer, Try, Settle, Want, Fill, Install, Release}
-use Rattle.machine_model.specs.Accesses.{frame_for, tried_by, found_at, is_past_end, settled_to, NoneFree, IsLeastFree, TakesFrame, taken, filled, installed, accessed}
-use Rattle.machine_model.specs.Actions.{Idles, Becomes, to, replies, let_go}
-use Rattle.machine_model.specs.Changes.{checked_by, after_check, decided, committed}
+use Rattle.machine_model.specs.Accesses.{after_translation, found_at, is_past_end, after_finding, NoneFree, TakesFrame, TakesThisFrame, FillsFrame, after_frame, after_fill, after_install, after_access}
+use Rattle.machine_model.specs.Actions.{Idles, Becomes, to, after_reply, let_go}
+use Rattle.machine_model.specs.Changes.{checked_by, after_plan, after_decision, after_post, after_commit, CountsLost, AwaitsNobody, Awaits, CommitsNext}
+use Rattle.machine_model.specs.Counting.{with_counts, with_free, FlushesOnce, ReportsFlush, ReviewsOnce, ReportsReview}
+use Rattle.machine_model.specs.GivingUp.{GivesUp, after_give_up}
 use Rattle.machine_model.specs.Events.{core_of}
-use Rattle.machine_model.specs.Holding.{goal_range, page_of_touch}
-use Rattle.machine_model.specs.Locks.{locking, locked_to, held_after, LocksTo}
+use Rattle.machine_model.specs.Holding.{goal_range, page_of_touch, can_give_up}
+use Rattle.machine_model.specs.Locks.{locking, locked_to, held_after, LocksTo, FoldsAt}
+use Rattle.machine_model.specs.Translating.{translated_by, frame_reached, after_translating, with_hardware, with_inbox, tables_cleared, tlb_invalidated, TakesMessage, can_walk, after_walk, Walks, after_eviction, Evicts}
 use Rattle.machine_model.specs.World.{World}
-use Rattle.machine_model.specs.Step.{called, Begins, Goes, Acts, is_here, counted, event_limit, Step}
+use Rattle.machine_model.specs.Step.{after_call, Begins, Goes, Acts, is_here, with_event, event_limit, Step}
 use Rattle.machine_laws.specs.Brackets.{begun_by}
 use Rattle.machine_laws.specs.Orderly.{IsUsable}
 
@@ -68,9 +83,6 @@ pub data Moves (w : World) (c : ℕ) (new : Phase) : Type 0 where
       → checked_by w.made c request ≡ Ok (PlanOf.Touch touch) → Moves w c new
   acts : (change : Change) (range : PageRange) (shoot : ℕ) → w.calls.phase c ≡ Decide change → new ≡ Post change shoot
       → Decides w.made.file w.slots (PlanOf.Change change) (Act range shoot) → Moves w c new
-  tells : (change : Change) (shoot : ℕ) → w.calls.phase c ≡ Post change shoot → new ≡ Acks change (range_of change) → Moves w c new
-  faults : (touch : Touch) → w.calls.phase c ≡ Try touch → new ≡ locking (To.Access touch)
-      → frame_for touch.access (w.slots.info touch.page) ≡ None → Moves w c new
   finds : (touch : Touch) (f : ℕ) → w.calls.phase c ≡ Settle touch → new ≡ Install touch
       → IsUsable w.made.file (w.slots.info touch.page) touch.access (Some f) → Moves w c new
   lacks : (touch : Touch) → w.calls.phase c ≡ Settle touch → new ≡ Want touch
@@ -109,47 +121,97 @@ pub data GoesBy (w : World) (c : ℕ) (v : World) : Type 0 where
       → v ≡ to c (locked_to goal b) (record w { slots = t }) → GoesBy w c v
   lets_go : (held : PageRange) (b : ℕ) (t : Slots) (new : Phase) → LetsGo (w.calls.phase c) held b new
       → Unlocks w.slots t c held.first held.end b → v ≡ to c new (record w { slots = t }) → GoesBy w c v
-  answers : (held : Option PageRange) (reply : Reply) → Replies w c held reply → v ≡ replies c held reply w → GoesBy w c v
-  commits : (change : Change) (held : PageRange) → w.calls.phase c ≡ Acks change held → v ≡ committed c change held w → GoesBy w c v
-  takes : (touch : Touch) (f : ℕ) → w.calls.phase c ≡ Want touch → IsLeastFree w.memory.is_free f → v ≡ taken c touch f w → GoesBy w c v
-  fills : (touch : Touch) (f : ℕ) → w.calls.phase c ≡ Fill touch f → v ≡ filled c touch f w → GoesBy w c v
-  installs : (touch : Touch) → w.calls.phase c ≡ Install touch → v ≡ installed c touch w → GoesBy w c v
-  accesses : (touch : Touch) (f : ℕ) → w.calls.phase c ≡ Try touch → frame_for touch.access (w.slots.info touch.page) ≡ Some f
-      → v ≡ accessed c touch f w → GoesBy w c v
+  answers : (held : Option PageRange) (reply : Reply) → Replies w c held reply → v ≡ after_reply c held reply w → GoesBy w c v
+  posts : (change : Change) (shoot : ℕ) → w.calls.phase c ≡ Post change shoot → v ≡ after_post c change shoot w → GoesBy w c v
+  commits : (change : Change) (held : PageRange) (counts : Counts) → w.calls.phase c ≡ Acks change held → AwaitsNobody w.hardware c
+      → CountsLost c change w counts → v ≡ after_commit c change held counts w → GoesBy w c v
+  takes : (touch : Touch) (f : ℕ) → w.calls.phase c ≡ Want touch → w.memory.is_free f ≡ true → v ≡ after_frame c touch f w → GoesBy w c v
+  fills : (touch : Touch) (f : ℕ) (counts : Counts) → w.calls.phase c ≡ Fill touch f → Takes w.memory.counts (Begin f 1) counts
+      → v ≡ after_fill c touch f counts w → GoesBy w c v
+  installs : (touch : Touch) → w.calls.phase c ≡ Install touch → v ≡ after_install c touch w → GoesBy w c v
+  accesses : (touch : Touch) (f : ℕ) → w.calls.phase c ≡ Try touch → frame_reached (translated_by w.hardware c touch) ≡ Some f
+      → v ≡ after_access c touch f (with_hardware (after_translating w.hardware c touch) w) → GoesBy w c v
+  faults : (touch : Touch) → w.calls.phase c ≡ Try touch → frame_reached (translated_by w.hardware c touch) ≡ None
+      → v ≡ to c (locking (To.Access touch)) (with_hardware (after_translating w.hardware c touch) w) → GoesBy w c v
 
--- why event e changes nothing: the machine lacks its core, its core has a call or has none, no call may begin any more, or another core
--- holds the slot at the cursor
+-- what core c's hardware and counts do by an event, beside its call
+pub data Works (w : World) (c : ℕ) (e : Event) (v : World) : Type 0 where
+  clears : e ≡ EventOf.Take c → (range : PageRange) → asked (w.hardware.inbox c) ≡ took.Clear range
+      → v ≡ with_hardware (with_inbox (tables_cleared w.hardware c range) c (remaining (w.hardware.inbox c))) w → Works w c e v
+  invalidates : e ≡ EventOf.Take c → (range : PageRange) → asked (w.hardware.inbox c) ≡ took.Invalidate range
+      → v ≡ with_hardware (with_inbox (tlb_invalidated w.hardware c range) c (remaining (w.hardware.inbox c))) w → Works w c e v
+  walks : (p : ℕ) → e ≡ EventOf.Walk c p → can_walk w.hardware c p ≡ true → v ≡ with_hardware (after_walk w.hardware c p) w → Works w c e v
+  evicts : (p : ℕ) → e ≡ EventOf.Evict c p → is_some (tlb_at (w.hardware.tlb c) p) ≡ true → v ≡ with_hardware (after_eviction w.hardware c p) w
+      → Works w c e v
+  flushes : e ≡ EventOf.Flush c → (report : Flush) (counts : Counts) → Takes w.memory.counts (Flushing c report) counts → v ≡ with_counts counts w
+      → Works w c e v
+  reviews : e ≡ EventOf.Review c → (report : Review) (counts : Counts) → Takes w.memory.counts (Reviewing c report) counts
+      → v ≡ with_counts counts w → Works w c e v
+  frees : e ≡ EventOf.Review c → (f : ℕ) (counts : Counts) → Takes w.memory.counts (Reviewing c (review.Freed f)) counts
+      → v ≡ with_free f (with_counts counts w) → Works w c e v
+
+-- the events by which a call goes on
+pub data IsGoing (c : ℕ) : Event → Type 0 where
+  going : IsGoing c (Go c)
+  picking : (f : ℕ) → IsGoing c (EventOf.Frame c f)
+
+-- Why event e changes nothing: the machine lacks its core, its core has a call or has none, no call may begin any more, it isn't
+-- possible, another core holds the slot at the cursor, or other cores haven't acknowledged.
 pub data Rests (w : World) (e : Event) (o : Outcome) : Type 0 where
   absent : is_here w.made (core_of e) ≡ false → o ≡ Idle → Rests w e o
   busy : (c : ℕ) (request : Request) → e ≡ Call c request → w.calls.phase c ≢ Free → o ≡ Idle → Rests w e o
   full : (c : ℕ) (request : Request) → e ≡ Call c request → nat_lt (length w.calls.requests) w.made.calls ≡ false → o ≡ Full → Rests w e o
   free : (c : ℕ) → e ≡ Go c → w.calls.phase c ≡ Free → o ≡ Idle → Rests w e o
+  cannot : ((c : ℕ) → e ≢ Go c) → ((c : ℕ) (request : Request) → e ≢ Call c request) → o ≡ Idle → Rests w e o
   waits : (c : ℕ) (goal : Goal) (cursor by : ℕ) → e ≡ Go c → w.calls.phase c ≡ Lock goal cursor → by ≢ c → w.slots.owner cursor ≡ Some by
-      → o ≡ Wait (Slot by) → Rests w e o
+      → o ≡ Wait (WaitsFor.Slot by) → Rests w e o
+  awaits : (c : ℕ) (change : Change) (held : PageRange) (set : ℕ) → e ≡ Go c → w.calls.phase c ≡ Acks change held → Awaits w.hardware c set
+      → o ≡ Wait (WaitsFor.Acks set) → Rests w e o
 
 -- event e, counted in w, comes to outcome o and leaves v
 pub data Shape (w : World) (e : Event) (o : Outcome) (v : World) : Type 0 where
   rests : Rests w e o → v ≡ w → Shape w e o v
   begins : (c : ℕ) (request : Request) → e ≡ Call c request → o ≡ Stepped → c < w.made.cores → w.calls.phase c ≡ Free
-      → length w.calls.requests < w.made.calls → v ≡ called c request w → Shape w e o v
+      → length w.calls.requests < w.made.calls → v ≡ after_call c request w → Shape w e o v
   ends : (c : ℕ) (reply : Reply) → e ≡ Go c → o ≡ Answered reply → c < w.made.cores → w.calls.phase c ≡ Answer reply
       → v ≡ to c Free w → Shape w e o v
-  goes : (c : ℕ) → e ≡ Go c → o ≡ Stepped → c < w.made.cores → GoesBy w c v → Shape w e o v
+  goes : (c : ℕ) → IsGoing c e → o ≡ Stepped → c < w.made.cores → GoesBy w c v → Shape w e o v
+  gives_up : (c : ℕ) → e ≡ EventOf.GiveUp c → o ≡ Stepped → c < w.made.cores → can_give_up (w.calls.phase c) ≡ true
+      → v ≡ after_give_up c (w.calls.phase c) w → Shape w e o v
+  works : (c : ℕ) → o ≡ Stepped → c < w.made.cores → Works w c e v → Shape w e o v
+  joins : (p : ℕ) (t : Slots) → e ≡ EventOf.Fold p → o ≡ Stepped → IsPage p → Joins w.slots t → IsSlotMap t → v ≡ record w { slots = t }
+      → Shape w e o v
 
 -- at the limit of events nothing happens, and every other event is counted
 pub data Comes (w : World) (e : Event) (o : Outcome) (v : World) : Type 0 where
   stopped : nat_lt w.calls.events event_limit ≡ false → IsInner e o → v ≡ w → Comes w e o v
-  acts : nat_lt w.calls.events event_limit ≡ true → Shape (counted w) e o v → Comes w e o v
+  acts : nat_lt w.calls.events event_limit ≡ true → Shape (with_event w) e o v → Comes w e o v
 
 -- ---- every step has one
 
 inner_full : (e : Event) → IsInner e Full
 inner_full (Call c request) = ((λ n. refl), refl)
 inner_full (Go c) = ((λ n. refl), refl)
+inner_full (EventOf.Frame c f) = ((λ n. refl), refl)
+inner_full (EventOf.Take c) = ((λ n. refl), refl)
+inner_full (EventOf.Walk c p) = ((λ n. refl), refl)
+inner_full (EventOf.Evict c p) = ((λ n. refl), refl)
+inner_full (EventOf.Flush c) = ((λ n. refl), refl)
+inner_full (EventOf.Review c) = ((λ n. refl), refl)
+inner_full (EventOf.Fold p) = ((λ n. refl), refl)
+inner_full (EventOf.GiveUp c) = ((λ n. refl), refl)
 
 inner_idle : (e : Event) → IsInner e Idle
 inner_idle (Call c request) = ((λ n. refl), refl)
 inner_idle (Go c) = ((λ n. refl), refl)
+inner_idle (EventOf.Frame c f) = ((λ n. refl), refl)
+inner_idle (EventOf.Take c) = ((λ n. refl), refl)
+inner_idle (EventOf.Walk c p) = ((λ n. refl), refl)
+inner_idle (EventOf.Evict c p) = ((λ n. refl), refl)
+inner_idle (EventOf.Flush c) = ((λ n. refl), refl)
+inner_idle (EventOf.Review c) = ((λ n. refl), refl)
+inner_idle (EventOf.Fold p) = ((λ n. refl), refl)
+inner_idle (EventOf.GiveUp c) = ((λ n. refl), refl)
 
 -- an event that changes nothing neither begins a call nor ends one
 pub rests_inner : (w : World) (e : Event) (o : Outcome) → Rests w e o → IsInner e o
@@ -157,7 +219,9 @@ rests_inner w e o (absent h i) = rw i (inner_idle e)
 rests_inner w e o (busy c request h n i) = rw i (inner_idle e)
 rests_inner w e o (full c request h n i) = rw i (inner_full e)
 rests_inner w e o (free c h n i) = rw i (inner_idle e)
+rests_inner w e o (cannot g k i) = rw i (inner_idle e)
 rests_inner w e o (waits c goal cursor by h p ne own i) = rw (h, i) ((λ n. refl), refl)
+rests_inner w e o (awaits c change held set h p a i) = rw (h, i) ((λ n. refl), refl)
 
 below : (a b : ℕ) → nat_lt a b ≡ true → a < b
 below a b h = grind (arith, nat_tests)
@@ -166,7 +230,7 @@ call_shape : (w : World) (c : ℕ) (request : Request) (phase : Phase) (o : Outc
     → Begins w c request phase o v → Shape w (Call c request) o v
 call_shape w c request Free o v lt e h = go (nat_lt (length w.calls.requests) w.made.calls) refl h
   where
-    go : (b : Bool) → nat_lt (length w.calls.requests) w.made.calls ≡ b → cond b (Becomes (called c request w) o v) ((o ≡ Full) × (v ≡ w)) → Shape w (Call c request) o v
+    go : (b : Bool) → nat_lt (length w.calls.requests) w.made.calls ≡ b → cond b (Becomes (after_call c request w) o v) ((o ≡ Full) × (v ≡ w)) → Shape w (Call c request) o v
     go true i k = begins c request refl k.0 lt e (below _ _ i) k.1
     go false i k = rests (full c request refl i k.0) k.1
 call_shape w c request (Check r) o v lt e h = rests (busy c request refl (λ f. let a = sym e ∙ f in cc) h.0) h.1
@@ -185,10 +249,10 @@ call_shape w c request (Release touch) o v lt e h = rests (busy c request refl (
 
 -- a step of core c's call that is plain
 step : (w : World) (c : ℕ) (o : Outcome) (v : World) → c < w.made.cores → o ≡ Stepped → GoesBy w c v → Shape w (Go c) o v
-step w c o v lt s g = goes c refl s lt g
+step w c o v lt s g = goes c going s lt g
 
 check_shape : (w : World) (c : ℕ) (request : Request) (o : Outcome) (v : World) (r : Result Plan Reply) → w.calls.phase c ≡ Check request → checked_by w.made c request ≡ r
-    → v ≡ after_check c r w → GoesBy w c v
+    → v ≡ after_plan c r w → GoesBy w c v
 check_shape w c request o v (Err reply) e k h = answers None reply (refuses request e refl k) h
 check_shape w c request o v (Ok (PlanOf.Place place)) e k h = answers None (ReplyOf.Refused ENOMEM) (no_place request place e refl refl k) h
 check_shape w c request o v (Ok (PlanOf.Change change)) e k h = moves (locking (To.Change change)) (locks request change e refl k) h
@@ -201,14 +265,15 @@ lock_shape w c goal cursor (Locked b) t o v lt e s h = step w c o v lt h.0 (owns
 lock_shape w c goal cursor (Held by) t o v lt e s h = rests (waits c goal cursor by refl e s.0 s.1 h.0) h.1
 
 decide_shape : (w : World) (c : ℕ) (change : Change) (d : Decision) (v : World) → w.calls.phase c ≡ Decide change → Decides w.made.file w.slots (PlanOf.Change change) d
-    → v ≡ decided c change d w → GoesBy w c v
+    → v ≡ after_decision c change d w → GoesBy w c v
 decide_shape w c change (Refuse errno) v e d h = answers (Some (range_of change)) (ReplyOf.Refused errno) (declines change errno e refl refl d) h
 decide_shape w c change (Act range shoot) v e d h = moves (Post change shoot) (acts change range shoot e refl d) h
 
-try_shape : (w : World) (c : ℕ) (touch : Touch) (frame : Option ℕ) (v : World) → w.calls.phase c ≡ Try touch → frame_for touch.access (w.slots.info touch.page) ≡ frame
-    → v ≡ tried_by c touch frame w → GoesBy w c v
+try_shape : (w : World) (c : ℕ) (touch : Touch) (frame : Option ℕ) (v : World) → w.calls.phase c ≡ Try touch
+    → frame_reached (translated_by w.hardware c touch) ≡ frame
+    → v ≡ after_translation c touch frame (with_hardware (after_translating w.hardware c touch) w) → GoesBy w c v
 try_shape w c touch (Some f) v e k h = accesses touch f e k h
-try_shape w c touch None v e k h = moves (locking (To.Access touch)) (faults touch e refl k) h
+try_shape w c touch None v e k h = faults touch e k h
 
 -- what an access finds that isn't a fault
 abbrev Finds : (ℕ → Option File) → Option PageInfo → Access → Settled → Type 0
@@ -235,7 +300,7 @@ found file (Some info) access = go (is_allowed info.meta.prot access) (is_past_e
     go false b f i j k = tt
 
 settle_shape : (w : World) (c : ℕ) (touch : Touch) (s : Settled) (v : World) → w.calls.phase c ≡ Settle touch → found_at w touch ≡ s
-    → Finds w.made.file (w.slots.info touch.page) touch.access s → v ≡ settled_to c touch s w → GoesBy w c v
+    → Finds w.made.file (w.slots.info touch.page) touch.access s → v ≡ after_finding c touch s w → GoesBy w c v
 settle_shape w c touch MapErr v e k f h = answers (Some (page_of_touch touch)) (ReplyOf.Segv Code.MapErr) (fails touch e refl (rw k refl)) h
 settle_shape w c touch AccErr v e k f h = answers (Some (page_of_touch touch)) (ReplyOf.Segv Code.AccErr) (fails touch e refl (rw k refl)) h
 settle_shape w c touch Bus v e k f h = answers (Some (page_of_touch touch)) ReplyOf.Bus (fails touch e refl (rw k refl)) h
@@ -244,37 +309,129 @@ settle_shape w c touch (Copies g) v e k f h = absurd f
 settle_shape w c touch (Cached g) v e k f h = moves (Want touch) (lacks touch e refl f) h
 settle_shape w c touch Wants v e k f h = moves (Want touch) (lacks touch e refl f) h
 
-want_shape : (w : World) (c : ℕ) (touch : Touch) (o : Outcome) (v : World) → c < w.made.cores → w.calls.phase c ≡ Want touch → TakesFrame w c touch o v → Shape w (Go c) o v
+want_shape : (w : World) (c : ℕ) (touch : Touch) (o : Outcome) (v : World) → c < w.made.cores → w.calls.phase c ≡ Want touch
+    → TakesFrame w c touch o v → Shape w (Go c) o v
 want_shape w c touch o v lt e (inl h) = step w c o v lt h.1.0 (answers (Some (page_of_touch touch)) ReplyOf.NoFrame (no_frame touch e refl refl h.0) h.1.1)
-want_shape w c touch o v lt e (inr h) = step w c o v lt h.2.0 (takes touch h.0 e h.1 h.2.1)
+want_shape w c touch o v lt e (inr h) = step w c o v lt h.2.0 (takes touch h.0 e h.1.free h.2.1)
+
+acks_shape : (w : World) (c : ℕ) (change : Change) (held : PageRange) (o : Outcome) (v : World) → c < w.made.cores
+    → w.calls.phase c ≡ Acks change held → CommitsNext w c change held o v → Shape w (Go c) o v
+acks_shape w c change held o v lt e (inl h) = step w c o v lt h.1.2.0 (commits change held h.1.0 e h.0 h.1.1 h.1.2.1)
+acks_shape w c change held o v lt e (inr h) = rests (awaits c change held h.0 refl e h.1 h.2) h.3
 
 go_shape : (w : World) (c : ℕ) (phase : Phase) (o : Outcome) (v : World) → c < w.made.cores → w.calls.phase c ≡ phase → Goes w c phase o v → Shape w (Go c) o v
 go_shape w c Free o v lt e h = rests (free c refl e h.0) h.1
 go_shape w c (Check request) o v lt e h = step w c o v lt h.0 (check_shape w c request o v (checked_by w.made c request) e refl h.1)
 go_shape w c (Lock goal cursor) o v lt e h = lock_shape w c goal cursor h.0 h.1.0 o v lt e h.1.1 h.1.2
 go_shape w c (Decide change) o v lt e h = step w c o v lt h.2.0 (decide_shape w c change h.0 v e h.1 h.2.1)
-go_shape w c (Post change shoot) o v lt e h = step w c o v lt h.0 (moves (Acks change (range_of change)) (tells change shoot e refl) h.1)
-go_shape w c (Acks change held) o v lt e h = step w c o v lt h.0 (commits change held e h.1)
+go_shape w c (Post change shoot) o v lt e h = step w c o v lt h.0 (posts change shoot e h.1)
+go_shape w c (Acks change held) o v lt e h = acks_shape w c change held o v lt e h
 go_shape w c (Unlock held reply) o v lt e h = step w c o v lt h.1.2.0 (lets_go held h.0 h.1.0 (let_go (held_after held h.0) reply) (unlocks reply e refl) h.1.1 h.1.2.1)
 go_shape w c (Answer reply) o v lt e h = ends c reply refl h.0 lt e h.1
-go_shape w c (Try touch) o v lt e h = step w c o v lt h.0 (try_shape w c touch (frame_for touch.access (w.slots.info touch.page)) v e refl h.1)
+go_shape w c (Try touch) o v lt e h = step w c o v lt h.0 (try_shape w c touch (frame_reached (translated_by w.hardware c touch)) v e refl h.1)
 go_shape w c (Settle touch) o v lt e h = step w c o v lt h.0 (settle_shape w c touch (found_at w touch) v e refl (found w.made.file (w.slots.info touch.page) touch.access) h.1)
 go_shape w c (Want touch) o v lt e h = want_shape w c touch o v lt e h
-go_shape w c (Fill touch f) o v lt e h = step w c o v lt h.0 (fills touch f e h.1)
+go_shape w c (Fill touch f) o v lt e h = step w c o v lt h.2.0 (fills touch f h.0 e h.1 h.2.1)
 go_shape w c (Install touch) o v lt e h = step w c o v lt h.0 (installs touch e h.1)
 go_shape w c (Release touch) o v lt e h = step w c o v lt h.1.2.0 (lets_go (page_of_touch touch) h.0 h.1.0 (Try touch) (releases touch e refl refl) h.1.1 h.1.2.1)
+
+-- ---- the other events
+
+-- an event of another kind that isn't possible
+idles : (w : World) (e : Event) (o : Outcome) (v : World) → ((c : ℕ) → e ≢ Go c) → ((c : ℕ) (request : Request) → e ≢ Call c request)
+    → Idles w o v → Shape w e o v
+idles w e o v not_go not_call h = rests (cannot not_go not_call h.0) h.1
+
+frame_shape : (w : World) (c f : ℕ) (phase : Phase) (o : Outcome) (v : World) → c < w.made.cores → w.calls.phase c ≡ phase
+    → TakesThisFrame w c phase f o v → Shape w (EventOf.Frame c f) o v
+frame_shape w c f (Want touch) o v lt e h = go (w.memory.is_free f) refl h
+  where
+    go : (b : Bool) → w.memory.is_free f ≡ b → cond b (Becomes (after_frame c touch f w) o v) (Idles w o v) → Shape w (EventOf.Frame c f) o v
+    go true i k = goes c (picking f) k.0 lt (takes touch f e i k.1)
+    go false i k = idles w (EventOf.Frame c f) o v (λ d x. cc) (λ d r x. cc) k
+frame_shape w c f Free o v lt e h = idles w (EventOf.Frame c f) o v (λ d x. cc) (λ d r x. cc) h
+frame_shape w c f (Check r) o v lt e h = idles w (EventOf.Frame c f) o v (λ d x. cc) (λ d r x. cc) h
+frame_shape w c f (Lock goal cursor) o v lt e h = idles w (EventOf.Frame c f) o v (λ d x. cc) (λ d r x. cc) h
+frame_shape w c f (Decide change) o v lt e h = idles w (EventOf.Frame c f) o v (λ d x. cc) (λ d r x. cc) h
+frame_shape w c f (Post change shoot) o v lt e h = idles w (EventOf.Frame c f) o v (λ d x. cc) (λ d r x. cc) h
+frame_shape w c f (Acks change held) o v lt e h = idles w (EventOf.Frame c f) o v (λ d x. cc) (λ d r x. cc) h
+frame_shape w c f (Unlock held reply) o v lt e h = idles w (EventOf.Frame c f) o v (λ d x. cc) (λ d r x. cc) h
+frame_shape w c f (Answer reply) o v lt e h = idles w (EventOf.Frame c f) o v (λ d x. cc) (λ d r x. cc) h
+frame_shape w c f (Try touch) o v lt e h = idles w (EventOf.Frame c f) o v (λ d x. cc) (λ d r x. cc) h
+frame_shape w c f (Settle touch) o v lt e h = idles w (EventOf.Frame c f) o v (λ d x. cc) (λ d r x. cc) h
+frame_shape w c f (Fill touch g) o v lt e h = idles w (EventOf.Frame c f) o v (λ d x. cc) (λ d r x. cc) h
+frame_shape w c f (Install touch) o v lt e h = idles w (EventOf.Frame c f) o v (λ d x. cc) (λ d r x. cc) h
+frame_shape w c f (Release touch) o v lt e h = idles w (EventOf.Frame c f) o v (λ d x. cc) (λ d r x. cc) h
+
+take_shape : (w : World) (c : ℕ) (t : Took) (o : Outcome) (v : World) → c < w.made.cores → asked (w.hardware.inbox c) ≡ t
+    → TakesMessage w c t o v → Shape w (EventOf.Take c) o v
+take_shape w c (took.Clear range) o v lt e h = works c h.0 lt (clears refl range e h.1)
+take_shape w c (took.Invalidate range) o v lt e h = works c h.0 lt (invalidates refl range e h.1)
+take_shape w c took.Idle o v lt e h = idles w (EventOf.Take c) o v (λ d x. cc) (λ d r x. cc) h
+
+walk_shape : (w : World) (c p : ℕ) (o : Outcome) (v : World) → c < w.made.cores → Walks w c p o v → Shape w (EventOf.Walk c p) o v
+walk_shape w c p o v lt h = go (can_walk w.hardware c p) refl h
+  where
+    go : (b : Bool) → can_walk w.hardware c p ≡ b → cond b (Becomes (with_hardware (after_walk w.hardware c p) w) o v) (Idles w o v)
+        → Shape w (EventOf.Walk c p) o v
+    go true i k = works c k.0 lt (walks p refl i k.1)
+    go false i k = idles w (EventOf.Walk c p) o v (λ d x. cc) (λ d r x. cc) k
+
+evict_shape : (w : World) (c p : ℕ) (o : Outcome) (v : World) → c < w.made.cores → Evicts w c p o v → Shape w (EventOf.Evict c p) o v
+evict_shape w c p o v lt h = go (is_some (tlb_at (w.hardware.tlb c) p)) refl h
+  where
+    go : (b : Bool) → is_some (tlb_at (w.hardware.tlb c) p) ≡ b
+        → cond b (Becomes (with_hardware (after_eviction w.hardware c p) w) o v) (Idles w o v) → Shape w (EventOf.Evict c p) o v
+    go true i k = works c k.0 lt (evicts p refl i k.1)
+    go false i k = idles w (EventOf.Evict c p) o v (λ d x. cc) (λ d r x. cc) k
+
+flush_shape : (w : World) (c : ℕ) (report : Flush) (counts : Counts) (o : Outcome) (v : World) → c < w.made.cores
+    → Takes w.memory.counts (Flushing c report) counts → ReportsFlush w report counts o v → Shape w (EventOf.Flush c) o v
+flush_shape w c (flush.Evicted p) counts o v lt t h = works c h.0 lt (flushes refl (flush.Evicted p) counts t h.1)
+flush_shape w c flush.Flushed counts o v lt t h = works c h.0 lt (flushes refl flush.Flushed counts t h.1)
+flush_shape w c flush.EpochEnded counts o v lt t h = works c h.0 lt (flushes refl flush.EpochEnded counts t h.1)
+flush_shape w c flush.Idle counts o v lt t h = idles w (EventOf.Flush c) o v (λ d x. cc) (λ d r x. cc) h
+
+review_shape : (w : World) (c : ℕ) (report : Review) (counts : Counts) (o : Outcome) (v : World) → c < w.made.cores
+    → Takes w.memory.counts (Reviewing c report) counts → ReportsReview w report counts o v → Shape w (EventOf.Review c) o v
+review_shape w c (review.Freed f) counts o v lt t h = works c h.0 lt (frees refl f counts t h.1)
+review_shape w c (review.Requeued p) counts o v lt t h = works c h.0 lt (reviews refl (review.Requeued p) counts t h.1)
+review_shape w c (review.Dropped p) counts o v lt t h = works c h.0 lt (reviews refl (review.Dropped p) counts t h.1)
+review_shape w c review.Idle counts o v lt t h = idles w (EventOf.Review c) o v (λ d x. cc) (λ d r x. cc) h
+
+fold_shape : (w : World) (p : ℕ) (o : Outcome) (v : World) → FoldsAt w p o v → Shape w (EventOf.Fold p) o v
+fold_shape w p o v (inl h) = idles w (EventOf.Fold p) o v (λ d x. cc) (λ d r x. cc) h
+fold_shape w p o v (inr h) = joins p h.1.0 refl h.1.3.0 h.0 h.1.1 h.1.2 h.1.3.1
+
+give_up_shape : (w : World) (c : ℕ) (phase : Phase) (o : Outcome) (v : World) → c < w.made.cores → w.calls.phase c ≡ phase
+    → GivesUp w c phase o v → Shape w (EventOf.GiveUp c) o v
+give_up_shape w c phase o v lt e h = go (can_give_up phase) refl h
+  where
+    go : (b : Bool) → can_give_up phase ≡ b → cond b (Becomes (after_give_up c phase w) o v) (Idles w o v) → Shape w (EventOf.GiveUp c) o v
+    go true i k = gives_up c refl k.0 lt (ap can_give_up e ∙ i) (k.1 ∙ ap (λ q. after_give_up c q w) (sym e))
+    go false i k = idles w (EventOf.GiveUp c) o v (λ d x. cc) (λ d r x. cc) k
+
+-- ---- every event
 
 act_shape : (w : World) (e : Event) (o : Outcome) (v : World) → is_here w.made (core_of e) ≡ true → Acts w e o v → Shape w e o v
 act_shape w (Call c request) o v here h = call_shape w c request (w.calls.phase c) o v (below c w.made.cores here) refl h
 act_shape w (Go c) o v here h = go_shape w c (w.calls.phase c) o v (below c w.made.cores here) refl h
+act_shape w (EventOf.Frame c f) o v here h = frame_shape w c f (w.calls.phase c) o v (below c w.made.cores here) refl h
+act_shape w (EventOf.Take c) o v here h = take_shape w c (asked (w.hardware.inbox c)) o v (below c w.made.cores here) refl h
+act_shape w (EventOf.Walk c p) o v here h = walk_shape w c p o v (below c w.made.cores here) h
+act_shape w (EventOf.Evict c p) o v here h = evict_shape w c p o v (below c w.made.cores here) h
+act_shape w (EventOf.Flush c) o v here h = flush_shape w c h.0 h.1.0 o v (below c w.made.cores here) h.1.1 h.1.2
+act_shape w (EventOf.Review c) o v here h = review_shape w c h.0 h.1.0 o v (below c w.made.cores here) h.1.1 h.1.2
+act_shape w (EventOf.Fold p) o v here h = fold_shape w p o v h
+act_shape w (EventOf.GiveUp c) o v here h = give_up_shape w c (w.calls.phase c) o v (below c w.made.cores here) refl h
 
 pub comes : (w : World) (e : Event) (o : Outcome) (v : World) → Step w e o v → Comes w e o v
 comes w e o v s = go (nat_lt w.calls.events event_limit) refl s
   where
-    known : (b : Bool) → is_here w.made (core_of e) ≡ b → cond b (Acts (counted w) e o v) (Idles (counted w) o v) → Shape (counted w) e o v
-    known true i k = act_shape (counted w) e o v i k
+    known : (b : Bool) → is_here w.made (core_of e) ≡ b → cond b (Acts (with_event w) e o v) (Idles (with_event w) o v) → Shape (with_event w) e o v
+    known true i k = act_shape (with_event w) e o v i k
     known false i k = rests (absent i k.0) k.1
 
-    go : (b : Bool) → nat_lt w.calls.events event_limit ≡ b → cond b (cond (is_here w.made (core_of e)) (Acts (counted w) e o v) (Idles (counted w) o v)) ((o ≡ Full) × (v ≡ w)) → Comes w e o v
+    go : (b : Bool) → nat_lt w.calls.events event_limit ≡ b → cond b (cond (is_here w.made (core_of e)) (Acts (with_event w) e o v) (Idles (with_event w) o v)) ((o ≡ Full) × (v ≡ w)) → Comes w e o v
     go true i k = acts i (known (is_here w.made (core_of e)) refl k)
     go false i k = stopped i (rw (k.0) (inner_full e)) k.1

@@ -15,6 +15,7 @@ use Rattle.slot_lock.specs.Plan.{range_of}
 use Rattle.slot_lock.specs.Slots.{Slots, IsNew}
 use Rattle.vm_calls.specs.declared.decision.Decision.TheVariants.{Act}
 use Rattle.vm_calls.specs.Decisions.{Decides}
+use Rattle.refcache.specs.Sound.{IsReached}
 use Rattle.machine_model.specs.declared.event.Event.{Event}
 use Rattle.machine_model.specs.declared.event.Outcome.{Outcome}
 use Rattle.machine_model.specs.declared.log.Entry.{Entry}
@@ -81,6 +82,15 @@ pub record BelongsTo (made : Made) (page : ℕ) (info : Option PageInfo) : Type 
   pub frame : (f : ℕ) → frame_of info ≡ Some f → f < made.frames
   pub cores : (c : ℕ) → is_recorded info c ≡ true → c < made.cores
 
+-- ---- memory
+
+-- frames that are free are the machine's, and Refcache counts its frames for its cores
+pub record IsMemory (made : Made) (m : Memory) : Type 0 where
+  pub free : (f : ℕ) → m.is_free f ≡ true → f < made.frames
+  pub reached : IsReached m.counts
+  pub cores : m.counts.cores ≡ made.cores
+  pub objects : m.counts.objects ≡ made.frames
+
 -- ---- calls without a reply
 
 -- how many of the cores below n have a call without an entry in the log
@@ -100,9 +110,9 @@ pub record Order (made : Made) (s : Slots) (m : Memory) (phase : ℕ → Phase) 
   pub cut : (c : ℕ) → IsCutFor s.edge (range_held (phase c))
   pub ready : (c : ℕ) → IsReady made s (phase c)
   pub pages : (p : ℕ) → BelongsTo made p (s.info p)
-  -- frames that calls have and that are free are the machine's
+  -- frames that calls have taken are the machine's
   pub taken : (c f : ℕ) → taken_in (phase c) ≡ Some f → f < made.frames
-  pub free : (f : ℕ) → m.is_free f ≡ true → f < made.frames
+  pub memory : IsMemory made m
   -- only the machine's cores have calls
   pub outside : (c : ℕ) → made.cores ≤ c → phase c ≡ Free
   -- each call without a reply finds room in the log, which is made with room for one entry of each call

@@ -1,5 +1,5 @@
 -- The steps of a load, a store or a fetch
-use Rattle.std.specs.Prelude.{◌≡◌, ℕ, ◌<◌, ◌⊎◌, Bool, true, false, not, if◌then◌else◌, Option, None, Some, is_some}
+use Rattle.std.specs.Prelude.{◌≡◌, ℕ, ◌<◌, ◌⊎◌, Bool, true, false, not, cond, Option, None, Some, is_some}
 use Rattle.vm_base.specs.declared.info.PageInfo.{PageInfo}
 use Rattle.vm_base.specs.declared.info.Back.{Back}
 use Rattle.vm_base.specs.declared.info.Back.TheVariants.{Anon, Shared, Private}
@@ -11,7 +11,6 @@ use Rattle.vm_base.specs.declared.replies.Reply.TheVariants as ReplyOf
 use Rattle.vm_base.specs.Functions.{put}
 use Rattle.vm_base.specs.Cores.{with_member}
 use Rattle.vm_base.specs.Info.{info_with_frame}
-use Rattle.vm_base.specs.Rights.{is_allowed}
 use Rattle.vm_base.specs.Plain.{Bytes, File, zeros, file_bytes}
 use Rattle.vm_base.specs.Apply.{byte_reply}
 use Rattle.slot_lock.specs.declared.plan.Touch.{Touch}
@@ -19,15 +18,19 @@ use Rattle.slot_lock.specs.Slots.{with_info}
 use Rattle.vm_calls.specs.declared.fault.Settled.{Settled}
 use Rattle.vm_calls.specs.declared.fault.Settled.TheVariants.{MapErr, AccErr, Bus, Has, Copies, Cached, Wants}
 use Rattle.vm_calls.specs.Settling.{settled}
+use Rattle.refcache.specs.Counts.{Counts}
+use Rattle.refcache.specs.Steps.{Takes, Begin}
 use Rattle.machine_model.specs.declared.event.Outcome.{Outcome}
 use Rattle.machine_model.specs.declared.phase.Goal.TheVariants as To
+use Rattle.machine_model.specs.declared.phase.Phase.{Phase}
 use Rattle.machine_model.specs.declared.phase.Phase.TheVariants.{Want, Fill, Install, Release}
 use Rattle.machine_model.specs.World.{World, Memory}
-use Rattle.machine_model.specs.Actions.{Becomes, to, replies}
+use Rattle.machine_model.specs.Actions.{Idles, Becomes, to, after_reply}
 use Rattle.machine_model.specs.Holding.{page_of_touch}
 use Rattle.machine_model.specs.Locks.{locking}
+use Rattle.machine_model.specs.Translating.{translated_by, frame_reached, after_translating, entry_of_page, with_table, with_hardware}
 
--- ---- Try: there are no tables yet, so the page's slot says whether the byte can be reached
+-- ---- Try
 
 abbrev pub bytes_after : Access → ℕ → ℕ → ℕ → (ℕ → Bytes) → ℕ → Bytes
 bytes_after Load frame i byte bytes = bytes
@@ -43,21 +46,18 @@ abbrev pub reply_of : Touch → ℕ → Memory → Reply
 reply_of touch frame m = byte_reply touch.access (m.bytes frame touch.offset)
 
 -- the byte is read or written
-abbrev pub accessed : ℕ → Touch → ℕ → World → World
-accessed c touch frame w = replies c None (reply_of touch frame w.memory) (record w { memory = memory_after touch frame w.memory })
+abbrev pub after_access : ℕ → Touch → ℕ → World → World
+after_access c touch frame w = after_reply c None (reply_of touch frame w.memory) (record w { memory = memory_after touch frame w.memory })
 
--- the frame through which the page lets the access go, if there is one
-abbrev pub frame_for : Access → Option PageInfo → Option ℕ
-frame_for access None = None
-frame_for access (Some info) = if is_allowed info.meta.prot access then info.frame else None
+-- a fault leads to the lock of its page
+abbrev pub after_translation : ℕ → Touch → Option ℕ → World → World
+after_translation c touch (Some f) w = after_access c touch f w
+after_translation c touch None w = to c (locking (To.Access touch)) w
 
--- a page that can't be reached is to be locked
-abbrev pub tried_by : ℕ → Touch → Option ℕ → World → World
-tried_by c touch (Some f) w = accessed c touch f w
-tried_by c touch None w = to c (locking (To.Access touch)) w
-
-abbrev pub tried : ℕ → Touch → World → World
-tried c touch w = tried_by c touch (frame_for touch.access (w.slots.info touch.page)) w
+abbrev pub after_try : ℕ → Touch → World → World
+after_try c touch w =
+    after_translation c touch (frame_reached (translated_by w.hardware c touch))
+    (with_hardware (after_translating w.hardware c touch) w)
 
 -- ---- Settle
 
@@ -78,22 +78,22 @@ found_at w touch =
     settled info touch.access (is_past_end w.made.file info) None
 
 -- a page that has a frame is ready, another wants one
-abbrev pub settled_to : ℕ → Touch → Settled → World → World
-settled_to c touch MapErr w = replies c (Some (page_of_touch touch)) (ReplyOf.Segv Code.MapErr) w
-settled_to c touch AccErr w = replies c (Some (page_of_touch touch)) (ReplyOf.Segv Code.AccErr) w
-settled_to c touch Bus w = replies c (Some (page_of_touch touch)) ReplyOf.Bus w
-settled_to c touch (Has f) w = to c (Install touch) w
-settled_to c touch (Copies f) w = to c (Want touch) w
-settled_to c touch (Cached f) w = to c (Want touch) w
-settled_to c touch Wants w = to c (Want touch) w
+abbrev pub after_finding : ℕ → Touch → Settled → World → World
+after_finding c touch MapErr w = after_reply c (Some (page_of_touch touch)) (ReplyOf.Segv Code.MapErr) w
+after_finding c touch AccErr w = after_reply c (Some (page_of_touch touch)) (ReplyOf.Segv Code.AccErr) w
+after_finding c touch Bus w = after_reply c (Some (page_of_touch touch)) ReplyOf.Bus w
+after_finding c touch (Has f) w = to c (Install touch) w
+after_finding c touch (Copies f) w = to c (Want touch) w
+after_finding c touch (Cached f) w = to c (Want touch) w
+after_finding c touch Wants w = to c (Want touch) w
 
-abbrev pub settles : ℕ → Touch → World → World
-settles c touch w = settled_to c touch (found_at w touch) w
+abbrev pub after_settle : ℕ → Touch → World → World
+after_settle c touch w = after_finding c touch (found_at w touch) w
 
 -- ---- Want
 
-abbrev pub taken : ℕ → Touch → ℕ → World → World
-taken c touch f w = to c (Fill touch f) (record w { memory = record w.memory { is_free = put w.memory.is_free f false } })
+abbrev pub after_frame : ℕ → Touch → ℕ → World → World
+after_frame c touch f w = to c (Fill touch f) (record w { memory = record w.memory { is_free = put w.memory.is_free f false } })
 
 -- the least free frame
 pub record IsLeastFree (is_free : ℕ → Bool) (f : ℕ) : Type 0 where
@@ -105,22 +105,37 @@ NoneFree is_free = (f : ℕ) → is_free f ≡ false
 
 abbrev pub TakesFrame : World → ℕ → Touch → Outcome → World → Type 0
 TakesFrame w c touch o v =
-    (NoneFree w.memory.is_free × Becomes (replies c (Some (page_of_touch touch)) ReplyOf.NoFrame w) o v)
-    ⊎ ((f : ℕ) × IsLeastFree w.memory.is_free f × Becomes (taken c touch f w) o v)
+    (NoneFree w.memory.is_free × Becomes (after_reply c (Some (page_of_touch touch)) ReplyOf.NoFrame w) o v)
+    ⊎ ((f : ℕ) × IsLeastFree w.memory.is_free f × Becomes (after_frame c touch f w) o v)
+
+-- a call that wants a frame takes this one, if it is free
+abbrev pub TakesThisFrame : World → ℕ → Phase → ℕ → Outcome → World → Type 0
+TakesThisFrame w c (Want touch) f o v = cond (w.memory.is_free f) (Becomes (after_frame c touch f w) o v) (Idles w o v)
+TakesThisFrame w c _ f o v = Idles w o v
 
 -- ---- Fill: all mapped pages are anonymous yet, so the frame gets zero bytes
 
-abbrev pub filled : ℕ → Touch → ℕ → World → World
-filled c touch f w = to c (Install touch) (record w {
-  memory = record w.memory { bytes = put w.memory.bytes f zeros };
+abbrev pub after_fill : ℕ → Touch → ℕ → Counts → World → World
+after_fill c touch f counts w = to c (Install touch) (record w {
+  memory = record w.memory { bytes = put w.memory.bytes f zeros; counts = counts };
   slots = with_info w.slots touch.page (info_with_frame f (w.slots.info touch.page));
 })
 
--- ---- Install: the core is recorded on the page
+-- the frame is counted once, for the page
+abbrev pub FillsFrame : World → ℕ → Touch → ℕ → Outcome → World → Type 0
+FillsFrame w c touch f o v =
+    (counts : Counts) × Takes w.memory.counts (Begin f 1) counts × Becomes (after_fill c touch f counts w) o v
+
+-- ---- Install: the core is recorded on the page, and its tables get the page's entry
 
 abbrev pub info_with_core : ℕ → Option PageInfo → Option PageInfo
 info_with_core core None = None
 info_with_core core (Some info) = Some (record info { cores = with_member info.cores core })
 
-abbrev pub installed : ℕ → Touch → World → World
-installed c touch w = to c (Release touch) (record w { slots = with_info w.slots touch.page (info_with_core c (w.slots.info touch.page)) })
+abbrev pub after_install : ℕ → Touch → World → World
+after_install c touch w =
+    let info = w.slots.info touch.page in
+    to c (Release touch) (record w {
+      slots = with_info w.slots touch.page (info_with_core c info);
+      hardware = with_table w.hardware c (put (w.hardware.table c) touch.page (entry_of_page info));
+    })

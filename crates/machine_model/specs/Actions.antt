@@ -24,8 +24,8 @@ abbrev pub to : ℕ → Phase → World → World
 to c phase w = record w { calls = record w.calls { phase = put w.calls.phase c phase } }
 
 -- an entry of the log
-abbrev pub noted : Entry → World → World
-noted entry w = record w { calls = record w.calls { log = w.calls.log ++ entry ∷ [] } }
+abbrev pub with_entry : Entry → World → World
+with_entry entry w = record w { calls = record w.calls { log = w.calls.log ++ entry ∷ [] } }
 
 -- the entry that core c's call has this reply from the present event on
 abbrev pub answer_entry : World → ℕ → Reply → Entry
@@ -37,5 +37,5 @@ let_go None reply = Answer reply
 let_go (Some held) reply = Unlock held reply
 
 -- the call of core c, which holds this, has its reply from here on
-abbrev pub replies : ℕ → Option PageRange → Reply → World → World
-replies c held reply w = to c (let_go held reply) (noted (answer_entry w c reply) w)
+abbrev pub after_reply : ℕ → Option PageRange → Reply → World → World
+after_reply c held reply w = to c (let_go held reply) (with_entry (answer_entry w c reply) w)

@@ -1,10 +1,11 @@
 -- The check of a request's arguments, and the steps of mmap, munmap and mprotect
-use Rattle.std.specs.Prelude.{ℕ, Option, None, Some, Result, Ok, Err}
+use Rattle.std.specs.Prelude.{◌≡◌, ℕ, ◌-◌, ◌⊎◌, true, false, Option, None, Some, Result, Ok, Err}
 use Rattle.vm_base.specs.declared.page.PageRange.{PageRange}
 use Rattle.vm_base.specs.declared.requests.Request.{Request}
 use Rattle.vm_base.specs.declared.replies.Errno.TheVariants.{ENOMEM}
 use Rattle.vm_base.specs.declared.replies.Reply.{Reply}
 use Rattle.vm_base.specs.declared.replies.Reply.TheVariants.{Refused}
+use Rattle.vm_base.specs.Cores.{members}
 use Rattle.vm_base.specs.Plain.{mode_of}
 use Rattle.slot_lock.specs.declared.plan.Change.{Change}
 use Rattle.slot_lock.specs.declared.plan.Change.TheVariants.{Put, Clear, Protect}
@@ -17,12 +18,18 @@ use Rattle.vm_calls.specs.declared.decision.Decision.TheVariants.{Refuse, Act}
 use Rattle.vm_calls.specs.Checks.{checked}
 use Rattle.vm_calls.specs.Decisions.{Decides}
 use Rattle.vm_calls.specs.Plainly.{answer_to}
+use Rattle.shootdown.specs.Inboxes.{awaited}
+use Rattle.refcache.specs.Counts.{Counts}
+use Rattle.machine_model.specs.declared.event.Blocker.TheVariants as WaitsFor
 use Rattle.machine_model.specs.declared.event.Outcome.{Outcome}
+use Rattle.machine_model.specs.declared.event.Outcome.TheVariants.{Wait}
 use Rattle.machine_model.specs.declared.phase.Goal.TheVariants as To
 use Rattle.machine_model.specs.declared.phase.Phase.TheVariants.{Post, Acks, Try}
-use Rattle.machine_model.specs.World.{World, Made}
-use Rattle.machine_model.specs.Actions.{Becomes, to, replies}
+use Rattle.machine_model.specs.World.{World, Made, Hardware}
+use Rattle.machine_model.specs.Actions.{Becomes, to, after_reply}
+use Rattle.machine_model.specs.Counting.{CountsDown, frame_lost, with_counts}
 use Rattle.machine_model.specs.Locks.{locking}
+use Rattle.machine_model.specs.Translating.{after_shot, with_hardware}
 
 -- ---- Check
 
@@ -31,41 +38,66 @@ abbrev pub checked_by : Made → ℕ → Request → Result Plan Reply
 checked_by made c request = checked (λ n. mode_of (made.file n)) c request
 
 -- A request that its arguments don't refuse goes on. A mapping without MAP_FIXED finds no place yet.
-abbrev pub after_check : ℕ → Result Plan Reply → World → World
-after_check c (Err reply) w = replies c None reply w
-after_check c (Ok (PlanOf.Place place)) w = replies c None (Refused ENOMEM) w
-after_check c (Ok (PlanOf.Change change)) w = to c (locking (To.Change change)) w
-after_check c (Ok (PlanOf.Touch touch)) w = to c (Try touch) w
+abbrev pub after_plan : ℕ → Result Plan Reply → World → World
+after_plan c (Err reply) w = after_reply c None reply w
+after_plan c (Ok (PlanOf.Place place)) w = after_reply c None (Refused ENOMEM) w
+after_plan c (Ok (PlanOf.Change change)) w = to c (locking (To.Change change)) w
+after_plan c (Ok (PlanOf.Touch touch)) w = to c (Try touch) w
 
-abbrev pub checks : ℕ → Request → World → World
-checks c request w = after_check c (checked_by w.made c request) w
+abbrev pub after_check : ℕ → Request → World → World
+after_check c request w = after_plan c (checked_by w.made c request) w
 
 -- ---- Decide
 
-abbrev pub decided : ℕ → Change → Decision → World → World
-decided c change (Refuse e) w = replies c (Some (range_of change)) (Refused e) w
-decided c change (Act range shoot) w = to c (Post change shoot) w
+abbrev pub after_decision : ℕ → Change → Decision → World → World
+after_decision c change (Refuse e) w = after_reply c (Some (range_of change)) (Refused e) w
+after_decision c change (Act range shoot) w = to c (Post change shoot) w
 
 abbrev pub DecidesNext : World → ℕ → Change → Outcome → World → Type 0
 DecidesNext w c change o v =
-    (d : Decision) × Decides w.made.file w.slots (PlanOf.Change change) d × Becomes (decided c change d w) o v
+    (d : Decision) × Decides w.made.file w.slots (PlanOf.Change change) d × Becomes (after_decision c change d w) o v
 
--- ---- Post: no core has a translation yet, so none is told
+-- ---- Post
 
-abbrev pub posted : ℕ → Change → World → World
-posted c change w = to c (Acks change (range_of change)) w
+-- The recorded cores are told to drop their translations of the pages, core c's own being dropped at once.
+abbrev pub after_post : ℕ → Change → ℕ → World → World
+after_post c change shoot w =
+    to c (Acks change (range_of change)) (with_hardware (after_shot w.hardware c shoot (range_of change)) w)
 
--- ---- Acks: nobody is awaited yet
+-- ---- Acks
 
-abbrev pub changed : Change → Slots → Slots
-changed (Put range meta) s = mapped s range meta
-changed (Clear range) s = cleared s range
-changed (Protect range prot) s = protected s range prot
+abbrev pub slots_after : Change → Slots → Slots
+slots_after (Put range meta) s = mapped s range meta
+slots_after (Clear range) s = cleared s range
+slots_after (Protect range prot) s = protected s range prot
 
 -- what a change that is made answers
 abbrev pub reply_to : Change → Reply
 reply_to change = answer_to (PlanOf.Change change) (range_of change)
 
--- the change is made at once, and its reply stands from here on
-abbrev pub committed : ℕ → Change → PageRange → World → World
-committed c change held w = replies c (Some held) (reply_to change) (record w { slots = changed change w.slots })
+-- the change is made at once, these are the counts from there on, and its reply stands
+abbrev pub after_commit : ℕ → Change → PageRange → Counts → World → World
+after_commit c change held counts w =
+    after_reply c (Some held) (reply_to change) (with_counts counts (record w { slots = slots_after change w.slots }))
+
+-- core c has counted down the frames that the change takes from pages, in order of pages
+abbrev pub CountsLost : ℕ → Change → World → Counts → Type 0
+CountsLost c change w counts =
+    CountsDown c (frame_lost change w.slots.info) (range_of change).first ((range_of change).end - (range_of change).first)
+    w.memory.counts counts
+
+-- no core's inbox has core c's message
+abbrev pub AwaitsNobody : Hardware → ℕ → Type 0
+AwaitsNobody h c = (d : ℕ) → awaited h.inbox c d ≡ false
+
+-- some core's inbox has core c's message, and the set has just these cores
+pub record Awaits (h : Hardware) (c set : ℕ) : Type 0 where
+  pub some : (d : ℕ) × (awaited h.inbox c d ≡ true)
+  pub exact : members set ≡ awaited h.inbox c
+
+-- The change waits for the cores that were told, and is then made.
+abbrev pub CommitsNext : World → ℕ → Change → PageRange → Outcome → World → Type 0
+CommitsNext w c change held o v =
+    (AwaitsNobody w.hardware c
+    × ((counts : Counts) × CountsLost c change w counts × Becomes (after_commit c change held counts w) o v))
+    ⊎ ((set : ℕ) × Awaits w.hardware c set × (o ≡ Wait (WaitsFor.Acks set)) × (v ≡ w))

@@ -1,9 +1,17 @@
 -- Events
-use Rattle.std.specs.Prelude.{ℕ, Option, Some}
+use Rattle.std.specs.Prelude.{ℕ, Option, None, Some}
 use Rattle.machine_model.specs.declared.event.Event.{Event}
-use Rattle.machine_model.specs.declared.event.Event.TheVariants.{Call, Go}
+use Rattle.machine_model.specs.declared.event.Event.TheVariants.{Call, Go, Frame, Take, Walk, Evict, Flush, Review, Fold, GiveUp}
 
 -- the core that takes the step, if one does
 abbrev pub core_of : Event → Option ℕ
 core_of (Call c request) = Some c
 core_of (Go c) = Some c
+core_of (Frame c f) = Some c
+core_of (Take c) = Some c
+core_of (Walk c p) = Some c
+core_of (Evict c p) = Some c
+core_of (Flush c) = Some c
+core_of (Review c) = Some c
+core_of (Fold p) = None
+core_of (GiveUp c) = Some c

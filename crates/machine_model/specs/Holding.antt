@@ -1,5 +1,5 @@
 -- What a call is at, by its phase: its plan, the pages that it locks, those that it holds, and the frame that it has taken
-use Rattle.std.specs.Prelude.{ℕ, Bool, true, false, Option, None, Some}
+use Rattle.std.specs.Prelude.{ℕ, ◌==◌, Bool, true, false, if◌then◌else◌, Option, None, Some}
 use Rattle.vm_base.specs.declared.page.PageRange.{PageRange}
 use Rattle.vm_base.specs.Functions.{has}
 use Rattle.vm_base.specs.Pages.{pages_from}
@@ -76,6 +76,20 @@ some_has (Some r) p = has r p
 abbrev pub holds : Phase → ℕ → Bool
 holds phase p = some_has (range_held phase) p
 
+-- the pages whose translations other cores are asked to drop
+abbrev pub awaits_in : Phase → Option PageRange
+awaits_in (Acks change held) = Some (range_of change)
+awaits_in _ = None
+
+-- a range with some page
+abbrev pub if_some_page : Option PageRange → Option PageRange
+if_some_page None = None
+if_some_page (Some r) = if r.first == r.end then None else Some r
+
+-- what the call would have to unlock, if it went no further
+abbrev pub still_held : Phase → Option PageRange
+still_held phase = if_some_page (range_held phase)
+
 -- the frame that a call has taken and that no page has yet
 abbrev pub taken_in : Phase → Option ℕ
 taken_in (Fill touch frame) = Some frame
@@ -87,3 +101,8 @@ is_open Free = false
 is_open (Unlock held reply) = false
 is_open (Answer reply) = false
 is_open _ = true
+
+-- the call may still be given up: it has no reply, and no other core does anything for it
+abbrev pub can_give_up : Phase → Bool
+can_give_up (Acks change held) = false
+can_give_up phase = is_open phase

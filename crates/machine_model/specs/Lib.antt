@@ -3,6 +3,9 @@ pub mod World
 pub mod Holding
 pub mod Actions
 pub mod Locks
+pub mod Translating
+pub mod Counting
 pub mod Changes
 pub mod Accesses
+pub mod GivingUp
 pub mod Step

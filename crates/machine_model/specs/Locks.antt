@@ -1,11 +1,12 @@
 -- The steps by which a call locks its pages from left to right, and unlocks them
-use Rattle.std.specs.Prelude.{◌≡◌, ℕ, ◌+◌, ◌==◌, nat_le, if◌then◌else◌, Option, None, Some}
+use Rattle.std.specs.Prelude.{◌≡◌, ℕ, ◌+◌, ◌⊎◌, ◌==◌, nat_le, if◌then◌else◌, Option, None, Some}
 use Rattle.vm_base.specs.declared.page.PageRange.{PageRange}
 use Rattle.vm_base.specs.declared.replies.Reply.{Reply}
 use Rattle.slot_lock.specs.declared.plan.Touch.{Touch}
 use Rattle.slot_lock.specs.declared.slot_map.Got.{Got}
 use Rattle.slot_lock.specs.declared.slot_map.Got.TheVariants.{Split, Locked, Held}
-use Rattle.slot_lock.specs.Slots.{Slots, Steps, Unlocks, between}
+use Rattle.vm_base.specs.Pages.{IsPage}
+use Rattle.slot_lock.specs.Slots.{Slots, Steps, Unlocks, Joins, IsSlotMap, between}
 use Rattle.machine_model.specs.declared.event.Blocker.TheVariants.{Slot}
 use Rattle.machine_model.specs.declared.event.Outcome.{Outcome}
 use Rattle.machine_model.specs.declared.event.Outcome.TheVariants.{Wait}
@@ -14,7 +15,7 @@ use Rattle.machine_model.specs.declared.phase.Goal.TheVariants as To
 use Rattle.machine_model.specs.declared.phase.Phase.{Phase}
 use Rattle.machine_model.specs.declared.phase.Phase.TheVariants.{Lock, Decide, Try, Settle}
 use Rattle.machine_model.specs.World.{World}
-use Rattle.machine_model.specs.Actions.{Becomes, to, let_go}
+use Rattle.machine_model.specs.Actions.{Idles, Becomes, to, let_go}
 use Rattle.machine_model.specs.Holding.{goal_range}
 
 -- ---- Lock
@@ -57,3 +58,11 @@ UnlocksNext w c held reply o v =
 abbrev pub Releases : World → ℕ → Touch → Outcome → World → Type 0
 Releases w c touch o v =
     (b : ℕ) × ((t : Slots) × Unlocks w.slots t c touch.page (touch.page + 1) b × Becomes (to c (Try touch) (record w { slots = t })) o v)
+
+-- ---- Fold
+
+-- Slots that nobody holds are joined at a page, where that is possible. Which ones, and when, the slot map chooses.
+abbrev pub FoldsAt : World → ℕ → Outcome → World → Type 0
+FoldsAt w page o v =
+    Idles w o v
+    ⊎ (IsPage page × ((t : Slots) × Joins w.slots t × IsSlotMap t × Becomes (record w { slots = t }) o v))

@@ -2,24 +2,28 @@
 use Rattle.std.specs.Prelude.{◌≡◌, ℕ, zero, suc, ◌-◌, ◌^◌, Bool, true, cond, nat_lt, length, List, [], ◌∷◌, ◌++◌, Option, None, Some}
 use Rattle.vm_base.specs.declared.requests.Request.{Request}
 use Rattle.vm_base.specs.Functions.{put}
+use Rattle.shootdown.specs.Messages.{asked}
 use Rattle.machine_model.specs.declared.phase.Phase.{Phase}
 use Rattle.machine_model.specs.declared.phase.Phase.TheVariants as At
 use Rattle.machine_model.specs.declared.event.Event.{Event}
-use Rattle.machine_model.specs.declared.event.Event.TheVariants.{Call, Go}
+use Rattle.machine_model.specs.declared.event.Event.TheVariants.{Call, Go, Frame, Take, Walk, Evict, Flush, Review, Fold, GiveUp}
 use Rattle.machine_model.specs.declared.event.Outcome.{Outcome}
 use Rattle.machine_model.specs.declared.event.Outcome.TheVariants.{Stepped, Answered, Full}
 use Rattle.machine_model.specs.Events.{core_of}
 use Rattle.machine_model.specs.World.{World, Made}
 use Rattle.machine_model.specs.Actions.{Idles, Becomes, to}
-use Rattle.machine_model.specs.Locks.{LocksNext, UnlocksNext, Releases}
-use Rattle.machine_model.specs.Changes.{checks, DecidesNext, posted, committed}
-use Rattle.machine_model.specs.Accesses.{tried, settles, TakesFrame, filled, installed}
+use Rattle.machine_model.specs.Counting.{FlushesOnce, ReviewsOnce}
+use Rattle.machine_model.specs.GivingUp.{GivesUp}
+use Rattle.machine_model.specs.Locks.{LocksNext, UnlocksNext, Releases, FoldsAt}
+use Rattle.machine_model.specs.Changes.{after_check, DecidesNext, after_post, CommitsNext}
+use Rattle.machine_model.specs.Accesses.{after_try, after_settle, TakesFrame, TakesThisFrame, FillsFrame, after_install}
+use Rattle.machine_model.specs.Translating.{TakesMessage, Walks, Evicts}
 
 -- ---- Call
 
 -- a call begins
-abbrev pub called : ℕ → Request → World → World
-called c request w = to c (At.Check request) (record w {
+abbrev pub after_call : ℕ → Request → World → World
+after_call c request w = to c (At.Check request) (record w {
   calls = record w.calls {
     requests = w.calls.requests ++ request ∷ [];
     number = put w.calls.number c (suc (length w.calls.requests));
@@ -29,25 +33,25 @@ called c request w = to c (At.Check request) (record w {
 -- a core has one call at a time; past the limit of calls none begins
 abbrev pub Begins : World → ℕ → Request → Phase → Outcome → World → Type 0
 Begins w c request At.Free o v =
-    cond (nat_lt (length w.calls.requests) w.made.calls) (Becomes (called c request w) o v) ((o ≡ Full) × (v ≡ w))
+    cond (nat_lt (length w.calls.requests) w.made.calls) (Becomes (after_call c request w) o v) ((o ≡ Full) × (v ≡ w))
 Begins w c request _ o v = Idles w o v
 
 -- ---- Go: a step of the call of core c, which is in this phase
 
 abbrev pub Goes : World → ℕ → Phase → Outcome → World → Type 0
 Goes w c At.Free o v = Idles w o v
-Goes w c (At.Check request) o v = Becomes (checks c request w) o v
+Goes w c (At.Check request) o v = Becomes (after_check c request w) o v
 Goes w c (At.Lock goal cursor) o v = LocksNext w c goal cursor o v
 Goes w c (At.Decide change) o v = DecidesNext w c change o v
-Goes w c (At.Post change shoot) o v = Becomes (posted c change w) o v
-Goes w c (At.Acks change held) o v = Becomes (committed c change held w) o v
+Goes w c (At.Post change shoot) o v = Becomes (after_post c change shoot w) o v
+Goes w c (At.Acks change held) o v = CommitsNext w c change held o v
 Goes w c (At.Unlock held reply) o v = UnlocksNext w c held reply o v
 Goes w c (At.Answer reply) o v = (o ≡ Answered reply) × (v ≡ to c At.Free w)
-Goes w c (At.Try touch) o v = Becomes (tried c touch w) o v
-Goes w c (At.Settle touch) o v = Becomes (settles c touch w) o v
+Goes w c (At.Try touch) o v = Becomes (after_try c touch w) o v
+Goes w c (At.Settle touch) o v = Becomes (after_settle c touch w) o v
 Goes w c (At.Want touch) o v = TakesFrame w c touch o v
-Goes w c (At.Fill touch frame) o v = Becomes (filled c touch frame w) o v
-Goes w c (At.Install touch) o v = Becomes (installed c touch w) o v
+Goes w c (At.Fill touch frame) o v = FillsFrame w c touch frame o v
+Goes w c (At.Install touch) o v = Becomes (after_install c touch w) o v
 Goes w c (At.Release touch) o v = Releases w c touch o v
 
 -- ---- the step
@@ -56,14 +60,22 @@ Goes w c (At.Release touch) o v = Releases w c touch o v
 abbrev pub Acts : World → Event → Outcome → World → Type 0
 Acts w (Call c request) o v = Begins w c request (w.calls.phase c) o v
 Acts w (Go c) o v = Goes w c (w.calls.phase c) o v
+Acts w (Frame c f) o v = TakesThisFrame w c (w.calls.phase c) f o v
+Acts w (Take c) o v = TakesMessage w c (asked (w.hardware.inbox c)) o v
+Acts w (Walk c p) o v = Walks w c p o v
+Acts w (Evict c p) o v = Evicts w c p o v
+Acts w (Flush c) o v = FlushesOnce w c o v
+Acts w (Review c) o v = ReviewsOnce w c o v
+Acts w (Fold p) o v = FoldsAt w p o v
+Acts w (GiveUp c) o v = GivesUp w c (w.calls.phase c) o v
 
 abbrev pub is_here : Made → Option ℕ → Bool
 is_here made None = true
 is_here made (Some c) = nat_lt c made.cores
 
 -- one event more, whose number entries of the log have
-abbrev pub counted : World → World
-counted w = record w { calls = record w.calls { events = suc w.calls.events } }
+abbrev pub with_event : World → World
+with_event w = record w { calls = record w.calls { events = suc w.calls.events } }
 
 -- so many events can be counted
 abbrev pub event_limit : ℕ
@@ -73,7 +85,7 @@ event_limit = 2 ^ 64 - 1
 abbrev pub Step : World → Event → Outcome → World → Type 0
 Step w e o v =
     cond (nat_lt w.calls.events event_limit)
-    (cond (is_here w.made (core_of e)) (Acts (counted w) e o v) (Idles (counted w) o v))
+    (cond (is_here w.made (core_of e)) (Acts (with_event w) e o v) (Idles (with_event w) o v))
     ((o ≡ Full) × (v ≡ w))
 
 -- The events, in order, may come to these outcomes, one after another.

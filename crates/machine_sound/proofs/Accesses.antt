@@ -23,35 +23,23 @@ use Rattle.vm_calls.specs.Plainly.{touched_by}
 use Rattle.vm_calls.specs.Settling.{settled, source, is_private_store}
 use Rattle.machine_model.specs.declared.event.Event.{Event}
 use Rattle.machine_model.specs.declared.phase.Phase.TheVariants.{Answer, Try, Settle, Want, Fill, Install, Release}
-use Rattle.machine_model.specs.Accesses.{bytes_after, memory_after, reply_of, frame_for, accessed, found_at, is_past_end, NoneFree, taken, filled, info_with_core, installed}
-use Rattle.machine_model.specs.Actions.{replies}
+use Rattle.refcache.specs.Counts.{Counts}
+use Rattle.machine_model.specs.Accesses.{bytes_after, memory_after, reply_of, after_access, found_at, is_past_end, NoneFree, after_fill, info_with_core, after_install}
+use Rattle.machine_model.specs.Actions.{after_reply}
 use Rattle.machine_model.specs.Holding.{taken_in}
+use Rattle.machine_model.specs.Translating.{translated_by, frame_reached, after_translating, with_hardware}
 use Rattle.machine_model.specs.World.{World, Memory}
+use Rattle.machine_counting.proofs.Kept.{unused_no_page}
 use Rattle.machine_laws.specs.Orderly.{IsUsable}
 use Rattle.machine_laws.proofs.Moves.{IsCallOf, call_at}
 use Rattle.machine_laws.proofs.Shapes.{IsFault}
-use Rattle.machine_sound.specs.Invariant.{Fine, Good, Shows, ShowsPage, IsTaken, IsAnonymous, Owns, own_frame}
-use Rattle.machine_sound.proofs.Moves.{Leaves, shows_less, shows_on, fewer_taken, goes_on, tells, answers}
+use Rattle.machine_sound.specs.Invariant.{Fine, Good, Shows, ShowsPage, IsAnonymous, Owns, own_frame}
+use Rattle.machine_sound.proofs.Moves.{Leaves, shows_less, with_counts_shown, goes_on, tells, answers}
+use Rattle.machine_sound.proofs.Reaching.{ReachesFrame, reaches}
 use Rattle.machine_sound.proofs.Pages.{with_bytes, IsFramed, framed, framed_reply, unmapped_reply, forbidden_reply, within, can_access, page_kept, file_kept, own_is_frame, with_own, stored_is, pages_stored, files_stored}
 use Rattle.machine_sound.proofs.Replies.{IsReply, due_so, touched_stands, no_frame_stands}
 
 -- ---- Try
-
--- a frame through which the access goes is the page's, whose protection allows it
-goes_through : (access : Access) (o : Option PageInfo) (f : ℕ) → frame_for access o ≡ Some f → frame_of o ≡ Some f
-goes_through access None f h = absurd cc
-goes_through access (Some info) f h = go (is_allowed info.meta.prot access) h
-  where
-    go : (b : Bool) → cond b info.frame None ≡ Some f → info.frame ≡ Some f
-    go true h = h
-    go false h = absurd cc
-
-is_let_through : (access : Access) (info : PageInfo) (f : ℕ) → frame_for access (Some info) ≡ Some f → is_allowed info.meta.prot access ≡ true
-is_let_through access info f h = go (is_allowed info.meta.prot access) h
-  where
-    go : (b : Bool) → cond b info.frame None ≡ Some f → b ≡ true
-    go true h = refl
-    go false h = absurd cc
 
 byte_is_reply : (access : Access) (byte : ℕ) → IsReply (byte_reply access byte)
 byte_is_reply Load byte = tt
@@ -59,24 +47,28 @@ byte_is_reply Store byte = tt
 byte_is_reply Fetch byte = tt
 
 access_shows : (w : World) (t : Plain) (c : ℕ) (touch : Touch) (f byte : ℕ) (access : Access) → IsFramed w t touch.page f → Good w t
-    → Shows w.made.file w.slots.info (put w.calls.phase c (Answer (byte_reply access byte))) (record w.memory { bytes = bytes_after access f touch.offset touch.byte w.memory.bytes })
+    → Shows w.made.file w.slots.info (record w.memory { bytes = bytes_after access f touch.offset touch.byte w.memory.bytes })
     (touched_by t touch (byte_reply access byte))
-access_shows w t c touch f byte Load k g = shows_on w t c (Answer (Byte byte)) g refl
-access_shows w t c touch f byte Fetch k g = shows_on w t c (Answer (Byte byte)) g refl
+access_shows w t c touch f byte Load k g = g
+access_shows w t c touch f byte Fetch k g = g
 access_shows w t c touch f byte Store k g =
     let x : Bytes = put (w.memory.bytes f) touch.offset touch.byte in
-    subst (λ u. Shows w.made.file w.slots.info (put w.calls.phase c (Answer Done)) (with_bytes w.memory f x) u) (sym (stored_is w t touch.page f touch.offset touch.byte k))
-    (shows_less w t (with_own t touch.page k.entry x) w.slots.info (put w.calls.phase c (Answer Done)) (put w.memory.bytes f x) g
-    (pages_stored w t touch.page f x k g) (files_stored w t touch.page f x k g) (λ p f h. h) (λ p f h. h) (fewer_taken w.calls.phase c (Answer Done) refl) g.no_files.anonymous)
+    subst (λ u. Shows w.made.file w.slots.info (with_bytes w.memory f x) u) (sym (stored_is w t touch.page f touch.offset touch.byte k))
+    (shows_less w t (with_own t touch.page k.entry x) w.slots.info (put w.memory.bytes f x) g
+    (pages_stored w t touch.page f x k g) (files_stored w t touch.page f x k g) (λ p f h. h) (λ p f h. h) g.no_files.anonymous)
 
-pub access_made : (w : World) (event : Event) (c : ℕ) (touch : Touch) (f : ℕ) → w.calls.phase c ≡ Try touch → frame_for touch.access (w.slots.info touch.page) ≡ Some f → Fine w
-    → Leaves w event (accessed c touch f w)
+pub access_made : (w : World) (event : Event) (c : ℕ) (touch : Touch) (f : ℕ) → w.calls.phase c ≡ Try touch
+    → frame_reached (translated_by w.hardware c touch) ≡ Some f → Fine w
+    → Leaves w event (after_access c touch f (with_hardware (after_translating w.hardware c touch) w))
 access_made w event c touch f e h fine =
     let reply : Reply = reply_of touch f w.memory in
-    let i : IsFramed w fine.plain touch.page f = framed w fine.plain touch.page f fine.good (goes_through touch.access (w.slots.info touch.page) f h) in
-    let allowed : is_allowed i.info.meta.prot touch.access ≡ true = is_let_through touch.access i.info f (sym (ap (frame_for touch.access) i.at_slot) ∙ h) in
+    let r : ReachesFrame (w.slots.info touch.page) touch.access f = reaches w.slots.info w.calls.phase w.hardware c touch f fine.coherent h in
+    let i : IsFramed w fine.plain touch.page f = framed w fine.plain touch.page f fine.good (ap frame_of r.mapped ∙ r.frame) in
+    let same : r.page ≡ i.info = let a = r.mapped in let b = i.at_slot in cc in
+    let allowed : is_allowed i.info.meta.prot touch.access ≡ true = subst (λ (x : PageInfo). is_allowed x.meta.prot touch.access ≡ true) same r.allowed in
     let is_reply : IsReply reply = byte_is_reply touch.access (w.memory.bytes f touch.offset) in
-    tells w event c None reply w.slots (memory_after touch f w.memory) fine (touched_by fine.plain touch reply) k.asked.request k.asked.number
+    tells w event c None reply w.slots (after_translating w.hardware c touch) (memory_after touch f w.memory) fine (touched_by fine.plain touch reply)
+    k.asked.request k.asked.number
     (touched_stands w fine.plain (touched_by fine.plain touch reply) c k.asked.request touch reply is_reply k.asked.passed
     (framed_reply w fine.plain touch.page f touch.access touch.offset i allowed, refl))
     (due_so event w.memory.is_free w.calls.events (w.calls.number c) c reply is_reply)
@@ -144,7 +136,7 @@ fault_reply w t touch reply g h = go (w.slots.info touch.page) refl h
     go (Some info) e f = has info e (settled (Some info) touch.access (is_past_end w.made.file (Some info)) None) refl f
 
 pub fault_told : (w : World) (event : Event) (c : ℕ) (touch : Touch) (held : Option PageRange) (reply : Reply) → w.calls.phase c ≡ Settle touch → IsFault (found_at w touch) reply → Fine w
-    → Leaves w event (replies c held reply w)
+    → Leaves w event (after_reply c held reply w)
 fault_told w event c touch held reply e h f =
     let z = fault_reply w f.plain touch reply f.good h in
     answers w event c held reply f k.asked.request k.asked.number
@@ -157,56 +149,13 @@ fault_told w event c touch held reply e h f =
 -- ---- Want
 
 pub no_frame_told : (w : World) (event : Event) (c : ℕ) (touch : Touch) (held : Option PageRange) → w.calls.phase c ≡ Want touch → NoneFree w.memory.is_free → Fine w
-    → Leaves w event (replies c held NoFrame w)
+    → Leaves w event (after_reply c held NoFrame w)
 no_frame_told w event c touch held e none f =
     answers w event c held NoFrame f k.asked.request k.asked.number
     (no_frame_stands w f.plain c k.asked.request touch k.asked.passed (can_access w f.plain touch.page touch.access None f.good k.ready)) none
   where
     k : IsCallOf w c (Want touch)
     k = call_at w c (Want touch) e f.order
-
--- no frame becomes free where one is taken
-still_busy : (is_free : ℕ → Bool) (f x : ℕ) → is_free x ≡ false → put is_free f false x ≡ false
-still_busy is_free f = put_all (λ x b. is_free x ≡ false → b ≡ false) is_free f false (λ h. refl) (λ x ne h. h)
-
--- a frame that was free is that of no page, file or call
-was_free : (is_free : ℕ → Bool) (f x : ℕ) → is_free f ≡ true → is_free x ≡ false → f ≢ x
-was_free is_free f x h k e = let a : is_free f ≡ is_free x = ap is_free e in cc (a, h, k)
-
-takes_shows : (w : World) (t : Plain) (c : ℕ) (touch : Touch) (f : ℕ) → Good w t → w.memory.is_free f ≡ true
-    → Shows w.made.file w.slots.info (put w.calls.phase c (Fill touch f)) (record w.memory { is_free = put w.memory.is_free f false }) t
-takes_shows w t c touch f g free = record {
-  pages = g.pages;
-  files = g.files;
-  frames = record {
-    busy = λ p x h. still_busy w.memory.is_free f x (g.frames.busy p x h);
-    busy_file = λ n k x h. still_busy w.memory.is_free f x (g.frames.busy_file n k x h);
-    apart = g.frames.apart;
-    apart_file = g.frames.apart_file;
-  };
-  taken = put_all (λ d y. IsTaken w.slots.info (record w.memory { is_free = put w.memory.is_free f false }) (taken_in y)) w.calls.phase c (Fill touch f)
-      (record {
-        busy = λ x h. let same : f ≡ x = cc in subst (λ y. put w.memory.is_free f false y ≡ false) same (put_same w.memory.is_free f false);
-        no_page = λ x p h k. let same : f ≡ x = cc in was_free w.memory.is_free f x free (g.frames.busy p x k) same;
-        no_file = λ x n l h k. let same : f ≡ x = cc in was_free w.memory.is_free f x free (g.frames.busy_file n l x k) same;
-      })
-      (λ d ne. record {
-        busy = λ x h. still_busy w.memory.is_free f x ((g.taken d).busy x h);
-        no_page = (g.taken d).no_page;
-        no_file = (g.taken d).no_file;
-      });
-  alone = λ a b x. put_all (λ a y. taken_in y ≡ Some x → taken_in (put w.calls.phase c (Fill touch f) b) ≡ Some x → a ≡ b) w.calls.phase c (Fill touch f)
-      (λ h. put_all (λ b y. taken_in y ≡ Some x → c ≡ b) w.calls.phase c (Fill touch f) (λ _. refl)
-      (λ d ne k. absurd (let same : f ≡ x = cc in was_free w.memory.is_free f x free ((g.taken d).busy x k) same)) b)
-      (λ a ne h. put_all (λ b y. taken_in y ≡ Some x → a ≡ b) w.calls.phase c (Fill touch f)
-      (λ k. absurd (let same : f ≡ x = cc in was_free w.memory.is_free f x free ((g.taken a).busy x h) same)) (λ d _ k. g.alone a d x h k) b)
-      a;
-  no_files = g.no_files;
-}
-
-pub frame_taken : (w : World) (event : Event) (c : ℕ) (touch : Touch) (f : ℕ) → w.memory.is_free f ≡ true → Fine w → Leaves w event (taken c touch f w)
-frame_taken w event c touch f free fine =
-    goes_on w event c (Fill touch f) w.slots (record w.memory { is_free = put w.memory.is_free f false }) fine (takes_shows w fine.plain c touch f fine.good free)
 
 -- ---- Fill
 
@@ -232,35 +181,25 @@ no_frame_yet file access None u = refl
 no_frame_yet file access (Some info) u = u.2
 
 fills_shows : (w : World) (c : ℕ) (touch : Touch) (f : ℕ) (fine : Fine w) → w.calls.phase c ≡ Fill touch f
-    → Shows w.made.file (put w.slots.info touch.page (info_with_frame f (w.slots.info touch.page))) (put w.calls.phase c (Install touch)) (with_bytes w.memory f zeros) fine.plain
+    → Shows w.made.file (put w.slots.info touch.page (info_with_frame f (w.slots.info touch.page))) (with_bytes w.memory f zeros) fine.plain
 fills_shows w c touch f fine e = record {
   pages = put_all (λ p o. ShowsPage (with_bytes w.memory f zeros) o (t.entry p)) w.slots.info touch.page new
-      (filled_shown w.memory f (w.slots.info touch.page) (t.entry touch.page) (g.no_files.anonymous touch.page) (no_frame_yet w.made.file touch.access (w.slots.info touch.page) k.ready) (g.pages touch.page))
-      (λ p ne. page_kept w.memory f zeros (w.slots.info p) (t.entry p) (λ h. (g.taken c).no_page f p took (own_is_frame w.memory.cached (w.slots.info p) f h)) (g.pages p));
-  files = λ n. file_kept w.memory.bytes f zeros (w.memory.cached n) (w.made.file n) (t.file n) (λ l. (g.taken c).no_file f n l took) (g.files n);
-  frames = record {
-    busy = λ p x. put_all (λ p o. frame_of o ≡ Some x → w.memory.is_free x ≡ false) w.slots.info touch.page new (λ h. (g.taken c).busy x (took ∙ ap Some (mine x h))) (λ p ne. g.frames.busy p x) p;
-    busy_file = g.frames.busy_file;
-    apart = λ p q x. put_all (λ p o. own_frame w.memory.cached o ≡ Some x → frame_of (info2 q) ≡ Some x → p ≡ q) w.slots.info touch.page new
-        (λ h. put_all (λ q o. frame_of o ≡ Some x → touch.page ≡ q) w.slots.info touch.page new (λ _. refl)
-        (λ q ne y. absurd ((g.taken c).no_page x q (took ∙ ap Some (mine x (own_is_frame w.memory.cached new x h))) y)) q)
-        (λ p ne h. put_all (λ q o. frame_of o ≡ Some x → p ≡ q) w.slots.info touch.page new
-        (λ y. absurd ((g.taken c).no_page x p (took ∙ ap Some (mine x y)) (own_is_frame w.memory.cached (w.slots.info p) x h))) (λ q _ y. g.frames.apart p q x h y) q)
-        p;
-    apart_file = λ p n l x. put_all (λ p o. own_frame w.memory.cached o ≡ Some x → w.memory.cached n l ≢ Some x) w.slots.info touch.page new
-        (λ h. (g.taken c).no_file x n l (took ∙ ap Some (mine x (own_is_frame w.memory.cached new x h)))) (λ p ne. g.frames.apart_file p n l x) p;
-  };
-  taken = put_all (λ d y. IsTaken info2 (with_bytes w.memory f zeros) (taken_in y)) w.calls.phase c (Install touch)
-      (record { busy = λ x h. absurd cc; no_page = λ x p h. absurd cc; no_file = λ x n l h. absurd cc })
-      (λ d ne. record {
-        busy = (g.taken d).busy;
-        no_page = λ x p h. put_all (λ p o. frame_of o ≢ Some x) w.slots.info touch.page new (λ y. ne (g.alone d c x h (took ∙ ap Some (mine x y)))) (λ p _. (g.taken d).no_page x p h) p;
-        no_file = (g.taken d).no_file;
-      });
-  alone = λ a b x h k. g.alone a b x (fewer_taken w.calls.phase c (Install touch) refl a x h) (fewer_taken w.calls.phase c (Install touch) refl b x k);
+      (filled_shown w.memory f (w.slots.info touch.page) (t.entry touch.page) (g.no_files.anonymous touch.page)
+      (no_frame_yet w.made.file touch.access (w.slots.info touch.page) k.ready) (g.pages touch.page))
+      (λ p ne. page_kept w.memory f zeros (w.slots.info p) (t.entry p)
+      (λ h. nobodys p (own_is_frame w.memory.cached (w.slots.info p) f h)) (g.pages p));
+  files = λ n. file_kept w.memory.bytes f zeros (w.memory.cached n) (w.made.file n) (t.file n) (λ l h. let none = g.no_files.uncached n l in cc) (g.files n);
+  apart = λ p q x. put_all (λ p o. own_frame w.memory.cached o ≡ Some x → frame_of (info2 q) ≡ Some x → p ≡ q) w.slots.info touch.page new
+      (λ h. put_all (λ q o. frame_of o ≡ Some x → touch.page ≡ q) w.slots.info touch.page new (λ _. refl)
+      (λ q ne y. absurd (nobodys q (y ∙ ap Some (sym (mine x (own_is_frame w.memory.cached new x h)))))) q)
+      (λ p ne h. put_all (λ q o. frame_of o ≡ Some x → p ≡ q) w.slots.info touch.page new
+      (λ y. absurd (nobodys p (own_is_frame w.memory.cached (w.slots.info p) x h ∙ ap Some (sym (mine x y))))) (λ q _ y. g.apart p q x h y) q)
+      p;
   no_files = record {
     none = g.no_files.none;
-    anonymous = put_all (λ p. IsAnonymous) w.slots.info touch.page new (filled_anonymous f (w.slots.info touch.page) (g.no_files.anonymous touch.page)) (λ p ne. g.no_files.anonymous p);
+    uncached = g.no_files.uncached;
+    anonymous = put_all (λ p. IsAnonymous) w.slots.info touch.page new
+        (filled_anonymous f (w.slots.info touch.page) (g.no_files.anonymous touch.page)) (λ p ne. g.no_files.anonymous p);
   };
 }
   where
@@ -279,15 +218,19 @@ fills_shows w c touch f fine e = record {
     info2 : ℕ → Option PageInfo
     info2 = put w.slots.info touch.page new
 
-    took : taken_in (w.calls.phase c) ≡ Some f
-    took = ap taken_in e
+    -- the frame that was taken is no page's
+    nobodys : (p : ℕ) → frame_of (w.slots.info p) ≢ Some f
+    nobodys p = unused_no_page w fine.order fine.counted f p (fine.counted.taken c f (ap taken_in e))
 
     mine : (x : ℕ) → frame_of new ≡ Some x → f ≡ x
     mine x h = new_frame f (w.slots.info touch.page) x h
 
-pub page_filled : (w : World) (event : Event) (c : ℕ) (touch : Touch) (f : ℕ) → w.calls.phase c ≡ Fill touch f → Fine w → Leaves w event (filled c touch f w)
-page_filled w event c touch f e fine =
-    goes_on w event c (Install touch) (with_info w.slots touch.page (info_with_frame f (w.slots.info touch.page))) (with_bytes w.memory f zeros) fine (fills_shows w c touch f fine e)
+pub page_filled : (w : World) (event : Event) (c : ℕ) (touch : Touch) (f : ℕ) (counts : Counts) → w.calls.phase c ≡ Fill touch f → Fine w
+    → Leaves w event (after_fill c touch f counts w)
+page_filled w event c touch f counts e fine =
+    goes_on w event c (Install touch) (with_info w.slots touch.page (info_with_frame f (w.slots.info touch.page))) w.hardware
+    (record (with_bytes w.memory f zeros) { counts = counts }) fine
+    (with_counts_shown w.made.file _ (with_bytes w.memory f zeros) counts fine.plain (fills_shows w c touch f fine e))
 
 -- ---- Install
 
@@ -309,16 +252,18 @@ recorded_shown m c None (Some entry) s = s
 recorded_shown m c (Some info) None s = s
 recorded_shown m c (Some info) (Some entry) s = s
 
-pub core_installed : (w : World) (event : Event) (c : ℕ) (touch : Touch) → Fine w → Leaves w event (installed c touch w)
+pub core_installed : (w : World) (event : Event) (c : ℕ) (touch : Touch) → Fine w → Leaves w event (after_install c touch w)
 core_installed w event c touch f =
     let new : Option PageInfo = info_with_core c (w.slots.info touch.page) in
     let cached : ℕ → ℕ → Option ℕ = w.memory.cached in
-    goes_on w event c (Release touch) (with_info w.slots touch.page new) w.memory f
-    (shows_less w f.plain f.plain (put w.slots.info touch.page new) (put w.calls.phase c (Release touch)) w.memory.bytes f.good
+    goes_on w event c (Release touch) (with_info w.slots touch.page new) (after_install c touch w).hardware w.memory f
+    (shows_less w f.plain f.plain (put w.slots.info touch.page new) w.memory.bytes f.good
     (put_all (λ p o. ShowsPage w.memory o (f.plain.entry p)) w.slots.info touch.page new
     (recorded_shown w.memory c (w.slots.info touch.page) (f.plain.entry touch.page) (f.good.pages touch.page)) (λ p ne. f.good.pages p))
     f.good.files
-    (λ p x. put_all (λ p o. frame_of o ≡ Some x → frame_of (w.slots.info p) ≡ Some x) w.slots.info touch.page new (λ h. sym (recorded_frame c (w.slots.info touch.page)) ∙ h) (λ p ne h. h) p)
-    (λ p x. put_all (λ p o. own_frame cached o ≡ Some x → own_frame cached (w.slots.info p) ≡ Some x) w.slots.info touch.page new (λ h. sym (recorded_own cached c (w.slots.info touch.page)) ∙ h) (λ p ne h. h) p)
-    (fewer_taken w.calls.phase c (Release touch) refl)
-    (put_all (λ p. IsAnonymous) w.slots.info touch.page new (recorded_anonymous c (w.slots.info touch.page) (f.good.no_files.anonymous touch.page)) (λ p ne. f.good.no_files.anonymous p)))
+    (λ p x. put_all (λ p o. frame_of o ≡ Some x → frame_of (w.slots.info p) ≡ Some x) w.slots.info touch.page new
+    (λ h. sym (recorded_frame c (w.slots.info touch.page)) ∙ h) (λ p ne h. h) p)
+    (λ p x. put_all (λ p o. own_frame cached o ≡ Some x → own_frame cached (w.slots.info p) ≡ Some x) w.slots.info touch.page new
+    (λ h. sym (recorded_own cached c (w.slots.info touch.page)) ∙ h) (λ p ne h. h) p)
+    (put_all (λ p. IsAnonymous) w.slots.info touch.page new
+    (recorded_anonymous c (w.slots.info touch.page) (f.good.no_files.anonymous touch.page)) (λ p ne. f.good.no_files.anonymous p)))

@@ -32,12 +32,14 @@ use Rattle.vm_calls.specs.Plainly.{left_by}
 use Rattle.vm_calls.proofs.Passed.{passed}
 use Rattle.machine_model.specs.declared.event.Event.{Event}
 use Rattle.machine_model.specs.declared.phase.Phase.TheVariants.{Acks, Unlock}
-use Rattle.machine_model.specs.Changes.{changed, reply_to, committed}
+use Rattle.refcache.specs.Counts.{Counts}
+use Rattle.machine_model.specs.Counting.{with_counts}
+use Rattle.machine_model.specs.Changes.{slots_after, reply_to, after_commit}
 use Rattle.machine_model.specs.World.{World, Memory}
 use Rattle.machine_laws.proofs.Changed.{changed_all}
 use Rattle.machine_laws.proofs.Moves.{IsCallOf, call_at}
 use Rattle.machine_sound.specs.Invariant.{Fine, ShowsPage, ShowsFile, IsAnonymous, own_frame}
-use Rattle.machine_sound.proofs.Moves.{Leaves, shows_less, fewer_taken, tells}
+use Rattle.machine_sound.proofs.Moves.{Leaves, shows_less, with_counts_shown, tells}
 use Rattle.machine_sound.proofs.Replies.{reply_is, due_so, acted}
 
 -- ---- a mapping of a file is refused, since there is none
@@ -110,7 +112,7 @@ protected_shown m prot None (Some page) h = absurd h
 protected_shown m prot (Some info) None h = absurd h
 
 pages_changed : (m : Memory) (s : Slots) (t : Plain) (change : Change) → ((p : ℕ) → ShowsPage m (s.info p) (t.entry p))
-    → (p : ℕ) → ShowsPage m ((changed change s).info p) ((made_of t change).entry p)
+    → (p : ℕ) → ShowsPage m ((slots_after change s).info p) ((made_of t change).entry p)
 pages_changed m s t (Put range meta) h p =
     both_tests (ShowsPage m) (has range p) (Some (unused (advance meta (p - range.first)))) (s.info p)
     (Some (new_entry (advance_back meta.back (p - range.first)) meta.prot)) (t.entry p) (λ i. (refl, refl, refl)) (λ i. h p)
@@ -136,34 +138,35 @@ protected_anonymous : (prot : Prot) (o : Option PageInfo) → IsAnonymous o → 
 protected_anonymous prot None h = tt
 protected_anonymous prot (Some info) h = h
 
-fewer_frames : (s : Slots) (change : Change) (p f : ℕ) → frame_of ((changed change s).info p) ≡ Some f → frame_of (s.info p) ≡ Some f
+fewer_frames : (s : Slots) (change : Change) (p f : ℕ) → frame_of ((slots_after change s).info p) ≡ Some f → frame_of (s.info p) ≡ Some f
 fewer_frames s change p f =
     changed_all (λ p o. frame_of o ≡ Some f → frame_of (s.info p) ≡ Some f) s change (λ range meta p e i h. absurd cc) (λ p h. absurd cc)
     (λ prot p old h. sym (protected_frame prot (s.info p)) ∙ h) (λ p h. h) p
 
-fewer_own : (cached : ℕ → ℕ → Option ℕ) (s : Slots) (change : Change) (p f : ℕ) → own_frame cached ((changed change s).info p) ≡ Some f → own_frame cached (s.info p) ≡ Some f
+fewer_own : (cached : ℕ → ℕ → Option ℕ) (s : Slots) (change : Change) (p f : ℕ) → own_frame cached ((slots_after change s).info p) ≡ Some f → own_frame cached (s.info p) ≡ Some f
 fewer_own cached s change p f =
     changed_all (λ p o. own_frame cached o ≡ Some f → own_frame cached (s.info p) ≡ Some f) s change (λ range meta p e i h. absurd cc) (λ p h. absurd cc)
     (λ prot p old h. sym (protected_own cached prot (s.info p)) ∙ h) (λ p h. h) p
 
-anonymous_changed : (s : Slots) (change : Change) → IsAnonymousPut change → ((p : ℕ) → IsAnonymous (s.info p)) → (p : ℕ) → IsAnonymous ((changed change s).info p)
+anonymous_changed : (s : Slots) (change : Change) → IsAnonymousPut change → ((p : ℕ) → IsAnonymous (s.info p)) → (p : ℕ) → IsAnonymous ((slots_after change s).info p)
 anonymous_changed s change a h =
     changed_all (λ p. IsAnonymous) s change (λ range meta p e i. ap (λ back. advance_back back (p - range.first)) (subst IsAnonymousPut e a)) (λ p. tt)
     (λ prot p. protected_anonymous prot (s.info p)) h
 
 -- ---- Acks
 
-pub change_committed : (w : World) (event : Event) (c : ℕ) (change : Change) (held : PageRange) → w.calls.phase c ≡ Acks change held → Fine w → Leaves w event (committed c change held w)
-change_committed w event c change held e f =
-    tells w event c (Some held) (reply_to change) (changed change w.slots) w.memory f (made_of f.plain change) k.asked.request k.asked.number
+pub change_committed : (w : World) (event : Event) (c : ℕ) (change : Change) (held : PageRange) (counts : Counts) → w.calls.phase c ≡ Acks change held → Fine w
+    → Leaves w event (after_commit c change held counts w)
+change_committed w event c change held counts e f =
+    tells w event c (Some held) (reply_to change) (slots_after change w.slots) w.hardware (with_counts counts w).memory f (made_of f.plain change) k.asked.request k.asked.number
     (acted w f.plain c k.asked.request change k.ready.1.0 f.good k.asked.passed k.ready.1.1)
     (due_so event w.memory.is_free w.calls.events (w.calls.number c) c (reply_to change) (reply_is change))
-    (shows_less w f.plain (made_of f.plain change) (changed change w.slots).info (put w.calls.phase c (Unlock held (reply_to change))) w.memory.bytes f.good
+    (with_counts_shown w.made.file (slots_after change w.slots).info w.memory counts (made_of f.plain change)
+    (shows_less w f.plain (made_of f.plain change) (slots_after change w.slots).info w.memory.bytes f.good
     (pages_changed w.memory w.slots f.plain change f.good.pages)
     (subst (λ file. (n : ℕ) → ShowsFile w.memory.bytes (w.memory.cached n) (w.made.file n) (file n)) (sym (files_changed f.plain change)) f.good.files)
     (fewer_frames w.slots change) (fewer_own w.memory.cached w.slots change)
-    (fewer_taken w.calls.phase c (Unlock held (reply_to change)) refl)
-    (anonymous_changed w.slots change anonymous f.good.no_files.anonymous))
+    (anonymous_changed w.slots change anonymous f.good.no_files.anonymous)))
   where
     k : IsCallOf w c (Acks change held)
     k = call_at w c (Acks change held) e f.order

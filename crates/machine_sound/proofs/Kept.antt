@@ -1,108 +1,148 @@
 -- Each step from a fine state leaves a fine one, and so each reached state is fine.
-use Rattle.std.proofs.Common.{◌≡◌, ℕ, Bool, true, false, cond, refl, sym, ap, subst, None, Option, List, [], ◌∷◌, ◌++◌, ◌∙◌, inl}
+use Rattle.std.proofs.Common.{◌≡◌, ℕ, Bool, true, false, cond, refl, sym, ap, subst, None, Some, Option, List, [], ◌∷◌, ◌++◌, ◌∙◌, inl}
 use Rattle.std.specs.Prelude.{nat_le}
 use Rattle.vm_base.specs.declared.page.PageRange.{PageRange}
 use Rattle.vm_base.specs.declared.replies.Errno.TheVariants.{ENOMEM}
 use Rattle.vm_base.specs.declared.replies.Reply.{Reply}
-use Rattle.vm_base.specs.declared.replies.Reply.TheVariants.{Refused}
+use Rattle.vm_base.specs.declared.replies.Reply.TheVariants.{Refused, NoMemory}
 use Rattle.vm_base.specs.declared.requests.Request.{Request}
 use Rattle.vm_base.specs.Plain.{nothing_mapped}
 use Rattle.slot_lock.specs.Slots.{Slots, IsNew}
+use Rattle.slot_lock.specs.Plan.{range_of}
 use Rattle.machine_model.specs.declared.event.Event.{Event}
+use Rattle.machine_model.specs.declared.event.Event.TheVariants.{GiveUp}
 use Rattle.machine_model.specs.declared.event.Outcome.{Outcome}
 use Rattle.machine_model.specs.declared.phase.Goal.{Goal}
 use Rattle.machine_model.specs.declared.phase.Goal.TheVariants as To
 use Rattle.machine_model.specs.declared.phase.Phase.{Phase}
-use Rattle.machine_model.specs.declared.phase.Phase.TheVariants.{Free, Check, Lock, Decide}
-use Rattle.machine_model.specs.Actions.{replies}
-use Rattle.machine_model.specs.Holding.{goal_range, taken_in}
-use Rattle.machine_model.specs.Locks.{locked_to, all_locked, held_after}
+use Rattle.machine_model.specs.declared.phase.Phase.TheVariants.{Free, Check, Lock, Decide, Post, Acks, Unlock, Answer, Try, Settle, Want, Fill, Install, Release}
+use Rattle.machine_model.specs.Actions.{after_reply}
+use Rattle.machine_model.specs.Accesses.{after_frame}
+use Rattle.machine_model.specs.Changes.{after_post}
+use Rattle.machine_model.specs.Counting.{with_counts, with_free}
+use Rattle.machine_model.specs.GivingUp.{after_give_up, given_back}
+use Rattle.machine_model.specs.Holding.{taken_in, still_held, can_give_up}
+use Rattle.machine_model.specs.Locks.{locking, locked_to}
+use Rattle.machine_model.specs.Translating.{after_translating}
 use Rattle.machine_model.specs.World.{World, Made, new_world}
-use Rattle.machine_model.specs.Step.{called, counted, Step, Run}
+use Rattle.machine_model.specs.Step.{after_call, with_event, Step, Run}
 use Rattle.machine_laws.proofs.Kept.{kept as order_kept}
 use Rattle.machine_laws.proofs.Moves.{IsCallOf, call_at}
-use Rattle.machine_laws.proofs.Shapes.{Moves, locks, tries, acts, tells as told, faults, finds, lacks, Replies, refuses, no_place, declines, fails, no_frame, LetsGo, unlocks, releases, GoesBy, moves, divides, owns, lets_go, answers, commits, takes, fills, installs, accesses, Shape, rests, begins, ends, goes, Comes, stopped, acts as counts, comes}
-use Rattle.machine_sound.specs.Sound.{IsReached, IsSoundState, Notes, SoundRun}
+use Rattle.machine_laws.specs.Brackets.{nth}
+use Rattle.machine_laws.specs.Orderly.{IsAsked}
+use Rattle.machine_laws.proofs.Shapes.{Moves, Replies, refuses, no_place, declines, fails, no_frame, LetsGo, GoesBy, moves, divides, owns, lets_go, answers, posts, commits, takes, fills, installs, accesses, faults, Works, clears, invalidates, walks, evicts, flushes, reviews, frees, Shape, rests, begins, ends, goes, gives_up, works, joins, Comes, stopped, acts as happens, comes}
+use Rattle.machine_coherence.proofs.Kept.{kept as translations_kept}
+use Rattle.machine_counting.proofs.Kept.{kept as counts_kept}
+use Rattle.machine_sound.specs.Sound.{IsReached, IsSoundState, IsSoundStep, Notes, SoundRun}
 use Rattle.machine_sound.specs.Invariant.{Fine}
-use Rattle.machine_sound.proofs.Accesses.{access_made, fault_told, no_frame_told, frame_taken, page_filled, core_installed}
+use Rattle.machine_sound.proofs.Accesses.{access_made, fault_told, no_frame_told, page_filled, core_installed}
 use Rattle.machine_sound.proofs.Commits.{change_committed}
 use Rattle.machine_sound.proofs.Logs.{replays_requests}
 use Rattle.machine_sound.proofs.Moves as left
-use Rattle.machine_sound.proofs.Moves.{Leaves, stays, shows_on, owns_on, steps, divided, taken_gone}
+use Rattle.machine_sound.proofs.Moves.{Leaves, stays, shows_same, with_memory, goes_on, beside}
+use Rattle.machine_sound.proofs.Freeing.{frees_only, blocked}
 use Rattle.machine_sound.proofs.Opening.{fine_opening}
 use Rattle.machine_sound.proofs.Replies.{due_so, refused, no_place_stands, declined}
 use Rattle.machine_sound.proofs.Sound.{fine_sound}
 
--- ---- phases in which no frame is taken
-
-moves_none : (w : World) (c : ℕ) (new : Phase) → Moves w c new → taken_in new ≡ None
-moves_none w c new (locks request change e n k) = ap taken_in n
-moves_none w c new (tries request touch e n k) = ap taken_in n
-moves_none w c new (acts change range shoot e n d) = ap taken_in n
-moves_none w c new (told change shoot e n) = ap taken_in n
-moves_none w c new (faults touch e n h) = ap taken_in n
-moves_none w c new (finds touch f e n u) = ap taken_in n
-moves_none w c new (lacks touch e n u) = ap taken_in n
-
-locked_none : (goal : Goal) (b : ℕ) → taken_in (locked_to goal b) ≡ None
-locked_none goal b = go goal (nat_le (goal_range goal).end b)
-  where
-    go : (goal : Goal) (p : Bool) → taken_in (cond p (all_locked goal) (Lock goal b)) ≡ None
-    go (To.Change change) true = refl
-    go (To.Access touch) true = refl
-    go goal false = refl
-
-lets_go_none : (old : Phase) (held : PageRange) (b : ℕ) (new : Phase) → LetsGo old held b new → taken_in new ≡ None
-lets_go_none old held b new (unlocks reply e n) = ap taken_in n ∙ taken_gone (held_after held b) reply
-lets_go_none old held b new (releases touch e h n) = ap taken_in n
-
 -- ---- the shapes
 
-replies_left : (w : World) (event : Event) (c : ℕ) (held : Option PageRange) (reply : Reply) → Fine w → Replies w c held reply → Leaves w event (replies c held reply w)
+replies_left : (w : World) (event : Event) (c : ℕ) (held : Option PageRange) (reply : Reply) → Fine w → Replies w c held reply → Leaves w event (after_reply c held reply w)
 replies_left w event c held reply f (refuses request e h k) =
     let number = (call_at w c (Check request) e f.order).asked in
     let z = refused w f.plain c request reply f.good k in
     left.answers w event c held reply f request number z.1 (due_so event w.memory.is_free w.calls.events (w.calls.number c) c reply z.0)
 replies_left w event c held reply f (no_place request place e h r k) =
-    subst (λ y. Leaves w event (replies c held y w)) (sym r)
+    subst (λ y. Leaves w event (after_reply c held y w)) (sym r)
     (left.answers w event c held (Refused ENOMEM) f request (call_at w c (Check request) e f.order).asked (no_place_stands w f.plain c request place f.good k) tt)
 replies_left w event c held reply f (declines change errno e h r d) =
     let k : IsCallOf w c (Decide change) = call_at w c (Decide change) e f.order in
-    subst (λ y. Leaves w event (replies c held y w)) (sym r)
+    subst (λ y. Leaves w event (after_reply c held y w)) (sym r)
     (left.answers w event c held (Refused errno) f k.asked.request k.asked.number (declined w f.plain c k.asked.request change errno f.good k.asked.passed d) tt)
 replies_left w event c held reply f (fails touch e h x) = fault_told w event c touch held reply e x f
 replies_left w event c held reply f (no_frame touch e h r none) =
-    subst (λ y. Leaves w event (replies c held y w)) (sym r) (no_frame_told w event c touch held e none f)
+    subst (λ y. Leaves w event (after_reply c held y w)) (sym r) (no_frame_told w event c touch held e none f)
 
 goes_left : (w : World) (event : Event) (c : ℕ) (v : World) → Fine w → GoesBy w c v → Leaves w event v
-goes_left w event c v f (moves new m h) = subst (Leaves w event) (sym h) (steps w event c new f (moves_none w c new m))
-goes_left w event c v f (divides goal cursor t e s h) = subst (Leaves w event) (sym h) (divided w event t f s.divides.2.info)
+goes_left w event c v f (moves new m h) = subst (Leaves w event) (sym h) (goes_on w event c new w.slots w.hardware w.memory f f.good)
+goes_left w event c v f (divides goal cursor t e s h) =
+    subst (Leaves w event) (sym h) (beside w event t w.hardware w.memory f (shows_same w f.plain t.info s.divides.2.info f.good))
 goes_left w event c v f (owns goal cursor b t e l h) =
-    subst (Leaves w event) (sym h) (owns_on w event c (locked_to goal b) t f (ap (λ (x : Slots). x.info) l.now) (locked_none goal b))
+    subst (Leaves w event) (sym h)
+    (goes_on w event c (locked_to goal b) t w.hardware w.memory f (shows_same w f.plain t.info (ap (λ (x : Slots). x.info) l.now) f.good))
 goes_left w event c v f (lets_go held b t new l u h) =
-    subst (Leaves w event) (sym h) (owns_on w event c new t f (ap (λ (x : Slots). x.info) u.now) (lets_go_none (w.calls.phase c) held b new l))
+    subst (Leaves w event) (sym h)
+    (goes_on w event c new t w.hardware w.memory f (shows_same w f.plain t.info (ap (λ (x : Slots). x.info) u.now) f.good))
 goes_left w event c v f (answers held reply r h) = subst (Leaves w event) (sym h) (replies_left w event c held reply f r)
-goes_left w event c v f (commits change held e h) = subst (Leaves w event) (sym h) (change_committed w event c change held e f)
-goes_left w event c v f (takes touch x e l h) = subst (Leaves w event) (sym h) (frame_taken w event c touch x l.free f)
-goes_left w event c v f (fills touch x e h) = subst (Leaves w event) (sym h) (page_filled w event c touch x e f)
+goes_left w event c v f (posts change shoot e h) =
+    subst (Leaves w event) (sym h)
+    (goes_on w event c (Acks change (range_of change)) w.slots (after_post c change shoot w).hardware w.memory f f.good)
+goes_left w event c v f (commits change held counts e n l h) =
+    subst (Leaves w event) (sym h) (change_committed w event c change held counts e f)
+goes_left w event c v f (takes touch x e l h) =
+    subst (Leaves w event) (sym h) (goes_on w event c (Fill touch x) w.slots w.hardware (after_frame c touch x w).memory f (with_memory w f.plain f.good))
+goes_left w event c v f (fills touch x counts e t h) = subst (Leaves w event) (sym h) (page_filled w event c touch x counts e f)
 goes_left w event c v f (installs touch e h) = subst (Leaves w event) (sym h) (core_installed w event c touch f)
 goes_left w event c v f (accesses touch x e i h) = subst (Leaves w event) (sym h) (access_made w event c touch x e i f)
+goes_left w event c v f (faults touch e i h) =
+    subst (Leaves w event) (sym h)
+    (goes_on w event c (locking (To.Access touch)) w.slots (after_translating w.hardware c touch) w.memory f f.good)
+
+works_left : (w : World) (event : Event) (c : ℕ) (v : World) → Fine w → Works w c event v → Leaves w event v
+works_left w event c v f (clears i range k h) = subst (Leaves w event) (sym h) (beside w event w.slots _ w.memory f f.good)
+works_left w event c v f (invalidates i range k h) = subst (Leaves w event) (sym h) (beside w event w.slots _ w.memory f f.good)
+works_left w event c v f (walks p i k h) = subst (Leaves w event) (sym h) (beside w event w.slots _ w.memory f f.good)
+works_left w event c v f (evicts p i k h) = subst (Leaves w event) (sym h) (beside w event w.slots _ w.memory f f.good)
+works_left w event c v f (flushes i report counts t h) =
+    subst (Leaves w event) (sym h) (beside w event w.slots w.hardware (with_counts counts w).memory f (with_memory w f.plain f.good))
+works_left w event c v f (reviews i report counts t h) =
+    subst (Leaves w event) (sym h) (beside w event w.slots w.hardware (with_counts counts w).memory f (with_memory w f.plain f.good))
+works_left w event c v f (frees i x counts t h) =
+    subst (Leaves w event) (sym h)
+    (beside w event w.slots w.hardware (with_free x (with_counts counts w)).memory f (with_memory w f.plain f.good))
 
 -- a call begins
-begun : (w : World) (event : Event) (c : ℕ) (request : Request) → Fine w → Leaves w event (called c request w)
+begun : (w : World) (event : Event) (c : ℕ) (request : Request) → Fine w → Leaves w event (after_call c request w)
 begun w event c request f = record {
   plain = f.plain;
   log = replays_requests w.calls.requests request w.calls.log (nothing_mapped w.made.file) f.plain f.log;
-  good = shows_on w f.plain c (Check request) f.good refl;
-  bare = f.bare;
+  good = f.good;
   notes = inl refl;
 }
+
+-- a call that may be given up has a request
+its_request : (made : Made) (requests : List Request) (c call : ℕ) (phase : Phase) → can_give_up phase ≡ true → IsAsked made requests c call phase
+    → (request : Request) × (nth requests call ≡ Some request)
+its_request made requests c call (Check request) can h = (request, h)
+its_request made requests c call (Lock goal cursor) can h = (h.request, h.number)
+its_request made requests c call (Decide change) can h = (h.request, h.number)
+its_request made requests c call (Post change shoot) can h = (h.request, h.number)
+its_request made requests c call (Try touch) can h = (h.request, h.number)
+its_request made requests c call (Settle touch) can h = (h.request, h.number)
+its_request made requests c call (Want touch) can h = (h.request, h.number)
+its_request made requests c call (Fill touch frame) can h = (h.request, h.number)
+its_request made requests c call (Install touch) can h = (h.request, h.number)
+its_request made requests c call (Release touch) can h = (h.request, h.number)
+its_request made requests c call Free can h = absurd cc
+its_request made requests c call (Acks change held) can h = absurd cc
+its_request made requests c call (Unlock held reply) can h = absurd cc
+its_request made requests c call (Answer reply) can h = absurd cc
+
+given_up : (w : World) (c : ℕ) → Fine w → can_give_up (w.calls.phase c) ≡ true → Leaves w (GiveUp c) (after_give_up c (w.calls.phase c) w)
+given_up w c f can =
+    let r = its_request w.made w.calls.requests c (w.calls.number c) (w.calls.phase c) can (f.order.asked c) in
+    left.tells w (GiveUp c) c (still_held (w.calls.phase c)) NoMemory w.slots w.hardware
+    (record w.memory { is_free = given_back (taken_in (w.calls.phase c)) w.memory.is_free }) f f.plain r.0 r.1 refl refl (with_memory w f.plain f.good)
 
 shape_left : (w : World) (e : Event) (o : Outcome) (v : World) → Fine w → Shape w e o v → Leaves w e v
 shape_left w e o v f (rests i h) = subst (Leaves w e) (sym h) (stays w e f)
 shape_left w e o v f (begins c request i s lt p below h) = subst (Leaves w e) (sym h) (begun w e c request f)
-shape_left w e o v f (ends c reply i s lt p h) = subst (Leaves w e) (sym h) (steps w e c Free f refl)
+shape_left w e o v f (ends c reply i s lt p h) = subst (Leaves w e) (sym h) (goes_on w e c Free w.slots w.hardware w.memory f f.good)
 shape_left w e o v f (goes c i s lt g) = goes_left w e c v f g
+shape_left w e o v f (gives_up c i s lt can h) = subst (Leaves w e) (sym h) (subst (λ e. Leaves w e (after_give_up c (w.calls.phase c) w)) (sym i) (given_up w c f can))
+shape_left w e o v f (works c s lt k) = works_left w e c v f k
+shape_left w e o v f (joins p t i s page j m h) =
+    subst (Leaves w e) (sym h) (beside w e t w.hardware w.memory f (shows_same w f.plain t.info j.info f.good))
 
 -- ---- a step
 
@@ -112,14 +152,32 @@ pub fine_step : (w v : World) (e : Event) (o : Outcome) → Fine w → Step w e 
 fine_step w v e o f s = go (comes w e o v s)
   where
     whole : Leaves w e v → Fine v × Notes w e v
-    whole l = (record { order = order_kept w v e o f.order s; plain = l.plain; log = l.log; good = l.good; bare = l.bare }, l.notes)
+    whole l = (
+      record {
+        order = order_kept w v e o f.order s;
+        coherent = translations_kept w v e o f.order f.coherent s;
+        counted = counts_kept w v e o f.order f.counted s;
+        plain = l.plain;
+        log = l.log;
+        good = l.good;
+      },
+      l.notes,
+    )
 
-    uncounted : Leaves (counted w) e v → Leaves w e v
-    uncounted l = record { plain = l.plain; log = l.log; good = l.good; bare = l.bare; notes = l.notes }
+    uncounted : Leaves (with_event w) e v → Leaves w e v
+    uncounted l = record { plain = l.plain; log = l.log; good = l.good; notes = l.notes }
 
     go : Comes w e o v → Fine v × Notes w e v
     go (stopped n i h) = whole (subst (Leaves w e) (sym h) (stays w e f))
-    go (counts n h) = whole (uncounted (shape_left (counted w) e o v f h))
+    go (happens n h) = whole (uncounted (shape_left (with_event w) e o v f h))
+
+-- the step is sound
+pub sound_step : (w v : World) (e : Event) (o : Outcome) → Fine w → Step w e o v → IsSoundStep w e o v
+sound_step w v e o f s = record {
+  notes = (fine_step w v e o f s).1;
+  frees = frees_only w v e o s;
+  blocked = blocked w v e o f.order s;
+}
 
 -- ---- runs
 
@@ -135,11 +193,11 @@ reached_fine w h = fine_run (new_world h.made h.slots) h.events h.outcomes w (fi
 pub reached_sound : (w : World) → IsReached w → IsSoundState w
 reached_sound w h = fine_sound w (reached_fine w h)
 
-pub steps_noted : (w v : World) (e : Event) (o : Outcome) → IsReached w → Step w e o v → Notes w e v
-steps_noted w v e o h s = (fine_step w v e o (reached_fine w h) s).1
+pub steps_sound : (w v : World) (e : Event) (o : Outcome) → IsReached w → Step w e o v → IsSoundStep w e o v
+steps_sound w v e o h s = sound_step w v e o (reached_fine w h) s
 
 -- a run that goes one event on
-run_more : (es : List Event) (os : List Outcome) (w m v : World) (e : Event) (o : Outcome) → Run w es os m → Step m e o v → Run w (es ++ e ∷ []) (os ++ o ∷ []) v
+pub run_more : (es : List Event) (os : List Outcome) (w m v : World) (e : Event) (o : Outcome) → Run w es os m → Step m e o v → Run w (es ++ e ∷ []) (os ++ o ∷ []) v
 run_more [] [] w m v e o r s = (v, subst (λ w. Step w e o v) r s, refl)
 run_more [] (p ∷ os) w m v e o r s = absurd r
 run_more (d ∷ es) [] w m v e o r s = absurd r
@@ -163,8 +221,7 @@ reached_opening made slots none new = record { made = made; slots = slots; event
 sound_run : (w : World) (es : List Event) (os : List Outcome) (v : World) → Fine w → Run w es os v → SoundRun w es os v
 sound_run w [] [] v f r = (fine_sound w f, r)
 sound_run w (e ∷ es) (o ∷ os) v f r =
-    let k : Fine r.0 × Notes w e r.0 = fine_step w r.0 e o f r.1 in
-    (fine_sound w f, (r.0, r.1, k.1, sound_run r.0 es os v k.0 r.2))
+    (fine_sound w f, (r.0, r.1, sound_step w r.0 e o f r.1, sound_run r.0 es os v (fine_step w r.0 e o f r.1).0 r.2))
 sound_run w [] (o ∷ os) v f r = r
 sound_run w (e ∷ es) [] v f r = r
 

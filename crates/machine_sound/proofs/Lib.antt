@@ -3,6 +3,8 @@ pub mod Replies
 pub mod OneMap
 pub mod Pages
 pub mod Moves
+pub mod Reaching
+mod Freeing
 mod Commits
 mod Accesses
 pub mod Opening

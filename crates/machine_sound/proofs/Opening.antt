@@ -5,6 +5,8 @@ use Rattle.vm_base.specs.Plain.{File, zeros, nothing_mapped}
 use Rattle.slot_lock.specs.Slots.{Slots, IsNew}
 use Rattle.machine_model.specs.World.{Made, new_memory, new_world}
 use Rattle.machine_laws.proofs.Opening.{opening_is_orderly}
+use Rattle.machine_coherence.proofs.Kept.{opening as opening_is_coherent}
+use Rattle.machine_counting.proofs.Kept.{opening_is_counted}
 use Rattle.machine_sound.specs.Invariant.{Fine, ShowsPage, ShowsFile, IsAnonymous}
 
 shows_itself : (o : Option File) → ShowsFile (λ f. zeros) (λ k. None) o o
@@ -14,22 +16,16 @@ shows_itself (Some f) = (refl, refl, λ k. refl)
 pub fine_opening : (made : Made) (slots : Slots) → ((n : ℕ) → made.file n ≡ None) → IsNew slots → Fine (new_world made slots)
 fine_opening made slots none new = record {
   order = opening_is_orderly made slots new;
+  coherent = opening_is_coherent made slots;
+  counted = opening_is_counted made slots new;
   plain = nothing_mapped made.file;
   log = refl;
   good = record {
     pages = λ p. subst (λ o. ShowsPage (new_memory made) o None) (sym (new.unmapped p)) tt;
     files = λ n. shows_itself (made.file n);
-    frames = record {
-      busy = λ p f h. absurd (bare p f h);
-      busy_file = λ n k f h. absurd cc;
-      apart = λ p q f h k. absurd (bare q f k);
-      apart_file = λ p n k f h e. absurd cc;
-    };
-    taken = λ c. record { busy = λ f h. absurd cc; no_page = λ f p h. absurd cc; no_file = λ f n k h. absurd cc };
-    alone = λ c d f h. absurd cc;
-    no_files = record { none = none; anonymous = λ p. subst IsAnonymous (sym (new.unmapped p)) tt };
+    apart = λ p q f h k. absurd (bare q f k);
+    no_files = record { none = none; uncached = λ n k. refl; anonymous = λ p. subst IsAnonymous (sym (new.unmapped p)) tt };
   };
-  bare = record { tables = λ c p. refl; tlbs = λ c. refl };
 }
   where
     bare : (p f : ℕ) → frame_of (slots.info p) ≡ Some f → ⊥

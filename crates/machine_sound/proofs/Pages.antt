@@ -18,7 +18,10 @@ use Rattle.vm_base.proofs.Functions.{put_all, put_same, put_other}
 use Rattle.machine_model.specs.Accesses.{is_past_end}
 use Rattle.machine_model.specs.World.{World, Memory}
 use Rattle.machine_laws.specs.Orderly.{IsUsable}
+use Rattle.mmu.specs.declared.entry.Translation.{Translation}
+use Rattle.mmu.specs.Entry.{permits}
 use Rattle.machine_sound.specs.Log.{CanAccess}
+use Rattle.machine_sound.specs.Translations.{Agrees, AgreesWith, HasBytes}
 use Rattle.machine_sound.specs.Invariant.{Good, ShowsPage, ShowsFile, Owns, MayOwn, IsAnonymous, shows_file, own_frame, own_frame_of}
 
 -- the memory with other bytes of a frame
@@ -77,6 +80,18 @@ framed_reply w t p f access i k allowed =
     ∙ (ap (λ b. answer_of t.file access i b k.entry.back k.entry.own) (sym (ap (λ prot. is_allowed prot access) k.prot) ∙ allowed)
     ∙ (ap (λ back. answer_of t.file access i true back k.entry.own) k.back
     ∙ (ap (λ own. answer_of t.file access i true Anon own) k.own ∙ anonymous_answer t.file access i (w.memory.bytes f))))
+
+-- a translation that leads to the page's frame, and permits only what the page allows, agrees with the plain page map
+pub has_frame_bytes : (w : World) (t : Plain) (p : ℕ) (e : Translation) (k : IsFramed w t p e.frame)
+    → ((access : Access) → permits e access ≡ true → is_allowed k.info.meta.prot access ≡ true) → Agrees w t p e
+has_frame_bytes w t p e k allowed =
+    subst (AgreesWith w.memory.bytes e t.file) (sym k.at_page) (
+      λ access h. subst (λ prot. is_allowed prot access ≡ true) k.prot (allowed access h),
+      subst (HasBytes (w.memory.bytes e.frame)) (sym bytes) (λ i lt. refl),
+    )
+  where
+    bytes : bytes_of t.file k.entry.back k.entry.own ≡ Some (w.memory.bytes e.frame)
+    bytes = ap (λ back. bytes_of t.file back k.entry.own) k.back ∙ ap (bytes_of t.file Anon) k.own
 
 -- ---- replies that need no frame
 
@@ -184,7 +199,7 @@ pages_stored w t p f x k g =
       subst (λ back. Owns (with_bytes w.memory f x) back k.info.frame (Some x)) (sym k.anonymous)
           (subst (λ frame. Owns (with_bytes w.memory f x) Anon frame (Some x)) (sym k.frame) (tt, ap Some (sym (put_same w.memory.bytes f x)))),
     ))
-    (λ q ne. page_kept w.memory f x (w.slots.info q) (t.entry q) (λ h. ne (sym (g.frames.apart p q f (framed_own w t p f k) (own_is_frame w.memory.cached (w.slots.info q) f h)))) (g.pages q))
+    (λ q ne. page_kept w.memory f x (w.slots.info q) (t.entry q) (λ h. ne (sym (g.apart p q f (framed_own w t p f k) (own_is_frame w.memory.cached (w.slots.info q) f h)))) (g.pages q))
 
 pub files_stored : (w : World) (t : Plain) (p f : ℕ) (x : Bytes) (k : IsFramed w t p f) → Good w t → (n : ℕ) → ShowsFile (put w.memory.bytes f x) (w.memory.cached n) (w.made.file n) (t.file n)
-files_stored w t p f x k g n = file_kept w.memory.bytes f x (w.memory.cached n) (w.made.file n) (t.file n) (λ l. g.frames.apart_file p n l f (framed_own w t p f k)) (g.files n)
+files_stored w t p f x k g n = file_kept w.memory.bytes f x (w.memory.cached n) (w.made.file n) (t.file n) (λ l h. let none = g.no_files.uncached n l in cc) (g.files n)

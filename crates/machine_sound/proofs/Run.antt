@@ -1,9 +1,16 @@
 -- A worked run of two cores, by computation: one maps a page, and the other stores a byte in it, for which it has to wait.
-use Rattle.std.proofs.Common.{◌≡◌, ℕ, ◌≤◌, ◌<◌, true, cond, inr, refl, ap, arith, Some, None, List, [], ◌∷◌}
+use Rattle.std.proofs.Common.{◌≡◌, ℕ, ◌≤◌, ◌<◌, ◌++◌, Bool, true, false, cond, inl, inr, refl, ap, arith, Some, None, List, [], ◌∷◌}
+use Rattle.std.specs.Prelude.{is_some}
 use Rattle.vm_base.specs.declared.replies.Reply.TheVariants.{Mapped, Done}
 use Rattle.vm_base.specs.declared.requests.Request.TheVariants.{Mmap, Store}
-use Rattle.vm_base.specs.Functions.{has}
-use Rattle.vm_base.proofs.Functions.{in_has}
+use Rattle.vm_base.specs.Functions.{has, put}
+use Rattle.machine_model.specs.Counting.{CountsDown}
+use Rattle.refcache.proofs.Reached.{unused_at_first}
+use Rattle.shootdown.specs.Messages.{message_of, posted}
+use Rattle.vm_base.proofs.Functions.{in_has, put_all}
+use Rattle.vm_base.specs.Pages.{pages_of}
+use Rattle.shootdown.specs.Inboxes.{awaited}
+use Rattle.machine_model.specs.Translating.{inboxes_after}
 use Rattle.slot_lock.specs.Slots.{Slots, IsSlot, IsNew, between}
 use Rattle.slot_lock.specs.declared.slot_map.Got.TheVariants.{Locked, Held}
 use Rattle.machine_model.specs.declared.event.Event.{Event}
@@ -62,7 +69,20 @@ outcomes =
 then : {P Q : World → Type 0} (m : World) → P m → Q m → (x : World) × P x × Q x
 then m s r = (m, s, r)
 
+-- nobody was told
+quiet : (d : ℕ) → awaited (inboxes_after 0 0 (pages_of 65536 4096) (λ c. [])) 0 d ≡ false
+quiet d = go (put (members 0) 0 false d) refl
+  where
+    none : put (members 0) 0 false d ≡ true → ⊥
+    none = put_all (λ d b. b ≡ true → ⊥) (members 0) 0 false (λ h. cc) (λ d ne h. nobody d h) d
+
+    go : (b : Bool) → put (members 0) 0 false d ≡ b
+        → is_some (message_of (cond b ([] ++ posted 0 (pages_of 65536 4096) ∷ []) []) 0) ≡ false
+    go true i = absurd (none i)
+    go false i = refl
+
 ran : (w : World) × Run (new_world made slots) events outcomes w × (w.calls.log ≡ Answer 10 1 0 (Mapped 65536) ∷ Answer 18 2 1 Done ∷ [])
+unfolding CountsDown
 ran = (
   _,
   then _ (refl, refl) (then _ (refl, refl)
@@ -72,13 +92,14 @@ ran = (
       (then _ (refl, refl) (then _ (refl, refl) (then _ (refl, refl)
       (then _ (Held 0, (_, (λ h. absurd cc, refl, refl), (refl, refl)))
       -- core 0 makes the change, and lets the page go
-      (then _ (Act (between 16 17) 0, (refl, λ core. (λ m. absurd (nobody core m), λ u. absurd (let z = u.2 in cc))), (refl, refl)) (then _ (refl, refl) (then _ (refl, refl)
+      (then _ (Act (between 16 17) 0, (refl, λ core. (λ m. absurd (nobody core m), λ u. absurd (let z = u.2 in cc))), (refl, refl)) (then _ (refl, refl)
+      (then _ (inl (quiet, (_, (_, refl, refl), (refl, refl))))
       (then _ (17, (_, record { slot = one_page _ refl; by_end = omega arith; was_held = λ p h k. ap (λ b. cond b (Some 0) None) (only_16 p h k); now = refl }, (refl, refl)))
       -- core 1 locks the page, gives it a frame, and stores
       (then _ (Locked 17, (_, record { slot = one_page _ refl; by_end = omega arith; was_free = λ p h k. ap (λ b. cond b None (cond b (Some 0) None)) (only_16 p h k); now = refl }, (refl, refl)))
       (then _ (refl, refl)
       (then _ (inr (0, record { free = refl; least = λ g h. absurd (omega (arith, h)) }, (refl, refl)))
-      (then _ (refl, refl) (then _ (refl, refl)
+      (then _ (_, (unused_at_first 2 4 0, omega arith, omega arith, refl, omega arith), (refl, refl)) (then _ (refl, refl)
       (then _ (17, (_, record { slot = one_page _ refl; by_end = omega arith; was_held = λ p h k. ap (λ b. cond b (Some 1) (cond b None (cond b (Some 0) None))) (only_16 p h k); now = refl }, (refl, refl)))
       (then _ (refl, refl)
       -- both hand out their replies

@@ -1,18 +1,29 @@
 -- What holds in each state that a machine reaches, and of each step from there
-use Rattle.std.specs.Prelude.{◌≡◌, ℕ, ◌⊎◌, Bool, false, List, [], ◌∷◌, ◌++◌, None}
+use Rattle.std.specs.Prelude.{◌≡◌, ◌≢◌, ℕ, ◌⊎◌, Bool, true, false, List, [], ◌∷◌, ◌++◌, slice_get, None, Some, pos}
 use Rattle.vm_base.specs.declared.replies.Reply.TheVariants.{NoFrame, NoMemory}
 use Rattle.vm_base.specs.Plain.{Plain, nothing_mapped}
 use Rattle.slot_lock.specs.Slots.{Slots, IsNew}
+use Rattle.vm_base.specs.Info.{is_recorded}
 use Rattle.mmu.specs.declared.entry.Translation.{Translation}
+use Rattle.mmu.specs.declared.tlb.TlbEntry.{TlbEntry}
+use Rattle.refcache.specs.declared.reports.Review.TheVariants as review
+use Rattle.refcache.specs.Counts.{Counts, true_count}
+use Rattle.refcache.specs.Steps.{Reviewing, Takes}
+use Rattle.machine_model.specs.declared.event.Blocker.TheVariants as WaitsFor
 use Rattle.machine_model.specs.declared.event.Event.{Event}
-use Rattle.machine_model.specs.declared.event.Event.TheVariants.{Call, Go}
+use Rattle.machine_model.specs.declared.event.Event.TheVariants.{Go, Review, GiveUp}
 use Rattle.machine_model.specs.declared.event.Outcome.{Outcome}
+use Rattle.machine_model.specs.declared.event.Outcome.TheVariants.{Wait}
 use Rattle.machine_model.specs.declared.log.Entry.{Entry}
 use Rattle.machine_model.specs.declared.log.Entry.TheVariants.{Answer}
 use Rattle.machine_model.specs.World.{World, Made, new_world}
 use Rattle.machine_model.specs.Accesses.{NoneFree}
+use Rattle.machine_model.specs.Changes.{Awaits}
+use Rattle.machine_model.specs.Holding.{range_in, some_has, taken_in}
 use Rattle.machine_model.specs.Step.{Step, Run}
 use Rattle.machine_laws.specs.Brackets.{step_of}
+use Rattle.machine_coherence.specs.Coherent.{Mirrors}
+use Rattle.machine_counting.specs.Counted.{users_of}
 use Rattle.machine_sound.specs.Log.{Replays}
 use Rattle.machine_sound.specs.Translations.{Translates, Agrees, IsNamed}
 
@@ -24,21 +35,22 @@ pub record IsSound (w : World) (t : Plain) : Type 0 where
   pub log : Replays w.calls.requests (nothing_mapped w.made.file) w.calls.log t
   pub agrees : (c p : ℕ) (e : Translation) → Translates w.hardware c p e → Agrees w t p e
   pub named : (f : ℕ) → IsNamed w f → w.memory.is_free f ≡ false
+  -- an entry of a core's tables: its slot records the core
+  pub recorded : (c p : ℕ) (e : Translation) → w.hardware.table c p ≡ Some e → is_recorded (w.slots.info p) c ≡ true
+  -- an entry of a core's TLB: its tables have it, or it was cleared from them and its oldest message isn't acknowledged yet
+  pub mirrors : (c i : ℕ) (e : TlbEntry) → slice_get (w.hardware.tlb c) i ≡ Some e → Mirrors (w.hardware.table c) (w.hardware.inbox c) e
+  -- each frame counts the pages that have it
+  pub users : (f : ℕ) → true_count w.memory.counts f ≡ pos (users_of w.slots.info f)
 
 abbrev pub IsSoundState : World → Type 0
 IsSoundState w = (t : Plain) × IsSound w t
 
 -- ---- a step
 
--- by this event the core gives its call up; no event does yet
-abbrev pub GivesUp : Event → ℕ → Type 0
-GivesUp (Call c request) core = ⊥
-GivesUp (Go c) core = ⊥
-
 -- The entry was due at this event, where these frames were free: no frame was at a NoFrame, and a NoMemory answers a call that was given up.
 abbrev pub IsDue : Event → (ℕ → Bool) → Entry → Type 0
 IsDue event is_free (Answer step call core NoFrame) = NoneFree is_free
-IsDue event is_free (Answer step call core NoMemory) = GivesUp event core
+IsDue event is_free (Answer step call core NoMemory) = event ≡ GiveUp core
 IsDue event is_free _ = Unit {0}
 
 -- the step from w to v, by this event, made no entry, or one with the event's number that was due
@@ -46,6 +58,29 @@ abbrev pub Notes : World → Event → World → Type 0
 Notes w event v =
     (v.calls.log ≡ w.calls.log)
     ⊎ ((entry : Entry) × (v.calls.log ≡ w.calls.log ++ entry ∷ []) × (step_of entry ≡ v.calls.events) × IsDue event w.memory.is_free entry)
+
+-- what made a frame free: a review of Refcache, or the end of a call that had taken it for a page
+pub data IsFreedBy (w : World) (event : Event) (f : ℕ) : Type 0 where
+  by_review : (c : ℕ) (counts : Counts) → event ≡ Review c → Takes w.memory.counts (Reviewing c (review.Freed f)) counts → IsFreedBy w event f
+  by_call : (c : ℕ) → event ≡ GiveUp c → taken_in (w.calls.phase c) ≡ Some f → IsFreedBy w event f
+
+-- no other frame becomes free
+abbrev pub FreesOnly : World → Event → World → Type 0
+FreesOnly w event v = (f : ℕ) → w.memory.is_free f ≡ false → v.memory.is_free f ≡ true → IsFreedBy w event f
+
+-- What a call waits for is there: another core owns a slot with a page of the call's, or some cores' inboxes, just those of the set, have
+-- its message.
+abbrev pub IsBlocked : World → Event → Outcome → Type 0
+IsBlocked w event (Wait (WaitsFor.Slot by)) =
+    (c : ℕ) × (event ≡ Go c) × (by ≢ c) × (p : ℕ) × (some_has (range_in (w.calls.phase c)) p ≡ true) × (w.slots.owner p ≡ Some by)
+IsBlocked w event (Wait (WaitsFor.Acks set)) = (c : ℕ) × (event ≡ Go c) × Awaits w.hardware c set
+IsBlocked w event _ = Unit {0}
+
+-- what is said of a step
+pub record IsSoundStep (w : World) (event : Event) (outcome : Outcome) (v : World) : Type 0 where
+  pub notes : Notes w event v
+  pub frees : FreesOnly w event v
+  pub blocked : IsBlocked w event outcome
 
 -- ---- states that are reached
 
@@ -63,16 +98,16 @@ pub record IsReached (w : World) : Type 0 where
 abbrev pub AllReachedAreSound : Type 0
 AllReachedAreSound = (w : World) → IsReached w → IsSoundState w
 
--- and each step from there makes no entry that isn't due
-abbrev pub AllStepsAreNoted : Type 0
-AllStepsAreNoted = (w v : World) (event : Event) (outcome : Outcome) → IsReached w → Step w event outcome v → Notes w event v
+-- and so is each step from there
+abbrev pub AllStepsAreSound : Type 0
+AllStepsAreSound = (w v : World) (event : Event) (outcome : Outcome) → IsReached w → Step w event outcome v → IsSoundStep w event outcome v
 
 -- ---- runs, state by state
 
--- The events, in order, may come to these outcomes one after another; each state on the way is sound, and each entry was due.
+-- The events, in order, may come to these outcomes one after another; each state on the way is sound, and each step.
 abbrev pub SoundRun : World → List Event → List Outcome → World → Type 0
 SoundRun w [] [] v = IsSoundState w × (v ≡ w)
-SoundRun w (e ∷ es) (o ∷ os) v = IsSoundState w × ((m : World) × Step w e o m × Notes w e m × SoundRun m es os v)
+SoundRun w (e ∷ es) (o ∷ os) v = IsSoundState w × ((m : World) × Step w e o m × IsSoundStep w e o m × SoundRun m es os v)
 SoundRun w [] (o ∷ os) v = ⊥
 SoundRun w (e ∷ es) [] v = ⊥
 

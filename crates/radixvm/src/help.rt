@@ -15,7 +15,15 @@ Input, a line of at most 256 bytes each; a line that begins with # says nothing:
   cC! REQ                   core C makes a call, whose reply is written
   cC call REQ               core C begins a call
   cC go                     one step of core C's call
+  cC frame F                core C's call, which wants a frame, takes frame F
+  cC giveup                 core C's call is given up for want of memory
+  cC take                   core C acts on its oldest message
+  cC walk ADDR              core C's TLB gets ADDR's page from the core's tables
+  cC evict ADDR             core C's TLB drops ADDR's page
+  cC flush                  core C flushes one count, or ends its part of the epoch
+  cC review                 core C reviews the first object of its queue
   cC finish                 all steps that are left of core C's call
+  fold ADDR                 slots are joined at ADDR's page
 REQ is one of:
   mmap ADDR LEN PROT FLAGS [FILE OFF]
   munmap ADDR LEN
@@ -30,7 +38,7 @@ left out where FLAGS has a.
 PROT is rwx with - for a right that isn't given. FLAGS is some of p (private),
 s (shared), f (fixed) and a (anonymous) in any order, or -.
 
-Output, a line for each line of a core, as soon as no whole line is left to read:
+Output, a line for each line of an event, as soon as no whole line is left to read:
   0x10000       the address of a mapping that was made
   done          an munmap, an mprotect or a store was done
   41            the byte that was loaded or fetched, in decimal
@@ -40,8 +48,12 @@ Output, a line for each line of a core, as soon as no whole line is left to read
   segv maperr   no page is mapped there
   segv accerr   the page's protection forbids it
   noframe       no frame is free
-  step          one step was made, and the call isn't answered yet
-  idle          the core has no call, or has one already, or isn't there
+  nomemory      the call was given up for want of memory
+  step          one step was made, which answered no call
+  wait slot C   core C holds a page of the call
+  wait acks C.. these cores haven't acknowledged the call's shootdown
+  idle          the core has no call, or has one already, or isn't there; or what the
+                line asks for isn't possible now
   full          CALLS calls have begun
 
 Example:
@@ -50,7 +62,7 @@ writes 0x10000, done and 41.
 
 A fault ends the replay, and is told on standard error:
   line N: bad line    line N: too long    no vm line first
-  setup S1            CORES isn't 1
+  setup S1            CORES isn't 1 to 64
   setup S2            FRAMES is above 65536
   setup S3, S4        too many files, or one that is too long (there are no files yet)
   setup S5            CALLS is above 1048576

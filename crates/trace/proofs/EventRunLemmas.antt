@@ -18,7 +18,8 @@ use Rattle.core_steps.specs.Finishing.{EndsIn}
 use Rattle.core_steps.specs.Setups.{made_of}
 use Rattle.trace_text.specs.Line.{line_of}
 use Rattle.trace_text.specs.declared.line.Line.{Line}
-use Rattle.trace_text.specs.declared.line.Line.TheVariants.{Blank, Space, Call, Go, Finish, Now}
+use Rattle.trace_text.specs.declared.line.Line.TheVariants.{Blank, Space, Act, Fold, Finish, Now}
+use Rattle.trace.specs.Events.{event_of}
 use Rattle.trace.specs.OutcomeText.{finished_text}
 use Rattle.trace.specs.Gives.{Gives, GoesOn, TellsFinish}
 use Rattle.trace.specs.Stage.{Stage, Start, Declared, Running, Opens, LineActs, EventActs}
@@ -93,8 +94,8 @@ called core request Full w m v text s h = record { events = Ev.Call core request
 moved : (line : Line) (w v : World) (text : List ℕ) → Gives w line v text → IsMoved line w v text
 moved Blank w v text h = absurd h
 moved (Space cores frames calls) w v text h = absurd h
-moved (Call core request) w v text h = record { events = Ev.Call core request ∷ []; outcomes = h.0 ∷ []; asks = (h.0, refl, refl, h.2); run = (v, h.1, refl) }
-moved (Go core) w v text h = record { events = Ev.Go core ∷ []; outcomes = h.0 ∷ []; asks = (h.0, refl, refl, h.2); run = (v, h.1, refl) }
+moved (Act core action) w v text h = record { events = event_of core action ∷ []; outcomes = h.0 ∷ []; asks = (h.0, refl, refl, h.2); run = (v, h.1, refl) }
+moved (Fold page) w v text h = record { events = Ev.Fold page ∷ []; outcomes = h.0 ∷ []; asks = (h.0, refl, refl, h.2); run = (v, h.1, refl) }
 moved (Finish core) w v text h =
     let f : IsFinished core w v text = told core w v text h in record { events = f.events; outcomes = f.outcomes; asks = f.asks; run = f.run }
 moved (Now core request) w v text h = called core request h.0 w h.1 v text h.2 h.3
@@ -156,8 +157,8 @@ space_next s old new es os r e n = subst (λ x. IsReached x es os) (sym n) (subs
 line_next : (line : Line) (old new : Stage) (es : List Event) (os : List Outcome) (text : List ℕ) → IsReached old es os → LineActs old line new text → IsNext line new es os text
 line_next Blank old new es os text r a = nothing_asked Blank new es os text (refl, refl, a.1) (subst (λ s. IsReached s es os) (sym a.0) r)
 line_next (Space cores frames calls) old new es os text r a = nothing_asked (Space cores frames calls) new es os text (refl, refl, a.2) (space_next _ old new es os r a.0 a.1)
-line_next (Call core request) old new es os text r a = event_next (Call core request) old new es os text r a
-line_next (Go core) old new es os text r a = event_next (Go core) old new es os text r a
+line_next (Act core action) old new es os text r a = event_next (Act core action) old new es os text r a
+line_next (Fold page) old new es os text r a = event_next (Fold page) old new es os text r a
 line_next (Finish core) old new es os text r a = event_next (Finish core) old new es os text r a
 line_next (Now core request) old new es os text r a = event_next (Now core request) old new es os text r a
 

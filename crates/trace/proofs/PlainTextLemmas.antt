@@ -1,224 +1,219 @@
--- The text of a trace that leaves no call open is that of the plain page map.
-use Rattle.std.proofs.Common.{◌≡◌, ◌≢◌, ℕ, zero, suc, ◌+◌, ◌≤◌, ◌<◌, ◌^◌, Bool, true, false, cond, List, [], ◌∷◌, ◌++◌, Option, None, Some, refl, sym, ap, subst, ◌∙◌, arith, length, length-append}
-use Rattle.std.specs.Prelude.{nat_lt, IsSomeAnd}
+-- The text of a trace in which no call runs beside another is that of the plain page map and the users of its pages.
+use Rattle.std.proofs.Common.{◌≡◌, ◌≢◌, ℕ, ◌≤◌, ◌<◌, ◌==◌, ◌⊎◌, inl, inr, Bool, true, false, cond, List, [], ◌∷◌, Option, None, Some, refl, sym, ap, subst, ◌∙◌, arith, length}
+use Rattle.std.specs.Prelude.{nat_lt, pred, IsSomeAnd}
+use Rattle.std.proofs.Math.Path.{fun_ext}
+use Rattle.vm_base.specs.Functions.{put}
+use Rattle.vm_base.specs.Info.{is_recorded}
 use Rattle.std.proofs.lemmas.Bool.Decides.{nat_tests}
-use Rattle.vm_base.specs.declared.replies.Reply.TheVariants.{NoMemory}
 use Rattle.vm_base.specs.declared.requests.Request.{Request}
+use Rattle.vm_base.proofs.Functions.{eq_true, eq_false}
 use Rattle.slot_lock.specs.Slots.{Slots, IsNew}
 use Rattle.machine_model.specs.declared.event.Event.TheVariants as Ev
 use Rattle.machine_model.specs.declared.event.Outcome.{Outcome}
 use Rattle.machine_model.specs.declared.event.Outcome.TheVariants.{Stepped, Wait, Idle, Answered, Full}
 use Rattle.machine_model.specs.declared.phase.Phase.TheVariants.{Free}
-use Rattle.machine_model.specs.declared.log.Entry.TheVariants.{Answer}
-use Rattle.machine_model.specs.World.{World, Made, new_world}
 use Rattle.machine_model.specs.Actions.{Becomes}
-use Rattle.machine_model.specs.Step.{called, Begins as BeginsBy, Goes, Acts, counted, event_limit, Step, StepsTo}
-use Rattle.machine_sound.specs.Sound.{IsDue, IsReached}
+use Rattle.machine_model.specs.World.{World, new_world}
+use Rattle.machine_model.specs.Step.{after_call, Begins as BeginsBy, Acts, with_event, event_limit, Step}
+use Rattle.machine_sound.specs.Sound.{IsReached}
 use Rattle.machine_sound.proofs.Kept.{reached_opening, reached_step}
-use Rattle.machine_alone.specs.Alone.{IsCalm, LeadsTo, IsServed, IsServedAlone}
-use Rattle.machine_alone.proofs.Serving.{served_alone}
+use Rattle.machine_alone.proofs.Taking.{none_taken}
+use Rattle.machine_alone.specs.Alone.{IsBesideCalls, IsCalm, left_to}
 use Rattle.core_steps.specs.declared.machine.Finished.{Finished}
 use Rattle.core_steps.specs.declared.machine.Finished.TheVariants.{Last, Stuck}
 use Rattle.core_steps.specs.declared.setup.Setup.{Setup}
 use Rattle.core_steps.specs.Finishing.{EndsIn}
 use Rattle.core_steps.specs.Setups.{made_of}
 use Rattle.trace_text.specs.Line.{line_of}
+use Rattle.trace_text.specs.declared.action.Action.{Action}
+use Rattle.trace_text.specs.declared.action.Action.TheVariants as By
 use Rattle.trace_text.specs.declared.line.Line.{Line}
-use Rattle.trace_text.specs.declared.line.Line.TheVariants.{Blank, Space, Call, Go, Finish, Now}
+use Rattle.trace_text.specs.declared.line.Line.TheVariants.{Blank, Space, Act, Fold, Finish, Now}
+use Rattle.trace.specs.Events.{event_of}
 use Rattle.trace.specs.OutcomeText.{outcome_text, finished_text}
 use Rattle.trace.specs.Gives.{Gives, GoesOn, TellsFinish}
 use Rattle.trace.specs.Stage.{Stage, Start, Declared, Running, Opens, LineActs, EventActs}
 use Rattle.trace.specs.Runs.{Runs}
-use Rattle.trace.specs.PlainText.{Reached, nothing_reached, CallAnswers, NowAnswers, LineAnswers, AllAnswer, leaves_open, AreFinished}
-use Rattle.trace.proofs.Limits.{step_made, step_grows, go_requests}
+use Rattle.trace.specs.PlainText.{Open, Reached, nothing_reached, one_more, AnswersAtOnce, IsHeldUp, NowAnswers, FinishAnswers, OpenAnswers, Idles, TakeAnswers, ActAnswers, MayStep, LineAnswers, Overlaps, AllAnswer, takes_apart, AreWhole}
+use Rattle.trace.proofs.Limits.{step_grows}
+use Rattle.trace.proofs.PlainCalls.{Meets, MeetsOpen, IsNext, beside, calm_left, call_ends, finish_free, meets_beside, meets_event, meets_taken, open_ends, steps_kept}
 
--- ---- the state of a machine between two lines
+-- ---- a line of one event
 
-pub record Meets (w : World) (s : Reached) : Type 0 where
-  pub reached : IsReached w
-  pub calm : IsCalm w
-  pub cores : s.cores ≡ w.made.cores
-  pub calls : s.calls ≡ w.made.calls
-  pub begun : s.begun ≡ length w.calls.requests
-  pub log : LeadsTo w s.plain
+-- the core takes
+abbrev TakeSteps : Reached → Open → ℕ → Reached → List ℕ → Type 0
+TakeSteps s o core r text =
+    (r ≡ record s { waiting = Some (record o { takes = put o.takes core (pred (o.takes core)) }) }) × (text ≡ outcome_text Stepped)
 
--- ---- steps
+may_step : (w v : World) (s : Reached) (o : Outcome) (text : List ℕ) → Meets w s → IsReached v → (o ≡ Stepped) ⊎ (o ≡ Idle) → text ≡ outcome_text o → Meets v s
+    → IsNext v (λ r. MayStep s r text)
+may_step w v s o text m r (inl e) t k = record { next = s; answers = (refl, inl (t ∙ ap outcome_text e)); meets = k }
+may_step w v s o text m r (inr e) t k = record { next = s; answers = (refl, inr (t ∙ ap outcome_text e)); meets = k }
 
-steps_kept : (n core : ℕ) (w v : World) → StepsTo w core n v → (v.made ≡ w.made) × (v.calls.requests ≡ w.calls.requests) × (w.calls.events ≤ v.calls.events)
-steps_kept zero core w v s = (ap (λ (v : World). v.made) s, ap (λ (v : World). v.calls.requests) s, let h : v.calls.events ≡ w.calls.events = ap (λ (v : World). v.calls.events) s in omega (arith, h))
-steps_kept (suc n) core w v s =
-    let k = steps_kept n core w s.0 s.1 in (
-      step_made s.0 (Ev.Go core) Stepped v s.2 ∙ k.0,
-      go_requests s.0 core Stepped v s.2 ∙ k.1,
-      let a = k.2 in let b = step_grows s.0 (Ev.Go core) Stepped v s.2 in omega (arith, a, b),
-    )
+idle : (v : World) (s : Reached) (o : Outcome) (text : List ℕ) → o ≡ Idle → text ≡ outcome_text o → Meets v s → IsNext v (λ r. Idles s r text)
+idle v s o text e t k = record { next = s; answers = (refl, t ∙ ap outcome_text e); meets = k }
 
--- a core without a call goes no step
-idle_go : (w : World) (core : ℕ) (o : Outcome) (v : World) → w.calls.phase core ≡ Free → w.calls.events < event_limit → Step w (Ev.Go core) o v → (o ≡ Idle) × (v ≡ counted w)
-idle_go w core o v free below s = go (nat_lt w.calls.events event_limit) (nat_lt core w.made.cores) (grind (arith, nat_tests)) s
+some_left : (n : ℕ) → 0 < n → nat_lt 0 n ≡ true
+some_left n l = grind (arith, nat_tests)
+
+none_left : (n : ℕ) → n ≡ 0 → nat_lt 0 n ≡ false
+none_left n e = grind (arith, nat_tests)
+
+takes : (w v : World) (s : Reached) (core : ℕ) (o : Outcome) (text : List ℕ) → Meets w s → w.calls.events < event_limit → Step w (Ev.Take core) o v → text ≡ outcome_text o
+    → IsNext v (λ r. TakeAnswers s s.waiting core r text)
+takes w v s core o text m below k t =
+    let z = beside w v s (Ev.Take core) o m tt below k in
+    elim z.2 [
+      | inl h ↦ stepped s.waiting m.waiting z.0 z.1 h.0 h.1 h.2
+      | inr h ↦ rests s.waiting m.waiting h.0 h.1 (meets_beside w v s m z.0 z.1 h.2)
+    ]
   where
-    go : (a b : Bool) → a ≡ true → cond a (cond b (Acts (counted w) (Ev.Go core) o v) ((o ≡ Idle) × (v ≡ counted w))) ((o ≡ Full) × (v ≡ w)) → (o ≡ Idle) × (v ≡ counted w)
-    go true true e k = subst (λ phase. Goes (counted w) core phase o v) free k
-    go true false e k = k
-    go false b e k = absurd cc
-
-no_step : (w : World) (core : ℕ) (v : World) → w.calls.phase core ≡ Free → Step w (Ev.Go core) Stepped v → ⊥
-no_step w core v free s = go (nat_lt w.calls.events event_limit) (nat_lt core w.made.cores) s
-  where
-    go : (a b : Bool) → cond a (cond b (Acts (counted w) (Ev.Go core) Stepped v) ((Stepped ≡ Idle) × (v ≡ counted w))) ((Stepped ≡ Full) × (v ≡ w)) → ⊥
-    go true true k = let e : Stepped ≡ Idle = (subst (λ phase. Goes (counted w) core phase Stepped v) free k).0 in cc
-    go true false k = let e = k.0 in cc
-    go false b k = let e = k.0 in cc
-
-no_steps : (n core : ℕ) (w v : World) → w.calls.phase core ≡ Free → StepsTo w core (suc n) v → ⊥
-no_steps zero core w v free s = no_step w core v free (subst (λ m. Step m (Ev.Go core) Stepped v) s.1 s.2)
-no_steps (suc n) core w v free s = no_steps n core w s.0 free s.1
-
--- ---- a finish line
-
-pub record IsStill (w v : World) (s : Reached) (text : List ℕ) : Type 0 where
-  pub meets : Meets v s
-  pub tells : text ≡ outcome_text Idle
-
-idle_core : (w : World) (core : ℕ) (o : Outcome) (v : World) (s : Reached) (text : List ℕ) → Meets w s → w.calls.events < event_limit → Step w (Ev.Go core) o v → text ≡ outcome_text o → IsStill w v s text
-idle_core w core o v s text m below k t =
-    let h = idle_go w core o v (m.calm core) below k in
-    let f : IsReached v = reached_step w v (Ev.Go core) o m.reached k in
-    record {
-      meets = subst (λ v. Meets v s) (sym h.1) (record { reached = subst IsReached h.1 f; calm = m.calm; cores = m.cores; calls = m.calls; begun = m.begun; log = m.log });
-      tells = t ∙ ap outcome_text h.0;
+    stepped : (op : Option Open) → MeetsOpen w s op → IsReached v → IsBesideCalls w v → o ≡ Stepped → 0 < left_to w core
+        → ((d : ℕ) → left_to v d ≡ put (left_to w) core (pred (left_to w core)) d) → IsNext v (λ r. TakeAnswers s op core r text)
+    stepped None calm r b e l k = absurd (let n = calm_left w m.reached calm core in omega (arith, l, n))
+    stepped (Some op) z r b e l k = record {
+      next = record s { waiting = Some (record op { takes = put op.takes core (pred (op.takes core)) }) };
+      answers = subst (λ b. cond b (TakeSteps s op core (record s { waiting = Some (record op { takes = put op.takes core (pred (op.takes core)) }) }) text)
+          (Idles s (record s { waiting = Some (record op { takes = put op.takes core (pred (op.takes core)) }) }) text))
+          (sym (some_left (op.takes core) (subst (λ n. 0 < n) (z.takes core) l))) (refl, t ∙ ap outcome_text e);
+      meets = meets_taken w v s op core m z r b k;
     }
 
-finish_ends : (w : World) (core n : ℕ) (f : Finished) (v : World) (s : Reached) (text : List ℕ) → Meets w s → w.calls.events < event_limit → EndsIn w core n f v → text ≡ finished_text f → IsStill w v s text
-finish_ends w core zero (Last o) v s text m below h t = idle_core w core o v s text m below (subst (λ x. Step x (Ev.Go core) o v) h.2.1 h.2.2) t
-finish_ends w core (suc n) (Last o) v s text m below h t = absurd (no_steps n core w h.2.0 (m.calm core) h.2.1)
-finish_ends w core zero Stuck v s text m below h t = let z : 0 ≡ 2 ^ 40 = h.0 in absurd (omega (arith, z))
-finish_ends w core (suc n) Stuck v s text m below h t = absurd (no_steps n core w v (m.calm core) h.1)
-
--- ---- a call
-
--- what a call that began comes to
-pub record IsDone (w v : World) (s : Reached) (core : ℕ) (request : Request) (text : List ℕ) : Type 0 where
-  pub next : Reached
-  pub answers : CallAnswers s core request next text
-  pub meets : Meets v next
-
-served : (w begun v : World) (s : Reached) (core : ℕ) (request : Request) (o : Outcome) (text : List ℕ) (m : Meets w s) → begun.made ≡ w.made → begun.calls.requests ≡ w.calls.requests ++ request ∷ []
-    → v.made ≡ begun.made → v.calls.requests ≡ begun.calls.requests → IsServed w s.plain core request o v → text ≡ outcome_text o → IsDone w v s core request text
-served w begun v s core request o text m made asked same kept k t =
-    let due = k.due 0 0 in
-    let memory : k.reply ≢ NoMemory = λ e. subst (λ r. IsDue (Ev.Go core) w.memory.is_free (Answer 0 0 core r)) e due in
-    let count : length (w.calls.requests ++ request ∷ []) ≡ length w.calls.requests + 1 = length-append w.calls.requests (request ∷ []) in
-    let now : length v.calls.requests ≡ length (w.calls.requests ++ request ∷ []) = ap length (kept ∙ asked) in
-    let was = m.begun in
-    record {
-      next = record s { begun = suc s.begun; plain = k.after };
-      answers = (k.reply, (k.after, k.stands, memory, refl, t ∙ ap outcome_text k.answered));
-      meets = record {
-        reached = k.reached;
-        calm = k.calm;
-        cores = m.cores ∙ ap (λ (d : Made). d.cores) (sym (same ∙ made));
-        calls = m.calls ∙ ap (λ (d : Made). d.calls) (sym (same ∙ made));
-        begun = omega (arith, was, now, count);
-        log = k.leads;
-      };
+    rests : (op : Option Open) → MeetsOpen w s op → o ≡ Idle → (left_to w core ≡ 0) ⊎ (nat_lt core w.made.cores ≡ false) → Meets v s
+        → IsNext v (λ r. TakeAnswers s op core r text)
+    rests None calm e n k = idle v s o text e t k
+    rests (Some op) z e n k = record {
+      next = s;
+      answers = subst (λ b. cond b (TakeSteps s op core s text) (Idles s s text)) (sym (none n)) (refl, t ∙ ap outcome_text e);
+      meets = k;
     }
+      where
+        none : (left_to w core ≡ 0) ⊎ (nat_lt core w.made.cores ≡ false) → nat_lt 0 (op.takes core) ≡ false
+        none (inl l) = none_left (op.takes core) (sym (z.takes core) ∙ l)
+        none (inr a) = go (nat_lt 0 (op.takes core)) refl
+          where
+            go : (b : Bool) → nat_lt 0 (op.takes core) ≡ b → nat_lt 0 (op.takes core) ≡ false
+            go true i = absurd (let y = z.there core (grind (arith, nat_tests)) in cc)
+            go false i = i
 
-call_ends : (w begun : World) (core n : ℕ) (request : Request) (f : Finished) (v : World) (s : Reached) (text : List ℕ) (m : Meets w s) → Step w (Ev.Call core request) Stepped begun
-    → begun.made ≡ w.made → begun.calls.requests ≡ w.calls.requests ++ request ∷ [] → v.calls.events < event_limit → EndsIn begun core n f v → text ≡ finished_text f → IsDone w v s core request text
-call_ends w begun core n request (Last o) v s text m call made asked below h t =
-    let x = h.2.0 in
-    let k = steps_kept n core begun x h.2.1 in
-    let up = step_grows x (Ev.Go core) o v h.2.2 in
-    let alone : IsServedAlone w s.plain core request begun = served_alone w begun s.plain core request m.reached m.log m.calm call in
-    served w begun v s core request o text m made asked
-    (step_made x (Ev.Go core) o v h.2.2 ∙ k.0)
-    (go_requests x core o v h.2.2 ∙ k.1)
-    (alone.ends n x v o h.2.1 h.2.2 h.1 (omega (arith, up, below)))
-    t
-call_ends w begun core n request Stuck v s text m call made asked below h t =
-    let alone : IsServedAlone w s.plain core request begun = served_alone w begun s.plain core request m.reached m.log m.calm call in
-    let few = alone.short n v h.1 in
-    let all : n ≡ 2 ^ 40 = h.0 in
-    absurd (omega (arith, few, all))
+acts : (w v : World) (s : Reached) (core : ℕ) (action : Action) (o : Outcome) (text : List ℕ) → takes_apart (Some (Act core action)) ≡ false → Meets w s
+    → w.calls.events < event_limit → Step w (event_of core action) o v → text ≡ outcome_text o → IsNext v (λ r. ActAnswers s core action r text)
+acts w v s core (By.Call request) o text a m below k t = absurd cc
+acts w v s core By.Go o text a m below k t = absurd cc
+acts w v s core By.Take o text a m below k t = takes w v s core o text m below k t
+acts w v s core (By.Frame f) o text a m below k t =
+    let z = beside w v s (Ev.Frame core f) o m tt below k in idle v s o text z.2.0 t (meets_beside w v s m z.0 z.1 z.2.1)
+acts w v s core By.GiveUp o text a m below k t =
+    let z = beside w v s (Ev.GiveUp core) o m tt below k in idle v s o text z.2.0 t (meets_beside w v s m z.0 z.1 z.2.1)
+acts w v s core By.Flush o text a m below k t =
+    let z = beside w v s (Ev.Flush core) o m tt below k in may_step w v s o text m z.0 z.2.0 t (meets_beside w v s m z.0 z.1 z.2.1)
+acts w v s core By.Review o text a m below k t =
+    let z = beside w v s (Ev.Review core) o m tt below k in may_step w v s o text m z.0 z.2.0 t (meets_beside w v s m z.0 z.1 z.2.1)
+acts w v s core (By.Walk p) o text a m below k t =
+    let z = beside w v s (Ev.Walk core p) o m tt below k in may_step w v s o text m z.0 z.2.0 t (meets_beside w v s m z.0 z.1 z.2.1)
+acts w v s core (By.Evict p) o text a m below k t =
+    let z = beside w v s (Ev.Evict core p) o m tt below k in may_step w v s o text m z.0 z.2.0 t (meets_beside w v s m z.0 z.1 z.2.1)
+
+folds : (w v : World) (s : Reached) (p : ℕ) (o : Outcome) (text : List ℕ) → Meets w s → w.calls.events < event_limit → Step w (Ev.Fold p) o v → text ≡ outcome_text o
+    → IsNext v (λ r. MayStep s r text)
+folds w v s p o text m below k t =
+    let z = beside w v s (Ev.Fold p) o m tt below k in may_step w v s o text m z.0 z.2.0 t (meets_beside w v s m z.0 z.1 z.2.1)
+
+-- ---- a line that finishes a call
+
+finishes : (w : World) (core n : ℕ) (f : Finished) (v : World) (s : Reached) (text : List ℕ) → Meets w s → w.calls.events < event_limit → v.calls.events < event_limit
+    → EndsIn w core n f v → text ≡ finished_text f → IsNext v (λ r. FinishAnswers s s.waiting core r text)
+finishes w core n f v s text m low below h t = go s.waiting m.waiting
+  where
+    free : w.calls.phase core ≡ Free → IsNext v (λ r. Idles s r text)
+    free e = let z = finish_free w core n f v s text m e low h t in record { next = s; answers = (refl, z.0); meets = z.1 }
+
+    go : (op : Option Open) → MeetsOpen w s op → IsNext v (λ r. FinishAnswers s op core r text)
+    go None calm = free (calm core)
+    go (Some op) z = its (core == op.core) refl
+      where
+        its : (b : Bool) → (core == op.core) ≡ b → IsNext v (λ r. cond b (OpenAnswers s op r text) (Idles s r text))
+        its true e = open_ends w n f v s op text m z below (subst (λ c. EndsIn w c n f v) (eq_true core op.core e) h) t
+        its false e = free (z.waiting.others core (eq_false core op.core e))
 
 -- ---- a line with a call
 
-pub record IsToldOf (v : World) (s : Reached) (core : ℕ) (request : Request) (text : List ℕ) : Type 0 where
-  pub next : Reached
-  pub answers : NowAnswers s core request next text
-  pub meets : Meets v next
-
 -- what a Call comes to where no core has a call
 pub data Begins (w : World) (core : ℕ) (request : Request) (o : Outcome) (m : World) : Type 0 where
-  lacks : nat_lt core w.made.cores ≡ false → o ≡ Idle → m ≡ counted w → Begins w core request o m
-  fills : nat_lt core w.made.cores ≡ true → nat_lt (length w.calls.requests) w.made.calls ≡ false → o ≡ Full → m ≡ counted w → Begins w core request o m
-  starts : nat_lt core w.made.cores ≡ true → nat_lt (length w.calls.requests) w.made.calls ≡ true → o ≡ Stepped → m ≡ called core request (counted w) → Begins w core request o m
+  lacks : nat_lt core w.made.cores ≡ false → o ≡ Idle → m ≡ with_event w → Begins w core request o m
+  fills : nat_lt core w.made.cores ≡ true → nat_lt (length w.calls.requests) w.made.calls ≡ false → o ≡ Full → m ≡ with_event w → Begins w core request o m
+  starts : nat_lt core w.made.cores ≡ true → nat_lt (length w.calls.requests) w.made.calls ≡ true → o ≡ Stepped → m ≡ after_call core request (with_event w) → Begins w core request o m
 
 begins : (w : World) (core : ℕ) (request : Request) (o : Outcome) (m : World) → w.calls.phase core ≡ Free → w.calls.events < event_limit → Step w (Ev.Call core request) o m → Begins w core request o m
 begins w core request o m free below s = go (nat_lt w.calls.events event_limit) (nat_lt core w.made.cores) (grind (arith, nat_tests)) refl s
   where
-    may : (b : Bool) → nat_lt (length w.calls.requests) w.made.calls ≡ b → nat_lt core w.made.cores ≡ true → cond b (Becomes (called core request (counted w)) o m) ((o ≡ Full) × (m ≡ counted w)) → Begins w core request o m
+    may : (b : Bool) → nat_lt (length w.calls.requests) w.made.calls ≡ b → nat_lt core w.made.cores ≡ true → cond b (Becomes (after_call core request (with_event w)) o m) ((o ≡ Full) × (m ≡ with_event w)) → Begins w core request o m
     may true e inside k = starts inside e k.0 k.1
     may false e inside k = fills inside e k.0 k.1
 
-    go : (a b : Bool) → a ≡ true → nat_lt core w.made.cores ≡ b → cond a (cond b (Acts (counted w) (Ev.Call core request) o m) ((o ≡ Idle) × (m ≡ counted w))) ((o ≡ Full) × (m ≡ w)) → Begins w core request o m
-    go true true e i k = may (nat_lt (length w.calls.requests) w.made.calls) refl i (subst (λ phase. BeginsBy (counted w) core request phase o m) free k)
+    go : (a b : Bool) → a ≡ true → nat_lt core w.made.cores ≡ b → cond a (cond b (Acts (with_event w) (Ev.Call core request) o m) ((o ≡ Idle) × (m ≡ with_event w))) ((o ≡ Full) × (m ≡ w)) → Begins w core request o m
+    go true true e i k = may (nat_lt (length w.calls.requests) w.made.calls) refl i (subst (λ phase. BeginsBy (with_event w) core request phase o m) free k)
     go true false e i k = lacks i k.0 k.1
     go false b e i k = absurd cc
-
--- an outcome that ends the line: only the number of events moved
-stands_still : (w m v : World) (s : Reached) (core : ℕ) (request : Request) (o : Outcome) → Meets w s → Step w (Ev.Call core request) o m → m ≡ counted w → v ≡ m → Meets v s
-stands_still w m v s core request o k step e same =
-    let f : IsReached m = reached_step w m (Ev.Call core request) o k.reached step in
-    subst (λ v. Meets v s) (sym (same ∙ e)) (record { reached = subst IsReached e f; calm = k.calm; cores = k.cores; calls = k.calls; begun = k.begun; log = k.log })
 
 -- a test of two numbers that are others by another name
 by_name : (a b c d : ℕ) (x : Bool) → a ≡ b → c ≡ d → nat_lt b d ≡ x → nat_lt a c ≡ x
 by_name a b c d x e f h = ap (λ n. nat_lt n c) e ∙ ap (nat_lt b) f ∙ h
 
-told_one : (w m v : World) (s : Reached) (core : ℕ) (request : Request) (o : Outcome) (text : List ℕ) → Meets w s → Step w (Ev.Call core request) o m
-    → o ≢ Stepped → Begins w core request o m → v ≡ m → text ≡ outcome_text o → IsToldOf v s core request text
-told_one w m v s core request o text k step not b same t = elim b [
+-- what the line gives where the core is there, and a call may begin
+abbrev CallGives : Reached → ℕ → Request → Reached → List ℕ → Type 0
+CallGives s core request r text = AnswersAtOnce (one_more s request) core request r text ⊎ IsHeldUp (one_more s request) core request r text
+
+by_tests : (w : World) (s : Reached) (core : ℕ) (request : Request) (r : Reached) (text : List ℕ) (x y : Bool) → Meets w s → nat_lt core w.made.cores ≡ x
+    → nat_lt (length w.calls.requests) w.made.calls ≡ y
+    → cond x (cond y (CallGives s core request r text) ((r ≡ s) × (text ≡ outcome_text Full))) ((r ≡ s) × (text ≡ outcome_text Idle))
+    → NowAnswers s core request r text
+by_tests w s core request r text x y m i j h =
+    subst (λ x. cond x (cond (nat_lt s.begun s.calls) (CallGives s core request r text) ((r ≡ s) × (text ≡ outcome_text Full))) ((r ≡ s) × (text ≡ outcome_text Idle)))
+    (sym (by_name core core s.cores w.made.cores x refl m.cores i))
+    (subst (λ y. cond x (cond y (CallGives s core request r text) ((r ≡ s) × (text ≡ outcome_text Full))) ((r ≡ s) × (text ≡ outcome_text Idle)))
+    (sym (by_name s.begun (length w.calls.requests) s.calls w.made.calls y m.begun m.calls j)) h)
+
+stands_still : (w x v : World) (s : Reached) (core : ℕ) (request : Request) (o : Outcome) → Meets w s → Step w (Ev.Call core request) o x → x ≡ with_event w → v ≡ x
+    → Meets v s
+stands_still w x v s core request o m step e same =
+    let f : IsReached x = reached_step w x (Ev.Call core request) o m.reached step in
+    subst (λ v. Meets v s) (sym (same ∙ e)) (meets_event w s m (subst IsReached e f))
+
+-- no call began: only an event was counted
+told_one : (w x v : World) (s : Reached) (core : ℕ) (request : Request) (o : Outcome) (text : List ℕ) → Meets w s → Step w (Ev.Call core request) o x
+    → o ≢ Stepped → Begins w core request o x → v ≡ x → text ≡ outcome_text o → IsNext v (λ r. NowAnswers s core request r text)
+told_one w x v s core request o text m step not b same t = elim b [
   | lacks i e is ↦ record {
     next = s;
-    answers = subst (λ x. cond x (cond (nat_lt s.begun s.calls) (CallAnswers s core request s text) ((s ≡ s) × (text ≡ outcome_text Full))) ((s ≡ s) × (text ≡ outcome_text Idle)))
-        (sym (by_name core core s.cores w.made.cores false refl k.cores i)) (refl, t ∙ ap outcome_text e);
-    meets = stands_still w m v s core request o k step is same;
+    answers = by_tests w s core request s text false (nat_lt (length w.calls.requests) w.made.calls) m i refl (refl, t ∙ ap outcome_text e);
+    meets = stands_still w x v s core request o m step is same;
   }
   | fills i j e is ↦ record {
     next = s;
-    answers = subst (λ x. cond x (cond (nat_lt s.begun s.calls) (CallAnswers s core request s text) ((s ≡ s) × (text ≡ outcome_text Full))) ((s ≡ s) × (text ≡ outcome_text Idle)))
-        (sym (by_name core core s.cores w.made.cores true refl k.cores i))
-        (subst (λ x. cond x (CallAnswers s core request s text) ((s ≡ s) × (text ≡ outcome_text Full))) (sym (by_name s.begun (length w.calls.requests) s.calls w.made.calls false k.begun k.calls j)) (refl, t ∙ ap outcome_text e));
-    meets = stands_still w m v s core request o k step is same;
+    answers = by_tests w s core request s text true false m i j (refl, t ∙ ap outcome_text e);
+    meets = stands_still w x v s core request o m step is same;
   }
   | starts i j e is ↦ absurd (not e)
 ]
 
-told_call : (w m v : World) (s : Reached) (core : ℕ) (request : Request) (text : List ℕ) → Meets w s → Step w (Ev.Call core request) Stepped m
-    → Begins w core request Stepped m → v.calls.events < event_limit → TellsFinish m core v text → IsToldOf v s core request text
-told_call w m v s core request text k step b below h = elim b [
+told_call : (w x v : World) (s : Reached) (core : ℕ) (request : Request) (text : List ℕ) → Meets w s → IsCalm w → Step w (Ev.Call core request) Stepped x
+    → Begins w core request Stepped x → v.calls.events < event_limit → TellsFinish x core v text → IsNext v (λ r. NowAnswers s core request r text)
+told_call w x v s core request text m calm step b below h = elim b [
   | lacks i e is ↦ absurd cc
   | fills i j e is ↦ absurd cc
   | starts i j e is ↦
-      let d : IsDone w v s core request text = call_ends w m core h.1.0 request h.0 v s text k step (ap (λ (v : World). v.made) is) (ap (λ (v : World). v.calls.requests) is) below h.1.1 h.2 in
-      record {
-        next = d.next;
-        answers = subst (λ x. cond x (cond (nat_lt s.begun s.calls) (CallAnswers s core request d.next text) ((d.next ≡ s) × (text ≡ outcome_text Full))) ((d.next ≡ s) × (text ≡ outcome_text Idle)))
-            (sym (by_name core core s.cores w.made.cores true refl k.cores i))
-            (subst (λ x. cond x (CallAnswers s core request d.next text) ((d.next ≡ s) × (text ≡ outcome_text Full))) (sym (by_name s.begun (length w.calls.requests) s.calls w.made.calls true k.begun k.calls j)) d.answers);
-        meets = d.meets;
-      }
+      let d = call_ends w x core h.1.0 request h.0 v s text m calm step (ap (λ (v : World). v.made) is) (ap (λ (v : World). v.calls.requests) is) below h.1.1 h.2 in
+      record { next = d.next; answers = by_tests w s core request d.next text true true m i j d.answers; meets = d.meets }
 ]
 
-told : (w m v : World) (s : Reached) (core : ℕ) (request : Request) (o : Outcome) (text : List ℕ) → Meets w s → w.calls.events < event_limit → v.calls.events < event_limit
-    → Step w (Ev.Call core request) o m → GoesOn m core o v text → IsToldOf v s core request text
-told w m v s core request Stepped text k low below step h = told_call w m v s core request text k step (begins w core request Stepped m (k.calm core) low step) below h
-told w m v s core request (Wait b) text k low below step h = told_one w m v s core request (Wait b) text k step (λ e. cc) (begins w core request (Wait b) m (k.calm core) low step) h.0 h.1
-told w m v s core request Idle text k low below step h = told_one w m v s core request Idle text k step (λ e. cc) (begins w core request Idle m (k.calm core) low step) h.0 h.1
-told w m v s core request (Answered r) text k low below step h = told_one w m v s core request (Answered r) text k step (λ e. cc) (begins w core request (Answered r) m (k.calm core) low step) h.0 h.1
-told w m v s core request Full text k low below step h = told_one w m v s core request Full text k step (λ e. cc) (begins w core request Full m (k.calm core) low step) h.0 h.1
+told : (w x v : World) (s : Reached) (core : ℕ) (request : Request) (o : Outcome) (text : List ℕ) → Meets w s → IsCalm w → w.calls.events < event_limit
+    → v.calls.events < event_limit → Step w (Ev.Call core request) o x → GoesOn x core o v text → IsNext v (λ r. NowAnswers s core request r text)
+told w x v s core request Stepped text m calm low below step h = told_call w x v s core request text m calm step (begins w core request Stepped x (calm core) low step) below h
+told w x v s core request (Wait b) text m calm low below step h = told_one w x v s core request (Wait b) text m step (λ e. cc) (begins w core request (Wait b) x (calm core) low step) h.0 h.1
+told w x v s core request Idle text m calm low below step h = told_one w x v s core request Idle text m step (λ e. cc) (begins w core request Idle x (calm core) low step) h.0 h.1
+told w x v s core request (Answered r) text m calm low below step h = told_one w x v s core request (Answered r) text m step (λ e. cc) (begins w core request (Answered r) x (calm core) low step) h.0 h.1
+told w x v s core request Full text m calm low below step h = told_one w x v s core request Full text m step (λ e. cc) (begins w core request Full x (calm core) low step) h.0 h.1
 
 -- ---- events only rise
 
@@ -239,8 +234,8 @@ goes_grows m core Full v text h = same_events m v h.0
 gives_grows : (w : World) (line : Line) (v : World) (text : List ℕ) → Gives w line v text → w.calls.events ≤ v.calls.events
 gives_grows w Blank v text h = absurd h
 gives_grows w (Space cores frames calls) v text h = absurd h
-gives_grows w (Call core request) v text h = step_grows w (Ev.Call core request) h.0 v h.1
-gives_grows w (Go core) v text h = step_grows w (Ev.Go core) h.0 v h.1
+gives_grows w (Act core action) v text h = step_grows w (event_of core action) h.0 v h.1
+gives_grows w (Fold page) v text h = step_grows w (Ev.Fold page) h.0 v h.1
 gives_grows w (Finish core) v text h = finish_grows w core h.1.0 h.0 v h.1.1
 gives_grows w (Now core request) v text h =
     let a = step_grows w (Ev.Call core request) h.0 h.1 h.2 in let b = goes_grows h.1 core h.0 v text h.3 in omega (arith, a, b)
@@ -268,8 +263,8 @@ line_grows : (line : Line) (old new : Stage) (text : List ℕ) → LineActs old 
 unfolding events_of
 line_grows Blank old new text a = let h : events_of new ≡ events_of old = ap events_of a.0 in omega (arith, h)
 line_grows (Space cores frames calls) old new text a = let h : events_of old ≡ 0 = ap events_of a.0 in omega (arith, h)
-line_grows (Call core request) old new text a = event_grows (Call core request) old new text a
-line_grows (Go core) old new text a = event_grows (Go core) old new text a
+line_grows (Act core action) old new text a = event_grows (Act core action) old new text a
+line_grows (Fold page) old new text a = event_grows (Fold page) old new text a
 line_grows (Finish core) old new text a = event_grows (Finish core) old new text a
 line_grows (Now core request) old new text a = event_grows (Now core request) old new text a
 
@@ -287,17 +282,20 @@ lines_grow (l ∷ ls) old new text (mid, front, rest, short, acts, more, is) =
 
 abbrev pub ReachedAt : Stage → Reached → Type 0
 ReachedAt Start s = s ≡ nothing_reached
-ReachedAt (Declared d) s = s ≡ record nothing_reached { cores = d.cores; calls = d.calls }
+ReachedAt (Declared d) s = s ≡ record nothing_reached { cores = d.cores; frames = d.frames; calls = d.calls }
 ReachedAt (Running w) s = Meets w s
 
-meets_opening : (d : Setup) (slots : Slots) (s : Reached) → IsNew slots → s ≡ record nothing_reached { cores = d.cores; calls = d.calls } → Meets (new_world (made_of d) slots) s
+meets_opening : (d : Setup) (slots : Slots) (s : Reached) → IsNew slots → s ≡ record nothing_reached { cores = d.cores; frames = d.frames; calls = d.calls } → Meets (new_world (made_of d) slots) s
 meets_opening d slots s new e = subst (Meets (new_world (made_of d) slots)) (sym e) (record {
   reached = reached_opening (made_of d) slots (λ n. refl) new;
-  calm = λ c. refl;
   cores = refl;
   calls = refl;
   begun = refl;
   log = refl;
+  frames = refl;
+  taken = let z = none_taken (λ f. nat_lt f d.frames) d.frames (λ j l. grind (arith, nat_tests)) in omega (arith, z);
+  users = fun_ext (λ p. fun_ext (λ c. ap (λ o. is_recorded o c) (new.unmapped p)));
+  waiting = λ c. refl;
 })
 
 opened : (old : Stage) (w : World) (s : Reached) → ReachedAt old s → Opens old w → Meets w s
@@ -315,50 +313,72 @@ pub record IsPlain (line : Line) (new : Stage) (s : Reached) (text : List ℕ) :
 is_running : (new : Stage) (v : World) (s : Reached) → new ≡ Running v → Meets v s → ReachedAt new s
 is_running new v s e m = subst (λ x. ReachedAt x s) (sym e) m
 
-line_plain : (line : Line) (old new : Stage) (s : Reached) (text : List ℕ) → leaves_open (Some line) ≡ false → events_of new < event_limit → ReachedAt old s → LineActs old line new text → IsPlain line new s text
+plain_next : (line : Line) (new : Stage) (v : World) (s : Reached) (text : List ℕ) → new ≡ Running v → IsNext v (λ r. LineAnswers s line r text) → IsPlain line new s text
+plain_next line new v s text e k = record { next = k.next; answers = k.answers; reached = is_running new v k.next e k.meets }
+
+line_plain : (line : Line) (old new : Stage) (s : Reached) (text : List ℕ) → takes_apart (Some line) ≡ false → events_of new < event_limit → ReachedAt old s
+    → LineActs old line new text → Overlaps s.waiting line ⊎ IsPlain line new s text
 unfolding events_of
-line_plain Blank old new s text f below r a = record { next = s; answers = (refl, a.1); reached = subst (λ x. ReachedAt x s) (sym a.0) r }
+line_plain Blank old new s text f below r a = inr (record { next = s; answers = (refl, a.1); reached = subst (λ x. ReachedAt x s) (sym a.0) r })
 line_plain (Space cores frames calls) old new s text f below r a =
     let first : s ≡ nothing_reached = subst (λ x. ReachedAt x s) a.0 r in
-    record {
-      next = record s { cores = cores; calls = calls };
+    inr (record {
+      next = record s { cores = cores; frames = frames; calls = calls };
       answers = (refl, a.2);
-      reached = subst (λ x. ReachedAt x (record s { cores = cores; calls = calls })) (sym a.1) (ap (λ (s : Reached). record s { cores = cores; calls = calls }) first);
-    }
-line_plain (Call core request) old new s text f below r a = absurd cc
-line_plain (Go core) old new s text f below r a = absurd cc
+      reached = subst (λ x. ReachedAt x (record s { cores = cores; frames = frames; calls = calls })) (sym a.1) (ap (λ (s : Reached). record s { cores = cores; frames = frames; calls = calls }) first);
+    })
+line_plain (Act core action) old new s text f below r (w, v, opens, gives, is) =
+    let top : events_of new ≡ v.calls.events = ap events_of is in
+    let up = gives_grows w (Act core action) v text gives in
+    inr (plain_next (Act core action) new v s text is (acts w v s core action gives.0 text f (opened old w s r opens) (omega (arith, top, up, below)) gives.1 gives.2))
+line_plain (Fold page) old new s text f below r (w, v, opens, gives, is) =
+    let top : events_of new ≡ v.calls.events = ap events_of is in
+    let up = gives_grows w (Fold page) v text gives in
+    inr (plain_next (Fold page) new v s text is (folds w v s page gives.0 text (opened old w s r opens) (omega (arith, top, up, below)) gives.1 gives.2))
 line_plain (Finish core) old new s text f below r (w, v, opens, gives, is) =
     let top : events_of new ≡ v.calls.events = ap events_of is in
     let up = gives_grows w (Finish core) v text gives in
-    let k : IsStill w v s text = finish_ends w core gives.1.0 gives.0 v s text (opened old w s r opens) (omega (arith, top, up, below)) gives.1.1 gives.2 in
-    record { next = s; answers = (refl, k.tells); reached = is_running new v s is k.meets }
-line_plain (Now core request) old new s text f below r (w, v, opens, gives, is) =
-    let top : events_of new ≡ v.calls.events = ap events_of is in
-    let up = gives_grows w (Now core request) v text gives in
-    let k : IsToldOf v s core request text =
-    told w gives.1 v s core request gives.0 text (opened old w s r opens) (omega (arith, top, up, below)) (omega (arith, top, below)) gives.2 gives.3 in
-    record { next = k.next; answers = k.answers; reached = is_running new v k.next is k.meets }
+    inr (plain_next (Finish core) new v s text is
+    (finishes w core gives.1.0 gives.0 v s text (opened old w s r opens) (omega (arith, top, up, below)) (omega (arith, top, below)) gives.1.1 gives.2))
+line_plain (Now core request) old new s text f below r (w, v, opens, gives, is) = go s.waiting refl (opened old w s r opens).waiting
+  where
+    go : (op : Option Open) → s.waiting ≡ op → MeetsOpen w s op → Overlaps op (Now core request) ⊎ IsPlain (Now core request) new s text
+    go (Some op) e k = inl tt
+    go None e calm =
+        let top : events_of new ≡ v.calls.events = ap events_of is in
+        let up = gives_grows w (Now core request) v text gives in
+        inr (plain_next (Now core request) new v s text is
+        (told w gives.1 v s core request gives.0 text (opened old w s r opens) calm (omega (arith, top, up, below)) (omega (arith, top, below)) gives.2 gives.3))
 
 pub record IsPlainSome (line : Option Line) (new : Stage) (s : Reached) (text : List ℕ) : Type 0 where
   pub next : Reached
   pub answers : IsSomeAnd line (λ said. LineAnswers s said next text)
   pub reached : ReachedAt new next
 
-some_plain : (line : Option Line) (old new : Stage) (s : Reached) (text : List ℕ) → leaves_open line ≡ false → events_of new < event_limit → ReachedAt old s → IsSomeAnd line (λ l. LineActs old l new text)
-    → IsPlainSome line new s text
+some_plain : (line : Option Line) (old new : Stage) (s : Reached) (text : List ℕ) → takes_apart line ≡ false → events_of new < event_limit → ReachedAt old s
+    → IsSomeAnd line (λ l. LineActs old l new text) → IsSomeAnd line (λ said. Overlaps s.waiting said) ⊎ IsPlainSome line new s text
 some_plain None old new s text f below r a = absurd a
-some_plain (Some line) old new s text f below r a =
-    let k : IsPlain line new s text = line_plain line old new s text f below r a in record { next = k.next; answers = k.answers; reached = k.reached }
+some_plain (Some line) old new s text f below r a = elim (line_plain line old new s text f below r a) [
+  | inl over ↦ inl over
+  | inr k ↦ inr (record { next = k.next; answers = k.answers; reached = k.reached })
+]
 
 -- ---- lines
 
-all_plain : (lines : List (List ℕ)) (old new : Stage) (s : Reached) (text : List ℕ) → AreFinished lines → events_of new < event_limit → ReachedAt old s → Runs old lines new text → AllAnswer s lines text
+all_plain : (lines : List (List ℕ)) (old new : Stage) (s : Reached) (text : List ℕ) → AreWhole lines → events_of new < event_limit → ReachedAt old s
+    → Runs old lines new text → AllAnswer s lines text
 all_plain [] old new s text f below r h = h.1
 all_plain (l ∷ ls) old new s text f below r (mid, front, rest, short, acts, more, is) =
     let up = lines_grow ls mid new rest more in
-    let k : IsPlainSome (line_of l) mid s front = some_plain (line_of l) old mid s front f.0 (omega (arith, up, below)) r acts.acts in
-    (k.next, front, rest, k.answers, all_plain ls mid new k.next rest f.1 below k.reached more, is)
+    go (λ next reached. all_plain ls mid new next rest f.1 below reached more)
+    (some_plain (line_of l) old mid s front f.0 (omega (arith, up, below)) r acts.acts)
+  where
+    go : ((next : Reached) → ReachedAt mid next → AllAnswer next ls rest)
+        → IsSomeAnd (line_of l) (λ said. Overlaps s.waiting said) ⊎ IsPlainSome (line_of l) mid s front → AllAnswer s (l ∷ ls) text
+    go later (inl over) = inl over
+    go later (inr k) = inr (front, rest, is, (k.next, k.answers, later k.next k.reached))
 
-pub finished_traces_plain : (lines : List (List ℕ)) (text : List ℕ) (w : World) → AreFinished lines → Runs Start lines (Running w) text → w.calls.events < event_limit → AllAnswer nothing_reached lines text
+pub whole_traces_plain : (lines : List (List ℕ)) (text : List ℕ) (w : World) → AreWhole lines → Runs Start lines (Running w) text → w.calls.events < event_limit
+    → AllAnswer nothing_reached lines text
 unfolding events_of
-finished_traces_plain lines text w f r below = all_plain lines Start (Running w) nothing_reached text f below refl r
+whole_traces_plain lines text w f r below = all_plain lines Start (Running w) nothing_reached text f below refl r

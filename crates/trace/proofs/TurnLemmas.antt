@@ -6,7 +6,7 @@ use Rattle.trace_io.specs.Lines.{IsUnbroken, TakesLine}
 use Rattle.trace_text.specs.Words.{words_of}
 use Rattle.trace_text.specs.Line.{are_printable, begins_with_vm, line_of}
 use Rattle.trace_text.specs.declared.line.Line.{Line}
-use Rattle.trace_text.specs.declared.line.Line.TheVariants.{Blank, Space, Call, Go, Finish, Now}
+use Rattle.trace_text.specs.declared.line.Line.TheVariants.{Blank, Space, Act, Fold, Finish, Now}
 use Rattle.core_steps.specs.declared.setup.SetupFault.{SetupFault}
 use Rattle.core_steps.specs.Setups.{fault_of}
 use Rattle.trace.specs.declared.fault.TraceFault.{TraceFault}
@@ -56,8 +56,8 @@ own_said : (s : Stage) (n : â„•) (b : Bool) (l : Option Line) (f : TraceFault) â
 own_said s n b None f e = own_bad s n b f e
 own_said s n b (Some Blank) f e = absurd e
 own_said s n b (Some (Space x y z)) f e = own_space s n f e
-own_said s n b (Some (Call x y)) f e = own_open s f e
-own_said s n b (Some (Go x)) f e = own_open s f e
+own_said s n b (Some (Act x y)) f e = own_open s f e
+own_said s n b (Some (Fold x)) f e = own_open s f e
 own_said s n b (Some (Finish x)) f e = own_open s f e
 own_said s n b (Some (Now x y)) f e = own_open s f e
 

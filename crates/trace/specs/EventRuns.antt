@@ -17,7 +17,8 @@ use Rattle.core_steps.specs.Finishing.{finish_limit}
 use Rattle.core_steps.specs.Setups.{made_of}
 use Rattle.trace_text.specs.Line.{line_of}
 use Rattle.trace_text.specs.declared.line.Line.{Line}
-use Rattle.trace_text.specs.declared.line.Line.TheVariants.{Blank, Space, Call, Go, Finish, Now}
+use Rattle.trace_text.specs.declared.line.Line.TheVariants.{Blank, Space, Act, Fold, Finish, Now}
+use Rattle.trace.specs.Events.{event_of}
 use Rattle.trace.specs.OutcomeText.{outcome_text, finished_text}
 use Rattle.trace.specs.Stage.{Start, Running}
 use Rattle.trace.specs.Runs.{Runs}
@@ -49,8 +50,8 @@ AsksCall core request o es os text = (es ≡ Ev.Call core request ∷ []) × (os
 abbrev pub Asks : Line → List Event → List Outcome → List ℕ → Type 0
 Asks Blank es os text = (es ≡ []) × (os ≡ []) × (text ≡ [])
 Asks (Space cores frames calls) es os text = (es ≡ []) × (os ≡ []) × (text ≡ [])
-Asks (Call core request) es os text = AsksOne (Ev.Call core request) es os text
-Asks (Go core) es os text = AsksOne (Ev.Go core) es os text
+Asks (Act core action) es os text = AsksOne (event_of core action) es os text
+Asks (Fold page) es os text = AsksOne (Ev.Fold page) es os text
 Asks (Finish core) es os text = AsksFinish core es os text
 Asks (Now core request) es os text = (o : Outcome) × AsksCall core request o es os text
 

@@ -10,7 +10,8 @@ use Rattle.core_steps.specs.declared.machine.Finished.{Finished}
 use Rattle.core_steps.specs.Finishing.{Finishes, IsRefused}
 use Rattle.core_steps.specs.Moving.{MayWant}
 use Rattle.trace_text.specs.declared.line.Line.{Line}
-use Rattle.trace_text.specs.declared.line.Line.TheVariants.{Blank, Space, Call, Go, Finish, Now}
+use Rattle.trace_text.specs.declared.line.Line.TheVariants.{Blank, Space, Act, Fold, Finish, Now}
+use Rattle.trace.specs.Events.{event_of}
 use Rattle.trace.specs.OutcomeText.{outcome_text, finished_text}
 
 -- one step, and the text of its outcome
@@ -32,8 +33,8 @@ GoesOn m core Full v text = (v ≡ m) × (text ≡ outcome_text Full)
 abbrev pub Gives : World → Line → World → List ℕ → Type 0
 Gives w Blank v text = ⊥
 Gives w (Space cores frames calls) v text = ⊥
-Gives w (Call core request) v text = TellsStep w (Ev.Call core request) v text
-Gives w (Go core) v text = TellsStep w (Ev.Go core) v text
+Gives w (Act core action) v text = TellsStep w (event_of core action) v text
+Gives w (Fold page) v text = TellsStep w (Ev.Fold page) v text
 Gives w (Finish core) v text = TellsFinish w core v text
 Gives w (Now core request) v text = (o : Outcome) × (m : World) × Step w (Ev.Call core request) o m × GoesOn m core o v text
 
@@ -45,8 +46,8 @@ WantsFinish w core = (v : World) × IsRefused w core v
 abbrev pub Wants : World → Line → Type 0
 Wants w Blank = ⊥
 Wants w (Space cores frames calls) = ⊥
-Wants w (Call core request) = MayWant w (Ev.Call core request)
-Wants w (Go core) = MayWant w (Ev.Go core)
+Wants w (Act core action) = MayWant w (event_of core action)
+Wants w (Fold page) = MayWant w (Ev.Fold page)
 Wants w (Finish core) = WantsFinish w core
 Wants w (Now core request) = MayWant w (Ev.Call core request) ⊎ ((m : World) × Step w (Ev.Call core request) Stepped m × WantsFinish m core)
 
@@ -55,7 +56,7 @@ abbrev pub is_event : Option Line → Bool
 is_event None = false
 is_event (Some Blank) = false
 is_event (Some (Space cores frames calls)) = false
-is_event (Some (Call core request)) = true
-is_event (Some (Go core)) = true
+is_event (Some (Act core action)) = true
+is_event (Some (Fold page)) = true
 is_event (Some (Finish core)) = true
 is_event (Some (Now core request)) = true

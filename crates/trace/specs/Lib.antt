@@ -1,3 +1,4 @@
+pub mod Events
 pub mod Ends
 pub mod Gives
 pub mod OutcomeText

@@ -9,7 +9,7 @@ use Rattle.core_steps.specs.Setups.{fault_of, made_of}
 use Rattle.trace_text.specs.Words.{words_of}
 use Rattle.trace_text.specs.Line.{are_printable, begins_with_vm, line_of}
 use Rattle.trace_text.specs.declared.line.Line.{Line}
-use Rattle.trace_text.specs.declared.line.Line.TheVariants.{Blank, Space, Call, Go, Finish, Now}
+use Rattle.trace_text.specs.declared.line.Line.TheVariants.{Blank, Space, Act, Fold, Finish, Now}
 use Rattle.trace.specs.declared.fault.TraceFault.{TraceFault}
 use Rattle.trace.specs.declared.fault.TraceFault.TheVariants as By
 use Rattle.trace.specs.Gives.{Gives, Wants, is_event}
@@ -65,8 +65,8 @@ abbrev pub SaidFails : Stage → ℕ → Bool → Option Line → TraceFault →
 SaidFails s number is_vm None f = BadFails s number is_vm f
 SaidFails s number is_vm (Some Blank) f = ⊥
 SaidFails s number is_vm (Some (Space cores frames calls)) f = SpaceFails s number f
-SaidFails s number is_vm (Some (Call core request)) f = OpenFails s f
-SaidFails s number is_vm (Some (Go core)) f = OpenFails s f
+SaidFails s number is_vm (Some (Act core action)) f = OpenFails s f
+SaidFails s number is_vm (Some (Fold page)) f = OpenFails s f
 SaidFails s number is_vm (Some (Finish core)) f = OpenFails s f
 SaidFails s number is_vm (Some (Now core request)) f = OpenFails s f
 
@@ -95,8 +95,8 @@ EventActs old line new text = (w : World) × (v : World) × Opens old w × Gives
 abbrev pub LineActs : Stage → Line → Stage → List ℕ → Type 0
 LineActs old Blank new text = (new ≡ old) × (text ≡ [])
 LineActs old (Space cores frames calls) new text = (old ≡ Start) × (new ≡ Declared (record { cores = cores; frames = frames; calls = calls })) × (text ≡ [])
-LineActs old (Call core request) new text = EventActs old (Call core request) new text
-LineActs old (Go core) new text = EventActs old (Go core) new text
+LineActs old (Act core action) new text = EventActs old (Act core action) new text
+LineActs old (Fold page) new text = EventActs old (Fold page) new text
 LineActs old (Finish core) new text = EventActs old (Finish core) new text
 LineActs old (Now core request) new text = EventActs old (Now core request) new text
 

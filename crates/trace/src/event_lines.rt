@@ -2,20 +2,38 @@
 ghost use Rattle.std.specs.Prelude.{◌≡◌, ◌⊎◌, IfErr, OnErr, OnOk, IsSomeAnd, true, false};
 ghost use Rattle.core_steps.specs.Machine.{state};
 ghost use Rattle.core_steps.specs.Moving.{MayWant};
+ghost use Rattle.trace.specs.Events.{event_of};
 ghost use Rattle.trace.specs.Gives.{Gives, Wants, WantsFinish, is_event, TellsFinish, TellsStep};
 
 use crate::fault::TraceFault;
 use crate::outcome_text::{LineText, write_finished, write_outcome};
 use core_steps::Machine;
 use machine_model::{Event, Outcome};
-use slot_lock::RunList;
+use slot_lock::SlotMap;
 use std::alloc::Allocator;
-use trace_text::Line;
+use trace_text::{Action, Line};
 use vm_base::{CoreId, NoMemory, Request};
 
+// The event that the core's action is.
+fn event_of(core: CoreId, action: Action) -> Event
+    ensures { result ≡ event_of core action }
+{
+    match action {
+        Action::Call(request) => Event::Call(core, request),
+        Action::Go => Event::Go(core),
+        Action::Take => Event::Take(core),
+        Action::Flush => Event::Flush(core),
+        Action::Review => Event::Review(core),
+        Action::GiveUp => Event::GiveUp(core),
+        Action::Frame(frame) => Event::Frame(core, frame),
+        Action::Walk(page) => Event::Walk(core, page),
+        Action::Evict(page) => Event::Evict(core, page),
+    }
+}
+
 // One step.
-fn tell_step<A: Allocator + Clone + Drop>(
-    machine: &mut Machine<RunList<A>, A>,
+fn tell_step<M: SlotMap, A: Allocator + Clone>(
+    machine: &mut Machine<M, A>,
     event: Event,
     text: &mut LineText,
 ) -> Result<(), NoMemory>
@@ -27,9 +45,22 @@ fn tell_step<A: Allocator + Clone + Drop>(
     Ok(())
 }
 
+// One step, which the core is to do.
+fn tell_act<M: SlotMap, A: Allocator + Clone>(
+    machine: &mut Machine<M, A>,
+    core: CoreId,
+    action: Action,
+    text: &mut LineText,
+) -> Result<(), NoMemory>
+    ensures ok { OnOk result (Gives (state machine.old) (Line.Act core action) (state machine.new) text.new.bytes) }
+    ensures err { OnErr result (Wants (state machine.old) (Line.Act core action)) }
+{
+    tell_step(machine, event_of(core, action), text)
+}
+
 // All steps of the core's call.
-fn tell_finish<A: Allocator + Clone + Drop>(
-    machine: &mut Machine<RunList<A>, A>,
+fn tell_finish<M: SlotMap, A: Allocator + Clone>(
+    machine: &mut Machine<M, A>,
     core: CoreId,
     text: &mut LineText,
 ) -> Result<(), NoMemory>
@@ -42,8 +73,8 @@ fn tell_finish<A: Allocator + Clone + Drop>(
 }
 
 // A call, which is finished if it could begin.
-fn tell_call<A: Allocator + Clone + Drop>(
-    machine: &mut Machine<RunList<A>, A>,
+fn tell_call<M: SlotMap, A: Allocator + Clone>(
+    machine: &mut Machine<M, A>,
     core: CoreId,
     request: Request,
     text: &mut LineText,
@@ -62,8 +93,8 @@ fn tell_call<A: Allocator + Clone + Drop>(
 
 /// Moves the machine as the line says, and replaces the text by what it gives. A line that is bad, or the line of
 /// a space, is a bad line here, and nothing changes. At `NoMemory` the steps before the refused one stand.
-pub fn run_line<A: Allocator + Clone + Drop>(
-    machine: &mut Machine<RunList<A>, A>,
+pub fn run_line<M: SlotMap, A: Allocator + Clone>(
+    machine: &mut Machine<M, A>,
     line: Option<Line>,
     number: u64,
     text: &mut LineText,
@@ -75,8 +106,8 @@ pub fn run_line<A: Allocator + Clone + Drop>(
         return Err(TraceFault::BadLine(number));
     };
     let done = match line {
-        Line::Call(core, request) => tell_step(machine, Event::Call(core, request), text),
-        Line::Go(core) => tell_step(machine, Event::Go(core), text),
+        Line::Act(core, action) => tell_act(machine, core, action, text),
+        Line::Fold(page) => tell_step(machine, Event::Fold(page), text),
         Line::Finish(core) => tell_finish(machine, core, text),
         Line::Now(core, request) => tell_call(machine, core, request, text),
         Line::Blank | Line::Space { .. } => return Err(TraceFault::BadLine(number)),

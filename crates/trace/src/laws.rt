@@ -1,6 +1,6 @@
 //! What the lines of a trace come to, one after another.
 ghost use Rattle.trace.specs.EventRuns.{AllTracesAreRuns};
-ghost use Rattle.trace.specs.PlainText.{AllFinishedTracesArePlain};
+ghost use Rattle.trace.specs.PlainText.{AllWholeTracesArePlain};
 
 /// The lines that a replay acted on are one run of a machine: its events are those that the lines ask for, each line's text
 /// is that of its last outcome, the run's log is that of a plain page map (POSIX.1-2017, mmap, munmap and mprotect), and
@@ -9,9 +9,12 @@ pub fn traces_are_runs()
     ensures { AllTracesAreRuns }
 {}
 
-/// A trace that leaves no call open, having neither a `call` nor a `go` line, gives the text of the plain page map: line for
-/// line the reply of that map's next state, which no part of the machine is needed to tell. "No frame" may stand for an
-/// access that the map would serve, and changes nothing. At 2^64 - 1 events the machine stops counting, and nothing is said.
-pub fn finished_traces_are_plain()
-    ensures { AllFinishedTracesArePlain }
+/// A trace in which no line takes a call apart, and no call is made while another waits, gives the text of the plain page map: line for
+/// line the reply of that map's next state, or `wait acks` with just the cores that use a page whose users that reply drops, and later
+/// the reply, once each of them has taken twice. No part of the machine is needed to tell it, but that walks, evictions, flushes, reviews
+/// and folds may be `step` or `idle`. "No frame" may stand for an access that the map would serve only where more accesses were
+/// made than there are frames, and changes nothing. From the first call beside one that waits nothing is said, nor from 2^64 - 1 events on,
+/// where the machine stops counting.
+pub fn whole_traces_are_plain()
+    ensures { AllWholeTracesArePlain }
 {}

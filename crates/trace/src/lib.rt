@@ -11,4 +11,6 @@ pub mod replayer;
 pub use fault::TraceFault;
 
 #[cfg(test)]
+mod row_tests;
+#[cfg(test)]
 mod tests;

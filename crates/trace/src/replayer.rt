@@ -7,7 +7,9 @@ use crate::event_lines::run_line;
 use crate::fault::TraceFault;
 use crate::outcome_text::LineText;
 use core_steps::{Machine, Setup, SetupFault};
-use slot_lock::{RunList, SlotMap};
+use mmu::{Cpu, Hardware};
+use radix_range::RadixMap;
+use slot_lock::SlotMap;
 use std::alloc::Allocator;
 use trace_text::{Line, first_word_is_vm, is_printable, read_line};
 
@@ -33,18 +35,19 @@ pub trait Staged {
 #[derive(Drop)]
 pub struct Replayer<A: Allocator + Clone>
 where
-    RunList<A>: SlotMap,
+    RadixMap<A>: SlotMap,
+    Cpu<A>: Hardware,
 {
     alloc: A,
     setup: Option<Setup>,
-    machine: Option<Machine<RunList<A>, A>>,
+    machine: Option<Machine<RadixMap<A>, A>>,
 }
 
 // The machine that a setup makes.
 fn made<A: Allocator + Clone + Drop>(
     alloc: &A,
     setup: Option<Setup>,
-) -> Result<Machine<RunList<A>, A>, TraceFault>
+) -> Result<Machine<RadixMap<A>, A>, TraceFault>
     ensures ok { IfOk result (λ m. Opens (stage_of setup None) (state m)) }
     ensures err { IfErr result (λ f. OpenFails (stage_of setup None) f) }
 {
@@ -57,7 +60,7 @@ fn made<A: Allocator + Clone + Drop>(
     let Ok(for_map) = alloc.clone() else {
         return Err(TraceFault::Setup(SetupFault::NoMemory));
     };
-    let Ok(map) = RunList::new(for_map) else {
+    let Ok(map) = RadixMap::new(for_map) else {
         return Err(TraceFault::Setup(SetupFault::NoMemory));
     };
     let Ok(for_machine) = alloc.clone() else {
@@ -140,12 +143,12 @@ impl<A: Allocator + Clone + Drop> Staged for Replayer<A> {
     }
 
     fn finish(&self) -> Result<(), TraceFault> {
-        if self.machine.is_some() {
-            return Ok(());
-        }
-        match made(&self.alloc, self.setup) {
-            Ok(_) => Ok(()),
-            Err(fault) => Err(fault),
+        match &self.machine {
+            Some(_) => Ok(()),
+            None => match made(&self.alloc, self.setup) {
+                Ok(_) => Ok(()),
+                Err(fault) => Err(fault),
+            },
         }
     }
 }

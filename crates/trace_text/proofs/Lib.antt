@@ -4,6 +4,7 @@ pub mod FlagLemmas
 pub mod CoreLemmas
 pub mod LineLemmas
 pub mod RequestLemmas
+pub mod ActionLemmas
 pub mod PrintingLemmas
 pub mod NumberLemmas
 pub mod WordLemmas

@@ -8,14 +8,16 @@ use Rattle.std.specs.Io.BufRead.{ends_with_byte, strip_last}
 use Rattle.trace_text.proofs.Choices.{bind_some, ended_some, front_some, chosen}
 use Rattle.trace_text.proofs.RequestLemmas.{asked_is_read, read_is_asked}
 use Rattle.trace_text.proofs.SpellingLemmas.{number_all, number_only}
+use Rattle.trace_text.proofs.ActionLemmas.{act_is_read, page_all, page_only, only_action}
 use Rattle.trace_text.proofs.CoreLemmas.{core_all, core_only}
 use Rattle.trace_text.specs.Words.{Word, front_word}
 use Rattle.trace_text.specs.Number.{number_of}
 use Rattle.trace_text.specs.Request.{◌>>=◌, ended, request_of}
-use Rattle.trace_text.specs.Line.{calls_of, space_of, core_number, core_of, call_of, action_of, now_of, event_of, line_of_words}
+use Rattle.trace_text.specs.Action.{action_of, page_alone}
+use Rattle.trace_text.specs.Line.{calls_of, space_of, core_number, core_of, act_of, task_of, fold_of, now_of, event_of, line_of_words}
 use Rattle.trace_text.specs.Grammar.{Limits, Says, ReadsAll, ReadsOnly}
 use Rattle.trace_text.specs.declared.line.Line.{Line}
-use Rattle.trace_text.specs.declared.line.Line.TheVariants.{Blank, Space, Call, Go, Finish, Now}
+use Rattle.trace_text.specs.declared.line.Line.TheVariants.{Blank, Space, Act, Fold, Finish, Now}
 
 -- the bytes that name a core
 number_shape : (ds : List ℕ) (c : ℕ) → core_number ds ≡ Some c
@@ -50,16 +52,16 @@ core_shape w c p =
 no_bang : (d : ℕ) → 48 ≤ d → eqb d 33 ≡ false
 no_bang d h = grind (arith, nat_tests)
 
--- a line whose first word names a core says what the core does
-acts : (w : Word) (core : ℕ) (rest : List Word) → core_of w ≡ Some core → line_of_words (w ∷ rest) ≡ action_of core rest
+-- a line whose first word names a core says what the core is told
+acts : (w : Word) (core : ℕ) (rest : List Word) → core_of w ≡ Some core → line_of_words (w ∷ rest) ≡ task_of core rest
 unfolding line_of_words event_of
 acts w core rest k = elim (core_shape w core k) [
-  | inl (d, e, h) ↦ subst (λ v. line_of_words (v ∷ rest) ≡ action_of core rest) (sym e)
-      (ap (λ b. cond b (now_of (strip_last 33 (99 ∷ d ∷ [])) rest) (core_of (99 ∷ d ∷ []) >>= λ c. action_of c rest)) (no_bang d h)
-      ∙ ap (λ o. o >>= λ c. action_of c rest) (ap core_of (sym e) ∙ k))
-  | inr (d, f, e, h) ↦ subst (λ v. line_of_words (v ∷ rest) ≡ action_of core rest) (sym e)
-      (ap (λ b. cond b (now_of (strip_last 33 (99 ∷ d ∷ f ∷ [])) rest) (core_of (99 ∷ d ∷ f ∷ []) >>= λ c. action_of c rest)) (no_bang f h)
-      ∙ ap (λ o. o >>= λ c. action_of c rest) (ap core_of (sym e) ∙ k))
+  | inl (d, e, h) ↦ subst (λ v. line_of_words (v ∷ rest) ≡ task_of core rest) (sym e)
+      (ap (λ b. cond b (now_of (strip_last 33 (99 ∷ d ∷ [])) rest) (core_of (99 ∷ d ∷ []) >>= λ c. task_of c rest)) (no_bang d h)
+      ∙ ap (λ o. o >>= λ c. task_of c rest) (ap core_of (sym e) ∙ k))
+  | inr (d, f, e, h) ↦ subst (λ v. line_of_words (v ∷ rest) ≡ task_of core rest) (sym e)
+      (ap (λ b. cond b (now_of (strip_last 33 (99 ∷ d ∷ f ∷ [])) rest) (core_of (99 ∷ d ∷ f ∷ []) >>= λ c. task_of c rest)) (no_bang f h)
+      ∙ ap (λ o. o >>= λ c. task_of c rest) (ap core_of (sym e) ∙ k))
 ]
 
 now_read : (w : Word) (core : ℕ) (rest : List Word) → core_of w ≡ Some core → line_of_words ((w ++ codes "!") ∷ rest) ≡ now_of w rest
@@ -75,15 +77,15 @@ limits_all cores frames calls more (inl (e, n)) = rw (e, n) refl
 limits_all cores frames calls more (inr (w, e, n)) = let k : number_of w ≡ Some calls = number_all w calls n in rw (e, k) refl
 
 pub said_is_read : ReadsAll
-unfolding line_of_words space_of call_of action_of now_of
+unfolding line_of_words space_of fold_of task_of now_of
 said_is_read Blank words e = rw e refl
 said_is_read (Space cores frames calls) words (c, f, more, e, n, m, l) =
     let k : number_of c ≡ Some cores = number_all c cores n in
     let i : number_of f ≡ Some frames = number_all f frames m in
     rw (e, k, i) (limits_all cores frames calls more l)
-said_is_read (Call core request) words (c, args, e, k, a) =
-    ap line_of_words e ∙ acts c core (codes "call" ∷ args) (core_all c core k) ∙ ap (λ o. o >>= λ q. Some (Call core q)) (asked_is_read request args a)
-said_is_read (Go core) words (c, e, k) = ap line_of_words e ∙ acts c core (codes "go" ∷ []) (core_all c core k)
+said_is_read (Act core action) words (c, args, e, k, d) =
+    ap line_of_words e ∙ acts c core args (core_all c core k) ∙ act_is_read core action args d
+said_is_read (Fold page) words (a, e, s) = ap line_of_words e ∙ ap (λ o. o >>= λ p. Some (Fold p)) (page_all a page s)
 said_is_read (Finish core) words (c, e, k) = ap line_of_words e ∙ acts c core (codes "finish" ∷ []) (core_all c core k)
 said_is_read (Now core request) words (c, args, e, k, a) =
     let is : core_of c ≡ Some core = core_all c core k in
@@ -140,49 +142,52 @@ only_now name args line b e =
     subst (λ l. Says l (name ∷ args)) same
     (strip_last 33 name, args, ap (λ n. n ∷ args) (stripped name b), core_only (strip_last 33 name) core k, read_is_asked request args q)
 
-only_call : (name : Word) (core : ℕ) (args : List Word) (line : Line) → core_of name ≡ Some core → call_of core args ≡ Some line → Says line (name ∷ codes "call" ∷ args)
-unfolding call_of
-only_call name core args line k e =
-    let (request, q, e2) = bind_some (request_of args) (λ q. Some (Call core q)) line e in
-    let same : Call core request ≡ line = cc in
-    subst (λ l. Says l (name ∷ codes "call" ∷ args)) same (name, args, refl, core_only name core k, read_is_asked request args q)
+only_fold : (args : List Word) (line : Line) → fold_of args ≡ Some line → Says line (codes "fold" ∷ args)
+unfolding fold_of
+only_fold args line e =
+    let (page, k, e1) = bind_some (page_alone args) (λ p. Some (Fold p)) line e in
+    let same : Fold page ≡ line = cc in
+    let (a, is, s) = page_only args page k in
+    subst (λ l. Says l (codes "fold" ∷ args)) same (a, ap (λ ws. codes "fold" ∷ ws) is, s)
+
+only_act : (name : Word) (core : ℕ) (verb : Word) (args : List Word) (line : Line) → core_of name ≡ Some core → act_of core verb args ≡ Some line
+    → Says line (name ∷ verb ∷ args)
+unfolding act_of
+only_act name core verb args line k e =
+    let (action, d, e1) = bind_some (action_of verb args) (λ a. Some (Act core a)) line e in
+    let same : Act core action ≡ line = cc in
+    subst (λ l. Says l (name ∷ verb ∷ args)) same (name, verb ∷ args, refl, core_only name core k, only_action verb args action d)
 
 -- a word that the test knew
 word_is : (w t : Word) → bytes_eq w t ≡ true → w ≡ t
 word_is w t b = (bytes_eq-Decides w t).0 b
 
-only_action : (name : Word) (core : ℕ) (args : List Word) (line : Line) → core_of name ≡ Some core → action_of core args ≡ Some line → Says line (name ∷ args)
-unfolding action_of
-only_action name core args line k a =
+only_task : (name : Word) (core : ℕ) (args : List Word) (line : Line) → core_of name ≡ Some core → task_of core args ≡ Some line → Says line (name ∷ args)
+unfolding task_of
+only_task name core args line k a =
     let (verb, ev, e1) = bind_some (front_word args) _ line a in
     let is = front_some args verb ev in
-    elim (chosen (bytes_eq verb.0 (codes "call")) _ _ (Some line) e1) [
-      | inl h ↦ subst (λ ws. Says line (name ∷ ws)) (sym (is ∙ ap (λ w. w ∷ verb.1) (word_is verb.0 (codes "call") h.0)))
-          (only_call name core verb.1 line k h.1)
-      | inr h ↦ elim (chosen (bytes_eq verb.0 (codes "go")) _ _ (Some line) h.1) [
-        | inl g ↦ let (none, same) = ended_some verb.1 (Go core) line g.1 in
-            subst (λ l. Says l (name ∷ args)) same
-            (name, ap (λ ws. name ∷ ws) (is ∙ ap (λ w. w ∷ verb.1) (word_is verb.0 (codes "go") g.0) ∙ ap (λ ws. codes "go" ∷ ws) none), core_only name core k)
-        | inr g ↦ elim (chosen (bytes_eq verb.0 (codes "finish")) _ _ (Some line) g.1) [
-          | inl f ↦ let (none, same) = ended_some verb.1 (Finish core) line f.1 in
-              subst (λ l. Says l (name ∷ args)) same
-              (name, ap (λ ws. name ∷ ws) (is ∙ ap (λ w. w ∷ verb.1) (word_is verb.0 (codes "finish") f.0) ∙ ap (λ ws. codes "finish" ∷ ws) none), core_only name core k)
-          | inr f ↦ let bad = f.1 in absurd (cc)
-        ]
-      ]
+    elim (chosen (bytes_eq verb.0 (codes "finish")) _ _ (Some line) e1) [
+      | inl f ↦ let (none, same) = ended_some verb.1 (Finish core) line f.1 in
+          subst (λ l. Says l (name ∷ args)) same
+          (name, ap (λ ws. name ∷ ws) (is ∙ ap (λ w. w ∷ verb.1) (word_is verb.0 (codes "finish") f.0) ∙ ap (λ ws. codes "finish" ∷ ws) none), core_only name core k)
+      | inr f ↦ subst (λ ws. Says line (name ∷ ws)) (sym is) (only_act name core verb.0 verb.1 line k f.1)
     ]
 
 only_event : (name : Word) (args : List Word) (line : Line) → event_of name args ≡ Some line → Says line (name ∷ args)
 unfolding event_of
-only_event name args line e = elim (chosen (ends_with_byte 33 name) (now_of (strip_last 33 name) args) (core_of name >>= λ core. action_of core args) (Some line) e) [
+only_event name args line e = elim (chosen (ends_with_byte 33 name) (now_of (strip_last 33 name) args) (core_of name >>= λ core. task_of core args) (Some line) e) [
   | inl h ↦ only_now name args line h.0 h.1
-  | inr h ↦ let (core, k, a) = bind_some (core_of name) (λ core. action_of core args) line h.1 in only_action name core args line k a
+  | inr h ↦ let (core, k, a) = bind_some (core_of name) (λ core. task_of core args) line h.1 in only_task name core args line k a
 ]
 
 pub read_is_said : ReadsOnly
 unfolding line_of_words
 read_is_said line [] e = let same : Blank ≡ line = cc in subst (λ l. Says l []) same refl
-read_is_said line (name ∷ args) e = elim (chosen (bytes_eq name (codes "vm")) (space_of args) (event_of name args) (Some line) e) [
+read_is_said line (name ∷ args) e = elim (chosen (bytes_eq name (codes "vm")) (space_of args) _ (Some line) e) [
   | inl h ↦ subst (λ w. Says line (w ∷ args)) (sym (word_is name (codes "vm") h.0)) (only_space args line h.1)
-  | inr h ↦ only_event name args line h.1
+  | inr h ↦ elim (chosen (bytes_eq name (codes "fold")) (fold_of args) (event_of name args) (Some line) h.1) [
+    | inl k ↦ subst (λ w. Says line (w ∷ args)) (sym (word_is name (codes "fold") k.0)) (only_fold args line k.1)
+    | inr k ↦ only_event name args line k.1
+  ]
 ]

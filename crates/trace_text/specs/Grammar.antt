@@ -1,4 +1,4 @@
--- The grammar of lines and of requests, by what is said.
+-- The grammar of lines, actions and requests, by what is said.
 use Rattle.std.specs.Prelude.{◌≡◌, ℕ, ◌^◌, ◌<◌, ◌≤◌, decimal, true, List, [], ◌∷◌, ◌++◌, ◌⊎◌, Some, codes}
 use Rattle.vm_base.specs.declared.requests.Flags.{Flags}
 use Rattle.vm_base.specs.declared.requests.Request.{Request}
@@ -6,10 +6,12 @@ use Rattle.vm_base.specs.declared.requests.Request.TheVariants.{Mmap, Munmap, Mp
 use Rattle.trace_text.specs.Words.{Word}
 use Rattle.trace_text.specs.Number.{number_of}
 use Rattle.trace_text.specs.Printing.{address_of}
-use Rattle.trace_text.specs.Spelling.{SpellsNumber, SpellsFlags, SpellsCore, rights_text}
+use Rattle.trace_text.specs.Spelling.{SpellsNumber, SpellsPage, SpellsFlags, SpellsCore, rights_text}
 use Rattle.trace_text.specs.Line.{line_of_words}
+use Rattle.trace_text.specs.declared.action.Action.{Action}
+use Rattle.trace_text.specs.declared.action.Action.TheVariants.{Call, Go, Take, Flush, Review, GiveUp, Frame, Walk, Evict}
 use Rattle.trace_text.specs.declared.line.Line.{Line}
-use Rattle.trace_text.specs.declared.line.Line.TheVariants.{Blank, Space, Call, Go, Finish, Now}
+use Rattle.trace_text.specs.declared.line.Line.TheVariants.{Blank, Space, Act, Fold, Finish, Now}
 
 -- the words after the flags: a file and an offset, both 0 where a mapping of zero bytes leaves them out
 abbrev pub Backs : Flags → ℕ → ℕ → List Word → Type 0
@@ -29,6 +31,18 @@ Asks (Store addr byte) words = (a : Word) × (b : Word) × (words ≡ codes "sto
     × SpellsNumber a addr × SpellsNumber b byte × (byte ≤ 255)
 Asks (Fetch addr) words = (a : Word) × (words ≡ codes "fetch" ∷ a ∷ []) × SpellsNumber a addr
 
+-- the words behind a core's name say this action
+abbrev pub Does : Action → List Word → Type 0
+Does (Call request) words = (args : List Word) × (words ≡ codes "call" ∷ args) × Asks request args
+Does Go words = words ≡ codes "go" ∷ []
+Does Take words = words ≡ codes "take" ∷ []
+Does Flush words = words ≡ codes "flush" ∷ []
+Does Review words = words ≡ codes "review" ∷ []
+Does GiveUp words = words ≡ codes "giveup" ∷ []
+Does (Frame frame) words = (f : Word) × (words ≡ codes "frame" ∷ f ∷ []) × SpellsNumber f frame
+Does (Walk page) words = (a : Word) × (words ≡ codes "walk" ∷ a ∷ []) × SpellsPage a page
+Does (Evict page) words = (a : Word) × (words ≡ codes "evict" ∷ a ∷ []) × SpellsPage a page
+
 -- the words after CORES and FRAMES: CALLS, which is 4096 where left out
 abbrev pub Limits : ℕ → List Word → Type 0
 Limits calls words = ((words ≡ []) × (calls ≡ 4096)) ⊎ ((w : Word) × (words ≡ w ∷ []) × SpellsNumber w calls)
@@ -38,8 +52,8 @@ abbrev pub Says : Line → List Word → Type 0
 Says Blank words = words ≡ []
 Says (Space cores frames calls) words = (c : Word) × (f : Word) × (more : List Word)
     × (words ≡ codes "vm" ∷ c ∷ f ∷ more) × SpellsNumber c cores × SpellsNumber f frames × Limits calls more
-Says (Call core request) words = (c : Word) × (args : List Word) × (words ≡ c ∷ codes "call" ∷ args) × SpellsCore c core × Asks request args
-Says (Go core) words = (c : Word) × (words ≡ c ∷ codes "go" ∷ []) × SpellsCore c core
+Says (Act core action) words = (c : Word) × (args : List Word) × (words ≡ c ∷ args) × SpellsCore c core × Does action args
+Says (Fold page) words = (a : Word) × (words ≡ codes "fold" ∷ a ∷ []) × SpellsPage a page
 Says (Finish core) words = (c : Word) × (words ≡ c ∷ codes "finish" ∷ []) × SpellsCore c core
 Says (Now core request) words = (c : Word) × (args : List Word) × (words ≡ (c ++ codes "!") ∷ args) × SpellsCore c core × Asks request args
 

@@ -6,8 +6,9 @@ use Rattle.std.specs.Io.BufRead.{ends_with_byte, strip_last}
 use Rattle.trace_text.specs.Words.{Word, byte, words_of, front_word}
 use Rattle.trace_text.specs.Number.{number_of}
 use Rattle.trace_text.specs.Request.{◌>>=◌, ended, request_of}
+use Rattle.trace_text.specs.Action.{action_of, page_alone}
 use Rattle.trace_text.specs.declared.line.Line.{Line}
-use Rattle.trace_text.specs.declared.line.Line.TheVariants.{Blank, Space, Call, Go, Finish, Now}
+use Rattle.trace_text.specs.declared.line.Line.TheVariants.{Blank, Space, Act, Fold, Finish, Now}
 
 -- each byte is printable ASCII, from the space to the tilde
 abbrev pub are_printable : List ℕ → Bool
@@ -54,18 +55,16 @@ abbrev pub core_of : Word → Option ℕ
 core_of [] = None
 core_of (c ∷ cs) = if c == byte (codes "c") then core_number cs else None
 
-unfoldable pub call_of : ℕ → List Word → Option Line
-call_of core words = do
-  request ← request_of words
-  Some (Call core request)
+unfoldable pub act_of : ℕ → Word → List Word → Option Line
+act_of core name args = do
+  action ← action_of name args
+  Some (Act core action)
 
--- what a core does: begins a call, takes a step or finishes
-unfoldable pub action_of : ℕ → List Word → Option Line
-action_of core words = do
+-- what a core is told: an action, or to finish its call
+unfoldable pub task_of : ℕ → List Word → Option Line
+task_of core words = do
   name ← front_word words
-  if bytes_eq name.0 (codes "call") then call_of core name.1
-      else if bytes_eq name.0 (codes "go") then ended name.1 (Go core)
-      else if bytes_eq name.0 (codes "finish") then ended name.1 (Finish core) else None
+  if bytes_eq name.0 (codes "finish") then ended name.1 (Finish core) else act_of core name.0 name.1
 
 unfoldable pub now_of : Word → List Word → Option Line
 now_of word args = do
@@ -73,15 +72,21 @@ now_of word args = do
   request ← request_of args
   Some (Now core request)
 
--- a line of a core: `cC! REQ`, or `cC` and what it does
+-- a line of a core: `cC! REQ`, or `cC` and what it is told
 unfoldable pub event_of : Word → List Word → Option Line
 event_of name args = if ends_with_byte (byte (codes "!")) name then now_of (strip_last (byte (codes "!")) name) args
-    else (core_of name >>= λ core. action_of core args)
+    else (core_of name >>= λ core. task_of core args)
+
+unfoldable pub fold_of : List Word → Option Line
+fold_of words = do
+  page ← page_alone words
+  Some (Fold page)
 
 -- what the words of a line say; no word says nothing
 unfoldable pub line_of_words : List Word → Option Line
 line_of_words [] = Some Blank
-line_of_words (name ∷ args) = if bytes_eq name (codes "vm") then space_of args else event_of name args
+line_of_words (name ∷ args) = if bytes_eq name (codes "vm") then space_of args
+    else if bytes_eq name (codes "fold") then fold_of args else event_of name args
 
 -- what printable bytes say; a line that begins with # says nothing
 abbrev pub line_of : List ℕ → Option Line

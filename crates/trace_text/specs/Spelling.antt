@@ -1,7 +1,8 @@
--- What a word spells: a number, rights, flags or a core.
+-- What a word spells: a number, a page, rights, flags or a core.
 use Rattle.std.specs.Prelude.{◌≡◌, ℕ, ◌+◌, ◌^◌, ◌<◌, ◌⊎◌, Bool, true, false, List, [], ◌∷◌, ◌++◌, Some, if◌then◌else◌, ◌==◌, codes, decimal, length, slice_get}
 use Rattle.std.specs.Int.Digits.{number_from_digits}
 use Rattle.std.specs.List.{AllZip}
+use Rattle.vm_base.specs.Pages.{page_of}
 use Rattle.vm_base.specs.declared.rights.Prot.{Prot}
 use Rattle.vm_base.specs.declared.requests.Flags.{Flags}
 use Rattle.trace_text.specs.Words.{Word, byte}
@@ -21,6 +22,10 @@ pub record SpellsIn (base : ℕ) (word : Word) (n : ℕ) : Type 0 where
 -- a number below 2^64: decimal, or hexadecimal after 0x
 abbrev pub SpellsNumber : Word → ℕ → Type 0
 SpellsNumber word n = (n < 2 ^ 64) × (SpellsIn 10 word n ⊎ ((digits : Word) × (word ≡ codes "0x" ++ digits) × SpellsIn 16 digits n))
+
+-- an address below 2^64, which lies in the page
+abbrev pub SpellsPage : Word → ℕ → Type 0
+SpellsPage word page = (addr : ℕ) × SpellsNumber word addr × (page ≡ page_of addr)
 
 -- a right's letter, or a dash where it isn't given
 abbrev pub mark : Bool → List ℕ → List ℕ

@@ -1,9 +1,10 @@
-//! The lines of a core: `cC call REQ`, `cC go`, `cC finish` and `cC! REQ`.
+//! The lines of a core: `cC` and what it is to do, `cC finish` and `cC! REQ`.
 ghost use Rattle.std.specs.Prelude.{◌≡◌, ◌<◌, ◌≤◌, option_map, IfSome};
 ghost use Rattle.trace_text.specs.Words.{words_of};
 ghost use Rattle.trace_text.specs.Request.{ended};
-ghost use Rattle.trace_text.specs.Line.{action_of, call_of, core_number, core_of, event_of};
+ghost use Rattle.trace_text.specs.Line.{act_of, core_number, core_of, event_of, task_of};
 
+use crate::action::read_action;
 use crate::line::Line;
 use crate::request::read_request;
 use crate::words::next_word;
@@ -36,12 +37,12 @@ pub fn read_core(word: &[u8]) -> Option<CoreId>
     }
 }
 
-#[tactic(auto, unfolding(crate::specs::Line::call_of))]
-fn read_call(core: CoreId, args: &[u8]) -> Option<Line>
-    ensures { result ≡ call_of core (words_of args.now) }
+#[tactic(auto, unfolding(crate::specs::Line::act_of))]
+fn read_act(core: CoreId, name: &[u8], args: &[u8]) -> Option<Line>
+    ensures { result ≡ act_of core name.now (words_of args.now) }
 {
-    let request = read_request(args)?;
-    Some(Line::Call(core, request))
+    let action = read_action(name, args)?;
+    Some(Line::Act(core, action))
 }
 
 // The line, if no word is left.
@@ -54,19 +55,15 @@ fn read_end(line: Line, rest: &[u8]) -> Option<Line>
     }
 }
 
-#[tactic(auto, unfolding(crate::specs::Line::action_of))]
-fn read_action(core: CoreId, args: &[u8]) -> Option<Line>
-    ensures { result ≡ action_of core (words_of args.now) }
+#[tactic(auto, unfolding(crate::specs::Line::task_of))]
+fn read_task(core: CoreId, words: &[u8]) -> Option<Line>
+    ensures { result ≡ task_of core (words_of words.now) }
 {
-    let (name, rest) = next_word(args)?;
-    if name == b"call".as_slice() {
-        read_call(core, rest)
-    } else if name == b"go".as_slice() {
-        read_end(Line::Go(core), rest)
-    } else if name == b"finish".as_slice() {
-        read_end(Line::Finish(core), rest)
+    let (name, args) = next_word(words)?;
+    if name == b"finish".as_slice() {
+        read_end(Line::Finish(core), args)
     } else {
-        None
+        read_act(core, name, args)
     }
 }
 
@@ -83,7 +80,7 @@ pub fn read_core_line(name: &[u8], args: &[u8]) -> Option<Line>
         }
         _ => {
             let core = read_core(name)?;
-            read_action(core, args)
+            read_task(core, args)
         }
     }
 }

@@ -1,6 +1,7 @@
 //! The text of traces: what a line says, and what a reply is written as.
 #![tactic(auto)]
 
+pub mod action;
 pub mod core_line;
 pub mod grammar;
 pub mod line;
@@ -10,6 +11,7 @@ pub mod request;
 pub mod space_line;
 pub mod words;
 
+pub use action::Action;
 pub use line::{Line, first_word_is_vm, is_printable, read_line};
 pub use printing::{ShortText, address_text, number_text, reply_text};
 

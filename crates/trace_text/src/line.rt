@@ -1,8 +1,9 @@
 //! What a line of a trace says.
 ghost use Rattle.std.specs.Prelude.{◌≡◌, option_map};
 ghost use Rattle.trace_text.specs.Words.{words_of};
-ghost use Rattle.trace_text.specs.Line.{are_printable, begins_with_vm, line_of, line_of_words};
+ghost use Rattle.trace_text.specs.Line.{are_printable, begins_with_vm, fold_of, line_of, line_of_words};
 
+use crate::action::{Action, read_page_alone};
 use crate::core_line::read_core_line;
 use crate::space_line::read_space;
 use crate::words::next_word;
@@ -15,10 +16,10 @@ pub enum Line {
     Blank,
     /// `vm CORES FRAMES CALLS`: a space of so many cores and frames, in which so many calls may begin.
     Space { cores: u64, frames: u64, calls: u64 },
-    /// `cC call REQ`: the core begins a call.
-    Call(CoreId, Request),
-    /// `cC go`: one step of the core's call.
-    Go(CoreId),
+    /// `cC` and an action: the core does it.
+    Act(CoreId, Action),
+    /// `fold ADDR`: slots are joined at the page with this number.
+    Fold(u64),
     /// `cC finish`: all steps of the core's call.
     Finish(CoreId),
     /// `cC! REQ`: the core begins a call and finishes it.
@@ -42,6 +43,14 @@ pub fn first_word_is_vm(bytes: &[u8]) -> bool
     }
 }
 
+#[tactic(auto, unfolding(crate::specs::Line::fold_of))]
+fn read_fold(args: &[u8]) -> Option<Line>
+    ensures { result ≡ fold_of (words_of args.now) }
+{
+    let page = read_page_alone(args)?;
+    Some(Line::Fold(page))
+}
+
 #[tactic(auto, unfolding(crate::specs::Line::line_of_words))]
 fn read_words(bytes: &[u8]) -> Option<Line>
     ensures { result ≡ line_of_words (words_of bytes.now) }
@@ -51,6 +60,8 @@ fn read_words(bytes: &[u8]) -> Option<Line>
     };
     if name == b"vm".as_slice() {
         read_space(args)
+    } else if name == b"fold".as_slice() {
+        read_fold(args)
     } else {
         read_core_line(name, args)
     }

@@ -1,4 +1,5 @@
 //! Lines as the format's description gives them, good and bad, and the texts of replies.
+use crate::action::Action;
 use crate::line::{Line, first_word_is_vm, is_printable, read_line};
 use crate::printing::{address_text, number_text, reply_text};
 use vm_base::{CoreId, Errno, Flags, Prot, Reply, Request, SegvCode};
@@ -105,18 +106,48 @@ fn requests_of_a_core(rt: HostRuntime) {
     }
 }
 
+// An address stands for its page, the last byte of a page too.
 #[test]
-fn other_lines_of_a_core(rt: HostRuntime) {
-    let request = Request::Load { addr: 0 };
-    assert_eq!(rt;
-        read_line(b"c7 call load 0"),
-        Some(Line::Call(CoreId::new(7), request))
-    );
-    assert_eq!(rt; read_line(b"c63 go"), Some(Line::Go(CoreId::new(63))));
-    assert_eq!(rt;
-        read_line(b"c10 finish "),
-        Some(Line::Finish(CoreId::new(10)))
-    );
+fn actions_of_a_core(rt: HostRuntime) {
+    for (text, core, action) in [
+        (
+            b"c7 call load 0".as_slice(),
+            7,
+            Action::Call(Request::Load { addr: 0 }),
+        ),
+        (b"c63 go".as_slice(), 63, Action::Go),
+        (b"c1  take".as_slice(), 1, Action::Take),
+        (b"c0 flush ".as_slice(), 0, Action::Flush),
+        (b"c0 review".as_slice(), 0, Action::Review),
+        (b"c2 giveup".as_slice(), 2, Action::GiveUp),
+        (b"c0 frame 3".as_slice(), 0, Action::Frame(3)),
+        (
+            b"c0 frame 18446744073709551615".as_slice(),
+            0,
+            Action::Frame(u64::MAX),
+        ),
+        (b"c0 walk 0x10000".as_slice(), 0, Action::Walk(16)),
+        (b"c10 walk 0".as_slice(), 10, Action::Walk(0)),
+        (b"c0 evict 0x10FFF".as_slice(), 0, Action::Evict(16)),
+        (
+            b"c0 evict 0xffffffffffffffff".as_slice(),
+            0,
+            Action::Evict(0xf_ffff_ffff_ffff),
+        ),
+    ] {
+        assert_eq!(rt; read_line(text), Some(Line::Act(CoreId::new(core), action)));
+    }
+}
+
+#[test]
+fn other_lines(rt: HostRuntime) {
+    for (text, line) in [
+        (b"c10 finish ".as_slice(), Line::Finish(CoreId::new(10))),
+        (b"fold 0x1000".as_slice(), Line::Fold(1)),
+        (b"fold 4095".as_slice(), Line::Fold(0)),
+    ] {
+        assert_eq!(rt; read_line(text), Some(line));
+    }
 }
 
 #[test]
@@ -163,6 +194,38 @@ fn bad_lines(rt: HostRuntime) {
     assert!(rt; !is_printable(b"vm 1 1\r"));
     assert!(rt; !is_printable(b"\x7f"));
     assert!(rt; is_printable(b" ~"));
+}
+
+#[test]
+fn bad_actions(rt: HostRuntime) {
+    for text in [
+        b"c0".as_slice(),
+        b"c0 takes".as_slice(),
+        b"c0 Take".as_slice(),
+        b"c0 give up".as_slice(),
+        b"c0 take 1".as_slice(),
+        b"c0 flush 0".as_slice(),
+        b"c0 review c1".as_slice(),
+        b"c0 giveup now".as_slice(),
+        b"c0 frame".as_slice(),
+        b"c0 frame f".as_slice(),
+        b"c0 frame 1 2".as_slice(),
+        b"c0 frame 18446744073709551616".as_slice(),
+        b"c0 walk".as_slice(),
+        b"c0 walk 0x1000 1".as_slice(),
+        b"c0 evict".as_slice(),
+        b"c0 evict 0x10000000000000000".as_slice(),
+        b"c0 fold 0x1000".as_slice(),
+        b"c64 take".as_slice(),
+        b"c00 flush".as_slice(),
+        b"take".as_slice(),
+        b"fold".as_slice(),
+        b"fold 0x1000 1".as_slice(),
+        b"Fold 0x1000".as_slice(),
+        b"fold! 0x1000".as_slice(),
+    ] {
+        assert_eq!(rt; read_line(text), None);
+    }
 }
 
 #[test]

@@ -1,12 +1,12 @@
-use Rattle.machine_sound.proofs.Kept.{reached_sound, steps_noted, runs_sound}
+use Rattle.machine_sound.proofs.Kept.{reached_sound, steps_sound, runs_sound}
 use Rattle.machine_sound.proofs.OneMap.{log_leads_to_one}
 use Rattle.machine_sound.proofs.runs_are_sound.Goals as goal
 
 pub returns-clause-reached : goal.returns-clause-reached
 returns-clause-reached c = reached_sound
 
-pub returns-clause-noted : goal.returns-clause-noted
-returns-clause-noted c = steps_noted
+pub returns-clause-steps : goal.returns-clause-steps
+returns-clause-steps c = steps_sound
 
 pub returns-clause-sound : goal.returns-clause-sound
 returns-clause-sound c = runs_sound

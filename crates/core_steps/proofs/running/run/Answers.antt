@@ -1,8 +1,18 @@
-use Rattle.std.proofs.Common.{◌≡◌, refl, take, inr, rules}
+use Rattle.std.proofs.Common.{◌≡◌, refl, take, inr, rules, subst}
+use Rattle.core_steps.specs.State.{world}
+use Rattle.machine_model.specs.World.{new_world}
+use Rattle.machine_model.specs.Step.{Run}
 use Rattle.std.proofs.lemmas.List.{take_all}
 use Rattle.core_steps.specs.Setups.{made_of}
 use Rattle.core_steps.proofs.Runs.{next_run, refused_next, all_bracketed, all_sound}
 use Rattle.core_steps.proofs.running.run.Goals as goal
+
+pub events-init : goal.events-init
+events-init g c = record {
+  run = rw c.in-Ok-with_capacity.ensures.items c.in-Ok-new.ensures.opening;
+  room = search rules;
+  count = search rules;
+}
 
 pub events-preserved : goal.events-preserved
 events-preserved g c = record {
@@ -10,6 +20,12 @@ events-preserved g c = record {
   room = search rules;
   count = search rules;
 }
+
+pub returns-clause-run : goal.returns-clause-run
+returns-clause-run g c =
+    let all : take c.events.at c.args.events.now ≡ c.args.events.now = take_all c.events.at c.args.events.now c.events-test.false in
+    subst (λ es. Run (new_world (made_of c.args.setup.now) (g.M.SlotRead.slots c.args.map)) es c.events.outcomes.items (world g.M.SlotRead.slots c.events.machine.engine)) all
+    c.events.invariant.run
 
 pub returns-clause-brackets : goal.returns-clause-brackets
 returns-clause-brackets g c =

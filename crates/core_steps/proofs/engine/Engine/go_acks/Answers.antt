@@ -1,7 +1,13 @@
-use Rattle.std.proofs.Common.{refl}
-use Rattle.core_steps.proofs.Known.{room_for}
-use Rattle.core_steps.proofs.Changing.{acks_held, acks_sound, acks_mapped}
+use Rattle.std.proofs.Common.{refl, sym, ◌∙◌}
+use Rattle.core_steps.specs.State.{world}
+use Rattle.core_steps.proofs.Known.{are_counted, core_counted, room_for}
+use Rattle.core_steps.proofs.Changing.{acks_held, acks_sound, acks_mapped, waits, commits}
 use Rattle.core_steps.proofs.engine.Engine.go_acks.Goals as goal
+
+pub returns-then-is_some : goal.returns-then-is_some
+returns-then-is_some g c =
+    waits _ _ c.args.core c.waiting-waiting.result c.args.change c.args.held c.first.result c.first.ensures.member (sym c.is_some.ensures ∙ c.if-is_some.true)
+    c.waiting-waiting.ensures refl
 
 pub make_change-requires-clause-sound : goal.make_change-requires-clause-sound
 make_change-requires-clause-sound g c = acks_sound _ c.args.core _ _ c.requires
@@ -12,8 +18,19 @@ make_change-requires-clause-held g c = acks_held _ c.args.core _ _ c.requires
 pub make_change-requires-clause-mapped : goal.make_change-requires-clause-mapped
 make_change-requires-clause-mapped g c = acks_mapped _ c.args.core _ _ c.requires
 
+pub make_change-requires-clause-here : goal.make_change-requires-clause-here
+make_change-requires-clause-here g c = core_counted (world g.M.SlotRead.slots c.args.self.now) c.args.core c.requires.fine c.requires.here
+
+pub make_change-requires-clause-counted : goal.make_change-requires-clause-counted
+make_change-requires-clause-counted g c = are_counted (world g.M.SlotRead.slots c.args.self.now) c.requires.fine
+
 pub reply_to-requires : goal.reply_to-requires
 reply_to-requires g c = acks_sound _ c.args.core _ _ c.requires
 
 pub reply-requires-clause-room : goal.reply-requires-clause-room
 reply-requires-clause-room g c = room_for _ c.args.core _ c.requires refl
+
+pub returns : goal.returns
+returns g c =
+    commits _ _ c.args.core c.waiting-waiting.result c.args.change c.args.held _ c.first.result c.first.ensures.none (sym c.is_some.ensures ∙ c.if-is_some.false)
+    c.waiting-waiting.ensures c.make_change.ensures.counted (rw (c.reply.ensures, c.reply_to.ensures, c.make_change.ensures.slots) refl)

@@ -1,10 +1,41 @@
-use Rattle.std.proofs.Common.{refl}
+use Rattle.std.proofs.Common.{◌≡◌, Ok, refl, rules, sym, ap, ◌∙◌}
+use Rattle.slot_lock.specs.declared.plan.Plan.TheVariants as PlanOf
 use Rattle.machine_model.specs.declared.phase.Phase.TheVariants.{Check}
+use Rattle.machine_model.specs.Actions.{to}
+use Rattle.core_steps.specs.State.{world}
 use Rattle.core_steps.proofs.Known.{room_for}
+use Rattle.core_steps.proofs.Rows.{planned}
 use Rattle.core_steps.proofs.engine.Engine.go_check.Goals as goal
+use Rattle.core_steps.proofs.engine.Engine.go_check.Goals.{in-Ok-Change, in-Ok-Touch, in-Ok-Place, in-Err}
 
 pub reply-requires-clause-room : goal.reply-requires-clause-room
 reply-requires-clause-room g c = room_for _ c.args.core (Check c.args.request) c.requires refl
 
 pub reply-requires-in-Err-clause-room : goal.reply-requires-in-Err-clause-room
 reply-requires-in-Err-clause-room g c = room_for _ c.args.core (Check c.args.request) c.requires refl
+
+pub returns : goal.returns
+returns g c = elim c.match-check.branch [
+  | in-Ok-Change w ↦
+      let e : c.check.result ≡ Ok (PlanOf.Change w.in-Ok-Change.change) = search rules in (
+        refl,
+        rw w.self-is (planned (world g.M.SlotRead.slots c.args.self.now) _ c.args.core c.args.request _ (sym e ∙ c.check.ensures.value)
+            (w.go_to.ensures ∙ ap (λ p. to c.args.core p (world g.M.SlotRead.slots c.args.self.now)) w.locking.ensures)),
+      )
+  | in-Ok-Touch w ↦
+      let e : c.check.result ≡ Ok (PlanOf.Touch w.in-Ok-Touch.touch) = search rules in (
+        refl,
+        rw w.self-is (planned (world g.M.SlotRead.slots c.args.self.now) _ c.args.core c.args.request _ (sym e ∙ c.check.ensures.value)
+            w.go_to-in-Ok-Touch.ensures),
+      )
+  | in-Ok-Place w ↦ (
+    refl,
+    rw w.self-is (planned (world g.M.SlotRead.slots c.args.self.now) _ c.args.core c.args.request (Ok (PlanOf.Place w.in-Ok-Place.field-0-0))
+        (sym (w.in-Ok-Place.is ∙ ap Ok w.in-Ok-Place.field-0-is) ∙ c.check.ensures.value) w.reply.ensures),
+  )
+  | in-Err w ↦ (
+    refl,
+    rw w.self-is (planned (world g.M.SlotRead.slots c.args.self.now) _ c.args.core c.args.request _ (sym w.in-Err.is ∙ c.check.ensures.value)
+        w.reply-in-Err.ensures),
+  )
+]

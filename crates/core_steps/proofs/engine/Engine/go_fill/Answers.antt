@@ -1,7 +1,8 @@
 use Rattle.std.proofs.Common.{refl}
 use Rattle.slot_lock.specs.declared.plan.Plan.TheVariants.{Touch}
 use Rattle.machine_model.specs.declared.phase.Phase.TheVariants.{Fill}
-use Rattle.core_steps.proofs.Known.{one_slot, owns, page_is, sound_at, taken_below}
+use Rattle.core_steps.specs.State.{world}
+use Rattle.core_steps.proofs.Known.{frame_counted, one_slot, owns, page_is, sound_at, taken_below, taken_unused}
 use Rattle.core_steps.proofs.engine.Engine.go_fill.Goals as goal
 
 pub page-requires : goal.page-requires
@@ -20,3 +21,9 @@ set_leaf-requires-clause-alone g c = one_slot _ c.args.core (Fill c.args.touch c
 
 pub fill_zero-requires : goal.fill_zero-requires
 fill_zero-requires g c = taken_below _ c.args.core (Fill c.args.touch c.args.frame) c.requires c.args.frame refl
+
+pub begin-requires-clause-object : goal.begin-requires-clause-object
+begin-requires-clause-object g c = frame_counted (world g.M.SlotRead.slots c.args.self.now) c.args.frame c.requires.fine (taken_below _ c.args.core (Fill c.args.touch c.args.frame) c.requires c.args.frame refl)
+
+pub begin-requires-clause-unused : goal.begin-requires-clause-unused
+begin-requires-clause-unused g c = taken_unused _ c.args.core (Fill c.args.touch c.args.frame) c.requires c.args.frame refl

@@ -1,5 +1,7 @@
-use Rattle.std.proofs.Common.{◌≡◌, ◌<◌, ◌^◌, arith}
-use Rattle.core_steps.proofs.Reached.{legal, refused_at}
+use Rattle.std.proofs.Common.{◌≡◌, ◌<◌, ◌^◌, arith, rules}
+use Rattle.std.specs.Prelude.{◌≢◌}
+use Rattle.machine_model.specs.declared.event.Outcome.TheVariants.{Stepped}
+use Rattle.core_steps.proofs.Reached.{legal, refused_at, steps_end, steps_more}
 use Rattle.core_steps.proofs.machine.Machine.finish.Goals as goal
 
 pub returns-in-Err-clause-err : goal.returns-in-Err-clause-err
@@ -14,3 +16,14 @@ returns-clause-ends g c =
 
 pub returns-clause-legal : goal.returns-clause-legal
 returns-clause-legal g c = legal _ c.steps.self.reached
+
+pub returns-then-ne-clause-ends : goal.returns-then-ne-clause-ends
+returns-then-ne-clause-ends g c =
+    let below : c.steps.n < 2 ^ 40 = omega (arith, c.steps-test.true) in
+    let other : c.in-Ok.outcome ≢ Stepped = search rules in
+    steps_end _ _ _ c.args.core c.steps.n _ below other c.steps.invariant c.in-Ok.ensures.step
+
+pub steps-preserved : goal.steps-preserved
+steps-preserved g c =
+    let plain : c.in-Ok.outcome ≡ Stepped = search rules in
+    steps_more _ _ _ c.args.core c.steps.n _ plain c.steps.invariant c.in-Ok.ensures.step

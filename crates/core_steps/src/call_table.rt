@@ -1,0 +1,35 @@
+//! The table of the calls as it is made.
+ghost use Rattle.std.specs.Prelude.{◌≡◌, ◌≤◌, length, IfOk};
+ghost use Rattle.machine_model.specs.World.{no_calls};
+ghost use Rattle.core_steps.specs.State.{calls_of};
+
+use crate::calls::CallTable;
+use crate::reserved::Reserved;
+use machine_model::Phase;
+use std::alloc::Allocator;
+use vm_base::NoMemory;
+
+/// A table for so many cores without a call, which has room for so many calls.
+pub fn new_call_table<A: Allocator + Clone>(
+    alloc: A,
+    cores: usize,
+    limit: u64,
+) -> Result<CallTable<A>, NoMemory>
+    requires cores { cores ≤ 64 }
+    requires limit { limit ≤ 1048576 }
+    ensures calls { IfOk result (λ table. calls_of table ≡ no_calls) }
+    ensures cores { IfOk result (λ table. length table.phases.items ≡ cores) }
+    ensures limit { IfOk result (λ table. table.requests.limit ≡ limit) }
+{
+    let phases = vec![in alloc.clone()?; Phase::Free; cores]?;
+    let numbers = vec![in alloc.clone()?; 0u64; cores]?;
+    let requests = Reserved::new(alloc.clone()?, limit)?;
+    let log = Reserved::new(alloc, limit)?;
+    Ok(CallTable {
+        phases,
+        numbers,
+        requests,
+        log,
+        events: 0,
+    })
+}

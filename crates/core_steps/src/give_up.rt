@@ -1,0 +1,91 @@
+//! A call that is given up for want of memory.
+ghost use Rattle.std.specs.Prelude.{◌≡◌, IfSome};
+ghost use Rattle.vm_base.specs.declared.page.PageRange.{PageRange};
+ghost use Rattle.slot_lock.specs.Plan.{IsSound};
+ghost use Rattle.machine_model.specs.GivingUp.{GivesUp};
+ghost use Rattle.machine_model.specs.Holding.{can_give_up, if_some_page, plan_in, range_held, still_held, taken_in};
+ghost use Rattle.core_steps.specs.State.{phase_of, world};
+ghost use Rattle.core_steps.specs.Moving.{IsOf};
+
+use crate::acquire::{goal_range, page_of_touch};
+use crate::engine::Engine;
+use machine_model::{Outcome, Phase};
+use mmu::Hardware;
+use slot_lock::SlotMap;
+use std::alloc::Allocator;
+use vm_base::{CoreId, PageRange, Reply};
+
+/// Tells whether the call has no reply, and no other core does anything for it.
+fn can_give_up(phase: &Phase) -> bool
+    ensures { result ≡ can_give_up phase.now }
+{
+    !matches!(
+        phase,
+        Phase::Free | Phase::Acks { .. } | Phase::Unlock { .. } | Phase::Answer(_)
+    )
+}
+
+/// The frame that the call has taken and that no page has yet.
+fn taken_in(phase: &Phase) -> Option<u32>
+    ensures { result ≡ taken_in phase.now }
+{
+    match phase {
+        Phase::Fill { frame, .. } => Some(*frame),
+        _ => None,
+    }
+}
+
+/// The pages that the call holds.
+fn range_held(phase: &Phase) -> Option<PageRange>
+    requires { IfSome (plan_in phase.now) IsSound }
+    ensures { result ≡ range_held phase.now }
+{
+    match phase {
+        Phase::Free | Phase::Check(_) | Phase::Answer(_) | Phase::Try(_) => None,
+        Phase::Lock { goal, cursor } => Some(PageRange {
+            first: goal_range(*goal).first,
+            end: *cursor,
+        }),
+        Phase::Decide(change) => Some(change.range()),
+        Phase::Post { change, .. } => Some(change.range()),
+        Phase::Acks { held, .. } => Some(*held),
+        Phase::Unlock { held, .. } => Some(*held),
+        Phase::Settle(touch) => Some(page_of_touch(*touch)),
+        Phase::Want(touch) => Some(page_of_touch(*touch)),
+        Phase::Fill { touch, .. } => Some(page_of_touch(*touch)),
+        Phase::Install(touch) => Some(page_of_touch(*touch)),
+        Phase::Release(touch) => Some(page_of_touch(*touch)),
+    }
+}
+
+/// The range, if it has some page.
+fn if_some_page(range: Option<PageRange>) -> Option<PageRange>
+    ensures { result ≡ if_some_page range }
+{
+    let range = range?;
+    if range.first == range.end {
+        None
+    } else {
+        Some(range)
+    }
+}
+
+impl<M: SlotMap, H: Hardware, A: Allocator> Engine<M, H, A> {
+    /// The core's call is given up, if it still can be: a frame that no page has yet goes back, and what is held is unlocked
+    /// next.
+    pub fn give_up(&mut self, core: CoreId) -> Outcome
+        requires { IsOf (world M.slots self.old) core }
+        ensures { GivesUp (world M.slots self.old) core (phase_of self.old core) result (world M.slots self.new) }
+    {
+        let phase = self.phase_of(core);
+        if !can_give_up(&phase) {
+            return Outcome::Idle;
+        }
+        if let Some(frame) = taken_in(&phase) {
+            self.frames.give(frame);
+        }
+        let held = if_some_page(range_held(&phase));
+        self.reply(core, held, Reply::NoMemory);
+        Outcome::Stepped
+    }
+}

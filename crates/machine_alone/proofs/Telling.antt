@@ -1,0 +1,213 @@
+-- Which cores a lone call waits for: the others that are recorded on its pages
+use Rattle.std.proofs.Common.{◌≡◌, ◌≢◌, ℕ, ◌<◌, Bool, true, false, cond, refl, sym, ap, subst, arith, Some, None, Option, List, [], ◌∷◌, ◌++◌, ◌∙◌}
+use Rattle.std.specs.Prelude.{◌↔◌, ◌==◌, is_some, if◌then◌else◌, nat_le}
+use Rattle.std.proofs.lemmas.Bool.Decides.{nat_tests}
+use Rattle.vm_base.specs.declared.page.PageRange.{PageRange}
+use Rattle.vm_base.specs.declared.replies.Reply.{Reply}
+use Rattle.vm_base.specs.Cores.{members}
+use Rattle.vm_base.specs.Functions.{put}
+use Rattle.vm_base.proofs.Functions.{put_all, put_same, put_other, eq_true, eq_false}
+use Rattle.vm_base.specs.Plain.{File}
+use Rattle.slot_lock.specs.declared.plan.Change.{Change}
+use Rattle.slot_lock.specs.declared.plan.Change.TheVariants.{Put, Clear, Protect}
+use Rattle.slot_lock.specs.declared.plan.Plan.TheVariants as PlanOf
+use Rattle.slot_lock.specs.Plan.{range_of}
+use Rattle.slot_lock.specs.Slots.{Slots, IsUser}
+use Rattle.vm_calls.specs.declared.decision.Decision.TheVariants.{Act}
+use Rattle.vm_calls.specs.Decisions.{Decides}
+use Rattle.vm_calls.specs.Decisions.DecidesProtect.{no_page, no_write, acts}
+use Rattle.shootdown.specs.declared.message.Message.{Message}
+use Rattle.shootdown.specs.Inboxes.{awaited}
+use Rattle.shootdown.specs.Messages.{message_of, posted}
+use Rattle.machine_model.specs.declared.phase.Phase.{Phase}
+use Rattle.machine_model.specs.declared.phase.Phase.TheVariants.{Free, Check, Lock, Decide, Post, Acks, Unlock, Answer, Try, Settle, Want, Fill, Install, Release}
+use Rattle.machine_model.specs.declared.phase.Goal.{Goal}
+use Rattle.machine_model.specs.declared.phase.Goal.TheVariants as To
+use Rattle.machine_model.specs.Accesses.{after_frame, after_fill, after_install, reply_of, memory_after}
+use Rattle.machine_model.specs.Actions.{to, let_go, after_reply}
+use Rattle.machine_model.specs.Changes.{after_post, slots_after, reply_to}
+use Rattle.machine_model.specs.Counting.{with_counts}
+use Rattle.machine_model.specs.Holding.{awaits_in, goal_range}
+use Rattle.machine_model.specs.Locks.{locking, locked_to, all_locked, held_after}
+use Rattle.machine_model.specs.Translating.{inboxes_after, after_translating, with_hardware}
+use Rattle.machine_model.specs.World.{World, Hardware}
+use Rattle.machine_laws.proofs.Moves.{IsCallOf, call_at}
+use Rattle.machine_laws.proofs.Shapes.{Moves, locks, tries, acts as decides, finds, lacks, LetsGo, unlocks, releases, GoesBy, moves, divides, owns, lets_go, answers, posts, commits, takes, fills, installs, accesses, faults}
+use Rattle.machine_coherence.specs.Coherent.{AreAsked}
+use Rattle.machine_sound.specs.Invariant.{Fine}
+use Rattle.machine_alone.specs.Alone.{takes_left}
+
+-- while the call awaits acknowledgements, the cores that have its message are the others that are recorded on its pages, and have taken nothing of it
+abbrev pub IsTold : Slots → Hardware → ℕ → Phase → Type 0
+IsTold s h c (Acks change held) = (d : ℕ) →
+    ((awaited h.inbox c d ≡ true) ↔ ((d ≢ c) × IsUser s (range_of change) d)) × (takes_left (h.inbox d) ≡ (if awaited h.inbox c d then 2 else 0))
+IsTold s h c _ = Unit {0}
+
+-- what has no message of core c gets one at its end
+told_message : (ms : List Message) (c : ℕ) (range : PageRange) → is_some (message_of (ms ++ posted c range ∷ []) c) ≡ true
+told_message [] c range = ap (λ b. is_some (if b then Some (posted c range) else None)) (same c)
+  where
+    same : (c : ℕ) → (c == c) ≡ true
+    same c = grind (arith, nat_tests)
+told_message (m ∷ ms) c range = go (m.from == c) (told_message ms c range)
+  where
+    go : (b : Bool) → is_some (message_of (ms ++ posted c range ∷ []) c) ≡ true → is_some (if b then Some m else message_of (ms ++ posted c range ∷ []) c) ≡ true
+    go true h = refl
+    go false h = h
+
+-- each message is of a core that awaits
+asked_awaits : (phase : ℕ → Phase) (d : ℕ) (ms : List Message) (c : ℕ) → AreAsked phase d ms → is_some (message_of ms c) ≡ true
+    → (range : PageRange) × (awaits_in (phase c) ≡ Some range)
+asked_awaits phase d [] c h e = absurd cc
+asked_awaits phase d (m ∷ ms) c h e = go (λ k. asked_awaits phase d ms c h.3 k) (m.from == c) refl e
+  where
+    go : (is_some (message_of ms c) ≡ true → (range : PageRange) × (awaits_in (phase c) ≡ Some range)) → (b : Bool) → (m.from == c) ≡ b
+        → is_some (if b then Some m else message_of ms c) ≡ true → (range : PageRange) × (awaits_in (phase c) ≡ Some range)
+    go rest true i k = (m.range, subst (λ n. awaits_in (phase n) ≡ Some m.range) (eq_true m.from c i) h.1)
+    go rest false i k = rest k
+
+-- where nobody awaits, there is no message
+pub no_message : (phase : ℕ → Phase) (d : ℕ) (ms : List Message) → ((b : ℕ) → awaits_in (phase b) ≡ None) → AreAsked phase d ms → ms ≡ []
+no_message phase d [] none h = refl
+no_message phase d (m ∷ ms) none h = absurd (let a = none m.from in let b = h.1 in cc)
+
+-- where only core c awaits, it has a message just where a take is left
+pub left_is_awaited : (phase : ℕ → Phase) (d : ℕ) (ms : List Message) (c : ℕ) → ((b : ℕ) → b ≢ c → awaits_in (phase b) ≡ None) → AreAsked phase d ms
+    → (is_some (message_of ms c) ≡ true) ↔ (0 < takes_left ms)
+left_is_awaited phase d [] c only h = (λ e. absurd cc, λ l. absurd (omega (arith, l)))
+left_is_awaited phase d (m ∷ ms) c only h = go (m.from == c) refl
+  where
+    some : (b : Bool) → 0 < (if b then 1 else 2)
+    some true = omega arith
+    some false = omega arith
+
+    go : (b : Bool) → (m.from == c) ≡ b → (is_some (if b then Some m else message_of ms c) ≡ true) ↔ (0 < (if m.is_cleared then 1 else 2))
+    go true e = (λ _. some m.is_cleared, λ _. refl)
+    go false e = absurd (let a = only m.from (eq_false m.from c e) in let b = h.1 in cc)
+
+-- the cores that are to be told are those that are recorded on the pages
+acts_users : (files : ℕ → Option File) (s : Slots) (change : Change) (changes : PageRange) (shoot : ℕ) → Decides files s (PlanOf.Change change) (Act changes shoot)
+    → (core : ℕ) → (members shoot core ≡ true) ↔ IsUser s (range_of change) core
+acts_users files s (Put range meta) changes shoot h = h.1
+acts_users files s (Clear range) changes shoot h = h.1
+acts_users files s (Protect range prot) changes shoot (no_page a e) = absurd cc
+acts_users files s (Protect range prot) changes shoot (no_write a w r e) = absurd cc
+acts_users files s (Protect range prot) changes shoot (acts a r k) = k.1
+
+-- just after the messages were sent
+posts_tell : (w : World) (c : ℕ) (change : Change) (shoot : ℕ) → Fine w → ((b : ℕ) → b ≢ c → w.calls.phase b ≡ Free) → w.calls.phase c ≡ Post change shoot
+    → (d : ℕ) → ((awaited (inboxes_after c shoot (range_of change) w.hardware.inbox) c d ≡ true) ↔ ((d ≢ c) × IsUser w.slots (range_of change) d))
+    × (takes_left (inboxes_after c shoot (range_of change) w.hardware.inbox d)
+    ≡ (if awaited (inboxes_after c shoot (range_of change) w.hardware.inbox) c d then 2 else 0))
+posts_tell w c change shoot f others e d = (
+  go (put (members shoot) c false d) refl,
+  untaken (put (members shoot) c false d) (w.hardware.inbox d) (no_message w.calls.phase d (w.hardware.inbox d) nobody (f.coherent.asked d)),
+)
+  where
+    nobody : (b : ℕ) → awaits_in (w.calls.phase b) ≡ None
+    nobody b = this (b == c) refl
+      where
+        this : (z : Bool) → (b == c) ≡ z → awaits_in (w.calls.phase b) ≡ None
+        this true i = ap (λ n. awaits_in (w.calls.phase n)) (eq_true b c i) ∙ ap awaits_in e
+        this false i = ap awaits_in (others b (eq_false b c i))
+
+    untaken : (b : Bool) (ms : List Message) → ms ≡ []
+        → takes_left (if b then ms ++ posted c (range_of change) ∷ [] else ms)
+        ≡ (if is_some (message_of (if b then ms ++ posted c (range_of change) ∷ [] else ms) c) then 2 else 0)
+    untaken true ms i =
+        subst (λ ms. takes_left (ms ++ posted c (range_of change) ∷ []) ≡ (if is_some (message_of (ms ++ posted c (range_of change) ∷ []) c) then 2 else 0)) (sym i)
+        (ap (λ (b : Bool). if b then 2 else 0) (sym (told_message [] c (range_of change))))
+    untaken false ms i = subst (λ ms. takes_left ms ≡ (if is_some (message_of ms c) then 2 else 0)) (sym i) refl
+
+    k : IsCallOf w c (Post change shoot)
+    k = call_at w c (Post change shoot) e f.order
+
+    users : (members shoot d ≡ true) ↔ IsUser w.slots (range_of change) d
+    users = acts_users w.made.file w.slots change (range_of change) shoot k.ready d
+
+    not_yet : is_some (message_of (w.hardware.inbox d) c) ≡ true → ⊥
+    not_yet h = let z = asked_awaits w.calls.phase d (w.hardware.inbox d) c (f.coherent.asked d) h in let none = ap awaits_in e in cc
+
+    other : put (members shoot) c false d ≡ true → (d ≢ c) × (members shoot d ≡ true)
+    other = put_all (λ d b. b ≡ true → (d ≢ c) × (members shoot d ≡ true)) (members shoot) c false (λ h. absurd cc) (λ d ne h. (ne, h)) d
+
+    go : (b : Bool) → put (members shoot) c false d ≡ b
+        → (is_some (message_of (if b then w.hardware.inbox d ++ posted c (range_of change) ∷ [] else w.hardware.inbox d) c) ≡ true)
+        ↔ ((d ≢ c) × IsUser w.slots (range_of change) d)
+    go true i = (λ h. ((other i).0, users.0 (other i).1), λ u. told_message (w.hardware.inbox d) c (range_of change))
+    go false i = (λ h. absurd (not_yet h), λ u. absurd (let a = users.1 u.1 in let b = sym i ∙ put_other (members shoot) c false d u.0 in cc))
+
+-- ---- over a step of the call
+
+-- a phase that awaits nothing
+untold : (s : Slots) (h : Hardware) (c : ℕ) (phase : Phase) → awaits_in phase ≡ None → IsTold s h c phase
+untold s h c (Acks change held) e = absurd cc
+untold s h c Free e = tt
+untold s h c (Check request) e = tt
+untold s h c (Lock goal cursor) e = tt
+untold s h c (Decide change) e = tt
+untold s h c (Post change shoot) e = tt
+untold s h c (Unlock held reply) e = tt
+untold s h c (Answer reply) e = tt
+untold s h c (Try touch) e = tt
+untold s h c (Settle touch) e = tt
+untold s h c (Want touch) e = tt
+untold s h c (Fill touch frame) e = tt
+untold s h c (Install touch) e = tt
+untold s h c (Release touch) e = tt
+
+-- the call goes on to a phase that awaits nothing
+to_untold : (c : ℕ) (new : Phase) (x v : World) → v ≡ to c new x → awaits_in new ≡ None → IsTold v.slots v.hardware c (v.calls.phase c)
+to_untold c new x v h none =
+    subst (λ (v : World). IsTold v.slots v.hardware c (v.calls.phase c)) (sym h)
+    (untold x.slots x.hardware c (put x.calls.phase c new c) (ap awaits_in (put_same x.calls.phase c new) ∙ none))
+
+moves_untold : (w : World) (c : ℕ) (new : Phase) → Moves w c new → awaits_in new ≡ None
+moves_untold w c new (locks request change e n k) = ap awaits_in n
+moves_untold w c new (tries request touch e n k) = ap awaits_in n
+moves_untold w c new (decides change range shoot e n d) = ap awaits_in n
+moves_untold w c new (finds touch f e n u) = ap awaits_in n
+moves_untold w c new (lacks touch e n u) = ap awaits_in n
+
+locked_untold : (goal : Goal) (b : ℕ) → awaits_in (locked_to goal b) ≡ None
+locked_untold goal b = go goal (nat_le (goal_range goal).end b)
+  where
+    go : (goal : Goal) (p : Bool) → awaits_in (cond p (all_locked goal) (Lock goal b)) ≡ None
+    go (To.Change change) true = refl
+    go (To.Access touch) true = refl
+    go goal false = refl
+
+let_go_untold : (held : Option PageRange) (reply : Reply) → awaits_in (let_go held reply) ≡ None
+let_go_untold None reply = refl
+let_go_untold (Some held) reply = refl
+
+lets_go_untold : (old : Phase) (held : PageRange) (b : ℕ) (new : Phase) → LetsGo old held b new → awaits_in new ≡ None
+lets_go_untold old held b new (unlocks reply e n) = ap awaits_in n ∙ let_go_untold (held_after held b) reply
+lets_go_untold old held b new (releases touch e h n) = ap awaits_in n
+
+-- with its reply
+replied_untold : (c : ℕ) (held : Option PageRange) (reply : Reply) (x v : World) → v ≡ after_reply c held reply x → IsTold v.slots v.hardware c (v.calls.phase c)
+replied_untold c held reply x v h =
+    subst (λ (v : World). IsTold v.slots v.hardware c (v.calls.phase c)) (sym h)
+    (untold x.slots x.hardware c (put x.calls.phase c (let_go held reply) c) (ap awaits_in (put_same x.calls.phase c (let_go held reply)) ∙ let_go_untold held reply))
+
+pub told_on : (w : World) (c : ℕ) (v : World) → Fine w → ((b : ℕ) → b ≢ c → w.calls.phase b ≡ Free) → GoesBy w c v → IsTold v.slots v.hardware c (v.calls.phase c)
+told_on w c v f others (moves new m h) = to_untold c new w v h (moves_untold w c new m)
+told_on w c v f others (divides goal cursor t e s h) =
+    subst (λ (v : World). IsTold v.slots v.hardware c (v.calls.phase c)) (sym h) (untold t w.hardware c (w.calls.phase c) (ap awaits_in e))
+told_on w c v f others (owns goal cursor b t e l h) = to_untold c (locked_to goal b) (record w { slots = t }) v h (locked_untold goal b)
+told_on w c v f others (lets_go held b t new l u h) = to_untold c new (record w { slots = t }) v h (lets_go_untold (w.calls.phase c) held b new l)
+told_on w c v f others (answers held reply r h) = replied_untold c held reply w v h
+told_on w c v f others (posts change shoot e h) =
+    subst (λ (v : World). IsTold v.slots v.hardware c (v.calls.phase c)) (sym h)
+    (subst (IsTold w.slots (after_post c change shoot w).hardware c) (sym (put_same w.calls.phase c (Acks change (range_of change)))) (posts_tell w c change shoot f others e))
+told_on w c v f others (commits change held total e n l h) = replied_untold c (Some held) (reply_to change) (with_counts total (record w { slots = slots_after change w.slots })) v h
+told_on w c v f others (takes touch x e l h) = to_untold c (Fill touch x) (record w { memory = (after_frame c touch x w).memory }) v h refl
+told_on w c v f others (fills touch x total e t h) =
+    to_untold c (Install touch) (record w { slots = (after_fill c touch x total w).slots; memory = (after_fill c touch x total w).memory }) v h refl
+told_on w c v f others (installs touch e h) =
+    to_untold c (Release touch) (record w { slots = (after_install c touch w).slots; hardware = (after_install c touch w).hardware }) v h refl
+told_on w c v f others (accesses touch x e i h) =
+    replied_untold c None (reply_of touch x w.memory)
+    (record (with_hardware (after_translating w.hardware c touch) w) { memory = memory_after touch x w.memory }) v h
+told_on w c v f others (faults touch e i h) = to_untold c (locking (To.Access touch)) (with_hardware (after_translating w.hardware c touch) w) v h refl

@@ -1,0 +1,5 @@
+pub mod Lists
+pub mod Cores
+pub mod Steps
+pub mod Kept
+mod Examples

@@ -1,0 +1,311 @@
+-- Steps of calls that are more than a change of phase: shootdowns, commits, fills and installs
+use Rattle.std.proofs.Common.{◌≡◌, ◌≢◌, ℕ, Bool, true, false, refl, sym, ap, subst, ◌∙◌, Some, None, Option, List, ◌∷◌, [], ◌++◌}
+use Rattle.std.specs.Prelude.{is_some, ◌||◌, ◌↔◌}
+use Rattle.vm_base.specs.declared.info.PageInfo.{PageInfo}
+use Rattle.vm_base.specs.declared.page.PageRange.{PageRange}
+use Rattle.vm_base.specs.declared.rights.Access.{Access}
+use Rattle.vm_base.specs.declared.rights.Access.TheVariants.{Load, Store, Fetch}
+use Rattle.vm_base.specs.declared.rights.Prot.{Prot}
+use Rattle.vm_base.specs.Cores.{members}
+use Rattle.vm_base.specs.Functions.{put, over, has}
+use Rattle.vm_base.specs.Info.{is_recorded, info_with_frame}
+use Rattle.vm_base.specs.Plain.{File}
+use Rattle.vm_base.specs.Rights.{is_allowed}
+use Rattle.vm_base.proofs.Functions.{by_test, put_all, put_both, put_same, put_other}
+use Rattle.slot_lock.specs.declared.plan.Change.{Change}
+use Rattle.slot_lock.specs.declared.plan.Change.TheVariants.{Put, Clear, Protect}
+use Rattle.slot_lock.specs.declared.plan.Plan.TheVariants as PlanOf
+use Rattle.slot_lock.specs.declared.plan.Touch.{Touch}
+use Rattle.slot_lock.specs.Plan.{range_of}
+use Rattle.slot_lock.specs.Slots.{Slots, IsUser}
+use Rattle.mmu.specs.declared.entry.Translation.{Translation}
+use Rattle.mmu.specs.declared.tlb.TlbEntry.{TlbEntry}
+use Rattle.mmu.specs.Entry.{has_right}
+use Rattle.mmu.specs.Tlb.{tlb_without}
+use Rattle.shootdown.specs.declared.message.Message.{Message}
+use Rattle.shootdown.specs.Messages.{message_of, posted}
+use Rattle.vm_calls.specs.declared.decision.Decision.TheVariants.{Act}
+use Rattle.vm_calls.specs.Decisions.{Decides}
+use Rattle.vm_calls.specs.Decisions.DecidesProtect.{no_page, no_write, acts}
+use Rattle.machine_model.specs.declared.phase.Phase.{Phase}
+use Rattle.machine_model.specs.declared.phase.Phase.TheVariants.{Free, Check, Lock, Decide, Post, Acks, Unlock, Answer, Try, Settle, Want, Fill, Install, Release}
+use Rattle.machine_model.specs.Accesses.{after_fill, after_install, info_with_core}
+use Rattle.machine_model.specs.Actions.{let_go}
+use Rattle.machine_model.specs.Changes.{slots_after, reply_to, after_post, after_commit, AwaitsNobody}
+use Rattle.machine_model.specs.Holding.{awaits_in, holds}
+use Rattle.machine_model.specs.Translating.{entry_for, entry_of_page, inboxes_after, after_shot}
+use Rattle.machine_model.specs.World.{World, Made, Hardware}
+use Rattle.refcache.specs.Counts.{Counts}
+use Rattle.machine_laws.specs.Orderly.{IsOrderly, IsReady, IsUsable}
+use Rattle.machine_laws.proofs.Changed.{same_outside}
+use Rattle.machine_laws.proofs.Moves.{call_at, page_is}
+use Rattle.machine_laws.proofs.Owned.{members_with}
+use Rattle.machine_coherence.specs.Coherent.{AllowsSome, IsBacked, IsSoundEntry, IsTableClear, IsTlbClear, HasDropped, IsCoherent, IsCoherentState}
+use Rattle.machine_coherence.proofs.Lists.{every_map, none_sent, none_left}
+use Rattle.machine_coherence.proofs.Cores.{IsCore, core_of, of_cores, moves_on, backed_still, backed_outside, cleared_has, shoots, awaits_nothing, awaits_core, installs}
+
+-- ---- the whole, over cores
+
+-- a call that awaited nothing goes on, and awaits nothing then
+pub goes_on : {info : ℕ → Option PageInfo} {phase : ℕ → Phase} {h : Hardware} (c : ℕ) (new : Phase)
+    → awaits_in (phase c) ≡ None → awaits_in new ≡ None → IsCoherent info phase h → IsCoherent info (put phase c new) h
+goes_on {info} {phase} {h} c new before none k = of_cores info (put phase c new) h
+    (λ d. moves_on c new none (none_sent phase c d (h.inbox d) before (k.asked d)) (core_of d k))
+
+-- what backed a translation still does
+still_backed : {info : ℕ → Option PageInfo} {phase : ℕ → Phase} {h : Hardware} (info2 : ℕ → Option PageInfo)
+    → ((p d : ℕ) (t : Translation) → IsBacked (info p) d t → IsBacked (info2 p) d t) → IsCoherent info phase h
+    → IsCoherent info2 phase h
+still_backed {info} {phase} {h} info2 f k =
+    of_cores info2 phase h (λ d. backed_still info2 (λ p t. f p d t) (core_of d k))
+
+-- one page has this now
+page_backed : {info : ℕ → Option PageInfo} {phase : ℕ → Phase} {h : Hardware} (page : ℕ) (new : Option PageInfo)
+    → ((d : ℕ) (t : Translation) → IsBacked (info page) d t → IsBacked new d t) → IsCoherent info phase h
+    → IsCoherent (put info page new) phase h
+page_backed {info} page new f k =
+    still_backed (put info page new)
+    (λ p d t. put_all (λ p o. IsBacked (info p) d t → IsBacked o d t) info page new (f d t) (λ p ne b. b) p) k
+
+-- ---- Post
+
+-- the decision shoots just the cores that are recorded on the range
+users : (files : ℕ → Option File) (s : Slots) (change : Change) (changes : PageRange) (shoot : ℕ)
+    → Decides files s (PlanOf.Change change) (Act changes shoot)
+    → (core : ℕ) → (members shoot core ≡ true) ↔ IsUser s (range_of change) core
+users files s (Put range meta) changes shoot h = h.1
+users files s (Clear range) changes shoot h = h.1
+users files s (Protect range prot) changes shoot (no_page a e) = absurd cc
+users files s (Protect range prot) changes shoot (no_write a w r e) = absurd cc
+users files s (Protect range prot) changes shoot (acts a r k) = k.1
+
+-- a core that isn't recorded on any page of the range has nothing of it
+nothing_there : {phase : ℕ → Phase} {d : ℕ} {table : ℕ → Option Translation} {tlb : List TlbEntry}
+    {inbox : List Message} (s : Slots) (range : PageRange) → ¬ IsUser s range d → IsCore s.info phase d table tlb inbox
+    → IsTableClear table range × IsTlbClear tlb range
+nothing_there {phase} {d} {table} {tlb} {inbox} s range unused k = (
+  λ p i. entry p i (table p) refl,
+  every_map (IsSoundEntry s.info d table inbox) (λ e. has range e.page ≡ false) tlb
+      (λ e h. page e (has range e.page) refl h.0) k.tlbs,
+)
+  where
+    entry : (p : ℕ) → has range p ≡ true → (o : Option Translation) → table p ≡ o → o ≡ None
+    entry p i None e = refl
+    entry p i (Some t) e = absurd (unused (p, i, (k.tables p t e).recorded))
+
+    page : (e : TlbEntry) → (b : Bool) → has range e.page ≡ b → IsBacked (s.info e.page) d e.translation → b ≡ false
+    page e true i h = absurd (unused (e.page, i, h.recorded))
+    page e false i h = refl
+
+posts : (s : Slots) (phase : ℕ → Phase) (h : Hardware) (c shoot : ℕ) (range : PageRange) (new : Phase)
+    → awaits_in (phase c) ≡ None → awaits_in new ≡ Some range
+    → ((d : ℕ) → IsUser s range d → members shoot d ≡ true) → IsCoherent s.info phase h
+    → IsCoherent s.info (put phase c new) (after_shot h c shoot range)
+posts s phase h c shoot range new before awaits told k = of_cores s.info (put phase c new) (after_shot h c shoot range)
+    (put_both (λ d table tlb. Is d table tlb (inboxes_after c shoot range h.inbox d)) h.table h.tlb c table tlb own others)
+  where
+    Is : (d : ℕ) → (ℕ → Option Translation) → List TlbEntry → List Message → Type 0
+    Is = IsCore s.info (put phase c new)
+
+    -- what core c is left with
+    table : ℕ → Option Translation
+    table = over (h.table c) (has range) None
+
+    tlb : List TlbEntry
+    tlb = tlb_without (has range) (h.tlb c)
+
+    silent : (d : ℕ) → message_of (h.inbox d) c ≡ None
+    silent d = none_sent phase c d (h.inbox d) before (k.asked d)
+
+    own : Is c table tlb (inboxes_after c shoot range h.inbox c)
+    own = by_test (Is c table tlb) (put (members shoot) c false c) (h.inbox c ++ posted c range ∷ []) (h.inbox c)
+        (λ i. absurd (let a = put_same (members shoot) c false in cc))
+        (λ i. awaits_nothing c new range awaits (silent c) (cleared_has (h.table c) range) (none_left range (h.tlb c))
+        (shoots range (core_of c k)))
+
+    quiet : (d : ℕ) → d ≢ c → put (members shoot) c false d ≡ false
+        → IsTableClear (h.table d) range × IsTlbClear (h.tlb d) range
+    quiet d ne i = nothing_there s range
+        (λ u. let a = told d u in let b = put_other (members shoot) c false d ne in cc) (core_of d k)
+
+    others : (d : ℕ) → d ≢ c → Is d (h.table d) (h.tlb d) (inboxes_after c shoot range h.inbox d)
+    others d ne = by_test (Is d (h.table d) (h.tlb d)) (put (members shoot) c false d)
+        (h.inbox d ++ posted c range ∷ []) (h.inbox d)
+        (λ i. awaits_core c new range (λ e. ne (sym e)) awaits (silent d) (core_of d k))
+        (λ i. let q = quiet d ne i in awaits_nothing c new range awaits (silent d) q.0 q.1 (core_of d k))
+
+pub posts_kept : (w : World) (c : ℕ) (change : Change) (shoot : ℕ) → IsOrderly w → w.calls.phase c ≡ Post change shoot
+    → IsCoherentState w → IsCoherentState (after_post c change shoot w)
+posts_kept w c change shoot g e k =
+    let decided = (call_at w c (Post change shoot) e g).ready in
+    posts w.slots w.calls.phase w.hardware c shoot (range_of change) (Acks change (range_of change)) (ap awaits_in e) refl
+    (λ d u. (users w.made.file w.slots change (range_of change) shoot decided d).1 u) k
+
+-- ---- Acks
+
+silent_by : (o : Option Message) → is_some o ≡ false → o ≡ None
+silent_by None i = refl
+silent_by (Some m) i = absurd cc
+
+-- The call awaits nobody any more, so nothing of its range is left anywhere.
+commits : {info : ℕ → Option PageInfo} {phase : ℕ → Phase} {h : Hardware} (info2 : ℕ → Option PageInfo) (c : ℕ)
+    (range : PageRange) (new : Phase) → awaits_in (phase c) ≡ Some range → awaits_in new ≡ None → AwaitsNobody h c
+    → ((p : ℕ) → has range p ≡ false → info2 p ≡ info p) → IsCoherent info phase h
+    → IsCoherent info2 (put phase c new) h
+commits {info} {phase} {h} info2 c range new awaits none nobody same k = of_cores info2 (put phase c new) h
+    (λ d. moves_on c new none (silent d) (backed_outside info2 range same (left d).0 (left d).1 (core_of d k)))
+  where
+    silent : (d : ℕ) → message_of (h.inbox d) c ≡ None
+    silent d = silent_by (message_of (h.inbox d) c) (nobody d)
+
+    left : (d : ℕ) → IsTableClear (h.table d) range × IsTlbClear (h.tlb d) range
+    left d = subst (HasDropped (h.table d) (h.tlb d) range) (silent d) (k.dropped c d range awaits)
+
+pub commits_kept : (w : World) (c : ℕ) (change : Change) (held : PageRange) (counts : Counts)
+    → w.calls.phase c ≡ Acks change held → AwaitsNobody w.hardware c → IsCoherentState w
+    → IsCoherentState (after_commit c change held counts w)
+commits_kept w c change held counts e nobody k =
+    commits (slots_after change w.slots).info c (range_of change) (let_go (Some held) (reply_to change)) (ap awaits_in e)
+    refl nobody (same_outside w.slots change) k
+
+-- ---- Fill
+
+-- a page without a frame backed nothing
+frameless : (file : ℕ → Option File) (info new : Option PageInfo) (access : Access) (d : ℕ) (t : Translation)
+    → IsUsable file info access None → IsBacked info d t → IsBacked new d t
+frameless file None new access d t u b = absurd u
+frameless file (Some info) new access d t u b = absurd (
+    let none : entry_for info.meta.prot info.frame ≡ None = ap (entry_for info.meta.prot) u.2 in
+    let some = b.entry in
+    cc)
+
+pub fills_kept : (w : World) (c : ℕ) (touch : Touch) (f : ℕ) (counts : Counts) → IsOrderly w
+    → w.calls.phase c ≡ Fill touch f → IsCoherentState w → IsCoherentState (after_fill c touch f counts w)
+fills_kept w c touch f counts g e k =
+    let info : Option PageInfo = w.slots.info touch.page in
+    let lacks : IsUsable w.made.file info touch.access None = (call_at w c (Fill touch f) e g).ready in
+    goes_on c (Install touch) (ap awaits_in e) refl
+    (page_backed touch.page (info_with_frame f info)
+    (λ d t. frameless w.made.file info (info_with_frame f info) touch.access d t lacks) k)
+
+-- ---- Install: one core more is recorded, and all else of the page stays
+
+recorded_more : (c d : ℕ) (info : Option PageInfo) → is_recorded info d ≡ true
+    → is_recorded (info_with_core c info) d ≡ true
+recorded_more c d None h = h
+recorded_more c d (Some info) h =
+    ap (λ f. f d) (members_with info.cores c)
+    ∙ put_all (λ j b. members info.cores j ≡ true → b ≡ true) (members info.cores) c true (λ _. refl) (λ j ne i. i) d h
+
+recorded_now : (c : ℕ) (info : Option PageInfo) → AllowsSome info → is_recorded (info_with_core c info) c ≡ true
+recorded_now c None h = absurd h
+recorded_now c (Some info) h = ap (λ f. f c) (members_with info.cores c) ∙ put_same (members info.cores) c true
+
+same_entry : (c : ℕ) (info : Option PageInfo) → entry_of_page (info_with_core c info) ≡ entry_of_page info
+same_entry c None = refl
+same_entry c (Some info) = refl
+
+same_right : (c : ℕ) (info : Option PageInfo) → AllowsSome info → AllowsSome (info_with_core c info)
+same_right c None h = h
+same_right c (Some info) h = h
+
+backed_more : (c d : ℕ) (info : Option PageInfo) (t : Translation) → IsBacked info d t
+    → IsBacked (info_with_core c info) d t
+backed_more c d info t b = record {
+  entry = same_entry c info ∙ b.entry;
+  recorded = recorded_more c d info b.recorded;
+  right = same_right c info b.right;
+}
+
+-- ---- what allows an access gives a right
+
+second_of : (a b c : Bool) → b ≡ true → (a || b || c) ≡ true
+second_of true b c h = refl
+second_of false true c h = refl
+second_of false false c h = absurd cc
+
+third_of : (a b c : Bool) → c ≡ true → (a || b || c) ≡ true
+third_of true b c h = refl
+third_of false true c h = refl
+third_of false false c h = h
+
+has_some : (prot : Prot) (access : Access) → is_allowed prot access ≡ true → has_right prot ≡ true
+has_some prot Load h = h
+has_some prot Store h = second_of prot.read prot.write prot.exec h
+has_some prot Fetch h = third_of prot.read prot.write prot.exec h
+
+usable_right : (file : ℕ → Option File) (info : Option PageInfo) (access : Access) (frame : Option ℕ)
+    → IsUsable file info access frame → AllowsSome info
+usable_right file None access frame u = absurd u
+usable_right file (Some info) access frame u = has_some info.meta.prot access u.0
+
+-- a call that awaits a range holds its pages
+awaits_held : (made : Made) (s : Slots) (phase : Phase) (range : PageRange) (p : ℕ) → IsReady made s phase
+    → awaits_in phase ≡ Some range → has range p ≡ true → holds phase p ≡ true
+awaits_held made s (Acks change held) range p ready a i =
+    let same : range_of change ≡ range = cc in
+    subst (λ r. has r p ≡ true) (sym (ready.0 ∙ same)) i
+awaits_held made s Free range p ready a i = absurd cc
+awaits_held made s (Check request) range p ready a i = absurd cc
+awaits_held made s (Lock goal cursor) range p ready a i = absurd cc
+awaits_held made s (Decide change) range p ready a i = absurd cc
+awaits_held made s (Post change shoot) range p ready a i = absurd cc
+awaits_held made s (Unlock held reply) range p ready a i = absurd cc
+awaits_held made s (Answer reply) range p ready a i = absurd cc
+awaits_held made s (Try touch) range p ready a i = absurd cc
+awaits_held made s (Settle touch) range p ready a i = absurd cc
+awaits_held made s (Want touch) range p ready a i = absurd cc
+awaits_held made s (Fill touch frame) range p ready a i = absurd cc
+awaits_held made s (Install touch) range p ready a i = absurd cc
+awaits_held made s (Release touch) range p ready a i = absurd cc
+
+-- no call awaits a page that a call holds which awaits nothing
+unawaited : (w : World) (c p : ℕ) → IsOrderly w → awaits_in (w.calls.phase c) ≡ None → holds (w.calls.phase c) p ≡ true
+    → (x : ℕ) (range : PageRange) → awaits_in (w.calls.phase x) ≡ Some range → has range p ≡ true → ⊥
+unawaited w c p g none mine x range a i =
+    let held : holds (w.calls.phase x) p ≡ true = awaits_held w.made w.slots (w.calls.phase x) range p (g.ready x) a i in
+    let its : w.slots.owner p ≡ Some x = g.owned x p held in
+    let my : w.slots.owner p ≡ Some c = g.owned c p mine in
+    let same : x ≡ c = cc in
+    let b : awaits_in (w.calls.phase c) ≡ Some range = subst (λ n. awaits_in (w.calls.phase n) ≡ Some range) same a in
+    cc
+
+pub installs_kept : (w : World) (c : ℕ) (touch : Touch) → IsOrderly w → w.calls.phase c ≡ Install touch
+    → IsCoherentState w → IsCoherentState (after_install c touch w)
+installs_kept w c touch g e k =
+    goes_on c (Release touch) (ap awaits_in e) refl
+    (of_cores more w.calls.phase now
+    (put_all (λ d table. IsCore more w.calls.phase d table (h.tlb d) (h.inbox d)) h.table c
+    (put (h.table c) page (entry_of_page info)) own (λ d ne. core_of d recorded)))
+  where
+    h : Hardware
+    h = w.hardware
+
+    page : ℕ
+    page = touch.page
+
+    info : Option PageInfo
+    info = w.slots.info page
+
+    more : ℕ → Option PageInfo
+    more = put w.slots.info page (info_with_core c info)
+
+    now : Hardware
+    now = record h { table = put h.table c (put (h.table c) page (entry_of_page info)) }
+
+    at : more page ≡ info_with_core c info
+    at = put_same w.slots.info page (info_with_core c info)
+
+    recorded : IsCoherent more w.calls.phase h
+    recorded = page_backed page (info_with_core c info) (λ d t. backed_more c d info t) k
+
+    right : AllowsSome info
+    right = let u = (call_at w c (Install touch) e g).ready in
+        usable_right w.made.file info touch.access (Some u.0) u.1
+
+    own : IsCore more w.calls.phase c (put (h.table c) page (entry_of_page info)) (h.tlb c) (h.inbox c)
+    own = subst (λ o. IsCore more w.calls.phase c (put (h.table c) page o) (h.tlb c) (h.inbox c))
+        (ap entry_of_page at ∙ same_entry c info)
+        (installs page (subst (λ o. is_recorded o c ≡ true) (sym at) (recorded_now c info right))
+        (subst AllowsSome (sym at) (same_right c info right))
+        (unawaited w c page g (ap awaits_in e) (ap (λ ph. holds ph page) e ∙ page_is touch)) (core_of c recorded))

@@ -1,0 +1,433 @@
+-- Every step from an orderly state whose frames are counted leaves one.
+use Rattle.std.proofs.Common.{◌≡◌, ◌≢◌, ℕ, ◌<◌, ◌+◌, ◌-◌, ◌^◌, true, false, ◌⊎◌, inl, inr, cond, refl, sym, ap, subst, arith, ◌∙◌, ℤ, pos, ◌+ℤ◌, ◌<ℤ◌, Some, None, Option}
+use Rattle.std.specs.Prelude.{is_some, nat_le}
+use Rattle.std.proofs.lemmas.Int.{ints}
+use Rattle.vm_base.specs.declared.info.PageInfo.{PageInfo}
+use Rattle.vm_base.specs.declared.page.PageRange.{PageRange}
+use Rattle.vm_base.specs.declared.replies.Reply.{Reply}
+use Rattle.vm_base.specs.declared.replies.Reply.TheVariants.{NoMemory}
+use Rattle.vm_base.specs.declared.rights.Access.{Access}
+use Rattle.vm_base.specs.declared.rights.Prot.{Prot}
+use Rattle.vm_base.specs.Functions.{put, has}
+use Rattle.vm_base.specs.Info.{advance, frame_of, info_with_frame, info_with_prot, unused}
+use Rattle.vm_base.specs.Pages.{IsPage, IsPageRange, pages_from}
+use Rattle.vm_base.specs.Plain.{File, mode_of}
+use Rattle.vm_base.proofs.Functions.{by_test, put_all, across_all, put_same, put_other}
+use Rattle.refcache.specs.declared.reports.Review.TheVariants as review
+use Rattle.refcache.specs.Counts.{Counts, true_count, no_counts}
+use Rattle.refcache.specs.Steps.{Begin, Flushing, Reviewing, Takes, IsUnused, Step as CountStep}
+use Rattle.refcache.proofs.Moves.{true_counts_move}
+use Rattle.refcache.proofs.Reached.{freed_is_unused, unused_at_first, reached_is_orderly}
+use Rattle.refcache.proofs.Unused.{unused_stays}
+use Rattle.slot_lock.specs.declared.plan.Change.{Change}
+use Rattle.slot_lock.specs.declared.plan.Change.TheVariants.{Put, Clear, Protect}
+use Rattle.slot_lock.specs.declared.plan.Touch.{Touch}
+use Rattle.slot_lock.specs.Plan.{range_of}
+use Rattle.slot_lock.specs.Slots.{Slots, IsNew, between}
+use Rattle.machine_model.specs.declared.event.Event.{Event}
+use Rattle.machine_model.specs.declared.event.Outcome.{Outcome}
+use Rattle.machine_model.specs.declared.phase.Goal.{Goal}
+use Rattle.machine_model.specs.declared.phase.Goal.TheVariants as To
+use Rattle.machine_model.specs.declared.phase.Phase.{Phase}
+use Rattle.machine_model.specs.declared.phase.Phase.TheVariants.{Free, Check, Acks, Fill, Install, Lock}
+use Rattle.machine_model.specs.Accesses.{after_frame, after_fill, after_install, memory_after, reply_of, info_with_core}
+use Rattle.machine_model.specs.Actions.{let_go}
+use Rattle.machine_model.specs.Changes.{slots_after, after_commit, CountsLost, reply_to}
+use Rattle.machine_model.specs.Counting.{CountsDown, frame_lost, with_counts, with_free}
+use Rattle.machine_model.specs.GivingUp.{given_back, after_give_up}
+use Rattle.machine_model.specs.Holding.{taken_in, still_held}
+use Rattle.machine_model.specs.Locks.{locking, locked_to, all_locked, held_after}
+use Rattle.machine_model.specs.Step.{Step, with_event}
+use Rattle.machine_model.specs.World.{World, Made, Memory, new_world}
+use Rattle.machine_laws.specs.Orderly.{IsOrderly, IsUsable}
+use Rattle.machine_laws.proofs.Changed.{same_outside}
+use Rattle.machine_laws.proofs.Deciding.{change_sound, sound_range}
+use Rattle.machine_laws.proofs.Moves.{IsCallOf, call_at}
+use Rattle.machine_laws.proofs.Shapes.{Moves, locks, tries, acts, finds, lacks, LetsGo, unlocks, releases, GoesBy, moves, divides, owns, lets_go, answers, posts, commits, takes, fills, installs, accesses, faults, Works, clears, invalidates, walks, evicts, flushes, reviews, frees, Shape, rests, begins, ends, goes, gives_up, works, joins, Comes, stopped, acts as happens, comes}
+use Rattle.machine_counting.specs.Counted.{IsCounted, IsCountedState}
+use Rattle.machine_counting.proofs.Pages.{CountsPages, counts_same, counts_none, counts_some, page_up, GiveUpFrames, range_down, none_down, unused_down}
+
+-- ---- frames of pages
+
+-- only valid pages have frames
+pub framed_page : (w : World) → IsOrderly w → (f p : ℕ) → frame_of (w.slots.info p) ≡ Some f → p < 2 ^ 35
+framed_page w g f p e = (valid (w.slots.info p) (g.pages p).valid e).1
+  where
+    valid : (o : Option PageInfo) → (is_some o ≡ true → IsPage p) → frame_of o ≡ Some f → IsPage p
+    valid None h e = absurd cc
+    valid (Some info) h e = h refl
+
+-- a page's frame is counted
+pub counted_positive : (w : World) → IsOrderly w → IsCountedState w → (f p : ℕ) → frame_of (w.slots.info p) ≡ Some f
+    → pos 0 <ℤ true_count w.memory.counts f
+counted_positive w g k f p e = counts_some w.memory.counts w.slots.info f p (2 ^ 35) (framed_page w g f p e) k.users e
+
+-- what is unused is no page's frame
+pub unused_no_page : (w : World) → IsOrderly w → IsCountedState w → (f p : ℕ) → IsUnused w.memory.counts f
+    → frame_of (w.slots.info p) ≢ Some f
+unused_no_page w g k f p u e = let a = counted_positive w g k f p e in let b = u.zero in omega (arith, ints, a, b)
+
+-- ---- frames that calls have taken
+
+-- the call of core c moves on to a phase without such a frame
+others : (phase : ℕ → Phase) (c : ℕ) (new : Phase) → taken_in new ≡ None → (d f : ℕ)
+    → taken_in (put phase c new d) ≡ Some f → (d ≢ c) × (taken_in (phase d) ≡ Some f)
+others phase c new none d f =
+    put_all (λ d x. taken_in x ≡ Some f → (d ≢ c) × (taken_in (phase d) ≡ Some f)) phase c new
+    (λ h. absurd cc) (λ d ne h. (ne, h)) d
+
+none_let_go : (held : Option PageRange) (reply : Reply) → taken_in (let_go held reply) ≡ None
+none_let_go None reply = refl
+none_let_go (Some held) reply = refl
+
+none_locked : (goal : Goal) (b : ℕ) → taken_in (locked_to goal b) ≡ None
+none_locked goal b =
+    by_test (λ x. taken_in x ≡ None) (nat_le _ b) (all_locked goal) (Lock goal b) (λ _. all goal) (λ _. refl)
+  where
+    all : (goal : Goal) → taken_in (all_locked goal) ≡ None
+    all (To.Change change) = refl
+    all (To.Access touch) = refl
+
+none_moved : (w : World) (c : ℕ) (new : Phase) → Moves w c new → taken_in new ≡ None
+none_moved w c new (locks request change e n p) = ap taken_in n
+none_moved w c new (tries request touch e n p) = ap taken_in n
+none_moved w c new (acts change range shoot e n d) = ap taken_in n
+none_moved w c new (finds touch f e n u) = ap taken_in n
+none_moved w c new (lacks touch e n u) = ap taken_in n
+
+none_left : (old : Phase) (held : PageRange) (b : ℕ) (new : Phase) → LetsGo old held b new → taken_in new ≡ None
+none_left old held b new (unlocks reply e n) = ap taken_in n ∙ none_let_go (held_after held b) reply
+none_left old held b new (releases touch e h n) = ap taken_in n
+
+-- ---- what changes neither frames of pages nor free frames
+
+-- no call takes a frame, and nothing is made use of that was unused
+stays : (w : World) (info : ℕ → Option PageInfo) (phase : ℕ → Phase) (m : Memory) → IsCountedState w
+    → CountsPages m.counts info (2 ^ 35) → ((f : ℕ) → IsUnused w.memory.counts f → IsUnused m.counts f)
+    → m.is_free ≡ w.memory.is_free
+    → ((d f : ℕ) → taken_in (phase d) ≡ Some f → taken_in (w.calls.phase d) ≡ Some f) → IsCounted info phase m
+stays w info phase m k users unused free taken = record {
+  users = users;
+  free = λ f h. unused f (k.free f (sym (ap (λ g. g f) free) ∙ h));
+  taken = λ d f h. unused f (k.taken d f (taken d f h));
+  busy = λ d f h. ap (λ g. g f) free ∙ k.busy d f (taken d f h);
+  alone = λ c d f h i. k.alone c d f (taken c f h) (taken d f i);
+}
+
+-- the call of core c goes on, and no page gains or loses a frame
+goes_on : (w : World) (c : ℕ) (new : Phase) (t : Slots) (m : Memory) → IsCountedState w → taken_in new ≡ None
+    → ((p : ℕ) → frame_of (t.info p) ≡ frame_of (w.slots.info p)) → m.counts ≡ w.memory.counts
+    → m.is_free ≡ w.memory.is_free → IsCounted t.info (put w.calls.phase c new) m
+goes_on w c new t m k none same counts free =
+    stays w t.info (put w.calls.phase c new) m k
+    (subst (λ x. CountsPages x t.info (2 ^ 35)) (sym counts)
+    (counts_same w.memory.counts w.slots.info t.info (2 ^ 35) same k.users))
+    (λ f u. subst (λ x. IsUnused x f) (sym counts) u) free (λ d f h. (others w.calls.phase c new none d f h).1)
+
+-- and nothing but the call changes
+moved : (w : World) (c : ℕ) (new : Phase) → IsCountedState w → taken_in new ≡ None
+    → IsCounted w.slots.info (put w.calls.phase c new) w.memory
+moved w c new k none = goes_on w c new w.slots w.memory k none (λ p. refl) refl refl
+
+-- slots are divided or joined
+other_slots : (w : World) (t : Slots) → IsCountedState w → t.info ≡ w.slots.info
+    → IsCounted t.info w.calls.phase w.memory
+other_slots w t k same = subst (λ info. IsCounted info w.calls.phase w.memory) (sym same) k
+
+-- a core is recorded on a page
+same_with_core : (c : ℕ) (o : Option PageInfo) → frame_of (info_with_core c o) ≡ frame_of o
+same_with_core c None = refl
+same_with_core c (Some info) = refl
+
+installs_kept : (w : World) (c : ℕ) (touch : Touch) → IsCountedState w → IsCountedState (after_install c touch w)
+installs_kept w c touch k = goes_on w c _ (after_install c touch w).slots w.memory k refl same refl refl
+  where
+    same : (p : ℕ) → frame_of ((after_install c touch w).slots.info p) ≡ frame_of (w.slots.info p)
+    same = put_all (λ p x. frame_of x ≡ frame_of (w.slots.info p)) w.slots.info touch.page _
+        (same_with_core c (w.slots.info touch.page)) (λ p ne. refl)
+
+-- a step of Refcache that moves no true count
+counts_kept : (w : World) (step : CountStep) (counts : Counts) → IsOrderly w → IsCountedState w
+    → Takes w.memory.counts step counts → ((f n : ℕ) → step ≢ Begin f n)
+    → ((f : ℕ) → true_count counts f ≡ true_count w.memory.counts f)
+    → IsCounted w.slots.info w.calls.phase (record w.memory { counts = counts })
+counts_kept w step counts g k t other same =
+    stays w w.slots.info w.calls.phase (record w.memory { counts = counts }) k (λ f. same f ∙ k.users f)
+    (λ f u. unused_stays w.memory.counts step counts f g.memory.reached t u (other f)) refl (λ d f h. h)
+
+plus_zero : (z : ℤ) → z +ℤ pos 0 ≡ z
+plus_zero z = omega (arith, ints)
+
+-- ---- Acks
+
+-- a range is so many pages from its first on
+as_pages : (r : PageRange) → IsPageRange r → pages_from r.first (r.end - r.first) ≡ r
+as_pages r h =
+    let some = h.some in
+    let end : r.first + (r.end - r.first) ≡ r.end = omega (arith, some) in
+    ap (λ e. between r.first e) end
+
+-- where the pages of the change have no frame after it, they have given up their frames, and core c has counted them down
+range_lost : (w : World) (c : ℕ) (change : Change) (counts : Counts) → IsPageRange (range_of change) → IsCountedState w
+    → CountsDown c (λ p. frame_of (w.slots.info p)) (range_of change).first
+    ((range_of change).end - (range_of change).first)
+    w.memory.counts counts
+    → ((p : ℕ) → has (range_of change) p ≡ true → frame_of ((slots_after change w.slots).info p) ≡ None)
+    → CountsPages counts (slots_after change w.slots).info (2 ^ 35)
+range_lost w c change counts h k l gone =
+    range_down c (λ p. frame_of (w.slots.info p)) r.first (r.end - r.first) w.memory.counts counts w.slots.info
+    (slots_after change w.slots).info (2 ^ 35) l
+    (let some = h.some in let high = h.high in omega (arith, some, high)) (λ p _. refl)
+    (subst (GiveUpFrames w.slots.info (slots_after change w.slots).info) (sym (as_pages r h))
+    (record { gone = gone; others = λ p i. ap frame_of (same_outside w.slots change p i) })) k.users
+  where
+    r : PageRange
+    r = range_of change
+
+-- a protected page keeps its frame
+same_with_prot : (prot : Prot) (o : Option PageInfo) → frame_of (info_with_prot prot o) ≡ frame_of o
+same_with_prot prot None = refl
+same_with_prot prot (Some info) = refl
+
+-- the counts after the change are those of the pages after it
+changed_users : (w : World) (c : ℕ) (change : Change) (counts : Counts) → IsPageRange (range_of change)
+    → IsCountedState w → CountsLost c change w counts → CountsPages counts (slots_after change w.slots).info (2 ^ 35)
+changed_users w c (Put range meta) counts h k l =
+    range_lost w c (Put range meta) counts h k l
+    (λ p i. ap (λ b. frame_of (cond b (Some (unused (advance meta (p - range.first)))) (w.slots.info p))) i)
+changed_users w c (Clear range) counts h k l =
+    range_lost w c (Clear range) counts h k l (λ p i. ap (λ b. frame_of (cond b None (w.slots.info p))) i)
+changed_users w c (Protect range prot) counts h k l =
+    subst (λ x. CountsPages x (slots_after (Protect range prot) w.slots).info (2 ^ 35))
+    (sym (none_down c range.first (range.end - range.first) w.memory.counts counts l))
+    (counts_same w.memory.counts w.slots.info _ (2 ^ 35)
+    (across_all (λ p x. frame_of x ≡ frame_of (w.slots.info p)) w.slots.info (has range)
+    (λ p. info_with_prot prot (w.slots.info p))
+    (λ p i. same_with_prot prot (w.slots.info p)) (λ p i. refl)) k.users)
+
+commits_kept : (w : World) (c : ℕ) (change : Change) (held : PageRange) (counts : Counts) → IsOrderly w
+    → IsCountedState w → w.calls.phase c ≡ Acks change held → CountsLost c change w counts
+    → IsCountedState (after_commit c change held counts w)
+commits_kept w c change held counts g k e l =
+    stays w (slots_after change w.slots).info (put w.calls.phase c (let_go (Some held) (reply_to change)))
+    (with_counts counts w).memory k
+    (changed_users w c change counts range k l)
+    (λ f u. unused_down c (frame_lost change w.slots.info) _ _ w.memory.counts counts f g.memory.reached l u) refl
+    (λ d f h. (others w.calls.phase c (let_go (Some held) (reply_to change)) refl d f h).1)
+  where
+    call : IsCallOf w c (Acks change held)
+    call = call_at w c (Acks change held) e g
+
+    range : IsPageRange (range_of change)
+    range =
+        sound_range change
+        (change_sound (λ n. mode_of (w.made.file n)) c call.asked.request change call.asked.passed)
+
+-- ---- Want
+
+-- the frame that the call takes was free, so no other call has taken it
+takes_kept : (w : World) (c : ℕ) (touch : Touch) (f : ℕ) → IsCountedState w → w.memory.is_free f ≡ true
+    → IsCountedState (after_frame c touch f w)
+takes_kept w c touch f k was_free = record {
+  users = k.users;
+  free = put_all (λ g b. b ≡ true → IsUnused w.memory.counts g) w.memory.is_free f false
+      (λ h. absurd cc) (λ g ne h. k.free g h);
+  taken = λ d g h. unused d g (taken d g h);
+  busy = λ d g h. busy d g (taken d g h);
+  alone = λ a b g h i. alone a b g (taken a g h) (taken b g i);
+}
+  where
+    -- the call has taken this frame, or a call had taken it before
+    Taken : ℕ → ℕ → Type 0
+    Taken d g = ((d ≡ c) × (g ≡ f)) ⊎ (taken_in (w.calls.phase d) ≡ Some g)
+
+    taken : (d g : ℕ) → taken_in (put w.calls.phase c (Fill touch f) d) ≡ Some g → Taken d g
+    taken d g = put_all (λ d x. taken_in x ≡ Some g → Taken d g) w.calls.phase c (Fill touch f)
+        (λ h. inl (refl, let e : f ≡ g = cc in sym e)) (λ d ne h. inr h) d
+
+    unused : (d g : ℕ) → Taken d g → IsUnused w.memory.counts g
+    unused d g (inl h) = subst (IsUnused w.memory.counts) (sym h.1) (k.free f was_free)
+    unused d g (inr h) = k.taken d g h
+
+    busy : (d g : ℕ) → Taken d g → put w.memory.is_free f false g ≡ false
+    busy d g (inl h) = ap (put w.memory.is_free f false) h.1 ∙ put_same w.memory.is_free f false
+    busy d g (inr h) = put_all (λ g b. w.memory.is_free g ≡ false → b ≡ false) w.memory.is_free f false
+        (λ _. refl) (λ g ne i. i) g (k.busy d g h)
+
+    clash : (d g : ℕ) → g ≡ f → taken_in (w.calls.phase d) ≡ Some g → ⊥
+    clash d g e h = let a = k.busy d g h in let b : w.memory.is_free g ≡ true = ap w.memory.is_free e ∙ was_free in cc
+
+    alone : (a b g : ℕ) → Taken a g → Taken b g → a ≡ b
+    alone a b g (inl h) (inl i) = h.0 ∙ sym i.0
+    alone a b g (inl h) (inr i) = absurd (clash b g h.1 i)
+    alone a b g (inr h) (inl i) = absurd (clash a g i.1 h)
+    alone a b g (inr h) (inr i) = k.alone a b g h i
+
+-- ---- Fill
+
+-- a page that an access can use, and that has no frame
+usable_page : (file : ℕ → Option File) (o : Option PageInfo) (access : Access) (f : ℕ) → IsUsable file o access None
+    → (is_some o ≡ true) × (frame_of o ≡ None) × (frame_of (info_with_frame f o) ≡ Some f)
+usable_page file None access f u = absurd u
+usable_page file (Some info) access f u = (refl, u.2, refl)
+
+-- the frame that begins to be counted was this call's, so it is neither free nor another's
+fills_kept : (w : World) (c : ℕ) (touch : Touch) (f : ℕ) (counts : Counts) → IsOrderly w → IsCountedState w
+    → w.calls.phase c ≡ Fill touch f → Takes w.memory.counts (Begin f 1) counts
+    → IsCountedState (after_fill c touch f counts w)
+fills_kept w c touch f counts g k e t = record {
+  users = page_up w.memory.counts counts w.slots.info touch.page f
+      (info_with_frame f (w.slots.info touch.page)) (2 ^ 35)
+      ((g.pages touch.page).valid page.0).1 page.1 page.2 t k.users;
+  free = λ x h. unused x (λ i. clash (ap w.memory.is_free (sym i) ∙ h)) (k.free x h);
+  taken = λ d x h. let o = other d x h in
+      unused x (λ i. o.0 (k.alone d c x o.1 (mine ∙ ap Some (sym i)))) (k.taken d x o.1);
+  busy = λ d x h. k.busy d x (other d x h).1;
+  alone = λ a b x h i. k.alone a b x (other a x h).1 (other b x i).1;
+}
+  where
+    page : (is_some (w.slots.info touch.page) ≡ true) × (frame_of (w.slots.info touch.page) ≡ None)
+        × (frame_of (info_with_frame f (w.slots.info touch.page)) ≡ Some f)
+    page = usable_page w.made.file (w.slots.info touch.page) touch.access f (call_at w c (Fill touch f) e g).ready
+
+    mine : taken_in (w.calls.phase c) ≡ Some f
+    mine = ap taken_in e
+
+    clash : w.memory.is_free f ≡ true → ⊥
+    clash h = let a = k.busy c f mine in cc
+
+    other : (d x : ℕ) → taken_in (put w.calls.phase c (Install touch) d) ≡ Some x
+        → (d ≢ c) × (taken_in (w.calls.phase d) ≡ Some x)
+    other = others w.calls.phase c (Install touch) refl
+
+    unused : (x : ℕ) → x ≢ f → IsUnused w.memory.counts x → IsUnused counts x
+    unused x ne u =
+        unused_stays w.memory.counts (Begin f 1) counts x g.memory.reached t u (λ n i. ne (let b : f ≡ x = cc in sym b))
+
+-- ---- a review frees a frame
+
+-- the frame was queued, so no call has taken it
+frees_kept : (w : World) (c f : ℕ) (counts : Counts) → IsOrderly w → IsCountedState w
+    → Takes w.memory.counts (Reviewing c (review.Freed f)) counts → IsCountedState (with_free f (with_counts counts w))
+frees_kept w c f counts g k t = record {
+  users = other.users;
+  free = put_all (λ x b. b ≡ true → IsUnused counts x) w.memory.is_free f true
+      (λ _. freed_is_unused w.memory.counts c f counts g.memory.reached t) (λ x ne h. other.free x h);
+  taken = other.taken;
+  busy = λ d x h.
+      put_other w.memory.is_free f true x (λ i. clash (ap w.memory.counts.queued (sym i) ∙ (k.taken d x h).unqueued))
+      ∙ k.busy d x h;
+  alone = k.alone;
+}
+  where
+    other : IsCounted w.slots.info w.calls.phase (record w.memory { counts = counts })
+    other = counts_kept w (Reviewing c (review.Freed f)) counts g k t (λ x n i. cc)
+        (λ x. true_counts_move w.memory.counts (Reviewing c (review.Freed f)) counts t x ∙ plus_zero _)
+
+    queued : w.memory.counts.queued f ≡ true
+    queued =
+        let due = t.1.1 in
+        ((reached_is_orderly w.memory.counts g.memory.reached).fronts c f due.since t.1.0 due.front).1
+
+    clash : w.memory.counts.queued f ≡ false → ⊥
+    clash h = let a = queued in cc
+
+-- ---- a call is given up
+
+gives_up_kept : (w : World) (c : ℕ) → IsCountedState w → IsCountedState (after_give_up c (w.calls.phase c) w)
+gives_up_kept w c k = go (taken_in (w.calls.phase c)) refl
+  where
+    new : Phase
+    new = let_go (still_held (w.calls.phase c)) NoMemory
+
+    other : (d x : ℕ) → taken_in (put w.calls.phase c new d) ≡ Some x → (d ≢ c) × (taken_in (w.calls.phase d) ≡ Some x)
+    other = others w.calls.phase c new (none_let_go (still_held (w.calls.phase c)) NoMemory)
+
+    go : (o : Option ℕ) → taken_in (w.calls.phase c) ≡ o
+        → IsCounted w.slots.info (put w.calls.phase c new) (record w.memory { is_free = given_back o w.memory.is_free })
+    go None e = moved w c new k (none_let_go (still_held (w.calls.phase c)) NoMemory)
+    go (Some f) e = record {
+      users = k.users;
+      free = put_all (λ x b. b ≡ true → IsUnused w.memory.counts x) w.memory.is_free f true
+          (λ _. k.taken c f e) (λ x ne h. k.free x h);
+      taken = λ d x h. k.taken d x (other d x h).1;
+      busy = λ d x h. let o = other d x h in
+          put_other w.memory.is_free f true x (λ i. o.0 (k.alone d c x o.1 (e ∙ ap Some (sym i)))) ∙ k.busy d x o.1;
+      alone = λ a b x h i. k.alone a b x (other a x h).1 (other b x i).1;
+    }
+
+-- ---- every shape
+
+goes_kept : (w : World) (c : ℕ) (v : World) → IsOrderly w → IsCountedState w → GoesBy w c v → IsCountedState v
+goes_kept w c v g k (moves new m h) = subst IsCountedState (sym h) (moved w c new k (none_moved w c new m))
+goes_kept w c v g k (divides goal cursor t e s h) = subst IsCountedState (sym h) (other_slots w t k s.divides.2.info)
+goes_kept w c v g k (owns goal cursor b t e l h) =
+    subst IsCountedState (sym h)
+    (goes_on w c (locked_to goal b) t w.memory k (none_locked goal b)
+    (λ p. ap (λ s. frame_of (s.info p)) l.now) refl refl)
+goes_kept w c v g k (lets_go held b t new l u h) =
+    subst IsCountedState (sym h)
+    (goes_on w c new t w.memory k (none_left (w.calls.phase c) held b new l)
+    (λ p. ap (λ s. frame_of (s.info p)) u.now) refl refl)
+goes_kept w c v g k (answers held reply r h) =
+    subst IsCountedState (sym h) (moved w c (let_go held reply) k (none_let_go held reply))
+goes_kept w c v g k (posts change shoot e h) =
+    subst IsCountedState (sym h) (moved w c (Acks change (range_of change)) k refl)
+goes_kept w c v g k (commits change held counts e n l h) =
+    subst IsCountedState (sym h) (commits_kept w c change held counts g k e l)
+goes_kept w c v g k (takes touch f e l h) = subst IsCountedState (sym h) (takes_kept w c touch f k l)
+goes_kept w c v g k (fills touch f counts e t h) = subst IsCountedState (sym h) (fills_kept w c touch f counts g k e t)
+goes_kept w c v g k (installs touch e h) = subst IsCountedState (sym h) (installs_kept w c touch k)
+goes_kept w c v g k (accesses touch f e i h) =
+    subst IsCountedState (sym h)
+    (goes_on w c (let_go None (reply_of touch f w.memory)) w.slots
+    (memory_after touch f w.memory) k refl (λ p. refl) refl refl)
+goes_kept w c v g k (faults touch e i h) = subst IsCountedState (sym h) (moved w c (locking (To.Access touch)) k refl)
+
+works_kept : (w : World) (c : ℕ) (event : Event) (v : World) → IsOrderly w → IsCountedState w → Works w c event v
+    → IsCountedState v
+works_kept w c event v g k (clears i range e h) = subst IsCountedState (sym h) k
+works_kept w c event v g k (invalidates i range e h) = subst IsCountedState (sym h) k
+works_kept w c event v g k (walks p i e h) = subst IsCountedState (sym h) k
+works_kept w c event v g k (evicts p i e h) = subst IsCountedState (sym h) k
+works_kept w c event v g k (flushes i report counts t h) =
+    subst IsCountedState (sym h) (counts_kept w (Flushing c report) counts g k t (λ f n i. cc)
+    (λ f. true_counts_move w.memory.counts (Flushing c report) counts t f ∙ plus_zero _))
+works_kept w c event v g k (reviews i report counts t h) =
+    subst IsCountedState (sym h) (counts_kept w (Reviewing c report) counts g k t (λ f n i. cc)
+    (λ f. true_counts_move w.memory.counts (Reviewing c report) counts t f ∙ plus_zero _))
+works_kept w c event v g k (frees i f counts t h) = subst IsCountedState (sym h) (frees_kept w c f counts g k t)
+
+shape_kept : (w : World) (e : Event) (o : Outcome) (v : World) → IsOrderly w → IsCountedState w → Shape w e o v
+    → IsCountedState v
+shape_kept w e o v g k (rests i h) = subst IsCountedState (sym h) k
+shape_kept w e o v g k (begins c request i s lt p below h) =
+    subst IsCountedState (sym h) (moved w c (Check request) k refl)
+shape_kept w e o v g k (ends c reply i s lt p h) = subst IsCountedState (sym h) (moved w c Free k refl)
+shape_kept w e o v g k (goes c i s lt m) = goes_kept w c v g k m
+shape_kept w e o v g k (gives_up c i s lt can h) = subst IsCountedState (sym h) (gives_up_kept w c k)
+shape_kept w e o v g k (works c s lt m) = works_kept w c e v g k m
+shape_kept w e o v g k (joins p t i s page j m h) = subst IsCountedState (sym h) (other_slots w t k j.info)
+
+-- neither the order nor what frames count looks at the number of events
+pub kept : (w v : World) (e : Event) (o : Outcome) → IsOrderly w → IsCountedState w → Step w e o v → IsCountedState v
+kept w v e o g k s = go (comes w e o v s)
+  where
+    go : Comes w e o v → IsCountedState v
+    go (stopped n i h) = subst IsCountedState (sym h) k
+    go (happens n h) = shape_kept (with_event w) e o v g k h
+
+-- ---- a machine over new slots
+
+pub opening_is_counted : (made : Made) (slots : Slots) → IsNew slots → IsCountedState (new_world made slots)
+opening_is_counted made slots new = record {
+  users = counts_none (no_counts made.cores made.frames) slots.info (2 ^ 35)
+      (λ f. (unused f).zero) (λ p. ap frame_of (new.unmapped p));
+  free = λ f h. unused f;
+  taken = λ c f h. absurd cc;
+  busy = λ c f h. absurd cc;
+  alone = λ c d f h i. absurd cc;
+}
+  where
+    unused : (f : ℕ) → IsUnused (no_counts made.cores made.frames) f
+    unused f = unused_at_first made.cores made.frames f

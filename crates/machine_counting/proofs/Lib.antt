@@ -1,0 +1,4 @@
+pub mod Pages
+pub mod Kept
+pub mod CountingDown
+mod Examples

@@ -1,0 +1,211 @@
+-- How many pages have a frame, and true counts that are those numbers
+use Rattle.std.proofs.Common.{◌≡◌, ◌≢◌, ℕ, zero, suc, ◌≤◌, ◌<◌, ◌+◌, Bool, true, false, cond, ◌==◌, refl, sym, ap, subst, arith, ◌∙◌, pos, negsuc, ◌+ℤ◌, ◌<ℤ◌, Some, None, Option}
+use Rattle.std.specs.Prelude.{if◌then◌else◌}
+use Rattle.std.proofs.lemmas.Bool.Decides.{nat_tests}
+use Rattle.std.proofs.lemmas.Int.{ints}
+use Rattle.vm_base.specs.declared.info.PageInfo.{PageInfo}
+use Rattle.vm_base.specs.Functions.{put, has}
+use Rattle.vm_base.specs.declared.page.PageRange.{PageRange}
+use Rattle.vm_base.specs.Info.{frame_of}
+use Rattle.vm_base.specs.Pages.{pages_from}
+use Rattle.vm_base.proofs.Functions.{by_test, put_same, put_other, put_all}
+use Rattle.refcache.specs.Counts.{Counts, true_count}
+use Rattle.refcache.specs.Laws.{change}
+use Rattle.refcache.specs.Sound.{IsReached}
+use Rattle.refcache.specs.Steps.{Step, Begin, Dec, Takes, IsUnused}
+use Rattle.refcache.proofs.Moves.{true_counts_move}
+use Rattle.refcache.proofs.Reached.{steps_reach}
+use Rattle.refcache.proofs.Unused.{unused_stays}
+use Rattle.machine_model.specs.Counting.{CountsOne, CountsDown}
+use Rattle.machine_counting.specs.Counted.{is_frame, pages_with}
+
+-- ---- numbers of pages
+
+-- 1 if what has this has the frame
+abbrev pub one : Option ℕ → ℕ → ℕ
+one frame f = if is_frame frame f then 1 else 0
+
+-- only the frames of the pages below n are looked at
+pub pages_same : (g h : ℕ → Option PageInfo) (f n : ℕ) → ((p : ℕ) → p < n → frame_of (g p) ≡ frame_of (h p))
+    → pages_with g f n ≡ pages_with h f n
+unfolding pages_with
+pages_same g h f zero e = refl
+pages_same g h f (suc n) e =
+    let a : one (frame_of (g n)) f ≡ one (frame_of (h n)) f = ap (λ o. one o f) (e n (omega arith)) in
+    let b : pages_with g f n ≡ pages_with h f n = pages_same g h f n (λ p lt. e p (omega (arith, lt))) in
+    omega (arith, a, b)
+
+-- one page changes: what it had goes out, and what it has comes in
+pub pages_put : (g : ℕ → Option PageInfo) (p f : ℕ) (new : Option PageInfo) (n : ℕ) → p < n
+    → pages_with (put g p new) f n + one (frame_of (g p)) f ≡ pages_with g f n + one (frame_of new) f
+unfolding pages_with
+pages_put g p f new zero h = absurd (omega arith)
+pages_put g p f new (suc n) h = go (λ lt. pages_put g p f new n lt) (n == p) refl
+  where
+    go : (p < n → pages_with (put g p new) f n + one (frame_of (g p)) f ≡ pages_with g f n + one (frame_of new) f)
+        → (b : Bool) → (n == p) ≡ b
+        → pages_with (put g p new) f (suc n) + one (frame_of (g p)) f ≡ pages_with g f (suc n) + one (frame_of new) f
+    go ih true e =
+        let k : n ≡ p = grind (arith, nat_tests) in
+        let a : pages_with (put g p new) f n ≡ pages_with g f n =
+        pages_same (put g p new) g f n (λ q lt. ap frame_of (put_other g p new q (omega (arith, lt, k)))) in
+        let b : one (frame_of (put g p new n)) f ≡ one (frame_of new) f =
+        ap (λ o. one (frame_of o) f) (ap (put g p new) k ∙ put_same g p new) in
+        let c : one (frame_of (g n)) f ≡ one (frame_of (g p)) f = ap (λ q. one (frame_of (g q)) f) k in
+        omega arith
+    go ih false e =
+        let ne : n ≢ p = grind (arith, nat_tests) in
+        let a : one (frame_of (put g p new n)) f ≡ one (frame_of (g n)) f =
+        ap (λ o. one (frame_of o) f) (put_other g p new n ne) in
+        let b = ih (omega arith) in
+        omega arith
+
+one_is : (f : ℕ) → one (Some f) f ≡ 1
+one_is f = let e : (f == f) ≡ true = grind (arith, nat_tests) in ap (λ b. cond b 1 0) e
+
+-- a page that has the frame is counted
+pub pages_some : (g : ℕ → Option PageInfo) (p f n : ℕ) → p < n → frame_of (g p) ≡ Some f → 1 ≤ pages_with g f n
+pages_some g p f n lt e =
+    let a = pages_put g p f None n lt in
+    let b : one (frame_of (g p)) f ≡ 1 = ap (λ o. one o f) e ∙ one_is f in
+    omega (arith, a, b)
+
+-- no page has a frame
+pub pages_none : (g : ℕ → Option PageInfo) (f n : ℕ) → ((p : ℕ) → frame_of (g p) ≡ None) → pages_with g f n ≡ 0
+unfolding pages_with
+pages_none g f zero e = refl
+pages_none g f (suc n) e =
+    let a : one (frame_of (g n)) f ≡ 0 = ap (λ o. one o f) (e n) in
+    let b = pages_none g f n e in
+    omega (arith, a, b)
+
+-- ---- true counts
+
+-- each frame's true count is the number of pages below n that have it
+abbrev pub CountsPages : Counts → (ℕ → Option PageInfo) → ℕ → Type 0
+CountsPages v info n = (f : ℕ) → true_count v f ≡ pos (pages_with info f n)
+
+pub counts_same : (v : Counts) (g h : ℕ → Option PageInfo) (n : ℕ) → ((p : ℕ) → frame_of (h p) ≡ frame_of (g p))
+    → CountsPages v g n → CountsPages v h n
+counts_same v g h n same k f = k f ∙ ap pos (sym (pages_same h g f n (λ p lt. same p)))
+
+pub counts_none : (v : Counts) (g : ℕ → Option PageInfo) (n : ℕ) → ((f : ℕ) → true_count v f ≡ pos 0)
+    → ((p : ℕ) → frame_of (g p) ≡ None) → CountsPages v g n
+counts_none v g n unused none f = unused f ∙ ap pos (sym (pages_none g f n none))
+
+pub counts_some : (v : Counts) (g : ℕ → Option PageInfo) (f p n : ℕ) → p < n → CountsPages v g n → frame_of (g p) ≡ Some f
+    → pos 0 <ℤ true_count v f
+counts_some v g f p n lt k e = let a = pages_some g p f n lt e in let b = k f in omega (arith, ints, a, b)
+
+flip : (f g : ℕ) → (f == g) ≡ (g == f)
+flip f g = grind (arith, nat_tests)
+
+-- a step of Refcache that moves the true counts as the page's change moves the numbers of pages
+counts_put : (v w : Counts) (step : Step) (info : ℕ → Option PageInfo) (p : ℕ) (new : Option PageInfo) (n : ℕ) → p < n
+    → Takes v step w → ((f : ℕ) → pos (one (frame_of (info p)) f) +ℤ change step f ≡ pos (one (frame_of new) f))
+    → CountsPages v info n → CountsPages w (put info p new) n
+counts_put v w step info p new n lt t by h f =
+    let a = true_counts_move v step w t f in
+    let b = pages_put info p f new n lt in
+    let c = by f in
+    let d = h f in
+    omega (arith, ints, a, b, c, d)
+
+-- a page gives its frame up, and a core counts it down
+pub page_down : (v w : Counts) (info : ℕ → Option PageInfo) (c p f n : ℕ) → p < n → frame_of (info p) ≡ Some f
+    → Takes v (Dec c f) w → CountsPages v info n → CountsPages w (put info p None) n
+page_down v w info c p f n lt e t = counts_put v w (Dec c f) info p None n lt t by
+  where
+    by : (g : ℕ) → pos (one (frame_of (info p)) g) +ℤ change (Dec c f) g ≡ pos 0
+    by g = subst (λ o. pos (one o g) +ℤ change (Dec c f) g ≡ pos 0) (sym e) (go (f == g) (flip g f))
+      where
+        go : (b : Bool) → (g == f) ≡ b → pos (cond b 1 0) +ℤ cond (g == f) (negsuc 0) (pos 0) ≡ pos 0
+        go true i = ap (λ b. pos 1 +ℤ cond b (negsuc 0) (pos 0)) i
+        go false i = ap (λ b. pos 0 +ℤ cond b (negsuc 0) (pos 0)) i
+
+-- a page without a frame gets one, whose count begins
+pub page_up : (v w : Counts) (info : ℕ → Option PageInfo) (p f : ℕ) (new : Option PageInfo) (n : ℕ) → p < n
+    → frame_of (info p) ≡ None → frame_of new ≡ Some f → Takes v (Begin f 1) w → CountsPages v info n
+    → CountsPages w (put info p new) n
+page_up v w info p f new n lt none some t = counts_put v w (Begin f 1) info p new n lt t by
+  where
+    by : (g : ℕ) → pos (one (frame_of (info p)) g) +ℤ change (Begin f 1) g ≡ pos (one (frame_of new) g)
+    by g =
+        subst (λ o. pos (one o g) +ℤ change (Begin f 1) g ≡ pos (one (frame_of new) g)) (sym none)
+        (subst (λ o. pos 0 +ℤ change (Begin f 1) g ≡ pos (one o g)) (sym some) (go (f == g) (flip g f)))
+      where
+        go : (b : Bool) → (g == f) ≡ b → pos 0 +ℤ cond (g == f) (pos 1) (pos 0) ≡ pos (cond b 1 0)
+        go true i = ap (λ b. pos 0 +ℤ cond b (pos 1) (pos 0)) i
+        go false i = ap (λ b. pos 0 +ℤ cond b (pos 1) (pos 0)) i
+
+-- ---- the pages of a range give up their frames, in order
+
+-- the pages of the range have no frame any more, and the others have the frames that they had
+pub record GiveUpFrames (old new : ℕ → Option PageInfo) (range : PageRange) : Type 0 where
+  pub gone : (p : ℕ) → has range p ≡ true → frame_of (new p) ≡ None
+  pub others : (p : ℕ) → has range p ≡ false → frame_of (new p) ≡ frame_of (old p)
+
+has_none : (first p : ℕ) → has (pages_from first 0) p ≡ false
+has_none first p = grind (arith, nat_tests)
+
+has_first : (first n p : ℕ) → (p == first) ≡ true → has (pages_from first (suc n)) p ≡ true
+has_first first n p h = grind (arith, nat_tests)
+
+has_rest : (first n p : ℕ) → has (pages_from (suc first) n) p ≡ true → has (pages_from first (suc n)) p ≡ true
+has_rest first n p h = grind (arith, nat_tests)
+
+has_not : (first n p : ℕ) → has (pages_from (suc first) n) p ≡ false → (p == first) ≡ false
+    → has (pages_from first (suc n)) p ≡ false
+has_not first n p h e = grind (arith, nat_tests)
+
+-- the first of them gave up its frame
+rest_give_up : (old new : ℕ → Option PageInfo) (first n : ℕ) → GiveUpFrames old new (pages_from first (suc n))
+    → GiveUpFrames (put old first None) new (pages_from (suc first) n)
+rest_give_up old new first n h = record {
+  gone = λ p i. h.gone p (has_rest first n p i);
+  others = λ p i.
+      by_test (λ x. frame_of (new p) ≡ frame_of x) (p == first) None (old p) (λ e. h.gone p (has_first first n p e))
+      (λ e. h.others p (has_not first n p i e));
+}
+
+-- the page has given up its frame, if it had one
+one_down : (c : ℕ) (v w : Counts) (info : ℕ → Option PageInfo) (p n : ℕ) (o : Option ℕ) → p < n
+    → frame_of (info p) ≡ o → CountsOne c o v w → CountsPages v info n → CountsPages w (put info p None) n
+one_down c v w info p n None lt e s k =
+    subst (λ x. CountsPages x (put info p None) n) (sym s)
+    (counts_same v info (put info p None) n
+    (put_all (λ q x. frame_of x ≡ frame_of (info q)) info p None (sym e) (λ q ne. refl)) k)
+one_down c v w info p n (Some f) lt e t k = page_down v w info c p f n lt e t k
+
+-- core c has counted down the frames of k pages from the first on: the counts are those of pages that have given them up
+pub range_down : (c : ℕ) (frame : ℕ → Option ℕ) (first k : ℕ) (v w : Counts) (old new : ℕ → Option PageInfo) (n : ℕ)
+    → CountsDown c frame first k v w → first + k ≤ n → ((p : ℕ) → first ≤ p → frame p ≡ frame_of (old p))
+    → GiveUpFrames old new (pages_from first k) → CountsPages v old n → CountsPages w new n
+unfolding CountsDown
+range_down c frame first zero v w old new n d le same h k =
+    subst (λ x. CountsPages x new n) (sym d) (counts_same v old new n (λ p. h.others p (has_none first p)) k)
+range_down c frame first (suc m) v w old new n d le same h k =
+    range_down c frame (suc first) m d.0 w (put old first None) new n d.2 (omega (arith, le))
+    (λ p l. same p (omega (arith, l)) ∙ ap frame_of (sym (put_other old first None p (omega (arith, l)))))
+    (rest_give_up old new first m h)
+    (one_down c v d.0 old first n (frame first) (omega (arith, le)) (sym (same first (omega arith))) d.1 k)
+
+-- nothing is counted down where no page gives its frame up
+pub none_down : (c first k : ℕ) (v w : Counts) → CountsDown c (λ p. None) first k v w → w ≡ v
+unfolding CountsDown
+none_down c first zero v w d = d
+none_down c first (suc m) v w d = none_down c (suc first) m d.0 w d.2 ∙ d.1
+
+unused_one : (c : ℕ) (o : Option ℕ) (v m : Counts) (f : ℕ) → CountsOne c o v m → IsReached v → IsUnused v f
+    → IsReached m × IsUnused m f
+unused_one c None v m f e r u = (subst IsReached (sym e) r, subst (λ x. IsUnused x f) (sym e) u)
+unused_one c (Some g) v m f t r u = (steps_reach v (Dec c g) m r t, unused_stays v (Dec c g) m f r t u (λ k e. cc))
+
+-- what is unused stays so where frames are counted down
+pub unused_down : (c : ℕ) (frame : ℕ → Option ℕ) (first k : ℕ) (v w : Counts) (f : ℕ) → IsReached v
+    → CountsDown c frame first k v w → IsUnused v f → IsUnused w f
+unfolding CountsDown
+unused_down c frame first zero v w f r d u = subst (λ x. IsUnused x f) (sym d) u
+unused_down c frame first (suc m) v w f r d u =
+    let after = unused_one c (frame first) v d.0 f d.1 r u in
+    unused_down c frame (suc first) m d.0 w f after.0 d.2 after.1

@@ -1,0 +1,46 @@
+-- What frames count: the pages that have them
+use Rattle.std.specs.Prelude.{◌≡◌, ℕ, zero, suc, ◌+◌, ◌^◌, ◌==◌, Bool, true, false, if◌then◌else◌, Option, None, Some, pos}
+use Rattle.vm_base.specs.declared.info.PageInfo.{PageInfo}
+use Rattle.vm_base.specs.Info.{frame_of}
+use Rattle.refcache.specs.Counts.{true_count}
+use Rattle.refcache.specs.Steps.{IsUnused}
+use Rattle.slot_lock.specs.Slots.{Slots, IsNew}
+use Rattle.machine_model.specs.declared.event.Event.{Event}
+use Rattle.machine_model.specs.declared.event.Outcome.{Outcome}
+use Rattle.machine_model.specs.declared.phase.Phase.{Phase}
+use Rattle.machine_model.specs.Holding.{taken_in}
+use Rattle.machine_model.specs.World.{World, Made, Memory, new_world}
+use Rattle.machine_model.specs.Step.{Step}
+use Rattle.machine_laws.specs.Orderly.{IsOrderly}
+
+abbrev pub is_frame : Option ℕ → ℕ → Bool
+is_frame None f = false
+is_frame (Some g) f = g == f
+
+-- how many of the pages below n have the frame
+unfoldable pub pages_with : (ℕ → Option PageInfo) → ℕ → ℕ → ℕ
+pages_with info f zero = 0
+pages_with info f (suc n) = (if is_frame (frame_of (info n)) f then 1 else 0) + pages_with info f n
+
+-- how many pages have it; all are below this number
+abbrev pub users_of : (ℕ → Option PageInfo) → ℕ → ℕ
+users_of info f = pages_with info f (2 ^ 35)
+
+-- Each frame's true count is the number of pages that have it. Nothing is left in the counts of a frame that is free or that a call has
+-- taken; a taken frame isn't free, and no two calls have taken one frame.
+pub record IsCounted (info : ℕ → Option PageInfo) (phase : ℕ → Phase) (m : Memory) : Type 0 where
+  pub users : (f : ℕ) → true_count m.counts f ≡ pos (users_of info f)
+  pub free : (f : ℕ) → m.is_free f ≡ true → IsUnused m.counts f
+  pub taken : (c f : ℕ) → taken_in (phase c) ≡ Some f → IsUnused m.counts f
+  pub busy : (c f : ℕ) → taken_in (phase c) ≡ Some f → m.is_free f ≡ false
+  pub alone : (c d f : ℕ) → taken_in (phase c) ≡ Some f → taken_in (phase d) ≡ Some f → c ≡ d
+
+-- of a state
+abbrev pub IsCountedState : World → Type 0
+IsCountedState w = IsCounted w.slots.info w.calls.phase w.memory
+
+abbrev pub AllStepsKeepCounts : Type 0
+AllStepsKeepCounts = (w v : World) (e : Event) (o : Outcome) → IsOrderly w → IsCountedState w → Step w e o v → IsCountedState v
+
+abbrev pub AllOpeningsAreCounted : Type 0
+AllOpeningsAreCounted = (made : Made) (slots : Slots) → IsNew slots → IsCountedState (new_world made slots)

@@ -1,0 +1,23 @@
+-- A call that is given up for want of memory
+use Rattle.std.specs.Prelude.{ℕ, Bool, true, false, Option, None, Some, cond}
+use Rattle.vm_base.specs.declared.replies.Reply.TheVariants.{NoMemory}
+use Rattle.vm_base.specs.Functions.{put}
+use Rattle.machine_model.specs.declared.phase.Phase.{Phase}
+use Rattle.machine_model.specs.declared.event.Outcome.{Outcome}
+use Rattle.machine_model.specs.World.{World}
+use Rattle.machine_model.specs.Actions.{Idles, Becomes, after_reply}
+use Rattle.machine_model.specs.Holding.{still_held, taken_in, can_give_up}
+
+-- a frame that a call took and no page has goes back
+abbrev pub given_back : Option ℕ → (ℕ → Bool) → ℕ → Bool
+given_back None is_free = is_free
+given_back (Some f) is_free = put is_free f true
+
+-- The call of core c is answered NoMemory once it has let go what it holds.
+abbrev pub after_give_up : ℕ → Phase → World → World
+after_give_up c phase w =
+    after_reply c (still_held phase) NoMemory
+    (record w { memory = record w.memory { is_free = given_back (taken_in phase) w.memory.is_free } })
+
+abbrev pub GivesUp : World → ℕ → Phase → Outcome → World → Type 0
+GivesUp w c phase o v = cond (can_give_up phase) (Becomes (after_give_up c phase w) o v) (Idles w o v)

@@ -1,0 +1,69 @@
+-- What the steps of a line of an event give
+use Rattle.std.proofs.Common.{◌≡◌, ℕ, List, Option, Some, None, false, inl, inr, Result, Ok, Err, refl, sym, subst}
+use Rattle.std.specs.Prelude.{IsSomeAnd, IfErr, OnOk, OnErr, ◌⊎◌}
+use Rattle.vm_base.specs.declared.memory.NoMemory.{NoMemory}
+use Rattle.machine_model.specs.declared.event.Outcome.{Outcome}
+use Rattle.machine_model.specs.declared.event.Outcome.TheVariants.{Stepped, Wait, Idle, Answered, Full}
+use Rattle.machine_model.specs.World.{World, new_world}
+use Rattle.slot_lock.specs.Slots.{Slots, IsNew}
+use Rattle.core_steps.specs.declared.setup.Setup.{Setup}
+use Rattle.core_steps.specs.Setups.{fault_of, made_of}
+use Rattle.trace.specs.declared.fault.TraceFault.{TraceFault}
+use Rattle.trace.specs.declared.fault.TraceFault.TheVariants as By
+use Rattle.trace.specs.Stage.{Stage, Start, Declared, Running, CanOpen, EventActs, EventFails, EventWants, Opens, stage_of}
+use Rattle.machine_model.specs.declared.event.Event.TheVariants as Ev
+use Rattle.machine_model.specs.Step.{Step}
+use Rattle.vm_base.specs.declared.requests.Request.{Request}
+use Rattle.trace_text.specs.declared.line.Line.{Line}
+use Rattle.trace_text.specs.declared.line.Line.TheVariants.{Now}
+use Rattle.trace.specs.OutcomeText.{outcome_text}
+use Rattle.trace.specs.Gives.{Gives, GoesOn, TellsFinish, Wants, is_event}
+
+pub on_err : {U : Type 0} (r : Result U NoMemory) (P : Type 0) → P → OnErr r P
+on_err (Ok u) P h = tt
+on_err (Err x) P h = h
+
+-- a call that began is finished
+pub began : {U : Type 0} (r : Result U NoMemory) (w m v : World) (core : ℕ) (request : Request) (o : Outcome) (text : List ℕ) → o ≡ Stepped
+    → Step w (Ev.Call core request) o m → OnOk r (TellsFinish m core v text) → OnOk r (Gives w (Now core request) v text)
+began (Ok u) w m v core request o text e s h = (o, m, s, subst (λ o. GoesOn m core o v text) (sym e) h)
+began (Err x) w m v core request o text e s h = tt
+
+-- of a call that didn't begin the outcome is told
+pub told : (m : World) (core : ℕ) (o : Outcome) (v : World) (text : List ℕ) → (o ≡ Stepped → ⊥) → v ≡ m → text ≡ outcome_text o → GoesOn m core o v text
+told m core Stepped v text n e t = absurd (n refl)
+told m core (Wait blocker) v text n e t = (e, t)
+told m core Idle v text n e t = (e, t)
+told m core (Answered reply) v text n e t = (e, t)
+told m core Full v text n e t = (e, t)
+
+-- the line is this one, and what it asks for is done
+pub line_gives : {U : Type 0} (line : Option Line) (l : Line) (r : Result U NoMemory) (u : U) (P : Line → Type 0) → line ≡ Some l → r ≡ Ok u → OnOk r (P l)
+    → IsSomeAnd line P
+line_gives line l r u P e k h = subst (λ o. IsSomeAnd o P) (sym e) (subst (λ r. OnOk r (P l)) k h)
+
+-- a machine is made of the setup
+pub opened : (setup : Option Setup) (s : Setup) (slots : Slots) (w : World) → setup ≡ Some s → fault_of s ≡ None → IsNew slots → w ≡ new_world (made_of s) slots
+    → Opens (stage_of setup None) w
+opened setup s slots w e none new is = subst (λ o. Opens (stage_of o None) w) (sym e) (none, (slots, new, is))
+
+pub can_open : (s : Stage) (w : World) → Opens s w → CanOpen s
+can_open Start w h = h
+can_open (Declared s) w h = h.0
+can_open (Running v) w h = tt
+
+-- a line was acted on, by the machine that it found
+pub acted : {U : Type 0} (r : Result U TraceFault) (line : Option Line) (old : Stage) (w v : World) (text : List ℕ) → Opens old w
+    → OnOk r (IsSomeAnd line (λ l. Gives w l v text)) → OnOk r (IsSomeAnd line (λ l. EventActs old l (Running v) text))
+acted (Ok u) (Some l) old w v text o h = (w, v, o, h, refl)
+acted (Ok u) None old w v text o h = h
+acted (Err f) line old w v text o h = tt
+
+-- or not
+pub not_acted : {U : Type 0} (r : Result U TraceFault) (line : Option Line) (old : Stage) (w : World) (number : ℕ) → Opens old w
+    → IfErr r (λ f. ((f ≡ By.NoMemory) × IsSomeAnd line (λ l. Wants w l)) ⊎ ((is_event line ≡ false) × (f ≡ By.BadLine number)))
+    → IfErr r (λ f. ((f ≡ By.NoMemory) × IsSomeAnd line (λ l. EventWants old l)) ⊎ EventFails old number line f)
+not_acted (Ok u) line old w number o h = tt
+not_acted (Err f) (Some l) old w number o (inl h) = inl (h.0, (w, o, h.1))
+not_acted (Err f) None old w number o (inl h) = inl h
+not_acted (Err f) line old w number o (inr h) = inr (inr (can_open old w o, h.0, h.1))

@@ -1,0 +1,18 @@
+use Rattle.std.proofs.Common.{Some, ap, sym, ◌∙◌}
+use Rattle.core_steps.specs.Machine.{state}
+use Rattle.trace.specs.Gives.{Gives}
+use Rattle.trace.proofs.EventLines.{line_gives}
+use Rattle.trace.proofs.event_lines.run_line.Goals as goal
+use Rattle.trace.proofs.event_lines.run_line.Goals.{in-Act, in-Fold, in-Finish, in-Now}
+
+pub returns-in-Ok-clause-ok : goal.returns-in-Ok-clause-ok
+returns-in-Ok-clause-ok g c = elim c.match-line-2.branch [
+  | in-Act w ↦ rw (w.machine-is, w.text-is) (line_gives _ _ w.tell_act-done.result _ (λ l. Gives (state c.args.machine.now) l _ _)
+      (c.in-Some.is ∙ ap Some w.in-Act.is) (sym w.done-is ∙ c.in-Ok.is) w.tell_act-done.ensures.ok)
+  | in-Fold w ↦ rw (w.machine-is, w.text-is) (line_gives _ _ w.tell_step-done.result _ (λ l. Gives (state c.args.machine.now) l _ _)
+      (c.in-Some.is ∙ ap Some w.in-Fold.is) (sym w.done-is ∙ c.in-Ok.is) w.tell_step-done.ensures.ok)
+  | in-Finish w ↦ rw (w.machine-is, w.text-is) (line_gives _ _ w.tell_finish-done.result _ (λ l. Gives (state c.args.machine.now) l _ _)
+      (c.in-Some.is ∙ ap Some w.in-Finish.is) (sym w.done-is ∙ c.in-Ok.is) w.tell_finish-done.ensures.ok)
+  | in-Now w ↦ rw (w.machine-is, w.text-is) (line_gives _ _ w.tell_call-done.result _ (λ l. Gives (state c.args.machine.now) l _ _)
+      (c.in-Some.is ∙ ap Some w.in-Now.is) (sym w.done-is ∙ c.in-Ok.is) w.tell_call-done.ensures.ok)
+]
