@@ -10,22 +10,20 @@ use Rattle.vm_base.specs.declared.replies.Reply.{Reply}
 use Rattle.vm_base.specs.declared.replies.Reply.TheVariants as ReplyOf
 use Rattle.vm_base.specs.Functions.{put}
 use Rattle.vm_base.specs.Cores.{with_member}
-use Rattle.vm_base.specs.Info.{info_with_frame}
-use Rattle.vm_base.specs.Plain.{Bytes, File, zeros, file_bytes}
+use Rattle.vm_base.specs.Plain.{Bytes, File, file_bytes}
 use Rattle.vm_base.specs.Apply.{byte_reply}
 use Rattle.slot_lock.specs.declared.plan.Touch.{Touch}
 use Rattle.slot_lock.specs.Slots.{with_info}
 use Rattle.vm_calls.specs.declared.fault.Settled.{Settled}
 use Rattle.vm_calls.specs.declared.fault.Settled.TheVariants.{MapErr, AccErr, Bus, Has, Copies, Cached, Wants}
 use Rattle.vm_calls.specs.Settling.{settled}
-use Rattle.refcache.specs.Counts.{Counts}
-use Rattle.refcache.specs.Steps.{Takes, Begin}
 use Rattle.machine_model.specs.declared.event.Outcome.{Outcome}
 use Rattle.machine_model.specs.declared.phase.Goal.TheVariants as To
 use Rattle.machine_model.specs.declared.phase.Phase.{Phase}
-use Rattle.machine_model.specs.declared.phase.Phase.TheVariants.{Want, Fill, Install, Release}
+use Rattle.machine_model.specs.declared.phase.Phase.TheVariants.{Want, Fill, CopyPost, Install, Release}
 use Rattle.machine_model.specs.World.{World, Memory}
 use Rattle.machine_model.specs.Actions.{Idles, Becomes, to, after_reply}
+use Rattle.machine_model.specs.Files.{back_of, file_frame}
 use Rattle.machine_model.specs.Holding.{page_of_touch}
 use Rattle.machine_model.specs.Locks.{locking}
 use Rattle.machine_model.specs.Translating.{translated_by, frame_reached, after_translating, entry_of_page, with_table, with_hardware}
@@ -71,29 +69,35 @@ abbrev pub is_past_end : (ℕ → Option File) → Option PageInfo → Bool
 is_past_end file None = false
 is_past_end file (Some info) = lies_past_end file info.meta.back
 
--- what the access finds at its page; no file page is cached yet
+-- what the access finds at its page
 abbrev pub found_at : World → Touch → Settled
 found_at w touch =
     let info = w.slots.info touch.page in
-    settled info touch.access (is_past_end w.made.file info) None
+    settled info touch.access (is_past_end w.made.file info) (file_frame w.memory.cached (back_of info))
 
--- a page that has a frame is ready, another wants one
+-- a page that has a frame is ready, another gets the one that caches its file page, or wants one; so does a copy of its frame
 abbrev pub after_finding : ℕ → Touch → Settled → World → World
 after_finding c touch MapErr w = after_reply c (Some (page_of_touch touch)) (ReplyOf.Segv Code.MapErr) w
 after_finding c touch AccErr w = after_reply c (Some (page_of_touch touch)) (ReplyOf.Segv Code.AccErr) w
 after_finding c touch Bus w = after_reply c (Some (page_of_touch touch)) ReplyOf.Bus w
 after_finding c touch (Has f) w = to c (Install touch) w
-after_finding c touch (Copies f) w = to c (Want touch) w
-after_finding c touch (Cached f) w = to c (Want touch) w
-after_finding c touch Wants w = to c (Want touch) w
+after_finding c touch (Copies f) w = to c (Want touch (Some f)) w
+after_finding c touch (Cached f) w = to c (Fill touch None) w
+after_finding c touch Wants w = to c (Want touch None) w
 
 abbrev pub after_settle : ℕ → Touch → World → World
 after_settle c touch w = after_finding c touch (found_at w touch) w
 
 -- ---- Want
 
-abbrev pub after_frame : ℕ → Touch → ℕ → World → World
-after_frame c touch f w = to c (Fill touch f) (record w { memory = record w.memory { is_free = put w.memory.is_free f false } })
+-- with the frame taken the page gets it, or first the copy is made known of the frame that the page has
+abbrev pub taken_for : Touch → Option ℕ → ℕ → Phase
+taken_for touch None f = Fill touch (Some f)
+taken_for touch (Some old) f = CopyPost touch f
+
+abbrev pub after_frame : ℕ → Touch → Option ℕ → ℕ → World → World
+after_frame c touch old f w =
+    to c (taken_for touch old f) (record w { memory = record w.memory { is_free = put w.memory.is_free f false } })
 
 -- the least free frame
 pub record IsLeastFree (is_free : ℕ → Bool) (f : ℕ) : Type 0 where
@@ -103,28 +107,16 @@ pub record IsLeastFree (is_free : ℕ → Bool) (f : ℕ) : Type 0 where
 abbrev pub NoneFree : (ℕ → Bool) → Type 0
 NoneFree is_free = (f : ℕ) → is_free f ≡ false
 
-abbrev pub TakesFrame : World → ℕ → Touch → Outcome → World → Type 0
-TakesFrame w c touch o v =
+abbrev pub TakesFrame : World → ℕ → Touch → Option ℕ → Outcome → World → Type 0
+TakesFrame w c touch old o v =
     (NoneFree w.memory.is_free × Becomes (after_reply c (Some (page_of_touch touch)) ReplyOf.NoFrame w) o v)
-    ⊎ ((f : ℕ) × IsLeastFree w.memory.is_free f × Becomes (after_frame c touch f w) o v)
+    ⊎ ((f : ℕ) × IsLeastFree w.memory.is_free f × Becomes (after_frame c touch old f w) o v)
 
 -- a call that wants a frame takes this one, if it is free
 abbrev pub TakesThisFrame : World → ℕ → Phase → ℕ → Outcome → World → Type 0
-TakesThisFrame w c (Want touch) f o v = cond (w.memory.is_free f) (Becomes (after_frame c touch f w) o v) (Idles w o v)
+TakesThisFrame w c (Want touch old) f o v =
+    cond (w.memory.is_free f) (Becomes (after_frame c touch old f w) o v) (Idles w o v)
 TakesThisFrame w c _ f o v = Idles w o v
-
--- ---- Fill: all mapped pages are anonymous yet, so the frame gets zero bytes
-
-abbrev pub after_fill : ℕ → Touch → ℕ → Counts → World → World
-after_fill c touch f counts w = to c (Install touch) (record w {
-  memory = record w.memory { bytes = put w.memory.bytes f zeros; counts = counts };
-  slots = with_info w.slots touch.page (info_with_frame f (w.slots.info touch.page));
-})
-
--- the frame is counted once, for the page
-abbrev pub FillsFrame : World → ℕ → Touch → ℕ → Outcome → World → Type 0
-FillsFrame w c touch f o v =
-    (counts : Counts) × Takes w.memory.counts (Begin f 1) counts × Becomes (after_fill c touch f counts w) o v
 
 -- ---- Install: the core is recorded on the page, and its tables get the page's entry
 
@@ -137,5 +129,5 @@ after_install c touch w =
     let info = w.slots.info touch.page in
     to c (Release touch) (record w {
       slots = with_info w.slots touch.page (info_with_core c info);
-      hardware = with_table w.hardware c (put (w.hardware.table c) touch.page (entry_of_page info));
+      hardware = with_table w.hardware c (put (w.hardware.table c) touch.page (entry_of_page w.memory.cached info));
     })

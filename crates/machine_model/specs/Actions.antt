@@ -31,6 +31,10 @@ with_entry entry w = record w { calls = record w.calls { log = w.calls.log ++ en
 abbrev pub answer_entry : World → ℕ → Reply → Entry
 answer_entry w c reply = EntryOf.Answer w.calls.events (w.calls.number c) c reply
 
+-- the entry that core c's call has made a copy of its own for this page
+abbrev pub detach_entry : World → ℕ → ℕ → Entry
+detach_entry w c page = EntryOf.Detach w.calls.events (w.calls.number c) page
+
 -- what is held is unlocked, and then the reply is handed out
 abbrev pub let_go : Option PageRange → Reply → Phase
 let_go None reply = Answer reply

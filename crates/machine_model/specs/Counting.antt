@@ -1,6 +1,6 @@
 -- How frames are counted by the pages that have them, and come back (Refcache of the RadixVM paper, EuroSys 2013, with this project's
 -- exact rules)
-use Rattle.std.specs.Prelude.{◌≡◌, ℕ, zero, suc, true, Bool, Option, None, Some}
+use Rattle.std.specs.Prelude.{◌≡◌, ℕ, zero, suc, true, Option, None, Some}
 use Rattle.vm_base.specs.declared.info.PageInfo.{PageInfo}
 use Rattle.vm_base.specs.Functions.{put}
 use Rattle.vm_base.specs.Info.{frame_of}

@@ -11,7 +11,7 @@ use Rattle.slot_lock.specs.Slots.{between}
 use Rattle.machine_model.specs.declared.phase.Goal.{Goal}
 use Rattle.machine_model.specs.declared.phase.Goal.TheVariants as To
 use Rattle.machine_model.specs.declared.phase.Phase.{Phase}
-use Rattle.machine_model.specs.declared.phase.Phase.TheVariants.{Free, Check, Lock, Decide, Post, Acks, Unlock, Answer, Try, Settle, Want, Fill, Install, Release}
+use Rattle.machine_model.specs.declared.phase.Phase.TheVariants.{Free, Check, Lock, Decide, Post, Acks, Unlock, Answer, Try, Settle, Want, Fill, CopyPost, CopyAcks, Install, Release}
 
 -- the page of an access
 abbrev pub page_of_touch : Touch → PageRange
@@ -41,8 +41,10 @@ plan_in (Unlock held reply) = None
 plan_in (Answer reply) = None
 plan_in (Try touch) = Some (PlanOf.Touch touch)
 plan_in (Settle touch) = Some (PlanOf.Touch touch)
-plan_in (Want touch) = Some (PlanOf.Touch touch)
+plan_in (Want touch old) = Some (PlanOf.Touch touch)
 plan_in (Fill touch frame) = Some (PlanOf.Touch touch)
+plan_in (CopyPost touch frame) = Some (PlanOf.Touch touch)
+plan_in (CopyAcks touch frame) = Some (PlanOf.Touch touch)
 plan_in (Install touch) = Some (PlanOf.Touch touch)
 plan_in (Release touch) = Some (PlanOf.Touch touch)
 
@@ -58,8 +60,10 @@ range_held (Unlock held reply) = Some held
 range_held (Answer reply) = None
 range_held (Try touch) = None
 range_held (Settle touch) = Some (page_of_touch touch)
-range_held (Want touch) = Some (page_of_touch touch)
+range_held (Want touch old) = Some (page_of_touch touch)
 range_held (Fill touch frame) = Some (page_of_touch touch)
+range_held (CopyPost touch frame) = Some (page_of_touch touch)
+range_held (CopyAcks touch frame) = Some (page_of_touch touch)
 range_held (Install touch) = Some (page_of_touch touch)
 range_held (Release touch) = Some (page_of_touch touch)
 
@@ -79,6 +83,7 @@ holds phase p = some_has (range_held phase) p
 -- the pages whose translations other cores are asked to drop
 abbrev pub awaits_in : Phase → Option PageRange
 awaits_in (Acks change held) = Some (range_of change)
+awaits_in (CopyAcks touch frame) = Some (page_of_touch touch)
 awaits_in _ = None
 
 -- a range with some page
@@ -92,7 +97,9 @@ still_held phase = if_some_page (range_held phase)
 
 -- the frame that a call has taken and that no page has yet
 abbrev pub taken_in : Phase → Option ℕ
-taken_in (Fill touch frame) = Some frame
+taken_in (Fill touch frame) = frame
+taken_in (CopyPost touch frame) = Some frame
+taken_in (CopyAcks touch frame) = Some frame
 taken_in _ = None
 
 -- the call has no reply in the log yet
@@ -102,7 +109,7 @@ is_open (Unlock held reply) = false
 is_open (Answer reply) = false
 is_open _ = true
 
--- the call may still be given up: it has no reply, and no other core does anything for it
+-- the call may still be given up, where it awaits no other core: it has no reply, and hasn't asked others to drop what a change takes
 abbrev pub can_give_up : Phase → Bool
 can_give_up (Acks change held) = false
 can_give_up phase = is_open phase

@@ -3,9 +3,11 @@ pub mod World
 pub mod Holding
 pub mod Actions
 pub mod Locks
+pub mod Files
 pub mod Translating
 pub mod Counting
 pub mod Changes
 pub mod Accesses
 pub mod GivingUp
+pub mod Filling
 pub mod Step

@@ -16,7 +16,8 @@ use Rattle.machine_model.specs.Counting.{FlushesOnce, ReviewsOnce}
 use Rattle.machine_model.specs.GivingUp.{GivesUp}
 use Rattle.machine_model.specs.Locks.{LocksNext, UnlocksNext, Releases, FoldsAt}
 use Rattle.machine_model.specs.Changes.{after_check, DecidesNext, after_post, CommitsNext}
-use Rattle.machine_model.specs.Accesses.{after_try, after_settle, TakesFrame, TakesThisFrame, FillsFrame, after_install}
+use Rattle.machine_model.specs.Accesses.{after_try, after_settle, TakesFrame, TakesThisFrame, after_install}
+use Rattle.machine_model.specs.Filling.{FillsFrame, after_copy_post, CopiesNext}
 use Rattle.machine_model.specs.Translating.{TakesMessage, Walks, Evicts}
 
 -- ---- Call
@@ -49,8 +50,10 @@ Goes w c (At.Unlock held reply) o v = UnlocksNext w c held reply o v
 Goes w c (At.Answer reply) o v = (o ≡ Answered reply) × (v ≡ to c At.Free w)
 Goes w c (At.Try touch) o v = Becomes (after_try c touch w) o v
 Goes w c (At.Settle touch) o v = Becomes (after_settle c touch w) o v
-Goes w c (At.Want touch) o v = TakesFrame w c touch o v
+Goes w c (At.Want touch old) o v = TakesFrame w c touch old o v
 Goes w c (At.Fill touch frame) o v = FillsFrame w c touch frame o v
+Goes w c (At.CopyPost touch frame) o v = Becomes (after_copy_post c touch frame w) o v
+Goes w c (At.CopyAcks touch frame) o v = CopiesNext w c touch frame o v
 Goes w c (At.Install touch) o v = Becomes (after_install c touch w) o v
 Goes w c (At.Release touch) o v = Releases w c touch o v
 

@@ -17,9 +17,10 @@ use Rattle.mmu.specs.Tlb.{tlb_at, tlb_without, is_page}
 use Rattle.shootdown.specs.declared.message.Message.{Message}
 use Rattle.shootdown.specs.declared.message.Took.{Took}
 use Rattle.shootdown.specs.declared.message.Took.TheVariants.{Clear, Invalidate, Idle}
-use Rattle.shootdown.specs.Messages.{asked, remaining, posted}
+use Rattle.shootdown.specs.Messages.{remaining, posted}
 use Rattle.machine_model.specs.declared.event.Outcome.{Outcome}
 use Rattle.machine_model.specs.World.{World, Hardware}
+use Rattle.machine_model.specs.Files.{prot_installed}
 use Rattle.machine_model.specs.Actions.{Idles, Becomes}
 
 -- ---- one core's part
@@ -58,14 +59,14 @@ abbrev pub after_translating : Hardware → ℕ → Touch → Hardware
 after_translating h c touch =
     with_tlb h c (tlb_after (translated_by h c touch) touch.page (h.table c touch.page) (h.tlb c))
 
--- the entry that a page's frame and protection give
+-- the entry that a frame and a protection give
 abbrev pub entry_for : Prot → Option ℕ → Option Translation
 entry_for prot None = None
 entry_for prot (Some f) = Some (translation_of f prot)
 
-abbrev pub entry_of_page : Option PageInfo → Option Translation
-entry_of_page None = None
-entry_of_page (Some info) = entry_for info.meta.prot info.frame
+abbrev pub entry_of_page : (ℕ → ℕ → Option ℕ) → Option PageInfo → Option Translation
+entry_of_page cached None = None
+entry_of_page cached (Some info) = entry_for (prot_installed cached info) info.frame
 
 -- ---- a shootdown
 

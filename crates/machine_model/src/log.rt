@@ -11,4 +11,7 @@ pub enum Entry {
         core: CoreId,
         reply: Reply,
     },
+    /// The private page has a copy of its own from the event with the number `step` on, made for the store that the call with
+    /// this number is. Until then it showed its file's page.
+    Detach { step: u64, call: u64, page: u64 },
 }

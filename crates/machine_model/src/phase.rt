@@ -34,10 +34,14 @@ pub enum Phase {
     Try(Touch),
     /// The page is held, and what its slot says is to be read.
     Settle(Touch),
-    /// A frame is to be taken.
-    Want(Touch),
-    /// The page is to get this frame.
-    Fill { touch: Touch, frame: u32 },
+    /// A frame is to be taken: for a copy of this one, where the page has it.
+    Want { touch: Touch, old: Option<u32> },
+    /// The page is to get a frame: the one that caches its file page, or else this one, which the call has taken.
+    Fill { touch: Touch, frame: Option<u32> },
+    /// The page is to get a copy in this frame, and the cores that are recorded on it are to be told.
+    CopyPost { touch: Touch, frame: u32 },
+    /// The cores that were told are awaited, and then the page gets its copy in this frame.
+    CopyAcks { touch: Touch, frame: u32 },
     /// The core is to be recorded on the page, and its translation installed.
     Install(Touch),
     /// The page's slot is to be unlocked.
