@@ -3,7 +3,7 @@ use Rattle.std.proofs.Common.{ℕ, Some, None, Option, List, [], ◌∷◌, ◌+
 use Rattle.vm_base.specs.declared.requests.Request.{Request}
 use Rattle.slot_lock.specs.declared.plan.Plan.{Plan}
 use Rattle.machine_model.specs.declared.phase.Phase.{Phase}
-use Rattle.machine_model.specs.declared.phase.Phase.TheVariants.{Free, Check, Lock, Decide, Post, Acks, Unlock, Answer, Try, Settle, Want, Fill, Install, Release}
+use Rattle.machine_model.specs.declared.phase.Phase.TheVariants.{Free, Check, Lock, Decide, Post, Acks, Unlock, Answer, Try, Settle, Want, Fill, CopyPost, CopyAcks, Install, Release}
 use Rattle.machine_model.specs.Holding.{plan_in}
 use Rattle.machine_model.specs.World.{Made}
 use Rattle.machine_laws.specs.Orderly.{IsAsked, ServesSome}
@@ -25,7 +25,9 @@ asked_more made rs r c n (Unlock held reply) h = h
 asked_more made rs r c n (Answer reply) h = h
 asked_more made rs r c n (Try touch) h = serves_more made rs r c n (plan_in (Try touch)) h
 asked_more made rs r c n (Settle touch) h = serves_more made rs r c n (plan_in (Settle touch)) h
-asked_more made rs r c n (Want touch) h = serves_more made rs r c n (plan_in (Want touch)) h
+asked_more made rs r c n (Want touch old) h = serves_more made rs r c n (plan_in (Want touch old)) h
+asked_more made rs r c n (CopyPost touch f) h = serves_more made rs r c n (plan_in (CopyPost touch f)) h
+asked_more made rs r c n (CopyAcks touch f) h = serves_more made rs r c n (plan_in (CopyAcks touch f)) h
 asked_more made rs r c n (Fill touch frame) h = serves_more made rs r c n (plan_in (Fill touch frame)) h
 asked_more made rs r c n (Install touch) h = serves_more made rs r c n (plan_in (Install touch)) h
 asked_more made rs r c n (Release touch) h = serves_more made rs r c n (plan_in (Release touch)) h

@@ -15,11 +15,16 @@ use Rattle.machine_laws.specs.Orderly.{IsMemory}
 -- other frames are free
 pub frees : (made : Made) (m : Memory) (is_free : ℕ → Bool) → IsMemory made m → ((f : ℕ) → is_free f ≡ true → f < made.frames)
     → IsMemory made (record m { is_free = is_free })
-frees made m is_free h free = record { free = free; reached = h.reached; cores = h.cores; objects = h.objects }
+frees made m is_free h free = record { free = free; cached = h.cached; reached = h.reached; cores = h.cores; objects = h.objects }
+
+-- other file pages are cached
+pub cached_more : (made : Made) (m : Memory) (cached : ℕ → ℕ → Option ℕ) → IsMemory made m
+    → ((n k f : ℕ) → cached n k ≡ Some f → f < made.frames) → IsMemory made (record m { cached = cached })
+cached_more made m cached h more = record { free = h.free; cached = more; reached = h.reached; cores = h.cores; objects = h.objects }
 
 -- other bytes are written
 pub written : (made : Made) (m : Memory) (bytes : ℕ → Bytes) → IsMemory made m → IsMemory made (record m { bytes = bytes })
-written made m bytes h = record { free = h.free; reached = h.reached; cores = h.cores; objects = h.objects }
+written made m bytes h = record { free = h.free; cached = h.cached; reached = h.reached; cores = h.cores; objects = h.objects }
 
 -- one step of Refcache
 pub counted : (made : Made) (m : Memory) (step : Step) (counts : Counts) → IsMemory made m → Takes m.counts step counts
@@ -28,6 +33,7 @@ counted made m step counts h t =
     let size : IsSameSize m.counts counts = same_size m.counts step counts t in
     record {
       free = h.free;
+      cached = h.cached;
       reached = steps_reach m.counts step counts h.reached t;
       cores = size.0 ∙ h.cores;
       objects = size.1 ∙ h.objects;

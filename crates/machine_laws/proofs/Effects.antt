@@ -1,7 +1,15 @@
 -- What a step does to the calls and the log: it keeps them, logs the reply of a call, begins a call or ends one.
-use Rattle.std.proofs.Common.{◌≡◌, ℕ, Bool, true, false, cond, refl, sym, ap, subst, Some, None, Option, [], ◌∷◌, ◌++◌, ◌∙◌}
-use Rattle.std.specs.Prelude.{nat_le}
+use Rattle.std.proofs.Common.{◌≡◌, ℕ, Bool, true, false, cond, refl, sym, ap, subst, Some, None, Option, Result, Ok, Err, [], ◌∷◌, ◌++◌, ◌∙◌}
+use Rattle.std.specs.Prelude.{nat_le, if◌then◌else◌}
+use Rattle.vm_base.specs.declared.info.Back.{Back}
+use Rattle.vm_base.specs.declared.info.Back.TheVariants.{Anon, Shared, Private}
 use Rattle.vm_base.specs.declared.page.PageRange.{PageRange}
+use Rattle.vm_base.specs.declared.rights.Access.{Access}
+use Rattle.vm_base.specs.declared.rights.Access.TheVariants.{Load, Store, Fetch}
+use Rattle.slot_lock.specs.declared.plan.Plan.{Plan}
+use Rattle.slot_lock.specs.declared.plan.Plan.TheVariants as PlanOf
+use Rattle.slot_lock.specs.declared.plan.Touch.{Touch}
+use Rattle.vm_calls.specs.Settling.{is_private_store}
 use Rattle.vm_base.specs.declared.replies.Reply.{Reply}
 use Rattle.vm_base.specs.declared.replies.Reply.TheVariants.{NoMemory}
 use Rattle.slot_lock.specs.Plan.{range_of}
@@ -19,17 +27,35 @@ use Rattle.machine_model.specs.declared.phase.Goal.TheVariants as To
 use Rattle.machine_model.specs.declared.phase.Phase.{Phase}
 use Rattle.machine_model.specs.declared.phase.Phase.TheVariants.{Free, Lock, Unlock, Answer, Fill, Install, Release}
 use Rattle.machine_model.specs.declared.phase.Phase.TheVariants as At
-use Rattle.machine_model.specs.Accesses.{memory_after, reply_of, after_frame, after_fill, after_install}
-use Rattle.machine_model.specs.Actions.{to, after_reply, let_go, answer_entry}
+use Rattle.machine_model.specs.Accesses.{memory_after, reply_of, after_frame, taken_for, after_install}
+use Rattle.machine_model.specs.Files.{back_of}
+use Rattle.machine_model.specs.Filling.{after_zeros, after_first_copy, after_caching, after_sharing, after_copy_post, after_copy}
+use Rattle.machine_model.specs.Actions.{to, with_entry, after_reply, let_go, answer_entry, detach_entry}
 use Rattle.machine_model.specs.Changes.{slots_after, after_post, reply_to}
 use Rattle.machine_model.specs.Counting.{with_counts}
 use Rattle.machine_model.specs.GivingUp.{given_back}
-use Rattle.machine_model.specs.Holding.{goal_range, can_give_up, is_open, still_held, taken_in}
+use Rattle.machine_model.specs.Holding.{goal_range, plan_in, can_give_up, is_open, still_held, taken_in}
 use Rattle.machine_model.specs.Locks.{locking, locked_to, all_locked, held_after}
 use Rattle.machine_model.specs.Translating.{after_translating}
 use Rattle.machine_model.specs.World.{World, Hardware, Memory}
 use Rattle.machine_model.specs.Step.{after_call}
-use Rattle.machine_laws.proofs.Shapes.{IsInner, rests_inner, Moves, locks, tries, acts, finds, lacks, Replies, refuses, no_place, declines, fails, no_frame, LetsGo, unlocks, releases, GoesBy, moves, divides, owns, lets_go, answers, posts, commits, takes, fills, installs, accesses, faults, Works, clears, invalidates, walks, evicts, flushes, reviews, frees, IsGoing, going, picking, Shape, rests, begins, ends, goes, gives_up, works, joins}
+use Rattle.vm_base.specs.declared.info.Meta.{Meta}
+use Rattle.vm_base.specs.declared.replies.SegvCode.TheVariants.{MapErr}
+use Rattle.vm_base.specs.declared.replies.Reply.TheVariants as ReplyOf
+use Rattle.vm_base.specs.declared.requests.Request.TheVariants as RequestOf
+use Rattle.vm_base.specs.declared.rights.Mode.{Mode}
+use Rattle.vm_base.specs.Apply.{meta_of}
+use Rattle.vm_base.specs.Pages.{is_page, page_of, pages_of}
+use Rattle.vm_base.specs.Plain.{mode_of}
+use Rattle.vm_base.specs.Refusals.{refusal}
+use Rattle.slot_lock.specs.declared.plan.Change.{Change}
+use Rattle.slot_lock.specs.declared.plan.Change.TheVariants.{Put}
+use Rattle.slot_lock.specs.declared.plan.Place.{Place}
+use Rattle.vm_calls.specs.Checks.{checked, plan_of, unless_refused, touch_of, place_of}
+use Rattle.machine_laws.specs.Brackets.{nth, IsStoreTo}
+use Rattle.machine_laws.specs.Orderly.{IsOrderly, Serves}
+use Rattle.machine_laws.proofs.Moves.{IsCallOf, call_at}
+use Rattle.machine_laws.proofs.Shapes.{IsInner, rests_inner, Moves, locks, tries, acts, finds, lacks, shows, Replies, refuses, no_place, declines, fails, no_frame, LetsGo, unlocks, releases, GoesBy, moves, divides, owns, lets_go, answers, posts, commits, takes, zeroes, first_copies, caches, shares, posts_copy, copies, installs, accesses, faults, Works, clears, invalidates, walks, evicts, flushes, reviews, frees, IsGoing, going, picking, Shape, rests, begins, ends, goes, gives_up, works, joins}
 
 -- a core has no call, one without a reply, or one with this reply
 pub data Status : Type 0 where
@@ -57,8 +83,49 @@ pub data Effect (w : World) (e : Event) (o : Outcome) (v : World) : Type 0 where
   tells : (c : ℕ) (reply : Reply) → IsInner e o → SameCalls w v → statuses w c ≡ Asked
       → v.calls.log ≡ w.calls.log ++ answer_entry w c reply ∷ []
       → ((d : ℕ) → statuses v d ≡ put (statuses w) c (Told reply) d) → Effect w e o v
+  detaches : (c page : ℕ) (request : Request) → IsInner e o → SameCalls w v → statuses w c ≡ Asked
+      → nth w.calls.requests (w.calls.number c) ≡ Some request → IsStoreTo request page
+      → v.calls.log ≡ w.calls.log ++ detach_entry w c page ∷ [] → ((d : ℕ) → statuses v d ≡ statuses w d) → Effect w e o v
   opens : (c : ℕ) (request : Request) → e ≡ Call c request → o ≡ Stepped → statuses w c ≡ Closed → v ≡ after_call c request w → Effect w e o v
   closes : (c : ℕ) (reply : Reply) → e ≡ Go c → o ≡ Answered reply → statuses w c ≡ Told reply → v ≡ to c Free w → Effect w e o v
+
+-- ---- which request a copy serves
+
+-- a request that is to store a byte of a page is a store to it
+store_of : (core : ℕ) (request : Request) (touch : Touch) → plan_of core request ≡ Ok (PlanOf.Touch touch) → touch.access ≡ Store
+    → IsStoreTo request touch.page
+store_of core (RequestOf.Store addr byte) touch h a = go (is_page (page_of addr)) h
+  where
+    go : (b : Bool) → ◌≡◌ {A = Result Plan Reply} (if b then Ok (PlanOf.Touch (touch_of addr Store byte)) else Err (ReplyOf.Segv MapErr)) (Ok (PlanOf.Touch touch))
+        → page_of addr ≡ touch.page
+    go true e = let same : touch_of addr Store byte ≡ touch = cc in ap (λ t. t.page) same
+    go false e = absurd cc
+store_of core (RequestOf.Load addr) touch h a = absurd (go (is_page (page_of addr)) h)
+  where
+    go : (b : Bool) → ◌≡◌ {A = Result Plan Reply} (if b then Ok (PlanOf.Touch (touch_of addr Load 0)) else Err (ReplyOf.Segv MapErr)) (Ok (PlanOf.Touch touch)) → ⊥
+    go true e = let same : touch_of addr Load 0 ≡ touch = cc in let other = ap (λ t. t.access) same in cc (other, a)
+    go false e = cc
+store_of core (RequestOf.Fetch addr) touch h a = absurd (go (is_page (page_of addr)) h)
+  where
+    go : (b : Bool) → ◌≡◌ {A = Result Plan Reply} (if b then Ok (PlanOf.Touch (touch_of addr Fetch 0)) else Err (ReplyOf.Segv MapErr)) (Ok (PlanOf.Touch touch)) → ⊥
+    go true e = let same : touch_of addr Fetch 0 ≡ touch = cc in let other = ap (λ t. t.access) same in cc (other, a)
+    go false e = cc
+store_of core (RequestOf.Munmap addr len) touch h a = absurd cc
+store_of core (RequestOf.Mprotect addr len prot) touch h a = absurd cc
+store_of core (RequestOf.Mmap addr len prot flags file off) touch h a =
+    absurd (go flags.fixed (Put (pages_of addr len) (meta_of prot flags file off)) (place_of core addr len (meta_of prot flags file off)) h)
+  where
+    go : (b : Bool) (change : Change) (place : Place) → ◌≡◌ {A = Result Plan Reply} (if b then Ok (PlanOf.Change change) else Ok (PlanOf.Place place)) (Ok (PlanOf.Touch touch)) → ⊥
+    go true change place e = cc
+    go false change place e = cc
+
+store_asked : (modes : ℕ → Option Mode) (core : ℕ) (request : Request) (touch : Touch) → checked modes core request ≡ Ok (PlanOf.Touch touch)
+    → touch.access ≡ Store → IsStoreTo request touch.page
+store_asked modes core request touch h a = go (refusal modes request) h
+  where
+    go : (o : Option Reply) → unless_refused o (plan_of core request) ≡ Ok (PlanOf.Touch touch) → IsStoreTo request touch.page
+    go None e = store_of core request touch e a
+    go (Some reply) e = absurd cc
 
 -- ---- the call of one core moves on
 
@@ -100,6 +167,17 @@ pub told_in : (held : Option PageRange) (reply : Reply) → status (let_go held 
 told_in None reply = refl
 told_in (Some held) reply = refl
 
+-- without a reply, with a copy of the page for its store
+with_copy : (w : World) (e : Event) (c : ℕ) (touch : Touch) (new : Phase) (t : Slots) (h : Hardware) (m : Memory) (v : World) → IsInner e Stepped
+    → statuses w c ≡ Asked → status new ≡ Asked → Serves w.made w.calls.requests c (w.calls.number c) (PlanOf.Touch touch)
+    → touch.access ≡ Store
+    → v ≡ to c new (with_entry (detach_entry w c touch.page) (record w { slots = t; hardware = h; memory = m })) → Effect w e Stepped v
+with_copy w e c touch new t h m v i was still serves store k =
+    subst (Effect w e Stepped) (sym k)
+    (detaches c touch.page serves.request i (record { events = refl; requests = refl; number = refl }) was serves.number
+    (store_asked (λ n. mode_of (w.made.file n)) c serves.request touch serves.passed store) refl
+    (status_put w.calls.phase c new (still ∙ sym was)))
+
 -- with its reply
 with_reply : (w : World) (e : Event) (c : ℕ) (held : Option PageRange) (reply : Reply) (t : Slots) (h : Hardware) (m : Memory) (v : World) → IsInner e Stepped
     → statuses w c ≡ Asked → v ≡ after_reply c held reply (record w { slots = t; hardware = h; memory = m }) → Effect w e Stepped v
@@ -126,37 +204,64 @@ moves_same w c new (locks request change e n k) = ap status n ∙ sym (ap status
 moves_same w c new (tries request touch e n k) = ap status n ∙ sym (ap status e)
 moves_same w c new (acts change range shoot e n d) = ap status n ∙ sym (ap status e)
 moves_same w c new (finds touch f e n u) = ap status n ∙ sym (ap status e)
-moves_same w c new (lacks touch e n u) = ap status n ∙ sym (ap status e)
+moves_same w c new (lacks touch old e n u d) = ap status n ∙ sym (ap status e)
+moves_same w c new (shows touch e n u d) = ap status n ∙ sym (ap status e)
 
 replies_asked : (w : World) (c : ℕ) (held : Option PageRange) (reply : Reply) → Replies w c held reply → statuses w c ≡ Asked
 replies_asked w c held reply (refuses request e h k) = ap status e
 replies_asked w c held reply (no_place request place e h r k) = ap status e
 replies_asked w c held reply (declines change errno e h r d) = ap status e
 replies_asked w c held reply (fails touch e h f) = ap status e
-replies_asked w c held reply (no_frame touch e h r f) = ap status e
+replies_asked w c held reply (no_frame touch old e h r f) = ap status e
+
+taken_asked : (touch : Touch) (old : Option ℕ) (f : ℕ) → status (taken_for touch old f) ≡ Asked
+taken_asked touch None f = refl
+taken_asked touch (Some g) f = refl
+
+-- only a store gives a private page a copy
+stores : (back : Back) (access : Access) → is_private_store back access ≡ true → access ≡ Store
+stores (Private n k) Store h = refl
+stores (Private n k) Load h = absurd cc
+stores (Private n k) Fetch h = absurd cc
+stores (Shared n k) access h = absurd cc
+stores Anon access h = absurd cc
 
 lets_go_same : (old : Phase) (held : PageRange) (b : ℕ) (new : Phase) → LetsGo old held b new → status new ≡ status old
 lets_go_same old held b new (unlocks reply e n) = ap status n ∙ told_in (held_after held b) reply ∙ sym (ap status e)
 lets_go_same old held b new (releases touch e h n) = ap status n ∙ sym (ap status e)
 
-step_effect : (w : World) (e : Event) (c : ℕ) (v : World) → IsInner e Stepped → GoesBy w c v → Effect w e Stepped v
-step_effect w e c v i (moves new m h) = goes_on w e c new w.slots w.hardware w.memory v i (moves_same w c new m) h
-step_effect w e c v i (divides goal cursor t k s h) = beside w e t w.hardware w.memory v i h
-step_effect w e c v i (owns goal cursor b t k l h) = goes_on w e c (locked_to goal b) t w.hardware w.memory v i (locked_asked goal b ∙ sym (ap status k)) h
-step_effect w e c v i (lets_go held b t new l u h) = goes_on w e c new t w.hardware w.memory v i (lets_go_same (w.calls.phase c) held b new l) h
-step_effect w e c v i (answers held reply r h) = with_reply w e c held reply w.slots w.hardware w.memory v i (replies_asked w c held reply r) h
-step_effect w e c v i (posts change shoot k h) =
+step_effect : (w : World) (e : Event) (c : ℕ) (v : World) → IsOrderly w → IsInner e Stepped → GoesBy w c v → Effect w e Stepped v
+step_effect w e c v g i (moves new m h) = goes_on w e c new w.slots w.hardware w.memory v i (moves_same w c new m) h
+step_effect w e c v g i (divides goal cursor t k s h) = beside w e t w.hardware w.memory v i h
+step_effect w e c v g i (owns goal cursor b t k l h) = goes_on w e c (locked_to goal b) t w.hardware w.memory v i (locked_asked goal b ∙ sym (ap status k)) h
+step_effect w e c v g i (lets_go held b t new l u h) = goes_on w e c new t w.hardware w.memory v i (lets_go_same (w.calls.phase c) held b new l) h
+step_effect w e c v g i (answers held reply r h) = with_reply w e c held reply w.slots w.hardware w.memory v i (replies_asked w c held reply r) h
+step_effect w e c v g i (posts change shoot k h) =
     goes_on w e c (At.Acks change (range_of change)) w.slots (after_post c change shoot w).hardware w.memory v i (sym (ap status k)) h
-step_effect w e c v i (commits change held counts k n l h) =
+step_effect w e c v g i (commits change held counts k n l h) =
     with_reply w e c (Some held) (reply_to change) (slots_after change w.slots) w.hardware (with_counts counts w).memory v i (ap status k) h
-step_effect w e c v i (takes touch f k l h) = goes_on w e c (Fill touch f) w.slots w.hardware (after_frame c touch f w).memory v i (sym (ap status k)) h
-step_effect w e c v i (fills touch f counts k l h) =
-    goes_on w e c (Install touch) (after_fill c touch f counts w).slots w.hardware (after_fill c touch f counts w).memory v i (sym (ap status k)) h
-step_effect w e c v i (installs touch k h) =
+step_effect w e c v g i (takes touch old f k l h) =
+    goes_on w e c (taken_for touch old f) w.slots w.hardware (after_frame c touch old f w).memory v i (taken_asked touch old f ∙ sym (ap status k)) h
+step_effect w e c v g i (zeroes touch f counts k b l h) =
+    goes_on w e c (Install touch) (after_zeros c touch f counts w).slots w.hardware (after_zeros c touch f counts w).memory v i (sym (ap status k)) h
+step_effect w e c v g i (first_copies touch f counts k store l h) =
+    with_copy w e c touch (Install touch) (after_first_copy c touch f counts w).slots w.hardware (after_first_copy c touch f counts w).memory v i
+    (ap status k) refl (call_at w c (Fill touch (Some f)) k g).asked (stores (back_of (w.slots.info touch.page)) touch.access store) h
+step_effect w e c v g i (caches touch f counts k s n l h) =
+    goes_on w e c (Install touch) (after_caching c touch f counts w).slots w.hardware (after_caching c touch f counts w).memory v i (sym (ap status k)) h
+step_effect w e c v g i (shares touch own x counts k s n l h) =
+    goes_on w e c (Install touch) (after_sharing c touch own x counts w).slots w.hardware (after_sharing c touch own x counts w).memory v i (sym (ap status k)) h
+step_effect w e c v g i (posts_copy touch f k h) =
+    goes_on w e c (At.CopyAcks touch f) w.slots (after_copy_post c touch f w).hardware w.memory v i (sym (ap status k)) h
+step_effect w e c v g i (copies touch f x counts k n at l h) =
+    let its : IsCallOf w c (At.CopyAcks touch f) = call_at w c (At.CopyAcks touch f) k g in
+    with_copy w e c touch (Install touch) (after_copy c touch f x counts w).slots w.hardware (after_copy c touch f x counts w).memory v i
+    (ap status k) refl its.asked (stores (back_of (w.slots.info touch.page)) touch.access its.ready.2.store) h
+step_effect w e c v g i (installs touch k h) =
     goes_on w e c (Release touch) (after_install c touch w).slots (after_install c touch w).hardware w.memory v i (sym (ap status k)) h
-step_effect w e c v i (accesses touch f k l h) =
+step_effect w e c v g i (accesses touch f k l h) =
     with_reply w e c None (reply_of touch f w.memory) w.slots (after_translating w.hardware c touch) (memory_after touch f w.memory) v i (ap status k) h
-step_effect w e c v i (faults touch k l h) =
+step_effect w e c v g i (faults touch k l h) =
     goes_on w e c (locking (To.Access touch)) w.slots (after_translating w.hardware c touch) w.memory v i (sym (ap status k)) h
 
 work_effect : (w : World) (e : Event) (c : ℕ) (v : World) → IsInner e Stepped → Works w c e v → Effect w e Stepped v
@@ -176,7 +281,9 @@ given_up_asked (At.Decide change) h = refl
 given_up_asked (At.Post change shoot) h = refl
 given_up_asked (At.Try touch) h = refl
 given_up_asked (At.Settle touch) h = refl
-given_up_asked (At.Want touch) h = refl
+given_up_asked (At.Want touch old) h = refl
+given_up_asked (At.CopyPost touch f) h = refl
+given_up_asked (At.CopyAcks touch f) h = refl
 given_up_asked (At.Fill touch f) h = refl
 given_up_asked (At.Install touch) h = refl
 given_up_asked (At.Release touch) h = refl
@@ -185,16 +292,16 @@ given_up_asked (At.Acks change held) h = absurd cc
 given_up_asked (At.Unlock held reply) h = absurd cc
 given_up_asked (At.Answer reply) h = absurd cc
 
-pub effect_of : (w : World) (e : Event) (o : Outcome) (v : World) → Shape w e o v → Effect w e o v
-effect_of w e o v (rests r h) = subst (Effect w e o) (sym h) (keeps (rests_inner w e o r) (record { events = refl; requests = refl; number = refl }) refl (λ d. refl))
-effect_of w e o v (begins c request i s lt p below h) = opens c request i s (ap status p) h
-effect_of w e o v (ends c reply i s lt p h) = closes c reply i s (ap status p) h
-effect_of w e o v (goes c i s lt g) = subst (λ o. Effect w e o v) (sym s) (step_effect w e c v (going_inner c e i) g)
-effect_of w e o v (gives_up c i s lt can h) =
+pub effect_of : (w : World) (e : Event) (o : Outcome) (v : World) → IsOrderly w → Shape w e o v → Effect w e o v
+effect_of w e o v g (rests r h) = subst (Effect w e o) (sym h) (keeps (rests_inner w e o r) (record { events = refl; requests = refl; number = refl }) refl (λ d. refl))
+effect_of w e o v g (begins c request i s lt p below h) = opens c request i s (ap status p) h
+effect_of w e o v g (ends c reply i s lt p h) = closes c reply i s (ap status p) h
+effect_of w e o v g (goes c i s lt k) = subst (λ o. Effect w e o v) (sym s) (step_effect w e c v g (going_inner c e i) k)
+effect_of w e o v g (gives_up c i s lt can u h) =
     subst (λ o. Effect w e o v) (sym s)
     (with_reply w e c (still_held (w.calls.phase c)) NoMemory w.slots w.hardware
     (record w.memory { is_free = given_back (taken_in (w.calls.phase c)) w.memory.is_free }) v
     (subst (λ e. IsInner e Stepped) (sym i) ((λ n. refl), refl)) (given_up_asked (w.calls.phase c) can) h)
-effect_of w e o v (works c s lt g) = subst (λ o. Effect w e o v) (sym s) (work_effect w e c v (work_inner w c e v g) g)
-effect_of w e o v (joins p t i s page j m h) =
+effect_of w e o v q (works c s lt g) = subst (λ o. Effect w e o v) (sym s) (work_effect w e c v (work_inner w c e v g) g)
+effect_of w e o v g (joins p t i s page j m h) =
     subst (λ o. Effect w e o v) (sym s) (beside w e t w.hardware w.memory v (subst (λ e. IsInner e Stepped) (sym i) ((λ n. refl), refl)) h)

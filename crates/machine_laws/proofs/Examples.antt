@@ -5,7 +5,7 @@ use Rattle.vm_base.specs.declared.replies.Reply.{Reply}
 use Rattle.vm_base.specs.declared.replies.Reply.TheVariants.{Refused}
 use Rattle.vm_base.specs.declared.requests.Request.{Request}
 use Rattle.vm_base.specs.declared.requests.Request.TheVariants.{Munmap}
-use Rattle.slot_lock.specs.Slots.{Slots}
+use Rattle.slot_lock.specs.Slots.{Slots, IsNew}
 use Rattle.machine_model.specs.declared.event.Event.{Event}
 use Rattle.machine_model.specs.declared.event.Event.TheVariants.{Call, Go}
 use Rattle.machine_model.specs.declared.event.Outcome.{Outcome}
@@ -40,8 +40,11 @@ then m s r = (m, s, r)
 ran : (w : World) × Run (new_world made slots) events outcomes w × (w.calls.log ≡ Answer 2 1 0 (Refused EINVAL) ∷ [])
 ran = (_, then _ (refl, refl) (then _ (refl, refl) (then _ (refl, refl) (then _ (refl, refl) refl))), refl)
 
+new : IsNew slots
+new = record { unmapped = λ p. refl; free = λ p. refl }
+
 has_brackets : IsBracketed events outcomes ran.0
-has_brackets = bracketed made slots events outcomes ran.0 ran.1
+has_brackets = bracketed made slots events outcomes ran.0 new ran.1
 
 began : calls_of events outcomes ≡ record { core = 0; request = empty; step = 1 } ∷ []
 began = refl

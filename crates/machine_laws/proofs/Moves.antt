@@ -1,6 +1,11 @@
 -- What holds of one call, and that the order stays where one call moves on
-use Rattle.std.proofs.Common.{◌≡◌, ◌≢◌, ℕ, ◌≤◌, ◌<◌, ◌+◌, Bool, true, cond, refl, sym, ap, subst, arith, Some, None, Option, List, ◌∙◌, [], ◌∷◌, ◌++◌, length, length-append}
+use Rattle.std.proofs.Common.{◌≡◌, ◌≢◌, ℕ, suc, ◌≤◌, ◌<◌, ◌+◌, Bool, true, cond, refl, sym, ap, subst, arith, Some, None, Option, List, ◌∙◌, [], ◌∷◌, ◌++◌, length, length-append}
+use Rattle.vm_base.specs.declared.info.Back.{Back}
+use Rattle.vm_base.specs.declared.info.Back.TheVariants.{Anon, Shared, Private}
+use Rattle.vm_base.specs.declared.info.PageInfo.{PageInfo}
 use Rattle.vm_base.specs.declared.page.PageRange.{PageRange}
+use Rattle.vm_base.specs.declared.rights.Access.{Access}
+use Rattle.vm_calls.specs.Settling.{is_cached}
 use Rattle.vm_base.specs.declared.replies.Reply.{Reply}
 use Rattle.vm_base.specs.declared.requests.Request.{Request}
 use Rattle.vm_base.specs.Functions.{put, has}
@@ -11,28 +16,30 @@ use Rattle.slot_lock.specs.declared.plan.Touch.{Touch}
 use Rattle.slot_lock.specs.Slots.{Slots}
 use Rattle.machine_model.specs.declared.log.Entry.{Entry}
 use Rattle.machine_model.specs.declared.phase.Phase.{Phase}
-use Rattle.machine_model.specs.declared.phase.Phase.TheVariants.{Free, Check, Lock, Decide, Post, Acks, Unlock, Answer, Try, Settle, Want, Fill, Install, Release}
+use Rattle.machine_model.specs.declared.phase.Phase.TheVariants.{Free, Check, Lock, Decide, Post, Acks, Unlock, Answer, Try, Settle, Want, Fill, CopyPost, CopyAcks, Install, Release}
 use Rattle.machine_model.specs.World.{World, Made, Memory}
+use Rattle.machine_model.specs.declared.log.Entry.TheVariants.{Answer as Told, Detach}
 use Rattle.machine_model.specs.Actions.{let_go}
+use Rattle.machine_model.specs.Files.{back_of, file_frame, shows_file}
 use Rattle.machine_model.specs.Holding.{holds, some_has, range_held, taken_in, is_open, page_of_touch}
-use Rattle.machine_laws.specs.Orderly.{Order, IsOrderly, IsAsked, IsCutFor, IsReady, IsUsable, BelongsTo, IsMemory}
+use Rattle.machine_laws.specs.Orderly.{Order, IsOrderly, IsAsked, IsCutFor, IsReady, IsUsable, IsCopyDue, IsWanted, IsFillable, BelongsTo, IsMemory, answer_count}
 use Rattle.machine_laws.proofs.Deciding.{decides_kept}
 use Rattle.machine_laws.proofs.OpenCalls.{one, open_put}
 
 -- ---- one call
 
 -- the call of core c in this phase, over these slots
-pub record IsCall (made : Made) (s : Slots) (requests : List Request) (c call : ℕ) (phase : Phase) : Type 0 where
+pub record IsCall (made : Made) (s : Slots) (cached : ℕ → ℕ → Option ℕ) (requests : List Request) (c call : ℕ) (phase : Phase) : Type 0 where
   pub asked : IsAsked made requests c call phase
   pub owned : (p : ℕ) → holds phase p ≡ true → s.owner p ≡ Some c
   pub only : (p : ℕ) → s.owner p ≡ Some c → holds phase p ≡ true
   pub cut : IsCutFor s.edge (range_held phase)
-  pub ready : IsReady made s phase
+  pub ready : IsReady made s cached phase
   pub taken : (f : ℕ) → taken_in phase ≡ Some f → f < made.frames
 
 -- the call of core c in state w
 abbrev pub IsCallOf : World → ℕ → Phase → Type 0
-IsCallOf w c phase = IsCall w.made w.slots w.calls.requests c (w.calls.number c) phase
+IsCallOf w c phase = IsCall w.made w.slots w.memory.cached w.calls.requests c (w.calls.number c) phase
 
 pub call_at : (w : World) (c : ℕ) (phase : Phase) → w.calls.phase c ≡ phase → IsOrderly w → IsCallOf w c phase
 call_at w c phase e g =
@@ -62,42 +69,108 @@ usable_kept : (file : ℕ → Option File) (s t : Slots) (touch : Touch) (frame 
     → IsUsable file (s.info touch.page) touch.access frame → IsUsable file (t.info touch.page) touch.access frame
 usable_kept file s t touch frame same h = subst (λ o. IsUsable file o touch.access frame) (sym (same touch.page (page_is touch))) h
 
--- where the pages that the call holds have the same
-pub ready_kept : (made : Made) (s t : Slots) (phase : Phase) → ((p : ℕ) → holds phase p ≡ true → t.info p ≡ s.info p) → IsReady made s phase → IsReady made t phase
-ready_kept made s t (Post change shoot) same h = decides_kept made.file s t change _ same h
-ready_kept made s t (Acks change held) same h =
-    (h.0, (h.1.0, decides_kept made.file s t change _ (λ p i. same p (subst (λ r. has r p ≡ true) (sym h.0) i)) h.1.1))
-ready_kept made s t (Want touch) same h = usable_kept made.file s t touch None same h
-ready_kept made s t (Fill touch frame) same h = usable_kept made.file s t touch None same h
-ready_kept made s t (Install touch) same h = (h.0, usable_kept made.file s t touch (Some h.0) same h.1)
-ready_kept made s t Free same h = h
-ready_kept made s t (Check request) same h = h
-ready_kept made s t (Lock goal cursor) same h = h
-ready_kept made s t (Decide change) same h = h
-ready_kept made s t (Unlock held reply) same h = h
-ready_kept made s t (Answer reply) same h = h
-ready_kept made s t (Try touch) same h = h
-ready_kept made s t (Settle touch) same h = h
-ready_kept made s t (Release touch) same h = h
+copying_kept : (made : Made) (cached : ℕ → ℕ → Option ℕ) (touch : Touch) (old new : Option PageInfo) → new ≡ old
+    → (g : ℕ) × IsUsable made.file old touch.access (Some g) × IsCopyDue cached old touch.access g
+    → (g : ℕ) × IsUsable made.file new touch.access (Some g) × IsCopyDue cached new touch.access g
+copying_kept made cached touch old new e h =
+    subst (λ o. (g : ℕ) × IsUsable made.file o touch.access (Some g) × IsCopyDue cached o touch.access g) (sym e) h
 
-other_call : (made : Made) (s t : Slots) (requests : List Request) (c d call : ℕ) (phase : Phase) → d ≢ c → Touches s t c
-    → IsCall made s requests d call phase → IsCall made t requests d call phase
-other_call made s t requests c d call phase ne h k = record {
+-- a frame that caches a file's page goes on caching it
+abbrev pub KeepsCached : (ℕ → ℕ → Option ℕ) → (ℕ → ℕ → Option ℕ) → Type 0
+KeepsCached cached now = (n k g : ℕ) → cached n k ≡ Some g → now n k ≡ Some g
+
+pub frame_kept : (cached now : ℕ → ℕ → Option ℕ) → KeepsCached cached now → (back : Back) (g : ℕ) → file_frame cached back ≡ Some g
+    → file_frame now back ≡ Some g
+frame_kept cached now keeps Anon g h = h
+frame_kept cached now keeps (Shared n k) g h = keeps n k g h
+frame_kept cached now keeps (Private n k) g h = keeps n k g h
+
+-- a frame that shows a file's page goes on showing it
+pub shows_kept : (cached now : ℕ → ℕ → Option ℕ) → KeepsCached cached now → (back : Back) (g : ℕ) → shows_file cached back g ≡ true
+    → shows_file now back g ≡ true
+shows_kept cached now keeps back g h = go (file_frame cached back) refl h
+  where
+    go : (o : Option ℕ) → file_frame cached back ≡ o → is_cached o g ≡ true → shows_file now back g ≡ true
+    go None e i = absurd cc
+    go (Some x) e i = ap (λ o. is_cached o g) (frame_kept cached now keeps back x e) ∙ i
+
+copy_kept : (cached now : ℕ → ℕ → Option ℕ) → KeepsCached cached now → (info : Option PageInfo) (access : Access) (g : ℕ)
+    → IsCopyDue cached info access g → IsCopyDue now info access g
+copy_kept cached now keeps info access g h = record { store = h.store; shown = shows_kept cached now keeps (back_of info) g h.shown }
+
+wanted_kept : (cached now : ℕ → ℕ → Option ℕ) → KeepsCached cached now → (info : Option PageInfo) (access : Access) (old : Option ℕ)
+    → IsWanted cached info access old → IsWanted now info access old
+wanted_kept cached now keeps info access None h = h
+wanted_kept cached now keeps info access (Some old) h = copy_kept cached now keeps info access old h
+
+fillable_kept : (cached now : ℕ → ℕ → Option ℕ) → KeepsCached cached now → (info : Option PageInfo) (access : Access) (frame : Option ℕ)
+    → IsFillable cached info access frame → IsFillable now info access frame
+fillable_kept cached now keeps info access (Some f) h = h
+fillable_kept cached now keeps info access None h = (h.0, (h.1.0, frame_kept cached now keeps (back_of info) h.1.0 h.1.1))
+
+-- where more file pages are cached
+pub ready_cached : (made : Made) (s : Slots) (cached now : ℕ → ℕ → Option ℕ) → KeepsCached cached now → (phase : Phase)
+    → IsReady made s cached phase → IsReady made s now phase
+ready_cached made s cached now keeps (Want touch old) h = (h.0, wanted_kept cached now keeps (s.info touch.page) touch.access old h.1)
+ready_cached made s cached now keeps (Fill touch frame) h = (h.0, fillable_kept cached now keeps (s.info touch.page) touch.access frame h.1)
+ready_cached made s cached now keeps (CopyPost touch frame) h = (h.0, h.1, copy_kept cached now keeps (s.info touch.page) touch.access h.0 h.2)
+ready_cached made s cached now keeps (CopyAcks touch frame) h = (h.0, h.1, copy_kept cached now keeps (s.info touch.page) touch.access h.0 h.2)
+ready_cached made s cached now keeps Free h = h
+ready_cached made s cached now keeps (Check request) h = h
+ready_cached made s cached now keeps (Lock goal cursor) h = h
+ready_cached made s cached now keeps (Decide change) h = h
+ready_cached made s cached now keeps (Post change shoot) h = h
+ready_cached made s cached now keeps (Acks change held) h = h
+ready_cached made s cached now keeps (Unlock held reply) h = h
+ready_cached made s cached now keeps (Answer reply) h = h
+ready_cached made s cached now keeps (Try touch) h = h
+ready_cached made s cached now keeps (Settle touch) h = h
+ready_cached made s cached now keeps (Install touch) h = h
+ready_cached made s cached now keeps (Release touch) h = h
+
+-- where the pages that the call holds have the same
+pub ready_kept : (made : Made) (s t : Slots) (cached : ℕ → ℕ → Option ℕ) (phase : Phase)
+    → ((p : ℕ) → holds phase p ≡ true → t.info p ≡ s.info p) → IsReady made s cached phase → IsReady made t cached phase
+ready_kept made s t cached (Post change shoot) same h = decides_kept made.file s t change _ same h
+ready_kept made s t cached (Acks change held) same h =
+    (h.0, (h.1.0, decides_kept made.file s t change _ (λ p i. same p (subst (λ r. has r p ≡ true) (sym h.0) i)) h.1.1))
+ready_kept made s t cached (Want touch old) same h =
+    subst (λ o. IsUsable made.file o touch.access old × IsWanted cached o touch.access old) (sym (same touch.page (page_is touch))) h
+ready_kept made s t cached (Fill touch frame) same h =
+    subst (λ o. IsUsable made.file o touch.access None × IsFillable cached o touch.access frame) (sym (same touch.page (page_is touch))) h
+ready_kept made s t cached (CopyPost touch frame) same h = copying_kept made cached touch (s.info touch.page) (t.info touch.page) (same touch.page (page_is touch)) h
+ready_kept made s t cached (CopyAcks touch frame) same h = copying_kept made cached touch (s.info touch.page) (t.info touch.page) (same touch.page (page_is touch)) h
+ready_kept made s t cached (Install touch) same h = (h.0, usable_kept made.file s t touch (Some h.0) same h.1)
+ready_kept made s t cached Free same h = h
+ready_kept made s t cached (Check request) same h = h
+ready_kept made s t cached (Lock goal cursor) same h = h
+ready_kept made s t cached (Decide change) same h = h
+ready_kept made s t cached (Unlock held reply) same h = h
+ready_kept made s t cached (Answer reply) same h = h
+ready_kept made s t cached (Try touch) same h = h
+ready_kept made s t cached (Settle touch) same h = h
+ready_kept made s t cached (Release touch) same h = h
+
+other_call : (made : Made) (s t : Slots) (cached now : ℕ → ℕ → Option ℕ) (requests : List Request) (c d call : ℕ) (phase : Phase) → d ≢ c
+    → Touches s t c → KeepsCached cached now → IsCall made s cached requests d call phase → IsCall made t now requests d call phase
+other_call made s t cached now requests c d call phase ne h keeps k = record {
   asked = k.asked;
   owned = λ p i. h.still d p ne (k.owned p i);
   only = λ p i. k.only p (h.now d p ne i);
   cut = cut_kept s.edge t.edge h.edge (range_held phase) k.cut;
-  ready = ready_kept made s t phase (λ p i. h.info p (λ e. ne (let a = k.owned p i in cc))) k.ready;
+  ready = ready_cached made t cached now keeps phase
+      (ready_kept made s t cached phase (λ p i. h.info p (λ e. ne (let a = k.owned p i in cc))) k.ready);
   taken = k.taken;
 }
 
 -- ---- the call of core c moves on
 
 pub moved : (w : World) (c : ℕ) (new : Phase) (t : Slots) (m : Memory) (log : List Entry) → IsOrderly w → c < w.made.cores → Touches w.slots t c
-    → IsCall w.made t w.calls.requests c (w.calls.number c) new → ((p : ℕ) → BelongsTo w.made p (t.info p)) → IsMemory w.made m
-    → length log + one new ≤ length w.calls.log + one (w.calls.phase c)
+    → KeepsCached w.memory.cached m.cached → IsCall w.made t m.cached w.calls.requests c (w.calls.number c) new
+    → ((p : ℕ) → BelongsTo w.made p (t.info p)) → IsMemory w.made m
+    → answer_count log + one new ≤ answer_count w.calls.log + one (w.calls.phase c)
     → Order w.made t m (put w.calls.phase c new) w.calls.number w.calls.requests log
-moved w c new t m log g lt touches call pages memory more = record {
+moved w c new t m log g lt touches keeps call pages memory more = record {
   asked = λ d. (calls d).asked;
   owned = λ d. (calls d).owned;
   only = λ d. (calls d).only;
@@ -111,38 +184,56 @@ moved w c new t m log g lt touches call pages memory more = record {
   limit = g.limit;
 }
   where
-    calls : (d : ℕ) → IsCall w.made t w.calls.requests d (w.calls.number d) (put w.calls.phase c new d)
-    calls = put_all (λ d x. IsCall w.made t w.calls.requests d (w.calls.number d) x) w.calls.phase c new call
-        (λ d ne. other_call w.made w.slots t w.calls.requests c d (w.calls.number d) (w.calls.phase d) ne touches (call_at w d (w.calls.phase d) refl g))
+    calls : (d : ℕ) → IsCall w.made t m.cached w.calls.requests d (w.calls.number d) (put w.calls.phase c new d)
+    calls = put_all (λ d x. IsCall w.made t m.cached w.calls.requests d (w.calls.number d) x) w.calls.phase c new call
+        (λ d ne. other_call w.made w.slots t w.memory.cached m.cached w.calls.requests c d (w.calls.number d) (w.calls.phase d) ne touches keeps
+        (call_at w d (w.calls.phase d) refl g))
 
 -- without a reply
 pub goes_on : (w : World) (c : ℕ) (new : Phase) (t : Slots) (m : Memory) → IsOrderly w → c < w.made.cores → is_open new ≡ is_open (w.calls.phase c)
-    → Touches w.slots t c → IsCall w.made t w.calls.requests c (w.calls.number c) new → ((p : ℕ) → BelongsTo w.made p (t.info p))
-    → IsMemory w.made m
+    → Touches w.slots t c → KeepsCached w.memory.cached m.cached → IsCall w.made t m.cached w.calls.requests c (w.calls.number c) new
+    → ((p : ℕ) → BelongsTo w.made p (t.info p)) → IsMemory w.made m
     → Order w.made t m (put w.calls.phase c new) w.calls.number w.calls.requests w.calls.log
-goes_on w c new t m g lt same touches call pages memory =
-    moved w c new t m w.calls.log g lt touches call pages memory (let a : one new ≡ one (w.calls.phase c) = ap (λ b. cond b 1 0) same in omega (arith, a))
+goes_on w c new t m g lt same touches keeps call pages memory =
+    moved w c new t m w.calls.log g lt touches keeps call pages memory (let a : one new ≡ one (w.calls.phase c) = ap (λ b. cond b 1 0) same in omega (arith, a))
 
 one_gone : (held : Option PageRange) (reply : Reply) → one (let_go held reply) ≡ 0
 one_gone None reply = refl
 one_gone (Some held) reply = refl
 
+pub answers_more : (log : List Entry) (entry : Entry) → answer_count (log ++ entry ∷ []) ≡ answer_count log + answer_count (entry ∷ [])
+answers_more [] entry = omega arith
+answers_more (Told step call core reply ∷ es) entry = let ih = answers_more es entry in omega (arith, ih)
+answers_more (Detach step call page ∷ es) entry = answers_more es entry
+
+-- with a copy for its store
+pub copies_on : (w : World) (c : ℕ) (new : Phase) (t : Slots) (m : Memory) (step call page : ℕ) → IsOrderly w → c < w.made.cores
+    → is_open new ≡ is_open (w.calls.phase c) → Touches w.slots t c → KeepsCached w.memory.cached m.cached
+    → IsCall w.made t m.cached w.calls.requests c (w.calls.number c) new → ((p : ℕ) → BelongsTo w.made p (t.info p)) → IsMemory w.made m
+    → Order w.made t m (put w.calls.phase c new) w.calls.number w.calls.requests (w.calls.log ++ Detach step call page ∷ [])
+copies_on w c new t m step call page g lt same touches keeps its pages memory =
+    moved w c new t m (w.calls.log ++ Detach step call page ∷ []) g lt touches keeps its pages memory
+    (let a : one new ≡ one (w.calls.phase c) = ap (λ b. cond b 1 0) same in
+    let b = answers_more w.calls.log (Detach step call page) in
+    omega (arith, a, b))
+
 -- with its reply
-pub tells : (w : World) (c : ℕ) (held : Option PageRange) (reply : Reply) (t : Slots) (m : Memory) (entry : Entry) → IsOrderly w → c < w.made.cores
-    → is_open (w.calls.phase c) ≡ true → Touches w.slots t c → IsCall w.made t w.calls.requests c (w.calls.number c) (let_go held reply)
+pub tells : (w : World) (c : ℕ) (held : Option PageRange) (reply : Reply) (t : Slots) (m : Memory) (step call core : ℕ) → IsOrderly w
+    → c < w.made.cores → is_open (w.calls.phase c) ≡ true → Touches w.slots t c → KeepsCached w.memory.cached m.cached
+    → IsCall w.made t m.cached w.calls.requests c (w.calls.number c) (let_go held reply)
     → ((p : ℕ) → BelongsTo w.made p (t.info p)) → IsMemory w.made m
-    → Order w.made t m (put w.calls.phase c (let_go held reply)) w.calls.number w.calls.requests (w.calls.log ++ entry ∷ [])
-tells w c held reply t m entry g lt was touches call pages memory =
-    moved w c (let_go held reply) t m (w.calls.log ++ entry ∷ []) g lt touches call pages memory
+    → Order w.made t m (put w.calls.phase c (let_go held reply)) w.calls.number w.calls.requests (w.calls.log ++ Told step call core reply ∷ [])
+tells w c held reply t m step call core g lt was touches keeps its pages memory =
+    moved w c (let_go held reply) t m (w.calls.log ++ Told step call core reply ∷ []) g lt touches keeps its pages memory
     (let a : one (w.calls.phase c) ≡ 1 = ap (λ b. cond b 1 0) was in
     let b = one_gone held reply in
-    let d : length (w.calls.log ++ entry ∷ []) ≡ length w.calls.log + 1 = length-append w.calls.log (entry ∷ []) in
+    let d = answers_more w.calls.log (Told step call core reply) in
     omega (arith, a, b, d))
 
 -- ---- a call that holds the same pages as before
 
 pub same_pages : (w : World) (c : ℕ) (old new : Phase) → IsCallOf w c old → range_held new ≡ range_held old → IsAsked w.made w.calls.requests c (w.calls.number c) new
-    → IsReady w.made w.slots new → ((f : ℕ) → taken_in new ≡ Some f → f < w.made.frames) → IsCallOf w c new
+    → IsReady w.made w.slots w.memory.cached new → ((f : ℕ) → taken_in new ≡ Some f → f < w.made.frames) → IsCallOf w c new
 same_pages w c old new k same asked ready taken = record {
   asked = asked;
   owned = λ p h. k.owned p (sym (ap (λ r. some_has r p) same) ∙ h);
@@ -170,6 +261,7 @@ abbrev pub IsHeldRange : Option PageRange → Type 0
 IsHeldRange None = Unit {0}
 IsHeldRange (Some held) = IsPageRange held
 
-pub ready_gone : (made : Made) (s : Slots) (held : Option PageRange) (reply : Reply) → IsHeldRange held → IsReady made s (let_go held reply)
-ready_gone made s None reply h = tt
-ready_gone made s (Some held) reply h = h
+pub ready_gone : (made : Made) (s : Slots) (cached : ℕ → ℕ → Option ℕ) (held : Option PageRange) (reply : Reply) → IsHeldRange held
+    → IsReady made s cached (let_go held reply)
+ready_gone made s cached None reply h = tt
+ready_gone made s cached (Some held) reply h = h

@@ -20,6 +20,7 @@ opening_is_orderly made slots new = record {
   taken = λ c f h. absurd cc;
   memory = record {
     free = λ f h. grind (arith, nat_tests);
+    cached = λ n k f h. absurd cc;
     reached = reached_open (no_counts made.cores made.frames) made.cores made.frames refl;
     cores = refl;
     objects = refl;

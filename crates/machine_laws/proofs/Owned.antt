@@ -17,6 +17,7 @@ use Rattle.slot_lock.specs.declared.plan.Change.{Change}
 use Rattle.slot_lock.specs.Plan.{range_of}
 use Rattle.slot_lock.specs.Slots.{Slots}
 use Rattle.machine_model.specs.Accesses.{info_with_core}
+use Rattle.machine_model.specs.Filling.{info_copied}
 use Rattle.machine_model.specs.Changes.{slots_after}
 use Rattle.machine_model.specs.World.{Made}
 use Rattle.machine_laws.specs.Orderly.{BelongsTo}
@@ -68,6 +69,15 @@ changed_belongs made s change range old =
 pub framed_belongs : (made : Made) (p f : ℕ) (o : Option PageInfo) → f < made.frames → BelongsTo made p o → BelongsTo made p (info_with_frame f o)
 framed_belongs made p f None lt h = h
 framed_belongs made p f (Some info) lt h = record { valid = h.valid; frame = λ x e. let same : f ≡ x = cc in subst (λ n. n < made.frames) same lt; cores = h.cores }
+
+-- a copy that no core has used
+pub copied_belongs : (made : Made) (p f : ℕ) (o : Option PageInfo) → f < made.frames → BelongsTo made p o → BelongsTo made p (info_copied f o)
+copied_belongs made p f None lt h = h
+copied_belongs made p f (Some info) lt h = record {
+  valid = h.valid;
+  frame = λ x e. let same : f ≡ x = cc in subst (λ n. n < made.frames) same lt;
+  cores = λ c e. absurd (no_member c e);
+}
 
 pub recorded_belongs : (made : Made) (p c : ℕ) (o : Option PageInfo) → c < made.cores → BelongsTo made p o → BelongsTo made p (info_with_core c o)
 recorded_belongs made p c None lt h = h

@@ -1,11 +1,16 @@
 -- What a step is: it changes nothing, begins a call, ends one, or is one of a few things that a call in some phase does. Every
 -- statement on steps is shown shape by shape, so that no row of the machine is taken apart twice.
-use Rattle.std.proofs.Common.{◌≡◌, ◌≢◌, ℕ, sym, ap, ◌∙◌, ◌<◌, ◌⊎◌, inl, inr, Bool, true, false, cond, refl, arith, Some, None, Option, Result, Ok, Err, [], length}
-use Rattle.std.specs.Prelude.{nat_lt, ◌&&◌, is_some, if◌then◌else◌}
+use Rattle.std.proofs.Common.{◌≡◌, ◌≢◌, ℕ, sym, ap, subst, ◌∙◌, ◌<◌, ◌⊎◌, inl, inr, Bool, true, false, cond, refl, arith, Some, None, Option, Result, Ok, Err, [], length}
+use Rattle.std.specs.Prelude.{nat_lt, ◌&&◌, ◌||◌, is_some, if◌then◌else◌}
 use Rattle.std.proofs.lemmas.Bool.Decides.{nat_tests}
+use Rattle.vm_base.specs.declared.info.Back.{Back}
+use Rattle.vm_base.specs.declared.info.Back.TheVariants.{Anon, Shared, Private}
 use Rattle.vm_base.specs.declared.info.PageInfo.{PageInfo}
 use Rattle.vm_base.specs.declared.page.PageRange.{PageRange}
 use Rattle.vm_base.specs.declared.rights.Access.{Access}
+use Rattle.vm_base.specs.declared.rights.Access.TheVariants.{Load, Store, Fetch}
+use Rattle.vm_base.specs.Apply.{is_anonymous}
+use Rattle.vm_base.specs.Info.{frame_of}
 use Rattle.vm_base.specs.declared.replies.Errno.{Errno}
 use Rattle.vm_base.specs.declared.replies.Errno.TheVariants.{ENOMEM}
 use Rattle.vm_base.specs.declared.replies.SegvCode.TheVariants as Code
@@ -21,7 +26,7 @@ use Rattle.refcache.specs.declared.reports.Flush.TheVariants as flush
 use Rattle.refcache.specs.declared.reports.Review.{Review}
 use Rattle.refcache.specs.declared.reports.Review.TheVariants as review
 use Rattle.refcache.specs.Counts.{Counts}
-use Rattle.refcache.specs.Steps.{Takes, Begin, Flushing, Reviewing}
+use Rattle.refcache.specs.Steps.{Takes, Begin, Inc, Flushing, Reviewing}
 use Rattle.shootdown.specs.declared.message.Took.{Took}
 use Rattle.shootdown.specs.declared.message.Took.TheVariants as took
 use Rattle.shootdown.specs.Messages.{asked, remaining}
@@ -39,7 +44,7 @@ use Rattle.vm_calls.specs.declared.decision.Decision.TheVariants.{Refuse, Act}
 use Rattle.vm_calls.specs.declared.fault.Settled.{Settled}
 use Rattle.vm_calls.specs.declared.fault.Settled.TheVariants.{MapErr, AccErr, Bus, Has, Copies, Cached, Wants}
 use Rattle.vm_calls.specs.Decisions.{Decides}
-use Rattle.vm_calls.specs.Settling.{settled, source, is_private_store}
+use Rattle.vm_calls.specs.Settling.{settled, source, is_cached, is_private_store}
 use Rattle.machine_model.specs.declared.event.Blocker.TheVariants as WaitsFor
 use Rattle.machine_model.specs.declared.event.Event.{Event}
 use Rattle.machine_model.specs.declared.event.Event.TheVariants as EventOf
@@ -49,20 +54,22 @@ use Rattle.machine_model.specs.declared.event.Outcome.TheVariants.{Stepped, Idle
 use Rattle.machine_model.specs.declared.phase.Goal.{Goal}
 use Rattle.machine_model.specs.declared.phase.Goal.TheVariants as To
 use Rattle.machine_model.specs.declared.phase.Phase.{Phase}
-use Rattle.machine_model.specs.declared.phase.Phase.TheVariants.{Free, Check, Lock, Decide, Post, Acks, Unlock, Answer, Try, Settle, Want, Fill, Install, Release}
-use Rattle.machine_model.specs.Accesses.{after_translation, found_at, is_past_end, after_finding, NoneFree, TakesFrame, TakesThisFrame, FillsFrame, after_frame, after_fill, after_install, after_access}
+use Rattle.machine_model.specs.declared.phase.Phase.TheVariants.{Free, Check, Lock, Decide, Post, Acks, Unlock, Answer, Try, Settle, Want, Fill, CopyPost, CopyAcks, Install, Release}
+use Rattle.machine_model.specs.Accesses.{after_translation, found_at, is_past_end, after_finding, NoneFree, TakesFrame, TakesThisFrame, after_frame, after_install, after_access}
+use Rattle.machine_model.specs.Files.{back_of, file_frame}
+use Rattle.machine_model.specs.Filling.{FillsFromFile, FillsBacked, after_zeros, after_first_copy, after_caching, after_sharing, after_copy_post, after_copy, CountsCopy, CopiesNext}
 use Rattle.machine_model.specs.Actions.{Idles, Becomes, to, after_reply, let_go}
 use Rattle.machine_model.specs.Changes.{checked_by, after_plan, after_decision, after_post, after_commit, CountsLost, AwaitsNobody, Awaits, CommitsNext}
 use Rattle.machine_model.specs.Counting.{with_counts, with_free, FlushesOnce, ReportsFlush, ReviewsOnce, ReportsReview}
 use Rattle.machine_model.specs.GivingUp.{GivesUp, after_give_up}
 use Rattle.machine_model.specs.Events.{core_of}
-use Rattle.machine_model.specs.Holding.{goal_range, page_of_touch, can_give_up}
+use Rattle.machine_model.specs.Holding.{goal_range, page_of_touch, awaits_in, can_give_up}
 use Rattle.machine_model.specs.Locks.{locking, locked_to, held_after, LocksTo, FoldsAt}
 use Rattle.machine_model.specs.Translating.{translated_by, frame_reached, after_translating, with_hardware, with_inbox, tables_cleared, tlb_invalidated, TakesMessage, can_walk, after_walk, Walks, after_eviction, Evicts}
-use Rattle.machine_model.specs.World.{World}
+use Rattle.machine_model.specs.World.{World, Hardware}
 use Rattle.machine_model.specs.Step.{after_call, Begins, Goes, Acts, is_here, with_event, event_limit, Step}
 use Rattle.machine_laws.specs.Brackets.{begun_by}
-use Rattle.machine_laws.specs.Orderly.{IsUsable}
+use Rattle.machine_laws.specs.Orderly.{IsUsable, IsCopyDue, IsWanted, IsFillable}
 
 -- ---- shapes
 
@@ -85,8 +92,12 @@ pub data Moves (w : World) (c : ℕ) (new : Phase) : Type 0 where
       → Decides w.made.file w.slots (PlanOf.Change change) (Act range shoot) → Moves w c new
   finds : (touch : Touch) (f : ℕ) → w.calls.phase c ≡ Settle touch → new ≡ Install touch
       → IsUsable w.made.file (w.slots.info touch.page) touch.access (Some f) → Moves w c new
-  lacks : (touch : Touch) → w.calls.phase c ≡ Settle touch → new ≡ Want touch
-      → IsUsable w.made.file (w.slots.info touch.page) touch.access None → Moves w c new
+  lacks : (touch : Touch) (old : Option ℕ) → w.calls.phase c ≡ Settle touch → new ≡ Want touch old
+      → IsUsable w.made.file (w.slots.info touch.page) touch.access old
+      → IsWanted w.memory.cached (w.slots.info touch.page) touch.access old → Moves w c new
+  shows : (touch : Touch) → w.calls.phase c ≡ Settle touch → new ≡ Fill touch None
+      → IsUsable w.made.file (w.slots.info touch.page) touch.access None
+      → IsFillable w.memory.cached (w.slots.info touch.page) touch.access None → Moves w c new
 
 -- the fault that an access finds at its page
 abbrev pub IsFault : Settled → Reply → Type 0
@@ -104,13 +115,18 @@ pub data Replies (w : World) (c : ℕ) (held : Option PageRange) (reply : Reply)
       → Decides w.made.file w.slots (PlanOf.Change change) (Refuse errno) → Replies w c held reply
   fails : (touch : Touch) → w.calls.phase c ≡ Settle touch → held ≡ Some (page_of_touch touch) → IsFault (found_at w touch) reply
       → Replies w c held reply
-  no_frame : (touch : Touch) → w.calls.phase c ≡ Want touch → held ≡ Some (page_of_touch touch) → reply ≡ ReplyOf.NoFrame
+  no_frame : (touch : Touch) (old : Option ℕ) → w.calls.phase c ≡ Want touch old → held ≡ Some (page_of_touch touch) → reply ≡ ReplyOf.NoFrame
       → NoneFree w.memory.is_free → Replies w c held reply
 
 -- a call in this phase lets the pages of what it holds up to b go, and goes on to the new phase
 pub data LetsGo (old : Phase) (held : PageRange) (b : ℕ) (new : Phase) : Type 0 where
   unlocks : (reply : Reply) → old ≡ Unlock held reply → new ≡ let_go (held_after held b) reply → LetsGo old held b new
   releases : (touch : Touch) → old ≡ Release touch → held ≡ page_of_touch touch → new ≡ Try touch → LetsGo old held b new
+
+-- the page is of a file, and the access is no store that would give it a copy of its own
+pub record IsShowing (info : Option PageInfo) (access : Access) : Type 0 where
+  pub of_file : is_anonymous (back_of info) ≡ false
+  pub no_copy : is_private_store (back_of info) access ≡ false
 
 -- a plain step of core c's call
 pub data GoesBy (w : World) (c : ℕ) (v : World) : Type 0 where
@@ -125,9 +141,23 @@ pub data GoesBy (w : World) (c : ℕ) (v : World) : Type 0 where
   posts : (change : Change) (shoot : ℕ) → w.calls.phase c ≡ Post change shoot → v ≡ after_post c change shoot w → GoesBy w c v
   commits : (change : Change) (held : PageRange) (counts : Counts) → w.calls.phase c ≡ Acks change held → AwaitsNobody w.hardware c
       → CountsLost c change w counts → v ≡ after_commit c change held counts w → GoesBy w c v
-  takes : (touch : Touch) (f : ℕ) → w.calls.phase c ≡ Want touch → w.memory.is_free f ≡ true → v ≡ after_frame c touch f w → GoesBy w c v
-  fills : (touch : Touch) (f : ℕ) (counts : Counts) → w.calls.phase c ≡ Fill touch f → Takes w.memory.counts (Begin f 1) counts
-      → v ≡ after_fill c touch f counts w → GoesBy w c v
+  takes : (touch : Touch) (old : Option ℕ) (f : ℕ) → w.calls.phase c ≡ Want touch old → w.memory.is_free f ≡ true
+      → v ≡ after_frame c touch old f w → GoesBy w c v
+  zeroes : (touch : Touch) (f : ℕ) (counts : Counts) → w.calls.phase c ≡ Fill touch (Some f)
+      → back_of (w.slots.info touch.page) ≡ Anon → Takes w.memory.counts (Begin f 1) counts → v ≡ after_zeros c touch f counts w → GoesBy w c v
+  first_copies : (touch : Touch) (f : ℕ) (counts : Counts) → w.calls.phase c ≡ Fill touch (Some f)
+      → is_private_store (back_of (w.slots.info touch.page)) touch.access ≡ true → Takes w.memory.counts (Begin f 1) counts
+      → v ≡ after_first_copy c touch f counts w → GoesBy w c v
+  caches : (touch : Touch) (f : ℕ) (counts : Counts) → w.calls.phase c ≡ Fill touch (Some f)
+      → IsShowing (w.slots.info touch.page) touch.access → file_frame w.memory.cached (back_of (w.slots.info touch.page)) ≡ None
+      → Takes w.memory.counts (Begin f 2) counts → v ≡ after_caching c touch f counts w → GoesBy w c v
+  shares : (touch : Touch) (own : Option ℕ) (g : ℕ) (counts : Counts) → w.calls.phase c ≡ Fill touch own
+      → IsShowing (w.slots.info touch.page) touch.access → file_frame w.memory.cached (back_of (w.slots.info touch.page)) ≡ Some g
+      → Takes w.memory.counts (Inc c g) counts → v ≡ after_sharing c touch own g counts w → GoesBy w c v
+  posts_copy : (touch : Touch) (f : ℕ) → w.calls.phase c ≡ CopyPost touch f → v ≡ after_copy_post c touch f w → GoesBy w c v
+  copies : (touch : Touch) (f g : ℕ) (counts : Counts) → w.calls.phase c ≡ CopyAcks touch f → AwaitsNobody w.hardware c
+      → frame_of (w.slots.info touch.page) ≡ Some g → CountsCopy c f g w.memory.counts counts
+      → v ≡ after_copy c touch f g counts w → GoesBy w c v
   installs : (touch : Touch) → w.calls.phase c ≡ Install touch → v ≡ after_install c touch w → GoesBy w c v
   accesses : (touch : Touch) (f : ℕ) → w.calls.phase c ≡ Try touch → frame_reached (translated_by w.hardware c touch) ≡ Some f
       → v ≡ after_access c touch f (with_hardware (after_translating w.hardware c touch) w) → GoesBy w c v
@@ -165,8 +195,13 @@ pub data Rests (w : World) (e : Event) (o : Outcome) : Type 0 where
   cannot : ((c : ℕ) → e ≢ Go c) → ((c : ℕ) (request : Request) → e ≢ Call c request) → o ≡ Idle → Rests w e o
   waits : (c : ℕ) (goal : Goal) (cursor by : ℕ) → e ≡ Go c → w.calls.phase c ≡ Lock goal cursor → by ≢ c → w.slots.owner cursor ≡ Some by
       → o ≡ Wait (WaitsFor.Slot by) → Rests w e o
-  awaits : (c : ℕ) (change : Change) (held : PageRange) (set : ℕ) → e ≡ Go c → w.calls.phase c ≡ Acks change held → Awaits w.hardware c set
+  awaits : (c : ℕ) (range : PageRange) (set : ℕ) → e ≡ Go c → awaits_in (w.calls.phase c) ≡ Some range → Awaits w.hardware c set
       → o ≡ Wait (WaitsFor.Acks set) → Rests w e o
+
+-- a call that has told other cores to drop a page awaits none of them
+abbrev pub IsUnawaited : Hardware → ℕ → Phase → Type 0
+IsUnawaited h c (CopyAcks touch frame) = AwaitsNobody h c
+IsUnawaited h c _ = Unit {0}
 
 -- event e, counted in w, comes to outcome o and leaves v
 pub data Shape (w : World) (e : Event) (o : Outcome) (v : World) : Type 0 where
@@ -177,7 +212,7 @@ pub data Shape (w : World) (e : Event) (o : Outcome) (v : World) : Type 0 where
       → v ≡ to c Free w → Shape w e o v
   goes : (c : ℕ) → IsGoing c e → o ≡ Stepped → c < w.made.cores → GoesBy w c v → Shape w e o v
   gives_up : (c : ℕ) → e ≡ EventOf.GiveUp c → o ≡ Stepped → c < w.made.cores → can_give_up (w.calls.phase c) ≡ true
-      → v ≡ after_give_up c (w.calls.phase c) w → Shape w e o v
+      → IsUnawaited w.hardware c (w.calls.phase c) → v ≡ after_give_up c (w.calls.phase c) w → Shape w e o v
   works : (c : ℕ) → o ≡ Stepped → c < w.made.cores → Works w c e v → Shape w e o v
   joins : (p : ℕ) (t : Slots) → e ≡ EventOf.Fold p → o ≡ Stepped → IsPage p → Joins w.slots t → IsSlotMap t → v ≡ record w { slots = t }
       → Shape w e o v
@@ -221,7 +256,7 @@ rests_inner w e o (full c request h n i) = rw i (inner_full e)
 rests_inner w e o (free c h n i) = rw i (inner_idle e)
 rests_inner w e o (cannot g k i) = rw i (inner_idle e)
 rests_inner w e o (waits c goal cursor by h p ne own i) = rw (h, i) ((λ n. refl), refl)
-rests_inner w e o (awaits c change held set h p a i) = rw (h, i) ((λ n. refl), refl)
+rests_inner w e o (awaits c range set h p a i) = rw (h, i) ((λ n. refl), refl)
 
 below : (a b : ℕ) → nat_lt a b ≡ true → a < b
 below a b h = grind (arith, nat_tests)
@@ -242,7 +277,9 @@ call_shape w c request (Unlock held reply) o v lt e h = rests (busy c request re
 call_shape w c request (Answer reply) o v lt e h = rests (busy c request refl (λ f. let a = sym e ∙ f in cc) h.0) h.1
 call_shape w c request (Try touch) o v lt e h = rests (busy c request refl (λ f. let a = sym e ∙ f in cc) h.0) h.1
 call_shape w c request (Settle touch) o v lt e h = rests (busy c request refl (λ f. let a = sym e ∙ f in cc) h.0) h.1
-call_shape w c request (Want touch) o v lt e h = rests (busy c request refl (λ f. let a = sym e ∙ f in cc) h.0) h.1
+call_shape w c request (Want touch old) o v lt e h = rests (busy c request refl (λ f. let a = sym e ∙ f in cc) h.0) h.1
+call_shape w c request (CopyPost touch f) o v lt e h = rests (busy c request refl (λ f. let a = sym e ∙ f in cc) h.0) h.1
+call_shape w c request (CopyAcks touch f) o v lt e h = rests (busy c request refl (λ f. let a = sym e ∙ f in cc) h.0) h.1
 call_shape w c request (Fill touch f) o v lt e h = rests (busy c request refl (λ f. let a = sym e ∙ f in cc) h.0) h.1
 call_shape w c request (Install touch) o v lt e h = rests (busy c request refl (λ f. let a = sym e ∙ f in cc) h.0) h.1
 call_shape w c request (Release touch) o v lt e h = rests (busy c request refl (λ f. let a = sym e ∙ f in cc) h.0) h.1
@@ -276,48 +313,95 @@ try_shape w c touch (Some f) v e k h = accesses touch f e k h
 try_shape w c touch None v e k h = faults touch e k h
 
 -- what an access finds that isn't a fault
-abbrev Finds : (ℕ → Option File) → Option PageInfo → Access → Settled → Type 0
-Finds file info access (Has f) = IsUsable file info access (Some f)
-Finds file info access (Copies f) = ⊥
-Finds file info access (Cached f) = IsUsable file info access None
-Finds file info access Wants = IsUsable file info access None
-Finds file info access _ = Unit {0}
+abbrev Finds : (ℕ → Option File) → (ℕ → ℕ → Option ℕ) → Option PageInfo → Access → Settled → Type 0
+Finds file cached info access (Has f) = IsUsable file info access (Some f)
+Finds file cached info access (Copies f) = IsUsable file info access (Some f) × IsCopyDue cached info access f
+Finds file cached info access (Cached f) = IsUsable file info access None × IsFillable cached info access None
+Finds file cached info access Wants = IsUsable file info access None
+Finds file cached info access _ = Unit {0}
 
-found : (file : ℕ → Option File) (info : Option PageInfo) (access : Access) → Finds file info access (settled info access (is_past_end file info) None)
-found file None access = tt
-found file (Some info) access = go (is_allowed info.meta.prot access) (is_past_end file (Some info)) info.frame refl refl refl
+-- by where the frame of a usable page comes from
+found_source : (file : ℕ → Option File) (cached : ℕ → ℕ → Option ℕ) (info : PageInfo) (access : Access) (frame shown : Option ℕ)
+    → IsUsable file (Some info) access frame → file_frame cached info.meta.back ≡ shown
+    → Finds file cached (Some info) access (source info.meta.back frame access shown)
+found_source file cached info access (Some f) shown u e = go (is_private_store info.meta.back access) (is_cached shown f) refl refl
   where
-    -- no file page is cached, so none is to be copied
-    has : (f : ℕ) → IsUsable file (Some info) access (Some f) → (store : Bool) → Finds file (Some info) access (if store && false then Copies f else Has f)
-    has f u true = u
-    has f u false = u
+    go : (a b : Bool) → is_private_store info.meta.back access ≡ a → is_cached shown f ≡ b
+        → Finds file cached (Some info) access (if a && b then Copies f else Has f)
+    go true true i j = (u, record { store = i; shown = ap (λ o. is_cached o f) e ∙ j })
+    go true false i j = u
+    go false b i j = u
+found_source file cached info access None None u e = u
+found_source file cached info access None (Some g) u e = go (is_private_store info.meta.back access) (is_anonymous info.meta.back) refl
+  where
+    go : (a b : Bool) → is_private_store info.meta.back access ≡ a
+        → Finds file cached (Some info) access (if a || b then Wants else Cached g)
+    go true b i = u
+    go false true i = u
+    go false false i = (u, (i, (g, e)))
 
-    go : (a b : Bool) (f : Option ℕ) → is_allowed info.meta.prot access ≡ a → is_past_end file (Some info) ≡ b → info.frame ≡ f
-        → Finds file (Some info) access (if a then (if b then Bus else source info.meta.back f access None) else AccErr)
-    go true true f i j k = tt
-    go true false (Some f) i j k = has f (i, j, k) (is_private_store info.meta.back access)
-    go true false None i j k = (i, j, k)
-    go false b f i j k = tt
+found : (file : ℕ → Option File) (cached : ℕ → ℕ → Option ℕ) (info : Option PageInfo) (access : Access)
+    → Finds file cached info access (settled info access (is_past_end file info) (file_frame cached (back_of info)))
+found file cached None access = tt
+found file cached (Some info) access = go (is_allowed info.meta.prot access) (is_past_end file (Some info)) refl refl
+  where
+    go : (a b : Bool) → is_allowed info.meta.prot access ≡ a → is_past_end file (Some info) ≡ b
+        → Finds file cached (Some info) access
+        (if a then (if b then Bus else source info.meta.back info.frame access (file_frame cached info.meta.back)) else AccErr)
+    go true true i j = tt
+    go true false i j = found_source file cached info access info.frame (file_frame cached info.meta.back) (i, j, refl) refl
+    go false b i j = tt
 
 settle_shape : (w : World) (c : ℕ) (touch : Touch) (s : Settled) (v : World) → w.calls.phase c ≡ Settle touch → found_at w touch ≡ s
-    → Finds w.made.file (w.slots.info touch.page) touch.access s → v ≡ after_finding c touch s w → GoesBy w c v
+    → Finds w.made.file w.memory.cached (w.slots.info touch.page) touch.access s → v ≡ after_finding c touch s w → GoesBy w c v
 settle_shape w c touch MapErr v e k f h = answers (Some (page_of_touch touch)) (ReplyOf.Segv Code.MapErr) (fails touch e refl (rw k refl)) h
 settle_shape w c touch AccErr v e k f h = answers (Some (page_of_touch touch)) (ReplyOf.Segv Code.AccErr) (fails touch e refl (rw k refl)) h
 settle_shape w c touch Bus v e k f h = answers (Some (page_of_touch touch)) ReplyOf.Bus (fails touch e refl (rw k refl)) h
 settle_shape w c touch (Has g) v e k f h = moves (Install touch) (finds touch g e refl f) h
-settle_shape w c touch (Copies g) v e k f h = absurd f
-settle_shape w c touch (Cached g) v e k f h = moves (Want touch) (lacks touch e refl f) h
-settle_shape w c touch Wants v e k f h = moves (Want touch) (lacks touch e refl f) h
+settle_shape w c touch (Copies g) v e k f h = moves (Want touch (Some g)) (lacks touch (Some g) e refl f.0 f.1) h
+settle_shape w c touch (Cached g) v e k f h = moves (Fill touch None) (shows touch e refl f.0 f.1) h
+settle_shape w c touch Wants v e k f h = moves (Want touch None) (lacks touch None e refl f tt) h
 
-want_shape : (w : World) (c : ℕ) (touch : Touch) (o : Outcome) (v : World) → c < w.made.cores → w.calls.phase c ≡ Want touch
-    → TakesFrame w c touch o v → Shape w (Go c) o v
-want_shape w c touch o v lt e (inl h) = step w c o v lt h.1.0 (answers (Some (page_of_touch touch)) ReplyOf.NoFrame (no_frame touch e refl refl h.0) h.1.1)
-want_shape w c touch o v lt e (inr h) = step w c o v lt h.2.0 (takes touch h.0 e h.1.free h.2.1)
+want_shape : (w : World) (c : ℕ) (touch : Touch) (old : Option ℕ) (o : Outcome) (v : World) → c < w.made.cores
+    → w.calls.phase c ≡ Want touch old → TakesFrame w c touch old o v → Shape w (Go c) o v
+want_shape w c touch old o v lt e (inl h) =
+    step w c o v lt h.1.0 (answers (Some (page_of_touch touch)) ReplyOf.NoFrame (no_frame touch old e refl refl h.0) h.1.1)
+want_shape w c touch old o v lt e (inr h) = step w c o v lt h.2.0 (takes touch old h.0 e h.1.free h.2.1)
+
+-- by what backs the page, and the access
+from_file : (w : World) (c : ℕ) (touch : Touch) (own shown : Option ℕ) (o : Outcome) (v : World) → c < w.made.cores
+    → w.calls.phase c ≡ Fill touch own → IsShowing (w.slots.info touch.page) touch.access
+    → file_frame w.memory.cached (back_of (w.slots.info touch.page)) ≡ shown
+    → FillsFromFile w c touch own shown o v → Shape w (Go c) o v
+from_file w c touch own (Some g) o v lt e s i h = step w c o v lt h.2.0 (shares touch own g h.0 e s i h.1 h.2.1)
+from_file w c touch (Some f) None o v lt e s i h = step w c o v lt h.2.0 (caches touch f h.0 e s i h.1 h.2.1)
+from_file w c touch None None o v lt e s i h = absurd h
+
+fill_shape : (w : World) (c : ℕ) (touch : Touch) (own : Option ℕ) (back : Back) (access : Access) (o : Outcome) (v : World)
+    → c < w.made.cores → w.calls.phase c ≡ Fill touch own → back_of (w.slots.info touch.page) ≡ back → touch.access ≡ access
+    → FillsBacked w c touch own back access o v → Shape w (Go c) o v
+fill_shape w c touch (Some f) Anon access o v lt e b a h = step w c o v lt h.2.0 (zeroes touch f h.0 e b h.1 h.2.1)
+fill_shape w c touch None Anon access o v lt e b a h = absurd h
+fill_shape w c touch own (Shared n k) access o v lt e b a h =
+    from_file w c touch own (w.memory.cached n k) o v lt e (record { of_file = rw b refl; no_copy = rw b refl }) (rw b refl) h
+fill_shape w c touch (Some f) (Private n k) Store o v lt e b a h =
+    step w c o v lt h.2.0 (first_copies touch f h.0 e (rw (b, a) refl) h.1 h.2.1)
+fill_shape w c touch None (Private n k) Store o v lt e b a h = absurd h
+fill_shape w c touch own (Private n k) Load o v lt e b a h =
+    from_file w c touch own (w.memory.cached n k) o v lt e (record { of_file = rw b refl; no_copy = rw (b, a) refl }) (rw b refl) h
+fill_shape w c touch own (Private n k) Fetch o v lt e b a h =
+    from_file w c touch own (w.memory.cached n k) o v lt e (record { of_file = rw b refl; no_copy = rw (b, a) refl }) (rw b refl) h
+
+copy_shape : (w : World) (c : ℕ) (touch : Touch) (f : ℕ) (o : Outcome) (v : World) → c < w.made.cores
+    → w.calls.phase c ≡ CopyAcks touch f → CopiesNext w c touch f o v → Shape w (Go c) o v
+copy_shape w c touch f o v lt e (inl h) =
+    step w c o v lt h.1.4.0 (copies touch f h.1.0 h.1.1 e h.0 h.1.2 h.1.3 h.1.4.1)
+copy_shape w c touch f o v lt e (inr h) = rests (awaits c (page_of_touch touch) h.0 refl (ap awaits_in e) h.1 h.2) h.3
 
 acks_shape : (w : World) (c : ℕ) (change : Change) (held : PageRange) (o : Outcome) (v : World) → c < w.made.cores
     → w.calls.phase c ≡ Acks change held → CommitsNext w c change held o v → Shape w (Go c) o v
 acks_shape w c change held o v lt e (inl h) = step w c o v lt h.1.2.0 (commits change held h.1.0 e h.0 h.1.1 h.1.2.1)
-acks_shape w c change held o v lt e (inr h) = rests (awaits c change held h.0 refl e h.1 h.2) h.3
+acks_shape w c change held o v lt e (inr h) = rests (awaits c (range_of change) h.0 refl (ap awaits_in e) h.1 h.2) h.3
 
 go_shape : (w : World) (c : ℕ) (phase : Phase) (o : Outcome) (v : World) → c < w.made.cores → w.calls.phase c ≡ phase → Goes w c phase o v → Shape w (Go c) o v
 go_shape w c Free o v lt e h = rests (free c refl e h.0) h.1
@@ -329,9 +413,11 @@ go_shape w c (Acks change held) o v lt e h = acks_shape w c change held o v lt e
 go_shape w c (Unlock held reply) o v lt e h = step w c o v lt h.1.2.0 (lets_go held h.0 h.1.0 (let_go (held_after held h.0) reply) (unlocks reply e refl) h.1.1 h.1.2.1)
 go_shape w c (Answer reply) o v lt e h = ends c reply refl h.0 lt e h.1
 go_shape w c (Try touch) o v lt e h = step w c o v lt h.0 (try_shape w c touch (frame_reached (translated_by w.hardware c touch)) v e refl h.1)
-go_shape w c (Settle touch) o v lt e h = step w c o v lt h.0 (settle_shape w c touch (found_at w touch) v e refl (found w.made.file (w.slots.info touch.page) touch.access) h.1)
-go_shape w c (Want touch) o v lt e h = want_shape w c touch o v lt e h
-go_shape w c (Fill touch f) o v lt e h = step w c o v lt h.2.0 (fills touch f h.0 e h.1 h.2.1)
+go_shape w c (Settle touch) o v lt e h = step w c o v lt h.0 (settle_shape w c touch (found_at w touch) v e refl (found w.made.file w.memory.cached (w.slots.info touch.page) touch.access) h.1)
+go_shape w c (Want touch old) o v lt e h = want_shape w c touch old o v lt e h
+go_shape w c (Fill touch own) o v lt e h = fill_shape w c touch own (back_of (w.slots.info touch.page)) touch.access o v lt e refl refl h
+go_shape w c (CopyPost touch f) o v lt e h = step w c o v lt h.0 (posts_copy touch f e h.1)
+go_shape w c (CopyAcks touch f) o v lt e h = copy_shape w c touch f o v lt e h
 go_shape w c (Install touch) o v lt e h = step w c o v lt h.0 (installs touch e h.1)
 go_shape w c (Release touch) o v lt e h = step w c o v lt h.1.2.0 (lets_go (page_of_touch touch) h.0 h.1.0 (Try touch) (releases touch e refl refl) h.1.1 h.1.2.1)
 
@@ -344,10 +430,10 @@ idles w e o v not_go not_call h = rests (cannot not_go not_call h.0) h.1
 
 frame_shape : (w : World) (c f : ℕ) (phase : Phase) (o : Outcome) (v : World) → c < w.made.cores → w.calls.phase c ≡ phase
     → TakesThisFrame w c phase f o v → Shape w (EventOf.Frame c f) o v
-frame_shape w c f (Want touch) o v lt e h = go (w.memory.is_free f) refl h
+frame_shape w c f (Want touch old) o v lt e h = go (w.memory.is_free f) refl h
   where
-    go : (b : Bool) → w.memory.is_free f ≡ b → cond b (Becomes (after_frame c touch f w) o v) (Idles w o v) → Shape w (EventOf.Frame c f) o v
-    go true i k = goes c (picking f) k.0 lt (takes touch f e i k.1)
+    go : (b : Bool) → w.memory.is_free f ≡ b → cond b (Becomes (after_frame c touch old f w) o v) (Idles w o v) → Shape w (EventOf.Frame c f) o v
+    go true i k = goes c (picking f) k.0 lt (takes touch old f e i k.1)
     go false i k = idles w (EventOf.Frame c f) o v (λ d x. cc) (λ d r x. cc) k
 frame_shape w c f Free o v lt e h = idles w (EventOf.Frame c f) o v (λ d x. cc) (λ d r x. cc) h
 frame_shape w c f (Check r) o v lt e h = idles w (EventOf.Frame c f) o v (λ d x. cc) (λ d r x. cc) h
@@ -360,6 +446,8 @@ frame_shape w c f (Answer reply) o v lt e h = idles w (EventOf.Frame c f) o v (�
 frame_shape w c f (Try touch) o v lt e h = idles w (EventOf.Frame c f) o v (λ d x. cc) (λ d r x. cc) h
 frame_shape w c f (Settle touch) o v lt e h = idles w (EventOf.Frame c f) o v (λ d x. cc) (λ d r x. cc) h
 frame_shape w c f (Fill touch g) o v lt e h = idles w (EventOf.Frame c f) o v (λ d x. cc) (λ d r x. cc) h
+frame_shape w c f (CopyPost touch g) o v lt e h = idles w (EventOf.Frame c f) o v (λ d x. cc) (λ d r x. cc) h
+frame_shape w c f (CopyAcks touch g) o v lt e h = idles w (EventOf.Frame c f) o v (λ d x. cc) (λ d r x. cc) h
 frame_shape w c f (Install touch) o v lt e h = idles w (EventOf.Frame c f) o v (λ d x. cc) (λ d r x. cc) h
 frame_shape w c f (Release touch) o v lt e h = idles w (EventOf.Frame c f) o v (λ d x. cc) (λ d r x. cc) h
 
@@ -403,13 +491,36 @@ fold_shape : (w : World) (p : ℕ) (o : Outcome) (v : World) → FoldsAt w p o v
 fold_shape w p o v (inl h) = idles w (EventOf.Fold p) o v (λ d x. cc) (λ d r x. cc) h
 fold_shape w p o v (inr h) = joins p h.1.0 refl h.1.3.0 h.0 h.1.1 h.1.2 h.1.3.1
 
-give_up_shape : (w : World) (c : ℕ) (phase : Phase) (o : Outcome) (v : World) → c < w.made.cores → w.calls.phase c ≡ phase
-    → GivesUp w c phase o v → Shape w (EventOf.GiveUp c) o v
-give_up_shape w c phase o v lt e h = go (can_give_up phase) refl h
+-- a call that may be given up, or may not
+can_give_up_shape : (w : World) (c : ℕ) (phase : Phase) (o : Outcome) (v : World) → c < w.made.cores → w.calls.phase c ≡ phase
+    → IsUnawaited w.hardware c phase → cond (can_give_up phase) (Becomes (after_give_up c phase w) o v) (Idles w o v)
+    → Shape w (EventOf.GiveUp c) o v
+can_give_up_shape w c phase o v lt e u h = go (can_give_up phase) refl h
   where
     go : (b : Bool) → can_give_up phase ≡ b → cond b (Becomes (after_give_up c phase w) o v) (Idles w o v) → Shape w (EventOf.GiveUp c) o v
-    go true i k = gives_up c refl k.0 lt (ap can_give_up e ∙ i) (k.1 ∙ ap (λ q. after_give_up c q w) (sym e))
+    go true i k = gives_up c refl k.0 lt (ap can_give_up e ∙ i) (subst (IsUnawaited w.hardware c) (sym e) u)
+        (k.1 ∙ ap (λ q. after_give_up c q w) (sym e))
     go false i k = idles w (EventOf.GiveUp c) o v (λ d x. cc) (λ d r x. cc) k
+
+give_up_shape : (w : World) (c : ℕ) (phase : Phase) (o : Outcome) (v : World) → c < w.made.cores → w.calls.phase c ≡ phase
+    → GivesUp w c phase o v → Shape w (EventOf.GiveUp c) o v
+give_up_shape w c Free o v lt e h = can_give_up_shape w c Free o v lt e tt h
+give_up_shape w c (Check request) o v lt e h = can_give_up_shape w c (Check request) o v lt e tt h
+give_up_shape w c (Lock goal cursor) o v lt e h = can_give_up_shape w c (Lock goal cursor) o v lt e tt h
+give_up_shape w c (Decide change) o v lt e h = can_give_up_shape w c (Decide change) o v lt e tt h
+give_up_shape w c (Post change shoot) o v lt e h = can_give_up_shape w c (Post change shoot) o v lt e tt h
+give_up_shape w c (Acks change held) o v lt e h = can_give_up_shape w c (Acks change held) o v lt e tt h
+give_up_shape w c (Unlock held reply) o v lt e h = can_give_up_shape w c (Unlock held reply) o v lt e tt h
+give_up_shape w c (Answer reply) o v lt e h = can_give_up_shape w c (Answer reply) o v lt e tt h
+give_up_shape w c (Try touch) o v lt e h = can_give_up_shape w c (Try touch) o v lt e tt h
+give_up_shape w c (Settle touch) o v lt e h = can_give_up_shape w c (Settle touch) o v lt e tt h
+give_up_shape w c (Want touch old) o v lt e h = can_give_up_shape w c (Want touch old) o v lt e tt h
+give_up_shape w c (Fill touch own) o v lt e h = can_give_up_shape w c (Fill touch own) o v lt e tt h
+give_up_shape w c (CopyPost touch f) o v lt e h = can_give_up_shape w c (CopyPost touch f) o v lt e tt h
+give_up_shape w c (Install touch) o v lt e h = can_give_up_shape w c (Install touch) o v lt e tt h
+give_up_shape w c (Release touch) o v lt e h = can_give_up_shape w c (Release touch) o v lt e tt h
+give_up_shape w c (CopyAcks touch f) o v lt e (inl h) = can_give_up_shape w c (CopyAcks touch f) o v lt e h.0 h.1
+give_up_shape w c (CopyAcks touch f) o v lt e (inr h) = idles w (EventOf.GiveUp c) o v (λ d x. cc) (λ d r x. cc) h.1
 
 -- ---- every event
 

@@ -3,7 +3,9 @@
 use Rattle.std.specs.Prelude.{◌≡◌, ◌≢◌, ℕ, zero, suc, ◌<◌, List, [], ◌∷◌, ◌++◌, take, slice_get, Option, None, Some}
 use Rattle.vm_base.specs.declared.replies.Reply.{Reply}
 use Rattle.vm_base.specs.declared.requests.Request.{Request}
-use Rattle.slot_lock.specs.Slots.{Slots}
+use Rattle.vm_base.specs.declared.requests.Request.TheVariants.{Store}
+use Rattle.vm_base.specs.Pages.{page_of}
+use Rattle.slot_lock.specs.Slots.{Slots, IsNew}
 use Rattle.machine_model.specs.declared.event.Event.{Event}
 use Rattle.machine_model.specs.declared.event.Event.TheVariants.{Call}
 use Rattle.machine_model.specs.declared.event.Outcome.{Outcome}
@@ -55,10 +57,20 @@ pub record IsLatest (calls : List Begun) (core n : ℕ) : Type 0 where
 -- the number of the event that made the entry
 abbrev pub step_of : Entry → ℕ
 step_of (EntryOf.Answer step call core reply) = step
+step_of (EntryOf.Detach step call page) = step
 
 -- at this place of the log stands the reply to a call
 abbrev pub IsAnswer : List Entry → ℕ → ℕ → ℕ → ℕ → Reply → Type 0
 IsAnswer log place step call core reply = slice_get log place ≡ Some (EntryOf.Answer step call core reply)
+
+-- at this place of the log stands the copy of a page that was made for a call
+abbrev pub IsDetach : List Entry → ℕ → ℕ → ℕ → ℕ → Type 0
+IsDetach log place step call page = slice_get log place ≡ Some (EntryOf.Detach step call page)
+
+-- a store of a byte of the page
+abbrev pub IsStoreTo : Request → ℕ → Type 0
+IsStoreTo (Store addr byte) page = page_of addr ≡ page
+IsStoreTo _ page = ⊥
 
 -- the log has the reply to a call from an event before the n-th
 abbrev pub IsAnsweredBefore : ℕ → List Entry → ℕ → ℕ → Reply → Type 0
@@ -77,6 +89,10 @@ pub record IsBracketed (es : List Event) (os : List Outcome) (w : World) : Type 
   -- no call has two
   pub once : (i j step step2 call core core2 : ℕ) (reply reply2 : Reply) → IsAnswer w.calls.log i step call core reply
       → IsAnswer w.calls.log j step2 call core2 reply2 → i ≡ j
+  -- each copy was made for a store to its page, begun before it, whose reply stands in no earlier place
+  pub copies : (i step call page : ℕ) → IsDetach w.calls.log i step call page
+      → (b : Begun) × (nth (calls_of es os) call ≡ Some b) × IsStoreTo b.request page × (b.step < step)
+      × ((j step2 core : ℕ) (reply : Reply) → IsAnswer w.calls.log j step2 call core reply → i < j)
   -- after n events comes one that hands out a reply: it is that of the core's latest call, and stands in the log before
   pub answered : (n core : ℕ) (e : Event) (reply : Reply) → nth es (suc n) ≡ Some e → core_of e ≡ Some core
       → nth os (suc n) ≡ Some (Answered reply)
@@ -86,4 +102,4 @@ pub record IsBracketed (es : List Event) (os : List Outcome) (w : World) : Type 
 
 abbrev pub AllRunsBracketed : Type 0
 AllRunsBracketed = (made : Made) (slots : Slots) (es : List Event) (os : List Outcome) (w : World)
-    → Run (new_world made slots) es os w → IsBracketed es os w
+    → IsNew slots → Run (new_world made slots) es os w → IsBracketed es os w

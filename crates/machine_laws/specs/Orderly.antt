@@ -1,6 +1,6 @@
 -- What holds between two steps: a call does what its request asks for, it owns the pages that its phase says and no others, no slot
 -- crosses an edge of them, and each call that has no reply yet finds room for it in the log.
-use Rattle.std.specs.Prelude.{◌≡◌, ℕ, zero, suc, ◌+◌, ◌<◌, ◌≤◌, Bool, true, false, if◌then◌else◌, List, length, Option, None, Some, Ok, is_some}
+use Rattle.std.specs.Prelude.{◌≡◌, ℕ, zero, suc, ◌+◌, ◌<◌, ◌≤◌, Bool, true, false, if◌then◌else◌, List, [], ◌∷◌, length, Option, None, Some, Ok, is_some}
 use Rattle.vm_base.specs.declared.info.PageInfo.{PageInfo}
 use Rattle.vm_base.specs.declared.page.PageRange.{PageRange}
 use Rattle.vm_base.specs.declared.requests.Request.{Request}
@@ -11,19 +11,23 @@ use Rattle.vm_base.specs.Plain.{File}
 use Rattle.vm_base.specs.Rights.{is_allowed}
 use Rattle.slot_lock.specs.declared.plan.Plan.{Plan}
 use Rattle.slot_lock.specs.declared.plan.Plan.TheVariants as PlanOf
+use Rattle.slot_lock.specs.declared.plan.Touch.{Touch}
 use Rattle.slot_lock.specs.Plan.{range_of}
 use Rattle.slot_lock.specs.Slots.{Slots, IsNew}
 use Rattle.vm_calls.specs.declared.decision.Decision.TheVariants.{Act}
 use Rattle.vm_calls.specs.Decisions.{Decides}
+use Rattle.vm_calls.specs.Settling.{is_private_store}
 use Rattle.refcache.specs.Sound.{IsReached}
 use Rattle.machine_model.specs.declared.event.Event.{Event}
 use Rattle.machine_model.specs.declared.event.Outcome.{Outcome}
 use Rattle.machine_model.specs.declared.log.Entry.{Entry}
+use Rattle.machine_model.specs.declared.log.Entry.TheVariants.{Answer, Detach}
 use Rattle.machine_model.specs.declared.phase.Phase.{Phase}
-use Rattle.machine_model.specs.declared.phase.Phase.TheVariants.{Free, Check, Lock, Post, Acks, Unlock, Want, Fill, Install}
+use Rattle.machine_model.specs.declared.phase.Phase.TheVariants.{Free, Check, Lock, Post, Acks, Unlock, Want, Fill, CopyPost, CopyAcks, Install}
 use Rattle.machine_model.specs.World.{World, Made, Memory, new_world}
 use Rattle.machine_model.specs.Accesses.{is_past_end}
 use Rattle.machine_model.specs.Changes.{checked_by}
+use Rattle.machine_model.specs.Files.{back_of, file_frame, shows_file}
 use Rattle.machine_model.specs.Holding.{goal_range, plan_in, range_held, holds, taken_in, is_open}
 use Rattle.machine_model.specs.Step.{Step}
 use Rattle.machine_laws.specs.Brackets.{nth}
@@ -63,16 +67,40 @@ IsUsable file None access frame = ⊥
 IsUsable file (Some info) access frame =
     (is_allowed info.meta.prot access ≡ true) × (is_past_end file (Some info) ≡ false) × (info.frame ≡ frame)
 
-abbrev pub IsReady : Made → Slots → Phase → Type 0
-IsReady made s (Lock goal cursor) = ((goal_range goal).first ≤ cursor) × (cursor < (goal_range goal).end)
-IsReady made s (Post change shoot) = Decides made.file s (PlanOf.Change change) (Act (range_of change) shoot)
-IsReady made s (Acks change held) =
+-- the access is a store to a private page whose frame, this one, caches its file page: a copy is due
+pub record IsCopyDue (cached : ℕ → ℕ → Option ℕ) (info : Option PageInfo) (access : Access) (frame : ℕ) : Type 0 where
+  pub store : is_private_store (back_of info) access ≡ true
+  pub shown : shows_file cached (back_of info) frame ≡ true
+
+-- of a page that has this frame, if it has one, a copy is due where it has one
+abbrev pub IsWanted : (ℕ → ℕ → Option ℕ) → Option PageInfo → Access → Option ℕ → Type 0
+IsWanted cached info access None = Unit {0}
+IsWanted cached info access (Some old) = IsCopyDue cached info access old
+
+-- a call that has taken no frame finds one that caches the page's file page, and that the page may show
+abbrev pub IsFillable : (ℕ → ℕ → Option ℕ) → Option PageInfo → Access → Option ℕ → Type 0
+IsFillable cached info access (Some f) = Unit {0}
+IsFillable cached info access None =
+    (is_private_store (back_of info) access ≡ false) × ((g : ℕ) × (file_frame cached (back_of info) ≡ Some g))
+
+abbrev pub IsCopying : Made → Slots → (ℕ → ℕ → Option ℕ) → Touch → Type 0
+IsCopying made s cached touch =
+    (g : ℕ) × IsUsable made.file (s.info touch.page) touch.access (Some g) × IsCopyDue cached (s.info touch.page) touch.access g
+
+abbrev pub IsReady : Made → Slots → (ℕ → ℕ → Option ℕ) → Phase → Type 0
+IsReady made s cached (Lock goal cursor) = ((goal_range goal).first ≤ cursor) × (cursor < (goal_range goal).end)
+IsReady made s cached (Post change shoot) = Decides made.file s (PlanOf.Change change) (Act (range_of change) shoot)
+IsReady made s cached (Acks change held) =
     (held ≡ range_of change) × ((shoot : ℕ) × Decides made.file s (PlanOf.Change change) (Act (range_of change) shoot))
-IsReady made s (Unlock held reply) = IsPageRange held
-IsReady made s (Want touch) = IsUsable made.file (s.info touch.page) touch.access None
-IsReady made s (Fill touch frame) = IsUsable made.file (s.info touch.page) touch.access None
-IsReady made s (Install touch) = (f : ℕ) × IsUsable made.file (s.info touch.page) touch.access (Some f)
-IsReady made s _ = Unit {0}
+IsReady made s cached (Unlock held reply) = IsPageRange held
+IsReady made s cached (Want touch old) =
+    IsUsable made.file (s.info touch.page) touch.access old × IsWanted cached (s.info touch.page) touch.access old
+IsReady made s cached (Fill touch frame) =
+    IsUsable made.file (s.info touch.page) touch.access None × IsFillable cached (s.info touch.page) touch.access frame
+IsReady made s cached (CopyPost touch frame) = IsCopying made s cached touch
+IsReady made s cached (CopyAcks touch frame) = IsCopying made s cached touch
+IsReady made s cached (Install touch) = (f : ℕ) × IsUsable made.file (s.info touch.page) touch.access (Some f)
+IsReady made s cached _ = Unit {0}
 
 -- ---- pages
 
@@ -84,9 +112,10 @@ pub record BelongsTo (made : Made) (page : ℕ) (info : Option PageInfo) : Type 
 
 -- ---- memory
 
--- frames that are free are the machine's, and Refcache counts its frames for its cores
+-- frames that are free, or cache a file's page, are the machine's, and Refcache counts its frames for its cores
 pub record IsMemory (made : Made) (m : Memory) : Type 0 where
   pub free : (f : ℕ) → m.is_free f ≡ true → f < made.frames
+  pub cached : (n k f : ℕ) → m.cached n k ≡ Some f → f < made.frames
   pub reached : IsReached m.counts
   pub cores : m.counts.cores ≡ made.cores
   pub objects : m.counts.objects ≡ made.frames
@@ -98,6 +127,12 @@ unfoldable pub open_calls : (ℕ → Phase) → ℕ → ℕ
 open_calls phase zero = 0
 open_calls phase (suc n) = (if is_open (phase n) then 1 else 0) + open_calls phase n
 
+-- how many entries are replies; the others make room of their own
+abbrev pub answer_count : List Entry → ℕ
+answer_count [] = 0
+answer_count (Answer step call core reply ∷ es) = suc (answer_count es)
+answer_count (Detach step call page ∷ es) = answer_count es
+
 -- ---- the order
 
 -- of these parts of a state
@@ -108,15 +143,15 @@ pub record Order (made : Made) (s : Slots) (m : Memory) (phase : ℕ → Phase) 
   pub owned : (c p : ℕ) → holds (phase c) p ≡ true → s.owner p ≡ Some c
   pub only : (c p : ℕ) → s.owner p ≡ Some c → holds (phase c) p ≡ true
   pub cut : (c : ℕ) → IsCutFor s.edge (range_held (phase c))
-  pub ready : (c : ℕ) → IsReady made s (phase c)
+  pub ready : (c : ℕ) → IsReady made s m.cached (phase c)
   pub pages : (p : ℕ) → BelongsTo made p (s.info p)
   -- frames that calls have taken are the machine's
   pub taken : (c f : ℕ) → taken_in (phase c) ≡ Some f → f < made.frames
   pub memory : IsMemory made m
   -- only the machine's cores have calls
   pub outside : (c : ℕ) → made.cores ≤ c → phase c ≡ Free
-  -- each call without a reply finds room in the log, which is made with room for one entry of each call
-  pub room : length log + open_calls phase made.cores ≤ length requests
+  -- each call without a reply finds room in the log, which is made with room for one reply of each call
+  pub room : answer_count log + open_calls phase made.cores ≤ length requests
   pub limit : length requests ≤ made.calls
 
 abbrev pub IsOrderly : World → Type 0
