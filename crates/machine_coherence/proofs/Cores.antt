@@ -20,16 +20,16 @@ use Rattle.machine_coherence.specs.Coherent.{Every, AllowsSome, IsBacked, Mirror
 use Rattle.machine_coherence.proofs.Lists.{every_map, every_both, every_left, every_kept, none_left, every_filled, asked_still, posted_other, posted_own, asked_more}
 
 -- of core d
-pub record IsCore (info : ℕ → Option PageInfo) (phase : ℕ → Phase) (d : ℕ) (table : ℕ → Option Translation)
+pub record IsCore (cached : ℕ → ℕ → Option ℕ) (info : ℕ → Option PageInfo) (phase : ℕ → Phase) (d : ℕ) (table : ℕ → Option Translation)
     (tlb : List TlbEntry) (inbox : List Message) : Type 0 where
-  pub tables : (p : ℕ) (t : Translation) → table p ≡ Some t → IsBacked (info p) d t
-  pub tlbs : Every (IsSoundEntry info d table inbox) tlb
+  pub tables : (p : ℕ) (t : Translation) → table p ≡ Some t → IsBacked cached (info p) d t
+  pub tlbs : Every (IsSoundEntry cached info d table inbox) tlb
   pub asked : AreAsked phase d inbox
   pub dropped : (c : ℕ) (range : PageRange) → awaits_in (phase c) ≡ Some range
       → HasDropped table tlb range (message_of inbox c)
 
-pub core_of : {info : ℕ → Option PageInfo} {phase : ℕ → Phase} {h : Hardware} (d : ℕ) → IsCoherent info phase h
-    → IsCore info phase d (h.table d) (h.tlb d) (h.inbox d)
+pub core_of : {cached : ℕ → ℕ → Option ℕ} {info : ℕ → Option PageInfo} {phase : ℕ → Phase} {h : Hardware} (d : ℕ) → IsCoherent cached info phase h
+    → IsCore cached info phase d (h.table d) (h.tlb d) (h.inbox d)
 core_of d k = record {
   tables = k.tables d;
   tlbs = k.tlbs d;
@@ -37,9 +37,9 @@ core_of d k = record {
   dropped = λ c range. k.dropped c d range;
 }
 
-pub of_cores : (info : ℕ → Option PageInfo) (phase : ℕ → Phase) (h : Hardware)
-    → ((d : ℕ) → IsCore info phase d (h.table d) (h.tlb d) (h.inbox d)) → IsCoherent info phase h
-of_cores info phase h k = record {
+pub of_cores : (cached : ℕ → ℕ → Option ℕ) (info : ℕ → Option PageInfo) (phase : ℕ → Phase) (h : Hardware)
+    → ((d : ℕ) → IsCore cached info phase d (h.table d) (h.tlb d) (h.inbox d)) → IsCoherent cached info phase h
+of_cores cached info phase h k = record {
   tables = λ d. (k d).tables;
   tlbs = λ d. (k d).tlbs;
   asked = λ d. (k d).asked;
@@ -64,11 +64,11 @@ pub cleared_has : (table : ℕ → Option Translation) (range : PageRange)
     → IsTableClear (over table (has range) None) range
 cleared_has table range p i = ap (λ b. cond b None (table p)) i
 
-cleared_backed : (info : ℕ → Option PageInfo) (d : ℕ) (table : ℕ → Option Translation) (range : PageRange)
-    → ((p : ℕ) (t : Translation) → table p ≡ Some t → IsBacked (info p) d t)
-    → (p : ℕ) (t : Translation) → over table (has range) None p ≡ Some t → IsBacked (info p) d t
-cleared_backed info d table range h p t =
-    over_all (λ q o. o ≡ Some t → IsBacked (info q) d t) table (has range) None (λ q i e. absurd cc) (λ q i. h q t) p
+cleared_backed : (cached : ℕ → ℕ → Option ℕ) (info : ℕ → Option PageInfo) (d : ℕ) (table : ℕ → Option Translation) (range : PageRange)
+    → ((p : ℕ) (t : Translation) → table p ≡ Some t → IsBacked cached (info p) d t)
+    → (p : ℕ) (t : Translation) → over table (has range) None p ≡ Some t → IsBacked cached (info p) d t
+cleared_backed cached info d table range h p t =
+    over_all (λ q o. o ≡ Some t → IsBacked cached (info q) d t) table (has range) None (λ q i e. absurd cc) (λ q i. h q t) p
 
 -- ---- a TLB's entry
 
@@ -108,25 +108,25 @@ shot_mirror table range ms e out h = elim h [
 ]
 
 -- an entry is entered that the page's frame and protection give, as they gave the TLB's
-installed_mirror : (info : ℕ → Option PageInfo) (d p : ℕ) (table : ℕ → Option Translation) (ms : List Message)
-    (e : TlbEntry) → IsSoundEntry info d table ms e → Mirrors (put table p (entry_of_page (info p))) ms e
-installed_mirror info d p table ms e h = go (e.page == p) refl
+installed_mirror : (cached : ℕ → ℕ → Option ℕ) (info : ℕ → Option PageInfo) (d p : ℕ) (table : ℕ → Option Translation) (ms : List Message)
+    (e : TlbEntry) → IsSoundEntry cached info d table ms e → Mirrors (put table p (entry_of_page cached (info p))) ms e
+installed_mirror cached info d p table ms e h = go (e.page == p) refl
   where
-    go : (b : Bool) → (e.page == p) ≡ b → Mirrors (put table p (entry_of_page (info p))) ms e
-    go true i = inl (ap (λ b. cond b (entry_of_page (info p)) (table e.page)) i
-        ∙ ap (λ q. entry_of_page (info q)) (sym (eq_true e.page p i)) ∙ h.0.entry)
+    go : (b : Bool) → (e.page == p) ≡ b → Mirrors (put table p (entry_of_page cached (info p))) ms e
+    go true i = inl (ap (λ b. cond b (entry_of_page cached (info p)) (table e.page)) i
+        ∙ ap (λ q. entry_of_page cached (info q)) (sym (eq_true e.page p i)) ∙ h.0.entry)
     go false i = elim h.1 [
-      | inl at ↦ inl (ap (λ b. cond b (entry_of_page (info p)) (table e.page)) i ∙ at)
+      | inl at ↦ inl (ap (λ b. cond b (entry_of_page cached (info p)) (table e.page)) i ∙ at)
       | inr old ↦ inr old
     ]
 
 -- ---- calls and pages
 
 -- a call goes on that awaits nothing then, and has no message here
-pub moves_on : {info : ℕ → Option PageInfo} {phase : ℕ → Phase} {d : ℕ} {table : ℕ → Option Translation}
+pub moves_on : {cached : ℕ → ℕ → Option ℕ} {info : ℕ → Option PageInfo} {phase : ℕ → Phase} {d : ℕ} {table : ℕ → Option Translation}
     {tlb : List TlbEntry} {inbox : List Message} (c : ℕ) (new : Phase) → awaits_in new ≡ None
-    → message_of inbox c ≡ None → IsCore info phase d table tlb inbox → IsCore info (put phase c new) d table tlb inbox
-moves_on {info} {phase} {d} {table} {tlb} {inbox} c new none silent k = record {
+    → message_of inbox c ≡ None → IsCore cached info phase d table tlb inbox → IsCore cached info (put phase c new) d table tlb inbox
+moves_on {cached} {info} {phase} {d} {table} {tlb} {inbox} c new none silent k = record {
   tables = k.tables;
   tlbs = k.tlbs;
   asked = asked_still phase c new d inbox silent k.asked;
@@ -135,45 +135,45 @@ moves_on {info} {phase} {d} {table} {tlb} {inbox} c new none silent k = record {
 }
 
 -- what backed a translation still does
-pub backed_still : {info : ℕ → Option PageInfo} {phase : ℕ → Phase} {d : ℕ} {table : ℕ → Option Translation}
-    {tlb : List TlbEntry} {inbox : List Message} (info2 : ℕ → Option PageInfo)
-    → ((p : ℕ) (t : Translation) → IsBacked (info p) d t → IsBacked (info2 p) d t)
-    → IsCore info phase d table tlb inbox → IsCore info2 phase d table tlb inbox
-backed_still {info} {phase} {d} {table} {tlb} {inbox} info2 f k = record {
+pub backed_still : {cached : ℕ → ℕ → Option ℕ} {info : ℕ → Option PageInfo} {phase : ℕ → Phase} {d : ℕ} {table : ℕ → Option Translation}
+    {tlb : List TlbEntry} {inbox : List Message} (now : ℕ → ℕ → Option ℕ) (info2 : ℕ → Option PageInfo)
+    → ((p : ℕ) (t : Translation) → IsBacked cached (info p) d t → IsBacked now (info2 p) d t)
+    → IsCore cached info phase d table tlb inbox → IsCore now info2 phase d table tlb inbox
+backed_still {cached} {info} {phase} {d} {table} {tlb} {inbox} now info2 f k = record {
   tables = λ p t i. f p t (k.tables p t i);
-  tlbs = every_map (IsSoundEntry info d table inbox) (IsSoundEntry info2 d table inbox) tlb
+  tlbs = every_map (IsSoundEntry cached info d table inbox) (IsSoundEntry now info2 d table inbox) tlb
       (λ e h. (f e.page e.translation h.0, h.1)) k.tlbs;
   asked = k.asked;
   dropped = k.dropped;
 }
 
 -- pages of a range of which nothing is left here may have anything
-pub backed_outside : {info : ℕ → Option PageInfo} {phase : ℕ → Phase} {d : ℕ} {table : ℕ → Option Translation}
+pub backed_outside : {cached : ℕ → ℕ → Option ℕ} {info : ℕ → Option PageInfo} {phase : ℕ → Phase} {d : ℕ} {table : ℕ → Option Translation}
     {tlb : List TlbEntry} {inbox : List Message} (info2 : ℕ → Option PageInfo) (range : PageRange)
     → ((p : ℕ) → has range p ≡ false → info2 p ≡ info p) → IsTableClear table range → IsTlbClear tlb range
-    → IsCore info phase d table tlb inbox → IsCore info2 phase d table tlb inbox
-backed_outside {info} {phase} {d} {table} {tlb} {inbox} info2 range same none nothing k = record {
+    → IsCore cached info phase d table tlb inbox → IsCore cached info2 phase d table tlb inbox
+backed_outside {cached} {info} {phase} {d} {table} {tlb} {inbox} info2 range same none nothing k = record {
   tables = λ p t i. go p t i (has range p) refl;
-  tlbs = every_both (IsSoundEntry info d table inbox) (λ e. has range e.page ≡ false)
-      (IsSoundEntry info2 d table inbox) tlb
-      (λ e h out. (subst (λ o. IsBacked o d e.translation) (sym (same e.page out)) h.0, h.1)) k.tlbs nothing;
+  tlbs = every_both (IsSoundEntry cached info d table inbox) (λ e. has range e.page ≡ false)
+      (IsSoundEntry cached info2 d table inbox) tlb
+      (λ e h out. (subst (λ o. IsBacked cached o d e.translation) (sym (same e.page out)) h.0, h.1)) k.tlbs nothing;
   asked = k.asked;
   dropped = k.dropped;
 }
   where
-    go : (p : ℕ) (t : Translation) → table p ≡ Some t → (b : Bool) → has range p ≡ b → IsBacked (info2 p) d t
+    go : (p : ℕ) (t : Translation) → table p ≡ Some t → (b : Bool) → has range p ≡ b → IsBacked cached (info2 p) d t
     go p t i true at = absurd (let a = none p at in cc)
-    go p t i false at = subst (λ o. IsBacked o d t) (sym (same p at)) (k.tables p t i)
+    go p t i false at = subst (λ o. IsBacked cached o d t) (sym (same p at)) (k.tables p t i)
 
 -- ---- the TLB alone
 
 -- the tables' entry of a page enters it
-pub fills : {info : ℕ → Option PageInfo} {phase : ℕ → Phase} {d : ℕ} {table : ℕ → Option Translation}
+pub fills : {cached : ℕ → ℕ → Option ℕ} {info : ℕ → Option PageInfo} {phase : ℕ → Phase} {d : ℕ} {table : ℕ → Option Translation}
     {tlb : List TlbEntry} {inbox : List Message} (p : ℕ) (t : Translation) → table p ≡ Some t
-    → IsCore info phase d table tlb inbox → IsCore info phase d table (tlb_filled p t tlb) inbox
-fills {info} {phase} {d} {table} {tlb} {inbox} p t at k = record {
+    → IsCore cached info phase d table tlb inbox → IsCore cached info phase d table (tlb_filled p t tlb) inbox
+fills {cached} {info} {phase} {d} {table} {tlb} {inbox} p t at k = record {
   tables = k.tables;
-  tlbs = every_filled (IsSoundEntry info d table inbox) p t tlb k.tlbs (k.tables p t at, inl at);
+  tlbs = every_filled (IsSoundEntry cached info d table inbox) p t tlb k.tlbs (k.tables p t at, inl at);
   asked = k.asked;
   dropped = λ c range a. filled range (message_of inbox c) (k.dropped c range a);
 }
@@ -189,12 +189,12 @@ fills {info} {phase} {d} {table} {tlb} {inbox} p t at k = record {
     filled range (Some m) h = h
 
 -- it drops the pages of a set
-pub drops : {info : ℕ → Option PageInfo} {phase : ℕ → Phase} {d : ℕ} {table : ℕ → Option Translation}
-    {tlb : List TlbEntry} {inbox : List Message} (s : ℕ → Bool) → IsCore info phase d table tlb inbox
-    → IsCore info phase d table (tlb_without s tlb) inbox
-drops {info} {phase} {d} {table} {tlb} {inbox} s k = record {
+pub drops : {cached : ℕ → ℕ → Option ℕ} {info : ℕ → Option PageInfo} {phase : ℕ → Phase} {d : ℕ} {table : ℕ → Option Translation}
+    {tlb : List TlbEntry} {inbox : List Message} (s : ℕ → Bool) → IsCore cached info phase d table tlb inbox
+    → IsCore cached info phase d table (tlb_without s tlb) inbox
+drops {cached} {info} {phase} {d} {table} {tlb} {inbox} s k = record {
   tables = k.tables;
-  tlbs = every_kept (IsSoundEntry info d table inbox) s tlb k.tlbs;
+  tlbs = every_kept (IsSoundEntry cached info d table inbox) s tlb k.tlbs;
   asked = k.asked;
   dropped = λ c range a. dropped_still table table tlb (tlb_without s tlb) range (message_of inbox c) (λ p i h. h)
       (every_kept (λ e. has range e.page ≡ false) s tlb) (k.dropped c range a);
@@ -208,13 +208,13 @@ its_range : (phase : ℕ → Phase) (d : ℕ) (m : Message) (ms : List Message) 
 its_range phase d m ms c range h a e =
     let b : awaits_in (phase c) ≡ Some m.range = subst (λ x. awaits_in (phase x) ≡ Some m.range) e h.1 in cc
 
-first_take : {info : ℕ → Option PageInfo} {phase : ℕ → Phase} {d : ℕ} {table : ℕ → Option Translation}
+first_take : {cached : ℕ → ℕ → Option ℕ} {info : ℕ → Option PageInfo} {phase : ℕ → Phase} {d : ℕ} {table : ℕ → Option Translation}
     {tlb : List TlbEntry} (m : Message) (ms : List Message) → m.is_cleared ≡ false
-    → IsCore info phase d table tlb (m ∷ ms)
-    → IsCore info phase d (over table (has m.range) None) tlb (record m { is_cleared = true } ∷ ms)
-first_take {info} {phase} {d} {table} {tlb} m ms not_yet k = record {
-  tables = cleared_backed info d table m.range k.tables;
-  tlbs = every_map (IsSoundEntry info d table (m ∷ ms)) (IsSoundEntry info d less (record m { is_cleared = true } ∷ ms))
+    → IsCore cached info phase d table tlb (m ∷ ms)
+    → IsCore cached info phase d (over table (has m.range) None) tlb (record m { is_cleared = true } ∷ ms)
+first_take {cached} {info} {phase} {d} {table} {tlb} m ms not_yet k = record {
+  tables = cleared_backed cached info d table m.range k.tables;
+  tlbs = every_map (IsSoundEntry cached info d table (m ∷ ms)) (IsSoundEntry cached info d less (record m { is_cleared = true } ∷ ms))
       tlb (λ e h. (h.0, cleared_mirror table m ms e not_yet h.1)) k.tlbs;
   asked = k.asked;
   dropped = λ c range a. go c range a (m.from == c) refl (k.dropped c range a);
@@ -231,12 +231,12 @@ first_take {info} {phase} {d} {table} {tlb} m ms not_yet k = record {
     go c range a false i h = dropped_still table less tlb tlb range (message_of ms c)
         (λ p j e. cleared_less table m.range p e) (λ n. n) h
 
-second_take : {info : ℕ → Option PageInfo} {phase : ℕ → Phase} {d : ℕ} {table : ℕ → Option Translation}
+second_take : {cached : ℕ → ℕ → Option ℕ} {info : ℕ → Option PageInfo} {phase : ℕ → Phase} {d : ℕ} {table : ℕ → Option Translation}
     {tlb : List TlbEntry} (m : Message) (ms : List Message) → m.is_cleared ≡ true
-    → IsCore info phase d table tlb (m ∷ ms) → IsCore info phase d table (tlb_without (has m.range) tlb) ms
-second_take {info} {phase} {d} {table} {tlb} m ms was k = record {
+    → IsCore cached info phase d table tlb (m ∷ ms) → IsCore cached info phase d table (tlb_without (has m.range) tlb) ms
+second_take {cached} {info} {phase} {d} {table} {tlb} m ms was k = record {
   tables = k.tables;
-  tlbs = every_left (IsSoundEntry info d table (m ∷ ms)) (IsSoundEntry info d table ms) (has m.range) tlb
+  tlbs = every_left (IsSoundEntry cached info d table (m ∷ ms)) (IsSoundEntry cached info d table ms) (has m.range) tlb
       (λ e out h. (h.0, invalidated_mirror table m ms e out h.1)) k.tlbs;
   asked = k.asked.3;
   dropped = λ c range a. go c range a (m.from == c) refl (k.dropped c range a);
@@ -256,46 +256,46 @@ second_take {info} {phase} {d} {table} {tlb} m ms was k = record {
         (every_kept (λ e. has range e.page ≡ false) (has m.range) tlb) h
 
 -- the oldest message is acted on
-pub clears : {info : ℕ → Option PageInfo} {phase : ℕ → Phase} {d : ℕ} {table : ℕ → Option Translation}
+pub clears : {cached : ℕ → ℕ → Option ℕ} {info : ℕ → Option PageInfo} {phase : ℕ → Phase} {d : ℕ} {table : ℕ → Option Translation}
     {tlb : List TlbEntry} (range : PageRange) (inbox : List Message) → asked inbox ≡ Clear range
-    → IsCore info phase d table tlb inbox
-    → IsCore info phase d (over table (has range) None) tlb (remaining inbox)
+    → IsCore cached info phase d table tlb inbox
+    → IsCore cached info phase d (over table (has range) None) tlb (remaining inbox)
 clears range [] e k = absurd cc
-clears {info} {phase} {d} {table} {tlb} range (m ∷ ms) e k = go m.is_cleared refl e
+clears {cached} {info} {phase} {d} {table} {tlb} range (m ∷ ms) e k = go m.is_cleared refl e
   where
     go : (b : Bool) → m.is_cleared ≡ b → (if b then Invalidate m.range else Clear m.range) ≡ Clear range
-        → IsCore info phase d (over table (has range) None) tlb
+        → IsCore cached info phase d (over table (has range) None) tlb
         (if b then ms else record m { is_cleared = true } ∷ ms)
     go true i h = absurd cc
     go false i h =
         let same : m.range ≡ range = cc in
-        subst (λ r. IsCore info phase d (over table (has r) None) tlb (record m { is_cleared = true } ∷ ms)) same
+        subst (λ r. IsCore cached info phase d (over table (has r) None) tlb (record m { is_cleared = true } ∷ ms)) same
         (first_take m ms i k)
 
-pub invalidates : {info : ℕ → Option PageInfo} {phase : ℕ → Phase} {d : ℕ} {table : ℕ → Option Translation}
+pub invalidates : {cached : ℕ → ℕ → Option ℕ} {info : ℕ → Option PageInfo} {phase : ℕ → Phase} {d : ℕ} {table : ℕ → Option Translation}
     {tlb : List TlbEntry} (range : PageRange) (inbox : List Message) → asked inbox ≡ Invalidate range
-    → IsCore info phase d table tlb inbox
-    → IsCore info phase d table (tlb_without (has range) tlb) (remaining inbox)
+    → IsCore cached info phase d table tlb inbox
+    → IsCore cached info phase d table (tlb_without (has range) tlb) (remaining inbox)
 invalidates range [] e k = absurd cc
-invalidates {info} {phase} {d} {table} {tlb} range (m ∷ ms) e k = go m.is_cleared refl e
+invalidates {cached} {info} {phase} {d} {table} {tlb} range (m ∷ ms) e k = go m.is_cleared refl e
   where
     go : (b : Bool) → m.is_cleared ≡ b → (if b then Invalidate m.range else Clear m.range) ≡ Invalidate range
-        → IsCore info phase d table (tlb_without (has range) tlb)
+        → IsCore cached info phase d table (tlb_without (has range) tlb)
         (if b then ms else record m { is_cleared = true } ∷ ms)
     go false i h = absurd cc
     go true i h =
         let same : m.range ≡ range = cc in
-        subst (λ r. IsCore info phase d table (tlb_without (has r) tlb) ms) same (second_take m ms i k)
+        subst (λ r. IsCore cached info phase d table (tlb_without (has r) tlb) ms) same (second_take m ms i k)
 
 -- ---- a shootdown begins
 
 -- the core drops its own translations of a range
-pub shoots : {info : ℕ → Option PageInfo} {phase : ℕ → Phase} {d : ℕ} {table : ℕ → Option Translation}
-    {tlb : List TlbEntry} {inbox : List Message} (range : PageRange) → IsCore info phase d table tlb inbox
-    → IsCore info phase d (over table (has range) None) (tlb_without (has range) tlb) inbox
-shoots {info} {phase} {d} {table} {tlb} {inbox} range k = record {
-  tables = cleared_backed info d table range k.tables;
-  tlbs = every_left (IsSoundEntry info d table inbox) (IsSoundEntry info d less inbox) (has range) tlb
+pub shoots : {cached : ℕ → ℕ → Option ℕ} {info : ℕ → Option PageInfo} {phase : ℕ → Phase} {d : ℕ} {table : ℕ → Option Translation}
+    {tlb : List TlbEntry} {inbox : List Message} (range : PageRange) → IsCore cached info phase d table tlb inbox
+    → IsCore cached info phase d (over table (has range) None) (tlb_without (has range) tlb) inbox
+shoots {cached} {info} {phase} {d} {table} {tlb} {inbox} range k = record {
+  tables = cleared_backed cached info d table range k.tables;
+  tlbs = every_left (IsSoundEntry cached info d table inbox) (IsSoundEntry cached info d less inbox) (has range) tlb
       (λ e out h. (h.0, shot_mirror table range inbox e out h.1)) k.tlbs;
   asked = k.asked;
   dropped = λ c r a. dropped_still table less tlb (tlb_without (has range) tlb) r (message_of inbox c)
@@ -307,11 +307,11 @@ shoots {info} {phase} {d} {table} {tlb} {inbox} range k = record {
     less = over table (has range) None
 
 -- the call of core c awaits the range now, of which nothing is left here
-pub awaits_nothing : {info : ℕ → Option PageInfo} {phase : ℕ → Phase} {d : ℕ} {table : ℕ → Option Translation}
+pub awaits_nothing : {cached : ℕ → ℕ → Option ℕ} {info : ℕ → Option PageInfo} {phase : ℕ → Phase} {d : ℕ} {table : ℕ → Option Translation}
     {tlb : List TlbEntry} {inbox : List Message} (c : ℕ) (new : Phase) (range : PageRange)
     → awaits_in new ≡ Some range → message_of inbox c ≡ None → IsTableClear table range → IsTlbClear tlb range
-    → IsCore info phase d table tlb inbox → IsCore info (put phase c new) d table tlb inbox
-awaits_nothing {info} {phase} {d} {table} {tlb} {inbox} c new range awaits silent none nothing k = record {
+    → IsCore cached info phase d table tlb inbox → IsCore cached info (put phase c new) d table tlb inbox
+awaits_nothing {cached} {info} {phase} {d} {table} {tlb} {inbox} c new range awaits silent none nothing k = record {
   tables = k.tables;
   tlbs = k.tlbs;
   asked = asked_still phase c new d inbox silent k.asked;
@@ -323,13 +323,13 @@ awaits_nothing {info} {phase} {d} {table} {tlb} {inbox} c new range awaits silen
 }
 
 -- the call of core c awaits the range now, and its message comes here
-pub awaits_core : {info : ℕ → Option PageInfo} {phase : ℕ → Phase} {d : ℕ} {table : ℕ → Option Translation}
+pub awaits_core : {cached : ℕ → ℕ → Option ℕ} {info : ℕ → Option PageInfo} {phase : ℕ → Phase} {d : ℕ} {table : ℕ → Option Translation}
     {tlb : List TlbEntry} {inbox : List Message} (c : ℕ) (new : Phase) (range : PageRange) → c ≢ d
-    → awaits_in new ≡ Some range → message_of inbox c ≡ None → IsCore info phase d table tlb inbox
-    → IsCore info (put phase c new) d table tlb (inbox ++ posted c range ∷ [])
-awaits_core {info} {phase} {d} {table} {tlb} {inbox} c new range ne awaits silent k = record {
+    → awaits_in new ≡ Some range → message_of inbox c ≡ None → IsCore cached info phase d table tlb inbox
+    → IsCore cached info (put phase c new) d table tlb (inbox ++ posted c range ∷ [])
+awaits_core {cached} {info} {phase} {d} {table} {tlb} {inbox} c new range ne awaits silent k = record {
   tables = k.tables;
-  tlbs = every_map (IsSoundEntry info d table inbox) (IsSoundEntry info d table more) tlb
+  tlbs = every_map (IsSoundEntry cached info d table inbox) (IsSoundEntry cached info d table more) tlb
       (λ e h. (h.0, told_mirror table c range inbox e h.1)) k.tlbs;
   asked = asked_more (put phase c new) c d range inbox ne (ap awaits_in (put_same phase c new) ∙ awaits) silent
       (asked_still phase c new d inbox silent k.asked);
@@ -344,22 +344,22 @@ awaits_core {info} {phase} {d} {table} {tlb} {inbox} c new range ne awaits silen
 -- ---- an entry is installed
 
 -- The page's entry enters the tables of a core that is recorded on it, and no call awaits the page.
-pub installs : {info : ℕ → Option PageInfo} {phase : ℕ → Phase} {d : ℕ} {table : ℕ → Option Translation}
+pub installs : {cached : ℕ → ℕ → Option ℕ} {info : ℕ → Option PageInfo} {phase : ℕ → Phase} {d : ℕ} {table : ℕ → Option Translation}
     {tlb : List TlbEntry} {inbox : List Message} (p : ℕ) → is_recorded (info p) d ≡ true → AllowsSome (info p)
     → ((c : ℕ) (range : PageRange) → awaits_in (phase c) ≡ Some range → has range p ≡ true → ⊥)
-    → IsCore info phase d table tlb inbox → IsCore info phase d (put table p (entry_of_page (info p))) tlb inbox
-installs {info} {phase} {d} {table} {tlb} {inbox} p recorded right unawaited k = record {
-  tables = λ q t. put_all (λ q o. o ≡ Some t → IsBacked (info q) d t) table p (entry_of_page (info p))
+    → IsCore cached info phase d table tlb inbox → IsCore cached info phase d (put table p (entry_of_page cached (info p))) tlb inbox
+installs {cached} {info} {phase} {d} {table} {tlb} {inbox} p recorded right unawaited k = record {
+  tables = λ q t. put_all (λ q o. o ≡ Some t → IsBacked cached (info q) d t) table p (entry_of_page cached (info p))
       (λ e. record { entry = e; recorded = recorded; right = right }) (λ q ne. k.tables q t) q;
-  tlbs = every_map (IsSoundEntry info d table inbox) (IsSoundEntry info d more inbox) tlb
-      (λ e h. (h.0, installed_mirror info d p table inbox e h)) k.tlbs;
+  tlbs = every_map (IsSoundEntry cached info d table inbox) (IsSoundEntry cached info d more inbox) tlb
+      (λ e h. (h.0, installed_mirror cached info d p table inbox e h)) k.tlbs;
   asked = k.asked;
   dropped = λ c range a. dropped_still table more tlb tlb range (message_of inbox c)
-      (λ q i h. put_other table p (entry_of_page (info p)) q (other c range a q i) ∙ h) (λ n. n) (k.dropped c range a);
+      (λ q i h. put_other table p (entry_of_page cached (info p)) q (other c range a q i) ∙ h) (λ n. n) (k.dropped c range a);
 }
   where
     more : ℕ → Option Translation
-    more = put table p (entry_of_page (info p))
+    more = put table p (entry_of_page cached (info p))
 
     other : (c : ℕ) (range : PageRange) → awaits_in (phase c) ≡ Some range → (q : ℕ) → has range q ≡ true → q ≢ p
     other c range a q i at = unawaited c range a (subst (λ x. has range x ≡ true) at i)

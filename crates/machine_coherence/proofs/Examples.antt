@@ -16,6 +16,10 @@ use Rattle.machine_model.specs.Holding.{awaits_in}
 use Rattle.machine_coherence.specs.Coherent.{IsBacked, HasDropped, IsCoherent}
 use Rattle.machine_coherence.proofs.Cores.{IsCore, of_cores}
 
+-- no file page is cached
+abbrev no_cache : ℕ → ℕ → Option ℕ
+no_cache n k = None
+
 -- page 20 is readable and has frame 3, and core 1 is recorded on it
 abbrev used : PageInfo
 used = record {
@@ -51,20 +55,20 @@ tlb = record { page = 20; translation = entry } ∷ []
 abbrev inbox : List Message
 inbox = posted 0 page_20 ∷ []
 
-backed : IsBacked (Some used) 1 entry
+backed : IsBacked no_cache (Some used) 1 entry
 backed = record { entry = refl; recorded = refl; right = refl }
 
-told : IsCore info phase 1 table tlb inbox
+told : IsCore no_cache info phase 1 table tlb inbox
 told = record {
-  tables = λ p t. put_both (λ p o x. x ≡ Some t → IsBacked o 1 t) (λ p. None) (λ p. None) 20 (Some used) (Some entry)
-      (λ e. let same : entry ≡ t = cc in subst (IsBacked (Some used) 1) same backed) (λ p ne e. absurd cc) p;
+  tables = λ p t. put_both (λ p o x. x ≡ Some t → IsBacked no_cache o 1 t) (λ p. None) (λ p. None) 20 (Some used) (Some entry)
+      (λ e. let same : entry ≡ t = cc in subst (IsBacked no_cache (Some used) 1) same backed) (λ p ne e. absurd cc) p;
   tlbs = ((backed, inl refl), tt);
   asked = (λ e. omega (arith, e), refl, refl, tt);
   dropped = λ c range. put_all (λ c ph. awaits_in ph ≡ Some range → HasDropped table tlb range (message_of inbox c))
       (λ c. Free) 0 (Acks (Clear page_20) page_20) (λ a is. absurd cc) (λ c ne a. absurd cc) c;
 }
 
-untouched : (d : ℕ) → IsCore info phase d (λ p. None) [] []
+untouched : (d : ℕ) → IsCore no_cache info phase d (λ p. None) [] []
 untouched d = record {
   tables = λ p t e. absurd cc;
   tlbs = tt;
@@ -72,22 +76,22 @@ untouched d = record {
   dropped = λ c range a. (λ p i. refl, tt);
 }
 
-under_way : IsCoherent info phase (record {
+under_way : IsCoherent no_cache info phase (record {
   table = put (λ d p. None) 1 table;
   tlb = put (λ d. []) 1 tlb;
   inbox = put (λ d. []) 1 inbox;
 })
-under_way = of_cores info phase _ (λ d. go d (d == 1) refl)
+under_way = of_cores no_cache info phase _ (λ d. go d (d == 1) refl)
   where
     go : (d : ℕ) (b : Bool) → (d == 1) ≡ b
-        → IsCore info phase d (cond b table (λ p. None)) (cond b tlb []) (cond b inbox [])
-    go d true e = subst (λ x. IsCore info phase x table tlb inbox) (sym (eq_true d 1 e)) told
+        → IsCore no_cache info phase d (cond b table (λ p. None)) (cond b tlb []) (cond b inbox [])
+    go d true e = subst (λ x. IsCore no_cache info phase x table tlb inbox) (sym (eq_true d 1 e)) told
     go d false e = untouched d
 
 -- ---- what coherence rules out
 
 -- a TLB's entry which the tables lack and that no message is about to invalidate
-stale : (any : ℕ → Option PageInfo) (calls : ℕ → Phase) → ¬ IsCoherent any calls (record {
+stale : (any : ℕ → Option PageInfo) (calls : ℕ → Phase) → ¬ IsCoherent no_cache any calls (record {
   table = λ d p. None;
   tlb = λ d. record { page = 20; translation = entry } ∷ [];
   inbox = λ d. [];
@@ -98,7 +102,7 @@ stale any calls k = elim (k.tlbs 1).0.1 [
 ]
 
 -- an entry of the tables whose page has another frame
-other_frame : (calls : ℕ → Phase) → ¬ IsCoherent (λ p. Some (record used { frame = Some 4 })) calls (record {
+other_frame : (calls : ℕ → Phase) → ¬ IsCoherent no_cache (λ p. Some (record used { frame = Some 4 })) calls (record {
   table = λ d p. Some entry;
   tlb = λ d. [];
   inbox = λ d. [];
@@ -106,7 +110,7 @@ other_frame : (calls : ℕ → Phase) → ¬ IsCoherent (λ p. Some (record used
 other_frame calls k = absurd (let same : 4 ≡ 3 = ap frame_in (k.tables 1 20 entry refl).entry in omega (arith, same))
 
 -- an entry of a core that isn't recorded on the page
-unrecorded : (calls : ℕ → Phase) → ¬ IsCoherent (λ p. Some (record used { cores = 0 })) calls (record {
+unrecorded : (calls : ℕ → Phase) → ¬ IsCoherent no_cache (λ p. Some (record used { cores = 0 })) calls (record {
   table = λ d p. Some entry;
   tlb = λ d. [];
   inbox = λ d. [];
@@ -114,7 +118,7 @@ unrecorded : (calls : ℕ → Phase) → ¬ IsCoherent (λ p. Some (record used 
 unrecorded calls k = absurd (let e = (k.tables 1 20 entry refl).recorded in cc)
 
 -- a call that awaits a page of which another core has an entry, without having told it
-untold : (any : ℕ → Option PageInfo) → ¬ IsCoherent any (λ c. Acks (Clear page_20) page_20) (record {
+untold : (any : ℕ → Option PageInfo) → ¬ IsCoherent no_cache any (λ c. Acks (Clear page_20) page_20) (record {
   table = λ d p. Some entry;
   tlb = λ d. [];
   inbox = λ d. [];

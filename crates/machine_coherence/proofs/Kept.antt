@@ -17,14 +17,14 @@ use Rattle.mmu.specs.Tables.{tlb_after, tlb_walked}
 use Rattle.mmu.specs.Tlb.{tlb_at, tlb_without, is_page}
 use Rattle.shootdown.specs.declared.message.Message.{Message}
 use Rattle.shootdown.specs.declared.message.Took.TheVariants as took
-use Rattle.shootdown.specs.Messages.{asked, remaining}
+use Rattle.shootdown.specs.Messages.{message_of, asked, remaining}
 use Rattle.machine_model.specs.declared.event.Event.{Event}
 use Rattle.machine_model.specs.declared.event.Outcome.{Outcome}
 use Rattle.machine_model.specs.declared.phase.Goal.{Goal}
 use Rattle.machine_model.specs.declared.phase.Goal.TheVariants as To
 use Rattle.machine_model.specs.declared.phase.Phase.{Phase}
-use Rattle.machine_model.specs.declared.phase.Phase.TheVariants.{Free, Check, Lock, Decide, Post, Acks, Unlock, Answer, Try, Settle, Want, Fill, Install, Release}
-use Rattle.machine_model.specs.Accesses.{reply_of}
+use Rattle.machine_model.specs.declared.phase.Phase.TheVariants.{Free, Check, Lock, Decide, Post, Acks, Unlock, Answer, Try, Settle, Want, Fill, CopyPost, CopyAcks, Install, Release}
+use Rattle.machine_model.specs.Accesses.{reply_of, taken_for}
 use Rattle.machine_model.specs.Actions.{let_go}
 use Rattle.machine_model.specs.Holding.{awaits_in, can_give_up, goal_range, still_held}
 use Rattle.machine_model.specs.Locks.{locking, locked_to, all_locked, held_after}
@@ -32,72 +32,73 @@ use Rattle.machine_model.specs.Translating.{with_tlb, with_inbox, tables_cleared
 use Rattle.machine_model.specs.World.{World, Hardware, Made, new_world}
 use Rattle.machine_model.specs.Step.{with_event, Step}
 use Rattle.machine_laws.specs.Orderly.{IsOrderly}
-use Rattle.machine_laws.proofs.Shapes.{Moves, locks, tries, acts, finds, lacks, Replies, refuses, no_place, declines, fails, no_frame, LetsGo, unlocks, releases, GoesBy, moves, divides, owns, lets_go, answers, posts, commits, takes, fills, installs, accesses, faults, Works, clears, invalidates, walks, evicts, flushes, reviews, frees, Shape, rests, begins, ends, goes, gives_up, works, joins, Comes, stopped, acts as happens, comes}
-use Rattle.machine_coherence.specs.Coherent.{IsCoherent, IsCoherentState}
+use Rattle.machine_laws.proofs.Shapes.{Moves, locks, tries, acts, finds, lacks, shows, Replies, refuses, no_place, declines, fails, no_frame, LetsGo, unlocks, releases, GoesBy, moves, divides, owns, lets_go, answers, posts, commits, takes, zeroes, first_copies, caches, shares, posts_copy, copies, installs, accesses, faults, Works, clears, invalidates, walks, evicts, flushes, reviews, frees, Shape, rests, begins, ends, goes, gives_up, works, joins, IsUnawaited, Comes, stopped, acts as happens, comes}
+use Rattle.machine_coherence.specs.Coherent.{AreTakenNew, IsCoherent, IsCoherentState}
+use Rattle.machine_coherence.proofs.Lists.{none_sent}
 use Rattle.machine_coherence.proofs.Cores.{IsCore, core_of, of_cores, fills as core_fills, drops, clears as core_clears, invalidates as core_invalidates}
-use Rattle.machine_coherence.proofs.Steps.{goes_on, posts_kept, commits_kept, fills_kept, installs_kept}
+use Rattle.machine_coherence.proofs.Steps.{goes_on, goes_silent, silent_by, posts_kept, commits_kept, fills_kept, caches_kept, posts_copy_kept, copies_kept, installs_kept}
 
 -- ---- one core's TLB changes, or what it has beside its call
 
-tlb_changes : {info : ℕ → Option PageInfo} {phase : ℕ → Phase} {h : Hardware} (c : ℕ) (tlb : List TlbEntry)
-    → IsCore info phase c (h.table c) tlb (h.inbox c) → IsCoherent info phase h → IsCoherent info phase (with_tlb h c tlb)
-tlb_changes {info} {phase} {h} c tlb own k = of_cores info phase (with_tlb h c tlb)
-    (put_all (λ d tlb. IsCore info phase d (h.table d) tlb (h.inbox d)) h.tlb c tlb own (λ d ne. core_of d k))
+tlb_changes : {cached : ℕ → ℕ → Option ℕ} {info : ℕ → Option PageInfo} {phase : ℕ → Phase} {h : Hardware} (c : ℕ) (tlb : List TlbEntry)
+    → IsCore cached info phase c (h.table c) tlb (h.inbox c) → IsCoherent cached info phase h → IsCoherent cached info phase (with_tlb h c tlb)
+tlb_changes {cached} {info} {phase} {h} c tlb own k = of_cores cached info phase (with_tlb h c tlb)
+    (put_all (λ d tlb. IsCore cached info phase d (h.table d) tlb (h.inbox d)) h.tlb c tlb own (λ d ne. core_of d k))
 
 -- an access is translated
-tried : {info : ℕ → Option PageInfo} {phase : ℕ → Phase} {d : ℕ} {table : ℕ → Option Translation}
-    {tlb : List TlbEntry} {inbox : List Message} (p : ℕ) (by : Translated) → IsCore info phase d table tlb inbox
-    → IsCore info phase d table (tlb_after by p (table p) tlb) inbox
+tried : {cached : ℕ → ℕ → Option ℕ} {info : ℕ → Option PageInfo} {phase : ℕ → Phase} {d : ℕ} {table : ℕ → Option Translation}
+    {tlb : List TlbEntry} {inbox : List Message} (p : ℕ) (by : Translated) → IsCore cached info phase d table tlb inbox
+    → IsCore cached info phase d table (tlb_after by p (table p) tlb) inbox
 tried p (By.Hit f) k = k
-tried {info} {phase} {d} {table} {tlb} {inbox} p (By.Fill f) k = go (table p) refl
+tried {cached} {info} {phase} {d} {table} {tlb} {inbox} p (By.Fill f) k = go (table p) refl
   where
-    go : (o : Option Translation) → table p ≡ o → IsCore info phase d table (tlb_after (By.Fill f) p o tlb) inbox
+    go : (o : Option Translation) → table p ≡ o → IsCore cached info phase d table (tlb_after (By.Fill f) p o tlb) inbox
     go None e = k
     go (Some t) e = core_fills p t e k
 tried p By.Fault k = drops (is_page p) k
 
 -- tables are walked without an access
-walked : {info : ℕ → Option PageInfo} {phase : ℕ → Phase} {d : ℕ} {table : ℕ → Option Translation}
-    {tlb : List TlbEntry} {inbox : List Message} (p : ℕ) (cached : Option Translation)
-    → IsCore info phase d table tlb inbox → IsCore info phase d table (tlb_walked cached (table p) p tlb) inbox
+walked : {cached : ℕ → ℕ → Option ℕ} {info : ℕ → Option PageInfo} {phase : ℕ → Phase} {d : ℕ} {table : ℕ → Option Translation}
+    {tlb : List TlbEntry} {inbox : List Message} (p : ℕ) (had : Option Translation)
+    → IsCore cached info phase d table tlb inbox → IsCore cached info phase d table (tlb_walked had (table p) p tlb) inbox
 walked p (Some x) k = k
-walked {info} {phase} {d} {table} {tlb} {inbox} p None k = go (table p) refl
+walked {cached} {info} {phase} {d} {table} {tlb} {inbox} p None k = go (table p) refl
   where
-    go : (o : Option Translation) → table p ≡ o → IsCore info phase d table (tlb_walked None o p tlb) inbox
+    go : (o : Option Translation) → table p ≡ o → IsCore cached info phase d table (tlb_walked None o p tlb) inbox
     go None e = k
     go (Some t) e = core_fills p t e k
 
-translating_kept : {info : ℕ → Option PageInfo} {phase : ℕ → Phase} {h : Hardware} (c : ℕ) (touch : Touch)
-    → IsCoherent info phase h → IsCoherent info phase (after_translating h c touch)
+translating_kept : {cached : ℕ → ℕ → Option ℕ} {info : ℕ → Option PageInfo} {phase : ℕ → Phase} {h : Hardware} (c : ℕ) (touch : Touch)
+    → IsCoherent cached info phase h → IsCoherent cached info phase (after_translating h c touch)
 translating_kept {h = h} c touch k =
     tlb_changes c (tlb_after (translated_by h c touch) touch.page (h.table c touch.page) (h.tlb c))
     (tried touch.page (translated_by h c touch) (core_of c k)) k
 
-walk_kept : {info : ℕ → Option PageInfo} {phase : ℕ → Phase} {h : Hardware} (c p : ℕ) → IsCoherent info phase h
-    → IsCoherent info phase (after_walk h c p)
+walk_kept : {cached : ℕ → ℕ → Option ℕ} {info : ℕ → Option PageInfo} {phase : ℕ → Phase} {h : Hardware} (c p : ℕ) → IsCoherent cached info phase h
+    → IsCoherent cached info phase (after_walk h c p)
 walk_kept {h = h} c p k =
     tlb_changes c (tlb_walked (tlb_at (h.tlb c) p) (h.table c p) p (h.tlb c))
     (walked p (tlb_at (h.tlb c) p) (core_of c k)) k
 
-eviction_kept : {info : ℕ → Option PageInfo} {phase : ℕ → Phase} {h : Hardware} (c p : ℕ) → IsCoherent info phase h
-    → IsCoherent info phase (after_eviction h c p)
+eviction_kept : {cached : ℕ → ℕ → Option ℕ} {info : ℕ → Option PageInfo} {phase : ℕ → Phase} {h : Hardware} (c p : ℕ) → IsCoherent cached info phase h
+    → IsCoherent cached info phase (after_eviction h c p)
 eviction_kept {h = h} c p k = tlb_changes c (tlb_without (is_page p) (h.tlb c)) (drops (is_page p) (core_of c k)) k
 
-clear_kept : {info : ℕ → Option PageInfo} {phase : ℕ → Phase} {h : Hardware} (c : ℕ) (range : PageRange)
-    → asked (h.inbox c) ≡ took.Clear range → IsCoherent info phase h
-    → IsCoherent info phase (with_inbox (tables_cleared h c range) c (remaining (h.inbox c)))
-clear_kept {info} {phase} {h} c range e k =
-    of_cores info phase (with_inbox (tables_cleared h c range) c (remaining (h.inbox c)))
-    (put_both (λ d table inbox. IsCore info phase d table (h.tlb d) inbox) h.table h.inbox c
+clear_kept : {cached : ℕ → ℕ → Option ℕ} {info : ℕ → Option PageInfo} {phase : ℕ → Phase} {h : Hardware} (c : ℕ) (range : PageRange)
+    → asked (h.inbox c) ≡ took.Clear range → IsCoherent cached info phase h
+    → IsCoherent cached info phase (with_inbox (tables_cleared h c range) c (remaining (h.inbox c)))
+clear_kept {cached} {info} {phase} {h} c range e k =
+    of_cores cached info phase (with_inbox (tables_cleared h c range) c (remaining (h.inbox c)))
+    (put_both (λ d table inbox. IsCore cached info phase d table (h.tlb d) inbox) h.table h.inbox c
     (over (h.table c) (has range) None) (remaining (h.inbox c)) (core_clears range (h.inbox c) e (core_of c k))
     (λ d ne. core_of d k))
 
-invalidation_kept : {info : ℕ → Option PageInfo} {phase : ℕ → Phase} {h : Hardware} (c : ℕ) (range : PageRange)
-    → asked (h.inbox c) ≡ took.Invalidate range → IsCoherent info phase h
-    → IsCoherent info phase (with_inbox (tlb_invalidated h c range) c (remaining (h.inbox c)))
-invalidation_kept {info} {phase} {h} c range e k =
-    of_cores info phase (with_inbox (tlb_invalidated h c range) c (remaining (h.inbox c)))
-    (put_both (λ d tlb inbox. IsCore info phase d (h.table d) tlb inbox) h.tlb h.inbox c
+invalidation_kept : {cached : ℕ → ℕ → Option ℕ} {info : ℕ → Option PageInfo} {phase : ℕ → Phase} {h : Hardware} (c : ℕ) (range : PageRange)
+    → asked (h.inbox c) ≡ took.Invalidate range → IsCoherent cached info phase h
+    → IsCoherent cached info phase (with_inbox (tlb_invalidated h c range) c (remaining (h.inbox c)))
+invalidation_kept {cached} {info} {phase} {h} c range e k =
+    of_cores cached info phase (with_inbox (tlb_invalidated h c range) c (remaining (h.inbox c)))
+    (put_both (λ d tlb inbox. IsCore cached info phase d (h.table d) tlb inbox) h.tlb h.inbox c
     (tlb_without (has range) (h.tlb c)) (remaining (h.inbox c))
     (core_invalidates range (h.inbox c) e (core_of c k)) (λ d ne. core_of d k))
 
@@ -113,7 +114,8 @@ move_none w c new (locks request change e n passed) = (ap awaits_in e, ap awaits
 move_none w c new (tries request touch e n passed) = (ap awaits_in e, ap awaits_in n)
 move_none w c new (acts change range shoot e n d) = (ap awaits_in e, ap awaits_in n)
 move_none w c new (finds touch f e n u) = (ap awaits_in e, ap awaits_in n)
-move_none w c new (lacks touch e n u) = (ap awaits_in e, ap awaits_in n)
+move_none w c new (shows touch e n u d) = (ap awaits_in e, ap awaits_in n)
+move_none w c new (lacks touch old e n u d) = (ap awaits_in e, ap awaits_in n)
 
 reply_none : (w : World) (c : ℕ) (held : Option PageRange) (reply : Reply) → Replies w c held reply
     → awaits_in (w.calls.phase c) ≡ None
@@ -121,7 +123,7 @@ reply_none w c held reply (refuses request e h k) = ap awaits_in e
 reply_none w c held reply (no_place request place e h r k) = ap awaits_in e
 reply_none w c held reply (declines change errno e h r d) = ap awaits_in e
 reply_none w c held reply (fails touch e h f) = ap awaits_in e
-reply_none w c held reply (no_frame touch e h r f) = ap awaits_in e
+reply_none w c held reply (no_frame touch old e h r f) = ap awaits_in e
 
 lets_go_none : (old : Phase) (held : PageRange) (b : ℕ) (new : Phase) → LetsGo old held b new
     → (awaits_in old ≡ None) × (awaits_in new ≡ None)
@@ -138,64 +140,57 @@ locked_to_none goal b =
     by_test (λ ph. awaits_in ph ≡ None) (nat_le (goal_range goal).end b) (all_locked goal) (Lock goal b)
     (λ _. all_locked_none goal) (λ _. refl)
 
-given_up_none : (phase : Phase) → can_give_up phase ≡ true → awaits_in phase ≡ None
-given_up_none (Acks change held) can = absurd cc
-given_up_none Free can = refl
-given_up_none (Check request) can = refl
-given_up_none (Lock goal cursor) can = refl
-given_up_none (Decide change) can = refl
-given_up_none (Post change shoot) can = refl
-given_up_none (Unlock held reply) can = refl
-given_up_none (Answer reply) can = refl
-given_up_none (Try touch) can = refl
-given_up_none (Settle touch) can = refl
-given_up_none (Want touch) can = refl
-given_up_none (Fill touch frame) can = refl
-given_up_none (Install touch) can = refl
-given_up_none (Release touch) can = refl
+taken_none : (touch : Touch) (old : Option ℕ) (f : ℕ) → awaits_in (taken_for touch old f) ≡ None
+taken_none touch None f = refl
+taken_none touch (Some x) f = refl
 
 -- ---- every shape
 
 -- pages have the same
-same_info : {phase : ℕ → Phase} {h : Hardware} (s t : Slots) → t.info ≡ s.info → IsCoherent s.info phase h
-    → IsCoherent t.info phase h
-same_info {phase} {h} s t same k = subst (λ info. IsCoherent info phase h) (sym same) k
+same_info : {cached : ℕ → ℕ → Option ℕ} {phase : ℕ → Phase} {h : Hardware} (s t : Slots) → t.info ≡ s.info → IsCoherent cached s.info phase h
+    → IsCoherent cached t.info phase h
+same_info {cached} {phase} {h} s t same k = subst (λ info. IsCoherent cached info phase h) (sym same) k
 
 -- the call goes on to a phase in which it awaits nothing, over slots whose pages have the same
 moved : (w : World) (c : ℕ) (new : Phase) (t : Slots) → awaits_in (w.calls.phase c) ≡ None → awaits_in new ≡ None
-    → t.info ≡ w.slots.info → IsCoherentState w → IsCoherent t.info (put w.calls.phase c new) w.hardware
+    → t.info ≡ w.slots.info → IsCoherentState w → IsCoherent w.memory.cached t.info (put w.calls.phase c new) w.hardware
 moved w c new t before none same k = same_info w.slots t same (goes_on c new before none k)
 
 info_of : (t s : Slots) → t ≡ s → t.info ≡ s.info
 info_of t s e = ap (λ x. x.info) e
 
-goes_kept : (w : World) (c : ℕ) (v : World) → IsOrderly w → IsCoherentState w → GoesBy w c v → IsCoherentState v
-goes_kept w c v g k (moves new m h) =
+goes_kept : (w : World) (c : ℕ) (v : World) → IsOrderly w → AreTakenNew w.slots.info w.calls.phase → IsCoherentState w → GoesBy w c v → IsCoherentState v
+goes_kept w c v g n k (moves new m h) =
     let none = move_none w c new m in
     subst IsCoherentState (sym h) (moved w c new w.slots none.0 none.1 refl k)
-goes_kept w c v g k (divides goal cursor t e s h) =
+goes_kept w c v g n k (divides goal cursor t e s h) =
     subst IsCoherentState (sym h) (same_info w.slots t s.divides.2.info k)
-goes_kept w c v g k (owns goal cursor b t e l h) =
+goes_kept w c v g n k (owns goal cursor b t e l h) =
     subst IsCoherentState (sym h)
     (moved w c (locked_to goal b) t (ap awaits_in e) (locked_to_none goal b) (info_of t _ l.now) k)
-goes_kept w c v g k (lets_go held b t new l u h) =
+goes_kept w c v g n k (lets_go held b t new l u h) =
     let none = lets_go_none (w.calls.phase c) held b new l in
     subst IsCoherentState (sym h) (moved w c new t none.0 none.1 (info_of t _ u.now) k)
-goes_kept w c v g k (answers held reply r h) =
+goes_kept w c v g n k (answers held reply r h) =
     subst IsCoherentState (sym h)
     (moved w c (let_go held reply) w.slots (reply_none w c held reply r) (let_go_none held reply) refl k)
-goes_kept w c v g k (posts change shoot e h) = subst IsCoherentState (sym h) (posts_kept w c change shoot g e k)
-goes_kept w c v g k (commits change held counts e n l h) =
-    subst IsCoherentState (sym h) (commits_kept w c change held counts e n k)
-goes_kept w c v g k (takes touch f e l h) =
-    subst IsCoherentState (sym h) (moved w c (Fill touch f) w.slots (ap awaits_in e) refl refl k)
-goes_kept w c v g k (fills touch f counts e t h) =
-    subst IsCoherentState (sym h) (fills_kept w c touch f counts g e k)
-goes_kept w c v g k (installs touch e h) = subst IsCoherentState (sym h) (installs_kept w c touch g e k)
-goes_kept w c v g k (accesses touch f e i h) =
+goes_kept w c v g n k (posts change shoot e h) = subst IsCoherentState (sym h) (posts_kept w c change shoot g e k)
+goes_kept w c v g n k (commits change held counts e nobody l h) =
+    subst IsCoherentState (sym h) (commits_kept w c change held counts e nobody k)
+goes_kept w c v g n k (takes touch old f e l h) =
+    subst IsCoherentState (sym h) (moved w c (taken_for touch old f) w.slots (ap awaits_in e) (taken_none touch old f) refl k)
+goes_kept w c v g n k (zeroes touch f counts e b t h) = subst IsCoherentState (sym h) (fills_kept w c touch (Some f) f g e k)
+goes_kept w c v g n k (first_copies touch f counts e b t h) = subst IsCoherentState (sym h) (fills_kept w c touch (Some f) f g e k)
+goes_kept w c v g n k (shares touch own x counts e s i t h) = subst IsCoherentState (sym h) (fills_kept w c touch own x g e k)
+goes_kept w c v g n k (caches touch f counts e s none t h) = subst IsCoherentState (sym h) (caches_kept w c touch f counts g n e none k)
+goes_kept w c v g n k (posts_copy touch f e h) = subst IsCoherentState (sym h) (posts_copy_kept w c touch f e k)
+goes_kept w c v g n k (copies touch f x counts e nobody at t h) =
+    subst IsCoherentState (sym h) (copies_kept w c touch f x counts e nobody k)
+goes_kept w c v g n k (installs touch e h) = subst IsCoherentState (sym h) (installs_kept w c touch g e k)
+goes_kept w c v g n k (accesses touch f e i h) =
     subst IsCoherentState (sym h) (translating_kept c touch
     (moved w c (Answer (reply_of touch f w.memory)) w.slots (ap awaits_in e) refl refl k))
-goes_kept w c v g k (faults touch e i h) =
+goes_kept w c v g n k (faults touch e i h) =
     subst IsCoherentState (sym h) (translating_kept c touch
     (moved w c (locking (To.Access touch)) w.slots (ap awaits_in e) refl refl k))
 
@@ -209,28 +204,48 @@ works_kept w c event v k (flushes i report counts t h) = subst IsCoherentState (
 works_kept w c event v k (reviews i report counts t h) = subst IsCoherentState (sym h) k
 works_kept w c event v k (frees i f counts t h) = subst IsCoherentState (sym h) k
 
-shape_kept : (w : World) (e : Event) (o : Outcome) (v : World) → IsOrderly w → IsCoherentState w → Shape w e o v
+-- no message is under way of a call that may be given up
+given_up_silent : (w : World) (c : ℕ) (phase : Phase) → w.calls.phase c ≡ phase → can_give_up phase ≡ true → IsUnawaited w.hardware c phase
+    → IsCoherentState w → (d : ℕ) → message_of (w.hardware.inbox d) c ≡ None
+given_up_silent w c (CopyAcks touch f) e can u k d = silent_by (message_of (w.hardware.inbox d) c) (u d)
+given_up_silent w c (Acks change held) e can u k d = absurd cc
+given_up_silent w c Free e can u k d = none_sent w.calls.phase c d (w.hardware.inbox d) (ap awaits_in e) (k.asked d)
+given_up_silent w c (Check request) e can u k d = none_sent w.calls.phase c d (w.hardware.inbox d) (ap awaits_in e) (k.asked d)
+given_up_silent w c (Lock goal cursor) e can u k d = none_sent w.calls.phase c d (w.hardware.inbox d) (ap awaits_in e) (k.asked d)
+given_up_silent w c (Decide change) e can u k d = none_sent w.calls.phase c d (w.hardware.inbox d) (ap awaits_in e) (k.asked d)
+given_up_silent w c (Post change shoot) e can u k d = none_sent w.calls.phase c d (w.hardware.inbox d) (ap awaits_in e) (k.asked d)
+given_up_silent w c (Unlock held reply) e can u k d = none_sent w.calls.phase c d (w.hardware.inbox d) (ap awaits_in e) (k.asked d)
+given_up_silent w c (Answer reply) e can u k d = none_sent w.calls.phase c d (w.hardware.inbox d) (ap awaits_in e) (k.asked d)
+given_up_silent w c (Try touch) e can u k d = none_sent w.calls.phase c d (w.hardware.inbox d) (ap awaits_in e) (k.asked d)
+given_up_silent w c (Settle touch) e can u k d = none_sent w.calls.phase c d (w.hardware.inbox d) (ap awaits_in e) (k.asked d)
+given_up_silent w c (Want touch old) e can u k d = none_sent w.calls.phase c d (w.hardware.inbox d) (ap awaits_in e) (k.asked d)
+given_up_silent w c (Fill touch own) e can u k d = none_sent w.calls.phase c d (w.hardware.inbox d) (ap awaits_in e) (k.asked d)
+given_up_silent w c (CopyPost touch f) e can u k d = none_sent w.calls.phase c d (w.hardware.inbox d) (ap awaits_in e) (k.asked d)
+given_up_silent w c (Install touch) e can u k d = none_sent w.calls.phase c d (w.hardware.inbox d) (ap awaits_in e) (k.asked d)
+given_up_silent w c (Release touch) e can u k d = none_sent w.calls.phase c d (w.hardware.inbox d) (ap awaits_in e) (k.asked d)
+
+shape_kept : (w : World) (e : Event) (o : Outcome) (v : World) → IsOrderly w → AreTakenNew w.slots.info w.calls.phase → IsCoherentState w → Shape w e o v
     → IsCoherentState v
-shape_kept w e o v g k (rests i h) = subst IsCoherentState (sym h) k
-shape_kept w e o v g k (begins c request i s lt p below h) =
+shape_kept w e o v g n k (rests i h) = subst IsCoherentState (sym h) k
+shape_kept w e o v g n k (begins c request i s lt p below h) =
     subst IsCoherentState (sym h) (moved w c (Check request) w.slots (ap awaits_in p) refl refl k)
-shape_kept w e o v g k (ends c reply i s lt p h) =
+shape_kept w e o v g n k (ends c reply i s lt p h) =
     subst IsCoherentState (sym h) (moved w c Free w.slots (ap awaits_in p) refl refl k)
-shape_kept w e o v g k (goes c i s lt b) = goes_kept w c v g k b
-shape_kept w e o v g k (gives_up c i s lt can h) =
+shape_kept w e o v g n k (goes c i s lt b) = goes_kept w c v g n k b
+shape_kept w e o v g n k (gives_up c i s lt can u h) =
     let held : Option PageRange = still_held (w.calls.phase c) in
-    subst IsCoherentState (sym h)
-    (moved w c (let_go held NoMemory) w.slots (given_up_none (w.calls.phase c) can) (let_go_none held NoMemory) refl k)
-shape_kept w e o v g k (works c s lt b) = works_kept w c e v k b
-shape_kept w e o v g k (joins p t i s page j m h) = subst IsCoherentState (sym h) (same_info w.slots t j.info k)
+    subst IsCoherentState (sym h) (goes_silent c (let_go held NoMemory) (given_up_silent w c (w.calls.phase c) refl can u k) (let_go_none held NoMemory) k)
+shape_kept w e o v g n k (works c s lt b) = works_kept w c e v k b
+shape_kept w e o v g n k (joins p t i s page j m h) = subst IsCoherentState (sym h) (same_info w.slots t j.info k)
 
 -- the clauses don't look at the number of events
-pub kept : (w v : World) (e : Event) (o : Outcome) → IsOrderly w → IsCoherentState w → Step w e o v → IsCoherentState v
-kept w v e o g k s = go (comes w e o v s)
+pub kept : (w v : World) (e : Event) (o : Outcome) → IsOrderly w → AreTakenNew w.slots.info w.calls.phase → IsCoherentState w → Step w e o v
+    → IsCoherentState v
+kept w v e o g n k s = go (comes w e o v s)
   where
     go : Comes w e o v → IsCoherentState v
-    go (stopped n i h) = subst IsCoherentState (sym h) k
-    go (happens n h) = shape_kept (with_event w) e o v g k h
+    go (stopped lt i h) = subst IsCoherentState (sym h) k
+    go (happens lt h) = shape_kept (with_event w) e o v g n k h
 
 -- ---- a machine over new slots has no translation and no message
 

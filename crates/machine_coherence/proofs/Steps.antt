@@ -1,17 +1,21 @@
 -- Steps of calls that are more than a change of phase: shootdowns, commits, fills and installs
-use Rattle.std.proofs.Common.{◌≡◌, ◌≢◌, ℕ, Bool, true, false, refl, sym, ap, subst, ◌∙◌, Some, None, Option, List, ◌∷◌, [], ◌++◌}
-use Rattle.std.specs.Prelude.{is_some, ◌||◌, ◌↔◌}
+use Rattle.std.proofs.Common.{◌≡◌, ◌≢◌, ℕ, Bool, true, false, refl, sym, ap, subst, ◌∙◌, Some, None, Option, List, ◌∷◌, [], ◌++◌, ◌==◌, arith}
+use Rattle.std.proofs.lemmas.Bool.Decides.{nat_tests}
+use Rattle.std.specs.Prelude.{is_some, ◌||◌, ◌&&◌, ◌↔◌}
+use Rattle.vm_base.specs.declared.info.Back.{Back}
+use Rattle.vm_base.specs.declared.info.Back.TheVariants.{Anon, Shared, Private}
 use Rattle.vm_base.specs.declared.info.PageInfo.{PageInfo}
+use Rattle.vm_calls.specs.Settling.{is_cached}
 use Rattle.vm_base.specs.declared.page.PageRange.{PageRange}
 use Rattle.vm_base.specs.declared.rights.Access.{Access}
 use Rattle.vm_base.specs.declared.rights.Access.TheVariants.{Load, Store, Fetch}
 use Rattle.vm_base.specs.declared.rights.Prot.{Prot}
 use Rattle.vm_base.specs.Cores.{members}
 use Rattle.vm_base.specs.Functions.{put, over, has}
-use Rattle.vm_base.specs.Info.{is_recorded, info_with_frame}
+use Rattle.vm_base.specs.Info.{frame_of, is_recorded, info_with_frame}
 use Rattle.vm_base.specs.Plain.{File}
 use Rattle.vm_base.specs.Rights.{is_allowed}
-use Rattle.vm_base.proofs.Functions.{by_test, put_all, put_both, put_same, put_other}
+use Rattle.vm_base.proofs.Functions.{by_test, put_all, put_both, put_same, put_other, has_in}
 use Rattle.slot_lock.specs.declared.plan.Change.{Change}
 use Rattle.slot_lock.specs.declared.plan.Change.TheVariants.{Put, Clear, Protect}
 use Rattle.slot_lock.specs.declared.plan.Plan.TheVariants as PlanOf
@@ -28,11 +32,13 @@ use Rattle.vm_calls.specs.declared.decision.Decision.TheVariants.{Act}
 use Rattle.vm_calls.specs.Decisions.{Decides}
 use Rattle.vm_calls.specs.Decisions.DecidesProtect.{no_page, no_write, acts}
 use Rattle.machine_model.specs.declared.phase.Phase.{Phase}
-use Rattle.machine_model.specs.declared.phase.Phase.TheVariants.{Free, Check, Lock, Decide, Post, Acks, Unlock, Answer, Try, Settle, Want, Fill, Install, Release}
-use Rattle.machine_model.specs.Accesses.{after_fill, after_install, info_with_core}
+use Rattle.machine_model.specs.declared.phase.Phase.TheVariants.{Free, Check, Lock, Decide, Post, Acks, Unlock, Answer, Try, Settle, Want, Fill, CopyPost, CopyAcks, Install, Release}
+use Rattle.machine_model.specs.Accesses.{after_install, info_with_core}
+use Rattle.machine_model.specs.Files.{back_of, file_frame, shows_file, shows_some, with_cached, is_private, prot_shown, prot_installed}
+use Rattle.machine_model.specs.Filling.{after_caching, after_copy_post, after_copy, cores_of, info_copied}
 use Rattle.machine_model.specs.Actions.{let_go}
 use Rattle.machine_model.specs.Changes.{slots_after, reply_to, after_post, after_commit, AwaitsNobody}
-use Rattle.machine_model.specs.Holding.{awaits_in, holds}
+use Rattle.machine_model.specs.Holding.{awaits_in, holds, taken_in, page_of_touch}
 use Rattle.machine_model.specs.Translating.{entry_for, entry_of_page, inboxes_after, after_shot}
 use Rattle.machine_model.specs.World.{World, Made, Hardware}
 use Rattle.refcache.specs.Counts.{Counts}
@@ -40,32 +46,39 @@ use Rattle.machine_laws.specs.Orderly.{IsOrderly, IsReady, IsUsable}
 use Rattle.machine_laws.proofs.Changed.{same_outside}
 use Rattle.machine_laws.proofs.Moves.{call_at, page_is}
 use Rattle.machine_laws.proofs.Owned.{members_with}
-use Rattle.machine_coherence.specs.Coherent.{AllowsSome, IsBacked, IsSoundEntry, IsTableClear, IsTlbClear, HasDropped, IsCoherent, IsCoherentState}
+use Rattle.machine_coherence.specs.Coherent.{AreTakenNew, AllowsSome, IsBacked, IsSoundEntry, IsTableClear, IsTlbClear, HasDropped, IsCoherent, IsCoherentState}
 use Rattle.machine_coherence.proofs.Lists.{every_map, none_sent, none_left}
 use Rattle.machine_coherence.proofs.Cores.{IsCore, core_of, of_cores, moves_on, backed_still, backed_outside, cleared_has, shoots, awaits_nothing, awaits_core, installs}
 
 -- ---- the whole, over cores
 
 -- a call that awaited nothing goes on, and awaits nothing then
-pub goes_on : {info : ℕ → Option PageInfo} {phase : ℕ → Phase} {h : Hardware} (c : ℕ) (new : Phase)
-    → awaits_in (phase c) ≡ None → awaits_in new ≡ None → IsCoherent info phase h → IsCoherent info (put phase c new) h
-goes_on {info} {phase} {h} c new before none k = of_cores info (put phase c new) h
-    (λ d. moves_on c new none (none_sent phase c d (h.inbox d) before (k.asked d)) (core_of d k))
+-- a call of which no message is under way goes on, and awaits nothing then
+pub goes_silent : {cached : ℕ → ℕ → Option ℕ} {info : ℕ → Option PageInfo} {phase : ℕ → Phase} {h : Hardware} (c : ℕ) (new : Phase)
+    → ((d : ℕ) → message_of (h.inbox d) c ≡ None) → awaits_in new ≡ None → IsCoherent cached info phase h
+    → IsCoherent cached info (put phase c new) h
+goes_silent {cached} {info} {phase} {h} c new silent none k =
+    of_cores cached info (put phase c new) h (λ d. moves_on c new none (silent d) (core_of d k))
+
+pub goes_on : {cached : ℕ → ℕ → Option ℕ} {info : ℕ → Option PageInfo} {phase : ℕ → Phase} {h : Hardware} (c : ℕ) (new : Phase)
+    → awaits_in (phase c) ≡ None → awaits_in new ≡ None → IsCoherent cached info phase h → IsCoherent cached info (put phase c new) h
+goes_on {phase = phase} {h = h} c new before none k = goes_silent c new (λ d. none_sent phase c d (h.inbox d) before (k.asked d)) none k
 
 -- what backed a translation still does
-still_backed : {info : ℕ → Option PageInfo} {phase : ℕ → Phase} {h : Hardware} (info2 : ℕ → Option PageInfo)
-    → ((p d : ℕ) (t : Translation) → IsBacked (info p) d t → IsBacked (info2 p) d t) → IsCoherent info phase h
-    → IsCoherent info2 phase h
-still_backed {info} {phase} {h} info2 f k =
-    of_cores info2 phase h (λ d. backed_still info2 (λ p t. f p d t) (core_of d k))
+still_backed : {cached : ℕ → ℕ → Option ℕ} {info : ℕ → Option PageInfo} {phase : ℕ → Phase} {h : Hardware} (now : ℕ → ℕ → Option ℕ)
+    (info2 : ℕ → Option PageInfo)
+    → ((p d : ℕ) (t : Translation) → IsBacked cached (info p) d t → IsBacked now (info2 p) d t) → IsCoherent cached info phase h
+    → IsCoherent now info2 phase h
+still_backed {cached} {info} {phase} {h} now info2 f k =
+    of_cores now info2 phase h (λ d. backed_still now info2 (λ p t. f p d t) (core_of d k))
 
 -- one page has this now
-page_backed : {info : ℕ → Option PageInfo} {phase : ℕ → Phase} {h : Hardware} (page : ℕ) (new : Option PageInfo)
-    → ((d : ℕ) (t : Translation) → IsBacked (info page) d t → IsBacked new d t) → IsCoherent info phase h
-    → IsCoherent (put info page new) phase h
-page_backed {info} page new f k =
-    still_backed (put info page new)
-    (λ p d t. put_all (λ p o. IsBacked (info p) d t → IsBacked o d t) info page new (f d t) (λ p ne b. b) p) k
+page_backed : {cached : ℕ → ℕ → Option ℕ} {info : ℕ → Option PageInfo} {phase : ℕ → Phase} {h : Hardware} (page : ℕ) (new : Option PageInfo)
+    → ((d : ℕ) (t : Translation) → IsBacked cached (info page) d t → IsBacked cached new d t) → IsCoherent cached info phase h
+    → IsCoherent cached (put info page new) phase h
+page_backed {cached} {info} page new f k =
+    still_backed cached (put info page new)
+    (λ p d t. put_all (λ p o. IsBacked cached (info p) d t → IsBacked cached o d t) info page new (f d t) (λ p ne b. b) p) k
 
 -- ---- Post
 
@@ -80,12 +93,12 @@ users files s (Protect range prot) changes shoot (no_write a w r e) = absurd cc
 users files s (Protect range prot) changes shoot (acts a r k) = k.1
 
 -- a core that isn't recorded on any page of the range has nothing of it
-nothing_there : {phase : ℕ → Phase} {d : ℕ} {table : ℕ → Option Translation} {tlb : List TlbEntry}
-    {inbox : List Message} (s : Slots) (range : PageRange) → ¬ IsUser s range d → IsCore s.info phase d table tlb inbox
+nothing_there : {cached : ℕ → ℕ → Option ℕ} {phase : ℕ → Phase} {d : ℕ} {table : ℕ → Option Translation} {tlb : List TlbEntry}
+    {inbox : List Message} (s : Slots) (range : PageRange) → ¬ IsUser s range d → IsCore cached s.info phase d table tlb inbox
     → IsTableClear table range × IsTlbClear tlb range
-nothing_there {phase} {d} {table} {tlb} {inbox} s range unused k = (
+nothing_there {cached} {phase} {d} {table} {tlb} {inbox} s range unused k = (
   λ p i. entry p i (table p) refl,
-  every_map (IsSoundEntry s.info d table inbox) (λ e. has range e.page ≡ false) tlb
+  every_map (IsSoundEntry cached s.info d table inbox) (λ e. has range e.page ≡ false) tlb
       (λ e h. page e (has range e.page) refl h.0) k.tlbs,
 )
   where
@@ -93,19 +106,19 @@ nothing_there {phase} {d} {table} {tlb} {inbox} s range unused k = (
     entry p i None e = refl
     entry p i (Some t) e = absurd (unused (p, i, (k.tables p t e).recorded))
 
-    page : (e : TlbEntry) → (b : Bool) → has range e.page ≡ b → IsBacked (s.info e.page) d e.translation → b ≡ false
+    page : (e : TlbEntry) → (b : Bool) → has range e.page ≡ b → IsBacked cached (s.info e.page) d e.translation → b ≡ false
     page e true i h = absurd (unused (e.page, i, h.recorded))
     page e false i h = refl
 
-posts : (s : Slots) (phase : ℕ → Phase) (h : Hardware) (c shoot : ℕ) (range : PageRange) (new : Phase)
+posts : (cached : ℕ → ℕ → Option ℕ) (s : Slots) (phase : ℕ → Phase) (h : Hardware) (c shoot : ℕ) (range : PageRange) (new : Phase)
     → awaits_in (phase c) ≡ None → awaits_in new ≡ Some range
-    → ((d : ℕ) → IsUser s range d → members shoot d ≡ true) → IsCoherent s.info phase h
-    → IsCoherent s.info (put phase c new) (after_shot h c shoot range)
-posts s phase h c shoot range new before awaits told k = of_cores s.info (put phase c new) (after_shot h c shoot range)
+    → ((d : ℕ) → IsUser s range d → members shoot d ≡ true) → IsCoherent cached s.info phase h
+    → IsCoherent cached s.info (put phase c new) (after_shot h c shoot range)
+posts cached s phase h c shoot range new before awaits told k = of_cores cached s.info (put phase c new) (after_shot h c shoot range)
     (put_both (λ d table tlb. Is d table tlb (inboxes_after c shoot range h.inbox d)) h.table h.tlb c table tlb own others)
   where
     Is : (d : ℕ) → (ℕ → Option Translation) → List TlbEntry → List Message → Type 0
-    Is = IsCore s.info (put phase c new)
+    Is = IsCore cached s.info (put phase c new)
 
     -- what core c is left with
     table : ℕ → Option Translation
@@ -138,21 +151,21 @@ pub posts_kept : (w : World) (c : ℕ) (change : Change) (shoot : ℕ) → IsOrd
     → IsCoherentState w → IsCoherentState (after_post c change shoot w)
 posts_kept w c change shoot g e k =
     let decided = (call_at w c (Post change shoot) e g).ready in
-    posts w.slots w.calls.phase w.hardware c shoot (range_of change) (Acks change (range_of change)) (ap awaits_in e) refl
+    posts w.memory.cached w.slots w.calls.phase w.hardware c shoot (range_of change) (Acks change (range_of change)) (ap awaits_in e) refl
     (λ d u. (users w.made.file w.slots change (range_of change) shoot decided d).1 u) k
 
 -- ---- Acks
 
-silent_by : (o : Option Message) → is_some o ≡ false → o ≡ None
+pub silent_by : (o : Option Message) → is_some o ≡ false → o ≡ None
 silent_by None i = refl
 silent_by (Some m) i = absurd cc
 
 -- The call awaits nobody any more, so nothing of its range is left anywhere.
-commits : {info : ℕ → Option PageInfo} {phase : ℕ → Phase} {h : Hardware} (info2 : ℕ → Option PageInfo) (c : ℕ)
+commits : {cached : ℕ → ℕ → Option ℕ} {info : ℕ → Option PageInfo} {phase : ℕ → Phase} {h : Hardware} (info2 : ℕ → Option PageInfo) (c : ℕ)
     (range : PageRange) (new : Phase) → awaits_in (phase c) ≡ Some range → awaits_in new ≡ None → AwaitsNobody h c
-    → ((p : ℕ) → has range p ≡ false → info2 p ≡ info p) → IsCoherent info phase h
-    → IsCoherent info2 (put phase c new) h
-commits {info} {phase} {h} info2 c range new awaits none nobody same k = of_cores info2 (put phase c new) h
+    → ((p : ℕ) → has range p ≡ false → info2 p ≡ info p) → IsCoherent cached info phase h
+    → IsCoherent cached info2 (put phase c new) h
+commits {cached} {info} {phase} {h} info2 c range new awaits none nobody same k = of_cores cached info2 (put phase c new) h
     (λ d. moves_on c new none (silent d) (backed_outside info2 range same (left d).0 (left d).1 (core_of d k)))
   where
     silent : (d : ℕ) → message_of (h.inbox d) c ≡ None
@@ -171,22 +184,117 @@ commits_kept w c change held counts e nobody k =
 -- ---- Fill
 
 -- a page without a frame backed nothing
-frameless : (file : ℕ → Option File) (info new : Option PageInfo) (access : Access) (d : ℕ) (t : Translation)
-    → IsUsable file info access None → IsBacked info d t → IsBacked new d t
-frameless file None new access d t u b = absurd u
-frameless file (Some info) new access d t u b = absurd (
-    let none : entry_for info.meta.prot info.frame ≡ None = ap (entry_for info.meta.prot) u.2 in
+frameless : (cached now : ℕ → ℕ → Option ℕ) (file : ℕ → Option File) (info new : Option PageInfo) (access : Access) (d : ℕ) (t : Translation)
+    → IsUsable file info access None → IsBacked cached info d t → IsBacked now new d t
+frameless cached now file None new access d t u b = absurd u
+frameless cached now file (Some info) new access d t u b = absurd (
+    let none : entry_for (prot_installed cached info) info.frame ≡ None = ap (entry_for (prot_installed cached info)) u.2 in
     let some = b.entry in
     cc)
 
-pub fills_kept : (w : World) (c : ℕ) (touch : Touch) (f : ℕ) (counts : Counts) → IsOrderly w
-    → w.calls.phase c ≡ Fill touch f → IsCoherentState w → IsCoherentState (after_fill c touch f counts w)
-fills_kept w c touch f counts g e k =
-    let info : Option PageInfo = w.slots.info touch.page in
-    let lacks : IsUsable w.made.file info touch.access None = (call_at w c (Fill touch f) e g).ready in
-    goes_on c (Install touch) (ap awaits_in e) refl
-    (page_backed touch.page (info_with_frame f info)
-    (λ d t. frameless w.made.file info (info_with_frame f info) touch.access d t lacks) k)
+-- the page, which had none, has a frame
+framed : (w : World) (c : ℕ) (touch : Touch) (old : Phase) (f : ℕ) (now : ℕ → ℕ → Option ℕ) → w.calls.phase c ≡ old → awaits_in old ≡ None
+    → IsUsable w.made.file (w.slots.info touch.page) touch.access None
+    → ((p d : ℕ) (t : Translation) → p ≢ touch.page → IsBacked w.memory.cached (w.slots.info p) d t → IsBacked now (w.slots.info p) d t)
+    → IsCoherentState w
+    → IsCoherent now (put w.slots.info touch.page (info_with_frame f (w.slots.info touch.page))) (put w.calls.phase c (Install touch)) w.hardware
+framed w c touch old f now e none lacks others k =
+    goes_on c (Install touch) (ap awaits_in e ∙ none) refl
+    (still_backed now (put w.slots.info touch.page new)
+    (λ p d t. put_all (λ p o. IsBacked w.memory.cached (w.slots.info p) d t → IsBacked now o d t) w.slots.info touch.page new
+    (frameless w.memory.cached now w.made.file (w.slots.info touch.page) new touch.access d t lacks) (λ p ne b. others p d t ne b) p) k)
+  where
+    new : Option PageInfo
+    new = info_with_frame f (w.slots.info touch.page)
+
+pub fills_kept : (w : World) (c : ℕ) (touch : Touch) (own : Option ℕ) (f : ℕ) → IsOrderly w → w.calls.phase c ≡ Fill touch own
+    → IsCoherentState w
+    → IsCoherent w.memory.cached (put w.slots.info touch.page (info_with_frame f (w.slots.info touch.page)))
+    (put w.calls.phase c (Install touch)) w.hardware
+fills_kept w c touch own f g e k =
+    framed w c touch (Fill touch own) f w.memory.cached e refl (call_at w c (Fill touch own) e g).ready.0 (λ p d t ne b. b) k
+
+-- ---- a file page is cached
+
+-- of a page that doesn't have the frame
+at_number : (cached : ℕ → ℕ → Option ℕ) (m l n k f x : ℕ) → cached m l ≡ None → x ≢ f
+    → is_cached (put cached m (put (cached m) l (Some f)) n k) x ≡ is_cached (cached n k) x
+at_number cached m l n k f x none ne =
+    put_all (λ n pages. is_cached (pages k) x ≡ is_cached (cached n k) x) cached m (put (cached m) l (Some f))
+    (put_all (λ k o. is_cached o x ≡ is_cached (cached m k) x) (cached m) l (Some f)
+    (other f x ne ∙ sym (ap (λ o. is_cached o x) none)) (λ k ne. refl) k)
+    (λ n ne. refl) n
+  where
+    other : (f x : ℕ) → x ≢ f → (f == x) ≡ false
+    other f x ne = grind (arith, nat_tests, ne)
+
+shown_at : (cached : ℕ → ℕ → Option ℕ) (m l : ℕ) (b : Back) (f x : ℕ) → cached m l ≡ None → x ≢ f
+    → shows_file (put cached m (put (cached m) l (Some f))) b x ≡ shows_file cached b x
+shown_at cached m l Anon f x none ne = refl
+shown_at cached m l (Shared n k) f x none ne = at_number cached m l n k f x none ne
+shown_at cached m l (Private n k) f x none ne = at_number cached m l n k f x none ne
+
+same_shown : (cached : ℕ → ℕ → Option ℕ) (back b : Back) (f x : ℕ) → file_frame cached back ≡ None → x ≢ f
+    → shows_file (with_cached cached back f) b x ≡ shows_file cached b x
+same_shown cached Anon b f x none ne = refl
+same_shown cached (Shared m l) b f x none ne = shown_at cached m l b f x none ne
+same_shown cached (Private m l) b f x none ne = shown_at cached m l b f x none ne
+
+same_prot : (cached : ℕ → ℕ → Option ℕ) (back : Back) (f : ℕ) (info : PageInfo) → file_frame cached back ≡ None → info.frame ≢ Some f
+    → prot_installed (with_cached cached back f) info ≡ prot_installed cached info
+same_prot cached back f info none ne = go info.frame refl
+  where
+    go : (o : Option ℕ) → info.frame ≡ o
+        → prot_shown (is_private info.meta.back && shows_some (with_cached cached back f) info.meta.back o) info.meta.prot
+        ≡ prot_shown (is_private info.meta.back && shows_some cached info.meta.back o) info.meta.prot
+    go None e = refl
+    go (Some x) e =
+        ap (λ b. prot_shown (is_private info.meta.back && b) info.meta.prot)
+        (same_shown cached back info.meta.back f x none (λ s. ne (e ∙ ap Some s)))
+
+cached_backed : (cached : ℕ → ℕ → Option ℕ) (back : Back) (f : ℕ) (info : Option PageInfo) (d : ℕ) (t : Translation)
+    → file_frame cached back ≡ None → frame_of info ≢ Some f → IsBacked cached info d t → IsBacked (with_cached cached back f) info d t
+cached_backed cached back f None d t none ne b = record { entry = b.entry; recorded = b.recorded; right = b.right }
+cached_backed cached back f (Some info) d t none ne b = record {
+  entry = ap (λ prot. entry_for prot info.frame) (same_prot cached back f info none ne) ∙ b.entry;
+  recorded = b.recorded;
+  right = b.right;
+}
+
+pub caches_kept : (w : World) (c : ℕ) (touch : Touch) (f : ℕ) (counts : Counts) → IsOrderly w → AreTakenNew w.slots.info w.calls.phase
+    → w.calls.phase c ≡ Fill touch (Some f) → file_frame w.memory.cached (back_of (w.slots.info touch.page)) ≡ None → IsCoherentState w
+    → IsCoherentState (after_caching c touch f counts w)
+caches_kept w c touch f counts g new e none k =
+    framed w c touch (Fill touch (Some f)) f (with_cached w.memory.cached (back_of (w.slots.info touch.page)) f) e refl
+    (call_at w c (Fill touch (Some f)) e g).ready.0
+    (λ p d t ne b. cached_backed w.memory.cached (back_of (w.slots.info touch.page)) f (w.slots.info p) d t none
+    (new c f p (ap taken_in e)) b) k
+
+-- ---- a copy in place of the file's page
+
+-- the cores that are recorded on the page are told
+recorded_there : (o : Option PageInfo) (d : ℕ) → is_recorded o d ≡ true → members (cores_of o) d ≡ true
+recorded_there None d h = absurd cc
+recorded_there (Some info) d h = h
+
+pub posts_copy_kept : (w : World) (c : ℕ) (touch : Touch) (f : ℕ) → w.calls.phase c ≡ CopyPost touch f → IsCoherentState w
+    → IsCoherentState (after_copy_post c touch f w)
+posts_copy_kept w c touch f e k =
+    posts w.memory.cached w.slots w.calls.phase w.hardware c (cores_of (w.slots.info touch.page)) (page_of_touch touch) (CopyAcks touch f)
+    (ap awaits_in e) refl
+    (λ d u. recorded_there (w.slots.info touch.page) d (subst (λ p. is_recorded (w.slots.info p) d ≡ true) (its touch u.0 u.1) u.2)) k
+  where
+    its : (touch : Touch) (p : ℕ) → has (page_of_touch touch) p ≡ true → p ≡ touch.page
+    its touch p h = let z = has_in (page_of_touch touch) p h in let low = z.0 in let high = z.1 in omega (arith, low, high)
+
+pub copies_kept : (w : World) (c : ℕ) (touch : Touch) (f g : ℕ) (counts : Counts) → w.calls.phase c ≡ CopyAcks touch f
+    → AwaitsNobody w.hardware c → IsCoherentState w → IsCoherentState (after_copy c touch f g counts w)
+copies_kept w c touch f g counts e nobody k =
+    commits (after_copy c touch f g counts w).slots.info c (page_of_touch touch) (Install touch) (ap awaits_in e) refl nobody
+    (λ p out. put_other w.slots.info touch.page (info_copied f (w.slots.info touch.page)) p (λ at. off touch p at out)) k
+  where
+    off : (touch : Touch) (p : ℕ) → p ≡ touch.page → has (page_of_touch touch) p ≡ false → ⊥
+    off touch p at out = let i = page_is touch in let j = subst (λ q. has (page_of_touch touch) q ≡ false) at out in cc
 
 -- ---- Install: one core more is recorded, and all else of the page stays
 
@@ -201,18 +309,18 @@ recorded_now : (c : ℕ) (info : Option PageInfo) → AllowsSome info → is_rec
 recorded_now c None h = absurd h
 recorded_now c (Some info) h = ap (λ f. f c) (members_with info.cores c) ∙ put_same (members info.cores) c true
 
-same_entry : (c : ℕ) (info : Option PageInfo) → entry_of_page (info_with_core c info) ≡ entry_of_page info
-same_entry c None = refl
-same_entry c (Some info) = refl
+same_entry : (cached : ℕ → ℕ → Option ℕ) (c : ℕ) (info : Option PageInfo) → entry_of_page cached (info_with_core c info) ≡ entry_of_page cached info
+same_entry cached c None = refl
+same_entry cached c (Some info) = refl
 
 same_right : (c : ℕ) (info : Option PageInfo) → AllowsSome info → AllowsSome (info_with_core c info)
 same_right c None h = h
 same_right c (Some info) h = h
 
-backed_more : (c d : ℕ) (info : Option PageInfo) (t : Translation) → IsBacked info d t
-    → IsBacked (info_with_core c info) d t
-backed_more c d info t b = record {
-  entry = same_entry c info ∙ b.entry;
+backed_more : (cached : ℕ → ℕ → Option ℕ) (c d : ℕ) (info : Option PageInfo) (t : Translation) → IsBacked cached info d t
+    → IsBacked cached (info_with_core c info) d t
+backed_more cached c d info t b = record {
+  entry = same_entry cached c info ∙ b.entry;
   recorded = recorded_more c d info b.recorded;
   right = same_right c info b.right;
 }
@@ -240,30 +348,32 @@ usable_right file None access frame u = absurd u
 usable_right file (Some info) access frame u = has_some info.meta.prot access u.0
 
 -- a call that awaits a range holds its pages
-awaits_held : (made : Made) (s : Slots) (phase : Phase) (range : PageRange) (p : ℕ) → IsReady made s phase
+awaits_held : (made : Made) (s : Slots) (cached : ℕ → ℕ → Option ℕ) (phase : Phase) (range : PageRange) (p : ℕ) → IsReady made s cached phase
     → awaits_in phase ≡ Some range → has range p ≡ true → holds phase p ≡ true
-awaits_held made s (Acks change held) range p ready a i =
+awaits_held made s cached (Acks change held) range p ready a i =
     let same : range_of change ≡ range = cc in
     subst (λ r. has r p ≡ true) (sym (ready.0 ∙ same)) i
-awaits_held made s Free range p ready a i = absurd cc
-awaits_held made s (Check request) range p ready a i = absurd cc
-awaits_held made s (Lock goal cursor) range p ready a i = absurd cc
-awaits_held made s (Decide change) range p ready a i = absurd cc
-awaits_held made s (Post change shoot) range p ready a i = absurd cc
-awaits_held made s (Unlock held reply) range p ready a i = absurd cc
-awaits_held made s (Answer reply) range p ready a i = absurd cc
-awaits_held made s (Try touch) range p ready a i = absurd cc
-awaits_held made s (Settle touch) range p ready a i = absurd cc
-awaits_held made s (Want touch) range p ready a i = absurd cc
-awaits_held made s (Fill touch frame) range p ready a i = absurd cc
-awaits_held made s (Install touch) range p ready a i = absurd cc
-awaits_held made s (Release touch) range p ready a i = absurd cc
+awaits_held made s cached Free range p ready a i = absurd cc
+awaits_held made s cached (Check request) range p ready a i = absurd cc
+awaits_held made s cached (Lock goal cursor) range p ready a i = absurd cc
+awaits_held made s cached (Decide change) range p ready a i = absurd cc
+awaits_held made s cached (Post change shoot) range p ready a i = absurd cc
+awaits_held made s cached (Unlock held reply) range p ready a i = absurd cc
+awaits_held made s cached (Answer reply) range p ready a i = absurd cc
+awaits_held made s cached (Try touch) range p ready a i = absurd cc
+awaits_held made s cached (Settle touch) range p ready a i = absurd cc
+awaits_held made s cached (CopyPost touch frame) range p ready a i = absurd cc
+awaits_held made s cached (CopyAcks touch frame) range p ready a i = let same : page_of_touch touch ≡ range = cc in subst (λ r. has r p ≡ true) (sym same) i
+awaits_held made s cached (Want touch old) range p ready a i = absurd cc
+awaits_held made s cached (Fill touch frame) range p ready a i = absurd cc
+awaits_held made s cached (Install touch) range p ready a i = absurd cc
+awaits_held made s cached (Release touch) range p ready a i = absurd cc
 
 -- no call awaits a page that a call holds which awaits nothing
 unawaited : (w : World) (c p : ℕ) → IsOrderly w → awaits_in (w.calls.phase c) ≡ None → holds (w.calls.phase c) p ≡ true
     → (x : ℕ) (range : PageRange) → awaits_in (w.calls.phase x) ≡ Some range → has range p ≡ true → ⊥
 unawaited w c p g none mine x range a i =
-    let held : holds (w.calls.phase x) p ≡ true = awaits_held w.made w.slots (w.calls.phase x) range p (g.ready x) a i in
+    let held : holds (w.calls.phase x) p ≡ true = awaits_held w.made w.slots w.memory.cached (w.calls.phase x) range p (g.ready x) a i in
     let its : w.slots.owner p ≡ Some x = g.owned x p held in
     let my : w.slots.owner p ≡ Some c = g.owned c p mine in
     let same : x ≡ c = cc in
@@ -274,10 +384,13 @@ pub installs_kept : (w : World) (c : ℕ) (touch : Touch) → IsOrderly w → w.
     → IsCoherentState w → IsCoherentState (after_install c touch w)
 installs_kept w c touch g e k =
     goes_on c (Release touch) (ap awaits_in e) refl
-    (of_cores more w.calls.phase now
-    (put_all (λ d table. IsCore more w.calls.phase d table (h.tlb d) (h.inbox d)) h.table c
-    (put (h.table c) page (entry_of_page info)) own (λ d ne. core_of d recorded)))
+    (of_cores cached more w.calls.phase now
+    (put_all (λ d table. IsCore cached more w.calls.phase d table (h.tlb d) (h.inbox d)) h.table c
+    (put (h.table c) page (entry_of_page cached info)) own (λ d ne. core_of d recorded)))
   where
+    cached : ℕ → ℕ → Option ℕ
+    cached = w.memory.cached
+
     h : Hardware
     h = w.hardware
 
@@ -291,21 +404,21 @@ installs_kept w c touch g e k =
     more = put w.slots.info page (info_with_core c info)
 
     now : Hardware
-    now = record h { table = put h.table c (put (h.table c) page (entry_of_page info)) }
+    now = record h { table = put h.table c (put (h.table c) page (entry_of_page cached info)) }
 
     at : more page ≡ info_with_core c info
     at = put_same w.slots.info page (info_with_core c info)
 
-    recorded : IsCoherent more w.calls.phase h
-    recorded = page_backed page (info_with_core c info) (λ d t. backed_more c d info t) k
+    recorded : IsCoherent cached more w.calls.phase h
+    recorded = page_backed page (info_with_core c info) (λ d t. backed_more cached c d info t) k
 
     right : AllowsSome info
     right = let u = (call_at w c (Install touch) e g).ready in
         usable_right w.made.file info touch.access (Some u.0) u.1
 
-    own : IsCore more w.calls.phase c (put (h.table c) page (entry_of_page info)) (h.tlb c) (h.inbox c)
-    own = subst (λ o. IsCore more w.calls.phase c (put (h.table c) page o) (h.tlb c) (h.inbox c))
-        (ap entry_of_page at ∙ same_entry c info)
+    own : IsCore cached more w.calls.phase c (put (h.table c) page (entry_of_page cached info)) (h.tlb c) (h.inbox c)
+    own = subst (λ o. IsCore cached more w.calls.phase c (put (h.table c) page o) (h.tlb c) (h.inbox c))
+        (ap (entry_of_page cached) at ∙ same_entry cached c info)
         (installs page (subst (λ o. is_recorded o c ≡ true) (sym at) (recorded_now c info right))
         (subst AllowsSome (sym at) (same_right c info right))
         (unawaited w c page g (ap awaits_in e) (ap (λ ph. holds ph page) e ∙ page_is touch)) (core_of c recorded))

@@ -4,7 +4,7 @@ use Rattle.std.specs.Prelude.{◌≡◌, ◌≢◌, ℕ, ◌⊎◌, true, false,
 use Rattle.vm_base.specs.declared.info.PageInfo.{PageInfo}
 use Rattle.vm_base.specs.declared.page.PageRange.{PageRange}
 use Rattle.vm_base.specs.Functions.{has}
-use Rattle.vm_base.specs.Info.{is_recorded}
+use Rattle.vm_base.specs.Info.{frame_of, is_recorded}
 use Rattle.mmu.specs.declared.entry.Translation.{Translation}
 use Rattle.mmu.specs.declared.tlb.TlbEntry.{TlbEntry}
 use Rattle.mmu.specs.Entry.{has_right}
@@ -14,7 +14,7 @@ use Rattle.slot_lock.specs.Slots.{Slots}
 use Rattle.machine_model.specs.declared.event.Event.{Event}
 use Rattle.machine_model.specs.declared.event.Outcome.{Outcome}
 use Rattle.machine_model.specs.declared.phase.Phase.{Phase}
-use Rattle.machine_model.specs.Holding.{awaits_in}
+use Rattle.machine_model.specs.Holding.{awaits_in, taken_in}
 use Rattle.machine_model.specs.Translating.{entry_of_page}
 use Rattle.machine_model.specs.World.{World, Made, Hardware, new_world}
 use Rattle.machine_model.specs.Step.{Step}
@@ -33,8 +33,8 @@ AllowsSome None = ⊥
 AllowsSome (Some info) = has_right info.meta.prot ≡ true
 
 -- the translation is what the page's frame and protection give, and the core is recorded on the page
-pub record IsBacked (info : Option PageInfo) (core : ℕ) (t : Translation) : Type 0 where
-  pub entry : entry_of_page info ≡ Some t
+pub record IsBacked (cached : ℕ → ℕ → Option ℕ) (info : Option PageInfo) (core : ℕ) (t : Translation) : Type 0 where
+  pub entry : entry_of_page cached info ≡ Some t
   pub recorded : is_recorded info core ≡ true
   pub right : AllowsSome info
 
@@ -49,8 +49,8 @@ abbrev pub Mirrors : (ℕ → Option Translation) → List Message → TlbEntry 
 Mirrors table inbox e = (table e.page ≡ Some e.translation) ⊎ IsCleared inbox e.page
 
 -- a TLB's entry on core d
-abbrev pub IsSoundEntry : (ℕ → Option PageInfo) → ℕ → (ℕ → Option Translation) → List Message → TlbEntry → Type 0
-IsSoundEntry info d table inbox e = IsBacked (info e.page) d e.translation × Mirrors table inbox e
+abbrev pub IsSoundEntry : (ℕ → ℕ → Option ℕ) → (ℕ → Option PageInfo) → ℕ → (ℕ → Option Translation) → List Message → TlbEntry → Type 0
+IsSoundEntry cached info d table inbox e = IsBacked cached (info e.page) d e.translation × Mirrors table inbox e
 
 -- ---- messages
 
@@ -76,21 +76,25 @@ HasDropped table tlb range (Some m) = m.is_cleared ≡ true → IsTableClear tab
 
 -- ---- the whole
 
--- over what pages have and what calls are at
-pub record IsCoherent (info : ℕ → Option PageInfo) (phase : ℕ → Phase) (h : Hardware) : Type 0 where
-  pub tables : (d p : ℕ) (t : Translation) → h.table d p ≡ Some t → IsBacked (info p) d t
-  pub tlbs : (d : ℕ) → Every (IsSoundEntry info d (h.table d) (h.inbox d)) (h.tlb d)
+-- over which frames cache files' pages, what pages have and what calls are at
+pub record IsCoherent (cached : ℕ → ℕ → Option ℕ) (info : ℕ → Option PageInfo) (phase : ℕ → Phase) (h : Hardware) : Type 0 where
+  pub tables : (d p : ℕ) (t : Translation) → h.table d p ≡ Some t → IsBacked cached (info p) d t
+  pub tlbs : (d : ℕ) → Every (IsSoundEntry cached info d (h.table d) (h.inbox d)) (h.tlb d)
   pub asked : (d : ℕ) → AreAsked phase d (h.inbox d)
   pub dropped : (c d : ℕ) (range : PageRange) → awaits_in (phase c) ≡ Some range
       → HasDropped (h.table d) (h.tlb d) range (message_of (h.inbox d) c)
 
 -- of a state
 abbrev pub IsCoherentState : World → Type 0
-IsCoherentState w = IsCoherent w.slots.info w.calls.phase w.hardware
+IsCoherentState w = IsCoherent w.memory.cached w.slots.info w.calls.phase w.hardware
+
+-- no page has a frame that a call has taken
+abbrev pub AreTakenNew : (ℕ → Option PageInfo) → (ℕ → Phase) → Type 0
+AreTakenNew info phase = (c f p : ℕ) → taken_in (phase c) ≡ Some f → frame_of (info p) ≢ Some f
 
 abbrev pub AllStepsKeepTranslations : Type 0
-AllStepsKeepTranslations = (w v : World) (e : Event) (o : Outcome) → IsOrderly w → IsCoherentState w → Step w e o v
-    → IsCoherentState v
+AllStepsKeepTranslations = (w v : World) (e : Event) (o : Outcome) → IsOrderly w → AreTakenNew w.slots.info w.calls.phase
+    → IsCoherentState w → Step w e o v → IsCoherentState v
 
 abbrev pub AllOpeningsAreCoherent : Type 0
 AllOpeningsAreCoherent = (made : Made) (slots : Slots) → IsCoherentState (new_world made slots)
