@@ -10,7 +10,7 @@ use Rattle.refcache.specs.Steps.{Takes, Dec}
 use Rattle.machine_model.specs.Counting.{CountsOne, CountsDown}
 use Rattle.machine_model.specs.World.{World}
 use Rattle.machine_laws.specs.Orderly.{IsOrderly}
-use Rattle.machine_counting.specs.Counted.{IsCountedState}
+use Rattle.machine_counting.specs.Counted.{IsCountedState, one_if}
 use Rattle.machine_counting.proofs.Kept.{framed_page}
 use Rattle.machine_counting.proofs.Pages.{counts_some, range_down}
 
@@ -72,8 +72,8 @@ pub counted_still : (w : World) → IsOrderly w → IsCountedState w → (c firs
     → CountsUpTo c (λ p. frame_of (w.slots.info p)) first page w.memory.counts v → (f p : ℕ) → page ≤ p
     → frame_of (w.slots.info p) ≡ Some f → pos 0 <ℤ true_count v f
 counted_still w g k c first page v le d f p ge e =
-    counts_some v left f p (2 ^ 35) below
-    (range_down c (λ p. frame_of (w.slots.info p)) first (page - first) w.memory.counts v w.slots.info left (2 ^ 35) d
+    counts_some v (λ f. one_if (k.page_in f)) left f p (2 ^ 35) below
+    (range_down c (λ p. frame_of (w.slots.info p)) first (page - first) w.memory.counts v (λ f. one_if (k.page_in f)) w.slots.info left (2 ^ 35) d
     (omega (arith, le, ge, below)) (λ p _. refl)
     (record {
       gone = λ q i. ap (λ b. frame_of (cond b None (w.slots.info q))) i;

@@ -26,10 +26,24 @@ pages_with info f (suc n) = (if is_frame (frame_of (info n)) f then 1 else 0) + 
 abbrev pub users_of : (ℕ → Option PageInfo) → ℕ → ℕ
 users_of info f = pages_with info f (2 ^ 35)
 
--- Each frame's true count is the number of pages that have it. Nothing is left in the counts of a frame that is free or that a call has
--- taken; a taken frame isn't free, and no two calls have taken one frame.
+-- a page of a file, by its number and the file's
+pub record FilePage : Type 0 where
+  pub file : ℕ
+  pub page : ℕ
+
+-- one, if there is one
+abbrev pub one_if : Option FilePage → ℕ
+one_if None = 0
+one_if (Some x) = 1
+
+-- Each frame's true count is the number of pages that have it, and one more where it caches a page of a file; no frame caches two. Nothing
+-- is left in the counts of a frame that is free or that a call has taken; a taken frame isn't free, and no two calls have taken one frame.
 pub record IsCounted (info : ℕ → Option PageInfo) (phase : ℕ → Phase) (m : Memory) : Type 0 where
-  pub users : (f : ℕ) → true_count m.counts f ≡ pos (users_of info f)
+  -- the file page that a frame caches
+  pub page_in : ℕ → Option FilePage
+  pub caches : (n k f : ℕ) → m.cached n k ≡ Some f → page_in f ≡ Some (record { file = n; page = k })
+  pub cached : (f : ℕ) (x : FilePage) → page_in f ≡ Some x → m.cached x.file x.page ≡ Some f
+  pub users : (f : ℕ) → true_count m.counts f ≡ pos (users_of info f + one_if (page_in f))
   pub free : (f : ℕ) → m.is_free f ≡ true → IsUnused m.counts f
   pub taken : (c f : ℕ) → taken_in (phase c) ≡ Some f → IsUnused m.counts f
   pub busy : (c f : ℕ) → taken_in (phase c) ≡ Some f → m.is_free f ≡ false
