@@ -234,7 +234,7 @@ shown_at cached m l Anon f x none ne = refl
 shown_at cached m l (Shared n k) f x none ne = at_number cached m l n k f x none ne
 shown_at cached m l (Private n k) f x none ne = at_number cached m l n k f x none ne
 
-same_shown : (cached : ℕ → ℕ → Option ℕ) (back b : Back) (f x : ℕ) → file_frame cached back ≡ None → x ≢ f
+pub same_shown : (cached : ℕ → ℕ → Option ℕ) (back b : Back) (f x : ℕ) → file_frame cached back ≡ None → x ≢ f
     → shows_file (with_cached cached back f) b x ≡ shows_file cached b x
 same_shown cached Anon b f x none ne = refl
 same_shown cached (Shared m l) b f x none ne = shown_at cached m l b f x none ne

@@ -1,42 +1,40 @@
 -- The steps of a load, a store or a fetch that read and write memory, take frames and fill pages
-use Rattle.std.proofs.Common.{◌≡◌, ◌≢◌, ℕ, Bool, true, false, cond, refl, sym, ap, subst, Some, None, Option, ◌∙◌}
-use Rattle.std.specs.Prelude.{◌&&◌, if◌then◌else◌}
+use Rattle.std.proofs.Common.{◌≡◌, ℕ, Bool, true, false, refl, sym, ap, subst, Some, None, Option, ◌∙◌}
+use Rattle.std.specs.Prelude.{◌&&◌, ◌||◌, if◌then◌else◌}
 use Rattle.vm_base.specs.declared.info.Back.{Back}
-use Rattle.vm_base.specs.declared.info.Back.TheVariants.{Anon}
 use Rattle.vm_base.specs.declared.info.PageInfo.{PageInfo}
 use Rattle.vm_base.specs.declared.page.PageRange.{PageRange}
 use Rattle.vm_base.specs.declared.replies.Reply.{Reply}
-use Rattle.vm_base.specs.declared.replies.Reply.TheVariants.{Done, Byte, NoFrame}
+use Rattle.vm_base.specs.declared.replies.Reply.TheVariants.{NoFrame}
 use Rattle.vm_base.specs.declared.rights.Access.{Access}
 use Rattle.vm_base.specs.declared.rights.Access.TheVariants.{Load, Store, Fetch}
 use Rattle.vm_base.specs.Functions.{put}
-use Rattle.vm_base.specs.Info.{frame_of, info_with_frame}
-use Rattle.vm_base.specs.Plain.{Bytes, File, Entry, Plain, zeros}
+use Rattle.vm_base.specs.Info.{frame_of}
+use Rattle.vm_base.specs.Plain.{File, Entry, Plain}
 use Rattle.vm_base.specs.Rights.{is_allowed}
-use Rattle.vm_base.specs.Apply.{byte_reply, entry_reply}
-use Rattle.vm_base.proofs.Functions.{put_all, put_same}
+use Rattle.vm_base.specs.Apply.{byte_reply, entry_reply, is_anonymous}
+use Rattle.vm_base.proofs.Functions.{put_all}
 use Rattle.slot_lock.specs.declared.plan.Touch.{Touch}
 use Rattle.slot_lock.specs.Slots.{with_info}
 use Rattle.vm_calls.specs.declared.fault.Settled.{Settled}
 use Rattle.vm_calls.specs.declared.fault.Settled.TheVariants.{MapErr as NoMapping, AccErr as Forbidden, Bus as PastEnd, Has, Copies, Cached, Wants}
 use Rattle.vm_calls.specs.Plainly.{touched_by}
-use Rattle.vm_calls.specs.Settling.{settled, source, is_private_store}
+use Rattle.vm_calls.specs.Settling.{settled, source, is_cached, is_private_store}
 use Rattle.machine_model.specs.declared.event.Event.{Event}
-use Rattle.machine_model.specs.declared.phase.Phase.TheVariants.{Answer, Try, Settle, Want, Fill, Install, Release}
-use Rattle.refcache.specs.Counts.{Counts}
-use Rattle.machine_model.specs.Accesses.{bytes_after, memory_after, reply_of, after_access, found_at, is_past_end, NoneFree, after_fill, info_with_core, after_install}
+use Rattle.machine_model.specs.declared.phase.Phase.TheVariants.{Try, Settle, Want, Release}
+use Rattle.machine_model.specs.Accesses.{bytes_after, memory_after, reply_of, after_access, found_at, is_past_end, NoneFree, info_with_core, after_install}
+use Rattle.machine_model.specs.Files.{back_of, file_frame, shows_file, is_private}
 use Rattle.machine_model.specs.Actions.{after_reply}
-use Rattle.machine_model.specs.Holding.{taken_in}
 use Rattle.machine_model.specs.Translating.{translated_by, frame_reached, after_translating, with_hardware}
 use Rattle.machine_model.specs.World.{World, Memory}
-use Rattle.machine_counting.proofs.Kept.{unused_no_page}
-use Rattle.machine_laws.specs.Orderly.{IsUsable}
+use Rattle.machine_counting.specs.Counted.{IsCountedState}
 use Rattle.machine_laws.proofs.Moves.{IsCallOf, call_at}
 use Rattle.machine_laws.proofs.Shapes.{IsFault}
-use Rattle.machine_sound.specs.Invariant.{Fine, Good, Shows, ShowsPage, IsAnonymous, Owns, own_frame}
-use Rattle.machine_sound.proofs.Moves.{Leaves, shows_less, with_counts_shown, goes_on, tells, answers}
+use Rattle.machine_sound.specs.Invariant.{Fine, Good, Shows, ShowsPage, own_frame}
+use Rattle.machine_sound.proofs.Moves.{Leaves, shows_less, goes_on, tells, answers}
 use Rattle.machine_sound.proofs.Reaching.{ReachesFrame, reaches}
-use Rattle.machine_sound.proofs.Pages.{with_bytes, IsFramed, framed, framed_reply, unmapped_reply, forbidden_reply, within, can_access, page_kept, file_kept, own_is_frame, with_own, stored_is, pages_stored, files_stored}
+use Rattle.machine_sound.proofs.Pages.{IsFramed, framed, framed_reply, unmapped_reply, forbidden_reply, past_reply, can_access}
+use Rattle.machine_sound.proofs.Stores.{stored_shows}
 use Rattle.machine_sound.proofs.Replies.{IsReply, due_so, touched_stands, no_frame_stands}
 
 -- ---- Try
@@ -46,33 +44,31 @@ byte_is_reply Load byte = tt
 byte_is_reply Store byte = tt
 byte_is_reply Fetch byte = tt
 
-access_shows : (w : World) (t : Plain) (c : ℕ) (touch : Touch) (f byte : ℕ) (access : Access) → IsFramed w t touch.page f → Good w t
+access_shows : (w : World) (t : Plain) (touch : Touch) (f byte : ℕ) (access : Access) (k : IsFramed w t touch.page f) → Good w t → IsCountedState w
+    → (access ≡ Store → (is_private k.info.meta.back && shows_file w.memory.cached k.info.meta.back f) ≡ false)
     → Shows w.made.file w.slots.info (record w.memory { bytes = bytes_after access f touch.offset touch.byte w.memory.bytes })
     (touched_by t touch (byte_reply access byte))
-access_shows w t c touch f byte Load k g = g
-access_shows w t c touch f byte Fetch k g = g
-access_shows w t c touch f byte Store k g =
-    let x : Bytes = put (w.memory.bytes f) touch.offset touch.byte in
-    subst (λ u. Shows w.made.file w.slots.info (with_bytes w.memory f x) u) (sym (stored_is w t touch.page f touch.offset touch.byte k))
-    (shows_less w t (with_own t touch.page k.entry x) w.slots.info (put w.memory.bytes f x) g
-    (pages_stored w t touch.page f x k g) (files_stored w t touch.page f x k g) (λ p f h. h) (λ p f h. h) g.no_files.anonymous)
+access_shows w t touch f byte Load k g n writes = g
+access_shows w t touch f byte Fetch k g n writes = g
+access_shows w t touch f byte Store k g n writes = stored_shows w t touch.page f touch.offset touch.byte k g n (writes refl)
 
 pub access_made : (w : World) (event : Event) (c : ℕ) (touch : Touch) (f : ℕ) → w.calls.phase c ≡ Try touch
     → frame_reached (translated_by w.hardware c touch) ≡ Some f → Fine w
     → Leaves w event (after_access c touch f (with_hardware (after_translating w.hardware c touch) w))
 access_made w event c touch f e h fine =
     let reply : Reply = reply_of touch f w.memory in
-    let r : ReachesFrame (w.slots.info touch.page) touch.access f = reaches w.slots.info w.calls.phase w.hardware c touch f fine.coherent h in
+    let r : ReachesFrame w.memory.cached (w.slots.info touch.page) touch.access f = reaches w.memory.cached w.slots.info w.calls.phase w.hardware c touch f fine.coherent h in
     let i : IsFramed w fine.plain touch.page f = framed w fine.plain touch.page f fine.good (ap frame_of r.mapped ∙ r.frame) in
     let same : r.page ≡ i.info = let a = r.mapped in let b = i.at_slot in cc in
     let allowed : is_allowed i.info.meta.prot touch.access ≡ true = subst (λ (x : PageInfo). is_allowed x.meta.prot touch.access ≡ true) same r.allowed in
+    let writes = subst (λ (x : PageInfo). touch.access ≡ Store → (is_private x.meta.back && shows_file w.memory.cached x.meta.back f) ≡ false) same r.writes in
     let is_reply : IsReply reply = byte_is_reply touch.access (w.memory.bytes f touch.offset) in
     tells w event c None reply w.slots (after_translating w.hardware c touch) (memory_after touch f w.memory) fine (touched_by fine.plain touch reply)
     k.asked.request k.asked.number
     (touched_stands w fine.plain (touched_by fine.plain touch reply) c k.asked.request touch reply is_reply k.asked.passed
-    (framed_reply w fine.plain touch.page f touch.access touch.offset i allowed, refl))
+    (framed_reply w fine.plain touch.page f touch.access touch.offset i allowed writes, refl))
     (due_so event w.memory.is_free w.calls.events (w.calls.number c) c reply is_reply)
-    (access_shows w fine.plain c touch f (w.memory.bytes f touch.offset) touch.access i fine.good)
+    (access_shows w fine.plain touch f (w.memory.bytes f touch.offset) touch.access i fine.good fine.counted writes)
   where
     k : IsCallOf w c (Try touch)
     k = call_at w c (Try touch) e fine.order
@@ -86,13 +82,27 @@ Faultless Forbidden = ⊥
 Faultless PastEnd = ⊥
 Faultless _ = Unit {0}
 
-faultless : (back : Back) (frame : Option ℕ) (access : Access) → Faultless (source back frame access None)
-faultless back (Some f) access = go (is_private_store back access)
+faultless : (back : Back) (frame : Option ℕ) (access : Access) (shown : Option ℕ) → Faultless (source back frame access shown)
+faultless back (Some f) access shown = go (is_private_store back access && is_cached shown f)
   where
-    go : (b : Bool) → Faultless (if b && false then Copies f else Has f)
+    go : (b : Bool) → Faultless (if b then Copies f else Has f)
     go true = tt
     go false = tt
-faultless back None access = tt
+faultless back None access None = tt
+faultless back None access (Some g) = go (is_private_store back access || is_anonymous back)
+  where
+    go : (b : Bool) → Faultless (if b then Wants else Cached g)
+    go true = tt
+    go false = tt
+
+no_fault : (s : Settled) (reply : Reply) → Faultless s → IsFault s reply → ⊥
+no_fault NoMapping reply n f = n
+no_fault Forbidden reply n f = n
+no_fault PastEnd reply n f = n
+no_fault (Has g) reply n f = f
+no_fault (Copies g) reply n f = f
+no_fault (Cached g) reply n f = f
+no_fault Wants reply n f = f
 
 -- the fault is the plain page map's answer
 fault_reply : (w : World) (t : Plain) (touch : Touch) (reply : Reply) → Good w t → IsFault (found_at w touch) reply
@@ -102,38 +112,19 @@ fault_reply w t touch reply g h = go (w.slots.info touch.page) refl h
     Told : Reply → Type 0
     Told y = IsReply y × (entry_reply t.file (t.entry touch.page) touch.access touch.offset ≡ Some y) × (t ≡ touched_by t touch y)
 
-    has : (info : PageInfo) → w.slots.info touch.page ≡ Some info → (s : Settled) → settled (Some info) touch.access (is_past_end w.made.file (Some info)) None ≡ s → IsFault s reply → Told reply
-    has info e NoMapping i f = absurd (clash info i)
-      where
-        clash : (info : PageInfo) → settled (Some info) touch.access (is_past_end w.made.file (Some info)) None ≡ NoMapping → ⊥
-        clash info i = no (is_allowed info.meta.prot touch.access) (is_past_end w.made.file (Some info)) i
-          where
-            no : (a b : Bool) → cond a (cond b PastEnd (source info.meta.back info.frame touch.access None)) Forbidden ≡ NoMapping → ⊥
-            no true true i = cc
-            no true false i = subst Faultless i (faultless info.meta.back info.frame touch.access)
-            no false b i = cc
-    has info e Forbidden i f =
-        subst Told (sym f) (tt, forbidden_reply w t touch.page touch.access touch.offset info g e (denied (is_allowed info.meta.prot touch.access) (is_past_end w.made.file (Some info)) refl i), refl)
-      where
-        denied : (a b : Bool) → is_allowed info.meta.prot touch.access ≡ a → cond a (cond b PastEnd (source info.meta.back info.frame touch.access None)) Forbidden ≡ Forbidden
-            → is_allowed info.meta.prot touch.access ≡ false
-        denied true true k i = absurd cc
-        denied true false k i = absurd (subst Faultless i (faultless info.meta.back info.frame touch.access))
-        denied false b k i = k
-    has info e PastEnd i f = absurd (let a = within w t touch.page info g e in past (is_allowed info.meta.prot touch.access) (is_past_end w.made.file (Some info)) a i)
-      where
-        past : (a b : Bool) → b ≡ false → cond a (cond b PastEnd (source info.meta.back info.frame touch.access None)) Forbidden ≡ PastEnd → ⊥
-        past true true k i = cc
-        past true false k i = subst Faultless i (faultless info.meta.back info.frame touch.access)
-        past false b k i = cc
-    has info e (Has x) i f = absurd f
-    has info e (Copies x) i f = absurd f
-    has info e (Cached x) i f = absurd f
-    has info e Wants i f = absurd f
+    has : (info : PageInfo) → w.slots.info touch.page ≡ Some info → (a b : Bool) → is_allowed info.meta.prot touch.access ≡ a
+        → is_past_end w.made.file (Some info) ≡ b
+        → IsFault (if a then (if b then PastEnd else source info.meta.back info.frame touch.access (file_frame w.memory.cached info.meta.back)) else Forbidden) reply
+        → Told reply
+    has info e true true i j f = subst Told (sym f) (tt, past_reply w t touch.page touch.access touch.offset info g e i j, refl)
+    has info e true false i j f =
+        absurd (no_fault _ reply (faultless info.meta.back info.frame touch.access (file_frame w.memory.cached info.meta.back)) f)
+    has info e false b i j f = subst Told (sym f) (tt, forbidden_reply w t touch.page touch.access touch.offset info g e i, refl)
 
-    go : (o : Option PageInfo) → w.slots.info touch.page ≡ o → IsFault (settled o touch.access (is_past_end w.made.file o) None) reply → Told reply
+    go : (o : Option PageInfo) → w.slots.info touch.page ≡ o
+        → IsFault (settled o touch.access (is_past_end w.made.file o) (file_frame w.memory.cached (back_of o))) reply → Told reply
     go None e f = subst Told (sym f) (tt, unmapped_reply w t touch.page touch.access touch.offset g e, refl)
-    go (Some info) e f = has info e (settled (Some info) touch.access (is_past_end w.made.file (Some info)) None) refl f
+    go (Some info) e f = has info e (is_allowed info.meta.prot touch.access) (is_past_end w.made.file (Some info)) refl refl f
 
 pub fault_told : (w : World) (event : Event) (c : ℕ) (touch : Touch) (held : Option PageRange) (reply : Reply) → w.calls.phase c ≡ Settle touch → IsFault (found_at w touch) reply → Fine w
     → Leaves w event (after_reply c held reply w)
@@ -148,89 +139,15 @@ fault_told w event c touch held reply e h f =
 
 -- ---- Want
 
-pub no_frame_told : (w : World) (event : Event) (c : ℕ) (touch : Touch) (held : Option PageRange) → w.calls.phase c ≡ Want touch → NoneFree w.memory.is_free → Fine w
+pub no_frame_told : (w : World) (event : Event) (c : ℕ) (touch : Touch) (old : Option ℕ) (held : Option PageRange) → w.calls.phase c ≡ Want touch old
+    → NoneFree w.memory.is_free → Fine w
     → Leaves w event (after_reply c held NoFrame w)
-no_frame_told w event c touch held e none f =
+no_frame_told w event c touch old held e none f =
     answers w event c held NoFrame f k.asked.request k.asked.number
-    (no_frame_stands w f.plain c k.asked.request touch k.asked.passed (can_access w f.plain touch.page touch.access None f.good k.ready)) none
+    (no_frame_stands w f.plain c k.asked.request touch k.asked.passed (can_access w f.plain touch.page touch.access old f.good k.ready.0)) none
   where
-    k : IsCallOf w c (Want touch)
-    k = call_at w c (Want touch) e f.order
-
--- ---- Fill
-
-new_frame : (f : ℕ) (o : Option PageInfo) (x : ℕ) → frame_of (info_with_frame f o) ≡ Some x → f ≡ x
-new_frame f None x h = absurd cc
-new_frame f (Some info) x h = cc
-
-filled_anonymous : (f : ℕ) (o : Option PageInfo) → IsAnonymous o → IsAnonymous (info_with_frame f o)
-filled_anonymous f None a = a
-filled_anonymous f (Some info) a = a
-
--- a page without frame has zero bytes, as its frame does now
-filled_shown : (m : Memory) (f : ℕ) (o : Option PageInfo) (z : Option Entry) → IsAnonymous o → frame_of o ≡ None → ShowsPage m o z → ShowsPage (with_bytes m f zeros) (info_with_frame f o) z
-filled_shown m f None None a none s = s
-filled_shown m f None (Some entry) a none s = s
-filled_shown m f (Some info) None a none s = s
-filled_shown m f (Some info) (Some entry) a none s =
-    let own : entry.own ≡ Some zeros = subst (λ x. Owns m Anon x entry.own) none (subst (λ x. Owns m x info.frame entry.own) a s.2) in
-    (s.0, s.1, subst (λ back. Owns (with_bytes m f zeros) back (Some f) entry.own) (sym a) (tt, own ∙ ap Some (sym (put_same m.bytes f zeros))))
-
-no_frame_yet : (file : ℕ → Option File) (access : Access) (o : Option PageInfo) → IsUsable file o access None → frame_of o ≡ None
-no_frame_yet file access None u = refl
-no_frame_yet file access (Some info) u = u.2
-
-fills_shows : (w : World) (c : ℕ) (touch : Touch) (f : ℕ) (fine : Fine w) → w.calls.phase c ≡ Fill touch f
-    → Shows w.made.file (put w.slots.info touch.page (info_with_frame f (w.slots.info touch.page))) (with_bytes w.memory f zeros) fine.plain
-fills_shows w c touch f fine e = record {
-  pages = put_all (λ p o. ShowsPage (with_bytes w.memory f zeros) o (t.entry p)) w.slots.info touch.page new
-      (filled_shown w.memory f (w.slots.info touch.page) (t.entry touch.page) (g.no_files.anonymous touch.page)
-      (no_frame_yet w.made.file touch.access (w.slots.info touch.page) k.ready) (g.pages touch.page))
-      (λ p ne. page_kept w.memory f zeros (w.slots.info p) (t.entry p)
-      (λ h. nobodys p (own_is_frame w.memory.cached (w.slots.info p) f h)) (g.pages p));
-  files = λ n. file_kept w.memory.bytes f zeros (w.memory.cached n) (w.made.file n) (t.file n) (λ l h. let none = g.no_files.uncached n l in cc) (g.files n);
-  apart = λ p q x. put_all (λ p o. own_frame w.memory.cached o ≡ Some x → frame_of (info2 q) ≡ Some x → p ≡ q) w.slots.info touch.page new
-      (λ h. put_all (λ q o. frame_of o ≡ Some x → touch.page ≡ q) w.slots.info touch.page new (λ _. refl)
-      (λ q ne y. absurd (nobodys q (y ∙ ap Some (sym (mine x (own_is_frame w.memory.cached new x h)))))) q)
-      (λ p ne h. put_all (λ q o. frame_of o ≡ Some x → p ≡ q) w.slots.info touch.page new
-      (λ y. absurd (nobodys p (own_is_frame w.memory.cached (w.slots.info p) x h ∙ ap Some (sym (mine x y))))) (λ q _ y. g.apart p q x h y) q)
-      p;
-  no_files = record {
-    none = g.no_files.none;
-    uncached = g.no_files.uncached;
-    anonymous = put_all (λ p. IsAnonymous) w.slots.info touch.page new
-        (filled_anonymous f (w.slots.info touch.page) (g.no_files.anonymous touch.page)) (λ p ne. g.no_files.anonymous p);
-  };
-}
-  where
-    t : Plain
-    t = fine.plain
-
-    g : Good w t
-    g = fine.good
-
-    k : IsCallOf w c (Fill touch f)
-    k = call_at w c (Fill touch f) e fine.order
-
-    new : Option PageInfo
-    new = info_with_frame f (w.slots.info touch.page)
-
-    info2 : ℕ → Option PageInfo
-    info2 = put w.slots.info touch.page new
-
-    -- the frame that was taken is no page's
-    nobodys : (p : ℕ) → frame_of (w.slots.info p) ≢ Some f
-    nobodys p = unused_no_page w fine.order fine.counted f p (fine.counted.taken c f (ap taken_in e))
-
-    mine : (x : ℕ) → frame_of new ≡ Some x → f ≡ x
-    mine x h = new_frame f (w.slots.info touch.page) x h
-
-pub page_filled : (w : World) (event : Event) (c : ℕ) (touch : Touch) (f : ℕ) (counts : Counts) → w.calls.phase c ≡ Fill touch f → Fine w
-    → Leaves w event (after_fill c touch f counts w)
-page_filled w event c touch f counts e fine =
-    goes_on w event c (Install touch) (with_info w.slots touch.page (info_with_frame f (w.slots.info touch.page))) w.hardware
-    (record (with_bytes w.memory f zeros) { counts = counts }) fine
-    (with_counts_shown w.made.file _ (with_bytes w.memory f zeros) counts fine.plain (fills_shows w c touch f fine e))
+    k : IsCallOf w c (Want touch old)
+    k = call_at w c (Want touch old) e f.order
 
 -- ---- Install
 
@@ -242,9 +159,9 @@ recorded_own : (cached : ℕ → ℕ → Option ℕ) (c : ℕ) (o : Option PageI
 recorded_own cached c None = refl
 recorded_own cached c (Some info) = refl
 
-recorded_anonymous : (c : ℕ) (o : Option PageInfo) → IsAnonymous o → IsAnonymous (info_with_core c o)
-recorded_anonymous c None a = a
-recorded_anonymous c (Some info) a = a
+recorded_whole : (file : ℕ → Option File) (c : ℕ) (o : Option PageInfo) → is_past_end file (info_with_core c o) ≡ is_past_end file o
+recorded_whole file c None = refl
+recorded_whole file c (Some info) = refl
 
 recorded_shown : (m : Memory) (c : ℕ) (o : Option PageInfo) (z : Option Entry) → ShowsPage m o z → ShowsPage m (info_with_core c o) z
 recorded_shown m c None None s = s
@@ -265,5 +182,6 @@ core_installed w event c touch f =
     (λ h. sym (recorded_frame c (w.slots.info touch.page)) ∙ h) (λ p ne h. h) p)
     (λ p x. put_all (λ p o. own_frame cached o ≡ Some x → own_frame cached (w.slots.info p) ≡ Some x) w.slots.info touch.page new
     (λ h. sym (recorded_own cached c (w.slots.info touch.page)) ∙ h) (λ p ne h. h) p)
-    (put_all (λ p. IsAnonymous) w.slots.info touch.page new
-    (recorded_anonymous c (w.slots.info touch.page) (f.good.no_files.anonymous touch.page)) (λ p ne. f.good.no_files.anonymous p)))
+    (λ p x. put_all (λ p o. frame_of o ≡ Some x → is_past_end w.made.file o ≡ false) w.slots.info touch.page new
+    (λ h. recorded_whole w.made.file c (w.slots.info touch.page) ∙ f.good.whole touch.page x (sym (recorded_frame c (w.slots.info touch.page)) ∙ h))
+    (λ p ne h. f.good.whole p x h) p))

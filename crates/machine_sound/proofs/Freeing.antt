@@ -1,27 +1,22 @@
 -- Which steps make a frame free, and what a call that waits waits for
-use Rattle.std.proofs.Common.{◌≡◌, ◌≢◌, ℕ, ◌≤◌, ◌<◌, Bool, true, false, cond, refl, sym, ap, subst, arith, Some, None, Option, ◌∙◌}
-use Rattle.std.proofs.lemmas.Bool.Decides.{nat_tests}
-use Rattle.vm_base.specs.Functions.{put, has}
+use Rattle.std.proofs.Common.{◌≡◌, ℕ, Bool, true, false, cond, refl, sym, ap, subst, Some, None, Option, ◌∙◌}
+use Rattle.vm_base.specs.Functions.{put}
 use Rattle.vm_base.proofs.Functions.{put_all, in_has}
-use Rattle.slot_lock.specs.declared.plan.Change.{Change}
-use Rattle.refcache.specs.declared.reports.Review.TheVariants as review
-use Rattle.refcache.specs.Counts.{Counts}
-use Rattle.refcache.specs.Steps.{Takes, Reviewing}
 use Rattle.machine_model.specs.declared.event.Blocker.TheVariants as WaitsFor
 use Rattle.machine_model.specs.declared.event.Event.{Event}
-use Rattle.machine_model.specs.declared.event.Event.TheVariants as EventOf
-use Rattle.machine_model.specs.declared.event.Event.TheVariants.{Go, GiveUp}
+use Rattle.machine_model.specs.declared.event.Event.TheVariants.{GiveUp}
 use Rattle.machine_model.specs.declared.event.Outcome.{Outcome}
 use Rattle.machine_model.specs.declared.event.Outcome.TheVariants.{Stepped, Idle, Full, Wait, Answered}
 use Rattle.machine_model.specs.declared.phase.Goal.{Goal}
 use Rattle.machine_model.specs.declared.phase.Phase.TheVariants.{Lock}
+use Rattle.machine_model.specs.Events.{core_of}
 use Rattle.machine_model.specs.GivingUp.{given_back, after_give_up}
 use Rattle.machine_model.specs.Holding.{goal_range, range_in, some_has, taken_in}
 use Rattle.machine_model.specs.Step.{with_event, Step}
 use Rattle.machine_model.specs.World.{World}
 use Rattle.machine_laws.specs.Orderly.{IsOrderly}
 use Rattle.machine_laws.proofs.Moves.{IsCallOf, call_at}
-use Rattle.machine_laws.proofs.Shapes.{GoesBy, moves, divides, owns, lets_go, answers, posts, commits, takes, fills, installs, accesses, faults, Works, clears, invalidates, walks, evicts, flushes, reviews, frees, Rests, absent, busy, full, free, cannot, waits, awaits, Shape, rests, begins, ends, goes, gives_up, works, joins, Comes, stopped, acts, comes}
+use Rattle.machine_laws.proofs.Shapes.{GoesBy, moves, divides, owns, lets_go, answers, posts, commits, takes, zeroes, first_copies, caches, shares, posts_copy, copies, installs, accesses, faults, Works, clears, invalidates, walks, evicts, flushes, reviews, frees, IsGoing, going, picking, Rests, absent, busy, full, free, cannot, waits, awaits, Shape, rests, begins, ends, goes, gives_up, works, joins, Comes, stopped, acts, comes}
 use Rattle.machine_sound.specs.Sound.{IsFreedBy, FreesOnly, IsBlocked}
 use Rattle.machine_sound.specs.Sound.IsFreedBy.{by_review, by_call}
 
@@ -31,25 +26,37 @@ use Rattle.machine_sound.specs.Sound.IsFreedBy.{by_review, by_call}
 none_freed : (w : World) (e : Event) (f : ℕ) (b : Bool) → b ≡ w.memory.is_free f → w.memory.is_free f ≡ false → b ≡ true → IsFreedBy w e f
 none_freed w e f b same was now = absurd cc
 
-going_frees : (w : World) (e : Event) (c : ℕ) (v : World) → GoesBy w c v → FreesOnly w e v
-going_frees w e c v (moves new m h) f was now = none_freed w e f _ (ap (λ (v : World). v.memory.is_free f) h) was now
-going_frees w e c v (divides goal cursor t p s h) f was now = none_freed w e f _ (ap (λ (v : World). v.memory.is_free f) h) was now
-going_frees w e c v (owns goal cursor b t p l h) f was now = none_freed w e f _ (ap (λ (v : World). v.memory.is_free f) h) was now
-going_frees w e c v (lets_go held b t new l u h) f was now = none_freed w e f _ (ap (λ (v : World). v.memory.is_free f) h) was now
-going_frees w e c v (answers held reply r h) f was now = none_freed w e f _ (ap (λ (v : World). v.memory.is_free f) h) was now
-going_frees w e c v (posts change shoot p h) f was now = none_freed w e f _ (ap (λ (v : World). v.memory.is_free f) h) was now
-going_frees w e c v (commits change held counts p n l h) f was now = none_freed w e f _ (ap (λ (v : World). v.memory.is_free f) h) was now
-going_frees w e c v (takes touch x p l h) f was now =
-    absurd (put_all (λ f b. w.memory.is_free f ≡ false → b ≡ true → ⊥) w.memory.is_free x false (λ _ k. cc) (λ f ne a k. cc) f was
-    (sym (ap (λ (v : World). v.memory.is_free f) h) ∙ now))
-going_frees w e c v (fills touch x counts p t h) f was now = none_freed w e f _ (ap (λ (v : World). v.memory.is_free f) h) was now
-going_frees w e c v (installs touch p h) f was now = none_freed w e f _ (ap (λ (v : World). v.memory.is_free f) h) was now
-going_frees w e c v (accesses touch x p i h) f was now = none_freed w e f _ (ap (λ (v : World). v.memory.is_free f) h) was now
-going_frees w e c v (faults touch p i h) f was now = none_freed w e f _ (ap (λ (v : World). v.memory.is_free f) h) was now
-
 -- of one frame alone
 one_freed : (w : World) (e : Event) (x : ℕ) → IsFreedBy w e x → (f : ℕ) → w.memory.is_free f ≡ false → put w.memory.is_free x true f ≡ true → IsFreedBy w e f
 one_freed w e x by = put_all (λ f b. w.memory.is_free f ≡ false → b ≡ true → IsFreedBy w e f) w.memory.is_free x true (λ _ _. by) (λ f ne was now. absurd cc)
+
+-- a call gives back the frame that it had taken
+back_frees : (w : World) (e : Event) (c : ℕ) → core_of e ≡ Some c → (o : Option ℕ) → taken_in (w.calls.phase c) ≡ o → (f : ℕ)
+    → w.memory.is_free f ≡ false → given_back o w.memory.is_free f ≡ true → IsFreedBy w e f
+back_frees w e c by None k f was now = none_freed w e f _ refl was now
+back_frees w e c by (Some x) k f was now = one_freed w e x (by_call c by k) f was now
+
+going_frees : (w : World) (e : Event) (c : ℕ) (v : World) → core_of e ≡ Some c → GoesBy w c v → FreesOnly w e v
+going_frees w e c v by (moves new m h) f was now = none_freed w e f _ (ap (λ (v : World). v.memory.is_free f) h) was now
+going_frees w e c v by (divides goal cursor t p s h) f was now = none_freed w e f _ (ap (λ (v : World). v.memory.is_free f) h) was now
+going_frees w e c v by (owns goal cursor b t p l h) f was now = none_freed w e f _ (ap (λ (v : World). v.memory.is_free f) h) was now
+going_frees w e c v by (lets_go held b t new l u h) f was now = none_freed w e f _ (ap (λ (v : World). v.memory.is_free f) h) was now
+going_frees w e c v by (answers held reply r h) f was now = none_freed w e f _ (ap (λ (v : World). v.memory.is_free f) h) was now
+going_frees w e c v by (posts change shoot p h) f was now = none_freed w e f _ (ap (λ (v : World). v.memory.is_free f) h) was now
+going_frees w e c v by (commits change held counts p n l h) f was now = none_freed w e f _ (ap (λ (v : World). v.memory.is_free f) h) was now
+going_frees w e c v by (takes touch old x p l h) f was now =
+    absurd (put_all (λ f b. w.memory.is_free f ≡ false → b ≡ true → ⊥) w.memory.is_free x false (λ _ k. cc) (λ f ne a k. cc) f was
+    (sym (ap (λ (v : World). v.memory.is_free f) h) ∙ now))
+going_frees w e c v by (zeroes touch x counts p b t h) f was now = none_freed w e f _ (ap (λ (v : World). v.memory.is_free f) h) was now
+going_frees w e c v by (first_copies touch x counts p b t h) f was now = none_freed w e f _ (ap (λ (v : World). v.memory.is_free f) h) was now
+going_frees w e c v by (caches touch x counts p s n t h) f was now = none_freed w e f _ (ap (λ (v : World). v.memory.is_free f) h) was now
+going_frees w e c v by (shares touch own x counts p s n t h) f was now =
+    back_frees w e c by own (ap taken_in p) f was (sym (ap (λ (v : World). v.memory.is_free f) h) ∙ now)
+going_frees w e c v by (posts_copy touch x p h) f was now = none_freed w e f _ (ap (λ (v : World). v.memory.is_free f) h) was now
+going_frees w e c v by (copies touch x g counts p n a t h) f was now = none_freed w e f _ (ap (λ (v : World). v.memory.is_free f) h) was now
+going_frees w e c v by (installs touch p h) f was now = none_freed w e f _ (ap (λ (v : World). v.memory.is_free f) h) was now
+going_frees w e c v by (accesses touch x p i h) f was now = none_freed w e f _ (ap (λ (v : World). v.memory.is_free f) h) was now
+going_frees w e c v by (faults touch p i h) f was now = none_freed w e f _ (ap (λ (v : World). v.memory.is_free f) h) was now
 
 work_frees : (w : World) (e : Event) (c : ℕ) (v : World) → Works w c e v → FreesOnly w e v
 work_frees w e c v (clears i range k h) f was now = none_freed w e f _ (ap (λ (v : World). v.memory.is_free f) h) was now
@@ -61,20 +68,20 @@ work_frees w e c v (reviews i report counts t h) f was now = none_freed w e f _ 
 work_frees w e c v (frees i x counts t h) f was now =
     one_freed w e x (by_review c counts i t) f was (sym (ap (λ (v : World). v.memory.is_free f) h) ∙ now)
 
--- a call that is given up gives back the frame that it had taken
 give_up_frees : (w : World) (c : ℕ) (v : World) → v ≡ after_give_up c (w.calls.phase c) w → FreesOnly w (GiveUp c) v
-give_up_frees w c v h f was now = go (taken_in (w.calls.phase c)) refl (sym (ap (λ (v : World). v.memory.is_free f) h) ∙ now)
-  where
-    go : (o : Option ℕ) → taken_in (w.calls.phase c) ≡ o → given_back o w.memory.is_free f ≡ true → IsFreedBy w (GiveUp c) f
-    go None e k = none_freed w (GiveUp c) f _ refl was k
-    go (Some x) e k = one_freed w (GiveUp c) x (by_call c refl e) f was k
+give_up_frees w c v h f was now =
+    back_frees w (GiveUp c) c refl (taken_in (w.calls.phase c)) refl f was (sym (ap (λ (v : World). v.memory.is_free f) h) ∙ now)
+
+its_core : (c : ℕ) (e : Event) → IsGoing c e → core_of e ≡ Some c
+its_core c e going = refl
+its_core c e (picking f) = refl
 
 shape_frees : (w : World) (e : Event) (o : Outcome) (v : World) → Shape w e o v → FreesOnly w e v
 shape_frees w e o v (rests i h) f was now = none_freed w e f _ (ap (λ (v : World). v.memory.is_free f) h) was now
 shape_frees w e o v (begins c request i s lt p few h) f was now = none_freed w e f _ (ap (λ (v : World). v.memory.is_free f) h) was now
 shape_frees w e o v (ends c reply i s lt p h) f was now = none_freed w e f _ (ap (λ (v : World). v.memory.is_free f) h) was now
-shape_frees w e o v (goes c i s lt k) f was now = going_frees w e c v k f was now
-shape_frees w e o v (gives_up c i s lt can h) f was now = subst (λ e. IsFreedBy w e f) (sym i) (give_up_frees w c v h f was now)
+shape_frees w e o v (goes c i s lt k) f was now = going_frees w e c v (its_core c e i) k f was now
+shape_frees w e o v (gives_up c i s lt can u h) f was now = subst (λ e. IsFreedBy w e f) (sym i) (give_up_frees w c v h f was now)
 shape_frees w e o v (works c s lt k) f was now = work_frees w e c v k f was now
 shape_frees w e o v (joins p t i s page j m h) f was now = none_freed w e f _ (ap (λ (v : World). v.memory.is_free f) h) was now
 
@@ -111,14 +118,14 @@ rests_blocked w e o g (free c h p i) = unblocked w e o Idle i tt
 rests_blocked w e o g (cannot a b i) = unblocked w e o Idle i tt
 rests_blocked w e o g (waits c goal cursor by h p ne own i) =
     unblocked w e o (Wait (WaitsFor.Slot by)) i (c, h, ne, cursor, in_footprint w c goal cursor g p, own)
-rests_blocked w e o g (awaits c change held set h p a i) = unblocked w e o (Wait (WaitsFor.Acks set)) i (c, h, a)
+rests_blocked w e o g (awaits c range set h p a i) = unblocked w e o (Wait (WaitsFor.Acks set)) i (c, h, a)
 
 shape_blocked : (w : World) (e : Event) (o : Outcome) (v : World) → IsOrderly w → Shape w e o v → IsBlocked w e o
 shape_blocked w e o v g (rests i h) = rests_blocked w e o g i
 shape_blocked w e o v g (begins c request i s lt p few h) = unblocked w e o Stepped s tt
 shape_blocked w e o v g (ends c reply i s lt p h) = unblocked w e o (Answered reply) s tt
 shape_blocked w e o v g (goes c i s lt k) = unblocked w e o Stepped s tt
-shape_blocked w e o v g (gives_up c i s lt can h) = unblocked w e o Stepped s tt
+shape_blocked w e o v g (gives_up c i s lt can u h) = unblocked w e o Stepped s tt
 shape_blocked w e o v g (works c s lt k) = unblocked w e o Stepped s tt
 shape_blocked w e o v g (joins p t i s page j m h) = unblocked w e o Stepped s tt
 

@@ -1,6 +1,5 @@
 -- Each step from a fine state leaves a fine one, and so each reached state is fine.
-use Rattle.std.proofs.Common.{◌≡◌, ℕ, Bool, true, false, cond, refl, sym, ap, subst, None, Some, Option, List, [], ◌∷◌, ◌++◌, ◌∙◌, inl}
-use Rattle.std.specs.Prelude.{nat_le}
+use Rattle.std.proofs.Common.{◌≡◌, ℕ, true, refl, sym, ap, subst, Some, Option, List, [], ◌∷◌, ◌++◌, inl}
 use Rattle.vm_base.specs.declared.page.PageRange.{PageRange}
 use Rattle.vm_base.specs.declared.replies.Errno.TheVariants.{ENOMEM}
 use Rattle.vm_base.specs.declared.replies.Reply.{Reply}
@@ -12,12 +11,12 @@ use Rattle.slot_lock.specs.Plan.{range_of}
 use Rattle.machine_model.specs.declared.event.Event.{Event}
 use Rattle.machine_model.specs.declared.event.Event.TheVariants.{GiveUp}
 use Rattle.machine_model.specs.declared.event.Outcome.{Outcome}
-use Rattle.machine_model.specs.declared.phase.Goal.{Goal}
 use Rattle.machine_model.specs.declared.phase.Goal.TheVariants as To
 use Rattle.machine_model.specs.declared.phase.Phase.{Phase}
-use Rattle.machine_model.specs.declared.phase.Phase.TheVariants.{Free, Check, Lock, Decide, Post, Acks, Unlock, Answer, Try, Settle, Want, Fill, Install, Release}
+use Rattle.machine_model.specs.declared.phase.Phase.TheVariants.{Free, Check, Lock, Decide, Post, Acks, Unlock, Answer, Try, Settle, Want, Fill, CopyPost, CopyAcks, Install, Release}
 use Rattle.machine_model.specs.Actions.{after_reply}
-use Rattle.machine_model.specs.Accesses.{after_frame}
+use Rattle.machine_model.specs.Accesses.{after_frame, taken_for}
+use Rattle.machine_model.specs.Filling.{after_copy_post}
 use Rattle.machine_model.specs.Changes.{after_post}
 use Rattle.machine_model.specs.Counting.{with_counts, with_free}
 use Rattle.machine_model.specs.GivingUp.{after_give_up, given_back}
@@ -30,12 +29,14 @@ use Rattle.machine_laws.proofs.Kept.{kept as order_kept}
 use Rattle.machine_laws.proofs.Moves.{IsCallOf, call_at}
 use Rattle.machine_laws.specs.Brackets.{nth}
 use Rattle.machine_laws.specs.Orderly.{IsAsked}
-use Rattle.machine_laws.proofs.Shapes.{Moves, Replies, refuses, no_place, declines, fails, no_frame, LetsGo, GoesBy, moves, divides, owns, lets_go, answers, posts, commits, takes, fills, installs, accesses, faults, Works, clears, invalidates, walks, evicts, flushes, reviews, frees, Shape, rests, begins, ends, goes, gives_up, works, joins, Comes, stopped, acts as happens, comes}
+use Rattle.machine_laws.proofs.Shapes.{Replies, refuses, no_place, declines, fails, no_frame, GoesBy, moves, divides, owns, lets_go, answers, posts, commits, takes, zeroes, first_copies, caches, shares, posts_copy, copies, installs, accesses, faults, Works, clears, invalidates, walks, evicts, flushes, reviews, frees, Shape, rests, begins, ends, goes, gives_up, works, joins, Comes, stopped, acts as happens, comes}
 use Rattle.machine_coherence.proofs.Kept.{kept as translations_kept}
 use Rattle.machine_counting.proofs.Kept.{kept as counts_kept}
 use Rattle.machine_sound.specs.Sound.{IsReached, IsSoundState, IsSoundStep, Notes, SoundRun}
 use Rattle.machine_sound.specs.Invariant.{Fine}
-use Rattle.machine_sound.proofs.Accesses.{access_made, fault_told, no_frame_told, page_filled, core_installed}
+use Rattle.machine_counting.proofs.Kept.{unused_no_page}
+use Rattle.machine_sound.proofs.Accesses.{access_made, fault_told, no_frame_told, core_installed}
+use Rattle.machine_sound.proofs.Fills.{page_zeroed, page_first_copied, page_cached, page_shared, page_copied}
 use Rattle.machine_sound.proofs.Commits.{change_committed}
 use Rattle.machine_sound.proofs.Logs.{replays_requests}
 use Rattle.machine_sound.proofs.Moves as left
@@ -60,8 +61,8 @@ replies_left w event c held reply f (declines change errno e h r d) =
     subst (λ y. Leaves w event (after_reply c held y w)) (sym r)
     (left.answers w event c held (Refused errno) f k.asked.request k.asked.number (declined w f.plain c k.asked.request change errno f.good k.asked.passed d) tt)
 replies_left w event c held reply f (fails touch e h x) = fault_told w event c touch held reply e x f
-replies_left w event c held reply f (no_frame touch e h r none) =
-    subst (λ y. Leaves w event (after_reply c held y w)) (sym r) (no_frame_told w event c touch held e none f)
+replies_left w event c held reply f (no_frame touch old e h r none) =
+    subst (λ y. Leaves w event (after_reply c held y w)) (sym r) (no_frame_told w event c touch old held e none f)
 
 goes_left : (w : World) (event : Event) (c : ℕ) (v : World) → Fine w → GoesBy w c v → Leaves w event v
 goes_left w event c v f (moves new m h) = subst (Leaves w event) (sym h) (goes_on w event c new w.slots w.hardware w.memory f f.good)
@@ -79,9 +80,17 @@ goes_left w event c v f (posts change shoot e h) =
     (goes_on w event c (Acks change (range_of change)) w.slots (after_post c change shoot w).hardware w.memory f f.good)
 goes_left w event c v f (commits change held counts e n l h) =
     subst (Leaves w event) (sym h) (change_committed w event c change held counts e f)
-goes_left w event c v f (takes touch x e l h) =
-    subst (Leaves w event) (sym h) (goes_on w event c (Fill touch x) w.slots w.hardware (after_frame c touch x w).memory f (with_memory w f.plain f.good))
-goes_left w event c v f (fills touch x counts e t h) = subst (Leaves w event) (sym h) (page_filled w event c touch x counts e f)
+goes_left w event c v f (takes touch old x e l h) =
+    subst (Leaves w event) (sym h)
+    (goes_on w event c (taken_for touch old x) w.slots w.hardware (after_frame c touch old x w).memory f (with_memory w f.plain f.good))
+goes_left w event c v f (zeroes touch x counts e b t h) = subst (Leaves w event) (sym h) (page_zeroed w event c touch x counts e b f)
+goes_left w event c v f (first_copies touch x counts e b t h) = subst (Leaves w event) (sym h) (page_first_copied w event c touch x counts e b f)
+goes_left w event c v f (caches touch x counts e s n t h) = subst (Leaves w event) (sym h) (page_cached w event c touch x counts e s n f)
+goes_left w event c v f (shares touch own x counts e s i t h) = subst (Leaves w event) (sym h) (page_shared w event c touch own x counts e s i f)
+goes_left w event c v f (posts_copy touch x e h) =
+    subst (Leaves w event) (sym h)
+    (goes_on w event c (CopyAcks touch x) w.slots (after_copy_post c touch x w).hardware w.memory f f.good)
+goes_left w event c v f (copies touch x g counts e n at t h) = subst (Leaves w event) (sym h) (page_copied w event c touch x g counts e at f)
 goes_left w event c v f (installs touch e h) = subst (Leaves w event) (sym h) (core_installed w event c touch f)
 goes_left w event c v f (accesses touch x e i h) = subst (Leaves w event) (sym h) (access_made w event c touch x e i f)
 goes_left w event c v f (faults touch e i h) =
@@ -119,7 +128,9 @@ its_request made requests c call (Decide change) can h = (h.request, h.number)
 its_request made requests c call (Post change shoot) can h = (h.request, h.number)
 its_request made requests c call (Try touch) can h = (h.request, h.number)
 its_request made requests c call (Settle touch) can h = (h.request, h.number)
-its_request made requests c call (Want touch) can h = (h.request, h.number)
+its_request made requests c call (Want touch old) can h = (h.request, h.number)
+its_request made requests c call (CopyPost touch frame) can h = (h.request, h.number)
+its_request made requests c call (CopyAcks touch frame) can h = (h.request, h.number)
 its_request made requests c call (Fill touch frame) can h = (h.request, h.number)
 its_request made requests c call (Install touch) can h = (h.request, h.number)
 its_request made requests c call (Release touch) can h = (h.request, h.number)
@@ -139,7 +150,7 @@ shape_left w e o v f (rests i h) = subst (Leaves w e) (sym h) (stays w e f)
 shape_left w e o v f (begins c request i s lt p below h) = subst (Leaves w e) (sym h) (begun w e c request f)
 shape_left w e o v f (ends c reply i s lt p h) = subst (Leaves w e) (sym h) (goes_on w e c Free w.slots w.hardware w.memory f f.good)
 shape_left w e o v f (goes c i s lt g) = goes_left w e c v f g
-shape_left w e o v f (gives_up c i s lt can h) = subst (Leaves w e) (sym h) (subst (λ e. Leaves w e (after_give_up c (w.calls.phase c) w)) (sym i) (given_up w c f can))
+shape_left w e o v f (gives_up c i s lt can u h) = subst (Leaves w e) (sym h) (subst (λ e. Leaves w e (after_give_up c (w.calls.phase c) w)) (sym i) (given_up w c f can))
 shape_left w e o v f (works c s lt k) = works_left w e c v f k
 shape_left w e o v f (joins p t i s page j m h) =
     subst (Leaves w e) (sym h) (beside w e t w.hardware w.memory f (shows_same w f.plain t.info j.info f.good))
@@ -155,7 +166,7 @@ fine_step w v e o f s = go (comes w e o v s)
     whole l = (
       record {
         order = order_kept w v e o f.order s;
-        coherent = translations_kept w v e o f.order f.coherent s;
+        coherent = translations_kept w v e o f.order (λ c x p mine. unused_no_page w f.order f.counted x p (f.counted.taken c x mine)) f.coherent s;
         counted = counts_kept w v e o f.order f.counted s;
         plain = l.plain;
         log = l.log;
@@ -188,7 +199,7 @@ fine_run w [] (o ∷ os) v f r = absurd r
 fine_run w (e ∷ es) [] v f r = absurd r
 
 pub reached_fine : (w : World) → IsReached w → Fine w
-reached_fine w h = fine_run (new_world h.made h.slots) h.events h.outcomes w (fine_opening h.made h.slots h.no_files h.new) h.run
+reached_fine w h = fine_run (new_world h.made h.slots) h.events h.outcomes w (fine_opening h.made h.slots h.new) h.run
 
 pub reached_sound : (w : World) → IsReached w → IsSoundState w
 reached_sound w h = fine_sound w (reached_fine w h)
@@ -210,13 +221,12 @@ reached_step w v e o h s = record {
   slots = h.slots;
   events = h.events ++ e ∷ [];
   outcomes = h.outcomes ++ o ∷ [];
-  no_files = h.no_files;
   new = h.new;
   run = run_more h.events h.outcomes (new_world h.made h.slots) w v e o h.run s;
 }
 
-pub reached_opening : (made : Made) (slots : Slots) → ((n : ℕ) → made.file n ≡ None) → IsNew slots → IsReached (new_world made slots)
-reached_opening made slots none new = record { made = made; slots = slots; events = []; outcomes = []; no_files = none; new = new; run = refl }
+pub reached_opening : (made : Made) (slots : Slots) → IsNew slots → IsReached (new_world made slots)
+reached_opening made slots new = record { made = made; slots = slots; events = []; outcomes = []; new = new; run = refl }
 
 sound_run : (w : World) (es : List Event) (os : List Outcome) (v : World) → Fine w → Run w es os v → SoundRun w es os v
 sound_run w [] [] v f r = (fine_sound w f, r)
@@ -225,6 +235,6 @@ sound_run w (e ∷ es) (o ∷ os) v f r =
 sound_run w [] (o ∷ os) v f r = r
 sound_run w (e ∷ es) [] v f r = r
 
-pub runs_sound : (made : Made) (slots : Slots) (events : List Event) (outcomes : List Outcome) (w : World) → ((n : ℕ) → made.file n ≡ None) → IsNew slots
+pub runs_sound : (made : Made) (slots : Slots) (events : List Event) (outcomes : List Outcome) (w : World) → IsNew slots
     → Run (new_world made slots) events outcomes w → SoundRun (new_world made slots) events outcomes w
-runs_sound made slots events outcomes w none new r = sound_run (new_world made slots) events outcomes w (fine_opening made slots none new) r
+runs_sound made slots events outcomes w new r = sound_run (new_world made slots) events outcomes w (fine_opening made slots new) r

@@ -3,12 +3,13 @@ use Rattle.std.proofs.Common.{refl, subst, List, [], ◌∷◌, ◌++◌}
 use Rattle.vm_base.specs.declared.requests.Request.{Request}
 use Rattle.vm_base.specs.Plain.{Plain}
 use Rattle.machine_model.specs.declared.log.Entry.{Entry}
-use Rattle.machine_model.specs.declared.log.Entry.TheVariants.{Answer}
+use Rattle.machine_model.specs.declared.log.Entry.TheVariants.{Answer, Detach}
 use Rattle.machine_laws.proofs.Numbered.{at_old}
 use Rattle.machine_sound.specs.Log.{GoesOn, Replays}
 
 goes_on_more : (rs : List Request) (r : Request) (t : Plain) (e : Entry) (u : Plain) → GoesOn rs t e u → GoesOn (rs ++ r ∷ []) t e u
 goes_on_more rs r t (Answer step call core reply) u h = (h.0, at_old rs r call h.0 h.1, h.2)
+goes_on_more rs r t (Detach step call page) u h = h
 
 -- one request more changes nothing of what the log says
 pub replays_requests : (rs : List Request) (r : Request) (es : List Entry) (t u : Plain) → Replays rs t es u → Replays (rs ++ r ∷ []) t es u

@@ -1,5 +1,5 @@
 -- What a step leaves: a call goes on, or has its reply
-use Rattle.std.proofs.Common.{◌≡◌, ℕ, Bool, inl, inr, refl, sym, subst, Some, None, Option}
+use Rattle.std.proofs.Common.{◌≡◌, ℕ, Bool, false, inl, inr, refl, sym, subst, Some, Option}
 use Rattle.vm_base.specs.declared.info.PageInfo.{PageInfo}
 use Rattle.vm_base.specs.declared.page.PageRange.{PageRange}
 use Rattle.vm_base.specs.declared.replies.Reply.{Reply}
@@ -11,12 +11,15 @@ use Rattle.refcache.specs.Counts.{Counts}
 use Rattle.machine_model.specs.declared.event.Event.{Event}
 use Rattle.machine_model.specs.declared.log.Entry.{Entry}
 use Rattle.machine_model.specs.declared.phase.Phase.{Phase}
-use Rattle.machine_model.specs.Actions.{to, after_reply, answer_entry}
+use Rattle.machine_model.specs.Accesses.{is_past_end}
+use Rattle.machine_model.specs.Actions.{to, with_entry, after_reply, answer_entry, detach_entry}
 use Rattle.machine_model.specs.World.{World, Hardware, Memory}
 use Rattle.machine_laws.specs.Brackets.{nth}
-use Rattle.machine_sound.specs.Log.{Replays, Stands}
+use Rattle.vm_base.specs.declared.rights.Access.TheVariants.{Store}
+use Rattle.vm_base.specs.Apply.{detached}
+use Rattle.machine_sound.specs.Log.{CanAccess, Replays, Stands}
 use Rattle.machine_sound.specs.Sound.{IsDue, Notes}
-use Rattle.machine_sound.specs.Invariant.{Fine, Shows, Good, ShowsPage, ShowsFile, IsAnonymous, own_frame}
+use Rattle.machine_sound.specs.Invariant.{Fine, Shows, Good, ShowsPage, ShowsFile, own_frame}
 use Rattle.machine_sound.proofs.Logs.{replays_more}
 
 -- the state v after a step from w by this event, but for its order, its translations and its counts
@@ -37,13 +40,14 @@ pub shows_less : (w : World) (t u : Plain) (info : ℕ → Option PageInfo) (byt
     → ((n : ℕ) → ShowsFile bytes (w.memory.cached n) (w.made.file n) (u.file n))
     → ((p f : ℕ) → frame_of (info p) ≡ Some f → frame_of (w.slots.info p) ≡ Some f)
     → ((p f : ℕ) → own_frame w.memory.cached (info p) ≡ Some f → own_frame w.memory.cached (w.slots.info p) ≡ Some f)
-    → ((p : ℕ) → IsAnonymous (info p))
+    → ((p f : ℕ) → frame_of (info p) ≡ Some f → is_past_end w.made.file (info p) ≡ false)
     → Shows w.made.file info (record w.memory { bytes = bytes }) u
-shows_less w t u info bytes g pages files fewer own anonymous = record {
+shows_less w t u info bytes g pages files fewer own whole = record {
   pages = pages;
   files = files;
   apart = λ p q f h k. g.apart p q f (own p f h) (fewer q f k);
-  no_files = record { none = g.no_files.none; uncached = g.no_files.uncached; anonymous = anonymous };
+  unfiled = λ p n k f h. g.unfiled p n k f (own p f h);
+  whole = whole;
 }
 
 -- pages that have the same
@@ -53,11 +57,11 @@ shows_same w t info same g = subst (λ info. Shows w.made.file info w.memory t) 
 -- free frames and counts aren't shown
 pub with_memory : (w : World) (t : Plain) {is_free : ℕ → Bool} {counts : Counts} → Good w t
     → Shows w.made.file w.slots.info (record w.memory { is_free = is_free; counts = counts }) t
-with_memory w t g = record { pages = g.pages; files = g.files; apart = g.apart; no_files = g.no_files }
+with_memory w t g = record { pages = g.pages; files = g.files; apart = g.apart; unfiled = g.unfiled; whole = g.whole }
 
 pub with_counts_shown : (file : ℕ → Option File) (info : ℕ → Option PageInfo) (m : Memory) (counts : Counts) (t : Plain) → Shows file info m t
     → Shows file info (record m { counts = counts }) t
-with_counts_shown file info m counts t g = record { pages = g.pages; files = g.files; apart = g.apart; no_files = g.no_files }
+with_counts_shown file info m counts t g = record { pages = g.pages; files = g.files; apart = g.apart; unfiled = g.unfiled; whole = g.whole }
 
 -- ---- the call of core c goes on
 
@@ -69,6 +73,20 @@ goes_on w event c phase s h m f good = record { plain = f.plain; log = f.log; go
 pub beside : (w : World) (event : Event) (s : Slots) (h : Hardware) (m : Memory) (f : Fine w)
     → Shows w.made.file s.info m f.plain → Leaves w event (record w { slots = s; hardware = h; memory = m })
 beside w event s h m f good = record { plain = f.plain; log = f.log; good = good; notes = inl refl }
+
+-- ---- the call of core c goes on, and its page has a copy
+
+pub copies_on : (w : World) (event : Event) (c page : ℕ) (phase : Phase) (s : Slots) (h : Hardware) (m : Memory) (f : Fine w) (u : Plain)
+    → CanAccess f.plain.file (f.plain.entry page) Store → detached f.plain page ≡ Some u → Shows w.made.file s.info m u
+    → Leaves w event (to c phase (with_entry (detach_entry w c page) (record w { slots = s; hardware = h; memory = m })))
+copies_on w event c page phase s h m f u can is good =
+    let entry : Entry = detach_entry w c page in
+    record {
+      plain = u;
+      log = replays_more w.calls.requests w.calls.log (nothing_mapped w.made.file) f.plain u entry f.log (can, is);
+      good = good;
+      notes = inr (entry, refl, refl, tt);
+    }
 
 -- ---- the call of core c has its reply
 

@@ -7,14 +7,14 @@ use Rattle.machine_model.specs.World.{Made, new_memory, new_world}
 use Rattle.machine_laws.proofs.Opening.{opening_is_orderly}
 use Rattle.machine_coherence.proofs.Kept.{opening as opening_is_coherent}
 use Rattle.machine_counting.proofs.Kept.{opening_is_counted}
-use Rattle.machine_sound.specs.Invariant.{Fine, ShowsPage, ShowsFile, IsAnonymous}
+use Rattle.machine_sound.specs.Invariant.{Fine, ShowsPage, ShowsFile}
 
 shows_itself : (o : Option File) → ShowsFile (λ f. zeros) (λ k. None) o o
 shows_itself None = tt
 shows_itself (Some f) = (refl, refl, λ k. refl)
 
-pub fine_opening : (made : Made) (slots : Slots) → ((n : ℕ) → made.file n ≡ None) → IsNew slots → Fine (new_world made slots)
-fine_opening made slots none new = record {
+pub fine_opening : (made : Made) (slots : Slots) → IsNew slots → Fine (new_world made slots)
+fine_opening made slots new = record {
   order = opening_is_orderly made slots new;
   coherent = opening_is_coherent made slots;
   counted = opening_is_counted made slots new;
@@ -24,7 +24,8 @@ fine_opening made slots none new = record {
     pages = λ p. subst (λ o. ShowsPage (new_memory made) o None) (sym (new.unmapped p)) tt;
     files = λ n. shows_itself (made.file n);
     apart = λ p q f h k. absurd (bare q f k);
-    no_files = record { none = none; uncached = λ n k. refl; anonymous = λ p. subst IsAnonymous (sym (new.unmapped p)) tt };
+    unfiled = λ p n k f h i. absurd cc;
+    whole = λ p f h. absurd (bare p f h);
   };
 }
   where

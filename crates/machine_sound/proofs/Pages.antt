@@ -1,32 +1,93 @@
 -- Pages with a frame and without, and what the plain page map answers there
 use Rattle.std.proofs.Common.{◌≡◌, ◌≢◌, ℕ, Bool, true, false, cond, refl, sym, ap, subst, Some, None, Option, ◌∙◌}
-use Rattle.std.specs.Prelude.{is_some, if◌then◌else◌}
+use Rattle.std.specs.Prelude.{◌&&◌, not, nat_lt, is_some, if◌then◌else◌}
 use Rattle.vm_base.specs.declared.info.Back.{Back}
-use Rattle.vm_base.specs.declared.info.Back.TheVariants.{Anon}
+use Rattle.vm_base.specs.declared.info.Back.TheVariants.{Anon, Shared, Private}
 use Rattle.vm_base.specs.declared.info.PageInfo.{PageInfo}
 use Rattle.vm_base.specs.declared.replies.Reply.{Reply}
-use Rattle.vm_base.specs.declared.replies.Reply.TheVariants.{Segv}
+use Rattle.vm_base.specs.declared.replies.Reply.TheVariants.{Segv, Bus}
 use Rattle.vm_base.specs.declared.replies.SegvCode.TheVariants.{MapErr, AccErr}
 use Rattle.vm_base.specs.declared.rights.Access.{Access}
 use Rattle.vm_base.specs.declared.rights.Access.TheVariants.{Load, Store, Fetch}
 use Rattle.vm_base.specs.Functions.{put}
 use Rattle.vm_base.specs.Info.{frame_of}
-use Rattle.vm_base.specs.Plain.{Bytes, File, Entry, Plain, bytes_of, bytes_in}
+use Rattle.vm_base.specs.Plain.{Bytes, File, Entry, Plain, bytes_of, back_bytes, bytes_in, file_bytes}
 use Rattle.vm_base.specs.Rights.{is_allowed}
-use Rattle.vm_base.specs.Apply.{bytes_reply, needs_copy, byte_reply, entry_reply, stored_entry, stored_own}
-use Rattle.vm_base.proofs.Functions.{put_all, put_same, put_other}
-use Rattle.machine_model.specs.Accesses.{is_past_end}
+use Rattle.vm_base.specs.Apply.{bytes_reply, needs_copy, is_uncopied, byte_reply, entry_reply, first_own}
+use Rattle.vm_base.proofs.Functions.{put_other, eq_true}
+use Rattle.vm_calls.specs.Settling.{is_cached}
+use Rattle.machine_model.specs.Accesses.{is_past_end, lies_past_end}
+use Rattle.machine_model.specs.Files.{shows_file, is_private, page_now, bytes_shown}
 use Rattle.machine_model.specs.World.{World, Memory}
 use Rattle.machine_laws.specs.Orderly.{IsUsable}
 use Rattle.mmu.specs.declared.entry.Translation.{Translation}
 use Rattle.mmu.specs.Entry.{permits}
 use Rattle.machine_sound.specs.Log.{CanAccess}
 use Rattle.machine_sound.specs.Translations.{Agrees, AgreesWith, HasBytes}
-use Rattle.machine_sound.specs.Invariant.{Good, ShowsPage, ShowsFile, Owns, MayOwn, IsAnonymous, shows_file, own_frame, own_frame_of}
+use Rattle.machine_sound.specs.Invariant.{Good, ShowsPage, ShowsFile, Owns, MayOwn, own_frame, own_frame_of}
 
 -- the memory with other bytes of a frame
 abbrev pub with_bytes : Memory → ℕ → Bytes → Memory
 with_bytes m f x = record m { bytes = put m.bytes f x }
+
+-- ---- pages of files
+
+is_there : (b : Bool) (x : Bytes) → is_some (if b then Some x else None) ≡ b
+is_there true x = refl
+is_there false x = refl
+
+-- a file keeps its pages
+there_still : (bytes : ℕ → Bytes) (cached : ℕ → Option ℕ) (first now : Option File) (k : ℕ) → ShowsFile bytes cached first now
+    → is_some (file_bytes now k) ≡ is_some (file_bytes first k)
+there_still bytes cached None None k h = refl
+there_still bytes cached (Some a) (Some b) k h =
+    is_there (nat_lt k b.count) (b.bytes k) ∙ (ap (nat_lt k) (sym h.1) ∙ sym (is_there (nat_lt k a.count) (a.bytes k)))
+there_still bytes cached None (Some b) k h = absurd h
+there_still bytes cached (Some a) None k h = absurd h
+
+in_bounds : (b : Bool) (x : Bytes) → is_some (if b then Some x else None) ≡ true → ◌≡◌ {A = Option Bytes} (if b then Some x else None) (Some x)
+in_bounds true x h = refl
+in_bounds false x h = absurd cc
+
+-- a page of a file that is there has the bytes of its frame, if one caches it, and else the first ones
+pub file_now : (m : Memory) (n k : ℕ) (first now : Option File) → ShowsFile m.bytes (m.cached n) first now
+    → is_some (file_bytes first k) ≡ true → file_bytes now k ≡ Some (page_now m first n k)
+file_now m n k None now h i = absurd cc
+file_now m n k (Some a) None h i = absurd h
+file_now m n k (Some a) (Some b) h i =
+    in_bounds (nat_lt k b.count) (b.bytes k) (there_still m.bytes (m.cached n) (Some a) (Some b) k h ∙ i) ∙ ap Some (h.2 k)
+
+-- a frame that caches a file's page has its bytes
+now_cached : (m : Memory) (n k f : ℕ) (first : Option File) → is_some (file_bytes first k) ≡ true → m.cached n k ≡ Some f
+    → page_now m first n k ≡ m.bytes f
+now_cached m n k f None i h = absurd cc
+now_cached m n k f (Some a) i h = ap (bytes_in m.bytes (a.bytes k)) h
+
+not_false : (b : Bool) → not b ≡ false → b ≡ true
+not_false true h = refl
+not_false false h = absurd cc
+
+pub is_it : (o : Option ℕ) (f : ℕ) → is_cached o f ≡ true → o ≡ Some f
+is_it None f h = absurd cc
+is_it (Some g) f h = ap Some (eq_true g f h)
+
+-- what a page of a file shows that has no bytes of its own
+pub shown_now : (w : World) (t : Plain) (back : Back) → ((n : ℕ) → ShowsFile w.memory.bytes (w.memory.cached n) (w.made.file n) (t.file n))
+    → back ≢ Anon → lies_past_end w.made.file back ≡ false → back_bytes t.file back ≡ Some (bytes_shown w.made.file w.memory back)
+shown_now w t Anon files of_file within = absurd (of_file refl)
+shown_now w t (Shared n k) files of_file within = file_now w.memory n k (w.made.file n) (t.file n) (files n) (not_false _ within)
+shown_now w t (Private n k) files of_file within = file_now w.memory n k (w.made.file n) (t.file n) (files n) (not_false _ within)
+
+-- by a frame that caches its file page
+shown_by : (w : World) (t : Plain) (back : Back) (f : ℕ) → ((n : ℕ) → ShowsFile w.memory.bytes (w.memory.cached n) (w.made.file n) (t.file n))
+    → lies_past_end w.made.file back ≡ false → shows_file w.memory.cached back f ≡ true → back_bytes t.file back ≡ Some (w.memory.bytes f)
+shown_by w t Anon f files within h = absurd cc
+shown_by w t (Shared n k) f files within h =
+    file_now w.memory n k (w.made.file n) (t.file n) (files n) (not_false _ within)
+    ∙ ap Some (now_cached w.memory n k f (w.made.file n) (not_false _ within) (is_it (w.memory.cached n k) f h))
+shown_by w t (Private n k) f files within h =
+    file_now w.memory n k (w.made.file n) (t.file n) (files n) (not_false _ within)
+    ∙ ap Some (now_cached w.memory n k f (w.made.file n) (not_false _ within) (is_it (w.memory.cached n k) f h))
 
 -- ---- a page with a frame
 
@@ -36,50 +97,75 @@ pub record IsFramed (w : World) (t : Plain) (p f : ℕ) : Type 0 where
   pub at_slot : w.slots.info p ≡ Some info
   pub at_page : t.entry p ≡ Some entry
   pub frame : info.frame ≡ Some f
-  pub anonymous : info.meta.back ≡ Anon
-  pub back : entry.back ≡ Anon
+  pub back : info.meta.back ≡ entry.back
   pub prot : info.meta.prot ≡ entry.prot
-  pub own : entry.own ≡ Some (w.memory.bytes f)
-
--- an anonymous page's frame has its bytes
-own_bytes : (m : Memory) (back : Back) (frame : Option ℕ) (f : ℕ) (own : Option Bytes) → back ≡ Anon → frame ≡ Some f → Owns m back frame own → own ≡ Some (m.bytes f)
-own_bytes m back frame f own a e h = (subst (λ b. Owns m b (Some f) own) a (subst (λ x. Owns m back x own) e h)).1
+  pub owns : cond (shows_file w.memory.cached info.meta.back f) (entry.own ≡ None) (MayOwn info.meta.back × (entry.own ≡ Some (w.memory.bytes f)))
+  -- its bytes are the frame's
+  pub bytes : bytes_of t.file entry.back entry.own ≡ Some (w.memory.bytes f)
 
 pub framed : (w : World) (t : Plain) (p f : ℕ) → Good w t → frame_of (w.slots.info p) ≡ Some f → IsFramed w t p f
-framed w t p f g h = go (w.slots.info p) (t.entry p) refl refl (g.pages p) (g.no_files.anonymous p) h
+framed w t p f g h = go (w.slots.info p) (t.entry p) refl refl (g.pages p) (g.whole p f h) h
   where
-    go : (o : Option PageInfo) (z : Option Entry) → w.slots.info p ≡ o → t.entry p ≡ z → ShowsPage w.memory o z → IsAnonymous o → frame_of o ≡ Some f → IsFramed w t p f
-    go None z a b s anonymous h = absurd cc
-    go (Some info) None a b s anonymous h = absurd s
-    go (Some info) (Some entry) a b s anonymous h = record {
-      info = info;
-      entry = entry;
-      at_slot = a;
-      at_page = b;
-      frame = h;
-      anonymous = anonymous;
-      back = sym s.0 ∙ anonymous;
-      prot = s.1;
-      own = own_bytes w.memory info.meta.back info.frame f entry.own anonymous h s.2;
-    }
+    bytes : (info : PageInfo) (entry : Entry) → info.meta.back ≡ entry.back → lies_past_end w.made.file info.meta.back ≡ false → (b : Bool)
+        → shows_file w.memory.cached info.meta.back f ≡ b → cond b (entry.own ≡ None) (MayOwn info.meta.back × (entry.own ≡ Some (w.memory.bytes f)))
+        → bytes_of t.file entry.back entry.own ≡ Some (w.memory.bytes f)
+    bytes info entry back within true i own =
+        ap (bytes_of t.file entry.back) own ∙ (ap (back_bytes t.file) (sym back) ∙ shown_by w t info.meta.back f g.files within i)
+    bytes info entry back within false i own = ap (bytes_of t.file entry.back) own.1
+
+    go : (o : Option PageInfo) (z : Option Entry) → w.slots.info p ≡ o → t.entry p ≡ z → ShowsPage w.memory o z
+        → is_past_end w.made.file o ≡ false → frame_of o ≡ Some f → IsFramed w t p f
+    go None z a b s within h = absurd cc
+    go (Some info) None a b s within h = absurd s
+    go (Some info) (Some entry) a b s within h =
+        let owns = subst (λ x. Owns w.memory info.meta.back x entry.own) h s.2 in
+        record {
+          info = info;
+          entry = entry;
+          at_slot = a;
+          at_page = b;
+          frame = h;
+          back = s.0;
+          prot = s.1;
+          owns = owns;
+          bytes = bytes info entry s.0 within (shows_file w.memory.cached info.meta.back f) refl owns;
+        }
+
+-- no copy of the page is due where it doesn't show its file's page as a private one
+uncopied : (cached : ℕ → ℕ → Option ℕ) (back : Back) (f : ℕ) (own : Option Bytes) (x : Bytes)
+    → (is_private back && shows_file cached back f) ≡ false
+    → cond (shows_file cached back f) (own ≡ None) (MayOwn back × (own ≡ Some x)) → is_uncopied back own ≡ false
+uncopied cached Anon f own x h s = refl
+uncopied cached (Shared n k) f own x h s = refl
+uncopied cached (Private n k) f own x h s = go (shows_file cached (Private n k) f) h s
+  where
+    go : (b : Bool) → b ≡ false → cond b (own ≡ None) (Unit {0} × (own ≡ Some x)) → is_uncopied (Private n k) own ≡ false
+    go true h s = absurd cc
+    go false h s = ap (is_uncopied (Private n k)) s.1
+
+pub is_copied : (w : World) (t : Plain) (p f : ℕ) (k : IsFramed w t p f)
+    → (is_private k.info.meta.back && shows_file w.memory.cached k.info.meta.back f) ≡ false → is_uncopied k.entry.back k.entry.own ≡ false
+is_copied w t p f k h =
+    ap (λ back. is_uncopied back k.entry.own) (sym k.back)
+    ∙ uncopied w.memory.cached k.info.meta.back f k.entry.own (w.memory.bytes f) h k.owns
 
 -- what the plain page map answers to an access of it
 abbrev pub answer_of : (ℕ → Option File) → Access → ℕ → Bool → Back → Option Bytes → Option Reply
 answer_of files access i allowed back own = cond allowed (bytes_reply (needs_copy access back own) (bytes_of files back own) access i) (Some (Segv AccErr))
 
--- an anonymous page is never copied
-anonymous_answer : (files : ℕ → Option File) (access : Access) (i : ℕ) (bytes : Bytes) → answer_of files access i true Anon (Some bytes) ≡ Some (byte_reply access (bytes i))
-anonymous_answer files Load i bytes = refl
-anonymous_answer files Store i bytes = refl
-anonymous_answer files Fetch i bytes = refl
+no_copy : (access : Access) (back : Back) (own : Option Bytes) → (access ≡ Store → is_uncopied back own ≡ false) → needs_copy access back own ≡ false
+no_copy Load back own h = refl
+no_copy Store back own h = h refl
+no_copy Fetch back own h = refl
 
 pub framed_reply : (w : World) (t : Plain) (p f : ℕ) (access : Access) (i : ℕ) (k : IsFramed w t p f) → is_allowed k.info.meta.prot access ≡ true
+    → (access ≡ Store → (is_private k.info.meta.back && shows_file w.memory.cached k.info.meta.back f) ≡ false)
     → entry_reply t.file (t.entry p) access i ≡ Some (byte_reply access (w.memory.bytes f i))
-framed_reply w t p f access i k allowed =
+framed_reply w t p f access i k allowed writes =
     ap (λ z. entry_reply t.file z access i) k.at_page
     ∙ (ap (λ b. answer_of t.file access i b k.entry.back k.entry.own) (sym (ap (λ prot. is_allowed prot access) k.prot) ∙ allowed)
-    ∙ (ap (λ back. answer_of t.file access i true back k.entry.own) k.back
-    ∙ (ap (λ own. answer_of t.file access i true Anon own) k.own ∙ anonymous_answer t.file access i (w.memory.bytes f))))
+    ∙ (ap (λ o. bytes_reply (needs_copy access k.entry.back k.entry.own) o access i) k.bytes
+    ∙ ap (λ b. bytes_reply b (Some (w.memory.bytes f)) access i) (no_copy access k.entry.back k.entry.own (λ s. is_copied w t p f k (writes s)))))
 
 -- a translation that leads to the page's frame, and permits only what the page allows, agrees with the plain page map
 pub has_frame_bytes : (w : World) (t : Plain) (p : ℕ) (e : Translation) (k : IsFramed w t p e.frame)
@@ -87,11 +173,8 @@ pub has_frame_bytes : (w : World) (t : Plain) (p : ℕ) (e : Translation) (k : I
 has_frame_bytes w t p e k allowed =
     subst (AgreesWith w.memory.bytes e t.file) (sym k.at_page) (
       λ access h. subst (λ prot. is_allowed prot access ≡ true) k.prot (allowed access h),
-      subst (HasBytes (w.memory.bytes e.frame)) (sym bytes) (λ i lt. refl),
+      subst (HasBytes (w.memory.bytes e.frame)) (sym k.bytes) (λ i lt. refl),
     )
-  where
-    bytes : bytes_of t.file k.entry.back k.entry.own ≡ Some (w.memory.bytes e.frame)
-    bytes = ap (λ back. bytes_of t.file back k.entry.own) k.back ∙ ap (bytes_of t.file Anon) k.own
 
 -- ---- replies that need no frame
 
@@ -110,28 +193,66 @@ forbidden_reply w t p access i info g h forbidden = go (t.entry p) (subst (λ o.
     go None s = absurd s
     go (Some entry) s = ap (λ b. answer_of t.file access i b entry.back entry.own) (sym (ap (λ prot. is_allowed prot access) s.1) ∙ forbidden)
 
--- no page lies past the end of a file, since there is none
-pub within : (w : World) (t : Plain) (p : ℕ) (info : PageInfo) → Good w t → w.slots.info p ≡ Some info → is_past_end w.made.file (Some info) ≡ false
-within w t p info g h =
-    let a : info.meta.back ≡ Anon = subst IsAnonymous h (g.no_files.anonymous p) in
-    ap (λ back. is_past_end w.made.file (Some (record info { meta = record info.meta { back = back } }))) a
+-- ---- whether a page has bytes
 
--- an anonymous page has bytes, with a frame and without
-some_bytes : (m : Memory) (files : ℕ → Option File) (frame : Option ℕ) (own : Option Bytes) → Owns m Anon frame own → is_some (bytes_of files Anon own) ≡ true
-some_bytes m files None own h = ap (λ o. is_some (bytes_of files Anon o)) h
-some_bytes m files (Some f) own h = ap (λ o. is_some (bytes_of files Anon o)) h.1
+-- without a frame and bytes of its own a page has bytes where its file page is there
+none_owned : (w : World) (t : Plain) (back : Back) → ((n : ℕ) → ShowsFile w.memory.bytes (w.memory.cached n) (w.made.file n) (t.file n))
+    → is_some (bytes_of t.file back (first_own back)) ≡ not (lies_past_end w.made.file back)
+none_owned w t Anon files = refl
+none_owned w t (Shared n k) files = there_still w.memory.bytes (w.memory.cached n) (w.made.file n) (t.file n) k (files n) ∙ twice _
+  where
+    twice : (b : Bool) → b ≡ not (not b)
+    twice true = refl
+    twice false = refl
+none_owned w t (Private n k) files = there_still w.memory.bytes (w.memory.cached n) (w.made.file n) (t.file n) k (files n) ∙ twice _
+  where
+    twice : (b : Bool) → b ≡ not (not b)
+    twice true = refl
+    twice false = refl
+
+-- a mapped page has bytes unless its file page lies past its file's end
+pub has_bytes : (w : World) (t : Plain) (p : ℕ) (info : PageInfo) (entry : Entry) → Good w t → w.slots.info p ≡ Some info → t.entry p ≡ Some entry
+    → is_some (bytes_of t.file entry.back entry.own) ≡ not (is_past_end w.made.file (Some info))
+has_bytes w t p info entry g a b = go info.frame refl
+  where
+    s : ShowsPage w.memory (Some info) (Some entry)
+    s = subst (λ z. ShowsPage w.memory (Some info) z) b (subst (λ o. ShowsPage w.memory o (t.entry p)) a (g.pages p))
+
+    go : (o : Option ℕ) → info.frame ≡ o → is_some (bytes_of t.file entry.back entry.own) ≡ not (is_past_end w.made.file (Some info))
+    go None e =
+        let own : entry.own ≡ first_own info.meta.back = subst (λ x. Owns w.memory info.meta.back x entry.own) e s.2 in
+        ap (λ o. is_some (bytes_of t.file entry.back o)) own
+        ∙ (ap (λ back. is_some (bytes_of t.file back (first_own info.meta.back))) (sym s.0) ∙ none_owned w t info.meta.back g.files)
+    go (Some f) e =
+        let at : frame_of (w.slots.info p) ≡ Some f = ap frame_of a ∙ e in
+        let k : IsFramed w t p f = framed w t p f g at in
+        let same : k.entry ≡ entry = let x = k.at_page in cc in
+        let within : is_past_end w.made.file (Some info) ≡ false = ap (is_past_end w.made.file) (sym a) ∙ g.whole p f at in
+        ap (λ (x : Entry). is_some (bytes_of t.file x.back x.own)) (sym same) ∙ (ap is_some k.bytes ∙ sym (ap not within))
+
+-- an access to a page past the end of its file
+pub past_reply : (w : World) (t : Plain) (p : ℕ) (access : Access) (i : ℕ) (info : PageInfo) → Good w t → w.slots.info p ≡ Some info
+    → is_allowed info.meta.prot access ≡ true → is_past_end w.made.file (Some info) ≡ true → entry_reply t.file (t.entry p) access i ≡ Some Bus
+past_reply w t p access i info g h allowed past = go (t.entry p) refl (subst (λ o. ShowsPage w.memory o (t.entry p)) h (g.pages p))
+  where
+    bus : (copy : Bool) (o : Option Bytes) → is_some o ≡ false → bytes_reply copy o access i ≡ Some Bus
+    bus copy None h = refl
+    bus copy (Some x) h = absurd cc
+
+    go : (z : Option Entry) → t.entry p ≡ z → ShowsPage w.memory (Some info) z → entry_reply t.file z access i ≡ Some Bus
+    go None e s = absurd s
+    go (Some entry) e s =
+        ap (λ b. answer_of t.file access i b entry.back entry.own) (sym (ap (λ prot. is_allowed prot access) s.1) ∙ allowed)
+        ∙ bus (needs_copy access entry.back entry.own) (bytes_of t.file entry.back entry.own) (has_bytes w t p info entry g h e ∙ ap not past)
 
 pub can_access : (w : World) (t : Plain) (p : ℕ) (access : Access) (frame : Option ℕ) → Good w t → IsUsable w.made.file (w.slots.info p) access frame → CanAccess t.file (t.entry p) access
-can_access w t p access frame g u = go (w.slots.info p) (t.entry p) (g.pages p) (g.no_files.anonymous p) u
+can_access w t p access frame g u = go (w.slots.info p) (t.entry p) refl refl (g.pages p) u
   where
-    go : (o : Option PageInfo) (z : Option Entry) → ShowsPage w.memory o z → IsAnonymous o → IsUsable w.made.file o access frame → CanAccess t.file z access
-    go None z s a u = absurd u
-    go (Some info) None s a u = absurd s
-    go (Some info) (Some entry) s a u = (
-      sym (ap (λ prot. is_allowed prot access) s.1) ∙ u.0,
-      subst (λ back. is_some (bytes_of t.file back entry.own) ≡ true) (sym (sym s.0 ∙ a))
-          (some_bytes w.memory t.file info.frame entry.own (subst (λ back. Owns w.memory back info.frame entry.own) a s.2)),
-    )
+    go : (o : Option PageInfo) (z : Option Entry) → w.slots.info p ≡ o → t.entry p ≡ z → ShowsPage w.memory o z → IsUsable w.made.file o access frame → CanAccess t.file z access
+    go None z a b s u = absurd u
+    go (Some info) None a b s u = absurd s
+    go (Some info) (Some entry) a b s u =
+        (sym (ap (λ prot. is_allowed prot access) s.1) ∙ u.0, has_bytes w t p info entry g a b ∙ ap not u.1)
 
 -- ---- new bytes of one frame
 
@@ -177,29 +298,9 @@ pub own_is_frame : (cached : ℕ → ℕ → Option ℕ) (o : Option PageInfo) (
 own_is_frame cached None f h = absurd cc
 own_is_frame cached (Some info) f h = own_of cached info.meta.back info.frame f h
 
--- ---- a store to a page with a frame
+-- a frame that doesn't show the file's page is the page's own
+pub own_so : (cached : ℕ → ℕ → Option ℕ) (back : Back) (f : ℕ) → shows_file cached back f ≡ false → own_frame_of cached back (Some f) ≡ Some f
+own_so cached back f h = ap (λ b. if b then None else Some f) h
 
-pub framed_own : (w : World) (t : Plain) (p f : ℕ) (k : IsFramed w t p f) → own_frame w.memory.cached (w.slots.info p) ≡ Some f
-framed_own w t p f k =
-    ap (own_frame w.memory.cached) k.at_slot ∙ (ap (λ back. own_frame_of w.memory.cached back k.info.frame) k.anonymous ∙ ap (own_frame_of w.memory.cached Anon) k.frame)
-
--- the plain page map with other bytes of the page
-abbrev pub with_own : Plain → ℕ → Entry → Bytes → Plain
-with_own t p entry x = record t { entry = put t.entry p (Some (record entry { own = Some x })) }
-
-pub stored_is : (w : World) (t : Plain) (p f i byte : ℕ) (k : IsFramed w t p f) → stored_entry t p (t.entry p) i byte ≡ with_own t p k.entry (put (w.memory.bytes f) i byte)
-stored_is w t p f i byte k = ap (λ z. stored_entry t p z i byte) k.at_page ∙ ap (λ own. stored_own t p k.entry own i byte) k.own
-
-pub pages_stored : (w : World) (t : Plain) (p f : ℕ) (x : Bytes) (k : IsFramed w t p f) → Good w t → (q : ℕ) → ShowsPage (with_bytes w.memory f x) (w.slots.info q) ((with_own t p k.entry x).entry q)
-pages_stored w t p f x k g =
-    put_all (λ q z. ShowsPage (with_bytes w.memory f x) (w.slots.info q) z) t.entry p (Some (record k.entry { own = Some x }))
-    (subst (λ o. ShowsPage (with_bytes w.memory f x) o (Some (record k.entry { own = Some x }))) (sym k.at_slot) (
-      k.anonymous ∙ sym k.back,
-      k.prot,
-      subst (λ back. Owns (with_bytes w.memory f x) back k.info.frame (Some x)) (sym k.anonymous)
-          (subst (λ frame. Owns (with_bytes w.memory f x) Anon frame (Some x)) (sym k.frame) (tt, ap Some (sym (put_same w.memory.bytes f x)))),
-    ))
-    (λ q ne. page_kept w.memory f x (w.slots.info q) (t.entry q) (λ h. ne (sym (g.apart p q f (framed_own w t p f k) (own_is_frame w.memory.cached (w.slots.info q) f h)))) (g.pages q))
-
-pub files_stored : (w : World) (t : Plain) (p f : ℕ) (x : Bytes) (k : IsFramed w t p f) → Good w t → (n : ℕ) → ShowsFile (put w.memory.bytes f x) (w.memory.cached n) (w.made.file n) (t.file n)
-files_stored w t p f x k g n = file_kept w.memory.bytes f x (w.memory.cached n) (w.made.file n) (t.file n) (λ l h. let none = g.no_files.uncached n l in cc) (g.files n)
+pub own_none : (cached : ℕ → ℕ → Option ℕ) (back : Back) (f : ℕ) → shows_file cached back f ≡ true → own_frame_of cached back (Some f) ≡ None
+own_none cached back f h = ap (λ b. if b then None else Some f) h

@@ -1,6 +1,6 @@
 -- A translation leads an access to its page's frame, where the page's protection allows the access.
-use Rattle.std.proofs.Common.{◌≡◌, ◌≢◌, ℕ, zero, suc, Bool, true, false, cond, refl, sym, ap, subst, arith, Some, None, Option, List, [], ◌∷◌, ◌∙◌}
-use Rattle.std.specs.Prelude.{◌==◌, ◌||◌, if◌then◌else◌, slice_get}
+use Rattle.std.proofs.Common.{◌≡◌, ℕ, zero, suc, Bool, true, false, refl, sym, ap, subst, arith, Some, None, Option, List, [], ◌∷◌, ◌∙◌}
+use Rattle.std.specs.Prelude.{◌==◌, ◌&&◌, if◌then◌else◌, slice_get}
 use Rattle.std.proofs.lemmas.Bool.Decides.{nat_tests}
 use Rattle.vm_base.specs.declared.info.PageInfo.{PageInfo}
 use Rattle.vm_base.specs.declared.rights.Access.{Access}
@@ -10,84 +10,103 @@ use Rattle.vm_base.specs.Rights.{is_allowed}
 use Rattle.slot_lock.specs.declared.plan.Touch.{Touch}
 use Rattle.mmu.specs.declared.entry.Translation.{Translation}
 use Rattle.mmu.specs.declared.tlb.TlbEntry.{TlbEntry}
-use Rattle.mmu.specs.declared.translated.Translated.{Translated}
 use Rattle.mmu.specs.declared.translated.Translated.TheVariants as By
 use Rattle.mmu.specs.Entry.{permits, has_right, translation_of}
 use Rattle.mmu.specs.Tables.{translated, hit, fill}
 use Rattle.mmu.specs.Tlb.{tlb_at}
 use Rattle.machine_model.specs.declared.phase.Phase.{Phase}
-use Rattle.machine_model.specs.Translating.{translated_by, frame_reached, entry_for, entry_of_page}
+use Rattle.machine_model.specs.Files.{is_private, prot_shown, prot_installed, shows_file, shows_some}
+use Rattle.machine_model.specs.Translating.{translated_by, frame_reached, entry_for}
 use Rattle.machine_model.specs.World.{Hardware}
-use Rattle.machine_coherence.specs.Coherent.{Every, IsBacked, IsCoherent, IsSoundEntry, AllowsSome}
+use Rattle.machine_coherence.specs.Coherent.{Every, IsBacked, IsCoherent, IsSoundEntry}
 
 -- ---- a translation that a page backs
 
 -- every access that the translation permits is allowed
-pub permits_allowed : (prot : Prot) (f : ℕ) (access : Access) → has_right prot ≡ true → permits (translation_of f prot) access ≡ true → is_allowed prot access ≡ true
-permits_allowed prot f Load right h = right
-permits_allowed prot f Store right h = h
-permits_allowed prot f Fetch right h = h
+permits_allowed : (shown : Bool) (prot : Prot) (f : ℕ) (access : Access) → has_right prot ≡ true
+    → permits (translation_of f (prot_shown shown prot)) access ≡ true → is_allowed prot access ≡ true
+permits_allowed shown prot f Load right h = right
+permits_allowed true prot f Store right h = absurd cc
+permits_allowed false prot f Store right h = h
+permits_allowed true prot f Fetch right h = h
+permits_allowed false prot f Fetch right h = h
+
+-- and a store only where the page doesn't show its file's page as a private one
+writes_unshown : (shown : Bool) (prot : Prot) (f : ℕ) → permits (translation_of f (prot_shown shown prot)) Store ≡ true → shown ≡ false
+writes_unshown true prot f h = absurd cc
+writes_unshown false prot f h = refl
 
 -- the page is mapped, with the translation's frame and rights
-pub record HasPage (o : Option PageInfo) (t : Translation) : Type 0 where
+pub record HasPage (cached : ℕ → ℕ → Option ℕ) (o : Option PageInfo) (t : Translation) : Type 0 where
   pub info : PageInfo
   pub mapped : o ≡ Some info
   pub frame : info.frame ≡ Some t.frame
-  pub rights : t ≡ translation_of t.frame info.meta.prot
+  pub rights : t ≡ translation_of t.frame (prot_installed cached info)
   pub right : has_right info.meta.prot ≡ true
 
-pub backs : (o : Option PageInfo) (c : ℕ) (t : Translation) → IsBacked o c t → HasPage o t
-backs None c t b = absurd b.right
-backs (Some info) c t b = go info.frame refl b.entry
+pub backs : (cached : ℕ → ℕ → Option ℕ) (o : Option PageInfo) (c : ℕ) (t : Translation) → IsBacked cached o c t → HasPage cached o t
+backs cached None c t b = absurd b.right
+backs cached (Some info) c t b = go info.frame refl b.entry
   where
-    go : (frame : Option ℕ) → info.frame ≡ frame → entry_for info.meta.prot frame ≡ Some t → HasPage (Some info) t
+    go : (frame : Option ℕ) → info.frame ≡ frame → entry_for (prot_installed cached info) frame ≡ Some t → HasPage cached (Some info) t
     go None e h = absurd cc
     go (Some f) e h =
-        let same : translation_of f info.meta.prot ≡ t = cc in
+        let same : translation_of f (prot_installed cached info) ≡ t = cc in
         record {
           info = info;
           mapped = refl;
           frame = e ∙ ap (λ (t : Translation). Some t.frame) same;
-          rights = sym same ∙ ap (λ (x : Translation). translation_of x.frame info.meta.prot) same;
+          rights = sym same ∙ ap (λ (x : Translation). translation_of x.frame (prot_installed cached info)) same;
           right = b.right;
         }
 
-pub allows : (o : Option PageInfo) (t : Translation) (k : HasPage o t) (access : Access) → permits t access ≡ true → is_allowed k.info.meta.prot access ≡ true
-allows o t k access h = permits_allowed k.info.meta.prot t.frame access k.right (subst (λ x. permits x access ≡ true) k.rights h)
+pub allows : (cached : ℕ → ℕ → Option ℕ) (o : Option PageInfo) (t : Translation) (k : HasPage cached o t) (access : Access) → permits t access ≡ true
+    → is_allowed k.info.meta.prot access ≡ true
+allows cached o t k access h =
+    permits_allowed (is_private k.info.meta.back && shows_some cached k.info.meta.back k.info.frame) k.info.meta.prot t.frame access k.right
+    (subst (λ x. permits x access ≡ true) k.rights h)
 
 -- ---- an access
 
 -- the page is mapped with this frame, and its protection allows the access
-pub record ReachesFrame (o : Option PageInfo) (access : Access) (f : ℕ) : Type 0 where
+pub record ReachesFrame (cached : ℕ → ℕ → Option ℕ) (o : Option PageInfo) (access : Access) (f : ℕ) : Type 0 where
   pub page : PageInfo
   pub mapped : o ≡ Some page
   pub frame : page.frame ≡ Some f
   pub allowed : is_allowed page.meta.prot access ≡ true
+  pub writes : access ≡ Store → (is_private page.meta.back && shows_file cached page.meta.back f) ≡ false
 
 -- by a translation that permits it
-by_translation : (o : Option PageInfo) (c : ℕ) (t : Translation) (access : Access) (f : ℕ) → IsBacked o c t → (b : Bool) → permits t access ≡ b
-    → (b ≡ true → t.frame ≡ f) → b ≡ true → ReachesFrame o access f
-by_translation o c t access f backed b e same is_true =
-    let k : HasPage o t = backs o c t backed in
+by_translation : (cached : ℕ → ℕ → Option ℕ) (o : Option PageInfo) (c : ℕ) (t : Translation) (access : Access) (f : ℕ) → IsBacked cached o c t
+    → permits t access ≡ true → t.frame ≡ f → ReachesFrame cached o access f
+by_translation cached o c t access f backed e same =
+    let k : HasPage cached o t = backs cached o c t backed in
+    let at : k.info.frame ≡ Some f = k.frame ∙ ap Some same in
     record {
       page = k.info;
       mapped = k.mapped;
-      frame = k.frame ∙ ap Some (same is_true);
-      allowed = allows o t k access (e ∙ is_true);
+      frame = at;
+      allowed = allows cached o t k access e;
+      writes = λ store.
+          ap (λ x. is_private k.info.meta.back && shows_some cached k.info.meta.back x) (sym at)
+          ∙ writes_unshown (is_private k.info.meta.back && shows_some cached k.info.meta.back k.info.frame) k.info.meta.prot t.frame
+          (subst (λ x. permits x Store ≡ true) k.rights (subst (λ a. permits t a ≡ true) store e));
     }
 
-hits : (o : Option PageInfo) (c : ℕ) (t : Translation) (access : Access) (f : ℕ) → IsBacked o c t → frame_reached (hit t access) ≡ Some f → ReachesFrame o access f
-hits o c t access f backed h = go (permits t access) refl h
+hits : (cached : ℕ → ℕ → Option ℕ) (o : Option PageInfo) (c : ℕ) (t : Translation) (access : Access) (f : ℕ) → IsBacked cached o c t
+    → frame_reached (hit t access) ≡ Some f → ReachesFrame cached o access f
+hits cached o c t access f backed h = go (permits t access) refl h
   where
-    go : (b : Bool) → permits t access ≡ b → frame_reached (if b then By.Hit t.frame else By.Fault) ≡ Some f → ReachesFrame o access f
-    go true e k = by_translation o c t access f backed true e (λ _. cc) refl
+    go : (b : Bool) → permits t access ≡ b → frame_reached (if b then By.Hit t.frame else By.Fault) ≡ Some f → ReachesFrame cached o access f
+    go true e k = by_translation cached o c t access f backed e cc
     go false e k = absurd cc
 
-fills : (o : Option PageInfo) (c : ℕ) (t : Translation) (access : Access) (f : ℕ) → IsBacked o c t → frame_reached (fill (Some t) access) ≡ Some f → ReachesFrame o access f
-fills o c t access f backed h = go (permits t access) refl h
+fills : (cached : ℕ → ℕ → Option ℕ) (o : Option PageInfo) (c : ℕ) (t : Translation) (access : Access) (f : ℕ) → IsBacked cached o c t
+    → frame_reached (fill (Some t) access) ≡ Some f → ReachesFrame cached o access f
+fills cached o c t access f backed h = go (permits t access) refl h
   where
-    go : (b : Bool) → permits t access ≡ b → frame_reached (if b then By.Fill t.frame else By.Fault) ≡ Some f → ReachesFrame o access f
-    go true e k = by_translation o c t access f backed true e (λ _. cc) refl
+    go : (b : Bool) → permits t access ≡ b → frame_reached (if b then By.Fill t.frame else By.Fault) ≡ Some f → ReachesFrame cached o access f
+    go true e k = by_translation cached o c t access f backed e cc
     go false e k = absurd cc
 
 -- what holds of all entries of a TLB holds of the one of a page
@@ -102,14 +121,17 @@ at_page P (x ∷ es) p t h e = go (λ k. at_page P es p t h.1 k) (x.page == p) r
         subst (λ q. P (record { page = q; translation = t })) same (subst (λ y. P (record { page = x.page; translation = y })) its h.0)
     go rest false i k = rest k
 
-pub reaches : (pages : ℕ → Option PageInfo) (phase : ℕ → Phase) (h : Hardware) (c : ℕ) (touch : Touch) (f : ℕ) → IsCoherent pages phase h
-    → frame_reached (translated_by h c touch) ≡ Some f → ReachesFrame (pages touch.page) touch.access f
-reaches pages phase h c touch f k e = go (tlb_at (h.tlb c) touch.page) (h.table c touch.page) refl refl e
+pub reaches : (cached : ℕ → ℕ → Option ℕ) (pages : ℕ → Option PageInfo) (phase : ℕ → Phase) (h : Hardware) (c : ℕ) (touch : Touch) (f : ℕ)
+    → IsCoherent cached pages phase h
+    → frame_reached (translated_by h c touch) ≡ Some f → ReachesFrame cached (pages touch.page) touch.access f
+reaches cached pages phase h c touch f k e = go (tlb_at (h.tlb c) touch.page) (h.table c touch.page) refl refl e
   where
-    go : (cached entry : Option Translation) → tlb_at (h.tlb c) touch.page ≡ cached → h.table c touch.page ≡ entry
-        → frame_reached (translated cached entry touch.access) ≡ Some f → ReachesFrame (pages touch.page) touch.access f
-    go (Some t) entry i j r = hits (pages touch.page) c t touch.access f (at_page (IsSoundEntry pages c (h.table c) (h.inbox c)) (h.tlb c) touch.page t (k.tlbs c) i).0 r
-    go None (Some t) i j r = fills (pages touch.page) c t touch.access f (k.tables c touch.page t j) r
+    go : (held entry : Option Translation) → tlb_at (h.tlb c) touch.page ≡ held → h.table c touch.page ≡ entry
+        → frame_reached (translated held entry touch.access) ≡ Some f → ReachesFrame cached (pages touch.page) touch.access f
+    go (Some t) entry i j r =
+        hits cached (pages touch.page) c t touch.access f
+        (at_page (IsSoundEntry cached pages c (h.table c) (h.inbox c)) (h.tlb c) touch.page t (k.tlbs c) i).0 r
+    go None (Some t) i j r = fills cached (pages touch.page) c t touch.access f (k.tables c touch.page t j) r
     go None None i j r = absurd cc
 
 -- an entry at a place of a TLB

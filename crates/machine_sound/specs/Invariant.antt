@@ -1,5 +1,5 @@
 -- What the states of a run have in common beside their order, their translations and their counts: each shows the plain page map to which its log leads.
-use Rattle.std.specs.Prelude.{◌≡◌, ◌≢◌, ℕ, Bool, false, cond, if◌then◌else◌, List, [], Option, None, Some}
+use Rattle.std.specs.Prelude.{◌≡◌, ◌≢◌, ℕ, false, cond, if◌then◌else◌, List, Option, None, Some}
 use Rattle.vm_base.specs.declared.info.Back.{Back}
 use Rattle.vm_base.specs.declared.info.Back.TheVariants.{Anon, Shared, Private}
 use Rattle.vm_base.specs.declared.info.PageInfo.{PageInfo}
@@ -8,39 +8,17 @@ use Rattle.vm_base.specs.Apply.{first_own}
 use Rattle.vm_base.specs.Info.{frame_of}
 use Rattle.vm_base.specs.Plain.{Bytes, File, Entry as PageEntry, Plain, nothing_mapped, bytes_in}
 use Rattle.slot_lock.specs.Slots.{Slots}
-use Rattle.vm_calls.specs.Settling.{is_cached}
 use Rattle.machine_model.specs.declared.log.Entry.{Entry}
 use Rattle.machine_model.specs.declared.phase.Phase.{Phase}
+use Rattle.machine_model.specs.Accesses.{is_past_end}
+use Rattle.machine_model.specs.Files.{shows_file}
 use Rattle.machine_model.specs.World.{World, Made, Hardware, Memory}
 use Rattle.machine_laws.specs.Orderly.{Order}
 use Rattle.machine_coherence.specs.Coherent.{IsCoherent}
 use Rattle.machine_counting.specs.Counted.{IsCounted}
 use Rattle.machine_sound.specs.Log.{Replays}
 
--- ---- what this machine doesn't have yet
-
--- there are no files, so all mapped pages are anonymous, and no file page is cached (this goes with the growth to files)
-
-abbrev pub IsAnonymous : Option PageInfo → Type 0
-IsAnonymous None = Unit {0}
-IsAnonymous (Some info) = info.meta.back ≡ Anon
-
-pub record HasNoFiles (file : ℕ → Option File) (cached : ℕ → ℕ → Option ℕ) (info : ℕ → Option PageInfo) : Type 0 where
-  pub none : (n : ℕ) → file n ≡ None
-  pub uncached : (n k : ℕ) → cached n k ≡ None
-  pub anonymous : (p : ℕ) → IsAnonymous (info p)
-
 -- ---- frames
-
--- the frame that caches the page's file page
-abbrev pub file_frame : (ℕ → ℕ → Option ℕ) → Back → Option ℕ
-file_frame cached Anon = None
-file_frame cached (Shared n k) = cached n k
-file_frame cached (Private n k) = cached n k
-
--- a page with this frame shows its file's page, and not own bytes
-abbrev pub shows_file : (ℕ → ℕ → Option ℕ) → Back → ℕ → Bool
-shows_file cached back f = is_cached (file_frame cached back) f
 
 -- the frame that a page shares with no other and with no file
 abbrev pub own_frame_of : (ℕ → ℕ → Option ℕ) → Back → Option ℕ → Option ℕ
@@ -54,6 +32,10 @@ own_frame cached (Some info) = own_frame_of cached info.meta.back info.frame
 -- a page's own frame is no other page's
 abbrev pub AreApart : (ℕ → ℕ → Option ℕ) → (ℕ → Option PageInfo) → Type 0
 AreApart cached info = (p q f : ℕ) → own_frame cached (info p) ≡ Some f → frame_of (info q) ≡ Some f → p ≡ q
+
+-- nor a file's
+abbrev pub AreUnfiled : (ℕ → ℕ → Option ℕ) → (ℕ → Option PageInfo) → Type 0
+AreUnfiled cached info = (p n k f : ℕ) → own_frame cached (info p) ≡ Some f → cached n k ≢ Some f
 
 -- ---- the plain page map that a state shows
 
@@ -88,7 +70,9 @@ pub record Shows (file : ℕ → Option File) (info : ℕ → Option PageInfo) (
   pub pages : (p : ℕ) → ShowsPage m (info p) (t.entry p)
   pub files : (n : ℕ) → ShowsFile m.bytes (m.cached n) (file n) (t.file n)
   pub apart : AreApart m.cached info
-  pub no_files : HasNoFiles file m.cached info
+  pub unfiled : AreUnfiled m.cached info
+  -- a page with a frame doesn't lie past the end of its file
+  pub whole : (p f : ℕ) → frame_of (info p) ≡ Some f → is_past_end file (info p) ≡ false
 
 abbrev pub Good : World → Plain → Type 0
 Good w t = Shows w.made.file w.slots.info w.memory t
@@ -100,7 +84,7 @@ Good w t = Shows w.made.file w.slots.info w.memory t
 pub record Fit (made : Made) (s : Slots) (h : Hardware) (m : Memory) (phase : ℕ → Phase) (number : ℕ → ℕ) (requests : List Request)
     (entries : List Entry) : Type 0 where
   pub order : Order made s m phase number requests entries
-  pub coherent : IsCoherent s.info phase h
+  pub coherent : IsCoherent m.cached s.info phase h
   pub counted : IsCounted s.info phase m
   pub plain : Plain
   pub log : Replays requests (nothing_mapped made.file) entries plain

@@ -12,9 +12,9 @@ use Rattle.vm_base.specs.Pages.{page_of}
 use Rattle.vm_base.specs.Rights.{is_allowed}
 use Rattle.vm_base.specs.Plain.{File, Entry as PageEntry, Plain, bytes_of, mode_of}
 use Rattle.vm_base.specs.Refusals.{refusal}
-use Rattle.vm_base.specs.Apply.{Applies}
+use Rattle.vm_base.specs.Apply.{Applies, detached}
 use Rattle.machine_model.specs.declared.log.Entry.{Entry}
-use Rattle.machine_model.specs.declared.log.Entry.TheVariants.{Answer}
+use Rattle.machine_model.specs.declared.log.Entry.TheVariants.{Answer, Detach}
 use Rattle.machine_laws.specs.Brackets.{nth}
 
 -- ---- accesses that would be served
@@ -56,10 +56,12 @@ Stands t core request NoFrame u = IsServable t request × (u ≡ t)
 Stands t core request NoMemory u = u ≡ t
 Stands t core request y u = cond (is_placed request) (FindsNoPlace t request y u) (Applies t core request y u)
 
--- the entry, where these are the requests of the calls in order
+-- The entry, where these are the requests of the calls in order. A page gets a copy of its own where it is a private page that shows its
+-- file's bytes, and a store to it is allowed.
 abbrev pub GoesOn : List Request → Plain → Entry → Plain → Type 0
 GoesOn requests t (Answer step call core reply) u =
     (request : Request) × (nth requests call ≡ Some request) × Stands t core request reply u
+GoesOn requests t (Detach step call page) u = CanAccess t.file (t.entry page) Store × (detached t page ≡ Some u)
 
 -- the entries, applied in order, lead from t to u
 abbrev pub Replays : List Request → Plain → List Entry → Plain → Type 0

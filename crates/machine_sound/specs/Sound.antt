@@ -1,5 +1,5 @@
 -- What holds in each state that a machine reaches, and of each step from there
-use Rattle.std.specs.Prelude.{◌≡◌, ◌≢◌, ℕ, ◌⊎◌, Bool, true, false, List, [], ◌∷◌, ◌++◌, slice_get, None, Some, pos}
+use Rattle.std.specs.Prelude.{◌≡◌, ◌≢◌, ℕ, suc, ◌⊎◌, Bool, true, false, List, [], ◌∷◌, ◌++◌, slice_get, Some, pos}
 use Rattle.vm_base.specs.declared.replies.Reply.TheVariants.{NoFrame, NoMemory}
 use Rattle.vm_base.specs.Plain.{Plain, nothing_mapped}
 use Rattle.slot_lock.specs.Slots.{Slots, IsNew}
@@ -18,6 +18,7 @@ use Rattle.machine_model.specs.declared.log.Entry.{Entry}
 use Rattle.machine_model.specs.declared.log.Entry.TheVariants.{Answer}
 use Rattle.machine_model.specs.World.{World, Made, new_world}
 use Rattle.machine_model.specs.Accesses.{NoneFree}
+use Rattle.machine_model.specs.Events.{core_of}
 use Rattle.machine_model.specs.Changes.{Awaits}
 use Rattle.machine_model.specs.Holding.{range_in, some_has, taken_in}
 use Rattle.machine_model.specs.Step.{Step, Run}
@@ -39,8 +40,9 @@ pub record IsSound (w : World) (t : Plain) : Type 0 where
   pub recorded : (c p : ℕ) (e : Translation) → w.hardware.table c p ≡ Some e → is_recorded (w.slots.info p) c ≡ true
   -- an entry of a core's TLB: its tables have it, or it was cleared from them and its oldest message isn't acknowledged yet
   pub mirrors : (c i : ℕ) (e : TlbEntry) → slice_get (w.hardware.tlb c) i ≡ Some e → Mirrors (w.hardware.table c) (w.hardware.inbox c) e
-  -- each frame counts the pages that have it
-  pub users : (f : ℕ) → true_count w.memory.counts f ≡ pos (users_of w.slots.info f)
+  -- each frame counts the pages that have it, and one more where it caches a page of a file
+  pub users : (f : ℕ) → ((n k : ℕ) → w.memory.cached n k ≢ Some f) → true_count w.memory.counts f ≡ pos (users_of w.slots.info f)
+  pub cached : (n k f : ℕ) → w.memory.cached n k ≡ Some f → true_count w.memory.counts f ≡ pos (suc (users_of w.slots.info f))
 
 abbrev pub IsSoundState : World → Type 0
 IsSoundState w = (t : Plain) × IsSound w t
@@ -59,10 +61,10 @@ Notes w event v =
     (v.calls.log ≡ w.calls.log)
     ⊎ ((entry : Entry) × (v.calls.log ≡ w.calls.log ++ entry ∷ []) × (step_of entry ≡ v.calls.events) × IsDue event w.memory.is_free entry)
 
--- what made a frame free: a review of Refcache, or the end of a call that had taken it for a page
+-- what made a frame free: a review of Refcache, or a call that had taken it for a page, and is given up or shows a file's frame instead
 pub data IsFreedBy (w : World) (event : Event) (f : ℕ) : Type 0 where
   by_review : (c : ℕ) (counts : Counts) → event ≡ Review c → Takes w.memory.counts (Reviewing c (review.Freed f)) counts → IsFreedBy w event f
-  by_call : (c : ℕ) → event ≡ GiveUp c → taken_in (w.calls.phase c) ≡ Some f → IsFreedBy w event f
+  by_call : (c : ℕ) → core_of event ≡ Some c → taken_in (w.calls.phase c) ≡ Some f → IsFreedBy w event f
 
 -- no other frame becomes free
 abbrev pub FreesOnly : World → Event → World → Type 0
@@ -84,13 +86,12 @@ pub record IsSoundStep (w : World) (event : Event) (outcome : Outcome) (v : Worl
 
 -- ---- states that are reached
 
--- A run of a machine over new slots leads to w, with any number of cores and any order of events. No setup has files yet.
+-- A run of a machine over new slots leads to w, with any number of cores, any files and any order of events.
 pub record IsReached (w : World) : Type 0 where
   pub made : Made
   pub slots : Slots
   pub events : List Event
   pub outcomes : List Outcome
-  pub no_files : (n : ℕ) → made.file n ≡ None
   pub new : IsNew slots
   pub run : Run (new_world made slots) events outcomes w
 
@@ -113,5 +114,4 @@ SoundRun w (e ∷ es) [] v = ⊥
 
 abbrev pub AllRunsSound : Type 0
 AllRunsSound = (made : Made) (slots : Slots) (events : List Event) (outcomes : List Outcome) (w : World)
-    → ((n : ℕ) → made.file n ≡ None) → IsNew slots
-    → Run (new_world made slots) events outcomes w → SoundRun (new_world made slots) events outcomes w
+    → IsNew slots → Run (new_world made slots) events outcomes w → SoundRun (new_world made slots) events outcomes w
