@@ -1,10 +1,12 @@
 -- What the code learns of the core that is to make a step: it knows only that the state is one that runs reach
-use Rattle.std.proofs.Common.{◌≡◌, ◌≢◌, ℕ, ◌+◌, ◌<◌, ◌≤◌, ◌^◌, ◌==◌, ◌||◌, Bool, true, false, length, List, [], ◌∷◌, Option, Some, None, is_some, refl, sym, subst, ap, arith, cond, ◌∙◌, pos, ◌<ℤ◌}
+use Rattle.std.proofs.Common.{◌≡◌, ◌≢◌, ℕ, ◌+◌, ◌<◌, ◌≤◌, ◌^◌, ◌==◌, ◌||◌, Bool, true, false, length, List, [], ◌∷◌, Option, Some, None, is_some, refl, sym, subst, ap, arith, cond, ◌∙◌, pos, ◌<ℤ◌, ◌≤ℤ◌, ◌&&◌}
 use Rattle.std.specs.Prelude.{if◌then◌else◌, IfSome}
 use Rattle.std.proofs.Math.Logic.{∥∥₁_elim, ∥∥₁_map}
 use Rattle.std.proofs.Props.{props}
 use Rattle.std.proofs.lemmas.Bool.Decides.{nat_tests}
-use Rattle.vm_base.specs.declared.info.Back.TheVariants.{Anon}
+use Rattle.std.proofs.lemmas.Int.{ints}
+use Rattle.vm_base.specs.declared.info.Back.{Back}
+use Rattle.vm_base.specs.declared.info.Back.TheVariants.{Anon, Shared, Private}
 use Rattle.vm_base.specs.declared.info.PageInfo.{PageInfo}
 use Rattle.vm_base.specs.declared.page.PageRange.{PageRange}
 use Rattle.vm_base.specs.declared.rights.Access.{Access}
@@ -44,18 +46,20 @@ use Rattle.refcache.proofs.Reached.{reached_is_orderly}
 use Rattle.machine_model.specs.declared.phase.Goal.{Goal}
 use Rattle.machine_model.specs.declared.phase.Goal.TheVariants as To
 use Rattle.machine_model.specs.declared.phase.Phase.{Phase}
-use Rattle.machine_model.specs.declared.phase.Phase.TheVariants.{Free, Check, Lock, Decide, Post, Acks, Unlock, Answer, Try, Settle, Want, Fill, Install, Release}
+use Rattle.machine_model.specs.declared.phase.Phase.TheVariants.{Free, Check, Lock, Decide, Post, Acks, Unlock, Answer, Try, Settle, Want, Fill, CopyPost, CopyAcks, Install, Release}
 use Rattle.machine_model.specs.World.{World}
 use Rattle.machine_model.specs.Changes.{AwaitsNobody}
+use Rattle.machine_model.specs.Files.{is_private, shows_some, prot_shown, prot_installed}
 use Rattle.machine_model.specs.Holding.{can_give_up, awaits_in, goal_plan, goal_range, holds, is_open, page_of_touch, plan_in, range_held, some_has, taken_in}
 use Rattle.machine_model.specs.Translating.{entry_for, entry_of_page, translated_by, frame_reached}
-use Rattle.machine_counting.proofs.Kept.{counted_positive}
-use Rattle.machine_laws.specs.Orderly.{IsOrderly, IsAsked, IsCutFor, IsCutRange, IsUsable, Serves}
+use Rattle.machine_counting.specs.Counted.{users_of}
+use Rattle.machine_counting.proofs.Kept.{counted_positive, framed_page}
+use Rattle.machine_laws.specs.Orderly.{IsOrderly, IsAsked, IsCutFor, IsCutRange, IsUsable, Serves, answer_count}
 use Rattle.machine_laws.proofs.Deciding.{IsUnplaced, change_sound, touch_sound, sound_range}
 use Rattle.machine_laws.proofs.Moves.{call_at, IsCallOf}
 use Rattle.machine_laws.proofs.OpenCalls.{one, open_put}
 use Rattle.machine_coherence.specs.Coherent.{Every, IsSoundEntry, AreAsked}
-use Rattle.machine_sound.specs.Invariant.{Fine, IsAnonymous, own_frame, own_frame_of}
+use Rattle.machine_sound.specs.Invariant.{Fine}
 use Rattle.core_steps.specs.Moving.{IsAt}
 use Rattle.core_steps.specs.Taking.{AreCounted}
 
@@ -67,7 +71,7 @@ order i = ∥∥₁_map i.fine (λ g. g.order)
 -- ---- room for a reply
 
 opens : (w : World) (c : ℕ) (phase : Phase) → w.calls.phase c ≡ phase → is_open phase ≡ true → c < w.made.cores → IsOrderly w
-    → length w.calls.log < w.made.calls
+    → answer_count w.calls.log < w.made.calls
 opens w c phase e o h g =
     let was : one (w.calls.phase c) ≡ 1 = ap one e ∙ ap (λ b. cond b 1 0) o in
     let put = open_put w.calls.phase c Free w.made.cores h in
@@ -75,7 +79,7 @@ opens w c phase e o h g =
     let limit = g.limit in
     omega (arith, was, put, room, limit)
 
-pub room_for : (w : World) (c : ℕ) (phase : Phase) → IsAt w c phase → is_open phase ≡ true → length w.calls.log < w.made.calls
+pub room_for : (w : World) (c : ℕ) (phase : Phase) → IsAt w c phase → is_open phase ≡ true → answer_count w.calls.log < w.made.calls
 room_for w c phase i o = ∥∥₁_elim (order i) (hlevel props) (opens w c phase i.phase o i.here)
 
 -- ---- what a call owns
@@ -110,18 +114,8 @@ counts_sized w g = (g.order.memory.cores, g.order.memory.objects)
 pages_counted : (w : World) → Fine w → (p f : ℕ) → frame_of (w.slots.info p) ≡ Some f → pos 0 <ℤ true_count w.memory.counts f
 pages_counted w g p f h = counted_positive w g.order g.counted f p h
 
--- all mapped pages are anonymous yet
-own_frame_is : (o : Option PageInfo) (f : ℕ) (cached : ℕ → ℕ → Option ℕ) → IsAnonymous o → frame_of o ≡ Some f → own_frame cached o ≡ Some f
-own_frame_is None f cached a h = absurd cc
-own_frame_is (Some info) f cached a h = rw a (go info.frame h)
-  where
-    go : (o : Option ℕ) → o ≡ Some f → own_frame_of cached Anon o ≡ Some f
-    go None e = absurd cc
-    go (Some x) e = e
-
-pages_apart : (w : World) → Fine w → (p q f : ℕ) → frame_of (w.slots.info p) ≡ Some f → frame_of (w.slots.info q) ≡ Some f → p ≡ q
-pages_apart w g p q f h i =
-    g.good.apart p q f (own_frame_is (w.slots.info p) f w.memory.cached (g.good.no_files.anonymous p) h) i
+users_counted : (w : World) → Fine w → (f : ℕ) → pos (users_of w.slots.info f) ≤ℤ true_count w.memory.counts f
+users_counted w g f = let a = g.counted.users f in omega (arith, ints, a)
 
 free_is_unused : (w : World) → Fine w → (f : ℕ) → w.memory.is_free f ≡ true → IsUnused w.memory.counts f
 free_is_unused w g f h = g.counted.free f h
@@ -133,22 +127,25 @@ taken_is_busy : (w : World) → Fine w → (c f : ℕ) → taken_in (w.calls.pha
 taken_is_busy w g c f h = g.counted.busy c f h
 
 -- what backs a translation: a mapped page of the machine's, which has a frame of the machine's
-backed_here : (w : World) (p core : ℕ) (e : Translation) → IsOrderly w → (o : Option PageInfo) → w.slots.info p ≡ o → entry_of_page o ≡ Some e
+backed_here : (w : World) (p core : ℕ) (e : Translation) → IsOrderly w → (o : Option PageInfo) → w.slots.info p ≡ o → entry_of_page w.memory.cached o ≡ Some e
     → IsPage p × (e.frame < w.made.frames)
 backed_here w p core e g None same h = absurd cc
 backed_here w p core e g (Some info) same h =
     let at = framed info.frame h in
     ((g.pages p).valid (ap is_some same), (g.pages p).frame e.frame (ap frame_of same ∙ at))
   where
-    framed : (o : Option ℕ) → entry_for info.meta.prot o ≡ Some e → o ≡ Some e.frame
+    prot : Prot
+    prot = prot_installed w.memory.cached info
+
+    framed : (o : Option ℕ) → entry_for prot o ≡ Some e → o ≡ Some e.frame
     framed None k = absurd cc
-    framed (Some f) k = let same_entry : translation_of f info.meta.prot ≡ e = cc in ap (λ x. Some x.frame) same_entry
+    framed (Some f) k = let same_entry : translation_of f prot ≡ e = cc in ap (λ x. Some x.frame) same_entry
 
 table_here : (w : World) → Fine w → (c p : ℕ) (e : Translation) → w.hardware.table c p ≡ Some e → IsPage p × (e.frame < w.made.frames)
 table_here w g c p e h = backed_here w p c e g.order (w.slots.info p) refl (g.coherent.tables c p e h).entry
 
 -- the first translation of the page is one that the slot backs
-first_here : (w : World) → Fine w → (c p : ℕ) (e : Translation) (es : List TlbEntry) → Every (IsSoundEntry w.slots.info c (w.hardware.table c) (w.hardware.inbox c)) es → tlb_at es p ≡ Some e
+first_here : (w : World) → Fine w → (c p : ℕ) (e : Translation) (es : List TlbEntry) → Every (IsSoundEntry w.memory.cached w.slots.info c (w.hardware.table c) (w.hardware.inbox c)) es → tlb_at es p ≡ Some e
     → e.frame < w.made.frames
 first_here w g c p e [] k h = absurd cc
 first_here w g c p e (x ∷ es) k h = by (x.page == p) (first_here w g c p e es k.1) h
@@ -202,9 +199,9 @@ taken_unused w c phase i f h = record {
 
 pub are_counted : (w : World) → ∥ Fine w ∥₁ → AreCounted w.slots.info w.memory.counts
 are_counted w t = record {
+  page = λ p f h. ∥∥₁_elim t (hlevel props) (λ g. framed_page w g.order f p h);
   object = λ p f h. frame_counted w f t (∥∥₁_elim t (hlevel props) (λ g. (g.order.pages p).frame f h));
-  used = λ p f h. ∥∥₁_elim t (hlevel props) (λ g. pages_counted w g p f h);
-  apart = λ p q f h i. ∥∥₁_elim t (hlevel props) (λ g. pages_apart w g p q f h i);
+  used = λ f. ∥∥₁_elim t (hlevel props) (λ g. users_counted w g f);
 }
 
 -- a frame that a review frees isn't free yet: it was queued
@@ -353,16 +350,16 @@ held_range w c phase range i e pages =
 
 -- ---- shootdowns
 
--- nobody is awaited yet
-pub nobody_awaited : (w : World) (c : ℕ) (change : Change) (shoot : ℕ) → IsAt w c (Post change shoot) → AwaitsNobody w.hardware c
-nobody_awaited w c change shoot i d = go (message_of (w.hardware.inbox d) c) refl
+-- a call that awaits no pages awaits nobody
+pub nobody_awaited : (w : World) (c : ℕ) (phase : Phase) → IsAt w c phase → awaits_in phase ≡ None → AwaitsNobody w.hardware c
+nobody_awaited w c phase i idle d = go (message_of (w.hardware.inbox d) c) refl
   where
     go : (m : Option Message) → message_of (w.hardware.inbox d) c ≡ m → is_some m ≡ false
     go None e = refl
     go (Some m) e =
         ∥∥₁_elim i.fine (hlevel props) (λ g.
         let awaited_one = asked_by w.calls.phase d c (w.hardware.inbox d) m (g.coherent.asked d) e in
-        let none : awaits_in (w.calls.phase c) ≡ None = ap awaits_in i.phase in
+        let none : awaits_in (w.calls.phase c) ≡ None = ap awaits_in i.phase ∙ idle in
         absurd cc)
 
 -- the cores that are told are the machine's
@@ -400,6 +397,10 @@ awaited_pages w c range (Acks change held) g e h =
     let call = call_at w c (Acks change held) e g in
     let same : range_of change ≡ range = cc in
     subst (λ r. are_pages r ≡ true) same (valid_range (range_of change) (sound_range change (sound_in w c change call.asked)))
+awaited_pages w c range (CopyAcks touch frame) g e h =
+    let call = call_at w c (CopyAcks touch frame) e g in
+    let same : page_of_touch touch ≡ range = cc in
+    subst (λ r. are_pages r ≡ true) same (valid_range (page_of_touch touch) (touch_range touch (touch_sound _ c call.asked.request touch call.asked.passed)))
 awaited_pages w c range Free g e h = absurd cc
 awaited_pages w c range (Check request) g e h = absurd cc
 awaited_pages w c range (Lock goal cursor) g e h = absurd cc
@@ -409,8 +410,9 @@ awaited_pages w c range (Unlock held reply) g e h = absurd cc
 awaited_pages w c range (Answer reply) g e h = absurd cc
 awaited_pages w c range (Try touch) g e h = absurd cc
 awaited_pages w c range (Settle touch) g e h = absurd cc
-awaited_pages w c range (Want touch) g e h = absurd cc
+awaited_pages w c range (Want touch old) g e h = absurd cc
 awaited_pages w c range (Fill touch frame) g e h = absurd cc
+awaited_pages w c range (CopyPost touch frame) g e h = absurd cc
 awaited_pages w c range (Install touch) g e h = absurd cc
 awaited_pages w c range (Release touch) g e h = absurd cc
 
@@ -455,16 +457,22 @@ right_allowed prot Fetch h = exec prot.read prot.write prot.exec h
     exec false true d e = refl
     exec false false d e = e
 
+-- what shows its file's page may be read
+right_shown : (shown : Bool) (prot : Prot) → has_right prot ≡ true → has_right (prot_shown shown prot) ≡ true
+right_shown true prot h = refl
+right_shown false prot h = h
+
 -- the page of an access that is to install it is mapped, allows some access, and has a frame
 install_page : (w : World) (c : ℕ) (touch : Touch) → IsCallOf w c (Install touch) → (f : ℕ) × IsUsable w.made.file (w.slots.info touch.page) touch.access (Some f)
 install_page w c touch k = k.ready
 
 pub install_right : (w : World) (c : ℕ) (touch : Touch) (info : PageInfo) → IsAt w c (Install touch) → w.slots.info touch.page ≡ Some info
-    → has_right info.meta.prot ≡ true
+    → has_right (prot_installed w.memory.cached info) ≡ true
 install_right w c touch info i e =
     ∥∥₁_elim (order i) (hlevel props) (λ g.
     let usable = install_page w c touch (call_at w c (Install touch) i.phase g) in
-    right_allowed info.meta.prot touch.access (subst (λ o. IsUsable w.made.file o touch.access (Some usable.0)) e usable.1).0)
+    right_shown (is_private info.meta.back && shows_some w.memory.cached info.meta.back info.frame) info.meta.prot
+    (right_allowed info.meta.prot touch.access (subst (λ o. IsUsable w.made.file o touch.access (Some usable.0)) e usable.1).0))
 
 pub install_frame : (w : World) (c : ℕ) (touch : Touch) (info : PageInfo) → IsAt w c (Install touch) → w.slots.info touch.page ≡ Some info → info.frame ≡ None → ⊥
 install_frame w c touch info i e none =
@@ -492,8 +500,10 @@ plan_sound w c (Unlock held reply) i = tt
 plan_sound w c (Answer reply) i = tt
 plan_sound w c (Try touch) i = sound_at w c (Try touch) (PlanOf.Touch touch) i tt (λ h. h)
 plan_sound w c (Settle touch) i = sound_at w c (Settle touch) (PlanOf.Touch touch) i tt (λ h. h)
-plan_sound w c (Want touch) i = sound_at w c (Want touch) (PlanOf.Touch touch) i tt (λ h. h)
+plan_sound w c (Want touch old) i = sound_at w c (Want touch old) (PlanOf.Touch touch) i tt (λ h. h)
 plan_sound w c (Fill touch frame) i = sound_at w c (Fill touch frame) (PlanOf.Touch touch) i tt (λ h. h)
+plan_sound w c (CopyPost touch frame) i = sound_at w c (CopyPost touch frame) (PlanOf.Touch touch) i tt (λ h. h)
+plan_sound w c (CopyAcks touch frame) i = sound_at w c (CopyAcks touch frame) (PlanOf.Touch touch) i tt (λ h. h)
 plan_sound w c (Install touch) i = sound_at w c (Install touch) (PlanOf.Touch touch) i tt (λ h. h)
 plan_sound w c (Release touch) i = sound_at w c (Release touch) (PlanOf.Touch touch) i tt (λ h. h)
 
@@ -505,8 +515,10 @@ opened (Decide change) e = refl
 opened (Post change shoot) e = refl
 opened (Try touch) e = refl
 opened (Settle touch) e = refl
-opened (Want touch) e = refl
+opened (Want touch old) e = refl
 opened (Fill touch frame) e = refl
+opened (CopyPost touch frame) e = refl
+opened (CopyAcks touch frame) e = refl
 opened (Install touch) e = refl
 opened (Release touch) e = refl
 opened Free e = absurd cc

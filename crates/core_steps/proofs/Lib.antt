@@ -4,6 +4,7 @@ pub mod Rows
 pub mod Lost
 pub mod Opened
 pub mod Known
+pub mod Framing
 pub mod Changing
 pub mod Calling
 pub mod Reached

@@ -1,5 +1,5 @@
 -- Lists that are changed at one place, seen as functions, and the state of which they are a part
-use Rattle.std.proofs.Common.{◌≡◌, ℕ, zero, suc, ◌<◌, List, length, get_or, refl}
+use Rattle.std.proofs.Common.{◌≡◌, ℕ, zero, suc, ◌+◌, ◌<◌, List, [], ◌∷◌, ◌++◌, length, length-append, get_or, refl, ap, arith, ◌∙◌}
 use Rattle.std.specs.Prelude.{slice_set}
 use Rattle.std.proofs.Math.ListN.{replicate}
 use Rattle.std.proofs.Math.Path.{fun_ext}
@@ -8,6 +8,9 @@ use Rattle.vm_base.specs.Functions.{put}
 use Rattle.vm_base.proofs.Functions.{put_all}
 use Rattle.machine_model.specs.declared.phase.Phase.{Phase}
 use Rattle.machine_model.specs.declared.phase.Phase.TheVariants.{Free}
+use Rattle.machine_model.specs.declared.log.Entry.{Entry}
+use Rattle.machine_laws.specs.Orderly.{answer_count}
+use Rattle.machine_laws.proofs.Moves.{answers_more}
 use Rattle.core_steps.specs.State.{phase_at, number_at}
 
 pub set_is_put : {A : Type 0} (xs : List A) (d : A) (k : ℕ) (x : A) → k < length xs
@@ -32,3 +35,11 @@ replicate_same n x = fun_ext (go n x)
     go zero x j = refl
     go (suc n) x zero = refl
     go (suc n) x (suc j) = go n x j
+
+-- a log grows by an entry, and its limit by one for a copy: the room for the other replies stays
+pub room_kept : (log more : List Entry) (entry : Entry) (limit now calls : ℕ) → limit + answer_count log ≡ calls + length log → more ≡ log ++ entry ∷ []
+    → now + answer_count (entry ∷ []) ≡ limit + 1 → now + answer_count more ≡ calls + length more
+room_kept log more entry limit now calls h e n =
+    let a : answer_count more ≡ answer_count log + answer_count (entry ∷ []) = ap answer_count e ∙ answers_more log entry in
+    let b : length more ≡ length log + 1 = ap length e ∙ length-append log (entry ∷ []) in
+    omega (arith, h, n, a, b)

@@ -1,17 +1,19 @@
 -- Frames that are counted down, page by page
-use Rattle.std.proofs.Common.{◌≡◌, ◌≢◌, ℕ, zero, suc, ◌+◌, ◌-◌, ◌<◌, ◌≤◌, Option, None, Some, refl, sym, ap, subst, arith, ◌∙◌, cond, false, ◌==◌, pos, negsuc, ◌+ℤ◌}
+use Rattle.std.proofs.Common.{◌≡◌, ℕ, zero, suc, ◌+◌, ◌-◌, ◌^◌, ◌<◌, ◌≤◌, Bool, true, false, Option, None, Some, refl, sym, ap, subst, arith, ◌∙◌, cond, ◌==◌, pos, negsuc, ◌+ℤ◌, ◌<ℤ◌, ◌≤ℤ◌}
 use Rattle.std.proofs.lemmas.Bool.Decides.{nat_tests}
 use Rattle.std.proofs.lemmas.Int.{ints}
 use Rattle.vm_base.specs.declared.info.PageInfo.{PageInfo}
 use Rattle.vm_base.specs.Info.{frame_of, info_without_frame}
+use Rattle.vm_base.specs.Functions.{put}
 use Rattle.vm_base.proofs.Functions.{put_all, put_other}
 use Rattle.slot_lock.specs.Slots.{Slots, LosesFrame}
 use Rattle.refcache.specs.Counts.{Counts, true_count}
-use Rattle.refcache.specs.Laws.{change}
 use Rattle.refcache.specs.Steps.{Takes, Dec}
 use Rattle.refcache.proofs.Moves.{true_counts_move}
 use Rattle.refcache.proofs.Reached.{same_size}
 use Rattle.machine_model.specs.Counting.{CountsOne, CountsDown}
+use Rattle.machine_counting.specs.Counted.{users_of}
+use Rattle.machine_counting.proofs.Pages.{one, pages_put, pages_some}
 use Rattle.core_steps.specs.Taking.{AreCounted}
 
 -- ---- pages without a frame change nothing
@@ -72,31 +74,59 @@ lost_all c frame first from end v m low high gap h =
 
 -- ---- the pages that still have frames are counted
 
--- a page has a frame after one page lost its own: it had it before, and is another
+-- a page has a frame after one page lost its own: it had it before
 still_has : (s t : Slots) (from end page f : ℕ) → LosesFrame s t from end page f → (p g : ℕ) → frame_of (t.info p) ≡ Some g
-    → (frame_of (s.info p) ≡ Some g) × (p ≢ page)
+    → frame_of (s.info p) ≡ Some g
 still_has s t from end page f l p g h =
-    put_all (λ q x. frame_of x ≡ Some g → (frame_of (s.info q) ≡ Some g) × (q ≢ page)) s.info page (info_without_frame (s.info page))
-    (λ e. absurd (gone (s.info page) e)) (λ q ne e. (e, ne)) p (subst (λ u. frame_of (u.info p) ≡ Some g) l.now h)
+    put_all (λ q x. frame_of x ≡ Some g → frame_of (s.info q) ≡ Some g) s.info page (info_without_frame (s.info page))
+    (λ e. absurd (gone (s.info page) e)) (λ q ne e. e) p (subst (λ u. frame_of (u.info p) ≡ Some g) l.now h)
   where
     gone : (o : Option PageInfo) → frame_of (info_without_frame o) ≡ Some g → ⊥
     gone None e = absurd cc
     gone (Some info) e = absurd cc
 
-other_change : (c f g : ℕ) → g ≢ f → change (Dec c f) g ≡ pos 0
-other_change c f g ne = ap (λ b. cond b (negsuc 0) (pos 0)) (let e : (g == f) ≡ false = grind (arith, nat_tests, ne) in e)
+without : (o : Option PageInfo) → frame_of (info_without_frame o) ≡ None
+without None = refl
+without (Some info) = refl
 
 pub counted_next : (s t : Slots) (from end page c f : ℕ) (v w : Counts) → LosesFrame s t from end page f → Takes v (Dec c f) w → AreCounted s.info v → AreCounted t.info w
 counted_next s t from end page c f v w l step k = record {
-  object = λ p g h. let was = still_has s t from end page f l p g h in subst (λ n. g < n) (sym (same_size v (Dec c f) w step).1) (k.object p g was.0);
-  used = λ p g h.
-      let was = still_has s t from end page f l p g h in
-      let other : g ≢ f = λ e. was.1 (k.apart p page g was.0 (l.had ∙ ap Some (sym e))) in
-      let same : true_count w g ≡ true_count v g +ℤ pos 0 = true_counts_move v (Dec c f) w step g ∙ ap (λ z. true_count v g +ℤ z) (other_change c f g other) in
-      let before = k.used p g was.0 in
-      omega (arith, ints, same, before);
-  apart = λ p q g h i. k.apart p q g (still_has s t from end page f l p g h).0 (still_has s t from end page f l q g i).0;
+  page = λ p g h. k.page p g (still_has s t from end page f l p g h);
+  object = λ p g h. subst (λ n. g < n) (sym (same_size v (Dec c f) w step).1) (k.object p g (still_has s t from end page f l p g h));
+  used = λ g.
+      subst (λ u. pos (users_of u.info g) ≤ℤ true_count w g) (sym l.now)
+      (go g (g == f) refl (true_counts_move v (Dec c f) w step g)
+      (pages_put s.info page g (info_without_frame (s.info page)) (2 ^ 35) (k.page page f l.had)) (k.used g));
 }
+  where
+    old : (g : ℕ) → one (frame_of (s.info page)) g ≡ cond (f == g) 1 0
+    old g = ap (λ o. one o g) l.had
+
+    new : (g : ℕ) → one (frame_of (info_without_frame (s.info page))) g ≡ 0
+    new g = ap (λ o. one o g) (without (s.info page))
+
+    go : (g : ℕ) (b : Bool) → (g == f) ≡ b → true_count w g ≡ true_count v g +ℤ cond (g == f) (negsuc 0) (pos 0)
+        → users_of (put s.info page (info_without_frame (s.info page))) g + one (frame_of (s.info page)) g
+        ≡ users_of s.info g + one (frame_of (info_without_frame (s.info page))) g
+        → pos (users_of s.info g) ≤ℤ true_count v g → pos (users_of (put s.info page (info_without_frame (s.info page))) g) ≤ℤ true_count w g
+    go g true e moved pages before =
+        let m : true_count w g ≡ true_count v g +ℤ negsuc 0 = moved ∙ ap (λ b. true_count v g +ℤ cond b (negsuc 0) (pos 0)) e in
+        let had : one (frame_of (s.info page)) g ≡ 1 = old g ∙ ap (λ b. cond b 1 0) (flip f g ∙ e) in
+        let now = new g in
+        omega (arith, ints, m, pages, before, had, now)
+    go g false e moved pages before =
+        let m : true_count w g ≡ true_count v g +ℤ pos 0 = moved ∙ ap (λ b. true_count v g +ℤ cond b (negsuc 0) (pos 0)) e in
+        let had : one (frame_of (s.info page)) g ≡ 0 = old g ∙ ap (λ b. cond b 1 0) (flip f g ∙ e) in
+        let now = new g in
+        omega (arith, ints, m, pages, before, had, now)
+
+    flip : (f g : ℕ) → (f == g) ≡ (g == f)
+    flip f g = grind (arith, nat_tests)
+
+-- a page's frame is counted
+pub counted_used : (info : ℕ → Option PageInfo) (v : Counts) (p f : ℕ) → AreCounted info v → frame_of (info p) ≡ Some f → pos 0 <ℤ true_count v f
+counted_used info v p f k h =
+    let a = pages_some info p f (2 ^ 35) (k.page p f h) h in let b = k.used f in omega (arith, ints, a, b)
 
 -- a page behind the one that lost its frame has what it had
 pub after_loss : (s t : Slots) (from end page f : ℕ) → LosesFrame s t from end page f → (p : ℕ) → page < p → t.info p ≡ s.info p

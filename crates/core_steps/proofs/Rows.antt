@@ -1,5 +1,5 @@
 -- Rows of the model that turn on one test
-use Rattle.std.proofs.Common.{◌≡◌, ℕ, Bool, true, false, not, ◌&&◌, List, [], ◌∷◌, Option, None, Some, Result, is_some, cond, refl, sym, ap, subst, ◌∙◌}
+use Rattle.std.proofs.Common.{◌≡◌, ℕ, Bool, true, false, not, ◌&&◌, List, [], ◌∷◌, Option, None, Some, Result, is_some, cond, inl, inr, refl, sym, ap, subst, ◌∙◌}
 use Rattle.std.proofs.Math.Numerals.{add-one}
 use Rattle.std.specs.Prelude.{if◌then◌else◌, ◌+◌}
 use Rattle.vm_base.specs.Functions.{put}
@@ -16,10 +16,12 @@ use Rattle.machine_model.specs.declared.event.Outcome.{Outcome}
 use Rattle.machine_model.specs.declared.event.Outcome.TheVariants.{Stepped, Idle}
 use Rattle.machine_model.specs.Step.{Acts, with_event}
 use Rattle.machine_model.specs.declared.phase.Phase.{Phase}
-use Rattle.machine_model.specs.declared.phase.Phase.TheVariants.{Release, Want}
+use Rattle.machine_model.specs.declared.phase.Phase.TheVariants.{Free, Check, Lock, Decide, Post, Acks, Unlock, Answer, Try, Settle, Want, Fill, CopyPost, CopyAcks, Install, Release}
 use Rattle.machine_model.specs.World.{World, Hardware}
 use Rattle.vm_base.specs.declared.info.PageInfo.{PageInfo}
 use Rattle.vm_base.specs.Cores.{with_member}
+use Rattle.vm_base.specs.declared.rights.Prot.{Prot}
+use Rattle.machine_model.specs.Files.{prot_installed}
 use Rattle.slot_lock.specs.Slots.{with_info}
 use Rattle.mmu.specs.Entry.{translation_of}
 use Rattle.machine_model.specs.Accesses.{TakesThisFrame, after_frame, after_install, info_with_core}
@@ -27,9 +29,10 @@ use Rattle.machine_model.specs.Actions.{to}
 use Rattle.vm_base.specs.declared.replies.Reply.{Reply}
 use Rattle.vm_base.specs.declared.requests.Request.{Request}
 use Rattle.slot_lock.specs.declared.plan.Plan.{Plan}
-use Rattle.machine_model.specs.Changes.{after_check, after_plan, checked_by}
+use Rattle.machine_model.specs.Changes.{AwaitsNobody, Awaits, after_check, after_plan, checked_by}
 use Rattle.machine_model.specs.GivingUp.{GivesUp, after_give_up}
 use Rattle.machine_model.specs.Holding.{can_give_up}
+use Rattle.core_steps.specs.Moving.{is_copy_due}
 use Rattle.vm_base.specs.declared.page.PageRange.{PageRange}
 use Rattle.machine_model.specs.Translating.{Evicts, TakesMessage, Walks, after_eviction, after_walk, can_walk, tables_cleared, tlb_invalidated, with_hardware, with_inbox, with_table, entry_for, entry_of_page}
 use Rattle.core_steps.proofs.Each.{put_id}
@@ -100,17 +103,69 @@ none_left h c e = ap (λ f. record h { inbox = f }) (put_id h.inbox c _ (same (h
 
 -- ---- a frame that is asked for, and a call that is given up
 
-pub taken_frame : (w v : World) (c f : ℕ) (touch : Touch) → w.memory.is_free f ≡ true → v ≡ after_frame c touch f w → TakesThisFrame w c (Want touch) f Stepped v
-taken_frame w v c f touch e h = if_true (w.memory.is_free f) _ _ e (refl, h)
+pub taken_frame : (w v : World) (c f : ℕ) (touch : Touch) (old : Option ℕ) → w.memory.is_free f ≡ true → v ≡ after_frame c touch old f w
+    → TakesThisFrame w c (Want touch old) f Stepped v
+taken_frame w v c f touch old e h = if_true (w.memory.is_free f) _ _ e (refl, h)
 
-pub no_such_frame : (w v : World) (c f : ℕ) (touch : Touch) → w.memory.is_free f ≡ false → v ≡ w → TakesThisFrame w c (Want touch) f Idle v
-no_such_frame w v c f touch e h = if_false (w.memory.is_free f) _ _ e (refl, h)
+pub no_such_frame : (w v : World) (c f : ℕ) (touch : Touch) (old : Option ℕ) → w.memory.is_free f ≡ false → v ≡ w → TakesThisFrame w c (Want touch old) f Idle v
+no_such_frame w v c f touch old e h = if_false (w.memory.is_free f) _ _ e (refl, h)
 
-pub given_up : (w v : World) (c : ℕ) (phase : Phase) → can_give_up phase ≡ true → v ≡ after_give_up c phase w → GivesUp w c phase Stepped v
-given_up w v c phase e h = if_true (can_give_up phase) _ _ e (refl, h)
+-- a call that can be given up is, where it doesn't await others for a copy
+pub given_up : (w v : World) (c : ℕ) (phase : Phase) → can_give_up phase ≡ true → (is_copy_due phase ≡ true → AwaitsNobody w.hardware c)
+    → v ≡ after_give_up c phase w → GivesUp w c phase Stepped v
+given_up w v c (CopyAcks touch frame) e nobody h = inl (nobody refl, (refl, h))
+given_up w v c Free e nobody h = absurd cc
+given_up w v c (Check request) e nobody h = (refl, h)
+given_up w v c (Lock goal cursor) e nobody h = (refl, h)
+given_up w v c (Decide change) e nobody h = (refl, h)
+given_up w v c (Post change shoot) e nobody h = (refl, h)
+given_up w v c (Acks change held) e nobody h = absurd cc
+given_up w v c (Unlock held reply) e nobody h = absurd cc
+given_up w v c (Answer reply) e nobody h = absurd cc
+given_up w v c (Try touch) e nobody h = (refl, h)
+given_up w v c (Settle touch) e nobody h = (refl, h)
+given_up w v c (Want touch old) e nobody h = (refl, h)
+given_up w v c (Fill touch frame) e nobody h = (refl, h)
+given_up w v c (CopyPost touch frame) e nobody h = (refl, h)
+given_up w v c (Install touch) e nobody h = (refl, h)
+given_up w v c (Release touch) e nobody h = (refl, h)
 
 pub not_given_up : (w v : World) (c : ℕ) (phase : Phase) → can_give_up phase ≡ false → v ≡ w → GivesUp w c phase Idle v
-not_given_up w v c phase e h = if_false (can_give_up phase) _ _ e (refl, h)
+not_given_up w v c (CopyAcks touch frame) e h = absurd cc
+not_given_up w v c Free e h = (refl, h)
+not_given_up w v c (Check request) e h = absurd cc
+not_given_up w v c (Lock goal cursor) e h = absurd cc
+not_given_up w v c (Decide change) e h = absurd cc
+not_given_up w v c (Post change shoot) e h = absurd cc
+not_given_up w v c (Acks change held) e h = (refl, h)
+not_given_up w v c (Unlock held reply) e h = (refl, h)
+not_given_up w v c (Answer reply) e h = (refl, h)
+not_given_up w v c (Try touch) e h = absurd cc
+not_given_up w v c (Settle touch) e h = absurd cc
+not_given_up w v c (Want touch old) e h = absurd cc
+not_given_up w v c (Fill touch frame) e h = absurd cc
+not_given_up w v c (CopyPost touch frame) e h = absurd cc
+not_given_up w v c (Install touch) e h = absurd cc
+not_given_up w v c (Release touch) e h = absurd cc
+
+-- a copy for which others are awaited isn't
+pub copy_awaited : (w v : World) (c set : ℕ) (phase : Phase) → is_copy_due phase ≡ true → Awaits w.hardware c set → v ≡ w → GivesUp w c phase Idle v
+copy_awaited w v c set (CopyAcks touch frame) e a h = inr ((set, a), (refl, h))
+copy_awaited w v c set Free e a h = absurd cc
+copy_awaited w v c set (Check request) e a h = absurd cc
+copy_awaited w v c set (Lock goal cursor) e a h = absurd cc
+copy_awaited w v c set (Decide change) e a h = absurd cc
+copy_awaited w v c set (Post change shoot) e a h = absurd cc
+copy_awaited w v c set (Acks change held) e a h = absurd cc
+copy_awaited w v c set (Unlock held reply) e a h = absurd cc
+copy_awaited w v c set (Answer reply) e a h = absurd cc
+copy_awaited w v c set (Try touch) e a h = absurd cc
+copy_awaited w v c set (Settle touch) e a h = absurd cc
+copy_awaited w v c set (Want touch old) e a h = absurd cc
+copy_awaited w v c set (Fill touch frame) e a h = absurd cc
+copy_awaited w v c set (CopyPost touch frame) e a h = absurd cc
+copy_awaited w v c set (Install touch) e a h = absurd cc
+copy_awaited w v c set (Release touch) e a h = absurd cc
 
 -- ---- the arguments of a request
 
@@ -119,14 +174,15 @@ planned w v c request r e h = subst (λ r. v ≡ after_plan c r w) e h
 
 -- ---- a page's translation is installed
 
-pub installed : (w v : World) (c : ℕ) (touch : Touch) (info : PageInfo) (f : ℕ) → w.slots.info touch.page ≡ Some info → info.frame ≡ Some f
-    → v ≡ to c (Release touch) (record w {
+pub installed : (w v : World) (c : ℕ) (touch : Touch) (info : PageInfo) (f : ℕ) (prot : Prot) → w.slots.info touch.page ≡ Some info → info.frame ≡ Some f
+    → prot ≡ prot_installed w.memory.cached info → v ≡ to c (Release touch) (record w {
       slots = with_info w.slots touch.page (Some (record info { cores = with_member info.cores c }));
-      hardware = with_table w.hardware c (put (w.hardware.table c) touch.page (Some (translation_of f info.meta.prot)));
+      hardware = with_table w.hardware c (put (w.hardware.table c) touch.page (Some (translation_of f prot)));
     })
     → v ≡ after_install c touch w
-installed w v c touch info f e k h = h ∙ subst (λ o. now (Some (record info { cores = with_member info.cores c })) (Some (translation_of f info.meta.prot)) ≡ now (info_with_core c o) (entry_of_page o)) (sym e)
-    (ap (λ x. now (Some (record info { cores = with_member info.cores c })) (entry_for info.meta.prot x)) (sym k))
+installed w v c touch info f prot e k p h = h ∙ subst (λ o. now (Some (record info { cores = with_member info.cores c })) (Some (translation_of f prot)) ≡ now (info_with_core c o) (entry_of_page w.memory.cached o)) (sym e)
+    (ap (λ x. now (Some (record info { cores = with_member info.cores c })) (Some (translation_of f x))) p
+    ∙ ap (λ x. now (Some (record info { cores = with_member info.cores c })) (entry_for (prot_installed w.memory.cached info) x)) (sym k))
   where
     now : Option PageInfo → Option Translation → World
     now page entry = to c (Release touch) (record w {

@@ -4,6 +4,7 @@ pub mod Parts
 pub mod State
 pub mod Moving
 pub mod Taking
+pub mod Filling
 pub mod Machine
 pub mod Finishing
 pub mod Running

@@ -1,14 +1,17 @@
--- What a step of an engine does, and which steps may be refused for memory: those at which a slot is to be divided, and those that
--- install the first entry of a page
-use Rattle.std.specs.Prelude.{◌≡◌, ℕ, ◌<◌, ◌⊎◌, None, Result, Ok, Err}
+-- What a step of an engine does, and which steps may be refused for memory: those at which a slot is to be divided, those that install the
+-- first entry of a page, and those that make a copy of a private page, which the log is to have
+use Rattle.std.specs.Prelude.{◌≡◌, ℕ, ◌<◌, ◌⊎◌, Bool, true, false, None, Result, Ok, Err}
 use Rattle.vm_base.specs.Pages.{IsPage}
 use Rattle.slot_lock.specs.Slots.{Slots, Crosses}
+use Rattle.vm_calls.specs.Settling.{is_private_store}
 use Rattle.machine_model.specs.declared.event.Event.{Event}
 use Rattle.machine_model.specs.declared.event.Event.TheVariants.{Go, Fold}
 use Rattle.machine_model.specs.declared.event.Outcome.{Outcome}
 use Rattle.machine_model.specs.declared.event.Outcome.TheVariants.{Stepped, Idle, Full}
 use Rattle.machine_model.specs.declared.phase.Phase.{Phase}
-use Rattle.machine_model.specs.declared.phase.Phase.TheVariants.{Lock, Install}
+use Rattle.machine_model.specs.declared.phase.Phase.TheVariants.{Lock, Fill, CopyAcks, Install}
+use Rattle.machine_model.specs.Changes.{AwaitsNobody}
+use Rattle.machine_model.specs.Files.{back_of}
 use Rattle.machine_model.specs.Holding.{goal_range}
 use Rattle.machine_model.specs.World.{World}
 use Rattle.machine_sound.specs.Invariant.{Fine}
@@ -16,9 +19,11 @@ use Rattle.machine_sound.specs.Invariant.{Fine}
 -- ---- want of memory
 
 -- the slot that the call of core c is to lock next is free and crosses an edge of the pages that the call is to hold, or the core's tables
--- have no entry yet of the page that is to get one
+-- have no entry yet of the page that is to get one, or a private page is to get a copy for a store, for which no core is awaited
 abbrev pub WantsMemory : World → ℕ → Phase → Type 0
 WantsMemory w c (Lock goal cursor) = (w.slots.owner cursor ≡ None) × Crosses w.slots cursor (goal_range goal).end
+WantsMemory w c (Fill touch frame) = is_private_store (back_of (w.slots.info touch.page)) touch.access ≡ true
+WantsMemory w c (CopyAcks touch frame) = AwaitsNobody w.hardware c
 WantsMemory w c (Install touch) = w.hardware.table c touch.page ≡ None
 WantsMemory w c _ = ⊥
 
@@ -31,6 +36,13 @@ MayWant w _ = ⊥
 abbrev pub Tries : {T E : Type 0} → (T → World → Type 0) → Type 0 → World → Result T E → World → Type 0
 Tries Does MayRefuse w (Ok done) v = Does done v
 Tries Does MayRefuse w (Err refused) v = (v ≡ w) × MayRefuse
+
+-- ---- copies
+
+-- the call is to make a copy once no other core is awaited
+abbrev pub is_copy_due : Phase → Bool
+is_copy_due (CopyAcks touch frame) = true
+is_copy_due _ = false
 
 -- ---- joins of slots
 

@@ -1,5 +1,5 @@
 -- What making a change needs, and what it does first
-use Rattle.std.specs.Prelude.{◌≡◌, ℕ, ◌<◌, false, Option, Some, pos, ◌<ℤ◌}
+use Rattle.std.specs.Prelude.{◌≡◌, ℕ, ◌<◌, ◌^◌, false, Option, Some, pos, ◌≤ℤ◌}
 use Rattle.vm_base.specs.declared.page.PageRange.{PageRange}
 use Rattle.vm_base.specs.declared.info.PageInfo.{PageInfo}
 use Rattle.vm_base.specs.Functions.{has}
@@ -8,6 +8,7 @@ use Rattle.slot_lock.specs.declared.plan.Change.{Change}
 use Rattle.slot_lock.specs.declared.plan.Change.TheVariants.{Put, Clear, Protect}
 use Rattle.slot_lock.specs.Slots.{Slots, AllMapped}
 use Rattle.refcache.specs.Counts.{Counts, true_count}
+use Rattle.machine_counting.specs.Counted.{users_of}
 
 -- slots whose pages in a range alone may differ, and only in what they have
 pub record AlikeOutside (s t : Slots) (range : PageRange) : Type 0 where
@@ -21,8 +22,8 @@ IsMappedFor s (Put range meta) = Unit {0}
 IsMappedFor s (Clear range) = Unit {0}
 IsMappedFor s (Protect range prot) = AllMapped s range
 
--- the frame of each page is counted, and no other page has it
+-- each frame of a page is counted at least once for each page that has it
 pub record AreCounted (info : ℕ → Option PageInfo) (counts : Counts) : Type 0 where
+  pub page : (p f : ℕ) → frame_of (info p) ≡ Some f → p < 2 ^ 35
   pub object : (p f : ℕ) → frame_of (info p) ≡ Some f → f < counts.objects
-  pub used : (p f : ℕ) → frame_of (info p) ≡ Some f → pos 0 <ℤ true_count counts f
-  pub apart : (p q f : ℕ) → frame_of (info p) ≡ Some f → frame_of (info q) ≡ Some f → p ≡ q
+  pub used : (f : ℕ) → pos (users_of info f) ≤ℤ true_count counts f

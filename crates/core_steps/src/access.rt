@@ -3,6 +3,7 @@ ghost use Rattle.std.specs.Prelude.{◌≡◌, ◌<◌, length};
 ghost use Rattle.vm_base.specs.Apply.{byte_reply};
 ghost use Rattle.machine_model.specs.Accesses.{after_access};
 ghost use Rattle.machine_model.specs.Step.{Goes};
+ghost use Rattle.machine_laws.specs.Orderly.{answer_count};
 ghost use Rattle.core_steps.specs.State.{world};
 ghost use Rattle.core_steps.specs.Moving.{IsAt};
 
@@ -28,7 +29,7 @@ impl<M: SlotMap, H: Hardware, A: Allocator> Engine<M, H, A> {
     /// The byte is read or written in the frame, and the call has its reply.
     fn access(&mut self, core: CoreId, touch: Touch, frame: u32)
         requires here { core < length self.old.calls.phases.items }
-        requires room { length self.old.calls.log.items.items < self.old.calls.requests.limit }
+        requires room { answer_count self.old.calls.log.items.items < self.old.calls.requests.limit }
         requires frame { frame < self.old.frames.count }
         requires offset { touch.offset < 4096 }
         ensures { world M.slots self.new ≡ after_access core touch frame (world M.slots self.old) }

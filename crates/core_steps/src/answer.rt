@@ -3,6 +3,7 @@ ghost use Rattle.std.specs.Prelude.{◌≡◌, ◌<◌, ◌≤◌, length};
 ghost use Rattle.machine_model.specs.Actions.{let_go, after_reply};
 ghost use Rattle.machine_model.specs.Locks.{held_after};
 ghost use Rattle.machine_model.specs.Step.{Goes};
+ghost use Rattle.machine_laws.specs.Orderly.{answer_count};
 ghost use Rattle.core_steps.specs.State.{world};
 ghost use Rattle.core_steps.specs.Moving.{IsAt};
 
@@ -41,7 +42,7 @@ impl<M: SlotMap, H: Hardware, A: Allocator> Engine<M, H, A> {
     /// next.
     pub fn reply(&mut self, core: CoreId, held: Option<PageRange>, reply: Reply)
         requires here { core < length self.old.calls.phases.items }
-        requires room { length self.old.calls.log.items.items < self.old.calls.requests.limit }
+        requires room { answer_count self.old.calls.log.items.items < self.old.calls.requests.limit }
         ensures { world M.slots self.new ≡ after_reply core held reply (world M.slots self.old) }
     {
         self.calls.log.push(Entry::Answer {

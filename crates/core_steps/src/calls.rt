@@ -1,12 +1,13 @@
-//! Where the call of each core stands, the calls begun, and the log of their replies.
-ghost use Rattle.std.specs.Prelude.{◌≡◌, ◌≤◌, length};
+//! Where the call of each core stands, the calls begun, and the log.
+ghost use Rattle.std.specs.Prelude.{◌≡◌, ◌+◌, ◌≤◌, length};
+ghost use Rattle.machine_laws.specs.Orderly.{answer_count};
 
 use crate::reserved::Reserved;
 use machine_model::{Entry, Phase};
 use std::alloc::Allocator;
-use vm_base::Request;
+use vm_base::{CoreId, NoMemory, Request};
 
-/// Where the call of each core stands, the calls begun, and the log of their replies.
+/// Where the call of each core stands, the calls begun, and the log.
 #[derive(Drop)]
 pub(crate) struct CallTable<A: Allocator> {
     /// Of each core: where its call stands.
@@ -15,11 +16,34 @@ pub(crate) struct CallTable<A: Allocator> {
     pub numbers: Vec<u64, A>,
     /// The requests of the calls begun, in order.
     pub requests: Reserved<Request, A>,
-    /// The replies fixed so far, in order.
+    /// The replies fixed and the copies made so far, in order. Room for the reply of each call is kept.
     pub log: Reserved<Entry, A>,
     /// How many events were taken.
     pub events: u64,
     ghost numbered: { length numbers.items ≡ length phases.items },
     ghost few: { length phases.items ≤ 64 },
-    ghost logged: { log.limit ≡ requests.limit },
+    ghost logged: { log.limit + answer_count log.items.items ≡ requests.limit + length log.items.items },
+}
+
+impl<A: Allocator> CallTable<A> {
+    ghost use Rattle.std.specs.Prelude.{◌<◌, ◌++◌, ◌∷◌, [], OnOk, OnErr};
+    ghost use Rattle.machine_model.specs.declared.log.Entry.TheVariants.{Detach};
+    ghost use Rattle.core_steps.specs.State.{calls_of, number_at};
+
+    /// It is logged that the core's call has made a copy of its own for the page. The room for replies stays. A refusal for
+    /// memory changes nothing.
+    pub fn log_detach(&mut self, core: CoreId, page: u64) -> Result<(), NoMemory>
+        requires { core < length self.old.phases.items }
+        ensures ok { OnOk result (calls_of self.new ≡ record (calls_of self.old) { log = self.old.log.items.items ++ Detach self.old.events (number_at self.old.numbers.items core) page ∷ [] }) }
+        ensures err { OnErr result (calls_of self.new ≡ calls_of self.old) }
+        ensures cores { length self.new.phases.items ≡ length self.old.phases.items }
+        ensures limit { self.new.requests.limit ≡ self.old.requests.limit }
+    {
+        self.log.push_beyond(Entry::Detach {
+            step: self.events,
+            call: self.numbers[core.index() as usize],
+            page,
+        })?;
+        Ok(())
+    }
 }

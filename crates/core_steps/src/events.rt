@@ -53,8 +53,10 @@ impl<M: SlotMap, H: Hardware, A: Allocator> Engine<M, H, A> {
             Phase::Answer(reply) => Ok(self.go_answer(core, reply)),
             Phase::Try(touch) => Ok(self.go_try(core, touch)),
             Phase::Settle(touch) => Ok(self.go_settle(core, touch)),
-            Phase::Want(touch) => Ok(self.go_want(core, touch)),
-            Phase::Fill { touch, frame } => Ok(self.go_fill(core, touch, frame)),
+            Phase::Want { touch, old } => Ok(self.go_want(core, touch, old)),
+            Phase::Fill { touch, frame } => self.go_fill(core, touch, frame),
+            Phase::CopyPost { touch, frame } => Ok(self.go_copy_post(core, touch, frame)),
+            Phase::CopyAcks { touch, frame } => self.go_copy_acks(core, touch, frame),
             Phase::Install(touch) => self.go_install(core, touch),
             Phase::Release(touch) => Ok(self.go_release(core, touch)),
         }

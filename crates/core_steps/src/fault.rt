@@ -1,36 +1,34 @@
-//! A fault of an access whose page is held: what the page's slot says is read, a frame is taken and filled, the page's
-//! translation is installed, and the core is recorded.
+//! A fault of an access whose page is held: what the page's slot says is read, a frame is taken, the page's translation is
+//! installed, and the core is recorded. `filling` and `copy` say how the page gets the frame.
 ghost use Rattle.std.specs.Prelude.{◌≡◌, ℕ, ◌<◌, true, false, length, IfNone, IfSome};
 ghost use Rattle.slot_lock.specs.Plan.{IsSoundTouch};
-ghost use Rattle.backing.specs.Files.{files_of};
 ghost use Rattle.vm_calls.specs.declared.fault.Settled.{Settled};
 ghost use Rattle.frames.specs.Parts.{free_frames};
-ghost use Rattle.machine_model.specs.Accesses.{TakesThisFrame, is_past_end, after_finding};
+ghost use Rattle.machine_model.specs.Accesses.{TakesThisFrame, after_finding, taken_for};
 ghost use Rattle.machine_model.specs.Step.{Goes};
+ghost use Rattle.machine_laws.specs.Orderly.{answer_count};
 ghost use Rattle.core_steps.specs.State.{phase_of, world};
 ghost use Rattle.core_steps.specs.Moving.{IsAt, IsOf, Tries, WantsMemory};
 
 use crate::acquire::page_of_touch;
 use crate::engine::Engine;
-use backing::Objects;
+use crate::file_pages::{back_of, file_frame, is_past_end, prot_installed};
 use machine_model::{Outcome, Phase};
 use mmu::Hardware;
 use slot_lock::{SlotMap, Touch};
 use std::alloc::Allocator;
-use vm_base::{Back, CoreId, NoMemory, PageInfo, Reply, SegvCode};
+use vm_base::{CoreId, NoMemory, PageInfo, Reply, SegvCode};
 use vm_calls::{Settled, settle};
 
-/// Tells whether the page's file page lies wholly past the end of its file.
-fn is_past_end<A: Allocator>(objects: &Objects<A>, info: &Option<PageInfo>) -> bool
-    ensures { result ≡ is_past_end (files_of objects.now) info.now }
+/// Where the call goes on that has taken this frame: the page gets it, or a copy in it of the frame that the page has.
+fn taken_for(touch: Touch, old: Option<u32>, frame: u32) -> Phase
+    ensures { result ≡ taken_for touch old frame }
 {
-    let Some(info) = info else {
-        return false;
-    };
-    match info.meta.back {
-        Back::Anon => false,
-        Back::Shared { file, page } | Back::Private { file, page } => {
-            objects.is_past_end(file, page)
+    match old {
+        Some(_) => Phase::CopyPost { touch, frame },
+        None => {
+            let frame = Some(frame);
+            Phase::Fill { touch, frame }
         }
     }
 }
@@ -39,7 +37,7 @@ impl<M: SlotMap, H: Hardware, A: Allocator> Engine<M, H, A> {
     /// The access goes on by what it found at its page: it is answered, or the page has a frame, or wants one.
     fn settled_to(&mut self, core: CoreId, touch: Touch, settled: Settled)
         requires here { core < length self.old.calls.phases.items }
-        requires room { length self.old.calls.log.items.items < self.old.calls.requests.limit }
+        requires room { answer_count self.old.calls.log.items.items < self.old.calls.requests.limit }
         requires touch { IsSoundTouch touch }
         ensures { world M.slots self.new ≡ after_finding core touch settled (world M.slots self.old) }
     {
@@ -49,10 +47,12 @@ impl<M: SlotMap, H: Hardware, A: Allocator> Engine<M, H, A> {
             Settled::AccErr => self.reply(core, held, Reply::Segv(SegvCode::AccErr)),
             Settled::Bus => self.reply(core, held, Reply::Bus),
             Settled::Has(_) => self.go_to(core, Phase::Install(touch)),
-            Settled::Copies(_) | Settled::Cached(_) | Settled::Wants => self.go_to(
-                core,
-                Phase::Want(touch),
-            ),
+            Settled::Copies(frame) => {
+                let old = Some(frame);
+                self.go_to(core, Phase::Want { touch, old });
+            }
+            Settled::Cached(_) => self.go_to(core, Phase::Fill { touch, frame: None }),
+            Settled::Wants => self.go_to(core, Phase::Want { touch, old: None }),
         }
     }
 
@@ -64,20 +64,21 @@ impl<M: SlotMap, H: Hardware, A: Allocator> Engine<M, H, A> {
     {
         let info = self.map.page(touch.page);
         let past_end = is_past_end(&self.objects, &info);
-        self.settled_to(core, touch, settle(info, touch.access, past_end, None));
+        let cached = file_frame(&self.objects, back_of(&info));
+        self.settled_to(core, touch, settle(info, touch.access, past_end, cached));
         Outcome::Stepped
     }
 
     /// The least free frame is taken, if one is free.
-    pub fn go_want(&mut self, core: CoreId, touch: Touch) -> Outcome
-        requires { IsAt (world M.slots self.old) core (Phase.Want touch) }
-        ensures { Goes (world M.slots self.old) core (Phase.Want touch) result (world M.slots self.new) }
+    pub fn go_want(&mut self, core: CoreId, touch: Touch, old: Option<u32>) -> Outcome
+        requires { IsAt (world M.slots self.old) core (Phase.Want touch old) }
+        ensures { Goes (world M.slots self.old) core (Phase.Want touch old) result (world M.slots self.new) }
     {
         match self.frames.least_free() {
             None => self.reply(core, Some(page_of_touch(touch)), Reply::NoFrame),
             Some(frame) => {
                 self.frames.take(frame);
-                self.go_to(core, Phase::Fill { touch, frame });
+                self.go_to(core, taken_for(touch, old, frame));
             }
         }
         Outcome::Stepped
@@ -106,32 +107,16 @@ impl<M: SlotMap, H: Hardware, A: Allocator> Engine<M, H, A> {
         ensures { TakesThisFrame (world M.slots self.old) core (phase_of self.old core) frame result (world M.slots self.new) }
     {
         match self.calls.phases[core.index() as usize] {
-            Phase::Want(touch) => {
+            Phase::Want { touch, old } => {
                 let Some(frame) = self.free_frame(frame) else {
                     return Outcome::Idle;
                 };
                 self.frames.take(frame);
-                self.go_to(core, Phase::Fill { touch, frame });
+                self.go_to(core, taken_for(touch, old, frame));
                 Outcome::Stepped
             }
             _ => Outcome::Idle,
         }
-    }
-
-    /// The frame gets zero bytes and is counted once, and the page gets the frame.
-    pub fn go_fill(&mut self, core: CoreId, touch: Touch, frame: u32) -> Outcome
-        requires { IsAt (world M.slots self.old) core (Phase.Fill touch frame) }
-        ensures { Goes (world M.slots self.old) core (Phase.Fill touch frame) result (world M.slots self.new) }
-    {
-        self.frames.fill_zero(frame);
-        self.counts.begin(frame, 1);
-        if let Some(info) = self.map.page(touch.page) {
-            let frame = Some(frame);
-            self.map
-                .set_leaf(core, touch.page, PageInfo { frame, ..info });
-        }
-        self.go_to(core, Phase::Install(touch));
-        Outcome::Stepped
     }
 
     /// The core's tables get the page's entry, and the core is recorded on the page. A refusal for memory changes nothing.
@@ -144,7 +129,8 @@ impl<M: SlotMap, H: Hardware, A: Allocator> Engine<M, H, A> {
         if let Some(info) = self.map.page(touch.page)
             && let Some(frame) = info.frame
         {
-            self.cores.install(core, touch.page, frame, info.meta.prot)?;
+            let prot = prot_installed(&self.objects, &info);
+            self.cores.install(core, touch.page, frame, prot)?;
             let cores = info.cores.with(core);
             self.map
                 .set_leaf(core, touch.page, PageInfo { cores, ..info });

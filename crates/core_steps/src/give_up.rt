@@ -1,11 +1,12 @@
 //! A call that is given up for want of memory.
-ghost use Rattle.std.specs.Prelude.{◌≡◌, IfSome};
+ghost use Rattle.std.specs.Prelude.{◌≡◌, ℕ, IfSome, IsTrue, IsFalse, true};
 ghost use Rattle.vm_base.specs.declared.page.PageRange.{PageRange};
 ghost use Rattle.slot_lock.specs.Plan.{IsSound};
 ghost use Rattle.machine_model.specs.GivingUp.{GivesUp};
 ghost use Rattle.machine_model.specs.Holding.{can_give_up, if_some_page, plan_in, range_held, still_held, taken_in};
 ghost use Rattle.core_steps.specs.State.{phase_of, world};
-ghost use Rattle.core_steps.specs.Moving.{IsOf};
+ghost use Rattle.machine_model.specs.Changes.{Awaits, AwaitsNobody};
+ghost use Rattle.core_steps.specs.Moving.{IsOf, is_copy_due};
 
 use crate::acquire::{goal_range, page_of_touch};
 use crate::engine::Engine;
@@ -15,7 +16,7 @@ use slot_lock::SlotMap;
 use std::alloc::Allocator;
 use vm_base::{CoreId, PageRange, Reply};
 
-/// Tells whether the call has no reply, and no other core does anything for it.
+/// Tells whether the call has no reply, and no change for which other cores do something.
 fn can_give_up(phase: &Phase) -> bool
     ensures { result ≡ can_give_up phase.now }
 {
@@ -30,7 +31,9 @@ fn taken_in(phase: &Phase) -> Option<u32>
     ensures { result ≡ taken_in phase.now }
 {
     match phase {
-        Phase::Fill { frame, .. } => Some(*frame),
+        Phase::Fill { frame, .. } => *frame,
+        Phase::CopyPost { frame, .. } => Some(*frame),
+        Phase::CopyAcks { frame, .. } => Some(*frame),
         _ => None,
     }
 }
@@ -51,8 +54,10 @@ fn range_held(phase: &Phase) -> Option<PageRange>
         Phase::Acks { held, .. } => Some(*held),
         Phase::Unlock { held, .. } => Some(*held),
         Phase::Settle(touch) => Some(page_of_touch(*touch)),
-        Phase::Want(touch) => Some(page_of_touch(*touch)),
+        Phase::Want { touch, .. } => Some(page_of_touch(*touch)),
         Phase::Fill { touch, .. } => Some(page_of_touch(*touch)),
+        Phase::CopyPost { touch, .. } => Some(page_of_touch(*touch)),
+        Phase::CopyAcks { touch, .. } => Some(page_of_touch(*touch)),
         Phase::Install(touch) => Some(page_of_touch(*touch)),
         Phase::Release(touch) => Some(page_of_touch(*touch)),
     }
@@ -71,6 +76,14 @@ fn if_some_page(range: Option<PageRange>) -> Option<PageRange>
 }
 
 impl<M: SlotMap, H: Hardware, A: Allocator> Engine<M, H, A> {
+    /// Tells whether the call waits for other cores before its copy is made.
+    fn awaits_copy(&self, core: CoreId, phase: &Phase) -> bool
+        ensures awaits { IsTrue result → (is_copy_due phase.now ≡ true) × ((set : ℕ) × Awaits (world M.slots self.now).hardware core set) }
+        ensures nobody { IsFalse result → is_copy_due phase.now ≡ true → AwaitsNobody (world M.slots self.now).hardware core }
+    {
+        matches!(phase, Phase::CopyAcks { .. }) && self.cores.waiting(core).first().is_some()
+    }
+
     /// The core's call is given up, if it still can be: a frame that no page has yet goes back, and what is held is unlocked
     /// next.
     pub fn give_up(&mut self, core: CoreId) -> Outcome
@@ -79,6 +92,9 @@ impl<M: SlotMap, H: Hardware, A: Allocator> Engine<M, H, A> {
     {
         let phase = self.phase_of(core);
         if !can_give_up(&phase) {
+            return Outcome::Idle;
+        }
+        if self.awaits_copy(core, &phase) {
             return Outcome::Idle;
         }
         if let Some(frame) = taken_in(&phase) {

@@ -8,6 +8,7 @@ mod call_table;
 mod calls;
 mod check;
 mod commit;
+mod copy;
 mod core_events;
 #[cfg(test)]
 mod core_tests;
@@ -17,6 +18,8 @@ mod decide;
 mod engine;
 mod events;
 mod fault;
+mod file_pages;
+mod filling;
 mod give_up;
 pub mod machine;
 mod reserved;

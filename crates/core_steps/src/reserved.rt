@@ -1,9 +1,9 @@
 //! Lists whose memory is taken when they are made.
-ghost use Rattle.std.specs.Prelude.{◌≡◌, ◌+◌, ◌<◌, ◌≤◌, ◌++◌, ◌∷◌, [], IfOk, nat_lt, length, vec_len, vec_capacity, not};
+ghost use Rattle.std.specs.Prelude.{◌≡◌, ◌+◌, ◌<◌, ◌≤◌, ◌++◌, ◌∷◌, [], IfOk, OnOk, OnErr, nat_lt, length, vec_len, vec_capacity, not};
 
 use std::alloc::{AllocError, Allocator};
 
-/// A list of at most `limit` elements. Once it is made, it takes no memory.
+/// A list of at most `limit` elements, for all of which it has memory. Only an element beyond them takes more.
 #[derive(Drop)]
 pub struct Reserved<T, A: Allocator> {
     /// The elements so far.
@@ -12,7 +12,6 @@ pub struct Reserved<T, A: Allocator> {
     pub limit: u64,
     ghost room: { limit ≤ vec_capacity items },
     ghost within: { vec_len items ≤ limit },
-    ghost few: { limit ≤ 1048576 },
 }
 
 impl<T: Copy + Drop, A: Allocator> Reserved<T, A> {
@@ -40,5 +39,22 @@ impl<T: Copy + Drop, A: Allocator> Reserved<T, A> {
         ensures limit { self.new.limit ≡ self.old.limit }
     {
         self.items.push_reserved(value);
+    }
+
+    /// One element more, for which memory is taken: the room that was left stays. A refusal changes nothing.
+    pub fn push_beyond(&mut self, value: T) -> Result<(), AllocError>
+        ensures items { OnOk result (self.new.items.items ≡ self.old.items.items ++ value ∷ []) }
+        ensures limit { OnOk result (self.new.limit ≡ self.old.limit + 1) }
+        ensures same_items { OnErr result (self.new.items.items ≡ self.old.items.items) }
+        ensures same_limit { OnErr result (self.new.limit ≡ self.old.limit) }
+    {
+        let Some(limit) = self.limit.checked_add(1) else {
+            return Err(AllocError);
+        };
+        self.items
+            .try_reserve(limit as usize - self.items.len())?;
+        self.items.push_reserved(value);
+        self.limit = limit;
+        Ok(())
     }
 }

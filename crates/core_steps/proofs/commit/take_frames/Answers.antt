@@ -1,6 +1,6 @@
 use Rattle.std.proofs.Common.{◌<◌, arith, refl, sym, subst, ap, ◌∙◌, rules}
 use Rattle.vm_base.specs.Info.{frame_of}
-use Rattle.core_steps.proofs.Lost.{after_loss, counted_next, lost_all, lost_next, lost_none}
+use Rattle.core_steps.proofs.Lost.{after_loss, counted_next, counted_used, lost_all, lost_next, lost_none}
 use Rattle.core_steps.proofs.commit.take_frames.Goals as goal
 
 pub frames-init : goal.frames-init
@@ -14,6 +14,9 @@ frames-init g c = record {
   still = c.requires.counted;
   counted = lost_none _ _ _ _ _ (λ p a b. absurd (omega (arith, a, b)));
 }
+
+pub dec-requires-clause-used : goal.dec-requires-clause-used
+dec-requires-clause-used g c = counted_used _ _ c.in-Some.page c.in-Some.frame c.frames.invariant.still c.in-Some.ensures.some.had
 
 pub frames-preserved : goal.frames-preserved
 frames-preserved g c =

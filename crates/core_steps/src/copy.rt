@@ -1,0 +1,89 @@
+//! The copy of a private page that shows its file's page, for a store: no core may go on translating it by the old frame.
+ghost use Rattle.std.specs.Prelude.{◌≡◌, Some, OnOk, OnErr};
+ghost use Rattle.machine_model.specs.Filling.{cores_of};
+ghost use Rattle.machine_model.specs.Step.{Goes};
+ghost use Rattle.core_steps.specs.State.{world};
+ghost use Rattle.core_steps.specs.Filling.{MakesCopy};
+ghost use Rattle.core_steps.specs.Moving.{IsAt, Tries, WantsMemory};
+
+use crate::acquire::page_of_touch;
+use crate::engine::Engine;
+use machine_model::{Blocker, Outcome, Phase};
+use mmu::Hardware;
+use slot_lock::{SlotMap, Touch};
+use std::alloc::Allocator;
+use vm_base::{CoreId, CoreSet, NoMemory, PageInfo};
+
+/// The cores that are recorded on the page.
+fn cores_of(info: &Option<PageInfo>) -> CoreSet
+    ensures { result ≡ cores_of info.now }
+{
+    match info {
+        Some(info) => info.cores,
+        None => CoreSet::empty(),
+    }
+}
+
+impl<M: SlotMap, H: Hardware, A: Allocator> Engine<M, H, A> {
+    /// The core drops its own translations of the page, and the other recorded cores are asked to drop theirs.
+    pub fn go_copy_post(&mut self, core: CoreId, touch: Touch, frame: u32) -> Outcome
+        requires { IsAt (world M.slots self.old) core (Phase.CopyPost touch frame) }
+        ensures { Goes (world M.slots self.old) core (Phase.CopyPost touch frame) result (world M.slots self.new) }
+    {
+        let shoot = cores_of(&self.map.page(touch.page));
+        self.cores.shoot(core, shoot, page_of_touch(touch));
+        self.go_to(core, Phase::CopyAcks { touch, frame });
+        Outcome::Stepped
+    }
+
+    /// The page, which has the frame `shown`, gets a copy of it in `frame`, which no core has used yet. A refusal for memory
+    /// changes nothing.
+    fn make_copy(
+        &mut self,
+        core: CoreId,
+        touch: Touch,
+        frame: u32,
+        shown: u32,
+        info: PageInfo,
+    ) -> Result<(), NoMemory>
+        requires at { IsAt (world M.slots self.old) core (Phase.CopyAcks touch frame) }
+        requires page { (M.slots self.old.map).info touch.page ≡ Some info }
+        requires shown { info.frame ≡ Some shown }
+        ensures ok { OnOk result (MakesCopy (world M.slots self.old) core touch frame shown (world M.slots self.new)) }
+        ensures err { OnErr result (world M.slots self.new ≡ world M.slots self.old) }
+    {
+        self.calls.log_detach(core, touch.page)?;
+        self.frames.copy(shown, frame);
+        self.counts.begin(frame, 1);
+        self.counts.dec(core, shown);
+        let (frame, cores) = (Some(frame), CoreSet::empty());
+        self.map
+            .set_leaf(core, touch.page, PageInfo { frame, cores, ..info });
+        self.go_to(core, Phase::Install(touch));
+        Ok(())
+    }
+
+    /// Once no core is awaited, the page gets its copy at once. A refusal for memory, which comes only then, changes nothing.
+    pub fn go_copy_acks(
+        &mut self,
+        core: CoreId,
+        touch: Touch,
+        frame: u32,
+    ) -> Result<Outcome, NoMemory>
+        requires { IsAt (world M.slots self.old) core (Phase.CopyAcks touch frame) }
+        ensures { Tries (Goes (world M.slots self.old) core (Phase.CopyAcks touch frame))
+            (WantsMemory (world M.slots self.old) core (Phase.CopyAcks touch frame))
+            (world M.slots self.old) result (world M.slots self.new) }
+    {
+        let waiting = self.cores.waiting(core);
+        if waiting.first().is_some() {
+            return Ok(Outcome::Wait(Blocker::Acks(waiting)));
+        }
+        if let Some(info) = self.map.page(touch.page)
+            && let Some(shown) = info.frame
+        {
+            self.make_copy(core, touch, frame, shown, info)?;
+        }
+        Ok(Outcome::Stepped)
+    }
+}
