@@ -27,8 +27,8 @@ fine w t = ∥∥₁_map t (reached_fine w)
 pub legal : (w : World) → ∥ IsReached w ∥₁ → IsLegal w
 legal w t = record { reached = t; sound = ∥∥₁_map t (reached_sound w) }
 
-pub new_reached : (w : World) (s : Setup) (slots : Slots) → IsNew slots → w ≡ new_world (made_of s) slots → ∥ IsReached w ∥₁
-new_reached w s slots n e = subst (λ u. ∥ IsReached u ∥₁) (sym e) ∣ reached_opening (made_of s) slots (λ n. refl) n ∣₁
+pub new_reached : {A : Type 0} (w : World) (s : Setup A) (slots : Slots) → IsNew slots → w ≡ new_world (made_of s) slots → ∥ IsReached w ∥₁
+new_reached w s slots n e = subst (λ u. ∥ IsReached u ∥₁) (sym e) ∣ reached_opening (made_of s) slots n ∣₁
 
 -- a step was made, or refused
 pub kept_by : (r : Result Outcome NoMemory) (w v : World) (e : Event) → Tries (Step w e) (MayWant w e) w r v → ∥ IsReached w ∥₁ → ∥ IsReached v ∥₁

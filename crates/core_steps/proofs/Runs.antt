@@ -19,9 +19,9 @@ pub all_bracketed : (made : Made) (slots : Slots) (first es : List Event) (os : 
     → Run (new_world made slots) first os w → IsBracketed es os w
 all_bracketed made slots first es os w e r = bracketed made slots es os w (subst (λ es. Run (new_world made slots) es os w) e r)
 
-pub all_sound : (made : Made) (slots : Slots) (first es : List Event) (os : List Outcome) (w : World) → ((n : ℕ) → made.file n ≡ None)
-    → IsNew slots → first ≡ es → Run (new_world made slots) first os w → SoundRun (new_world made slots) es os w
-all_sound made slots first es os w none new e r = runs_sound made slots es os w none new (subst (λ es. Run (new_world made slots) es os w) e r)
+pub all_sound : (made : Made) (slots : Slots) (first es : List Event) (os : List Outcome) (w : World) → IsNew slots → first ≡ es
+    → Run (new_world made slots) first os w → SoundRun (new_world made slots) es os w
+all_sound made slots first es os w new e r = runs_sound made slots es os w new (subst (λ es. Run (new_world made slots) es os w) e r)
 
 -- the event at n comes next
 pub next_run : (w : World) (es : List Event) (n : ℕ) (e : Event) (os : List Outcome) (m v : World) (o : Outcome) → n < length es

@@ -107,10 +107,11 @@ fn machine<A: Allocator + Clone + Drop>(
     let setup = Setup {
         cores,
         frames,
+        files: Vec::new(alloc.clone()?),
         calls: 16,
     };
     let map = RunList::new(alloc.clone()?)?;
-    match Machine::new(alloc, map, &setup) {
+    match Machine::new(alloc, map, setup) {
         Ok(machine) => Ok(machine),
         Err(_) => Err(NoMemory),
     }
@@ -412,9 +413,10 @@ fn store_in<A: Allocator + Clone + Drop>(
     let setup = Setup {
         cores: 1,
         frames: 1,
+        files: Vec::new(heap),
         calls: 2,
     };
-    let Ok(mut machine) = Machine::new(heap, map, &setup) else {
+    let Ok(mut machine) = Machine::new(heap, map, setup) else {
         return Err(NoMemory);
     };
     machine.step(Event::Call(first, MAP))?;

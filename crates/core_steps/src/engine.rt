@@ -26,7 +26,7 @@ pub(crate) struct Engine<M: SlotMap, H: Hardware, A: Allocator> {
     pub frames: Frames<A>,
     /// How many pages have each frame.
     pub counts: Refcache<A>,
-    /// The open files. There are none yet.
+    /// The open files.
     pub objects: Objects<A>,
     /// The calls.
     pub calls: CallTable<A>,
@@ -62,24 +62,30 @@ impl<M: SlotMap + Drop, H: Bare<A>, A: Allocator + Clone + Drop> Engine<M, H, A>
     ghost use Rattle.core_steps.specs.Setups.{fault_of, made_of};
     ghost use Rattle.core_steps.specs.State.{world};
 
-    /// An engine over a new slot map.
-    pub fn new(alloc: A, map: M, setup: &Setup) -> Result<Engine<M, H, A>, NoMemory>
+    /// An engine over a new slot map. The bytes of the files are moved, not copied.
+    pub fn new(alloc: A, map: M, setup: Setup<A>) -> Result<Engine<M, H, A>, NoMemory>
         requires new { IsNew (M.slots map) }
-        requires sound { fault_of setup.now ≡ None }
-        ensures { IfOk result (λ engine. world M.slots engine ≡ new_world (made_of setup.now) (M.slots map)) }
+        requires sound { fault_of setup ≡ None }
+        ensures { IfOk result (λ engine. world M.slots engine ≡ new_world (made_of setup) (M.slots map)) }
     {
-        let frames = Frames::new(alloc.clone()?, setup.frames as u32)?;
-        let counts = Refcache::new(alloc.clone()?, setup.cores as u8, setup.frames as u32)?;
-        let objects = Objects::none(alloc.clone()?);
-        let cores = Cores::new(alloc.clone()?, setup.cores as u8)?;
-        let calls = new_call_table(alloc, setup.cores as usize, setup.calls)?;
+        let Setup {
+            cores,
+            frames,
+            files,
+            calls,
+        } = setup;
+        let objects = Objects::new(alloc.clone()?, files)?;
+        let counts = Refcache::new(alloc.clone()?, cores as u8, frames as u32)?;
+        let frames = Frames::new(alloc.clone()?, frames as u32)?;
+        let table = new_call_table(alloc.clone()?, cores as usize, calls)?;
+        let cores = Cores::new(alloc, cores as u8)?;
         Ok(Engine {
             map,
             cores,
             frames,
             counts,
             objects,
-            calls,
+            calls: table,
         })
     }
 }

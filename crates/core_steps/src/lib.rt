@@ -34,4 +34,4 @@ mod tests;
 pub use machine::{Finished, Machine};
 pub use run_result::{Run, RunFault};
 pub use running::run;
-pub use setup::{Setup, SetupFault};
+pub use setup::{Setup, SetupFault, first_fault};

@@ -39,13 +39,13 @@ impl<M: SlotMap + Drop, A: Allocator + Clone + Drop> Machine<M, A> {
     ghost use Rattle.core_steps.specs.Setups.{fault_of, IsFirstFault, made_of};
     ghost use Rattle.core_steps.specs.Machine.{state};
 
-    /// A machine over a new slot map. It keeps room for one log entry of each call, so that a logged step takes no memory.
-    /// Of several faults the first is told, in the order of `SetupFault`.
-    pub fn new(alloc: A, map: M, setup: &Setup) -> Result<Machine<M, A>, SetupFault>
+    /// A machine over a new slot map. It keeps room for one log entry of each call, so that a logged step takes no memory. The
+    /// bytes of the files are moved, not copied. Of several faults the first is told, in the order of `SetupFault`.
+    pub fn new(alloc: A, map: M, setup: Setup<A>) -> Result<Machine<M, A>, SetupFault>
         requires { IsNew (M.slots map) }
-        ensures opening { IfOk result (λ machine. state machine ≡ new_world (made_of setup.now) (M.slots map)) }
-        ensures sound { IfOk result (λ machine. fault_of setup.now ≡ None) }
-        ensures first { IfErr result (λ fault. IsFirstFault setup.now fault) }
+        ensures opening { IfOk result (λ machine. state machine ≡ new_world (made_of setup) (M.slots map)) }
+        ensures sound { IfOk result (λ machine. fault_of setup ≡ None) }
+        ensures first { IfErr result (λ fault. IsFirstFault setup fault) }
     {
         if let Some(fault) = setup.fault() {
             return Err(fault);

@@ -9,11 +9,15 @@ use std::alloc::Allocator;
 use std::test::Fail;
 use vm_base::{CoreId, Errno, Flags, NoMemory, Prot, Reply, Request};
 
-const SMALL: Setup = Setup {
-    cores: 1,
-    frames: 1,
-    calls: 2,
-};
+// One core, one frame, no files and two calls.
+fn small<A: Allocator>(alloc: A) -> Setup<A> {
+    Setup {
+        cores: 1,
+        frames: 1,
+        files: Vec::new(alloc),
+        calls: 2,
+    }
+}
 
 // mmap 0x10000 of so many bytes, rw-, private, fixed, anonymous, and three steps of it.
 fn mmap_and_go(len: u64) -> [Event; 4] {
@@ -51,7 +55,8 @@ fn comes_to<A: Allocator + Clone + Drop>(
     log: &[Entry],
 ) -> Result<bool, NoMemory> {
     let map = RunList::new(alloc.clone()?)?;
-    match run(alloc, map, &SMALL, events) {
+    let setup = small(alloc.clone()?);
+    match run(alloc, map, setup, events) {
         Ok(done) => Ok(done.outcomes.as_slice() == outcomes && done.machine.log() == log),
         Err(_) => Ok(false),
     }
@@ -61,7 +66,7 @@ fn comes_to<A: Allocator + Clone + Drop>(
 fn fault<A: Allocator + Clone + Drop, B: Allocator + Clone + Drop>(
     alloc: A,
     slots: B,
-    setup: &Setup,
+    setup: Setup<A>,
 ) -> Result<Option<RunFault>, NoMemory> {
     let map = RunList::new(slots)?;
     let events = mmap_and_go(4096);
@@ -115,9 +120,10 @@ fn faults_of_the_setup(rt: HostRuntime) -> Result<(), Fail> {
         let setup = Setup {
             cores,
             frames,
+            files: Vec::new(&heap),
             calls,
         };
-        let fault = fault(&heap, rt.alloc(), &setup)?;
+        let fault = fault(&heap, rt.alloc(), setup)?;
         assert!(rt; fault == Some(RunFault::Setup(told)));
     }
     Ok(())
@@ -132,7 +138,7 @@ fn heaps_that_are_too_small(rt: HostRuntime) -> Result<(), Fail> {
     let mut whole = 0u32;
     for n in 0..12_000usize {
         let heap = LocalHeap::new(rt.alloc(), 64 + 16 * n)?;
-        let fault = fault(&heap, rt.alloc(), &SMALL)?;
+        let fault = fault(&heap, rt.alloc(), small(&heap))?;
         assert_eq!(rt; heap.used(), 0);
         match fault {
             Some(RunFault::Setup(fault)) => {
@@ -159,7 +165,7 @@ fn a_division_is_refused(rt: HostRuntime) -> Result<(), Fail> {
     let mut told = None;
     for n in 0..100usize {
         let heap = LocalHeap::new(rt.alloc(), 64 + 16 * n)?;
-        if let Ok(fault) = fault(rt.alloc(), &heap, &SMALL) {
+        if let Ok(fault) = fault(rt.alloc(), &heap, small(rt.alloc())) {
             told = fault;
             break;
         }

@@ -1,16 +1,23 @@
 //! What a machine is made with.
 ghost use Rattle.std.specs.Prelude.{◌≡◌, Option};
-ghost use Rattle.core_steps.specs.Setups.{fault_of};
+ghost use Rattle.core_steps.specs.Setups.{first_fault};
 
+use backing::FileSpec;
+use std::alloc::Allocator;
 use std::fmt;
 
+/// How many bytes a file may have at the most.
+const FILE_LIMIT: usize = 1_048_576;
+
 /// What a machine is made with.
-#[derive(Clone, Copy, Debug, PartialEq, Eq)]
-pub struct Setup {
+#[derive(Drop)]
+pub struct Setup<A: Allocator> {
     /// How many cores.
     pub cores: u64,
     /// How many frames, each of 4,096 bytes.
     pub frames: u64,
+    /// The files that are open from the start, by their numbers from 0 on.
+    pub files: Vec<FileSpec<A>, A>,
     /// How many calls may begin.
     pub calls: u64,
 }
@@ -22,6 +29,10 @@ pub enum SetupFault {
     Cores,
     /// There are more than 65,536 frames.
     Frames,
+    /// There are more than 16 files.
+    TooManyFiles,
+    /// A file has more than 1,048,576 bytes.
+    FileTooLong,
     /// More than 1,048,576 calls are asked for.
     Calls,
     /// There was no memory.
@@ -33,25 +44,56 @@ impl fmt::Display for SetupFault {
         f.write_str(match self {
             SetupFault::Cores => "S1",
             SetupFault::Frames => "S2",
+            SetupFault::TooManyFiles => "S3",
+            SetupFault::FileTooLong => "S4",
             SetupFault::Calls => "S5",
             SetupFault::NoMemory => "S6",
         })
     }
 }
 
-impl Setup {
+/// The first fault of so many cores, frames, files and calls, if they have one; `has_long` tells whether one of the files
+/// has more bytes than a file may have. No memory is looked at, so that a setup can be tested before its files are there.
+pub fn first_fault(
+    cores: u64,
+    frames: u64,
+    files: u64,
+    has_long: bool,
+    calls: u64,
+) -> Option<SetupFault>
+    ensures { result ≡ first_fault cores frames files has_long calls }
+{
+    if cores < 1 || 64 < cores {
+        Some(SetupFault::Cores)
+    } else if frames > 65_536 {
+        Some(SetupFault::Frames)
+    } else if files > 16 {
+        Some(SetupFault::TooManyFiles)
+    } else if has_long {
+        Some(SetupFault::FileTooLong)
+    } else if calls > 1_048_576 {
+        Some(SetupFault::Calls)
+    } else {
+        None
+    }
+}
+
+impl<A: Allocator> Setup<A> {
+    ghost use Rattle.std.specs.Prelude.{◌≡◌};
+    ghost use Rattle.core_steps.specs.Setups.{fault_of, has_long};
+
+    // Tells whether one of the files has more bytes than a file may have.
+    fn has_long(&self) -> bool
+        ensures { result ≡ has_long self.now.files.items }
+    {
+        self.files.iter().any(|file| file.bytes.len() > FILE_LIMIT)
+    }
+
     /// The first fault of the setup itself, if it has one.
     pub fn fault(&self) -> Option<SetupFault>
         ensures { result ≡ fault_of self.now }
     {
-        if self.cores < 1 || 64 < self.cores {
-            Some(SetupFault::Cores)
-        } else if self.frames > 65_536 {
-            Some(SetupFault::Frames)
-        } else if self.calls > 1_048_576 {
-            Some(SetupFault::Calls)
-        } else {
-            None
-        }
+        let files = self.files.len() as u64;
+        first_fault(self.cores, self.frames, files, self.has_long(), self.calls)
     }
 }

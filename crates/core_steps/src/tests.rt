@@ -3,12 +3,13 @@ ghost use Rattle.std.specs.Prelude.{◌≡◌, ◌<◌};
 
 use crate::machine::{Finished, Machine};
 use crate::setup::{Setup, SetupFault};
+use backing::FileSpec;
 use linked_list_allocator::LocalHeap;
 use machine_model::{Entry, Event, Outcome};
 use slot_lock::RunList;
 use std::alloc::Allocator;
 use std::test::Fail;
-use vm_base::{CoreId, Errno, Flags, NoMemory, Prot, Reply, Request, SegvCode};
+use vm_base::{CoreId, Errno, Flags, Mode, NoMemory, Prot, Reply, Request, SegvCode};
 
 const READ: Prot = Prot {
     read: true,
@@ -38,10 +39,11 @@ fn machine<A: Allocator + Clone + Drop>(
     let setup = Setup {
         cores: 1,
         frames,
+        files: Vec::new(alloc.clone()?),
         calls,
     };
     let map = RunList::new(alloc.clone()?)?;
-    match Machine::new(alloc, map, &setup) {
+    match Machine::new(alloc, map, setup) {
         Ok(machine) => Ok(machine),
         Err(_) => Err(NoMemory),
     }
@@ -96,10 +98,27 @@ fn answer<A: Allocator + Clone>(
     }
 }
 
+// So many files of so many bytes.
+fn files<A: Allocator + Clone>(
+    alloc: A,
+    count: usize,
+    len: usize,
+) -> Result<Vec<FileSpec<A>, A>, NoMemory> {
+    let mut files = Vec::new(alloc.clone()?);
+    for _file in 0..count {
+        let bytes = vec![in alloc.clone()?; 0u8; len]?;
+        files.push(FileSpec {
+            mode: Mode::RW,
+            bytes,
+        })?;
+    }
+    Ok(files)
+}
+
 // The first fault of a machine's setup.
 fn fault<A: Allocator + Clone + Drop>(
     alloc: A,
-    setup: &Setup,
+    setup: Setup<A>,
 ) -> Result<Option<SetupFault>, NoMemory> {
     let map = RunList::new(alloc.clone()?)?;
     match Machine::new(alloc, map, setup) {
@@ -218,24 +237,31 @@ fn no_frame_is_left(rt: HostRuntime) -> Result<(), Fail> {
 fn the_first_fault_is_told(rt: HostRuntime) -> Result<(), Fail> {
     let cores = Some(SetupFault::Cores);
     let frames = Some(SetupFault::Frames);
+    let many = Some(SetupFault::TooManyFiles);
+    let long = Some(SetupFault::FileTooLong);
     let calls = Some(SetupFault::Calls);
     let setups = [
-        ((1, 65_536, 2), None),
-        ((64, 1, 1_048_576), None),
-        ((0, 65_537, 1_048_577), cores),
-        ((65, 65_537, 1_048_577), cores),
-        ((65, 1, 1), cores),
-        ((1, 65_537, 1_048_577), frames),
-        ((64, 65_537, 1), frames),
-        ((1, 1, 1_048_577), calls),
+        ((1, 65_536, 2), (0, 0), None),
+        ((64, 1, 1_048_576), (0, 0), None),
+        ((1, 1, 1), (16, 0), None),
+        ((1, 1, 1), (1, 1_048_576), None),
+        ((0, 65_537, 1_048_577), (17, 0), cores),
+        ((65, 65_537, 1_048_577), (0, 0), cores),
+        ((65, 1, 1), (0, 0), cores),
+        ((1, 65_537, 1_048_577), (17, 0), frames),
+        ((64, 65_537, 1), (0, 0), frames),
+        ((1, 1, 1_048_577), (17, 0), many),
+        ((1, 1, 1_048_577), (1, 1_048_577), long),
+        ((1, 1, 1_048_577), (0, 0), calls),
     ];
-    for ((cores, frames, calls), told) in setups {
+    for ((cores, frames, calls), (count, len), told) in setups {
         let setup = Setup {
             cores,
             frames,
+            files: files(rt.alloc(), count, len)?,
             calls,
         };
-        assert!(rt; fault(rt.alloc(), &setup)? == told);
+        assert!(rt; fault(rt.alloc(), setup)? == told);
     }
     Ok(())
 }
@@ -282,9 +308,10 @@ fn map_in<A: Allocator + Clone + Drop>(
     let setup = Setup {
         cores: 1,
         frames: 1,
+        files: Vec::new(alloc.clone()?),
         calls: 2,
     };
-    let Ok(mut machine) = Machine::new(alloc, map, &setup) else {
+    let Ok(mut machine) = Machine::new(alloc, map, setup) else {
         return Err(NoMemory);
     };
     let taken: Vec<u8, _> = Vec::with_capacity(heap, heap.free().saturating_sub(room))?;

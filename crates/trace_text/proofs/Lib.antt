@@ -2,6 +2,7 @@ pub mod Choices
 pub mod SpellingLemmas
 pub mod FlagLemmas
 pub mod CoreLemmas
+pub mod FileLemmas
 pub mod LineLemmas
 pub mod RequestLemmas
 pub mod ActionLemmas

@@ -10,14 +10,16 @@ use Rattle.trace_text.proofs.RequestLemmas.{asked_is_read, read_is_asked}
 use Rattle.trace_text.proofs.SpellingLemmas.{number_all, number_only}
 use Rattle.trace_text.proofs.ActionLemmas.{act_is_read, page_all, page_only, only_action}
 use Rattle.trace_text.proofs.CoreLemmas.{core_all, core_only}
+use Rattle.trace_text.proofs.FileLemmas.{said_file, only_file}
 use Rattle.trace_text.specs.Words.{Word, front_word}
 use Rattle.trace_text.specs.Number.{number_of}
 use Rattle.trace_text.specs.Request.{◌>>=◌, ended, request_of}
 use Rattle.trace_text.specs.Action.{action_of, page_alone}
-use Rattle.trace_text.specs.Line.{calls_of, space_of, core_number, core_of, act_of, task_of, fold_of, now_of, event_of, line_of_words}
+use Rattle.trace_text.specs.Spelling.{mode_text}
+use Rattle.trace_text.specs.Line.{calls_of, space_of, file_of, core_number, core_of, act_of, task_of, fold_of, now_of, event_of, line_of_words}
 use Rattle.trace_text.specs.Grammar.{Limits, Says, ReadsAll, ReadsOnly}
 use Rattle.trace_text.specs.declared.line.Line.{Line}
-use Rattle.trace_text.specs.declared.line.Line.TheVariants.{Blank, Space, Act, Fold, Finish, Now}
+use Rattle.trace_text.specs.declared.line.Line.TheVariants.{Blank, Space, File, Act, Fold, Finish, Now}
 
 -- the bytes that name a core
 number_shape : (ds : List ℕ) (c : ℕ) → core_number ds ≡ Some c
@@ -83,6 +85,8 @@ said_is_read (Space cores frames calls) words (c, f, more, e, n, m, l) =
     let k : number_of c ≡ Some cores = number_all c cores n in
     let i : number_of f ≡ Some frames = number_all f frames m in
     rw (e, k, i) (limits_all cores frames calls more l)
+said_is_read (File number mode len seed) words (n, l, s, e, spelled, length, byte, small) =
+    ap line_of_words e ∙ said_file number mode len seed (n ∷ mode_text mode ∷ l ∷ s ∷ []) (n, l, s, refl, spelled, length, byte, small)
 said_is_read (Act core action) words (c, args, e, k, d) =
     ap line_of_words e ∙ acts c core args (core_all c core k) ∙ act_is_read core action args d
 said_is_read (Fold page) words (a, e, s) = ap line_of_words e ∙ ap (λ o. o >>= λ p. Some (Fold p)) (page_all a page s)
@@ -186,8 +190,11 @@ unfolding line_of_words
 read_is_said line [] e = let same : Blank ≡ line = cc in subst (λ l. Says l []) same refl
 read_is_said line (name ∷ args) e = elim (chosen (bytes_eq name (codes "vm")) (space_of args) _ (Some line) e) [
   | inl h ↦ subst (λ w. Says line (w ∷ args)) (sym (word_is name (codes "vm") h.0)) (only_space args line h.1)
-  | inr h ↦ elim (chosen (bytes_eq name (codes "fold")) (fold_of args) (event_of name args) (Some line) h.1) [
-    | inl k ↦ subst (λ w. Says line (w ∷ args)) (sym (word_is name (codes "fold") k.0)) (only_fold args line k.1)
-    | inr k ↦ only_event name args line k.1
+  | inr h ↦ elim (chosen (bytes_eq name (codes "file")) (file_of args) _ (Some line) h.1) [
+    | inl k ↦ subst (λ w. Says line (w ∷ args)) (sym (word_is name (codes "file") k.0)) (only_file args line k.1)
+    | inr k ↦ elim (chosen (bytes_eq name (codes "fold")) (fold_of args) (event_of name args) (Some line) k.1) [
+      | inl l ↦ subst (λ w. Says line (w ∷ args)) (sym (word_is name (codes "fold") l.0)) (only_fold args line l.1)
+      | inr l ↦ only_event name args line l.1
+    ]
   ]
 ]

@@ -16,7 +16,7 @@ use Rattle.trace_text.proofs.FlagLemmas.{rights_all, rights_only, flags_all, fla
 use Rattle.vm_base.specs.declared.requests.Request.{Request}
 use Rattle.vm_base.specs.declared.requests.Request.TheVariants.{Mmap, Munmap, Mprotect, Load, Store, Fetch}
 
-byte_all : (v : Word) (b : ℕ) → SpellsNumber v b → b ≤ 255 → byte_of v ≡ Some b
+pub byte_all : (v : Word) (b : ℕ) → SpellsNumber v b → b ≤ 255 → byte_of v ≡ Some b
 byte_all v b s h =
     let e : number_of v ≡ Some b = number_all v b s in
     let small : ltb 255 b ≡ false = grind (arith, nat_tests) in
@@ -55,7 +55,7 @@ asked_is_read (Mmap addr len prot flags file off) words (a, l, p, f, more, e, n,
     let t : flags_of f ≡ Some flags = flags_all f flags fe in
     rw (e, k, i, r, t) (backs_all addr len prot flags file off more be)
 
-byte_only : (v : Word) (b : ℕ) → byte_of v ≡ Some b → SpellsNumber v b × (b ≤ 255)
+pub byte_only : (v : Word) (b : ℕ) → byte_of v ≡ Some b → SpellsNumber v b × (b ≤ 255)
 byte_only v b e =
     let (n, en, t) = bind_some (number_of v) (λ n. cond (ltb 255 n) None (Some n)) b e in
     elim (chosen (ltb 255 n) None (Some n) (Some b) t) [

@@ -6,12 +6,12 @@ use Rattle.vm_base.specs.declared.requests.Request.TheVariants.{Mmap, Munmap, Mp
 use Rattle.trace_text.specs.Words.{Word}
 use Rattle.trace_text.specs.Number.{number_of}
 use Rattle.trace_text.specs.Printing.{address_of}
-use Rattle.trace_text.specs.Spelling.{SpellsNumber, SpellsPage, SpellsFlags, SpellsCore, rights_text}
+use Rattle.trace_text.specs.Spelling.{SpellsNumber, SpellsPage, SpellsFlags, SpellsCore, mode_text, rights_text}
 use Rattle.trace_text.specs.Line.{line_of_words}
 use Rattle.trace_text.specs.declared.action.Action.{Action}
 use Rattle.trace_text.specs.declared.action.Action.TheVariants.{Call, Go, Take, Flush, Review, GiveUp, Frame, Walk, Evict}
 use Rattle.trace_text.specs.declared.line.Line.{Line}
-use Rattle.trace_text.specs.declared.line.Line.TheVariants.{Blank, Space, Act, Fold, Finish, Now}
+use Rattle.trace_text.specs.declared.line.Line.TheVariants.{Blank, Space, File, Act, Fold, Finish, Now}
 
 -- the words after the flags: a file and an offset, both 0 where a mapping of zero bytes leaves them out
 abbrev pub Backs : Flags → ℕ → ℕ → List Word → Type 0
@@ -52,6 +52,8 @@ abbrev pub Says : Line → List Word → Type 0
 Says Blank words = words ≡ []
 Says (Space cores frames calls) words = (c : Word) × (f : Word) × (more : List Word)
     × (words ≡ codes "vm" ∷ c ∷ f ∷ more) × SpellsNumber c cores × SpellsNumber f frames × Limits calls more
+Says (File number mode len seed) words = (n : Word) × (l : Word) × (s : Word) × (words ≡ codes "file" ∷ n ∷ mode_text mode ∷ l ∷ s ∷ [])
+    × SpellsNumber n number × SpellsNumber l len × SpellsNumber s seed × (seed ≤ 255)
 Says (Act core action) words = (c : Word) × (args : List Word) × (words ≡ c ∷ args) × SpellsCore c core × Does action args
 Says (Fold page) words = (a : Word) × (words ≡ codes "fold" ∷ a ∷ []) × SpellsPage a page
 Says (Finish core) words = (c : Word) × (words ≡ c ∷ codes "finish" ∷ []) × SpellsCore c core

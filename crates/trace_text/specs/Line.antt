@@ -3,21 +3,29 @@ use Rattle.std.specs.Prelude.{ℕ, ◌+◌, ◌-◌, ◌*◌, Bool, false, ◌&&
 use Rattle.std.specs.Str.{bytes_eq}
 use Rattle.std.specs.List.{list_all}
 use Rattle.std.specs.Io.BufRead.{ends_with_byte, strip_last}
+use Rattle.vm_base.specs.declared.rights.Mode.{Mode}
+use Rattle.vm_base.specs.declared.rights.Mode.TheVariants.{R, W, RW}
 use Rattle.trace_text.specs.Words.{Word, byte, words_of, front_word}
 use Rattle.trace_text.specs.Number.{number_of}
-use Rattle.trace_text.specs.Request.{◌>>=◌, ended, request_of}
+use Rattle.trace_text.specs.Request.{◌>>=◌, ended, byte_of, request_of}
 use Rattle.trace_text.specs.Action.{action_of, page_alone}
 use Rattle.trace_text.specs.declared.line.Line.{Line}
-use Rattle.trace_text.specs.declared.line.Line.TheVariants.{Blank, Space, Act, Fold, Finish, Now}
+use Rattle.trace_text.specs.declared.line.Line.TheVariants.{Blank, Space, File, Act, Fold, Finish, Now}
 
 -- each byte is printable ASCII, from the space to the tilde
 abbrev pub are_printable : List ℕ → Bool
 are_printable bytes = list_all (λ b. nat_le (byte (codes " ")) b && nat_le b (byte (codes "~"))) bytes
 
--- the first of the words is `vm`
+-- the first of the words is this one
+abbrev pub begins_with : Word → List Word → Bool
+begins_with word [] = false
+begins_with word (name ∷ args) = bytes_eq name word
+
 abbrev pub begins_with_vm : List Word → Bool
-begins_with_vm [] = false
-begins_with_vm (name ∷ args) = bytes_eq name (codes "vm")
+begins_with_vm words = begins_with (codes "vm") words
+
+abbrev pub begins_with_file : List Word → Bool
+begins_with_file words = begins_with (codes "file") words
 
 -- CALLS, which is 4096 where left out
 unfoldable pub calls_of : ℕ → ℕ → List Word → Option Line
@@ -33,6 +41,28 @@ space_of words = do
   second ← front_word first.1
   frames ← number_of second.0
   calls_of cores frames second.1
+
+abbrev pub mode_of : Word → Option Mode
+mode_of word = if bytes_eq word (codes "r") then Some R
+    else if bytes_eq word (codes "w") then Some W
+    else if bytes_eq word (codes "rw") then Some RW else None
+
+-- LEN and SEED, as the last words
+unfoldable pub contents_of : ℕ → Mode → List Word → Option Line
+contents_of number mode words = do
+  third ← front_word words
+  len ← number_of third.0
+  fourth ← front_word third.1
+  seed ← byte_of fourth.0
+  ended fourth.1 (File number mode len seed)
+
+unfoldable pub file_of : List Word → Option Line
+file_of words = do
+  first ← front_word words
+  number ← number_of first.0
+  second ← front_word first.1
+  mode ← mode_of second.0
+  contents_of number mode second.1
 
 -- a number of one digit, and of two without a leading zero
 abbrev pub one_digit : ℕ → Option ℕ
@@ -86,6 +116,7 @@ fold_of words = do
 unfoldable pub line_of_words : List Word → Option Line
 line_of_words [] = Some Blank
 line_of_words (name ∷ args) = if bytes_eq name (codes "vm") then space_of args
+    else if bytes_eq name (codes "file") then file_of args
     else if bytes_eq name (codes "fold") then fold_of args else event_of name args
 
 -- what printable bytes say; a line that begins with # says nothing

@@ -3,6 +3,8 @@ use Rattle.std.specs.Prelude.{◌≡◌, ℕ, ◌+◌, ◌^◌, ◌<◌, ◌⊎�
 use Rattle.std.specs.Int.Digits.{number_from_digits}
 use Rattle.std.specs.List.{AllZip}
 use Rattle.vm_base.specs.Pages.{page_of}
+use Rattle.vm_base.specs.declared.rights.Mode.{Mode}
+use Rattle.vm_base.specs.declared.rights.Mode.TheVariants.{R, W, RW}
 use Rattle.vm_base.specs.declared.rights.Prot.{Prot}
 use Rattle.vm_base.specs.declared.requests.Flags.{Flags}
 use Rattle.trace_text.specs.Words.{Word, byte}
@@ -34,6 +36,11 @@ mark false letter = codes "-"
 
 abbrev pub rights_text : Prot → Word
 rights_text prot = mark prot.read (codes "r") ++ mark prot.write (codes "w") ++ mark prot.exec (codes "x")
+
+abbrev pub mode_text : Mode → Word
+mode_text R = codes "r"
+mode_text W = codes "w"
+mode_text RW = codes "rw"
 
 -- how often a byte stands in the word
 abbrev pub occurrences : ℕ → Word → ℕ

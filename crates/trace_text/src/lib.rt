@@ -3,6 +3,7 @@
 
 pub mod action;
 pub mod core_line;
+pub mod file_line;
 pub mod grammar;
 pub mod line;
 pub mod number;
@@ -12,7 +13,7 @@ pub mod space_line;
 pub mod words;
 
 pub use action::Action;
-pub use line::{Line, first_word_is_vm, is_printable, read_line};
+pub use line::{Line, first_word_is_file, first_word_is_vm, is_printable, read_line};
 pub use printing::{ShortText, address_text, number_text, reply_text};
 
 #[cfg(test)]

@@ -1,13 +1,14 @@
 //! What a line of a trace says.
 ghost use Rattle.std.specs.Prelude.{◌≡◌, option_map};
 ghost use Rattle.trace_text.specs.Words.{words_of};
-ghost use Rattle.trace_text.specs.Line.{are_printable, begins_with_vm, fold_of, line_of, line_of_words};
+ghost use Rattle.trace_text.specs.Line.{are_printable, begins_with, begins_with_file, begins_with_vm, fold_of, line_of, line_of_words};
 
 use crate::action::{Action, read_page_alone};
 use crate::core_line::read_core_line;
+use crate::file_line::read_file;
 use crate::space_line::read_space;
 use crate::words::next_word;
-use vm_base::{CoreId, Request};
+use vm_base::{CoreId, Mode, Request};
 
 /// What a line says.
 #[derive(Clone, Copy, Debug, PartialEq, Eq)]
@@ -15,7 +16,19 @@ pub enum Line {
     /// Nothing: no word, or a comment.
     Blank,
     /// `vm CORES FRAMES CALLS`: a space of so many cores and frames, in which so many calls may begin.
-    Space { cores: u64, frames: u64, calls: u64 },
+    Space {
+        cores: u64,
+        frames: u64,
+        calls: u64,
+    },
+    /// `file N MODE LEN SEED`: the file with this number is open for this, and has so many bytes. The byte at offset `i`
+    /// is `(seed + i) mod 256`.
+    File {
+        number: u64,
+        mode: Mode,
+        len: u64,
+        seed: u8,
+    },
     /// `cC` and an action: the core does it.
     Act(CoreId, Action),
     /// `fold ADDR`: slots are joined at the page with this number.
@@ -33,14 +46,28 @@ pub fn is_printable(bytes: &[u8]) -> bool
     bytes.iter().all(|b| *b >= 0x20 && *b <= 0x7e)
 }
 
+// Tells whether this is the first word.
+fn first_word_is(bytes: &[u8], word: &[u8]) -> bool
+    ensures { result ≡ begins_with word.now (words_of bytes.now) }
+{
+    match next_word(bytes) {
+        Some((name, _)) => name == word,
+        None => false,
+    }
+}
+
 /// Tells whether the first word is `vm`; a line without words has none.
 pub fn first_word_is_vm(bytes: &[u8]) -> bool
     ensures { result ≡ begins_with_vm (words_of bytes.now) }
 {
-    match next_word(bytes) {
-        Some((name, _)) => name == b"vm".as_slice(),
-        None => false,
-    }
+    first_word_is(bytes, b"vm")
+}
+
+/// Tells whether the first word is `file`; a line without words has none.
+pub fn first_word_is_file(bytes: &[u8]) -> bool
+    ensures { result ≡ begins_with_file (words_of bytes.now) }
+{
+    first_word_is(bytes, b"file")
 }
 
 #[tactic(auto, unfolding(crate::specs::Line::fold_of))]
@@ -60,6 +87,8 @@ fn read_words(bytes: &[u8]) -> Option<Line>
     };
     if name == b"vm".as_slice() {
         read_space(args)
+    } else if name == b"file".as_slice() {
+        read_file(args)
     } else if name == b"fold".as_slice() {
         read_fold(args)
     } else {

@@ -74,7 +74,8 @@ fn read_flags(word: &[u8]) -> Option<Flags>
     Some(flags)
 }
 
-fn read_byte(word: &[u8]) -> Option<u8>
+/// The number up to 255 that a word spells.
+pub fn read_byte(word: &[u8]) -> Option<u8>
     ensures { result ≡ byte_of word.now }
 {
     let n = read_number(word)?;

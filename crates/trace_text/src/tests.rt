@@ -1,8 +1,8 @@
 //! Lines as the format's description gives them, good and bad, and the texts of replies.
 use crate::action::Action;
-use crate::line::{Line, first_word_is_vm, is_printable, read_line};
+use crate::line::{Line, first_word_is_file, first_word_is_vm, is_printable, read_line};
 use crate::printing::{address_text, number_text, reply_text};
-use vm_base::{CoreId, Errno, Flags, Prot, Reply, Request, SegvCode};
+use vm_base::{CoreId, Errno, Flags, Mode, Prot, Reply, Request, SegvCode};
 
 const READ_WRITE: Prot = Prot {
     read: true,
@@ -45,6 +45,35 @@ fn sizes_of_a_space(rt: HostRuntime) {
     }
     assert!(rt; !first_word_is_vm(b"vmx 1 1"));
     assert!(rt; !first_word_is_vm(b"   "));
+}
+
+#[test]
+fn files_of_a_space(rt: HostRuntime) {
+    for (text, number, mode, len, seed) in [
+        (b"file 0 r 4096 1".as_slice(), 0, Mode::R, 4096, 1),
+        (b"file 2 w 0 255".as_slice(), 2, Mode::W, 0, 255),
+        (
+            b" file  0x10 rw 0x100001  007 ".as_slice(),
+            16,
+            Mode::RW,
+            1_048_577,
+            7,
+        ),
+    ] {
+        assert!(rt; first_word_is_file(text));
+        assert_eq!(rt;
+            read_line(text),
+            Some(Line::File {
+                number,
+                mode,
+                len,
+                seed
+            })
+        );
+    }
+    assert!(rt; first_word_is_file(b"file"));
+    assert!(rt; !first_word_is_file(b"files 0 r 1 1"));
+    assert!(rt; !first_word_is_file(b""));
 }
 
 #[test]
@@ -168,6 +197,13 @@ fn bad_lines(rt: HostRuntime) {
         b" # comment".as_slice(),
         b"vm 1".as_slice(),
         b"vm 1 4 4096 1".as_slice(),
+        b"file 0 rw 4096".as_slice(),
+        b"file 0 rw 4096 256".as_slice(),
+        b"file 0 rw 4096 7 7".as_slice(),
+        b"file 0 wr 4096 7".as_slice(),
+        b"file 0 - 4096 7".as_slice(),
+        b"file rw 4096 7".as_slice(),
+        b"file 0 rw 0x10000000000000000 7".as_slice(),
         b"c64 go".as_slice(),
         b"c01 go".as_slice(),
         b"C0 go".as_slice(),

@@ -1,0 +1,58 @@
+//! The line `file N MODE LEN SEED`, which says for what a file is open and which bytes it has.
+ghost use Rattle.std.specs.Prelude.{◌≡◌, option_map};
+ghost use Rattle.trace_text.specs.Words.{words_of};
+ghost use Rattle.trace_text.specs.Line.{contents_of, file_of, mode_of};
+
+use crate::line::Line;
+use crate::number::read_number;
+use crate::request::read_byte;
+use crate::words::next_word;
+use vm_base::Mode;
+
+// For what a file is open.
+fn read_mode(word: &[u8]) -> Option<Mode>
+    ensures { result ≡ mode_of word.now }
+{
+    if word == b"r".as_slice() {
+        Some(Mode::R)
+    } else if word == b"w".as_slice() {
+        Some(Mode::W)
+    } else if word == b"rw".as_slice() {
+        Some(Mode::RW)
+    } else {
+        None
+    }
+}
+
+// The length and the seed, as the last words.
+#[tactic(auto, unfolding(crate::specs::Line::contents_of))]
+fn read_contents(number: u64, mode: Mode, args: &[u8]) -> Option<Line>
+    ensures { result ≡ contents_of number mode (words_of args.now) }
+{
+    let (len, rest) = next_word(args)?;
+    let len = read_number(len)?;
+    let (seed, rest) = next_word(rest)?;
+    let seed = read_byte(seed)?;
+    if next_word(rest).is_some() {
+        return None;
+    }
+    Some(Line::File {
+        number,
+        mode,
+        len,
+        seed,
+    })
+}
+
+/// The line of these words after `file`; `None` where they are no such line. Whether its number is the next one, and whether
+/// there may be so many files and bytes, isn't tested here.
+#[tactic(auto, unfolding(crate::specs::Line::file_of))]
+pub fn read_file(args: &[u8]) -> Option<Line>
+    ensures { result ≡ file_of (words_of args.now) }
+{
+    let (number, rest) = next_word(args)?;
+    let number = read_number(number)?;
+    let (mode, rest) = next_word(rest)?;
+    let mode = read_mode(mode)?;
+    read_contents(number, mode, rest)
+}
