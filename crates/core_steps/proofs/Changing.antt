@@ -21,10 +21,7 @@ use Rattle.vm_calls.specs.Decisions.{Decides, entry_of}
 use Rattle.vm_calls.specs.Decisions.DecidesProtect.{no_page, no_write, acts}
 use Rattle.machine_model.specs.declared.phase.Phase.TheVariants.{Acks, Unlock}
 use Rattle.shootdown.specs.Inboxes.{awaited}
-use Rattle.refcache.specs.Counts.{Counts}
-use Rattle.machine_model.specs.declared.event.Blocker.TheVariants as WaitsFor
-use Rattle.machine_model.specs.declared.event.Outcome.TheVariants.{Stepped, Wait}
-use Rattle.machine_model.specs.Changes.{AwaitsNobody, Awaits, CommitsNext, CountsLost, after_commit}
+use Rattle.machine_model.specs.Changes.{AwaitsNobody, Awaits}
 use Rattle.machine_model.specs.World.{World, Hardware}
 use Rattle.machine_laws.proofs.Deciding.{sound_range}
 use Rattle.machine_laws.proofs.Moves.{call_at}
@@ -77,22 +74,12 @@ unlock_held w c held reply i = held_range w c (Unlock held reply) held i refl (u
 
 -- ---- cores that are awaited
 
-nobody_by : (h : Hardware) (c set : ℕ) (first : Option ℕ) → IfNone first (set ≡ 0) → is_some first ≡ false → members set ≡ awaited h.inbox c
+pub nobody_by : (h : Hardware) (c set : ℕ) (first : Option ℕ) → IfNone first (set ≡ 0) → is_some first ≡ false → members set ≡ awaited h.inbox c
     → AwaitsNobody h c
 nobody_by h c set None none e exact d = sym (ap (λ f. f d) exact) ∙ (ap (λ s. members s d) none ∙ members-empty d)
 nobody_by h c set (Some k) none e exact d = absurd cc
 
-awaits_by : (h : Hardware) (c set : ℕ) (first : Option ℕ) → IfSome first (λ k. members set k ≡ true) → is_some first ≡ true → members set ≡ awaited h.inbox c
+pub awaits_by : (h : Hardware) (c set : ℕ) (first : Option ℕ) → IfSome first (λ k. members set k ≡ true) → is_some first ≡ true → members set ≡ awaited h.inbox c
     → Awaits h c set
 awaits_by h c set None member e exact = absurd cc
 awaits_by h c set (Some k) member e exact = record { some = (k, sym (ap (λ f. f k) exact) ∙ member); exact = exact }
-
-pub waits : (w v : World) (c set : ℕ) (change : Change) (held : PageRange) (first : Option ℕ) → IfSome first (λ k. members set k ≡ true)
-    → is_some first ≡ true → members set ≡ awaited w.hardware.inbox c → v ≡ w → CommitsNext w c change held (Wait (WaitsFor.Acks set)) v
-waits w v c set change held first member e exact same = inr (set, awaits_by w.hardware c set first member e exact, refl, same)
-
-pub commits : (w v : World) (c set : ℕ) (change : Change) (held : PageRange) (counts : Counts) (first : Option ℕ) → IfNone first (set ≡ 0)
-    → is_some first ≡ false → members set ≡ awaited w.hardware.inbox c → CountsLost c change w counts → v ≡ after_commit c change held counts w
-    → CommitsNext w c change held Stepped v
-commits w v c set change held counts first none e exact lost now =
-    inl (nobody_by w.hardware c set first none e exact, (counts, lost, (refl, now)))

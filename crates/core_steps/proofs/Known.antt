@@ -134,12 +134,9 @@ backed_here w p core e g (Some info) same h =
     let at = framed info.frame h in
     ((g.pages p).valid (ap is_some same), (g.pages p).frame e.frame (ap frame_of same ∙ at))
   where
-    prot : Prot
-    prot = prot_installed w.memory.cached info
-
-    framed : (o : Option ℕ) → entry_for prot o ≡ Some e → o ≡ Some e.frame
+    framed : (o : Option ℕ) → entry_for (prot_installed w.memory.cached info) o ≡ Some e → o ≡ Some e.frame
     framed None k = absurd cc
-    framed (Some f) k = let same_entry : translation_of f prot ≡ e = cc in ap (λ x. Some x.frame) same_entry
+    framed (Some f) k = let same_entry : translation_of f (prot_installed w.memory.cached info) ≡ e = cc in ap (λ x. Some x.frame) same_entry
 
 table_here : (w : World) → Fine w → (c p : ℕ) (e : Translation) → w.hardware.table c p ≡ Some e → IsPage p × (e.frame < w.made.frames)
 table_here w g c p e h = backed_here w p c e g.order (w.slots.info p) refl (g.coherent.tables c p e h).entry
@@ -378,7 +375,7 @@ pub shot_here : (w : World) (c : ℕ) (change : Change) (shoot : ℕ) → IsAt w
 shot_here w c change shoot i d m =
     ∥∥₁_elim (order i) (hlevel props) (λ g. user_here w (range_of change) d g (shot_by w change shoot d (call_at w c (Post change shoot) i.phase g).ready m))
 
-valid_range : (range : PageRange) → IsPageRange range → are_pages range ≡ true
+pub valid_range : (range : PageRange) → IsPageRange range → are_pages range ≡ true
 valid_range range h = let low = h.low in let high = h.high in grind (arith, nat_tests, low, high)
 
 pub change_pages : (w : World) (c : ℕ) (phase : Phase) (change : Change) → IsAt w c phase

@@ -4,8 +4,8 @@ pub mod Rows
 pub mod Lost
 pub mod Opened
 pub mod Known
-pub mod Framing
 pub mod Changing
+pub mod Framing
 pub mod Calling
 pub mod Reached
 pub mod Runs

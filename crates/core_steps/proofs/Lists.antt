@@ -1,5 +1,5 @@
 -- Lists that are changed at one place, seen as functions, and the state of which they are a part
-use Rattle.std.proofs.Common.{◌≡◌, ℕ, zero, suc, ◌+◌, ◌<◌, List, [], ◌∷◌, ◌++◌, length, length-append, get_or, refl, ap, arith, ◌∙◌}
+use Rattle.std.proofs.Common.{◌≡◌, ℕ, zero, suc, ◌+◌, ◌<◌, List, [], ◌∷◌, ◌++◌, length, length-append, get_or, OnOk, OnErr, Result, Ok, Err, refl, ap, arith, ◌∙◌}
 use Rattle.std.specs.Prelude.{slice_set}
 use Rattle.std.proofs.Math.ListN.{replicate}
 use Rattle.std.proofs.Math.Path.{fun_ext}
@@ -43,3 +43,12 @@ room_kept log more entry limit now calls h e n =
     let a : answer_count more ≡ answer_count log + answer_count (entry ∷ []) = ap answer_count e ∙ answers_more log entry in
     let b : length more ≡ length log + 1 = ap length e ∙ length-append log (entry ∷ []) in
     omega (arith, h, n, a, b)
+
+-- an entry that is no reply grows the limit too, or was refused
+pub room_kept_either : {T E : Type 0} (r : Result T E) (log more : List Entry) (entry : Entry) (limit now calls : ℕ) → answer_count (entry ∷ []) ≡ 0
+    → limit + answer_count log ≡ calls + length log → OnOk r (more ≡ log ++ entry ∷ []) → OnOk r (now ≡ limit + 1)
+    → OnErr r (more ≡ log) → OnErr r (now ≡ limit) → now + answer_count more ≡ calls + length more
+room_kept_either (Ok x) log more entry limit now calls none h e n same still = room_kept log more entry limit now calls h e (omega (arith, none, n))
+room_kept_either (Err x) log more entry limit now calls none h e n same still =
+    let a : answer_count more ≡ answer_count log = ap answer_count same in let b : length more ≡ length log = ap length same in
+    omega (arith, h, still, a, b)

@@ -99,6 +99,9 @@ counted_next s t from end page c f v w l step k = record {
       (pages_put s.info page g (info_without_frame (s.info page)) (2 ^ 35) (k.page page f l.had)) (k.used g));
 }
   where
+    flip : (f g : ℕ) → (f == g) ≡ (g == f)
+    flip f g = grind (arith, nat_tests)
+
     old : (g : ℕ) → one (frame_of (s.info page)) g ≡ cond (f == g) 1 0
     old g = ap (λ o. one o g) l.had
 
@@ -119,9 +122,6 @@ counted_next s t from end page c f v w l step k = record {
         let had : one (frame_of (s.info page)) g ≡ 0 = old g ∙ ap (λ b. cond b 1 0) (flip f g ∙ e) in
         let now = new g in
         omega (arith, ints, m, pages, before, had, now)
-
-    flip : (f g : ℕ) → (f == g) ≡ (g == f)
-    flip f g = grind (arith, nat_tests)
 
 -- a page's frame is counted
 pub counted_used : (info : ℕ → Option PageInfo) (v : Counts) (p f : ℕ) → AreCounted info v → frame_of (info p) ≡ Some f → pos 0 <ℤ true_count v f

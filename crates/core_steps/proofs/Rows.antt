@@ -29,10 +29,10 @@ use Rattle.machine_model.specs.Actions.{to}
 use Rattle.vm_base.specs.declared.replies.Reply.{Reply}
 use Rattle.vm_base.specs.declared.requests.Request.{Request}
 use Rattle.slot_lock.specs.declared.plan.Plan.{Plan}
-use Rattle.machine_model.specs.Changes.{AwaitsNobody, Awaits, after_check, after_plan, checked_by}
+use Rattle.machine_model.specs.Changes.{after_check, after_plan, checked_by}
 use Rattle.machine_model.specs.GivingUp.{GivesUp, after_give_up}
 use Rattle.machine_model.specs.Holding.{can_give_up}
-use Rattle.core_steps.specs.Moving.{is_copy_due}
+use Rattle.core_steps.specs.Moving.{AwaitsCopy, is_copy_due}
 use Rattle.vm_base.specs.declared.page.PageRange.{PageRange}
 use Rattle.machine_model.specs.Translating.{Evicts, TakesMessage, Walks, after_eviction, after_walk, can_walk, tables_cleared, tlb_invalidated, with_hardware, with_inbox, with_table, entry_for, entry_of_page}
 use Rattle.core_steps.proofs.Each.{put_id}
@@ -111,7 +111,7 @@ pub no_such_frame : (w v : World) (c f : ℕ) (touch : Touch) (old : Option ℕ)
 no_such_frame w v c f touch old e h = if_false (w.memory.is_free f) _ _ e (refl, h)
 
 -- a call that can be given up is, where it doesn't await others for a copy
-pub given_up : (w v : World) (c : ℕ) (phase : Phase) → can_give_up phase ≡ true → (is_copy_due phase ≡ true → AwaitsNobody w.hardware c)
+pub given_up : (w v : World) (c : ℕ) (phase : Phase) → can_give_up phase ≡ true → AwaitsCopy w.hardware c phase false
     → v ≡ after_give_up c phase w → GivesUp w c phase Stepped v
 given_up w v c (CopyAcks touch frame) e nobody h = inl (nobody refl, (refl, h))
 given_up w v c Free e nobody h = absurd cc
@@ -149,23 +149,23 @@ not_given_up w v c (Install touch) e h = absurd cc
 not_given_up w v c (Release touch) e h = absurd cc
 
 -- a copy for which others are awaited isn't
-pub copy_awaited : (w v : World) (c set : ℕ) (phase : Phase) → is_copy_due phase ≡ true → Awaits w.hardware c set → v ≡ w → GivesUp w c phase Idle v
-copy_awaited w v c set (CopyAcks touch frame) e a h = inr ((set, a), (refl, h))
-copy_awaited w v c set Free e a h = absurd cc
-copy_awaited w v c set (Check request) e a h = absurd cc
-copy_awaited w v c set (Lock goal cursor) e a h = absurd cc
-copy_awaited w v c set (Decide change) e a h = absurd cc
-copy_awaited w v c set (Post change shoot) e a h = absurd cc
-copy_awaited w v c set (Acks change held) e a h = absurd cc
-copy_awaited w v c set (Unlock held reply) e a h = absurd cc
-copy_awaited w v c set (Answer reply) e a h = absurd cc
-copy_awaited w v c set (Try touch) e a h = absurd cc
-copy_awaited w v c set (Settle touch) e a h = absurd cc
-copy_awaited w v c set (Want touch old) e a h = absurd cc
-copy_awaited w v c set (Fill touch frame) e a h = absurd cc
-copy_awaited w v c set (CopyPost touch frame) e a h = absurd cc
-copy_awaited w v c set (Install touch) e a h = absurd cc
-copy_awaited w v c set (Release touch) e a h = absurd cc
+pub copy_awaited : (w v : World) (c : ℕ) (phase : Phase) → AwaitsCopy w.hardware c phase true → v ≡ w → GivesUp w c phase Idle v
+copy_awaited w v c (CopyAcks touch frame) a h = inr (a.1, (refl, h))
+copy_awaited w v c Free a h = let due = a.0 in absurd cc
+copy_awaited w v c (Check request) a h = let due = a.0 in absurd cc
+copy_awaited w v c (Lock goal cursor) a h = let due = a.0 in absurd cc
+copy_awaited w v c (Decide change) a h = let due = a.0 in absurd cc
+copy_awaited w v c (Post change shoot) a h = let due = a.0 in absurd cc
+copy_awaited w v c (Acks change held) a h = let due = a.0 in absurd cc
+copy_awaited w v c (Unlock held reply) a h = let due = a.0 in absurd cc
+copy_awaited w v c (Answer reply) a h = let due = a.0 in absurd cc
+copy_awaited w v c (Try touch) a h = let due = a.0 in absurd cc
+copy_awaited w v c (Settle touch) a h = let due = a.0 in absurd cc
+copy_awaited w v c (Want touch old) a h = let due = a.0 in absurd cc
+copy_awaited w v c (Fill touch frame) a h = let due = a.0 in absurd cc
+copy_awaited w v c (CopyPost touch frame) a h = let due = a.0 in absurd cc
+copy_awaited w v c (Install touch) a h = let due = a.0 in absurd cc
+copy_awaited w v c (Release touch) a h = let due = a.0 in absurd cc
 
 -- ---- the arguments of a request
 

@@ -10,10 +10,10 @@ use Rattle.machine_model.specs.declared.event.Outcome.{Outcome}
 use Rattle.machine_model.specs.declared.event.Outcome.TheVariants.{Stepped, Idle, Full}
 use Rattle.machine_model.specs.declared.phase.Phase.{Phase}
 use Rattle.machine_model.specs.declared.phase.Phase.TheVariants.{Lock, Fill, CopyAcks, Install}
-use Rattle.machine_model.specs.Changes.{AwaitsNobody}
+use Rattle.machine_model.specs.Changes.{AwaitsNobody, Awaits}
 use Rattle.machine_model.specs.Files.{back_of}
 use Rattle.machine_model.specs.Holding.{goal_range}
-use Rattle.machine_model.specs.World.{World}
+use Rattle.machine_model.specs.World.{World, Hardware}
 use Rattle.machine_sound.specs.Invariant.{Fine}
 
 -- ---- want of memory
@@ -43,6 +43,11 @@ Tries Does MayRefuse w (Err refused) v = (v ≡ w) × MayRefuse
 abbrev pub is_copy_due : Phase → Bool
 is_copy_due (CopyAcks touch frame) = true
 is_copy_due _ = false
+
+-- and whether some is awaited for it
+abbrev pub AwaitsCopy : Hardware → ℕ → Phase → Bool → Type 0
+AwaitsCopy h c phase true = (is_copy_due phase ≡ true) × ((set : ℕ) × Awaits h c set)
+AwaitsCopy h c phase false = is_copy_due phase ≡ true → AwaitsNobody h c
 
 -- ---- joins of slots
 

@@ -86,8 +86,7 @@ impl<M: SlotMap, H: Hardware, A: Allocator> Engine<M, H, A> {
         requires { IsAt (world M.slots self.old) core (Phase.Acks change held) }
         ensures { Goes (world M.slots self.old) core (Phase.Acks change held) result (world M.slots self.new) }
     {
-        let waiting = self.cores.waiting(core);
-        if waiting.first().is_some() {
+        if let Some(waiting) = self.cores.awaited(core) {
             return Outcome::Wait(Blocker::Acks(waiting));
         }
         make_change(&mut self.map, &mut self.counts, core, change);

@@ -56,7 +56,8 @@ impl<M: SlotMap, H: Hardware, A: Allocator> Engine<M, H, A> {
         self.frames.copy(shown, frame);
         self.counts.begin(frame, 1);
         self.counts.dec(core, shown);
-        let (frame, cores) = (Some(frame), CoreSet::empty());
+        let frame = Some(frame);
+        let cores = CoreSet::empty();
         self.map
             .set_leaf(core, touch.page, PageInfo { frame, cores, ..info });
         self.go_to(core, Phase::Install(touch));
@@ -75,8 +76,7 @@ impl<M: SlotMap, H: Hardware, A: Allocator> Engine<M, H, A> {
             (WantsMemory (world M.slots self.old) core (Phase.CopyAcks touch frame))
             (world M.slots self.old) result (world M.slots self.new) }
     {
-        let waiting = self.cores.waiting(core);
-        if waiting.first().is_some() {
+        if let Some(waiting) = self.cores.awaited(core) {
             return Ok(Outcome::Wait(Blocker::Acks(waiting)));
         }
         if let Some(info) = self.map.page(touch.page)

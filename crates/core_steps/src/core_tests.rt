@@ -10,7 +10,7 @@ use vm_base::{CoreId, CoreSet, Flags, NoMemory, Prot, Reply, Request, SegvCode};
 
 /// What a core does, and what it must come to.
 #[derive(Clone, Copy)]
-enum Row {
+pub enum Row {
     /// One event.
     Does(u8, Act, Came),
     /// Steps of the core's call up to the first that isn't Stepped.
@@ -21,7 +21,7 @@ enum Row {
 
 /// An event of a core.
 #[derive(Clone, Copy)]
-enum Act {
+pub enum Act {
     Call(Request),
     Go,
     Frame(u64),
@@ -31,11 +31,12 @@ enum Act {
     Flush,
     Review,
     Fold(u64),
+    GiveUp,
 }
 
 /// What an event came to.
 #[derive(Clone, Copy)]
-enum Came {
+pub enum Came {
     Stepped,
     Idle,
     /// The core that holds the slot.
@@ -118,7 +119,7 @@ fn machine<A: Allocator + Clone + Drop>(
 }
 
 /// The core of this number.
-fn core(index: u8) -> CoreId {
+pub fn core(index: u8) -> CoreId {
     CoreId::new(index % 64)
 }
 
@@ -134,6 +135,7 @@ fn event_of(index: u8, act: Act) -> Event {
         Act::Flush => Event::Flush(core(index)),
         Act::Review => Event::Review(core(index)),
         Act::Fold(page) => Event::Fold(page),
+        Act::GiveUp => Event::GiveUp(core(index)),
     }
 }
 
@@ -189,7 +191,7 @@ fn ended<A: Allocator + Clone>(
 }
 
 /// The index of the first row that came to something else.
-fn first_wrong<A: Allocator + Clone>(
+pub fn first_wrong<A: Allocator + Clone>(
     machine: &mut Machine<RunList<A>, A>,
     rows: &[Row],
 ) -> Result<Option<usize>, NoMemory> {

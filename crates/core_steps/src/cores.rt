@@ -57,7 +57,7 @@ impl<H: Bare<A>, A: Allocator + Clone> Cores<H, A> {
 }
 
 impl<H: Hardware, A: Allocator> Cores<H, A> {
-    ghost use Rattle.std.specs.Prelude.{◌<◌, true, Some, is_some, OnOk, OnErr, if◌then◌else◌};
+    ghost use Rattle.std.specs.Prelude.{◌<◌, true, Some, is_some, IfNone, IfSome, OnOk, OnErr, if◌then◌else◌};
     ghost use Rattle.vm_base.specs.Cores.{members};
     ghost use Rattle.vm_base.specs.Functions.{put};
     ghost use Rattle.vm_base.specs.Pages.{is_page, are_pages};
@@ -66,7 +66,7 @@ impl<H: Hardware, A: Allocator> Cores<H, A> {
     ghost use Rattle.mmu.specs.Tlb.{tlb_at};
     ghost use Rattle.shootdown.specs.Inboxes.{awaited};
     ghost use Rattle.shootdown.specs.Messages.{asked, remaining};
-    ghost use Rattle.machine_model.specs.Changes.{AwaitsNobody};
+    ghost use Rattle.machine_model.specs.Changes.{AwaitsNobody, Awaits};
     ghost use Rattle.machine_model.specs.Translating.{translated_by, frame_reached, after_translating, can_walk, after_walk, after_eviction, after_shot, tables_cleared, tlb_invalidated, with_table, with_inbox};
     ghost use Rattle.core_steps.specs.Parts.{parts};
 
@@ -170,6 +170,18 @@ impl<H: Hardware, A: Allocator> Cores<H, A> {
         ensures { members result ≡ awaited (parts self.now).hardware.inbox core }
     {
         self.inboxes.waiting(core)
+    }
+
+    /// The cores that still have the core's message, if some do.
+    pub fn awaited(&self, core: CoreId) -> Option<CoreSet>
+        ensures none { IfNone result (AwaitsNobody (parts self.now).hardware core) }
+        ensures some { IfSome result (λ set. Awaits (parts self.now).hardware core set) }
+    {
+        let waiting = self.waiting(core);
+        if waiting.first().is_some() {
+            return Some(waiting);
+        }
+        None
     }
 
     /// The 64 bits of the entry that the core's tables have of the page.

@@ -1,6 +1,7 @@
 //! How a page gets its frame: a new one of zeros, the one that caches its file page, or a copy of its file page.
-ghost use Rattle.std.specs.Prelude.{◌≡◌, None, Some, OnOk, OnErr};
+ghost use Rattle.std.specs.Prelude.{◌≡◌, None, Some};
 ghost use Rattle.vm_base.specs.declared.info.Back.TheVariants.{Anon, Private};
+ghost use Rattle.vm_base.specs.declared.rights.Access.TheVariants.{Store};
 ghost use Rattle.vm_base.specs.Info.{info_with_frame};
 ghost use Rattle.slot_lock.specs.Slots.{with_info};
 ghost use Rattle.machine_model.specs.declared.event.Outcome.TheVariants.{Stepped};
@@ -13,6 +14,7 @@ ghost use Rattle.core_steps.specs.Moving.{IsAt, Tries, WantsMemory};
 
 use crate::engine::Engine;
 use crate::file_pages::back_of;
+use crate::give_up::give_back;
 use machine_model::{Outcome, Phase};
 use mmu::Hardware;
 use slot_lock::{SlotMap, Touch};
@@ -31,39 +33,50 @@ fn set_frame<M: SlotMap>(map: &mut M, core: CoreId, page: u64, frame: u32)
 }
 
 impl<M: SlotMap, H: Hardware, A: Allocator> Engine<M, H, A> {
-    /// The anonymous page gets the frame, with zero bytes and counted once.
-    fn fill_zeros(&mut self, core: CoreId, touch: Touch, frame: u32)
-        requires at { IsAt (world M.slots self.old) core (Phase.Fill touch (Some frame)) }
-        requires anonymous { back_of ((M.slots self.old.map).info touch.page) ≡ Anon }
-        ensures { FillsOwn (world M.slots self.old) (λ f counts. after_zeros core touch f counts (world M.slots self.old)) (Some frame) Stepped (world M.slots self.new) }
+    /// The anonymous page gets the frame that the call has taken, with zero bytes and counted once.
+    fn fill_zeros(&mut self, core: CoreId, touch: Touch, frame: Option<u32>) -> Outcome
+        requires at { IsAt (world M.slots self.old) core (Phase.Fill touch frame) }
+        requires backed { back_of ((M.slots self.old.map).info touch.page) ≡ Anon }
+        ensures { FillsOwn (world M.slots self.old) (λ f counts. after_zeros core touch f counts (world M.slots self.old)) frame result (world M.slots self.new) }
     {
+        let Some(frame) = frame else {
+            // the call has taken one
+            return Outcome::Idle;
+        };
         self.frames.fill_zero(frame);
         self.counts.begin(frame, 1);
         set_frame(&mut self.map, core, touch.page, frame);
         self.go_to(core, Phase::Install(touch));
+        Outcome::Stepped
     }
 
-    /// The private page gets the frame, with the bytes of its file page as they now are and counted once, for a store. A refusal
-    /// for memory changes nothing.
+    /// The private page gets the frame that the call has taken, with the bytes of its file page as they now are and counted once,
+    /// for a store. A refusal for memory changes nothing.
     fn fill_copy(
         &mut self,
         core: CoreId,
         touch: Touch,
-        frame: u32,
+        frame: Option<u32>,
         file: u32,
         page: u64,
-    ) -> Result<(), NoMemory>
-        requires at { IsAt (world M.slots self.old) core (Phase.Fill touch (Some frame)) }
-        requires private { back_of ((M.slots self.old.map).info touch.page) ≡ Private file page }
-        ensures ok { OnOk result (FillsOwn (world M.slots self.old) (λ f counts. after_first_copy core touch f counts (world M.slots self.old)) (Some frame) Stepped (world M.slots self.new)) }
-        ensures err { OnErr result (world M.slots self.new ≡ world M.slots self.old) }
+    ) -> Result<Outcome, NoMemory>
+        requires at { IsAt (world M.slots self.old) core (Phase.Fill touch frame) }
+        requires backed { back_of ((M.slots self.old.map).info touch.page) ≡ Private file page }
+        requires store { touch.access ≡ Store }
+        ensures { Tries (FillsOwn (world M.slots self.old) (λ f counts. after_first_copy core touch f counts (world M.slots self.old)) frame)
+            (Unit {0})
+            (world M.slots self.old) result (world M.slots self.new) }
     {
+        let Some(frame) = frame else {
+            // the call has taken one
+            return Ok(Outcome::Idle);
+        };
         self.calls.log_detach(core, touch.page)?;
         self.objects.fill(file, page, &mut self.frames, frame);
         self.counts.begin(frame, 1);
         set_frame(&mut self.map, core, touch.page, frame);
         self.go_to(core, Phase::Install(touch));
-        Ok(())
+        Ok(Outcome::Stepped)
     }
 
     /// The page shows the frame that caches its file page, and is counted there; a frame that the call has taken goes back.
@@ -72,9 +85,7 @@ impl<M: SlotMap, H: Hardware, A: Allocator> Engine<M, H, A> {
         requires cached { file_frame (world M.slots self.old).memory.cached (back_of ((M.slots self.old.map).info touch.page)) ≡ Some cached }
         ensures { FillsFromFile (world M.slots self.old) core touch own (Some cached) Stepped (world M.slots self.new) }
     {
-        if let Some(own) = own {
-            self.frames.give(own);
-        }
+        give_back(&mut self.frames, own);
         self.counts.inc(core, cached);
         set_frame(&mut self.map, core, touch.page, cached);
         self.go_to(core, Phase::Install(touch));
@@ -107,12 +118,15 @@ impl<M: SlotMap, H: Hardware, A: Allocator> Engine<M, H, A> {
         requires backed { IsOfFile (back_of ((M.slots self.old.map).info touch.page)) file page }
         ensures { FillsFromFile (world M.slots self.old) core touch own ((world M.slots self.old).memory.cached file page) result (world M.slots self.new) }
     {
-        match (self.objects.cached(file, page), own) {
-            (Some(cached), _) => self.share(core, touch, own, cached),
-            (None, Some(frame)) => self.cache(core, touch, frame, file, page),
-            // a call that has taken no frame comes here only where one caches the file page
-            (None, None) => {}
+        if let Some(cached) = self.objects.cached(file, page) {
+            self.share(core, touch, own, cached);
+            return Outcome::Stepped;
         }
+        let Some(frame) = own else {
+            // a call that has taken none comes here only where one caches the file page
+            return Outcome::Idle;
+        };
+        self.cache(core, touch, frame, file, page);
         Outcome::Stepped
     }
 
@@ -129,25 +143,16 @@ impl<M: SlotMap, H: Hardware, A: Allocator> Engine<M, H, A> {
             (WantsMemory (world M.slots self.old) core (Phase.Fill touch frame))
             (world M.slots self.old) result (world M.slots self.new) }
     {
-        match (back_of(&self.map.page(touch.page)), touch.access, frame) {
-            (Back::Anon, _, Some(frame)) => {
-                self.fill_zeros(core, touch, frame);
-                Ok(Outcome::Stepped)
-            }
-            (Back::Private { file, page }, Access::Store, Some(frame)) => {
-                self.fill_copy(core, touch, frame, file, page)?;
-                Ok(Outcome::Stepped)
-            }
-            (Back::Shared { file, page }, _, _) => {
-                Ok(self.show_file(core, touch, frame, file, page))
-            }
-            (Back::Private { file, page }, Access::Load | Access::Fetch, _) => {
-                Ok(self.show_file(core, touch, frame, file, page))
-            }
-            // where no frame caches a file page that the page may show, the call has taken one
-            (Back::Anon, _, None) | (Back::Private { .. }, Access::Store, None) => {
-                Ok(Outcome::Idle)
-            }
+        let info = self.map.page(touch.page);
+        match back_of(&info) {
+            Back::Anon => Ok(self.fill_zeros(core, touch, frame)),
+            Back::Shared { file, page } => Ok(self.show_file(core, touch, frame, file, page)),
+            Back::Private { file, page } => match touch.access {
+                Access::Store => self.fill_copy(core, touch, frame, file, page),
+                Access::Load | Access::Fetch => {
+                    Ok(self.show_file(core, touch, frame, file, page))
+                }
+            },
         }
     }
 }

@@ -1,15 +1,16 @@
 //! A call that is given up for want of memory.
-ghost use Rattle.std.specs.Prelude.{◌≡◌, ℕ, IfSome, IsTrue, IsFalse, true};
+ghost use Rattle.std.specs.Prelude.{◌≡◌, ◌<◌, IfSome, false};
 ghost use Rattle.vm_base.specs.declared.page.PageRange.{PageRange};
 ghost use Rattle.slot_lock.specs.Plan.{IsSound};
-ghost use Rattle.machine_model.specs.GivingUp.{GivesUp};
+ghost use Rattle.frames.specs.Parts.{frame_bytes, free_frames};
+ghost use Rattle.machine_model.specs.GivingUp.{GivesUp, given_back};
 ghost use Rattle.machine_model.specs.Holding.{can_give_up, if_some_page, plan_in, range_held, still_held, taken_in};
 ghost use Rattle.core_steps.specs.State.{phase_of, world};
-ghost use Rattle.machine_model.specs.Changes.{Awaits, AwaitsNobody};
-ghost use Rattle.core_steps.specs.Moving.{IsOf, is_copy_due};
+ghost use Rattle.core_steps.specs.Moving.{AwaitsCopy, IsOf, is_copy_due};
 
 use crate::acquire::{goal_range, page_of_touch};
 use crate::engine::Engine;
+use frames::Frames;
 use machine_model::{Outcome, Phase};
 use mmu::Hardware;
 use slot_lock::SlotMap;
@@ -75,13 +76,34 @@ fn if_some_page(range: Option<PageRange>) -> Option<PageRange>
     }
 }
 
+/// Tells whether a copy is due once no other core is awaited.
+fn is_copy_due(phase: &Phase) -> bool
+    ensures { result ≡ is_copy_due phase.now }
+{
+    matches!(phase, Phase::CopyAcks { .. })
+}
+
+/// A frame that a call took and no page has goes back.
+pub fn give_back<A: Allocator>(frames: &mut Frames<A>, own: Option<u32>)
+    requires { IfSome own (λ f. (f < frames.old.count) × (free_frames frames.old f ≡ false)) }
+    ensures free { free_frames frames.new ≡ given_back own (free_frames frames.old) }
+    ensures bytes { frame_bytes frames.new ≡ frame_bytes frames.old }
+    ensures count { frames.new.count ≡ frames.old.count }
+{
+    if let Some(frame) = own {
+        frames.give(frame);
+    }
+}
+
 impl<M: SlotMap, H: Hardware, A: Allocator> Engine<M, H, A> {
     /// Tells whether the call waits for other cores before its copy is made.
     fn awaits_copy(&self, core: CoreId, phase: &Phase) -> bool
-        ensures awaits { IsTrue result → (is_copy_due phase.now ≡ true) × ((set : ℕ) × Awaits (world M.slots self.now).hardware core set) }
-        ensures nobody { IsFalse result → is_copy_due phase.now ≡ true → AwaitsNobody (world M.slots self.now).hardware core }
+        ensures { AwaitsCopy (world M.slots self.now).hardware core phase.now result }
     {
-        matches!(phase, Phase::CopyAcks { .. }) && self.cores.waiting(core).first().is_some()
+        if !is_copy_due(phase) {
+            return false;
+        }
+        self.cores.awaited(core).is_some()
     }
 
     /// The core's call is given up, if it still can be: a frame that no page has yet goes back, and what is held is unlocked
@@ -97,9 +119,7 @@ impl<M: SlotMap, H: Hardware, A: Allocator> Engine<M, H, A> {
         if self.awaits_copy(core, &phase) {
             return Outcome::Idle;
         }
-        if let Some(frame) = taken_in(&phase) {
-            self.frames.give(frame);
-        }
+        give_back(&mut self.frames, taken_in(&phase));
         let held = if_some_page(range_held(&phase));
         self.reply(core, held, Reply::NoMemory);
         Outcome::Stepped

@@ -19,6 +19,8 @@ mod engine;
 mod events;
 mod fault;
 mod file_pages;
+#[cfg(test)]
+mod file_tests;
 mod filling;
 mod give_up;
 pub mod machine;

@@ -53,8 +53,8 @@ impl<T: Copy + Drop, A: Allocator> Reserved<T, A> {
         };
         self.items
             .try_reserve(limit as usize - self.items.len())?;
-        self.items.push_reserved(value);
         self.limit = limit;
+        self.items.push_reserved(value);
         Ok(())
     }
 }

@@ -1,19 +1,11 @@
-use Rattle.std.proofs.Common.{◌≡◌, sym, ◌∙◌, rules, true}
+use Rattle.std.proofs.Common.{◌≡◌, refl, sym, subst, ◌∙◌, rules, true}
 use Rattle.machine_model.specs.Holding.{can_give_up}
+use Rattle.core_steps.specs.Moving.{AwaitsCopy}
 use Rattle.core_steps.specs.State.{world}
-use Rattle.core_steps.proofs.Known.{opened, plan_sound, room_for, taken_below, taken_busy}
+use Rattle.core_steps.proofs.Known.{opened, plan_sound, room_for}
+use Rattle.core_steps.proofs.Framing.{taken_here}
+use Rattle.core_steps.proofs.Rows.{copy_awaited, given_up, not_given_up}
 use Rattle.core_steps.proofs.engine.Engine.give_up.Goals as goal
-use Rattle.core_steps.proofs.engine.Engine.give_up.Goals.{in-Some, in_default}
-
-pub give-requires-clause-taken : goal.give-requires-clause-taken
-give-requires-clause-taken g c =
-    taken_busy (world g.M.SlotRead.slots c.args.self.now) c.args.core c.phase_of-phase.result
-    (record { here = c.requires.here; phase = sym c.phase_of-phase.ensures; fine = c.requires.fine }) c.in-Some.frame (sym c.taken_in.ensures ∙ c.in-Some.is)
-
-pub give-requires-clause-in_range : goal.give-requires-clause-in_range
-give-requires-clause-in_range g c =
-    taken_below (world g.M.SlotRead.slots c.args.self.now) c.args.core c.phase_of-phase.result
-    (record { here = c.requires.here; phase = sym c.phase_of-phase.ensures; fine = c.requires.fine }) c.in-Some.frame (sym c.taken_in.ensures ∙ c.in-Some.is)
 
 pub range_held-requires : goal.range_held-requires
 range_held-requires g c =
@@ -23,9 +15,27 @@ range_held-requires g c =
 pub reply-requires-clause-room : goal.reply-requires-clause-room
 reply-requires-clause-room g c =
     let can : can_give_up c.phase_of-phase.result ≡ true = search rules in
-    let room = room_for (world g.M.SlotRead.slots c.args.self.now) c.args.core c.phase_of-phase.result
-    (record { here = c.requires.here; phase = sym c.phase_of-phase.ensures; fine = c.requires.fine }) (opened c.phase_of-phase.result can) in
-    elim c.match-taken_in.branch [
-      | in-Some w ↦ rw w.self-is room
-      | in_default w ↦ rw w.self-is room
-    ]
+    room_for (world g.M.SlotRead.slots c.args.self.now) c.args.core c.phase_of-phase.result
+    (record { here = c.requires.here; phase = sym c.phase_of-phase.ensures; fine = c.requires.fine }) (opened c.phase_of-phase.result can)
+
+pub give_back-requires : goal.give_back-requires
+give_back-requires g c =
+    rw c.taken_in.ensures (taken_here (world g.M.SlotRead.slots c.args.self.now) c.args.core c.phase_of-phase.result
+        (record { here = c.requires.here; phase = sym c.phase_of-phase.ensures; fine = c.requires.fine }))
+
+pub returns-then-not-can_give_up : goal.returns-then-not-can_give_up
+returns-then-not-can_give_up g c =
+    rw (sym c.phase_of-phase.ensures) (not_given_up (world g.M.SlotRead.slots c.args.self.now) _ c.args.core c.phase_of-phase.result
+        (sym c.can_give_up.ensures ∙ c.if-can_give_up.false) refl)
+
+pub returns-then-awaits_copy : goal.returns-then-awaits_copy
+returns-then-awaits_copy g c =
+    rw (sym c.phase_of-phase.ensures) (copy_awaited (world g.M.SlotRead.slots c.args.self.now) _ c.args.core c.phase_of-phase.result
+        (subst (AwaitsCopy (world g.M.SlotRead.slots c.args.self.now).hardware c.args.core c.phase_of-phase.result) c.if-awaits_copy.true c.awaits_copy.ensures) refl)
+
+pub returns : goal.returns
+returns g c =
+    let w = world g.M.SlotRead.slots c.args.self.now in
+    rw (sym c.phase_of-phase.ensures) (given_up w _ c.args.core c.phase_of-phase.result (sym c.can_give_up.ensures ∙ c.if-can_give_up.true)
+        (subst (AwaitsCopy w.hardware c.args.core c.phase_of-phase.result) c.if-awaits_copy.false c.awaits_copy.ensures)
+        (c.reply.ensures ∙ rw (c.if_some_page-held.ensures, c.range_held.ensures, c.give_back.ensures.free, c.give_back.ensures.bytes, c.give_back.ensures.count, c.taken_in.ensures) refl))

@@ -1,13 +1,8 @@
-use Rattle.std.proofs.Common.{refl, sym, ◌∙◌}
+use Rattle.std.proofs.Common.{inl, refl}
 use Rattle.core_steps.specs.State.{world}
 use Rattle.core_steps.proofs.Known.{are_counted, core_counted, room_for}
-use Rattle.core_steps.proofs.Changing.{acks_held, acks_sound, acks_mapped, waits, commits}
+use Rattle.core_steps.proofs.Changing.{acks_held, acks_sound, acks_mapped}
 use Rattle.core_steps.proofs.engine.Engine.go_acks.Goals as goal
-
-pub returns-then-is_some : goal.returns-then-is_some
-returns-then-is_some g c =
-    waits _ _ c.args.core c.waiting-waiting.result c.args.change c.args.held c.first.result c.first.ensures.member (sym c.is_some.ensures ∙ c.if-is_some.true)
-    c.waiting-waiting.ensures refl
 
 pub make_change-requires-clause-sound : goal.make_change-requires-clause-sound
 make_change-requires-clause-sound g c = acks_sound _ c.args.core _ _ c.requires
@@ -32,5 +27,4 @@ reply-requires-clause-room g c = room_for _ c.args.core _ c.requires refl
 
 pub returns : goal.returns
 returns g c =
-    commits _ _ c.args.core c.waiting-waiting.result c.args.change c.args.held _ c.first.result c.first.ensures.none (sym c.is_some.ensures ∙ c.if-is_some.false)
-    c.waiting-waiting.ensures c.make_change.ensures.counted (rw (c.reply.ensures, c.reply_to.ensures, c.make_change.ensures.slots) refl)
+    inl (c.in_default.ensures.none, (_, c.make_change.ensures.counted, (refl, rw (c.reply.ensures, c.reply_to.ensures, c.make_change.ensures.slots) refl)))
