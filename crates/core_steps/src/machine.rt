@@ -39,8 +39,9 @@ impl<M: SlotMap + Drop, A: Allocator + Clone + Drop> Machine<M, A> {
     ghost use Rattle.core_steps.specs.Setups.{fault_of, IsFirstFault, made_of};
     ghost use Rattle.core_steps.specs.Machine.{state};
 
-    /// A machine over a new slot map. It keeps room for one log entry of each call, so that a logged step takes no memory. The
-    /// bytes of the files are moved, not copied. Of several faults the first is told, in the order of `SetupFault`.
+    /// A machine over a new slot map. It keeps room for one log entry of each call, so that a logged step takes no
+    /// memory. The bytes of the files are moved, not copied. Of several faults the first is told, in the order of
+    /// `SetupFault`.
     pub fn new(alloc: A, map: M, setup: Setup<A>) -> Result<Machine<M, A>, SetupFault>
         requires { IsNew (M.slots map) }
         ensures opening { IfOk result (λ machine. state machine ≡ new_world (made_of setup) (M.slots map)) }

@@ -64,7 +64,8 @@ only_file args line e =
     let (none, same) = ended_some fourth.1 (File number mode len seed) line g4 in
     let is : second.0 ≡ mode_text mode = mode_only second.0 mode n2 in
     let last = front_some second.1 third e3 ∙ ap (λ ws. third.0 ∷ ws) (front_some third.1 fourth e4 ∙ ap (λ ws. fourth.0 ∷ ws) none) in
-    let words = front_some args first e1 ∙ ap (λ ws. first.0 ∷ ws) (front_some first.1 second e2 ∙ ap (λ w. w ∷ second.1) is ∙ ap (λ ws. mode_text mode ∷ ws) last) in
+    let others = front_some first.1 second e2 ∙ ap (λ w. w ∷ second.1) is ∙ ap (λ ws. mode_text mode ∷ ws) last in
+    let words = front_some args first e1 ∙ ap (λ ws. first.0 ∷ ws) others in
     let byte = byte_only fourth.0 seed n4 in
     subst (λ l. Says l (codes "file" ∷ args)) same (
       first.0,

@@ -21,8 +21,8 @@ pub enum Line {
         frames: u64,
         calls: u64,
     },
-    /// `file N MODE LEN SEED`: the file with this number is open for this, and has so many bytes. The byte at offset `i`
-    /// is `(seed + i) mod 256`.
+    /// `file N MODE LEN SEED`: the file with this number is open for this, and has so many bytes. The byte at offset
+    /// `i` is `(seed + i) mod 256`.
     File {
         number: u64,
         mode: Mode,
