@@ -1,5 +1,7 @@
 mod Examples
 mod Rank
+mod Storing
+mod Framed
 mod Rows
 pub mod Telling
 pub mod Using
