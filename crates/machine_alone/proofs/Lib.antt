@@ -6,6 +6,7 @@ mod Rows
 pub mod Telling
 pub mod Using
 pub mod Used
+mod Noting
 pub mod Taking
 pub mod Serving
 pub mod Ending
