@@ -8,6 +8,7 @@ pub mod Using
 pub mod Used
 mod Noting
 pub mod Taking
+mod Awaiting
 pub mod Serving
 pub mod Ending
 pub mod Beside

@@ -24,7 +24,7 @@ use Rattle.shootdown.specs.declared.message.Message.{Message}
 use Rattle.shootdown.specs.Inboxes.{awaited}
 use Rattle.shootdown.specs.Messages.{message_of, posted}
 use Rattle.machine_model.specs.declared.phase.Phase.{Phase}
-use Rattle.machine_model.specs.declared.phase.Phase.TheVariants.{Free, Lock, Post, Acks, CopyPost, CopyAcks, Install, Release}
+use Rattle.machine_model.specs.declared.phase.Phase.TheVariants.{Free, Check, Lock, Decide, Post, Acks, Unlock, Answer, Try, Settle, Want, Fill, CopyPost, CopyAcks, Install, Release}
 use Rattle.machine_model.specs.declared.phase.Goal.{Goal}
 use Rattle.machine_model.specs.declared.phase.Goal.TheVariants as To
 use Rattle.machine_model.specs.Accesses.{taken_for, after_frame, after_install, reply_of, memory_after}
@@ -51,6 +51,33 @@ IsToldOf s h c (Some range) = (d : ℕ) →
 -- while the call awaits acknowledgements
 abbrev pub IsTold : Slots → Hardware → ℕ → Phase → Type 0
 IsTold s h c phase = IsToldOf s h c (awaits_in phase)
+
+-- ---- the phases in which a call waits
+
+-- a call in this phase waits until others have dropped these pages: those of a change, or that of a store that is to have a copy
+pub data Waits (phase : Phase) (range : PageRange) : Type 0 where
+  for_change : (change : Change) (held : PageRange) → phase ≡ Acks change held → range ≡ range_of change → Waits phase range
+  for_copy : (touch : Touch) (frame : ℕ) → phase ≡ CopyAcks touch frame → range ≡ page_of_touch touch → Waits phase range
+
+pub waits_at : (phase : Phase) (range : PageRange) → awaits_in phase ≡ Some range → Waits phase range
+waits_at (Acks change held) range e = for_change change held refl cc
+waits_at (CopyAcks touch frame) range e = for_copy touch frame refl cc
+waits_at Free range e = absurd cc
+waits_at (Check request) range e = absurd cc
+waits_at (Lock goal cursor) range e = absurd cc
+waits_at (Decide change) range e = absurd cc
+waits_at (Post change shoot) range e = absurd cc
+waits_at (Unlock held reply) range e = absurd cc
+waits_at (Answer reply) range e = absurd cc
+waits_at (Try touch) range e = absurd cc
+waits_at (Settle touch) range e = absurd cc
+waits_at (Want touch old) range e = absurd cc
+waits_at (Fill touch frame) range e = absurd cc
+waits_at (CopyPost touch frame) range e = absurd cc
+waits_at (Install touch) range e = absurd cc
+waits_at (Release touch) range e = absurd cc
+
+-- ---- messages
 
 -- what has no message of core c gets one at its end
 told_message : (ms : List Message) (c : ℕ) (range : PageRange) → is_some (message_of (ms ++ posted c range ∷ []) c) ≡ true

@@ -167,7 +167,7 @@ fault_keeps t c request (Copies f) reply h = absurd h
 fault_keeps t c request (Cached f) reply h = absurd h
 fault_keeps t c request Wants reply h = absurd h
 
-same_request : (w : World) (c : ℕ) (r request : Request) → nth w.calls.requests (w.calls.number c) ≡ Some r → nth w.calls.requests (w.calls.number c) ≡ Some request
+pub same_request : (w : World) (c : ℕ) (r request : Request) → nth w.calls.requests (w.calls.number c) ≡ Some r → nth w.calls.requests (w.calls.number c) ≡ Some request
     → r ≡ request
 same_request w c r request e k = cc
 

@@ -223,7 +223,7 @@ touch_asked modes core request touch e = go request (passed (refusal modes reque
     go (Store addr byte) e = stores addr byte refl (its addr byte By.Store e)
     go (Fetch addr) e = fetches addr refl (its addr 0 By.Fetch e)
 
-as_asked : (P : Request → Touch → Type 0) (request r : Request) (touch x : Touch) → request ≡ r → touch ≡ x → P r x → P request touch
+pub as_asked : (P : Request → Touch → Type 0) (request r : Request) (touch x : Touch) → request ≡ r → touch ≡ x → P r x → P request touch
 as_asked P request r touch x e i h = subst (λ q. P q touch) (sym e) (subst (P r) (sym i) h)
 
 -- with the copy that its page has got, if it is the map's
@@ -231,7 +231,7 @@ abbrev Adds : Plain → ℕ → Request → Touch → Type 0
 Adds t core request touch = (byte : ℕ) (copy : Option ℕ) → page_copied t request (byte_reply touch.access byte) ≡ copy
     → (u : Users) → Same (users_after t core request (byte_reply touch.access byte) u) (with_user touch.page core (users_left copy u))
 
-added : (page core : ℕ) (first copy : Option ℕ) (u : Users) → first ≡ copy → Same (with_user page core (users_left first u)) (with_user page core (users_left copy u))
+pub added : (page core : ℕ) (first copy : Option ℕ) (u : Users) → first ≡ copy → Same (with_user page core (users_left first u)) (with_user page core (users_left copy u))
 added page core first copy u e = subst (λ o. Same (with_user page core (users_left first u)) (with_user page core (users_left o u))) e (λ p c. refl)
 
 pub touch_adds : (t : Plain) (core : ℕ) (request : Request) (touch : Touch) → IsTouchOf request touch → Adds t core request touch
@@ -354,7 +354,7 @@ unused_left u page none p c = go (has (pages_from page 1) p) refl
         ap (λ p. u p c) same ∙ none c
 
 pub left_same : (copy : Option ℕ) (a b : Users) → Same a b → Same (users_left copy a) (users_left copy b)
-left_same None a b s = s
+left_same None a b s p c = s p c
 left_same (Some page) a b s p c = ap (λ x. cond (has (pages_from page 1) p) false x) (s p c)
 
 -- the core that is a user already
