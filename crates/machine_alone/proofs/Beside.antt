@@ -1,5 +1,5 @@
 -- What happens beside a call that waits, or where no core has a call
-use Rattle.std.proofs.Common.{◌≡◌, ℕ, ◌<◌, ◌≤◌, ◌==◌, ◌⊎◌, Bool, true, false, cond, inl, inr, refl, sym, ap, subst, arith, None, Some, Option, List, [], ◌∷◌, ◌∙◌}
+use Rattle.std.proofs.Common.{◌≡◌, ◌≢◌, ℕ, ◌<◌, ◌≤◌, ◌==◌, ◌⊎◌, Bool, true, false, cond, inl, inr, refl, sym, ap, subst, arith, None, Some, Option, List, [], ◌∷◌, ◌∙◌}
 use Rattle.std.specs.Prelude.{if◌then◌else◌, is_some, nat_lt, pred}
 use Rattle.std.proofs.lemmas.Bool.Decides.{nat_tests}
 use Rattle.vm_base.specs.declared.info.PageInfo.{PageInfo}
@@ -198,7 +198,7 @@ reviewed w v o (ReviewOf.Freed f) counts h = either w v o _ (inl h) (λ e. by_ha
 not_given_up : (w v : World) (core : ℕ) (r : IsResting w core) (c : ℕ) (touch : Touch) (frame : ℕ) (o : Outcome) → w.calls.phase c ≡ CopyAcks touch frame
     → (can_give_up (w.calls.phase c) ≡ false) ⊎ ((d : ℕ) × (0 < left_to w d)) → GivesUp (with_event w) c (CopyAcks touch frame) o v → Idles (with_event w) o v
 not_given_up w v core r c touch frame o p b (inr h) = h.1
-not_given_up w v core r c touch frame o p (inl no) (inl h) = absurd (let z = sym (ap can_give_up p) ∙ no in cc)
+not_given_up w v core r c touch frame o p (inl never) (inl h) = absurd (let z = sym (ap can_give_up p) ∙ never in cc)
 not_given_up w v core r c touch frame o p (inr some) (inl h) =
     absurd (
     let a = (left_is_awaited w.calls.phase some.0 (w.hardware.inbox some.0) c only ((reached_fine w r.reached).coherent.asked some.0)).1 some.1 in

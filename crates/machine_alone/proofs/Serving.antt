@@ -18,6 +18,7 @@ use Rattle.machine_model.specs.declared.log.Entry.TheVariants as EntryOf
 use Rattle.machine_model.specs.declared.phase.Phase.{Phase}
 use Rattle.machine_model.specs.declared.phase.Phase.TheVariants.{Free, Check, Lock, Decide, Post, Acks, Unlock, Answer, Try, Settle, Want, Fill, CopyPost, CopyAcks, Install, Release}
 use Rattle.machine_model.specs.World.{World, Made}
+use Rattle.slot_lock.specs.declared.plan.Touch.{Touch}
 use Rattle.machine_model.specs.Holding.{awaits_in, holds}
 use Rattle.machine_model.specs.Actions.{to}
 use Rattle.machine_model.specs.Changes.{Awaits}
@@ -25,7 +26,7 @@ use Rattle.machine_model.specs.Step.{Acts, Goes, after_call, with_event, event_l
 use Rattle.machine_laws.specs.Brackets.{nth}
 use Rattle.machine_laws.proofs.Effects.{Status, Closed, Asked, Told, status, SameCalls, Effect, keeps, tells, detaches, opens, closes, effect_of}
 use Rattle.machine_laws.proofs.Numbered.{at_new}
-use Rattle.machine_laws.proofs.Shapes.{Rests, absent, busy, full, free, cannot, waits, awaits, GoesBy, Works, clears, invalidates, walks, evicts, flushes, reviews, frees, IsGoing, going, picking, Shape, rests, begins, ends, goes, gives_up, works, joins, Comes, stopped, acts as happens, comes}
+use Rattle.machine_laws.proofs.Shapes.{Rests, absent, busy, full, free as callless, cannot, waits, awaits, GoesBy, Works, clears, invalidates, walks, evicts, flushes, reviews, frees, IsGoing, going, picking, Shape, rests, begins, ends, goes, gives_up, works, joins, Comes, stopped, acts as happens, comes}
 use Rattle.machine_sound.specs.Log.{Replays, Stands}
 use Rattle.machine_sound.specs.Invariant.{Fine}
 use Rattle.machine_sound.specs.Sound.{IsDue, IsReached}
@@ -92,7 +93,7 @@ never : (free : ℕ → Bool) (w : World) (t : Plain) (c : ℕ) (request : Reque
 never first w t c request x o v h (absent e i) k = absurd (cc (h.inside, e))
 never first w t c request x o v h (busy d r e n i) k = absurd cc
 never first w t c request x o v h (full d r e n i) k = absurd cc
-never first w t c request x o v h (free d e p i) k =
+never first w t c request x o v h (callless d e p i) k =
     let same : c ≡ d = cc in absurd (not_free w.calls.log x.calls.log (x.calls.number c) c h.copy (x.calls.phase c) h.logged (ap x.calls.phase same ∙ p))
 never first w t c request x o v h (cannot a b i) k = absurd (a c refl)
 never first w t c request x o v h (awaits d range set e p a i) k =
@@ -243,7 +244,7 @@ begun w c request m (happens n shape) s = go shape
     none (absent e i) = cc
     none (busy d r e k i) = cc
     none (full d r e k i) = cc
-    none (free d e p i) = cc
+    none (callless d e p i) = cc
     none (waits d goal cursor by e p ne own i) = cc
     none (cannot a b i) = b c request refl
     none (awaits d range set e p a i) = cc
