@@ -1,5 +1,5 @@
 -- Calls on disjoint pages don't wait for slots of each other.
-use Rattle.std.proofs.Common.{◌≡◌, ℕ, true, subst, arith}
+use Rattle.std.proofs.Common.{◌≡◌, ℕ, true, subst, arith, Option}
 use Rattle.vm_base.proofs.Functions.{has_in, in_has}
 use Rattle.slot_lock.specs.Slots.{Slots, between}
 use Rattle.machine_model.specs.declared.event.Blocker.TheVariants as WaitsFor
@@ -7,7 +7,7 @@ use Rattle.machine_model.specs.declared.event.Event.TheVariants.{Go}
 use Rattle.machine_model.specs.declared.event.Outcome.{Outcome}
 use Rattle.machine_model.specs.declared.event.Outcome.TheVariants.{Wait}
 use Rattle.machine_model.specs.declared.phase.Phase.{Phase}
-use Rattle.machine_model.specs.declared.phase.Phase.TheVariants.{Free, Check, Lock, Decide, Post, Acks, Unlock, Answer, Try, Settle, Want, Fill, Install, Release}
+use Rattle.machine_model.specs.declared.phase.Phase.TheVariants.{Free, Check, Lock, Decide, Post, Acks, Unlock, Answer, Try, Settle, Want, Fill, CopyPost, CopyAcks, Install, Release}
 use Rattle.machine_model.specs.Holding.{goal_range, holds, range_in, some_has}
 use Rattle.machine_model.specs.World.{World, Made}
 use Rattle.machine_model.specs.Step.{Step}
@@ -17,24 +17,26 @@ use Rattle.machine_sound.proofs.Kept.{reached_fine, steps_sound}
 use Rattle.machine_alone.specs.Apart.{AreApart, KeepApart}
 
 -- what a call holds is of its footprint
-footprint_has : (made : Made) (s : Slots) (phase : Phase) (p : ℕ) → IsReady made s phase → holds phase p ≡ true → some_has (range_in phase) p ≡ true
-footprint_has made s (Lock goal cursor) p r h =
+footprint_has : (made : Made) (s : Slots) (cached : ℕ → ℕ → Option ℕ) (phase : Phase) (p : ℕ) → IsReady made s cached phase → holds phase p ≡ true → some_has (range_in phase) p ≡ true
+footprint_has made s cached (Lock goal cursor) p r h =
     let low = has_in (between (goal_range goal).first cursor) p h in
     let high = r.1 in
     in_has (goal_range goal) p low.0 (let b = low.1 in omega (arith, high, b))
-footprint_has made s Free p r h = h
-footprint_has made s (Check request) p r h = h
-footprint_has made s (Decide change) p r h = h
-footprint_has made s (Post change shoot) p r h = h
-footprint_has made s (Acks change held) p r h = h
-footprint_has made s (Unlock held reply) p r h = h
-footprint_has made s (Answer reply) p r h = h
-footprint_has made s (Try touch) p r h = h
-footprint_has made s (Settle touch) p r h = h
-footprint_has made s (Want touch) p r h = h
-footprint_has made s (Fill touch frame) p r h = h
-footprint_has made s (Install touch) p r h = h
-footprint_has made s (Release touch) p r h = h
+footprint_has made s cached Free p r h = h
+footprint_has made s cached (Check request) p r h = h
+footprint_has made s cached (Decide change) p r h = h
+footprint_has made s cached (Post change shoot) p r h = h
+footprint_has made s cached (Acks change held) p r h = h
+footprint_has made s cached (Unlock held reply) p r h = h
+footprint_has made s cached (Answer reply) p r h = h
+footprint_has made s cached (Try touch) p r h = h
+footprint_has made s cached (Settle touch) p r h = h
+footprint_has made s cached (Want touch old) p r h = h
+footprint_has made s cached (CopyPost touch frame) p r h = h
+footprint_has made s cached (CopyAcks touch frame) p r h = h
+footprint_has made s cached (Fill touch frame) p r h = h
+footprint_has made s cached (Install touch) p r h = h
+footprint_has made s cached (Release touch) p r h = h
 
 no_wait : (w v : World) (c d : ℕ) (o : Outcome) → IsReached w → AreApart w c d → Step w (Go c) o v → o ≡ Wait (WaitsFor.Slot d) → ⊥
 no_wait w v c d o reached apart step e =
@@ -43,7 +45,7 @@ no_wait w v c d o reached apart step e =
     let same : b.0 ≡ c = cc in
     let p = b.3 in
     let mine : some_has (range_in (w.calls.phase c)) p ≡ true = subst (λ n. some_has (range_in (w.calls.phase n)) p ≡ true) same b.4 in
-    apart p mine (footprint_has w.made w.slots (w.calls.phase d) p (order.ready d) (order.only d p b.5))
+    apart p mine (footprint_has w.made w.slots w.memory.cached (w.calls.phase d) p (order.ready d) (order.only d p b.5))
 
 pub kept_apart : (w : World) → IsReached w → KeepApart w
 kept_apart w reached =

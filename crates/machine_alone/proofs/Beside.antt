@@ -1,5 +1,5 @@
 -- What happens beside a call that waits, or where no core has a call
-use Rattle.std.proofs.Common.{◌≡◌, ℕ, ◌<◌, ◌≤◌, ◌==◌, ◌⊎◌, Bool, true, false, cond, inl, inr, refl, sym, ap, subst, arith, None, Some, Option, List, [], ◌∷◌, ◌∙◌}
+use Rattle.std.proofs.Common.{◌≡◌, ◌≢◌, ℕ, ◌<◌, ◌≤◌, ◌==◌, ◌⊎◌, Bool, true, false, cond, inl, inr, refl, sym, ap, subst, arith, None, Some, Option, List, [], ◌∷◌, ◌∙◌}
 use Rattle.std.specs.Prelude.{if◌then◌else◌, is_some, nat_lt, pred}
 use Rattle.std.proofs.lemmas.Bool.Decides.{nat_tests}
 use Rattle.vm_base.specs.declared.info.PageInfo.{PageInfo}
@@ -18,18 +18,20 @@ use Rattle.shootdown.specs.declared.message.Took.{Took}
 use Rattle.shootdown.specs.declared.message.Took.TheVariants as TookOf
 use Rattle.shootdown.specs.Messages.{asked, message_of, remaining}
 use Rattle.slot_lock.specs.declared.plan.Change.{Change}
+use Rattle.slot_lock.specs.declared.plan.Touch.{Touch}
+use Rattle.slot_lock.specs.Plan.{range_of}
 use Rattle.machine_model.specs.declared.event.Event.{Event}
 use Rattle.machine_model.specs.declared.event.Event.TheVariants.{Call, Go, Frame, Take, Walk, Evict, Flush, Review, Fold, GiveUp}
 use Rattle.machine_model.specs.declared.event.Outcome.{Outcome}
 use Rattle.machine_model.specs.declared.event.Outcome.TheVariants.{Stepped, Idle, Full}
 use Rattle.machine_model.specs.declared.phase.Phase.{Phase}
-use Rattle.machine_model.specs.declared.phase.Phase.TheVariants.{Free, Acks}
+use Rattle.machine_model.specs.declared.phase.Phase.TheVariants.{Free, Acks, CopyAcks}
 use Rattle.machine_model.specs.Accesses.{TakesThisFrame}
 use Rattle.machine_model.specs.Actions.{Becomes, Idles}
 use Rattle.machine_model.specs.Counting.{ReportsFlush, ReportsReview}
 use Rattle.machine_model.specs.Events.{core_of}
 use Rattle.machine_model.specs.GivingUp.{GivesUp}
-use Rattle.machine_model.specs.Holding.{awaits_in}
+use Rattle.machine_model.specs.Holding.{awaits_in, can_give_up, page_of_touch}
 use Rattle.machine_model.specs.Translating.{TakesMessage, after_eviction, after_walk, can_walk, tables_cleared, tlb_invalidated, with_hardware, with_inbox}
 use Rattle.machine_model.specs.World.{World, Hardware}
 use Rattle.machine_model.specs.Step.{Acts, Goes, is_here, with_event, event_limit, Step}
@@ -37,6 +39,7 @@ use Rattle.machine_coherence.specs.Coherent.{AreAsked}
 use Rattle.machine_sound.proofs.Kept.{reached_fine}
 use Rattle.machine_alone.specs.Taken.{frames_taken}
 use Rattle.machine_alone.proofs.Taking.{one_given}
+use Rattle.machine_alone.proofs.Telling.{Waits, for_change, for_copy, left_is_awaited, waits_at}
 use Rattle.machine_alone.specs.Alone.{ComesBeside, IsBeside, IsBesideCalls, IsResting, KeepsTakes, left_to, takes_left}
 
 -- ---- a world whose calls are those of another
@@ -81,18 +84,30 @@ by_cond false A B h = inr h
 
 -- ---- the calls
 
-rest_at : (w : World) (core : ℕ) → IsResting w core → (c : ℕ) → (w.calls.phase c ≡ Free) ⊎ ((change : Change) × ((held : PageRange) × (w.calls.phase c ≡ Acks change held)))
+-- a core has no call, or waits
+abbrev Rest : World → ℕ → Type 0
+Rest w c = (w.calls.phase c ≡ Free) ⊎ ((range : PageRange) × Waits (w.calls.phase c) range)
+
+rest_at : (w : World) (core : ℕ) → IsResting w core → (c : ℕ) → Rest w c
 rest_at w core r c = go (c == core) refl
   where
-    go : (b : Bool) → (c == core) ≡ b → (w.calls.phase c ≡ Free) ⊎ ((change : Change) × ((held : PageRange) × (w.calls.phase c ≡ Acks change held)))
-    go true e = subst (λ n. (w.calls.phase n ≡ Free) ⊎ ((change : Change) × ((held : PageRange) × (w.calls.phase n ≡ Acks change held)))) (sym (eq_true c core e)) r.own
+    go : (b : Bool) → (c == core) ≡ b → Rest w c
+    go true e = subst (Rest w) (sym (eq_true c core e)) (elim r.own [
+      | inl free ↦ inl free
+      | inr waits ↦ inr (waits.0, waits_at (w.calls.phase core) waits.0 waits.1)
+    ])
     go false e = inl (r.others c (eq_false c core e))
 
 -- by the phase, which is free or waits
-by_rest : (P : Phase → Type 0) (phase : Phase) → ((phase ≡ Free) ⊎ ((change : Change) × ((held : PageRange) × (phase ≡ Acks change held))))
-    → (A : Type 0) → (P Free → A) → ((change : Change) (held : PageRange) → P (Acks change held) → A) → P phase → A
-by_rest P phase (inl e) A f g h = f (subst P e h)
-by_rest P phase (inr e) A f g h = g e.0 e.1.0 (subst P e.1.1 h)
+by_rest : (w : World) (c : ℕ) (P : Phase → Type 0) → Rest w c
+    → (A : Type 0) → (P Free → A) → ((change : Change) (held : PageRange) → P (Acks change held) → A)
+    → ((touch : Touch) (frame : ℕ) → w.calls.phase c ≡ CopyAcks touch frame → P (CopyAcks touch frame) → A) → P (w.calls.phase c) → A
+by_rest w c P (inl e) A f g k h = f (subst P e h)
+by_rest w c P (inr e) A f g k h = waiting e.1
+  where
+    waiting : Waits (w.calls.phase c) e.0 → A
+    waiting (for_change change held p i) = g change held (subst P p h)
+    waiting (for_copy touch frame p i) = k touch frame p (subst P p h)
 
 -- ---- messages
 
@@ -179,17 +194,40 @@ reviewed w v o (ReviewOf.Dropped f) counts h = either w v o _ (inl h) (λ e. by_
 reviewed w v o (ReviewOf.Requeued f) counts h = either w v o _ (inl h) (λ e. by_hardware w _ v refl refl refl refl (least (frames_taken w)) e)
 reviewed w v o (ReviewOf.Freed f) counts h = either w v o _ (inl h) (λ e. by_hardware w _ v refl refl refl refl (one_given w.memory.is_free f w.made.frames) e)
 
+-- a store that awaits some core can't be given up
+not_given_up : (w v : World) (core : ℕ) (r : IsResting w core) (c : ℕ) (touch : Touch) (frame : ℕ) (o : Outcome) → w.calls.phase c ≡ CopyAcks touch frame
+    → (can_give_up (w.calls.phase c) ≡ false) ⊎ ((d : ℕ) × (0 < left_to w d)) → GivesUp (with_event w) c (CopyAcks touch frame) o v → Idles (with_event w) o v
+not_given_up w v core r c touch frame o p b (inr h) = h.1
+not_given_up w v core r c touch frame o p (inl never) (inl h) = absurd (let z = sym (ap can_give_up p) ∙ never in cc)
+not_given_up w v core r c touch frame o p (inr some) (inl h) =
+    absurd (
+    let a = (left_is_awaited w.calls.phase some.0 (w.hardware.inbox some.0) c only ((reached_fine w r.reached).coherent.asked some.0)).1 some.1 in
+    let z = h.0 some.0 in
+    cc)
+  where
+    mine : core ≡ c
+    mine = go (c == core) refl
+      where
+        go : (b : Bool) → (c == core) ≡ b → core ≡ c
+        go true e = sym (eq_true c core e)
+        go false e = absurd (let z = sym (r.others c (eq_false c core e)) ∙ p in cc)
+
+    only : (b : ℕ) → b ≢ c → awaits_in (w.calls.phase b) ≡ None
+    only b ne = ap awaits_in (r.others b (λ e. ne (e ∙ mine)))
+
 acted : (w v : World) (core : ℕ) (e : Event) (o : Outcome) → IsResting w core → IsBeside w e → Acts (with_event w) e o v → IsBesideCalls w v × ComesBeside w e o v
 acted w v core (Call c request) o r b h = absurd b
 acted w v core (Go c) o r b h =
     let z : Idles (with_event w) o v = subst (λ phase. Goes (with_event w) c phase o v) b h in
     let k = idles w v z.1 in (k.0, (z.0, k.1))
 acted w v core (Frame c f) o r b h =
-    by_rest (λ phase. TakesThisFrame (with_event w) c phase f o v) (w.calls.phase c) (rest_at w core r c) _
-    (λ z. let k = idles w v z.1 in (k.0, (z.0, k.1))) (λ change held z. let k = idles w v z.1 in (k.0, (z.0, k.1))) h
+    by_rest w c (λ phase. TakesThisFrame (with_event w) c phase f o v) (rest_at w core r c) _
+    (λ z. let k = idles w v z.1 in (k.0, (z.0, k.1))) (λ change held z. let k = idles w v z.1 in (k.0, (z.0, k.1)))
+    (λ touch frame p z. let k = idles w v z.1 in (k.0, (z.0, k.1))) h
 acted w v core (GiveUp c) o r b h =
-    by_rest (λ phase. GivesUp (with_event w) c phase o v) (w.calls.phase c) (rest_at w core r c) _
-    (λ z. let k = idles w v z.1 in (k.0, (z.0, k.1))) (λ change held z. let k = idles w v z.1 in (k.0, (z.0, k.1))) h
+    by_rest w c (λ phase. GivesUp (with_event w) c phase o v) (rest_at w core r c) _
+    (λ z. let k = idles w v z.1 in (k.0, (z.0, k.1))) (λ change held z. let k = idles w v z.1 in (k.0, (z.0, k.1)))
+    (λ touch frame p z. let i = not_given_up w v core r c touch frame o p b z in let k = idles w v i.1 in (k.0, (i.0, k.1))) h
 acted w v core (Take c) o r b h = taken w v core r c o (asked (w.hardware.inbox c)) refl h
 acted w v core (Walk c p) o r b h =
     either w v o (with_hardware (after_walk w.hardware c p) (with_event w)) (by_cond (can_walk w.hardware c p) _ _ h) (λ e. by_hardware w _ v refl refl refl refl (least (frames_taken w)) e)

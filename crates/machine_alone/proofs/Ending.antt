@@ -1,113 +1,247 @@
 -- A call that waits, and beside which no other call runs, is answered once nobody is awaited.
-use Rattle.std.proofs.Common.{◌≡◌, ◌≢◌, ℕ, zero, suc, ◌+◌, ◌<◌, ◌^◌, ◌⊎◌, true, inl, inr, refl, sym, ap, subst, arith, Some, None, ◌∙◌}
+use Rattle.std.proofs.Common.{◌≡◌, ◌≢◌, ℕ, zero, suc, ◌+◌, ◌≤◌, ◌<◌, ◌^◌, ◌⊎◌, Bool, true, false, cond, inl, inr, refl, sym, ap, subst, arith, Some, None, Option, ◌∙◌}
+use Rattle.std.specs.Prelude.{if◌then◌else◌}
+use Rattle.std.proofs.Math.Path.{fun_ext}
 use Rattle.vm_base.specs.declared.page.PageRange.{PageRange}
 use Rattle.vm_base.specs.declared.replies.Reply.{Reply}
+use Rattle.vm_base.specs.declared.replies.Reply.TheVariants as ReplyOf
 use Rattle.vm_base.specs.declared.requests.Request.{Request}
+use Rattle.vm_base.specs.Functions.{put}
 use Rattle.vm_base.specs.Plain.{Plain, mode_of}
-use Rattle.vm_base.proofs.Functions.{put_other, put_same}
+use Rattle.vm_base.proofs.Functions.{put_all, put_other, put_same}
 use Rattle.shootdown.specs.Inboxes.{awaited}
-use Rattle.slot_lock.specs.declared.plan.Change.{Change}
+use Rattle.slot_lock.specs.declared.plan.Touch.{Touch}
 use Rattle.slot_lock.specs.Plan.{range_of}
 use Rattle.machine_model.specs.declared.event.Blocker.TheVariants as WaitsFor
 use Rattle.machine_model.specs.declared.event.Event.TheVariants.{Go}
 use Rattle.machine_model.specs.declared.event.Outcome.{Outcome}
-use Rattle.machine_model.specs.declared.event.Outcome.TheVariants.{Stepped, Wait}
-use Rattle.machine_model.specs.declared.phase.Phase.TheVariants.{Acks}
-use Rattle.machine_model.specs.Actions.{let_go}
-use Rattle.machine_model.specs.Changes.{Awaits, AwaitsNobody, reply_to}
-use Rattle.machine_model.specs.Holding.{awaits_in}
-use Rattle.machine_model.specs.World.{World}
+use Rattle.machine_model.specs.declared.event.Outcome.TheVariants.{Stepped, Wait, Answered}
+use Rattle.machine_model.specs.declared.phase.Phase.{Phase}
+use Rattle.machine_model.specs.declared.phase.Phase.TheVariants.{Free, Check, Lock, Decide, Post, Acks, Unlock, Answer, Try, Settle, Want, Fill, CopyPost, CopyAcks, Install, Release}
+use Rattle.machine_model.specs.Accesses.{NoneFree}
+use Rattle.machine_model.specs.Actions.{let_go, to}
+use Rattle.machine_model.specs.Changes.{Awaits, AwaitsNobody}
+use Rattle.machine_model.specs.Holding.{awaits_in, taken_in}
+use Rattle.machine_model.specs.Locks.{held_after}
+use Rattle.machine_model.specs.World.{World, Made}
 use Rattle.machine_model.specs.Step.{with_event, event_limit, Step, StepsTo}
 use Rattle.machine_laws.proofs.Deciding.{change_sound, sound_range}
-use Rattle.machine_laws.proofs.Effects.{Asked, Told, status, Effect, keeps, tells, opens, closes, effect_of}
+use Rattle.machine_laws.proofs.Effects.{Asked, status}
 use Rattle.machine_laws.proofs.Moves.{IsCallOf, call_at}
-use Rattle.machine_laws.proofs.Shapes.{locks, tries, acts, finds, lacks, refuses, no_place, declines, fails, no_frame, unlocks, releases, GoesBy, moves, divides, owns, lets_go, answers, posts, commits, takes, fills, installs, accesses, faults, comes}
+use Rattle.machine_laws.proofs.Shapes.{Moves, locks, tries, acts, finds, lacks, shows, Replies, refuses, no_place, declines, fails, no_frame, LetsGo, unlocks, releases, GoesBy, moves, divides, owns, lets_go, answers, posts, commits, takes, zeroes, first_copies, caches, shares, posts_copy, copies, installs, accesses, faults, comes}
+use Rattle.machine_sound.specs.Log.{Stands}
+use Rattle.machine_sound.specs.Invariant.{Fine}
 use Rattle.machine_sound.proofs.Kept.{reached_fine, reached_step}
-use Rattle.machine_alone.specs.Alone.{IsWaiting, IsServedAtLast, IsAwaitingStill, takes_left}
+use Rattle.machine_alone.specs.Alone.{IsAnsweredAtLast, IsWaiting, IsServed, IsServedAtLast, IsAwaitingStill, takes_left}
+use Rattle.machine_alone.specs.Copies.{page_copied, with_copy}
+use Rattle.machine_alone.specs.Taken.{frames_for, frames_taken, is_access, taken_below}
 use Rattle.machine_alone.specs.Users.{recorded}
-use Rattle.machine_alone.proofs.Rank.{rank_of, reach_of, size}
-use Rattle.machine_alone.proofs.Rows.{IsSure, left_of}
-use Rattle.machine_alone.proofs.Telling.{left_is_awaited}
+use Rattle.machine_alone.proofs.Awaiting.{change_answers, copy_frames}
+use Rattle.machine_alone.proofs.Noting.{IsLogged}
+use Rattle.machine_alone.proofs.Rank.{rank_of, reach_of, hits, size}
+use Rattle.machine_alone.proofs.Rows.{HasTaken, IsDueReply, IsSure, IsSureOf, left_of, sure_at}
+use Rattle.machine_alone.proofs.Storing.{IsStorable}
+use Rattle.machine_alone.proofs.Taking.{TakesOne, its_access, no_frame_access, taken_most}
+use Rattle.machine_alone.proofs.Telling.{Waits, for_change, for_copy, left_is_awaited, waits_at}
 use Rattle.machine_alone.proofs.Used.{Used}
-use Rattle.machine_alone.proofs.Serving.{IsLogged, IsServing, nears, returns, awaits_acks, row_of, before_limit, shape_at, less_test, returned, along}
+use Rattle.machine_alone.proofs.Serving.{IsServing, nears, returns, awaits_acks, row_of, before_limit, shape_at, less_test, returned, along}
 
--- ---- once the change is made the call has its reply
+-- ---- a call that has waited doesn't wait again
 
-abbrev HasReply : World → ℕ → Type 0
-HasReply x c = (reply : Reply) × (status (x.calls.phase c) ≡ Told reply)
+-- the change is made, or the page has its copy
+abbrev IsPast : (Touch → Option ℕ) → Phase → Type 0
+IsPast reach (Unlock held reply) = Unit {0}
+IsPast reach (Answer reply) = Unit {0}
+IsPast reach (Install touch) = Unit {0}
+IsPast reach (Release touch) = Unit {0}
+IsPast reach (Try touch) = hits reach touch ≡ true
+IsPast reach _ = ⊥
 
-not_acks : (x : World) (c : ℕ) (change : Change) (held : PageRange) → HasReply x c → x.calls.phase c ≡ Acks change held → ⊥
-not_acks x c change held h e = let a = h.1 in let b : status (x.calls.phase c) ≡ Asked = ap status e in cc
+abbrev IsPastOf : ℕ → World → Type 0
+IsPastOf c w = IsPast (reach_of w.hardware c) (w.calls.phase c)
 
-told_next : (x : World) (c : ℕ) (v : World) → HasReply x c → Effect (with_event x) (Go c) Stepped v → HasReply v c
-told_next x c v h (keeps _ same log sts) = (h.0, sts c ∙ h.1)
-told_next x c v h (tells b reply _ same asked log sts) =
-    (h.0, sts c ∙ put_other (λ n. status (x.calls.phase n)) b (Told reply) c (λ e. let a = ap (λ n. status (x.calls.phase n)) e in let k = h.1 in cc) ∙ h.1)
-told_next x c v h (opens b q e _ _ _) = absurd cc
-told_next x c v h (closes b y _ e _ _) = absurd cc
+past_waits : (reach : Touch → Option ℕ) (phase : Phase) (range : PageRange) → IsPast reach phase → Waits phase range → ⊥
+past_waits reach phase range k (for_change change held p i) = subst (IsPast reach) p k
+past_waits reach phase range k (for_copy touch frame p i) = subst (IsPast reach) p k
 
-acks_commits : (w : World) (c : ℕ) (v : World) (change : Change) (held : PageRange) → w.calls.phase c ≡ Acks change held → GoesBy w c v
-    → AwaitsNobody w.hardware c × HasReply v c
-acks_commits w c v change held e (moves new (locks r x p n k) h) = absurd cc
-acks_commits w c v change held e (moves new (tries r x p n k) h) = absurd cc
-acks_commits w c v change held e (moves new (acts x range shoot p n d) h) = absurd cc
-acks_commits w c v change held e (moves new (finds touch f p n u) h) = absurd cc
-acks_commits w c v change held e (moves new (lacks touch p n u) h) = absurd cc
-acks_commits w c v change held e (divides goal cursor t p s h) = absurd cc
-acks_commits w c v change held e (owns goal cursor b t p l h) = absurd cc
-acks_commits w c v change held e (lets_go x b t new (unlocks reply p n) u h) = absurd cc
-acks_commits w c v change held e (lets_go x b t new (releases touch p i n) u h) = absurd cc
-acks_commits w c v change held e (answers x reply (refuses r p i j) h) = absurd cc
-acks_commits w c v change held e (answers x reply (no_place r place p i j k) h) = absurd cc
-acks_commits w c v change held e (answers x reply (declines y errno p i j d) h) = absurd cc
-acks_commits w c v change held e (answers x reply (fails touch p i j) h) = absurd cc
-acks_commits w c v change held e (answers x reply (no_frame touch p i j none) h) = absurd cc
-acks_commits w c v change held e (posts x shoot p h) = absurd cc
-acks_commits w c v change held e (commits x y counts p n l h) =
-    (n, (reply_to x, ap (λ (v : World). status (v.calls.phase c)) h ∙ ap status (put_same w.calls.phase c (let_go (Some y) (reply_to x)))))
-acks_commits w c v change held e (takes touch f p l h) = absurd cc
-acks_commits w c v change held e (fills touch f counts p t h) = absurd cc
-acks_commits w c v change held e (installs touch p h) = absurd cc
-acks_commits w c v change held e (accesses touch f p i h) = absurd cc
-acks_commits w c v change held e (faults touch p i h) = absurd cc
+past_at : (c : ℕ) (w : World) (old : Phase) → w.calls.phase c ≡ old → IsPastOf c w → IsPast (reach_of w.hardware c) old
+past_at c w old e k = subst (IsPast (reach_of w.hardware c)) e k
 
--- ---- the steps
+past_to : (c : ℕ) (new : Phase) (x v : World) → v ≡ to c new x → IsPast (reach_of x.hardware c) new → IsPastOf c v
+past_to c new x v h k = subst (IsPastOf c) (sym h) (subst (IsPast (reach_of x.hardware c)) (sym (put_same x.calls.phase c new)) k)
 
-first_step : (n c : ℕ) (w v : World) → StepsTo w c (suc n) v → (m : World) × Step w (Go c) Stepped m × StepsTo m c n v
-first_step zero c w v s = (v, subst (λ x. Step x (Go c) Stepped v) s.1 s.2, refl)
-first_step (suc n) c w v s = let k = first_step n c w s.0 s.1 in (k.0, k.1, (s.0, k.2, s.2))
+gone_past : (reach : Touch → Option ℕ) (o : Option PageRange) (reply : Reply) → IsPast reach (let_go o reply)
+gone_past reach None reply = tt
+gone_past reach (Some held) reply = tt
 
-later : (n c : ℕ) (m x : World) → HasReply m c → StepsTo m c n x → HasReply x c
-later zero c m x h s = subst (λ x. HasReply x c) (sym s) h
-later (suc n) c m x h s =
-    told_next s.0 c x (later n c m s.0 h s.1)
-    (effect_of (with_event s.0) (Go c) Stepped x (before_limit s.0 c x (comes s.0 (Go c) Stepped x s.2) s.2))
+not_moving : (w : World) (c : ℕ) (new : Phase) → IsPastOf c w → Moves w c new → ⊥
+not_moving w c new k (locks request change e n i) = past_at c w (Check request) e k
+not_moving w c new k (tries request touch e n i) = past_at c w (Check request) e k
+not_moving w c new k (acts change range shoot e n i) = past_at c w (Decide change) e k
+not_moving w c new k (finds touch f e n i) = past_at c w (Settle touch) e k
+not_moving w c new k (lacks touch old e n i j) = past_at c w (Settle touch) e k
+not_moving w c new k (shows touch e n i j) = past_at c w (Settle touch) e k
 
-at_last : (w : World) (t : Plain) (c : ℕ) (request : Request) → IsWaiting w t c request → IsServing w t c request w
-at_last w t c request k = record {
+not_replying : (w : World) (c : ℕ) (held : Option PageRange) (reply : Reply) → IsPastOf c w → Replies w c held reply → ⊥
+not_replying w c held reply k (refuses r e h j) = past_at c w (Check r) e k
+not_replying w c held reply k (no_place r place e h i j) = past_at c w (Check r) e k
+not_replying w c held reply k (declines change errno e h i d) = past_at c w (Decide change) e k
+not_replying w c held reply k (fails touch e h x) = past_at c w (Settle touch) e k
+not_replying w c held reply k (no_frame touch old e h i none) = past_at c w (Want touch old) e k
+
+lets_go_past : (free : ℕ → Bool) (w x : World) (c : ℕ) (held : PageRange) (b : ℕ) (new : Phase) (v : World) → IsSureOf free c w → LetsGo (w.calls.phase c) held b new
+    → x.hardware ≡ w.hardware → v ≡ to c new x → IsPastOf c v
+lets_go_past free w x c held b new v sure (unlocks reply e n) same h =
+    past_to c new x v h (subst (IsPast (reach_of x.hardware c)) (sym n) (gone_past (reach_of x.hardware c) (held_after held b) reply))
+lets_go_past free w x c held b new v sure (releases touch e i n) same h =
+    let hit : hits (reach_of w.hardware c) touch ≡ true = sure_at free w c (Release touch) e sure in
+    past_to c new x v h (subst (IsPast (reach_of x.hardware c)) (sym n) (subst (λ z. hits (reach_of z c) touch ≡ true) (sym same) hit))
+
+past_next : (free : ℕ → Bool) (w : World) (c : ℕ) (v : World) → IsSureOf free c w → IsPastOf c w → GoesBy w c v → IsPastOf c v
+past_next free w c v sure k (moves new m h) = absurd (not_moving w c new k m)
+past_next free w c v sure k (divides goal cursor t e s h) = absurd (past_at c w (Lock goal cursor) e k)
+past_next free w c v sure k (owns goal cursor b t e l h) = absurd (past_at c w (Lock goal cursor) e k)
+past_next free w c v sure k (lets_go held b t new l u h) = lets_go_past free w (record w { slots = t }) c held b new v sure l refl h
+past_next free w c v sure k (answers held reply r h) = absurd (not_replying w c held reply k r)
+past_next free w c v sure k (posts change shoot e h) = absurd (past_at c w (Post change shoot) e k)
+past_next free w c v sure k (commits change held counts e n l h) = absurd (past_at c w (Acks change held) e k)
+past_next free w c v sure k (takes touch old x e l h) = absurd (past_at c w (Want touch old) e k)
+past_next free w c v sure k (zeroes touch x counts e b t h) = absurd (past_at c w (Fill touch (Some x)) e k)
+past_next free w c v sure k (first_copies touch x counts e b t h) = absurd (past_at c w (Fill touch (Some x)) e k)
+past_next free w c v sure k (caches touch x counts e s n t h) = absurd (past_at c w (Fill touch (Some x)) e k)
+past_next free w c v sure k (shares touch own x counts e s n t h) = absurd (past_at c w (Fill touch own) e k)
+past_next free w c v sure k (posts_copy touch x e h) = absurd (past_at c w (CopyPost touch x) e k)
+past_next free w c v sure k (copies touch x g counts e n a t h) = absurd (past_at c w (CopyAcks touch x) e k)
+past_next free w c v sure k (installs touch e h) = past_to c (Release touch) _ v h tt
+past_next free w c v sure k (accesses touch x e i h) = past_to c (let_go None _) _ v h tt
+past_next free w c v sure k (faults touch e i h) = absurd (let hit = past_at c w (Try touch) e k in cc (hit, i))
+
+-- ---- its first step
+
+other_phase : (w : World) (c : ℕ) (old : Phase) (range : PageRange) → w.calls.phase c ≡ old → awaits_in (w.calls.phase c) ≡ Some range → awaits_in old ≡ None → ⊥
+other_phase w c old range e a none = let z = sym (ap awaits_in e) ∙ a in cc
+
+no_moves : (w : World) (c : ℕ) (new : Phase) (range : PageRange) → awaits_in (w.calls.phase c) ≡ Some range → Moves w c new → ⊥
+no_moves w c new range a (locks request change e n i) = other_phase w c (Check request) range e a refl
+no_moves w c new range a (tries request touch e n i) = other_phase w c (Check request) range e a refl
+no_moves w c new range a (acts change r shoot e n i) = other_phase w c (Decide change) range e a refl
+no_moves w c new range a (finds touch f e n i) = other_phase w c (Settle touch) range e a refl
+no_moves w c new range a (lacks touch old e n i j) = other_phase w c (Settle touch) range e a refl
+no_moves w c new range a (shows touch e n i j) = other_phase w c (Settle touch) range e a refl
+
+no_replies : (w : World) (c : ℕ) (held : Option PageRange) (reply : Reply) (range : PageRange) → awaits_in (w.calls.phase c) ≡ Some range → Replies w c held reply → ⊥
+no_replies w c held reply range a (refuses r e h j) = other_phase w c (Check r) range e a refl
+no_replies w c held reply range a (no_place r place e h i j) = other_phase w c (Check r) range e a refl
+no_replies w c held reply range a (declines change errno e h i d) = other_phase w c (Decide change) range e a refl
+no_replies w c held reply range a (fails touch e h x) = other_phase w c (Settle touch) range e a refl
+no_replies w c held reply range a (no_frame touch old e h i none) = other_phase w c (Want touch old) range e a refl
+
+no_letting : (w : World) (c : ℕ) (held : PageRange) (b : ℕ) (new : Phase) (range : PageRange) → awaits_in (w.calls.phase c) ≡ Some range
+    → LetsGo (w.calls.phase c) held b new → ⊥
+no_letting w c held b new range a (unlocks reply e n) = other_phase w c (Unlock held reply) range e a refl
+no_letting w c held b new range a (releases touch e i n) = other_phase w c (Release touch) range e a refl
+
+wait_ends : (w : World) (c : ℕ) (v : World) (range : PageRange) → awaits_in (w.calls.phase c) ≡ Some range → GoesBy w c v
+    → AwaitsNobody w.hardware c × IsPastOf c v
+wait_ends w c v range a (moves new m h) = absurd (no_moves w c new range a m)
+wait_ends w c v range a (divides goal cursor t e s h) = absurd (other_phase w c (Lock goal cursor) range e a refl)
+wait_ends w c v range a (owns goal cursor b t e l h) = absurd (other_phase w c (Lock goal cursor) range e a refl)
+wait_ends w c v range a (lets_go held b t new l u h) = absurd (no_letting w c held b new range a l)
+wait_ends w c v range a (answers held reply r h) = absurd (no_replies w c held reply range a r)
+wait_ends w c v range a (posts change shoot e h) = absurd (other_phase w c (Post change shoot) range e a refl)
+wait_ends w c v range a (commits change held counts e n l h) = (n, past_to c (Unlock held _) _ v h tt)
+wait_ends w c v range a (takes touch old x e l h) = absurd (other_phase w c (Want touch old) range e a refl)
+wait_ends w c v range a (zeroes touch x counts e b t h) = absurd (other_phase w c (Fill touch (Some x)) range e a refl)
+wait_ends w c v range a (first_copies touch x counts e b t h) = absurd (other_phase w c (Fill touch (Some x)) range e a refl)
+wait_ends w c v range a (caches touch x counts e s n t h) = absurd (other_phase w c (Fill touch (Some x)) range e a refl)
+wait_ends w c v range a (shares touch own x counts e s n t h) = absurd (other_phase w c (Fill touch own) range e a refl)
+wait_ends w c v range a (posts_copy touch x e h) = absurd (other_phase w c (CopyPost touch x) range e a refl)
+wait_ends w c v range a (copies touch x g counts e n j t h) = (n, past_to c (Install touch) _ v h tt)
+wait_ends w c v range a (installs touch e h) = absurd (other_phase w c (Install touch) range e a refl)
+wait_ends w c v range a (accesses touch x e i h) = absurd (other_phase w c (Try touch) range e a refl)
+wait_ends w c v range a (faults touch e i h) = absurd (other_phase w c (Try touch) range e a refl)
+
+-- ---- the call where it waits
+
+-- It serves its request, where these frames were free before it took one. So "no frame" won't be its reply, and it takes none more.
+record IsAtLast (w : World) (t : Plain) (c : ℕ) (request : Request) : Type 0 where
+  free : ℕ → Bool
+  serving : IsServing free w t c request w
+  framed : (reply : Reply) → IsDueReply free reply → (m u : Plain) → Stands m c request reply u → reply ≢ ReplyOf.NoFrame
+  frames : (now : ℕ → Bool) → TakesOne free now request → taken_below now w.made.frames ≤ frames_taken w
+
+serving_at : (free : ℕ → Bool) (w : World) (t : Plain) (c : ℕ) (request : Request) (k : IsWaiting w t c request) (old : Phase) → w.calls.phase c ≡ old
+    → IsLogged w.calls.log w.calls.log (w.calls.number c) c None (status old) → IsSure free w.memory.is_free (reach_of w.hardware c) old
+    → IsStorable w.memory.cached w.slots.info old → Used t (recorded w.slots) (recorded w.slots) (reach_of w.hardware c) c request None old
+    → TakesOne free w.memory.is_free request → IsServing free w t c request w
+serving_at free w t c request k old p logged sure storable used taken = record {
+  copy = None;
   reached = k.reached;
   inside = k.inside;
   first = k.leads;
   number = k.number;
   others = k.others;
-  logged = subst (λ phase. IsLogged w.calls.log w.calls.log (w.calls.number c) c (status phase)) (sym k.at_acks) refl;
-  sure = subst (IsSure w.memory.is_free w.memory.is_free (reach_of w.hardware c)) (sym k.at_acks) refl;
+  logged = subst (λ phase. IsLogged w.calls.log w.calls.log (w.calls.number c) c None (status phase)) (sym p) logged;
+  sure = subst (IsSure free w.memory.is_free (reach_of w.hardware c)) (sym p) sure;
+  storable = subst (IsStorable w.memory.cached w.slots.info) (sym p) storable;
+  asks = tt;
   made = refl;
-  used = subst (Used (recorded w.slots) (recorded w.slots) (reach_of w.hardware c) c request) (sym k.at_acks) (λ p d. refl);
-  taken = inl refl;
+  used = subst (Used t (recorded w.slots) (recorded w.slots) (reach_of w.hardware c) c request None) (sym p) used;
+  taken = taken;
 }
 
--- no step was made, or nobody was awaited and the reply stands
-started : (w : World) (t : Plain) (c : ℕ) (request : Request) → IsWaiting w t c request → (n : ℕ) (x : World) → StepsTo w c n x
-    → (x ≡ w) ⊎ (AwaitsNobody w.hardware c × HasReply x c)
-started w t c request k zero x s = inl s
-started w t c request k (suc n) x s =
-    let f = first_step n c w x s in
-    let after = reached_fine f.0 (reached_step w f.0 (Go c) Stepped k.reached f.1) in
-    elim (row_of w t c request w Stepped f.0 (at_last w t c request k) after (before_limit w c f.0 (comes w (Go c) Stepped f.0 f.1) f.1)) [
-      | nears _ g _ ↦ let z = acks_commits (with_event w) c f.0 k.change k.held k.at_acks g in inr (z.0, later n c f.0 x z.1 f.2)
+-- a frame that was free before it was taken
+was_free : (free : ℕ → Bool) (f : ℕ) → free f ≡ false → HasTaken (put free f true) free (Some f)
+was_free free f h =
+    (put_same free f true, fun_ext (λ j. sym (put_all (λ j b. b ≡ free j) (put free f true) f false (sym h) (λ j ne. put_other free f true j ne) j)))
+
+at_last : (w : World) (t : Plain) (c : ℕ) (request : Request) → IsWaiting w t c request → IsAtLast w t c request
+at_last w t c request k = go (waits_at (w.calls.phase c) k.range k.at_wait)
+  where
+    f : Fine w
+    f = reached_fine w k.reached
+
+    go : Waits (w.calls.phase c) k.range → IsAtLast w t c request
+    go (for_change change held p i) =
+        let access : is_access request ≡ false = (change_answers w f.plain c request change held f refl k.number p).1 in
+        let none : frames_for request ≡ 0 = ap (λ (b : Bool). if b then 1 else 0) access in
+        record {
+          free = w.memory.is_free;
+          serving = serving_at w.memory.is_free w t c request k (Acks change held) p refl refl tt (refl, λ q d. refl) (inl refl);
+          framed = λ reply due m u stands e. let z = no_frame_access m u c request (subst (λ r. Stands m c request r u) e stands) in cc;
+          frames = λ now h. let a = taken_most w.memory.is_free now request w.made.frames h in omega (arith, a, none);
+        }
+    go (for_copy touch frame p i) =
+        let free : ℕ → Bool = put w.memory.is_free frame true in
+        let taken : HasTaken free w.memory.is_free (Some frame) = was_free w.memory.is_free frame (f.counted.busy c frame (ap taken_in p)) in
+        let call : IsCallOf w c (CopyAcks touch frame) = call_at w c (CopyAcks touch frame) p f.order in
+        let z = copy_frames w c request touch frame free f k.number p taken in
+        record {
+          free = free;
+          serving = serving_at free w t c request k (CopyAcks touch frame) p refl taken tt (refl, λ q d. refl)
+              (inr (frame, taken, its_access w c touch request k.number call.asked));
+          framed = λ reply due m u stands e.
+              let none : NoneFree free = subst (IsDueReply free) e due 0 0 0 in
+              let a = none frame in let b = taken.0 in cc;
+          frames = λ now h. let a = taken_most free now request w.made.frames h in let b = z.0 in let d = z.1 in omega (arith, a, b, d);
+        }
+
+-- no step was made, or nobody was awaited and the call has waited
+started : (w : World) (t : Plain) (c : ℕ) (request : Request) (k : IsWaiting w t c request) (l : IsAtLast w t c request) → (n : ℕ) (x : World) → StepsTo w c n x
+    → (x ≡ w) ⊎ (AwaitsNobody w.hardware c × IsPastOf c x)
+started w t c request k l zero x s = inl s
+started w t c request k l (suc n) x s =
+    let h = (along l.free w t c request w l.serving n s.0 s.1).0 in
+    let after = reached_fine x (reached_step s.0 x (Go c) Stepped h.reached s.2) in
+    elim (row_of l.free w t c request s.0 Stepped x h after (before_limit s.0 c x (comes s.0 (Go c) Stepped x s.2) s.2)) [
+      | nears _ g _ ↦ elim (started w t c request k l n s.0 s.1) [
+        | inl same ↦
+            let z = wait_ends (with_event s.0) c x k.range (ap (λ (x : World). awaits_in (x.calls.phase c)) same ∙ k.at_wait) g in
+            inr (subst (λ (x : World). AwaitsNobody x.hardware c) same z.0, z.1)
+        | inr z ↦ inr (z.0, past_next l.free (with_event s.0) c x h.sure z.1 g)
+      ]
       | returns _ _ e _ ↦ absurd cc
-      | awaits_acks _ _ _ _ e _ _ ↦ absurd cc
+      | awaits_acks _ _ _ e _ _ ↦ absurd cc
     ]
 
 -- ---- who is awaited
@@ -147,34 +281,69 @@ still w t c request o v set k e a h =
 -- ---- the whole
 
 few : (w : World) (t : Plain) (c : ℕ) (request : Request) → IsWaiting w t c request → left_of w c < 2 ^ 40
-few w t c request k =
-    let f = reached_fine w k.reached in
-    let call : IsCallOf w c (Acks k.change k.held) = call_at w c (Acks k.change k.held) k.at_acks f.order in
-    let range = sound_range k.change (change_sound (λ n. mode_of (w.made.file n)) c call.asked.request k.change call.asked.passed) in
-    let high = range.high in
-    let same : k.held.end ≡ (range_of k.change).end = ap (λ (r : PageRange). r.end) call.ready.0 in
-    let left : left_of w c ≡ size k.held + 2 = ap (rank_of w.slots (reach_of w.hardware c)) k.at_acks in
-    omega (arith, high, same, left)
+few w t c request k = go (waits_at (w.calls.phase c) k.range k.at_wait)
+  where
+    go : Waits (w.calls.phase c) k.range → left_of w c < 2 ^ 40
+    go (for_change change held p i) =
+        let f = reached_fine w k.reached in
+        let call : IsCallOf w c (Acks change held) = call_at w c (Acks change held) p f.order in
+        let range = sound_range change (change_sound (λ n. mode_of (w.made.file n)) c call.asked.request change call.asked.passed) in
+        let high = range.high in
+        let same : held.end ≡ (range_of change).end = ap (λ (r : PageRange). r.end) call.ready.0 in
+        let left : left_of w c ≡ size held + 2 = ap (rank_of w.slots (reach_of w.hardware c)) p in
+        omega (arith, high, same, left)
+    go (for_copy touch frame p i) =
+        let left : left_of w c ≡ 9 = ap (rank_of w.slots (reach_of w.hardware c)) p in
+        omega (arith, left)
+
+-- a reply that isn't "no frame" is due whatever frames are free
+due_any : (free now : ℕ → Bool) (reply : Reply) → IsDueReply free reply → reply ≢ ReplyOf.NoFrame → IsDueReply now reply
+due_any free now ReplyOf.NoFrame h ne = absurd (ne refl)
+due_any free now ReplyOf.NoMemory h ne = h
+due_any free now (ReplyOf.Mapped at) h ne = h
+due_any free now ReplyOf.Done h ne = h
+due_any free now (ReplyOf.Byte byte) h ne = h
+due_any free now (ReplyOf.Refused errno) h ne = h
+due_any free now (ReplyOf.Segv code) h ne = h
+due_any free now ReplyOf.Bus h ne = h
+
+answered_at_last : (w : World) (t : Plain) (c : ℕ) (request : Request) → IsWaiting w t c request → (l : IsAtLast w t c request) (x v : World) (o : Outcome) (reply : Reply)
+    → IsServing l.free w t c request x → Step x (Go c) o v → x.calls.phase c ≡ Answer reply → o ≡ Answered reply → v ≡ to c Free (with_event x)
+    → AwaitsNobody w.hardware c → IsAnsweredAtLast w t c request o v
+answered_at_last w t c request k l x v o reply h step at answered e nobody =
+    let most : taken_below x.memory.is_free w.made.frames ≤ frames_taken w = l.frames x.memory.is_free h.taken in
+    let z = returned l.free w t c request x v o reply h step at answered e
+    (λ due m u stands. due_any l.free w.memory.is_free reply due (l.framed reply due m u stands)) (omega (arith, most)) in
+    let both : Answered z.reply ≡ Answered reply = sym z.answered ∙ answered in
+    let same : z.reply ≡ reply = cc in
+    let sure : IsDueReply l.free reply = subst (IsSure l.free x.memory.is_free (reach_of x.hardware c)) at h.sure in
+    record {
+      served = z;
+      framed = l.framed z.reply (subst (IsDueReply l.free) (sym same) sure) (with_copy t (page_copied t request z.reply)) z.after z.stands;
+      frames = subst (λ (v : World). frames_taken v ≤ frames_taken w) (sym e)
+          (subst (λ n. taken_below x.memory.is_free n ≤ frames_taken w) (sym (ap (λ (m : Made). m.frames) h.made)) most);
+      nobody = nobody_left w t c request k nobody;
+    }
 
 pub served_at_last : (w : World) (t : Plain) (c : ℕ) (request : Request) → IsWaiting w t c request → IsServedAtLast w t c request
 served_at_last w t c request k =
-    let start = at_last w t c request k in
+    let l : IsAtLast w t c request = at_last w t c request k in
     let most = few w t c request k in
     record {
-      short = λ n x s. let a = (along w t c request w start n x s).1 in omega (arith, a, most);
+      short = λ n x s. let a = (along l.free w t c request w l.serving n x s).1 in omega (arith, a, most);
       ends = λ n x v o s step not below.
-          let h = (along w t c request w start n x s).0 in
-          let from = started w t c request k n x s in
-          elim (row_of w t c request x o v h (reached_fine v (reached_step x v (Go c) o h.reached step))
+          let h = (along l.free w t c request w l.serving n x s).0 in
+          let from = started w t c request k l n x s in
+          elim (row_of l.free w t c request x o v h (reached_fine v (reached_step x v (Go c) o h.reached step))
           (shape_at x c o v (less_test x.calls.events event_limit below) (comes x (Go c) o v step))) [
             | nears e _ _ ↦ absurd (not e)
             | returns reply at answered e ↦ elim from [
-              | inl same ↦ absurd (let z = sym (ap (λ (x : World). x.calls.phase c) same ∙ k.at_acks) ∙ at in cc)
-              | inr z ↦ inl (returned w t c request x v o reply h step at answered e, nobody_left w t c request k z.0)
+              | inl same ↦ absurd (let z = sym (ap (λ (x : World). awaits_in (x.calls.phase c)) same ∙ k.at_wait) ∙ ap awaits_in at in cc)
+              | inr z ↦ inl (answered_at_last w t c request k l x v o reply h step at answered e z.0)
             ]
-            | awaits_acks change held set p e a i ↦ elim from [
+            | awaits_acks range set p e a i ↦ elim from [
               | inl same ↦ inr (still w t c request o v set k e (subst (λ (x : World). Awaits x.hardware c set) same a) (i ∙ ap with_event same))
-              | inr z ↦ absurd (not_acks x c change held z.1 p)
+              | inr z ↦ absurd (past_waits (reach_of x.hardware c) (x.calls.phase c) range z.1 (waits_at (x.calls.phase c) range p))
             ]
           ];
     }

@@ -16,6 +16,7 @@ use Rattle.machine_sound.specs.Log.{Stands}
 use Rattle.machine_sound.specs.Sound.{IsDue}
 use Rattle.machine_sound.proofs.Kept.{reached_opening}
 use Rattle.machine_alone.specs.Alone.{IsAwaiting}
+use Rattle.machine_alone.specs.Copies.{page_copied, with_copy}
 use Rattle.machine_alone.proofs.Serving.{served_alone}
 
 abbrev made : Made
@@ -24,7 +25,8 @@ made = record { cores = 2; frames = 4; calls = 8; file = λ n. None }
 abbrev nothing : Plain
 nothing = nothing_mapped (λ n. None)
 
-faults : (is_free : ℕ → Bool) (u : Plain) (y : Reply) → Stands nothing 0 (Store 65540 41) y u → IsDue (Go 0) is_free (Answer 0 0 0 y) → y ≡ Segv MapErr
+faults : (is_free : ℕ → Bool) (u : Plain) (y : Reply) → Stands (with_copy nothing (page_copied nothing (Store 65540 41) y)) 0 (Store 65540 41) y u
+    → IsDue (Go 0) is_free (Answer 0 0 0 y) → y ≡ Segv MapErr
 faults is_free u (Mapped a) h d = let e = h.0 in cc
 faults is_free u Done h d = let e = h.0 in cc
 faults is_free u (Byte b) h d = let e = h.0 in cc
@@ -39,7 +41,7 @@ stores_fault : (slots : Slots) → IsNew slots → (begun x v : World) (n : ℕ)
     → (o ≡ Answered (Segv MapErr)) ⊎ IsAwaiting (new_world made slots) x nothing 0 (Store 65540 41) o v
 stores_fault slots new begun x v n o call steps step not below =
     let w : World = new_world made slots in
-    let reached = reached_opening made slots (λ n. refl) new in
+    let reached = reached_opening made slots new in
     elim ((served_alone w begun nothing 0 (Store 65540 41) reached refl (λ c. refl) call).ends n x v o steps step not below) [
       | inl k ↦ inl (subst (λ y. o ≡ Answered y) (faults w.memory.is_free k.0.after k.0.reply k.0.stands (k.0.due 0 0)) k.0.answered)
       | inr a ↦ inr a

@@ -1,10 +1,14 @@
 mod Examples
 mod Rank
+mod Storing
+mod Framed
 mod Rows
 pub mod Telling
 pub mod Using
 pub mod Used
+mod Noting
 pub mod Taking
+mod Awaiting
 pub mod Serving
 pub mod Ending
 pub mod Beside

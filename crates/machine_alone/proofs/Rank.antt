@@ -12,7 +12,7 @@ use Rattle.slot_lock.proofs.EdgeCounts.{edges_below-Divides, edges_below-most}
 use Rattle.machine_model.specs.declared.phase.Goal.{Goal}
 use Rattle.machine_model.specs.declared.phase.Goal.TheVariants as To
 use Rattle.machine_model.specs.declared.phase.Phase.{Phase}
-use Rattle.machine_model.specs.declared.phase.Phase.TheVariants.{Free, Check, Lock, Decide, Post, Acks, Unlock, Answer, Try, Settle, Want, Fill, Install, Release}
+use Rattle.machine_model.specs.declared.phase.Phase.TheVariants.{Free, Check, Lock, Decide, Post, Acks, Unlock, Answer, Try, Settle, Want, Fill, CopyPost, CopyAcks, Install, Release}
 use Rattle.machine_model.specs.Actions.{let_go}
 use Rattle.machine_model.specs.Holding.{goal_range}
 use Rattle.machine_model.specs.Translating.{translated_by, frame_reached}
@@ -69,7 +69,7 @@ hits reach touch = is_some (reach touch)
 -- once all pages of the goal are locked
 abbrev pub locked_rank : Goal → ℕ
 locked_rank (To.Change change) = size (range_of change) + 4
-locked_rank (To.Access touch) = 10
+locked_rank (To.Access touch) = 12
 
 -- with m divisions left
 abbrev pub rank : ℕ → (Touch → Option ℕ) → Phase → ℕ
@@ -81,9 +81,11 @@ rank m reach (Post change shoot) = size (range_of change) + 3
 rank m reach (Acks change held) = size held + 2
 rank m reach (Unlock held reply) = size held + 1
 rank m reach (Answer reply) = 1
-rank m reach (Try touch) = if hits reach touch then 2 else m + 12
-rank m reach (Settle touch) = 10
-rank m reach (Want touch) = 9
+rank m reach (Try touch) = if hits reach touch then 2 else m + 14
+rank m reach (Settle touch) = 12
+rank m reach (Want touch old) = 11
+rank m reach (CopyPost touch frame) = 10
+rank m reach (CopyAcks touch frame) = 9
 rank m reach (Fill touch frame) = 8
 rank m reach (Install touch) = 7
 rank m reach (Release touch) = 6

@@ -1,6 +1,8 @@
 -- What a step of a call does beside which no other call runs: after it fewer are left, and "no frame" isn't its reply where one was free.
 use Rattle.std.proofs.Common.{◌≡◌, ℕ, ◌≤◌, ◌<◌, ◌+◌, ◌^◌, ◌⊎◌, Bool, true, false, cond, refl, sym, subst, ap, arith, Some, None, Option, ◌∙◌, inl, inr}
-use Rattle.std.specs.Prelude.{is_some, nat_le, if◌then◌else◌}
+use Rattle.std.specs.Prelude.{is_some, nat_le, ◌&&◌, if◌then◌else◌}
+use Rattle.vm_base.specs.declared.info.Back.{Back}
+use Rattle.vm_base.specs.declared.info.Back.TheVariants.{Anon, Shared, Private}
 use Rattle.vm_base.specs.declared.info.PageInfo.{PageInfo}
 use Rattle.vm_base.specs.declared.page.PageRange.{PageRange}
 use Rattle.vm_base.specs.declared.replies.Reply.{Reply}
@@ -21,6 +23,7 @@ use Rattle.vm_base.proofs.Functions.{put_same}
 use Rattle.slot_lock.specs.declared.plan.Touch.{Touch}
 use Rattle.slot_lock.specs.Plan.{range_of}
 use Rattle.slot_lock.specs.Slots.{Slots}
+use Rattle.vm_calls.specs.Settling.{is_private_store}
 use Rattle.vm_calls.specs.declared.fault.Settled.{Settled}
 use Rattle.vm_calls.specs.declared.fault.Settled.TheVariants.{MapErr, AccErr, Bus, Has, Copies, Cached, Wants}
 use Rattle.machine_model.specs.declared.event.Event.TheVariants.{Go}
@@ -28,9 +31,11 @@ use Rattle.machine_model.specs.declared.log.Entry.TheVariants as EntryOf
 use Rattle.machine_model.specs.declared.phase.Goal.{Goal}
 use Rattle.machine_model.specs.declared.phase.Goal.TheVariants as To
 use Rattle.machine_model.specs.declared.phase.Phase.{Phase}
-use Rattle.machine_model.specs.declared.phase.Phase.TheVariants.{Check, Lock, Decide, Post, Acks, Unlock, Answer, Try, Settle, Want, Fill, Install, Release}
-use Rattle.machine_model.specs.Accesses.{NoneFree, info_with_core, found_at, after_frame, after_fill, after_install, reply_of, memory_after}
-use Rattle.machine_model.specs.Actions.{to, let_go, after_reply}
+use Rattle.machine_model.specs.declared.phase.Phase.TheVariants.{Check, Lock, Decide, Post, Acks, Unlock, Answer, Try, Settle, Want, Fill, CopyPost, CopyAcks, Install, Release}
+use Rattle.machine_model.specs.Accesses.{NoneFree, info_with_core, found_at, taken_for, after_frame, after_install, reply_of, memory_after}
+use Rattle.machine_model.specs.Files.{is_private, prot_installed, prot_shown, shows_some}
+use Rattle.machine_model.specs.Filling.{after_zeros, after_first_copy, after_caching, after_sharing, after_copy_post, after_copy}
+use Rattle.machine_model.specs.Actions.{to, let_go, after_reply, with_entry, detach_entry}
 use Rattle.machine_model.specs.Changes.{slots_after, after_post, reply_to}
 use Rattle.machine_model.specs.Counting.{with_counts}
 use Rattle.machine_model.specs.Translating.{frame_reached, after_translating, entry_for, entry_of_page}
@@ -41,22 +46,30 @@ use Rattle.machine_coherence.specs.Coherent.{IsBacked, IsSoundEntry}
 use Rattle.machine_laws.specs.Orderly.{IsUsable}
 use Rattle.machine_laws.proofs.Deciding.{change_sound, sound_range}
 use Rattle.machine_laws.proofs.Moves.{IsCallOf, call_at}
-use Rattle.machine_laws.proofs.Shapes.{IsFault, Moves, locks, tries, acts, finds, lacks, Replies, refuses, no_place, declines, fails, no_frame, LetsGo, unlocks, releases, GoesBy, moves, divides, owns, lets_go, answers, posts, commits, takes, fills, installs, accesses, faults}
+use Rattle.machine_laws.proofs.Shapes.{IsFault, Moves, locks, tries, acts, finds, lacks, shows, Replies, refuses, no_place, declines, fails, no_frame, LetsGo, unlocks, releases, GoesBy, moves, divides, owns, lets_go, answers, posts, commits, takes, zeroes, first_copies, caches, shares, posts_copy, copies, installs, accesses, faults}
 use Rattle.machine_sound.specs.Sound.{IsDue}
 use Rattle.machine_sound.specs.Invariant.{Fine}
 use Rattle.machine_sound.proofs.Reaching.{at_page}
 use Rattle.machine_sound.proofs.Replies.{IsReply, due_so, refused, reply_is}
 use Rattle.machine_alone.proofs.Rank.{missing, missing_same, missing_less, missing_most, reach_of, hits, rank, rank_of, lock_less, unlock_less}
+use Rattle.machine_alone.proofs.Storing.{IsStorable, IsStorableOf, shows_for}
 
 abbrev pub IsDueReply : (ℕ → Bool) → Reply → Type 0
 IsDueReply is_free reply = (core step call : ℕ) → IsDue (Go core) is_free (EntryOf.Answer step call core reply)
+
+-- of the frames that were free, at first, the call has taken this one, if any
+abbrev pub HasTaken : (ℕ → Bool) → (ℕ → Bool) → Option ℕ → Type 0
+HasTaken first free None = free ≡ first
+HasTaken first free (Some f) = (first f ≡ true) × (free ≡ put first f false)
 
 -- Frames are free as at the beginning until the call takes one. Then its access will find one, so "no frame" isn't its reply.
 abbrev pub IsSure : (ℕ → Bool) → (ℕ → Bool) → (Touch → Option ℕ) → Phase → Type 0
 IsSure first free reach (Unlock held reply) = IsDueReply first reply
 IsSure first free reach (Answer reply) = IsDueReply first reply
 IsSure first free reach (Try touch) = (free ≡ first) ⊎ (hits reach touch ≡ true)
-IsSure first free reach (Fill touch frame) = Unit {0}
+IsSure first free reach (Fill touch frame) = HasTaken first free frame
+IsSure first free reach (CopyPost touch frame) = HasTaken first free (Some frame)
+IsSure first free reach (CopyAcks touch frame) = HasTaken first free (Some frame)
 IsSure first free reach (Install touch) = Unit {0}
 IsSure first free reach (Release touch) = hits reach touch ≡ true
 IsSure first free reach _ = free ≡ first
@@ -98,7 +111,7 @@ sure_at first w c old e h = subst (IsSure first w.memory.is_free (reach_of w.har
 tried_most : (m : ℕ) (reach : Touch → Option ℕ) (touch : Touch) → m ≤ 2 ^ 35 → rank m reach (Try touch) < 2 ^ 37
 tried_most m reach touch l = go (hits reach touch)
   where
-    go : (b : Bool) → cond b 2 (m + 12) < 2 ^ 37
+    go : (b : Bool) → cond b 2 (m + 14) < 2 ^ 37
     go true = omega arith
     go false = omega (arith, l)
 
@@ -118,8 +131,11 @@ moves_near first w c new v f sure (acts change range shoot e n d) h =
     (omega arith) (sure_at first w c (Decide change) e sure)
 moves_near first w c new v f sure (finds touch x e n u) h =
     nears first w c (Settle touch) (Install touch) w.slots w.hardware w.memory v e (rw (h, n) refl) (omega arith) tt
-moves_near first w c new v f sure (lacks touch e n u) h =
-    nears first w c (Settle touch) (Want touch) w.slots w.hardware w.memory v e (rw (h, n) refl)
+moves_near first w c new v f sure (lacks touch old e n u k) h =
+    nears first w c (Settle touch) (Want touch old) w.slots w.hardware w.memory v e (rw (h, n) refl)
+    (omega arith) (sure_at first w c (Settle touch) e sure)
+moves_near first w c new v f sure (shows touch e n u k) h =
+    nears first w c (Settle touch) (Fill touch None) w.slots w.hardware w.memory v e (rw (h, n) refl)
     (omega arith) (sure_at first w c (Settle touch) e sure)
 
 -- ---- replies
@@ -164,11 +180,11 @@ replies_near first w c held reply v f sure (declines change errno e h r d) k =
     (subst (λ o. rank_of w.slots (reach_of w.hardware c) (let_go o reply) < rank_of w.slots (reach_of w.hardware c) (Decide change)) (sym h) (omega arith)) (due_reply first reply (subst IsReply (sym r) tt))
 replies_near first w c held reply v f sure (fails touch e h x) k =
     tells_near first w c (Settle touch) held reply w.slots w.hardware w.memory v e k
-    (subst (λ o. rank_of w.slots (reach_of w.hardware c) (let_go o reply) < 10) (sym h) (omega arith)) (due_reply first reply (fault_is_reply (found_at w touch) reply x))
-replies_near first w c held reply v f sure (no_frame touch e h r none) k =
-    let same : w.memory.is_free ≡ first = sure_at first w c (Want touch) e sure in
-    tells_near first w c (Want touch) held reply w.slots w.hardware w.memory v e k
-    (subst (λ o. rank_of w.slots (reach_of w.hardware c) (let_go o reply) < 9) (sym h) (omega arith))
+    (subst (λ o. rank_of w.slots (reach_of w.hardware c) (let_go o reply) < 12) (sym h) (omega arith)) (due_reply first reply (fault_is_reply (found_at w touch) reply x))
+replies_near first w c held reply v f sure (no_frame touch old e h r none) k =
+    let same : w.memory.is_free ≡ first = sure_at first w c (Want touch old) e sure in
+    tells_near first w c (Want touch old) held reply w.slots w.hardware w.memory v e k
+    (subst (λ o. rank_of w.slots (reach_of w.hardware c) (let_go o reply) < 11) (sym h) (omega arith))
     (subst (λ y. IsDueReply first y) (sym r) (λ core step call. subst NoneFree same none))
 
 -- ---- locks
@@ -198,7 +214,7 @@ lets_go_near first w c held b t new v sure (unlocks reply e n) l m h =
 lets_go_near first w c held b t new v sure (releases touch e at n) l m h =
     let hit : hits (reach_of w.hardware c) touch ≡ true = sure_at first w c (Release touch) e sure in
     nears first w c (Release touch) (Try touch) t w.hardware w.memory v e (rw (h, n) refl)
-    (let a : rank_of t (reach_of w.hardware c) (Try touch) ≡ 2 = ap (λ b. cond b 2 (missing t + 12)) hit in omega (arith, a)) (inr hit)
+    (let a : rank_of t (reach_of w.hardware c) (Try touch) ≡ 2 = ap (λ b. cond b 2 (missing t + 14)) hit in omega (arith, a)) (inr hit)
 
 -- ---- frames
 
@@ -207,11 +223,19 @@ byte_is_reply Load byte = tt
 byte_is_reply Store byte = tt
 byte_is_reply Fetch byte = tt
 
--- an access that the page allows is permitted by the page's translation
-permitted : (prot : Prot) (f : ℕ) (access : Access) → is_allowed prot access ≡ true → permits (translation_of f prot) access ≡ true
-permitted prot f Load h = refl
-permitted prot f Store h = h
-permitted prot f Fetch h = h
+-- an access that the page allows is permitted by the page's translation, unless it is a store to a private page that shows its file's
+permitted : (shown : Bool) (prot : Prot) (f : ℕ) (access : Access) → is_allowed prot access ≡ true → (access ≡ Store → shown ≡ false)
+    → permits (translation_of f (prot_shown shown prot)) access ≡ true
+permitted shown prot f Load h own = refl
+permitted shown prot f Store h own = subst (λ b. permits (translation_of f (prot_shown b prot)) Store ≡ true) (sym (own refl)) h
+permitted true prot f Fetch h own = h
+permitted false prot f Fetch h own = h
+
+-- what a store doesn't find
+stored_to : (back : Back) (b : Bool) (access : Access) → (is_private_store back access && b) ≡ false → access ≡ Store → (is_private back && b) ≡ false
+stored_to Anon b access h e = refl
+stored_to (Shared n k) b access h e = refl
+stored_to (Private n k) b access h e = subst (λ a. (is_private_store (Private n k) a && b) ≡ false) e h
 
 -- where the tables have the page, and the TLB has nothing else of it, the access reaches its frame
 reaches_own : (h : Hardware) (c : ℕ) (touch : Touch) (t : Translation) → h.table c touch.page ≡ Some t
@@ -229,67 +253,110 @@ reaches_own h c touch t at same allowed = go (tlb_at (h.tlb c) touch.page) (h.ta
         subst (λ o. is_some (frame_reached (translated None o touch.access)) ≡ true) (sym k) (by (permits t touch.access) (ByTables t.frame) Fault allowed refl)
 
 -- what a usable page with a frame gives
-usable_entry : (file : ℕ → Option File) (access : Access) (o : Option PageInfo) (f c : ℕ) → IsUsable file o access (Some f)
-    → (t : Translation) × (entry_of_page o ≡ Some t) × (entry_of_page (info_with_core c o) ≡ Some t) × (permits t access ≡ true)
-usable_entry file access None f c u = absurd u
-usable_entry file access (Some info) f c u =
-    (translation_of f info.meta.prot, ap (entry_for info.meta.prot) u.2, ap (entry_for info.meta.prot) u.2, permitted info.meta.prot f access u.0)
+usable_entry : (file : ℕ → Option File) (cached : ℕ → ℕ → Option ℕ) (access : Access) (o : Option PageInfo) (f c : ℕ) → IsUsable file o access (Some f)
+    → shows_for cached o access ≡ false
+    → (t : Translation) × (entry_of_page cached o ≡ Some t) × (entry_of_page cached (info_with_core c o) ≡ Some t) × (permits t access ≡ true)
+usable_entry file cached access None f c u own = absurd u
+usable_entry file cached access (Some info) f c u own =
+    let prot : Prot = prot_installed cached info in (
+      translation_of f prot,
+      ap (entry_for prot) u.2,
+      ap (entry_for prot) u.2,
+      permitted (is_private info.meta.back && shows_some cached info.meta.back info.frame) info.meta.prot f access u.0
+          (stored_to info.meta.back (shows_some cached info.meta.back info.frame) access own),
+    )
 
 -- once the page's entry is installed, the access reaches it
 installed_hits : (w : World) (c : ℕ) (touch : Touch) → IsCallOf w c (Install touch) → Fine (after_install c touch w)
-    → hits (reach_of (after_install c touch w).hardware c) touch ≡ true
-installed_hits w c touch k after =
-    let z = usable_entry w.made.file touch.access (w.slots.info touch.page) k.ready.0 c k.ready.1 in
+    → shows_for w.memory.cached (w.slots.info touch.page) touch.access ≡ false → hits (reach_of (after_install c touch w).hardware c) touch ≡ true
+installed_hits w c touch k after own =
+    let z = usable_entry w.made.file w.memory.cached touch.access (w.slots.info touch.page) k.ready.0 c k.ready.1 own in
     reaches_own (after_install c touch w).hardware c touch z.0 (at_table ∙ z.1)
-    (λ u e. let backed : IsBacked (put w.slots.info touch.page (info_with_core c (w.slots.info touch.page)) touch.page) c u =
-    (at_page (IsSoundEntry (after_install c touch w).slots.info c ((after_install c touch w).hardware.table c) (w.hardware.inbox c)) (w.hardware.tlb c) touch.page u (after.coherent.tlbs c) e).0 in
-    let entry : entry_of_page (info_with_core c (w.slots.info touch.page)) ≡ Some u =
-    ap entry_of_page (sym (put_same w.slots.info touch.page (info_with_core c (w.slots.info touch.page)))) ∙ backed.entry in
+    (λ u e. let backed : IsBacked w.memory.cached (put w.slots.info touch.page (info_with_core c (w.slots.info touch.page)) touch.page) c u =
+    (at_page (IsSoundEntry w.memory.cached (after_install c touch w).slots.info c ((after_install c touch w).hardware.table c) (w.hardware.inbox c)) (w.hardware.tlb c) touch.page u
+    (after.coherent.tlbs c) e).0 in
+    let entry : entry_of_page w.memory.cached (info_with_core c (w.slots.info touch.page)) ≡ Some u =
+    ap (entry_of_page w.memory.cached) (sym (put_same w.slots.info touch.page (info_with_core c (w.slots.info touch.page)))) ∙ backed.entry in
     let both = z.2 in cc)
     z.3
   where
-    at_table : (after_install c touch w).hardware.table c touch.page ≡ entry_of_page (w.slots.info touch.page)
-    at_table = ap (λ f. f touch.page) (put_same w.hardware.table c (put (w.hardware.table c) touch.page (entry_of_page (w.slots.info touch.page))))
-        ∙ put_same (w.hardware.table c) touch.page (entry_of_page (w.slots.info touch.page))
+    at_table : (after_install c touch w).hardware.table c touch.page ≡ entry_of_page w.memory.cached (w.slots.info touch.page)
+    at_table = ap (λ f. f touch.page) (put_same w.hardware.table c (put (w.hardware.table c) touch.page (entry_of_page w.memory.cached (w.slots.info touch.page))))
+        ∙ put_same (w.hardware.table c) touch.page (entry_of_page w.memory.cached (w.slots.info touch.page))
+
+-- the frame is taken for a page without one, or for a copy
+takes_near : (first : ℕ → Bool) (w : World) (c : ℕ) (touch : Touch) (old : Option ℕ) (x : ℕ) (v : World) → w.calls.phase c ≡ Want touch old
+    → w.memory.is_free ≡ first → w.memory.is_free x ≡ true → v ≡ after_frame c touch old x w → Nears first w c v
+takes_near first w c touch None x v e same l h =
+    nears first w c (Want touch None) (Fill touch (Some x)) w.slots w.hardware (after_frame c touch None x w).memory v e (rw h refl) (omega arith)
+    (ap (λ f. f x) (sym same) ∙ l, ap (λ f. put f x false) same)
+takes_near first w c touch (Some g) x v e same l h =
+    nears first w c (Want touch (Some g)) (CopyPost touch x) w.slots w.hardware (after_frame c touch (Some g) x w).memory v e (rw h refl) (omega arith)
+    (ap (λ f. f x) (sym same) ∙ l, ap (λ f. put f x false) same)
+
+-- the page has got a copy, and the log says so
+copied_near : (first : ℕ → Bool) (w : World) (c : ℕ) (old : Phase) (touch : Touch) (t : Slots) (m : Memory) (v : World)
+    → w.calls.phase c ≡ old → v ≡ to c (Install touch) (with_entry (detach_entry w c touch.page) (record w { slots = t; memory = m }))
+    → 7 < rank_of w.slots (reach_of w.hardware c) old → Nears first w c v
+copied_near first w c old touch t m v e k less =
+    noted (nears first w c old (Install touch) t w.hardware m (to c (Install touch) (record w { slots = t; memory = m })) e refl less tt)
+  where
+    noted : Nears first w c (to c (Install touch) (record w { slots = t; memory = m })) → Nears first w c v
+    noted n = subst (Nears first w c) (sym k) (record { made = n.made; less = n.less; sure = n.sure })
 
 -- ---- every plain step
 
-pub goes_near : (first : ℕ → Bool) (w : World) (c : ℕ) (v : World) → Fine w → Fine v → IsSureOf first c w → GoesBy w c v → Nears first w c v
-goes_near first w c v f after sure (moves new m h) = moves_near first w c new v f sure m h
-goes_near first w c v f after sure (divides goal cursor t e s h) =
+pub goes_near : (first : ℕ → Bool) (w : World) (c : ℕ) (v : World) → Fine w → Fine v → IsSureOf first c w → IsStorableOf c w → GoesBy w c v
+    → Nears first w c v
+goes_near first w c v f after sure own (moves new m h) = moves_near first w c new v f sure m h
+goes_near first w c v f after sure own (divides goal cursor t e s h) =
     divides_near first w c goal cursor t v e (sure_at first w c (Lock goal cursor) e sure) (missing_less w.slots t None s.divides.0 s.divides.1.1 s.divides.2) h
-goes_near first w c v f after sure (owns goal cursor b t e l h) =
+goes_near first w c v f after sure own (owns goal cursor b t e l h) =
     let edge : t.edge ≡ w.slots.edge = ap (λ (x : Slots). x.edge) l.now in
     let same : missing t ≡ missing w.slots = missing_same w.slots t edge in
     nears first w c (Lock goal cursor) (locked_to goal b) t w.hardware w.memory v e (rw h refl)
     (subst (λ m. rank m (reach_of w.hardware c) (locked_to goal b) < rank_of w.slots (reach_of w.hardware c) (Lock goal cursor)) (sym same)
     (lock_less (missing w.slots) (reach_of w.hardware c) (reach_of w.hardware c) goal cursor b l.slot.ordered l.by_end))
     (owns_sure first w.memory.is_free (reach_of w.hardware c) goal b (sure_at first w c (Lock goal cursor) e sure))
-goes_near first w c v f after sure (lets_go held b t new l u h) = lets_go_near first w c held b t new v sure l u.slot.ordered u.by_end h
-goes_near first w c v f after sure (answers held reply r h) = replies_near first w c held reply v f sure r h
-goes_near first w c v f after sure (posts change shoot e h) =
+goes_near first w c v f after sure own (lets_go held b t new l u h) = lets_go_near first w c held b t new v sure l u.slot.ordered u.by_end h
+goes_near first w c v f after sure own (answers held reply r h) = replies_near first w c held reply v f sure r h
+goes_near first w c v f after sure own (posts change shoot e h) =
     nears first w c (Post change shoot) (Acks change (range_of change)) w.slots (after_post c change shoot w).hardware w.memory v e (rw h refl)
     (omega arith) (sure_at first w c (Post change shoot) e sure)
-goes_near first w c v f after sure (commits change held counts e n l h) =
+goes_near first w c v f after sure own (commits change held counts e n l h) =
     tells_near first w c (Acks change held) (Some held) (reply_to change) (slots_after change w.slots) w.hardware (with_counts counts w).memory v e h
     (omega arith) (due_reply first (reply_to change) (reply_is change))
-goes_near first w c v f after sure (takes touch x e l h) =
-    nears first w c (Want touch) (Fill touch x) w.slots w.hardware (after_frame c touch x w).memory v e (rw h refl) (omega arith) tt
-goes_near first w c v f after sure (fills touch x counts e t h) =
-    nears first w c (Fill touch x) (Install touch) (after_fill c touch x counts w).slots w.hardware (after_fill c touch x counts w).memory v e (rw h refl)
+goes_near first w c v f after sure own (takes touch old x e l h) = takes_near first w c touch old x v e (sure_at first w c (Want touch old) e sure) l h
+goes_near first w c v f after sure own (zeroes touch x counts e b t h) =
+    nears first w c (Fill touch (Some x)) (Install touch) (after_zeros c touch x counts w).slots w.hardware (after_zeros c touch x counts w).memory v e (rw h refl)
     (omega arith) tt
-goes_near first w c v f after sure (installs touch e h) =
+goes_near first w c v f after sure own (first_copies touch x counts e b t h) =
+    copied_near first w c (Fill touch (Some x)) touch (after_first_copy c touch x counts w).slots (after_first_copy c touch x counts w).memory v e (rw h refl)
+    (omega arith)
+goes_near first w c v f after sure own (caches touch x counts e s n t h) =
+    nears first w c (Fill touch (Some x)) (Install touch) (after_caching c touch x counts w).slots w.hardware (after_caching c touch x counts w).memory v e (rw h refl)
+    (omega arith) tt
+goes_near first w c v f after sure own (shares touch mine x counts e s n t h) =
+    nears first w c (Fill touch mine) (Install touch) (after_sharing c touch mine x counts w).slots w.hardware (after_sharing c touch mine x counts w).memory v e
+    (rw h refl) (omega arith) tt
+goes_near first w c v f after sure own (posts_copy touch x e h) =
+    nears first w c (CopyPost touch x) (CopyAcks touch x) w.slots (after_copy_post c touch x w).hardware w.memory v e (rw h refl)
+    (omega arith) (sure_at first w c (CopyPost touch x) e sure)
+goes_near first w c v f after sure own (copies touch x g counts e n a t h) =
+    copied_near first w c (CopyAcks touch x) touch (after_copy c touch x g counts w).slots (after_copy c touch x g counts w).memory v e (rw h refl)
+    (omega arith)
+goes_near first w c v f after sure own (installs touch e h) =
     nears first w c (Install touch) (Release touch) (after_install c touch w).slots (after_install c touch w).hardware w.memory v e (rw h refl) (omega arith)
-    (installed_hits w c touch (call_at w c (Install touch) e f.order) (subst Fine h after))
-goes_near first w c v f after sure (accesses touch x e i h) =
+    (installed_hits w c touch (call_at w c (Install touch) e f.order) (subst Fine h after) (subst (IsStorable w.memory.cached w.slots.info) e own))
+goes_near first w c v f after sure own (accesses touch x e i h) =
     tells_near first w c (Try touch) None (reply_of touch x w.memory) w.slots (after_translating w.hardware c touch) (memory_after touch x w.memory) v e h
-    (let a : rank_of w.slots (reach_of w.hardware c) (Try touch) ≡ 2 = ap (λ (o : Option ℕ). cond (is_some o) 2 (missing w.slots + 12)) i in omega (arith, a))
+    (let a : rank_of w.slots (reach_of w.hardware c) (Try touch) ≡ 2 = ap (λ (o : Option ℕ). cond (is_some o) 2 (missing w.slots + 14)) i in omega (arith, a))
     (due_reply first (reply_of touch x w.memory) (byte_is_reply touch.access (w.memory.bytes x touch.offset)))
-goes_near first w c v f after sure (faults touch e k h) =
+goes_near first w c v f after sure own (faults touch e k h) =
     let none : hits (reach_of w.hardware c) touch ≡ false = ap is_some k in
     let was : (w.memory.is_free ≡ first) ⊎ (hits (reach_of w.hardware c) touch ≡ true) = sure_at first w c (Try touch) e sure in
     nears first w c (Try touch) (locking (To.Access touch)) w.slots (after_translating w.hardware c touch) w.memory v e (rw h refl)
-    (let a : rank_of w.slots (reach_of w.hardware c) (Try touch) ≡ missing w.slots + 12 = ap (λ b. cond b 2 (missing w.slots + 12)) none in omega (arith, a))
+    (let a : rank_of w.slots (reach_of w.hardware c) (Try touch) ≡ missing w.slots + 14 = ap (λ b. cond b 2 (missing w.slots + 14)) none in omega (arith, a))
     (elim was [
       | inl same ↦ same
       | inr hit ↦ absurd (cc (none, hit))

@@ -1,6 +1,8 @@
 -- How many frames are taken after a step: an access takes one, and nothing else takes any.
-use Rattle.std.proofs.Common.{◌≡◌, ℕ, zero, suc, ◌+◌, ◌≤◌, ◌<◌, ◌==◌, ◌⊎◌, Bool, true, false, cond, inl, inr, refl, sym, ap, subst, arith, Some, Option, Ok, ◌∙◌}
+use Rattle.std.proofs.Common.{◌≡◌, ℕ, zero, suc, ◌+◌, ◌≤◌, ◌<◌, ◌==◌, ◌⊎◌, Bool, true, false, cond, inl, inr, refl, sym, ap, subst, arith, Some, None, Option, Ok, ◌∙◌}
+use Rattle.std.proofs.Math.Path.{fun_ext}
 use Rattle.std.specs.Prelude.{if◌then◌else◌}
+use Rattle.std.proofs.lemmas.Bool.Decides.{nat_tests}
 use Rattle.vm_base.specs.declared.requests.Request.{Request}
 use Rattle.vm_base.specs.declared.requests.Request.TheVariants.{Mmap, Munmap, Mprotect, Load, Store, Fetch}
 use Rattle.vm_base.specs.declared.rights.Mode.{Mode}
@@ -10,25 +12,26 @@ use Rattle.vm_base.specs.declared.replies.Reply.TheVariants as ReplyOf
 use Rattle.vm_base.specs.declared.rights.Access.TheVariants as By
 use Rattle.slot_lock.specs.declared.plan.Change.{Change}
 use Rattle.machine_sound.specs.Log.{Stands}
-use Rattle.machine_sound.proofs.Kept.{reached_fine}
 use Rattle.vm_base.specs.Refusals.{refusal}
-use Rattle.vm_base.proofs.Functions.{eq_true, put_other}
+use Rattle.vm_base.proofs.Functions.{eq_true, eq_false, put_all, put_other}
 use Rattle.slot_lock.specs.declared.plan.Plan.{Plan}
 use Rattle.slot_lock.specs.declared.plan.Plan.TheVariants as PlanOf
 use Rattle.slot_lock.specs.declared.plan.Touch.{Touch}
 use Rattle.vm_calls.specs.Checks.{checked, plan_of}
 use Rattle.vm_calls.proofs.Passed.{passed}
-use Rattle.machine_model.specs.declared.phase.Phase.TheVariants.{Acks, Want}
+use Rattle.machine_model.specs.declared.phase.Phase.TheVariants.{Want, Fill}
 use Rattle.machine_model.specs.Accesses.{NoneFree}
+use Rattle.machine_model.specs.GivingUp.{given_back}
 use Rattle.machine_model.specs.World.{World}
 use Rattle.machine_laws.specs.Brackets.{nth}
+use Rattle.machine_laws.specs.Orderly.{Serves}
 use Rattle.machine_laws.proofs.Moves.{IsCallOf, call_at}
-use Rattle.machine_laws.proofs.Shapes.{GoesBy, moves, divides, owns, lets_go, answers, posts, commits, takes, fills, installs, accesses, faults}
+use Rattle.machine_laws.proofs.Shapes.{GoesBy, moves, divides, owns, lets_go, answers, posts, commits, takes, zeroes, first_copies, caches, shares, posts_copy, copies, installs, accesses, faults}
 use Rattle.machine_sound.specs.Invariant.{Fine}
 use Rattle.machine_alone.specs.Taken.{one_if_taken, taken_below, frames_for, is_access}
-use Rattle.machine_alone.proofs.Rows.{IsSureOf, sure_at}
-use Rattle.machine_alone.specs.Alone.{IsWaiting}
-use Rattle.machine_alone.proofs.Using.{either_plan, no_change}
+use Rattle.machine_alone.proofs.Rows.{HasTaken, IsSureOf, sure_at}
+use Rattle.machine_alone.proofs.Using.{IsTouchOf, loads, stores, fetches, no_change}
+use Rattle.machine_alone.proofs.Used.{its_touch}
 
 -- ---- sets of frames
 
@@ -53,6 +56,31 @@ one_taken f k (suc n) = go (one_taken f k n) (n == k) refl
         let a = same_below (put f k false) f n (λ j l. put_other f k false j (λ i. let z = eq_true n k e in omega (arith, l, i, z))) in
         omega (arith, a)
     go below false e = omega (arith, below)
+
+lower : (k n : ℕ) → k < suc n → (k ≡ n → ⊥) → k < n
+lower k n l ne = go (k == n) refl
+  where
+    go : (b : Bool) → (k == n) ≡ b → k < n
+    go true e = absurd (ne (eq_true k n e))
+    go false e = grind (arith, nat_tests)
+
+-- just one less, where it was
+pub one_taken_of : (f : ℕ → Bool) (k n : ℕ) → f k ≡ true → k < n → taken_below (put f k false) n ≡ suc (taken_below f n)
+unfolding taken_below
+one_taken_of f k zero h l = absurd (omega (arith, l))
+one_taken_of f k (suc n) h l = go (λ m. one_taken_of f k n h m) (n == k) refl
+  where
+    go : (k < n → taken_below (put f k false) n ≡ suc (taken_below f n)) → (b : Bool) → (n == k) ≡ b
+        → one_if_taken (cond b false (f n)) + taken_below (put f k false) n ≡ suc (one_if_taken (f n) + taken_below f n)
+    go below true e =
+        let a = same_below (put f k false) f n (λ j l. put_other f k false j (λ i. let z = eq_true n k e in omega (arith, l, i, z))) in
+        let z = eq_true n k e in
+        let b : one_if_taken (f n) ≡ 0 = ap one_if_taken (ap f z ∙ h) in
+        omega (arith, a, b)
+    go below false e =
+        let ne = eq_false n k e in
+        let a = below (lower k n l (λ i. ne (sym i))) in
+        omega (arith, a)
 
 -- one more is
 pub one_given : (f : ℕ → Bool) (k n : ℕ) → taken_below (put f k true) n ≤ taken_below f n
@@ -86,54 +114,68 @@ none_taken f (suc n) h =
 -- ---- the steps of a call
 
 -- what was free at first still is, but for one frame that an access took
-abbrev pub HasTaken : (ℕ → Bool) → (ℕ → Bool) → Request → Type 0
-HasTaken first free request = (free ≡ first) ⊎ ((f : ℕ) × (free ≡ put first f false) × (is_access request ≡ true))
+abbrev pub TakesOne : (ℕ → Bool) → (ℕ → Bool) → Request → Type 0
+TakesOne first free request = (free ≡ first) ⊎ ((f : ℕ) × HasTaken first free (Some f) × (is_access request ≡ true))
 
-pub taken_most : (first free : ℕ → Bool) (request : Request) (n : ℕ) → HasTaken first free request → taken_below free n ≤ taken_below first n + frames_for request
+pub taken_most : (first free : ℕ → Bool) (request : Request) (n : ℕ) → TakesOne first free request → taken_below free n ≤ taken_below first n + frames_for request
 taken_most first free request n (inl e) = let a : taken_below free n ≡ taken_below first n = ap (λ f. taken_below f n) e in omega (arith, a)
 taken_most first free request n (inr h) =
-    let a : taken_below free n ≡ taken_below (put first h.0 false) n = ap (λ f. taken_below f n) h.1 in
+    let a : taken_below free n ≡ taken_below (put first h.0 false) n = ap (λ f. taken_below f n) h.1.1 in
     let b = one_taken first h.0 n in
     let c : frames_for request ≡ 1 = ap (λ (b : Bool). if b then 1 else 0) h.2 in
     omega (arith, a, b, c)
 
-touches_access : (modes : ℕ → Option Mode) (core : ℕ) (request : Request) (touch : Touch) → checked modes core request ≡ Ok (PlanOf.Touch touch) → is_access request ≡ true
-touches_access modes core request touch e = go request (passed (refusal modes request) (plan_of core request) (PlanOf.Touch touch) e).1
-  where
-    no_touch : (b : Bool) (x y : Plan) → either_plan b x y ≡ Ok (PlanOf.Touch touch) → (x ≡ PlanOf.Touch touch → ⊥) → (y ≡ PlanOf.Touch touch → ⊥) → ⊥
-    no_touch true x y e f g = f cc
-    no_touch false x y e f g = g cc
+touch_access : (request : Request) (touch : Touch) → IsTouchOf request touch → is_access request ≡ true
+touch_access request touch (loads addr r e) = ap is_access r
+touch_access request touch (stores addr byte r e) = ap is_access r
+touch_access request touch (fetches addr r e) = ap is_access r
 
-    go : (r : Request) → plan_of core r ≡ Ok (PlanOf.Touch touch) → is_access r ≡ true
-    go (Mmap addr len prot flags file off) e = absurd (no_touch flags.fixed _ _ e (λ i. cc) (λ i. cc))
-    go (Munmap addr len) e = absurd cc
-    go (Mprotect addr len prot) e = absurd cc
-    go (Load addr) e = refl
-    go (Store addr byte) e = refl
-    go (Fetch addr) e = refl
+-- a call that is at an access was asked for one
+pub its_access : (w : World) (c : ℕ) (touch : Touch) (request : Request) → nth w.calls.requests (w.calls.number c) ≡ Some request
+    → Serves w.made w.calls.requests c (w.calls.number c) (PlanOf.Touch touch) → is_access request ≡ true
+its_access w c touch request number z = touch_access request touch (its_touch w c touch request number z)
+
+-- a frame that goes back
+pub put_back : (first : ℕ → Bool) (f : ℕ) → first f ≡ true → put (put first f false) f true ≡ first
+put_back first f h =
+    fun_ext (put_all (λ j b. b ≡ first j) (put first f false) f true (sym h) (λ j ne. put_other first f false j ne))
+
+given_taken : (first free : ℕ → Bool) (own : Option ℕ) → HasTaken first free own → given_back own free ≡ first
+given_taken first free None h = h
+given_taken first free (Some f) h = ap (λ g. put g f true) h.1 ∙ put_back first f h.0
+
+free_same : (first : ℕ → Bool) (request : Request) (v : World) (free : ℕ → Bool) → v.memory.is_free ≡ free → TakesOne first free request
+    → TakesOne first v.memory.is_free request
+free_same first request v free e k = subst (λ f. TakesOne first f request) (sym e) k
 
 pub taken_on : (first : ℕ → Bool) (c : ℕ) (request : Request) (w v : World) → Fine w → nth w.calls.requests (w.calls.number c) ≡ Some request
-    → IsSureOf first c w → HasTaken first w.memory.is_free request → GoesBy w c v → HasTaken first v.memory.is_free request
-taken_on first c request w v f number sure k (moves new m h) = subst (λ (v : World). HasTaken first v.memory.is_free request) (sym h) k
-taken_on first c request w v f number sure k (divides goal cursor t e s h) = subst (λ (v : World). HasTaken first v.memory.is_free request) (sym h) k
-taken_on first c request w v f number sure k (owns goal cursor b t e l h) = subst (λ (v : World). HasTaken first v.memory.is_free request) (sym h) k
-taken_on first c request w v f number sure k (lets_go held b t new l u h) = subst (λ (v : World). HasTaken first v.memory.is_free request) (sym h) k
-taken_on first c request w v f number sure k (answers held reply r h) = subst (λ (v : World). HasTaken first v.memory.is_free request) (sym h) k
-taken_on first c request w v f number sure k (posts change shoot e h) = subst (λ (v : World). HasTaken first v.memory.is_free request) (sym h) k
-taken_on first c request w v f number sure k (commits change held counts e n l h) = subst (λ (v : World). HasTaken first v.memory.is_free request) (sym h) k
-taken_on first c request w v f number sure k (takes touch x e l h) =
-    let call : IsCallOf w c (Want touch) = call_at w c (Want touch) e f.order in
-    let is : Some call.asked.request ≡ Some request = sym call.asked.number ∙ number in
-    let same : call.asked.request ≡ request = cc in
-    subst (λ (v : World). HasTaken first v.memory.is_free request) (sym h) (inr (
+    → IsSureOf first c w → TakesOne first w.memory.is_free request → GoesBy w c v → TakesOne first v.memory.is_free request
+taken_on first c request w v f number sure k (moves new m h) = free_same first request v _ (ap (λ (v : World). v.memory.is_free) h) k
+taken_on first c request w v f number sure k (divides goal cursor t e s h) = free_same first request v _ (ap (λ (v : World). v.memory.is_free) h) k
+taken_on first c request w v f number sure k (owns goal cursor b t e l h) = free_same first request v _ (ap (λ (v : World). v.memory.is_free) h) k
+taken_on first c request w v f number sure k (lets_go held b t new l u h) = free_same first request v _ (ap (λ (v : World). v.memory.is_free) h) k
+taken_on first c request w v f number sure k (answers held reply r h) = free_same first request v _ (ap (λ (v : World). v.memory.is_free) h) k
+taken_on first c request w v f number sure k (posts change shoot e h) = free_same first request v _ (ap (λ (v : World). v.memory.is_free) h) k
+taken_on first c request w v f number sure k (commits change held counts e n l h) = free_same first request v _ (ap (λ (v : World). v.memory.is_free) h) k
+taken_on first c request w v f number sure k (takes touch old x e l h) =
+    let call : IsCallOf w c (Want touch old) = call_at w c (Want touch old) e f.order in
+    let same : w.memory.is_free ≡ first = sure_at first w c (Want touch old) e sure in
+    free_same first request v (put w.memory.is_free x false) (ap (λ (v : World). v.memory.is_free) h) (inr (
       x,
-      ap (λ g. put g x false) (sure_at first w c (Want touch) e sure),
-      subst (λ r. is_access r ≡ true) same (touches_access (λ k. mode_of (w.made.file k)) c call.asked.request touch call.asked.passed),
+      (ap (λ f. f x) (sym same) ∙ l, ap (λ g. put g x false) same),
+      its_access w c touch request number call.asked,
     ))
-taken_on first c request w v f number sure k (fills touch x counts e t h) = subst (λ (v : World). HasTaken first v.memory.is_free request) (sym h) k
-taken_on first c request w v f number sure k (installs touch e h) = subst (λ (v : World). HasTaken first v.memory.is_free request) (sym h) k
-taken_on first c request w v f number sure k (accesses touch x e i h) = subst (λ (v : World). HasTaken first v.memory.is_free request) (sym h) k
-taken_on first c request w v f number sure k (faults touch e i h) = subst (λ (v : World). HasTaken first v.memory.is_free request) (sym h) k
+taken_on first c request w v f number sure k (zeroes touch x counts e b t h) = free_same first request v _ (ap (λ (v : World). v.memory.is_free) h) k
+taken_on first c request w v f number sure k (first_copies touch x counts e b t h) = free_same first request v _ (ap (λ (v : World). v.memory.is_free) h) k
+taken_on first c request w v f number sure k (caches touch x counts e s n t h) = free_same first request v _ (ap (λ (v : World). v.memory.is_free) h) k
+taken_on first c request w v f number sure k (shares touch own x counts e s n t h) =
+    free_same first request v (given_back own w.memory.is_free) (ap (λ (v : World). v.memory.is_free) h)
+    (inl (given_taken first w.memory.is_free own (sure_at first w c (Fill touch own) e sure)))
+taken_on first c request w v f number sure k (posts_copy touch x e h) = free_same first request v _ (ap (λ (v : World). v.memory.is_free) h) k
+taken_on first c request w v f number sure k (copies touch x g counts e n a t h) = free_same first request v _ (ap (λ (v : World). v.memory.is_free) h) k
+taken_on first c request w v f number sure k (installs touch e h) = free_same first request v _ (ap (λ (v : World). v.memory.is_free) h) k
+taken_on first c request w v f number sure k (accesses touch x e i h) = free_same first request v _ (ap (λ (v : World). v.memory.is_free) h) k
+taken_on first c request w v f number sure k (faults touch e i h) = free_same first request v _ (ap (λ (v : World). v.memory.is_free) h) k
 
 -- ---- a change is no access
 
@@ -148,14 +190,6 @@ change_no_access modes core request change e = go request (passed (refusal modes
     go (Load addr) e = absurd (no_change core (Load addr) addr 0 By.Load change e)
     go (Store addr byte) e = absurd (no_change core (Store addr byte) addr byte By.Store change e)
     go (Fetch addr) e = absurd (no_change core (Fetch addr) addr 0 By.Fetch change e)
-
--- a call that waits asks for a change
-pub waits_for_change : (w : World) (t : Plain) (core : ℕ) (request : Request) → IsWaiting w t core request → is_access request ≡ false
-waits_for_change w t core request k =
-    let call : IsCallOf w core (Acks k.change k.held) = call_at w core (Acks k.change k.held) k.at_acks (reached_fine w k.reached).order in
-    let is : Some call.asked.request ≡ Some request = sym call.asked.number ∙ k.number in
-    let same : call.asked.request ≡ request = cc in
-    subst (λ r. is_access r ≡ false) same (change_no_access (λ n. mode_of (w.made.file n)) core call.asked.request k.change call.asked.passed)
 
 -- an access alone may be answered "no frame"
 pub no_frame_access : (t u : Plain) (core : ℕ) (request : Request) → Stands t core request ReplyOf.NoFrame u → is_access request ≡ true

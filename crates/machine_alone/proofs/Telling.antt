@@ -1,16 +1,20 @@
--- Which cores a lone call waits for: the others that are recorded on its pages
+-- Which cores a lone call waits for: the others that are recorded on the pages that it changes or copies
 use Rattle.std.proofs.Common.{◌≡◌, ◌≢◌, ℕ, ◌<◌, Bool, true, false, cond, refl, sym, ap, subst, arith, Some, None, Option, List, [], ◌∷◌, ◌++◌, ◌∙◌}
 use Rattle.std.specs.Prelude.{◌↔◌, ◌==◌, is_some, if◌then◌else◌, nat_le}
 use Rattle.std.proofs.lemmas.Bool.Decides.{nat_tests}
+use Rattle.vm_base.specs.declared.info.PageInfo.{PageInfo}
 use Rattle.vm_base.specs.declared.page.PageRange.{PageRange}
 use Rattle.vm_base.specs.declared.replies.Reply.{Reply}
 use Rattle.vm_base.specs.Cores.{members}
+use Rattle.vm_base.specs.Info.{is_recorded}
+use Rattle.vm_base.proofs.CoreSets.{members-empty}
 use Rattle.vm_base.specs.Functions.{put}
-use Rattle.vm_base.proofs.Functions.{put_all, put_same, put_other, eq_true, eq_false}
+use Rattle.vm_base.proofs.Functions.{has_in, put_all, put_same, put_other, eq_true, eq_false}
 use Rattle.vm_base.specs.Plain.{File}
 use Rattle.slot_lock.specs.declared.plan.Change.{Change}
 use Rattle.slot_lock.specs.declared.plan.Change.TheVariants.{Put, Clear, Protect}
 use Rattle.slot_lock.specs.declared.plan.Plan.TheVariants as PlanOf
+use Rattle.slot_lock.specs.declared.plan.Touch.{Touch}
 use Rattle.slot_lock.specs.Plan.{range_of}
 use Rattle.slot_lock.specs.Slots.{Slots, IsUser}
 use Rattle.vm_calls.specs.declared.decision.Decision.TheVariants.{Act}
@@ -20,28 +24,60 @@ use Rattle.shootdown.specs.declared.message.Message.{Message}
 use Rattle.shootdown.specs.Inboxes.{awaited}
 use Rattle.shootdown.specs.Messages.{message_of, posted}
 use Rattle.machine_model.specs.declared.phase.Phase.{Phase}
-use Rattle.machine_model.specs.declared.phase.Phase.TheVariants.{Free, Check, Lock, Decide, Post, Acks, Unlock, Answer, Try, Settle, Want, Fill, Install, Release}
+use Rattle.machine_model.specs.declared.phase.Phase.TheVariants.{Free, Check, Lock, Decide, Post, Acks, Unlock, Answer, Try, Settle, Want, Fill, CopyPost, CopyAcks, Install, Release}
 use Rattle.machine_model.specs.declared.phase.Goal.{Goal}
 use Rattle.machine_model.specs.declared.phase.Goal.TheVariants as To
-use Rattle.machine_model.specs.Accesses.{after_frame, after_fill, after_install, reply_of, memory_after}
-use Rattle.machine_model.specs.Actions.{to, let_go, after_reply}
-use Rattle.machine_model.specs.Changes.{after_post, slots_after, reply_to}
+use Rattle.machine_model.specs.Accesses.{taken_for, after_frame, after_install, reply_of, memory_after}
+use Rattle.machine_model.specs.Actions.{to, let_go, after_reply, with_entry, detach_entry}
+use Rattle.machine_model.specs.Filling.{cores_of, after_zeros, after_first_copy, after_caching, after_sharing, after_copy_post, after_copy}
+use Rattle.machine_model.specs.Changes.{slots_after, reply_to}
 use Rattle.machine_model.specs.Counting.{with_counts}
-use Rattle.machine_model.specs.Holding.{awaits_in, goal_range}
+use Rattle.machine_model.specs.Holding.{awaits_in, goal_range, page_of_touch}
 use Rattle.machine_model.specs.Locks.{locking, locked_to, all_locked, held_after}
-use Rattle.machine_model.specs.Translating.{inboxes_after, after_translating, with_hardware}
+use Rattle.machine_model.specs.Translating.{inboxes_after, after_shot, after_translating, with_hardware}
 use Rattle.machine_model.specs.World.{World, Hardware}
-use Rattle.machine_laws.proofs.Moves.{IsCallOf, call_at}
-use Rattle.machine_laws.proofs.Shapes.{Moves, locks, tries, acts as decides, finds, lacks, LetsGo, unlocks, releases, GoesBy, moves, divides, owns, lets_go, answers, posts, commits, takes, fills, installs, accesses, faults}
+use Rattle.machine_laws.proofs.Moves.{IsCallOf, call_at, page_is}
+use Rattle.machine_laws.proofs.Shapes.{Moves, locks, tries, acts as decides, finds, lacks, shows, LetsGo, unlocks, releases, GoesBy, moves, divides, owns, lets_go, answers, posts, commits, takes, zeroes, first_copies, caches, shares, posts_copy, copies, installs, accesses, faults}
 use Rattle.machine_coherence.specs.Coherent.{AreAsked}
 use Rattle.machine_sound.specs.Invariant.{Fine}
 use Rattle.machine_alone.specs.Alone.{takes_left}
 
--- while the call awaits acknowledgements, the cores that have its message are the others that are recorded on its pages, and have taken nothing of it
+-- The cores that have core c's message, if it asks for these pages, are the others that are recorded on them, and have taken nothing of it.
+abbrev pub IsToldOf : Slots → Hardware → ℕ → Option PageRange → Type 0
+IsToldOf s h c None = Unit {0}
+IsToldOf s h c (Some range) = (d : ℕ) →
+    ((awaited h.inbox c d ≡ true) ↔ ((d ≢ c) × IsUser s range d)) × (takes_left (h.inbox d) ≡ (if awaited h.inbox c d then 2 else 0))
+
+-- while the call awaits acknowledgements
 abbrev pub IsTold : Slots → Hardware → ℕ → Phase → Type 0
-IsTold s h c (Acks change held) = (d : ℕ) →
-    ((awaited h.inbox c d ≡ true) ↔ ((d ≢ c) × IsUser s (range_of change) d)) × (takes_left (h.inbox d) ≡ (if awaited h.inbox c d then 2 else 0))
-IsTold s h c _ = Unit {0}
+IsTold s h c phase = IsToldOf s h c (awaits_in phase)
+
+-- ---- the phases in which a call waits
+
+-- a call in this phase waits until others have dropped these pages: those of a change, or that of a store that is to have a copy
+pub data Waits (phase : Phase) (range : PageRange) : Type 0 where
+  for_change : (change : Change) (held : PageRange) → phase ≡ Acks change held → range ≡ range_of change → Waits phase range
+  for_copy : (touch : Touch) (frame : ℕ) → phase ≡ CopyAcks touch frame → range ≡ page_of_touch touch → Waits phase range
+
+pub waits_at : (phase : Phase) (range : PageRange) → awaits_in phase ≡ Some range → Waits phase range
+waits_at (Acks change held) range e = for_change change held refl cc
+waits_at (CopyAcks touch frame) range e = for_copy touch frame refl cc
+waits_at Free range e = absurd cc
+waits_at (Check request) range e = absurd cc
+waits_at (Lock goal cursor) range e = absurd cc
+waits_at (Decide change) range e = absurd cc
+waits_at (Post change shoot) range e = absurd cc
+waits_at (Unlock held reply) range e = absurd cc
+waits_at (Answer reply) range e = absurd cc
+waits_at (Try touch) range e = absurd cc
+waits_at (Settle touch) range e = absurd cc
+waits_at (Want touch old) range e = absurd cc
+waits_at (Fill touch frame) range e = absurd cc
+waits_at (CopyPost touch frame) range e = absurd cc
+waits_at (Install touch) range e = absurd cc
+waits_at (Release touch) range e = absurd cc
+
+-- ---- messages
 
 -- what has no message of core c gets one at its end
 told_message : (ms : List Message) (c : ℕ) (range : PageRange) → is_some (message_of (ms ++ posted c range ∷ []) c) ≡ true
@@ -94,12 +130,31 @@ acts_users files s (Protect range prot) changes shoot (no_page a e) = absurd cc
 acts_users files s (Protect range prot) changes shoot (no_write a w r e) = absurd cc
 acts_users files s (Protect range prot) changes shoot (acts a r k) = k.1
 
--- just after the messages were sent
-posts_tell : (w : World) (c : ℕ) (change : Change) (shoot : ℕ) → Fine w → ((b : ℕ) → b ≢ c → w.calls.phase b ≡ Free) → w.calls.phase c ≡ Post change shoot
-    → (d : ℕ) → ((awaited (inboxes_after c shoot (range_of change) w.hardware.inbox) c d ≡ true) ↔ ((d ≢ c) × IsUser w.slots (range_of change) d))
-    × (takes_left (inboxes_after c shoot (range_of change) w.hardware.inbox d)
-    ≡ (if awaited (inboxes_after c shoot (range_of change) w.hardware.inbox) c d then 2 else 0))
-posts_tell w c change shoot f others e d = (
+-- and so are those of a page that is to get a copy
+copy_users : (s : Slots) (touch : Touch) (core : ℕ) → (members (cores_of (s.info touch.page)) core ≡ true) ↔ IsUser s (page_of_touch touch) core
+copy_users s touch core = (
+  λ m. (touch.page, page_is touch, here (s.info touch.page) m),
+  λ u.
+    let k = has_in (page_of_touch touch) u.0 u.1 in
+    let same : u.0 ≡ touch.page = let a = k.0 in let b = k.1 in omega (arith, a, b) in
+    there (s.info touch.page) (subst (λ p. is_recorded (s.info p) core ≡ true) same u.2),
+)
+  where
+    here : (o : Option PageInfo) → members (cores_of o) core ≡ true → is_recorded o core ≡ true
+    here None m = absurd (let a = members-empty core in cc (a, m))
+    here (Some info) m = m
+
+    there : (o : Option PageInfo) → is_recorded o core ≡ true → members (cores_of o) core ≡ true
+    there None m = absurd cc
+    there (Some info) m = m
+
+-- just after the messages were sent to the cores that are recorded on these pages
+posts_tell : (w : World) (c shoot : ℕ) (range : PageRange) → Fine w → ((b : ℕ) → b ≢ c → w.calls.phase b ≡ Free) → awaits_in (w.calls.phase c) ≡ None
+    → ((d : ℕ) → (members shoot d ≡ true) ↔ IsUser w.slots range d)
+    → (d : ℕ) → ((awaited (inboxes_after c shoot range w.hardware.inbox) c d ≡ true) ↔ ((d ≢ c) × IsUser w.slots range d))
+    × (takes_left (inboxes_after c shoot range w.hardware.inbox d)
+    ≡ (if awaited (inboxes_after c shoot range w.hardware.inbox) c d then 2 else 0))
+posts_tell w c shoot range f others e all d = (
   go (put (members shoot) c false d) refl,
   untaken (put (members shoot) c false d) (w.hardware.inbox d) (no_message w.calls.phase d (w.hardware.inbox d) nobody (f.coherent.asked d)),
 )
@@ -108,53 +163,37 @@ posts_tell w c change shoot f others e d = (
     nobody b = this (b == c) refl
       where
         this : (z : Bool) → (b == c) ≡ z → awaits_in (w.calls.phase b) ≡ None
-        this true i = ap (λ n. awaits_in (w.calls.phase n)) (eq_true b c i) ∙ ap awaits_in e
+        this true i = ap (λ n. awaits_in (w.calls.phase n)) (eq_true b c i) ∙ e
         this false i = ap awaits_in (others b (eq_false b c i))
 
     untaken : (b : Bool) (ms : List Message) → ms ≡ []
-        → takes_left (if b then ms ++ posted c (range_of change) ∷ [] else ms)
-        ≡ (if is_some (message_of (if b then ms ++ posted c (range_of change) ∷ [] else ms) c) then 2 else 0)
+        → takes_left (if b then ms ++ posted c range ∷ [] else ms)
+        ≡ (if is_some (message_of (if b then ms ++ posted c range ∷ [] else ms) c) then 2 else 0)
     untaken true ms i =
-        subst (λ ms. takes_left (ms ++ posted c (range_of change) ∷ []) ≡ (if is_some (message_of (ms ++ posted c (range_of change) ∷ []) c) then 2 else 0)) (sym i)
-        (ap (λ (b : Bool). if b then 2 else 0) (sym (told_message [] c (range_of change))))
+        subst (λ ms. takes_left (ms ++ posted c range ∷ []) ≡ (if is_some (message_of (ms ++ posted c range ∷ []) c) then 2 else 0)) (sym i)
+        (ap (λ (b : Bool). if b then 2 else 0) (sym (told_message [] c range)))
     untaken false ms i = subst (λ ms. takes_left ms ≡ (if is_some (message_of ms c) then 2 else 0)) (sym i) refl
 
-    k : IsCallOf w c (Post change shoot)
-    k = call_at w c (Post change shoot) e f.order
-
-    users : (members shoot d ≡ true) ↔ IsUser w.slots (range_of change) d
-    users = acts_users w.made.file w.slots change (range_of change) shoot k.ready d
+    users : (members shoot d ≡ true) ↔ IsUser w.slots range d
+    users = all d
 
     not_yet : is_some (message_of (w.hardware.inbox d) c) ≡ true → ⊥
-    not_yet h = let z = asked_awaits w.calls.phase d (w.hardware.inbox d) c (f.coherent.asked d) h in let none = ap awaits_in e in cc
+    not_yet h = let z = asked_awaits w.calls.phase d (w.hardware.inbox d) c (f.coherent.asked d) h in let none = e in cc
 
     other : put (members shoot) c false d ≡ true → (d ≢ c) × (members shoot d ≡ true)
     other = put_all (λ d b. b ≡ true → (d ≢ c) × (members shoot d ≡ true)) (members shoot) c false (λ h. absurd cc) (λ d ne h. (ne, h)) d
 
     go : (b : Bool) → put (members shoot) c false d ≡ b
-        → (is_some (message_of (if b then w.hardware.inbox d ++ posted c (range_of change) ∷ [] else w.hardware.inbox d) c) ≡ true)
-        ↔ ((d ≢ c) × IsUser w.slots (range_of change) d)
-    go true i = (λ h. ((other i).0, users.0 (other i).1), λ u. told_message (w.hardware.inbox d) c (range_of change))
+        → (is_some (message_of (if b then w.hardware.inbox d ++ posted c range ∷ [] else w.hardware.inbox d) c) ≡ true)
+        ↔ ((d ≢ c) × IsUser w.slots range d)
+    go true i = (λ h. ((other i).0, users.0 (other i).1), λ u. told_message (w.hardware.inbox d) c range)
     go false i = (λ h. absurd (not_yet h), λ u. absurd (let a = users.1 u.1 in let b = sym i ∙ put_other (members shoot) c false d u.0 in cc))
 
 -- ---- over a step of the call
 
 -- a phase that awaits nothing
 untold : (s : Slots) (h : Hardware) (c : ℕ) (phase : Phase) → awaits_in phase ≡ None → IsTold s h c phase
-untold s h c (Acks change held) e = absurd cc
-untold s h c Free e = tt
-untold s h c (Check request) e = tt
-untold s h c (Lock goal cursor) e = tt
-untold s h c (Decide change) e = tt
-untold s h c (Post change shoot) e = tt
-untold s h c (Unlock held reply) e = tt
-untold s h c (Answer reply) e = tt
-untold s h c (Try touch) e = tt
-untold s h c (Settle touch) e = tt
-untold s h c (Want touch) e = tt
-untold s h c (Fill touch frame) e = tt
-untold s h c (Install touch) e = tt
-untold s h c (Release touch) e = tt
+untold s h c phase e = subst (IsToldOf s h c) (sym e) tt
 
 -- the call goes on to a phase that awaits nothing
 to_untold : (c : ℕ) (new : Phase) (x v : World) → v ≡ to c new x → awaits_in new ≡ None → IsTold v.slots v.hardware c (v.calls.phase c)
@@ -167,7 +206,8 @@ moves_untold w c new (locks request change e n k) = ap awaits_in n
 moves_untold w c new (tries request touch e n k) = ap awaits_in n
 moves_untold w c new (decides change range shoot e n d) = ap awaits_in n
 moves_untold w c new (finds touch f e n u) = ap awaits_in n
-moves_untold w c new (lacks touch e n u) = ap awaits_in n
+moves_untold w c new (lacks touch old e n u k) = ap awaits_in n
+moves_untold w c new (shows touch e n u k) = ap awaits_in n
 
 locked_untold : (goal : Goal) (b : ℕ) → awaits_in (locked_to goal b) ≡ None
 locked_untold goal b = go goal (nat_le (goal_range goal).end b)
@@ -185,11 +225,24 @@ lets_go_untold : (old : Phase) (held : PageRange) (b : ℕ) (new : Phase) → Le
 lets_go_untold old held b new (unlocks reply e n) = ap awaits_in n ∙ let_go_untold (held_after held b) reply
 lets_go_untold old held b new (releases touch e h n) = ap awaits_in n
 
+taken_untold : (touch : Touch) (old : Option ℕ) (f : ℕ) → awaits_in (taken_for touch old f) ≡ None
+taken_untold touch None f = refl
+taken_untold touch (Some g) f = refl
+
 -- with its reply
 replied_untold : (c : ℕ) (held : Option PageRange) (reply : Reply) (x v : World) → v ≡ after_reply c held reply x → IsTold v.slots v.hardware c (v.calls.phase c)
 replied_untold c held reply x v h =
     subst (λ (v : World). IsTold v.slots v.hardware c (v.calls.phase c)) (sym h)
     (untold x.slots x.hardware c (put x.calls.phase c (let_go held reply) c) (ap awaits_in (put_same x.calls.phase c (let_go held reply)) ∙ let_go_untold held reply))
+
+-- with the messages sent
+posted_told : (w : World) (c : ℕ) (new : Phase) (shoot : ℕ) (range : PageRange) (v : World) → Fine w → ((b : ℕ) → b ≢ c → w.calls.phase b ≡ Free)
+    → v ≡ to c new (with_hardware (after_shot w.hardware c shoot range) w) → awaits_in (w.calls.phase c) ≡ None → awaits_in new ≡ Some range
+    → ((d : ℕ) → (members shoot d ≡ true) ↔ IsUser w.slots range d) → IsTold v.slots v.hardware c (v.calls.phase c)
+posted_told w c new shoot range v f others h none asks all =
+    subst (λ (v : World). IsTold v.slots v.hardware c (v.calls.phase c)) (sym h)
+    (subst (IsTold w.slots (after_shot w.hardware c shoot range) c) (sym (put_same w.calls.phase c new))
+    (subst (IsToldOf w.slots (after_shot w.hardware c shoot range) c) (sym asks) (posts_tell w c shoot range f others none all)))
 
 pub told_on : (w : World) (c : ℕ) (v : World) → Fine w → ((b : ℕ) → b ≢ c → w.calls.phase b ≡ Free) → GoesBy w c v → IsTold v.slots v.hardware c (v.calls.phase c)
 told_on w c v f others (moves new m h) = to_untold c new w v h (moves_untold w c new m)
@@ -199,12 +252,26 @@ told_on w c v f others (owns goal cursor b t e l h) = to_untold c (locked_to goa
 told_on w c v f others (lets_go held b t new l u h) = to_untold c new (record w { slots = t }) v h (lets_go_untold (w.calls.phase c) held b new l)
 told_on w c v f others (answers held reply r h) = replied_untold c held reply w v h
 told_on w c v f others (posts change shoot e h) =
-    subst (λ (v : World). IsTold v.slots v.hardware c (v.calls.phase c)) (sym h)
-    (subst (IsTold w.slots (after_post c change shoot w).hardware c) (sym (put_same w.calls.phase c (Acks change (range_of change)))) (posts_tell w c change shoot f others e))
+    let k : IsCallOf w c (Post change shoot) = call_at w c (Post change shoot) e f.order in
+    posted_told w c (Acks change (range_of change)) shoot (range_of change) v f others h (ap awaits_in e) refl
+    (acts_users w.made.file w.slots change (range_of change) shoot k.ready)
 told_on w c v f others (commits change held total e n l h) = replied_untold c (Some held) (reply_to change) (with_counts total (record w { slots = slots_after change w.slots })) v h
-told_on w c v f others (takes touch x e l h) = to_untold c (Fill touch x) (record w { memory = (after_frame c touch x w).memory }) v h refl
-told_on w c v f others (fills touch x total e t h) =
-    to_untold c (Install touch) (record w { slots = (after_fill c touch x total w).slots; memory = (after_fill c touch x total w).memory }) v h refl
+told_on w c v f others (takes touch old x e l h) =
+    to_untold c (taken_for touch old x) (record w { memory = (after_frame c touch old x w).memory }) v h (taken_untold touch old x)
+told_on w c v f others (zeroes touch x counts e b t h) =
+    to_untold c (Install touch) (record w { slots = (after_zeros c touch x counts w).slots; memory = (after_zeros c touch x counts w).memory }) v h refl
+told_on w c v f others (first_copies touch x counts e b t h) =
+    let made : World = after_first_copy c touch x counts w in
+    to_untold c (Install touch) (with_entry (detach_entry w c touch.page) (record w { slots = made.slots; memory = made.memory })) v h refl
+told_on w c v f others (caches touch x counts e k n t h) =
+    to_untold c (Install touch) (record w { slots = (after_caching c touch x counts w).slots; memory = (after_caching c touch x counts w).memory }) v h refl
+told_on w c v f others (shares touch own x counts e k n t h) =
+    to_untold c (Install touch) (record w { slots = (after_sharing c touch own x counts w).slots; memory = (after_sharing c touch own x counts w).memory }) v h refl
+told_on w c v f others (posts_copy touch x e h) =
+    posted_told w c (CopyAcks touch x) (cores_of (w.slots.info touch.page)) (page_of_touch touch) v f others h (ap awaits_in e) refl (copy_users w.slots touch)
+told_on w c v f others (copies touch x g counts e n a t h) =
+    let made : World = after_copy c touch x g counts w in
+    to_untold c (Install touch) (with_entry (detach_entry w c touch.page) (record w { slots = made.slots; memory = made.memory })) v h refl
 told_on w c v f others (installs touch e h) =
     to_untold c (Release touch) (record w { slots = (after_install c touch w).slots; hardware = (after_install c touch w).hardware }) v h refl
 told_on w c v f others (accesses touch x e i h) =

@@ -1,169 +1,247 @@
 -- Who uses the pages after each step of a call that runs alone: as before, until the call's answer changes it
-use Rattle.std.proofs.Common.{◌≡◌, ℕ, ◌⊎◌, Bool, true, false, cond, inl, inr, refl, sym, ap, subst, Some, None, Option, ◌∙◌}
-use Rattle.std.specs.Prelude.{nat_le}
+use Rattle.std.proofs.Common.{◌≡◌, ◌≢◌, ℕ, ◌⊎◌, Bool, true, false, cond, inl, inr, refl, sym, ap, subst, Some, None, Option, ◌∙◌}
+use Rattle.std.specs.Prelude.{◌&&◌, is_some, nat_le}
 use Rattle.vm_base.specs.declared.info.PageInfo.{PageInfo}
 use Rattle.vm_base.specs.declared.page.PageRange.{PageRange}
 use Rattle.vm_base.specs.declared.replies.Reply.{Reply}
 use Rattle.vm_base.specs.declared.requests.Request.{Request}
 use Rattle.vm_base.specs.declared.rights.Access.{Access}
+use Rattle.vm_base.specs.declared.rights.Access.TheVariants.{Store}
+use Rattle.vm_base.specs.Apply.{copied, detached, detached_entry, is_uncopied}
 use Rattle.vm_base.specs.Functions.{has, put}
-use Rattle.vm_base.specs.Info.{is_recorded}
-use Rattle.vm_base.specs.Plain.{File, mode_of}
+use Rattle.vm_base.specs.Info.{frame_of, info_with_frame, is_recorded}
+use Rattle.vm_base.specs.Plain.{Entry, File, Plain, bytes_of, mode_of}
 use Rattle.vm_base.proofs.Functions.{put_all, put_both, put_same}
 use Rattle.mmu.specs.declared.entry.Translation.{Translation}
 use Rattle.mmu.specs.Tables.{translated}
 use Rattle.mmu.specs.Tlb.{tlb_at}
 use Rattle.slot_lock.specs.declared.plan.Change.{Change}
+use Rattle.slot_lock.specs.declared.plan.Plan.TheVariants as PlanOf
 use Rattle.slot_lock.specs.declared.plan.Touch.{Touch}
 use Rattle.slot_lock.specs.Plan.{range_of}
-use Rattle.slot_lock.specs.Slots.{Slots}
+use Rattle.slot_lock.specs.Slots.{Slots, with_info}
 use Rattle.vm_calls.specs.declared.fault.Settled.{Settled}
 use Rattle.vm_calls.specs.declared.fault.Settled.TheVariants.{MapErr, AccErr, Bus, Has, Copies, Cached, Wants}
 use Rattle.machine_model.specs.declared.phase.Goal.{Goal}
 use Rattle.machine_model.specs.declared.phase.Goal.TheVariants as To
 use Rattle.machine_model.specs.declared.phase.Phase.{Phase}
-use Rattle.machine_model.specs.declared.phase.Phase.TheVariants.{Check, Lock, Decide, Post, Acks, Unlock, Answer, Try, Settle, Want, Fill, Install, Release}
-use Rattle.machine_model.specs.Accesses.{found_at, after_frame, after_fill, after_install, reply_of, memory_after}
-use Rattle.machine_model.specs.Actions.{to, answer_entry, let_go, after_reply, with_entry}
+use Rattle.machine_model.specs.declared.phase.Phase.TheVariants.{Check, Lock, Decide, Post, Acks, Unlock, Answer, Try, Settle, Want, Fill, CopyPost, CopyAcks, Install, Release}
+use Rattle.machine_model.specs.Accesses.{found_at, taken_for, after_frame, after_install, reply_of, memory_after}
+use Rattle.machine_model.specs.Actions.{to, let_go, after_reply, with_entry, detach_entry}
+use Rattle.machine_model.specs.Files.{back_of, is_private, shows_file}
+use Rattle.machine_model.specs.Filling.{after_zeros, after_first_copy, after_caching, after_sharing, after_copy_post, after_copy, info_copied}
 use Rattle.machine_model.specs.Changes.{AwaitsNobody, slots_after, after_post, reply_to}
 use Rattle.machine_model.specs.Counting.{with_counts}
-use Rattle.machine_model.specs.Holding.{goal_range}
+use Rattle.machine_model.specs.Holding.{goal_range, page_of_touch}
 use Rattle.machine_model.specs.Locks.{locking, all_locked, locked_to, held_after}
 use Rattle.machine_model.specs.Translating.{frame_reached, translated_by, after_translating, with_hardware}
 use Rattle.machine_model.specs.World.{World, Hardware}
 use Rattle.machine_coherence.specs.Coherent.{IsCoherent, IsSoundEntry}
 use Rattle.machine_laws.specs.Brackets.{nth}
-use Rattle.machine_laws.specs.Orderly.{IsUsable}
+use Rattle.machine_laws.specs.Orderly.{IsUsable, Serves}
 use Rattle.machine_laws.proofs.Moves.{IsCallOf, call_at}
-use Rattle.machine_laws.proofs.Shapes.{IsFault, Moves, locks, tries, acts, finds, lacks, Replies, refuses, no_place, declines, fails, no_frame, LetsGo, unlocks, releases, GoesBy, moves, divides, owns, lets_go, answers, posts, commits, takes, fills, installs, accesses, faults}
+use Rattle.machine_laws.proofs.Shapes.{IsFault, Moves, locks, tries, acts, finds, lacks, shows, Replies, refuses, no_place, declines, fails, no_frame, LetsGo, unlocks, releases, GoesBy, moves, divides, owns, lets_go, answers, posts, commits, takes, zeroes, first_copies, caches, shares, posts_copy, copies, installs, accesses, faults}
+use Rattle.machine_laws.proofs.Effects.{Asked, status}
 use Rattle.machine_sound.specs.Invariant.{Fine}
-use Rattle.machine_sound.proofs.Reaching.{at_page}
-use Rattle.machine_alone.specs.Alone.{KeepsOthers}
-use Rattle.machine_alone.specs.Users.{Users, Same, recorded, users_after, with_user, without}
+use Rattle.machine_sound.proofs.Fills.{private_only}
+use Rattle.machine_sound.proofs.Pages.{IsFramed, framed, is_copied}
+use Rattle.machine_sound.proofs.Reaching.{ReachesFrame, at_page, reaches}
+use Rattle.machine_alone.specs.Copies.{page_copied}
+use Rattle.machine_alone.specs.Users.{Users, Same, recorded, users_after, users_left, with_user, without}
+use Rattle.machine_alone.proofs.Framed.{AreFramed}
 use Rattle.machine_alone.proofs.Rank.{reach_of, hits}
 use Rattle.machine_alone.proofs.Rows.{IsSureOf, sure_at}
-use Rattle.machine_alone.proofs.Telling.{IsTold}
-use Rattle.machine_alone.proofs.Using.{Keeps, refused_keeps, change_drops, touch_adds, filled_same, installed_adds, changed_drops, already}
+use Rattle.machine_alone.proofs.Telling.{IsTold, IsToldOf}
+use Rattle.machine_alone.proofs.Using.{Keeps, refused_keeps, change_drops, IsTouchOf, touch_asked, touch_adds, store_asked, IsCopyFor, IsStoreFor, copied_so, filled_same, installed_adds, changed_drops, copied_drops, unused_left, left_same, already}
 
--- Before the call they were first. They are as they were until its access is installed or its reply stands.
-abbrev pub Used : Users → Users → (Touch → Option ℕ) → ℕ → Request → Phase → Type 0
-Used first now reach c request (Unlock held reply) = Same now (users_after c request reply first)
-Used first now reach c request (Answer reply) = Same now (users_after c request reply first)
-Used first now reach c request (Try touch) = Same now first ⊎ (Same now (with_user touch.page c first) × (hits reach touch ≡ true))
-Used first now reach c request (Release touch) = Same now (with_user touch.page c first)
-Used first now reach c request _ = Same now first
+-- Before the call they were first. They are as they were until its page has got a copy, its access is installed or its reply stands.
+abbrev pub Used : Plain → Users → Users → (Touch → Option ℕ) → ℕ → Request → Option ℕ → Phase → Type 0
+Used t first now reach c request copy (Unlock held reply) = (page_copied t request reply ≡ copy) × Same now (users_after t c request reply first)
+Used t first now reach c request copy (Answer reply) = (page_copied t request reply ≡ copy) × Same now (users_after t c request reply first)
+Used t first now reach c request copy (Try touch) =
+    ((copy ≡ None) × Same now first) ⊎ (Same now (with_user touch.page c (users_left copy first)) × (hits reach touch ≡ true))
+Used t first now reach c request copy (Install touch) = Same now (users_left copy first)
+Used t first now reach c request copy (Release touch) = Same now (with_user touch.page c (users_left copy first))
+Used t first now reach c request copy _ = (copy ≡ None) × Same now first
 
--- of core c's call
-abbrev pub IsUsed : Users → ℕ → Request → World → Type 0
-IsUsed first c request w = Used first (recorded w.slots) (reach_of w.hardware c) c request (w.calls.phase c)
+-- of core c's call, which the map t is to answer, and for which this page has got a copy
+abbrev pub IsUsed : Plain → Users → ℕ → Request → Option ℕ → World → Type 0
+IsUsed t first c request copy w = Used t first (recorded w.slots) (reach_of w.hardware c) c request copy (w.calls.phase c)
+
+-- the page that has got a copy after the step, if it had been this one, or none, before
+abbrev pub copy_after : {w : World} {c : ℕ} {v : World} → GoesBy w c v → Option ℕ → Option ℕ
+copy_after (first_copies touch f counts e b t h) copy = Some touch.page
+copy_after (copies touch f g counts e n a t h) copy = Some touch.page
+copy_after g copy = copy
+
+-- what the map in which the call goes on is, where t was the one before
+abbrev pub IsFrom : Plain → Option ℕ → Plain → Type 0
+IsFrom t None now = now ≡ t
+IsFrom t (Some page) now = detached t page ≡ Some now
 
 -- ---- a phase
 
-used_at : (first : Users) (c : ℕ) (request : Request) (w : World) (old : Phase) → w.calls.phase c ≡ old → IsUsed first c request w
-    → Used first (recorded w.slots) (reach_of w.hardware c) c request old
-used_at first c request w old e u = subst (Used first (recorded w.slots) (reach_of w.hardware c) c request) e u
+pub used_at : (t : Plain) (first : Users) (c : ℕ) (request : Request) (copy : Option ℕ) (w : World) (old : Phase) → w.calls.phase c ≡ old
+    → IsUsed t first c request copy w → Used t first (recorded w.slots) (reach_of w.hardware c) c request copy old
+used_at t first c request copy w old e u = subst (Used t first (recorded w.slots) (reach_of w.hardware c) c request copy) e u
 
-used_to : (first : Users) (c : ℕ) (request : Request) (new : Phase) (x v : World) → v ≡ to c new x
-    → Used first (recorded x.slots) (reach_of x.hardware c) c request new → IsUsed first c request v
-used_to first c request new x v e h =
-    subst (IsUsed first c request) (sym e) (subst (Used first (recorded x.slots) (reach_of x.hardware c) c request) (sym (put_same x.calls.phase c new)) h)
+used_to : (t : Plain) (first : Users) (c : ℕ) (request : Request) (copy : Option ℕ) (new : Phase) (x v : World) → v ≡ to c new x
+    → Used t first (recorded x.slots) (reach_of x.hardware c) c request copy new → IsUsed t first c request copy v
+used_to t first c request copy new x v e h =
+    subst (IsUsed t first c request copy) (sym e)
+    (subst (Used t first (recorded x.slots) (reach_of x.hardware c) c request copy) (sym (put_same x.calls.phase c new)) h)
 
-gone : (first now : Users) (reach : Touch → Option ℕ) (c : ℕ) (request : Request) (held : Option PageRange) (reply : Reply)
-    → Same now (users_after c request reply first) → Used first now reach c request (let_go held reply)
-gone first now reach c request None reply h = h
-gone first now reach c request (Some held) reply h = h
+gone : (t : Plain) (first now : Users) (reach : Touch → Option ℕ) (c : ℕ) (request : Request) (copy : Option ℕ) (held : Option PageRange) (reply : Reply)
+    → (page_copied t request reply ≡ copy) × Same now (users_after t c request reply first) → Used t first now reach c request copy (let_go held reply)
+gone t first now reach c request copy None reply h = h
+gone t first now reach c request copy (Some held) reply h = h
 
-replied : (first : Users) (c : ℕ) (request : Request) (held : Option PageRange) (reply : Reply) (x v : World) → v ≡ after_reply c held reply x
-    → Same (recorded x.slots) (users_after c request reply first) → IsUsed first c request v
-replied first c request held reply x v e h =
-    subst (IsUsed first c request) (sym e)
-    (subst (Used first (recorded x.slots) (reach_of x.hardware c) c request) (sym (put_same x.calls.phase c (let_go held reply)))
-    (gone first (recorded x.slots) (reach_of x.hardware c) c request held reply h))
+replied : (t : Plain) (first : Users) (c : ℕ) (request : Request) (copy : Option ℕ) (held : Option PageRange) (reply : Reply) (x v : World)
+    → v ≡ after_reply c held reply x → (page_copied t request reply ≡ copy) × Same (recorded x.slots) (users_after t c request reply first)
+    → IsUsed t first c request copy v
+replied t first c request copy held reply x v e h =
+    subst (IsUsed t first c request copy) (sym e)
+    (subst (Used t first (recorded x.slots) (reach_of x.hardware c) c request copy) (sym (put_same x.calls.phase c (let_go held reply)))
+    (gone t first (recorded x.slots) (reach_of x.hardware c) c request copy held reply h))
 
 -- the reply changes no user
-kept : (first now : Users) (c : ℕ) (request : Request) (reply : Reply) → Same now first → Keeps c request reply → Same now (users_after c request reply first)
-kept first now c request reply s k p d = s p d ∙ sym (k first p d)
+kept : (t : Plain) (first now : Users) (c : ℕ) (request : Request) (copy : Option ℕ) (reply : Reply) → (copy ≡ None) × Same now first → Keeps t c request reply
+    → (page_copied t request reply ≡ copy) × Same now (users_after t c request reply first)
+kept t first now c request copy reply s k = (k.0 ∙ sym s.0, λ p d. s.1 p d ∙ sym (k.1 first p d))
+
+-- where no page has got a copy
+as_left : (copy : Option ℕ) (now first : Users) → (copy ≡ None) × Same now first → Same now (users_left copy first)
+as_left copy now first s = subst (λ o. Same now (users_left o first)) (sym s.0) s.1
 
 -- ---- moves
 
-moves_used : (first : Users) (c : ℕ) (request : Request) (w : World) (new : Phase) → IsUsed first c request w → Moves w c new
-    → Used first (recorded w.slots) (reach_of w.hardware c) c request new
-moves_used first c request w new u (locks r change e n k) =
-    subst (Used first (recorded w.slots) (reach_of w.hardware c) c request) (sym n) (used_at first c request w (Check r) e u)
-moves_used first c request w new u (tries r touch e n k) =
-    subst (Used first (recorded w.slots) (reach_of w.hardware c) c request) (sym n) (inl (used_at first c request w (Check r) e u))
-moves_used first c request w new u (acts change range shoot e n d) =
-    subst (Used first (recorded w.slots) (reach_of w.hardware c) c request) (sym n) (used_at first c request w (Decide change) e u)
-moves_used first c request w new u (finds touch f e n k) =
-    subst (Used first (recorded w.slots) (reach_of w.hardware c) c request) (sym n) (used_at first c request w (Settle touch) e u)
-moves_used first c request w new u (lacks touch e n k) =
-    subst (Used first (recorded w.slots) (reach_of w.hardware c) c request) (sym n) (used_at first c request w (Settle touch) e u)
+moves_used : (t : Plain) (first : Users) (c : ℕ) (request : Request) (copy : Option ℕ) (w : World) (new : Phase) → IsUsed t first c request copy w → Moves w c new
+    → Used t first (recorded w.slots) (reach_of w.hardware c) c request copy new
+moves_used t first c request copy w new u (locks r change e n k) =
+    subst (Used t first (recorded w.slots) (reach_of w.hardware c) c request copy) (sym n) (used_at t first c request copy w (Check r) e u)
+moves_used t first c request copy w new u (tries r touch e n k) =
+    subst (Used t first (recorded w.slots) (reach_of w.hardware c) c request copy) (sym n) (inl (used_at t first c request copy w (Check r) e u))
+moves_used t first c request copy w new u (acts change range shoot e n d) =
+    subst (Used t first (recorded w.slots) (reach_of w.hardware c) c request copy) (sym n) (used_at t first c request copy w (Decide change) e u)
+moves_used t first c request copy w new u (finds touch f e n k) =
+    subst (Used t first (recorded w.slots) (reach_of w.hardware c) c request copy) (sym n)
+    (as_left copy (recorded w.slots) first (used_at t first c request copy w (Settle touch) e u))
+moves_used t first c request copy w new u (lacks touch old e n k i) =
+    subst (Used t first (recorded w.slots) (reach_of w.hardware c) c request copy) (sym n) (used_at t first c request copy w (Settle touch) e u)
+moves_used t first c request copy w new u (shows touch e n k i) =
+    subst (Used t first (recorded w.slots) (reach_of w.hardware c) c request copy) (sym n) (used_at t first c request copy w (Settle touch) e u)
 
-locked_used : (first now : Users) (reach : Touch → Option ℕ) (c : ℕ) (request : Request) (goal : Goal) (b : ℕ) → Same now first
-    → Used first now reach c request (locked_to goal b)
-locked_used first now reach c request goal b h = go goal (nat_le (goal_range goal).end b)
+locked_used : (t : Plain) (first now : Users) (reach : Touch → Option ℕ) (c : ℕ) (request : Request) (copy : Option ℕ) (goal : Goal) (b : ℕ)
+    → (copy ≡ None) × Same now first → Used t first now reach c request copy (locked_to goal b)
+locked_used t first now reach c request copy goal b h = go goal (nat_le (goal_range goal).end b)
   where
-    go : (goal : Goal) (p : Bool) → Used first now reach c request (cond p (all_locked goal) (Lock goal b))
+    go : (goal : Goal) (p : Bool) → Used t first now reach c request copy (cond p (all_locked goal) (Lock goal b))
     go (To.Change change) true = h
     go (To.Access touch) true = h
     go goal false = h
 
-lets_go_used : (free : ℕ → Bool) (first : Users) (c : ℕ) (request : Request) (w : World) (t : Slots) (held : PageRange) (b : ℕ) (new : Phase)
-    → Same (recorded t) (recorded w.slots) → IsSureOf free c w → IsUsed first c request w → LetsGo (w.calls.phase c) held b new
-    → Used first (recorded t) (reach_of w.hardware c) c request new
-lets_go_used free first c request w t held b new same sure u (unlocks reply e n) =
-    subst (Used first (recorded t) (reach_of w.hardware c) c request) (sym n)
-    (gone first (recorded t) (reach_of w.hardware c) c request (held_after held b) reply
-    (λ p d. same p d ∙ used_at first c request w (Unlock held reply) e u p d))
-lets_go_used free first c request w t held b new same sure u (releases touch e h n) =
-    subst (Used first (recorded t) (reach_of w.hardware c) c request) (sym n)
-    (inr ((λ p d. same p d ∙ used_at first c request w (Release touch) e u p d), sure_at free w c (Release touch) e sure))
+taken_used : (t : Plain) (first now : Users) (reach : Touch → Option ℕ) (c : ℕ) (request : Request) (copy : Option ℕ) (touch : Touch) (old : Option ℕ) (f : ℕ)
+    → (copy ≡ None) × Same now first → Used t first now reach c request copy (taken_for touch old f)
+taken_used t first now reach c request copy touch None f h = h
+taken_used t first now reach c request copy touch (Some g) f h = h
+
+lets_go_used : (free : ℕ → Bool) (m : Plain) (first : Users) (c : ℕ) (request : Request) (copy : Option ℕ) (w : World) (t : Slots) (held : PageRange) (b : ℕ) (new : Phase)
+    → Same (recorded t) (recorded w.slots) → IsSureOf free c w → IsUsed m first c request copy w → LetsGo (w.calls.phase c) held b new
+    → Used m first (recorded t) (reach_of w.hardware c) c request copy new
+lets_go_used free m first c request copy w t held b new same sure u (unlocks reply e n) =
+    let z = used_at m first c request copy w (Unlock held reply) e u in
+    subst (Used m first (recorded t) (reach_of w.hardware c) c request copy) (sym n)
+    (gone m first (recorded t) (reach_of w.hardware c) c request copy (held_after held b) reply (z.0, λ p d. same p d ∙ z.1 p d))
+lets_go_used free m first c request copy w t held b new same sure u (releases touch e h n) =
+    subst (Used m first (recorded t) (reach_of w.hardware c) c request copy) (sym n)
+    (inr ((λ p d. same p d ∙ used_at m first c request copy w (Release touch) e u p d), sure_at free w c (Release touch) e sure))
 
 -- ---- replies
 
-fault_keeps : (c : ℕ) (request : Request) (s : Settled) (reply : Reply) → IsFault s reply → Keeps c request reply
-fault_keeps c request MapErr reply h = subst (Keeps c request) (sym h) (λ u p d. refl)
-fault_keeps c request AccErr reply h = subst (Keeps c request) (sym h) (λ u p d. refl)
-fault_keeps c request Bus reply h = subst (Keeps c request) (sym h) (λ u p d. refl)
-fault_keeps c request (Has f) reply h = absurd h
-fault_keeps c request (Copies f) reply h = absurd h
-fault_keeps c request (Cached f) reply h = absurd h
-fault_keeps c request Wants reply h = absurd h
+fault_keeps : (t : Plain) (c : ℕ) (request : Request) (s : Settled) (reply : Reply) → IsFault s reply → Keeps t c request reply
+fault_keeps t c request MapErr reply h = subst (Keeps t c request) (sym h) (refl, λ u p d. refl)
+fault_keeps t c request AccErr reply h = subst (Keeps t c request) (sym h) (refl, λ u p d. refl)
+fault_keeps t c request Bus reply h = subst (Keeps t c request) (sym h) (refl, λ u p d. refl)
+fault_keeps t c request (Has f) reply h = absurd h
+fault_keeps t c request (Copies f) reply h = absurd h
+fault_keeps t c request (Cached f) reply h = absurd h
+fault_keeps t c request Wants reply h = absurd h
 
-same_request : (w : World) (c : ℕ) (r request : Request) → nth w.calls.requests (w.calls.number c) ≡ Some r → nth w.calls.requests (w.calls.number c) ≡ Some request
+pub same_request : (w : World) (c : ℕ) (r request : Request) → nth w.calls.requests (w.calls.number c) ≡ Some r → nth w.calls.requests (w.calls.number c) ≡ Some request
     → r ≡ request
 same_request w c r request e k = cc
 
-replies_keep : (c : ℕ) (request : Request) (w : World) (held : Option PageRange) (reply : Reply) → Fine w
-    → nth w.calls.requests (w.calls.number c) ≡ Some request → Replies w c held reply → Keeps c request reply
-replies_keep c request w held reply f number (refuses r e h j) =
+replies_keep : (t : Plain) (c : ℕ) (request : Request) (w : World) (held : Option PageRange) (reply : Reply) → Fine w
+    → nth w.calls.requests (w.calls.number c) ≡ Some request → Replies w c held reply → Keeps t c request reply
+replies_keep t c request w held reply f number (refuses r e h j) =
     let is : r ≡ request = same_request w c r request (call_at w c (Check r) e f.order).asked number in
-    subst (λ r. Keeps c r reply) is (refused_keeps (λ k. mode_of (w.made.file k)) c r reply j)
-replies_keep c request w held reply f number (no_place r place e h i j) = subst (Keeps c request) (sym i) (λ u p d. refl)
-replies_keep c request w held reply f number (declines change errno e h i d) = subst (Keeps c request) (sym i) (λ u p d. refl)
-replies_keep c request w held reply f number (fails touch e h x) = fault_keeps c request (found_at w touch) reply x
-replies_keep c request w held reply f number (no_frame touch e h i none) = subst (Keeps c request) (sym i) (λ u p d. refl)
+    subst (λ r. Keeps t c r reply) is (refused_keeps (λ k. mode_of (w.made.file k)) t c r reply j)
+replies_keep t c request w held reply f number (no_place r place e h i j) = subst (Keeps t c request) (sym i) (refl, λ u p d. refl)
+replies_keep t c request w held reply f number (declines change errno e h i d) = subst (Keeps t c request) (sym i) (refl, λ u p d. refl)
+replies_keep t c request w held reply f number (fails touch e h x) = fault_keeps t c request (found_at w touch) reply x
+replies_keep t c request w held reply f number (no_frame touch old e h i none) = subst (Keeps t c request) (sym i) (refl, λ u p d. refl)
 
-unchanged : (first : Users) (c : ℕ) (request : Request) (w : World) (held : Option PageRange) (reply : Reply) → IsUsed first c request w → Replies w c held reply
-    → Same (recorded w.slots) first
-unchanged first c request w held reply u (refuses r e h j) = used_at first c request w (Check r) e u
-unchanged first c request w held reply u (no_place r place e h i j) = used_at first c request w (Check r) e u
-unchanged first c request w held reply u (declines change errno e h i d) = used_at first c request w (Decide change) e u
-unchanged first c request w held reply u (fails touch e h x) = used_at first c request w (Settle touch) e u
-unchanged first c request w held reply u (no_frame touch e h i none) = used_at first c request w (Want touch) e u
+unchanged : (t : Plain) (first : Users) (c : ℕ) (request : Request) (copy : Option ℕ) (w : World) (held : Option PageRange) (reply : Reply)
+    → IsUsed t first c request copy w → Replies w c held reply → (copy ≡ None) × Same (recorded w.slots) first
+unchanged t first c request copy w held reply u (refuses r e h j) = used_at t first c request copy w (Check r) e u
+unchanged t first c request copy w held reply u (no_place r place e h i j) = used_at t first c request copy w (Check r) e u
+unchanged t first c request copy w held reply u (declines change errno e h i d) = used_at t first c request copy w (Decide change) e u
+unchanged t first c request copy w held reply u (fails touch e h x) = used_at t first c request copy w (Settle touch) e u
+unchanged t first c request copy w held reply u (no_frame touch old e h i none) = used_at t first c request copy w (Want touch old) e u
 
 -- ---- a change that is made
 
-change_used : (first : Users) (c : ℕ) (request : Request) (w : World) (change : Change) (held : PageRange) → Fine w
-    → nth w.calls.requests (w.calls.number c) ≡ Some request → w.calls.phase c ≡ Acks change held → IsUsed first c request w
-    → Same (recorded (slots_after change w.slots)) (users_after c request (reply_to change) first)
-change_used first c request w change held f number e u =
+change_used : (t : Plain) (first : Users) (c : ℕ) (request : Request) (copy : Option ℕ) (w : World) (change : Change) (held : PageRange) → Fine w
+    → nth w.calls.requests (w.calls.number c) ≡ Some request → w.calls.phase c ≡ Acks change held → IsUsed t first c request copy w
+    → (page_copied t request (reply_to change) ≡ copy) × Same (recorded (slots_after change w.slots)) (users_after t c request (reply_to change) first)
+change_used t first c request copy w change held f number e u =
     let k : IsCallOf w c (Acks change held) = call_at w c (Acks change held) e f.order in
     let is : k.asked.request ≡ request = same_request w c k.asked.request request k.asked.number number in
-    let drops = change_drops (λ k. mode_of (w.made.file k)) c k.asked.request change k.asked.passed first in
-    λ p d.
-    changed_drops w.slots change p d ∙ ap (λ b. cond (has (range_of change) p) false b) (used_at first c request w (Acks change held) e u p d)
-    ∙ sym (subst (λ r. users_after c r (reply_to change) first p d ≡ without (range_of change) first p d) is (drops p d))
+    let drops = change_drops (λ k. mode_of (w.made.file k)) t c k.asked.request change k.asked.passed in
+    let z = used_at t first c request copy w (Acks change held) e u in (
+      subst (λ r. page_copied t r (reply_to change) ≡ None) is drops.0 ∙ sym z.0,
+      λ p d.
+      changed_drops w.slots change p d ∙ ap (λ b. cond (has (range_of change) p) false b) (z.1 p d)
+      ∙ sym (subst (λ r. users_after t c r (reply_to change) first p d ≡ without (range_of change) first p d) is (drops.1 first p d)),
+    )
+
+-- ---- the copy of an access
+
+copy_for : (t : Plain) (request : Request) (copy : Option ℕ) (now : Plain) → IsStoreFor request copy → IsFrom t copy now → IsCopyFor t request copy
+copy_for t request None now asks from = tt
+copy_for t request (Some page) now asks from = (asks, ap is_some from)
+
+-- a call that is at an access was asked for it
+pub its_touch : (w : World) (c : ℕ) (touch : Touch) (request : Request) → nth w.calls.requests (w.calls.number c) ≡ Some request
+    → Serves w.made w.calls.requests c (w.calls.number c) (PlanOf.Touch touch) → IsTouchOf request touch
+its_touch w c touch request number z =
+    subst (λ r. IsTouchOf r touch) (same_request w c z.request request z.number number)
+    (touch_asked (λ n. mode_of (w.made.file n)) c z.request touch z.passed)
+
+-- the page that has got a copy is that of the store
+pub asks_on : (request : Request) (copy : Option ℕ) (w : World) (c : ℕ) (v : World) → Fine w → nth w.calls.requests (w.calls.number c) ≡ Some request
+    → IsStoreFor request copy → (g : GoesBy w c v) → IsStoreFor request (copy_after g copy)
+asks_on request copy w c v f number a (moves new m h) = a
+asks_on request copy w c v f number a (divides goal cursor t e s h) = a
+asks_on request copy w c v f number a (owns goal cursor b t e l h) = a
+asks_on request copy w c v f number a (lets_go held b t new l u h) = a
+asks_on request copy w c v f number a (answers held reply r h) = a
+asks_on request copy w c v f number a (posts change shoot e h) = a
+asks_on request copy w c v f number a (commits change held counts e n l h) = a
+asks_on request copy w c v f number a (takes touch old x e l h) = a
+asks_on request copy w c v f number a (zeroes touch x counts e b t h) = a
+asks_on request copy w c v f number a (first_copies touch x counts e b t h) =
+    let k : IsCallOf w c (Fill touch (Some x)) = call_at w c (Fill touch (Some x)) e f.order in
+    store_asked request touch (its_touch w c touch request number k.asked) (private_only (back_of (w.slots.info touch.page)) touch.access b).0
+asks_on request copy w c v f number a (caches touch x counts e s n t h) = a
+asks_on request copy w c v f number a (shares touch own x counts e s n t h) = a
+asks_on request copy w c v f number a (posts_copy touch x e h) = a
+asks_on request copy w c v f number a (copies touch x g counts e n j t h) =
+    let k : IsCallOf w c (CopyAcks touch x) = call_at w c (CopyAcks touch x) e f.order in
+    store_asked request touch (its_touch w c touch request number k.asked) (private_only (back_of (w.slots.info touch.page)) touch.access k.ready.2.store).0
+asks_on request copy w c v f number a (installs touch e h) = a
+asks_on request copy w c v f number a (accesses touch x e i h) = a
+asks_on request copy w c v f number a (faults touch e i h) = a
 
 -- ---- an access
 
@@ -176,191 +254,213 @@ usable_info : (file : ℕ → Option File) (o : Option PageInfo) (access : Acces
 usable_info file None access frame u = absurd u
 usable_info file (Some info) access frame u = (info, refl)
 
-install_used : (first : Users) (c : ℕ) (request : Request) (w : World) (touch : Touch) → Fine w → w.calls.phase c ≡ Install touch → IsUsed first c request w
-    → Same (recorded (after_install c touch w).slots) (with_user touch.page c first)
-install_used first c request w touch f e u =
+install_used : (t : Plain) (first : Users) (c : ℕ) (request : Request) (copy : Option ℕ) (w : World) (touch : Touch) → Fine w → w.calls.phase c ≡ Install touch
+    → IsUsed t first c request copy w → Same (recorded (after_install c touch w).slots) (with_user touch.page c (users_left copy first))
+install_used t first c request copy w touch f e u =
     let k : IsCallOf w c (Install touch) = call_at w c (Install touch) e f.order in
     let z = usable_info w.made.file (w.slots.info touch.page) touch.access (Some k.ready.0) k.ready.1 in
     λ p d.
-    installed_adds w.slots touch.page c z.0 z.1 p d ∙ user_same (recorded w.slots) first touch.page c (used_at first c request w (Install touch) e u) p d
+    installed_adds w.slots touch.page c z.0 z.1 p d
+    ∙ user_same (recorded w.slots) (users_left copy first) touch.page c (used_at t first c request copy w (Install touch) e u) p d
 
 -- a core whose translation leads to a frame is recorded on the page
-reaches_recorded : (info : ℕ → Option PageInfo) (phase : ℕ → Phase) (h : Hardware) (c : ℕ) (touch : Touch) (f : ℕ) → IsCoherent info phase h
+reaches_recorded : (shown : ℕ → ℕ → Option ℕ) (info : ℕ → Option PageInfo) (phase : ℕ → Phase) (h : Hardware) (c : ℕ) (touch : Touch) (f : ℕ) → IsCoherent shown info phase h
     → frame_reached (translated_by h c touch) ≡ Some f → is_recorded (info touch.page) c ≡ true
-reaches_recorded info phase h c touch f k e = go (tlb_at (h.tlb c) touch.page) (h.table c touch.page) refl refl e
+reaches_recorded shown info phase h c touch f k e = go (tlb_at (h.tlb c) touch.page) (h.table c touch.page) refl refl e
   where
     go : (cached entry : Option Translation) → tlb_at (h.tlb c) touch.page ≡ cached → h.table c touch.page ≡ entry
         → frame_reached (translated cached entry touch.access) ≡ Some f → is_recorded (info touch.page) c ≡ true
-    go (Some t) entry i j r = (at_page (IsSoundEntry info c (h.table c) (h.inbox c)) (h.tlb c) touch.page t (k.tlbs c) i).0.recorded
+    go (Some t) entry i j r = (at_page (IsSoundEntry shown info c (h.table c) (h.inbox c)) (h.tlb c) touch.page t (k.tlbs c) i).0.recorded
     go None (Some t) i j r = (k.tables c touch.page t j).recorded
     go None None i j r = absurd cc
 
-access_used : (first : Users) (c : ℕ) (request : Request) (w : World) (touch : Touch) (x : ℕ) → Fine w → nth w.calls.requests (w.calls.number c) ≡ Some request
-    → w.calls.phase c ≡ Try touch → frame_reached (translated_by w.hardware c touch) ≡ Some x → IsUsed first c request w
-    → Same (recorded w.slots) (users_after c request (reply_of touch x w.memory) first)
-access_used first c request w touch x f number e i u =
+-- a store that the core's translation permits needs no copy any more
+none_due : (w : World) (c : ℕ) (touch : Touch) (x : ℕ) (f : Fine w) → frame_reached (translated_by w.hardware c touch) ≡ Some x → touch.access ≡ Store
+    → detached f.plain touch.page ≡ None
+none_due w c touch x f e s =
+    let r : ReachesFrame w.memory.cached (w.slots.info touch.page) touch.access x = reaches w.memory.cached w.slots.info w.calls.phase w.hardware c touch x f.coherent e in
+    let i : IsFramed w f.plain touch.page x = framed w f.plain touch.page x f.good (ap frame_of r.mapped ∙ r.frame) in
+    let same : r.page ≡ i.info = let a = r.mapped in let b = i.at_slot in cc in
+    let own : is_uncopied i.entry.back i.entry.own ≡ false =
+        is_copied w f.plain touch.page x i
+        (subst (λ (y : PageInfo). (is_private y.meta.back && shows_file w.memory.cached y.meta.back x) ≡ false) same (r.writes s)) in
+    ap (detached_entry f.plain touch.page) i.at_page
+    ∙ ap (λ b. copied f.plain touch.page i.entry b (bytes_of f.plain.file i.entry.back i.entry.own)) own
+
+access_used : (t : Plain) (first : Users) (c : ℕ) (request : Request) (copy : Option ℕ) (w : World) (touch : Touch) (x : ℕ) (f : Fine w)
+    → nth w.calls.requests (w.calls.number c) ≡ Some request → w.calls.phase c ≡ Try touch → frame_reached (translated_by w.hardware c touch) ≡ Some x
+    → IsFrom t copy f.plain → IsStoreFor request copy → IsUsed t first c request copy w
+    → (page_copied t request (reply_of touch x w.memory) ≡ copy) × Same (recorded w.slots) (users_after t c request (reply_of touch x w.memory) first)
+access_used t first c request copy w touch x f number e i from asks u =
     let k : IsCallOf w c (Try touch) = call_at w c (Try touch) e f.order in
-    let is : k.asked.request ≡ request = same_request w c k.asked.request request k.asked.number number in
-    let adds = touch_adds (λ k. mode_of (w.made.file k)) c k.asked.request touch k.asked.passed (w.memory.bytes x touch.offset) first in
-    λ p d. one p d ∙ sym (subst (λ r. users_after c r (reply_of touch x w.memory) first p d ≡ with_user touch.page c first p d) is (adds p d))
+    let asked : IsTouchOf request touch = its_touch w c touch request number k.asked in
+    let due : page_copied t request (reply_of touch x w.memory) ≡ copy =
+        copied_so t request touch (w.memory.bytes x touch.offset) copy asked (copy_for t request copy f.plain asks from)
+        (λ none s. subst (λ m. detached m touch.page ≡ None) (subst (λ o. IsFrom t o f.plain) none from) (none_due w c touch x f i s)) in
+    (due, λ p d. one p d ∙ sym (touch_adds t c request touch asked (w.memory.bytes x touch.offset) copy due first p d))
   where
-    one : Same (recorded w.slots) (with_user touch.page c first)
-    one = elim (used_at first c request w (Try touch) e u) [
-      | inl s ↦ λ p d. already (recorded w.slots) touch.page c (reaches_recorded w.slots.info w.calls.phase w.hardware c touch x f.coherent i) p d
-          ∙ user_same (recorded w.slots) first touch.page c s p d
+    one : Same (recorded w.slots) (with_user touch.page c (users_left copy first))
+    one = elim (used_at t first c request copy w (Try touch) e u) [
+      | inl s ↦ λ p d.
+          already (recorded w.slots) touch.page c (reaches_recorded w.memory.cached w.slots.info w.calls.phase w.hardware c touch x f.coherent i) p d
+          ∙ user_same (recorded w.slots) (users_left copy first) touch.page c (as_left copy (recorded w.slots) first s) p d
       | inr s ↦ s.0
     ]
 
-fault_used : (first : Users) (c : ℕ) (request : Request) (w : World) (touch : Touch) → w.calls.phase c ≡ Try touch
-    → frame_reached (translated_by w.hardware c touch) ≡ None → IsUsed first c request w → Same (recorded w.slots) first
-fault_used first c request w touch e i u = elim (used_at first c request w (Try touch) e u) [
+fault_used : (t : Plain) (first : Users) (c : ℕ) (request : Request) (copy : Option ℕ) (w : World) (touch : Touch) → w.calls.phase c ≡ Try touch
+    → frame_reached (translated_by w.hardware c touch) ≡ None → IsUsed t first c request copy w → (copy ≡ None) × Same (recorded w.slots) first
+fault_used t first c request copy w touch e i u = elim (used_at t first c request copy w (Try touch) e u) [
   | inl s ↦ s
   | inr s ↦ absurd (let hit = s.1 in cc (hit, i))
 ]
 
+-- ---- a page that gets a frame
+
+-- a page without frame has no user
+unused_page : (file : ℕ → Option File) (o : Option PageInfo) (access : Access) → IsUsable file o access None
+    → ((d : ℕ) → is_recorded o d ≡ true → is_some (frame_of o) ≡ true) → (d : ℕ) → is_recorded o d ≡ false
+unused_page file None access u framed d = absurd u
+unused_page file (Some info) access u framed d = go (is_recorded (Some info) d) refl
+  where
+    go : (b : Bool) → is_recorded (Some info) d ≡ b → b ≡ false
+    go false e = refl
+    go true e = absurd (let a : is_some info.frame ≡ true = framed d e in let b : is_some info.frame ≡ false = ap is_some u.2 in cc)
+
+-- its first frame is a copy
+first_used : (t : Plain) (first : Users) (c : ℕ) (request : Request) (copy : Option ℕ) (w : World) (touch : Touch) (x : ℕ) → Fine w → AreFramed w.slots.info
+    → w.calls.phase c ≡ Fill touch (Some x) → IsUsed t first c request copy w → Same (recorded w.slots) (users_left (Some touch.page) first)
+first_used t first c request copy w touch x f framed e u =
+    let k : IsCallOf w c (Fill touch (Some x)) = call_at w c (Fill touch (Some x)) e f.order in
+    let z = used_at t first c request copy w (Fill touch (Some x)) e u in
+    λ p d.
+    unused_left (recorded w.slots) touch.page (unused_page w.made.file (w.slots.info touch.page) touch.access k.ready.0 (framed touch.page)) p d
+    ∙ left_same (Some touch.page) (recorded w.slots) first z.1 p d
+
 -- ---- every plain step
 
-pub used_on : (free : ℕ → Bool) (first : Users) (c : ℕ) (request : Request) (w v : World) → Fine w → nth w.calls.requests (w.calls.number c) ≡ Some request
-    → IsSureOf free c w → IsUsed first c request w → GoesBy w c v → IsUsed first c request v
-used_on free first c request w v f number sure u (moves new m h) = used_to first c request new w v h (moves_used first c request w new u m)
-used_on free first c request w v f number sure u (divides goal cursor t e s h) =
+pub used_on : (free : ℕ → Bool) (t : Plain) (first : Users) (c : ℕ) (request : Request) (copy : Option ℕ) (w v : World) (f : Fine w) → AreFramed w.slots.info
+    → nth w.calls.requests (w.calls.number c) ≡ Some request → IsSureOf free c w → (status (w.calls.phase c) ≡ Asked → IsFrom t copy f.plain)
+    → IsStoreFor request copy → IsUsed t first c request copy w → (g : GoesBy w c v) → IsUsed t first c request (copy_after g copy) v
+used_on free m first c request copy w v f framed number sure from asks u (moves new k h) =
+    used_to m first c request copy new w v h (moves_used m first c request copy w new u k)
+used_on free m first c request copy w v f framed number sure from asks u (divides goal cursor t e s h) =
     let same : Same (recorded t) (recorded w.slots) = λ p d. ap (λ (i : ℕ → Option PageInfo). is_recorded (i p) d) s.divides.2.info in
-    subst (IsUsed first c request) (sym h)
-    (subst (Used first (recorded t) (reach_of w.hardware c) c request) (sym e) (λ p d. same p d ∙ used_at first c request w (Lock goal cursor) e u p d))
-used_on free first c request w v f number sure u (owns goal cursor b t e l h) =
+    let z = used_at m first c request copy w (Lock goal cursor) e u in
+    subst (IsUsed m first c request copy) (sym h)
+    (subst (Used m first (recorded t) (reach_of w.hardware c) c request copy) (sym e) (z.0, λ p d. same p d ∙ z.1 p d))
+used_on free m first c request copy w v f framed number sure from asks u (owns goal cursor b t e l h) =
     let same : Same (recorded t) (recorded w.slots) = λ p d. ap (λ (s : Slots). is_recorded (s.info p) d) l.now in
-    used_to first c request (locked_to goal b) (record w { slots = t }) v h
-    (locked_used first (recorded t) (reach_of w.hardware c) c request goal b (λ p d. same p d ∙ used_at first c request w (Lock goal cursor) e u p d))
-used_on free first c request w v f number sure u (lets_go held b t new l k h) =
-    used_to first c request new (record w { slots = t }) v h
-    (lets_go_used free first c request w t held b new (λ p d. ap (λ (s : Slots). is_recorded (s.info p) d) k.now) sure u l)
-used_on free first c request w v f number sure u (answers held reply r h) = replied first c request held reply w v h
-    (kept first (recorded w.slots) c request reply (unchanged first c request w held reply u r) (replies_keep c request w held reply f number r))
-used_on free first c request w v f number sure u (posts change shoot e h) =
-    used_to first c request (Acks change (range_of change)) (record w { hardware = (after_post c change shoot w).hardware }) v h
-    (used_at first c request w (Post change shoot) e u)
-used_on free first c request w v f number sure u (commits change held counts e n l h) =
-    replied first c request (Some held) (reply_to change) (with_counts counts (record w { slots = slots_after change w.slots })) v h
-    (change_used first c request w change held f number e u)
-used_on free first c request w v f number sure u (takes touch x e l h) =
-    used_to first c request (Fill touch x) (record w { memory = (after_frame c touch x w).memory }) v h (used_at first c request w (Want touch) e u)
-used_on free first c request w v f number sure u (fills touch x counts e t h) =
-    used_to first c request (Install touch) (record w { slots = (after_fill c touch x counts w).slots; memory = (after_fill c touch x counts w).memory }) v h
-    (λ p d. filled_same w.slots touch.page x p d ∙ used_at first c request w (Fill touch x) e u p d)
-used_on free first c request w v f number sure u (installs touch e h) =
-    used_to first c request (Release touch) (record w { slots = (after_install c touch w).slots; hardware = (after_install c touch w).hardware }) v h
-    (install_used first c request w touch f e u)
-used_on free first c request w v f number sure u (accesses touch x e i h) =
-    replied first c request None (reply_of touch x w.memory)
+    let z = used_at m first c request copy w (Lock goal cursor) e u in
+    used_to m first c request copy (locked_to goal b) (record w { slots = t }) v h
+    (locked_used m first (recorded t) (reach_of w.hardware c) c request copy goal b (z.0, λ p d. same p d ∙ z.1 p d))
+used_on free m first c request copy w v f framed number sure from asks u (lets_go held b t new l k h) =
+    used_to m first c request copy new (record w { slots = t }) v h
+    (lets_go_used free m first c request copy w t held b new (λ p d. ap (λ (s : Slots). is_recorded (s.info p) d) k.now) sure u l)
+used_on free m first c request copy w v f framed number sure from asks u (answers held reply r h) = replied m first c request copy held reply w v h
+    (kept m first (recorded w.slots) c request copy reply (unchanged m first c request copy w held reply u r) (replies_keep m c request w held reply f number r))
+used_on free m first c request copy w v f framed number sure from asks u (posts change shoot e h) =
+    used_to m first c request copy (Acks change (range_of change)) (record w { hardware = (after_post c change shoot w).hardware }) v h
+    (used_at m first c request copy w (Post change shoot) e u)
+used_on free m first c request copy w v f framed number sure from asks u (commits change held counts e n l h) =
+    replied m first c request copy (Some held) (reply_to change) (with_counts counts (record w { slots = slots_after change w.slots })) v h
+    (change_used m first c request copy w change held f number e u)
+used_on free m first c request copy w v f framed number sure from asks u (takes touch old x e l h) =
+    used_to m first c request copy (taken_for touch old x) (record w { memory = (after_frame c touch old x w).memory }) v h
+    (taken_used m first (recorded w.slots) (reach_of w.hardware c) c request copy touch old x (used_at m first c request copy w (Want touch old) e u))
+used_on free m first c request copy w v f framed number sure from asks u (zeroes touch x counts e b t h) =
+    used_to m first c request copy (Install touch) (record w { slots = (after_zeros c touch x counts w).slots; memory = (after_zeros c touch x counts w).memory }) v h
+    (λ p d. filled_same w.slots touch.page x p d ∙ as_left copy (recorded w.slots) first (used_at m first c request copy w (Fill touch (Some x)) e u) p d)
+used_on free m first c request copy w v f framed number sure from asks u (first_copies touch x counts e b t h) =
+    let made : World = after_first_copy c touch x counts w in
+    used_to m first c request (Some touch.page) (Install touch) (with_entry (detach_entry w c touch.page) (record w { slots = made.slots; memory = made.memory })) v h
+    (λ p d. filled_same w.slots touch.page x p d ∙ first_used m first c request copy w touch x f framed e u p d)
+used_on free m first c request copy w v f framed number sure from asks u (caches touch x counts e k n t h) =
+    used_to m first c request copy (Install touch) (record w { slots = (after_caching c touch x counts w).slots; memory = (after_caching c touch x counts w).memory }) v h
+    (λ p d. filled_same w.slots touch.page x p d ∙ as_left copy (recorded w.slots) first (used_at m first c request copy w (Fill touch (Some x)) e u) p d)
+used_on free m first c request copy w v f framed number sure from asks u (shares touch own x counts e k n t h) =
+    used_to m first c request copy (Install touch) (record w { slots = (after_sharing c touch own x counts w).slots; memory = (after_sharing c touch own x counts w).memory }) v h
+    (λ p d. filled_same w.slots touch.page x p d ∙ as_left copy (recorded w.slots) first (used_at m first c request copy w (Fill touch own) e u) p d)
+used_on free m first c request copy w v f framed number sure from asks u (posts_copy touch x e h) =
+    used_to m first c request copy (CopyAcks touch x) (record w { hardware = (after_copy_post c touch x w).hardware }) v h
+    (used_at m first c request copy w (CopyPost touch x) e u)
+used_on free m first c request copy w v f framed number sure from asks u (copies touch x y counts e n a t h) =
+    let made : World = after_copy c touch x y counts w in
+    used_to m first c request (Some touch.page) (Install touch) (with_entry (detach_entry w c touch.page) (record w { slots = made.slots; memory = made.memory })) v h
+    (λ p d. copied_drops w.slots touch.page x p d
+    ∙ left_same (Some touch.page) (recorded w.slots) first (used_at m first c request copy w (CopyAcks touch x) e u).1 p d)
+used_on free m first c request copy w v f framed number sure from asks u (installs touch e h) =
+    used_to m first c request copy (Release touch) (record w { slots = (after_install c touch w).slots; hardware = (after_install c touch w).hardware }) v h
+    (install_used m first c request copy w touch f e u)
+used_on free m first c request copy w v f framed number sure from asks u (accesses touch x e i h) =
+    replied m first c request copy None (reply_of touch x w.memory)
     (record (with_hardware (after_translating w.hardware c touch) w) { memory = memory_after touch x w.memory }) v h
-    (access_used first c request w touch x f number e i u)
-used_on free first c request w v f number sure u (faults touch e i h) =
-    used_to first c request (locking (To.Access touch)) (with_hardware (after_translating w.hardware c touch) w) v h (fault_used first c request w touch e i u)
+    (access_used m first c request copy w touch x f number e i (from (ap status e)) asks u)
+used_on free m first c request copy w v f framed number sure from asks u (faults touch e i h) =
+    used_to m first c request copy (locking (To.Access touch)) (with_hardware (after_translating w.hardware c touch) w) v h (fault_used m first c request copy w touch e i u)
 
--- ---- whom a reply drops
+-- ---- whom the call drops
 
--- a reply that stands drops no other user
-abbrev pub Unwaited : Users → ℕ → Request → Phase → Type 0
-Unwaited first c request (Unlock held reply) = KeepsOthers first c request reply
-Unwaited first c request (Answer reply) = KeepsOthers first c request reply
-Unwaited first c request _ = Unit {0}
+-- no other core has lost a page that it used
+abbrev pub KeepsUsers : Users → ℕ → Users → Type 0
+KeepsUsers first c now = (d p : ℕ) → d ≢ c → first p d ≡ true → now p d ≡ true
 
-unwaited_to : (first : Users) (c : ℕ) (request : Request) (new : Phase) (x v : World) → v ≡ to c new x → Unwaited first c request new
-    → Unwaited first c request (v.calls.phase c)
-unwaited_to first c request new x v e h =
-    subst (λ (v : World). Unwaited first c request (v.calls.phase c)) (sym e) (subst (Unwaited first c request) (sym (put_same x.calls.phase c new)) h)
+still_users : (first now next : Users) (c : ℕ) → Same next now → KeepsUsers first c now → KeepsUsers first c next
+still_users first now next c s k d p ne h = s p d ∙ k d p ne h
 
-unwaited_reply : (first : Users) (c : ℕ) (request : Request) (held : Option PageRange) (reply : Reply) → KeepsOthers first c request reply
-    → Unwaited first c request (let_go held reply)
-unwaited_reply first c request None reply h = h
-unwaited_reply first c request (Some held) reply h = h
-
-moves_unwaited : (first : Users) (c : ℕ) (request : Request) (w : World) (new : Phase) → Moves w c new → Unwaited first c request new
-moves_unwaited first c request w new (locks r change e n k) = subst (Unwaited first c request) (sym n) tt
-moves_unwaited first c request w new (tries r touch e n k) = subst (Unwaited first c request) (sym n) tt
-moves_unwaited first c request w new (acts change range shoot e n d) = subst (Unwaited first c request) (sym n) tt
-moves_unwaited first c request w new (finds touch f e n k) = subst (Unwaited first c request) (sym n) tt
-moves_unwaited first c request w new (lacks touch e n k) = subst (Unwaited first c request) (sym n) tt
-
-locked_unwaited : (first : Users) (c : ℕ) (request : Request) (goal : Goal) (b : ℕ) → Unwaited first c request (locked_to goal b)
-locked_unwaited first c request goal b = go goal (nat_le (goal_range goal).end b)
+-- where nobody is awaited, no other core uses the pages
+none_dropped : (w : World) (c : ℕ) (range : PageRange) → IsToldOf w.slots w.hardware c (Some range) → AwaitsNobody w.hardware c → (d p : ℕ) → d ≢ c
+    → recorded w.slots p d ≡ true → without range (recorded w.slots) p d ≡ true
+none_dropped w c range told nobody d p ne r = go (has range p) refl
   where
-    go : (goal : Goal) (p : Bool) → Unwaited first c request (cond p (all_locked goal) (Lock goal b))
-    go (To.Change change) true = tt
-    go (To.Access touch) true = tt
-    go goal false = tt
-
-lets_go_unwaited : (first : Users) (c : ℕ) (request : Request) (w : World) (held : PageRange) (b : ℕ) (new : Phase) → Unwaited first c request (w.calls.phase c)
-    → LetsGo (w.calls.phase c) held b new → Unwaited first c request new
-lets_go_unwaited first c request w held b new u (unlocks reply e n) =
-    subst (Unwaited first c request) (sym n) (unwaited_reply first c request (held_after held b) reply (subst (Unwaited first c request) e u))
-lets_go_unwaited first c request w held b new u (releases touch e h n) = subst (Unwaited first c request) (sym n) tt
-
--- where nobody is awaited, no other core uses the pages of the change
-change_unwaited : (first : Users) (c : ℕ) (request : Request) (w : World) (change : Change) (held : PageRange) → Fine w
-    → nth w.calls.requests (w.calls.number c) ≡ Some request → w.calls.phase c ≡ Acks change held → IsUsed first c request w
-    → IsTold w.slots w.hardware c (w.calls.phase c) → AwaitsNobody w.hardware c → KeepsOthers first c request (reply_to change)
-change_unwaited first c request w change held f number e u was nobody d p ne h = go (has (range_of change) p) refl
-  where
-    k : IsCallOf w c (Acks change held)
-    k = call_at w c (Acks change held) e f.order
-
-    told : IsTold w.slots w.hardware c (Acks change held)
-    told = subst (IsTold w.slots w.hardware c) e was
-
-    drops : users_after c request (reply_to change) first p d ≡ without (range_of change) first p d
-    drops = subst (λ r. users_after c r (reply_to change) first p d ≡ without (range_of change) first p d) (same_request w c k.asked.request request k.asked.number number)
-        (change_drops (λ k. mode_of (w.made.file k)) c k.asked.request change k.asked.passed first p d)
-
-    go : (b : Bool) → has (range_of change) p ≡ b → users_after c request (reply_to change) first p d ≡ true
-    go true i = absurd (
-        let r : recorded w.slots p d ≡ true = used_at first c request w (Acks change held) e u p d ∙ h in
-        let a = (told d).0.1 (ne, (p, i, r)) in
-        let z = nobody d in
-        cc)
-    go false i = drops ∙ ap (λ b. cond b false (first p d)) i ∙ h
+    go : (b : Bool) → has range p ≡ b → cond b false (recorded w.slots p d) ≡ true
+    go true i = absurd (let a = (told d).0.1 (ne, (p, i, r)) in let z = nobody d in cc)
+    go false i = r
 
 user_stays : (first : Users) (page c d p : ℕ) → first p d ≡ true → with_user page c first p d ≡ true
 user_stays first page c d p =
     put_all (λ p f. first p d ≡ true → f d ≡ true) first page (put (first page) c true)
     (put_all (λ d b. first page d ≡ true → b ≡ true) (first page) c true (λ h. refl) (λ j ne h. h) d) (λ j ne h. h) p
 
-access_unwaited : (first : Users) (c : ℕ) (request : Request) (w : World) (touch : Touch) (x : ℕ) → Fine w → nth w.calls.requests (w.calls.number c) ≡ Some request
-    → w.calls.phase c ≡ Try touch → KeepsOthers first c request (reply_of touch x w.memory)
-access_unwaited first c request w touch x f number e d p ne h =
-    let k : IsCallOf w c (Try touch) = call_at w c (Try touch) e f.order in
-    let is : k.asked.request ≡ request = same_request w c k.asked.request request k.asked.number number in
-    let adds = touch_adds (λ k. mode_of (w.made.file k)) c k.asked.request touch k.asked.passed (w.memory.bytes x touch.offset) first p d in
-    subst (λ r. users_after c r (reply_of touch x w.memory) first p d ≡ with_user touch.page c first p d) is adds ∙ user_stays first touch.page c d p h
+-- of the slots that the step leaves
+left_users : (first : Users) (c : ℕ) (v : World) (s : Slots) → v.slots ≡ s → KeepsUsers first c (recorded s) → KeepsUsers first c (recorded v.slots)
+left_users first c v s e k = subst (λ s. KeepsUsers first c (recorded s)) (sym e) k
 
-pub unwaited_on : (first : Users) (c : ℕ) (request : Request) (w v : World) → Fine w → nth w.calls.requests (w.calls.number c) ≡ Some request
-    → IsUsed first c request w → IsTold w.slots w.hardware c (w.calls.phase c) → Unwaited first c request (w.calls.phase c) → GoesBy w c v
-    → Unwaited first c request (v.calls.phase c)
-unwaited_on first c request w v f number u t n (moves new m h) = unwaited_to first c request new w v h (moves_unwaited first c request w new m)
-unwaited_on first c request w v f number u t n (divides goal cursor s e k h) = subst (λ (v : World). Unwaited first c request (v.calls.phase c)) (sym h) n
-unwaited_on first c request w v f number u t n (owns goal cursor b s e l h) =
-    unwaited_to first c request (locked_to goal b) (record w { slots = s }) v h (locked_unwaited first c request goal b)
-unwaited_on first c request w v f number u t n (lets_go held b s new l k h) =
-    unwaited_to first c request new (record w { slots = s }) v h (lets_go_unwaited first c request w held b new n l)
-unwaited_on first c request w v f number u t n (answers held reply r h) =
-    unwaited_to first c request (let_go held reply) (with_entry (answer_entry w c reply) w) v h
-    (unwaited_reply first c request held reply (λ d p ne i. replies_keep c request w held reply f number r first p d ∙ i))
-unwaited_on first c request w v f number u t n (posts change shoot e h) =
-    unwaited_to first c request (Acks change (range_of change)) (record w { hardware = (after_post c change shoot w).hardware }) v h tt
-unwaited_on first c request w v f number u t n (commits change held counts e nobody l h) =
-    unwaited_to first c request (let_go (Some held) (reply_to change))
-    (with_entry (answer_entry w c (reply_to change)) (with_counts counts (record w { slots = slots_after change w.slots }))) v h
-    (change_unwaited first c request w change held f number e u t nobody)
-unwaited_on first c request w v f number u t n (takes touch x e l h) =
-    unwaited_to first c request (Fill touch x) (record w { memory = (after_frame c touch x w).memory }) v h tt
-unwaited_on first c request w v f number u t n (fills touch x counts e k h) =
-    unwaited_to first c request (Install touch) (record w { slots = (after_fill c touch x counts w).slots; memory = (after_fill c touch x counts w).memory }) v h tt
-unwaited_on first c request w v f number u t n (installs touch e h) =
-    unwaited_to first c request (Release touch) (record w { slots = (after_install c touch w).slots; hardware = (after_install c touch w).hardware }) v h tt
-unwaited_on first c request w v f number u t n (accesses touch x e i h) =
-    unwaited_to first c request (let_go None (reply_of touch x w.memory))
-    (with_entry (answer_entry w c (reply_of touch x w.memory))
-    (record (with_hardware (after_translating w.hardware c touch) w) { memory = memory_after touch x w.memory })) v h
-    (access_unwaited first c request w touch x f number e)
-unwaited_on first c request w v f number u t n (faults touch e i h) =
-    unwaited_to first c request (locking (To.Access touch)) (with_hardware (after_translating w.hardware c touch) w) v h tt
+filled_users : (first : Users) (c : ℕ) (w v : World) (touch : Touch) (x : ℕ)
+    → v.slots ≡ with_info w.slots touch.page (info_with_frame x (w.slots.info touch.page)) → KeepsUsers first c (recorded w.slots)
+    → KeepsUsers first c (recorded v.slots)
+filled_users first c w v touch x e k =
+    left_users first c v _ e (still_users first (recorded w.slots) _ c (filled_same w.slots touch.page x) k)
+
+pub unwaited_on : (first : Users) (c : ℕ) (w v : World) → Fine w → IsTold w.slots w.hardware c (w.calls.phase c) → KeepsUsers first c (recorded w.slots) → GoesBy w c v
+    → KeepsUsers first c (recorded v.slots)
+unwaited_on first c w v f t k (moves new m h) = left_users first c v w.slots (ap (λ (v : World). v.slots) h) k
+unwaited_on first c w v f t k (divides goal cursor s e i h) =
+    left_users first c v s (ap (λ (v : World). v.slots) h)
+    (still_users first (recorded w.slots) (recorded s) c (λ p d. ap (λ (i : ℕ → Option PageInfo). is_recorded (i p) d) i.divides.2.info) k)
+unwaited_on first c w v f t k (owns goal cursor b s e l h) =
+    left_users first c v s (ap (λ (v : World). v.slots) h)
+    (still_users first (recorded w.slots) (recorded s) c (λ p d. ap (λ (s : Slots). is_recorded (s.info p) d) l.now) k)
+unwaited_on first c w v f t k (lets_go held b s new l u h) =
+    left_users first c v s (ap (λ (v : World). v.slots) h)
+    (still_users first (recorded w.slots) (recorded s) c (λ p d. ap (λ (s : Slots). is_recorded (s.info p) d) u.now) k)
+unwaited_on first c w v f t k (answers held reply r h) = left_users first c v w.slots (ap (λ (v : World). v.slots) h) k
+unwaited_on first c w v f t k (posts change shoot e h) = left_users first c v w.slots (ap (λ (v : World). v.slots) h) k
+unwaited_on first c w v f t k (commits change held counts e n l h) =
+    left_users first c v (slots_after change w.slots) (ap (λ (v : World). v.slots) h)
+    (λ d p ne i. changed_drops w.slots change p d ∙ none_dropped w c (range_of change) (subst (IsTold w.slots w.hardware c) e t) n d p ne (k d p ne i))
+unwaited_on first c w v f t k (takes touch old x e l h) = left_users first c v w.slots (ap (λ (v : World). v.slots) h) k
+unwaited_on first c w v f t k (zeroes touch x counts e b i h) = filled_users first c w v touch x (ap (λ (v : World). v.slots) h) k
+unwaited_on first c w v f t k (first_copies touch x counts e b i h) = filled_users first c w v touch x (ap (λ (v : World). v.slots) h) k
+unwaited_on first c w v f t k (caches touch x counts e s n i h) = filled_users first c w v touch x (ap (λ (v : World). v.slots) h) k
+unwaited_on first c w v f t k (shares touch own x counts e s n i h) = filled_users first c w v touch x (ap (λ (v : World). v.slots) h) k
+unwaited_on first c w v f t k (posts_copy touch x e h) = left_users first c v w.slots (ap (λ (v : World). v.slots) h) k
+unwaited_on first c w v f t k (copies touch x g counts e n a i h) =
+    left_users first c v (with_info w.slots touch.page (info_copied x (w.slots.info touch.page))) (ap (λ (v : World). v.slots) h)
+    (λ d p ne j. copied_drops w.slots touch.page x p d ∙ none_dropped w c (page_of_touch touch) (subst (IsTold w.slots w.hardware c) e t) n d p ne (k d p ne j))
+unwaited_on first c w v f t k (installs touch e h) =
+    let its : IsCallOf w c (Install touch) = call_at w c (Install touch) e f.order in
+    let z = usable_info w.made.file (w.slots.info touch.page) touch.access (Some its.ready.0) its.ready.1 in
+    left_users first c v (after_install c touch w).slots (ap (λ (v : World). v.slots) h)
+    (λ d p ne i. installed_adds w.slots touch.page c z.0 z.1 p d ∙ user_stays (recorded w.slots) touch.page c d p (k d p ne i))
+unwaited_on first c w v f t k (accesses touch x e i h) = left_users first c v w.slots (ap (λ (v : World). v.slots) h) k
+unwaited_on first c w v f t k (faults touch e i h) = left_users first c v w.slots (ap (λ (v : World). v.slots) h) k

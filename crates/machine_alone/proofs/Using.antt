@@ -1,6 +1,6 @@
 -- Who uses the pages while one call runs alone
 use Rattle.std.proofs.Common.{◌≡◌, ℕ, ◌/◌, ◌%◌, ◌*◌, ◌+◌, ◌-◌, ◌^◌, ◌==◌, Bool, true, false, cond, not, ◌&&◌, ◌||◌, refl, sym, ap, subst, arith, Some, None, Option, Result, Ok, Err, ◌∙◌}
-use Rattle.std.specs.Prelude.{if◌then◌else◌, nat_lt}
+use Rattle.std.specs.Prelude.{if◌then◌else◌, is_some, nat_lt, ◌≢◌}
 use Rattle.std.proofs.lemmas.Bool.Decides.{nat_tests}
 use Rattle.vm_base.specs.declared.info.PageInfo.{PageInfo}
 use Rattle.vm_base.specs.declared.replies.Errno.{Errno}
@@ -15,14 +15,15 @@ use Rattle.vm_base.specs.declared.rights.Access.{Access}
 use Rattle.vm_base.specs.declared.rights.Access.TheVariants as By
 use Rattle.vm_base.specs.declared.rights.Mode.{Mode}
 use Rattle.vm_base.specs.declared.rights.Prot.{Prot}
-use Rattle.vm_base.specs.Apply.{byte_reply, meta_of}
+use Rattle.vm_base.specs.Apply.{byte_reply, detached, meta_of}
+use Rattle.vm_base.specs.Plain.{Plain}
 use Rattle.vm_base.specs.Rights.{can_read, can_write}
 use Rattle.vm_base.specs.Functions.{has, put}
 use Rattle.vm_base.specs.Info.{advance, is_recorded, info_with_frame, info_with_prot, unused}
-use Rattle.vm_base.specs.Pages.{are_pages, is_aligned, is_page, page_of, pages_of}
+use Rattle.vm_base.specs.Pages.{are_pages, is_aligned, is_page, page_of, pages_from, pages_of}
 use Rattle.vm_base.specs.Refusals.{answer, refusal, is_one_kind, mmap_refusal, file_refusal}
 use Rattle.vm_base.proofs.CoreSets.{members-empty}
-use Rattle.vm_base.proofs.Functions.{eq_true, put_all, put_both}
+use Rattle.vm_base.proofs.Functions.{eq_true, has_in, in_has, put_all, put_both}
 use Rattle.slot_lock.specs.declared.plan.Change.{Change}
 use Rattle.slot_lock.specs.declared.plan.Change.TheVariants.{Put, Clear, Protect}
 use Rattle.slot_lock.specs.declared.plan.Plan.{Plan}
@@ -33,103 +34,110 @@ use Rattle.slot_lock.specs.Slots.{Slots, with_info}
 use Rattle.vm_calls.specs.Checks.{checked, place_of, plan_of, unless_refused, touched, touch_of}
 use Rattle.vm_calls.proofs.Passed.{passed, touch-of}
 use Rattle.machine_model.specs.Accesses.{info_with_core}
+use Rattle.machine_model.specs.Filling.{info_copied}
 use Rattle.machine_model.specs.Changes.{reply_to, slots_after}
 use Rattle.machine_laws.proofs.Owned.{members_with}
-use Rattle.machine_alone.specs.Users.{Users, Same, recorded, users_after, with_user, without}
+use Rattle.machine_laws.specs.Brackets.{IsStoreTo}
+use Rattle.machine_alone.specs.Copies.{if_copied, page_copied}
+use Rattle.machine_alone.specs.Users.{Users, Same, recorded, users_after, users_left, with_user, without}
 
 -- ---- a reply that refuses changes no user
 
-abbrev pub Keeps : ℕ → Request → Reply → Type 0
-Keeps core request reply = (u : Users) → Same (users_after core request reply u) u
+-- and no page has got a copy for it
+abbrev pub Keeps : Plain → ℕ → Request → Reply → Type 0
+Keeps t core request reply = (page_copied t request reply ≡ None) × ((u : Users) → Same (users_after t core request reply u) u)
 
 empty_range : (addr p : ℕ) → has (pages_of addr 0) p ≡ false
 empty_range addr p = grind (arith, nat_tests)
 
 -- to protect no bytes
-no_bytes : (core addr len : ℕ) (prot : Prot) → (len == 0) ≡ true → Keeps core (Mprotect addr len prot) ReplyOf.Done
-no_bytes core addr len prot e u p c =
+no_bytes : (t : Plain) (core addr len : ℕ) (prot : Prot) → (len == 0) ≡ true
+    → (u : Users) → Same (users_after t core (Mprotect addr len prot) ReplyOf.Done u) u
+no_bytes t core addr len prot e u p c =
     let none : has (pages_of addr len) p ≡ false = ap (λ n. has (pages_of addr n) p) (eq_true len 0 e) ∙ empty_range addr p in
     ap (λ b. cond b false (u p c)) none
 
 -- an answer that keeps the users, if there is one
-abbrev KeepsIf : ℕ → Request → Option Reply → Type 0
-KeepsIf core request o = (reply : Reply) → o ≡ Some reply → Keeps core request reply
+abbrev KeepsIf : Plain → ℕ → Request → Option Reply → Type 0
+KeepsIf t core request o = (reply : Reply) → o ≡ Some reply → Keeps t core request reply
 
-keeps_test : (core : ℕ) (request : Request) (b : Bool) (y z : Option Reply) → (b ≡ true → KeepsIf core request y) → KeepsIf core request z
-    → KeepsIf core request (if b then y else z)
-keeps_test core request true y z f g = f refl
-keeps_test core request false y z f g = g
+keeps_test : (t : Plain) (core : ℕ) (request : Request) (b : Bool) (y z : Option Reply) → (b ≡ true → KeepsIf t core request y) → KeepsIf t core request z
+    → KeepsIf t core request (if b then y else z)
+keeps_test t core request true y z f g = f refl
+keeps_test t core request false y z f g = g
 
-keeps_errno : (core : ℕ) (request : Request) (errno : Errno) → KeepsIf core request (Some (ReplyOf.Refused errno))
-keeps_errno core request errno reply e = let same : ReplyOf.Refused errno ≡ reply = cc in subst (Keeps core request) same (λ u p c. refl)
+keeps_errno : (t : Plain) (core : ℕ) (request : Request) (errno : Errno) → KeepsIf t core request (Some (ReplyOf.Refused errno))
+keeps_errno t core request errno reply e = let same : ReplyOf.Refused errno ≡ reply = cc in subst (Keeps t core request) same (refl, λ u p c. refl)
 
-keeps_none : (core : ℕ) (request : Request) → KeepsIf core request None
-keeps_none core request reply e = absurd cc
+keeps_none : (t : Plain) (core : ℕ) (request : Request) → KeepsIf t core request None
+keeps_none t core request reply e = absurd cc
 
-file_keeps : (core : ℕ) (request : Request) (mode : Option Mode) (len : ℕ) (prot : Prot) (flags : Flags) (off : ℕ)
-    → KeepsIf core request (file_refusal mode len prot flags off)
-file_keeps core request None len prot flags off = keeps_errno core request EBADF
-file_keeps core request (Some mode) len prot flags off =
-    keeps_test core request (nat_lt (2 ^ 47) (off + len)) _ _ (λ _. keeps_errno core request EOVERFLOW)
-    (keeps_test core request (not (can_read mode)) _ _ (λ _. keeps_errno core request EACCES)
-    (keeps_test core request (flags.shared && prot.write && not (can_write mode)) _ _ (λ _. keeps_errno core request EACCES) (keeps_none core request)))
+file_keeps : (t : Plain) (core : ℕ) (request : Request) (mode : Option Mode) (len : ℕ) (prot : Prot) (flags : Flags) (off : ℕ)
+    → KeepsIf t core request (file_refusal mode len prot flags off)
+file_keeps t core request None len prot flags off = keeps_errno t core request EBADF
+file_keeps t core request (Some mode) len prot flags off =
+    keeps_test t core request (nat_lt (2 ^ 47) (off + len)) _ _ (λ _. keeps_errno t core request EOVERFLOW)
+    (keeps_test t core request (not (can_read mode)) _ _ (λ _. keeps_errno t core request EACCES)
+    (keeps_test t core request (flags.shared && prot.write && not (can_write mode)) _ _ (λ _. keeps_errno t core request EACCES) (keeps_none t core request)))
 
-refusal_keeps : (modes : ℕ → Option Mode) (core : ℕ) (request : Request) → KeepsIf core request (refusal modes request)
-refusal_keeps modes core (Mmap addr len prot flags file off) =
+refusal_keeps : (modes : ℕ → Option Mode) (t : Plain) (core : ℕ) (request : Request) → KeepsIf t core request (refusal modes request)
+refusal_keeps modes t core (Mmap addr len prot flags file off) =
     let r : Request = Mmap addr len prot flags file off in
-    keeps_test core r (len == 0) _ _ (λ _. keeps_errno core r EINVAL)
-    (keeps_test core r (not (is_one_kind flags)) _ _ (λ _. keeps_errno core r EINVAL)
-    (keeps_test core r (not flags.anon && not (is_aligned off)) _ _ (λ _. keeps_errno core r EINVAL)
-    (keeps_test core r (flags.fixed && not (is_aligned addr)) _ _ (λ _. keeps_errno core r EINVAL)
-    (keeps_test core r (flags.fixed && not (are_pages (pages_of addr len))) _ _ (λ _. keeps_errno core r ENOMEM)
-    (keeps_test core r flags.anon _ _ (λ _. keeps_none core r) (file_keeps core r (modes file) len prot flags off))))))
-refusal_keeps modes core (Munmap addr len) =
-    keeps_test core (Munmap addr len) (len == 0 || not (is_aligned addr) || not (are_pages (pages_of addr len))) _ _ (λ _. keeps_errno core (Munmap addr len) EINVAL)
-    (keeps_none core (Munmap addr len))
-refusal_keeps modes core (Mprotect addr len prot) =
+    keeps_test t core r (len == 0) _ _ (λ _. keeps_errno t core r EINVAL)
+    (keeps_test t core r (not (is_one_kind flags)) _ _ (λ _. keeps_errno t core r EINVAL)
+    (keeps_test t core r (not flags.anon && not (is_aligned off)) _ _ (λ _. keeps_errno t core r EINVAL)
+    (keeps_test t core r (flags.fixed && not (is_aligned addr)) _ _ (λ _. keeps_errno t core r EINVAL)
+    (keeps_test t core r (flags.fixed && not (are_pages (pages_of addr len))) _ _ (λ _. keeps_errno t core r ENOMEM)
+    (keeps_test t core r flags.anon _ _ (λ _. keeps_none t core r) (file_keeps t core r (modes file) len prot flags off))))))
+refusal_keeps modes t core (Munmap addr len) =
+    keeps_test t core (Munmap addr len) (len == 0 || not (is_aligned addr) || not (are_pages (pages_of addr len))) _ _ (λ _. keeps_errno t core (Munmap addr len) EINVAL)
+    (keeps_none t core (Munmap addr len))
+refusal_keeps modes t core (Mprotect addr len prot) =
     let r : Request = Mprotect addr len prot in
-    keeps_test core r (not (is_aligned addr)) _ _ (λ _. keeps_errno core r EINVAL)
-    (keeps_test core r (len == 0) _ _ (λ e reply i. let same : ReplyOf.Done ≡ reply = cc in subst (Keeps core r) same (no_bytes core addr len prot e))
-    (keeps_test core r (not (are_pages (pages_of addr len))) _ _ (λ _. keeps_errno core r ENOMEM) (keeps_none core r)))
-refusal_keeps modes core (Load addr) = keeps_none core (Load addr)
-refusal_keeps modes core (Store addr byte) = keeps_none core (Store addr byte)
-refusal_keeps modes core (Fetch addr) = keeps_none core (Fetch addr)
+    keeps_test t core r (not (is_aligned addr)) _ _ (λ _. keeps_errno t core r EINVAL)
+    (keeps_test t core r (len == 0) _ _ (λ e reply i. let same : ReplyOf.Done ≡ reply = cc in subst (Keeps t core r) same (refl, no_bytes t core addr len prot e))
+    (keeps_test t core r (not (are_pages (pages_of addr len))) _ _ (λ _. keeps_errno t core r ENOMEM) (keeps_none t core r)))
+refusal_keeps modes t core (Load addr) = keeps_none t core (Load addr)
+refusal_keeps modes t core (Store addr byte) = keeps_none t core (Store addr byte)
+refusal_keeps modes t core (Fetch addr) = keeps_none t core (Fetch addr)
 
-segv_keeps : (core : ℕ) (request : Request) (addr byte : ℕ) (access : Access) (reply : Reply) → touched addr access byte ≡ Err reply → Keeps core request reply
-segv_keeps core request addr byte access reply = go (is_page (page_of addr))
+segv_keeps : (t : Plain) (core : ℕ) (request : Request) (addr byte : ℕ) (access : Access) (reply : Reply) → touched addr access byte ≡ Err reply → Keeps t core request reply
+segv_keeps t core request addr byte access reply = go (is_page (page_of addr))
   where
-    go : (b : Bool) → (if b then Ok (PlanOf.Touch (touch_of addr access byte)) else Err (ReplyOf.Segv SegvOf.MapErr)) ≡ Err reply → Keeps core request reply
+    go : (b : Bool) → (if b then Ok (PlanOf.Touch (touch_of addr access byte)) else Err (ReplyOf.Segv SegvOf.MapErr)) ≡ Err reply → Keeps t core request reply
     go true e = absurd cc
-    go false e = let same : ReplyOf.Segv SegvOf.MapErr ≡ reply = cc in subst (Keeps core request) same (λ u p c. refl)
+    go false e = let same : ReplyOf.Segv SegvOf.MapErr ≡ reply = cc in subst (Keeps t core request) same (refl, λ u p c. refl)
 
 -- one plan or another
 abbrev pub either_plan : Bool → Plan → Plan → Result Plan Reply
 either_plan b x y = if b then Ok x else Ok y
 
-plan_keeps : (core : ℕ) (request : Request) (reply : Reply) → plan_of core request ≡ Err reply → Keeps core request reply
-plan_keeps core (Mmap addr len prot flags file off) reply e = go flags.fixed _ _ e
+plan_keeps : (t : Plain) (core : ℕ) (request : Request) (reply : Reply) → plan_of core request ≡ Err reply → Keeps t core request reply
+plan_keeps t core (Mmap addr len prot flags file off) reply e = go flags.fixed _ _ e
   where
-    go : (b : Bool) (x y : Plan) → either_plan b x y ≡ Err reply → Keeps core (Mmap addr len prot flags file off) reply
+    go : (b : Bool) (x y : Plan) → either_plan b x y ≡ Err reply → Keeps t core (Mmap addr len prot flags file off) reply
     go true x y e = absurd cc
     go false x y e = absurd cc
-plan_keeps core (Munmap addr len) reply e = absurd cc
-plan_keeps core (Mprotect addr len prot) reply e = absurd cc
-plan_keeps core (Load addr) reply e = segv_keeps core (Load addr) addr 0 By.Load reply e
-plan_keeps core (Store addr byte) reply e = segv_keeps core (Store addr byte) addr byte By.Store reply e
-plan_keeps core (Fetch addr) reply e = segv_keeps core (Fetch addr) addr 0 By.Fetch reply e
+plan_keeps t core (Munmap addr len) reply e = absurd cc
+plan_keeps t core (Mprotect addr len prot) reply e = absurd cc
+plan_keeps t core (Load addr) reply e = segv_keeps t core (Load addr) addr 0 By.Load reply e
+plan_keeps t core (Store addr byte) reply e = segv_keeps t core (Store addr byte) addr byte By.Store reply e
+plan_keeps t core (Fetch addr) reply e = segv_keeps t core (Fetch addr) addr 0 By.Fetch reply e
 
 -- a request that its arguments refuse
-pub refused_keeps : (modes : ℕ → Option Mode) (core : ℕ) (request : Request) (reply : Reply) → checked modes core request ≡ Err reply → Keeps core request reply
-refused_keeps modes core request reply = go (refusal modes request) (refusal_keeps modes core request)
+pub refused_keeps : (modes : ℕ → Option Mode) (t : Plain) (core : ℕ) (request : Request) (reply : Reply) → checked modes core request ≡ Err reply → Keeps t core request reply
+refused_keeps modes t core request reply = go (refusal modes request) (refusal_keeps modes t core request)
   where
-    go : (o : Option Reply) → KeepsIf core request o → unless_refused o (plan_of core request) ≡ Err reply → Keeps core request reply
+    go : (o : Option Reply) → KeepsIf t core request o → unless_refused o (plan_of core request) ≡ Err reply → Keeps t core request reply
     go (Some r) k e = let same : r ≡ reply = cc in k reply (ap Some same)
-    go None k e = plan_keeps core request reply e
+    go None k e = plan_keeps t core request reply e
 
 -- ---- a change that is made leaves its pages without users
 
-abbrev DropsAll : ℕ → Request → Change → Type 0
-DropsAll core request change = (u : Users) → Same (users_after core request (reply_to change) u) (without (range_of change) u)
+-- and none of them has got a copy
+abbrev pub DropsAll : Plain → ℕ → Request → Change → Type 0
+DropsAll t core request change =
+    (page_copied t request (reply_to change) ≡ None) × ((u : Users) → Same (users_after t core request (reply_to change) u) (without (range_of change) u))
 
 start_of : (addr : ℕ) → is_aligned addr ≡ true → (addr / 4096) * 4096 ≡ addr
 start_of addr e = let z : addr % 4096 ≡ 0 = eq_true (addr % 4096) 0 e in omega (arith, z)
@@ -159,57 +167,120 @@ no_change core request addr byte access change = go (is_page (page_of addr))
     go true e = cc
     go false e = cc
 
-plan_drops : (modes : ℕ → Option Mode) (core : ℕ) (request : Request) (change : Change) → refusal modes request ≡ None → plan_of core request ≡ Ok (PlanOf.Change change)
-    → DropsAll core request change
-plan_drops modes core (Mmap addr len prot flags file off) change r e = go flags.fixed refl e
+plan_drops : (modes : ℕ → Option Mode) (t : Plain) (core : ℕ) (request : Request) (change : Change) → refusal modes request ≡ None → plan_of core request ≡ Ok (PlanOf.Change change)
+    → DropsAll t core request change
+plan_drops modes t core (Mmap addr len prot flags file off) change r e = go flags.fixed refl e
   where
     go : (b : Bool) → flags.fixed ≡ b
         → either_plan b (PlanOf.Change (Put (pages_of addr len) (meta_of prot flags file off))) (PlanOf.Place (place_of core addr len (meta_of prot flags file off)))
-        ≡ Ok (PlanOf.Change change) → DropsAll core (Mmap addr len prot flags file off) change
+        ≡ Ok (PlanOf.Change change) → DropsAll t core (Mmap addr len prot flags file off) change
     go true i k =
         let same : Put (pages_of addr len) (meta_of prot flags file off) ≡ change = cc in
         let start = start_of addr (fixed_aligned modes addr len prot flags file off i r) in
-        subst (DropsAll core (Mmap addr len prot flags file off)) same (λ u p c. ap (λ a. cond (has (pages_of a len) p) false (u p c)) start)
+        subst (DropsAll t core (Mmap addr len prot flags file off)) same (refl, λ u p c. ap (λ a. cond (has (pages_of a len) p) false (u p c)) start)
     go false i k = absurd cc
-plan_drops modes core (Munmap addr len) change r e =
-    let same : Clear (pages_of addr len) ≡ change = cc in subst (DropsAll core (Munmap addr len)) same (λ u p c. refl)
-plan_drops modes core (Mprotect addr len prot) change r e =
-    let same : Protect (pages_of addr len) prot ≡ change = cc in subst (DropsAll core (Mprotect addr len prot)) same (λ u p c. refl)
-plan_drops modes core (Load addr) change r e = absurd (no_change core (Load addr) addr 0 By.Load change e)
-plan_drops modes core (Store addr byte) change r e = absurd (no_change core (Store addr byte) addr byte By.Store change e)
-plan_drops modes core (Fetch addr) change r e = absurd (no_change core (Fetch addr) addr 0 By.Fetch change e)
+plan_drops modes t core (Munmap addr len) change r e =
+    let same : Clear (pages_of addr len) ≡ change = cc in subst (DropsAll t core (Munmap addr len)) same (refl, λ u p c. refl)
+plan_drops modes t core (Mprotect addr len prot) change r e =
+    let same : Protect (pages_of addr len) prot ≡ change = cc in subst (DropsAll t core (Mprotect addr len prot)) same (refl, λ u p c. refl)
+plan_drops modes t core (Load addr) change r e = absurd (no_change core (Load addr) addr 0 By.Load change e)
+plan_drops modes t core (Store addr byte) change r e = absurd (no_change core (Store addr byte) addr byte By.Store change e)
+plan_drops modes t core (Fetch addr) change r e = absurd (no_change core (Fetch addr) addr 0 By.Fetch change e)
 
-pub change_drops : (modes : ℕ → Option Mode) (core : ℕ) (request : Request) (change : Change) → checked modes core request ≡ Ok (PlanOf.Change change)
-    → (u : Users) → Same (users_after core request (reply_to change) u) (without (range_of change) u)
-change_drops modes core request change e =
+pub change_drops : (modes : ℕ → Option Mode) (t : Plain) (core : ℕ) (request : Request) (change : Change) → checked modes core request ≡ Ok (PlanOf.Change change)
+    → DropsAll t core request change
+change_drops modes t core request change e =
     let z = passed (refusal modes request) (plan_of core request) (PlanOf.Change change) e in
-    plan_drops modes core request change z.0 z.1
+    plan_drops modes t core request change z.0 z.1
 
 -- ---- an access that is served makes its core a user
 
-abbrev Adds : ℕ → Request → Touch → Type 0
-Adds core request touch = (byte : ℕ) (u : Users) → Same (users_after core request (byte_reply touch.access byte) u) (with_user touch.page core u)
+-- which access a request asks for
+pub data IsTouchOf (request : Request) (touch : Touch) : Type 0 where
+  loads : (addr : ℕ) → request ≡ Load addr → touch ≡ touch_of addr By.Load 0 → IsTouchOf request touch
+  stores : (addr byte : ℕ) → request ≡ Store addr byte → touch ≡ touch_of addr By.Store byte → IsTouchOf request touch
+  fetches : (addr : ℕ) → request ≡ Fetch addr → touch ≡ touch_of addr By.Fetch 0 → IsTouchOf request touch
 
-pub touch_adds : (modes : ℕ → Option Mode) (core : ℕ) (request : Request) (touch : Touch) → checked modes core request ≡ Ok (PlanOf.Touch touch) → Adds core request touch
-touch_adds modes core request touch e = go request (passed (refusal modes request) (plan_of core request) (PlanOf.Touch touch) e).1
+pub touch_asked : (modes : ℕ → Option Mode) (core : ℕ) (request : Request) (touch : Touch) → checked modes core request ≡ Ok (PlanOf.Touch touch)
+    → IsTouchOf request touch
+touch_asked modes core request touch e = go request (passed (refusal modes request) (plan_of core request) (PlanOf.Touch touch) e).1
   where
-    its : (r : Request) (addr byte : ℕ) (access : Access) → touched addr access byte ≡ Ok (PlanOf.Touch touch) → Adds core r (touch_of addr access byte) → Adds core r touch
-    its r addr byte access e h =
+    its : (addr byte : ℕ) (access : Access) → touched addr access byte ≡ Ok (PlanOf.Touch touch) → touch ≡ touch_of addr access byte
+    its addr byte access e =
         let same : PlanOf.Touch (touch_of addr access byte) ≡ PlanOf.Touch touch = (touch-of addr byte access (PlanOf.Touch touch) e).1 in
         let at : touch_of addr access byte ≡ touch = cc in
-        subst (Adds core r) at h
+        sym at
 
     no_touch : (b : Bool) (x y : Plan) → either_plan b x y ≡ Ok (PlanOf.Touch touch) → (x ≡ PlanOf.Touch touch → ⊥) → (y ≡ PlanOf.Touch touch → ⊥) → ⊥
     no_touch true x y e f g = f cc
     no_touch false x y e f g = g cc
 
-    go : (r : Request) → plan_of core r ≡ Ok (PlanOf.Touch touch) → Adds core r touch
+    go : (r : Request) → plan_of core r ≡ Ok (PlanOf.Touch touch) → IsTouchOf r touch
     go (Mmap addr len prot flags file off) e = absurd (no_touch flags.fixed _ _ e (λ i. cc) (λ i. cc))
     go (Munmap addr len) e = absurd cc
     go (Mprotect addr len prot) e = absurd cc
-    go (Load addr) e = its (Load addr) addr 0 By.Load e (λ b u p c. refl)
-    go (Store addr byte) e = its (Store addr byte) addr byte By.Store e (λ b u p c. refl)
-    go (Fetch addr) e = its (Fetch addr) addr 0 By.Fetch e (λ b u p c. refl)
+    go (Load addr) e = loads addr refl (its addr 0 By.Load e)
+    go (Store addr byte) e = stores addr byte refl (its addr byte By.Store e)
+    go (Fetch addr) e = fetches addr refl (its addr 0 By.Fetch e)
+
+pub as_asked : (P : Request → Touch → Type 0) (request r : Request) (touch x : Touch) → request ≡ r → touch ≡ x → P r x → P request touch
+as_asked P request r touch x e i h = subst (λ q. P q touch) (sym e) (subst (P r) (sym i) h)
+
+-- with the copy that its page has got, if it is the map's
+abbrev Adds : Plain → ℕ → Request → Touch → Type 0
+Adds t core request touch = (byte : ℕ) (copy : Option ℕ) → page_copied t request (byte_reply touch.access byte) ≡ copy
+    → (u : Users) → Same (users_after t core request (byte_reply touch.access byte) u) (with_user touch.page core (users_left copy u))
+
+pub added : (page core : ℕ) (first copy : Option ℕ) (u : Users) → first ≡ copy → Same (with_user page core (users_left first u)) (with_user page core (users_left copy u))
+added page core first copy u e = subst (λ o. Same (with_user page core (users_left first u)) (with_user page core (users_left o u))) e (λ p c. refl)
+
+pub touch_adds : (t : Plain) (core : ℕ) (request : Request) (touch : Touch) → IsTouchOf request touch → Adds t core request touch
+touch_adds t core request touch (loads addr r e) =
+    as_asked (Adds t core) request (Load addr) touch (touch_of addr By.Load 0) r e (λ b copy h u. added (page_of addr) core None copy u h)
+touch_adds t core request touch (stores addr byte r e) =
+    as_asked (Adds t core) request (Store addr byte) touch (touch_of addr By.Store byte) r e
+    (λ b copy h u. added (page_of addr) core (if_copied (detached t (page_of addr)) (page_of addr)) copy u h)
+touch_adds t core request touch (fetches addr r e) =
+    as_asked (Adds t core) request (Fetch addr) touch (touch_of addr By.Fetch 0) r e (λ b copy h u. added (page_of addr) core None copy u h)
+
+-- ---- the page that gets a copy for an access
+
+pub store_asked : (request : Request) (touch : Touch) → IsTouchOf request touch → touch.access ≡ By.Store → IsStoreTo request touch.page
+store_asked request touch (loads addr r e) s = absurd (let a = ap (λ (x : Touch). x.access) e in cc (a, s))
+store_asked request touch (stores addr byte r e) s =
+    as_asked (λ q x. IsStoreTo q x.page) request (Store addr byte) touch (touch_of addr By.Store byte) r e refl
+store_asked request touch (fetches addr r e) s = absurd (let a = ap (λ (x : Touch). x.access) e in cc (a, s))
+
+-- a copy that was made is of the page of a store
+abbrev pub IsStoreFor : Request → Option ℕ → Type 0
+IsStoreFor request None = Unit {0}
+IsStoreFor request (Some page) = IsStoreTo request page
+
+-- which the map before is to give one
+abbrev pub IsCopyFor : Plain → Request → Option ℕ → Type 0
+IsCopyFor t request None = Unit {0}
+IsCopyFor t request (Some page) = IsStoreTo request page × (is_some (detached t page) ≡ true)
+
+there : (o : Option Plain) (page : ℕ) → is_some o ≡ true → if_copied o page ≡ Some page
+there None page h = absurd cc
+there (Some u) page h = refl
+
+-- and where none was made none is due
+pub copied_so : (t : Plain) (request : Request) (touch : Touch) (byte : ℕ) (copy : Option ℕ) → IsTouchOf request touch → IsCopyFor t request copy
+    → (copy ≡ None → touch.access ≡ By.Store → detached t touch.page ≡ None) → page_copied t request (byte_reply touch.access byte) ≡ copy
+copied_so t request touch byte None (loads addr r e) k none =
+    as_asked (λ q x. page_copied t q (byte_reply x.access byte) ≡ None) request (Load addr) touch (touch_of addr By.Load 0) r e refl
+copied_so t request touch byte None (fetches addr r e) k none =
+    as_asked (λ q x. page_copied t q (byte_reply x.access byte) ≡ None) request (Fetch addr) touch (touch_of addr By.Fetch 0) r e refl
+copied_so t request touch byte None (stores addr b r e) k none =
+    as_asked (λ q x. page_copied t q (byte_reply x.access byte) ≡ None) request (Store addr b) touch (touch_of addr By.Store b) r e
+    (ap (λ o. if_copied o (page_of addr)) (subst (λ (x : Touch). detached t x.page ≡ None) e (none refl (ap (λ (x : Touch). x.access) e))))
+copied_so t request touch byte (Some page) (loads addr r e) k none = absurd (subst (λ q. IsStoreTo q page) r k.0)
+copied_so t request touch byte (Some page) (fetches addr r e) k none = absurd (subst (λ q. IsStoreTo q page) r k.0)
+copied_so t request touch byte (Some page) (stores addr b r e) k none =
+    let same : page_of addr ≡ page = subst (λ q. IsStoreTo q page) r k.0 in
+    as_asked (λ q x. page_copied t q (byte_reply x.access byte) ≡ Some page) request (Store addr b) touch (touch_of addr By.Store b) r e
+    (ap (λ p. if_copied (detached t p) p) same ∙ there (detached t page) page k.1)
 
 -- ---- what is recorded after a step
 
@@ -250,6 +321,41 @@ changed_drops s (Protect range prot) p c = go (has range p)
     go : (b : Bool) → is_recorded (cond b (info_with_prot prot (s.info p)) (s.info p)) c ≡ cond b false (recorded s p c)
     go true = nobody_after prot (s.info p) c
     go false = refl
+
+-- ---- a page that gets a copy
+
+other_page : (page p : ℕ) → p ≢ page → has (pages_from page 1) p ≡ false
+other_page page p ne = go (has (pages_from page 1) p) refl
+  where
+    go : (b : Bool) → has (pages_from page 1) p ≡ b → b ≡ false
+    go false e = refl
+    go true e = absurd (ne (let k = has_in (pages_from page 1) p e in let a = k.0 in let b = k.1 in omega (arith, a, b)))
+
+copied_page : (f : ℕ) (o : Option PageInfo) (c : ℕ) → is_recorded (info_copied f o) c ≡ false
+copied_page f None c = refl
+copied_page f (Some info) c = members-empty c
+
+-- no core uses the copy yet
+pub copied_drops : (s : Slots) (page f : ℕ) → Same (recorded (with_info s page (info_copied f (s.info page)))) (users_left (Some page) (recorded s))
+copied_drops s page f p c =
+    put_all (λ p o. is_recorded o c ≡ cond (has (pages_from page 1) p) false (is_recorded (s.info p) c)) s.info page (info_copied f (s.info page))
+    (copied_page f (s.info page) c ∙ sym (ap (λ b. cond b false (is_recorded (s.info page) c)) (in_has (pages_from page 1) page (omega arith) (omega arith))))
+    (λ j ne. sym (ap (λ b. cond b false (is_recorded (s.info j) c)) (other_page page j ne))) p
+
+-- where no core used the page
+pub unused_left : (u : Users) (page : ℕ) → ((c : ℕ) → u page c ≡ false) → Same u (users_left (Some page) u)
+unused_left u page none p c = go (has (pages_from page 1) p) refl
+  where
+    go : (b : Bool) → has (pages_from page 1) p ≡ b → u p c ≡ cond b false (u p c)
+    go false e = refl
+    go true e =
+        let k = has_in (pages_from page 1) p e in
+        let same : p ≡ page = let a = k.0 in let b = k.1 in omega (arith, a, b) in
+        ap (λ p. u p c) same ∙ none c
+
+pub left_same : (copy : Option ℕ) (a b : Users) → Same a b → Same (users_left copy a) (users_left copy b)
+left_same None a b s p c = s p c
+left_same (Some page) a b s p c = ap (λ x. cond (has (pages_from page 1) p) false x) (s p c)
 
 -- the core that is a user already
 pub already : (u : Users) (page core : ℕ) → u page core ≡ true → Same u (with_user page core u)

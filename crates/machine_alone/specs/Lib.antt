@@ -1,3 +1,4 @@
+pub mod Copies
 pub mod Users
 pub mod Taken
 pub mod Alone

@@ -40,11 +40,11 @@ nobodys : (w : World) (f : ℕ) → Fine w → (c : ℕ) → taken_in (w.calls.p
 nobodys w f fine c mine p = unused_no_page w fine.order fine.counted f p (fine.counted.taken c f mine)
 
 -- and caches no file page
-uncached : (w : World) (f : ℕ) → Fine w → (c : ℕ) → taken_in (w.calls.phase c) ≡ Some f → (n k : ℕ) → w.memory.cached n k ≢ Some f
+pub uncached : (w : World) (f : ℕ) → Fine w → (c : ℕ) → taken_in (w.calls.phase c) ≡ Some f → (n k : ℕ) → w.memory.cached n k ≢ Some f
 uncached w f fine c mine n k h =
     let a = cached_positive w fine.counted n k f h in let b = (fine.counted.taken c f mine).zero in omega (arith, ints, a, b)
 
-unshown : (cached : ℕ → ℕ → Option ℕ) (back : Back) (f : ℕ) → ((n k : ℕ) → cached n k ≢ Some f) → shows_file cached back f ≡ false
+pub unshown : (cached : ℕ → ℕ → Option ℕ) (back : Back) (f : ℕ) → ((n k : ℕ) → cached n k ≢ Some f) → shows_file cached back f ≡ false
 unshown cached back f none = go (shows_file cached back f) refl
   where
     no : (back : Back) → shows_file cached back f ≡ true → ⊥
@@ -154,19 +154,19 @@ page_zeroed w event c touch f counts e anon fine =
 -- ---- a copy
 
 -- a private page that shows its file's page, in the slots and in the plain page map
-record IsUncopied (w : World) (t : Plain) (page : ℕ) (x : Bytes) : Type 0 where
-  info : PageInfo
-  entry : Entry
-  at_slot : w.slots.info page ≡ Some info
-  at_page : t.entry page ≡ Some entry
-  back : info.meta.back ≡ entry.back
-  prot : info.meta.prot ≡ entry.prot
-  may_own : MayOwn info.meta.back
-  private : is_uncopied entry.back entry.own ≡ true
-  bytes : bytes_of t.file entry.back entry.own ≡ Some x
+pub record IsUncopied (w : World) (t : Plain) (page : ℕ) (x : Bytes) : Type 0 where
+  pub info : PageInfo
+  pub entry : Entry
+  pub at_slot : w.slots.info page ≡ Some info
+  pub at_page : t.entry page ≡ Some entry
+  pub back : info.meta.back ≡ entry.back
+  pub prot : info.meta.prot ≡ entry.prot
+  pub may_own : MayOwn info.meta.back
+  pub private : is_uncopied entry.back entry.own ≡ true
+  pub bytes : bytes_of t.file entry.back entry.own ≡ Some x
 
 -- the plain page map gives it a copy of what it shows
-its_copy : (w : World) (t : Plain) (page : ℕ) (x : Bytes) (k : IsUncopied w t page x) → detached t page ≡ Some (with_own t page k.entry x)
+pub its_copy : (w : World) (t : Plain) (page : ℕ) (x : Bytes) (k : IsUncopied w t page x) → detached t page ≡ Some (with_own t page k.entry x)
 its_copy w t page x k =
     ap (detached_entry t page) k.at_page
     ∙ (ap (λ b. copied t page k.entry b (bytes_of t.file k.entry.back k.entry.own)) k.private ∙ ap (copied t page k.entry true) k.bytes)
@@ -184,7 +184,7 @@ copy_shown w t page f x k new meta frame none =
           (subst (λ m. MayOwn m.back) (sym meta) k.may_own, ap Some (sym (put_same w.memory.bytes f x)))),
     )
 
-private_only : (back : Back) (access : Access) → is_private_store back access ≡ true → (access ≡ Store) × (is_uncopied back None ≡ true) × MayOwn back × (back ≢ Anon)
+pub private_only : (back : Back) (access : Access) → is_private_store back access ≡ true → (access ≡ Store) × (is_uncopied back None ≡ true) × MayOwn back × (back ≢ Anon)
     × (first_own back ≡ None)
 private_only (Private n k) Store h = (refl, refl, tt, λ e. cc, refl)
 private_only (Private n k) Load h = absurd cc
@@ -218,7 +218,7 @@ first_uncopied w t page access g u store = go (w.slots.info page) (t.entry page)
           bytes = ap (bytes_of t.file entry.back) own ∙ (ap (back_bytes t.file) (sym s.0) ∙ shown_now w t info.meta.back g.files p.3 u.1);
         }
 
-as_store : (w : World) (t : Plain) (page : ℕ) (access : Access) (frame : Option ℕ) → Good w t → IsUsable w.made.file (w.slots.info page) access frame
+pub as_store : (w : World) (t : Plain) (page : ℕ) (access : Access) (frame : Option ℕ) → Good w t → IsUsable w.made.file (w.slots.info page) access frame
     → access ≡ Store → CanAccess t.file (t.entry page) Store
 as_store w t page access frame g u e = subst (CanAccess t.file (t.entry page)) e (can_access w t page access frame g u)
 
@@ -246,7 +246,7 @@ page_first_copied w event c touch f counts e store fine =
     z = first_uncopied w fine.plain touch.page touch.access fine.good k.ready.0 store
 
 -- a page whose frame shows its file's page
-shown_uncopied : (w : World) (t : Plain) (page g : ℕ) (access : Access) (k : IsFramed w t page g) → is_private_store (back_of (w.slots.info page)) access ≡ true
+pub shown_uncopied : (w : World) (t : Plain) (page g : ℕ) (access : Access) (k : IsFramed w t page g) → is_private_store (back_of (w.slots.info page)) access ≡ true
     → shows_file w.memory.cached (back_of (w.slots.info page)) g ≡ true → IsUncopied w t page (w.memory.bytes g)
 shown_uncopied w t page g access k store shown =
     let p = private_only k.info.meta.back access (ap (λ o. is_private_store (back_of o) access) (sym k.at_slot) ∙ store) in

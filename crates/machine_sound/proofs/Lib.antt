@@ -6,8 +6,8 @@ pub mod Moves
 pub mod Reaching
 mod Freeing
 mod Commits
-mod Stores
-mod Fills
+pub mod Stores
+pub mod Fills
 mod Accesses
 pub mod Opening
 pub mod Sound

@@ -1,0 +1,166 @@
+-- The entries that a call has made in the log: that of its copy, if its page has got one, and that of its reply
+use Rattle.std.proofs.Common.{◌≡◌, ℕ, Bool, true, false, cond, refl, sym, ap, subst, Some, None, Option, ◌∙◌, List, [], ◌∷◌, ◌++◌}
+use Rattle.std.specs.Prelude.{nat_le}
+use Rattle.vm_base.specs.declared.page.PageRange.{PageRange}
+use Rattle.vm_base.specs.declared.replies.Reply.{Reply}
+use Rattle.vm_base.specs.declared.requests.Request.{Request}
+use Rattle.vm_base.specs.Apply.{detached}
+use Rattle.vm_base.specs.Plain.{Plain}
+use Rattle.vm_base.proofs.Functions.{put_same}
+use Rattle.slot_lock.specs.declared.plan.Touch.{Touch}
+use Rattle.machine_model.specs.declared.log.Entry.{Entry}
+use Rattle.machine_model.specs.declared.log.Entry.TheVariants as EntryOf
+use Rattle.machine_model.specs.declared.phase.Goal.{Goal}
+use Rattle.machine_model.specs.declared.phase.Goal.TheVariants as To
+use Rattle.machine_model.specs.declared.phase.Phase.{Phase}
+use Rattle.machine_model.specs.declared.phase.Phase.TheVariants.{Check, Lock, Decide, Post, Acks, Unlock, Try, Settle, Want, Fill, CopyPost, CopyAcks, Install, Release}
+use Rattle.machine_model.specs.Accesses.{taken_for}
+use Rattle.machine_model.specs.Actions.{to, let_go, with_entry, answer_entry, detach_entry}
+use Rattle.machine_model.specs.Holding.{goal_range}
+use Rattle.machine_model.specs.Locks.{all_locked, held_after, locked_to}
+use Rattle.machine_model.specs.World.{World}
+use Rattle.machine_laws.proofs.Effects.{Status, Closed, Asked, Told, status, told_in}
+use Rattle.machine_laws.proofs.Shapes.{Moves, locks, tries, acts, finds, lacks, shows, Replies, refuses, no_place, declines, fails, no_frame, LetsGo, unlocks, releases, GoesBy, moves, divides, owns, lets_go, answers, posts, commits, takes, zeroes, first_copies, caches, shares, posts_copy, copies, installs, accesses, faults}
+use Rattle.machine_sound.specs.Log.{GoesOn, Replays}
+use Rattle.machine_sound.proofs.OneMap.{log_leads_to_one}
+use Rattle.machine_alone.specs.Alone.{IsCopied, IsNoted}
+use Rattle.machine_alone.specs.Copies.{or_else, with_copy}
+use Rattle.machine_alone.specs.Users.{Users}
+use Rattle.machine_alone.proofs.Used.{IsFrom, IsUsed, copy_after, used_at}
+
+-- the log is that of the beginning, with the copy that the call has made, and with its reply once it has one
+abbrev pub IsLogged : List Entry → List Entry → ℕ → ℕ → Option ℕ → Status → Type 0
+IsLogged first log call c copy Closed = ⊥
+IsLogged first log call c copy Asked = IsCopied first copy call log
+IsLogged first log call c copy (Told reply) = IsNoted first copy call c reply log
+
+-- of core c's call
+abbrev pub IsLoggedOf : List Entry → ℕ → Option ℕ → ℕ → World → Type 0
+IsLoggedOf first call copy c w = IsLogged first w.calls.log call c copy (status (w.calls.phase c))
+
+-- ---- where the log leads
+
+-- what the last entry did
+pub last_entry : (rs : List Request) (es : List Entry) (t u : Plain) (e : Entry) → Replays rs t (es ++ e ∷ []) u → (m : Plain) × Replays rs t es m × GoesOn rs m e u
+last_entry rs [] t u e r = (t, refl, subst (GoesOn rs t e) (sym r.2) r.1)
+last_entry rs (x ∷ xs) t u e r = let k = last_entry rs xs r.0 u e r.2 in (k.0, (r.0, r.1, k.1), k.2)
+
+-- the map in which the call goes on
+pub from_log : (rs : List Request) (first log : List Entry) (z t now : Plain) (call : ℕ) (copy : Option ℕ) → IsCopied first copy call log → Replays rs z first t
+    → Replays rs z log now → IsFrom t copy now
+from_log rs first log z t now call None k f r = log_leads_to_one rs first z now t (subst (λ l. Replays rs z l now) k r) f
+from_log rs first log z t now call (Some page) k f r =
+    let last = last_entry rs first z now (EntryOf.Detach k.0 call page) (subst (λ l. Replays rs z l now) k.1 r) in
+    subst (λ m. detached m page ≡ Some now) (log_leads_to_one rs first z last.0 t last.1 f) last.2.1
+
+pub is_with_copy : (t : Plain) (copy : Option ℕ) (now : Plain) → IsFrom t copy now → now ≡ with_copy t copy
+is_with_copy t None now h = h
+is_with_copy t (Some page) now h = sym (ap (or_else t) h)
+
+-- ---- steps
+
+to_asked : (first : List Entry) (call : ℕ) (copy : Option ℕ) (c : ℕ) (new : Phase) (x v : World) → v ≡ to c new x → status new ≡ Asked
+    → IsCopied first copy call x.calls.log → IsLoggedOf first call copy c v
+to_asked first call copy c new x v h a k =
+    subst (IsLoggedOf first call copy c) (sym h)
+    (subst (IsLogged first x.calls.log call c copy) (sym (ap status (put_same x.calls.phase c new) ∙ a)) k)
+
+to_told : (first : List Entry) (call : ℕ) (copy : Option ℕ) (c : ℕ) (new : Phase) (reply : Reply) (x v : World) → v ≡ to c new x → status new ≡ Told reply
+    → IsNoted first copy call c reply x.calls.log → IsLoggedOf first call copy c v
+to_told first call copy c new reply x v h a k =
+    subst (IsLoggedOf first call copy c) (sym h)
+    (subst (IsLogged first x.calls.log call c copy) (sym (ap status (put_same x.calls.phase c new) ∙ a)) k)
+
+was_asked : (first : List Entry) (call : ℕ) (copy : Option ℕ) (c : ℕ) (old : Phase) (w : World) → w.calls.phase c ≡ old → status old ≡ Asked
+    → IsLoggedOf first call copy c w → IsCopied first copy call w.calls.log
+was_asked first call copy c old w e a k = subst (IsLogged first w.calls.log call c copy) (ap status e ∙ a) k
+
+moves_asked : (w : World) (c : ℕ) (new : Phase) → Moves w c new → (status new ≡ Asked) × (status (w.calls.phase c) ≡ Asked)
+moves_asked w c new (locks r change e n k) = (ap status n, ap status e)
+moves_asked w c new (tries r touch e n k) = (ap status n, ap status e)
+moves_asked w c new (acts change range shoot e n d) = (ap status n, ap status e)
+moves_asked w c new (finds touch f e n k) = (ap status n, ap status e)
+moves_asked w c new (lacks touch old e n k i) = (ap status n, ap status e)
+moves_asked w c new (shows touch e n k i) = (ap status n, ap status e)
+
+replies_asked : (w : World) (c : ℕ) (held : Option PageRange) (reply : Reply) → Replies w c held reply → status (w.calls.phase c) ≡ Asked
+replies_asked w c held reply (refuses r e h j) = ap status e
+replies_asked w c held reply (no_place r place e h i j) = ap status e
+replies_asked w c held reply (declines change errno e h i d) = ap status e
+replies_asked w c held reply (fails touch e h x) = ap status e
+replies_asked w c held reply (no_frame touch old e h i none) = ap status e
+
+locked_asked : (goal : Goal) (b : ℕ) → status (locked_to goal b) ≡ Asked
+locked_asked goal b = go goal (nat_le (goal_range goal).end b)
+  where
+    go : (goal : Goal) (p : Bool) → status (cond p (all_locked goal) (Lock goal b)) ≡ Asked
+    go (To.Change change) true = refl
+    go (To.Access touch) true = refl
+    go goal false = refl
+
+taken_asked : (touch : Touch) (old : Option ℕ) (f : ℕ) → status (taken_for touch old f) ≡ Asked
+taken_asked touch None f = refl
+taken_asked touch (Some g) f = refl
+
+lets_go_logged : (first : List Entry) (call : ℕ) (copy : Option ℕ) (c : ℕ) (w : World) (x : World) (held : PageRange) (b : ℕ) (new : Phase) (v : World)
+    → IsLoggedOf first call copy c w → LetsGo (w.calls.phase c) held b new → x.calls ≡ w.calls → v ≡ to c new x → IsLoggedOf first call copy c v
+lets_go_logged first call copy c w x held b new v k (unlocks reply e n) same h =
+    to_told first call copy c new reply x v h (ap status n ∙ told_in (held_after held b) reply)
+    (subst (λ calls. IsNoted first copy call c reply calls.log) (sym same) (subst (IsLogged first w.calls.log call c copy) (ap status e) k))
+lets_go_logged first call copy c w x held b new v k (releases touch e i n) same h =
+    to_asked first call copy c new x v h (ap status n)
+    (subst (λ calls. IsCopied first copy call calls.log) (sym same) (was_asked first call copy c (Release touch) w e refl k))
+
+-- with a copy where there was none
+copied_log : (first : List Entry) (call : ℕ) (copy : Option ℕ) (log : List Entry) (step page : ℕ) → copy ≡ None → IsCopied first copy call log
+    → IsCopied first (Some page) call (log ++ EntryOf.Detach step call page ∷ [])
+copied_log first call copy log step page none k =
+    let was : log ≡ first = subst (λ o. IsCopied first o call log) none k in
+    (step, ap (λ l. l ++ EntryOf.Detach step call page ∷ []) was)
+
+pub logged_on : (first : List Entry) (t : Plain) (users : Users) (c : ℕ) (request : Request) (copy : Option ℕ) (w v : World)
+    → IsUsed t users c request copy w → IsLoggedOf first (w.calls.number c) copy c w → (g : GoesBy w c v)
+    → IsLoggedOf first (w.calls.number c) (copy_after g copy) c v
+logged_on first t users c request copy w v u k (moves new m h) =
+    let a = moves_asked w c new m in
+    to_asked first (w.calls.number c) copy c new w v h a.0 (subst (IsLogged first w.calls.log (w.calls.number c) c copy) a.1 k)
+logged_on first t users c request copy w v u k (divides goal cursor s e i h) = subst (IsLoggedOf first (w.calls.number c) copy c) (sym h) k
+logged_on first t users c request copy w v u k (owns goal cursor b s e l h) =
+    to_asked first (w.calls.number c) copy c (locked_to goal b) (record w { slots = s }) v h (locked_asked goal b)
+    (was_asked first (w.calls.number c) copy c (Lock goal cursor) w e refl k)
+logged_on first t users c request copy w v u k (lets_go held b s new l i h) =
+    lets_go_logged first (w.calls.number c) copy c w (record w { slots = s }) held b new v k l refl h
+logged_on first t users c request copy w v u k (answers held reply r h) =
+    to_told first (w.calls.number c) copy c (let_go held reply) reply (with_entry (answer_entry w c reply) w) v h (told_in held reply)
+    (w.calls.log, subst (IsLogged first w.calls.log (w.calls.number c) c copy) (replies_asked w c held reply r) k, (w.calls.events, refl))
+logged_on first t users c request copy w v u k (posts change shoot e h) =
+    to_asked first (w.calls.number c) copy c _ _ v h refl (was_asked first (w.calls.number c) copy c (Post change shoot) w e refl k)
+logged_on first t users c request copy w v u k (commits change held counts e n l h) =
+    to_told first (w.calls.number c) copy c _ _ _ v h refl
+    (w.calls.log, was_asked first (w.calls.number c) copy c (Acks change held) w e refl k, (w.calls.events, refl))
+logged_on first t users c request copy w v u k (takes touch old x e l h) =
+    to_asked first (w.calls.number c) copy c (taken_for touch old x) _ v h (taken_asked touch old x)
+    (was_asked first (w.calls.number c) copy c (Want touch old) w e refl k)
+logged_on first t users c request copy w v u k (zeroes touch x counts e b i h) =
+    to_asked first (w.calls.number c) copy c _ _ v h refl (was_asked first (w.calls.number c) copy c (Fill touch (Some x)) w e refl k)
+logged_on first t users c request copy w v u k (first_copies touch x counts e b i h) =
+    to_asked first (w.calls.number c) (Some touch.page) c _ _ v h refl
+    (copied_log first (w.calls.number c) copy w.calls.log w.calls.events touch.page (used_at t users c request copy w (Fill touch (Some x)) e u).0
+    (was_asked first (w.calls.number c) copy c (Fill touch (Some x)) w e refl k))
+logged_on first t users c request copy w v u k (caches touch x counts e s n i h) =
+    to_asked first (w.calls.number c) copy c _ _ v h refl (was_asked first (w.calls.number c) copy c (Fill touch (Some x)) w e refl k)
+logged_on first t users c request copy w v u k (shares touch own x counts e s n i h) =
+    to_asked first (w.calls.number c) copy c _ _ v h refl (was_asked first (w.calls.number c) copy c (Fill touch own) w e refl k)
+logged_on first t users c request copy w v u k (posts_copy touch x e h) =
+    to_asked first (w.calls.number c) copy c _ _ v h refl (was_asked first (w.calls.number c) copy c (CopyPost touch x) w e refl k)
+logged_on first t users c request copy w v u k (copies touch x g counts e n a i h) =
+    to_asked first (w.calls.number c) (Some touch.page) c _ _ v h refl
+    (copied_log first (w.calls.number c) copy w.calls.log w.calls.events touch.page (used_at t users c request copy w (CopyAcks touch x) e u).0
+    (was_asked first (w.calls.number c) copy c (CopyAcks touch x) w e refl k))
+logged_on first t users c request copy w v u k (installs touch e h) =
+    to_asked first (w.calls.number c) copy c _ _ v h refl (was_asked first (w.calls.number c) copy c (Install touch) w e refl k)
+logged_on first t users c request copy w v u k (accesses touch x e i h) =
+    to_told first (w.calls.number c) copy c _ _ _ v h refl
+    (w.calls.log, was_asked first (w.calls.number c) copy c (Try touch) w e refl k, (w.calls.events, refl))
+logged_on first t users c request copy w v u k (faults touch e i h) =
+    to_asked first (w.calls.number c) copy c _ _ v h refl (was_asked first (w.calls.number c) copy c (Try touch) w e refl k)
