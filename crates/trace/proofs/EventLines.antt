@@ -6,8 +6,7 @@ use Rattle.machine_model.specs.declared.event.Outcome.{Outcome}
 use Rattle.machine_model.specs.declared.event.Outcome.TheVariants.{Stepped, Wait, Idle, Answered, Full}
 use Rattle.machine_model.specs.World.{World, new_world}
 use Rattle.slot_lock.specs.Slots.{Slots, IsNew}
-use Rattle.core_steps.specs.declared.setup.Setup.{Setup}
-use Rattle.core_steps.specs.Setups.{fault_of, made_of}
+use Rattle.trace.specs.Declarations.{Asked, asked_fault, made_by}
 use Rattle.trace.specs.declared.fault.TraceFault.{TraceFault}
 use Rattle.trace.specs.declared.fault.TraceFault.TheVariants as By
 use Rattle.trace.specs.Stage.{Stage, Start, Declared, Running, CanOpen, EventActs, EventFails, EventWants, Opens, stage_of}
@@ -42,10 +41,10 @@ pub line_gives : {U : Type 0} (line : Option Line) (l : Line) (r : Result U NoMe
     → IsSomeAnd line P
 line_gives line l r u P e k h = subst (λ o. IsSomeAnd o P) (sym e) (subst (λ r. OnOk r (P l)) k h)
 
--- a machine is made of the setup
-pub opened : (setup : Option Setup) (s : Setup) (slots : Slots) (w : World) → setup ≡ Some s → fault_of s ≡ None → IsNew slots → w ≡ new_world (made_of s) slots
-    → Opens (stage_of setup None) w
-opened setup s slots w e none new is = subst (λ o. Opens (stage_of o None) w) (sym e) (none, (slots, new, is))
+-- a machine is made of what is asked for
+pub opened : (asked : Option Asked) (a : Asked) (slots : Slots) (w : World) → asked ≡ Some a → asked_fault a ≡ None → IsNew slots → w ≡ new_world (made_by a) slots
+    → Opens (stage_of asked None) w
+opened asked a slots w e none new is = subst (λ o. Opens (stage_of o None) w) (sym e) (none, (slots, new, is))
 
 pub can_open : (s : Stage) (w : World) → Opens s w → CanOpen s
 can_open Start w h = h

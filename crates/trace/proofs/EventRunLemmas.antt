@@ -13,12 +13,11 @@ use Rattle.machine_laws.proofs.Bracketed.{bracketed}
 use Rattle.machine_sound.proofs.Kept.{runs_sound}
 use Rattle.core_steps.specs.declared.machine.Finished.{Finished}
 use Rattle.core_steps.specs.declared.machine.Finished.TheVariants.{Last, Stuck}
-use Rattle.core_steps.specs.declared.setup.Setup.{Setup}
 use Rattle.core_steps.specs.Finishing.{EndsIn}
-use Rattle.core_steps.specs.Setups.{made_of}
+use Rattle.trace.specs.Declarations.{Asked, made_by}
 use Rattle.trace_text.specs.Line.{line_of}
 use Rattle.trace_text.specs.declared.line.Line.{Line}
-use Rattle.trace_text.specs.declared.line.Line.TheVariants.{Blank, Space, Act, Fold, Finish, Now}
+use Rattle.trace_text.specs.declared.line.Line.TheVariants.{Blank, Space, File, Act, Fold, Finish, Now}
 use Rattle.trace.specs.Events.{event_of}
 use Rattle.trace.specs.OutcomeText.{finished_text}
 use Rattle.trace.specs.Gives.{Gives, GoesOn, TellsFinish}
@@ -94,6 +93,7 @@ called core request Full w m v text s h = record { events = Ev.Call core request
 moved : (line : Line) (w v : World) (text : List ℕ) → Gives w line v text → IsMoved line w v text
 moved Blank w v text h = absurd h
 moved (Space cores frames calls) w v text h = absurd h
+moved (File n mode len seed) w v text h = absurd h
 moved (Act core action) w v text h = record { events = event_of core action ∷ []; outcomes = h.0 ∷ []; asks = (h.0, refl, refl, h.2); run = (v, h.1, refl) }
 moved (Fold page) w v text h = record { events = Ev.Fold page ∷ []; outcomes = h.0 ∷ []; asks = (h.0, refl, refl, h.2); run = (v, h.1, refl) }
 moved (Finish core) w v text h =
@@ -103,10 +103,10 @@ moved (Now core request) w v text h = called core request h.0 w h.1 v text h.2 h
 -- ---- stages
 
 pub record HasRun (w : World) (es : List Event) (os : List Outcome) : Type 0 where
-  pub setup : Setup
+  pub asked : Asked
   pub slots : Slots
   pub new : IsNew slots
-  pub run : Run (new_world (made_of setup) slots) es os w
+  pub run : Run (new_world (made_by asked) slots) es os w
 
 -- so many events came before the stage
 abbrev pub IsReached : Stage → List Event → List Outcome → Type 0
@@ -117,10 +117,10 @@ IsReached (Running w) es os = HasRun w es os
 opened : (s : Stage) (w : World) (es : List Event) (os : List Outcome) → IsReached s es os → Opens s w → HasRun w es os
 opened Start w es os r o = absurd o
 opened (Declared s) w es os r o = record {
-  setup = s;
+  asked = s;
   slots = o.1.0;
   new = o.1.1;
-  run = subst (λ es. Run (new_world (made_of s) o.1.0) es os w) (sym r.0) (subst (λ os. Run (new_world (made_of s) o.1.0) [] os w) (sym r.1) o.1.2);
+  run = subst (λ es. Run (new_world (made_by s) o.1.0) es os w) (sym r.0) (subst (λ os. Run (new_world (made_by s) o.1.0) [] os w) (sym r.1) o.1.2);
 }
 opened (Running m) w es os r o = subst (λ x. HasRun x es os) (sym o) r
 
@@ -148,15 +148,19 @@ event_next line old new es os text r (w, v, opens, gives, is) =
       outcomes = m.outcomes;
       asks = m.asks;
       reached = subst (λ s. IsReached s (es ++ m.events) (os ++ m.outcomes)) (sym is)
-          (record { setup = h.setup; slots = h.slots; new = h.new; run = run_then es m.events os m.outcomes (new_world (made_of h.setup) h.slots) w v h.run m.run });
+          (record { asked = h.asked; slots = h.slots; new = h.new; run = run_then es m.events os m.outcomes (new_world (made_by h.asked) h.slots) w v h.run m.run });
     }
 
-space_next : (s : Setup) (old new : Stage) (es : List Event) (os : List Outcome) → IsReached old es os → old ≡ Start → new ≡ Declared s → IsReached new es os
-space_next s old new es os r e n = subst (λ x. IsReached x es os) (sym n) (subst (λ x. IsReached x es os) e r)
+space_next : (a : Asked) (old new : Stage) (es : List Event) (os : List Outcome) → IsReached old es os → old ≡ Start → new ≡ Declared a → IsReached new es os
+space_next a old new es os r e n = subst (λ x. IsReached x es os) (sym n) (subst (λ x. IsReached x es os) e r)
+
+file_next : (a b : Asked) (old new : Stage) (es : List Event) (os : List Outcome) → IsReached old es os → old ≡ Declared a → new ≡ Declared b → IsReached new es os
+file_next a b old new es os r e n = subst (λ x. IsReached x es os) (sym n) (subst (λ x. IsReached x es os) e r)
 
 line_next : (line : Line) (old new : Stage) (es : List Event) (os : List Outcome) (text : List ℕ) → IsReached old es os → LineActs old line new text → IsNext line new es os text
 line_next Blank old new es os text r a = nothing_asked Blank new es os text (refl, refl, a.1) (subst (λ s. IsReached s es os) (sym a.0) r)
 line_next (Space cores frames calls) old new es os text r a = nothing_asked (Space cores frames calls) new es os text (refl, refl, a.2) (space_next _ old new es os r a.0 a.1)
+line_next (File n mode len seed) old new es os text r a = nothing_asked (File n mode len seed) new es os text (refl, refl, a.2.2.2) (file_next a.0 _ old new es os r a.1 a.2.2.1)
 line_next (Act core action) old new es os text r a = event_next (Act core action) old new es os text r a
 line_next (Fold page) old new es os text r a = event_next (Fold page) old new es os text r a
 line_next (Finish core) old new es os text r a = event_next (Finish core) old new es os text r a
@@ -217,13 +221,13 @@ traces_are_runs lines text w r =
     let a : AreTaken lines (Running w) [] [] text = all_taken lines Start (Running w) [] [] text (refl, refl) r in
     let h : HasRun w a.events a.outcomes = a.reached in
     record {
-      setup = h.setup;
+      asked = h.asked;
       slots = h.slots;
       new = h.new;
       events = a.events;
       outcomes = a.outcomes;
       asks = a.asks;
       run = h.run;
-      sound = runs_sound (made_of h.setup) h.slots a.events a.outcomes w (λ n. refl) h.new h.run;
-      brackets = bracketed (made_of h.setup) h.slots a.events a.outcomes w h.run;
+      sound = runs_sound (made_by h.asked) h.slots a.events a.outcomes w h.new h.run;
+      brackets = bracketed (made_by h.asked) h.slots a.events a.outcomes w h.run;
     }

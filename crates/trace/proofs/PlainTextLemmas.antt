@@ -28,7 +28,7 @@ use Rattle.trace_text.specs.Line.{line_of}
 use Rattle.trace_text.specs.declared.action.Action.{Action}
 use Rattle.trace_text.specs.declared.action.Action.TheVariants as By
 use Rattle.trace_text.specs.declared.line.Line.{Line}
-use Rattle.trace_text.specs.declared.line.Line.TheVariants.{Blank, Space, Act, Fold, Finish, Now}
+use Rattle.trace_text.specs.declared.line.Line.TheVariants.{Blank, Space, File, Act, Fold, Finish, Now}
 use Rattle.trace.specs.Events.{event_of}
 use Rattle.trace.specs.OutcomeText.{outcome_text, finished_text}
 use Rattle.trace.specs.Gives.{Gives, GoesOn, TellsFinish}

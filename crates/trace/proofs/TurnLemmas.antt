@@ -4,14 +4,14 @@ use Rattle.std.specs.Io.KnownBytes.{Keeps, Appends}
 use Rattle.trace_io.specs.Sink.{AppendsFront}
 use Rattle.trace_io.specs.Lines.{IsUnbroken, TakesLine}
 use Rattle.trace_text.specs.Words.{words_of}
-use Rattle.trace_text.specs.Line.{are_printable, begins_with_vm, line_of}
+use Rattle.trace_text.specs.Line.{are_printable, line_of}
 use Rattle.trace_text.specs.declared.line.Line.{Line}
-use Rattle.trace_text.specs.declared.line.Line.TheVariants.{Blank, Space, Act, Fold, Finish, Now}
+use Rattle.trace_text.specs.declared.line.Line.TheVariants.{Blank, Space, File, Act, Fold, Finish, Now}
 use Rattle.core_steps.specs.declared.setup.SetupFault.{SetupFault}
-use Rattle.core_steps.specs.Setups.{fault_of}
 use Rattle.trace.specs.declared.fault.TraceFault.{TraceFault}
 use Rattle.trace.specs.declared.fault.TraceFault.TheVariants.{BadLine, TooLong, ReadFailed, NoVmLine, NoMemory, Setup, WriteFailed}
-use Rattle.trace.specs.Stage.{Stage, Start, Declared, Running, SetupFails, OpenFails, LineWants, BadFails, SpaceFails, SaidFails, BytesFail, LineFails, Acts}
+use Rattle.trace.specs.Stage.{Stage, Start, Declared, Running, SetupFails, OpenFails, LineWants, Kind, OfSpace, OfFile, OfEvents, kind_of, LateFails, BadFails, SpaceFails, FileFails, SaidFails, BytesFail, LineFails, Acts}
+use Rattle.trace.specs.Declarations.{Asked, asked_fault}
 use Rattle.trace.specs.Turns.{Scene, IsHeld, Fails, no_memory, refused, unwritten}
 
 -- neither the reader's fault nor the writer's
@@ -24,47 +24,59 @@ is_own NoMemory = true
 is_own (Setup s) = true
 is_own WriteFailed = false
 
-own_setup : (o : Option SetupFault) (f : TraceFault) → SetupFails o f → is_own f ≡ true
+own_setup : (a : Asked) (o : Option SetupFault) (f : TraceFault) → SetupFails a o f → is_own f ≡ true
 unfolding is_own
-own_setup None f e = ap is_own e
-own_setup (Some s) f e = ap is_own e
+own_setup a None f (inl e) = ap is_own e.1
+own_setup a None f (inr e) = ap is_own e
+own_setup a (Some s) f e = ap is_own e
 
 pub own_open : (s : Stage) (f : TraceFault) → OpenFails s f → is_own f ≡ true
 unfolding is_own
 own_open Start f e = ap is_own e
-own_open (Declared s) f e = own_setup (fault_of s) f e
+own_open (Declared a) f e = own_setup a (asked_fault a) f e
 own_open (Running w) f e = absurd e
 
-own_start : (b : Bool) (n : ℕ) (f : TraceFault) → f ≡ cond b (BadLine n) NoVmLine → is_own f ≡ true
+own_late : (a : Asked) (n : ℕ) (f : TraceFault) → LateFails a n f → is_own f ≡ true
 unfolding is_own
-own_start true n f e = ap is_own e
-own_start false n f e = ap is_own e
+own_late a n f (inl e) = own_setup a (asked_fault a) f e
+own_late a n f (inr e) = ap is_own e.1
 
-own_bad : (s : Stage) (n : ℕ) (b : Bool) (f : TraceFault) → BadFails s n b f → is_own f ≡ true
+own_bad : (s : Stage) (n : ℕ) (k : Kind) (f : TraceFault) → BadFails s n k f → is_own f ≡ true
 unfolding is_own
-own_bad Start n b f e = own_start b n f e
-own_bad (Declared s) n b f (inl e) = own_setup (fault_of s) f e
-own_bad (Declared s) n b f (inr e) = ap is_own e.1
-own_bad (Running w) n b f e = ap is_own e
+own_bad Start n OfSpace f e = ap is_own e
+own_bad Start n OfFile f e = ap is_own e
+own_bad Start n OfEvents f e = ap is_own e
+own_bad (Declared a) n OfSpace f e = own_late a n f e
+own_bad (Declared a) n OfFile f e = ap is_own e
+own_bad (Declared a) n OfEvents f e = own_late a n f e
+own_bad (Running w) n k f e = ap is_own e
 
 own_space : (s : Stage) (n : ℕ) (f : TraceFault) → SpaceFails s n f → is_own f ≡ true
+unfolding is_own
 own_space Start n f e = absurd e
-own_space (Declared s) n f e = own_bad (Declared s) n true f e
-own_space (Running w) n f e = own_bad (Running w) n true f e
+own_space (Declared a) n f e = own_late a n f e
+own_space (Running w) n f e = ap is_own e
 
-own_said : (s : Stage) (n : ℕ) (b : Bool) (l : Option Line) (f : TraceFault) → SaidFails s n b l f → is_own f ≡ true
-own_said s n b None f e = own_bad s n b f e
-own_said s n b (Some Blank) f e = absurd e
-own_said s n b (Some (Space x y z)) f e = own_space s n f e
-own_said s n b (Some (Act x y)) f e = own_open s f e
-own_said s n b (Some (Fold x)) f e = own_open s f e
-own_said s n b (Some (Finish x)) f e = own_open s f e
-own_said s n b (Some (Now x y)) f e = own_open s f e
+own_file : (s : Stage) (n next : ℕ) (f : TraceFault) → FileFails s n next f → is_own f ≡ true
+unfolding is_own
+own_file Start n next f e = ap is_own e
+own_file (Declared a) n next f e = ap is_own e.1
+own_file (Running w) n next f e = ap is_own e
+
+own_said : (s : Stage) (n : ℕ) (k : Kind) (l : Option Line) (f : TraceFault) → SaidFails s n k l f → is_own f ≡ true
+own_said s n k None f e = own_bad s n k f e
+own_said s n k (Some Blank) f e = absurd e
+own_said s n k (Some (Space x y z)) f e = own_space s n f e
+own_said s n k (Some (File next mode len seed)) f e = own_file s n next f e
+own_said s n k (Some (Act x y)) f e = own_open s f e
+own_said s n k (Some (Fold x)) f e = own_open s f e
+own_said s n k (Some (Finish x)) f e = own_open s f e
+own_said s n k (Some (Now x y)) f e = own_open s f e
 
 own_bytes : (p : Bool) (s : Stage) (n : ℕ) (line : List ℕ) (f : TraceFault) → BytesFail p s n line f → is_own f ≡ true
 unfolding is_own
 own_bytes false s n line f e = ap is_own e
-own_bytes true s n line f e = own_said s n (begins_with_vm (words_of line)) (line_of line) f e
+own_bytes true s n line f e = own_said s n (kind_of (words_of line)) (line_of line) f e
 
 own_act : (s : Stage) (n : ℕ) (line : List ℕ) (f : TraceFault) → ((f ≡ NoMemory) × LineWants s line) ⊎ LineFails s n line f → is_own f ≡ true
 unfolding is_own

@@ -12,12 +12,11 @@ use Rattle.machine_laws.specs.Brackets.{IsBracketed}
 use Rattle.machine_sound.specs.Sound.{SoundRun}
 use Rattle.core_steps.specs.declared.machine.Finished.{Finished}
 use Rattle.core_steps.specs.declared.machine.Finished.TheVariants.{Last, Stuck}
-use Rattle.core_steps.specs.declared.setup.Setup.{Setup}
 use Rattle.core_steps.specs.Finishing.{finish_limit}
-use Rattle.core_steps.specs.Setups.{made_of}
 use Rattle.trace_text.specs.Line.{line_of}
 use Rattle.trace_text.specs.declared.line.Line.{Line}
-use Rattle.trace_text.specs.declared.line.Line.TheVariants.{Blank, Space, Act, Fold, Finish, Now}
+use Rattle.trace_text.specs.declared.line.Line.TheVariants.{Blank, Space, File, Act, Fold, Finish, Now}
+use Rattle.trace.specs.Declarations.{Asked, made_by}
 use Rattle.trace.specs.Events.{event_of}
 use Rattle.trace.specs.OutcomeText.{outcome_text, finished_text}
 use Rattle.trace.specs.Stage.{Start, Running}
@@ -50,6 +49,7 @@ AsksCall core request o es os text = (es ≡ Ev.Call core request ∷ []) × (os
 abbrev pub Asks : Line → List Event → List Outcome → List ℕ → Type 0
 Asks Blank es os text = (es ≡ []) × (os ≡ []) × (text ≡ [])
 Asks (Space cores frames calls) es os text = (es ≡ []) × (os ≡ []) × (text ≡ [])
+Asks (File n mode len seed) es os text = (es ≡ []) × (os ≡ []) × (text ≡ [])
 Asks (Act core action) es os text = AsksOne (event_of core action) es os text
 Asks (Fold page) es os text = AsksOne (Ev.Fold page) es os text
 Asks (Finish core) es os text = AsksFinish core es os text
@@ -81,14 +81,14 @@ AllAsk (line ∷ lines) es os text = AsksFirst line (AllAsk lines) es os text
 -- The lines ask for these events of a machine over new slots, and print of their outcomes what the text says. The run is sound: its log is
 -- that of a plain page map, in which each reply that was handed out stands once, between its call and its answer.
 pub record IsRun (lines : List (List ℕ)) (text : List ℕ) (w : World) : Type 0 where
-  pub setup : Setup
+  pub asked : Asked
   pub slots : Slots
   pub new : IsNew slots
   pub events : List Event
   pub outcomes : List Outcome
   pub asks : AllAsk lines events outcomes text
-  pub run : Run (new_world (made_of setup) slots) events outcomes w
-  pub sound : SoundRun (new_world (made_of setup) slots) events outcomes w
+  pub run : Run (new_world (made_by asked) slots) events outcomes w
+  pub sound : SoundRun (new_world (made_by asked) slots) events outcomes w
   pub brackets : IsBracketed events outcomes w
 
 -- lines that are acted on from the start, up to a machine

@@ -10,7 +10,7 @@ use Rattle.core_steps.specs.declared.machine.Finished.{Finished}
 use Rattle.core_steps.specs.Finishing.{Finishes, IsRefused}
 use Rattle.core_steps.specs.Moving.{MayWant}
 use Rattle.trace_text.specs.declared.line.Line.{Line}
-use Rattle.trace_text.specs.declared.line.Line.TheVariants.{Blank, Space, Act, Fold, Finish, Now}
+use Rattle.trace_text.specs.declared.line.Line.TheVariants.{Blank, Space, File, Act, Fold, Finish, Now}
 use Rattle.trace.specs.Events.{event_of}
 use Rattle.trace.specs.OutcomeText.{outcome_text, finished_text}
 
@@ -33,6 +33,7 @@ GoesOn m core Full v text = (v ≡ m) × (text ≡ outcome_text Full)
 abbrev pub Gives : World → Line → World → List ℕ → Type 0
 Gives w Blank v text = ⊥
 Gives w (Space cores frames calls) v text = ⊥
+Gives w (File n mode len seed) v text = ⊥
 Gives w (Act core action) v text = TellsStep w (event_of core action) v text
 Gives w (Fold page) v text = TellsStep w (Ev.Fold page) v text
 Gives w (Finish core) v text = TellsFinish w core v text
@@ -46,6 +47,7 @@ WantsFinish w core = (v : World) × IsRefused w core v
 abbrev pub Wants : World → Line → Type 0
 Wants w Blank = ⊥
 Wants w (Space cores frames calls) = ⊥
+Wants w (File n mode len seed) = ⊥
 Wants w (Act core action) = MayWant w (event_of core action)
 Wants w (Fold page) = MayWant w (Ev.Fold page)
 Wants w (Finish core) = WantsFinish w core
@@ -56,6 +58,7 @@ abbrev pub is_event : Option Line → Bool
 is_event None = false
 is_event (Some Blank) = false
 is_event (Some (Space cores frames calls)) = false
+is_event (Some (File n mode len seed)) = false
 is_event (Some (Act core action)) = true
 is_event (Some (Fold page)) = true
 is_event (Some (Finish core)) = true

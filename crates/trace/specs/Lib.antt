@@ -1,3 +1,4 @@
+pub mod Declarations
 pub mod Events
 pub mod Ends
 pub mod Gives

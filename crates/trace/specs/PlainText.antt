@@ -17,7 +17,8 @@ use Rattle.trace_text.specs.Line.{line_of}
 use Rattle.trace_text.specs.declared.action.Action.{Action}
 use Rattle.trace_text.specs.declared.action.Action.TheVariants as By
 use Rattle.trace_text.specs.declared.line.Line.{Line}
-use Rattle.trace_text.specs.declared.line.Line.TheVariants.{Blank, Space, Act, Fold, Finish, Now}
+use Rattle.trace_text.specs.declared.line.Line.TheVariants.{Blank, Space, File, Act, Fold, Finish, Now}
+use Rattle.trace.specs.Declarations.{file_of}
 use Rattle.trace.specs.OutcomeText.{outcome_text}
 use Rattle.trace.specs.Stage.{Start, Running}
 use Rattle.trace.specs.Runs.{Runs}
@@ -142,6 +143,8 @@ ActAnswers s core (By.Evict page) r text = MayStep s r text
 abbrev pub LineAnswers : Reached → Line → Reached → List ℕ → Type 0
 LineAnswers s Blank r text = (r ≡ s) × (text ≡ [])
 LineAnswers s (Space cores frames calls) r text = (r ≡ record s { cores = cores; frames = frames; calls = calls }) × (text ≡ [])
+LineAnswers s (File n mode len seed) r text =
+    (r ≡ record s { plain = record s.plain { file = put s.plain.file n (file_of (Some (record { mode = mode; len = len; seed = seed }))) } }) × (text ≡ [])
 LineAnswers s (Finish core) r text = FinishAnswers s s.waiting core r text
 LineAnswers s (Now core request) r text = NowAnswers s core request r text
 LineAnswers s (Act core action) r text = ActAnswers s core action r text

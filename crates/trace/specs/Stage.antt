@@ -1,79 +1,103 @@
 -- How far a trace has come, and what one line does to it.
-use Rattle.std.specs.Prelude.{◌≡◌, ℕ, ◌⊎◌, List, [], Bool, true, false, Option, None, Some, if◌then◌else◌, IsSomeAnd, ⊤}
+use Rattle.std.specs.Prelude.{◌≡◌, ◌≢◌, ℕ, ◌⊎◌, List, [], Bool, true, false, Option, None, Some, if◌then◌else◌, IsSomeAnd, ⊤}
 use Rattle.slot_lock.specs.Slots.{Slots, IsNew}
 use Rattle.machine_model.specs.World.{World, new_world}
-use Rattle.core_steps.specs.declared.setup.Setup.{Setup}
 use Rattle.core_steps.specs.declared.setup.SetupFault.{SetupFault}
 use Rattle.core_steps.specs.declared.setup.SetupFault.TheVariants as Of
-use Rattle.core_steps.specs.Setups.{fault_of, made_of}
-use Rattle.trace_text.specs.Words.{words_of}
-use Rattle.trace_text.specs.Line.{are_printable, begins_with_vm, line_of}
+use Rattle.trace_text.specs.Words.{Word, words_of}
+use Rattle.trace_text.specs.Line.{are_printable, begins_with_file, begins_with_vm, line_of}
 use Rattle.trace_text.specs.declared.line.Line.{Line}
-use Rattle.trace_text.specs.declared.line.Line.TheVariants.{Blank, Space, Act, Fold, Finish, Now}
+use Rattle.trace_text.specs.declared.line.Line.TheVariants.{Blank, Space, File, Act, Fold, Finish, Now}
 use Rattle.trace.specs.declared.fault.TraceFault.{TraceFault}
 use Rattle.trace.specs.declared.fault.TraceFault.TheVariants as By
+use Rattle.trace.specs.Declarations.{Asked, asks_for, is_next, with_file, asked_fault, made_by}
 use Rattle.trace.specs.Gives.{Gives, Wants, is_event}
 
--- no line with words yet; the vm line; a machine
+-- no line with words yet; the vm line, and the file lines behind it; a machine
 pub data Stage : Type 0 where
   Start : Stage
-  Declared : Setup → Stage
+  Declared : Asked → Stage
   Running : World → Stage
 
 -- how far a replay has come, from its parts
-abbrev pub stage_of : Option Setup → Option World → Stage
-stage_of setup (Some w) = Running w
-stage_of (Some s) None = Declared s
+abbrev pub stage_of : Option Asked → Option World → Stage
+stage_of asked (Some w) = Running w
+stage_of (Some a) None = Declared a
 stage_of None None = Start
 
 -- the machine that an event's line finds: one of new slots, if there was none before
 abbrev pub Opens : Stage → World → Type 0
 Opens Start w = ⊥
-Opens (Declared s) w = (fault_of s ≡ None) × ((slots : Slots) × IsNew slots × (w ≡ new_world (made_of s) slots))
+Opens (Declared a) w = (asked_fault a ≡ None) × ((slots : Slots) × IsNew slots × (w ≡ new_world (made_by a) slots))
 Opens (Running v) w = w ≡ v
 
 -- a machine can be made, or is there
 abbrev pub CanOpen : Stage → Type 0
 CanOpen Start = ⊥
-CanOpen (Declared s) = fault_of s ≡ None
+CanOpen (Declared a) = asked_fault a ≡ None
 CanOpen (Running w) = ⊤
 
--- why no machine was made of a setup: its own first fault, or want of memory
-abbrev pub SetupFails : Option SetupFault → TraceFault → Type 0
-SetupFails (Some own) f = f ≡ By.Setup own
-SetupFails None f = f ≡ By.Setup Of.NoMemory
+-- Why no machine was made of what is asked for: its own first fault, or want of memory, for the bytes of files where there are some, or
+-- for the machine.
+abbrev pub SetupFails : Asked → Option SetupFault → TraceFault → Type 0
+SetupFails a (Some own) f = f ≡ By.Setup own
+SetupFails a None f = ((a.files ≢ []) × (f ≡ By.NoMemory)) ⊎ (f ≡ By.Setup Of.NoMemory)
 
 abbrev pub OpenFails : Stage → TraceFault → Type 0
 OpenFails Start f = f ≡ By.NoVmLine
-OpenFails (Declared s) f = SetupFails (fault_of s) f
+OpenFails (Declared a) f = SetupFails a (asked_fault a) f
 OpenFails (Running w) f = ⊥
 
--- why a bad line isn't acted on: the setup's fault comes before its own
-abbrev pub BadFails : Stage → ℕ → Bool → TraceFault → Type 0
-BadFails Start number is_vm f = f ≡ (if is_vm then By.BadLine number else By.NoVmLine)
-BadFails (Declared s) number is_vm f = SetupFails (fault_of s) f ⊎ ((fault_of s ≡ None) × (f ≡ By.BadLine number))
-BadFails (Running w) number is_vm f = f ≡ By.BadLine number
+-- the first word of a line is `vm`, it is `file`, or the line is of events
+pub data Kind : Type 0 where
+  OfSpace : Kind
+  OfFile : Kind
+  OfEvents : Kind
+
+abbrev pub kind_of : List Word → Kind
+kind_of words = if begins_with_vm words then OfSpace else if begins_with_file words then OfFile else OfEvents
+
+-- The setup's fault comes before that of a line at which a machine is to be made.
+abbrev pub LateFails : Asked → ℕ → TraceFault → Type 0
+LateFails a number f = SetupFails a (asked_fault a) f ⊎ ((asked_fault a ≡ None) × (f ≡ By.BadLine number))
+
+-- why a bad line isn't acted on: at the line of a file no machine is made
+abbrev pub BadFails : Stage → ℕ → Kind → TraceFault → Type 0
+BadFails Start number OfSpace f = f ≡ By.BadLine number
+BadFails Start number OfFile f = f ≡ By.NoVmLine
+BadFails Start number OfEvents f = f ≡ By.NoVmLine
+BadFails (Declared a) number OfSpace f = LateFails a number f
+BadFails (Declared a) number OfFile f = f ≡ By.BadLine number
+BadFails (Declared a) number OfEvents f = LateFails a number f
+BadFails (Running w) number kind f = f ≡ By.BadLine number
 
 -- the vm line is bad where it isn't the first line with words
 abbrev pub SpaceFails : Stage → ℕ → TraceFault → Type 0
 SpaceFails Start number f = ⊥
-SpaceFails (Declared s) number f = BadFails (Declared s) number true f
-SpaceFails (Running w) number f = BadFails (Running w) number true f
+SpaceFails (Declared a) number f = LateFails a number f
+SpaceFails (Running w) number f = f ≡ By.BadLine number
+
+-- the line of a file is bad where another number comes next, or a machine is there
+abbrev pub FileFails : Stage → ℕ → ℕ → TraceFault → Type 0
+FileFails Start number n f = f ≡ By.NoVmLine
+FileFails (Declared a) number n f = (is_next a n ≡ false) × (f ≡ By.BadLine number)
+FileFails (Running w) number n f = f ≡ By.BadLine number
 
 -- why a line of printable bytes that says this isn't acted on
-abbrev pub SaidFails : Stage → ℕ → Bool → Option Line → TraceFault → Type 0
-SaidFails s number is_vm None f = BadFails s number is_vm f
-SaidFails s number is_vm (Some Blank) f = ⊥
-SaidFails s number is_vm (Some (Space cores frames calls)) f = SpaceFails s number f
-SaidFails s number is_vm (Some (Act core action)) f = OpenFails s f
-SaidFails s number is_vm (Some (Fold page)) f = OpenFails s f
-SaidFails s number is_vm (Some (Finish core)) f = OpenFails s f
-SaidFails s number is_vm (Some (Now core request)) f = OpenFails s f
+abbrev pub SaidFails : Stage → ℕ → Kind → Option Line → TraceFault → Type 0
+SaidFails s number kind None f = BadFails s number kind f
+SaidFails s number kind (Some Blank) f = ⊥
+SaidFails s number kind (Some (Space cores frames calls)) f = SpaceFails s number f
+SaidFails s number kind (Some (File n mode len seed)) f = FileFails s number n f
+SaidFails s number kind (Some (Act core action)) f = OpenFails s f
+SaidFails s number kind (Some (Fold page)) f = OpenFails s f
+SaidFails s number kind (Some (Finish core)) f = OpenFails s f
+SaidFails s number kind (Some (Now core request)) f = OpenFails s f
 
 -- a byte that isn't printable makes any line bad
 abbrev pub BytesFail : Bool → Stage → ℕ → List ℕ → TraceFault → Type 0
 BytesFail false s number line f = f ≡ By.BadLine number
-BytesFail true s number line f = SaidFails s number (begins_with_vm (words_of line)) (line_of line) f
+BytesFail true s number line f = SaidFails s number (kind_of (words_of line)) (line_of line) f
 
 -- why the line with this number isn't acted on
 pub record LineFails (s : Stage) (number : ℕ) (line : List ℕ) (f : TraceFault) : Type 0 where
@@ -94,7 +118,9 @@ EventActs old line new text = (w : World) × (v : World) × Opens old w × Gives
 
 abbrev pub LineActs : Stage → Line → Stage → List ℕ → Type 0
 LineActs old Blank new text = (new ≡ old) × (text ≡ [])
-LineActs old (Space cores frames calls) new text = (old ≡ Start) × (new ≡ Declared (record { cores = cores; frames = frames; calls = calls })) × (text ≡ [])
+LineActs old (Space cores frames calls) new text = (old ≡ Start) × (new ≡ Declared (asks_for cores frames calls)) × (text ≡ [])
+LineActs old (File n mode len seed) new text = (a : Asked) × (old ≡ Declared a) × (is_next a n ≡ true)
+    × (new ≡ Declared (with_file a (record { mode = mode; len = len; seed = seed }))) × (text ≡ [])
 LineActs old (Act core action) new text = EventActs old (Act core action) new text
 LineActs old (Fold page) new text = EventActs old (Fold page) new text
 LineActs old (Finish core) new text = EventActs old (Finish core) new text

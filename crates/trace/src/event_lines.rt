@@ -92,7 +92,7 @@ fn tell_call<M: SlotMap, A: Allocator + Clone>(
 }
 
 /// Moves the machine as the line says, and replaces the text by what it gives. A line that is bad, or the line of
-/// a space, is a bad line here, and nothing changes. At `NoMemory` the steps before the refused one stand.
+/// a space or of a file, is a bad line here, and nothing changes. At `NoMemory` the steps before the refused one stand.
 pub fn run_line<M: SlotMap, A: Allocator + Clone>(
     machine: &mut Machine<M, A>,
     line: Option<Line>,
@@ -110,7 +110,9 @@ pub fn run_line<M: SlotMap, A: Allocator + Clone>(
         Line::Fold(page) => tell_step(machine, Event::Fold(page), text),
         Line::Finish(core) => tell_finish(machine, core, text),
         Line::Now(core, request) => tell_call(machine, core, request, text),
-        Line::Blank | Line::Space { .. } => return Err(TraceFault::BadLine(number)),
+        Line::Blank | Line::Space { .. } | Line::File { .. } => return Err(TraceFault::BadLine(
+            number,
+        )),
     };
     match done {
         Ok(()) => Ok(()),

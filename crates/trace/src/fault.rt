@@ -20,7 +20,7 @@ pub enum TraceFault {
     /// The allocator refused.
     #[error("out of memory")]
     NoMemory,
-    /// The setup of the `vm` line makes no machine.
+    /// The setup of the `vm` and `file` lines makes no machine.
     #[error("setup {0}")]
     Setup(SetupFault),
     /// A write failed, or took no byte.

@@ -1,6 +1,7 @@
 //! The replay of a trace: lines that move a machine, and the text that they give.
 #![tactic(auto)]
 
+pub mod declaration;
 pub mod event_lines;
 pub mod fault;
 pub mod laws;

@@ -1,17 +1,18 @@
 //! A replay between two lines, and what one line does to it.
 ghost use Rattle.std.specs.Prelude.{◌≡◌, ◌⊎◌, [], option_map, None, IfOk, IfErr, OnOk, IsSomeAnd};
 ghost use Rattle.core_steps.specs.Machine.{state};
-ghost use Rattle.trace.specs.Stage.{Stage, Start, Declared, stage_of, Opens, OpenFails, CanOpen, Acts, EventActs, EventFails, EventWants, LineFails, LineWants};
+ghost use Rattle.trace.specs.Stage.{Stage, Start, Declared, stage_of, Opens, OpenFails, CanOpen, Acts, EventActs, EventFails, EventWants, FileFails, LineActs, LineFails, LineWants};
 
+use crate::declaration::{Declaration, FileLine};
 use crate::event_lines::run_line;
 use crate::fault::TraceFault;
 use crate::outcome_text::LineText;
-use core_steps::{Machine, Setup, SetupFault};
+use core_steps::{Machine, SetupFault};
 use mmu::{Cpu, Hardware};
 use radix_range::RadixMap;
 use slot_lock::SlotMap;
 use std::alloc::Allocator;
-use trace_text::{Line, first_word_is_vm, is_printable, read_line};
+use trace_text::{Line, first_word_is_file, first_word_is_vm, is_printable, read_line};
 
 /// What acts on the lines of a trace, one at a time.
 pub trait Staged {
@@ -30,8 +31,8 @@ pub trait Staged {
         ensures err { IfErr result (λ f. OpenFails (stage self.now) f) };
 }
 
-/// A replay between two lines. Up to the `vm` line it has neither a setup nor a machine, then a setup, and from the
-/// first line of an event on a machine.
+/// A replay between two lines. Up to the `vm` line it has neither a declaration nor a machine, then a declaration, and from
+/// the first line of an event on a machine.
 #[derive(Drop)]
 pub struct Replayer<A: Allocator + Clone>
 where
@@ -39,24 +40,31 @@ where
     Cpu<A>: Hardware,
 {
     alloc: A,
-    setup: Option<Setup>,
+    declaration: Option<Declaration>,
     machine: Option<Machine<RadixMap<A>, A>>,
 }
 
-// The machine that a setup makes.
+// The machine that is asked for. Its own faults come before want of memory for the bytes of files, and that before want of
+// memory for the machine.
 fn made<A: Allocator + Clone + Drop>(
     alloc: &A,
-    setup: Option<Setup>,
+    declaration: &Option<Declaration>,
 ) -> Result<Machine<RadixMap<A>, A>, TraceFault>
-    ensures ok { IfOk result (λ m. Opens (stage_of setup None) (state m)) }
-    ensures err { IfErr result (λ f. OpenFails (stage_of setup None) f) }
+    ensures ok { IfOk result (λ m. Opens (stage_of declaration.now None) (state m)) }
+    ensures err { IfErr result (λ f. OpenFails (stage_of declaration.now None) f) }
 {
-    let Some(setup) = setup else {
+    let Some(declaration) = declaration else {
         return Err(TraceFault::NoVmLine);
     };
-    if let Some(fault) = setup.fault() {
+    if let Some(fault) = declaration.fault() {
         return Err(TraceFault::Setup(fault));
     }
+    let Ok(for_files) = alloc.clone() else {
+        return Err(TraceFault::Setup(SetupFault::NoMemory));
+    };
+    let Ok(setup) = declaration.setup(for_files) else {
+        return Err(TraceFault::NoMemory);
+    };
     let Ok(for_map) = alloc.clone() else {
         return Err(TraceFault::Setup(SetupFault::NoMemory));
     };
@@ -66,7 +74,7 @@ fn made<A: Allocator + Clone + Drop>(
     let Ok(for_machine) = alloc.clone() else {
         return Err(TraceFault::Setup(SetupFault::NoMemory));
     };
-    match Machine::new(for_machine, map, &setup) {
+    match Machine::new(for_machine, map, setup) {
         Ok(machine) => Ok(machine),
         Err(fault) => Err(TraceFault::Setup(fault)),
     }
@@ -79,12 +87,36 @@ impl<A: Allocator + Clone + Drop> Replayer<A> {
     {
         Replayer {
             alloc,
-            setup: None,
+            declaration: None,
             machine: None,
         }
     }
 
-    // Acts on a line that isn't the `vm` line and has words.
+    // Takes in the line of a file.
+    fn act_on_file(
+        &mut self,
+        number: u64,
+        next: u64,
+        file: FileLine,
+        text: &mut LineText,
+    ) -> Result<(), TraceFault>
+        ensures ok { OnOk result (LineActs (⟦<Self as Staged>⟧.stage self.old) (Line.File next file.mode file.len file.seed) (⟦<Self as Staged>⟧.stage self.new) text.new.bytes) }
+        ensures err { IfErr result (λ f. FileFails (⟦<Self as Staged>⟧.stage self.old) number next f) }
+    {
+        if self.machine.is_some() {
+            return Err(TraceFault::BadLine(number));
+        }
+        let Some(declaration) = &mut self.declaration else {
+            return Err(TraceFault::NoVmLine);
+        };
+        if !declaration.add(next, file) {
+            return Err(TraceFault::BadLine(number));
+        }
+        text.clear();
+        Ok(())
+    }
+
+    // Acts on a line that isn't the `vm` line or one of a file, and has words.
     fn act_on_event(
         &mut self,
         number: u64,
@@ -97,7 +129,7 @@ impl<A: Allocator + Clone + Drop> Replayer<A> {
         match &mut self.machine {
             Some(machine) => run_line(machine, line, number, text),
             None => {
-                let mut machine = match made(&self.alloc, self.setup) {
+                let mut machine = match made(&self.alloc, &self.declaration) {
                     Ok(machine) => machine,
                     Err(fault) => return Err(fault),
                 };
@@ -110,13 +142,14 @@ impl<A: Allocator + Clone + Drop> Replayer<A> {
 }
 
 impl<A: Allocator + Clone + Drop> Staged for Replayer<A> {
-    ghost stage = { λ r. stage_of r.setup (option_map state r.machine) };
+    ghost stage = { λ r. stage_of r.declaration (option_map state r.machine) };
 
     fn act(&mut self, number: u64, line: &[u8], text: &mut LineText) -> Result<(), TraceFault> {
         if !is_printable(line) {
             return Err(TraceFault::BadLine(number));
         }
-        let is_start = self.setup.is_none() && self.machine.is_none();
+        let is_open = self.machine.is_none();
+        let is_start = is_open && self.declaration.is_none();
         match read_line(line) {
             Some(Line::Blank) => {
                 text.clear();
@@ -129,15 +162,22 @@ impl<A: Allocator + Clone + Drop> Staged for Replayer<A> {
                     calls,
                 },
             ) if is_start => {
-                self.setup = Some(Setup {
-                    cores,
-                    frames,
-                    calls,
-                });
+                self.declaration = Some(Declaration::new(cores, frames, calls));
                 text.clear();
                 Ok(())
             }
+            Some(
+                Line::File {
+                    number: next,
+                    mode,
+                    len,
+                    seed,
+                },
+            ) => self.act_on_file(number, next, FileLine { mode, len, seed }, text),
             None if is_start && first_word_is_vm(line) => Err(TraceFault::BadLine(number)),
+            None if is_open && !is_start && first_word_is_file(line) => {
+                Err(TraceFault::BadLine(number))
+            }
             event => self.act_on_event(number, event, text),
         }
     }
@@ -145,7 +185,7 @@ impl<A: Allocator + Clone + Drop> Staged for Replayer<A> {
     fn finish(&self) -> Result<(), TraceFault> {
         match &self.machine {
             Some(_) => Ok(()),
-            None => match made(&self.alloc, self.setup) {
+            None => match made(&self.alloc, &self.declaration) {
                 Ok(_) => Ok(()),
                 Err(fault) => Err(fault),
             },

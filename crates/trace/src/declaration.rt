@@ -1,0 +1,166 @@
+//! What the `vm` and `file` lines of a trace ask for.
+ghost use Rattle.std.specs.Prelude.{◌≡◌, ◌≢◌, ◌≤◌, [], false, length, map, IfOk, IfErr};
+ghost use Rattle.std.specs.List.{list_any};
+ghost use Rattle.backing.specs.Given.{given_files};
+ghost use Rattle.core_steps.specs.Setups.{is_too_long};
+ghost use Rattle.trace.specs.Declarations.{bytes_of, file_at};
+
+use arrayvec::ArrayVec;
+use backing::FileSpec;
+use core_steps::{Setup, SetupFault, first_fault};
+use std::alloc::{AllocError, Allocator};
+use std::marker::Model;
+use vm_base::Mode;
+
+/// How many files are kept: one more than a space may have, so that too many are seen.
+const KEPT: usize = 17;
+
+/// How many bytes a file may have at the most.
+const FILE_LIMIT: u64 = 1_048_576;
+
+/// A file as its line asks for it.
+#[derive(Clone, Copy, Debug, PartialEq, Eq)]
+pub struct FileLine {
+    /// For what it is open.
+    pub mode: Mode,
+    /// How many bytes it has.
+    pub len: u64,
+    /// Its first byte; each byte is one more than the one before it, modulo 256.
+    pub seed: u8,
+}
+
+impl Default for FileLine {
+    fn default() -> FileLine {
+        FileLine {
+            mode: Mode::R,
+            len: 0,
+            seed: 0,
+        }
+    }
+}
+
+/// What the `vm` line and the `file` lines behind it ask for. It takes no memory: the bytes of a file are made where a
+/// setup is.
+#[derive(Drop)]
+pub struct Declaration {
+    cores: u64,
+    frames: u64,
+    calls: u64,
+    /// The number of the next file.
+    next: u64,
+    /// The first files.
+    files: ArrayVec<FileLine, KEPT>,
+}
+
+impl Model for Declaration {
+    ghost use Rattle.std.specs.Prelude.{◌≤◌, length};
+    ghost use Rattle.trace.specs.Declarations.{Asked};
+
+    ghost Value = { Asked };
+
+    ghost view = { λ s. record { cores = s.cores; frames = s.frames; calls = s.calls; next = s.next; files = s.files.items } };
+
+    ghost invariant = { λ s. length s.files.items ≤ 17 };
+}
+
+// The bytes of a file.
+fn bytes_of<A: Allocator>(alloc: A, file: FileLine) -> Result<Vec<u8, A>, AllocError>
+    requires { file.len ≤ 1048576 }
+    ensures { IfOk result (λ bytes. bytes.items ≡ bytes_of file) }
+{
+    let mut bytes = Vec::with_capacity(alloc, file.len as usize)?;
+    let mut byte = file.seed;
+    'bytes: for _at in 0..file.len {
+        bytes.push_reserved(byte);
+        byte = byte.wrapping_add(1);
+    }
+    Ok(bytes)
+}
+
+// The files with their bytes. No files take no memory.
+fn specs_of<A: Allocator + Clone>(
+    alloc: A,
+    files: &[FileLine],
+) -> Result<Vec<FileSpec<A>, A>, AllocError>
+    requires { list_any (λ file. is_too_long file.len) files.now ≡ false }
+    ensures given { IfOk result (λ specs. given_files specs.items ≡ file_at files.now) }
+    ensures asked { IfErr result (λ refused. files.now ≢ []) }
+    ensures lengths { IfOk result (λ specs. map (λ spec. length spec.bytes.items) specs.items ≡ map (λ file. file.len) files.now) }
+{
+    if files.is_empty() {
+        return Ok(Vec::new(alloc));
+    }
+    let mut specs = Vec::with_capacity(alloc.clone()?, files.len())?;
+    'files: for file in files {
+        let bytes = bytes_of(alloc.clone()?, *file)?;
+        specs.push_reserved(FileSpec {
+            mode: file.mode,
+            bytes,
+        });
+    }
+    Ok(specs)
+}
+
+impl Declaration {
+    ghost use Rattle.std.specs.Prelude.{◌≡◌, ◌≢◌, [], true, false, None, IfOk, IfErr};
+    ghost use Rattle.core_steps.specs.Setups.{fault_of, made_of};
+    ghost use Rattle.trace.specs.Declarations.{asks_for, is_next, with_file, asked_fault, made_by};
+
+    /// What a `vm` line asks for. No file is asked for yet.
+    pub fn new(cores: u64, frames: u64, calls: u64) -> Declaration
+        ensures { result ≡ asks_for cores frames calls }
+    {
+        Declaration {
+            cores,
+            frames,
+            calls,
+            next: 0,
+            files: ArrayVec::new(),
+        }
+    }
+
+    /// Takes in a file that has the next number, and tells whether it has. No file has the number 2^64 - 1.
+    pub fn add(&mut self, number: u64, file: FileLine) -> bool
+        ensures told { result ≡ is_next self.old number }
+        ensures added { result ≡ true → self.new ≡ with_file self.old file }
+        ensures kept { result ≡ false → self.new ≡ self.old }
+    {
+        if number != self.next {
+            return false;
+        }
+        let Some(next) = number.checked_add(1) else {
+            return false;
+        };
+        self.next = next;
+        if self.files.len() < KEPT {
+            self.files.push(file);
+        }
+        true
+    }
+
+    /// The first fault of what is asked for, but for want of memory.
+    pub fn fault(&self) -> Option<SetupFault>
+        ensures { result ≡ asked_fault self.now }
+    {
+        let has_long = self.files.iter().any(|file| file.len > FILE_LIMIT);
+        let files = self.files.len() as u64;
+        first_fault(self.cores, self.frames, files, has_long, self.calls)
+    }
+
+    /// The setup that is asked for, where it has no fault. The bytes of its files are made here, and the error says that memory
+    /// for them ran out. No files take no memory.
+    pub fn setup<A: Allocator + Clone>(&self, alloc: A) -> Result<Setup<A>, AllocError>
+        requires { asked_fault self.now ≡ None }
+        ensures asked { IfErr result (λ refused. self.now.files ≢ []) }
+        ensures sound { IfOk result (λ setup. fault_of setup ≡ None) }
+        ensures made { IfOk result (λ setup. made_of setup ≡ made_by self.now) }
+    {
+        let files = specs_of(alloc, self.files.as_slice())?;
+        Ok(Setup {
+            cores: self.cores,
+            frames: self.frames,
+            files,
+            calls: self.calls,
+        })
+    }
+}
