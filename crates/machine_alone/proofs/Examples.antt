@@ -1,10 +1,14 @@
--- On a new machine every store is answered SIGSEGV, whatever steps the call takes: the law says so without looking at them.
-use Rattle.std.proofs.Common.{◌⊎◌, inl, inr, ◌≡◌, ◌≢◌, ℕ, ◌<◌, Bool, refl, subst, None}
+-- On a new machine every store is answered SIGSEGV, whatever steps the call takes: the law says so without looking at them. And what a copy
+-- changes.
+use Rattle.std.proofs.Common.{◌⊎◌, inl, inr, ◌≡◌, ◌≢◌, ℕ, ◌<◌, Bool, true, false, refl, subst, Some, None}
 use Rattle.vm_base.specs.declared.replies.Reply.{Reply}
 use Rattle.vm_base.specs.declared.replies.Reply.TheVariants.{Mapped, Done, Byte, Refused, Segv, Bus, NoFrame, NoMemory}
 use Rattle.vm_base.specs.declared.replies.SegvCode.TheVariants.{MapErr}
-use Rattle.vm_base.specs.declared.requests.Request.TheVariants.{Store}
-use Rattle.vm_base.specs.Plain.{Plain, nothing_mapped}
+use Rattle.vm_base.specs.declared.info.Back.TheVariants.{Private}
+use Rattle.vm_base.specs.declared.requests.Request.TheVariants.{Load, Store}
+use Rattle.vm_base.specs.declared.rights.Mode.TheVariants.{R}
+use Rattle.vm_base.specs.Functions.{put}
+use Rattle.vm_base.specs.Plain.{Plain, nothing_mapped, zeros}
 use Rattle.slot_lock.specs.Slots.{Slots, IsNew}
 use Rattle.machine_model.specs.declared.event.Event.TheVariants.{Call, Go}
 use Rattle.machine_model.specs.declared.event.Outcome.{Outcome}
@@ -17,6 +21,7 @@ use Rattle.machine_sound.specs.Sound.{IsDue}
 use Rattle.machine_sound.proofs.Kept.{reached_opening}
 use Rattle.machine_alone.specs.Alone.{IsAwaiting}
 use Rattle.machine_alone.specs.Copies.{page_copied, with_copy}
+use Rattle.machine_alone.specs.Users.{users_after}
 use Rattle.machine_alone.proofs.Serving.{served_alone}
 
 abbrev made : Made
@@ -46,3 +51,27 @@ stores_fault slots new begun x v n o call steps step not below =
       | inl k ↦ inl (subst (λ y. o ≡ Answered y) (faults w.memory.is_free k.0.after k.0.reply k.0.stands (k.0.due 0 0)) k.0.answered)
       | inr a ↦ inr a
     ]
+
+-- ---- a private page of a file
+
+-- a file of one page, which page 16 shows as a private one
+abbrev shown : Plain
+shown = record {
+  entry = put (λ p. None) 16 (Some (record { back = Private 0 0; prot = record { read = true; write = true; exec = false }; own = None }));
+  file = put (λ n. None) 0 (Some (record { mode = R; count = 1; bytes = λ k. zeros }));
+}
+
+-- a store gives it a copy before, and leaves it to the core that stored
+store_copies : page_copied shown (Store 65540 41) Done ≡ Some 16
+store_copies = refl
+
+store_drops : (users_after shown 0 (Store 65540 41) Done (λ p c. true) 16 1 ≡ false) × (users_after shown 0 (Store 65540 41) Done (λ p c. true) 16 0 ≡ true)
+store_drops = (refl, refl)
+
+-- a second store doesn't
+store_again : page_copied (with_copy shown (Some 16)) (Store 65540 42) Done ≡ None
+store_again = refl
+
+-- and a load leaves it to all
+load_keeps : (page_copied shown (Load 65540) (Byte 0) ≡ None) × (users_after shown 0 (Load 65540) (Byte 0) (λ p c. true) 16 1 ≡ true)
+load_keeps = (refl, refl)
