@@ -11,9 +11,8 @@ use Rattle.vm_base.specs.declared.replies.SegvCode.TheVariants.{AccErr}
 use Rattle.vm_base.specs.declared.requests.Request.{Request}
 use Rattle.vm_base.specs.declared.requests.Request.TheVariants as RequestOf
 use Rattle.vm_base.specs.declared.rights.Access.{Access}
-use Rattle.vm_base.specs.declared.rights.Access.TheVariants.{Load, Store, Fetch}
+use Rattle.vm_base.specs.declared.rights.Access.TheVariants.{Store}
 use Rattle.vm_base.specs.Apply.{byte_reply, bytes_reply, detached, entry_reply, is_uncopied}
-use Rattle.vm_base.specs.Functions.{put}
 use Rattle.vm_base.specs.Info.{frame_of}
 use Rattle.vm_base.specs.Pages.{page_of}
 use Rattle.vm_base.specs.Plain.{Bytes, Entry, File, Plain, mode_of}
@@ -42,7 +41,7 @@ use Rattle.machine_sound.proofs.Stores.{with_own}
 use Rattle.machine_alone.specs.Alone.{users_dropped}
 use Rattle.machine_alone.specs.Copies.{or_else, page_copied, page_due, with_copy}
 use Rattle.machine_alone.specs.Taken.{frames_for, is_access, taken_below}
-use Rattle.machine_alone.specs.Users.{Users, Same, users_after, users_left, with_user, without}
+use Rattle.machine_alone.specs.Users.{Users, Same, users_after, with_user, without}
 use Rattle.machine_alone.proofs.Rows.{HasTaken}
 use Rattle.machine_alone.proofs.Taking.{change_no_access, its_access, one_taken_of}
 use Rattle.machine_alone.proofs.Used.{its_touch, same_request}

@@ -1,5 +1,5 @@
 -- A call that waits, and beside which no other call runs, is answered once nobody is awaited.
-use Rattle.std.proofs.Common.{◌≡◌, ◌≢◌, ℕ, zero, suc, ◌+◌, ◌≤◌, ◌<◌, ◌^◌, ◌⊎◌, Bool, true, false, cond, inl, inr, refl, sym, ap, subst, arith, Some, None, Option, ◌∙◌}
+use Rattle.std.proofs.Common.{◌≡◌, ◌≢◌, ℕ, zero, suc, ◌+◌, ◌≤◌, ◌<◌, ◌^◌, ◌⊎◌, Bool, true, false, inl, inr, refl, sym, ap, subst, arith, Some, None, Option, ◌∙◌}
 use Rattle.std.specs.Prelude.{if◌then◌else◌}
 use Rattle.std.proofs.Math.Path.{fun_ext}
 use Rattle.vm_base.specs.declared.page.PageRange.{PageRange}
@@ -26,13 +26,13 @@ use Rattle.machine_model.specs.Locks.{held_after}
 use Rattle.machine_model.specs.World.{World, Made}
 use Rattle.machine_model.specs.Step.{with_event, event_limit, Step, StepsTo}
 use Rattle.machine_laws.proofs.Deciding.{change_sound, sound_range}
-use Rattle.machine_laws.proofs.Effects.{Asked, status}
+use Rattle.machine_laws.proofs.Effects.{status}
 use Rattle.machine_laws.proofs.Moves.{IsCallOf, call_at}
 use Rattle.machine_laws.proofs.Shapes.{Moves, locks, tries, acts, finds, lacks, shows, Replies, refuses, no_place, declines, fails, no_frame, LetsGo, unlocks, releases, GoesBy, moves, divides, owns, lets_go, answers, posts, commits, takes, zeroes, first_copies, caches, shares, posts_copy, copies, installs, accesses, faults, comes}
 use Rattle.machine_sound.specs.Log.{Stands}
 use Rattle.machine_sound.specs.Invariant.{Fine}
 use Rattle.machine_sound.proofs.Kept.{reached_fine, reached_step}
-use Rattle.machine_alone.specs.Alone.{IsAnsweredAtLast, IsWaiting, IsServed, IsServedAtLast, IsAwaitingStill, takes_left}
+use Rattle.machine_alone.specs.Alone.{IsAnsweredAtLast, IsWaiting, IsServedAtLast, IsAwaitingStill, takes_left}
 use Rattle.machine_alone.specs.Copies.{page_copied, with_copy}
 use Rattle.machine_alone.specs.Taken.{frames_for, frames_taken, is_access, taken_below}
 use Rattle.machine_alone.specs.Users.{recorded}

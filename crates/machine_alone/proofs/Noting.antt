@@ -13,9 +13,9 @@ use Rattle.machine_model.specs.declared.log.Entry.TheVariants as EntryOf
 use Rattle.machine_model.specs.declared.phase.Goal.{Goal}
 use Rattle.machine_model.specs.declared.phase.Goal.TheVariants as To
 use Rattle.machine_model.specs.declared.phase.Phase.{Phase}
-use Rattle.machine_model.specs.declared.phase.Phase.TheVariants.{Check, Lock, Decide, Post, Acks, Unlock, Try, Settle, Want, Fill, CopyPost, CopyAcks, Install, Release}
+use Rattle.machine_model.specs.declared.phase.Phase.TheVariants.{Lock, Post, Acks, Try, Want, Fill, CopyPost, CopyAcks, Install, Release}
 use Rattle.machine_model.specs.Accesses.{taken_for}
-use Rattle.machine_model.specs.Actions.{to, let_go, with_entry, answer_entry, detach_entry}
+use Rattle.machine_model.specs.Actions.{to, let_go, with_entry, answer_entry}
 use Rattle.machine_model.specs.Holding.{goal_range}
 use Rattle.machine_model.specs.Locks.{all_locked, held_after, locked_to}
 use Rattle.machine_model.specs.World.{World}

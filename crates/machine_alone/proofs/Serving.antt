@@ -1,11 +1,10 @@
 -- A call that no other call runs beside serves its request until it hands out the reply.
-use Rattle.std.proofs.Common.{◌≡◌, ◌≢◌, ℕ, zero, suc, ◌≤◌, ◌<◌, ◌+◌, ◌==◌, ◌^◌, Bool, true, false, cond, refl, sym, subst, ap, arith, inl, inr, Some, None, Option, ◌∙◌, List, [], ◌∷◌, ◌++◌, length}
+use Rattle.std.proofs.Common.{◌≡◌, ◌≢◌, ℕ, zero, suc, ◌≤◌, ◌<◌, ◌+◌, ◌==◌, ◌^◌, Bool, true, false, cond, refl, sym, subst, ap, arith, inl, inr, Some, None, Option, ◌∙◌, List, length}
 use Rattle.std.specs.Prelude.{nat_lt, if◌then◌else◌}
 use Rattle.std.proofs.lemmas.Bool.Decides.{nat_tests}
 use Rattle.vm_base.specs.declared.page.PageRange.{PageRange}
 use Rattle.vm_base.specs.declared.replies.Reply.{Reply}
 use Rattle.vm_base.specs.declared.requests.Request.{Request}
-use Rattle.vm_base.specs.Functions.{put}
 use Rattle.vm_base.specs.Plain.{Plain, nothing_mapped}
 use Rattle.vm_base.proofs.Functions.{eq_true, eq_false, put_all, put_same, put_other}
 use Rattle.machine_model.specs.declared.event.Blocker.TheVariants as WaitsFor
@@ -24,18 +23,18 @@ use Rattle.machine_model.specs.Actions.{to}
 use Rattle.machine_model.specs.Changes.{Awaits}
 use Rattle.machine_model.specs.Step.{Acts, Goes, after_call, with_event, event_limit, Step, StepsTo}
 use Rattle.machine_laws.specs.Brackets.{nth}
-use Rattle.machine_laws.proofs.Effects.{Status, Closed, Asked, Told, status, SameCalls, Effect, keeps, tells, detaches, opens, closes, effect_of}
+use Rattle.machine_laws.proofs.Effects.{Closed, Asked, Told, status, SameCalls, Effect, keeps, tells, detaches, opens, closes, effect_of}
 use Rattle.machine_laws.proofs.Numbered.{at_new}
 use Rattle.machine_laws.proofs.Shapes.{Rests, absent, busy, full, free as callless, cannot, waits, awaits, GoesBy, Works, clears, invalidates, walks, evicts, flushes, reviews, frees, IsGoing, going, picking, Shape, rests, begins, ends, goes, gives_up, works, joins, Comes, stopped, acts as happens, comes}
 use Rattle.machine_sound.specs.Log.{Replays, Stands}
 use Rattle.machine_sound.specs.Invariant.{Fine}
-use Rattle.machine_sound.specs.Sound.{IsDue, IsReached}
+use Rattle.machine_sound.specs.Sound.{IsReached}
 use Rattle.machine_sound.proofs.Logs.{replays_requests}
 use Rattle.machine_sound.proofs.OneMap.{log_leads_to_one}
 use Rattle.machine_sound.proofs.Kept.{reached_fine, reached_step}
-use Rattle.machine_alone.specs.Alone.{IsCalm, LeadsTo, IsNoted, IsServed, IsServedAlone, IsAwaiting, IsWaiting, KeepsOthers}
+use Rattle.machine_alone.specs.Alone.{IsCalm, LeadsTo, IsNoted, IsServed, IsServedAlone, IsAwaiting, KeepsOthers}
 use Rattle.machine_alone.specs.Copies.{page_copied, with_copy}
-use Rattle.machine_alone.specs.Users.{Users, Same, recorded, users_after}
+use Rattle.machine_alone.specs.Users.{Users, Same, recorded}
 use Rattle.machine_alone.specs.Taken.{frames_for, frames_taken, taken_below}
 use Rattle.machine_alone.proofs.Awaiting.{WillAnswer, change_answers, copy_answers, change_frames, copy_frames}
 use Rattle.machine_alone.proofs.Framed.{reached_framed}

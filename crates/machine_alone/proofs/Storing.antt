@@ -1,5 +1,5 @@
 -- Before its entry is installed, a page that is to be stored to doesn't show its file's page as a private one: a copy was made, if one was due.
-use Rattle.std.proofs.Common.{◌≡◌, ◌≢◌, ℕ, Bool, true, false, cond, refl, sym, ap, subst, Some, None, Option, ◌∙◌, ◌&&◌, ◌||◌}
+use Rattle.std.proofs.Common.{◌≡◌, ◌≢◌, ℕ, Bool, true, false, cond, refl, sym, ap, subst, Some, None, Option, ◌∙◌, ◌&&◌}
 use Rattle.std.specs.Prelude.{nat_le, if◌then◌else◌}
 use Rattle.vm_base.specs.declared.info.Back.{Back}
 use Rattle.vm_base.specs.declared.info.Back.TheVariants.{Anon, Shared, Private}
@@ -12,7 +12,6 @@ use Rattle.vm_base.specs.Info.{frame_of, info_with_frame}
 use Rattle.vm_base.specs.Rights.{is_allowed}
 use Rattle.vm_base.proofs.Functions.{put_same}
 use Rattle.slot_lock.specs.declared.plan.Touch.{Touch}
-use Rattle.slot_lock.specs.Slots.{Slots}
 use Rattle.vm_calls.specs.declared.fault.Settled.{Settled}
 use Rattle.vm_calls.specs.declared.fault.Settled.TheVariants.{MapErr, AccErr, Bus, Has, Copies, Cached, Wants}
 use Rattle.vm_calls.specs.Settling.{is_private_store, settled, source}
@@ -20,7 +19,7 @@ use Rattle.machine_model.specs.declared.event.Outcome.TheVariants.{Stepped}
 use Rattle.machine_model.specs.declared.phase.Goal.{Goal}
 use Rattle.machine_model.specs.declared.phase.Goal.TheVariants as To
 use Rattle.machine_model.specs.declared.phase.Phase.{Phase}
-use Rattle.machine_model.specs.declared.phase.Phase.TheVariants.{Lock, Unlock, Settle, Want, Fill, CopyPost, CopyAcks, Install}
+use Rattle.machine_model.specs.declared.phase.Phase.TheVariants.{Lock, Unlock, CopyAcks, Install}
 use Rattle.machine_model.specs.Accesses.{after_finding, found_at, is_past_end, taken_for}
 use Rattle.machine_model.specs.Actions.{to, let_go}
 use Rattle.machine_model.specs.Files.{back_of, file_frame, shows_some}

@@ -7,14 +7,13 @@ use Rattle.vm_base.specs.declared.requests.Request.{Request}
 use Rattle.vm_base.specs.declared.requests.Request.TheVariants.{Mmap, Munmap, Mprotect, Load, Store, Fetch}
 use Rattle.vm_base.specs.declared.rights.Mode.{Mode}
 use Rattle.vm_base.specs.Functions.{put}
-use Rattle.vm_base.specs.Plain.{Plain, mode_of}
+use Rattle.vm_base.specs.Plain.{Plain}
 use Rattle.vm_base.specs.declared.replies.Reply.TheVariants as ReplyOf
 use Rattle.vm_base.specs.declared.rights.Access.TheVariants as By
 use Rattle.slot_lock.specs.declared.plan.Change.{Change}
 use Rattle.machine_sound.specs.Log.{Stands}
 use Rattle.vm_base.specs.Refusals.{refusal}
 use Rattle.vm_base.proofs.Functions.{eq_true, eq_false, put_all, put_other}
-use Rattle.slot_lock.specs.declared.plan.Plan.{Plan}
 use Rattle.slot_lock.specs.declared.plan.Plan.TheVariants as PlanOf
 use Rattle.slot_lock.specs.declared.plan.Touch.{Touch}
 use Rattle.vm_calls.specs.Checks.{checked, plan_of}

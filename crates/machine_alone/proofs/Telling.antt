@@ -29,7 +29,7 @@ use Rattle.machine_model.specs.declared.phase.Goal.{Goal}
 use Rattle.machine_model.specs.declared.phase.Goal.TheVariants as To
 use Rattle.machine_model.specs.Accesses.{taken_for, after_frame, after_install, reply_of, memory_after}
 use Rattle.machine_model.specs.Actions.{to, let_go, after_reply, with_entry, detach_entry}
-use Rattle.machine_model.specs.Filling.{cores_of, after_zeros, after_first_copy, after_caching, after_sharing, after_copy_post, after_copy}
+use Rattle.machine_model.specs.Filling.{cores_of, after_zeros, after_first_copy, after_caching, after_sharing, after_copy}
 use Rattle.machine_model.specs.Changes.{slots_after, reply_to}
 use Rattle.machine_model.specs.Counting.{with_counts}
 use Rattle.machine_model.specs.Holding.{awaits_in, goal_range, page_of_touch}

@@ -10,7 +10,7 @@ use Rattle.vm_base.specs.declared.rights.Access.TheVariants.{Store}
 use Rattle.vm_base.specs.Apply.{copied, detached, detached_entry, is_uncopied}
 use Rattle.vm_base.specs.Functions.{has, put}
 use Rattle.vm_base.specs.Info.{frame_of, info_with_frame, is_recorded}
-use Rattle.vm_base.specs.Plain.{Entry, File, Plain, bytes_of, mode_of}
+use Rattle.vm_base.specs.Plain.{File, Plain, bytes_of, mode_of}
 use Rattle.vm_base.proofs.Functions.{put_all, put_both, put_same}
 use Rattle.mmu.specs.declared.entry.Translation.{Translation}
 use Rattle.mmu.specs.Tables.{translated}
