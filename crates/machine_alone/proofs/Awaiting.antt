@@ -68,11 +68,11 @@ change_answers w t c request change held f from number p =
     let same : call.asked.request ≡ request = same_request w c call.asked.request request call.asked.number number in
     let after : Plain = left_by f.plain (PlanOf.Change change) (range_of change) in
     let stands : Stands f.plain c call.asked.request (reply_to change) after =
-        acted w f.plain c call.asked.request change call.ready.1.0 f.good call.asked.passed call.ready.1.1 in
+    acted w f.plain c call.asked.request change call.ready.1.0 f.good call.asked.passed call.ready.1.1 in
     let drops = change_drops (λ k. mode_of (w.made.file k)) t c call.asked.request change call.asked.passed in
     let none : page_copied t request (reply_to change) ≡ None = subst (λ r. page_copied t r (reply_to change) ≡ None) same drops.0 in
     let access : is_access request ≡ false =
-        subst (λ r. is_access r ≡ false) same (change_no_access (λ n. mode_of (w.made.file n)) c call.asked.request change call.asked.passed) in (
+    subst (λ r. is_access r ≡ false) same (change_no_access (λ n. mode_of (w.made.file n)) c call.asked.request change call.asked.passed) in (
       record {
         reply = reply_to change;
         after = after;
@@ -125,9 +125,11 @@ copy_answers w t c request touch frame f from number p = record {
   after = after;
   stands = subst (λ m. Stands m c request ReplyOf.Done after) (sym (ap (with_copy t) copied ∙ ap (or_else t) due))
       (subst (λ r. Stands u c r ReplyOf.Done after) same
-      (touched_stands w u after c call.asked.request touch ReplyOf.Done tt call.asked.passed
-      (subst (λ a. entry_reply u.file (u.entry touch.page) a touch.offset ≡ Some ReplyOf.Done) (sym store)
-      (copy_reply f.plain touch.page touch.offset z.entry x allowed), refl)));
+      (touched_stands w u after c call.asked.request touch ReplyOf.Done tt call.asked.passed (
+        subst (λ a. entry_reply u.file (u.entry touch.page) a touch.offset ≡ Some ReplyOf.Done) (sym store)
+            (copy_reply f.plain touch.page touch.offset z.entry x allowed),
+        refl,
+      )));
   drops = store_drops t c request touch asked store copied;
 }
   where

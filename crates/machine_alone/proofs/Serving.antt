@@ -311,7 +311,7 @@ the_reply free w t c request x reply h after led noted =
     let last = last_entry x.calls.requests noted.0 (nothing_mapped x.made.file) after (EntryOf.Answer noted.2.0 (x.calls.number c) c reply)
     (subst (λ log. Replays x.calls.requests (nothing_mapped x.made.file) log after) noted.2.1 led) in
     let from : IsFrom t h.copy last.0 =
-        from_log x.calls.requests w.calls.log noted.0 (nothing_mapped x.made.file) t last.0 (x.calls.number c) h.copy noted.1 h.first last.1 in
+    from_log x.calls.requests w.calls.log noted.0 (nothing_mapped x.made.file) t last.0 (x.calls.number c) h.copy noted.1 h.first last.1 in
     let number : Some last.2.0 ≡ Some request = sym last.2.1 ∙ h.number in
     let same : last.2.0 ≡ request = cc in
     record {
@@ -328,9 +328,9 @@ returned free w t c request x v o reply h s at answered e due most =
     let reached : IsReached v = reached_step x v (Go c) o h.reached s in
     let after : Fine v = reached_fine v reached in
     let noted : IsNoted w.calls.log h.copy (x.calls.number c) c reply x.calls.log =
-        subst (λ phase. IsLogged w.calls.log x.calls.log (x.calls.number c) c h.copy (status phase)) at h.logged in
+    subst (λ phase. IsLogged w.calls.log x.calls.log (x.calls.number c) c h.copy (status phase)) at h.logged in
     let led : Replays x.calls.requests (nothing_mapped x.made.file) x.calls.log after.plain =
-        subst (λ (v : World). Replays v.calls.requests (nothing_mapped v.made.file) v.calls.log after.plain) e after.log in
+    subst (λ (v : World). Replays v.calls.requests (nothing_mapped v.made.file) v.calls.log after.plain) e after.log in
     let its = the_reply free w t c request x reply h after.plain led noted in
     let used = subst (Used t (recorded w.slots) (recorded x.slots) (reach_of x.hardware c) c request h.copy) at h.used in
     let sure : IsDueReply free reply = subst (IsSure free x.memory.is_free (reach_of x.hardware c)) at h.sure in
@@ -368,7 +368,7 @@ waiting_leads : (free : ℕ → Bool) (w : World) (t : Plain) (c : ℕ) (request
     → status (x.calls.phase c) ≡ Asked → h.copy ≡ None → LeadsTo x t
 waiting_leads free w t c request x h a none =
     let same : x.calls.log ≡ w.calls.log = subst (λ o. IsLogged w.calls.log x.calls.log (x.calls.number c) c o Asked) none
-        (subst (IsLogged w.calls.log x.calls.log (x.calls.number c) c h.copy) a h.logged) in
+    (subst (IsLogged w.calls.log x.calls.log (x.calls.number c) c h.copy) a h.logged) in
     subst (λ log. Replays x.calls.requests (nothing_mapped x.made.file) log t) (sym same) h.first
 
 -- what it will be answered, and the frame that it has taken

@@ -99,7 +99,7 @@ fresh_stores : (cached : ℕ → ℕ → Option ℕ) (o : Option PageInfo) (acce
 fresh_stores cached None access f none = (refl, refl)
 fresh_stores cached (Some info) access f none =
     let e : (is_private_store info.meta.back access && shows_some cached info.meta.back (Some f)) ≡ false =
-        ap (λ b. is_private_store info.meta.back access && b) (unshown cached info.meta.back f none) ∙ and_false (is_private_store info.meta.back access) in
+    ap (λ b. is_private_store info.meta.back access && b) (unshown cached info.meta.back f none) ∙ and_false (is_private_store info.meta.back access) in
     (e, e)
 
 anon_stores : (o : Option PageInfo) (access : Access) → is_anonymous (back_of o) ≡ true → is_private_store (back_of o) access ≡ false

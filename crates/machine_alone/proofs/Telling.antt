@@ -135,9 +135,9 @@ copy_users : (s : Slots) (touch : Touch) (core : ℕ) → (members (cores_of (s.
 copy_users s touch core = (
   λ m. (touch.page, page_is touch, here (s.info touch.page) m),
   λ u.
-    let k = has_in (page_of_touch touch) u.0 u.1 in
-    let same : u.0 ≡ touch.page = let a = k.0 in let b = k.1 in omega (arith, a, b) in
-    there (s.info touch.page) (subst (λ p. is_recorded (s.info p) core ≡ true) same u.2),
+      let k = has_in (page_of_touch touch) u.0 u.1 in
+      let same : u.0 ≡ touch.page = let a = k.0 in let b = k.1 in omega (arith, a, b) in
+      there (s.info touch.page) (subst (λ p. is_recorded (s.info p) core ≡ true) same u.2),
 )
   where
     here : (o : Option PageInfo) → members (cores_of o) core ≡ true → is_recorded o core ≡ true

@@ -201,8 +201,8 @@ change_used t first c request copy w change held f number e u =
     let z = used_at t first c request copy w (Acks change held) e u in (
       subst (λ r. page_copied t r (reply_to change) ≡ None) is drops.0 ∙ sym z.0,
       λ p d.
-      changed_drops w.slots change p d ∙ ap (λ b. cond (has (range_of change) p) false b) (z.1 p d)
-      ∙ sym (subst (λ r. users_after t c r (reply_to change) first p d ≡ without (range_of change) first p d) is (drops.1 first p d)),
+          changed_drops w.slots change p d ∙ ap (λ b. cond (has (range_of change) p) false b) (z.1 p d)
+          ∙ sym (subst (λ r. users_after t c r (reply_to change) first p d ≡ without (range_of change) first p d) is (drops.1 first p d)),
     )
 
 -- ---- the copy of an access
@@ -282,8 +282,8 @@ none_due w c touch x f e s =
     let i : IsFramed w f.plain touch.page x = framed w f.plain touch.page x f.good (ap frame_of r.mapped ∙ r.frame) in
     let same : r.page ≡ i.info = let a = r.mapped in let b = i.at_slot in cc in
     let own : is_uncopied i.entry.back i.entry.own ≡ false =
-        is_copied w f.plain touch.page x i
-        (subst (λ (y : PageInfo). (is_private y.meta.back && shows_file w.memory.cached y.meta.back x) ≡ false) same (r.writes s)) in
+    is_copied w f.plain touch.page x i
+    (subst (λ (y : PageInfo). (is_private y.meta.back && shows_file w.memory.cached y.meta.back x) ≡ false) same (r.writes s)) in
     ap (detached_entry f.plain touch.page) i.at_page
     ∙ ap (λ b. copied f.plain touch.page i.entry b (bytes_of f.plain.file i.entry.back i.entry.own)) own
 
@@ -295,8 +295,8 @@ access_used t first c request copy w touch x f number e i from asks u =
     let k : IsCallOf w c (Try touch) = call_at w c (Try touch) e f.order in
     let asked : IsTouchOf request touch = its_touch w c touch request number k.asked in
     let due : page_copied t request (reply_of touch x w.memory) ≡ copy =
-        copied_so t request touch (w.memory.bytes x touch.offset) copy asked (copy_for t request copy f.plain asks from)
-        (λ none s. subst (λ m. detached m touch.page ≡ None) (subst (λ o. IsFrom t o f.plain) none from) (none_due w c touch x f i s)) in
+    copied_so t request touch (w.memory.bytes x touch.offset) copy asked (copy_for t request copy f.plain asks from)
+    (λ none s. subst (λ m. detached m touch.page ≡ None) (subst (λ o. IsFrom t o f.plain) none from) (none_due w c touch x f i s)) in
     (due, λ p d. one p d ∙ sym (touch_adds t c request touch asked (w.memory.bytes x touch.offset) copy due first p d))
   where
     one : Same (recorded w.slots) (with_user touch.page c (users_left copy first))
