@@ -300,13 +300,11 @@ starts w t c request m reached leads calm s =
 
 -- ---- the end
 
--- what stands in the log of a call that has its reply
-record IsTheReply (t : Plain) (c : ℕ) (request : Request) (copy : Option ℕ) (reply : Reply) (after : Plain) : Type 0 where
-  stands : Stands (with_copy t copy) c request reply after
-
-the_reply : (free : ℕ → Bool) (w : World) (t : Plain) (c : ℕ) (request : Request) (x : World) (reply : Reply) (h : IsServing free w t c request x) (after : Plain)
+-- the reply that a call has in the log is that of the map with its copy
+the_reply : (free : ℕ → Bool) (w : World) (t : Plain) (c : ℕ) (request : Request) (x : World) (reply : Reply) (h : IsServing free w t c request x)
+    (after : Plain)
     → Replays x.calls.requests (nothing_mapped x.made.file) x.calls.log after → IsNoted w.calls.log h.copy (x.calls.number c) c reply x.calls.log
-    → IsTheReply t c request h.copy reply after
+    → Stands (with_copy t h.copy) c request reply after
 the_reply free w t c request x reply h after led noted =
     let last = last_entry x.calls.requests noted.0 (nothing_mapped x.made.file) after (EntryOf.Answer noted.2.0 (x.calls.number c) c reply)
     (subst (λ log. Replays x.calls.requests (nothing_mapped x.made.file) log after) noted.2.1 led) in
@@ -314,10 +312,8 @@ the_reply free w t c request x reply h after led noted =
     from_log x.calls.requests w.calls.log noted.0 (nothing_mapped x.made.file) t last.0 (x.calls.number c) h.copy noted.1 h.first last.1 in
     let number : Some last.2.0 ≡ Some request = sym last.2.1 ∙ h.number in
     let same : last.2.0 ≡ request = cc in
-    record {
-      stands = subst (λ r. Stands (with_copy t h.copy) c r reply after) same
-          (subst (λ m. Stands m c last.2.0 reply after) (is_with_copy t h.copy last.0 from) last.2.2);
-    }
+    subst (λ r. Stands (with_copy t h.copy) c r reply after) same
+    (subst (λ m. Stands m c last.2.0 reply after) (is_with_copy t h.copy last.0 from) last.2.2)
 
 pub returned : (free : ℕ → Bool) (w : World) (t : Plain) (c : ℕ) (request : Request) (x v : World) (o : Outcome) (reply : Reply) → IsServing free w t c request x
     → Step x (Go c) o v → x.calls.phase c ≡ Answer reply → o ≡ Answered reply → v ≡ to c Free (with_event x)
@@ -334,7 +330,7 @@ returned free w t c request x v o reply h s at answered e due most =
     let its = the_reply free w t c request x reply h after.plain led noted in
     let used = subst (Used t (recorded w.slots) (recorded x.slots) (reach_of x.hardware c) c request h.copy) at h.used in
     let sure : IsDueReply free reply = subst (IsSure free x.memory.is_free (reach_of x.hardware c)) at h.sure in
-    let due_now : IsDueReply w.memory.is_free reply = due sure (with_copy t h.copy) after.plain its.stands in
+    let due_now : IsDueReply w.memory.is_free reply = due sure (with_copy t h.copy) after.plain its in
     record {
       reply = reply;
       answered = answered;
@@ -342,7 +338,7 @@ returned free w t c request x v o reply h s at answered e due most =
       reached = reached;
       after = after.plain;
       leads = after.log;
-      stands = subst (λ o. Stands (with_copy t o) c request reply after.plain) (sym used.0) its.stands;
+      stands = subst (λ o. Stands (with_copy t o) c request reply after.plain) (sym used.0) its;
       noted = subst (λ (v : World). IsNoted w.calls.log (page_copied t request reply) (v.calls.number c) c reply v.calls.log) (sym e)
           (subst (λ o. IsNoted w.calls.log o (x.calls.number c) c reply x.calls.log) (sym used.0) noted);
       due = λ step call. due_now c step call;
