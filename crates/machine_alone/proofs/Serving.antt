@@ -87,7 +87,8 @@ pub data Row (first : ℕ → Bool) (w : World) (c : ℕ) (o : Outcome) (v : Wor
       → v ≡ w → Row first w c o v
 
 -- It rests only where it awaits acknowledgements: the core is there and has a call, and no other core holds a slot.
-never : (free : ℕ → Bool) (w : World) (t : Plain) (c : ℕ) (request : Request) (x : World) (o : Outcome) (v : World) → IsServing free w t c request x → Rests (with_event x) (Go c) o
+never : (free : ℕ → Bool) (w : World) (t : Plain) (c : ℕ) (request : Request) (x : World) (o : Outcome) (v : World) → IsServing free w t c request x
+    → Rests (with_event x) (Go c) o
     → v ≡ with_event x → Row free (with_event x) c o v
 never first w t c request x o v h (absent e i) k = absurd (cc (h.inside, e))
 never first w t c request x o v h (busy d r e n i) k = absurd cc
@@ -106,7 +107,8 @@ never first w t c request x o v h (waits d goal cursor by e p ne own i) k =
     let none : holds (x.calls.phase by) cursor ≡ false = ap (λ p. holds p cursor) idle in
     absurd (cc (held, none))
 
-pub row_of : (free : ℕ → Bool) (w : World) (t : Plain) (c : ℕ) (request : Request) (x : World) (o : Outcome) (v : World) → IsServing free w t c request x → Fine v
+pub row_of : (free : ℕ → Bool) (w : World) (t : Plain) (c : ℕ) (request : Request) (x : World) (o : Outcome) (v : World) → IsServing free w t c request x
+    → Fine v
     → Shape (with_event x) (Go c) o v → Row free (with_event x) c o v
 row_of first w t c request x o v h after (rests r e) = never first w t c request x o v h r e
 row_of first w t c request x o v h after (begins d r e s lt p below k) = absurd cc
@@ -285,7 +287,8 @@ starts w t c request m reached leads calm s =
         first = replays_requests w.calls.requests request w.calls.log (nothing_mapped w.made.file) t leads;
         number = subst (λ n. nth x.calls.requests n ≡ Some request) (sym (put_same w.calls.number c (suc (length w.calls.requests)))) (at_new w.calls.requests request);
         others = λ d ne. put_other w.calls.phase c (Check request) d ne ∙ calm d;
-        logged = subst (λ phase. IsLogged w.calls.log w.calls.log (x.calls.number c) c None (status phase)) (sym (put_same w.calls.phase c (Check request))) refl;
+        logged = subst (λ phase. IsLogged w.calls.log w.calls.log (x.calls.number c) c None (status phase))
+            (sym (put_same w.calls.phase c (Check request))) refl;
         sure = subst (IsSure w.memory.is_free w.memory.is_free (reach_of w.hardware c)) (sym (put_same w.calls.phase c (Check request))) refl;
         storable = subst (IsStorable w.memory.cached w.slots.info) (sym (put_same w.calls.phase c (Check request))) tt;
         asks = tt;
@@ -315,7 +318,8 @@ the_reply free w t c request x reply h after led noted =
     subst (λ r. Stands (with_copy t h.copy) c r reply after) same
     (subst (λ m. Stands m c last.2.0 reply after) (is_with_copy t h.copy last.0 from) last.2.2)
 
-pub returned : (free : ℕ → Bool) (w : World) (t : Plain) (c : ℕ) (request : Request) (x v : World) (o : Outcome) (reply : Reply) → IsServing free w t c request x
+pub returned : (free : ℕ → Bool) (w : World) (t : Plain) (c : ℕ) (request : Request) (x v : World) (o : Outcome) (reply : Reply)
+    → IsServing free w t c request x
     → Step x (Go c) o v → x.calls.phase c ≡ Answer reply → o ≡ Answered reply → v ≡ to c Free (with_event x)
     → (IsDueReply free reply → (m u : Plain) → Stands m c request reply u → IsDueReply w.memory.is_free reply)
     → taken_below x.memory.is_free w.made.frames ≤ frames_taken w + frames_for request
@@ -433,7 +437,8 @@ told_step w t c request x v h s =
       | awaits_acks _ _ _ e _ _ ↦ absurd cc
     ]
 
-pub along : (free : ℕ → Bool) (w : World) (t : Plain) (c : ℕ) (request : Request) (m : World) → IsServing free w t c request m → (n : ℕ) (x : World) → StepsTo m c n x
+pub along : (free : ℕ → Bool) (w : World) (t : Plain) (c : ℕ) (request : Request) (m : World) → IsServing free w t c request m → (n : ℕ) (x : World)
+    → StepsTo m c n x
     → IsServing free w t c request x × (n + left_of x c ≤ left_of m c)
 along free w t c request m h zero x s = subst (λ (x : World). IsServing free w t c request x × (0 + left_of x c ≤ left_of m c)) (sym s) (h, omega arith)
 along free w t c request m h (suc n) x s =
@@ -441,7 +446,8 @@ along free w t c request m h (suc n) x s =
     let z = serves_step free w t c request s.0 x k.0 s.2 in
     (z.0, let a = k.1 in let b = z.1 in omega (arith, a, b))
 
-told_along : (w : World) (t : Plain) (c : ℕ) (request : Request) (m : World) → IsServing w.memory.is_free w t c request m → IsTold m.slots m.hardware c (m.calls.phase c)
+told_along : (w : World) (t : Plain) (c : ℕ) (request : Request) (m : World) → IsServing w.memory.is_free w t c request m
+    → IsTold m.slots m.hardware c (m.calls.phase c)
     → (n : ℕ) (x : World) → StepsTo m c n x → IsTold x.slots x.hardware c (x.calls.phase c)
 told_along w t c request m h told zero x s = subst (λ (x : World). IsTold x.slots x.hardware c (x.calls.phase c)) (sym s) told
 told_along w t c request m h told (suc n) x s =

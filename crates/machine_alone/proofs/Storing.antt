@@ -152,7 +152,8 @@ lets_go_storable : (cached : ℕ → ℕ → Option ℕ) (info : ℕ → Option 
 lets_go_storable cached info old held b new (unlocks reply e n) = subst (IsStorable cached info) (sym n) (gone_storable cached info (held_after held b) reply)
 lets_go_storable cached info old held b new (releases touch e h n) = subst (IsStorable cached info) (sym n) tt
 
-taken_storable : (cached : ℕ → ℕ → Option ℕ) (info : ℕ → Option PageInfo) (touch : Touch) (old : Option ℕ) (f : ℕ) → IsStorable cached info (taken_for touch old f)
+taken_storable : (cached : ℕ → ℕ → Option ℕ) (info : ℕ → Option PageInfo) (touch : Touch) (old : Option ℕ) (f : ℕ)
+    → IsStorable cached info (taken_for touch old f)
 taken_storable cached info touch None f = tt
 taken_storable cached info touch (Some g) f = tt
 

@@ -116,7 +116,8 @@ none_taken f (suc n) h =
 abbrev pub TakesOne : (ℕ → Bool) → (ℕ → Bool) → Request → Type 0
 TakesOne first free request = (free ≡ first) ⊎ ((f : ℕ) × HasTaken first free (Some f) × (is_access request ≡ true))
 
-pub taken_most : (first free : ℕ → Bool) (request : Request) (n : ℕ) → TakesOne first free request → taken_below free n ≤ taken_below first n + frames_for request
+pub taken_most : (first free : ℕ → Bool) (request : Request) (n : ℕ) → TakesOne first free request
+    → taken_below free n ≤ taken_below first n + frames_for request
 taken_most first free request n (inl e) = let a : taken_below free n ≡ taken_below first n = ap (λ f. taken_below f n) e in omega (arith, a)
 taken_most first free request n (inr h) =
     let a : taken_below free n ≡ taken_below (put first h.0 false) n = ap (λ f. taken_below f n) h.1.1 in

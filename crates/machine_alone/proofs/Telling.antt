@@ -266,7 +266,11 @@ told_on w c v f others (first_copies touch x counts e b t h) =
 told_on w c v f others (caches touch x counts e k n t h) =
     to_untold c (Install touch) (record w { slots = (after_caching c touch x counts w).slots; memory = (after_caching c touch x counts w).memory }) v h refl
 told_on w c v f others (shares touch own x counts e k n t h) =
-    to_untold c (Install touch) (record w { slots = (after_sharing c touch own x counts w).slots; memory = (after_sharing c touch own x counts w).memory }) v h refl
+    to_untold c (Install touch) (record w {
+      slots = (after_sharing c touch own x counts w).slots;
+      memory =
+          (after_sharing c touch own x counts w).memory;
+    }) v h refl
 told_on w c v f others (posts_copy touch x e h) =
     posted_told w c (CopyAcks touch x) (cores_of (w.slots.info touch.page)) (page_of_touch touch) v f others h (ap awaits_in e) refl (copy_users w.slots touch)
 told_on w c v f others (copies touch x g counts e n a t h) =
