@@ -17,7 +17,8 @@ use Rattle.machine_sound.proofs.Kept.{reached_fine, steps_sound}
 use Rattle.machine_alone.specs.Apart.{AreApart, KeepApart}
 
 -- what a call holds is of its footprint
-footprint_has : (made : Made) (s : Slots) (cached : ℕ → ℕ → Option ℕ) (phase : Phase) (p : ℕ) → IsReady made s cached phase → holds phase p ≡ true → some_has (range_in phase) p ≡ true
+footprint_has : (made : Made) (s : Slots) (cached : ℕ → ℕ → Option ℕ) (phase : Phase) (p : ℕ) → IsReady made s cached phase → holds phase p ≡ true
+    → some_has (range_in phase) p ≡ true
 footprint_has made s cached (Lock goal cursor) p r h =
     let low = has_in (between (goal_range goal).first cursor) p h in
     let high = r.1 in

@@ -11,9 +11,8 @@ use Rattle.vm_base.specs.declared.replies.SegvCode.TheVariants.{AccErr}
 use Rattle.vm_base.specs.declared.requests.Request.{Request}
 use Rattle.vm_base.specs.declared.requests.Request.TheVariants as RequestOf
 use Rattle.vm_base.specs.declared.rights.Access.{Access}
-use Rattle.vm_base.specs.declared.rights.Access.TheVariants.{Load, Store, Fetch}
+use Rattle.vm_base.specs.declared.rights.Access.TheVariants.{Store}
 use Rattle.vm_base.specs.Apply.{byte_reply, bytes_reply, detached, entry_reply, is_uncopied}
-use Rattle.vm_base.specs.Functions.{put}
 use Rattle.vm_base.specs.Info.{frame_of}
 use Rattle.vm_base.specs.Pages.{page_of}
 use Rattle.vm_base.specs.Plain.{Bytes, Entry, File, Plain, mode_of}
@@ -42,7 +41,7 @@ use Rattle.machine_sound.proofs.Stores.{with_own}
 use Rattle.machine_alone.specs.Alone.{users_dropped}
 use Rattle.machine_alone.specs.Copies.{or_else, page_copied, page_due, with_copy}
 use Rattle.machine_alone.specs.Taken.{frames_for, is_access, taken_below}
-use Rattle.machine_alone.specs.Users.{Users, Same, users_after, users_left, with_user, without}
+use Rattle.machine_alone.specs.Users.{Users, Same, users_after, with_user, without}
 use Rattle.machine_alone.proofs.Rows.{HasTaken}
 use Rattle.machine_alone.proofs.Taking.{change_no_access, its_access, one_taken_of}
 use Rattle.machine_alone.proofs.Used.{its_touch, same_request}
@@ -69,11 +68,11 @@ change_answers w t c request change held f from number p =
     let same : call.asked.request ≡ request = same_request w c call.asked.request request call.asked.number number in
     let after : Plain = left_by f.plain (PlanOf.Change change) (range_of change) in
     let stands : Stands f.plain c call.asked.request (reply_to change) after =
-        acted w f.plain c call.asked.request change call.ready.1.0 f.good call.asked.passed call.ready.1.1 in
+    acted w f.plain c call.asked.request change call.ready.1.0 f.good call.asked.passed call.ready.1.1 in
     let drops = change_drops (λ k. mode_of (w.made.file k)) t c call.asked.request change call.asked.passed in
     let none : page_copied t request (reply_to change) ≡ None = subst (λ r. page_copied t r (reply_to change) ≡ None) same drops.0 in
     let access : is_access request ≡ false =
-        subst (λ r. is_access r ≡ false) same (change_no_access (λ n. mode_of (w.made.file n)) c call.asked.request change call.asked.passed) in (
+    subst (λ r. is_access r ≡ false) same (change_no_access (λ n. mode_of (w.made.file n)) c call.asked.request change call.asked.passed) in (
       record {
         reply = reply_to change;
         after = after;
@@ -126,9 +125,11 @@ copy_answers w t c request touch frame f from number p = record {
   after = after;
   stands = subst (λ m. Stands m c request ReplyOf.Done after) (sym (ap (with_copy t) copied ∙ ap (or_else t) due))
       (subst (λ r. Stands u c r ReplyOf.Done after) same
-      (touched_stands w u after c call.asked.request touch ReplyOf.Done tt call.asked.passed
-      (subst (λ a. entry_reply u.file (u.entry touch.page) a touch.offset ≡ Some ReplyOf.Done) (sym store)
-      (copy_reply f.plain touch.page touch.offset z.entry x allowed), refl)));
+      (touched_stands w u after c call.asked.request touch ReplyOf.Done tt call.asked.passed (
+        subst (λ a. entry_reply u.file (u.entry touch.page) a touch.offset ≡ Some ReplyOf.Done) (sym store)
+            (copy_reply f.plain touch.page touch.offset z.entry x allowed),
+        refl,
+      )));
   drops = store_drops t c request touch asked store copied;
 }
   where

@@ -19,7 +19,6 @@ use Rattle.shootdown.specs.declared.message.Took.TheVariants as TookOf
 use Rattle.shootdown.specs.Messages.{asked, message_of, remaining}
 use Rattle.slot_lock.specs.declared.plan.Change.{Change}
 use Rattle.slot_lock.specs.declared.plan.Touch.{Touch}
-use Rattle.slot_lock.specs.Plan.{range_of}
 use Rattle.machine_model.specs.declared.event.Event.{Event}
 use Rattle.machine_model.specs.declared.event.Event.TheVariants.{Call, Go, Frame, Take, Walk, Evict, Flush, Review, Fold, GiveUp}
 use Rattle.machine_model.specs.declared.event.Outcome.{Outcome}
@@ -31,7 +30,7 @@ use Rattle.machine_model.specs.Actions.{Becomes, Idles}
 use Rattle.machine_model.specs.Counting.{ReportsFlush, ReportsReview}
 use Rattle.machine_model.specs.Events.{core_of}
 use Rattle.machine_model.specs.GivingUp.{GivesUp}
-use Rattle.machine_model.specs.Holding.{awaits_in, can_give_up, page_of_touch}
+use Rattle.machine_model.specs.Holding.{awaits_in, can_give_up}
 use Rattle.machine_model.specs.Translating.{TakesMessage, after_eviction, after_walk, can_walk, tables_cleared, tlb_invalidated, with_hardware, with_inbox}
 use Rattle.machine_model.specs.World.{World, Hardware}
 use Rattle.machine_model.specs.Step.{Acts, Goes, is_here, with_event, event_limit, Step}

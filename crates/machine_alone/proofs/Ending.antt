@@ -1,5 +1,5 @@
 -- A call that waits, and beside which no other call runs, is answered once nobody is awaited.
-use Rattle.std.proofs.Common.{◌≡◌, ◌≢◌, ℕ, zero, suc, ◌+◌, ◌≤◌, ◌<◌, ◌^◌, ◌⊎◌, Bool, true, false, cond, inl, inr, refl, sym, ap, subst, arith, Some, None, Option, ◌∙◌}
+use Rattle.std.proofs.Common.{◌≡◌, ◌≢◌, ℕ, zero, suc, ◌+◌, ◌≤◌, ◌<◌, ◌^◌, ◌⊎◌, Bool, true, false, inl, inr, refl, sym, ap, subst, arith, Some, None, Option, ◌∙◌}
 use Rattle.std.specs.Prelude.{if◌then◌else◌}
 use Rattle.std.proofs.Math.Path.{fun_ext}
 use Rattle.vm_base.specs.declared.page.PageRange.{PageRange}
@@ -26,13 +26,13 @@ use Rattle.machine_model.specs.Locks.{held_after}
 use Rattle.machine_model.specs.World.{World, Made}
 use Rattle.machine_model.specs.Step.{with_event, event_limit, Step, StepsTo}
 use Rattle.machine_laws.proofs.Deciding.{change_sound, sound_range}
-use Rattle.machine_laws.proofs.Effects.{Asked, status}
+use Rattle.machine_laws.proofs.Effects.{status}
 use Rattle.machine_laws.proofs.Moves.{IsCallOf, call_at}
 use Rattle.machine_laws.proofs.Shapes.{Moves, locks, tries, acts, finds, lacks, shows, Replies, refuses, no_place, declines, fails, no_frame, LetsGo, unlocks, releases, GoesBy, moves, divides, owns, lets_go, answers, posts, commits, takes, zeroes, first_copies, caches, shares, posts_copy, copies, installs, accesses, faults, comes}
 use Rattle.machine_sound.specs.Log.{Stands}
 use Rattle.machine_sound.specs.Invariant.{Fine}
 use Rattle.machine_sound.proofs.Kept.{reached_fine, reached_step}
-use Rattle.machine_alone.specs.Alone.{IsAnsweredAtLast, IsWaiting, IsServed, IsServedAtLast, IsAwaitingStill, takes_left}
+use Rattle.machine_alone.specs.Alone.{IsAnsweredAtLast, IsWaiting, IsServedAtLast, IsAwaitingStill, takes_left}
 use Rattle.machine_alone.specs.Copies.{page_copied, with_copy}
 use Rattle.machine_alone.specs.Taken.{frames_for, frames_taken, is_access, taken_below}
 use Rattle.machine_alone.specs.Users.{recorded}
@@ -89,7 +89,8 @@ not_replying w c held reply k (declines change errno e h i d) = past_at c w (Dec
 not_replying w c held reply k (fails touch e h x) = past_at c w (Settle touch) e k
 not_replying w c held reply k (no_frame touch old e h i none) = past_at c w (Want touch old) e k
 
-lets_go_past : (free : ℕ → Bool) (w x : World) (c : ℕ) (held : PageRange) (b : ℕ) (new : Phase) (v : World) → IsSureOf free c w → LetsGo (w.calls.phase c) held b new
+lets_go_past : (free : ℕ → Bool) (w x : World) (c : ℕ) (held : PageRange) (b : ℕ) (new : Phase) (v : World) → IsSureOf free c w
+    → LetsGo (w.calls.phase c) held b new
     → x.hardware ≡ w.hardware → v ≡ to c new x → IsPastOf c v
 lets_go_past free w x c held b new v sure (unlocks reply e n) same h =
     past_to c new x v h (subst (IsPast (reach_of x.hardware c)) (sym n) (gone_past (reach_of x.hardware c) (held_after held b) reply))
@@ -118,7 +119,8 @@ past_next free w c v sure k (faults touch e i h) = absurd (let hit = past_at c w
 
 -- ---- its first step
 
-other_phase : (w : World) (c : ℕ) (old : Phase) (range : PageRange) → w.calls.phase c ≡ old → awaits_in (w.calls.phase c) ≡ Some range → awaits_in old ≡ None → ⊥
+other_phase : (w : World) (c : ℕ) (old : Phase) (range : PageRange) → w.calls.phase c ≡ old → awaits_in (w.calls.phase c) ≡ Some range → awaits_in old ≡ None
+    → ⊥
 other_phase w c old range e a none = let z = sym (ap awaits_in e) ∙ a in cc
 
 no_moves : (w : World) (c : ℕ) (new : Phase) (range : PageRange) → awaits_in (w.calls.phase c) ≡ Some range → Moves w c new → ⊥
@@ -129,7 +131,8 @@ no_moves w c new range a (finds touch f e n i) = other_phase w c (Settle touch) 
 no_moves w c new range a (lacks touch old e n i j) = other_phase w c (Settle touch) range e a refl
 no_moves w c new range a (shows touch e n i j) = other_phase w c (Settle touch) range e a refl
 
-no_replies : (w : World) (c : ℕ) (held : Option PageRange) (reply : Reply) (range : PageRange) → awaits_in (w.calls.phase c) ≡ Some range → Replies w c held reply → ⊥
+no_replies : (w : World) (c : ℕ) (held : Option PageRange) (reply : Reply) (range : PageRange) → awaits_in (w.calls.phase c) ≡ Some range
+    → Replies w c held reply → ⊥
 no_replies w c held reply range a (refuses r e h j) = other_phase w c (Check r) range e a refl
 no_replies w c held reply range a (no_place r place e h i j) = other_phase w c (Check r) range e a refl
 no_replies w c held reply range a (declines change errno e h i d) = other_phase w c (Decide change) range e a refl
@@ -307,7 +310,8 @@ due_any free now (ReplyOf.Refused errno) h ne = h
 due_any free now (ReplyOf.Segv code) h ne = h
 due_any free now ReplyOf.Bus h ne = h
 
-answered_at_last : (w : World) (t : Plain) (c : ℕ) (request : Request) → IsWaiting w t c request → (l : IsAtLast w t c request) (x v : World) (o : Outcome) (reply : Reply)
+answered_at_last : (w : World) (t : Plain) (c : ℕ) (request : Request) → IsWaiting w t c request
+    → (l : IsAtLast w t c request) (x v : World) (o : Outcome) (reply : Reply)
     → IsServing l.free w t c request x → Step x (Go c) o v → x.calls.phase c ≡ Answer reply → o ≡ Answered reply → v ≡ to c Free (with_event x)
     → AwaitsNobody w.hardware c → IsAnsweredAtLast w t c request o v
 answered_at_last w t c request k l x v o reply h step at answered e nobody =

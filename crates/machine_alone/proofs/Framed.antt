@@ -1,5 +1,5 @@
 -- A page that some core uses has a frame.
-use Rattle.std.proofs.Common.{◌≡◌, ℕ, true, false, refl, sym, ap, subst, Some, None, Option, List, [], ◌∷◌, ◌∙◌}
+use Rattle.std.proofs.Common.{◌≡◌, ℕ, true, refl, sym, ap, subst, Some, None, Option, List, [], ◌∷◌, ◌∙◌}
 use Rattle.std.specs.Prelude.{is_some}
 use Rattle.vm_base.specs.declared.info.PageInfo.{PageInfo}
 use Rattle.vm_base.specs.declared.rights.Access.{Access}

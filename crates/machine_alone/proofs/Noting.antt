@@ -13,9 +13,9 @@ use Rattle.machine_model.specs.declared.log.Entry.TheVariants as EntryOf
 use Rattle.machine_model.specs.declared.phase.Goal.{Goal}
 use Rattle.machine_model.specs.declared.phase.Goal.TheVariants as To
 use Rattle.machine_model.specs.declared.phase.Phase.{Phase}
-use Rattle.machine_model.specs.declared.phase.Phase.TheVariants.{Check, Lock, Decide, Post, Acks, Unlock, Try, Settle, Want, Fill, CopyPost, CopyAcks, Install, Release}
+use Rattle.machine_model.specs.declared.phase.Phase.TheVariants.{Lock, Post, Acks, Try, Want, Fill, CopyPost, CopyAcks, Install, Release}
 use Rattle.machine_model.specs.Accesses.{taken_for}
-use Rattle.machine_model.specs.Actions.{to, let_go, with_entry, answer_entry, detach_entry}
+use Rattle.machine_model.specs.Actions.{to, let_go, with_entry, answer_entry}
 use Rattle.machine_model.specs.Holding.{goal_range}
 use Rattle.machine_model.specs.Locks.{all_locked, held_after, locked_to}
 use Rattle.machine_model.specs.World.{World}
@@ -41,7 +41,8 @@ IsLoggedOf first call copy c w = IsLogged first w.calls.log call c copy (status 
 -- ---- where the log leads
 
 -- what the last entry did
-pub last_entry : (rs : List Request) (es : List Entry) (t u : Plain) (e : Entry) → Replays rs t (es ++ e ∷ []) u → (m : Plain) × Replays rs t es m × GoesOn rs m e u
+pub last_entry : (rs : List Request) (es : List Entry) (t u : Plain) (e : Entry) → Replays rs t (es ++ e ∷ []) u
+    → (m : Plain) × Replays rs t es m × GoesOn rs m e u
 last_entry rs [] t u e r = (t, refl, subst (GoesOn rs t e) (sym r.2) r.1)
 last_entry rs (x ∷ xs) t u e r = let k = last_entry rs xs r.0 u e r.2 in (k.0, (r.0, r.1, k.1), k.2)
 

@@ -32,7 +32,7 @@ use Rattle.machine_model.specs.declared.phase.Goal.{Goal}
 use Rattle.machine_model.specs.declared.phase.Goal.TheVariants as To
 use Rattle.machine_model.specs.declared.phase.Phase.{Phase}
 use Rattle.machine_model.specs.declared.phase.Phase.TheVariants.{Check, Lock, Decide, Post, Acks, Unlock, Answer, Try, Settle, Want, Fill, CopyPost, CopyAcks, Install, Release}
-use Rattle.machine_model.specs.Accesses.{NoneFree, info_with_core, found_at, taken_for, after_frame, after_install, reply_of, memory_after}
+use Rattle.machine_model.specs.Accesses.{NoneFree, info_with_core, found_at, after_frame, after_install, reply_of, memory_after}
 use Rattle.machine_model.specs.Files.{is_private, prot_installed, prot_shown, shows_some}
 use Rattle.machine_model.specs.Filling.{after_zeros, after_first_copy, after_caching, after_sharing, after_copy_post, after_copy}
 use Rattle.machine_model.specs.Actions.{to, let_go, after_reply, with_entry, detach_entry}

@@ -1,11 +1,10 @@
 -- A call that no other call runs beside serves its request until it hands out the reply.
-use Rattle.std.proofs.Common.{◌≡◌, ◌≢◌, ℕ, zero, suc, ◌≤◌, ◌<◌, ◌+◌, ◌==◌, ◌^◌, Bool, true, false, cond, refl, sym, subst, ap, arith, inl, inr, Some, None, Option, ◌∙◌, List, [], ◌∷◌, ◌++◌, length}
+use Rattle.std.proofs.Common.{◌≡◌, ◌≢◌, ℕ, zero, suc, ◌≤◌, ◌<◌, ◌+◌, ◌==◌, ◌^◌, Bool, true, false, cond, refl, sym, subst, ap, arith, inl, inr, Some, None, Option, ◌∙◌, List, length}
 use Rattle.std.specs.Prelude.{nat_lt, if◌then◌else◌}
 use Rattle.std.proofs.lemmas.Bool.Decides.{nat_tests}
 use Rattle.vm_base.specs.declared.page.PageRange.{PageRange}
 use Rattle.vm_base.specs.declared.replies.Reply.{Reply}
 use Rattle.vm_base.specs.declared.requests.Request.{Request}
-use Rattle.vm_base.specs.Functions.{put}
 use Rattle.vm_base.specs.Plain.{Plain, nothing_mapped}
 use Rattle.vm_base.proofs.Functions.{eq_true, eq_false, put_all, put_same, put_other}
 use Rattle.machine_model.specs.declared.event.Blocker.TheVariants as WaitsFor
@@ -24,18 +23,18 @@ use Rattle.machine_model.specs.Actions.{to}
 use Rattle.machine_model.specs.Changes.{Awaits}
 use Rattle.machine_model.specs.Step.{Acts, Goes, after_call, with_event, event_limit, Step, StepsTo}
 use Rattle.machine_laws.specs.Brackets.{nth}
-use Rattle.machine_laws.proofs.Effects.{Status, Closed, Asked, Told, status, SameCalls, Effect, keeps, tells, detaches, opens, closes, effect_of}
+use Rattle.machine_laws.proofs.Effects.{Closed, Asked, Told, status, SameCalls, Effect, keeps, tells, detaches, opens, closes, effect_of}
 use Rattle.machine_laws.proofs.Numbered.{at_new}
 use Rattle.machine_laws.proofs.Shapes.{Rests, absent, busy, full, free as callless, cannot, waits, awaits, GoesBy, Works, clears, invalidates, walks, evicts, flushes, reviews, frees, IsGoing, going, picking, Shape, rests, begins, ends, goes, gives_up, works, joins, Comes, stopped, acts as happens, comes}
 use Rattle.machine_sound.specs.Log.{Replays, Stands}
 use Rattle.machine_sound.specs.Invariant.{Fine}
-use Rattle.machine_sound.specs.Sound.{IsDue, IsReached}
+use Rattle.machine_sound.specs.Sound.{IsReached}
 use Rattle.machine_sound.proofs.Logs.{replays_requests}
 use Rattle.machine_sound.proofs.OneMap.{log_leads_to_one}
 use Rattle.machine_sound.proofs.Kept.{reached_fine, reached_step}
-use Rattle.machine_alone.specs.Alone.{IsCalm, LeadsTo, IsNoted, IsServed, IsServedAlone, IsAwaiting, IsWaiting, KeepsOthers}
+use Rattle.machine_alone.specs.Alone.{IsCalm, LeadsTo, IsNoted, IsServed, IsServedAlone, IsAwaiting, KeepsOthers}
 use Rattle.machine_alone.specs.Copies.{page_copied, with_copy}
-use Rattle.machine_alone.specs.Users.{Users, Same, recorded, users_after}
+use Rattle.machine_alone.specs.Users.{Users, Same, recorded}
 use Rattle.machine_alone.specs.Taken.{frames_for, frames_taken, taken_below}
 use Rattle.machine_alone.proofs.Awaiting.{WillAnswer, change_answers, copy_answers, change_frames, copy_frames}
 use Rattle.machine_alone.proofs.Framed.{reached_framed}
@@ -88,7 +87,8 @@ pub data Row (first : ℕ → Bool) (w : World) (c : ℕ) (o : Outcome) (v : Wor
       → v ≡ w → Row first w c o v
 
 -- It rests only where it awaits acknowledgements: the core is there and has a call, and no other core holds a slot.
-never : (free : ℕ → Bool) (w : World) (t : Plain) (c : ℕ) (request : Request) (x : World) (o : Outcome) (v : World) → IsServing free w t c request x → Rests (with_event x) (Go c) o
+never : (free : ℕ → Bool) (w : World) (t : Plain) (c : ℕ) (request : Request) (x : World) (o : Outcome) (v : World) → IsServing free w t c request x
+    → Rests (with_event x) (Go c) o
     → v ≡ with_event x → Row free (with_event x) c o v
 never first w t c request x o v h (absent e i) k = absurd (cc (h.inside, e))
 never first w t c request x o v h (busy d r e n i) k = absurd cc
@@ -107,7 +107,8 @@ never first w t c request x o v h (waits d goal cursor by e p ne own i) k =
     let none : holds (x.calls.phase by) cursor ≡ false = ap (λ p. holds p cursor) idle in
     absurd (cc (held, none))
 
-pub row_of : (free : ℕ → Bool) (w : World) (t : Plain) (c : ℕ) (request : Request) (x : World) (o : Outcome) (v : World) → IsServing free w t c request x → Fine v
+pub row_of : (free : ℕ → Bool) (w : World) (t : Plain) (c : ℕ) (request : Request) (x : World) (o : Outcome) (v : World) → IsServing free w t c request x
+    → Fine v
     → Shape (with_event x) (Go c) o v → Row free (with_event x) c o v
 row_of first w t c request x o v h after (rests r e) = never first w t c request x o v h r e
 row_of first w t c request x o v h after (begins d r e s lt p below k) = absurd cc
@@ -286,7 +287,8 @@ starts w t c request m reached leads calm s =
         first = replays_requests w.calls.requests request w.calls.log (nothing_mapped w.made.file) t leads;
         number = subst (λ n. nth x.calls.requests n ≡ Some request) (sym (put_same w.calls.number c (suc (length w.calls.requests)))) (at_new w.calls.requests request);
         others = λ d ne. put_other w.calls.phase c (Check request) d ne ∙ calm d;
-        logged = subst (λ phase. IsLogged w.calls.log w.calls.log (x.calls.number c) c None (status phase)) (sym (put_same w.calls.phase c (Check request))) refl;
+        logged = subst (λ phase. IsLogged w.calls.log w.calls.log (x.calls.number c) c None (status phase))
+            (sym (put_same w.calls.phase c (Check request))) refl;
         sure = subst (IsSure w.memory.is_free w.memory.is_free (reach_of w.hardware c)) (sym (put_same w.calls.phase c (Check request))) refl;
         storable = subst (IsStorable w.memory.cached w.slots.info) (sym (put_same w.calls.phase c (Check request))) tt;
         asks = tt;
@@ -301,26 +303,23 @@ starts w t c request m reached leads calm s =
 
 -- ---- the end
 
--- what stands in the log of a call that has its reply
-record IsTheReply (t : Plain) (c : ℕ) (request : Request) (copy : Option ℕ) (reply : Reply) (after : Plain) : Type 0 where
-  stands : Stands (with_copy t copy) c request reply after
-
-the_reply : (free : ℕ → Bool) (w : World) (t : Plain) (c : ℕ) (request : Request) (x : World) (reply : Reply) (h : IsServing free w t c request x) (after : Plain)
+-- the reply that a call has in the log is that of the map with its copy
+the_reply : (free : ℕ → Bool) (w : World) (t : Plain) (c : ℕ) (request : Request) (x : World) (reply : Reply) (h : IsServing free w t c request x)
+    (after : Plain)
     → Replays x.calls.requests (nothing_mapped x.made.file) x.calls.log after → IsNoted w.calls.log h.copy (x.calls.number c) c reply x.calls.log
-    → IsTheReply t c request h.copy reply after
+    → Stands (with_copy t h.copy) c request reply after
 the_reply free w t c request x reply h after led noted =
     let last = last_entry x.calls.requests noted.0 (nothing_mapped x.made.file) after (EntryOf.Answer noted.2.0 (x.calls.number c) c reply)
     (subst (λ log. Replays x.calls.requests (nothing_mapped x.made.file) log after) noted.2.1 led) in
     let from : IsFrom t h.copy last.0 =
-        from_log x.calls.requests w.calls.log noted.0 (nothing_mapped x.made.file) t last.0 (x.calls.number c) h.copy noted.1 h.first last.1 in
+    from_log x.calls.requests w.calls.log noted.0 (nothing_mapped x.made.file) t last.0 (x.calls.number c) h.copy noted.1 h.first last.1 in
     let number : Some last.2.0 ≡ Some request = sym last.2.1 ∙ h.number in
     let same : last.2.0 ≡ request = cc in
-    record {
-      stands = subst (λ r. Stands (with_copy t h.copy) c r reply after) same
-          (subst (λ m. Stands m c last.2.0 reply after) (is_with_copy t h.copy last.0 from) last.2.2);
-    }
+    subst (λ r. Stands (with_copy t h.copy) c r reply after) same
+    (subst (λ m. Stands m c last.2.0 reply after) (is_with_copy t h.copy last.0 from) last.2.2)
 
-pub returned : (free : ℕ → Bool) (w : World) (t : Plain) (c : ℕ) (request : Request) (x v : World) (o : Outcome) (reply : Reply) → IsServing free w t c request x
+pub returned : (free : ℕ → Bool) (w : World) (t : Plain) (c : ℕ) (request : Request) (x v : World) (o : Outcome) (reply : Reply)
+    → IsServing free w t c request x
     → Step x (Go c) o v → x.calls.phase c ≡ Answer reply → o ≡ Answered reply → v ≡ to c Free (with_event x)
     → (IsDueReply free reply → (m u : Plain) → Stands m c request reply u → IsDueReply w.memory.is_free reply)
     → taken_below x.memory.is_free w.made.frames ≤ frames_taken w + frames_for request
@@ -329,13 +328,13 @@ returned free w t c request x v o reply h s at answered e due most =
     let reached : IsReached v = reached_step x v (Go c) o h.reached s in
     let after : Fine v = reached_fine v reached in
     let noted : IsNoted w.calls.log h.copy (x.calls.number c) c reply x.calls.log =
-        subst (λ phase. IsLogged w.calls.log x.calls.log (x.calls.number c) c h.copy (status phase)) at h.logged in
+    subst (λ phase. IsLogged w.calls.log x.calls.log (x.calls.number c) c h.copy (status phase)) at h.logged in
     let led : Replays x.calls.requests (nothing_mapped x.made.file) x.calls.log after.plain =
-        subst (λ (v : World). Replays v.calls.requests (nothing_mapped v.made.file) v.calls.log after.plain) e after.log in
+    subst (λ (v : World). Replays v.calls.requests (nothing_mapped v.made.file) v.calls.log after.plain) e after.log in
     let its = the_reply free w t c request x reply h after.plain led noted in
     let used = subst (Used t (recorded w.slots) (recorded x.slots) (reach_of x.hardware c) c request h.copy) at h.used in
     let sure : IsDueReply free reply = subst (IsSure free x.memory.is_free (reach_of x.hardware c)) at h.sure in
-    let due_now : IsDueReply w.memory.is_free reply = due sure (with_copy t h.copy) after.plain its.stands in
+    let due_now : IsDueReply w.memory.is_free reply = due sure (with_copy t h.copy) after.plain its in
     record {
       reply = reply;
       answered = answered;
@@ -343,7 +342,7 @@ returned free w t c request x v o reply h s at answered e due most =
       reached = reached;
       after = after.plain;
       leads = after.log;
-      stands = subst (λ o. Stands (with_copy t o) c request reply after.plain) (sym used.0) its.stands;
+      stands = subst (λ o. Stands (with_copy t o) c request reply after.plain) (sym used.0) its;
       noted = subst (λ (v : World). IsNoted w.calls.log (page_copied t request reply) (v.calls.number c) c reply v.calls.log) (sym e)
           (subst (λ o. IsNoted w.calls.log o (x.calls.number c) c reply x.calls.log) (sym used.0) noted);
       due = λ step call. due_now c step call;
@@ -369,7 +368,7 @@ waiting_leads : (free : ℕ → Bool) (w : World) (t : Plain) (c : ℕ) (request
     → status (x.calls.phase c) ≡ Asked → h.copy ≡ None → LeadsTo x t
 waiting_leads free w t c request x h a none =
     let same : x.calls.log ≡ w.calls.log = subst (λ o. IsLogged w.calls.log x.calls.log (x.calls.number c) c o Asked) none
-        (subst (IsLogged w.calls.log x.calls.log (x.calls.number c) c h.copy) a h.logged) in
+    (subst (IsLogged w.calls.log x.calls.log (x.calls.number c) c h.copy) a h.logged) in
     subst (λ log. Replays x.calls.requests (nothing_mapped x.made.file) log t) (sym same) h.first
 
 -- what it will be answered, and the frame that it has taken
@@ -438,7 +437,8 @@ told_step w t c request x v h s =
       | awaits_acks _ _ _ e _ _ ↦ absurd cc
     ]
 
-pub along : (free : ℕ → Bool) (w : World) (t : Plain) (c : ℕ) (request : Request) (m : World) → IsServing free w t c request m → (n : ℕ) (x : World) → StepsTo m c n x
+pub along : (free : ℕ → Bool) (w : World) (t : Plain) (c : ℕ) (request : Request) (m : World) → IsServing free w t c request m → (n : ℕ) (x : World)
+    → StepsTo m c n x
     → IsServing free w t c request x × (n + left_of x c ≤ left_of m c)
 along free w t c request m h zero x s = subst (λ (x : World). IsServing free w t c request x × (0 + left_of x c ≤ left_of m c)) (sym s) (h, omega arith)
 along free w t c request m h (suc n) x s =
@@ -446,7 +446,8 @@ along free w t c request m h (suc n) x s =
     let z = serves_step free w t c request s.0 x k.0 s.2 in
     (z.0, let a = k.1 in let b = z.1 in omega (arith, a, b))
 
-told_along : (w : World) (t : Plain) (c : ℕ) (request : Request) (m : World) → IsServing w.memory.is_free w t c request m → IsTold m.slots m.hardware c (m.calls.phase c)
+told_along : (w : World) (t : Plain) (c : ℕ) (request : Request) (m : World) → IsServing w.memory.is_free w t c request m
+    → IsTold m.slots m.hardware c (m.calls.phase c)
     → (n : ℕ) (x : World) → StepsTo m c n x → IsTold x.slots x.hardware c (x.calls.phase c)
 told_along w t c request m h told zero x s = subst (λ (x : World). IsTold x.slots x.hardware c (x.calls.phase c)) (sym s) told
 told_along w t c request m h told (suc n) x s =

@@ -1,5 +1,5 @@
 -- Before its entry is installed, a page that is to be stored to doesn't show its file's page as a private one: a copy was made, if one was due.
-use Rattle.std.proofs.Common.{◌≡◌, ◌≢◌, ℕ, Bool, true, false, cond, refl, sym, ap, subst, Some, None, Option, ◌∙◌, ◌&&◌, ◌||◌}
+use Rattle.std.proofs.Common.{◌≡◌, ◌≢◌, ℕ, Bool, true, false, cond, refl, sym, ap, subst, Some, None, Option, ◌∙◌, ◌&&◌}
 use Rattle.std.specs.Prelude.{nat_le, if◌then◌else◌}
 use Rattle.vm_base.specs.declared.info.Back.{Back}
 use Rattle.vm_base.specs.declared.info.Back.TheVariants.{Anon, Shared, Private}
@@ -12,7 +12,6 @@ use Rattle.vm_base.specs.Info.{frame_of, info_with_frame}
 use Rattle.vm_base.specs.Rights.{is_allowed}
 use Rattle.vm_base.proofs.Functions.{put_same}
 use Rattle.slot_lock.specs.declared.plan.Touch.{Touch}
-use Rattle.slot_lock.specs.Slots.{Slots}
 use Rattle.vm_calls.specs.declared.fault.Settled.{Settled}
 use Rattle.vm_calls.specs.declared.fault.Settled.TheVariants.{MapErr, AccErr, Bus, Has, Copies, Cached, Wants}
 use Rattle.vm_calls.specs.Settling.{is_private_store, settled, source}
@@ -20,7 +19,7 @@ use Rattle.machine_model.specs.declared.event.Outcome.TheVariants.{Stepped}
 use Rattle.machine_model.specs.declared.phase.Goal.{Goal}
 use Rattle.machine_model.specs.declared.phase.Goal.TheVariants as To
 use Rattle.machine_model.specs.declared.phase.Phase.{Phase}
-use Rattle.machine_model.specs.declared.phase.Phase.TheVariants.{Lock, Unlock, Settle, Want, Fill, CopyPost, CopyAcks, Install}
+use Rattle.machine_model.specs.declared.phase.Phase.TheVariants.{Lock, Unlock, CopyAcks, Install}
 use Rattle.machine_model.specs.Accesses.{after_finding, found_at, is_past_end, taken_for}
 use Rattle.machine_model.specs.Actions.{to, let_go}
 use Rattle.machine_model.specs.Files.{back_of, file_frame, shows_some}
@@ -100,7 +99,7 @@ fresh_stores : (cached : ℕ → ℕ → Option ℕ) (o : Option PageInfo) (acce
 fresh_stores cached None access f none = (refl, refl)
 fresh_stores cached (Some info) access f none =
     let e : (is_private_store info.meta.back access && shows_some cached info.meta.back (Some f)) ≡ false =
-        ap (λ b. is_private_store info.meta.back access && b) (unshown cached info.meta.back f none) ∙ and_false (is_private_store info.meta.back access) in
+    ap (λ b. is_private_store info.meta.back access && b) (unshown cached info.meta.back f none) ∙ and_false (is_private_store info.meta.back access) in
     (e, e)
 
 anon_stores : (o : Option PageInfo) (access : Access) → is_anonymous (back_of o) ≡ true → is_private_store (back_of o) access ≡ false
@@ -153,7 +152,8 @@ lets_go_storable : (cached : ℕ → ℕ → Option ℕ) (info : ℕ → Option 
 lets_go_storable cached info old held b new (unlocks reply e n) = subst (IsStorable cached info) (sym n) (gone_storable cached info (held_after held b) reply)
 lets_go_storable cached info old held b new (releases touch e h n) = subst (IsStorable cached info) (sym n) tt
 
-taken_storable : (cached : ℕ → ℕ → Option ℕ) (info : ℕ → Option PageInfo) (touch : Touch) (old : Option ℕ) (f : ℕ) → IsStorable cached info (taken_for touch old f)
+taken_storable : (cached : ℕ → ℕ → Option ℕ) (info : ℕ → Option PageInfo) (touch : Touch) (old : Option ℕ) (f : ℕ)
+    → IsStorable cached info (taken_for touch old f)
 taken_storable cached info touch None f = tt
 taken_storable cached info touch (Some g) f = tt
 

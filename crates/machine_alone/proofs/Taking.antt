@@ -7,14 +7,13 @@ use Rattle.vm_base.specs.declared.requests.Request.{Request}
 use Rattle.vm_base.specs.declared.requests.Request.TheVariants.{Mmap, Munmap, Mprotect, Load, Store, Fetch}
 use Rattle.vm_base.specs.declared.rights.Mode.{Mode}
 use Rattle.vm_base.specs.Functions.{put}
-use Rattle.vm_base.specs.Plain.{Plain, mode_of}
+use Rattle.vm_base.specs.Plain.{Plain}
 use Rattle.vm_base.specs.declared.replies.Reply.TheVariants as ReplyOf
 use Rattle.vm_base.specs.declared.rights.Access.TheVariants as By
 use Rattle.slot_lock.specs.declared.plan.Change.{Change}
 use Rattle.machine_sound.specs.Log.{Stands}
 use Rattle.vm_base.specs.Refusals.{refusal}
 use Rattle.vm_base.proofs.Functions.{eq_true, eq_false, put_all, put_other}
-use Rattle.slot_lock.specs.declared.plan.Plan.{Plan}
 use Rattle.slot_lock.specs.declared.plan.Plan.TheVariants as PlanOf
 use Rattle.slot_lock.specs.declared.plan.Touch.{Touch}
 use Rattle.vm_calls.specs.Checks.{checked, plan_of}
@@ -117,7 +116,8 @@ none_taken f (suc n) h =
 abbrev pub TakesOne : (ℕ → Bool) → (ℕ → Bool) → Request → Type 0
 TakesOne first free request = (free ≡ first) ⊎ ((f : ℕ) × HasTaken first free (Some f) × (is_access request ≡ true))
 
-pub taken_most : (first free : ℕ → Bool) (request : Request) (n : ℕ) → TakesOne first free request → taken_below free n ≤ taken_below first n + frames_for request
+pub taken_most : (first free : ℕ → Bool) (request : Request) (n : ℕ) → TakesOne first free request
+    → taken_below free n ≤ taken_below first n + frames_for request
 taken_most first free request n (inl e) = let a : taken_below free n ≡ taken_below first n = ap (λ f. taken_below f n) e in omega (arith, a)
 taken_most first free request n (inr h) =
     let a : taken_below free n ≡ taken_below (put first h.0 false) n = ap (λ f. taken_below f n) h.1.1 in

@@ -29,7 +29,7 @@ use Rattle.machine_model.specs.declared.phase.Goal.{Goal}
 use Rattle.machine_model.specs.declared.phase.Goal.TheVariants as To
 use Rattle.machine_model.specs.Accesses.{taken_for, after_frame, after_install, reply_of, memory_after}
 use Rattle.machine_model.specs.Actions.{to, let_go, after_reply, with_entry, detach_entry}
-use Rattle.machine_model.specs.Filling.{cores_of, after_zeros, after_first_copy, after_caching, after_sharing, after_copy_post, after_copy}
+use Rattle.machine_model.specs.Filling.{cores_of, after_zeros, after_first_copy, after_caching, after_sharing, after_copy}
 use Rattle.machine_model.specs.Changes.{slots_after, reply_to}
 use Rattle.machine_model.specs.Counting.{with_counts}
 use Rattle.machine_model.specs.Holding.{awaits_in, goal_range, page_of_touch}
@@ -135,9 +135,9 @@ copy_users : (s : Slots) (touch : Touch) (core : ℕ) → (members (cores_of (s.
 copy_users s touch core = (
   λ m. (touch.page, page_is touch, here (s.info touch.page) m),
   λ u.
-    let k = has_in (page_of_touch touch) u.0 u.1 in
-    let same : u.0 ≡ touch.page = let a = k.0 in let b = k.1 in omega (arith, a, b) in
-    there (s.info touch.page) (subst (λ p. is_recorded (s.info p) core ≡ true) same u.2),
+      let k = has_in (page_of_touch touch) u.0 u.1 in
+      let same : u.0 ≡ touch.page = let a = k.0 in let b = k.1 in omega (arith, a, b) in
+      there (s.info touch.page) (subst (λ p. is_recorded (s.info p) core ≡ true) same u.2),
 )
   where
     here : (o : Option PageInfo) → members (cores_of o) core ≡ true → is_recorded o core ≡ true
@@ -266,7 +266,11 @@ told_on w c v f others (first_copies touch x counts e b t h) =
 told_on w c v f others (caches touch x counts e k n t h) =
     to_untold c (Install touch) (record w { slots = (after_caching c touch x counts w).slots; memory = (after_caching c touch x counts w).memory }) v h refl
 told_on w c v f others (shares touch own x counts e k n t h) =
-    to_untold c (Install touch) (record w { slots = (after_sharing c touch own x counts w).slots; memory = (after_sharing c touch own x counts w).memory }) v h refl
+    to_untold c (Install touch) (record w {
+      slots = (after_sharing c touch own x counts w).slots;
+      memory =
+          (after_sharing c touch own x counts w).memory;
+    }) v h refl
 told_on w c v f others (posts_copy touch x e h) =
     posted_told w c (CopyAcks touch x) (cores_of (w.slots.info touch.page)) (page_of_touch touch) v f others h (ap awaits_in e) refl (copy_users w.slots touch)
 told_on w c v f others (copies touch x g counts e n a t h) =

@@ -10,7 +10,7 @@ use Rattle.vm_base.specs.declared.rights.Access.TheVariants.{Store}
 use Rattle.vm_base.specs.Apply.{copied, detached, detached_entry, is_uncopied}
 use Rattle.vm_base.specs.Functions.{has, put}
 use Rattle.vm_base.specs.Info.{frame_of, info_with_frame, is_recorded}
-use Rattle.vm_base.specs.Plain.{Entry, File, Plain, bytes_of, mode_of}
+use Rattle.vm_base.specs.Plain.{File, Plain, bytes_of, mode_of}
 use Rattle.vm_base.proofs.Functions.{put_all, put_both, put_same}
 use Rattle.mmu.specs.declared.entry.Translation.{Translation}
 use Rattle.mmu.specs.Tables.{translated}
@@ -115,7 +115,8 @@ as_left copy now first s = subst (λ o. Same now (users_left o first)) (sym s.0)
 
 -- ---- moves
 
-moves_used : (t : Plain) (first : Users) (c : ℕ) (request : Request) (copy : Option ℕ) (w : World) (new : Phase) → IsUsed t first c request copy w → Moves w c new
+moves_used : (t : Plain) (first : Users) (c : ℕ) (request : Request) (copy : Option ℕ) (w : World) (new : Phase) → IsUsed t first c request copy w
+    → Moves w c new
     → Used t first (recorded w.slots) (reach_of w.hardware c) c request copy new
 moves_used t first c request copy w new u (locks r change e n k) =
     subst (Used t first (recorded w.slots) (reach_of w.hardware c) c request copy) (sym n) (used_at t first c request copy w (Check r) e u)
@@ -145,7 +146,8 @@ taken_used : (t : Plain) (first now : Users) (reach : Touch → Option ℕ) (c :
 taken_used t first now reach c request copy touch None f h = h
 taken_used t first now reach c request copy touch (Some g) f h = h
 
-lets_go_used : (free : ℕ → Bool) (m : Plain) (first : Users) (c : ℕ) (request : Request) (copy : Option ℕ) (w : World) (t : Slots) (held : PageRange) (b : ℕ) (new : Phase)
+lets_go_used : (free : ℕ → Bool) (m : Plain) (first : Users) (c : ℕ) (request : Request) (copy : Option ℕ) (w : World) (t : Slots) (held : PageRange) (b : ℕ)
+    (new : Phase)
     → Same (recorded t) (recorded w.slots) → IsSureOf free c w → IsUsed m first c request copy w → LetsGo (w.calls.phase c) held b new
     → Used m first (recorded t) (reach_of w.hardware c) c request copy new
 lets_go_used free m first c request copy w t held b new same sure u (unlocks reply e n) =
@@ -167,7 +169,8 @@ fault_keeps t c request (Copies f) reply h = absurd h
 fault_keeps t c request (Cached f) reply h = absurd h
 fault_keeps t c request Wants reply h = absurd h
 
-pub same_request : (w : World) (c : ℕ) (r request : Request) → nth w.calls.requests (w.calls.number c) ≡ Some r → nth w.calls.requests (w.calls.number c) ≡ Some request
+pub same_request : (w : World) (c : ℕ) (r request : Request) → nth w.calls.requests (w.calls.number c) ≡ Some r
+    → nth w.calls.requests (w.calls.number c) ≡ Some request
     → r ≡ request
 same_request w c r request e k = cc
 
@@ -201,8 +204,8 @@ change_used t first c request copy w change held f number e u =
     let z = used_at t first c request copy w (Acks change held) e u in (
       subst (λ r. page_copied t r (reply_to change) ≡ None) is drops.0 ∙ sym z.0,
       λ p d.
-      changed_drops w.slots change p d ∙ ap (λ b. cond (has (range_of change) p) false b) (z.1 p d)
-      ∙ sym (subst (λ r. users_after t c r (reply_to change) first p d ≡ without (range_of change) first p d) is (drops.1 first p d)),
+          changed_drops w.slots change p d ∙ ap (λ b. cond (has (range_of change) p) false b) (z.1 p d)
+          ∙ sym (subst (λ r. users_after t c r (reply_to change) first p d ≡ without (range_of change) first p d) is (drops.1 first p d)),
     )
 
 -- ---- the copy of an access
@@ -264,7 +267,8 @@ install_used t first c request copy w touch f e u =
     ∙ user_same (recorded w.slots) (users_left copy first) touch.page c (used_at t first c request copy w (Install touch) e u) p d
 
 -- a core whose translation leads to a frame is recorded on the page
-reaches_recorded : (shown : ℕ → ℕ → Option ℕ) (info : ℕ → Option PageInfo) (phase : ℕ → Phase) (h : Hardware) (c : ℕ) (touch : Touch) (f : ℕ) → IsCoherent shown info phase h
+reaches_recorded : (shown : ℕ → ℕ → Option ℕ) (info : ℕ → Option PageInfo) (phase : ℕ → Phase) (h : Hardware) (c : ℕ) (touch : Touch) (f : ℕ)
+    → IsCoherent shown info phase h
     → frame_reached (translated_by h c touch) ≡ Some f → is_recorded (info touch.page) c ≡ true
 reaches_recorded shown info phase h c touch f k e = go (tlb_at (h.tlb c) touch.page) (h.table c touch.page) refl refl e
   where
@@ -282,8 +286,8 @@ none_due w c touch x f e s =
     let i : IsFramed w f.plain touch.page x = framed w f.plain touch.page x f.good (ap frame_of r.mapped ∙ r.frame) in
     let same : r.page ≡ i.info = let a = r.mapped in let b = i.at_slot in cc in
     let own : is_uncopied i.entry.back i.entry.own ≡ false =
-        is_copied w f.plain touch.page x i
-        (subst (λ (y : PageInfo). (is_private y.meta.back && shows_file w.memory.cached y.meta.back x) ≡ false) same (r.writes s)) in
+    is_copied w f.plain touch.page x i
+    (subst (λ (y : PageInfo). (is_private y.meta.back && shows_file w.memory.cached y.meta.back x) ≡ false) same (r.writes s)) in
     ap (detached_entry f.plain touch.page) i.at_page
     ∙ ap (λ b. copied f.plain touch.page i.entry b (bytes_of f.plain.file i.entry.back i.entry.own)) own
 
@@ -295,8 +299,8 @@ access_used t first c request copy w touch x f number e i from asks u =
     let k : IsCallOf w c (Try touch) = call_at w c (Try touch) e f.order in
     let asked : IsTouchOf request touch = its_touch w c touch request number k.asked in
     let due : page_copied t request (reply_of touch x w.memory) ≡ copy =
-        copied_so t request touch (w.memory.bytes x touch.offset) copy asked (copy_for t request copy f.plain asks from)
-        (λ none s. subst (λ m. detached m touch.page ≡ None) (subst (λ o. IsFrom t o f.plain) none from) (none_due w c touch x f i s)) in
+    copied_so t request touch (w.memory.bytes x touch.offset) copy asked (copy_for t request copy f.plain asks from)
+    (λ none s. subst (λ m. detached m touch.page ≡ None) (subst (λ o. IsFrom t o f.plain) none from) (none_due w c touch x f i s)) in
     (due, λ p d. one p d ∙ sym (touch_adds t c request touch asked (w.memory.bytes x touch.offset) copy due first p d))
   where
     one : Same (recorded w.slots) (with_user touch.page c (users_left copy first))
@@ -357,7 +361,8 @@ used_on free m first c request copy w v f framed number sure from asks u (lets_g
     used_to m first c request copy new (record w { slots = t }) v h
     (lets_go_used free m first c request copy w t held b new (λ p d. ap (λ (s : Slots). is_recorded (s.info p) d) k.now) sure u l)
 used_on free m first c request copy w v f framed number sure from asks u (answers held reply r h) = replied m first c request copy held reply w v h
-    (kept m first (recorded w.slots) c request copy reply (unchanged m first c request copy w held reply u r) (replies_keep m c request w held reply f number r))
+    (kept m first (recorded w.slots) c request copy reply (unchanged m first c request copy w held reply u r)
+    (replies_keep m c request w held reply f number r))
 used_on free m first c request copy w v f framed number sure from asks u (posts change shoot e h) =
     used_to m first c request copy (Acks change (range_of change)) (record w { hardware = (after_post c change shoot w).hardware }) v h
     (used_at m first c request copy w (Post change shoot) e u)
@@ -368,24 +373,38 @@ used_on free m first c request copy w v f framed number sure from asks u (takes 
     used_to m first c request copy (taken_for touch old x) (record w { memory = (after_frame c touch old x w).memory }) v h
     (taken_used m first (recorded w.slots) (reach_of w.hardware c) c request copy touch old x (used_at m first c request copy w (Want touch old) e u))
 used_on free m first c request copy w v f framed number sure from asks u (zeroes touch x counts e b t h) =
-    used_to m first c request copy (Install touch) (record w { slots = (after_zeros c touch x counts w).slots; memory = (after_zeros c touch x counts w).memory }) v h
+    used_to m first c request copy (Install touch) (record w {
+      slots = (after_zeros c touch x counts w).slots;
+      memory =
+          (after_zeros c touch x counts w).memory;
+    }) v h
     (λ p d. filled_same w.slots touch.page x p d ∙ as_left copy (recorded w.slots) first (used_at m first c request copy w (Fill touch (Some x)) e u) p d)
 used_on free m first c request copy w v f framed number sure from asks u (first_copies touch x counts e b t h) =
     let made : World = after_first_copy c touch x counts w in
-    used_to m first c request (Some touch.page) (Install touch) (with_entry (detach_entry w c touch.page) (record w { slots = made.slots; memory = made.memory })) v h
+    used_to m first c request (Some touch.page) (Install touch) (with_entry (detach_entry w c touch.page)
+    (record w { slots = made.slots; memory = made.memory })) v h
     (λ p d. filled_same w.slots touch.page x p d ∙ first_used m first c request copy w touch x f framed e u p d)
 used_on free m first c request copy w v f framed number sure from asks u (caches touch x counts e k n t h) =
-    used_to m first c request copy (Install touch) (record w { slots = (after_caching c touch x counts w).slots; memory = (after_caching c touch x counts w).memory }) v h
+    used_to m first c request copy (Install touch) (record w {
+      slots = (after_caching c touch x counts w).slots;
+      memory =
+          (after_caching c touch x counts w).memory;
+    }) v h
     (λ p d. filled_same w.slots touch.page x p d ∙ as_left copy (recorded w.slots) first (used_at m first c request copy w (Fill touch (Some x)) e u) p d)
 used_on free m first c request copy w v f framed number sure from asks u (shares touch own x counts e k n t h) =
-    used_to m first c request copy (Install touch) (record w { slots = (after_sharing c touch own x counts w).slots; memory = (after_sharing c touch own x counts w).memory }) v h
+    used_to m first c request copy (Install touch) (record w {
+      slots = (after_sharing c touch own x counts w).slots;
+      memory =
+          (after_sharing c touch own x counts w).memory;
+    }) v h
     (λ p d. filled_same w.slots touch.page x p d ∙ as_left copy (recorded w.slots) first (used_at m first c request copy w (Fill touch own) e u) p d)
 used_on free m first c request copy w v f framed number sure from asks u (posts_copy touch x e h) =
     used_to m first c request copy (CopyAcks touch x) (record w { hardware = (after_copy_post c touch x w).hardware }) v h
     (used_at m first c request copy w (CopyPost touch x) e u)
 used_on free m first c request copy w v f framed number sure from asks u (copies touch x y counts e n a t h) =
     let made : World = after_copy c touch x y counts w in
-    used_to m first c request (Some touch.page) (Install touch) (with_entry (detach_entry w c touch.page) (record w { slots = made.slots; memory = made.memory })) v h
+    used_to m first c request (Some touch.page) (Install touch) (with_entry (detach_entry w c touch.page)
+    (record w { slots = made.slots; memory = made.memory })) v h
     (λ p d. copied_drops w.slots touch.page x p d
     ∙ left_same (Some touch.page) (recorded w.slots) first (used_at m first c request copy w (CopyAcks touch x) e u).1 p d)
 used_on free m first c request copy w v f framed number sure from asks u (installs touch e h) =
@@ -396,7 +415,8 @@ used_on free m first c request copy w v f framed number sure from asks u (access
     (record (with_hardware (after_translating w.hardware c touch) w) { memory = memory_after touch x w.memory }) v h
     (access_used m first c request copy w touch x f number e i (from (ap status e)) asks u)
 used_on free m first c request copy w v f framed number sure from asks u (faults touch e i h) =
-    used_to m first c request copy (locking (To.Access touch)) (with_hardware (after_translating w.hardware c touch) w) v h (fault_used m first c request copy w touch e i u)
+    used_to m first c request copy (locking (To.Access touch))
+    (with_hardware (after_translating w.hardware c touch) w) v h (fault_used m first c request copy w touch e i u)
 
 -- ---- whom the call drops
 
@@ -431,7 +451,8 @@ filled_users : (first : Users) (c : ℕ) (w v : World) (touch : Touch) (x : ℕ)
 filled_users first c w v touch x e k =
     left_users first c v _ e (still_users first (recorded w.slots) _ c (filled_same w.slots touch.page x) k)
 
-pub unwaited_on : (first : Users) (c : ℕ) (w v : World) → Fine w → IsTold w.slots w.hardware c (w.calls.phase c) → KeepsUsers first c (recorded w.slots) → GoesBy w c v
+pub unwaited_on : (first : Users) (c : ℕ) (w v : World) → Fine w → IsTold w.slots w.hardware c (w.calls.phase c) → KeepsUsers first c (recorded w.slots)
+    → GoesBy w c v
     → KeepsUsers first c (recorded v.slots)
 unwaited_on first c w v f t k (moves new m h) = left_users first c v w.slots (ap (λ (v : World). v.slots) h) k
 unwaited_on first c w v f t k (divides goal cursor s e i h) =

@@ -90,18 +90,21 @@ refusal_keeps modes t core (Mmap addr len prot flags file off) =
     (keeps_test t core r (flags.fixed && not (are_pages (pages_of addr len))) _ _ (λ _. keeps_errno t core r ENOMEM)
     (keeps_test t core r flags.anon _ _ (λ _. keeps_none t core r) (file_keeps t core r (modes file) len prot flags off))))))
 refusal_keeps modes t core (Munmap addr len) =
-    keeps_test t core (Munmap addr len) (len == 0 || not (is_aligned addr) || not (are_pages (pages_of addr len))) _ _ (λ _. keeps_errno t core (Munmap addr len) EINVAL)
+    keeps_test t core (Munmap addr len) (len == 0 || not (is_aligned addr) || not (are_pages (pages_of addr len))) _ _ (λ _. keeps_errno t core
+    (Munmap addr len) EINVAL)
     (keeps_none t core (Munmap addr len))
 refusal_keeps modes t core (Mprotect addr len prot) =
     let r : Request = Mprotect addr len prot in
     keeps_test t core r (not (is_aligned addr)) _ _ (λ _. keeps_errno t core r EINVAL)
-    (keeps_test t core r (len == 0) _ _ (λ e reply i. let same : ReplyOf.Done ≡ reply = cc in subst (Keeps t core r) same (refl, no_bytes t core addr len prot e))
+    (keeps_test t core r (len == 0) _ _ (λ e reply i. let same : ReplyOf.Done ≡ reply = cc in subst (Keeps t core r) same
+    (refl, no_bytes t core addr len prot e))
     (keeps_test t core r (not (are_pages (pages_of addr len))) _ _ (λ _. keeps_errno t core r ENOMEM) (keeps_none t core r)))
 refusal_keeps modes t core (Load addr) = keeps_none t core (Load addr)
 refusal_keeps modes t core (Store addr byte) = keeps_none t core (Store addr byte)
 refusal_keeps modes t core (Fetch addr) = keeps_none t core (Fetch addr)
 
-segv_keeps : (t : Plain) (core : ℕ) (request : Request) (addr byte : ℕ) (access : Access) (reply : Reply) → touched addr access byte ≡ Err reply → Keeps t core request reply
+segv_keeps : (t : Plain) (core : ℕ) (request : Request) (addr byte : ℕ) (access : Access) (reply : Reply) → touched addr access byte ≡ Err reply
+    → Keeps t core request reply
 segv_keeps t core request addr byte access reply = go (is_page (page_of addr))
   where
     go : (b : Bool) → (if b then Ok (PlanOf.Touch (touch_of addr access byte)) else Err (ReplyOf.Segv SegvOf.MapErr)) ≡ Err reply → Keeps t core request reply
@@ -125,7 +128,8 @@ plan_keeps t core (Store addr byte) reply e = segv_keeps t core (Store addr byte
 plan_keeps t core (Fetch addr) reply e = segv_keeps t core (Fetch addr) addr 0 By.Fetch reply e
 
 -- a request that its arguments refuse
-pub refused_keeps : (modes : ℕ → Option Mode) (t : Plain) (core : ℕ) (request : Request) (reply : Reply) → checked modes core request ≡ Err reply → Keeps t core request reply
+pub refused_keeps : (modes : ℕ → Option Mode) (t : Plain) (core : ℕ) (request : Request) (reply : Reply) → checked modes core request ≡ Err reply
+    → Keeps t core request reply
 refused_keeps modes t core request reply = go (refusal modes request) (refusal_keeps modes t core request)
   where
     go : (o : Option Reply) → KeepsIf t core request o → unless_refused o (plan_of core request) ≡ Err reply → Keeps t core request reply
@@ -167,7 +171,8 @@ no_change core request addr byte access change = go (is_page (page_of addr))
     go true e = cc
     go false e = cc
 
-plan_drops : (modes : ℕ → Option Mode) (t : Plain) (core : ℕ) (request : Request) (change : Change) → refusal modes request ≡ None → plan_of core request ≡ Ok (PlanOf.Change change)
+plan_drops : (modes : ℕ → Option Mode) (t : Plain) (core : ℕ) (request : Request) (change : Change) → refusal modes request ≡ None
+    → plan_of core request ≡ Ok (PlanOf.Change change)
     → DropsAll t core request change
 plan_drops modes t core (Mmap addr len prot flags file off) change r e = go flags.fixed refl e
   where
@@ -187,7 +192,8 @@ plan_drops modes t core (Load addr) change r e = absurd (no_change core (Load ad
 plan_drops modes t core (Store addr byte) change r e = absurd (no_change core (Store addr byte) addr byte By.Store change e)
 plan_drops modes t core (Fetch addr) change r e = absurd (no_change core (Fetch addr) addr 0 By.Fetch change e)
 
-pub change_drops : (modes : ℕ → Option Mode) (t : Plain) (core : ℕ) (request : Request) (change : Change) → checked modes core request ≡ Ok (PlanOf.Change change)
+pub change_drops : (modes : ℕ → Option Mode) (t : Plain) (core : ℕ) (request : Request) (change : Change)
+    → checked modes core request ≡ Ok (PlanOf.Change change)
     → DropsAll t core request change
 change_drops modes t core request change e =
     let z = passed (refusal modes request) (plan_of core request) (PlanOf.Change change) e in
@@ -231,7 +237,8 @@ abbrev Adds : Plain → ℕ → Request → Touch → Type 0
 Adds t core request touch = (byte : ℕ) (copy : Option ℕ) → page_copied t request (byte_reply touch.access byte) ≡ copy
     → (u : Users) → Same (users_after t core request (byte_reply touch.access byte) u) (with_user touch.page core (users_left copy u))
 
-pub added : (page core : ℕ) (first copy : Option ℕ) (u : Users) → first ≡ copy → Same (with_user page core (users_left first u)) (with_user page core (users_left copy u))
+pub added : (page core : ℕ) (first copy : Option ℕ) (u : Users) → first ≡ copy
+    → Same (with_user page core (users_left first u)) (with_user page core (users_left copy u))
 added page core first copy u e = subst (λ o. Same (with_user page core (users_left first u)) (with_user page core (users_left o u))) e (λ p c. refl)
 
 pub touch_adds : (t : Plain) (core : ℕ) (request : Request) (touch : Touch) → IsTouchOf request touch → Adds t core request touch

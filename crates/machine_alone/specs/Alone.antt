@@ -42,7 +42,7 @@ takes_left (m ∷ ms) = if m.is_cleared then 1 else 2
 
 -- ---- the entries of a call
 
--- the log, with the copy of this page, if there is one, that the call with this number was due
+-- the log, with the entry that this page, if there is one, got a copy for the call with this number
 abbrev pub IsCopied : List Entry → Option ℕ → ℕ → List Entry → Type 0
 IsCopied first None call log = log ≡ first
 IsCopied first (Some page) call log = (step : ℕ) × (log ≡ first ++ Detach step call page ∷ [])

@@ -31,7 +31,6 @@ entry_one : (rs : List Request) (t u v : Plain) (e : Entry) → GoesOn rs t e u 
 entry_one rs t u v (Answer step call core reply) h k =
     let same : h.0 ≡ k.0 = let a : Some h.0 ≡ Some k.0 = sym h.1 ∙ k.1 in cc in
     stands_one t u v core k.0 reply (subst (λ r. Stands t core r reply u) same h.2) k.2
-
 entry_one rs t u v (Detach step call page) h k = let same : Some u ≡ Some v = sym h.1 ∙ k.1 in cc
 
 pub log_leads_to_one : (requests : List Request) (log : List Entry) (t u v : Plain) → Replays requests t log u → Replays requests t log v → u ≡ v

@@ -122,7 +122,7 @@ stored_shows w t p f i byte k g c writes = go (shows_file w.memory.cached k.info
     shared (Shared n l) e priv h own =
         let back : k.entry.back ≡ Shared n l = sym k.back ∙ e in
         let is : stored_entry t p (t.entry p) i byte ≡ stored_back t (Shared n l) i byte =
-            ap (λ z. stored_entry t p z i byte) k.at_page ∙ (ap (λ own. stored_own t p k.entry own i byte) own ∙ ap (λ back. stored_back t back i byte) back) in
+        ap (λ z. stored_entry t p z i byte) k.at_page ∙ (ap (λ own. stored_own t p k.entry own i byte) own ∙ ap (λ back. stored_back t back i byte) back) in
         subst Now (sym is) (file_stored w t p f n l i byte k g c back (is_it (w.memory.cached n l) f h))
 
     go : (b : Bool) → shows_file w.memory.cached k.info.meta.back f ≡ b → (is_private k.info.meta.back && b) ≡ false
