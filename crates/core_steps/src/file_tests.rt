@@ -16,6 +16,7 @@ const READ_WRITE: Prot = Prot {
     exec: false,
 };
 
+/// Of a mapping of a file whose stores change the file.
 const SHARED: Flags = Flags {
     private: false,
     shared: true,
@@ -23,6 +24,7 @@ const SHARED: Flags = Flags {
     anon: false,
 };
 
+/// Of one whose stores don't.
 const PRIVATE: Flags = Flags {
     private: true,
     shared: false,
@@ -37,29 +39,64 @@ const NO_FILE: Flags = Flags {
     anon: true,
 };
 
-/// So many bytes of file 0, from its start, mapped at the address.
-const fn map(addr: u64, len: u64, flags: Flags) -> Request {
-    Request::Mmap {
-        addr,
-        len,
-        prot: READ_WRITE,
-        flags,
-        file: 0,
-        off: 0,
-    }
-}
+/// The first page of file 0, shared.
+const MAP_SHARED: Request = Request::Mmap {
+    addr: 0x10000,
+    len: 4096,
+    prot: READ_WRITE,
+    flags: SHARED,
+    file: 0,
+    off: 0,
+};
 
-const MAP_SHARED: Request = map(0x10000, 4096, SHARED);
+/// The same, private.
+const MAP_PRIVATE: Request = Request::Mmap {
+    addr: 0x10000,
+    len: 4096,
+    prot: READ_WRITE,
+    flags: PRIVATE,
+    file: 0,
+    off: 0,
+};
 
-const MAP_PRIVATE: Request = map(0x10000, 4096, PRIVATE);
+/// The same page of the file at the next page.
+const MAP_NEXT: Request = Request::Mmap {
+    addr: 0x11000,
+    len: 4096,
+    prot: READ_WRITE,
+    flags: SHARED,
+    file: 0,
+    off: 0,
+};
 
-/// The page after it shows the same page of the file.
-const MAP_NEXT: Request = map(0x11000, 4096, SHARED);
+const MAP_NEXT_PRIVATE: Request = Request::Mmap {
+    addr: 0x11000,
+    len: 4096,
+    prot: READ_WRITE,
+    flags: PRIVATE,
+    file: 0,
+    off: 0,
+};
 
-const MAP_NEXT_PRIVATE: Request = map(0x11000, 4096, PRIVATE);
+/// And a page after it, which the file doesn't have.
+const MAP_NEXT_TWO: Request = Request::Mmap {
+    addr: 0x11000,
+    len: 8192,
+    prot: READ_WRITE,
+    flags: SHARED,
+    file: 0,
+    off: 0,
+};
 
-/// And one more has no file.
-const MAP_LAST: Request = map(0x12000, 4096, NO_FILE);
+/// A page without a file.
+const MAP_LAST: Request = Request::Mmap {
+    addr: 0x12000,
+    len: 4096,
+    prot: READ_WRITE,
+    flags: NO_FILE,
+    file: 0,
+    off: 0,
+};
 
 const MAPPED: Reply = Reply::Mapped(0x10000);
 
@@ -113,11 +150,21 @@ fn machine<A: Allocator + Clone + Drop>(
     }
 }
 
+/// The index of the log's first copy, its call and its page.
+fn first_copy(log: &[Entry]) -> Option<(usize, u64, u64)> {
+    for at in 0..log.len() {
+        if let Entry::Detach { call, page, .. } = log[at] {
+            return Some((at, call, page));
+        }
+    }
+    None
+}
+
 /// Two pages of two cores show one page of the file, for which one frame is enough. Past the file's last byte are zeros, and past
 /// its last page is nothing.
 const SHOWN: [Row; 12] = [
     Row::Answers(0, MAP_SHARED, MAPPED),
-    Row::Answers(1, map(0x11000, 8192, SHARED), MAPPED_NEXT),
+    Row::Answers(1, MAP_NEXT_TWO, MAPPED_NEXT),
     Row::Answers(0, LOAD, Reply::Byte(7)),
     Row::Answers(1, LOAD_NEXT, Reply::Byte(7)),
     Row::Answers(0, STORE, Reply::Done),
@@ -166,9 +213,8 @@ fn a_copy_waits_for_both_takes(rt: HostRuntime) -> Result<(), Fail> {
     let wrong = first_wrong(&mut machine, COPIED.as_slice())?;
     assert_eq!(rt; wrong, None);
     // calls 1 to 4 and 6 are answered before the copy for the store, which is call 5
-    let told = machine.log()[5];
-    assert!(rt; matches!(told, Entry::Detach { call: 5, page: 16, .. }));
-    assert_eq!(rt; machine.log().len(), 14);
+    assert_eq!(rt; first_copy(machine.log()), Some((5, 5, 16)));
+    assert_eq!(rt; machine.log().len(), 12);
     Ok(())
 }
 
@@ -188,8 +234,7 @@ fn a_first_store_gets_a_copy(rt: HostRuntime) -> Result<(), Fail> {
     let mut machine = machine(rt.alloc(), 2, 2)?;
     let wrong = first_wrong(&mut machine, STORED.as_slice())?;
     assert_eq!(rt; wrong, None);
-    let told = machine.log()[1];
-    assert!(rt; matches!(told, Entry::Detach { call: 2, page: 16, .. }));
+    assert_eq!(rt; first_copy(machine.log()), Some((1, 2, 16)));
     assert_eq!(rt; machine.log().len(), 8);
     Ok(())
 }
@@ -221,7 +266,7 @@ fn a_file_page_is_cached_meanwhile(rt: HostRuntime) -> Result<(), Fail> {
 }
 
 /// A copy is given up only while no core is awaited for it. Its frame goes back, and the store can be made again.
-const GIVEN_UP: [Row; 12] = [
+const GIVEN_UP: [Row; 16] = [
     Row::Answers(0, MAP_PRIVATE, MAPPED),
     Row::Answers(0, LOAD, Reply::Byte(7)),
     Row::Answers(1, LOAD, Reply::Byte(7)),
@@ -232,7 +277,11 @@ const GIVEN_UP: [Row; 12] = [
     Row::Does(1, Act::Take, Came::Stepped),
     Row::Does(0, Act::GiveUp, Came::Stepped),
     Row::Ends(0, Came::Answered(Reply::NoMemory)),
-    Row::Answers(0, STORE, Reply::Done),
+    Row::Does(0, Act::Call(STORE), Came::Stepped),
+    Row::Ends(0, Came::WaitsForAcks(1)),
+    Row::Does(1, Act::Take, Came::Stepped),
+    Row::Does(1, Act::Take, Came::Stepped),
+    Row::Ends(0, Came::Answered(Reply::Done)),
     Row::Answers(1, LOAD, Reply::Byte(65)),
 ];
 

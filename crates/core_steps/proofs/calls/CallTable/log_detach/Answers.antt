@@ -5,5 +5,10 @@ use Rattle.core_steps.proofs.calls.CallTable.log_detach.Goals as goal
 pub invariant_of-self : goal.invariant_of-self
 invariant_of-self g c =
     let calls = c.args.self.now in
-    (calls.numbered, (calls.few, (room_kept_either c.push_beyond.result calls.log.items.items _ _ calls.log.limit _ calls.requests.limit refl calls.logged
-        c.push_beyond.ensures.items c.push_beyond.ensures.limit c.push_beyond.ensures.same_items c.push_beyond.ensures.same_limit, tt)))
+    record {
+      numbered = calls.numbered;
+      few = calls.few;
+      logged =
+          room_kept_either c.push_beyond.result calls.log.items.items _ _ calls.log.limit _ calls.requests.limit refl calls.logged c.push_beyond.ensures.items
+          c.push_beyond.ensures.limit c.push_beyond.ensures.same_items c.push_beyond.ensures.same_limit;
+    }

@@ -1,12 +1,29 @@
-use Rattle.std.proofs.Common.{inr, refl, sym, ap, ◌∙◌}
+use Rattle.std.proofs.Common.{◌≡◌, None, Some, refl, sym, ap, ◌∙◌}
+use Rattle.vm_base.specs.Info.{frame_of}
 use Rattle.slot_lock.specs.declared.plan.Plan.TheVariants as PlanOf
 use Rattle.machine_model.specs.declared.phase.Phase.TheVariants.{CopyAcks}
 use Rattle.core_steps.specs.State.{world}
 use Rattle.core_steps.proofs.Framing.{copies, copy_framed}
 use Rattle.core_steps.proofs.Known.{sound_at}
 use Rattle.core_steps.proofs.engine.Engine.go_copy_acks.Goals as goal
+use Rattle.core_steps.proofs.engine.Engine.go_copy_acks.Goals.{in-Some-page+in-Some-frame+in_ok-make_copy, in_default-2, in_default-2-via-in-None-1, in_default-2-via-in-Some-page+in-None-1}
 
 pub page-requires : goal.page-requires
 page-requires g c =
     g.met.M.SlotMap.reads_all c.args.self.now.map c.args.touch.page
     (sound_at _ c.args.core (CopyAcks c.args.touch c.args.frame) (PlanOf.Touch c.args.touch) c.requires tt (λ h. h)).page
+
+pub returns : goal.returns
+returns g c = elim c.match-page.branch [
+  | in-Some-page+in-Some-frame+in_ok-make_copy w ↦
+      copies (world g.M.SlotRead.slots c.args.self.now) _ c.args.core c.args.touch c.args.frame w.in-Some-frame.shown c.in_default.ensures.none
+      (ap frame_of (sym c.page.ensures ∙ w.in-Some-page.is) ∙ w.in-Some-frame.is) (rw w.self-is w.in_ok-make_copy.ensures.ok)
+  | in_default-2 w ↦ elim w.in_default-2.branch [
+    | in_default-2-via-in-None-1 x ↦
+        absurd (copy_framed (world g.M.SlotRead.slots c.args.self.now) c.args.core c.args.touch c.args.frame None c.requires (sym c.page.ensures ∙ search) refl)
+    | in_default-2-via-in-Some-page+in-None-1 x ↦
+        let none : x.in-Some-page.info.frame ≡ None = search in
+        absurd (copy_framed (world g.M.SlotRead.slots c.args.self.now) c.args.core c.args.touch c.args.frame (Some x.in-Some-page.info) c.requires
+            (sym c.page.ensures ∙ x.in-Some-page.is) none)
+  ]
+]

@@ -12,8 +12,8 @@ returns-in-Some g c =
     shown_by_cached (world g.M.SlotRead.slots c.args.self.now) _ c.args.core c.args.touch c.args.own c.args.file c.args.page c.in-Some.cached
     (sym c.cached.ensures ∙ c.in-Some.is) c.share.ensures
 
-pub returns-in_default : goal.returns-in_default
-returns-in_default g c =
+pub returns-in_default-own : goal.returns-in_default-own
+returns-in_default-own g c =
     let w = world g.M.SlotRead.slots c.args.self.now in
     absurd (fill_shown w c.args.core c.args.touch (fill_at w c.args.core c.args.touch c.args.own _ c.in_default-own.is c.requires.at)
         (of_file_frame w.memory.cached _ c.args.file c.args.page c.requires.backed ∙ (sym c.cached.ensures ∙ c.in_default.is)))
