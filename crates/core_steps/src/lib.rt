@@ -9,8 +9,6 @@ mod calls;
 mod check;
 mod commit;
 mod core_events;
-#[cfg(test)]
-mod core_tests;
 mod cores;
 mod counting;
 mod decide;
@@ -21,12 +19,8 @@ mod give_up;
 pub mod machine;
 mod reserved;
 pub mod run_result;
-#[cfg(test)]
-mod run_tests;
 pub mod running;
 pub mod setup;
-#[cfg(test)]
-mod tests;
 
 pub use machine::{Finished, Machine};
 pub use run_result::{Run, RunFault};

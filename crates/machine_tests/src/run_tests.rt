@@ -1,7 +1,5 @@
 //! Whole lists of events, and why they may fail.
-use crate::run_result::RunFault;
-use crate::running::run;
-use crate::setup::{Setup, SetupFault};
+use core_steps::{RunFault, Setup, SetupFault, run};
 use linked_list_allocator::LocalHeap;
 use machine_model::{Entry, Event, Outcome};
 use slot_lock::RunList;

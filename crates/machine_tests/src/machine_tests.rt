@@ -1,8 +1,7 @@
 //! Calls with ample memory, the limits of a machine, and each allocation refused in turn.
 ghost use Rattle.std.specs.Prelude.{◌≡◌, ◌<◌};
 
-use crate::machine::{Finished, Machine};
-use crate::setup::{Setup, SetupFault};
+use core_steps::{Finished, Machine, Setup, SetupFault};
 use linked_list_allocator::LocalHeap;
 use machine_model::{Entry, Event, Outcome};
 use slot_lock::RunList;

@@ -1,6 +1,5 @@
 //! Several cores, translations, messages, and frames that come back, row by row.
-use crate::machine::{Finished, Machine};
-use crate::setup::Setup;
+use core_steps::{Finished, Machine, Setup};
 use linked_list_allocator::LocalHeap;
 use machine_model::{Blocker, Event, Outcome};
 use slot_lock::RunList;
