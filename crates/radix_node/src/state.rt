@@ -184,7 +184,6 @@ impl SlotState {
                 self.prot = *prot;
                 self.cores = CoreSet::empty();
             }
-            Edit::DropFrame => self.has_frame = false,
         }
     }
 

@@ -2,11 +2,13 @@
 ghost use Rattle.std.specs.Prelude.{◌≡◌, ℕ, ◌+◌, ◌^◌, ◌<◌, ◌≤◌, ◌↔◌, IfSome, IfNone, IsTrue, true};
 ghost use Rattle.vm_base.specs.Cores.{members};
 ghost use Rattle.vm_base.specs.Pages.{IsPageRange};
-ghost use Rattle.slot_lock.specs.Slots.{IsFreeRun, IsUser, AllMapped, NoFrames};
+ghost use Rattle.arrayvec.specs.ArrayVec.{array_vec_len};
+ghost use Rattle.slot_lock.specs.Framed.{AddsFrames, frames_in};
+ghost use Rattle.slot_lock.specs.Slots.{IsFreeRun, IsUser, AllMapped};
 ghost use Rattle.radix_range.specs.Tree.{IsRadix, tree_slots};
-ghost use Rattle.radix_range.specs.Found.{IsFirstFrame};
 
 use radix_node::{FreeRun, Node};
+use slot_lock::FramedPages;
 use std::alloc::Allocator;
 use vm_base::{CoreSet, PageRange};
 
@@ -43,15 +45,19 @@ pub fn all_mapped<A: Allocator>(root: &Node<A>, range: PageRange) -> bool
     root.all_mapped(range.first, range.end)
 }
 
-/// The first page with a frame from a page up to another, and the frame.
-pub fn first_frame<A: Allocator>(root: &Node<A>, from: u64, end: u64) -> Option<(u64, u32)>
+/// Adds the pages from `from` up to `end` that have a frame, and their frames, to the list, in order of pages, until it is
+/// full. Answers the page up to which none is left out.
+pub fn list_frames<A: Allocator>(root: &Node<A>, from: u64, end: u64, list: &mut FramedPages) -> u64
     requires tree { IsRadix root.now }
+    requires ordered { from ≤ end }
     requires end { end ≤ 2 ^ 35 }
-    ensures some { IfSome result (λ taken. IsFirstFrame (tree_slots root.now) from end taken.0 taken.1) }
-    ensures none { IfNone result (NoFrames (tree_slots root.now) from end) }
+    ensures low { from ≤ result }
+    ensures high { result ≤ end }
+    ensures added { AddsFrames (frames_in (tree_slots root.now)) from result list.old.items list.new.items }
+    ensures full { result < end → array_vec_len list.new ≡ 32 }
 {
-    if from >= end {
-        return None;
+    if from == end {
+        return end;
     }
-    root.first_frame(from, end)
+    root.list_frames(0, from, end, list)
 }

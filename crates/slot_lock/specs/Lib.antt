@@ -1,5 +1,6 @@
 pub mod Plan
 pub mod Slots
+pub mod Framed
 pub mod Footprint
 pub mod Acquire
 pub mod Runs
@@ -7,5 +8,4 @@ pub mod RunSlots
 pub mod Places
 pub mod RunLaws
 pub mod Adding
-pub mod Walks
 pub mod Edges

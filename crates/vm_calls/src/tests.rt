@@ -1,11 +1,10 @@
 //! Worked requests of core 0 over a list of runs, and each test of the arguments on both sides of its edge. The replies are
 //! those of POSIX.1-2017 and of this project's profile of it.
-ghost use Rattle.std.specs.Prelude.{◌≡◌, IsTrue, IfOk, is_some, true};
-ghost use Rattle.vm_base.specs.Info.{frame_of};
+ghost use Rattle.std.specs.Prelude.{◌≡◌, IsTrue, IfOk, true};
 ghost use Rattle.vm_base.specs.Functions.{has};
 ghost use Rattle.vm_base.specs.Pages.{IsPage, IsPageRange};
 ghost use Rattle.slot_lock.specs.Plan.{IsSound, IsSoundChange};
-ghost use Rattle.slot_lock.specs.Slots.{IsHeld, NoFrames};
+ghost use Rattle.slot_lock.specs.Slots.{IsHeld};
 ghost use Rattle.vm_calls.specs.Decisions.{IsNoTouch, IsSoundAct};
 
 use crate::{Decision, Settled, check, decide, settle};
@@ -206,23 +205,13 @@ fn lock<A: Allocator>(map: &mut RunList<A>, core: CoreId, range: PageRange) -> R
 fn holds<A: Allocator>(map: &RunList<A>, core: CoreId, range: PageRange) -> bool
     requires { IsPageRange range }
     ensures held { IsTrue result → IsHeld (⟦<RunList<A> as SlotRead>⟧.slots map.now) core range }
-    ensures frames { IsTrue result → NoFrames (⟦<RunList<A> as SlotRead>⟧.slots map.now) range.first range.end }
 {
     let slot = map.slot(range.first);
-    if slot.first != range.first || slot.end != range.end || has_frame(map.page(range.first)) {
+    if slot.first != range.first || slot.end != range.end {
         return false;
     }
     match map.owner(range.first) {
         Some(owner) => owner.index() == core.index(),
-        None => false,
-    }
-}
-
-fn has_frame(info: Option<PageInfo>) -> bool
-    ensures { result ≡ is_some (frame_of info) }
-{
-    match info {
-        Some(info) => info.frame.is_some(),
         None => false,
     }
 }
