@@ -84,6 +84,28 @@ impl<A: Allocator + Clone + Drop> Replayer<A> {
         }
     }
 
+    // Acts on the first line of an event, which needs a machine: it is made. It stands by itself, so that the lines after
+    // it have no room for a machine on their stack, which would be cleared for each.
+    #[inline(never)]
+    fn act_on_first_event(
+        &mut self,
+        number: u64,
+        line: Option<Line>,
+        text: &mut LineText,
+    ) -> Result<(), TraceFault>
+        requires { self.old.machine ≡ None }
+        ensures ok { OnOk result (IsSomeAnd line (λ l. EventActs (⟦<Self as Staged>⟧.stage self.old) l (⟦<Self as Staged>⟧.stage self.new) text.new.bytes)) }
+        ensures err { IfErr result (λ f. ((f ≡ TraceFault.NoMemory) × IsSomeAnd line (λ l. EventWants (⟦<Self as Staged>⟧.stage self.old) l)) ⊎ EventFails (⟦<Self as Staged>⟧.stage self.old) number line f) }
+    {
+        let mut machine = match made(&self.alloc, self.setup) {
+            Ok(machine) => machine,
+            Err(fault) => return Err(fault),
+        };
+        let done = run_line(&mut machine, line, number, text);
+        self.machine = Some(machine);
+        done
+    }
+
     // Acts on a line that isn't the `vm` line and has words.
     fn act_on_event(
         &mut self,
@@ -96,15 +118,7 @@ impl<A: Allocator + Clone + Drop> Replayer<A> {
     {
         match &mut self.machine {
             Some(machine) => run_line(machine, line, number, text),
-            None => {
-                let mut machine = match made(&self.alloc, self.setup) {
-                    Ok(machine) => machine,
-                    Err(fault) => return Err(fault),
-                };
-                let done = run_line(&mut machine, line, number, text);
-                self.machine = Some(machine);
-                done
-            }
+            None => self.act_on_first_event(number, line, text),
         }
     }
 }
