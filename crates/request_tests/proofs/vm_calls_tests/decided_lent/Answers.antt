@@ -9,7 +9,7 @@ use Rattle.slot_lock.specs.Footprint.{covers, one_range}
 use Rattle.slot_lock.specs.RunLaws.{slots_of-is_slot_map}
 use Rattle.vm_calls.proofs.Covered.{covered-one}
 use Rattle.vm_calls.proofs.Readable.{plan-valid}
-use Rattle.vm_calls.proofs.tests.decided_lent.Goals as goal
+use Rattle.request_tests.proofs.vm_calls_tests.decided_lent.Goals as goal
 
 pub decide-requires-clause-readable : goal.decide-requires-clause-readable
 decide-requires-clause-readable g c =

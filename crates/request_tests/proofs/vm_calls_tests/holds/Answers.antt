@@ -3,7 +3,7 @@ use Rattle.vm_base.specs.Info.{frame_of}
 use Rattle.slot_lock.specs.RunLaws.{slots_of-is_slot_map, from_test, owner_free}
 use Rattle.slot_lock.specs.RunSlots.{slots_of}
 use Rattle.slot_lock.proofs.SlotLaws.{slot-IsHeld, slot-NoFrames}
-use Rattle.vm_calls.proofs.tests.holds.Goals as goal
+use Rattle.request_tests.proofs.vm_calls_tests.holds.Goals as goal
 
 pub returns-in-Some-clause-held : goal.returns-in-Some-clause-held
 returns-in-Some-clause-held g c = λ is.

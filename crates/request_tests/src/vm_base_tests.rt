@@ -2,25 +2,17 @@
 ghost use Rattle.std.specs.Prelude.{◌≡◌, false};
 ghost use Rattle.vm_base.specs.Info.{file_page, info_file_page, is_leaf};
 
+use crate::rows::{
+    ANON, Ask, DONE, EACCES, EBADF, EINVAL, END, EOVERFLOW, NONE, PRIVATE, RW, SHARED,
+    SHARED_FIXED, W, request_of,
+};
 use std::alloc::AllocError;
 use std::test::Fail;
 use vm_base::page::is_page_start;
 use vm_base::{
-    Access, Back, CoreId, CoreSet, Errno, Flags, Meta, Mode, NoMemory, PageInfo, PageRange, Prot,
-    Reply, Request, allows, goes_on, info_from, is_leaf, is_valid, offset_of, page_count, page_of,
-    pages, protected, refusal, window,
-};
-
-const READ_WRITE: Prot = Prot {
-    read: true,
-    write: true,
-    exec: false,
-};
-
-const NONE: Prot = Prot {
-    read: false,
-    write: false,
-    exec: false,
+    Access, Back, CoreId, CoreSet, Meta, Mode, NoMemory, PageInfo, PageRange, Prot, Reply, allows,
+    goes_on, info_from, is_leaf, is_valid, offset_of, page_count, page_of, pages, protected,
+    refusal, window,
 };
 
 fn private(page: u64) -> Meta
@@ -28,7 +20,7 @@ fn private(page: u64) -> Meta
 {
     Meta {
         back: Back::Private { file: 3, page },
-        prot: READ_WRITE,
+        prot: RW,
     }
 }
 
@@ -76,20 +68,31 @@ fn sets_have_the_cores_put_into_them(rt: HostRuntime) {
     assert_eq!(rt; rest.union(one), some);
 }
 
+/// An address, its page and its offset, and how many pages it takes as a length.
+const PAGES: &[(u64, u64, u64, u64)] = &[
+    (0, 0, 0, 0),
+    (0xfff, 0, 0xfff, 1),
+    (0x1000, 1, 0, 1),
+    (0x1001, 1, 1, 2),
+    (u64::MAX, 0xf_ffff_ffff_ffff, 0xfff, 0x10_0000_0000_0000),
+];
+
+/// The first of these rows that isn't so.
+fn first_other_page() -> Option<usize> {
+    for i in 0..PAGES.len() {
+        let (addr, page, offset, count) = PAGES[i];
+        if (page_of(addr), offset_of(addr), page_count(addr)) != (page, offset, count)
+            || is_page_start(addr) != (offset == 0)
+        {
+            return Some(i);
+        }
+    }
+    None
+}
+
 #[test]
 fn pages_have_4_kib(rt: HostRuntime) {
-    for (addr, page, offset, count) in [
-        (0, 0, 0, 0),
-        (0xfff, 0, 0xfff, 1),
-        (0x1000, 1, 0, 1),
-        (0x1001, 1, 1, 2),
-        (u64::MAX, 0xf_ffff_ffff_ffff, 0xfff, 0x10_0000_0000_0000),
-    ] {
-        assert_eq!(rt; page_of(addr), page);
-        assert_eq!(rt; offset_of(addr), offset);
-        assert_eq!(rt; is_page_start(addr), offset == 0);
-        assert_eq!(rt; page_count(addr), count);
-    }
+    assert_eq!(rt; first_other_page(), None);
     let two = PageRange {
         first: 0x10,
         end: 0x12,
@@ -144,16 +147,12 @@ fn windows_have_2_to_the_27_pages(rt: HostRuntime) {
 
 #[test]
 fn rights_allow_accesses(rt: HostRuntime) {
-    let write = Prot {
-        write: true,
-        ..NONE
-    };
     let execute = Prot { exec: true, ..NONE };
     for (prot, access, want) in [
         (NONE, Access::Load, false),
-        (write, Access::Load, true),
-        (write, Access::Store, true),
-        (write, Access::Fetch, false),
+        (W, Access::Load, true),
+        (W, Access::Store, true),
+        (W, Access::Fetch, false),
         (execute, Access::Load, true),
         (execute, Access::Store, false),
         (execute, Access::Fetch, true),
@@ -177,7 +176,7 @@ fn later_pages_have_the_next_file_pages(rt: HostRuntime) {
     assert_eq!(rt; private(7).advanced(5), private(12));
     let anonymous = Meta {
         back: Back::Anon,
-        prot: READ_WRITE,
+        prot: RW,
     };
     assert_eq!(rt; anonymous.advanced(5), anonymous);
     let unused = PageInfo::unused(private(7));
@@ -212,24 +211,9 @@ fn neighbours_make_one_slot(rt: HostRuntime) {
 
 #[test]
 fn flags_and_an_offset_say_what_backs_a_page(rt: HostRuntime) {
-    let shared = Flags {
-        private: false,
-        shared: true,
-        fixed: false,
-        anon: false,
-    };
-    let private = Flags {
-        private: true,
-        shared: false,
-        ..shared
-    };
-    let anonymous = Flags {
-        anon: true,
-        ..private
-    };
-    assert_eq!(rt; shared.back(3, 0x2000), Back::Shared { file: 3, page: 2 });
-    assert_eq!(rt; private.back(3, 0x2000), Back::Private { file: 3, page: 2 });
-    assert_eq!(rt; anonymous.back(u64::MAX, 1), Back::Anon);
+    assert_eq!(rt; SHARED.back(3, 0x2000), Back::Shared { file: 3, page: 2 });
+    assert_eq!(rt; PRIVATE.back(3, 0x2000), Back::Private { file: 3, page: 2 });
+    assert_eq!(rt; ANON.back(u64::MAX, 1), Back::Anon);
 }
 
 #[test]
@@ -241,66 +225,61 @@ fn a_refused_growth_is_want_of_memory(rt: HostRuntime) -> Result<(), Fail> {
     Ok(())
 }
 
-fn refused(errno: Errno) -> Option<Reply> {
-    Some(Reply::Refused(errno))
-}
+/// A file's mode, if there is one, a request, and what its arguments alone are answered.
+const REFUSALS: &[(Option<Mode>, Ask, Option<Reply>)] = &[
+    (
+        Some(Mode::RW),
+        Ask::Map(0x10000, 4096, RW, SHARED_FIXED),
+        None,
+    ),
+    (
+        Some(Mode::RW),
+        Ask::MapFile(0x10000, 0, RW, SHARED_FIXED, 0, 1),
+        Some(EINVAL),
+    ),
+    (
+        Some(Mode::RW),
+        Ask::MapFile(0x10000, 4096, RW, SHARED_FIXED, 0, 1),
+        Some(EINVAL),
+    ),
+    (None, Ask::Map(0x10000, 4096, RW, SHARED_FIXED), Some(EBADF)),
+    (
+        Some(Mode::W),
+        Ask::Map(0x10000, 4096, RW, SHARED_FIXED),
+        Some(EACCES),
+    ),
+    (
+        Some(Mode::R),
+        Ask::Map(0x10000, 4096, RW, SHARED_FIXED),
+        Some(EACCES),
+    ),
+    (
+        Some(Mode::RW),
+        Ask::MapFile(0x10000, 4096, RW, SHARED_FIXED, 0, END),
+        Some(EOVERFLOW),
+    ),
+    (
+        Some(Mode::RW),
+        Ask::MapFile(0x10000, 4096, RW, SHARED_FIXED, 0, END - 4096),
+        None,
+    ),
+    (None, Ask::Protect(0x10000, 0, NONE), Some(DONE)),
+    (None, Ask::Unmap(0, 4096), Some(EINVAL)),
+    (None, Ask::Load(0), None),
+];
 
-// A shared, writable mapping of a file at 0x10000, so many bytes from an offset on.
-fn shared_mapping(len: u64, off: u64) -> Request {
-    Request::Mmap {
-        addr: 0x10000,
-        len,
-        prot: READ_WRITE,
-        flags: Flags {
-            private: false,
-            shared: true,
-            fixed: true,
-            anon: false,
-        },
-        file: 0,
-        off,
+/// The first row that is answered otherwise.
+fn first_wrong(rows: &[(Option<Mode>, Ask, Option<Reply>)]) -> Option<usize> {
+    for i in 0..rows.len() {
+        let (mode, ask, want) = rows[i];
+        if refusal(mode, request_of(ask)) != want {
+            return Some(i);
+        }
     }
+    None
 }
 
 #[test]
 fn arguments_are_refused_by_the_first_test_that_holds(rt: HostRuntime) {
-    assert_eq!(rt; refusal(Some(Mode::RW), shared_mapping(4096, 0)), None);
-    assert_eq!(rt;
-        refusal(Some(Mode::RW), shared_mapping(0, 1)),
-        refused(Errno::EINVAL)
-    );
-    assert_eq!(rt;
-        refusal(Some(Mode::RW), shared_mapping(4096, 1)),
-        refused(Errno::EINVAL)
-    );
-    assert_eq!(rt;
-        refusal(None, shared_mapping(4096, 0)),
-        refused(Errno::EBADF)
-    );
-    assert_eq!(rt;
-        refusal(Some(Mode::W), shared_mapping(4096, 0)),
-        refused(Errno::EACCES)
-    );
-    assert_eq!(rt;
-        refusal(Some(Mode::R), shared_mapping(4096, 0)),
-        refused(Errno::EACCES)
-    );
-    let end = 0x8000_0000_0000;
-    assert_eq!(rt;
-        refusal(Some(Mode::RW), shared_mapping(4096, end)),
-        refused(Errno::EOVERFLOW)
-    );
-    assert_eq!(rt;
-        refusal(Some(Mode::RW), shared_mapping(4096, end - 4096)),
-        None
-    );
-    let none = Request::Mprotect {
-        addr: 0x10000,
-        len: 0,
-        prot: NONE,
-    };
-    assert_eq!(rt; refusal(None, none), Some(Reply::Done));
-    let low = Request::Munmap { addr: 0, len: 4096 };
-    assert_eq!(rt; refusal(None, low), refused(Errno::EINVAL));
-    assert_eq!(rt; refusal(None, Request::Load { addr: 0 }), None);
+    assert_eq!(rt; first_wrong(REFUSALS), None);
 }

@@ -1,5 +1,5 @@
 use Rattle.vm_calls.proofs.Readable.{readable}
-use Rattle.vm_calls.proofs.tests.decided.Goals as goal
+use Rattle.request_tests.proofs.vm_calls_tests.decided.Goals as goal
 
 pub decide-requires-clause-readable : goal.decide-requires-clause-readable
 decide-requires-clause-readable g c =
