@@ -1,5 +1,5 @@
 -- Lists of a node's pages that have a frame
-use Rattle.std.proofs.Common.{Box, ◌≡◌, ℕ, ◌+◌, ◌-◌, ◌*◌, ◌<◌, ◌≤◌, List, [], ◌∷◌, ◌++◌, Some, None, get_or, sym, ◌∙◌, ap, subst, arith}
+use Rattle.std.proofs.Common.{Box, ◌≡◌, ℕ, ◌+◌, ◌-◌, ◌*◌, ◌<◌, ◌≤◌, List, [], ◌∷◌, ◌++◌, Some, None, get_or, max, min, sym, ◌∙◌, ap, subst, arith}
 use Rattle.vm_base.specs.Info.{frame_of}
 use Rattle.slot_lock.specs.declared.framed.Framed.{Framed}
 use Rattle.slot_lock.specs.Framed.{AddsFrames}

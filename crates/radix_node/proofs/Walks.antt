@@ -1,10 +1,10 @@
 -- Walks over the slots of a node
-use Rattle.std.proofs.Common.{Box, suc, zero, ◌^◌, ◌≡◌, ℕ, ◌+◌, ◌-◌, ◌*◌, ◌<◌, ◌≤◌, ◌||◌, ◌↔◌, ◌⊎◌, inl, inr, ⊎_elim, Bool, true, false, Option, Some, None, is_some, List, get_or, min, max, refl, sym, ap, ◌∙◌, subst, arith}
+use Rattle.std.proofs.Common.{Box, suc, zero, ◌^◌, ◌≡◌, ◌≢◌, ℕ, ◌+◌, ◌-◌, ◌*◌, ◌<◌, ◌≤◌, ◌||◌, ◌↔◌, ◌⊎◌, inl, inr, ⊎_elim, Bool, true, false, Option, Some, None, is_some, List, get_or, min, max, refl, sym, ap, ◌∙◌, subst, arith}
 use Rattle.std.proofs.lemmas.Bool.{cases_lt}
 use Rattle.std.proofs.Math.Nat.{mul-le-mul_right}
 use Rattle.vm_base.specs.declared.info.PageInfo.{PageInfo}
 use Rattle.vm_base.specs.Cores.{members}
-use Rattle.vm_base.specs.Info.{is_recorded}
+use Rattle.vm_base.specs.Info.{is_recorded, frame_of}
 use Rattle.radix_node.specs.declared.node.Node.{Node}
 use Rattle.radix_node.specs.declared.node.Slot.{Slot}
 use Rattle.radix_node.specs.declared.node.Slot.TheVariants.{Own as OwnSlot, Child}
@@ -13,7 +13,7 @@ use Rattle.radix_node.specs.State.{State, state_of}
 use Rattle.radix_node.specs.Run.{Run, Cell, cell_at, width_of}
 use Rattle.radix_node.specs.Node.{Parts, runs, flatten}
 use Rattle.radix_node.specs.Slots.{parts_of, IsNode}
-use Rattle.radix_node.specs.Walk.{OnAll, IsMapped, HasUser, Blocked, IsOpen, IsFree}
+use Rattle.radix_node.specs.Walk.{OnAll, IsMapped, HasNoFrame, IsFirstFramed, HasUser, Blocked, IsOpen, IsFree, Finds}
 use Rattle.radix_node.proofs.Flat.{IsPlace, cell_at-Own, cell_at-Child, child_level, child_pages, width_pos}
 
 -- ---- the pages of one slot
@@ -213,6 +213,44 @@ child_unmapped {level = level} {i = i} d b v first end lo hi n l is same part no
     let m = lower part x y in
     subst (λ (c : Cell). IsMapped c.state.info) (child_cell d b v n l is same part y)
     (all (i * width_of level + q) m.low m.high))
+
+pub own_framed : {A : Type 0} {level i frame : ℕ} {ss : List (Slot A)} (d : Slot A) (s : SlotState) (first end : ℕ)
+    → IsNode level ss → i < 512 → OwnSlot s ≡ get_or ss i d
+    → first < end → i * width_of level < end → first < i * width_of level + width_of level
+    → frame_of (state_of s).info ≡ Some frame
+    → Seen (flatten (width_of level) (parts_of ss)) HasNoFrame first end (i * width_of level)
+    → IsFirstFramed (flatten (width_of level) (parts_of ss)) first end (max first (i * width_of level)) frame
+own_framed {level = level} {i = i} d s first end n l is some low past had h = record {
+  low = omega arith;
+  high = omega arith;
+  before = λ p a b. h.seen p a (omega arith) (omega arith);
+  had = ap (λ (s : State). frame_of s.info) (own_first d s first n l is past) ∙ had;
+}
+
+pub child_framed : {A : Type 0} {level i q frame : ℕ} {ss : List (Slot A)} (d : Slot A) (b : Box (Node A) A) (v : Parts) (first end lo hi : ℕ)
+    → IsNode level ss → i < 512 → Child b ≡ get_or ss i d
+    → v ≡ b.value → IsPart first end (i * width_of level) (width_of level) lo hi
+    → IsFirstFramed (runs v) lo hi q frame
+    → Seen (flatten (width_of level) (parts_of ss)) HasNoFrame first end (i * width_of level)
+    → IsFirstFramed (flatten (width_of level) (parts_of ss)) first end (i * width_of level + q) frame
+child_framed {level = level} {i = i} {q = q} {ss = ss} d b v first end lo hi n l is same part f h =
+    let m = lower part f.low f.high in
+    record {
+      low = m.low;
+      high = m.high;
+      before = λ p a e. ⊎_elim
+          (λ (x : p < i * width_of level). h.seen p a (omega (arith, m.high)) x)
+          (λ (x : i * width_of level ≤ p).
+          let k : i * width_of level + (p - i * width_of level) ≡ p = omega arith in
+          subst (λ (c : Cell). HasNoFrame c.state.info)
+          (sym
+          (child_cell {q = p - i * width_of level} d b v n l is same part (omega (arith, f.high))) ∙
+          ap (cell_at (flatten (width_of level) (parts_of ss))) k)
+          (f.before (p - i * width_of level) (omega (arith, part.first_is)) (omega arith)))
+          (cases_lt p (i * width_of level));
+      had = ap (λ (c : Cell). frame_of c.state.info) (child_cell d b v n l is same part f.high)
+          ∙ f.had;
+    }
 
 -- ---- the cores of the pages
 

@@ -1,9 +1,9 @@
 -- What a change makes of a slot
-use Rattle.std.specs.Prelude.{ℕ, ◌-◌, Option, None}
+use Rattle.std.specs.Prelude.{◌≡◌, ℕ, ◌-◌, Option, None}
 use Rattle.vm_base.specs.declared.info.PageInfo.{PageInfo}
-use Rattle.vm_base.specs.Info.{info_from, info_with_prot}
+use Rattle.vm_base.specs.Info.{info_from, info_with_prot, info_without_frame}
 use Rattle.radix_node.specs.declared.edit.Edit.{Edit}
-use Rattle.radix_node.specs.declared.edit.Edit.TheVariants.{Put, Protect}
+use Rattle.radix_node.specs.declared.edit.Edit.TheVariants.{Put, Protect, DropFrame}
 use Rattle.radix_node.specs.State.{State}
 use Rattle.radix_node.specs.Run.{Cell, IsSound}
 
@@ -11,6 +11,7 @@ use Rattle.radix_node.specs.Run.{Cell, IsSound}
 abbrev pub edited_info : Edit → ℕ → Option PageInfo → Option PageInfo
 edited_info (Put first) n info = info_from first n
 edited_info (Protect prot) n info = info_with_prot prot info
+edited_info DropFrame n info = info_without_frame info
 
 -- a slot after a change of a range that begins so many pages before it
 abbrev pub edited : Edit → ℕ → State → State
@@ -25,3 +26,4 @@ edited_cell edit n c =
 abbrev pub CanEdit : Edit → ℕ → Type 0
 CanEdit (Put info) n = IsSound n (record { info = info; owner = None })
 CanEdit (Protect prot) n = Unit {0}
+CanEdit DropFrame n = Unit {0}

@@ -16,6 +16,8 @@ pub enum Edit {
     Put(Option<PageInfo>),
     /// Each page has this protection, and no recorded core.
     Protect(Prot),
+    /// No page has a frame.
+    DropFrame,
 }
 
 impl<A: Allocator> Node<A> {

@@ -184,6 +184,7 @@ impl SlotState {
                 self.prot = *prot;
                 self.cores = CoreSet::empty();
             }
+            Edit::DropFrame => self.has_frame = false,
         }
     }
 

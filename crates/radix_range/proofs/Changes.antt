@@ -1,11 +1,23 @@
 -- Slots with another owner, another frame, or a change of their range
-use Rattle.std.proofs.Common.{◌≡◌, ℕ, ◌-◌, ◌^◌, ◌<◌, ◌≤◌, ⊎_elim, Bool, true, false, Option, refl, sym, subst, arith}
+use Rattle.std.proofs.Common.{◌≡◌, ℕ, ◌+◌, ◌-◌, ◌^◌, ◌<◌, ◌≤◌, ◌==◌, ◌||◌, ◌⊎◌, inl, inr, ⊎_elim, Bool, true, false, cond, Option, Some, None, is_some, refl, sym, ◌∙◌, ap, subst, arith}
 use Rattle.std.proofs.lemmas.Bool.{cases_lt}
+use Rattle.vm_base.specs.declared.page.PageRange.{PageRange}
+use Rattle.vm_base.specs.declared.info.PageInfo.{PageInfo}
+use Rattle.vm_base.specs.declared.info.Meta.{Meta}
+use Rattle.vm_base.specs.declared.info.Back.{Back}
+use Rattle.vm_base.specs.declared.info.Back.TheVariants.{Anon, Shared, Private}
+use Rattle.vm_base.specs.declared.rights.Prot.{Prot}
 use Rattle.vm_base.specs.Functions.{has}
-use Rattle.vm_base.specs.Info.{info_from}
-use Rattle.vm_base.proofs.Functions.{by_test, has_in}
-use Rattle.slot_lock.specs.Slots.{Slots, IsSlot, between, with_owner}
-use Rattle.slot_lock.proofs.Edits.{same_slots}
+use Rattle.vm_base.specs.Pages.{IsPage, IsPageRange}
+use Rattle.vm_base.specs.Info.{advance, advance_back, file_page, frame_of, info_from, info_file_page, info_with_prot, info_without_frame, is_leaf, unused}
+use Rattle.vm_base.proofs.Functions.{by_test, has_in, in_has}
+use Rattle.slot_lock.specs.declared.plan.Change.{Change}
+use Rattle.slot_lock.specs.declared.plan.Change.TheVariants.{Put, Clear, Protect}
+use Rattle.slot_lock.specs.Plan.{IsSoundChange, range_of}
+use Rattle.slot_lock.specs.Slots.{Slots, IsSlot, IsCut, HasMeta, between, with_owner, with_info}
+use Rattle.slot_lock.specs.RunSlots.{changed}
+use Rattle.slot_lock.specs.RunLaws.{info_from_twice, info_from_zero}
+use Rattle.slot_lock.proofs.Edits.{has_not, has_below, has_above, has_or, has_one, same_slots}
 use Rattle.slot_lock.proofs.Steps.{slot_by_edge}
 use Rattle.radix_node.specs.State.{State}
 use Rattle.radix_node.specs.Run.{IsSound}
@@ -57,3 +69,17 @@ restated_owner s page end state owner h = same_slots _ _
     (λ e. refl))
     (λ p. refl)
     (λ p. refl)
+
+-- a page with a frame is a slot of its own
+pub framed_alone : (v : Parts) → IsRadix v → (p frame : ℕ) → frame_of ((tree_slots v).info p) ≡ Some frame → IsSlot (tree_slots v) p (p + 1)
+framed_alone v ok p frame h =
+    let both = (tree-is_slot_map v ok).alone p (leaf ((tree_slots v).info p) h) in
+    record { ordered = omega arith; begins = both.0; ends = both.1; inside = λ q a b. absurd (omega arith) }
+  where
+    some_frame_leaf : (f : Option ℕ) (b : Bool) → f ≡ Some frame → is_some f || b ≡ true
+    some_frame_leaf None b e = cc
+    some_frame_leaf (Some x) b e = refl
+
+    leaf : (o : Option PageInfo) → frame_of o ≡ Some frame → is_leaf o ≡ true
+    leaf None e = cc
+    leaf (Some info) e = some_frame_leaf info.frame _ e

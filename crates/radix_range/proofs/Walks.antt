@@ -1,20 +1,23 @@
 -- What a tree's slots say of the pages of a range
-use Rattle.std.proofs.Common.{◌≡◌, ℕ, ◌+◌, ◌-◌, ◌*◌, ◌^◌, ◌<◌, ◌≤◌, ◌↔◌, ⊎_elim, Bool, true, Option, None, is_some, List, sym, ◌∙◌, ap, subst, arith}
+use Rattle.std.proofs.Common.{◌≡◌, ℕ, ◌+◌, ◌-◌, ◌*◌, ◌^◌, ◌<◌, ◌≤◌, ◌↔◌, ⊎_elim, Bool, true, false, Option, Some, None, is_some, List, refl, sym, ◌∙◌, ap, subst, arith}
 use Rattle.std.proofs.lemmas.Bool.{cases_lt}
 use Rattle.vm_base.specs.declared.page.PageRange.{PageRange}
 use Rattle.vm_base.specs.declared.info.PageInfo.{PageInfo}
-use Rattle.vm_base.specs.Info.{info_from, frame_of}
+use Rattle.vm_base.specs.Functions.{has}
+use Rattle.vm_base.specs.Pages.{IsPageRange}
+use Rattle.vm_base.specs.Info.{info_from, frame_of, is_recorded}
 use Rattle.vm_base.proofs.Functions.{has_in, in_has}
 use Rattle.slot_lock.specs.declared.framed.Framed.{Framed}
 use Rattle.slot_lock.specs.Framed.{AddsFrames, frames_in}
-use Rattle.slot_lock.specs.Slots.{IsUser, AllMapped, IsFreeRun}
+use Rattle.slot_lock.specs.Slots.{IsUser, AllMapped, IsFreeRun, NoFrames}
 use Rattle.slot_lock.proofs.Listing.{adds_same}
 use Rattle.slot_lock.proofs.Walks.{is_some-from, frame_of-from, is_recorded-from}
 use Rattle.radix_node.specs.Run.{Run, cell_at, width_of}
 use Rattle.radix_node.specs.Node.{Parts}
-use Rattle.radix_node.specs.Walk.{OnAll, IsMapped, HasUser, Blocked, IsFree, IsOpen, frames_from}
-use Rattle.radix_range.specs.Tree.{slots_of, IsRadix}
+use Rattle.radix_node.specs.Walk.{OnAll, IsMapped, HasNoFrame, IsFirstFramed, HasUser, Blocked, IsFree, IsOpen, frames_from}
+use Rattle.radix_range.specs.Tree.{slots_of, tree_slots, IsRadix}
 use Rattle.radix_range.specs.TreeLaws.{pages_are}
+use Rattle.radix_range.specs.Found.{IsFirstFrame}
 
 -- the pages that are asked for are the root's
 pub of_root : (v : Parts) → IsRadix v → (end : ℕ) → end ≤ 2 ^ 36 → end ≤ 512 * width_of v.level
@@ -31,6 +34,20 @@ mapped_are rs range = (
   λ all p h. let m = has_in range p h in is_some-from (cell_at rs p).state.info (cell_at rs p).offset ∙ all p m.0 m.1,
   λ all p a b. sym (is_some-from (cell_at rs p).state.info (cell_at rs p).offset) ∙ all p (in_has range p a b),
 )
+
+pub no_frames : (rs : List Run) (first end : ℕ) → OnAll HasNoFrame rs first end → NoFrames (slots_of rs) first end
+no_frames rs first end h = record { none = λ p a b. frame_of-from (cell_at rs p).state.info (cell_at rs p).offset ∙ h p a b }
+
+pub nowhere : (rs : List Run) (first end : ℕ) → end ≤ first → NoFrames (slots_of rs) first end
+nowhere rs first end l = record { none = λ p a b. absurd (omega arith) }
+
+pub first_framed : (rs : List Run) (first end page frame : ℕ) → IsFirstFramed rs first end page frame → IsFirstFrame (slots_of rs) first end page frame
+first_framed rs first end page frame h = record {
+  low = h.low;
+  high = h.high;
+  before = no_frames rs first page h.before;
+  had = frame_of-from (cell_at rs page).state.info (cell_at rs page).offset ∙ h.had;
+}
 
 pub frames_are : (rs : List Run) (first end : ℕ) (old new : List Framed) → AddsFrames (frames_from 0 rs) (0 + first) end old new → AddsFrames (frames_in (slots_of rs)) first end old new
 frames_are rs first end old new h =

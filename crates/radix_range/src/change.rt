@@ -1,6 +1,7 @@
 //! Changes of a tree's slots.
 ghost use Rattle.std.specs.Prelude.{◌≡◌, ℕ, ◌+◌, ◌-◌, ◌^◌, ◌<◌, ◌≤◌, ◌↔◌, OnOk, OnErr, IsTrue, true, false, Option, Some};
 ghost use Rattle.vm_base.specs.Pages.{IsPage, IsPageRange};
+ghost use Rattle.vm_base.specs.Info.{info_without_frame};
 ghost use Rattle.slot_lock.specs.Plan.{IsSoundChange, range_of};
 ghost use Rattle.slot_lock.specs.Slots.{Divides, DividesAs, HasMeta, IsCut, IsSlot, Joins, between, with_owner, with_info};
 ghost use Rattle.slot_lock.specs.RunSlots.{changed};
@@ -77,6 +78,17 @@ pub fn set_info<A: Allocator>(root: &mut Node<A>, page: u64, info: PageInfo)
     ensures slots { tree_slots root.new ≡ with_info (tree_slots root.old) page (Some info) }
 {
     edit_range(root, one_page(page), &Edit::Put(Some(info)));
+}
+
+/// Takes its frame from a page that is a slot of its own.
+pub fn clear_frame<A: Allocator>(root: &mut Node<A>, page: u64)
+    requires tree { IsRadix root.old }
+    requires page { IsPage page }
+    requires alone { IsSlot (tree_slots root.old) page (page + 1) }
+    ensures tree { IsRadix root.new }
+    ensures slots { tree_slots root.new ≡ with_info (tree_slots root.old) page (info_without_frame ((tree_slots root.old).info page)) }
+{
+    edit_range(root, one_page(page), &Edit::DropFrame);
 }
 
 fn one_page(page: u64) -> PageRange

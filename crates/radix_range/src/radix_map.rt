@@ -131,6 +131,14 @@ impl<A: Allocator + Clone> SlotMap for RadixMap<A> {
         change::change(&mut self.root, Change::Protect { range, prot });
     }
 
+    fn take_frame(&mut self, core: CoreId, from: u64, end: u64) -> Option<(u64, u32)> {
+        let Some(taken) = walk::first_frame(&self.root, from, end) else {
+            return None;
+        };
+        change::clear_frame(&mut self.root, taken.0);
+        Some(taken)
+    }
+
     fn list_frames(&self, from: u64, end: u64, list: &mut FramedPages) -> u64 {
         walk::list_frames(&self.root, from, end, list)
     }

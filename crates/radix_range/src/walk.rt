@@ -4,8 +4,9 @@ ghost use Rattle.vm_base.specs.Cores.{members};
 ghost use Rattle.vm_base.specs.Pages.{IsPageRange};
 ghost use Rattle.arrayvec.specs.ArrayVec.{array_vec_len};
 ghost use Rattle.slot_lock.specs.Framed.{AddsFrames, frames_in};
-ghost use Rattle.slot_lock.specs.Slots.{IsFreeRun, IsUser, AllMapped};
+ghost use Rattle.slot_lock.specs.Slots.{IsFreeRun, IsUser, AllMapped, NoFrames};
 ghost use Rattle.radix_range.specs.Tree.{IsRadix, tree_slots};
+ghost use Rattle.radix_range.specs.Found.{IsFirstFrame};
 
 use radix_node::{FreeRun, Node};
 use slot_lock::FramedPages;
@@ -45,9 +46,27 @@ pub fn all_mapped<A: Allocator>(root: &Node<A>, range: PageRange) -> bool
     root.all_mapped(range.first, range.end)
 }
 
+/// The first page with a frame from a page up to another, and the frame.
+pub fn first_frame<A: Allocator>(root: &Node<A>, from: u64, end: u64) -> Option<(u64, u32)>
+    requires tree { IsRadix root.now }
+    requires end { end ≤ 2 ^ 35 }
+    ensures some { IfSome result (λ taken. IsFirstFrame (tree_slots root.now) from end taken.0 taken.1) }
+    ensures none { IfNone result (NoFrames (tree_slots root.now) from end) }
+{
+    if from >= end {
+        return None;
+    }
+    root.first_frame(from, end)
+}
+
 /// Adds the pages from `from` up to `end` that have a frame, and their frames, to the list, in order of pages, until it is
 /// full. Answers the page up to which none is left out.
-pub fn list_frames<A: Allocator>(root: &Node<A>, from: u64, end: u64, list: &mut FramedPages) -> u64
+pub fn list_frames<A: Allocator>(
+    root: &Node<A>,
+    from: u64,
+    end: u64,
+    list: &mut FramedPages,
+) -> u64
     requires tree { IsRadix root.now }
     requires ordered { from ≤ end }
     requires end { end ≤ 2 ^ 35 }

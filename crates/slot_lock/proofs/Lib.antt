@@ -4,6 +4,7 @@ pub mod Edits
 pub mod Changes
 pub mod Joins
 pub mod Walks
+pub mod Frames
 pub mod Listing
 pub mod EdgeCounts
 pub mod SlotLaws

@@ -1,6 +1,7 @@
 -- What a walk over the runs of a range has seen
-use Rattle.std.proofs.Common.{◌≡◌, ℕ, ◌+◌, ◌-◌, ◌^◌, ◌<◌, ◌≤◌, ◌⊎◌, ◌↔◌, ◌||◌, ⊎_elim, inl, inr, Bool, true, false, List, length, Option, Some, None, is_some, refl, sym, ◌∙◌, ap, max, min, arith}
+use Rattle.std.proofs.Common.{◌≡◌, ℕ, ◌+◌, ◌-◌, ◌^◌, ◌<◌, ◌≤◌, ◌⊎◌, ◌↔◌, ◌||◌, ⊎_elim, inl, inr, Bool, true, false, List, length, get_or, Option, Some, None, is_some, refl, sym, ◌∙◌, ap, max, min, arith}
 use Rattle.std.proofs.lemmas.Bool.{cases_lt}
+use Rattle.std.proofs.lemmas.List.{get_or_default}
 use Rattle.vm_base.specs.declared.info.PageInfo.{PageInfo}
 use Rattle.vm_base.specs.declared.page.PageRange.{PageRange}
 use Rattle.vm_base.specs.Functions.{has}
@@ -8,11 +9,15 @@ use Rattle.vm_base.specs.Cores.{members}
 use Rattle.vm_base.specs.Info.{info_from, frame_of, is_recorded}
 use Rattle.vm_base.proofs.Functions.{has_in, in_has}
 use Rattle.slot_lock.specs.declared.run.Run.{Run}
-use Rattle.slot_lock.specs.Runs.{IsRuns, IsAt, get_run}
+use Rattle.slot_lock.specs.Runs.{IsRuns, IsAt, get_run, nobody}
 use Rattle.slot_lock.specs.Places.{run_at_is}
-use Rattle.slot_lock.specs.Slots.{Slots, IsUser, AllMapped, IsFreeRun}
+use Rattle.slot_lock.specs.Slots.{Slots, IsUser, AllMapped, IsFreeRun, NoFrames}
 use Rattle.slot_lock.specs.RunSlots.{slots_of}
 use Rattle.slot_lock.proofs.Steps.{before_limit}
+
+-- what an index at the walk's place reads
+pub read_info : (rs : List Run) (i : ℕ) (r : Run) (o : Option PageInfo) → i < length rs → (get_or rs i r).info ≡ o → (get_run rs i).info ≡ o
+read_info rs i r o h e = sym (ap (λ (r : Run). r.info) (get_or_default rs i r nobody h)) ∙ e
 
 pub is_some-from : (o : Option PageInfo) (n : ℕ) → is_some (info_from o n) ≡ is_some o
 is_some-from None n = refl
@@ -85,8 +90,14 @@ seen_next rs ok Q first i s h q = record {
 abbrev pub IsMapped : Option PageInfo → Type 0
 IsMapped o = is_some o ≡ true
 
+abbrev pub HasNoFrame : Option PageInfo → Type 0
+HasNoFrame o = frame_of o ≡ None
+
 pub all_seen : (rs : List Run) (range : PageRange) (i : ℕ) → Seen rs IsMapped range.first i → range.end ≤ (get_run rs i).start → AllMapped (slots_of rs) range
 all_seen rs range i s l p h = let b = has_in range p h in s.seen p b.0 (omega (arith, b.1))
+
+pub none_seen : (rs : List Run) (from end i : ℕ) → Seen rs HasNoFrame from i → end ≤ (get_run rs i).start → NoFrames (slots_of rs) from end
+none_seen rs from end i s l = record { none = λ p a b. s.seen p a (omega arith) }
 
 pub some_unmapped : (rs : List Run) → IsRuns rs → (range : PageRange) (i : ℕ) → IsWalk rs range.first i → i + 1 < length rs → range.first < range.end → (get_run rs i).start < range.end → is_some (get_run rs i).info ≡ false → ¬ AllMapped (slots_of rs) range
 some_unmapped rs ok range i w h some l none all = go (page_in rs ok range.first i w h)

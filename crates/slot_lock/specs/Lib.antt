@@ -8,4 +8,5 @@ pub mod RunSlots
 pub mod Places
 pub mod RunLaws
 pub mod Adding
+pub mod Walks
 pub mod Edges

@@ -6,7 +6,7 @@ use Rattle.vm_base.specs.declared.info.Meta.{Meta}
 use Rattle.vm_base.specs.declared.rights.Prot.{Prot}
 use Rattle.vm_base.specs.Functions.{put, over, across, has}
 use Rattle.vm_base.specs.Pages.{IsPage, IsPageRange}
-use Rattle.vm_base.specs.Info.{advance, info_from, info_file_page, is_leaf, unused, is_recorded, info_with_prot}
+use Rattle.vm_base.specs.Info.{advance, info_from, info_file_page, is_leaf, unused, frame_of, is_recorded, info_with_prot, info_without_frame}
 use Rattle.slot_lock.specs.declared.slot_map.Fit.{Fit}
 use Rattle.slot_lock.specs.declared.slot_map.Fit.TheVariants.{Cut, Fits}
 use Rattle.slot_lock.specs.declared.slot_map.Got.{Got}
@@ -228,12 +228,24 @@ abbrev pub IfCut : Fit → Type 0 → Type 0
 IfCut Cut said = said
 IfCut Fits said = Unit {0}
 
--- ---- mappings and users of pages
+-- ---- frames, mappings and users of pages
 
 -- the page is mapped so
 abbrev pub HasMeta : Option PageInfo → Meta → Type 0
 HasMeta None meta = ⊥
 HasMeta (Some info) meta = info.meta ≡ meta
+
+-- no page from first up to end has a frame
+pub record NoFrames (s : Slots) (first end : ℕ) : Type 0 where
+  pub none : (p : ℕ) → first ≤ p → p < end → frame_of (s.info p) ≡ None
+
+-- the page was the first from a page on with a frame, and lost it
+pub record LosesFrame (s t : Slots) (first end page frame : ℕ) : Type 0 where
+  pub low : first ≤ page
+  pub high : page < end
+  pub before : NoFrames s first page
+  pub had : frame_of (s.info page) ≡ Some frame
+  pub now : t ≡ with_info s page (info_without_frame (s.info page))
 
 -- n unmapped pages from start on lie in the range
 pub record IsFreeRun (s : Slots) (range : PageRange) (n start : ℕ) : Type 0 where

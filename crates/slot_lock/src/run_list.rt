@@ -187,6 +187,19 @@ impl<A: Allocator> SlotMap for RunList<A> {
         run::change(&mut self.runs, Change::Protect { range, prot });
     }
 
+    fn take_frame(&mut self, core: CoreId, from: u64, end: u64) -> Option<(u64, u32)> {
+        let Some(first) = walk::first_frame(&self.runs, from, end) else {
+            return None;
+        };
+        let page = self.runs[first.place].start;
+        let info = PageInfo {
+            frame: None,
+            ..first.info
+        };
+        run::set_info(&mut self.runs, first.place, info);
+        Some((page, first.frame))
+    }
+
     fn list_frames(&self, from: u64, end: u64, list: &mut FramedPages) -> u64 {
         walk::list_frames(&self.runs, from, end, list)
     }

@@ -10,7 +10,7 @@ ghost use Rattle.vm_base.specs.Pages.{IsPage, IsPageRange};
 ghost use Rattle.slot_lock.specs.Plan.{FitsFile};
 ghost use Rattle.arrayvec.specs.ArrayVec.{array_vec_len};
 ghost use Rattle.slot_lock.specs.Framed.{AddsFrames, frames_in};
-ghost use Rattle.slot_lock.specs.Slots.{Slots, IsSlot, IsSlotBy, IsSlotMap, IsHeld, IsCrossed, OwnsAll, Steps, Crosses, CutSteps, Unlocks, Joins, HasMeta, IsFreeRun, IsUser, AllMapped, DividesAs, IfSplit, IfCut, between, crossed_edge, cleared, mapped, protected, with_info};
+ghost use Rattle.slot_lock.specs.Slots.{Slots, IsSlot, IsSlotBy, IsSlotMap, IsHeld, IsCrossed, OwnsAll, Steps, Crosses, CutSteps, Unlocks, Joins, HasMeta, IsFreeRun, LosesFrame, NoFrames, IsUser, AllMapped, DividesAs, IfSplit, IfCut, between, crossed_edge, cleared, mapped, protected, with_info};
 
 use crate::framed::FramedPages;
 use vm_base::{CoreId, CoreSet, Meta, NoMemory, PageInfo, PageRange, Prot};
@@ -135,6 +135,13 @@ pub trait SlotMap: SlotRead {
         requires held { IsHeld (Self.slots self.old) core range }
         requires mapped { AllMapped (Self.slots self.old) range }
         ensures { Self.slots self.new ≡ protected (Self.slots self.old) range prot };
+
+    /// Takes the frame of the first page from `from` up to `end` that has one, and answers both.
+    fn take_frame(&mut self, core: CoreId, from: u64, end: u64) -> Option<(u64, u32)>
+        requires pages { (1 ≤ from) × (from ≤ end) × (end ≤ 2 ^ 35) }
+        requires held { OwnsAll (Self.slots self.old) core from end }
+        ensures some { IfSome result (λ taken. LosesFrame (Self.slots self.old) (Self.slots self.new) from end taken.0 taken.1) }
+        ensures none { IfNone result (NoFrames (Self.slots self.old) from end × (Self.slots self.new ≡ Self.slots self.old)) };
 
     /// Adds the pages from `from` up to `end` that have a frame, and their frames, to the list, in order of pages, until it is
     /// full. Answers the page up to which none is left out.

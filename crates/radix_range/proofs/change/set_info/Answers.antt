@@ -1,5 +1,7 @@
-use Rattle.std.proofs.Common.{◌∙◌, ap, Some}
-use Rattle.radix_node.specs.declared.edit.Edit.TheVariants.{Put}
+use Rattle.std.proofs.Common.{◌≡◌, ◌∙◌, ap, refl, Some}
+use Rattle.vm_base.specs.Info.{info_without_frame}
+use Rattle.radix_node.specs.declared.edit.Edit.TheVariants.{Put, DropFrame}
+use Rattle.slot_lock.specs.Slots.{between}
 use Rattle.slot_lock.specs.RunLaws.{info_from_zero}
 use Rattle.radix_range.specs.Tree.{tree_slots}
 use Rattle.radix_range.specs.Found.{edited_to}
