@@ -5,8 +5,6 @@ pub mod cached_frame;
 mod file_object;
 pub mod file_spec;
 pub mod objects;
-#[cfg(test)]
-mod tests;
 
 pub use cached_frame::CachedFrame;
 pub use file_spec::{FileSpec, Sharing};

@@ -1,47 +1,59 @@
 //! The change of the pages, once no core that was told is awaited any more.
 ghost use Rattle.std.specs.Prelude.{◌≡◌, ◌-◌, ◌<◌};
 ghost use Rattle.vm_base.specs.Info.{frame_of};
+ghost use Rattle.vm_base.specs.Pages.{IsPageRange};
 ghost use Rattle.refcache.specs.Parts.{counts_of};
 ghost use Rattle.slot_lock.specs.Plan.{IsSoundChange, range_of};
-ghost use Rattle.slot_lock.specs.Slots.{NoFrames, IsHeld};
+ghost use Rattle.slot_lock.specs.Slots.{IsHeld};
 ghost use Rattle.machine_model.specs.Changes.{slots_after, reply_to};
 ghost use Rattle.machine_model.specs.Counting.{CountsDown, frame_lost};
 ghost use Rattle.machine_model.specs.Step.{Goes};
 ghost use Rattle.core_steps.specs.State.{world};
 ghost use Rattle.core_steps.specs.Moving.{IsAt};
-ghost use Rattle.core_steps.specs.Taking.{AlikeOutside, AreCounted, IsMappedFor};
+ghost use Rattle.core_steps.specs.Taking.{AreCounted, AreUsed, CountsEach, IsMappedFor};
 
 use crate::engine::Engine;
 use machine_model::{Blocker, Outcome, Phase};
 use mmu::Hardware;
 use refcache::Refcache;
-use slot_lock::{Change, SlotMap};
+use slot_lock::{Change, Framed, FramedPages, SlotMap};
 use std::alloc::Allocator;
 use vm_base::page::PAGE_SIZE;
 use vm_base::{CoreId, PageRange, Reply};
 
-/// Takes the frames of all pages of the range and counts them down, in order of pages.
-fn take_frames<M: SlotMap, A: Allocator>(
-    map: &mut M,
+/// Counts the frames of the listed pages down, in order.
+fn count_list<A: Allocator>(counts: &mut Refcache<A>, core: CoreId, list: &[Framed])
+    requires here { core < (counts_of counts.old).cores }
+    requires used { AreUsed list.now (counts_of counts.old) }
+    ensures { CountsEach core list.now (counts_of counts.old) (counts_of counts.new) }
+{
+    'pages: for k in 0..list.len() {
+        counts.dec(core, list[k].frame);
+    }
+}
+
+/// Counts the frames of all pages of the range down, in order of pages, a list of them at a time.
+fn count_frames<M: SlotMap, A: Allocator>(
+    map: &M,
     counts: &mut Refcache<A>,
     core: CoreId,
     range: PageRange,
 )
-    requires held { IsHeld (M.slots map.old) core range }
+    requires pages { IsPageRange range }
     requires here { core < (counts_of counts.old).cores }
-    requires counted { AreCounted (M.slots map.old).info (counts_of counts.old) }
-    ensures none { NoFrames (M.slots map.new) range.first range.end }
-    ensures others { AlikeOutside (M.slots map.old) (M.slots map.new) range }
-    ensures counted { CountsDown core (λ p. frame_of ((M.slots map.old).info p)) range.first (range.end - range.first) (counts_of counts.old) (counts_of counts.new) }
+    requires counted { AreCounted (M.slots map.now).info (counts_of counts.old) }
+    ensures { CountsDown core (λ p. frame_of ((M.slots map.now).info p)) range.first (range.end - range.first) (counts_of counts.old) (counts_of counts.new) }
 {
+    let mut list = FramedPages::new();
     let mut from = range.first;
-    'frames: while let Some((page, frame)) = map.take_frame(core, from, range.end) {
-        counts.dec(core, frame);
-        from = page + 1;
+    'lists: while from < range.end {
+        list.clear();
+        from = map.list_frames(from, range.end, &mut list);
+        count_list(counts, core, &list);
     }
 }
 
-/// Makes the change of pages that the core holds. Replaced and unmapped pages lose their frames first.
+/// Makes the change of pages that the core holds. The frames of replaced and unmapped pages are counted down first.
 fn make_change<M: SlotMap, A: Allocator>(
     map: &mut M,
     counts: &mut Refcache<A>,
@@ -58,11 +70,11 @@ fn make_change<M: SlotMap, A: Allocator>(
 {
     match change {
         Change::Put { range, meta } => {
-            take_frames(map, counts, core, range);
+            count_frames(map, counts, core, range);
             map.set_range(core, range, meta);
         }
         Change::Clear { range } => {
-            take_frames(map, counts, core, range);
+            count_frames(map, counts, core, range);
             map.clear_range(core, range);
         }
         Change::Protect { range, prot } => map.protect_range(core, range, prot),

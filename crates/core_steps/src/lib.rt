@@ -10,8 +10,6 @@ mod check;
 mod commit;
 mod copy;
 mod core_events;
-#[cfg(test)]
-mod core_tests;
 mod cores;
 mod counting;
 mod decide;
@@ -19,19 +17,13 @@ mod engine;
 mod events;
 mod fault;
 mod file_pages;
-#[cfg(test)]
-mod file_tests;
 mod filling;
 mod give_up;
 pub mod machine;
 mod reserved;
 pub mod run_result;
-#[cfg(test)]
-mod run_tests;
 pub mod running;
 pub mod setup;
-#[cfg(test)]
-mod tests;
 
 pub use machine::{Finished, Machine};
 pub use run_result::{Run, RunFault};

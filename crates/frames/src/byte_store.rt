@@ -86,6 +86,20 @@ impl<A: Allocator> ByteStore<A> {
         page_bytes::push(&mut self.pages, page);
     }
 
+    /// Sets the byte of a frame that has no page yet. It stands by itself, so that only the first write to a frame has a
+    /// page on its stack.
+    #[inline(never)]
+    fn set_first_byte(&mut self, frame: u32, offset: usize, byte: u8)
+        requires frame { frame < length self.old.places }
+        requires offset { offset < 4096 }
+        requires new { get_or self.old.places frame None ≡ None }
+        ensures bytes { stored_bytes self.new ≡ put (stored_bytes self.old) frame (put (stored_bytes self.old frame) offset byte) }
+        ensures count { length self.new.places ≡ length self.old.places }
+        ensures capacity { self.new.capacity ≡ self.old.capacity }
+    {
+        self.add(frame, page_bytes::page_with(offset, byte));
+    }
+
     /// Sets the byte of a frame at an offset in bytes.
     pub fn set_byte(&mut self, frame: u32, offset: usize, byte: u8)
         requires frame { frame < length self.old.places }
@@ -97,7 +111,7 @@ impl<A: Allocator> ByteStore<A> {
         let place = place_of(&self.places, frame);
         match place {
             Some(at) => page_bytes::set_byte(&mut self.pages, at as usize, offset, byte),
-            None => self.add(frame, page_bytes::page_with(offset, byte)),
+            None => self.set_first_byte(frame, offset, byte),
         }
     }
 
@@ -116,6 +130,7 @@ impl<A: Allocator> ByteStore<A> {
     }
 
     /// Gives a frame these bytes, and zeros after them.
+    #[inline(never)]
     pub fn fill(&mut self, frame: u32, bytes: &[u8])
         requires frame { frame < length self.old.places }
         requires short { length bytes.now ≤ 4096 }
@@ -131,6 +146,7 @@ impl<A: Allocator> ByteStore<A> {
     }
 
     /// Copies all bytes of the frame `from`, which has this page, to the frame `to`.
+    #[inline(never)]
     fn copy_page(&mut self, at: u32, from: u32, to: u32)
         requires page { get_or self.old.places from None ≡ Some at }
         requires to { to < length self.old.places }

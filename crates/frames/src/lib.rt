@@ -7,8 +7,6 @@ pub mod cell;
 pub mod frames;
 mod free_set;
 mod page_bytes;
-#[cfg(test)]
-mod tests;
 
 pub use cell::FrameCell;
 pub use frames::Frames;

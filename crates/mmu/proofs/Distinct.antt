@@ -1,12 +1,13 @@
 -- A TLB with one translation of a page at most: where the page stands, and what changes leave so
-use Rattle.std.proofs.Common.{◌≡◌, ℕ, ◌<◌, ◌==◌, ◌&&◌, Bool, true, false, List, [], ◌∷◌, ◌++◌, length, drop, Option, None, Some, is_some, get_or, nat_lt, refl, ◌∙◌, ap, arith, not, zero, suc}
+use Rattle.std.proofs.Common.{◌≡◌, ℕ, ◌<◌, ◌==◌, ◌&&◌, Bool, true, false, List, [], ◌∷◌, ◌++◌, length, drop, Option, None, Some, is_some, get_or, nat_lt, refl, ◌∙◌, sym, ap, arith, not, zero, suc, remove}
 use Rattle.std.specs.Prelude.{if◌then◌else◌}
 use Rattle.std.specs.List.{position, position_or_len}
 use Rattle.std.proofs.lemmas.List.Sums.{position_or_len_is}
+use Rattle.std.proofs.lemmas.List.Quantifiers.{position-Some}
 use Rattle.std.proofs.lemmas.Bool.Decides.{nat_tests}
 use Rattle.mmu.specs.declared.entry.Translation.{Translation}
 use Rattle.mmu.specs.declared.tlb.TlbEntry.{TlbEntry}
-use Rattle.mmu.specs.Tlb.{tlb_at, tlb_without, tlb_filled, are_distinct}
+use Rattle.mmu.specs.Tlb.{tlb_at, tlb_without, is_page, tlb_filled, are_distinct}
 
 -- ---- pages without a translation
 
@@ -29,7 +30,7 @@ absent_end : (es : List TlbEntry) (x : TlbEntry) (p : ℕ) → tlb_at es p ≡ N
 absent_end [] x p h e = absent_more x [] p e refl
 absent_end (y ∷ ys) x p h e = absent_more y (ys ++ x ∷ []) p (parts y ys p h).0 (absent_end ys x p (parts y ys p h).1 e)
 
-absent_drop : (es : List TlbEntry) (p : ℕ) → tlb_at es p ≡ None → tlb_at (drop 1 es) p ≡ None
+pub absent_drop : (es : List TlbEntry) (p : ℕ) → tlb_at es p ≡ None → tlb_at (drop 1 es) p ≡ None
 absent_drop [] p h = refl
 absent_drop (x ∷ xs) p h = (parts x xs p h).1
 
@@ -73,14 +74,14 @@ at_place es p i d h l e = go (position_or_len (λ (x : TlbEntry). x.page == p) e
         below : nat_lt i (length es) ≡ true
         below = grind (arith, nat_tests)
 
-distinct_end : (es : List TlbEntry) (x : TlbEntry) → are_distinct es ≡ true → tlb_at es x.page ≡ None → are_distinct (es ++ x ∷ []) ≡ true
+pub distinct_end : (es : List TlbEntry) (x : TlbEntry) → are_distinct es ≡ true → tlb_at es x.page ≡ None → are_distinct (es ++ x ∷ []) ≡ true
 distinct_end [] x h n = refl
 distinct_end (y ∷ ys) x h n =
     let other : (y.page == x.page) ≡ false = (parts y ys x.page n).0 in
     let flipped : (x.page == y.page) ≡ false = grind (arith, nat_tests) in
     distinct_more y (ys ++ x ∷ []) (absent_end ys x y.page (apart_head y ys h).0 flipped) (distinct_end ys x (apart_head y ys h).1 (parts y ys x.page n).1)
 
-distinct_drop : (es : List TlbEntry) → are_distinct es ≡ true → are_distinct (drop 1 es) ≡ true
+pub distinct_drop : (es : List TlbEntry) → are_distinct es ≡ true → are_distinct (drop 1 es) ≡ true
 distinct_drop [] h = refl
 distinct_drop (x ∷ xs) h = (apart_head x xs h).1
 
@@ -101,3 +102,25 @@ distinct_without s (x ∷ xs) h = go (distinct_without s xs (apart_head x xs h).
     go : are_distinct (tlb_without s xs) ≡ true → (b : Bool) → are_distinct (if not b then x ∷ tlb_without s xs else tlb_without s xs) ≡ true
     go rest true = rest
     go rest false = distinct_more x (tlb_without s xs) (absent_without s xs x.page (apart_head x xs h).0) rest
+
+-- ---- the one translation of a page
+
+-- without a page that has none
+pub none_dropped : (es : List TlbEntry) (p : ℕ) → tlb_at es p ≡ None → es ≡ tlb_without (is_page p) es
+none_dropped [] p h = refl
+none_dropped (x ∷ xs) p h = rw (parts x xs p h).0 (ap (λ ys. x ∷ ys) (none_dropped xs p (parts x xs p h).1))
+
+-- wherever the page stands, what is left there is all but that page
+one_dropped : (es : List TlbEntry) (p i : ℕ) (d : TlbEntry) → are_distinct es ≡ true → i < length es → ((get_or es i d).page == p) ≡ true → remove es i ≡ tlb_without (is_page p) es
+one_dropped [] p i d h l e = absurd (omega arith)
+one_dropped (x ∷ xs) p zero d h l e =
+    let here : x.page ≡ p = grind (arith, nat_tests) in
+    let none : tlb_at xs p ≡ None = ap (tlb_at xs) (sym here) ∙ (apart_head x xs h).0 in
+    rw e (none_dropped xs p none)
+one_dropped (x ∷ xs) p (suc i) d h l e =
+    let differs : (x.page == p) ≡ false = apart (x ∷ xs) (suc i) 0 d p h (omega arith) l e in
+    rw differs (ap (λ ys. x ∷ ys) (one_dropped xs p i d (apart_head x xs h).1 (omega arith) e))
+
+-- what is left at the place that the page was found at
+pub found_dropped : (es : List TlbEntry) (p i : ℕ) (d : TlbEntry) → are_distinct es ≡ true → position (λ (e : TlbEntry). e.page == p) es ≡ Some i → remove es i ≡ tlb_without (is_page p) es
+found_dropped es p i d h at = let s = position-Some (λ (e : TlbEntry). e.page == p) es i d at in one_dropped es p i d h s.0 s.1

@@ -1,5 +1,5 @@
 -- A TLB: the translations that a core holds, the oldest filled first
-use Rattle.std.specs.Prelude.{ℕ, ◌==◌, ◌&&◌, not, Bool, true, is_some, if◌then◌else◌, length, List, [], ◌∷◌, ◌++◌, Option, None, Some, drop, filter}
+use Rattle.std.specs.Prelude.{◌≡◌, ℕ, ◌<◌, ◌==◌, ◌&&◌, not, Bool, true, is_some, if◌then◌else◌, length, List, [], ◌∷◌, ◌++◌, Option, None, Some, drop, filter, count_by, slice_index, bit_xor, ◌/◌, ◌%◌, ◌^◌}
 use Rattle.mmu.specs.declared.entry.Translation.{Translation}
 use Rattle.mmu.specs.declared.tlb.TlbEntry.{TlbEntry}
 
@@ -24,3 +24,16 @@ is_page p q = q == p
 -- with one translation more, the oldest filled making room
 abbrev pub tlb_filled : ℕ → Translation → List TlbEntry → List TlbEntry
 tlb_filled p e es = (if length es == 64 then drop 1 es else es) ++ record { page = p; translation = e } ∷ []
+
+-- a number below 256 for each page: the lower four bytes of the page's number, in one by xor
+unfoldable pub page_hash : ℕ → ℕ
+page_hash p = bit_xor (bit_xor (bit_xor p (p / 2 ^ 8)) (p / 2 ^ 16)) (p / 2 ^ 24) % 256
+
+-- how many translations are of pages with this hash
+abbrev pub hashed : ℕ → List TlbEntry → ℕ
+hashed h es = count_by (λ (e : TlbEntry). page_hash e.page == h) es
+
+-- the numbers are, for each hash, how many translations have it
+pub record AreCounts (counts : List ℕ) (es : List TlbEntry) : Type 0 where
+  pub whole : length counts ≡ 256
+  pub exact : (h : ℕ) → h < 256 → slice_index counts h ≡ hashed h es

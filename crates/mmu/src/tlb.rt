@@ -1,7 +1,7 @@
 //! The translations that a core holds, the oldest filled first.
-ghost use Rattle.std.specs.Prelude.{◌≡◌, ◌==◌, ◌<◌, ◌≤◌, [], not, true, None, IfSome, length, position};
+ghost use Rattle.std.specs.Prelude.{◌≡◌, ◌==◌, ◌<◌, ◌≤◌, [], not, true, None, IfSome, length, drop, position, if◌then◌else◌};
 ghost use Rattle.vm_base.specs.Functions.{has};
-ghost use Rattle.mmu.specs.Tlb.{tlb_at, tlb_without, is_page, tlb_filled, are_distinct};
+ghost use Rattle.mmu.specs.Tlb.{tlb_at, tlb_without, is_page, tlb_filled, are_distinct, page_hash, AreCounts};
 
 use crate::entry::Translation;
 use arrayvec::ArrayVec;
@@ -24,10 +24,14 @@ pub struct Tlb {
     /// Where a page's translation may stand, by a hash of the page's number: the place at which one was seen last, counted
     /// on by `gone`. It is tested before it is used, so it may be out of date.
     places: [u8; 256],
+    /// How many translations are of pages with each hash. A page whose hash has none is missed without a look at the
+    /// translations.
+    counts: [u8; 256],
     /// How many translations have made room, modulo 256. Each moved the others by one place.
     gone: u8,
     ghost few: { length entries.items ≤ 64 },
     ghost distinct: { are_distinct entries.items ≡ true },
+    ghost counted: { AreCounts counts entries.items },
 }
 
 impl Tlb {
@@ -38,6 +42,7 @@ impl Tlb {
         Tlb {
             entries: ArrayVec::new(),
             places: [0; 256],
+            counts: [0; 256],
             gone: 0,
         }
     }
@@ -53,7 +58,8 @@ impl Tlb {
         }
     }
 
-    /// The place of the page's translation, if there is one: where it was seen last, or else by a look at each.
+    /// The place of the page's translation, if there is one: where it was seen last, or else by a look at each, where one
+    /// has the page's hash.
     fn place_of(&mut self, page: u64) -> Option<usize>
         ensures value { result ≡ position (λ e. e.page == page) self.old.entries.items }
         ensures within { IfSome result (λ place. place < length self.old.entries.items) }
@@ -62,6 +68,9 @@ impl Tlb {
         let noted = self.noted(page);
         if noted < self.entries.len() && self.entries[noted].page == page {
             return Some(noted);
+        }
+        if self.counts[hash(page)] == 0 {
+            return None;
         }
         match first_place(&self.entries, page) {
             None => None,
@@ -85,40 +94,92 @@ impl Tlb {
         self.places[hash(page)] = (place as u8).wrapping_add(self.gone);
     }
 
+    /// Drops the oldest filled where there is no room for another.
+    fn make_room(&mut self)
+        ensures { self.new.entries.items ≡ (if length self.old.entries.items == 64
+            then drop 1 self.old.entries.items else self.old.entries.items) }
+    {
+        if self.entries.is_full() {
+            let oldest = self.entries.remove(0);
+            self.gone = self.gone.wrapping_add(1);
+            self.counts[hash(oldest.page)] -= 1;
+        }
+    }
+
     /// Takes in the translation of a page that has none. Where there is no room, the oldest filled goes.
     pub fn fill(&mut self, page: u64, translation: Translation)
         requires { tlb_at self.old.entries.items page ≡ None }
         ensures { self.new.entries.items ≡ tlb_filled page translation self.old.entries.items }
     {
-        if self.entries.is_full() {
-            self.entries.remove(0);
-            self.gone = self.gone.wrapping_add(1);
-        }
+        self.make_room();
         let place = self.entries.len();
-        self.note(page, place);
         self.entries.push(TlbEntry { page, translation });
+        self.counts[hash(page)] += 1;
+        self.note(page, place);
     }
 
     /// Drops the translations of the pages of the range.
     pub fn invalidate(&mut self, range: PageRange)
         ensures { self.new.entries.items ≡ tlb_without (has range) self.old.entries.items }
     {
+        let before = self.entries.len();
         self.entries.retain(|entry| is_outside(entry, range));
+        if self.entries.len() != before {
+            self.counts = counts_of(&self.entries);
+            self.renote();
+        }
     }
 
     /// Drops the translation of the page.
     pub fn drop_page(&mut self, page: u64)
         ensures { self.new.entries.items ≡ tlb_without (is_page page) self.old.entries.items }
     {
-        self.entries.retain(|entry| is_other(entry, page));
+        if let Some(place) = self.place_of(page) {
+            self.entries.remove(place);
+            self.counts[hash(page)] -= 1;
+            self.renote();
+        }
+    }
+
+    /// Notes anew where each translation stands, after some in their midst were dropped.
+    fn renote(&mut self)
+        ensures { self.new.entries.items ≡ self.old.entries.items }
+    {
+        self.places = places_of(&self.entries);
+        self.gone = 0;
     }
 }
 
 /// The lower four bytes of the page's number, in one by xor. It tells 64 pages of any stride of a power of 2 apart.
+#[tactic(auto, unfolding(crate::specs::Tlb::page_hash))]
 fn hash(page: u64) -> usize
-    ensures { result < 256 }
+    ensures value { result ≡ page_hash page }
+    ensures below { result < 256 }
 {
     ((page ^ (page >> 8) ^ (page >> 16) ^ (page >> 24)) % 256) as usize
+}
+
+/// How many entries have each hash.
+fn counts_of(entries: &[TlbEntry]) -> [u8; 256]
+    requires { length entries.now ≤ 64 }
+    ensures { AreCounts result entries.now }
+{
+    let mut counts = [0; 256];
+    for entry in entries {
+        counts[hash(entry.page)] += 1;
+    }
+    counts
+}
+
+/// Where an entry with each hash stands; 0 where none has it.
+fn places_of(entries: &[TlbEntry]) -> [u8; 256]
+    requires { length entries.now ≤ 64 }
+{
+    let mut places = [0; 256];
+    for (place, entry) in entries.iter().enumerate() {
+        places[hash(entry.page)] = place as u8;
+    }
+    places
 }
 
 /// The first place of a translation of the page.
@@ -134,11 +195,4 @@ fn is_outside(entry: &TlbEntry, range: PageRange) -> bool
     ensures { result ≡ not (has range entry.now.page) }
 {
     !range.contains(entry.page)
-}
-
-/// Tells whether the entry is another page's.
-fn is_other(entry: &TlbEntry, page: u64) -> bool
-    ensures { result ≡ not (entry.now.page == page) }
-{
-    entry.page != page
 }

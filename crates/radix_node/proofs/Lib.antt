@@ -5,4 +5,5 @@ pub mod Joined
 pub mod Folds
 pub mod Locks
 pub mod Walks
+pub mod Listing
 pub mod Edits

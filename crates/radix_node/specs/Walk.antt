@@ -1,5 +1,5 @@
 -- What is found on the pages of a range
-use Rattle.std.specs.Prelude.{◌≡◌, ℕ, ◌+◌, ◌<◌, ◌≤◌, true, is_some, Option, None, Some, List}
+use Rattle.std.specs.Prelude.{◌≡◌, ℕ, ◌+◌, ◌-◌, ◌<◌, ◌≤◌, true, is_some, Option, None, Some, List}
 use Rattle.vm_base.specs.declared.info.PageInfo.{PageInfo}
 use Rattle.vm_base.specs.Info.{frame_of, is_recorded}
 use Rattle.radix_node.specs.declared.walk.FreeRun.{FreeRun}
@@ -22,6 +22,10 @@ pub record IsFirstFramed (rs : List Run) (first end page frame : ℕ) : Type 0 w
   pub high : page < end
   pub before : OnAll HasNoFrame rs first page
   pub had : frame_of (cell_at rs page).state.info ≡ Some frame
+
+-- the frame of each page, if it has one, where the node's pages are counted from the base on
+abbrev pub frames_from : ℕ → List Run → ℕ → Option ℕ
+frames_from base rs p = frame_of (cell_at rs (p - base)).state.info
 
 -- the core is recorded on a page from first up to end
 abbrev pub HasUser : List Run → ℕ → ℕ → ℕ → Type 0

@@ -1,12 +1,15 @@
 //! Walks over the slots of a range of a node's pages, from left to right: each slot, and each node below, is visited once.
 ghost use Rattle.std.specs.Prelude.{◌≡◌, ℕ, ◌+◌, ◌*◌, ◌<◌, ◌≤◌, ◌^◌, ◌↔◌, IfSome, IfNone, IsTrue, min, max, true};
 ghost use Rattle.vm_base.specs.Cores.{members};
+ghost use Rattle.arrayvec.specs.ArrayVec.{array_vec_len};
+ghost use Rattle.slot_lock.specs.Framed.{AddsFrames};
 ghost use Rattle.radix_node.specs.Run.{width_of};
 ghost use Rattle.radix_node.specs.Node.{runs};
-ghost use Rattle.radix_node.specs.Walk.{OnAll, IsMapped, HasNoFrame, IsFirstFramed, HasUser, Finds};
+ghost use Rattle.radix_node.specs.Walk.{OnAll, IsMapped, HasNoFrame, IsFirstFramed, HasUser, Finds, frames_from};
 
 use crate::node::{Node, Slot};
 use crate::place::{part_in, slot_pages, slots_of};
+use slot_lock::{Framed, FramedPages};
 use std::alloc::Allocator;
 use vm_base::CoreSet;
 
@@ -93,6 +96,42 @@ impl<A: Allocator> Node<A> {
             }
         }
         None
+    }
+
+    /// Adds the node's pages from `first` up to `end` that have a frame, and their frames, to the list, in order, until it is
+    /// full. Answers the page up to which none is left out. There and in the list the node's pages are counted from `base` on.
+    pub fn list_frames(&self, base: u64, first: u64, end: u64, list: &mut FramedPages) -> u64
+        requires some { first < end }
+        requires within { end ≤ 512 * width_of self.now.level }
+        requires fits { base + 512 * width_of self.now.level ≤ 2 ^ 36 }
+        ensures low { base + first ≤ result }
+        ensures high { result ≤ base + end }
+        ensures added { AddsFrames (frames_from base (runs self.now)) (base + first) result list.old.items list.new.items }
+        ensures full { result < base + end → array_vec_len list.new ≡ 32 }
+    {
+        let width = slot_pages(self.level);
+        let slots = slots_of(self.level, first, end);
+        'slots: for k in slots.from..slots.to {
+            let slot = base + k as u64 * width;
+            match &self.slots[k] {
+                Slot::Own(state) => {
+                    if let Some(frame) = state.frame() {
+                        if list.is_full() {
+                            return slot;
+                        }
+                        list.push(Framed { page: slot, frame });
+                    }
+                }
+                Slot::Child(node) => {
+                    let part = part_in(first, end, k as u64 * width, width);
+                    let upto = node.list_frames(slot, part.first, part.end, list);
+                    if upto < slot + part.end {
+                        return upto;
+                    }
+                }
+            }
+        }
+        base + end
     }
 
     /// Looks for the first `n` free pages that end by `end`, where the node's pages are counted from `base` on but for `first`

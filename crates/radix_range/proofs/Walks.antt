@@ -1,5 +1,5 @@
 -- What a tree's slots say of the pages of a range
-use Rattle.std.proofs.Common.{◌≡◌, ℕ, ◌+◌, ◌*◌, ◌^◌, ◌<◌, ◌≤◌, ◌↔◌, ⊎_elim, Bool, true, false, Option, Some, None, is_some, List, refl, sym, ◌∙◌, ap, arith}
+use Rattle.std.proofs.Common.{◌≡◌, ℕ, ◌+◌, ◌-◌, ◌*◌, ◌^◌, ◌<◌, ◌≤◌, ◌↔◌, ⊎_elim, Bool, true, false, Option, Some, None, is_some, List, refl, sym, ◌∙◌, ap, subst, arith}
 use Rattle.std.proofs.lemmas.Bool.{cases_lt}
 use Rattle.vm_base.specs.declared.page.PageRange.{PageRange}
 use Rattle.vm_base.specs.declared.info.PageInfo.{PageInfo}
@@ -7,11 +7,14 @@ use Rattle.vm_base.specs.Functions.{has}
 use Rattle.vm_base.specs.Pages.{IsPageRange}
 use Rattle.vm_base.specs.Info.{info_from, frame_of, is_recorded}
 use Rattle.vm_base.proofs.Functions.{has_in, in_has}
+use Rattle.slot_lock.specs.declared.framed.Framed.{Framed}
+use Rattle.slot_lock.specs.Framed.{AddsFrames, frames_in}
 use Rattle.slot_lock.specs.Slots.{IsUser, AllMapped, IsFreeRun, NoFrames}
+use Rattle.slot_lock.proofs.Listing.{adds_same}
 use Rattle.slot_lock.proofs.Walks.{is_some-from, frame_of-from, is_recorded-from}
 use Rattle.radix_node.specs.Run.{Run, cell_at, width_of}
 use Rattle.radix_node.specs.Node.{Parts}
-use Rattle.radix_node.specs.Walk.{OnAll, IsMapped, HasNoFrame, IsFirstFramed, HasUser, Blocked, IsFree, IsOpen}
+use Rattle.radix_node.specs.Walk.{OnAll, IsMapped, HasNoFrame, IsFirstFramed, HasUser, Blocked, IsFree, IsOpen, frames_from}
 use Rattle.radix_range.specs.Tree.{slots_of, tree_slots, IsRadix}
 use Rattle.radix_range.specs.TreeLaws.{pages_are}
 use Rattle.radix_range.specs.Found.{IsFirstFrame}
@@ -45,6 +48,14 @@ first_framed rs first end page frame h = record {
   before = no_frames rs first page h.before;
   had = frame_of-from (cell_at rs page).state.info (cell_at rs page).offset ∙ h.had;
 }
+
+pub frames_are : (rs : List Run) (first end : ℕ) (old new : List Framed) → AddsFrames (frames_from 0 rs) (0 + first) end old new → AddsFrames (frames_in (slots_of rs)) first end old new
+frames_are rs first end old new h =
+    let at : 0 + first ≡ first = omega arith in
+    adds_same _ _ first end old new (λ p a b. same p) (subst (λ n. AddsFrames (frames_from 0 rs) n end old new) at h)
+  where
+    same : (p : ℕ) → frames_from 0 rs p ≡ frames_in (slots_of rs) p
+    same p = let k : p - 0 ≡ p = omega arith in ap (λ n. frame_of (cell_at rs n).state.info) k ∙ sym (frame_of-from (cell_at rs p).state.info (cell_at rs p).offset)
 
 clash : (o : Option PageInfo) → is_some o ≡ true → o ≡ None → ⊥
 clash o e f = cc

@@ -4,6 +4,7 @@ ghost use Rattle.vm_base.specs.Info.{info_file_page, is_leaf};
 
 use linked_list_allocator::LocalHeap;
 use radix_node::{Edit, Found, FreeRun, Lock, Node, SlotState};
+use slot_lock::{Framed, FramedPages};
 use std::alloc::Allocator;
 use std::test::Fail;
 use vm_base::{Back, CoreId, CoreSet, Meta, NoMemory, PageInfo, Prot};
@@ -256,8 +257,9 @@ fn a_slot_says_what_it_was_given(rt: HostRuntime) -> Result<(), Fail> {
     Ok(())
 }
 
-// What walks over the pages round a used one find: its core, its frame, whether pages are mapped, and free pages.
-type Walked = (bool, Option<(u64, u32)>, [bool; 2], u64);
+// What walks over the pages round a used one find: its core, whether it is listed alone with its frame, whether pages are
+// mapped, and free pages.
+type Walked = (bool, bool, [bool; 2], u64);
 
 fn walked<A: Allocator>(node: &mut Node<A>) -> Option<Walked> {
     if node.level() != 1 || node.descend(1030).offset != 0 || node.descend(1031).offset != 0 {
@@ -269,9 +271,16 @@ fn walked<A: Allocator>(node: &mut Node<A>) -> Option<Walked> {
         FreeRun::Found(page) => page,
         FreeRun::Open(_) => 0,
     };
+    let mut list = FramedPages::new();
+    // the node's first page is page 4096
+    let upto = node.list_frames(4096, 1000, 2000, &mut list);
+    let framed = Framed {
+        page: 5126,
+        frame: 9,
+    };
     Some((
         node.recorded(1000, 2000).contains(CoreId::new(2)),
-        node.first_frame(1000, 2000),
+        upto == 6096 && list.as_slice() == [framed].as_slice(),
         mapped,
         free,
     ))
@@ -293,7 +302,7 @@ fn walked_of_new<A: Allocator + Clone>(alloc: A) -> Result<Option<Walked>, NoMem
 fn walks_find_a_used_page(rt: HostRuntime) -> Result<(), Fail> {
     let told = walked_of_new(rt.alloc())?;
     // pages 1000 to 1029 are too few, and page 1030 is mapped
-    assert!(rt; told == Some((true, Some((1030, 9)), [true, false], 1031)));
+    assert!(rt; told == Some((true, true, [true, false], 1031)));
     Ok(())
 }
 

@@ -5,7 +5,7 @@ ghost use Rattle.radix_range.specs.Tree.{IsRadix};
 use crate::slot::slot_at;
 use crate::{change, walk};
 use radix_node::{Lock, Node};
-use slot_lock::{Change, Fit, Got, SlotMap, SlotRead};
+use slot_lock::{Change, Fit, FramedPages, Got, SlotMap, SlotRead};
 use std::alloc::Allocator;
 use vm_base::info::info_from;
 use vm_base::{CoreId, CoreSet, Meta, NoMemory, PageInfo, PageRange, Prot};
@@ -137,6 +137,10 @@ impl<A: Allocator + Clone> SlotMap for RadixMap<A> {
         };
         change::clear_frame(&mut self.root, taken.0);
         Some(taken)
+    }
+
+    fn list_frames(&self, from: u64, end: u64, list: &mut FramedPages) -> u64 {
+        walk::list_frames(&self.root, from, end, list)
     }
 
     fn set_leaf(&mut self, core: CoreId, page: u64, info: PageInfo) {

@@ -1,12 +1,12 @@
 //! The same calls on both slot maps, worked acquisitions, cuts and folds, each allocation refused in turn, and memory that
 //! comes back.
-ghost use Rattle.std.specs.Prelude.{◌≡◌, ◌+◌, ◌-◌, ◌<◌, ◌≤◌, ◌^◌, IsTrue};
+ghost use Rattle.std.specs.Prelude.{◌≡◌, ◌+◌, ◌-◌, ◌<◌, ◌≤◌, ◌^◌, IsTrue, Some};
 ghost use Rattle.vm_base.specs.Pages.{IsPage, IsPageRange, pages_from};
-ghost use Rattle.slot_lock.specs.Slots.{IsHeld, IsSlot, NoFrames, OwnsAll};
+ghost use Rattle.slot_lock.specs.Slots.{IsHeld, IsSlot, OwnsAll};
 
 use crate::radix_map::RadixMap;
 use linked_list_allocator::LocalHeap;
-use slot_lock::{Acquire, Fit, Footprint, Got, RunList, SlotMap, SlotRead};
+use slot_lock::{Acquire, Fit, Footprint, Framed, FramedPages, Got, RunList, SlotMap, SlotRead};
 use std::test::Fail;
 use vm_base::{Back, CoreId, CoreSet, Meta, NoMemory, PageInfo, PageRange, Prot, is_valid};
 
@@ -131,28 +131,13 @@ fn is_held<M: SlotMap>(map: &M, core: CoreId, range: PageRange) -> bool
     }
 }
 
-// Tells whether the core holds the pages, which are one slot without frame.
-fn is_plain<M: SlotMap>(map: &M, core: CoreId, range: PageRange) -> bool
-    requires { IsPageRange range }
-    ensures held { IsTrue result → IsHeld (M.slots map.now) core range }
-    ensures frames { IsTrue result → NoFrames (M.slots map.now) range.first range.end }
-{
-    if !is_held(map, core, range) {
-        return false;
-    }
-    match map.page(range.first) {
-        Some(info) => info.frame.is_none(),
-        None => true,
-    }
-}
-
 // Each call that changes a map, where its condition holds.
 
 fn put<M: SlotMap>(map: &mut M, core: CoreId, range: PageRange) -> bool
     requires pages { IsPageRange range }
     requires few { range.end - range.first ≤ 2 ^ 34 }
 {
-    if !is_plain(map, core, range) {
+    if !is_held(map, core, range) {
         return false;
     }
     map.set_range(core, range, FILE);
@@ -162,7 +147,7 @@ fn put<M: SlotMap>(map: &mut M, core: CoreId, range: PageRange) -> bool
 fn clear<M: SlotMap>(map: &mut M, core: CoreId, range: PageRange) -> bool
     requires { IsPageRange range }
 {
-    if !is_plain(map, core, range) {
+    if !is_held(map, core, range) {
         return false;
     }
     map.clear_range(core, range);
@@ -197,13 +182,12 @@ fn mark<M: SlotMap>(map: &mut M, core: CoreId, page: u64, frame: u32) -> bool
     true
 }
 
-fn take<M: SlotMap>(map: &mut M, core: CoreId, range: PageRange) -> Option<(u64, u32)>
+// Whether one list of the pages of a range that have a frame is this, and says to go as far.
+fn lists<M: SlotMap>(map: &M, range: PageRange, expected: &[Framed], upto: u64) -> bool
     requires { IsPageRange range }
 {
-    if !is_held(map, core, range) {
-        return None;
-    }
-    map.take_frame(core, range.first, range.end)
+    let mut list = FramedPages::new();
+    map.list_frames(range.first, range.end, &mut list) == upto && list.as_slice() == expected
 }
 
 // The slot that begins with the pages and ends by their end.
@@ -281,7 +265,7 @@ struct Answers {
     recorded: [bool; 2],
     mapped: [bool; 2],
     protected: Option<PageInfo>,
-    taken: [Option<(u64, u32)>; 2],
+    framed: [bool; 2],
     unlocked: Option<u64>,
     slot: PageRange,
 }
@@ -305,18 +289,20 @@ fn each_change<M: SlotMap>(map: &mut M) -> Result<Answers, NoMemory> {
     let is_protected = protect(map, core, one, READ_WRITE);
     let protected = map.page(16);
     let after = map.recorded(round).contains(core);
-    let first_taken = take(map, core, one);
-    let second_taken = take(map, core, one);
+    let framed = Framed { page: 16, frame: 7 };
+    let listed = lists(map, round, &[framed], 20);
+    let is_anew = put(map, core, one);
+    let unlisted = lists(map, round, &[], 20);
     let is_cleared = clear(map, core, one);
     Ok(Answers {
-        done: is_put && is_marked && is_protected && is_cleared,
+        done: is_put && is_marked && is_protected && is_anew && is_cleared,
         free: [all_free, six, seven, three],
         used,
         beside: map.page(15),
         recorded: [before, after],
         mapped,
         protected,
-        taken: [first_taken, second_taken],
+        framed: [listed, unlisted],
         unlocked: unlock(map, core, one),
         slot: map.slot(16),
     })
@@ -344,7 +330,7 @@ fn expected() -> Answers {
             frame: Some(7),
             cores: CoreSet::empty(),
         }),
-        taken: [Some((16, 7)), None],
+        framed: [true, true],
         unlocked: Some(17),
         slot: PageRange { first: 16, end: 17 },
     }
@@ -361,6 +347,153 @@ fn each_change_on_both_maps(rt: HostRuntime) -> Result<(), Fail> {
     let mut tree = RadixMap::new(rt.alloc())?;
     assert!(rt; answers_as_expected(&mut list)?);
     assert!(rt; answers_as_expected(&mut tree)?);
+    Ok(())
+}
+
+// What a page of the file has that no core has used.
+fn unused(page: u64) -> Option<PageInfo> {
+    let back = Back::Private { file: 3, page };
+    Some(PageInfo::unused(Meta { back, ..FILE }))
+}
+
+// Maps a page and gives it a frame.
+fn framed_page<M: SlotMap>(map: &mut M, page: u64, frame: u32) -> Result<bool, NoMemory>
+    requires { IsPage page }
+{
+    let core = CoreId::new(1);
+    let one = one_page(page);
+    acquired(map, core, one, 5)?;
+    Ok(put(map, core, one) && mark(map, core, page, frame))
+}
+
+// Pages on both sides of the edge of a node of 512 pages, and beyond the next.
+const SPREAD: [Framed; 3] = [
+    Framed {
+        page: 510,
+        frame: 4,
+    },
+    Framed {
+        page: 512,
+        frame: 9,
+    },
+    Framed {
+        page: 1600,
+        frame: 2,
+    },
+];
+
+// Whether such pages are listed, all of them and those of a smaller range.
+fn lists_spread<M: SlotMap>(map: &mut M) -> Result<bool, NoMemory> {
+    let is_made = framed_page(map, 512, 9)?
+        && framed_page(map, 1600, 2)?
+        && framed_page(map, 510, 4)?;
+    let all = PageRange {
+        first: 500,
+        end: 2000,
+    };
+    let few = PageRange {
+        first: 511,
+        end: 1600,
+    };
+    let middle = Framed {
+        page: 512,
+        frame: 9,
+    };
+    Ok(is_made && lists(map, all, &SPREAD, 2000) && lists(map, few, &[middle], 1600))
+}
+
+#[test]
+fn frames_are_listed_on_both_maps(rt: HostRuntime) -> Result<(), Fail> {
+    let mut list = RunList::new(rt.alloc())?;
+    let mut tree = RadixMap::new(rt.alloc())?;
+    assert!(rt; lists_spread(&mut list)?);
+    assert!(rt; lists_spread(&mut tree)?);
+    Ok(())
+}
+
+// More pages than a list has room for, on both sides of the edge of a node.
+const MANY: PageRange = PageRange {
+    first: 500,
+    end: 540,
+};
+
+// Gives each of many pages a frame, whose number is the page's.
+fn frame_many<M: SlotMap>(map: &mut M) -> Result<bool, NoMemory> {
+    let mut is_made = true;
+    for page in 500..540u32 {
+        is_made = framed_page(map, u64::from(page), page)? && is_made;
+    }
+    Ok(is_made)
+}
+
+// Tells whether a list has the pages from one on, each with its own number as its frame.
+fn has_from(list: &FramedPages, first: u32) -> bool
+    requires { first ≤ 1000 }
+{
+    for (k, framed) in list.as_slice().iter().enumerate() {
+        let number = first + k as u32;
+        if framed.page != u64::from(number) || framed.frame != number {
+            return false;
+        }
+    }
+    true
+}
+
+// Whether two lists have all of many pages: 32 and the other 8.
+fn lists_many<M: SlotMap>(map: &M) -> bool {
+    let mut list = FramedPages::new();
+    let upto = map.list_frames(400, 600, &mut list);
+    if upto != 532 || list.len() != 32 || !has_from(&list, 500) {
+        return false;
+    }
+    list.clear();
+    map.list_frames(532, 600, &mut list) == 600 && list.len() == 8 && has_from(&list, 532)
+}
+
+fn owns<M: SlotMap>(map: &M, core: CoreId, page: u64) -> bool
+    requires { IsPage page }
+    ensures { IsTrue result → (M.slots map.now).owner page ≡ Some core }
+{
+    match map.owner(page) {
+        Some(owner) => owner.index() == core.index(),
+        None => false,
+    }
+}
+
+// Tells whether the core holds the pages, and no slot crosses an edge of them.
+fn is_held_in_slots<M: SlotMap>(map: &M, core: CoreId, range: PageRange) -> bool
+    requires pages { IsPageRange range }
+    requires below { range.end < 2 ^ 35 }
+    ensures { IsTrue result → IsHeld (M.slots map.now) core range }
+{
+    if map.slot(range.first).first != range.first || map.slot(range.end).first != range.end {
+        return false;
+    }
+    'pages: for page in range.first..range.end {
+        if !owns(map, core, page) {
+            return false;
+        }
+    }
+    true
+}
+
+// Whether all the pages lose their frames where they are mapped anew at once.
+fn lose_many<M: SlotMap>(map: &mut M) -> Result<bool, NoMemory> {
+    let core = CoreId::new(1);
+    let is_made = frame_many(map)? && lists_many(map);
+    if !is_made || !is_held_in_slots(map, core, MANY) {
+        return Ok(false);
+    }
+    map.set_range(core, MANY, FILE);
+    Ok(lists(map, MANY, &[], 540) && map.page(520) == unused(25))
+}
+
+#[test]
+fn many_frames_go_at_once_on_both_maps(rt: HostRuntime) -> Result<(), Fail> {
+    let mut list = RunList::new(rt.alloc())?;
+    let mut tree = RadixMap::new(rt.alloc())?;
+    assert!(rt; lose_many(&mut list)?);
+    assert!(rt; lose_many(&mut tree)?);
     Ok(())
 }
 
@@ -385,8 +518,7 @@ fn another_core_waits_on_both_maps(rt: HostRuntime) -> Result<(), Fail> {
 const INNER: u64 = 0x800_0258;
 
 fn inner_info() -> Option<PageInfo> {
-    let back = Back::Private { file: 3, page: 605 };
-    Some(PageInfo::unused(Meta { back, ..FILE }))
+    unused(605)
 }
 
 // Holds and maps the second slot of the root, and cuts it round some of its pages.

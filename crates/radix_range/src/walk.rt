@@ -2,11 +2,14 @@
 ghost use Rattle.std.specs.Prelude.{◌≡◌, ℕ, ◌+◌, ◌^◌, ◌<◌, ◌≤◌, ◌↔◌, IfSome, IfNone, IsTrue, true};
 ghost use Rattle.vm_base.specs.Cores.{members};
 ghost use Rattle.vm_base.specs.Pages.{IsPageRange};
+ghost use Rattle.arrayvec.specs.ArrayVec.{array_vec_len};
+ghost use Rattle.slot_lock.specs.Framed.{AddsFrames, frames_in};
 ghost use Rattle.slot_lock.specs.Slots.{IsFreeRun, IsUser, AllMapped, NoFrames};
 ghost use Rattle.radix_range.specs.Tree.{IsRadix, tree_slots};
 ghost use Rattle.radix_range.specs.Found.{IsFirstFrame};
 
 use radix_node::{FreeRun, Node};
+use slot_lock::FramedPages;
 use std::alloc::Allocator;
 use vm_base::{CoreSet, PageRange};
 
@@ -54,4 +57,26 @@ pub fn first_frame<A: Allocator>(root: &Node<A>, from: u64, end: u64) -> Option<
         return None;
     }
     root.first_frame(from, end)
+}
+
+/// Adds the pages from `from` up to `end` that have a frame, and their frames, to the list, in order of pages, until it is
+/// full. Answers the page up to which none is left out.
+pub fn list_frames<A: Allocator>(
+    root: &Node<A>,
+    from: u64,
+    end: u64,
+    list: &mut FramedPages,
+) -> u64
+    requires tree { IsRadix root.now }
+    requires ordered { from ≤ end }
+    requires end { end ≤ 2 ^ 35 }
+    ensures low { from ≤ result }
+    ensures high { result ≤ end }
+    ensures added { AddsFrames (frames_in (tree_slots root.now)) from result list.old.items list.new.items }
+    ensures full { result < end → array_vec_len list.new ≡ 32 }
+{
+    if from == end {
+        return end;
+    }
+    root.list_frames(0, from, end, list)
 }

@@ -11,7 +11,6 @@ pub mod Least
 pub mod PartsOf
 pub mod Held
 pub mod Sound
-pub mod Tried
 pub mod Unused
 pub mod Due
 pub mod Reached

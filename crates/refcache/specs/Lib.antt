@@ -7,4 +7,3 @@ pub mod Pieces
 pub mod Parts
 pub mod Epochs
 pub mod Sound
-pub mod Tried

@@ -7,8 +7,6 @@
 pub mod inbox;
 pub mod inboxes;
 pub mod message;
-#[cfg(test)]
-mod tests;
 
 pub use inbox::Inbox;
 pub use inboxes::Inboxes;

@@ -5,6 +5,7 @@ pub mod Changes
 pub mod Joins
 pub mod Walks
 pub mod Frames
+pub mod Listing
 pub mod EdgeCounts
 pub mod SlotLaws
 pub mod Divisions

@@ -3,6 +3,7 @@
 
 pub mod acquire;
 pub mod footprint;
+pub mod framed;
 pub mod laws;
 pub mod lent;
 pub mod plan;
@@ -13,6 +14,7 @@ pub mod walk;
 
 pub use acquire::Acquire;
 pub use footprint::Footprint;
+pub use framed::{Framed, FramedPages};
 pub use plan::{Change, Place, Plan, Touch};
 pub use run_list::RunList;
 pub use slot_map::{Fit, Got, SlotMap, SlotRead};

@@ -2,6 +2,7 @@
 ghost use Rattle.std.specs.Prelude.{◌≡◌, ◌≢◌, ℕ, ◌+◌, ◌-◌, ◌^◌, ◌<◌, ◌≤◌, IfOk, OnErr, Option, Some, Bool, length};
 ghost use Rattle.slot_lock.specs.Runs.{IsRuns};
 
+use crate::framed::FramedPages;
 use crate::plan::Change;
 use crate::run::{self, Run};
 use crate::slot_map::{Fit, Got, SlotMap, SlotRead};
@@ -197,6 +198,10 @@ impl<A: Allocator> SlotMap for RunList<A> {
         };
         run::set_info(&mut self.runs, first.place, info);
         Some((page, first.frame))
+    }
+
+    fn list_frames(&self, from: u64, end: u64, list: &mut FramedPages) -> u64 {
+        walk::list_frames(&self.runs, from, end, list)
     }
 
     fn set_leaf(&mut self, core: CoreId, page: u64, info: PageInfo) {

@@ -8,8 +8,11 @@ ghost use Rattle.vm_base.specs.Functions.{has};
 ghost use Rattle.vm_base.specs.Cores.{members};
 ghost use Rattle.vm_base.specs.Pages.{IsPage, IsPageRange};
 ghost use Rattle.slot_lock.specs.Plan.{FitsFile};
+ghost use Rattle.arrayvec.specs.ArrayVec.{array_vec_len};
+ghost use Rattle.slot_lock.specs.Framed.{AddsFrames, frames_in};
 ghost use Rattle.slot_lock.specs.Slots.{Slots, IsSlot, IsSlotBy, IsSlotMap, IsHeld, IsCrossed, OwnsAll, Steps, Crosses, CutSteps, Unlocks, Joins, HasMeta, IsFreeRun, LosesFrame, NoFrames, IsUser, AllMapped, DividesAs, IfSplit, IfCut, between, crossed_edge, cleared, mapped, protected, with_info};
 
+use crate::framed::FramedPages;
 use vm_base::{CoreId, CoreSet, Meta, NoMemory, PageInfo, PageRange, Prot};
 
 /// What one step of an acquisition did.
@@ -119,14 +122,12 @@ pub trait SlotMap: SlotRead {
     /// Maps the pages of the range anew, each later one to the next file page.
     fn set_range(&mut self, core: CoreId, range: PageRange, meta: Meta)
         requires held { IsHeld (Self.slots self.old) core range }
-        requires frames { NoFrames (Self.slots self.old) range.first range.end }
         requires fits { FitsFile meta (range.end - range.first) }
         ensures { Self.slots self.new ≡ mapped (Self.slots self.old) range meta };
 
     /// Unmaps the pages of the range.
     fn clear_range(&mut self, core: CoreId, range: PageRange)
         requires held { IsHeld (Self.slots self.old) core range }
-        requires frames { NoFrames (Self.slots self.old) range.first range.end }
         ensures { Self.slots self.new ≡ cleared (Self.slots self.old) range };
 
     /// Changes the protection of the pages of the range, and forgets which cores are recorded there. Frames stay.
@@ -141,6 +142,15 @@ pub trait SlotMap: SlotRead {
         requires held { OwnsAll (Self.slots self.old) core from end }
         ensures some { IfSome result (λ taken. LosesFrame (Self.slots self.old) (Self.slots self.new) from end taken.0 taken.1) }
         ensures none { IfNone result (NoFrames (Self.slots self.old) from end × (Self.slots self.new ≡ Self.slots self.old)) };
+
+    /// Adds the pages from `from` up to `end` that have a frame, and their frames, to the list, in order of pages, until it is
+    /// full. Answers the page up to which none is left out.
+    fn list_frames(&self, from: u64, end: u64, list: &mut FramedPages) -> u64
+        requires pages { (1 ≤ from) × (from ≤ end) × (end ≤ 2 ^ 35) }
+        ensures low { from ≤ result }
+        ensures high { result ≤ end }
+        ensures added { AddsFrames (frames_in (Self.slots self.now)) from result list.old.items list.new.items }
+        ensures full { result < end → array_vec_len list.new ≡ 32 };
 
     /// Sets the frame and the recorded cores of a mapped page that is a slot of its own.
     fn set_leaf(&mut self, core: CoreId, page: u64, info: PageInfo)

@@ -1,19 +1,22 @@
 //! Walks over the runs of a range, from left to right.
 ghost use Rattle.std.specs.Prelude.{◌≡◌, ℕ, ◌+◌, ◌^◌, ◌<◌, ◌≤◌, ◌↔◌, IfSome, IfNone, IsTrue, true};
 ghost use Rattle.vm_base.specs.Cores.{members};
-ghost use Rattle.vm_base.specs.Info.{is_recorded};
+ghost use Rattle.vm_base.specs.Info.{frame_of, is_recorded};
 ghost use Rattle.vm_base.specs.Pages.{IsPageRange};
 ghost use Rattle.slot_lock.specs.Runs.{IsRuns};
+ghost use Rattle.arrayvec.specs.ArrayVec.{array_vec_len};
+ghost use Rattle.slot_lock.specs.Framed.{AddsFrames, frames_in};
 ghost use Rattle.slot_lock.specs.Slots.{IsFreeRun, IsUser, AllMapped, NoFrames};
 ghost use Rattle.slot_lock.specs.RunSlots.{slots_of};
 ghost use Rattle.slot_lock.specs.Walks.{IsFirstFrame};
 
+use crate::framed::{Framed, FramedPages};
 use crate::run::{Run, place};
 use vm_base::{CoreSet, PageInfo, PageRange};
 
 /// The place of a run of one page with a frame, and what it has.
 #[derive(Clone, Copy, Debug)]
-pub struct Framed {
+pub struct FramedRun {
     pub place: usize,
     pub info: PageInfo,
     pub frame: u32,
@@ -85,7 +88,7 @@ pub fn all_mapped(runs: &[Run], range: PageRange) -> bool
 }
 
 /// The first run with a frame that begins from a page up to another.
-pub fn first_frame(runs: &[Run], from: u64, end: u64) -> Option<Framed>
+pub fn first_frame(runs: &[Run], from: u64, end: u64) -> Option<FramedRun>
     requires runs { IsRuns runs.now }
     requires end { end ≤ 2 ^ 35 }
     ensures some { IfSome result (IsFirstFrame runs.now from end) }
@@ -95,7 +98,7 @@ pub fn first_frame(runs: &[Run], from: u64, end: u64) -> Option<Framed>
     'runs: while runs[i].start < end {
         if let Some(info) = runs[i].info {
             if let Some(frame) = info.frame {
-                return Some(Framed {
+                return Some(FramedRun {
                     place: i,
                     info,
                     frame,
@@ -105,4 +108,39 @@ pub fn first_frame(runs: &[Run], from: u64, end: u64) -> Option<Framed>
         i += 1;
     }
     None
+}
+
+// The frame of a page, if it has one.
+fn frame_of(info: Option<PageInfo>) -> Option<u32>
+    ensures { result ≡ frame_of info }
+{
+    match info {
+        None => None,
+        Some(info) => info.frame,
+    }
+}
+
+/// Adds the pages from `from` up to `end` that have a frame, and their frames, to the list, in order of pages, until it is
+/// full. Answers the page up to which none is left out.
+pub fn list_frames(runs: &[Run], from: u64, end: u64, list: &mut FramedPages) -> u64
+    requires runs { IsRuns runs.now }
+    requires ordered { from ≤ end }
+    requires end { end ≤ 2 ^ 35 }
+    ensures low { from ≤ result }
+    ensures high { result ≤ end }
+    ensures added { AddsFrames (frames_in (slots_of runs.now)) from result list.old.items list.new.items }
+    ensures full { result < end → array_vec_len list.new ≡ 32 }
+{
+    let mut i = place(runs, from);
+    'runs: while runs[i].start < end {
+        if let Some(frame) = frame_of(runs[i].info) {
+            let page = runs[i].start;
+            if list.is_full() {
+                return page;
+            }
+            list.push(Framed { page, frame });
+        }
+        i += 1;
+    }
+    end
 }

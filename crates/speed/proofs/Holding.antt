@@ -2,9 +2,8 @@
 use Rattle.std.proofs.Common.{◌≡◌, ◌≢◌, ℕ, ◌+◌, ◌<◌, ◌≤◌, false, cond, Some, None, refl, ◌∙◌, ap, arith}
 use Rattle.vm_base.specs.Functions.{has}
 use Rattle.vm_base.specs.Pages.{IsPage}
-use Rattle.vm_base.specs.Info.{frame_of}
 use Rattle.vm_base.proofs.Functions.{over_all, has_in, in_has}
-use Rattle.slot_lock.specs.Slots.{Slots, Divides, IsHeld, NoFrames, Locks, Unlocks, Splits, between}
+use Rattle.slot_lock.specs.Slots.{Slots, Divides, IsHeld, Locks, Unlocks, Splits, between}
 use Rattle.speed.specs.Free.{IsFree, IsHeldAlone}
 
 pub locked_alone : (s t : Slots) (core page b : ℕ) → IsFree s → Locks s t core page (page + 1) b → IsHeldAlone t core page
@@ -47,13 +46,6 @@ alone-IsHeld s core page (low, high) h = record {
   held = λ p a b.
       let same : p ≡ page = omega arith in
       rw same h.own;
-}
-
-pub unmapped-NoFrames : (s : Slots) (page : ℕ) → s.info page ≡ None → NoFrames s page (page + 1)
-unmapped-NoFrames s page none = record {
-  none = λ p a b.
-      let same : p ≡ page = omega arith in
-      rw same (ap frame_of none);
 }
 
 -- a change of what pages have leaves the page held

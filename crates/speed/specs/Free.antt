@@ -1,6 +1,5 @@
 -- Slots that nobody holds, and slots of which one is held
 use Rattle.std.specs.Prelude.{◌≡◌, ◌≢◌, ℕ, ◌+◌, true, Some, None}
-use Rattle.vm_base.specs.Info.{frame_of}
 use Rattle.slot_lock.specs.Slots.{Slots}
 
 -- no core holds a page
@@ -13,8 +12,3 @@ pub record IsHeldAlone (s : Slots) (core page : ℕ) : Type 0 where
   pub begins : s.edge page ≡ true
   pub ends : s.edge (page + 1) ≡ true
   pub others : (p : ℕ) → p ≢ page → s.owner p ≡ None
-
--- the core holds the page, which has no frame
-pub record OwnsPage (s : Slots) (core page : ℕ) : Type 0 where
-  pub own : s.owner page ≡ Some core
-  pub frame : frame_of (s.info page) ≡ None

@@ -1,8 +1,7 @@
 //! Ranges of a radix tree's single pages: looked through for free pages and for cores, and mapped and unmapped.
-ghost use Rattle.std.specs.Prelude.{◌≡◌, ◌+◌, ◌<◌, ◌≤◌, ◌^◌, IfOk, IsTrue};
+ghost use Rattle.std.specs.Prelude.{◌≡◌, ◌+◌, ◌<◌, ◌≤◌, ◌^◌, IfOk, IsTrue, Some};
 ghost use Rattle.vm_base.specs.Pages.{IsPage, IsPageRange, pages_from};
-ghost use Rattle.slot_lock.specs.Slots.{IsHeld, NoFrames};
-ghost use Rattle.speed.specs.Free.{OwnsPage};
+ghost use Rattle.slot_lock.specs.Slots.{IsHeld};
 
 use crate::slots::{STRIDE, ZERO};
 use crate::tree::filled;
@@ -88,29 +87,22 @@ fn lock_page(map: &mut RadixMap<Global>, core: CoreId, page: u64)
     }
 }
 
-/// Tells whether the core holds the page, which has no frame.
+/// Tells whether the core holds the page.
 fn holds(map: &RadixMap<Global>, core: CoreId, page: u64) -> bool
     requires { IsPage page }
-    ensures { IsTrue result → OwnsPage (⟦<RadixMap<Global> as SlotRead>⟧.slots map.now) core page }
+    ensures { IsTrue result → (⟦<RadixMap<Global> as SlotRead>⟧.slots map.now).owner page ≡ Some core }
 {
     let Some(owner) = map.owner(page) else {
         return false;
     };
-    if owner.index() != core.index() {
-        return false;
-    }
-    match map.page(page) {
-        Some(info) => info.frame.is_none(),
-        None => true,
-    }
+    owner.index() == core.index()
 }
 
-/// Tells whether the core holds the range's pages, which have no frame, and no slot crosses an edge of it.
+/// Tells whether the core holds the range's pages, and no slot crosses an edge of it.
 fn is_held(map: &RadixMap<Global>, core: CoreId, range: PageRange) -> bool
     requires pages { IsPageRange range }
     requires below { range.end < 2 ^ 35 }
     ensures held { IsTrue result → IsHeld (⟦<RadixMap<Global> as SlotRead>⟧.slots map.now) core range }
-    ensures frames { IsTrue result → NoFrames (⟦<RadixMap<Global> as SlotRead>⟧.slots map.now) range.first range.end }
 {
     let first = map.slot(range.first);
     let after = map.slot(range.end);
@@ -128,9 +120,7 @@ fn is_held(map: &RadixMap<Global>, core: CoreId, range: PageRange) -> bool
 /// Maps the range anew.
 fn put<M: SlotMap>(map: &mut M, core: CoreId, range: PageRange)
     requires held { IsHeld (M.slots map.old) core range }
-    requires frames { NoFrames (M.slots map.old) range.first range.end }
     ensures held { IsHeld (M.slots map.new) core range }
-    ensures frames { NoFrames (M.slots map.new) range.first range.end }
 {
     map.set_range(core, range, ZERO);
 }
@@ -138,9 +128,7 @@ fn put<M: SlotMap>(map: &mut M, core: CoreId, range: PageRange)
 /// Unmaps the range.
 fn clear<M: SlotMap>(map: &mut M, core: CoreId, range: PageRange)
     requires held { IsHeld (M.slots map.old) core range }
-    requires frames { NoFrames (M.slots map.old) range.first range.end }
     ensures held { IsHeld (M.slots map.new) core range }
-    ensures frames { NoFrames (M.slots map.new) range.first range.end }
 {
     map.clear_range(core, range);
 }
@@ -148,7 +136,6 @@ fn clear<M: SlotMap>(map: &mut M, core: CoreId, range: PageRange)
 /// Maps and unmaps the range many times.
 fn edits<M: SlotMap>(map: &mut M, core: CoreId, range: PageRange, rounds: u64)
     requires held { IsHeld (M.slots map.old) core range }
-    requires frames { NoFrames (M.slots map.old) range.first range.end }
 {
     'rounds: for _ in 0..rounds {
         put(map, core, range);

@@ -1,7 +1,6 @@
 //! Pages of a radix tree looked up, and one page of it locked, mapped, unmapped and unlocked.
 ghost use Rattle.std.specs.Prelude.{◌≡◌, ◌+◌, ◌<◌, ◌≤◌, ◌^◌, IfOk, IsTrue};
 ghost use Rattle.vm_base.specs.Pages.{IsPage};
-ghost use Rattle.slot_lock.specs.Slots.{NoFrames};
 ghost use Rattle.speed.specs.Free.{IsFree, IsHeldAlone};
 
 use crate::slots::{STRIDE, ZERO, fill, lock, page_at, unlock};
@@ -51,9 +50,7 @@ fn look_ups<M: SlotMap>(map: &M, pages: u64, rounds: u64) -> u64
 fn put_anew<M: SlotMap>(map: &mut M, core: CoreId, page: u64)
     requires page { IsPage page }
     requires held { IsHeldAlone (M.slots map.old) core page }
-    requires frames { NoFrames (M.slots map.old) page (page + 1) }
     ensures held { IsHeldAlone (M.slots map.new) core page }
-    ensures frames { NoFrames (M.slots map.new) page (page + 1) }
 {
     let one = PageRange {
         first: page,
@@ -66,7 +63,6 @@ fn put_anew<M: SlotMap>(map: &mut M, core: CoreId, page: u64)
 fn clear<M: SlotMap>(map: &mut M, core: CoreId, page: u64)
     requires page { IsPage page }
     requires held { IsHeldAlone (M.slots map.old) core page }
-    requires frames { NoFrames (M.slots map.old) page (page + 1) }
     ensures { IsHeldAlone (M.slots map.new) core page }
 {
     let one = PageRange {

@@ -116,6 +116,28 @@ impl<A: Allocator + Clone + Drop> Replayer<A> {
         Ok(())
     }
 
+    // Acts on the first line of an event, which needs a machine: it is made. It stands by itself, so that the lines after
+    // it have no room for a machine on their stack, which would be cleared for each.
+    #[inline(never)]
+    fn act_on_first_event(
+        &mut self,
+        number: u64,
+        line: Option<Line>,
+        text: &mut LineText,
+    ) -> Result<(), TraceFault>
+        requires { self.old.machine ≡ None }
+        ensures ok { OnOk result (IsSomeAnd line (λ l. EventActs (⟦<Self as Staged>⟧.stage self.old) l (⟦<Self as Staged>⟧.stage self.new) text.new.bytes)) }
+        ensures err { IfErr result (λ f. ((f ≡ TraceFault.NoMemory) × IsSomeAnd line (λ l. EventWants (⟦<Self as Staged>⟧.stage self.old) l)) ⊎ EventFails (⟦<Self as Staged>⟧.stage self.old) number line f) }
+    {
+        let mut machine = match made(&self.alloc, &self.declaration) {
+            Ok(machine) => machine,
+            Err(fault) => return Err(fault),
+        };
+        let done = run_line(&mut machine, line, number, text);
+        self.machine = Some(machine);
+        done
+    }
+
     // Acts on a line that isn't the `vm` line or one of a file, and has words.
     fn act_on_event(
         &mut self,
@@ -128,15 +150,7 @@ impl<A: Allocator + Clone + Drop> Replayer<A> {
     {
         match &mut self.machine {
             Some(machine) => run_line(machine, line, number, text),
-            None => {
-                let mut machine = match made(&self.alloc, &self.declaration) {
-                    Ok(machine) => machine,
-                    Err(fault) => return Err(fault),
-                };
-                let done = run_line(&mut machine, line, number, text);
-                self.machine = Some(machine);
-                done
-            }
+            None => self.act_on_first_event(number, line, text),
         }
     }
 }

@@ -1,5 +1,6 @@
 -- Values of digits.
 use Rattle.std.proofs.Common.{◌≡◌, ℕ, suc, ◌+◌, ◌*◌, ◌^◌, ◌<◌, ◌≤◌, Bool, true, false, cond, ltb, List, [], ◌∷◌, length, drop, get_or, Option, Some, None, arith, refl, sym, ap, ◌∙◌, drop-cons, drop_of_length-le}
+use Rattle.std.proofs.Math.Nat.{pow-le-pow_right, mul-le-mul_left}
 use Rattle.std.proofs.lemmas.Bool.Decides.{nat_tests}
 use Rattle.std.specs.Prelude.{option_and_then}
 use Rattle.trace_text.specs.Number.{digit_of, value_from, below_word}
@@ -44,3 +45,12 @@ pub value_end : (base n : ℕ) (cs : List ℕ) (i : ℕ) (whole : Option ℕ) �
 value_end base n cs i whole h fits same =
     let test : ltb n (2 ^ 64) ≡ true = ltb-yes n (2 ^ 64) fits in
     sym (ap (λ b. cond b (Some n) None) test) ∙ ap below_word (sym (ap (value_from base n) (drop_of_length-le cs h)) ∙ same)
+
+-- at most fifteen digits leave room for another
+pub room : (n i : ℕ) → n < 16 ^ i → i < 16 → n < 2 ^ 60
+room n i h below = let most : 16 ^ i ≤ 16 ^ 15 = pow-le-pow_right {n = 16} (omega arith) {i = i} {j = 15} (omega arith) in omega arith
+
+pub digit_fits : (n base d : ℕ) → n < 2 ^ 60 → base ≤ 16 → d < base → n * base + d < 2 ^ 64
+digit_fits n base d h b e =
+    let most : n * base ≤ n * 16 = mul-le-mul_left n b in
+    omega arith

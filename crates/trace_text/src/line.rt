@@ -39,11 +39,16 @@ pub enum Line {
     Now(CoreId, Request),
 }
 
-/// Tells whether each byte is printable ASCII, 0x20 to 0x7e. A line with another byte is bad, a comment too.
+/// Tells whether each byte is printable ASCII, 0x20 to 0x7e. A line with another byte is bad, a comment too. It looks at
+/// all bytes even after a bad one, so that many are compared at once.
 pub fn is_printable(bytes: &[u8]) -> bool
     ensures { result ≡ are_printable bytes.now }
 {
-    bytes.iter().all(|b| *b >= 0x20 && *b <= 0x7e)
+    let mut printable = true;
+    for b in bytes {
+        printable &= *b >= 0x20 && *b <= 0x7e;
+    }
+    printable
 }
 
 // Tells whether this is the first word.

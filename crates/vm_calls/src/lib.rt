@@ -6,8 +6,6 @@ pub mod arguments;
 pub mod decision;
 pub mod fault;
 pub mod laws;
-#[cfg(test)]
-mod tests;
 
 pub use arguments::check;
 pub use decision::{Decision, decide};

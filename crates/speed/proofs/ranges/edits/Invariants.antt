@@ -1,5 +1,5 @@
-use Rattle.slot_lock.specs.Slots.{IsHeld, NoFrames}
+use Rattle.slot_lock.specs.Slots.{IsHeld}
 use Rattle.speed.proofs.ranges.edits.Given as goal
 
 abbrev pub invariant-rounds : goal.invariant-rounds
-invariant-rounds g l = IsHeld (g.M.SlotRead.slots l.map) l.core l.range × NoFrames (g.M.SlotRead.slots l.map) l.range.first l.range.end
+invariant-rounds g l = IsHeld (g.M.SlotRead.slots l.map) l.core l.range

@@ -1,4 +1,4 @@
-use Rattle.std.proofs.Common.{◌≡◌, Some, None, get_or, sym, ◌∙◌, ap, refl, rules}
+use Rattle.std.proofs.Common.{None, get_or, sym, ◌∙◌, ap, refl, rules}
 use Rattle.vm_base.specs.Functions.{put}
 use Rattle.frames.specs.Pages.{Stored, stored_bytes, all_pages}
 use Rattle.frames.proofs.Stored.{stored-held, stored-written}

@@ -1,0 +1,218 @@
+//! `backing`: each call once with ample memory, what a mode lets files be mapped for, and each allocation refused in turn.
+ghost use Rattle.std.specs.Prelude.{◌≡◌};
+
+use backing::{CachedFrame, FileSpec, Objects, Sharing};
+use frames::Frames;
+use linked_list_allocator::LocalHeap;
+use std::alloc::{AllocError, Allocator};
+use std::test::Fail;
+use vm_base::{Errno, Mode, Prot};
+
+const READ: Prot = Prot {
+    read: true,
+    write: false,
+    exec: false,
+};
+
+const WRITE: Prot = Prot {
+    write: true,
+    ..READ
+};
+
+/// A file with the bytes `seed`, `seed + 1` and so on.
+fn spec<A: Allocator>(
+    alloc: A,
+    mode: Mode,
+    len: usize,
+    seed: usize,
+) -> Result<FileSpec<A>, AllocError> {
+    let mut bytes = Vec::with_capacity(alloc, len)?;
+    for i in 0..len {
+        bytes.push(((seed % 256 + i % 256) % 256) as u8)?;
+    }
+    Ok(FileSpec { mode, bytes })
+}
+
+/// Opens the files, of which 16 at most are taken.
+fn open_few<A: Allocator + Clone>(
+    alloc: A,
+    mut specs: Vec<FileSpec<A>, A>,
+) -> Result<Objects<A>, AllocError> {
+    specs.truncate(16);
+    Objects::new(alloc, specs)
+}
+
+/// File 0 has 5000 bytes from 7 on, file 1 has none, and file 2 has one page. They are open for both, for writing and for
+/// reading.
+fn three_files<A: Allocator + Clone>(alloc: A) -> Result<Objects<A>, AllocError> {
+    let mut specs = Vec::new(alloc.clone()?);
+    specs.push(spec(alloc.clone()?, Mode::RW, 5000, 7)?)?;
+    specs.push(spec(alloc.clone()?, Mode::W, 0, 0)?)?;
+    specs.push(spec(alloc.clone()?, Mode::R, 4096, 1)?)?;
+    open_few(alloc, specs)
+}
+
+/// The byte of a page that is there.
+fn byte_at<A: Allocator>(objects: &Objects<A>, file: u32, page: u64, offset: usize) -> Option<u8> {
+    if offset >= 4096 || objects.is_past_end(file, page) {
+        return None;
+    }
+    Some(objects.byte(file, page, offset))
+}
+
+/// Caches a page that is there and isn't cached: whether it did.
+fn cache<A: Allocator>(objects: &mut Objects<A>, file: u32, page: u64, frame: u32) -> bool {
+    if objects.is_past_end(file, page) || objects.cached(file, page).is_some() {
+        return false;
+    }
+    objects.set_cached(file, page, frame);
+    true
+}
+
+/// Gives the bytes of a page that is there to a frame that is there: whether it did.
+fn filled<A: Allocator>(
+    objects: &Objects<A>,
+    file: u32,
+    page: u64,
+    frames: &mut Frames<A>,
+    frame: u32,
+) -> bool
+    ensures { frames.new.count ≡ frames.old.count }
+{
+    if objects.is_past_end(file, page) || frame >= frames.count() {
+        return false;
+    }
+    if let Some(cached) = objects.cached(file, page) {
+        if cached >= frames.count() {
+            return false;
+        }
+    }
+    objects.fill(file, page, frames, frame);
+    true
+}
+
+#[test]
+fn bytes_are_zero_after_the_length(rt: HostRuntime) -> Result<(), Fail> {
+    let objects = three_files(rt.alloc())?;
+    assert_eq!(rt; byte_at(&objects, 0, 0, 0), Some(7));
+    // offset 4999 of the file: (7 + 4999) mod 256
+    assert_eq!(rt; byte_at(&objects, 0, 1, 903), Some(142));
+    assert_eq!(rt; byte_at(&objects, 0, 1, 904), Some(0));
+    assert_eq!(rt; byte_at(&objects, 0, 1, 4095), Some(0));
+    assert_eq!(rt; byte_at(&objects, 0, 2, 0), None);
+    assert_eq!(rt; byte_at(&objects, 2, 0, 4095), Some(0));
+    Ok(())
+}
+
+/// How many own bytes a page has that is there.
+fn own_length<A: Allocator>(objects: &Objects<A>, file: u32, page: u64) -> Option<usize> {
+    if objects.is_past_end(file, page) {
+        return None;
+    }
+    Some(objects.own_bytes(file, page).len())
+}
+
+#[test]
+fn own_bytes_end_with_the_file(rt: HostRuntime) -> Result<(), Fail> {
+    let objects = three_files(rt.alloc())?;
+    assert_eq!(rt; own_length(&objects, 0, 0), Some(4096));
+    assert_eq!(rt; own_length(&objects, 0, 1), Some(904));
+    assert_eq!(rt; own_length(&objects, 1, 0), None);
+    Ok(())
+}
+
+#[test]
+fn pages_past_the_end(rt: HostRuntime) -> Result<(), Fail> {
+    let objects = three_files(rt.alloc())?;
+    assert!(rt; !objects.is_past_end(0, 1));
+    assert!(rt; objects.is_past_end(0, 2));
+    assert!(rt; objects.is_past_end(0, u64::MAX));
+    assert!(rt; objects.is_past_end(1, 0));
+    assert!(rt; !objects.is_past_end(2, 0));
+    assert!(rt; objects.is_past_end(2, 1));
+    assert!(rt; objects.is_past_end(3, 0));
+    Ok(())
+}
+
+#[test]
+fn modes_and_mappings(rt: HostRuntime) -> Result<(), Fail> {
+    let objects = three_files(rt.alloc())?;
+    assert!(rt; objects.mode(0) == Some(Mode::RW));
+    assert!(rt; objects.mode(1) == Some(Mode::W));
+    assert!(rt; objects.mode(3) == None);
+    assert!(rt; objects.mode(u64::MAX) == None);
+    assert!(rt; objects.may(0, Sharing::Shared, WRITE) == Ok(()));
+    assert!(rt; objects.may(1, Sharing::Private, READ) == Err(Errno::EACCES));
+    assert!(rt; objects.may(1, Sharing::Shared, WRITE) == Err(Errno::EACCES));
+    assert!(rt; objects.may(2, Sharing::Shared, READ) == Ok(()));
+    assert!(rt; objects.may(2, Sharing::Shared, WRITE) == Err(Errno::EACCES));
+    assert!(rt; objects.may(2, Sharing::Private, WRITE) == Ok(()));
+    assert!(rt; objects.may(3, Sharing::Private, READ) == Err(Errno::EBADF));
+    assert!(rt; objects.may(u64::MAX, Sharing::Shared, WRITE) == Err(Errno::EBADF));
+    Ok(())
+}
+
+#[test]
+fn one_page_by_itself(rt: HostRuntime) -> Result<(), Fail> {
+    let mut page = CachedFrame::none();
+    assert_eq!(rt; page.get(), None);
+    page.set(3);
+    assert_eq!(rt; page.get(), Some(3));
+    Ok(())
+}
+
+#[test]
+fn pages_are_cached_one_by_one(rt: HostRuntime) -> Result<(), Fail> {
+    let mut objects = three_files(rt.alloc())?;
+    assert!(rt; cache(&mut objects, 0, 1, 5));
+    assert!(rt; !cache(&mut objects, 0, 1, 6));
+    assert!(rt; !cache(&mut objects, 0, 2, 6));
+    assert!(rt; cache(&mut objects, 2, 0, 9));
+    assert_eq!(rt; objects.cached(0, 0), None);
+    assert_eq!(rt; objects.cached(0, 1), Some(5));
+    assert_eq!(rt; objects.cached(2, 0), Some(9));
+    assert_eq!(rt; objects.cached(3, 0), None);
+    Ok(())
+}
+
+#[test]
+fn frames_get_bytes_as_they_now_are(rt: HostRuntime) -> Result<(), Fail> {
+    let mut objects = three_files(rt.alloc())?;
+    let mut frames = Frames::new(rt.alloc(), 3)?;
+    frames.set_byte(0, 4095, 77);
+    assert!(rt; filled(&objects, 0, 1, &mut frames, 0));
+    let copied = [frames.byte(0, 0), frames.byte(0, 903), frames.byte(0, 4095)];
+    // offset 4096 of the file: (7 + 4096) mod 256
+    assert_eq!(rt; copied, [7, 142, 0]);
+    assert!(rt; cache(&mut objects, 0, 1, 0));
+    frames.set_byte(0, 903, 9);
+    assert!(rt; filled(&objects, 0, 1, &mut frames, 2));
+    let changed = [frames.byte(2, 0), frames.byte(2, 903), frames.byte(2, 4095)];
+    assert_eq!(rt; changed, [7, 9, 0]);
+    assert_eq!(rt; byte_at(&objects, 0, 1, 903), Some(142));
+    Ok(())
+}
+
+#[test]
+fn each_allocation_may_be_refused(rt: HostRuntime) -> Result<(), Fail> {
+    // The file takes its 4,096 bytes once: what is asked for is what is opened.
+    for (room, fits) in [(4304, false), (4992, true)] {
+        let heap = LocalHeap::new(rt.alloc(), room)?;
+        let mut given = Vec::new(&heap);
+        given.push(spec(&heap, Mode::RW, 4096, 7)?)?;
+        let made = open_few(&heap, given);
+        assert_eq!(rt; made.is_ok(), fits);
+        drop(made);
+        assert_eq!(rt; heap.used(), 0);
+    }
+    Ok(())
+}
+
+#[test]
+fn no_files_are_open(rt: HostRuntime) -> Result<(), Fail> {
+    let objects = Objects::none(rt.alloc());
+    assert!(rt; objects.mode(0) == None);
+    assert!(rt; objects.is_past_end(0, 0));
+    assert_eq!(rt; objects.cached(0, 0), None);
+    Ok(())
+}

@@ -1,0 +1,283 @@
+//! `refcache`: rows of calls with what each must answer, as worked examples of the rules, and its pieces by themselves.
+
+use crate::refcache_trial::{Answer, Call, Trial};
+use linked_list_allocator::LocalHeap;
+use refcache::{CoreCounts, Epochs, Flush, ObjectCount, Queued, Refcache, Review, WayAhead};
+use std::alloc::Allocator;
+use std::test::Fail;
+use vm_base::CoreId;
+
+const DONE: Answer = Answer::Done;
+
+const FLUSHED: Answer = Answer::Flush(Flush::Flushed);
+
+const ENDED: Answer = Answer::Flush(Flush::EpochEnded);
+
+const EVICTED: Answer = Answer::Flush(Flush::Evicted(0));
+
+const QUIET: Answer = Answer::Review(Review::Idle);
+
+/// A row of a worked example: a call and its answer, or what is counted at that point.
+#[derive(Clone, Copy, Debug)]
+enum Row {
+    Call(Call, Answer),
+    Global(u32, i64),
+    TrueCount(u32, u64),
+    Epoch(u64),
+}
+
+/// Whether the row comes as it says.
+fn comes<A: Allocator>(trial: &mut Trial<A>, row: Row) -> bool {
+    match row {
+        Row::Call(call, answer) => trial.take(call) == answer,
+        Row::Global(object, count) => trial.global(object) == Some(count),
+        Row::TrueCount(object, count) => trial.true_count(object) == Some(count),
+        Row::Epoch(number) => trial.epoch() == number,
+    }
+}
+
+/// The place of the first row that doesn't come as it says.
+fn first_wrong<A: Allocator>(trial: Trial<A>, rows: &[Row]) -> Option<usize> {
+    let mut trial = trial;
+    for (place, row) in rows.iter().enumerate() {
+        if !comes(&mut trial, *row) {
+            return Some(place);
+        }
+    }
+    None
+}
+
+const QUEUED_ANEW: [Row; 18] = [
+    Row::Call(Call::Begin(0, 1), DONE),
+    Row::Call(Call::Inc(0, 0), DONE),
+    Row::Call(Call::Dec(1, 0), DONE),
+    Row::Call(Call::Flush(1), EVICTED),
+    Row::Call(Call::Flush(1), FLUSHED),
+    Row::Call(Call::Inc(1, 0), DONE),
+    Row::Call(Call::Dec(0, 0), DONE),
+    Row::Call(Call::Flush(0), EVICTED),
+    Row::Call(Call::Flush(0), ENDED),
+    Row::Call(Call::Flush(0), FLUSHED),
+    Row::Call(Call::Inc(0, 0), DONE),
+    Row::Call(Call::Dec(1, 0), DONE),
+    Row::Call(Call::Flush(1), EVICTED),
+    Row::Call(Call::Flush(1), ENDED),
+    Row::Call(Call::Review(1), Answer::Review(Review::Requeued(0))),
+    Row::TrueCount(0, 1),
+    Row::Global(0, 0),
+    Row::Epoch(2),
+];
+
+const EVICTED_FROM_ITS_PLACE: [Row; 10] = [
+    Row::Call(Call::Begin(0, 1), DONE),
+    Row::Call(Call::Begin(64, 1), DONE),
+    Row::Call(Call::Inc(0, 0), DONE),
+    Row::Call(Call::Inc(0, 64), DONE),
+    Row::Global(0, 2),
+    Row::Global(64, 1),
+    Row::Call(Call::Flush(0), Answer::Flush(Flush::Evicted(64))),
+    Row::Global(64, 2),
+    Row::Call(Call::Flush(0), ENDED),
+    Row::Epoch(1),
+];
+
+const FREED_LATER: [Row; 18] = [
+    Row::Call(Call::Begin(0, 1), DONE),
+    Row::Call(Call::Inc(0, 0), DONE),
+    Row::Call(Call::Dec(1, 0), DONE),
+    Row::Call(Call::Flush(1), EVICTED),
+    Row::Call(Call::Dec(0, 0), DONE),
+    Row::Call(Call::Flush(0), EVICTED),
+    Row::Call(Call::Flush(0), FLUSHED),
+    Row::Call(Call::Flush(1), ENDED),
+    Row::Call(Call::Flush(0), FLUSHED),
+    Row::Call(Call::Flush(1), ENDED),
+    Row::Call(Call::Review(1), Answer::Review(Review::Requeued(0))),
+    Row::Call(Call::Review(1), QUIET),
+    Row::Call(Call::Flush(0), FLUSHED),
+    Row::Call(Call::Flush(1), ENDED),
+    Row::Call(Call::Flush(0), FLUSHED),
+    Row::Call(Call::Flush(1), ENDED),
+    Row::Call(Call::Review(1), Answer::Review(Review::Freed(0))),
+    Row::Epoch(4),
+];
+
+const LIVES_AND_IS_FREED: [Row; 7] = [
+    Row::Call(Call::Begin(0, 1), DONE),
+    Row::Call(Call::Dec(0, 0), DONE),
+    Row::Call(Call::Flush(0), EVICTED),
+    Row::Call(Call::Flush(0), ENDED),
+    Row::Call(Call::Review(0), QUIET),
+    Row::Call(Call::Flush(0), ENDED),
+    Row::Call(Call::Review(0), Answer::Review(Review::Freed(0))),
+];
+
+const LARGEST: [Row; 6] = [
+    Row::Call(Call::Begin(65_535, 0x100_0000_0000), DONE),
+    Row::Call(Call::Inc(0, 65_535), Answer::NotAllowed),
+    Row::Call(Call::Dec(63, 65_535), DONE),
+    Row::Call(Call::Inc(0, 65_535), DONE),
+    Row::Call(Call::Flush(63), Answer::Flush(Flush::Evicted(65_535))),
+    Row::Global(65_535, 0xff_ffff_ffff),
+];
+
+const COUNTED_UP_SINCE: [Row; 13] = [
+    Row::Call(Call::Begin(0, 1), DONE),
+    Row::Call(Call::Inc(0, 0), DONE),
+    Row::Call(Call::Dec(1, 0), DONE),
+    Row::Call(Call::Flush(1), EVICTED),
+    Row::Call(Call::Flush(1), FLUSHED),
+    Row::Call(Call::Flush(1), Answer::Flush(Flush::Idle)),
+    Row::Call(Call::Flush(0), EVICTED),
+    Row::Call(Call::Flush(0), ENDED),
+    Row::Call(Call::Flush(0), FLUSHED),
+    Row::Call(Call::Flush(1), ENDED),
+    Row::Call(Call::Review(1), Answer::Review(Review::Dropped(0))),
+    Row::Call(Call::Review(1), QUIET),
+    Row::Global(0, 1),
+];
+
+#[test]
+fn worked_examples(rt: HostRuntime) -> Result<(), Fail> {
+    assert_eq!(rt;
+        first_wrong(Trial::new(rt.alloc(), 2, 1)?, &QUEUED_ANEW),
+        None
+    );
+    assert_eq!(rt;
+        first_wrong(Trial::new(rt.alloc(), 1, 65)?, &EVICTED_FROM_ITS_PLACE),
+        None
+    );
+    assert_eq!(rt;
+        first_wrong(Trial::new(rt.alloc(), 2, 1)?, &FREED_LATER),
+        None
+    );
+    assert_eq!(rt;
+        first_wrong(Trial::new(rt.alloc(), 1, 1)?, &LIVES_AND_IS_FREED),
+        None
+    );
+    assert_eq!(rt;
+        first_wrong(Trial::new(rt.alloc(), 64, 65_536)?, &LARGEST),
+        None
+    );
+    assert_eq!(rt;
+        first_wrong(Trial::new(rt.alloc(), 2, 1)?, &COUNTED_UP_SINCE),
+        None
+    );
+    Ok(())
+}
+
+/// Whether `new` was refused in a heap, and how many bytes of the heap are in use after it.
+fn made(heap: &LocalHeap) -> (bool, usize) {
+    let made = Refcache::new(heap, 2, 3);
+    let refused = match made {
+        Ok(counts) => {
+            drop(counts);
+            false
+        }
+        Err(_) => true,
+    };
+    (refused, heap.used())
+}
+
+#[test]
+fn each_growth_of_new_is_refused_in_turn(rt: HostRuntime) -> Result<(), Fail> {
+    let mut refusals = 1000;
+    for step in 0..1000 {
+        let heap = LocalHeap::new(rt.alloc(), 64 + 16 * step)?;
+        let (refused, used) = made(&heap);
+        assert_eq!(rt; used, 0);
+        if !refused {
+            refusals = step;
+            break;
+        }
+    }
+    // Room for the places of two cores alone takes 64 * 16 bytes or more.
+    assert!(rt; refusals > 64);
+    assert!(rt; refusals < 1000);
+    Ok(())
+}
+
+/// Counts an object down, where no entry is in the way: whether it did.
+fn count_down<A: Allocator>(part: &mut CoreCounts<A>, object: u32) -> bool {
+    if let None = part.in_the_way(object, -1) {
+        part.add(object, -1);
+        return true;
+    }
+    false
+}
+
+/// Evicts the entry of an object in epoch 0, if that may be done: whether it was.
+fn evict<A: Allocator>(part: &mut CoreCounts<A>, count: &mut ObjectCount, object: u32) -> bool {
+    let may = part.can_evict(count, object);
+    if may {
+        part.evict(count, object, 0);
+    }
+    may
+}
+
+#[test]
+fn pieces_free_an_object(rt: HostRuntime) -> Result<(), Fail> {
+    let mut part = CoreCounts::new(rt.alloc(), 0)?;
+    let mut count = ObjectCount::new();
+    count.begin(1);
+    assert!(rt; count_down(&mut part, 5));
+    assert!(rt; !count_down(&mut part, 69));
+    assert_eq!(rt; part.least(), Some(5));
+    assert!(rt; evict(&mut part, &mut count, 5));
+    assert!(rt; !evict(&mut part, &mut count, 5));
+    assert!(rt; !part.has_room());
+    let queued = Queued {
+        object: 5,
+        epoch: 0,
+    };
+    assert_eq!(rt; part.front(), Some(queued));
+    assert_eq!(rt; part.review(&mut count, 1), Review::Idle);
+    assert_eq!(rt; part.due(2), Some(5));
+    assert_eq!(rt; part.review(&mut count, 2), Review::Freed(5));
+    assert_eq!(rt; part.review(&mut count, 9), Review::Idle);
+    assert_eq!(rt; part.front(), None);
+    assert_eq!(rt; count.global(), 0);
+    assert_eq!(rt; count, ObjectCount::new());
+    Ok(())
+}
+
+/// The object in the way of counting one down ahead.
+fn down_ahead(ahead: &mut WayAhead, object: u32) -> Option<u32> {
+    ahead.count(object, -1)
+}
+
+#[test]
+fn way_ahead_tells_what_must_go(rt: HostRuntime) -> Result<(), Fail> {
+    let mut part = CoreCounts::new(rt.alloc(), 200)?;
+    assert!(rt; count_down(&mut part, 5));
+    let mut ahead = part.way_ahead();
+    let rows = [
+        (5, None),
+        (69, Some(5)),
+        (69, None),
+        (6, None),
+        (5, Some(69)),
+    ];
+    for (object, want) in rows {
+        assert_eq!(rt; down_ahead(&mut ahead, object), want);
+    }
+    assert_eq!(rt; part.least(), Some(5));
+    Ok(())
+}
+
+#[test]
+fn epochs_end_with_the_last_mark(rt: HostRuntime) -> Result<(), Fail> {
+    let mut epochs = Epochs::new(2);
+    let marks = [
+        (1, Flush::Flushed),
+        (1, Flush::Idle),
+        (0, Flush::EpochEnded),
+        (0, Flush::Flushed),
+    ];
+    for (core, want) in marks {
+        let got = epochs.mark(CoreId::new(core));
+        assert_eq!(rt; got, want);
+    }
+    assert_eq!(rt; epochs.number(), 1);
+    Ok(())
+}

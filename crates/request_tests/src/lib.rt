@@ -1,0 +1,12 @@
+//! Tests of what a request is to be answered, a module for each crate that is tested: `vm_base`, `plain_map` and `vm_calls`. The
+//! last two walk the same rows.
+#![tactic(auto)]
+
+#[cfg(test)]
+mod plain_map_tests;
+#[cfg(test)]
+mod rows;
+#[cfg(test)]
+mod vm_base_tests;
+#[cfg(test)]
+mod vm_calls_tests;
