@@ -148,7 +148,8 @@ table_here : (w : World) → Fine w → (c p : ℕ) (e : Translation) → w.hard
 table_here w g c p e h = backed_here w p c e g.order (w.slots.info p) refl (g.coherent.tables c p e h).entry
 
 -- the first translation of the page is one that the slot backs
-first_here : (w : World) → Fine w → (c p : ℕ) (e : Translation) (es : List TlbEntry) → Every (IsSoundEntry w.slots.info c (w.hardware.table c) (w.hardware.inbox c)) es → tlb_at es p ≡ Some e
+first_here : (w : World) → Fine w → (c p : ℕ) (e : Translation) (es : List TlbEntry)
+    → Every (IsSoundEntry w.slots.info c (w.hardware.table c) (w.hardware.inbox c)) es → tlb_at es p ≡ Some e
     → e.frame < w.made.frames
 first_here w g c p e [] k h = absurd cc
 first_here w g c p e (x ∷ es) k h = by (x.page == p) (first_here w g c p e es k.1) h
@@ -395,7 +396,8 @@ IsValidAsked (TookOf.Clear range) = are_pages range ≡ true
 IsValidAsked (TookOf.Invalidate range) = are_pages range ≡ true
 IsValidAsked TookOf.Idle = Unit {0}
 
-awaited_pages : (w : World) (c : ℕ) (range : PageRange) (phase : Phase) → IsOrderly w → w.calls.phase c ≡ phase → awaits_in phase ≡ Some range → are_pages range ≡ true
+awaited_pages : (w : World) (c : ℕ) (range : PageRange) (phase : Phase) → IsOrderly w → w.calls.phase c ≡ phase
+    → awaits_in phase ≡ Some range → are_pages range ≡ true
 awaited_pages w c range (Acks change held) g e h =
     let call = call_at w c (Acks change held) e g in
     let same : range_of change ≡ range = cc in
@@ -456,7 +458,8 @@ right_allowed prot Fetch h = exec prot.read prot.write prot.exec h
     exec false false d e = e
 
 -- the page of an access that is to install it is mapped, allows some access, and has a frame
-install_page : (w : World) (c : ℕ) (touch : Touch) → IsCallOf w c (Install touch) → (f : ℕ) × IsUsable w.made.file (w.slots.info touch.page) touch.access (Some f)
+install_page : (w : World) (c : ℕ) (touch : Touch) → IsCallOf w c (Install touch) → (f : ℕ)
+    × IsUsable w.made.file (w.slots.info touch.page) touch.access (Some f)
 install_page w c touch k = k.ready
 
 pub install_right : (w : World) (c : ℕ) (touch : Touch) (info : PageInfo) → IsAt w c (Install touch) → w.slots.info touch.page ≡ Some info
@@ -466,7 +469,8 @@ install_right w c touch info i e =
     let usable = install_page w c touch (call_at w c (Install touch) i.phase g) in
     right_allowed info.meta.prot touch.access (subst (λ o. IsUsable w.made.file o touch.access (Some usable.0)) e usable.1).0)
 
-pub install_frame : (w : World) (c : ℕ) (touch : Touch) (info : PageInfo) → IsAt w c (Install touch) → w.slots.info touch.page ≡ Some info → info.frame ≡ None → ⊥
+pub install_frame : (w : World) (c : ℕ) (touch : Touch) (info : PageInfo) → IsAt w c (Install touch) → w.slots.info touch.page ≡ Some info
+    → info.frame ≡ None → ⊥
 install_frame w c touch info i e none =
     ∥∥₁_elim (order i) (hlevel props) (λ g.
     let usable = install_page w c touch (call_at w c (Install touch) i.phase g) in

@@ -51,7 +51,8 @@ pub not_walked : (w v : World) (c p : ℕ) → can_walk w.hardware c p ≡ false
 not_walked w v c p e h = if_false (can_walk w.hardware c p) _ _ e (refl, h)
 
 -- without an entry, or with a translation, there is nothing to walk
-same_tlb : (cached entry : Option Translation) (p : ℕ) (es : List TlbEntry) → (not (is_some cached) && is_some entry) ≡ false → tlb_walked cached entry p es ≡ es
+same_tlb : (cached entry : Option Translation) (p : ℕ) (es : List TlbEntry) → (not (is_some cached) && is_some entry) ≡ false
+    → tlb_walked cached entry p es ≡ es
 same_tlb (Some t) entry p es h = refl
 same_tlb None None p es h = refl
 same_tlb None (Some t) p es h = absurd cc
@@ -66,7 +67,8 @@ no_entry h c p e = subst (λ o. (not (is_some (tlb_at (h.tlb c) p)) && is_some o
     never true = refl
     never false = refl
 
-pub evicted : (w v : World) (c p : ℕ) → is_some (tlb_at (w.hardware.tlb c) p) ≡ true → v ≡ with_hardware (after_eviction w.hardware c p) w → Evicts w c p Stepped v
+pub evicted : (w v : World) (c p : ℕ) → is_some (tlb_at (w.hardware.tlb c) p) ≡ true → v ≡ with_hardware (after_eviction w.hardware c p) w
+    → Evicts w c p Stepped v
 evicted w v c p e h = if_true (is_some (tlb_at (w.hardware.tlb c) p)) _ _ e (refl, h)
 
 pub not_evicted : (w v : World) (c p : ℕ) → is_some (tlb_at (w.hardware.tlb c) p) ≡ false → v ≡ w → Evicts w c p Idle v
@@ -100,7 +102,8 @@ none_left h c e = ap (λ f. record h { inbox = f }) (put_id h.inbox c _ (same (h
 
 -- ---- a frame that is asked for, and a call that is given up
 
-pub taken_frame : (w v : World) (c f : ℕ) (touch : Touch) → w.memory.is_free f ≡ true → v ≡ after_frame c touch f w → TakesThisFrame w c (Want touch) f Stepped v
+pub taken_frame : (w v : World) (c f : ℕ) (touch : Touch) → w.memory.is_free f ≡ true → v ≡ after_frame c touch f w
+    → TakesThisFrame w c (Want touch) f Stepped v
 taken_frame w v c f touch e h = if_true (w.memory.is_free f) _ _ e (refl, h)
 
 pub no_such_frame : (w v : World) (c f : ℕ) (touch : Touch) → w.memory.is_free f ≡ false → v ≡ w → TakesThisFrame w c (Want touch) f Idle v
@@ -114,7 +117,8 @@ not_given_up w v c phase e h = if_false (can_give_up phase) _ _ e (refl, h)
 
 -- ---- the arguments of a request
 
-pub planned : (w v : World) (c : ℕ) (request : Request) (r : Result Plan Reply) → r ≡ checked_by w.made c request → v ≡ after_plan c r w → v ≡ after_check c request w
+pub planned : (w v : World) (c : ℕ) (request : Request) (r : Result Plan Reply) → r ≡ checked_by w.made c request → v ≡ after_plan c r w
+    → v ≡ after_check c request w
 planned w v c request r e h = subst (λ r. v ≡ after_plan c r w) e h
 
 -- ---- a page's translation is installed
@@ -125,7 +129,9 @@ pub installed : (w v : World) (c : ℕ) (touch : Touch) (info : PageInfo) (f : �
       hardware = with_table w.hardware c (put (w.hardware.table c) touch.page (Some (translation_of f info.meta.prot)));
     })
     → v ≡ after_install c touch w
-installed w v c touch info f e k h = h ∙ subst (λ o. now (Some (record info { cores = with_member info.cores c })) (Some (translation_of f info.meta.prot)) ≡ now (info_with_core c o) (entry_of_page o)) (sym e)
+installed w v c touch info f e k h = h
+    ∙ subst (λ o. now (Some (record info { cores = with_member info.cores c })) (Some (translation_of f info.meta.prot)) ≡ now
+    (info_with_core c o) (entry_of_page o)) (sym e)
     (ap (λ x. now (Some (record info { cores = with_member info.cores c })) (entry_for info.meta.prot x)) (sym k))
   where
     now : Option PageInfo → Option Translation → World
@@ -136,5 +142,6 @@ installed w v c touch info f e k h = h ∙ subst (λ o. now (Some (record info {
 
 -- ---- an event is counted
 
-pub counted : (w v : World) (e : Event) (o : Outcome) → Acts (record w { calls = record w.calls { events = w.calls.events + 1 } }) e o v → Acts (with_event w) e o v
+pub counted : (w v : World) (e : Event) (o : Outcome) → Acts (record w { calls = record w.calls { events = w.calls.events + 1 } }) e o v
+    → Acts (with_event w) e o v
 counted w v e o = subst (λ n. Acts (record w { calls = record w.calls { events = n } }) e o v) (add-one w.calls.events)

@@ -27,7 +27,8 @@ pub record AreCounted (info : ℕ → Option PageInfo) (counts : Counts) : Type 
 abbrev pub AreUsed : List Framed → Counts → Type 0
 AreUsed [] counts = Unit {0}
 AreUsed (x ∷ xs) counts =
-    (x.frame < counts.objects) × (pos 0 <ℤ true_count counts x.frame) × AllByRecursion (λ y. y.frame ≢ x.frame) xs × AreUsed xs counts
+    (x.frame < counts.objects) × (pos 0 <ℤ true_count counts x.frame) × AllByRecursion (λ y. y.frame ≢ x.frame) xs
+    × AreUsed xs counts
 
 -- core c counts the listed frames down, in order
 abbrev pub CountsEach : ℕ → List Framed → Counts → Counts → Type 0

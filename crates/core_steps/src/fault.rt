@@ -103,7 +103,8 @@ impl<M: SlotMap, H: Hardware, A: Allocator> Engine<M, H, A> {
     /// The core's call takes this frame, if it wants one and the frame is free.
     pub fn take_frame(&mut self, core: CoreId, frame: u64) -> Outcome
         requires { IsOf (world M.slots self.old) core }
-        ensures { TakesThisFrame (world M.slots self.old) core (phase_of self.old core) frame result (world M.slots self.new) }
+        ensures { TakesThisFrame (world M.slots self.old) core (phase_of self.old core) frame result
+            (world M.slots self.new) }
     {
         match self.calls.phases[core.index() as usize] {
             Phase::Want(touch) => {
@@ -121,7 +122,8 @@ impl<M: SlotMap, H: Hardware, A: Allocator> Engine<M, H, A> {
     /// The frame gets zero bytes and is counted once, and the page gets the frame.
     pub fn go_fill(&mut self, core: CoreId, touch: Touch, frame: u32) -> Outcome
         requires { IsAt (world M.slots self.old) core (Phase.Fill touch frame) }
-        ensures { Goes (world M.slots self.old) core (Phase.Fill touch frame) result (world M.slots self.new) }
+        ensures { Goes (world M.slots self.old) core (Phase.Fill touch frame) result
+            (world M.slots self.new) }
     {
         self.frames.fill_zero(frame);
         self.counts.begin(frame, 1);

@@ -43,7 +43,8 @@ impl<M: SlotMap + Drop, A: Allocator + Clone + Drop> Machine<M, A> {
     /// Of several faults the first is told, in the order of `SetupFault`.
     pub fn new(alloc: A, map: M, setup: &Setup) -> Result<Machine<M, A>, SetupFault>
         requires { IsNew (M.slots map) }
-        ensures opening { IfOk result (λ machine. state machine ≡ new_world (made_of setup.now) (M.slots map)) }
+        ensures opening { IfOk result (λ machine. state machine ≡ new_world (made_of setup.now)
+            (M.slots map)) }
         ensures sound { IfOk result (λ machine. fault_of setup.now ≡ None) }
         ensures first { IfErr result (λ fault. IsFirstFault setup.now fault) }
     {
@@ -75,8 +76,10 @@ impl<M: SlotMap, A: Allocator + Clone> Machine<M, A> {
         ensures step { Tries (Step (state self.old) event)
             (MayWant (state self.old) event)
             (state self.old) result (state self.new) }
-        ensures joins { IfOk result (λ outcome. JoinsAsMap M.can_fold M.folds (state self.old) event outcome (state self.new)) }
-        ensures sound { IfOk result (λ outcome. ∥ IsSoundStep (state self.old) event outcome (state self.new) ∥₁) }
+        ensures joins { IfOk result
+            (λ outcome. JoinsAsMap M.can_fold M.folds (state self.old) event outcome (state self.new)) }
+        ensures sound { IfOk result (λ outcome. ∥ IsSoundStep (state self.old) event outcome
+            (state self.new) ∥₁) }
         ensures legal { IsLegal (state self.new) }
     {
         self.engine.step(event)

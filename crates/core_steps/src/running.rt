@@ -30,11 +30,16 @@ pub fn run<M: SlotMap + Drop, A: Allocator + Clone + Drop>(
     events: &[Event],
 ) -> Result<Run<M, A>, RunFault>
     requires { IsNew (M.slots map) }
-    ensures run { IfOk result (λ done. RunsTo (new_world (made_of setup.now) (M.slots map)) events.now done.outcomes.items (state done.machine)) }
+    ensures run { IfOk result
+        (λ done. RunsTo (new_world (made_of setup.now) (M.slots map)) events.now done.outcomes.items
+        (state done.machine)) }
     ensures all { IfOk result (λ done. length done.outcomes.items ≡ length events.now) }
     ensures brackets { IfOk result (λ done. IsBracketed events.now done.outcomes.items (state done.machine)) }
-    ensures sound { IfOk result (λ done. SoundRun (new_world (made_of setup.now) (M.slots map)) events.now done.outcomes.items (state done.machine)) }
-    ensures fault { IfErr result (λ fault. Fails (new_world (made_of setup.now) (M.slots map)) setup.now events.now fault) }
+    ensures sound { IfOk result
+        (λ done. SoundRun (new_world (made_of setup.now) (M.slots map)) events.now done.outcomes.items
+        (state done.machine)) }
+    ensures fault { IfErr result
+        (λ fault. Fails (new_world (made_of setup.now) (M.slots map)) setup.now events.now fault) }
 {
     let Ok(own) = alloc.clone() else {
         return Err(RunFault::Setup(setup.fault().unwrap_or(SetupFault::NoMemory)));

@@ -127,7 +127,8 @@ moves_near first w c new v f sure (lacks touch e n u) h =
 due_reply : (first : ℕ → Bool) (reply : Reply) → IsReply reply → IsDueReply first reply
 due_reply first reply i core step call = due_so (Go core) first step call core reply i
 
-sure_gone : (first free : ℕ → Bool) (reach : Touch → Option ℕ) (held : Option PageRange) (reply : Reply) → IsDueReply first reply → IsSure first free reach (let_go held reply)
+sure_gone : (first free : ℕ → Bool) (reach : Touch → Option ℕ) (held : Option PageRange) (reply : Reply) → IsDueReply first reply
+    → IsSure first free reach (let_go held reply)
 sure_gone first free reach None reply h = h
 sure_gone first free reach (Some held) reply h = h
 
@@ -155,16 +156,19 @@ replies_near : (first : ℕ → Bool) (w : World) (c : ℕ) (held : Option PageR
     → Replies w c held reply → v ≡ after_reply c held reply w → Nears first w c v
 replies_near first w c held reply v f sure (refuses request e h j) k =
     tells_near first w c (Check request) held reply w.slots w.hardware w.memory v e k
-    (subst (λ o. rank_of w.slots (reach_of w.hardware c) (let_go o reply) < 2 ^ 37) (sym h) (omega arith)) (due_reply first reply (refused w f.plain c request reply f.good j).0)
+    (subst (λ o. rank_of w.slots (reach_of w.hardware c) (let_go o reply) < 2 ^ 37) (sym h) (omega arith))
+    (due_reply first reply (refused w f.plain c request reply f.good j).0)
 replies_near first w c held reply v f sure (no_place request place e h r j) k =
     tells_near first w c (Check request) held reply w.slots w.hardware w.memory v e k
     (subst (λ o. rank_of w.slots (reach_of w.hardware c) (let_go o reply) < 2 ^ 37) (sym h) (omega arith)) (due_reply first reply (subst IsReply (sym r) tt))
 replies_near first w c held reply v f sure (declines change errno e h r d) k =
     tells_near first w c (Decide change) held reply w.slots w.hardware w.memory v e k
-    (subst (λ o. rank_of w.slots (reach_of w.hardware c) (let_go o reply) < rank_of w.slots (reach_of w.hardware c) (Decide change)) (sym h) (omega arith)) (due_reply first reply (subst IsReply (sym r) tt))
+    (subst (λ o. rank_of w.slots (reach_of w.hardware c) (let_go o reply) < rank_of w.slots (reach_of w.hardware c) (Decide change))
+    (sym h) (omega arith)) (due_reply first reply (subst IsReply (sym r) tt))
 replies_near first w c held reply v f sure (fails touch e h x) k =
     tells_near first w c (Settle touch) held reply w.slots w.hardware w.memory v e k
-    (subst (λ o. rank_of w.slots (reach_of w.hardware c) (let_go o reply) < 10) (sym h) (omega arith)) (due_reply first reply (fault_is_reply (found_at w touch) reply x))
+    (subst (λ o. rank_of w.slots (reach_of w.hardware c) (let_go o reply) < 10) (sym h) (omega arith))
+    (due_reply first reply (fault_is_reply (found_at w touch) reply x))
 replies_near first w c held reply v f sure (no_frame touch e h r none) k =
     let same : w.memory.is_free ≡ first = sure_at first w c (Want touch) e sure in
     tells_near first w c (Want touch) held reply w.slots w.hardware w.memory v e k
@@ -242,7 +246,8 @@ installed_hits w c touch k after =
     let z = usable_entry w.made.file touch.access (w.slots.info touch.page) k.ready.0 c k.ready.1 in
     reaches_own (after_install c touch w).hardware c touch z.0 (at_table ∙ z.1)
     (λ u e. let backed : IsBacked (put w.slots.info touch.page (info_with_core c (w.slots.info touch.page)) touch.page) c u =
-    (at_page (IsSoundEntry (after_install c touch w).slots.info c ((after_install c touch w).hardware.table c) (w.hardware.inbox c)) (w.hardware.tlb c) touch.page u (after.coherent.tlbs c) e).0 in
+    (at_page (IsSoundEntry (after_install c touch w).slots.info c ((after_install c touch w).hardware.table c) (w.hardware.inbox c))
+    (w.hardware.tlb c) touch.page u (after.coherent.tlbs c) e).0 in
     let entry : entry_of_page (info_with_core c (w.slots.info touch.page)) ≡ Some u =
     ap entry_of_page (sym (put_same w.slots.info touch.page (info_with_core c (w.slots.info touch.page)))) ∙ backed.entry in
     let both = z.2 in cc)

@@ -109,7 +109,8 @@ never w t c request x o v h (waits d goal cursor by e p ne own i) k =
     let none : holds (x.calls.phase by) cursor ≡ false = ap (λ p. holds p cursor) idle in
     absurd (cc (held, none))
 
-pub row_of : (w : World) (t : Plain) (c : ℕ) (request : Request) (x : World) (o : Outcome) (v : World) → IsServing w t c request x → Fine v → Shape (with_event x) (Go c) o v
+pub row_of : (w : World) (t : Plain) (c : ℕ) (request : Request) (x : World) (o : Outcome) (v : World) → IsServing w t c request x → Fine v
+    → Shape (with_event x) (Go c) o v
     → Row w.memory.is_free (with_event x) c o v
 row_of w t c request x o v h after (rests r e) = never w t c request x o v h r e
 row_of w t c request x o v h after (begins d r e s lt p below k) = absurd cc
@@ -154,7 +155,8 @@ closed_free (Fill touch frame) e = absurd cc
 closed_free (Install touch) e = absurd cc
 closed_free (Release touch) e = absurd cc
 
-serves_on : (w : World) (t : Plain) (c : ℕ) (request : Request) (x v : World) → IsServing w t c request x → Step x (Go c) Stepped v → Effect (with_event x) (Go c) Stepped v
+serves_on : (w : World) (t : Plain) (c : ℕ) (request : Request) (x v : World) → IsServing w t c request x → Step x (Go c) Stepped v
+    → Effect (with_event x) (Go c) Stepped v
     → v.made ≡ x.made → IsSureOf w.memory.is_free c v → IsUsed (recorded w.slots) c request v
     → HasTaken w.memory.is_free v.memory.is_free request → IsServing w t c request v
 serves_on w t c request x v h s effect made sure used_now taken_now = elim effect [
@@ -165,7 +167,8 @@ serves_on w t c request x v h s effect made sure used_now taken_now = elim effec
       (subst (λ (call : ℕ → ℕ). IsLogged w.calls.log x.calls.log (call c) c (status (x.calls.phase c))) (sym same.number) h.logged)))
   | tells b reply _ same asked log sts ↦
       let e : b ≡ c = same_core b asked in
-      let was : x.calls.log ≡ w.calls.log = subst (IsLogged w.calls.log x.calls.log (x.calls.number c) c) (ap (λ n. status (x.calls.phase n)) (sym e) ∙ asked) h.logged in
+      let was : x.calls.log ≡ w.calls.log = subst (IsLogged w.calls.log x.calls.log (x.calls.number c) c)
+      (ap (λ n. status (x.calls.phase n)) (sym e) ∙ asked) h.logged in
       next same
       (λ d ne. sts d ∙ put_other (λ n. status (x.calls.phase n)) b (Told reply) d (λ i. ne (i ∙ e)) ∙ ap status (h.others d ne))
       (subst (IsLogged w.calls.log v.calls.log (v.calls.number c) c) (sym (told b reply e (sts c))) (
@@ -185,15 +188,19 @@ serves_on w t c request x v h s effect made sure used_now taken_now = elim effec
         go true e = eq_true b c e
         go false e = absurd (let i : status (x.calls.phase b) ≡ Closed = ap status (h.others b (eq_false b c e)) in cc)
 
-    told : (b : ℕ) (reply : Reply) → b ≡ c → status (v.calls.phase c) ≡ put (λ n. status (x.calls.phase n)) b (Told reply) c → status (v.calls.phase c) ≡ Told reply
+    told : (b : ℕ) (reply : Reply) → b ≡ c → status (v.calls.phase c) ≡ put (λ n. status (x.calls.phase n)) b (Told reply) c
+        → status (v.calls.phase c) ≡ Told reply
     told b reply e k = k ∙ ap (λ n. put (λ n. status (x.calls.phase n)) n (Told reply) c) e ∙ put_same (λ n. status (x.calls.phase n)) c (Told reply)
 
-    next : SameCalls (with_event x) v → ((d : ℕ) → d ≢ c → status (v.calls.phase d) ≡ Closed) → IsLogged w.calls.log v.calls.log (v.calls.number c) c (status (v.calls.phase c)) → IsServing w t c request v
+    next : SameCalls (with_event x) v → ((d : ℕ) → d ≢ c → status (v.calls.phase d) ≡ Closed)
+        → IsLogged w.calls.log v.calls.log (v.calls.number c) c (status (v.calls.phase c)) → IsServing w t c request v
     next same closed logged = record {
       reached = reached_step x v (Go c) Stepped h.reached s;
       inside = ap (λ m. nat_lt c m.cores) made ∙ h.inside;
-      first = subst (λ rs. Replays rs (nothing_mapped v.made.file) w.calls.log t) (sym same.requests) (subst (λ m. Replays x.calls.requests (nothing_mapped m.file) w.calls.log t) (sym made) h.first);
-      number = subst (λ rs. nth rs (v.calls.number c) ≡ Some request) (sym same.requests) (subst (λ (call : ℕ → ℕ). nth x.calls.requests (call c) ≡ Some request) (sym same.number) h.number);
+      first = subst (λ rs. Replays rs (nothing_mapped v.made.file) w.calls.log t) (sym same.requests)
+          (subst (λ m. Replays x.calls.requests (nothing_mapped m.file) w.calls.log t) (sym made) h.first);
+      number = subst (λ rs. nth rs (v.calls.number c) ≡ Some request) (sym same.requests)
+          (subst (λ (call : ℕ → ℕ). nth x.calls.requests (call c) ≡ Some request) (sym same.number) h.number);
       others = λ d ne. closed_free (v.calls.phase d) (closed d ne);
       logged = logged;
       sure = sure;
@@ -254,8 +261,11 @@ begun w c request m (happens n shape) s = go shape
     go (rests r e) = absurd (none r)
     go (begins d r e k lt p below h) =
         let core : c ≡ d = cc in
-        let same : request ≡ r = cc in
-        (subst (λ n. nat_lt n w.made.cores ≡ true) (sym core) (test d w.made.cores lt), h ∙ ap (λ n. after_call n r (with_event w)) (sym core) ∙ ap (λ q. after_call c q (with_event w)) (sym same))
+        let same : request ≡ r = cc in (
+          subst (λ n. nat_lt n w.made.cores ≡ true) (sym core) (test d w.made.cores lt),
+          h ∙ ap (λ n. after_call n r (with_event w))
+              (sym core) ∙ ap (λ q. after_call c q (with_event w)) (sym same),
+        )
     go (ends d reply e k lt p h) = absurd cc
     go (goes d e k lt g) = absurd (no_going d (Call c request) e refl)
     go (gives_up d e s lt can h) = absurd cc
@@ -271,12 +281,14 @@ starts w t c request m reached leads calm s =
         reached = subst IsReached k.1 (reached_step w m (Call c request) Stepped reached s);
         inside = k.0;
         first = replays_requests w.calls.requests request w.calls.log (nothing_mapped w.made.file) t leads;
-        number = subst (λ n. nth x.calls.requests n ≡ Some request) (sym (put_same w.calls.number c (suc (length w.calls.requests)))) (at_new w.calls.requests request);
+        number = subst (λ n. nth x.calls.requests n ≡ Some request) (sym (put_same w.calls.number c (suc (length w.calls.requests))))
+            (at_new w.calls.requests request);
         others = λ d ne. put_other w.calls.phase c (Check request) d ne ∙ calm d;
         logged = subst (λ phase. IsLogged w.calls.log w.calls.log (x.calls.number c) c (status phase)) (sym (put_same w.calls.phase c (Check request))) refl;
         sure = subst (IsSure w.memory.is_free w.memory.is_free (reach_of w.hardware c)) (sym (put_same w.calls.phase c (Check request))) refl;
         made = refl;
-        used = subst (Used (recorded w.slots) (recorded w.slots) (reach_of w.hardware c) c request) (sym (put_same w.calls.phase c (Check request))) (λ p d. refl);
+        used = subst (Used (recorded w.slots) (recorded w.slots) (reach_of w.hardware c) c request)
+            (sym (put_same w.calls.phase c (Check request))) (λ p d. refl);
         taken = inl refl;
       }),
       ap (λ (m : World). m.calls.phase c) k.1 ∙ put_same w.calls.phase c (Check request),
@@ -294,8 +306,10 @@ pub returned : (w : World) (t : Plain) (c : ℕ) (request : Request) (x v : Worl
 returned w t c request x v o reply h s at answered e =
     let reached : IsReached v = reached_step x v (Go c) o h.reached s in
     let after : Fine v = reached_fine v reached in
-    let logged : IsLogged w.calls.log x.calls.log (x.calls.number c) c (Told reply) = subst (λ phase. IsLogged w.calls.log x.calls.log (x.calls.number c) c (status phase)) at h.logged in
-    let led : Replays x.calls.requests (nothing_mapped x.made.file) x.calls.log after.plain = subst (λ (v : World). Replays v.calls.requests (nothing_mapped v.made.file) v.calls.log after.plain) e after.log in
+    let logged : IsLogged w.calls.log x.calls.log (x.calls.number c) c (Told reply) = subst
+    (λ phase. IsLogged w.calls.log x.calls.log (x.calls.number c) c (status phase)) at h.logged in
+    let led : Replays x.calls.requests (nothing_mapped x.made.file) x.calls.log after.plain = subst
+    (λ (v : World). Replays v.calls.requests (nothing_mapped v.made.file) v.calls.log after.plain) e after.log in
     let last = last_entry x.calls.requests w.calls.log (nothing_mapped x.made.file) after.plain (EntryOf.Answer logged.0 (x.calls.number c) c reply)
     (subst (λ log. Replays x.calls.requests (nothing_mapped x.made.file) log after.plain) logged.1 led) in
     let from : last.0 ≡ t = log_leads_to_one x.calls.requests w.calls.log (nothing_mapped x.made.file) last.0 t last.1 h.first in
@@ -311,7 +325,8 @@ returned w t c request x v o reply h s at answered e =
       leads = after.log;
       stands = subst (λ r. Stands t c r reply after.plain) same (subst (λ t. Stands t c last.2.0 reply after.plain) from last.2.2);
       due = λ step call. sure c step call;
-      users = λ p d. ap (λ (v : World). recorded v.slots p d) e ∙ subst (Used (recorded w.slots) (recorded x.slots) (reach_of x.hardware c) c request) at h.used p d;
+      users = λ p d. ap (λ (v : World). recorded v.slots p d) e
+          ∙ subst (Used (recorded w.slots) (recorded x.slots) (reach_of x.hardware c) c request) at h.used p d;
       frames = subst (λ (v : World). frames_taken v ≤ frames_taken w + frames_for request) (sym e)
           (subst (λ n. taken_below x.memory.is_free n ≤ frames_taken w + frames_for request) (sym (ap (λ (m : Made). m.frames) h.made))
           (taken_most w.memory.is_free x.memory.is_free request w.made.frames h.taken));
@@ -410,7 +425,8 @@ unwaited_along w t c request m h told u (suc n) x s =
       | awaits_acks _ _ _ _ e _ _ ↦ absurd cc
     ]
 
-pub served_alone : (w begun : World) (t : Plain) (core : ℕ) (request : Request) → IsReached w → LeadsTo w t → IsCalm w → Step w (Call core request) Stepped begun
+pub served_alone : (w begun : World) (t : Plain) (core : ℕ) (request : Request) → IsReached w → LeadsTo w t → IsCalm w
+    → Step w (Call core request) Stepped begun
     → IsServedAlone w t core request begun
 unfolding returned
 served_alone w begun t core request reached leads calm s =
@@ -426,7 +442,11 @@ served_alone w begun t core request reached leads calm s =
           elim (row_of w t core request x o v h (reached_fine v (reached_step x v (Go core) o h.reached s))
           (shape_at x core o v (less_test x.calls.events event_limit below) (comes x (Go core) o v s))) [
             | nears e _ _ ↦ absurd (not e)
-            | returns reply at answered e ↦ inl (returned w t core request x v o reply h s at answered e, subst (Unwaited (recorded w.slots) core request) at unwaited)
+            | returns reply at answered e ↦ inl (
+              returned w t core request x v o reply h s at answered e,
+              subst
+                  (Unwaited (recorded w.slots) core request) at unwaited,
+            )
             | awaits_acks change held set p e a k ↦ inr (awaited_by w t core request x o v change held set h told p e a k)
           ];
     }

@@ -89,7 +89,8 @@ none_taken f (suc n) h =
 abbrev pub HasTaken : (ℕ → Bool) → (ℕ → Bool) → Request → Type 0
 HasTaken first free request = (free ≡ first) ⊎ ((f : ℕ) × (free ≡ put first f false) × (is_access request ≡ true))
 
-pub taken_most : (first free : ℕ → Bool) (request : Request) (n : ℕ) → HasTaken first free request → taken_below free n ≤ taken_below first n + frames_for request
+pub taken_most : (first free : ℕ → Bool) (request : Request) (n : ℕ) → HasTaken first free request
+    → taken_below free n ≤ taken_below first n + frames_for request
 taken_most first free request n (inl e) = let a : taken_below free n ≡ taken_below first n = ap (λ f. taken_below f n) e in omega (arith, a)
 taken_most first free request n (inr h) =
     let a : taken_below free n ≡ taken_below (put first h.0 false) n = ap (λ f. taken_below f n) h.1 in
@@ -97,7 +98,8 @@ taken_most first free request n (inr h) =
     let c : frames_for request ≡ 1 = ap (λ (b : Bool). if b then 1 else 0) h.2 in
     omega (arith, a, b, c)
 
-touches_access : (modes : ℕ → Option Mode) (core : ℕ) (request : Request) (touch : Touch) → checked modes core request ≡ Ok (PlanOf.Touch touch) → is_access request ≡ true
+touches_access : (modes : ℕ → Option Mode) (core : ℕ) (request : Request) (touch : Touch)
+    → checked modes core request ≡ Ok (PlanOf.Touch touch) → is_access request ≡ true
 touches_access modes core request touch e = go request (passed (refusal modes request) (plan_of core request) (PlanOf.Touch touch) e).1
   where
     no_touch : (b : Bool) (x y : Plan) → either_plan b x y ≡ Ok (PlanOf.Touch touch) → (x ≡ PlanOf.Touch touch → ⊥) → (y ≡ PlanOf.Touch touch → ⊥) → ⊥

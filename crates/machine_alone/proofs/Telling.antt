@@ -51,7 +51,8 @@ told_message [] c range = ap (λ b. is_some (if b then Some (posted c range) els
     same c = grind (arith, nat_tests)
 told_message (m ∷ ms) c range = go (m.from == c) (told_message ms c range)
   where
-    go : (b : Bool) → is_some (message_of (ms ++ posted c range ∷ []) c) ≡ true → is_some (if b then Some m else message_of (ms ++ posted c range ∷ []) c) ≡ true
+    go : (b : Bool) → is_some (message_of (ms ++ posted c range ∷ []) c) ≡ true
+        → is_some (if b then Some m else message_of (ms ++ posted c range ∷ []) c) ≡ true
     go true h = refl
     go false h = h
 
@@ -86,7 +87,8 @@ left_is_awaited phase d (m ∷ ms) c only h = go (m.from == c) refl
     go false e = absurd (let a = only m.from (eq_false m.from c e) in let b = h.1 in cc)
 
 -- the cores that are to be told are those that are recorded on the pages
-acts_users : (files : ℕ → Option File) (s : Slots) (change : Change) (changes : PageRange) (shoot : ℕ) → Decides files s (PlanOf.Change change) (Act changes shoot)
+acts_users : (files : ℕ → Option File) (s : Slots) (change : Change) (changes : PageRange) (shoot : ℕ)
+    → Decides files s (PlanOf.Change change) (Act changes shoot)
     → (core : ℕ) → (members shoot core ≡ true) ↔ IsUser s (range_of change) core
 acts_users files s (Put range meta) changes shoot h = h.1
 acts_users files s (Clear range) changes shoot h = h.1
@@ -115,7 +117,9 @@ posts_tell w c change shoot f others e d = (
         → takes_left (if b then ms ++ posted c (range_of change) ∷ [] else ms)
         ≡ (if is_some (message_of (if b then ms ++ posted c (range_of change) ∷ [] else ms) c) then 2 else 0)
     untaken true ms i =
-        subst (λ ms. takes_left (ms ++ posted c (range_of change) ∷ []) ≡ (if is_some (message_of (ms ++ posted c (range_of change) ∷ []) c) then 2 else 0)) (sym i)
+        subst (λ ms.
+        takes_left (ms ++ posted c (range_of change) ∷ []) ≡ (if is_some (message_of (ms ++ posted c (range_of change) ∷ []) c) then 2
+        else 0)) (sym i)
         (ap (λ (b : Bool). if b then 2 else 0) (sym (told_message [] c (range_of change))))
     untaken false ms i = subst (λ ms. takes_left ms ≡ (if is_some (message_of ms c) then 2 else 0)) (sym i) refl
 
@@ -186,12 +190,15 @@ lets_go_untold old held b new (unlocks reply e n) = ap awaits_in n ∙ let_go_un
 lets_go_untold old held b new (releases touch e h n) = ap awaits_in n
 
 -- with its reply
-replied_untold : (c : ℕ) (held : Option PageRange) (reply : Reply) (x v : World) → v ≡ after_reply c held reply x → IsTold v.slots v.hardware c (v.calls.phase c)
+replied_untold : (c : ℕ) (held : Option PageRange) (reply : Reply) (x v : World) → v ≡ after_reply c held reply x
+    → IsTold v.slots v.hardware c (v.calls.phase c)
 replied_untold c held reply x v h =
     subst (λ (v : World). IsTold v.slots v.hardware c (v.calls.phase c)) (sym h)
-    (untold x.slots x.hardware c (put x.calls.phase c (let_go held reply) c) (ap awaits_in (put_same x.calls.phase c (let_go held reply)) ∙ let_go_untold held reply))
+    (untold x.slots x.hardware c (put x.calls.phase c (let_go held reply) c) (ap awaits_in (put_same x.calls.phase c (let_go held reply))
+    ∙ let_go_untold held reply))
 
-pub told_on : (w : World) (c : ℕ) (v : World) → Fine w → ((b : ℕ) → b ≢ c → w.calls.phase b ≡ Free) → GoesBy w c v → IsTold v.slots v.hardware c (v.calls.phase c)
+pub told_on : (w : World) (c : ℕ) (v : World) → Fine w → ((b : ℕ) → b ≢ c → w.calls.phase b ≡ Free) → GoesBy w c v
+    → IsTold v.slots v.hardware c (v.calls.phase c)
 told_on w c v f others (moves new m h) = to_untold c new w v h (moves_untold w c new m)
 told_on w c v f others (divides goal cursor t e s h) =
     subst (λ (v : World). IsTold v.slots v.hardware c (v.calls.phase c)) (sym h) (untold t w.hardware c (w.calls.phase c) (ap awaits_in e))
@@ -200,8 +207,10 @@ told_on w c v f others (lets_go held b t new l u h) = to_untold c new (record w 
 told_on w c v f others (answers held reply r h) = replied_untold c held reply w v h
 told_on w c v f others (posts change shoot e h) =
     subst (λ (v : World). IsTold v.slots v.hardware c (v.calls.phase c)) (sym h)
-    (subst (IsTold w.slots (after_post c change shoot w).hardware c) (sym (put_same w.calls.phase c (Acks change (range_of change)))) (posts_tell w c change shoot f others e))
-told_on w c v f others (commits change held total e n l h) = replied_untold c (Some held) (reply_to change) (with_counts total (record w { slots = slots_after change w.slots })) v h
+    (subst (IsTold w.slots (after_post c change shoot w).hardware c) (sym (put_same w.calls.phase c (Acks change (range_of change))))
+    (posts_tell w c change shoot f others e))
+told_on w c v f others (commits change held total e n l h) = replied_untold c (Some held) (reply_to change)
+    (with_counts total (record w { slots = slots_after change w.slots })) v h
 told_on w c v f others (takes touch x e l h) = to_untold c (Fill touch x) (record w { memory = (after_frame c touch x w).memory }) v h refl
 told_on w c v f others (fills touch x total e t h) =
     to_untold c (Install touch) (record w { slots = (after_fill c touch x total w).slots; memory = (after_fill c touch x total w).memory }) v h refl

@@ -130,7 +130,8 @@ fault_keeps c request (Copies f) reply h = absurd h
 fault_keeps c request (Cached f) reply h = absurd h
 fault_keeps c request Wants reply h = absurd h
 
-same_request : (w : World) (c : ℕ) (r request : Request) → nth w.calls.requests (w.calls.number c) ≡ Some r → nth w.calls.requests (w.calls.number c) ≡ Some request
+same_request : (w : World) (c : ℕ) (r request : Request) → nth w.calls.requests (w.calls.number c) ≡ Some r
+    → nth w.calls.requests (w.calls.number c) ≡ Some request
     → r ≡ request
 same_request w c r request e k = cc
 
@@ -144,7 +145,8 @@ replies_keep c request w held reply f number (declines change errno e h i d) = s
 replies_keep c request w held reply f number (fails touch e h x) = fault_keeps c request (found_at w touch) reply x
 replies_keep c request w held reply f number (no_frame touch e h i none) = subst (Keeps c request) (sym i) (λ u p d. refl)
 
-unchanged : (first : Users) (c : ℕ) (request : Request) (w : World) (held : Option PageRange) (reply : Reply) → IsUsed first c request w → Replies w c held reply
+unchanged : (first : Users) (c : ℕ) (request : Request) (w : World) (held : Option PageRange) (reply : Reply) → IsUsed first c request w
+    → Replies w c held reply
     → Same (recorded w.slots) first
 unchanged first c request w held reply u (refuses r e h j) = used_at first c request w (Check r) e u
 unchanged first c request w held reply u (no_place r place e h i j) = used_at first c request w (Check r) e u
@@ -172,7 +174,8 @@ user_same a b page c s p d =
     put_both (λ p f g. f d ≡ g d) a b page (put (a page) c true) (put (b page) c true)
     (put_both (λ d x y. x ≡ y) (a page) (b page) c true true refl (λ j ne. s page j) d) (λ j ne. s j d) p
 
-usable_info : (file : ℕ → Option File) (o : Option PageInfo) (access : Access) (frame : Option ℕ) → IsUsable file o access frame → (info : PageInfo) × (o ≡ Some info)
+usable_info : (file : ℕ → Option File) (o : Option PageInfo) (access : Access) (frame : Option ℕ) → IsUsable file o access frame
+    → (info : PageInfo) × (o ≡ Some info)
 usable_info file None access frame u = absurd u
 usable_info file (Some info) access frame u = (info, refl)
 
@@ -309,7 +312,8 @@ change_unwaited first c request w change held f number e u was nobody d p ne h =
     told = subst (IsTold w.slots w.hardware c) e was
 
     drops : users_after c request (reply_to change) first p d ≡ without (range_of change) first p d
-    drops = subst (λ r. users_after c r (reply_to change) first p d ≡ without (range_of change) first p d) (same_request w c k.asked.request request k.asked.number number)
+    drops = subst (λ r. users_after c r (reply_to change) first p d ≡ without (range_of change) first p d)
+        (same_request w c k.asked.request request k.asked.number number)
         (change_drops (λ k. mode_of (w.made.file k)) c k.asked.request change k.asked.passed first p d)
 
     go : (b : Bool) → has (range_of change) p ≡ b → users_after c request (reply_to change) first p d ≡ true
@@ -325,7 +329,8 @@ user_stays first page c d p =
     put_all (λ p f. first p d ≡ true → f d ≡ true) first page (put (first page) c true)
     (put_all (λ d b. first page d ≡ true → b ≡ true) (first page) c true (λ h. refl) (λ j ne h. h) d) (λ j ne h. h) p
 
-access_unwaited : (first : Users) (c : ℕ) (request : Request) (w : World) (touch : Touch) (x : ℕ) → Fine w → nth w.calls.requests (w.calls.number c) ≡ Some request
+access_unwaited : (first : Users) (c : ℕ) (request : Request) (w : World) (touch : Touch) (x : ℕ) → Fine w
+    → nth w.calls.requests (w.calls.number c) ≡ Some request
     → w.calls.phase c ≡ Try touch → KeepsOthers first c request (reply_of touch x w.memory)
 access_unwaited first c request w touch x f number e d p ne h =
     let k : IsCallOf w c (Try touch) = call_at w c (Try touch) e f.order in
@@ -354,7 +359,10 @@ unwaited_on first c request w v f number u t n (commits change held counts e nob
 unwaited_on first c request w v f number u t n (takes touch x e l h) =
     unwaited_to first c request (Fill touch x) (record w { memory = (after_frame c touch x w).memory }) v h tt
 unwaited_on first c request w v f number u t n (fills touch x counts e k h) =
-    unwaited_to first c request (Install touch) (record w { slots = (after_fill c touch x counts w).slots; memory = (after_fill c touch x counts w).memory }) v h tt
+    unwaited_to first c request (Install touch) (record w {
+      slots = (after_fill c touch x counts w).slots;
+      memory = (after_fill c touch x counts w).memory;
+    }) v h tt
 unwaited_on first c request w v f number u t n (installs touch e h) =
     unwaited_to first c request (Release touch) (record w { slots = (after_install c touch w).slots; hardware = (after_install c touch w).hardware }) v h tt
 unwaited_on first c request w v f number u t n (accesses touch x e i h) =

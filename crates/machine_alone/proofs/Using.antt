@@ -84,7 +84,8 @@ refusal_keeps modes core (Mmap addr len prot flags file off) =
     (keeps_test core r (flags.fixed && not (are_pages (pages_of addr len))) _ _ (λ _. keeps_errno core r ENOMEM)
     (keeps_test core r flags.anon _ _ (λ _. keeps_none core r) (file_keeps core r (modes file) len prot flags off))))))
 refusal_keeps modes core (Munmap addr len) =
-    keeps_test core (Munmap addr len) (len == 0 || not (is_aligned addr) || not (are_pages (pages_of addr len))) _ _ (λ _. keeps_errno core (Munmap addr len) EINVAL)
+    keeps_test core (Munmap addr len) (len == 0 || not (is_aligned addr) || not (are_pages (pages_of addr len))) _ _
+    (λ _. keeps_errno core (Munmap addr len) EINVAL)
     (keeps_none core (Munmap addr len))
 refusal_keeps modes core (Mprotect addr len prot) =
     let r : Request = Mprotect addr len prot in
@@ -159,12 +160,14 @@ no_change core request addr byte access change = go (is_page (page_of addr))
     go true e = cc
     go false e = cc
 
-plan_drops : (modes : ℕ → Option Mode) (core : ℕ) (request : Request) (change : Change) → refusal modes request ≡ None → plan_of core request ≡ Ok (PlanOf.Change change)
+plan_drops : (modes : ℕ → Option Mode) (core : ℕ) (request : Request) (change : Change) → refusal modes request ≡ None
+    → plan_of core request ≡ Ok (PlanOf.Change change)
     → DropsAll core request change
 plan_drops modes core (Mmap addr len prot flags file off) change r e = go flags.fixed refl e
   where
     go : (b : Bool) → flags.fixed ≡ b
-        → either_plan b (PlanOf.Change (Put (pages_of addr len) (meta_of prot flags file off))) (PlanOf.Place (place_of core addr len (meta_of prot flags file off)))
+        → either_plan b (PlanOf.Change (Put (pages_of addr len) (meta_of prot flags file off)))
+        (PlanOf.Place (place_of core addr len (meta_of prot flags file off)))
         ≡ Ok (PlanOf.Change change) → DropsAll core (Mmap addr len prot flags file off) change
     go true i k =
         let same : Put (pages_of addr len) (meta_of prot flags file off) ≡ change = cc in
@@ -190,10 +193,12 @@ change_drops modes core request change e =
 abbrev Adds : ℕ → Request → Touch → Type 0
 Adds core request touch = (byte : ℕ) (u : Users) → Same (users_after core request (byte_reply touch.access byte) u) (with_user touch.page core u)
 
-pub touch_adds : (modes : ℕ → Option Mode) (core : ℕ) (request : Request) (touch : Touch) → checked modes core request ≡ Ok (PlanOf.Touch touch) → Adds core request touch
+pub touch_adds : (modes : ℕ → Option Mode) (core : ℕ) (request : Request) (touch : Touch)
+    → checked modes core request ≡ Ok (PlanOf.Touch touch) → Adds core request touch
 touch_adds modes core request touch e = go request (passed (refusal modes request) (plan_of core request) (PlanOf.Touch touch) e).1
   where
-    its : (r : Request) (addr byte : ℕ) (access : Access) → touched addr access byte ≡ Ok (PlanOf.Touch touch) → Adds core r (touch_of addr access byte) → Adds core r touch
+    its : (r : Request) (addr byte : ℕ) (access : Access) → touched addr access byte ≡ Ok (PlanOf.Touch touch)
+        → Adds core r (touch_of addr access byte) → Adds core r touch
     its r addr byte access e h =
         let same : PlanOf.Touch (touch_of addr access byte) ≡ PlanOf.Touch touch = (touch-of addr byte access (PlanOf.Touch touch) e).1 in
         let at : touch_of addr access byte ≡ touch = cc in
@@ -221,8 +226,10 @@ pub filled_same : (s : Slots) (page f : ℕ) → Same (recorded (with_info s pag
 filled_same s page f p c =
     put_all (λ p o. is_recorded o c ≡ is_recorded (s.info p) c) s.info page (info_with_frame f (s.info page)) (framed_same f (s.info page) c) (λ j ne. refl) p
 
-core_added : (core : ℕ) (o : Option PageInfo) (info : PageInfo) → o ≡ Some info → (c : ℕ) → is_recorded (info_with_core core o) c ≡ put (is_recorded o) core true c
-core_added core o info e c = subst (λ o. is_recorded (info_with_core core o) c ≡ put (is_recorded o) core true c) (sym e) (ap (λ f. f c) (members_with info.cores core))
+core_added : (core : ℕ) (o : Option PageInfo) (info : PageInfo) → o ≡ Some info → (c : ℕ) → is_recorded (info_with_core core o) c ≡ put
+    (is_recorded o) core true c
+core_added core o info e c = subst (λ o. is_recorded (info_with_core core o) c ≡ put (is_recorded o) core true c) (sym e)
+    (ap (λ f. f c) (members_with info.cores core))
 
 pub installed_adds : (s : Slots) (page core : ℕ) (info : PageInfo) → s.info page ≡ Some info
     → Same (recorded (with_info s page (info_with_core core (s.info page)))) (with_user page core (recorded s))

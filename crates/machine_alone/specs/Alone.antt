@@ -54,7 +54,8 @@ pub record IsWaiting (w : World) (t : Plain) (core : ℕ) (request : Request) : 
 -- gives for its request, and the users of each page are those that its reply leaves. An access takes
 -- one frame at the most, and no other request one. "No frame" is the reply only if none was free in w, and
 -- "no memory" never.
-pub record IsServed (w : World) (t : Plain) (core : ℕ) (request : Request) (outcome : Outcome) (v : World) : Type 0 where
+pub record IsServed (w : World) (t : Plain) (core : ℕ) (request : Request) (outcome : Outcome)
+    (v : World) : Type 0 where
   pub reply : Reply
   pub answered : outcome ≡ Answered reply
   pub calm : IsCalm v
@@ -68,11 +69,13 @@ pub record IsServed (w : World) (t : Plain) (core : ℕ) (request : Request) (ou
 
 -- the reply drops no user of a page but the core itself
 abbrev pub KeepsOthers : Users → ℕ → Request → Reply → Type 0
-KeepsOthers users core request reply = (d p : ℕ) → d ≢ core → users p d ≡ true → users_after core request reply users p d ≡ true
+KeepsOthers users core request reply = (d p : ℕ) → d ≢ core → users p d ≡ true
+    → users_after core request reply users p d ≡ true
 
 -- A call, begun in w, waits in x for the other cores that are recorded on its pages, for just these, and nothing changes. Each of them has
 -- both takes before it. The map t answers its request with a change of these pages, which leaves them without users.
-pub record IsAwaiting (w x : World) (t : Plain) (core : ℕ) (request : Request) (outcome : Outcome) (v : World) : Type 0 where
+pub record IsAwaiting (w x : World) (t : Plain) (core : ℕ) (request : Request) (outcome : Outcome)
+    (v : World) : Type 0 where
   pub waiting : IsWaiting x t core request
   pub set : ℕ
   pub waits : outcome ≡ Wait (WaitsFor.Acks set)
@@ -86,19 +89,23 @@ pub record IsAwaiting (w x : World) (t : Plain) (core : ℕ) (request : Request)
   pub frames : frames_taken x ≡ frames_taken w
   pub after : Plain
   pub stands : Stands t core request (reply_to waiting.change) after
-  pub drops : (u : Users) → Same (users_after core request (reply_to waiting.change) u) (without (range_of waiting.change) u)
+  pub drops : (u : Users) → Same (users_after core request (reply_to waiting.change) u)
+      (without (range_of waiting.change) u)
 
 -- Begun in w, whose log leads to t, the call takes few plain steps. The first that isn't plain, before the limit of events, hands out its
 -- reply, which drops no other user, or waits for other cores' acknowledgements.
 pub record IsServedAlone (w : World) (t : Plain) (core : ℕ) (request : Request) (begun : World) : Type 0 where
   pub short : (n : ℕ) (x : World) → StepsTo begun core n x → n < 2 ^ 40
-  pub ends : (n : ℕ) (x v : World) (outcome : Outcome) → StepsTo begun core n x → Step x (Go core) outcome v → outcome ≢ Stepped
+  pub ends : (n : ℕ) (x v : World) (outcome : Outcome) → StepsTo begun core n x → Step x (Go core) outcome v
+      → outcome ≢ Stepped
       → x.calls.events < event_limit
-      → ((k : IsServed w t core request outcome v) × KeepsOthers (recorded w.slots) core request k.reply) ⊎ IsAwaiting w x t core request outcome v
+      → ((k : IsServed w t core request outcome v) × KeepsOthers (recorded w.slots) core request k.reply)
+      ⊎ IsAwaiting w x t core request outcome v
 
 -- in each state that a machine reaches, with any number of cores
 abbrev pub AllLoneCallsAreAnswered : Type 0
-AllLoneCallsAreAnswered = (w begun : World) (t : Plain) (core : ℕ) (request : Request) → IsReached w → LeadsTo w t → IsCalm w
+AllLoneCallsAreAnswered = (w begun : World) (t : Plain) (core : ℕ) (request : Request) → IsReached w → LeadsTo w t
+    → IsCalm w
     → Step w (Call core request) Stepped begun → IsServedAlone w t core request begun
 
 -- ---- a call that waits
@@ -114,12 +121,15 @@ pub record IsAwaitingStill (w : World) (outcome : Outcome) (v : World) : Type 0 
 -- The same of a call that waits in w: once nobody is awaited, it is answered.
 pub record IsServedAtLast (w : World) (t : Plain) (core : ℕ) (request : Request) : Type 0 where
   pub short : (n : ℕ) (x : World) → StepsTo w core n x → n < 2 ^ 40
-  pub ends : (n : ℕ) (x v : World) (outcome : Outcome) → StepsTo w core n x → Step x (Go core) outcome v → outcome ≢ Stepped
+  pub ends : (n : ℕ) (x v : World) (outcome : Outcome) → StepsTo w core n x → Step x (Go core) outcome v
+      → outcome ≢ Stepped
       → x.calls.events < event_limit
-      → (IsServed w t core request outcome v × ((d : ℕ) → takes_left (w.hardware.inbox d) ≡ 0)) ⊎ IsAwaitingStill w outcome v
+      → (IsServed w t core request outcome v × ((d : ℕ) → takes_left (w.hardware.inbox d) ≡ 0))
+      ⊎ IsAwaitingStill w outcome v
 
 abbrev pub AllWaitingCallsAreAnswered : Type 0
-AllWaitingCallsAreAnswered = (w : World) (t : Plain) (core : ℕ) (request : Request) → IsWaiting w t core request → IsServedAtLast w t core request
+AllWaitingCallsAreAnswered = (w : World) (t : Plain) (core : ℕ) (request : Request) → IsWaiting w t core request
+    → IsServedAtLast w t core request
 
 -- ---- what happens beside a call that waits, or where no core has a call
 
@@ -127,7 +137,8 @@ AllWaitingCallsAreAnswered = (w : World) (t : Plain) (core : ℕ) (request : Req
 pub record IsResting (w : World) (core : ℕ) : Type 0 where
   pub reached : IsReached w
   pub others : (d : ℕ) → d ≢ core → w.calls.phase d ≡ Free
-  pub own : (w.calls.phase core ≡ Free) ⊎ ((change : Change) × ((held : PageRange) × (w.calls.phase core ≡ Acks change held)))
+  pub own : (w.calls.phase core ≡ Free)
+      ⊎ ((change : Change) × ((held : PageRange) × (w.calls.phase core ≡ Acks change held)))
 
 -- the event begins no call, and is no step of a call that a core has
 abbrev pub IsBeside : World → Event → Type 0

@@ -40,17 +40,20 @@ pub record Chronicle (n : ℕ) (calls : List Begun) (requests : List Request) (l
   pub once : (i j step later k core other : ℕ) (reply reply2 : Reply) → IsAnswer log i step k core reply → IsAnswer log j later k other reply2 → i ≡ j
   pub stands : (c : ℕ) → Stands n calls log c (call c) (stat c)
 
-before_later : (n : ℕ) (log : List Entry) (call core : ℕ) (reply : Reply) → IsAnsweredBefore n log call core reply → IsAnsweredBefore (suc n) log call core reply
+before_later : (n : ℕ) (log : List Entry) (call core : ℕ) (reply : Reply) → IsAnsweredBefore n log call core reply
+    → IsAnsweredBefore (suc n) log call core reply
 before_later n log call core reply h = (h.0, h.1, h.2, omega (arith, h.3))
 
-stands_later : (n : ℕ) (calls : List Begun) (log : List Entry) (core call : ℕ) (s : Status) → Stands n calls log core call s → Stands (suc n) calls log core call s
+stands_later : (n : ℕ) (calls : List Begun) (log : List Entry) (core call : ℕ) (s : Status) → Stands n calls log core call s
+    → Stands (suc n) calls log core call s
 stands_later n calls log core call Closed h = tt
 stands_later n calls log core call Asked h = h
 stands_later n calls log core call (Told reply) h = (h.0, before_later n log call core reply h.1)
 
 -- ---- an event that is only counted
 
-chron_keeps : (n : ℕ) (calls : List Begun) (requests : List Request) (log : List Entry) (call : ℕ → ℕ) (stat : ℕ → Status) → Chronicle n calls requests log call stat → Chronicle (suc n) calls requests log call stat
+chron_keeps : (n : ℕ) (calls : List Begun) (requests : List Request) (log : List Entry) (call : ℕ → ℕ) (stat : ℕ → Status)
+    → Chronicle n calls requests log call stat → Chronicle (suc n) calls requests log call stat
 chron_keeps n calls requests log call stat h = record {
   same = h.same;
   before = λ k b e. omega (arith, h.before k b e);
@@ -61,7 +64,8 @@ chron_keeps n calls requests log call stat h = record {
   stands = λ c. stands_later n calls log c (call c) (stat c) (h.stands c);
 }
 
-chron_stat : (n : ℕ) (calls : List Begun) (requests : List Request) (log : List Entry) (call : ℕ → ℕ) (stat new : ℕ → Status) → ((c : ℕ) → new c ≡ stat c) → Chronicle n calls requests log call stat → Chronicle n calls requests log call new
+chron_stat : (n : ℕ) (calls : List Begun) (requests : List Request) (log : List Entry) (call : ℕ → ℕ) (stat new : ℕ → Status)
+    → ((c : ℕ) → new c ≡ stat c) → Chronicle n calls requests log call stat → Chronicle n calls requests log call new
 chron_stat n calls requests log call stat new e h = record {
   same = h.same;
   before = h.before;
@@ -81,7 +85,8 @@ call_in (Answer step call core reply) = call
 abbrev pub core_in : Entry → ℕ
 core_in (Answer step call core reply) = core
 
-chron_tells : (n : ℕ) (calls : List Begun) (requests : List Request) (log : List Entry) (call : ℕ → ℕ) (stat : ℕ → Status) (c : ℕ) (reply : Reply) → stat c ≡ Asked → Chronicle n calls requests log call stat
+chron_tells : (n : ℕ) (calls : List Begun) (requests : List Request) (log : List Entry) (call : ℕ → ℕ) (stat : ℕ → Status) (c : ℕ)
+    (reply : Reply) → stat c ≡ Asked → Chronicle n calls requests log call stat
     → Chronicle (suc n) calls requests (log ++ Answer n (call c) c reply ∷ []) call (put stat c (Told reply))
 chron_tells n calls requests log call stat c reply e h = record {
   same = h.same;
@@ -119,7 +124,8 @@ chron_tells n calls requests log call stat c reply e h = record {
       | inr l ↦ l.0 ∙ sym m.0
     ]
   ];
-  stands = put_all (λ d s. Stands (suc n) calls (log ++ new ∷ []) d (call d) s) stat c (Told reply) (mine.0, (length log, n, get_new log new, omega arith)) (λ d ne. other d ne (stat d) (h.stands d));
+  stands = put_all (λ d s. Stands (suc n) calls (log ++ new ∷ []) d (call d) s) stat c (Told reply)
+      (mine.0, (length log, n, get_new log new, omega arith)) (λ d ne. other d ne (stat d) (h.stands d));
 }
   where
     new : Entry
@@ -170,8 +176,10 @@ latest_new calls b = record {
   ];
 }
 
-chron_opens : (n : ℕ) (calls : List Begun) (requests : List Request) (log : List Entry) (call : ℕ → ℕ) (stat : ℕ → Status) (c : ℕ) (request : Request) → Chronicle n calls requests log call stat
-    → Chronicle (suc n) (calls ++ record { core = c; request = request; step = n } ∷ []) (requests ++ request ∷ []) log (put call c (suc (length requests))) (put stat c Asked)
+chron_opens : (n : ℕ) (calls : List Begun) (requests : List Request) (log : List Entry) (call : ℕ → ℕ) (stat : ℕ → Status) (c : ℕ)
+    (request : Request) → Chronicle n calls requests log call stat
+    → Chronicle (suc n) (calls ++ record { core = c; request = request; step = n } ∷ []) (requests ++ request ∷ []) log
+    (put call c (suc (length requests))) (put stat c Asked)
 chron_opens n calls requests log call stat c request h = record {
   same = ap (λ l. l ++ request ∷ []) h.same ∙ sym (requests_more calls);
   before = λ k b e. elim (at_either calls new k b e) [
@@ -182,8 +190,11 @@ chron_opens n calls requests log call stat c request h = record {
   rises = h.rises;
   begun = λ i step k core r a. let b = h.begun i step k core r a in (b.0, at_old calls new k b.0 b.1, b.2, b.3);
   once = h.once;
-  stands = put_both (λ d k s. Stands (suc n) (calls ++ new ∷ []) log d k s) call stat c (suc (length requests)) Asked
-      (subst (IsLatest (calls ++ new ∷ []) c) (ap suc (sym size)) (latest_new calls new), λ i step core r a. let b = h.begun i step (suc (length requests)) core r a in let lt = within calls (suc (length requests)) b.0 b.1 in omega (arith, lt, size))
+  stands = put_both (λ d k s. Stands (suc n) (calls ++ new ∷ []) log d k s) call stat c (suc (length requests)) Asked (
+    subst (IsLatest (calls ++ new ∷ []) c) (ap suc (sym size)) (latest_new calls new),
+    λ i step core r a. let b = h.begun i step
+        (suc (length requests)) core r a in let lt = within calls (suc (length requests)) b.0 b.1 in omega (arith, lt, size),
+  )
       (λ d ne. other d ne (stat d) (h.stands d));
 }
   where
@@ -220,25 +231,34 @@ none_more calls more h = ap (λ l. calls ++ l) h ∙ go calls
     go (x ∷ xs) = ap (λ l. x ∷ l) (go xs)
 
 -- where w is the state with the event counted
-after_effect : (calls : List Begun) (w : World) (e : Event) (o : Outcome) (v : World) → Chronicle w.calls.events calls w.calls.requests w.calls.log w.calls.number (statuses w) → Effect w e o v
+after_effect : (calls : List Begun) (w : World) (e : Event) (o : Outcome) (v : World)
+    → Chronicle w.calls.events calls w.calls.requests w.calls.log w.calls.number (statuses w) → Effect w e o v
     → Kept (calls ++ begun_by w.calls.events e o) v
 after_effect calls w e o v h (keeps q k l s) =
     subst (λ b. Kept b v) (sym (none_more calls (begun_by w.calls.events e o) (q.0 w.calls.events)))
-    (rw (k.events, k.requests, k.number, l) (chron_stat (suc w.calls.events) calls w.calls.requests w.calls.log w.calls.number (statuses w) (statuses v) s (chron_keeps w.calls.events calls w.calls.requests w.calls.log w.calls.number (statuses w) h)))
+    (rw (k.events, k.requests, k.number, l) (chron_stat (suc w.calls.events) calls w.calls.requests w.calls.log w.calls.number (statuses w)
+    (statuses v) s (chron_keeps w.calls.events calls w.calls.requests w.calls.log w.calls.number (statuses w) h)))
 after_effect calls w e o v h (tells c reply q k a l s) =
     subst (λ b. Kept b v) (sym (none_more calls (begun_by w.calls.events e o) (q.0 w.calls.events)))
-    (rw (k.events, k.requests, k.number, l) (chron_stat (suc w.calls.events) calls w.calls.requests (w.calls.log ++ Answer w.calls.events (w.calls.number c) c reply ∷ []) w.calls.number (put (statuses w) c (Told reply)) (statuses v) s
+    (rw (k.events, k.requests, k.number, l) (chron_stat (suc w.calls.events) calls w.calls.requests
+    (w.calls.log ++ Answer w.calls.events (w.calls.number c) c reply ∷ []) w.calls.number (put (statuses w) c (Told reply))
+    (statuses v) s
     (chron_tells w.calls.events calls w.calls.requests w.calls.log w.calls.number (statuses w) c reply a h)))
 after_effect calls w e o v h (opens c request f g a k) =
     let new : Begun = record { core = c; request = request; step = w.calls.events } in
-    let now : Kept (calls ++ new ∷ []) (after_call c request w) = chron_stat (suc w.calls.events) (calls ++ new ∷ []) (w.calls.requests ++ request ∷ []) w.calls.log (put w.calls.number c (suc (length w.calls.requests))) (put (statuses w) c Asked) (statuses (after_call c request w))
+    let now : Kept (calls ++ new ∷ []) (after_call c request w) = chron_stat (suc w.calls.events) (calls ++ new ∷ [])
+    (w.calls.requests ++ request ∷ []) w.calls.log (put w.calls.number c (suc (length w.calls.requests))) (put (statuses w) c Asked)
+    (statuses (after_call c request w))
     (put_both (λ d x s. status x ≡ s) w.calls.phase (statuses w) c (Check request) Asked refl (λ d ne. refl))
     (chron_opens w.calls.events calls w.calls.requests w.calls.log w.calls.number (statuses w) c request h) in
-    subst (λ e. Kept (calls ++ begun_by w.calls.events e o) v) (sym f) (subst (λ o. Kept (calls ++ begun_by w.calls.events (Call c request) o) v) (sym g) (subst (Kept (calls ++ new ∷ [])) (sym k) now))
+    subst (λ e. Kept (calls ++ begun_by w.calls.events e o) v) (sym f)
+    (subst (λ o. Kept (calls ++ begun_by w.calls.events (Call c request) o) v) (sym g) (subst (Kept (calls ++ new ∷ [])) (sym k) now))
 after_effect calls w e o v h (closes c reply f g a k) =
-    subst (λ e. Kept (calls ++ begun_by w.calls.events e o) v) (sym f) (subst (λ b. Kept b v) (sym (none_more calls [] refl)) (subst (Kept calls) (sym k) (closed (chron_keeps w.calls.events calls w.calls.requests w.calls.log w.calls.number (statuses w) h))))
+    subst (λ e. Kept (calls ++ begun_by w.calls.events e o) v) (sym f) (subst (λ b. Kept b v) (sym (none_more calls [] refl))
+    (subst (Kept calls) (sym k) (closed (chron_keeps w.calls.events calls w.calls.requests w.calls.log w.calls.number (statuses w) h))))
   where
-    closed : Chronicle (suc w.calls.events) calls w.calls.requests w.calls.log w.calls.number (statuses w) → Chronicle (suc w.calls.events) calls w.calls.requests w.calls.log w.calls.number (statuses (to c Free w))
+    closed : Chronicle (suc w.calls.events) calls w.calls.requests w.calls.log w.calls.number (statuses w)
+        → Chronicle (suc w.calls.events) calls w.calls.requests w.calls.log w.calls.number (statuses (to c Free w))
     closed g = record {
       same = g.same;
       before = g.before;
@@ -290,7 +310,8 @@ pub record After (n : ℕ) (calls : List Begun) (w : World) (es : List Event) (o
   pub kept : Kept (calls ++ calls_from n es os) v
   pub few : v.calls.events ≤ w.calls.events + length es
 
-goes : (n : ℕ) (calls : List Begun) (w : World) (es : List Event) (os : List Outcome) (v : World) → IsNext n w → Kept calls w → Run w es os v → After n calls w es os v
+goes : (n : ℕ) (calls : List Begun) (w : World) (es : List Event) (os : List Outcome) (v : World) → IsNext n w → Kept calls w
+    → Run w es os v → After n calls w es os v
 goes n calls w [] [] v at k r = record {
   kept = subst (λ b. Kept b v) (sym (none_more calls [] refl)) (subst (Kept calls) (sym r) k);
   few = let same : v.calls.events ≡ w.calls.events = ap (λ v. v.calls.events) r in omega (arith, same);
@@ -352,7 +373,8 @@ pub record Parted (w : World) (es : List Event) (os : List Outcome) (v : World) 
   pub after : Grows new v
   pub few : length (take n es) ≤ n
 
-parted : (w : World) (es : List Event) (os : List Outcome) (v : World) (n : ℕ) (e : Event) (o : Outcome) → Run w es os v → nth es (suc n) ≡ Some e → nth os (suc n) ≡ Some o → Parted w es os v n e o
+parted : (w : World) (es : List Event) (os : List Outcome) (v : World) (n : ℕ) (e : Event) (o : Outcome) → Run w es os v
+    → nth es (suc n) ≡ Some e → nth os (suc n) ≡ Some o → Parted w es os v n e o
 parted w [] os v n e o r a b = absurd cc
 parted w (d ∷ es) [] v n e o r a b = absurd r
 parted w (d ∷ es) (p ∷ os) v zero e o r a b =
@@ -378,13 +400,15 @@ parted w (d ∷ es) (p ∷ os) v (suc n) e o r a b =
     }
 
 -- what is handed out was told before
-told_before : (calls : List Begun) (w : World) (e : Event) (core : ℕ) (reply : Reply) (v : World) → core_of e ≡ Some core → Kept calls w → Effect (with_event w) e (Answered reply) v
+told_before : (calls : List Begun) (w : World) (e : Event) (core : ℕ) (reply : Reply) (v : World) → core_of e ≡ Some core → Kept calls w
+    → Effect (with_event w) e (Answered reply) v
     → (call : ℕ) × IsLatest calls core call × IsAnsweredBefore (suc w.calls.events) w.calls.log call core reply
 told_before calls w e core reply v at h (keeps q k l s) = absurd (let no = q.1 in cc)
 told_before calls w e core reply v at h (tells c r q k a l s) = absurd (let no = q.1 in cc)
 told_before calls w e core reply v at h (opens c request f g a k) = absurd cc
 told_before calls w e core reply v at h (closes c r f g a k) =
-    let told : Stands (suc w.calls.events) calls w.calls.log c (w.calls.number c) (Told r) = subst (Stands (suc w.calls.events) calls w.calls.log c (w.calls.number c)) a (h.stands c) in
+    let told : Stands (suc w.calls.events) calls w.calls.log c (w.calls.number c) (Told r) = subst
+    (Stands (suc w.calls.events) calls w.calls.log c (w.calls.number c)) a (h.stands c) in
     let same : r ≡ reply = cc in
     let its : core_of e ≡ Some c = ap core_of f in
     let here : c ≡ core = cc (its, at) in
@@ -400,14 +424,24 @@ answered_at : (made : Made) (slots : Slots) (es : List Event) (os : List Outcome
     → Parted (new_world made slots) es os v n e (Answered reply)
     → (call : ℕ) × IsLatest (calls_of (take n es) (take n os)) core call × IsAnsweredBefore (suc n) v.calls.log call core reply
 answered_at made slots es os v n core e reply at p =
-    let before : After 1 [] (new_world made slots) (take n es) (take n os) p.old = goes 1 [] (new_world made slots) (take n es) (take n os) p.old (inl refl) (kept_opening made slots) p.first in
+    let before : After 1 [] (new_world made slots) (take n es) (take n os) p.old = goes 1 [] (new_world made slots) (take n es)
+    (take n os) p.old (inl refl) (kept_opening made slots) p.first in
     let come : Comes p.old e (Answered reply) p.new = comes p.old e (Answered reply) p.new p.step in
     let end = ends (calls_of (take n es) (take n os)) p.old e core reply p.new at before.kept come in
     let said = end.2 in
     let few = before.few in
     let size = p.few in
-    let lt = said.3 in
-    (end.0, end.1, (said.0, said.1, p.after said.0 (Answer said.1 end.0 core reply) (grows_at p.old e (Answered reply) p.new come said.0 (Answer said.1 end.0 core reply) said.2), omega (arith, few, size, lt)))
+    let lt = said.3 in (
+      end.0,
+      end.1,
+      (
+        said.0,
+        said.1,
+        p.after said.0 (Answer said.1 end.0 core reply) (grows_at p.old e (Answered reply) p.new come said.0
+            (Answer said.1 end.0 core reply) said.2),
+        omega (arith, few, size, lt),
+      ),
+    )
 
 pub bracketed : AllRunsBracketed
 bracketed made slots es os w r =

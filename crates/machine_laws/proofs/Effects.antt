@@ -161,11 +161,14 @@ step_effect w e c v i (faults touch k l h) =
 
 work_effect : (w : World) (e : Event) (c : ℕ) (v : World) → IsInner e Stepped → Works w c e v → Effect w e Stepped v
 work_effect w e c v i (clears j range k h) = beside w e w.slots v.hardware w.memory v i (h ∙ ap (λ x. record w { hardware = x }) (sym (ap (λ v. v.hardware) h)))
-work_effect w e c v i (invalidates j range k h) = beside w e w.slots v.hardware w.memory v i (h ∙ ap (λ x. record w { hardware = x }) (sym (ap (λ v. v.hardware) h)))
+work_effect w e c v i (invalidates j range k h) = beside w e w.slots v.hardware w.memory v i
+    (h ∙ ap (λ x. record w { hardware = x }) (sym (ap (λ v. v.hardware) h)))
 work_effect w e c v i (walks p j k h) = beside w e w.slots v.hardware w.memory v i (h ∙ ap (λ x. record w { hardware = x }) (sym (ap (λ v. v.hardware) h)))
 work_effect w e c v i (evicts p j k h) = beside w e w.slots v.hardware w.memory v i (h ∙ ap (λ x. record w { hardware = x }) (sym (ap (λ v. v.hardware) h)))
-work_effect w e c v i (flushes j report counts k h) = beside w e w.slots w.hardware v.memory v i (h ∙ ap (λ x. record w { memory = x }) (sym (ap (λ v. v.memory) h)))
-work_effect w e c v i (reviews j report counts k h) = beside w e w.slots w.hardware v.memory v i (h ∙ ap (λ x. record w { memory = x }) (sym (ap (λ v. v.memory) h)))
+work_effect w e c v i (flushes j report counts k h) = beside w e w.slots w.hardware v.memory v i
+    (h ∙ ap (λ x. record w { memory = x }) (sym (ap (λ v. v.memory) h)))
+work_effect w e c v i (reviews j report counts k h) = beside w e w.slots w.hardware v.memory v i
+    (h ∙ ap (λ x. record w { memory = x }) (sym (ap (λ v. v.memory) h)))
 work_effect w e c v i (frees j f counts k h) = beside w e w.slots w.hardware v.memory v i (h ∙ ap (λ x. record w { memory = x }) (sym (ap (λ v. v.memory) h)))
 
 -- a call that may be given up has no reply yet
@@ -186,7 +189,8 @@ given_up_asked (At.Unlock held reply) h = absurd cc
 given_up_asked (At.Answer reply) h = absurd cc
 
 pub effect_of : (w : World) (e : Event) (o : Outcome) (v : World) → Shape w e o v → Effect w e o v
-effect_of w e o v (rests r h) = subst (Effect w e o) (sym h) (keeps (rests_inner w e o r) (record { events = refl; requests = refl; number = refl }) refl (λ d. refl))
+effect_of w e o v (rests r h) = subst (Effect w e o) (sym h)
+    (keeps (rests_inner w e o r) (record { events = refl; requests = refl; number = refl }) refl (λ d. refl))
 effect_of w e o v (begins c request i s lt p below h) = opens c request i s (ap status p) h
 effect_of w e o v (ends c reply i s lt p h) = closes c reply i s (ap status p) h
 effect_of w e o v (goes c i s lt g) = subst (λ o. Effect w e o v) (sym s) (step_effect w e c v (going_inner c e i) g)

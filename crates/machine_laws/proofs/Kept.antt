@@ -52,8 +52,10 @@ use Rattle.machine_laws.proofs.Slots.{touches_owner, touches_info, gains, loses,
 
 -- ---- the call goes on, and nothing else changes
 
-steps : (w : World) (c : ℕ) (old new : Phase) → w.calls.phase c ≡ old → IsOrderly w → c < w.made.cores → is_open new ≡ is_open old → range_held new ≡ range_held old
-    → IsAsked w.made w.calls.requests c (w.calls.number c) new → IsReady w.made w.slots new → ((f : ℕ) → taken_in new ≡ Some f → f < w.made.frames) → IsOrderly (to c new w)
+steps : (w : World) (c : ℕ) (old new : Phase) → w.calls.phase c ≡ old → IsOrderly w → c < w.made.cores → is_open new ≡ is_open old
+    → range_held new ≡ range_held old
+    → IsAsked w.made w.calls.requests c (w.calls.number c) new → IsReady w.made w.slots new
+    → ((f : ℕ) → taken_in new ≡ Some f → f < w.made.frames) → IsOrderly (to c new w)
 steps w c old new e g lt opened same asked ready after_frame =
     goes_on w c new w.slots w.memory g lt (opened ∙ sym (ap is_open e)) (untouched w.slots c)
     (same_pages w c old new (call_at w c old e g) same asked ready after_frame) g.pages g.memory
@@ -138,15 +140,30 @@ reply_ends w c held reply g (no_place request place e h r k) =
 reply_ends w c held reply g (declines change errno e h r d) =
     let k : IsCallOf w c (Decide change) = call_at w c (Decide change) e g in
     ends_by _ (Decide change) held e (subst (Ends (Decide change)) (sym h)
-    (record { opened = refl; same = λ p. refl; cut = λ edge k. k; valid = sound_range change (change_sound (λ k. mode_of (w.made.file k)) c k.asked.request change k.asked.passed) }))
+    (record {
+      opened = refl;
+      same = λ p. refl;
+      cut = λ edge k. k;
+      valid = sound_range change (change_sound (λ k. mode_of (w.made.file k)) c k.asked.request change k.asked.passed);
+    }))
 reply_ends w c held reply g (fails touch e h f) =
     let k : IsCallOf w c (Settle touch) = call_at w c (Settle touch) e g in
     ends_by _ (Settle touch) held e (subst (Ends (Settle touch)) (sym h)
-    (record { opened = refl; same = λ p. refl; cut = λ edge k. k; valid = page_range touch (touch_sound (λ k. mode_of (w.made.file k)) c k.asked.request touch k.asked.passed) }))
+    (record {
+      opened = refl;
+      same = λ p. refl;
+      cut = λ edge k. k;
+      valid = page_range touch (touch_sound (λ k. mode_of (w.made.file k)) c k.asked.request touch k.asked.passed);
+    }))
 reply_ends w c held reply g (no_frame touch e h r f) =
     let k : IsCallOf w c (Want touch) = call_at w c (Want touch) e g in
     ends_by _ (Want touch) held e (subst (Ends (Want touch)) (sym h)
-    (record { opened = refl; same = λ p. refl; cut = λ edge k. k; valid = page_range touch (touch_sound (λ k. mode_of (w.made.file k)) c k.asked.request touch k.asked.passed) }))
+    (record {
+      opened = refl;
+      same = λ p. refl;
+      cut = λ edge k. k;
+      valid = page_range touch (touch_sound (λ k. mode_of (w.made.file k)) c k.asked.request touch k.asked.passed);
+    }))
 
 -- over these slots, which it owns as before, and this memory
 replied : (w : World) (c : ℕ) (held : Option PageRange) (reply : Reply) (t : Slots) (m : Memory) → IsOrderly w → c < w.made.cores → Ends (w.calls.phase c) held
@@ -190,7 +207,12 @@ commits_kept : (w : World) (c : ℕ) (change : Change) (held : PageRange) (count
     → CountsLost c change w counts → IsOrderly (after_commit c change held counts w)
 commits_kept w c change held counts g lt e l =
     replied w c (Some held) (reply_to change) (slots_after change w.slots) (with_counts counts w).memory g lt
-    (ends_by _ (Acks change held) (Some held) e (record { opened = refl; same = λ p. refl; cut = λ edge k. k; valid = subst IsPageRange (sym k.ready.0) range }))
+    (ends_by _ (Acks change held) (Some held) e (record {
+      opened = refl;
+      same = λ p. refl;
+      cut = λ edge k. k;
+      valid = subst IsPageRange (sym k.ready.0) range;
+    }))
     (changed_touches w.slots c change (λ p i. k.owned p (subst (λ r. has r p ≡ true) (sym k.ready.0) i)))
     (changed_owner w.slots change) (changed_edge w.slots change) (changed_belongs w.made w.slots change range g.pages)
     (counts_down w.made w.memory c (frame_lost change w.slots.info) _ _ counts g.memory l)
@@ -282,8 +304,11 @@ owns_kept w c goal cursor b t g lt e l =
     (λ i. owned_to w c goal cursor b t (all_locked goal) e g lt l (locked_open goal)
     (locked_range goal ∙ ap Some (sym (whole (goal_range goal) b (past (goal_range goal).end b i l.by_end))))
     (locked_asked w c goal cursor k.asked) (locked_ready w goal) (locked_taken goal))
-    (λ i. owned_to w c goal cursor b t (Lock goal b) e g lt l refl refl k.asked
-    (let x : (goal_range goal).first ≤ cursor = k.ready.0 in let y : cursor < b = l.slot.ordered in omega (arith, x, y), not_past (goal_range goal).end b i) (λ f h. cc))
+    (λ i. owned_to w c goal cursor b t (Lock goal b) e g lt l refl refl k.asked (
+      let x : (goal_range goal).first ≤ cursor = k.ready.0 in let y : cursor < b = l.slot.ordered in
+          omega (arith, x, y),
+      not_past (goal_range goal).end b i,
+    ) (λ f h. cc))
   where
     k : IsCallOf w c (Lock goal cursor)
     k = call_at w c (Lock goal cursor) e g
@@ -298,7 +323,8 @@ record Remains (made : Made) (s : Slots) (held : PageRange) (b : ℕ) (new : Pha
   cut : IsCutFor s.edge (range_held new)
   ready : IsReady made s new
 
-remains : (made : Made) (s : Slots) (held : PageRange) (b : ℕ) (reply : Reply) → IsPageRange held → s.edge b ≡ true → s.edge held.end ≡ true → held.first < b → b ≤ held.end
+remains : (made : Made) (s : Slots) (held : PageRange) (b : ℕ) (reply : Reply) → IsPageRange held → s.edge b ≡ true
+    → s.edge held.end ≡ true → held.first < b → b ≤ held.end
     → Remains made s held b (let_go (held_after held b) reply)
 remains made s held b reply range eb ee lt by =
     by_test (λ o. Remains made s held b (let_go o reply)) (b == held.end) None (Some (between b held.end))
@@ -322,8 +348,10 @@ shut None reply = refl
 shut (Some held) reply = refl
 
 -- over slots in which nobody owns the pages up to b
-let_go_to : (w : World) (c : ℕ) (old new : Phase) (held : PageRange) (b : ℕ) (t : Slots) → w.calls.phase c ≡ old → IsOrderly w → c < w.made.cores → range_held old ≡ Some held
-    → is_open new ≡ is_open old → Unlocks w.slots t c held.first held.end b → Remains w.made w.slots held b new → IsAsked w.made w.calls.requests c (w.calls.number c) new
+let_go_to : (w : World) (c : ℕ) (old new : Phase) (held : PageRange) (b : ℕ) (t : Slots) → w.calls.phase c ≡ old → IsOrderly w
+    → c < w.made.cores → range_held old ≡ Some held
+    → is_open new ≡ is_open old → Unlocks w.slots t c held.first held.end b → Remains w.made w.slots held b new
+    → IsAsked w.made w.calls.requests c (w.calls.number c) new
     → ((f : ℕ) → taken_in new ≡ Some f → ⊥) → IsOrderly (to c new (record w { slots = t }))
 let_go_to w c old new held b t e g lt was opened u m asked none =
     subst (λ s. IsOrderly (to c new (record w { slots = s }))) (sym u.now)
@@ -370,10 +398,12 @@ lets_go_kept w c held b t new g lt (releases touch e h n) u =
 
 -- ---- frames
 
-takes_kept : (w : World) (c : ℕ) (touch : Touch) (f : ℕ) → IsOrderly w → c < w.made.cores → w.calls.phase c ≡ Want touch → w.memory.is_free f ≡ true → IsOrderly (after_frame c touch f w)
+takes_kept : (w : World) (c : ℕ) (touch : Touch) (f : ℕ) → IsOrderly w → c < w.made.cores → w.calls.phase c ≡ Want touch
+    → w.memory.is_free f ≡ true → IsOrderly (after_frame c touch f w)
 takes_kept w c touch f g lt e free =
     goes_on w c (Fill touch f) w.slots (record w.memory { is_free = put w.memory.is_free f false }) g lt (sym (ap is_open e)) (untouched w.slots c)
-    (same_pages w c (Want touch) (Fill touch f) k refl k.asked k.ready (λ x h. let same : f ≡ x = cc in subst (λ n. n < w.made.frames) same (g.memory.free f free)))
+    (same_pages w c (Want touch) (Fill touch f) k refl k.asked k.ready (λ x h. let same : f ≡ x = cc in
+    subst (λ n. n < w.made.frames) same (g.memory.free f free)))
     g.pages (frees w.made w.memory (put w.memory.is_free f false) g.memory
     (put_all (λ x b. b ≡ true → x < w.made.frames) w.memory.is_free f false (λ h. absurd cc) (λ x ne. g.memory.free x)))
   where
@@ -381,8 +411,10 @@ takes_kept w c touch f g lt e free =
     k = call_at w c (Want touch) e g
 
 -- the page of an access, which core c holds, has this now
-sets_page : (w : World) (c : ℕ) (touch : Touch) (old new : Phase) (info : Option PageInfo) (m : Memory) → w.calls.phase c ≡ old → IsOrderly w → c < w.made.cores → range_held old ≡ Some (page_of_touch touch)
-    → range_held new ≡ range_held old → is_open new ≡ is_open old → IsAsked w.made w.calls.requests c (w.calls.number c) new → IsReady w.made (with_info w.slots touch.page info) new
+sets_page : (w : World) (c : ℕ) (touch : Touch) (old new : Phase) (info : Option PageInfo) (m : Memory) → w.calls.phase c ≡ old
+    → IsOrderly w → c < w.made.cores → range_held old ≡ Some (page_of_touch touch)
+    → range_held new ≡ range_held old → is_open new ≡ is_open old → IsAsked w.made w.calls.requests c (w.calls.number c) new
+    → IsReady w.made (with_info w.slots touch.page info) new
     → ((f : ℕ) → taken_in new ≡ Some f → ⊥) → BelongsTo w.made touch.page info → IsMemory w.made m
     → IsOrderly (to c new (record w { slots = with_info w.slots touch.page info; memory = m }))
 sets_page w c touch old new info m e g lt was same opened asked ready none belongs memory =
@@ -404,7 +436,8 @@ sets_page w c touch old new info m e g lt was same opened asked ready none belon
     mine : w.slots.owner touch.page ≡ Some c
     mine = k.owned touch.page (ap (λ r. some_has r touch.page) was ∙ page_is touch)
 
-framed_usable : (made : Made) (f : ℕ) (o : Option PageInfo) (access : Access) → IsUsable made.file o access None → IsUsable made.file (info_with_frame f o) access (Some f)
+framed_usable : (made : Made) (f : ℕ) (o : Option PageInfo) (access : Access) → IsUsable made.file o access None
+    → IsUsable made.file (info_with_frame f o) access (Some f)
 framed_usable made f None access u = absurd u
 framed_usable made f (Some info) access u = (u.0, u.1, refl)
 
@@ -412,8 +445,12 @@ fills_kept : (w : World) (c : ℕ) (touch : Touch) (f : ℕ) (counts : Counts) �
     → Takes w.memory.counts (Begin f 1) counts → IsOrderly (after_fill c touch f counts w)
 fills_kept w c touch f counts g lt e t =
     let new : Option PageInfo = info_with_frame f (w.slots.info touch.page) in
-    sets_page w c touch (Fill touch f) (Install touch) new (record w.memory { bytes = put w.memory.bytes f zeros; counts = counts }) e g lt refl refl refl k.asked
-    (f, subst (λ o. IsUsable w.made.file o touch.access (Some f)) (sym (put_same w.slots.info touch.page new)) (framed_usable w.made f (w.slots.info touch.page) touch.access k.ready))
+    sets_page w c touch (Fill touch f) (Install touch) new (record w.memory { bytes = put w.memory.bytes f zeros; counts = counts }) e g lt
+    refl refl refl k.asked (
+      f,
+      subst (λ o. IsUsable w.made.file o touch.access (Some f)) (sym (put_same w.slots.info touch.page new))
+          (framed_usable w.made f (w.slots.info touch.page) touch.access k.ready),
+    )
     (λ x h. cc) (framed_belongs w.made touch.page f (w.slots.info touch.page) (k.taken f refl) (g.pages touch.page))
     (written w.made (record w.memory { counts = counts }) _ (counted w.made w.memory (Begin f 1) counts g.memory t))
   where
@@ -422,14 +459,17 @@ fills_kept w c touch f counts g lt e t =
 
 installs_kept : (w : World) (c : ℕ) (touch : Touch) → IsOrderly w → c < w.made.cores → w.calls.phase c ≡ Install touch → IsOrderly (after_install c touch w)
 installs_kept w c touch g lt e =
-    sets_page w c touch (Install touch) (Release touch) (info_with_core c (w.slots.info touch.page)) w.memory e g lt refl refl refl (call_at w c (Install touch) e g).asked tt
+    sets_page w c touch (Install touch) (Release touch) (info_with_core c (w.slots.info touch.page)) w.memory e g lt refl refl refl
+    (call_at w c (Install touch) e g).asked tt
     (λ x h. cc) (recorded_belongs w.made touch.page c (w.slots.info touch.page) lt (g.pages touch.page)) g.memory
 
 -- ---- Try
 
-accesses_kept : (w : World) (c : ℕ) (touch : Touch) (f : ℕ) → IsOrderly w → c < w.made.cores → w.calls.phase c ≡ Try touch → IsOrderly (after_access c touch f w)
+accesses_kept : (w : World) (c : ℕ) (touch : Touch) (f : ℕ) → IsOrderly w → c < w.made.cores → w.calls.phase c ≡ Try touch
+    → IsOrderly (after_access c touch f w)
 accesses_kept w c touch f g lt e =
-    replied w c None (reply_of touch f w.memory) w.slots (memory_after touch f w.memory) g lt (ends_by _ (Try touch) None e (record { opened = refl; same = λ p. refl; cut = λ edge k. k; valid = tt }))
+    replied w c None (reply_of touch f w.memory) w.slots (memory_after touch f w.memory) g lt
+    (ends_by _ (Try touch) None e (record { opened = refl; same = λ p. refl; cut = λ edge k. k; valid = tt }))
     (untouched w.slots c) refl refl g.pages (written w.made w.memory _ g.memory)
 
 -- ---- a call is given up
@@ -524,7 +564,8 @@ gives_up_kept w c g lt can =
 
 -- ---- a call begins
 
-begins_kept : (w : World) (c : ℕ) (request : Request) → IsOrderly w → c < w.made.cores → w.calls.phase c ≡ Free → length w.calls.requests < w.made.calls → IsOrderly (after_call c request w)
+begins_kept : (w : World) (c : ℕ) (request : Request) → IsOrderly w → c < w.made.cores → w.calls.phase c ≡ Free
+    → length w.calls.requests < w.made.calls → IsOrderly (after_call c request w)
 begins_kept w c request g lt e below = record {
   asked = put_both (λ d n x. IsAsked w.made more d n x) w.calls.number w.calls.phase c (suc (length w.calls.requests)) (Check request)
       (at_new w.calls.requests request) (λ d ne. asked_more w.made w.calls.requests request d (w.calls.number d) (w.calls.phase d) (g.asked d));
@@ -604,7 +645,8 @@ joined w t j g = record {
         let last : suc (r.end - 1) ≡ r.end = omega (arith, some) in
         let at : r.end - 1 + 1 ≡ r.end = omega (arith, some) in (
           edge_stays w.slots t c r.first j (mine r.first (in_has r r.first (omega arith) some)) k.0,
-          subst (λ e. t.edge e ≡ true) at (end_stays w.slots t c (r.end - 1) j (mine (r.end - 1) (in_has r (r.end - 1) (omega (arith, some)) (omega (arith, some))))
+          subst (λ e. t.edge e ≡ true) at
+              (end_stays w.slots t c (r.end - 1) j (mine (r.end - 1) (in_has r (r.end - 1) (omega (arith, some)) (omega (arith, some))))
               (subst (λ e. w.slots.edge e ≡ true) (sym at) k.1)),
         )
 

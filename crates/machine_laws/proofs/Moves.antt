@@ -63,7 +63,8 @@ usable_kept : (file : ℕ → Option File) (s t : Slots) (touch : Touch) (frame 
 usable_kept file s t touch frame same h = subst (λ o. IsUsable file o touch.access frame) (sym (same touch.page (page_is touch))) h
 
 -- where the pages that the call holds have the same
-pub ready_kept : (made : Made) (s t : Slots) (phase : Phase) → ((p : ℕ) → holds phase p ≡ true → t.info p ≡ s.info p) → IsReady made s phase → IsReady made t phase
+pub ready_kept : (made : Made) (s t : Slots) (phase : Phase) → ((p : ℕ) → holds phase p ≡ true → t.info p ≡ s.info p)
+    → IsReady made s phase → IsReady made t phase
 ready_kept made s t (Post change shoot) same h = decides_kept made.file s t change _ same h
 ready_kept made s t (Acks change held) same h =
     (h.0, (h.1.0, decides_kept made.file s t change _ (λ p i. same p (subst (λ r. has r p ≡ true) (sym h.0) i)) h.1.1))
@@ -141,7 +142,8 @@ tells w c held reply t m entry g lt was touches call pages memory =
 
 -- ---- a call that holds the same pages as before
 
-pub same_pages : (w : World) (c : ℕ) (old new : Phase) → IsCallOf w c old → range_held new ≡ range_held old → IsAsked w.made w.calls.requests c (w.calls.number c) new
+pub same_pages : (w : World) (c : ℕ) (old new : Phase) → IsCallOf w c old → range_held new ≡ range_held old
+    → IsAsked w.made w.calls.requests c (w.calls.number c) new
     → IsReady w.made w.slots new → ((f : ℕ) → taken_in new ≡ Some f → f < w.made.frames) → IsCallOf w c new
 same_pages w c old new k same asked ready taken = record {
   asked = asked;
@@ -157,7 +159,8 @@ pub none_taken : (held : Option PageRange) (reply : Reply) (f : ℕ) → taken_i
 none_taken None reply f h = cc
 none_taken (Some held) reply f h = cc
 
-pub asked_gone : (made : Made) (requests : List Request) (c call : ℕ) (held : Option PageRange) (reply : Reply) → IsAsked made requests c call (let_go held reply)
+pub asked_gone : (made : Made) (requests : List Request) (c call : ℕ) (held : Option PageRange) (reply : Reply)
+    → IsAsked made requests c call (let_go held reply)
 asked_gone made requests c call None reply = tt
 asked_gone made requests c call (Some held) reply = tt
 

@@ -101,7 +101,8 @@ open_calls phase (suc n) = (if is_open (phase n) then 1 else 0) + open_calls pha
 -- ---- the order
 
 -- of these parts of a state
-pub record Order (made : Made) (s : Slots) (m : Memory) (phase : ℕ → Phase) (number : ℕ → ℕ) (requests : List Request) (log : List Entry)
+pub record Order (made : Made) (s : Slots) (m : Memory) (phase : ℕ → Phase) (number : ℕ → ℕ)
+    (requests : List Request) (log : List Entry)
     : Type 0 where
   pub asked : (c : ℕ) → IsAsked made requests c (number c) (phase c)
   -- a call owns the pages that it holds, and no others

@@ -47,7 +47,8 @@ reply_of touch frame m = byte_reply touch.access (m.bytes frame touch.offset)
 
 -- the byte is read or written
 abbrev pub after_access : ℕ → Touch → ℕ → World → World
-after_access c touch frame w = after_reply c None (reply_of touch frame w.memory) (record w { memory = memory_after touch frame w.memory })
+after_access c touch frame w = after_reply c None (reply_of touch frame w.memory)
+    (record w { memory = memory_after touch frame w.memory })
 
 -- a fault leads to the lock of its page
 abbrev pub after_translation : ℕ → Touch → Option ℕ → World → World
@@ -93,7 +94,8 @@ after_settle c touch w = after_finding c touch (found_at w touch) w
 -- ---- Want
 
 abbrev pub after_frame : ℕ → Touch → ℕ → World → World
-after_frame c touch f w = to c (Fill touch f) (record w { memory = record w.memory { is_free = put w.memory.is_free f false } })
+after_frame c touch f w = to c (Fill touch f)
+    (record w { memory = record w.memory { is_free = put w.memory.is_free f false } })
 
 -- the least free frame
 pub record IsLeastFree (is_free : ℕ → Bool) (f : ℕ) : Type 0 where

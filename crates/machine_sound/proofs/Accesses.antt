@@ -102,7 +102,8 @@ fault_reply w t touch reply g h = go (w.slots.info touch.page) refl h
     Told : Reply → Type 0
     Told y = IsReply y × (entry_reply t.file (t.entry touch.page) touch.access touch.offset ≡ Some y) × (t ≡ touched_by t touch y)
 
-    has : (info : PageInfo) → w.slots.info touch.page ≡ Some info → (s : Settled) → settled (Some info) touch.access (is_past_end w.made.file (Some info)) None ≡ s → IsFault s reply → Told reply
+    has : (info : PageInfo) → w.slots.info touch.page ≡ Some info → (s : Settled)
+        → settled (Some info) touch.access (is_past_end w.made.file (Some info)) None ≡ s → IsFault s reply → Told reply
     has info e NoMapping i f = absurd (clash info i)
       where
         clash : (info : PageInfo) → settled (Some info) touch.access (is_past_end w.made.file (Some info)) None ≡ NoMapping → ⊥
@@ -113,14 +114,21 @@ fault_reply w t touch reply g h = go (w.slots.info touch.page) refl h
             no true false i = subst Faultless i (faultless info.meta.back info.frame touch.access)
             no false b i = cc
     has info e Forbidden i f =
-        subst Told (sym f) (tt, forbidden_reply w t touch.page touch.access touch.offset info g e (denied (is_allowed info.meta.prot touch.access) (is_past_end w.made.file (Some info)) refl i), refl)
+        subst Told (sym f) (
+          tt,
+          forbidden_reply w t touch.page touch.access touch.offset info g e
+              (denied (is_allowed info.meta.prot touch.access) (is_past_end w.made.file (Some info)) refl i),
+          refl,
+        )
       where
-        denied : (a b : Bool) → is_allowed info.meta.prot touch.access ≡ a → cond a (cond b PastEnd (source info.meta.back info.frame touch.access None)) Forbidden ≡ Forbidden
+        denied : (a b : Bool) → is_allowed info.meta.prot touch.access ≡ a
+            → cond a (cond b PastEnd (source info.meta.back info.frame touch.access None)) Forbidden ≡ Forbidden
             → is_allowed info.meta.prot touch.access ≡ false
         denied true true k i = absurd cc
         denied true false k i = absurd (subst Faultless i (faultless info.meta.back info.frame touch.access))
         denied false b k i = k
-    has info e PastEnd i f = absurd (let a = within w t touch.page info g e in past (is_allowed info.meta.prot touch.access) (is_past_end w.made.file (Some info)) a i)
+    has info e PastEnd i f = absurd (let a = within w t touch.page info g e in past (is_allowed info.meta.prot touch.access)
+        (is_past_end w.made.file (Some info)) a i)
       where
         past : (a b : Bool) → b ≡ false → cond a (cond b PastEnd (source info.meta.back info.frame touch.access None)) Forbidden ≡ PastEnd → ⊥
         past true true k i = cc
@@ -135,7 +143,8 @@ fault_reply w t touch reply g h = go (w.slots.info touch.page) refl h
     go None e f = subst Told (sym f) (tt, unmapped_reply w t touch.page touch.access touch.offset g e, refl)
     go (Some info) e f = has info e (settled (Some info) touch.access (is_past_end w.made.file (Some info)) None) refl f
 
-pub fault_told : (w : World) (event : Event) (c : ℕ) (touch : Touch) (held : Option PageRange) (reply : Reply) → w.calls.phase c ≡ Settle touch → IsFault (found_at w touch) reply → Fine w
+pub fault_told : (w : World) (event : Event) (c : ℕ) (touch : Touch) (held : Option PageRange) (reply : Reply)
+    → w.calls.phase c ≡ Settle touch → IsFault (found_at w touch) reply → Fine w
     → Leaves w event (after_reply c held reply w)
 fault_told w event c touch held reply e h f =
     let z = fault_reply w f.plain touch reply f.good h in
@@ -148,7 +157,8 @@ fault_told w event c touch held reply e h f =
 
 -- ---- Want
 
-pub no_frame_told : (w : World) (event : Event) (c : ℕ) (touch : Touch) (held : Option PageRange) → w.calls.phase c ≡ Want touch → NoneFree w.memory.is_free → Fine w
+pub no_frame_told : (w : World) (event : Event) (c : ℕ) (touch : Touch) (held : Option PageRange) → w.calls.phase c ≡ Want touch
+    → NoneFree w.memory.is_free → Fine w
     → Leaves w event (after_reply c held NoFrame w)
 no_frame_told w event c touch held e none f =
     answers w event c held NoFrame f k.asked.request k.asked.number
@@ -168,7 +178,8 @@ filled_anonymous f None a = a
 filled_anonymous f (Some info) a = a
 
 -- a page without frame has zero bytes, as its frame does now
-filled_shown : (m : Memory) (f : ℕ) (o : Option PageInfo) (z : Option Entry) → IsAnonymous o → frame_of o ≡ None → ShowsPage m o z → ShowsPage (with_bytes m f zeros) (info_with_frame f o) z
+filled_shown : (m : Memory) (f : ℕ) (o : Option PageInfo) (z : Option Entry) → IsAnonymous o → frame_of o ≡ None → ShowsPage m o z
+    → ShowsPage (with_bytes m f zeros) (info_with_frame f o) z
 filled_shown m f None None a none s = s
 filled_shown m f None (Some entry) a none s = s
 filled_shown m f (Some info) None a none s = s

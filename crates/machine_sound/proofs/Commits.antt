@@ -70,11 +70,13 @@ IsAnonymousPut (Protect range prot) = Unit {0}
 no_change : (addr byte : ℕ) (access : Access) (change : Change) → touched addr access byte ≡ Ok (PlanOf.Change change) → ⊥
 no_change addr byte access change e = by (is_page (page_of addr)) e
   where
-    by : (b : Bool) → ◌≡◌ {A = Result Plan Reply} (if b then Ok (PlanOf.Touch (touch_of addr access byte)) else Err (Segv MapErr)) (Ok (PlanOf.Change change)) → ⊥
+    by : (b : Bool) → ◌≡◌ {A = Result Plan Reply} (if b then Ok (PlanOf.Touch (touch_of addr access byte)) else Err (Segv MapErr))
+        (Ok (PlanOf.Change change)) → ⊥
     by true e = cc
     by false e = cc
 
-anonymous_plan : (core : ℕ) (file : ℕ → Option File) (request : Request) (change : Change) → ((n : ℕ) → file n ≡ None) → refusal (λ k. mode_of (file k)) request ≡ None
+anonymous_plan : (core : ℕ) (file : ℕ → Option File) (request : Request) (change : Change) → ((n : ℕ) → file n ≡ None)
+    → refusal (λ k. mode_of (file k)) request ≡ None
     → plan_of core request ≡ Ok (PlanOf.Change change) → IsAnonymousPut change
 anonymous_plan core file (Mmap addr len prot flags n off) change none ok h = by flags.fixed h
   where
@@ -84,7 +86,10 @@ anonymous_plan core file (Mmap addr len prot flags n off) change none ok h = by 
     put : Change
     put = Put (pages_of addr len) (meta_of prot flags n off)
 
-    by : (b : Bool) → ◌≡◌ {A = Result Plan Reply} (if b then Ok (PlanOf.Change put) else Ok (PlanOf.Place (place_of core addr len (meta_of prot flags n off)))) (Ok (PlanOf.Change change)) → IsAnonymousPut change
+    by : (b : Bool)
+        → ◌≡◌ {A = Result Plan Reply}
+        (if b then Ok (PlanOf.Change put) else Ok (PlanOf.Place (place_of core addr len (meta_of prot flags n off))))
+        (Ok (PlanOf.Change change)) → IsAnonymousPut change
     by true e =
         let same : put ≡ change = cc in
         subst IsAnonymousPut same (ap (λ b. if b then Anon else (if flags.shared then Shared n (page_of off) else Private n (page_of off))) anon)
@@ -143,12 +148,14 @@ fewer_frames s change p f =
     changed_all (λ p o. frame_of o ≡ Some f → frame_of (s.info p) ≡ Some f) s change (λ range meta p e i h. absurd cc) (λ p h. absurd cc)
     (λ prot p old h. sym (protected_frame prot (s.info p)) ∙ h) (λ p h. h) p
 
-fewer_own : (cached : ℕ → ℕ → Option ℕ) (s : Slots) (change : Change) (p f : ℕ) → own_frame cached ((slots_after change s).info p) ≡ Some f → own_frame cached (s.info p) ≡ Some f
+fewer_own : (cached : ℕ → ℕ → Option ℕ) (s : Slots) (change : Change) (p f : ℕ) → own_frame cached ((slots_after change s).info p) ≡ Some f
+    → own_frame cached (s.info p) ≡ Some f
 fewer_own cached s change p f =
     changed_all (λ p o. own_frame cached o ≡ Some f → own_frame cached (s.info p) ≡ Some f) s change (λ range meta p e i h. absurd cc) (λ p h. absurd cc)
     (λ prot p old h. sym (protected_own cached prot (s.info p)) ∙ h) (λ p h. h) p
 
-anonymous_changed : (s : Slots) (change : Change) → IsAnonymousPut change → ((p : ℕ) → IsAnonymous (s.info p)) → (p : ℕ) → IsAnonymous ((slots_after change s).info p)
+anonymous_changed : (s : Slots) (change : Change) → IsAnonymousPut change → ((p : ℕ) → IsAnonymous (s.info p)) → (p : ℕ)
+    → IsAnonymous ((slots_after change s).info p)
 anonymous_changed s change a h =
     changed_all (λ p. IsAnonymous) s change (λ range meta p e i. ap (λ back. advance_back back (p - range.first)) (subst IsAnonymousPut e a)) (λ p. tt)
     (λ prot p. protected_anonymous prot (s.info p)) h
@@ -158,7 +165,8 @@ anonymous_changed s change a h =
 pub change_committed : (w : World) (event : Event) (c : ℕ) (change : Change) (held : PageRange) (counts : Counts) → w.calls.phase c ≡ Acks change held → Fine w
     → Leaves w event (after_commit c change held counts w)
 change_committed w event c change held counts e f =
-    tells w event c (Some held) (reply_to change) (slots_after change w.slots) w.hardware (with_counts counts w).memory f (made_of f.plain change) k.asked.request k.asked.number
+    tells w event c (Some held) (reply_to change) (slots_after change w.slots) w.hardware (with_counts counts w).memory f
+    (made_of f.plain change) k.asked.request k.asked.number
     (acted w f.plain c k.asked.request change k.ready.1.0 f.good k.asked.passed k.ready.1.1)
     (due_so event w.memory.is_free w.calls.events (w.calls.number c) c (reply_to change) (reply_is change))
     (with_counts_shown w.made.file (slots_after change w.slots).info w.memory counts (made_of f.plain change)

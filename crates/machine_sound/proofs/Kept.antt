@@ -47,18 +47,21 @@ use Rattle.machine_sound.proofs.Sound.{fine_sound}
 
 -- ---- the shapes
 
-replies_left : (w : World) (event : Event) (c : ℕ) (held : Option PageRange) (reply : Reply) → Fine w → Replies w c held reply → Leaves w event (after_reply c held reply w)
+replies_left : (w : World) (event : Event) (c : ℕ) (held : Option PageRange) (reply : Reply) → Fine w → Replies w c held reply
+    → Leaves w event (after_reply c held reply w)
 replies_left w event c held reply f (refuses request e h k) =
     let number = (call_at w c (Check request) e f.order).asked in
     let z = refused w f.plain c request reply f.good k in
     left.answers w event c held reply f request number z.1 (due_so event w.memory.is_free w.calls.events (w.calls.number c) c reply z.0)
 replies_left w event c held reply f (no_place request place e h r k) =
     subst (λ y. Leaves w event (after_reply c held y w)) (sym r)
-    (left.answers w event c held (Refused ENOMEM) f request (call_at w c (Check request) e f.order).asked (no_place_stands w f.plain c request place f.good k) tt)
+    (left.answers w event c held (Refused ENOMEM) f request (call_at w c (Check request) e f.order).asked
+    (no_place_stands w f.plain c request place f.good k) tt)
 replies_left w event c held reply f (declines change errno e h r d) =
     let k : IsCallOf w c (Decide change) = call_at w c (Decide change) e f.order in
     subst (λ y. Leaves w event (after_reply c held y w)) (sym r)
-    (left.answers w event c held (Refused errno) f k.asked.request k.asked.number (declined w f.plain c k.asked.request change errno f.good k.asked.passed d) tt)
+    (left.answers w event c held (Refused errno) f k.asked.request k.asked.number
+    (declined w f.plain c k.asked.request change errno f.good k.asked.passed d) tt)
 replies_left w event c held reply f (fails touch e h x) = fault_told w event c touch held reply e x f
 replies_left w event c held reply f (no_frame touch e h r none) =
     subst (λ y. Leaves w event (after_reply c held y w)) (sym r) (no_frame_told w event c touch held e none f)
@@ -139,7 +142,8 @@ shape_left w e o v f (rests i h) = subst (Leaves w e) (sym h) (stays w e f)
 shape_left w e o v f (begins c request i s lt p below h) = subst (Leaves w e) (sym h) (begun w e c request f)
 shape_left w e o v f (ends c reply i s lt p h) = subst (Leaves w e) (sym h) (goes_on w e c Free w.slots w.hardware w.memory f f.good)
 shape_left w e o v f (goes c i s lt g) = goes_left w e c v f g
-shape_left w e o v f (gives_up c i s lt can h) = subst (Leaves w e) (sym h) (subst (λ e. Leaves w e (after_give_up c (w.calls.phase c) w)) (sym i) (given_up w c f can))
+shape_left w e o v f (gives_up c i s lt can h) = subst (Leaves w e) (sym h) (subst (λ e. Leaves w e (after_give_up c (w.calls.phase c) w))
+    (sym i) (given_up w c f can))
 shape_left w e o v f (works c s lt k) = works_left w e c v f k
 shape_left w e o v f (joins p t i s page j m h) =
     subst (Leaves w e) (sym h) (beside w e t w.hardware w.memory f (shows_same w f.plain t.info j.info f.good))
@@ -197,7 +201,8 @@ pub steps_sound : (w v : World) (e : Event) (o : Outcome) → IsReached w → St
 steps_sound w v e o h s = sound_step w v e o (reached_fine w h) s
 
 -- a run that goes one event on
-pub run_more : (es : List Event) (os : List Outcome) (w m v : World) (e : Event) (o : Outcome) → Run w es os m → Step m e o v → Run w (es ++ e ∷ []) (os ++ o ∷ []) v
+pub run_more : (es : List Event) (os : List Outcome) (w m v : World) (e : Event) (o : Outcome) → Run w es os m → Step m e o v
+    → Run w (es ++ e ∷ []) (os ++ o ∷ []) v
 run_more [] [] w m v e o r s = (v, subst (λ w. Step w e o v) r s, refl)
 run_more [] (p ∷ os) w m v e o r s = absurd r
 run_more (d ∷ es) [] w m v e o r s = absurd r

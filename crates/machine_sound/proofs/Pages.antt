@@ -42,13 +42,15 @@ pub record IsFramed (w : World) (t : Plain) (p f : ℕ) : Type 0 where
   pub own : entry.own ≡ Some (w.memory.bytes f)
 
 -- an anonymous page's frame has its bytes
-own_bytes : (m : Memory) (back : Back) (frame : Option ℕ) (f : ℕ) (own : Option Bytes) → back ≡ Anon → frame ≡ Some f → Owns m back frame own → own ≡ Some (m.bytes f)
+own_bytes : (m : Memory) (back : Back) (frame : Option ℕ) (f : ℕ) (own : Option Bytes) → back ≡ Anon → frame ≡ Some f
+    → Owns m back frame own → own ≡ Some (m.bytes f)
 own_bytes m back frame f own a e h = (subst (λ b. Owns m b (Some f) own) a (subst (λ x. Owns m back x own) e h)).1
 
 pub framed : (w : World) (t : Plain) (p f : ℕ) → Good w t → frame_of (w.slots.info p) ≡ Some f → IsFramed w t p f
 framed w t p f g h = go (w.slots.info p) (t.entry p) refl refl (g.pages p) (g.no_files.anonymous p) h
   where
-    go : (o : Option PageInfo) (z : Option Entry) → w.slots.info p ≡ o → t.entry p ≡ z → ShowsPage w.memory o z → IsAnonymous o → frame_of o ≡ Some f → IsFramed w t p f
+    go : (o : Option PageInfo) (z : Option Entry) → w.slots.info p ≡ o → t.entry p ≡ z → ShowsPage w.memory o z → IsAnonymous o
+        → frame_of o ≡ Some f → IsFramed w t p f
     go None z a b s anonymous h = absurd cc
     go (Some info) None a b s anonymous h = absurd s
     go (Some info) (Some entry) a b s anonymous h = record {
@@ -68,7 +70,8 @@ abbrev pub answer_of : (ℕ → Option File) → Access → ℕ → Bool → Bac
 answer_of files access i allowed back own = cond allowed (bytes_reply (needs_copy access back own) (bytes_of files back own) access i) (Some (Segv AccErr))
 
 -- an anonymous page is never copied
-anonymous_answer : (files : ℕ → Option File) (access : Access) (i : ℕ) (bytes : Bytes) → answer_of files access i true Anon (Some bytes) ≡ Some (byte_reply access (bytes i))
+anonymous_answer : (files : ℕ → Option File) (access : Access) (i : ℕ) (bytes : Bytes)
+    → answer_of files access i true Anon (Some bytes) ≡ Some (byte_reply access (bytes i))
 anonymous_answer files Load i bytes = refl
 anonymous_answer files Store i bytes = refl
 anonymous_answer files Fetch i bytes = refl
@@ -95,14 +98,16 @@ has_frame_bytes w t p e k allowed =
 
 -- ---- replies that need no frame
 
-pub unmapped_reply : (w : World) (t : Plain) (p : ℕ) (access : Access) (i : ℕ) → Good w t → w.slots.info p ≡ None → entry_reply t.file (t.entry p) access i ≡ Some (Segv MapErr)
+pub unmapped_reply : (w : World) (t : Plain) (p : ℕ) (access : Access) (i : ℕ) → Good w t → w.slots.info p ≡ None
+    → entry_reply t.file (t.entry p) access i ≡ Some (Segv MapErr)
 unmapped_reply w t p access i g h = go (t.entry p) (subst (λ o. ShowsPage w.memory o (t.entry p)) h (g.pages p))
   where
     go : (z : Option Entry) → ShowsPage w.memory None z → entry_reply t.file z access i ≡ Some (Segv MapErr)
     go None s = refl
     go (Some entry) s = absurd s
 
-pub forbidden_reply : (w : World) (t : Plain) (p : ℕ) (access : Access) (i : ℕ) (info : PageInfo) → Good w t → w.slots.info p ≡ Some info → is_allowed info.meta.prot access ≡ false
+pub forbidden_reply : (w : World) (t : Plain) (p : ℕ) (access : Access) (i : ℕ) (info : PageInfo) → Good w t → w.slots.info p ≡ Some info
+    → is_allowed info.meta.prot access ≡ false
     → entry_reply t.file (t.entry p) access i ≡ Some (Segv AccErr)
 forbidden_reply w t p access i info g h forbidden = go (t.entry p) (subst (λ o. ShowsPage w.memory o (t.entry p)) h (g.pages p))
   where
@@ -121,7 +126,8 @@ some_bytes : (m : Memory) (files : ℕ → Option File) (frame : Option ℕ) (ow
 some_bytes m files None own h = ap (λ o. is_some (bytes_of files Anon o)) h
 some_bytes m files (Some f) own h = ap (λ o. is_some (bytes_of files Anon o)) h.1
 
-pub can_access : (w : World) (t : Plain) (p : ℕ) (access : Access) (frame : Option ℕ) → Good w t → IsUsable w.made.file (w.slots.info p) access frame → CanAccess t.file (t.entry p) access
+pub can_access : (w : World) (t : Plain) (p : ℕ) (access : Access) (frame : Option ℕ) → Good w t
+    → IsUsable w.made.file (w.slots.info p) access frame → CanAccess t.file (t.entry p) access
 can_access w t p access frame g u = go (w.slots.info p) (t.entry p) (g.pages p) (g.no_files.anonymous p) u
   where
     go : (o : Option PageInfo) (z : Option Entry) → ShowsPage w.memory o z → IsAnonymous o → IsUsable w.made.file o access frame → CanAccess t.file z access
@@ -181,16 +187,19 @@ own_is_frame cached (Some info) f h = own_of cached info.meta.back info.frame f 
 
 pub framed_own : (w : World) (t : Plain) (p f : ℕ) (k : IsFramed w t p f) → own_frame w.memory.cached (w.slots.info p) ≡ Some f
 framed_own w t p f k =
-    ap (own_frame w.memory.cached) k.at_slot ∙ (ap (λ back. own_frame_of w.memory.cached back k.info.frame) k.anonymous ∙ ap (own_frame_of w.memory.cached Anon) k.frame)
+    ap (own_frame w.memory.cached) k.at_slot ∙ (ap (λ back. own_frame_of w.memory.cached back k.info.frame) k.anonymous
+    ∙ ap (own_frame_of w.memory.cached Anon) k.frame)
 
 -- the plain page map with other bytes of the page
 abbrev pub with_own : Plain → ℕ → Entry → Bytes → Plain
 with_own t p entry x = record t { entry = put t.entry p (Some (record entry { own = Some x })) }
 
-pub stored_is : (w : World) (t : Plain) (p f i byte : ℕ) (k : IsFramed w t p f) → stored_entry t p (t.entry p) i byte ≡ with_own t p k.entry (put (w.memory.bytes f) i byte)
+pub stored_is : (w : World) (t : Plain) (p f i byte : ℕ) (k : IsFramed w t p f)
+    → stored_entry t p (t.entry p) i byte ≡ with_own t p k.entry (put (w.memory.bytes f) i byte)
 stored_is w t p f i byte k = ap (λ z. stored_entry t p z i byte) k.at_page ∙ ap (λ own. stored_own t p k.entry own i byte) k.own
 
-pub pages_stored : (w : World) (t : Plain) (p f : ℕ) (x : Bytes) (k : IsFramed w t p f) → Good w t → (q : ℕ) → ShowsPage (with_bytes w.memory f x) (w.slots.info q) ((with_own t p k.entry x).entry q)
+pub pages_stored : (w : World) (t : Plain) (p f : ℕ) (x : Bytes) (k : IsFramed w t p f) → Good w t → (q : ℕ)
+    → ShowsPage (with_bytes w.memory f x) (w.slots.info q) ((with_own t p k.entry x).entry q)
 pages_stored w t p f x k g =
     put_all (λ q z. ShowsPage (with_bytes w.memory f x) (w.slots.info q) z) t.entry p (Some (record k.entry { own = Some x }))
     (subst (λ o. ShowsPage (with_bytes w.memory f x) o (Some (record k.entry { own = Some x }))) (sym k.at_slot) (
@@ -199,7 +208,10 @@ pages_stored w t p f x k g =
       subst (λ back. Owns (with_bytes w.memory f x) back k.info.frame (Some x)) (sym k.anonymous)
           (subst (λ frame. Owns (with_bytes w.memory f x) Anon frame (Some x)) (sym k.frame) (tt, ap Some (sym (put_same w.memory.bytes f x)))),
     ))
-    (λ q ne. page_kept w.memory f x (w.slots.info q) (t.entry q) (λ h. ne (sym (g.apart p q f (framed_own w t p f k) (own_is_frame w.memory.cached (w.slots.info q) f h)))) (g.pages q))
+    (λ q ne. page_kept w.memory f x (w.slots.info q) (t.entry q)
+    (λ h. ne (sym (g.apart p q f (framed_own w t p f k) (own_is_frame w.memory.cached (w.slots.info q) f h)))) (g.pages q))
 
-pub files_stored : (w : World) (t : Plain) (p f : ℕ) (x : Bytes) (k : IsFramed w t p f) → Good w t → (n : ℕ) → ShowsFile (put w.memory.bytes f x) (w.memory.cached n) (w.made.file n) (t.file n)
-files_stored w t p f x k g n = file_kept w.memory.bytes f x (w.memory.cached n) (w.made.file n) (t.file n) (λ l h. let none = g.no_files.uncached n l in cc) (g.files n)
+pub files_stored : (w : World) (t : Plain) (p f : ℕ) (x : Bytes) (k : IsFramed w t p f) → Good w t → (n : ℕ)
+    → ShowsFile (put w.memory.bytes f x) (w.memory.cached n) (w.made.file n) (t.file n)
+files_stored w t p f x k g n = file_kept w.memory.bytes f x (w.memory.cached n) (w.made.file n) (t.file n)
+    (λ l h. let none = g.no_files.uncached n l in cc) (g.files n)

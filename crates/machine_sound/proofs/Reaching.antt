@@ -23,7 +23,8 @@ use Rattle.machine_coherence.specs.Coherent.{Every, IsBacked, IsCoherent, IsSoun
 -- ---- a translation that a page backs
 
 -- every access that the translation permits is allowed
-pub permits_allowed : (prot : Prot) (f : ℕ) (access : Access) → has_right prot ≡ true → permits (translation_of f prot) access ≡ true → is_allowed prot access ≡ true
+pub permits_allowed : (prot : Prot) (f : ℕ) (access : Access) → has_right prot ≡ true → permits (translation_of f prot) access ≡ true
+    → is_allowed prot access ≡ true
 permits_allowed prot f Load right h = right
 permits_allowed prot f Store right h = h
 permits_allowed prot f Fetch right h = h
@@ -76,14 +77,16 @@ by_translation o c t access f backed b e same is_true =
       allowed = allows o t k access (e ∙ is_true);
     }
 
-hits : (o : Option PageInfo) (c : ℕ) (t : Translation) (access : Access) (f : ℕ) → IsBacked o c t → frame_reached (hit t access) ≡ Some f → ReachesFrame o access f
+hits : (o : Option PageInfo) (c : ℕ) (t : Translation) (access : Access) (f : ℕ) → IsBacked o c t → frame_reached (hit t access) ≡ Some f
+    → ReachesFrame o access f
 hits o c t access f backed h = go (permits t access) refl h
   where
     go : (b : Bool) → permits t access ≡ b → frame_reached (if b then By.Hit t.frame else By.Fault) ≡ Some f → ReachesFrame o access f
     go true e k = by_translation o c t access f backed true e (λ _. cc) refl
     go false e k = absurd cc
 
-fills : (o : Option PageInfo) (c : ℕ) (t : Translation) (access : Access) (f : ℕ) → IsBacked o c t → frame_reached (fill (Some t) access) ≡ Some f → ReachesFrame o access f
+fills : (o : Option PageInfo) (c : ℕ) (t : Translation) (access : Access) (f : ℕ) → IsBacked o c t
+    → frame_reached (fill (Some t) access) ≡ Some f → ReachesFrame o access f
 fills o c t access f backed h = go (permits t access) refl h
   where
     go : (b : Bool) → permits t access ≡ b → frame_reached (if b then By.Fill t.frame else By.Fault) ≡ Some f → ReachesFrame o access f
@@ -91,11 +94,13 @@ fills o c t access f backed h = go (permits t access) refl h
     go false e k = absurd cc
 
 -- what holds of all entries of a TLB holds of the one of a page
-pub at_page : (P : TlbEntry → Type 0) (es : List TlbEntry) (p : ℕ) (t : Translation) → Every P es → tlb_at es p ≡ Some t → P (record { page = p; translation = t })
+pub at_page : (P : TlbEntry → Type 0) (es : List TlbEntry) (p : ℕ) (t : Translation) → Every P es → tlb_at es p ≡ Some t
+    → P (record { page = p; translation = t })
 at_page P [] p t h e = absurd cc
 at_page P (x ∷ es) p t h e = go (λ k. at_page P es p t h.1 k) (x.page == p) refl e
   where
-    go : (tlb_at es p ≡ Some t → P (record { page = p; translation = t })) → (b : Bool) → (x.page == p) ≡ b → (if b then Some x.translation else tlb_at es p) ≡ Some t → P (record { page = p; translation = t })
+    go : (tlb_at es p ≡ Some t → P (record { page = p; translation = t })) → (b : Bool) → (x.page == p) ≡ b
+        → (if b then Some x.translation else tlb_at es p) ≡ Some t → P (record { page = p; translation = t })
     go rest true i k =
         let same : x.page ≡ p = grind (arith, nat_tests) in
         let its : x.translation ≡ t = cc in
@@ -108,7 +113,8 @@ reaches pages phase h c touch f k e = go (tlb_at (h.tlb c) touch.page) (h.table 
   where
     go : (cached entry : Option Translation) → tlb_at (h.tlb c) touch.page ≡ cached → h.table c touch.page ≡ entry
         → frame_reached (translated cached entry touch.access) ≡ Some f → ReachesFrame (pages touch.page) touch.access f
-    go (Some t) entry i j r = hits (pages touch.page) c t touch.access f (at_page (IsSoundEntry pages c (h.table c) (h.inbox c)) (h.tlb c) touch.page t (k.tlbs c) i).0 r
+    go (Some t) entry i j r = hits (pages touch.page) c t touch.access f (at_page (IsSoundEntry pages c (h.table c) (h.inbox c))
+        (h.tlb c) touch.page t (k.tlbs c) i).0 r
     go None (Some t) i j r = fills (pages touch.page) c t touch.access f (k.tables c touch.page t j) r
     go None None i j r = absurd cc
 

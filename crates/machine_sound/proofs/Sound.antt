@@ -24,7 +24,8 @@ use Rattle.machine_sound.proofs.Reaching.{HasPage, backs, allows, at_place}
 backed : (w : World) → Fine w → (c p : ℕ) (e : Translation) → Translates w.hardware c p e → IsBacked (w.slots.info p) c e
 backed w f c p e = elim [
   | by_table h ↦ f.coherent.tables c p e h
-  | by_tlb i h ↦ (at_place (IsSoundEntry w.slots.info c (w.hardware.table c) (w.hardware.inbox c)) (w.hardware.tlb c) i (record { page = p; translation = e }) (f.coherent.tlbs c) h).0
+  | by_tlb i h ↦ (at_place (IsSoundEntry w.slots.info c (w.hardware.table c) (w.hardware.inbox c)) (w.hardware.tlb c) i
+      (record { page = p; translation = e }) (f.coherent.tlbs c) h).0
 ]
 
 agrees : (w : World) (f : Fine w) (c p : ℕ) (e : Translation) → IsBacked (w.slots.info p) c e → Agrees w f.plain p e

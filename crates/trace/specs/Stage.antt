@@ -94,7 +94,8 @@ EventActs old line new text = (w : World) × (v : World) × Opens old w × Gives
 
 abbrev pub LineActs : Stage → Line → Stage → List ℕ → Type 0
 LineActs old Blank new text = (new ≡ old) × (text ≡ [])
-LineActs old (Space cores frames calls) new text = (old ≡ Start) × (new ≡ Declared (record { cores = cores; frames = frames; calls = calls })) × (text ≡ [])
+LineActs old (Space cores frames calls) new text = (old ≡ Start)
+    × (new ≡ Declared (record { cores = cores; frames = frames; calls = calls })) × (text ≡ [])
 LineActs old (Act core action) new text = EventActs old (Act core action) new text
 LineActs old (Fold page) new text = EventActs old (Fold page) new text
 LineActs old (Finish core) new text = EventActs old (Finish core) new text

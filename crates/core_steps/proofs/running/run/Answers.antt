@@ -24,7 +24,8 @@ events-preserved g c = record {
 pub returns-clause-run : goal.returns-clause-run
 returns-clause-run g c =
     let all : take c.events.at c.args.events.now ≡ c.args.events.now = take_all c.events.at c.args.events.now c.events-test.false in
-    subst (λ es. Run (new_world (made_of c.args.setup.now) (g.M.SlotRead.slots c.args.map)) es c.events.outcomes.items (world g.M.SlotRead.slots c.events.machine.engine)) all
+    subst (λ es. Run (new_world (made_of c.args.setup.now) (g.M.SlotRead.slots c.args.map)) es c.events.outcomes.items
+    (world g.M.SlotRead.slots c.events.machine.engine)) all
     c.events.invariant.run
 
 pub returns-clause-brackets : goal.returns-clause-brackets
@@ -35,7 +36,8 @@ returns-clause-brackets g c =
 pub returns-clause-sound : goal.returns-clause-sound
 returns-clause-sound g c =
     let all : take c.events.at c.args.events.now ≡ c.args.events.now = take_all c.events.at c.args.events.now c.events-test.false in
-    all_sound (made_of c.args.setup.now) (g.M.SlotRead.slots c.args.map) _ c.args.events.now c.events.outcomes.items _ (λ n. refl) c.requires all c.events.invariant.run
+    all_sound (made_of c.args.setup.now) (g.M.SlotRead.slots c.args.map) _ c.args.events.now c.events.outcomes.items _
+    (λ n. refl) c.requires all c.events.invariant.run
 
 pub returns-in-Err-step-clause-fault : goal.returns-in-Err-step-clause-fault
 returns-in-Err-step-clause-fault g c = (

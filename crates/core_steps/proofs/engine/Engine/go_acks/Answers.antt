@@ -32,5 +32,6 @@ reply-requires-clause-room g c = room_for _ c.args.core _ c.requires refl
 
 pub returns : goal.returns
 returns g c =
-    commits _ _ c.args.core c.waiting-waiting.result c.args.change c.args.held _ c.first.result c.first.ensures.none (sym c.is_some.ensures ∙ c.if-is_some.false)
+    commits _ _ c.args.core c.waiting-waiting.result c.args.change c.args.held _ c.first.result c.first.ensures.none (sym c.is_some.ensures
+    ∙ c.if-is_some.false)
     c.waiting-waiting.ensures c.make_change.ensures.counted (rw (c.reply.ensures, c.reply_to.ensures, c.make_change.ensures.slots) refl)

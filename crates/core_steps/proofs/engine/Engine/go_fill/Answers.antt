@@ -23,7 +23,8 @@ pub fill_zero-requires : goal.fill_zero-requires
 fill_zero-requires g c = taken_below _ c.args.core (Fill c.args.touch c.args.frame) c.requires c.args.frame refl
 
 pub begin-requires-clause-object : goal.begin-requires-clause-object
-begin-requires-clause-object g c = frame_counted (world g.M.SlotRead.slots c.args.self.now) c.args.frame c.requires.fine (taken_below _ c.args.core (Fill c.args.touch c.args.frame) c.requires c.args.frame refl)
+begin-requires-clause-object g c = frame_counted (world g.M.SlotRead.slots c.args.self.now) c.args.frame c.requires.fine
+    (taken_below _ c.args.core (Fill c.args.touch c.args.frame) c.requires c.args.frame refl)
 
 pub begin-requires-clause-unused : goal.begin-requires-clause-unused
 begin-requires-clause-unused g c = taken_unused _ c.args.core (Fill c.args.touch c.args.frame) c.requires c.args.frame refl
