@@ -27,11 +27,11 @@ lists-smaller g c =
     let frame = frames_in (g.M.SlotRead.slots c.args.map.now) in
     let lists = list_whole frame c.lists.from c.list_frames-from.result c.clear.new.self.items c.list_frames-from.new.list.items c.clear.ensures c.list_frames-from.ensures.added in
     let more : c.lists.from < c.list_frames-from.result = ⊎_elim
-        (λ (l : c.list_frames-from.result < c.args.range.end).
-        let full = c.list_frames-from.ensures.full l in
-        list_moves frame c.lists.from c.list_frames-from.result c.list_frames-from.new.list.items (omega (arith, full)) lists)
-        (λ (l : c.args.range.end ≤ c.list_frames-from.result). omega (arith, c.lists-test.true))
-        (cases_lt c.list_frames-from.result c.args.range.end) in
+    (λ (l : c.list_frames-from.result < c.args.range.end).
+    let full = c.list_frames-from.ensures.full l in
+    list_moves frame c.lists.from c.list_frames-from.result c.list_frames-from.new.list.items (omega (arith, full)) lists)
+    (λ (l : c.args.range.end ≤ c.list_frames-from.result). omega (arith, c.lists-test.true))
+    (cases_lt c.list_frames-from.result c.args.range.end) in
     omega (arith, more, c.lists-test.true)
 
 pub lists-preserved : goal.lists-preserved
