@@ -53,11 +53,13 @@ slice_get-set_other (f ∷ fs) (suc n) g zero ne = refl
 slice_get-set_other (f ∷ fs) (suc n) g (suc m) ne = slice_get-set_other fs n g m (λ e. ne (ap suc e))
 
 -- the caching frames of one file change
-pages-set : (cached : List (Option ℕ)) (k : ℕ) (frame : ℕ) → k < length cached → (λ j. get_or (set cached k (Some frame)) j None) ≡ put (λ j. get_or cached j None) k (Some frame)
+pages-set : (cached : List (Option ℕ)) (k : ℕ) (frame : ℕ) → k < length cached → (λ j. get_or (set cached k (Some frame)) j None) ≡ put
+    (λ j. get_or cached j None) k (Some frame)
 pages-set cached k frame h = fun_ext (put_all (λ j v. get_or (set cached k (Some frame)) j None ≡ v) (λ j. get_or cached j None) k (Some frame)
     (get_or-set_same cached k (Some frame) None h) (λ j ne. get_or-set_other cached k j (Some frame) None ne))
 
-pub cached-set : (fs : List FileParts) (n : ℕ) (f g : FileParts) (k frame : ℕ) → n < length fs → slice_get fs n ≡ Some f → k < length f.cached → g.cached ≡ set f.cached k (Some frame)
+pub cached-set : (fs : List FileParts) (n : ℕ) (f g : FileParts) (k frame : ℕ) → n < length fs → slice_get fs n ≡ Some f
+    → k < length f.cached → g.cached ≡ set f.cached k (Some frame)
     → cached_in (set fs n g) ≡ put (cached_in fs) n (put (cached_in fs n) k (Some frame))
 cached-set fs n f g k frame there is within now =
     fun_ext (put_all (λ m v. cached_in (set fs n g) m ≡ v) (cached_in fs) n (put (cached_in fs n) k (Some frame))
@@ -69,16 +71,19 @@ cached-set fs n f g k frame there is within now =
 
 same-file : (f g x : FileParts) → Some x ≡ Some f → g.mode ≡ f.mode → g.bytes ≡ f.bytes → file_of (Some g) ≡ file_of (Some x)
 same-file f g x is mode bytes =
-    ap (λ (m : Mode). Some (file_with m g.bytes)) mode ∙ (ap (λ (b : List ℕ). Some (file_with f.mode b)) bytes ∙ ap (λ (o : Option FileParts). file_of o) (sym is))
+    ap (λ (m : Mode). Some (file_with m g.bytes)) mode ∙ (ap (λ (b : List ℕ). Some (file_with f.mode b)) bytes
+    ∙ ap (λ (o : Option FileParts). file_of o) (sym is))
 
-files-set_at : (fs : List FileParts) (n : ℕ) (f g : FileParts) → slice_get fs n ≡ Some f → g.mode ≡ f.mode → g.bytes ≡ f.bytes → (m : ℕ) → files_of (set fs n g) m ≡ files_of fs m
+files-set_at : (fs : List FileParts) (n : ℕ) (f g : FileParts) → slice_get fs n ≡ Some f → g.mode ≡ f.mode → g.bytes ≡ f.bytes → (m : ℕ)
+    → files_of (set fs n g) m ≡ files_of fs m
 files-set_at [] n f g is mode bytes m = refl
 files-set_at (x ∷ fs) zero f g is mode bytes zero = same-file f g x is mode bytes
 files-set_at (x ∷ fs) zero f g is mode bytes (suc m) = refl
 files-set_at (x ∷ fs) (suc n) f g is mode bytes zero = refl
 files-set_at (x ∷ fs) (suc n) f g is mode bytes (suc m) = files-set_at fs n f g is mode bytes m
 
-pub files-set : (fs : List FileParts) (n : ℕ) (f g : FileParts) → slice_get fs n ≡ Some f → g.mode ≡ f.mode → g.bytes ≡ f.bytes → files_of (set fs n g) ≡ files_of fs
+pub files-set : (fs : List FileParts) (n : ℕ) (f g : FileParts) → slice_get fs n ≡ Some f → g.mode ≡ f.mode → g.bytes ≡ f.bytes
+    → files_of (set fs n g) ≡ files_of fs
 files-set fs n f g is mode bytes = fun_ext (files-set_at fs n f g is mode bytes)
 
 -- ---- pages that are there
@@ -116,7 +121,8 @@ page-first part i lt =
 pub page-none : (part : List ℕ) (i : ℕ) → i < 4096 → length part ≤ i → page_bytes part 0 i ≡ 0
 page-none part i lt le = page-first part i lt ∙ get_or_past part i 0 le
 
-part-byte : (bytes : List ℕ) (start n i : ℕ) → n ≤ 4096 → (n ≡ 4096) ⊎ (length bytes ≤ start + n) → i < 4096 → get_or (take n (drop start bytes)) i 0 ≡ get_or bytes (start + i) 0
+part-byte : (bytes : List ℕ) (start n i : ℕ) → n ≤ 4096 → (n ≡ 4096) ⊎ (length bytes ≤ start + n) → i < 4096
+    → get_or (take n (drop start bytes)) i 0 ≡ get_or bytes (start + i) 0
 part-byte bytes start n i few all lt = by (cases_lt i n)
   where
     past : (n ≡ 4096) ⊎ (length bytes ≤ start + n) → n ≤ i → get_or bytes (start + i) 0 ≡ 0
@@ -130,7 +136,8 @@ part-byte bytes start n i few all lt = by (cases_lt i n)
     by (inl in') = get_or-take n (drop start bytes) i 0 in' ∙ get_or-drop start bytes i 0
     by (inr le) = get_or_past (take n (drop start bytes)) i 0 (shorter i le) ∙ sym (past all le)
 
-pub part-bytes : (bytes : List ℕ) (k n : ℕ) → n ≤ 4096 → (n ≡ 4096) ⊎ (length bytes ≤ k * 4096 + n) → page_bytes (take n (drop (k * 4096) bytes)) 0 ≡ page_bytes bytes k
+pub part-bytes : (bytes : List ℕ) (k n : ℕ) → n ≤ 4096 → (n ≡ 4096) ⊎ (length bytes ≤ k * 4096 + n)
+    → page_bytes (take n (drop (k * 4096) bytes)) 0 ≡ page_bytes bytes k
 part-bytes bytes k n few all = fun_ext (λ i. by i (cases_lt i 4096))
   where
     by : (i : ℕ) → (i < 4096) ⊎ (4096 ≤ i) → page_bytes (take n (drop (k * 4096) bytes)) 0 i ≡ page_bytes bytes k i
@@ -138,7 +145,8 @@ part-bytes bytes k n few all = fun_ext (λ i. by i (cases_lt i 4096))
         page-first (take n (drop (k * 4096) bytes)) i lt ∙ (part-byte bytes (k * 4096) n i few all lt ∙ sym (page-byte bytes k i lt))
     by i (inr le) = page-beyond (take n (drop (k * 4096) bytes)) 0 i le ∙ sym (page-beyond bytes k i le)
 
-pub part-cut : (bytes : List ℕ) (k end len : ℕ) → len ≡ length bytes → end ≡ min len (k * 4096 + 4096) → k < page_count (length bytes) → page_bytes (take (end - k * 4096) (drop (k * 4096) bytes)) 0 ≡ page_bytes bytes k
+pub part-cut : (bytes : List ℕ) (k end len : ℕ) → len ≡ length bytes → end ≡ min len (k * 4096 + 4096) → k < page_count (length bytes)
+    → page_bytes (take (end - k * 4096) (drop (k * 4096) bytes)) 0 ≡ page_bytes bytes k
 part-cut bytes k end len same cut there = part-bytes bytes k (end - k * 4096) (omega (arith, cut)) (by (cases_lt (k * 4096 + 4096) (length bytes)))
   where
     by : (k * 4096 + 4096 < length bytes) ⊎ (length bytes ≤ k * 4096 + 4096) → (end - k * 4096 ≡ 4096) ⊎ (length bytes ≤ k * 4096 + (end - k * 4096))

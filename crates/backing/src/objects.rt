@@ -93,7 +93,9 @@ impl<A: Allocator> Objects<A> {
     /// no such file; `EACCES` where it isn't open for reading, or where pages are to be shared and written and it isn't
     /// open for writing.
     pub fn may(&self, file: u64, sharing: Sharing, prot: Prot) -> Result<(), Errno>
-        ensures { (len : ℕ) (off : ℕ) (flags : Flags) → flags.shared ≡ is_shared sharing → off + len ≤ 2 ^ 47 → file_refusal (mode_of (files_of self.now file)) len prot flags off ≡ refused_by result }
+        ensures { (len : ℕ) (off : ℕ) (flags : Flags) → flags.shared ≡ is_shared sharing
+            → off + len ≤ 2 ^ 47
+            → file_refusal (mode_of (files_of self.now file)) len prot flags off ≡ refused_by result }
     {
         let Some(mode) = self.mode(file) else {
             return Err(Errno::EBADF);
@@ -133,7 +135,8 @@ impl<A: Allocator> Objects<A> {
     pub fn own_bytes(&self, file: u32, page: u64) -> &[u8]
         requires { is_some (file_bytes (files_of self.now file) page) ≡ true }
         ensures short { length result.now ≤ 4096 }
-        ensures bytes { IfSome (file_bytes (files_of self.now file) page) (λ own. page_bytes result.now 0 ≡ own) }
+        ensures bytes { IfSome (file_bytes (files_of self.now file) page)
+            (λ own. page_bytes result.now 0 ≡ own) }
     {
         self.files[file as usize].own_part(page)
     }
@@ -153,7 +156,8 @@ impl<A: Allocator> Objects<A> {
     pub fn set_cached(&mut self, file: u32, page: u64, frame: u32)
         requires page { is_some (file_bytes (files_of self.old file) page) ≡ true }
         requires new { cached_in self.old file page ≡ None }
-        ensures cached { cached_in self.new ≡ put (cached_in self.old) file (put (cached_in self.old file) page (Some frame)) }
+        ensures cached { cached_in self.new ≡ put (cached_in self.old) file
+            (put (cached_in self.old file) page (Some frame)) }
         ensures files { files_of self.new ≡ files_of self.old }
     {
         self.files[file as usize].set_cached(page, frame);
@@ -165,7 +169,9 @@ impl<A: Allocator> Objects<A> {
         requires page { is_some (file_bytes (files_of self.now file) page) ≡ true }
         requires frame { frame < frames.old.count }
         requires cached { IfSome (cached_in self.now file page) (λ g. g < frames.old.count) }
-        ensures bytes { IfSome (file_bytes (files_of self.now file) page) (λ own. frame_bytes frames.new ≡ put (frame_bytes frames.old) frame (bytes_now (cached_in self.now file page) (frame_bytes frames.old) own)) }
+        ensures bytes { IfSome (file_bytes (files_of self.now file) page)
+            (λ own. frame_bytes frames.new ≡ put (frame_bytes frames.old) frame
+            (bytes_now (cached_in self.now file page) (frame_bytes frames.old) own)) }
         ensures free { free_frames frames.new ≡ free_frames frames.old }
         ensures count { frames.new.count ≡ frames.old.count }
     {

@@ -34,7 +34,8 @@ listed slots hardware frames counts files phases numbers requests log limit even
     }
 
 -- the request is kept, and the core's call has its number
-pub numbered : (slots : Slots) (hardware : Hardware) (frames : FrameParts) (counts : Counts) (files : List FileParts) (phases : List Phase) (numbers : List ℕ) (requests more : List Request)
+pub numbered : (slots : Slots) (hardware : Hardware) (frames : FrameParts) (counts : Counts) (files : List FileParts) (phases : List Phase)
+    (numbers : List ℕ) (requests more : List Request)
     (log : List Entry) (calls limit events c i n : ℕ) (request : Request) → c < length numbers → limit ≡ calls → i ≡ c
     → more ≡ requests ++ request ∷ [] → n ≡ length more
     → to c (Check request) (listed slots hardware frames counts files phases (slice_set numbers i n) more log limit events)

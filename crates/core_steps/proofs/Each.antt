@@ -24,7 +24,8 @@ use Rattle.core_steps.proofs.Lists.{set_is_put}
 pub put_id : {V : Type 0} (f : ℕ → V) (k : ℕ) (v : V) → v ≡ f k → put f k v ≡ f
 put_id f k v e = fun_ext (put_all (λ j x. x ≡ f j) f k v e (λ j ne. refl))
 
-pub each_at : {C V : Type 0} (read : C → V) (none : V) (cpus : List C) (k : ℕ) (y : C) → k < length cpus → y ≡ get_or cpus k y → of_each read none cpus k ≡ read y
+pub each_at : {C V : Type 0} (read : C → V) (none : V) (cpus : List C) (k : ℕ) (y : C) → k < length cpus → y ≡ get_or cpus k y
+    → of_each read none cpus k ≡ read y
 each_at read none cpus k y h e = get_or-map read cpus k y none h ∙ ap read (sym e)
 
 each_set : {C V : Type 0} (read : C → V) (none : V) (cpus : List C) (k : ℕ) (x : C) → k < length cpus
@@ -102,9 +103,11 @@ module _ {C : Type 0} (table : C → ℕ → Option Translation) (tlb : C → Li
 
 -- ---- a shootdown
 
-pub shot_set : (h0 h2 : Hardware) (core set to : ℕ) (range : PageRange) (boxes : ℕ → List Message) → h2 ≡ tlb_invalidated (tables_cleared h0 core range) core range
+pub shot_set : (h0 h2 : Hardware) (core set to : ℕ) (range : PageRange) (boxes : ℕ → List Message)
+    → h2 ≡ tlb_invalidated (tables_cleared h0 core range) core range
     → members to ≡ put (members set) core false → boxes ≡ sent core to range h2.inbox → record h2 { inbox = boxes } ≡ after_shot h0 core set range
 shot_set h0 h2 core set to range boxes e em eb =
     ap {A = Hardware} (λ h. record h { inbox = boxes }) e
     ∙ ap {A = ℕ → List Message} (λ b. record (tlb_invalidated (tables_cleared h0 core range) core range) { inbox = b })
-    (eb ∙ (ap {A = Hardware} (λ h. sent core to range h.inbox) e ∙ ap {A = ℕ → Bool} (λ m. (λ d. if m d then h0.inbox d ++ posted core range ∷ [] else h0.inbox d)) em))
+    (eb ∙ (ap {A = Hardware} (λ h. sent core to range h.inbox) e
+    ∙ ap {A = ℕ → Bool} (λ m. (λ d. if m d then h0.inbox d ++ posted core range ∷ [] else h0.inbox d)) em))

@@ -389,7 +389,8 @@ IsValidAsked (TookOf.Clear range) = are_pages range ≡ true
 IsValidAsked (TookOf.Invalidate range) = are_pages range ≡ true
 IsValidAsked TookOf.Idle = Unit {0}
 
-awaited_pages : (w : World) (c : ℕ) (range : PageRange) (phase : Phase) → IsOrderly w → w.calls.phase c ≡ phase → awaits_in phase ≡ Some range → are_pages range ≡ true
+awaited_pages : (w : World) (c : ℕ) (range : PageRange) (phase : Phase) → IsOrderly w → w.calls.phase c ≡ phase
+    → awaits_in phase ≡ Some range → are_pages range ≡ true
 awaited_pages w c range (Acks change held) g e h =
     let call = call_at w c (Acks change held) e g in
     let same : range_of change ≡ range = cc in
@@ -460,7 +461,8 @@ right_shown true prot h = refl
 right_shown false prot h = h
 
 -- the page of an access that is to install it is mapped, allows some access, and has a frame
-install_page : (w : World) (c : ℕ) (touch : Touch) → IsCallOf w c (Install touch) → (f : ℕ) × IsUsable w.made.file (w.slots.info touch.page) touch.access (Some f)
+install_page : (w : World) (c : ℕ) (touch : Touch) → IsCallOf w c (Install touch) → (f : ℕ)
+    × IsUsable w.made.file (w.slots.info touch.page) touch.access (Some f)
 install_page w c touch k = k.ready
 
 pub install_right : (w : World) (c : ℕ) (touch : Touch) (info : PageInfo) → IsAt w c (Install touch) → w.slots.info touch.page ≡ Some info
@@ -471,7 +473,8 @@ install_right w c touch info i e =
     right_shown (is_private info.meta.back && shows_some w.memory.cached info.meta.back info.frame) info.meta.prot
     (right_allowed info.meta.prot touch.access (subst (λ o. IsUsable w.made.file o touch.access (Some usable.0)) e usable.1).0))
 
-pub install_frame : (w : World) (c : ℕ) (touch : Touch) (info : PageInfo) → IsAt w c (Install touch) → w.slots.info touch.page ≡ Some info → info.frame ≡ None → ⊥
+pub install_frame : (w : World) (c : ℕ) (touch : Touch) (info : PageInfo) → IsAt w c (Install touch) → w.slots.info touch.page ≡ Some info
+    → info.frame ≡ None → ⊥
 install_frame w c touch info i e none =
     ∥∥₁_elim (order i) (hlevel props) (λ g.
     let usable = install_page w c touch (call_at w c (Install touch) i.phase g) in

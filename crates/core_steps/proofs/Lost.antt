@@ -56,7 +56,8 @@ abbrev pub AreApart : (ℕ → Option ℕ) → Type 0
 AreApart frame = (p q f : ℕ) → frame p ≡ Some f → frame q ≡ Some f → p ≡ q
 
 -- a listed frame is another than that of an earlier page
-others_listed : (frame : ℕ → Option ℕ) (page f first end : ℕ) (xs : List Framed) → AreApart frame → page < first → frame page ≡ Some f → ListsFrames frame first end xs
+others_listed : (frame : ℕ → Option ℕ) (page f first end : ℕ) (xs : List Framed) → AreApart frame → page < first → frame page ≡ Some f
+    → ListsFrames frame first end xs
     → AllByRecursion (λ y. y.frame ≢ f) xs
 others_listed frame page f first end [] apart l had h = tt
 others_listed frame page f first end (x ∷ xs) apart l had h = (
@@ -65,7 +66,8 @@ others_listed frame page f first end (x ∷ xs) apart l had h = (
 )
 
 -- listed frames are counted
-pub listed_used : (frame : ℕ → Option ℕ) (first end : ℕ) (xs : List Framed) (v : Counts) → AreApart frame → StillCounted frame first v → ListsFrames frame first end xs → AreUsed xs v
+pub listed_used : (frame : ℕ → Option ℕ) (first end : ℕ) (xs : List Framed) (v : Counts) → AreApart frame → StillCounted frame first v
+    → ListsFrames frame first end xs → AreUsed xs v
 listed_used frame first end [] v apart still h = tt
 listed_used frame first end (x ∷ xs) v apart still h = (
   still.object x.page x.frame h.0 h.3,
@@ -101,7 +103,8 @@ pub used_next : (c : ℕ) (x : Framed) (xs : List Framed) (v w : Counts) → Are
 used_next c x xs v w u step = used_rest c x.frame xs v w step u.2 u.3
 
 -- counting the listed frames down is counting all pages' down
-pub each_down : (c : ℕ) (frame : ℕ → Option ℕ) (first end : ℕ) (xs : List Framed) (v w : Counts) → first ≤ end → ListsFrames frame first end xs → CountsEach c xs v w
+pub each_down : (c : ℕ) (frame : ℕ → Option ℕ) (first end : ℕ) (xs : List Framed) (v w : Counts) → first ≤ end
+    → ListsFrames frame first end xs → CountsEach c xs v w
     → CountsDown c frame first (end - first) v w
 each_down c frame first end [] v w l h e =
     subst (λ u. CountsDown c frame first (end - first) v u) (sym e) (lost_none c frame first (end - first) v (λ p a b. h p a (omega (arith, b))))
@@ -110,7 +113,8 @@ each_down c frame first end (x ∷ xs) v w l h e =
     let next : x.page + 1 ≡ first + (x.page - first) + 1 = omega (arith, h.0) in
     let count : (x.page - first) + 1 + (end - (x.page + 1)) ≡ end - first = omega (arith, h.0, h.1) in
     let none : CountsDown c frame first (x.page - first) v v = lost_none c frame first (x.page - first) v (λ p a b. h.2 p a (omega (arith, b, h.0))) in
-    let one : CountsDown c frame (first + (x.page - first)) 1 v e.0 = subst (λ q. CountsDown c frame q 1 v e.0) (sym here) (lost_one c frame x.page x.frame v e.0 h.3 e.1) in
+    let one : CountsDown c frame (first + (x.page - first)) 1 v e.0 = subst (λ q. CountsDown c frame q 1 v e.0) (sym here)
+    (lost_one c frame x.page x.frame v e.0 h.3 e.1) in
     let more : CountsDown c frame first (x.page - first + 1) v e.0 = lost_then c frame first (x.page - first) 1 v v e.0 none one in
     let to : x.page + 1 ≡ first + (x.page - first + 1) = omega (arith, h.0) in
     subst (λ n. CountsDown c frame first n v w) count
@@ -118,7 +122,8 @@ each_down c frame first end (x ∷ xs) v w l h e =
     (subst (λ q. CountsDown c frame q (end - (x.page + 1)) e.0 w) to (each_down c frame (x.page + 1) end xs e.0 w (omega (arith, h.1)) h.4 e.2)))
 
 -- and those of the pages behind them are still counted, by the same cores
-pub each_still : (c : ℕ) (frame : ℕ → Option ℕ) (first end : ℕ) (xs : List Framed) (v w : Counts) → first ≤ end → AreApart frame → StillCounted frame first v → ListsFrames frame first end xs → CountsEach c xs v w
+pub each_still : (c : ℕ) (frame : ℕ → Option ℕ) (first end : ℕ) (xs : List Framed) (v w : Counts) → first ≤ end → AreApart frame
+    → StillCounted frame first v → ListsFrames frame first end xs → CountsEach c xs v w
     → StillCounted frame end w
 each_still c frame first end [] v w l apart still h e = record {
   object = λ p f a g. subst (λ u. f < u.objects) (sym e) (still.object p f (omega (arith, a)) g);
@@ -147,7 +152,8 @@ lost_list c frame first from upto xs v m w low high h lists e =
     (subst (λ q. CountsDown c frame q (upto - from) m w) here (each_down c frame from upto xs m w high lists e)))
 
 -- what was added to a list that was empty
-pub list_whole : (frame : ℕ → Option ℕ) (first end : ℕ) (old new : List Framed) → old ≡ [] → AddsFrames frame first end old new → ListsFrames frame first end new
+pub list_whole : (frame : ℕ → Option ℕ) (first end : ℕ) (old new : List Framed) → old ≡ [] → AddsFrames frame first end old new
+    → ListsFrames frame first end new
 list_whole frame first end old new e h = subst (ListsFrames frame first end) (sym (h.1 ∙ ap (λ (xs : List Framed). xs ++ h.0) e)) h.2
 
 -- a list that is full has a page

@@ -54,7 +54,8 @@ pub not_walked : (w v : World) (c p : ℕ) → can_walk w.hardware c p ≡ false
 not_walked w v c p e h = if_false (can_walk w.hardware c p) _ _ e (refl, h)
 
 -- without an entry, or with a translation, there is nothing to walk
-same_tlb : (cached entry : Option Translation) (p : ℕ) (es : List TlbEntry) → (not (is_some cached) && is_some entry) ≡ false → tlb_walked cached entry p es ≡ es
+same_tlb : (cached entry : Option Translation) (p : ℕ) (es : List TlbEntry) → (not (is_some cached) && is_some entry) ≡ false
+    → tlb_walked cached entry p es ≡ es
 same_tlb (Some t) entry p es h = refl
 same_tlb None None p es h = refl
 same_tlb None (Some t) p es h = absurd cc
@@ -69,7 +70,8 @@ no_entry h c p e = subst (λ o. (not (is_some (tlb_at (h.tlb c) p)) && is_some o
     never true = refl
     never false = refl
 
-pub evicted : (w v : World) (c p : ℕ) → is_some (tlb_at (w.hardware.tlb c) p) ≡ true → v ≡ with_hardware (after_eviction w.hardware c p) w → Evicts w c p Stepped v
+pub evicted : (w v : World) (c p : ℕ) → is_some (tlb_at (w.hardware.tlb c) p) ≡ true → v ≡ with_hardware (after_eviction w.hardware c p) w
+    → Evicts w c p Stepped v
 evicted w v c p e h = if_true (is_some (tlb_at (w.hardware.tlb c) p)) _ _ e (refl, h)
 
 pub not_evicted : (w v : World) (c p : ℕ) → is_some (tlb_at (w.hardware.tlb c) p) ≡ false → v ≡ w → Evicts w c p Idle v
@@ -169,7 +171,8 @@ copy_awaited w v c (Release touch) a h = let due = a.0 in absurd cc
 
 -- ---- the arguments of a request
 
-pub planned : (w v : World) (c : ℕ) (request : Request) (r : Result Plan Reply) → r ≡ checked_by w.made c request → v ≡ after_plan c r w → v ≡ after_check c request w
+pub planned : (w v : World) (c : ℕ) (request : Request) (r : Result Plan Reply) → r ≡ checked_by w.made c request → v ≡ after_plan c r w
+    → v ≡ after_check c request w
 planned w v c request r e h = subst (λ r. v ≡ after_plan c r w) e h
 
 -- ---- a page's translation is installed
@@ -192,5 +195,6 @@ installed w v c touch info f prot e k p h = h ∙ subst (λ o. now (Some (record
 
 -- ---- an event is counted
 
-pub counted : (w v : World) (e : Event) (o : Outcome) → Acts (record w { calls = record w.calls { events = w.calls.events + 1 } }) e o v → Acts (with_event w) e o v
+pub counted : (w v : World) (e : Event) (o : Outcome) → Acts (record w { calls = record w.calls { events = w.calls.events + 1 } }) e o v
+    → Acts (with_event w) e o v
 counted w v e o = subst (λ n. Acts (record w { calls = record w.calls { events = n } }) e o v) (add-one w.calls.events)

@@ -16,7 +16,8 @@ pub record CoreParts : Type 0 where
   pub inboxes : ℕ
   pub hardware : Hardware
 
-abbrev pub parts_of : {C : Type 0} → (C → ℕ → Option Translation) → (C → List TlbEntry) → List C → List InboxOf → CoreParts
+abbrev pub parts_of : {C : Type 0} → (C → ℕ → Option Translation) → (C → List TlbEntry) → List C → List InboxOf
+    → CoreParts
 parts_of table tlb cpus boxes = record {
   count = length cpus;
   inboxes = length boxes;

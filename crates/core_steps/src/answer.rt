@@ -57,7 +57,8 @@ impl<M: SlotMap, H: Hardware, A: Allocator> Engine<M, H, A> {
     /// The leftmost slot that is held is unlocked.
     pub fn go_unlock(&mut self, core: CoreId, held: PageRange, reply: Reply) -> Outcome
         requires { IsAt (world M.slots self.old) core (Phase.Unlock held reply) }
-        ensures { Goes (world M.slots self.old) core (Phase.Unlock held reply) result (world M.slots self.new) }
+        ensures { Goes (world M.slots self.old) core (Phase.Unlock held reply) result
+            (world M.slots self.new) }
     {
         let unlocked_to = self.map.unlock_next(core, held.first, held.end);
         let left = held_after(held, unlocked_to);

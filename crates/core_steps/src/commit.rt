@@ -42,7 +42,8 @@ fn count_frames<M: SlotMap, A: Allocator>(
     requires pages { IsPageRange range }
     requires here { core < (counts_of counts.old).cores }
     requires counted { AreCounted (M.slots map.now).info (counts_of counts.old) }
-    ensures { CountsDown core (λ p. frame_of ((M.slots map.now).info p)) range.first (range.end - range.first) (counts_of counts.old) (counts_of counts.new) }
+    ensures { CountsDown core (λ p. frame_of ((M.slots map.now).info p)) range.first
+        (range.end - range.first) (counts_of counts.old) (counts_of counts.new) }
 {
     let mut list = FramedPages::new();
     let mut from = range.first;
@@ -66,7 +67,9 @@ fn make_change<M: SlotMap, A: Allocator>(
     requires here { core < (counts_of counts.old).cores }
     requires counted { AreCounted (M.slots map.old).info (counts_of counts.old) }
     ensures slots { M.slots map.new ≡ slots_after change (M.slots map.old) }
-    ensures counted { CountsDown core (frame_lost change (M.slots map.old).info) (range_of change).first ((range_of change).end - (range_of change).first) (counts_of counts.old) (counts_of counts.new) }
+    ensures counted { CountsDown core (frame_lost change (M.slots map.old).info)
+        (range_of change).first ((range_of change).end - (range_of change).first)
+        (counts_of counts.old) (counts_of counts.new) }
 {
     match change {
         Change::Put { range, meta } => {
@@ -96,7 +99,8 @@ impl<M: SlotMap, H: Hardware, A: Allocator> Engine<M, H, A> {
     /// Once no core is awaited, the change is made at once, and its reply stands from here on.
     pub fn go_acks(&mut self, core: CoreId, change: Change, held: PageRange) -> Outcome
         requires { IsAt (world M.slots self.old) core (Phase.Acks change held) }
-        ensures { Goes (world M.slots self.old) core (Phase.Acks change held) result (world M.slots self.new) }
+        ensures { Goes (world M.slots self.old) core (Phase.Acks change held) result
+            (world M.slots self.new) }
     {
         if let Some(waiting) = self.cores.awaited(core) {
             return Outcome::Wait(Blocker::Acks(waiting));

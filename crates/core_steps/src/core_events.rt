@@ -18,7 +18,8 @@ impl<M: SlotMap, H: Hardware, A: Allocator> Engine<M, H, A> {
     /// (Intel SDM volume 3A, propagation of paging-structure changes to multiple processors).
     pub fn take(&mut self, core: CoreId) -> Outcome
         requires { IsOf (world M.slots self.old) core }
-        ensures { TakesMessage (world M.slots self.old) core (asked ((world M.slots self.old).hardware.inbox core)) result (world M.slots self.new) }
+        ensures { TakesMessage (world M.slots self.old) core
+            (asked ((world M.slots self.old).hardware.inbox core)) result (world M.slots self.new) }
     {
         match self.cores.take(core) {
             Took::Clear(range) => {

@@ -93,7 +93,8 @@ impl<H: Hardware, A: Allocator> Cores<H, A> {
         requires page { is_page page ≡ true }
         requires some_right { has_right prot ≡ true }
         ensures count { (parts self.new).count ≡ (parts self.old).count }
-        ensures ok { OnOk result ((parts self.new).hardware ≡ with_table (parts self.old).hardware core (put ((parts self.old).hardware.table core) page (Some (translation_of frame prot)))) }
+        ensures ok { OnOk result ((parts self.new).hardware ≡ with_table (parts self.old).hardware core
+            (put ((parts self.old).hardware.table core) page (Some (translation_of frame prot)))) }
         ensures err { OnErr result ((parts self.new).hardware ≡ (parts self.old).hardware) }
         ensures err_only { OnErr result ((parts self.old).hardware.table core page ≡ None) }
     {
@@ -116,7 +117,8 @@ impl<H: Hardware, A: Allocator> Cores<H, A> {
         requires here { core < (parts self.old).count }
         ensures value { result ≡ is_some (tlb_at ((parts self.old).hardware.tlb core) page) }
         ensures count { (parts self.new).count ≡ (parts self.old).count }
-        ensures after { (parts self.new).hardware ≡ (if result then after_eviction (parts self.old).hardware core page else (parts self.old).hardware) }
+        ensures after { (parts self.new).hardware ≡ (if result then after_eviction
+            (parts self.old).hardware core page else (parts self.old).hardware) }
     {
         self.cpus[core.index() as usize].evict(page)
     }
@@ -160,7 +162,8 @@ impl<H: Hardware, A: Allocator> Cores<H, A> {
         requires { core < (parts self.old).count }
         ensures took { result ≡ asked ((parts self.old).hardware.inbox core) }
         ensures count { (parts self.new).count ≡ (parts self.old).count }
-        ensures after { (parts self.new).hardware ≡ with_inbox (parts self.old).hardware core (remaining ((parts self.old).hardware.inbox core)) }
+        ensures after { (parts self.new).hardware ≡ with_inbox (parts self.old).hardware core
+            (remaining ((parts self.old).hardware.inbox core)) }
     {
         self.inboxes.take(core)
     }

@@ -43,7 +43,8 @@ impl<M: SlotMap, H: Hardware, A: Allocator> Engine<M, H, A> {
     /// Slots are joined at the page, where the map can.
     pub fn fold(&mut self, page: u64) -> Outcome
         ensures row { FoldsAt (world M.slots self.old) page result (world M.slots self.new) }
-        ensures exact { FoldsExactly M.can_fold M.folds (M.slots self.old.map) page result (M.slots self.new.map) }
+        ensures exact { FoldsExactly M.can_fold M.folds (M.slots self.old.map) page result
+            (M.slots self.new.map) }
     {
         if is_valid(page) && self.map.fold(page) {
             return Outcome::Stepped;

@@ -30,7 +30,8 @@ impl<M: SlotMap, H: Hardware, A: Allocator> Engine<M, H, A> {
     /// The core drops its own translations of the pages, and the other recorded cores are asked to drop theirs.
     pub fn go_post(&mut self, core: CoreId, change: Change, shoot: CoreSet) -> Outcome
         requires { IsAt (world M.slots self.old) core (Phase.Post change shoot) }
-        ensures { Goes (world M.slots self.old) core (Phase.Post change shoot) result (world M.slots self.new) }
+        ensures { Goes (world M.slots self.old) core (Phase.Post change shoot) result
+            (world M.slots self.new) }
     {
         let held = change.range();
         self.cores.shoot(core, shoot, held);

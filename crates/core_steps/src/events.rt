@@ -17,7 +17,8 @@ impl<M: SlotMap, H: Hardware, A: Allocator> Engine<M, H, A> {
     /// A call begins, if the core has none and the limit of calls isn't reached.
     fn call(&mut self, core: CoreId, request: Request) -> Outcome
         requires { core < length self.old.calls.phases.items }
-        ensures { Begins (world M.slots self.old) core request (phase_of self.old core) result (world M.slots self.new) }
+        ensures { Begins (world M.slots self.old) core request (phase_of self.old core) result
+            (world M.slots self.new) }
     {
         match self.calls.phases[core.index() as usize] {
             Phase::Free => {
@@ -69,7 +70,9 @@ impl<M: SlotMap, H: Hardware, A: Allocator> Engine<M, H, A> {
         ensures row { Tries (Acts (world M.slots self.old) event)
             (MayWant (world M.slots self.old) event)
             (world M.slots self.old) result (world M.slots self.new) }
-        ensures joins { IfOk result (λ outcome. JoinsAsMap M.can_fold M.folds (world M.slots self.old) event outcome (world M.slots self.new)) }
+        ensures joins { IfOk result
+            (λ outcome. JoinsAsMap M.can_fold M.folds (world M.slots self.old) event outcome
+            (world M.slots self.new)) }
     {
         match event {
             Event::Call(core, request) => Ok(self.call(core, request)),
@@ -93,7 +96,9 @@ impl<M: SlotMap, H: Hardware, A: Allocator> Engine<M, H, A> {
         ensures row { Tries (Acts (with_event (world M.slots self.old)) event)
             (MayWant (world M.slots self.old) event)
             (world M.slots self.old) result (world M.slots self.new) }
-        ensures joins { IfOk result (λ outcome. JoinsAsMap M.can_fold M.folds (world M.slots self.old) event outcome (world M.slots self.new)) }
+        ensures joins { IfOk result
+            (λ outcome. JoinsAsMap M.can_fold M.folds (world M.slots self.old) event outcome
+            (world M.slots self.new)) }
     {
         self.calls.events += 1;
         match self.act(event) {
@@ -121,7 +126,9 @@ impl<M: SlotMap, H: Hardware, A: Allocator> Engine<M, H, A> {
         ensures step { Tries (Step (world M.slots self.old) event)
             (MayWant (world M.slots self.old) event)
             (world M.slots self.old) result (world M.slots self.new) }
-        ensures joins { IfOk result (λ outcome. JoinsAsMap M.can_fold M.folds (world M.slots self.old) event outcome (world M.slots self.new)) }
+        ensures joins { IfOk result
+            (λ outcome. JoinsAsMap M.can_fold M.folds (world M.slots self.old) event outcome
+            (world M.slots self.new)) }
     {
         if self.calls.events == u64::MAX {
             return Ok(Outcome::Full);

@@ -104,7 +104,8 @@ impl<M: SlotMap, H: Hardware, A: Allocator> Engine<M, H, A> {
     /// The core's call takes this frame, if it wants one and the frame is free.
     pub fn take_frame(&mut self, core: CoreId, frame: u64) -> Outcome
         requires { IsOf (world M.slots self.old) core }
-        ensures { TakesThisFrame (world M.slots self.old) core (phase_of self.old core) frame result (world M.slots self.new) }
+        ensures { TakesThisFrame (world M.slots self.old) core (phase_of self.old core) frame result
+            (world M.slots self.new) }
     {
         match self.calls.phases[core.index() as usize] {
             Phase::Want { touch, old } => {

@@ -110,7 +110,8 @@ impl<M: SlotMap, H: Hardware, A: Allocator> Engine<M, H, A> {
     /// next.
     pub fn give_up(&mut self, core: CoreId) -> Outcome
         requires { IsOf (world M.slots self.old) core }
-        ensures { GivesUp (world M.slots self.old) core (phase_of self.old core) result (world M.slots self.new) }
+        ensures { GivesUp (world M.slots self.old) core (phase_of self.old core) result
+            (world M.slots self.new) }
     {
         let phase = self.phase_of(core);
         if !can_give_up(&phase) {

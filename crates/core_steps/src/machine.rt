@@ -76,8 +76,10 @@ impl<M: SlotMap, A: Allocator + Clone> Machine<M, A> {
         ensures step { Tries (Step (state self.old) event)
             (MayWant (state self.old) event)
             (state self.old) result (state self.new) }
-        ensures joins { IfOk result (λ outcome. JoinsAsMap M.can_fold M.folds (state self.old) event outcome (state self.new)) }
-        ensures sound { IfOk result (λ outcome. ∥ IsSoundStep (state self.old) event outcome (state self.new) ∥₁) }
+        ensures joins { IfOk result
+            (λ outcome. JoinsAsMap M.can_fold M.folds (state self.old) event outcome (state self.new)) }
+        ensures sound { IfOk result (λ outcome. ∥ IsSoundStep (state self.old) event outcome
+            (state self.new) ∥₁) }
         ensures legal { IsLegal (state self.new) }
     {
         self.engine.step(event)

@@ -45,38 +45,49 @@ same_word : (words : List ℕ) (k j : ℕ) → j / 64 ≡ k / 64 → bit_in word
 same_word words k j e = bit_in-is words j ∙ ap (λ n. members (get_or words n 0) (j % 64)) e
 
 -- a write of one word that changes one bit
-pub bit_in-put : (words : List ℕ) (k x : ℕ) (b : Bool) → k < length words * 64 → members x ≡ put (members (get_or words (k / 64) 0)) (k % 64) b → bit_in (set words (k / 64) x) ≡ put (bit_in words) k b
+pub bit_in-put : (words : List ℕ) (k x : ℕ) (b : Bool) → k < length words * 64 → members x ≡ put (members (get_or words (k / 64) 0))
+    (k % 64) b → bit_in (set words (k / 64) x) ≡ put (bit_in words) k b
 bit_in-put words k x b lt e = fun_ext (put_all (λ j v. bit_in (set words (k / 64) x) j ≡ v) (bit_in words) k b here there)
   where
     written : get_or (set words (k / 64) x) (k / 64) 0 ≡ x
     written = get_or-set_same words (k / 64) x 0 (omega arith)
 
     here : bit_in (set words (k / 64) x) k ≡ b
-    here = bit_in-is (set words (k / 64) x) k ∙ (ap (λ w. members w (k % 64)) written ∙ (ap (λ f. f (k % 64)) e ∙ put_same (members (get_or words (k / 64) 0)) (k % 64) b))
+    here = bit_in-is (set words (k / 64) x) k
+        ∙ (ap (λ w. members w (k % 64)) written ∙ (ap (λ f. f (k % 64)) e ∙ put_same (members (get_or words (k / 64) 0)) (k % 64) b))
 
     by : (j : ℕ) → j ≢ k → (j / 64 ≡ k / 64) ⊎ (j / 64 ≡ k / 64 → ⊥) → bit_in (set words (k / 64) x) j ≡ bit_in words j
     by j ne (inl same) =
         let apart : j % 64 ≢ k % 64 = omega arith in
-        same_word (set words (k / 64) x) k j same ∙ (ap (λ w. members w (j % 64)) written ∙ (ap (λ f. f (j % 64)) e ∙ (put_other (members (get_or words (k / 64) 0)) (k % 64) b (j % 64) apart ∙ sym (same_word words k j same))))
-    by j ne (inr other) = bit_in-is (set words (k / 64) x) j ∙ (ap (λ w. members w (j % 64)) (get_or-set_other words (k / 64) (j / 64) x 0 other) ∙ sym (bit_in-is words j))
+        same_word (set words (k / 64) x) k j same
+        ∙ (ap (λ w. members w (j % 64)) written
+        ∙ (ap (λ f. f (j % 64)) e ∙ (put_other (members (get_or words (k / 64) 0)) (k % 64) b (j % 64) apart
+        ∙ sym (same_word words k j same))))
+    by j ne (inr other) = bit_in-is (set words (k / 64) x) j
+        ∙ (ap (λ w. members w (j % 64)) (get_or-set_other words (k / 64) (j / 64) x 0 other) ∙ sym (bit_in-is words j))
 
     there : (j : ℕ) → j ≢ k → bit_in (set words (k / 64) x) j ≡ bit_in words j
     there j ne = by j ne (cases_eq (j / 64) (k / 64))
 
-pub bit_in-insert : (words : List ℕ) (k : ℕ) → k < length words * 64 → bit_in (set words (k / 64) (bit_or (get_or words (k / 64) 0) (1 * 2 ^ (k % 64) % 2 ^ 64))) ≡ put (bit_in words) k true
+pub bit_in-insert : (words : List ℕ) (k : ℕ) → k < length words * 64
+    → bit_in (set words (k / 64) (bit_or (get_or words (k / 64) 0) (1 * 2 ^ (k % 64) % 2 ^ 64))) ≡ put (bit_in words) k true
 bit_in-insert words k lt = bit_in-put words k _ true lt (members-set (get_or words (k / 64) 0) (k % 64) (omega arith))
 
-pub bit_in-remove : (words : List ℕ) (k : ℕ) → k < length words * 64 → get_or words (k / 64) 0 < 2 ^ 64 → bit_in (set words (k / 64) (bit_and (get_or words (k / 64) 0) (bit_not w64 (1 * 2 ^ (k % 64) % 2 ^ 64)))) ≡ put (bit_in words) k false
+pub bit_in-remove : (words : List ℕ) (k : ℕ) → k < length words * 64 → get_or words (k / 64) 0 < 2 ^ 64
+    → bit_in (set words (k / 64) (bit_and (get_or words (k / 64) 0) (bit_not w64 (1 * 2 ^ (k % 64) % 2 ^ 64)))) ≡ put (bit_in words) k false
 bit_in-remove words k lt fits = bit_in-put words k _ false lt (members-clear (get_or words (k / 64) 0) (k % 64) fits (omega arith))
 
 -- the least member, in the first word that is not 0
 pub lowest_place : (n : ℕ) → 0 < n → n < 2 ^ 64 → trailing_zeros w64 n < 64
 lowest_place n some fits = (bit_at-trailing_zeros w64 n some fits).0
 
-pub lowest_member : (words : List ℕ) (w : ℕ) → 0 < get_or words w 0 → get_or words w 0 < 2 ^ 64 → bit_in words (w * 64 + trailing_zeros w64 (get_or words w 0)) ≡ true
-lowest_member words w some fits = bit_in-at words w (trailing_zeros w64 (get_or words w 0)) (lowest_place (get_or words w 0) some fits) ∙ members-least (get_or words w 0) some fits
+pub lowest_member : (words : List ℕ) (w : ℕ) → 0 < get_or words w 0 → get_or words w 0 < 2 ^ 64
+    → bit_in words (w * 64 + trailing_zeros w64 (get_or words w 0)) ≡ true
+lowest_member words w some fits = bit_in-at words w (trailing_zeros w64 (get_or words w 0)) (lowest_place (get_or words w 0) some fits)
+    ∙ members-least (get_or words w 0) some fits
 
-pub lowest_least : (words : List ℕ) (w : ℕ) → 0 < get_or words w 0 → get_or words w 0 < 2 ^ 64 → ((v : ℕ) → v < w → get_or words v 0 ≡ 0) → (k : ℕ) → k < w * 64 + trailing_zeros w64 (get_or words w 0) → bit_in words k ≡ false
+pub lowest_least : (words : List ℕ) (w : ℕ) → 0 < get_or words w 0 → get_or words w 0 < 2 ^ 64 → ((v : ℕ) → v < w → get_or words v 0 ≡ 0)
+    → (k : ℕ) → k < w * 64 + trailing_zeros w64 (get_or words w 0) → bit_in words k ≡ false
 lowest_least words w some fits first k lt = by (cases_lt (k / 64) w)
   where
     by : (k / 64 < w) ⊎ (w ≤ k / 64) → bit_in words k ≡ false

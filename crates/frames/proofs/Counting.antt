@@ -58,7 +58,8 @@ count-put s k b (suc n) lt = by (cases_lt k n) (count-put s k b n)
     put_grown : count_below (put s k b) (suc n) ≡ as_number (put s k b n) + count_below (put s k b) n
     put_grown = count-suc (put s k b) n
 
-    by : (k < n) ⊎ (n ≤ k) → (k < n → count_below (put s k b) n + as_number (s k) ≡ count_below s n + as_number b) → count_below (put s k b) (suc n) + as_number (s k) ≡ count_below s (suc n) + as_number b
+    by : (k < n) ⊎ (n ≤ k) → (k < n → count_below (put s k b) n + as_number (s k) ≡ count_below s n + as_number b)
+        → count_below (put s k b) (suc n) + as_number (s k) ≡ count_below s (suc n) + as_number b
     by (inl less) before =
         let same : as_number (put s k b n) ≡ as_number (s n) = ap (λ v. as_number v) (put_other s k b n (omega arith)) in
         let rest : count_below (put s k b) n + as_number (s k) ≡ count_below s n + as_number b = before less in

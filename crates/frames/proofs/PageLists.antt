@@ -19,14 +19,16 @@ pub page-past : (page : List ℕ) (i : ℕ) → 4096 ≤ i → page_bytes page 0
 page-past page i le = ap (λ b. cond b (get_or page (0 * 4096 + i) 0) 0) (le-ltb i 4096 le)
 
 -- a page with these bytes
-pub page-is : (page : List ℕ) (bytes : Bytes) → ((i : ℕ) → i < 4096 → get_or page i 0 ≡ bytes i) → ((i : ℕ) → 4096 ≤ i → bytes i ≡ 0) → page_bytes page 0 ≡ bytes
+pub page-is : (page : List ℕ) (bytes : Bytes) → ((i : ℕ) → i < 4096 → get_or page i 0 ≡ bytes i) → ((i : ℕ) → 4096 ≤ i → bytes i ≡ 0)
+    → page_bytes page 0 ≡ bytes
 page-is page bytes inside past = fun_ext (λ i. by i (cases_lt i 4096))
   where
     by : (i : ℕ) → (i < 4096) ⊎ (4096 ≤ i) → page_bytes page 0 i ≡ bytes i
     by i (inl lt) = page-inside page i lt ∙ inside i lt
     by i (inr le) = page-past page i le ∙ sym (past i le)
 
-pub page-filled : (page from : List ℕ) → length from ≤ 4096 → ((i : ℕ) → i < length from → get_or page i 0 ≡ get_or from i 0) → ((i : ℕ) → length from ≤ i → get_or page i 0 ≡ 0) → page_bytes page 0 ≡ page_bytes from 0
+pub page-filled : (page from : List ℕ) → length from ≤ 4096 → ((i : ℕ) → i < length from → get_or page i 0 ≡ get_or from i 0)
+    → ((i : ℕ) → length from ≤ i → get_or page i 0 ≡ 0) → page_bytes page 0 ≡ page_bytes from 0
 page-filled page from short front rest = page-is page (page_bytes from 0) (λ i lt. by i lt (cases_lt i (length from))) (λ i le. page-past from i le)
   where
     by : (i : ℕ) → i < 4096 → (i < length from) ⊎ (length from ≤ i) → get_or page i 0 ≡ page_bytes from 0 i
@@ -36,7 +38,8 @@ page-filled page from short front rest = page-is page (page_bytes from 0) (λ i 
 -- one byte written
 pub page-set : (page : List ℕ) (i b : ℕ) → i < 4096 → 4096 ≤ length page → page_bytes (set page i b) 0 ≡ put (page_bytes page 0) i b
 page-set page i b lt long = page-is (set page i b) (put (page_bytes page 0) i b)
-    (λ j less. put_all (λ n v. n < 4096 → get_or (set page i b) n 0 ≡ v) (page_bytes page 0) i b (λ h. get_or-set_same page i b 0 (omega arith)) (λ n ne h. get_or-set_other page i n b 0 ne ∙ sym (page-inside page n h)) j less)
+    (λ j less. put_all (λ n v. n < 4096 → get_or (set page i b) n 0 ≡ v) (page_bytes page 0) i b
+    (λ h. get_or-set_same page i b 0 (omega arith)) (λ n ne h. get_or-set_other page i n b 0 ne ∙ sym (page-inside page n h)) j less)
     (λ j le. put_other (page_bytes page 0) i b j (omega arith) ∙ page-past page j le)
 
 pub page-zero : (n : ℕ) → page_bytes (replicate n 0) 0 ≡ zeros
@@ -57,8 +60,10 @@ pages-push pages page = fun_ext (put_all (λ j v. all_pages (pages ++ page ∷ [
     other j ne (inr le) = get_or_past (pages ++ page ∷ []) j [] (omega (arith, length_push pages page)) ∙ sym (get_or_past pages j [] le)
 
 -- a page copied to another place
-pub pages-copied : (pages copied : List (List ℕ)) (from to : ℕ) → ((k : ℕ) (d : List ℕ) → to ≤ k → k < to + (from + 1 - from) → get_or copied k d ≡ get_or pages (from + (k - to)) d)
-    → ((k : ℕ) (d : List ℕ) → k < to → get_or copied k d ≡ get_or pages k d) → ((k : ℕ) (d : List ℕ) → to + (from + 1 - from) ≤ k → get_or copied k d ≡ get_or pages k d)
+pub pages-copied : (pages copied : List (List ℕ)) (from to : ℕ) → ((k : ℕ) (d : List ℕ) → to ≤ k → k < to + (from + 1 - from)
+    → get_or copied k d ≡ get_or pages (from + (k - to)) d)
+    → ((k : ℕ) (d : List ℕ) → k < to → get_or copied k d ≡ get_or pages k d) → ((k : ℕ) (d : List ℕ) → to + (from + 1 - from) ≤ k
+    → get_or copied k d ≡ get_or pages k d)
     → all_pages copied ≡ put (all_pages pages) to (all_pages pages from)
 pages-copied pages copied from to here below above = fun_ext (put_all (λ j v. all_pages copied j ≡ v) (all_pages pages) to (all_pages pages from)
     (let at : from + (to - to) ≡ from = omega arith in ap (λ p. page_bytes p 0) (here to [] (omega arith) (omega arith) ∙ ap (λ k. get_or pages k []) at))

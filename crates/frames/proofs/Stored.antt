@@ -35,7 +35,8 @@ pub stored-none : (s : Stored) (f : ℕ) → get_or s.places f None ≡ None →
 unfolding stored_bytes
 stored-none s f e = ap (bytes_at s.pages) e
 
-pub stored-put : (s t : Stored) (f k : ℕ) (page : Bytes) → IsStored s → get_or s.places f None ≡ Some k → t.places ≡ s.places → all_pages t.pages ≡ put (all_pages s.pages) k page
+pub stored-put : (s t : Stored) (f k : ℕ) (page : Bytes) → IsStored s → get_or s.places f None ≡ Some k → t.places ≡ s.places
+    → all_pages t.pages ≡ put (all_pages s.pages) k page
     → stored_bytes t ≡ put (stored_bytes s) f page
 unfolding stored_bytes
 stored-put s t f k page ok at places pages = fun_ext (put_all (λ g v. stored_bytes t g ≡ v) (stored_bytes s) f page here there)
@@ -87,7 +88,8 @@ stored-kept s t ok places len capacity = record {
 
 -- ---- a new page
 
-counted-more : (places : List (Option ℕ)) (f k : ℕ) → f < length places → get_or places f None ≡ None → count_by is_some (set places f (Some k)) ≡ count_by is_some places + 1
+counted-more : (places : List (Option ℕ)) (f k : ℕ) → f < length places → get_or places f None ≡ None
+    → count_by is_some (set places f (Some k)) ≡ count_by is_some places + 1
 counted-more places f k lt none =
     let one : Option ℕ → ℕ = λ x. cond (is_some x) 1 0 in
     let sums = sum_by-set one places f (Some k) None lt in
@@ -102,7 +104,8 @@ counted-less places f lt none =
     omega (arith, more, few, same)
 
 -- there is memory for it
-pub stored-room : (s : Stored) (f : ℕ) → IsStored s → f < length s.places → get_or s.places f None ≡ None → (length s.pages < s.capacity) × (length s.pages < 65536)
+pub stored-room : (s : Stored) (f : ℕ) → IsStored s → f < length s.places → get_or s.places f None ≡ None → (length s.pages < s.capacity)
+    × (length s.pages < 65536)
 stored-room s f ok lt none =
     let l = counted-less s.places f lt none in
     let u = ok.used in
@@ -110,7 +113,8 @@ stored-room s f ok lt none =
     let w = ok.few in
     (omega (arith, l, u, r), omega (arith, l, u, w))
 
-pub stored-add : (s t : Stored) (f : ℕ) (page : Bytes) → IsStored s → f < length s.places → get_or s.places f None ≡ None → t.places ≡ set s.places f (Some (length s.pages))
+pub stored-add : (s t : Stored) (f : ℕ) (page : Bytes) → IsStored s → f < length s.places → get_or s.places f None ≡ None
+    → t.places ≡ set s.places f (Some (length s.pages))
     → all_pages t.pages ≡ put (all_pages s.pages) (length s.pages) page → stored_bytes t ≡ put (stored_bytes s) f page
 unfolding stored_bytes
 stored-add s t f page ok lt none places pages = fun_ext (put_all (λ g v. stored_bytes t g ≡ v) (stored_bytes s) f page here there)
@@ -119,7 +123,8 @@ stored-add s t f page ok lt none places pages = fun_ext (put_all (λ g v. stored
     at g p e = ap (λ ps. bytes_at t.pages (get_or ps g None)) places ∙ ap (bytes_at t.pages) e
 
     here : stored_bytes t f ≡ page
-    here = at f (Some (length s.pages)) (get_or-set_same s.places f (Some (length s.pages)) None lt) ∙ (ap (λ b. b (length s.pages)) pages ∙ put_same (all_pages s.pages) (length s.pages) page)
+    here = at f (Some (length s.pages)) (get_or-set_same s.places f (Some (length s.pages)) None lt)
+        ∙ (ap (λ b. b (length s.pages)) pages ∙ put_same (all_pages s.pages) (length s.pages) page)
 
     there : (g : ℕ) → g ≢ f → stored_bytes t g ≡ stored_bytes s g
     there g ne = go (get_or s.places g None) refl
@@ -131,7 +136,10 @@ stored-add s t f page ok lt none places pages = fun_ext (put_all (λ g v. stored
         go None e = at g None (kept ∙ e) ∙ sym (ap (bytes_at s.pages) e)
         go (Some j) e =
             let less : j < length s.pages = ok.below g j e in
-            at g (Some j) (kept ∙ e) ∙ (ap (λ b. b j) pages ∙ (put_other (all_pages s.pages) (length s.pages) page j (λ same. absurd (omega (arith, less, same))) ∙ sym (ap (bytes_at s.pages) e)))
+            at g (Some j) (kept ∙ e)
+            ∙ (ap (λ b. b j) pages
+            ∙ (put_other (all_pages s.pages) (length s.pages) page j (λ same. absurd (omega (arith, less, same)))
+            ∙ sym (ap (bytes_at s.pages) e)))
 
 pub stored-added : (s t : Stored) (f : ℕ) → IsStored s → f < length s.places → get_or s.places f None ≡ None → t.places ≡ set s.places f (Some (length s.pages))
     → length t.pages ≡ length s.pages + 1 → t.capacity ≡ s.capacity → IsStored t
@@ -144,7 +152,8 @@ stored-added s t f ok lt none places len capacity = record {
 }
   where
     same : (g : ℕ) → g ≡ f → get_or t.places g None ≡ Some (length s.pages)
-    same g e = ap (λ ps. get_or ps g None) places ∙ (ap (λ j. get_or (set s.places f (Some (length s.pages))) j None) e ∙ get_or-set_same s.places f (Some (length s.pages)) None lt)
+    same g e = ap (λ ps. get_or ps g None) places ∙ (ap (λ j. get_or (set s.places f (Some (length s.pages))) j None) e
+        ∙ get_or-set_same s.places f (Some (length s.pages)) None lt)
 
     other : (g k : ℕ) → g ≢ f → get_or t.places g None ≡ Some k → get_or s.places g None ≡ Some k
     other g k ne e = sym (ap (λ ps. get_or ps g None) places ∙ get_or-set_other s.places f g (Some (length s.pages)) None ne) ∙ e

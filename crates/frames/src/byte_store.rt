@@ -93,7 +93,8 @@ impl<A: Allocator> ByteStore<A> {
         requires frame { frame < length self.old.places }
         requires offset { offset < 4096 }
         requires new { get_or self.old.places frame None ≡ None }
-        ensures bytes { stored_bytes self.new ≡ put (stored_bytes self.old) frame (put (stored_bytes self.old frame) offset byte) }
+        ensures bytes { stored_bytes self.new ≡ put (stored_bytes self.old) frame
+            (put (stored_bytes self.old frame) offset byte) }
         ensures count { length self.new.places ≡ length self.old.places }
         ensures capacity { self.new.capacity ≡ self.old.capacity }
     {
@@ -104,7 +105,8 @@ impl<A: Allocator> ByteStore<A> {
     pub fn set_byte(&mut self, frame: u32, offset: usize, byte: u8)
         requires frame { frame < length self.old.places }
         requires offset { offset < 4096 }
-        ensures bytes { stored_bytes self.new ≡ put (stored_bytes self.old) frame (put (stored_bytes self.old frame) offset byte) }
+        ensures bytes { stored_bytes self.new ≡ put (stored_bytes self.old) frame
+            (put (stored_bytes self.old frame) offset byte) }
         ensures count { length self.new.places ≡ length self.old.places }
         ensures capacity { self.new.capacity ≡ self.old.capacity }
     {

@@ -123,7 +123,8 @@ impl<A: Allocator> Frames<A> {
     pub fn set_byte(&mut self, frame: u32, offset: usize, byte: u8)
         requires frame { frame < self.old.count }
         requires offset { offset < 4096 }
-        ensures bytes { frame_bytes self.new ≡ put (frame_bytes self.old) frame (put (frame_bytes self.old frame) offset byte) }
+        ensures bytes { frame_bytes self.new ≡ put (frame_bytes self.old) frame
+            (put (frame_bytes self.old frame) offset byte) }
         ensures free { free_frames self.new ≡ free_frames self.old }
         ensures count { self.new.count ≡ self.old.count }
         ensures capacity { self.new.store.capacity ≡ self.old.store.capacity }

@@ -90,7 +90,8 @@ pub fn page_at<A: Allocator>(pages: &Vec<Page, A>, at: usize) -> Page
 pub fn set_byte<A: Allocator>(pages: &mut Vec<Page, A>, at: usize, offset: usize, byte: u8)
     requires page { at < vec_len pages.old }
     requires offset { offset < 4096 }
-    ensures bytes { all_pages pages.new.items ≡ put (all_pages pages.old.items) at (put (all_pages pages.old.items at) offset byte) }
+    ensures bytes { all_pages pages.new.items ≡ put (all_pages pages.old.items) at
+        (put (all_pages pages.old.items at) offset byte) }
     ensures len { vec_len pages.new ≡ vec_len pages.old }
     ensures capacity { vec_capacity pages.new ≡ vec_capacity pages.old }
 {
@@ -112,7 +113,8 @@ pub fn fill<A: Allocator>(pages: &mut Vec<Page, A>, at: usize, from: &[u8])
 pub fn copy<A: Allocator>(pages: &mut Vec<Page, A>, from: usize, to: usize)
     requires from { from < vec_len pages.old }
     requires to { to < vec_len pages.old }
-    ensures bytes { all_pages pages.new.items ≡ put (all_pages pages.old.items) to (all_pages pages.old.items from) }
+    ensures bytes { all_pages pages.new.items ≡ put (all_pages pages.old.items) to
+        (all_pages pages.old.items from) }
     ensures len { vec_len pages.new ≡ vec_len pages.old }
     ensures capacity { vec_capacity pages.new ≡ vec_capacity pages.old }
 {
@@ -122,7 +124,8 @@ pub fn copy<A: Allocator>(pages: &mut Vec<Page, A>, from: usize, to: usize)
 /// Puts a page at the end, where there is memory for it.
 pub fn push<A: Allocator>(pages: &mut Vec<Page, A>, page: Page)
     requires { vec_len pages.old < vec_capacity pages.old }
-    ensures bytes { all_pages pages.new.items ≡ put (all_pages pages.old.items) (vec_len pages.old) (page_bytes page 0) }
+    ensures bytes { all_pages pages.new.items ≡ put (all_pages pages.old.items) (vec_len pages.old)
+        (page_bytes page 0) }
     ensures len { vec_len pages.new ≡ vec_len pages.old + 1 }
     ensures capacity { vec_capacity pages.new ≡ vec_capacity pages.old }
 {

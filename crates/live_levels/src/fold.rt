@@ -20,7 +20,8 @@ fn can_begin<A: Allocator>(slot: &SlotState<A>) -> bool
 
 /// One slot, where it can be a part of a larger one: no core is to lock it first, and it has no frame and no recorded core.
 pub(crate) fn begin_joint<A: Allocator>(slot: &SlotState<A>) -> Option<Joint>
-    ensures some { IfSome result (λ j. (j.first ≡ slot.now.first) × (j.end ≡ slot.now.first + slot.now.count) × (j.content ≡ slot.now.content)) }
+    ensures some { IfSome result (λ j. (j.first ≡ slot.now.first)
+        × (j.end ≡ slot.now.first + slot.now.count) × (j.content ≡ slot.now.content)) }
     ensures can { IfSome result (λ j. CanBegin slot.now) }
     ensures none { IfNone result (¬ CanBegin slot.now) }
 {
@@ -39,7 +40,8 @@ pub(crate) fn begin_joint<A: Allocator>(slot: &SlotState<A>) -> Option<Joint>
 
 /// The slots with one more, where it follows on.
 pub(crate) fn join_next<A: Allocator>(joint: Joint, slot: &SlotState<A>) -> Option<Joint>
-    ensures some { IfSome result (λ j. (j.first ≡ joint.first) × (j.end ≡ joint.end + slot.now.count) × (j.content ≡ joint.content)) }
+    ensures some { IfSome result (λ j. (j.first ≡ joint.first) × (j.end ≡ joint.end + slot.now.count)
+        × (j.content ≡ joint.content)) }
     ensures can { IfSome result (λ j. CanFollow joint slot.now) }
     ensures none { IfNone result (¬ CanFollow joint slot.now) }
 {

@@ -126,7 +126,8 @@ impl<A: Allocator> SlotState<A> {
     /// The slot begins anew, with one change and this owner. It takes no memory, and keeps its place.
     pub fn restart(&mut self, ticket: u64, act: Act, owner: Option<CoreId>)
         requires suits { Suits act self.old.count }
-        ensures place { (self.new.first ≡ self.old.first) × (self.new.count ≡ self.old.count) × (self.new.owner ≡ owner) }
+        ensures place { (self.new.first ≡ self.old.first) × (self.new.count ≡ self.old.count)
+            × (self.new.owner ≡ owner) }
         ensures begun { self.new.changes ≡ dated ticket act ∷ [] }
         ensures content { self.new.content ≡ replay self.new.changes }
     {

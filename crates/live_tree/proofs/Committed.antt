@@ -20,6 +20,8 @@ committed_first ticket change s = cond_first (is_inside (range_of change) s) s (
 pub committed_count : (ticket : ℕ) (change : Change) (s : SlotView) → (committed ticket change s).count ≡ s.count
 committed_count ticket change s = cond_count (is_inside (range_of change) s) s (changed s (dated ticket (act_on change s))) refl
 
-pub still_side_by_side : (ticket : ℕ) (change : Change) (first end : ℕ) (ss : List SlotView) → SideBySide first end ss → SideBySide first end (map (committed ticket change) ss)
+pub still_side_by_side : (ticket : ℕ) (change : Change) (first end : ℕ) (ss : List SlotView) → SideBySide first end ss
+    → SideBySide first end (map (committed ticket change) ss)
 still_side_by_side ticket change first end [] h = h
-still_side_by_side ticket change first end (s ∷ ss) h = rw (committed_first ticket change s, committed_count ticket change s) (h.0, still_side_by_side ticket change (first + s.count) end ss h.1)
+still_side_by_side ticket change first end (s ∷ ss) h = rw (committed_first ticket change s, committed_count ticket change s)
+    (h.0, still_side_by_side ticket change (first + s.count) end ss h.1)

@@ -25,7 +25,8 @@ adds_none first gs = record {
   chain = refl;
 }
 
-pub adds_more : (first next end n : ℕ) (gs hs hs' : List (Option (MutexGuard SlotView))) (g : MutexGuard SlotView) → AddsSlots first next n gs hs → hs' ≡ hs ++ Some g ∷ []
+pub adds_more : (first next end n : ℕ) (gs hs hs' : List (Option (MutexGuard SlotView))) (g : MutexGuard SlotView)
+    → AddsSlots first next n gs hs → hs' ≡ hs ++ Some g ∷ []
     → (mutex_guard_value g).first ≡ next → end ≡ next + (mutex_guard_value g).count → AddsSlots first end (n + 1) gs hs'
 adds_more first next end n gs hs hs' g h is at ends = record {
   more = h.more ++ Some g ∷ [];
@@ -37,7 +38,8 @@ adds_more first next end n gs hs hs' g h is at ends = record {
 
 -- ---- the first slot that crosses an edge
 
-pub fits_more : (range : PageRange) (ss : List SlotView) (i : ℕ) (d : SlotView) → All (CrossesNoEdge range) (take i ss) → i < length ss → CrossesNoEdge range (get_or ss i d) → All (CrossesNoEdge range) (take (i + 1) ss)
+pub fits_more : (range : PageRange) (ss : List SlotView) (i : ℕ) (d : SlotView) → All (CrossesNoEdge range) (take i ss) → i < length ss
+    → CrossesNoEdge range (get_or ss i d) → All (CrossesNoEdge range) (take (i + 1) ss)
 fits_more range ss i d h lt fits = rw (take_more ss i d lt) (All-append (CrossesNoEdge range) (take i ss) (get_or ss i d ∷ []) h one)
   where
     one : All (CrossesNoEdge range) (get_or ss i d ∷ [])
@@ -48,17 +50,20 @@ length_map : (gs : List (Option (MutexGuard SlotView))) → length (map slot_of 
 length_map [] = refl
 length_map (g ∷ gs) = ap suc (length_map gs)
 
-get_map : (gs : List (Option (MutexGuard SlotView))) (at : ℕ) (d : SlotView) (g : Option (MutexGuard SlotView)) → at < length gs → g ≡ get_or gs at g → get_or (map slot_of gs) at d ≡ slot_of g
+get_map : (gs : List (Option (MutexGuard SlotView))) (at : ℕ) (d : SlotView) (g : Option (MutexGuard SlotView)) → at < length gs
+    → g ≡ get_or gs at g → get_or (map slot_of gs) at d ≡ slot_of g
 get_map [] at d g lt is = absurd (omega arith)
 get_map (x ∷ xs) zero d g lt is = ap slot_of (sym is)
 get_map (x ∷ xs) (suc at) d g lt is = get_map xs at d g (omega arith) is
 
-pub one_fits : (range : PageRange) (gs : List (Option (MutexGuard SlotView))) (at : ℕ) (g : Option (MutexGuard SlotView)) → at < length gs → g ≡ get_or gs at g → All (CrossesNoEdge range) (take at (map slot_of gs))
+pub one_fits : (range : PageRange) (gs : List (Option (MutexGuard SlotView))) (at : ℕ) (g : Option (MutexGuard SlotView)) → at < length gs
+    → g ≡ get_or gs at g → All (CrossesNoEdge range) (take at (map slot_of gs))
     → CrossesNoEdge range (slot_of g) → All (CrossesNoEdge range) (take (at + 1) (map slot_of gs))
 one_fits range gs at g lt is h fits =
     fits_more range (map slot_of gs) at (slot_of g) h (omega (arith, length_map gs, lt)) (rw (get_map gs at (slot_of g) g lt is) fits)
 
-pub first_crossing : (range : PageRange) (gs : List (Option (MutexGuard SlotView))) (at : ℕ) (g : Option (MutexGuard SlotView)) → at < length gs → g ≡ get_or gs at g → All (CrossesNoEdge range) (take at (map slot_of gs))
+pub first_crossing : (range : PageRange) (gs : List (Option (MutexGuard SlotView))) (at : ℕ) (g : Option (MutexGuard SlotView))
+    → at < length gs → g ≡ get_or gs at g → All (CrossesNoEdge range) (take at (map slot_of gs))
     → ¬ CrossesNoEdge range (slot_of g) → IsFirstCrossing range (map slot_of gs) at
 first_crossing range gs at g lt is h not = record {
   within = omega (arith, length_map gs, lt);
@@ -66,12 +71,14 @@ first_crossing range gs at g lt is h not = record {
   crosses = λ d. rw (get_map gs at d g lt is) not;
 }
 
-pub all_fit : (range : PageRange) (gs : List (Option (MutexGuard SlotView))) (at : ℕ) → length gs ≤ at → All (CrossesNoEdge range) (take at (map slot_of gs)) → All (CrossesNoEdge range) (map slot_of gs)
+pub all_fit : (range : PageRange) (gs : List (Option (MutexGuard SlotView))) (at : ℕ) → length gs ≤ at
+    → All (CrossesNoEdge range) (take at (map slot_of gs)) → All (CrossesNoEdge range) (map slot_of gs)
 all_fit range gs at le h = subst (All (CrossesNoEdge range)) (take_all at (map slot_of gs) (omega (arith, length_map gs, le))) h
 
 -- ---- in the place of one
 
-pub in_place : {X : Type 0} (gs more : List X) (at n : ℕ) → at < length gs → n ≡ at + length more → remove (insert_slice gs at more) n ≡ take at gs ++ (more ++ drop (at + 1) gs)
+pub in_place : {X : Type 0} (gs more : List X) (at n : ℕ) → at < length gs → n ≡ at + length more
+    → remove (insert_slice gs at more) n ≡ take at gs ++ (more ++ drop (at + 1) gs)
 in_place gs more at n lt is =
     let front = take at gs ++ more in
     let len : n ≡ length front = omega (arith, length-append (take at gs) more, length-take-le at gs (omega arith), is) in
@@ -82,7 +89,8 @@ in_place gs more at n lt is =
     ∙ (ap (λ m. front ++ drop m (front ++ drop at gs)) one ∙ (ap (λ l. front ++ l) rest ∙ append_assoc (take at gs) more (drop (at + 1) gs))))
 
 -- the slots, cut before one of them
-pub side_split : (first end : ℕ) (xs : List SlotView) (s : SlotView) (ys : List SlotView) → SideBySide first end (xs ++ s ∷ ys) → SideBySide first s.first xs × SideBySide (s.first + s.count) end ys
+pub side_split : (first end : ℕ) (xs : List SlotView) (s : SlotView) (ys : List SlotView) → SideBySide first end (xs ++ s ∷ ys)
+    → SideBySide first s.first xs × SideBySide (s.first + s.count) end ys
 side_split first end [] s ys h = (sym h.0, subst (λ (n : ℕ). SideBySide (n + s.count) end ys) (sym h.0) h.1)
 side_split first end (x ∷ xs) s ys h = let r = side_split (first + x.count) end xs s ys h.1 in ((h.0, r.0), r.1)
 
@@ -91,7 +99,8 @@ side_append first mid end [] ys h k = subst (λ (n : ℕ). SideBySide n end ys) 
 side_append first mid end (x ∷ xs) ys h k = (h.0, side_append (first + x.count) mid end xs ys h.1 k)
 
 -- what the guards show once 512 came in the place of one
-map_parts : (gs more : List (Option (MutexGuard SlotView))) (at : ℕ) → map slot_of (take at gs ++ (more ++ drop (at + 1) gs)) ≡ take at (map slot_of gs) ++ map slot_of more ++ drop (at + 1) (map slot_of gs)
+map_parts : (gs more : List (Option (MutexGuard SlotView))) (at : ℕ) → map slot_of (take at gs ++ (more ++ drop (at + 1) gs)) ≡ take at
+    (map slot_of gs) ++ map slot_of more ++ drop (at + 1) (map slot_of gs)
 map_parts gs more at =
     map-append slot_of (take at gs) (more ++ drop (at + 1) gs)
     ∙ (ap (λ l. map slot_of (take at gs) ++ l) (map-append slot_of more (drop (at + 1) gs))
@@ -104,7 +113,8 @@ cut_at ss at lt =
     let one : suc at ≡ at + 1 = omega arith in
     split_at ss at no_slot lt ∙ ap (λ n. take at ss ++ get_or ss at no_slot ∷ drop n ss) one
 
-pub cuts_first : (range : PageRange) (first end : ℕ) (gs hs more : List (Option (MutexGuard SlotView))) (at : ℕ) (s : SlotView) → IsFirstCrossing range (map slot_of gs) at → s ≡ get_or (map slot_of gs) at no_slot
+pub cuts_first : (range : PageRange) (first end : ℕ) (gs hs more : List (Option (MutexGuard SlotView))) (at : ℕ) (s : SlotView)
+    → IsFirstCrossing range (map slot_of gs) at → s ≡ get_or (map slot_of gs) at no_slot
     → hs ≡ take at gs ++ (more ++ drop (at + 1) gs) → length more ≡ 512 → SideBySide s.first (s.first + s.count) (map slot_of more)
     → CutsFirst range (record { first = first; end = end; slots = map slot_of gs }) (record { first = first; end = end; slots = map slot_of hs })
 cuts_first range first end gs hs more at s h here is count pages = let ss = map slot_of gs in record {
@@ -113,14 +123,16 @@ cuts_first range first end gs hs more at s h here is count pages = let ss = map 
   right = drop (at + 1) ss;
   parts = map slot_of more;
   before = cut_at ss at h.within ∙ ap (λ x. take at ss ++ x ∷ drop (at + 1) ss) (sym here);
-  after = ap (λ l. record { first = first; end = end; slots = map slot_of l }) is ∙ ap (λ l. record { first = first; end = end; slots = l }) (map_parts gs more at);
+  after = ap (λ l. record { first = first; end = end; slots = map slot_of l }) is
+      ∙ ap (λ l. record { first = first; end = end; slots = l }) (map_parts gs more at);
   fits = h.before;
   crosses = rw here (h.crosses no_slot);
   count = length_map more ∙ count;
   pages = pages;
 }
 
-pub still_held : (first end : ℕ) (gs hs more : List (Option (MutexGuard SlotView))) (at : ℕ) (s : SlotView) → at < length (map slot_of gs) → s ≡ get_or (map slot_of gs) at no_slot
+pub still_held : (first end : ℕ) (gs hs more : List (Option (MutexGuard SlotView))) (at : ℕ) (s : SlotView) → at < length (map slot_of gs)
+    → s ≡ get_or (map slot_of gs) at no_slot
     → hs ≡ take at gs ++ (more ++ drop (at + 1) gs) → SideBySide s.first (s.first + s.count) (map slot_of more) → All IsSome more
     → All IsSome gs × SideBySide first end (map slot_of gs) → All IsSome hs × SideBySide first end (map slot_of hs)
 still_held first end gs hs more at s lt here is pages some held =
@@ -130,7 +142,8 @@ still_held first end gs hs more at s lt here is pages some held =
     let left = side_append first s.first (s.first + s.count) (take at ss) (map slot_of more) apart.0 pages in
     let all = side_append first (s.first + s.count) end (take at ss ++ map slot_of more) (drop (at + 1) ss) left apart.1 in
     rw is (
-      All-append IsSome (take at gs) (more ++ drop (at + 1) gs) (All-take IsSome at gs held.0) (All-append IsSome more (drop (at + 1) gs) some (All-drop IsSome (at + 1) gs held.0)),
+      All-append IsSome (take at gs) (more ++ drop (at + 1) gs) (All-take IsSome at gs held.0)
+          (All-append IsSome more (drop (at + 1) gs) some (All-drop IsSome (at + 1) gs held.0)),
       rw (map_parts gs more at) all,
     )
 
@@ -140,7 +153,8 @@ pub cut_done : (range : PageRange) (first end : ℕ) (gs hs ks : List (Option (M
     → All IsSome gs × SideBySide first end (map slot_of gs) → IsFirstCrossing range (map slot_of gs) at → Some slot ≡ get_or gs at (Some slot)
     → from ≡ (mutex_guard_value slot).first → until ≡ from + (mutex_guard_value slot).count → AddsSlots from next n gs hs → (n ≡ 512) × (next ≡ until)
     → ((fs more : List (Option (MutexGuard SlotView))) → hs ≡ fs ++ more → length more ≡ 512 → ks ≡ take at fs ++ (more ++ drop (at + 1) fs))
-    → CutsFirst range (record { first = first; end = end; slots = map slot_of gs }) (record { first = first; end = end; slots = map slot_of ks }) × (All IsSome ks × SideBySide first end (map slot_of ks))
+    → CutsFirst range (record { first = first; end = end; slots = map slot_of gs })
+    (record { first = first; end = end; slots = map slot_of ks }) × (All IsSome ks × SideBySide first end (map slot_of ks))
 cut_done range first end gs hs ks at from until next n slot held crossing item begins ends added done placed =
     let s = mutex_guard_value slot in
     let lt : at < length gs = omega (arith, length_map gs, crossing.within) in
@@ -149,7 +163,8 @@ cut_done range first end gs hs ks at from until next n slot held crossing item b
     let is = placed gs added.more added.are count in
     let last : next ≡ s.first + s.count = done.1 ∙ (ends ∙ ap (λ (k : ℕ). k + s.count) begins) in
     let pages : SideBySide s.first (s.first + s.count) (map slot_of added.more) =
-    subst (λ (k : ℕ). SideBySide k (s.first + s.count) (map slot_of added.more)) begins (subst (λ (k : ℕ). SideBySide from k (map slot_of added.more)) last added.chain) in (
+    subst (λ (k : ℕ). SideBySide k (s.first + s.count) (map slot_of added.more)) begins
+    (subst (λ (k : ℕ). SideBySide from k (map slot_of added.more)) last added.chain) in (
       cuts_first range first end gs ks added.more at s crossing here is count pages,
       still_held first end gs ks added.more at s crossing.within here is pages added.some held,
     )

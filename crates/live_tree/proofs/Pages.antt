@@ -23,7 +23,8 @@ pub record HasPage (s : SlotView) (p : ℕ) : Type 0 where
   pub from : s.first ≤ p
   pub until : p < s.first + s.count
 
-pub slot_at_has : (P : SlotView → Type 0) (first end : ℕ) (ss : List SlotView) (p : ℕ) → SideBySide first end ss → All P ss → first ≤ p → p < end → P (slot_at ss p) × HasPage (slot_at ss p) p
+pub slot_at_has : (P : SlotView → Type 0) (first end : ℕ) (ss : List SlotView) (p : ℕ) → SideBySide first end ss → All P ss → first ≤ p
+    → p < end → P (slot_at ss p) × HasPage (slot_at ss p) p
 slot_at_has P first end [] p side all low high = absurd (omega (arith, side))
 slot_at_has P first end (s ∷ ss) p side all low high =
     let test = nat_lt p (s.first + s.count) in
@@ -57,7 +58,8 @@ page_now (Put range meta) p info = Some (unused (advance meta (p - range.first))
 page_now (Clear range) p info = None
 page_now (Protect range prot) p info = info_with_prot prot info
 
-changed_page : (change : Change) (ss : List SlotView) (p : ℕ) → (changed (shown ss) change).info p ≡ cond (has (range_of change) p) (page_now change p ((shown ss).info p)) ((shown ss).info p)
+changed_page : (change : Change) (ss : List SlotView) (p : ℕ) → (changed (shown ss) change).info p ≡ cond (has (range_of change) p)
+    (page_now change p ((shown ss).info p)) ((shown ss).info p)
 unfolding page_now
 changed_page (Put range meta) ss p = refl
 changed_page (Clear range) ss p = refl
@@ -67,7 +69,8 @@ prot_from : (prot : Prot) (o : Option PageInfo) (n : ℕ) → info_from (info_wi
 prot_from prot None n = refl
 prot_from prot (Some info) n = refl
 
-inside_page : (change : Change) (s : SlotView) (p : ℕ) → HasPage s p → (range_of change).first ≤ s.first → info_from (after s.content (act_on change s)) (p - s.first) ≡ page_now change p (content_at s p)
+inside_page : (change : Change) (s : SlotView) (p : ℕ) → HasPage s p → (range_of change).first ≤ s.first
+    → info_from (after s.content (act_on change s)) (p - s.first) ≡ page_now change p (content_at s p)
 unfolding page_now
 inside_page (Put range meta) s p here low =
     let n : s.first - range.first + (p - s.first) ≡ p - range.first = omega (arith, here.from) in
@@ -89,12 +92,18 @@ inside_low : (range : PageRange) (s : SlotView) → is_inside range s ≡ true �
 inside_low range s h = grind (arith, nat_tests)
 
 committed_page : (change : Change) (s : SlotView) (p : ℕ) → HasPage s p → (b : Bool) → is_inside (range_of change) s ≡ b
-    → info_from (cond b (record s { content = after s.content (act_on change s) }) s).content (p - s.first) ≡ cond b (page_now change p (content_at s p)) (content_at s p)
+    → info_from (cond b (record s { content = after s.content (act_on change s) }) s).content (p - s.first) ≡ cond b
+    (page_now change p (content_at s p)) (content_at s p)
 committed_page change s p here true e = inside_page change s p here (inside_low (range_of change) s e)
 committed_page change s p here false e = refl
 
 content_of : (ticket : ℕ) (change : Change) (s : SlotView) (p : ℕ) → (b : Bool)
-    → content_at (cond b (record s { content = after s.content (act_on change s); changes = s.changes ++ dated ticket (act_on change s) ∷ []; room = s.room - 1 }) s) p
+    → content_at
+    (cond b (record s {
+      content = after s.content (act_on change s);
+      changes = s.changes ++ dated ticket (act_on change s) ∷ [];
+      room = s.room - 1;
+    }) s) p
     ≡ info_from (cond b (record s { content = after s.content (act_on change s) }) s).content (p - s.first)
 content_of ticket change s p true = refl
 content_of ticket change s p false = refl

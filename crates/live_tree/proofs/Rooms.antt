@@ -9,13 +9,15 @@ use Rattle.live_tree.specs.Guards.{slot_of}
 use Rattle.live_tree.specs.Held.{AreAlike, SideBySide, without_room}
 
 -- a change of one guard that leaves its slot as it is but for room
-set_alike : (xs : List (Option (MutexGuard SlotView))) (i : ℕ) (x y : Option (MutexGuard SlotView)) → i < length xs → x ≡ get_or xs i x → without_room (slot_of y) ≡ without_room (slot_of x)
+set_alike : (xs : List (Option (MutexGuard SlotView))) (i : ℕ) (x y : Option (MutexGuard SlotView)) → i < length xs → x ≡ get_or xs i x
+    → without_room (slot_of y) ≡ without_room (slot_of x)
     → AreAlike (map slot_of (set xs i y)) (map slot_of xs)
 set_alike [] i x y lt is e = absurd (omega arith)
 set_alike (z ∷ zs) zero x y lt is e = ap (λ w. w ∷ map without_room (map slot_of zs)) (e ∙ ap (λ v. without_room (slot_of v)) is)
 set_alike (z ∷ zs) (suc i) x y lt is e = ap (λ l. without_room (slot_of z) ∷ l) (set_alike zs i x y (omega arith) is e)
 
-pub one_alike : (xs ys : List (Option (MutexGuard SlotView))) (i : ℕ) (x y : Option (MutexGuard SlotView)) → i < length xs → x ≡ get_or xs i x → without_room (slot_of y) ≡ without_room (slot_of x)
+pub one_alike : (xs ys : List (Option (MutexGuard SlotView))) (i : ℕ) (x y : Option (MutexGuard SlotView)) → i < length xs
+    → x ≡ get_or xs i x → without_room (slot_of y) ≡ without_room (slot_of x)
     → AreAlike (map slot_of xs) (map slot_of ys) → AreAlike (map slot_of (set xs i y)) (map slot_of ys)
 one_alike xs ys i x y lt is e h = set_alike xs i x y lt is e ∙ h
 
@@ -27,7 +29,8 @@ pub alike_length : (xs ys : List (Option (MutexGuard SlotView))) → AreAlike (m
 alike_length xs ys h = sym (length_maps xs) ∙ (ap length h ∙ length_maps ys)
 
 -- one more of the first items has what they all have
-pub All-take-set : {X Y : Type 0} (f : X → Y) (P : Y → Type 0) (xs : List X) (i : ℕ) (y : X) → i < length xs → All P (map f (take i xs)) → P (f y) → All P (map f (take (i + 1) (set xs i y)))
+pub All-take-set : {X Y : Type 0} (f : X → Y) (P : Y → Type 0) (xs : List X) (i : ℕ) (y : X) → i < length xs → All P (map f (take i xs))
+    → P (f y) → All P (map f (take (i + 1) (set xs i y)))
 All-take-set f P xs i y lt h p = rw (take_more_set xs i y lt, map-append f (take i xs) (y ∷ [])) (All-append P (map f (take i xs)) (f y ∷ []) h one)
   where
     one : All P (f y ∷ [])

@@ -167,7 +167,8 @@ fn commit_all<'a, A: Allocator>(guards: &mut Guards<'a, A>, ticket: u64, change:
     requires room { All (HasRoom (range_of change)) (map slot_of guards.old.items) }
     requires files { FitsFiles change }
     ensures some { All IsSome guards.new.items }
-    ensures slots { map slot_of guards.new.items ≡ map (committed ticket change) (map slot_of guards.old.items) }
+    ensures slots { map slot_of guards.new.items ≡ map (committed ticket change)
+        (map slot_of guards.old.items) }
 {
     'guards: for guard in guards.as_mut_slice().iter_mut() {
         commit_at(guard, ticket, change);

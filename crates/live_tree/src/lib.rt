@@ -4,6 +4,4 @@
 pub mod held;
 pub mod histories;
 pub mod letting;
-#[cfg(test)]
-mod tests;
 pub mod tree;

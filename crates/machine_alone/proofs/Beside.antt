@@ -160,7 +160,15 @@ no_left (m ∷ ms) e = absurd (go m.is_cleared e)
 stepped : (w v : World) (core : ℕ) (r : IsResting w core) (c : ℕ) (o : Outcome) (h : Hardware) → h.inbox ≡ w.hardware.inbox → 0 < left_to w c
     → Becomes (with_hardware (with_inbox h c (remaining (w.hardware.inbox c))) (with_event w)) o v → IsBesideCalls w v × ComesBeside w (Take c) o v
 stepped w v core r c o h inbox some k = (
-  subst (IsBesideCalls w) (sym k.1) (record { made = refl; phases = refl; numbers = refl; requests = refl; log = refl; users = λ p d. refl; frames = least (frames_taken w) }),
+  subst (IsBesideCalls w) (sym k.1) (record {
+    made = refl;
+    phases = refl;
+    numbers = refl;
+    requests = refl;
+    log = refl;
+    users = λ p d. refl;
+    frames = least (frames_taken w);
+  }),
   inl (k.0, some, λ d. ap (λ (v : World). left_to v d) k.1 ∙ left d),
 )
   where
@@ -172,12 +180,15 @@ stepped w v core r c o h inbox some k = (
     left d = put_both (λ d ms n. takes_left ms ≡ n) h.inbox (left_to w) c (remaining (w.hardware.inbox c)) (pred (left_to w c)) less
         (λ j ne. ap (λ (i : ℕ → List Message). takes_left (i j)) inbox) d
 
-taken : (w v : World) (core : ℕ) (r : IsResting w core) (c : ℕ) (o : Outcome) (took : Took) → asked (w.hardware.inbox c) ≡ took → TakesMessage (with_event w) c took o v
+taken : (w v : World) (core : ℕ) (r : IsResting w core) (c : ℕ) (o : Outcome) (took : Took) → asked (w.hardware.inbox c) ≡ took
+    → TakesMessage (with_event w) c took o v
     → IsBesideCalls w v × ComesBeside w (Take c) o v
 taken w v core r c o TookOf.Idle e h =
     let k = idles w v h.1 in (k.0, inr (h.0, inl (no_left (w.hardware.inbox c) e), k.1))
-taken w v core r c o (TookOf.Clear range) e h = stepped w v core r c o (tables_cleared w.hardware c range) refl (some_left (w.hardware.inbox c) (TookOf.Clear range) e (λ i. cc)) h
-taken w v core r c o (TookOf.Invalidate range) e h = stepped w v core r c o (tlb_invalidated w.hardware c range) refl (some_left (w.hardware.inbox c) (TookOf.Invalidate range) e (λ i. cc)) h
+taken w v core r c o (TookOf.Clear range) e h = stepped w v core r c o (tables_cleared w.hardware c range) refl
+    (some_left (w.hardware.inbox c) (TookOf.Clear range) e (λ i. cc)) h
+taken w v core r c o (TookOf.Invalidate range) e h = stepped w v core r c o (tlb_invalidated w.hardware c range) refl
+    (some_left (w.hardware.inbox c) (TookOf.Invalidate range) e (λ i. cc)) h
 
 flushed : (w v : World) (o : Outcome) (report : FlushReport) (counts : Counts) → ReportsFlush (with_event w) report counts o v
     → IsBesideCalls w v × (((o ≡ Stepped) ⊎ (o ≡ Idle)) × KeepsTakes w v)
@@ -229,7 +240,8 @@ acted w v core (GiveUp c) o r b h =
     (λ touch frame p z. let i = not_given_up w v core r c touch frame o p b z in let k = idles w v i.1 in (k.0, (i.0, k.1))) h
 acted w v core (Take c) o r b h = taken w v core r c o (asked (w.hardware.inbox c)) refl h
 acted w v core (Walk c p) o r b h =
-    either w v o (with_hardware (after_walk w.hardware c p) (with_event w)) (by_cond (can_walk w.hardware c p) _ _ h) (λ e. by_hardware w _ v refl refl refl refl (least (frames_taken w)) e)
+    either w v o (with_hardware (after_walk w.hardware c p) (with_event w)) (by_cond (can_walk w.hardware c p) _ _ h)
+    (λ e. by_hardware w _ v refl refl refl refl (least (frames_taken w)) e)
 acted w v core (Evict c p) o r b h =
     either w v o (with_hardware (after_eviction w.hardware c p) (with_event w)) (by_cond (is_some (tlb_at (w.hardware.tlb c) p)) _ _ h)
     (λ e. by_hardware w _ v refl refl refl refl (least (frames_taken w)) e)
@@ -259,7 +271,8 @@ rests_beside w v core e o r b below s = go (nat_lt w.calls.events event_limit) (
     test : (a b : ℕ) → a < b → nat_lt a b ≡ true
     test a b h = grind (arith, nat_tests)
 
-    go : (x y : Bool) → x ≡ true → is_here w.made (core_of e) ≡ y → cond x (cond y (Acts (with_event w) e o v) (Idles (with_event w) o v)) ((o ≡ Full) × (v ≡ w))
+    go : (x y : Bool) → x ≡ true → is_here w.made (core_of e) ≡ y → cond x (cond y (Acts (with_event w) e o v) (Idles (with_event w) o v))
+        ((o ≡ Full) × (v ≡ w))
         → IsBesideCalls w v × ComesBeside w e o v
     go true true i j k = acted w v core e o r b k
     go true false i j k = absent w v e o b j k

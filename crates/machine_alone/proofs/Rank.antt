@@ -102,7 +102,8 @@ all_rank m reach (To.Access touch) = refl
 pub lock_less : (m : ℕ) (reach old : Touch → Option ℕ) (goal : Goal) (cursor b : ℕ) → cursor < b → b ≤ (goal_range goal).end
     → rank m reach (locked_to goal b) < rank m old (Lock goal cursor)
 lock_less m reach old goal cursor b l n =
-    by_test (λ phase. rank m reach phase < m + (((goal_range goal).end - cursor) + locked_rank goal)) (nat_le (goal_range goal).end b) (all_locked goal) (Lock goal b)
+    by_test (λ phase. rank m reach phase < m + (((goal_range goal).end - cursor) + locked_rank goal)) (nat_le (goal_range goal).end b)
+    (all_locked goal) (Lock goal b)
     (λ _. let a = all_rank m reach goal in omega (arith, a)) (λ _. omega arith)
 
 pub unlock_less : (m n : ℕ) (reach old : Touch → Option ℕ) (held : PageRange) (reply : Reply) (b : ℕ) → held.first < b → b ≤ held.end

@@ -143,7 +143,8 @@ moves_near first w c new v f sure (shows touch e n u k) h =
 due_reply : (first : ℕ → Bool) (reply : Reply) → IsReply reply → IsDueReply first reply
 due_reply first reply i core step call = due_so (Go core) first step call core reply i
 
-sure_gone : (first free : ℕ → Bool) (reach : Touch → Option ℕ) (held : Option PageRange) (reply : Reply) → IsDueReply first reply → IsSure first free reach (let_go held reply)
+sure_gone : (first free : ℕ → Bool) (reach : Touch → Option ℕ) (held : Option PageRange) (reply : Reply) → IsDueReply first reply
+    → IsSure first free reach (let_go held reply)
 sure_gone first free reach None reply h = h
 sure_gone first free reach (Some held) reply h = h
 
@@ -171,13 +172,15 @@ replies_near : (first : ℕ → Bool) (w : World) (c : ℕ) (held : Option PageR
     → Replies w c held reply → v ≡ after_reply c held reply w → Nears first w c v
 replies_near first w c held reply v f sure (refuses request e h j) k =
     tells_near first w c (Check request) held reply w.slots w.hardware w.memory v e k
-    (subst (λ o. rank_of w.slots (reach_of w.hardware c) (let_go o reply) < 2 ^ 37) (sym h) (omega arith)) (due_reply first reply (refused w f.plain c request reply f.good j).0)
+    (subst (λ o. rank_of w.slots (reach_of w.hardware c) (let_go o reply) < 2 ^ 37) (sym h) (omega arith))
+    (due_reply first reply (refused w f.plain c request reply f.good j).0)
 replies_near first w c held reply v f sure (no_place request place e h r j) k =
     tells_near first w c (Check request) held reply w.slots w.hardware w.memory v e k
     (subst (λ o. rank_of w.slots (reach_of w.hardware c) (let_go o reply) < 2 ^ 37) (sym h) (omega arith)) (due_reply first reply (subst IsReply (sym r) tt))
 replies_near first w c held reply v f sure (declines change errno e h r d) k =
     tells_near first w c (Decide change) held reply w.slots w.hardware w.memory v e k
-    (subst (λ o. rank_of w.slots (reach_of w.hardware c) (let_go o reply) < rank_of w.slots (reach_of w.hardware c) (Decide change)) (sym h) (omega arith)) (due_reply first reply (subst IsReply (sym r) tt))
+    (subst (λ o. rank_of w.slots (reach_of w.hardware c) (let_go o reply) < rank_of w.slots (reach_of w.hardware c) (Decide change))
+    (sym h) (omega arith)) (due_reply first reply (subst IsReply (sym r) tt))
 replies_near first w c held reply v f sure (fails touch e h x) k =
     tells_near first w c (Settle touch) held reply w.slots w.hardware w.memory v e k
     (subst (λ o. rank_of w.slots (reach_of w.hardware c) (let_go o reply) < 12) (sym h) (omega arith)) (due_reply first reply (fault_is_reply (found_at w touch) reply x))

@@ -181,8 +181,10 @@ serves_on free w t c request copy x v h s effect made sure storable asks used_no
       copy = copy;
       reached = reached_step x v (Go c) Stepped h.reached s;
       inside = ap (λ m. nat_lt c m.cores) made ∙ h.inside;
-      first = subst (λ rs. Replays rs (nothing_mapped v.made.file) w.calls.log t) (sym same.requests) (subst (λ m. Replays x.calls.requests (nothing_mapped m.file) w.calls.log t) (sym made) h.first);
-      number = subst (λ rs. nth rs (v.calls.number c) ≡ Some request) (sym same.requests) (subst (λ (call : ℕ → ℕ). nth x.calls.requests (call c) ≡ Some request) (sym same.number) h.number);
+      first = subst (λ rs. Replays rs (nothing_mapped v.made.file) w.calls.log t) (sym same.requests)
+          (subst (λ m. Replays x.calls.requests (nothing_mapped m.file) w.calls.log t) (sym made) h.first);
+      number = subst (λ rs. nth rs (v.calls.number c) ≡ Some request) (sym same.requests)
+          (subst (λ (call : ℕ → ℕ). nth x.calls.requests (call c) ≡ Some request) (sym same.number) h.number);
       others = λ d ne. closed_free (v.calls.phase d) (closed d ne);
       logged = subst (λ (call : ℕ → ℕ). IsLoggedOf w.calls.log (call c) copy c v) (sym same.number) logged;
       sure = sure;
@@ -267,8 +269,11 @@ begun w c request m (happens n shape) s = go shape
     go (rests r e) = absurd (none r)
     go (begins d r e k lt p below h) =
         let core : c ≡ d = cc in
-        let same : request ≡ r = cc in
-        (subst (λ n. nat_lt n w.made.cores ≡ true) (sym core) (test d w.made.cores lt), h ∙ ap (λ n. after_call n r (with_event w)) (sym core) ∙ ap (λ q. after_call c q (with_event w)) (sym same))
+        let same : request ≡ r = cc in (
+          subst (λ n. nat_lt n w.made.cores ≡ true) (sym core) (test d w.made.cores lt),
+          h ∙ ap (λ n. after_call n r (with_event w))
+              (sym core) ∙ ap (λ q. after_call c q (with_event w)) (sym same),
+        )
     go (ends d reply e k lt p h) = absurd cc
     go (goes d e k lt g) = absurd (no_going d (Call c request) e refl)
     go (gives_up d e s lt can u h) = absurd cc
@@ -285,7 +290,8 @@ starts w t c request m reached leads calm s =
         reached = subst IsReached k.1 (reached_step w m (Call c request) Stepped reached s);
         inside = k.0;
         first = replays_requests w.calls.requests request w.calls.log (nothing_mapped w.made.file) t leads;
-        number = subst (λ n. nth x.calls.requests n ≡ Some request) (sym (put_same w.calls.number c (suc (length w.calls.requests)))) (at_new w.calls.requests request);
+        number = subst (λ n. nth x.calls.requests n ≡ Some request) (sym (put_same w.calls.number c (suc (length w.calls.requests))))
+            (at_new w.calls.requests request);
         others = λ d ne. put_other w.calls.phase c (Check request) d ne ∙ calm d;
         logged = subst (λ phase. IsLogged w.calls.log w.calls.log (x.calls.number c) c None (status phase))
             (sym (put_same w.calls.phase c (Check request))) refl;

@@ -87,7 +87,8 @@ told_message [] c range = ap (λ b. is_some (if b then Some (posted c range) els
     same c = grind (arith, nat_tests)
 told_message (m ∷ ms) c range = go (m.from == c) (told_message ms c range)
   where
-    go : (b : Bool) → is_some (message_of (ms ++ posted c range ∷ []) c) ≡ true → is_some (if b then Some m else message_of (ms ++ posted c range ∷ []) c) ≡ true
+    go : (b : Bool) → is_some (message_of (ms ++ posted c range ∷ []) c) ≡ true
+        → is_some (if b then Some m else message_of (ms ++ posted c range ∷ []) c) ≡ true
     go true h = refl
     go false h = h
 
@@ -122,7 +123,8 @@ left_is_awaited phase d (m ∷ ms) c only h = go (m.from == c) refl
     go false e = absurd (let a = only m.from (eq_false m.from c e) in let b = h.1 in cc)
 
 -- the cores that are to be told are those that are recorded on the pages
-acts_users : (files : ℕ → Option File) (s : Slots) (change : Change) (changes : PageRange) (shoot : ℕ) → Decides files s (PlanOf.Change change) (Act changes shoot)
+acts_users : (files : ℕ → Option File) (s : Slots) (change : Change) (changes : PageRange) (shoot : ℕ)
+    → Decides files s (PlanOf.Change change) (Act changes shoot)
     → (core : ℕ) → (members shoot core ≡ true) ↔ IsUser s (range_of change) core
 acts_users files s (Put range meta) changes shoot h = h.1
 acts_users files s (Clear range) changes shoot h = h.1
@@ -230,10 +232,12 @@ taken_untold touch None f = refl
 taken_untold touch (Some g) f = refl
 
 -- with its reply
-replied_untold : (c : ℕ) (held : Option PageRange) (reply : Reply) (x v : World) → v ≡ after_reply c held reply x → IsTold v.slots v.hardware c (v.calls.phase c)
+replied_untold : (c : ℕ) (held : Option PageRange) (reply : Reply) (x v : World) → v ≡ after_reply c held reply x
+    → IsTold v.slots v.hardware c (v.calls.phase c)
 replied_untold c held reply x v h =
     subst (λ (v : World). IsTold v.slots v.hardware c (v.calls.phase c)) (sym h)
-    (untold x.slots x.hardware c (put x.calls.phase c (let_go held reply) c) (ap awaits_in (put_same x.calls.phase c (let_go held reply)) ∙ let_go_untold held reply))
+    (untold x.slots x.hardware c (put x.calls.phase c (let_go held reply) c) (ap awaits_in (put_same x.calls.phase c (let_go held reply))
+    ∙ let_go_untold held reply))
 
 -- with the messages sent
 posted_told : (w : World) (c : ℕ) (new : Phase) (shoot : ℕ) (range : PageRange) (v : World) → Fine w → ((b : ℕ) → b ≢ c → w.calls.phase b ≡ Free)

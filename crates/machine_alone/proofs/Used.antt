@@ -253,7 +253,8 @@ user_same a b page c s p d =
     put_both (λ p f g. f d ≡ g d) a b page (put (a page) c true) (put (b page) c true)
     (put_both (λ d x y. x ≡ y) (a page) (b page) c true true refl (λ j ne. s page j) d) (λ j ne. s j d) p
 
-usable_info : (file : ℕ → Option File) (o : Option PageInfo) (access : Access) (frame : Option ℕ) → IsUsable file o access frame → (info : PageInfo) × (o ≡ Some info)
+usable_info : (file : ℕ → Option File) (o : Option PageInfo) (access : Access) (frame : Option ℕ) → IsUsable file o access frame
+    → (info : PageInfo) × (o ≡ Some info)
 usable_info file None access frame u = absurd u
 usable_info file (Some info) access frame u = (info, refl)
 

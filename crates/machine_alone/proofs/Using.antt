@@ -299,8 +299,10 @@ pub filled_same : (s : Slots) (page f : ℕ) → Same (recorded (with_info s pag
 filled_same s page f p c =
     put_all (λ p o. is_recorded o c ≡ is_recorded (s.info p) c) s.info page (info_with_frame f (s.info page)) (framed_same f (s.info page) c) (λ j ne. refl) p
 
-core_added : (core : ℕ) (o : Option PageInfo) (info : PageInfo) → o ≡ Some info → (c : ℕ) → is_recorded (info_with_core core o) c ≡ put (is_recorded o) core true c
-core_added core o info e c = subst (λ o. is_recorded (info_with_core core o) c ≡ put (is_recorded o) core true c) (sym e) (ap (λ f. f c) (members_with info.cores core))
+core_added : (core : ℕ) (o : Option PageInfo) (info : PageInfo) → o ≡ Some info → (c : ℕ) → is_recorded (info_with_core core o) c ≡ put
+    (is_recorded o) core true c
+core_added core o info e c = subst (λ o. is_recorded (info_with_core core o) c ≡ put (is_recorded o) core true c) (sym e)
+    (ap (λ f. f c) (members_with info.cores core))
 
 pub installed_adds : (s : Slots) (page core : ℕ) (info : PageInfo) → s.info page ≡ Some info
     → Same (recorded (with_info s page (info_with_core core (s.info page)))) (with_user page core (recorded s))

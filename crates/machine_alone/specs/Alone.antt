@@ -115,14 +115,16 @@ pub record IsAwaiting (w x : World) (t : Plain) (core : ℕ) (request : Request)
 -- reply, which drops no other user, or waits for other cores' acknowledgements.
 pub record IsServedAlone (w : World) (t : Plain) (core : ℕ) (request : Request) (begun : World) : Type 0 where
   pub short : (n : ℕ) (x : World) → StepsTo begun core n x → n < 2 ^ 40
-  pub ends : (n : ℕ) (x v : World) (outcome : Outcome) → StepsTo begun core n x → Step x (Go core) outcome v → outcome ≢ Stepped
+  pub ends : (n : ℕ) (x v : World) (outcome : Outcome) → StepsTo begun core n x → Step x (Go core) outcome v
+      → outcome ≢ Stepped
       → x.calls.events < event_limit
       → ((k : IsServed w t core request outcome v) × KeepsOthers t (recorded w.slots) core request k.reply)
       ⊎ IsAwaiting w x t core request outcome v
 
 -- in each state that a machine reaches, with any number of cores
 abbrev pub AllLoneCallsAreAnswered : Type 0
-AllLoneCallsAreAnswered = (w begun : World) (t : Plain) (core : ℕ) (request : Request) → IsReached w → LeadsTo w t → IsCalm w
+AllLoneCallsAreAnswered = (w begun : World) (t : Plain) (core : ℕ) (request : Request) → IsReached w → LeadsTo w t
+    → IsCalm w
     → Step w (Call core request) Stepped begun → IsServedAlone w t core request begun
 
 -- ---- a call that waits
@@ -145,12 +147,14 @@ pub record IsAnsweredAtLast (w : World) (t : Plain) (core : ℕ) (request : Requ
 -- The same of a call that waits in w: once nobody is awaited, it is answered.
 pub record IsServedAtLast (w : World) (t : Plain) (core : ℕ) (request : Request) : Type 0 where
   pub short : (n : ℕ) (x : World) → StepsTo w core n x → n < 2 ^ 40
-  pub ends : (n : ℕ) (x v : World) (outcome : Outcome) → StepsTo w core n x → Step x (Go core) outcome v → outcome ≢ Stepped
+  pub ends : (n : ℕ) (x v : World) (outcome : Outcome) → StepsTo w core n x → Step x (Go core) outcome v
+      → outcome ≢ Stepped
       → x.calls.events < event_limit
       → IsAnsweredAtLast w t core request outcome v ⊎ IsAwaitingStill w outcome v
 
 abbrev pub AllWaitingCallsAreAnswered : Type 0
-AllWaitingCallsAreAnswered = (w : World) (t : Plain) (core : ℕ) (request : Request) → IsWaiting w t core request → IsServedAtLast w t core request
+AllWaitingCallsAreAnswered = (w : World) (t : Plain) (core : ℕ) (request : Request) → IsWaiting w t core request
+    → IsServedAtLast w t core request
 
 -- ---- what happens beside a call that waits, or where no core has a call
 

@@ -11,12 +11,14 @@ use Rattle.machine_sound.specs.Sound.{IsReached}
 
 -- the footprints of the calls of cores c and d have no page in common
 abbrev pub AreApart : World → ℕ → ℕ → Type 0
-AreApart w c d = (p : ℕ) → some_has (range_in (w.calls.phase c)) p ≡ true → some_has (range_in (w.calls.phase d)) p ≡ true → ⊥
+AreApart w c d = (p : ℕ) → some_has (range_in (w.calls.phase c)) p ≡ true
+    → some_has (range_in (w.calls.phase d)) p ≡ true → ⊥
 
 -- No page is held by two calls, and a call doesn't wait for a slot of another whose footprint is apart from its own.
 pub record KeepApart (w : World) : Type 0 where
   pub held : (c d p : ℕ) → holds (w.calls.phase c) p ≡ true → holds (w.calls.phase d) p ≡ true → c ≡ d
-  pub waits : (c d : ℕ) (outcome : Outcome) (v : World) → AreApart w c d → Step w (Go c) outcome v → outcome ≡ Wait (WaitsFor.Slot d) → ⊥
+  pub waits : (c d : ℕ) (outcome : Outcome) (v : World) → AreApart w c d → Step w (Go c) outcome v
+      → outcome ≡ Wait (WaitsFor.Slot d) → ⊥
 
 abbrev pub AllCallsKeepApart : Type 0
 AllCallsKeepApart = (w : World) → IsReached w → KeepApart w

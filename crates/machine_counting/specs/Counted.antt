@@ -54,7 +54,8 @@ abbrev pub IsCountedState : World → Type 0
 IsCountedState w = IsCounted w.slots.info w.calls.phase w.memory
 
 abbrev pub AllStepsKeepCounts : Type 0
-AllStepsKeepCounts = (w v : World) (e : Event) (o : Outcome) → IsOrderly w → IsCountedState w → Step w e o v → IsCountedState v
+AllStepsKeepCounts = (w v : World) (e : Event) (o : Outcome) → IsOrderly w → IsCountedState w → Step w e o v
+    → IsCountedState v
 
 abbrev pub AllOpeningsAreCounted : Type 0
 AllOpeningsAreCounted = (made : Made) (slots : Slots) → IsNew slots → IsCountedState (new_world made slots)

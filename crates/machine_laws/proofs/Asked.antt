@@ -9,7 +9,8 @@ use Rattle.machine_model.specs.World.{Made}
 use Rattle.machine_laws.specs.Orderly.{IsAsked, ServesSome}
 use Rattle.machine_laws.proofs.Numbered.{at_old}
 
-serves_more : (made : Made) (rs : List Request) (r : Request) (c n : ℕ) (plan : Option Plan) → ServesSome made rs c n plan → ServesSome made (rs ++ r ∷ []) c n plan
+serves_more : (made : Made) (rs : List Request) (r : Request) (c n : ℕ) (plan : Option Plan) → ServesSome made rs c n plan
+    → ServesSome made (rs ++ r ∷ []) c n plan
 serves_more made rs r c n None h = h
 serves_more made rs r c n (Some plan) h = record { request = h.request; number = at_old rs r n h.request h.number; passed = h.passed }
 

@@ -49,17 +49,20 @@ pub record Chronicle (n : ℕ) (calls : List Begun) (requests : List Request) (l
   pub copies : (i step k page : ℕ) → IsDetach log i step k page → IsCopyFor calls log i step k page
   pub stands : (c : ℕ) → Stands n calls log c (call c) (stat c)
 
-before_later : (n : ℕ) (log : List Entry) (call core : ℕ) (reply : Reply) → IsAnsweredBefore n log call core reply → IsAnsweredBefore (suc n) log call core reply
+before_later : (n : ℕ) (log : List Entry) (call core : ℕ) (reply : Reply) → IsAnsweredBefore n log call core reply
+    → IsAnsweredBefore (suc n) log call core reply
 before_later n log call core reply h = (h.0, h.1, h.2, omega (arith, h.3))
 
-stands_later : (n : ℕ) (calls : List Begun) (log : List Entry) (core call : ℕ) (s : Status) → Stands n calls log core call s → Stands (suc n) calls log core call s
+stands_later : (n : ℕ) (calls : List Begun) (log : List Entry) (core call : ℕ) (s : Status) → Stands n calls log core call s
+    → Stands (suc n) calls log core call s
 stands_later n calls log core call Closed h = tt
 stands_later n calls log core call Asked h = h
 stands_later n calls log core call (Told reply) h = (h.0, before_later n log call core reply h.1)
 
 -- ---- an event that is only counted
 
-chron_keeps : (n : ℕ) (calls : List Begun) (requests : List Request) (log : List Entry) (call : ℕ → ℕ) (stat : ℕ → Status) → Chronicle n calls requests log call stat → Chronicle (suc n) calls requests log call stat
+chron_keeps : (n : ℕ) (calls : List Begun) (requests : List Request) (log : List Entry) (call : ℕ → ℕ) (stat : ℕ → Status)
+    → Chronicle n calls requests log call stat → Chronicle (suc n) calls requests log call stat
 chron_keeps n calls requests log call stat h = record {
   same = h.same;
   before = λ k b e. omega (arith, h.before k b e);
@@ -71,7 +74,8 @@ chron_keeps n calls requests log call stat h = record {
   stands = λ c. stands_later n calls log c (call c) (stat c) (h.stands c);
 }
 
-chron_stat : (n : ℕ) (calls : List Begun) (requests : List Request) (log : List Entry) (call : ℕ → ℕ) (stat new : ℕ → Status) → ((c : ℕ) → new c ≡ stat c) → Chronicle n calls requests log call stat → Chronicle n calls requests log call new
+chron_stat : (n : ℕ) (calls : List Begun) (requests : List Request) (log : List Entry) (call : ℕ → ℕ) (stat new : ℕ → Status)
+    → ((c : ℕ) → new c ≡ stat c) → Chronicle n calls requests log call stat → Chronicle n calls requests log call new
 chron_stat n calls requests log call stat new e h = record {
   same = h.same;
   before = h.before;
@@ -104,7 +108,8 @@ abbrev pub is_reply : Entry → Bool
 is_reply (Answer step call core reply) = true
 is_reply (Detach step call page) = false
 
-chron_tells : (n : ℕ) (calls : List Begun) (requests : List Request) (log : List Entry) (call : ℕ → ℕ) (stat : ℕ → Status) (c : ℕ) (reply : Reply) → stat c ≡ Asked → Chronicle n calls requests log call stat
+chron_tells : (n : ℕ) (calls : List Begun) (requests : List Request) (log : List Entry) (call : ℕ → ℕ) (stat : ℕ → Status) (c : ℕ)
+    (reply : Reply) → stat c ≡ Asked → Chronicle n calls requests log call stat
     → Chronicle (suc n) calls requests (log ++ Answer n (call c) c reply ∷ []) call (put stat c (Told reply))
 chron_tells n calls requests log call stat c reply e h = record {
   same = h.same;
@@ -269,8 +274,10 @@ latest_new calls b = record {
   ];
 }
 
-chron_opens : (n : ℕ) (calls : List Begun) (requests : List Request) (log : List Entry) (call : ℕ → ℕ) (stat : ℕ → Status) (c : ℕ) (request : Request) → Chronicle n calls requests log call stat
-    → Chronicle (suc n) (calls ++ record { core = c; request = request; step = n } ∷ []) (requests ++ request ∷ []) log (put call c (suc (length requests))) (put stat c Asked)
+chron_opens : (n : ℕ) (calls : List Begun) (requests : List Request) (log : List Entry) (call : ℕ → ℕ) (stat : ℕ → Status) (c : ℕ)
+    (request : Request) → Chronicle n calls requests log call stat
+    → Chronicle (suc n) (calls ++ record { core = c; request = request; step = n } ∷ []) (requests ++ request ∷ []) log
+    (put call c (suc (length requests))) (put stat c Asked)
 chron_opens n calls requests log call stat c request h = record {
   same = ap (λ l. l ++ request ∷ []) h.same ∙ sym (requests_more calls);
   before = λ k b e. elim (at_either calls new k b e) [
@@ -320,14 +327,18 @@ none_more calls more h = ap (λ l. calls ++ l) h ∙ go calls
     go (x ∷ xs) = ap (λ l. x ∷ l) (go xs)
 
 -- where w is the state with the event counted
-after_effect : (calls : List Begun) (w : World) (e : Event) (o : Outcome) (v : World) → Chronicle w.calls.events calls w.calls.requests w.calls.log w.calls.number (statuses w) → Effect w e o v
+after_effect : (calls : List Begun) (w : World) (e : Event) (o : Outcome) (v : World)
+    → Chronicle w.calls.events calls w.calls.requests w.calls.log w.calls.number (statuses w) → Effect w e o v
     → Kept (calls ++ begun_by w.calls.events e o) v
 after_effect calls w e o v h (keeps q k l s) =
     subst (λ b. Kept b v) (sym (none_more calls (begun_by w.calls.events e o) (q.0 w.calls.events)))
-    (rw (k.events, k.requests, k.number, l) (chron_stat (suc w.calls.events) calls w.calls.requests w.calls.log w.calls.number (statuses w) (statuses v) s (chron_keeps w.calls.events calls w.calls.requests w.calls.log w.calls.number (statuses w) h)))
+    (rw (k.events, k.requests, k.number, l) (chron_stat (suc w.calls.events) calls w.calls.requests w.calls.log w.calls.number (statuses w)
+    (statuses v) s (chron_keeps w.calls.events calls w.calls.requests w.calls.log w.calls.number (statuses w) h)))
 after_effect calls w e o v h (tells c reply q k a l s) =
     subst (λ b. Kept b v) (sym (none_more calls (begun_by w.calls.events e o) (q.0 w.calls.events)))
-    (rw (k.events, k.requests, k.number, l) (chron_stat (suc w.calls.events) calls w.calls.requests (w.calls.log ++ Answer w.calls.events (w.calls.number c) c reply ∷ []) w.calls.number (put (statuses w) c (Told reply)) (statuses v) s
+    (rw (k.events, k.requests, k.number, l) (chron_stat (suc w.calls.events) calls w.calls.requests
+    (w.calls.log ++ Answer w.calls.events (w.calls.number c) c reply ∷ []) w.calls.number (put (statuses w) c (Told reply))
+    (statuses v) s
     (chron_tells w.calls.events calls w.calls.requests w.calls.log w.calls.number (statuses w) c reply a h)))
 after_effect calls w e o v h (detaches c page request q k a number store l s) =
     subst (λ b. Kept b v) (sym (none_more calls (begun_by w.calls.events e o) (q.0 w.calls.events)))
@@ -336,14 +347,19 @@ after_effect calls w e o v h (detaches c page request q k a number store l s) =
     (chron_detaches w.calls.events calls w.calls.requests w.calls.log w.calls.number (statuses w) c page request a number store h)))
 after_effect calls w e o v h (opens c request f g a k) =
     let new : Begun = record { core = c; request = request; step = w.calls.events } in
-    let now : Kept (calls ++ new ∷ []) (after_call c request w) = chron_stat (suc w.calls.events) (calls ++ new ∷ []) (w.calls.requests ++ request ∷ []) w.calls.log (put w.calls.number c (suc (length w.calls.requests))) (put (statuses w) c Asked) (statuses (after_call c request w))
+    let now : Kept (calls ++ new ∷ []) (after_call c request w) = chron_stat (suc w.calls.events) (calls ++ new ∷ [])
+    (w.calls.requests ++ request ∷ []) w.calls.log (put w.calls.number c (suc (length w.calls.requests))) (put (statuses w) c Asked)
+    (statuses (after_call c request w))
     (put_both (λ d x s. status x ≡ s) w.calls.phase (statuses w) c (Check request) Asked refl (λ d ne. refl))
     (chron_opens w.calls.events calls w.calls.requests w.calls.log w.calls.number (statuses w) c request h) in
-    subst (λ e. Kept (calls ++ begun_by w.calls.events e o) v) (sym f) (subst (λ o. Kept (calls ++ begun_by w.calls.events (Call c request) o) v) (sym g) (subst (Kept (calls ++ new ∷ [])) (sym k) now))
+    subst (λ e. Kept (calls ++ begun_by w.calls.events e o) v) (sym f)
+    (subst (λ o. Kept (calls ++ begun_by w.calls.events (Call c request) o) v) (sym g) (subst (Kept (calls ++ new ∷ [])) (sym k) now))
 after_effect calls w e o v h (closes c reply f g a k) =
-    subst (λ e. Kept (calls ++ begun_by w.calls.events e o) v) (sym f) (subst (λ b. Kept b v) (sym (none_more calls [] refl)) (subst (Kept calls) (sym k) (closed (chron_keeps w.calls.events calls w.calls.requests w.calls.log w.calls.number (statuses w) h))))
+    subst (λ e. Kept (calls ++ begun_by w.calls.events e o) v) (sym f) (subst (λ b. Kept b v) (sym (none_more calls [] refl))
+    (subst (Kept calls) (sym k) (closed (chron_keeps w.calls.events calls w.calls.requests w.calls.log w.calls.number (statuses w) h))))
   where
-    closed : Chronicle (suc w.calls.events) calls w.calls.requests w.calls.log w.calls.number (statuses w) → Chronicle (suc w.calls.events) calls w.calls.requests w.calls.log w.calls.number (statuses (to c Free w))
+    closed : Chronicle (suc w.calls.events) calls w.calls.requests w.calls.log w.calls.number (statuses w)
+        → Chronicle (suc w.calls.events) calls w.calls.requests w.calls.log w.calls.number (statuses (to c Free w))
     closed g = record {
       same = g.same;
       before = g.before;
@@ -495,14 +511,16 @@ parted w (d ∷ es) (p ∷ os) v (suc n) e o g r a b =
     }
 
 -- what is handed out was told before
-told_before : (calls : List Begun) (w : World) (e : Event) (core : ℕ) (reply : Reply) (v : World) → core_of e ≡ Some core → Kept calls w → Effect (with_event w) e (Answered reply) v
+told_before : (calls : List Begun) (w : World) (e : Event) (core : ℕ) (reply : Reply) (v : World) → core_of e ≡ Some core → Kept calls w
+    → Effect (with_event w) e (Answered reply) v
     → (call : ℕ) × IsLatest calls core call × IsAnsweredBefore (suc w.calls.events) w.calls.log call core reply
 told_before calls w e core reply v at h (keeps q k l s) = absurd (let no = q.1 in cc)
 told_before calls w e core reply v at h (tells c r q k a l s) = absurd (let no = q.1 in cc)
 told_before calls w e core reply v at h (detaches c page r q k a number store l s) = absurd (let no = q.1 in cc)
 told_before calls w e core reply v at h (opens c request f g a k) = absurd cc
 told_before calls w e core reply v at h (closes c r f g a k) =
-    let told : Stands (suc w.calls.events) calls w.calls.log c (w.calls.number c) (Told r) = subst (Stands (suc w.calls.events) calls w.calls.log c (w.calls.number c)) a (h.stands c) in
+    let told : Stands (suc w.calls.events) calls w.calls.log c (w.calls.number c) (Told r) = subst
+    (Stands (suc w.calls.events) calls w.calls.log c (w.calls.number c)) a (h.stands c) in
     let same : r ≡ reply = cc in
     let its : core_of e ≡ Some c = ap core_of f in
     let here : c ≡ core = cc (its, at) in

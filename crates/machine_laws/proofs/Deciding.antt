@@ -51,18 +51,24 @@ same_plan core (Load addr) plan u h = h
 same_plan core (Store addr byte) plan u h = h
 same_plan core (Fetch addr) plan u h = h
 
-unrefused : (o : Option Reply) (p q : Result Plan Reply) (plan : Plan) → unless_refused o p ≡ Ok plan → (p ≡ Ok plan → q ≡ Ok plan) → unless_refused o q ≡ Ok plan
+unrefused : (o : Option Reply) (p q : Result Plan Reply) (plan : Plan) → unless_refused o p ≡ Ok plan → (p ≡ Ok plan → q ≡ Ok plan)
+    → unless_refused o q ≡ Ok plan
 unrefused None p q plan h f = f h
 unrefused (Some reply) p q plan h f = absurd cc
 
-pub at_first : (modes : ℕ → Option Mode) (core : ℕ) (request : Request) (plan : Plan) → IsUnplaced plan → checked modes core request ≡ Ok plan → checked modes 0 request ≡ Ok plan
+pub at_first : (modes : ℕ → Option Mode) (core : ℕ) (request : Request) (plan : Plan) → IsUnplaced plan
+    → checked modes core request ≡ Ok plan → checked modes 0 request ≡ Ok plan
 at_first modes core request plan u h = unrefused (refusal modes request) (plan_of core request) (plan_of 0 request) plan h (same_plan core request plan u)
 
-pub change_sound : (modes : ℕ → Option Mode) (core : ℕ) (request : Request) (change : Change) → checked modes core request ≡ Ok (PlanOf.Change change) → IsSoundChange change
-change_sound modes core request change h = checked_is_sound modes 0 request (PlanOf.Change change) (omega arith) (at_first modes core request (PlanOf.Change change) tt h)
+pub change_sound : (modes : ℕ → Option Mode) (core : ℕ) (request : Request) (change : Change)
+    → checked modes core request ≡ Ok (PlanOf.Change change) → IsSoundChange change
+change_sound modes core request change h = checked_is_sound modes 0 request (PlanOf.Change change) (omega arith)
+    (at_first modes core request (PlanOf.Change change) tt h)
 
-pub touch_sound : (modes : ℕ → Option Mode) (core : ℕ) (request : Request) (touch : Touch) → checked modes core request ≡ Ok (PlanOf.Touch touch) → IsSoundTouch touch
-touch_sound modes core request touch h = checked_is_sound modes 0 request (PlanOf.Touch touch) (omega arith) (at_first modes core request (PlanOf.Touch touch) tt h)
+pub touch_sound : (modes : ℕ → Option Mode) (core : ℕ) (request : Request) (touch : Touch)
+    → checked modes core request ≡ Ok (PlanOf.Touch touch) → IsSoundTouch touch
+touch_sound modes core request touch h = checked_is_sound modes 0 request (PlanOf.Touch touch) (omega arith)
+    (at_first modes core request (PlanOf.Touch touch) tt h)
 
 pub sound_range : (change : Change) → IsSoundChange change → IsPageRange (range_of change)
 sound_range (Put range meta) h = h.pages
@@ -77,7 +83,8 @@ pub decides_kept : (files : ℕ → Option File) (s t : Slots) (change : Change)
 decides_kept files s t change d same h = change_alike files s t change d (λ p i. sym (same p i)) h
 
 -- a change acts on its own range
-pub acts_own : (files : ℕ → Option File) (s : Slots) (change : Change) (changes : PageRange) (shoot : ℕ) → Decides files s (PlanOf.Change change) (Act changes shoot) → changes ≡ range_of change
+pub acts_own : (files : ℕ → Option File) (s : Slots) (change : Change) (changes : PageRange) (shoot : ℕ)
+    → Decides files s (PlanOf.Change change) (Act changes shoot) → changes ≡ range_of change
 acts_own files s (Put range meta) changes shoot h = h.0
 acts_own files s (Clear range) changes shoot h = h.0
 acts_own files s (Protect range prot) changes shoot (no_page a e) = absurd cc

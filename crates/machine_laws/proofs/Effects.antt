@@ -266,11 +266,14 @@ step_effect w e c v g i (faults touch k l h) =
 
 work_effect : (w : World) (e : Event) (c : ℕ) (v : World) → IsInner e Stepped → Works w c e v → Effect w e Stepped v
 work_effect w e c v i (clears j range k h) = beside w e w.slots v.hardware w.memory v i (h ∙ ap (λ x. record w { hardware = x }) (sym (ap (λ v. v.hardware) h)))
-work_effect w e c v i (invalidates j range k h) = beside w e w.slots v.hardware w.memory v i (h ∙ ap (λ x. record w { hardware = x }) (sym (ap (λ v. v.hardware) h)))
+work_effect w e c v i (invalidates j range k h) = beside w e w.slots v.hardware w.memory v i
+    (h ∙ ap (λ x. record w { hardware = x }) (sym (ap (λ v. v.hardware) h)))
 work_effect w e c v i (walks p j k h) = beside w e w.slots v.hardware w.memory v i (h ∙ ap (λ x. record w { hardware = x }) (sym (ap (λ v. v.hardware) h)))
 work_effect w e c v i (evicts p j k h) = beside w e w.slots v.hardware w.memory v i (h ∙ ap (λ x. record w { hardware = x }) (sym (ap (λ v. v.hardware) h)))
-work_effect w e c v i (flushes j report counts k h) = beside w e w.slots w.hardware v.memory v i (h ∙ ap (λ x. record w { memory = x }) (sym (ap (λ v. v.memory) h)))
-work_effect w e c v i (reviews j report counts k h) = beside w e w.slots w.hardware v.memory v i (h ∙ ap (λ x. record w { memory = x }) (sym (ap (λ v. v.memory) h)))
+work_effect w e c v i (flushes j report counts k h) = beside w e w.slots w.hardware v.memory v i
+    (h ∙ ap (λ x. record w { memory = x }) (sym (ap (λ v. v.memory) h)))
+work_effect w e c v i (reviews j report counts k h) = beside w e w.slots w.hardware v.memory v i
+    (h ∙ ap (λ x. record w { memory = x }) (sym (ap (λ v. v.memory) h)))
 work_effect w e c v i (frees j f counts k h) = beside w e w.slots w.hardware v.memory v i (h ∙ ap (λ x. record w { memory = x }) (sym (ap (λ v. v.memory) h)))
 
 -- a call that may be given up has no reply yet

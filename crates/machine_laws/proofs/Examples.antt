@@ -52,11 +52,14 @@ began = refl
 -- ---- what the brackets rule out
 
 -- a log that repeats a call
-repeated : (es : List Event) (os : List Outcome) (w : World) (reply : Reply) → w.calls.log ≡ Answer 2 1 0 reply ∷ Answer 3 1 0 reply ∷ [] → ¬ IsBracketed es os w
-repeated es os w reply e b = let same : 0 ≡ 1 = b.once 0 1 2 3 1 0 0 reply reply (ap (λ l. slice_get l 0) e) (ap (λ l. slice_get l 1) e) in absurd (omega (arith, same))
+repeated : (es : List Event) (os : List Outcome) (w : World) (reply : Reply) → w.calls.log ≡ Answer 2 1 0 reply ∷ Answer 3 1 0 reply ∷ []
+    → ¬ IsBracketed es os w
+repeated es os w reply e b = let same : 0 ≡ 1 = b.once 0 1 2 3 1 0 0 reply reply (ap (λ l. slice_get l 0) e) (ap (λ l. slice_get l 1) e) in
+    absurd (omega (arith, same))
 
 -- a log in which a reply stands after the third event, which hands it out
-late : (w : World) (reply : Reply) → w.calls.log ≡ Answer 4 1 0 reply ∷ [] → ¬ IsBracketed (Call 0 empty ∷ Go 0 ∷ Go 0 ∷ []) (Stepped ∷ Stepped ∷ Answered reply ∷ []) w
+late : (w : World) (reply : Reply) → w.calls.log ≡ Answer 4 1 0 reply ∷ [] → ¬ IsBracketed (Call 0 empty ∷ Go 0 ∷ Go 0 ∷ [])
+    (Stepped ∷ Stepped ∷ Answered reply ∷ []) w
 late w reply e b =
     let said = b.answered 2 0 (Go 0) reply refl refl refl in
     go said.2.0 said.2.1 said.0 (sym (ap (λ l. slice_get l said.2.0) e) ∙ said.2.2) said.2.3

@@ -145,7 +145,12 @@ reply_ends w c held reply g (no_place request place e h r k) =
 reply_ends w c held reply g (declines change errno e h r d) =
     let k : IsCallOf w c (Decide change) = call_at w c (Decide change) e g in
     ends_by _ (Decide change) held e (subst (Ends (Decide change)) (sym h)
-    (record { opened = refl; same = λ p. refl; cut = λ edge k. k; valid = sound_range change (change_sound (λ k. mode_of (w.made.file k)) c k.asked.request change k.asked.passed) }))
+    (record {
+      opened = refl;
+      same = λ p. refl;
+      cut = λ edge k. k;
+      valid = sound_range change (change_sound (λ k. mode_of (w.made.file k)) c k.asked.request change k.asked.passed);
+    }))
 reply_ends w c held reply g (fails touch e h f) =
     let k : IsCallOf w c (Settle touch) = call_at w c (Settle touch) e g in
     ends_by _ (Settle touch) held e (subst (Ends (Settle touch)) (sym h)
@@ -198,7 +203,12 @@ commits_kept : (w : World) (c : ℕ) (change : Change) (held : PageRange) (count
     → CountsLost c change w counts → IsOrderly (after_commit c change held counts w)
 commits_kept w c change held counts g lt e l =
     replied w c (Some held) (reply_to change) (slots_after change w.slots) (with_counts counts w).memory g lt
-    (ends_by _ (Acks change held) (Some held) e (record { opened = refl; same = λ p. refl; cut = λ edge k. k; valid = subst IsPageRange (sym k.ready.0) range }))
+    (ends_by _ (Acks change held) (Some held) e (record {
+      opened = refl;
+      same = λ p. refl;
+      cut = λ edge k. k;
+      valid = subst IsPageRange (sym k.ready.0) range;
+    }))
     (changed_touches w.slots c change (λ p i. k.owned p (subst (λ r. has r p ≡ true) (sym k.ready.0) i)))
     (changed_owner w.slots change) (changed_edge w.slots change) (λ n k f h. h) (changed_belongs w.made w.slots change range g.pages)
     (counts_down w.made w.memory c (frame_lost change w.slots.info) _ _ counts g.memory l)
@@ -290,8 +300,11 @@ owns_kept w c goal cursor b t g lt e l =
     (λ i. owned_to w c goal cursor b t (all_locked goal) e g lt l (locked_open goal)
     (locked_range goal ∙ ap Some (sym (whole (goal_range goal) b (past (goal_range goal).end b i l.by_end))))
     (locked_asked w c goal cursor k.asked) (locked_ready w goal) (locked_taken goal))
-    (λ i. owned_to w c goal cursor b t (Lock goal b) e g lt l refl refl k.asked
-    (let x : (goal_range goal).first ≤ cursor = k.ready.0 in let y : cursor < b = l.slot.ordered in omega (arith, x, y), not_past (goal_range goal).end b i) (λ f h. cc))
+    (λ i. owned_to w c goal cursor b t (Lock goal b) e g lt l refl refl k.asked (
+      let x : (goal_range goal).first ≤ cursor = k.ready.0 in let y : cursor < b = l.slot.ordered in
+          omega (arith, x, y),
+      not_past (goal_range goal).end b i,
+    ) (λ f h. cc))
   where
     k : IsCallOf w c (Lock goal cursor)
     k = call_at w c (Lock goal cursor) e g
@@ -495,7 +508,8 @@ copies_page w c touch old new info m e g lt was same opened keeps asked ready no
     (page_touches w c touch old info e g was) keeps (at_page w c touch old new info m.cached e g was same asked ready none)
     (put_all (BelongsTo w.made) w.slots.info touch.page info belongs (λ p ne. g.pages p)) memory
 
-framed_usable : (made : Made) (f : ℕ) (o : Option PageInfo) (access : Access) → IsUsable made.file o access None → IsUsable made.file (info_with_frame f o) access (Some f)
+framed_usable : (made : Made) (f : ℕ) (o : Option PageInfo) (access : Access) → IsUsable made.file o access None
+    → IsUsable made.file (info_with_frame f o) access (Some f)
 framed_usable made f None access u = absurd u
 framed_usable made f (Some info) access u = (u.0, u.1, refl)
 
@@ -592,7 +606,8 @@ installs_kept w c touch g lt e =
 
 -- ---- Try
 
-accesses_kept : (w : World) (c : ℕ) (touch : Touch) (f : ℕ) → IsOrderly w → c < w.made.cores → w.calls.phase c ≡ Try touch → IsOrderly (after_access c touch f w)
+accesses_kept : (w : World) (c : ℕ) (touch : Touch) (f : ℕ) → IsOrderly w → c < w.made.cores → w.calls.phase c ≡ Try touch
+    → IsOrderly (after_access c touch f w)
 accesses_kept w c touch f g lt e =
     replied w c None (reply_of touch f w.memory) w.slots (memory_after touch f w.memory) g lt (ends_by _ (Try touch) None e (record { opened = refl; same = λ p. refl; cut = λ edge k. k; valid = tt }))
     (untouched w.slots c) refl refl (λ n k f h. h) g.pages (written w.made w.memory _ g.memory)
@@ -687,7 +702,8 @@ gives_up_kept w c g lt can =
 
 -- ---- a call begins
 
-begins_kept : (w : World) (c : ℕ) (request : Request) → IsOrderly w → c < w.made.cores → w.calls.phase c ≡ Free → length w.calls.requests < w.made.calls → IsOrderly (after_call c request w)
+begins_kept : (w : World) (c : ℕ) (request : Request) → IsOrderly w → c < w.made.cores → w.calls.phase c ≡ Free
+    → length w.calls.requests < w.made.calls → IsOrderly (after_call c request w)
 begins_kept w c request g lt e below = record {
   asked = put_both (λ d n x. IsAsked w.made more d n x) w.calls.number w.calls.phase c (suc (length w.calls.requests)) (Check request)
       (at_new w.calls.requests request) (λ d ne. asked_more w.made w.calls.requests request d (w.calls.number d) (w.calls.phase d) (g.asked d));
@@ -767,7 +783,8 @@ joined w t j g = record {
         let last : suc (r.end - 1) ≡ r.end = omega (arith, some) in
         let at : r.end - 1 + 1 ≡ r.end = omega (arith, some) in (
           edge_stays w.slots t c r.first j (mine r.first (in_has r r.first (omega arith) some)) k.0,
-          subst (λ e. t.edge e ≡ true) at (end_stays w.slots t c (r.end - 1) j (mine (r.end - 1) (in_has r (r.end - 1) (omega (arith, some)) (omega (arith, some))))
+          subst (λ e. t.edge e ≡ true) at
+              (end_stays w.slots t c (r.end - 1) j (mine (r.end - 1) (in_has r (r.end - 1) (omega (arith, some)) (omega (arith, some))))
               (subst (λ e. w.slots.edge e ≡ true) (sym at) k.1)),
         )
 

@@ -248,7 +248,8 @@ pub none_taken : (held : Option PageRange) (reply : Reply) (f : ℕ) → taken_i
 none_taken None reply f h = cc
 none_taken (Some held) reply f h = cc
 
-pub asked_gone : (made : Made) (requests : List Request) (c call : ℕ) (held : Option PageRange) (reply : Reply) → IsAsked made requests c call (let_go held reply)
+pub asked_gone : (made : Made) (requests : List Request) (c call : ℕ) (held : Option PageRange) (reply : Reply)
+    → IsAsked made requests c call (let_go held reply)
 asked_gone made requests c call None reply = tt
 asked_gone made requests c call (Some held) reply = tt
 

@@ -12,7 +12,8 @@ get_new [] y = refl
 get_new (z ∷ xs) y = get_new xs y
 
 -- an element is an old one, or the one that came
-pub get_either : {A : Type 0} (xs : List A) (y : A) (i : ℕ) (x : A) → slice_get (xs ++ y ∷ []) i ≡ Some x → ((slice_get xs i ≡ Some x) × (i < length xs)) ⊎ ((i ≡ length xs) × (x ≡ y))
+pub get_either : {A : Type 0} (xs : List A) (y : A) (i : ℕ) (x : A) → slice_get (xs ++ y ∷ []) i ≡ Some x
+    → ((slice_get xs i ≡ Some x) × (i < length xs)) ⊎ ((i ≡ length xs) × (x ≡ y))
 get_either [] y zero x h = inr (refl, cc)
 get_either [] y (suc i) x h = absurd cc
 get_either (z ∷ xs) y zero x h = inl (h, omega arith)
@@ -28,7 +29,8 @@ at_old xs y (suc i) x h = get_old xs y i x h
 pub at_new : {A : Type 0} (xs : List A) (y : A) → nth (xs ++ y ∷ []) (suc (length xs)) ≡ Some y
 at_new xs y = get_new xs y
 
-pub at_either : {A : Type 0} (xs : List A) (y : A) (k : ℕ) (x : A) → nth (xs ++ y ∷ []) k ≡ Some x → ((nth xs k ≡ Some x) × (k < suc (length xs))) ⊎ ((k ≡ suc (length xs)) × (x ≡ y))
+pub at_either : {A : Type 0} (xs : List A) (y : A) (k : ℕ) (x : A) → nth (xs ++ y ∷ []) k ≡ Some x
+    → ((nth xs k ≡ Some x) × (k < suc (length xs))) ⊎ ((k ≡ suc (length xs)) × (x ≡ y))
 at_either xs y zero x h = absurd cc
 at_either xs y (suc i) x h = elim (get_either xs y i x h) [
   | inl k ↦ inl (k.0, omega (arith, k.1))

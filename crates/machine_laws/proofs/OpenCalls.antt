@@ -28,7 +28,8 @@ unfolding open_calls
 open_put g c phase zero h = absurd (omega arith)
 open_put g c phase (suc n) h = go (λ lt. open_put g c phase n lt) (n == c) refl
   where
-    go : (c < n → open_calls (put g c phase) n + one (g c) ≡ open_calls g n + one phase) → (b : Bool) → (n == c) ≡ b → open_calls (put g c phase) (suc n) + one (g c) ≡ open_calls g (suc n) + one phase
+    go : (c < n → open_calls (put g c phase) n + one (g c) ≡ open_calls g n + one phase) → (b : Bool) → (n == c) ≡ b
+        → open_calls (put g c phase) (suc n) + one (g c) ≡ open_calls g (suc n) + one phase
     go ih true e =
         let k : n ≡ c = grind (arith, nat_tests) in
         let a : open_calls (put g c phase) n ≡ open_calls g n = open_same (put g c phase) g n (λ j lt. put_other g c phase j (omega (arith, lt, k))) in

@@ -57,7 +57,8 @@ protected_belongs : (made : Made) (p : ℕ) (prot : Prot) (o : Option PageInfo) 
 protected_belongs made p prot None h = h
 protected_belongs made p prot (Some info) h = record { valid = h.valid; frame = h.frame; cores = λ c i. absurd (no_member c i) }
 
-pub changed_belongs : (made : Made) (s : Slots) (change : Change) → IsPageRange (range_of change) → ((p : ℕ) → BelongsTo made p (s.info p)) → (p : ℕ) → BelongsTo made p ((slots_after change s).info p)
+pub changed_belongs : (made : Made) (s : Slots) (change : Change) → IsPageRange (range_of change) → ((p : ℕ) → BelongsTo made p (s.info p))
+    → (p : ℕ) → BelongsTo made p ((slots_after change s).info p)
 changed_belongs made s change range old =
     changed_all (BelongsTo made) s change
     (λ r meta p e i. unused_belongs made p _ (within r p (subst (λ x. IsPageRange (range_of x)) e range) i))
@@ -68,7 +69,12 @@ changed_belongs made s change range old =
 
 pub framed_belongs : (made : Made) (p f : ℕ) (o : Option PageInfo) → f < made.frames → BelongsTo made p o → BelongsTo made p (info_with_frame f o)
 framed_belongs made p f None lt h = h
-framed_belongs made p f (Some info) lt h = record { valid = h.valid; frame = λ x e. let same : f ≡ x = cc in subst (λ n. n < made.frames) same lt; cores = h.cores }
+framed_belongs made p f (Some info) lt h = record {
+  valid = h.valid;
+  frame = λ x e. let same : f ≡ x = cc in
+      subst (λ n. n < made.frames) same lt;
+  cores = h.cores;
+}
 
 -- a copy that no core has used
 pub copied_belongs : (made : Made) (p f : ℕ) (o : Option PageInfo) → f < made.frames → BelongsTo made p o → BelongsTo made p (info_copied f o)
@@ -84,5 +90,6 @@ recorded_belongs made p c None lt h = h
 recorded_belongs made p c (Some info) lt h = record {
   valid = h.valid;
   frame = h.frame;
-  cores = λ d e. put_all (λ d b. b ≡ true → d < made.cores) (members info.cores) c true (λ _. lt) (λ d ne. h.cores d) d (sym (ap (λ f. f d) (members_with info.cores c)) ∙ e);
+  cores = λ d e. put_all (λ d b. b ≡ true → d < made.cores) (members info.cores) c true (λ _. lt) (λ d ne. h.cores d) d
+      (sym (ap (λ f. f d) (members_with info.cores c)) ∙ e);
 }

@@ -265,7 +265,8 @@ call_shape : (w : World) (c : ℕ) (request : Request) (phase : Phase) (o : Outc
     → Begins w c request phase o v → Shape w (Call c request) o v
 call_shape w c request Free o v lt e h = go (nat_lt (length w.calls.requests) w.made.calls) refl h
   where
-    go : (b : Bool) → nat_lt (length w.calls.requests) w.made.calls ≡ b → cond b (Becomes (after_call c request w) o v) ((o ≡ Full) × (v ≡ w)) → Shape w (Call c request) o v
+    go : (b : Bool) → nat_lt (length w.calls.requests) w.made.calls ≡ b → cond b (Becomes (after_call c request w) o v) ((o ≡ Full)
+        × (v ≡ w)) → Shape w (Call c request) o v
     go true i k = begins c request refl k.0 lt e (below _ _ i) k.1
     go false i k = rests (full c request refl i k.0) k.1
 call_shape w c request (Check r) o v lt e h = rests (busy c request refl (λ f. let a = sym e ∙ f in cc) h.0) h.1
@@ -288,20 +289,23 @@ call_shape w c request (Release touch) o v lt e h = rests (busy c request refl (
 step : (w : World) (c : ℕ) (o : Outcome) (v : World) → c < w.made.cores → o ≡ Stepped → GoesBy w c v → Shape w (Go c) o v
 step w c o v lt s g = goes c going s lt g
 
-check_shape : (w : World) (c : ℕ) (request : Request) (o : Outcome) (v : World) (r : Result Plan Reply) → w.calls.phase c ≡ Check request → checked_by w.made c request ≡ r
+check_shape : (w : World) (c : ℕ) (request : Request) (o : Outcome) (v : World) (r : Result Plan Reply) → w.calls.phase c ≡ Check request
+    → checked_by w.made c request ≡ r
     → v ≡ after_plan c r w → GoesBy w c v
 check_shape w c request o v (Err reply) e k h = answers None reply (refuses request e refl k) h
 check_shape w c request o v (Ok (PlanOf.Place place)) e k h = answers None (ReplyOf.Refused ENOMEM) (no_place request place e refl refl k) h
 check_shape w c request o v (Ok (PlanOf.Change change)) e k h = moves (locking (To.Change change)) (locks request change e refl k) h
 check_shape w c request o v (Ok (PlanOf.Touch touch)) e k h = moves (Try touch) (tries request touch e refl k) h
 
-lock_shape : (w : World) (c : ℕ) (goal : Goal) (cursor : ℕ) (got : Got) (t : Slots) (o : Outcome) (v : World) → c < w.made.cores → w.calls.phase c ≡ Lock goal cursor
+lock_shape : (w : World) (c : ℕ) (goal : Goal) (cursor : ℕ) (got : Got) (t : Slots) (o : Outcome) (v : World) → c < w.made.cores
+    → w.calls.phase c ≡ Lock goal cursor
     → Steps w.slots t c cursor (goal_range goal).end got → LocksTo w c goal t got o v → Shape w (Go c) o v
 lock_shape w c goal cursor Split t o v lt e s h = step w c o v lt h.0 (divides goal cursor t e s h.1)
 lock_shape w c goal cursor (Locked b) t o v lt e s h = step w c o v lt h.0 (owns goal cursor b t e s h.1)
 lock_shape w c goal cursor (Held by) t o v lt e s h = rests (waits c goal cursor by refl e s.0 s.1 h.0) h.1
 
-decide_shape : (w : World) (c : ℕ) (change : Change) (d : Decision) (v : World) → w.calls.phase c ≡ Decide change → Decides w.made.file w.slots (PlanOf.Change change) d
+decide_shape : (w : World) (c : ℕ) (change : Change) (d : Decision) (v : World) → w.calls.phase c ≡ Decide change
+    → Decides w.made.file w.slots (PlanOf.Change change) d
     → v ≡ after_decision c change d w → GoesBy w c v
 decide_shape w c change (Refuse errno) v e d h = answers (Some (range_of change)) (ReplyOf.Refused errno) (declines change errno e refl refl d) h
 decide_shape w c change (Act range shoot) v e d h = moves (Post change shoot) (acts change range shoot e refl d) h
@@ -410,7 +414,8 @@ go_shape w c (Lock goal cursor) o v lt e h = lock_shape w c goal cursor h.0 h.1.
 go_shape w c (Decide change) o v lt e h = step w c o v lt h.2.0 (decide_shape w c change h.0 v e h.1 h.2.1)
 go_shape w c (Post change shoot) o v lt e h = step w c o v lt h.0 (posts change shoot e h.1)
 go_shape w c (Acks change held) o v lt e h = acks_shape w c change held o v lt e h
-go_shape w c (Unlock held reply) o v lt e h = step w c o v lt h.1.2.0 (lets_go held h.0 h.1.0 (let_go (held_after held h.0) reply) (unlocks reply e refl) h.1.1 h.1.2.1)
+go_shape w c (Unlock held reply) o v lt e h = step w c o v lt h.1.2.0 (lets_go held h.0 h.1.0 (let_go (held_after held h.0) reply)
+    (unlocks reply e refl) h.1.1 h.1.2.1)
 go_shape w c (Answer reply) o v lt e h = ends c reply refl h.0 lt e h.1
 go_shape w c (Try touch) o v lt e h = step w c o v lt h.0 (try_shape w c touch (frame_reached (translated_by w.hardware c touch)) v e refl h.1)
 go_shape w c (Settle touch) o v lt e h = step w c o v lt h.0 (settle_shape w c touch (found_at w touch) v e refl (found w.made.file w.memory.cached (w.slots.info touch.page) touch.access) h.1)
@@ -419,7 +424,8 @@ go_shape w c (Fill touch own) o v lt e h = fill_shape w c touch own (back_of (w.
 go_shape w c (CopyPost touch f) o v lt e h = step w c o v lt h.0 (posts_copy touch f e h.1)
 go_shape w c (CopyAcks touch f) o v lt e h = copy_shape w c touch f o v lt e h
 go_shape w c (Install touch) o v lt e h = step w c o v lt h.0 (installs touch e h.1)
-go_shape w c (Release touch) o v lt e h = step w c o v lt h.1.2.0 (lets_go (page_of_touch touch) h.0 h.1.0 (Try touch) (releases touch e refl refl) h.1.1 h.1.2.1)
+go_shape w c (Release touch) o v lt e h = step w c o v lt h.1.2.0 (lets_go (page_of_touch touch) h.0 h.1.0 (Try touch)
+    (releases touch e refl refl) h.1.1 h.1.2.1)
 
 -- ---- the other events
 
@@ -543,6 +549,8 @@ comes w e o v s = go (nat_lt w.calls.events event_limit) refl s
     known true i k = act_shape (with_event w) e o v i k
     known false i k = rests (absent i k.0) k.1
 
-    go : (b : Bool) → nat_lt w.calls.events event_limit ≡ b → cond b (cond (is_here w.made (core_of e)) (Acts (with_event w) e o v) (Idles (with_event w) o v)) ((o ≡ Full) × (v ≡ w)) → Comes w e o v
+    go : (b : Bool) → nat_lt w.calls.events event_limit ≡ b
+        → cond b (cond (is_here w.made (core_of e)) (Acts (with_event w) e o v) (Idles (with_event w) o v)) ((o ≡ Full) × (v ≡ w))
+        → Comes w e o v
     go true i k = acts i (known (is_here w.made (core_of e)) refl k)
     go false i k = stopped i (rw (k.0) (inner_full e)) k.1

@@ -11,7 +11,8 @@ use Rattle.machine_laws.specs.Orderly.{IsOrderly, IsAsked, IsCutFor, IsReady, Be
 use Rattle.machine_laws.proofs.Moves.{IsCall, IsCallOf, Touches, cut_kept, ready_kept}
 
 -- pages that no other core owned get an owner that is no other core
-pub touches_owner : (s : Slots) (c : ℕ) (set : ℕ → Bool) (owner : Option ℕ) → ((d p : ℕ) → d ≢ c → set p ≡ true → s.owner p ≢ Some d) → ((d : ℕ) → d ≢ c → owner ≢ Some d)
+pub touches_owner : (s : Slots) (c : ℕ) (set : ℕ → Bool) (owner : Option ℕ) → ((d p : ℕ) → d ≢ c → set p ≡ true → s.owner p ≢ Some d)
+    → ((d : ℕ) → d ≢ c → owner ≢ Some d)
     → Touches s (record s { owner = over s.owner set owner }) c
 touches_owner s c set owner was new = record {
   info = λ p h. refl;
@@ -21,7 +22,8 @@ touches_owner s c set owner was new = record {
 }
 
 -- pages of core c are mapped otherwise
-pub touches_info : (s : Slots) (c : ℕ) (info : ℕ → Option PageInfo) → ((p : ℕ) → s.owner p ≢ Some c → info p ≡ s.info p) → Touches s (record s { info = info }) c
+pub touches_info : (s : Slots) (c : ℕ) (info : ℕ → Option PageInfo) → ((p : ℕ) → s.owner p ≢ Some c → info p ≡ s.info p)
+    → Touches s (record s { info = info }) c
 touches_info s c info same = record { info = same; now = λ d p ne h. h; still = λ d p ne h. h; edge = λ p h. h }
 
 -- the pages of the set are core c's now

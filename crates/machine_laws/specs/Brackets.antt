@@ -96,7 +96,8 @@ pub record IsBracketed (es : List Event) (os : List Outcome) (w : World) : Type 
   -- after n events comes one that hands out a reply: it is that of the core's latest call, and stands in the log before
   pub answered : (n core : ℕ) (e : Event) (reply : Reply) → nth es (suc n) ≡ Some e → core_of e ≡ Some core
       → nth os (suc n) ≡ Some (Answered reply)
-      → (call : ℕ) × IsLatest (calls_of (take n es) (take n os)) core call × IsAnsweredBefore (suc n) w.calls.log call core reply
+      → (call : ℕ) × IsLatest (calls_of (take n es) (take n os)) core call
+      × IsAnsweredBefore (suc n) w.calls.log call core reply
   -- the requests kept are those of the calls
   pub requests : w.calls.requests ≡ requests_of (calls_of es os)
 

@@ -136,7 +136,8 @@ answer_count (Detach step call page ∷ es) = answer_count es
 -- ---- the order
 
 -- of these parts of a state
-pub record Order (made : Made) (s : Slots) (m : Memory) (phase : ℕ → Phase) (number : ℕ → ℕ) (requests : List Request) (log : List Entry)
+pub record Order (made : Made) (s : Slots) (m : Memory) (phase : ℕ → Phase) (number : ℕ → ℕ)
+    (requests : List Request) (log : List Entry)
     : Type 0 where
   pub asked : (c : ℕ) → IsAsked made requests c (number c) (phase c)
   -- a call owns the pages that it holds, and no others

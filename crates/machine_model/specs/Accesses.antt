@@ -45,7 +45,8 @@ reply_of touch frame m = byte_reply touch.access (m.bytes frame touch.offset)
 
 -- the byte is read or written
 abbrev pub after_access : ℕ → Touch → ℕ → World → World
-after_access c touch frame w = after_reply c None (reply_of touch frame w.memory) (record w { memory = memory_after touch frame w.memory })
+after_access c touch frame w = after_reply c None (reply_of touch frame w.memory)
+    (record w { memory = memory_after touch frame w.memory })
 
 -- a fault leads to the lock of its page
 abbrev pub after_translation : ℕ → Touch → Option ℕ → World → World

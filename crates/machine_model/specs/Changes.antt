@@ -83,7 +83,8 @@ after_commit c change held counts w =
 -- core c has counted down the frames that the change takes from pages, in order of pages
 abbrev pub CountsLost : ℕ → Change → World → Counts → Type 0
 CountsLost c change w counts =
-    CountsDown c (frame_lost change w.slots.info) (range_of change).first ((range_of change).end - (range_of change).first)
+    CountsDown c (frame_lost change w.slots.info) (range_of change).first
+    ((range_of change).end - (range_of change).first)
     w.memory.counts counts
 
 -- no core's inbox has core c's message

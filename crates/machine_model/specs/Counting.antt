@@ -32,7 +32,8 @@ CountsOne c (Some f) v w = Takes v (Dec c f) w
 -- core c counts the frames of n pages down, page by page from the first on
 unfoldable pub CountsDown : ℕ → (ℕ → Option ℕ) → ℕ → ℕ → Counts → Counts → Type 0
 CountsDown c frame first zero v w = w ≡ v
-CountsDown c frame first (suc n) v w = (m : Counts) × CountsOne c (frame first) v m × CountsDown c frame (suc first) n m w
+CountsDown c frame first (suc n) v w = (m : Counts) × CountsOne c (frame first) v m
+    × CountsDown c frame (suc first) n m w
 
 -- ---- events
 
@@ -49,7 +50,8 @@ ReportsFlush w report counts o v = Becomes (with_counts counts w) o v
 -- one flush of core c
 abbrev pub FlushesOnce : World → ℕ → Outcome → World → Type 0
 FlushesOnce w c o v =
-    (report : Flush) × ((counts : Counts) × Takes w.memory.counts (Flushing c report) counts × ReportsFlush w report counts o v)
+    (report : Flush) × ((counts : Counts) × Takes w.memory.counts (Flushing c report) counts
+    × ReportsFlush w report counts o v)
 
 abbrev pub ReportsReview : World → Review → Counts → Outcome → World → Type 0
 ReportsReview w review.Idle counts o v = Idles w o v
@@ -59,4 +61,5 @@ ReportsReview w report counts o v = Becomes (with_counts counts w) o v
 -- one review of core c; a frame that it frees may be taken again
 abbrev pub ReviewsOnce : World → ℕ → Outcome → World → Type 0
 ReviewsOnce w c o v =
-    (report : Review) × ((counts : Counts) × Takes w.memory.counts (Reviewing c report) counts × ReportsReview w report counts o v)
+    (report : Review) × ((counts : Counts) × Takes w.memory.counts (Reviewing c report) counts
+    × ReportsReview w report counts o v)

@@ -57,7 +57,8 @@ UnlocksNext w c held reply o v =
 -- an access lets its page go, and is tried again
 abbrev pub Releases : World → ℕ → Touch → Outcome → World → Type 0
 Releases w c touch o v =
-    (b : ℕ) × ((t : Slots) × Unlocks w.slots t c touch.page (touch.page + 1) b × Becomes (to c (Try touch) (record w { slots = t })) o v)
+    (b : ℕ) × ((t : Slots) × Unlocks w.slots t c touch.page (touch.page + 1) b
+    × Becomes (to c (Try touch) (record w { slots = t })) o v)
 
 -- ---- Fold
 

@@ -63,4 +63,10 @@ no_calls = record { phase = λ c. Free; number = λ c. 0; requests = []; log = [
 
 -- a machine over new slots
 abbrev pub new_world : Made → Slots → World
-new_world made slots = record { made = made; slots = slots; hardware = no_translations; memory = new_memory made; calls = no_calls }
+new_world made slots = record {
+  made = made;
+  slots = slots;
+  hardware = no_translations;
+  memory = new_memory made;
+  calls = no_calls;
+}

@@ -126,7 +126,8 @@ fault_reply w t touch reply g h = go (w.slots.info touch.page) refl h
     go None e f = subst Told (sym f) (tt, unmapped_reply w t touch.page touch.access touch.offset g e, refl)
     go (Some info) e f = has info e (is_allowed info.meta.prot touch.access) (is_past_end w.made.file (Some info)) refl refl f
 
-pub fault_told : (w : World) (event : Event) (c : ℕ) (touch : Touch) (held : Option PageRange) (reply : Reply) → w.calls.phase c ≡ Settle touch → IsFault (found_at w touch) reply → Fine w
+pub fault_told : (w : World) (event : Event) (c : ℕ) (touch : Touch) (held : Option PageRange) (reply : Reply)
+    → w.calls.phase c ≡ Settle touch → IsFault (found_at w touch) reply → Fine w
     → Leaves w event (after_reply c held reply w)
 fault_told w event c touch held reply e h f =
     let z = fault_reply w f.plain touch reply f.good h in

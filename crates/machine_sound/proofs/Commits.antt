@@ -75,7 +75,8 @@ fewer_frames s change p f =
     changed_all (λ p o. frame_of o ≡ Some f → frame_of (s.info p) ≡ Some f) s change (λ range meta p e i h. absurd cc) (λ p h. absurd cc)
     (λ prot p old h. sym (protected_frame prot (s.info p)) ∙ h) (λ p h. h) p
 
-fewer_own : (cached : ℕ → ℕ → Option ℕ) (s : Slots) (change : Change) (p f : ℕ) → own_frame cached ((slots_after change s).info p) ≡ Some f → own_frame cached (s.info p) ≡ Some f
+fewer_own : (cached : ℕ → ℕ → Option ℕ) (s : Slots) (change : Change) (p f : ℕ) → own_frame cached ((slots_after change s).info p) ≡ Some f
+    → own_frame cached (s.info p) ≡ Some f
 fewer_own cached s change p f =
     changed_all (λ p o. own_frame cached o ≡ Some f → own_frame cached (s.info p) ≡ Some f) s change (λ range meta p e i h. absurd cc) (λ p h. absurd cc)
     (λ prot p old h. sym (protected_own cached prot (s.info p)) ∙ h) (λ p h. h) p
@@ -92,7 +93,8 @@ whole_still file s change h p f =
 pub change_committed : (w : World) (event : Event) (c : ℕ) (change : Change) (held : PageRange) (counts : Counts) → w.calls.phase c ≡ Acks change held → Fine w
     → Leaves w event (after_commit c change held counts w)
 change_committed w event c change held counts e f =
-    tells w event c (Some held) (reply_to change) (slots_after change w.slots) w.hardware (with_counts counts w).memory f (made_of f.plain change) k.asked.request k.asked.number
+    tells w event c (Some held) (reply_to change) (slots_after change w.slots) w.hardware (with_counts counts w).memory f
+    (made_of f.plain change) k.asked.request k.asked.number
     (acted w f.plain c k.asked.request change k.ready.1.0 f.good k.asked.passed k.ready.1.1)
     (due_so event w.memory.is_free w.calls.events (w.calls.number c) c (reply_to change) (reply_is change))
     (with_counts_shown w.made.file (slots_after change w.slots).info w.memory counts (made_of f.plain change)

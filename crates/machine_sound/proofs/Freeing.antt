@@ -105,7 +105,8 @@ unblocked : (w : World) (e : Event) (o p : Outcome) → o ≡ p → IsBlocked w 
 unblocked w e o p same h = subst (IsBlocked w e) (sym same) h
 
 -- the cursor's page is one of the call's
-in_footprint : (w : World) (c : ℕ) (goal : Goal) (cursor : ℕ) → IsOrderly w → w.calls.phase c ≡ Lock goal cursor → some_has (range_in (w.calls.phase c)) cursor ≡ true
+in_footprint : (w : World) (c : ℕ) (goal : Goal) (cursor : ℕ) → IsOrderly w → w.calls.phase c ≡ Lock goal cursor
+    → some_has (range_in (w.calls.phase c)) cursor ≡ true
 in_footprint w c goal cursor g e =
     let k : IsCallOf w c (Lock goal cursor) = call_at w c (Lock goal cursor) e g in
     ap (λ p. some_has (range_in p) cursor) e ∙ in_has (goal_range goal) cursor k.ready.0 k.ready.1

@@ -48,18 +48,21 @@ use Rattle.machine_sound.proofs.Sound.{fine_sound}
 
 -- ---- the shapes
 
-replies_left : (w : World) (event : Event) (c : ℕ) (held : Option PageRange) (reply : Reply) → Fine w → Replies w c held reply → Leaves w event (after_reply c held reply w)
+replies_left : (w : World) (event : Event) (c : ℕ) (held : Option PageRange) (reply : Reply) → Fine w → Replies w c held reply
+    → Leaves w event (after_reply c held reply w)
 replies_left w event c held reply f (refuses request e h k) =
     let number = (call_at w c (Check request) e f.order).asked in
     let z = refused w f.plain c request reply f.good k in
     left.answers w event c held reply f request number z.1 (due_so event w.memory.is_free w.calls.events (w.calls.number c) c reply z.0)
 replies_left w event c held reply f (no_place request place e h r k) =
     subst (λ y. Leaves w event (after_reply c held y w)) (sym r)
-    (left.answers w event c held (Refused ENOMEM) f request (call_at w c (Check request) e f.order).asked (no_place_stands w f.plain c request place f.good k) tt)
+    (left.answers w event c held (Refused ENOMEM) f request (call_at w c (Check request) e f.order).asked
+    (no_place_stands w f.plain c request place f.good k) tt)
 replies_left w event c held reply f (declines change errno e h r d) =
     let k : IsCallOf w c (Decide change) = call_at w c (Decide change) e f.order in
     subst (λ y. Leaves w event (after_reply c held y w)) (sym r)
-    (left.answers w event c held (Refused errno) f k.asked.request k.asked.number (declined w f.plain c k.asked.request change errno f.good k.asked.passed d) tt)
+    (left.answers w event c held (Refused errno) f k.asked.request k.asked.number
+    (declined w f.plain c k.asked.request change errno f.good k.asked.passed d) tt)
 replies_left w event c held reply f (fails touch e h x) = fault_told w event c touch held reply e x f
 replies_left w event c held reply f (no_frame touch old e h r none) =
     subst (λ y. Leaves w event (after_reply c held y w)) (sym r) (no_frame_told w event c touch old held e none f)
@@ -208,7 +211,8 @@ pub steps_sound : (w v : World) (e : Event) (o : Outcome) → IsReached w → St
 steps_sound w v e o h s = sound_step w v e o (reached_fine w h) s
 
 -- a run that goes one event on
-pub run_more : (es : List Event) (os : List Outcome) (w m v : World) (e : Event) (o : Outcome) → Run w es os m → Step m e o v → Run w (es ++ e ∷ []) (os ++ o ∷ []) v
+pub run_more : (es : List Event) (os : List Outcome) (w m v : World) (e : Event) (o : Outcome) → Run w es os m → Step m e o v
+    → Run w (es ++ e ∷ []) (os ++ o ∷ []) v
 run_more [] [] w m v e o r s = (v, subst (λ w. Step w e o v) r s, refl)
 run_more [] (p ∷ os) w m v e o r s = absurd r
 run_more (d ∷ es) [] w m v e o r s = absurd r

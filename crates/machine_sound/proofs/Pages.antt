@@ -178,14 +178,16 @@ has_frame_bytes w t p e k allowed =
 
 -- ---- replies that need no frame
 
-pub unmapped_reply : (w : World) (t : Plain) (p : ℕ) (access : Access) (i : ℕ) → Good w t → w.slots.info p ≡ None → entry_reply t.file (t.entry p) access i ≡ Some (Segv MapErr)
+pub unmapped_reply : (w : World) (t : Plain) (p : ℕ) (access : Access) (i : ℕ) → Good w t → w.slots.info p ≡ None
+    → entry_reply t.file (t.entry p) access i ≡ Some (Segv MapErr)
 unmapped_reply w t p access i g h = go (t.entry p) (subst (λ o. ShowsPage w.memory o (t.entry p)) h (g.pages p))
   where
     go : (z : Option Entry) → ShowsPage w.memory None z → entry_reply t.file z access i ≡ Some (Segv MapErr)
     go None s = refl
     go (Some entry) s = absurd s
 
-pub forbidden_reply : (w : World) (t : Plain) (p : ℕ) (access : Access) (i : ℕ) (info : PageInfo) → Good w t → w.slots.info p ≡ Some info → is_allowed info.meta.prot access ≡ false
+pub forbidden_reply : (w : World) (t : Plain) (p : ℕ) (access : Access) (i : ℕ) (info : PageInfo) → Good w t → w.slots.info p ≡ Some info
+    → is_allowed info.meta.prot access ≡ false
     → entry_reply t.file (t.entry p) access i ≡ Some (Segv AccErr)
 forbidden_reply w t p access i info g h forbidden = go (t.entry p) (subst (λ o. ShowsPage w.memory o (t.entry p)) h (g.pages p))
   where

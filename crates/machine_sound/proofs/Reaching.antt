@@ -110,11 +110,13 @@ fills cached o c t access f backed h = go (permits t access) refl h
     go false e k = absurd cc
 
 -- what holds of all entries of a TLB holds of the one of a page
-pub at_page : (P : TlbEntry → Type 0) (es : List TlbEntry) (p : ℕ) (t : Translation) → Every P es → tlb_at es p ≡ Some t → P (record { page = p; translation = t })
+pub at_page : (P : TlbEntry → Type 0) (es : List TlbEntry) (p : ℕ) (t : Translation) → Every P es → tlb_at es p ≡ Some t
+    → P (record { page = p; translation = t })
 at_page P [] p t h e = absurd cc
 at_page P (x ∷ es) p t h e = go (λ k. at_page P es p t h.1 k) (x.page == p) refl e
   where
-    go : (tlb_at es p ≡ Some t → P (record { page = p; translation = t })) → (b : Bool) → (x.page == p) ≡ b → (if b then Some x.translation else tlb_at es p) ≡ Some t → P (record { page = p; translation = t })
+    go : (tlb_at es p ≡ Some t → P (record { page = p; translation = t })) → (b : Bool) → (x.page == p) ≡ b
+        → (if b then Some x.translation else tlb_at es p) ≡ Some t → P (record { page = p; translation = t })
     go rest true i k =
         let same : x.page ≡ p = grind (arith, nat_tests) in
         let its : x.translation ≡ t = cc in

@@ -58,7 +58,8 @@ mode_same bytes cached (Some f) None h = absurd h
 has_modes : (w : World) (t : Plain) → Good w t → HasModes t w.made.file
 has_modes w t g n = mode_same w.memory.bytes (w.memory.cached n) (w.made.file n) (t.file n) (g.files n)
 
-refusal_same : (w : World) (t : Plain) (request : Request) → Good w t → refusal (λ k. mode_of (t.file k)) request ≡ refusal (λ k. mode_of (w.made.file k)) request
+refusal_same : (w : World) (t : Plain) (request : Request) → Good w t → refusal (λ k. mode_of (t.file k)) request ≡ refusal
+    (λ k. mode_of (w.made.file k)) request
 refusal_same w t request g = ap (λ modes. refusal modes request) (fun_ext (has_modes w t g))
 
 page_shown : (m : Memory) (o : Option PageInfo) (z : Option Entry) → ShowsPage m o z → plainly.ShowsPage z o
@@ -77,7 +78,8 @@ IsReply NoFrame = ⊥
 IsReply NoMemory = ⊥
 IsReply _ = Unit {0}
 
-stands_so : (t u : Plain) (c : ℕ) (request : Request) (y : Reply) → IsReply y → cond (is_placed request) (FindsNoPlace t request y u) (Applies t c request y u) → Stands t c request y u
+stands_so : (t u : Plain) (c : ℕ) (request : Request) (y : Reply) → IsReply y → cond (is_placed request) (FindsNoPlace t request y u)
+    (Applies t c request y u) → Stands t c request y u
 stands_so t u c request (Mapped a) i h = h
 stands_so t u c request Done i h = h
 stands_so t u c request (Byte b) i h = h
@@ -120,7 +122,8 @@ file_replies (Some mode) len prot flags off = tests _ (Refused EOVERFLOW) _ tt (
 
 refusals : (modes : ℕ → Option Mode) (request : Request) → IsRefusal (refusal modes request)
 refusals modes (Mmap addr len prot flags file off) =
-    tests (len == 0) (Refused EINVAL) _ tt (tests (not (is_one_kind flags)) (Refused EINVAL) _ tt (tests (not flags.anon && not (is_aligned off)) (Refused EINVAL) _ tt
+    tests (len == 0) (Refused EINVAL) _ tt (tests (not (is_one_kind flags)) (Refused EINVAL) _ tt
+    (tests (not flags.anon && not (is_aligned off)) (Refused EINVAL) _ tt
     (tests (flags.fixed && not (is_aligned addr)) (Refused EINVAL) _ tt (tests (flags.fixed && not (are_pages (pages_of addr len))) (Refused ENOMEM) _ tt
     (by_test IsRefusal flags.anon None (file_refusal (modes file) len prot flags off) (λ _. no_refusal) (λ _. file_replies (modes file) len prot flags off))))))
 refusals modes (Munmap addr len) = tests _ (Refused EINVAL) _ tt no_refusal
@@ -143,7 +146,8 @@ missed addr byte access reply h = go (is_page (page_of addr)) h
 
 unplanned : (core : ℕ) (request : Request) (reply : Reply) → plan_of core request ≡ Err reply → IsReply reply × (is_placed request ≡ false)
 unplanned core (Mmap addr len prot flags file off) reply h =
-    absurd (choice flags.fixed (PlanOf.Change (Put (pages_of addr len) (meta_of prot flags file off))) (PlanOf.Place (place_of core addr len (meta_of prot flags file off))) reply h)
+    absurd (choice flags.fixed (PlanOf.Change (Put (pages_of addr len) (meta_of prot flags file off)))
+    (PlanOf.Place (place_of core addr len (meta_of prot flags file off))) reply h)
 unplanned core (Munmap addr len) reply h = absurd cc
 unplanned core (Mprotect addr len prot) reply h = absurd cc
 unplanned core (Load addr) reply h = (missed addr 0 To.Load reply h, refl)
@@ -155,7 +159,8 @@ either P Q true p q = p
 either P Q false p q = q
 
 -- what the check answers at once
-pub refused : (w : World) (t : Plain) (c : ℕ) (request : Request) (reply : Reply) → Good w t → checked_by w.made c request ≡ Err reply → IsReply reply × Stands t c request reply t
+pub refused : (w : World) (t : Plain) (c : ℕ) (request : Request) (reply : Reply) → Good w t → checked_by w.made c request ≡ Err reply
+    → IsReply reply × Stands t c request reply t
 refused w t c request reply g h = go (refusal (λ k. mode_of (w.made.file k)) request) refl h
   where
     applies : Applies t c request reply t
@@ -170,12 +175,14 @@ refused w t c request reply g h = go (refusal (λ k. mode_of (w.made.file k)) re
               (sym (ap or_no_place (refusal_same w t request g ∙ e ∙ ap Some same)), refl) applies),
         )
 
-    go : (o : Option Reply) → refusal (λ k. mode_of (w.made.file k)) request ≡ o → unless_refused o (plan_of c request) ≡ Err reply → IsReply reply × Stands t c request reply t
+    go : (o : Option Reply) → refusal (λ k. mode_of (w.made.file k)) request ≡ o → unless_refused o (plan_of c request) ≡ Err reply
+        → IsReply reply × Stands t c request reply t
     go (Some y) e k = by_refusal y (cc) e
     go None e k = let z = unplanned c request reply k in (z.0, applied t t c request reply z.0 z.1 applies)
 
 -- a mapping without MAP_FIXED
-pub no_place_stands : (w : World) (t : Plain) (c : ℕ) (request : Request) (place : Place) → Good w t → checked_by w.made c request ≡ Ok (PlanOf.Place place) → Stands t c request (Refused ENOMEM) t
+pub no_place_stands : (w : World) (t : Plain) (c : ℕ) (request : Request) (place : Place) → Good w t
+    → checked_by w.made c request ≡ Ok (PlanOf.Place place) → Stands t c request (Refused ENOMEM) t
 no_place_stands w t c request place g h = go request (passed (refusal (λ k. mode_of (w.made.file k)) request) (plan_of c request) (PlanOf.Place place) h)
   where
     Found : Request → Type 0
@@ -184,7 +191,8 @@ no_place_stands w t c request place g h = go request (passed (refusal (λ k. mod
     no_touch : (addr byte : ℕ) (access : Access) → touched addr access byte ≡ Ok (PlanOf.Place place) → ⊥
     no_touch addr byte access e = by (is_page (page_of addr)) e
       where
-        by : (b : Bool) → ◌≡◌ {A = Result Plan Reply} (if b then Ok (PlanOf.Touch (touch_of addr access byte)) else Err (Segv MapErr)) (Ok (PlanOf.Place place)) → ⊥
+        by : (b : Bool) → ◌≡◌ {A = Result Plan Reply} (if b then Ok (PlanOf.Touch (touch_of addr access byte)) else Err (Segv MapErr))
+            (Ok (PlanOf.Place place)) → ⊥
         by true e = cc
         by false e = cc
 
@@ -195,7 +203,8 @@ no_place_stands w t c request place g h = go request (passed (refusal (λ k. mod
         r = Mmap addr len prot flags file off
 
         by : (b : Bool) → flags.fixed ≡ b
-            → ◌≡◌ {A = Result Plan Reply} (if b then Ok (PlanOf.Change (Put (pages_of addr len) (meta_of prot flags file off))) else Ok (PlanOf.Place (place_of c addr len (meta_of prot flags file off)))) (Ok (PlanOf.Place place))
+            → ◌≡◌ {A = Result Plan Reply} (if b then Ok (PlanOf.Change (Put (pages_of addr len) (meta_of prot flags file off))) else Ok
+            (PlanOf.Place (place_of c addr len (meta_of prot flags file off)))) (Ok (PlanOf.Place place))
             → Stands t c r (Refused ENOMEM) t
         by true i e = absurd cc
         by false i e =
@@ -209,17 +218,20 @@ no_place_stands w t c request place g h = go request (passed (refusal (λ k. mod
 
 -- ---- requests that need no place
 
-fixed_change : (b : Bool) (x : Plan) (place : Place) (change : Change) → ◌≡◌ {A = Result Plan Reply} (if b then Ok x else Ok (PlanOf.Place place)) (Ok (PlanOf.Change change)) → not b ≡ false
+fixed_change : (b : Bool) (x : Plan) (place : Place) (change : Change)
+    → ◌≡◌ {A = Result Plan Reply} (if b then Ok x else Ok (PlanOf.Place place)) (Ok (PlanOf.Change change)) → not b ≡ false
 fixed_change true x place change h = refl
 fixed_change false x place change h = absurd cc
 
-fixed_touch : (b : Bool) (x : Change) (place : Place) (touch : Touch) → ◌≡◌ {A = Result Plan Reply} (if b then Ok (PlanOf.Change x) else Ok (PlanOf.Place place)) (Ok (PlanOf.Touch touch)) → ⊥
+fixed_touch : (b : Bool) (x : Change) (place : Place) (touch : Touch)
+    → ◌≡◌ {A = Result Plan Reply} (if b then Ok (PlanOf.Change x) else Ok (PlanOf.Place place)) (Ok (PlanOf.Touch touch)) → ⊥
 fixed_touch true x place touch h = cc
 fixed_touch false x place touch h = cc
 
 change_unplaced : (core : ℕ) (request : Request) (change : Change) → plan_of core request ≡ Ok (PlanOf.Change change) → is_placed request ≡ false
 change_unplaced core (Mmap addr len prot flags file off) change h =
-    fixed_change flags.fixed (PlanOf.Change (Put (pages_of addr len) (meta_of prot flags file off))) (place_of core addr len (meta_of prot flags file off)) change h
+    fixed_change flags.fixed (PlanOf.Change (Put (pages_of addr len) (meta_of prot flags file off)))
+    (place_of core addr len (meta_of prot flags file off)) change h
 change_unplaced core (Munmap addr len) change h = refl
 change_unplaced core (Mprotect addr len prot) change h = refl
 change_unplaced core (Load addr) change h = refl
@@ -257,17 +269,20 @@ core_free t u core request y placed h = go (refusal (λ k. mode_of (t.file k)) r
 
 -- ---- decisions
 
-decided_plain : (w : World) (t : Plain) (c : ℕ) (request : Request) (change : Change) (d : Decision) → Good w t → checked_by w.made c request ≡ Ok (PlanOf.Change change)
+decided_plain : (w : World) (t : Plain) (c : ℕ) (request : Request) (change : Change) (d : Decision) → Good w t
+    → checked_by w.made c request ≡ Ok (PlanOf.Change change)
     → Decides w.made.file w.slots (PlanOf.Change change) d → IsPlain t 0 request (PlanOf.Change change) d
 decided_plain w t c request change d g h k =
     plain t w.made.file w.slots 0 request (PlanOf.Change change) d (omega arith) (is_shown w t _ g)
     (at_first (λ n. mode_of (w.made.file n)) c request (PlanOf.Change change) tt h) tt k
 
 unplaced : (w : World) (c : ℕ) (request : Request) (change : Change) → checked_by w.made c request ≡ Ok (PlanOf.Change change) → is_placed request ≡ false
-unplaced w c request change h = change_unplaced c request change (passed (refusal (λ k. mode_of (w.made.file k)) request) (plan_of c request) (PlanOf.Change change) h).1
+unplaced w c request change h = change_unplaced c request change (passed (refusal (λ k. mode_of (w.made.file k)) request)
+    (plan_of c request) (PlanOf.Change change) h).1
 
 -- a refusal of the decision
-pub declined : (w : World) (t : Plain) (c : ℕ) (request : Request) (change : Change) (errno : Errno) → Good w t → checked_by w.made c request ≡ Ok (PlanOf.Change change)
+pub declined : (w : World) (t : Plain) (c : ℕ) (request : Request) (change : Change) (errno : Errno) → Good w t
+    → checked_by w.made c request ≡ Ok (PlanOf.Change change)
     → Decides w.made.file w.slots (PlanOf.Change change) (Refuse errno) → Stands t c request (Refused errno) t
 declined w t c request change errno g h k =
     let p : is_placed request ≡ false = unplaced w c request change h in
@@ -279,20 +294,25 @@ reply_is (Clear range) = tt
 reply_is (Protect range prot) = tt
 
 -- a change that is made
-pub acted : (w : World) (t : Plain) (c : ℕ) (request : Request) (change : Change) (shoot : ℕ) → Good w t → checked_by w.made c request ≡ Ok (PlanOf.Change change)
-    → Decides w.made.file w.slots (PlanOf.Change change) (Act (range_of change) shoot) → Stands t c request (reply_to change) (left_by t (PlanOf.Change change) (range_of change))
+pub acted : (w : World) (t : Plain) (c : ℕ) (request : Request) (change : Change) (shoot : ℕ) → Good w t
+    → checked_by w.made c request ≡ Ok (PlanOf.Change change)
+    → Decides w.made.file w.slots (PlanOf.Change change) (Act (range_of change) shoot)
+    → Stands t c request (reply_to change) (left_by t (PlanOf.Change change) (range_of change))
 acted w t c request change shoot g h k =
     let p : is_placed request ≡ false = unplaced w c request change h in
     let u : Plain = left_by t (PlanOf.Change change) (range_of change) in
-    applied t u c request (reply_to change) (reply_is change) p (core_free t u c request (reply_to change) p (decided_plain w t c request change (Act (range_of change) shoot) g h k))
+    applied t u c request (reply_to change) (reply_is change) p
+    (core_free t u c request (reply_to change) p (decided_plain w t c request change (Act (range_of change) shoot) g h k))
 
 -- ---- accesses
 
 -- what the entry of its page answers
-pub touched_stands : (w : World) (t u : Plain) (c : ℕ) (request : Request) (touch : Touch) (y : Reply) → IsReply y → checked_by w.made c request ≡ Ok (PlanOf.Touch touch)
+pub touched_stands : (w : World) (t u : Plain) (c : ℕ) (request : Request) (touch : Touch) (y : Reply) → IsReply y
+    → checked_by w.made c request ≡ Ok (PlanOf.Touch touch)
     → EntryAnswers t touch y u → Stands t c request y u
 touched_stands w t u c request touch y i h a =
-    applied t u c request y i (touch_unplaced c request touch (passed (refusal (λ k. mode_of (w.made.file k)) request) (plan_of c request) (PlanOf.Touch touch) h).1)
+    applied t u c request y i (touch_unplaced c request touch (passed (refusal (λ k. mode_of (w.made.file k)) request) (plan_of c request)
+    (PlanOf.Touch touch) h).1)
     ((access_answered t (λ n. mode_of (w.made.file n)) c request touch h y u).1 a)
 
 -- a page that an access reaches
@@ -310,6 +330,7 @@ no_frame_stands w t c request touch h k = go request (passed (refusal (λ k. mod
     go (Load addr) e = (its addr 0 To.Load e, refl)
     go (Store addr byte) e = (its addr byte To.Store e, refl)
     go (Fetch addr) e = (its addr 0 To.Fetch e, refl)
-    go (Mmap addr len prot flags file off) e = absurd (fixed_touch flags.fixed (Put (pages_of addr len) (meta_of prot flags file off)) (place_of c addr len (meta_of prot flags file off)) touch e)
+    go (Mmap addr len prot flags file off) e = absurd (fixed_touch flags.fixed (Put (pages_of addr len) (meta_of prot flags file off))
+        (place_of c addr len (meta_of prot flags file off)) touch e)
     go (Munmap addr len) e = absurd cc
     go (Mprotect addr len prot) e = absurd cc

@@ -94,13 +94,50 @@ ran = (
       -- core 0 makes the change, and lets the page go
       (then _ (Act (between 16 17) 0, (refl, λ core. (λ m. absurd (nobody core m), λ u. absurd (let z = u.2 in cc))), (refl, refl)) (then _ (refl, refl)
       (then _ (inl (quiet, (_, (_, refl, refl), (refl, refl))))
-      (then _ (17, (_, record { slot = one_page _ refl; by_end = omega arith; was_held = λ p h k. ap (λ b. cond b (Some 0) None) (only_16 p h k); now = refl }, (refl, refl)))
+      (then _ (
+        17,
+        (
+          _,
+          record {
+            slot = one_page _ refl;
+            by_end = omega arith;
+            was_held = λ p h k. ap (λ b. cond b (Some 0) None)
+                (only_16 p h k);
+            now = refl;
+          },
+          (refl, refl),
+        ),
+      )
       -- core 1 locks the page, gives it a frame, and stores
-      (then _ (Locked 17, (_, record { slot = one_page _ refl; by_end = omega arith; was_free = λ p h k. ap (λ b. cond b None (cond b (Some 0) None)) (only_16 p h k); now = refl }, (refl, refl)))
+      (then _ (
+        Locked 17,
+        (
+          _,
+          record {
+            slot = one_page _ refl;
+            by_end = omega arith;
+            was_free = λ p h k. ap (λ b. cond b None (cond b (Some 0) None)) (only_16 p h k);
+            now = refl;
+          },
+          (refl, refl),
+        ),
+      )
       (then _ (refl, refl)
       (then _ (inr (0, record { free = refl; least = λ g h. absurd (omega (arith, h)) }, (refl, refl)))
       (then _ (_, (unused_at_first 2 4 0, omega arith, omega arith, refl, omega arith), (refl, refl)) (then _ (refl, refl)
-      (then _ (17, (_, record { slot = one_page _ refl; by_end = omega arith; was_held = λ p h k. ap (λ b. cond b (Some 1) (cond b None (cond b (Some 0) None))) (only_16 p h k); now = refl }, (refl, refl)))
+      (then _ (
+        17,
+        (
+          _,
+          record {
+            slot = one_page _ refl;
+            by_end = omega arith;
+            was_held = λ p h k. ap (λ b. cond b (Some 1) (cond b None (cond b (Some 0) None))) (only_16 p h k);
+            now = refl;
+          },
+          (refl, refl),
+        ),
+      )
       (then _ (refl, refl)
       -- both hand out their replies
       (then _ (refl, refl) (then _ (refl, refl)

@@ -61,7 +61,8 @@ ShowsPage m (Some info) None = ⊥
 abbrev pub ShowsFile : (ℕ → Bytes) → (ℕ → Option ℕ) → Option File → Option File → Type 0
 ShowsFile bytes cached None None = Unit {0}
 ShowsFile bytes cached (Some first) (Some now) =
-    (first.mode ≡ now.mode) × (first.count ≡ now.count) × ((k : ℕ) → now.bytes k ≡ bytes_in bytes (first.bytes k) (cached k))
+    (first.mode ≡ now.mode) × (first.count ≡ now.count)
+    × ((k : ℕ) → now.bytes k ≡ bytes_in bytes (first.bytes k) (cached k))
 ShowsFile bytes cached None (Some now) = ⊥
 ShowsFile bytes cached (Some first) None = ⊥
 
@@ -81,7 +82,8 @@ Good w t = Shows w.made.file w.slots.info w.memory t
 
 -- of these parts of a state: they are orderly, translations keep up with slots, frames are counted, and the log leads to a plain page map
 -- that slots and memory show
-pub record Fit (made : Made) (s : Slots) (h : Hardware) (m : Memory) (phase : ℕ → Phase) (number : ℕ → ℕ) (requests : List Request)
+pub record Fit (made : Made) (s : Slots) (h : Hardware) (m : Memory) (phase : ℕ → Phase) (number : ℕ → ℕ)
+    (requests : List Request)
     (entries : List Entry) : Type 0 where
   pub order : Order made s m phase number requests entries
   pub coherent : IsCoherent m.cached s.info phase h

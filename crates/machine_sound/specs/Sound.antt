@@ -59,7 +59,8 @@ IsDue event is_free _ = Unit {0}
 abbrev pub Notes : World → Event → World → Type 0
 Notes w event v =
     (v.calls.log ≡ w.calls.log)
-    ⊎ ((entry : Entry) × (v.calls.log ≡ w.calls.log ++ entry ∷ []) × (step_of entry ≡ v.calls.events) × IsDue event w.memory.is_free entry)
+    ⊎ ((entry : Entry) × (v.calls.log ≡ w.calls.log ++ entry ∷ []) × (step_of entry ≡ v.calls.events)
+    × IsDue event w.memory.is_free entry)
 
 -- what made a frame free: a review of Refcache, or a call that had taken it for a page, and is given up or shows a file's frame instead
 pub data IsFreedBy (w : World) (event : Event) (f : ℕ) : Type 0 where
@@ -74,7 +75,8 @@ FreesOnly w event v = (f : ℕ) → w.memory.is_free f ≡ false → v.memory.is
 -- its message.
 abbrev pub IsBlocked : World → Event → Outcome → Type 0
 IsBlocked w event (Wait (WaitsFor.Slot by)) =
-    (c : ℕ) × (event ≡ Go c) × (by ≢ c) × (p : ℕ) × (some_has (range_in (w.calls.phase c)) p ≡ true) × (w.slots.owner p ≡ Some by)
+    (c : ℕ) × (event ≡ Go c) × (by ≢ c) × (p : ℕ) × (some_has (range_in (w.calls.phase c)) p ≡ true)
+    × (w.slots.owner p ≡ Some by)
 IsBlocked w event (Wait (WaitsFor.Acks set)) = (c : ℕ) × (event ≡ Go c) × Awaits w.hardware c set
 IsBlocked w event _ = Unit {0}
 
@@ -101,14 +103,16 @@ AllReachedAreSound = (w : World) → IsReached w → IsSoundState w
 
 -- and so is each step from there
 abbrev pub AllStepsAreSound : Type 0
-AllStepsAreSound = (w v : World) (event : Event) (outcome : Outcome) → IsReached w → Step w event outcome v → IsSoundStep w event outcome v
+AllStepsAreSound = (w v : World) (event : Event) (outcome : Outcome) → IsReached w → Step w event outcome v
+    → IsSoundStep w event outcome v
 
 -- ---- runs, state by state
 
 -- The events, in order, may come to these outcomes one after another; each state on the way is sound, and each step.
 abbrev pub SoundRun : World → List Event → List Outcome → World → Type 0
 SoundRun w [] [] v = IsSoundState w × (v ≡ w)
-SoundRun w (e ∷ es) (o ∷ os) v = IsSoundState w × ((m : World) × Step w e o m × IsSoundStep w e o m × SoundRun m es os v)
+SoundRun w (e ∷ es) (o ∷ os) v = IsSoundState w × ((m : World) × Step w e o m × IsSoundStep w e o m
+    × SoundRun m es os v)
 SoundRun w [] (o ∷ os) v = ⊥
 SoundRun w (e ∷ es) [] v = ⊥
 

@@ -45,13 +45,15 @@ module _ {X V : Type 0} (at : X → ℕ → V) (none : V) (old : List X) (d : X)
       → ((r : ℕ) → r < P → at x r ≡ cond (part r) none (at (get_or cur i d) r)) → ((r : ℕ) → r < P → part r ≡ s (i * P + r)) → Cleared (set cur i x) (i + 1)
   cleared_next cur i part x pos h inv new same q = by (q / P == i) refl
     where
-      by : (b : Bool) → (q / P == i) ≡ b → at (get_or (set cur i x) (q / P) d) (q % P) ≡ cond (s q && nat_lt (q / P) (i + 1)) none (at (get_or old (q / P) d) (q % P))
+      by : (b : Bool) → (q / P == i) ≡ b → at (get_or (set cur i x) (q / P) d) (q % P) ≡ cond (s q && nat_lt (q / P) (i + 1)) none
+          (at (get_or old (q / P) d) (q % P))
       by true t =
           let e : q / P ≡ i = eq_true (q / P) i t in
           let less : q % P < P = omega arith in
           let whole : i * P + q % P ≡ q = ap (λ k. k * P + q % P) (sym e) ∙ omega arith in
           let before : at (get_or cur i d) (q % P) ≡ at (get_or old i d) (q % P) =
-          ap (λ k. at (get_or cur k d) (q % P)) (sym e) ∙ inv q ∙ ap (λ k. cond (s q && nat_lt k i) none (at (get_or old k d) (q % P))) e ∙ ap (λ b. cond b none (at (get_or old i d) (q % P))) (not_yet (s q) i) in
+          ap (λ k. at (get_or cur k d) (q % P)) (sym e) ∙ inv q ∙ ap (λ k. cond (s q && nat_lt k i) none (at (get_or old k d) (q % P))) e
+          ∙ ap (λ b. cond b none (at (get_or old i d) (q % P))) (not_yet (s q) i) in
           ap (λ k. at (get_or (set cur i x) k d) (q % P)) e
           ∙ ap (λ y. at y (q % P)) (get_or-set_same cur i x d h)
           ∙ new (q % P) less

@@ -31,7 +31,8 @@ counted_there es i h d lt e =
     omega arith
 
 -- the hash of the page that stands at a place
-pub found_hash : (es : List TlbEntry) (p i h : ℕ) (d : TlbEntry) → position (λ (e : TlbEntry). e.page == p) es ≡ Some i → h ≡ page_hash p → page_hash (get_or es i d).page ≡ h
+pub found_hash : (es : List TlbEntry) (p i h : ℕ) (d : TlbEntry) → position (λ (e : TlbEntry). e.page == p) es ≡ Some i → h ≡ page_hash p
+    → page_hash (get_or es i d).page ≡ h
 found_hash es p i h d at e =
     let test : ((get_or es i d).page == p) ≡ true = (position-Some (λ (e : TlbEntry). e.page == p) es i d at).1 in
     let same : (get_or es i d).page ≡ p = grind (arith, nat_tests) in
@@ -61,7 +62,8 @@ none_hashed es p zero_count = go (position_or_len is_it es) at_end
         absurd (omega arith)
 
     at_end : position_or_len (λ (e : TlbEntry). e.page == p) es ≡ length es
-    at_end = position_or_len_is (λ (e : TlbEntry). e.page == p) es (length es) blank (omega arith) (λ k lt. differs k lt ((get_or es k blank).page == p) refl) (λ lt. absurd (omega arith))
+    at_end = position_or_len_is (λ (e : TlbEntry). e.page == p) es (length es) blank (omega arith)
+        (λ k lt. differs k lt ((get_or es k blank).page == p) refl) (λ lt. absurd (omega arith))
 
     go : (n : ℕ) → n ≡ length es → cond (nat_lt n (length es)) (Some n) None ≡ None
     go n e = ap (λ b. cond b (Some n) None) past
@@ -77,7 +79,8 @@ set_elsewhere : (cs : List ℕ) (k v h : ℕ) → h ≢ k → slice_index (slice
 set_elsewhere cs k v h n = get_or-set_other cs k h v 0 n
 
 -- one less of its hash after a translation has gone
-pub counts_removed : (cs : List ℕ) (es : List TlbEntry) (i k : ℕ) (d : TlbEntry) → k < 256 → AreCounts cs es → i < length es → page_hash (get_or es i d).page ≡ k → AreCounts (slice_set cs k (slice_index cs k - 1)) (remove es i)
+pub counts_removed : (cs : List ℕ) (es : List TlbEntry) (i k : ℕ) (d : TlbEntry) → k < 256 → AreCounts cs es → i < length es
+    → page_hash (get_or es i d).page ≡ k → AreCounts (slice_set cs k (slice_index cs k - 1)) (remove es i)
 counts_removed cs es i k d small counts lt e = record { whole = length-set cs k _ ∙ counts.whole; exact = λ h below. go h below (h == k) refl }
   where
     rest : (h : ℕ) → hashed h (remove es i) + has_hash h (get_or es i d) ≡ hashed h es
@@ -97,7 +100,8 @@ counts_removed cs es i k d small counts lt e = record { whole = length-set cs k 
         set_elsewhere cs k (slice_index cs k - 1) h apart ∙ omega (arith, rest h)
 
 -- one more of its hash after a translation has come
-pub counts_pushed : (cs : List ℕ) (es : List TlbEntry) (x : TlbEntry) (k : ℕ) → k < 256 → AreCounts cs es → page_hash x.page ≡ k → AreCounts (slice_set cs k (slice_index cs k + 1)) (es ++ x ∷ [])
+pub counts_pushed : (cs : List ℕ) (es : List TlbEntry) (x : TlbEntry) (k : ℕ) → k < 256 → AreCounts cs es → page_hash x.page ≡ k
+    → AreCounts (slice_set cs k (slice_index cs k + 1)) (es ++ x ∷ [])
 counts_pushed cs es x k small counts e = record { whole = length-set cs k _ ∙ counts.whole; exact = λ h below. go h below (h == k) refl }
   where
     all : (h : ℕ) → hashed h (es ++ x ∷ []) ≡ hashed h es + has_hash h x
@@ -124,7 +128,8 @@ pub filter_all : (p : TlbEntry → Bool) (es : List TlbEntry) → length (filter
 filter_all p [] e = refl
 filter_all p (x ∷ xs) e = go (p x) (filter_all p xs) e
   where
-    go : (b : Bool) → (length (filter p xs) ≡ length xs → filter p xs ≡ xs) → length (cond b (x ∷ filter p xs) (filter p xs)) ≡ length (x ∷ xs) → cond b (x ∷ filter p xs) (filter p xs) ≡ x ∷ xs
+    go : (b : Bool) → (length (filter p xs) ≡ length xs → filter p xs ≡ xs) → length (cond b (x ∷ filter p xs) (filter p xs)) ≡ length
+        (x ∷ xs) → cond b (x ∷ filter p xs) (filter p xs) ≡ x ∷ xs
     go true more f = ap (λ ys. x ∷ ys) (more (omega arith))
     go false more f =
         let few : length (filter p xs) ≤ length xs = length_filter p xs in

@@ -47,7 +47,8 @@ absent_without s (x ∷ xs) p h = go (absent_without s xs p (parts x xs p h).1) 
 apart_head : (x : TlbEntry) (xs : List TlbEntry) → are_distinct (x ∷ xs) ≡ true → (tlb_at xs x.page ≡ None) × (are_distinct xs ≡ true)
 apart_head x xs h = go (tlb_at xs x.page) refl (are_distinct xs) refl h
   where
-    go : (o : Option Translation) → tlb_at xs x.page ≡ o → (b : Bool) → are_distinct xs ≡ b → (not (is_some o) && b) ≡ true → (tlb_at xs x.page ≡ None) × (are_distinct xs ≡ true)
+    go : (o : Option Translation) → tlb_at xs x.page ≡ o → (b : Bool) → are_distinct xs ≡ b → (not (is_some o) && b) ≡ true
+        → (tlb_at xs x.page ≡ None) × (are_distinct xs ≡ true)
     go None e true f h = (e, f)
     go None e false f h = absurd cc
     go (Some t) e b f h = absurd cc
@@ -55,7 +56,8 @@ apart_head x xs h = go (tlb_at xs x.page) refl (are_distinct xs) refl h
 distinct_more : (x : TlbEntry) (xs : List TlbEntry) → tlb_at xs x.page ≡ None → are_distinct xs ≡ true → are_distinct (x ∷ xs) ≡ true
 distinct_more x xs e f = ap (λ o. not (is_some o) && are_distinct xs) e ∙ f
 
-apart : (es : List TlbEntry) (i k : ℕ) (d : TlbEntry) (p : ℕ) → are_distinct es ≡ true → k < i → i < length es → ((get_or es i d).page == p) ≡ true → ((get_or es k d).page == p) ≡ false
+apart : (es : List TlbEntry) (i k : ℕ) (d : TlbEntry) (p : ℕ) → are_distinct es ≡ true → k < i → i < length es
+    → ((get_or es i d).page == p) ≡ true → ((get_or es k d).page == p) ≡ false
 apart [] i k d p h lt l e = absurd (omega arith)
 apart (x ∷ xs) zero k d p h lt l e = absurd (omega arith)
 apart (x ∷ xs) (suc i) zero d p h lt l e =
@@ -65,8 +67,10 @@ apart (x ∷ xs) (suc i) zero d p h lt l e =
 apart (x ∷ xs) (suc i) (suc k) d p h lt l e = apart xs i k d p (apart_head x xs h).1 (omega arith) (omega arith) e
 
 -- wherever the page stands, that is its first place
-pub at_place : (es : List TlbEntry) (p i : ℕ) (d : TlbEntry) → are_distinct es ≡ true → i < length es → ((get_or es i d).page == p) ≡ true → position (λ (e : TlbEntry). e.page == p) es ≡ Some i
-at_place es p i d h l e = go (position_or_len (λ (x : TlbEntry). x.page == p) es) (position_or_len_is (λ (x : TlbEntry). x.page == p) es i d (omega arith) (λ k lt. apart es i k d p h lt l e) (λ _. e))
+pub at_place : (es : List TlbEntry) (p i : ℕ) (d : TlbEntry) → are_distinct es ≡ true → i < length es → ((get_or es i d).page == p) ≡ true
+    → position (λ (e : TlbEntry). e.page == p) es ≡ Some i
+at_place es p i d h l e = go (position_or_len (λ (x : TlbEntry). x.page == p) es)
+    (position_or_len_is (λ (x : TlbEntry). x.page == p) es i d (omega arith) (λ k lt. apart es i k d p h lt l e) (λ _. e))
   where
     go : (n : ℕ) → n ≡ i → (if nat_lt n (length es) then Some n else None) ≡ Some i
     go n same = rw same (ap (λ b. if b then Some i else None) below)
@@ -111,7 +115,8 @@ none_dropped [] p h = refl
 none_dropped (x ∷ xs) p h = rw (parts x xs p h).0 (ap (λ ys. x ∷ ys) (none_dropped xs p (parts x xs p h).1))
 
 -- wherever the page stands, what is left there is all but that page
-one_dropped : (es : List TlbEntry) (p i : ℕ) (d : TlbEntry) → are_distinct es ≡ true → i < length es → ((get_or es i d).page == p) ≡ true → remove es i ≡ tlb_without (is_page p) es
+one_dropped : (es : List TlbEntry) (p i : ℕ) (d : TlbEntry) → are_distinct es ≡ true → i < length es → ((get_or es i d).page == p) ≡ true
+    → remove es i ≡ tlb_without (is_page p) es
 one_dropped [] p i d h l e = absurd (omega arith)
 one_dropped (x ∷ xs) p zero d h l e =
     let here : x.page ≡ p = grind (arith, nat_tests) in
@@ -122,5 +127,6 @@ one_dropped (x ∷ xs) p (suc i) d h l e =
     rw differs (ap (λ ys. x ∷ ys) (one_dropped xs p i d (apart_head x xs h).1 (omega arith) e))
 
 -- what is left at the place that the page was found at
-pub found_dropped : (es : List TlbEntry) (p i : ℕ) (d : TlbEntry) → are_distinct es ≡ true → position (λ (e : TlbEntry). e.page == p) es ≡ Some i → remove es i ≡ tlb_without (is_page p) es
+pub found_dropped : (es : List TlbEntry) (p i : ℕ) (d : TlbEntry) → are_distinct es ≡ true
+    → position (λ (e : TlbEntry). e.page == p) es ≡ Some i → remove es i ≡ tlb_without (is_page p) es
 found_dropped es p i d h at = let s = position-Some (λ (e : TlbEntry). e.page == p) es i d at in one_dropped es p i d h s.0 s.1

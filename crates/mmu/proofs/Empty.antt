@@ -10,7 +10,8 @@ get_or-replicate_default (suc n) x zero = refl
 get_or-replicate_default (suc n) x (suc i) = get_or-replicate_default n x i
 
 -- the table that was put at a page's place is the one that is read there
-pub read_there : {X : Type 0} (xs : List (Option X)) (page width below : ℕ) (x : Option X) → width / 512 ≡ below → 0 < below → page < 512 * below → length xs ≡ 512
+pub read_there : {X : Type 0} (xs : List (Option X)) (page width below : ℕ) (x : Option X) → width / 512 ≡ below → 0 < below
+    → page < 512 * below → length xs ≡ 512
     → get_or (set xs (page / (width / 512)) x) (page / below) None ≡ x
 read_there xs page width below x e pos lt n =
     let q : page / below < 512 = (div-lt_iff_lt-mul pos).1 lt in

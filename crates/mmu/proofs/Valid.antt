@@ -22,7 +22,8 @@ same_pages N f g h e = fun_ext (λ q. at q (is_page q) refl)
     at q false t = refl
 
 -- the entries of a range are gone
-pub over_pages : (N : ℕ) (f g : ℕ → Option Translation) (r : PageRange) → 2 ^ 35 ≤ N → ((q : ℕ) → q < N → g q ≡ over f (has r) None q) → on_pages g ≡ over (on_pages f) (has r) None
+pub over_pages : (N : ℕ) (f g : ℕ → Option Translation) (r : PageRange) → 2 ^ 35 ≤ N → ((q : ℕ) → q < N → g q ≡ over f (has r) None q)
+    → on_pages g ≡ over (on_pages f) (has r) None
 over_pages N f g r h e = fun_ext (λ q. at q (is_page q) refl)
   where
     none : (b : Bool) → ◌≡◌ {A = Option Translation} None (cond b None None)
@@ -34,7 +35,8 @@ over_pages N f g r h e = fun_ext (λ q. at q (is_page q) refl)
     at q false t = none (has r q)
 
 -- one entry is set
-pub put_pages : (N : ℕ) (f g : ℕ → Option Translation) (p : ℕ) (t : Option Translation) → 2 ^ 35 ≤ N → is_page p ≡ true → g p ≡ t → ((q : ℕ) → q < N → q ≢ p → g q ≡ f q) → on_pages g ≡ put (on_pages f) p t
+pub put_pages : (N : ℕ) (f g : ℕ → Option Translation) (p : ℕ) (t : Option Translation) → 2 ^ 35 ≤ N → is_page p ≡ true → g p ≡ t
+    → ((q : ℕ) → q < N → q ≢ p → g q ≡ f q) → on_pages g ≡ put (on_pages f) p t
 put_pages N f g p t h v here there = fun_ext (put_all (λ q x. on_pages g q ≡ x) (on_pages f) p t (rw v here) (λ q ne. at q ne (is_page q) refl))
   where
     at : (q : ℕ) → q ≢ p → (b : Bool) → is_page q ≡ b → cond b (g q) None ≡ cond b (f q) None

@@ -24,7 +24,11 @@ entry_word t = t.frame * 4096 + 1 + (if t.write then 2 else 0) + 4 + (if t.exec 
 
 -- what the bits of an entry say; without P it says nothing
 abbrev pub decode : ℕ → Option Translation
-decode w = if w % 2 == 0 then None else Some (record { frame = w / 4096 % 2 ^ 32; write = w / 2 % 2 == 1; exec = nat_lt w (2 ^ 63) })
+decode w = if w % 2 == 0 then None else Some (record {
+  frame = w / 4096 % 2 ^ 32;
+  write = w / 2 % 2 == 1;
+  exec = nat_lt w (2 ^ 63);
+})
 
 -- the nine bits of an address from this one on
 abbrev pub level_index : ℕ → ℕ → ℕ

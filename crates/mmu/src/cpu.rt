@@ -44,7 +44,8 @@ pub trait Hardware: Drop {
     fn install(&mut self, page: u64, frame: u32, prot: Prot) -> Result<(), NoMemory>
         requires page { is_valid page ≡ true }
         requires some_right { has_right prot ≡ true }
-        ensures ok { OnOk result (table self.new ≡ put (table self.old) page (Some (translation_of frame prot))) }
+        ensures ok { OnOk result
+            (table self.new ≡ put (table self.old) page (Some (translation_of frame prot))) }
         ensures err { OnErr result (table self.new ≡ table self.old) }
         ensures err_only { OnErr result (table self.old page ≡ None) }
         ensures err_last { OnErr result ((q : ℕ) → q / 512 ≡ page / 512 → table self.old q ≡ None) }

@@ -50,7 +50,8 @@ pub trait Level<A: Allocator>: Drop {
         ensures there { OnOk result (entry_at self.new page ≡ Some translation) }
         ensures err { OnErr result (entry_at self.new page ≡ entry_at self.old page) }
         ensures err_only { OnErr result (entry_at self.old page ≡ None) }
-        ensures err_last { OnErr result ((q : ℕ) → q < pages → q / 512 ≡ page / 512 → entry_at self.old q ≡ None) }
+        ensures err_last { OnErr result ((q : ℕ) → q < pages → q / 512 ≡ page / 512
+            → entry_at self.old q ≡ None) }
         ensures others { (q : ℕ) → q < pages → q ≢ page → entry_at self.new q ≡ entry_at self.old q };
 
     ghost some_page: { 0 < pages };
@@ -106,7 +107,8 @@ impl<A: Allocator + Clone> Level<A> for Leaf<A> {
 fn erase<A: Allocator>(words: &mut Vec<u64, A>, range: PageRange)
     requires { range.end ≤ vec_len words.old }
     ensures len { vec_len words.new ≡ vec_len words.old }
-    ensures words { (q : ℕ) → slice_index words.new.items q ≡ over (λ p. slice_index words.old.items p) (has range) 0 q }
+    ensures words { (q : ℕ) → slice_index words.new.items q ≡ over (λ p. slice_index words.old.items p)
+        (has range) 0 q }
 {
     'pages: for page in range.first..range.end {
         words[page as usize] = 0;

@@ -22,7 +22,8 @@ unused_open n m o = record { zero = count_clear (no_counts n m) o (λ c lt. refl
 unused_begun : (v : Counts) (p k o : ℕ) → o ≢ p → IsUnused v o → IsUnused (begun p k v) o
 unused_begun v p k o ne u = record { zero = count_begun_other p k v o ne ∙ u.zero; entries = u.entries; unqueued = u.unqueued }
 
-pub trial_open : (p : Parts) (n m : ℕ) (trues : List ℕ) → n ≤ 64 → counts_of p ≡ no_counts n m → length trues ≡ m → All (λ k. k ≡ 0) trues → IsTrial p n trues true
+pub trial_open : (p : Parts) (n m : ℕ) (trues : List ℕ) → n ≤ 64 → counts_of p ≡ no_counts n m → length trues ≡ m → All (λ k. k ≡ 0) trues
+    → IsTrial p n trues true
 trial_open p n m trues few e count zeros = record {
   same_cores = ap (λ v. v.cores) e;
   few = few;
@@ -54,10 +55,12 @@ trial_on p q s n xs ys fresh f t count moves = record {
 nothing : (z : ℤ) → z ≡ z +ℤ pos 0
 nothing z = omega (arith, ints)
 
-pub trial_flushed : (p q : Parts) (c : ℕ) (r : Flush) (n : ℕ) (xs : List ℕ) (fresh : Bool) → IsTrial p n xs fresh → Takes (counts_of p) (Flushing c r) (counts_of q) → IsTrial q n xs false
+pub trial_flushed : (p q : Parts) (c : ℕ) (r : Flush) (n : ℕ) (xs : List ℕ) (fresh : Bool) → IsTrial p n xs fresh
+    → Takes (counts_of p) (Flushing c r) (counts_of q) → IsTrial q n xs false
 trial_flushed p q c r n xs fresh f t = trial_on p q (Flushing c r) n xs xs fresh f t refl (λ o _. nothing (pos (slice_index_or xs o 0)))
 
-pub trial_reviewed : (p q : Parts) (c : ℕ) (r : Review) (n : ℕ) (xs : List ℕ) (fresh : Bool) → IsTrial p n xs fresh → Takes (counts_of p) (Reviewing c r) (counts_of q) → IsTrial q n xs false
+pub trial_reviewed : (p q : Parts) (c : ℕ) (r : Review) (n : ℕ) (xs : List ℕ) (fresh : Bool) → IsTrial p n xs fresh
+    → Takes (counts_of p) (Reviewing c r) (counts_of q) → IsTrial q n xs false
 trial_reviewed p q c r n xs fresh f t = trial_on p q (Reviewing c r) n xs xs fresh f t refl (λ o _. nothing (pos (slice_index_or xs o 0)))
 
 -- one item of the list is set
@@ -65,7 +68,8 @@ set_moves : (xs : List ℕ) (o k : ℕ) (d : ℤ) → o < length xs → pos k �
     → (j : ℕ) → j < length xs → pos (slice_index_or (slice_set xs o k) j 0) ≡ pos (slice_index_or xs j 0) +ℤ cond (j == o) d (pos 0)
 set_moves xs o k d inside e j lt =
     by_test (λ z. pos (slice_index_or (slice_set xs o k) j 0) ≡ pos (slice_index_or xs j 0) +ℤ z) (j == o) d (pos 0)
-    (λ t. subst (λ i. pos (slice_index_or (slice_set xs o k) i 0) ≡ pos (slice_index_or xs i 0) +ℤ d) (sym (eq_true j o t)) (ap pos (get_or-set_same xs o k 0 inside) ∙ e))
+    (λ t. subst (λ i. pos (slice_index_or (slice_set xs o k) i 0) ≡ pos (slice_index_or xs i 0) +ℤ d) (sym (eq_true j o t))
+    (ap pos (get_or-set_same xs o k 0 inside) ∙ e))
     (λ t. ap pos (get_or-set_other xs o j k 0 (eq_false j o t)) ∙ nothing (pos (slice_index_or xs j 0)))
 
 pub trial_up : (p q : Parts) (c o : ℕ) (n : ℕ) (xs : List ℕ) (fresh : Bool) → IsTrial p n xs fresh → Takes (counts_of p) (Inc c o) (counts_of q) → o < length xs
@@ -74,13 +78,15 @@ trial_up p q c o n xs fresh f t inside =
     trial_on p q (Inc c o) n xs (slice_set xs o (slice_index_or xs o 0 + 1)) fresh f t (length-set xs o (slice_index_or xs o 0 + 1))
     (set_moves xs o (slice_index_or xs o 0 + 1) (pos 1) inside (omega (arith, ints)))
 
-pub trial_down : (p q : Parts) (c o : ℕ) (n : ℕ) (xs : List ℕ) (fresh : Bool) → IsTrial p n xs fresh → Takes (counts_of p) (Dec c o) (counts_of q) → o < length xs → 0 < slice_index_or xs o 0
+pub trial_down : (p q : Parts) (c o : ℕ) (n : ℕ) (xs : List ℕ) (fresh : Bool) → IsTrial p n xs fresh
+    → Takes (counts_of p) (Dec c o) (counts_of q) → o < length xs → 0 < slice_index_or xs o 0
     → IsTrial q n (slice_set xs o (slice_index_or xs o 0 - 1)) false
 trial_down p q c o n xs fresh f t inside some =
     trial_on p q (Dec c o) n xs (slice_set xs o (slice_index_or xs o 0 - 1)) fresh f t (length-set xs o (slice_index_or xs o 0 - 1))
     (set_moves xs o (slice_index_or xs o 0 - 1) (negsuc 0) inside (omega (arith, ints, some)))
 
-pub trial_begun : (p q : Parts) (o k : ℕ) (n : ℕ) (xs : List ℕ) → IsTrial p n xs true → Takes (counts_of p) (Begin o k) (counts_of q) → o < length xs → slice_index_or xs o 0 ≡ 0 → 0 < k
+pub trial_begun : (p q : Parts) (o k : ℕ) (n : ℕ) (xs : List ℕ) → IsTrial p n xs true → Takes (counts_of p) (Begin o k) (counts_of q)
+    → o < length xs → slice_index_or xs o 0 ≡ 0 → 0 < k
     → IsTrial q n (slice_set xs o k) true
 trial_begun p q o k n xs f t inside none some = record {
   same_cores = g.same_cores;
@@ -97,13 +103,16 @@ trial_begun p q o k n xs f t inside none some = record {
     len = length-set xs o k
 
     go : (j : ℕ) → j < length xs → slice_index_or (slice_set xs o k) j 0 ≡ 0 → (j ≡ o) ⊎ (j ≢ o) → IsUnused (counts_of q) j
-    go j lt zero (inl e) = absurd (let there : k ≡ 0 = sym (get_or-set_same xs o k 0 inside) ∙ ap (λ i. slice_index_or (slice_set xs o k) i 0) (sym e) ∙ zero in omega (arith, there, some))
+    go j lt zero (inl e) = absurd (let there : k ≡ 0 = sym (get_or-set_same xs o k 0 inside)
+        ∙ ap (λ i. slice_index_or (slice_set xs o k) i 0) (sym e) ∙ zero in omega (arith, there, some))
     go j lt zero (inr ne) =
         subst (λ v. IsUnused v j) (sym t.3) (unused_begun (counts_of p) o k j ne (f.unused refl j lt (sym (get_or-set_other xs o j k 0 ne) ∙ zero)))
 
 -- what the list says of the true count, as the calls ask it
-pub trial_used : (p : Parts) (n : ℕ) (xs : List ℕ) (fresh : Bool) (o : ℕ) → IsTrial p n xs fresh → o < length xs → 0 < slice_index_or xs o 0 → pos 0 <ℤ true_count (counts_of p) o
+pub trial_used : (p : Parts) (n : ℕ) (xs : List ℕ) (fresh : Bool) (o : ℕ) → IsTrial p n xs fresh → o < length xs
+    → 0 < slice_index_or xs o 0 → pos 0 <ℤ true_count (counts_of p) o
 trial_used p n xs fresh o f lt some = let e = f.exact o lt in omega (arith, ints, e, some)
 
-pub trial_few : (p : Parts) (n : ℕ) (xs : List ℕ) (fresh : Bool) (o : ℕ) → IsTrial p n xs fresh → o < length xs → slice_index_or xs o 0 < 2 ^ 40 → true_count (counts_of p) o <ℤ pos (2 ^ 40)
+pub trial_few : (p : Parts) (n : ℕ) (xs : List ℕ) (fresh : Bool) (o : ℕ) → IsTrial p n xs fresh → o < length xs
+    → slice_index_or xs o 0 < 2 ^ 40 → true_count (counts_of p) o <ℤ pos (2 ^ 40)
 trial_few p n xs fresh o f lt few = let e = f.exact o lt in omega (arith, ints, e, few)

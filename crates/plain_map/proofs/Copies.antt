@@ -32,7 +32,8 @@ own_pushed {A = A} xs l y e = ap (λ (z : List (OwnPage A)). own_at z) e ∙ fun
     go p false false e f = refl
 
 -- another copy of one page changes the entry of that page
-pub put_state : (own : ℕ → Option Bytes) (meta : ℕ → Option Meta) (file : ℕ → Option File) (p : ℕ) (w : Option Bytes) (x : Option Entry) → entry_of w (meta p) ≡ x
+pub put_state : (own : ℕ → Option Bytes) (meta : ℕ → Option Meta) (file : ℕ → Option File) (p : ℕ) (w : Option Bytes) (x : Option Entry)
+    → entry_of w (meta p) ≡ x
     → state (put own p w) meta file ≡ record (state own meta file) { entry = put (state own meta file).entry p x }
 put_state own meta file p w x h =
     ap (λ (e : ℕ → Option Entry). record (state own meta file) { entry = e })
@@ -41,7 +42,8 @@ put_state own meta file p w x h =
     (λ j ne. ap (λ (o : Option Bytes). entry_of o (meta j)) (put_other own p w j ne))))
 
 -- and none where the entry is the same as before
-pub same_entry : (own : ℕ → Option Bytes) (meta : ℕ → Option Meta) (file : ℕ → Option File) (p : ℕ) (w : Option Bytes) → entry_of w (meta p) ≡ entry_of (own p) (meta p)
+pub same_entry : (own : ℕ → Option Bytes) (meta : ℕ → Option Meta) (file : ℕ → Option File) (p : ℕ) (w : Option Bytes)
+    → entry_of w (meta p) ≡ entry_of (own p) (meta p)
     → state (put own p w) meta file ≡ state own meta file
 same_entry own meta file p w h =
     put_state own meta file p w (entry_of (own p) (meta p)) h
@@ -66,10 +68,12 @@ second : (a b : Bool) → (a && b) ≡ true → b ≡ true
 second true b h = h
 second false b h = absurd cc
 
-pub room_same : (own own2 : ℕ → Option Bytes) (meta : ℕ → Option Meta) (file : ℕ → Option File) (p : ℕ) (b : Bytes) (r : Option Reply) → (is_done r && lacks_bytes (own p) (meta p)) ≡ true → b ≡ zeros → own2 ≡ put own p (Some b)
+pub room_same : (own own2 : ℕ → Option Bytes) (meta : ℕ → Option Meta) (file : ℕ → Option File) (p : ℕ) (b : Bytes) (r : Option Reply)
+    → (is_done r && lacks_bytes (own p) (meta p)) ≡ true → b ≡ zeros → own2 ≡ put own p (Some b)
     → state own2 meta file ≡ state own meta file
 room_same own own2 meta file p b r h e is =
-    ap (λ (o : ℕ → Option Bytes). state o meta file) (is ∙ ap (λ (x : Bytes). put own p (Some x)) e) ∙ same_entry own meta file p (Some zeros) (zero_entry (own p) (meta p) (second (is_done r) (lacks_bytes (own p) (meta p)) h))
+    ap (λ (o : ℕ → Option Bytes). state o meta file) (is ∙ ap (λ (x : Bytes). put own p (Some x)) e)
+    ∙ same_entry own meta file p (Some zeros) (zero_entry (own p) (meta p) (second (is_done r) (lacks_bytes (own p) (meta p)) h))
 
 pub room_there : (own own2 : ℕ → Option Bytes) (m : Option Meta) (p : ℕ) (b : Bytes) → own2 ≡ put own p (Some b) → lacks_bytes (own2 p) m ≡ false
 room_there own own2 m p b is = ap (λ (o : Option Bytes). lacks_bytes o m) (ap (λ (f : ℕ → Option Bytes). f p) is ∙ put_same own p (Some b))
@@ -88,13 +92,15 @@ back_stored t p i byte o prot (Shared file page) s h = ap (λ (x : FilePage). fi
     one : {x y : FilePage} → Some x ≡ Some y → y ≡ x
     one e = cc
 
-pub stored_shared : (t : Plain) (p i byte : ℕ) (o : Option Bytes) (m : Option Meta) (s : FilePage) → shared_of m ≡ Some s → file_stored t i byte s ≡ stored_entry t p (entry_of o m) i byte
+pub stored_shared : (t : Plain) (p i byte : ℕ) (o : Option Bytes) (m : Option Meta) (s : FilePage) → shared_of m ≡ Some s
+    → file_stored t i byte s ≡ stored_entry t p (entry_of o m) i byte
 stored_shared t p i byte o None s h = absurd cc
 stored_shared t p i byte o (Some m) s h = back_stored t p i byte o m.prot m.back s h
 
 -- a store to own bytes
 
-pub stored_copy : (own : ℕ → Option Bytes) (meta : ℕ → Option Meta) (file : ℕ → Option File) (p i byte : ℕ) → shared_of (meta p) ≡ None → lacks_bytes (own p) (meta p) ≡ false
+pub stored_copy : (own : ℕ → Option Bytes) (meta : ℕ → Option Meta) (file : ℕ → Option File) (p i byte : ℕ) → shared_of (meta p) ≡ None
+    → lacks_bytes (own p) (meta p) ≡ false
     → state (put own p (written (own p) i byte)) meta file ≡ stored_entry (state own meta file) p (entry_of (own p) (meta p)) i byte
 stored_copy own meta file p i byte h g = go (own p) (meta p) refl refl h g
   where
@@ -104,17 +110,22 @@ stored_copy own meta file p i byte h g = go (own p) (meta p) refl refl h g
     other : meta p ≡ None → entry_of (written (own p) i byte) (meta p) ≡ entry_of (own p) (meta p)
     other f = ap (λ (m : Option Meta). entry_of (written (own p) i byte) m) f ∙ sym (ap (λ (m : Option Meta). entry_of (own p) m) f)
 
-    changed : (x : Bytes) (m : Meta) → own p ≡ Some x → meta p ≡ Some m → entry_of (written (own p) i byte) (meta p) ≡ entry_with m.back m.prot (own_shown m.back (Some (put x i byte)))
+    changed : (x : Bytes) (m : Meta) → own p ≡ Some x → meta p ≡ Some m
+        → entry_of (written (own p) i byte) (meta p) ≡ entry_with m.back m.prot (own_shown m.back (Some (put x i byte)))
     changed x m e f = ap (λ (o : Option Bytes). entry_of (written o i byte) (meta p)) e ∙ ap (λ (n : Option Meta). entry_of (Some (put x i byte)) n) f
 
-    with_back : (x : Bytes) (prot : Prot) (b : Back) → back_shared b ≡ None → entry_of (written (own p) i byte) (meta p) ≡ entry_with b prot (own_shown b (Some (put x i byte)))
-        → state (put own p (written (own p) i byte)) meta file ≡ stored_own (state own meta file) p (record { back = b; prot = prot; own = own_shown b (Some x) }) (own_shown b (Some x)) i byte
+    with_back : (x : Bytes) (prot : Prot) (b : Back) → back_shared b ≡ None
+        → entry_of (written (own p) i byte) (meta p) ≡ entry_with b prot (own_shown b (Some (put x i byte)))
+        → state (put own p (written (own p) i byte)) meta file ≡ stored_own (state own meta file) p
+        (record { back = b; prot = prot; own = own_shown b (Some x) }) (own_shown b (Some x)) i byte
     with_back x prot Anon h e = put_state own meta file p (written (own p) i byte) _ e
     with_back x prot (Shared file page) h e = absurd cc
     with_back x prot (Private f page) h e = put_state own meta file p (written (own p) i byte) _ e
 
-    without : (prot : Prot) (b : Back) → back_shared b ≡ None → is_anonymous b ≡ false → state (put own p (written (own p) i byte)) meta file ≡ state own meta file
-        → state (put own p (written (own p) i byte)) meta file ≡ stored_own (state own meta file) p (record { back = b; prot = prot; own = own_shown b None }) (own_shown b None) i byte
+    without : (prot : Prot) (b : Back) → back_shared b ≡ None → is_anonymous b ≡ false
+        → state (put own p (written (own p) i byte)) meta file ≡ state own meta file
+        → state (put own p (written (own p) i byte)) meta file ≡ stored_own (state own meta file) p
+        (record { back = b; prot = prot; own = own_shown b None }) (own_shown b None) i byte
     without prot Anon h g e = absurd cc
     without prot (Shared file page) h g e = absurd cc
     without prot (Private f page) h g e = e
@@ -136,11 +147,13 @@ copied_entry m f k b e = ap (λ (x : Back). entry_with x m.prot (own_shown x (So
 abbrev to_copy : Plain → ℕ → Prot → Back → Bytes → Plain
 to_copy t p prot back b = record t { entry = put t.entry p (entry_with back prot (Some b)) }
 
-pub copied_state : (own own2 : ℕ → Option Bytes) (meta : ℕ → Option Meta) (file : ℕ → Option File) (p f k : ℕ) (b : Bytes) → own2 ≡ put own p (Some b) → IsUncopied (own p) (meta p) f k → Some b ≡ file_bytes (file f) k
+pub copied_state : (own own2 : ℕ → Option Bytes) (meta : ℕ → Option Meta) (file : ℕ → Option File) (p f k : ℕ) (b : Bytes)
+    → own2 ≡ put own p (Some b) → IsUncopied (own p) (meta p) f k → Some b ≡ file_bytes (file f) k
     → DetachesTo (detached (state own meta file) p) (state own meta file) true (state own2 meta file)
 copied_state own own2 meta file p f k b is here bytes = go (meta p) refl here
   where
-    to : (m : Meta) → meta p ≡ Some m → m.back ≡ Private f k → own p ≡ None → detached (state own meta file) p ≡ Some (to_copy (state own meta file) p m.prot (Private f k) b)
+    to : (m : Meta) → meta p ≡ Some m → m.back ≡ Private f k → own p ≡ None → detached (state own meta file) p ≡ Some
+        (to_copy (state own meta file) p m.prot (Private f k) b)
     to m em eb eo =
         ap (λ (x : Option Meta). detached_entry (state own meta file) p (entry_of (own p) x)) em
         ∙ (ap (λ (x : Option Entry). detached_entry (state own meta file) p x) (uncopied_entry (own p) m f k eb eo)
@@ -149,8 +162,11 @@ copied_state own own2 meta file p f k b is here bytes = go (meta p) refl here
     now : (m : Meta) → meta p ≡ Some m → m.back ≡ Private f k → state own2 meta file ≡ to_copy (state own meta file) p m.prot (Private f k) b
     now m em eb =
         ap (λ (o : ℕ → Option Bytes). state o meta file) is
-        ∙ put_state own meta file p (Some b) (entry_with (Private f k) m.prot (Some b)) (ap (λ (x : Option Meta). entry_of (Some b) x) em ∙ copied_entry m f k b eb)
+        ∙ put_state own meta file p (Some b) (entry_with (Private f k) m.prot (Some b)) (ap (λ (x : Option Meta). entry_of (Some b) x) em
+        ∙ copied_entry m f k b eb)
 
-    go : (m : Option Meta) → meta p ≡ m → IsUncopied (own p) m f k → DetachesTo (detached (state own meta file) p) (state own meta file) true (state own2 meta file)
+    go : (m : Option Meta) → meta p ≡ m → IsUncopied (own p) m f k → DetachesTo (detached (state own meta file) p)
+        (state own meta file) true (state own2 meta file)
     go None em here = absurd here
-    go (Some m) em here = subst (λ (x : Option Plain). DetachesTo x (state own meta file) true (state own2 meta file)) (sym (to m em here.0 here.1)) (refl, now m em here.0)
+    go (Some m) em here = subst (λ (x : Option Plain). DetachesTo x (state own meta file) true (state own2 meta file))
+        (sym (to m em here.0 here.1)) (refl, now m em here.0)

@@ -22,7 +22,8 @@ next_is t u addr d b h = (subst (λ (x : Option Plain). DetachesTo x t b u) (det
 pub at_page : (t u : Plain) (addr p : ℕ) (b : Bool) → p ≡ page_of addr → DetachesTo (detached t p) t b u → DetachesTo (detached t (page_of addr)) t b u
 at_page t u addr p b e g = subst (λ (q : ℕ). DetachesTo (detached t q) t b u) e g
 
-pub copy_prepares : (t u : Plain) (addr byte : ℕ) (b : Bool) → access_reply t addr Store ≡ None → DetachesTo (detached t (page_of addr)) t b u → u ≡ prepared t (StoreOf addr byte)
+pub copy_prepares : (t u : Plain) (addr byte : ℕ) (b : Bool) → access_reply t addr Store ≡ None
+    → DetachesTo (detached t (page_of addr)) t b u → u ≡ prepared t (StoreOf addr byte)
 copy_prepares t u addr byte b h g =
     let d = due t addr h in
     next_is t u addr d b g ∙ sym (prepared_due t addr byte d h)
@@ -30,7 +31,8 @@ copy_prepares t u addr byte b h g =
 pub prepared_already : (t : Plain) (addr byte : ℕ) (y : Reply) → access_reply t addr Store ≡ Some y → t ≡ prepared t (StoreOf addr byte)
 prepared_already t addr byte y h = sym (prepared_ready t addr byte (ap (λ (r : Option Reply). is_some r) h))
 
-pub ready_after : (t u : Plain) (addr : ℕ) (b : Bool) → access_reply t addr Store ≡ None → DetachesTo (detached t (page_of addr)) t b u → is_some (access_reply u addr Store) ≡ true
+pub ready_after : (t u : Plain) (addr : ℕ) (b : Bool) → access_reply t addr Store ≡ None → DetachesTo (detached t (page_of addr)) t b u
+    → is_some (access_reply u addr Store) ≡ true
 ready_after t u addr b h g = ap (λ (x : Plain). is_some (access_reply x addr Store)) (copy_prepares t u addr 0 b h g) ∙ store_ready t addr 0
 
 not_anonymous : (b : Back) (o : Option Bytes) → is_uncopied b o ≡ true → is_anonymous b ≡ false
@@ -43,7 +45,8 @@ has_bytes None None e h g = refl
 has_bytes None (Some m) e h g = let same : m.back ≡ e.back = cc in ap (λ (b : Back). is_anonymous b) same ∙ g
 has_bytes (Some own) m e h g = refl
 
-pub room_after : (t u : Plain) (addr : ℕ) (b : Bool) (o : Option Bytes) (m : Option Meta) → access_reply t addr Store ≡ None → DetachesTo (detached t (page_of addr)) t b u
+pub room_after : (t u : Plain) (addr : ℕ) (b : Bool) (o : Option Bytes) (m : Option Meta) → access_reply t addr Store ≡ None
+    → DetachesTo (detached t (page_of addr)) t b u
     → u.entry (page_of addr) ≡ entry_of o m → lacks_bytes o m ≡ false
 room_after t u addr b o m h g is =
     let d = due t addr h in

@@ -20,11 +20,13 @@ byte_there f k i b lt e = go (nat_lt k f.count) refl
     go false h = absurd (grind (arith, nat_tests))
 
 -- another byte in a page of a file
-pub file_set : {A : Type 0} (fs : List (PlainFile A)) (k i off b : ℕ) (x y : PlainFile A) → k < length fs → y ≡ get_or fs k y → Some (file_of x) ≡ with_byte (Some (file_of y)) i off b
+pub file_set : {A : Type 0} (fs : List (PlainFile A)) (k i off b : ℕ) (x y : PlainFile A) → k < length fs → y ≡ get_or fs k y
+    → Some (file_of x) ≡ with_byte (Some (file_of y)) i off b
     → files_of (set fs k x) ≡ put (files_of fs) k (with_byte (files_of fs k) i off b)
 file_set {A = A} fs k i off b x y lt is e =
     element-set (λ (f : PlainFile A). Some (file_of f)) None fs k x lt
-    ∙ ap (λ (o : Option File). put (files_of fs) k o) (e ∙ ap (λ (o : Option File). with_byte o i off b) (sym (element-get (λ (f : PlainFile A). Some (file_of f)) None fs k y lt is)))
+    ∙ ap (λ (o : Option File). put (files_of fs) k o) (e ∙ ap (λ (o : Option File). with_byte o i off b)
+    (sym (element-get (λ (f : PlainFile A). Some (file_of f)) None fs k y lt is)))
 
 -- a page that a file has is one of a file that is there
 pub file_there : {A : Type 0} (fs : List (PlainFile A)) (k page : ℕ) → is_some (file_bytes (files_of fs k) page) ≡ true → k < length fs

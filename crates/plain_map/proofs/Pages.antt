@@ -25,7 +25,8 @@ filled-none bytes start = fun_ext (λ j. go j (nat_lt j 0) refl)
 pub filled-more : (bytes : List ℕ) (start n v : ℕ) → v ≡ slice_index bytes (start + n) → put (filled bytes start n) n v ≡ filled bytes start (n + 1)
 filled-more bytes start n v is = fun_ext (λ j. go j (j == n) (nat_lt j n) (nat_lt j (n + 1)) refl refl refl)
   where
-    go : (j : ℕ) (a b c : Bool) → (j == n) ≡ a → nat_lt j n ≡ b → nat_lt j (n + 1) ≡ c → cond a v (cond b (slice_index bytes (start + j)) 0) ≡ cond c (slice_index bytes (start + j)) 0
+    go : (j : ℕ) (a b c : Bool) → (j == n) ≡ a → nat_lt j n ≡ b → nat_lt j (n + 1) ≡ c
+        → cond a v (cond b (slice_index bytes (start + j)) 0) ≡ cond c (slice_index bytes (start + j)) 0
     go j true b true e f h = is ∙ ap (λ (i : ℕ). slice_index bytes (start + i)) (sym (eq_true j n e))
     go j true b false e f h = absurd (grind (arith, nat_tests))
     go j false true true e f h = refl
@@ -59,7 +60,8 @@ pages-none bytes = fun_ext (λ k. go k (nat_lt k 0) refl)
 pub pages-more : (bytes : List ℕ) (n : ℕ) → put (first_pages bytes n) n (part_of bytes (n * 4096)) ≡ first_pages bytes (n + 1)
 pages-more bytes n = fun_ext (λ k. go k (k == n) (nat_lt k n) (nat_lt k (n + 1)) refl refl refl)
   where
-    go : (k : ℕ) (a b c : Bool) → (k == n) ≡ a → nat_lt k n ≡ b → nat_lt k (n + 1) ≡ c → cond a (part_of bytes (n * 4096)) (cond b (page_bytes bytes k) zeros) ≡ cond c (page_bytes bytes k) zeros
+    go : (k : ℕ) (a b c : Bool) → (k == n) ≡ a → nat_lt k n ≡ b → nat_lt k (n + 1) ≡ c
+        → cond a (part_of bytes (n * 4096)) (cond b (page_bytes bytes k) zeros) ≡ cond c (page_bytes bytes k) zeros
     go k true b true e f h = ap (λ (i : ℕ). part_of bytes (i * 4096)) (sym (eq_true k n e))
     go k true b false e f h = absurd (grind (arith, nat_tests))
     go k false true true e f h = refl
@@ -88,6 +90,7 @@ abbrev made : Mode → ℕ → (ℕ → Bytes) → File
 made mode n pages = record { mode = mode; count = n; bytes = pages }
 
 -- a file with all its pages
-pub file_made : (mode : Mode) (bytes : List ℕ) (n k : ℕ) (pages : ℕ → Bytes) → n ≡ k → k ≡ page_count (length bytes) → pages ≡ first_pages bytes k → made mode n pages ≡ file_with mode bytes
+pub file_made : (mode : Mode) (bytes : List ℕ) (n k : ℕ) (pages : ℕ → Bytes) → n ≡ k → k ≡ page_count (length bytes)
+    → pages ≡ first_pages bytes k → made mode n pages ≡ file_with mode bytes
 file_made mode bytes n k pages h is e =
     ap (λ (z : ℕ → Bytes). made mode n z) (e ∙ pages-all bytes k is) ∙ ap (λ (m : ℕ). made mode m (page_bytes bytes)) (h ∙ is)

@@ -13,7 +13,8 @@ use Rattle.plain_map.specs.Owned.{own_at, copy_of, page_at, written}
 use Rattle.plain_map.proofs.Elements.{element-get}
 
 -- the last copy of a page that was found is one of it, and none stands after it
-pub here_more : {A : Type 0} (xs : List (OwnPage A)) (i : ℕ) (x : OwnPage A) (p : ℕ) (last : Option ℕ) → i < length xs → x ≡ get_or xs i x → IfSome last (λ k. page_at xs k ≡ p)
+pub here_more : {A : Type 0} (xs : List (OwnPage A)) (i : ℕ) (x : OwnPage A) (p : ℕ) (last : Option ℕ) → i < length xs → x ≡ get_or xs i x
+    → IfSome last (λ k. page_at xs k ≡ p)
     → IfSome (cond (x.page == p) (Some i) last) (λ k. page_at xs k ≡ p)
 here_more xs i x p last lt is inv = go (x.page == p) refl
   where
@@ -21,15 +22,19 @@ here_more xs i x p last lt is inv = go (x.page == p) refl
     go true e = element-get (λ y. y.page) 0 xs i x lt is ∙ eq_true x.page p e
     go false e = inv
 
-pub later_more : {A : Type 0} (xs : List (OwnPage A)) (i : ℕ) (x : OwnPage A) (p : ℕ) (last : Option ℕ) → i < length xs → x ≡ get_or xs i x → IfSome last (λ k. (j : ℕ) → k < j → j < i → page_at xs j ≢ p)
+pub later_more : {A : Type 0} (xs : List (OwnPage A)) (i : ℕ) (x : OwnPage A) (p : ℕ) (last : Option ℕ) → i < length xs → x ≡ get_or xs i x
+    → IfSome last (λ k. (j : ℕ) → k < j → j < i → page_at xs j ≢ p)
     → IfSome (cond (x.page == p) (Some i) last) (λ k. (j : ℕ) → k < j → j < i + 1 → page_at xs j ≢ p)
 later_more xs i x p last lt is inv = go (x.page == p) last refl inv
   where
-    next : (k : ℕ) → (x.page == p) ≡ false → ((j : ℕ) → k < j → j < i → page_at xs j ≢ p) → (j : ℕ) → k < j → j < i + 1 → (b : Bool) → (j == i) ≡ b → page_at xs j ≢ p
-    next k e h j a c true f = λ z. eq_false x.page p e (sym (element-get (λ y. y.page) 0 xs i x lt is) ∙ (ap (λ (n : ℕ). page_at xs n) (sym (eq_true j i f)) ∙ z))
+    next : (k : ℕ) → (x.page == p) ≡ false → ((j : ℕ) → k < j → j < i → page_at xs j ≢ p) → (j : ℕ) → k < j → j < i + 1 → (b : Bool)
+        → (j == i) ≡ b → page_at xs j ≢ p
+    next k e h j a c true f = λ z. eq_false x.page p e (sym (element-get (λ y. y.page) 0 xs i x lt is)
+        ∙ (ap (λ (n : ℕ). page_at xs n) (sym (eq_true j i f)) ∙ z))
     next k e h j a c false f = let ne : j ≢ i = eq_false j i f in let less : j < i = omega arith in h j a less
 
-    go : (b : Bool) (o : Option ℕ) → (x.page == p) ≡ b → IfSome o (λ k. (j : ℕ) → k < j → j < i → page_at xs j ≢ p) → IfSome (cond b (Some i) o) (λ k. (j : ℕ) → k < j → j < i + 1 → page_at xs j ≢ p)
+    go : (b : Bool) (o : Option ℕ) → (x.page == p) ≡ b → IfSome o (λ k. (j : ℕ) → k < j → j < i → page_at xs j ≢ p)
+        → IfSome (cond b (Some i) o) (λ k. (j : ℕ) → k < j → j < i + 1 → page_at xs j ≢ p)
     go true o e h = λ j a c. absurd (omega arith)
     go false None e h = h
     go false (Some k) e h = λ j a c. next k e h j a c (j == i) refl
@@ -63,12 +68,15 @@ set_at (y ∷ xs) (suc i) x own lt e h last p =
     go (p == page_at xs i) (set_at xs i x own (omega arith) e h (λ j l m. last (suc j) (omega arith) (omega arith)) p)
   where
     go : (a : Bool) → own_at (set xs i x) p ≡ cond a (Some own) (own_at xs p)
-        → or_else (own_at (set xs i x) p) (cond (y.page == p) (copy_of y) None) ≡ cond a (Some own) (or_else (own_at xs p) (cond (y.page == p) (copy_of y) None))
+        → or_else (own_at (set xs i x) p) (cond (y.page == p) (copy_of y) None) ≡ cond a (Some own)
+        (or_else (own_at xs p) (cond (y.page == p) (copy_of y) None))
     go true ih = ap (λ (o : Option Bytes). or_else o (cond (y.page == p) (copy_of y) None)) ih
     go false ih = ap (λ (o : Option Bytes). or_else o (cond (y.page == p) (copy_of y) None)) ih
 
-pub copy_set : {A : Type 0} (xs : List (OwnPage A)) (i off b : ℕ) (x y : OwnPage A) → i < length xs → y ≡ get_or xs i y → x.page ≡ y.page → copy_of x ≡ written (copy_of y) off b
-    → ((j : ℕ) → i < j → j < length xs → page_at xs j ≢ page_at xs i) → own_at (set xs i x) ≡ put (own_at xs) (page_at xs i) (written (element copy_of None xs i) off b)
+pub copy_set : {A : Type 0} (xs : List (OwnPage A)) (i off b : ℕ) (x y : OwnPage A) → i < length xs → y ≡ get_or xs i y → x.page ≡ y.page
+    → copy_of x ≡ written (copy_of y) off b
+    → ((j : ℕ) → i < j → j < length xs → page_at xs j ≢ page_at xs i) → own_at (set xs i x) ≡ put (own_at xs) (page_at xs i)
+    (written (element copy_of None xs i) off b)
 copy_set xs i off b x y lt is ep ec last =
     let at : page_at xs i ≡ y.page = element-get (λ z. z.page) 0 xs i y lt is in
     let old : element copy_of None xs i ≡ copy_of y = element-get copy_of None xs i y lt is in

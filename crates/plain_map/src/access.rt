@@ -58,7 +58,8 @@ pub fn copy_page<A: Allocator>(
     alloc: A,
 ) -> Result<PageBytes<A>, NoMemory>
     requires { is_some (file_bytes (files_of files.now source.file) source.page) ≡ true }
-    ensures { IfOk result (λ copy. Some (bytes_in copy) ≡ file_bytes (files_of files.now source.file) source.page) }
+    ensures { IfOk result
+        (λ copy. Some (bytes_in copy) ≡ file_bytes (files_of files.now source.file) source.page) }
 {
     let bytes = files[source.file as usize].copy_page(source.page as usize, alloc)?;
     Ok(bytes)
@@ -84,7 +85,8 @@ pub fn write_file<A: Allocator>(
 )
     requires page { is_some (file_bytes (files_of files.old.items to.file) to.page) ≡ true }
     requires offset { offset < 4096 }
-    ensures bytes { files_of files.new.items ≡ put (files_of files.old.items) to.file (with_byte (files_of files.old.items to.file) to.page offset byte) }
+    ensures bytes { files_of files.new.items ≡ put (files_of files.old.items) to.file
+        (with_byte (files_of files.old.items to.file) to.page offset byte) }
     ensures length { vec_len files.new ≡ vec_len files.old }
 {
     files[to.file as usize].set(to.page as usize, offset, byte);
@@ -99,7 +101,8 @@ fn shown<A: Allocator>(
     offset: usize,
 ) -> Option<u8>
     requires { offset < 4096 }
-    ensures { result ≡ byte_at (bytes_of (files_of files.now) back (own_shown back (own_at owned.now page))) offset }
+    ensures { result ≡ byte_at
+        (bytes_of (files_of files.now) back (own_shown back (own_at owned.now page))) offset }
 {
     match back {
         Back::Anon => match own_byte(owned, page, offset) {
@@ -144,7 +147,8 @@ pub fn page_reply<A: Allocator>(
     access: Access,
 ) -> Option<Reply>
     requires { offset < 4096 }
-    ensures { result ≡ entry_reply (files_of files.now) (entry_of (own_at owned.now page) (meta_at mappings.now page)) access offset }
+    ensures { result ≡ entry_reply (files_of files.now)
+        (entry_of (own_at owned.now page) (meta_at mappings.now page)) access offset }
 {
     let Some(meta) = meta(mappings, page) else {
         return Some(Reply::Segv(SegvCode::MapErr));

@@ -46,10 +46,12 @@ pub record Carries {A : Type 0} (w n : ℕ) (s : State) (ss : List (Slot A)) : T
   pub count : length ss ≡ n
   pub parts : parts_of ss ≡ owns w s n
 
-pub carries-more : {A : Type 0} (w n m : ℕ) (s : State) (ss ts : List (Slot A)) (x : SlotState) → Carries w n s ss → ts ≡ ss ++ OwnSlot x ∷ [] → state_of x ≡ state_from s (n * w) → m ≡ n + 1 → Carries w m s ts
+pub carries-more : {A : Type 0} (w n m : ℕ) (s : State) (ss ts : List (Slot A)) (x : SlotState) → Carries w n s ss
+    → ts ≡ ss ++ OwnSlot x ∷ [] → state_of x ≡ state_from s (n * w) → m ≡ n + 1 → Carries w m s ts
 carries-more w n m s ss ts x h e is next = rw (e, next) (record {
   count = more_one ss ∙ ap (λ k. k + 1) h.count;
-  parts = parts_more ss ∙ ap (λ (xs : List Part). xs ++ Own (state_of x) ∷ []) h.parts ∙ ap (λ y. owns w s n ++ Own y ∷ []) is ∙ sym (map-range_with_len_more (λ k. Own (state_from s (k * w))) 0 n n (omega arith));
+  parts = parts_more ss ∙ ap (λ (xs : List Part). xs ++ Own (state_of x) ∷ []) h.parts ∙ ap (λ y. owns w s n ++ Own y ∷ []) is
+      ∙ sym (map-range_with_len_more (λ k. Own (state_from s (k * w))) 0 n n (omega arith));
 })
   where
     more_one : {B : Type 0} (xs : List (Slot B)) → length (xs ++ OwnSlot x ∷ []) ≡ length xs + 1
@@ -73,8 +75,10 @@ carried_sound w k s h l = record {
     two : (b : Bool) → b ≡ false → b ≡ true → ⊥
     two b e f = cc
 
-all_own : {A : Type 0} (level : ℕ) (ss : List (Slot A)) (q : ℕ → State) (ks : List ℕ) → parts_of ss ≡ map (λ k. Own (q k)) ks → (k : ℕ) (d : Slot A) → k < length ss → IsLower level (get_or ss k d)
-all_own {A} level ss q ks e k d l = lower (get_or ss k d) (owned (get_or ss k d) (sym (get_or-map part_of ss k d (part_of d) l) ∙ ap (λ xs. get_or xs k (part_of d)) e) k_in)
+all_own : {A : Type 0} (level : ℕ) (ss : List (Slot A)) (q : ℕ → State) (ks : List ℕ) → parts_of ss ≡ map (λ k. Own (q k)) ks
+    → (k : ℕ) (d : Slot A) → k < length ss → IsLower level (get_or ss k d)
+all_own {A} level ss q ks e k d l = lower (get_or ss k d) (owned (get_or ss k d) (sym (get_or-map part_of ss k d (part_of d) l)
+    ∙ ap (λ xs. get_or xs k (part_of d)) e) k_in)
   where
     len : length ks ≡ length ss
     len = sym (length-map ks (λ k. Own (q k))) ∙ sym (ap length e) ∙ length-map ss part_of
@@ -89,12 +93,16 @@ all_own {A} level ss q ks e k d l = lower (get_or ss k d) (owned (get_or ss k d)
     lower (OwnSlot s) h = tt
     lower (Child b) h = absurd cc
 
-pub carries-IsNode : {A : Type 0} (level n : ℕ) (s : State) (ss : List (Slot A)) → level ≤ 3 → CanDivide (width_of level) s → n ≡ 512 → Carries (width_of level) n s ss → IsNode level ss
+pub carries-IsNode : {A : Type 0} (level n : ℕ) (s : State) (ss : List (Slot A)) → level ≤ 3 → CanDivide (width_of level) s → n ≡ 512
+    → Carries (width_of level) n s ss → IsNode level ss
 carries-IsNode level n s ss low h full c = record {
   low = low;
   full = c.count ∙ full;
   lower = all_own level ss (λ k. state_from s (k * width_of level)) (range_with_len 0 n) c.parts;
-  fit = λ k d l. subst (IsPart level) (sym (ap (λ xs. get_or xs k d) c.parts ∙ get_or-map-range_with_len (λ k. Own (state_from s (k * width_of level))) 0 n k k d (inside k l) (omega arith))) (carried_sound (width_of level) k s h (omega (arith, inside k l, full)));
+  fit = λ k d l.
+      subst (IsPart level)
+      (sym (ap (λ xs. get_or xs k d) c.parts ∙ get_or-map-range_with_len (λ k. Own (state_from s (k * width_of level))) 0 n k k d
+      (inside k l) (omega arith))) (carried_sound (width_of level) k s h (omega (arith, inside k l, full)));
 }
   where
     inside : (k : ℕ) → k < length (parts_of ss) → k < n

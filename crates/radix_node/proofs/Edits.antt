@@ -85,7 +85,8 @@ pub other_page : {A : Type 0} {level : ℕ} {ss : List (Slot A)} (i : ℕ) (d t 
     → cell_at (flatten (width_of level) (parts_of (set ss i t))) p ≡ cell_at (flatten (width_of level) (parts_of ss)) p
 other_page {level = level} {ss = ss} i d t n m p out = ⊎_elim
     (λ (l : p < 512 * width_of level). here l)
-    (λ (l : 512 * width_of level ≤ p). cell_at-past _ p (let w = whole-node level (set ss i t) m in omega (arith, w.pages_are)) ∙ sym (cell_at-past _ p (let w = whole-node level ss n in omega (arith, w.pages_are))))
+    (λ (l : 512 * width_of level ≤ p). cell_at-past _ p (let w = whole-node level (set ss i t) m in omega (arith, w.pages_are))
+    ∙ sym (cell_at-past _ p (let w = whole-node level ss n in omega (arith, w.pages_are))))
     (cases_lt p (512 * width_of level))
   where
     apart : (j : ℕ) → j * width_of level ≤ p → p < j * width_of level + width_of level → j ≢ i
@@ -126,8 +127,10 @@ edits_more : {A : Type 0} {level i : ℕ} {ss : List (Slot A)} (d t : Slot A) (o
     → IsNode level ss → IsNode level (set ss i t)
     → first < i * width_of level + width_of level
     → Edits old (flatten (width_of level) (parts_of ss)) first end by edit (i * width_of level)
-    → ((p : ℕ) → IsOf level i p → first ≤ p → p < end → cell_at (flatten (width_of level) (parts_of (set ss i t))) p ≡ edited_cell edit (by + (p - first)) (cell_at (flatten (width_of level) (parts_of ss)) p))
-    → ((p : ℕ) → IsOf level i p → (p < first) ⊎ (end ≤ p) → cell_at (flatten (width_of level) (parts_of (set ss i t))) p ≡ cell_at (flatten (width_of level) (parts_of ss)) p)
+    → ((p : ℕ) → IsOf level i p → first ≤ p → p < end → cell_at (flatten (width_of level) (parts_of (set ss i t))) p ≡ edited_cell edit
+    (by + (p - first)) (cell_at (flatten (width_of level) (parts_of ss)) p))
+    → ((p : ℕ) → IsOf level i p → (p < first) ⊎ (end ≤ p) → cell_at (flatten (width_of level) (parts_of (set ss i t))) p ≡ cell_at
+    (flatten (width_of level) (parts_of ss)) p)
     → Edits old (flatten (width_of level) (parts_of (set ss i t))) first end by edit ((i + 1) * width_of level)
 edits_more {level = level} {i = i} {ss = ss} d t old first end by edit n m past h inside outside =
     record {
@@ -219,7 +222,8 @@ edits_own {level = level} {i = i} {ss = ss} d s t old first end by past edit n m
     ∙ ap (edited_cell edit (by + (p - first))) (sym (own_page d s n l is p o)))
     (λ p o x. absurd (⊎_elim (λ (y : p < first). omega (arith, o.low, w.low)) (λ (y : end ≤ p). omega (arith, o.high, w.high)) x))
 
-pub edits_child : {A : Type 0} {level i : ℕ} {ss : List (Slot A)} (d : Slot A) (b c : Box (Node A) A) (v : Parts) (old : List Run) (first end lo hi by past : ℕ) (edit : Edit)
+pub edits_child : {A : Type 0} {level i : ℕ} {ss : List (Slot A)} (d : Slot A) (b c : Box (Node A) A) (v : Parts) (old : List Run)
+    (first end lo hi by past : ℕ) (edit : Edit)
     → IsNode level ss → IsNode level (set ss i (Child c)) → i < 512 → Child b ≡ get_or ss i d
     → v ≡ b.value → first < i * width_of level + width_of level
     → IsPart first end (i * width_of level) (width_of level) lo hi
@@ -260,7 +264,8 @@ child_whole {level = level} {i = i} {ss = ss} d b n l is =
     (All-get_or (IsPartIn level) (parts_of ss) i (part_of d) (let full = n.full in omega arith)
     n.fit)
 
-pub child_begins : {A : Type 0} {level i : ℕ} {ss : List (Slot A)} (d : Slot A) (b : Box (Node A) A) (v : Parts) (old : List Run) (first end lo hi by : ℕ) (edit : Edit)
+pub child_begins : {A : Type 0} {level i : ℕ} {ss : List (Slot A)} (d : Slot A) (b : Box (Node A) A) (v : Parts) (old : List Run)
+    (first end lo hi by : ℕ) (edit : Edit)
     → IsNode level ss → i < 512 → Child b ≡ get_or ss i d
     → v ≡ b.value → IsPart first end (i * width_of level) (width_of level) lo hi → lo < hi
     → (cell_at old first).offset ≡ 0
@@ -284,7 +289,8 @@ child_begins {level = level} {i = i} d b v old first end lo hi by edit n l is sa
     ∙ ap (λ n. (cell_at (runs b.value) n).offset) k ∙ (let place = c.place in omega arith))
     (cases_lt (i * width_of level) first)
 
-pub child_ends : {A : Type 0} {level i : ℕ} {ss : List (Slot A)} (d : Slot A) (b : Box (Node A) A) (v : Parts) (old : List Run) (first end lo hi by : ℕ) (edit : Edit)
+pub child_ends : {A : Type 0} {level i : ℕ} {ss : List (Slot A)} (d : Slot A) (b : Box (Node A) A) (v : Parts) (old : List Run)
+    (first end lo hi by : ℕ) (edit : Edit)
     → IsNode level ss → i < 512 → Child b ≡ get_or ss i d
     → v ≡ b.value → IsPart first end (i * width_of level) (width_of level) lo hi → lo < hi
     → (cell_at old end).offset ≡ 0
@@ -388,6 +394,7 @@ child_narrow {level = level} {first = first} {end = end} {i = i} {rest = rest} {
     let node = child_node d b c v n h.place.slot_in is same lev whole in
     record {
       node = node;
-      edits = edits_child d b c v rs first end rest (rest + (end - first)) by by edit n node h.place.slot_in is same past (part_of_slot h) e inside outside (none_yet rs by edit h);
+      edits = edits_child d b c v rs first end rest (rest + (end - first)) by by edit n node h.place.slot_in is same past
+          (part_of_slot h) e inside outside (none_yet rs by edit h);
       by_end = omega (arith, h.place.page_is, h.place.rest_in, h.short);
     }

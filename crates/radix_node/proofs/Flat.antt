@@ -67,7 +67,8 @@ cell_at-flatten w (x ∷ xs) (suc i) d page rest a l e h =
     ∙ cell_at-flatten w xs i d (page - total (runs_of w x)) rest (All-tail (IsWide w) x xs a) (omega arith) (omega arith) h
 
 -- a change of one part's slot is a change of the node's
-pub with_run-flatten : (f : Run → List Run) (w : ℕ) (xs : List Part) (i : ℕ) (d y : Part) (page rest : ℕ) → All (IsWide w) xs → i < length xs → page ≡ i * w + rest → rest < w
+pub with_run-flatten : (f : Run → List Run) (w : ℕ) (xs : List Part) (i : ℕ) (d y : Part) (page rest : ℕ) → All (IsWide w) xs
+    → i < length xs → page ≡ i * w + rest → rest < w
     → runs_of w y ≡ with_run f (runs_of w (get_or xs i d)) rest
     → with_run f (flatten w xs) page ≡ flatten w (set xs i y)
 with_run-flatten f w [] i d y page rest a l e h is = absurd (omega arith)
@@ -78,7 +79,8 @@ with_run-flatten f w (x ∷ xs) zero d y page rest a l e h is =
 with_run-flatten f w (x ∷ xs) (suc i) d y page rest a l e h is =
     let t : total (runs_of w x) ≡ w = All-head (IsWide w) x xs a in
     with_run-right f (runs_of w x) (flatten w xs) page (omega arith)
-    ∙ ap (λ (l : List Run). runs_of w x ++ l) (with_run-flatten f w xs i d y (page - total (runs_of w x)) rest (All-tail (IsWide w) x xs a) (omega arith) (omega arith) h is)
+    ∙ ap (λ (l : List Run). runs_of w x ++ l) (with_run-flatten f w xs i d y (page - total (runs_of w x)) rest (All-tail (IsWide w) x xs a)
+    (omega arith) (omega arith) h is)
 
 -- ---- the slots of a node
 
@@ -98,7 +100,8 @@ level_is (suc (suc zero)) h = refl
 level_is (suc (suc (suc zero))) h = refl
 level_is (suc (suc (suc (suc l)))) h = absurd (omega arith)
 
-pub cell_is : (level page l before : ℕ) (c : Cell) → level ≤ 3 → l ≤ level → c.width ≡ width_of l → page ≡ before * c.width + c.offset → c.offset < c.width → IsSound c.width c.state → IsCell level page c
+pub cell_is : (level page l before : ℕ) (c : Cell) → level ≤ 3 → l ≤ level → c.width ≡ width_of l → page ≡ before * c.width + c.offset
+    → c.offset < c.width → IsSound c.width c.state → IsCell level page c
 cell_is level page l before c most low width place within sound =
     let is : level_of c.width ≡ l = ap level_of width ∙ level_is l (omega arith) in
     let count : page / c.width ≡ before = ap (λ n. n / c.width) place ∙ div-mul-add before c.width c.offset within in
@@ -110,7 +113,8 @@ cell_is level page l before c most low width place within sound =
       sound = sound;
     }
 
-cell_of-part : (level i page rest : ℕ) (x : Part) → level ≤ 3 → IsPart level x → page ≡ i * width_of level + rest → rest < width_of level → IsCell level page (cell_at (runs_of (width_of level) x) rest)
+cell_of-part : (level i page rest : ℕ) (x : Part) → level ≤ 3 → IsPart level x → page ≡ i * width_of level + rest → rest < width_of level
+    → IsCell level page (cell_at (runs_of (width_of level) x) rest)
 cell_of-part level i page rest (Own s) most h e l =
     subst (IsCell level page) (sym (cell_at-here (record { width = width_of level; state = s }) [] rest l))
     (cell_is level page level i (record { state = s; offset = rest; width = width_of level }) most (omega arith) refl e l h)
@@ -121,13 +125,15 @@ cell_of-part level i page rest (Below rs) most h e l =
     let m : ℕ = 2 ^ (9 * (level - own)) in
     let wide : width_of level ≡ m * (cell_at rs rest).width = width-times own level (omega (arith, c.low)) ∙ ap (λ n. m * n) (sym c.width_is) in
     let times : i * width_of level ≡ i * m * (cell_at rs rest).width = ap (λ n. i * n) wide ∙ sym (mul_assoc i m (cell_at rs rest).width) in
-    let both : (i * m + before) * (cell_at rs rest).width ≡ i * m * (cell_at rs rest).width + before * (cell_at rs rest).width = spread (i * m) before (cell_at rs rest).width in
+    let both : (i * m + before) * (cell_at rs rest).width ≡ i * m * (cell_at rs rest).width + before * (cell_at rs rest).width = spread
+    (i * m) before (cell_at rs rest).width in
     cell_is level page own (i * m + before) (cell_at rs rest) most (omega (arith, c.low)) c.width_is (omega (arith, c.place)) c.within c.sound
   where
     spread : (a b n : ℕ) → (a + b) * n ≡ a * n + b * n
     spread a b n = omega arith
 
-pub whole-parts : (level : ℕ) (xs : List Part) → level ≤ 3 → All (IsPart level) xs → length xs ≡ 512 → IsWhole level (512 * width_of level) (flatten (width_of level) xs)
+pub whole-parts : (level : ℕ) (xs : List Part) → level ≤ 3 → All (IsPart level) xs → length xs ≡ 512
+    → IsWhole level (512 * width_of level) (flatten (width_of level) xs)
 whole-parts level xs most h n = record {
   pages_are = total-flatten (width_of level) xs (wide level xs h) ∙ ap (λ k. k * width_of level) n;
   cells = λ page l.
@@ -149,21 +155,25 @@ pub record IsPlace (level page slot rest : ℕ) : Type 0 where
   pub page_is : page ≡ slot * width_of level + rest
   pub rest_in : rest < width_of level
 
-pub part_at : {A : Type 0} {level i : ℕ} {ss : List (Slot A)} (d s : Slot A) → IsNode level ss → i < 512 → s ≡ get_or ss i d → get_or (parts_of ss) i (part_of d) ≡ part_of s
+pub part_at : {A : Type 0} {level i : ℕ} {ss : List (Slot A)} (d s : Slot A) → IsNode level ss → i < 512 → s ≡ get_or ss i d
+    → get_or (parts_of ss) i (part_of d) ≡ part_of s
 part_at {i = i} {ss = ss} d s n l is = get_or-map part_of ss i d (part_of d) (omega (arith, n.full)) ∙ ap part_of (sym is)
 
 pub cell_at-part : {A : Type 0} {level page i rest : ℕ} {ss : List (Slot A)} (d s : Slot A) → IsNode level ss → IsPlace level page i rest → s ≡ get_or ss i d
     → cell_at (flatten (width_of level) (parts_of ss)) page ≡ cell_at (runs_of (width_of level) (part_of s)) rest
 cell_at-part {level = level} {page = page} {i = i} {rest = rest} {ss = ss} d s n at is =
     let len = length-map ss part_of in
-    cell_at-flatten (width_of level) (parts_of ss) i (part_of d) page rest (wide level (parts_of ss) n.fit) (omega (arith, n.full, at.slot_in)) at.page_is at.rest_in
+    cell_at-flatten (width_of level) (parts_of ss) i (part_of d) page rest (wide level (parts_of ss) n.fit)
+    (omega (arith, n.full, at.slot_in)) at.page_is at.rest_in
     ∙ ap (λ x. cell_at (runs_of (width_of level) x) rest) (part_at d s n at.slot_in is)
 
-pub cell_at-Own : {A : Type 0} {level page i rest : ℕ} {ss : List (Slot A)} (d : Slot A) (s : SlotState) → IsNode level ss → IsPlace level page i rest → OwnSlot s ≡ get_or ss i d
+pub cell_at-Own : {A : Type 0} {level page i rest : ℕ} {ss : List (Slot A)} (d : Slot A) (s : SlotState) → IsNode level ss
+    → IsPlace level page i rest → OwnSlot s ≡ get_or ss i d
     → cell_at (flatten (width_of level) (parts_of ss)) page ≡ record { state = state_of s; offset = rest; width = width_of level }
 cell_at-Own d s n at is = cell_at-part d (OwnSlot s) n at is ∙ cell_at-here _ [] _ at.rest_in
 
-pub cell_at-Child : {A : Type 0} {level page i rest : ℕ} {ss : List (Slot A)} (d : Slot A) (b : Box (Node A) A) → IsNode level ss → IsPlace level page i rest → Child b ≡ get_or ss i d
+pub cell_at-Child : {A : Type 0} {level page i rest : ℕ} {ss : List (Slot A)} (d : Slot A) (b : Box (Node A) A) → IsNode level ss
+    → IsPlace level page i rest → Child b ≡ get_or ss i d
     → cell_at (flatten (width_of level) (parts_of ss)) page ≡ cell_at (runs b.value) rest
 cell_at-Child d b n at is = cell_at-part d (Child b) n at is
 
@@ -172,7 +182,8 @@ pub level_below : {A : Type 0} {level i : ℕ} {ss : List (Slot A)} (d : Slot A)
 level_below {level = level} {i = i} {ss = ss} d b n l is = subst (IsLower level) (sym is) (All-get_or (IsLower level) ss i d (omega (arith, n.full)) n.lower)
 
 -- a node stays one where a slot is written
-pub is_node-set : {A : Type 0} (level i : ℕ) (ss : List (Slot A)) (s : Slot A) → IsNode level ss → IsLower level s → IsPart level (part_of s) → IsNode level (set ss i s)
+pub is_node-set : {A : Type 0} (level i : ℕ) (ss : List (Slot A)) (s : Slot A) → IsNode level ss → IsLower level s
+    → IsPart level (part_of s) → IsNode level (set ss i s)
 is_node-set level i ss s n l p = record {
   low = n.low;
   full = length-set ss i s ∙ n.full;
@@ -187,35 +198,42 @@ child_part level low rs e h =
     subst (λ n. IsWhole (level - 1) n rs) (width-below low level e) (subst (λ n. IsWhole n (512 * width_of low) rs) below h)
 
 -- the runs of a node whose slot was written so
-pub runs-set : {A : Type 0} {level page i rest : ℕ} {ss : List (Slot A)} (f : Run → List Run) (d s t : Slot A) → IsNode level ss → IsPlace level page i rest → s ≡ get_or ss i d
+pub runs-set : {A : Type 0} {level page i rest : ℕ} {ss : List (Slot A)} (f : Run → List Run) (d s t : Slot A) → IsNode level ss
+    → IsPlace level page i rest → s ≡ get_or ss i d
     → runs_of (width_of level) (part_of t) ≡ with_run f (runs_of (width_of level) (part_of s)) rest
     → flatten (width_of level) (parts_of (set ss i t)) ≡ with_run f (flatten (width_of level) (parts_of ss)) page
 runs-set {level = level} {page = page} {i = i} {rest = rest} {ss = ss} f d s t n at is e =
     let len = length-map ss part_of in
     ap (flatten (width_of level)) (map-set part_of ss i t)
-    ∙ sym (with_run-flatten f (width_of level) (parts_of ss) i (part_of d) (part_of t) page rest (wide level (parts_of ss) n.fit) (omega (arith, n.full, at.slot_in)) at.page_is at.rest_in
+    ∙ sym (with_run-flatten f (width_of level) (parts_of ss) i (part_of d) (part_of t) page rest (wide level (parts_of ss) n.fit)
+    (omega (arith, n.full, at.slot_in)) at.page_is at.rest_in
     (e ∙ ap (λ x. with_run f (runs_of (width_of level) x) rest) (sym (part_at d s n at.slot_in is))))
 
 -- ---- a written slot
 
-pub child_level : {A : Type 0} {level i : ℕ} {ss : List (Slot A)} (d : Slot A) (b : Box (Node A) A) (v : Parts) → IsNode level ss → i < 512 → Child b ≡ get_or ss i d → v ≡ b.value → v.level + 1 ≡ level
+pub child_level : {A : Type 0} {level i : ℕ} {ss : List (Slot A)} (d : Slot A) (b : Box (Node A) A) (v : Parts) → IsNode level ss → i < 512
+    → Child b ≡ get_or ss i d → v ≡ b.value → v.level + 1 ≡ level
 child_level d b v n l is same = ap (λ (v : Parts). v.level + 1) same ∙ level_below d b n l is
 
-pub child_pages : {A : Type 0} {level i : ℕ} {ss : List (Slot A)} (d : Slot A) (b : Box (Node A) A) (v : Parts) → IsNode level ss → i < 512 → Child b ≡ get_or ss i d → v ≡ b.value → 512 * width_of v.level ≡ width_of level
+pub child_pages : {A : Type 0} {level i : ℕ} {ss : List (Slot A)} (d : Slot A) (b : Box (Node A) A) (v : Parts) → IsNode level ss → i < 512
+    → Child b ≡ get_or ss i d → v ≡ b.value → 512 * width_of v.level ≡ width_of level
 child_pages d b v n l is same = width-below _ _ (child_level d b v n l is same)
 
 -- a node stays one where a child is changed
-pub child_node : {A : Type 0} {level i : ℕ} {ss : List (Slot A)} (d : Slot A) (b c : Box (Node A) A) (v : Parts) → IsNode level ss → i < 512 → Child b ≡ get_or ss i d → v ≡ b.value
+pub child_node : {A : Type 0} {level i : ℕ} {ss : List (Slot A)} (d : Slot A) (b c : Box (Node A) A) (v : Parts) → IsNode level ss
+    → i < 512 → Child b ≡ get_or ss i d → v ≡ b.value
     → c.value.level ≡ v.level → IsWhole c.value.level (512 * width_of c.value.level) (runs c.value) → IsNode level (set ss i (Child c))
 child_node {level = level} {i = i} {ss = ss} d b c v n l is same e h =
     let lower : c.value.level + 1 ≡ level = ap (λ k. k + 1) e ∙ child_level d b v n l is same in
     is_node-set level i ss (Child c) n lower (child_part level c.value.level (runs c.value) lower h)
 
-pub runs-Own : {A : Type 0} {level page i rest : ℕ} {ss : List (Slot A)} (d : Slot A) (s t : SlotState) → IsNode level ss → IsPlace level page i rest → OwnSlot s ≡ get_or ss i d
+pub runs-Own : {A : Type 0} {level page i rest : ℕ} {ss : List (Slot A)} (d : Slot A) (s t : SlotState) → IsNode level ss
+    → IsPlace level page i rest → OwnSlot s ≡ get_or ss i d
     → flatten (width_of level) (parts_of (set ss i (OwnSlot t))) ≡ with_run (in_state (state_of t)) (flatten (width_of level) (parts_of ss)) page
 runs-Own d s t n at is = runs-set (in_state (state_of t)) d (OwnSlot s) (OwnSlot t) n at is (sym (with_run-one (in_state (state_of t)) _ _ at.rest_in))
 
-pub runs-Child : {A : Type 0} {level page i rest : ℕ} {ss : List (Slot A)} (f : Run → List Run) (d : Slot A) (b c : Box (Node A) A) (v : Parts) → IsNode level ss → IsPlace level page i rest → Child b ≡ get_or ss i d → v ≡ b.value
+pub runs-Child : {A : Type 0} {level page i rest : ℕ} {ss : List (Slot A)} (f : Run → List Run) (d : Slot A) (b c : Box (Node A) A)
+    (v : Parts) → IsNode level ss → IsPlace level page i rest → Child b ≡ get_or ss i d → v ≡ b.value
     → runs c.value ≡ with_run f (runs v) rest
     → flatten (width_of level) (parts_of (set ss i (Child c))) ≡ with_run f (flatten (width_of level) (parts_of ss)) page
 runs-Child {rest = rest} f d b c v n at is same e = runs-set f d (Child b) (Child c) n at is (e ∙ ap (λ v. with_run f (runs v) rest) same)
@@ -225,5 +243,6 @@ pub same_slots : {A : Type 0} (i : ℕ) (ss : List (Slot A)) (d s : Slot A) → 
 same_slots i ss d s is = ap (set ss i) is ∙ set-get_or ss i d
 
 -- a child that was written as it is
-pub same_child : {A : Type 0} (i : ℕ) (ss : List (Slot A)) (d : Slot A) (b c : Box (Node A) A) → Child b ≡ get_or ss i d → Child c ≡ Child b → parts_of (set ss i (Child c)) ≡ parts_of ss
+pub same_child : {A : Type 0} (i : ℕ) (ss : List (Slot A)) (d : Slot A) (b c : Box (Node A) A) → Child b ≡ get_or ss i d
+    → Child c ≡ Child b → parts_of (set ss i (Child c)) ≡ parts_of ss
 same_child i ss d b c is e = map-set_same part_of ss i (Child c) d (ap part_of (e ∙ is))

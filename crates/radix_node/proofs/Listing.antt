@@ -24,8 +24,10 @@ ListsTo rs base first end upto old new = AddsFrames (frames_from base rs) (base 
 pub list_first : (rs : List Run) (base first end upto : ℕ) (old : List Framed) → first < end → upto ≤ first → ListsTo rs base first end upto old old
 list_first rs base first end upto old some l = adds_none _ _ _ old (λ p a b. absurd (omega (arith, a, b)))
 
-pub list_all : (rs : List Run) (base first end upto : ℕ) (old new : List Framed) → first < end → end ≤ upto → ListsTo rs base first end upto old new → AddsFrames (frames_from base rs) (base + first) (base + end) old new
-list_all rs base first end upto old new some l h = let to : base + reach first end upto ≡ base + end = omega arith in subst (λ n. AddsFrames (frames_from base rs) (base + first) n old new) to h
+pub list_all : (rs : List Run) (base first end upto : ℕ) (old new : List Framed) → first < end → end ≤ upto
+    → ListsTo rs base first end upto old new → AddsFrames (frames_from base rs) (base + first) (base + end) old new
+list_all rs base first end upto old new some l h = let to : base + reach first end upto ≡ base + end = omega arith in
+    subst (λ n. AddsFrames (frames_from base rs) (base + first) n old new) to h
 
 -- ---- a slot that is no child
 
@@ -34,7 +36,8 @@ own_frame : {A : Type 0} {level i : ℕ} {ss : List (Slot A)} (d : Slot A) (s : 
     → IsNode level ss → i < 512 → OwnSlot s ≡ get_or ss i d
     → base + i * width_of level ≤ p → p < base + i * width_of level + width_of level
     → frames_from base (flatten (width_of level) (parts_of ss)) p ≡ frame_of (state_of s).info
-own_frame d s base p n l is low high = ap (λ (c : Cell). frame_of c.state.info) (own_page d s n l is (p - base) (record { low = omega arith; high = omega arith }))
+own_frame d s base p n l is low high = ap (λ (c : Cell). frame_of c.state.info)
+    (own_page d s n l is (p - base) (record { low = omega arith; high = omega arith }))
 
 pub list_none : {A : Type 0} {level i : ℕ} {ss : List (Slot A)} (d : Slot A) (s : SlotState) (base first end : ℕ) (old new : List Framed)
     → IsNode level ss → i < 512 → OwnSlot s ≡ get_or ss i d
@@ -43,7 +46,8 @@ pub list_none : {A : Type 0} {level i : ℕ} {ss : List (Slot A)} (d : Slot A) (
     → ListsTo (flatten (width_of level) (parts_of ss)) base first end (i * width_of level) old new
     → ListsTo (flatten (width_of level) (parts_of ss)) base first end ((i + 1) * width_of level) old new
 list_none {level = level} {i = i} {ss = ss} d s base first end old new n l is some low past none h =
-    adds_then _ (base + first) (base + reach first end (i * width_of level)) (base + reach first end ((i + 1) * width_of level)) old new new (omega arith) (omega arith) h
+    adds_then _ (base + first) (base + reach first end (i * width_of level)) (base + reach first end ((i + 1) * width_of level)) old new
+    new (omega arith) (omega arith) h
     (adds_none _ _ _ new (λ p a b. own_frame d s base p n l is (omega arith) (omega arith) ∙ none))
 
 -- one with a frame is one page of the range
@@ -72,13 +76,15 @@ pub list_one : {A : Type 0} {level i f : ℕ} {ss : List (Slot A)} (d : Slot A) 
     → i * width_of level < end → first < i * width_of level + width_of level
     → frame_of (state_of s).info ≡ Some f
     → ListsTo (flatten (width_of level) (parts_of ss)) base first end (i * width_of level) old new
-    → ListsTo (flatten (width_of level) (parts_of ss)) base first end ((i + 1) * width_of level) old (new ++ (record { page = base + i * width_of level; frame = f }) ∷ [])
+    → ListsTo (flatten (width_of level) (parts_of ss)) base first end ((i + 1) * width_of level) old
+    (new ++ (record { page = base + i * width_of level; frame = f }) ∷ [])
 list_one {level = level} {i = i} {f = f} {ss = ss} d s base first end old new n l is low past had h =
     let one = is_one d s first end n l is low past had in
     let wide = one.wide in
     let from = one.low in
     let to : base + i * width_of level + 1 ≡ base + reach first end ((i + 1) * width_of level) = omega arith in
-    subst (λ m. AddsFrames (frames_from base (flatten (width_of level) (parts_of ss))) (base + first) m old (new ++ (record { page = base + i * width_of level; frame = f }) ∷ [])) to
+    subst (λ m. AddsFrames (frames_from base (flatten (width_of level) (parts_of ss))) (base + first) m old
+    (new ++ (record { page = base + i * width_of level; frame = f }) ∷ [])) to
     (adds_then _ (base + first) (base + i * width_of level) (base + i * width_of level + 1) old new _ (omega arith) (omega arith)
     (subst (λ m. AddsFrames (frames_from base (flatten (width_of level) (parts_of ss))) (base + first) (base + m) old new) one.reached h)
     (adds_one _ (base + i * width_of level) f new (own_frame d s base (base + i * width_of level) n l is (omega arith) (omega arith) ∙ had)))
@@ -91,12 +97,14 @@ pub list_full : {A : Type 0} {level i f : ℕ} {ss : List (Slot A)} (d : Slot A)
     → ListsTo (flatten (width_of level) (parts_of ss)) base first end (i * width_of level) old new
     → AddsFrames (frames_from base (flatten (width_of level) (parts_of ss))) (base + first) (base + i * width_of level) old new
 list_full {level = level} {i = i} {f = f} {ss = ss} d s base first end old new n l is low past had h =
-    subst (λ m. AddsFrames (frames_from base (flatten (width_of level) (parts_of ss))) (base + first) (base + m) old new) (is_one d s first end n l is low past had).reached h
+    subst (λ m. AddsFrames (frames_from base (flatten (width_of level) (parts_of ss))) (base + first) (base + m) old new)
+    (is_one d s first end n l is low past had).reached h
 
 -- ---- a child
 
 -- what a walk of the child adds
-pub list_below : {A : Type 0} {level i : ℕ} {ss : List (Slot A)} (d : Slot A) (b : Box (Node A) A) (v : Parts) (base first end lo hi upto : ℕ) (old mid new : List Framed)
+pub list_below : {A : Type 0} {level i : ℕ} {ss : List (Slot A)} (d : Slot A) (b : Box (Node A) A) (v : Parts)
+    (base first end lo hi upto : ℕ) (old mid new : List Framed)
     → IsNode level ss → i < 512 → Child b ≡ get_or ss i d
     → v ≡ b.value → IsPart first end (i * width_of level) (width_of level) lo hi
     → first < end → i * width_of level < end → first < i * width_of level + width_of level
@@ -117,7 +125,8 @@ list_below {level = level} {i = i} {ss = ss} d b v base first end lo hi upto old
         ap (λ (c : Cell). frame_of c.state.info)
         (sym (child_cell {q = p - (base + i * width_of level)} d b v n l is same part (omega arith)) ∙ ap (cell_at (flatten (width_of level) (parts_of ss))) k)
 
-pub list_child : {A : Type 0} {level i : ℕ} {ss : List (Slot A)} (d : Slot A) (b : Box (Node A) A) (v : Parts) (base first end lo hi upto : ℕ) (old mid new : List Framed)
+pub list_child : {A : Type 0} {level i : ℕ} {ss : List (Slot A)} (d : Slot A) (b : Box (Node A) A) (v : Parts)
+    (base first end lo hi upto : ℕ) (old mid new : List Framed)
     → IsNode level ss → i < 512 → Child b ≡ get_or ss i d
     → v ≡ b.value → IsPart first end (i * width_of level) (width_of level) lo hi
     → first < end → i * width_of level < end → first < i * width_of level + width_of level

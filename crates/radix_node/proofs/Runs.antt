@@ -44,18 +44,23 @@ abbrev pub moved : Cell → ℕ → Cell
 moved c n = record { state = c.state; offset = n; width = c.width }
 
 -- a later page of the same slot
-pub cell_later : (rs : List Run) (page n : ℕ) → (cell_at rs page).offset + n < (cell_at rs page).width → cell_at rs (page + n) ≡ moved (cell_at rs page) ((cell_at rs page).offset + n)
+pub cell_later : (rs : List Run) (page n : ℕ) → (cell_at rs page).offset + n < (cell_at rs page).width
+    → cell_at rs (page + n) ≡ moved (cell_at rs page) ((cell_at rs page).offset + n)
 cell_later [] page n h = let z : 0 ≡ 0 + n = omega arith in ap (moved (cell_at [] page)) z
-cell_later (r ∷ rs) page n h = ⊎_elim (λ (l : page < r.width). here l h) (λ (l : r.width ≤ page). there (cell_later rs (page - r.width) n) l h) (cases_lt page r.width)
+cell_later (r ∷ rs) page n h = ⊎_elim (λ (l : page < r.width). here l h)
+    (λ (l : r.width ≤ page). there (cell_later rs (page - r.width) n) l h) (cases_lt page r.width)
   where
-    here : page < r.width → (cell_at (r ∷ rs) page).offset + n < (cell_at (r ∷ rs) page).width → cell_at (r ∷ rs) (page + n) ≡ moved (cell_at (r ∷ rs) page) ((cell_at (r ∷ rs) page).offset + n)
+    here : page < r.width → (cell_at (r ∷ rs) page).offset + n < (cell_at (r ∷ rs) page).width
+        → cell_at (r ∷ rs) (page + n) ≡ moved (cell_at (r ∷ rs) page) ((cell_at (r ∷ rs) page).offset + n)
     here l h =
         let e = cell_at-here r rs page l in
         let m : page + n < r.width = subst (λ (c : Cell). c.offset + n < c.width) e h in
         cell_at-here r rs (page + n) m ∙ ap (λ (c : Cell). moved c (c.offset + n)) (sym e)
 
-    there : ((cell_at rs (page - r.width)).offset + n < (cell_at rs (page - r.width)).width → cell_at rs (page - r.width + n) ≡ moved (cell_at rs (page - r.width)) ((cell_at rs (page - r.width)).offset + n))
-        → r.width ≤ page → (cell_at (r ∷ rs) page).offset + n < (cell_at (r ∷ rs) page).width → cell_at (r ∷ rs) (page + n) ≡ moved (cell_at (r ∷ rs) page) ((cell_at (r ∷ rs) page).offset + n)
+    there : ((cell_at rs (page - r.width)).offset + n < (cell_at rs (page - r.width)).width → cell_at rs (page - r.width + n) ≡ moved
+        (cell_at rs (page - r.width)) ((cell_at rs (page - r.width)).offset + n))
+        → r.width ≤ page → (cell_at (r ∷ rs) page).offset + n < (cell_at (r ∷ rs) page).width
+        → cell_at (r ∷ rs) (page + n) ≡ moved (cell_at (r ∷ rs) page) ((cell_at (r ∷ rs) page).offset + n)
     there below l h =
         let e = cell_at-there r rs page l in
         let m = subst (λ (c : Cell). c.offset + n < c.width) e h in
@@ -77,15 +82,19 @@ append_assoc (x ∷ xs) ys zs = ap (λ (l : List Run). x ∷ l) (append_assoc xs
 pub with_run-left : (f : Run → List Run) (xs ys : List Run) (page : ℕ) → page < total xs → with_run f (xs ++ ys) page ≡ with_run f xs page ++ ys
 with_run-left f [] ys page h = absurd (omega arith)
 with_run-left f (x ∷ xs) ys page h = ⊎_elim
-    (λ (l : page < x.width). with_run-here f x (xs ++ ys) page l ∙ sym (append_assoc (f x) xs ys) ∙ ap (λ (l : List Run). l ++ ys) (sym (with_run-here f x xs page l)))
-    (λ (l : x.width ≤ page). with_run-there f x (xs ++ ys) page l ∙ ap (λ (l : List Run). x ∷ l) (with_run-left f xs ys (page - x.width) (omega arith)) ∙ ap (λ (l : List Run). l ++ ys) (sym (with_run-there f x xs page l)))
+    (λ (l : page < x.width). with_run-here f x (xs ++ ys) page l ∙ sym (append_assoc (f x) xs ys)
+    ∙ ap (λ (l : List Run). l ++ ys) (sym (with_run-here f x xs page l)))
+    (λ (l : x.width ≤ page). with_run-there f x (xs ++ ys) page l
+    ∙ ap (λ (l : List Run). x ∷ l) (with_run-left f xs ys (page - x.width) (omega arith))
+    ∙ ap (λ (l : List Run). l ++ ys) (sym (with_run-there f x xs page l)))
     (cases_lt page x.width)
 
 pub with_run-right : (f : Run → List Run) (xs ys : List Run) (page : ℕ) → total xs ≤ page → with_run f (xs ++ ys) page ≡ xs ++ with_run f ys (page - total xs)
 with_run-right f [] ys page h = let e : page ≡ page - 0 = omega arith in ap (with_run f ys) e
 with_run-right f (x ∷ xs) ys page h =
     let e : page - x.width - total xs ≡ page - (x.width + total xs) = omega arith in
-    with_run-there f x (xs ++ ys) page (omega arith) ∙ ap (λ (l : List Run). x ∷ l) (with_run-right f xs ys (page - x.width) (omega arith) ∙ ap (λ n. xs ++ with_run f ys n) e)
+    with_run-there f x (xs ++ ys) page (omega arith) ∙ ap (λ (l : List Run). x ∷ l) (with_run-right f xs ys (page - x.width) (omega arith)
+    ∙ ap (λ n. xs ++ with_run f ys n) e)
 
 pub with_run-one : (f : Run → List Run) (r : Run) (page : ℕ) → page < r.width → with_run f (r ∷ []) page ≡ f r
 with_run-one f r page h = with_run-here f r [] page h ∙ append-nil (f r)

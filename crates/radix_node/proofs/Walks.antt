@@ -137,7 +137,8 @@ seen_own {level = level} {i = i} Q d s first end n l is q h = record {
       (cases_lt p (i * width_of level));
 }
 
-pub seen_child : {A : Type 0} {level i : ℕ} {ss : List (Slot A)} (Q : Option PageInfo → Type 0) (d : Slot A) (b : Box (Node A) A) (v : Parts) (first end lo hi : ℕ)
+pub seen_child : {A : Type 0} {level i : ℕ} {ss : List (Slot A)} (Q : Option PageInfo → Type 0) (d : Slot A) (b : Box (Node A) A)
+    (v : Parts) (first end lo hi : ℕ)
     → IsNode level ss → i < 512 → Child b ≡ get_or ss i d
     → v ≡ b.value → IsPart first end (i * width_of level) (width_of level) lo hi
     → OnAll Q (runs v) lo hi
@@ -306,7 +307,13 @@ users_own {level = level} {i = i} {ss = ss} d s first end cores more n l is some
     let pos = width_pos level in
     users_more (flatten (width_of level) (parts_of ss)) first end (i * width_of level)
     ((i + 1) * width_of level) cores more (λ core. is_recorded (state_of s).info core) u joined
-    (λ core h. (max first (i * width_of level), omega arith, omega arith, at core (max first (i * width_of level)) (record { low = omega arith; high = omega arith }) ∙ h))
+    (λ core h. (
+      max first (i * width_of level),
+      omega arith,
+      omega arith,
+      at core (max first (i * width_of level))
+          (record { low = omega arith; high = omega arith }) ∙ h,
+    ))
     (λ core p a b c e h. sym (at core p (record { low = c; high = omega arith })) ∙ h)
   where
     at : (core p : ℕ) → IsOf level i p
@@ -333,10 +340,17 @@ users_child {level = level} {i = i} {ss = ss} d b first end lo hi cores below mo
           (record { low = omega arith; high = omega (arith, part.end_is, w.2) })
           ∙ ap (λ n. is_recorded (cell_at (runs b.value) n).state.info core) k ∙ w.3,
     ))
-    (λ core p a m c e h. (found core).1 (p - i * width_of level, omega (arith, part.first_is), omega (arith, part.end_is), sym (at core p (record { low = c; high = omega arith })) ∙ h))
+    (λ core p a m c e h. (found core).1 (
+      p - i * width_of level,
+      omega (arith, part.first_is),
+      omega (arith, part.end_is),
+      sym
+          (at core p (record { low = c; high = omega arith })) ∙ h,
+    ))
   where
     at : (core p : ℕ) → IsOf level i p
-        → is_recorded (cell_at (flatten (width_of level) (parts_of ss)) p).state.info core ≡ is_recorded (cell_at (runs b.value) (p - i * width_of level)).state.info core
+        → is_recorded (cell_at (flatten (width_of level) (parts_of ss)) p).state.info core ≡ is_recorded
+        (cell_at (runs b.value) (p - i * width_of level)).state.info core
     at core p h = ap (λ (c : Cell). is_recorded c.state.info core) (child_page d b n l is p h)
 
 pub users_all : (rs : List Run) (first end upto cores : ℕ) → Users rs first end upto cores
@@ -418,7 +432,8 @@ own_free : {A : Type 0} {level i : ℕ} {ss : List (Slot A)} (d : Slot A) (s : S
 own_free {level = level} {i = i} d s base first end lo hi n start open_at nd l is part none h p a b c =
     ⊎_elim
     (λ (x : p < i * width_of level + lo). h.free p a x c)
-    (λ (x : i * width_of level + lo ≤ p). ap (λ (c : Cell). c.state.info) (own_page d s nd l is p (record { low = omega arith; high = omega (arith, part.end_is) })) ∙ none_is _ none)
+    (λ (x : i * width_of level + lo ≤ p). ap (λ (c : Cell). c.state.info)
+    (own_page d s nd l is p (record { low = omega arith; high = omega (arith, part.end_is) })) ∙ none_is _ none)
     (cases_lt p (i * width_of level + lo))
 
 pub free_on : {A : Type 0} {level i : ℕ} {ss : List (Slot A)} (d : Slot A) (s : SlotState) (base first end lo hi n start open_at : ℕ)
@@ -477,8 +492,15 @@ says {level = level} {i = i} {ss = ss} d b v base first end lo hi n start open_a
           (cases_lt p (i * width_of level + lo));
       before = λ r a e. ⊎_elim
           (λ (x : r < open_at). h.before r a x)
-          (λ (x : open_at ≤ r). let w = before r x e in let m = lower part w.1 w.2 in
-          (i * width_of level + w.0, m.low, m.high, omega (arith, w.3), omega (arith, w.4), ap (λ (c : Cell). is_some c.state.info) (child_cell d b v nd l is same part w.2) ∙ w.5))
+          (λ (x : open_at ≤ r). let w = before r x e in let m = lower part w.1 w.2 in (
+            i * width_of level + w.0,
+            m.low,
+            m.high,
+            omega (arith, w.3),
+            omega (arith, w.4),
+            ap (λ (c : Cell). is_some c.state.info)
+                (child_cell d b v nd l is same part w.2) ∙ w.5,
+          ))
           (cases_lt r open_at);
     }
 
@@ -500,7 +522,8 @@ free_child {level = level} {i = i} d b v base first end lo hi n start open_at he
       before = s.before;
     }
 
-pub free_found_below : {A : Type 0} {level i : ℕ} {ss : List (Slot A)} (d : Slot A) (b : Box (Node A) A) (v : Parts) (base first end lo hi n start open_at here : ℕ)
+pub free_found_below : {A : Type 0} {level i : ℕ} {ss : List (Slot A)} (d : Slot A) (b : Box (Node A) A) (v : Parts)
+    (base first end lo hi n start open_at here : ℕ)
     → IsNode level ss → i < 512 → Child b ≡ get_or ss i d
     → v ≡ b.value → IsPart first end (i * width_of level) (width_of level) lo hi
     → IsFree (runs v) (base + i * width_of level) lo hi n open_at here

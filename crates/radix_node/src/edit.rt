@@ -32,8 +32,11 @@ impl<A: Allocator> Node<A> {
         requires sound { CanEdit edit.now (by + (end - first)) }
         ensures level { self.new.level ≡ self.old.level }
         ensures whole { IsWhole self.new.level (512 * width_of self.new.level) (runs self.new) }
-        ensures inside { (p : ℕ) → first ≤ p → p < end → cell_at (runs self.new) p ≡ edited_cell edit.now (by + (p - first)) (cell_at (runs self.old) p) }
-        ensures outside { (p : ℕ) → (p < first) ⊎ (end ≤ p) → cell_at (runs self.new) p ≡ cell_at (runs self.old) p }
+        ensures inside { (p : ℕ) → first ≤ p → p < end
+            → cell_at (runs self.new) p ≡ edited_cell edit.now (by + (p - first))
+            (cell_at (runs self.old) p) }
+        ensures outside { (p : ℕ) → (p < first) ⊎ (end ≤ p)
+            → cell_at (runs self.new) p ≡ cell_at (runs self.old) p }
     {
         let width = slot_pages(self.level);
         let place = place_of(self.level, first);

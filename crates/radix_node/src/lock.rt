@@ -28,7 +28,8 @@ impl SlotState {
     /// Locks the slot for the core, where nobody holds it, and it begins at the page and has at most `room` pages. The slot
     /// has `width` pages, of which `offset` lie before the page.
     pub fn lock(&mut self, offset: u64, width: u64, room: u64, core: CoreId) -> Lock
-        ensures meets { Meets (record { state = state_of self.old; offset = offset; width = width }) room result }
+        ensures meets { Meets (record { state = state_of self.old; offset = offset; width = width })
+            room result }
         ensures state { state_of self.new ≡ after_lock result core (state_of self.old) }
     {
         if let Some(owner) = self.owner() {
@@ -53,7 +54,9 @@ impl<A: Allocator> Node<A> {
         ensures level { self.new.level ≡ self.old.level }
         ensures whole { IsWhole self.new.level (512 * width_of self.new.level) (runs self.new) }
         ensures meets { Meets (cell_at (runs self.old) page) room result }
-        ensures set { runs self.new ≡ with_run (in_state (after_lock result core (cell_at (runs self.old) page).state)) (runs self.old) page }
+        ensures set { runs self.new ≡ with_run
+            (in_state (after_lock result core (cell_at (runs self.old) page).state))
+            (runs self.old) page }
     {
         let level = self.level;
         let place = place_of(level, page);

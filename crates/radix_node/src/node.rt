@@ -109,7 +109,9 @@ impl<A: Allocator> Node<A> {
         requires { page < 512 * width_of self.old.level }
         ensures level { self.new.level ≡ self.old.level }
         ensures whole { IsWhole self.new.level (512 * width_of self.new.level) (runs self.new) }
-        ensures set { runs self.new ≡ with_run (in_state (record { info = (cell_at (runs self.old) page).state.info; owner = owner })) (runs self.old) page }
+        ensures set { runs self.new ≡ with_run
+            (in_state (record { info = (cell_at (runs self.old) page).state.info; owner = owner }))
+            (runs self.old) page }
         ensures low { result ≤ 3 }
         ensures width { width_of result ≡ (cell_at (runs self.old) page).width }
     {
@@ -127,9 +129,11 @@ impl<A: Allocator> Node<A> {
     // What all pages of the node have as one slot, where no slot is a child, all are plain, and each goes on from the
     // first.
     fn joined(&self) -> Option<SlotState>
-        ensures some { IfSome result (λ s. IsPlain (state_of s) × (self.now.parts ≡ owns_divided (width_of self.now.level) (state_of s))) }
+        ensures some { IfSome result (λ s. IsPlain (state_of s)
+            × (self.now.parts ≡ owns_divided (width_of self.now.level) (state_of s))) }
         ensures sound { IfSome result (λ s. IsSound (512 * width_of self.now.level) (state_of s)) }
-        ensures none { IfNone result ((s : State) → IsPlain s → ¬ IsCarried (width_of self.now.level) s (runs self.now)) }
+        ensures none { IfNone result ((s : State) → IsPlain s → ¬ IsCarried (width_of self.now.level) s
+            (runs self.now)) }
     {
         let first = match &self.slots[0] {
             Slot::Own(state) => *state,

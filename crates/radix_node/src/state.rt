@@ -155,7 +155,10 @@ impl SlotState {
     // Maps the slot's first page as the one `by` pages after a page with this.
     fn put(&mut self, info: &PageInfo, by: u64)
         requires { info_file_page (Some info.now) + by < 2 ^ 64 }
-        ensures { state_of self.new ≡ record { info = info_from (Some info.now) by; owner = (state_of self.old).owner } }
+        ensures { state_of self.new ≡ record {
+          info = info_from (Some info.now) by;
+          owner = (state_of self.old).owner;
+        } }
     {
         let meta = info.meta.advanced(by);
         let (kind, file, file_page) = parts_of(meta.back);

@@ -106,7 +106,8 @@ impl<A: Allocator> Node<A> {
         requires fits { base + 512 * width_of self.now.level ≤ 2 ^ 36 }
         ensures low { base + first ≤ result }
         ensures high { result ≤ base + end }
-        ensures added { AddsFrames (frames_from base (runs self.now)) (base + first) result list.old.items list.new.items }
+        ensures added { AddsFrames (frames_from base (runs self.now))
+            (base + first) result list.old.items list.new.items }
         ensures full { result < base + end → array_vec_len list.new ≡ 32 }
     {
         let width = slot_pages(self.level);

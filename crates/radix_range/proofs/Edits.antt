@@ -50,12 +50,15 @@ frame_from None n = refl
 frame_from (Some info) n = refl
 
 -- a page of a slot that was changed
-edited_from : (edit : Edit) (n offset : ℕ) (o : Option PageInfo) → offset ≤ n → info_from (edited_info edit (0 + n - offset) o) offset ≡ edited_info edit n (info_from o offset)
-edited_from (Put first) n offset o l = let k : 0 + n - offset + offset ≡ n = omega arith in info_from_twice first (0 + n - offset) offset ∙ ap (info_from first) k
+edited_from : (edit : Edit) (n offset : ℕ) (o : Option PageInfo) → offset ≤ n
+    → info_from (edited_info edit (0 + n - offset) o) offset ≡ edited_info edit n (info_from o offset)
+edited_from (Put first) n offset o l = let k : 0 + n - offset + offset ≡ n = omega arith in info_from_twice first (0 + n - offset) offset
+    ∙ ap (info_from first) k
 edited_from (Protect prot) n offset o l = prot_from prot o offset
 edited_from DropFrame n offset o l = frame_from o offset
 
-pub edited_slots : (rs qs : List Run) (range : PageRange) (edit : Edit) → IsEdited rs qs range edit → (cell_at rs range.first).offset ≡ 0 → slots_of qs ≡ edited_to (slots_of rs) range edit
+pub edited_slots : (rs qs : List Run) (range : PageRange) (edit : Edit) → IsEdited rs qs range edit → (cell_at rs range.first).offset ≡ 0
+    → slots_of qs ≡ edited_to (slots_of rs) range edit
 edited_slots rs qs range edit h begins = same_slots _ _
     (λ p. by_test (λ x. (slots_of qs).info p ≡ x) (has range p) _ _
     (λ e. let b = has_in range p e in
@@ -65,11 +68,14 @@ edited_slots rs qs range edit h begins = same_slots _ _
     (λ p. same (λ (c : Cell). c.state.owner) (λ p _ _. refl) p (has range p) refl)
     (λ p. same (λ (c : Cell). c.offset == 0) (λ p _ _. refl) p (has range p) refl)
   where
-    same : {X : Type 0} (f : Cell → X) → ((p : ℕ) → range.first ≤ p → p < range.end → f (edited_cell edit (0 + (p - range.first)) (cell_at rs p)) ≡ f (cell_at rs p)) → (p : ℕ) (b : Bool) → has range p ≡ b → f (cell_at qs p) ≡ f (cell_at rs p)
+    same : {X : Type 0} (f : Cell → X)
+        → ((p : ℕ) → range.first ≤ p → p < range.end → f (edited_cell edit (0 + (p - range.first)) (cell_at rs p)) ≡ f (cell_at rs p))
+        → (p : ℕ) (b : Bool) → has range p ≡ b → f (cell_at qs p) ≡ f (cell_at rs p)
     same f stays p true e = let b = has_in range p e in ap f (h.inside p b.0 b.1) ∙ stays p b.0 b.1
     same f stays p false e = ap f (h.outside p (has_not range p e))
 
-pub edited_radix : (v u : Parts) → IsRadix v → (range : PageRange) (edit : Edit) → IsPageRange range → IsEdited (runs v) (runs u) range edit → u.level ≡ v.level → IsWhole u.level (512 * width_of u.level) (runs u) → IsRadix u
+pub edited_radix : (v u : Parts) → IsRadix v → (range : PageRange) (edit : Edit) → IsPageRange range
+    → IsEdited (runs v) (runs u) range edit → u.level ≡ v.level → IsWhole u.level (512 * width_of u.level) (runs u) → IsRadix u
 edited_radix v u ok range edit pages h same whole = record {
   top = same ∙ ok.top;
   whole = whole;
@@ -77,7 +83,9 @@ edited_radix v u ok range edit pages h same whole = record {
 }
   where
     out : (p : ℕ) → ¬ IsPage p → (p < range.first) ⊎ (range.end ≤ p)
-    out p not = ⊎_elim (λ (l : p < range.first). inl l) (λ (l : range.first ≤ p). ⊎_elim (λ (m : p < range.end). absurd (not (omega (arith, pages.low), omega (arith, pages.high)))) (λ (m : range.end ≤ p). inr m) (cases_lt p range.end)) (cases_lt p range.first)
+    out p not = ⊎_elim (λ (l : p < range.first). inl l)
+        (λ (l : range.first ≤ p). ⊎_elim (λ (m : p < range.end). absurd (not (omega (arith, pages.low), omega (arith, pages.high))))
+        (λ (m : range.end ≤ p). inr m) (cases_lt p range.end)) (cases_lt p range.first)
 
 -- an edge of a slot begins it
 pub begins_at : (v : Parts) (p : ℕ) → (tree_slots v).edge p ≡ true → (cell_at (runs v) p).offset ≡ 0
@@ -85,7 +93,8 @@ begins_at v p h = from_test _ _ h
 
 -- ---- one page
 
-pub edited_one : (s : Slots) (page : ℕ) (edit : Edit) (o : Option PageInfo) → edited_info edit 0 (s.info page) ≡ o → edited_to s (between page (page + 1)) edit ≡ with_info s page o
+pub edited_one : (s : Slots) (page : ℕ) (edit : Edit) (o : Option PageInfo) → edited_info edit 0 (s.info page) ≡ o
+    → edited_to s (between page (page + 1)) edit ≡ with_info s page o
 edited_one s page edit o is = same_slots _ _ (λ p. by_test (λ x. x ≡ cond (has (between page (page + 1)) p) o (s.info p)) (has (between page (page + 1)) p) _ _
     (λ e. here p e ∙ ap (λ b. cond b o (s.info p)) (sym e))
     (λ e. ap (λ b. cond b o (s.info p)) (sym e))
@@ -103,13 +112,16 @@ same_file_page None info h = absurd h
 same_file_page (Some old) info h = ap (λ (m : Meta). file_page m.back) (sym h)
 
 -- what a page of the tree can have
-pub can_put : (v : Parts) → IsRadix v → (page n : ℕ) (info : PageInfo) → page < 2 ^ 35 → n ≡ 1 → (tree_slots v).edge page ≡ true → HasMeta ((tree_slots v).info page) info.meta → CanEdit (Put (Some info)) n
+pub can_put : (v : Parts) → IsRadix v → (page n : ℕ) (info : PageInfo) → page < 2 ^ 35 → n ≡ 1 → (tree_slots v).edge page ≡ true
+    → HasMeta ((tree_slots v).info page) info.meta → CanEdit (Put (Some info)) n
 can_put v ok page n info l one edge meta =
     let c = cell_ok v ok page (omega arith) in
     let z = begins_at v page edge in
     let pos = c.within in
-    let is : (tree_slots v).info page ≡ (cell_at (runs v) page).state.info = ap (info_from (cell_at (runs v) page).state.info) z ∙ info_from_zero (cell_at (runs v) page).state.info in
-    let same : info_file_page (Some info) ≡ info_file_page (cell_at (runs v) page).state.info = same_file_page ((tree_slots v).info page) info meta ∙ ap info_file_page is in
+    let is : (tree_slots v).info page ≡ (cell_at (runs v) page).state.info = ap (info_from (cell_at (runs v) page).state.info) z
+    ∙ info_from_zero (cell_at (runs v) page).state.info in
+    let same : info_file_page (Some info) ≡ info_file_page (cell_at (runs v) page).state.info = same_file_page
+    ((tree_slots v).info page) info meta ∙ ap info_file_page is in
     record {
       fits = omega (arith, c.sound.fits, same, one, pos);
       alone = λ _. one;

@@ -35,10 +35,16 @@ pub record IsExpanded (rs qs : List Run) (page : ℕ) : Type 0 where
   pub start_is : start_of rs page ≡ before * width_of (level + 1)
   pub some : 0 < part
   pub width : (cell_at rs page).width ≡ 512 * part
-  pub inside : (k o : ℕ) → k < 512 → o < part → cell_at qs (start_of rs page + (k * part + o)) ≡ record { state = state_from (cell_at rs page).state (k * part); offset = o; width = part }
+  pub inside : (k o : ℕ) → k < 512 → o < part
+      → cell_at qs (start_of rs page + (k * part + o)) ≡ record {
+        state = state_from (cell_at rs page).state (k * part);
+        offset = o;
+        width = part;
+      }
   pub outside : (p : ℕ) → (p < start_of rs page) ⊎ (start_of rs page + (cell_at rs page).width ≤ p) → cell_at qs p ≡ cell_at rs p
 
-pub expanded : (rs : List Run) (level page : ℕ) → level ≤ 3 → page < total rs → IsCell level page (cell_at rs page) → 1 < (cell_at rs page).width → IsExpanded rs (with_run in_parts rs page) page
+pub expanded : (rs : List Run) (level page : ℕ) → level ≤ 3 → page < total rs → IsCell level page (cell_at rs page)
+    → 1 < (cell_at rs page).width → IsExpanded rs (with_run in_parts rs page) page
 expanded rs level page top h c large =
     let l : ℕ = level_of (cell_at rs page).width in
     let pos = large_level l (let w = c.width_is in omega arith) in
@@ -46,7 +52,8 @@ expanded rs level page top h c large =
     let w : 512 * width_of (l - 1) ≡ (cell_at rs page).width = width-below (l - 1) l one ∙ sym c.width_is in
     let is : in_parts (run_of (cell_at rs page)) ≡ divided (width_of (l - 1)) (cell_at rs page).state =
     ap (λ n. in_parts (record { width = n; state = (cell_at rs page).state })) c.width_is ∙ in_parts-is l (l - 1) (cell_at rs page).state one in
-    let t : total (in_parts (run_of (cell_at rs page))) ≡ (cell_at rs page).width = ap total is ∙ total-divided (width_of (l - 1)) (cell_at rs page).state ∙ w in
+    let t : total (in_parts (run_of (cell_at rs page))) ≡ (cell_at rs page).width = ap total is
+    ∙ total-divided (width_of (l - 1)) (cell_at rs page).state ∙ w in
     let whole : width_of (l - 1 + 1) ≡ (cell_at rs page).width = ap width_of one ∙ sym c.width_is in
     let place = c.place in
     record {
@@ -55,12 +62,14 @@ expanded rs level page top h c large =
       part = width_of (l - 1);
       part_is = refl;
       before = page / (cell_at rs page).width;
-      start_is = (let e : start_of rs page ≡ page / (cell_at rs page).width * (cell_at rs page).width = omega arith in e) ∙ ap (λ n. page / (cell_at rs page).width * n) (sym whole);
+      start_is = (let e : start_of rs page ≡ page / (cell_at rs page).width * (cell_at rs page).width = omega arith in e)
+          ∙ ap (λ n. page / (cell_at rs page).width * n) (sym whole);
       some = width_pos (l - 1);
       width = sym w;
       inside = λ k o m b.
           let lt : k * width_of (l - 1) + o < (cell_at rs page).width = omega (arith, most (width_of (l - 1)) k m) in
-          changed_inside in_parts rs page (k * width_of (l - 1) + o) h t lt ∙ ap (λ qs. cell_at qs (k * width_of (l - 1) + o)) is ∙ cell_at-divided (width_of (l - 1)) k o (k * width_of (l - 1) + o) (cell_at rs page).state m b refl;
+          changed_inside in_parts rs page (k * width_of (l - 1) + o) h t lt ∙ ap (λ qs. cell_at qs (k * width_of (l - 1) + o)) is
+          ∙ cell_at-divided (width_of (l - 1)) k o (k * width_of (l - 1) + o) (cell_at rs page).state m b refl;
       outside = λ p o. changed_outside in_parts rs page p h t o;
     }
   where
@@ -75,17 +84,20 @@ pub record IsPart (rs : List Run) (page part p : ℕ) : Type 0 where
   pub o_in : o < part
   pub is : p ≡ start_of rs page + (k * part + o)
 
-pub part_of : (rs qs : List Run) (page p : ℕ) (e : IsExpanded rs qs page) → start_of rs page ≤ p → p < start_of rs page + (cell_at rs page).width → IsPart rs page e.part p
+pub part_of : (rs qs : List Run) (page p : ℕ) (e : IsExpanded rs qs page) → start_of rs page ≤ p
+    → p < start_of rs page + (cell_at rs page).width → IsPart rs page e.part p
 part_of rs qs page p e a b =
     let w = e.width in
     let at = place_index e.part (p - start_of rs page) e.some (omega arith) in
     record { k = at.0; o = p - start_of rs page - at.0 * e.part; k_in = at.1; o_in = omega (arith, at.2, at.3); is = omega (arith, at.2) }
 
 -- a page is in the slot or outside it
-in_or_out : (rs : List Run) (page p : ℕ) → ((start_of rs page ≤ p) × (p < start_of rs page + (cell_at rs page).width)) ⊎ ((p < start_of rs page) ⊎ (start_of rs page + (cell_at rs page).width ≤ p))
+in_or_out : (rs : List Run) (page p : ℕ) → ((start_of rs page ≤ p) × (p < start_of rs page + (cell_at rs page).width))
+    ⊎ ((p < start_of rs page) ⊎ (start_of rs page + (cell_at rs page).width ≤ p))
 in_or_out rs page p = ⊎_elim
     (λ (l : p < start_of rs page). inr (inl l))
-    (λ (l : start_of rs page ≤ p). ⊎_elim (λ (m : p < start_of rs page + (cell_at rs page).width). inl (l, m)) (λ m. inr (inr m)) (cases_lt p (start_of rs page + (cell_at rs page).width)))
+    (λ (l : start_of rs page ≤ p). ⊎_elim (λ (m : p < start_of rs page + (cell_at rs page).width). inl (l, m)) (λ m. inr (inr m))
+    (cases_lt p (start_of rs page + (cell_at rs page).width)))
     (cases_lt p (start_of rs page))
 
 pub info_kept : (rs qs : List Run) (page : ℕ) → IsExpanded rs qs page → (p : ℕ) → (slots_of qs).info p ≡ (slots_of rs).info p
@@ -106,7 +118,8 @@ owner_kept rs qs page e p = ⊎_elim (λ b. here b.0 b.1) (λ o. ap (λ (c : Cel
     here : start_of rs page ≤ p → p < start_of rs page + (cell_at rs page).width → (slots_of qs).owner p ≡ (slots_of rs).owner p
     here a b =
         let at = part_of rs qs page p e a b in
-        ap (λ (c : Cell). c.state.owner) (ap (cell_at qs) at.is ∙ e.inside at.k at.o at.k_in at.o_in) ∙ ap (λ (c : Cell). c.state.owner) (sym (cell_of rs page p a b))
+        ap (λ (c : Cell). c.state.owner) (ap (cell_at qs) at.is ∙ e.inside at.k at.o at.k_in at.o_in)
+        ∙ ap (λ (c : Cell). c.state.owner) (sym (cell_of rs page p a b))
 
 edges_kept : (rs qs : List Run) (page : ℕ) → IsExpanded rs qs page → (p : ℕ) → (slots_of rs).edge p ≡ true → (slots_of qs).edge p ≡ true
 edges_kept rs qs page e p h = ⊎_elim (λ b. here b.0 b.1) (λ o. ap (λ (c : Cell). c.offset == 0) (e.outside p o) ∙ h) (in_or_out rs page p)
@@ -117,7 +130,8 @@ edges_kept rs qs page e p h = ⊎_elim (λ b. here b.0 b.1) (λ o. ap (λ (c : C
         let first : p ≡ start_of rs page + (0 * e.part + 0) = omega arith in
         same_test _ _ (ap (λ (c : Cell). c.offset) (ap (cell_at qs) first ∙ e.inside 0 0 (omega arith) e.some))
 
-pub divides : (rs qs : List Run) (page : ℕ) (e : IsExpanded rs qs page) → Divides (slots_of rs) (slots_of qs) (cell_at rs page).state.owner (start_of rs page + e.part)
+pub divides : (rs qs : List Run) (page : ℕ) (e : IsExpanded rs qs page) → Divides (slots_of rs) (slots_of qs) (cell_at rs page).state.owner
+    (start_of rs page + e.part)
 divides rs qs page e = record {
   info = λ j p. info_kept rs qs page e p j;
   owners = λ j p. owner_kept rs qs page e p j;
@@ -148,14 +162,18 @@ state_kept rs qs page e p h = ⊎_elim (λ b. here b.0 b.1) (λ o. ap (λ (c : C
     here a b =
         let at = part_of rs qs page p e a b in
         let none : (cell_at rs page).state ≡ no_state = ap (λ (c : Cell). c.state) (sym (cell_of rs page p a b)) ∙ h in
-        ap (λ (c : Cell). c.state) (ap (cell_at qs) at.is ∙ e.inside at.k at.o at.k_in at.o_in) ∙ ap (λ s. state_from s (at.k * e.part)) none ∙ no_state_from (at.k * e.part)
+        ap (λ (c : Cell). c.state) (ap (cell_at qs) at.is ∙ e.inside at.k at.o at.k_in at.o_in)
+        ∙ ap (λ s. state_from s (at.k * e.part)) none ∙ no_state_from (at.k * e.part)
 
-pub tree_expanded : (v u : Parts) → IsRadix v → (page : ℕ) → page < 2 ^ 36 → 1 < (cell_at (runs v) page).width → runs u ≡ with_run in_parts (runs v) page → IsExpanded (runs v) (runs u) page
+pub tree_expanded : (v u : Parts) → IsRadix v → (page : ℕ) → page < 2 ^ 36 → 1 < (cell_at (runs v) page).width
+    → runs u ≡ with_run in_parts (runs v) page → IsExpanded (runs v) (runs u) page
 tree_expanded v u ok page h large e =
     let n = pages_are v ok in
-    subst (λ qs. IsExpanded (runs v) qs page) (sym e) (expanded (runs v) v.level page (let t = ok.top in omega arith) (omega (arith, ok.whole.pages_are)) (cell_ok v ok page h) large)
+    subst (λ qs. IsExpanded (runs v) qs page) (sym e) (expanded (runs v) v.level page (let t = ok.top in omega arith)
+    (omega (arith, ok.whole.pages_are)) (cell_ok v ok page h) large)
 
-pub expanded-IsRadix : (v u : Parts) → IsRadix v → (page : ℕ) → IsExpanded (runs v) (runs u) page → u.level ≡ v.level → IsWhole u.level (512 * width_of u.level) (runs u) → IsRadix u
+pub expanded-IsRadix : (v u : Parts) → IsRadix v → (page : ℕ) → IsExpanded (runs v) (runs u) page → u.level ≡ v.level
+    → IsWhole u.level (512 * width_of u.level) (runs u) → IsRadix u
 expanded-IsRadix v u ok page e same whole = record {
   top = same ∙ ok.top;
   whole = whole;
@@ -167,9 +185,11 @@ ends_by_limit : (v : Parts) → IsRadix v → (page : ℕ) → page < 2 ^ 35 →
 ends_by_limit v ok page l =
     let rs = runs v in
     let c = cell_in rs page in
-    slot_by_edge (tree_slots v) (start_of rs page) (start_of rs page + (cell_at rs page).width) (2 ^ 35) (is_slot rs page) (tree-is_slot_map v ok).limit (omega arith)
+    slot_by_edge (tree_slots v) (start_of rs page) (start_of rs page + (cell_at rs page).width) (2 ^ 35) (is_slot rs page)
+    (tree-is_slot_map v ok).limit (omega arith)
 
-pub divides_at : (v u : Parts) → IsRadix v → (page : ℕ) → IsPage page → IsExpanded (runs v) (runs u) page → (at : ℕ) × IsPage at × Divides (tree_slots v) (tree_slots u) ((tree_slots v).owner page) at
+pub divides_at : (v u : Parts) → IsRadix v → (page : ℕ) → IsPage page → IsExpanded (runs v) (runs u) page → (at : ℕ) × IsPage at
+    × Divides (tree_slots v) (tree_slots u) ((tree_slots v).owner page) at
 divides_at v u ok page valid e =
     let rs = runs v in
     let c = cell_in rs page in
@@ -179,7 +199,8 @@ divides_at v u ok page valid e =
     (start_of rs page + e.part, (omega arith, omega arith), divides rs (runs u) page e)
 
 -- the edges outside the slot stay, and so does its first
-pub outer_edge : (rs qs : List Run) (page : ℕ) → IsExpanded rs qs page → (p : ℕ) → (p < start_of rs page + 1) ⊎ (start_of rs page + (cell_at rs page).width ≤ p) → (slots_of qs).edge p ≡ (slots_of rs).edge p
+pub outer_edge : (rs qs : List Run) (page : ℕ) → IsExpanded rs qs page → (p : ℕ) → (p < start_of rs page + 1)
+    ⊎ (start_of rs page + (cell_at rs page).width ≤ p) → (slots_of qs).edge p ≡ (slots_of rs).edge p
 outer_edge rs qs page e p (inr l) = ap (λ (c : Cell). c.offset == 0) (e.outside p (inr l))
 outer_edge rs qs page e p (inl l) = ⊎_elim
     (λ (m : p < start_of rs page). ap (λ (c : Cell). c.offset == 0) (e.outside p (inl m)))
@@ -198,7 +219,8 @@ divides_as rs qs page crossed e =
       is_slot = is_slot rs page;
       above = omega (arith, c.low);
       below = omega (arith, c.low, c.high);
-      now = same_slots _ _ (info_kept rs qs page e) (owner_kept rs qs page e) (λ p. by_test (λ x. (slots_of qs).edge p ≡ x) (has (between (slot.first + 1) slot.end) p) _ _
+      now = same_slots _ _ (info_kept rs qs page e) (owner_kept rs qs page e)
+          (λ p. by_test (λ x. (slots_of qs).edge p ≡ x) (has (between (slot.first + 1) slot.end) p) _ _
           (λ t. let b = has_in (between (slot.first + 1) slot.end) p t in inner p (omega (arith, b.0)) b.1)
           (λ t. outer_edge rs qs page e p (has_not (between (slot.first + 1) slot.end) p t)));
     }
@@ -239,11 +261,13 @@ joins_back s t at d could = record {
     kept p true e h = absurd (two _ h (d.kept p e))
     kept p false e h = e
 
-pub tree_folded : (v u : Parts) → IsRadix v → (page : ℕ) → page < 2 ^ 36 → u.level ≡ v.level → IsWhole u.level (512 * width_of u.level) (runs u) → Folds (runs v) (runs u) page → IsExpanded (runs u) (runs v) page
+pub tree_folded : (v u : Parts) → IsRadix v → (page : ℕ) → page < 2 ^ 36 → u.level ≡ v.level → IsWhole u.level (512 * width_of u.level)
+    (runs u) → Folds (runs v) (runs u) page → IsExpanded (runs u) (runs v) page
 tree_folded v u ok page h same whole f =
     let n = pages_are v ok in
     let m : 512 * width_of u.level ≡ 2 ^ 36 = ap (λ k. 512 * width_of k) same ∙ n in
-    subst (λ qs. IsExpanded (runs u) qs page) (sym f.parts) (expanded (runs u) u.level page (let t = ok.top in omega arith) (omega (arith, whole.pages_are)) (whole.cells page (omega arith)) f.large)
+    subst (λ qs. IsExpanded (runs u) qs page) (sym f.parts) (expanded (runs u) u.level page (let t = ok.top in omega arith)
+    (omega (arith, whole.pages_are)) (whole.cells page (omega arith)) f.large)
 
 info_none : (o : Option PageInfo) (n : ℕ) → info_from o n ≡ None → o ≡ None
 info_none None n h = refl
@@ -255,22 +279,27 @@ no_state_back s n h =
     let o = ap (λ (s : State). s.owner) h in
     ap (λ x. record { info = x; owner = s.owner }) i ∙ ap (λ x. record { info = None; owner = x }) o
 
-pub folded-IsRadix : (v u : Parts) → IsRadix v → (page : ℕ) → IsExpanded (runs u) (runs v) page → u.level ≡ v.level → IsWhole u.level (512 * width_of u.level) (runs u) → IsRadix u
+pub folded-IsRadix : (v u : Parts) → IsRadix v → (page : ℕ) → IsExpanded (runs u) (runs v) page → u.level ≡ v.level
+    → IsWhole u.level (512 * width_of u.level) (runs u) → IsRadix u
 folded-IsRadix v u ok page e same whole = record {
   top = same ∙ ok.top;
   whole = whole;
   outside = λ p h. ⊎_elim (λ b. here p h b.0 b.1) (λ o. ap (λ (c : Cell). c.state) (sym (e.outside p o)) ∙ ok.outside p h) (in_or_out (runs u) page p);
 }
   where
-    here : (p : ℕ) → ¬ IsPage p → start_of (runs u) page ≤ p → p < start_of (runs u) page + (cell_at (runs u) page).width → (cell_at (runs u) p).state ≡ no_state
+    here : (p : ℕ) → ¬ IsPage p → start_of (runs u) page ≤ p → p < start_of (runs u) page + (cell_at (runs u) page).width
+        → (cell_at (runs u) p).state ≡ no_state
     here p h a b =
         let at = part_of (runs u) (runs v) page p e a b in
         let none = sym (ap (λ (c : Cell). c.state) (ap (cell_at (runs v)) at.is ∙ e.inside at.k at.o at.k_in at.o_in)) ∙ ok.outside p h in
         ap (λ (c : Cell). c.state) (cell_of (runs u) page p a b) ∙ no_state_back (cell_at (runs u) page).state (at.k * e.part) none
 
-pub folded-Joins : (v u : Parts) → IsRadix u → (page : ℕ) → page < 2 ^ 35 → IsPlain (cell_at (runs u) page).state → IsExpanded (runs u) (runs v) page → Joins (tree_slots v) (tree_slots u)
+pub folded-Joins : (v u : Parts) → IsRadix u → (page : ℕ) → page < 2 ^ 35 → IsPlain (cell_at (runs u) page).state
+    → IsExpanded (runs u) (runs v) page → Joins (tree_slots v) (tree_slots u)
 folded-Joins v u ok page l plain e =
-    joins_back (tree_slots v) (tree_slots u) (start_of (runs u) page + e.part) (subst (λ o. Divides (tree_slots u) (tree_slots v) o (start_of (runs u) page + e.part)) plain.free (divides (runs u) (runs v) page e)) could
+    joins_back (tree_slots v) (tree_slots u) (start_of (runs u) page + e.part)
+    (subst (λ o. Divides (tree_slots u) (tree_slots v) o (start_of (runs u) page + e.part)) plain.free
+    (divides (runs u) (runs v) page e)) could
   where
     rs : List Run
     rs = runs u
@@ -301,7 +330,9 @@ folded-Joins v u ok page l plain e =
           next_free = owner p (omega arith) b;
           no_leaf = leaf (p - 1) (omega arith) (omega arith);
           next_no_leaf = leaf p (omega arith) b;
-          goes_on = info p (omega arith) b ∙ (ap (info_from state.info) (sym next) ∙ (sym (info_from_twice state.info (p - 1 - start_of rs page) 1) ∙ ap (λ o. info_from o 1) (sym (info (p - 1) (omega arith) (omega arith)))));
+          goes_on = info p (omega arith) b
+              ∙ (ap (info_from state.info) (sym next) ∙ (sym (info_from_twice state.info (p - 1 - start_of rs page) 1)
+              ∙ ap (λ o. info_from o 1) (sym (info (p - 1) (omega arith) (omega arith)))));
         }
 
     could : (p : ℕ) → (tree_slots v).edge p ≡ true → (tree_slots u).edge p ≡ false → CanBeOne (tree_slots v) p

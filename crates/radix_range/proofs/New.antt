@@ -21,7 +21,8 @@ divided_state w p pos = ⊎_elim
     (cases_lt p (512 * w))
 
 pub new_state : (v : Parts) → v ≡ node_of 3 no_state → (p : ℕ) → (cell_at (runs v) p).state ≡ no_state
-new_state v e p = ap (λ v. (cell_at (runs v) p).state) e ∙ ap (λ rs. (cell_at rs p).state) (runs-divided (width_of 3) no_state) ∙ divided_state (width_of 3) p (width_pos 3)
+new_state v e p = ap (λ v. (cell_at (runs v) p).state) e ∙ ap (λ rs. (cell_at rs p).state) (runs-divided (width_of 3) no_state)
+    ∙ divided_state (width_of 3) p (width_pos 3)
 
 pub new_radix : (v : Parts) → v ≡ node_of 3 no_state → IsWhole v.level (512 * width_of v.level) (runs v) → IsRadix v
 new_radix v e whole = record { top = ap (λ (v : Parts). v.level) e; whole = whole; outside = λ p _. new_state v e p }

@@ -22,7 +22,8 @@ use Rattle.radix_range.proofs.Sets.{begins}
 
 -- ---- where no node can be folded
 
-cell_is : (c : Cell) (i : Option PageInfo) (w : ℕ) → c.state.info ≡ i → c.state.owner ≡ None → c.offset ≡ 0 → c.width ≡ w → c ≡ record { state = record { info = i; owner = None }; offset = 0; width = w }
+cell_is : (c : Cell) (i : Option PageInfo) (w : ℕ) → c.state.info ≡ i → c.state.owner ≡ None → c.offset ≡ 0 → c.width ≡ w
+    → c ≡ record { state = record { info = i; owner = None }; offset = 0; width = w }
 cell_is c i w info owner zero width = λ j. record { state = record { info = info j; owner = owner j }; offset = zero j; width = width j }
 
 -- the slot that begins at a page
@@ -51,17 +52,24 @@ can_join v ok page can =
       until = can.until;
       slots = λ k l.
           let at = slot_cell rs (base + k * w) w (can.slots k l) in
-          cell_is (cell_at rs (base + k * w)) (info_from ((tree_slots v).info base) (k * w)) w (info_first rs (base + k * w) at.0 ∙ can.goes_on k l) (can.free k l) at.0 at.1;
+          cell_is (cell_at rs (base + k * w)) (info_from ((tree_slots v).info base) (k * w)) w (info_first rs (base + k * w) at.0
+          ∙ can.goes_on k l) (can.free k l) at.0 at.1;
     }
 
 -- ---- a folded node
 
-part_first : (rs qs : List Run) (page : ℕ) (e : IsExpanded rs qs page) (k : ℕ) → k < 512 → cell_at qs (start_of rs page + k * e.part) ≡ record { state = state_from (cell_at rs page).state (k * e.part); offset = 0; width = e.part }
+part_first : (rs qs : List Run) (page : ℕ) (e : IsExpanded rs qs page) (k : ℕ) → k < 512
+    → cell_at qs (start_of rs page + k * e.part) ≡ record {
+      state = state_from (cell_at rs page).state (k * e.part);
+      offset = 0;
+      width = e.part;
+    }
 part_first rs qs page e k l =
     let at : start_of rs page + k * e.part ≡ start_of rs page + (k * e.part + 0) = omega arith in
     ap (cell_at qs) at ∙ e.inside k 0 l e.some
 
-part_slot : (rs qs : List Run) (page : ℕ) (e : IsExpanded rs qs page) (k : ℕ) → k < 512 → IsSlot (slots_of qs) (start_of rs page + k * e.part) (start_of rs page + k * e.part + e.part)
+part_slot : (rs qs : List Run) (page : ℕ) (e : IsExpanded rs qs page) (k : ℕ) → k < 512
+    → IsSlot (slots_of qs) (start_of rs page + k * e.part) (start_of rs page + k * e.part + e.part)
 part_slot rs qs page e k l =
     let p : ℕ = start_of rs page + k * e.part in
     let c = part_first rs qs page e k l in
@@ -78,21 +86,27 @@ could_fold rs qs page plain e =
     let start = e.start_is in
     let some = e.some in
     let full : 512 * e.part ≡ width_of (e.level + 1) = ap (λ n. 512 * n) w ∙ width-below e.level (e.level + 1) refl in
-    let first : (slots_of qs).info (start_of rs page) ≡ (cell_at rs page).state.info = info_kept rs qs page e (start_of rs page) ∙ own (start_of rs page) 0 (omega arith) (omega arith) ∙ info_from_zero (cell_at rs page).state.info in
-    let place : (k : ℕ) → start_of rs page + k * e.part ≡ e.before * width_of (e.level + 1) + k * width_of e.level = λ k. ap (λ n. n + k * e.part) start ∙ ap (λ n. e.before * width_of (e.level + 1) + k * n) w in
+    let first : (slots_of qs).info (start_of rs page) ≡ (cell_at rs page).state.info = info_kept rs qs page e (start_of rs page)
+    ∙ own (start_of rs page) 0 (omega arith) (omega arith) ∙ info_from_zero (cell_at rs page).state.info in
+    let place : (k : ℕ) → start_of rs page + k * e.part ≡ e.before * width_of (e.level + 1) + k * width_of e.level = λ k.
+    ap (λ n. n + k * e.part) start ∙ ap (λ n. e.before * width_of (e.level + 1) + k * n) w in
     record {
       level = e.level;
       below_root = e.below_root;
       before = e.before;
       from = omega (arith, c.low);
       until = omega (arith, c.low, c.high);
-      slots = λ k l. subst (λ n. IsSlot (slots_of qs) n (n + width_of e.level)) (place k) (subst (λ n. IsSlot (slots_of qs) (start_of rs page + k * e.part) (start_of rs page + k * e.part + n)) w (part_slot rs qs page e k l));
+      slots = λ k l. subst (λ n. IsSlot (slots_of qs) n (n + width_of e.level)) (place k)
+          (subst (λ n. IsSlot (slots_of qs) (start_of rs page + k * e.part) (start_of rs page + k * e.part + n)) w
+          (part_slot rs qs page e k l));
       free = λ k l. ap (λ p. (cell_at qs p).state.owner) (sym (place k)) ∙ ap (λ (c : Cell). c.state.owner) (part_first rs qs page e k l) ∙ plain.free;
       no_leaf = ap (λ p. is_leaf ((slots_of qs).info p)) (sym start) ∙ ap is_leaf first ∙ plain.no_leaf;
       goes_on = λ k l.
           let ends = part_ends e.part k l in
-          ap (λ p. (slots_of qs).info p) (sym (place k)) ∙ info_kept rs qs page e (start_of rs page + k * e.part) ∙ own (start_of rs page + k * e.part) (k * e.part) (omega arith) (omega arith)
-          ∙ ap (λ o. info_from o (k * e.part)) (sym first) ∙ ap (λ p. info_from ((slots_of qs).info p) (k * e.part)) start ∙ ap (λ n. info_from ((slots_of qs).info (e.before * width_of (e.level + 1))) (k * n)) w;
+          ap (λ p. (slots_of qs).info p) (sym (place k)) ∙ info_kept rs qs page e (start_of rs page + k * e.part)
+          ∙ own (start_of rs page + k * e.part) (k * e.part) (omega arith) (omega arith)
+          ∙ ap (λ o. info_from o (k * e.part)) (sym first) ∙ ap (λ p. info_from ((slots_of qs).info p) (k * e.part)) start
+          ∙ ap (λ n. info_from ((slots_of qs).info (e.before * width_of (e.level + 1))) (k * n)) w;
     }
   where
     own : (p n : ℕ) → p ≡ start_of rs page + n → n < (cell_at rs page).width → (slots_of rs).info p ≡ info_from (cell_at rs page).state.info n
@@ -100,7 +114,8 @@ could_fold rs qs page plain e =
         let back : p - start_of rs page ≡ n = omega arith in
         ap (λ (c : Cell). info_from c.state.info c.offset) (cell_of rs page p (omega arith) (omega arith)) ∙ ap (info_from (cell_at rs page).state.info) back
 
-edges_joined : (rs qs : List Run) (page first end : ℕ) → IsExpanded rs qs page → first ≡ start_of rs page → end ≡ start_of rs page + (cell_at rs page).width → slots_of rs ≡ joined (slots_of qs) first end
+edges_joined : (rs qs : List Run) (page first end : ℕ) → IsExpanded rs qs page → first ≡ start_of rs page
+    → end ≡ start_of rs page + (cell_at rs page).width → slots_of rs ≡ joined (slots_of qs) first end
 edges_joined rs qs page first end e is ends = same_slots _ _
     (λ p. sym (info_kept rs qs page e p))
     (λ p. sym (owner_kept rs qs page e p))
@@ -115,7 +130,8 @@ edges_joined rs qs page first end e is ends = same_slots _ _
     away p (inl l) = inl (omega arith)
     away p (inr l) = inr (omega arith)
 
-pub folds_node : (v u : Parts) (page : ℕ) → IsPlain (cell_at (runs u) page).state → IsExpanded (runs u) (runs v) page → FoldsNode (tree_slots v) (tree_slots u) page
+pub folds_node : (v u : Parts) (page : ℕ) → IsPlain (cell_at (runs u) page).state → IsExpanded (runs u) (runs v) page
+    → FoldsNode (tree_slots v) (tree_slots u) page
 unfolding could_fold
 folds_node v u page plain e =
     let w = e.part_is in
@@ -124,5 +140,6 @@ folds_node v u page plain e =
     let start = e.start_is in
     record {
       could = could_fold (runs u) (runs v) page plain e;
-      now = edges_joined (runs u) (runs v) page (e.before * width_of (e.level + 1)) (e.before * width_of (e.level + 1) + width_of (e.level + 1)) e (sym start) (omega arith);
+      now = edges_joined (runs u) (runs v) page (e.before * width_of (e.level + 1))
+          (e.before * width_of (e.level + 1) + width_of (e.level + 1)) e (sym start) (omega arith);
     }

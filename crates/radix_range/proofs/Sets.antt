@@ -31,7 +31,8 @@ begins rs page end slot =
     let c = cell_in rs page in
     let own = is_slot rs page in
     let a = slot_by_edge (slots_of rs) page end (start_of rs page + (cell_at rs page).width) slot own.ends (omega (arith, c.high)) in
-    let b = slot_by_edge (slots_of rs) (start_of rs page) (start_of rs page + (cell_at rs page).width) end own slot.ends (let o = slot.ordered in omega arith) in
+    let b = slot_by_edge (slots_of rs) (start_of rs page) (start_of rs page + (cell_at rs page).width) end own slot.ends
+    (let o = slot.ordered in omega arith) in
     record { start = start; width = omega arith; some = slot.ordered }
 
 pub set_sound : (rs : List Run) (page end : ℕ) (t : State) → IsSlot (slots_of rs) page end → IsSound (end - page) t → IsSound (cell_at rs page).width t
@@ -56,7 +57,8 @@ is_set rs page end t h slot =
           ∙ cell_at-here (record { width = (cell_at rs page).width; state = t }) [] (p - page) (omega arith)
           ∙ ap (λ k. record { state = t; offset = p - page; width = k }) w;
       was = λ p a l. ap (λ (c : Cell). c.offset) (cell_of rs page p (omega arith) (omega arith)) ∙ ap (λ k. p - k) start;
-      outside = λ p o. changed_outside (in_state t) rs page p h sum (⊎_elim (λ (l : p < page). inl (omega arith)) (λ (l : end ≤ p). let some = b.some in inr (omega arith)) o);
+      outside = λ p o. changed_outside (in_state t) rs page p h sum
+          (⊎_elim (λ (l : p < page). inl (omega arith)) (λ (l : end ≤ p). let some = b.some in inr (omega arith)) o);
     }
 
 pub set_slots : (rs qs : List Run) (page end : ℕ) (t : State) → IsSet rs qs page end t → slots_of qs ≡ restated (slots_of rs) page end t
@@ -73,7 +75,8 @@ set_slots rs qs page end t h = same_slots _ _
     edge p true e = let b = has_in (between page end) p e in ap (λ n. n == 0) (ap (λ (c : Cell). c.offset) (h.inside p b.0 b.1) ∙ sym (h.was p b.0 b.1))
     edge p false e = ap (λ (c : Cell). c.offset == 0) (h.outside p (has_not (between page end) p e))
 
-pub set_radix : (v u : Parts) → IsRadix v → (page end : ℕ) (t : State) → 1 ≤ page → end ≤ 2 ^ 35 → IsSet (runs v) (runs u) page end t → u.level ≡ v.level → IsWhole u.level (512 * width_of u.level) (runs u) → IsRadix u
+pub set_radix : (v u : Parts) → IsRadix v → (page end : ℕ) (t : State) → 1 ≤ page → end ≤ 2 ^ 35 → IsSet (runs v) (runs u) page end t
+    → u.level ≡ v.level → IsWhole u.level (512 * width_of u.level) (runs u) → IsRadix u
 set_radix v u ok page end t low high h same whole = record {
   top = same ∙ ok.top;
   whole = whole;
@@ -81,9 +84,11 @@ set_radix v u ok page end t low high h same whole = record {
 }
   where
     out : (p : ℕ) → ¬ IsPage p → (p < page) ⊎ (end ≤ p)
-    out p not = ⊎_elim (λ (l : p < page). inl l) (λ (l : page ≤ p). ⊎_elim (λ (m : p < end). absurd (not (omega arith, omega arith))) (λ (m : end ≤ p). inr m) (cases_lt p end)) (cases_lt p page)
+    out p not = ⊎_elim (λ (l : p < page). inl l) (λ (l : page ≤ p). ⊎_elim (λ (m : p < end). absurd (not (omega arith, omega arith)))
+        (λ (m : end ≤ p). inr m) (cases_lt p end)) (cases_lt p page)
 
-pub tree_set : (v u : Parts) → IsRadix v → (page end : ℕ) (t : State) → end ≤ 2 ^ 35 → IsSlot (tree_slots v) page end → runs u ≡ with_run (in_state t) (runs v) page → IsSet (runs v) (runs u) page end t
+pub tree_set : (v u : Parts) → IsRadix v → (page end : ℕ) (t : State) → end ≤ 2 ^ 35 → IsSlot (tree_slots v) page end
+    → runs u ≡ with_run (in_state t) (runs v) page → IsSet (runs v) (runs u) page end t
 tree_set v u ok page end t high slot e =
     let n = pages_are v ok in
     let o = slot.ordered in

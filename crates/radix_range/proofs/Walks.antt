@@ -49,32 +49,38 @@ first_framed rs first end page frame h = record {
   had = frame_of-from (cell_at rs page).state.info (cell_at rs page).offset ∙ h.had;
 }
 
-pub frames_are : (rs : List Run) (first end : ℕ) (old new : List Framed) → AddsFrames (frames_from 0 rs) (0 + first) end old new → AddsFrames (frames_in (slots_of rs)) first end old new
+pub frames_are : (rs : List Run) (first end : ℕ) (old new : List Framed) → AddsFrames (frames_from 0 rs) (0 + first) end old new
+    → AddsFrames (frames_in (slots_of rs)) first end old new
 frames_are rs first end old new h =
     let at : 0 + first ≡ first = omega arith in
     adds_same _ _ first end old new (λ p a b. same p) (subst (λ n. AddsFrames (frames_from 0 rs) n end old new) at h)
   where
     same : (p : ℕ) → frames_from 0 rs p ≡ frames_in (slots_of rs) p
-    same p = let k : p - 0 ≡ p = omega arith in ap (λ n. frame_of (cell_at rs n).state.info) k ∙ sym (frame_of-from (cell_at rs p).state.info (cell_at rs p).offset)
+    same p = let k : p - 0 ≡ p = omega arith in ap (λ n. frame_of (cell_at rs n).state.info) k
+        ∙ sym (frame_of-from (cell_at rs p).state.info (cell_at rs p).offset)
 
 clash : (o : Option PageInfo) → is_some o ≡ true → o ≡ None → ⊥
 clash o e f = cc
 
 blocked : (rs : List Run) (range : PageRange) (n r : ℕ) → Blocked rs 0 range.first range.end n r → ¬ IsFreeRun (slots_of rs) range n r
 blocked rs range n r w run =
-    clash (info_from (cell_at rs w.0).state.info (cell_at rs w.0).offset) (is_some-from (cell_at rs w.0).state.info (cell_at rs w.0).offset ∙ w.5) (run.free w.0 (omega (arith, w.3)) (omega (arith, w.4)))
+    clash (info_from (cell_at rs w.0).state.info (cell_at rs w.0).offset) (is_some-from (cell_at rs w.0).state.info (cell_at rs w.0).offset
+    ∙ w.5) (run.free w.0 (omega (arith, w.3)) (omega (arith, w.4)))
 
-pub free_run_found : (rs : List Run) (range : PageRange) (n here : ℕ) → IsFree rs 0 range.first range.end n range.first here → IsFreeRun (slots_of rs) range n here
+pub free_run_found : (rs : List Run) (range : PageRange) (n here : ℕ) → IsFree rs 0 range.first range.end n range.first here
+    → IsFreeRun (slots_of rs) range n here
 free_run_found rs range n here h = record {
   low = h.low;
   high = omega (arith, h.high);
   free = λ p a b. ap (λ o. info_from o (cell_at rs p).offset) (h.free p (omega (arith, h.low)) (omega (arith, h.high)) (omega arith) (omega arith));
 }
 
-pub free_run_least : (rs : List Run) (range : PageRange) (n here : ℕ) → IsFree rs 0 range.first range.end n range.first here → (r : ℕ) → r < here → ¬ IsFreeRun (slots_of rs) range n r
+pub free_run_least : (rs : List Run) (range : PageRange) (n here : ℕ) → IsFree rs 0 range.first range.end n range.first here → (r : ℕ)
+    → r < here → ¬ IsFreeRun (slots_of rs) range n r
 free_run_least rs range n here h r l run = blocked rs range n r (h.before r run.low l) run
 
-pub free_run_none : (rs : List Run) (range : PageRange) (n here : ℕ) → IsOpen rs 0 range.first range.end n range.first here → (r : ℕ) → ¬ IsFreeRun (slots_of rs) range n r
+pub free_run_none : (rs : List Run) (range : PageRange) (n here : ℕ) → IsOpen rs 0 range.first range.end n range.first here → (r : ℕ)
+    → ¬ IsFreeRun (slots_of rs) range n r
 free_run_none rs range n here h r run = ⊎_elim
     (λ (l : r < here). blocked rs range n r (h.before r run.low l) run)
     (λ (l : here ≤ r). omega (arith, h.short, run.high))

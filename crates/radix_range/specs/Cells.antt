@@ -12,7 +12,8 @@ pub record IsIn (page : ℕ) (c : Cell) : Type 0 where
 pub cell_in : (rs : List Run) (page : ℕ) → IsIn page (cell_at rs page)
 cell_in [] page = record { low = omega arith; high = omega arith }
 cell_in (r ∷ rs) page = ⊎_elim
-    (λ (l : page < r.width). subst (IsIn page) (sym (cell_at-here r rs page l)) (record { low = omega arith; high = l }))
+    (λ (l : page < r.width). subst (IsIn page) (sym (cell_at-here r rs page l))
+    (record { low = omega arith; high = l }))
     (λ (l : r.width ≤ page).
     let c = cell_in rs (page - r.width) in
     subst (IsIn page) (sym (cell_at-there r rs page l))
@@ -35,7 +36,8 @@ cell_earlier (r ∷ rs) page n h =
         ∙ ap (λ (c : Cell). moved c (c.offset - n)) (sym e)
 
     there : (n ≤ (cell_at rs (page - r.width)).offset
-        → cell_at rs (page - r.width - n) ≡ moved (cell_at rs (page - r.width)) ((cell_at rs (page - r.width)).offset - n))
+        → cell_at rs (page - r.width - n) ≡ moved (cell_at rs (page - r.width))
+        ((cell_at rs (page - r.width)).offset - n))
         → r.width ≤ page → n ≤ (cell_at (r ∷ rs) page).offset
         → cell_at (r ∷ rs) (page - n) ≡ moved (cell_at (r ∷ rs) page) ((cell_at (r ∷ rs) page).offset - n)
     there below l h =
@@ -68,7 +70,8 @@ cell_after (r ∷ rs) page =
         ∙ first in
         subst P (sym (cell_at-here r rs page l)) at
 
-    there : (cell_at rs (page - r.width - (cell_at rs (page - r.width)).offset + (cell_at rs (page - r.width)).width)).offset ≡ 0
+    there : (cell_at rs
+        (page - r.width - (cell_at rs (page - r.width)).offset + (cell_at rs (page - r.width)).width)).offset ≡ 0
         → r.width ≤ page → P (cell_at (r ∷ rs) page)
     there below l =
         let c = cell_in rs (page - r.width) in
@@ -120,7 +123,8 @@ changed_inside f (r ∷ rs) page n h t l =
     there : (page - r.width < total rs
         → total (f (run_of (cell_at rs (page - r.width)))) ≡ (cell_at rs (page - r.width)).width
         → n < (cell_at rs (page - r.width)).width
-        → cell_at (with_run f rs (page - r.width)) (start_of rs (page - r.width) + n) ≡ cell_at (f (run_of (cell_at rs (page - r.width)))) n)
+        → cell_at (with_run f rs (page - r.width)) (start_of rs (page - r.width) + n) ≡ cell_at
+        (f (run_of (cell_at rs (page - r.width)))) n)
         → r.width ≤ page
         → total (f (run_of (cell_at (r ∷ rs) page))) ≡ (cell_at (r ∷ rs) page).width
         → n < (cell_at (r ∷ rs) page).width → Goal (cell_at (r ∷ rs) page)
@@ -131,7 +135,8 @@ changed_inside f (r ∷ rs) page n h t l =
         let c = cell_in rs (page - r.width) in
         let o : ℕ = (cell_at rs (page - r.width)).offset in
         let k : page - o + n - r.width ≡ page - r.width - o + n = omega (arith, c.low) in
-        let at : cell_at (with_run f (r ∷ rs) page) (page - o + n) ≡ cell_at (f (run_of (cell_at rs (page - r.width)))) n =
+        let at : cell_at (with_run f (r ∷ rs) page) (page - o + n) ≡ cell_at
+        (f (run_of (cell_at rs (page - r.width)))) n =
         ap (λ qs. cell_at qs (page - o + n)) (with_run-there f r rs page m)
         ∙ cell_at-there r (with_run f rs (page - r.width)) (page - o + n) (omega (arith, c.low))
         ∙ ap (cell_at (with_run f rs (page - r.width))) k
@@ -167,7 +172,8 @@ changed_outside f (r ∷ rs) page p h t o =
 
     there : (page - r.width < total rs
         → total (f (run_of (cell_at rs (page - r.width)))) ≡ (cell_at rs (page - r.width)).width
-        → (p - r.width < start_of rs (page - r.width)) ⊎ (start_of rs (page - r.width) + (cell_at rs (page - r.width)).width ≤ p - r.width)
+        → (p - r.width < start_of rs (page - r.width))
+        ⊎ (start_of rs (page - r.width) + (cell_at rs (page - r.width)).width ≤ p - r.width)
         → cell_at (with_run f rs (page - r.width)) (p - r.width) ≡ cell_at rs (p - r.width))
         → r.width ≤ page
         → total (f (run_of (cell_at (r ∷ rs) page))) ≡ (cell_at (r ∷ rs) page).width
@@ -186,6 +192,7 @@ changed_outside f (r ∷ rs) page p h t o =
         (cases_lt p r.width)
       where
         beyond : r.width ≤ page → r.width ≤ p → Out (cell_at rs (page - r.width))
-            → (p - r.width < start_of rs (page - r.width)) ⊎ (start_of rs (page - r.width) + (cell_at rs (page - r.width)).width ≤ p - r.width)
+            → (p - r.width < start_of rs (page - r.width))
+            ⊎ (start_of rs (page - r.width) + (cell_at rs (page - r.width)).width ≤ p - r.width)
         beyond m b (inl a) = inl (omega arith)
         beyond m b (inr a) = let c = cell_in rs (page - r.width) in inr (omega (arith, c.low))

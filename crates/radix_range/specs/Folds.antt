@@ -15,11 +15,13 @@ pub record CanFold (s : Slots) (page : ℕ) : Type 0 where
   pub from : before * width_of (level + 1) ≤ page
   pub until : page < before * width_of (level + 1) + width_of (level + 1)
   pub slots : (k : ℕ) → k < 512
-      → IsSlot s (before * width_of (level + 1) + k * width_of level) (before * width_of (level + 1) + k * width_of level + width_of level)
+      → IsSlot s (before * width_of (level + 1) + k * width_of level)
+      (before * width_of (level + 1) + k * width_of level + width_of level)
   pub free : (k : ℕ) → k < 512 → s.owner (before * width_of (level + 1) + k * width_of level) ≡ None
   pub no_leaf : is_leaf (s.info (before * width_of (level + 1))) ≡ false
   pub goes_on : (k : ℕ) → k < 512
-      → s.info (before * width_of (level + 1) + k * width_of level) ≡ info_from (s.info (before * width_of (level + 1))) (k * width_of level)
+      → s.info (before * width_of (level + 1) + k * width_of level) ≡ info_from
+      (s.info (before * width_of (level + 1))) (k * width_of level)
 
 -- the pages from first up to end are one slot, and all else stays
 abbrev pub joined : Slots → ℕ → ℕ → Slots
@@ -28,4 +30,5 @@ joined s first end = record s { edge = over s.edge (has (between (first + 1) end
 -- such a node became one slot
 pub record FoldsNode (s t : Slots) (page : ℕ) : Type 0 where
   pub could : CanFold s page
-  pub now : t ≡ joined s (could.before * width_of (could.level + 1)) (could.before * width_of (could.level + 1) + width_of (could.level + 1))
+  pub now : t ≡ joined s (could.before * width_of (could.level + 1))
+      (could.before * width_of (could.level + 1) + width_of (could.level + 1))

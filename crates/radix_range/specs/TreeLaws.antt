@@ -83,7 +83,8 @@ cell_of rs page p a b =
     none n = omega arith
 
 pub is_found : (v : Parts) → IsRadix v → (page : ℕ) → page < 2 ^ 36
-    → IsFound (tree_slots v) page (start_of (runs v) page) (start_of (runs v) page + (cell_at (runs v) page).width) (cell_at (runs v) page).state
+    → IsFound (tree_slots v) page (start_of (runs v) page) (start_of (runs v) page + (cell_at (runs v) page).width)
+    (cell_at (runs v) page).state
 is_found v ok page h =
     let rs = runs v in
     let c = cell_in rs page in
@@ -144,18 +145,23 @@ leaf_no_state n h = cc
 
 pub tree-is_slot_map : (v : Parts) → IsRadix v → IsSlotMap (tree_slots v)
 tree-is_slot_map v ok = record {
-  limit = same_test _ _ (limit_edge (cell_at rs (2 ^ 35)) (subst (λ n. IsCell n (2 ^ 35) (cell_at rs (2 ^ 35))) ok.top (cell_ok v ok (2 ^ 35) (omega arith))));
+  limit = same_test _ _
+      (limit_edge (cell_at rs (2 ^ 35)) (subst (λ n. IsCell n (2 ^ 35) (cell_at rs (2 ^ 35))) ok.top
+      (cell_ok v ok (2 ^ 35) (omega arith))));
   unmapped = λ p h. ap (λ (s : State). info_from s.info (cell_at rs p).offset) (ok.outside p h);
   free = λ p h. ap (λ (s : State). s.owner) (ok.outside p h);
   same_owner = λ p _ h. sym (ap (λ (c : Cell). c.state.owner) (before_is rs p h));
   goes_on = λ p _ h. on p h;
   alone = λ p h. ⊎_elim
       (λ (l : p < 2 ^ 36). alone p l h)
-      (λ (l : 2 ^ 36 ≤ p). absurd (leaf_no_state 0 (sym (ap (λ (c : Cell). is_leaf (info_from c.state.info c.offset)) (past p l)) ∙ h)))
+      (λ (l : 2 ^ 36 ≤ p). absurd
+      (leaf_no_state 0 (sym (ap (λ (c : Cell). is_leaf (info_from c.state.info c.offset)) (past p l)) ∙ h)))
       (cases_lt p (2 ^ 36));
   fits = λ p. ⊎_elim
-      (λ (l : p < 2 ^ 36). let c = cell_ok v ok p l in fits_from (cell_at rs p).state.info (cell_at rs p).offset (cell_at rs p).width c.within c.sound.fits)
-      (λ (l : 2 ^ 36 ≤ p). let none = ap (λ (c : Cell). info_file_page (info_from c.state.info c.offset)) (past p l) in omega arith)
+      (λ (l : p < 2 ^ 36). let c = cell_ok v ok p l in fits_from (cell_at rs p).state.info (cell_at rs p).offset
+      (cell_at rs p).width c.within c.sound.fits)
+      (λ (l : 2 ^ 36 ≤ p). let none = ap (λ (c : Cell). info_file_page (info_from c.state.info c.offset))
+      (past p l) in omega arith)
       (cases_lt p (2 ^ 36));
 }
   where

@@ -23,7 +23,8 @@ pub fn expand<A: Allocator + Clone>(root: &mut Node<A>, page: u64) -> Result<(),
     requires page { IsPage page }
     requires crossed { (tree_slots root.old).edge page ≡ false }
     ensures tree { IsRadix root.new }
-    ensures ok { OnOk result ((at : ℕ) × IsPage at × Divides (tree_slots root.old) (tree_slots root.new) ((tree_slots root.old).owner page) at) }
+    ensures ok { OnOk result ((at : ℕ) × IsPage at
+        × Divides (tree_slots root.old) (tree_slots root.new) ((tree_slots root.old).owner page) at) }
     ensures exact { OnOk result (DividesAs in_512 (tree_slots root.old) (tree_slots root.new) page) }
     ensures err { OnErr result (root.new ≡ root.old) }
 {
@@ -49,7 +50,8 @@ pub fn set_owner<A: Allocator>(root: &mut Node<A>, page: u64, owner: Option<Core
     requires begins { (tree_slots root.old).edge page ≡ true }
     ensures tree { IsRadix root.new }
     ensures slot { IsSlot (tree_slots root.old) page result }
-    ensures one_owner { (p : ℕ) → page ≤ p → p < result → (tree_slots root.old).owner p ≡ (tree_slots root.old).owner page }
+    ensures one_owner { (p : ℕ) → page ≤ p → p < result
+        → (tree_slots root.old).owner p ≡ (tree_slots root.old).owner page }
     ensures slots { tree_slots root.new ≡ with_owner (tree_slots root.old) page result owner }
 {
     let level = root.own_at(page, owner);
@@ -86,7 +88,8 @@ pub fn clear_frame<A: Allocator>(root: &mut Node<A>, page: u64)
     requires page { IsPage page }
     requires alone { IsSlot (tree_slots root.old) page (page + 1) }
     ensures tree { IsRadix root.new }
-    ensures slots { tree_slots root.new ≡ with_info (tree_slots root.old) page (info_without_frame ((tree_slots root.old).info page)) }
+    ensures slots { tree_slots root.new ≡ with_info (tree_slots root.old) page
+        (info_without_frame ((tree_slots root.old).info page)) }
 {
     edit_range(root, one_page(page), &Edit::DropFrame);
 }

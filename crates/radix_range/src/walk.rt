@@ -61,12 +61,7 @@ pub fn first_frame<A: Allocator>(root: &Node<A>, from: u64, end: u64) -> Option<
 
 /// Adds the pages from `from` up to `end` that have a frame, and their frames, to the list, in order of pages, until it is
 /// full. Answers the page up to which none is left out.
-pub fn list_frames<A: Allocator>(
-    root: &Node<A>,
-    from: u64,
-    end: u64,
-    list: &mut FramedPages,
-) -> u64
+pub fn list_frames<A: Allocator>(root: &Node<A>, from: u64, end: u64, list: &mut FramedPages) -> u64
     requires tree { IsRadix root.now }
     requires ordered { from ≤ end }
     requires end { end ≤ 2 ^ 35 }

@@ -48,7 +48,8 @@ row_none n row o f = record {
     was : (p : ℕ) → put row o None p ≢ None → row p ≢ None
     was p h e = h (put_all (λ j d. row j ≡ None → d ≡ None) row o None (λ _. refl) (λ j _ x. x) p e)
 
-row_some : (n : ℕ) (row : ℕ → Option ℤ) (o : ℕ) (d : ℤ) → o < n → IsDelta d → ((p : ℕ) → row p ≢ None → p % 64 ≡ o % 64 → p ≡ o) → Row n row → Row n (put row o (Some d))
+row_some : (n : ℕ) (row : ℕ → Option ℤ) (o : ℕ) (d : ℤ) → o < n → IsDelta d → ((p : ℕ) → row p ≢ None → p % 64 ≡ o % 64 → p ≡ o)
+    → Row n row → Row n (put row o (Some d))
 row_some n row o d lt small own f = record {
   small = put_all (λ _ x. IsDelta (value x)) row o (Some d) small (λ j _. f.small j);
   alone = λ p q hp hq s. go p q hp hq s (same_or_not p o) (same_or_not q o);
@@ -83,29 +84,36 @@ held_drained c o v f = record {
 held_evicted : (c o : ℕ) (v : Counts) → HasEntry v c o → Held v → Held (evicted c o v)
 held_evicted c o v has f =
     let g = held_drained c o v f in
-    by_notice Held c o (drained c o v) (λ _ _. record { rows = g.rows; queues = g.queues }) (λ _ _. held_enqueued c o (drained c o v) ((f.rows c).inside o has) g) (λ _. g)
+    by_notice Held c o (drained c o v) (λ _ _. record { rows = g.rows; queues = g.queues })
+    (λ _ _. held_enqueued c o (drained c o v) ((f.rows c).inside o has) g) (λ _. g)
 
-held_unqueued : (c o since : ℕ) (rest : List Queued) (v : Counts) → v.queue c ≡ record { object = o; epoch = since } ∷ rest → Held v → Held (unqueued c o rest v)
+held_unqueued : (c o since : ℕ) (rest : List Queued) (v : Counts) → v.queue c ≡ record { object = o; epoch = since } ∷ rest → Held v
+    → Held (unqueued c o rest v)
 held_unqueued c o since rest v front f = record {
   rows = f.rows;
-  queues = put_all (λ _ xs. Each (λ x. x.object < v.objects) xs) v.queue c rest (subst (Each (λ x. x.object < v.objects)) front (f.queues c)).1 (λ j _. f.queues j);
+  queues = put_all (λ _ xs. Each (λ x. x.object < v.objects) xs) v.queue c rest
+      (subst (Each (λ x. x.object < v.objects)) front (f.queues c)).1 (λ j _. f.queues j);
 }
 
 -- the object at the front of a queue is one that there is
 front_held : (c o since : ℕ) (rest : List Queued) (v : Counts) → v.queue c ≡ record { object = o; epoch = since } ∷ rest → Held v → o < v.objects
 front_held c o since rest v front f = (subst (Each (λ x. x.object < v.objects)) front (f.queues c)).0
 
-held_added : (c o : ℕ) (by : ℤ) (m : Counts) → o < m.objects → IsDelta (delta_of m c o +ℤ by) → ((p : ℕ) → m.delta c p ≢ None → p % 64 ≡ o % 64 → p ≡ o) → Held m → Held (added c o by m)
+held_added : (c o : ℕ) (by : ℤ) (m : Counts) → o < m.objects → IsDelta (delta_of m c o +ℤ by)
+    → ((p : ℕ) → m.delta c p ≢ None → p % 64 ≡ o % 64 → p ≡ o) → Held m → Held (added c o by m)
 held_added c o by m lt small own f = record {
-  rows = put_all (λ _ row. Row m.objects row) m.delta c (put (m.delta c) o (Some (delta_of m c o +ℤ by))) (row_some m.objects (m.delta c) o (delta_of m c o +ℤ by) lt small own (f.rows c)) (λ j _. f.rows j);
+  rows = put_all (λ _ row. Row m.objects row) m.delta c (put (m.delta c) o (Some (delta_of m c o +ℤ by)))
+      (row_some m.objects (m.delta c) o (delta_of m c o +ℤ by) lt small own (f.rows c)) (λ j _. f.rows j);
   queues = f.queues;
 }
 
 pub evicted_row : (c p : ℕ) (v : Counts) → (evicted c p v).delta c ≡ put (v.delta c) p None
 evicted_row c p v =
-    by_notice (λ w. w.delta c ≡ (drained c p v).delta c) c p (drained c p v) (λ _ _. refl) (λ _ _. refl) (λ _. refl) ∙ put_same v.delta c (put (v.delta c) p None)
+    by_notice (λ w. w.delta c ≡ (drained c p v).delta c) c p (drained c p v) (λ _ _. refl) (λ _ _. refl) (λ _. refl)
+    ∙ put_same v.delta c (put (v.delta c) p None)
 
-held_room : (v : Counts) (c o : ℕ) (by : ℤ) (m : Counts) → MakesRoom v c o by m → (neg_ℤ (pos 1) ≤ℤ by) × (by ≤ℤ pos 1) → o < v.objects → Held v → Held (added c o by m)
+held_room : (v : Counts) (c o : ℕ) (by : ℤ) (m : Counts) → MakesRoom v c o by m → (neg_ℤ (pos 1) ≤ℤ by) × (by ≤ℤ pos 1) → o < v.objects
+    → Held v → Held (added c o by m)
 held_room v c o by m (inl h) one lt f = subst (λ z. Held (added c o by z)) (sym h.1) (held_added c o by v lt (next_small (v.delta c) o by one h.0) own f)
   where
     own : (p : ℕ) → v.delta c p ≢ None → p % 64 ≡ o % 64 → p ≡ o
@@ -115,7 +123,8 @@ held_room v c o by m (inl h) one lt f = subst (λ z. Held (added c o by z)) (sym
         go (inl e) = e
         go (inr ne) = absurd (h.0 p (record { entry = has; place = same; cause = inl ne }))
 held_room v c o by m (inr h) one lt f =
-    subst (λ z. Held (added c o by z)) (sym h.2) (held_added c o by w (subst (λ n. o < n) (sym objects) lt) small (λ q has same. absurd (gone q has same)) (held_evicted c p v h.1.entry f))
+    subst (λ z. Held (added c o by z)) (sym h.2) (held_added c o by w (subst (λ n. o < n) (sym objects) lt) small
+    (λ q has same. absurd (gone q has same)) (held_evicted c p v h.1.entry f))
   where
     p : ℕ
     p = h.0
@@ -195,13 +204,16 @@ counted v s w h f o = subst InRange (sym (true_counts_move v s w h o)) (go s h)
   where
     go : (s : Step) → Takes v s w → InRange (true_count v o +ℤ change s o)
     go (Begin p k) h = by_test (λ z. InRange (true_count v o +ℤ z)) (o == p) (pos k) (pos 0)
-        (λ t. let none : true_count v o ≡ pos 0 = ap (true_count v) (eq_true o p t) ∙ h.0.zero in let few = h.2 in (omega (arith, ints, none, few), omega (arith, ints, none, few)))
+        (λ t. let none : true_count v o ≡ pos 0 = ap (true_count v) (eq_true o p t) ∙ h.0.zero in let few = h.2 in
+        (omega (arith, ints, none, few), omega (arith, ints, none, few)))
         (λ _. stays (true_count v o) (f o))
     go (Inc c p) h = by_test (λ z. InRange (true_count v o +ℤ z)) (o == p) (pos 1) (pos 0)
-        (λ t. let same : true_count v o ≡ true_count v p = ap (true_count v) (eq_true o p t) in let few = h.0 in let a = (f o).0 in (omega (arith, ints, same, few, a), omega (arith, ints, same, few, a)))
+        (λ t. let same : true_count v o ≡ true_count v p = ap (true_count v) (eq_true o p t) in let few = h.0 in let a = (f o).0 in
+        (omega (arith, ints, same, few, a), omega (arith, ints, same, few, a)))
         (λ _. stays (true_count v o) (f o))
     go (Dec c p) h = by_test (λ z. InRange (true_count v o +ℤ z)) (o == p) (negsuc 0) (pos 0)
-        (λ t. let same : true_count v o ≡ true_count v p = ap (true_count v) (eq_true o p t) in let more = h.1 in let b = (f o).1 in (omega (arith, ints, same, more, b), omega (arith, ints, same, more, b)))
+        (λ t. let same : true_count v o ≡ true_count v p = ap (true_count v) (eq_true o p t) in let more = h.1 in let b = (f o).1 in
+        (omega (arith, ints, same, more, b), omega (arith, ints, same, more, b)))
         (λ _. stays (true_count v o) (f o))
     go (Flushing c r) h = stays (true_count v o) (f o)
     go (Reviewing c r) h = stays (true_count v o) (f o)

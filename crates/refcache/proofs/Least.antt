@@ -24,7 +24,8 @@ some_none h = cc
 same_entry : {x y : Entry} → Some x ≡ Some y → x.object ≡ y.object
 same_entry h = cc
 
-pub least_more : (places : List (Option Entry)) (i : ℕ) (least : Option ℕ) → IsLeastBelow places i least → IsLeastBelow places (i + 1) (lesser_object least (slice_index_or places i None))
+pub least_more : (places : List (Option Entry)) (i : ℕ) (least : Option ℕ) → IsLeastBelow places i least
+    → IsLeastBelow places (i + 1) (lesser_object least (slice_index_or places i None))
 least_more places i least h = go (at places i) refl least h
   where
     below : (j : ℕ) → j < i + 1 → (j ≡ i) ⊎ (j < i)
@@ -37,7 +38,8 @@ least_more places i least h = go (at places i) refl least h
     wider : (j : ℕ) → j < i → j < i + 1
     wider j lt = omega (arith, lt)
 
-    go : (x : Option Entry) → slice_index_or places i None ≡ x → (least : Option ℕ) → IsLeastBelow places i least → IsLeastBelow places (i + 1) (lesser_object least x)
+    go : (x : Option Entry) → slice_index_or places i None ≡ x → (least : Option ℕ) → IsLeastBelow places i least
+        → IsLeastBelow places (i + 1) (lesser_object least x)
     go None e None h = λ j lt. pick j (below j lt)
       where
         pick : (j : ℕ) → (j ≡ i) ⊎ (j < i) → slice_index_or places j None ≡ None

@@ -39,7 +39,8 @@ cores_room : (v : Counts) (c p : ℕ) (by : ℤ) (m : Counts) → c < v.cores �
 cores_room v c p by m lt (inl h) = subst (λ w. c < w.cores) (sym h.1) lt
 cores_room v c p by m lt (inr h) = subst (λ w. c < w.cores) (sym h.2) (by_notice (λ w. c < w.cores) c h.0 (drained c h.0 v) (λ _ _. lt) (λ _ _. lt) (λ _. lt))
 
-move_add : (v : Counts) (c p : ℕ) (by : ℤ) (m : Counts) → c < v.cores → MakesRoom v c p by m → (o : ℕ) → true_count (added c p by m) o ≡ true_count v o +ℤ cond (o == p) by (pos 0)
+move_add : (v : Counts) (c p : ℕ) (by : ℤ) (m : Counts) → c < v.cores → MakesRoom v c p by m → (o : ℕ)
+    → true_count (added c p by m) o ≡ true_count v o +ℤ cond (o == p) by (pos 0)
 move_add v c p by m lt h o =
     move_added m c p by (cores_room v c p by m lt h) o ∙ ap (λ z. z +ℤ cond (o == p) by (pos 0)) (move_room v c p by m lt h o)
 
@@ -57,7 +58,9 @@ move_review v c review.Idle w h o = ap (λ z. true_count z o) h.1
 
 pub true_counts_move : TrueCountsMove
 true_counts_move v (Begin p k) w h o = subst (λ z. true_count z o ≡ true_count v o +ℤ cond (o == p) (pos k) (pos 0)) (sym h.3) (move_begun v p k h.0 o)
-true_counts_move v (Inc c p) w h o = subst (λ z. true_count z o ≡ true_count v o +ℤ cond (o == p) (pos 1) (pos 0)) (sym h.1.4) (move_add v c p (pos 1) h.1.2 h.1.0 h.1.3 o)
-true_counts_move v (Dec c p) w h o = subst (λ z. true_count z o ≡ true_count v o +ℤ cond (o == p) (negsuc 0) (pos 0)) (sym h.4) (move_add v c p (negsuc 0) h.2 h.0 h.3 o)
+true_counts_move v (Inc c p) w h o = subst (λ z. true_count z o ≡ true_count v o +ℤ cond (o == p) (pos 1) (pos 0)) (sym h.1.4)
+    (move_add v c p (pos 1) h.1.2 h.1.0 h.1.3 o)
+true_counts_move v (Dec c p) w h o = subst (λ z. true_count z o ≡ true_count v o +ℤ cond (o == p) (negsuc 0) (pos 0)) (sym h.4)
+    (move_add v c p (negsuc 0) h.2 h.0 h.3 o)
 true_counts_move v (Flushing c r) w h o = move_flush v c r w h.0 h.1 o ∙ nothing (true_count v o)
 true_counts_move v (Reviewing c r) w h o = move_review v c r w h.1 o ∙ nothing (true_count v o)

@@ -56,8 +56,25 @@ read_kept f xs k x d lt e = fun_ext (λ j. go j (same_or_not j k))
 same_counts : (v w : Counts) → v.cores ≡ w.cores → v.objects ≡ w.objects → v.epoch ≡ w.epoch → v.global ≡ w.global → v.queued ≡ w.queued
     → v.dirty ≡ w.dirty → v.delta ≡ w.delta → v.queue ≡ w.queue → v.flushed ≡ w.flushed → v ≡ w
 same_counts v w a i b c d e f g h =
-    let s0 : Counts = record w { cores = v.cores; objects = v.objects; epoch = v.epoch; global = v.global; queued = v.queued; dirty = v.dirty; delta = v.delta; queue = v.queue } in
-    let s1 : Counts = record w { cores = v.cores; objects = v.objects; epoch = v.epoch; global = v.global; queued = v.queued; dirty = v.dirty; delta = v.delta } in
+    let s0 : Counts = record w {
+      cores = v.cores;
+      objects = v.objects;
+      epoch = v.epoch;
+      global = v.global;
+      queued = v.queued;
+      dirty = v.dirty;
+      delta = v.delta;
+      queue = v.queue;
+    } in
+    let s1 : Counts = record w {
+      cores = v.cores;
+      objects = v.objects;
+      epoch = v.epoch;
+      global = v.global;
+      queued = v.queued;
+      dirty = v.dirty;
+      delta = v.delta;
+    } in
     let s2 : Counts = record w { cores = v.cores; objects = v.objects; epoch = v.epoch; global = v.global; queued = v.queued; dirty = v.dirty } in
     let s3 : Counts = record w { cores = v.cores; objects = v.objects; epoch = v.epoch; global = v.global; queued = v.queued } in
     let s4 : Counts = record w { cores = v.cores; objects = v.objects; epoch = v.epoch; global = v.global } in
@@ -139,7 +156,8 @@ whole_evicted p c o core x inside object places h =
         by_case true true ex eq = same_counts new (soiled o m) (length_set p.cores c core) (length_set p.objects o x) refl (globals (ap (λ z. z.global) ex))
             (read_kept (λ z. z.is_queued) p.objects o x none object (ap (λ z. z.is_queued) ex))
             (read_put (λ z. z.is_dirty) p.objects o x none true object (ap (λ z. z.is_dirty) ex)) deltas (queues_kept eq) refl
-        by_case true false ex eq = same_counts new (enqueued c o m) (length_set p.cores c core) (length_set p.objects o x) refl (globals (ap (λ z. z.global) ex))
+        by_case true false ex eq = same_counts new (enqueued c o m) (length_set p.cores c core) (length_set p.objects o x) refl
+            (globals (ap (λ z. z.global) ex))
             (read_put (λ z. z.is_queued) p.objects o x none true object (ap (λ z. z.is_queued) ex))
             (read_put (λ z. z.is_dirty) p.objects o x none false object (ap (λ z. z.is_dirty) ex)) deltas
             (read_put (λ k. k.queue) p.cores c core no_core more inside eq) refl
@@ -206,11 +224,16 @@ whole_reviewed p c r core count x rest inside object front places h = go r h
     twice f k a b = fun_ext (λ j. by_test (λ z. put f k b j ≡ z) (j == k) b (put f k a j)
         (λ t. ap (put f k b) (eq_true j k t) ∙ put_same f k b) (λ t. put_other f k b j (eq_false j k t) ∙ sym (put_other f k a j (eq_false j k t))))
 
-    again : count ≡ record (object_at p.objects o) { is_queued = true; is_dirty = false } → core.queue ≡ rest ++ record { object = o; epoch = p.epochs.number } ∷ [] → new ≡ enqueued c o (unqueued c o rest v)
-    again e q = same_counts new (enqueued c o (unqueued c o rest v)) (length_set p.cores c core) (length_set p.objects o count) refl (globals (ap (λ z. z.global) e))
+    again : count ≡ record (object_at p.objects o) { is_queued = true; is_dirty = false } → core.queue ≡ rest ++ record {
+      object = o;
+      epoch = p.epochs.number;
+    } ∷ [] → new ≡ enqueued c o (unqueued c o rest v)
+    again e q = same_counts new (enqueued c o (unqueued c o rest v)) (length_set p.cores c core) (length_set p.objects o count) refl
+        (globals (ap (λ z. z.global) e))
         (read_put (λ z. z.is_queued) p.objects o count none true object (ap (λ z. z.is_queued) e) ∙ twice v.queued o false true)
         (read_put (λ z. z.is_dirty) p.objects o count none false object (ap (λ z. z.is_dirty) e)) deltas
-        (queues (rest ++ record { object = o; epoch = p.epochs.number } ∷ []) q ∙ twice v.queue c rest (rest ++ record { object = o; epoch = p.epochs.number } ∷ [])
+        (queues (rest ++ record { object = o; epoch = p.epochs.number } ∷ []) q
+        ∙ twice v.queue c rest (rest ++ record { object = o; epoch = p.epochs.number } ∷ [])
         ∙ ap (λ xs. put (put v.queue c rest) c (xs ++ record { object = o; epoch = p.epochs.number } ∷ [])) (sym (put_same v.queue c rest))) refl
 
     -- the code looked at the count, and left it as it was
@@ -242,7 +265,8 @@ whole_begun p o count objects inside unused few e = (
   unused,
   few.0,
   few.1,
-  ap (λ xs. counts_of (record p { objects = xs })) e ∙ same_counts (counts_of (record p { objects = slice_set p.objects o x })) (begun o count (counts_of p)) refl (length_set p.objects o x) refl
+  ap (λ xs. counts_of (record p { objects = xs })) e ∙ same_counts (counts_of (record p { objects = slice_set p.objects o x }))
+      (begun o count (counts_of p)) refl (length_set p.objects o x) refl
       (read_put (λ z. z.global) p.objects o x none (pos count) inside refl)
       (read_kept (λ z. z.is_queued) p.objects o x none inside refl)
       (read_kept (λ z. z.is_dirty) p.objects o x none inside refl) refl refl refl,
@@ -262,7 +286,8 @@ pub whole_added : (p : Parts) (c o : ℕ) (by : ℤ) (core : Core) → c < lengt
     → counts_of (record p { cores = slice_set p.cores c core }) ≡ added c o by (counts_of p)
 whole_added p c o by core inside places queue =
     same_counts (counts_of (record p { cores = slice_set p.cores c core })) (added c o by (counts_of p)) (length_set p.cores c core) refl refl refl refl refl
-    (read_put (λ k. entries k.places) p.cores c core no_core (put (entries (core_at p.cores c).places) o (Some (unwrap_or (entries (core_at p.cores c).places o) (pos 0) +ℤ by))) inside places)
+    (read_put (λ k. entries k.places) p.cores c core no_core
+    (put (entries (core_at p.cores c).places) o (Some (unwrap_or (entries (core_at p.cores c).places o) (pos 0) +ℤ by))) inside places)
     (read_kept (λ k. k.queue) p.cores c core no_core inside queue) refl
   where
     no_core : Core
@@ -277,7 +302,8 @@ way_cleared p c o by q new way e = way_without (core_at p.cores c).places o by q
     left = ap (λ v. v.delta c) e ∙ noticed_delta c q (drained c q (counts_of p)) c ∙ put_same (counts_of p).delta c (put ((counts_of p).delta c) q None)
 
 -- the counts of the pieces as they are made
-pub whole_opened : (objects : List ObjectCount) (cores : List Core) (n m room : ℕ) → length objects ≡ m → All IsNewCount objects → length cores ≡ n → All (IsNewCore room) cores
+pub whole_opened : (objects : List ObjectCount) (cores : List Core) (n m room : ℕ) → length objects ≡ m → All IsNewCount objects
+    → length cores ≡ n → All (IsNewCore room) cores
     → counts_of (record { objects = objects; cores = cores; epochs = record { cores = n; number = 0; flushed = 0 } }) ≡ no_counts n m
 whole_opened objects cores n m room count zeros few new =
     same_counts (counts_of (record { objects = objects; cores = cores; epochs = record { cores = n; number = 0; flushed = 0 } })) (no_counts n m) few count refl
@@ -297,7 +323,8 @@ whole_opened objects cores n m room count zeros few new =
         go : (c < length cores) ⊎ (length cores ≤ c) → (entries (core_at cores c).places ≡ λ o. None) × ((core_at cores c).queue ≡ [])
         go (inl lt) = let k = new c (record { places = []; queue = []; room = 0 }) lt in (k.0, k.1)
         go (inr le) =
-            let e : core_at cores c ≡ record { places = []; queue = []; room = 0 } = get_or-eq_default cores (record { places = []; queue = []; room = 0 }) le in
+            let e : core_at cores c ≡ record { places = []; queue = []; room = 0 } = get_or-eq_default cores
+            (record { places = []; queue = []; room = 0 }) le in
             (ap (λ k. entries k.places) e ∙ fun_ext (λ o. nothing (o % 64) o), ap (λ k. k.queue) e)
           where
             nothing : (i o : ℕ) → if_its (slice_index_or [] i None) o ≡ None

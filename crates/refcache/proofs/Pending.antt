@@ -212,14 +212,22 @@ pending_requeued e o c since rest v front nil dirty time f =
 pending_evicted : (e o c : ℕ) (v : Counts) → c < v.cores → HasEntry v c o → Queues v → Pending e o v → Pending e o (evicted c o v)
 pending_evicted e o c v lt entry q f =
     by_notice (Pending e o) c o m
-    (λ nil queued. record { since = f.since; none = none; waits = inr (queued, nil); swept = swept; soon = λ d. all (put v.dirty o true o) (v.queue d) (q.past d) })
+    (λ nil queued. record {
+      since = f.since;
+      none = none;
+      waits = inr (queued, nil);
+      swept = swept;
+      soon = λ d. all (put v.dirty o true o) (v.queue d) (q.past d);
+    })
     (λ nil unqueued. record {
       since = f.since;
       none = none;
       waits = inr (put_same v.queued o true, nil);
       swept = swept;
-      soon = put_all (λ d xs. Each (λ x. x.object ≡ o → IsSoon e (put v.dirty o false o) x.epoch) xs) v.queue c (v.queue c ++ record { object = o; epoch = v.epoch } ∷ [])
-          (each_end (λ x. x.object ≡ o → IsSoon e (put v.dirty o false o) x.epoch) (v.queue c) (record { object = o; epoch = v.epoch }) (all (put v.dirty o false o) (v.queue c) (q.past c)) (λ _. inl now))
+      soon = put_all (λ d xs. Each (λ x. x.object ≡ o → IsSoon e (put v.dirty o false o) x.epoch) xs) v.queue c
+          (v.queue c ++ record { object = o; epoch = v.epoch } ∷ [])
+          (each_end (λ x. x.object ≡ o → IsSoon e (put v.dirty o false o) x.epoch) (v.queue c) (record { object = o; epoch = v.epoch })
+          (all (put v.dirty o false o) (v.queue c) (q.past c)) (λ _. inl now))
           (λ j _. all (put v.dirty o false o) (v.queue j) (q.past j));
     })
     (λ other. record { since = f.since; none = none; waits = left other (entry_or_none v.cores (λ j. m.delta j o)); swept = swept; soon = f.soon })
@@ -247,7 +255,8 @@ pending_evicted e o c v lt entry q f =
     all : (b : Bool) (xs : List Queued) → Each (λ x. x.epoch ≤ v.epoch) xs → Each (λ x. x.object ≡ o → IsSoon e b x.epoch) xs
     all b xs h = each_map (λ x. x.epoch ≤ v.epoch) (λ x. x.object ≡ o → IsSoon e b x.epoch) xs (λ x l _. let n = now in inl (omega (arith, l, n))) h
 
-    left : (drained c o v).global o ≢ pos 0 → ((j : ℕ) × (j < v.cores) × ((drained c o v).delta j o ≢ None)) ⊎ ((j : ℕ) → j < v.cores → (drained c o v).delta j o ≡ None) → Waits (drained c o v) o
+    left : (drained c o v).global o ≢ pos 0 → ((j : ℕ) × (j < v.cores) × ((drained c o v).delta j o ≢ None))
+        ⊎ ((j : ℕ) → j < v.cores → (drained c o v).delta j o ≡ None) → Waits (drained c o v) o
     left other (inl w) = inl w
     left other (inr w) = absurd (other (sym (count_clear (drained c o v) o w) ∙ none))
 
@@ -308,7 +317,8 @@ pending_flush e o v c flush.Flushed w lt h q f = subst (Pending e o) (sym h.3) (
 pending_flush e o v c flush.EpochEnded w lt h q f = subst (Pending e o) (sym h.4) (pending_ended e o c v h.0 h.2 f)
 pending_flush e o v c flush.Idle w lt h q f = subst (Pending e o) (sym h.2) f
 
-pending_review : (e o : ℕ) (v : Counts) (c : ℕ) (r : Review) (w : Counts) → Reviews v c r w → (v.epoch ≤ e + 3) ⊎ Behind v c (e + 3) → Pending e o v → GoesOn e o (Reviewing c r) w
+pending_review : (e o : ℕ) (v : Counts) (c : ℕ) (r : Review) (w : Counts) → Reviews v c r w → (v.epoch ≤ e + 3) ⊎ Behind v c (e + 3)
+    → Pending e o v → GoesOn e o (Reviewing c r) w
 pending_review e o v c (review.Freed p) w h time f = go (same_or_not o p)
   where
     go : (o ≡ p) ⊎ (o ≢ p) → GoesOn e o (Reviewing c (review.Freed p)) w
@@ -318,19 +328,26 @@ pending_review e o v c (review.Requeued p) w h time f = inl (subst (Pending e o)
   where
     go : (o ≡ p) ⊎ (o ≢ p) → Pending e o (enqueued c p (unqueued c p h.0 v))
     go (inl same) = subst (λ z. Pending e o (enqueued c z (unqueued c z h.0 v))) same
-        (pending_requeued e o c h.1.since h.0 v (h.1.front ∙ ap (λ z. record { object = z; epoch = h.1.since } ∷ h.0) (sym same)) (ap v.global same ∙ h.2) (ap v.dirty same ∙ h.3) time f)
+        (pending_requeued e o c h.1.since h.0 v (h.1.front ∙ ap (λ z. record { object = z; epoch = h.1.since } ∷ h.0) (sym same))
+        (ap v.global same ∙ h.2) (ap v.dirty same ∙ h.3) time f)
     go (inr ne) = pending_enqueued e o c p (unqueued c p h.0 v) ne (pending_unqueued e o c p h.1.since h.0 v h.1.front ne f)
 pending_review e o v c (review.Dropped p) w h time f = inl (subst (Pending e o) (sym h.3) (go (same_or_not o p)))
   where
     go : (o ≡ p) ⊎ (o ≢ p) → Pending e o (unqueued c p h.0 v)
     go (inl same) = subst (λ z. Pending e o (unqueued c z h.0 v)) same
-        (pending_dropped e o c h.1.since h.0 v (h.1.front ∙ ap (λ z. record { object = z; epoch = h.1.since } ∷ h.0) (sym same)) (λ nil. h.2 (ap v.global (sym same) ∙ nil)) f)
+        (pending_dropped e o c h.1.since h.0 v (h.1.front ∙ ap (λ z. record { object = z; epoch = h.1.since } ∷ h.0) (sym same))
+        (λ nil. h.2 (ap v.global (sym same) ∙ nil)) f)
     go (inr ne) = pending_unqueued e o c p h.1.since h.0 v h.1.front ne f
 pending_review e o v c review.Idle w h time f = inl (subst (Pending e o) (sym h.1) f)
 
-pub pending : (e o : ℕ) (v : Counts) (s : Step) (w : Counts) → Takes v s w → Queues v → ((c : ℕ) → c < v.cores → (v.epoch ≤ e + 3) ⊎ Behind v c (e + 3)) → Pending e o v → GoesOn e o s w
+pub pending : (e o : ℕ) (v : Counts) (s : Step) (w : Counts) → Takes v s w → Queues v
+    → ((c : ℕ) → c < v.cores → (v.epoch ≤ e + 3) ⊎ Behind v c (e + 3)) → Pending e o v → GoesOn e o s w
 pending e o v (Begin p k) w h q time f = inl (subst (Pending e o) (sym h.3) (pending_begun e o p k v h.0 f))
-pending e o v (Inc c p) w h q time f = inl (subst (Pending e o) (sym h.1.4) (pending_added e o c p (pos 1) h.1.2 (not_counted e o p v h.1.1 f) (pending_room e o v c p (pos 1) h.1.2 h.1.0 h.1.3 q f)))
-pending e o v (Dec c p) w h q time f = inl (subst (Pending e o) (sym h.4) (pending_added e o c p (negsuc 0) h.2 (not_counted e o p v h.1 f) (pending_room e o v c p (negsuc 0) h.2 h.0 h.3 q f)))
+pending e o v (Inc c p) w h q time f = inl
+    (subst (Pending e o) (sym h.1.4) (pending_added e o c p (pos 1) h.1.2 (not_counted e o p v h.1.1 f)
+    (pending_room e o v c p (pos 1) h.1.2 h.1.0 h.1.3 q f)))
+pending e o v (Dec c p) w h q time f = inl
+    (subst (Pending e o) (sym h.4) (pending_added e o c p (negsuc 0) h.2 (not_counted e o p v h.1 f)
+    (pending_room e o v c p (negsuc 0) h.2 h.0 h.3 q f)))
 pending e o v (Flushing c r) w h q time f = inl (pending_flush e o v c r w h.0 h.1 q f)
 pending e o v (Reviewing c r) w h q time f = pending_review e o v c r w h.1 (time c h.0) f

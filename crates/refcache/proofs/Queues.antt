@@ -62,19 +62,69 @@ later_then u v w f g =
     }
 
 pub later_drained : (c o : ℕ) (v : Counts) → Later v (drained c o v)
-later_drained c o v = record { cores = refl; objects = refl; epoch = omega arith; queues = λ q. record { past = q.past; rising = q.rising; found = q.found }; behind = λ d e l b. b }
+later_drained c o v = record {
+  cores = refl;
+  objects = refl;
+  epoch = omega arith;
+  queues = λ q. record {
+    past = q.past;
+    rising = q.rising;
+    found = q.found;
+  };
+  behind = λ d e l b. b;
+}
 
 pub later_added : (c o : ℕ) (by : ℤ) (v : Counts) → Later v (added c o by v)
-later_added c o by v = record { cores = refl; objects = refl; epoch = omega arith; queues = λ q. record { past = q.past; rising = q.rising; found = q.found }; behind = λ d e l b. b }
+later_added c o by v = record {
+  cores = refl;
+  objects = refl;
+  epoch = omega arith;
+  queues = λ q. record {
+    past = q.past;
+    rising = q.rising;
+    found = q.found;
+  };
+  behind = λ d e l b. b;
+}
 
 pub later_soiled : (o : ℕ) (v : Counts) → Later v (soiled o v)
-later_soiled o v = record { cores = refl; objects = refl; epoch = omega arith; queues = λ q. record { past = q.past; rising = q.rising; found = q.found }; behind = λ d e l b. b }
+later_soiled o v = record {
+  cores = refl;
+  objects = refl;
+  epoch = omega arith;
+  queues = λ q. record {
+    past = q.past;
+    rising = q.rising;
+    found = q.found;
+  };
+  behind = λ d e l b. b;
+}
 
 pub later_begun : (o k : ℕ) (v : Counts) → Later v (begun o k v)
-later_begun o k v = record { cores = refl; objects = refl; epoch = omega arith; queues = λ q. record { past = q.past; rising = q.rising; found = q.found }; behind = λ d e l b. b }
+later_begun o k v = record {
+  cores = refl;
+  objects = refl;
+  epoch = omega arith;
+  queues = λ q. record {
+    past = q.past;
+    rising = q.rising;
+    found = q.found;
+  };
+  behind = λ d e l b. b;
+}
 
 pub later_marked : (c : ℕ) (v : Counts) → Later v (marked c v)
-later_marked c v = record { cores = refl; objects = refl; epoch = omega arith; queues = λ q. record { past = q.past; rising = q.rising; found = q.found }; behind = λ d e l b. b }
+later_marked c v = record {
+  cores = refl;
+  objects = refl;
+  epoch = omega arith;
+  queues = λ q. record {
+    past = q.past;
+    rising = q.rising;
+    found = q.found;
+  };
+  behind = λ d e l b. b;
+}
 
 pub later_ended : (v : Counts) → Later v (ended v)
 later_ended v = record {
@@ -118,7 +168,8 @@ later_enqueued c o v lt =
       objects = refl;
       epoch = omega arith;
       queues = λ q. record {
-        past = put_all (λ d xs. Each (λ x. x.epoch ≤ v.epoch) xs) v.queue c (v.queue c ++ new ∷ []) (each_end (λ x. x.epoch ≤ v.epoch) (v.queue c) new (q.past c) (omega arith)) (λ j _. q.past j);
+        past = put_all (λ d xs. Each (λ x. x.epoch ≤ v.epoch) xs) v.queue c (v.queue c ++ new ∷ [])
+            (each_end (λ x. x.epoch ≤ v.epoch) (v.queue c) new (q.past c) (omega arith)) (λ j _. q.past j);
         rising = put_all (λ d xs. Rising xs) v.queue c (v.queue c ++ new ∷ []) (rising_end (v.queue c) new (q.rising c) (q.past c)) (λ j _. q.rising j);
         found = λ p h. found q new p (was_put v.queued o p h);
       };
@@ -126,11 +177,21 @@ later_enqueued c o v lt =
           (λ h. each_end (λ x. e < x.epoch + 2) (v.queue c) new h (omega (arith, l))) (λ j _ h. h) d b;
     }
   where
-    found : Queues v → (new : Queued) → (p : ℕ) → (p ≡ o) ⊎ (v.queued p ≡ true) → (d : ℕ) × (d < v.cores) × Stands p (put v.queue c (at_end (v.queue c) o v.epoch) d)
-    found q new p (inl e) = (c, lt, subst (Stands p) (sym (put_same v.queue c (at_end (v.queue c) o v.epoch))) (subst (λ z. Stands z (at_end (v.queue c) o v.epoch)) (sym e) (end_stands (v.queue c) (record { object = o; epoch = v.epoch }))))
+    found : Queues v → (new : Queued) → (p : ℕ) → (p ≡ o) ⊎ (v.queued p ≡ true) → (d : ℕ) × (d < v.cores)
+        × Stands p (put v.queue c (at_end (v.queue c) o v.epoch) d)
+    found q new p (inl e) = (
+      c,
+      lt,
+      subst (Stands p) (sym (put_same v.queue c (at_end (v.queue c) o v.epoch)))
+          (subst (λ z. Stands z (at_end (v.queue c) o v.epoch)) (sym e) (end_stands (v.queue c) (record { object = o; epoch = v.epoch }))),
+    )
     found q new p (inr h) =
-        let f = q.found p h in
-        (f.0, f.1, put_all (λ d xs. Stands p (v.queue d) → Stands p xs) v.queue c (at_end (v.queue c) o v.epoch) (stands_end (v.queue c) (record { object = o; epoch = v.epoch }) p) (λ j _ s. s) f.0 f.2)
+        let f = q.found p h in (
+          f.0,
+          f.1,
+          put_all (λ d xs. Stands p (v.queue d) → Stands p xs) v.queue c (at_end (v.queue c) o v.epoch)
+              (stands_end (v.queue c) (record { object = o; epoch = v.epoch }) p) (λ j _ s. s) f.0 f.2,
+        )
 
 pub later_unqueued : (c o since : ℕ) (rest : List Queued) (v : Counts) → v.queue c ≡ record { object = o; epoch = since } ∷ rest → Later v (unqueued c o rest v)
 later_unqueued c o since rest v front = record {
@@ -176,14 +237,17 @@ later_flush v c flush.Idle w lt h = subst (Later v) (sym h.2) (later_same v)
 later_review : (v : Counts) (c : ℕ) (r : Review) (w : Counts) → c < v.cores → Reviews v c r w → Later v w
 later_review v c (review.Freed o) w lt h = subst (Later v) (sym h.4) (later_unqueued c o h.1.since h.0 v h.1.front)
 later_review v c (review.Requeued o) w lt h = subst (Later v) (sym h.4)
-    (later_then v (unqueued c o h.0 v) (enqueued c o (unqueued c o h.0 v)) (later_unqueued c o h.1.since h.0 v h.1.front) (later_enqueued c o (unqueued c o h.0 v) lt))
+    (later_then v (unqueued c o h.0 v) (enqueued c o (unqueued c o h.0 v)) (later_unqueued c o h.1.since h.0 v h.1.front)
+    (later_enqueued c o (unqueued c o h.0 v) lt))
 later_review v c (review.Dropped o) w lt h = subst (Later v) (sym h.3) (later_unqueued c o h.1.since h.0 v h.1.front)
 later_review v c review.Idle w lt h = subst (Later v) (sym h.1) (later_same v)
 
 pub later : (v : Counts) (s : Step) (w : Counts) → Takes v s w → Later v w
 later v (Begin o k) w h = subst (Later v) (sym h.3) (later_begun o k v)
-later v (Inc c o) w h = subst (Later v) (sym h.1.4) (later_then v h.1.2 (added c o (pos 1) h.1.2) (later_room v c o (pos 1) h.1.2 h.1.0 h.1.3) (later_added c o (pos 1) h.1.2))
-later v (Dec c o) w h = subst (Later v) (sym h.4) (later_then v h.2 (added c o (negsuc 0) h.2) (later_room v c o (negsuc 0) h.2 h.0 h.3) (later_added c o (negsuc 0) h.2))
+later v (Inc c o) w h = subst (Later v) (sym h.1.4)
+    (later_then v h.1.2 (added c o (pos 1) h.1.2) (later_room v c o (pos 1) h.1.2 h.1.0 h.1.3) (later_added c o (pos 1) h.1.2))
+later v (Dec c o) w h = subst (Later v) (sym h.4) (later_then v h.2 (added c o (negsuc 0) h.2) (later_room v c o (negsuc 0) h.2 h.0 h.3)
+    (later_added c o (negsuc 0) h.2))
 later v (Flushing c f) w h = later_flush v c f w h.0 h.1
 later v (Reviewing c r) w h = later_review v c r w h.0 h.1
 

@@ -52,7 +52,8 @@ ahead_past : (v : Counts) (xs : List Moment) (d epoch : ℕ) → IsRun v xs → 
 ahead_past v xs d epoch r (inl h) late = let no = not_before v xs d epoch r h in absurd (omega (arith, no, late))
 ahead_past v xs d epoch r (inr h) late = h.1
 
-ahead_next : (v : Counts) (x : Moment) (xs : List Moment) (d epoch : ℕ) → Queues v → Takes v x.step x.counts → Ahead (x ∷ xs) v d epoch → Ahead xs x.counts d epoch
+ahead_next : (v : Counts) (x : Moment) (xs : List Moment) (d epoch : ℕ) → Queues v → Takes v x.step x.counts → Ahead (x ∷ xs) v d epoch
+    → Ahead xs x.counts d epoch
 ahead_next v x xs d epoch q t (inl (inr h)) = inl h
 ahead_next v x xs d epoch q t (inr h) =
     let l = later v x.step x.counts t in
@@ -85,7 +86,8 @@ frees n e o v (x ∷ xs) cores r q f three five late =
     time d lt (inl more) = inr (ahead_past v (x ∷ xs) d (e + 3) r (three d (subst (λ z. d < z) cores lt)) more)
     time d lt (inr less) = inl less
 
-    go : (Pending e o x.counts → Comes (FreesBefore o (e + 6)) xs) → Pending e o x.counts ⊎ ((c : ℕ) × (x.step ≡ Reviewing c (review.Freed o))) → Comes (FreesBefore o (e + 6)) (x ∷ xs)
+    go : (Pending e o x.counts → Comes (FreesBefore o (e + 6)) xs) → Pending e o x.counts
+        ⊎ ((c : ℕ) × (x.step ≡ Reviewing c (review.Freed o))) → Comes (FreesBefore o (e + 6)) (x ∷ xs)
     go more (inl g) = inr (more g)
     go more (inr h) = by_time (less_or_not x.counts.epoch (e + 6))
       where
@@ -112,7 +114,8 @@ falls u c o w t q none = record {
   none = none;
   waits = inl (c, subst (λ z. c < z) (sym (later u (Dec c o) w t).cores) t.0, entry);
   swept = λ j lt s. absurd (never s);
-  soon = λ d. each_map (λ x. x.epoch ≤ w.epoch) (λ x. x.object ≡ o → IsSoon w.epoch (w.dirty o) x.epoch) (w.queue d) (λ x l _. inl (omega (arith, l))) (q.past d);
+  soon = λ d. each_map (λ x. x.epoch ≤ w.epoch) (λ x. x.object ≡ o → IsSoon w.epoch (w.dirty o) x.epoch) (w.queue d)
+      (λ x l _. inl (omega (arith, l))) (q.past d);
 }
   where
     entry : HasEntry w c o

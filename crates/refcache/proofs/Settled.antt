@@ -71,7 +71,8 @@ single_enqueued c p v new s = record {
     both o d j (inr h) (inl g) = absurd (clash (s.marks p d (subst (λ z. Stands z (v.queue d)) g.0 h)) new)
     both o d j (inr h) (inr g) = s.apart o d j h g
 
-single_unqueued : (c p since : ℕ) (rest : List Queued) (v : Counts) → v.queue c ≡ record { object = p; epoch = since } ∷ rest → Single v.queued v.queue → Single (unqueued c p rest v).queued (unqueued c p rest v).queue
+single_unqueued : (c p since : ℕ) (rest : List Queued) (v : Counts) → v.queue c ≡ record { object = p; epoch = since } ∷ rest
+    → Single v.queued v.queue → Single (unqueued c p rest v).queued (unqueued c p rest v).queue
 single_unqueued c p since rest v front s = record {
   marks = λ o d h. put_other v.queued p false o (other o d h) ∙ s.marks o d (was o d h);
   once = put_all (λ d xs. Once xs) v.queue c rest first.1 (λ j _. s.once j);
@@ -95,7 +96,8 @@ Others v p = (d : ℕ) → Each (λ x. x.object ≢ p → IsSettled v x) (v.queu
 settled_enqueued : (c p : ℕ) (v : Counts) → v.queued p ≡ false → Single v.queued v.queue → Others v p → Settled (enqueued c p v)
 settled_enqueued c p v new s f = record {
   single = single_enqueued c p v new s;
-  settled = put_all (λ d xs. Each (IsSettled (enqueued c p v)) xs) v.queue c (v.queue c ++ entry ∷ []) (each_end (IsSettled (enqueued c p v)) (v.queue c) entry (old c) here) (λ j _. old j);
+  settled = put_all (λ d xs. Each (IsSettled (enqueued c p v)) xs) v.queue c (v.queue c ++ entry ∷ [])
+      (each_end (IsSettled (enqueued c p v)) (v.queue c) entry (old c) here) (λ j _. old j);
 }
   where
     entry : Queued
@@ -105,7 +107,8 @@ settled_enqueued c p v new s f = record {
     old d = each_map (λ x. (v.queued x.object ≡ true) × (x.object ≢ p → IsSettled v x)) (IsSettled (enqueued c p v)) (v.queue d)
         (λ x h nil clean. let ne : x.object ≢ p = λ e. clash h.0 (ap v.queued e ∙ new) in
         h.1 ne nil (sym (put_other v.dirty p false x.object ne) ∙ clean))
-        (each_both (λ x. v.queued x.object ≡ true) (λ x. x.object ≢ p → IsSettled v x) (v.queue d) (each_in (λ x. v.queued x.object ≡ true) (v.queue d) (λ x h. s.marks x.object d h)) (f d))
+        (each_both (λ x. v.queued x.object ≡ true) (λ x. x.object ≢ p → IsSettled v x) (v.queue d)
+        (each_in (λ x. v.queued x.object ≡ true) (v.queue d) (λ x h. s.marks x.object d h)) (f d))
 
     here : IsSettled (enqueued c p v) entry
     here nil clean = go (entry_or_none v.cores (λ j. v.delta j p))
@@ -119,7 +122,8 @@ settled_enqueued c p v new s f = record {
         go (inr h) = inr h
 
 -- entries that stay where cells of the object's column stay
-same_column : (v w : Counts) (o epoch : ℕ) → w.cores ≡ v.cores → w.epoch ≡ v.epoch → w.flushed ≡ v.flushed → ((j : ℕ) → w.delta j o ≡ v.delta j o) → Untouched v o epoch → Untouched w o epoch
+same_column : (v w : Counts) (o epoch : ℕ) → w.cores ≡ v.cores → w.epoch ≡ v.epoch → w.flushed ≡ v.flushed
+    → ((j : ℕ) → w.delta j o ≡ v.delta j o) → Untouched v o epoch → Untouched w o epoch
 same_column v w o epoch cores time flushed same (inl h) =
     inl (h.0, subst (λ z. h.0 < z) (sym cores) h.1, λ gone. h.2 (sym (same h.0) ∙ gone), λ s. h.3 (back s))
   where
@@ -134,7 +138,8 @@ settled_evicted c p v f =
     (λ nil queued. record {
       single = f.single;
       settled = λ d. each_map (λ x. x.object ≢ p → IsSettled m x) (IsSettled (soiled p m)) (v.queue d)
-          (λ x h. by_object x (λ ne nil2 clean. h ne nil2 (sym (put_other v.dirty p true x.object ne) ∙ clean)) (λ e _ clean. absurd (clash (ap (put v.dirty p true) e ∙ put_same v.dirty p true) clean))) (others d);
+          (λ x h. by_object x (λ ne nil2 clean. h ne nil2 (sym (put_other v.dirty p true x.object ne) ∙ clean))
+          (λ e _ clean. absurd (clash (ap (put v.dirty p true) e ∙ put_same v.dirty p true) clean))) (others d);
     })
     (λ nil new. settled_enqueued c p m new f.single others)
     (λ more. record {
@@ -161,11 +166,13 @@ settled_evicted c p v f =
 settled_added : (c p : ℕ) (by : ℤ) (v : Counts) → pos 0 <ℤ true_count v p → Settled v → Settled (added c p by v)
 settled_added c p by v more f = record {
   single = f.single;
-  settled = λ d. each_map (IsSettled v) (IsSettled (added c p by v)) (v.queue d) (λ x h nil clean. go x nil (h nil clean) (same_or_not x.object p)) (f.settled d);
+  settled = λ d. each_map (IsSettled v) (IsSettled (added c p by v)) (v.queue d)
+      (λ x h nil clean. go x nil (h nil clean) (same_or_not x.object p)) (f.settled d);
 }
   where
     go : (x : Queued) → v.global x.object ≡ pos 0 → Untouched v x.object x.epoch → (x.object ≡ p) ⊎ (x.object ≢ p) → Untouched (added c p by v) x.object x.epoch
-    go x nil u (inr ne) = same_column v (added c p by v) x.object x.epoch refl refl refl (λ j. cell_column v.delta c p (Some (delta_of v c p +ℤ by)) j x.object ne) u
+    go x nil u (inr ne) = same_column v (added c p by v) x.object x.epoch refl refl refl
+        (λ j. cell_column v.delta c p (Some (delta_of v c p +ℤ by)) j x.object ne) u
     go x nil (inr none) (inl e) =
         let a : true_count v x.object ≡ v.global x.object = count_clear v x.object none in
         let b : true_count v p ≡ pos 0 = subst (λ z. true_count v z ≡ pos 0) e (a ∙ nil) in
@@ -175,7 +182,8 @@ settled_added c p by v more f = record {
         entry : (h.0 ≡ c) ⊎ (h.0 ≢ c) → (added c p by v).delta h.0 x.object ≢ None
         entry (inl same) gone =
             let new : (added c p by v).delta c p ≡ Some (delta_of v c p +ℤ by) = cell_same v.delta c p (Some (delta_of v c p +ℤ by)) in
-            let a : (added c p by v).delta c p ≡ None = subst (λ z. (added c p by v).delta c z ≡ None) e (subst (λ z. (added c p by v).delta z x.object ≡ None) same gone) in
+            let a : (added c p by v).delta c p ≡ None = subst (λ z. (added c p by v).delta c z ≡ None) e
+            (subst (λ z. (added c p by v).delta z x.object ≡ None) same gone) in
             let both : Some (delta_of v c p +ℤ by) ≡ None = sym new ∙ a in
             cc
         entry (inr ne) gone = h.2 (sym (cell_row v.delta c p (Some (delta_of v c p +ℤ by)) h.0 x.object ne) ∙ gone)
@@ -185,7 +193,8 @@ settled_begun p k v u f = record {
   single = f.single;
   settled = λ d. each_map (λ x. (v.queued x.object ≡ true) × IsSettled v x) (IsSettled (begun p k v)) (v.queue d)
       (λ x h nil clean. let ne : x.object ≢ p = λ e. clash h.0 (ap v.queued e ∙ u.unqueued) in h.1 (sym (put_other v.global p (pos k) x.object ne) ∙ nil) clean)
-      (each_both (λ x. v.queued x.object ≡ true) (IsSettled v) (v.queue d) (each_in (λ x. v.queued x.object ≡ true) (v.queue d) (λ x h. f.single.marks x.object d h)) (f.settled d));
+      (each_both (λ x. v.queued x.object ≡ true) (IsSettled v) (v.queue d) (each_in (λ x. v.queued x.object ≡ true) (v.queue d)
+      (λ x h. f.single.marks x.object d h)) (f.settled d));
 }
 
 settled_marked : (c : ℕ) (v : Counts) → IsClear v c → Settled v → Settled (marked c v)
@@ -228,7 +237,8 @@ settled_ended c v clear all f = record {
                 by_core (inl e) = h.2 (ap (λ z. v.delta z x.object) e ∙ clear x.object)
                 by_core (inr m) = h.3 (inr (omega (arith, l, less), m))
 
-settled_unqueued : (c p since : ℕ) (rest : List Queued) (v : Counts) → v.queue c ≡ record { object = p; epoch = since } ∷ rest → Settled v → Settled (unqueued c p rest v)
+settled_unqueued : (c p since : ℕ) (rest : List Queued) (v : Counts) → v.queue c ≡ record { object = p; epoch = since } ∷ rest → Settled v
+    → Settled (unqueued c p rest v)
 settled_unqueued c p since rest v front f = record {
   single = single_unqueued c p since rest v front f.single;
   settled = put_all (λ d xs. Each (IsSettled v) xs) v.queue c rest (subst (Each (IsSettled v)) front (f.settled c)).1 (λ j _. f.settled j);
@@ -254,7 +264,8 @@ settled_review v c (review.Freed p) w h f = subst Settled (sym h.4) (settled_unq
 settled_review v c (review.Requeued p) w h f =
     let m = unqueued c p h.0 v in
     let g = settled_unqueued c p h.1.since h.0 v h.1.front f in
-    subst Settled (sym h.4) (settled_enqueued c p m (put_same v.queued p false) g.single (λ d. each_map (IsSettled m) (λ x. x.object ≢ p → IsSettled m x) (m.queue d) (λ x s _. s) (g.settled d)))
+    subst Settled (sym h.4) (settled_enqueued c p m (put_same v.queued p false) g.single
+    (λ d. each_map (IsSettled m) (λ x. x.object ≢ p → IsSettled m x) (m.queue d) (λ x s _. s) (g.settled d)))
 settled_review v c (review.Dropped p) w h f = subst Settled (sym h.3) (settled_unqueued c p h.1.since h.0 v h.1.front f)
 settled_review v c review.Idle w h f = subst Settled (sym h.1) f
 

@@ -23,7 +23,8 @@ sum_cell v c o d lt =
 
 sum_column : (v : Counts) (c o p : ℕ) (d : Option ℤ) → p ≢ o
     → sum_below v.cores (λ j. value (put v.delta c (put (v.delta c) o d) j p)) ≡ sum_below v.cores (λ j. delta_of v j p)
-sum_column v c o p d ne = sum_same v.cores (λ j. delta_of v j p) (λ j. value (put v.delta c (put (v.delta c) o d) j p)) (λ j _. ap value (cell_column v.delta c o d j p ne))
+sum_column v c o p d ne = sum_same v.cores (λ j. delta_of v j p) (λ j. value (put v.delta c (put (v.delta c) o d) j p))
+    (λ j _. ap value (cell_column v.delta c o d j p ne))
 
 pub count_drained : (c o : ℕ) (v : Counts) → c < v.cores → (p : ℕ) → true_count (drained c o v) p ≡ true_count v p
 count_drained c o v lt p = go (same_or_not p o)
@@ -66,7 +67,8 @@ pub entry_or_none : (n : ℕ) (f : ℕ → Option ℤ) → ((c : ℕ) × (c < n)
 entry_or_none zero f = inr (λ c lt. absurd (omega (arith, lt)))
 entry_or_none (suc n) f = go (f n) refl (entry_or_none n f)
   where
-    go : (d : Option ℤ) → f n ≡ d → ((c : ℕ) × (c < n) × (f c ≢ None)) ⊎ ((c : ℕ) → c < n → f c ≡ None) → ((c : ℕ) × (c < suc n) × (f c ≢ None)) ⊎ ((c : ℕ) → c < suc n → f c ≡ None)
+    go : (d : Option ℤ) → f n ≡ d → ((c : ℕ) × (c < n) × (f c ≢ None)) ⊎ ((c : ℕ) → c < n → f c ≡ None)
+        → ((c : ℕ) × (c < suc n) × (f c ≢ None)) ⊎ ((c : ℕ) → c < suc n → f c ≡ None)
     go (Some z) e h = inl (n, omega arith, λ no. clash (sym e ∙ no))
       where
         clash : Some z ≡ None → ⊥

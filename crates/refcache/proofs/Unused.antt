@@ -47,7 +47,8 @@ unused_added c p o by m ne u = record {
   unqueued = u.unqueued;
 }
 
-unused_add : (v : Counts) (c p o : ℕ) (by : ℤ) (m : Counts) → c < v.cores → pos 0 <ℤ true_count v p → MakesRoom v c p by m → IsUnused v o → IsUnused (added c p by m) o
+unused_add : (v : Counts) (c p o : ℕ) (by : ℤ) (m : Counts) → c < v.cores → pos 0 <ℤ true_count v p → MakesRoom v c p by m → IsUnused v o
+    → IsUnused (added c p by m) o
 unused_add v c p o by m lt more h u = unused_added c p o by m ne (room h)
   where
     ne : o ≢ p
@@ -66,7 +67,9 @@ unused_flush v c flush.Idle w o lt h u = subst (λ z. IsUnused z o) (sym h.2) u
 unused_review : (v : Counts) (c : ℕ) (r : Review) (w : Counts) (o : ℕ) → IsReached v → Reviews v c r w → IsUnused v o → IsUnused w o
 unused_review v c (review.Freed p) w o reached h u = subst (λ z. IsUnused z o) (sym h.4) (unused_unqueued c p o h.0 v u)
 unused_review v c (review.Requeued p) w o reached h u =
-    subst (λ z. IsUnused z o) (sym h.4) (unused_enqueued c p o (unqueued c p h.0 v) (λ e. clash (queued_front v c p h.1.since h.0 reached h.1.front) (ap v.queued (sym e) ∙ u.unqueued)) (unused_unqueued c p o h.0 v u))
+    subst (λ z. IsUnused z o) (sym h.4)
+    (unused_enqueued c p o (unqueued c p h.0 v) (λ e. clash (queued_front v c p h.1.since h.0 reached h.1.front) (ap v.queued (sym e)
+    ∙ u.unqueued)) (unused_unqueued c p o h.0 v u))
   where
     clash : {b : Bool} → b ≡ true → b ≡ false → ⊥
     clash x y = cc

@@ -120,7 +120,8 @@ impl<A: Allocator> CoreCounts<A> {
         ensures entry { result ≡ true → entries self.now.places object ≢ None }
         ensures room { result ≡ true → length self.now.queue < self.now.room }
         ensures count { result ≡ true → IsCount count.now.global }
-        ensures only { entries self.now.places object ≢ None → length self.now.queue < self.now.room → IsCount count.now.global → result ≡ true }
+        ensures only { entries self.now.places object ≢ None → length self.now.queue < self.now.room
+            → IsCount count.now.global → result ≡ true }
     {
         has_entry(&self.places, object) && self.has_room() && count.takes_any_delta()
     }
@@ -147,7 +148,8 @@ impl<A: Allocator> CoreCounts<A> {
     pub fn add(&mut self, object: u32, by: i64)
         requires one { (neg_ℤ (pos 1) ≤ℤ by) × (by ≤ℤ pos 1) }
         requires room { (p : ℕ) → IsInTheWay (entries self.old.places) object by p → ⊥ }
-        ensures entries { entries self.new.places ≡ put (entries self.old.places) object (Some (unwrap_or (entries self.old.places object) (pos 0) +ℤ by)) }
+        ensures entries { entries self.new.places ≡ put (entries self.old.places) object
+            (Some (unwrap_or (entries self.old.places object) (pos 0) +ℤ by)) }
         ensures queue { self.new.queue ≡ self.old.queue }
         ensures room { self.new.room ≡ self.old.room }
     {
@@ -193,7 +195,8 @@ impl<A: Allocator> CoreCounts<A> {
     /// Decides of the front of the queue, an object with this count, as `review` does of one that is due.
     fn decide(&mut self, count: &mut ObjectCount, epoch: u64) -> Review
         requires { 0 < length self.old.queue }
-        ensures decides { (x : Queued) (rest : List Queued) → self.old.queue ≡ x ∷ rest → Decides x rest epoch count.old result count.new self.new.queue }
+        ensures decides { (x : Queued) (rest : List Queued) → self.old.queue ≡ x ∷ rest
+            → Decides x rest epoch count.old result count.new self.new.queue }
         ensures places { self.new.places ≡ self.old.places }
         ensures room { self.new.room ≡ self.old.room }
     {

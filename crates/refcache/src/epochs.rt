@@ -66,7 +66,8 @@ impl Epochs {
     /// the last epoch, 2^64 - 1, would end; then nothing changes. The answer is never `Evicted`.
     #[tactic(auto, using(crate::proofs::Way::no_members))]
     pub fn mark(&mut self, core: CoreId) -> Flush
-        ensures marks { Marks self.old.cores self.old.number (members self.old.flushed) core result self.new.number (members self.new.flushed) }
+        ensures marks { Marks self.old.cores self.old.number
+            (members self.old.flushed) core result self.new.number (members self.new.flushed) }
         ensures cores { self.new.cores ≡ self.old.cores }
     {
         if self.flushed.contains(core) {

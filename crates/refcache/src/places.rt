@@ -117,7 +117,8 @@ pub(crate) fn count_entry(places: &mut [Option<Entry>], object: u32, by: i64)
     requires one { (neg_ℤ (pos 1) ≤ℤ by) × (by ≤ℤ pos 1) }
     requires free { (p : ℕ) → IsInTheWay (entries places.old) object by p → ⊥ }
     ensures places { ArePlaces places.new }
-    ensures entries { entries places.new ≡ put (entries places.old) object (Some (unwrap_or (entries places.old object) (pos 0) +ℤ by)) }
+    ensures entries { entries places.new ≡ put (entries places.old) object
+        (Some (unwrap_or (entries places.old object) (pos 0) +ℤ by)) }
 {
     let delta = counted_on(places, object, by);
     put_entry(places, object, delta);

@@ -101,7 +101,8 @@ impl<A: Allocator> CountTable<A> {
     pub(crate) fn flush(&mut self, core: CoreId) -> Flush
         requires core { core < length self.old.cores }
         requires marks { self.old.epochs.cores ≡ length self.old.cores }
-        requires ready { (o : ℕ) → entries (core_at self.old.cores core).places o ≢ None → CanEvict self.old core o }
+        requires ready { (o : ℕ) → entries (core_at self.old.cores core).places o ≢ None
+            → CanEvict self.old core o }
         ensures flushes { Flushes (counts_of self.old) core result (counts_of self.new) }
         ensures room { rooms self.new ≡ rooms self.old }
         ensures epochs { self.new.epochs.cores ≡ self.old.epochs.cores }
@@ -118,7 +119,8 @@ impl<A: Allocator> CountTable<A> {
     #[tactic(auto, using(crate::proofs::PartsOf::whole_reviewed))]
     pub(crate) fn review(&mut self, core: usize) -> Review
         requires core { core < length self.old.cores }
-        requires object { (x : Queued) (rest : List Queued) → (core_at self.old.cores core).queue ≡ x ∷ rest → x.object < length self.old.objects }
+        requires object { (x : Queued) (rest : List Queued)
+            → (core_at self.old.cores core).queue ≡ x ∷ rest → x.object < length self.old.objects }
         ensures reviews { Reviews (counts_of self.old) core result (counts_of self.new) }
         ensures room { rooms self.new ≡ rooms self.old }
         ensures epochs { self.new.epochs.cores ≡ self.old.epochs.cores }
@@ -149,7 +151,8 @@ impl<A: Allocator> CountTable<A> {
     fn make_room(&mut self, core: usize, object: u32, by: i64)
         requires core { core < length self.old.cores }
         requires one { (neg_ℤ (pos 1) ≤ℤ by) × (by ≤ℤ pos 1) }
-        requires ready { (o : ℕ) → entries (core_at self.old.cores core).places o ≢ None → CanEvict self.old core o }
+        requires ready { (o : ℕ) → entries (core_at self.old.cores core).places o ≢ None
+            → CanEvict self.old core o }
         ensures makes { MakesRoom (counts_of self.old) core object by (counts_of self.new) }
         ensures free { (p : ℕ) → IsInTheWay (entries (core_at self.new.cores core).places) object by p → ⊥ }
         ensures room { rooms self.new ≡ rooms self.old }
@@ -164,8 +167,10 @@ impl<A: Allocator> CountTable<A> {
     pub(crate) fn count(&mut self, core: usize, object: u32, by: i64)
         requires core { core < length self.old.cores }
         requires one { (neg_ℤ (pos 1) ≤ℤ by) × (by ≤ℤ pos 1) }
-        requires ready { (o : ℕ) → entries (core_at self.old.cores core).places o ≢ None → CanEvict self.old core o }
-        ensures counts { (m : Counts) × MakesRoom (counts_of self.old) core object by m × (counts_of self.new ≡ added core object by m) }
+        requires ready { (o : ℕ) → entries (core_at self.old.cores core).places o ≢ None
+            → CanEvict self.old core o }
+        ensures counts { (m : Counts) × MakesRoom (counts_of self.old) core object by m
+            × (counts_of self.new ≡ added core object by m) }
         ensures room { rooms self.new ≡ rooms self.old }
         ensures epochs { self.new.epochs.cores ≡ self.old.epochs.cores }
     {
@@ -191,7 +196,8 @@ impl<A: Allocator> CountTable<A> {
 fn begin<A: Allocator>(objects: &mut Vec<ObjectCount, A>, object: usize, count: u64)
     requires object { object < length objects.old.items }
     requires count { count ≤ 2 ^ 40 }
-    ensures { objects.new.items ≡ slice_set objects.old.items object (record (object_at objects.old.items object) { global = pos count }) }
+    ensures { objects.new.items ≡ slice_set objects.old.items object
+        (record (object_at objects.old.items object) { global = pos count }) }
 {
     objects[object].begin(count);
 }

@@ -65,7 +65,8 @@ impl WayAhead {
         requires one { (neg_ℤ (pos 1) ≤ℤ by) × (by ≤ℤ pos 1) }
         ensures some { IfSome result (λ p. IsInTheWay (entries self.old) object by p) }
         ensures none { IfNone result ((p : ℕ) → IsInTheWay (entries self.old) object by p → ⊥) }
-        ensures counted { let left = without result (entries self.old) in entries self.new ≡ put left object (Some (unwrap_or (left object) (pos 0) +ℤ by)) }
+        ensures counted { let left = without result (entries self.old) in
+            entries self.new ≡ put left object (Some (unwrap_or (left object) (pos 0) +ℤ by)) }
     {
         let other = clear_way(&mut self.places, object, by);
         count_entry(&mut self.places, object, by);

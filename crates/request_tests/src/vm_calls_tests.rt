@@ -124,7 +124,7 @@ fn lock<A: Allocator>(map: &mut RunList<A>, core: CoreId, range: PageRange) -> R
 /// Tells whether the core holds the pages, which are one slot.
 fn holds<A: Allocator>(map: &RunList<A>, core: CoreId, range: PageRange) -> bool
     requires { IsPageRange range }
-    ensures held { IsTrue result → IsHeld (⟦<RunList<A> as SlotRead>⟧.slots map.now) core range }
+    ensures { IsTrue result → IsHeld (⟦<RunList<A> as SlotRead>⟧.slots map.now) core range }
 {
     let slot = map.slot(range.first);
     if slot.first != range.first || slot.end != range.end {

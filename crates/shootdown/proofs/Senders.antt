@@ -18,12 +18,14 @@ abbrev froms : List Message → List ℕ
 froms ms = map (λ (m : Message). m.from) ms
 
 -- a message at the end is found where none before it is
-pub message_of-push : (ms : List Message) (m : Message) (c : ℕ) → message_of (ms ++ m ∷ []) c ≡ cond (is_some (message_of ms c)) (message_of ms c) (cond (m.from == c) (Some m) None)
+pub message_of-push : (ms : List Message) (m : Message) (c : ℕ) → message_of (ms ++ m ∷ []) c ≡ cond (is_some (message_of ms c))
+    (message_of ms c) (cond (m.from == c) (Some m) None)
 message_of-push [] m c = refl
 message_of-push (x ∷ xs) m c = by (x.from == c) (message_of-push xs m c)
   where
     by : (b : Bool) → message_of (xs ++ m ∷ []) c ≡ cond (is_some (message_of xs c)) (message_of xs c) (cond (m.from == c) (Some m) None)
-        → cond b (Some x) (message_of (xs ++ m ∷ []) c) ≡ cond (is_some (cond b (Some x) (message_of xs c))) (cond b (Some x) (message_of xs c)) (cond (m.from == c) (Some m) None)
+        → cond b (Some x) (message_of (xs ++ m ∷ []) c) ≡ cond (is_some (cond b (Some x) (message_of xs c)))
+        (cond b (Some x) (message_of xs c)) (cond (m.from == c) (Some m) None)
     by true e = refl
     by false e = e
 
@@ -79,25 +81,30 @@ cons_below a xs h g q t = go (eqb q a) refl t
 pub has_room : (ms : List Message) (core from : ℕ) → AreFromOthers core ms → core < 64 → from < 64 → from ≢ core → message_of ms from ≡ None → length ms < 63
 has_room ms core from d h g ne none =
     let one : IsDistinct eqb (from ∷ froms ms) = IsDistinct-cons eqb from (froms ms) (apart ms from none) (distinct ms core d) in
-    let two : IsDistinct eqb (core ∷ from ∷ froms ms) = IsDistinct-cons eqb core (from ∷ froms ms) (test_of core from (λ s. ne (sym s)), apart ms core (of_others ms core d)) one in
-    let few : length (core ∷ from ∷ froms ms) ≤ 64 = length-le_from_distinct_below (core ∷ from ∷ froms ms) 64 two (cons_below core (from ∷ froms ms) h (cons_below from (froms ms) g (below ms core d))) in
+    let two : IsDistinct eqb (core ∷ from ∷ froms ms) = IsDistinct-cons eqb core (from ∷ froms ms)
+    (test_of core from (λ s. ne (sym s)), apart ms core (of_others ms core d)) one in
+    let few : length (core ∷ from ∷ froms ms) ≤ 64 = length-le_from_distinct_below (core ∷ from ∷ froms ms) 64 two
+    (cons_below core (from ∷ froms ms) h (cons_below from (froms ms) g (below ms core d))) in
     let same : length (froms ms) ≡ length ms = length-map ms (λ (m : Message). m.from) in
     omega arith
 
 -- a message of another core that has none here may stand at the end
-pub others-push : (ms : List Message) (core from : ℕ) (range : PageRange) → AreFromOthers core ms → from < 64 → from ≢ core → message_of ms from ≡ None → AreFromOthers core (ms ++ posted from range ∷ [])
+pub others-push : (ms : List Message) (core from : ℕ) (range : PageRange) → AreFromOthers core ms → from < 64 → from ≢ core
+    → message_of ms from ≡ None → AreFromOthers core (ms ++ posted from range ∷ [])
 others-push [] core from range d g ne none = (g, ne, refl, tt)
 others-push (m ∷ ms) core from range d g ne none =
     let h : (m.from ≢ from) × (message_of ms from ≡ None) = none_cons m ms from none in
     (d.0, d.1, still, others-push ms core from range d.3 g ne h.1)
   where
     still : message_of (ms ++ posted from range ∷ []) m.from ≡ None
-    still = message_of-push ms (posted from range) m.from ∙ (rw d.2 (ap (λ b. cond b (Some (posted from range)) None) (test_of from m.from (λ s. (none_cons m ms from none).0 (sym s)))))
+    still = message_of-push ms (posted from range) m.from
+        ∙ (rw d.2 (ap (λ b. cond b (Some (posted from range)) None) (test_of from m.from (λ s. (none_cons m ms from none).0 (sym s)))))
 
 pub any_is_some : (ms : List Message) (c : ℕ) → list_any (λ (m : Message). m.from == c) ms ≡ is_some (message_of ms c)
 any_is_some [] c = refl
 any_is_some (m ∷ ms) c = by (m.from == c) (any_is_some ms c)
   where
-    by : (b : Bool) → list_any (λ (m : Message). m.from == c) ms ≡ is_some (message_of ms c) → b || list_any (λ (m : Message). m.from == c) ms ≡ is_some (cond b (Some m) (message_of ms c))
+    by : (b : Bool) → list_any (λ (m : Message). m.from == c) ms ≡ is_some (message_of ms c)
+        → b || list_any (λ (m : Message). m.from == c) ms ≡ is_some (cond b (Some m) (message_of ms c))
     by true e = refl
     by false e = e

@@ -25,8 +25,10 @@ done_now to left t e = fun_ext (λ d. by d (d == t) refl)
 
 -- one message more
 pub sent_next : (from : ℕ) (range : PageRange) (to left : ℕ → Bool) (inbox : ℕ → List Message) (t : ℕ) → to t ≡ true → left t ≡ true
-    → put (sent_to from range (done to left) inbox) t (sent_to from range (done to left) inbox t ++ posted from range ∷ []) ≡ sent_to from range (done to (put left t false)) inbox
-sent_next from range to left inbox t e g = fun_ext (put_all (λ d ms. ms ≡ sent_to from range (done to (put left t false)) inbox d) (sent_to from range (done to left) inbox) t _ here there)
+    → put (sent_to from range (done to left) inbox) t (sent_to from range (done to left) inbox t ++ posted from range ∷ []) ≡ sent_to from
+    range (done to (put left t false)) inbox
+sent_next from range to left inbox t e g = fun_ext (put_all (λ d ms. ms ≡ sent_to from range (done to (put left t false)) inbox d)
+    (sent_to from range (done to left) inbox) t _ here there)
   where
     here : sent_to from range (done to left) inbox t ++ posted from range ∷ [] ≡ sent_to from range (done to (put left t false)) inbox t
     here = rw (e, g, test_itself t) refl
@@ -42,7 +44,8 @@ not_done to left t g = by (to t)
     by false = refl
 
 -- none are left
-pub all_done : (from : ℕ) (range : PageRange) (to left : ℕ → Bool) (inbox : ℕ → List Message) → ((k : ℕ) → left k ≡ false) → sent_to from range (done to left) inbox ≡ sent_to from range to inbox
+pub all_done : (from : ℕ) (range : PageRange) (to left : ℕ → Bool) (inbox : ℕ → List Message) → ((k : ℕ) → left k ≡ false)
+    → sent_to from range (done to left) inbox ≡ sent_to from range to inbox
 all_done from range to left inbox none = fun_ext (λ d. ap (λ b. cond b (inbox d ++ posted from range ∷ []) (inbox d)) (go d (to d)))
   where
     go : (d : ℕ) (b : Bool) → b && not (left d) ≡ b
@@ -58,7 +61,8 @@ none_done from range to inbox = fun_ext (λ d. ap (λ b. cond b (inbox d ++ post
     go d false = refl
 
 -- the least that is left lies past all that are done
-pub passed_next : (left : ℕ → Bool) (turn t : ℕ) → ((k : ℕ) → k < turn → left k ≡ false) → left t ≡ true → ((k : ℕ) → k < t → left k ≡ false) → (k : ℕ) → k < turn + 1 → put left t false k ≡ false
+pub passed_next : (left : ℕ → Bool) (turn t : ℕ) → ((k : ℕ) → k < turn → left k ≡ false) → left t ≡ true
+    → ((k : ℕ) → k < t → left k ≡ false) → (k : ℕ) → k < turn + 1 → put left t false k ≡ false
 passed_next left turn t passed here least = λ k lt. by_test (λ b. b ≡ false) (k == t) false (left k) (λ e. refl) (λ e. at k lt (eq_false k t e) (cases_lt k t))
   where
     at : (k : ℕ) → k < turn + 1 → k ≢ t → (k < t) ⊎ (t ≤ k) → left k ≡ false

@@ -43,7 +43,8 @@ sent_other f from to range c ne = fun_ext (λ d. by d (members to d))
     by d true = sym (is_push (f d) (posted from range) c ∙ rw ne (or_false (is_some (message_of (f d) c))))
     by d false = refl
 
-pub index_sent : (old new : List InboxOf) (waits : List ℕ) (from to : ℕ) (range : PageRange) → AreIndexed old waits → length waits ≡ 64 → from < 64 → length new ≡ length old → owner new ≡ owner old → inbox new ≡ sent from to range (inbox old)
+pub index_sent : (old new : List InboxOf) (waits : List ℕ) (from to : ℕ) (range : PageRange) → AreIndexed old waits → length waits ≡ 64
+    → from < 64 → length new ≡ length old → owner new ≡ owner old → inbox new ≡ sent from to range (inbox old)
     → ((d : ℕ) → awaited (inbox old) from d ≡ false) → AreIndexed new (set waits from to)
 index_sent old new waits from to range i n lt len own ms idle = record {
   own = λ d h. ap (λ f. f d) own ∙ i.own d (omega arith);
@@ -57,7 +58,8 @@ index_sent old new waits from to range i n lt len own ms idle = record {
 -- ---- what is taken
 
 -- a message is acknowledged by its sender's set, and by no other
-taken_one : (ms : List Message) (o c : ℕ) → AreFromOthers o ms → (f : ℕ → Bool) (d : ℕ) → f d ≡ is_some (message_of ms c) → acknowledged f (waiter ms) d c d ≡ is_some (message_of (remaining ms) c)
+taken_one : (ms : List Message) (o c : ℕ) → AreFromOthers o ms → (f : ℕ → Bool) (d : ℕ) → f d ≡ is_some (message_of ms c)
+    → acknowledged f (waiter ms) d c d ≡ is_some (message_of (remaining ms) c)
 taken_one [] o c others f d e = e
 taken_one (m ∷ ms) o c others f d e = by m.is_cleared
   where
@@ -82,16 +84,23 @@ taken_other (Some x) f core c d ne = by (x == c)
     by true = put_other f core false d ne
     by false = refl
 
-pub index_taken : (old new : List InboxOf) (waits left : List ℕ) (core o : ℕ) → AreIndexed old waits → length new ≡ length old → owner new ≡ owner old → inbox new ≡ put (inbox old) core (remaining (inbox old core)) → AreFromOthers o (inbox old core)
+pub index_taken : (old new : List InboxOf) (waits left : List ℕ) (core o : ℕ) → AreIndexed old waits → length new ≡ length old
+    → owner new ≡ owner old → inbox new ≡ put (inbox old) core (remaining (inbox old core)) → AreFromOthers o (inbox old core)
     → ((c : ℕ) → c < 64 → members (get_or left c 0) ≡ acknowledged (members (get_or waits c 0)) (waiter (inbox old core)) core c) → AreIndexed new left
 index_taken old new waits left core o i len own ms others kept = record {
   own = λ d h. ap (λ f. f d) own ∙ i.own d (omega arith);
   kept = λ c h. kept c h ∙ fun_ext (λ d. at c h d (d == core) refl);
 }
   where
-    at : (c : ℕ) → c < 64 → (d : ℕ) (b : Bool) → (d == core) ≡ b → acknowledged (members (get_or waits c 0)) (waiter (inbox old core)) core c d ≡ awaited (inbox new) c d
-    at c h d true e = rw (eq_true d core e) (taken_one (inbox old core) o c others (members (get_or waits c 0)) core (ap (λ f. f core) (i.kept c h)) ∙ ap (λ x. is_some (message_of x c)) (sym (ap (λ f. f core) ms ∙ put_same (inbox old) core (remaining (inbox old core)))))
-    at c h d false e = taken_other (waiter (inbox old core)) (members (get_or waits c 0)) core c d (eq_false d core e) ∙ ap (λ f. f d) (i.kept c h) ∙ ap (λ x. is_some (message_of x c)) (sym (ap (λ f. f d) ms ∙ put_other (inbox old) core (remaining (inbox old core)) d (eq_false d core e)))
+    at : (c : ℕ) → c < 64 → (d : ℕ) (b : Bool) → (d == core) ≡ b → acknowledged (members (get_or waits c 0))
+        (waiter (inbox old core)) core c d ≡ awaited (inbox new) c d
+    at c h d true e = rw (eq_true d core e) (taken_one (inbox old core) o c others (members (get_or waits c 0)) core
+        (ap (λ f. f core) (i.kept c h))
+        ∙ ap (λ x. is_some (message_of x c)) (sym (ap (λ f. f core) ms ∙ put_same (inbox old) core (remaining (inbox old core)))))
+    at c h d false e = taken_other (waiter (inbox old core)) (members (get_or waits c 0)) core c d (eq_false d core e)
+        ∙ ap (λ f. f d) (i.kept c h)
+        ∙ ap (λ x. is_some (message_of x c))
+        (sym (ap (λ f. f d) ms ∙ put_other (inbox old) core (remaining (inbox old core)) d (eq_false d core e)))
 
 -- ---- at the start
 
@@ -100,7 +109,8 @@ empty_sets zero x e c d = ap (λ b. b == 1) (bit_at-zero d)
 empty_sets (suc n) x e zero d = rw e (ap (λ b. b == 1) (bit_at-zero d))
 empty_sets (suc n) x e (suc c) d = empty_sets n x e c d
 
-pub index_none : (boxes : List InboxOf) (waits : List ℕ) → ((d : ℕ) → inbox boxes d ≡ []) → ((d : ℕ) → d < length boxes → owner boxes d ≡ d) → ((c d : ℕ) → members (get_or waits c 0) d ≡ false) → AreIndexed boxes waits
+pub index_none : (boxes : List InboxOf) (waits : List ℕ) → ((d : ℕ) → inbox boxes d ≡ [])
+    → ((d : ℕ) → d < length boxes → owner boxes d ≡ d) → ((c d : ℕ) → members (get_or waits c 0) d ≡ false) → AreIndexed boxes waits
 index_none boxes waits none own w = record {
   own = own;
   kept = λ c h. fun_ext (λ d. w c d ∙ ap (λ ms. is_some (message_of ms c)) (sym (none d)));

@@ -111,7 +111,8 @@ fn waiter(inboxes: &[Inbox], core: CoreId) -> Option<CoreId>
 /// Tells the waiter, if there is one, that the core has acknowledged.
 fn acknowledge(awaited: &mut [CoreSet], waiter: Option<CoreId>, core: CoreId)
     requires { length awaited.old ≡ 64 }
-    ensures { (c : ℕ) → c < 64 → members (slice_index_or awaited.new c 0) ≡ acknowledged (members (slice_index_or awaited.old c 0)) waiter core c }
+    ensures { (c : ℕ) → c < 64 → members (slice_index_or awaited.new c 0) ≡ acknowledged
+        (members (slice_index_or awaited.old c 0)) waiter core c }
 {
     if let Some(waiter) = waiter {
         let place = waiter.index() as usize;
@@ -135,7 +136,8 @@ fn post_at(inboxes: &mut [Inbox], to: CoreId, from: CoreId, range: PageRange)
     requires other { from ≢ owner inboxes.old to }
     requires none { awaited (inbox inboxes.old) from to ≡ false }
     ensures owners { owner inboxes.new ≡ owner inboxes.old }
-    ensures messages { inbox inboxes.new ≡ put (inbox inboxes.old) to (inbox inboxes.old to ++ posted from range ∷ []) }
+    ensures messages { inbox inboxes.new ≡ put (inbox inboxes.old) to
+        (inbox inboxes.old to ++ posted from range ∷ []) }
 {
     inboxes[to.index() as usize].post(from, range);
 }

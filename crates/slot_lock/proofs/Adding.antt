@@ -80,7 +80,8 @@ rest_owner rs ok i rest h r = sym (last_owner rs ok i h) ∙ (ap (slots_of rs).o
 pub rest_info : (rs : List Run) → IsRuns rs → (i rest : ℕ) → i + 2 ≡ length rs → IsRest (slots_of rs) rest → (get_run rs i).info ≡ None
 rest_info rs ok i rest h r = sym (last_info rs ok i h) ∙ (ap (slots_of rs).info (sym (rest_is rs ok i rest h r)) ∙ r.unmapped)
 
-pub rest : (rs : List Run) → IsRuns rs → (i : ℕ) → i + 2 ≡ length rs → (get_run rs i).owner ≡ None → (get_run rs i).info ≡ None → IsRest (slots_of rs) (get_run rs i).start
+pub rest : (rs : List Run) → IsRuns rs → (i : ℕ) → i + 2 ≡ length rs → (get_run rs i).owner ≡ None → (get_run rs i).info ≡ None
+    → IsRest (slots_of rs) (get_run rs i).start
 rest rs ok i h owner info = record {
   slot = last_slot rs ok i h;
   free = last_owner rs ok i h ∙ owner;
@@ -96,7 +97,8 @@ none_of None h = refl
 none_of (Some x) h = cc
 
 -- a slot that follows on begins in the rest
-pub first_in_rest : (rs : List Run) → IsRuns rs → (i first end : ℕ) (info : Option PageInfo) → i + 2 ≡ length rs → CanAdd (slots_of rs) first end info → (get_run rs i).start ≤ first
+pub first_in_rest : (rs : List Run) → IsRuns rs → (i first end : ℕ) (info : Option PageInfo) → i + 2 ≡ length rs
+    → CanAdd (slots_of rs) first end info → (get_run rs i).start ≤ first
 first_in_rest rs ok i first end info h can = go (rest_is rs ok i can.rest h can.is_rest) can.follows
   where
     go : can.rest ≡ (get_run rs i).start → (first ≡ can.rest) ⊎ ((can.rest ≡ 1) × (1 ≤ first)) → (get_run rs i).start ≤ first
@@ -111,7 +113,9 @@ filled_run owner info r = record { start = r.start; owner = owner; info = info }
 abbrev pub filled_runs : List Run → ℕ → Option ℕ → Option PageInfo → List Run
 filled_runs rs i owner info = set rs i (filled_run owner info (get_run rs i))
 
-filling : (rs : List Run) → IsRuns rs → (i : ℕ) (owner : Option ℕ) (info : Option PageInfo) → IsInner rs i → IsSoundSlot (get_run rs i).start (get_run rs (i + 1)).start info → Edited rs (filled_runs rs i owner info) (between (get_run rs i).start (get_run rs (i + 1)).start) (filled_run owner info)
+filling : (rs : List Run) → IsRuns rs → (i : ℕ) (owner : Option ℕ) (info : Option PageInfo) → IsInner rs i
+    → IsSoundSlot (get_run rs i).start (get_run rs (i + 1)).start info → Edited rs (filled_runs rs i owner info)
+    (between (get_run rs i).start (get_run rs (i + 1)).start) (filled_run owner info)
 filling rs ok i owner info h sound = record {
   ok = ok;
   cut = one_cut rs ok i h;
@@ -125,10 +129,13 @@ filling rs ok i owner info h sound = record {
   done = one_run rs ok i h (filled_run owner info);
 }
 
-pub filled-IsRuns : (rs : List Run) → IsRuns rs → (i : ℕ) (owner : Option ℕ) (info : Option PageInfo) → IsInner rs i → IsSoundSlot (get_run rs i).start (get_run rs (i + 1)).start info → IsRuns (filled_runs rs i owner info)
+pub filled-IsRuns : (rs : List Run) → IsRuns rs → (i : ℕ) (owner : Option ℕ) (info : Option PageInfo) → IsInner rs i
+    → IsSoundSlot (get_run rs i).start (get_run rs (i + 1)).start info → IsRuns (filled_runs rs i owner info)
 filled-IsRuns rs ok i owner info h sound = edited-IsRuns _ _ _ _ (filling rs ok i owner info h sound)
 
-pub slots_of-filled : (rs : List Run) → IsRuns rs → (i : ℕ) (owner : Option ℕ) (info : Option PageInfo) → IsInner rs i → IsSoundSlot (get_run rs i).start (get_run rs (i + 1)).start info → slots_of (filled_runs rs i owner info) ≡ filled (slots_of rs) (get_run rs i).start (get_run rs (i + 1)).start owner info
+pub slots_of-filled : (rs : List Run) → IsRuns rs → (i : ℕ) (owner : Option ℕ) (info : Option PageInfo) → IsInner rs i
+    → IsSoundSlot (get_run rs i).start (get_run rs (i + 1)).start info → slots_of (filled_runs rs i owner info) ≡ filled (slots_of rs)
+    (get_run rs i).start (get_run rs (i + 1)).start owner info
 slots_of-filled rs ok i owner info h sound =
     let e = filling rs ok i owner info h sound in
     same_slots _ _
@@ -136,7 +143,8 @@ slots_of-filled rs ok i owner info h sound =
     (λ p. edited_each _ _ _ _ e (λ r. r.owner) p owner (λ _. refl))
     (edited_edge _ _ _ _ e)
   where
-    here : (p : ℕ) → has (between (get_run rs i).start (get_run rs (i + 1)).start) p ≡ true → info_from info (p - (run_at rs p).start) ≡ info_from info (p - (get_run rs i).start)
+    here : (p : ℕ) → has (between (get_run rs i).start (get_run rs (i + 1)).start) p ≡ true
+        → info_from info (p - (run_at rs p).start) ≡ info_from info (p - (get_run rs i).start)
     here p a =
         let b = has_in (between (get_run rs i).start (get_run rs (i + 1)).start) p a in
         let run = run_at_is rs ok p i (record { within = omega (arith, h.before_last); from = b.0; until = λ _. b.1 }) in

@@ -24,10 +24,12 @@ use Rattle.slot_lock.proofs.Edits.{Edits, IsEdit, Edited, edited_each, edited_ke
 -- ---- one run
 
 -- the run at i alone is changed
-pub one_run : (rs : List Run) → IsRuns rs → (i : ℕ) → IsInner rs i → (g : Run → Run) → Edits rs (set rs i (g (get_run rs i))) (between (get_run rs i).start (get_run rs (i + 1)).start) g
+pub one_run : (rs : List Run) → IsRuns rs → (i : ℕ) → IsInner rs i → (g : Run → Run) → Edits rs (set rs i (g (get_run rs i)))
+    (between (get_run rs i).start (get_run rs (i + 1)).start) g
 one_run rs ok i h g = next_edit rs rs ok (get_run rs i).start i g h.before_last (omega arith) (no_edits rs (get_run rs i).start g)
 
-pub one_is : (rs : List Run) → IsRuns rs → (i : ℕ) → IsInner rs i → (k : ℕ) → k < length rs → has (between (get_run rs i).start (get_run rs (i + 1)).start) (get_run rs k).start ≡ true → k ≡ i
+pub one_is : (rs : List Run) → IsRuns rs → (i : ℕ) → IsInner rs i → (k : ℕ) → k < length rs
+    → has (between (get_run rs i).start (get_run rs (i + 1)).start) (get_run rs k).start ≡ true → k ≡ i
 one_is rs ok i h k l a =
     let b = has_in (between (get_run rs i).start (get_run rs (i + 1)).start) (get_run rs k).start a in
     let m = not_after rs ok k (i + 1) l b.1 in
@@ -47,7 +49,8 @@ one_low rs ok i h = let s = starts_rise_to rs ok 1 i h.after_first (omega (arith
 abbrev pub owned_runs : List Run → ℕ → Option ℕ → List Run
 owned_runs rs i owner = set rs i (owned_run owner (get_run rs i))
 
-owned : (rs : List Run) → IsRuns rs → (i : ℕ) (owner : Option ℕ) → IsInner rs i → Edited rs (owned_runs rs i owner) (between (get_run rs i).start (get_run rs (i + 1)).start) (owned_run owner)
+owned : (rs : List Run) → IsRuns rs → (i : ℕ) (owner : Option ℕ) → IsInner rs i
+    → Edited rs (owned_runs rs i owner) (between (get_run rs i).start (get_run rs (i + 1)).start) (owned_run owner)
 owned rs ok i owner h = record {
   ok = ok;
   cut = one_cut rs ok i h;
@@ -64,7 +67,8 @@ owned rs ok i owner h = record {
 pub owned-IsRuns : (rs : List Run) → IsRuns rs → (i : ℕ) (owner : Option ℕ) → IsInner rs i → IsRuns (owned_runs rs i owner)
 owned-IsRuns rs ok i owner h = edited-IsRuns _ _ _ _ (owned rs ok i owner h)
 
-pub slots_of-owned : (rs : List Run) → IsRuns rs → (i : ℕ) (owner : Option ℕ) → IsInner rs i → slots_of (owned_runs rs i owner) ≡ with_owner (slots_of rs) (get_run rs i).start (get_run rs (i + 1)).start owner
+pub slots_of-owned : (rs : List Run) → IsRuns rs → (i : ℕ) (owner : Option ℕ) → IsInner rs i
+    → slots_of (owned_runs rs i owner) ≡ with_owner (slots_of rs) (get_run rs i).start (get_run rs (i + 1)).start owner
 slots_of-owned rs ok i owner h =
     let e = owned rs ok i owner h in
     same_slots _ _
@@ -86,7 +90,8 @@ pub record IsOnePage (rs : List Run) (i : ℕ) (info : PageInfo) : Type 0 where
   pub one : (get_run rs (i + 1)).start ≡ (get_run rs i).start + 1
   pub meta : HasMeta (get_run rs i).info info.meta
 
-informed : (rs : List Run) → IsRuns rs → (i : ℕ) (info : PageInfo) → IsOnePage rs i info → Edited rs (informed_runs rs i info) (between (get_run rs i).start (get_run rs (i + 1)).start) (informed_run (Some info))
+informed : (rs : List Run) → IsRuns rs → (i : ℕ) (info : PageInfo) → IsOnePage rs i info
+    → Edited rs (informed_runs rs i info) (between (get_run rs i).start (get_run rs (i + 1)).start) (informed_run (Some info))
 informed rs ok i info h = record {
   ok = ok;
   cut = one_cut rs ok i h.inner;
@@ -103,7 +108,8 @@ informed rs ok i info h = record {
 pub informed-IsRuns : (rs : List Run) → IsRuns rs → (i : ℕ) (info : PageInfo) → IsOnePage rs i info → IsRuns (informed_runs rs i info)
 informed-IsRuns rs ok i info h = edited-IsRuns _ _ _ _ (informed rs ok i info h)
 
-pub slots_of-informed : (rs : List Run) → IsRuns rs → (i : ℕ) (info : PageInfo) → IsOnePage rs i info → slots_of (informed_runs rs i info) ≡ with_info (slots_of rs) (get_run rs i).start (Some info)
+pub slots_of-informed : (rs : List Run) → IsRuns rs → (i : ℕ) (info : PageInfo) → IsOnePage rs i info
+    → slots_of (informed_runs rs i info) ≡ with_info (slots_of rs) (get_run rs i).start (Some info)
 slots_of-informed rs ok i info h = same_slots _ _ info_is (λ p. edited_keeps _ _ _ _ e (λ r. r.owner) (λ r. refl) p) (edited_edge _ _ _ _ e)
   where
     e : Edited rs (informed_runs rs i info) (between (get_run rs i).start (get_run rs (i + 1)).start) (informed_run (Some info))
@@ -118,7 +124,8 @@ slots_of-informed rs ok i info h = same_slots _ _ info_is (λ p. edited_keeps _ 
 
     info_is : (p : ℕ) → (slots_of (informed_runs rs i info)).info p ≡ (with_info (slots_of rs) (get_run rs i).start (Some info)).info p
     info_is p =
-        let test : has (between (get_run rs i).start (get_run rs (i + 1)).start) p ≡ (p == (get_run rs i).start) = ap (λ n. has (between (get_run rs i).start n) p) h.one ∙ has_one (get_run rs i).start p in
+        let test : has (between (get_run rs i).start (get_run rs (i + 1)).start) p ≡ (p == (get_run rs i).start) = ap
+        (λ n. has (between (get_run rs i).start n) p) h.one ∙ has_one (get_run rs i).start p in
         edited_each _ _ _ _ e (λ r. info_from r.info (p - r.start)) p (Some info) (here p) ∙ ap (λ b. cond b (Some info) ((slots_of rs).info p)) test
 
 -- ---- a change of a range
@@ -140,10 +147,12 @@ prot_from prot None n = refl
 prot_from prot (Some info) n = refl
 
 -- the runs of the range end by its end
-ends_by : (rs : List Run) → IsRuns rs → (range : PageRange) → IsCut (slots_of rs) range → (k : ℕ) → k + 1 < length rs → has range (get_run rs k).start ≡ true → (get_run rs (k + 1)).start ≤ range.end
+ends_by : (rs : List Run) → IsRuns rs → (range : PageRange) → IsCut (slots_of rs) range → (k : ℕ) → k + 1 < length rs
+    → has range (get_run rs k).start ≡ true → (get_run rs (k + 1)).start ≤ range.end
 ends_by rs ok range cut k l a = slot_by_edge (slots_of rs) _ _ range.end (is_slot rs ok k l) cut.ends (has_in range _ a).1
 
-pub change-IsEdit : (rs : List Run) → IsRuns rs → (change : Change) → IsSoundChange change → IsCut (slots_of rs) (range_of change) → IsEdit rs (range_of change) (changed_run change)
+pub change-IsEdit : (rs : List Run) → IsRuns rs → (change : Change) → IsSoundChange change → IsCut (slots_of rs) (range_of change)
+    → IsEdit rs (range_of change) (changed_run change)
 change-IsEdit rs ok (Put range meta) h cut = record {
   low = h.pages.low;
   high = h.pages.high;
@@ -182,7 +191,8 @@ slots_of-changed rs qs (Put range meta) e = same_slots _ _
     (λ p. edited_keeps _ _ _ _ e (λ r. r.owner) (λ r. refl) p)
     (edited_edge _ _ _ _ e)
   where
-    there : (p : ℕ) → has range p ≡ true → info_from (Some (unused (advance meta ((run_at rs p).start - range.first)))) (p - (run_at rs p).start) ≡ Some (unused (advance meta (p - range.first)))
+    there : (p : ℕ) → has range p ≡ true → info_from (Some (unused (advance meta ((run_at rs p).start - range.first))))
+        (p - (run_at rs p).start) ≡ Some (unused (advance meta (p - range.first)))
     there p a =
         let s = (has_in range (run_at rs p).start (within_run rs e.ok range e.cut p ∙ a)).0 in
         let f = run_from rs e.ok p in
@@ -193,7 +203,8 @@ slots_of-changed rs qs (Clear range) e = same_slots _ _
     (λ p. edited_keeps _ _ _ _ e (λ r. r.owner) (λ r. refl) p)
     (edited_edge _ _ _ _ e)
 slots_of-changed rs qs (Protect range prot) e = same_slots _ _
-    (λ p. edited_each _ _ _ _ e (λ r. info_from r.info (p - r.start)) p (info_with_prot prot ((slots_of rs).info p)) (λ _. prot_from prot (run_at rs p).info (p - (run_at rs p).start)))
+    (λ p. edited_each _ _ _ _ e (λ r. info_from r.info (p - r.start)) p (info_with_prot prot ((slots_of rs).info p))
+    (λ _. prot_from prot (run_at rs p).info (p - (run_at rs p).start)))
     (λ p. edited_keeps _ _ _ _ e (λ r. r.owner) (λ r. refl) p)
     (edited_edge _ _ _ _ e)
 
@@ -211,7 +222,8 @@ sound_pages (Put range meta) h = h.pages
 sound_pages (Clear range) h = h
 sound_pages (Protect range prot) h = h
 
-pub changing_first : (rs : List Run) → IsRuns rs → (change : Change) → IsSoundChange change → IsCut (slots_of rs) (range_of change) → (i : ℕ) → IsAt rs (range_of change).first i → Changing rs rs change i
+pub changing_first : (rs : List Run) → IsRuns rs → (change : Change) → IsSoundChange change → IsCut (slots_of rs) (range_of change)
+    → (i : ℕ) → IsAt rs (range_of change).first i → Changing rs rs change i
 changing_first rs ok change h cut i at =
     let begins : (get_run rs i).start ≡ (range_of change).first = first_slot rs ok i _ at cut.begins in
     let pages = sound_pages change h in
@@ -222,7 +234,9 @@ changing_first rs ok change h cut i at =
       done = rw begins (no_edits rs (range_of change).first (changed_run change));
     }
 
-pub changing_next : (rs qs : List Run) → IsRuns rs → (change : Change) → IsSoundChange change → IsCut (slots_of rs) (range_of change) → (i : ℕ) → Changing rs qs change i → (get_run rs i).start < (range_of change).end → Changing rs (set qs i (changed_run change (get_run rs i))) change (i + 1)
+pub changing_next : (rs qs : List Run) → IsRuns rs → (change : Change) → IsSoundChange change → IsCut (slots_of rs) (range_of change)
+    → (i : ℕ) → Changing rs qs change i → (get_run rs i).start < (range_of change).end
+    → Changing rs (set qs i (changed_run change (get_run rs i))) change (i + 1)
 changing_next rs qs ok change h cut i so_far l =
     let pages = sound_pages change h in
     let next = before_limit rs ok i so_far.within (omega (arith, pages.high)) in
@@ -238,7 +252,8 @@ changing_next rs qs ok change h cut i so_far l =
 pub changing_read : (rs qs : List Run) (change : Change) (i : ℕ) → Changing rs qs change i → get_run qs i ≡ get_run rs i
 changing_read rs qs change i so_far = so_far.done.outside i so_far.within (has_above (between (range_of change).first (get_run rs i).start) _ (omega arith))
 
-pub changing_done : (rs qs : List Run) → IsRuns rs → (change : Change) → IsSoundChange change → IsCut (slots_of rs) (range_of change) → (i : ℕ) → Changing rs qs change i → (range_of change).end ≤ (get_run rs i).start → Edited rs qs (range_of change) (changed_run change)
+pub changing_done : (rs qs : List Run) → IsRuns rs → (change : Change) → IsSoundChange change → IsCut (slots_of rs) (range_of change)
+    → (i : ℕ) → Changing rs qs change i → (range_of change).end ≤ (get_run rs i).start → Edited rs qs (range_of change) (changed_run change)
 changing_done rs qs ok change h cut i so_far l =
     let ends : (get_run rs i).start ≡ (range_of change).end = omega (arith, so_far.by_end) in
     record { ok = ok; cut = cut; is = change-IsEdit rs ok change h cut; done = rw ends at so_far.done }

@@ -33,7 +33,8 @@ data At (i k : ℕ) : Type 0 where
   after : (j : ℕ) → i + 1 ≤ j → k ≡ j + 1 → At i k
 
 which : (i k : ℕ) → At i k
-which i k = ⊎_elim (λ l. before (omega arith)) (λ l. ⊎_elim (λ m. new (omega arith)) (λ m. after (k - 1) (omega arith) (omega arith)) (cases_lt k (i + 2))) (cases_lt k (i + 1))
+which i k = ⊎_elim (λ l. before (omega arith)) (λ l. ⊎_elim (λ m. new (omega arith)) (λ m. after (k - 1) (omega arith) (omega arith))
+    (cases_lt k (i + 2))) (cases_lt k (i + 1))
 
 along : (P : Run → Type 0) (a b : Run) → a ≡ b → P b → P a
 along P a b e p = rw e p
@@ -45,7 +46,8 @@ get_same : (rs : List Run) (j k : ℕ) → j ≡ k → get_run rs j ≡ get_run 
 get_same rs j k e = ap (get_run rs) e
 
 -- what holds of each run of the old list and of the new one holds of each of the cut list
-each : (P : Run → Type 0) (rs : List Run) (i at : ℕ) → (h : IsInside rs i at) → ((k : ℕ) → k < length rs → P (get_run rs k)) → P (tail_from (get_run rs i) at) → (k : ℕ) → k < length (cut_runs rs i at) → P (get_run (cut_runs rs i at) k)
+each : (P : Run → Type 0) (rs : List Run) (i at : ℕ) → (h : IsInside rs i at) → ((k : ℕ) → k < length rs → P (get_run rs k))
+    → P (tail_from (get_run rs i) at) → (k : ℕ) → k < length (cut_runs rs i at) → P (get_run (cut_runs rs i at) k)
 each P rs i at h old one k l = elim (which i k) as (λ _. P (get_run (cut_runs rs i at) k)) [
   | before b ↦ along P _ _ (below rs i at h k b) (old k (omega (arith, h.inner.before_last)))
   | new e ↦ along P _ _ (get_same _ _ _ e ∙ here rs i at h) one
@@ -53,10 +55,14 @@ each P rs i at h old one k l = elim (which i k) as (λ _. P (get_run (cut_runs r
 ]
 
 -- what holds of each run and the next
-each_next : (P : Run → Run → Type 0) (rs : List Run) (i at : ℕ) → (h : IsInside rs i at) → ((k : ℕ) → k + 1 < length rs → P (get_run rs k) (get_run rs (k + 1))) → P (get_run rs i) (tail_from (get_run rs i) at) → P (tail_from (get_run rs i) at) (get_run rs (i + 1)) → (k : ℕ) → k + 1 < length (cut_runs rs i at) → P (get_run (cut_runs rs i at) k) (get_run (cut_runs rs i at) (k + 1))
+each_next : (P : Run → Run → Type 0) (rs : List Run) (i at : ℕ) → (h : IsInside rs i at)
+    → ((k : ℕ) → k + 1 < length rs → P (get_run rs k) (get_run rs (k + 1))) → P (get_run rs i) (tail_from (get_run rs i) at)
+    → P (tail_from (get_run rs i) at) (get_run rs (i + 1)) → (k : ℕ) → k + 1 < length (cut_runs rs i at)
+    → P (get_run (cut_runs rs i at) k) (get_run (cut_runs rs i at) (k + 1))
 each_next P rs i at h old to from k l = elim (which i (k + 1)) as (λ _. P (get_run (cut_runs rs i at) k) (get_run (cut_runs rs i at) (k + 1))) [
   | before b ↦ along_both P _ _ _ _ (below rs i at h k (omega arith)) (below rs i at h (k + 1) b) (old k (omega (arith, h.inner.before_last)))
-  | new e ↦ let k_is : k ≡ i = omega arith in along_both P _ _ _ _ (get_same _ _ _ k_is ∙ below rs i at h i (omega arith)) (get_same _ _ _ e ∙ here rs i at h) to
+  | new e ↦ let k_is : k ≡ i = omega arith in along_both P _ _ _ _ (get_same _ _ _ k_is ∙ below rs i at h i (omega arith))
+      (get_same _ _ _ e ∙ here rs i at h) to
   | after j b e ↦ elim (which i k) as (λ _. P (get_run (cut_runs rs i at) k) (get_run (cut_runs rs i at) (k + 1))) [
     | before c ↦ absurd (omega arith)
     | new f ↦
@@ -91,7 +97,8 @@ cut_runs-IsRuns rs ok i at h =
       limit_free = ap (λ (r : Run). is_some r.owner) end ∙ ok.limit_free;
       fits = each_next (λ r s. info_file_page r.info + (s.start - r.start) ≤ 2 ^ 35) rs i at h ok.fits
           (omega (arith, fits, h.above, h.below))
-          (let f = fits_on (get_run rs i).info (at - (get_run rs i).start) ((get_run rs (i + 1)).start - (get_run rs i).start) (omega (arith, h.above, h.below)) fits in omega (arith, h.above));
+          (let f = fits_on (get_run rs i).info (at - (get_run rs i).start) ((get_run rs (i + 1)).start - (get_run rs i).start)
+          (omega (arith, h.above, h.below)) fits in omega (arith, h.above));
       alone = each_next (λ r s. is_leaf r.info ≡ true → s.start ≡ r.start + 1) rs i at h ok.alone
           (λ l. absurd (not_leaf rs ok i at h l))
           (λ l. absurd (not_leaf rs ok i at h (sym (is_leaf-info_from (get_run rs i).info (at - (get_run rs i).start)) ∙ l)));
@@ -140,7 +147,8 @@ moved rs ok i at h p = go (found rs ok p)
     }) ∙ (above rs i at h f.at (omega arith) ∙ sym f.run))
 
     go : Found rs p → Moved rs i at p
-    go f = ⊎_elim (λ (l : f.at < i). lower f l) (λ (l : i ≤ f.at). ⊎_elim (λ (m : i < f.at). higher f m) (λ (m : f.at ≤ i). same f (omega arith)) (cases_lt i f.at)) (cases_lt f.at i)
+    go f = ⊎_elim (λ (l : f.at < i). lower f l) (λ (l : i ≤ f.at). ⊎_elim (λ (m : i < f.at). higher f m)
+        (λ (m : f.at ≤ i). same f (omega arith)) (cases_lt i f.at)) (cases_lt f.at i)
 
 pub cut_runs-Divides : (rs : List Run) → IsRuns rs → (i at : ℕ) → IsInside rs i at → Divides (slots_of rs) (slots_of (cut_runs rs i at)) (get_run rs i).owner at
 cut_runs-Divides rs ok i at h = record {

@@ -16,7 +16,8 @@ two b e f = cc
 
 -- no edge changes outside it
 outside : (s t : Slots) (slot : PageRange) (begins : ℕ → Bool) → t ≡ divided s slot begins → (p : ℕ) → (p ≤ slot.first) ⊎ (slot.end ≤ p) → t.edge p ≡ s.edge p
-outside s t slot begins now p o = ap (λ (u : Slots). u.edge p) now ∙ by_test (λ x. x ≡ s.edge p) (has (between (slot.first + 1) slot.end) p) (begins p) (s.edge p)
+outside s t slot begins now p o = ap (λ (u : Slots). u.edge p) now
+    ∙ by_test (λ x. x ≡ s.edge p) (has (between (slot.first + 1) slot.end) p) (begins p) (s.edge p)
     (λ t. absurd (two _ (not_in o) t))
     (λ _. refl)
   where
@@ -24,7 +25,8 @@ outside s t slot begins now p o = ap (λ (u : Slots). u.edge p) now ∙ by_test 
     not_in (inl l) = has_below (between (slot.first + 1) slot.end) p (omega arith)
     not_in (inr l) = has_above (between (slot.first + 1) slot.end) p l
 
-pub only_of : (parts : PageRange → ℕ → ℕ → Bool) (s t : Slots) (at page : ℕ) (d : DividesAs parts s t at) → d.slot.first ≤ page → page < d.slot.end → OnlySlotOf s t page
+pub only_of : (parts : PageRange → ℕ → ℕ → Bool) (s t : Slots) (at page : ℕ) (d : DividesAs parts s t at) → d.slot.first ≤ page
+    → page < d.slot.end → OnlySlotOf s t page
 only_of parts s t at page d low high = record {
   slot = d.slot;
   is_slot = d.is_slot;
@@ -43,14 +45,17 @@ crossed_first s range h = rw h refl
 crossed_end : (s : Slots) (range : PageRange) → s.edge range.first ≡ true → crossed_edge s range ≡ range.end
 crossed_end s range h = rw h refl
 
-pub at_first : (parts : PageRange → ℕ → ℕ → Bool) (s t : Slots) (range : PageRange) → s.edge range.first ≡ false → DividesAs parts s t range.first → DividesAs parts s t (crossed_edge s range)
+pub at_first : (parts : PageRange → ℕ → ℕ → Bool) (s t : Slots) (range : PageRange) → s.edge range.first ≡ false
+    → DividesAs parts s t range.first → DividesAs parts s t (crossed_edge s range)
 at_first parts s t range h d = rw h d
 
-pub at_end : (parts : PageRange → ℕ → ℕ → Bool) (s t : Slots) (range : PageRange) → s.edge range.first ≡ true → DividesAs parts s t range.end → DividesAs parts s t (crossed_edge s range)
+pub at_end : (parts : PageRange → ℕ → ℕ → Bool) (s t : Slots) (range : PageRange) → s.edge range.first ≡ true
+    → DividesAs parts s t range.end → DividesAs parts s t (crossed_edge s range)
 at_end parts s t range h d = rw h d
 
 -- it has the cursor
-pub only_cursor : (parts : PageRange → ℕ → ℕ → Bool) (s t : Slots) (cursor end : ℕ) → cursor < end → Crosses s cursor end → DividesAs parts s t (crossed_edge s (between cursor end)) → OnlySlotOf s t cursor
+pub only_cursor : (parts : PageRange → ℕ → ℕ → Bool) (s t : Slots) (cursor end : ℕ) → cursor < end → Crosses s cursor end
+    → DividesAs parts s t (crossed_edge s (between cursor end)) → OnlySlotOf s t cursor
 only_cursor parts s t cursor end some crosses d = go (s.edge cursor) refl
   where
     past : s.edge cursor ≡ true → Crosses s cursor end → (p : ℕ) → cursor < p → p ≤ end → s.edge p ≡ false
@@ -75,7 +80,9 @@ only_cursor parts s t cursor end some crosses d = go (s.edge cursor) refl
         let below = d.below in
         only_of parts s t (crossed_edge s (between cursor end)) cursor d (omega arith) (omega arith)
 
-pub splits : (parts : PageRange → ℕ → ℕ → Bool) (s t : Slots) (cursor end at : ℕ) → cursor < end → s.owner cursor ≡ None → Crosses s cursor end → IsPage at → Divides s t None at → DividesAs parts s t (crossed_edge s (between cursor end)) → Splits s t cursor end
+pub splits : (parts : PageRange → ℕ → ℕ → Bool) (s t : Slots) (cursor end at : ℕ) → cursor < end → s.owner cursor ≡ None
+    → Crosses s cursor end → IsPage at → Divides s t None at → DividesAs parts s t (crossed_edge s (between cursor end))
+    → Splits s t cursor end
 splits parts s t cursor end at some free crosses page divides exact = record {
   was_free = free;
   crosses = crosses;
@@ -83,7 +90,8 @@ splits parts s t cursor end at some free crosses page divides exact = record {
   only = only_cursor parts s t cursor end some crosses exact;
 }
 
-pub cuts : (parts : PageRange → ℕ → ℕ → Bool) (s t : Slots) (core : ℕ) (range : PageRange) (at : ℕ) → IsCrossed s range → IsPage at → Divides s t (Some core) at → DividesAs parts s t (crossed_edge s range) → Cuts s t core range
+pub cuts : (parts : PageRange → ℕ → ℕ → Bool) (s t : Slots) (core : ℕ) (range : PageRange) (at : ℕ) → IsCrossed s range → IsPage at
+    → Divides s t (Some core) at → DividesAs parts s t (crossed_edge s range) → Cuts s t core range
 cuts parts s t core range at crossed page divides exact = record {
   crossed = crossed;
   divides = (at, page, divides);
@@ -171,6 +179,7 @@ slot_by s first end some begins ends = go (end - first - 1) (omega arith) (λ p 
             (λ (l : end - suc left ≤ p). let same : end - suc left ≡ p = omega arith in rw same at e)
             (cases_lt p (end - suc left))
 
-        at : (b : Bool) → s.edge (end - suc left) ≡ b → (((p : ℕ) → first < p → p < end - left → s.edge p ≡ false) → (b : ℕ) × IsSlot s first b × (b ≤ end)) → (b : ℕ) × IsSlot s first b × (b ≤ end)
+        at : (b : Bool) → s.edge (end - suc left) ≡ b → (((p : ℕ) → first < p → p < end - left → s.edge p ≡ false) → (b : ℕ)
+            × IsSlot s first b × (b ≤ end)) → (b : ℕ) × IsSlot s first b × (b ≤ end)
         at true e rest = (end - suc left, slot (end - suc left) (omega arith) e inside, omega arith)
         at false e rest = rest (more e)

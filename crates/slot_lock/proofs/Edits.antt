@@ -70,10 +70,13 @@ pub record IsEdit (rs : List Run) (range : PageRange) (g : Run → Run) : Type 0
   pub low : 1 ≤ range.first
   pub high : range.end ≤ 2 ^ 35
   pub starts : (r : Run) → (g r).start ≡ r.start
-  pub fits : (k : ℕ) → k + 1 < length rs → has range (get_run rs k).start ≡ true → info_file_page (g (get_run rs k)).info + ((get_run rs (k + 1)).start - (get_run rs k).start) ≤ 2 ^ 35
-  pub alone : (k : ℕ) → k + 1 < length rs → has range (get_run rs k).start ≡ true → is_leaf (g (get_run rs k)).info ≡ true → (get_run rs (k + 1)).start ≡ (get_run rs k).start + 1
+  pub fits : (k : ℕ) → k + 1 < length rs → has range (get_run rs k).start ≡ true
+      → info_file_page (g (get_run rs k)).info + ((get_run rs (k + 1)).start - (get_run rs k).start) ≤ 2 ^ 35
+  pub alone : (k : ℕ) → k + 1 < length rs → has range (get_run rs k).start ≡ true → is_leaf (g (get_run rs k)).info ≡ true
+      → (get_run rs (k + 1)).start ≡ (get_run rs k).start + 1
 
-starts_kept : (rs qs : List Run) (range : PageRange) (g : Run → Run) → Edits rs qs range g → IsEdit rs range g → (k : ℕ) → k < length rs → (get_run qs k).start ≡ (get_run rs k).start
+starts_kept : (rs qs : List Run) (range : PageRange) (g : Run → Run) → Edits rs qs range g → IsEdit rs range g → (k : ℕ) → k < length rs
+    → (get_run qs k).start ≡ (get_run rs k).start
 starts_kept rs qs range g e h k l = ⊎_elim
     (λ (a : has range (get_run rs k).start ≡ true). ap (λ (r : Run). r.start) (e.inside k l a) ∙ h.starts (get_run rs k))
     (λ (a : has range (get_run rs k).start ≡ false). ap (λ (r : Run). r.start) (e.outside k l a))
@@ -84,8 +87,10 @@ edits-IsRuns rs qs ok range g e h =
     let n = e.lengths in
     let start = starts_kept rs qs range g e h in
     let last : length qs - 1 ≡ length rs - 1 = omega arith in
-    let zero_is : get_run qs 0 ≡ get_run rs 0 = e.outside 0 (omega (arith, ok.some)) (has_below range (get_run rs 0).start (omega (arith, ok.zero_first, h.low))) in
-    let last_is : get_run qs (length rs - 1) ≡ get_run rs (length rs - 1) = e.outside (length rs - 1) (omega (arith, ok.some)) (has_above range (get_run rs (length rs - 1)).start (omega (arith, ok.limit_last, h.high))) in
+    let zero_is : get_run qs 0 ≡ get_run rs 0 = e.outside 0 (omega (arith, ok.some))
+    (has_below range (get_run rs 0).start (omega (arith, ok.zero_first, h.low))) in
+    let last_is : get_run qs (length rs - 1) ≡ get_run rs (length rs - 1) = e.outside (length rs - 1) (omega (arith, ok.some))
+    (has_above range (get_run rs (length rs - 1)).start (omega (arith, ok.limit_last, h.high))) in
     record {
       some = omega (arith, ok.some);
       rising = λ k l. let a = start k (omega arith) in let b = start (k + 1) (omega arith) in let r = ok.rising k (omega arith) in omega (arith, a, b, r);
@@ -135,9 +140,11 @@ run_from rs ok p = let f = found rs ok p in rw f.run f.is.from
 -- a page is in the range where its run begins in it
 pub within_run : (rs : List Run) → IsRuns rs → (range : PageRange) → IsCut (slots_of rs) range → (p : ℕ) → has range (run_at rs p).start ≡ has range p
 within_run rs ok range h p = ⊎_elim
-    (λ (l : p < range.first). (let s = run_from rs ok p in let m : (run_at rs p).start < range.first = omega arith in has_below range _ m) ∙ sym (has_below range _ l))
+    (λ (l : p < range.first). (let s = run_from rs ok p in let m : (run_at rs p).start < range.first = omega arith in has_below range _ m)
+    ∙ sym (has_below range _ l))
     (λ (l : range.first ≤ p). ⊎_elim
-    (λ (m : p < range.end). (let s = run_from rs ok p in let n : (run_at rs p).start < range.end = omega arith in in_has range _ (edge_below rs ok range.first p h.begins l) n) ∙ sym (in_has range _ l m))
+    (λ (m : p < range.end). (let s = run_from rs ok p in let n : (run_at rs p).start < range.end = omega arith in
+    in_has range _ (edge_below rs ok range.first p h.begins l) n) ∙ sym (in_has range _ l m))
     (λ (m : range.end ≤ p). has_above range _ (edge_below rs ok range.end p h.ends m) ∙ sym (has_above range _ m))
     (cases_lt p range.end))
     (cases_lt p range.first)
@@ -169,22 +176,29 @@ pub edited_inside : (rs qs : List Run) (range : PageRange) (g : Run → Run) →
 edited_inside rs qs range g h p a = go (found rs h.ok p)
   where
     go : (f : Found rs p) → run_at qs p ≡ g (run_at rs p)
-    go f = same_place rs qs range g h p f ∙ (h.done.inside f.at f.is.within (sym (ap (λ (r : Run). has range r.start) f.run) ∙ (within_run rs h.ok range h.cut p ∙ a)) ∙ sym (ap g f.run))
+    go f = same_place rs qs range g h p f
+        ∙ (h.done.inside f.at f.is.within (sym (ap (λ (r : Run). has range r.start) f.run) ∙ (within_run rs h.ok range h.cut p ∙ a))
+        ∙ sym (ap g f.run))
 
 pub edited_outside : (rs qs : List Run) (range : PageRange) (g : Run → Run) → Edited rs qs range g → (p : ℕ) → has range p ≡ false → run_at qs p ≡ run_at rs p
 edited_outside rs qs range g h p a = go (found rs h.ok p)
   where
     go : (f : Found rs p) → run_at qs p ≡ run_at rs p
-    go f = same_place rs qs range g h p f ∙ (h.done.outside f.at f.is.within (sym (ap (λ (r : Run). has range r.start) f.run) ∙ (within_run rs h.ok range h.cut p ∙ a)) ∙ sym f.run)
+    go f = same_place rs qs range g h p f
+        ∙ (h.done.outside f.at f.is.within (sym (ap (λ (r : Run). has range r.start) f.run) ∙ (within_run rs h.ok range h.cut p ∙ a))
+        ∙ sym f.run)
 
 -- a value of each page's run
-pub edited_each : {X : Type 0} (rs qs : List Run) (range : PageRange) (g : Run → Run) → Edited rs qs range g → (P : Run → X) (p : ℕ) (x : X) → (has range p ≡ true → P (g (run_at rs p)) ≡ x) → P (run_at qs p) ≡ cond (has range p) x (P (run_at rs p))
+pub edited_each : {X : Type 0} (rs qs : List Run) (range : PageRange) (g : Run → Run) → Edited rs qs range g
+    → (P : Run → X) (p : ℕ) (x : X) → (has range p ≡ true → P (g (run_at rs p)) ≡ x) → P (run_at qs p) ≡ cond (has range p) x
+    (P (run_at rs p))
 edited_each rs qs range g h P p x e = by_test (λ y. P (run_at qs p) ≡ y) (has range p) x (P (run_at rs p))
     (λ a. ap P (edited_inside rs qs range g h p a) ∙ e a)
     (λ a. ap P (edited_outside rs qs range g h p a))
 
 -- what stays where an edit keeps it
-pub edited_keeps : {X : Type 0} (rs qs : List Run) (range : PageRange) (g : Run → Run) → Edited rs qs range g → (P : Run → X) → ((r : Run) → P (g r) ≡ P r) → (p : ℕ) → P (run_at qs p) ≡ P (run_at rs p)
+pub edited_keeps : {X : Type 0} (rs qs : List Run) (range : PageRange) (g : Run → Run) → Edited rs qs range g → (P : Run → X)
+    → ((r : Run) → P (g r) ≡ P r) → (p : ℕ) → P (run_at qs p) ≡ P (run_at rs p)
 edited_keeps rs qs range g h P same p = ⊎_elim
     (λ (a : has range p ≡ true). ap P (edited_inside rs qs range g h p a) ∙ same (run_at rs p))
     (λ (a : has range p ≡ false). ap P (edited_outside rs qs range g h p a))
@@ -213,14 +227,17 @@ pub not_after : (rs : List Run) → IsRuns rs → (k i : ℕ) → k < length rs 
 not_after rs ok k i h l = ⊎_elim (λ (m : k < i). m) (λ (m : i ≤ k). let s = starts_rise_to rs ok i k m h in absurd (omega arith)) (cases_lt k i)
 
 -- the run at i is changed too
-pub next_edit : (rs qs : List Run) → IsRuns rs → (first i : ℕ) (g : Run → Run) → i + 1 < length rs → first ≤ (get_run rs i).start → Edits rs qs (between first (get_run rs i).start) g → Edits rs (set qs i (g (get_run rs i))) (between first (get_run rs (i + 1)).start) g
+pub next_edit : (rs qs : List Run) → IsRuns rs → (first i : ℕ) (g : Run → Run) → i + 1 < length rs → first ≤ (get_run rs i).start
+    → Edits rs qs (between first (get_run rs i).start) g → Edits rs (set qs i (g (get_run rs i)))
+    (between first (get_run rs (i + 1)).start) g
 next_edit rs qs ok first i g h from e = record {
   lengths = length-set qs i _ ∙ e.lengths;
   inside = inside;
   outside = outside;
 }
   where
-    inside : (k : ℕ) → k < length rs → has (between first (get_run rs (i + 1)).start) (get_run rs k).start ≡ true → get_run (set qs i (g (get_run rs i))) k ≡ g (get_run rs k)
+    inside : (k : ℕ) → k < length rs → has (between first (get_run rs (i + 1)).start) (get_run rs k).start ≡ true
+        → get_run (set qs i (g (get_run rs i))) k ≡ g (get_run rs k)
     inside k l a =
         let b = has_in (between first (get_run rs (i + 1)).start) (get_run rs k).start a in
         let m = not_after rs ok k (i + 1) l b.1 in
@@ -231,11 +248,14 @@ next_edit rs qs ok first i g h from e = record {
         get_or-set_other qs i k _ nobody ne ∙ e.inside k l (in_has (between first (get_run rs i).start) _ b.0 (before rs ok k i (omega arith) lt)))
         (cases_eq k i)
 
-    outside : (k : ℕ) → k < length rs → has (between first (get_run rs (i + 1)).start) (get_run rs k).start ≡ false → get_run (set qs i (g (get_run rs i))) k ≡ get_run rs k
+    outside : (k : ℕ) → k < length rs → has (between first (get_run rs (i + 1)).start) (get_run rs k).start ≡ false
+        → get_run (set qs i (g (get_run rs i))) k ≡ get_run rs k
     outside k l a =
         let rise = ok.rising i h in
         let away = has_not (between first (get_run rs (i + 1)).start) (get_run rs k).start a in
-        let ne : k ≢ i = (λ same. let m : (get_run rs k).start ≡ (get_run rs i).start = ap (λ n. (get_run rs n).start) same in ⊎_elim (λ (l : (get_run rs k).start < first). omega arith) (λ (l : (get_run rs (i + 1)).start ≤ (get_run rs k).start). omega arith) away) in
+        let ne : k ≢ i = (λ same. let m : (get_run rs k).start ≡ (get_run rs i).start = ap (λ n. (get_run rs n).start) same in
+        ⊎_elim (λ (l : (get_run rs k).start < first). omega arith)
+        (λ (l : (get_run rs (i + 1)).start ≤ (get_run rs k).start). omega arith) away) in
         get_or-set_other qs i k _ nobody ne ∙ e.outside k l (⊎_elim
         (λ (l : (get_run rs k).start < first). has_below (between first (get_run rs i).start) _ l)
         (λ (l : (get_run rs (i + 1)).start ≤ (get_run rs k).start). has_above (between first (get_run rs i).start) _ (omega arith))

@@ -10,7 +10,9 @@ use Rattle.slot_lock.specs.Walks.{IsFirstFrame}
 use Rattle.slot_lock.proofs.Joins.{next_info}
 use Rattle.slot_lock.proofs.Steps.{before_limit}
 
-pub loses_frame : (rs qs : List Run) → IsRuns rs → (from end : ℕ) (first : FramedRun) → end ≤ 2 ^ 35 → IsFirstFrame rs from end first → slots_of qs ≡ with_info (slots_of rs) (get_run rs first.place).start (Some (record first.info { frame = None })) → LosesFrame (slots_of rs) (slots_of qs) from end (get_run rs first.place).start first.frame
+pub loses_frame : (rs qs : List Run) → IsRuns rs → (from end : ℕ) (first : FramedRun) → end ≤ 2 ^ 35 → IsFirstFrame rs from end first
+    → slots_of qs ≡ with_info (slots_of rs) (get_run rs first.place).start (Some (record first.info { frame = None }))
+    → LosesFrame (slots_of rs) (slots_of qs) from end (get_run rs first.place).start first.frame
 loses_frame rs qs ok from end first high f now =
     let more = before_limit rs ok first.place f.within (omega (arith, f.high)) in
     let info = next_info rs ok first.place more ∙ f.info in

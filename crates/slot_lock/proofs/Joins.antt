@@ -43,7 +43,8 @@ joined-IsRuns rs ok i h =
     let n = shorter rs i h in
     let zero_is = low rs i h 0 (omega arith) in
     let back : length (joined_runs rs i) - 1 + 1 ≡ length rs - 1 = omega (arith, h.joint.next) in
-    let last_is : get_run (joined_runs rs i) (length (joined_runs rs i) - 1) ≡ get_run rs (length rs - 1) = high rs i h (length (joined_runs rs i) - 1) (omega (arith, h.joint.next)) ∙ ap (get_run rs) back in
+    let last_is : get_run (joined_runs rs i) (length (joined_runs rs i) - 1) ≡ get_run rs (length rs - 1) = high rs i h
+    (length (joined_runs rs i) - 1) (omega (arith, h.joint.next)) ∙ ap (get_run rs) back in
     record {
       some = omega (arith, h.after_first, h.joint.next);
       rising = λ k l. rising k (omega arith);
@@ -70,7 +71,9 @@ joined-IsRuns rs ok i h =
         (cases_eq k i))
         (cases_lt k i)
 
-    fits : (k : ℕ) → k + 2 < length rs → info_file_page (get_run (joined_runs rs i) k).info + ((get_run (joined_runs rs i) (k + 1)).start - (get_run (joined_runs rs i) k).start) ≤ 2 ^ 35
+    fits : (k : ℕ) → k + 2 < length rs
+        → info_file_page
+        (get_run (joined_runs rs i) k).info + ((get_run (joined_runs rs i) (k + 1)).start - (get_run (joined_runs rs i) k).start) ≤ 2 ^ 35
     fits k l = ⊎_elim
         (λ (m : k < i). rw (low rs i h k (omega arith), low rs i h (k + 1) (omega arith)) (ok.fits k (omega arith)))
         (λ (m : i ≤ k). ⊎_elim
@@ -86,14 +89,18 @@ joined-IsRuns rs ok i h =
             let most = start_most rs ok (i + 1 + 1) (omega (arith, h.joint.next)) in
             let next = ok.fits (i + 1) (omega (arith, h.joint.next)) in
             let same = ap info_file_page h.joint.one.goes_on in
-            fits_before (get_run rs i).info ((get_run rs (i + 1)).start - (get_run rs i).start) ((get_run rs (i + 1 + 1)).start - (get_run rs i).start) (omega arith) (omega arith) (omega arith)
+            fits_before (get_run rs i).info ((get_run rs (i + 1)).start - (get_run rs i).start)
+            ((get_run rs (i + 1 + 1)).start - (get_run rs i).start) (omega arith) (omega arith) (omega arith)
 
-    alone : (k : ℕ) → k + 2 < length rs → is_leaf (get_run (joined_runs rs i) k).info ≡ true → (get_run (joined_runs rs i) (k + 1)).start ≡ (get_run (joined_runs rs i) k).start + 1
+    alone : (k : ℕ) → k + 2 < length rs → is_leaf (get_run (joined_runs rs i) k).info ≡ true
+        → (get_run (joined_runs rs i) (k + 1)).start ≡ (get_run (joined_runs rs i) k).start + 1
     alone k l leaf = ⊎_elim
-        (λ (m : k < i). rw (low rs i h k (omega arith), low rs i h (k + 1) (omega arith)) (ok.alone k (omega arith) (sym (ap (λ (r : Run). is_leaf r.info) (low rs i h k (omega arith))) ∙ leaf)))
+        (λ (m : k < i). rw (low rs i h k (omega arith), low rs i h (k + 1) (omega arith))
+        (ok.alone k (omega arith) (sym (ap (λ (r : Run). is_leaf r.info) (low rs i h k (omega arith))) ∙ leaf)))
         (λ (m : i ≤ k). ⊎_elim
         (λ (e : k ≡ i). absurd (clash (sym (ap (λ (r : Run). is_leaf r.info) (low rs i h k (omega arith) ∙ ap (get_run rs) e)) ∙ leaf)))
-        (λ (ne : k ≢ i). rw (high rs i h k (omega arith), high rs i h (k + 1) (omega arith)) (ok.alone (k + 1) (omega arith) (sym (ap (λ (r : Run). is_leaf r.info) (high rs i h k (omega arith))) ∙ leaf)))
+        (λ (ne : k ≢ i). rw (high rs i h k (omega arith), high rs i h (k + 1) (omega arith))
+        (ok.alone (k + 1) (omega arith) (sym (ap (λ (r : Run). is_leaf r.info) (high rs i h k (omega arith))) ∙ leaf)))
         (cases_eq k i))
         (cases_lt k i)
       where
@@ -107,7 +114,8 @@ joined-IsInside rs ok i h = record {
   below = rw (high rs i h (i + 1) (omega arith)) (ok.rising (i + 1) (omega (arith, h.joint.next)));
 }
 
-same_run : (r : Run) (start : ℕ) (owner : Option ℕ) (info : Option PageInfo) → start ≡ r.start → owner ≡ r.owner → info ≡ r.info → record { start = start; owner = owner; info = info } ≡ r
+same_run : (r : Run) (start : ℕ) (owner : Option ℕ) (info : Option PageInfo) → start ≡ r.start → owner ≡ r.owner → info ≡ r.info
+    → record { start = start; owner = owner; info = info } ≡ r
 same_run r start owner info a b c = λ j. record { start = a j; owner = b j; info = c j }
 
 -- a cut where they were joined gives the two runs back
@@ -131,7 +139,8 @@ cut_again rs ok i h = ext_get_or nobody _ rs lengths (λ k l. each k)
         (λ (e : k ≡ i + 1). ap (get_run (cut_runs (joined_runs rs i) i (get_run rs (i + 1)).start)) e ∙ (here _ i _ inside ∙ (tail ∙ ap (get_run rs) (sym e))))
         (λ (ne : k ≢ i + 1).
         let back : k - 1 + 1 ≡ k = omega arith in
-        ap (get_run (cut_runs (joined_runs rs i) i (get_run rs (i + 1)).start)) (sym back) ∙ (above _ i _ inside (k - 1) (omega arith) ∙ (high rs i h (k - 1) (omega arith) ∙ ap (get_run rs) back)))
+        ap (get_run (cut_runs (joined_runs rs i) i (get_run rs (i + 1)).start)) (sym back)
+        ∙ (above _ i _ inside (k - 1) (omega arith) ∙ (high rs i h (k - 1) (omega arith) ∙ ap (get_run rs) back)))
         (cases_eq k (i + 1)))
         (flip (cases_lt i k))
       where
@@ -152,7 +161,9 @@ slots_of-joined rs ok i h = same_slots _ _ (λ p. sym (ap (λ f. f p) divided.in
     edge : (p : ℕ) → (slots_of (joined_runs rs i)).edge p ≡ put (slots_of rs).edge (get_run rs (i + 1)).start false p
     edge p = ⊎_elim
         (λ (e : p ≡ (get_run rs (i + 1)).start). rw e (divided.was_inside ∙ sym (put_same (slots_of rs).edge (get_run rs (i + 1)).start false)))
-        (λ (ne : p ≢ (get_run rs (i + 1)).start). sym (cut_edge _ qs_ok i _ (joined-IsInside rs ok i h) p ne) ∙ (ap (λ qs. (slots_of qs).edge p) (cut_again rs ok i h) ∙ sym (put_other (slots_of rs).edge (get_run rs (i + 1)).start false p ne)))
+        (λ (ne : p ≢ (get_run rs (i + 1)).start). sym (cut_edge _ qs_ok i _ (joined-IsInside rs ok i h) p ne)
+        ∙ (ap (λ qs. (slots_of qs).edge p) (cut_again rs ok i h)
+        ∙ sym (put_other (slots_of rs).edge (get_run rs (i + 1)).start false p ne)))
         (cases_eq p (get_run rs (i + 1)).start)
 
 -- ---- which slots can be joined
@@ -166,10 +177,12 @@ next_info rs ok k h =
 page_info : (rs : List Run) → IsRuns rs → (page i : ℕ) → IsAt rs page i → (slots_of rs).info page ≡ info_from (get_run rs i).info (page - (get_run rs i).start)
 page_info rs ok page i at = ap (λ (r : Run). info_from r.info (page - r.start)) (run_at_is rs ok page i at)
 
-on_info : (rs : List Run) → IsRuns rs → (page i end : ℕ) → IsAt rs page i → page ≤ end → info_from ((slots_of rs).info page) (end - page) ≡ info_from (get_run rs i).info (end - (get_run rs i).start)
+on_info : (rs : List Run) → IsRuns rs → (page i end : ℕ) → IsAt rs page i → page ≤ end
+    → info_from ((slots_of rs).info page) (end - page) ≡ info_from (get_run rs i).info (end - (get_run rs i).start)
 on_info rs ok page i end at l =
     let n : page - (get_run rs i).start + (end - page) ≡ end - (get_run rs i).start = omega (arith, at.from) in
-    ap (λ o. info_from o (end - page)) (page_info rs ok page i at) ∙ (info_from_twice (get_run rs i).info (page - (get_run rs i).start) (end - page) ∙ ap (info_from (get_run rs i).info) n)
+    ap (λ o. info_from o (end - page)) (page_info rs ok page i at)
+    ∙ (info_from_twice (get_run rs i).info (page - (get_run rs i).start) (end - page) ∙ ap (info_from (get_run rs i).info) n)
 
 pub joint-CanJoin : (rs : List Run) → IsRuns rs → (page i : ℕ) → IsAt rs page i → IsJoint rs i → CanJoin (slots_of rs) page (get_run rs (i + 1)).start
 joint-CanJoin rs ok page i at h =
@@ -210,7 +223,10 @@ CanJoin-joint rs ok page i end valid at h =
         next_free = sym (owner_at rs ok _ (i + 1) next_at) ∙ (ap (slots_of rs).owner (sym same) ∙ h.next_free);
         no_leaf = sym (is_leaf-info_from (get_run rs i).info _) ∙ (sym (ap is_leaf (page_info rs ok page i at)) ∙ h.no_leaf);
         next_no_leaf = sym (ap is_leaf info) ∙ (ap (λ p. is_leaf ((slots_of rs).info p)) (sym same) ∙ h.next_no_leaf);
-        goes_on = sym info ∙ (ap (slots_of rs).info (sym same) ∙ (h.goes_on ∙ (on_info rs ok page i end at (omega (arith, h.above)) ∙ ap (λ n. info_from (get_run rs i).info (n - (get_run rs i).start)) same)));
+        goes_on = sym info
+            ∙ (ap (slots_of rs).info (sym same)
+            ∙ (h.goes_on ∙ (on_info rs ok page i end at (omega (arith, h.above))
+            ∙ ap (λ n. info_from (get_run rs i).info (n - (get_run rs i).start)) same)));
       };
     }
   where
@@ -227,14 +243,16 @@ could s laws page at low h =
     let back : page + (at - 1 - page) ≡ at - 1 = omega arith in
     let next : at - 1 - page + 1 ≡ at - page = omega arith in
     let owner : s.owner (at - 1) ≡ s.owner page = rw back at (owner_on s laws page at (at - 1 - page) low (omega arith) h.next (omega arith)) in
-    let info : s.info (at - 1) ≡ info_from (s.info page) (at - 1 - page) = rw back at (info_on s laws page at (at - 1 - page) low (omega arith) h.next (omega arith)) in
+    let info : s.info (at - 1) ≡ info_from (s.info page) (at - 1 - page) = rw back at
+    (info_on s laws page at (at - 1 - page) low (omega arith) h.next (omega arith)) in
     record {
       page = (omega arith, limit);
       free = owner ∙ h.free;
       next_free = h.next_free;
       no_leaf = ap is_leaf info ∙ (is_leaf-info_from (s.info page) _ ∙ h.no_leaf);
       next_no_leaf = h.next_no_leaf;
-      goes_on = h.goes_on ∙ (ap (info_from (s.info page)) (sym next) ∙ (sym (info_from_twice (s.info page) (at - 1 - page) 1) ∙ ap (λ o. info_from o 1) (sym info)));
+      goes_on = h.goes_on ∙ (ap (info_from (s.info page)) (sym next) ∙ (sym (info_from_twice (s.info page) (at - 1 - page) 1)
+          ∙ ap (λ o. info_from o 1) (sym info)));
     }
 
 pub Folds-Joins : (s t : Slots) → IsSlotMap s → (page : ℕ) → 1 ≤ page → Folds s t page → Joins s t

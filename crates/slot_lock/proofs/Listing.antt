@@ -13,7 +13,8 @@ use Rattle.slot_lock.proofs.Walks.{IsWalk, walk_first, walk_next, info_in, frame
 -- ---- one list after another
 
 -- pages without a frame before those of a list
-gap_before : (frame : ℕ → Option ℕ) (first m end : ℕ) (xs : List Framed) → first ≤ m → HasNone frame first m → ListsFrames frame m end xs → ListsFrames frame first end xs
+gap_before : (frame : ℕ → Option ℕ) (first m end : ℕ) (xs : List Framed) → first ≤ m → HasNone frame first m → ListsFrames frame m end xs
+    → ListsFrames frame first end xs
 gap_before frame first m end [] l gap h = λ p a b. ⊎_elim (λ (c : p < m). gap p a c) (λ (c : m ≤ p). h p c b) (cases_lt p m)
 gap_before frame first m end (x ∷ xs) l gap h = (
   omega (arith, h.0),
@@ -23,7 +24,8 @@ gap_before frame first m end (x ∷ xs) l gap h = (
   h.4,
 )
 
-lists_then : (frame : ℕ → Option ℕ) (first m end : ℕ) (xs ys : List Framed) → first ≤ m → m ≤ end → ListsFrames frame first m xs → ListsFrames frame m end ys → ListsFrames frame first end (xs ++ ys)
+lists_then : (frame : ℕ → Option ℕ) (first m end : ℕ) (xs ys : List Framed) → first ≤ m → m ≤ end → ListsFrames frame first m xs
+    → ListsFrames frame m end ys → ListsFrames frame first end (xs ++ ys)
 lists_then frame first m end [] ys l n h g = gap_before frame first m end ys l h g
 lists_then frame first m end (x ∷ xs) ys l n h g = (
   h.0,
@@ -34,7 +36,8 @@ lists_then frame first m end (x ∷ xs) ys l n h g = (
 )
 
 -- the same pages have the same frames
-pub lists_same : (frame other : ℕ → Option ℕ) (first end : ℕ) (xs : List Framed) → ((p : ℕ) → first ≤ p → p < end → frame p ≡ other p) → ListsFrames frame first end xs → ListsFrames other first end xs
+pub lists_same : (frame other : ℕ → Option ℕ) (first end : ℕ) (xs : List Framed) → ((p : ℕ) → first ≤ p → p < end → frame p ≡ other p)
+    → ListsFrames frame first end xs → ListsFrames other first end xs
 lists_same frame other first end [] same h = λ p a b. sym (same p a b) ∙ h p a b
 lists_same frame other first end (x ∷ xs) same h = (
   h.0,
@@ -53,14 +56,16 @@ adds_none frame first end xs none = ([], sym (nil xs), none)
     nil [] = refl
     nil (x ∷ xs) = ap (λ ys. x ∷ ys) (nil xs)
 
-pub adds_one : (frame : ℕ → Option ℕ) (page f : ℕ) (xs : List Framed) → frame page ≡ Some f → AddsFrames frame page (page + 1) xs (xs ++ (record { page = page; frame = f }) ∷ [])
+pub adds_one : (frame : ℕ → Option ℕ) (page f : ℕ) (xs : List Framed) → frame page ≡ Some f
+    → AddsFrames frame page (page + 1) xs (xs ++ (record { page = page; frame = f }) ∷ [])
 adds_one frame page f xs had = (
   (record { page = page; frame = f }) ∷ [],
   refl,
   (omega arith, omega arith, λ p a b. absurd (omega (arith, a, b)), had, λ p a b. absurd (omega (arith, a, b))),
 )
 
-pub adds_then : (frame : ℕ → Option ℕ) (first m end : ℕ) (xs ys zs : List Framed) → first ≤ m → m ≤ end → AddsFrames frame first m xs ys → AddsFrames frame m end ys zs → AddsFrames frame first end xs zs
+pub adds_then : (frame : ℕ → Option ℕ) (first m end : ℕ) (xs ys zs : List Framed) → first ≤ m → m ≤ end → AddsFrames frame first m xs ys
+    → AddsFrames frame m end ys zs → AddsFrames frame first end xs zs
 adds_then frame first m end xs ys zs l n h g = (
   h.0 ++ g.0,
   g.1 ∙ ap (λ vs. vs ++ g.0) h.1 ∙ join xs h.0 g.0,
@@ -71,7 +76,8 @@ adds_then frame first m end xs ys zs l n h g = (
     join [] ys zs = refl
     join (x ∷ xs) ys zs = ap (λ vs. x ∷ vs) (join xs ys zs)
 
-pub adds_same : (frame other : ℕ → Option ℕ) (first end : ℕ) (xs ys : List Framed) → ((p : ℕ) → first ≤ p → p < end → frame p ≡ other p) → AddsFrames frame first end xs ys → AddsFrames other first end xs ys
+pub adds_same : (frame other : ℕ → Option ℕ) (first end : ℕ) (xs ys : List Framed) → ((p : ℕ) → first ≤ p → p < end → frame p ≡ other p)
+    → AddsFrames frame first end xs ys → AddsFrames other first end xs ys
 adds_same frame other first end xs ys same h = (h.0, h.1, lists_same frame other first end h.0 same h.2)
 
 -- ---- the runs of a range
@@ -95,14 +101,17 @@ list_first rs first end i old l at = record {
   adds = adds_none _ _ _ old (λ p a b. absurd (omega (arith, a, b, at.from)));
 }
 
-pub list_none : (rs : List Run) → IsRuns rs → (first end i : ℕ) (old new : List Framed) → first ≤ end → ListsTo rs first end i old new → i + 1 < length rs → frame_of (get_run rs i).info ≡ None → ListsTo rs first end (i + 1) old new
+pub list_none : (rs : List Run) → IsRuns rs → (first end i : ℕ) (old new : List Framed) → first ≤ end → ListsTo rs first end i old new
+    → i + 1 < length rs → frame_of (get_run rs i).info ≡ None → ListsTo rs first end (i + 1) old new
 list_none rs ok first end i old new l h more none =
     let up = ok.rising i more in
     let after = h.walk.after more in
     record {
       walk = walk_next rs ok first i h.walk more;
-      adds = adds_then _ first (reach first end (get_run rs i).start) (reach first end (get_run rs (i + 1)).start) old new new (omega arith) (omega arith) h.adds
-          (adds_none _ _ _ new (λ p a b. ap frame_of (info_in rs ok i p more (omega arith) (omega arith)) ∙ (frame_of-from (get_run rs i).info (p - (get_run rs i).start) ∙ none)));
+      adds = adds_then _ first (reach first end (get_run rs i).start) (reach first end (get_run rs (i + 1)).start) old new new
+          (omega arith) (omega arith) h.adds
+          (adds_none _ _ _ new (λ p a b. ap frame_of (info_in rs ok i p more (omega arith) (omega arith))
+          ∙ (frame_of-from (get_run rs i).info (p - (get_run rs i).start) ∙ none)));
     }
 
 -- a run with a frame is one page of the range
@@ -112,7 +121,8 @@ pub record IsOne (rs : List Run) (first end i f : ℕ) : Type 0 where
   pub next : (get_run rs (i + 1)).start ≡ (get_run rs i).start + 1
   pub had : frames_in (slots_of rs) (get_run rs i).start ≡ Some f
 
-pub is_one : (rs : List Run) → IsRuns rs → (first end i f : ℕ) → IsWalk rs first i → i + 1 < length rs → (get_run rs i).start < end → frame_of (get_run rs i).info ≡ Some f → IsOne rs first end i f
+pub is_one : (rs : List Run) → IsRuns rs → (first end i f : ℕ) → IsWalk rs first i → i + 1 < length rs → (get_run rs i).start < end
+    → frame_of (get_run rs i).info ≡ Some f → IsOne rs first end i f
 is_one rs ok first end i f walk more high had =
     let next = ok.alone i more (framed_leaf (get_run rs i).info f had) in
     let after = walk.after more in
@@ -124,7 +134,8 @@ is_one rs ok first end i f walk more high had =
       had = ap frame_of (info_in rs ok i (get_run rs i).start more (omega arith) (omega arith)) ∙ (frame_of-from (get_run rs i).info _ ∙ had);
     }
 
-pub list_one : (rs : List Run) → IsRuns rs → (first end i f : ℕ) (old new : List Framed) → ListsTo rs first end i old new → i + 1 < length rs → (get_run rs i).start < end → IsOne rs first end i f
+pub list_one : (rs : List Run) → IsRuns rs → (first end i f : ℕ) (old new : List Framed) → ListsTo rs first end i old new
+    → i + 1 < length rs → (get_run rs i).start < end → IsOne rs first end i f
     → ListsTo rs first end (i + 1) old (new ++ (record { page = (get_run rs i).start; frame = f }) ∷ [])
 list_one rs ok first end i f old new h more high one =
     let low = one.low in
@@ -138,5 +149,7 @@ list_one rs ok first end i f old new h more high one =
           (adds_one _ (get_run rs i).start f new one.had));
     }
 
-pub list_all : (rs : List Run) (first end i : ℕ) (old new : List Framed) → first ≤ end → ListsTo rs first end i old new → end ≤ (get_run rs i).start → AddsFrames (frames_in (slots_of rs)) first end old new
-list_all rs first end i old new l h past = let to : reach first end (get_run rs i).start ≡ end = omega arith in subst (λ n. AddsFrames (frames_in (slots_of rs)) first n old new) to h.adds
+pub list_all : (rs : List Run) (first end i : ℕ) (old new : List Framed) → first ≤ end → ListsTo rs first end i old new
+    → end ≤ (get_run rs i).start → AddsFrames (frames_in (slots_of rs)) first end old new
+list_all rs first end i old new l h past = let to : reach first end (get_run rs i).start ≡ end = omega arith in
+    subst (λ n. AddsFrames (frames_in (slots_of rs)) first n old new) to h.adds

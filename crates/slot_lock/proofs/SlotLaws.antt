@@ -9,19 +9,24 @@ use Rattle.slot_lock.specs.RunLaws.{info_from_zero, info_from_twice}
 use Rattle.slot_lock.proofs.Walks.{frame_of-from}
 
 -- pages among which no slot begins after the first have one owner
-pub owner_on : (s : Slots) → IsSlotMap s → (a b n : ℕ) → 1 ≤ a → b ≤ 2 ^ 35 → ((p : ℕ) → a < p → p < b → s.edge p ≡ false) → a + n < b → s.owner (a + n) ≡ s.owner a
+pub owner_on : (s : Slots) → IsSlotMap s → (a b n : ℕ) → 1 ≤ a → b ≤ 2 ^ 35 → ((p : ℕ) → a < p → p < b → s.edge p ≡ false) → a + n < b
+    → s.owner (a + n) ≡ s.owner a
 owner_on s laws a b zero l h inside m = rw add-zero refl
 owner_on s laws a b (suc n) l h inside m =
     let same : a + suc n ≡ a + n + 1 = omega arith in
-    rw same (laws.same_owner (a + n) (omega arith, omega arith) (inside (a + n + 1) (omega arith) (omega arith)) ∙ owner_on s laws a b n l h inside (omega arith))
+    rw same (laws.same_owner (a + n) (omega arith, omega arith) (inside (a + n + 1) (omega arith) (omega arith))
+    ∙ owner_on s laws a b n l h inside (omega arith))
 
 -- and their mapping goes on from the first's
-pub info_on : (s : Slots) → IsSlotMap s → (a b n : ℕ) → 1 ≤ a → b ≤ 2 ^ 35 → ((p : ℕ) → a < p → p < b → s.edge p ≡ false) → a + n < b → s.info (a + n) ≡ info_from (s.info a) n
+pub info_on : (s : Slots) → IsSlotMap s → (a b n : ℕ) → 1 ≤ a → b ≤ 2 ^ 35 → ((p : ℕ) → a < p → p < b → s.edge p ≡ false) → a + n < b
+    → s.info (a + n) ≡ info_from (s.info a) n
 info_on s laws a b zero l h inside m = rw add-zero (sym (info_from_zero (s.info a)))
 info_on s laws a b (suc n) l h inside m =
     let same : a + suc n ≡ a + n + 1 = omega arith in
     let more : n + 1 ≡ suc n = omega arith in
-    rw same (laws.goes_on (a + n) (omega arith, omega arith) (inside (a + n + 1) (omega arith) (omega arith)) ∙ (ap (λ o. info_from o 1) (info_on s laws a b n l h inside (omega arith)) ∙ (info_from_twice (s.info a) n 1 ∙ ap (info_from (s.info a)) more)))
+    rw same (laws.goes_on (a + n) (omega arith, omega arith) (inside (a + n + 1) (omega arith) (omega arith))
+    ∙ (ap (λ o. info_from o 1) (info_on s laws a b n l h inside (omega arith))
+    ∙ (info_from_twice (s.info a) n 1 ∙ ap (info_from (s.info a)) more)))
 
 -- a page that a core holds is a page
 pub held_page : (s : Slots) → IsSlotMap s → (p core : ℕ) → s.owner p ≡ Some core → IsPage p
@@ -33,7 +38,8 @@ held_page s laws p core own = (
     never : (¬ IsPage p) → ⊥
     never h = let none = laws.free p h in cc
 
-pub slot-IsHeld : (s : Slots) → IsSlotMap s → (core : ℕ) (range : PageRange) → IsPageRange range → IsSlot s range.first range.end → s.owner range.first ≡ Some core → IsHeld s core range
+pub slot-IsHeld : (s : Slots) → IsSlotMap s → (core : ℕ) (range : PageRange) → IsPageRange range → IsSlot s range.first range.end
+    → s.owner range.first ≡ Some core → IsHeld s core range
 slot-IsHeld s laws core range pages slot own = record {
   pages = pages;
   cut = record { begins = slot.begins; ends = slot.ends };
@@ -42,9 +48,11 @@ slot-IsHeld s laws core range pages slot own = record {
       rw same at (owner_on s laws range.first range.end (p - range.first) pages.low pages.high slot.inside (omega arith)) ∙ own;
 }
 
-pub slot-NoFrames : (s : Slots) → IsSlotMap s → (range : PageRange) → IsPageRange range → IsSlot s range.first range.end → frame_of (s.info range.first) ≡ None → NoFrames s range.first range.end
+pub slot-NoFrames : (s : Slots) → IsSlotMap s → (range : PageRange) → IsPageRange range → IsSlot s range.first range.end
+    → frame_of (s.info range.first) ≡ None → NoFrames s range.first range.end
 slot-NoFrames s laws range pages slot none = record {
   none = λ p a b.
       let same : range.first + (p - range.first) ≡ p = omega arith in
-      rw same at (ap frame_of (info_on s laws range.first range.end (p - range.first) pages.low pages.high slot.inside (omega arith))) ∙ (frame_of-from (s.info range.first) (p - range.first) ∙ none);
+      rw same at (ap frame_of (info_on s laws range.first range.end (p - range.first) pages.low pages.high slot.inside (omega arith)))
+      ∙ (frame_of-from (s.info range.first) (p - range.first) ∙ none);
 }

@@ -22,13 +22,17 @@ slot_by_edge s a b e slot edge l = ⊎_elim (λ (m : e < b). absurd (two (slot.i
     two h = cc
 
 -- each page of a run has its owner
-pub owner_in : (rs : List Run) → IsRuns rs → (i p : ℕ) → i < length rs → (get_run rs i).start ≤ p → p < (get_run rs (i + 1)).start → (slots_of rs).owner p ≡ (get_run rs i).owner
+pub owner_in : (rs : List Run) → IsRuns rs → (i p : ℕ) → i < length rs → (get_run rs i).start ≤ p → p < (get_run rs (i + 1)).start
+    → (slots_of rs).owner p ≡ (get_run rs i).owner
 owner_in rs ok i p h a b = ap (λ (r : Run). r.owner) (run_at_is rs ok p i (record { within = h; from = a; until = λ _. b }))
 
-pub slot_from : (rs : List Run) → IsRuns rs → (i cursor : ℕ) → i + 1 < length rs → (get_run rs i).start ≡ cursor → IsSlot (slots_of rs) cursor (get_run rs (i + 1)).start
+pub slot_from : (rs : List Run) → IsRuns rs → (i cursor : ℕ) → i + 1 < length rs → (get_run rs i).start ≡ cursor
+    → IsSlot (slots_of rs) cursor (get_run rs (i + 1)).start
 slot_from rs ok i cursor h e = rw e at (is_slot rs ok i h)
 
-pub locks : (rs qs : List Run) → IsRuns rs → (i core cursor end : ℕ) → i + 1 < length rs → (get_run rs i).start ≡ cursor → (get_run rs i).owner ≡ None → (get_run rs (i + 1)).start ≤ end → slots_of qs ≡ with_owner (slots_of rs) (get_run rs i).start (get_run rs (i + 1)).start (Some core) → Locks (slots_of rs) (slots_of qs) core cursor end (get_run rs (i + 1)).start
+pub locks : (rs qs : List Run) → IsRuns rs → (i core cursor end : ℕ) → i + 1 < length rs → (get_run rs i).start ≡ cursor
+    → (get_run rs i).owner ≡ None → (get_run rs (i + 1)).start ≤ end → slots_of qs ≡ with_owner (slots_of rs) (get_run rs i).start
+    (get_run rs (i + 1)).start (Some core) → Locks (slots_of rs) (slots_of qs) core cursor end (get_run rs (i + 1)).start
 locks rs qs ok i core cursor end h e free by_end now = record {
   slot = slot_from rs ok i cursor h e;
   by_end = by_end;
@@ -36,7 +40,9 @@ locks rs qs ok i core cursor end h e free by_end now = record {
   now = now ∙ ap (λ n. with_owner (slots_of rs) n (get_run rs (i + 1)).start (Some core)) e;
 }
 
-pub unlocks : (rs qs : List Run) → IsRuns rs → (i core cursor end : ℕ) → i + 1 < length rs → (get_run rs i).start ≡ cursor → IsSlotBy (slots_of rs) cursor end → (slots_of rs).owner cursor ≡ Some core → slots_of qs ≡ with_owner (slots_of rs) (get_run rs i).start (get_run rs (i + 1)).start None → Unlocks (slots_of rs) (slots_of qs) core cursor end (get_run rs (i + 1)).start
+pub unlocks : (rs qs : List Run) → IsRuns rs → (i core cursor end : ℕ) → i + 1 < length rs → (get_run rs i).start ≡ cursor
+    → IsSlotBy (slots_of rs) cursor end → (slots_of rs).owner cursor ≡ Some core → slots_of qs ≡ with_owner (slots_of rs)
+    (get_run rs i).start (get_run rs (i + 1)).start None → Unlocks (slots_of rs) (slots_of qs) core cursor end (get_run rs (i + 1)).start
 unlocks rs qs ok i core cursor end h e by held now =
     let slot = slot_from rs ok i cursor h e in
     let own = owner_in rs ok i cursor (omega arith) (omega arith) (let r = ok.rising i h in omega arith) in
@@ -48,7 +54,8 @@ unlocks rs qs ok i core cursor end h e by held now =
     }
 
 -- the slot of the cursor reaches past the end
-pub crosses_end : (rs : List Run) → IsRuns rs → (i cursor end : ℕ) → i + 1 < length rs → (get_run rs i).start ≡ cursor → end < (get_run rs (i + 1)).start → Crosses (slots_of rs) cursor end
+pub crosses_end : (rs : List Run) → IsRuns rs → (i cursor end : ℕ) → i + 1 < length rs → (get_run rs i).start ≡ cursor
+    → end < (get_run rs (i + 1)).start → Crosses (slots_of rs) cursor end
 crosses_end rs ok i cursor end h e l = inr (λ p a b. (slot_from rs ok i cursor h e).inside p a (omega arith))
 
 pub first_slot : (rs : List Run) → IsRuns rs → (i cursor : ℕ) → IsAt rs cursor i → (slots_of rs).edge cursor ≡ true → (get_run rs i).start ≡ cursor
@@ -56,7 +63,11 @@ first_slot rs ok i cursor at edge = sym (ap (λ (r : Run). r.start) (run_at_is r
 
 -- the runs of a new list
 abbrev pub new_runs : List Run
-new_runs = record { start = 0; owner = None; info = None } ∷ record { start = 1; owner = None; info = None } ∷ record { start = 2 ^ 35; owner = None; info = None } ∷ []
+new_runs = record { start = 0; owner = None; info = None } ∷ record { start = 1; owner = None; info = None } ∷ record {
+  start = 2 ^ 35;
+  owner = None;
+  info = None;
+} ∷ []
 
 -- nothing is in any of these runs
 empty_at : (k : ℕ) → ((get_run new_runs k).info ≡ None) × ((get_run new_runs k).owner ≡ None)
@@ -117,7 +128,8 @@ owner_at rs ok p i at = ap (λ (r : Run). r.owner) (run_at_is rs ok p i at)
 
 -- the run of a page that begins no run has the page before it too
 pub owner_before : (rs : List Run) → IsRuns rs → (j e : ℕ) → IsAt rs e j → (get_run rs j).start < e → (slots_of rs).owner (e - 1) ≡ (get_run rs j).owner
-owner_before rs ok j e at l = ap (λ (r : Run). r.owner) (run_at_is rs ok (e - 1) j (record { within = at.within; from = omega arith; until = λ n. let u = at.until n in omega arith }))
+owner_before rs ok j e at l = ap (λ (r : Run). r.owner)
+    (run_at_is rs ok (e - 1) j (record { within = at.within; from = omega arith; until = λ n. let u = at.until n in omega arith }))
 
 pub edge_of : (rs : List Run) → IsRuns rs → (j e : ℕ) → IsAt rs e j → e ≤ (get_run rs j).start → (slots_of rs).edge e ≡ true
 edge_of rs ok j e at l =
@@ -125,7 +137,8 @@ edge_of rs ok j e at l =
     rw same at (edge_at rs ok j at.within)
 
 -- a slot of one page
-pub one_page : (rs : List Run) → IsRuns rs → (j p : ℕ) → IsAt rs p j → IsSlot (slots_of rs) p (p + 1) → p < 2 ^ 35 → ((get_run rs j).start ≡ p) × ((get_run rs (j + 1)).start ≡ p + 1)
+pub one_page : (rs : List Run) → IsRuns rs → (j p : ℕ) → IsAt rs p j → IsSlot (slots_of rs) p (p + 1) → p < 2 ^ 35
+    → ((get_run rs j).start ≡ p) × ((get_run rs (j + 1)).start ≡ p + 1)
 one_page rs ok j p at slot valid =
     let last = before_last rs ok p j at valid in
     let first = first_slot rs ok j p at slot.begins in

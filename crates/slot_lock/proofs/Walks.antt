@@ -51,7 +51,8 @@ walk_next rs ok first i w h = record {
 }
 
 -- what each page of a run has
-pub info_in : (rs : List Run) → IsRuns rs → (i p : ℕ) → i + 1 < length rs → (get_run rs i).start ≤ p → p < (get_run rs (i + 1)).start → (slots_of rs).info p ≡ info_from (get_run rs i).info (p - (get_run rs i).start)
+pub info_in : (rs : List Run) → IsRuns rs → (i p : ℕ) → i + 1 < length rs → (get_run rs i).start ≤ p → p < (get_run rs (i + 1)).start
+    → (slots_of rs).info p ≡ info_from (get_run rs i).info (p - (get_run rs i).start)
 info_in rs ok i p h a b = ap (λ (r : Run). info_from r.info (p - r.start)) (run_at_is rs ok p i (record { within = omega arith; from = a; until = λ _. b }))
 
 -- a page of the run, from the first page on
@@ -64,7 +65,13 @@ pub record PageIn (rs : List Run) (first i : ℕ) : Type 0 where
 
 pub page_in : (rs : List Run) → IsRuns rs → (first i : ℕ) → IsWalk rs first i → i + 1 < length rs → PageIn rs first i
 page_in rs ok first i w h = ⊎_elim
-    (λ (l : first < (get_run rs i).start). record { page = (get_run rs i).start; low = omega arith; from = omega arith; until = ok.rising i h; least = inr refl })
+    (λ (l : first < (get_run rs i).start). record {
+      page = (get_run rs i).start;
+      low = omega arith;
+      from = omega arith;
+      until = ok.rising i h;
+      least = inr refl;
+    })
     (λ (l : (get_run rs i).start ≤ first). record { page = first; low = omega arith; from = l; until = w.after h; least = inl refl })
     (cases_lt first (get_run rs i).start)
 
@@ -78,7 +85,8 @@ pub record Seen (rs : List Run) (Q : Option PageInfo → Type 0) (first i : ℕ)
 pub seen_first : (rs : List Run) (Q : Option PageInfo → Type 0) (first i : ℕ) → IsAt rs first i → Seen rs Q first i
 seen_first rs Q first i at = record { walk = walk_first rs first i at; seen = λ p a b. absurd (omega (arith, at.from)) }
 
-pub seen_next : (rs : List Run) → IsRuns rs → (Q : Option PageInfo → Type 0) (first i : ℕ) → Seen rs Q first i → i + 1 < length rs → ((n : ℕ) → Q (info_from (get_run rs i).info n)) → Seen rs Q first (i + 1)
+pub seen_next : (rs : List Run) → IsRuns rs → (Q : Option PageInfo → Type 0) (first i : ℕ) → Seen rs Q first i → i + 1 < length rs
+    → ((n : ℕ) → Q (info_from (get_run rs i).info n)) → Seen rs Q first (i + 1)
 seen_next rs ok Q first i s h q = record {
   walk = walk_next rs ok first i s.walk h;
   seen = λ p a b. ⊎_elim
@@ -99,7 +107,8 @@ all_seen rs range i s l p h = let b = has_in range p h in s.seen p b.0 (omega (a
 pub none_seen : (rs : List Run) (from end i : ℕ) → Seen rs HasNoFrame from i → end ≤ (get_run rs i).start → NoFrames (slots_of rs) from end
 none_seen rs from end i s l = record { none = λ p a b. s.seen p a (omega arith) }
 
-pub some_unmapped : (rs : List Run) → IsRuns rs → (range : PageRange) (i : ℕ) → IsWalk rs range.first i → i + 1 < length rs → range.first < range.end → (get_run rs i).start < range.end → is_some (get_run rs i).info ≡ false → ¬ AllMapped (slots_of rs) range
+pub some_unmapped : (rs : List Run) → IsRuns rs → (range : PageRange) (i : ℕ) → IsWalk rs range.first i → i + 1 < length rs
+    → range.first < range.end → (get_run rs i).start < range.end → is_some (get_run rs i).info ≡ false → ¬ AllMapped (slots_of rs) range
 some_unmapped rs ok range i w h some l none all = go (page_in rs ok range.first i w h)
   where
     two : (b : Bool) → b ≡ false → b ≡ true → ⊥
@@ -108,7 +117,8 @@ some_unmapped rs ok range i w h some l none all = go (page_in rs ok range.first 
     go : PageIn rs range.first i → ⊥
     go q =
         let below : q.page < range.end = ⊎_elim (λ (e : q.page ≡ range.first). omega arith) (λ (e : q.page ≡ (get_run rs i).start). omega arith) q.least in
-        two _ (ap is_some (info_in rs ok i q.page h q.from q.until) ∙ (is_some-from (get_run rs i).info _ ∙ none)) (all q.page (in_has range q.page q.low below))
+        two _ (ap is_some (info_in rs ok i q.page h q.from q.until) ∙ (is_some-from (get_run rs i).info _ ∙ none))
+        (all q.page (in_has range q.page q.low below))
 
 -- ---- the cores of the pages
 
@@ -155,7 +165,8 @@ users_next rs ok range cores more i some u h l joined = record {
           is = ap (λ o. is_recorded o core) (info_in rs ok i q.page h q.from q.until) ∙ (is_recorded-from (get_run rs i).info _ core ∙ e);
         }
 
-    only : (core : ℕ) (b : Bool) → members cores core ≡ b → members cores core || is_recorded (get_run rs i).info core ≡ true → UserBelow (slots_of rs) range (get_run rs (i + 1)).start core
+    only : (core : ℕ) (b : Bool) → members cores core ≡ b → members cores core || is_recorded (get_run rs i).info core ≡ true
+        → UserBelow (slots_of rs) range (get_run rs (i + 1)).start core
     only core true e m = older core (u.only core e)
     only core false e m = newer core (page_in rs ok range.first i u.walk h) (sym (ap (λ b. b || is_recorded (get_run rs i).info core) e) ∙ m)
 
@@ -169,7 +180,9 @@ users_next rs ok range cores more i some u h l joined = record {
     all : (core : ℕ) → UserBelow (slots_of rs) range (get_run rs (i + 1)).start core → members cores core || is_recorded (get_run rs i).info core ≡ true
     all core v = ⊎_elim
         (λ (below : v.page < (get_run rs i).start). either_left _ _ (u.all core (record { page = v.page; here = v.here; below = below; is = v.is })))
-        (λ (from : (get_run rs i).start ≤ v.page). either_right (members cores core) _ (sym (is_recorded-from (get_run rs i).info (v.page - (get_run rs i).start) core) ∙ (sym (ap (λ o. is_recorded o core) (info_in rs ok i v.page h from v.below)) ∙ v.is)))
+        (λ (from : (get_run rs i).start ≤ v.page). either_right (members cores core) _
+        (sym (is_recorded-from (get_run rs i).info (v.page - (get_run rs i).start) core)
+        ∙ (sym (ap (λ o. is_recorded o core) (info_in rs ok i v.page h from v.below)) ∙ v.is)))
         (cases_lt v.page (get_run rs i).start)
 
 pub users_all : (rs : List Run) (range : PageRange) (cores i : ℕ) → Users rs range cores i → range.end ≤ (get_run rs i).start → (core : ℕ) → (members cores core ≡ true) ↔ IsUser (slots_of rs) range core
@@ -202,7 +215,8 @@ free_first rs range n i some order at = record {
   least = λ r l run. omega (arith, run.low);
 }
 
-pub free_mapped : (rs : List Run) → IsRuns rs → (range : PageRange) (n start i : ℕ) → 1 ≤ n → Free rs range n start i → i + 1 < length rs → (get_run rs i).start < range.end → is_some (get_run rs i).info ≡ true → Free rs range n (get_run rs (i + 1)).start (i + 1)
+pub free_mapped : (rs : List Run) → IsRuns rs → (range : PageRange) (n start i : ℕ) → 1 ≤ n → Free rs range n start i → i + 1 < length rs
+    → (get_run rs i).start < range.end → is_some (get_run rs i).info ≡ true → Free rs range n (get_run rs (i + 1)).start (i + 1)
 free_mapped rs ok range n start i some f h l mapped = record {
   walk = walk_next rs ok range.first i f.walk h;
   low = let a = f.walk.after h in omega arith;
@@ -220,24 +234,28 @@ free_mapped rs ok range n start i some f h l mapped = record {
 
     clash : (r : ℕ) → start ≤ r → r < (get_run rs (i + 1)).start → IsFreeRun (slots_of rs) range n r → ⊥
     clash r late m run = ⊎_elim
-        (λ (a : r < (get_run rs i).start). taken (get_run rs i).start (omega arith) (ok.rising i h) (run.free (get_run rs i).start (omega arith) (omega (arith, f.short))))
+        (λ (a : r < (get_run rs i).start). taken (get_run rs i).start (omega arith) (ok.rising i h)
+        (run.free (get_run rs i).start (omega arith) (omega (arith, f.short))))
         (λ (a : (get_run rs i).start ≤ r). taken r a m (run.free r (omega arith) (omega arith)))
         (cases_lt r (get_run rs i).start)
 
-unmapped_in : (rs : List Run) → IsRuns rs → (i p : ℕ) → i + 1 < length rs → (get_run rs i).start ≤ p → p < (get_run rs (i + 1)).start → is_some (get_run rs i).info ≡ false → (slots_of rs).info p ≡ None
+unmapped_in : (rs : List Run) → IsRuns rs → (i p : ℕ) → i + 1 < length rs → (get_run rs i).start ≤ p → p < (get_run rs (i + 1)).start
+    → is_some (get_run rs i).info ≡ false → (slots_of rs).info p ≡ None
 unmapped_in rs ok i p h a b e = info_in rs ok i p h a b ∙ none_from (get_run rs i).info (p - (get_run rs i).start) e
   where
     none_from : (o : Option PageInfo) (m : ℕ) → is_some o ≡ false → info_from o m ≡ None
     none_from None m e = refl
     none_from (Some info) m e = cc
 
-free_on : (rs : List Run) → IsRuns rs → (range : PageRange) (n start i : ℕ) → Free rs range n start i → i + 1 < length rs → is_some (get_run rs i).info ≡ false → (p : ℕ) → start ≤ p → p < (get_run rs (i + 1)).start → (slots_of rs).info p ≡ None
+free_on : (rs : List Run) → IsRuns rs → (range : PageRange) (n start i : ℕ) → Free rs range n start i → i + 1 < length rs
+    → is_some (get_run rs i).info ≡ false → (p : ℕ) → start ≤ p → p < (get_run rs (i + 1)).start → (slots_of rs).info p ≡ None
 free_on rs ok range n start i f h e p a b = ⊎_elim
     (λ (l : p < (get_run rs i).start). f.free p a l)
     (λ (l : (get_run rs i).start ≤ p). unmapped_in rs ok i p h l b e)
     (cases_lt p (get_run rs i).start)
 
-pub free_next : (rs : List Run) → IsRuns rs → (range : PageRange) (n start i : ℕ) → Free rs range n start i → i + 1 < length rs → is_some (get_run rs i).info ≡ false → min (get_run rs (i + 1)).start range.end - start < n → Free rs range n start (i + 1)
+pub free_next : (rs : List Run) → IsRuns rs → (range : PageRange) (n start i : ℕ) → Free rs range n start i → i + 1 < length rs
+    → is_some (get_run rs i).info ≡ false → min (get_run rs (i + 1)).start range.end - start < n → Free rs range n start (i + 1)
 free_next rs ok range n start i f h e few = record {
   walk = walk_next rs ok range.first i f.walk h;
   low = f.low;
@@ -247,19 +265,22 @@ free_next rs ok range n start i f h e few = record {
   least = f.least;
 }
 
-pub free_found : (rs : List Run) → IsRuns rs → (range : PageRange) (n start i : ℕ) → 1 ≤ n → Free rs range n start i → i + 1 < length rs → is_some (get_run rs i).info ≡ false → n ≤ min (get_run rs (i + 1)).start range.end - start → IsFreeRun (slots_of rs) range n start
+pub free_found : (rs : List Run) → IsRuns rs → (range : PageRange) (n start i : ℕ) → 1 ≤ n → Free rs range n start i → i + 1 < length rs
+    → is_some (get_run rs i).info ≡ false → n ≤ min (get_run rs (i + 1)).start range.end - start → IsFreeRun (slots_of rs) range n start
 free_found rs ok range n start i some f h e enough = record {
   low = f.low;
   high = omega arith;
   free = λ p a b. free_on rs ok range n start i f h e p a (omega arith);
 }
 
-pub free_none : (rs : List Run) (range : PageRange) (n start i : ℕ) → Free rs range n start i → range.end ≤ (get_run rs i).start → (r : ℕ) → ¬ IsFreeRun (slots_of rs) range n r
+pub free_none : (rs : List Run) (range : PageRange) (n start i : ℕ) → Free rs range n start i → range.end ≤ (get_run rs i).start → (r : ℕ)
+    → ¬ IsFreeRun (slots_of rs) range n r
 free_none rs range n start i f l r run = ⊎_elim
     (λ (a : r < start). f.least r a run)
     (λ (a : start ≤ r). omega (arith, f.short, run.high))
     (cases_lt r start)
 
 -- the start is in reach
-pub start_by : (rs : List Run) → IsRuns rs → (range : PageRange) (n start i : ℕ) → range.first < range.end → Free rs range n start i → i + 1 < length rs → (get_run rs i).start < range.end → start ≤ min (get_run rs (i + 1)).start range.end
+pub start_by : (rs : List Run) → IsRuns rs → (range : PageRange) (n start i : ℕ) → range.first < range.end → Free rs range n start i
+    → i + 1 < length rs → (get_run rs i).start < range.end → start ≤ min (get_run rs (i + 1)).start range.end
 start_by rs ok range n start i order f h l = let a = f.walk.after h in let r = ok.rising i h in omega (arith, f.by)

@@ -104,4 +104,5 @@ rest_of (Some r) = Some (one_range r)
 
 -- the pages from b on, once those up to b of the first range are let go, if there are some
 abbrev pub after : Footprint → ℕ → Option Footprint
-after fp b = if b == fp.first.end then rest_of fp.second else Some (record { first = between b fp.first.end; second = fp.second })
+after fp b = if b == fp.first.end then rest_of fp.second else Some
+    (record { first = between b fp.first.end; second = fp.second })

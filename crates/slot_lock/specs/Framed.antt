@@ -16,7 +16,8 @@ HasNone frame first end = (p : ℕ) → first ≤ p → p < end → frame p ≡ 
 abbrev pub ListsFrames : (ℕ → Option ℕ) → ℕ → ℕ → List Framed → Type 0
 ListsFrames frame first end [] = HasNone frame first end
 ListsFrames frame first end (x ∷ xs) =
-    (first ≤ x.page) × (x.page < end) × HasNone frame first x.page × (frame x.page ≡ Some x.frame) × ListsFrames frame (x.page + 1) end xs
+    (first ≤ x.page) × (x.page < end) × HasNone frame first x.page × (frame x.page ≡ Some x.frame)
+    × ListsFrames frame (x.page + 1) end xs
 
 -- they were added at the end of a list
 abbrev pub AddsFrames : (ℕ → Option ℕ) → ℕ → ℕ → List Framed → List Framed → Type 0

@@ -10,7 +10,8 @@ use Rattle.slot_lock.specs.declared.run.Run.{Run}
 use Rattle.slot_lock.specs.Runs.{nobody, get_run, begins_by, place_of, run_at, IsAt, IsRuns}
 
 -- starts rise
-pub starts_rise : (rs : List Run) → IsRuns rs → (i k : ℕ) → i + k < length rs → (get_run rs i).start ≤ (get_run rs (i + k)).start
+pub starts_rise : (rs : List Run) → IsRuns rs → (i k : ℕ) → i + k < length rs
+    → (get_run rs i).start ≤ (get_run rs (i + k)).start
 starts_rise rs ok i zero h = rw add-zero (omega arith)
 starts_rise rs ok i (suc k) h =
     let before : (get_run rs i).start ≤ (get_run rs (i + k)).start = starts_rise rs ok i k (omega arith) in
@@ -18,7 +19,8 @@ starts_rise rs ok i (suc k) h =
     let same : i + suc k ≡ i + k + 1 = omega arith in
     rw same (omega arith)
 
-pub starts_rise_to : (rs : List Run) → IsRuns rs → (i j : ℕ) → i ≤ j → j < length rs → (get_run rs i).start ≤ (get_run rs j).start
+pub starts_rise_to : (rs : List Run) → IsRuns rs → (i j : ℕ) → i ≤ j → j < length rs
+    → (get_run rs i).start ≤ (get_run rs j).start
 starts_rise_to rs ok i j h l =
     let same : i + (j - i) ≡ j = omega arith in
     rw same at (starts_rise rs ok i (j - i) (omega arith))
@@ -68,7 +70,8 @@ at_prefix rs p n e some =
       from = passed p (get_run rs (n - 1)).start (prefix_len_passes (begins_by p) rs (n - 1) nobody (omega arith));
       until = λ h.
           let same : n - 1 + 1 ≡ prefix_len (begins_by p) rs = omega arith in
-          rw same (stopped p (get_run rs (prefix_len (begins_by p) rs)).start (prefix_len_stops (begins_by p) rs nobody (omega arith)));
+          rw same (stopped p (get_run rs (prefix_len (begins_by p) rs)).start
+          (prefix_len_stops (begins_by p) rs nobody (omega arith)));
     }
 
 pub place_at : (rs : List Run) → IsRuns rs → (p : ℕ) → IsAt rs p (place_of rs p)
@@ -108,7 +111,8 @@ before_last rs ok p i h v = ⊎_elim (λ l. l) (λ l. last l) (cases_lt (i + 1) 
         absurd (omega (arith, h.from, limit))
 
 pub start_most : (rs : List Run) → IsRuns rs → (i : ℕ) → i < length rs → (get_run rs i).start ≤ 2 ^ 35
-start_most rs ok i h = let l = starts_rise_to rs ok i (length rs - 1) (omega arith) (omega arith) in omega (arith, l, ok.limit_last)
+start_most rs ok i h = let l = starts_rise_to rs ok i (length rs - 1) (omega arith) (omega arith) in
+    omega (arith, l, ok.limit_last)
 
 -- what an index reads
 pub read_run : (rs : List Run) (i : ℕ) (r : Run) → i < length rs → r ≡ get_or rs i r → r ≡ get_run rs i

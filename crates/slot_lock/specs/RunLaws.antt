@@ -22,7 +22,9 @@ advance_back_twice (Private f k) m n = ap (Private f) (omega arith)
 
 pub info_from_twice : (o : Option PageInfo) (m n : ℕ) → info_from (info_from o m) n ≡ info_from o (m + n)
 info_from_twice None m n = refl
-info_from_twice (Some info) m n = ap (λ b. Some (record info { meta = record { back = b; prot = info.meta.prot } })) (advance_back_twice info.meta.back m n)
+info_from_twice (Some info) m n = ap
+    (λ b. Some (record info { meta = record { back = b; prot = info.meta.prot } }))
+    (advance_back_twice info.meta.back m n)
 
 advance_back_zero : (b : Back) → advance_back b 0 ≡ b
 advance_back_zero Anon = refl
@@ -31,7 +33,8 @@ advance_back_zero (Private f k) = ap (Private f) (omega arith)
 
 pub info_from_zero : (o : Option PageInfo) → info_from o 0 ≡ o
 info_from_zero None = refl
-info_from_zero (Some info) = ap (λ b. Some (record info { meta = record { back = b; prot = info.meta.prot } })) (advance_back_zero info.meta.back)
+info_from_zero (Some info) = ap (λ b. Some (record info { meta = record { back = b; prot = info.meta.prot } }))
+    (advance_back_zero info.meta.back)
 
 pub is_leaf-info_from : (o : Option PageInfo) (n : ℕ) → is_leaf (info_from o n) ≡ is_leaf o
 is_leaf-info_from None n = refl
@@ -53,11 +56,13 @@ back_on (Shared f k) n m l h = omega arith
 back_on (Private f k) n m l h = omega arith
 
 -- the part of m pages from the n-th on
-pub fits_on : (o : Option PageInfo) (n m : ℕ) → n < m → info_file_page o + m ≤ 2 ^ 35 → info_file_page (info_from o n) + (m - n) ≤ 2 ^ 35
+pub fits_on : (o : Option PageInfo) (n m : ℕ) → n < m → info_file_page o + m ≤ 2 ^ 35
+    → info_file_page (info_from o n) + (m - n) ≤ 2 ^ 35
 fits_on None n m l h = omega arith
 fits_on (Some info) n m l h = back_on info.meta.back n m l h
 
-back_before : (b : Back) (n m : ℕ) → n ≤ m → m ≤ 2 ^ 35 → file_page (advance_back b n) + (m - n) ≤ 2 ^ 35 → file_page b + m ≤ 2 ^ 35
+back_before : (b : Back) (n m : ℕ) → n ≤ m → m ≤ 2 ^ 35 → file_page (advance_back b n) + (m - n) ≤ 2 ^ 35
+    → file_page b + m ≤ 2 ^ 35
 back_before Anon n m l k h = omega arith
 back_before (Shared f p) n m l k h = omega arith
 back_before (Private f p) n m l k h = omega arith
@@ -91,11 +96,13 @@ from_other_test a b h = grind (arith, nat_tests)
 -- ---- edges
 pub edge_at : (rs : List Run) → IsRuns rs → (i : ℕ) → i < length rs → (slots_of rs).edge (get_run rs i).start ≡ true
 edge_at rs ok i h =
-    let run = run_at_is rs ok (get_run rs i).start i (record { within = h; from = omega arith; until = λ l. ok.rising i l }) in
+    let run = run_at_is rs ok (get_run rs i).start i
+    (record { within = h; from = omega arith; until = λ l. ok.rising i l }) in
     same_test _ _ (ap (λ (r : Run). r.start) run)
 
 -- the page after one that is in a run and begins none
-pub run_next : (rs : List Run) → IsRuns rs → (p : ℕ) → (slots_of rs).edge (p + 1) ≡ false → run_at rs (p + 1) ≡ run_at rs p
+pub run_next : (rs : List Run) → IsRuns rs → (p : ℕ) → (slots_of rs).edge (p + 1) ≡ false
+    → run_at rs (p + 1) ≡ run_at rs p
 run_next rs ok p h =
     let f = found rs ok p in
     run_at_is rs ok (p + 1) f.at (record {
@@ -111,7 +118,8 @@ run_next rs ok p h =
         let edge = rw same at (edge_at rs ok (i + 1) l) in
         absurd cc) (cases_lt (p + 1) (get_run rs (i + 1)).start)
 
-pub is_slot : (rs : List Run) → IsRuns rs → (i : ℕ) → i + 1 < length rs → IsSlot (slots_of rs) (get_run rs i).start (get_run rs (i + 1)).start
+pub is_slot : (rs : List Run) → IsRuns rs → (i : ℕ) → i + 1 < length rs → IsSlot (slots_of rs) (get_run rs i).start
+    (get_run rs (i + 1)).start
 is_slot rs ok i h = record {
   ordered = ok.rising i h;
   begins = edge_at rs ok i (omega arith);
@@ -137,7 +145,8 @@ zero_run rs ok = run_at_is rs ok 0 0 (record {
 })
 
 outside : (p : ℕ) → ¬ IsPage p → (p ≡ 0) ⊎ (2 ^ 35 ≤ p)
-outside p h = ⊎_elim (λ a. inl (omega arith)) (λ a. ⊎_elim (λ b. absurd (h (a, b))) (λ b. inr b) (cases_lt p (2 ^ 35))) (cases_lt p 1)
+outside p h = ⊎_elim (λ a. inl (omega arith)) (λ a. ⊎_elim (λ b. absurd (h (a, b))) (λ b. inr b)
+    (cases_lt p (2 ^ 35))) (cases_lt p 1)
 
 unmapped_at : (rs : List Run) → IsRuns rs → (p : ℕ) → (p ≡ 0) ⊎ (2 ^ 35 ≤ p) → (slots_of rs).info p ≡ None
 unmapped_at rs ok p (inl z) = rw (z, zero_run rs ok) (info_from_unmapped _ _ ok.zero_unmapped)
@@ -175,7 +184,8 @@ slots_of-is_slot_map rs ok = record {
         omega arith)
         (cases_lt (f.at + 1) (length rs)))
 
-    alone_at : (p : ℕ) (f : Found rs p) → is_leaf (run_at rs p).info ≡ true → ((slots_of rs).edge p ≡ true) × ((slots_of rs).edge (p + 1) ≡ true)
+    alone_at : (p : ℕ) (f : Found rs p) → is_leaf (run_at rs p).info ≡ true → ((slots_of rs).edge p ≡ true)
+        × ((slots_of rs).edge (p + 1) ≡ true)
     alone_at p f h =
         let leaf = rw f.run at h in
         ⊎_elim

@@ -44,9 +44,11 @@ pub record IsRuns (rs : List Run) : Type 0 where
   pub limit_unmapped : is_some (get_run rs (length rs - 1)).info ≡ false
   pub limit_free : is_some (get_run rs (length rs - 1)).owner ≡ false
   -- the file pages of a run's pages are numbers that a file can have
-  pub fits : (k : ℕ) → k + 1 < length rs → info_file_page (get_run rs k).info + ((get_run rs (k + 1)).start - (get_run rs k).start) ≤ 2 ^ 35
+  pub fits : (k : ℕ) → k + 1 < length rs
+      → info_file_page (get_run rs k).info + ((get_run rs (k + 1)).start - (get_run rs k).start) ≤ 2 ^ 35
   -- a page with a frame or a recorded core is a slot of its own
-  pub alone : (k : ℕ) → k + 1 < length rs → is_leaf (get_run rs k).info ≡ true → (get_run rs (k + 1)).start ≡ (get_run rs k).start + 1
+  pub alone : (k : ℕ) → k + 1 < length rs → is_leaf (get_run rs k).info ≡ true
+      → (get_run rs (k + 1)).start ≡ (get_run rs k).start + 1
 
 -- the run at i is neither the first nor the last
 pub record IsInner (rs : List Run) (i : ℕ) : Type 0 where

@@ -60,7 +60,10 @@ cleared s range = record s { info = over s.info (has range) None }
 
 -- the pages of the range are mapped anew, each later one to the next file page, and all else stays
 abbrev pub mapped : Slots → PageRange → Meta → Slots
-mapped s range meta = record s { info = across s.info (has range) (λ p. Some (unused (advance meta (p - range.first)))) }
+mapped s range meta = record s {
+  info = across s.info (has range)
+      (λ p. Some (unused (advance meta (p - range.first))));
+}
 
 -- the pages of the range have this protection and no recorded core, and all else stays
 abbrev pub protected : Slots → PageRange → Prot → Slots

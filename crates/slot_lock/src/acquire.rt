@@ -43,13 +43,18 @@ impl Acquire {
     pub fn next<M: SlotMap>(&mut self, map: &mut M, core: CoreId) -> Result<Got, NoMemory>
         requires not_done { is_past self.old.footprint self.old.cursor ≡ false }
         requires not_held { (M.slots map.old).owner self.old.cursor ≢ Some core }
-        ensures step { IfOk result (λ got. Steps (M.slots map.old) (M.slots map.new) core self.old.cursor (end_at self.old.footprint self.old.cursor) got) }
+        ensures step { IfOk result
+            (λ got. Steps (M.slots map.old) (M.slots map.new) core self.old.cursor
+            (end_at self.old.footprint self.old.cursor) got) }
         ensures footprint { self.new.footprint ≡ self.old.footprint }
-        ensures cursor { IfOk result (λ got. self.new.cursor ≡ cursor_after self.old.footprint self.old.cursor got) }
+        ensures cursor { IfOk result
+            (λ got. self.new.cursor ≡ cursor_after self.old.footprint self.old.cursor got) }
         ensures err_map { OnErr result (M.slots map.new ≡ M.slots map.old) }
-        ensures err_only { OnErr result (((M.slots map.old).owner self.old.cursor ≡ None) × Crosses (M.slots map.old) self.old.cursor (end_at self.old.footprint self.old.cursor)) }
+        ensures err_only { OnErr result (((M.slots map.old).owner self.old.cursor ≡ None)
+            × Crosses (M.slots map.old) self.old.cursor (end_at self.old.footprint self.old.cursor)) }
         ensures err_cursor { OnErr result (self.new.cursor ≡ self.old.cursor) }
-        ensures holds { HoldsUpTo (M.slots map.old) core self.old.footprint self.old.cursor → HoldsUpTo (M.slots map.new) core self.new.footprint self.new.cursor }
+        ensures holds { HoldsUpTo (M.slots map.old) core self.old.footprint self.old.cursor
+            → HoldsUpTo (M.slots map.new) core self.new.footprint self.new.cursor }
     {
         let end = self.footprint.end_at(self.cursor);
         let got = map.lock_next(core, self.cursor, end)?;

@@ -120,9 +120,11 @@ fn fill<A: Allocator>(
 )
     requires runs { IsRuns runs.old.items }
     requires inner { IsInner runs.old.items i }
-    requires sound { IsSoundSlot (get_run runs.old.items i).start (get_run runs.old.items (i + 1)).start info.now }
+    requires sound { IsSoundSlot (get_run runs.old.items i).start
+        (get_run runs.old.items (i + 1)).start info.now }
     ensures runs { IsRuns runs.new.items }
-    ensures slots { slots_of runs.new.items ≡ filled (slots_of runs.old.items) (get_run runs.old.items i).start (get_run runs.old.items (i + 1)).start owner info.now }
+    ensures slots { slots_of runs.new.items ≡ filled (slots_of runs.old.items)
+        (get_run runs.old.items i).start (get_run runs.old.items (i + 1)).start owner info.now }
 {
     let start = runs[i].start;
     runs[i] = Run {
@@ -143,7 +145,8 @@ pub fn add<A: Allocator>(
     requires runs { IsRuns runs.old.items }
     requires can { CanAdd (slots_of runs.old.items) first end info.now }
     ensures runs { IsRuns runs.new.items }
-    ensures ok { OnOk result (slots_of runs.new.items ≡ with_slot (slots_of runs.old.items) first end owner info.now) }
+    ensures ok { OnOk result
+        (slots_of runs.new.items ≡ with_slot (slots_of runs.old.items) first end owner info.now) }
     ensures err { OnErr result (runs.new.items ≡ runs.old.items) }
 {
     runs.reserve(2)?;

@@ -85,7 +85,8 @@ pub fn cut<A: Allocator>(runs: &mut Vec<Run, A>, i: usize, at: u64) -> Result<()
     requires inside { IsInside runs.old.items i at }
     ensures runs { IsRuns runs.new.items }
     ensures items { OnOk result (runs.new.items ≡ cut_runs runs.old.items i at) }
-    ensures ok { OnOk result (Divides (slots_of runs.old.items) (slots_of runs.new.items) (get_run runs.old.items i).owner at) }
+    ensures ok { OnOk result (Divides (slots_of runs.old.items) (slots_of runs.new.items)
+        (get_run runs.old.items i).owner at) }
     ensures exact { OnOk result (DividesAs two_parts (slots_of runs.old.items) (slots_of runs.new.items) at) }
     ensures err { OnErr result (runs.new.items ≡ runs.old.items) }
     ensures full { OnErr result (vec_capacity runs.old ≤ vec_len runs.old) }
@@ -106,7 +107,8 @@ pub fn set_owner<A: Allocator>(runs: &mut Vec<Run, A>, i: usize, owner: Option<C
     requires runs { IsRuns runs.old.items }
     requires inner { IsInner runs.old.items i }
     ensures runs { IsRuns runs.new.items }
-    ensures slots { slots_of runs.new.items ≡ with_owner (slots_of runs.old.items) (get_run runs.old.items i).start (get_run runs.old.items (i + 1)).start owner }
+    ensures slots { slots_of runs.new.items ≡ with_owner (slots_of runs.old.items)
+        (get_run runs.old.items i).start (get_run runs.old.items (i + 1)).start owner }
 {
     runs[i].owner = owner;
 }
@@ -118,7 +120,8 @@ pub fn set_info<A: Allocator>(runs: &mut Vec<Run, A>, i: usize, info: PageInfo)
     requires one { (get_run runs.old.items (i + 1)).start ≡ (get_run runs.old.items i).start + 1 }
     requires meta { HasMeta (get_run runs.old.items i).info info.meta }
     ensures runs { IsRuns runs.new.items }
-    ensures slots { slots_of runs.new.items ≡ with_info (slots_of runs.old.items) (get_run runs.old.items i).start (Some info) }
+    ensures slots { slots_of runs.new.items ≡ with_info (slots_of runs.old.items)
+        (get_run runs.old.items i).start (Some info) }
 {
     runs[i].info = Some(info);
 }

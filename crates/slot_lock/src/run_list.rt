@@ -68,10 +68,15 @@ impl<A: Allocator> RunList<A> {
         owner: Option<CoreId>,
         info: Option<PageInfo>,
     ) -> Result<bool, NoMemory>
-        ensures can { IfOk result (λ is. IsTrue is ↔ CanAdd (⟦<RunList<A> as SlotRead>⟧.slots self.old) first end info) }
-        ensures added { IfOk result (λ is. IsTrue is → ⟦<RunList<A> as SlotRead>⟧.slots self.new ≡ with_slot (⟦<RunList<A> as SlotRead>⟧.slots self.old) first end owner info) }
-        ensures same { IfOk result (λ is. ¬ IsTrue is → ⟦<RunList<A> as SlotRead>⟧.slots self.new ≡ ⟦<RunList<A> as SlotRead>⟧.slots self.old) }
-        ensures err { OnErr result (⟦<RunList<A> as SlotRead>⟧.slots self.new ≡ ⟦<RunList<A> as SlotRead>⟧.slots self.old) }
+        ensures can { IfOk result (λ is. IsTrue is
+            ↔ CanAdd (⟦<RunList<A> as SlotRead>⟧.slots self.old) first end info) }
+        ensures added { IfOk result (λ is. IsTrue is
+            → ⟦<RunList<A> as SlotRead>⟧.slots self.new ≡ with_slot
+            (⟦<RunList<A> as SlotRead>⟧.slots self.old) first end owner info) }
+        ensures same { IfOk result (λ is. ¬ IsTrue is
+            → ⟦<RunList<A> as SlotRead>⟧.slots self.new ≡ ⟦<RunList<A> as SlotRead>⟧.slots self.old) }
+        ensures err { OnErr result
+            (⟦<RunList<A> as SlotRead>⟧.slots self.new ≡ ⟦<RunList<A> as SlotRead>⟧.slots self.old) }
     {
         if !lent::can_add(&self.runs, first, end, &info) {
             return Ok(false);

@@ -98,8 +98,11 @@ pub trait SlotMap: SlotRead {
         requires ordered { cursor < end }
         requires valid { (1 ≤ cursor) × (end ≤ 2 ^ 35) }
         requires not_held { (Self.slots self.old).owner cursor ≢ Some core }
-        ensures step { IfOk result (λ got. Steps (Self.slots self.old) (Self.slots self.new) core cursor end got) }
-        ensures exact { IfOk result (λ got. IfSplit got (DividesAs parts (Self.slots self.old) (Self.slots self.new) (crossed_edge (Self.slots self.old) (between cursor end)))) }
+        ensures step { IfOk result
+            (λ got. Steps (Self.slots self.old) (Self.slots self.new) core cursor end got) }
+        ensures exact { IfOk result
+            (λ got. IfSplit got (DividesAs parts (Self.slots self.old) (Self.slots self.new)
+            (crossed_edge (Self.slots self.old) (between cursor end)))) }
         ensures err { OnErr result (Self.slots self.new ≡ Self.slots self.old) }
         ensures err_only { OnErr result (((Self.slots self.old).owner cursor ≡ None) × Crosses (Self.slots self.old) cursor end) };
 
@@ -108,8 +111,11 @@ pub trait SlotMap: SlotRead {
     fn cut_next(&mut self, core: CoreId, range: PageRange) -> Result<Fit, NoMemory>
         requires range { IsPageRange range }
         requires held { OwnsAll (Self.slots self.old) core range.first range.end }
-        ensures step { IfOk result (λ fit. CutSteps (Self.slots self.old) (Self.slots self.new) core range fit) }
-        ensures exact { IfOk result (λ fit. IfCut fit (DividesAs parts (Self.slots self.old) (Self.slots self.new) (crossed_edge (Self.slots self.old) range))) }
+        ensures step { IfOk result
+            (λ fit. CutSteps (Self.slots self.old) (Self.slots self.new) core range fit) }
+        ensures exact { IfOk result
+            (λ fit. IfCut fit (DividesAs parts (Self.slots self.old) (Self.slots self.new)
+            (crossed_edge (Self.slots self.old) range))) }
         ensures err { OnErr result (Self.slots self.new ≡ Self.slots self.old) }
         ensures err_only { OnErr result (IsCrossed (Self.slots self.old) range) };
 
@@ -140,7 +146,8 @@ pub trait SlotMap: SlotRead {
     fn take_frame(&mut self, core: CoreId, from: u64, end: u64) -> Option<(u64, u32)>
         requires pages { (1 ≤ from) × (from ≤ end) × (end ≤ 2 ^ 35) }
         requires held { OwnsAll (Self.slots self.old) core from end }
-        ensures some { IfSome result (λ taken. LosesFrame (Self.slots self.old) (Self.slots self.new) from end taken.0 taken.1) }
+        ensures some { IfSome result
+            (λ taken. LosesFrame (Self.slots self.old) (Self.slots self.new) from end taken.0 taken.1) }
         ensures none { IfNone result (NoFrames (Self.slots self.old) from end × (Self.slots self.new ≡ Self.slots self.old)) };
 
     /// Adds the pages from `from` up to `end` that have a frame, and their frames, to the list, in order of pages, until it is
@@ -149,7 +156,8 @@ pub trait SlotMap: SlotRead {
         requires pages { (1 ≤ from) × (from ≤ end) × (end ≤ 2 ^ 35) }
         ensures low { from ≤ result }
         ensures high { result ≤ end }
-        ensures added { AddsFrames (frames_in (Self.slots self.now)) from result list.old.items list.new.items }
+        ensures added { AddsFrames (frames_in (Self.slots self.now)) from result list.old.items
+            list.new.items }
         ensures full { result < end → array_vec_len list.new ≡ 32 };
 
     /// Sets the frame and the recorded cores of a mapped page that is a slot of its own.

@@ -15,7 +15,8 @@ locked_alone s t core page b free l =
       own = ap (λ x. cond x (Some core) (s.owner page)) (in_has (between page b) page (omega arith) above);
       begins = l.slot.begins;
       ends = rw same at l.slot.ends;
-      others = over_all (λ j o. j ≢ page → o ≡ None) s.owner (has (between page b)) (Some core) (λ j h ne. absurd (ne (only j (has_in (between page b) j h) by))) (λ j h ne. free.free j);
+      others = over_all (λ j o. j ≢ page → o ≡ None) s.owner (has (between page b)) (Some core)
+          (λ j h ne. absurd (ne (only j (has_in (between page b) j h) by))) (λ j h ne. free.free j);
     })
   where
     only : (j : ℕ) → (page ≤ j) × (j < b) → b ≤ page + 1 → j ≡ page

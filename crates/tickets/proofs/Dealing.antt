@@ -26,7 +26,8 @@ sum_at f (x ∷ xs) (suc i) v w e =
     omega arith
 
 -- the tickets are as many as the seats and their spare ones allow
-pub few : (l : List Drawn) → ((k : ℕ) (v : Drawn) → get_elem? l k ≡ some v → length v.tickets ≤ 2 ^ 32) → sum_by (λ v. length v.tickets) l ≤ 4294967296 * sum_by (λ (v : Drawn). v.spare + 1) l
+pub few : (l : List Drawn) → ((k : ℕ) (v : Drawn) → get_elem? l k ≡ some v → length v.tickets ≤ 2 ^ 32)
+    → sum_by (λ v. length v.tickets) l ≤ 4294967296 * sum_by (λ (v : Drawn). v.spare + 1) l
 few [] h = omega arith
 few (x ∷ xs) h =
     let a = sum_by-cons (λ (v : Drawn). length v.tickets) x xs in
@@ -39,7 +40,8 @@ pub once_more : (x n : ℕ) → once_below x (n + 1) ≡ once_below x n + cond (
 once_more x n = grind (arith, nat_tests)
 
 -- a fact of each view, after a change of one
-pub each_set : {A : Type 0} (P : A → Type 0) (l : List A) (i : ℕ) (w : A) → ((k : ℕ) (v : A) → get_elem? l k ≡ some v → P v) → P w → (k : ℕ) (v : A) → get_elem? (set l i w) k ≡ some v → P v
+pub each_set : {A : Type 0} (P : A → Type 0) (l : List A) (i : ℕ) (w : A) → ((k : ℕ) (v : A) → get_elem? l k ≡ some v → P v) → P w
+    → (k : ℕ) (v : A) → get_elem? (set l i w) k ≡ some v → P v
 each_set P l i w h mine k v e =
     ⊎_elim (λ (t : (k ≡ i) × (w ≡ v)). subst P t.1 mine) (λ (t : (k ≢ i) × (get_elem? l k ≡ some v)). h k v t.1) (at_set l i k w v e)
 
@@ -55,7 +57,8 @@ Rises-push [] n r h = tt
 Rises-push (x ∷ []) n r h = (h 0 0 (omega arith), tt)
 Rises-push (x ∷ y ∷ ys) n r h = (r.0, Rises-push (y ∷ ys) n r.1 (λ k d lt. h (suc k) d (omega arith)))
 
-pub draws : (slots id : ℕ) (me : Me (Unit {0}) Drawn) → length me.0.tickets < 2 ^ 32 → Allows Dealt slots id me 0 (λ n. (n + 1) % 2 ^ 64) (Draws (step slots 0 1 0 none) me)
+pub draws : (slots id : ℕ) (me : Me (Unit {0}) Drawn) → length me.0.tickets < 2 ^ 32 → Allows Dealt slots id me 0 (λ n. (n + 1) % 2 ^ 64)
+    (Draws (step slots 0 1 0 none) me)
 draws slots id me room s h _ at small =
     let n : ℕ = slice_index s.words 0 in
     let v : Drawn = me.0 in
@@ -85,7 +88,8 @@ draws slots id me room s h _ at small =
         below =
             subst (λ (z : ℕ). (k : ℕ) (u : Drawn) → get_elem? (set s.views id w) k ≡ some u → All (λ t. t < z) u.tickets) (sym word)
             (each_set (λ (u : Drawn). All (λ t. t < n + 1) u.tickets) s.views id w (λ k u e. all_below_more u.tickets n (n + 1) (omega arith) (h.below k u e))
-            (All-append (λ (t : ℕ). t < n + 1) v.tickets (n ∷ []) (all_below_more v.tickets n (n + 1) (omega arith) (h.below id v at)) (all_one n (n + 1) (omega arith))));
+            (All-append (λ (t : ℕ). t < n + 1) v.tickets (n ∷ []) (all_below_more v.tickets n (n + 1) (omega arith) (h.below id v at))
+            (all_one n (n + 1) (omega arith))));
         rising = each_set (λ (u : Drawn). Rises u.tickets) s.views id w h.rising (Rises-push v.tickets n (h.rising id v at) (h.below id v at));
         seats =
             (let q = sum_at (λ (u : Drawn). u.spare + 1) s.views id v w at in
@@ -114,7 +118,8 @@ splits id v some_spare s h at =
           let q = sum_at (λ (u : Drawn). length u.tickets) s.views id v left at in
           omega arith);
       below = λ k u e. ⊎_elim (each_set (λ (u : Drawn). All (λ t. t < slice_index s.words 0) u.tickets) s.views id left h.below (h.below id v at) k u)
-          (λ (t : right ≡ u). subst (λ (u : Drawn). All (λ t. t < slice_index s.words 0) u.tickets) t (All-nil (λ t. t < slice_index s.words 0))) (at_snoc vs right u k e);
+          (λ (t : right ≡ u). subst (λ (u : Drawn). All (λ t. t < slice_index s.words 0) u.tickets) t
+          (All-nil (λ t. t < slice_index s.words 0))) (at_snoc vs right u k e);
       rising = λ k u e. ⊎_elim (each_set (λ (u : Drawn). Rises u.tickets) s.views id left h.rising (h.rising id v at) k u)
           (λ (t : right ≡ u). subst (λ (u : Drawn). Rises u.tickets) t tt) (at_snoc vs right u k e);
       seats =

@@ -76,7 +76,8 @@ finished core n Stuck w v text h t = record {
 told : (core : ℕ) (w v : World) (text : List ℕ) → TellsFinish w core v text → IsFinished core w v text
 told core w v text h = finished core h.1.0 h.0 w v text h.1.1 h.2
 
-called : (core : ℕ) (request : Request) (o : Outcome) (w m v : World) (text : List ℕ) → Step w (Ev.Call core request) o m → GoesOn m core o v text → IsMoved (Now core request) w v text
+called : (core : ℕ) (request : Request) (o : Outcome) (w m v : World) (text : List ℕ) → Step w (Ev.Call core request) o m
+    → GoesOn m core o v text → IsMoved (Now core request) w v text
 called core request Stepped w m v text s h =
     let f : IsFinished core m v text = told core m v text h in
     record {
@@ -85,10 +86,30 @@ called core request Stepped w m v text s h =
       asks = (Stepped, (f.events, f.outcomes, f.asks, refl, refl));
       run = (m, s, f.run);
     }
-called core request (Wait b) w m v text s h = record { events = Ev.Call core request ∷ []; outcomes = Wait b ∷ []; asks = (Wait b, (refl, refl, h.1)); run = (m, s, h.0) }
-called core request Idle w m v text s h = record { events = Ev.Call core request ∷ []; outcomes = Idle ∷ []; asks = (Idle, (refl, refl, h.1)); run = (m, s, h.0) }
-called core request (Answered r) w m v text s h = record { events = Ev.Call core request ∷ []; outcomes = Answered r ∷ []; asks = (Answered r, (refl, refl, h.1)); run = (m, s, h.0) }
-called core request Full w m v text s h = record { events = Ev.Call core request ∷ []; outcomes = Full ∷ []; asks = (Full, (refl, refl, h.1)); run = (m, s, h.0) }
+called core request (Wait b) w m v text s h = record {
+  events = Ev.Call core request ∷ [];
+  outcomes = Wait b ∷ [];
+  asks = (Wait b, (refl, refl, h.1));
+  run = (m, s, h.0);
+}
+called core request Idle w m v text s h = record {
+  events = Ev.Call core request ∷ [];
+  outcomes = Idle ∷ [];
+  asks = (Idle, (refl, refl, h.1));
+  run = (m, s, h.0);
+}
+called core request (Answered r) w m v text s h = record {
+  events = Ev.Call core request ∷ [];
+  outcomes = Answered r ∷ [];
+  asks = (Answered r, (refl, refl, h.1));
+  run = (m, s, h.0);
+}
+called core request Full w m v text s h = record {
+  events = Ev.Call core request ∷ [];
+  outcomes = Full ∷ [];
+  asks = (Full, (refl, refl, h.1));
+  run = (m, s, h.0);
+}
 
 moved : (line : Line) (w v : World) (text : List ℕ) → Gives w line v text → IsMoved line w v text
 moved Blank w v text h = absurd h
@@ -131,7 +152,8 @@ pub record IsNext (line : Line) (new : Stage) (es : List Event) (os : List Outco
   pub asks : Asks line events outcomes text
   pub reached : IsReached new (es ++ events) (os ++ outcomes)
 
-nothing_asked : (line : Line) (new : Stage) (es : List Event) (os : List Outcome) (text : List ℕ) → Asks line [] [] text → IsReached new es os → IsNext line new es os text
+nothing_asked : (line : Line) (new : Stage) (es : List Event) (os : List Outcome) (text : List ℕ) → Asks line [] [] text
+    → IsReached new es os → IsNext line new es os text
 nothing_asked line new es os text a r = record {
   events = [];
   outcomes = [];
@@ -139,7 +161,8 @@ nothing_asked line new es os text a r = record {
   reached = subst (λ es. IsReached new es (os ++ [])) (sym (append-nil es)) (subst (λ os. IsReached new es os) (sym (append-nil os)) r);
 }
 
-event_next : (line : Line) (old new : Stage) (es : List Event) (os : List Outcome) (text : List ℕ) → IsReached old es os → EventActs old line new text → IsNext line new es os text
+event_next : (line : Line) (old new : Stage) (es : List Event) (os : List Outcome) (text : List ℕ) → IsReached old es os
+    → EventActs old line new text → IsNext line new es os text
 event_next line old new es os text r (w, v, opens, gives, is) =
     let h : HasRun w es os = opened old w es os r opens in
     let m : IsMoved line w v text = moved line w v text gives in
@@ -157,7 +180,8 @@ space_next a old new es os r e n = subst (λ x. IsReached x es os) (sym n) (subs
 file_next : (a b : Asked) (old new : Stage) (es : List Event) (os : List Outcome) → IsReached old es os → old ≡ Declared a → new ≡ Declared b → IsReached new es os
 file_next a b old new es os r e n = subst (λ x. IsReached x es os) (sym n) (subst (λ x. IsReached x es os) e r)
 
-line_next : (line : Line) (old new : Stage) (es : List Event) (os : List Outcome) (text : List ℕ) → IsReached old es os → LineActs old line new text → IsNext line new es os text
+line_next : (line : Line) (old new : Stage) (es : List Event) (os : List Outcome) (text : List ℕ) → IsReached old es os
+    → LineActs old line new text → IsNext line new es os text
 line_next Blank old new es os text r a = nothing_asked Blank new es os text (refl, refl, a.1) (subst (λ s. IsReached s es os) (sym a.0) r)
 line_next (Space cores frames calls) old new es os text r a = nothing_asked (Space cores frames calls) new es os text (refl, refl, a.2) (space_next _ old new es os r a.0 a.1)
 line_next (File n mode len seed) old new es os text r a = nothing_asked (File n mode len seed) new es os text (refl, refl, a.2.2.2) (file_next a.0 _ old new es os r a.1 a.2.2.1)
@@ -173,10 +197,16 @@ pub record IsTaken (line : Option Line) (new : Stage) (es : List Event) (os : Li
   pub asks : IsSomeAnd line (λ said. Asks said events outcomes text)
   pub reached : IsReached new (es ++ events) (os ++ outcomes)
 
-taken : (line : Option Line) (old new : Stage) (es : List Event) (os : List Outcome) (text : List ℕ) → IsReached old es os → IsSomeAnd line (λ said. LineActs old said new text) → IsTaken line new es os text
+taken : (line : Option Line) (old new : Stage) (es : List Event) (os : List Outcome) (text : List ℕ) → IsReached old es os
+    → IsSomeAnd line (λ said. LineActs old said new text) → IsTaken line new es os text
 taken None old new es os text r a = absurd a
 taken (Some line) old new es os text r a =
-    let n : IsNext line new es os text = line_next line old new es os text r a in record { events = n.events; outcomes = n.outcomes; asks = n.asks; reached = n.reached }
+    let n : IsNext line new es os text = line_next line old new es os text r a in record {
+      events = n.events;
+      outcomes = n.outcomes;
+      asks = n.asks;
+      reached = n.reached;
+    }
 
 -- ---- lines
 
@@ -186,12 +216,14 @@ pub record AreTaken (lines : List (List ℕ)) (new : Stage) (es : List Event) (o
   pub asks : AllAsk lines events outcomes text
   pub reached : IsReached new (es ++ events) (os ++ outcomes)
 
-all_taken : (lines : List (List ℕ)) (old new : Stage) (es : List Event) (os : List Outcome) (text : List ℕ) → IsReached old es os → Runs old lines new text → AreTaken lines new es os text
+all_taken : (lines : List (List ℕ)) (old new : Stage) (es : List Event) (os : List Outcome) (text : List ℕ) → IsReached old es os
+    → Runs old lines new text → AreTaken lines new es os text
 all_taken [] old new es os text r h = record {
   events = [];
   outcomes = [];
   asks = (refl, refl, h.1);
-  reached = subst (λ s. IsReached s (es ++ []) (os ++ [])) (sym h.0) (subst (λ es. IsReached old es (os ++ [])) (sym (append-nil es)) (subst (λ os. IsReached old es os) (sym (append-nil os)) r));
+  reached = subst (λ s. IsReached s (es ++ []) (os ++ [])) (sym h.0) (subst (λ es. IsReached old es (os ++ [])) (sym (append-nil es))
+      (subst (λ os. IsReached old es os) (sym (append-nil os)) r));
 }
 all_taken (l ∷ ls) old new es os text r (mid, front, rest, short, acts, more, is) =
     let a : IsTaken (line_of l) mid es os front = taken (line_of l) old mid es os front r acts.acts in

@@ -91,7 +91,8 @@ leads_on w v t b h =
     (subst (λ rs. Replays rs (nothing_mapped v.made.file) w.calls.log t) (sym b.requests)
     (subst (λ (m : Made). Replays w.calls.requests (nothing_mapped m.file) w.calls.log t) (sym b.made) h))
 
-still_waiting : (w v : World) (t : Plain) (core : ℕ) (request : Request) → IsWaiting w t core request → IsReached v → IsBesideCalls w v → IsWaiting v t core request
+still_waiting : (w v : World) (t : Plain) (core : ℕ) (request : Request) → IsWaiting w t core request → IsReached v → IsBesideCalls w v
+    → IsWaiting v t core request
 still_waiting w v t core request k r b = record {
   change = k.change;
   held = k.held;
@@ -132,7 +133,15 @@ meets_beside w v s m r b k = meets_with w v s s.waiting m r b (go s.waiting m.wa
 
 pub meets_event : (w : World) (s : Reached) → Meets w s → IsReached (with_event w) → Meets (with_event w) s
 meets_event w s m r =
-    meets_beside w (with_event w) s m r (record { made = refl; phases = refl; numbers = refl; requests = refl; log = refl; users = λ p d. refl; frames = least (frames_taken w) }) (λ d. refl)
+    meets_beside w (with_event w) s m r (record {
+      made = refl;
+      phases = refl;
+      numbers = refl;
+      requests = refl;
+      log = refl;
+      users = λ p d. refl;
+      frames = least (frames_taken w);
+    }) (λ d. refl)
 
 -- ---- takes
 
@@ -149,7 +158,8 @@ meets_taken w v s o c m z r b k =
       waiting = still_waiting w v s.plain o.core o.request z.waiting r b;
       takes = λ d. k d ∙ put_both (λ d x y. x ≡ y) (left_to w) o.takes c (pred (left_to w c)) (pred (o.takes c)) (ap pred (z.takes c)) (λ j ne. z.takes j) d;
       there = λ d l. ap (λ (m : Made). nat_lt d m.cores) b.made ∙
-          put_all (λ d n. 0 < n → nat_lt d w.made.cores ≡ true) o.takes c (pred (o.takes c)) (λ l. z.there c (above_pred (o.takes c) l)) (λ j ne l. z.there j l) d l;
+          put_all (λ d n. 0 < n → nat_lt d w.made.cores ≡ true) o.takes c (pred (o.takes c)) (λ l. z.there c (above_pred (o.takes c) l))
+          (λ j ne l. z.there j l) d l;
     })
 
 pub calm_left : (w : World) → IsReached w → IsCalm w → (d : ℕ) → left_to w d ≡ 0
@@ -167,7 +177,12 @@ beside w v s e o m b below k =
 -- ---- steps
 
 pub steps_kept : (n core : ℕ) (w v : World) → StepsTo w core n v → (v.made ≡ w.made) × (v.calls.requests ≡ w.calls.requests) × (w.calls.events ≤ v.calls.events)
-steps_kept zero core w v s = (ap (λ (v : World). v.made) s, ap (λ (v : World). v.calls.requests) s, let h : v.calls.events ≡ w.calls.events = ap (λ (v : World). v.calls.events) s in omega (arith, h))
+steps_kept zero core w v s = (
+  ap (λ (v : World). v.made) s,
+  ap (λ (v : World). v.calls.requests) s,
+  let h : v.calls.events ≡ w.calls.events = ap
+      (λ (v : World). v.calls.events) s in omega (arith, h),
+)
 steps_kept (suc n) core w v s =
     let k = steps_kept n core w s.0 s.1 in (
       step_made s.0 (Ev.Go core) Stepped v s.2 ∙ k.0,
@@ -235,7 +250,8 @@ served w v s core request o text cores calls users made begun frames most k fram
 -- ---- a call that begins
 
 -- no user but the core's own is dropped
-none_dropped : (s : Reached) (core : ℕ) (request : Request) (reply : Reply) → KeepsOthers s.users core request reply → (d : ℕ) → IsDropped s core request reply d → ⊥
+none_dropped : (s : Reached) (core : ℕ) (request : Request) (reply : Reply) → KeepsOthers s.users core request reply → (d : ℕ)
+    → IsDropped s core request reply d → ⊥
 none_dropped s core request reply k d h = let a = k d h.1.0 h.0 h.1.1 in let b = h.1.2 in cc
 
 -- of a call that waits: whom it waits for
@@ -326,7 +342,12 @@ call_ends w begun core n request (Last o) v s text m calm call made asked below 
           (counted v.calls.requests (go_requests x core o v h.2.2 ∙ (k.1 ∙ asked))) m.frames (omega (arith, most, before)) d.0 (λ e. framed o d.0 e) t in
           record {
             next = z.next;
-            answers = inl (d.0.reply, z.answers, none_dropped (one_more s request) core request d.0.reply (subst (λ u. KeepsOthers u core request d.0.reply) m.users d.1));
+            answers = inl (
+              d.0.reply,
+              z.answers,
+              none_dropped (one_more s request) core request d.0.reply
+                  (subst (λ u. KeepsOthers u core request d.0.reply) m.users d.1),
+            );
             meets = z.meets;
           }
       | inr a ↦
@@ -361,7 +382,8 @@ call_ends w begun core n request Stuck v s text m calm call made asked below h t
 
 -- ---- a call that waited
 
-pub open_ends : (w : World) (n : ℕ) (f : Finished) (v : World) (s : Reached) (o : Open) (text : List ℕ) → Meets w s → IsOpen w s o → v.calls.events < event_limit
+pub open_ends : (w : World) (n : ℕ) (f : Finished) (v : World) (s : Reached) (o : Open) (text : List ℕ) → Meets w s → IsOpen w s o
+    → v.calls.events < event_limit
     → EndsIn w o.core n f v → text ≡ finished_text f → IsNext v (λ r. OpenAnswers s o r text)
 open_ends w n (Last outcome) v s o text m z below h t =
     let x = h.2.0 in
@@ -376,7 +398,8 @@ open_ends w n (Last outcome) v s o text m z below h t =
           let before = m.taken in
           let y = served w v s o.core o.request outcome text m.cores m.calls m.users (step_made x (Ev.Go o.core) outcome v h.2.2 ∙ k.0)
           (m.begun ∙ ap length (sym (go_requests x o.core outcome v h.2.2 ∙ k.1))) m.frames (omega (arith, most, before, none)) d.0
-          (λ e. absurd (let access = no_frame_access s.plain d.0.after o.core o.request (subst (λ r. Stands s.plain o.core o.request r d.0.after) e d.0.stands) in cc)) t in
+          (λ e. absurd (let access = no_frame_access s.plain d.0.after o.core o.request
+          (subst (λ r. Stands s.plain o.core o.request r d.0.after) e d.0.stands) in cc)) t in
           record { next = y.next; answers = inl (d.0.reply, y.answers, λ e. sym (z.takes e) ∙ d.1 e); meets = y.meets }
       | inr a ↦ record {
         next = s;

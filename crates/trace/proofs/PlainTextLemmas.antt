@@ -59,7 +59,8 @@ some_left n l = grind (arith, nat_tests)
 none_left : (n : ℕ) → n ≡ 0 → nat_lt 0 n ≡ false
 none_left n e = grind (arith, nat_tests)
 
-takes : (w v : World) (s : Reached) (core : ℕ) (o : Outcome) (text : List ℕ) → Meets w s → w.calls.events < event_limit → Step w (Ev.Take core) o v → text ≡ outcome_text o
+takes : (w v : World) (s : Reached) (core : ℕ) (o : Outcome) (text : List ℕ) → Meets w s → w.calls.events < event_limit
+    → Step w (Ev.Take core) o v → text ≡ outcome_text o
     → IsNext v (λ r. TakeAnswers s s.waiting core r text)
 takes w v s core o text m below k t =
     let z = beside w v s (Ev.Take core) o m tt below k in
@@ -114,14 +115,16 @@ acts w v s core (By.Walk p) o text a m below k t =
 acts w v s core (By.Evict p) o text a m below k t =
     let z = beside w v s (Ev.Evict core p) o m tt below k in may_step w v s o text m z.0 z.2.0 t (meets_beside w v s m z.0 z.1 z.2.1)
 
-folds : (w v : World) (s : Reached) (p : ℕ) (o : Outcome) (text : List ℕ) → Meets w s → w.calls.events < event_limit → Step w (Ev.Fold p) o v → text ≡ outcome_text o
+folds : (w v : World) (s : Reached) (p : ℕ) (o : Outcome) (text : List ℕ) → Meets w s → w.calls.events < event_limit
+    → Step w (Ev.Fold p) o v → text ≡ outcome_text o
     → IsNext v (λ r. MayStep s r text)
 folds w v s p o text m below k t =
     let z = beside w v s (Ev.Fold p) o m tt below k in may_step w v s o text m z.0 z.2.0 t (meets_beside w v s m z.0 z.1 z.2.1)
 
 -- ---- a line that finishes a call
 
-finishes : (w : World) (core n : ℕ) (f : Finished) (v : World) (s : Reached) (text : List ℕ) → Meets w s → w.calls.events < event_limit → v.calls.events < event_limit
+finishes : (w : World) (core n : ℕ) (f : Finished) (v : World) (s : Reached) (text : List ℕ) → Meets w s → w.calls.events < event_limit
+    → v.calls.events < event_limit
     → EndsIn w core n f v → text ≡ finished_text f → IsNext v (λ r. FinishAnswers s s.waiting core r text)
 finishes w core n f v s text m low below h t = go s.waiting m.waiting
   where
@@ -142,16 +145,21 @@ finishes w core n f v s text m low below h t = go s.waiting m.waiting
 pub data Begins (w : World) (core : ℕ) (request : Request) (o : Outcome) (m : World) : Type 0 where
   lacks : nat_lt core w.made.cores ≡ false → o ≡ Idle → m ≡ with_event w → Begins w core request o m
   fills : nat_lt core w.made.cores ≡ true → nat_lt (length w.calls.requests) w.made.calls ≡ false → o ≡ Full → m ≡ with_event w → Begins w core request o m
-  starts : nat_lt core w.made.cores ≡ true → nat_lt (length w.calls.requests) w.made.calls ≡ true → o ≡ Stepped → m ≡ after_call core request (with_event w) → Begins w core request o m
+  starts : nat_lt core w.made.cores ≡ true → nat_lt (length w.calls.requests) w.made.calls ≡ true → o ≡ Stepped
+      → m ≡ after_call core request (with_event w) → Begins w core request o m
 
-begins : (w : World) (core : ℕ) (request : Request) (o : Outcome) (m : World) → w.calls.phase core ≡ Free → w.calls.events < event_limit → Step w (Ev.Call core request) o m → Begins w core request o m
+begins : (w : World) (core : ℕ) (request : Request) (o : Outcome) (m : World) → w.calls.phase core ≡ Free → w.calls.events < event_limit
+    → Step w (Ev.Call core request) o m → Begins w core request o m
 begins w core request o m free below s = go (nat_lt w.calls.events event_limit) (nat_lt core w.made.cores) (grind (arith, nat_tests)) refl s
   where
-    may : (b : Bool) → nat_lt (length w.calls.requests) w.made.calls ≡ b → nat_lt core w.made.cores ≡ true → cond b (Becomes (after_call core request (with_event w)) o m) ((o ≡ Full) × (m ≡ with_event w)) → Begins w core request o m
+    may : (b : Bool) → nat_lt (length w.calls.requests) w.made.calls ≡ b → nat_lt core w.made.cores ≡ true
+        → cond b (Becomes (after_call core request (with_event w)) o m) ((o ≡ Full) × (m ≡ with_event w)) → Begins w core request o m
     may true e inside k = starts inside e k.0 k.1
     may false e inside k = fills inside e k.0 k.1
 
-    go : (a b : Bool) → a ≡ true → nat_lt core w.made.cores ≡ b → cond a (cond b (Acts (with_event w) (Ev.Call core request) o m) ((o ≡ Idle) × (m ≡ with_event w))) ((o ≡ Full) × (m ≡ w)) → Begins w core request o m
+    go : (a b : Bool) → a ≡ true → nat_lt core w.made.cores ≡ b
+        → cond a (cond b (Acts (with_event w) (Ev.Call core request) o m) ((o ≡ Idle) × (m ≡ with_event w))) ((o ≡ Full) × (m ≡ w))
+        → Begins w core request o m
     go true true e i k = may (nat_lt (length w.calls.requests) w.made.calls) refl i (subst (λ phase. BeginsBy (with_event w) core request phase o m) free k)
     go true false e i k = lacks i k.0 k.1
     go false b e i k = absurd cc
@@ -169,12 +177,14 @@ by_tests : (w : World) (s : Reached) (core : ℕ) (request : Request) (r : Reach
     → cond x (cond y (CallGives s core request r text) ((r ≡ s) × (text ≡ outcome_text Full))) ((r ≡ s) × (text ≡ outcome_text Idle))
     → NowAnswers s core request r text
 by_tests w s core request r text x y m i j h =
-    subst (λ x. cond x (cond (nat_lt s.begun s.calls) (CallGives s core request r text) ((r ≡ s) × (text ≡ outcome_text Full))) ((r ≡ s) × (text ≡ outcome_text Idle)))
+    subst (λ x. cond x (cond (nat_lt s.begun s.calls) (CallGives s core request r text) ((r ≡ s) × (text ≡ outcome_text Full))) ((r ≡ s)
+    × (text ≡ outcome_text Idle)))
     (sym (by_name core core s.cores w.made.cores x refl m.cores i))
     (subst (λ y. cond x (cond y (CallGives s core request r text) ((r ≡ s) × (text ≡ outcome_text Full))) ((r ≡ s) × (text ≡ outcome_text Idle)))
     (sym (by_name s.begun (length w.calls.requests) s.calls w.made.calls y m.begun m.calls j)) h)
 
-stands_still : (w x v : World) (s : Reached) (core : ℕ) (request : Request) (o : Outcome) → Meets w s → Step w (Ev.Call core request) o x → x ≡ with_event w → v ≡ x
+stands_still : (w x v : World) (s : Reached) (core : ℕ) (request : Request) (o : Outcome) → Meets w s → Step w (Ev.Call core request) o x
+    → x ≡ with_event w → v ≡ x
     → Meets v s
 stands_still w x v s core request o m step e same =
     let f : IsReached x = reached_step w x (Ev.Call core request) o m.reached step in
@@ -203,17 +213,23 @@ told_call w x v s core request text m calm step b below h = elim b [
   | lacks i e is ↦ absurd cc
   | fills i j e is ↦ absurd cc
   | starts i j e is ↦
-      let d = call_ends w x core h.1.0 request h.0 v s text m calm step (ap (λ (v : World). v.made) is) (ap (λ (v : World). v.calls.requests) is) below h.1.1 h.2 in
+      let d = call_ends w x core h.1.0 request h.0 v s text m calm step (ap (λ (v : World). v.made) is)
+      (ap (λ (v : World). v.calls.requests) is) below h.1.1 h.2 in
       record { next = d.next; answers = by_tests w s core request d.next text true true m i j d.answers; meets = d.meets }
 ]
 
 told : (w x v : World) (s : Reached) (core : ℕ) (request : Request) (o : Outcome) (text : List ℕ) → Meets w s → IsCalm w → w.calls.events < event_limit
     → v.calls.events < event_limit → Step w (Ev.Call core request) o x → GoesOn x core o v text → IsNext v (λ r. NowAnswers s core request r text)
-told w x v s core request Stepped text m calm low below step h = told_call w x v s core request text m calm step (begins w core request Stepped x (calm core) low step) below h
-told w x v s core request (Wait b) text m calm low below step h = told_one w x v s core request (Wait b) text m step (λ e. cc) (begins w core request (Wait b) x (calm core) low step) h.0 h.1
-told w x v s core request Idle text m calm low below step h = told_one w x v s core request Idle text m step (λ e. cc) (begins w core request Idle x (calm core) low step) h.0 h.1
-told w x v s core request (Answered r) text m calm low below step h = told_one w x v s core request (Answered r) text m step (λ e. cc) (begins w core request (Answered r) x (calm core) low step) h.0 h.1
-told w x v s core request Full text m calm low below step h = told_one w x v s core request Full text m step (λ e. cc) (begins w core request Full x (calm core) low step) h.0 h.1
+told w x v s core request Stepped text m calm low below step h = told_call w x v s core request text m calm step
+    (begins w core request Stepped x (calm core) low step) below h
+told w x v s core request (Wait b) text m calm low below step h = told_one w x v s core request (Wait b) text m step (λ e. cc)
+    (begins w core request (Wait b) x (calm core) low step) h.0 h.1
+told w x v s core request Idle text m calm low below step h = told_one w x v s core request Idle text m step (λ e. cc)
+    (begins w core request Idle x (calm core) low step) h.0 h.1
+told w x v s core request (Answered r) text m calm low below step h = told_one w x v s core request (Answered r) text m step (λ e. cc)
+    (begins w core request (Answered r) x (calm core) low step) h.0 h.1
+told w x v s core request Full text m calm low below step h = told_one w x v s core request Full text m step (λ e. cc)
+    (begins w core request Full x (calm core) low step) h.0 h.1
 
 -- ---- events only rise
 
@@ -285,7 +301,11 @@ ReachedAt Start s = s ≡ nothing_reached
 ReachedAt (Declared d) s = s ≡ record nothing_reached { cores = d.cores; frames = d.frames; calls = d.calls }
 ReachedAt (Running w) s = Meets w s
 
-meets_opening : (d : Setup) (slots : Slots) (s : Reached) → IsNew slots → s ≡ record nothing_reached { cores = d.cores; frames = d.frames; calls = d.calls } → Meets (new_world (made_of d) slots) s
+meets_opening : (d : Setup) (slots : Slots) (s : Reached) → IsNew slots → s ≡ record nothing_reached {
+  cores = d.cores;
+  frames = d.frames;
+  calls = d.calls;
+} → Meets (new_world (made_of d) slots) s
 meets_opening d slots s new e = subst (Meets (new_world (made_of d) slots)) (sym e) (record {
   reached = reached_opening (made_of d) slots (λ n. refl) new;
   cores = refl;
@@ -313,7 +333,8 @@ pub record IsPlain (line : Line) (new : Stage) (s : Reached) (text : List ℕ) :
 is_running : (new : Stage) (v : World) (s : Reached) → new ≡ Running v → Meets v s → ReachedAt new s
 is_running new v s e m = subst (λ x. ReachedAt x s) (sym e) m
 
-plain_next : (line : Line) (new : Stage) (v : World) (s : Reached) (text : List ℕ) → new ≡ Running v → IsNext v (λ r. LineAnswers s line r text) → IsPlain line new s text
+plain_next : (line : Line) (new : Stage) (v : World) (s : Reached) (text : List ℕ) → new ≡ Running v
+    → IsNext v (λ r. LineAnswers s line r text) → IsPlain line new s text
 plain_next line new v s text e k = record { next = k.next; answers = k.answers; reached = is_running new v k.next e k.meets }
 
 line_plain : (line : Line) (old new : Stage) (s : Reached) (text : List ℕ) → takes_apart (Some line) ≡ false → events_of new < event_limit → ReachedAt old s
@@ -325,12 +346,14 @@ line_plain (Space cores frames calls) old new s text f below r a =
     inr (record {
       next = record s { cores = cores; frames = frames; calls = calls };
       answers = (refl, a.2);
-      reached = subst (λ x. ReachedAt x (record s { cores = cores; frames = frames; calls = calls })) (sym a.1) (ap (λ (s : Reached). record s { cores = cores; frames = frames; calls = calls }) first);
+      reached = subst (λ x. ReachedAt x (record s { cores = cores; frames = frames; calls = calls })) (sym a.1)
+          (ap (λ (s : Reached). record s { cores = cores; frames = frames; calls = calls }) first);
     })
 line_plain (Act core action) old new s text f below r (w, v, opens, gives, is) =
     let top : events_of new ≡ v.calls.events = ap events_of is in
     let up = gives_grows w (Act core action) v text gives in
-    inr (plain_next (Act core action) new v s text is (acts w v s core action gives.0 text f (opened old w s r opens) (omega (arith, top, up, below)) gives.1 gives.2))
+    inr (plain_next (Act core action) new v s text is (acts w v s core action gives.0 text f (opened old w s r opens)
+    (omega (arith, top, up, below)) gives.1 gives.2))
 line_plain (Fold page) old new s text f below r (w, v, opens, gives, is) =
     let top : events_of new ≡ v.calls.events = ap events_of is in
     let up = gives_grows w (Fold page) v text gives in
@@ -348,7 +371,8 @@ line_plain (Now core request) old new s text f below r (w, v, opens, gives, is) 
         let top : events_of new ≡ v.calls.events = ap events_of is in
         let up = gives_grows w (Now core request) v text gives in
         inr (plain_next (Now core request) new v s text is
-        (told w gives.1 v s core request gives.0 text (opened old w s r opens) calm (omega (arith, top, up, below)) (omega (arith, top, below)) gives.2 gives.3))
+        (told w gives.1 v s core request gives.0 text (opened old w s r opens) calm (omega (arith, top, up, below))
+        (omega (arith, top, below)) gives.2 gives.3))
 
 pub record IsPlainSome (line : Option Line) (new : Stage) (s : Reached) (text : List ℕ) : Type 0 where
   pub next : Reached

@@ -150,16 +150,19 @@ run_none input old now e s w = record {
 }
 
 -- what a known reader takes as a line
-takes_known : (rest line : List ℕ) (old new : Option (List ℕ)) → old ≡ Some rest → TakesLine old new line → (ys : List ℕ) × (new ≡ Some ys) × IsFirstLine rest line ys
+takes_known : (rest line : List ℕ) (old new : Option (List ℕ)) → old ≡ Some rest → TakesLine old new line → (ys : List ℕ) × (new ≡ Some ys)
+    × IsFirstLine rest line ys
 takes_known rest line None new e t = absurd (cc)
 takes_known rest line (Some xs) None e t = absurd t
 takes_known rest line (Some xs) (Some ys) e t = let same : xs ≡ rest = cc in (ys, refl, subst (λ x. IsFirstLine x line ys) same t)
 
 -- the next line
-next_line : (input line rest ys : List ℕ) (done : List (List ℕ)) → lines_of input ≡ done ++ lines_of rest → IsUnbroken line → IsFirstLine rest line ys → lines_of input ≡ done ++ line ∷ lines_of ys
+next_line : (input line rest ys : List ℕ) (done : List (List ℕ)) → lines_of input ≡ done ++ lines_of rest → IsUnbroken line
+    → IsFirstLine rest line ys → lines_of input ≡ done ++ line ∷ lines_of ys
 next_line input line rest ys done e u f = e ∙ ap (λ l. done ++ l) (lines-first rest line ys u f)
 
-pub run_more : (input : List ℕ) (old : Option (List ℕ)) (now next : Scene) (number : ℕ) → HasRun input old now number → Advances now next → HasRun input old next (number + 1)
+pub run_more : (input : List ℕ) (old : Option (List ℕ)) (now next : Scene) (number : ℕ) → HasRun input old now number → Advances now next
+    → HasRun input old next (number + 1)
 run_more input old now next number h a =
     let (ys, left, first) = takes_known h.rest a.line now.left next.left h.left a.takes in
     let (whole, taken) = taken_more input h.whole h.rest a.line ys h.done h.taken a.unbroken first in
@@ -189,7 +192,8 @@ front_of input old now number h = record { done = h.done; more = lines_of h.rest
 
 long_known : (rest : List ℕ) (old : Option (List ℕ)) → old ≡ Some rest → BeginsTooLong old → LongFirst 256 rest
 long_known rest None e b = absurd (cc)
-long_known rest (Some xs) e b = let same : xs ≡ rest = cc in long_first 256 rest (subst (λ x. 256 < length x) same b.0) (subst (λ x. IsUnbroken (take 257 x)) same b.1)
+long_known rest (Some xs) e b = let same : xs ≡ rest = cc in long_first 256 rest (subst (λ x. 256 < length x) same b.0)
+    (subst (λ x. IsUnbroken (take 257 x)) same b.1)
 
 -- what is held and what is unread is what is left
 known_read : (input whole rest held : List ℕ) (done : List (List ℕ)) (left unread : Option (List ℕ)) → IsTaken input whole rest done
@@ -221,7 +225,8 @@ take_all_of xs = grind (arith, common_steps)
 whole_front : (a b : Option (List ℕ)) (xs : List ℕ) → Appends a b xs → AppendsFront a b xs
 whole_front a b xs p = (length xs, omega arith, subst (Appends a b) (sym (take_all_of xs)) p)
 
-pub run_fails : (input : List ℕ) (old : Option (List ℕ)) (now next : Scene) (number : ℕ) (f : TraceFault) → HasRun input old now number → Fails now next number f → Stops input next.unread old next.written f
+pub run_fails : (input : List ℕ) (old : Option (List ℕ)) (now next : Scene) (number : ℕ) (f : TraceFault) → HasRun input old now number
+    → Fails now next number f → Stops input next.unread old next.written f
 unfolding front_of
 run_fails input old now next number f h (read_fails e held u l m k) =
     let (r, same) = known_read input h.whole h.rest held h.done next.left next.unread h.taken (kept_known h.rest now.left next.left h.left m) l.0 l.1 in
@@ -238,7 +243,8 @@ run_fails input old now next number f h (no_memory e line held short u t l w k) 
     wanting e (front_of input old now number h) line (lines_of ys) (lines-first h.rest line ys u first) r w (Appends-kept _ _ _ _ h.appends k)
 run_fails input old now next number f h (refused line short u t b k) =
     let (ys, left, first) = takes_known h.rest line now.left next.left h.left t in
-    refusing (front_of input old now number h) line (lines_of ys) (lines-first h.rest line ys u first) short (subst (λ n. LineFails now.stage (n + 1) line f) h.count b) (Appends-kept _ _ _ _ h.appends k)
+    refusing (front_of input old now number h) line (lines_of ys) (lines-first h.rest line ys u first) short
+    (subst (λ n. LineFails now.stage (n + 1) line f) h.count b) (Appends-kept _ _ _ _ h.appends k)
 run_fails input old now next number f h (unwritten e line text short u t a w) =
     let (ys, left, first) = takes_known h.rest line now.left next.left h.left t in
     writing e (record {
@@ -256,11 +262,13 @@ pub some_init : (o wo : Option (List ℕ)) (stage : Stage) (w : Window) → w �
 some_init None wo stage w e s = tt
 some_init (Some input) wo stage w e s = run_none input wo _ (ap (left (Some input)) e) s refl
 
-pub some_more : (o wo : Option (List ℕ)) (now next : Scene) (n : ℕ) → IfSome o (λ input. HasRun input wo now n) → Advances now next → IfSome o (λ input. HasRun input wo next (n + 1))
+pub some_more : (o wo : Option (List ℕ)) (now next : Scene) (n : ℕ) → IfSome o (λ input. HasRun input wo now n) → Advances now next
+    → IfSome o (λ input. HasRun input wo next (n + 1))
 some_more None wo now next n h a = tt
 some_more (Some input) wo now next n h a = run_more input wo now next n h a
 
-pub some_fails : (o wo : Option (List ℕ)) (now next : Scene) (n : ℕ) (f : TraceFault) → IfSome o (λ input. HasRun input wo now n) → Fails now next n f → IfSome o (λ input. Stops input next.unread wo next.written f)
+pub some_fails : (o wo : Option (List ℕ)) (now next : Scene) (n : ℕ) (f : TraceFault) → IfSome o (λ input. HasRun input wo now n)
+    → Fails now next n f → IfSome o (λ input. Stops input next.unread wo next.written f)
 some_fails None wo now next n f h a = tt
 some_fails (Some input) wo now next n f h a = run_fails input wo now next n f h a
 
@@ -282,9 +290,11 @@ run_ends input wo now next n (Ok x) h v o e =
       appends = Appends-kept _ _ _ _ h.appends v.written;
     }
 run_ends input wo now next n (Err f) h v o e =
-    unopened (front_of input wo now n h) (over_left h.rest now.left h.left v.ended) (subst (λ s. OpenFails s f) v.stage e) (Appends-kept _ _ _ _ h.appends v.written)
+    unopened (front_of input wo now n h) (over_left h.rest now.left h.left v.ended) (subst (λ s. OpenFails s f) v.stage e)
+    (Appends-kept _ _ _ _ h.appends v.written)
 
-pub some_ends : {T : Type 0} (o wo : Option (List ℕ)) (now next : Scene) (n : ℕ) (r : Result T TraceFault) → IfSome o (λ input. HasRun input wo now n) → IsOver now next
+pub some_ends : {T : Type 0} (o wo : Option (List ℕ)) (now next : Scene) (n : ℕ) (r : Result T TraceFault)
+    → IfSome o (λ input. HasRun input wo now n) → IsOver now next
     → OnOk r (CanOpen next.stage) → IfErr r (λ f. OpenFails next.stage f) → IfSome o (λ input. Ends input next.unread wo next.written r)
 some_ends None wo now next n r h v o e = tt
 some_ends (Some input) wo now next n r h v o e = run_ends input wo now next n r h v o e
@@ -307,7 +317,8 @@ stops_kept input unread a b c f (refusing p line others e q l w) k = refusing p 
 stops_kept input unread a b c f (unopened p e q w) k = unopened p e q (Appends-kept _ _ _ _ w k)
 stops_kept input unread a b c f (writing e p w) k = writing e p (front_kept _ _ _ _ w k)
 
-ends_kept : {T : Type 0} (input : List ℕ) (unread a b c : Option (List ℕ)) (r : Result T TraceFault) → Ends input unread a b r → Keeps b c → Ends input unread a c r
+ends_kept : {T : Type 0} (input : List ℕ) (unread a b c : Option (List ℕ)) (r : Result T TraceFault) → Ends input unread a b r → Keeps b c
+    → Ends input unread a c r
 ends_kept input unread a b c (Ok x) h k = record { stage = h.stage; text = h.text; runs = h.runs; opens = h.opens; appends = Appends-kept _ _ _ _ h.appends k }
 ends_kept input unread a b c (Err f) h k = stops_kept input unread a b c f h k
 
@@ -324,16 +335,26 @@ stops_lost input unread a b f (refusing p line others e q l w) = writing refl p 
 stops_lost input unread a b f (unopened p e q w) = writing refl p (whole_front _ _ _ w)
 stops_lost input unread a b f (writing e p w) = writing refl p w
 
-ends_lost : {T : Type 0} (input : List ℕ) (unread a b : Option (List ℕ)) (r : Result T TraceFault) → Ends input unread a b r → Stops input unread a b WriteFailed
+ends_lost : {T : Type 0} (input : List ℕ) (unread a b : Option (List ℕ)) (r : Result T TraceFault) → Ends input unread a b r
+    → Stops input unread a b WriteFailed
 ends_lost input unread a b (Ok x) h =
-    writing refl (record { done = lines_of input; more = []; stage = h.stage; text = h.text; lines = sym (append-nil (lines_of input)); runs = h.runs }) (whole_front _ _ _ h.appends)
+    writing refl (record {
+      done = lines_of input;
+      more = [];
+      stage = h.stage;
+      text = h.text;
+      lines = sym (append-nil (lines_of input));
+      runs = h.runs;
+    }) (whole_front _ _ _ h.appends)
 ends_lost input unread a b (Err f) h = stops_lost input unread a b f h
 
-pub some_kept : {T : Type 0} (o unread a b c : Option (List ℕ)) (r : Result T TraceFault) → IfSome o (λ input. Ends input unread a b r) → Keeps b c → IfSome o (λ input. Ends input unread a c r)
+pub some_kept : {T : Type 0} (o unread a b c : Option (List ℕ)) (r : Result T TraceFault) → IfSome o (λ input. Ends input unread a b r)
+    → Keeps b c → IfSome o (λ input. Ends input unread a c r)
 some_kept None unread a b c r h k = tt
 some_kept (Some input) unread a b c r h k = ends_kept input unread a b c r h k
 
-pub some_lost : {T : Type 0} (o unread a b c : Option (List ℕ)) (r : Result T TraceFault) → IfSome o (λ input. Ends input unread a b r) → Keeps b c → IfSome o (λ input. Stops input unread a c WriteFailed)
+pub some_lost : {T : Type 0} (o unread a b c : Option (List ℕ)) (r : Result T TraceFault) → IfSome o (λ input. Ends input unread a b r)
+    → Keeps b c → IfSome o (λ input. Stops input unread a c WriteFailed)
 some_lost None unread a b c r h k = tt
 some_lost (Some input) unread a b c r h k = stops_kept input unread a b c WriteFailed (ends_lost input unread a b r h) k
 

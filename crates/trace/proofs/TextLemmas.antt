@@ -26,7 +26,8 @@ below_more set n =
     ∙ flat_map-append core_text (filter (members set) (range_with_len 0 n)) (filter (members set) (n ∷ []))
     ∙ ap (λ l. cores_below set n ++ l) (flat_one (members set n) n)
 
-pub pushed_more : (n set core next : ℕ) (start old new : List ℕ) → next ≡ suc n → core ≡ n → old ≡ start ++ cores_below set n → new ≡ old ++ cond (members set core) (core_text core) [] → new ≡ start ++ cores_below set next
+pub pushed_more : (n set core next : ℕ) (start old new : List ℕ) → next ≡ suc n → core ≡ n → old ≡ start ++ cores_below set n
+    → new ≡ old ++ cond (members set core) (core_text core) [] → new ≡ start ++ cores_below set next
 pushed_more n set core next start old new e k p q =
     q ∙ ap (λ m. old ++ cond (members set m) (core_text m) []) k
     ∙ ap (λ l. l ++ cond (members set n) (core_text n) []) p

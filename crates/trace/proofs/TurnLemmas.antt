@@ -83,11 +83,13 @@ unfolding is_own
 own_act s n line f (inl e) = ap is_own e.0
 own_act s n line f (inr h) = own_bytes (are_printable line) s n line f h.because
 
-pub not_read : {X : Type 0} (s : Stage) (n : ℕ) (line : List ℕ) (f : TraceFault) → ((f ≡ NoMemory) × LineWants s line) ⊎ LineFails s n line f → f ≡ ReadFailed → X
+pub not_read : {X : Type 0} (s : Stage) (n : ℕ) (line : List ℕ) (f : TraceFault) → ((f ≡ NoMemory) × LineWants s line)
+    ⊎ LineFails s n line f → f ≡ ReadFailed → X
 unfolding is_own
 not_read s n line f h e = let clash : false ≡ true = sym (ap is_own e) ∙ own_act s n line f h in cc
 
-pub not_write : {X : Type 0} (s : Stage) (n : ℕ) (line : List ℕ) (f : TraceFault) → ((f ≡ NoMemory) × LineWants s line) ⊎ LineFails s n line f → f ≡ WriteFailed → X
+pub not_write : {X : Type 0} (s : Stage) (n : ℕ) (line : List ℕ) (f : TraceFault) → ((f ≡ NoMemory) × LineWants s line)
+    ⊎ LineFails s n line f → f ≡ WriteFailed → X
 unfolding is_own
 not_write s n line f h e = let clash : false ≡ true = sym (ap is_own e) ∙ own_act s n line f h in cc
 

@@ -44,22 +44,26 @@ pub data Stops (input : List ℕ) (unread old new : Option (List ℕ)) (f : Trac
       → Appends old new p.text → Stops input unread old new f
   unmade : f ≡ NoMemory → unread ≡ Some input → Appends old new [] → Stops input unread old new f
   wanting : f ≡ NoMemory → (p : Front input) (line : List ℕ) (others : List (List ℕ)) → p.more ≡ line ∷ others
-      → AreRead input unread (p.done ++ line ∷ []) → LineWants p.stage line → Appends old new p.text → Stops input unread old new f
+      → AreRead input unread (p.done ++ line ∷ []) → LineWants p.stage line → Appends old new p.text
+      → Stops input unread old new f
   overlong : (p : Front input) (line : List ℕ) (others : List (List ℕ)) → p.more ≡ line ∷ others → 256 < length line
       → f ≡ TooLong (length p.done + 1) → Appends old new p.text → Stops input unread old new f
   refusing : (p : Front input) (line : List ℕ) (others : List (List ℕ)) → p.more ≡ line ∷ others → length line ≤ 256
       → LineFails p.stage (length p.done + 1) line f → Appends old new p.text → Stops input unread old new f
-  unopened : (p : Front input) → p.more ≡ [] → OpenFails p.stage f → Appends old new p.text → Stops input unread old new f
+  unopened : (p : Front input) → p.more ≡ [] → OpenFails p.stage f → Appends old new p.text
+      → Stops input unread old new f
   writing : f ≡ WriteFailed → (p : Front input) → AppendsFront old new p.text → Stops input unread old new f
 
 -- what the reader has not given, and what the writer held and holds
-abbrev pub Ends : {T : Type 0} → List ℕ → Option (List ℕ) → Option (List ℕ) → Option (List ℕ) → Result T TraceFault → Type 0
+abbrev pub Ends : {T : Type 0} → List ℕ → Option (List ℕ) → Option (List ℕ) → Option (List ℕ) → Result T TraceFault
+    → Type 0
 Ends input unread old new (Ok x) = Completes input old new
 Ends input unread old new (Err f) = Stops input unread old new f
 
 -- `read failed` is told only of a read that failed or was one too many, and `write failed` only where a write or a flush failed; where
 -- it isn't told, none failed, and all that was written has gone out.
-pub record TellsFaults {T : Type 0} (r : Result T TraceFault) (read_failed : Bool) (reads : ℕ) (before failed is_flushed : Bool) : Type 0 where
+pub record TellsFaults {T : Type 0} (r : Result T TraceFault) (read_failed : Bool) (reads : ℕ)
+    (before failed is_flushed : Bool) : Type 0 where
   pub read : r ≡ Err ReadFailed → HasStopped read_failed reads
   pub write : r ≡ Err WriteFailed → failed ≡ true
   pub out : (r ≡ Err WriteFailed) ⊎ ((failed ≡ before) × (is_flushed ≡ true))

@@ -31,7 +31,8 @@ AsksOne e es os text = (o : Outcome) × (es ≡ e ∷ []) × (os ≡ o ∷ []) �
 -- the core's call goes on until an outcome that isn't Stepped, or for as many steps as finish makes
 abbrev pub GoesUntil : ℕ → ℕ → Finished → List Event → List Outcome → Type 0
 GoesUntil core n (Last o) es os =
-    (n < finish_limit) × (o ≢ Stepped) × (es ≡ replicate n (Ev.Go core) ++ Ev.Go core ∷ []) × (os ≡ replicate n Stepped ++ o ∷ [])
+    (n < finish_limit) × (o ≢ Stepped) × (es ≡ replicate n (Ev.Go core) ++ Ev.Go core ∷ [])
+    × (os ≡ replicate n Stepped ++ o ∷ [])
 GoesUntil core n Stuck es os = (n ≡ finish_limit) × (es ≡ replicate n (Ev.Go core)) × (os ≡ replicate n Stepped)
 
 -- the last of these outcomes is printed
@@ -58,7 +59,8 @@ Asks (Now core request) es os text = (o : Outcome) × AsksCall core request o es
 -- ---- lines
 
 -- a line, and then what the others ask for
-pub record AsksFirst (line : List ℕ) (Others : List Event → List Outcome → List ℕ → Type 0) (es : List Event) (os : List Outcome) (text : List ℕ) : Type 0 where
+pub record AsksFirst (line : List ℕ) (Others : List Event → List Outcome → List ℕ → Type 0) (es : List Event)
+    (os : List Outcome) (text : List ℕ) : Type 0 where
   pub first : List Event
   pub later : List Event
   pub outcome : List Outcome
@@ -93,4 +95,5 @@ pub record IsRun (lines : List (List ℕ)) (text : List ℕ) (w : World) : Type 
 
 -- lines that are acted on from the start, up to a machine
 abbrev pub AllTracesAreRuns : Type 0
-AllTracesAreRuns = (lines : List (List ℕ)) (text : List ℕ) (w : World) → Runs Start lines (Running w) text → IsRun lines text w
+AllTracesAreRuns = (lines : List (List ℕ)) (text : List ℕ) (w : World) → Runs Start lines (Running w) text
+    → IsRun lines text w

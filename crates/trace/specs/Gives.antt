@@ -37,7 +37,8 @@ Gives w (File n mode len seed) v text = ⊥
 Gives w (Act core action) v text = TellsStep w (event_of core action) v text
 Gives w (Fold page) v text = TellsStep w (Ev.Fold page) v text
 Gives w (Finish core) v text = TellsFinish w core v text
-Gives w (Now core request) v text = (o : Outcome) × (m : World) × Step w (Ev.Call core request) o m × GoesOn m core o v text
+Gives w (Now core request) v text = (o : Outcome) × (m : World) × Step w (Ev.Call core request) o m
+    × GoesOn m core o v text
 
 -- some step that finishes the core's call was refused for memory
 abbrev pub WantsFinish : World → ℕ → Type 0
@@ -51,7 +52,8 @@ Wants w (File n mode len seed) = ⊥
 Wants w (Act core action) = MayWant w (event_of core action)
 Wants w (Fold page) = MayWant w (Ev.Fold page)
 Wants w (Finish core) = WantsFinish w core
-Wants w (Now core request) = MayWant w (Ev.Call core request) ⊎ ((m : World) × Step w (Ev.Call core request) Stepped m × WantsFinish m core)
+Wants w (Now core request) = MayWant w (Ev.Call core request)
+    ⊎ ((m : World) × Step w (Ev.Call core request) Stepped m × WantsFinish m core)
 
 -- the line of an event
 abbrev pub is_event : Option Line → Bool

@@ -43,13 +43,23 @@ pub record Reached : Type 0 where
 
 -- before the first line
 abbrev pub nothing_reached : Reached
-nothing_reached = record { cores = 0; frames = 0; calls = 0; begun = 0; accesses = 0; plain = nothing_mapped (λ n. None); users = λ p c. false; waiting = None }
+nothing_reached = record {
+  cores = 0;
+  frames = 0;
+  calls = 0;
+  begun = 0;
+  accesses = 0;
+  plain = nothing_mapped (λ n. None);
+  users = λ p c. false;
+  waiting = None;
+}
 
 -- ---- a call
 
 -- The request has this reply, and the plain map and the users go on. (The reply is that map's; where more accesses were made than there are
 -- frames, "no frame" may answer one that the map would serve, and changes nothing.)
-pub record IsAnswered (s : Reached) (core : ℕ) (request : Request) (reply : Reply) (r : Reached) (text : List ℕ) : Type 0 where
+pub record IsAnswered (s : Reached) (core : ℕ) (request : Request) (reply : Reply) (r : Reached)
+    (text : List ℕ) : Type 0 where
   pub after : Plain
   pub stands : Stands s.plain core request reply after
   pub given : reply ≢ NoMemory
@@ -59,7 +69,8 @@ pub record IsAnswered (s : Reached) (core : ℕ) (request : Request) (reply : Re
 
 -- core d, another one, uses a page that the reply leaves without users
 abbrev pub IsDropped : Reached → ℕ → Request → Reply → ℕ → Type 0
-IsDropped s core request reply d = (d ≢ core) × ((p : ℕ) × (s.users p d ≡ true) × (users_after core request reply s.users p d ≡ false))
+IsDropped s core request reply d = (d ≢ core)
+    × ((p : ℕ) × (s.users p d ≡ true) × (users_after core request reply s.users p d ≡ false))
 
 -- the reply drops no other core: it is given at once
 abbrev pub AnswersAtOnce : Reached → ℕ → Request → Reached → List ℕ → Type 0
@@ -74,7 +85,10 @@ pub record IsHeldUp (s : Reached) (core : ℕ) (request : Request) (r : Reached)
   pub set : ℕ
   pub some : (d : ℕ) × (members set d ≡ true)
   pub exact : (d : ℕ) → (members set d ≡ true) ↔ IsDropped s core request reply d
-  pub next : r ≡ record s { waiting = Some (record { core = core; request = request; takes = λ d. if members set d then 2 else 0 }) }
+  pub next : r ≡ record s {
+    waiting = Some
+        (record { core = core; request = request; takes = λ d. if members set d then 2 else 0 });
+  }
   pub tells : text ≡ outcome_text (Wait (Acks set))
 
 -- one call more has begun
@@ -85,7 +99,8 @@ one_more s request = record s { begun = suc s.begun; accesses = s.accesses + (if
 abbrev pub NowAnswers : Reached → ℕ → Request → Reached → List ℕ → Type 0
 NowAnswers s core request r text =
     cond (nat_lt core s.cores)
-    (cond (nat_lt s.begun s.calls) (AnswersAtOnce (one_more s request) core request r text ⊎ IsHeldUp (one_more s request) core request r text)
+    (cond (nat_lt s.begun s.calls) (AnswersAtOnce (one_more s request) core request r text
+    ⊎ IsHeldUp (one_more s request) core request r text)
     ((r ≡ s) × (text ≡ outcome_text Full)))
     ((r ≡ s) × (text ≡ outcome_text Idle))
 
@@ -102,7 +117,8 @@ pub record IsStillHeldUp (s : Reached) (o : Open) (r : Reached) (text : List ℕ
 -- once none has, it is answered
 abbrev pub OpenAnswers : Reached → Open → Reached → List ℕ → Type 0
 OpenAnswers s o r text =
-    ((reply : Reply) × IsAnswered s o.core o.request reply r text × ((d : ℕ) → o.takes d ≡ 0)) ⊎ IsStillHeldUp s o r text
+    ((reply : Reply) × IsAnswered s o.core o.request reply r text × ((d : ℕ) → o.takes d ≡ 0))
+    ⊎ IsStillHeldUp s o r text
 
 -- nothing happens
 abbrev pub Idles : Reached → Reached → List ℕ → Type 0
@@ -118,7 +134,8 @@ abbrev pub TakeAnswers : Reached → Option Open → ℕ → Reached → List �
 TakeAnswers s None core r text = Idles s r text
 TakeAnswers s (Some o) core r text =
     cond (nat_lt 0 (o.takes core))
-    ((r ≡ record s { waiting = Some (record o { takes = put o.takes core (pred (o.takes core)) }) }) × (text ≡ outcome_text Stepped))
+    ((r ≡ record s { waiting = Some (record o { takes = put o.takes core (pred (o.takes core)) }) })
+    × (text ≡ outcome_text Stepped))
     (Idles s r text)
 
 -- ---- a line
@@ -176,5 +193,6 @@ AreWhole (line ∷ lines) = (takes_apart (line_of line) ≡ false) × AreWhole l
 
 -- The text of such lines is that of the plain page map and the users of its pages, line for line, while the machine can count its events.
 abbrev pub AllWholeTracesArePlain : Type 0
-AllWholeTracesArePlain = (lines : List (List ℕ)) (text : List ℕ) (w : World) → AreWhole lines → Runs Start lines (Running w) text
+AllWholeTracesArePlain = (lines : List (List ℕ)) (text : List ℕ) (w : World) → AreWhole lines
+    → Runs Start lines (Running w) text
     → w.calls.events < event_limit → AllAnswer nothing_reached lines text

@@ -52,7 +52,8 @@ fn tell_act<M: SlotMap, A: Allocator + Clone>(
     action: Action,
     text: &mut LineText,
 ) -> Result<(), NoMemory>
-    ensures ok { OnOk result (Gives (state machine.old) (Line.Act core action) (state machine.new) text.new.bytes) }
+    ensures ok { OnOk result (Gives (state machine.old) (Line.Act core action)
+        (state machine.new) text.new.bytes) }
     ensures err { OnErr result (Wants (state machine.old) (Line.Act core action)) }
 {
     tell_step(machine, event_of(core, action), text)
@@ -79,7 +80,8 @@ fn tell_call<M: SlotMap, A: Allocator + Clone>(
     request: Request,
     text: &mut LineText,
 ) -> Result<(), NoMemory>
-    ensures ok { OnOk result (Gives (state machine.old) (Line.Now core request) (state machine.new) text.new.bytes) }
+    ensures ok { OnOk result (Gives (state machine.old) (Line.Now core request)
+        (state machine.new) text.new.bytes) }
     ensures err { OnErr result (Wants (state machine.old) (Line.Now core request)) }
 {
     match machine.step(Event::Call(core, request))? {
@@ -99,8 +101,11 @@ pub fn run_line<M: SlotMap, A: Allocator + Clone>(
     number: u64,
     text: &mut LineText,
 ) -> Result<(), TraceFault>
-    ensures ok { OnOk result (IsSomeAnd line (λ l. Gives (state machine.old) l (state machine.new) text.new.bytes)) }
-    ensures err { IfErr result (λ f. ((f ≡ TraceFault.NoMemory) × IsSomeAnd line (λ l. Wants (state machine.old) l)) ⊎ ((is_event line ≡ false) × (f ≡ TraceFault.BadLine number))) }
+    ensures ok { OnOk result
+        (IsSomeAnd line (λ l. Gives (state machine.old) l (state machine.new) text.new.bytes)) }
+    ensures err { IfErr result
+        (λ f. ((f ≡ TraceFault.NoMemory) × IsSomeAnd line (λ l. Wants (state machine.old) l))
+        ⊎ ((is_event line ≡ false) × (f ≡ TraceFault.BadLine number))) }
 {
     let Some(line) = line else {
         return Err(TraceFault::BadLine(number));

@@ -126,8 +126,13 @@ impl<A: Allocator + Clone + Drop> Replayer<A> {
         text: &mut LineText,
     ) -> Result<(), TraceFault>
         requires { self.old.machine ≡ None }
-        ensures ok { OnOk result (IsSomeAnd line (λ l. EventActs (⟦<Self as Staged>⟧.stage self.old) l (⟦<Self as Staged>⟧.stage self.new) text.new.bytes)) }
-        ensures err { IfErr result (λ f. ((f ≡ TraceFault.NoMemory) × IsSomeAnd line (λ l. EventWants (⟦<Self as Staged>⟧.stage self.old) l)) ⊎ EventFails (⟦<Self as Staged>⟧.stage self.old) number line f) }
+        ensures ok { OnOk result
+            (IsSomeAnd line (λ l. EventActs (⟦<Self as Staged>⟧.stage self.old) l
+            (⟦<Self as Staged>⟧.stage self.new) text.new.bytes)) }
+        ensures err { IfErr result
+            (λ f. ((f ≡ TraceFault.NoMemory)
+            × IsSomeAnd line (λ l. EventWants (⟦<Self as Staged>⟧.stage self.old) l))
+            ⊎ EventFails (⟦<Self as Staged>⟧.stage self.old) number line f) }
     {
         let mut machine = match made(&self.alloc, &self.declaration) {
             Ok(machine) => machine,
@@ -145,8 +150,13 @@ impl<A: Allocator + Clone + Drop> Replayer<A> {
         line: Option<Line>,
         text: &mut LineText,
     ) -> Result<(), TraceFault>
-        ensures ok { OnOk result (IsSomeAnd line (λ l. EventActs (⟦<Self as Staged>⟧.stage self.old) l (⟦<Self as Staged>⟧.stage self.new) text.new.bytes)) }
-        ensures err { IfErr result (λ f. ((f ≡ TraceFault.NoMemory) × IsSomeAnd line (λ l. EventWants (⟦<Self as Staged>⟧.stage self.old) l)) ⊎ EventFails (⟦<Self as Staged>⟧.stage self.old) number line f) }
+        ensures ok { OnOk result
+            (IsSomeAnd line (λ l. EventActs (⟦<Self as Staged>⟧.stage self.old) l
+            (⟦<Self as Staged>⟧.stage self.new) text.new.bytes)) }
+        ensures err { IfErr result
+            (λ f. ((f ≡ TraceFault.NoMemory)
+            × IsSomeAnd line (λ l. EventWants (⟦<Self as Staged>⟧.stage self.old) l))
+            ⊎ EventFails (⟦<Self as Staged>⟧.stage self.old) number line f) }
     {
         match &mut self.machine {
             Some(machine) => run_line(machine, line, number, text),

@@ -120,13 +120,15 @@ impl<A: Allocator> LineReader<A> {
     // Reads more behind the bytes held.
     fn fill<S: Source>(&mut self, reader: &mut S) -> Result<usize, ReadFailed>
         requires { length self.old.held ≤ 256 }
-        ensures kept { Keeps (left (S.remaining reader.old) self.old) (left (S.remaining reader.new) self.new) }
+        ensures kept { Keeps (left (S.remaining reader.old) self.old)
+            (left (S.remaining reader.new) self.new) }
         ensures more { IfOk result (λ n. length self.new.held ≡ length self.old.held + n) }
         ensures same { IfOk result (λ n. n ≡ 0 → self.new.held ≡ self.old.held) }
         ensures end { IfOk result (λ n. n ≡ 0 → IsAtEnd (S.remaining reader.new)) }
         ensures held { OnErr result (self.new.held ≡ self.old.held) }
         ensures few { OnOk result (length self.new.held ≤ 65536) }
-        ensures budget { OnOk result (budget (S.reads reader.new) self.new ≤ budget (S.reads reader.old) self.old) }
+        ensures budget { OnOk result
+            (budget (S.reads reader.new) self.new ≤ budget (S.reads reader.old) self.old) }
         ensures stopped { OnErr result (HasStopped (S.failed reader.new) (S.reads reader.new)) }
     {
         if self.start > 0 {

@@ -45,23 +45,24 @@ number_only (d ∷ []) c p = elim (chosen (nat_le 48 d && nat_le d 57) (Some (d 
       (omega arith, ap (λ x. x ∷ []) digit ∙ sym (decimal_digit c (omega arith)))
   | inr h ↦ let bad = h.1 in absurd (cc)
 ]
-number_only (d ∷ (e ∷ [])) c p = elim (chosen (nat_le 49 d && nat_le d 57 && nat_le 48 e && nat_le e 57) (cond (nat_lt 63 (10 * (d - 48) + (e - 48))) None (Some (10 * (d - 48) + (e - 48)))) None (Some c) p) [
-  | inl h ↦ elim (chosen (nat_lt 63 (10 * (d - 48) + (e - 48))) None (Some (10 * (d - 48) + (e - 48))) (Some c) h.1) [
-    | inl k ↦ let bad = k.1 in absurd (cc)
-    | inr k ↦
-        let is : 10 * (d - 48) + (e - 48) ≡ c = (let g = k.1 in cc) in
-        let low : 49 ≤ d = grind (arith, nat_tests, h.0) in
-        let first_high : d ≤ 57 = grind (arith, nat_tests, h.0) in
-        let last : 48 ≤ e = grind (arith, nat_tests, h.0) in
-        let last_high : e ≤ 57 = grind (arith, nat_tests, h.0) in
-        let few : 10 * (d - 48) + (e - 48) ≤ 63 = grind (arith, nat_tests, k.0) in
-        let small : c < 64 = omega arith in
-        let first : d ≡ 48 + c / 10 = omega arith in
-        let second : e ≡ 48 + c % 10 = omega arith in
-        (small, ap (λ x. x ∷ e ∷ []) first ∙ ap (λ x. (48 + c / 10) ∷ x ∷ []) second ∙ sym (two_digits c (omega arith) small))
-  ]
-  | inr h ↦ let bad = h.1 in absurd (cc)
-]
+number_only (d ∷ (e ∷ [])) c p = elim (chosen (nat_le 49 d && nat_le d 57 && nat_le 48 e && nat_le e 57)
+    (cond (nat_lt 63 (10 * (d - 48) + (e - 48))) None (Some (10 * (d - 48) + (e - 48)))) None (Some c) p) [
+      | inl h ↦ elim (chosen (nat_lt 63 (10 * (d - 48) + (e - 48))) None (Some (10 * (d - 48) + (e - 48))) (Some c) h.1) [
+        | inl k ↦ let bad = k.1 in absurd (cc)
+        | inr k ↦
+            let is : 10 * (d - 48) + (e - 48) ≡ c = (let g = k.1 in cc) in
+            let low : 49 ≤ d = grind (arith, nat_tests, h.0) in
+            let first_high : d ≤ 57 = grind (arith, nat_tests, h.0) in
+            let last : 48 ≤ e = grind (arith, nat_tests, h.0) in
+            let last_high : e ≤ 57 = grind (arith, nat_tests, h.0) in
+            let few : 10 * (d - 48) + (e - 48) ≤ 63 = grind (arith, nat_tests, k.0) in
+            let small : c < 64 = omega arith in
+            let first : d ≡ 48 + c / 10 = omega arith in
+            let second : e ≡ 48 + c % 10 = omega arith in
+            (small, ap (λ x. x ∷ e ∷ []) first ∙ ap (λ x. (48 + c / 10) ∷ x ∷ []) second ∙ sym (two_digits c (omega arith) small))
+      ]
+      | inr h ↦ let bad = h.1 in absurd (cc)
+    ]
 number_only (d ∷ (e ∷ (f ∷ fs))) c p = absurd (cc)
 
 pub core_only : (word : Word) (core : ℕ) → core_of word ≡ Some core → SpellsCore word core

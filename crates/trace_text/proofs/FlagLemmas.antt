@@ -15,9 +15,11 @@ use Rattle.trace_text.proofs.Choices.{bind_some, chosen}
 
 mark_only : (letter c : ℕ) (b : Bool) → mark_of letter c ≡ Some b → c ∷ [] ≡ mark b (letter ∷ [])
 mark_only letter c b e = elim (chosen (eqb c letter) (Some true) (cond (eqb c 45) (Some false) None) (Some b) e) [
-  | inl h ↦ let same : true ≡ b = (let g = h.1 in cc) in let is : c ≡ letter = grind (arith, nat_tests, h.0) in ap (λ x. x ∷ []) is ∙ ap (λ t. mark t (letter ∷ [])) same
+  | inl h ↦ let same : true ≡ b = (let g = h.1 in cc) in let is : c ≡ letter = grind (arith, nat_tests, h.0) in ap (λ x. x ∷ []) is
+      ∙ ap (λ t. mark t (letter ∷ [])) same
   | inr h ↦ elim (chosen (eqb c 45) (Some false) None (Some b) h.1) [
-    | inl k ↦ let same : false ≡ b = (let g = k.1 in cc) in let is : c ≡ 45 = grind (arith, nat_tests, k.0) in ap (λ x. x ∷ []) is ∙ ap (λ t. mark t (letter ∷ [])) same
+    | inl k ↦ let same : false ≡ b = (let g = k.1 in cc) in let is : c ≡ 45 = grind (arith, nat_tests, k.0) in ap (λ x. x ∷ []) is
+        ∙ ap (λ t. mark t (letter ∷ [])) same
     | inr k ↦ let bad = k.1 in absurd (cc)
   ]
 ]
@@ -207,16 +209,32 @@ pub record HasMore (f : Flags) (c : ℕ) : Type 0 where
   pub by : IsMore f c more
 
 more_private : (f : Flags) → f.private ≡ false → HasMore f 112
-more_private f off = record { more = record f { private = true }; is = ap (λ b. cond (true && not b) (Some (record f { private = true })) None) off; by = put_private f off }
+more_private f off = record {
+  more = record f { private = true };
+  is = ap (λ b. cond (true && not b) (Some (record f { private = true })) None) off;
+  by = put_private f off;
+}
 
 more_shared : (f : Flags) → f.shared ≡ false → HasMore f 115
-more_shared f off = record { more = record f { shared = true }; is = ap (λ b. cond (true && not b) (Some (record f { shared = true })) None) off; by = put_shared f off }
+more_shared f off = record {
+  more = record f { shared = true };
+  is = ap (λ b. cond (true && not b) (Some (record f { shared = true })) None) off;
+  by = put_shared f off;
+}
 
 more_fixed : (f : Flags) → f.fixed ≡ false → HasMore f 102
-more_fixed f off = record { more = record f { fixed = true }; is = ap (λ b. cond (true && not b) (Some (record f { fixed = true })) None) off; by = put_fixed f off }
+more_fixed f off = record {
+  more = record f { fixed = true };
+  is = ap (λ b. cond (true && not b) (Some (record f { fixed = true })) None) off;
+  by = put_fixed f off;
+}
 
 more_anon : (f : Flags) → f.anon ≡ false → HasMore f 97
-more_anon f off = record { more = record f { anon = true }; is = ap (λ b. cond (true && not b) (Some (record f { anon = true })) None) off; by = put_anon f off }
+more_anon f off = record {
+  more = record f { anon = true };
+  is = ap (λ b. cond (true && not b) (Some (record f { anon = true })) None) off;
+  by = put_anon f off;
+}
 
 -- a letter that stands in the word and isn't taken yet
 off_before : (b g : Bool) (n m : ℕ) → times b + (n + m) ≡ times g → n ≡ 1 → b ≡ false

@@ -29,10 +29,11 @@ number_shape (d ∷ []) c p = elim (chosen (nat_le 48 d && nat_le d 57) (Some (d
   | inl h ↦ inl (d, refl, grind (arith, nat_tests, h.0))
   | inr h ↦ let bad = h.1 in absurd (cc)
 ]
-number_shape (d ∷ e ∷ []) c p = elim (chosen (nat_le 49 d && nat_le d 57 && nat_le 48 e && nat_le e 57) (cond (nat_lt 63 (10 * (d - 48) + (e - 48))) None (Some (10 * (d - 48) + (e - 48)))) None (Some c) p) [
-  | inl h ↦ inr (d, e, refl, grind (arith, nat_tests, h.0))
-  | inr h ↦ let bad = h.1 in absurd (cc)
-]
+number_shape (d ∷ e ∷ []) c p = elim (chosen (nat_le 49 d && nat_le d 57 && nat_le 48 e && nat_le e 57)
+    (cond (nat_lt 63 (10 * (d - 48) + (e - 48))) None (Some (10 * (d - 48) + (e - 48)))) None (Some c) p) [
+      | inl h ↦ inr (d, e, refl, grind (arith, nat_tests, h.0))
+      | inr h ↦ let bad = h.1 in absurd (cc)
+    ]
 number_shape (d ∷ e ∷ f ∷ fs) c p = absurd (cc)
 
 core_first : (w : Word) (c : ℕ) → core_of w ≡ Some c → (ds : Word) × (w ≡ 99 ∷ ds) × (core_number ds ≡ Some c)
@@ -137,7 +138,8 @@ stripped xs b =
     let last : get_or xs (length xs - 1) 0 ≡ 33 = grind (arith, nat_tests, b) in
     last_is xs (length xs - 1) (omega arith) last ∙ ap (λ l. l ++ codes "!") (sym (ap (λ t. cond t (take (length xs - 1) xs) xs) b))
 
-only_now : (name : Word) (args : List Word) (line : Line) → ends_with_byte 33 name ≡ true → now_of (strip_last 33 name) args ≡ Some line → Says line (name ∷ args)
+only_now : (name : Word) (args : List Word) (line : Line) → ends_with_byte 33 name ≡ true → now_of (strip_last 33 name) args ≡ Some line
+    → Says line (name ∷ args)
 unfolding now_of
 only_now name args line b e =
     let (core, k, e1) = bind_some (core_of (strip_last 33 name)) _ line e in
@@ -173,17 +175,22 @@ only_task name core args line k a =
     let is = front_some args verb ev in
     elim (chosen (bytes_eq verb.0 (codes "finish")) _ _ (Some line) e1) [
       | inl f ↦ let (none, same) = ended_some verb.1 (Finish core) line f.1 in
-          subst (λ l. Says l (name ∷ args)) same
-          (name, ap (λ ws. name ∷ ws) (is ∙ ap (λ w. w ∷ verb.1) (word_is verb.0 (codes "finish") f.0) ∙ ap (λ ws. codes "finish" ∷ ws) none), core_only name core k)
+          subst (λ l. Says l (name ∷ args)) same (
+            name,
+            ap (λ ws. name ∷ ws) (is ∙ ap (λ w. w ∷ verb.1) (word_is verb.0 (codes "finish") f.0)
+                ∙ ap (λ ws. codes "finish" ∷ ws) none),
+            core_only name core k,
+          )
       | inr f ↦ subst (λ ws. Says line (name ∷ ws)) (sym is) (only_act name core verb.0 verb.1 line k f.1)
     ]
 
 only_event : (name : Word) (args : List Word) (line : Line) → event_of name args ≡ Some line → Says line (name ∷ args)
 unfolding event_of
-only_event name args line e = elim (chosen (ends_with_byte 33 name) (now_of (strip_last 33 name) args) (core_of name >>= λ core. task_of core args) (Some line) e) [
-  | inl h ↦ only_now name args line h.0 h.1
-  | inr h ↦ let (core, k, a) = bind_some (core_of name) (λ core. task_of core args) line h.1 in only_task name core args line k a
-]
+only_event name args line e = elim (chosen (ends_with_byte 33 name) (now_of (strip_last 33 name) args) (core_of name >>= λ core.
+    task_of core args) (Some line) e) [
+      | inl h ↦ only_now name args line h.0 h.1
+      | inr h ↦ let (core, k, a) = bind_some (core_of name) (λ core. task_of core args) line h.1 in only_task name core args line k a
+    ]
 
 pub read_is_said : ReadsOnly
 unfolding line_of_words

@@ -41,7 +41,8 @@ value_past base n i d cs whole p h e q big same =
     sym (too_big base (n * base + d) (drop (suc i) cs) p big) ∙ ap below_word (sym (value_more base n i d cs h e q) ∙ same)
 
 -- no digit is left
-pub value_end : (base n : ℕ) (cs : List ℕ) (i : ℕ) (whole : Option ℕ) → length cs ≤ i → n < 2 ^ 64 → value_from base n (drop i cs) ≡ whole → Some n ≡ below_word whole
+pub value_end : (base n : ℕ) (cs : List ℕ) (i : ℕ) (whole : Option ℕ) → length cs ≤ i → n < 2 ^ 64 → value_from base n (drop i cs) ≡ whole
+    → Some n ≡ below_word whole
 value_end base n cs i whole h fits same =
     let test : ltb n (2 ^ 64) ≡ true = ltb-yes n (2 ^ 64) fits in
     sym (ap (λ b. cond b (Some n) None) test) ∙ ap below_word (sym (ap (value_from base n) (drop_of_length-le cs h)) ∙ same)

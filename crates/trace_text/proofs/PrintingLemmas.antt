@@ -13,10 +13,12 @@ pub digits_before : (n : ℕ) → 0 < n → length (digits_of 16 n) ≡ length (
 digits_before n h = length-digits_of_step 16 n (omega arith) h
 
 -- the text of the digits before, and the last one
-pub digits_more : (n : ℕ) (front new : List ℕ) (glyph : ℕ) → 0 < n → new ≡ front ++ map (digit_glyph false) (digits_of 16 (n / 16)) → glyph ≡ digit_glyph false (n % 16)
+pub digits_more : (n : ℕ) (front new : List ℕ) (glyph : ℕ) → 0 < n → new ≡ front ++ map (digit_glyph false) (digits_of 16 (n / 16))
+    → glyph ≡ digit_glyph false (n % 16)
     → new ++ glyph ∷ [] ≡ front ++ map (digit_glyph false) (digits_of 16 n)
 digits_more n front new glyph h e g =
-    rw (e, g, digits_of_step 16 n (omega arith) h, map-append (digit_glyph false) (digits_of 16 (n / 16)) (n % 16 ∷ [])) (append_assoc front (map (digit_glyph false) (digits_of 16 (n / 16))) (digit_glyph false (n % 16) ∷ []))
+    rw (e, g, digits_of_step 16 n (omega arith) h, map-append (digit_glyph false) (digits_of 16 (n / 16)) (n % 16 ∷ []))
+    (append_assoc front (map (digit_glyph false) (digits_of 16 (n / 16))) (digit_glyph false (n % 16) ∷ []))
 
 pub length_printed : (front ds : List ℕ) → length (front ++ map (digit_glyph false) ds) ≡ length front + length ds
 length_printed front ds = omega (arith, length-append front (map (digit_glyph false) ds), length-map ds (digit_glyph false))

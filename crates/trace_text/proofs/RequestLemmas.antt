@@ -60,7 +60,8 @@ byte_only v b e =
     let (n, en, t) = bind_some (number_of v) (λ n. cond (ltb 255 n) None (Some n)) b e in
     elim (chosen (ltb 255 n) None (Some n) (Some b) t) [
       | inl h ↦ let bad = h.1 in absurd (cc)
-      | inr h ↦ let same : n ≡ b = (let g = h.1 in cc) in (number_only v b (en ∙ ap (λ m. Some m) same), subst (λ m. m ≤ 255) same (grind (arith, nat_tests, h.0)))
+      | inr h ↦ let same : n ≡ b = (let g = h.1 in cc) in
+          (number_only v b (en ∙ ap (λ m. Some m) same), subst (λ m. m ≤ 255) same (grind (arith, nat_tests, h.0)))
     ]
 
 only_load : (args : List Word) (r : Request) → load_of args ≡ Some r → Asks r (codes "load" ∷ args)
@@ -107,8 +108,19 @@ backed_only addr len prot flags (w ∷ ws) r e =
     let (file, ef, e1) = bind_some (number_of w) _ r e in
     let (second, es, e2) = bind_some (front_word ws) _ r e1 in
     let (off, eo, e3) = bind_some (number_of second.0) (λ off. ended second.1 (Mmap addr len prot flags file off)) r e2 in
-    let (none, same) = ended_some second.1 (Mmap addr len prot flags file off) r e3 in
-    (file, off, same, inr (w, second.0, ap (λ l. w ∷ l) (front_some ws second es ∙ ap (λ l. second.0 ∷ l) none), number_only w file ef, number_only second.0 off eo))
+    let (none, same) = ended_some second.1 (Mmap addr len prot flags file off) r e3 in (
+      file,
+      off,
+      same,
+      inr (
+        w,
+        second.0,
+        ap (λ l. w ∷ l) (front_some ws second es ∙ ap (λ l. second.0 ∷ l) none),
+        number_only w file
+            ef,
+        number_only second.0 off eo,
+      ),
+    )
 
 only_munmap : (args : List Word) (r : Request) → munmap_of args ≡ Some r → Asks r (codes "munmap" ∷ args)
 unfolding munmap_of
@@ -119,7 +131,8 @@ only_munmap args r e =
     let (len, n2, g2) = bind_some (number_of second.0) (λ len. ended second.1 (Munmap addr len)) r f2 in
     let (none, same) = ended_some second.1 (Munmap addr len) r g2 in
     let words = front_some args first e1 ∙ ap (λ ws. first.0 ∷ ws) (front_some first.1 second e2 ∙ ap (λ ws. second.0 ∷ ws) none) in
-    subst (λ q. Asks q (codes "munmap" ∷ args)) same (first.0, second.0, ap (λ ws. codes "munmap" ∷ ws) words, number_only first.0 addr n1, number_only second.0 len n2)
+    subst (λ q. Asks q (codes "munmap" ∷ args)) same
+    (first.0, second.0, ap (λ ws. codes "munmap" ∷ ws) words, number_only first.0 addr n1, number_only second.0 len n2)
 
 only_mprotect : (args : List Word) (r : Request) → mprotect_of args ≡ Some r → Asks r (codes "mprotect" ∷ args)
 unfolding mprotect_of protected_of
@@ -131,7 +144,8 @@ only_mprotect args r e =
     let (third, e3, f3) = bind_some (front_word second.1) _ r g2 in
     let (prot, n3, g3) = bind_some (prot_of third.0) (λ prot. ended third.1 (Mprotect addr len prot)) r f3 in
     let (none, same) = ended_some third.1 (Mprotect addr len prot) r g3 in
-    let words = front_some args first e1 ∙ ap (λ ws. first.0 ∷ ws) (front_some first.1 second e2 ∙ ap (λ ws. second.0 ∷ ws) (front_some second.1 third e3 ∙ ap (λ ws. third.0 ∷ ws) none)) in
+    let words = front_some args first e1 ∙ ap (λ ws. first.0 ∷ ws) (front_some first.1 second e2
+    ∙ ap (λ ws. second.0 ∷ ws) (front_some second.1 third e3 ∙ ap (λ ws. third.0 ∷ ws) none)) in
     subst (λ q. Asks q (codes "mprotect" ∷ args)) same (
       first.0,
       second.0,
@@ -154,7 +168,8 @@ only_mmap args r e =
     let (fourth, e4, f4) = bind_some (front_word third.1) _ r g3 in
     let (flags, n4, g4) = bind_some (flags_of fourth.0) (λ flags. backed_of addr len prot flags fourth.1) r f4 in
     let (file, off, same, backs) = backed_only addr len prot flags fourth.1 r g4 in
-    let words = front_some args first e1 ∙ ap (λ ws. first.0 ∷ ws) (front_some first.1 second e2 ∙ ap (λ ws. second.0 ∷ ws) (front_some second.1 third e3 ∙ ap (λ ws. third.0 ∷ ws) (front_some third.1 fourth e4))) in
+    let words = front_some args first e1 ∙ ap (λ ws. first.0 ∷ ws) (front_some first.1 second e2
+    ∙ ap (λ ws. second.0 ∷ ws) (front_some second.1 third e3 ∙ ap (λ ws. third.0 ∷ ws) (front_some third.1 fourth e4))) in
     subst (λ q. Asks q (codes "mmap" ∷ args)) same (
       first.0,
       second.0,

@@ -48,9 +48,13 @@ stands (x ∷ xs) k (suc d) c f e = stands xs (suc k) d c f.1 e ∙ ap Some (ome
 digit_all : (base c d : ℕ) → IsDigit base c d → digit_of c ≡ Some d
 unfolding Stand
 digit_all base c d (h, inl e) =
-    stands (codes "0123456789abcdef") 0 d c (refl, (refl, (refl, (refl, (refl, (refl, (refl, (refl, (refl, (refl, (refl, (refl, (refl, (refl, (refl, (refl, tt)))))))))))))))) e ∙ ap Some (omega arith)
+    stands (codes "0123456789abcdef") 0 d c
+    (refl, (refl, (refl, (refl, (refl, (refl, (refl, (refl, (refl, (refl, (refl, (refl, (refl, (refl, (refl, (refl, tt))))))))))))))))
+    e ∙ ap Some (omega arith)
 digit_all base c d (h, inr e) =
-    stands (codes "0123456789ABCDEF") 0 d c (refl, (refl, (refl, (refl, (refl, (refl, (refl, (refl, (refl, (refl, (refl, (refl, (refl, (refl, (refl, (refl, tt)))))))))))))))) e ∙ ap Some (omega arith)
+    stands (codes "0123456789ABCDEF") 0 d c
+    (refl, (refl, (refl, (refl, (refl, (refl, (refl, (refl, (refl, (refl, (refl, (refl, (refl, (refl, (refl, (refl, tt))))))))))))))))
+    e ∙ ap Some (omega arith)
 
 ten : (d : ℕ) → d < 10 → slice_get (codes "0123456789abcdef") d ≡ Some (48 + d)
 unfolding Follow
@@ -178,14 +182,15 @@ number_only (c ∷ (d ∷ [])) n e = elim (chosen (eqb c 48 && eqb d 120) None (
   | inl k ↦ let bad = k.1 in absurd (cc)
   | inr k ↦ let (h, s) = spelled_in 10 n (c ∷ (d ∷ [])) (omega arith) k.1 in (h, inl s)
 ]
-number_only (c ∷ (d ∷ (x ∷ xs))) n e = elim (chosen (eqb c 48 && eqb d 120) (below_word (value_from 16 0 (x ∷ xs))) (below_word (value_from 10 0 (c ∷ d ∷ x ∷ xs))) (Some n) e) [
-  | inl k ↦
-      let zero_byte : c ≡ 48 = grind (arith, nat_tests, k.0) in
-      let x_byte : d ≡ 120 = grind (arith, nat_tests, k.0) in
-      let (h, s) = spelled_in 16 n (x ∷ xs) (omega arith) k.1 in
-      (h, inr (x ∷ xs, ap (λ a. a ∷ d ∷ x ∷ xs) zero_byte ∙ ap (λ a. 48 ∷ a ∷ x ∷ xs) x_byte, s))
-  | inr k ↦ let (h, s) = spelled_in 10 n (c ∷ (d ∷ (x ∷ xs))) (omega arith) k.1 in (h, inl s)
-]
+number_only (c ∷ (d ∷ (x ∷ xs))) n e = elim (chosen (eqb c 48 && eqb d 120) (below_word (value_from 16 0 (x ∷ xs)))
+    (below_word (value_from 10 0 (c ∷ d ∷ x ∷ xs))) (Some n) e) [
+      | inl k ↦
+          let zero_byte : c ≡ 48 = grind (arith, nat_tests, k.0) in
+          let x_byte : d ≡ 120 = grind (arith, nat_tests, k.0) in
+          let (h, s) = spelled_in 16 n (x ∷ xs) (omega arith) k.1 in
+          (h, inr (x ∷ xs, ap (λ a. a ∷ d ∷ x ∷ xs) zero_byte ∙ ap (λ a. 48 ∷ a ∷ x ∷ xs) x_byte, s))
+      | inr k ↦ let (h, s) = spelled_in 10 n (c ∷ (d ∷ (x ∷ xs))) (omega arith) k.1 in (h, inl s)
+    ]
 
 -- ---- what is printed
 
@@ -195,8 +200,11 @@ glyph d h = elim (cases_lt d 10) [
   | inr high ↦
       let test : ltb d 10 ≡ false = grind (arith, nat_tests) in
       let place : d ≡ 10 + (d - 10) = omega arith in
-      let value : 97 + (d - 10) ≡ 87 + d = omega arith in
-      (h, inl (ap (slice_get (codes "0123456789abcdef")) place ∙ lower (d - 10) (omega arith) ∙ ap Some (value ∙ sym (ap (λ b. cond b (48 + d) (87 + d)) test))))
+      let value : 97 + (d - 10) ≡ 87 + d = omega arith in (
+        h,
+        inl (ap (slice_get (codes "0123456789abcdef")) place ∙ lower (d - 10) (omega arith)
+            ∙ ap Some (value ∙ sym (ap (λ b. cond b (48 + d) (87 + d)) test))),
+      )
 ]
 
 decimals : (ds : List ℕ) → AllBelowBase 10 ds → AllZip (IsDigit 10) (map (λ d. 48 + d) ds) ds

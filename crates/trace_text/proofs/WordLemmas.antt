@@ -49,15 +49,18 @@ words-front (x ∷ []) (suc (suc n)) q p h s = absurd (omega arith)
 words-front (x ∷ (y ∷ ys)) (suc (suc n)) q p h s =
     let letter : eqb x 32 ≡ false = neq-eqb x 32 (h 0 (omega arith)) in
     let next : eqb y 32 ≡ false = neq-eqb y 32 (h 1 (omega arith)) in
-    let rest : words_of (y ∷ ys) ≡ take (suc n) (y ∷ ys) ∷ words_of (drop (suc n) (y ∷ ys)) = words-front (y ∷ ys) (suc n) (omega arith) (omega arith) (λ k lt. h (suc k) (omega arith)) (λ lt. s (omega arith)) in
+    let rest : words_of (y ∷ ys) ≡ take (suc n) (y ∷ ys) ∷ words_of (drop (suc n) (y ∷ ys)) = words-front (y ∷ ys) (suc n) (omega arith)
+    (omega arith) (λ k lt. h (suc k) (omega arith)) (λ lt. s (omega arith)) in
     onto_first x y ys n letter next rest
 
 -- nothing but spaces
-pub word_none : (bs rest : List ℕ) (n : ℕ) → n ≤ length bs → ((k : ℕ) → k < n → get_or bs k 0 ≡ 32) → rest ≡ drop n bs → length rest ≡ 0 → front_word (words_of bs) ≡ None
+pub word_none : (bs rest : List ℕ) (n : ℕ) → n ≤ length bs → ((k : ℕ) → k < n → get_or bs k 0 ≡ 32) → rest ≡ drop n bs → length rest ≡ 0
+    → front_word (words_of bs) ≡ None
 word_none bs [] n p h e z = rw (← words-skip bs n p h, ← e) refl
 word_none bs (x ∷ xs) n p h e z = absurd (omega arith)
 
-pub word_some : (bs rest : List ℕ) (n m : ℕ) → n ≤ length bs → ((k : ℕ) → k < n → get_or bs k 0 ≡ 32) → (n < length bs → get_or bs n 0 ≢ 32) → rest ≡ drop n bs → 0 < length rest
+pub word_some : (bs rest : List ℕ) (n m : ℕ) → n ≤ length bs → ((k : ℕ) → k < n → get_or bs k 0 ≡ 32)
+    → (n < length bs → get_or bs n 0 ≢ 32) → rest ≡ drop n bs → 0 < length rest
     → m ≤ length rest → ((k : ℕ) → k < m → get_or rest k 0 ≢ 32) → (m < length rest → get_or rest m 0 ≡ 32)
     → front_word (words_of bs) ≡ Some (take m rest, words_of (drop m rest))
 word_some bs rest n m p h s e q r g t =

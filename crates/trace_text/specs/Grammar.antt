@@ -21,9 +21,11 @@ Backs flags file off words = ((words ≡ []) × (flags.anon ≡ true) × (file �
 -- the words say this request
 abbrev pub Asks : Request → List Word → Type 0
 Asks (Mmap addr len prot flags file off) words = (a : Word) × (l : Word) × (p : Word) × (f : Word) × (more : List Word)
-    × (words ≡ codes "mmap" ∷ a ∷ l ∷ p ∷ f ∷ more) × SpellsNumber a addr × SpellsNumber l len × (p ≡ rights_text prot) × SpellsFlags f flags
+    × (words ≡ codes "mmap" ∷ a ∷ l ∷ p ∷ f ∷ more) × SpellsNumber a addr × SpellsNumber l len
+    × (p ≡ rights_text prot) × SpellsFlags f flags
     × Backs flags file off more
-Asks (Munmap addr len) words = (a : Word) × (l : Word) × (words ≡ codes "munmap" ∷ a ∷ l ∷ []) × SpellsNumber a addr × SpellsNumber l len
+Asks (Munmap addr len) words = (a : Word) × (l : Word) × (words ≡ codes "munmap" ∷ a ∷ l ∷ [])
+    × SpellsNumber a addr × SpellsNumber l len
 Asks (Mprotect addr len prot) words = (a : Word) × (l : Word) × (p : Word)
     × (words ≡ codes "mprotect" ∷ a ∷ l ∷ p ∷ []) × SpellsNumber a addr × SpellsNumber l len × (p ≡ rights_text prot)
 Asks (Load addr) words = (a : Word) × (words ≡ codes "load" ∷ a ∷ []) × SpellsNumber a addr
@@ -57,7 +59,8 @@ Says (File number mode len seed) words = (n : Word) × (l : Word) × (s : Word) 
 Says (Act core action) words = (c : Word) × (args : List Word) × (words ≡ c ∷ args) × SpellsCore c core × Does action args
 Says (Fold page) words = (a : Word) × (words ≡ codes "fold" ∷ a ∷ []) × SpellsPage a page
 Says (Finish core) words = (c : Word) × (words ≡ c ∷ codes "finish" ∷ []) × SpellsCore c core
-Says (Now core request) words = (c : Word) × (args : List Word) × (words ≡ (c ++ codes "!") ∷ args) × SpellsCore c core × Asks request args
+Says (Now core request) words = (c : Word) × (args : List Word) × (words ≡ (c ++ codes "!") ∷ args)
+    × SpellsCore c core × Asks request args
 
 -- what is said is read
 abbrev pub ReadsAll : Type 0

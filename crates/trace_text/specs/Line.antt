@@ -71,7 +71,8 @@ one_digit d = if nat_le (byte (codes "0")) d && nat_le d (byte (codes "9")) then
 abbrev pub two_digits : ℕ → ℕ → Option ℕ
 two_digits d e =
     let n = 10 * (d - byte (codes "0")) + (e - byte (codes "0")) in
-    if nat_le (byte (codes "1")) d && nat_le d (byte (codes "9")) && nat_le (byte (codes "0")) e && nat_le e (byte (codes "9"))
+    if nat_le (byte (codes "1")) d && nat_le d (byte (codes "9")) && nat_le (byte (codes "0")) e && nat_le e
+    (byte (codes "9"))
     then (if nat_lt 63 n then None else Some n) else None
 
 abbrev pub core_number : List ℕ → Option ℕ

@@ -12,7 +12,8 @@ use Rattle.trace_text.specs.Request.{no_flags}
 
 -- the byte is a digit of the base, in either case, and stands for d
 abbrev pub IsDigit : ℕ → ℕ → ℕ → Type 0
-IsDigit base byte d = (d < base) × ((slice_get (codes "0123456789abcdef") d ≡ Some byte) ⊎ (slice_get (codes "0123456789ABCDEF") d ≡ Some byte))
+IsDigit base byte d = (d < base) × ((slice_get (codes "0123456789abcdef") d ≡ Some byte)
+    ⊎ (slice_get (codes "0123456789ABCDEF") d ≡ Some byte))
 
 -- digits of the base, at least one, that write n
 pub record SpellsIn (base : ℕ) (word : Word) (n : ℕ) : Type 0 where
@@ -23,7 +24,8 @@ pub record SpellsIn (base : ℕ) (word : Word) (n : ℕ) : Type 0 where
 
 -- a number below 2^64: decimal, or hexadecimal after 0x
 abbrev pub SpellsNumber : Word → ℕ → Type 0
-SpellsNumber word n = (n < 2 ^ 64) × (SpellsIn 10 word n ⊎ ((digits : Word) × (word ≡ codes "0x" ++ digits) × SpellsIn 16 digits n))
+SpellsNumber word n = (n < 2 ^ 64)
+    × (SpellsIn 10 word n ⊎ ((digits : Word) × (word ≡ codes "0x" ++ digits) × SpellsIn 16 digits n))
 
 -- an address below 2^64, which lies in the page
 abbrev pub SpellsPage : Word → ℕ → Type 0

@@ -32,7 +32,8 @@ seek : (test : ℕ → Bool) (from n : ℕ) → Seeks test from n
 seek test from zero = inr (λ p low high. absurd (omega (arith, low, high)))
 seek test from (suc n) = go (seek test from n) (test (from + n)) refl
   where
-    none : ((p : ℕ) → from ≤ p → p < from + n → test p ≡ false) → test (from + n) ≡ false → (p : ℕ) → from ≤ p → p < from + suc n → (p < from + n) ⊎ (from + n ≤ p) → test p ≡ false
+    none : ((p : ℕ) → from ≤ p → p < from + n → test p ≡ false) → test (from + n) ≡ false → (p : ℕ) → from ≤ p → p < from + suc n
+        → (p < from + n) ⊎ (from + n ≤ p) → test p ≡ false
     none below last p low high (inl lt) = below p low lt
     none below last p low high (inr le) = let same : from + n ≡ p = omega (arith, high, le) in subst (λ (q : ℕ). test q ≡ false) same last
 
@@ -77,7 +78,8 @@ hint_or_not m h n = go (are_pages (pages_from h n)) refl (free_or_not m (pages_f
 room_or_not : (m : ℕ → Bool) (w : PageRange) (n s : ℕ) → IsRoom m w n s ⊎ (IsRoom m w n s → ⊥)
 room_or_not m w n s = go (cases_lt s w.first) (cases_lt w.end (s + n)) (free_or_not m (pages_from s n))
   where
-    go : (s < w.first) ⊎ (w.first ≤ s) → (w.end < s + n) ⊎ (s + n ≤ w.end) → IsFree m (pages_from s n) ⊎ (IsFree m (pages_from s n) → ⊥) → IsRoom m w n s ⊎ (IsRoom m w n s → ⊥)
+    go : (s < w.first) ⊎ (w.first ≤ s) → (w.end < s + n) ⊎ (s + n ≤ w.end) → IsFree m (pages_from s n) ⊎ (IsFree m (pages_from s n) → ⊥)
+        → IsRoom m w n s ⊎ (IsRoom m w n s → ⊥)
     go (inl lt) y f = inr (λ room. let low = room.0 in omega (arith, low, lt))
     go (inr le) (inl lt) f = inr (λ room. let high = room.1 in omega (arith, high, lt))
     go (inr le) (inr ge) (inl free) = inl (le, ge, free)

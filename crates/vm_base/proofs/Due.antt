@@ -57,7 +57,8 @@ copied_once (Private file page) bytes = refl
 
 pub answered : (t : Plain) (addr : ℕ) (d : Due t addr) → access_reply (after t addr d) addr Store ≡ Some Done
 answered t addr d =
-    ap (λ (v : Bool). cond v (entry_reply t.file (put t.entry (page_of addr) (Some (with_copy d.0 d.1)) (page_of addr)) Store (offset_of addr)) (Some (Segv MapErr))) d.2
+    ap (λ (v : Bool). cond v (entry_reply t.file (put t.entry (page_of addr) (Some (with_copy d.0 d.1)) (page_of addr)) Store
+    (offset_of addr)) (Some (Segv MapErr))) d.2
     ∙ (ap (λ (x : Option Entry). entry_reply t.file x Store (offset_of addr)) (put_same t.entry (page_of addr) (Some (with_copy d.0 d.1)))
     ∙ (ap (λ (v : Bool). cond v (bytes_reply (is_uncopied d.0.back (Some d.1)) (Some d.1) Store (offset_of addr)) (Some (Segv AccErr))) d.4
     ∙ ap (λ (c : Bool). bytes_reply c (Some d.1) Store (offset_of addr)) (copied_once d.0.back d.1)))

@@ -36,11 +36,13 @@ place_one m w h n a b p q = elim p [
   ]
 ]
 
-maps_one : (t u v : Plain) (o : Option PageRange) (back : Back) (prot : Prot) (y z : Reply) → Maps t o back prot y u → Maps t o back prot z v → (y ≡ z) × (u ≡ v)
+maps_one : (t u v : Plain) (o : Option PageRange) (back : Back) (prot : Prot) (y z : Reply) → Maps t o back prot y u
+    → Maps t o back prot z v → (y ≡ z) × (u ≡ v)
 maps_one t u v None back prot y z h k = (h.0 ∙ sym k.0, h.1 ∙ sym k.1)
 maps_one t u v (Some r) back prot y z h k = (h.0 ∙ sym k.0, h.1 ∙ sym k.1)
 
-maps_at_one : (fixed : Bool) (t u v : Plain) (core addr len : ℕ) (back : Back) (prot : Prot) (y z : Reply) → MapsAt fixed t core addr len back prot y u → MapsAt fixed t core addr len back prot z v → (y ≡ z) × (u ≡ v)
+maps_at_one : (fixed : Bool) (t u v : Plain) (core addr len : ℕ) (back : Back) (prot : Prot) (y z : Reply)
+    → MapsAt fixed t core addr len back prot y u → MapsAt fixed t core addr len back prot z v → (y ≡ z) × (u ≡ v)
 maps_at_one true t u v core addr len back prot y z h k = (h.0 ∙ sym k.0, h.1 ∙ sym k.1)
 maps_at_one false t u v core addr len back prot y z h k =
     let same : h.0 ≡ k.0 = place_one (is_mapped t.entry) (window_of core) (page_of addr) (page_count len) h.0 k.0 h.1 k.1 in
@@ -79,7 +81,8 @@ performs_one t u v core (LoadOf addr) y z h k = accesses_one t u v addr _ _ y z 
 performs_one t u v core (StoreOf addr byte) y z h k = accesses_one t u v addr _ _ y z h k
 performs_one t u v core (FetchOf addr) y z h k = accesses_one t u v addr _ _ y z h k
 
-after_one : (t u v : Plain) (core : ℕ) (request : Request) (y z : Reply) (o : Option Reply) → AppliesAfter o t core request y u → AppliesAfter o t core request z v → (y ≡ z) × (u ≡ v)
+after_one : (t u v : Plain) (core : ℕ) (request : Request) (y z : Reply) (o : Option Reply) → AppliesAfter o t core request y u
+    → AppliesAfter o t core request z v → (y ≡ z) × (u ≡ v)
 after_one t u v core request y z None h k = performs_one t u v core request y z h k
 after_one t u v core request y z (Some refused) h k = (h.0 ∙ sym k.0, h.1 ∙ sym k.1)
 

@@ -20,7 +20,8 @@ with_bytes : (a : Access) (i : ℕ) (o : Option Bytes) → is_some (bytes_reply 
 with_bytes a i None = refl
 with_bytes a i (Some bytes) = refl
 
-of_entry : (files : ℕ → Option File) (o : Option Entry) (a : Access) (i : ℕ) → ((back : Back) (own : Option Bytes) → needs_copy a back own ≡ false) → is_some (entry_reply files o a i) ≡ true
+of_entry : (files : ℕ → Option File) (o : Option Entry) (a : Access) (i : ℕ)
+    → ((back : Back) (own : Option Bytes) → needs_copy a back own ≡ false) → is_some (entry_reply files o a i) ≡ true
 of_entry files None a i never = refl
 of_entry files (Some e) a i never = go (is_allowed e.prot a)
   where

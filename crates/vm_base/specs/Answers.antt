@@ -20,7 +20,8 @@ after_copy t (Some copied) = copied
 
 -- the state in which a request is answered: where it can't be at once, the one after its page's copy
 abbrev pub prepared : Plain → Request → Plain
-prepared t (StoreOf addr byte) = if is_some (access_reply t addr Store) then t else after_copy t (detached t (page_of addr))
+prepared t (StoreOf addr byte) = if is_some (access_reply t addr Store) then t else after_copy t
+    (detached t (page_of addr))
 prepared t _ = t
 
 -- A core's request is answered y, and leaves u, after the copy that was due before it, if one was.

@@ -16,7 +16,8 @@ EachRequestHasOneAnswer =
 
 -- each request has an answer, after the copy that is due before it
 abbrev pub EachRequestIsAnswered : Type 0
-EachRequestIsAnswered = (t : Plain) (core : ℕ) (request : Request) → (y : Reply) × (u : Plain) × Answers t core request y u
+EachRequestIsAnswered = (t : Plain) (core : ℕ) (request : Request) → (y : Reply) × (u : Plain)
+    × Answers t core request y u
 
 -- a byte of addr up to addr + len lies in the page
 abbrev pub HasByte : ℕ → ℕ → ℕ → Type 0

@@ -23,7 +23,8 @@ looked : (s : Slots) (first n : ℕ) → Found s first n ⊎ Mapped s first n
 looked s first zero = inr (λ p a b. absurd (omega arith))
 looked s first (suc n) = step (looked s first n) (is_some (s.info (first + n))) refl
   where
-    last : Mapped s first n → is_some (s.info (first + n)) ≡ true → (p : ℕ) → first ≤ p → p < first + suc n → (p < first + n) ⊎ (first + n ≤ p) → is_some (s.info p) ≡ true
+    last : Mapped s first n → is_some (s.info (first + n)) ≡ true → (p : ℕ) → first ≤ p → p < first + suc n → (p < first + n)
+        ⊎ (first + n ≤ p) → is_some (s.info p) ≡ true
     last all e p a b (inl lt) = all p a lt
     last all e p a b (inr le) = let at : p ≡ first + n = omega arith in rw at e
 

@@ -35,32 +35,39 @@ same-state t addr byte access Bus = refl
 same-state t addr byte access NoFrame = refl
 same-state t addr byte access NoMemory = refl
 
-same-answer : (t : Plain) (addr byte : ℕ) (access : Access) (plan : Plan) (touch : Touch) → touched addr access byte ≡ Ok plan → plan ≡ PlanOf.Touch touch → (y : Reply) (u : Plain)
+same-answer : (t : Plain) (addr byte : ℕ) (access : Access) (plan : Plan) (touch : Touch) → touched addr access byte ≡ Ok plan
+    → plan ≡ PlanOf.Touch touch → (y : Reply) (u : Plain)
     → Accesses t addr access byte y u ↔ EntryAnswers t touch y u
 same-answer t addr byte access plan touch is at y u =
     let z = touch-of addr byte access plan is in
     let same : touch_of addr access byte ≡ touch = cc in
-    let reply : access_reply t addr access ≡ entry_reply t.file (t.entry (page_of addr)) access (offset_of addr) = ap (λ (b : Bool). if b then entry_reply t.file (t.entry (page_of addr)) access (offset_of addr) else Some (Segv MapErr)) z.0 in
+    let reply : access_reply t addr access ≡ entry_reply t.file (t.entry (page_of addr)) access (offset_of addr) = ap
+    (λ (b : Bool). if b then entry_reply t.file (t.entry (page_of addr)) access (offset_of addr) else Some (Segv MapErr)) z.0 in
     subst (λ (x : Touch). Accesses t addr access byte y u ↔ EntryAnswers t x y u) same
     ((λ h. (sym reply ∙ h.0, h.1 ∙ same-state t addr byte access y)), (λ h. (reply ∙ h.0, h.1 ∙ sym (same-state t addr byte access y))))
 
 -- an mmap is no access
-no-access : (b : Bool) (x y : Plan) (touch : Touch) → (x ≡ PlanOf.Touch touch → ⊥) → (y ≡ PlanOf.Touch touch → ⊥) → ◌≡◌ {A = Result Plan Reply} (if b then Ok x else Ok y) (Ok (PlanOf.Touch touch)) → ⊥
+no-access : (b : Bool) (x y : Plan) (touch : Touch) → (x ≡ PlanOf.Touch touch → ⊥) → (y ≡ PlanOf.Touch touch → ⊥)
+    → ◌≡◌ {A = Result Plan Reply} (if b then Ok x else Ok y) (Ok (PlanOf.Touch touch)) → ⊥
 no-access true x y touch f g is = f cc
 no-access false x y touch f g is = g cc
 
-plan-answered : (t : Plain) (core : ℕ) (request : Request) (touch : Touch) → plan_of core request ≡ Ok (PlanOf.Touch touch) → (y : Reply) (u : Plain) → Applies t core request y u ↔ EntryAnswers t touch y u
+plan-answered : (t : Plain) (core : ℕ) (request : Request) (touch : Touch) → plan_of core request ≡ Ok (PlanOf.Touch touch)
+    → (y : Reply) (u : Plain) → Applies t core request y u ↔ EntryAnswers t touch y u
 plan-answered t core (Mmap addr len prot flags file off) touch is y u =
-    absurd (no-access flags.fixed (PlanOf.Change (Put (pages_of addr len) (meta_of prot flags file off))) (PlanOf.Place (place_of core addr len (meta_of prot flags file off))) touch (λ e. absurd cc) (λ e. absurd cc) is)
+    absurd (no-access flags.fixed (PlanOf.Change (Put (pages_of addr len) (meta_of prot flags file off)))
+    (PlanOf.Place (place_of core addr len (meta_of prot flags file off))) touch (λ e. absurd cc) (λ e. absurd cc) is)
 plan-answered t core (Munmap addr len) touch is y u = absurd cc
 plan-answered t core (Mprotect addr len prot) touch is y u = absurd cc
 plan-answered t core (LoadOf addr) touch is y u = same-answer t addr 0 Load (PlanOf.Touch touch) touch is refl y u
 plan-answered t core (StoreOf addr byte) touch is y u = same-answer t addr byte Store (PlanOf.Touch touch) touch is refl y u
 plan-answered t core (FetchOf addr) touch is y u = same-answer t addr 0 Fetch (PlanOf.Touch touch) touch is refl y u
 
-pub access_answered : (t : Plain) (modes : ℕ → Option Mode) (core : ℕ) (request : Request) (touch : Touch) → checked modes core request ≡ Ok (PlanOf.Touch touch) → (y : Reply) (u : Plain)
+pub access_answered : (t : Plain) (modes : ℕ → Option Mode) (core : ℕ) (request : Request) (touch : Touch)
+    → checked modes core request ≡ Ok (PlanOf.Touch touch) → (y : Reply) (u : Plain)
     → Applies t core request y u ↔ EntryAnswers t touch y u
-access_answered t modes core request touch is y u = plan-answered t core request touch (passed (refusal modes request) (plan_of core request) (PlanOf.Touch touch) is).1 y u
+access_answered t modes core request touch is y u = plan-answered t core request touch
+    (passed (refusal modes request) (plan_of core request) (PlanOf.Touch touch) is).1 y u
 
 -- ---- what the check answers
 
@@ -73,7 +80,9 @@ no-page t addr byte access reply is = go (is_page (page_of addr)) refl is
         subst (λ (r : Reply). Accesses t addr access byte r t) same
         (ap (λ (b : Bool). if b then entry_reply t.file (t.entry (page_of addr)) access (offset_of addr) else Some (Segv MapErr)) e, refl)
 
-    go : (b : Bool) → is_page (page_of addr) ≡ b → ◌≡◌ {A = Result Plan Reply} (if b then Ok (PlanOf.Touch (touch_of addr access byte)) else Err (Segv MapErr)) (Err reply) → Accesses t addr access byte reply t
+    go : (b : Bool) → is_page (page_of addr) ≡ b
+        → ◌≡◌ {A = Result Plan Reply} (if b then Ok (PlanOf.Touch (touch_of addr access byte)) else Err (Segv MapErr)) (Err reply)
+        → Accesses t addr access byte reply t
     go true e is = absurd cc
     go false e is = let same : Segv MapErr ≡ reply = cc in answer same e
 
@@ -83,14 +92,16 @@ no-reply false x y reply is = absurd cc
 
 plan-refused : (t : Plain) (core : ℕ) (request : Request) (reply : Reply) → plan_of core request ≡ Err reply → Performs t core request reply t
 plan-refused t core (Mmap addr len prot flags file off) reply is =
-    absurd (no-reply flags.fixed (PlanOf.Change (Put (pages_of addr len) (meta_of prot flags file off))) (PlanOf.Place (place_of core addr len (meta_of prot flags file off))) reply is)
+    absurd (no-reply flags.fixed (PlanOf.Change (Put (pages_of addr len) (meta_of prot flags file off)))
+    (PlanOf.Place (place_of core addr len (meta_of prot flags file off))) reply is)
 plan-refused t core (Munmap addr len) reply is = absurd cc
 plan-refused t core (Mprotect addr len prot) reply is = absurd cc
 plan-refused t core (LoadOf addr) reply is = no-page t addr 0 Load reply is
 plan-refused t core (StoreOf addr byte) reply is = no-page t addr byte Store reply is
 plan-refused t core (FetchOf addr) reply is = no-page t addr 0 Fetch reply is
 
-pub refusal_answered : (t : Plain) (files : ℕ → Option File) (core : ℕ) (request : Request) (reply : Reply) → HasModes t files → checked (λ n. mode_of (files n)) core request ≡ Err reply → Applies t core request reply t
+pub refusal_answered : (t : Plain) (files : ℕ → Option File) (core : ℕ) (request : Request) (reply : Reply) → HasModes t files
+    → checked (λ n. mode_of (files n)) core request ≡ Err reply → Applies t core request reply t
 refusal_answered t files core request reply h is =
     let modes : (λ n. mode_of (files n)) ≡ (λ n. mode_of (t.file n)) = sym (fun_ext h) in
     go (refusal (λ n. mode_of (t.file n)) request) (ap (λ (m : ℕ → Option Mode). checked m core request) (sym modes) ∙ is)

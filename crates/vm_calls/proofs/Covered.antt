@@ -38,14 +38,16 @@ first-covered r s p h =
     let z : (r.first ≤ p) × (p < r.end) = has_in r p h in
     choice (nat_lt r.end s.first) (two_ranges r s) _ p (left-or (has r p) (has s p) h)
     (choice (nat_lt s.end r.first) (two_ranges s r) _ p (right-or (has s p) (has r p) h)
-    (one-covered (between (min r.first s.first) (max r.end s.end)) p (in_has (between (min r.first s.first) (max r.end s.end)) p (omega (arith, z.0)) (omega (arith, z.1)))))
+    (one-covered (between (min r.first s.first) (max r.end s.end)) p (in_has (between (min r.first s.first) (max r.end s.end)) p
+    (omega (arith, z.0)) (omega (arith, z.1)))))
 
 second-covered : (r s : PageRange) (p : ℕ) → has s p ≡ true → covers (both r s) p ≡ true
 second-covered r s p h =
     let z : (s.first ≤ p) × (p < s.end) = has_in s p h in
     choice (nat_lt r.end s.first) (two_ranges r s) _ p (right-or (has r p) (has s p) h)
     (choice (nat_lt s.end r.first) (two_ranges s r) _ p (left-or (has s p) (has r p) h)
-    (one-covered (between (min r.first s.first) (max r.end s.end)) p (in_has (between (min r.first s.first) (max r.end s.end)) p (omega (arith, z.0)) (omega (arith, z.1)))))
+    (one-covered (between (min r.first s.first) (max r.end s.end)) p (in_has (between (min r.first s.first) (max r.end s.end)) p
+    (omega (arith, z.0)) (omega (arith, z.1)))))
 
 pub window-covered : (hint : Option PageRange) (window : PageRange) (p : ℕ) → has window p ≡ true → covers (with_hint hint window) p ≡ true
 window-covered None window p h = one-covered window p h
@@ -67,7 +69,8 @@ no-zero : (n : ℕ) → are_pages (pages_from 0 n) ≡ true → ⊥
 no-zero n h = absurd cc
 
 -- the pages from the hint on, where all are valid
-pub hint-within : (hint : Option PageRange) (n : ℕ) (window : PageRange) → Counts hint n → (p : ℕ) → are_pages (pages_from (hint_page hint) n) ≡ true → has (pages_from (hint_page hint) n) p ≡ true
+pub hint-within : (hint : Option PageRange) (n : ℕ) (window : PageRange) → Counts hint n → (p : ℕ)
+    → are_pages (pages_from (hint_page hint) n) ≡ true → has (pages_from (hint_page hint) n) p ≡ true
     → covers (with_hint hint window) p ≡ true
 hint-within None n window e p v h = absurd (no-zero n v)
 hint-within (Some hint) n window e p v h =

@@ -65,7 +65,8 @@ plan-valid (PlanOf.Change (Protect range prot)) ok = one-valid range ok
 plan-valid (PlanOf.Touch touch) ok = one-valid (pages_from touch.page 1) (record { some = omega arith; low = ok.page.0; high = omega (arith, ok.page.1) })
 
 -- A whole map can be read at each plan's footprint: this is what a caller of `decide` with a slot map gives it.
-pub readable : (reads : ℕ → Type 0) (s : Slots) (plan : Plan) → IsSlotMap s → ((p : ℕ) → IsPage p → reads p) → IsSound plan → IsReadable reads s (footprint_of plan)
+pub readable : (reads : ℕ → Type 0) (s : Slots) (plan : Plan) → IsSlotMap s → ((p : ℕ) → IsPage p → reads p) → IsSound plan
+    → IsReadable reads s (footprint_of plan)
 readable reads s plan laws all ok = record {
   reads_all = λ p h. all p (plan-valid plan ok p h);
   goes_on = λ p h _ e. laws.goes_on p (plan-valid plan ok p h) e;

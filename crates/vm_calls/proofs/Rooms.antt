@@ -30,7 +30,8 @@ run-room s window n r h = (
   λ p in'. let z : (r ≤ p) × (p < r + n) = has_in (pages_from r n) p in' in ap (λ (o : Option PageInfo). is_some (entry_of o)) (h.free p z.0 z.1),
 )
 
-pub least-room : (s : Slots) (window : PageRange) (n : ℕ) (o : Option ℕ) → IfSome o (IsFreeRun s window n) → IfSome o (λ f. (r : ℕ) → r < f → ¬ IsFreeRun s window n r) → IfNone o ((r : ℕ) → ¬ IsFreeRun s window n r)
+pub least-room : (s : Slots) (window : PageRange) (n : ℕ) (o : Option ℕ) → IfSome o (IsFreeRun s window n)
+    → IfSome o (λ f. (r : ℕ) → r < f → ¬ IsFreeRun s window n r) → IfNone o ((r : ℕ) → ¬ IsFreeRun s window n r)
     → IsLeastRoom (is_mapped (entries s)) window n o
 least-room s window n None found least none = λ r room. none r (room-run s window n r room)
 least-room s window n (Some f) found least none = (run-room s window n f found, λ r lt room. least r lt (room-run s window n r room))
@@ -47,10 +48,12 @@ pub place-without : (s : Slots) (hint : Option PageRange) (window : PageRange) (
     → IfSome o (IsFreeRun s window n) → IfSome o (λ f. (r : ℕ) → r < f → ¬ IsFreeRun s window n r) → IfNone o ((r : ℕ) → ¬ IsFreeRun s window n r)
     → IsPlace (is_mapped (entries s)) window (hint_page hint) n o
 place-without s hint window n o e found least none =
-    subst (λ (z : Option PageRange). IsPlace (is_mapped (entries s)) window (hint_page z) n o) (sym e) (in_window (no-hint (is_mapped (entries s)) n) (least-room s window n o found least none))
+    subst (λ (z : Option PageRange). IsPlace (is_mapped (entries s)) window (hint_page z) n o) (sym e)
+    (in_window (no-hint (is_mapped (entries s)) n) (least-room s window n o found least none))
 
 -- and where the hint's pages aren't free
-pub place-beside : (s : Slots) (hint : Option PageRange) (at window : PageRange) (n : ℕ) (o : Option ℕ) → hint ≡ Some at → IsSoundHint hint n → ((r : ℕ) → ¬ IsFreeRun s at n r)
+pub place-beside : (s : Slots) (hint : Option PageRange) (at window : PageRange) (n : ℕ) (o : Option ℕ) → hint ≡ Some at
+    → IsSoundHint hint n → ((r : ℕ) → ¬ IsFreeRun s at n r)
     → IfSome o (IsFreeRun s window n) → IfSome o (λ f. (r : ℕ) → r < f → ¬ IsFreeRun s window n r) → IfNone o ((r : ℕ) → ¬ IsFreeRun s window n r)
     → IsPlace (is_mapped (entries s)) window (hint_page hint) n o
 place-beside s hint at window n o e ok taken found least none =

@@ -32,20 +32,23 @@ same-file files (Some info) n = same-back files info.meta.back n
 covered : (range : PageRange) (p : ℕ) → range.first ≤ p → p < range.end → covers (one_range range) p ≡ true
 covered range p a b = ap (λ (t : Bool). t || false) (in_has range p a b)
 
-within-slot : (reads : ℕ → Type 0) (files : ℕ → Option File) (s : Slots) (range : PageRange) → IsReadable reads s (one_range range) → (first end page : ℕ) → IsSlot s first end → first ≤ page → range.first ≤ page
+within-slot : (reads : ℕ → Type 0) (files : ℕ → Option File) (s : Slots) (range : PageRange) → IsReadable reads s (one_range range)
+    → (first end page : ℕ) → IsSlot s first end → first ≤ page → range.first ≤ page
     → (k : ℕ) → page + k < end → page + k < range.end → is_read_only files (entries s (page + k)) ≡ is_read_only files (entries s page)
 within-slot reads files s range ok first end page slot low from zero h r = ap (λ (n : ℕ). is_read_only files (entries s n)) (omega arith)
 within-slot reads files s range ok first end page slot low from (suc k) h r =
     let at : page + suc k ≡ page + k + 1 = omega arith in
     let inside : s.edge (page + k + 1) ≡ false = slot.inside (page + k + 1) (omega arith) (omega arith) in
-    let next : s.info (page + k + 1) ≡ info_from (s.info (page + k)) 1 = ok.goes_on (page + k) (covered range (page + k) (omega arith) (omega arith)) (covered range (page + k + 1) (omega arith) (omega arith)) inside in
+    let next : s.info (page + k + 1) ≡ info_from (s.info (page + k)) 1 = ok.goes_on (page + k)
+    (covered range (page + k) (omega arith) (omega arith)) (covered range (page + k + 1) (omega arith) (omega arith)) inside in
     ap (λ (n : ℕ). is_read_only files (entries s n)) at
     ∙ (ap (λ (o : Option PageInfo). is_read_only files (entry_of o)) next
     ∙ (same-file files (s.info (page + k)) 1
     ∙ within-slot reads files s range ok first end page slot low from k (omega arith) (omega arith)))
 
 -- the slot of the page is passed by one look at the page
-pub passed-slot : (reads : ℕ → Type 0) (files : ℕ → Option File) (s : Slots) (range : PageRange) → IsReadable reads s (one_range range) → (slot : PageRange) (page : ℕ) → IsSlot s slot.first slot.end → has slot page ≡ true
+pub passed-slot : (reads : ℕ → Type 0) (files : ℕ → Option File) (s : Slots) (range : PageRange) → IsReadable reads s (one_range range)
+    → (slot : PageRange) (page : ℕ) → IsSlot s slot.first slot.end → has slot page ≡ true
     → is_read_only files (entries s page) ≡ false → Passed files s range page → Passed files s range slot.end
 passed-slot reads files s range ok slot page is here not before =
     let z : (slot.first ≤ page) × (page < slot.end) = has_in slot page here in
@@ -65,7 +68,8 @@ pub nothing-passed : (files : ℕ → Option File) (s : Slots) (range : PageRang
 nothing-passed files s range = record { from = omega arith; none = λ p a b r. absurd (omega arith) }
 
 -- past the range no page is such a one
-pub all-passed : (files : ℕ → Option File) (s : Slots) (range : PageRange) (page : ℕ) → Passed files s range page → range.end ≤ page → ¬ HasPage (is_read_only files) (entries s) range
+pub all-passed : (files : ℕ → Option File) (s : Slots) (range : PageRange) (page : ℕ) → Passed files s range page → range.end ≤ page
+    → ¬ HasPage (is_read_only files) (entries s) range
 all-passed files s range page passed past h =
     let z : (range.first ≤ h.0) × (h.0 < range.end) = has_in range h.0 h.1 in
     let no' : is_read_only files (entries s h.0) ≡ false = passed.none h.0 z.0 (omega (arith, z.1)) z.1 in

@@ -33,7 +33,12 @@ abbrev pub hint_at : ℕ → ℕ → Option PageRange
 hint_at h n = if are_pages (pages_from h n) then Some (pages_from h n) else None
 
 abbrev pub place_of : ℕ → ℕ → ℕ → Meta → Place
-place_of core addr len meta = record { hint = hint_at (page_of addr) (placed_count len); window = window_of core; count = placed_count len; meta = meta }
+place_of core addr len meta = record {
+  hint = hint_at (page_of addr) (placed_count len);
+  window = window_of core;
+  count = placed_count len;
+  meta = meta;
+}
 
 -- ---- an access
 
@@ -42,7 +47,8 @@ touch_of addr access byte = record { page = page_of addr; offset = offset_of add
 
 -- on an invalid page nothing is mapped
 abbrev pub touched : ℕ → Access → ℕ → Result Plan Reply
-touched addr access byte = if is_page (page_of addr) then Ok (PlanOf.Touch (touch_of addr access byte)) else Err (Segv MapErr)
+touched addr access byte = if is_page (page_of addr) then Ok (PlanOf.Touch (touch_of addr access byte)) else Err
+    (Segv MapErr)
 
 -- ---- every request
 

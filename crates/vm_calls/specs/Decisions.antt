@@ -28,7 +28,8 @@ use Rattle.vm_calls.specs.declared.decision.Decision.TheVariants.{Refuse, Act}
 -- said: a few slots may have been lent.
 pub record IsReadable (reads : ℕ → Type 0) (s : Slots) (fp : Footprint) : Type 0 where
   pub reads_all : (p : ℕ) → covers fp p ≡ true → reads p
-  pub goes_on : (p : ℕ) → covers fp p ≡ true → covers fp (p + 1) ≡ true → s.edge (p + 1) ≡ false → s.info (p + 1) ≡ info_from (s.info p) 1
+  pub goes_on : (p : ℕ) → covers fp p ≡ true → covers fp (p + 1) ≡ true → s.edge (p + 1) ≡ false
+      → s.info (p + 1) ≡ info_from (s.info p) 1
 
 -- the plan isn't an access
 abbrev pub IsNoTouch : Plan → Type 0
@@ -76,10 +77,12 @@ GoesTo s (Some first) n d = Acts s (pages_from first n) d
 -- a mapping goes to the plain map's place, or is refused where there is none
 abbrev pub DecidesPlace : Slots → Place → Decision → Type 0
 DecidesPlace s place d =
-    (found : Option ℕ) × IsPlace (is_mapped (entries s)) place.window (hint_page place.hint) place.count found × GoesTo s found place.count d
+    (found : Option ℕ) × IsPlace (is_mapped (entries s)) place.window (hint_page place.hint) place.count found
+    × GoesTo s found place.count d
 
 -- another protection is refused as by the plain map
-pub data DecidesProtect (files : ℕ → Option File) (s : Slots) (range : PageRange) (prot : Prot) (d : Decision) : Type 0 where
+pub data DecidesProtect (files : ℕ → Option File) (s : Slots) (range : PageRange) (prot : Prot)
+    (d : Decision) : Type 0 where
   no_page : HasPage is_absent (entries s) range → d ≡ Refuse ENOMEM → DecidesProtect files s range prot d
   no_write : ¬ HasPage is_absent (entries s) range → prot.write ≡ true
       → HasPage (is_read_only files) (entries s) range → d ≡ Refuse EACCES

@@ -58,7 +58,8 @@ IsPlain t core request plan (Act range shoot) = Applies t core request (answer_t
 abbrev pub DecisionsArePlain : Type 0
 DecisionsArePlain =
     (t : Plain) (files : ℕ → Option File) (s : Slots) (core : ℕ) (request : Request) (plan : Plan) (d : Decision)
-    → core < 64 → IsShown t files s (footprint_of plan) → checked (λ n. mode_of (files n)) core request ≡ Ok plan → IsNoTouch plan
+    → core < 64 → IsShown t files s (footprint_of plan) → checked (λ n. mode_of (files n)) core request ≡ Ok plan
+    → IsNoTouch plan
     → Decides files s plan d → IsPlain t core request plan d
 
 -- A decision looks at the pages of its footprint alone
@@ -90,10 +91,12 @@ touched_by t touch _ = t
 
 -- the entry of its page answers an access, and says what a store changes
 abbrev pub EntryAnswers : Plain → Touch → Reply → Plain → Type 0
-EntryAnswers t touch y u = (entry_reply t.file (t.entry touch.page) touch.access touch.offset ≡ Some y) × (u ≡ touched_by t touch y)
+EntryAnswers t touch y u = (entry_reply t.file (t.entry touch.page) touch.access touch.offset ≡ Some y)
+    × (u ≡ touched_by t touch y)
 
 -- a request that the check finds to be an access is answered by the entry of its page
 abbrev pub AccessesArePlain : Type 0
 AccessesArePlain =
-    (t : Plain) (modes : ℕ → Option Mode) (core : ℕ) (request : Request) (touch : Touch) → checked modes core request ≡ Ok (PlanOf.Touch touch)
+    (t : Plain) (modes : ℕ → Option Mode) (core : ℕ) (request : Request) (touch : Touch)
+    → checked modes core request ≡ Ok (PlanOf.Touch touch)
     → (y : Reply) (u : Plain) → Applies t core request y u ↔ EntryAnswers t touch y u

@@ -101,7 +101,8 @@ pub fn check<A: Allocator>(
 ) -> Result<Plan, Reply>
     ensures value { result ≡ checked (λ file. mode_of (files_of objects.now file)) core request }
     ensures sound { IfOk result (λ plan. IsSound plan) }
-    ensures plain { IfErr result (λ reply. (t : Plain) → HasModes t (files_of objects.now) → Applies t core request reply t) }
+    ensures plain { IfErr result (λ reply. (t : Plain) → HasModes t (files_of objects.now)
+        → Applies t core request reply t) }
 {
     if let Some(reply) = refused(objects, request) {
         return Err(reply);

@@ -46,8 +46,10 @@ fn act<M: SlotRead>(map: &M, range: PageRange) -> Decision
 /// The first page of a mapping's place: its hint's, if its pages are unmapped, or else that of the least room in the window.
 fn find<M: SlotRead>(map: &M, place: Place) -> Option<u64>
     requires sound { IsSoundPlace place }
-    requires readable { IsReadable (λ p. M.reads map.now p) (M.slots map.now) (with_hint place.hint place.window) }
-    ensures place { IsPlace (is_mapped (entries (M.slots map.now))) place.window (hint_page place.hint) place.count result }
+    requires readable { IsReadable (λ p. M.reads map.now p) (M.slots map.now)
+        (with_hint place.hint place.window) }
+    ensures place { IsPlace (is_mapped (entries (M.slots map.now))) place.window
+        (hint_page place.hint) place.count result }
     ensures within { IfSome result (λ s. (1 ≤ s) × (s + place.count ≤ 2 ^ 35)) }
 {
     if let Some(hint) = place.hint {
@@ -61,7 +63,8 @@ fn find<M: SlotRead>(map: &M, place: Place) -> Option<u64>
 /// A mapping goes to its place, which has no recorded core, or is refused where there is none.
 fn decide_place<M: SlotRead>(map: &M, place: Place) -> Decision
     requires sound { IsSoundPlace place }
-    requires readable { IsReadable (λ p. M.reads map.now p) (M.slots map.now) (with_hint place.hint place.window) }
+    requires readable { IsReadable (λ p. M.reads map.now p) (M.slots map.now)
+        (with_hint place.hint place.window) }
     ensures decision { DecidesPlace (M.slots map.now) place result }
     ensures sound { IsSoundAct (PlanOf.Place place) result }
 {
@@ -97,7 +100,8 @@ fn is_read_only<A: Allocator>(objects: &Objects<A>, info: Option<PageInfo>) -> b
 /// looked at.
 fn has_read_only<M: SlotRead, A: Allocator>(map: &M, objects: &Objects<A>, range: PageRange) -> bool
     requires readable { IsReadable (λ p. M.reads map.now p) (M.slots map.now) (one_range range) }
-    ensures { IsTrue result ↔ HasPage (is_read_only (files_of objects.now)) (entries (M.slots map.now)) range }
+    ensures { IsTrue result ↔ HasPage (is_read_only (files_of objects.now))
+        (entries (M.slots map.now)) range }
 {
     let mut page = range.first;
     'slots: while page < range.end {

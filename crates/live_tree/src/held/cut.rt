@@ -114,7 +114,8 @@ fn lock_parts<'a, R: Wait, A: Allocator + Clone>(
     end: u64,
 ) -> bool
     requires { HasRoomFor guards.old 512 }
-    ensures { (n : ℕ) × (next : ℕ) × AddsSlots first next n guards.old.items guards.new.items × (IsTrue result → (n ≡ 512) × (next ≡ end)) }
+    ensures { (n : ℕ) × (next : ℕ) × AddsSlots first next n guards.old.items guards.new.items
+        × (IsTrue result → (n ≡ 512) × (next ≡ end)) }
 {
     let mut next = first;
     'parts: for _ in 0..SLOTS {
@@ -137,7 +138,8 @@ fn lock_parts<'a, R: Wait, A: Allocator + Clone>(
 fn move_tail_to<T>(items: &mut [T], tail: usize, index: usize)
     requires order { index ≤ tail }
     requires within { tail ≤ length items.old }
-    ensures { (front back : List T) → items.old ≡ front ++ back → length front ≡ tail → items.new ≡ insert_slice front index back }
+    ensures { (front back : List T) → items.old ≡ front ++ back → length front ≡ tail
+        → items.new ≡ insert_slice front index back }
 {
     items[index..].rotate_left(tail - index);
 }
@@ -145,7 +147,8 @@ fn move_tail_to<T>(items: &mut [T], tail: usize, index: usize)
 // Puts the last 512 guards in the place of one, which is let go.
 fn put_in_place<'a, A: Allocator>(guards: &mut Guards<'a, A>, at: usize)
     requires { at + 512 < length guards.old.items }
-    ensures { (gs more : List (Option (MutexGuard SlotView))) → guards.old.items ≡ gs ++ more → length more ≡ 512 → guards.new.items ≡ take at gs ++ (more ++ drop (at + 1) gs) }
+    ensures { (gs more : List (Option (MutexGuard SlotView))) → guards.old.items ≡ gs ++ more
+        → length more ≡ 512 → guards.new.items ≡ take at gs ++ (more ++ drop (at + 1) gs) }
 {
     let tail = guards.len() - SLOTS;
     move_tail_to(guards.as_mut_slice(), tail, at);

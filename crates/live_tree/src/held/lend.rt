@@ -37,7 +37,10 @@ fn lend_all<'a, A: Allocator, B: Allocator>(
 ) -> bool
     requires new { IsNew (⟦<RunList<B> as SlotRead>⟧.slots lent.old) }
     requires some { All IsSome guards.now.items }
-    ensures { IsTrue result → (first : ℕ) (end : ℕ) → SideBySide first end (map slot_of guards.now.items) → Lends core (record { first = first; end = end; slots = map slot_of guards.now.items }) (⟦<RunList<B> as SlotRead>⟧.slots lent.new) }
+    ensures { IsTrue result → (first : ℕ) (end : ℕ)
+        → SideBySide first end (map slot_of guards.now.items)
+        → Lends core (record { first = first; end = end; slots = map slot_of guards.now.items })
+        (⟦<RunList<B> as SlotRead>⟧.slots lent.new) }
 {
     'guards: for guard in guards.as_slice() {
         if !lend(lent, guard, core) {
@@ -54,7 +57,10 @@ fn lend<A: Allocator, B: Allocator>(
     core: CoreId,
 ) -> bool
     requires { IsSome guard.now }
-    ensures { IsTrue result → ⟦<RunList<B> as SlotRead>⟧.slots lent.new ≡ with_slot (⟦<RunList<B> as SlotRead>⟧.slots lent.old) (slot_of guard.now).first ((slot_of guard.now).first + (slot_of guard.now).count) (Some core) (slot_of guard.now).content }
+    ensures { IsTrue result → ⟦<RunList<B> as SlotRead>⟧.slots lent.new ≡ with_slot
+        (⟦<RunList<B> as SlotRead>⟧.slots lent.old) (slot_of guard.now).first
+        ((slot_of guard.now).first + (slot_of guard.now).count) (Some core)
+        (slot_of guard.now).content }
 {
     let Some(slot) = guard else {
         unreachable!();

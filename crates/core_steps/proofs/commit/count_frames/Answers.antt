@@ -18,20 +18,23 @@ lists-init g c = record {
 pub count_list-requires-clause-used : goal.count_list-requires-clause-used
 count_list-requires-clause-used g c =
     let frame = frames_in (g.M.SlotRead.slots c.args.map.now) in
-    let lists = list_whole frame c.lists.from c.list_frames-from.result c.clear.new.self.items c.list_frames-from.new.list.items c.clear.ensures c.list_frames-from.ensures.added in
+    let lists = list_whole frame c.lists.from c.list_frames-from.result c.clear.new.self.items c.list_frames-from.new.list.items
+    c.clear.ensures c.list_frames-from.ensures.added in
     subst (λ xs. AreUsed xs (counts_of c.lists.counts)) (sym c.deref.ensures.0)
-    (listed_used frame c.lists.from c.list_frames-from.result c.list_frames-from.new.list.items (counts_of c.lists.counts) c.requires.counted.apart c.lists.invariant.still lists)
+    (listed_used frame c.lists.from c.list_frames-from.result c.list_frames-from.new.list.items
+    (counts_of c.lists.counts) c.requires.counted.apart c.lists.invariant.still lists)
 
 pub lists-smaller : goal.lists-smaller
 lists-smaller g c =
     let frame = frames_in (g.M.SlotRead.slots c.args.map.now) in
-    let lists = list_whole frame c.lists.from c.list_frames-from.result c.clear.new.self.items c.list_frames-from.new.list.items c.clear.ensures c.list_frames-from.ensures.added in
+    let lists = list_whole frame c.lists.from c.list_frames-from.result c.clear.new.self.items c.list_frames-from.new.list.items
+    c.clear.ensures c.list_frames-from.ensures.added in
     let more : c.lists.from < c.list_frames-from.result = ⊎_elim
-        (λ (l : c.list_frames-from.result < c.args.range.end).
-        let full = c.list_frames-from.ensures.full l in
-        list_moves frame c.lists.from c.list_frames-from.result c.list_frames-from.new.list.items (omega (arith, full)) lists)
-        (λ (l : c.args.range.end ≤ c.list_frames-from.result). omega (arith, c.lists-test.true))
-        (cases_lt c.list_frames-from.result c.args.range.end) in
+    (λ (l : c.list_frames-from.result < c.args.range.end).
+    let full = c.list_frames-from.ensures.full l in
+    list_moves frame c.lists.from c.list_frames-from.result c.list_frames-from.new.list.items (omega (arith, full)) lists)
+    (λ (l : c.args.range.end ≤ c.list_frames-from.result). omega (arith, c.lists-test.true))
+    (cases_lt c.list_frames-from.result c.args.range.end) in
     omega (arith, more, c.lists-test.true)
 
 pub lists-preserved : goal.lists-preserved
@@ -46,6 +49,8 @@ lists-preserved g c =
       low = omega (arith, low, e.low);
       high = e.high;
       here = subst (λ n. c.args.core < n) (sym (each_cores c.args.core _ (counts_of c.lists.counts) (counts_of c.count_list.new.counts) each)) i.here;
-      still = each_still c.args.core frame c.lists.from c.list_frames-from.result c.list_frames-from.new.list.items _ _ e.low c.requires.counted.apart i.still lists each;
-      counted = lost_list c.args.core frame c.args.range.first c.lists.from c.list_frames-from.result c.list_frames-from.new.list.items _ _ _ low e.low i.counted lists each;
+      still = each_still c.args.core frame c.lists.from c.list_frames-from.result c.list_frames-from.new.list.items _ _ e.low
+          c.requires.counted.apart i.still lists each;
+      counted = lost_list c.args.core frame c.args.range.first c.lists.from c.list_frames-from.result c.list_frames-from.new.list.items _ _
+          _ low e.low i.counted lists each;
     }

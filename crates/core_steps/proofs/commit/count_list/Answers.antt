@@ -18,7 +18,9 @@ pages-preserved g c =
     let more = drop_more c.args.list.now c.pages.k unread c.pages-test.true in
     record {
       here = subst (λ n. c.args.core < n) (sym c.dec.ensures.size.0) i.here;
-      used = used_next c.args.core (get_or c.args.list.now c.pages.k unread) (drop (c.pages.k + 1) c.args.list.now) (counts_of c.pages.counts) (counts_of c.dec.new.self)
+      used = used_next c.args.core (get_or c.args.list.now c.pages.k unread) (drop (c.pages.k + 1) c.args.list.now)
+          (counts_of c.pages.counts) (counts_of c.dec.new.self)
           (subst (λ xs. AreUsed xs (counts_of c.pages.counts)) more i.used) c.dec.ensures.step;
-      rest = λ w e. i.rest w (subst (λ xs. CountsEach c.args.core xs (counts_of c.pages.counts) w) (sym more) (counts_of c.dec.new.self, c.dec.ensures.step, e));
+      rest = λ w e. i.rest w (subst (λ xs. CountsEach c.args.core xs (counts_of c.pages.counts) w) (sym more)
+          (counts_of c.dec.new.self, c.dec.ensures.step, e));
     }

@@ -14,4 +14,5 @@ returns-clause-bytes g c =
     let long : 4096 ≤ length c.index_mut.result.now = search rules in
     let is : c.index_mut.result.now ≡ get_or c.args.pages.now.items c.args.at [] = c.index_mut.ensures.value ∙ get_or_default pages c.args.at _ _ there in
     pages-set pages c.args.at (set page c.args.offset c.args.byte) there
-    ∙ ap (put (all_pages pages) c.args.at) (page-set page c.args.offset c.args.byte c.requires.offset long ∙ ap (λ p. put (page_bytes p 0) c.args.offset c.args.byte) is)
+    ∙ ap (put (all_pages pages) c.args.at) (page-set page c.args.offset c.args.byte c.requires.offset long
+    ∙ ap (λ p. put (page_bytes p 0) c.args.offset c.args.byte) is)

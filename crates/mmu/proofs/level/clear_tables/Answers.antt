@@ -29,8 +29,10 @@ tables-preserved g c =
     let in' : i < length items = omega arith in
     record {
       full = c.tables.invariant.full;
-      entries = cleared_next at None c.args.tables.now.items None P (has r) items i (has c.part.result) c.clear_table.new.table g.met.C.Level.some_page in' c.tables.invariant.entries
-          (λ k h. c.clear_table.ensures k h ∙ ap (λ o. cond (has c.part.result k) None (at o k)) (c.index_mut.ensures.value ∙ get_or_default items i c.index_mut.result.now None in'))
+      entries = cleared_next at None c.args.tables.now.items None P (has r) items i (has c.part.result) c.clear_table.new.table
+          g.met.C.Level.some_page in' c.tables.invariant.entries
+          (λ k h. c.clear_table.ensures k h ∙ ap (λ o. cond (has c.part.result k) None (at o k)) (c.index_mut.ensures.value
+          ∙ get_or_default items i c.index_mut.result.now None in'))
           (λ k h. c.part.ensures.pages k (rw c.requires.below h) ∙ ap (λ b. has r (i * b + k)) c.requires.below);
     }
 
@@ -38,5 +40,8 @@ pub returns-clause-entries : goal.returns-clause-entries
 returns-clause-entries g c =
     let P = g.C.Level.pages in
     let r = c.args.range in
-    let reached : r.end ≤ c.tables.i * P = past_end r.end P c.div_ceil-end.result c.tables.i g.met.C.Level.some_page (c.div_ceil-end.ensures ∙ ap (div_ceil r.end) c.requires.below) c.tables-test.false in
-    λ q. c.tables.invariant.entries q ∙ ap (λ b. cond b None (option_and_then (λ b. g.C.Level.entry_at b.value (q % P)) (get_or c.args.tables.now.items (q / P) None))) (all_before r P q c.tables.i g.met.C.Level.some_page reached)
+    let reached : r.end ≤ c.tables.i * P = past_end r.end P c.div_ceil-end.result c.tables.i g.met.C.Level.some_page
+    (c.div_ceil-end.ensures ∙ ap (div_ceil r.end) c.requires.below) c.tables-test.false in
+    λ q. c.tables.invariant.entries q
+    ∙ ap (λ b. cond b None (option_and_then (λ b. g.C.Level.entry_at b.value (q % P)) (get_or c.args.tables.now.items (q / P) None)))
+    (all_before r P q c.tables.i g.met.C.Level.some_page reached)

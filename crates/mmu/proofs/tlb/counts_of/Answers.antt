@@ -12,7 +12,8 @@ loop-entry-init c = record { whole = refl; exact = λ h below. get_or-replicate_
 pub overflow_add-counts : goal.overflow_add-counts
 overflow_add-counts c =
     let front : List TlbEntry = take c.loop-entry.entry-index c.args.entries.now in
-    let some : slice_index c.loop-entry.counts c.hash.result ≤ length front = counts_small c.loop-entry.counts front c.hash.result c.loop-entry.invariant c.hash.ensures.below in
+    let some : slice_index c.loop-entry.counts c.hash.result ≤ length front = counts_small c.loop-entry.counts front c.hash.result
+    c.loop-entry.invariant c.hash.ensures.below in
     omega (arith, length-take c.loop-entry.entry-index c.args.entries.now)
 
 pub loop-entry-preserved : goal.loop-entry-preserved

@@ -21,14 +21,17 @@ post-requires-clause-others g c = go (members c.with-targets.result c.new-sender
   where
     go : (b : Bool) → members c.with-targets.result c.new-sender.result ≡ b → members c.with-targets.result c.new-sender.result ≡ false
     go false e = e
-    go true e = absurd (neither (one_of_two c.empty.result c.empty.ensures (members c.with.result) (members c.with-targets.result) c.new-near.result c.new-far.result c.with.ensures.members c.with-targets.ensures.members c.new-sender.result e))
+    go true e = absurd
+        (neither (one_of_two c.empty.result c.empty.ensures (members c.with.result) (members c.with-targets.result) c.new-near.result
+        c.new-far.result c.with.ensures.members c.with-targets.ensures.members c.new-sender.result e))
       where
         neither : (c.new-sender.result ≡ c.new-near.result) ⊎ (c.new-sender.result ≡ c.new-far.result) → ⊥
         neither (inl s) = omega arith
         neither (inr s) = omega arith
 
 pub post-requires-clause-within : goal.post-requires-clause-within
-post-requires-clause-within g c = λ d e. go d (one_of_two c.empty.result c.empty.ensures (members c.with.result) (members c.with-targets.result) c.new-near.result c.new-far.result c.with.ensures.members c.with-targets.ensures.members d e)
+post-requires-clause-within g c = λ d e. go d (one_of_two c.empty.result c.empty.ensures (members c.with.result)
+    (members c.with-targets.result) c.new-near.result c.new-far.result c.with.ensures.members c.with-targets.ensures.members d e)
   where
     go : (d : ℕ) → (d ≡ c.new-near.result) ⊎ (d ≡ c.new-far.result) → d < length c.new-inboxes.result
     go d (inl s) = omega arith

@@ -19,13 +19,17 @@ pub copy_page-requires : goal.copy_page-requires
 copy_page-requires g c =
     page_there (file_of c.index-files-source.result) c.args.source.page
     (subst (λ (o : Option File). is_some (file_bytes o c.args.source.page) ≡ true)
-    (element-get (λ (f : PlainFile g.row.A.Denot). Some (file_of f)) None c.args.files.now c.args.source.file c.index-files-source.result (file_there c.args.files.now c.args.source.file c.args.source.page c.requires) c.index-files-source.is)
+    (element-get (λ (f : PlainFile g.row.A.Denot). Some (file_of f)) None c.args.files.now c.args.source.file c.index-files-source.result
+    (file_there c.args.files.now c.args.source.file c.args.source.page c.requires) c.index-files-source.is)
     c.requires)
 
 pub returns : goal.returns
 returns g c =
-    let at = element-get (λ (f : PlainFile g.row.A.Denot). Some (file_of f)) None c.args.files.now c.args.source.file c.index-files-source.result (file_there c.args.files.now c.args.source.file c.args.source.page c.requires) c.index-files-source.is in
+    let at = element-get (λ (f : PlainFile g.row.A.Denot). Some (file_of f)) None c.args.files.now c.args.source.file
+    c.index-files-source.result (file_there c.args.files.now c.args.source.file c.args.source.page c.requires) c.index-files-source.is
+    in
     let within : c.args.source.page < (file_of c.index-files-source.result).count =
-    page_there (file_of c.index-files-source.result) c.args.source.page (subst (λ (o : Option File). is_some (file_bytes o c.args.source.page) ≡ true) at c.requires) in
+    page_there (file_of c.index-files-source.result) c.args.source.page
+    (subst (λ (o : Option File). is_some (file_bytes o c.args.source.page) ≡ true) at c.requires) in
     bytes_there (file_of c.index-files-source.result) c.args.source.page (bytes_in c.in_ok-bytes.bytes) within c.in_ok-bytes.ensures
     ∙ ap (λ (o : Option File). file_bytes o c.args.source.page) (sym at)

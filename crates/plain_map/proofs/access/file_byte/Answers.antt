@@ -9,8 +9,11 @@ use Rattle.plain_map.proofs.access.file_byte.Goals as goal
 pub returns-then-file-files : goal.returns-then-file-files
 returns-then-file-files g c =
     c.byte.ensures
-    ∙ ap (λ (f : Option File). byte_at (file_bytes f c.args.page) c.args.offset) (sym (element-get (λ (f : PlainFile g.row.A.Denot). Some (file_of f)) None c.args.files.now c.args.file c.index-files-file.result c.if-file-files.true c.index-files-file.is))
+    ∙ ap (λ (f : Option File). byte_at (file_bytes f c.args.page) c.args.offset)
+    (sym (element-get (λ (f : PlainFile g.row.A.Denot). Some (file_of f)) None c.args.files.now c.args.file c.index-files-file.result
+    c.if-file-files.true c.index-files-file.is))
 
 pub returns-else-file-files : goal.returns-else-file-files
 returns-else-file-files g c =
-    ap (λ (f : Option File). byte_at (file_bytes f c.args.page) c.args.offset) (sym (element-past (λ (f : PlainFile g.row.A.Denot). Some (file_of f)) None c.args.files.now c.args.file c.if-file-files.false))
+    ap (λ (f : Option File). byte_at (file_bytes f c.args.page) c.args.offset)
+    (sym (element-past (λ (f : PlainFile g.row.A.Denot). Some (file_of f)) None c.args.files.now c.args.file c.if-file-files.false))

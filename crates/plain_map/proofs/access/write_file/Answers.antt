@@ -15,7 +15,8 @@ pub set-requires-clause-page : goal.set-requires-clause-page
 set-requires-clause-page g c =
     page_there (file_of c.index_mut.result.now) c.args.to.page
     (subst (λ (o : Option File). is_some (file_bytes o c.args.to.page) ≡ true)
-    (element-get (λ (f : PlainFile g.row.A.Denot). Some (file_of f)) None c.args.files.now.items c.args.to.file c.index_mut.result.now (file_there c.args.files.now.items c.args.to.file c.args.to.page c.requires.page) c.index_mut.ensures.value)
+    (element-get (λ (f : PlainFile g.row.A.Denot). Some (file_of f)) None c.args.files.now.items c.args.to.file c.index_mut.result.now
+    (file_there c.args.files.now.items c.args.to.file c.args.to.page c.requires.page) c.index_mut.ensures.value)
     c.requires.page)
 
 pub returns-clause-bytes : goal.returns-clause-bytes

@@ -4,4 +4,5 @@ use Rattle.plain_map.proofs.Elements.{pushed}
 use Rattle.plain_map.proofs.file.push_page.Goals as goal
 
 pub returns-clause-bytes : goal.returns-clause-bytes
-returns-clause-bytes g c = pushed bytes_in zeros c.args.pages.now.items c.push.new.self.items c.in_ok-page.page _ c.in_ok-push.ensures.items c.in_ok-page.ensures
+returns-clause-bytes g c = pushed bytes_in zeros c.args.pages.now.items c.push.new.self.items c.in_ok-page.page _
+    c.in_ok-push.ensures.items c.in_ok-page.ensures

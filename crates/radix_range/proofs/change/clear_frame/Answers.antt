@@ -11,4 +11,5 @@ use Rattle.radix_range.proofs.change.clear_frame.Goals as goal
 pub returns-clause-slots : goal.returns-clause-slots
 returns-clause-slots g c =
     let s = tree_slots c.args.root.now in
-    c.edit_range.ensures.slots ∙ ap (λ r. edited_to s r DropFrame) c.one_page.ensures ∙ edited_one s c.args.page DropFrame (info_without_frame (s.info c.args.page)) refl
+    c.edit_range.ensures.slots ∙ ap (λ r. edited_to s r DropFrame) c.one_page.ensures
+    ∙ edited_one s c.args.page DropFrame (info_without_frame (s.info c.args.page)) refl

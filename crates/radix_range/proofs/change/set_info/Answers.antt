@@ -11,4 +11,5 @@ use Rattle.radix_range.proofs.change.set_info.Goals as goal
 pub returns-clause-slots : goal.returns-clause-slots
 returns-clause-slots g c =
     let s = tree_slots c.args.root.now in
-    c.edit_range.ensures.slots ∙ ap (λ r. edited_to s r (Put (Some c.args.info))) c.one_page.ensures ∙ edited_one s c.args.page (Put (Some c.args.info)) (Some c.args.info) (info_from_zero (Some c.args.info))
+    c.edit_range.ensures.slots ∙ ap (λ r. edited_to s r (Put (Some c.args.info))) c.one_page.ensures
+    ∙ edited_one s c.args.page (Put (Some c.args.info)) (Some c.args.info) (info_from_zero (Some c.args.info))

@@ -9,5 +9,6 @@ cores-preserved g c =
     let len = c.in_ok-push.ensures.len in
     let before = c.cores.invariant.0 in (
       omega (arith, len, before),
-      subst (All (IsNewCore (c.args.objects + 1))) (sym c.in_ok-push.ensures.items) (All-push (IsNewCore (c.args.objects + 1)) c.cores.parts.items c.in_ok-new.field-0 c.cores.invariant.1 c.in_ok-new.ensures),
+      subst (All (IsNewCore (c.args.objects + 1))) (sym c.in_ok-push.ensures.items)
+          (All-push (IsNewCore (c.args.objects + 1)) c.cores.parts.items c.in_ok-new.field-0 c.cores.invariant.1 c.in_ok-new.ensures),
     )

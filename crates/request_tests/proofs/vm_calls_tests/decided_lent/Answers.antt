@@ -19,7 +19,8 @@ decide-requires-clause-readable g c =
     let high : range.end ≤ pages.end = subst (λ (r : PageRange). r.end ≤ pages.end) c.range-range.ensures c.if-lent-range.false in
     let valid : (p : ℕ) → covers (one_range range) p ≡ true → IsPage p = plan-valid (PlanOf.Change c.args.change) c.requires in
     let lent : (p : ℕ) → covers (one_range range) p ≡ true → has pages p ≡ true = λ p h.
-    let z : (range.first ≤ p) × (p < range.end) = has_in range p (covered-one range p h) in in_has pages p (omega (arith, low, z.0)) (omega (arith, high, z.1)) in
+    let z : (range.first ≤ p) × (p < range.end) = has_in range p (covered-one range p h) in
+    in_has pages p (omega (arith, low, z.0)) (omega (arith, high, z.1)) in
     record {
       reads_all = λ p h. (valid p h, lent p h);
       goes_on = λ p h _ e. (slots_of-is_slot_map _ c.args.lent.now.list.ok).goes_on p (valid p h) e;

@@ -18,7 +18,8 @@ targets-init c = record {
 pub returns-in_default-clause-messages : goal.returns-in_default-clause-messages
 returns-in_default-clause-messages c =
     let none : c.targets.rest ≡ 0 = c.in_default.ensures.none in
-    c.targets.invariant.messages ∙ all_done c.args.from c.args.range (members c.args.to) (members c.targets.rest) (inbox c.args.inboxes.now) (λ k. rw none (ap (λ b. b == 1) (bit_at-zero k)))
+    c.targets.invariant.messages ∙ all_done c.args.from c.args.range (members c.args.to) (members c.targets.rest)
+    (inbox c.args.inboxes.now) (λ k. rw none (ap (λ b. b == 1) (bit_at-zero k)))
 
 pub post_at-requires-clause-other : goal.post_at-requires-clause-other
 post_at-requires-clause-other c = λ e.
@@ -32,7 +33,9 @@ post_at-requires-clause-other c = λ e.
 pub post_at-requires-clause-none : goal.post_at-requires-clause-none
 post_at-requires-clause-none c =
     let t = c.in-Some.target in
-    let same : inbox c.targets.inboxes t ≡ inbox c.args.inboxes.now t = ap (λ f. f t) c.targets.invariant.messages ∙ ap (λ b. cond b (inbox c.args.inboxes.now t ++ posted c.args.from c.args.range ∷ []) (inbox c.args.inboxes.now t)) (not_done (members c.args.to) (members c.targets.rest) t c.in-Some.ensures.member) in
+    let same : inbox c.targets.inboxes t ≡ inbox c.args.inboxes.now t = ap (λ f. f t) c.targets.invariant.messages
+    ∙ ap (λ b. cond b (inbox c.args.inboxes.now t ++ posted c.args.from c.args.range ∷ []) (inbox c.args.inboxes.now t))
+    (not_done (members c.args.to) (members c.targets.rest) t c.in-Some.ensures.member) in
     ap (λ ms. is_some (message_of ms c.args.from)) same ∙ c.requires.idle t
 
 pub targets-preserved : goal.targets-preserved
@@ -63,7 +66,8 @@ targets-preserved c =
 
 pub returns-clause-messages : goal.returns-clause-messages
 returns-clause-messages c =
-    c.targets.invariant.messages ∙ all_done c.args.from c.args.range (members c.args.to) (members c.targets.rest) (inbox c.args.inboxes.now) (λ k. none k (members c.targets.rest k) refl)
+    c.targets.invariant.messages ∙ all_done c.args.from c.args.range (members c.args.to) (members c.targets.rest)
+    (inbox c.args.inboxes.now) (λ k. none k (members c.targets.rest k) refl)
   where
     none : (k : ℕ) (b : Bool) → members c.targets.rest k ≡ b → members c.targets.rest k ≡ false
     none k false e = e

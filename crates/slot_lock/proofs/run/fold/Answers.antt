@@ -8,7 +8,8 @@ pub returns-clause-runs : goal.returns-clause-runs
 returns-clause-runs g c =
     let at = rw c.deref.ensures.value at c.place-i.ensures in
     let joint : IsJoint c.args.runs.now.items c.place-i.result = rw c.deref-2.ensures.value at (c.can_join.ensures.0 c.if-not-can_join.false) in
-    rw c.remove.ensures.items (joined-IsRuns _ c.requires.runs _ (record { after_first = after_first _ c.requires.runs _ _ at c.requires.page.0; joint = joint }))
+    rw c.remove.ensures.items
+    (joined-IsRuns _ c.requires.runs _ (record { after_first = after_first _ c.requires.runs _ _ at c.requires.page.0; joint = joint }))
 
 pub returns-clause-joined : goal.returns-clause-joined
 returns-clause-joined g c = λ _.
@@ -17,7 +18,11 @@ returns-clause-joined g c = λ _.
     record {
       at = (get_run c.args.runs.now.items (c.place-i.result + 1)).start;
       could = joint-CanJoin _ c.requires.runs _ _ at joint;
-      now = rw c.remove.ensures.items (slots_of-joined _ c.requires.runs _ (record { after_first = after_first _ c.requires.runs _ _ at c.requires.page.0; joint = joint }));
+      now = rw c.remove.ensures.items
+          (slots_of-joined _ c.requires.runs _ (record {
+            after_first = after_first _ c.requires.runs _ _ at c.requires.page.0;
+            joint = joint;
+          }));
     }
 
 pub returns-then-not-can_join-clause-only : goal.returns-then-not-can_join-clause-only

@@ -6,10 +6,12 @@ use Rattle.slot_lock.proofs.run.set_info.Goals as goal
 
 pub returns-clause-runs : goal.returns-clause-runs
 returns-clause-runs g c =
-    let run : c.index_mut.result.now ≡ get_run c.args.runs.now.items c.args.i = read_run c.args.runs.now.items c.args.i c.index_mut.result.now (omega (arith, c.requires.inner.before_last)) c.index_mut.ensures.value in
+    let run : c.index_mut.result.now ≡ get_run c.args.runs.now.items c.args.i = read_run c.args.runs.now.items c.args.i
+    c.index_mut.result.now (omega (arith, c.requires.inner.before_last)) c.index_mut.ensures.value in
     rw run (informed-IsRuns _ c.requires.runs _ c.args.info (record { inner = c.requires.inner; one = c.requires.one; meta = c.requires.meta }))
 
 pub returns-clause-slots : goal.returns-clause-slots
 returns-clause-slots g c =
-    let run : c.index_mut.result.now ≡ get_run c.args.runs.now.items c.args.i = read_run c.args.runs.now.items c.args.i c.index_mut.result.now (omega (arith, c.requires.inner.before_last)) c.index_mut.ensures.value in
+    let run : c.index_mut.result.now ≡ get_run c.args.runs.now.items c.args.i = read_run c.args.runs.now.items c.args.i
+    c.index_mut.result.now (omega (arith, c.requires.inner.before_last)) c.index_mut.ensures.value in
     rw run (slots_of-informed _ c.requires.runs _ c.args.info (record { inner = c.requires.inner; one = c.requires.one; meta = c.requires.meta }))

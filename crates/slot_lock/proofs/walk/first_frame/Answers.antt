@@ -12,7 +12,8 @@ runs-preserved c =
     let here = get_or_default c.args.runs.now c.runs.i c.index-runs-i.result nobody walk.within in
     let below = rw here at c.runs-test.true in
     let more = walk_more _ c.requires.runs _ _ _ walk below c.requires.end in
-    let none : frame_of (get_run c.args.runs.now c.runs.i).info ≡ None = elim c.match-runs-i.branch as (λ _. frame_of (get_run c.args.runs.now c.runs.i).info ≡ None) [
+    let none : frame_of (get_run c.args.runs.now c.runs.i).info ≡ None = elim c.match-runs-i.branch as
+    (λ _. frame_of (get_run c.args.runs.now c.runs.i).info ≡ None) [
       | in-Some+in_default-frame w ↦ ap frame_of (read_info _ _ _ _ walk.within w.in-Some.is) ∙ w.in_default-frame.is
       | in_default w ↦ ap frame_of (read_info _ _ _ _ walk.within w.in_default.is)
     ] in

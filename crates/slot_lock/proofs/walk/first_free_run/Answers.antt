@@ -26,9 +26,11 @@ runs-preserved c =
     let next = get_or_default c.args.runs.now (c.runs.i + 1) c.index-runs-i-in-runs.result nobody more in
     let here_too = get_or_default c.args.runs.now c.runs.i c.index-runs-i-in-runs-2.result nobody f.walk.within in
     elim c.if-is_some.branch as (λ _. Free c.args.runs.now c.args.range c.args.n c.if-is_some.start (c.runs.i + 1)) [
-      | then-is_some w ↦ rw (w.start-is, next) (free_mapped _ c.requires.runs c.args.range _ _ _ c.requires.some f more below (rw here_too at (sym (w.if-is_some.ensures {u = tt}))))
+      | then-is_some w ↦ rw (w.start-is, next) (free_mapped _ c.requires.runs c.args.range _ _ _ c.requires.some f more below
+          (rw here_too at (sym (w.if-is_some.ensures {u = tt}))))
       | else-is_some+else-n-min w ↦
-          let few : min (get_run c.args.runs.now (c.runs.i + 1)).start c.args.range.end - c.runs.start < c.args.n = rw (w.min.ensures, next) at w.if-n-min.false in
+          let few : min (get_run c.args.runs.now (c.runs.i + 1)).start c.args.range.end - c.runs.start < c.args.n =
+          rw (w.min.ensures, next) at w.if-n-min.false in
           rw w.start-is (free_next _ c.requires.runs c.args.range _ _ _ f more (rw here_too at (sym (w.if-is_some.ensures {u = tt}))) few)
     ]
 

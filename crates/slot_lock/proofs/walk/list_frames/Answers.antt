@@ -23,7 +23,8 @@ runs-preserved c =
           let one = is_one _ c.requires.runs c.args.from c.args.end c.runs.i w.in-Some.frame h.walk more below (sym found ∙ w.in-Some.is) in
           let items = ap (λ v. v.items) w.list-is ∙ w.push.ensures.items in
           subst (λ xs. ListsTo c.args.runs.now c.args.from c.args.end (c.runs.i + 1) c.args.list.now.items xs) (sym items)
-          (subst (λ (r : Run). ListsTo c.args.runs.now c.args.from c.args.end (c.runs.i + 1) c.args.list.now.items (c.runs.list.items ++ (record { page = r.start; frame = w.in-Some.frame }) ∷ [])) (sym page)
+          (subst (λ (r : Run). ListsTo c.args.runs.now c.args.from c.args.end (c.runs.i + 1) c.args.list.now.items
+          (c.runs.list.items ++ (record { page = r.start; frame = w.in-Some.frame }) ∷ [])) (sym page)
           (list_one _ c.requires.runs c.args.from c.args.end c.runs.i w.in-Some.frame _ c.runs.list.items h more below one))
       | in_default w ↦
           let items = ap (λ v. v.items) w.list-is in

@@ -5,7 +5,8 @@ use Rattle.trace.proofs.event_lines.tell_call.Goals as goal
 
 pub returns-in-Stepped-clause-ok : goal.returns-in-Stepped-clause-ok
 returns-in-Stepped-clause-ok g c =
-    began c.tell_finish.result (state c.args.machine.now) (state c.step.new.self) (state c.tell_finish.new.machine) c.args.core c.args.request c.in_ok-outcome.outcome
+    began c.tell_finish.result (state c.args.machine.now) (state c.step.new.self) (state c.tell_finish.new.machine) c.args.core
+    c.args.request c.in_ok-outcome.outcome
     c.tell_finish.new.text.bytes c.in-Stepped.is c.in_ok-outcome.ensures.step
     c.tell_finish.ensures.ok
 

@@ -9,7 +9,12 @@ invariant-lines g l = record {
   budget : l.number + budget (g.S.Source.reads l.reader) l.lines ≤ 65536 * 2 ^ 32;
   kept : g.W.Sink.failed l.writer ≡ g.W.Sink.failed l.initial.writer;
   ran : IfSome (g.S.Source.remaining l.initial.reader) (λ input. HasRun input (g.W.Sink.contents l.initial.writer)
-      (record { left = left (g.S.Source.remaining l.reader) l.lines; unread = g.S.Source.remaining l.reader; stage = g.R.Staged.stage l.replayer; written = g.W.Sink.contents l.writer }) l.number);
+      (record {
+        left = left (g.S.Source.remaining l.reader) l.lines;
+        unread = g.S.Source.remaining l.reader;
+        stage = g.R.Staged.stage l.replayer;
+        written = g.W.Sink.contents l.writer;
+      }) l.number);
 }
 
 abbrev pub decreases-lines : goal.decreases-lines

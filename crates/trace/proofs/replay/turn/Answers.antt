@@ -26,4 +26,5 @@ returns-in-Err-clause-write g c e = not_write _ _ _ _ c.in-Err.ensures.err (cc)
 pub returns-in-Err-write_all-clause-turns : goal.returns-in-Err-write_all-clause-turns
 returns-in-Err-write_all-clause-turns g c =
     let found = rw c.in-Ok-Line.field-0-is at c.in-Ok-Line.ensures.found in
-    text_lost _ _ _ _ _ _ _ _ found.0 found.1 found.2 c.line.ensures c.in_default.ensures.ok (c.as_bytes.ensures.value ∙ c.as_str.ensures.value) c.in-Ok-Line.ensures.written c.in-Err-write_all.ensures.front
+    text_lost _ _ _ _ _ _ _ _ found.0 found.1 found.2 c.line.ensures c.in_default.ensures.ok (c.as_bytes.ensures.value
+    ∙ c.as_str.ensures.value) c.in-Ok-Line.ensures.written c.in-Err-write_all.ensures.front

@@ -10,4 +10,6 @@ returns-then-is_empty c =
 pub returns : goal.returns
 returns c =
     let given = c.word_length.ensures in
-    rw (c.split_at-2.ensures.front, c.split_at-2.ensures.back) (sym (word_some _ _ _ _ c.space_count.ensures.within c.space_count.ensures.before c.space_count.ensures.stops c.split_at.ensures.back (grind (arith, nat_tests)) given.within given.before given.stops))
+    rw (c.split_at-2.ensures.front, c.split_at-2.ensures.back)
+    (sym (word_some _ _ _ _ c.space_count.ensures.within c.space_count.ensures.before c.space_count.ensures.stops
+    c.split_at.ensures.back (grind (arith, nat_tests)) given.within given.before given.stops))

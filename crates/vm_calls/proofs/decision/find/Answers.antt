@@ -9,7 +9,11 @@ pub returns-clause-place : goal.returns-clause-place
 returns-clause-place g c =
     let s = g.M.SlotRead.slots c.args.map.now in
     let run = c.first_free_run-2.ensures in
-    elim c.match-place.branch as (λ _. IsPlace (is_mapped (entries s)) c.args.place.window (hint_page c.args.place.hint) c.args.place.count c.first_free_run-2.result) [
-      | in-Some+in_default-first_free_run w ↦ place-beside s c.args.place.hint w.in-Some.hint c.args.place.window c.args.place.count c.first_free_run-2.result w.in-Some.is c.requires.sound.hint (w.in_default-first_free_run.ensures {u = tt}).none run.found run.least run.none
-      | in_default w ↦ place-without s c.args.place.hint c.args.place.window c.args.place.count c.first_free_run-2.result w.in_default.is run.found run.least run.none
+    elim c.match-place.branch as (λ _. IsPlace (is_mapped (entries s)) c.args.place.window (hint_page c.args.place.hint) c.args.place.count
+    c.first_free_run-2.result) [
+      | in-Some+in_default-first_free_run w ↦ place-beside s c.args.place.hint w.in-Some.hint c.args.place.window c.args.place.count
+          c.first_free_run-2.result w.in-Some.is c.requires.sound.hint (w.in_default-first_free_run.ensures {u = tt}).none run.found
+          run.least run.none
+      | in_default w ↦ place-without s c.args.place.hint c.args.place.window c.args.place.count c.first_free_run-2.result w.in_default.is
+          run.found run.least run.none
     ]

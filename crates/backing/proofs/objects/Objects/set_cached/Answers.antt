@@ -11,11 +11,13 @@ returns-clause-cached g c =
     let page : is_some (file_bytes (files_of c.self.inside.files.items c.args.file) c.args.page) ≡ true = rw c.self.view_is c.requires.page in
     let there : c.args.file < length c.self.inside.files.items = file-there c.self.inside.files.items c.args.file c.args.page page in
     rw (sym c.self.view_is) (cached-set c.self.inside.files.items c.args.file c.index_mut.result.now c.set_cached.new.self c.args.page c.args.frame there
-    (slice_get_read c.self.inside.files.items (length c.self.inside.files.items) c.args.file c.index_mut.result.now refl there c.index_mut.ensures.value) c.set_cached.ensures.within c.set_cached.ensures.cached)
+    (slice_get_read c.self.inside.files.items (length c.self.inside.files.items) c.args.file c.index_mut.result.now refl there
+    c.index_mut.ensures.value) c.set_cached.ensures.within c.set_cached.ensures.cached)
 
 pub returns-clause-files : goal.returns-clause-files
 returns-clause-files g c =
     let page : is_some (file_bytes (files_of c.self.inside.files.items c.args.file) c.args.page) ≡ true = rw c.self.view_is c.requires.page in
     let there : c.args.file < length c.self.inside.files.items = file-there c.self.inside.files.items c.args.file c.args.page page in
     rw (sym c.self.view_is) (files-set c.self.inside.files.items c.args.file c.index_mut.result.now c.set_cached.new.self
-    (slice_get_read c.self.inside.files.items (length c.self.inside.files.items) c.args.file c.index_mut.result.now refl there c.index_mut.ensures.value) c.set_cached.ensures.mode c.set_cached.ensures.bytes)
+    (slice_get_read c.self.inside.files.items (length c.self.inside.files.items) c.args.file c.index_mut.result.now refl there
+    c.index_mut.ensures.value) c.set_cached.ensures.mode c.set_cached.ensures.bytes)

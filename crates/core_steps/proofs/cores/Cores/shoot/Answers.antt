@@ -9,7 +9,9 @@ use Rattle.core_steps.proofs.cores.Cores.shoot.Goals as goal
 
 pub post-requires-clause-idle : goal.post-requires-clause-idle
 post-requires-clause-idle g c = λ d.
-    ap (λ b. awaited (inbox b) c.args.core d) c.deref_mut.ensures.value ∙ ap (λ h. awaited h.inbox c.args.core d) c.invalidate.ensures.after ∙ (ap (λ h. awaited h.inbox c.args.core d) c.clear_tables.ensures.after ∙ c.requires.idle d)
+    ap (λ b. awaited (inbox b) c.args.core d) c.deref_mut.ensures.value
+    ∙ ap (λ h. awaited h.inbox c.args.core d) c.invalidate.ensures.after
+    ∙ (ap (λ h. awaited h.inbox c.args.core d) c.clear_tables.ensures.after ∙ c.requires.idle d)
 
 pub post-requires-clause-others : goal.post-requires-clause-others
 post-requires-clause-others g c = ap (λ f. f c.args.core) c.without.ensures ∙ put_same (members c.args.set) c.args.core false
@@ -19,7 +21,8 @@ post-requires-clause-within g c = λ d h.
     let member : members c.args.set d ≡ true =
     put_all (λ e b. b ≡ true → members c.args.set e ≡ true) (members c.args.set) c.args.core false (λ e. absurd cc) (λ e ne k. k) d
     (sym (ap (λ f. f d) c.without.ensures) ∙ h) in
-    subst (λ n. d < n) (sym (ap length c.deref_mut.ensures.value ∙ c.invalidate.new.self.whole ∙ (c.invalidate.ensures.count ∙ c.clear_tables.ensures.count))) (c.requires.within d member)
+    subst (λ n. d < n) (sym (ap length c.deref_mut.ensures.value ∙ c.invalidate.new.self.whole
+    ∙ (c.invalidate.ensures.count ∙ c.clear_tables.ensures.count))) (c.requires.within d member)
 
 pub returns-clause-after : goal.returns-clause-after
 returns-clause-after g c =

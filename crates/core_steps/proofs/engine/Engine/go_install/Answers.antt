@@ -37,7 +37,10 @@ returns g c = elim c.match-page.branch [
         (sym c.page.ensures ∙ w.in-Some.is) w.in-Some-frame.is w.prot_installed-prot.ensures (c.go_to.ensures ∙ ap (to c.args.core (Release c.args.touch)) (rw (w.self-is, w.set_leaf.ensures, w.with-cores.ensures.value, w.in_ok-install.ensures.ok) refl)),
   )
   | in_default w ↦ elim w.in_default.branch [
-    | in_default-via-in-None-1 x ↦ absurd (install_mapped (world g.M.SlotRead.slots c.args.self.now) c.args.core c.args.touch c.requires (sym c.page.ensures ∙ search))
-    | in_default-via-in-Some+in-None-1 x ↦ absurd (install_frame (world g.M.SlotRead.slots c.args.self.now) c.args.core c.args.touch x.in-Some.info c.requires (sym c.page.ensures ∙ x.in-Some.is) search)
+    | in_default-via-in-None-1 x ↦ absurd (install_mapped (world g.M.SlotRead.slots c.args.self.now) c.args.core c.args.touch c.requires
+        (sym c.page.ensures ∙ search))
+    | in_default-via-in-Some+in-None-1 x ↦ absurd
+        (install_frame (world g.M.SlotRead.slots c.args.self.now) c.args.core c.args.touch x.in-Some.info c.requires (sym c.page.ensures
+        ∙ x.in-Some.is) search)
   ]
 ]

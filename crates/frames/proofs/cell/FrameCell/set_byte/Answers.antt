@@ -12,7 +12,8 @@ returns-then-is_empty-clause-bytes g c =
     let none : length c.self.inside.pages.items ≡ 0 = search rules in
     let len : c.self.inside.pages.len ≡ 0 = search rules in
     pages-first pages c.push.new.pages.items c.self.inside.pages.len (page_bytes c.page_with.result 0) c.push.ensures.bytes len
-    ∙ (c.page_with.ensures ∙ (ap (λ b. put b c.args.offset c.args.byte) (sym (pages-empty pages none)) ∙ ap (λ (v : CellParts). put (cell_bytes v) c.args.offset c.args.byte) c.self.view_is))
+    ∙ (c.page_with.ensures ∙ (ap (λ b. put b c.args.offset c.args.byte) (sym (pages-empty pages none))
+    ∙ ap (λ (v : CellParts). put (cell_bytes v) c.args.offset c.args.byte) c.self.view_is))
 
 pub returns-else-is_empty-clause-bytes : goal.returns-else-is_empty-clause-bytes
 returns-else-is_empty-clause-bytes g c =

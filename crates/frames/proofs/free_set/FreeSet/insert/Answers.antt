@@ -20,7 +20,9 @@ invariant_of-self g c =
     let same : length c.insert.new.words ≡ length c.self.inside.words.items = search rules in
     let new : bit_in c.self.inside.words.items c.args.k ≡ false = ap (λ v. bit_in v.words c.args.k) c.self.view_is ∙ c.requires.new in
     let limit : c.self.inside.limit ≡ c.args.self.now.limit = ap (λ v. v.limit) c.self.view_is in
-    let change : bit_in c.insert.new.words ≡ put (bit_in c.self.inside.words.items) c.args.k true = c.insert.ensures.members ∙ ap (λ s. put (bit_in s) c.args.k true) c.deref_mut.ensures.value in
+    let change : bit_in c.insert.new.words ≡ put (bit_in c.self.inside.words.items) c.args.k true = c.insert.ensures.members
+    ∙ ap (λ s. put (bit_in s) c.args.k true) c.deref_mut.ensures.value in
     subst (λ ws. IsCounted ws c.insert.new.summary c.self.inside.limit (c.self.inside.size + 1))
     (sym (whole-vec c.insert.new.words c.self.inside.words.items c.self.inside.words.len kept))
-    (inserted c.self.inside.words.items c.insert.new.words c.self.inside.summary c.insert.new.summary c.self.inside.limit c.self.inside.size c.args.k c.self.invariant new (omega (arith, limit, c.requires.in_range)) same change c.insert.ensures.summed)
+    (inserted c.self.inside.words.items c.insert.new.words c.self.inside.summary c.insert.new.summary c.self.inside.limit
+    c.self.inside.size c.args.k c.self.invariant new (omega (arith, limit, c.requires.in_range)) same change c.insert.ensures.summed)

@@ -5,4 +5,5 @@ use Rattle.frames.proofs.free_set.FreeSet.least.Goals as goal
 
 pub returns-in_default-clause-none : goal.returns-in_default-clause-none
 returns-in_default-clause-none g c k =
-    sym (ap (λ v. bit_in v.words k) c.self.view_is) ∙ summed-empty c.self.inside.words.items c.self.inside.summary c.self.invariant.summed c.in_default.ensures.none k
+    sym (ap (λ v. bit_in v.words k) c.self.view_is) ∙ summed-empty c.self.inside.words.items c.self.inside.summary c.self.invariant.summed
+    c.in_default.ensures.none k

@@ -7,7 +7,8 @@ pub invariant_of-result : goal.invariant_of-result
 invariant_of-result g c =
     let zero : c.in_ok-words.words.items ≡ replicate {A = ℕ} c.div_ceil.result 0 = search rules in
     let len : length c.in_ok-words.words.items ≡ c.div_ceil.result = search rules in
-    nothing c.in_ok-words.words.items (replicate {A = ℕ} 16 0) c.args.limit c.requires (omega (arith, len, c.div_ceil.ensures, c.requires)) (omega (arith, len, c.div_ceil.ensures)) (λ w. ap (λ s. get_or s w 0) zero ∙ zero_words c.div_ceil.result w) (zero_words 16)
+    nothing c.in_ok-words.words.items (replicate {A = ℕ} 16 0) c.args.limit c.requires (omega (arith, len, c.div_ceil.ensures, c.requires))
+    (omega (arith, len, c.div_ceil.ensures)) (λ w. ap (λ s. get_or s w 0) zero ∙ zero_words c.div_ceil.result w) (zero_words 16)
 
 pub returns-clause-members : goal.returns-clause-members
 returns-clause-members g c =

@@ -18,17 +18,20 @@ invariant_of-self-2 g c =
     let until = c.first-first.result + c.count.result in
     let same : c.reserve.new.self.items ≡ gs = c.reserve.ensures.items in
     let added : AddsSlots from c.lock_parts.ensures.1 c.lock_parts.ensures.0 gs c.lock_parts.new.guards.items =
-    subst (λ (l : List (Option (MutexGuard SlotView))). AddsSlots from c.lock_parts.ensures.1 c.lock_parts.ensures.0 l c.lock_parts.new.guards.items) same c.lock_parts.ensures.2 in
+    subst (λ (l : List (Option (MutexGuard SlotView))). AddsSlots from c.lock_parts.ensures.1 c.lock_parts.ensures.0 l
+    c.lock_parts.new.guards.items) same c.lock_parts.ensures.2 in
     let locked : IsTrue c.lock_parts.result = search rules in
     let crossing : IsFirstCrossing c.args.range (map slot_of gs) at = c.in-Some.ensures.some in
     let look : c.in-Some-Some.field-0.now ≡ get_or c.as_slice.result.now at c.in-Some-Some.field-0.now = search rules in
     let some : c.in-Some-Some.field-0.now ≡ Some slot = search rules in
     let whole : c.as_slice.result.now ≡ gs = c.as_slice.ensures ∙ same in
-    let item : Some slot ≡ get_or gs at (Some slot) = subst (λ (x : Option (MutexGuard SlotView)). x ≡ get_or gs at x) some (look ∙ ap (λ (l : List (Option (MutexGuard SlotView))). get_or l at c.in-Some-Some.field-0.now) whole) in
+    let item : Some slot ≡ get_or gs at (Some slot) = subst (λ (x : Option (MutexGuard SlotView)). x ≡ get_or gs at x) some
+    (look ∙ ap (λ (l : List (Option (MutexGuard SlotView))). get_or l at c.in-Some-Some.field-0.now) whole) in
     let begins : from ≡ (mutex_guard_value slot).first = search rules in
     let count : c.count.result ≡ (mutex_guard_value slot).count = search rules in
     let ends : until ≡ from + (mutex_guard_value slot).count = omega (arith, count) in
-    let both = cut_done c.args.range c.self.inside.first c.self.inside.end gs c.lock_parts.new.guards.items c.put_in_place.new.guards.items at from until c.lock_parts.ensures.1 c.lock_parts.ensures.0 slot
+    let both = cut_done c.args.range c.self.inside.first c.self.inside.end gs c.lock_parts.new.guards.items c.put_in_place.new.guards.items
+    at from until c.lock_parts.ensures.1 c.lock_parts.ensures.0 slot
     c.self.invariant crossing item begins ends added (c.lock_parts.ensures.3 locked) c.put_in_place.ensures in
     both.1
 
@@ -41,16 +44,25 @@ returns g c =
     let until = c.first-first.result + c.count.result in
     let same : c.reserve.new.self.items ≡ gs = c.reserve.ensures.items in
     let added : AddsSlots from c.lock_parts.ensures.1 c.lock_parts.ensures.0 gs c.lock_parts.new.guards.items =
-    subst (λ (l : List (Option (MutexGuard SlotView))). AddsSlots from c.lock_parts.ensures.1 c.lock_parts.ensures.0 l c.lock_parts.new.guards.items) same c.lock_parts.ensures.2 in
+    subst (λ (l : List (Option (MutexGuard SlotView))). AddsSlots from c.lock_parts.ensures.1 c.lock_parts.ensures.0 l
+    c.lock_parts.new.guards.items) same c.lock_parts.ensures.2 in
     let locked : IsTrue c.lock_parts.result = search rules in
     let crossing : IsFirstCrossing c.args.range (map slot_of gs) at = c.in-Some.ensures.some in
     let look : c.in-Some-Some.field-0.now ≡ get_or c.as_slice.result.now at c.in-Some-Some.field-0.now = search rules in
     let some : c.in-Some-Some.field-0.now ≡ Some slot = search rules in
     let whole : c.as_slice.result.now ≡ gs = c.as_slice.ensures ∙ same in
-    let item : Some slot ≡ get_or gs at (Some slot) = subst (λ (x : Option (MutexGuard SlotView)). x ≡ get_or gs at x) some (look ∙ ap (λ (l : List (Option (MutexGuard SlotView))). get_or l at c.in-Some-Some.field-0.now) whole) in
+    let item : Some slot ≡ get_or gs at (Some slot) = subst (λ (x : Option (MutexGuard SlotView)). x ≡ get_or gs at x) some
+    (look ∙ ap (λ (l : List (Option (MutexGuard SlotView))). get_or l at c.in-Some-Some.field-0.now) whole) in
     let begins : from ≡ (mutex_guard_value slot).first = search rules in
     let count : c.count.result ≡ (mutex_guard_value slot).count = search rules in
     let ends : until ≡ from + (mutex_guard_value slot).count = omega (arith, count) in
-    let both = cut_done c.args.range c.self.inside.first c.self.inside.end gs c.lock_parts.new.guards.items c.put_in_place.new.guards.items at from until c.lock_parts.ensures.1 c.lock_parts.ensures.0 slot
-    c.self.invariant crossing item begins ends added (c.lock_parts.ensures.3 locked) c.put_in_place.ensures in
-    (search rules, subst (λ (h : HeldView). CutsFirst c.args.range h (record { first = c.self.inside.first; end = c.self.inside.end; slots = map slot_of c.put_in_place.new.guards.items })) c.self.view_is both.0)
+    let both = cut_done c.args.range c.self.inside.first c.self.inside.end gs c.lock_parts.new.guards.items c.put_in_place.new.guards.items
+    at from until c.lock_parts.ensures.1 c.lock_parts.ensures.0 slot
+    c.self.invariant crossing item begins ends added (c.lock_parts.ensures.3 locked) c.put_in_place.ensures in (
+      search rules,
+      subst (λ (h : HeldView). CutsFirst c.args.range h (record {
+        first = c.self.inside.first;
+        end = c.self.inside.end;
+        slots = map slot_of c.put_in_place.new.guards.items;
+      })) c.self.view_is both.0,
+    )

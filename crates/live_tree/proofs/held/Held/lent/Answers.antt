@@ -8,4 +8,5 @@ use Rattle.live_tree.proofs.held.Held.lent.Goals as goal
 pub returns : goal.returns
 returns g c =
     let all : IsTrue c.lend_all.result = search rules in
-    subst (λ (h : HeldView). Lends c.args.core h (slots_of c.lend_all.new.lent.runs.items)) c.self.view_is (c.lend_all.ensures all c.self.inside.first c.self.inside.end c.self.invariant.1)
+    subst (λ (h : HeldView). Lends c.args.core h (slots_of c.lend_all.new.lent.runs.items)) c.self.view_is
+    (c.lend_all.ensures all c.self.inside.first c.self.inside.end c.self.invariant.1)

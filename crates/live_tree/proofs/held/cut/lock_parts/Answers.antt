@@ -11,7 +11,15 @@ parts-preserved g c =
     let first : c.first-in-parts.result ≡ (mutex_guard_value guard).first = search rules in
     let count : c.count.result ≡ (mutex_guard_value guard).count = search rules in
     record {
-      added = adds_more c.args.first c.parts.next (c.first-in-parts.result + c.count.result) c.parts.counter c.args.guards.now.items c.parts.guards.items c.push_reserved.new.self.items guard
+      added = adds_more c.args.first c.parts.next (c.first-in-parts.result + c.count.result) c.parts.counter c.args.guards.now.items
+          c.parts.guards.items c.push_reserved.new.self.items guard
           c.parts.invariant.added c.push_reserved.ensures.items at (omega (arith, at, first, count));
-      room = omega (arith, ap length c.push_reserved.ensures.items, length-append c.parts.guards.items (Some guard ∷ []), c.push_reserved.ensures.capacity, c.parts.invariant.room);
+      room = omega (
+        arith,
+        ap length c.push_reserved.ensures.items,
+        length-append c.parts.guards.items
+            (Some guard ∷ []),
+        c.push_reserved.ensures.capacity,
+        c.parts.invariant.room,
+      );
     }

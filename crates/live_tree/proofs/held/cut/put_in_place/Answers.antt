@@ -14,4 +14,5 @@ returns g c gs more is count =
     let same : length c.move_tail_to.new.items ≡ length items = search rules in
     let here : c.args.at < length gs = omega (arith, all, c.requires) in
     c.remove-old.ensures.items
-    ∙ (ap (λ l. remove l (c.args.at + 512)) (refilled items c.move_tail_to.new.items same ∙ moved) ∙ in_place gs more c.args.at (c.args.at + 512) here (omega (arith, count)))
+    ∙ (ap (λ l. remove l (c.args.at + 512)) (refilled items c.move_tail_to.new.items same ∙ moved)
+    ∙ in_place gs more c.args.at (c.args.at + 512) here (omega (arith, count)))

@@ -14,7 +14,8 @@ guards-preserved g c first last side =
     let before = slots_of c.guards.lent.runs.items in
     let after = slots_of c.lend.new.lent.runs.items in
     let added : after ≡ with_slot before s.first (s.first + s.count) (Some c.args.core) s.content = search rules in
-    lent_more c.args.core first last c.as_slice-guard-items.result.now c.guards.guard-index c.guard-item.result before after side (omega arith) c.guard-item.is (c.guards.invariant first last side) added
+    lent_more c.args.core first last c.as_slice-guard-items.result.now c.guards.guard-index c.guard-item.result before after side
+    (omega arith) c.guard-item.is (c.guards.invariant first last side) added
 
 pub returns : goal.returns
 returns g c t first end side =
@@ -23,4 +24,5 @@ returns g c t first end side =
     let same = c.as_slice-guard-items.ensures in
     let so_far = c.guards.invariant first end (subst (λ (l : List (Option (MutexGuard SlotView))). SideBySide first end (map slot_of l)) (sym same) side) in
     let all : length items ≤ c.guards.guard-index = omega (arith, ap length same) in
-    lent_all c.args.core first end items c.guards.guard-index lent all side (subst (λ (l : List (Option (MutexGuard SlotView))). LentSoFar c.args.core first l c.guards.guard-index lent) same so_far)
+    lent_all c.args.core first end items c.guards.guard-index lent all side
+    (subst (λ (l : List (Option (MutexGuard SlotView))). LentSoFar c.args.core first l c.guards.guard-index lent) same so_far)

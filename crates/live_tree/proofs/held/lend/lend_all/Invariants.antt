@@ -6,4 +6,5 @@ use Rattle.live_tree.proofs.Lending.{LentSoFar}
 use Rattle.live_tree.proofs.held.lend.lend_all.Given as goal
 
 abbrev pub invariant-guards : goal.invariant-guards
-invariant-guards g l = (first last : ℕ) → SideBySide first last (map slot_of l.guard-items) → LentSoFar l.core first l.guard-items l.guard-index (slots_of l.lent.runs.items)
+invariant-guards g l = (first last : ℕ) → SideBySide first last (map slot_of l.guard-items)
+    → LentSoFar l.core first l.guard-items l.guard-index (slots_of l.lent.runs.items)

@@ -17,8 +17,10 @@ overflow_sub-self c =
     let at : position (λ (e : TlbEntry). e.page == c.args.page) es ≡ Some c.in-Some.place =
     ap (position (λ (e : TlbEntry). e.page == c.args.page)) c.place_of.ensures.entries ∙ sym c.place_of.ensures.value ∙ c.in-Some.is in
     let within : c.in-Some.place < length es = (position-Some (λ (e : TlbEntry). e.page == c.args.page) es c.in-Some.place none at).0 in
-    let some : slice_index c.place_of.new.self.counts c.hash.result ≡ hashed c.hash.result es = c.place_of.new.self.counted.exact c.hash.result c.hash.ensures.below in
-    let there : 1 ≤ hashed c.hash.result es = counted_there es c.in-Some.place c.hash.result none within (found_hash es c.args.page c.in-Some.place c.hash.result none at c.hash.ensures.value) in
+    let some : slice_index c.place_of.new.self.counts c.hash.result ≡ hashed c.hash.result es =
+    c.place_of.new.self.counted.exact c.hash.result c.hash.ensures.below in
+    let there : 1 ≤ hashed c.hash.result es = counted_there es c.in-Some.place c.hash.result none within
+    (found_hash es c.args.page c.in-Some.place c.hash.result none at c.hash.ensures.value) in
     omega arith
 
 pub invariant_of-self-clause-few : goal.invariant_of-self-clause-few
@@ -39,7 +41,8 @@ invariant_of-self-clause-counted c =
     ap (position (λ (e : TlbEntry). e.page == c.args.page)) c.place_of.ensures.entries ∙ sym c.place_of.ensures.value ∙ c.in-Some.is in
     let within : c.in-Some.place < length es = (position-Some (λ (e : TlbEntry). e.page == c.args.page) es c.in-Some.place none at).0 in
     subst (AreCounts _) (sym c.remove.ensures.items)
-    (counts_removed c.place_of.new.self.counts es c.in-Some.place c.hash.result none c.hash.ensures.below c.place_of.new.self.counted within (found_hash es c.args.page c.in-Some.place c.hash.result none at c.hash.ensures.value))
+    (counts_removed c.place_of.new.self.counts es c.in-Some.place c.hash.result none c.hash.ensures.below c.place_of.new.self.counted
+    within (found_hash es c.args.page c.in-Some.place c.hash.result none at c.hash.ensures.value))
 
 pub returns-in-Some : goal.returns-in-Some
 returns-in-Some c =
@@ -50,4 +53,5 @@ returns-in-Some c =
     ∙ ap (tlb_without (is_page c.args.page)) c.place_of.ensures.entries
 
 pub returns-in_default : goal.returns-in_default
-returns-in_default c = c.place_of.ensures.entries ∙ none_dropped c.args.self.now.entries.items c.args.page (not_found c.args.self.now.entries.items c.args.page (sym c.place_of.ensures.value ∙ c.in_default.is))
+returns-in_default c = c.place_of.ensures.entries ∙ none_dropped c.args.self.now.entries.items c.args.page
+    (not_found c.args.self.now.entries.items c.args.page (sym c.place_of.ensures.value ∙ c.in_default.is))

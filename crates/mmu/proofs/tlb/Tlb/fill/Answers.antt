@@ -14,7 +14,8 @@ pub invariant_of-self-clause-counted : goal.invariant_of-self-clause-counted
 invariant_of-self-clause-counted c =
     let x : TlbEntry = record { page = c.args.page; translation = c.args.translation } in
     subst (AreCounts _) (sym c.push.ensures.items)
-    (counts_pushed c.make_room.new.self.counts c.make_room.new.self.entries.items x c.hash.result c.hash.ensures.below c.make_room.new.self.counted (sym c.hash.ensures.value))
+    (counts_pushed c.make_room.new.self.counts c.make_room.new.self.entries.items x c.hash.result c.hash.ensures.below
+    c.make_room.new.self.counted (sym c.hash.ensures.value))
 
 pub overflow_add-self : goal.overflow_add-self
 overflow_add-self c =

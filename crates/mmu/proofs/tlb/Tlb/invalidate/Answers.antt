@@ -28,7 +28,8 @@ invariant_of-self-else-len-before-clause-distinct c =
 pub invariant_of-self-else-len-before-clause-counted : goal.invariant_of-self-else-len-before-clause-counted
 invariant_of-self-else-len-before-clause-counted c =
     let items = c.args.self.now.entries.items in
-    let kept : c.retain.new.self.items ≡ tlb_without (has c.args.range) items = filter-from_retain _ _ _ (λ x b f' y called. search rules) _ _ c.retain.ensures.filtered in
+    let kept : c.retain.new.self.items ≡ tlb_without (has c.args.range) items = filter-from_retain _ _ _
+    (λ x b f' y called. search rules) _ _ c.retain.ensures.filtered in
     let long : length (tlb_without (has c.args.range) items) ≡ length items =
     ap length (sym kept) ∙ sym c.len.ensures.value ∙ c.if-len-before.false ∙ c.len-before.ensures.value in
     subst (AreCounts _) (sym (kept ∙ filter_all _ items long)) c.args.self.now.counted

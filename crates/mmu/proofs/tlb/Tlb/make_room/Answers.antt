@@ -22,7 +22,9 @@ overflow_sub-self c =
     let items = c.args.self.now.entries.items in
     let full : (length items == 64) ≡ true = sym c.is_full.ensures.value ∙ c.if-is_full.true in
     let some : 0 < length items = grind (arith, nat_tests) in
-    let counted : slice_index c.args.self.now.counts c.hash.result ≡ hashed c.hash.result items = c.args.self.now.counted.exact c.hash.result c.hash.ensures.below in
+    let counted : slice_index c.args.self.now.counts c.hash.result ≡ hashed c.hash.result items =
+    c.args.self.now.counted.exact c.hash.result c.hash.ensures.below in
     let there : 1 ≤ hashed c.hash.result items =
-    counted_there items 0 c.hash.result c.remove-oldest.result some (ap (λ e. page_hash e.page) (sym c.remove-oldest.ensures.value) ∙ sym c.hash.ensures.value) in
+    counted_there items 0 c.hash.result c.remove-oldest.result some (ap (λ e. page_hash e.page) (sym c.remove-oldest.ensures.value)
+    ∙ sym c.hash.ensures.value) in
     omega arith

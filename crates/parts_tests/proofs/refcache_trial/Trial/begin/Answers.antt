@@ -13,6 +13,9 @@ invariant_of-self g c =
     let fresh : c.self.inside.fresh ≡ true = search rules in
     let zero : c.index.result.now ≡ 0 = search rules in
     let some : 0 < c.args.count = search rules in
-    let none : slice_index_or c.self.inside.trues.items c.args.object 0 ≡ 0 = any_default xs c.args.object 0 c.index.result.now at ∙ sym c.index.ensures ∙ zero in
+    let none : slice_index_or c.self.inside.trues.items c.args.object 0 ≡ 0 = any_default xs c.args.object 0 c.index.result.now at
+    ∙ sym c.index.ensures ∙ zero in
     subst (λ b. IsTrial c.begin.new.self c.self.inside.cores (slice_set c.self.inside.trues.items c.args.object c.args.count) b) (sym fresh)
-    (trial_begun p c.begin.new.self c.args.object c.args.count n xs (subst (λ b. IsTrial c.self.inside.counts c.self.inside.cores c.self.inside.trues.items b) fresh c.self.invariant) c.begin.ensures.step at none some)
+    (trial_begun p c.begin.new.self c.args.object c.args.count n xs
+    (subst (λ b. IsTrial c.self.inside.counts c.self.inside.cores c.self.inside.trues.items b) fresh c.self.invariant)
+    c.begin.ensures.step at none some)

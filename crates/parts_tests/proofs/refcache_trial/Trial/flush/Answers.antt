@@ -3,4 +3,5 @@ use Rattle.parts_tests.proofs.refcache_trial.Trial.flush.Goals as goal
 
 pub invariant_of-self : goal.invariant_of-self
 invariant_of-self g c =
-    trial_flushed c.self.inside.counts c.flush-report.new.self c.new.result c.flush-report.result c.self.inside.cores c.self.inside.trues.items c.self.inside.fresh c.self.invariant c.flush-report.ensures.step
+    trial_flushed c.self.inside.counts c.flush-report.new.self c.new.result c.flush-report.result c.self.inside.cores
+    c.self.inside.trues.items c.self.inside.fresh c.self.invariant c.flush-report.ensures.step

@@ -15,4 +15,5 @@ loop-k-preserved g c = record {
 pub returns : goal.returns
 returns g c =
     let all : c.loop-k.k ≡ page_count (length c.args.bytes.now) = omega (arith, c.page_count-k-end.ensures.value, c.loop-k.auto.k-end) in
-    file_made c.args.mode c.args.bytes.now (length c.loop-k.pages.items) c.loop-k.k (element bytes_in zeros c.loop-k.pages.items) c.loop-k.invariant.length all c.loop-k.invariant.bytes
+    file_made c.args.mode c.args.bytes.now (length c.loop-k.pages.items) c.loop-k.k (element bytes_in zeros c.loop-k.pages.items)
+    c.loop-k.invariant.length all c.loop-k.invariant.bytes

@@ -10,16 +10,23 @@ use Rattle.plain_map.proofs.Due.{at_page, copy_prepares, prepared_already, ready
 use Rattle.plain_map.proofs.plain_map.PlainMap.store_after_copy.Goals as goal
 
 pub perform-requires-clause-ready : goal.perform-requires-clause-ready
-perform-requires-clause-ready g c = ready_after (plain_of c.args.self.now) (plain_of c.detach.new.self) c.args.addr _ (sym c.in-None.ensures) (at_page (plain_of c.args.self.now) (plain_of c.detach.new.self) c.args.addr _ _ c.page_of.ensures.value c.in_ok-detach.ensures.ok)
+perform-requires-clause-ready g c = ready_after (plain_of c.args.self.now) (plain_of c.detach.new.self) c.args.addr _
+    (sym c.in-None.ensures) (at_page (plain_of c.args.self.now) (plain_of c.detach.new.self) c.args.addr _ _ c.page_of.ensures.value
+    c.in_ok-detach.ensures.ok)
 
 pub perform-requires-clause-room : goal.perform-requires-clause-room
 perform-requires-clause-room g c = λ _.
-    room_after (plain_of c.args.self.now) (plain_of c.detach.new.self) c.args.addr _ (own_at c.detach.new.self.owned.items (page_of c.args.addr)) (meta_at c.detach.new.self.mappings.items (page_of c.args.addr)) (sym c.in-None.ensures) (at_page (plain_of c.args.self.now) (plain_of c.detach.new.self) c.args.addr _ _ c.page_of.ensures.value c.in_ok-detach.ensures.ok) refl
+    room_after (plain_of c.args.self.now) (plain_of c.detach.new.self) c.args.addr _
+    (own_at c.detach.new.self.owned.items (page_of c.args.addr)) (meta_at c.detach.new.self.mappings.items (page_of c.args.addr))
+    (sym c.in-None.ensures) (at_page (plain_of c.args.self.now) (plain_of c.detach.new.self) c.args.addr _ _ c.page_of.ensures.value
+    c.in_ok-detach.ensures.ok) refl
 
 pub returns-in-None-clause-ok : goal.returns-in-None-clause-ok
 returns-in-None-clause-ok g c =
     subst (λ (t : Plain). Accesses t c.args.addr Store c.args.byte c.perform.result (plain_of c.perform.new.self))
-    (copy_prepares (plain_of c.args.self.now) (plain_of c.detach.new.self) c.args.addr c.args.byte _ (sym c.in-None.ensures) (at_page (plain_of c.args.self.now) (plain_of c.detach.new.self) c.args.addr _ _ c.page_of.ensures.value c.in_ok-detach.ensures.ok)) c.perform.ensures
+    (copy_prepares (plain_of c.args.self.now) (plain_of c.detach.new.self) c.args.addr c.args.byte _ (sym c.in-None.ensures)
+    (at_page (plain_of c.args.self.now) (plain_of c.detach.new.self) c.args.addr _ _ c.page_of.ensures.value
+    c.in_ok-detach.ensures.ok)) c.perform.ensures
 
 pub returns-clause-ok : goal.returns-clause-ok
 returns-clause-ok g c =

@@ -13,7 +13,8 @@ part_in-part-requires-clause-small g t c = let w = c.slots.invariant.0.width_is 
 pub all_mapped-requires : goal.all_mapped-requires
 all_mapped-requires g t c κs within =
     let l = c.slots.invariant.0 in
-    let down = along_down _ c.in-Child.node c.deref.result.now l c.slots-test.true c.self.invariant (sym c.in-Child.is ∙ c.index.ensures) c.deref.ensures c.part_in-part.ensures.within in
+    let down = along_down _ c.in-Child.node c.deref.result.now l c.slots-test.true c.self.invariant (sym c.in-Child.is
+    ∙ c.index.ensures) c.deref.ensures c.part_in-part.ensures.within in
     let lower = down.falls in
     let last = down.within in
     let here = ap (λ (v : Parts). v.level) c.self.view_is in
@@ -25,8 +26,12 @@ slots-preserved g t c =
     let l = c.slots.invariant.0 in (
       along_next l refl,
       elim c.match-index.branch [
-        | in-Own+else-not-is_mapped w ↦ seen_own IsMapped _ w.in-Own.state c.args.first c.args.end c.self.invariant (along_in l c.slots-test.true) (sym w.in-Own.is ∙ c.index.ensures) (let e = w.is_mapped.ensures in let n = w.if-not-is_mapped in search rules) c.slots.invariant.1
-        | in-Child+else-not-all_mapped w ↦ seen_child IsMapped _ w.in-Child.node w.deref.result.now c.args.first c.args.end w.part_in-part.result.first w.part_in-part.result.end c.self.invariant (along_in l c.slots-test.true) (sym w.in-Child.is ∙ c.index.ensures) w.deref.ensures
+        | in-Own+else-not-is_mapped w ↦ seen_own IsMapped _ w.in-Own.state c.args.first c.args.end c.self.invariant
+            (along_in l c.slots-test.true) (sym w.in-Own.is ∙ c.index.ensures) (let e = w.is_mapped.ensures in
+            let n = w.if-not-is_mapped in search rules) c.slots.invariant.1
+        | in-Child+else-not-all_mapped w ↦ seen_child IsMapped _ w.in-Child.node w.deref.result.now c.args.first c.args.end
+            w.part_in-part.result.first w.part_in-part.result.end c.self.invariant (along_in l c.slots-test.true) (sym w.in-Child.is
+            ∙ c.index.ensures) w.deref.ensures
             (along_part l w.part_in-part.ensures.first w.part_in-part.ensures.end)
             (let e = w.all_mapped.ensures in let n = w.if-not-all_mapped in search rules) c.slots.invariant.1
       ],
@@ -39,7 +44,8 @@ pub returns-then-not-is_mapped : goal.returns-then-not-is_mapped
 returns-then-not-is_mapped g t c =
     let l = c.slots.invariant.0 in (
       λ is. absurd (clash is),
-      λ all. absurd (own_unmapped _ c.in-Own.state c.args.first c.args.end c.self.invariant (along_in l c.slots-test.true) (sym c.in-Own.is ∙ c.index.ensures) l.some (along_below l c.slots-test.true) l.past (sym c.is_mapped.ensures ∙ c.if-not-is_mapped.true)
+      λ all. absurd (own_unmapped _ c.in-Own.state c.args.first c.args.end c.self.invariant (along_in l c.slots-test.true) (sym c.in-Own.is
+          ∙ c.index.ensures) l.some (along_below l c.slots-test.true) l.past (sym c.is_mapped.ensures ∙ c.if-not-is_mapped.true)
           (subst (λ (v : Parts). OnAll IsMapped (runs v) c.args.first c.args.end) (sym c.self.view_is) all)),
     )
 
@@ -47,7 +53,8 @@ pub returns-then-not-all_mapped : goal.returns-then-not-all_mapped
 returns-then-not-all_mapped g t c =
     let l = c.slots.invariant.0 in (
       λ is. absurd (clash is),
-      λ all. absurd (child_unmapped _ c.in-Child.node c.deref.result.now c.args.first c.args.end c.part_in-part.result.first c.part_in-part.result.end c.self.invariant (along_in l c.slots-test.true) (sym c.in-Child.is ∙ c.index.ensures) c.deref.ensures
+      λ all. absurd (child_unmapped _ c.in-Child.node c.deref.result.now c.args.first c.args.end c.part_in-part.result.first
+          c.part_in-part.result.end c.self.invariant (along_in l c.slots-test.true) (sym c.in-Child.is ∙ c.index.ensures) c.deref.ensures
           (along_part l c.part_in-part.ensures.first c.part_in-part.ensures.end)
           (λ below. clash (sym c.if-not-all_mapped.true ∙ c.all_mapped.ensures.1 below))
           (subst (λ (v : Parts). OnAll IsMapped (runs v) c.args.first c.args.end) (sym c.self.view_is) all)),

@@ -41,7 +41,8 @@ edit-requires-in-Child-index_mut g t c κs within =
     let is_in : c.slots.k < 512 = omega (arith, l.last, c.slots-test.true) in
     let kw : c.slots.k * c.slot_pages-width.result ≡ c.slots.k * width_of c.slots.self-inside.level =
     ap (λ n. c.slots.k * n) l.width_is in
-    let part : IsPart c.args.first c.args.end (c.slots.k * width_of c.slots.self-inside.level) (width_of c.slots.self-inside.level) c.part_in-part.result.first c.part_in-part.result.end =
+    let part : IsPart c.args.first c.args.end (c.slots.k * width_of c.slots.self-inside.level)
+    (width_of c.slots.self-inside.level) c.part_in-part.result.first c.part_in-part.result.end =
     subst
     (λ n. IsPart c.args.first c.args.end (c.slots.k * n) n c.part_in-part.result.first c.part_in-part.result.end)
     l.width_is
@@ -69,13 +70,16 @@ edit-requires-in-Child-index_mut g t c κs within =
     (runs c.args.self.now) c.args.first c.args.end c.part_in-part.result.first
     c.part_in-part.result.end c.args.by c.args.edit.now n is_in is e part p.some c.requires.ends h
     in
-    let fewer : (c.args.by + (c.slots.k * c.slot_pages-width.result + c.part_in-part.result.first - c.args.first)) + (c.part_in-part.result.end - c.part_in-part.result.first) ≤ c.args.by + (c.args.end - c.args.first) =
+    let fewer : (c.args.by + (c.slots.k * c.slot_pages-width.result + c.part_in-part.result.first - c.args.first))
+    + (c.part_in-part.result.end - c.part_in-part.result.first) ≤ c.args.by + (c.args.end - c.args.first) =
     omega (arith, p.first, p.end, p.some) in
-    let few : (c.args.by + (c.slots.k * c.slot_pages-width.result + c.part_in-part.result.first - c.args.first)) + (c.part_in-part.result.end - c.part_in-part.result.first) ≤ 2 ^ 36 =
+    let few : (c.args.by + (c.slots.k * c.slot_pages-width.result + c.part_in-part.result.first - c.args.first))
+    + (c.part_in-part.result.end - c.part_in-part.result.first) ≤ 2 ^ 36 =
     omega (arith, fewer, c.requires.few) in
     let can =
     can_fewer c.args.edit.now (c.args.by + (c.args.end - c.args.first))
-    ((c.args.by + (c.slots.k * c.slot_pages-width.result + c.part_in-part.result.first - c.args.first)) + (c.part_in-part.result.end - c.part_in-part.result.first))
+    ((c.args.by + (c.slots.k * c.slot_pages-width.result + c.part_in-part.result.first - c.args.first))
+    + (c.part_in-part.result.end - c.part_in-part.result.first))
     c.requires.sound fewer (omega (arith, p.some)) in
     search rules
 
@@ -88,7 +92,8 @@ slots-preserved g t c =
     let is_in : c.slots.k < 512 = omega (arith, l.last, c.slots-test.true) in
     let kw : c.slots.k * c.slot_pages-width.result ≡ c.slots.k * width_of c.slots.self-inside.level =
     ap (λ n. c.slots.k * n) l.width_is in
-    let part : IsPart c.args.first c.args.end (c.slots.k * width_of c.slots.self-inside.level) (width_of c.slots.self-inside.level) c.part_in-part.result.first c.part_in-part.result.end =
+    let part : IsPart c.args.first c.args.end (c.slots.k * width_of c.slots.self-inside.level)
+    (width_of c.slots.self-inside.level) c.part_in-part.result.first c.part_in-part.result.end =
     subst
     (λ n. IsPart c.args.first c.args.end (c.slots.k * n) n c.part_in-part.result.first c.part_in-part.result.end)
     l.width_is
@@ -101,7 +106,8 @@ slots-preserved g t c =
           let inside =
           own_within _ w.in-Own-index_mut.state old c.args.first c.args.end c.args.by
           c.args.edit.now n is_in is low l.past c.requires.begins c.requires.ends h in
-          let e : (c.args.by + (c.slots.k * c.slot_pages-width.result + c.part_in-part.result.first - c.args.first)) ≡ c.args.by + (c.slots.k * width_of c.slots.self-inside.level - c.args.first) =
+          let e : (c.args.by + (c.slots.k * c.slot_pages-width.result + c.part_in-part.result.first - c.args.first)) ≡ c.args.by
+          + (c.slots.k * width_of c.slots.self-inside.level - c.args.first) =
           omega (arith, kw, part.first_is, inside.low) in
           let node =
           own_node _ w.in-Own-index_mut.state w.edit-in-Own-index_mut.new.self c.args.first
@@ -119,7 +125,8 @@ slots-preserved g t c =
           )
       | in-Child-index_mut w ↦
           let is = sym w.in-Child-index_mut.is ∙ c.index_mut-in-slots.ensures.value in
-          let e : (c.args.by + (c.slots.k * c.slot_pages-width.result + c.part_in-part.result.first - c.args.first)) ≡ c.args.by + (c.slots.k * width_of c.slots.self-inside.level + c.part_in-part.result.first - c.args.first) =
+          let e : (c.args.by + (c.slots.k * c.slot_pages-width.result + c.part_in-part.result.first - c.args.first)) ≡ c.args.by
+          + (c.slots.k * width_of c.slots.self-inside.level + c.part_in-part.result.first - c.args.first) =
           omega (arith, kw) in
           let r = w.edit-in-Child-index_mut.ensures in
           let node =
@@ -200,10 +207,14 @@ invariant_of-self g t c =
     elim c.match-index_mut.branch [
       | in-Own w ↦
           rw w.self-inside-is
-          ((own_narrow _ w.in-Own.state w.edit.new.self c.args.by c.args.edit.now c.self.invariant at (sym w.in-Own.is ∙ c.index_mut.ensures.value) begins ends c.requires.sound w.edit.ensures).node)
+          ((own_narrow _ w.in-Own.state w.edit.new.self c.args.by c.args.edit.now c.self.invariant at (sym w.in-Own.is
+          ∙ c.index_mut.ensures.value) begins ends c.requires.sound w.edit.ensures).node)
       | in-Child w ↦
           rw w.self-inside-is
-          ((child_narrow _ w.in-Child.node (record w.in-Child.node { value = w.edit-in-Child.new.self }) w.deref_mut.result.now c.args.by c.args.edit.now c.self.invariant at (sym w.in-Child.is ∙ c.index_mut.ensures.value) w.deref_mut.ensures.value w.edit-in-Child.ensures.level w.edit-in-Child.ensures.whole w.edit-in-Child.ensures.inside w.edit-in-Child.ensures.outside).node)
+          ((child_narrow _ w.in-Child.node (record w.in-Child.node { value = w.edit-in-Child.new.self }) w.deref_mut.result.now c.args.by
+          c.args.edit.now c.self.invariant at (sym w.in-Child.is ∙ c.index_mut.ensures.value) w.deref_mut.ensures.value
+          w.edit-in-Child.ensures.level w.edit-in-Child.ensures.whole w.edit-in-Child.ensures.inside
+          w.edit-in-Child.ensures.outside).node)
     ]
 
 pub returns-then-end-first-clause-whole : goal.returns-then-end-first-clause-whole
@@ -224,10 +235,15 @@ returns-then-end-first-clause-inside g t c =
     elim c.match-index_mut.branch [
       | in-Own w ↦
           rw w.self-inside-is
-          (let h = own_narrow _ w.in-Own.state w.edit.new.self c.args.by c.args.edit.now c.self.invariant at (sym w.in-Own.is ∙ c.index_mut.ensures.value) begins ends c.requires.sound w.edit.ensures in rw (← c.self.view_is) (λ p a b. h.edits.inside p a b (omega (arith, h.by_end))))
+          (let h = own_narrow _ w.in-Own.state w.edit.new.self c.args.by c.args.edit.now c.self.invariant at (sym w.in-Own.is
+          ∙ c.index_mut.ensures.value) begins ends c.requires.sound w.edit.ensures in
+          rw (← c.self.view_is) (λ p a b. h.edits.inside p a b (omega (arith, h.by_end))))
       | in-Child w ↦
           rw w.self-inside-is
-          (let h = child_narrow _ w.in-Child.node (record w.in-Child.node { value = w.edit-in-Child.new.self }) w.deref_mut.result.now c.args.by c.args.edit.now c.self.invariant at (sym w.in-Child.is ∙ c.index_mut.ensures.value) w.deref_mut.ensures.value w.edit-in-Child.ensures.level w.edit-in-Child.ensures.whole w.edit-in-Child.ensures.inside w.edit-in-Child.ensures.outside in rw (← c.self.view_is) (λ p a b. h.edits.inside p a b (omega (arith, h.by_end))))
+          (let h = child_narrow _ w.in-Child.node (record w.in-Child.node { value = w.edit-in-Child.new.self }) w.deref_mut.result.now
+          c.args.by c.args.edit.now c.self.invariant at (sym w.in-Child.is ∙ c.index_mut.ensures.value) w.deref_mut.ensures.value
+          w.edit-in-Child.ensures.level w.edit-in-Child.ensures.whole w.edit-in-Child.ensures.inside w.edit-in-Child.ensures.outside in
+          rw (← c.self.view_is) (λ p a b. h.edits.inside p a b (omega (arith, h.by_end))))
     ]
 
 pub returns-then-end-first-clause-outside : goal.returns-then-end-first-clause-outside

@@ -11,4 +11,5 @@ invariant-slots g l =
     Along l.self-inside.level l.first l.end l.k l.k-end l.width
     × IsNode l.self-inside.level l.self-inside.slots.items
     × (l.self-inside.level ≡ l.fn.self.level)
-    × Edits (runs l.fn.self) (flatten (width_of l.self-inside.level) (parts_of l.self-inside.slots.items)) l.first l.end l.by l.edit (l.k * width_of l.self-inside.level)
+    × Edits (runs l.fn.self) (flatten (width_of l.self-inside.level) (parts_of l.self-inside.slots.items)) l.first l.end l.by l.edit
+    (l.k * width_of l.self-inside.level)

@@ -43,14 +43,18 @@ slots-preserved g t c =
     let is_in = along_in l c.slots-test.true in
     let part = along_part l c.part_in-part.ensures.first c.part_in-part.ensures.end in
     let f = free_before part l.some low c.slots.invariant.1 in
-    let to = reach_high part l.past (let e : (c.slots.k + 1) * width_of c.self.inside.level ≡ c.slots.k * width_of c.self.inside.level + width_of c.self.inside.level = omega arith in e) in (
+    let to = reach_high part l.past
+    (let e : (c.slots.k + 1) * width_of c.self.inside.level ≡ c.slots.k * width_of c.self.inside.level + width_of c.self.inside.level =
+    omega arith in e) in (
       along_next l refl,
       subst
-          (λ u. FreeTo (flatten (width_of c.self.inside.level) (parts_of c.self.inside.slots.items)) c.args.base c.args.first c.args.end c.args.n c.args.start c.match-index.open_from u)
+          (λ u. FreeTo (flatten (width_of c.self.inside.level) (parts_of c.self.inside.slots.items)) c.args.base c.args.first c.args.end
+          c.args.n c.args.start c.match-index.open_from u)
           to (elim c.match-index.branch [
             | in-Own+then-is_mapped w ↦
                 subst
-                (λ o. FreeTo (flatten (width_of c.self.inside.level) (parts_of c.self.inside.slots.items)) c.args.base c.args.first c.args.end c.args.n c.args.start o (c.slots.k * width_of c.self.inside.level + c.part_in-part.result.end))
+                (λ o. FreeTo (flatten (width_of c.self.inside.level) (parts_of c.self.inside.slots.items)) c.args.base c.args.first
+                c.args.end c.args.n c.args.start o (c.slots.k * width_of c.self.inside.level + c.part_in-part.result.end))
                 (sym
                 (w.open_from-is ∙ ap (λ n. c.args.base + c.slots.k * n + c.part_in-part.result.end)
                 l.width_is))
@@ -60,27 +64,33 @@ slots-preserved g t c =
                 c.part_in-part.ensures.some (sym w.is_mapped.ensures ∙ w.if-is_mapped.true) f)
             | in-Own+else-is_mapped+else-n-slot w ↦
                 subst
-                (λ o. FreeTo (flatten (width_of c.self.inside.level) (parts_of c.self.inside.slots.items)) c.args.base c.args.first c.args.end c.args.n c.args.start o (c.slots.k * width_of c.self.inside.level + c.part_in-part.result.end))
+                (λ o. FreeTo (flatten (width_of c.self.inside.level) (parts_of c.self.inside.slots.items)) c.args.base c.args.first
+                c.args.end c.args.n c.args.start o (c.slots.k * width_of c.self.inside.level + c.part_in-part.result.end))
                 (sym w.open_from-is)
                 (free_on _ w.in-Own.state c.args.base c.args.first c.args.end
                 c.part_in-part.result.first c.part_in-part.result.end c.args.n c.args.start
                 c.slots.open_from c.self.invariant is_in (sym w.in-Own.is ∙ c.index.ensures) part
                 c.part_in-part.ensures.some (sym w.is_mapped.ensures ∙ w.if-is_mapped.false)
-                (let few = w.if-n-slot.false in subst (λ n. c.args.base + c.slots.k * n + c.part_in-part.result.end - c.slots.open_from < c.args.n) l.width_is (omega (arith, few)))
+                (let few = w.if-n-slot.false in
+                subst (λ n. c.args.base + c.slots.k * n + c.part_in-part.result.end - c.slots.open_from < c.args.n) l.width_is
+                (omega (arith, few)))
                 f)
             | in-Child+in-Open w ↦
                 subst
-                (λ o. FreeTo (flatten (width_of c.self.inside.level) (parts_of c.self.inside.slots.items)) c.args.base c.args.first c.args.end c.args.n c.args.start o (c.slots.k * width_of c.self.inside.level + c.part_in-part.result.end))
+                (λ o. FreeTo (flatten (width_of c.self.inside.level) (parts_of c.self.inside.slots.items)) c.args.base c.args.first
+                c.args.end c.args.n c.args.start o (c.slots.k * width_of c.self.inside.level + c.part_in-part.result.end))
                 (sym w.open_from-is)
                 (free_child _ w.in-Child.node w.deref.result.now c.args.base c.args.first c.args.end
                 c.part_in-part.result.first c.part_in-part.result.end c.args.n c.args.start
                 c.slots.open_from w.in-Open.still c.self.invariant is_in
                 (sym w.in-Child.is ∙ c.index.ensures) w.deref.ensures part
                 (subst
-                (λ n. IsOpen (runs w.deref.result.now) (c.args.base + c.slots.k * n) c.part_in-part.result.first c.part_in-part.result.end c.args.n c.slots.open_from w.in-Open.still)
+                (λ n. IsOpen (runs w.deref.result.now) (c.args.base + c.slots.k * n) c.part_in-part.result.first c.part_in-part.result.end
+                c.args.n c.slots.open_from w.in-Open.still)
                 l.width_is
                 (subst
-                (λ r. Finds (runs w.deref.result.now) (c.args.base + c.slots.k * c.slot_pages-width.result) c.part_in-part.result.first c.part_in-part.result.end c.args.n c.slots.open_from r)
+                (λ r. Finds (runs w.deref.result.now) (c.args.base + c.slots.k * c.slot_pages-width.result) c.part_in-part.result.first
+                c.part_in-part.result.end c.args.n c.slots.open_from r)
                 w.in-Open.is w.free_run.ensures)) f)
           ]),
     )
@@ -114,10 +124,12 @@ returns-in-Found g t c =
     c.in-Found.found c.self.invariant is_in (sym c.in-Child.is ∙ c.index.ensures) c.deref.ensures
     part
     (subst
-    (λ n. IsFree (runs c.deref.result.now) (c.args.base + c.slots.k * n) c.part_in-part.result.first c.part_in-part.result.end c.args.n c.slots.open_from c.in-Found.found)
+    (λ n. IsFree (runs c.deref.result.now) (c.args.base + c.slots.k * n) c.part_in-part.result.first c.part_in-part.result.end c.args.n
+    c.slots.open_from c.in-Found.found)
     l.width_is
     (subst
-    (λ r. Finds (runs c.deref.result.now) (c.args.base + c.slots.k * c.slot_pages-width.result) c.part_in-part.result.first c.part_in-part.result.end c.args.n c.slots.open_from r)
+    (λ r. Finds (runs c.deref.result.now) (c.args.base + c.slots.k * c.slot_pages-width.result) c.part_in-part.result.first
+    c.part_in-part.result.end c.args.n c.slots.open_from r)
     c.in-Found.is c.free_run.ensures)) f)
 
 pub returns : goal.returns

@@ -52,11 +52,14 @@ returns-then-upto-slot-clause-added g t c =
     let e = c.list_frames-upto.ensures in
     rw (← c.self.view_is)
     (list_below _ c.in-Child.node c.deref.result.now c.args.base c.args.first c.args.end c.part_in-part.result.first c.part_in-part.result.end
-    c.list_frames-upto.result _ c.slots.list.items c.list_frames-upto.new.list.items c.self.invariant (along_in l c.slots-test.true) (sym c.in-Child.is ∙ c.index.ensures)
+    c.list_frames-upto.result _ c.slots.list.items c.list_frames-upto.new.list.items c.self.invariant (along_in l c.slots-test.true)
+    (sym c.in-Child.is ∙ c.index.ensures)
     c.deref.ensures (along_part l c.part_in-part.ensures.first c.part_in-part.ensures.end) l.some (along_below l c.slots-test.true) l.past
     (subst (λ n. c.args.base + c.slots.k * n + c.part_in-part.result.first ≤ c.list_frames-upto.result) l.width_is e.low)
     (subst (λ n. c.list_frames-upto.result ≤ c.args.base + c.slots.k * n + c.part_in-part.result.end) l.width_is e.high)
-    (subst (λ n. AddsFrames (frames_from (c.args.base + c.slots.k * n) (runs c.deref.result.now)) (c.args.base + c.slots.k * n + c.part_in-part.result.first) c.list_frames-upto.result c.slots.list.items c.list_frames-upto.new.list.items) l.width_is e.added)
+    (subst (λ n. AddsFrames (frames_from (c.args.base + c.slots.k * n) (runs c.deref.result.now))
+    (c.args.base + c.slots.k * n + c.part_in-part.result.first) c.list_frames-upto.result c.slots.list.items
+    c.list_frames-upto.new.list.items) l.width_is e.added)
     c.slots.invariant.1)
 
 pub slots-preserved : goal.slots-preserved
@@ -65,30 +68,38 @@ slots-preserved g t c =
     let low = along_below l c.slots-test.true in
     let is_in = along_in l c.slots-test.true in (
       along_next l refl,
-      elim c.match-index.branch as (λ _. ListsTo (flatten (width_of c.self.inside.level) (parts_of c.self.inside.slots.items)) c.args.base c.args.first c.args.end ((c.slots.k + 1) * width_of c.self.inside.level) c.args.list.now.items c.match-index.list.items) [
-        | in-Own+in-Some+else-is_full w ↦
-            let items = ap (λ v. v.items) w.list-is ∙ w.push.ensures.items
-            ∙ ap (λ n. c.slots.list.items ++ (record { page = c.args.base + c.slots.k * n; frame = w.in-Some.frame }) ∷ []) l.width_is in
-            subst (λ xs. ListsTo (flatten (width_of c.self.inside.level) (parts_of c.self.inside.slots.items)) c.args.base c.args.first c.args.end ((c.slots.k + 1) * width_of c.self.inside.level) c.args.list.now.items xs) (sym items)
-            (list_one _ w.in-Own.state c.args.base c.args.first c.args.end _ c.slots.list.items c.self.invariant is_in (sym w.in-Own.is ∙ c.index.ensures) low l.past
-            (sym w.frame.ensures ∙ w.in-Some.is) c.slots.invariant.1)
-        | in-Own+in_default w ↦
-            let items = ap (λ v. v.items) w.list-is in
-            subst (λ xs. ListsTo (flatten (width_of c.self.inside.level) (parts_of c.self.inside.slots.items)) c.args.base c.args.first c.args.end ((c.slots.k + 1) * width_of c.self.inside.level) c.args.list.now.items xs) (sym items)
-            (list_none _ w.in-Own.state c.args.base c.args.first c.args.end _ c.slots.list.items c.self.invariant is_in (sym w.in-Own.is ∙ c.index.ensures) l.some low l.past
-            (sym w.frame.ensures ∙ w.in_default.is) c.slots.invariant.1)
-        | in-Child+else-upto-slot w ↦
-            let items = ap (λ v. v.items) w.list-is in
-            let e = w.list_frames-upto.ensures in
-            let done = w.if-upto-slot.false in
-            subst (λ xs. ListsTo (flatten (width_of c.self.inside.level) (parts_of c.self.inside.slots.items)) c.args.base c.args.first c.args.end ((c.slots.k + 1) * width_of c.self.inside.level) c.args.list.now.items xs) (sym items)
-            (list_child _ w.in-Child.node w.deref.result.now c.args.base c.args.first c.args.end w.part_in-part.result.first w.part_in-part.result.end
-            w.list_frames-upto.result _ c.slots.list.items w.list_frames-upto.new.list.items c.self.invariant is_in (sym w.in-Child.is ∙ c.index.ensures)
-            w.deref.ensures (along_part l w.part_in-part.ensures.first w.part_in-part.ensures.end) l.some low l.past
-            (subst (λ n. c.args.base + c.slots.k * n + w.part_in-part.result.first ≤ w.list_frames-upto.result) l.width_is e.low)
-            (subst (λ n. w.list_frames-upto.result ≤ c.args.base + c.slots.k * n + w.part_in-part.result.end) l.width_is e.high)
-            (subst (λ n. c.args.base + c.slots.k * n + w.part_in-part.result.end ≤ w.list_frames-upto.result) l.width_is (omega (arith, done)))
-            (subst (λ n. AddsFrames (frames_from (c.args.base + c.slots.k * n) (runs w.deref.result.now)) (c.args.base + c.slots.k * n + w.part_in-part.result.first) w.list_frames-upto.result c.slots.list.items w.list_frames-upto.new.list.items) l.width_is e.added)
-            c.slots.invariant.1)
-      ],
+      elim c.match-index.branch as (λ _. ListsTo (flatten (width_of c.self.inside.level) (parts_of c.self.inside.slots.items)) c.args.base
+          c.args.first c.args.end ((c.slots.k + 1) * width_of c.self.inside.level) c.args.list.now.items c.match-index.list.items) [
+            | in-Own+in-Some+else-is_full w ↦
+                let items = ap (λ v. v.items) w.list-is ∙ w.push.ensures.items
+                ∙ ap (λ n. c.slots.list.items ++ (record { page = c.args.base + c.slots.k * n; frame = w.in-Some.frame }) ∷ []) l.width_is in
+                subst (λ xs. ListsTo (flatten (width_of c.self.inside.level) (parts_of c.self.inside.slots.items)) c.args.base c.args.first
+                c.args.end ((c.slots.k + 1) * width_of c.self.inside.level) c.args.list.now.items xs) (sym items)
+                (list_one _ w.in-Own.state c.args.base c.args.first c.args.end _ c.slots.list.items c.self.invariant is_in (sym w.in-Own.is
+                ∙ c.index.ensures) low l.past
+                (sym w.frame.ensures ∙ w.in-Some.is) c.slots.invariant.1)
+            | in-Own+in_default w ↦
+                let items = ap (λ v. v.items) w.list-is in
+                subst (λ xs. ListsTo (flatten (width_of c.self.inside.level) (parts_of c.self.inside.slots.items)) c.args.base c.args.first
+                c.args.end ((c.slots.k + 1) * width_of c.self.inside.level) c.args.list.now.items xs) (sym items)
+                (list_none _ w.in-Own.state c.args.base c.args.first c.args.end _ c.slots.list.items c.self.invariant is_in (sym w.in-Own.is
+                ∙ c.index.ensures) l.some low l.past
+                (sym w.frame.ensures ∙ w.in_default.is) c.slots.invariant.1)
+            | in-Child+else-upto-slot w ↦
+                let items = ap (λ v. v.items) w.list-is in
+                let e = w.list_frames-upto.ensures in
+                let done = w.if-upto-slot.false in
+                subst (λ xs. ListsTo (flatten (width_of c.self.inside.level) (parts_of c.self.inside.slots.items)) c.args.base c.args.first
+                c.args.end ((c.slots.k + 1) * width_of c.self.inside.level) c.args.list.now.items xs) (sym items)
+                (list_child _ w.in-Child.node w.deref.result.now c.args.base c.args.first c.args.end w.part_in-part.result.first w.part_in-part.result.end
+                w.list_frames-upto.result _ c.slots.list.items w.list_frames-upto.new.list.items c.self.invariant is_in (sym w.in-Child.is ∙ c.index.ensures)
+                w.deref.ensures (along_part l w.part_in-part.ensures.first w.part_in-part.ensures.end) l.some low l.past
+                (subst (λ n. c.args.base + c.slots.k * n + w.part_in-part.result.first ≤ w.list_frames-upto.result) l.width_is e.low)
+                (subst (λ n. w.list_frames-upto.result ≤ c.args.base + c.slots.k * n + w.part_in-part.result.end) l.width_is e.high)
+                (subst (λ n. c.args.base + c.slots.k * n + w.part_in-part.result.end ≤ w.list_frames-upto.result) l.width_is (omega (arith, done)))
+                (subst (λ n. AddsFrames (frames_from (c.args.base + c.slots.k * n) (runs w.deref.result.now))
+                (c.args.base + c.slots.k * n + w.part_in-part.result.first) w.list_frames-upto.result c.slots.list.items
+                w.list_frames-upto.new.list.items) l.width_is e.added)
+                c.slots.invariant.1)
+          ],
     )

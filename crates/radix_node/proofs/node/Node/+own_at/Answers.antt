@@ -27,7 +27,8 @@ invariant_of-self g t c =
     let cell = cell_at-Own _ c.in-Own.own c.self.invariant at is in
     let within = subst (λ (l : ℕ). c.args.page < 512 * width_of l) (sym here) c.requires in
     let was = subst (λ (x : Cell). IsSound x.width x.state) cell ((whole-node _ _ c.self.invariant).cells c.args.page within).sound in
-    is_node-set c.self.inside.level c.place_of-place.result.slot c.self.inside.slots.items (Own c.set_owner.new.self) c.self.invariant tt (subst (λ (s : State). IsSound (width_of c.self.inside.level) s) (sym c.set_owner.ensures) (owner_sound _ _ c.args.owner was))
+    is_node-set c.self.inside.level c.place_of-place.result.slot c.self.inside.slots.items (Own c.set_owner.new.self) c.self.invariant tt
+    (subst (λ (s : State). IsSound (width_of c.self.inside.level) s) (sym c.set_owner.ensures) (owner_sound _ _ c.args.owner was))
 
 pub returns-in-Own-clause-whole : goal.returns-in-Own-clause-whole
 returns-in-Own-clause-whole g t c = whole-node c.self.inside.level _ (invariant_of-self g t c)
@@ -39,7 +40,9 @@ returns-in-Own-clause-set g t c =
     let at : IsPlace _ c.args.page _ _ = record { slot_in = p.slot; page_is = p.page; rest_in = p.rest } in
     let cell = cell_at-Own _ c.in-Own.own c.self.invariant at is in
     let e = c.set_owner.ensures ∙ ap (λ (x : Cell). record { info = x.state.info; owner = c.args.owner }) (sym cell) in
-    rw (← c.self.view_is) (runs-Own _ c.in-Own.own c.set_owner.new.self c.self.invariant at is ∙ ap (λ (s : State). with_run (in_state s) (flatten (width_of c.self.inside.level) (parts_of c.self.inside.slots.items)) c.args.page) e)
+    rw (← c.self.view_is) (runs-Own _ c.in-Own.own c.set_owner.new.self c.self.invariant at is
+    ∙ ap (λ (s : State). with_run (in_state s) (flatten (width_of c.self.inside.level) (parts_of c.self.inside.slots.items))
+    c.args.page) e)
 
 pub returns-in-Own-clause-width : goal.returns-in-Own-clause-width
 returns-in-Own-clause-width g t c =
@@ -51,7 +54,8 @@ returns-in-Own-clause-width g t c =
 pub invariant_of-self-2 : goal.invariant_of-self-2
 invariant_of-self-2 g t c =
     let is = sym c.in-Child.is ∙ c.index_mut.ensures.value in
-    child_node _ c.in-Child.node _ c.deref_mut.result.now c.self.invariant c.place_of-place.ensures.slot is c.deref_mut.ensures.value c.own_at.ensures.level c.own_at.ensures.whole
+    child_node _ c.in-Child.node _ c.deref_mut.result.now c.self.invariant c.place_of-place.ensures.slot is c.deref_mut.ensures.value
+    c.own_at.ensures.level c.own_at.ensures.whole
 
 pub returns-clause-whole : goal.returns-clause-whole
 returns-clause-whole g t c = whole-node c.self.inside.level _ (invariant_of-self-2 g t c)
@@ -61,14 +65,23 @@ returns-clause-set g t c =
     let is = sym c.in-Child.is ∙ c.index_mut.ensures.value in
     let p = c.place_of-place.ensures in
     let at : IsPlace _ c.args.page _ _ = record { slot_in = p.slot; page_is = p.page; rest_in = p.rest } in
-    let below = cell_at-Child _ c.in-Child.node c.self.invariant at is ∙ ap (λ v. cell_at (runs v) c.place_of-place.result.rest) (sym c.deref_mut.ensures.value) in
-    let set = c.own_at.ensures.set ∙ ap (λ (x : Cell). with_run (in_state (record { info = x.state.info; owner = c.args.owner })) (runs c.deref_mut.result.now) c.place_of-place.result.rest) (sym below) in
-    rw (← c.self.view_is) (runs-Child (in_state (record { info = (cell_at (flatten (width_of c.self.inside.level) (parts_of c.self.inside.slots.items)) c.args.page).state.info; owner = c.args.owner })) _ c.in-Child.node _ c.deref_mut.result.now c.self.invariant at is c.deref_mut.ensures.value set)
+    let below = cell_at-Child _ c.in-Child.node c.self.invariant at is ∙ ap (λ v. cell_at (runs v) c.place_of-place.result.rest)
+    (sym c.deref_mut.ensures.value) in
+    let set = c.own_at.ensures.set ∙ ap (λ (x : Cell). with_run (in_state (record { info = x.state.info; owner = c.args.owner }))
+    (runs c.deref_mut.result.now) c.place_of-place.result.rest) (sym below) in
+    rw (← c.self.view_is)
+    (runs-Child
+    (in_state
+    (record {
+      info = (cell_at (flatten (width_of c.self.inside.level) (parts_of c.self.inside.slots.items)) c.args.page).state.info;
+      owner = c.args.owner;
+    })) _ c.in-Child.node _ c.deref_mut.result.now c.self.invariant at is c.deref_mut.ensures.value set)
 
 pub returns-clause-width : goal.returns-clause-width
 returns-clause-width g t c =
     let is = sym c.in-Child.is ∙ c.index_mut.ensures.value in
     let p = c.place_of-place.ensures in
     let at : IsPlace _ c.args.page _ _ = record { slot_in = p.slot; page_is = p.page; rest_in = p.rest } in
-    let below = cell_at-Child _ c.in-Child.node c.self.invariant at is ∙ ap (λ v. cell_at (runs v) c.place_of-place.result.rest) (sym c.deref_mut.ensures.value) in
+    let below = cell_at-Child _ c.in-Child.node c.self.invariant at is ∙ ap (λ v. cell_at (runs v) c.place_of-place.result.rest)
+    (sym c.deref_mut.ensures.value) in
     rw (← c.self.view_is) (c.own_at.ensures.width ∙ sym (ap (λ (x : Cell). x.width) below))

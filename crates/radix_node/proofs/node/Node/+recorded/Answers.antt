@@ -14,7 +14,8 @@ part_in-part-requires-clause-small g t c = let w = c.slots.invariant.0.width_is 
 pub recorded-requires : goal.recorded-requires
 recorded-requires g t c κs within =
     let l = c.slots.invariant.0 in
-    let down = along_down _ c.in-Child.node c.deref.result.now l c.slots-test.true c.self.invariant (sym c.in-Child.is ∙ c.index.ensures) c.deref.ensures c.part_in-part.ensures.within in
+    let down = along_down _ c.in-Child.node c.deref.result.now l c.slots-test.true c.self.invariant (sym c.in-Child.is
+    ∙ c.index.ensures) c.deref.ensures c.part_in-part.ensures.within in
     let lower = down.falls in
     let last = down.within in
     let here = ap (λ (v : Parts). v.level) c.self.view_is in
@@ -27,16 +28,22 @@ slots-preserved g t c =
     let low = along_below l c.slots-test.true in (
       along_next l refl,
       elim c.match-index.branch [
-        | in-Own w ↦ users_own _ w.in-Own.state c.args.first c.args.end c.slots.cores c.match-index.cores c.self.invariant (along_in l c.slots-test.true) (sym w.in-Own.is ∙ c.index.ensures) l.some l.past low
-            (λ core. ap (λ n. members n core) w.cores-is ∙ ap (λ f. f core) w.union-cores.ensures ∙ ap (λ f. members c.slots.cores core || f core) w.cores.ensures) c.slots.invariant.1
-        | in-Child w ↦ users_child _ w.in-Child.node c.args.first c.args.end w.part_in-part.result.first w.part_in-part.result.end c.slots.cores w.recorded.result c.match-index.cores c.self.invariant (along_in l c.slots-test.true) (sym w.in-Child.is ∙ c.index.ensures)
+        | in-Own w ↦ users_own _ w.in-Own.state c.args.first c.args.end c.slots.cores c.match-index.cores c.self.invariant
+            (along_in l c.slots-test.true) (sym w.in-Own.is ∙ c.index.ensures) l.some l.past low
+            (λ core. ap (λ n. members n core) w.cores-is ∙ ap (λ f. f core) w.union-cores.ensures
+            ∙ ap (λ f. members c.slots.cores core || f core) w.cores.ensures) c.slots.invariant.1
+        | in-Child w ↦ users_child _ w.in-Child.node c.args.first c.args.end w.part_in-part.result.first w.part_in-part.result.end
+            c.slots.cores w.recorded.result c.match-index.cores c.self.invariant (along_in l c.slots-test.true) (sym w.in-Child.is
+            ∙ c.index.ensures)
             (along_part l w.part_in-part.ensures.first w.part_in-part.ensures.end)
             (λ core. ap (λ n. members n core) w.cores-is ∙ ap (λ f. f core) w.union-cores-in-Child.ensures)
-            (λ core. subst (λ v. (members w.recorded.result core ≡ true) ↔ HasUser (runs v) w.part_in-part.result.first w.part_in-part.result.end core) w.deref.ensures (w.recorded.ensures core))
+            (λ core. subst (λ v. (members w.recorded.result core ≡ true)
+            ↔ HasUser (runs v) w.part_in-part.result.first w.part_in-part.result.end core) w.deref.ensures (w.recorded.ensures core))
             c.slots.invariant.1
       ],
     )
 
 pub returns : goal.returns
 returns g t c = λ core.
-    rw (← c.self.view_is) (users_all _ c.args.first c.args.end _ c.slots.cores c.slots.invariant.1 (along_done c.slots.invariant.0 (omega (arith, c.slots-test.false))) core)
+    rw (← c.self.view_is) (users_all _ c.args.first c.args.end _ c.slots.cores c.slots.invariant.1
+    (along_done c.slots.invariant.0 (omega (arith, c.slots-test.false))) core)

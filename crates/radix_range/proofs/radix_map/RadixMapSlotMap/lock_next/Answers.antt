@@ -25,7 +25,8 @@ returns-in_ok-expand-in-Before-clause-step g c =
 pub expand-requires-in-Beyond-clause-page : goal.expand-requires-in-Beyond-clause-page
 expand-requires-in-Beyond-clause-page g c =
     let past = c.in-Beyond.ensures.tries.0 in
-    let limit = slot_by_edge (tree_slots c.args.self.now.root) _ _ (2 ^ 35) past.slot (tree-is_slot_map c.args.self.now.root c.args.self.now.ok).limit (omega (arith, c.requires.ordered, c.requires.valid.1)) in
+    let limit = slot_by_edge (tree_slots c.args.self.now.root) _ _ (2 ^ 35) past.slot
+    (tree-is_slot_map c.args.self.now.root c.args.self.now.ok).limit (omega (arith, c.requires.ordered, c.requires.valid.1)) in
     (omega (arith, c.requires.ordered), omega (arith, past.past, limit))
 
 pub expand-requires-in-Beyond-clause-crossed : goal.expand-requires-in-Beyond-clause-crossed
@@ -41,5 +42,6 @@ returns-in_ok-expand-in-Beyond-clause-step g c =
     let free_end = e.0.free c.args.end (omega (arith, c.requires.ordered)) e.0.past in
     let d = subst (λ (s : Slots). (at : ℕ) × IsPage at × Divides s now (s.owner c.args.end) at) e.1 c.in_ok-expand-in-Beyond.ensures.ok in
     let exact = subst (λ (s : Slots). DividesAs in_512 s now c.args.end) e.1 c.in_ok-expand-in-Beyond.ensures.exact in
-    splits in_512 _ _ c.args.cursor c.args.end d.0 c.requires.ordered free (inr (λ p a b. e.0.slot.inside p a (omega (arith, b, e.0.past)))) d.1 (rw free_end at d.2)
+    splits in_512 _ _ c.args.cursor c.args.end d.0 c.requires.ordered free
+    (inr (λ p a b. e.0.slot.inside p a (omega (arith, b, e.0.past)))) d.1 (rw free_end at d.2)
     (at_end in_512 _ _ (between c.args.cursor c.args.end) e.0.slot.begins exact)

@@ -6,7 +6,8 @@ use Rattle.radix_range.specs.TreeLaws.{tree-is_slot_map}
 use Rattle.radix_range.proofs.radix_map.RadixMapSlotMap.unlock_next.Goals as goal
 
 pub set_owner-requires-clause-page : goal.set_owner-requires-clause-page
-set_owner-requires-clause-page g c = held_page (tree_slots c.args.self.now.root) (tree-is_slot_map c.args.self.now.root c.args.self.now.ok) c.args.cursor c.args.core c.requires.held
+set_owner-requires-clause-page g c = held_page (tree_slots c.args.self.now.root) (tree-is_slot_map c.args.self.now.root c.args.self.now.ok)
+    c.args.cursor c.args.core c.requires.held
 
 pub returns : goal.returns
 returns g c =

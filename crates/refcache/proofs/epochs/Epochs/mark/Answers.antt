@@ -24,5 +24,11 @@ returns-clause-marks c =
     let p : Epoch = record { cores = c.self.inside.cores; number = c.self.inside.number; flushed = c.self.inside.flushed } in
     let unmarked : members p.flushed c.args.core ≡ false = sym c.contains.ensures ∙ c.if-contains.false in
     let fits = c.self.ranges in
-    subst (λ v. Marks v.cores v.number (members v.flushed) c.args.core flush.EpochEnded (p.number + 1) (members c.empty-self-inside.result)) c.self.view_is
-    (unmarked, subst (AllMarked p.cores) c.with-flushed.ensures.members c.if-not-has_all.ensures, λ h. c.if-self.false (omega arith), refl, ap members c.empty-self-inside.ensures ∙ no_members)
+    subst (λ v. Marks v.cores v.number (members v.flushed) c.args.core flush.EpochEnded (p.number + 1) (members c.empty-self-inside.result)) c.self.view_is (
+      unmarked,
+      subst (AllMarked p.cores) c.with-flushed.ensures.members c.if-not-has_all.ensures,
+      λ h.
+          c.if-self.false (omega arith),
+      refl,
+      ap members c.empty-self-inside.ensures ∙ no_members,
+    )

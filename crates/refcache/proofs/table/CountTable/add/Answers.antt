@@ -15,7 +15,10 @@ returns-clause-counts g c =
     let seen : p ≡ c.args.self.now = c.self.view_is in
     let at : c.args.core < length p.cores = subst (λ v. c.args.core < length v.cores) (sym seen) c.requires.core in
     let core : c.index_mut.result.now ≡ core_at p.cores c.args.core = c.index_mut.ensures.value ∙ get_or_default p.cores c.args.core _ _ at in
-    let entries0 = subst (λ b. entries c.add.new.self.places ≡ put (entries c.index_mut.result.now.places) c.args.object (Some (unwrap_or (entries c.index_mut.result.now.places c.args.object) (pos 0) +ℤ b))) (to_z-of_z w64 c.args.by c.ranges.by) c.add.ensures.entries in
-    let places = subst (λ k. entries c.add.new.self.places ≡ put (entries k.places) c.args.object (Some (unwrap_or (entries k.places c.args.object) (pos 0) +ℤ c.args.by))) core entries0 in
+    let entries0 = subst (λ b. entries c.add.new.self.places ≡ put (entries c.index_mut.result.now.places) c.args.object
+    (Some (unwrap_or (entries c.index_mut.result.now.places c.args.object) (pos 0) +ℤ b)))
+    (to_z-of_z w64 c.args.by c.ranges.by) c.add.ensures.entries in
+    let places = subst (λ k. entries c.add.new.self.places ≡ put (entries k.places) c.args.object
+    (Some (unwrap_or (entries k.places c.args.object) (pos 0) +ℤ c.args.by))) core entries0 in
     let queue = c.add.ensures.queue ∙ ap (λ k. k.queue) core in
     whole_added p c.args.core c.args.object c.args.by c.add.new.self at places queue ∙ ap (λ v. added c.args.core c.args.object c.args.by (counts_of v)) seen

@@ -14,8 +14,11 @@ invariant_of-self c =
     let s : c.deref.result.now ≡ boxes = c.deref.ensures.0 in
     let t : c.deref_mut.result.now ≡ boxes = c.deref_mut.ensures.value in
     let len : length c.take_at.new.inboxes ≡ length boxes = c.take_at.auto.inboxes ∙ ap length t in
-    rw (items-with_items (record { items = boxes }) c.take_at.new.inboxes len) (index_taken boxes c.take_at.new.inboxes c.self.inside.awaited c.acknowledge.new.awaited core (owner c.deref.result.now core) c.self.invariant len
+    rw (items-with_items (record { items = boxes }) c.take_at.new.inboxes len)
+    (index_taken boxes c.take_at.new.inboxes c.self.inside.awaited c.acknowledge.new.awaited core
+    (owner c.deref.result.now core) c.self.invariant len
     (c.take_at.ensures.owners ∙ ap owner t)
     (c.take_at.ensures.messages ∙ ap (λ b. put (inbox b) core (remaining (inbox b core))) t)
     (subst (λ b. AreFromOthers (owner c.deref.result.now core) (inbox b core)) s c.waiter-waiter.ensures.others)
-    (λ k h. c.acknowledge.ensures k h ∙ ap (λ w. acknowledged (members (get_or c.self.inside.awaited k 0)) w core k) (c.waiter-waiter.ensures.value ∙ ap (λ b. waiter (inbox b core)) s)))
+    (λ k h. c.acknowledge.ensures k h ∙ ap (λ w. acknowledged (members (get_or c.self.inside.awaited k 0)) w core k)
+    (c.waiter-waiter.ensures.value ∙ ap (λ b. waiter (inbox b core)) s)))

@@ -7,4 +7,6 @@ pub returns-clause-new : goal.returns-clause-new
 returns-clause-new g c = rw (c.in_ok-push-3.ensures.items, c.in_ok-push-2.ensures.items, c.in_ok-push.ensures.items, c.in_ok-runs.ensures.items) new_runs-IsNew
 
 pub returns-clause-rest : goal.returns-clause-rest
-returns-clause-rest g c = rw (c.in_ok-push-3.ensures.items, c.in_ok-push-2.ensures.items, c.in_ok-push.ensures.items, c.in_ok-runs.ensures.items) (rest new_runs new_runs-IsRuns 1 refl refl refl)
+returns-clause-rest g c =
+    rw (c.in_ok-push-3.ensures.items, c.in_ok-push-2.ensures.items, c.in_ok-push.ensures.items, c.in_ok-runs.ensures.items)
+    (rest new_runs new_runs-IsRuns 1 refl refl refl)

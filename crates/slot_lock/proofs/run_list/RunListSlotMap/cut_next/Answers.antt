@@ -13,7 +13,9 @@ returns-then-index-range-clause-step g c =
     let held = c.requires.held.held c.args.range.first (omega arith) c.requires.range.some in
     let owner = sym (owner_at _ c.args.self.now.ok _ _ at) ∙ held in
     let crossed = no_edge _ c.args.self.now.ok _ _ at inside in
-    cuts two_parts _ _ c.args.core c.args.range c.args.range.first (inl crossed) (c.requires.range.low, omega (arith, c.requires.range.some, c.requires.range.high)) (rw owner at c.in_ok-cut.ensures.ok) (at_first two_parts _ _ c.args.range crossed c.in_ok-cut.ensures.exact)
+    cuts two_parts _ _ c.args.core c.args.range c.args.range.first (inl crossed)
+    (c.requires.range.low, omega (arith, c.requires.range.some, c.requires.range.high)) (rw owner at c.in_ok-cut.ensures.ok)
+    (at_first two_parts _ _ c.args.range crossed c.in_ok-cut.ensures.exact)
 
 pub returns-then-index-range-clause-exact : goal.returns-then-index-range-clause-exact
 returns-then-index-range-clause-exact g c =
@@ -32,7 +34,9 @@ returns-then-index-range-2-clause-step g c =
     let first_at = rw c.deref.ensures.value at c.place-i.ensures in
     let first = read_run c.args.self.now.runs.items c.place-i.result c.index.result.now first_at.within c.index.ensures in
     let begins = edge_of _ c.args.self.now.ok _ _ first_at (rw first at c.if-index-range.false) in
-    cuts two_parts _ _ c.args.core c.args.range c.args.range.end (inr (no_edge _ c.args.self.now.ok _ _ at inside)) (omega (arith, c.requires.range.some), below) (rw owner at c.in_ok-cut-2.ensures.ok) (at_end two_parts _ _ c.args.range begins c.in_ok-cut-2.ensures.exact)
+    cuts two_parts _ _ c.args.core c.args.range c.args.range.end (inr (no_edge _ c.args.self.now.ok _ _ at inside))
+    (omega (arith, c.requires.range.some), below) (rw owner at c.in_ok-cut-2.ensures.ok)
+    (at_end two_parts _ _ c.args.range begins c.in_ok-cut-2.ensures.exact)
 
 pub returns-then-index-range-2-clause-exact : goal.returns-then-index-range-2-clause-exact
 returns-then-index-range-2-clause-exact g c =
@@ -45,8 +49,13 @@ returns-clause-step g c =
     let at = rw c.deref.ensures.value at c.place-i.ensures in
     let at_end = rw c.deref-2.ensures.value at c.place-j.ensures in
     let first = read_run c.args.self.now.runs.items c.place-i.result c.index.result.now at.within c.index.ensures in
-    let end = read_run c.args.self.now.runs.items c.place-j.result c.index-2.result.now at_end.within c.index-2.ensures in
-    (record { begins = edge_of _ c.args.self.now.ok _ _ at (rw first at c.if-index-range.false); ends = edge_of _ c.args.self.now.ok _ _ at_end (rw end at c.if-index-range-2.false) }, refl)
+    let end = read_run c.args.self.now.runs.items c.place-j.result c.index-2.result.now at_end.within c.index-2.ensures in (
+      record {
+        begins = edge_of _ c.args.self.now.ok _ _ at (rw first at c.if-index-range.false);
+        ends = edge_of _ c.args.self.now.ok _ _ at_end (rw end at c.if-index-range-2.false);
+      },
+      refl,
+    )
 
 pub returns-in_err-cut-clause-err_only : goal.returns-in_err-cut-clause-err_only
 returns-in_err-cut-clause-err_only g c =

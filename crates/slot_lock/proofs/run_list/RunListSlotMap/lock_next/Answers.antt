@@ -11,7 +11,10 @@ use Rattle.slot_lock.proofs.run_list.RunListSlotMap.lock_next.Goals as goal
 pub returns-in-Some-clause-step : goal.returns-in-Some-clause-step
 returns-in-Some-clause-step g c =
     let at = rw c.deref.ensures.value at c.place-i.ensures in
-    let owner = sym (ap (λ (r : Run). r.owner) (read_at c.args.self.now.runs.items c.args.self.now.ok c.args.cursor c.place-i.result c.index-slot.result.now at c.index-slot.ensures)) ∙ c.in-Some.is in
+    let owner = sym
+    (ap (λ (r : Run). r.owner)
+    (read_at c.args.self.now.runs.items c.args.self.now.ok c.args.cursor c.place-i.result c.index-slot.result.now at
+    c.index-slot.ensures)) ∙ c.in-Some.is in
     (λ same. c.requires.not_held (owner ∙ ap Some same), owner, refl)
 
 pub returns-then-end-slot_end-clause-step : goal.returns-then-end-slot_end-clause-step
@@ -26,7 +29,9 @@ returns-then-end-slot_end-clause-step g c =
     let above = start_most _ c.args.self.now.ok _ last in
     let past = rw next at c.if-end-slot_end.true in
     splits two_parts _ _ c.args.cursor c.args.end c.args.end c.requires.ordered
-    (sym (ap (λ (r : Run). r.owner) (read_at c.args.self.now.runs.items c.args.self.now.ok c.args.cursor c.place-i.result c.index-slot.result.now at c.index-slot.ensures)) ∙ c.in_default.is)
+    (sym (ap (λ (r : Run). r.owner)
+    (read_at c.args.self.now.runs.items c.args.self.now.ok c.args.cursor c.place-i.result c.index-slot.result.now at
+    c.index-slot.ensures)) ∙ c.in_default.is)
     (crosses_end _ c.args.self.now.ok c.place-i.result c.args.cursor c.args.end last begins past)
     (omega (arith, c.requires.ordered), omega arith)
     (rw free at c.in_ok-cut-2.ensures.ok)
@@ -44,7 +49,9 @@ returns-then-slot-cursor-clause-step g c =
     let run = read_run c.args.self.now.runs.items c.place-i.result c.index-slot.result.now at.within c.index-slot.ensures in
     let crossed = no_edge _ c.args.self.now.ok _ _ at (rw run at c.if-slot-cursor.true) in
     splits two_parts _ _ c.args.cursor c.args.end c.args.cursor c.requires.ordered
-    (sym (ap (λ (r : Run). r.owner) (read_at c.args.self.now.runs.items c.args.self.now.ok c.args.cursor c.place-i.result c.index-slot.result.now at c.index-slot.ensures)) ∙ c.in_default.is)
+    (sym (ap (λ (r : Run). r.owner)
+    (read_at c.args.self.now.runs.items c.args.self.now.ok c.args.cursor c.place-i.result c.index-slot.result.now at
+    c.index-slot.ensures)) ∙ c.in_default.is)
     (inl crossed)
     (c.requires.valid.0, omega (arith, c.requires.ordered, c.requires.valid.1))
     (rw (rw run at c.in_default.is) at c.in_ok-cut.ensures.ok)
@@ -65,13 +72,18 @@ returns-clause-step g c =
     let next = read_run c.args.self.now.runs.items (c.place-i.result + 1) c.index.result.now last c.index.ensures in
     let begins : (get_run c.args.self.now.runs.items c.place-i.result).start ≡ c.args.cursor = omega (arith, at.from, rw run at c.if-slot-cursor.false) in
     let free = rw run at c.in_default.is in
-    rw next (locks _ _ c.args.self.now.ok c.place-i.result c.args.core c.args.cursor c.args.end last begins free (rw next at c.if-end-slot_end.false) c.set_owner.ensures.slots)
+    rw next (locks _ _ c.args.self.now.ok c.place-i.result c.args.core c.args.cursor c.args.end last begins free
+    (rw next at c.if-end-slot_end.false) c.set_owner.ensures.slots)
 
 pub returns-in_err-cut-clause-err_only : goal.returns-in_err-cut-clause-err_only
 returns-in_err-cut-clause-err_only g c =
     let at = rw c.deref.ensures.value at c.place-i.ensures in
     let run = read_run c.args.self.now.runs.items c.place-i.result c.index-slot.result.now at.within c.index-slot.ensures in
-    on_err_both _ (sym (ap (λ (r : Run). r.owner) (read_at c.args.self.now.runs.items c.args.self.now.ok c.args.cursor c.place-i.result c.index-slot.result.now at c.index-slot.ensures)) ∙ c.in_default.is) (crosses_start _ c.args.self.now.ok c.place-i.result c.args.cursor c.args.end at (rw run at c.if-slot-cursor.true))
+    on_err_both _
+    (sym (ap (λ (r : Run). r.owner)
+    (read_at c.args.self.now.runs.items c.args.self.now.ok c.args.cursor c.place-i.result c.index-slot.result.now at
+    c.index-slot.ensures)) ∙ c.in_default.is) (crosses_start _ c.args.self.now.ok c.place-i.result c.args.cursor c.args.end at
+    (rw run at c.if-slot-cursor.true))
 
 pub returns-in_err-cut-2-clause-err_only : goal.returns-in_err-cut-2-clause-err_only
 returns-in_err-cut-2-clause-err_only g c =
@@ -82,4 +94,8 @@ returns-in_err-cut-2-clause-err_only g c =
     let next = read_run c.args.self.now.runs.items (c.place-i.result + 1) c.index.result.now last c.index.ensures in
     let begins : (get_run c.args.self.now.runs.items c.place-i.result).start ≡ c.args.cursor = omega (arith, at.from, rw run at c.if-slot-cursor.false) in
     let past = rw next at c.if-end-slot_end.true in
-    on_err_both _ (sym (ap (λ (r : Run). r.owner) (read_at c.args.self.now.runs.items c.args.self.now.ok c.args.cursor c.place-i.result c.index-slot.result.now at c.index-slot.ensures)) ∙ c.in_default.is) (crosses_end _ c.args.self.now.ok c.place-i.result c.args.cursor c.args.end last begins past)
+    on_err_both _
+    (sym (ap (λ (r : Run). r.owner)
+    (read_at c.args.self.now.runs.items c.args.self.now.ok c.args.cursor c.place-i.result c.index-slot.result.now at
+    c.index-slot.ensures)) ∙ c.in_default.is)
+    (crosses_end _ c.args.self.now.ok c.place-i.result c.args.cursor c.args.end last begins past)

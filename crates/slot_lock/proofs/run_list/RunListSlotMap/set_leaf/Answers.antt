@@ -20,7 +20,9 @@ set_info-requires-clause-meta g c =
     let at = rw c.deref.ensures.value at c.place-i.ensures in
     let one = one_page _ c.args.self.now.ok _ _ at c.requires.alone c.requires.valid.1 in
     let none : c.args.page - (get_run c.args.self.now.runs.items c.place-i.result).start ≡ 0 = omega (arith, one.0) in
-    let info = ap (λ (r : Run). info_from r.info (c.args.page - r.start)) (run_at_is _ c.args.self.now.ok _ _ at) ∙ (ap (info_from (get_run c.args.self.now.runs.items c.place-i.result).info) none ∙ info_from_zero (get_run c.args.self.now.runs.items c.place-i.result).info) in
+    let info = ap (λ (r : Run). info_from r.info (c.args.page - r.start)) (run_at_is _ c.args.self.now.ok _ _ at)
+    ∙ (ap (info_from (get_run c.args.self.now.runs.items c.place-i.result).info) none
+    ∙ info_from_zero (get_run c.args.self.now.runs.items c.place-i.result).info) in
     let P : Option PageInfo → Type 0 = λ o. HasMeta o c.args.info.meta in
     subst P info c.requires.meta
 

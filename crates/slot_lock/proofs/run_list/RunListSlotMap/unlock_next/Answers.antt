@@ -24,4 +24,5 @@ returns g c =
     let page = held_page _ (slots_of-is_slot_map _ c.args.self.now.ok) c.args.cursor c.args.core c.requires.held in
     let last = before_last _ c.args.self.now.ok _ _ at page.1 in
     let next = read_run c.args.self.now.runs.items (c.place-i.result + 1) c.index.result.now last c.index.ensures in
-    rw next (unlocks _ _ c.args.self.now.ok c.place-i.result c.args.core c.args.cursor c.args.end last (first_slot _ c.args.self.now.ok _ _ at c.requires.slot.1.begins) c.requires.slot c.requires.held c.set_owner.ensures.slots)
+    rw next (unlocks _ _ c.args.self.now.ok c.place-i.result c.args.core c.args.cursor c.args.end last
+    (first_slot _ c.args.self.now.ok _ _ at c.requires.slot.1.begins) c.requires.slot c.requires.held c.set_owner.ensures.slots)

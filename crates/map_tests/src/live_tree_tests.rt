@@ -1,10 +1,10 @@
-//! Worked acquisitions, cuts, commits and folds on the tree, and what its histories have.
+//! `live_tree`: worked acquisitions, cuts, commits and folds, and what the histories have.
 ghost use Rattle.std.specs.Prelude.{◌≡◌, ◌<◌, ◌≤◌, ◌^◌};
 
-use crate::held::cut::Cutting;
-use crate::held::{Got, Held};
-use crate::tree::SharedTree;
 use live_levels::level::Stepper;
+use live_tree::held::cut::Cutting;
+use live_tree::held::{Got, Held};
+use live_tree::tree::SharedTree;
 use std::alloc::Global;
 use std::sync::Wait;
 use std::test::Fail;
