@@ -1,16 +1,18 @@
 //! The plain Rust program that the traces are measured against: the same texts in and out, for lines of whole calls (`cC!`,
-//! `call`, `finish`), takes, walks, evictions, flushes and reviews, without files. Each core has page tables and a TLB; the
+//! `call`, `finish`), takes, walks, evictions, flushes and reviews. Each core has page tables and a TLB; the
 //! slots of pages stand in a radix tree. Standard library alone.
 //! Build: `rustc --edition 2021 -C opt-level=3 bench/baseline.rs`.
 mod baseline {
     pub mod counts;
     pub mod cpu;
+    pub mod files;
     pub mod frames;
     pub mod machine;
     pub mod request;
     pub mod slots;
 }
 
+use baseline::files::File;
 use baseline::machine::{Machine, Outcome};
 use baseline::request::{read_line, Line};
 use std::io::{self, BufRead, BufReader, BufWriter, Write};
@@ -72,6 +74,18 @@ fn main() -> io::Result<ExitCode> {
                 None,
             ) => {
                 machine = Some(Machine::new(cores as usize, frames as usize, calls));
+            }
+            (
+                Some(Line::File {
+                    can_read,
+                    can_write,
+                    len: len @ 0..=1_048_576,
+                    seed,
+                    ..
+                }),
+                Some(machine),
+            ) => {
+                machine.open(File::new(can_read, can_write, len as usize, seed));
             }
             (Some(Line::Core { core, action }), Some(machine)) => {
                 write_outcome(&mut out, machine.act(core, action))?;

@@ -1,6 +1,6 @@
 #!/usr/bin/env bash
-# Measures two traces of a million lines, of one core and of four, against the plain Rust program of bench/baseline.rs: three
-# runs each, alternating. Both must write the same text. Each trace gets one ratio, that of the sums. Usage: bench/run.sh [LINES]
+# Measures two traces of a million lines, of one core and of four, and 100,000 loads through mapped files, against the plain Rust
+# program of bench/baseline.rs: three runs each, alternating. Both must write the same text. Each trace gets one ratio, that of the sums. Usage: bench/run.sh [LINES]
 set -eu
 cd "$(dirname "$0")/.."
 work=$(mktemp -d)
@@ -26,3 +26,4 @@ measure() { # a trace by its name and the script that writes it
 }
 measure "one core" bench/make_trace.sh "${1:-1000000}"
 measure "four cores" bench/make_trace_four.sh "${1:-1000000}"
+measure "files" bench/make_trace_files.sh 100000

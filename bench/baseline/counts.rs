@@ -85,12 +85,22 @@ impl Counts {
         }
     }
 
+    /// Counts an object up.
+    pub fn inc(&mut self, core: usize, object: u32) {
+        self.change(core, object, 1);
+    }
+
     /// Counts an object down.
     pub fn dec(&mut self, core: usize, object: u32) {
+        self.change(core, object, -1);
+    }
+
+    fn change(&mut self, core: usize, object: u32, by: i64) {
         let place = object as usize % PLACES;
         let part = &self.cores[core];
         let there = part.entries[place];
-        if part.taken & 1 << place != 0 && (there.object != object || there.delta == -DELTA_LIMIT) {
+        let is_full = there.object != object || there.delta == by * DELTA_LIMIT;
+        if part.taken & 1 << place != 0 && is_full {
             self.evict(core, place);
         }
         let part = &mut self.cores[core];
@@ -98,7 +108,7 @@ impl Counts {
             part.taken |= 1 << place;
             part.entries[place] = Entry { object, delta: 0 };
         }
-        part.entries[place].delta -= 1;
+        part.entries[place].delta += by;
     }
 
     /// Evicts the entry of the core's least object, or else marks the core; the last to be marked ends the epoch. Tells

@@ -42,6 +42,24 @@ impl Frames {
         self.from = self.from.min(word);
     }
 
+    /// Gives a frame these bytes, and zeros after them.
+    pub fn fill(&mut self, frame: u32, from: &[u8]) {
+        let bytes = self.bytes[frame as usize].get_or_insert_with(|| Box::new([0; FRAME_SIZE]));
+        bytes[..from.len()].copy_from_slice(from);
+        bytes[from.len()..].fill(0);
+    }
+
+    /// Gives a frame all bytes of another.
+    pub fn copy(&mut self, from: u32, to: u32) {
+        match self.bytes[from as usize].take() {
+            Some(bytes) => {
+                self.fill(to, &bytes[..]);
+                self.bytes[from as usize] = Some(bytes);
+            }
+            None => self.fill(to, &[]),
+        }
+    }
+
     pub fn byte(&self, frame: u32, offset: usize) -> u8 {
         match &self.bytes[frame as usize] {
             Some(bytes) => bytes[offset],

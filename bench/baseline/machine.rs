@@ -1,9 +1,10 @@
 //! The machine: cores that share one space, the calls that they are in, and what they wait for.
 use crate::baseline::counts::Counts;
 use crate::baseline::cpu::Cpu;
+use crate::baseline::files::File;
 use crate::baseline::frames::Frames;
 use crate::baseline::request::{Access, Action, Flags, Prot, Request};
-use crate::baseline::slots::{Page, Slots, State};
+use crate::baseline::slots::{Back, Page, Slots, State};
 use std::collections::VecDeque;
 
 const PAGE_SIZE: u64 = 4096;
@@ -29,7 +30,7 @@ struct Range {
 
 #[derive(Clone, Copy)]
 enum Change {
-    Put(Prot),
+    Put(Prot, Back),
     Clear,
     Protect(Prot),
 }
@@ -57,6 +58,11 @@ enum Call {
         range: Range,
         change: Change,
     },
+    /// The private page is to get a copy in this frame once the other cores have dropped their translations.
+    Copy {
+        touch: Touch,
+        frame: u32,
+    },
 }
 
 /// A core asks another one to drop its translations of a range.
@@ -79,6 +85,7 @@ pub struct Machine {
     slots: Slots,
     frames: Frames,
     counts: Counts,
+    files: Vec<File>,
     calls_left: u64,
 }
 
@@ -100,18 +107,10 @@ fn allows(prot: Prot, access: Access) -> bool {
     }
 }
 
-fn check_mmap(addr: u64, len: u64, flags: Flags) -> Result<Range, &'static str> {
-    if len == 0 || flags.private == flags.shared || (flags.fixed && addr % PAGE_SIZE != 0) {
-        return Err("einval");
-    }
-    if !flags.fixed {
-        return Err("enomem");
-    }
-    let range = pages(addr, len).ok_or("enomem")?;
-    if flags.anon {
-        Ok(range)
-    } else {
-        Err("ebadf")
+fn is_shared_file(back: Back) -> Option<usize> {
+    match back {
+        Back::Shared { file, .. } => Some(file),
+        Back::Anon | Back::Private { .. } => None,
     }
 }
 
@@ -146,8 +145,14 @@ impl Machine {
             slots: Slots::new(),
             frames: Frames::new(frames),
             counts: Counts::new(cores, frames),
+            files: Vec::new(),
             calls_left: calls,
         }
+    }
+
+    /// Opens a file, whose number is the next one.
+    pub fn open(&mut self, file: File) {
+        self.files.push(file);
     }
 
     pub fn act(&mut self, core: usize, action: Action) -> Outcome {
@@ -216,6 +221,7 @@ impl Machine {
                 change,
             }) => self.lock(core, range, cursor, change),
             Some(Call::Acks { range, change }) => self.commit(core, range, change),
+            Some(Call::Copy { touch, frame }) => self.copy(core, touch, frame),
         }
     }
 
@@ -237,7 +243,11 @@ impl Machine {
                 len,
                 prot,
                 flags,
-            } => check_mmap(addr, len, flags).map(|range| (range, Change::Put(prot))),
+                file,
+                off,
+            } => self
+                .check_mmap(addr, len, prot, flags, file, off)
+                .map(|(range, back)| (range, Change::Put(prot, back))),
             Request::Munmap { addr, len } => {
                 check_munmap(addr, len).map(|range| (range, Change::Clear))
             }
@@ -253,6 +263,46 @@ impl Machine {
         }
     }
 
+    fn check_mmap(
+        &self,
+        addr: u64,
+        len: u64,
+        prot: Prot,
+        flags: Flags,
+        file: u64,
+        off: u64,
+    ) -> Result<(Range, Back), &'static str> {
+        if len == 0
+            || flags.private == flags.shared
+            || (!flags.anon && off % PAGE_SIZE != 0)
+            || (flags.fixed && addr % PAGE_SIZE != 0)
+        {
+            return Err("einval");
+        }
+        if !flags.fixed {
+            return Err("enomem");
+        }
+        let range = pages(addr, len).ok_or("enomem")?;
+        if flags.anon {
+            return Ok((range, Back::Anon));
+        }
+        let number = usize::try_from(file).map_err(|_| "ebadf")?;
+        let open = self.files.get(number).ok_or("ebadf")?;
+        if off as u128 + len as u128 > 1 << 47 {
+            return Err("eoverflow");
+        }
+        if !open.can_read || (flags.shared && prot.write && !open.can_write) {
+            return Err("eacces");
+        }
+        let from = (off / PAGE_SIZE).wrapping_sub(range.first);
+        let back = if flags.shared {
+            Back::Shared { file: number, from }
+        } else {
+            Back::Private { file: number, from }
+        };
+        Ok((range, back))
+    }
+
     // ---- changes of ranges
 
     fn lock(&mut self, core: usize, range: Range, cursor: u64, change: Change) -> Outcome {
@@ -266,14 +316,26 @@ impl Machine {
         }
         let mut recorded = 0;
         let mut is_mapped = true;
+        let mut is_read_only = false;
+        let files = &self.files;
         self.slots
             .each(range.first, range.end, |state| match &state.page {
-                Some(page) => recorded |= page.cores,
+                Some(page) => {
+                    recorded |= page.cores;
+                    is_read_only |=
+                        is_shared_file(page.back).is_some_and(|file| !files[file].can_write);
+                }
                 None => is_mapped = false,
             });
-        if matches!(change, Change::Protect(_)) && !is_mapped {
-            self.slots.unlock(range.first, range.end);
-            return Outcome::Refused("enomem");
+        if let Change::Protect(prot) = change {
+            if !is_mapped {
+                self.slots.unlock(range.first, range.end);
+                return Outcome::Refused("enomem");
+            }
+            if prot.write && is_read_only {
+                self.slots.unlock(range.first, range.end);
+                return Outcome::Refused("eacces");
+            }
         }
         self.shoot(core, range, recorded);
         self.commit(core, range, change)
@@ -309,9 +371,10 @@ impl Machine {
         let Range { first, end } = range;
         let counts = &mut self.counts;
         match change {
-            Change::Put(prot) => {
+            Change::Put(prot, back) => {
                 let page = Some(Page {
                     prot,
+                    back,
                     frame: None,
                     cores: 0,
                 });
@@ -330,7 +393,7 @@ impl Machine {
             }),
         }
         match change {
-            Change::Put(_) => Outcome::Mapped(first * PAGE_SIZE),
+            Change::Put(..) => Outcome::Mapped(first * PAGE_SIZE),
             Change::Clear | Change::Protect(_) => Outcome::Done,
         }
     }
@@ -393,20 +456,112 @@ impl Machine {
         if !allows(page.prot, touch.access) {
             return Outcome::Refused("segv accerr");
         }
-        let frame = match page.frame {
-            Some(frame) => frame,
-            None => {
-                let Some(frame) = self.frames.take_least() else {
-                    return Outcome::Refused("noframe");
-                };
-                self.counts.begin(frame, 1);
-                page.frame = Some(frame);
-                frame
-            }
+        let is_store = matches!(touch.access, Access::Store(_));
+        let place = match page.back {
+            Back::Anon => None,
+            Back::Shared { file, from } => Some((file, touch.page.wrapping_add(from), false)),
+            Back::Private { file, from } => Some((file, touch.page.wrapping_add(from), is_store)),
         };
-        page.cores |= 1 << core;
-        self.cores[core].cpu.install(touch.page, frame, page.prot);
+        if let Some((file, at, _)) = place {
+            if !self.files[file].has_page(at) {
+                return Outcome::Refused("bus");
+            }
+        }
+        if let (Some(shown), Some((file, at, true))) = (page.frame, place) {
+            if self.files[file].cached(at) == Some(shown) {
+                return self.detach(core, touch);
+            }
+        }
+        if page.frame.is_none() {
+            let frame = match place {
+                None => {
+                    let Some(frame) = self.frames.take_least() else {
+                        return Outcome::Refused("noframe");
+                    };
+                    self.counts.begin(frame, 1);
+                    frame
+                }
+                Some((file, at, is_copied)) => match self.files[file].cached(at) {
+                    Some(cached) if !is_copied => {
+                        self.counts.inc(core, cached);
+                        cached
+                    }
+                    cached => {
+                        let Some(frame) = self.frames.take_least() else {
+                            return Outcome::Refused("noframe");
+                        };
+                        match cached {
+                            Some(cached) => self.frames.copy(cached, frame),
+                            None => self.frames.fill(frame, self.files[file].page(at)),
+                        }
+                        if !is_copied {
+                            self.files[file].set_cached(at, frame);
+                        }
+                        self.counts.begin(frame, if is_copied { 1 } else { 2 });
+                        frame
+                    }
+                },
+            };
+            page.frame = Some(frame);
+        }
+        self.install(core, touch)
+    }
+
+    /// The core's tables get the page, without the right to write while a private page shows its file's.
+    fn install(&mut self, core: usize, touch: Touch) -> Outcome {
+        let state = self.slots.page(touch.page);
+        if let Some(Page {
+            prot,
+            back,
+            frame: Some(frame),
+            cores,
+        }) = &mut state.page
+        {
+            let mut prot = *prot;
+            if let Back::Private { file, from } = *back {
+                let at = touch.page.wrapping_add(from);
+                prot.write &= self.files[file].cached(at) != Some(*frame);
+            }
+            *cores |= 1 << core;
+            self.cores[core].cpu.install(touch.page, *frame, prot);
+        }
         self.access(core, touch)
+    }
+
+    /// A private page that shows its file's is to get a copy: first all cores drop their translations of it.
+    fn detach(&mut self, core: usize, touch: Touch) -> Outcome {
+        let Some(frame) = self.frames.take_least() else {
+            return Outcome::Refused("noframe");
+        };
+        let state = self.slots.page(touch.page);
+        state.owner = Some(core as u8);
+        let recorded = state.page.map_or(0, |page| page.cores);
+        let range = Range {
+            first: touch.page,
+            end: touch.page + 1,
+        };
+        self.shoot(core, range, recorded);
+        self.copy(core, touch, frame)
+    }
+
+    fn copy(&mut self, core: usize, touch: Touch, frame: u32) -> Outcome {
+        let awaited = self.cores[core].awaited;
+        if awaited != 0 {
+            self.cores[core].call = Some(Call::Copy { touch, frame });
+            return Outcome::WaitAcks(awaited);
+        }
+        let state = self.slots.page(touch.page);
+        state.owner = None;
+        if let Some(page) = &mut state.page {
+            if let Some(shown) = page.frame {
+                self.frames.copy(shown, frame);
+                self.counts.dec(core, shown);
+            }
+            self.counts.begin(frame, 1);
+            page.frame = Some(frame);
+            page.cores = 0;
+        }
+        self.install(core, touch)
     }
 
     fn review(&mut self, core: usize) -> bool {

@@ -29,6 +29,8 @@ pub enum Request {
         len: u64,
         prot: Prot,
         flags: Flags,
+        file: u64,
+        off: u64,
     },
     Munmap {
         addr: u64,
@@ -58,8 +60,21 @@ pub enum Action {
 
 pub enum Line {
     Blank,
-    Space { cores: u64, frames: u64, calls: u64 },
-    Core { core: usize, action: Action },
+    Space {
+        cores: u64,
+        frames: u64,
+        calls: u64,
+    },
+    File {
+        can_read: bool,
+        can_write: bool,
+        len: u64,
+        seed: u8,
+    },
+    Core {
+        core: usize,
+        action: Action,
+    },
 }
 
 fn number(word: &[u8]) -> Option<u64> {
@@ -126,11 +141,18 @@ fn request<'a>(name: &[u8], words: &mut impl Iterator<Item = &'a [u8]>) -> Optio
         b"fetch" => access(Access::Fetch),
         b"mmap" => {
             let len = number(words.next()?)?;
+            let (prot, flags) = (prot(words.next()?)?, flags(words.next()?)?);
+            let (file, off) = match words.next() {
+                None if flags.anon => (0, 0),
+                file => (number(file?)?, number(words.next()?)?),
+            };
             Request::Mmap {
                 addr,
                 len,
-                prot: prot(words.next()?)?,
-                flags: flags(words.next()?)?,
+                prot,
+                flags,
+                file,
+                off,
             }
         }
         b"munmap" => Request::Munmap {
@@ -166,6 +188,22 @@ fn action<'a>(words: &mut impl Iterator<Item = &'a [u8]>) -> Option<Action> {
     })
 }
 
+fn file<'a>(words: &mut impl Iterator<Item = &'a [u8]>) -> Option<Line> {
+    number(words.next()?)?;
+    let (can_read, can_write) = match words.next()? {
+        b"r" => (true, false),
+        b"w" => (false, true),
+        b"rw" => (true, true),
+        _ => return None,
+    };
+    Some(Line::File {
+        can_read,
+        can_write,
+        len: number(words.next()?)?,
+        seed: u8::try_from(number(words.next()?)?).ok()?,
+    })
+}
+
 /// What the line says; none where it is bad.
 pub fn read_line(line: &[u8]) -> Option<Line> {
     if line.first() == Some(&b'#') {
@@ -181,6 +219,7 @@ pub fn read_line(line: &[u8]) -> Option<Line> {
             frames: number(words.next()?)?,
             calls: words.next().map_or(Some(4096), number)?,
         },
+        Some(b"file") => file(&mut words)?,
         Some([b'c', core @ .., b'!']) => {
             let core = number(core)? as usize;
             Line::Core {

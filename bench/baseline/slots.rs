@@ -2,9 +2,18 @@
 //! of it is locked.
 use crate::baseline::request::Prot;
 
+/// What backs a page: zero bytes, or a file. A page's number and `from` are, wrapping, the number of its page of the file.
+#[derive(Clone, Copy)]
+pub enum Back {
+    Anon,
+    Shared { file: usize, from: u64 },
+    Private { file: usize, from: u64 },
+}
+
 #[derive(Clone, Copy)]
 pub struct Page {
     pub prot: Prot,
+    pub back: Back,
     pub frame: Option<u32>,
     /// The cores that may have a translation of the page, a bit for each.
     pub cores: u64,
