@@ -12,6 +12,8 @@ pub const RUN_ABOUT: &str =
 pub const TRACE: &str = "\
 Input, a line of at most 256 bytes each; a line that begins with # says nothing:
   vm CORES FRAMES [CALLS]   first: the size of the space (CALLS is 4096 where left out)
+  file N MODE LEN SEED      then: file N, which is 0, 1, 2 .. in order, open for MODE (r, w or
+                            rw), of LEN bytes: SEED, SEED + 1 .., modulo 256 (SEED at most 255)
   cC! REQ                   core C makes a call, whose reply is written
   cC call REQ               core C begins a call
   cC go                     one step of core C's call
@@ -45,8 +47,11 @@ Output, a line for each line of an event, as soon as no whole line is left to re
   einval        an argument is wrong: a length of 0, an address that no page begins at ..
   enomem        a page is outside the space or not mapped, or no place is found
   ebadf         there is no such file
+  eoverflow     the mapping would end past 2^47 in its file
+  eacces        the file isn't open for reading, or not for writing what is shared
   segv maperr   no page is mapped there
   segv accerr   the page's protection forbids it
+  bus           the page lies past the end of its file
   noframe       no frame is free
   nomemory      the call was given up for want of memory
   step          one step was made, which answered no call
@@ -64,7 +69,8 @@ A fault ends the replay, and is told on standard error:
   line N: bad line    line N: too long    no vm line first
   setup S1            CORES isn't 1 to 64
   setup S2            FRAMES is above 65536
-  setup S3, S4        too many files, or one that is too long (there are no files yet)
+  setup S3            more than 16 files
+  setup S4            a file of more than 1048576 bytes
   setup S5            CALLS is above 1048576
   setup S6            no memory for the machine
   read failed         write failed        out of memory
