@@ -1,9 +1,10 @@
 -- What the code learns of a page that is to get a frame
-use Rattle.std.proofs.Common.{◌≡◌, ℕ, zero, suc, ◌+◌, ◌<◌, ◌≤◌, ◌^◌, Bool, true, false, not, Option, None, Some, Result, Ok, Err, is_some, inl, inr, refl, sym, ap, subst, arith, ◌∙◌, cond, pos, ◌+ℤ◌, ◌<ℤ◌, ◌⊎◌, ◌==◌}
+use Rattle.std.proofs.Common.{◌≡◌, ℕ, zero, suc, ◌+◌, ◌<◌, ◌≤◌, ◌^◌, Bool, true, false, not, List, length, get_or, Option, None, Some, Result, Ok, Err, is_some, inl, inr, refl, sym, ap, subst, arith, ◌∙◌, cond, pos, ◌+ℤ◌, ◌<ℤ◌, ◌⊎◌, ◌==◌}
 use Rattle.std.specs.Prelude.{IfNone, IfSome, if◌then◌else◌, nat_lt}
 use Rattle.std.proofs.Math.Logic.{∥∥₁_elim}
 use Rattle.std.proofs.Props.{props}
 use Rattle.std.proofs.lemmas.Int.{ints}
+use Rattle.std.proofs.lemmas.List.{get_or_read}
 use Rattle.vm_base.specs.declared.info.Back.{Back}
 use Rattle.vm_base.specs.declared.info.Back.TheVariants.{Anon, Shared, Private}
 use Rattle.vm_base.specs.declared.info.PageInfo.{PageInfo}
@@ -27,7 +28,7 @@ use Rattle.refcache.proofs.Moves.{true_counts_move}
 use Rattle.machine_model.specs.declared.event.Outcome.{Outcome}
 use Rattle.machine_model.specs.declared.event.Outcome.TheVariants.{Stepped}
 use Rattle.machine_model.specs.declared.phase.Phase.{Phase}
-use Rattle.machine_model.specs.declared.phase.Phase.TheVariants.{Fill, CopyPost, CopyAcks, Install}
+use Rattle.machine_model.specs.declared.phase.Phase.TheVariants.{Free, Fill, CopyPost, CopyAcks, Install}
 use Rattle.machine_model.specs.Accesses.{lies_past_end}
 use Rattle.machine_model.specs.Actions.{to, with_entry, detach_entry}
 use Rattle.machine_model.specs.Files.{back_of, bytes_shown, file_frame, page_now, with_cached}
@@ -42,6 +43,7 @@ use Rattle.machine_laws.specs.Orderly.{IsUsable, IsCopying}
 use Rattle.machine_laws.proofs.Moves.{call_at}
 use Rattle.machine_sound.specs.Invariant.{Fine}
 use Rattle.core_steps.specs.Moving.{AwaitsCopy, IsAt, Tries, WantsMemory, is_copy_due}
+use Rattle.core_steps.specs.State.{phase_at}
 use Rattle.core_steps.specs.Filling.{IsAloneAt, IsOfFile, MakesCopy}
 use Rattle.core_steps.proofs.Known.{one_slot, order, owns, page_is, sound_at, taken_below, taken_busy}
 
@@ -304,3 +306,13 @@ copy_awaits h c phase (Some set) r due e none some = subst (AwaitsCopy h c phase
 
 pub copy_not_due : (h : Hardware) (c : ℕ) (phase : Phase) → is_copy_due phase ≡ false → AwaitsCopy h c phase false
 copy_not_due h c phase e due = absurd cc
+
+-- ---- a step that may be refused, of a call in a phase that was read
+
+-- what was read of the phases is the phase of the core's call
+pub read_at : (phases : List Phase) (c i : ℕ) (x phase : Phase) → c < length phases → i ≡ c → x ≡ get_or phases i x → x ≡ phase → phase_at phases c ≡ phase
+read_at phases c i x phase h e r is = sym (get_or_read phases c x h (r ∙ ap (λ k. get_or phases k x) e) Free) ∙ is
+
+pub goes_at : (w v : World) (c : ℕ) (r : Result Outcome NoMemory) (read phase : Phase) → read ≡ phase
+    → Tries (Goes w c phase) (WantsMemory w c phase) w r v → Tries (Goes w c read) (WantsMemory w c read) w r v
+goes_at w v c r read phase e h = subst (λ p. Tries (Goes w c p) (WantsMemory w c p) w r v) (sym e) h

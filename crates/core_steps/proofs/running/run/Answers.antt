@@ -30,7 +30,7 @@ returns-clause-run g c =
 pub returns-clause-brackets : goal.returns-clause-brackets
 returns-clause-brackets g c =
     let all : take c.events.at c.args.events.now ≡ c.args.events.now = take_all c.events.at c.args.events.now c.events-test.false in
-    all_bracketed (made_of c.args.setup) (g.M.SlotRead.slots c.args.map) _ c.args.events.now c.events.outcomes.items _ all c.events.invariant.run
+    all_bracketed (made_of c.args.setup) (g.M.SlotRead.slots c.args.map) _ c.args.events.now c.events.outcomes.items _ c.requires all c.events.invariant.run
 
 pub returns-clause-sound : goal.returns-clause-sound
 returns-clause-sound g c =
