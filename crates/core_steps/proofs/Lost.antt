@@ -136,13 +136,7 @@ listed_used frame first end xs v still h = record {
       let enough = still.counted.used f in omega (arith, ints, few, enough);
 }
 
--- the first listed frame is counted
-pub used_first : (x : Framed) (xs : List Framed) (v : Counts) → AreUsed (x ∷ xs) v → pos 0 <ℤ true_count v x.frame
-used_first x xs v u =
-    let here : is_it x.frame x.frame ≡ 1 = let e : (x.frame == x.frame) ≡ true = grind (arith, nat_tests) in ap (λ b. cond b 1 0) e in
-    let enough = u.used x.frame in omega (arith, ints, here, enough)
-
--- once it is counted down, the others are still counted
+-- once the first is counted down, the others are still counted
 pub used_next : (c : ℕ) (x : Framed) (xs : List Framed) (v w : Counts) → AreUsed (x ∷ xs) v → Takes v (Dec c x.frame) w → AreUsed xs w
 used_next c x xs v w u step = record {
   object = subst (λ n. AllByRecursion (λ y. y.frame < n) xs) (sym (same_size v (Dec c x.frame) w step).1) u.object.1;
