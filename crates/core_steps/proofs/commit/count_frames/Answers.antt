@@ -1,8 +1,8 @@
-use Rattle.std.proofs.Common.{◌≡◌, ◌<◌, ◌≤◌, ◌-◌, ⊎_elim, arith, refl, sym, subst, ap, ◌∙◌, rules, length}
+use Rattle.std.proofs.Common.{◌<◌, ◌≤◌, ◌-◌, ⊎_elim, arith, refl, sym, subst}
 use Rattle.std.proofs.lemmas.Bool.{cases_lt}
 use Rattle.refcache.specs.Parts.{counts_of}
 use Rattle.core_steps.specs.Taking.{AreUsed, CountsEach}
-use Rattle.slot_lock.specs.Framed.{ListsFrames, frames_in}
+use Rattle.slot_lock.specs.Framed.{frames_in}
 use Rattle.core_steps.proofs.Lost.{each_cores, each_still, list_moves, list_whole, listed_used, lost_list, lost_none}
 use Rattle.core_steps.proofs.commit.count_frames.Goals as goal
 
