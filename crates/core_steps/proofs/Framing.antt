@@ -1,5 +1,5 @@
 -- What the code learns of a page that is to get a frame
-use Rattle.std.proofs.Common.{◌≡◌, ℕ, zero, suc, ◌+◌, ◌<◌, ◌≤◌, ◌^◌, Bool, true, false, not, List, length, get_or, Option, None, Some, Result, Ok, Err, is_some, inl, inr, refl, sym, ap, subst, arith, ◌∙◌, cond, pos, ◌+ℤ◌, ◌<ℤ◌, ◌⊎◌, ◌==◌}
+use Rattle.std.proofs.Common.{◌≡◌, ℕ, zero, suc, ◌<◌, ◌≤◌, ◌^◌, Bool, true, false, not, List, length, get_or, Option, None, Some, Result, Ok, Err, is_some, inl, inr, refl, sym, ap, subst, arith, ◌∙◌, cond, pos, ◌+ℤ◌, ◌<ℤ◌, ◌⊎◌, ◌==◌}
 use Rattle.std.specs.Prelude.{IfNone, IfSome, if◌then◌else◌, nat_lt}
 use Rattle.std.proofs.Math.Logic.{∥∥₁_elim}
 use Rattle.std.proofs.Props.{props}

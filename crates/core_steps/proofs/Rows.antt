@@ -32,7 +32,7 @@ use Rattle.slot_lock.specs.declared.plan.Plan.{Plan}
 use Rattle.machine_model.specs.Changes.{after_check, after_plan, checked_by}
 use Rattle.machine_model.specs.GivingUp.{GivesUp, after_give_up}
 use Rattle.machine_model.specs.Holding.{can_give_up}
-use Rattle.core_steps.specs.Moving.{AwaitsCopy, is_copy_due}
+use Rattle.core_steps.specs.Moving.{AwaitsCopy}
 use Rattle.vm_base.specs.declared.page.PageRange.{PageRange}
 use Rattle.machine_model.specs.Translating.{Evicts, TakesMessage, Walks, after_eviction, after_walk, can_walk, tables_cleared, tlb_invalidated, with_hardware, with_inbox, with_table, entry_for, entry_of_page}
 use Rattle.core_steps.proofs.Each.{put_id}

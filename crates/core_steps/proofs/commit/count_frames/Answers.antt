@@ -1,4 +1,4 @@
-use Rattle.std.proofs.Common.{◌<◌, ◌≤◌, ◌-◌, ⊎_elim, arith, refl, sym, subst}
+use Rattle.std.proofs.Common.{◌<◌, ◌≤◌, ⊎_elim, arith, refl, sym, subst}
 use Rattle.std.proofs.lemmas.Bool.{cases_lt}
 use Rattle.refcache.specs.Parts.{counts_of}
 use Rattle.core_steps.specs.Taking.{AreUsed, CountsEach}

@@ -1,4 +1,4 @@
-use Rattle.std.proofs.Common.{◌≡◌, refl, take, inr, rules, subst}
+use Rattle.std.proofs.Common.{◌≡◌, take, inr, rules, subst}
 use Rattle.core_steps.specs.State.{world}
 use Rattle.machine_model.specs.World.{new_world}
 use Rattle.machine_model.specs.Step.{Run}

@@ -1,5 +1,5 @@
 use Rattle.std.proofs.Common.{refl, ap, ◌∙◌}
-use Rattle.machine_model.specs.declared.phase.Phase.TheVariants.{Fill, Install}
+use Rattle.machine_model.specs.declared.phase.Phase.TheVariants.{Install}
 use Rattle.machine_model.specs.Actions.{to}
 use Rattle.core_steps.specs.State.{world}
 use Rattle.core_steps.proofs.Framing.{cached_anew, cached_below, fill_alone, fill_within, filled_bytes}

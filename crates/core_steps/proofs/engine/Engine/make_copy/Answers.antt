@@ -1,7 +1,7 @@
 use Rattle.std.proofs.Common.{◌<◌, refl, sym, subst, ap, ◌∙◌}
 use Rattle.vm_base.specs.Info.{frame_of}
 use Rattle.slot_lock.specs.Slots.{HasMeta}
-use Rattle.machine_model.specs.declared.phase.Phase.TheVariants.{CopyAcks, Install}
+use Rattle.machine_model.specs.declared.phase.Phase.TheVariants.{Install}
 use Rattle.machine_model.specs.Actions.{to}
 use Rattle.core_steps.specs.State.{world}
 use Rattle.core_steps.proofs.Framing.{copied_page, copy_alone, page_frame_here, page_frame_used}
@@ -30,7 +30,7 @@ dec-requires-clause-core g c =
 pub dec-requires-clause-object : goal.dec-requires-clause-object
 dec-requires-clause-object g c =
     subst (λ n. c.args.shown < n) (sym c.begin.ensures.size.1) (frame_counted (world g.M.SlotRead.slots c.args.self.now) c.args.shown c.requires.at.fine
-        (page_frame_here (world g.M.SlotRead.slots c.args.self.now) c.args.touch.page c.args.shown c.requires.at.fine (ap frame_of c.requires.page ∙ c.requires.shown)))
+    (page_frame_here (world g.M.SlotRead.slots c.args.self.now) c.args.touch.page c.args.shown c.requires.at.fine (ap frame_of c.requires.page ∙ c.requires.shown)))
 
 pub dec-requires-clause-used : goal.dec-requires-clause-used
 dec-requires-clause-used g c =

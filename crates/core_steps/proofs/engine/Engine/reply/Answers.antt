@@ -1,4 +1,4 @@
-use Rattle.std.proofs.Common.{◌+◌, arith, ap, refl}
+use Rattle.std.proofs.Common.{◌+◌, ap}
 use Rattle.core_steps.proofs.Lists.{room_kept}
 use Rattle.core_steps.proofs.engine.Engine.reply.Goals as goal
 
