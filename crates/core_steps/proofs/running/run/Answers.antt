@@ -24,8 +24,8 @@ events-preserved g c = record {
 pub returns-clause-run : goal.returns-clause-run
 returns-clause-run g c =
     let all : take c.events.at c.args.events.now ≡ c.args.events.now = take_all c.events.at c.args.events.now c.events-test.false in
-    subst (λ es. Run (new_world (made_of c.args.setup) (g.M.SlotRead.slots c.args.map)) es c.events.outcomes.items (world g.M.SlotRead.slots c.events.machine.engine)) all
-    c.events.invariant.run
+    let new = new_world (made_of c.args.setup) (g.M.SlotRead.slots c.args.map) in
+    subst (λ es. Run new es c.events.outcomes.items (world g.M.SlotRead.slots c.events.machine.engine)) all c.events.invariant.run
 
 pub returns-clause-brackets : goal.returns-clause-brackets
 returns-clause-brackets g c =

@@ -42,7 +42,8 @@ returns-in_default g c =
 pub returns : goal.returns
 returns g c =
     let w = world g.M.SlotRead.slots c.args.self.now in
-    subst (λ o. FillsOwn w (λ f counts. after_first_copy c.args.core c.args.touch f counts w) o Stepped (world g.M.SlotRead.slots c.go_to.new.self)) (sym c.in-Some.is)
+    let v = world g.M.SlotRead.slots c.go_to.new.self in
+    subst (λ o. FillsOwn w (λ f counts. after_first_copy c.args.core c.args.touch f counts w) o Stepped v) (sym c.in-Some.is)
     (first_copied w _ c.args.core c.args.touch c.in-Some.frame c.args.file c.args.page _ c.requires.backed c.begin.ensures.step
     (c.go_to.ensures ∙ ap (to c.args.core (Install c.args.touch)) (rw (
       c.set_frame.ensures,

@@ -31,11 +31,19 @@ returns-then-not-can_give_up g c =
 pub returns-then-awaits_copy : goal.returns-then-awaits_copy
 returns-then-awaits_copy g c =
     rw (sym c.phase_of-phase.ensures) (copy_awaited (world g.M.SlotRead.slots c.args.self.now) _ c.args.core c.phase_of-phase.result
-    (subst (AwaitsCopy (world g.M.SlotRead.slots c.args.self.now).hardware c.args.core c.phase_of-phase.result) c.if-awaits_copy.true c.awaits_copy.ensures) refl)
+    (subst (AwaitsCopy (world g.M.SlotRead.slots c.args.self.now).hardware c.args.core c.phase_of-phase.result)
+    c.if-awaits_copy.true c.awaits_copy.ensures) refl)
 
 pub returns : goal.returns
 returns g c =
     let w = world g.M.SlotRead.slots c.args.self.now in
     rw (sym c.phase_of-phase.ensures) (given_up w _ c.args.core c.phase_of-phase.result (sym c.can_give_up.ensures ∙ c.if-not-can_give_up.false)
     (subst (AwaitsCopy w.hardware c.args.core c.phase_of-phase.result) c.if-awaits_copy.false c.awaits_copy.ensures)
-    (c.reply.ensures ∙ rw (c.if_some_page-held.ensures, c.range_held.ensures, c.give_back.ensures.free, c.give_back.ensures.bytes, c.give_back.ensures.count, c.taken_in.ensures) refl))
+    (c.reply.ensures ∙ rw (
+      c.if_some_page-held.ensures,
+      c.range_held.ensures,
+      c.give_back.ensures.free,
+      c.give_back.ensures.bytes,
+      c.give_back.ensures.count,
+      c.taken_in.ensures,
+    ) refl))
