@@ -1,5 +1,5 @@
 -- What the code learns of a change that is to be made or whose pages are to be let go
-use Rattle.std.proofs.Common.{◌≡◌, ℕ, true, false, not, is_some, Some, None, Option, ap, refl, sym, inl, inr, ◌∙◌}
+use Rattle.std.proofs.Common.{◌≡◌, ℕ, true, false, not, is_some, Some, None, Option, ap, refl, sym, ◌∙◌}
 use Rattle.std.specs.Prelude.{IfNone, IfSome}
 use Rattle.std.proofs.Math.Logic.{∥∥₁_elim}
 use Rattle.std.proofs.Props.{props}
@@ -79,7 +79,7 @@ pub nobody_by : (h : Hardware) (c set : ℕ) (first : Option ℕ) → IfNone fir
 nobody_by h c set None none e exact d = sym (ap (λ f. f d) exact) ∙ (ap (λ s. members s d) none ∙ members-empty d)
 nobody_by h c set (Some k) none e exact d = absurd cc
 
-pub awaits_by : (h : Hardware) (c set : ℕ) (first : Option ℕ) → IfSome first (λ k. members set k ≡ true) → is_some first ≡ true → members set ≡ awaited h.inbox c
-    → Awaits h c set
+pub awaits_by : (h : Hardware) (c set : ℕ) (first : Option ℕ) → IfSome first (λ k. members set k ≡ true) → is_some first ≡ true
+    → members set ≡ awaited h.inbox c → Awaits h c set
 awaits_by h c set None member e exact = absurd cc
 awaits_by h c set (Some k) member e exact = record { some = (k, sym (ap (λ f. f k) exact) ∙ member); exact = exact }

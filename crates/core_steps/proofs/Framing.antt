@@ -1,9 +1,10 @@
 -- What the code learns of a page that is to get a frame
-use Rattle.std.proofs.Common.{◌≡◌, ℕ, zero, suc, ◌+◌, ◌<◌, ◌≤◌, ◌^◌, Bool, true, false, not, Option, None, Some, Result, Ok, Err, is_some, inl, inr, refl, sym, ap, subst, arith, ◌∙◌, cond, pos, ◌+ℤ◌, ◌<ℤ◌, ◌⊎◌, ◌==◌}
+use Rattle.std.proofs.Common.{◌≡◌, ℕ, zero, suc, ◌<◌, ◌≤◌, ◌^◌, Bool, true, false, not, List, length, get_or, Option, None, Some, Result, Ok, Err, is_some, inl, inr, refl, sym, ap, subst, arith, ◌∙◌, cond, pos, ◌+ℤ◌, ◌<ℤ◌, ◌⊎◌, ◌==◌}
 use Rattle.std.specs.Prelude.{IfNone, IfSome, if◌then◌else◌, nat_lt}
 use Rattle.std.proofs.Math.Logic.{∥∥₁_elim}
 use Rattle.std.proofs.Props.{props}
 use Rattle.std.proofs.lemmas.Int.{ints}
+use Rattle.std.proofs.lemmas.List.{get_or_read}
 use Rattle.vm_base.specs.declared.info.Back.{Back}
 use Rattle.vm_base.specs.declared.info.Back.TheVariants.{Anon, Shared, Private}
 use Rattle.vm_base.specs.declared.info.PageInfo.{PageInfo}
@@ -27,7 +28,7 @@ use Rattle.refcache.proofs.Moves.{true_counts_move}
 use Rattle.machine_model.specs.declared.event.Outcome.{Outcome}
 use Rattle.machine_model.specs.declared.event.Outcome.TheVariants.{Stepped}
 use Rattle.machine_model.specs.declared.phase.Phase.{Phase}
-use Rattle.machine_model.specs.declared.phase.Phase.TheVariants.{Fill, CopyPost, CopyAcks, Install}
+use Rattle.machine_model.specs.declared.phase.Phase.TheVariants.{Free, Fill, CopyAcks, Install}
 use Rattle.machine_model.specs.Accesses.{lies_past_end}
 use Rattle.machine_model.specs.Actions.{to, with_entry, detach_entry}
 use Rattle.machine_model.specs.Files.{back_of, bytes_shown, file_frame, page_now, with_cached}
@@ -42,6 +43,7 @@ use Rattle.machine_laws.specs.Orderly.{IsUsable, IsCopying}
 use Rattle.machine_laws.proofs.Moves.{call_at}
 use Rattle.machine_sound.specs.Invariant.{Fine}
 use Rattle.core_steps.specs.Moving.{AwaitsCopy, IsAt, Tries, WantsMemory, is_copy_due}
+use Rattle.core_steps.specs.State.{phase_at}
 use Rattle.core_steps.specs.Filling.{IsAloneAt, IsOfFile, MakesCopy}
 use Rattle.core_steps.proofs.Known.{one_slot, order, owns, page_is, sound_at, taken_below, taken_busy}
 
@@ -65,7 +67,8 @@ within file access frame n k (Some info) u (inr e) = yes _ (sym (ap (lies_past_e
 pub fill_within : (w : World) (c : ℕ) (touch : Touch) (frame : Option ℕ) (n k : ℕ) → IsAt w c (Fill touch frame)
     → IsOfFile (back_of (w.slots.info touch.page)) n k → is_some (file_bytes (w.made.file n) k) ≡ true
 fill_within w c touch frame n k i b =
-    ∥∥₁_elim (order i) (hlevel props) (λ g. within w.made.file touch.access None n k (w.slots.info touch.page) (call_at w c (Fill touch frame) i.phase g).ready.0 b)
+    ∥∥₁_elim (order i) (hlevel props) (λ g.
+    within w.made.file touch.access None n k (w.slots.info touch.page) (call_at w c (Fill touch frame) i.phase g).ready.0 b)
 
 now_in : (o : Option ℕ) (bytes : ℕ → Bytes) (own : Bytes) → bytes_now o bytes own ≡ bytes_in bytes own o
 now_in None bytes own = refl
@@ -127,7 +130,8 @@ pub fill_shown : (w : World) (c : ℕ) (touch : Touch) → IsAt w c (Fill touch 
 fill_shown w c touch i none =
     ∥∥₁_elim (order i) (hlevel props) (λ g. let ready = (call_at w c (Fill touch None) i.phase g).ready.1 in let some = ready.1.1 in absurd cc)
 
-pub fill_stores : (w : World) (c : ℕ) (touch : Touch) → IsAt w c (Fill touch None) → is_private_store (back_of (w.slots.info touch.page)) touch.access ≡ true → ⊥
+pub fill_stores : (w : World) (c : ℕ) (touch : Touch) → IsAt w c (Fill touch None)
+    → is_private_store (back_of (w.slots.info touch.page)) touch.access ≡ true → ⊥
 fill_stores w c touch i store =
     ∥∥₁_elim (order i) (hlevel props) (λ g. let ready = (call_at w c (Fill touch None) i.phase g).ready.1 in let no_store = ready.0 in absurd cc)
 
@@ -147,7 +151,8 @@ copying : (w : World) (c : ℕ) (touch : Touch) (f : ℕ) (o : Option PageInfo) 
 copying w c touch f None k e none = subst (λ o. IsUsable w.made.file o touch.access (Some k.0)) e k.1
 copying w c touch f (Some info) k e none = let frame = (subst (λ o. IsUsable w.made.file o touch.access (Some k.0)) e k.1).2 in absurd cc
 
-pub copy_framed : (w : World) (c : ℕ) (touch : Touch) (f : ℕ) (o : Option PageInfo) → IsAt w c (CopyAcks touch f) → w.slots.info touch.page ≡ o → frame_of o ≡ None → ⊥
+pub copy_framed : (w : World) (c : ℕ) (touch : Touch) (f : ℕ) (o : Option PageInfo) → IsAt w c (CopyAcks touch f)
+    → w.slots.info touch.page ≡ o → frame_of o ≡ None → ⊥
 copy_framed w c touch f o i e none =
     ∥∥₁_elim (order i) (hlevel props) (λ g. copying w c touch f o (call_at w c (CopyAcks touch f) i.phase g).ready e none)
 
@@ -224,14 +229,19 @@ framed_cached w c touch f x cached counts = to c (Install touch) (record w {
   memory = record w.memory { bytes = put w.memory.bytes f x; counts = counts; cached = cached };
 })
 
+-- the same, with the bytes and the cache that what backs it says
+abbrev filled_cached : World → ℕ → Touch → ℕ → Back → Counts → World
+filled_cached w c touch f back counts =
+    framed_cached w c touch f (bytes_shown w.made.file w.memory back) (with_cached w.memory.cached back f) counts
+
 pub cached_anew : (w v : World) (c : ℕ) (touch : Touch) (f n k : ℕ) (counts : Counts) → IsOfFile (back_of (w.slots.info touch.page)) n k
     → Takes w.memory.counts (Begin f 2) counts
     → v ≡ framed_cached w c touch f (page_now w.memory (w.made.file n) n k) (put w.memory.cached n (put (w.memory.cached n) k (Some f))) counts
     → FillsFromFile w c touch (Some f) None Stepped v
 cached_anew w v c touch f n k counts (inl e) t now =
-    (counts, t, (refl, now ∙ ap (λ back. framed_cached w c touch f (bytes_shown w.made.file w.memory back) (with_cached w.memory.cached back f) counts) (sym e)))
+    (counts, t, (refl, now ∙ ap (λ back. filled_cached w c touch f back counts) (sym e)))
 cached_anew w v c touch f n k counts (inr e) t now =
-    (counts, t, (refl, now ∙ ap (λ back. framed_cached w c touch f (bytes_shown w.made.file w.memory back) (with_cached w.memory.cached back f) counts) (sym e)))
+    (counts, t, (refl, now ∙ ap (λ back. filled_cached w c touch f back counts) (sym e)))
 
 -- the frame that caches the file page
 pub of_file_frame : (cached : ℕ → ℕ → Option ℕ) (back : Back) (n k : ℕ) → IsOfFile back n k → file_frame cached back ≡ cached n k
@@ -304,3 +314,13 @@ copy_awaits h c phase (Some set) r due e none some = subst (AwaitsCopy h c phase
 
 pub copy_not_due : (h : Hardware) (c : ℕ) (phase : Phase) → is_copy_due phase ≡ false → AwaitsCopy h c phase false
 copy_not_due h c phase e due = absurd cc
+
+-- ---- a step that may be refused, of a call in a phase that was read
+
+-- what was read of the phases is the phase of the core's call
+pub read_at : (phases : List Phase) (c i : ℕ) (x phase : Phase) → c < length phases → i ≡ c → x ≡ get_or phases i x → x ≡ phase → phase_at phases c ≡ phase
+read_at phases c i x phase h e r is = sym (get_or_read phases c x h (r ∙ ap (λ k. get_or phases k x) e) Free) ∙ is
+
+pub goes_at : (w v : World) (c : ℕ) (r : Result Outcome NoMemory) (read phase : Phase) → read ≡ phase
+    → Tries (Goes w c phase) (WantsMemory w c phase) w r v → Tries (Goes w c read) (WantsMemory w c read) w r v
+goes_at w v c r read phase e h = subst (λ p. Tries (Goes w c p) (WantsMemory w c p) w r v) (sym e) h

@@ -1,17 +1,23 @@
 -- Frames that are counted down, page by page
-use Rattle.std.proofs.Common.{◌≡◌, ◌≢◌, ℕ, zero, suc, ◌+◌, ◌-◌, ◌<◌, ◌≤◌, List, [], ◌∷◌, ◌++◌, length, Option, None, Some, refl, sym, ap, subst, arith, ◌∙◌, cond, false, ◌==◌, pos, negsuc, ◌+ℤ◌, ◌<ℤ◌}
+use Rattle.std.proofs.Common.{◌≡◌, ℕ, zero, suc, ◌+◌, ◌-◌, ◌^◌, ◌<◌, ◌≤◌, List, [], ◌∷◌, ◌++◌, length, Bool, true, false, Option, None, Some, refl, sym, ap, subst, arith, ◌∙◌, cond, ◌==◌, pos, negsuc, ◌+ℤ◌, ◌≤ℤ◌}
+use Rattle.std.specs.Prelude.{if◌then◌else◌}
 use Rattle.std.specs.List.{AllByRecursion}
 use Rattle.std.proofs.lemmas.Bool.Decides.{nat_tests}
 use Rattle.std.proofs.lemmas.Int.{ints}
+use Rattle.vm_base.specs.declared.info.PageInfo.{PageInfo}
+use Rattle.vm_base.specs.Info.{frame_of}
+use Rattle.vm_base.specs.Functions.{put}
+use Rattle.vm_base.proofs.Functions.{put_all, put_other}
 use Rattle.slot_lock.specs.declared.framed.Framed.{Framed}
 use Rattle.slot_lock.specs.Framed.{AddsFrames, ListsFrames}
 use Rattle.refcache.specs.Counts.{Counts, true_count}
-use Rattle.refcache.specs.Laws.{change}
 use Rattle.refcache.specs.Steps.{Takes, Dec}
 use Rattle.refcache.proofs.Moves.{true_counts_move}
 use Rattle.refcache.proofs.Reached.{same_size}
 use Rattle.machine_model.specs.Counting.{CountsOne, CountsDown}
-use Rattle.core_steps.specs.Taking.{AreUsed, CountsEach}
+use Rattle.machine_counting.specs.Counted.{users_of}
+use Rattle.machine_counting.proofs.Pages.{one, pages_put}
+use Rattle.core_steps.specs.Taking.{AreCounted, AreUsed, CountsEach, times_in}
 
 -- ---- pages without a frame change nothing
 
@@ -44,63 +50,98 @@ lost_one : (c : ℕ) (frame : ℕ → Option ℕ) (page f : ℕ) (v w : Counts) 
 unfolding CountsDown
 lost_one c frame page f v w e h = (w, subst (λ o. CountsOne c o v w) (sym e) h, refl)
 
--- ---- listed pages
-
--- the frames of the pages from one on are counted
-pub record StillCounted (frame : ℕ → Option ℕ) (from : ℕ) (v : Counts) : Type 0 where
-  pub object : (p f : ℕ) → from ≤ p → frame p ≡ Some f → f < v.objects
-  pub used : (p f : ℕ) → from ≤ p → frame p ≡ Some f → pos 0 <ℤ true_count v f
-
--- no two pages have one frame
-abbrev pub AreApart : (ℕ → Option ℕ) → Type 0
-AreApart frame = (p q f : ℕ) → frame p ≡ Some f → frame q ≡ Some f → p ≡ q
-
--- a listed frame is another than that of an earlier page
-others_listed : (frame : ℕ → Option ℕ) (page f first end : ℕ) (xs : List Framed) → AreApart frame → page < first → frame page ≡ Some f
-    → ListsFrames frame first end xs
-    → AllByRecursion (λ y. y.frame ≢ f) xs
-others_listed frame page f first end [] apart l had h = tt
-others_listed frame page f first end (x ∷ xs) apart l had h = (
-  λ e. absurd (let same = apart page x.page f had (h.3 ∙ ap Some e) in omega (arith, same, h.0)),
-  others_listed frame page f (x.page + 1) end xs apart (omega (arith, h.0)) had h.4,
-)
-
--- listed frames are counted
-pub listed_used : (frame : ℕ → Option ℕ) (first end : ℕ) (xs : List Framed) (v : Counts) → AreApart frame → StillCounted frame first v
-    → ListsFrames frame first end xs → AreUsed xs v
-listed_used frame first end [] v apart still h = tt
-listed_used frame first end (x ∷ xs) v apart still h = (
-  still.object x.page x.frame h.0 h.3,
-  still.used x.page x.frame h.0 h.3,
-  others_listed frame x.page x.frame (x.page + 1) end xs apart (omega arith) h.3 h.4,
-  listed_used frame (x.page + 1) end xs v apart
-      (record { object = λ p f a e. still.object p f (omega (arith, a, h.0)) e; used = λ p f a e. still.used p f (omega (arith, a, h.0)) e }) h.4,
-)
-
-other_change : (c f g : ℕ) → g ≢ f → change (Dec c f) g ≡ pos 0
-other_change c f g ne = ap (λ b. cond b (negsuc 0) (pos 0)) (let e : (g == f) ≡ false = grind (arith, nat_tests, ne) in e)
-
--- another frame is still counted
-used_after : (c f g : ℕ) (v w : Counts) → Takes v (Dec c f) w → g ≢ f → pos 0 <ℤ true_count v g → pos 0 <ℤ true_count w g
-used_after c f g v w step ne before =
-    let same : true_count w g ≡ true_count v g +ℤ pos 0 = true_counts_move v (Dec c f) w step g ∙ ap (λ z. true_count v g +ℤ z) (other_change c f g ne) in
-    omega (arith, ints, same, before)
+-- ---- one frame is counted down
 
 object_after : (c f g : ℕ) (v w : Counts) → Takes v (Dec c f) w → g < v.objects → g < w.objects
 object_after c f g v w step before = subst (λ n. g < n) (sym (same_size v (Dec c f) w step).1) before
 
-used_rest : (c f : ℕ) (xs : List Framed) (v w : Counts) → Takes v (Dec c f) w → AllByRecursion (λ y. y.frame ≢ f) xs → AreUsed xs v → AreUsed xs w
-used_rest c f [] v w step other u = tt
-used_rest c f (x ∷ xs) v w step other u = (
-  object_after c f x.frame v w step u.0,
-  used_after c f x.frame v w step other.0 u.1,
-  u.2,
-  used_rest c f xs v w step other.1 u.3,
-)
+-- 1 if it is the frame
+abbrev is_it : ℕ → ℕ → ℕ
+is_it f g = if f == g then 1 else 0
+
+flip : (f g : ℕ) → (f == g) ≡ (g == f)
+flip f g = grind (arith, nat_tests)
+
+-- what has each frame so often before has it no oftener than it is counted, and then without one that had the frame
+still_enough : (c f g before after : ℕ) (v w : Counts) → Takes v (Dec c f) w → after + is_it f g ≡ before
+    → pos before ≤ℤ true_count v g → pos after ≤ℤ true_count w g
+still_enough c f g before after v w step one_less enough = go (g == f) refl (true_counts_move v (Dec c f) w step g)
+  where
+    go : (b : Bool) → (g == f) ≡ b → true_count w g ≡ true_count v g +ℤ cond b (negsuc 0) (pos 0) → pos after ≤ℤ true_count w g
+    go true e moved =
+        let had : is_it f g ≡ 1 = ap (λ b. cond b 1 0) (flip f g ∙ e) in omega (arith, ints, moved, had, one_less, enough)
+    go false e moved =
+        let had : is_it f g ≡ 0 = ap (λ b. cond b 1 0) (flip f g ∙ e) in omega (arith, ints, moved, had, one_less, enough)
+
+-- ---- a page gives its frame up
+
+-- what has a frame then had it before
+still_has : (info : ℕ → Option PageInfo) (page p f : ℕ) → frame_of (put info page None p) ≡ Some f → frame_of (info p) ≡ Some f
+still_has info page p f = put_all (λ q x. frame_of x ≡ Some f → frame_of (info q) ≡ Some f) info page None (λ e. absurd cc) (λ q ne e. e) p
+
+-- pages behind it have what they had
+still_same : (info : ℕ → Option PageInfo) (frame : ℕ → Option ℕ) (first page : ℕ) → first ≤ page
+    → ((p : ℕ) → first ≤ p → frame_of (info p) ≡ frame p) → (p : ℕ) → page + 1 ≤ p → frame_of (put info page None p) ≡ frame p
+still_same info frame first page low same p h = ap frame_of (put_other info page None p (omega (arith, h))) ∙ same p (omega (arith, low, h))
+
+-- once its frame is counted down, the frames of the others are still counted
+pub counted_next : (info : ℕ → Option PageInfo) (page c f : ℕ) (v w : Counts) → frame_of (info page) ≡ Some f → Takes v (Dec c f) w → AreCounted info v
+    → AreCounted (put info page None) w
+counted_next info page c f v w had step k = record {
+  page = λ p g h. k.page p g (still_has info page p g h);
+  object = λ p g h. object_after c f g v w step (k.object p g (still_has info page p g h));
+  used = λ g. still_enough c f g (users_of info g) (users_of (put info page None) g) v w step (one_less g) (k.used g);
+}
+  where
+    one_less : (g : ℕ) → users_of (put info page None) g + is_it f g ≡ users_of info g
+    one_less g =
+        let moved = pages_put info page g None (2 ^ 35) (k.page page f had) in
+        let was : one (frame_of (info page)) g ≡ is_it f g = ap (λ o. one o g) had in
+        omega (arith, moved, was)
+
+-- ---- listed pages
+
+-- What has the frames of the pages from one on, and maybe more, is counted: the pages before have given up theirs.
+pub record StillCounted (frame : ℕ → Option ℕ) (from : ℕ) (v : Counts) : Type 0 where
+  pub left : ℕ → Option PageInfo
+  pub same : (p : ℕ) → from ≤ p → frame_of (left p) ≡ frame p
+  pub counted : AreCounted left v
+
+-- a frame is listed no oftener than pages have it
+listed_times : (info : ℕ → Option PageInfo) (frame : ℕ → Option ℕ) (first end f : ℕ) (xs : List Framed)
+    → ((p g : ℕ) → frame_of (info p) ≡ Some g → p < 2 ^ 35) → ((p : ℕ) → first ≤ p → frame_of (info p) ≡ frame p) → ListsFrames frame first end xs
+    → times_in xs f ≤ users_of info f
+listed_times info frame first end f [] page same h = omega arith
+listed_times info frame first end f (x ∷ xs) page same h =
+    let had : frame_of (info x.page) ≡ Some x.frame = same x.page h.0 ∙ h.3 in
+    let rest = listed_times (put info x.page None) frame (x.page + 1) end f xs (λ p g e. page p g (still_has info x.page p g e))
+    (still_same info frame first x.page h.0 same) h.4 in
+    let moved = pages_put info x.page f None (2 ^ 35) (page x.page x.frame had) in
+    let was : one (frame_of (info x.page)) f ≡ is_it x.frame f = ap (λ o. one o f) had in
+    omega (arith, rest, moved, was)
+
+listed_objects : (frame : ℕ → Option ℕ) (first end : ℕ) (xs : List Framed) (v : Counts) → ((p f : ℕ) → first ≤ p → frame p ≡ Some f → f < v.objects)
+    → ListsFrames frame first end xs → AllByRecursion (λ x. x.frame < v.objects) xs
+listed_objects frame first end [] v object h = tt
+listed_objects frame first end (x ∷ xs) v object h =
+    (object x.page x.frame h.0 h.3, listed_objects frame (x.page + 1) end xs v (λ p f a e. object p f (omega (arith, a, h.0)) e) h.4)
+
+-- listed frames are counted
+pub listed_used : (frame : ℕ → Option ℕ) (first end : ℕ) (xs : List Framed) (v : Counts) → StillCounted frame first v → ListsFrames frame first end xs
+    → AreUsed xs v
+listed_used frame first end xs v still h = record {
+  object = listed_objects frame first end xs v (λ p f a e. still.counted.object p f (still.same p a ∙ e)) h;
+  used = λ f.
+      let few = listed_times still.left frame first end f xs still.counted.page still.same h in
+      let enough = still.counted.used f in omega (arith, ints, few, enough);
+}
 
 -- once the first is counted down, the others are still counted
 pub used_next : (c : ℕ) (x : Framed) (xs : List Framed) (v w : Counts) → AreUsed (x ∷ xs) v → Takes v (Dec c x.frame) w → AreUsed xs w
-used_next c x xs v w u step = used_rest c x.frame xs v w step u.2 u.3
+used_next c x xs v w u step = record {
+  object = subst (λ n. AllByRecursion (λ y. y.frame < n) xs) (sym (same_size v (Dec c x.frame) w step).1) u.object.1;
+  used = λ f. still_enough c x.frame f (times_in (x ∷ xs) f) (times_in xs f) v w step (omega arith) (u.used f);
+}
 
 -- counting the listed frames down is counting all pages' down
 pub each_down : (c : ℕ) (frame : ℕ → Option ℕ) (first end : ℕ) (xs : List Framed) (v w : Counts) → first ≤ end
@@ -122,19 +163,19 @@ each_down c frame first end (x ∷ xs) v w l h e =
     (subst (λ q. CountsDown c frame q (end - (x.page + 1)) e.0 w) to (each_down c frame (x.page + 1) end xs e.0 w (omega (arith, h.1)) h.4 e.2)))
 
 -- and those of the pages behind them are still counted, by the same cores
-pub each_still : (c : ℕ) (frame : ℕ → Option ℕ) (first end : ℕ) (xs : List Framed) (v w : Counts) → first ≤ end → AreApart frame
-    → StillCounted frame first v → ListsFrames frame first end xs → CountsEach c xs v w
-    → StillCounted frame end w
-each_still c frame first end [] v w l apart still h e = record {
-  object = λ p f a g. subst (λ u. f < u.objects) (sym e) (still.object p f (omega (arith, a)) g);
-  used = λ p f a g. subst (λ u. pos 0 <ℤ true_count u f) (sym e) (still.used p f (omega (arith, a)) g);
+pub each_still : (c : ℕ) (frame : ℕ → Option ℕ) (first end : ℕ) (xs : List Framed) (v w : Counts) → first ≤ end → StillCounted frame first v
+    → ListsFrames frame first end xs → CountsEach c xs v w → StillCounted frame end w
+each_still c frame first end [] v w l still h e = record {
+  left = still.left;
+  same = λ p a. still.same p (omega (arith, a));
+  counted = subst (AreCounted still.left) (sym e) still.counted;
 }
-each_still c frame first end (x ∷ xs) v w l apart still h e =
-    each_still c frame (x.page + 1) end xs e.0 w (omega (arith, h.1)) apart
+each_still c frame first end (x ∷ xs) v w l still h e =
+    each_still c frame (x.page + 1) end xs e.0 w (omega (arith, h.1))
     (record {
-      object = λ p f a g. object_after c x.frame f v e.0 e.1 (still.object p f (omega (arith, a, h.0)) g);
-      used = λ p f a g. used_after c x.frame f v e.0 e.1 (λ s. absurd (let same = apart p x.page f g (h.3 ∙ ap Some (sym s)) in omega (arith, same, a)))
-          (still.used p f (omega (arith, a, h.0)) g);
+      left = put still.left x.page None;
+      same = still_same still.left frame first x.page h.0 still.same;
+      counted = counted_next still.left x.page c x.frame v e.0 (still.same x.page h.0 ∙ h.3) e.1 still.counted;
     }) h.4 e.2
 
 pub each_cores : (c : ℕ) (xs : List Framed) (v w : Counts) → CountsEach c xs v w → w.cores ≡ v.cores

@@ -1,5 +1,5 @@
 -- What a machine knows of the state that it has: some run leads to it
-use Rattle.std.proofs.Common.{◌≡◌, ℕ, ◌<◌, ◌+◌, sym, subst, refl, Result, Ok, Err}
+use Rattle.std.proofs.Common.{◌≡◌, ℕ, ◌<◌, ◌+◌, sym, subst, Result, Ok, Err}
 use Rattle.std.proofs.Math.Numerals.{add-one}
 use Rattle.std.specs.Prelude.{IfOk, ◌≢◌}
 use Rattle.std.proofs.Math.Logic.{∥∥₁_map}

@@ -32,7 +32,7 @@ use Rattle.slot_lock.specs.declared.plan.Plan.{Plan}
 use Rattle.machine_model.specs.Changes.{after_check, after_plan, checked_by}
 use Rattle.machine_model.specs.GivingUp.{GivesUp, after_give_up}
 use Rattle.machine_model.specs.Holding.{can_give_up}
-use Rattle.core_steps.specs.Moving.{AwaitsCopy, is_copy_due}
+use Rattle.core_steps.specs.Moving.{AwaitsCopy}
 use Rattle.vm_base.specs.declared.page.PageRange.{PageRange}
 use Rattle.machine_model.specs.Translating.{Evicts, TakesMessage, Walks, after_eviction, after_walk, can_walk, tables_cleared, tlb_invalidated, with_hardware, with_inbox, with_table, entry_for, entry_of_page}
 use Rattle.core_steps.proofs.Each.{put_id}
@@ -183,10 +183,13 @@ pub installed : (w v : World) (c : ℕ) (touch : Touch) (info : PageInfo) (f : �
       hardware = with_table w.hardware c (put (w.hardware.table c) touch.page (Some (translation_of f prot)));
     })
     → v ≡ after_install c touch w
-installed w v c touch info f prot e k p h = h ∙ subst (λ o. now (Some (record info { cores = with_member info.cores c })) (Some (translation_of f prot)) ≡ now (info_with_core c o) (entry_of_page w.memory.cached o)) (sym e)
-    (ap (λ x. now (Some (record info { cores = with_member info.cores c })) (Some (translation_of f x))) p
-    ∙ ap (λ x. now (Some (record info { cores = with_member info.cores c })) (entry_for (prot_installed w.memory.cached info) x)) (sym k))
+installed w v c touch info f prot e k p h =
+    h ∙ subst (λ o. now recorded (Some (translation_of f prot)) ≡ now (info_with_core c o) (entry_of_page w.memory.cached o)) (sym e)
+    (ap (λ x. now recorded (Some (translation_of f x))) p ∙ ap (λ x. now recorded (entry_for (prot_installed w.memory.cached info) x)) (sym k))
   where
+    recorded : Option PageInfo
+    recorded = Some (record info { cores = with_member info.cores c })
+
     now : Option PageInfo → Option Translation → World
     now page entry = to c (Release touch) (record w {
       slots = with_info w.slots touch.page page;

@@ -21,6 +21,6 @@ EndsIn w core n Stuck v = (n ≡ finish_limit) × StepsTo w core n v
 abbrev pub Finishes : World → ℕ → Finished → World → Type 0
 Finishes w core finished v = (n : ℕ) × EndsIn w core n finished v
 
--- some steps were made, and the next, at which a slot is to be divided, was refused
+-- some steps were made, and the next, which may be refused for memory, was
 abbrev pub IsRefused : World → ℕ → World → Type 0
 IsRefused w core v = (n : ℕ) × (n < finish_limit) × MayWant v (Go core) × StepsTo w core n v

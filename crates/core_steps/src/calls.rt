@@ -34,7 +34,10 @@ impl<A: Allocator> CallTable<A> {
     /// memory changes nothing.
     pub fn log_detach(&mut self, core: CoreId, page: u64) -> Result<(), NoMemory>
         requires { core < length self.old.phases.items }
-        ensures ok { OnOk result (calls_of self.new ≡ record (calls_of self.old) { log = self.old.log.items.items ++ Detach self.old.events (number_at self.old.numbers.items core) page ∷ [] }) }
+        ensures ok { OnOk result (calls_of self.new ≡ record (calls_of self.old) {
+          log = self.old.log.items.items
+              ++ Detach self.old.events (number_at self.old.numbers.items core) page ∷ [];
+        }) }
         ensures err { OnErr result (calls_of self.new ≡ calls_of self.old) }
         ensures cores { length self.new.phases.items ≡ length self.old.phases.items }
         ensures limit { self.new.requests.limit ≡ self.old.requests.limit }

@@ -58,8 +58,15 @@ impl<M: SlotMap, H: Hardware, A: Allocator> Engine<M, H, A> {
         self.counts.dec(core, shown);
         let frame = Some(frame);
         let cores = CoreSet::empty();
-        self.map
-            .set_leaf(core, touch.page, PageInfo { frame, cores, ..info });
+        self.map.set_leaf(
+            core,
+            touch.page,
+            PageInfo {
+                frame,
+                cores,
+                ..info
+            },
+        );
         self.go_to(core, Phase::Install(touch));
         Ok(())
     }

@@ -37,7 +37,9 @@ impl<M: SlotMap, H: Hardware, A: Allocator> Engine<M, H, A> {
     fn fill_zeros(&mut self, core: CoreId, touch: Touch, frame: Option<u32>) -> Outcome
         requires at { IsAt (world M.slots self.old) core (Phase.Fill touch frame) }
         requires backed { back_of ((M.slots self.old.map).info touch.page) ≡ Anon }
-        ensures { FillsOwn (world M.slots self.old) (λ f counts. after_zeros core touch f counts (world M.slots self.old)) frame result (world M.slots self.new) }
+        ensures { FillsOwn (world M.slots self.old)
+            (λ f counts. after_zeros core touch f counts (world M.slots self.old)) frame result
+            (world M.slots self.new) }
     {
         let Some(frame) = frame else {
             // the call has taken one
@@ -63,7 +65,8 @@ impl<M: SlotMap, H: Hardware, A: Allocator> Engine<M, H, A> {
         requires at { IsAt (world M.slots self.old) core (Phase.Fill touch frame) }
         requires backed { back_of ((M.slots self.old.map).info touch.page) ≡ Private file page }
         requires store { touch.access ≡ Store }
-        ensures { Tries (FillsOwn (world M.slots self.old) (λ f counts. after_first_copy core touch f counts (world M.slots self.old)) frame)
+        ensures { Tries (FillsOwn (world M.slots self.old)
+            (λ f counts. after_first_copy core touch f counts (world M.slots self.old)) frame)
             (Unit {0})
             (world M.slots self.old) result (world M.slots self.new) }
     {
@@ -82,7 +85,8 @@ impl<M: SlotMap, H: Hardware, A: Allocator> Engine<M, H, A> {
     /// The page shows the frame that caches its file page, and is counted there; a frame that the call has taken goes back.
     fn share(&mut self, core: CoreId, touch: Touch, own: Option<u32>, cached: u32)
         requires at { IsAt (world M.slots self.old) core (Phase.Fill touch own) }
-        requires cached { file_frame (world M.slots self.old).memory.cached (back_of ((M.slots self.old.map).info touch.page)) ≡ Some cached }
+        requires cached { file_frame (world M.slots self.old).memory.cached
+            (back_of ((M.slots self.old.map).info touch.page)) ≡ Some cached }
         ensures { FillsFromFile (world M.slots self.old) core touch own (Some cached) Stepped (world M.slots self.new) }
     {
         give_back(&mut self.frames, own);
@@ -116,7 +120,8 @@ impl<M: SlotMap, H: Hardware, A: Allocator> Engine<M, H, A> {
     ) -> Outcome
         requires at { IsAt (world M.slots self.old) core (Phase.Fill touch own) }
         requires backed { IsOfFile (back_of ((M.slots self.old.map).info touch.page)) file page }
-        ensures { FillsFromFile (world M.slots self.old) core touch own ((world M.slots self.old).memory.cached file page) result (world M.slots self.new) }
+        ensures { FillsFromFile (world M.slots self.old) core touch own
+            ((world M.slots self.old).memory.cached file page) result (world M.slots self.new) }
     {
         if let Some(cached) = self.objects.cached(file, page) {
             self.share(core, touch, own, cached);

@@ -39,9 +39,8 @@ impl<M: SlotMap + Drop, A: Allocator + Clone + Drop> Machine<M, A> {
     ghost use Rattle.core_steps.specs.Setups.{fault_of, IsFirstFault, made_of};
     ghost use Rattle.core_steps.specs.Machine.{state};
 
-    /// A machine over a new slot map. It keeps room for one log entry of each call, so that a logged step takes no
-    /// memory. The bytes of the files are moved, not copied. Of several faults the first is told, in the order of
-    /// `SetupFault`.
+    /// A machine over a new slot map. It keeps room for the reply of each call, so that logging one takes no memory. The
+    /// bytes of the files are moved, not copied. Of several faults the first is told, in the order of `SetupFault`.
     pub fn new(alloc: A, map: M, setup: Setup<A>) -> Result<Machine<M, A>, SetupFault>
         requires { IsNew (M.slots map) }
         ensures opening { IfOk result (λ machine. state machine ≡ new_world (made_of setup) (M.slots map)) }
@@ -68,10 +67,11 @@ impl<M: SlotMap, A: Allocator + Clone> Machine<M, A> {
     ghost use Rattle.core_steps.specs.Finishing.{Finishes, IsRefused};
     ghost use Rattle.core_steps.specs.Machine.{state, IsLegal};
 
-    /// One event. A refusal for memory leaves the machine unchanged, and comes only at a step of a call at which a slot is to be
-    /// divided, or which installs the first entry of a page. Slots are joined just where the map can join them. The state that
-    /// is left is one of a plain page map's (POSIX.1-2017, mmap, munmap and mprotect). The step's log entry, if it made one, was
-    /// due, a frame became free only by a review or by a call that was given up, and what is waited for is there.
+    /// One event. A refusal for memory leaves the machine unchanged, and comes only at a step of a call at which a slot is to
+    /// be divided, which installs the first entry of a page, or which makes a private page's copy. Slots are joined just
+    /// where the map can join them. The state that is left is one of a plain page map's (POSIX.1-2017, mmap, munmap and
+    /// mprotect). The step's log entry, if it made one, was due, a frame became free only by a review or by the call that
+    /// had taken it and gave it to no page, and what is waited for is there.
     pub fn step(&mut self, event: Event) -> Result<Outcome, NoMemory>
         ensures step { Tries (Step (state self.old) event)
             (MayWant (state self.old) event)

@@ -51,8 +51,7 @@ impl<T: Copy + Drop, A: Allocator> Reserved<T, A> {
         let Some(limit) = self.limit.checked_add(1) else {
             return Err(AllocError);
         };
-        self.items
-            .try_reserve(limit as usize - self.items.len())?;
+        self.items.try_reserve(limit as usize - self.items.len())?;
         self.limit = limit;
         self.items.push_reserved(value);
         Ok(())

@@ -1,8 +1,8 @@
-use Rattle.std.proofs.Common.{◌≡◌, ◌<◌, ◌≤◌, ◌-◌, ⊎_elim, arith, refl, sym, subst, ap, ◌∙◌, rules, length}
+use Rattle.std.proofs.Common.{◌<◌, ◌≤◌, ⊎_elim, arith, refl, sym, subst}
 use Rattle.std.proofs.lemmas.Bool.{cases_lt}
 use Rattle.refcache.specs.Parts.{counts_of}
 use Rattle.core_steps.specs.Taking.{AreUsed, CountsEach}
-use Rattle.slot_lock.specs.Framed.{ListsFrames, frames_in}
+use Rattle.slot_lock.specs.Framed.{frames_in}
 use Rattle.core_steps.proofs.Lost.{each_cores, each_still, list_moves, list_whole, listed_used, lost_list, lost_none}
 use Rattle.core_steps.proofs.commit.count_frames.Goals as goal
 
@@ -11,7 +11,7 @@ lists-init g c = record {
   low = omega arith;
   high = let some = c.requires.pages.some in omega (arith, some);
   here = c.requires.here;
-  still = record { object = λ p f a e. c.requires.counted.object p f e; used = λ p f a e. c.requires.counted.used p f e };
+  still = record { left = (g.M.SlotRead.slots c.args.map.now).info; same = λ p a. refl; counted = c.requires.counted };
   counted = lost_none _ _ _ _ _ (λ p a b. absurd (omega (arith, a, b)));
 }
 
@@ -22,7 +22,7 @@ count_list-requires-clause-used g c =
     c.clear.ensures c.list_frames-from.ensures.added in
     subst (λ xs. AreUsed xs (counts_of c.lists.counts)) (sym c.deref.ensures.0)
     (listed_used frame c.lists.from c.list_frames-from.result c.list_frames-from.new.list.items
-    (counts_of c.lists.counts) c.requires.counted.apart c.lists.invariant.still lists)
+    (counts_of c.lists.counts) c.lists.invariant.still lists)
 
 pub lists-smaller : goal.lists-smaller
 lists-smaller g c =
@@ -49,8 +49,7 @@ lists-preserved g c =
       low = omega (arith, low, e.low);
       high = e.high;
       here = subst (λ n. c.args.core < n) (sym (each_cores c.args.core _ (counts_of c.lists.counts) (counts_of c.count_list.new.counts) each)) i.here;
-      still = each_still c.args.core frame c.lists.from c.list_frames-from.result c.list_frames-from.new.list.items _ _ e.low
-          c.requires.counted.apart i.still lists each;
+      still = each_still c.args.core frame c.lists.from c.list_frames-from.result c.list_frames-from.new.list.items _ _ e.low i.still lists each;
       counted = lost_list c.args.core frame c.args.range.first c.lists.from c.list_frames-from.result c.list_frames-from.new.list.items _ _
           _ low e.low i.counted lists each;
     }

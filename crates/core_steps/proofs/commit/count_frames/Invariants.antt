@@ -1,4 +1,4 @@
-use Rattle.std.proofs.Common.{◌≡◌, ◌-◌, ◌≤◌, ◌<◌}
+use Rattle.std.proofs.Common.{◌-◌, ◌≤◌, ◌<◌}
 use Rattle.refcache.specs.Parts.{counts_of}
 use Rattle.slot_lock.specs.Framed.{frames_in}
 use Rattle.machine_model.specs.Counting.{CountsDown}

@@ -1,8 +1,6 @@
-use Rattle.std.proofs.Common.{◌≡◌, ◌+◌, ◌<◌, ◌∷◌, drop, get_or, sym, ap, ◌∙◌, subst, rules}
+use Rattle.std.proofs.Common.{◌+◌, ◌<◌, drop, get_or, sym, subst}
 use Rattle.std.proofs.lemmas.List.{drop_more}
 use Rattle.slot_lock.specs.declared.framed.Framed.{Framed}
-use Rattle.refcache.specs.Counts.{Counts}
-use Rattle.refcache.specs.Steps.{Takes, Dec}
 use Rattle.refcache.specs.Parts.{counts_of}
 use Rattle.core_steps.specs.Taking.{AreUsed, CountsEach}
 use Rattle.core_steps.proofs.Lost.{used_next}

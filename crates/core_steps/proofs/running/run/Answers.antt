@@ -1,4 +1,4 @@
-use Rattle.std.proofs.Common.{◌≡◌, refl, take, inr, rules, subst}
+use Rattle.std.proofs.Common.{◌≡◌, take, inr, rules, subst}
 use Rattle.core_steps.specs.State.{world}
 use Rattle.machine_model.specs.World.{new_world}
 use Rattle.machine_model.specs.Step.{Run}
@@ -24,13 +24,13 @@ events-preserved g c = record {
 pub returns-clause-run : goal.returns-clause-run
 returns-clause-run g c =
     let all : take c.events.at c.args.events.now ≡ c.args.events.now = take_all c.events.at c.args.events.now c.events-test.false in
-    subst (λ es. Run (new_world (made_of c.args.setup) (g.M.SlotRead.slots c.args.map)) es c.events.outcomes.items (world g.M.SlotRead.slots c.events.machine.engine)) all
-    c.events.invariant.run
+    let new = new_world (made_of c.args.setup) (g.M.SlotRead.slots c.args.map) in
+    subst (λ es. Run new es c.events.outcomes.items (world g.M.SlotRead.slots c.events.machine.engine)) all c.events.invariant.run
 
 pub returns-clause-brackets : goal.returns-clause-brackets
 returns-clause-brackets g c =
     let all : take c.events.at c.args.events.now ≡ c.args.events.now = take_all c.events.at c.args.events.now c.events-test.false in
-    all_bracketed (made_of c.args.setup) (g.M.SlotRead.slots c.args.map) _ c.args.events.now c.events.outcomes.items _ all c.events.invariant.run
+    all_bracketed (made_of c.args.setup) (g.M.SlotRead.slots c.args.map) _ c.args.events.now c.events.outcomes.items _ c.requires all c.events.invariant.run
 
 pub returns-clause-sound : goal.returns-clause-sound
 returns-clause-sound g c =

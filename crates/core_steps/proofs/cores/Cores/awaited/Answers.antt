@@ -5,8 +5,10 @@ use Rattle.core_steps.proofs.cores.Cores.awaited.Goals as goal
 
 pub returns-then-is_some-clause-some : goal.returns-then-is_some-clause-some
 returns-then-is_some-clause-some g c =
-    awaits_by (parts c.args.self.now).hardware c.args.core c.waiting-waiting.result c.first.result c.first.ensures.member (sym c.is_some.ensures ∙ c.if-is_some.true) c.waiting-waiting.ensures
+    awaits_by (parts c.args.self.now).hardware c.args.core c.waiting-waiting.result c.first.result c.first.ensures.member
+    (sym c.is_some.ensures ∙ c.if-is_some.true) c.waiting-waiting.ensures
 
 pub returns-clause-none : goal.returns-clause-none
 returns-clause-none g c =
-    nobody_by (parts c.args.self.now).hardware c.args.core c.waiting-waiting.result c.first.result c.first.ensures.none (sym c.is_some.ensures ∙ c.if-is_some.false) c.waiting-waiting.ensures
+    nobody_by (parts c.args.self.now).hardware c.args.core c.waiting-waiting.result c.first.result c.first.ensures.none
+    (sym c.is_some.ensures ∙ c.if-is_some.false) c.waiting-waiting.ensures

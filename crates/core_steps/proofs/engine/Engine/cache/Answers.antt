@@ -1,5 +1,5 @@
 use Rattle.std.proofs.Common.{refl, ap, ◌∙◌}
-use Rattle.machine_model.specs.declared.phase.Phase.TheVariants.{Fill, Install}
+use Rattle.machine_model.specs.declared.phase.Phase.TheVariants.{Install}
 use Rattle.machine_model.specs.Actions.{to}
 use Rattle.core_steps.specs.State.{world}
 use Rattle.core_steps.proofs.Framing.{cached_anew, cached_below, fill_alone, fill_within, filled_bytes}
@@ -33,13 +33,14 @@ set_frame-requires g c = fill_alone (world g.M.SlotRead.slots c.args.self.now) c
 
 pub returns : goal.returns
 returns g c =
-    cached_anew (world g.M.SlotRead.slots c.args.self.now) _ c.args.core c.args.touch c.args.frame c.args.file c.args.page _ c.requires.backed c.begin.ensures.step
+    let w = world g.M.SlotRead.slots c.args.self.now in
+    let there = fill_within w c.args.core c.args.touch _ c.args.file c.args.page c.requires.at c.requires.backed in
+    cached_anew w _ c.args.core c.args.touch c.args.frame c.args.file c.args.page _ c.requires.backed c.begin.ensures.step
     (c.go_to.ensures ∙ ap (to c.args.core (Install c.args.touch)) (rw (
       c.set_frame.ensures,
       c.set_cached.ensures.files,
       c.set_cached.ensures.cached,
-      filled_bytes (world g.M.SlotRead.slots c.args.self.now).memory c.args.file c.args.page c.args.frame _ _
-          (fill_within (world g.M.SlotRead.slots c.args.self.now) c.args.core c.args.touch _ c.args.file c.args.page c.requires.at c.requires.backed) c.fill.ensures.bytes,
+      filled_bytes w.memory c.args.file c.args.page c.args.frame _ _ there c.fill.ensures.bytes,
       c.fill.ensures.free,
       c.fill.ensures.count,
     ) refl))

@@ -1,4 +1,4 @@
-use Rattle.std.proofs.Common.{refl, sym, subst, ap, inr, ◌∙◌, Some}
+use Rattle.std.proofs.Common.{refl, sym, subst, ap, inr, ◌∙◌}
 use Rattle.vm_calls.specs.Settling.{is_private_store}
 use Rattle.vm_base.specs.declared.info.Back.TheVariants.{Private}
 use Rattle.machine_model.specs.declared.event.Outcome.TheVariants.{Stepped}
@@ -37,20 +37,21 @@ pub returns-in_default : goal.returns-in_default
 returns-in_default g c =
     let w = world g.M.SlotRead.slots c.args.self.now in
     absurd (fill_stores w c.args.core c.args.touch (fill_at w c.args.core c.args.touch c.args.frame _ c.in_default.is c.requires.at)
-        (ap (λ back. is_private_store back c.args.touch.access) c.requires.backed ∙ ap (is_private_store (Private c.args.file c.args.page)) c.requires.store))
+    (ap (λ back. is_private_store back c.args.touch.access) c.requires.backed ∙ ap (is_private_store (Private c.args.file c.args.page)) c.requires.store))
 
 pub returns : goal.returns
 returns g c =
     let w = world g.M.SlotRead.slots c.args.self.now in
-    subst (λ o. FillsOwn w (λ f counts. after_first_copy c.args.core c.args.touch f counts w) o Stepped (world g.M.SlotRead.slots c.go_to.new.self)) (sym c.in-Some.is)
+    let v = world g.M.SlotRead.slots c.go_to.new.self in
+    subst (λ o. FillsOwn w (λ f counts. after_first_copy c.args.core c.args.touch f counts w) o Stepped v) (sym c.in-Some.is)
     (first_copied w _ c.args.core c.args.touch c.in-Some.frame c.args.file c.args.page _ c.requires.backed c.begin.ensures.step
-        (c.go_to.ensures ∙ ap (to c.args.core (Install c.args.touch)) (rw (
-          c.set_frame.ensures,
-          c.in_ok-log_detach.ensures.ok,
-          c.in_ok-log_detach.ensures.cores,
-          c.in_ok-log_detach.ensures.limit,
-          filled_bytes w.memory c.args.file c.args.page c.in-Some.frame _ _
-              (fill_within w c.args.core c.args.touch c.args.frame c.args.file c.args.page c.requires.at (inr c.requires.backed)) c.fill.ensures.bytes,
-          c.fill.ensures.free,
-          c.fill.ensures.count,
-        ) refl)))
+    (c.go_to.ensures ∙ ap (to c.args.core (Install c.args.touch)) (rw (
+      c.set_frame.ensures,
+      c.in_ok-log_detach.ensures.ok,
+      c.in_ok-log_detach.ensures.cores,
+      c.in_ok-log_detach.ensures.limit,
+      filled_bytes w.memory c.args.file c.args.page c.in-Some.frame _ _
+          (fill_within w c.args.core c.args.touch c.args.frame c.args.file c.args.page c.requires.at (inr c.requires.backed)) c.fill.ensures.bytes,
+      c.fill.ensures.free,
+      c.fill.ensures.count,
+    ) refl)))

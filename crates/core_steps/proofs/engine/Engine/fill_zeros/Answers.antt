@@ -1,4 +1,4 @@
-use Rattle.std.proofs.Common.{refl, sym, subst, ap, ◌∙◌, Some}
+use Rattle.std.proofs.Common.{refl, sym, subst, ap, ◌∙◌}
 use Rattle.machine_model.specs.declared.event.Outcome.TheVariants.{Stepped}
 use Rattle.machine_model.specs.Files.{file_frame}
 use Rattle.machine_model.specs.Filling.{FillsOwn, after_zeros}
@@ -27,12 +27,13 @@ pub returns-in_default : goal.returns-in_default
 returns-in_default g c =
     let w = world g.M.SlotRead.slots c.args.self.now in
     absurd (fill_shown w c.args.core c.args.touch (fill_at w c.args.core c.args.touch c.args.frame _ c.in_default.is c.requires.at)
-        (ap (file_frame w.memory.cached) c.requires.backed))
+    (ap (file_frame w.memory.cached) c.requires.backed))
 
 pub returns : goal.returns
 returns g c =
     let w = world g.M.SlotRead.slots c.args.self.now in
-    subst (λ o. FillsOwn w (λ f counts. after_zeros c.args.core c.args.touch f counts w) o Stepped (world g.M.SlotRead.slots c.go_to.new.self)) (sym c.in-Some.is)
+    let v = world g.M.SlotRead.slots c.go_to.new.self in
+    subst (λ o. FillsOwn w (λ f counts. after_zeros c.args.core c.args.touch f counts w) o Stepped v) (sym c.in-Some.is)
     (zeroed w _ c.args.core c.args.touch c.in-Some.frame _ c.requires.backed c.begin.ensures.step
-        (c.go_to.ensures ∙ ap (to c.args.core (Install c.args.touch))
-        (rw (c.set_frame.ensures, c.fill_zero.ensures.bytes, c.fill_zero.ensures.free, c.fill_zero.ensures.count) refl)))
+    (c.go_to.ensures ∙ ap (to c.args.core (Install c.args.touch))
+    (rw (c.set_frame.ensures, c.fill_zero.ensures.bytes, c.fill_zero.ensures.free, c.fill_zero.ensures.count) refl)))

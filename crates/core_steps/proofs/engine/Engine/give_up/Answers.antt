@@ -21,21 +21,29 @@ reply-requires-clause-room g c =
 pub give_back-requires : goal.give_back-requires
 give_back-requires g c =
     rw c.taken_in.ensures (taken_here (world g.M.SlotRead.slots c.args.self.now) c.args.core c.phase_of-phase.result
-        (record { here = c.requires.here; phase = sym c.phase_of-phase.ensures; fine = c.requires.fine }))
+    (record { here = c.requires.here; phase = sym c.phase_of-phase.ensures; fine = c.requires.fine }))
 
 pub returns-then-not-can_give_up : goal.returns-then-not-can_give_up
 returns-then-not-can_give_up g c =
     rw (sym c.phase_of-phase.ensures) (not_given_up (world g.M.SlotRead.slots c.args.self.now) _ c.args.core c.phase_of-phase.result
-        (sym c.can_give_up.ensures ∙ c.if-not-can_give_up.true) refl)
+    (sym c.can_give_up.ensures ∙ c.if-not-can_give_up.true) refl)
 
 pub returns-then-awaits_copy : goal.returns-then-awaits_copy
 returns-then-awaits_copy g c =
     rw (sym c.phase_of-phase.ensures) (copy_awaited (world g.M.SlotRead.slots c.args.self.now) _ c.args.core c.phase_of-phase.result
-        (subst (AwaitsCopy (world g.M.SlotRead.slots c.args.self.now).hardware c.args.core c.phase_of-phase.result) c.if-awaits_copy.true c.awaits_copy.ensures) refl)
+    (subst (AwaitsCopy (world g.M.SlotRead.slots c.args.self.now).hardware c.args.core c.phase_of-phase.result)
+    c.if-awaits_copy.true c.awaits_copy.ensures) refl)
 
 pub returns : goal.returns
 returns g c =
     let w = world g.M.SlotRead.slots c.args.self.now in
     rw (sym c.phase_of-phase.ensures) (given_up w _ c.args.core c.phase_of-phase.result (sym c.can_give_up.ensures ∙ c.if-not-can_give_up.false)
-        (subst (AwaitsCopy w.hardware c.args.core c.phase_of-phase.result) c.if-awaits_copy.false c.awaits_copy.ensures)
-        (c.reply.ensures ∙ rw (c.if_some_page-held.ensures, c.range_held.ensures, c.give_back.ensures.free, c.give_back.ensures.bytes, c.give_back.ensures.count, c.taken_in.ensures) refl))
+    (subst (AwaitsCopy w.hardware c.args.core c.phase_of-phase.result) c.if-awaits_copy.false c.awaits_copy.ensures)
+    (c.reply.ensures ∙ rw (
+      c.if_some_page-held.ensures,
+      c.range_held.ensures,
+      c.give_back.ensures.free,
+      c.give_back.ensures.bytes,
+      c.give_back.ensures.count,
+      c.taken_in.ensures,
+    ) refl))

@@ -24,6 +24,6 @@ returns g c = elim c.match-page.branch [
     | in_default-2-via-in-Some-page+in-None-1 x ↦
         let none : x.in-Some-page.info.frame ≡ None = search in
         absurd (copy_framed (world g.M.SlotRead.slots c.args.self.now) c.args.core c.args.touch c.args.frame (Some x.in-Some-page.info) c.requires
-            (sym c.page.ensures ∙ x.in-Some-page.is) none)
+        (sym c.page.ensures ∙ x.in-Some-page.is) none)
   ]
 ]

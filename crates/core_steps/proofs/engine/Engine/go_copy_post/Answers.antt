@@ -20,7 +20,7 @@ page_of_touch-requires g c = sound_at _ c.args.core (CopyPost c.args.touch c.arg
 pub shoot-requires-clause-pages : goal.shoot-requires-clause-pages
 shoot-requires-clause-pages g c =
     rw c.page_of_touch.ensures (valid_range (page_of_touch c.args.touch) (touch_range c.args.touch
-        (sound_at _ c.args.core (CopyPost c.args.touch c.args.frame) (PlanOf.Touch c.args.touch) c.requires tt (λ h. h))))
+    (sound_at _ c.args.core (CopyPost c.args.touch c.args.frame) (PlanOf.Touch c.args.touch) c.requires tt (λ h. h))))
 
 pub shoot-requires-clause-idle : goal.shoot-requires-clause-idle
 shoot-requires-clause-idle g c =
@@ -29,4 +29,4 @@ shoot-requires-clause-idle g c =
 pub shoot-requires-clause-within : goal.shoot-requires-clause-within
 shoot-requires-clause-within g c = λ d h.
     rw c.args.self.now.same_cores (told_here (world g.M.SlotRead.slots c.args.self.now) c.args.touch.page d c.requires.fine
-        (sym (ap (λ s. members s d) (c.cores_of-shoot.ensures ∙ ap cores_of c.page.ensures)) ∙ h))
+    (sym (ap (λ s. members s d) (c.cores_of-shoot.ensures ∙ ap cores_of c.page.ensures)) ∙ h))

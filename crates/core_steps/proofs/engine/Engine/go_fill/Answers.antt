@@ -1,9 +1,9 @@
-use Rattle.std.proofs.Common.{inl, inr, sym, ap, ◌∙◌}
+use Rattle.std.proofs.Common.{sym, ap, ◌∙◌}
 use Rattle.slot_lock.specs.declared.plan.Plan.TheVariants as PlanOf
 use Rattle.machine_model.specs.declared.phase.Phase.TheVariants.{Fill}
 use Rattle.machine_model.specs.Files.{back_of}
 use Rattle.core_steps.specs.State.{world}
-use Rattle.core_steps.proofs.Framing.{fills_copy, fills_private, fills_shared, fills_zeros}
+use Rattle.core_steps.proofs.Framing.{fills_shared, fills_zeros}
 use Rattle.core_steps.proofs.Known.{sound_at}
 use Rattle.core_steps.proofs.engine.Engine.go_fill.Goals as goal
 

@@ -27,14 +27,17 @@ install-requires-clause-page g c = valid_page c.args.touch.page (sound_at _ c.ar
 
 pub install-requires-clause-some_right : goal.install-requires-clause-some_right
 install-requires-clause-some_right g c =
-    rw c.prot_installed-prot.ensures (install_right (world g.M.SlotRead.slots c.args.self.now) c.args.core c.args.touch c.in-Some.info c.requires (sym c.page.ensures ∙ c.in-Some.is))
+    let is = sym c.page.ensures ∙ c.in-Some.is in
+    rw c.prot_installed-prot.ensures (install_right (world g.M.SlotRead.slots c.args.self.now) c.args.core c.args.touch c.in-Some.info c.requires is)
 
 pub returns : goal.returns
 returns g c = elim c.match-page.branch [
   | in-Some+in-Some-frame+in_ok-install w ↦ (
     refl,
     installed (world g.M.SlotRead.slots c.args.self.now) _ c.args.core c.args.touch w.in-Some.info w.in-Some-frame.frame w.prot_installed-prot.result
-        (sym c.page.ensures ∙ w.in-Some.is) w.in-Some-frame.is w.prot_installed-prot.ensures (c.go_to.ensures ∙ ap (to c.args.core (Release c.args.touch)) (rw (w.self-is, w.set_leaf.ensures, w.with-cores.ensures.value, w.in_ok-install.ensures.ok) refl)),
+        (sym c.page.ensures ∙ w.in-Some.is) w.in-Some-frame.is w.prot_installed-prot.ensures
+        (c.go_to.ensures ∙ ap (to c.args.core (Release c.args.touch))
+        (rw (w.self-is, w.set_leaf.ensures, w.with-cores.ensures.value, w.in_ok-install.ensures.ok) refl)),
   )
   | in_default w ↦ elim w.in_default.branch [
     | in_default-via-in-None-1 x ↦ absurd (install_mapped (world g.M.SlotRead.slots c.args.self.now) c.args.core c.args.touch c.requires

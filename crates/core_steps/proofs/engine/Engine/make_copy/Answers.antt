@@ -1,7 +1,7 @@
 use Rattle.std.proofs.Common.{◌<◌, refl, sym, subst, ap, ◌∙◌}
 use Rattle.vm_base.specs.Info.{frame_of}
 use Rattle.slot_lock.specs.Slots.{HasMeta}
-use Rattle.machine_model.specs.declared.phase.Phase.TheVariants.{CopyAcks, Install}
+use Rattle.machine_model.specs.declared.phase.Phase.TheVariants.{Install}
 use Rattle.machine_model.specs.Actions.{to}
 use Rattle.core_steps.specs.State.{world}
 use Rattle.core_steps.proofs.Framing.{copied_page, copy_alone, page_frame_here, page_frame_used}
@@ -10,7 +10,8 @@ use Rattle.core_steps.proofs.engine.Engine.make_copy.Goals as goal
 
 pub copy-requires-clause-from : goal.copy-requires-clause-from
 copy-requires-clause-from g c =
-    page_frame_here (world g.M.SlotRead.slots c.args.self.now) c.args.touch.page c.args.shown c.requires.at.fine (ap frame_of c.requires.page ∙ c.requires.shown)
+    page_frame_here (world g.M.SlotRead.slots c.args.self.now) c.args.touch.page c.args.shown c.requires.at.fine
+    (ap frame_of c.requires.page ∙ c.requires.shown)
 
 pub copy-requires-clause-to : goal.copy-requires-clause-to
 copy-requires-clause-to g c = taken_below (world g.M.SlotRead.slots c.args.self.now) c.args.core _ c.requires.at c.args.frame refl
@@ -25,12 +26,15 @@ begin-requires-clause-unused g c = taken_unused (world g.M.SlotRead.slots c.args
 
 pub dec-requires-clause-core : goal.dec-requires-clause-core
 dec-requires-clause-core g c =
-    subst (λ n. c.args.core < n) (sym c.begin.ensures.size.0) (core_counted (world g.M.SlotRead.slots c.args.self.now) c.args.core c.requires.at.fine c.requires.at.here)
+    subst (λ n. c.args.core < n) (sym c.begin.ensures.size.0)
+    (core_counted (world g.M.SlotRead.slots c.args.self.now) c.args.core c.requires.at.fine c.requires.at.here)
 
 pub dec-requires-clause-object : goal.dec-requires-clause-object
 dec-requires-clause-object g c =
-    subst (λ n. c.args.shown < n) (sym c.begin.ensures.size.1) (frame_counted (world g.M.SlotRead.slots c.args.self.now) c.args.shown c.requires.at.fine
-        (page_frame_here (world g.M.SlotRead.slots c.args.self.now) c.args.touch.page c.args.shown c.requires.at.fine (ap frame_of c.requires.page ∙ c.requires.shown)))
+    let w = world g.M.SlotRead.slots c.args.self.now in
+    let had = ap frame_of c.requires.page ∙ c.requires.shown in
+    subst (λ n. c.args.shown < n) (sym c.begin.ensures.size.1)
+    (frame_counted w c.args.shown c.requires.at.fine (page_frame_here w c.args.touch.page c.args.shown c.requires.at.fine had))
 
 pub dec-requires-clause-used : goal.dec-requires-clause-used
 dec-requires-clause-used g c =

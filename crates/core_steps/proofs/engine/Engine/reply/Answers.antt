@@ -1,10 +1,12 @@
-use Rattle.std.proofs.Common.{◌+◌, arith, ap, refl}
+use Rattle.std.proofs.Common.{◌+◌, ap}
 use Rattle.core_steps.proofs.Lists.{room_kept}
 use Rattle.core_steps.proofs.engine.Engine.reply.Goals as goal
 
 pub invariant_of-self : goal.invariant_of-self
 invariant_of-self g c =
-    let calls = c.args.self.now.calls in (
-      (calls.numbered, (calls.few, (room_kept calls.log.items.items _ _ calls.log.limit _ calls.requests.limit calls.logged c.push.ensures.items (ap (λ n. n + 1) c.push.ensures.limit), tt))),
+    let calls = c.args.self.now.calls in
+    let logged = room_kept calls.log.items.items _ _ calls.log.limit _ calls.requests.limit calls.logged c.push.ensures.items
+    (ap (λ n. n + 1) c.push.ensures.limit) in (
+      (calls.numbered, (calls.few, (logged, tt))),
       (c.args.self.now.same_cores, tt),
     )

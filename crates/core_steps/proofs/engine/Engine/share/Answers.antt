@@ -30,5 +30,9 @@ pub returns : goal.returns
 returns g c = (
   _,
   c.inc.ensures.step,
-  (refl, c.go_to.ensures ∙ ap (to c.args.core (Install c.args.touch)) (rw (c.set_frame.ensures, c.give_back.ensures.free, c.give_back.ensures.bytes, c.give_back.ensures.count) refl)),
+  (
+    refl,
+    c.go_to.ensures ∙ ap (to c.args.core (Install c.args.touch))
+        (rw (c.set_frame.ensures, c.give_back.ensures.free, c.give_back.ensures.bytes, c.give_back.ensures.count) refl),
+  ),
 )

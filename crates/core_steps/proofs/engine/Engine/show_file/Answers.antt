@@ -16,7 +16,7 @@ pub returns-in_default-own : goal.returns-in_default-own
 returns-in_default-own g c =
     let w = world g.M.SlotRead.slots c.args.self.now in
     absurd (fill_shown w c.args.core c.args.touch (fill_at w c.args.core c.args.touch c.args.own _ c.in_default-own.is c.requires.at)
-        (of_file_frame w.memory.cached _ c.args.file c.args.page c.requires.backed ∙ (sym c.cached.ensures ∙ c.in_default.is)))
+    (of_file_frame w.memory.cached _ c.args.file c.args.page c.requires.backed ∙ (sym c.cached.ensures ∙ c.in_default.is)))
 
 pub cache-requires-clause-at : goal.cache-requires-clause-at
 cache-requires-clause-at g c = fill_at (world g.M.SlotRead.slots c.args.self.now) c.args.core c.args.touch c.args.own _ c.in-Some-own.is c.requires.at

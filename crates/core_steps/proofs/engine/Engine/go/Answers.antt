@@ -1,0 +1,15 @@
+use Rattle.core_steps.specs.State.{world}
+use Rattle.core_steps.proofs.Framing.{goes_at, read_at}
+use Rattle.core_steps.proofs.engine.Engine.go.Goals as goal
+
+pub returns-in-Fill : goal.returns-in-Fill
+returns-in-Fill g c =
+    let phases = c.args.self.now.calls.phases.items in
+    let at = read_at phases c.args.core c.index.result _ _ c.requires.here c.index.ensures.value c.index-2.ensures c.in-Fill.is in
+    goes_at (world g.M.SlotRead.slots c.args.self.now) _ c.args.core c.go_fill.result _ _ at c.go_fill.ensures
+
+pub returns-in-CopyAcks : goal.returns-in-CopyAcks
+returns-in-CopyAcks g c =
+    let phases = c.args.self.now.calls.phases.items in
+    let at = read_at phases c.args.core c.index.result _ _ c.requires.here c.index.ensures.value c.index-2.ensures c.in-CopyAcks.is in
+    goes_at (world g.M.SlotRead.slots c.args.self.now) _ c.args.core c.go_copy_acks.result _ _ at c.go_copy_acks.ensures
