@@ -12,6 +12,8 @@ pub const RUN_ABOUT: &str =
 pub const TRACE: &str = "\
 Input, a line of at most 256 bytes each; a line that begins with # says nothing:
   vm CORES FRAMES [CALLS]   first: the size of the space (CALLS is 4096 where left out)
+  file N MODE LEN SEED      then each file: N is 0, 1, 2 and so on, MODE is r, w or rw,
+                            and of the LEN bytes byte I is (SEED + I) modulo 256
   cC! REQ                   core C makes a call, whose reply is written
   cC call REQ               core C begins a call
   cC go                     one step of core C's call
@@ -33,7 +35,7 @@ REQ is one of:
   fetch ADDR
 C is 0 to 63, without leading zeros. Every other number is decimal, or hexadecimal
 after 0x, below 2^64. ADDR, LEN and OFF are in bytes; a page has 4096, and a range
-takes every page that has some byte of it. BYTE is at most 255. FILE and OFF may be
+takes every page that has some byte of it. BYTE and SEED are at most 255. FILE and OFF may be
 left out where FLAGS has a.
 PROT is rwx with - for a right that isn't given. FLAGS is some of p (private),
 s (shared), f (fixed) and a (anonymous) in any order, or -.
@@ -45,8 +47,11 @@ Output, a line for each line of an event, as soon as no whole line is left to re
   einval        an argument is wrong: a length of 0, an address that no page begins at ..
   enomem        a page is outside the space or not mapped, or no place is found
   ebadf         there is no such file
+  eacces        the file isn't open for what is asked
+  eoverflow     the file's pages would go past 2^47
   segv maperr   no page is mapped there
   segv accerr   the page's protection forbids it
+  bus           the page's file has no such page
   noframe       no frame is free
   nomemory      the call was given up for want of memory
   step          one step was made, which answered no call
@@ -64,7 +69,8 @@ A fault ends the replay, and is told on standard error:
   line N: bad line    line N: too long    no vm line first
   setup S1            CORES isn't 1 to 64
   setup S2            FRAMES is above 65536
-  setup S3, S4        too many files, or one that is too long (there are no files yet)
+  setup S3            there are more than 16 files
+  setup S4            a file has more than 1048576 bytes
   setup S5            CALLS is above 1048576
   setup S6            no memory for the machine
   read failed         write failed        out of memory
