@@ -12,8 +12,8 @@ pub const RUN_ABOUT: &str =
 pub const TRACE: &str = "\
 Input, a line of at most 256 bytes each; a line that begins with # says nothing:
   vm CORES FRAMES [CALLS]   first: the size of the space (CALLS is 4096 where left out)
-  file N MODE LEN SEED      then: file N, which is 0, 1, 2 .. in order, open for MODE (r, w or
-                            rw), of LEN bytes: SEED, SEED + 1 .., modulo 256 (SEED at most 255)
+  file N MODE LEN SEED      then each file: N is 0, 1, 2 and so on, MODE is r, w or rw,
+                            and of the LEN bytes byte I is (SEED + I) modulo 256; SEED is below 256
   cC! REQ                   core C makes a call, whose reply is written
   cC call REQ               core C begins a call
   cC go                     one step of core C's call
@@ -35,7 +35,7 @@ REQ is one of:
   fetch ADDR
 C is 0 to 63, without leading zeros. Every other number is decimal, or hexadecimal
 after 0x, below 2^64. ADDR, LEN and OFF are in bytes; a page has 4096, and a range
-takes every page that has some byte of it. BYTE is at most 255. FILE and OFF may be
+takes every page that has some byte of it. BYTE and SEED are at most 255. FILE and OFF may be
 left out where FLAGS has a.
 PROT is rwx with - for a right that isn't given. FLAGS is some of p (private),
 s (shared), f (fixed) and a (anonymous) in any order, or -.
@@ -69,8 +69,8 @@ A fault ends the replay, and is told on standard error:
   line N: bad line    line N: too long    no vm line first
   setup S1            CORES isn't 1 to 64
   setup S2            FRAMES is above 65536
-  setup S3            more than 16 files
-  setup S4            a file of more than 1048576 bytes
+  setup S3            there are more than 16 files
+  setup S4            a file has more than 1048576 bytes
   setup S5            CALLS is above 1048576
   setup S6            no memory for the machine
   read failed         write failed        out of memory

@@ -184,7 +184,7 @@ line_next : (line : Line) (old new : Stage) (es : List Event) (os : List Outcome
     → LineActs old line new text → IsNext line new es os text
 line_next Blank old new es os text r a = nothing_asked Blank new es os text (refl, refl, a.1) (subst (λ s. IsReached s es os) (sym a.0) r)
 line_next (Space cores frames calls) old new es os text r a = nothing_asked (Space cores frames calls) new es os text (refl, refl, a.2) (space_next _ old new es os r a.0 a.1)
-line_next (File n mode len seed) old new es os text r a = nothing_asked (File n mode len seed) new es os text (refl, refl, a.2.2.2) (file_next a.0 _ old new es os r a.1 a.2.2.1)
+line_next (File n mode len seed) old new es os text r a = nothing_asked (File n mode len seed) new es os text (refl, refl, a.4) (file_next a.0 _ old new es os r a.1 a.3)
 line_next (Act core action) old new es os text r a = event_next (Act core action) old new es os text r a
 line_next (Fold page) old new es os text r a = event_next (Fold page) old new es os text r a
 line_next (Finish core) old new es os text r a = event_next (Finish core) old new es os text r a
@@ -261,5 +261,5 @@ traces_are_runs lines text w r =
       asks = a.asks;
       run = h.run;
       sound = runs_sound (made_by h.asked) h.slots a.events a.outcomes w h.new h.run;
-      brackets = bracketed (made_by h.asked) h.slots a.events a.outcomes w h.run;
+      brackets = bracketed (made_by h.asked) h.slots a.events a.outcomes w h.new h.run;
     }

@@ -5,4 +5,7 @@ pub mod EventRunLemmas
 pub mod EventLines
 pub mod Limits
 pub mod PlainCalls
+pub mod Opening
+pub mod Disturbing
 pub mod PlainTextLemmas
+pub mod Declaring

@@ -2,14 +2,14 @@
 use Rattle.std.proofs.Common.{◌≡◌, ◌≢◌, ℕ, zero, suc, ◌+◌, ◌≤◌, ◌<◌, ◌^◌, ◌⊎◌, inl, inr, Bool, true, false, cond, List, [], ◌∷◌, ◌++◌, Option, None, Some, refl, sym, ap, subst, ◌∙◌, arith, length, length-append}
 use Rattle.std.proofs.Math.Path.{fun_ext}
 use Rattle.std.specs.Prelude.{nat_lt, pred, if◌then◌else◌}
+use Rattle.vm_base.specs.declared.page.PageRange.{PageRange}
 use Rattle.vm_base.specs.declared.replies.Reply.{Reply}
 use Rattle.vm_base.specs.declared.replies.Reply.TheVariants.{NoFrame}
 use Rattle.vm_base.specs.declared.requests.Request.{Request}
 use Rattle.vm_base.specs.Cores.{members}
 use Rattle.vm_base.specs.Functions.{has, put}
 use Rattle.vm_base.specs.Plain.{Plain, nothing_mapped}
-use Rattle.vm_base.proofs.Functions.{put_all, put_both}
-use Rattle.slot_lock.specs.Plan.{range_of}
+use Rattle.vm_base.proofs.Functions.{put_all, put_both, put_other}
 use Rattle.slot_lock.specs.Slots.{IsUser}
 use Rattle.machine_model.specs.declared.event.Event.{Event}
 use Rattle.machine_model.specs.declared.event.Event.TheVariants as Ev
@@ -17,7 +17,6 @@ use Rattle.machine_model.specs.declared.event.Outcome.{Outcome}
 use Rattle.machine_model.specs.declared.event.Outcome.TheVariants.{Stepped, Idle, Full}
 use Rattle.machine_model.specs.declared.phase.Phase.TheVariants.{Free}
 use Rattle.machine_model.specs.declared.log.Entry.TheVariants.{Answer}
-use Rattle.machine_model.specs.Changes.{reply_to}
 use Rattle.machine_model.specs.Holding.{awaits_in}
 use Rattle.machine_model.specs.World.{World, Made}
 use Rattle.machine_model.specs.Step.{Goes, Acts, with_event, event_limit, Step, StepsTo}
@@ -26,10 +25,11 @@ use Rattle.machine_model.specs.Accesses.{NoneFree}
 use Rattle.machine_sound.specs.Log.{Replays, Stands}
 use Rattle.machine_sound.specs.Sound.{IsDue, IsReached}
 use Rattle.machine_sound.proofs.Kept.{reached_fine, reached_step}
-use Rattle.machine_alone.specs.Alone.{ComesBeside, IsAwaiting, IsBeside, IsBesideCalls, IsCalm, IsResting, IsServed, IsServedAlone, IsServedAtLast, IsWaiting, KeepsOthers, KeepsTakes, LeadsTo, left_to, takes_left}
+use Rattle.machine_alone.specs.Alone.{ComesBeside, IsAwaiting, IsBeside, IsBesideCalls, IsCalm, IsResting, IsServed, IsServedAlone, IsServedAtLast, IsWaiting, KeepsOthers, KeepsTakes, LeadsTo, left_to, takes_left, users_dropped}
+use Rattle.machine_alone.specs.Copies.{page_copied, with_copy}
 use Rattle.machine_alone.specs.Taken.{frames_for, frames_taken, is_access}
-use Rattle.machine_alone.proofs.Taking.{all_taken, no_frame_access, waits_for_change}
-use Rattle.machine_alone.specs.Users.{Users, Same, recorded, users_after}
+use Rattle.machine_alone.proofs.Taking.{all_taken, no_frame_access}
+use Rattle.machine_alone.specs.Users.{Users, Same, recorded, users_after, with_user, without}
 use Rattle.machine_alone.proofs.Beside.{rests_beside}
 use Rattle.machine_alone.proofs.Ending.{served_at_last}
 use Rattle.machine_alone.proofs.Serving.{served_alone}
@@ -83,7 +83,7 @@ resting w s m = go s.waiting m.waiting
     go : (o : Option Open) → MeetsOpen w s o → (core : ℕ) × IsResting w core
     go None calm = (0, record { reached = m.reached; others = λ d ne. calm d; own = inl (calm 0) })
     go (Some o) k =
-        (o.core, record { reached = m.reached; others = k.waiting.others; own = inr (k.waiting.change, (k.waiting.held, k.waiting.at_acks)) })
+        (o.core, record { reached = m.reached; others = k.waiting.others; own = inr (k.waiting.range, k.waiting.at_wait) })
 
 leads_on : (w v : World) (t : Plain) → IsBesideCalls w v → LeadsTo w t → LeadsTo v t
 leads_on w v t b h =
@@ -94,9 +94,8 @@ leads_on w v t b h =
 still_waiting : (w v : World) (t : Plain) (core : ℕ) (request : Request) → IsWaiting w t core request → IsReached v → IsBesideCalls w v
     → IsWaiting v t core request
 still_waiting w v t core request k r b = record {
-  change = k.change;
-  held = k.held;
-  at_acks = ap (λ f. f core) b.phases ∙ k.at_acks;
+  range = k.range;
+  at_wait = ap (λ f. awaits_in (f core)) b.phases ∙ k.at_wait;
   others = λ d ne. ap (λ f. f d) b.phases ∙ k.others d ne;
   inside = ap (λ (m : Made). nat_lt core m.cores) b.made ∙ k.inside;
   reached = r;
@@ -225,10 +224,10 @@ served : (w v : World) (s : Reached) (core : ℕ) (request : Request) (o : Outco
 served w v s core request o text cores calls users made begun frames most k framed t =
     let due = k.due 0 0 in
     record {
-      next = record s { plain = k.after; users = users_after core request k.reply s.users; waiting = None };
+      next = record s { plain = k.after; users = users_after s.plain core request k.reply s.users; waiting = None };
       answers = record {
         after = k.after;
-        stands = k.stands;
+        replies = k.stands;
         given = λ e. no_give_up core (subst (λ r. IsDue (Ev.Go core) w.memory.is_free (Answer 0 0 core r)) e due);
         framed = framed;
         next = refl;
@@ -242,7 +241,8 @@ served w v s core request o text cores calls users made begun frames most k fram
         log = k.leads;
         frames = frames ∙ ap (λ (d : Made). d.frames) (sym made);
         taken = most;
-        users = users_same (recorded v.slots) (users_after core request k.reply (recorded w.slots)) k.users ∙ ap (users_after core request k.reply) users;
+        users = users_same (recorded v.slots) (users_after s.plain core request k.reply (recorded w.slots)) k.users
+            ∙ ap (users_after s.plain core request k.reply) users;
         waiting = k.calm;
       };
     }
@@ -250,22 +250,32 @@ served w v s core request o text cores calls users made begun frames most k fram
 -- ---- a call that begins
 
 -- no user but the core's own is dropped
-none_dropped : (s : Reached) (core : ℕ) (request : Request) (reply : Reply) → KeepsOthers s.users core request reply → (d : ℕ)
+none_dropped : (s : Reached) (core : ℕ) (request : Request) (reply : Reply) → KeepsOthers s.plain s.users core request reply → (d : ℕ)
     → IsDropped s core request reply d → ⊥
 none_dropped s core request reply k d h = let a = k d h.1.0 h.0 h.1.1 in let b = h.1.2 in cc
 
+-- of the others the pages of the range have no users
+others_dropped : (core : ℕ) (request : Request) (range : PageRange) (users : Users) (p d : ℕ) → d ≢ core
+    → users_dropped core request range users p d ≡ cond (has range p) false (users p d)
+others_dropped core request range users p d ne = go (is_access request)
+  where
+    go : (b : Bool) → (if b then with_user range.first core (without range users) else without range users) p d ≡ without range users p d
+    go false = refl
+    go true = put_all (λ j (f : ℕ → Bool). f d ≡ without range users j d) (without range users) range.first (put (without range users range.first) core true)
+        (put_other (without range users range.first) core true d ne) (λ j other. refl) p
+
 -- of a call that waits: whom it waits for
 held_up : (w x v : World) (s : Reached) (core : ℕ) (request : Request) (o : Outcome) (text : List ℕ) → s.cores ≡ w.made.cores → s.calls ≡ w.made.calls
-    → recorded w.slots ≡ s.users → x.made ≡ w.made → s.begun ≡ length x.calls.requests → s.frames ≡ w.made.frames → frames_taken w ≤ s.accesses
+    → recorded w.slots ≡ s.users → x.made ≡ w.made → s.begun ≡ length x.calls.requests → s.frames ≡ w.made.frames → frames_taken w + frames_for request ≤ s.accesses
     → IsReached v → IsAwaiting w x s.plain core request o v
     → text ≡ outcome_text o → IsNext v (λ r. IsHeldUp s core request r text)
 held_up w x v s core request o text cores calls users made begun frames most reached a t =
     record {
       next = record s { waiting = Some call };
       answers = record {
-        reply = reply_to a.waiting.change;
+        reply = a.reply;
         after = a.after;
-        stands = a.stands;
+        replies = a.stands;
         set = a.set;
         some = a.some;
         exact = λ d. (λ m. dropped d ((a.exact d).0 m), λ h. (a.exact d).1 (uses d h));
@@ -303,23 +313,26 @@ held_up w x v s core request o text cores calls users made begun frames most rea
         go true l = refl
         go false l = absurd (omega (arith, l))
 
-    dropped : (d : ℕ) → (d ≢ core) × IsUser x.slots (range_of a.waiting.change) d → IsDropped s core request (reply_to a.waiting.change) d
+    left : (p d : ℕ) → d ≢ core → users_after s.plain core request a.reply s.users p d ≡ cond (has a.waiting.range p) false (s.users p d)
+    left p d ne = a.drops s.users p d ∙ others_dropped core request a.waiting.range s.users p d ne
+
+    dropped : (d : ℕ) → (d ≢ core) × IsUser x.slots a.waiting.range d → IsDropped s core request a.reply d
     dropped d u = (
       u.0,
       (
         u.1.0,
         ap (λ (f : Users). f u.1.0 d) (sym now) ∙ u.1.2,
-        a.drops s.users u.1.0 d ∙ ap (λ b. cond b false (s.users u.1.0 d)) u.1.1,
+        left u.1.0 d u.0 ∙ ap (λ b. cond b false (s.users u.1.0 d)) u.1.1,
       ),
     )
 
-    uses : (d : ℕ) → IsDropped s core request (reply_to a.waiting.change) d → (d ≢ core) × IsUser x.slots (range_of a.waiting.change) d
-    uses d h = (h.0, (h.1.0, inside (has (range_of a.waiting.change) h.1.0) refl, ap (λ (f : Users). f h.1.0 d) now ∙ h.1.1))
+    uses : (d : ℕ) → IsDropped s core request a.reply d → (d ≢ core) × IsUser x.slots a.waiting.range d
+    uses d h = (h.0, (h.1.0, inside (has a.waiting.range h.1.0) refl, ap (λ (f : Users). f h.1.0 d) now ∙ h.1.1))
       where
-        inside : (b : Bool) → has (range_of a.waiting.change) h.1.0 ≡ b → has (range_of a.waiting.change) h.1.0 ≡ true
+        inside : (b : Bool) → has a.waiting.range h.1.0 ≡ b → has a.waiting.range h.1.0 ≡ true
         inside true e = e
         inside false e = absurd (
-            let z = sym (a.drops s.users h.1.0 d) ∙ h.1.2 in
+            let z = sym (left h.1.0 d h.0) ∙ h.1.2 in
             let k = ap (λ b. cond b false (s.users h.1.0 d)) e in
             let u = h.1.1 in
             cc)
@@ -346,7 +359,7 @@ call_ends w begun core n request (Last o) v s text m calm call made asked below 
               d.0.reply,
               z.answers,
               none_dropped (one_more s request) core request d.0.reply
-                  (subst (λ u. KeepsOthers u core request d.0.reply) m.users d.1),
+                  (subst (λ u. KeepsOthers s.plain u core request d.0.reply) m.users d.1),
             );
             meets = z.meets;
           }
@@ -362,7 +375,8 @@ call_ends w begun core n request (Last o) v s text m calm call made asked below 
     framed o d e =
         let none : NoneFree w.memory.is_free = subst (λ r. IsDue (Ev.Go core) w.memory.is_free (Answer 0 0 core r)) e (d.due 0 0) in
         let all : frames_taken w ≡ w.made.frames = all_taken w.memory.is_free w.made.frames none in
-        let access : is_access request ≡ true = no_frame_access s.plain d.after core request (subst (λ r. Stands s.plain core request r d.after) e d.stands) in
+        let access : is_access request ≡ true = no_frame_access s.plain d.after core request 
+            (subst (λ r. Stands (with_copy s.plain (page_copied s.plain request r)) core request r d.after) e d.stands) in
         let one : frames_for request ≡ 1 = ap (λ (b : Bool). if b then 1 else 0) access in
         let frames = m.frames in
         let before = m.taken in
@@ -392,15 +406,12 @@ open_ends w n (Last outcome) v s o text m z below h t =
     let last : IsServedAtLast w s.plain o.core o.request = served_at_last w s.plain o.core o.request z.waiting in
     elim (last.ends n x v outcome h.2.1 h.2.2 h.1 (omega (arith, up, below))) [
       | inl d ↦
-          let change : is_access o.request ≡ false = waits_for_change w s.plain o.core o.request z.waiting in
-          let none : frames_for o.request ≡ 0 = ap (λ (b : Bool). if b then 1 else 0) change in
-          let most = d.0.frames in
+          let most = d.frames in
           let before = m.taken in
           let y = served w v s o.core o.request outcome text m.cores m.calls m.users (step_made x (Ev.Go o.core) outcome v h.2.2 ∙ k.0)
-          (m.begun ∙ ap length (sym (go_requests x o.core outcome v h.2.2 ∙ k.1))) m.frames (omega (arith, most, before, none)) d.0
-          (λ e. absurd (let access = no_frame_access s.plain d.0.after o.core o.request
-          (subst (λ r. Stands s.plain o.core o.request r d.0.after) e d.0.stands) in cc)) t in
-          record { next = y.next; answers = inl (d.0.reply, y.answers, λ e. sym (z.takes e) ∙ d.1 e); meets = y.meets }
+          (m.begun ∙ ap length (sym (go_requests x o.core outcome v h.2.2 ∙ k.1))) m.frames (omega (arith, most, before)) d.served
+          (λ e. absurd (d.framed e)) t in
+          record { next = y.next; answers = inl (d.served.reply, y.answers, d.framed, λ e. sym (z.takes e) ∙ d.nobody e); meets = y.meets }
       | inr a ↦ record {
         next = s;
         answers = inr (record {

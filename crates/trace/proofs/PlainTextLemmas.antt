@@ -21,21 +21,23 @@ use Rattle.machine_alone.proofs.Taking.{none_taken}
 use Rattle.machine_alone.specs.Alone.{IsBesideCalls, IsCalm, left_to}
 use Rattle.core_steps.specs.declared.machine.Finished.{Finished}
 use Rattle.core_steps.specs.declared.machine.Finished.TheVariants.{Last, Stuck}
-use Rattle.core_steps.specs.declared.setup.Setup.{Setup}
 use Rattle.core_steps.specs.Finishing.{EndsIn}
-use Rattle.core_steps.specs.Setups.{made_of}
 use Rattle.trace_text.specs.Line.{line_of}
 use Rattle.trace_text.specs.declared.action.Action.{Action}
 use Rattle.trace_text.specs.declared.action.Action.TheVariants as By
 use Rattle.trace_text.specs.declared.line.Line.{Line}
 use Rattle.trace_text.specs.declared.line.Line.TheVariants.{Blank, Space, File, Act, Fold, Finish, Now}
+use Rattle.trace.specs.declared.declaration.FileLine.{FileLine}
+use Rattle.trace.specs.Declarations.{Asked, asked_fault, made_by}
 use Rattle.trace.specs.Events.{event_of}
 use Rattle.trace.specs.OutcomeText.{outcome_text, finished_text}
 use Rattle.trace.specs.Gives.{Gives, GoesOn, TellsFinish}
 use Rattle.trace.specs.Stage.{Stage, Start, Declared, Running, Opens, LineActs, EventActs}
 use Rattle.trace.specs.Runs.{Runs}
-use Rattle.trace.specs.PlainText.{Open, Reached, nothing_reached, one_more, AnswersAtOnce, IsHeldUp, NowAnswers, FinishAnswers, OpenAnswers, Idles, TakeAnswers, ActAnswers, MayStep, LineAnswers, Overlaps, AllAnswer, takes_apart, AreWhole}
+use Rattle.trace.specs.PlainText.{Open, Reached, nothing_reached, one_more, AnswersAtOnce, IsHeldUp, NowAnswers, FinishAnswers, OpenAnswers, Idles, TakeAnswers, ActAnswers, MayStep, LineAnswers, Disturbs, AllAnswer, takes_apart, AreWhole, with_opened}
+use Rattle.trace.proofs.Disturbing.{gives_up}
 use Rattle.trace.proofs.Limits.{step_grows}
+use Rattle.trace.proofs.Opening.{IsDeclared, declared_so, declares_file, declares_space, few_files}
 use Rattle.trace.proofs.PlainCalls.{Meets, MeetsOpen, IsNext, beside, calm_left, call_ends, finish_free, meets_beside, meets_event, meets_taken, open_ends, steps_kept}
 
 -- ---- a line of one event
@@ -98,22 +100,25 @@ takes w v s core o text m below k t =
             go false i = i
 
 acts : (w v : World) (s : Reached) (core : ℕ) (action : Action) (o : Outcome) (text : List ℕ) → takes_apart (Some (Act core action)) ≡ false → Meets w s
-    → w.calls.events < event_limit → Step w (event_of core action) o v → text ≡ outcome_text o → IsNext v (λ r. ActAnswers s core action r text)
+    → w.calls.events < event_limit → Step w (event_of core action) o v → text ≡ outcome_text o
+    → Disturbs s.waiting (Act core action) ⊎ IsNext v (λ r. ActAnswers s core action r text)
 acts w v s core (By.Call request) o text a m below k t = absurd cc
 acts w v s core By.Go o text a m below k t = absurd cc
-acts w v s core By.Take o text a m below k t = takes w v s core o text m below k t
+acts w v s core By.Take o text a m below k t = inr (takes w v s core o text m below k t)
 acts w v s core (By.Frame f) o text a m below k t =
-    let z = beside w v s (Ev.Frame core f) o m tt below k in idle v s o text z.2.0 t (meets_beside w v s m z.0 z.1 z.2.1)
-acts w v s core By.GiveUp o text a m below k t =
-    let z = beside w v s (Ev.GiveUp core) o m tt below k in idle v s o text z.2.0 t (meets_beside w v s m z.0 z.1 z.2.1)
+    let z = beside w v s (Ev.Frame core f) o m tt below k in inr (idle v s o text z.2.0 t (meets_beside w v s m z.0 z.1 z.2.1))
+acts w v s core By.GiveUp o text a m below k t = elim (gives_up w s core m) [
+  | inl d ↦ inl d
+  | inr b ↦ let z = beside w v s (Ev.GiveUp core) o m b below k in inr (idle v s o text z.2.0 t (meets_beside w v s m z.0 z.1 z.2.1))
+]
 acts w v s core By.Flush o text a m below k t =
-    let z = beside w v s (Ev.Flush core) o m tt below k in may_step w v s o text m z.0 z.2.0 t (meets_beside w v s m z.0 z.1 z.2.1)
+    let z = beside w v s (Ev.Flush core) o m tt below k in inr (may_step w v s o text m z.0 z.2.0 t (meets_beside w v s m z.0 z.1 z.2.1))
 acts w v s core By.Review o text a m below k t =
-    let z = beside w v s (Ev.Review core) o m tt below k in may_step w v s o text m z.0 z.2.0 t (meets_beside w v s m z.0 z.1 z.2.1)
+    let z = beside w v s (Ev.Review core) o m tt below k in inr (may_step w v s o text m z.0 z.2.0 t (meets_beside w v s m z.0 z.1 z.2.1))
 acts w v s core (By.Walk p) o text a m below k t =
-    let z = beside w v s (Ev.Walk core p) o m tt below k in may_step w v s o text m z.0 z.2.0 t (meets_beside w v s m z.0 z.1 z.2.1)
+    let z = beside w v s (Ev.Walk core p) o m tt below k in inr (may_step w v s o text m z.0 z.2.0 t (meets_beside w v s m z.0 z.1 z.2.1))
 acts w v s core (By.Evict p) o text a m below k t =
-    let z = beside w v s (Ev.Evict core p) o m tt below k in may_step w v s o text m z.0 z.2.0 t (meets_beside w v s m z.0 z.1 z.2.1)
+    let z = beside w v s (Ev.Evict core p) o m tt below k in inr (may_step w v s o text m z.0 z.2.0 t (meets_beside w v s m z.0 z.1 z.2.1))
 
 folds : (w v : World) (s : Reached) (p : ℕ) (o : Outcome) (text : List ℕ) → Meets w s → w.calls.events < event_limit
     → Step w (Ev.Fold p) o v → text ≡ outcome_text o
@@ -250,6 +255,7 @@ goes_grows m core Full v text h = same_events m v h.0
 gives_grows : (w : World) (line : Line) (v : World) (text : List ℕ) → Gives w line v text → w.calls.events ≤ v.calls.events
 gives_grows w Blank v text h = absurd h
 gives_grows w (Space cores frames calls) v text h = absurd h
+gives_grows w (File n mode len seed) v text h = absurd h
 gives_grows w (Act core action) v text h = step_grows w (event_of core action) h.0 v h.1
 gives_grows w (Fold page) v text h = step_grows w (Ev.Fold page) h.0 v h.1
 gives_grows w (Finish core) v text h = finish_grows w core h.1.0 h.0 v h.1.1
@@ -279,6 +285,7 @@ line_grows : (line : Line) (old new : Stage) (text : List ℕ) → LineActs old 
 unfolding events_of
 line_grows Blank old new text a = let h : events_of new ≡ events_of old = ap events_of a.0 in omega (arith, h)
 line_grows (Space cores frames calls) old new text a = let h : events_of old ≡ 0 = ap events_of a.0 in omega (arith, h)
+line_grows (File n mode len seed) old new text a = let h : events_of old ≡ 0 = ap events_of a.1 in omega (arith, h)
 line_grows (Act core action) old new text a = event_grows (Act core action) old new text a
 line_grows (Fold page) old new text a = event_grows (Fold page) old new text a
 line_grows (Finish core) old new text a = event_grows (Finish core) old new text a
@@ -298,29 +305,25 @@ lines_grow (l ∷ ls) old new text (mid, front, rest, short, acts, more, is) =
 
 abbrev pub ReachedAt : Stage → Reached → Type 0
 ReachedAt Start s = s ≡ nothing_reached
-ReachedAt (Declared d) s = s ≡ record nothing_reached { cores = d.cores; frames = d.frames; calls = d.calls }
+ReachedAt (Declared a) s = IsDeclared a s
 ReachedAt (Running w) s = Meets w s
 
-meets_opening : (d : Setup) (slots : Slots) (s : Reached) → IsNew slots → s ≡ record nothing_reached {
-  cores = d.cores;
-  frames = d.frames;
-  calls = d.calls;
-} → Meets (new_world (made_of d) slots) s
-meets_opening d slots s new e = subst (Meets (new_world (made_of d) slots)) (sym e) (record {
-  reached = reached_opening (made_of d) slots (λ n. refl) new;
+meets_opening : (a : Asked) (slots : Slots) (s : Reached) → IsNew slots → s ≡ declared_so a → Meets (new_world (made_by a) slots) s
+meets_opening a slots s new e = subst (Meets (new_world (made_by a) slots)) (sym e) (record {
+  reached = reached_opening (made_by a) slots new;
   cores = refl;
   calls = refl;
   begun = refl;
   log = refl;
   frames = refl;
-  taken = let z = none_taken (λ f. nat_lt f d.frames) d.frames (λ j l. grind (arith, nat_tests)) in omega (arith, z);
+  taken = let z = none_taken (λ f. nat_lt f a.frames) a.frames (λ j l. grind (arith, nat_tests)) in omega (arith, z);
   users = fun_ext (λ p. fun_ext (λ c. ap (λ o. is_recorded o c) (new.unmapped p)));
   waiting = λ c. refl;
 })
 
 opened : (old : Stage) (w : World) (s : Reached) → ReachedAt old s → Opens old w → Meets w s
 opened Start w s r o = absurd o
-opened (Declared d) w s r o = subst (λ w. Meets w s) (sym o.1.2) (meets_opening d o.1.0 s o.1.1 r)
+opened (Declared a) w s r o = subst (λ w. Meets w s) (sym o.1.2) (meets_opening a o.1.0 s o.1.1 (r (few_files a o.0)).1)
 opened (Running m) w s r o = subst (λ w. Meets w s) (sym o) r
 
 -- ---- a line
@@ -338,7 +341,7 @@ plain_next : (line : Line) (new : Stage) (v : World) (s : Reached) (text : List 
 plain_next line new v s text e k = record { next = k.next; answers = k.answers; reached = is_running new v k.next e k.meets }
 
 line_plain : (line : Line) (old new : Stage) (s : Reached) (text : List ℕ) → takes_apart (Some line) ≡ false → events_of new < event_limit → ReachedAt old s
-    → LineActs old line new text → Overlaps s.waiting line ⊎ IsPlain line new s text
+    → LineActs old line new text → Disturbs s.waiting line ⊎ IsPlain line new s text
 unfolding events_of
 line_plain Blank old new s text f below r a = inr (record { next = s; answers = (refl, a.1); reached = subst (λ x. ReachedAt x s) (sym a.0) r })
 line_plain (Space cores frames calls) old new s text f below r a =
@@ -347,13 +350,23 @@ line_plain (Space cores frames calls) old new s text f below r a =
       next = record s { cores = cores; frames = frames; calls = calls };
       answers = (refl, a.2);
       reached = subst (λ x. ReachedAt x (record s { cores = cores; frames = frames; calls = calls })) (sym a.1)
-          (ap (λ (s : Reached). record s { cores = cores; frames = frames; calls = calls }) first);
+          (declares_space cores frames calls s first);
+    })
+line_plain (File n mode len seed) old new s text f below r (a, is, next, now, t) =
+    let file : FileLine = record { mode = mode; len = len; seed = seed } in
+    inr (record {
+      next = record s { plain = with_opened s.plain n file };
+      answers = (refl, t);
+      reached = subst (λ x. ReachedAt x (record s { plain = with_opened s.plain n file })) (sym now)
+          (declares_file a n file s next (subst (λ x. ReachedAt x s) is r));
     })
 line_plain (Act core action) old new s text f below r (w, v, opens, gives, is) =
     let top : events_of new ≡ v.calls.events = ap events_of is in
     let up = gives_grows w (Act core action) v text gives in
-    inr (plain_next (Act core action) new v s text is (acts w v s core action gives.0 text f (opened old w s r opens)
-    (omega (arith, top, up, below)) gives.1 gives.2))
+    elim (acts w v s core action gives.0 text f (opened old w s r opens) (omega (arith, top, up, below)) gives.1 gives.2) [
+      | inl d ↦ inl d
+      | inr k ↦ inr (plain_next (Act core action) new v s text is k)
+    ]
 line_plain (Fold page) old new s text f below r (w, v, opens, gives, is) =
     let top : events_of new ≡ v.calls.events = ap events_of is in
     let up = gives_grows w (Fold page) v text gives in
@@ -365,7 +378,7 @@ line_plain (Finish core) old new s text f below r (w, v, opens, gives, is) =
     (finishes w core gives.1.0 gives.0 v s text (opened old w s r opens) (omega (arith, top, up, below)) (omega (arith, top, below)) gives.1.1 gives.2))
 line_plain (Now core request) old new s text f below r (w, v, opens, gives, is) = go s.waiting refl (opened old w s r opens).waiting
   where
-    go : (op : Option Open) → s.waiting ≡ op → MeetsOpen w s op → Overlaps op (Now core request) ⊎ IsPlain (Now core request) new s text
+    go : (op : Option Open) → s.waiting ≡ op → MeetsOpen w s op → Disturbs op (Now core request) ⊎ IsPlain (Now core request) new s text
     go (Some op) e k = inl tt
     go None e calm =
         let top : events_of new ≡ v.calls.events = ap events_of is in
@@ -380,7 +393,7 @@ pub record IsPlainSome (line : Option Line) (new : Stage) (s : Reached) (text : 
   pub reached : ReachedAt new next
 
 some_plain : (line : Option Line) (old new : Stage) (s : Reached) (text : List ℕ) → takes_apart line ≡ false → events_of new < event_limit → ReachedAt old s
-    → IsSomeAnd line (λ l. LineActs old l new text) → IsSomeAnd line (λ said. Overlaps s.waiting said) ⊎ IsPlainSome line new s text
+    → IsSomeAnd line (λ l. LineActs old l new text) → IsSomeAnd line (λ said. Disturbs s.waiting said) ⊎ IsPlainSome line new s text
 some_plain None old new s text f below r a = absurd a
 some_plain (Some line) old new s text f below r a = elim (line_plain line old new s text f below r a) [
   | inl over ↦ inl over
@@ -398,7 +411,7 @@ all_plain (l ∷ ls) old new s text f below r (mid, front, rest, short, acts, mo
     (some_plain (line_of l) old mid s front f.0 (omega (arith, up, below)) r acts.acts)
   where
     go : ((next : Reached) → ReachedAt mid next → AllAnswer next ls rest)
-        → IsSomeAnd (line_of l) (λ said. Overlaps s.waiting said) ⊎ IsPlainSome (line_of l) mid s front → AllAnswer s (l ∷ ls) text
+        → IsSomeAnd (line_of l) (λ said. Disturbs s.waiting said) ⊎ IsPlainSome (line_of l) mid s front → AllAnswer s (l ∷ ls) text
     go later (inl over) = inl over
     go later (inr k) = inr (front, rest, is, (k.next, k.answers, later k.next k.reached))
 

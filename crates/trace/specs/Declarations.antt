@@ -47,10 +47,13 @@ file_at files n = file_of (slice_get files n)
 
 -- ---- the machine
 
+-- one of the files has too many bytes
+abbrev pub has_long : List FileLine → Bool
+has_long files = list_any (λ file. is_too_long file.len) files
+
 -- what is wrong with it first, but for want of memory
 abbrev pub asked_fault : Asked → Option SetupFault
-asked_fault asked =
-    first_fault asked.cores asked.frames (length asked.files) (list_any (λ file. is_too_long file.len) asked.files) asked.calls
+asked_fault asked = first_fault asked.cores asked.frames (length asked.files) (has_long asked.files) asked.calls
 
 -- what a machine is made with
 abbrev pub made_by : Asked → Made

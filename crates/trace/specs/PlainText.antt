@@ -11,6 +11,7 @@ use Rattle.machine_model.specs.declared.event.Outcome.TheVariants.{Stepped, Wait
 use Rattle.machine_model.specs.World.{World}
 use Rattle.machine_model.specs.Step.{event_limit}
 use Rattle.machine_sound.specs.Log.{Stands}
+use Rattle.machine_alone.specs.Copies.{page_copied, with_copy}
 use Rattle.machine_alone.specs.Taken.{is_access}
 use Rattle.machine_alone.specs.Users.{Users, users_after}
 use Rattle.trace_text.specs.Line.{line_of}
@@ -18,6 +19,7 @@ use Rattle.trace_text.specs.declared.action.Action.{Action}
 use Rattle.trace_text.specs.declared.action.Action.TheVariants as By
 use Rattle.trace_text.specs.declared.line.Line.{Line}
 use Rattle.trace_text.specs.declared.line.Line.TheVariants.{Blank, Space, File, Act, Fold, Finish, Now}
+use Rattle.trace.specs.declared.declaration.FileLine.{FileLine}
 use Rattle.trace.specs.Declarations.{file_of}
 use Rattle.trace.specs.OutcomeText.{outcome_text}
 use Rattle.trace.specs.Stage.{Start, Running}
@@ -56,32 +58,38 @@ nothing_reached = record {
 
 -- ---- a call
 
+-- The plain map gives the request this reply, and is then after. A private page that has shown its file's page gets a copy before a store to
+-- it that is done.
+abbrev pub Replies : Plain → ℕ → Request → Reply → Plain → Type 0
+Replies t core request reply after = Stands (with_copy t (page_copied t request reply)) core request reply after
+
 -- The request has this reply, and the plain map and the users go on. (The reply is that map's; where more accesses were made than there are
 -- frames, "no frame" may answer one that the map would serve, and changes nothing.)
 pub record IsAnswered (s : Reached) (core : ℕ) (request : Request) (reply : Reply) (r : Reached)
     (text : List ℕ) : Type 0 where
   pub after : Plain
-  pub stands : Stands s.plain core request reply after
+  pub replies : Replies s.plain core request reply after
   pub given : reply ≢ NoMemory
   pub framed : reply ≡ NoFrame → s.frames < s.accesses
-  pub next : r ≡ record s { plain = after; users = users_after core request reply s.users; waiting = None }
+  pub next : r ≡ record s { plain = after; users = users_after s.plain core request reply s.users; waiting = None }
   pub tells : text ≡ outcome_text (Answered reply)
 
 -- core d, another one, uses a page that the reply leaves without users
 abbrev pub IsDropped : Reached → ℕ → Request → Reply → ℕ → Type 0
 IsDropped s core request reply d = (d ≢ core)
-    × ((p : ℕ) × (s.users p d ≡ true) × (users_after core request reply s.users p d ≡ false))
+    × ((p : ℕ) × (s.users p d ≡ true) × (users_after s.plain core request reply s.users p d ≡ false))
 
 -- the reply drops no other core: it is given at once
 abbrev pub AnswersAtOnce : Reached → ℕ → Request → Reached → List ℕ → Type 0
 AnswersAtOnce s core request r text =
     (reply : Reply) × IsAnswered s core request reply r text × ((d : ℕ) → IsDropped s core request reply d → ⊥)
 
--- the reply that the map would give drops some cores: the call waits for two takes of each of them
+-- The reply that the map would give drops some cores: the call waits for two takes of each of them. (A store whose page is to get a copy
+-- drops just the other users of the page.)
 pub record IsHeldUp (s : Reached) (core : ℕ) (request : Request) (r : Reached) (text : List ℕ) : Type 0 where
   pub reply : Reply
   pub after : Plain
-  pub stands : Stands s.plain core request reply after
+  pub replies : Replies s.plain core request reply after
   pub set : ℕ
   pub some : (d : ℕ) × (members set d ≡ true)
   pub exact : (d : ℕ) → (members set d ≡ true) ↔ IsDropped s core request reply d
@@ -114,10 +122,14 @@ pub record IsStillHeldUp (s : Reached) (o : Open) (r : Reached) (text : List ℕ
   pub next : r ≡ s
   pub tells : text ≡ outcome_text (Wait (Acks set))
 
--- once none has, it is answered
+-- no core has a take before it any more
+abbrev pub AwaitsNobody : Open → Type 0
+AwaitsNobody o = (d : ℕ) → o.takes d ≡ 0
+
+-- once it awaits nobody, it is answered: it has a frame if it needs one
 abbrev pub OpenAnswers : Reached → Open → Reached → List ℕ → Type 0
 OpenAnswers s o r text =
-    ((reply : Reply) × IsAnswered s o.core o.request reply r text × ((d : ℕ) → o.takes d ≡ 0))
+    ((reply : Reply) × IsAnswered s o.core o.request reply r text × (reply ≢ NoFrame) × AwaitsNobody o)
     ⊎ IsStillHeldUp s o r text
 
 -- nothing happens
@@ -156,27 +168,32 @@ ActAnswers s core By.Review r text = MayStep s r text
 ActAnswers s core (By.Walk page) r text = MayStep s r text
 ActAnswers s core (By.Evict page) r text = MayStep s r text
 
+-- the map with the file that a line asks for
+abbrev pub with_opened : Plain → ℕ → FileLine → Plain
+with_opened t n file = record t { file = put t.file n (file_of (Some file)) }
+
 -- what a line gives, and how far the trace has come then
 abbrev pub LineAnswers : Reached → Line → Reached → List ℕ → Type 0
 LineAnswers s Blank r text = (r ≡ s) × (text ≡ [])
 LineAnswers s (Space cores frames calls) r text = (r ≡ record s { cores = cores; frames = frames; calls = calls }) × (text ≡ [])
 LineAnswers s (File n mode len seed) r text =
-    (r ≡ record s { plain = record s.plain { file = put s.plain.file n (file_of (Some (record { mode = mode; len = len; seed = seed }))) } }) × (text ≡ [])
+    (r ≡ record s { plain = with_opened s.plain n (record { mode = mode; len = len; seed = seed }) }) × (text ≡ [])
 LineAnswers s (Finish core) r text = FinishAnswers s s.waiting core r text
 LineAnswers s (Now core request) r text = NowAnswers s core request r text
 LineAnswers s (Act core action) r text = ActAnswers s core action r text
 LineAnswers s (Fold page) r text = MayStep s r text
 
--- a call of a line while another waits
-abbrev pub Overlaps : Option Open → Line → Type 0
-Overlaps (Some o) (Now core request) = Unit {0}
-Overlaps waiting line = ⊥
+-- A call of a line while another waits; or a store that awaits nobody any more (no other access waits) is given up.
+abbrev pub Disturbs : Option Open → Line → Type 0
+Disturbs (Some o) (Now core request) = Unit {0}
+Disturbs (Some o) (Act core By.GiveUp) = (core ≡ o.core) × (is_access o.request ≡ true) × AwaitsNobody o
+Disturbs waiting line = ⊥
 
--- the text of the lines up to the first call beside one that waits; of what comes from there on nothing is said
+-- the text of the lines up to the first that disturbs a call; of what comes from there on nothing is said
 abbrev pub AllAnswer : Reached → List (List ℕ) → List ℕ → Type 0
 AllAnswer s [] text = text ≡ []
 AllAnswer s (line ∷ lines) text =
-    IsSomeAnd (line_of line) (λ said. Overlaps s.waiting said)
+    IsSomeAnd (line_of line) (λ said. Disturbs s.waiting said)
     ⊎ ((front : List ℕ) × (rest : List ℕ) × (text ≡ front ++ rest)
     × ((r : Reached) × IsSomeAnd (line_of line) (λ said. LineAnswers s said r front) × AllAnswer r lines rest))
 

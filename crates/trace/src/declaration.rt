@@ -1,9 +1,7 @@
 //! What the `vm` and `file` lines of a trace ask for.
 ghost use Rattle.std.specs.Prelude.{◌≡◌, ◌≢◌, ◌≤◌, [], false, length, map, IfOk, IfErr};
-ghost use Rattle.std.specs.List.{list_any};
 ghost use Rattle.backing.specs.Given.{given_files};
-ghost use Rattle.core_steps.specs.Setups.{is_too_long};
-ghost use Rattle.trace.specs.Declarations.{bytes_of, file_at};
+ghost use Rattle.trace.specs.Declarations.{bytes_of, file_at, has_long};
 
 use arrayvec::ArrayVec;
 use backing::FileSpec;
@@ -63,6 +61,13 @@ impl Model for Declaration {
     ghost invariant = { λ s. length s.files.items ≤ 17 };
 }
 
+// Tells whether one of the files has more bytes than a file may have.
+fn has_long(files: &[FileLine]) -> bool
+    ensures { result ≡ has_long files.now }
+{
+    files.iter().any(|file| file.len > FILE_LIMIT)
+}
+
 // The bytes of a file.
 fn bytes_of<A: Allocator>(alloc: A, file: FileLine) -> Result<Vec<u8, A>, AllocError>
     requires { file.len ≤ 1048576 }
@@ -82,7 +87,7 @@ fn specs_of<A: Allocator + Clone>(
     alloc: A,
     files: &[FileLine],
 ) -> Result<Vec<FileSpec<A>, A>, AllocError>
-    requires { list_any (λ file. is_too_long file.len) files.now ≡ false }
+    requires { has_long files.now ≡ false }
     ensures given { IfOk result (λ specs. given_files specs.items ≡ file_at files.now) }
     ensures asked { IfErr result (λ refused. files.now ≢ []) }
     ensures lengths { IfOk result (λ specs. map (λ spec. length spec.bytes.items) specs.items ≡ map (λ file. file.len) files.now) }
@@ -142,9 +147,14 @@ impl Declaration {
     pub fn fault(&self) -> Option<SetupFault>
         ensures { result ≡ asked_fault self.now }
     {
-        let has_long = self.files.iter().any(|file| file.len > FILE_LIMIT);
         let files = self.files.len() as u64;
-        first_fault(self.cores, self.frames, files, has_long, self.calls)
+        first_fault(
+            self.cores,
+            self.frames,
+            files,
+            has_long(self.files.as_slice()),
+            self.calls,
+        )
     }
 
     /// The setup that is asked for, where it has no fault. The bytes of its files are made here, and the error says that memory

@@ -1,5 +1,7 @@
-//! Traces of one core and of several, whose lines take messages, walk, evict, count and fold, and the text that each gives.
+//! Traces of one core and of several, whose lines open files, take messages, walk, evict, count and fold, and the text that each gives.
+use crate::fault::TraceFault;
 use crate::replay::replay;
+use core_steps::SetupFault;
 use std::test::Fail;
 use trace_io::sink::Noted;
 use trace_io::source::Counted;
@@ -71,6 +73,84 @@ fn events_of_several_cores(rt: HostRuntime) -> Result<(), Fail> {
         let mut writer = Noted::new(Vec::new(rt.alloc()));
         assert_eq!(rt; replay(rt.alloc(), &mut reader, &mut writer), Ok(()));
         assert_eq!(rt; writer.writer.as_slice(), output);
+    }
+    Ok(())
+}
+
+// Files of one core and of two: what their pages show, what may be mapped of them, and the copy that a private page gets for a store.
+#[test]
+fn events_of_files(rt: HostRuntime) -> Result<(), Fail> {
+    for (input, output) in [
+        // Past the length the last page's bytes are zeros, and a page that the file lacks has none.
+        (
+            b"vm 1 4\nfile 0 rw 5000 7\nc0! mmap 0x10000 12288 rw- sf 0 0\nc0! load 0x11387\nc0! load 0x11388\nc0! load 0x12000\n".as_slice(),
+            b"0x10000\n142\n0\nbus\n".as_slice(),
+        ),
+        // Of a file open for reading alone no shared page may be written, and a store to a private one leaves the file as it was.
+        (
+            b"vm 1 4\nfile 0 r 4096 1\nc0! mmap 0x10000 4096 rw- sf 0 0\nc0! mmap 0x10000 4096 r-- sf 0 0\nc0! mprotect 0x10000 4096 rw-\nc0! mmap 0x20000 4096 rw- pf 0 0\nc0! store 0x20000 9\nc0! load 0x10000\n".as_slice(),
+            b"eacces\n0x10000\neacces\n0x20000\ndone\n1\n".as_slice(),
+        ),
+        // A private page shows what is stored through a shared one, until a store to itself.
+        (
+            b"vm 1 4\nfile 0 rw 4096 0\nc0! mmap 0x10000 4096 rw- pf 0 0\nc0! mmap 0x20000 4096 rw- sf 0 0\nc0! load 0x10005\nc0! store 0x20005 99\nc0! load 0x10005\nc0! store 0x10005 7\nc0! load 0x20005\n".as_slice(),
+            b"0x10000\n0x20000\n5\ndone\n99\ndone\n99\n".as_slice(),
+        ),
+        // A store to a private page that another core reads waits for that core alone, which then reads the copy.
+        (
+            b"vm 2 4\nfile 0 r 4096 0\nc0! mmap 0x10000 4096 rw- pf 0 0\nc0! load 0x10005\nc1! load 0x10005\nc0! store 0x10005 9\nc1 take\nc1 take\nc0 finish\nc1! load 0x10005\nc1! load 0x10006\n".as_slice(),
+            b"0x10000\n5\n5\nwait acks 1\nstep\nstep\ndone\n9\n6\n".as_slice(),
+        ),
+        // What is refused of a mapping of a file: both sharings, no such file, an offset within a page, and an end past the last offset.
+        (
+            b"vm 1 4\nfile 0 rw 10 0\nc0! mmap 0x10000 4096 rw- psfa\nc0! mmap 0x10000 4096 rw- fa\nc0! mmap 0x10001 4096 rw- pfa\nc0! mmap 0 4096 rw- pfa\nc0! mmap 0 4096 r-- p 7 0\nc0! mmap 0 4096 r-- p 0 1\nc0! mmap 0 4096 r-- p 0 0x800000000000\n".as_slice(),
+            b"einval\neinval\neinval\nenomem\nebadf\neinval\neoverflow\n".as_slice(),
+        ),
+    ] {
+        let mut reader = Counted::new(input);
+        let mut writer = Noted::new(Vec::new(rt.alloc()));
+        assert_eq!(rt; replay(rt.alloc(), &mut reader, &mut writer), Ok(()));
+        assert_eq!(rt; writer.writer.as_slice(), output);
+    }
+    Ok(())
+}
+
+// A bad line of a file is told where it stands; what is wrong with the files together, where the space is made.
+#[test]
+fn files_that_are_refused(rt: HostRuntime) -> Result<(), Fail> {
+    for (input, fault) in [
+        // The first file has the number 0.
+        (
+            b"vm 1 4\nfile 1 r 4096 0\n".as_slice(),
+            TraceFault::BadLine(2),
+        ),
+        // A number comes once, and the line counts as a file's while no space is made.
+        (
+            b"vm 0 4\nfile 0 r 1 0\nfile 0 r 1 0\nc0! frob\n".as_slice(),
+            TraceFault::BadLine(3),
+        ),
+        // A space is made before the first line of an event is read, and no file opens behind it.
+        (
+            b"vm 0 4\nfile 0 r 1 0\nc0! frob\n".as_slice(),
+            TraceFault::Setup(SetupFault::Cores),
+        ),
+        (
+            b"vm 1 4\nc0! load 0\nfile 0 r 1 0\n".as_slice(),
+            TraceFault::BadLine(3),
+        ),
+        // Seventeen files, and a file that is too long by one byte.
+        (
+            b"vm 1 4\nfile 0 r 1 0\nfile 1 r 1 0\nfile 2 r 1 0\nfile 3 r 1 0\nfile 4 r 1 0\nfile 5 r 1 0\nfile 6 r 1 0\nfile 7 r 1 0\nfile 8 r 1 0\nfile 9 r 1 0\nfile 10 r 1 0\nfile 11 r 1 0\nfile 12 r 1 0\nfile 13 r 1 0\nfile 14 r 1 0\nfile 15 r 1 0\nfile 16 r 1 0\n".as_slice(),
+            TraceFault::Setup(SetupFault::TooManyFiles),
+        ),
+        (
+            b"vm 1 4\nfile 0 r 1048577 0\n".as_slice(),
+            TraceFault::Setup(SetupFault::FileTooLong),
+        ),
+    ] {
+        let mut reader = Counted::new(input);
+        let mut writer = Noted::new(Vec::new(rt.alloc()));
+        assert_eq!(rt; replay(rt.alloc(), &mut reader, &mut writer), Err(fault));
     }
     Ok(())
 }
