@@ -148,10 +148,16 @@ chron_tells n calls requests log call stat c reply e h = record {
     ]
   ];
   copies = λ i step k page a. elim (get_either log new i (Detach step k page) a) [
-    | inl l ↦ let old = h.copies i step k page l.0 in (old.0, old.1, old.2, old.3, λ j later core r b. elim (get_either log new j (Answer later k core r) b) [
-      | inl m ↦ old.4 j later core r m.0
-      | inr m ↦ let at = m.0 in let lt = l.1 in omega (arith, at, lt)
-    ])
+    | inl l ↦ let old = h.copies i step k page l.0 in (
+      old.0,
+      old.1,
+      old.2,
+      old.3,
+      λ j later core r b. elim (get_either log new j (Answer later k core r) b) [
+        | inl m ↦ old.4 j later core r m.0
+        | inr m ↦ let at = m.0 in let lt = l.1 in omega (arith, at, lt)
+      ],
+    )
     | inr l ↦ absurd (let other = ap is_reply l.1 in cc)
   ];
   stands = put_all (λ d s. Stands (suc n) calls (log ++ new ∷ []) d (call d) s) stat c (Told reply) (mine.0, (length log, n, get_new log new, omega arith)) (λ d ne. other d ne (stat d) (h.stands d));
@@ -216,9 +222,13 @@ chron_detaches n calls requests log call stat c page request e number store h = 
         let same : k ≡ call c = ap call_in l.1 in
         let here : at ≡ page = ap page_in l.1 in
         let now : step ≡ n = ap step_of l.1 in
-        let lt = h.before (call c) own.0 own.1 in
-        (own.0, ap (nth calls) same ∙ own.1, subst (λ p. IsStoreTo own.0.request p) (sym here) (subst (λ r. IsStoreTo r page) (sym asks) store),
-            omega (arith, now, lt), λ j later core r b. absurd (mine.1 j later core r (subst (λ n. IsAnswer log j later n core r) same (old j later k core r b))))
+        let lt = h.before (call c) own.0 own.1 in (
+          own.0,
+          ap (nth calls) same ∙ own.1,
+          subst (λ p. IsStoreTo own.0.request p) (sym here) (subst (λ r. IsStoreTo r page) (sym asks) store),
+          omega (arith, now, lt),
+          λ j later core r b. absurd (mine.1 j later core r (subst (λ n. IsAnswer log j later n core r) same (old j later k core r b))),
+        )
   ];
   stands = λ d. stands d (stat d) (h.stands d);
 }

@@ -592,9 +592,11 @@ copies_kept : (w : World) (c : ℕ) (touch : Touch) (f x : ℕ) (counts : Counts
 copies_kept w c touch f x counts g lt e t =
     let k : IsCallOf w c (CopyAcks touch f) = call_at w c (CopyAcks touch f) e g in
     let new : Option PageInfo = info_copied f (w.slots.info touch.page) in
-    copies_page w c touch (CopyAcks touch f) (Install touch) new (after_copy c touch f x counts w).memory e g lt refl refl refl (λ n k f h. h) k.asked
-    (f, subst (λ o. IsUsable w.made.file o touch.access (Some f)) (sym (put_same w.slots.info touch.page new))
-        (copied_usable w.made f k.ready.0 (w.slots.info touch.page) touch.access k.ready.1))
+    copies_page w c touch (CopyAcks touch f) (Install touch) new (after_copy c touch f x counts w).memory e g lt refl refl refl (λ n k f h. h) k.asked (
+      f,
+      subst (λ o. IsUsable w.made.file o touch.access (Some f)) (sym (put_same w.slots.info touch.page new))
+          (copied_usable w.made f k.ready.0 (w.slots.info touch.page) touch.access k.ready.1),
+    )
     (λ x h. cc) (copied_belongs w.made touch.page f (w.slots.info touch.page) (k.taken f refl) (g.pages touch.page))
     (written w.made (record w.memory { counts = counts }) _
     (counted w.made (record w.memory { counts = t.0 }) (Dec c x) counts (counted w.made w.memory (Begin f 1) t.0 g.memory t.1) t.2))

@@ -13,5 +13,9 @@ pub enum Entry {
     },
     /// The private page has a copy of its own from the event with the number `step` on, made for the store that the call with
     /// this number is. Until then it showed its file's page.
-    Detach { step: u64, call: u64, page: u64 },
+    Detach {
+        step: u64,
+        call: u64,
+        page: u64,
+    },
 }

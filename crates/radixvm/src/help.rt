@@ -13,7 +13,7 @@ pub const TRACE: &str = "\
 Input, a line of at most 256 bytes each; a line that begins with # says nothing:
   vm CORES FRAMES [CALLS]   first: the size of the space (CALLS is 4096 where left out)
   file N MODE LEN SEED      then each file: N is 0, 1, 2 and so on, MODE is r, w or rw,
-                            and of the LEN bytes byte I is (SEED + I) modulo 256; SEED is below 256
+                            and of the LEN bytes byte I is (SEED + I) modulo 256
   cC! REQ                   core C makes a call, whose reply is written
   cC call REQ               core C begins a call
   cC go                     one step of core C's call
