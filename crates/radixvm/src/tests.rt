@@ -245,6 +245,12 @@ fn faults_of_the_text(rt: HostRuntime) -> Result<(), Fail> {
         (b"vm 0 4\nvm 1 4", b"radixvm: setup S1\n"),
         (b"vm 0 4\n#\x01", b"radixvm: line 2: bad line\n"),
         (b"vm 1 65537", b"radixvm: setup S2\n"),
+        (b"vm 1 4\nfile 1 r 4096 0", b"radixvm: line 2: bad line\n"),
+        (
+            b"vm 1 4\nfile 0 r 1 0\nfile 1 r 1 0\nfile 2 r 1 0\nfile 3 r 1 0\nfile 4 r 1 0\nfile 5 r 1 0\nfile 6 r 1 0\nfile 7 r 1 0\nfile 8 r 1 0\nfile 9 r 1 0\nfile 10 r 1 0\nfile 11 r 1 0\nfile 12 r 1 0\nfile 13 r 1 0\nfile 14 r 1 0\nfile 15 r 1 0\nfile 16 r 1 0",
+            b"radixvm: setup S3\n",
+        ),
+        (b"vm 1 4\nfile 0 r 1048577 0", b"radixvm: setup S4\n"),
         (b"vm 1 1 1048577", b"radixvm: setup S5\n"),
     ] {
         let ran = run(rt.alloc(), input, AMPLE);
@@ -362,6 +368,7 @@ fn help_and_version(rt: HostRuntime) -> Result<(), Fail> {
         let ran = run_words(rt.alloc(), &rt.alloc(), words, b"", AMPLE);
         let text = str::from_utf8(&ran.out)?;
         for part in [
+            "file N MODE LEN SEED",
             "cC! REQ",
             "mprotect ADDR LEN PROT",
             "segv maperr",
