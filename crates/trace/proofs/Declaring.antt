@@ -75,9 +75,9 @@ pub same_fault : {A : Type 0} (cores frames calls : ℕ) (specs : List (FileSpec
     ≡ first_fault cores frames (length own) (list_any (λ file. is_too_long file.len) own) calls
 same_fault cores frames calls specs files own same e =
     let count : length specs ≡ length files =
-        sym (length-map specs (λ spec. length spec.bytes.items)) ∙ ap length e ∙ length-map files (λ file. file.len) in
+    sym (length-map specs (λ spec. length spec.bytes.items)) ∙ ap length e ∙ length-map files (λ file. file.len) in
     let long : list_any (λ file. is_too_long (length file.bytes.items)) specs ≡ list_any (λ file. is_too_long file.len) files =
-        any_of_map (λ spec. length spec.bytes.items) is_too_long specs ∙ ap (list_any is_too_long) e ∙ sym (any_of_map (λ file. file.len) is_too_long files) in
+    any_of_map (λ spec. length spec.bytes.items) is_too_long specs ∙ ap (list_any is_too_long) e ∙ sym (any_of_map (λ file. file.len) is_too_long files) in
     ap (λ n. first_fault cores frames n (list_any (λ file. is_too_long (length file.bytes.items)) specs) calls) count
     ∙ ap (λ b. first_fault cores frames (length files) b calls) long
     ∙ ap (λ fs. first_fault cores frames (length fs) (list_any (λ file. is_too_long file.len) fs) calls) same

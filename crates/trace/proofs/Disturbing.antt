@@ -66,7 +66,7 @@ gives_up w s core m = go s.waiting m.waiting
               | for_change change held is r ↦ inr (inl (ap (λ c. can_give_up (w.calls.phase c)) same ∙ ap can_give_up is))
               | for_copy touch frame is r ↦
                   let call : IsCallOf w o.core (CopyAcks touch frame) =
-                      call_at w o.core (CopyAcks touch frame) is (reached_fine w m.reached).order in
+                  call_at w o.core (CopyAcks touch frame) is (reached_fine w m.reached).order in
                   let access : is_access o.request ≡ true = its_access w o.core touch o.request z.waiting.number call.asked in
                   elim (some_above o.takes w.made.cores) [
                     | inl h ↦ inr (inr (h.0, subst (λ n. 0 < n) (sym (z.takes h.0)) h.1))

@@ -42,8 +42,8 @@ pub line_gives : {U : Type 0} (line : Option Line) (l : Line) (r : Result U NoMe
 line_gives line l r u P e k h = subst (λ o. IsSomeAnd o P) (sym e) (subst (λ r. OnOk r (P l)) k h)
 
 -- a machine is made of what is asked for
-pub opened : (asked : Option Asked) (a : Asked) (slots : Slots) (w : World) → asked ≡ Some a → asked_fault a ≡ None → IsNew slots → w ≡ new_world (made_by a) slots
-    → Opens (stage_of asked None) w
+pub opened : (asked : Option Asked) (a : Asked) (slots : Slots) (w : World) → asked ≡ Some a → asked_fault a ≡ None → IsNew slots
+    → w ≡ new_world (made_by a) slots → Opens (stage_of asked None) w
 opened asked a slots w e none new is = subst (λ o. Opens (stage_of o None) w) (sym e) (none, (slots, new, is))
 
 pub can_open : (s : Stage) (w : World) → Opens s w → CanOpen s

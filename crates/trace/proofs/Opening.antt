@@ -44,11 +44,10 @@ IsDeclared a s = length a.files < 17 → (a.next ≡ length a.files) × (s ≡ d
 pub declares_space : (cores frames calls : ℕ) (s : Reached) → s ≡ nothing_reached
     → IsDeclared (asks_for cores frames calls) (record s { cores = cores; frames = frames; calls = calls })
 declares_space cores frames calls s e l =
-    let none : nothing_mapped (λ n. None) ≡ nothing_mapped (file_at []) = ap nothing_mapped (fun_ext (λ n. refl)) in
-    (
+    let none : nothing_mapped (λ n. None) ≡ nothing_mapped (file_at []) = ap nothing_mapped (fun_ext (λ n. refl)) in (
       refl,
       ap (λ (s : Reached). record s { cores = cores; frames = frames; calls = calls }) e
-      ∙ ap (λ t. record nothing_reached { cores = cores; frames = frames; calls = calls; plain = t }) none,
+          ∙ ap (λ t. record nothing_reached { cores = cores; frames = frames; calls = calls; plain = t }) none,
     )
 
 number_of : (a : Asked) (n : ℕ) → is_next a n ≡ true → n ≡ a.next
@@ -68,11 +67,10 @@ declares_file a n file s next d = go (nat_lt (length a.files) 17) refl
     go true few l =
         let was = d (grind (arith, nat_tests)) in
         let count : length (a.files ++ file ∷ []) ≡ length a.files + 1 = length-append a.files (file ∷ []) in
-        let number : a.next ≡ length a.files = was.0 in
-        (
+        let number : a.next ≡ length a.files = was.0 in (
           omega (arith, count, number),
           ap (λ (s : Reached). record s { plain = with_opened s.plain n file }) was.1
-          ∙ ap (λ f. record (declared_so a) { plain = nothing_mapped f }) (one_more a.files file n (number_of a n next ∙ number)),
+              ∙ ap (λ f. record (declared_so a) { plain = nothing_mapped f }) (one_more a.files file n (number_of a n next ∙ number)),
         )
     go false many l = absurd (let few : nat_lt (length a.files) 17 ≡ true = grind (arith, nat_tests) in cc)
 
@@ -82,7 +80,7 @@ few_files a none = go (nat_lt a.cores 1 || nat_lt 64 a.cores) (nat_lt 65536 a.fr
   where
     go : (x y z : Bool) → nat_lt 16 (length a.files) ≡ z
         → (if x then Some Cores else if y then Some Frames else if z then Some TooManyFiles
-            else if has_long a.files then Some FileTooLong else if nat_lt 1048576 a.calls then Some Calls else None) ≡ None
+        else if has_long a.files then Some FileTooLong else if nat_lt 1048576 a.calls then Some Calls else None) ≡ None
         → length a.files < 17
     go true y z e h = absurd cc
     go false true z e h = absurd cc

@@ -266,8 +266,8 @@ others_dropped core request range users p d ne = go (is_access request)
 
 -- of a call that waits: whom it waits for
 held_up : (w x v : World) (s : Reached) (core : ℕ) (request : Request) (o : Outcome) (text : List ℕ) → s.cores ≡ w.made.cores → s.calls ≡ w.made.calls
-    → recorded w.slots ≡ s.users → x.made ≡ w.made → s.begun ≡ length x.calls.requests → s.frames ≡ w.made.frames → frames_taken w + frames_for request ≤ s.accesses
-    → IsReached v → IsAwaiting w x s.plain core request o v
+    → recorded w.slots ≡ s.users → x.made ≡ w.made → s.begun ≡ length x.calls.requests → s.frames ≡ w.made.frames
+    → frames_taken w + frames_for request ≤ s.accesses → IsReached v → IsAwaiting w x s.plain core request o v
     → text ≡ outcome_text o → IsNext v (λ r. IsHeldUp s core request r text)
 held_up w x v s core request o text cores calls users made begun frames most reached a t =
     record {
@@ -375,8 +375,8 @@ call_ends w begun core n request (Last o) v s text m calm call made asked below 
     framed o d e =
         let none : NoneFree w.memory.is_free = subst (λ r. IsDue (Ev.Go core) w.memory.is_free (Answer 0 0 core r)) e (d.due 0 0) in
         let all : frames_taken w ≡ w.made.frames = all_taken w.memory.is_free w.made.frames none in
-        let access : is_access request ≡ true = no_frame_access s.plain d.after core request 
-            (subst (λ r. Stands (with_copy s.plain (page_copied s.plain request r)) core request r d.after) e d.stands) in
+        let access : is_access request ≡ true = no_frame_access s.plain d.after core request
+        (subst (λ r. Stands (with_copy s.plain (page_copied s.plain request r)) core request r d.after) e d.stands) in
         let one : frames_for request ≡ 1 = ap (λ (b : Bool). if b then 1 else 0) access in
         let frames = m.frames in
         let before = m.taken in
