@@ -171,20 +171,28 @@ event_next line old new es os text r (w, v, opens, gives, is) =
       outcomes = m.outcomes;
       asks = m.asks;
       reached = subst (λ s. IsReached s (es ++ m.events) (os ++ m.outcomes)) (sym is)
-          (record { asked = h.asked; slots = h.slots; new = h.new; run = run_then es m.events os m.outcomes (new_world (made_by h.asked) h.slots) w v h.run m.run });
+          (record {
+            asked = h.asked;
+            slots = h.slots;
+            new = h.new;
+            run = run_then es m.events os m.outcomes (new_world (made_by h.asked) h.slots) w v h.run m.run;
+          });
     }
 
 space_next : (a : Asked) (old new : Stage) (es : List Event) (os : List Outcome) → IsReached old es os → old ≡ Start → new ≡ Declared a → IsReached new es os
 space_next a old new es os r e n = subst (λ x. IsReached x es os) (sym n) (subst (λ x. IsReached x es os) e r)
 
-file_next : (a b : Asked) (old new : Stage) (es : List Event) (os : List Outcome) → IsReached old es os → old ≡ Declared a → new ≡ Declared b → IsReached new es os
+file_next : (a b : Asked) (old new : Stage) (es : List Event) (os : List Outcome) → IsReached old es os → old ≡ Declared a
+    → new ≡ Declared b → IsReached new es os
 file_next a b old new es os r e n = subst (λ x. IsReached x es os) (sym n) (subst (λ x. IsReached x es os) e r)
 
 line_next : (line : Line) (old new : Stage) (es : List Event) (os : List Outcome) (text : List ℕ) → IsReached old es os
     → LineActs old line new text → IsNext line new es os text
 line_next Blank old new es os text r a = nothing_asked Blank new es os text (refl, refl, a.1) (subst (λ s. IsReached s es os) (sym a.0) r)
-line_next (Space cores frames calls) old new es os text r a = nothing_asked (Space cores frames calls) new es os text (refl, refl, a.2) (space_next _ old new es os r a.0 a.1)
-line_next (File n mode len seed) old new es os text r a = nothing_asked (File n mode len seed) new es os text (refl, refl, a.4) (file_next a.0 _ old new es os r a.1 a.3)
+line_next (Space cores frames calls) old new es os text r a =
+    nothing_asked (Space cores frames calls) new es os text (refl, refl, a.2) (space_next _ old new es os r a.0 a.1)
+line_next (File n mode len seed) old new es os text r a =
+    nothing_asked (File n mode len seed) new es os text (refl, refl, a.4) (file_next a.0 _ old new es os r a.1 a.3)
 line_next (Act core action) old new es os text r a = event_next (Act core action) old new es os text r a
 line_next (Fold page) old new es os text r a = event_next (Fold page) old new es os text r a
 line_next (Finish core) old new es os text r a = event_next (Finish core) old new es os text r a

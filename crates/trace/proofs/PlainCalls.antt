@@ -266,8 +266,8 @@ others_dropped core request range users p d ne = go (is_access request)
 
 -- of a call that waits: whom it waits for
 held_up : (w x v : World) (s : Reached) (core : ℕ) (request : Request) (o : Outcome) (text : List ℕ) → s.cores ≡ w.made.cores → s.calls ≡ w.made.calls
-    → recorded w.slots ≡ s.users → x.made ≡ w.made → s.begun ≡ length x.calls.requests → s.frames ≡ w.made.frames → frames_taken w + frames_for request ≤ s.accesses
-    → IsReached v → IsAwaiting w x s.plain core request o v
+    → recorded w.slots ≡ s.users → x.made ≡ w.made → s.begun ≡ length x.calls.requests → s.frames ≡ w.made.frames
+    → frames_taken w + frames_for request ≤ s.accesses → IsReached v → IsAwaiting w x s.plain core request o v
     → text ≡ outcome_text o → IsNext v (λ r. IsHeldUp s core request r text)
 held_up w x v s core request o text cores calls users made begun frames most reached a t =
     record {

@@ -56,7 +56,13 @@ impl Model for Declaration {
 
     ghost Value = { Asked };
 
-    ghost view = { λ s. record { cores = s.cores; frames = s.frames; calls = s.calls; next = s.next; files = s.files.items } };
+    ghost view = { λ s. record {
+      cores = s.cores;
+      frames = s.frames;
+      calls = s.calls;
+      next = s.next;
+      files = s.files.items;
+    } };
 
     ghost invariant = { λ s. length s.files.items ≤ 17 };
 }
@@ -90,7 +96,8 @@ fn specs_of<A: Allocator + Clone>(
     requires { has_long files.now ≡ false }
     ensures given { IfOk result (λ specs. given_files specs.items ≡ file_at files.now) }
     ensures asked { IfErr result (λ refused. files.now ≢ []) }
-    ensures lengths { IfOk result (λ specs. map (λ spec. length spec.bytes.items) specs.items ≡ map (λ file. file.len) files.now) }
+    ensures lengths { IfOk result (λ specs.
+        map (λ spec. length spec.bytes.items) specs.items ≡ map (λ file. file.len) files.now) }
 {
     if files.is_empty() {
         return Ok(Vec::new(alloc));

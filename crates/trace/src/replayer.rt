@@ -23,7 +23,9 @@ pub trait Staged {
     /// is the line's first. After a fault no other line is acted on.
     fn act(&mut self, number: u64, line: &[u8], text: &mut LineText) -> Result<(), TraceFault>
         ensures ok { OnOk result (Acts (stage self.old) line.now (stage self.new) text.new.bytes) }
-        ensures err { IfErr result (λ f. ((f ≡ TraceFault.NoMemory) × LineWants (stage self.old) line.now) ⊎ LineFails (stage self.old) number line.now f) };
+        ensures err { IfErr result (λ f.
+            ((f ≡ TraceFault.NoMemory) × LineWants (stage self.old) line.now)
+            ⊎ LineFails (stage self.old) number line.now f) };
 
     /// Ends the trace: a machine is made where no line has made one yet.
     fn finish(&self) -> Result<(), TraceFault>
@@ -100,7 +102,8 @@ impl<A: Allocator + Clone + Drop> Replayer<A> {
         file: FileLine,
         text: &mut LineText,
     ) -> Result<(), TraceFault>
-        ensures ok { OnOk result (LineActs (⟦<Self as Staged>⟧.stage self.old) (Line.File next file.mode file.len file.seed) (⟦<Self as Staged>⟧.stage self.new) text.new.bytes) }
+        ensures ok { OnOk result (LineActs (⟦<Self as Staged>⟧.stage self.old)
+            (Line.File next file.mode file.len file.seed) (⟦<Self as Staged>⟧.stage self.new) text.new.bytes) }
         ensures err { IfErr result (λ f. FileFails (⟦<Self as Staged>⟧.stage self.old) number next f) }
     {
         if self.machine.is_some() {
