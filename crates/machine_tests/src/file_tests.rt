@@ -1,9 +1,5 @@
 //! Pages of files, row by row: shared ones, private ones that are read and then stored to, and copies that wait for other cores.
-use crate::rows::{first_wrong, machine};
-use core_steps::Machine;
-use machine_model::Entry;
-use slot_lock::RunList;
-use std::alloc::Allocator;
+use crate::rows::moved;
 use std::test::Fail;
 use trace::declaration::{Declaration, FileLine};
 use vm_base::Mode;
@@ -144,16 +140,6 @@ c0! mmap 0x10000 4096 r-- pf 0 0x7ffffffff000 = eacces
 c0! mmap 0x10000 4096 rw- sf 0 0 = eacces
 ";
 
-/// The index of the log's first copy, its call and its page.
-fn first_copy<A: Allocator + Clone>(machine: &Machine<RunList<A>, A>) -> Option<(usize, u64, u64)> {
-    for (at, entry) in machine.log().iter().enumerate() {
-        if let Entry::Detach { call, page, .. } = *entry {
-            return Some((at, call, page));
-        }
-    }
-    None
-}
-
 #[test]
 fn pages_of_files(rt: HostRuntime) -> Result<(), Fail> {
     for (frames, (mode, len, seed), lines, logged, copy) in [
@@ -172,10 +158,10 @@ fn pages_of_files(rt: HostRuntime) -> Result<(), Fail> {
     ] {
         let mut declared = Declaration::new(2, frames, 16);
         declared.add(0, FileLine { mode, len, seed });
-        let mut machine = machine(rt.alloc(), &declared)?;
-        assert_eq!(rt; first_wrong(&mut machine, lines), None);
-        assert_eq!(rt; machine.log().len(), logged);
-        assert_eq!(rt; first_copy(&machine), copy);
+        let came = moved(rt.alloc(), &declared, lines)?;
+        assert_eq!(rt; came.wrong, None);
+        assert_eq!(rt; came.logged, logged);
+        assert!(rt; came.copy == copy);
     }
     Ok(())
 }

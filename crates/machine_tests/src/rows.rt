@@ -1,7 +1,8 @@
 //! A machine over a list of runs, and lines of text that move it.
 use core_steps::Machine;
+use machine_model::Entry;
 use slot_lock::RunList;
-use std::alloc::Allocator;
+use std::alloc::{Allocator, Global};
 use trace::declaration::Declaration;
 use trace::event_lines::run_line;
 use trace::outcome_text::LineText;
@@ -43,4 +44,37 @@ pub fn first_wrong<A: Allocator + Clone>(
         }
     }
     None
+}
+
+/// The index of the log's first copy, its call and its page.
+fn first_copy(log: &[Entry]) -> Option<(usize, u64, u64)> {
+    for at in 0..log.len() {
+        if let Entry::Detach { call, page, .. } = log[at] {
+            return Some((at, call, page));
+        }
+    }
+    None
+}
+
+/// What lines came to.
+#[derive(Clone, Copy)]
+pub struct Came {
+    /// The number of the first line that gave something else.
+    pub wrong: Option<usize>,
+    /// How many entries the log has.
+    pub logged: usize,
+    /// The index of the log's first copy, its call and its page.
+    pub copy: Option<(usize, u64, u64)>,
+}
+
+/// Moves a new machine by these lines.
+pub fn moved(alloc: Global, declared: &Declaration, lines: &str) -> Result<Came, NoMemory> {
+    let mut machine = machine(alloc, declared)?;
+    let wrong = first_wrong(&mut machine, lines);
+    let log = machine.log();
+    Ok(Came {
+        wrong,
+        logged: log.len(),
+        copy: first_copy(log),
+    })
 }
