@@ -1,450 +1,219 @@
-//! Several cores, translations, messages, and frames that come back, row by row.
-use core_steps::{Finished, Machine, Setup};
-use linked_list_allocator::LocalHeap;
-use machine_model::{Blocker, Event, Outcome};
-use slot_lock::RunList;
-use std::alloc::Allocator;
+//! Cores, translations, messages, and frames that come back, row by row.
+use crate::rows::{first_wrong, machine, moved};
+use std::alloc::Global;
 use std::test::Fail;
-use vm_base::{CoreId, CoreSet, Flags, NoMemory, Prot, Reply, Request, SegvCode};
+use trace::declaration::Declaration;
+use vm_base::{CoreId, NoMemory};
 
-/// What a core does, and what it must come to.
-#[derive(Clone, Copy)]
-pub enum Row {
-    /// One event.
-    Does(u8, Act, Came),
-    /// Steps of the core's call up to the first that isn't Stepped.
-    Ends(u8, Came),
-    /// A whole call.
-    Answers(u8, Request, Reply),
-}
+/// A byte is stored and loaded, and the next one is zero.
+const STORED: &str = "\
+c0! mmap 0x10000 4096 rw- pfa = 0x10000
+c0! store 0x10004 41 = done
+c0! load 0x10004 = 41
+c0! load 0x10005 = 0
+";
 
-/// An event of a core.
-#[derive(Clone, Copy)]
-pub enum Act {
-    Call(Request),
-    Go,
-    Frame(u64),
-    Take,
-    Walk(u64),
-    Evict(u64),
-    Flush,
-    Review,
-    Fold(u64),
-    GiveUp,
-}
-
-/// What an event came to.
-#[derive(Clone, Copy)]
-pub enum Came {
-    Stepped,
-    Idle,
-    /// The core that holds the slot.
-    WaitsForSlot(u8),
-    /// The one core that hasn't acknowledged.
-    WaitsForAcks(u8),
-    Answered(Reply),
-}
-
-const MAPPED: Reply = Reply::Mapped(0x10000);
-
-const UNMAPPED: Reply = Reply::Segv(SegvCode::MapErr);
-
-const LOAD: Request = Request::Load { addr: 0x10000 };
-
-const STORE: Request = Request::Store {
-    addr: 0x10000,
-    byte: 65,
-};
-
-const STORE_NEXT: Request = Request::Store {
-    addr: 0x11000,
-    byte: 66,
-};
-
-const UNMAP: Request = Request::Munmap {
-    addr: 0x10000,
-    len: 4096,
-};
-
-/// One page at 0x10000, rw-, private, fixed, anonymous.
-const MAP: Request = Request::Mmap {
-    addr: 0x10000,
-    len: 4096,
-    prot: READ_WRITE,
-    flags: FIXED,
-    file: 0,
-    off: 0,
-};
-
-/// The same, and the page after it.
-const MAP_TWO: Request = Request::Mmap {
-    addr: 0x10000,
-    len: 8192,
-    prot: READ_WRITE,
-    flags: FIXED,
-    file: 0,
-    off: 0,
-};
-
-const READ_WRITE: Prot = Prot {
-    read: true,
-    write: true,
-    exec: false,
-};
-
-const FIXED: Flags = Flags {
-    private: true,
-    shared: false,
-    fixed: true,
-    anon: true,
-};
-
-fn machine<A: Allocator + Clone + Drop>(
-    alloc: A,
-    cores: u64,
-    frames: u64,
-) -> Result<Machine<RunList<A>, A>, NoMemory> {
-    let setup = Setup {
-        cores,
-        frames,
-        files: Vec::new(alloc.clone()?),
-        calls: 16,
-    };
-    let map = RunList::new(alloc.clone()?)?;
-    match Machine::new(alloc, map, setup) {
-        Ok(machine) => Ok(machine),
-        Err(_) => Err(NoMemory),
-    }
-}
-
-/// The core of this number.
-pub fn core(index: u8) -> CoreId {
-    CoreId::new(index % 64)
-}
-
-/// The core's event.
-fn event_of(index: u8, act: Act) -> Event {
-    match act {
-        Act::Call(request) => Event::Call(core(index), request),
-        Act::Go => Event::Go(core(index)),
-        Act::Frame(frame) => Event::Frame(core(index), frame),
-        Act::Take => Event::Take(core(index)),
-        Act::Walk(page) => Event::Walk(core(index), page),
-        Act::Evict(page) => Event::Evict(core(index), page),
-        Act::Flush => Event::Flush(core(index)),
-        Act::Review => Event::Review(core(index)),
-        Act::Fold(page) => Event::Fold(page),
-        Act::GiveUp => Event::GiveUp(core(index)),
-    }
-}
-
-/// The outcome that is meant.
-fn outcome_of(came: Came) -> Outcome {
-    match came {
-        Came::Stepped => Outcome::Stepped,
-        Came::Idle => Outcome::Idle,
-        Came::WaitsForSlot(by) => Outcome::Wait(Blocker::Slot(core(by))),
-        Came::WaitsForAcks(of) => Outcome::Wait(Blocker::Acks(CoreSet::empty().with(core(of)))),
-        Came::Answered(reply) => Outcome::Answered(reply),
-    }
-}
-
-/// What a whole call comes to. One that can't begin is Stepped, which no call comes to.
-fn answer<A: Allocator + Clone>(
-    machine: &mut Machine<RunList<A>, A>,
-    core: CoreId,
-    request: Request,
-) -> Result<Outcome, NoMemory> {
-    match machine.step(Event::Call(core, request))? {
-        Outcome::Stepped => ended(machine, core),
-        _ => Ok(Outcome::Stepped),
-    }
-}
-
-/// What a row came to, and what it must come to.
-fn outcome<A: Allocator + Clone>(
-    machine: &mut Machine<RunList<A>, A>,
-    row: Row,
-) -> Result<(Outcome, Outcome), NoMemory> {
-    match row {
-        Row::Does(index, act, came) => {
-            Ok((machine.step(event_of(index, act))?, outcome_of(came)))
-        }
-        Row::Ends(index, came) => Ok((ended(machine, core(index))?, outcome_of(came))),
-        Row::Answers(index, request, reply) => Ok((
-            answer(machine, core(index), request)?,
-            Outcome::Answered(reply),
-        )),
-    }
-}
-
-/// The outcome that ends the core's steps.
-fn ended<A: Allocator + Clone>(
-    machine: &mut Machine<RunList<A>, A>,
-    core: CoreId,
-) -> Result<Outcome, NoMemory> {
-    match machine.finish(core)? {
-        Finished::Last(outcome) => Ok(outcome),
-        Finished::Stuck => Ok(Outcome::Stepped),
-    }
-}
-
-/// The index of the first row that came to something else.
-pub fn first_wrong<A: Allocator + Clone>(
-    machine: &mut Machine<RunList<A>, A>,
-    rows: &[Row],
-) -> Result<Option<usize>, NoMemory> {
-    for at in 0..rows.len() {
-        let (came, want) = outcome(machine, rows[at])?;
-        if came != want {
-            return Ok(Some(at));
-        }
-    }
-    Ok(None)
-}
+/// A protection changes on all pages or on none.
+const PROTECTED: &str = "\
+c0! mmap 0x10000 4096 rw- pfa = 0x10000
+c0! mprotect 0x10000 8192 r-- = enomem
+c0! store 0x10fff 7 = done
+c0! fetch 0x10fff = segv accerr
+c0! mprotect 0x10000 4096 r-- = done
+c0! store 0x10fff 7 = segv accerr
+c0! load 0x10fff = 7
+c0! munmap 0x10000 1 = done
+c0! load 0x10fff = segv maperr
+";
 
 /// Two cores: the mapping of one is dropped by the other.
-const SHOOTDOWN: [Row; 14] = [
-    Row::Answers(0, MAP, MAPPED),
-    Row::Answers(0, STORE, Reply::Done),
-    Row::Answers(1, LOAD, Reply::Byte(65)),
-    Row::Does(0, Act::Call(UNMAP), Came::Stepped),
-    Row::Ends(0, Came::WaitsForAcks(1)),
-    Row::Answers(1, LOAD, Reply::Byte(65)),
-    Row::Does(1, Act::Take, Came::Stepped),
-    Row::Ends(0, Came::WaitsForAcks(1)),
-    Row::Does(1, Act::Take, Came::Stepped),
-    Row::Does(1, Act::Take, Came::Idle),
-    Row::Does(1, Act::Call(LOAD), Came::Stepped),
-    Row::Ends(1, Came::WaitsForSlot(0)),
-    Row::Ends(0, Came::Answered(Reply::Done)),
-    Row::Ends(1, Came::Answered(UNMAPPED)),
-];
-
-#[test]
-fn a_shootdown_waits_for_both_takes(rt: HostRuntime) -> Result<(), Fail> {
-    let mut machine = machine(rt.alloc(), 2, 4)?;
-    let wrong = first_wrong(&mut machine, SHOOTDOWN.as_slice())?;
-    assert_eq!(rt; wrong, None);
-    Ok(())
-}
+const SHOOTDOWN: &str = "\
+c0! mmap 0x10000 4096 rw- pfa = 0x10000
+c0! store 0x10000 65 = done
+c1! load 0x10000 = 65
+c0 call munmap 0x10000 4096 = step
+c0 finish = wait acks 1
+c1! load 0x10000 = 65
+c1 take = step
+c0 finish = wait acks 1
+c1 take = step
+c1 take = idle
+c1! load 0x10000 = wait slot 0
+c0 finish = done
+c1 finish = segv maperr
+";
 
 /// Two cores map one page: the check, two divisions and the lock, and then the other core waits.
-const HELD: [Row; 10] = [
-    Row::Does(0, Act::Call(MAP), Came::Stepped),
-    Row::Does(0, Act::Go, Came::Stepped),
-    Row::Does(0, Act::Go, Came::Stepped),
-    Row::Does(0, Act::Go, Came::Stepped),
-    Row::Does(0, Act::Go, Came::Stepped),
-    Row::Does(1, Act::Call(MAP), Came::Stepped),
-    Row::Ends(1, Came::WaitsForSlot(0)),
-    Row::Does(1, Act::Go, Came::WaitsForSlot(0)),
-    Row::Ends(0, Came::Answered(MAPPED)),
-    Row::Ends(1, Came::Answered(MAPPED)),
-];
-
-#[test]
-fn a_held_slot_is_waited_for(rt: HostRuntime) -> Result<(), Fail> {
-    let mut machine = machine(rt.alloc(), 2, 4)?;
-    let wrong = first_wrong(&mut machine, HELD.as_slice())?;
-    assert_eq!(rt; wrong, None);
-    Ok(())
-}
+const HELD: &str = "\
+c0 call mmap 0x10000 4096 rw- pfa = step
+c0 go = step
+c0 go = step
+c0 go = step
+c0 go = step
+c1! mmap 0x10000 4096 rw- pfa = wait slot 0
+c1 go = wait slot 0
+c0 finish = 0x10000
+c1 finish = 0x10000
+";
 
 /// One frame, which two pages want one after the other.
-const REUSED: [Row; 10] = [
-    Row::Answers(0, MAP_TWO, MAPPED),
-    Row::Answers(0, STORE, Reply::Done),
-    Row::Answers(0, UNMAP, Reply::Done),
-    Row::Answers(0, STORE_NEXT, Reply::NoFrame),
-    Row::Does(0, Act::Flush, Came::Stepped),
-    Row::Does(0, Act::Flush, Came::Stepped),
-    Row::Does(0, Act::Review, Came::Idle),
-    Row::Does(0, Act::Flush, Came::Stepped),
-    Row::Does(0, Act::Review, Came::Stepped),
-    Row::Answers(0, STORE_NEXT, Reply::Done),
-];
+const REUSED: &str = "\
+c0! mmap 0x10000 8192 rw- pfa = 0x10000
+c0! store 0x10000 65 = done
+c0! munmap 0x10000 4096 = done
+c0! store 0x11000 66 = noframe
+c0 flush = step
+c0 flush = step
+c0 review = idle
+c0 flush = step
+c0 review = step
+c0! store 0x11000 66 = done
+";
 
-#[test]
-fn a_frame_comes_back_by_review(rt: HostRuntime) -> Result<(), Fail> {
-    let mut machine = machine(rt.alloc(), 1, 1)?;
-    let wrong = first_wrong(&mut machine, REUSED.as_slice())?;
-    assert_eq!(rt; wrong, None);
-    Ok(())
-}
+/// No frame at all.
+const NONE_LEFT: &str = "\
+c0! mmap 0x10000 4096 rw- pfa = 0x10000
+c0! load 0x10000 = noframe
+";
 
 /// Two cores, of which the machine may have the second or not.
-const WALKED: [Row; 11] = [
-    Row::Answers(0, MAP, MAPPED),
-    Row::Does(0, Act::Walk(16), Came::Idle),
-    Row::Answers(0, STORE, Reply::Done),
-    Row::Does(0, Act::Walk(16), Came::Idle),
-    Row::Does(0, Act::Evict(16), Came::Stepped),
-    Row::Does(0, Act::Evict(16), Came::Idle),
-    Row::Does(0, Act::Walk(16), Came::Stepped),
-    Row::Does(0, Act::Walk(16), Came::Idle),
-    Row::Does(0, Act::Walk(0), Came::Idle),
-    Row::Does(1, Act::Walk(16), Came::Idle),
-    Row::Answers(0, LOAD, Reply::Byte(65)),
-];
+const WALKED: &str = "\
+c0! mmap 0x10000 4096 rw- pfa = 0x10000
+c0 walk 0x10000 = idle
+c0! store 0x10000 65 = done
+c0 walk 0x10000 = idle
+c0 evict 0x10000 = step
+c0 evict 0x10000 = idle
+c0 walk 0x10000 = step
+c0 walk 0x10000 = idle
+c0 walk 0x0 = idle
+c1 walk 0x10000 = idle
+c0! load 0x10000 = 65
+";
+
+/// The slots left and right of a page that was unmapped.
+const JOINED: &str = "\
+fold 0xf000 = idle
+c0! mmap 0x10000 4096 rw- pfa = 0x10000
+fold 0xf000 = idle
+c0! munmap 0x10000 4096 = done
+fold 0x0 = idle
+fold 0xf000 = step
+fold 0xf000 = step
+fold 0xf000 = idle
+";
+
+/// Four frames, numbered from 0. The check, the fault, the lock and the look at the slot come before one is taken.
+const ASKED: &str = "\
+c0! mmap 0x10000 4096 rw- pfa = 0x10000
+c0 call store 0x10000 65 = step
+c0 frame 3 = idle
+c0 go = step
+c0 go = step
+c0 go = step
+c0 go = step
+c0 frame 4 = idle
+c0 frame 3 = step
+c0 frame 2 = idle
+c0 finish = done
+";
 
 #[test]
-fn a_translation_is_walked_and_evicted(rt: HostRuntime) -> Result<(), Fail> {
-    for cores in 1..3 {
-        let mut machine = machine(rt.alloc(), cores, 4)?;
-        let wrong = first_wrong(&mut machine, WALKED.as_slice())?;
-        assert_eq!(rt; wrong, None);
+fn events_come_to_what_they_must(rt: HostRuntime) -> Result<(), Fail> {
+    for (cores, frames, lines) in [
+        (1, 4, STORED),
+        (1, 4, PROTECTED),
+        (2, 4, SHOOTDOWN),
+        (2, 4, HELD),
+        (1, 1, REUSED),
+        (1, 0, NONE_LEFT),
+        (1, 4, WALKED),
+        (2, 4, WALKED),
+        (1, 4, JOINED),
+    ] {
+        let came = moved(rt.alloc(), &Declaration::new(cores, frames, 16), lines)?;
+        assert_eq!(rt; came.wrong, None);
     }
     Ok(())
 }
 
-/// Four frames, numbered from 0. The check, the fault, the lock and the look at the slot come before one is taken.
-const ASKED: [Row; 11] = [
-    Row::Answers(0, MAP, MAPPED),
-    Row::Does(0, Act::Call(STORE), Came::Stepped),
-    Row::Does(0, Act::Frame(3), Came::Idle),
-    Row::Does(0, Act::Go, Came::Stepped),
-    Row::Does(0, Act::Go, Came::Stepped),
-    Row::Does(0, Act::Go, Came::Stepped),
-    Row::Does(0, Act::Go, Came::Stepped),
-    Row::Does(0, Act::Frame(4), Came::Idle),
-    Row::Does(0, Act::Frame(3), Came::Stepped),
-    Row::Does(0, Act::Frame(2), Came::Idle),
-    Row::Ends(0, Came::Answered(Reply::Done)),
-];
+/// The entry of page 16 before and after the lines, if they give what they must.
+fn entries(alloc: Global) -> Result<Option<(Option<u64>, Option<u64>)>, NoMemory> {
+    let mut machine = machine(alloc, &Declaration::new(1, 4, 16))?;
+    if machine.cores() != 1 {
+        return Ok(None);
+    }
+    let before = machine.entry(CoreId::new(0), 16);
+    if first_wrong(&mut machine, ASKED).is_some() || machine.cores() != 1 {
+        return Ok(None);
+    }
+    Ok(Some((before, machine.entry(CoreId::new(0), 16))))
+}
 
 #[test]
 fn a_frame_is_asked_for_by_number(rt: HostRuntime) -> Result<(), Fail> {
-    let mut machine = machine(rt.alloc(), 1, 4)?;
-    assert_eq!(rt; machine.cores(), 1);
-    assert_eq!(rt; machine.entry(CoreId::new(0), 16), None);
-    let wrong = first_wrong(&mut machine, ASKED.as_slice())?;
-    assert_eq!(rt; wrong, None);
-    assert_eq!(rt; machine.cores(), 1);
     // frame 3 with P, R/W, U/S and XD
-    assert_eq!(rt;
-        machine.entry(CoreId::new(0), 16),
-        Some(0x8000_0000_0000_3007)
-    );
+    let last = Some(0x8000_0000_0000_3007);
+    assert!(rt; entries(rt.alloc())? == Some((None, last)));
     Ok(())
 }
 
-/// The slots left and right of a page that was unmapped.
-const JOINED: [Row; 8] = [
-    Row::Does(0, Act::Fold(15), Came::Idle),
-    Row::Answers(0, MAP, MAPPED),
-    Row::Does(0, Act::Fold(15), Came::Idle),
-    Row::Answers(0, UNMAP, Reply::Done),
-    Row::Does(0, Act::Fold(0), Came::Idle),
-    Row::Does(0, Act::Fold(15), Came::Stepped),
-    Row::Does(0, Act::Fold(15), Came::Stepped),
-    Row::Does(0, Act::Fold(15), Came::Idle),
-];
+/// A call that is given up while it can be.
+const GIVEN_UP: &str = "\
+c0 giveup = step
+c0 finish = nomemory
+c0 giveup = idle
+";
 
-#[test]
-fn slots_are_joined(rt: HostRuntime) -> Result<(), Fail> {
-    let mut machine = machine(rt.alloc(), 1, 4)?;
-    let wrong = first_wrong(&mut machine, JOINED.as_slice())?;
-    assert_eq!(rt; wrong, None);
-    Ok(())
-}
+/// One whose reply stands.
+const TOO_LATE: &str = "\
+c0 giveup = idle
+c0 finish = done
+c0 giveup = idle
+";
 
-/// Tells whether a call that is given up after so many steps is answered so, and the same request then goes through: the only
+/// Tells whether a call goes so many steps, the lines then give what they must, and the same request goes through afterwards: the only
 /// frame can be had.
-fn gives_up<A: Allocator + Clone + Drop>(
-    alloc: A,
-    request: Request,
+fn gives_up(
+    alloc: Global,
+    call: &str,
     steps: u64,
-    came: Outcome,
-    reply: Reply,
+    lines: &str,
+    again: &str,
 ) -> Result<bool, NoMemory> {
-    let first = CoreId::new(0);
-    let mut machine = machine(alloc, 1, 1)?;
-    answer(&mut machine, first, MAP)?;
-    machine.step(Event::Call(first, request))?;
+    let mut machine = machine(alloc, &Declaration::new(1, 1, 16))?;
+    let mapping = "c0! mmap 0x10000 4096 rw- pfa = 0x10000";
+    let mut is_right = first_wrong(&mut machine, mapping).is_none();
+    is_right = first_wrong(&mut machine, call).is_none() && is_right;
     for _step in 0..steps {
-        machine.step(Event::Go(first))?;
+        is_right = first_wrong(&mut machine, "c0 go = step").is_none() && is_right;
     }
-    let given_up = machine.step(Event::GiveUp(first))?;
-    let last = ended(&mut machine, first)?;
-    let late = machine.step(Event::GiveUp(first))?;
-    let again = answer(&mut machine, first, request)?;
-    Ok(
-        given_up == came
-            && last == Outcome::Answered(reply)
-            && late == Outcome::Idle
-            && again == Outcome::Answered(Reply::Done),
-    )
+    is_right = first_wrong(&mut machine, lines).is_none() && is_right;
+    Ok(first_wrong(&mut machine, again).is_none() && is_right)
 }
 
 #[test]
 fn a_call_is_given_up_until_its_reply_stands(rt: HostRuntime) -> Result<(), Fail> {
-    // the check, the lock, the decision and the post; then the change is awaited
-    for steps in 0..7 {
-        let (came, reply) = if steps < 4 {
-            (Outcome::Stepped, Reply::NoMemory)
-        } else {
-            (Outcome::Idle, Reply::Done)
-        };
-        let is_right = gives_up(rt.alloc(), UNMAP, steps, came, reply)?;
-        assert!(rt; is_right);
+    for (call, again, change, end) in [
+        // the check, the lock, the decision and the post; then the change is awaited
+        (
+            "c0 call munmap 0x10000 4096 = step",
+            "c0! munmap 0x10000 4096 = done",
+            4,
+            7,
+        ),
+        // the check, the fault, the lock, the look at the slot, the frame, its bytes, the entry, the unlocking and the access
+        (
+            "c0 call store 0x10000 65 = step",
+            "c0! store 0x10000 65 = done",
+            9,
+            10,
+        ),
+    ] {
+        for steps in 0..end {
+            let lines = if steps < change { GIVEN_UP } else { TOO_LATE };
+            assert!(rt; gives_up(rt.alloc(), call, steps, lines, again)?);
+        }
     }
-    // the check, the fault, the lock, the look at the slot, the frame, its bytes, the entry, the unlocking and the access
-    for steps in 0..10 {
-        let (came, reply) = if steps < 9 {
-            (Outcome::Stepped, Reply::NoMemory)
-        } else {
-            (Outcome::Idle, Reply::Done)
-        };
-        let is_right = gives_up(rt.alloc(), STORE, steps, came, reply)?;
-        assert!(rt; is_right);
-    }
-    Ok(())
-}
-
-/// Stores a byte while all but `room` bytes of the machine's heap are taken; the slot map has memory of its own. Where the entry is
-/// refused, they are given back. Tells whether it was refused, and whether the log was as it should be, then and in the end.
-fn store_in<A: Allocator + Clone + Drop>(
-    heap: &LocalHeap,
-    alloc: A,
-    room: usize,
-) -> Result<(bool, bool), NoMemory> {
-    let first = CoreId::new(0);
-    let map = RunList::new(alloc)?;
-    let setup = Setup {
-        cores: 1,
-        frames: 1,
-        files: Vec::new(heap),
-        calls: 2,
-    };
-    let Ok(mut machine) = Machine::new(heap, map, setup) else {
-        return Err(NoMemory);
-    };
-    machine.step(Event::Call(first, MAP))?;
-    machine.finish(first)?;
-    machine.step(Event::Call(first, STORE))?;
-    let taken: Vec<u8, _> = Vec::with_capacity(heap, heap.free().saturating_sub(room))?;
-    let is_refused = machine.finish(first).is_err();
-    let is_unchanged = machine.step(Event::Go(first)).is_err() && machine.log().len() == 1;
-    drop(taken);
-    machine.finish(first)?;
-    Ok((
-        is_refused,
-        is_unchanged == is_refused && machine.log().len() == 2,
-    ))
-}
-
-#[test]
-fn a_refused_entry_changes_nothing(rt: HostRuntime) -> Result<(), Fail> {
-    let heap = LocalHeap::new(rt.alloc(), 200_000)?;
-    let mut refusals = 0u32;
-    for step in 0..100 {
-        let (is_refused, is_right) = store_in(&heap, rt.alloc(), 512 * step)?;
-        assert!(rt; is_right);
-        refusals = refusals.saturating_add(is_refused as u32);
-    }
-    // below the root three tables of at least 4096 bytes are made
-    assert!(rt; refusals > 23);
-    assert!(rt; refusals < 99);
     Ok(())
 }

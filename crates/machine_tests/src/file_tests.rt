@@ -1,321 +1,167 @@
 //! Pages of files, row by row: shared ones, private ones that are read and then stored to, and copies that wait for other cores.
-use crate::core_tests::{Act, Came, Row, core, first_wrong};
-use backing::FileSpec;
-use core_steps::{Machine, Setup};
-use linked_list_allocator::LocalHeap;
-use machine_model::{Entry, Event};
-use slot_lock::RunList;
-use std::alloc::Allocator;
+use crate::rows::moved;
 use std::test::Fail;
-use vm_base::{Flags, Mode, NoMemory, Prot, Reply, Request};
+use trace::declaration::{Declaration, FileLine};
+use vm_base::Mode;
 
-const READ_WRITE: Prot = Prot {
-    read: true,
-    write: true,
-    exec: false,
-};
-
-/// Of a mapping of a file whose stores change the file.
-const SHARED: Flags = Flags {
-    private: false,
-    shared: true,
-    fixed: true,
-    anon: false,
-};
-
-/// Of one whose stores don't.
-const PRIVATE: Flags = Flags {
-    private: true,
-    shared: false,
-    fixed: true,
-    anon: false,
-};
-
-const NO_FILE: Flags = Flags {
-    private: true,
-    shared: false,
-    fixed: true,
-    anon: true,
-};
-
-/// The first page of file 0, shared.
-const MAP_SHARED: Request = Request::Mmap {
-    addr: 0x10000,
-    len: 4096,
-    prot: READ_WRITE,
-    flags: SHARED,
-    file: 0,
-    off: 0,
-};
-
-/// The same, private.
-const MAP_PRIVATE: Request = Request::Mmap {
-    addr: 0x10000,
-    len: 4096,
-    prot: READ_WRITE,
-    flags: PRIVATE,
-    file: 0,
-    off: 0,
-};
-
-/// The same page of the file at the next page.
-const MAP_NEXT: Request = Request::Mmap {
-    addr: 0x11000,
-    len: 4096,
-    prot: READ_WRITE,
-    flags: SHARED,
-    file: 0,
-    off: 0,
-};
-
-const MAP_NEXT_PRIVATE: Request = Request::Mmap {
-    addr: 0x11000,
-    len: 4096,
-    prot: READ_WRITE,
-    flags: PRIVATE,
-    file: 0,
-    off: 0,
-};
-
-/// And a page after it, which the file doesn't have.
-const MAP_NEXT_TWO: Request = Request::Mmap {
-    addr: 0x11000,
-    len: 8192,
-    prot: READ_WRITE,
-    flags: SHARED,
-    file: 0,
-    off: 0,
-};
-
-/// A page without a file.
-const MAP_LAST: Request = Request::Mmap {
-    addr: 0x12000,
-    len: 4096,
-    prot: READ_WRITE,
-    flags: NO_FILE,
-    file: 0,
-    off: 0,
-};
-
-const MAPPED: Reply = Reply::Mapped(0x10000);
-
-const MAPPED_NEXT: Reply = Reply::Mapped(0x11000);
-
-const MAPPED_LAST: Reply = Reply::Mapped(0x12000);
-
-const LOAD: Request = Request::Load { addr: 0x10000 };
-
-const LOAD_NEXT: Request = Request::Load { addr: 0x11000 };
-
-const STORE: Request = Request::Store {
-    addr: 0x10000,
-    byte: 65,
-};
-
-const STORE_NEXT: Request = Request::Store {
-    addr: 0x11000,
-    byte: 66,
-};
-
-const STORE_LAST: Request = Request::Store {
-    addr: 0x12000,
-    byte: 67,
-};
-
-/// A machine with one file of the bytes 7 and 8.
-fn machine<A: Allocator + Clone + Drop>(
-    alloc: A,
-    cores: u64,
-    frames: u64,
-) -> Result<Machine<RunList<A>, A>, NoMemory> {
-    let mut bytes = Vec::new(alloc.clone()?);
-    bytes.push(7)?;
-    bytes.push(8)?;
-    let mut files = Vec::new(alloc.clone()?);
-    files.push(FileSpec {
-        mode: Mode::RW,
-        bytes,
-    })?;
-    let setup = Setup {
-        cores,
-        frames,
-        files,
-        calls: 16,
-    };
-    let map = RunList::new(alloc.clone()?)?;
-    match Machine::new(alloc, map, setup) {
-        Ok(machine) => Ok(machine),
-        Err(_) => Err(NoMemory),
-    }
-}
-
-/// The index of the log's first copy, its call and its page.
-fn first_copy(log: &[Entry]) -> Option<(usize, u64, u64)> {
-    for at in 0..log.len() {
-        if let Entry::Detach { call, page, .. } = log[at] {
-            return Some((at, call, page));
-        }
-    }
-    None
-}
-
-/// Two pages of two cores show one page of the file, for which one frame is enough. Past the file's last byte are zeros, and past
-/// its last page is nothing.
-const SHOWN: [Row; 12] = [
-    Row::Answers(0, MAP_SHARED, MAPPED),
-    Row::Answers(1, MAP_NEXT_TWO, MAPPED_NEXT),
-    Row::Answers(0, LOAD, Reply::Byte(7)),
-    Row::Answers(1, LOAD_NEXT, Reply::Byte(7)),
-    Row::Answers(0, STORE, Reply::Done),
-    Row::Answers(1, LOAD_NEXT, Reply::Byte(65)),
-    Row::Answers(1, Request::Load { addr: 0x11001 }, Reply::Byte(8)),
-    Row::Answers(1, Request::Load { addr: 0x11002 }, Reply::Byte(0)),
-    Row::Answers(1, STORE_NEXT, Reply::Done),
-    Row::Answers(0, LOAD, Reply::Byte(66)),
-    Row::Answers(1, STORE_LAST, Reply::Bus),
-    Row::Answers(1, Request::Load { addr: 0x12fff }, Reply::Bus),
-];
-
-#[test]
-fn shared_pages_show_one_frame(rt: HostRuntime) -> Result<(), Fail> {
-    let mut machine = machine(rt.alloc(), 2, 1)?;
-    let wrong = first_wrong(&mut machine, SHOWN.as_slice())?;
-    assert_eq!(rt; wrong, None);
-    assert_eq!(rt; machine.log().len(), 12);
-    Ok(())
-}
+/// Two pages of two cores show one page of the file, for which one frame is enough: it is read from the file once. Past the file's
+/// last byte are zeros, and past its last page is nothing.
+const SHOWN: &str = "\
+c0! mmap 0x10000 4096 rw- sf 0 0 = 0x10000
+c1! mmap 0x11000 8192 rw- sf 0 0 = 0x11000
+c0! load 0x10000 = 7
+c1! load 0x11000 = 7
+c0! store 0x10000 65 = done
+c1! load 0x11000 = 65
+c1! load 0x11001 = 8
+c1! load 0x11002 = 0
+c1! store 0x11000 66 = done
+c0! load 0x10000 = 66
+c1! store 0x12000 67 = bus
+c1! load 0x12fff = bus
+";
 
 /// A private page that two cores read and one stores to: the other is told first, and the file keeps its bytes.
-const COPIED: [Row; 17] = [
-    Row::Answers(0, MAP_PRIVATE, MAPPED),
-    Row::Answers(0, MAP_NEXT, MAPPED_NEXT),
-    Row::Answers(0, LOAD, Reply::Byte(7)),
-    Row::Answers(1, LOAD, Reply::Byte(7)),
-    Row::Does(0, Act::Call(STORE), Came::Stepped),
-    Row::Ends(0, Came::WaitsForAcks(1)),
-    Row::Answers(1, LOAD, Reply::Byte(7)),
-    Row::Does(1, Act::Take, Came::Stepped),
-    Row::Ends(0, Came::WaitsForAcks(1)),
-    Row::Does(1, Act::Call(LOAD), Came::Stepped),
-    Row::Does(1, Act::Take, Came::Stepped),
-    Row::Ends(0, Came::Answered(Reply::Done)),
-    Row::Ends(1, Came::Answered(Reply::Byte(65))),
-    Row::Answers(0, LOAD, Reply::Byte(65)),
-    Row::Answers(0, LOAD_NEXT, Reply::Byte(7)),
-    Row::Answers(1, STORE_NEXT, Reply::Done),
-    Row::Answers(0, LOAD, Reply::Byte(65)),
-];
-
-#[test]
-fn a_copy_waits_for_both_takes(rt: HostRuntime) -> Result<(), Fail> {
-    let mut machine = machine(rt.alloc(), 2, 2)?;
-    let wrong = first_wrong(&mut machine, COPIED.as_slice())?;
-    assert_eq!(rt; wrong, None);
-    // calls 1 to 4 and 6 are answered before the copy for the store, which is call 5
-    assert_eq!(rt; first_copy(machine.log()), Some((5, 5, 16)));
-    assert_eq!(rt; machine.log().len(), 12);
-    Ok(())
-}
+const COPIED: &str = "\
+c0! mmap 0x10000 4096 rw- pf 0 0 = 0x10000
+c0! mmap 0x11000 4096 rw- sf 0 0 = 0x11000
+c0! load 0x10000 = 7
+c1! load 0x10000 = 7
+c0! store 0x10000 65 = wait acks 1
+c1! load 0x10000 = 7
+c1 take = step
+c0 finish = wait acks 1
+c1 call load 0x10000 = step
+c1 take = step
+c0 finish = done
+c1 finish = 65
+c0! load 0x10000 = 65
+c0! load 0x11000 = 7
+c1! store 0x11000 66 = done
+c0! load 0x10000 = 65
+";
 
 /// A private page that is stored to first. Nobody else has it, so that nobody is told.
-const STORED: [Row; 7] = [
-    Row::Answers(0, MAP_PRIVATE, MAPPED),
-    Row::Answers(0, STORE, Reply::Done),
-    Row::Answers(1, MAP_NEXT_PRIVATE, MAPPED_NEXT),
-    Row::Answers(1, LOAD_NEXT, Reply::Byte(7)),
-    Row::Answers(1, LOAD, Reply::Byte(65)),
-    Row::Answers(0, Request::Load { addr: 0x10001 }, Reply::Byte(8)),
-    Row::Answers(1, STORE, Reply::Done),
-];
-
-#[test]
-fn a_first_store_gets_a_copy(rt: HostRuntime) -> Result<(), Fail> {
-    let mut machine = machine(rt.alloc(), 2, 2)?;
-    let wrong = first_wrong(&mut machine, STORED.as_slice())?;
-    assert_eq!(rt; wrong, None);
-    assert_eq!(rt; first_copy(machine.log()), Some((1, 2, 16)));
-    assert_eq!(rt; machine.log().len(), 8);
-    Ok(())
-}
+const STORED: &str = "\
+c0! mmap 0x10000 4096 rw- pf 0 0 = 0x10000
+c0! store 0x10000 65 = done
+c1! mmap 0x11000 4096 rw- pf 0 0 = 0x11000
+c1! load 0x11000 = 7
+c1! load 0x10000 = 65
+c0! load 0x10001 = 8
+c1! store 0x10000 65 = done
+";
 
 /// One core has taken a frame for its page when the other's page gets the file page cached: the frame goes back, and a third page
 /// gets it.
-const MEANWHILE: [Row; 13] = [
-    Row::Answers(0, MAP_SHARED, MAPPED),
-    Row::Answers(1, MAP_NEXT, MAPPED_NEXT),
-    Row::Answers(1, MAP_LAST, MAPPED_LAST),
-    Row::Does(0, Act::Call(LOAD), Came::Stepped),
-    Row::Does(0, Act::Go, Came::Stepped),
-    Row::Does(0, Act::Go, Came::Stepped),
-    Row::Does(0, Act::Go, Came::Stepped),
-    Row::Does(0, Act::Go, Came::Stepped),
-    Row::Does(0, Act::Go, Came::Stepped),
-    Row::Answers(1, STORE_NEXT, Reply::Done),
-    Row::Answers(1, STORE_LAST, Reply::NoFrame),
-    Row::Ends(0, Came::Answered(Reply::Byte(66))),
-    Row::Answers(1, STORE_LAST, Reply::Done),
-];
-
-#[test]
-fn a_file_page_is_cached_meanwhile(rt: HostRuntime) -> Result<(), Fail> {
-    let mut machine = machine(rt.alloc(), 2, 2)?;
-    let wrong = first_wrong(&mut machine, MEANWHILE.as_slice())?;
-    assert_eq!(rt; wrong, None);
-    Ok(())
-}
+const MEANWHILE: &str = "\
+c0! mmap 0x10000 4096 rw- sf 0 0 = 0x10000
+c1! mmap 0x11000 4096 rw- sf 0 0 = 0x11000
+c1! mmap 0x12000 4096 rw- pfa = 0x12000
+c0 call load 0x10000 = step
+c0 go = step
+c0 go = step
+c0 go = step
+c0 go = step
+c0 go = step
+c1! store 0x11000 66 = done
+c1! store 0x12000 67 = noframe
+c0 finish = 66
+c1! store 0x12000 67 = done
+";
 
 /// A copy is given up only while no core is awaited for it. Its frame goes back, and the store can be made again.
-const GIVEN_UP: [Row; 16] = [
-    Row::Answers(0, MAP_PRIVATE, MAPPED),
-    Row::Answers(0, LOAD, Reply::Byte(7)),
-    Row::Answers(1, LOAD, Reply::Byte(7)),
-    Row::Does(0, Act::Call(STORE), Came::Stepped),
-    Row::Ends(0, Came::WaitsForAcks(1)),
-    Row::Does(0, Act::GiveUp, Came::Idle),
-    Row::Does(1, Act::Take, Came::Stepped),
-    Row::Does(1, Act::Take, Came::Stepped),
-    Row::Does(0, Act::GiveUp, Came::Stepped),
-    Row::Ends(0, Came::Answered(Reply::NoMemory)),
-    Row::Does(0, Act::Call(STORE), Came::Stepped),
-    Row::Ends(0, Came::WaitsForAcks(1)),
-    Row::Does(1, Act::Take, Came::Stepped),
-    Row::Does(1, Act::Take, Came::Stepped),
-    Row::Ends(0, Came::Answered(Reply::Done)),
-    Row::Answers(1, LOAD, Reply::Byte(65)),
-];
+const GIVEN_UP: &str = "\
+c0! mmap 0x10000 4096 rw- pf 0 0 = 0x10000
+c0! load 0x10000 = 7
+c1! load 0x10000 = 7
+c0! store 0x10000 65 = wait acks 1
+c0 giveup = idle
+c1 take = step
+c1 take = step
+c0 giveup = step
+c0 finish = nomemory
+c1! load 0x10000 = 7
+c0! store 0x10000 65 = wait acks 1
+c1 take = step
+c1 take = step
+c0 finish = done
+c1! load 0x10000 = 65
+";
+
+/// The copy of a page that another core has read too is made once that core took both messages.
+const OWN_COPY: &str = "\
+c0! mmap 0x10000 4096 rw- pf 0 0 = 0x10000
+c0! load 0x10005 = 5
+c1! load 0x10005 = 5
+c0! store 0x10005 9 = wait acks 1
+c1 take = step
+c1 take = step
+c0 finish = done
+c1! load 0x10005 = 9
+c1! load 0x10006 = 6
+";
+
+/// The last byte of the file, the next one, and the page after it.
+const ENDED: &str = "\
+c0! mmap 0x10000 12288 rw- sf 0 0 = 0x10000
+c0! load 0x11387 = 142
+c0! load 0x11388 = 0
+c0! load 0x12000 = bus
+";
+
+/// A file that is open for reading alone.
+const READ_ALONE: &str = "\
+c0! mmap 0x10000 4096 rw- sf 0 0 = eacces
+c0! mmap 0x10000 4096 r-- sf 0 0 = 0x10000
+c0! mprotect 0x10000 4096 rw- = eacces
+c0! mmap 0x20000 4096 rw- pf 0 0 = 0x20000
+c0! store 0x20000 9 = done
+c0! load 0x10000 = 1
+";
+
+/// A private page shows a later store to the file, until its own first one.
+const LATER: &str = "\
+c0! mmap 0x10000 4096 rw- pf 0 0 = 0x10000
+c0! mmap 0x20000 4096 rw- sf 0 0 = 0x20000
+c0! load 0x10005 = 5
+c0! store 0x20005 99 = done
+c0! load 0x10005 = 99
+c0! store 0x10005 7 = done
+c0! load 0x20005 = 99
+";
+
+/// A file that is open for writing alone: no such file comes before an end past all pages, and that before what it is open for.
+const REFUSED: &str = "\
+c0! mmap 0x10000 4096 r-- pf 1 0x7ffffffff001 = einval
+c0! mmap 0x10000 4096 r-- pf 1 0x800000000000 = ebadf
+c0! mmap 0x10000 4096 r-- pf 0 0x800000000000 = eoverflow
+c0! mmap 0x10000 4096 r-- pf 0 0x7ffffffff000 = eacces
+c0! mmap 0x10000 4096 rw- sf 0 0 = eacces
+";
 
 #[test]
-fn a_copy_is_given_up(rt: HostRuntime) -> Result<(), Fail> {
-    let mut machine = machine(rt.alloc(), 2, 2)?;
-    let wrong = first_wrong(&mut machine, GIVEN_UP.as_slice())?;
-    assert_eq!(rt; wrong, None);
-    Ok(())
-}
-
-/// Steps of core 0's store up to the one that makes its copy, which a full heap refuses. Tells whether the log stayed then, and whether
-/// the store is done and the copy logged once there is room.
-fn copies_in(heap: &LocalHeap, steps: u64) -> Result<(bool, bool), NoMemory> {
-    let mut machine = machine(heap, 1, 2)?;
-    machine.step(Event::Call(core(0), MAP_PRIVATE))?;
-    machine.finish(core(0))?;
-    machine.step(Event::Call(core(0), STORE))?;
-    for _step in 0..steps {
-        machine.step(Event::Go(core(0)))?;
+fn pages_of_files(rt: HostRuntime) -> Result<(), Fail> {
+    for (frames, (mode, len, seed), lines, logged, copy) in [
+        (1, (Mode::RW, 2, 7), SHOWN, 12, None),
+        // calls 1 to 4 and 6 are answered before the copy for the store, which is call 5
+        (2, (Mode::RW, 2, 7), COPIED, 12, Some((5, 5, 16))),
+        (2, (Mode::RW, 2, 7), STORED, 8, Some((1, 2, 16))),
+        (2, (Mode::RW, 2, 7), MEANWHILE, 7, None),
+        // of the eight calls the first store has no copy, and the second is call 6
+        (2, (Mode::RW, 2, 7), GIVEN_UP, 8, Some((5, 6, 16))),
+        (4, (Mode::R, 4096, 0), OWN_COPY, 7, Some((3, 4, 16))),
+        (4, (Mode::RW, 5000, 7), ENDED, 4, None),
+        (4, (Mode::R, 4096, 1), READ_ALONE, 7, Some((4, 5, 32))),
+        (4, (Mode::RW, 4096, 0), LATER, 8, Some((5, 6, 16))),
+        (4, (Mode::W, 4096, 0), REFUSED, 5, None),
+    ] {
+        let mut declared = Declaration::new(2, frames, 16);
+        declared.add(0, FileLine { mode, len, seed });
+        let came = moved(rt.alloc(), &declared, lines)?;
+        assert_eq!(rt; came.wrong, None);
+        assert_eq!(rt; came.logged, logged);
+        assert!(rt; came.copy == copy);
     }
-    let taken: Vec<u8, _> = Vec::with_capacity(heap, heap.free())?;
-    let is_refused = machine.step(Event::Go(core(0))).is_err();
-    let is_unchanged = is_refused && machine.log().len() == 1;
-    drop(taken);
-    machine.finish(core(0))?;
-    Ok((is_unchanged, machine.log().len() == 3))
-}
-
-#[test]
-fn a_refused_copy_changes_nothing(rt: HostRuntime) -> Result<(), Fail> {
-    // the check, the fault, the lock, the look at the slot and the frame
-    let heap = LocalHeap::new(rt.alloc(), 400_000)?;
-    let (is_unchanged, is_done) = copies_in(&heap, 5)?;
-    assert!(rt; is_unchanged);
-    assert!(rt; is_done);
     Ok(())
 }

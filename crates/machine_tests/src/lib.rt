@@ -1,5 +1,5 @@
-//! Tests of the machine over a list of runs: `core_tests` (rows of several cores), `run_tests` (whole lists of events),
-//! `file_tests` (pages of files) and `machine_tests` (one core, limits and refused memory).
+//! Tests of the machine over a list of runs: `rows` (lines of text that move it), `core_tests` (cores and frames),
+//! `file_tests` (pages of files), `limit_tests` (limits and refused memory) and `run_tests` (whole lists of events).
 #![tactic(auto)]
 
 #[cfg(test)]
@@ -7,6 +7,8 @@ mod core_tests;
 #[cfg(test)]
 mod file_tests;
 #[cfg(test)]
-mod machine_tests;
+mod limit_tests;
+#[cfg(test)]
+mod rows;
 #[cfg(test)]
 mod run_tests;

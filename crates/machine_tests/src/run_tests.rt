@@ -1,23 +1,14 @@
 //! Whole lists of events, and why they may fail.
+use backing::FileSpec;
 use core_steps::{RunFault, Setup, SetupFault, run};
 use linked_list_allocator::LocalHeap;
 use machine_model::{Entry, Event, Outcome};
 use slot_lock::RunList;
-use std::alloc::Allocator;
+use std::alloc::{Allocator, Global};
 use std::test::Fail;
-use vm_base::{CoreId, Errno, Flags, NoMemory, Prot, Reply, Request};
+use vm_base::{CoreId, Errno, Flags, Mode, NoMemory, Prot, Reply, Request};
 
-// One core, one frame, no files and two calls.
-fn small<A: Allocator>(alloc: A) -> Setup<A> {
-    Setup {
-        cores: 1,
-        frames: 1,
-        files: Vec::new(alloc),
-        calls: 2,
-    }
-}
-
-// mmap 0x10000 of so many bytes, rw-, private, fixed, anonymous, and three steps of it.
+/// mmap 0x10000 of so many bytes, rw-, private, fixed, anonymous, and three steps of it.
 fn mmap_and_go(len: u64) -> [Event; 4] {
     let core = CoreId::new(0);
     let request = Request::Mmap {
@@ -45,22 +36,27 @@ fn mmap_and_go(len: u64) -> [Event; 4] {
     ]
 }
 
-// Tells whether a run came to these outcomes and left this log.
-fn comes_to<A: Allocator + Clone + Drop>(
-    alloc: A,
+/// Tells whether a run of one core, one frame and two calls came to these outcomes and left this log.
+fn comes_to(
+    alloc: Global,
     events: &[Event],
     outcomes: &[Outcome],
     log: &[Entry],
 ) -> Result<bool, NoMemory> {
     let map = RunList::new(alloc.clone()?)?;
-    let setup = small(alloc.clone()?);
+    let setup = Setup {
+        cores: 1,
+        frames: 1,
+        files: Vec::new(alloc.clone()?),
+        calls: 2,
+    };
     match run(alloc, map, setup, events) {
         Ok(done) => Ok(done.outcomes.as_slice() == outcomes && done.machine.log() == log),
         Err(_) => Ok(false),
     }
 }
 
-// Why a run fails, if it does. The slot map has memory of its own.
+/// Why a run of three steps of a call fails, if it does. The slot map has memory of its own.
 fn fault<A: Allocator + Clone + Drop, B: Allocator + Clone + Drop>(
     alloc: A,
     slots: B,
@@ -74,6 +70,23 @@ fn fault<A: Allocator + Clone + Drop, B: Allocator + Clone + Drop>(
     }
 }
 
+/// So many files of so many bytes.
+fn files(
+    alloc: Global,
+    count: usize,
+    len: usize,
+) -> Result<Vec<FileSpec<Global>, Global>, NoMemory> {
+    let mut files = Vec::new(alloc.clone()?);
+    for _file in 0..count {
+        let bytes = vec![in alloc.clone()?; 0u8; len]?;
+        files.push(FileSpec {
+            mode: Mode::RW,
+            bytes,
+        })?;
+    }
+    Ok(files)
+}
+
 #[test]
 fn a_refused_call(rt: HostRuntime) -> Result<(), Fail> {
     let refused = Reply::Refused(Errno::EINVAL);
@@ -83,77 +96,112 @@ fn a_refused_call(rt: HostRuntime) -> Result<(), Fail> {
         Outcome::Answered(refused),
         Outcome::Idle,
     ];
-    let entry = Entry::Answer {
+    let log = [Entry::Answer {
         step: 2,
         call: 1,
         core: CoreId::new(0),
         reply: refused,
-    };
+    }];
     let events = mmap_and_go(0);
-    let log = [entry];
-    let is_right = comes_to(
-        rt.alloc(),
-        events.as_slice(),
-        outcomes.as_slice(),
-        log.as_slice(),
-    )?;
-    assert!(rt; is_right);
-    let is_nothing = comes_to(rt.alloc(), &events[..0], &outcomes[..0], &log[..0])?;
-    assert!(rt; is_nothing);
+    for (begun, logged) in [(4, 1), (0, 0)] {
+        let is_right = comes_to(
+            rt.alloc(),
+            &events[..begun],
+            &outcomes[..begun],
+            &log[..logged],
+        )?;
+        assert!(rt; is_right);
+    }
+    Ok(())
+}
+
+#[test]
+fn the_first_fault_is_told(rt: HostRuntime) -> Result<(), Fail> {
+    let cores = Some(RunFault::Setup(SetupFault::Cores));
+    let frames = Some(RunFault::Setup(SetupFault::Frames));
+    let many = Some(RunFault::Setup(SetupFault::TooManyFiles));
+    let long = Some(RunFault::Setup(SetupFault::FileTooLong));
+    let calls = Some(RunFault::Setup(SetupFault::Calls));
+    for ((cores, frames, calls), (count, len), told) in [
+        ((1, 65_536, 2), (0, 0), None),
+        ((64, 1, 1_048_576), (0, 0), None),
+        ((1, 1, 1), (16, 0), None),
+        ((1, 1, 1), (1, 1_048_576), None),
+        ((0, 65_537, 1_048_577), (17, 0), cores),
+        ((65, 65_537, 1_048_577), (0, 0), cores),
+        ((65, 1, 1), (0, 0), cores),
+        ((1, 65_537, 1_048_577), (17, 0), frames),
+        ((64, 65_537, 1), (0, 0), frames),
+        ((1, 1, 1_048_577), (17, 0), many),
+        ((1, 1, 1_048_577), (1, 1_048_577), long),
+        ((1, 1, 1_048_577), (0, 0), calls),
+    ] {
+        let setup = Setup {
+            cores,
+            frames,
+            files: files(rt.alloc(), count, len)?,
+            calls,
+        };
+        assert!(rt; fault(rt.alloc(), rt.alloc(), setup)? == told);
+    }
     Ok(())
 }
 
 // Want of memory is the last fault of a setup: there is none for a machine here.
 #[test]
-fn faults_of_the_setup(rt: HostRuntime) -> Result<(), Fail> {
-    let setups = [
+fn memory_comes_last(rt: HostRuntime) -> Result<(), Fail> {
+    let heap = LocalHeap::new(rt.alloc(), 64)?;
+    for ((cores, frames, calls), told) in [
         ((0, 65_537, 1_048_577), SetupFault::Cores),
         ((65, 65_537, 1_048_577), SetupFault::Cores),
         ((1, 65_537, 1_048_577), SetupFault::Frames),
         ((1, 65_536, 1_048_577), SetupFault::Calls),
         ((1, 65_536, 1_048_576), SetupFault::NoMemory),
-    ];
-    let heap = LocalHeap::new(rt.alloc(), 64)?;
-    for ((cores, frames, calls), told) in setups {
+    ] {
         let setup = Setup {
             cores,
             frames,
             files: Vec::new(&heap),
             calls,
         };
-        let fault = fault(&heap, rt.alloc(), setup)?;
-        assert!(rt; fault == Some(RunFault::Setup(told)));
+        assert!(rt; fault(&heap, rt.alloc(), setup)? == Some(RunFault::Setup(told)));
     }
     Ok(())
 }
 
-// In heaps from too small for the machine up to ample first the machine is refused, then the list of outcomes, and then
-// nothing is.
+// In heaps from too small for the machine up to ample first each allocation of the machine is refused, then the list of outcomes, as
+// many as there are events, and then nothing is.
 #[test]
 fn heaps_that_are_too_small(rt: HostRuntime) -> Result<(), Fail> {
-    let mut made = 0u32;
-    let mut listed = 0u32;
-    let mut whole = 0u32;
+    let mut last = 0;
+    let mut made = 0;
+    let mut listed = 0;
     for n in 0..12_000usize {
         let heap = LocalHeap::new(rt.alloc(), 64 + 16 * n)?;
-        let fault = fault(&heap, rt.alloc(), small(&heap))?;
+        let setup = Setup {
+            cores: 1,
+            frames: 1,
+            files: Vec::new(&heap),
+            calls: 2,
+        };
+        let stage = match fault(&heap, rt.alloc(), setup)? {
+            Some(RunFault::Setup(SetupFault::NoMemory)) => 0,
+            Some(RunFault::NoMemory { at: 4 }) => 1,
+            Some(_) => 3,
+            None => 2,
+        };
         assert_eq!(rt; heap.used(), 0);
-        match fault {
-            Some(RunFault::Setup(fault)) => {
-                assert!(rt; fault == SetupFault::NoMemory);
-                assert!(rt; listed == 0 && whole == 0);
-                made = made.saturating_add(1);
-            }
-            Some(RunFault::NoMemory { at }) => {
-                // as many events as there are: their outcomes found no room
-                assert_eq!(rt; at, 4);
-                assert!(rt; whole == 0);
-                listed = listed.saturating_add(1);
-            }
-            None => whole = whole.saturating_add(1),
+        assert!(rt; last <= stage && stage < 3);
+        last = stage;
+        if stage == 0 {
+            made = n;
+        }
+        if stage == 1 {
+            listed = n;
         }
     }
-    assert!(rt; made > 0 && listed > 0 && whole > 0);
+    // the inboxes alone have 64 times 63 messages of 16 bytes and more
+    assert!(rt; 4032 < made && made < listed && last == 2);
     Ok(())
 }
 
@@ -163,7 +211,13 @@ fn a_division_is_refused(rt: HostRuntime) -> Result<(), Fail> {
     let mut told = None;
     for n in 0..100usize {
         let heap = LocalHeap::new(rt.alloc(), 64 + 16 * n)?;
-        if let Ok(fault) = fault(rt.alloc(), &heap, small(rt.alloc())) {
+        let setup = Setup {
+            cores: 1,
+            frames: 1,
+            files: Vec::new(rt.alloc()),
+            calls: 2,
+        };
+        if let Ok(fault) = fault(rt.alloc(), &heap, setup) {
             told = fault;
             break;
         }
