@@ -1,4 +1,4 @@
-use Rattle.std.proofs.Common.{rules, ℕ, ◌+◌, ◌%◌, map}
+use Rattle.std.proofs.Common.{rules}
 use Rattle.trace.proofs.Declaring.{bytes_more, byte_more}
 use Rattle.trace.proofs.declaration.bytes_of.Goals as goal
 
