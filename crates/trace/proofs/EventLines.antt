@@ -4,7 +4,7 @@ use Rattle.std.specs.Prelude.{IsSomeAnd, IfErr, OnOk, OnErr, ◌⊎◌}
 use Rattle.vm_base.specs.declared.memory.NoMemory.{NoMemory}
 use Rattle.machine_model.specs.declared.event.Outcome.{Outcome}
 use Rattle.machine_model.specs.declared.event.Outcome.TheVariants.{Stepped, Wait, Idle, Answered, Full}
-use Rattle.machine_model.specs.World.{World, new_world}
+use Rattle.machine_model.specs.World.{World, Made, new_world}
 use Rattle.slot_lock.specs.Slots.{Slots, IsNew}
 use Rattle.trace.specs.Declarations.{Asked, asked_fault, made_by}
 use Rattle.trace.specs.declared.fault.TraceFault.{TraceFault}
@@ -42,9 +42,10 @@ pub line_gives : {U : Type 0} (line : Option Line) (l : Line) (r : Result U NoMe
 line_gives line l r u P e k h = subst (λ o. IsSomeAnd o P) (sym e) (subst (λ r. OnOk r (P l)) k h)
 
 -- a machine is made of what is asked for
-pub opened : (asked : Option Asked) (a : Asked) (slots : Slots) (w : World) → asked ≡ Some a → asked_fault a ≡ None → IsNew slots
-    → w ≡ new_world (made_by a) slots → Opens (stage_of asked None) w
-opened asked a slots w e none new is = subst (λ o. Opens (stage_of o None) w) (sym e) (none, (slots, new, is))
+pub opened : (asked : Option Asked) (a : Asked) (made : Made) (slots : Slots) (w : World) → asked ≡ Some a → asked_fault a ≡ None → IsNew slots
+    → made ≡ made_by a → w ≡ new_world made slots → Opens (stage_of asked None) w
+opened asked a made slots w e none new same is =
+    subst (λ o. Opens (stage_of o None) w) (sym e) (none, (slots, new, subst (λ m. w ≡ new_world m slots) same is))
 
 pub can_open : (s : Stage) (w : World) → Opens s w → CanOpen s
 can_open Start w h = h
