@@ -42,10 +42,10 @@ pub line_gives : {U : Type 0} (line : Option Line) (l : Line) (r : Result U NoMe
 line_gives line l r u P e k h = subst (λ o. IsSomeAnd o P) (sym e) (subst (λ r. OnOk r (P l)) k h)
 
 -- a machine is made of what is asked for
-pub opened : (asked : Option Asked) (a : Asked) (made : Made) (slots : Slots) (w : World) → asked ≡ Some a → asked_fault a ≡ None
-    → made ≡ made_by a → IsNew slots → w ≡ new_world made slots → Opens (stage_of asked None) w
-opened asked a made slots w e none by new is =
-    subst (λ o. Opens (stage_of o None) w) (sym e) (none, (slots, new, is ∙ ap (λ m. new_world m slots) by))
+pub opened : (asked : Option Asked) (a : Asked) (made : Made) (slots : Slots) (w : World) → asked ≡ Some a → asked_fault a ≡ None → IsNew slots
+    → made ≡ made_by a → w ≡ new_world made slots → Opens (stage_of asked None) w
+opened asked a made slots w e none new same is =
+    subst (λ o. Opens (stage_of o None) w) (sym e) (none, (slots, new, subst (λ m. w ≡ new_world m slots) same is))
 
 pub can_open : (s : Stage) (w : World) → Opens s w → CanOpen s
 can_open Start w h = h

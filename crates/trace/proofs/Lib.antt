@@ -2,6 +2,7 @@ pub mod RunLemmas
 pub mod TextLemmas
 pub mod TurnLemmas
 pub mod EventRunLemmas
+pub mod Acting
 pub mod EventLines
 pub mod Limits
 pub mod PlainCalls

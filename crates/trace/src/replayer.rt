@@ -1,7 +1,8 @@
 //! A replay between two lines, and what one line does to it.
-ghost use Rattle.std.specs.Prelude.{◌≡◌, ◌⊎◌, [], option_map, None, IfOk, IfErr, OnOk, IsSomeAnd};
+ghost use Rattle.std.specs.Prelude.{◌≡◌, ◌⊎◌, [], option_map, None, IfOk, IfErr, IfSome, OnOk, IsSomeAnd};
 ghost use Rattle.core_steps.specs.Machine.{state};
-ghost use Rattle.trace.specs.Stage.{Stage, Start, Declared, stage_of, Opens, OpenFails, CanOpen, Acts, EventActs, EventFails, EventWants, FileFails, LineActs, LineFails, LineWants};
+ghost use Rattle.trace_text.specs.Words.{words_of};
+ghost use Rattle.trace.specs.Stage.{Stage, Start, Declared, stage_of, Opens, OpenFails, CanOpen, Acts, BadFails, EventActs, EventFails, EventWants, FileFails, LateFails, LineActs, LineFails, LineWants, SpaceFails, kind_of};
 
 use crate::declaration::{Declaration, FileLine};
 use crate::event_lines::run_line;
@@ -82,6 +83,21 @@ fn made<A: Allocator + Clone + Drop>(
     }
 }
 
+// What is told of a bad line at which a machine is to be made: why none can be, or else that the line is bad.
+#[tactic(auto, using(crate::proofs::Acting::late_err, crate::proofs::Acting::late_ok))]
+fn late_fault<A: Allocator + Clone + Drop>(
+    alloc: &A,
+    declaration: &Option<Declaration>,
+    number: u64,
+) -> TraceFault
+    ensures { IfSome declaration.now (λ a. LateFails a number result) }
+{
+    match made(alloc, declaration) {
+        Ok(_) => TraceFault::BadLine(number),
+        Err(fault) => fault,
+    }
+}
+
 impl<A: Allocator + Clone + Drop> Replayer<A> {
     /// A replay before the first line.
     pub fn new(alloc: A) -> Replayer<A>
@@ -92,6 +108,51 @@ impl<A: Allocator + Clone + Drop> Replayer<A> {
             declaration: None,
             machine: None,
         }
+    }
+
+    // Takes in the `vm` line.
+    #[tactic(auto, using(crate::proofs::Acting::space_late, crate::proofs::Acting::space_running, crate::proofs::Acting::space_taken))]
+    fn act_on_space(
+        &mut self,
+        number: u64,
+        cores: u64,
+        frames: u64,
+        calls: u64,
+        text: &mut LineText,
+    ) -> Result<(), TraceFault>
+        ensures ok { OnOk result (LineActs (⟦<Self as Staged>⟧.stage self.old)
+            (Line.Space cores frames calls) (⟦<Self as Staged>⟧.stage self.new) text.new.bytes) }
+        ensures err { IfErr result (λ f. SpaceFails (⟦<Self as Staged>⟧.stage self.old) number f) }
+    {
+        if self.machine.is_some() {
+            return Err(TraceFault::BadLine(number));
+        }
+        if self.declaration.is_some() {
+            return Err(late_fault(&self.alloc, &self.declaration, number));
+        }
+        self.declaration = Some(Declaration::new(cores, frames, calls));
+        text.clear();
+        Ok(())
+    }
+
+    // What is told of a line that says nothing that a trace may say.
+    #[tactic(auto, using(crate::proofs::Acting::bad_file, crate::proofs::Acting::bad_late, crate::proofs::Acting::bad_other, crate::proofs::Acting::bad_running, crate::proofs::Acting::bad_space))]
+    fn fault_of_bad(&self, number: u64, line: &[u8]) -> TraceFault
+        ensures { BadFails (⟦<Self as Staged>⟧.stage self.now) number (kind_of (words_of line.now)) result }
+    {
+        if self.machine.is_some() {
+            return TraceFault::BadLine(number);
+        }
+        if self.declaration.is_none() {
+            if first_word_is_vm(line) {
+                return TraceFault::BadLine(number);
+            }
+            return TraceFault::NoVmLine;
+        }
+        if first_word_is_file(line) {
+            return TraceFault::BadLine(number);
+        }
+        late_fault(&self.alloc, &self.declaration, number)
     }
 
     // Takes in the line of a file.
@@ -171,12 +232,11 @@ impl<A: Allocator + Clone + Drop> Replayer<A> {
 impl<A: Allocator + Clone + Drop> Staged for Replayer<A> {
     ghost stage = { λ r. stage_of r.declaration (option_map state r.machine) };
 
+    #[tactic(auto, using(crate::proofs::Acting::event_failed))]
     fn act(&mut self, number: u64, line: &[u8], text: &mut LineText) -> Result<(), TraceFault> {
         if !is_printable(line) {
             return Err(TraceFault::BadLine(number));
         }
-        let is_open = self.machine.is_none();
-        let is_start = is_open && self.declaration.is_none();
         match read_line(line) {
             Some(Line::Blank) => {
                 text.clear();
@@ -188,11 +248,7 @@ impl<A: Allocator + Clone + Drop> Staged for Replayer<A> {
                     frames,
                     calls,
                 },
-            ) if is_start => {
-                self.declaration = Some(Declaration::new(cores, frames, calls));
-                text.clear();
-                Ok(())
-            }
+            ) => self.act_on_space(number, cores, frames, calls, text),
             Some(
                 Line::File {
                     number: next,
@@ -201,10 +257,7 @@ impl<A: Allocator + Clone + Drop> Staged for Replayer<A> {
                     seed,
                 },
             ) => self.act_on_file(number, next, FileLine { mode, len, seed }, text),
-            None if is_start && first_word_is_vm(line) => Err(TraceFault::BadLine(number)),
-            None if is_open && !is_start && first_word_is_file(line) => {
-                Err(TraceFault::BadLine(number))
-            }
+            None => Err(self.fault_of_bad(number, line)),
             event => self.act_on_event(number, event, text),
         }
     }

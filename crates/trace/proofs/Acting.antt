@@ -1,0 +1,126 @@
+-- Why a line isn't acted on, by what a replayer has.
+use Rattle.std.proofs.Common.{◌≡◌, ℕ, Bool, true, false, List, [], ◌∷◌, Option, None, Some, is_some, ◌⊎◌, inl, inr, Result, Ok, Err, refl, sym, ap, subst}
+use Rattle.std.specs.Prelude.{IfErr, IfSome, IsSomeAnd, codes, if◌then◌else◌, is_none, option_map}
+use Rattle.std.specs.Str.{bytes_eq}
+use Rattle.std.proofs.lemmas.Slice.Eq.{bytes_eq-Decides}
+use Rattle.machine_model.specs.World.{World}
+use Rattle.trace_text.specs.Words.{Word, words_of}
+use Rattle.trace_text.specs.Line.{are_printable, begins_with_file, begins_with_vm, line_of}
+use Rattle.trace_text.specs.declared.line.Line.{Line}
+use Rattle.trace_text.specs.declared.line.Line.TheVariants.{Blank, Space, File, Act, Fold, Finish, Now}
+use Rattle.trace.specs.declared.fault.TraceFault.{TraceFault}
+use Rattle.trace.specs.declared.fault.TraceFault.TheVariants.{BadLine, NoMemory, NoVmLine}
+use Rattle.trace.specs.Declarations.{Asked, asks_for}
+use Rattle.trace.specs.Gives.{is_event}
+use Rattle.trace.specs.Stage.{Stage, stage_of, Opens, OpenFails, CanOpen, Kind, OfSpace, OfFile, OfEvents, kind_of, LateFails, BadFails, BytesFail, EventFails, EventWants, LineActs, LineFails, LineWants, SaidFails, SpaceFails}
+
+-- ---- at which a machine is to be made
+
+pub late_ok : (d : Option Asked) (w : World) (n : ℕ) → Opens (stage_of d None) w → IfSome d (λ a. LateFails a n (BadLine n))
+late_ok None w n o = tt
+late_ok (Some a) w n o = inr (o.0, refl)
+
+pub late_err : (d : Option Asked) (n : ℕ) (f : TraceFault) → OpenFails (stage_of d None) f → IfSome d (λ a. LateFails a n f)
+late_err None n f h = tt
+late_err (Some a) n f h = inl h
+
+-- ---- the vm line
+
+pub space_running : {X : Type 0} (g : X → World) (d : Option Asked) (m : Option X) (n : ℕ) → is_some m ≡ true
+    → SpaceFails (stage_of d (option_map g m)) n (BadLine n)
+space_running g d None n e = absurd cc
+space_running g d (Some x) n e = refl
+
+pub space_late : {X : Type 0} (g : X → World) (d : Option Asked) (m : Option X) (n : ℕ) (f : TraceFault) → is_some m ≡ false → is_some d ≡ true
+    → IfSome d (λ a. LateFails a n f) → SpaceFails (stage_of d (option_map g m)) n f
+space_late g d (Some x) n f e i h = absurd cc
+space_late g None None n f e i h = absurd cc
+space_late g (Some a) None n f e i h = h
+
+pub space_taken : {X : Type 0} (g : X → World) (d : Option Asked) (m : Option X) (cores frames calls : ℕ) → is_some m ≡ false → is_some d ≡ false
+    → LineActs (stage_of d (option_map g m)) (Space cores frames calls) (stage_of (Some (asks_for cores frames calls)) (option_map g m)) []
+space_taken g d (Some x) cores frames calls e i = absurd cc
+space_taken g (Some a) None cores frames calls e i = absurd cc
+space_taken g None None cores frames calls e i = (refl, refl, refl)
+
+-- ---- a bad line
+
+-- its first word isn't both
+no_both : (words : List Word) → begins_with_file words ≡ true → begins_with_vm words ≡ false
+no_both [] h = refl
+no_both (name ∷ args) h =
+    let same : name ≡ codes "file" = (bytes_eq-Decides name (codes "file")).0 h in
+    ap (λ w. bytes_eq w (codes "vm")) same
+
+pub bad_running : {X : Type 0} (g : X → World) (d : Option Asked) (m : Option X) (n : ℕ) (k : Kind) → is_some m ≡ true
+    → BadFails (stage_of d (option_map g m)) n k (BadLine n)
+bad_running g d None n k e = absurd cc
+bad_running g d (Some x) n k e = refl
+
+pub bad_space : {X : Type 0} (g : X → World) (d : Option Asked) (m : Option X) (n : ℕ) (words : List Word) → is_some m ≡ false → is_none d ≡ true
+    → begins_with_vm words ≡ true → BadFails (stage_of d (option_map g m)) n (kind_of words) (BadLine n)
+bad_space g d (Some x) n words e i h = absurd cc
+bad_space g (Some a) None n words e i h = absurd cc
+bad_space g None None n words e i h =
+    subst (λ b. BadFails (stage_of None None) n (if b then OfSpace else if begins_with_file words then OfFile else OfEvents) (BadLine n)) (sym h) refl
+
+pub bad_other : {X : Type 0} (g : X → World) (d : Option Asked) (m : Option X) (n : ℕ) (words : List Word) → is_some m ≡ false → is_none d ≡ true
+    → begins_with_vm words ≡ false → BadFails (stage_of d (option_map g m)) n (kind_of words) NoVmLine
+bad_other g d (Some x) n words e i h = absurd cc
+bad_other g (Some a) None n words e i h = absurd cc
+bad_other g None None n words e i h =
+    subst (λ b. BadFails (stage_of None None) n (if b then OfSpace else if begins_with_file words then OfFile else OfEvents) NoVmLine) (sym h)
+    (go (begins_with_file words))
+  where
+    go : (b : Bool) → BadFails (stage_of None None) n (if b then OfFile else OfEvents) NoVmLine
+    go true = refl
+    go false = refl
+
+pub bad_file : {X : Type 0} (g : X → World) (d : Option Asked) (m : Option X) (n : ℕ) (words : List Word) → is_some m ≡ false → is_none d ≡ false
+    → begins_with_file words ≡ true → BadFails (stage_of d (option_map g m)) n (kind_of words) (BadLine n)
+bad_file g d (Some x) n words e i h = absurd cc
+bad_file g None None n words e i h = absurd cc
+bad_file g (Some a) None n words e i h =
+    subst (λ b. BadFails (stage_of (Some a) None) n (if b then OfSpace else if begins_with_file words then OfFile else OfEvents) (BadLine n))
+    (sym (no_both words h))
+    (subst (λ b. BadFails (stage_of (Some a) None) n (if b then OfFile else OfEvents) (BadLine n)) (sym h) refl)
+
+pub bad_late : {X : Type 0} (g : X → World) (d : Option Asked) (m : Option X) (n : ℕ) (words : List Word) (f : TraceFault) → is_some m ≡ false
+    → is_none d ≡ false → begins_with_file words ≡ false → IfSome d (λ a. LateFails a n f)
+    → BadFails (stage_of d (option_map g m)) n (kind_of words) f
+bad_late g d (Some x) n words f e i h l = absurd cc
+bad_late g None None n words f e i h l = absurd cc
+bad_late g (Some a) None n words f e i h l = go (begins_with_vm words)
+  where
+    go : (b : Bool) → BadFails (stage_of (Some a) None) n (if b then OfSpace else if begins_with_file words then OfFile else OfEvents) f
+    go true = l
+    go false = subst (λ b. BadFails (stage_of (Some a) None) n (if b then OfFile else OfEvents) f) (sym h) l
+
+-- ---- the line of an event
+
+said_failed : (s : Stage) (n : ℕ) (kind : Kind) (line : Option Line) (f : TraceFault) → is_event line ≡ true → EventFails s n line f
+    → SaidFails s n kind line f
+said_failed s n kind None f e h = absurd cc
+said_failed s n kind (Some Blank) f e h = absurd cc
+said_failed s n kind (Some (Space cores frames calls)) f e h = absurd cc
+said_failed s n kind (Some (File next mode len seed)) f e h = absurd cc
+said_failed s n kind (Some (Act core action)) f e (inl h) = h
+said_failed s n kind (Some (Fold page)) f e (inl h) = h
+said_failed s n kind (Some (Finish core)) f e (inl h) = h
+said_failed s n kind (Some (Now core request)) f e (inl h) = h
+said_failed s n kind (Some (Act core action)) f e (inr h) = absurd (let k = h.1 in cc)
+said_failed s n kind (Some (Fold page)) f e (inr h) = absurd (let k = h.1 in cc)
+said_failed s n kind (Some (Finish core)) f e (inr h) = absurd (let k = h.1 in cc)
+said_failed s n kind (Some (Now core request)) f e (inr h) = absurd (let k = h.1 in cc)
+
+pub event_failed : {U : Type 0} (r : Result U TraceFault) (s : Stage) (n : ℕ) (bytes : List ℕ) (line : Option Line) → are_printable bytes ≡ true
+    → line ≡ line_of bytes → is_event line ≡ true
+    → IfErr r (λ f. ((f ≡ NoMemory) × IsSomeAnd line (λ l. EventWants s l)) ⊎ EventFails s n line f)
+    → IfErr r (λ f. ((f ≡ NoMemory) × LineWants s bytes) ⊎ LineFails s n bytes f)
+event_failed (Ok u) s n bytes line p e i h = tt
+event_failed (Err f) s n bytes line p e i (inl h) =
+    inl (h.0, record { printable = p; wants = subst (λ o. IsSomeAnd o (λ l. EventWants s l)) e h.1 })
+event_failed (Err f) s n bytes line p e i (inr h) = inr (record {
+  because = subst (λ b. BytesFail b s n bytes f) (sym p)
+      (subst (λ o. SaidFails s n (kind_of (words_of bytes)) o f) e (said_failed s n (kind_of (words_of bytes)) line f i h));
+})
