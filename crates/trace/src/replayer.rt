@@ -237,28 +237,28 @@ impl<A: Allocator + Clone + Drop> Staged for Replayer<A> {
         if !is_printable(line) {
             return Err(TraceFault::BadLine(number));
         }
-        match read_line(line) {
-            Some(Line::Blank) => {
+        let Some(said) = read_line(line) else {
+            return Err(self.fault_of_bad(number, line));
+        };
+        match said {
+            Line::Blank => {
                 text.clear();
                 Ok(())
             }
-            Some(
-                Line::Space {
-                    cores,
-                    frames,
-                    calls,
-                },
-            ) => self.act_on_space(number, cores, frames, calls, text),
-            Some(
-                Line::File {
-                    number: next,
-                    mode,
-                    len,
-                    seed,
-                },
-            ) => self.act_on_file(number, next, FileLine { mode, len, seed }, text),
-            None => Err(self.fault_of_bad(number, line)),
-            event => self.act_on_event(number, event, text),
+            Line::Space {
+                cores,
+                frames,
+                calls,
+            } => self.act_on_space(number, cores, frames, calls, text),
+            Line::File {
+                number: next,
+                mode,
+                len,
+                seed,
+            } => self.act_on_file(number, next, FileLine { mode, len, seed }, text),
+            Line::Act(..) | Line::Fold(_) | Line::Finish(_) | Line::Now(..) => {
+                self.act_on_event(number, Some(said), text)
+            }
         }
     }
 
