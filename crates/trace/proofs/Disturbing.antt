@@ -16,7 +16,7 @@ use Rattle.machine_alone.proofs.Telling.{for_change, for_copy, waits_at}
 use Rattle.trace_text.specs.declared.action.Action.TheVariants as By
 use Rattle.trace_text.specs.declared.line.Line.TheVariants.{Act}
 use Rattle.trace.specs.PlainText.{AwaitsNobody, Disturbs, Open, Reached}
-use Rattle.trace.proofs.PlainCalls.{IsOpen, Meets, MeetsOpen}
+use Rattle.trace.proofs.PlainCalls.{Meets, MeetsOpen}
 
 below : (d n : ℕ) → d < suc n → (d == n) ≡ false → d < n
 below d n l e = grind (arith, nat_tests)
