@@ -1,3 +1,4 @@
+pub mod Begun
 pub mod Folding
 pub mod Histories
 pub mod Nexts

@@ -1,6 +1,8 @@
 //! What the levels of the shared tree do. A level is 512 slots side by side, and none of the types holds itself.
-ghost use Rattle.std.specs.Prelude.{◌≡◌, ◌≢◌, ℕ, ◌+◌, ◌*◌, ◌<◌, ◌≤◌, ◌^◌, [], ◌∷◌, ◌++◌, vec_len, vec_capacity, Some, IfSome, IfNone, IsTrue, ◌↔◌, ◌-◌};
+ghost use Rattle.std.specs.Prelude.{◌≡◌, ◌≢◌, ℕ, ◌+◌, ◌*◌, ◌<◌, ◌≤◌, ◌^◌, [], ◌∷◌, ◌++◌, length, Some, IfSome, IfNone, IfOk, OnErr, IsTrue, ◌↔◌, ◌-◌};
+ghost use Rattle.std.specs.Box.{box_value};
 ghost use Rattle.std.specs.Sync.Mutex.{mutex_guard_value};
+ghost use Rattle.live_levels.specs.Parts.{CarriesOn};
 ghost use Rattle.live_levels.specs.Nexts.{Answers, Cuts, IsFreeFor, Folds};
 ghost use Rattle.live_levels.specs.Slots.{HasPage};
 ghost use Rattle.live_levels.specs.Histories.{Grew};
@@ -56,11 +58,23 @@ pub enum Fit {
 
 /// A level of the tree.
 pub trait Level<A: Allocator + Clone>: Drop {
-    /// A level with room for 512 slots of so many pages each, from the page `first` on.
-    fn new(alloc: A, first: u64, pages: u64) -> Result<Self, NoMemory>;
+    ghost use Rattle.std.specs.Prelude.{ℕ, List};
+    ghost use Rattle.live_levels.specs.Slots.{SlotView};
 
-    /// Takes the slots over, in their order and as far as there is room, each under a lock of its own. It takes no memory.
-    fn fill(&mut self, slots: &mut Vec<SlotState<A>, A>);
+    /// The slots that it began with, each as it was when it was put under its lock.
+    ghost begun: { Self → List SlotView };
+
+    /// How many more slots it has room for.
+    ghost room: { Self → ℕ };
+
+    /// A level with room for 512 slots of so many pages each, from the page `first` on.
+    fn new(alloc: A, first: u64, pages: u64) -> Result<Self, NoMemory>
+        ensures { IfOk result (λ level. (begun level ≡ []) × (512 ≤ room level)) };
+
+    /// Takes the slots over, in their order, each under a lock of its own. It takes no memory.
+    fn fill(&mut self, slots: &mut Vec<SlotState<A>, A>)
+        requires { length slots.old.items ≤ room self.old }
+        ensures { begun self.new ≡ begun self.old ++ slots.old.items };
 
     /// Locks the slot that has the cursor, where it begins there and ends by the end; else it divides the slot.
     fn lock_next<'a, R: Wait, S: Stepper>(
@@ -122,15 +136,6 @@ pub(crate) fn has_page<A: Allocator>(slot: &SlotState<A>, page: u64) -> bool
     first <= page && page - first < slot.count()
 }
 
-/// Puts the item behind the others, where there is room. It takes no memory.
-pub(crate) fn put<T: Drop, A: Allocator>(items: &mut Vec<T, A>, item: T)
-    ensures { vec_len items.old < vec_capacity items.old → items.new.items ≡ items.old.items ++ item ∷ [] }
-{
-    if items.len() < items.capacity() {
-        items.push_reserved(item);
-    }
-}
-
 /// The other core that is to lock the slot first.
 pub(crate) fn other_owner<A: Allocator>(slot: &SlotState<A>, core: CoreId) -> Option<CoreId>
     ensures other { IfSome result (λ other. (slot.now.owner ≡ Some other) × (other ≢ core)) }
@@ -145,8 +150,8 @@ pub(crate) fn other_owner<A: Allocator>(slot: &SlotState<A>, core: CoreId) -> Op
     Some(owner)
 }
 
-/// Divides a slot whose lock is held: the level below it gets 512 slots, which carry on what its pages have, and is shown
-/// to all threads. Only what stands before the ticket is drawn takes memory.
+/// Divides a slot whose lock is held: the level below it, which carries on what its pages have, is shown to all threads.
+/// Want of memory changes nothing.
 pub(crate) fn divide<C: Level<A>, A: Allocator + Clone, S: Stepper>(
     alloc: &A,
     stepper: &mut S,
@@ -157,17 +162,35 @@ pub(crate) fn divide<C: Level<A>, A: Allocator + Clone, S: Stepper>(
     requires { S.can_step stepper.old }
     ensures { Cuts S.stepped stepper.old stepper.new result }
 {
-    let first = slot.first();
     let pages = slot.count() / SLOTS as u64;
     if pages == 0 || slot.count() != pages * SLOTS as u64 {
         return Fit::Lost;
     }
-    let Ok(mut parts) = side_by_side(alloc, first, pages) else {
+    let Ok(level) = carried::<C, A, S>(alloc, stepper, slot, pages, owner) else {
         return Fit::NoMemory;
     };
-    let Ok(mut level) = boxed::<C, A>(alloc, first, pages) else {
-        return Fit::NoMemory;
-    };
+    let _ = below.try_set(level);
+    Fit::Cut
+}
+
+/// The level below a slot whose lock is held: 512 slots of so many pages, which carry on what the slot has, each by one
+/// change under the ticket of the step, which is noted. Only what stands before the ticket is drawn takes memory.
+fn carried<C: Level<A>, A: Allocator + Clone, S: Stepper>(
+    alloc: &A,
+    stepper: &mut S,
+    slot: &SlotState<A>,
+    pages: u64,
+    owner: Option<CoreId>,
+) -> Result<Box<C, A>, NoMemory>
+    requires pages { slot.now.count ≡ 512 * pages }
+    requires stepper { S.can_step stepper.old }
+    ensures ok { IfOk result (λ level. CarriesOn S.stepped stepper.old stepper.new slot.now owner pages (C.begun (box_value level))) }
+    ensures err { OnErr result (stepper.new ≡ stepper.old) }
+{
+    let first = slot.first();
+    let _count = slot.count();
+    let mut parts = side_by_side(alloc, first, pages)?;
+    let mut level = boxed::<C, A>(alloc, first, pages)?;
     let divided = Divided {
         first,
         content: slot.content(),
@@ -176,15 +199,17 @@ pub(crate) fn divide<C: Level<A>, A: Allocator + Clone, S: Stepper>(
     let ticket = stepper.step();
     carry_on(&mut parts, &divided, ticket, pages);
     level.fill(&mut parts);
-    let _ = below.try_set(level);
-    Fit::Cut
+    Ok(level)
 }
 
+/// A level with room for 512 slots, and none yet.
 fn boxed<C: Level<A>, A: Allocator + Clone>(
     alloc: &A,
     first: u64,
     pages: u64,
-) -> Result<Box<C, A>, NoMemory> {
+) -> Result<Box<C, A>, NoMemory>
+    ensures { IfOk result (λ level. (C.begun (box_value level) ≡ []) × (512 ≤ C.room (box_value level))) }
+{
     let Ok(own) = alloc.clone() else {
         return Err(NoMemory);
     };

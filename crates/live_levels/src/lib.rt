@@ -9,5 +9,6 @@ pub mod inner;
 pub mod joint;
 pub mod leaves;
 pub mod level;
+pub mod locked;
 pub mod parts;
 pub mod slot;
