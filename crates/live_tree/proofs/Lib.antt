@@ -1,4 +1,5 @@
 pub mod Along
+pub mod Begun
 pub mod Committed
 pub mod Cuts
 pub mod Gathered

@@ -1,5 +1,7 @@
+pub mod Begun
 pub mod Cutting
 pub mod Guards
 pub mod Held
+pub mod Letting
 pub mod Shown
 pub mod Steps

@@ -1,8 +1,12 @@
 //! The shared tree: four levels of slots.
-ghost use Rattle.std.specs.Prelude.{◌≡◌, ℕ, ◌<◌, ◌^◌, IfSome};
+ghost use Rattle.std.specs.Prelude.{◌≡◌, ℕ, ◌<◌, ◌^◌, IfOk, IfSome};
 ghost use Rattle.std.specs.Sync.Mutex.{mutex_guard_value};
 ghost use Rattle.live_levels.specs.Nexts.{Answers, Cuts, Folds};
+ghost use Rattle.live_levels.specs.Parts.{AreUnused};
 ghost use Rattle.live_levels.specs.Slots.{HasPage};
+ghost use Rattle.slot_lock.specs.Slots.{IsNew};
+ghost use Rattle.live_tree.specs.Begun.{begun_slots};
+ghost use Rattle.live_tree.specs.Shown.{shown};
 
 use crate::histories::Histories;
 use live_levels::inner::Inner;
@@ -31,8 +35,11 @@ pub struct SharedTree<A: Allocator> {
 }
 
 impl<A: Allocator + Clone> SharedTree<A> {
-    /// All pages unmapped and unheld, in the slots of the first level, with no history.
-    pub fn new(alloc: A) -> Result<SharedTree<A>, NoMemory> {
+    /// All pages unmapped and unheld, in the 512 slots of the first level, with no history.
+    pub fn new(alloc: A) -> Result<SharedTree<A>, NoMemory>
+        ensures slots { IfOk result (λ tree. AreUnused 0 (2 ^ 27) (begun_slots tree)) }
+        ensures pages { IfOk result (λ tree. IsNew (shown (begun_slots tree))) }
+    {
         let mut slots = side_by_side(&alloc, 0, ROOT_PAGES)?;
         let Ok(own) = alloc.clone() else {
             return Err(NoMemory);
