@@ -11,6 +11,7 @@ ghost use Rattle.live_tree.specs.Steps.{Acquires};
 
 pub mod cut;
 pub mod lend;
+pub mod page;
 pub mod reserve;
 
 use crate::letting::Letting;
