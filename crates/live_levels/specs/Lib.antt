@@ -1,4 +1,3 @@
-pub mod Begun
 pub mod Folding
 pub mod Histories
 pub mod Nexts

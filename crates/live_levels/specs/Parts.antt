@@ -54,10 +54,3 @@ divided_for s owner = record { first = s.first; content = s.content; owner = own
 pub record AreParts (d : Divided) (ticket pages : ℕ) (slots : List SlotView) : Type 0 where
   pub count : length slots ≡ 512
   pub each : (k : ℕ) (other : SlotView) → k < 512 → IsPart d ticket pages (k * pages) (get_or slots k other)
-
-module _ {S : Type 0} (stepped : S → ℕ → S → Type 0) (before now : S) where
-  -- a step was noted under a ticket, and the slots are the 512 parts of the slot, which begin with a change under it
-  pub record CarriesOn (s : SlotView) (owner : Option ℕ) (pages : ℕ) (slots : List SlotView) : Type 0 where
-    pub ticket : ℕ
-    pub noted : stepped before ticket now
-    pub parts : AreParts (divided_for s owner) ticket pages slots

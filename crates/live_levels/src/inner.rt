@@ -1,5 +1,5 @@
 //! A level above others.
-ghost use Rattle.std.specs.Prelude.{◌≡◌, ℕ, ◌+◌, ◌-◌, ◌<◌, ◌≤◌, ◌^◌, ◌++◌, [], length, IfSome, IfOk};
+ghost use Rattle.std.specs.Prelude.{◌≡◌, ℕ, ◌+◌, ◌-◌, ◌<◌, ◌≤◌, ◌^◌, IfSome};
 ghost use Rattle.std.specs.Sync.Mutex.{mutex_guard_value};
 ghost use Rattle.live_levels.specs.Nexts.{Answers, Cuts, Folds};
 ghost use Rattle.live_levels.specs.Slots.{HasPage};
@@ -8,18 +8,17 @@ ghost use Rattle.live_levels.specs.Histories.{Grew};
 use crate::close::{SlotHistory, gather_slot};
 use crate::fold::{begin_joint, join_next, replace};
 use crate::joint::Joint;
-use crate::level::{Fit, Level, Next, Stepper, divide, has_page, index_of, other_owner};
-use crate::locked::LockedSlot;
+use crate::level::{Fit, Level, Next, Stepper, divide, has_page, index_of, other_owner, put};
 use crate::parts::SLOTS;
 use crate::slot::SlotState;
 use std::alloc::Allocator;
-use std::sync::{MutexGuard, OnceLock, Wait};
+use std::sync::{Mutex, MutexGuard, OnceLock, Wait};
 use vm_base::{CoreId, NoMemory};
 
 /// A slot, and the level in its place once it is divided. From then on nobody looks at the slot itself.
 #[derive(Drop)]
 struct Place<C, A: Allocator> {
-    slot: LockedSlot<A>,
+    slot: Mutex<SlotState<A>>,
     below: OnceLock<Box<C, A>>,
 }
 
@@ -32,12 +31,6 @@ pub struct Inner<C, A: Allocator> {
 }
 
 impl<C: Level<A>, A: Allocator + Clone> Level<A> for Inner<C, A> {
-    ghost use Rattle.live_levels.specs.Begun.{begun_inner, room_of_inner};
-
-    ghost begun = { begun_inner };
-
-    ghost room = { room_of_inner };
-
     fn new(alloc: A, first: u64, pages: u64) -> Result<Self, NoMemory> {
         match Vec::with_capacity(alloc, SLOTS) {
             Ok(places) => Ok(Inner {
@@ -51,10 +44,11 @@ impl<C: Level<A>, A: Allocator + Clone> Level<A> for Inner<C, A> {
 
     fn fill(&mut self, slots: &mut Vec<SlotState<A>, A>) {
         'slots: for slot in slots.drain(..) {
-            self.places.push_reserved(Place {
-                slot: LockedSlot::new(slot),
+            let place = Place {
+                slot: Mutex::new(slot),
                 below: OnceLock::new(),
-            });
+            };
+            put(&mut self.places, place);
         }
     }
 
@@ -76,7 +70,7 @@ impl<C: Level<A>, A: Allocator + Clone> Level<A> for Inner<C, A> {
         if let Some(below) = place.below.get() {
             return below.lock_next(rt, alloc, stepper, core, cursor, end);
         }
-        let guard = place.slot.state.lock(rt);
+        let guard = place.slot.lock(rt);
         if let Some(below) = place.below.get() {
             drop(guard);
             return below.lock_next(rt, alloc, stepper, core, cursor, end);
@@ -104,7 +98,7 @@ impl<C: Level<A>, A: Allocator + Clone> Level<A> for Inner<C, A> {
         if let Some(below) = place.below.get() {
             return below.lock_at(rt, page);
         }
-        let guard = place.slot.state.lock(rt);
+        let guard = place.slot.lock(rt);
         if let Some(below) = place.below.get() {
             drop(guard);
             return below.lock_at(rt, page);
@@ -162,7 +156,7 @@ impl<C: Level<A>, A: Allocator + Clone> Level<A> for Inner<C, A> {
             if place.below.get().is_some() {
                 return None;
             }
-            let slot = place.slot.state.get_mut();
+            let slot = place.slot.get_mut();
             let next = match joint {
                 None => begin_joint(slot)?,
                 Some(joint) => join_next(joint, slot)?,
@@ -201,7 +195,7 @@ fn fold_place<C: Level<A>, A: Allocator + Clone, S: Stepper>(
     let Some(joint) = below.joint() else {
         return false;
     };
-    let is_replaced = replace(place.slot.state.get_mut(), &joint, stepper);
+    let is_replaced = replace(place.slot.get_mut(), &joint, stepper);
     if is_replaced {
         let _ = place.below.take();
     }
@@ -219,6 +213,6 @@ fn gather_place<C: Level<A>, A: Allocator + Clone>(
 {
     match place.below.get_mut() {
         Some(below) => below.gather(alloc, slots, next),
-        None => gather_slot(alloc, place.slot.state.get_mut(), slots, next),
+        None => gather_slot(alloc, place.slot.get_mut(), slots, next),
     }
 }

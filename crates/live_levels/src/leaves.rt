@@ -1,5 +1,5 @@
 //! The last level: slots of one page.
-ghost use Rattle.std.specs.Prelude.{◌≡◌, ℕ, ◌+◌, ◌-◌, ◌<◌, ◌≤◌, ◌^◌, ◌++◌, [], length, IfSome, IfOk};
+ghost use Rattle.std.specs.Prelude.{◌≡◌, ℕ, ◌+◌, ◌-◌, ◌<◌, ◌≤◌, ◌^◌, IfSome};
 ghost use Rattle.std.specs.Sync.Mutex.{mutex_guard_value};
 ghost use Rattle.live_levels.specs.Nexts.{Answers, Cuts, Folds};
 ghost use Rattle.live_levels.specs.Slots.{HasPage};
@@ -8,28 +8,21 @@ ghost use Rattle.live_levels.specs.Histories.{Grew};
 use crate::close::{SlotHistory, gather_slot};
 use crate::fold::{begin_joint, join_next};
 use crate::joint::Joint;
-use crate::level::{Fit, Level, Next, Stepper, has_page, index_of, other_owner};
-use crate::locked::LockedSlot;
+use crate::level::{Fit, Level, Next, Stepper, has_page, index_of, other_owner, put};
 use crate::parts::SLOTS;
 use crate::slot::SlotState;
 use std::alloc::Allocator;
-use std::sync::{MutexGuard, Wait};
+use std::sync::{Mutex, MutexGuard, Wait};
 use vm_base::{CoreId, NoMemory};
 
 /// 512 slots of one page, each under its lock.
 #[derive(Drop)]
 pub struct Leaves<A: Allocator> {
     first: u64,
-    slots: Vec<LockedSlot<A>, A>,
+    slots: Vec<Mutex<SlotState<A>>, A>,
 }
 
 impl<A: Allocator + Clone> Level<A> for Leaves<A> {
-    ghost use Rattle.live_levels.specs.Begun.{begun_leaves, room_of_leaves};
-
-    ghost begun = { begun_leaves };
-
-    ghost room = { room_of_leaves };
-
     fn new(alloc: A, first: u64, pages: u64) -> Result<Self, NoMemory> {
         match Vec::with_capacity(alloc, SLOTS) {
             Ok(slots) => Ok(Leaves { first, slots }),
@@ -39,7 +32,7 @@ impl<A: Allocator + Clone> Level<A> for Leaves<A> {
 
     fn fill(&mut self, slots: &mut Vec<SlotState<A>, A>) {
         'slots: for slot in slots.drain(..) {
-            self.slots.push_reserved(LockedSlot::new(slot));
+            put(&mut self.slots, Mutex::new(slot));
         }
     }
 
@@ -58,7 +51,7 @@ impl<A: Allocator + Clone> Level<A> for Leaves<A> {
         let Some(slot) = self.slots.get(index) else {
             return Next::Lost;
         };
-        let guard = slot.state.lock(rt);
+        let guard = slot.lock(rt);
         if let Some(other) = other_owner(&guard, core) {
             return Next::Owned(other);
         }
@@ -71,7 +64,7 @@ impl<A: Allocator + Clone> Level<A> for Leaves<A> {
     fn lock_at<'a, R: Wait>(&'a self, rt: &R, page: u64) -> Option<MutexGuard<'a, SlotState<A>>> {
         let index = index_of(self.first, 1, page)?;
         let slot = self.slots.get(index)?;
-        let guard = slot.state.lock(rt);
+        let guard = slot.lock(rt);
         if !has_page(&guard, page) {
             return None;
         }
@@ -92,7 +85,7 @@ impl<A: Allocator + Clone> Level<A> for Leaves<A> {
     fn gather(&mut self, alloc: &A, slots: &mut Vec<SlotHistory<A>, A>, next: u64) -> Option<u64> {
         let mut at = next;
         'slots: for slot in self.slots.iter_mut() {
-            at = gather_slot(alloc, slot.state.get_mut(), slots, at)?;
+            at = gather_slot(alloc, slot.get_mut(), slots, at)?;
         }
         Some(at)
     }
@@ -104,7 +97,7 @@ impl<A: Allocator + Clone> Level<A> for Leaves<A> {
     fn joint(&mut self) -> Option<Joint> {
         let mut joint: Option<Joint> = None;
         'slots: for slot in self.slots.iter_mut() {
-            let slot = slot.state.get_mut();
+            let slot = slot.get_mut();
             let next = match joint {
                 None => begin_joint(slot)?,
                 Some(joint) => join_next(joint, slot)?,

@@ -1,8 +1,7 @@
 //! What the levels of the shared tree do. A level is 512 slots side by side, and none of the types holds itself.
-ghost use Rattle.std.specs.Prelude.{◌≡◌, ◌≢◌, ℕ, ◌+◌, ◌*◌, ◌<◌, ◌≤◌, ◌^◌, [], ◌∷◌, ◌++◌, length, Some, IfSome, IfNone, IfOk, OnErr, IsTrue, ◌↔◌, ◌-◌};
-ghost use Rattle.std.specs.Box.{box_value};
+ghost use Rattle.std.specs.Prelude.{◌≡◌, ◌≢◌, ℕ, ◌+◌, ◌*◌, ◌<◌, ◌≤◌, ◌^◌, [], ◌∷◌, ◌++◌, vec_len, vec_capacity, Some, IfSome, IfNone, IsTrue, ◌↔◌, ◌-◌};
 ghost use Rattle.std.specs.Sync.Mutex.{mutex_guard_value};
-ghost use Rattle.live_levels.specs.Parts.{CarriesOn};
+ghost use Rattle.live_levels.specs.Parts.{AreParts, divided_for};
 ghost use Rattle.live_levels.specs.Nexts.{Answers, Cuts, IsFreeFor, Folds};
 ghost use Rattle.live_levels.specs.Slots.{HasPage};
 ghost use Rattle.live_levels.specs.Histories.{Grew};
@@ -58,23 +57,11 @@ pub enum Fit {
 
 /// A level of the tree.
 pub trait Level<A: Allocator + Clone>: Drop {
-    ghost use Rattle.std.specs.Prelude.{ℕ, List};
-    ghost use Rattle.live_levels.specs.Slots.{SlotView};
-
-    /// The slots that it began with, each as it was when it was put under its lock.
-    ghost begun: { Self → List SlotView };
-
-    /// How many more slots it has room for.
-    ghost room: { Self → ℕ };
-
     /// A level with room for 512 slots of so many pages each, from the page `first` on.
-    fn new(alloc: A, first: u64, pages: u64) -> Result<Self, NoMemory>
-        ensures { IfOk result (λ level. (begun level ≡ []) × (512 ≤ room level)) };
+    fn new(alloc: A, first: u64, pages: u64) -> Result<Self, NoMemory>;
 
-    /// Takes the slots over, in their order, each under a lock of its own. It takes no memory.
-    fn fill(&mut self, slots: &mut Vec<SlotState<A>, A>)
-        requires { length slots.old.items ≤ room self.old }
-        ensures { begun self.new ≡ begun self.old ++ slots.old.items };
+    /// Takes the slots over, in their order and as far as there is room, each under a lock of its own. It takes no memory.
+    fn fill(&mut self, slots: &mut Vec<SlotState<A>, A>);
 
     /// Locks the slot that has the cursor, where it begins there and ends by the end; else it divides the slot.
     fn lock_next<'a, R: Wait, S: Stepper>(
@@ -136,6 +123,15 @@ pub(crate) fn has_page<A: Allocator>(slot: &SlotState<A>, page: u64) -> bool
     first <= page && page - first < slot.count()
 }
 
+/// Puts the item behind the others, where there is room. It takes no memory.
+pub(crate) fn put<T: Drop, A: Allocator>(items: &mut Vec<T, A>, item: T)
+    ensures { vec_len items.old < vec_capacity items.old → items.new.items ≡ items.old.items ++ item ∷ [] }
+{
+    if items.len() < items.capacity() {
+        items.push_reserved(item);
+    }
+}
+
 /// The other core that is to lock the slot first.
 pub(crate) fn other_owner<A: Allocator>(slot: &SlotState<A>, core: CoreId) -> Option<CoreId>
     ensures other { IfSome result (λ other. (slot.now.owner ≡ Some other) × (other ≢ core)) }
@@ -150,8 +146,8 @@ pub(crate) fn other_owner<A: Allocator>(slot: &SlotState<A>, core: CoreId) -> Op
     Some(owner)
 }
 
-/// Divides a slot whose lock is held: the level below it, which carries on what its pages have, is shown to all threads.
-/// Want of memory changes nothing.
+/// Divides a slot whose lock is held: the level below it gets 512 slots, which carry on what its pages have, and is shown
+/// to all threads. Only what stands before the ticket is drawn takes memory.
 pub(crate) fn divide<C: Level<A>, A: Allocator + Clone, S: Stepper>(
     alloc: &A,
     stepper: &mut S,
@@ -162,35 +158,17 @@ pub(crate) fn divide<C: Level<A>, A: Allocator + Clone, S: Stepper>(
     requires { S.can_step stepper.old }
     ensures { Cuts S.stepped stepper.old stepper.new result }
 {
+    let first = slot.first();
     let pages = slot.count() / SLOTS as u64;
     if pages == 0 || slot.count() != pages * SLOTS as u64 {
         return Fit::Lost;
     }
-    let Ok(level) = carried::<C, A, S>(alloc, stepper, slot, pages, owner) else {
+    let Ok(mut parts) = side_by_side(alloc, first, pages) else {
         return Fit::NoMemory;
     };
-    let _ = below.try_set(level);
-    Fit::Cut
-}
-
-/// The level below a slot whose lock is held: 512 slots of so many pages, which carry on what the slot has, each by one
-/// change under the ticket of the step, which is noted. Only what stands before the ticket is drawn takes memory.
-fn carried<C: Level<A>, A: Allocator + Clone, S: Stepper>(
-    alloc: &A,
-    stepper: &mut S,
-    slot: &SlotState<A>,
-    pages: u64,
-    owner: Option<CoreId>,
-) -> Result<Box<C, A>, NoMemory>
-    requires pages { slot.now.count ≡ 512 * pages }
-    requires stepper { S.can_step stepper.old }
-    ensures ok { IfOk result (λ level. CarriesOn S.stepped stepper.old stepper.new slot.now owner pages (C.begun (box_value level))) }
-    ensures err { OnErr result (stepper.new ≡ stepper.old) }
-{
-    let first = slot.first();
-    let _count = slot.count();
-    let mut parts = side_by_side(alloc, first, pages)?;
-    let mut level = boxed::<C, A>(alloc, first, pages)?;
+    let Ok(level) = boxed::<C, A>(alloc, first, pages) else {
+        return Fit::NoMemory;
+    };
     let divided = Divided {
         first,
         content: slot.content(),
@@ -198,18 +176,33 @@ fn carried<C: Level<A>, A: Allocator + Clone, S: Stepper>(
     };
     let ticket = stepper.step();
     carry_on(&mut parts, &divided, ticket, pages);
-    level.fill(&mut parts);
-    Ok(level)
+    show(below, level, &mut parts, slot, &owner, ticket, pages);
+    Fit::Cut
 }
 
-/// A level with room for 512 slots, and none yet.
+/// Shows the level to all threads, once it has these slots: the parts of the slot that is divided, each with one change
+/// under the ticket. It takes no memory.
+fn show<C: Level<A>, A: Allocator + Clone>(
+    below: &OnceLock<Box<C, A>>,
+    mut level: Box<C, A>,
+    parts: &mut Vec<SlotState<A>, A>,
+    _slot: &SlotState<A>,
+    _owner: &Option<CoreId>,
+    _ticket: u64,
+    _pages: u64,
+)
+    requires count { _slot.now.count ≡ 512 * _pages }
+    requires parts { AreParts (divided_for _slot.now _owner.now) _ticket _pages parts.old.items }
+{
+    level.fill(parts);
+    let _ = below.try_set(level);
+}
+
 fn boxed<C: Level<A>, A: Allocator + Clone>(
     alloc: &A,
     first: u64,
     pages: u64,
-) -> Result<Box<C, A>, NoMemory>
-    ensures { IfOk result (λ level. (C.begun (box_value level) ≡ []) × (512 ≤ C.room (box_value level))) }
-{
+) -> Result<Box<C, A>, NoMemory> {
     let Ok(own) = alloc.clone() else {
         return Err(NoMemory);
     };

@@ -9,6 +9,5 @@ pub mod inner;
 pub mod joint;
 pub mod leaves;
 pub mod level;
-pub mod locked;
 pub mod parts;
 pub mod slot;
