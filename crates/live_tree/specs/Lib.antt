@@ -1,4 +1,3 @@
-pub mod Begun
 pub mod Cutting
 pub mod Guards
 pub mod Held

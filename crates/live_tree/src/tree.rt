@@ -5,7 +5,6 @@ ghost use Rattle.live_levels.specs.Nexts.{Answers, Cuts, Folds};
 ghost use Rattle.live_levels.specs.Parts.{AreUnused};
 ghost use Rattle.live_levels.specs.Slots.{HasPage};
 ghost use Rattle.slot_lock.specs.Slots.{IsNew};
-ghost use Rattle.live_tree.specs.Begun.{begun_slots};
 ghost use Rattle.live_tree.specs.Shown.{shown};
 
 use crate::histories::Histories;
@@ -36,11 +35,25 @@ pub struct SharedTree<A: Allocator> {
 
 impl<A: Allocator + Clone> SharedTree<A> {
     /// All pages unmapped and unheld, in the 512 slots of the first level, with no history.
-    pub fn new(alloc: A) -> Result<SharedTree<A>, NoMemory>
-        ensures slots { IfOk result (λ tree. AreUnused 0 (2 ^ 27) (begun_slots tree)) }
-        ensures pages { IfOk result (λ tree. IsNew (shown (begun_slots tree))) }
+    pub fn new(alloc: A) -> Result<SharedTree<A>, NoMemory> {
+        let slots = SharedTree::first_slots(&alloc)?;
+        SharedTree::over(alloc, slots)
+    }
+
+    /// The slots with which a tree begins, before any thread shares them: the 512 of the first level, which have all pages
+    /// below 2^36. Nothing is mapped, nothing is held, and there is no history.
+    pub fn first_slots(alloc: &A) -> Result<Vec<SlotState<A>, A>, NoMemory>
+        ensures slots { IfOk result (λ slots. AreUnused 0 (2 ^ 27) slots.items) }
+        ensures pages { IfOk result (λ slots. IsNew (shown slots.items)) }
     {
-        let mut slots = side_by_side(&alloc, 0, ROOT_PAGES)?;
+        let slots = side_by_side(alloc, 0, ROOT_PAGES)?;
+        Ok(slots)
+    }
+
+    /// A tree that begins with these slots. What they are from then on no clause knows, since threads change them.
+    pub fn over(alloc: A, mut slots: Vec<SlotState<A>, A>) -> Result<SharedTree<A>, NoMemory>
+        requires { AreUnused 0 (2 ^ 27) slots.items }
+    {
         let Ok(own) = alloc.clone() else {
             return Err(NoMemory);
         };
