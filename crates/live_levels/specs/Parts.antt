@@ -30,10 +30,25 @@ pub record IsPart (d : Divided) (ticket pages by : ℕ) (s : SlotView) : Type 0 
   pub content : s.content ≡ info_from d.content by
   pub changes : s.changes ≡ dated ticket (carried_act d.content by) ∷ []
 
+-- unmapped, with no history, and no core is to lock it first
+pub record IsUnused (s : SlotView) : Type 0 where
+  pub owner : s.owner ≡ None
+  pub content : s.content ≡ None
+  pub changes : s.changes ≡ []
+
 -- 512 slots of so many pages lie side by side
 pub record AreSideBySide (first pages : ℕ) (slots : List SlotView) : Type 0 where
   pub count : length slots ≡ 512
   pub each : (k : ℕ) (d : SlotView) → k < 512 → IsPlaced (first + k * pages) pages (get_or slots k d)
+
+-- 512 slots of so many pages lie side by side, and none was ever used
+pub record AreUnused (first pages : ℕ) (slots : List SlotView) : Type 0 where
+  pub places : AreSideBySide first pages slots
+  pub each : (k : ℕ) (d : SlotView) → k < 512 → IsUnused (get_or slots k d)
+
+-- the slot, as it is divided for an owner
+abbrev pub divided_for : SlotView → Option ℕ → Divided
+divided_for s owner = record { first = s.first; content = s.content; owner = owner }
 
 -- the slots are the 512 parts of the divided slot, in order
 pub record AreParts (d : Divided) (ticket pages : ℕ) (slots : List SlotView) : Type 0 where

@@ -1,6 +1,7 @@
 //! What the levels of the shared tree do. A level is 512 slots side by side, and none of the types holds itself.
 ghost use Rattle.std.specs.Prelude.{◌≡◌, ◌≢◌, ℕ, ◌+◌, ◌*◌, ◌<◌, ◌≤◌, ◌^◌, [], ◌∷◌, ◌++◌, vec_len, vec_capacity, Some, IfSome, IfNone, IsTrue, ◌↔◌, ◌-◌};
 ghost use Rattle.std.specs.Sync.Mutex.{mutex_guard_value};
+ghost use Rattle.live_levels.specs.Parts.{AreParts, divided_for};
 ghost use Rattle.live_levels.specs.Nexts.{Answers, Cuts, IsFreeFor, Folds};
 ghost use Rattle.live_levels.specs.Slots.{HasPage};
 ghost use Rattle.live_levels.specs.Histories.{Grew};
@@ -165,7 +166,7 @@ pub(crate) fn divide<C: Level<A>, A: Allocator + Clone, S: Stepper>(
     let Ok(mut parts) = side_by_side(alloc, first, pages) else {
         return Fit::NoMemory;
     };
-    let Ok(mut level) = boxed::<C, A>(alloc, first, pages) else {
+    let Ok(level) = boxed::<C, A>(alloc, first, pages) else {
         return Fit::NoMemory;
     };
     let divided = Divided {
@@ -175,9 +176,26 @@ pub(crate) fn divide<C: Level<A>, A: Allocator + Clone, S: Stepper>(
     };
     let ticket = stepper.step();
     carry_on(&mut parts, &divided, ticket, pages);
-    level.fill(&mut parts);
-    let _ = below.try_set(level);
+    show(below, level, &mut parts, slot, &owner, ticket, pages);
     Fit::Cut
+}
+
+/// Shows the level to all threads, once it has these slots: the parts of the slot that is divided, each with one change
+/// under the ticket. It takes no memory.
+fn show<C: Level<A>, A: Allocator + Clone>(
+    below: &OnceLock<Box<C, A>>,
+    mut level: Box<C, A>,
+    parts: &mut Vec<SlotState<A>, A>,
+    _slot: &SlotState<A>,
+    _owner: &Option<CoreId>,
+    _ticket: u64,
+    _pages: u64,
+)
+    requires count { _slot.now.count ≡ 512 * _pages }
+    requires parts { AreParts (divided_for _slot.now _owner.now) _ticket _pages parts.old.items }
+{
+    level.fill(parts);
+    let _ = below.try_set(level);
 }
 
 fn boxed<C: Level<A>, A: Allocator + Clone>(

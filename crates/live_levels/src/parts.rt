@@ -2,7 +2,7 @@
 ghost use Rattle.std.specs.Prelude.{◌≡◌, ℕ, ◌+◌, ◌-◌, ◌*◌, ◌<◌, ◌≤◌, ◌^◌, false, None, IfOk, length};
 ghost use Rattle.vm_base.specs.Info.{info_file_page, info_from, is_leaf};
 ghost use Rattle.live_levels.specs.Replay.{after};
-ghost use Rattle.live_levels.specs.Parts.{AreParts, AreSideBySide, CanCarry, carried_act};
+ghost use Rattle.live_levels.specs.Parts.{AreParts, AreSideBySide, AreUnused, CanCarry, carried_act};
 
 use crate::act::Act;
 use crate::slot::SlotState;
@@ -28,7 +28,7 @@ pub fn side_by_side<A: Allocator + Clone>(
 ) -> Result<Vec<SlotState<A>, A>, NoMemory>
     requires some { 1 ≤ pages }
     requires place { first + 512 * pages ≤ 2 ^ 36 }
-    ensures { IfOk result (λ v. AreSideBySide first pages v.items) }
+    ensures { IfOk result (λ v. AreUnused first pages v.items) }
 {
     let mut slots = Vec::with_capacity(alloc.clone()?, SLOTS)?;
     'slots: for k in 0..SLOTS {

@@ -1,4 +1,6 @@
 pub mod Along
+pub mod Begun
+pub mod Changed
 pub mod Committed
 pub mod Cuts
 pub mod Gathered

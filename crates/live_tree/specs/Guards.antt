@@ -11,3 +11,8 @@ no_slot = record { first = 0; count = 0; owner = None; content = None; changes =
 abbrev pub slot_of : Option (MutexGuard SlotView) → SlotView
 slot_of None = no_slot
 slot_of (Some guard) = mutex_guard_value guard
+
+-- the slot of a guard, where there is one
+abbrev pub noted_slot : Option (MutexGuard SlotView) → Option SlotView
+noted_slot None = None
+noted_slot (Some guard) = Some (mutex_guard_value guard)

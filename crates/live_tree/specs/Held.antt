@@ -8,7 +8,7 @@ use Rattle.slot_lock.specs.Plan.{range_of, FitsFile}
 use Rattle.live_levels.specs.declared.act.Act.{Act}
 use Rattle.live_levels.specs.declared.act.Act.TheVariants as ActOf
 use Rattle.live_levels.specs.Replay.{dated}
-use Rattle.live_levels.specs.Slots.{SlotView, changed}
+use Rattle.live_levels.specs.Slots.{SlotView, Suits, changed}
 
 -- held slots, from the page `first` up to `end`
 pub record HeldView : Type 0 where
@@ -46,6 +46,11 @@ CrossesNoEdge range s = (is_inside range s ≡ true) ⊎ ((s.first + s.count ≤
 -- a slot in the range has room for one change more
 abbrev pub HasRoom : PageRange → SlotView → Type 0
 HasRoom range s = is_inside range s ≡ true → 0 < s.room
+
+-- the act can be done to the slot, in room that there is
+pub record CanTake (act : Act) (s : SlotView) : Type 0 where
+  pub room : 0 < s.room
+  pub suits : Suits act s.count
 
 -- the file pages of what the change maps are numbers that a file can have
 abbrev pub FitsFiles : Change → Type 0

@@ -1,5 +1,6 @@
 pub mod Cutting
 pub mod Guards
 pub mod Held
+pub mod Letting
 pub mod Shown
 pub mod Steps

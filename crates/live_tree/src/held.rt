@@ -1,15 +1,17 @@
 //! The slots that a call holds.
-ghost use Rattle.std.specs.Prelude.{◌≡◌, ℕ, ◌+◌, ◌-◌, ◌<◌, ◌≤◌, ◌^◌, true, [], ◌∷◌, ◌++◌, length, map, All, OnOk, OnErr, IsSome};
+ghost use Rattle.std.specs.Prelude.{◌≡◌, ℕ, ◌+◌, ◌-◌, ◌<◌, ◌≤◌, ◌^◌, true, [], ◌∷◌, ◌++◌, length, map, All, OnOk, OnErr, IsSome, None};
 ghost use Rattle.std.specs.Sync.Mutex.{mutex_guard_value};
 ghost use Rattle.slot_lock.specs.Plan.{range_of};
 ghost use Rattle.live_levels.specs.Slots.{SlotView, Suits};
 ghost use Rattle.live_tree.specs.Guards.{slot_of};
 ghost use Rattle.live_tree.specs.Held.{HeldView, with_slot, committed, Covers, CrossesNoEdge, HasRoom, FitsFiles, act_on, is_inside};
+ghost use Rattle.live_tree.specs.Letting.{letting_view};
 ghost use Rattle.live_tree.specs.Shown.{ChangesPages};
 ghost use Rattle.live_tree.specs.Steps.{Acquires};
 
 pub mod cut;
 pub mod lend;
+pub mod page;
 pub mod reserve;
 
 use crate::letting::Letting;
@@ -141,7 +143,7 @@ impl<'a, A: Allocator + Clone> Held<'a, A> {
 
     /// All held slots are to be let go.
     pub fn letting(self) -> Letting<'a, A>
-        ensures { result ≡ self.entry.slots }
+        ensures { result ≡ letting_view self.entry.slots None }
     {
         let Held { guards, .. } = self;
         Letting::of(guards)

@@ -1,28 +1,32 @@
 //! Held slots that are let go.
 ghost use Rattle.std.specs.Prelude.{◌≡◌, ◌<◌, length, map, drop, All, IsSome, None};
 ghost use Rattle.live_tree.specs.Guards.{slot_of};
+ghost use Rattle.live_tree.specs.Letting.{letting_view, freed_first};
 
 use crate::held::Guards;
 use live_levels::level::Stepper;
 use live_levels::slot::SlotState;
 use std::alloc::Allocator;
 use std::marker::Model;
+use std::sync::MutexGuard;
 
-/// Held slots that are let go one after another, from left to right. A clause sees those that are still locked.
+/// Held slots that are let go one after another, from left to right. A clause sees those that are still locked: the slots
+/// of which nothing is noted yet, and the slot that was noted last.
 #[derive(Drop)]
 pub struct Letting<'a, A: Allocator> {
     // from right to left, so that the next one is the last
     guards: Guards<'a, A>,
+    noted: Option<MutexGuard<'a, SlotState<A>>>,
 }
 
 impl<'a, A: Allocator> Model for Letting<'a, A> {
-    ghost use Rattle.std.specs.Prelude.{List, map, reverse, All, IsSome};
-    ghost use Rattle.live_levels.specs.Slots.{SlotView};
-    ghost use Rattle.live_tree.specs.Guards.{slot_of};
+    ghost use Rattle.std.specs.Prelude.{map, reverse, All, IsSome};
+    ghost use Rattle.live_tree.specs.Letting.{LettingView, letting_view};
+    ghost use Rattle.live_tree.specs.Guards.{slot_of, noted_slot};
 
-    ghost Value = { List SlotView };
+    ghost Value = { LettingView };
 
-    ghost view = { λ l. reverse (map slot_of l.guards.items) };
+    ghost view = { λ l. letting_view (reverse (map slot_of l.guards.items)) (noted_slot l.noted) };
 
     ghost invariant = { λ l. All IsSome l.guards.items };
 }
@@ -31,31 +35,58 @@ impl<'a, A: Allocator> Letting<'a, A> {
     /// All of these are to be let go.
     pub(crate) fn of(mut guards: Guards<'a, A>) -> Letting<'a, A>
         requires { All IsSome guards.items }
-        ensures { result ≡ map slot_of guards.entry.items }
+        ensures { result ≡ letting_view (map slot_of guards.entry.items) None }
     {
         guards.as_mut_slice().reverse();
-        Letting { guards }
+        Letting {
+            guards,
+            noted: None,
+        }
     }
 
-    /// How many slots are still locked.
+    /// How many slots are locked of which nothing is noted yet.
     pub fn len(&self) -> usize
-        ensures { result ≡ length self.now }
+        ensures { result ≡ length self.now.slots }
     {
         self.guards.len()
+    }
+
+    /// Notes that the leftmost slot is let go, and answers the ticket of the step. The slot is still locked then, and no
+    /// core is to lock it first any more. The slot that was noted before is unlocked. It takes no memory.
+    pub fn note_first<S: Stepper>(&mut self, stepper: &mut S) -> u64
+        requires some { 0 < length self.old.slots }
+        requires step { S.can_step stepper.old }
+        ensures first { self.new ≡ letting_view (drop 1 self.old.slots) (freed_first self.old.slots) }
+        ensures noted { S.stepped stepper.old result stepper.new }
+    {
+        match self.guards.pop() {
+            Some(Some(mut slot)) => {
+                let ticket = free(&mut slot, stepper);
+                self.noted = Some(slot);
+                ticket
+            }
+            _ => unreachable!(),
+        }
+    }
+
+    /// Unlocks the slot that was noted. It takes no memory.
+    pub fn unlock_noted(&mut self)
+        ensures { self.new ≡ letting_view self.old.slots None }
+    {
+        self.noted = None;
     }
 
     /// Lets the leftmost slot go, and answers the ticket of the step, which is noted while the slot is still locked. No
     /// core is to lock the slot first any more. It takes no memory.
     pub fn unlock_first<S: Stepper>(&mut self, stepper: &mut S) -> u64
-        requires some { 0 < length self.old }
+        requires some { 0 < length self.old.slots }
         requires step { S.can_step stepper.old }
-        ensures first { self.new ≡ drop 1 self.old }
+        ensures first { self.new ≡ letting_view (drop 1 self.old.slots) None }
         ensures noted { S.stepped stepper.old result stepper.new }
     {
-        match self.guards.pop() {
-            Some(Some(mut slot)) => free(&mut slot, stepper),
-            _ => unreachable!(),
-        }
+        let ticket = self.note_first(stepper);
+        self.unlock_noted();
+        ticket
     }
 }
 

@@ -1,8 +1,11 @@
 //! The shared tree: four levels of slots.
-ghost use Rattle.std.specs.Prelude.{◌≡◌, ℕ, ◌<◌, ◌^◌, IfSome};
+ghost use Rattle.std.specs.Prelude.{◌≡◌, ℕ, ◌<◌, ◌^◌, IfOk, IfSome};
 ghost use Rattle.std.specs.Sync.Mutex.{mutex_guard_value};
 ghost use Rattle.live_levels.specs.Nexts.{Answers, Cuts, Folds};
+ghost use Rattle.live_levels.specs.Parts.{AreUnused};
 ghost use Rattle.live_levels.specs.Slots.{HasPage};
+ghost use Rattle.slot_lock.specs.Slots.{IsNew};
+ghost use Rattle.live_tree.specs.Shown.{shown};
 
 use crate::histories::Histories;
 use live_levels::inner::Inner;
@@ -31,9 +34,26 @@ pub struct SharedTree<A: Allocator> {
 }
 
 impl<A: Allocator + Clone> SharedTree<A> {
-    /// All pages unmapped and unheld, in the slots of the first level, with no history.
+    /// All pages unmapped and unheld, in the 512 slots of the first level, with no history.
     pub fn new(alloc: A) -> Result<SharedTree<A>, NoMemory> {
-        let mut slots = side_by_side(&alloc, 0, ROOT_PAGES)?;
+        let slots = SharedTree::first_slots(&alloc)?;
+        SharedTree::over(alloc, slots)
+    }
+
+    /// The slots with which a tree begins, before any thread shares them: the 512 of the first level, which have all pages
+    /// below 2^36. Nothing is mapped, nothing is held, and there is no history.
+    pub fn first_slots(alloc: &A) -> Result<Vec<SlotState<A>, A>, NoMemory>
+        ensures slots { IfOk result (λ slots. AreUnused 0 (2 ^ 27) slots.items) }
+        ensures pages { IfOk result (λ slots. IsNew (shown slots.items)) }
+    {
+        let slots = side_by_side(alloc, 0, ROOT_PAGES)?;
+        Ok(slots)
+    }
+
+    /// A tree that begins with these slots. What they are from then on no clause knows, since threads change them.
+    pub fn over(alloc: A, mut slots: Vec<SlotState<A>, A>) -> Result<SharedTree<A>, NoMemory>
+        requires { AreUnused 0 (2 ^ 27) slots.items }
+    {
         let Ok(own) = alloc.clone() else {
             return Err(NoMemory);
         };

@@ -1,0 +1,14 @@
+use Rattle.std.proofs.Common.{◌≡◌, map, take, drop, ◌++◌}
+use Rattle.std.specs.Prelude.{All, IsSome}
+use Rattle.live_levels.specs.Replay.{dated}
+use Rattle.live_levels.specs.Slots.{changed}
+use Rattle.live_tree.specs.Guards.{slot_of}
+use Rattle.live_tree.proofs.held.page.change_all.Given as goal
+
+abbrev pub invariant-guards : goal.invariant-guards
+invariant-guards g l = record {
+  slots : map slot_of l.guard-items
+      ≡ map (λ s. changed s (dated l.ticket l.act)) (take l.guard-index (map slot_of l.initial.guard-items))
+      ++ drop l.guard-index (map slot_of l.initial.guard-items);
+  some : All IsSome l.guard-items;
+}
