@@ -1,5 +1,5 @@
 // How long the parts take: with one of the words below, nanoseconds a round; with no word each part runs with little to do.
-// bench/pieces.sh says what the parts are, and compares them with plain Rust.
+// bench/pieces.sh says what the parts are, and compares them with plain Rust; bench/threads.sh compares threads with one.
 #![tactic(auto)]
 
 ghost use Rattle.std.specs.Prelude.{◌<◌, ◌≤◌, ◌^◌};
@@ -10,11 +10,15 @@ mod counts;
 mod hits;
 mod ranges;
 mod slots;
+mod threads;
 mod tree;
 
 use crate::hits::Order;
+use crate::threads::Shared;
 use std::alloc::Global;
 use std::rt::Clock;
+use std::sync::Wait;
+use std::thread::Threads;
 use std::{env, io};
 
 /// Shows how long one round took, in nanoseconds with one decimal, or that there was no memory or no such part.
@@ -41,9 +45,26 @@ fn tell(rt: &impl Print, nanos: Option<u128>) -> io::Result<()> {
 }
 
 /// The words of the parts.
-const WORDS: [&str; 15] = [
-    "slots", "look", "tree", "scan", "edit", "hit", "oldest", "newest", "miss", "clear", "byte",
-    "fill", "copy", "count", "flush",
+const WORDS: [&str; 19] = [
+    "slots",
+    "look",
+    "tree",
+    "scan",
+    "edit",
+    "hit",
+    "oldest",
+    "newest",
+    "miss",
+    "clear",
+    "byte",
+    "fill",
+    "copy",
+    "count",
+    "flush",
+    "alone",
+    "four",
+    "mutex",
+    "mutex_four",
 ];
 
 /// How many rounds the part is timed for.
@@ -64,8 +85,8 @@ fn rounds_of(word: &str) -> u64
 
 /// The nanoseconds of so many rounds of the part, over so many mapped pages where it has a map; none where memory is
 /// refused, or there is no such part.
-fn time(
-    rt: &impl Clock,
+fn time<R: Threads + Wait + Clock + Sync>(
+    rt: &R,
     alloc: Global,
     word: &str,
     pages: u64,
@@ -90,12 +111,16 @@ fn time(
         "copy" => bytes::time_copies(rt, alloc, rounds),
         "count" => counts::time_counts(rt, alloc, rounds),
         "flush" => counts::time_flushes(rt, alloc, rounds),
+        "alone" => threads::time(rt, alloc, Shared::Tree, 1, rounds),
+        "four" => threads::time(rt, alloc, Shared::Tree, 4, rounds),
+        "mutex" => threads::time(rt, alloc, Shared::OneMutex, 1, rounds),
+        "mutex_four" => threads::time(rt, alloc, Shared::OneMutex, 4, rounds),
         _ => Ok(None),
     }
 }
 
 /// Each part with little to do.
-fn try_each(rt: &(impl Print + Clock), alloc: Global) -> io::Result<()> {
+fn try_each<R: Print + Threads + Wait + Clock + Sync>(rt: &R, alloc: Global) -> io::Result<()> {
     'words: for i in 0..WORDS.len() {
         tell(rt, time(rt, alloc, WORDS[i], 5_000, 2)?)?;
     }
