@@ -1,14 +1,20 @@
 //! `live_tree`: worked acquisitions, cuts, commits and folds, and what the histories have.
 ghost use Rattle.std.specs.Prelude.{◌≡◌, ◌<◌, ◌≤◌, ◌^◌};
 
-use live_levels::level::Stepper;
+use live_levels::act::Act;
+use live_levels::close::SlotHistory;
+use live_levels::level::{Fit, Next, Stepper};
 use live_tree::held::cut::Cutting;
 use live_tree::held::{Got, Held};
 use live_tree::tree::SharedTree;
 use std::alloc::Global;
 use std::sync::Wait;
 use std::test::Fail;
+use std::thread::{self, Threads};
 use vm_base::{CoreId, PageRange};
+
+// How often each of two threads changes one page.
+const ROUNDS: usize = 1000;
 
 // Counts the steps that are noted, in place of tickets.
 #[derive(Drop)]
@@ -119,17 +125,31 @@ fn cut_round<R: Wait>(rt: &R, tree: &SharedTree<Global>, page: u64) -> Option<(u
     Some((cuts, count))
 }
 
-// How many slots the histories of a tree have in which these pages were acquired, and whether four folds at the page did
-// something.
-fn folded<R: Wait>(
-    rt: &R,
-    alloc: Global,
-    first: u64,
-    end: u64,
-    page: u64,
-) -> Option<(usize, [bool; 4], usize)> {
+// The place of the slot that has the page.
+fn place_of(slots: &[SlotHistory<Global>], page: u64) -> Option<(u64, u64)> {
+    'slots: for slot in slots {
+        if slot.first <= page && page - slot.first < slot.count {
+            return Some((slot.first, slot.count));
+        }
+    }
+    None
+}
+
+// What folds come to in a tree in which the page 16 of each of the first two slots was acquired: how many slots its
+// histories have, whether four folds at a page did something, how many slots there are then, and which slots the two pages
+// are in.
+#[derive(Drop)]
+struct Folded {
+    before: usize,
+    folds: [bool; 4],
+    after: usize,
+    places: [Option<(u64, u64)>; 2],
+}
+
+fn fold_at<R: Wait>(rt: &R, alloc: Global, page: u64) -> Option<Folded> {
     let mut tree = SharedTree::new(alloc).ok()?;
-    let _counted = counted(rt, &tree, first, end, 8)?;
+    counted(rt, &tree, 16, 17, 8)?;
+    counted(rt, &tree, (1 << 27) + 16, (1 << 27) + 17, 8)?;
     let before = tree.histories()?.slots().len();
     let mut counter = Counter { steps: 0 };
     let folds = [
@@ -138,8 +158,110 @@ fn folded<R: Wait>(
         tree.fold(&mut counter, page),
         tree.fold(&mut counter, page),
     ];
-    let after = tree.histories()?.slots().len();
-    Some((before, folds, after))
+    let histories = tree.histories()?;
+    let slots = histories.slots();
+    Some(Folded {
+        before,
+        folds,
+        after: slots.len(),
+        places: [place_of(slots, 16), place_of(slots, (1 << 27) + 16)],
+    })
+}
+
+// What a core is told that asks once for a slot from the page on, and how many steps are noted until it has let go again.
+fn told<R: Wait>(
+    rt: &R,
+    tree: &SharedTree<Global>,
+    core: CoreId,
+    first: u64,
+    end: u64,
+) -> (Got, u64)
+    requires { first < end }
+{
+    let mut counter = Counter { steps: 0 };
+    let mut held = Held::new(tree.alloc(), first);
+    let got = held.lock_next(rt, tree, &mut counter, core, end, 0);
+    let_all_go(&mut counter, held);
+    (got, counter.steps)
+}
+
+// A core cuts the second slot of the first level, and lets go of it; tells whether it did.
+fn is_cut<R: Wait>(rt: &R, tree: &SharedTree<Global>, core: CoreId) -> bool {
+    let mut counter = Counter { steps: 0 };
+    let slot = match tree.lock_next(rt, &mut counter, core, 1 << 27, 1 << 28) {
+        Next::Whole(slot) => slot,
+        Next::Split | Next::Owned(_) | Next::NoMemory | Next::Lost => return false,
+    };
+    tree.cut(&mut counter, core, &slot) == Fit::Cut
+}
+
+// Tells whether a held slot of the first level can be lent.
+fn is_lent<R: Wait>(rt: &R, tree: &SharedTree<Global>, first: u64) -> Option<bool>
+    requires { first < 2 ^ 36 }
+{
+    let mut counter = Counter { steps: 0 };
+    let mut held = Held::new(tree.alloc(), first);
+    lock_all(rt, tree, &mut counter, &mut held, first + (1 << 27), 2)?;
+    let is_lent = held.lent(*tree.alloc(), CoreId::new(0)).is_some();
+    let_all_go(&mut counter, held);
+    Some(is_lent)
+}
+
+// How often a held slot is cut round no page, and how many slots are held then.
+fn cut_at_its_begin<R: Wait>(rt: &R, tree: &SharedTree<Global>) -> Option<(u32, usize)> {
+    let mut counter = Counter { steps: 0 };
+    let mut held = Held::new(tree.alloc(), 1 << 27);
+    lock_all(rt, tree, &mut counter, &mut held, 1 << 28, 2)?;
+    let empty = PageRange {
+        first: 1 << 27,
+        end: 1 << 27,
+    };
+    let cuts = cuts(rt, tree, &mut held, empty)?;
+    let count = let_all_go(&mut counter, held);
+    Some((cuts, count))
+}
+
+// What a tree does at the page past its last one: whether a slot is locked there, whether one is folded, and how many slots
+// there are then.
+fn at_the_end<R: Wait>(rt: &R, alloc: Global) -> Option<(bool, bool, usize)> {
+    let mut tree = SharedTree::new(alloc).ok()?;
+    let mut counter = Counter { steps: 0 };
+    let is_locked = tree.lock_at(rt, 1 << 36).is_some();
+    let is_folded = tree.fold(&mut counter, 1 << 36);
+    Some((is_locked, is_folded, tree.histories()?.slots().len()))
+}
+
+// Many rounds in which a thread of its own locks the page 16, changes it once and lets it go; whether each did.
+fn change_often<R: Wait>(rt: &R, tree: &SharedTree<Global>, core: CoreId) -> bool {
+    let mut counter = Counter { steps: 0 };
+    'rounds: for _ in 0..ROUNDS {
+        let mut held = Held::new(tree.alloc(), 16);
+        if held.lock_next(rt, tree, &mut counter, core, 17, 1) != Got::Locked {
+            return false;
+        }
+        let ticket = counter.step();
+        held.change_each(ticket, Act::Clear);
+        let_all_go(&mut counter, held);
+    }
+    true
+}
+
+// How many changes the page 16 has once two threads changed it side by side, each in so many rounds.
+fn changes_of_two<R: Threads + Wait + Sync>(rt: &R, alloc: Global) -> Option<usize> {
+    let mut tree = SharedTree::new(alloc).ok()?;
+    counted(rt, &tree, 16, 17, 8)?;
+    let mut done = [false, false];
+    let run = |place: usize, is_done: &mut bool| {
+        let core = CoreId::new(if place == 0 { 0 } else { 1 });
+        *is_done = change_often(rt, &tree, core);
+    };
+    thread::for_each_mut(rt, &mut done, 2, &run);
+    if done != [true, true] {
+        return None;
+    }
+    let histories = tree.histories()?;
+    let slot = histories.slots().get(16)?;
+    Some(slot.changes.len())
 }
 
 #[test]
@@ -168,7 +290,63 @@ fn a_held_slot_is_cut_round_a_page(rt: HostRuntime) -> Result<(), Fail> {
 
 #[test]
 fn levels_are_folded_up_to_the_first(rt: HostRuntime) -> Result<(), Fail> {
-    let told = folded(&rt, rt.alloc(), 16, 17, 1);
-    assert!(rt; told == Some((512 + 3 * 511, [true, true, true, false], 512)));
+    let folded = fold_at(&rt, rt.alloc(), 1).ok_or("memory")?;
+    assert!(rt; (folded.before, folded.after) == (512 + 6 * 511, 512 + 3 * 511));
+    assert!(rt; folded.folds == [true, true, true, false]);
+    assert!(rt; folded.places == [Some((0, 1 << 27)), Some(((1 << 27) + 16, 1))]);
+    Ok(())
+}
+
+#[test]
+fn a_fold_leaves_other_slots_of_the_first_level(rt: HostRuntime) -> Result<(), Fail> {
+    let folded = fold_at(&rt, rt.alloc(), (1 << 27) + 1).ok_or("memory")?;
+    assert!(rt; (folded.before, folded.after) == (512 + 6 * 511, 512 + 3 * 511));
+    assert!(rt; folded.folds == [true, true, true, false]);
+    assert!(rt; folded.places == [Some((16, 1)), Some((1 << 27, 1 << 27))]);
+    Ok(())
+}
+
+#[test]
+fn a_slot_that_core_0_cut_is_core_0s_until_it_lets_go(rt: HostRuntime) -> Result<(), Fail> {
+    let tree = SharedTree::new(rt.alloc()).ok().ok_or("memory")?;
+    let (zero, one) = (CoreId::new(0), CoreId::new(1));
+    let (first, next, end) = (1 << 27, (1 << 27) + (1 << 18), (1 << 27) + (2 << 18));
+    assert!(rt; is_cut(&rt, &tree, zero));
+    assert!(rt; told(&rt, &tree, one, first, next) == (Got::Owned(zero), 0));
+    assert!(rt; told(&rt, &tree, zero, first, next) == (Got::Locked, 2));
+    assert!(rt; told(&rt, &tree, one, first, next) == (Got::Locked, 2));
+    assert!(rt; told(&rt, &tree, one, next, end) == (Got::Owned(zero), 0));
+    Ok(())
+}
+
+#[test]
+fn a_page_past_the_last_is_lost_and_nothing_changes(rt: HostRuntime) -> Result<(), Fail> {
+    let tree = SharedTree::new(rt.alloc()).ok().ok_or("memory")?;
+    let (core, end) = (CoreId::new(0), 1 << 36);
+    assert!(rt; told(&rt, &tree, core, end, end + 1) == (Got::Lost, 0));
+    assert!(rt; told(&rt, &tree, core, end - (1 << 27), end) == (Got::Locked, 2));
+    assert!(rt; at_the_end(&rt, rt.alloc()) == Some((false, false, 512)));
+    Ok(())
+}
+
+#[test]
+fn pages_that_are_not_valid_are_not_lent(rt: HostRuntime) -> Result<(), Fail> {
+    let tree = SharedTree::new(rt.alloc()).ok().ok_or("memory")?;
+    assert!(rt; is_lent(&rt, &tree, 1 << 27) == Some(true));
+    assert!(rt; is_lent(&rt, &tree, 1 << 35) == Some(false));
+    assert!(rt; is_lent(&rt, &tree, 0) == Some(false));
+    Ok(())
+}
+
+#[test]
+fn an_empty_range_cuts_nothing(rt: HostRuntime) -> Result<(), Fail> {
+    let tree = SharedTree::new(rt.alloc()).ok().ok_or("memory")?;
+    assert!(rt; cut_at_its_begin(&rt, &tree) == Some((0, 1)));
+    Ok(())
+}
+
+#[test]
+fn a_page_that_two_threads_change_has_the_changes_of_both(rt: HostRuntime) -> Result<(), Fail> {
+    assert!(rt; changes_of_two(&rt, rt.alloc()) == Some(1 + 2 * ROUNDS));
     Ok(())
 }
