@@ -45,7 +45,7 @@ fn tell(rt: &impl Print, nanos: Option<u128>) -> io::Result<()> {
 }
 
 /// The words of the parts.
-const WORDS: [&str; 19] = [
+const WORDS: [&str; 23] = [
     "slots",
     "look",
     "tree",
@@ -63,8 +63,12 @@ const WORDS: [&str; 19] = [
     "flush",
     "alone",
     "four",
+    "tickets",
+    "tickets_four",
     "mutex",
     "mutex_four",
+    "own",
+    "own_four",
 ];
 
 /// How many rounds the part is timed for.
@@ -78,7 +82,8 @@ fn rounds_of(word: &str) -> u64
         "hit" | "oldest" | "newest" => 50_000_000,
         "byte" | "count" => 20_000_000,
         "look" => 10_000_000,
-        "fill" | "copy" => 1_000_000,
+        "fill" | "copy" | "mutex" | "mutex_four" => 1_000_000,
+        "own" | "own_four" => 20_000_000,
         _ => 5_000_000,
     }
 }
@@ -113,8 +118,12 @@ fn time<R: Threads + Wait + Clock + Sync>(
         "flush" => counts::time_flushes(rt, alloc, rounds),
         "alone" => threads::time(rt, alloc, Shared::Tree, 1, rounds),
         "four" => threads::time(rt, alloc, Shared::Tree, 4, rounds),
+        "tickets" => threads::time(rt, alloc, Shared::Tickets, 1, rounds),
+        "tickets_four" => threads::time(rt, alloc, Shared::Tickets, 4, rounds),
         "mutex" => threads::time(rt, alloc, Shared::OneMutex, 1, rounds),
         "mutex_four" => threads::time(rt, alloc, Shared::OneMutex, 4, rounds),
+        "own" => threads::time(rt, alloc, Shared::OwnMutex, 1, rounds),
+        "own_four" => threads::time(rt, alloc, Shared::OwnMutex, 4, rounds),
         _ => Ok(None),
     }
 }
