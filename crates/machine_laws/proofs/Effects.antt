@@ -34,12 +34,11 @@ use Rattle.machine_model.specs.Actions.{to, with_entry, after_reply, let_go, ans
 use Rattle.machine_model.specs.Changes.{slots_after, after_post, reply_to}
 use Rattle.machine_model.specs.Counting.{with_counts}
 use Rattle.machine_model.specs.GivingUp.{given_back}
-use Rattle.machine_model.specs.Holding.{goal_range, plan_in, can_give_up, is_open, still_held, taken_in}
+use Rattle.machine_model.specs.Holding.{goal_range, can_give_up, still_held, taken_in}
 use Rattle.machine_model.specs.Locks.{locking, locked_to, all_locked, held_after}
 use Rattle.machine_model.specs.Translating.{after_translating}
 use Rattle.machine_model.specs.World.{World, Hardware, Memory}
 use Rattle.machine_model.specs.Step.{after_call}
-use Rattle.vm_base.specs.declared.info.Meta.{Meta}
 use Rattle.vm_base.specs.declared.replies.SegvCode.TheVariants.{MapErr}
 use Rattle.vm_base.specs.declared.replies.Reply.TheVariants as ReplyOf
 use Rattle.vm_base.specs.declared.requests.Request.TheVariants as RequestOf

@@ -1,6 +1,6 @@
 -- Every step from an orderly state leaves an orderly one.
 use Rattle.std.proofs.Common.{◌≡◌, ◌≢◌, ℕ, suc, ◌≤◌, ◌<◌, ◌+◌, Bool, true, false, cond, refl, sym, ap, subst, arith, Some, None, Option, List, [], ◌∷◌, ◌++◌, ◌∙◌, length, length-append, ⊎_elim, ◌==◌}
-use Rattle.std.specs.Prelude.{nat_le, ◌-◌}
+use Rattle.std.specs.Prelude.{nat_le}
 use Rattle.std.proofs.lemmas.Bool.{cases_lt}
 use Rattle.std.proofs.lemmas.Bool.Decides.{nat_tests}
 use Rattle.vm_base.specs.declared.info.Back.{Back}
@@ -15,12 +15,12 @@ use Rattle.vm_base.specs.Functions.{put, has}
 use Rattle.vm_base.specs.Info.{info_with_frame}
 use Rattle.vm_base.specs.Pages.{IsPageRange}
 use Rattle.vm_base.specs.Plain.{Bytes, mode_of}
-use Rattle.vm_base.proofs.Functions.{by_test, put_all, put_both, put_same, put_other, has_in, in_has, eq_false}
+use Rattle.vm_base.proofs.Functions.{by_test, put_all, put_both, put_same, put_other, has_in, eq_false}
 use Rattle.slot_lock.specs.declared.plan.Change.{Change}
 use Rattle.slot_lock.specs.declared.plan.Plan.TheVariants as PlanOf
 use Rattle.slot_lock.specs.declared.plan.Touch.{Touch}
 use Rattle.slot_lock.specs.Plan.{range_of, IsSoundTouch}
-use Rattle.slot_lock.specs.Slots.{Slots, Locks, Unlocks, Joins, between, with_info, with_owner}
+use Rattle.slot_lock.specs.Slots.{Slots, Locks, Unlocks, between, with_info, with_owner}
 use Rattle.vm_calls.specs.declared.decision.Decision.TheVariants.{Act}
 use Rattle.vm_calls.specs.Decisions.{Decides}
 use Rattle.machine_model.specs.declared.event.Event.{Event}
@@ -38,16 +38,17 @@ use Rattle.refcache.specs.Steps.{Takes, Begin, Inc, Dec, Flushing, Reviewing}
 use Rattle.machine_model.specs.Changes.{slots_after, after_post, after_commit, reply_to, CountsLost}
 use Rattle.machine_model.specs.Counting.{frame_lost, with_counts, with_free}
 use Rattle.machine_model.specs.GivingUp.{given_back, after_give_up}
-use Rattle.machine_model.specs.Holding.{goal_range, goal_plan, page_of_touch, range_held, holds, some_has, taken_in, is_open, can_give_up, still_held, if_some_page, plan_in}
+use Rattle.machine_model.specs.Holding.{goal_range, goal_plan, page_of_touch, range_held, holds, some_has, taken_in, is_open, can_give_up, still_held, if_some_page}
 use Rattle.machine_model.specs.Locks.{locking, locked_to, all_locked, held_after}
 use Rattle.machine_model.specs.World.{World, Made, Memory}
 use Rattle.machine_model.specs.Step.{after_call, with_event, Step}
 use Rattle.machine_laws.specs.Orderly.{IsOrderly, IsAsked, Serves, ServesSome, IsCutFor, IsReady, IsUsable, BelongsTo, IsMemory}
 use Rattle.machine_laws.proofs.Asked.{asked_more}
+use Rattle.machine_laws.proofs.Beside.{other_memory, joined}
 use Rattle.machine_laws.proofs.Counted.{frees, written, cached_more, counted, counts_down, freed}
 use Rattle.machine_laws.proofs.Changed.{changed_owner, changed_edge, same_outside}
 use Rattle.machine_laws.proofs.Deciding.{change_sound, touch_sound, sound_range, acts_own}
-use Rattle.machine_laws.proofs.Moves.{IsCall, IsCallOf, call_at, Touches, untouched, KeepsCached, page_is, goes_on, copies_on, tells, same_pages, none_taken, asked_gone, held_gone, IsHeldRange, ready_gone, ready_kept}
+use Rattle.machine_laws.proofs.Moves.{IsCall, IsCallOf, call_at, Touches, untouched, KeepsCached, page_is, goes_on, copies_on, tells, same_pages, none_taken, asked_gone, held_gone, IsHeldRange, ready_gone}
 use Rattle.machine_laws.proofs.Numbered.{at_new}
 use Rattle.machine_laws.proofs.OpenCalls.{one, open_put}
 use Rattle.machine_laws.proofs.Owned.{changed_belongs, framed_belongs, copied_belongs, recorded_belongs}
@@ -733,62 +734,6 @@ begins_kept w c request g lt e below = record {
 
     k : IsCallOf w c Free
     k = call_at w c Free e g
-
--- ---- slots are joined, or memory changes, beside the calls
-
-other_memory : (w : World) (m : Memory) → IsOrderly w → m.cached ≡ w.memory.cached → IsMemory w.made m → IsOrderly (record w { memory = m })
-other_memory w m g same memory = record {
-  asked = g.asked;
-  owned = g.owned;
-  only = g.only;
-  cut = g.cut;
-  ready = λ c. subst (λ cached. IsReady w.made w.slots cached (w.calls.phase c)) (sym same) (g.ready c);
-  pages = g.pages;
-  taken = g.taken;
-  memory = memory;
-  outside = g.outside;
-  room = g.room;
-  limit = g.limit;
-}
-
--- a page that a call holds begins a slot as before, and so does the page after it
-edge_stays : (s t : Slots) (c p : ℕ) → Joins s t → s.owner p ≡ Some c → s.edge p ≡ true → t.edge p ≡ true
-edge_stays s t c p j mine at = j.elsewhere p (λ none. cc) ∙ at
-
-end_stays : (s t : Slots) (c e : ℕ) → Joins s t → s.owner e ≡ Some c → s.edge (e + 1) ≡ true → t.edge (e + 1) ≡ true
-end_stays s t c e j mine at = go (t.edge (e + 1)) refl
-  where
-    go : (b : Bool) → t.edge (e + 1) ≡ b → b ≡ true
-    go true h = refl
-    go false h = absurd (let free = (j.could (e + 1) at h).free in let same : e + 1 - 1 ≡ e = omega arith in
-        let none : s.owner e ≡ None = subst (λ p. s.owner p ≡ None) same free in cc)
-
-joined : (w : World) (t : Slots) → Joins w.slots t → IsOrderly w → IsOrderly (record w { slots = t })
-joined w t j g = record {
-  asked = g.asked;
-  owned = λ c p i. ap (λ f. f p) j.owners ∙ g.owned c p i;
-  only = λ c p i. g.only c p (sym (ap (λ f. f p) j.owners) ∙ i);
-  cut = λ c. cut (range_held (w.calls.phase c)) c (λ p i. g.owned c p i) (g.cut c);
-  ready = λ c. ready_kept w.made w.slots t w.memory.cached (w.calls.phase c) (λ p i. ap (λ f. f p) j.info) (g.ready c);
-  pages = λ p. subst (λ info. BelongsTo w.made p (info p)) (sym j.info) (g.pages p);
-  taken = g.taken;
-  memory = g.memory;
-  outside = g.outside;
-  room = g.room;
-  limit = g.limit;
-}
-  where
-    cut : (held : Option PageRange) (c : ℕ) → ((p : ℕ) → some_has held p ≡ true → w.slots.owner p ≡ Some c) → IsCutFor w.slots.edge held → IsCutFor t.edge held
-    cut None c mine h = tt
-    cut (Some r) c mine h = λ some.
-        let k = h some in
-        let last : suc (r.end - 1) ≡ r.end = omega (arith, some) in
-        let at : r.end - 1 + 1 ≡ r.end = omega (arith, some) in (
-          edge_stays w.slots t c r.first j (mine r.first (in_has r r.first (omega arith) some)) k.0,
-          subst (λ e. t.edge e ≡ true) at
-              (end_stays w.slots t c (r.end - 1) j (mine (r.end - 1) (in_has r (r.end - 1) (omega (arith, some)) (omega (arith, some))))
-              (subst (λ e. w.slots.edge e ≡ true) (sym at) k.1)),
-        )
 
 -- ---- every shape
 

@@ -1,6 +1,6 @@
 -- What a step is: it changes nothing, begins a call, ends one, or is one of a few things that a call in some phase does. Every
 -- statement on steps is shown shape by shape, so that no row of the machine is taken apart twice.
-use Rattle.std.proofs.Common.{◌≡◌, ◌≢◌, ℕ, sym, ap, subst, ◌∙◌, ◌<◌, ◌⊎◌, inl, inr, Bool, true, false, cond, refl, arith, Some, None, Option, Result, Ok, Err, [], length}
+use Rattle.std.proofs.Common.{◌≡◌, ◌≢◌, ℕ, sym, ap, subst, ◌∙◌, ◌<◌, inl, inr, Bool, true, false, cond, refl, arith, Some, None, Option, Result, Ok, Err, [], length}
 use Rattle.std.specs.Prelude.{nat_lt, ◌&&◌, ◌||◌, is_some, if◌then◌else◌}
 use Rattle.std.proofs.lemmas.Bool.Decides.{nat_tests}
 use Rattle.vm_base.specs.declared.info.Back.{Back}
@@ -60,7 +60,7 @@ use Rattle.machine_model.specs.Files.{back_of, file_frame}
 use Rattle.machine_model.specs.Filling.{FillsFromFile, FillsBacked, after_zeros, after_first_copy, after_caching, after_sharing, after_copy_post, after_copy, CountsCopy, CopiesNext}
 use Rattle.machine_model.specs.Actions.{Idles, Becomes, to, after_reply, let_go}
 use Rattle.machine_model.specs.Changes.{checked_by, after_plan, after_decision, after_post, after_commit, CountsLost, AwaitsNobody, Awaits, CommitsNext}
-use Rattle.machine_model.specs.Counting.{with_counts, with_free, FlushesOnce, ReportsFlush, ReviewsOnce, ReportsReview}
+use Rattle.machine_model.specs.Counting.{with_counts, with_free, ReportsFlush, ReportsReview}
 use Rattle.machine_model.specs.GivingUp.{GivesUp, after_give_up}
 use Rattle.machine_model.specs.Events.{core_of}
 use Rattle.machine_model.specs.Holding.{goal_range, page_of_touch, awaits_in, can_give_up}
