@@ -95,18 +95,21 @@ store_of : (core : ℕ) (request : Request) (touch : Touch) → plan_of core req
     → IsStoreTo request touch.page
 store_of core (RequestOf.Store addr byte) touch h a = go (is_page (page_of addr)) h
   where
-    go : (b : Bool) → ◌≡◌ {A = Result Plan Reply} (if b then Ok (PlanOf.Touch (touch_of addr Store byte)) else Err (ReplyOf.Segv MapErr)) (Ok (PlanOf.Touch touch))
+    go : (b : Bool) → ◌≡◌ {A = Result Plan Reply} (if b then Ok (PlanOf.Touch (touch_of addr Store byte)) else Err (ReplyOf.Segv MapErr))
+        (Ok (PlanOf.Touch touch))
         → page_of addr ≡ touch.page
     go true e = let same : touch_of addr Store byte ≡ touch = cc in ap (λ t. t.page) same
     go false e = absurd cc
 store_of core (RequestOf.Load addr) touch h a = absurd (go (is_page (page_of addr)) h)
   where
-    go : (b : Bool) → ◌≡◌ {A = Result Plan Reply} (if b then Ok (PlanOf.Touch (touch_of addr Load 0)) else Err (ReplyOf.Segv MapErr)) (Ok (PlanOf.Touch touch)) → ⊥
+    go : (b : Bool) → ◌≡◌ {A = Result Plan Reply} (if b then Ok (PlanOf.Touch (touch_of addr Load 0)) else Err (ReplyOf.Segv MapErr))
+        (Ok (PlanOf.Touch touch)) → ⊥
     go true e = let same : touch_of addr Load 0 ≡ touch = cc in let other = ap (λ t. t.access) same in cc (other, a)
     go false e = cc
 store_of core (RequestOf.Fetch addr) touch h a = absurd (go (is_page (page_of addr)) h)
   where
-    go : (b : Bool) → ◌≡◌ {A = Result Plan Reply} (if b then Ok (PlanOf.Touch (touch_of addr Fetch 0)) else Err (ReplyOf.Segv MapErr)) (Ok (PlanOf.Touch touch)) → ⊥
+    go : (b : Bool) → ◌≡◌ {A = Result Plan Reply} (if b then Ok (PlanOf.Touch (touch_of addr Fetch 0)) else Err (ReplyOf.Segv MapErr))
+        (Ok (PlanOf.Touch touch)) → ⊥
     go true e = let same : touch_of addr Fetch 0 ≡ touch = cc in let other = ap (λ t. t.access) same in cc (other, a)
     go false e = cc
 store_of core (RequestOf.Munmap addr len) touch h a = absurd cc
@@ -114,7 +117,8 @@ store_of core (RequestOf.Mprotect addr len prot) touch h a = absurd cc
 store_of core (RequestOf.Mmap addr len prot flags file off) touch h a =
     absurd (go flags.fixed (Put (pages_of addr len) (meta_of prot flags file off)) (place_of core addr len (meta_of prot flags file off)) h)
   where
-    go : (b : Bool) (change : Change) (place : Place) → ◌≡◌ {A = Result Plan Reply} (if b then Ok (PlanOf.Change change) else Ok (PlanOf.Place place)) (Ok (PlanOf.Touch touch)) → ⊥
+    go : (b : Bool) (change : Change) (place : Place)
+        → ◌≡◌ {A = Result Plan Reply} (if b then Ok (PlanOf.Change change) else Ok (PlanOf.Place place)) (Ok (PlanOf.Touch touch)) → ⊥
     go true change place e = cc
     go false change place e = cc
 
@@ -249,7 +253,8 @@ step_effect w e c v g i (first_copies touch f counts k store l h) =
 step_effect w e c v g i (caches touch f counts k s n l h) =
     goes_on w e c (Install touch) (after_caching c touch f counts w).slots w.hardware (after_caching c touch f counts w).memory v i (sym (ap status k)) h
 step_effect w e c v g i (shares touch own x counts k s n l h) =
-    goes_on w e c (Install touch) (after_sharing c touch own x counts w).slots w.hardware (after_sharing c touch own x counts w).memory v i (sym (ap status k)) h
+    goes_on w e c (Install touch) (after_sharing c touch own x counts w).slots w.hardware (after_sharing c touch own x counts w).memory v i
+    (sym (ap status k)) h
 step_effect w e c v g i (posts_copy touch f k h) =
     goes_on w e c (At.CopyAcks touch f) w.slots (after_copy_post c touch f w).hardware w.memory v i (sym (ap status k)) h
 step_effect w e c v g i (copies touch f x counts k n at l h) =
@@ -295,7 +300,8 @@ given_up_asked (At.Unlock held reply) h = absurd cc
 given_up_asked (At.Answer reply) h = absurd cc
 
 pub effect_of : (w : World) (e : Event) (o : Outcome) (v : World) → IsOrderly w → Shape w e o v → Effect w e o v
-effect_of w e o v g (rests r h) = subst (Effect w e o) (sym h) (keeps (rests_inner w e o r) (record { events = refl; requests = refl; number = refl }) refl (λ d. refl))
+effect_of w e o v g (rests r h) = subst (Effect w e o) (sym h)
+    (keeps (rests_inner w e o r) (record { events = refl; requests = refl; number = refl }) refl (λ d. refl))
 effect_of w e o v g (begins c request i s lt p below h) = opens c request i s (ap status p) h
 effect_of w e o v g (ends c reply i s lt p h) = closes c reply i s (ap status p) h
 effect_of w e o v g (goes c i s lt k) = subst (λ o. Effect w e o v) (sym s) (step_effect w e c v g (going_inner c e i) k)

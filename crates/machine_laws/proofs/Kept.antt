@@ -1,5 +1,5 @@
 -- Every step from an orderly state leaves an orderly one.
-use Rattle.std.proofs.Common.{◌≡◌, ◌≢◌, ℕ, suc, ◌≤◌, ◌<◌, ◌+◌, Bool, true, false, cond, refl, sym, ap, subst, arith, Some, None, Option, List, [], ◌∷◌, ◌++◌, ◌∙◌, length, length-append, ⊎_elim, ◌==◌}
+use Rattle.std.proofs.Common.{◌≡◌, ◌≢◌, ℕ, ◌≤◌, ◌<◌, ◌+◌, Bool, true, false, cond, refl, sym, ap, subst, arith, Some, None, Option, ◌∙◌, ⊎_elim, ◌==◌}
 use Rattle.std.specs.Prelude.{nat_le}
 use Rattle.std.proofs.lemmas.Bool.{cases_lt}
 use Rattle.std.proofs.lemmas.Bool.Decides.{nat_tests}
@@ -9,13 +9,12 @@ use Rattle.vm_base.specs.declared.info.PageInfo.{PageInfo}
 use Rattle.vm_base.specs.declared.page.PageRange.{PageRange}
 use Rattle.vm_base.specs.declared.replies.Reply.{Reply}
 use Rattle.vm_base.specs.declared.replies.Reply.TheVariants.{NoMemory}
-use Rattle.vm_base.specs.declared.requests.Request.{Request}
 use Rattle.vm_base.specs.declared.rights.Access.{Access}
 use Rattle.vm_base.specs.Functions.{put, has}
 use Rattle.vm_base.specs.Info.{info_with_frame}
 use Rattle.vm_base.specs.Pages.{IsPageRange}
 use Rattle.vm_base.specs.Plain.{Bytes, mode_of}
-use Rattle.vm_base.proofs.Functions.{by_test, put_all, put_both, put_same, put_other, has_in, eq_false}
+use Rattle.vm_base.proofs.Functions.{by_test, put_all, put_same, put_other, has_in, eq_false}
 use Rattle.slot_lock.specs.declared.plan.Change.{Change}
 use Rattle.slot_lock.specs.declared.plan.Plan.TheVariants as PlanOf
 use Rattle.slot_lock.specs.declared.plan.Touch.{Touch}
@@ -41,24 +40,24 @@ use Rattle.machine_model.specs.GivingUp.{given_back, after_give_up}
 use Rattle.machine_model.specs.Holding.{goal_range, goal_plan, page_of_touch, range_held, holds, some_has, taken_in, is_open, can_give_up, still_held, if_some_page}
 use Rattle.machine_model.specs.Locks.{locking, locked_to, all_locked, held_after}
 use Rattle.machine_model.specs.World.{World, Made, Memory}
-use Rattle.machine_model.specs.Step.{after_call, with_event, Step}
+use Rattle.machine_model.specs.Step.{with_event, Step}
 use Rattle.machine_laws.specs.Orderly.{IsOrderly, IsAsked, Serves, ServesSome, IsCutFor, IsReady, IsUsable, BelongsTo, IsMemory}
-use Rattle.machine_laws.proofs.Asked.{asked_more}
+use Rattle.machine_laws.proofs.Begun.{begins_kept}
 use Rattle.machine_laws.proofs.Beside.{other_memory, joined}
 use Rattle.machine_laws.proofs.Counted.{frees, written, cached_more, counted, counts_down, freed}
 use Rattle.machine_laws.proofs.Changed.{changed_owner, changed_edge, same_outside}
 use Rattle.machine_laws.proofs.Deciding.{change_sound, touch_sound, sound_range, acts_own}
 use Rattle.machine_laws.proofs.Moves.{IsCall, IsCallOf, call_at, Touches, untouched, KeepsCached, page_is, goes_on, copies_on, tells, same_pages, none_taken, asked_gone, held_gone, IsHeldRange, ready_gone}
-use Rattle.machine_laws.proofs.Numbered.{at_new}
-use Rattle.machine_laws.proofs.OpenCalls.{one, open_put}
 use Rattle.machine_laws.proofs.Owned.{changed_belongs, framed_belongs, copied_belongs, recorded_belongs}
 use Rattle.machine_laws.proofs.Shapes.{Moves, locks, tries, acts, finds, lacks, shows, Replies, refuses, no_place, declines, fails, no_frame, LetsGo, unlocks, releases, GoesBy, moves, divides, owns, lets_go, answers, posts, commits, takes, zeroes, first_copies, caches, shares, posts_copy, copies, installs, accesses, faults, Works, clears, invalidates, walks, evicts, flushes, reviews, frees as frees_frame, Shape, rests, begins, ends, goes, gives_up, works, joins, Comes, stopped, acts as happens, comes}
 use Rattle.machine_laws.proofs.Slots.{touches_owner, touches_info, gains, loses, divided}
 
 -- ---- the call goes on, and nothing else changes
 
-steps : (w : World) (c : ℕ) (old new : Phase) → w.calls.phase c ≡ old → IsOrderly w → c < w.made.cores → is_open new ≡ is_open old → range_held new ≡ range_held old
-    → IsAsked w.made w.calls.requests c (w.calls.number c) new → IsReady w.made w.slots w.memory.cached new → ((f : ℕ) → taken_in new ≡ Some f → f < w.made.frames) → IsOrderly (to c new w)
+steps : (w : World) (c : ℕ) (old new : Phase) → w.calls.phase c ≡ old → IsOrderly w → c < w.made.cores → is_open new ≡ is_open old
+    → range_held new ≡ range_held old
+    → IsAsked w.made w.calls.requests c (w.calls.number c) new → IsReady w.made w.slots w.memory.cached new
+    → ((f : ℕ) → taken_in new ≡ Some f → f < w.made.frames) → IsOrderly (to c new w)
 steps w c old new e g lt opened same asked ready after_frame =
     goes_on w c new w.slots w.memory g lt (opened ∙ sym (ap is_open e)) (untouched w.slots c) (λ n k f h. h)
     (same_pages w c old new (call_at w c old e g) same asked ready after_frame) g.pages g.memory
@@ -155,11 +154,23 @@ reply_ends w c held reply g (declines change errno e h r d) =
 reply_ends w c held reply g (fails touch e h f) =
     let k : IsCallOf w c (Settle touch) = call_at w c (Settle touch) e g in
     ends_by _ (Settle touch) held e (subst (Ends (Settle touch)) (sym h)
-    (record { opened = refl; same = λ p. refl; cut = λ edge k. k; valid = page_range touch (touch_sound (λ k. mode_of (w.made.file k)) c k.asked.request touch k.asked.passed) }))
+    (record {
+      opened = refl;
+      same = λ p. refl;
+      cut = λ edge k. k;
+      valid = page_range touch
+          (touch_sound (λ k. mode_of (w.made.file k)) c k.asked.request touch k.asked.passed);
+    }))
 reply_ends w c held reply g (no_frame touch old e h r f) =
     let k : IsCallOf w c (Want touch old) = call_at w c (Want touch old) e g in
     ends_by _ (Want touch old) held e (subst (Ends (Want touch old)) (sym h)
-    (record { opened = refl; same = λ p. refl; cut = λ edge k. k; valid = page_range touch (touch_sound (λ k. mode_of (w.made.file k)) c k.asked.request touch k.asked.passed) }))
+    (record {
+      opened = refl;
+      same = λ p. refl;
+      cut = λ edge k. k;
+      valid = page_range touch
+          (touch_sound (λ k. mode_of (w.made.file k)) c k.asked.request touch k.asked.passed);
+    }))
 
 -- over these slots, which it owns as before, and this memory
 replied : (w : World) (c : ℕ) (held : Option PageRange) (reply : Reply) (t : Slots) (m : Memory) → IsOrderly w → c < w.made.cores → Ends (w.calls.phase c) held
@@ -320,7 +331,8 @@ record Remains (made : Made) (s : Slots) (cached : ℕ → ℕ → Option ℕ) (
   cut : IsCutFor s.edge (range_held new)
   ready : IsReady made s cached new
 
-remains : (made : Made) (s : Slots) (cached : ℕ → ℕ → Option ℕ) (held : PageRange) (b : ℕ) (reply : Reply) → IsPageRange held → s.edge b ≡ true → s.edge held.end ≡ true → held.first < b → b ≤ held.end
+remains : (made : Made) (s : Slots) (cached : ℕ → ℕ → Option ℕ) (held : PageRange) (b : ℕ) (reply : Reply) → IsPageRange held → s.edge b ≡ true
+    → s.edge held.end ≡ true → held.first < b → b ≤ held.end
     → Remains made s cached held b (let_go (held_after held b) reply)
 remains made s cached held b reply range eb ee lt by =
     by_test (λ o. Remains made s cached held b (let_go o reply)) (b == held.end) None (Some (between b held.end))
@@ -344,8 +356,10 @@ shut None reply = refl
 shut (Some held) reply = refl
 
 -- over slots in which nobody owns the pages up to b
-let_go_to : (w : World) (c : ℕ) (old new : Phase) (held : PageRange) (b : ℕ) (t : Slots) → w.calls.phase c ≡ old → IsOrderly w → c < w.made.cores → range_held old ≡ Some held
-    → is_open new ≡ is_open old → Unlocks w.slots t c held.first held.end b → Remains w.made w.slots w.memory.cached held b new → IsAsked w.made w.calls.requests c (w.calls.number c) new
+let_go_to : (w : World) (c : ℕ) (old new : Phase) (held : PageRange) (b : ℕ) (t : Slots) → w.calls.phase c ≡ old → IsOrderly w → c < w.made.cores
+    → range_held old ≡ Some held
+    → is_open new ≡ is_open old → Unlocks w.slots t c held.first held.end b → Remains w.made w.slots w.memory.cached held b new
+    → IsAsked w.made w.calls.requests c (w.calls.number c) new
     → ((f : ℕ) → taken_in new ≡ Some f → ⊥) → IsOrderly (to c new (record w { slots = t }))
 let_go_to w c old new held b t e g lt was opened u m asked none =
     subst (λ s. IsOrderly (to c new (record w { slots = s }))) (sym u.now)
@@ -519,8 +533,11 @@ framed_ready : (made : Made) (s : Slots) (cached : ℕ → ℕ → Option ℕ) (
     → IsUsable made.file (s.info touch.page) touch.access None
     → IsReady made (with_info s touch.page (info_with_frame f (s.info touch.page))) cached (Install touch)
 framed_ready made s cached touch f u =
-    let new : Option PageInfo = info_with_frame f (s.info touch.page) in
-    (f, subst (λ o. IsUsable made.file o touch.access (Some f)) (sym (put_same s.info touch.page new)) (framed_usable made f (s.info touch.page) touch.access u))
+    let new : Option PageInfo = info_with_frame f (s.info touch.page) in (
+      f,
+      subst (λ o. IsUsable made.file o touch.access (Some f)) (sym (put_same s.info touch.page new))
+          (framed_usable made f (s.info touch.page) touch.access u),
+    )
 
 -- memory in which frame f has these bytes and is counted
 filled_memory : (w : World) (f n : ℕ) (counts : Counts) (bytes : ℕ → Bytes) → IsOrderly w → Takes w.memory.counts (Begin f n) counts
@@ -604,7 +621,8 @@ copies_kept w c touch f x counts g lt e t =
 
 installs_kept : (w : World) (c : ℕ) (touch : Touch) → IsOrderly w → c < w.made.cores → w.calls.phase c ≡ Install touch → IsOrderly (after_install c touch w)
 installs_kept w c touch g lt e =
-    sets_page w c touch (Install touch) (Release touch) (info_with_core c (w.slots.info touch.page)) w.memory e g lt refl refl refl (λ n k f h. h) (call_at w c (Install touch) e g).asked tt
+    sets_page w c touch (Install touch) (Release touch) (info_with_core c (w.slots.info touch.page)) w.memory e g lt refl refl refl (λ n k f h. h)
+    (call_at w c (Install touch) e g).asked tt
     (λ x h. cc) (recorded_belongs w.made touch.page c (w.slots.info touch.page) lt (g.pages touch.page)) g.memory
 
 -- ---- Try
@@ -612,7 +630,8 @@ installs_kept w c touch g lt e =
 accesses_kept : (w : World) (c : ℕ) (touch : Touch) (f : ℕ) → IsOrderly w → c < w.made.cores → w.calls.phase c ≡ Try touch
     → IsOrderly (after_access c touch f w)
 accesses_kept w c touch f g lt e =
-    replied w c None (reply_of touch f w.memory) w.slots (memory_after touch f w.memory) g lt (ends_by _ (Try touch) None e (record { opened = refl; same = λ p. refl; cut = λ edge k. k; valid = tt }))
+    replied w c None (reply_of touch f w.memory) w.slots (memory_after touch f w.memory) g lt
+    (ends_by _ (Try touch) None e (record { opened = refl; same = λ p. refl; cut = λ edge k. k; valid = tt }))
     (untouched w.slots c) refl refl (λ n k f h. h) g.pages (written w.made w.memory _ g.memory)
 
 -- ---- a call is given up
@@ -703,38 +722,6 @@ gives_up_kept w c g lt can =
     (gives_up_ends w c (w.calls.phase c) g refl can) (untouched w.slots c) refl refl (λ n k f h. h) g.pages
     (frees w.made w.memory _ g.memory (given_below w (taken_in (w.calls.phase c)) g (g.taken c)))
 
--- ---- a call begins
-
-begins_kept : (w : World) (c : ℕ) (request : Request) → IsOrderly w → c < w.made.cores → w.calls.phase c ≡ Free
-    → length w.calls.requests < w.made.calls → IsOrderly (after_call c request w)
-begins_kept w c request g lt e below = record {
-  asked = put_both (λ d n x. IsAsked w.made more d n x) w.calls.number w.calls.phase c (suc (length w.calls.requests)) (Check request)
-      (at_new w.calls.requests request) (λ d ne. asked_more w.made w.calls.requests request d (w.calls.number d) (w.calls.phase d) (g.asked d));
-  owned = λ d p. put_all (λ d x. holds x p ≡ true → w.slots.owner p ≡ Some d) w.calls.phase c (Check request) (λ h. absurd cc) (λ d ne. g.owned d p) d;
-  only = λ d p. put_all (λ d x. w.slots.owner p ≡ Some d → holds x p ≡ true) w.calls.phase c (Check request) (k.only p) (λ d ne. g.only d p) d;
-  cut = put_all (λ d x. IsCutFor w.slots.edge (range_held x)) w.calls.phase c (Check request) tt (λ d ne. g.cut d);
-  ready = put_all (λ d x. IsReady w.made w.slots w.memory.cached x) w.calls.phase c (Check request) tt (λ d ne. g.ready d);
-  pages = g.pages;
-  taken = λ d f. put_all (λ d x. taken_in x ≡ Some f → f < w.made.frames) w.calls.phase c (Check request) (λ h. absurd cc) (λ d ne. g.taken d f) d;
-  memory = g.memory;
-  outside = put_all (λ d x. w.made.cores ≤ d → x ≡ Free) w.calls.phase c (Check request) (λ h. absurd (omega (arith, h, lt))) (λ d ne. g.outside d);
-  room =
-      let a = open_put w.calls.phase c (Check request) w.made.cores lt in
-      let b : one (w.calls.phase c) ≡ 0 = ap one e in
-      let f = g.room in
-      omega (arith, a, b, longer, f);
-  limit = omega (arith, longer, below);
-}
-  where
-    more : List Request
-    more = w.calls.requests ++ request ∷ []
-
-    longer : length more ≡ length w.calls.requests + 1
-    longer = length-append w.calls.requests (request ∷ [])
-
-    k : IsCallOf w c Free
-    k = call_at w c Free e g
-
 -- ---- every shape
 
 goes_kept : (w : World) (c : ℕ) (v : World) → IsOrderly w → c < w.made.cores → GoesBy w c v → IsOrderly v
@@ -743,7 +730,8 @@ goes_kept w c v g lt (divides goal cursor t e s h) = subst IsOrderly (sym h) (di
 goes_kept w c v g lt (owns goal cursor b t e l h) = subst IsOrderly (sym h) (owns_kept w c goal cursor b t g lt e l)
 goes_kept w c v g lt (lets_go held b t new l u h) = subst IsOrderly (sym h) (lets_go_kept w c held b t new g lt l u)
 goes_kept w c v g lt (answers held reply r h) =
-    subst IsOrderly (sym h) (replied w c held reply w.slots w.memory g lt (reply_ends w c held reply g r) (untouched w.slots c) refl refl (λ n k f h. h) g.pages g.memory)
+    subst IsOrderly (sym h)
+    (replied w c held reply w.slots w.memory g lt (reply_ends w c held reply g r) (untouched w.slots c) refl refl (λ n k f h. h) g.pages g.memory)
 goes_kept w c v g lt (posts change shoot e h) = subst IsOrderly (sym h) (posts_kept w c change shoot g lt e)
 goes_kept w c v g lt (commits change held counts e n l h) = subst IsOrderly (sym h) (commits_kept w c change held counts g lt e l)
 goes_kept w c v g lt (takes touch old f e l h) = subst IsOrderly (sym h) (takes_kept w c touch old f g lt e l)

@@ -9,6 +9,7 @@ pub mod Counted
 pub mod Owned
 pub mod Asked
 pub mod Opening
+pub mod Begun
 pub mod Beside
 pub mod Kept
 pub mod Effects

@@ -138,8 +138,10 @@ ready_kept made s t cached (Want touch old) same h =
     subst (λ o. IsUsable made.file o touch.access old × IsWanted cached o touch.access old) (sym (same touch.page (page_is touch))) h
 ready_kept made s t cached (Fill touch frame) same h =
     subst (λ o. IsUsable made.file o touch.access None × IsFillable cached o touch.access frame) (sym (same touch.page (page_is touch))) h
-ready_kept made s t cached (CopyPost touch frame) same h = copying_kept made cached touch (s.info touch.page) (t.info touch.page) (same touch.page (page_is touch)) h
-ready_kept made s t cached (CopyAcks touch frame) same h = copying_kept made cached touch (s.info touch.page) (t.info touch.page) (same touch.page (page_is touch)) h
+ready_kept made s t cached (CopyPost touch frame) same h = copying_kept made cached touch (s.info touch.page) (t.info touch.page)
+    (same touch.page (page_is touch)) h
+ready_kept made s t cached (CopyAcks touch frame) same h = copying_kept made cached touch (s.info touch.page) (t.info touch.page)
+    (same touch.page (page_is touch)) h
 ready_kept made s t cached (Install touch) same h = (h.0, usable_kept made.file s t touch (Some h.0) same h.1)
 ready_kept made s t cached Free same h = h
 ready_kept made s t cached (Check request) same h = h
@@ -232,7 +234,8 @@ tells w c held reply t m step call core g lt was touches keeps its pages memory 
 
 -- ---- a call that holds the same pages as before
 
-pub same_pages : (w : World) (c : ℕ) (old new : Phase) → IsCallOf w c old → range_held new ≡ range_held old → IsAsked w.made w.calls.requests c (w.calls.number c) new
+pub same_pages : (w : World) (c : ℕ) (old new : Phase) → IsCallOf w c old → range_held new ≡ range_held old
+    → IsAsked w.made w.calls.requests c (w.calls.number c) new
     → IsReady w.made w.slots w.memory.cached new → ((f : ℕ) → taken_in new ≡ Some f → f < w.made.frames) → IsCallOf w c new
 same_pages w c old new k same asked ready taken = record {
   asked = asked;

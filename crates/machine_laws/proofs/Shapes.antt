@@ -418,7 +418,8 @@ go_shape w c (Unlock held reply) o v lt e h = step w c o v lt h.1.2.0 (lets_go h
     (unlocks reply e refl) h.1.1 h.1.2.1)
 go_shape w c (Answer reply) o v lt e h = ends c reply refl h.0 lt e h.1
 go_shape w c (Try touch) o v lt e h = step w c o v lt h.0 (try_shape w c touch (frame_reached (translated_by w.hardware c touch)) v e refl h.1)
-go_shape w c (Settle touch) o v lt e h = step w c o v lt h.0 (settle_shape w c touch (found_at w touch) v e refl (found w.made.file w.memory.cached (w.slots.info touch.page) touch.access) h.1)
+go_shape w c (Settle touch) o v lt e h = step w c o v lt h.0
+    (settle_shape w c touch (found_at w touch) v e refl (found w.made.file w.memory.cached (w.slots.info touch.page) touch.access) h.1)
 go_shape w c (Want touch old) o v lt e h = want_shape w c touch old o v lt e h
 go_shape w c (Fill touch own) o v lt e h = fill_shape w c touch own (back_of (w.slots.info touch.page)) touch.access o v lt e refl refl h
 go_shape w c (CopyPost touch f) o v lt e h = step w c o v lt h.0 (posts_copy touch f e h.1)
