@@ -153,7 +153,8 @@ shape_left w e o v f (rests i h) = subst (Leaves w e) (sym h) (stays w e f)
 shape_left w e o v f (begins c request i s lt p below h) = subst (Leaves w e) (sym h) (begun w e c request f)
 shape_left w e o v f (ends c reply i s lt p h) = subst (Leaves w e) (sym h) (goes_on w e c Free w.slots w.hardware w.memory f f.good)
 shape_left w e o v f (goes c i s lt g) = goes_left w e c v f g
-shape_left w e o v f (gives_up c i s lt can u h) = subst (Leaves w e) (sym h) (subst (λ e. Leaves w e (after_give_up c (w.calls.phase c) w)) (sym i) (given_up w c f can))
+shape_left w e o v f (gives_up c i s lt can u h) = subst (Leaves w e) (sym h)
+    (subst (λ e. Leaves w e (after_give_up c (w.calls.phase c) w)) (sym i) (given_up w c f can))
 shape_left w e o v f (works c s lt k) = works_left w e c v f k
 shape_left w e o v f (joins p t i s page j m h) =
     subst (Leaves w e) (sym h) (beside w e t w.hardware w.memory f (shows_same w f.plain t.info j.info f.good))
