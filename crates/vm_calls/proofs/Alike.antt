@@ -1,5 +1,5 @@
 -- A decision looks at the pages of its footprint alone
-use Rattle.std.proofs.Common.{◌≡◌, ℕ, Bool, true, is_some, Option, Some, None, sym, ◌∙◌, ap}
+use Rattle.std.proofs.Common.{ℕ, Bool, is_some, Option, sym, ◌∙◌, ap}
 use Rattle.vm_base.specs.declared.page.PageRange.{PageRange}
 use Rattle.vm_base.specs.declared.info.PageInfo.{PageInfo}
 use Rattle.vm_base.specs.declared.rights.Prot.{Prot}

@@ -1,5 +1,5 @@
 -- Goals whose target is of their mapping: their pages are valid, and so is what they act on
-use Rattle.std.proofs.Common.{◌≡◌, ℕ, ◌+◌, ◌-◌, ◌<◌, ◌≤◌, Option, Some, None, refl, sym, subst, arith}
+use Rattle.std.proofs.Common.{◌≡◌, ◌+◌, ◌≤◌, Option, Some, None, refl, sym, subst, arith}
 use Rattle.vm_base.specs.declared.page.PageRange.{PageRange}
 use Rattle.vm_base.specs.Pages.{IsPageRange, pages_from}
 use Rattle.slot_lock.specs.declared.plan.Change.TheVariants.{Put, Clear, Protect}
@@ -11,8 +11,7 @@ use Rattle.slot_lock.specs.declared.plan.Goal.TheVariants as To
 use Rattle.slot_lock.specs.Plan.{IsSoundGoal, IsSoundHint, IsSoundPlace, IsSoundPut, IsTarget, IsRunOf, goal_range, target_range}
 use Rattle.slot_lock.specs.Slots.{Slots}
 use Rattle.vm_calls.specs.declared.decision.Decision.{Decision}
-use Rattle.vm_calls.specs.declared.decision.Decision.TheVariants.{Refuse, Act, Again}
-use Rattle.vm_calls.specs.Decisions.{DecidesPlace, DecidesRun, DecidesWindow, IsSoundAct, act_at}
+use Rattle.vm_calls.specs.Decisions.{DecidesPlace, DecidesRun, DecidesWindow, IsSoundAct}
 use Rattle.vm_calls.specs.Decisions.DecidesRun.{free, taken}
 
 hint-sound : (place : Place) (range : PageRange) → IsSoundPlace place → place.hint ≡ Some range → IsSoundHint (Some range) place.count
