@@ -613,16 +613,32 @@ fn a_mapping_looks_elsewhere_where_a_page_is_mapped(rt: HostRuntime) -> Result<(
     };
     let shoot = CoreSet::empty();
     let at_hint = PageRange { first: 16, end: 18 };
-    assert!(rt; aimed(&map, &objects, hint) == Some(Decision::Act { range: at_hint, shoot }));
-    assert!(rt; aimed(&map, &objects, Target::Run(next)) == Some(Decision::Act { range: next, shoot }));
+    assert!(rt;
+        aimed(&map, &objects, hint)
+            == Some(Decision::Act {
+                range: at_hint,
+                shoot
+            })
+    );
+    assert!(rt;
+        aimed(&map, &objects, Target::Run(next)) == Some(Decision::Act { range: next, shoot })
+    );
     // the last page of the hint, and the first page of the window
     let used = request_of(Ask::Map(0x11000, 4096, RW, ANON_FIXED));
     assert!(rt; run(&mut map, &objects, used)? == Came::Reply(Reply::Mapped(0x11000)));
     assert!(rt; aimed(&map, &objects, hint) == Some(Decision::Again));
-    assert!(rt; aimed(&map, &objects, Target::Window) == Some(Decision::Act { range: least, shoot }));
+    assert!(rt;
+        aimed(&map, &objects, Target::Window)
+            == Some(Decision::Act {
+                range: least,
+                shoot
+            })
+    );
     let used = request_of(Ask::Map(0x80_0000_0000, 4096, RW, ANON_FIXED));
     assert!(rt; run(&mut map, &objects, used)? == Came::Reply(Reply::Mapped(0x80_0000_0000)));
     assert!(rt; aimed(&map, &objects, Target::Run(least)) == Some(Decision::Again));
-    assert!(rt; aimed(&map, &objects, Target::Window) == Some(Decision::Act { range: next, shoot }));
+    assert!(rt;
+        aimed(&map, &objects, Target::Window) == Some(Decision::Act { range: next, shoot })
+    );
     Ok(())
 }
