@@ -24,7 +24,8 @@ room-alike m o window n s same room = (
       same p (in_has window p (omega (arith, room.0, z.0)) (omega (arith, room.1, z.1)))) room.2,
 )
 
-pub least-alike : (m o : ℕ → Bool) (window : PageRange) (n : ℕ) (found : Option ℕ) → Alike m o window → IsLeastRoom m window n found → IsLeastRoom o window n found
+pub least-alike : (m o : ℕ → Bool) (window : PageRange) (n : ℕ) (found : Option ℕ) → Alike m o window
+    → IsLeastRoom m window n found → IsLeastRoom o window n found
 least-alike m o window n None same none = λ s room. none s (room-alike o m window n s (other-way m o window same) room)
 least-alike m o window n (Some s) same least =
     (room-alike m o window n s same least.0, λ r lt room. least.1 r lt (room-alike o m window n r (other-way m o window same) room))
