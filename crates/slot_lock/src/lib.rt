@@ -15,6 +15,6 @@ pub mod walk;
 pub use acquire::Acquire;
 pub use footprint::Footprint;
 pub use framed::{Framed, FramedPages};
-pub use plan::{Change, Place, Plan, Touch};
+pub use plan::{Change, Goal, Place, Plan, Target, Touch};
 pub use run_list::RunList;
 pub use slot_map::{Fit, Got, SlotMap, SlotRead};
