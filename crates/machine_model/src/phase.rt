@@ -1,15 +1,6 @@
 //! Where the call of a core stands.
-use slot_lock::{Change, Touch};
+use slot_lock::{Change, Goal, Place, Target, Touch};
 use vm_base::{CoreSet, PageRange, Reply, Request};
-
-/// What the pages are locked for.
-#[derive(Clone, Copy, Debug, PartialEq, Eq)]
-pub enum Goal {
-    /// All pages of the change are to be changed.
-    Change(Change),
-    /// An access of the page faulted.
-    Access(Touch),
-}
 
 /// Where the call of a core stands: what its next step is.
 #[derive(Clone, Copy, Debug, PartialEq, Eq)]
@@ -20,12 +11,28 @@ pub enum Phase {
     Check(Request),
     /// The goal's pages below the cursor are held, the others are to be locked.
     Lock { goal: Goal, cursor: u64 },
+    /// A run of the mapping's window is to be guessed to be free, or the window is to be taken.
+    Guess(Place),
+    /// All pages of the target are held, and whether the mapping goes there is to be decided.
+    Find { place: Place, target: Target },
+    /// Some page of the target is mapped: these of its pages are still to be unlocked, and then the mapping looks elsewhere.
+    Back {
+        place: Place,
+        target: Target,
+        held: PageRange,
+    },
+    /// The mapping goes to this range of its target, and the slots that cross an edge of the range are to be cut.
+    Cut {
+        place: Place,
+        target: Target,
+        range: PageRange,
+    },
     /// All pages are held, and whether the change may be made is to be decided.
     Decide(Change),
     /// The cores that are recorded on the pages are to be told.
     Post { change: Change, shoot: CoreSet },
-    /// The cores that were told are awaited, and then the change is made.
-    Acks { change: Change, held: PageRange },
+    /// The cores that were told are awaited, and then the change is made, to which the goal led.
+    Acks { goal: Goal, change: Change },
     /// The reply is fixed, and these pages are still to be unlocked.
     Unlock { held: PageRange, reply: Reply },
     /// The reply is to be handed out.
