@@ -1,10 +1,10 @@
-//! `slot_lock`: footprints, plans and lent slots. What a list of runs does as a slot map is tested beside the tree, by the same
+//! `slot_lock`: footprints, goals and lent slots. What a list of runs does as a slot map is tested beside the tree, by the same
 //! calls.
 ghost use Rattle.std.specs.Prelude.{◌≡◌, ◌+◌, ◌<◌, ◌^◌};
 ghost use Rattle.vm_base.specs.Pages.{pages_from};
 
 use linked_list_allocator::LocalHeap;
-use slot_lock::{Change, Footprint, Place, Plan, RunList, SlotMap, SlotRead, Touch};
+use slot_lock::{Change, Footprint, Goal, Place, RunList, SlotMap, SlotRead, Target, Touch};
 use std::test::Fail;
 use vm_base::{Access, Back, CoreId, CoreSet, Meta, PageInfo, PageRange, Prot};
 
@@ -54,18 +54,18 @@ fn footprints_are_ordered(rt: HostRuntime) -> Result<(), Fail> {
 }
 
 #[test]
-fn plans_have_footprints(rt: HostRuntime) -> Result<(), Fail> {
+fn goals_lock_one_range(rt: HostRuntime) -> Result<(), Fail> {
     let touch = Touch {
         page: 7,
         offset: 0,
         access: Access::Load,
         byte: 0,
     };
-    assert_eq!(rt; Plan::Touch(touch).footprint(), Footprint::one(one_page(7)));
+    assert_eq!(rt; Goal::Access(touch).range(), one_page(7));
     let range = PageRange { first: 4, end: 8 };
     let change = Change::Clear { range };
     assert_eq!(rt; change.range(), range);
-    assert_eq!(rt; Plan::Change(change).footprint(), Footprint::one(range));
+    assert_eq!(rt; Goal::Change(change).range(), range);
     let window = PageRange {
         first: 0x800_0000,
         end: 0x1000_0000,
@@ -76,10 +76,13 @@ fn plans_have_footprints(rt: HostRuntime) -> Result<(), Fail> {
         count: 4,
         meta: FILE,
     };
-    assert_eq!(rt;
-        Plan::Place(place).footprint(),
-        Footprint::both(range, window)
-    );
+    let run = PageRange {
+        first: 0x800_0002,
+        end: 0x800_0006,
+    };
+    assert_eq!(rt; Target::Hint(range).range(place), range);
+    assert_eq!(rt; Target::Run(run).range(place), run);
+    assert_eq!(rt; Target::Window.range(place), window);
     Ok(())
 }
 
