@@ -5,13 +5,15 @@ use Rattle.vm_base.specs.declared.info.PageInfo.{PageInfo}
 use Rattle.vm_base.specs.declared.page.PageRange.{PageRange}
 use Rattle.vm_base.specs.Functions.{put}
 use Rattle.vm_base.proofs.Functions.{put_all, put_both, eq_true}
-use Rattle.slot_lock.specs.declared.plan.Change.TheVariants.{Clear}
+use Rattle.slot_lock.specs.declared.plan.Change.TheVariants.{Put, Clear}
+use Rattle.slot_lock.specs.declared.plan.Goal.TheVariants as To
+use Rattle.slot_lock.specs.declared.plan.Place.{Place}
+use Rattle.slot_lock.specs.declared.plan.Target.{Target}
 use Rattle.mmu.specs.declared.entry.Translation.{Translation}
 use Rattle.mmu.specs.declared.tlb.TlbEntry.{TlbEntry}
 use Rattle.shootdown.specs.declared.message.Message.{Message}
 use Rattle.shootdown.specs.Messages.{message_of, posted}
 use Rattle.machine_model.specs.declared.phase.Phase.{Phase}
-use Rattle.slot_lock.specs.declared.plan.Goal.TheVariants as To
 use Rattle.machine_model.specs.declared.phase.Phase.TheVariants.{Free, Acks}
 use Rattle.machine_model.specs.Holding.{awaits_in}
 use Rattle.machine_coherence.specs.Coherent.{IsBacked, HasDropped, IsCoherent}
@@ -125,3 +127,12 @@ untold : (any : ℕ → Option PageInfo) → ¬ IsCoherent no_cache any (λ c. A
   inbox = λ d. [];
 })
 untold any k = absurd (let e = (k.dropped 0 1 page_20 refl).0 20 refl in cc)
+
+-- a call that makes a placed mapping, which tells nobody, where another core has an entry of a page of it
+untold_place : (any : ℕ → Option PageInfo) (place : Place) (target : Target)
+    → ¬ IsCoherent no_cache any (λ c. Acks (To.Place place target) (Put page_20 place.meta)) (record {
+  table = λ d p. Some entry;
+  tlb = λ d. [];
+  inbox = λ d. [];
+})
+untold_place any place target k = absurd (let e = (k.dropped 0 1 page_20 refl).0 20 refl in cc)
