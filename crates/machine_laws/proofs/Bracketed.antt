@@ -542,11 +542,11 @@ ends : (calls : List Begun) (w : World) (e : Event) (core : ℕ) (reply : Reply)
 ends calls w e core reply v at g h (stopped i q k) = absurd (let no = q.1 in cc)
 ends calls w e core reply v at g h (acts i shape) = told_before calls w e core reply v at h (effect_of (with_event w) e (Answered reply) v g shape)
 
-answered_at : (made : Made) (slots : Slots) (es : List Event) (os : List Outcome) (v : World) (n core : ℕ) (e : Event) (reply : Reply) → IsNew slots → core_of e ≡ Some core
+answered_at : (made : Made) (slots : Slots) (es : List Event) (os : List Outcome) (v : World) (n core : ℕ) (e : Event) (reply : Reply) → made.cores ≤ 64 → IsNew slots → core_of e ≡ Some core
     → Parted (new_world made slots) es os v n e (Answered reply)
     → (call : ℕ) × IsLatest (calls_of (take n es) (take n os)) core call × IsAnsweredBefore (suc n) v.calls.log call core reply
-answered_at made slots es os v n core e reply new at p =
-    let before : After 1 [] (new_world made slots) (take n es) (take n os) p.old = goes 1 [] (new_world made slots) (take n es) (take n os) p.old (inl refl) (opening_is_orderly made slots new) (kept_opening made slots) p.first in
+answered_at made slots es os v n core e reply cores new at p =
+    let before : After 1 [] (new_world made slots) (take n es) (take n os) p.old = goes 1 [] (new_world made slots) (take n es) (take n os) p.old (inl refl) (opening_is_orderly made slots cores new) (kept_opening made slots) p.first in
     let come : Comes p.old e (Answered reply) p.new = comes p.old e (Answered reply) p.new p.step in
     let end = ends (calls_of (take n es) (take n os)) p.old e core reply p.new at p.order before.kept come in
     let said = end.2 in
@@ -556,14 +556,14 @@ answered_at made slots es os v n core e reply new at p =
     (end.0, end.1, (said.0, said.1, p.after said.0 (Answer said.1 end.0 core reply) (grows_at p.old e (Answered reply) p.new p.order come said.0 (Answer said.1 end.0 core reply) said.2), omega (arith, few, size, lt)))
 
 pub bracketed : AllRunsBracketed
-bracketed made slots es os w new r =
-    let order : IsOrderly (new_world made slots) = opening_is_orderly made slots new in
+bracketed made slots es os w cores new r =
+    let order : IsOrderly (new_world made slots) = opening_is_orderly made slots cores new in
     let all : After 1 [] (new_world made slots) es os w = goes 1 [] (new_world made slots) es os w (inl refl) order (kept_opening made slots) r in
     record {
       rises = all.kept.rises;
       begun = all.kept.begun;
       once = all.kept.once;
       copies = all.kept.copies;
-      answered = λ n core e reply a at b. answered_at made slots es os w n core e reply new at (parted (new_world made slots) es os w n e (Answered reply) order r a b);
+      answered = λ n core e reply a at b. answered_at made slots es os w n core e reply cores new at (parted (new_world made slots) es os w n e (Answered reply) order r a b);
       requests = all.kept.same;
     }

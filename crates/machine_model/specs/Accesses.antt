@@ -13,12 +13,12 @@ use Rattle.vm_base.specs.Cores.{with_member}
 use Rattle.vm_base.specs.Plain.{Bytes, File, file_bytes}
 use Rattle.vm_base.specs.Apply.{byte_reply}
 use Rattle.slot_lock.specs.declared.plan.Touch.{Touch}
+use Rattle.slot_lock.specs.declared.plan.Goal.TheVariants as To
 use Rattle.slot_lock.specs.Slots.{with_info}
 use Rattle.vm_calls.specs.declared.fault.Settled.{Settled}
 use Rattle.vm_calls.specs.declared.fault.Settled.TheVariants.{MapErr, AccErr, Bus, Has, Copies, Cached, Wants}
 use Rattle.vm_calls.specs.Settling.{settled}
 use Rattle.machine_model.specs.declared.event.Outcome.{Outcome}
-use Rattle.machine_model.specs.declared.phase.Goal.TheVariants as To
 use Rattle.machine_model.specs.declared.phase.Phase.{Phase}
 use Rattle.machine_model.specs.declared.phase.Phase.TheVariants.{Want, Fill, CopyPost, Install, Release}
 use Rattle.machine_model.specs.World.{World, Memory}

@@ -13,6 +13,10 @@ pub enum Event {
     Go(CoreId),
     /// The core's call, which wants a frame, takes this one.
     Frame(CoreId, u64),
+    /// The core's call, which looks for a place, guesses that there is one from this page on.
+    Guess(CoreId, u64),
+    /// The core's call, which looks for a place, guesses none and takes its whole window.
+    Whole(CoreId),
     /// The core acts on the oldest message of its inbox.
     Take(CoreId),
     /// The core's TLB gets the page's translation from its tables, without an access (Intel SDM volume 3A, caching
@@ -39,6 +43,8 @@ impl Event {
             Event::Call(core, _) => Some(*core),
             Event::Go(core) => Some(*core),
             Event::Frame(core, _) => Some(*core),
+            Event::Guess(core, _) => Some(*core),
+            Event::Whole(core) => Some(*core),
             Event::Take(core) => Some(*core),
             Event::Walk(core, _) => Some(*core),
             Event::Evict(core, _) => Some(*core),
