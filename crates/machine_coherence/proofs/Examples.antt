@@ -11,6 +11,7 @@ use Rattle.mmu.specs.declared.tlb.TlbEntry.{TlbEntry}
 use Rattle.shootdown.specs.declared.message.Message.{Message}
 use Rattle.shootdown.specs.Messages.{message_of, posted}
 use Rattle.machine_model.specs.declared.phase.Phase.{Phase}
+use Rattle.slot_lock.specs.declared.plan.Goal.TheVariants as To
 use Rattle.machine_model.specs.declared.phase.Phase.TheVariants.{Free, Acks}
 use Rattle.machine_model.specs.Holding.{awaits_in}
 use Rattle.machine_coherence.specs.Coherent.{IsBacked, HasDropped, IsCoherent}
@@ -44,7 +45,7 @@ abbrev info : ℕ → Option PageInfo
 info = put (λ p. None) 20 (Some used)
 
 abbrev phase : ℕ → Phase
-phase = put (λ c. Free) 0 (Acks (Clear page_20) page_20)
+phase = put (λ c. Free) 0 (Acks (To.Change (Clear page_20)) (Clear page_20))
 
 abbrev table : ℕ → Option Translation
 table = put (λ p. None) 20 (Some entry)
@@ -65,7 +66,7 @@ told = record {
   tlbs = ((backed, inl refl), tt);
   asked = (λ e. omega (arith, e), refl, refl, tt);
   dropped = λ c range. put_all (λ c ph. awaits_in ph ≡ Some range → HasDropped table tlb range (message_of inbox c))
-      (λ c. Free) 0 (Acks (Clear page_20) page_20) (λ a is. absurd cc) (λ c ne a. absurd cc) c;
+      (λ c. Free) 0 (Acks (To.Change (Clear page_20)) (Clear page_20)) (λ a is. absurd cc) (λ c ne a. absurd cc) c;
 }
 
 untouched : (d : ℕ) → IsCore no_cache info phase d (λ p. None) [] []
@@ -118,7 +119,7 @@ unrecorded : (calls : ℕ → Phase) → ¬ IsCoherent no_cache (λ p. Some (rec
 unrecorded calls k = absurd (let e = (k.tables 1 20 entry refl).recorded in cc)
 
 -- a call that awaits a page of which another core has an entry, without having told it
-untold : (any : ℕ → Option PageInfo) → ¬ IsCoherent no_cache any (λ c. Acks (Clear page_20) page_20) (record {
+untold : (any : ℕ → Option PageInfo) → ¬ IsCoherent no_cache any (λ c. Acks (To.Change (Clear page_20)) (Clear page_20)) (record {
   table = λ d p. Some entry;
   tlb = λ d. [];
   inbox = λ d. [];

@@ -7,7 +7,13 @@ use Rattle.vm_base.specs.declared.replies.Reply.{Reply}
 use Rattle.vm_base.specs.declared.replies.Reply.TheVariants.{NoMemory}
 use Rattle.vm_base.specs.Functions.{put, over, has}
 use Rattle.vm_base.proofs.Functions.{by_test, put_all, put_both}
+use Rattle.slot_lock.specs.declared.plan.Goal.{Goal}
+use Rattle.slot_lock.specs.declared.plan.Goal.TheVariants as To
+use Rattle.slot_lock.specs.declared.plan.Place.{Place}
+use Rattle.slot_lock.specs.declared.plan.Target.{Target}
+use Rattle.slot_lock.specs.declared.plan.Target.TheVariants.{Hint, Run, Window}
 use Rattle.slot_lock.specs.declared.plan.Touch.{Touch}
+use Rattle.slot_lock.specs.Plan.{goal_range}
 use Rattle.slot_lock.specs.Slots.{Slots}
 use Rattle.mmu.specs.declared.entry.Translation.{Translation}
 use Rattle.mmu.specs.declared.tlb.TlbEntry.{TlbEntry}
@@ -20,23 +26,22 @@ use Rattle.shootdown.specs.declared.message.Took.TheVariants as took
 use Rattle.shootdown.specs.Messages.{message_of, asked, remaining}
 use Rattle.machine_model.specs.declared.event.Event.{Event}
 use Rattle.machine_model.specs.declared.event.Outcome.{Outcome}
-use Rattle.machine_model.specs.declared.phase.Goal.{Goal}
-use Rattle.machine_model.specs.declared.phase.Goal.TheVariants as To
 use Rattle.machine_model.specs.declared.phase.Phase.{Phase}
-use Rattle.machine_model.specs.declared.phase.Phase.TheVariants.{Free, Check, Lock, Decide, Post, Acks, Unlock, Answer, Try, Settle, Want, Fill, CopyPost, CopyAcks, Install, Release}
+use Rattle.machine_model.specs.declared.phase.Phase.TheVariants.{Free, Check, Lock, Guess, Find, Back, Cut, Decide, Post, Acks, Unlock, Answer, Try, Settle, Want, Fill, CopyPost, CopyAcks, Install, Release}
 use Rattle.machine_model.specs.Accesses.{reply_of, taken_for}
 use Rattle.machine_model.specs.Actions.{let_go}
-use Rattle.machine_model.specs.Holding.{awaits_in, can_give_up, goal_range, still_held}
+use Rattle.machine_model.specs.Holding.{awaits_in, can_give_up, still_held}
 use Rattle.machine_model.specs.Locks.{locking, locked_to, all_locked, held_after}
+use Rattle.machine_model.specs.Placing.{back_to}
 use Rattle.machine_model.specs.Translating.{with_tlb, with_inbox, tables_cleared, tlb_invalidated, translated_by, after_translating, after_walk, after_eviction}
 use Rattle.machine_model.specs.World.{World, Hardware, Made, new_world}
 use Rattle.machine_model.specs.Step.{with_event, Step}
 use Rattle.machine_laws.specs.Orderly.{IsOrderly}
-use Rattle.machine_laws.proofs.Shapes.{Moves, locks, tries, acts, finds, lacks, shows, Replies, refuses, no_place, declines, fails, no_frame, LetsGo, unlocks, releases, GoesBy, moves, divides, owns, lets_go, answers, posts, commits, takes, zeroes, first_copies, caches, shares, posts_copy, copies, installs, accesses, faults, Works, clears, invalidates, walks, evicts, flushes, reviews, frees, Shape, rests, begins, ends, goes, gives_up, works, joins, IsUnawaited, Comes, stopped, acts as happens, comes}
+use Rattle.machine_laws.proofs.Shapes.{Moves, locks, tries, hints, seeks, guesses, turns, chooses, acts, finds, lacks, shows, Replies, refuses, no_place, declines, fails, no_frame, LetsGo, unlocks, returns, releases, GoesBy, moves, divides, cuts, fits, owns, lets_go, answers, posts, commits, takes, zeroes, first_copies, caches, shares, posts_copy, copies, installs, accesses, faults, Works, clears, invalidates, walks, evicts, flushes, reviews, frees, Shape, rests, begins, ends, goes, gives_up, works, joins, IsUnawaited, Comes, stopped, acts as happens, comes}
 use Rattle.machine_coherence.specs.Coherent.{AreTakenNew, IsCoherent, IsCoherentState}
 use Rattle.machine_coherence.proofs.Lists.{none_sent}
 use Rattle.machine_coherence.proofs.Cores.{IsCore, core_of, of_cores, fills as core_fills, drops, clears as core_clears, invalidates as core_invalidates}
-use Rattle.machine_coherence.proofs.Steps.{goes_on, goes_silent, silent_by, posts_kept, commits_kept, fills_kept, caches_kept, posts_copy_kept, copies_kept, installs_kept}
+use Rattle.machine_coherence.proofs.Steps.{goes_on, goes_silent, silent_by, posts_kept, fits_kept, commits_kept, fills_kept, caches_kept, posts_copy_kept, copies_kept, installs_kept}
 
 -- ---- one core's TLB changes, or what it has beside its call
 
@@ -112,6 +117,11 @@ move_none : (w : World) (c : ℕ) (new : Phase) → Moves w c new
     → (awaits_in (w.calls.phase c) ≡ None) × (awaits_in new ≡ None)
 move_none w c new (locks request change e n passed) = (ap awaits_in e, ap awaits_in n)
 move_none w c new (tries request touch e n passed) = (ap awaits_in e, ap awaits_in n)
+move_none w c new (hints request place range e n i passed) = (ap awaits_in e, ap awaits_in n)
+move_none w c new (seeks request place e n passed) = (ap awaits_in e, ap awaits_in n)
+move_none w c new (guesses place target e n i) = (ap awaits_in e, ap awaits_in n)
+move_none w c new (turns place target e n d) = (ap awaits_in e, ap awaits_in n)
+move_none w c new (chooses place target range shoot e n d) = (ap awaits_in e, ap awaits_in n)
 move_none w c new (acts change range shoot e n d) = (ap awaits_in e, ap awaits_in n)
 move_none w c new (finds touch f e n u) = (ap awaits_in e, ap awaits_in n)
 move_none w c new (shows touch e n u d) = (ap awaits_in e, ap awaits_in n)
@@ -120,18 +130,27 @@ move_none w c new (lacks touch old e n u d) = (ap awaits_in e, ap awaits_in n)
 reply_none : (w : World) (c : ℕ) (held : Option PageRange) (reply : Reply) → Replies w c held reply
     → awaits_in (w.calls.phase c) ≡ None
 reply_none w c held reply (refuses request e h k) = ap awaits_in e
-reply_none w c held reply (no_place request place e h r k) = ap awaits_in e
+reply_none w c held reply (no_place place target errno e h r d) = ap awaits_in e
 reply_none w c held reply (declines change errno e h r d) = ap awaits_in e
 reply_none w c held reply (fails touch e h f) = ap awaits_in e
 reply_none w c held reply (no_frame touch old e h r f) = ap awaits_in e
+
+back_none : (place : Place) (target : Target) (held : Option PageRange) → awaits_in (back_to place target held) ≡ None
+back_none place target (Some held) = refl
+back_none place (Hint range) None = refl
+back_none place (Run range) None = refl
+back_none place Window None = refl
 
 lets_go_none : (old : Phase) (held : PageRange) (b : ℕ) (new : Phase) → LetsGo old held b new
     → (awaits_in old ≡ None) × (awaits_in new ≡ None)
 lets_go_none old held b new (unlocks reply e n) =
     (ap awaits_in e, ap awaits_in n ∙ let_go_none (held_after held b) reply)
+lets_go_none old held b new (returns place target e n) =
+    (ap awaits_in e, ap awaits_in n ∙ back_none place target (held_after held b))
 lets_go_none old held b new (releases touch e h n) = (ap awaits_in e, ap awaits_in n)
 
 all_locked_none : (goal : Goal) → awaits_in (all_locked goal) ≡ None
+all_locked_none (To.Place place target) = refl
 all_locked_none (To.Change change) = refl
 all_locked_none (To.Access touch) = refl
 
@@ -165,6 +184,9 @@ goes_kept w c v g n k (moves new m h) =
     subst IsCoherentState (sym h) (moved w c new w.slots none.0 none.1 refl k)
 goes_kept w c v g n k (divides goal cursor t e s h) =
     subst IsCoherentState (sym h) (same_info w.slots t s.divides.2.info k)
+goes_kept w c v g n k (cuts place target range t e s h) =
+    subst IsCoherentState (sym h) (same_info w.slots t s.divides.2.info k)
+goes_kept w c v g n k (fits place target range e cut h) = subst IsCoherentState (sym h) (fits_kept w c place target range g e k)
 goes_kept w c v g n k (owns goal cursor b t e l h) =
     subst IsCoherentState (sym h)
     (moved w c (locked_to goal b) t (ap awaits_in e) (locked_to_none goal b) (info_of t _ l.now) k)
@@ -175,8 +197,8 @@ goes_kept w c v g n k (answers held reply r h) =
     subst IsCoherentState (sym h)
     (moved w c (let_go held reply) w.slots (reply_none w c held reply r) (let_go_none held reply) refl k)
 goes_kept w c v g n k (posts change shoot e h) = subst IsCoherentState (sym h) (posts_kept w c change shoot g e k)
-goes_kept w c v g n k (commits change held counts e nobody l h) =
-    subst IsCoherentState (sym h) (commits_kept w c change held counts e nobody k)
+goes_kept w c v g n k (commits goal change counts e nobody l h) =
+    subst IsCoherentState (sym h) (commits_kept w c goal change counts e nobody k)
 goes_kept w c v g n k (takes touch old f e l h) =
     subst IsCoherentState (sym h) (moved w c (taken_for touch old f) w.slots (ap awaits_in e) (taken_none touch old f) refl k)
 goes_kept w c v g n k (zeroes touch f counts e b t h) = subst IsCoherentState (sym h) (fills_kept w c touch (Some f) f g e k)
@@ -208,10 +230,14 @@ works_kept w c event v k (frees i f counts t h) = subst IsCoherentState (sym h) 
 given_up_silent : (w : World) (c : ℕ) (phase : Phase) → w.calls.phase c ≡ phase → can_give_up phase ≡ true → IsUnawaited w.hardware c phase
     → IsCoherentState w → (d : ℕ) → message_of (w.hardware.inbox d) c ≡ None
 given_up_silent w c (CopyAcks touch f) e can u k d = silent_by (message_of (w.hardware.inbox d) c) (u d)
-given_up_silent w c (Acks change held) e can u k d = absurd cc
+given_up_silent w c (Acks goal change) e can u k d = absurd cc
 given_up_silent w c Free e can u k d = none_sent w.calls.phase c d (w.hardware.inbox d) (ap awaits_in e) (k.asked d)
 given_up_silent w c (Check request) e can u k d = none_sent w.calls.phase c d (w.hardware.inbox d) (ap awaits_in e) (k.asked d)
 given_up_silent w c (Lock goal cursor) e can u k d = none_sent w.calls.phase c d (w.hardware.inbox d) (ap awaits_in e) (k.asked d)
+given_up_silent w c (Guess place) e can u k d = none_sent w.calls.phase c d (w.hardware.inbox d) (ap awaits_in e) (k.asked d)
+given_up_silent w c (Find place target) e can u k d = none_sent w.calls.phase c d (w.hardware.inbox d) (ap awaits_in e) (k.asked d)
+given_up_silent w c (Back place target held) e can u k d = none_sent w.calls.phase c d (w.hardware.inbox d) (ap awaits_in e) (k.asked d)
+given_up_silent w c (Cut place target range) e can u k d = none_sent w.calls.phase c d (w.hardware.inbox d) (ap awaits_in e) (k.asked d)
 given_up_silent w c (Decide change) e can u k d = none_sent w.calls.phase c d (w.hardware.inbox d) (ap awaits_in e) (k.asked d)
 given_up_silent w c (Post change shoot) e can u k d = none_sent w.calls.phase c d (w.hardware.inbox d) (ap awaits_in e) (k.asked d)
 given_up_silent w c (Unlock held reply) e can u k d = none_sent w.calls.phase c d (w.hardware.inbox d) (ap awaits_in e) (k.asked d)

@@ -1,5 +1,5 @@
 -- The machine's memory stays its own: free frames, and what Refcache counts
-use Rattle.std.proofs.Common.{◌≡◌, ℕ, zero, suc, ◌<◌, Bool, true, sym, subst, ap, ◌∙◌, Some, None, Option}
+use Rattle.std.proofs.Common.{◌≡◌, ℕ, zero, suc, ◌<◌, Bool, true, sym, subst, ◌∙◌, Some, None, Option}
 use Rattle.vm_base.specs.Functions.{put}
 use Rattle.vm_base.specs.Plain.{Bytes}
 use Rattle.vm_base.proofs.Functions.{put_all}

@@ -10,7 +10,8 @@ use Rattle.vm_base.specs.declared.rights.Mode.{Mode}
 use Rattle.vm_base.specs.Apply.{meta_of}
 use Rattle.vm_base.specs.Functions.{has}
 use Rattle.vm_base.specs.Pages.{IsPageRange, pages_from, pages_of}
-use Rattle.vm_base.specs.Plain.{File}
+use Rattle.vm_base.specs.Places.{IsFree}
+use Rattle.vm_base.specs.Plain.{File, is_mapped}
 use Rattle.vm_base.specs.Refusals.{refusal}
 use Rattle.vm_base.proofs.Functions.{has_in, in_has}
 use Rattle.slot_lock.specs.declared.plan.Change.{Change}
@@ -23,12 +24,12 @@ use Rattle.slot_lock.specs.declared.plan.Goal.{Goal}
 use Rattle.slot_lock.specs.declared.plan.Goal.TheVariants as To
 use Rattle.slot_lock.specs.declared.plan.Target.{Target}
 use Rattle.slot_lock.specs.declared.plan.Target.TheVariants.{Hint, Run, Window}
-use Rattle.slot_lock.specs.Plan.{range_of, target_range, goal_range, goal_plan, HasTarget, IsSoundChange, IsSoundTouch, IsSoundGoal}
+use Rattle.slot_lock.specs.Plan.{range_of, goal_range, goal_plan, HasTarget, IsSoundChange, IsSoundTouch, IsSoundGoal}
 use Rattle.slot_lock.specs.Slots.{Slots}
 use Rattle.vm_calls.specs.declared.decision.Decision.{Decision}
 use Rattle.vm_calls.specs.declared.decision.Decision.TheVariants.{Act, Again}
 use Rattle.vm_calls.specs.Checks.{checked, plan_of, unless_refused, place_of}
-use Rattle.vm_calls.specs.Decisions.{Decides, DecidesRun, DecidesWindow}
+use Rattle.vm_calls.specs.Decisions.{Decides, DecidesPlace, DecidesRun, DecidesWindow, entries}
 use Rattle.vm_calls.specs.Decisions.DecidesRun.{free, taken}
 use Rattle.vm_calls.specs.Decisions.DecidesProtect.{no_page, no_write, acts}
 use Rattle.vm_calls.proofs.Alike.{decision_alike}
@@ -143,7 +144,20 @@ acts_valid files s (To.Change change) range shoot g d =
     subst IsPageRange (sym (acts_own files s change range shoot d)) (goal-pages (To.Change change) g)
 acts_valid files s (To.Access touch) range shoot g d = absurd d
 
--- a mapping is refused its window alone, and is never sent on from it
+-- a mapping goes to pages that aren't mapped
+free_of : (s : Slots) (run range : PageRange) (shoot : ℕ) → DecidesRun s run (Act range shoot) → IsFree (is_mapped (entries s)) range
+free_of s run range shoot (free f e) = let same : run ≡ range = cc in subst (IsFree (is_mapped (entries s))) same f
+free_of s run range shoot (taken h e) = absurd cc
+
+pub place_free : (s : Slots) (place : Place) (target : Target) (range : PageRange) (shoot : ℕ) → DecidesPlace s place target (Act range shoot)
+    → IsFree (is_mapped (entries s)) range
+place_free s place (Hint run) range shoot d = free_of s run range shoot d
+place_free s place (Run run) range shoot d = free_of s run range shoot d
+place_free s place Window range shoot (None, none, e) = absurd cc
+place_free s place Window range shoot (Some first, least, e) =
+    let same : pages_from first place.count ≡ range = cc in subst (IsFree (is_mapped (entries s))) same least.0.2
+
+-- a mapping is refused in its window alone, and is never sent on from it
 pub window_stays : (s : Slots) (place : Place) → DecidesWindow s place Again → ⊥
 window_stays s place (None, none, e) = cc
 window_stays s place (Some first, least, e) = cc

@@ -36,13 +36,12 @@ use Rattle.machine_model.specs.Actions.{to, with_entry, after_reply, let_go, ans
 use Rattle.machine_model.specs.Changes.{slots_after, after_post, reply_to}
 use Rattle.machine_model.specs.Counting.{with_counts}
 use Rattle.machine_model.specs.GivingUp.{given_back}
-use Rattle.machine_model.specs.Holding.{plan_in, can_give_up, is_open, still_held, taken_in}
+use Rattle.machine_model.specs.Holding.{can_give_up, still_held, taken_in}
 use Rattle.machine_model.specs.Locks.{locking, locked_to, all_locked, held_after}
 use Rattle.machine_model.specs.Placing.{back_to}
 use Rattle.machine_model.specs.Translating.{after_translating}
 use Rattle.machine_model.specs.World.{World, Hardware, Memory}
 use Rattle.machine_model.specs.Step.{after_call}
-use Rattle.vm_base.specs.declared.info.Meta.{Meta}
 use Rattle.vm_base.specs.declared.replies.SegvCode.TheVariants.{MapErr}
 use Rattle.vm_base.specs.declared.replies.Reply.TheVariants as ReplyOf
 use Rattle.vm_base.specs.declared.requests.Request.TheVariants as RequestOf
@@ -58,7 +57,7 @@ use Rattle.vm_calls.specs.Checks.{checked, plan_of, unless_refused, touch_of, pl
 use Rattle.machine_laws.specs.Brackets.{nth, IsStoreTo}
 use Rattle.machine_laws.specs.Orderly.{IsOrderly, Serves}
 use Rattle.machine_laws.proofs.Moves.{IsCallOf, call_at}
-use Rattle.machine_laws.proofs.Shapes.{IsInner, rests_inner, Moves, locks, tries, hints, seeks, guesses, turns, chooses, fits, acts, finds, lacks, shows, Replies, refuses, no_place, declines, fails, no_frame, LetsGo, unlocks, returns, releases, GoesBy, moves, divides, cuts, owns, lets_go, answers, posts, commits, takes, zeroes, first_copies, caches, shares, posts_copy, copies, installs, accesses, faults, Works, clears, invalidates, walks, evicts, flushes, reviews, frees, IsGoing, going, picking, guessing, widening, Shape, rests, begins, ends, goes, gives_up, works, joins}
+use Rattle.machine_laws.proofs.Shapes.{IsInner, rests_inner, Moves, locks, tries, hints, seeks, guesses, turns, chooses, acts, finds, lacks, shows, Replies, refuses, no_place, declines, fails, no_frame, LetsGo, unlocks, returns, releases, GoesBy, moves, divides, cuts, fits, owns, lets_go, answers, posts, commits, takes, zeroes, first_copies, caches, shares, posts_copy, copies, installs, accesses, faults, Works, clears, invalidates, walks, evicts, flushes, reviews, frees, IsGoing, going, picking, guessing, widening, Shape, rests, begins, ends, goes, gives_up, works, joins}
 
 -- a core has no call, one without a reply, or one with this reply
 pub data Status : Type 0 where
@@ -213,7 +212,6 @@ moves_same w c new (seeks request place e n k) = ap status n ∙ sym (ap status 
 moves_same w c new (guesses place target e n i) = ap status n ∙ sym (ap status e)
 moves_same w c new (turns place target e n d) = ap status n ∙ sym (ap status e)
 moves_same w c new (chooses place target range shoot e n d) = ap status n ∙ sym (ap status e)
-moves_same w c new (fits place target range e n k) = ap status n ∙ sym (ap status e)
 moves_same w c new (acts change range shoot e n d) = ap status n ∙ sym (ap status e)
 moves_same w c new (finds touch f e n u) = ap status n ∙ sym (ap status e)
 moves_same w c new (lacks touch old e n u d) = ap status n ∙ sym (ap status e)
@@ -254,6 +252,8 @@ step_effect : (w : World) (e : Event) (c : ℕ) (v : World) → IsOrderly w → 
 step_effect w e c v g i (moves new m h) = goes_on w e c new w.slots w.hardware w.memory v i (moves_same w c new m) h
 step_effect w e c v g i (divides goal cursor t k s h) = beside w e t w.hardware w.memory v i h
 step_effect w e c v g i (cuts place target range t k s h) = beside w e t w.hardware w.memory v i h
+step_effect w e c v g i (fits place target range k cut h) =
+    goes_on w e c (At.Acks (To.Place place target) (Put range place.meta)) w.slots w.hardware w.memory v i (sym (ap status k)) h
 step_effect w e c v g i (owns goal cursor b t k l h) = goes_on w e c (locked_to goal b) t w.hardware w.memory v i (locked_asked goal b ∙ sym (ap status k)) h
 step_effect w e c v g i (lets_go held b t new l u h) = goes_on w e c new t w.hardware w.memory v i (lets_go_same (w.calls.phase c) held b new l) h
 step_effect w e c v g i (answers held reply r h) = with_reply w e c held reply w.slots w.hardware w.memory v i (replies_asked w c held reply r) h

@@ -1,5 +1,5 @@
 -- What holds of one call, and that the order stays where one call moves on
-use Rattle.std.proofs.Common.{◌≡◌, ◌≢◌, ℕ, suc, ◌≤◌, ◌<◌, ◌+◌, Bool, true, cond, refl, sym, ap, subst, arith, Some, None, Option, List, ◌∙◌, [], ◌∷◌, ◌++◌, length, length-append}
+use Rattle.std.proofs.Common.{◌≡◌, ◌≢◌, ℕ, ◌≤◌, ◌<◌, ◌+◌, Bool, true, cond, refl, sym, ap, subst, arith, Some, None, Option, List, ◌∙◌, [], ◌∷◌, ◌++◌}
 use Rattle.vm_base.specs.declared.info.Back.{Back}
 use Rattle.vm_base.specs.declared.info.Back.TheVariants.{Anon, Shared, Private}
 use Rattle.vm_base.specs.declared.info.PageInfo.{PageInfo}
@@ -27,7 +27,7 @@ use Rattle.machine_model.specs.Actions.{let_go}
 use Rattle.machine_model.specs.Files.{back_of, file_frame, shows_file}
 use Rattle.machine_model.specs.Holding.{holds, some_has, range_held, awaits_in, taken_in, is_open, page_of_touch}
 use Rattle.machine_laws.specs.Orderly.{Order, IsOrderly, IsAsked, IsCutFor, IsReady, IsUsable, IsCopyDue, IsWanted, IsFillable, IsChosen, BelongsTo, IsMemory, answer_count}
-use Rattle.machine_laws.proofs.Deciding.{decides_kept}
+use Rattle.machine_laws.proofs.Deciding.{decides_kept, acts_in}
 use Rattle.machine_laws.proofs.OpenCalls.{one, open_put}
 
 -- ---- one call
@@ -166,6 +166,30 @@ ready_kept made s t cached (Answer reply) same h = h
 ready_kept made s t cached (Try touch) same h = h
 ready_kept made s t cached (Settle touch) same h = h
 ready_kept made s t cached (Release touch) same h = h
+
+-- what changes once other cores have acknowledged is held
+pub awaits_held : (made : Made) (s : Slots) (cached : ℕ → ℕ → Option ℕ) (phase : Phase) (p : ℕ) → IsReady made s cached phase → some_has (awaits_in phase) p ≡ true
+    → holds phase p ≡ true
+awaits_held made s cached (Acks goal change) p r h = acts_in made.file s goal (range_of change) r.2.0 p r.2.1 h
+awaits_held made s cached (CopyAcks touch frame) p r h = h
+awaits_held made s cached Free p r h = absurd cc
+awaits_held made s cached (Check request) p r h = absurd cc
+awaits_held made s cached (Lock goal cursor) p r h = absurd cc
+awaits_held made s cached (Guess place) p r h = absurd cc
+awaits_held made s cached (Find place target) p r h = absurd cc
+awaits_held made s cached (Leaving place target held) p r h = absurd cc
+awaits_held made s cached (Cut place target range) p r h = absurd cc
+awaits_held made s cached (Decide change) p r h = absurd cc
+awaits_held made s cached (Post change shoot) p r h = absurd cc
+awaits_held made s cached (Unlock held reply) p r h = absurd cc
+awaits_held made s cached (Answer reply) p r h = absurd cc
+awaits_held made s cached (Try touch) p r h = absurd cc
+awaits_held made s cached (Settle touch) p r h = absurd cc
+awaits_held made s cached (Want touch old) p r h = absurd cc
+awaits_held made s cached (Fill touch frame) p r h = absurd cc
+awaits_held made s cached (CopyPost touch frame) p r h = absurd cc
+awaits_held made s cached (Install touch) p r h = absurd cc
+awaits_held made s cached (Release touch) p r h = absurd cc
 
 other_call : (made : Made) (s t : Slots) (cached now : ℕ → ℕ → Option ℕ) (requests : List Request) (c d call : ℕ) (phase : Phase) → d ≢ c
     → Touches s t c → KeepsCached cached now → IsCall made s cached requests d call phase → IsCall made t now requests d call phase

@@ -1,6 +1,6 @@
 -- What a step is: it changes nothing, begins a call, ends one, or is one of a few things that a call in some phase does. Every
 -- statement on steps is shown shape by shape, so that no row of the machine is taken apart twice.
-use Rattle.std.proofs.Common.{◌≡◌, ◌≢◌, ℕ, sym, ap, subst, ◌∙◌, ◌+◌, ◌<◌, ◌≤◌, ◌⊎◌, inl, inr, Bool, true, false, cond, refl, arith, Some, None, Option, Result, Ok, Err, [], length}
+use Rattle.std.proofs.Common.{◌≡◌, ◌≢◌, ℕ, sym, ap, subst, ◌∙◌, ◌+◌, ◌<◌, ◌≤◌, inl, inr, Bool, true, false, cond, refl, arith, Some, None, Option, Result, Ok, Err, [], length}
 use Rattle.std.specs.Prelude.{nat_lt, nat_le, ◌&&◌, ◌||◌, is_some, if◌then◌else◌}
 use Rattle.std.proofs.lemmas.Bool.Decides.{nat_tests}
 use Rattle.vm_base.specs.declared.info.Back.{Back}
@@ -67,12 +67,12 @@ use Rattle.machine_model.specs.Files.{back_of, file_frame}
 use Rattle.machine_model.specs.Filling.{FillsFromFile, FillsBacked, after_zeros, after_first_copy, after_caching, after_sharing, after_copy_post, after_copy, CountsCopy, CopiesNext}
 use Rattle.machine_model.specs.Actions.{Idles, Becomes, to, after_reply, let_go}
 use Rattle.machine_model.specs.Changes.{checked_by, after_plan, after_decision, after_post, after_commit, CountsLost, AwaitsNobody, Awaits, CommitsNext}
-use Rattle.machine_model.specs.Counting.{with_counts, with_free, FlushesOnce, ReportsFlush, ReviewsOnce, ReportsReview}
+use Rattle.machine_model.specs.Counting.{with_counts, with_free, ReportsFlush, ReportsReview}
 use Rattle.machine_model.specs.GivingUp.{GivesUp, after_give_up}
 use Rattle.machine_model.specs.Events.{core_of}
 use Rattle.machine_model.specs.Holding.{page_of_touch, awaits_in, can_give_up}
 use Rattle.machine_model.specs.Locks.{locking, locked_to, held_after, LocksTo, FoldsAt}
-use Rattle.machine_model.specs.Placing.{placing, trying, guess_of, GuessesNext, has_run, GuessesThisRun, TakesWindow, after_guess, after_finding_place, back_to, after_cuts, CutsTo}
+use Rattle.machine_model.specs.Placing.{placing, trying, guess_of, GuessesNext, GuessesThisRun, TakesWindow, after_guess, after_finding_place, back_to, after_cuts, CutsTo}
 use Rattle.machine_model.specs.Translating.{translated_by, frame_reached, after_translating, with_hardware, with_inbox, tables_cleared, tlb_invalidated, TakesMessage, can_walk, after_walk, Walks, after_eviction, Evicts}
 use Rattle.machine_model.specs.World.{World, Hardware}
 use Rattle.machine_model.specs.Step.{after_call, Begins, Goes, Acts, is_here, with_event, event_limit, Step}
@@ -106,8 +106,6 @@ pub data Moves (w : World) (c : ℕ) (new : Phase) : Type 0 where
       → Decides w.made.file w.slots (To.Place place target) Again → Moves w c new
   chooses : (place : Place) (target : Target) (range : PageRange) (shoot : ℕ) → w.calls.phase c ≡ Find place target
       → new ≡ Cut place target range → Decides w.made.file w.slots (To.Place place target) (Act range shoot) → Moves w c new
-  fits : (place : Place) (target : Target) (range : PageRange) → w.calls.phase c ≡ Cut place target range
-      → new ≡ Acks (To.Place place target) (Put range place.meta) → IsCut w.slots range → Moves w c new
   acts : (change : Change) (range : PageRange) (shoot : ℕ) → w.calls.phase c ≡ Decide change → new ≡ Post change shoot
       → Decides w.made.file w.slots (To.Change change) (Act range shoot) → Moves w c new
   finds : (touch : Touch) (f : ℕ) → w.calls.phase c ≡ Settle touch → new ≡ Install touch
@@ -158,6 +156,8 @@ pub data GoesBy (w : World) (c : ℕ) (v : World) : Type 0 where
       → v ≡ record w { slots = t } → GoesBy w c v
   cuts : (place : Place) (target : Target) (range : PageRange) (t : Slots) → w.calls.phase c ≡ Cut place target range
       → Cuts w.slots t c range → v ≡ record w { slots = t } → GoesBy w c v
+  fits : (place : Place) (target : Target) (range : PageRange) → w.calls.phase c ≡ Cut place target range → IsCut w.slots range
+      → v ≡ after_cuts c place target range w → GoesBy w c v
   owns : (goal : Goal) (cursor b : ℕ) (t : Slots) → w.calls.phase c ≡ Lock goal cursor → Locks w.slots t c cursor (goal_range goal).end b
       → v ≡ to c (locked_to goal b) (record w { slots = t }) → GoesBy w c v
   lets_go : (held : PageRange) (b : ℕ) (t : Slots) (new : Phase) → LetsGo (w.calls.phase c) held b new
@@ -372,7 +372,7 @@ cut_shape : (w : World) (c : ℕ) (place : Place) (target : Target) (range : Pag
     → Shape w (Go c) o v
 cut_shape w c place target range fit.Cut t o v lt e s h = step w c o v lt h.0 (cuts place target range t e s h.1)
 cut_shape w c place target range fit.Fits t o v lt e s h =
-    step w c o v lt h.0 (moves (Acks (To.Place place target) (Put range place.meta)) (fits place target range e refl s.0) h.1)
+    step w c o v lt h.0 (fits place target range e s.0 h.1)
 
 -- ---- changes
 
