@@ -36,7 +36,7 @@ use Rattle.vm_calls.specs.declared.decision.Decision.TheVariants.{Act}
 use Rattle.vm_calls.specs.Decisions.{Decides, entries, entry_of}
 use Rattle.vm_calls.specs.Decisions.DecidesProtect.{no_page, no_write, acts}
 use Rattle.machine_model.specs.declared.phase.Phase.{Phase}
-use Rattle.machine_model.specs.declared.phase.Phase.TheVariants.{Cut, Post, Acks, Unlock, Answer, Try, Settle, Want, Fill, CopyPost, CopyAcks, Install, Release}
+use Rattle.machine_model.specs.declared.phase.Phase.TheVariants.{Cut, Post, Acks, Fill, CopyPost, CopyAcks, Install, Release}
 use Rattle.machine_model.specs.Accesses.{after_install, info_with_core}
 use Rattle.machine_model.specs.Files.{back_of, file_frame, shows_file, shows_some, with_cached, is_private, prot_shown, prot_installed}
 use Rattle.machine_model.specs.Filling.{after_caching, after_copy_post, after_copy, cores_of, info_copied}
@@ -45,9 +45,9 @@ use Rattle.machine_model.specs.Changes.{slots_after, reply_to, after_post, after
 use Rattle.machine_model.specs.Holding.{awaits_in, some_has, holds, taken_in, page_of_touch}
 use Rattle.machine_model.specs.Placing.{after_cuts}
 use Rattle.machine_model.specs.Translating.{entry_for, entry_of_page, inboxes_after, after_shot}
-use Rattle.machine_model.specs.World.{World, Made, Hardware}
+use Rattle.machine_model.specs.World.{World, Hardware}
 use Rattle.refcache.specs.Counts.{Counts}
-use Rattle.machine_laws.specs.Orderly.{IsOrderly, IsReady, IsUsable}
+use Rattle.machine_laws.specs.Orderly.{IsOrderly, IsUsable}
 use Rattle.machine_laws.proofs.Changed.{same_outside}
 use Rattle.machine_laws.proofs.Deciding.{place_free}
 use Rattle.machine_laws.proofs.Moves.{call_at, page_is, awaits_held}
@@ -176,7 +176,7 @@ pub fits_kept : (w : World) (c : ℕ) (place : Place) (target : Target) (range :
 fits_kept w c place target range g e k =
     of_cores w.memory.cached w.slots.info (put w.calls.phase c new) w.hardware
     (λ d. let q = nothing_there w.slots range (no_users w.slots range d free) (core_of d k) in
-      awaits_nothing c new range refl (none_sent w.calls.phase c d (w.hardware.inbox d) (ap awaits_in e) (k.asked d)) q.0 q.1 (core_of d k))
+    awaits_nothing c new range refl (none_sent w.calls.phase c d (w.hardware.inbox d) (ap awaits_in e) (k.asked d)) q.0 q.1 (core_of d k))
   where
     new : Phase
     new = Acks (To.Place place target) (Put range place.meta)

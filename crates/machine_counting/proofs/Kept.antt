@@ -14,7 +14,7 @@ use Rattle.vm_base.specs.declared.rights.Prot.{Prot}
 use Rattle.vm_base.specs.Functions.{put, has}
 use Rattle.vm_base.specs.Info.{advance, frame_of, info_with_frame, info_with_prot, unused}
 use Rattle.vm_base.specs.Pages.{IsPage, IsPageRange, pages_from}
-use Rattle.vm_base.specs.Plain.{Bytes, File, mode_of}
+use Rattle.vm_base.specs.Plain.{Bytes, File}
 use Rattle.vm_base.proofs.Functions.{by_test, put_all, across_all, put_same, put_other}
 use Rattle.refcache.specs.declared.reports.Review.TheVariants as review
 use Rattle.refcache.specs.Counts.{Counts, true_count, no_counts}
@@ -24,13 +24,16 @@ use Rattle.refcache.proofs.Reached.{steps_reach, freed_is_unused, unused_at_firs
 use Rattle.refcache.proofs.Unused.{unused_stays}
 use Rattle.slot_lock.specs.declared.plan.Change.{Change}
 use Rattle.slot_lock.specs.declared.plan.Change.TheVariants.{Put, Clear, Protect}
+use Rattle.slot_lock.specs.declared.plan.Goal.{Goal}
+use Rattle.slot_lock.specs.declared.plan.Goal.TheVariants as To
+use Rattle.slot_lock.specs.declared.plan.Place.{Place}
+use Rattle.slot_lock.specs.declared.plan.Target.{Target}
+use Rattle.slot_lock.specs.declared.plan.Target.TheVariants.{Hint, Run, Window}
 use Rattle.slot_lock.specs.declared.plan.Touch.{Touch}
-use Rattle.slot_lock.specs.Plan.{range_of}
+use Rattle.slot_lock.specs.Plan.{range_of, goal_range}
 use Rattle.slot_lock.specs.Slots.{Slots, IsNew, between}
 use Rattle.machine_model.specs.declared.event.Event.{Event}
 use Rattle.machine_model.specs.declared.event.Outcome.{Outcome}
-use Rattle.machine_model.specs.declared.phase.Goal.{Goal}
-use Rattle.machine_model.specs.declared.phase.Goal.TheVariants as To
 use Rattle.machine_model.specs.declared.phase.Phase.{Phase}
 use Rattle.machine_model.specs.declared.phase.Phase.TheVariants.{Free, Check, Acks, Fill, CopyPost, CopyAcks, Install, Release, Lock}
 use Rattle.machine_model.specs.Accesses.{after_frame, taken_for, after_install, memory_after, reply_of, info_with_core}
@@ -42,13 +45,14 @@ use Rattle.machine_model.specs.Counting.{CountsDown, frame_lost, with_counts, wi
 use Rattle.machine_model.specs.GivingUp.{given_back, after_give_up}
 use Rattle.machine_model.specs.Holding.{taken_in, still_held}
 use Rattle.machine_model.specs.Locks.{locking, locked_to, all_locked, held_after}
+use Rattle.machine_model.specs.Placing.{back_to}
 use Rattle.machine_model.specs.Step.{Step, with_event}
 use Rattle.machine_model.specs.World.{World, Made, Memory, new_world}
 use Rattle.machine_laws.specs.Orderly.{IsOrderly, IsUsable}
 use Rattle.machine_laws.proofs.Changed.{same_outside}
-use Rattle.machine_laws.proofs.Deciding.{change_sound, sound_range}
-use Rattle.machine_laws.proofs.Moves.{IsCallOf, call_at}
-use Rattle.machine_laws.proofs.Shapes.{IsShowing, Moves, locks, tries, acts, finds, lacks, shows, LetsGo, unlocks, releases, GoesBy, moves, divides, owns, lets_go, answers, posts, commits, takes, zeroes, first_copies, caches, shares, posts_copy, copies, installs, accesses, faults, Works, clears, invalidates, walks, evicts, flushes, reviews, frees, Shape, rests, begins, ends, goes, gives_up, works, joins, Comes, stopped, acts as happens, comes}
+use Rattle.machine_laws.proofs.Going.{acks_valid}
+use Rattle.machine_laws.proofs.Moves.{call_at}
+use Rattle.machine_laws.proofs.Shapes.{IsShowing, Moves, locks, tries, hints, seeks, guesses, turns, chooses, acts, finds, lacks, shows, LetsGo, unlocks, returns, releases, GoesBy, moves, divides, cuts, fits, owns, lets_go, answers, posts, commits, takes, zeroes, first_copies, caches, shares, posts_copy, copies, installs, accesses, faults, Works, clears, invalidates, walks, evicts, flushes, reviews, frees, Shape, rests, begins, ends, goes, gives_up, works, joins, Comes, stopped, acts as happens, comes}
 use Rattle.machine_counting.specs.Counted.{FilePage, one_if, IsCounted, IsCountedState}
 use Rattle.machine_counting.proofs.Pages.{CountsPages, counts_same, counts_none, counts_some, page_up, page_cached, page_over, GiveUpFrames, range_down, none_down, unused_down}
 
@@ -103,19 +107,32 @@ none_locked goal b =
     by_test (λ x. taken_in x ≡ None) (nat_le _ b) (all_locked goal) (Lock goal b) (λ _. all goal) (λ _. refl)
   where
     all : (goal : Goal) → taken_in (all_locked goal) ≡ None
+    all (To.Place place target) = refl
     all (To.Change change) = refl
     all (To.Access touch) = refl
 
 none_moved : (w : World) (c : ℕ) (new : Phase) → Moves w c new → taken_in new ≡ None
 none_moved w c new (locks request change e n p) = ap taken_in n
 none_moved w c new (tries request touch e n p) = ap taken_in n
+none_moved w c new (hints request place range e n i p) = ap taken_in n
+none_moved w c new (seeks request place e n p) = ap taken_in n
+none_moved w c new (guesses place target e n i) = ap taken_in n
+none_moved w c new (turns place target e n d) = ap taken_in n
+none_moved w c new (chooses place target range shoot e n d) = ap taken_in n
 none_moved w c new (acts change range shoot e n d) = ap taken_in n
 none_moved w c new (finds touch f e n u) = ap taken_in n
 none_moved w c new (lacks touch old e n u d) = ap taken_in n
 none_moved w c new (shows touch e n u d) = ap taken_in n
 
+none_back : (place : Place) (target : Target) (held : Option PageRange) → taken_in (back_to place target held) ≡ None
+none_back place target (Some held) = refl
+none_back place (Hint range) None = refl
+none_back place (Run range) None = refl
+none_back place Window None = refl
+
 none_left : (old : Phase) (held : PageRange) (b : ℕ) (new : Phase) → LetsGo old held b new → taken_in new ≡ None
 none_left old held b new (unlocks reply e n) = ap taken_in n ∙ none_let_go (held_after held b) reply
+none_left old held b new (returns place target e n) = ap taken_in n ∙ none_back place target (held_after held b)
 none_left old held b new (releases touch e h n) = ap taken_in n
 
 -- ---- what changes neither frames of pages nor free frames
@@ -243,23 +260,15 @@ changed_users w c (Protect range prot) counts h k l =
     (λ p. info_with_prot prot (w.slots.info p))
     (λ p i. same_with_prot prot (w.slots.info p)) (λ p i. refl)) k.users)
 
-commits_kept : (w : World) (c : ℕ) (change : Change) (held : PageRange) (counts : Counts) → IsOrderly w
-    → IsCountedState w → w.calls.phase c ≡ Acks change held → CountsLost c change w counts
-    → IsCountedState (after_commit c change held counts w)
-commits_kept w c change held counts g k e l =
-    stays w (slots_after change w.slots).info (put w.calls.phase c (let_go (Some held) (reply_to change)))
+commits_kept : (w : World) (c : ℕ) (goal : Goal) (change : Change) (counts : Counts) → IsOrderly w
+    → IsCountedState w → w.calls.phase c ≡ Acks goal change → CountsLost c change w counts
+    → IsCountedState (after_commit c change (goal_range goal) counts w)
+commits_kept w c goal change counts g k e l =
+    stays w (slots_after change w.slots).info (put w.calls.phase c (let_go (Some (goal_range goal)) (reply_to change)))
     (with_counts counts w).memory k refl
-    (changed_users w c change counts range k l)
+    (changed_users w c change counts (acks_valid w c goal change g e) k l)
     (λ f u. unused_down c (frame_lost change w.slots.info) _ _ w.memory.counts counts f g.memory.reached l u) refl
-    (λ d f h. (others w.calls.phase c (let_go (Some held) (reply_to change)) refl d f h).1)
-  where
-    call : IsCallOf w c (Acks change held)
-    call = call_at w c (Acks change held) e g
-
-    range : IsPageRange (range_of change)
-    range =
-        sound_range change
-        (change_sound (λ n. mode_of (w.made.file n)) c call.asked.request change call.asked.passed)
+    (λ d f h. (others w.calls.phase c (let_go (Some (goal_range goal)) (reply_to change)) refl d f h).1)
 
 -- ---- Want
 
@@ -596,6 +605,9 @@ gives_up_kept w c k = go (taken_in (w.calls.phase c)) refl
 goes_kept : (w : World) (c : ℕ) (v : World) → IsOrderly w → IsCountedState w → GoesBy w c v → IsCountedState v
 goes_kept w c v g k (moves new m h) = subst IsCountedState (sym h) (moved w c new k (none_moved w c new m))
 goes_kept w c v g k (divides goal cursor t e s h) = subst IsCountedState (sym h) (other_slots w t k s.divides.2.info)
+goes_kept w c v g k (cuts place target range t e s h) = subst IsCountedState (sym h) (other_slots w t k s.divides.2.info)
+goes_kept w c v g k (fits place target range e cut h) =
+    subst IsCountedState (sym h) (moved w c (Acks (To.Place place target) (Put range place.meta)) k refl)
 goes_kept w c v g k (owns goal cursor b t e l h) =
     subst IsCountedState (sym h)
     (goes_on w c (locked_to goal b) t w.memory k refl (none_more w c (locked_to goal b) (none_locked goal b))
@@ -607,9 +619,9 @@ goes_kept w c v g k (lets_go held b t new l u h) =
 goes_kept w c v g k (answers held reply r h) =
     subst IsCountedState (sym h) (moved w c (let_go held reply) k (none_let_go held reply))
 goes_kept w c v g k (posts change shoot e h) =
-    subst IsCountedState (sym h) (moved w c (Acks change (range_of change)) k refl)
-goes_kept w c v g k (commits change held counts e n l h) =
-    subst IsCountedState (sym h) (commits_kept w c change held counts g k e l)
+    subst IsCountedState (sym h) (moved w c (Acks (To.Change change) change) k refl)
+goes_kept w c v g k (commits goal change counts e n l h) =
+    subst IsCountedState (sym h) (commits_kept w c goal change counts g k e l)
 goes_kept w c v g k (takes touch old f e l h) = subst IsCountedState (sym h) (takes_kept w c touch old f k l)
 goes_kept w c v g k (zeroes touch f counts e b t h) =
     subst IsCountedState (sym h) (owned_kept w c touch f counts (after_zeros c touch f counts w).memory.bytes g k e t)

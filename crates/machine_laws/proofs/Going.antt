@@ -1,5 +1,6 @@
 -- A call that goes on and changes nothing else leaves an orderly state.
-use Rattle.std.proofs.Common.{◌≡◌, ℕ, ◌<◌, true, false, refl, sym, ap, subst, arith, Some, None, ◌∙◌}
+use Rattle.std.proofs.Common.{◌≡◌, ◌≢◌, ℕ, ◌<◌, ◌≤◌, ⊎_elim, true, false, refl, sym, ap, subst, arith, Some, None, ◌∙◌}
+use Rattle.std.proofs.lemmas.Bool.{cases_lt}
 use Rattle.std.proofs.lemmas.Bool.Decides.{nat_tests}
 use Rattle.vm_base.specs.declared.page.PageRange.{PageRange}
 use Rattle.vm_base.specs.Functions.{has}
@@ -14,12 +15,12 @@ use Rattle.slot_lock.specs.declared.plan.Goal.TheVariants as To
 use Rattle.slot_lock.specs.declared.plan.Place.{Place}
 use Rattle.slot_lock.specs.declared.plan.Target.{Target}
 use Rattle.slot_lock.specs.declared.plan.Target.TheVariants.{Hint, Run, Window}
-use Rattle.slot_lock.specs.Plan.{target_range, goal_range, goal_plan, IsTarget, HasTarget, IsSoundTouch, IsSoundGoal}
+use Rattle.slot_lock.specs.Plan.{range_of, target_range, goal_range, goal_plan, IsTarget, HasTarget, IsSoundTouch, IsSoundGoal}
 use Rattle.slot_lock.specs.Slots.{IsCut, Slots, between}
 use Rattle.vm_calls.specs.declared.decision.Decision.TheVariants.{Act, Again}
 use Rattle.vm_calls.specs.Decisions.{Decides, DecidesPlace}
 use Rattle.machine_model.specs.declared.phase.Phase.{Phase}
-use Rattle.machine_model.specs.declared.phase.Phase.TheVariants.{Check, Guess, Find, Back as Leaving, Cut, Decide, Post, Acks, Try, Settle, Want, Fill, Install}
+use Rattle.machine_model.specs.declared.phase.Phase.TheVariants.{Free, Check, Guess, Find, Back as Leaving, Cut, Decide, Post, Acks, Try, Settle, Want, Fill, Install}
 use Rattle.machine_model.specs.Accesses.{after_frame}
 use Rattle.machine_model.specs.Actions.{to}
 use Rattle.machine_model.specs.Changes.{after_post}
@@ -28,7 +29,7 @@ use Rattle.machine_model.specs.Locks.{locking}
 use Rattle.machine_model.specs.Placing.{trying, after_cuts}
 use Rattle.machine_model.specs.World.{World}
 use Rattle.machine_laws.specs.Orderly.{IsOrderly, IsAsked, Serves, IsCutFor, IsReady, IsPassed, IsRest}
-use Rattle.machine_laws.proofs.Deciding.{change_sound, touch_sound, sound_range, goal_sound, goal_valid, acts_own, window_stays}
+use Rattle.machine_laws.proofs.Deciding.{change_sound, touch_sound, sound_range, goal_sound, goal_valid, acts_own, acts_valid, window_stays}
 use Rattle.machine_laws.proofs.Moves.{IsCallOf, call_at, untouched, goes_on, same_pages}
 use Rattle.machine_laws.proofs.Shapes.{Moves, locks, tries, hints, seeks, guesses, turns, chooses, acts, finds, lacks, shows}
 
@@ -139,6 +140,18 @@ moves_kept w c new g lt (lacks touch old e n u d) =
 moves_kept w c new g lt (shows touch e n u d) =
     subst (λ x. IsOrderly (to c x w)) (sym n)
     (steps w c (Settle touch) (Fill touch None) e g lt refl refl tt (call_at w c (Settle touch) e g).asked (u, d) (λ f h. absurd cc))
+
+-- a call is of one of the machine's cores
+pub has_core : (w : World) (c : ℕ) → IsOrderly w → w.calls.phase c ≢ Free → c < w.made.cores
+has_core w c g busy = ⊎_elim (λ (l : c < w.made.cores). l) (λ (l : w.made.cores ≤ c). absurd (busy (g.outside c l))) (cases_lt c w.made.cores)
+
+-- what a call that awaits other cores is to change are valid pages
+pub acks_valid : (w : World) (c : ℕ) (goal : Goal) (change : Change) → IsOrderly w → w.calls.phase c ≡ Acks goal change
+    → IsPageRange (range_of change)
+acks_valid w c goal change g e =
+    let k : IsCallOf w c (Acks goal change) = call_at w c (Acks goal change) e g in
+    acts_valid w.made.file w.slots goal (range_of change) k.ready.2.0
+    (call_sound w c goal g (has_core w c g (λ f. let a = sym e ∙ f in cc)) k.asked k.ready.0) k.ready.2.1
 
 -- the slots are cut: the mapping may be made
 pub fits_kept : (w : World) (c : ℕ) (place : Place) (target : Target) (range : PageRange) → IsOrderly w → c < w.made.cores
