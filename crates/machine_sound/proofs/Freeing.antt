@@ -17,7 +17,7 @@ use Rattle.machine_model.specs.Step.{with_event, Step}
 use Rattle.machine_model.specs.World.{World}
 use Rattle.machine_laws.specs.Orderly.{IsOrderly}
 use Rattle.machine_laws.proofs.Moves.{IsCallOf, call_at}
-use Rattle.machine_laws.proofs.Shapes.{GoesBy, moves, divides, cuts, owns, lets_go, answers, posts, commits, takes, zeroes, first_copies, caches, shares, posts_copy, copies, installs, accesses, faults, Works, clears, invalidates, walks, evicts, flushes, reviews, frees, IsGoing, going, picking, guessing, widening, Rests, absent, busy, full, free, cannot, waits, awaits, Shape, rests, begins, ends, goes, gives_up, works, joins, Comes, stopped, acts, comes}
+use Rattle.machine_laws.proofs.Shapes.{GoesBy, moves, divides, cuts, fits, owns, lets_go, answers, posts, commits, takes, zeroes, first_copies, caches, shares, posts_copy, copies, installs, accesses, faults, Works, clears, invalidates, walks, evicts, flushes, reviews, frees, IsGoing, going, picking, guessing, widening, Rests, absent, busy, full, free, cannot, waits, awaits, Shape, rests, begins, ends, goes, gives_up, works, joins, Comes, stopped, acts, comes}
 use Rattle.machine_sound.specs.Sound.{IsFreedBy, FreesOnly, IsBlocked}
 use Rattle.machine_sound.specs.Sound.IsFreedBy.{by_review, by_call}
 
@@ -41,6 +41,7 @@ going_frees : (w : World) (e : Event) (c : ℕ) (v : World) → core_of e ≡ So
 going_frees w e c v by (moves new m h) f was now = none_freed w e f _ (ap (λ (v : World). v.memory.is_free f) h) was now
 going_frees w e c v by (divides goal cursor t p s h) f was now = none_freed w e f _ (ap (λ (v : World). v.memory.is_free f) h) was now
 going_frees w e c v by (cuts place target range t p s h) f was now = none_freed w e f _ (ap (λ (v : World). v.memory.is_free f) h) was now
+going_frees w e c v by (fits place target range p i h) f was now = none_freed w e f _ (ap (λ (v : World). v.memory.is_free f) h) was now
 going_frees w e c v by (owns goal cursor b t p l h) f was now = none_freed w e f _ (ap (λ (v : World). v.memory.is_free f) h) was now
 going_frees w e c v by (lets_go held b t new l u h) f was now = none_freed w e f _ (ap (λ (v : World). v.memory.is_free f) h) was now
 going_frees w e c v by (answers held reply r h) f was now = none_freed w e f _ (ap (λ (v : World). v.memory.is_free f) h) was now
@@ -113,7 +114,7 @@ in_footprint : (w : World) (c : ℕ) (goal : Goal) (cursor : ℕ) → IsOrderly 
     → some_has (range_in (w.calls.phase c)) cursor ≡ true
 in_footprint w c goal cursor g e =
     let k : IsCallOf w c (Lock goal cursor) = call_at w c (Lock goal cursor) e g in
-    ap (λ p. some_has (range_in p) cursor) e ∙ in_has (goal_range goal) cursor k.ready.0 k.ready.1.0
+    ap (λ p. some_has (range_in p) cursor) e ∙ in_has (goal_range goal) cursor k.ready.0 k.ready.1
 
 rests_blocked : (w : World) (e : Event) (o : Outcome) → IsOrderly w → Rests w e o → IsBlocked w e o
 rests_blocked w e o g (absent h i) = unblocked w e o Idle i tt

@@ -9,6 +9,7 @@ use Rattle.slot_lock.specs.Slots.{Slots, IsNew}
 use Rattle.machine_model.specs.declared.event.Event.{Event}
 use Rattle.machine_model.specs.declared.event.Event.TheVariants.{GiveUp}
 use Rattle.machine_model.specs.declared.event.Outcome.{Outcome}
+use Rattle.slot_lock.specs.declared.plan.Change.TheVariants.{Put}
 use Rattle.slot_lock.specs.declared.plan.Goal.TheVariants as To
 use Rattle.machine_model.specs.declared.phase.Phase.{Phase}
 use Rattle.machine_model.specs.declared.phase.Phase.TheVariants.{Free, Check, Lock, Guess, Find, Back as Leaving, Cut, Decide, Post, Acks, Unlock, Answer, Try, Settle, Want, Fill, CopyPost, CopyAcks, Install, Release}
@@ -27,7 +28,7 @@ use Rattle.machine_laws.proofs.Kept.{kept as order_kept}
 use Rattle.machine_laws.proofs.Moves.{IsCallOf, call_at}
 use Rattle.machine_laws.specs.Brackets.{nth}
 use Rattle.machine_laws.specs.Orderly.{IsAsked}
-use Rattle.machine_laws.proofs.Shapes.{Replies, refuses, no_place, declines, fails, no_frame, GoesBy, moves, divides, cuts, owns, lets_go, answers, posts, commits, takes, zeroes, first_copies, caches, shares, posts_copy, copies, installs, accesses, faults, Works, clears, invalidates, walks, evicts, flushes, reviews, frees, Shape, rests, begins, ends, goes, gives_up, works, joins, Comes, stopped, acts as happens, comes}
+use Rattle.machine_laws.proofs.Shapes.{Replies, refuses, no_place, declines, fails, no_frame, GoesBy, moves, divides, cuts, fits, owns, lets_go, answers, posts, commits, takes, zeroes, first_copies, caches, shares, posts_copy, copies, installs, accesses, faults, Works, clears, invalidates, walks, evicts, flushes, reviews, frees, Shape, rests, begins, ends, goes, gives_up, works, joins, Comes, stopped, acts as happens, comes}
 use Rattle.machine_coherence.proofs.Kept.{kept as translations_kept}
 use Rattle.machine_counting.proofs.Kept.{kept as counts_kept}
 use Rattle.machine_sound.specs.Sound.{IsReached, IsSoundState, IsSoundStep, Notes, SoundRun}
@@ -74,6 +75,8 @@ goes_left w event c v few f (divides goal cursor t e s h) =
     subst (Leaves w event) (sym h) (beside w event t w.hardware w.memory f (shows_same w f.plain t.info s.divides.2.info f.good))
 goes_left w event c v few f (cuts place target range t e s h) =
     subst (Leaves w event) (sym h) (beside w event t w.hardware w.memory f (shows_same w f.plain t.info s.divides.2.info f.good))
+goes_left w event c v few f (fits place target range e i h) =
+    subst (Leaves w event) (sym h) (goes_on w event c (Acks (To.Place place target) (Put range place.meta)) w.slots w.hardware w.memory f f.good)
 goes_left w event c v few f (owns goal cursor b t e l h) =
     subst (Leaves w event) (sym h)
     (goes_on w event c (locked_to goal b) t w.hardware w.memory f (shows_same w f.plain t.info (ap (λ (x : Slots). x.info) l.now) f.good))
