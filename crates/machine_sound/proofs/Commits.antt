@@ -2,7 +2,6 @@
 use Rattle.std.proofs.Common.{◌≡◌, ℕ, ◌<◌, Bool, true, false, cond, refl, sym, subst, Some, None, Option, ◌∙◌}
 use Rattle.std.specs.Prelude.{◌-◌}
 use Rattle.vm_base.specs.declared.info.PageInfo.{PageInfo}
-use Rattle.vm_base.specs.declared.page.PageRange.{PageRange}
 use Rattle.vm_base.specs.declared.rights.Prot.{Prot}
 use Rattle.vm_base.specs.Functions.{has}
 use Rattle.vm_base.specs.Info.{advance, advance_back, unused, frame_of, info_with_prot}
@@ -11,7 +10,7 @@ use Rattle.vm_base.specs.Apply.{new_entry, with_prot}
 use Rattle.slot_lock.specs.declared.plan.Change.{Change}
 use Rattle.slot_lock.specs.declared.plan.Change.TheVariants.{Put, Clear, Protect}
 use Rattle.slot_lock.specs.declared.plan.Goal.{Goal}
-use Rattle.slot_lock.specs.Plan.{range_of, goal_range}
+use Rattle.slot_lock.specs.Plan.{goal_range}
 use Rattle.slot_lock.specs.Slots.{Slots}
 use Rattle.machine_model.specs.declared.event.Event.{Event}
 use Rattle.machine_model.specs.declared.phase.Phase.TheVariants.{Acks}
