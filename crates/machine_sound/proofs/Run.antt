@@ -147,4 +147,4 @@ ran = (
 
 -- and so it is sound
 is_sound : SoundRun (new_world made slots) events outcomes ran.0
-is_sound = runs_sound made slots events outcomes ran.0 new ran.1
+is_sound = runs_sound made slots events outcomes ran.0 (omega arith) new ran.1

@@ -1,5 +1,5 @@
 -- What holds in each state that a machine reaches, and of each step from there
-use Rattle.std.specs.Prelude.{◌≡◌, ◌≢◌, ℕ, suc, ◌⊎◌, Bool, true, false, List, [], ◌∷◌, ◌++◌, slice_get, Some, pos}
+use Rattle.std.specs.Prelude.{◌≡◌, ◌≢◌, ℕ, suc, ◌≤◌, ◌⊎◌, Bool, true, false, List, [], ◌∷◌, ◌++◌, slice_get, Some, pos}
 use Rattle.vm_base.specs.declared.replies.Reply.TheVariants.{NoFrame, NoMemory}
 use Rattle.vm_base.specs.Plain.{Plain, nothing_mapped}
 use Rattle.slot_lock.specs.Slots.{Slots, IsNew}
@@ -88,9 +88,11 @@ pub record IsSoundStep (w : World) (event : Event) (outcome : Outcome) (v : Worl
 
 -- ---- states that are reached
 
--- A run of a machine over new slots leads to w, with any number of cores, any files and any order of events.
+-- A run of a machine over new slots leads to w, with up to 64 cores, any files and any order of events.
 pub record IsReached (w : World) : Type 0 where
   pub made : Made
+  -- each core's window has valid pages
+  pub few : made.cores ≤ 64
   pub slots : Slots
   pub events : List Event
   pub outcomes : List Outcome
@@ -118,4 +120,4 @@ SoundRun w (e ∷ es) [] v = ⊥
 
 abbrev pub AllRunsSound : Type 0
 AllRunsSound = (made : Made) (slots : Slots) (events : List Event) (outcomes : List Outcome) (w : World)
-    → IsNew slots → Run (new_world made slots) events outcomes w → SoundRun (new_world made slots) events outcomes w
+    → made.cores ≤ 64 → IsNew slots → Run (new_world made slots) events outcomes w → SoundRun (new_world made slots) events outcomes w

@@ -4,7 +4,7 @@
 ghost use Rattle.machine_sound.specs.Log.{EachLogLeadsToOneMap};
 ghost use Rattle.machine_sound.specs.Sound.{AllReachedAreSound, AllStepsAreSound, AllRunsSound};
 
-/// Every state that a machine over new slots reaches is sound, with any files, any number of cores and any list of events:
+/// Every state that a machine over new slots reaches is sound, with any files, up to 64 cores and any list of events:
 /// its log is that of a plain page map (POSIX.1-2017, mmap, munmap and mprotect), each translation agrees with that map, no
 /// frame that something names is free, and each frame counts the pages that have it. Every step from such a state makes no log
 /// entry, or one with its event's number that was due: "no frame" only where none was free, and "no memory" only for a call that
