@@ -1,27 +1,30 @@
--- What a step of an engine does, and which steps may be refused for memory: those at which a slot is to be divided, those that install the
+-- What a step of an engine does, and which steps may be refused for memory: those at which a slot is to be divided or cut, those that install the
 -- first entry of a page, and those that make a copy of a private page, which the log is to have
-use Rattle.std.specs.Prelude.{◌≡◌, ℕ, ◌<◌, ◌⊎◌, Bool, true, false, None, Result, Ok, Err}
+use Rattle.std.specs.Prelude.{◌≡◌, ℕ, ◌<◌, ◌⊎◌, Bool, true, false, Option, None, Some, Result, Ok, Err}
 use Rattle.vm_base.specs.Pages.{IsPage}
-use Rattle.slot_lock.specs.Slots.{Slots, Crosses}
+use Rattle.slot_lock.specs.declared.plan.Goal.{Goal}
+use Rattle.slot_lock.specs.declared.plan.Goal.TheVariants as To
+use Rattle.slot_lock.specs.Plan.{goal_range}
+use Rattle.slot_lock.specs.Slots.{Slots, Crosses, IsCrossed}
 use Rattle.vm_calls.specs.Settling.{is_private_store}
 use Rattle.machine_model.specs.declared.event.Event.{Event}
 use Rattle.machine_model.specs.declared.event.Event.TheVariants.{Go, Fold}
 use Rattle.machine_model.specs.declared.event.Outcome.{Outcome}
 use Rattle.machine_model.specs.declared.event.Outcome.TheVariants.{Stepped, Idle, Full}
 use Rattle.machine_model.specs.declared.phase.Phase.{Phase}
-use Rattle.machine_model.specs.declared.phase.Phase.TheVariants.{Lock, Fill, CopyAcks, Install}
+use Rattle.machine_model.specs.declared.phase.Phase.TheVariants.{Lock, Find, Cut, Decide, Post, Acks, Settle, Want, Fill, CopyPost, CopyAcks, Install, Release}
 use Rattle.machine_model.specs.Changes.{AwaitsNobody, Awaits}
 use Rattle.machine_model.specs.Files.{back_of}
-use Rattle.machine_model.specs.Holding.{goal_range}
 use Rattle.machine_model.specs.World.{World, Hardware}
 use Rattle.machine_sound.specs.Invariant.{Fine}
 
 -- ---- want of memory
 
--- the slot that the call of core c is to lock next is free and crosses an edge of the pages that the call is to hold, or the core's tables
--- have no entry yet of the page that is to get one, or a private page is to get a copy for a store, for which no core is awaited
+-- the slot that the call of core c is to lock next is free and crosses an edge of the pages that the call is to hold, or one that it holds
+-- crosses an edge of the pages where its mapping goes, or the core's tables have no entry yet of the page that is to get one, or a private page is to get a copy for a store, for which no core is awaited
 abbrev pub WantsMemory : World → ℕ → Phase → Type 0
 WantsMemory w c (Lock goal cursor) = (w.slots.owner cursor ≡ None) × Crosses w.slots cursor (goal_range goal).end
+WantsMemory w c (Cut place target range) = IsCrossed w.slots range
 WantsMemory w c (Fill touch frame) = is_private_store (back_of (w.slots.info touch.page)) touch.access ≡ true
 WantsMemory w c (CopyAcks touch frame) = AwaitsNobody w.hardware c
 WantsMemory w c (Install touch) = w.hardware.table c touch.page ≡ None
@@ -36,6 +39,25 @@ MayWant w _ = ⊥
 abbrev pub Tries : {T E : Type 0} → (T → World → Type 0) → Type 0 → World → Result T E → World → Type 0
 Tries Does MayRefuse w (Ok done) v = Does done v
 Tries Does MayRefuse w (Err refused) v = (v ≡ w) × MayRefuse
+
+-- ---- goals
+
+-- what the call has locked pages for, or is to lock them for
+abbrev pub goal_in : Phase → Option Goal
+goal_in (Lock goal cursor) = Some goal
+goal_in (Find place target) = Some (To.Place place target)
+goal_in (Cut place target range) = Some (To.Place place target)
+goal_in (Decide change) = Some (To.Change change)
+goal_in (Post change shoot) = Some (To.Change change)
+goal_in (Acks goal change) = Some goal
+goal_in (Settle touch) = Some (To.Access touch)
+goal_in (Want touch old) = Some (To.Access touch)
+goal_in (Fill touch frame) = Some (To.Access touch)
+goal_in (CopyPost touch frame) = Some (To.Access touch)
+goal_in (CopyAcks touch frame) = Some (To.Access touch)
+goal_in (Install touch) = Some (To.Access touch)
+goal_in (Release touch) = Some (To.Access touch)
+goal_in _ = None
 
 -- ---- copies
 

@@ -165,6 +165,8 @@ ActAnswers s core (By.Frame frame) r text = Idles s r text
 ActAnswers s core By.GiveUp r text = Idles s r text
 ActAnswers s core By.Flush r text = MayStep s r text
 ActAnswers s core By.Review r text = MayStep s r text
+ActAnswers s core (By.Guess page) r text = Idles s r text
+ActAnswers s core By.Whole r text = Idles s r text
 ActAnswers s core (By.Walk page) r text = MayStep s r text
 ActAnswers s core (By.Evict page) r text = MayStep s r text
 

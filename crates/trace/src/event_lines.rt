@@ -26,6 +26,8 @@ fn event_of(core: CoreId, action: Action) -> Event
         Action::Review => Event::Review(core),
         Action::GiveUp => Event::GiveUp(core),
         Action::Frame(frame) => Event::Frame(core, frame),
+        Action::Guess(page) => Event::Guess(core, page),
+        Action::Whole => Event::Whole(core),
         Action::Walk(page) => Event::Walk(core, page),
         Action::Evict(page) => Event::Evict(core, page),
     }

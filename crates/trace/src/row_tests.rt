@@ -1,4 +1,5 @@
-//! Traces of one core and of several, whose lines open files, take messages, walk, evict, count and fold, and the text that each gives.
+//! Traces of one core and of several, whose lines open files, guess places, take messages, walk, evict, count and fold, and the text
+//! that each gives.
 use crate::fault::TraceFault;
 use crate::replay::replay;
 use core_steps::SetupFault;
@@ -103,8 +104,61 @@ fn events_of_files(rt: HostRuntime) -> Result<(), Fail> {
         ),
         // What is refused of a mapping of a file: both sharings, no such file, an offset within a page, and an end past the last offset.
         (
-            b"vm 1 4\nfile 0 rw 10 0\nc0! mmap 0x10000 4096 rw- psfa\nc0! mmap 0x10000 4096 rw- fa\nc0! mmap 0x10001 4096 rw- pfa\nc0! mmap 0 4096 rw- pfa\nc0! mmap 0 4096 r-- p 7 0\nc0! mmap 0 4096 r-- p 0 1\nc0! mmap 0 4096 r-- p 0 0x800000000000\n".as_slice(),
-            b"einval\neinval\neinval\nenomem\nebadf\neinval\neoverflow\n".as_slice(),
+            b"vm 1 4\nfile 0 rw 10 0\nc0! mmap 0x10000 4096 rw- psfa\nc0! mmap 0x10000 4096 rw- fa\nc0! mmap 0x10001 4096 rw- pfa\nc0! mmap 0 4096 rw- pfa\nc0! mmap 0 4096 r-- p 7 0\nc0! mmap 0 4096 r-- p 0 1\nc0! mmap 0 4096 r-- p 0 0x800000000000\nc0! mmap 0 4096 r-- p 0 0x7ffffffff000\n".as_slice(),
+            b"einval\neinval\neinval\nenomem\nebadf\neinval\neoverflow\n0x8000000000\n".as_slice(),
+        ),
+    ] {
+        let mut reader = Counted::new(input);
+        let mut writer = Noted::new(Vec::new(rt.alloc()));
+        assert_eq!(rt; replay(rt.alloc(), &mut reader, &mut writer), Ok(()));
+        assert_eq!(rt; writer.writer.as_slice(), output);
+    }
+    Ok(())
+}
+
+// Mappings without MAP_FIXED: at the hint, else at a guessed run that is free once it is held, else at the least room of the window.
+#[test]
+fn events_of_placed_mappings(rt: HostRuntime) -> Result<(), Fail> {
+    for (input, output) in [
+        // Without a hint the least room of the core's window is the place.
+        (
+            b"vm 1 4\nc0! mmap 0 1 rw- pa\nc0! mmap 0 1 rw- pa\n".as_slice(),
+            b"0x8000000000\n0x8000001000\n".as_slice(),
+        ),
+        // A hint is the place where all its pages are valid and none is mapped; it may be any address of its first page.
+        (
+            b"vm 1 4\nc0! mmap 0x20000 4096 rw- pa\nc0! mmap 0x20000 4096 rw- pa\nc0! mmap 0x7ffffffff000 4097 rw- pa\nc0! mmap 0x7ffffffff001 4096 rw- pa\n".as_slice(),
+            b"0x20000\n0x8000000000\n0x8000001000\n0x7ffffffff000\n".as_slice(),
+        ),
+        // A guess is tested once it is held: here another core has mapped it, and the window is taken.
+        (
+            b"vm 2 4\nc0 call mmap 0 4096 rw- pa\nc0 go\nc0 guess 0x8000005000\nc1! mmap 0x8000005000 4096 rw- pfa\nc0 finish\n".as_slice(),
+            b"step\nstep\nstep\n0x8000005000\n0x8000000000\n".as_slice(),
+        ),
+        // While a guess is held the rest of the window is free for others.
+        (
+            b"vm 2 4\nc0 call mmap 0 4096 rw- pa\nc0 go\nc0 go\nc0 go\nc0 go\nc0 go\nc0 go\nc1! mmap 0x8000200000 4096 rw- pfa\nc0 finish\n".as_slice(),
+            b"step\nstep\nstep\nstep\nstep\nstep\nstep\n0x8000200000\n0x8000000000\n".as_slice(),
+        ),
+        // A window without room.
+        (
+            b"vm 1 4\nc0! mmap 0x8000000000 0x8000000000 rw- pfa\nc0! mmap 0 4096 rw- pa\n".as_slice(),
+            b"0x8000000000\nenomem\n".as_slice(),
+        ),
+        // A window is taken whole, and is no place for a mapping that is longer.
+        (
+            b"vm 2 4\nc0 call mmap 0 4096 rw- pa\nc0 go\nc0 whole\nc0 whole\nc0 guess 0x8000005000\nc0 finish\nc1! mmap 0 0x8000001000 rw- pa\nc1! mmap 0 0x8000000000 rw- pa\n".as_slice(),
+            b"step\nstep\nstep\nidle\nidle\n0x8000000000\nenomem\n0x10000000000\n".as_slice(),
+        ),
+        // All valid pages at once, and one more than there are.
+        (
+            b"vm 1 4\nc0! mmap 0x1000 0x7ffffffff000 rw- pfa\nc0! mmap 0x1000 0x7ffffffff001 rw- pa\nc0! mmap 0x1000 0x7ffffffff001 rw- pfa\n".as_slice(),
+            b"0x1000\nenomem\nenomem\n".as_slice(),
+        ),
+        // Two calls are the limit.
+        (
+            b"vm 1 1 2\nc0! mmap 0x10000 0 rw- pfa\nc0! load 0\nc0! load 0\n".as_slice(),
+            b"einval\nsegv maperr\nfull\n".as_slice(),
         ),
     ] {
         let mut reader = Counted::new(input);

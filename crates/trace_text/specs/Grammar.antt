@@ -9,7 +9,7 @@ use Rattle.trace_text.specs.Printing.{address_of}
 use Rattle.trace_text.specs.Spelling.{SpellsNumber, SpellsPage, SpellsFlags, SpellsCore, mode_text, rights_text}
 use Rattle.trace_text.specs.Line.{line_of_words}
 use Rattle.trace_text.specs.declared.action.Action.{Action}
-use Rattle.trace_text.specs.declared.action.Action.TheVariants.{Call, Go, Take, Flush, Review, GiveUp, Frame, Walk, Evict}
+use Rattle.trace_text.specs.declared.action.Action.TheVariants.{Call, Go, Take, Flush, Review, GiveUp, Frame, Guess, Whole, Walk, Evict}
 use Rattle.trace_text.specs.declared.line.Line.{Line}
 use Rattle.trace_text.specs.declared.line.Line.TheVariants.{Blank, Space, File, Act, Fold, Finish, Now}
 
@@ -42,6 +42,8 @@ Does Flush words = words ≡ codes "flush" ∷ []
 Does Review words = words ≡ codes "review" ∷ []
 Does GiveUp words = words ≡ codes "giveup" ∷ []
 Does (Frame frame) words = (f : Word) × (words ≡ codes "frame" ∷ f ∷ []) × SpellsNumber f frame
+Does (Guess page) words = (a : Word) × (words ≡ codes "guess" ∷ a ∷ []) × SpellsPage a page
+Does Whole words = words ≡ codes "whole" ∷ []
 Does (Walk page) words = (a : Word) × (words ≡ codes "walk" ∷ a ∷ []) × SpellsPage a page
 Does (Evict page) words = (a : Word) × (words ≡ codes "evict" ∷ a ∷ []) × SpellsPage a page
 
