@@ -14,3 +14,4 @@ pub mod Sound
 pub mod Kept
 mod Examples
 mod Run
+mod PlacedRun
