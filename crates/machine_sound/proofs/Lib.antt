@@ -15,3 +15,4 @@ pub mod Kept
 mod Examples
 mod Run
 mod PlacedRun
+mod TakenRun

@@ -46,7 +46,7 @@ pub only_16 : (p : ℕ) → 16 ≤ p → p < 17 → has (between 16 17) p ≡ tr
 only_16 p h k = in_has (between 16 17) p h k
 
 -- nobody is recorded where nothing is mapped
-nobody : (core : ℕ) → members 0 core ≡ true → ⊥
+pub nobody : (core : ℕ) → members 0 core ≡ true → ⊥
 nobody core h = let none = members-empty core in cc (none, h)
 
 abbrev events : List Event
