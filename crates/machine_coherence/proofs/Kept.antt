@@ -32,12 +32,12 @@ use Rattle.machine_model.specs.Accesses.{reply_of, taken_for}
 use Rattle.machine_model.specs.Actions.{let_go}
 use Rattle.machine_model.specs.Holding.{awaits_in, can_give_up, still_held}
 use Rattle.machine_model.specs.Locks.{locking, locked_to, all_locked, held_after}
-use Rattle.machine_model.specs.Placing.{back_to}
+use Rattle.machine_model.specs.Placing.{trying, back_to}
 use Rattle.machine_model.specs.Translating.{with_tlb, with_inbox, tables_cleared, tlb_invalidated, translated_by, after_translating, after_walk, after_eviction}
 use Rattle.machine_model.specs.World.{World, Hardware, Made, new_world}
 use Rattle.machine_model.specs.Step.{with_event, Step}
 use Rattle.machine_laws.specs.Orderly.{IsOrderly}
-use Rattle.machine_laws.proofs.Shapes.{Moves, locks, tries, hints, seeks, guesses, turns, chooses, acts, finds, lacks, shows, Replies, refuses, no_place, declines, fails, no_frame, LetsGo, unlocks, returns, releases, GoesBy, moves, divides, cuts, fits, owns, lets_go, answers, posts, commits, takes, zeroes, first_copies, caches, shares, posts_copy, copies, installs, accesses, faults, Works, clears, invalidates, walks, evicts, flushes, reviews, frees, Shape, rests, begins, ends, goes, gives_up, works, joins, IsUnawaited, Comes, stopped, acts as happens, comes}
+use Rattle.machine_laws.proofs.Shapes.{Moves, locks, tries, hints, seeks, guesses, turns, chooses, acts, finds, lacks, shows, Replies, refuses, no_place, declines, fails, no_frame, LetsGo, unlocks, returns, releases, GoesBy, moves, divides, cuts, fits, owns, lets_go, answers, posts, commits, takes, zeroes, first_copies, caches, shares, posts_copy, copies, installs, accesses, faults, Works, clears, invalidates, walks, evicts, flushes, reviews, frees, Shape, rests, begins, ends, goes, aims, gives_up, works, joins, IsUnawaited, Comes, stopped, acts as happens, comes}
 use Rattle.machine_coherence.specs.Coherent.{AreTakenNew, IsCoherent, IsCoherentState}
 use Rattle.machine_coherence.proofs.Lists.{none_sent}
 use Rattle.machine_coherence.proofs.Cores.{IsCore, core_of, of_cores, fills as core_fills, drops, clears as core_clears, invalidates as core_invalidates}
@@ -119,7 +119,7 @@ move_none w c new (locks request change e n passed) = (ap awaits_in e, ap awaits
 move_none w c new (tries request touch e n passed) = (ap awaits_in e, ap awaits_in n)
 move_none w c new (hints request place range e n i passed) = (ap awaits_in e, ap awaits_in n)
 move_none w c new (seeks request place e n passed) = (ap awaits_in e, ap awaits_in n)
-move_none w c new (guesses place target e n i) = (ap awaits_in e, ap awaits_in n)
+move_none w c new (guesses place found e n i) = (ap awaits_in e, ap awaits_in n)
 move_none w c new (turns place target e n d) = (ap awaits_in e, ap awaits_in n)
 move_none w c new (chooses place target range shoot e n d) = (ap awaits_in e, ap awaits_in n)
 move_none w c new (acts change range shoot e n d) = (ap awaits_in e, ap awaits_in n)
@@ -258,6 +258,8 @@ shape_kept w e o v g n k (begins c request i s lt p below h) =
 shape_kept w e o v g n k (ends c reply i s lt p h) =
     subst IsCoherentState (sym h) (moved w c Free w.slots (ap awaits_in p) refl refl k)
 shape_kept w e o v g n k (goes c i s lt b) = goes_kept w c v g n k b
+shape_kept w e o v g n k (aims c place target a s lt p h) =
+    subst IsCoherentState (sym h) (moved w c (trying place target) w.slots (ap awaits_in p) refl refl k)
 shape_kept w e o v g n k (gives_up c i s lt can u h) =
     let held : Option PageRange = still_held (w.calls.phase c) in
     subst IsCoherentState (sym h) (goes_silent c (let_go held NoMemory) (given_up_silent w c (w.calls.phase c) refl can u k) (let_go_none held NoMemory) k)

@@ -45,14 +45,14 @@ use Rattle.machine_model.specs.Counting.{CountsDown, frame_lost, with_counts, wi
 use Rattle.machine_model.specs.GivingUp.{given_back, after_give_up}
 use Rattle.machine_model.specs.Holding.{taken_in, still_held}
 use Rattle.machine_model.specs.Locks.{locking, locked_to, all_locked, held_after}
-use Rattle.machine_model.specs.Placing.{back_to}
+use Rattle.machine_model.specs.Placing.{trying, back_to}
 use Rattle.machine_model.specs.Step.{Step, with_event}
 use Rattle.machine_model.specs.World.{World, Made, Memory, new_world}
 use Rattle.machine_laws.specs.Orderly.{IsOrderly, IsUsable}
 use Rattle.machine_laws.proofs.Changed.{same_outside}
 use Rattle.machine_laws.proofs.Going.{acks_valid}
 use Rattle.machine_laws.proofs.Moves.{call_at}
-use Rattle.machine_laws.proofs.Shapes.{IsShowing, Moves, locks, tries, hints, seeks, guesses, turns, chooses, acts, finds, lacks, shows, LetsGo, unlocks, returns, releases, GoesBy, moves, divides, cuts, fits, owns, lets_go, answers, posts, commits, takes, zeroes, first_copies, caches, shares, posts_copy, copies, installs, accesses, faults, Works, clears, invalidates, walks, evicts, flushes, reviews, frees, Shape, rests, begins, ends, goes, gives_up, works, joins, Comes, stopped, acts as happens, comes}
+use Rattle.machine_laws.proofs.Shapes.{IsShowing, Moves, locks, tries, hints, seeks, guesses, turns, chooses, acts, finds, lacks, shows, LetsGo, unlocks, returns, releases, GoesBy, moves, divides, cuts, fits, owns, lets_go, answers, posts, commits, takes, zeroes, first_copies, caches, shares, posts_copy, copies, installs, accesses, faults, Works, clears, invalidates, walks, evicts, flushes, reviews, frees, Shape, rests, begins, ends, goes, aims, gives_up, works, joins, Comes, stopped, acts as happens, comes}
 use Rattle.machine_counting.specs.Counted.{FilePage, one_if, IsCounted, IsCountedState}
 use Rattle.machine_counting.proofs.Pages.{CountsPages, counts_same, counts_none, counts_some, page_up, page_cached, page_over, GiveUpFrames, range_down, none_down, unused_down}
 
@@ -116,7 +116,7 @@ none_moved w c new (locks request change e n p) = ap taken_in n
 none_moved w c new (tries request touch e n p) = ap taken_in n
 none_moved w c new (hints request place range e n i p) = ap taken_in n
 none_moved w c new (seeks request place e n p) = ap taken_in n
-none_moved w c new (guesses place target e n i) = ap taken_in n
+none_moved w c new (guesses place found e n i) = ap taken_in n
 none_moved w c new (turns place target e n d) = ap taken_in n
 none_moved w c new (chooses place target range shoot e n d) = ap taken_in n
 none_moved w c new (acts change range shoot e n d) = ap taken_in n
@@ -660,6 +660,8 @@ shape_kept w e o v g k (begins c request i s lt p below h) =
     subst IsCountedState (sym h) (moved w c (Check request) k refl)
 shape_kept w e o v g k (ends c reply i s lt p h) = subst IsCountedState (sym h) (moved w c Free k refl)
 shape_kept w e o v g k (goes c i s lt m) = goes_kept w c v g k m
+shape_kept w e o v g k (aims c place target a s lt p h) =
+    subst IsCountedState (sym h) (moved w c (trying place target) k refl)
 shape_kept w e o v g k (gives_up c i s lt can u h) = subst IsCountedState (sym h) (gives_up_kept w c k)
 shape_kept w e o v g k (works c s lt m) = works_kept w c e v g k m
 shape_kept w e o v g k (joins p t i s page j m h) = subst IsCountedState (sym h) (other_slots w t k j.info)

@@ -38,7 +38,7 @@ use Rattle.machine_model.specs.Counting.{with_counts}
 use Rattle.machine_model.specs.GivingUp.{given_back}
 use Rattle.machine_model.specs.Holding.{can_give_up, still_held, taken_in}
 use Rattle.machine_model.specs.Locks.{locking, locked_to, all_locked, held_after}
-use Rattle.machine_model.specs.Placing.{back_to}
+use Rattle.machine_model.specs.Placing.{trying, back_to}
 use Rattle.machine_model.specs.Translating.{after_translating}
 use Rattle.machine_model.specs.World.{World, Hardware, Memory}
 use Rattle.machine_model.specs.Step.{after_call}
@@ -57,7 +57,7 @@ use Rattle.vm_calls.specs.Checks.{checked, plan_of, unless_refused, touch_of, pl
 use Rattle.machine_laws.specs.Brackets.{nth, IsStoreTo}
 use Rattle.machine_laws.specs.Orderly.{IsOrderly, Serves}
 use Rattle.machine_laws.proofs.Moves.{IsCallOf, call_at}
-use Rattle.machine_laws.proofs.Shapes.{IsInner, rests_inner, Moves, locks, tries, hints, seeks, guesses, turns, chooses, acts, finds, lacks, shows, Replies, refuses, no_place, declines, fails, no_frame, LetsGo, unlocks, returns, releases, GoesBy, moves, divides, cuts, fits, owns, lets_go, answers, posts, commits, takes, zeroes, first_copies, caches, shares, posts_copy, copies, installs, accesses, faults, Works, clears, invalidates, walks, evicts, flushes, reviews, frees, IsGoing, going, picking, guessing, widening, Shape, rests, begins, ends, goes, gives_up, works, joins}
+use Rattle.machine_laws.proofs.Shapes.{IsInner, rests_inner, Moves, locks, tries, hints, seeks, guesses, turns, chooses, acts, finds, lacks, shows, Replies, refuses, no_place, declines, fails, no_frame, LetsGo, unlocks, returns, releases, GoesBy, moves, divides, cuts, fits, owns, lets_go, answers, posts, commits, takes, zeroes, first_copies, caches, shares, posts_copy, copies, installs, accesses, faults, Works, clears, invalidates, walks, evicts, flushes, reviews, frees, IsGoing, going, picking, IsAiming, at_run, at_window, Shape, rests, begins, ends, goes, aims, gives_up, works, joins}
 
 -- a core has no call, one without a reply, or one with this reply
 pub data Status : Type 0 where
@@ -140,8 +140,10 @@ status_told g c phase s e = put_both (λ d x s. status x ≡ s) g (λ d. status 
 going_inner : (c : ℕ) (e : Event) → IsGoing c e → IsInner e Stepped
 going_inner c e going = ((λ n. refl), refl)
 going_inner c e (picking f) = ((λ n. refl), refl)
-going_inner c e (guessing p) = ((λ n. refl), refl)
-going_inner c e widening = ((λ n. refl), refl)
+
+aiming_inner : (c : ℕ) (place : Place) (e : Event) (target : Target) → IsAiming c place e target → IsInner e Stepped
+aiming_inner c place e target (at_run p run) = ((λ n. refl), refl)
+aiming_inner c place e target at_window = ((λ n. refl), refl)
 
 inner_of : (e f : Event) → e ≡ f → IsInner f Stepped → IsInner e Stepped
 inner_of e f same i = subst (λ x. IsInner x Stepped) (sym same) i
@@ -209,7 +211,7 @@ moves_same w c new (locks request change e n k) = ap status n ∙ sym (ap status
 moves_same w c new (tries request touch e n k) = ap status n ∙ sym (ap status e)
 moves_same w c new (hints request place range e n i k) = ap status n ∙ sym (ap status e)
 moves_same w c new (seeks request place e n k) = ap status n ∙ sym (ap status e)
-moves_same w c new (guesses place target e n i) = ap status n ∙ sym (ap status e)
+moves_same w c new (guesses place found e n i) = ap status n ∙ sym (ap status e)
 moves_same w c new (turns place target e n d) = ap status n ∙ sym (ap status e)
 moves_same w c new (chooses place target range shoot e n d) = ap status n ∙ sym (ap status e)
 moves_same w c new (acts change range shoot e n d) = ap status n ∙ sym (ap status e)
@@ -325,6 +327,9 @@ effect_of w e o v g (rests r h) = subst (Effect w e o) (sym h) (keeps (rests_inn
 effect_of w e o v g (begins c request i s lt p below h) = opens c request i s (ap status p) h
 effect_of w e o v g (ends c reply i s lt p h) = closes c reply i s (ap status p) h
 effect_of w e o v g (goes c i s lt k) = subst (λ o. Effect w e o v) (sym s) (step_effect w e c v g (going_inner c e i) k)
+effect_of w e o v g (aims c place target a s lt p h) =
+    subst (λ o. Effect w e o v) (sym s)
+    (goes_on w e c (trying place target) w.slots w.hardware w.memory v (aiming_inner c place e target a) (sym (ap status p)) h)
 effect_of w e o v g (gives_up c i s lt can u h) =
     subst (λ o. Effect w e o v) (sym s)
     (with_reply w e c (still_held (w.calls.phase c)) NoMemory w.slots w.hardware

@@ -5,7 +5,7 @@ use Rattle.std.proofs.lemmas.Bool.Decides.{nat_tests}
 use Rattle.vm_base.specs.declared.page.PageRange.{PageRange}
 use Rattle.vm_base.specs.Functions.{has}
 use Rattle.vm_base.specs.Pages.{IsPageRange}
-use Rattle.vm_base.specs.Plain.{mode_of}
+use Rattle.vm_base.specs.Plain.{mode_of, is_mapped}
 use Rattle.slot_lock.specs.declared.plan.Change.{Change}
 use Rattle.slot_lock.specs.declared.plan.Plan.TheVariants as PlanOf
 use Rattle.slot_lock.specs.declared.plan.Touch.{Touch}
@@ -18,7 +18,7 @@ use Rattle.slot_lock.specs.declared.plan.Target.TheVariants.{Hint, Run, Window}
 use Rattle.slot_lock.specs.Plan.{range_of, target_range, goal_range, goal_plan, IsTarget, HasTarget, IsSoundTouch, IsSoundGoal}
 use Rattle.slot_lock.specs.Slots.{IsCut, Slots, between}
 use Rattle.vm_calls.specs.declared.decision.Decision.TheVariants.{Act, Again}
-use Rattle.vm_calls.specs.Decisions.{Decides, DecidesPlace}
+use Rattle.vm_calls.specs.Decisions.{Decides, DecidesPlace, entries}
 use Rattle.machine_model.specs.declared.phase.Phase.{Phase}
 use Rattle.machine_model.specs.declared.phase.Phase.TheVariants.{Free, Check, Guess, Find, Back as Leaving, Cut, Decide, Post, Acks, Try, Settle, Want, Fill, Install}
 use Rattle.machine_model.specs.Accesses.{after_frame}
@@ -26,12 +26,12 @@ use Rattle.machine_model.specs.Actions.{to}
 use Rattle.machine_model.specs.Changes.{after_post}
 use Rattle.machine_model.specs.Holding.{page_of_touch, range_held, awaits_in, holds, some_has, taken_in, is_open}
 use Rattle.machine_model.specs.Locks.{locking}
-use Rattle.machine_model.specs.Placing.{trying, after_cuts}
+use Rattle.machine_model.specs.Placing.{trying, guess_of, after_cuts}
 use Rattle.machine_model.specs.World.{World}
 use Rattle.machine_laws.specs.Orderly.{IsOrderly, IsAsked, Serves, IsCutFor, IsReady, IsPassed, IsRest}
 use Rattle.machine_laws.proofs.Deciding.{change_sound, touch_sound, sound_range, goal_sound, goal_valid, acts_own, acts_valid, window_stays}
 use Rattle.machine_laws.proofs.Moves.{IsCallOf, call_at, untouched, goes_on, same_pages}
-use Rattle.machine_laws.proofs.Shapes.{Moves, locks, tries, hints, seeks, guesses, turns, chooses, acts, finds, lacks, shows}
+use Rattle.machine_laws.proofs.Shapes.{Moves, locks, tries, hints, seeks, guesses, turns, chooses, acts, finds, lacks, shows, guess_is_target}
 
 -- ---- the call goes on, and nothing else changes
 
@@ -89,6 +89,11 @@ places : (w : World) (c : ℕ) (old : Phase) (place : Place) (target : Target) �
 places w c old place target e g lt opened none s i =
     starts w c old (To.Place place target) e g lt opened none s i (place_valid w c place target g lt s i)
 
+-- a mapping that looks for a place gets this target
+pub aims_kept : (w : World) (c : ℕ) (place : Place) (target : Target) → IsOrderly w → c < w.made.cores → w.calls.phase c ≡ Guess place
+    → IsTarget place target → IsOrderly (to c (trying place target) w)
+aims_kept w c place target g lt e i = places w c (Guess place) place target e g lt refl refl (call_at w c (Guess place) e g).asked i
+
 -- only a hint or a run is passed
 passed_on : (s : Slots) (place : Place) (target : Target) → DecidesPlace s place target Again → IsPassed target
 passed_on s place (Hint range) d = tt
@@ -116,8 +121,9 @@ moves_kept w c new g lt (seeks request place e n passed) =
     subst (λ x. IsOrderly (to c x w)) (sym n)
     (steps w c (Check request) (Guess place) e g lt refl refl tt
     (record { request = request; number = (call_at w c (Check request) e g).asked; passed = passed }) tt (λ f h. absurd cc))
-moves_kept w c new g lt (guesses place target e n i) =
-    subst (λ x. IsOrderly (to c x w)) (sym n) (places w c (Guess place) place target e g lt refl refl (call_at w c (Guess place) e g).asked i)
+moves_kept w c new g lt (guesses place found e n least) =
+    subst (λ x. IsOrderly (to c x w)) (sym n)
+    (aims_kept w c place (guess_of place found) g lt e (guess_is_target (is_mapped (entries w.slots)) place found least))
 moves_kept w c new g lt (turns place target e n d) =
     let k : IsCallOf w c (Find place target) = call_at w c (Find place target) e g in
     subst (λ x. IsOrderly (to c x w)) (sym n)

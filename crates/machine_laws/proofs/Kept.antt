@@ -39,9 +39,9 @@ use Rattle.machine_laws.proofs.Moves.{IsCallOf, call_at, Touches, untouched, Kee
 use Rattle.machine_laws.proofs.Numbered.{at_new}
 use Rattle.machine_laws.proofs.OpenCalls.{one, open_put}
 use Rattle.machine_laws.proofs.Owned.{changed_belongs}
-use Rattle.machine_laws.proofs.Shapes.{Replies, refuses, no_place, declines, fails, no_frame, GoesBy, moves, divides, cuts, fits, owns, lets_go, answers, posts, commits, takes, zeroes, first_copies, caches, shares, posts_copy, copies, installs, accesses, faults, Works, clears, invalidates, walks, evicts, flushes, reviews, frees as frees_frame, Shape, rests, begins, ends, goes, gives_up, works, joins, Comes, stopped, acts as happens, comes}
+use Rattle.machine_laws.proofs.Shapes.{Replies, refuses, no_place, declines, fails, no_frame, GoesBy, moves, divides, cuts, fits, owns, lets_go, answers, posts, commits, takes, zeroes, first_copies, caches, shares, posts_copy, copies, installs, accesses, faults, Works, clears, invalidates, walks, evicts, flushes, reviews, frees as frees_frame, Shape, rests, begins, ends, goes, aims, aimed, gives_up, works, joins, Comes, stopped, acts as happens, comes}
 use Rattle.machine_laws.proofs.Slots.{divided}
-use Rattle.machine_laws.proofs.Going.{steps, page_range, call_sound, place_valid, moves_kept, fits_kept, posts_kept, faults_kept}
+use Rattle.machine_laws.proofs.Going.{steps, page_range, call_sound, place_valid, moves_kept, aims_kept, fits_kept, posts_kept, faults_kept}
 use Rattle.machine_laws.proofs.Locking.{owns_kept, lets_go_kept}
 use Rattle.machine_laws.proofs.Paging.{given_below, takes_kept, zeroes_kept, first_copies_kept, caches_kept, shares_kept, posts_copy_kept, copies_kept, installs_kept}
 
@@ -379,6 +379,7 @@ shape_kept w e o v g (rests i h) = subst IsOrderly (sym h) g
 shape_kept w e o v g (begins c request i s lt p below h) = subst IsOrderly (sym h) (begins_kept w c request g lt p below)
 shape_kept w e o v g (ends c reply i s lt p h) = subst IsOrderly (sym h) (steps w c (Answer reply) Free p g lt refl refl tt tt tt (λ f x. absurd cc))
 shape_kept w e o v g (goes c i s lt k) = goes_kept w c v g lt k
+shape_kept w e o v g (aims c place target a s lt p h) = subst IsOrderly (sym h) (aims_kept w c place target g lt p (aimed c place e target a))
 shape_kept w e o v g (gives_up c i s lt can u h) = subst IsOrderly (sym h) (gives_up_kept w c g lt can)
 shape_kept w e o v g (works c s lt k) = works_kept w c e v g k
 shape_kept w e o v g (joins p t i s page j m h) = subst IsOrderly (sym h) (joined w t j g)

@@ -100,8 +100,8 @@ pub data Moves (w : World) (c : ℕ) (new : Phase) : Type 0 where
       → place.hint ≡ Some range → checked_by w.made c request ≡ Ok (PlanOf.Place place) → Moves w c new
   seeks : (request : Request) (place : Place) → w.calls.phase c ≡ Check request → new ≡ Guess place
       → checked_by w.made c request ≡ Ok (PlanOf.Place place) → Moves w c new
-  guesses : (place : Place) (target : Target) → w.calls.phase c ≡ Guess place → new ≡ trying place target → IsTarget place target
-      → Moves w c new
+  guesses : (place : Place) (found : Option ℕ) → w.calls.phase c ≡ Guess place → new ≡ trying place (guess_of place found)
+      → IsLeastRoom (is_mapped (entries w.slots)) place.window place.count found → Moves w c new
   turns : (place : Place) (target : Target) → w.calls.phase c ≡ Find place target → new ≡ Leaving place target (target_range place target)
       → Decides w.made.file w.slots (To.Place place target) Again → Moves w c new
   chooses : (place : Place) (target : Target) (range : PageRange) (shoot : ℕ) → w.calls.phase c ≡ Find place target
@@ -209,8 +209,12 @@ pub data Works (w : World) (c : ℕ) (e : Event) (v : World) : Type 0 where
 pub data IsGoing (c : ℕ) : Event → Type 0 where
   going : IsGoing c (Go c)
   picking : (f : ℕ) → IsGoing c (EventOf.Frame c f)
-  guessing : (p : ℕ) → IsGoing c (EventOf.Guess c p)
-  widening : IsGoing c (EventOf.Whole c)
+
+-- the events by which a placed mapping is given a target, and the target
+pub data IsAiming (c : ℕ) (place : Place) : Event → Target → Type 0 where
+  at_run : (p : ℕ) → IsRunOf place.window place.count (pages_from p place.count)
+      → IsAiming c place (EventOf.Guess c p) (Run (pages_from p place.count))
+  at_window : IsAiming c place (EventOf.Whole c) Window
 
 -- Why event e changes nothing: the machine lacks its core, its core has a call or has none, no call may begin any more, it isn't
 -- possible, another core holds the slot at the cursor, or other cores haven't acknowledged.
@@ -238,6 +242,8 @@ pub data Shape (w : World) (e : Event) (o : Outcome) (v : World) : Type 0 where
   ends : (c : ℕ) (reply : Reply) → e ≡ Go c → o ≡ Answered reply → c < w.made.cores → w.calls.phase c ≡ Answer reply
       → v ≡ to c Free w → Shape w e o v
   goes : (c : ℕ) → IsGoing c e → o ≡ Stepped → c < w.made.cores → GoesBy w c v → Shape w e o v
+  aims : (c : ℕ) (place : Place) (target : Target) → IsAiming c place e target → o ≡ Stepped → c < w.made.cores → w.calls.phase c ≡ Guess place
+      → v ≡ after_guess c place target w → Shape w e o v
   gives_up : (c : ℕ) → e ≡ EventOf.GiveUp c → o ≡ Stepped → c < w.made.cores → can_give_up (w.calls.phase c) ≡ true
       → IsUnawaited w.hardware c (w.calls.phase c) → v ≡ after_give_up c (w.calls.phase c) w → Shape w e o v
   works : (c : ℕ) → o ≡ Stepped → c < w.made.cores → Works w c e v → Shape w e o v
@@ -248,6 +254,11 @@ pub data Shape (w : World) (e : Event) (o : Outcome) (v : World) : Type 0 where
 pub data Comes (w : World) (e : Event) (o : Outcome) (v : World) : Type 0 where
   stopped : nat_lt w.calls.events event_limit ≡ false → IsInner e o → v ≡ w → Comes w e o v
   acts : nat_lt w.calls.events event_limit ≡ true → Shape (with_event w) e o v → Comes w e o v
+
+-- the target is of the mapping
+pub aimed : (c : ℕ) (place : Place) (e : Event) (target : Target) → IsAiming c place e target → IsTarget place target
+aimed c place e target (at_run p run) = run
+aimed c place e target at_window = tt
 
 -- ---- every step has one
 
@@ -350,15 +361,14 @@ lock_shape w c goal cursor (Held by) t o v lt e s h = rests (waits c goal cursor
 run_of : (window : PageRange) (n first : ℕ) → window.first ≤ first → first + n ≤ window.end → IsRunOf window n (pages_from first n)
 run_of window n first low high = record { size = refl; low = low; high = high }
 
-guess_is_target : (mapped : ℕ → Bool) (place : Place) (found : Option ℕ) → IsLeastRoom mapped place.window place.count found
+pub guess_is_target : (mapped : ℕ → Bool) (place : Place) (found : Option ℕ) → IsLeastRoom mapped place.window place.count found
     → IsTarget place (guess_of place found)
 guess_is_target mapped place None h = tt
 guess_is_target mapped place (Some first) h = run_of place.window place.count first h.0.0 h.0.1
 
 guess_shape : (w : World) (c : ℕ) (place : Place) (o : Outcome) (v : World) → c < w.made.cores → w.calls.phase c ≡ Guess place
     → GuessesNext w c place o v → Shape w (Go c) o v
-guess_shape w c place o v lt e h = step w c o v lt h.2.0 (moves (trying place (guess_of place h.0)) (guesses place (guess_of place h.0) e refl
-    (guess_is_target (is_mapped (entries w.slots)) place h.0 h.1)) h.2.1)
+guess_shape w c place o v lt e h = step w c o v lt h.2.0 (moves (trying place (guess_of place h.0)) (guesses place h.0 e refl h.1) h.2.1)
 
 find_shape : (w : World) (c : ℕ) (place : Place) (target : Target) (d : Decision) (v : World) → w.calls.phase c ≡ Find place target
     → Decides w.made.file w.slots (To.Place place target) d → v ≡ after_finding_place c place target d w → GoesBy w c v
@@ -557,8 +567,8 @@ run_shape w c first (Guess place) o v lt e h = go (nat_le place.window.first fir
 
     go : (a b : Bool) → nat_le place.window.first first ≡ a → nat_le (first + place.count) place.window.end ≡ b
         → cond (a && b) (Becomes (after_guess c place (Run (pages_from first place.count)) w) o v) (Idles w o v) → Shape w (EventOf.Guess c first) o v
-    go true true i j k = goes c (guessing first) k.0 lt (moves (trying place (Run (pages_from first place.count)))
-        (guesses place (Run (pages_from first place.count)) e refl (run_of place.window place.count first (upto _ _ i) (upto _ _ j))) k.1)
+    go true true i j k = aims c place (Run (pages_from first place.count))
+        (at_run first (run_of place.window place.count first (upto _ _ i) (upto _ _ j))) k.0 lt e k.1
     go true false i j k = idles w (EventOf.Guess c first) o v (λ d x. cc) (λ d r x. cc) k
     go false b i j k = idles w (EventOf.Guess c first) o v (λ d x. cc) (λ d r x. cc) k
 run_shape w c first Free o v lt e h = idles w (EventOf.Guess c first) o v (λ d x. cc) (λ d r x. cc) h
@@ -583,7 +593,7 @@ run_shape w c first (Release touch) o v lt e h = idles w (EventOf.Guess c first)
 
 window_shape : (w : World) (c : ℕ) (phase : Phase) (o : Outcome) (v : World) → c < w.made.cores → w.calls.phase c ≡ phase
     → TakesWindow w c phase o v → Shape w (EventOf.Whole c) o v
-window_shape w c (Guess place) o v lt e h = goes c widening h.0 lt (moves (trying place Window) (guesses place Window e refl tt) h.1)
+window_shape w c (Guess place) o v lt e h = aims c place Window at_window h.0 lt e h.1
 window_shape w c Free o v lt e h = idles w (EventOf.Whole c) o v (λ d x. cc) (λ d r x. cc) h
 window_shape w c (Check r) o v lt e h = idles w (EventOf.Whole c) o v (λ d x. cc) (λ d r x. cc) h
 window_shape w c (Lock goal cursor) o v lt e h = idles w (EventOf.Whole c) o v (λ d x. cc) (λ d r x. cc) h
