@@ -28,25 +28,25 @@ use Rattle.machine_sound.specs.Sound.{SoundRun}
 use Rattle.machine_sound.proofs.Examples.{read_write, anonymous}
 use Rattle.machine_sound.proofs.Kept.{runs_sound}
 
-abbrev made : Made
+abbrev pub made : Made
 made = record { cores = 2; frames = 4; calls = 8; file = λ n. None }
 
 -- each page is a slot of its own
-abbrev slots : Slots
+abbrev pub slots : Slots
 slots = record { info = λ p. None; owner = λ p. None; edge = λ p. true }
 
-new : IsNew slots
+pub new : IsNew slots
 new = record { unmapped = λ p. refl; free = λ p. refl }
 
-one_page : (s : Slots) → s.edge ≡ (λ p. true) → IsSlot s 16 17
+pub one_page : (s : Slots) → s.edge ≡ (λ p. true) → IsSlot s 16 17
 one_page s e = record { ordered = omega arith; begins = ap (λ f. f 16) e; ends = ap (λ f. f 17) e; inside = λ p h k. absurd (omega (arith, h, k)) }
 
 -- page 16 and no other
-only_16 : (p : ℕ) → 16 ≤ p → p < 17 → has (between 16 17) p ≡ true
+pub only_16 : (p : ℕ) → 16 ≤ p → p < 17 → has (between 16 17) p ≡ true
 only_16 p h k = in_has (between 16 17) p h k
 
 -- nobody is recorded where nothing is mapped
-nobody : (core : ℕ) → members 0 core ≡ true → ⊥
+pub nobody : (core : ℕ) → members 0 core ≡ true → ⊥
 nobody core h = let none = members-empty core in cc (none, h)
 
 abbrev events : List Event
@@ -66,7 +66,7 @@ outcomes =
     ∷ Answered Done ∷ Answered (Mapped 65536) ∷ []
 
 -- a step, and then the others
-then : {P Q : World → Type 0} (m : World) → P m → Q m → (x : World) × P x × Q x
+pub then : {P Q : World → Type 0} (m : World) → P m → Q m → (x : World) × P x × Q x
 then m s r = (m, s, r)
 
 -- nobody was told
