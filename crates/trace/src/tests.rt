@@ -91,7 +91,7 @@ fn each_heap_that_is_too_small(rt: HostRuntime) -> Result<(), Fail> {
     let mut at_making = false;
     let mut at_a_step = false;
     let mut is_whole = false;
-    for n in 0..512usize {
+    for n in 0..640usize {
         let heap = LocalHeap::new(rt.alloc(), 65_408 + 512 * n)?;
         let mut reader = Counted::new(TEXT);
         let mut writer = Noted::new(Vec::new(rt.alloc()));
