@@ -17,7 +17,7 @@ use Rattle.machine_model.specs.Step.{with_event, Step}
 use Rattle.machine_model.specs.World.{World}
 use Rattle.machine_laws.specs.Orderly.{IsOrderly}
 use Rattle.machine_laws.proofs.Moves.{IsCallOf, call_at}
-use Rattle.machine_laws.proofs.Shapes.{GoesBy, moves, divides, cuts, fits, owns, lets_go, answers, posts, commits, takes, zeroes, first_copies, caches, shares, posts_copy, copies, installs, accesses, faults, Works, clears, invalidates, walks, evicts, flushes, reviews, frees, IsGoing, going, picking, guessing, widening, Rests, absent, busy, full, free, cannot, waits, awaits, Shape, rests, begins, ends, goes, gives_up, works, joins, Comes, stopped, acts, comes}
+use Rattle.machine_laws.proofs.Shapes.{GoesBy, moves, divides, cuts, fits, owns, lets_go, answers, posts, commits, takes, zeroes, first_copies, caches, shares, posts_copy, copies, installs, accesses, faults, Works, clears, invalidates, walks, evicts, flushes, reviews, frees, IsGoing, going, picking, Rests, absent, busy, full, free, cannot, waits, awaits, Shape, rests, begins, ends, goes, aims, gives_up, works, joins, Comes, stopped, acts, comes}
 use Rattle.machine_sound.specs.Sound.{IsFreedBy, FreesOnly, IsBlocked}
 use Rattle.machine_sound.specs.Sound.IsFreedBy.{by_review, by_call}
 
@@ -78,14 +78,13 @@ give_up_frees w c v h f was now =
 its_core : (c : ℕ) (e : Event) → IsGoing c e → core_of e ≡ Some c
 its_core c e going = refl
 its_core c e (picking f) = refl
-its_core c e (guessing p) = refl
-its_core c e widening = refl
 
 shape_frees : (w : World) (e : Event) (o : Outcome) (v : World) → Shape w e o v → FreesOnly w e v
 shape_frees w e o v (rests i h) f was now = none_freed w e f _ (ap (λ (v : World). v.memory.is_free f) h) was now
 shape_frees w e o v (begins c request i s lt p few h) f was now = none_freed w e f _ (ap (λ (v : World). v.memory.is_free f) h) was now
 shape_frees w e o v (ends c reply i s lt p h) f was now = none_freed w e f _ (ap (λ (v : World). v.memory.is_free f) h) was now
 shape_frees w e o v (goes c i s lt k) f was now = going_frees w e c v (its_core c e i) k f was now
+shape_frees w e o v (aims c place target a s lt p h) f was now = none_freed w e f _ (ap (λ (v : World). v.memory.is_free f) h) was now
 shape_frees w e o v (gives_up c i s lt can u h) f was now = subst (λ e. IsFreedBy w e f) (sym i) (give_up_frees w c v h f was now)
 shape_frees w e o v (works c s lt k) f was now = work_frees w e c v k f was now
 shape_frees w e o v (joins p t i s page j m h) f was now = none_freed w e f _ (ap (λ (v : World). v.memory.is_free f) h) was now
@@ -131,6 +130,7 @@ shape_blocked w e o v g (rests i h) = rests_blocked w e o g i
 shape_blocked w e o v g (begins c request i s lt p few h) = unblocked w e o Stepped s tt
 shape_blocked w e o v g (ends c reply i s lt p h) = unblocked w e o (Answered reply) s tt
 shape_blocked w e o v g (goes c i s lt k) = unblocked w e o Stepped s tt
+shape_blocked w e o v g (aims c place target a s lt p h) = unblocked w e o Stepped s tt
 shape_blocked w e o v g (gives_up c i s lt can u h) = unblocked w e o Stepped s tt
 shape_blocked w e o v g (works c s lt k) = unblocked w e o Stepped s tt
 shape_blocked w e o v g (joins p t i s page j m h) = unblocked w e o Stepped s tt

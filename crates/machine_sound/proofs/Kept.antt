@@ -21,6 +21,7 @@ use Rattle.machine_model.specs.Counting.{with_counts, with_free}
 use Rattle.machine_model.specs.GivingUp.{after_give_up, given_back}
 use Rattle.machine_model.specs.Holding.{taken_in, still_held, can_give_up}
 use Rattle.machine_model.specs.Locks.{locking, locked_to}
+use Rattle.machine_model.specs.Placing.{trying}
 use Rattle.machine_model.specs.Translating.{after_translating}
 use Rattle.machine_model.specs.World.{World, Made, new_world}
 use Rattle.machine_model.specs.Step.{after_call, with_event, Step, Run}
@@ -28,7 +29,7 @@ use Rattle.machine_laws.proofs.Kept.{kept as order_kept}
 use Rattle.machine_laws.proofs.Moves.{IsCallOf, call_at}
 use Rattle.machine_laws.specs.Brackets.{nth}
 use Rattle.machine_laws.specs.Orderly.{IsAsked}
-use Rattle.machine_laws.proofs.Shapes.{Replies, refuses, no_place, declines, fails, no_frame, GoesBy, moves, divides, cuts, fits, owns, lets_go, answers, posts, commits, takes, zeroes, first_copies, caches, shares, posts_copy, copies, installs, accesses, faults, Works, clears, invalidates, walks, evicts, flushes, reviews, frees, Shape, rests, begins, ends, goes, gives_up, works, joins, Comes, stopped, acts as happens, comes}
+use Rattle.machine_laws.proofs.Shapes.{Replies, refuses, no_place, declines, fails, no_frame, GoesBy, moves, divides, cuts, fits, owns, lets_go, answers, posts, commits, takes, zeroes, first_copies, caches, shares, posts_copy, copies, installs, accesses, faults, Works, clears, invalidates, walks, evicts, flushes, reviews, frees, Shape, rests, begins, ends, goes, aims, gives_up, works, joins, Comes, stopped, acts as happens, comes}
 use Rattle.machine_coherence.proofs.Kept.{kept as translations_kept}
 use Rattle.machine_counting.proofs.Kept.{kept as counts_kept}
 use Rattle.machine_sound.specs.Sound.{IsReached, IsSoundState, IsSoundStep, Notes, SoundRun}
@@ -163,6 +164,8 @@ shape_left w e o v f (rests i h) = subst (Leaves w e) (sym h) (stays w e f)
 shape_left w e o v f (begins c request i s lt p below h) = subst (Leaves w e) (sym h) (begun w e c request f)
 shape_left w e o v f (ends c reply i s lt p h) = subst (Leaves w e) (sym h) (goes_on w e c Free w.slots w.hardware w.memory f f.good)
 shape_left w e o v f (goes c i s lt g) = goes_left w e c v (let few = f.order.few in omega (arith, lt, few)) f g
+shape_left w e o v f (aims c place target a s lt p h) =
+    subst (Leaves w e) (sym h) (goes_on w e c (trying place target) w.slots w.hardware w.memory f f.good)
 shape_left w e o v f (gives_up c i s lt can u h) = subst (Leaves w e) (sym h) (subst (λ e. Leaves w e (after_give_up c (w.calls.phase c) w)) (sym i) (given_up w c f can))
 shape_left w e o v f (works c s lt k) = works_left w e c v f k
 shape_left w e o v f (joins p t i s page j m h) =
