@@ -225,7 +225,8 @@ not_given_up w v core r c touch frame o p (inr some) (inl h) =
     only : (b : ℕ) → b ≢ c → awaits_in (w.calls.phase b) ≡ None
     only b ne = ap awaits_in (r.others b (λ e. ne (e ∙ mine)))
 
-acted : (w v : World) (core : ℕ) (e : Event) (o : Outcome) → IsResting w core → IsBeside w e → Acts (with_event w) e o v → IsBesideCalls w v × ComesBeside w e o v
+acted : (w v : World) (core : ℕ) (e : Event) (o : Outcome) → IsResting w core → IsBeside w e → Acts (with_event w) e o v → IsBesideCalls w v
+    × ComesBeside w e o v
 acted w v core (Call c request) o r b h = absurd b
 acted w v core (Go c) o r b h =
     let z : Idles (with_event w) o v = subst (λ phase. Goes (with_event w) c phase o v) b h in

@@ -183,7 +183,8 @@ replies_near first w c held reply v f sure (declines change errno e h r d) k =
     (sym h) (omega arith)) (due_reply first reply (subst IsReply (sym r) tt))
 replies_near first w c held reply v f sure (fails touch e h x) k =
     tells_near first w c (Settle touch) held reply w.slots w.hardware w.memory v e k
-    (subst (λ o. rank_of w.slots (reach_of w.hardware c) (let_go o reply) < 12) (sym h) (omega arith)) (due_reply first reply (fault_is_reply (found_at w touch) reply x))
+    (subst (λ o. rank_of w.slots (reach_of w.hardware c) (let_go o reply) < 12) (sym h) (omega arith))
+    (due_reply first reply (fault_is_reply (found_at w touch) reply x))
 replies_near first w c held reply v f sure (no_frame touch old e h r none) k =
     let same : w.memory.is_free ≡ first = sure_at first w c (Want touch old) e sure in
     tells_near first w c (Want touch old) held reply w.slots w.hardware w.memory v e k
@@ -276,7 +277,8 @@ installed_hits w c touch k after own =
     let z = usable_entry w.made.file w.memory.cached touch.access (w.slots.info touch.page) k.ready.0 c k.ready.1 own in
     reaches_own (after_install c touch w).hardware c touch z.0 (at_table ∙ z.1)
     (λ u e. let backed : IsBacked w.memory.cached (put w.slots.info touch.page (info_with_core c (w.slots.info touch.page)) touch.page) c u =
-    (at_page (IsSoundEntry w.memory.cached (after_install c touch w).slots.info c ((after_install c touch w).hardware.table c) (w.hardware.inbox c)) (w.hardware.tlb c) touch.page u
+    (at_page (IsSoundEntry w.memory.cached (after_install c touch w).slots.info c ((after_install c touch w).hardware.table c) (w.hardware.inbox c))
+    (w.hardware.tlb c) touch.page u
     (after.coherent.tlbs c) e).0 in
     let entry : entry_of_page w.memory.cached (info_with_core c (w.slots.info touch.page)) ≡ Some u =
     ap (entry_of_page w.memory.cached) (sym (put_same w.slots.info touch.page (info_with_core c (w.slots.info touch.page)))) ∙ backed.entry in
@@ -284,7 +286,8 @@ installed_hits w c touch k after own =
     z.3
   where
     at_table : (after_install c touch w).hardware.table c touch.page ≡ entry_of_page w.memory.cached (w.slots.info touch.page)
-    at_table = ap (λ f. f touch.page) (put_same w.hardware.table c (put (w.hardware.table c) touch.page (entry_of_page w.memory.cached (w.slots.info touch.page))))
+    at_table = ap (λ f. f touch.page)
+        (put_same w.hardware.table c (put (w.hardware.table c) touch.page (entry_of_page w.memory.cached (w.slots.info touch.page))))
         ∙ put_same (w.hardware.table c) touch.page (entry_of_page w.memory.cached (w.slots.info touch.page))
 
 -- the frame is taken for a page without one, or for a copy
@@ -331,16 +334,19 @@ goes_near first w c v f after sure own (commits change held counts e n l h) =
     (omega arith) (due_reply first (reply_to change) (reply_is change))
 goes_near first w c v f after sure own (takes touch old x e l h) = takes_near first w c touch old x v e (sure_at first w c (Want touch old) e sure) l h
 goes_near first w c v f after sure own (zeroes touch x counts e b t h) =
-    nears first w c (Fill touch (Some x)) (Install touch) (after_zeros c touch x counts w).slots w.hardware (after_zeros c touch x counts w).memory v e (rw h refl)
+    nears first w c (Fill touch (Some x)) (Install touch) (after_zeros c touch x counts w).slots w.hardware
+    (after_zeros c touch x counts w).memory v e (rw h refl)
     (omega arith) tt
 goes_near first w c v f after sure own (first_copies touch x counts e b t h) =
     copied_near first w c (Fill touch (Some x)) touch (after_first_copy c touch x counts w).slots (after_first_copy c touch x counts w).memory v e (rw h refl)
     (omega arith)
 goes_near first w c v f after sure own (caches touch x counts e s n t h) =
-    nears first w c (Fill touch (Some x)) (Install touch) (after_caching c touch x counts w).slots w.hardware (after_caching c touch x counts w).memory v e (rw h refl)
+    nears first w c (Fill touch (Some x)) (Install touch) (after_caching c touch x counts w).slots w.hardware
+    (after_caching c touch x counts w).memory v e (rw h refl)
     (omega arith) tt
 goes_near first w c v f after sure own (shares touch mine x counts e s n t h) =
-    nears first w c (Fill touch mine) (Install touch) (after_sharing c touch mine x counts w).slots w.hardware (after_sharing c touch mine x counts w).memory v e
+    nears first w c (Fill touch mine) (Install touch) (after_sharing c touch mine x counts w).slots w.hardware
+    (after_sharing c touch mine x counts w).memory v e
     (rw h refl) (omega arith) tt
 goes_near first w c v f after sure own (posts_copy touch x e h) =
     nears first w c (CopyPost touch x) (CopyAcks touch x) w.slots (after_copy_post c touch x w).hardware w.memory v e (rw h refl)

@@ -478,7 +478,8 @@ keeps_others : (w : World) (t : Plain) (c : ℕ) (request : Request) (o : Outcom
     → KeepsUsers (recorded w.slots) c (recorded x.slots) → KeepsOthers t (recorded w.slots) c request k.reply
 keeps_others w t c request o x v k e u d p ne h = sym (k.users p d) ∙ (ap (λ (v : World). recorded v.slots p d) e ∙ u d p ne h)
 
-pub served_alone : (w begun : World) (t : Plain) (core : ℕ) (request : Request) → IsReached w → LeadsTo w t → IsCalm w → Step w (Call core request) Stepped begun
+pub served_alone : (w begun : World) (t : Plain) (core : ℕ) (request : Request) → IsReached w → LeadsTo w t → IsCalm w
+    → Step w (Call core request) Stepped begun
     → IsServedAlone w t core request begun
 served_alone w begun t core request reached leads calm s =
     let start = starts w t core request begun reached leads calm s in

@@ -248,7 +248,8 @@ posted_told w c new shoot range v f others h none asks all =
     (subst (IsTold w.slots (after_shot w.hardware c shoot range) c) (sym (put_same w.calls.phase c new))
     (subst (IsToldOf w.slots (after_shot w.hardware c shoot range) c) (sym asks) (posts_tell w c shoot range f others none all)))
 
-pub told_on : (w : World) (c : ℕ) (v : World) → Fine w → ((b : ℕ) → b ≢ c → w.calls.phase b ≡ Free) → GoesBy w c v → IsTold v.slots v.hardware c (v.calls.phase c)
+pub told_on : (w : World) (c : ℕ) (v : World) → Fine w → ((b : ℕ) → b ≢ c → w.calls.phase b ≡ Free) → GoesBy w c v
+    → IsTold v.slots v.hardware c (v.calls.phase c)
 told_on w c v f others (moves new m h) = to_untold c new w v h (moves_untold w c new m)
 told_on w c v f others (divides goal cursor t e s h) =
     subst (λ (v : World). IsTold v.slots v.hardware c (v.calls.phase c)) (sym h) (untold t w.hardware c (w.calls.phase c) (ap awaits_in e))
@@ -259,7 +260,8 @@ told_on w c v f others (posts change shoot e h) =
     let k : IsCallOf w c (Post change shoot) = call_at w c (Post change shoot) e f.order in
     posted_told w c (Acks change (range_of change)) shoot (range_of change) v f others h (ap awaits_in e) refl
     (acts_users w.made.file w.slots change (range_of change) shoot k.ready)
-told_on w c v f others (commits change held total e n l h) = replied_untold c (Some held) (reply_to change) (with_counts total (record w { slots = slots_after change w.slots })) v h
+told_on w c v f others (commits change held total e n l h) = replied_untold c (Some held) (reply_to change)
+    (with_counts total (record w { slots = slots_after change w.slots })) v h
 told_on w c v f others (takes touch old x e l h) =
     to_untold c (taken_for touch old x) (record w { memory = (after_frame c touch old x w).memory }) v h (taken_untold touch old x)
 told_on w c v f others (zeroes touch x counts e b t h) =

@@ -283,7 +283,8 @@ reaches_recorded shown info phase h c touch f k e = go (tlb_at (h.tlb c) touch.p
 none_due : (w : World) (c : ℕ) (touch : Touch) (x : ℕ) (f : Fine w) → frame_reached (translated_by w.hardware c touch) ≡ Some x → touch.access ≡ Store
     → detached f.plain touch.page ≡ None
 none_due w c touch x f e s =
-    let r : ReachesFrame w.memory.cached (w.slots.info touch.page) touch.access x = reaches w.memory.cached w.slots.info w.calls.phase w.hardware c touch x f.coherent e in
+    let r : ReachesFrame w.memory.cached
+    (w.slots.info touch.page) touch.access x = reaches w.memory.cached w.slots.info w.calls.phase w.hardware c touch x f.coherent e in
     let i : IsFramed w f.plain touch.page x = framed w f.plain touch.page x f.good (ap frame_of r.mapped ∙ r.frame) in
     let same : r.page ≡ i.info = let a = r.mapped in let b = i.at_slot in cc in
     let own : is_uncopied i.entry.back i.entry.own ≡ false =

@@ -177,7 +177,8 @@ plan_drops : (modes : ℕ → Option Mode) (t : Plain) (core : ℕ) (request : R
 plan_drops modes t core (Mmap addr len prot flags file off) change r e = go flags.fixed refl e
   where
     go : (b : Bool) → flags.fixed ≡ b
-        → either_plan b (PlanOf.Change (Put (pages_of addr len) (meta_of prot flags file off))) (PlanOf.Place (place_of core addr len (meta_of prot flags file off)))
+        → either_plan b (PlanOf.Change (Put (pages_of addr len) (meta_of prot flags file off)))
+        (PlanOf.Place (place_of core addr len (meta_of prot flags file off)))
         ≡ Ok (PlanOf.Change change) → DropsAll t core (Mmap addr len prot flags file off) change
     go true i k =
         let same : Put (pages_of addr len) (meta_of prot flags file off) ≡ change = cc in
