@@ -47,19 +47,19 @@ act_sound w (To.Change planned) change sound leads chosen = subst IsSoundChange 
 act_sound w (To.Access touch) change sound leads chosen = absurd leads
 
 pub acks_goal : (w : World) (c : ℕ) (goal : Goal) (change : Change) → IsAt w c (Acks goal change) → IsSoundGoal goal
-acks_goal w c goal change i = goal_at w c (Acks goal change) goal i (λ h. h) (λ call. call.ready.0.0)
+acks_goal w c goal change i = goal_at w c (Acks goal change) goal i (λ h. h) (λ call. call.ready.0)
 
 pub acks_sound : (w : World) (c : ℕ) (goal : Goal) (change : Change) → IsAt w c (Acks goal change) → IsSoundChange change
 acks_sound w c goal change i =
     sound_if (PlanOf.Change change) (∥∥₁_map (order i) (λ g.
     let ready = (call_at w c (Acks goal change) i.phase g).ready in
-    act_sound w goal change (acks_goal w c goal change i) ready.0.1 ready.1))
+    act_sound w goal change (acks_goal w c goal change i) ready.1 ready.2))
 
 -- the call holds the pages that it changes
 owns_change : (w : World) (c : ℕ) (goal : Goal) (change : Change) → IsCallOf w c (Acks goal change) → (p : ℕ) → has (range_of change) p ≡ true
     → w.slots.owner p ≡ Some c
 owns_change w c goal change call p h =
-    let chosen = call.ready.1 in
+    let chosen = call.ready.2 in
     call.owned p (acts_in w.made.file w.slots goal (range_of change) chosen.0 p chosen.1 h)
 
 pub acks_held : (w : World) (c : ℕ) (goal : Goal) (change : Change) → IsAt w c (Acks goal change) → IsHeld w.slots c (range_of change)
@@ -100,7 +100,7 @@ acks_mapped w c goal (Clear range) i = tt
 acks_mapped w c goal (Protect range prot) i = λ p h.
     ∥∥₁_elim (order i) (hlevel props) (λ g.
     let ready = (call_at w c (Acks goal (Protect range prot)) i.phase g).ready in
-    protects w goal range prot ready.0.1 ready.1 p h)
+    protects w goal range prot ready.1 ready.2 p h)
 
 -- ---- pages that are to be let go
 

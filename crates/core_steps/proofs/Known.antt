@@ -62,7 +62,7 @@ use Rattle.machine_laws.proofs.Moves.{call_at, IsCallOf}
 use Rattle.machine_laws.proofs.OpenCalls.{one, open_put}
 use Rattle.machine_coherence.specs.Coherent.{Every, IsSoundEntry, AreAsked}
 use Rattle.machine_sound.specs.Invariant.{Fine}
-use Rattle.core_steps.specs.Moving.{IsAt}
+use Rattle.core_steps.specs.Moving.{IsAt, goal_in}
 use Rattle.core_steps.specs.Taking.{AreCounted}
 use Rattle.core_steps.proofs.Sounding.{goal_if, place_if, range_if, sound_if}
 
@@ -276,7 +276,7 @@ goal_at w c phase goal i serves has_target =
     record { plan = served w c (goal_plan goal) g i.here (serves call.asked); target = has_target call }))
 
 pub goal_sound : (w : World) (c : ℕ) (goal : Goal) (cursor : ℕ) → IsAt w c (Lock goal cursor) → IsSoundGoal goal
-goal_sound w c goal cursor i = goal_at w c (Lock goal cursor) goal i (λ h. h) (λ call. call.ready.1.1)
+goal_sound w c goal cursor i = goal_at w c (Lock goal cursor) goal i (λ h. h) (λ call. call.ready.2)
 
 -- ---- the pages that are to be locked
 
@@ -290,7 +290,7 @@ range_ends w c goal cursor i =
     (∥∥₁_elim (order i) (hlevel props) (λ g. let from = (call_at w c (Lock goal cursor) i.phase g).ready.0 in omega (arith, low, from)), pages.high)
 
 pub is_left : (w : World) (c : ℕ) (goal : Goal) (cursor : ℕ) → IsAt w c (Lock goal cursor) → cursor < (goal_range goal).end
-is_left w c goal cursor i = ∥∥₁_elim (order i) (hlevel props) (λ g. (call_at w c (Lock goal cursor) i.phase g).ready.1.0)
+is_left w c goal cursor i = ∥∥₁_elim (order i) (hlevel props) (λ g. (call_at w c (Lock goal cursor) i.phase g).ready.1)
 
 -- the cursor's page isn't held yet
 pub not_ahead : (w : World) (c : ℕ) (goal : Goal) (cursor : ℕ) → IsAt w c (Lock goal cursor) → w.slots.owner cursor ≢ Some c
@@ -374,10 +374,10 @@ awaited_pages : (w : World) (c : ℕ) (range : PageRange) (phase : Phase) → Is
     → awaits_in phase ≡ Some range → are_pages range ≡ true
 awaited_pages w c range (Acks goal change) g e here h =
     let call = call_at w c (Acks goal change) e g in
-    let sound = record { plan = served w c (goal_plan goal) g here call.asked; target = call.ready.0.0 } in
+    let sound : IsSoundGoal goal = record { plan = served w c (goal_plan goal) g here call.asked; target = call.ready.0 } in
     let same : range_of change ≡ range = cc in
     subst (λ r. are_pages r ≡ true) same
-    (valid_range (range_of change) (acts_valid _ w.slots goal (range_of change) call.ready.1.0 sound call.ready.1.1))
+    (valid_range (range_of change) (acts_valid _ w.slots goal (range_of change) call.ready.2.0 sound call.ready.2.1))
 awaited_pages w c range (CopyAcks touch frame) g e here h =
     let call = call_at w c (CopyAcks touch frame) e g in
     let same : page_of_touch touch ≡ range = cc in
@@ -483,29 +483,29 @@ install_mapped w c touch i e =
     let usable = install_page w c touch (call_at w c (Install touch) i.phase g) in
     subst (λ o. IsUsable w.made.file o touch.access (Some usable.0)) e usable.1)
 
--- ---- the plan of a call, whatever its phase
+-- ---- the goal of a call that holds pages for one, whatever its phase
 
-pub plan_sound : (w : World) (c : ℕ) (phase : Phase) → IsAt w c phase → IfSome (plan_in phase) IsSound
-plan_sound w c Free i = tt
-plan_sound w c (Check request) i = tt
-plan_sound w c (Lock goal cursor) i = (goal_sound w c goal cursor i).plan
-plan_sound w c (Guess place) i = sound_at w c (Guess place) (PlanOf.Place place) i (λ h. h)
-plan_sound w c (Find place target) i = sound_at w c (Find place target) (PlanOf.Place place) i (λ h. h)
-plan_sound w c (Back place target held) i = sound_at w c (Back place target held) (PlanOf.Place place) i (λ h. h)
-plan_sound w c (Cut place target range) i = sound_at w c (Cut place target range) (PlanOf.Place place) i (λ h. h)
-plan_sound w c (Decide change) i = sound_at w c (Decide change) (PlanOf.Change change) i (λ h. h)
-plan_sound w c (Post change shoot) i = sound_at w c (Post change shoot) (PlanOf.Change change) i (λ h. h)
-plan_sound w c (Acks goal change) i = sound_at w c (Acks goal change) (goal_plan goal) i (λ h. h)
-plan_sound w c (Unlock held reply) i = tt
-plan_sound w c (Answer reply) i = tt
-plan_sound w c (Try touch) i = sound_at w c (Try touch) (PlanOf.Touch touch) i (λ h. h)
-plan_sound w c (Settle touch) i = sound_at w c (Settle touch) (PlanOf.Touch touch) i (λ h. h)
-plan_sound w c (Want touch old) i = sound_at w c (Want touch old) (PlanOf.Touch touch) i (λ h. h)
-plan_sound w c (Fill touch frame) i = sound_at w c (Fill touch frame) (PlanOf.Touch touch) i (λ h. h)
-plan_sound w c (CopyPost touch frame) i = sound_at w c (CopyPost touch frame) (PlanOf.Touch touch) i (λ h. h)
-plan_sound w c (CopyAcks touch frame) i = sound_at w c (CopyAcks touch frame) (PlanOf.Touch touch) i (λ h. h)
-plan_sound w c (Install touch) i = sound_at w c (Install touch) (PlanOf.Touch touch) i (λ h. h)
-plan_sound w c (Release touch) i = sound_at w c (Release touch) (PlanOf.Touch touch) i (λ h. h)
+pub goal_in_sound : (w : World) (c : ℕ) (phase : Phase) → IsAt w c phase → IfSome (goal_in phase) IsSoundGoal
+goal_in_sound w c Free i = tt
+goal_in_sound w c (Check request) i = tt
+goal_in_sound w c (Lock goal cursor) i = goal_sound w c goal cursor i
+goal_in_sound w c (Guess place) i = tt
+goal_in_sound w c (Find place target) i = goal_at w c (Find place target) (To.Place place target) i (λ h. h) (λ call. call.ready)
+goal_in_sound w c (Back place target held) i = tt
+goal_in_sound w c (Cut place target range) i = goal_at w c (Cut place target range) (To.Place place target) i (λ h. h) (λ call. call.ready.0)
+goal_in_sound w c (Decide change) i = goal_at w c (Decide change) (To.Change change) i (λ h. h) (λ call. tt)
+goal_in_sound w c (Post change shoot) i = goal_at w c (Post change shoot) (To.Change change) i (λ h. h) (λ call. tt)
+goal_in_sound w c (Acks goal change) i = goal_at w c (Acks goal change) goal i (λ h. h) (λ call. call.ready.0)
+goal_in_sound w c (Unlock held reply) i = tt
+goal_in_sound w c (Answer reply) i = tt
+goal_in_sound w c (Try touch) i = tt
+goal_in_sound w c (Settle touch) i = goal_at w c (Settle touch) (To.Access touch) i (λ h. h) (λ call. tt)
+goal_in_sound w c (Want touch old) i = goal_at w c (Want touch old) (To.Access touch) i (λ h. h) (λ call. tt)
+goal_in_sound w c (Fill touch frame) i = goal_at w c (Fill touch frame) (To.Access touch) i (λ h. h) (λ call. tt)
+goal_in_sound w c (CopyPost touch frame) i = goal_at w c (CopyPost touch frame) (To.Access touch) i (λ h. h) (λ call. tt)
+goal_in_sound w c (CopyAcks touch frame) i = goal_at w c (CopyAcks touch frame) (To.Access touch) i (λ h. h) (λ call. tt)
+goal_in_sound w c (Install touch) i = goal_at w c (Install touch) (To.Access touch) i (λ h. h) (λ call. tt)
+goal_in_sound w c (Release touch) i = goal_at w c (Release touch) (To.Access touch) i (λ h. h) (λ call. tt)
 
 -- a call that may be given up has no reply yet
 pub opened : (phase : Phase) → can_give_up phase ≡ true → is_open phase ≡ true

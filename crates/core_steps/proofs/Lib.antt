@@ -5,6 +5,7 @@ pub mod Lost
 pub mod Opened
 pub mod Sounding
 pub mod Known
+pub mod Placing
 pub mod Changing
 pub mod Framing
 pub mod Calling

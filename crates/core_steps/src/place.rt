@@ -1,11 +1,11 @@
 //! How a mapping without `MAP_FIXED` finds its place: at its hint, else at one run of its window that it guesses to be free, else
 //! at the least room of its window. It holds one of the three at a time, and maps no page that it doesn't hold.
-ghost use Rattle.std.specs.Prelude.{◌≡◌, ◌+◌, ◌^◌, ◌<◌};
+ghost use Rattle.std.specs.Prelude.{◌≡◌, ◌+◌, ◌^◌, ◌<◌, ◌≤◌, IfSome};
 ghost use Rattle.vm_base.specs.Pages.{pages_from};
 ghost use Rattle.slot_lock.specs.declared.plan.Goal.TheVariants as GoalOf;
 ghost use Rattle.slot_lock.specs.declared.plan.Target.TheVariants.{Run};
 ghost use Rattle.slot_lock.specs.Plan.{IsSoundGoal, IsSoundPlace};
-ghost use Rattle.machine_model.specs.Placing.{GuessesThisRun, TakesWindow, back_to, elsewhere, has_run, placing, trying};
+ghost use Rattle.machine_model.specs.Placing.{GuessesThisRun, TakesWindow, back_to, elsewhere, guess_of, has_run, placing, trying};
 ghost use Rattle.machine_model.specs.Step.{Goes};
 ghost use Rattle.core_steps.specs.State.{phase_of, world};
 ghost use Rattle.core_steps.specs.Moving.{IsAt, IsOf, Tries, WantsMemory};
@@ -48,6 +48,18 @@ fn run_from(place: Place, first: u64) -> Target
         first,
         end: first + place.count,
     })
+}
+
+/// The run from this page on, if there is room from there, or else the window.
+fn guess_of(place: Place, found: Option<u64>) -> Target
+    requires sound { IsSoundPlace place }
+    requires room { IfSome found (λ first. first + place.count ≤ place.window.end) }
+    ensures { result ≡ guess_of place found }
+{
+    match found {
+        Some(first) => run_from(place, first),
+        None => Target::Window,
+    }
 }
 
 /// Tells whether the mapping's pages lie in its window, from the first on.
@@ -93,11 +105,8 @@ impl<M: SlotMap, H: Hardware, A: Allocator> Engine<M, H, A> {
         requires { IsAt (world M.slots self.old) core (Phase.Guess place) }
         ensures { Goes (world M.slots self.old) core (Phase.Guess place) result (world M.slots self.new) }
     {
-        let target = match self.map.first_free_run(place.window, place.count) {
-            Some(first) => run_from(place, first),
-            None => Target::Window,
-        };
-        self.go_to(core, trying(place, target));
+        let found = self.map.first_free_run(place.window, place.count);
+        self.go_to(core, trying(place, guess_of(place, found)));
         Outcome::Stepped
     }
 

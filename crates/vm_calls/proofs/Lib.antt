@@ -1,5 +1,5 @@
 mod Seeking
-mod Rooms
+pub mod Rooms
 mod Steps
 mod Absent
 pub mod Targets

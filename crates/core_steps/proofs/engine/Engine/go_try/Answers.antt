@@ -10,7 +10,8 @@ pub translate-requires-clause-page : goal.translate-requires-clause-page
 translate-requires-clause-page g c = valid_page c.args.touch.page (sound_at _ c.args.core (Try c.args.touch) (Touch c.args.touch) c.requires (λ h. h)).page
 
 pub locking-requires : goal.locking-requires
-locking-requires g c = sound_at _ c.args.core (Try c.args.touch) (Touch c.args.touch) c.requires (λ h. h)
+locking-requires g c =
+    record { plan = sound_at _ c.args.core (Try c.args.touch) (Touch c.args.touch) c.requires (λ h. h); target = tt }
 
 pub access-requires-clause-room : goal.access-requires-clause-room
 access-requires-clause-room g c = room_for _ c.args.core (Try c.args.touch) c.requires refl
