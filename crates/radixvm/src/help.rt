@@ -18,6 +18,9 @@ Input, a line of at most 256 bytes each; a line that begins with # says nothing:
   cC call REQ               core C begins a call
   cC go                     one step of core C's call
   cC frame F                core C's call, which wants a frame, takes frame F
+  cC guess ADDR             core C's call, which looks for a place, guesses that there
+                            is room from ADDR's page on
+  cC whole                  core C's call, which looks for a place, takes its window
   cC giveup                 core C's call is given up for want of memory
   cC take                   core C acts on its oldest message
   cC walk ADDR              core C's TLB gets ADDR's page from the core's tables
