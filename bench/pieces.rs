@@ -1,7 +1,7 @@
 //! Plain Rust programs that the parts are measured against: one page locked and unlocked among many slots; of a radix tree,
-//! a page looked up, a page changed, ranges looked through, and ranges changed; room found in a map of runs; translations that the TLB has, anywhere and
-//! at each of its ends, and ones that it fills; the table entries of a large range dropped; bytes of frames, filled frames
-//! and copied ones; and references counted, flushed and reviewed. Standard library alone.
+//! a page looked up, a page changed, ranges looked through, and ranges changed; room found in a map of runs; translations
+//! that the TLB has, anywhere and at each of its ends, and ones that it fills; the table entries of a large range dropped;
+//! bytes of frames, filled frames and copied ones; and references counted, flushed and reviewed. Standard library alone.
 //! Build: `rustc --edition 2021 -C opt-level=3 bench/pieces.rs`.
 use std::collections::{BTreeMap, VecDeque};
 use std::hint::black_box;
