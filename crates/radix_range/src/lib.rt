@@ -2,6 +2,7 @@
 #![tactic(auto)]
 
 pub mod change;
+pub mod full;
 pub mod radix_map;
 pub mod slot;
 pub mod walk;
