@@ -117,6 +117,42 @@ fn each_change_on_both_maps(rt: HostRuntime) -> Result<(), Fail> {
     Ok(())
 }
 
+// Maps a page.
+fn mapped_page<M: SlotMap>(map: &mut M, page: u64) -> Result<bool, NoMemory>
+    requires { IsPage page }
+{
+    acquired(map, CoreId::new(1), one_page(page), 5)?;
+    Ok(put(map, CoreId::new(1), one_page(page)))
+}
+
+// Where room is found round mapped pages: 16 and 17, then 20 too, then 16 and 20 alone.
+fn room_round<M: SlotMap>(map: &mut M) -> Result<[Option<u64>; 6], NoMemory> {
+    let round = PageRange { first: 15, end: 23 };
+    let right = PageRange { first: 17, end: 22 };
+    let is_put = mapped_page(map, 16)? && mapped_page(map, 17)?;
+    let before = map.first_free_run(round, 1);
+    let after = map.first_free_run(round, 5);
+    let is_put_beside = mapped_page(map, 20)? && is_put;
+    let between = map.first_free_run(right, 2);
+    let none = map.first_free_run(right, 3);
+    let is_cleared = clear(map, CoreId::new(1), one_page(17)) && is_put_beside;
+    let wider = map.first_free_run(round, 3);
+    let within = map.first_free_run(right, 1);
+    let found = [before, after, between, none, wider, within];
+    Ok(if is_cleared { found } else { [None; 6] })
+}
+
+#[test]
+fn room_is_found_round_mapped_pages(rt: HostRuntime) -> Result<(), Fail> {
+    let mut list = RunList::new(rt.alloc())?;
+    let mut tree = RadixMap::new(rt.alloc())?;
+    let room = [Some(15), Some(18), Some(18), None, Some(17), Some(17)];
+    let same = room;
+    assert!(rt; room_round(&mut list)? == room);
+    assert!(rt; room_round(&mut tree)? == same);
+    Ok(())
+}
+
 // Maps a page and gives it a frame.
 fn framed_page<M: SlotMap>(map: &mut M, page: u64, frame: u32) -> Result<bool, NoMemory>
     requires { IsPage page }
