@@ -10,7 +10,7 @@ use Rattle.vm_base.specs.Functions.{has}
 use Rattle.vm_base.specs.Info.{info_with_prot, info_without_frame}
 use Rattle.vm_base.specs.Pages.{IsPage}
 use Rattle.vm_base.proofs.Functions.{by_test, in_has}
-use Rattle.slot_lock.specs.Slots.{Slots, AllMapped, Divides, IsFreeRun, Joins, between, cleared, mapped, protected, with_info}
+use Rattle.slot_lock.specs.Slots.{Slots, Divides, IsFreeRun, Joins, between, cleared, mapped, protected, with_info}
 use Rattle.slot_lock.proofs.Adding.{no_some}
 use Rattle.radix_node.specs.Node.{Parts}
 use Rattle.radix_range.specs.Tree.{tree_slots}
@@ -84,7 +84,8 @@ all_cleared s range full less a of = record {
 -- ---- room where such pages, from first up to end, lie in a range
 
 -- a free run of the range lies before them or after them
-pub on_a_side : (s : Slots) (full : PageRange) (first end n r : ℕ) → IsFull s full → full.first ≤ first → end ≤ full.end → 1 ≤ n → first < end
+pub on_a_side : (s : Slots) (full : PageRange) (first end n r : ℕ) → IsFull s full → full.first ≤ first
+    → end ≤ full.end → 1 ≤ n → first < end
     → ((p : ℕ) → r ≤ p → p < r + n → s.info p ≡ None) → (r + n ≤ first) ⊎ (end ≤ r)
 on_a_side s full first end n r a low high some order free = ⊎_elim
     (λ (x : r < end). ⊎_elim
@@ -100,7 +101,8 @@ on_a_side s full first end n r a low high some order free = ⊎_elim
     both : (p : ℕ) → first ≤ p → p < end → r ≤ p → p < r + n → ⊥
     both p u v w x = no_some (s.info p) (a.mapped p (in_has full p (omega arith) (omega arith))) (free p w x)
 
-pub in_front : (s : Slots) (range : PageRange) (first n r : ℕ) → IsFreeRun s range n r → r + n ≤ first → IsFreeRun s (between range.first first) n r
+pub in_front : (s : Slots) (range : PageRange) (first n r : ℕ) → IsFreeRun s range n r → r + n ≤ first
+    → IsFreeRun s (between range.first first) n r
 in_front s range first n r f h = record { low = f.low; high = h; free = f.free }
 
 pub in_rest : (s : Slots) (range : PageRange) (end n r : ℕ) → IsFreeRun s range n r → end ≤ r → IsFreeRun s (between end range.end) n r

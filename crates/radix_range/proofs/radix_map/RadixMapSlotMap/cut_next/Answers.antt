@@ -45,8 +45,12 @@ returns-then-slot_at-range-2-clause-exact g c =
     at_end in_512 _ _ c.args.range (ap (tree_slots c.args.self.now.root).edge (sym first) ∙ c.slot_at.ensures.slot.begins) c.in_ok-expand-2.ensures.exact
 
 pub invariant_of-self-clause-all_full : goal.invariant_of-self-clause-all_full
-invariant_of-self-clause-all_full g c = expanded c.expand.result c.args.self.now.root c.expand.new.root _ c.args.self.now.full c.expand.ensures.ok c.expand.ensures.err c.args.self.now.all_full
+invariant_of-self-clause-all_full g c =
+    expanded c.expand.result c.args.self.now.root c.expand.new.root _ c.args.self.now.full c.expand.ensures.ok
+    c.expand.ensures.err c.args.self.now.all_full
 
 pub invariant_of-self-then-slot_at-range-2-clause-all_full : goal.invariant_of-self-then-slot_at-range-2-clause-all_full
-invariant_of-self-then-slot_at-range-2-clause-all_full g c = expanded c.expand-then-slot_at-range-2.result c.args.self.now.root c.expand-then-slot_at-range-2.new.root _ c.args.self.now.full
-    c.expand-then-slot_at-range-2.ensures.ok c.expand-then-slot_at-range-2.ensures.err c.args.self.now.all_full
+invariant_of-self-then-slot_at-range-2-clause-all_full g c =
+    expanded c.expand-then-slot_at-range-2.result c.args.self.now.root c.expand-then-slot_at-range-2.new.root _
+    c.args.self.now.full c.expand-then-slot_at-range-2.ensures.ok c.expand-then-slot_at-range-2.ensures.err
+    c.args.self.now.all_full

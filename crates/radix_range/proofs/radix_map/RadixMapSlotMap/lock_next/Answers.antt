@@ -50,19 +50,27 @@ returns-in_ok-expand-in-Beyond-clause-step g c =
 pub invariant_of-self : goal.invariant_of-self
 invariant_of-self g c = record {
   ok = c.lock.ensures.tree;
-  all_full = same_slots (tree_slots c.args.self.now.root) (tree_slots c.lock.new.root) c.args.self.now.full c.args.self.now.all_full c.in-Held.ensures.tries.1;
+  all_full = same_slots (tree_slots c.args.self.now.root) (tree_slots c.lock.new.root) c.args.self.now.full
+      c.args.self.now.all_full c.in-Held.ensures.tries.1;
 }
 
 pub invariant_of-self-in-Before-clause-all_full : goal.invariant_of-self-in-Before-clause-all_full
-invariant_of-self-in-Before-clause-all_full g c = expanded c.expand.result c.lock.new.root c.expand.new.root _ c.args.self.now.full c.expand.ensures.ok c.expand.ensures.err
-    (same_slots (tree_slots c.args.self.now.root) (tree_slots c.lock.new.root) c.args.self.now.full c.args.self.now.all_full c.in-Before.ensures.tries.2)
+invariant_of-self-in-Before-clause-all_full g c =
+    expanded c.expand.result c.lock.new.root c.expand.new.root _ c.args.self.now.full c.expand.ensures.ok
+    c.expand.ensures.err
+    (same_slots (tree_slots c.args.self.now.root) (tree_slots c.lock.new.root) c.args.self.now.full
+    c.args.self.now.all_full c.in-Before.ensures.tries.2)
 
 pub invariant_of-self-in-Beyond-clause-all_full : goal.invariant_of-self-in-Beyond-clause-all_full
-invariant_of-self-in-Beyond-clause-all_full g c = expanded c.expand-in-Beyond.result c.lock.new.root c.expand-in-Beyond.new.root _ c.args.self.now.full c.expand-in-Beyond.ensures.ok c.expand-in-Beyond.ensures.err
-    (same_slots (tree_slots c.args.self.now.root) (tree_slots c.lock.new.root) c.args.self.now.full c.args.self.now.all_full c.in-Beyond.ensures.tries.1)
+invariant_of-self-in-Beyond-clause-all_full g c =
+    expanded c.expand-in-Beyond.result c.lock.new.root c.expand-in-Beyond.new.root _ c.args.self.now.full
+    c.expand-in-Beyond.ensures.ok c.expand-in-Beyond.ensures.err
+    (same_slots (tree_slots c.args.self.now.root) (tree_slots c.lock.new.root) c.args.self.now.full
+    c.args.self.now.all_full c.in-Beyond.ensures.tries.1)
 
 pub invariant_of-self-in-Locked-1 : goal.invariant_of-self-in-Locked-1
 invariant_of-self-in-Locked-1 g c = record {
   ok = c.lock.ensures.tree;
-  all_full = same_info (tree_slots c.args.self.now.root) (tree_slots c.lock.new.root) c.args.self.now.full c.args.self.now.all_full (ap (λ (s : Slots). s.info) c.in-Locked.ensures.tries.now);
+  all_full = same_info (tree_slots c.args.self.now.root) (tree_slots c.lock.new.root) c.args.self.now.full
+      c.args.self.now.all_full (ap (λ (s : Slots). s.info) c.in-Locked.ensures.tries.now);
 }

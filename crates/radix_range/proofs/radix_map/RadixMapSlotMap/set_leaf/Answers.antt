@@ -1,6 +1,5 @@
 use Rattle.radix_range.specs.Tree.{tree_slots}
 use Rattle.std.proofs.Common.{Some, refl}
-use Rattle.radix_range.specs.Mapped.{IsFull}
 use Rattle.radix_range.proofs.Mapped.{one_info}
 use Rattle.radix_range.proofs.radix_map.RadixMapSlotMap.set_leaf.Goals as goal
 

@@ -24,5 +24,6 @@ returns g c =
     }
 
 pub invariant_of-self-clause-all_full : goal.invariant_of-self-clause-all_full
-invariant_of-self-clause-all_full g c = same_info (tree_slots c.args.self.now.root) (tree_slots c.set_owner.new.root) c.args.self.now.full c.args.self.now.all_full
+invariant_of-self-clause-all_full g c =
+    same_info (tree_slots c.args.self.now.root) (tree_slots c.set_owner.new.root) c.args.self.now.full c.args.self.now.all_full
     (ap (λ (s : Slots). s.info) c.set_owner.ensures.slots)
