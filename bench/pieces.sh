@@ -2,8 +2,8 @@
 # Measures the parts against the plain Rust programs of bench/pieces.rs: three runs of each, alternating, in nanoseconds a
 # round. Each ratio is that of the sums. Usage: bench/pieces.sh [WORD]..
 #   slots, look, tree, scan, edit         a list of slots; the radix tree: a look-up, a change, ranges looked through and changed
-#   room, gaps                           room found after 100,000 pages of one mapping, and after as many with one free page between two,
-#                                        beside a map of runs
+#   room, gaps                            room found after 100,000 pages of one mapping, and after as many with one free page between
+#                                         two, beside a map of runs
 #   hit, oldest, newest, miss, clear      TLB hits anywhere and at its ends, misses that fill it, and table entries dropped
 #   byte, fill, copy                      frames: a byte set and one read, a frame filled, a frame copied
 #   count, flush                          Refcache: an object counted up and down; that, a flush and a review
