@@ -24,7 +24,7 @@ back_twice Anon m n = refl
 back_twice (Shared f k) m n = ap (Shared f) (omega arith)
 back_twice (Private f k) m n = ap (Private f) (omega arith)
 
-twice : (meta : Meta) (m n : ℕ) → advance (advance meta m) n ≡ advance meta (m + n)
+pub twice : (meta : Meta) (m n : ℕ) → advance (advance meta m) n ≡ advance meta (m + n)
 twice meta m n = ap (λ (b : Back). record { back = b; prot = meta.prot }) (back_twice meta.back m n)
 
 meta_from : (o : Option PageInfo) (n : ℕ) (meta : Meta) → info_meta o ≡ Some meta → info_meta (info_from o n) ≡ Some (advance meta n)

@@ -2,6 +2,7 @@
 //! same and the backing goes on, whatever slots they stand in. Nothing of the slots is changed, and only the list takes memory.
 #![tactic(auto)]
 
+pub mod laws;
 pub mod lines;
 
 pub use lines::{MapLine, all_lines, next_line};
