@@ -17,7 +17,7 @@ use Rattle.machine_model.specs.declared.event.Event.TheVariants.{Go}
 use Rattle.machine_model.specs.declared.event.Outcome.{Outcome}
 use Rattle.machine_model.specs.declared.event.Outcome.TheVariants.{Stepped, Wait, Answered}
 use Rattle.machine_model.specs.declared.phase.Phase.{Phase}
-use Rattle.machine_model.specs.declared.phase.Phase.TheVariants.{Free, Check, Lock, Decide, Post, Acks, Unlock, Answer, Try, Settle, Want, Fill, CopyPost, CopyAcks, Install, Release}
+use Rattle.machine_model.specs.declared.phase.Phase.TheVariants.{Free, Check, Lock, Guess, Find, Back as Leaving, Cut, Decide, Post, Acks, Unlock, Answer, Try, Settle, Want, Fill, CopyPost, CopyAcks, Install, Release}
 use Rattle.machine_model.specs.Accesses.{NoneFree}
 use Rattle.machine_model.specs.Actions.{let_go, to}
 use Rattle.machine_model.specs.Changes.{Awaits, AwaitsNobody}
@@ -28,7 +28,7 @@ use Rattle.machine_model.specs.Step.{with_event, event_limit, Step, StepsTo}
 use Rattle.machine_laws.proofs.Deciding.{change_sound, sound_range}
 use Rattle.machine_laws.proofs.Effects.{status}
 use Rattle.machine_laws.proofs.Moves.{IsCallOf, call_at}
-use Rattle.machine_laws.proofs.Shapes.{Moves, locks, tries, acts, finds, lacks, shows, Replies, refuses, no_place, declines, fails, no_frame, LetsGo, unlocks, releases, GoesBy, moves, divides, owns, lets_go, answers, posts, commits, takes, zeroes, first_copies, caches, shares, posts_copy, copies, installs, accesses, faults, comes}
+use Rattle.machine_laws.proofs.Shapes.{Moves, locks, tries, hints, seeks, guesses, turns, chooses, acts, finds, lacks, shows, Replies, refuses, no_place, declines, fails, no_frame, LetsGo, unlocks, returns, releases, GoesBy, moves, divides, cuts, fits, owns, lets_go, answers, posts, commits, takes, zeroes, first_copies, caches, shares, posts_copy, copies, installs, accesses, faults, comes}
 use Rattle.machine_sound.specs.Log.{Stands}
 use Rattle.machine_sound.specs.Invariant.{Fine}
 use Rattle.machine_sound.proofs.Kept.{reached_fine, reached_step}
@@ -105,7 +105,7 @@ past_next free w c v sure k (owns goal cursor b t e l h) = absurd (past_at c w (
 past_next free w c v sure k (lets_go held b t new l u h) = lets_go_past free w (record w { slots = t }) c held b new v sure l refl h
 past_next free w c v sure k (answers held reply r h) = absurd (not_replying w c held reply k r)
 past_next free w c v sure k (posts change shoot e h) = absurd (past_at c w (Post change shoot) e k)
-past_next free w c v sure k (commits change held counts e n l h) = absurd (past_at c w (Acks change held) e k)
+past_next free w c v sure k (commits goal change counts e n l h) = absurd (past_at c w (Acks change held) e k)
 past_next free w c v sure k (takes touch old x e l h) = absurd (past_at c w (Want touch old) e k)
 past_next free w c v sure k (zeroes touch x counts e b t h) = absurd (past_at c w (Fill touch (Some x)) e k)
 past_next free w c v sure k (first_copies touch x counts e b t h) = absurd (past_at c w (Fill touch (Some x)) e k)
@@ -152,7 +152,7 @@ wait_ends w c v range a (owns goal cursor b t e l h) = absurd (other_phase w c (
 wait_ends w c v range a (lets_go held b t new l u h) = absurd (no_letting w c held b new range a l)
 wait_ends w c v range a (answers held reply r h) = absurd (no_replies w c held reply range a r)
 wait_ends w c v range a (posts change shoot e h) = absurd (other_phase w c (Post change shoot) range e a refl)
-wait_ends w c v range a (commits change held counts e n l h) = (n, past_to c (Unlock held _) _ v h tt)
+wait_ends w c v range a (commits goal change counts e n l h) = (n, past_to c (Unlock held _) _ v h tt)
 wait_ends w c v range a (takes touch old x e l h) = absurd (other_phase w c (Want touch old) range e a refl)
 wait_ends w c v range a (zeroes touch x counts e b t h) = absurd (other_phase w c (Fill touch (Some x)) range e a refl)
 wait_ends w c v range a (first_copies touch x counts e b t h) = absurd (other_phase w c (Fill touch (Some x)) range e a refl)

@@ -8,19 +8,19 @@ use Rattle.vm_base.specs.Apply.{detached}
 use Rattle.vm_base.specs.Plain.{Plain}
 use Rattle.vm_base.proofs.Functions.{put_same}
 use Rattle.slot_lock.specs.declared.plan.Touch.{Touch}
+use Rattle.slot_lock.specs.Plan.{goal_range}
 use Rattle.machine_model.specs.declared.log.Entry.{Entry}
 use Rattle.machine_model.specs.declared.log.Entry.TheVariants as EntryOf
-use Rattle.machine_model.specs.declared.phase.Goal.{Goal}
-use Rattle.machine_model.specs.declared.phase.Goal.TheVariants as To
+use Rattle.slot_lock.specs.declared.plan.Goal.{Goal}
+use Rattle.slot_lock.specs.declared.plan.Goal.TheVariants as To
 use Rattle.machine_model.specs.declared.phase.Phase.{Phase}
 use Rattle.machine_model.specs.declared.phase.Phase.TheVariants.{Lock, Post, Acks, Try, Want, Fill, CopyPost, CopyAcks, Install, Release}
 use Rattle.machine_model.specs.Accesses.{taken_for}
 use Rattle.machine_model.specs.Actions.{to, let_go, with_entry, answer_entry}
-use Rattle.machine_model.specs.Holding.{goal_range}
 use Rattle.machine_model.specs.Locks.{all_locked, held_after, locked_to}
 use Rattle.machine_model.specs.World.{World}
 use Rattle.machine_laws.proofs.Effects.{Status, Closed, Asked, Told, status, told_in}
-use Rattle.machine_laws.proofs.Shapes.{Moves, locks, tries, acts, finds, lacks, shows, Replies, refuses, no_place, declines, fails, no_frame, LetsGo, unlocks, releases, GoesBy, moves, divides, owns, lets_go, answers, posts, commits, takes, zeroes, first_copies, caches, shares, posts_copy, copies, installs, accesses, faults}
+use Rattle.machine_laws.proofs.Shapes.{Moves, locks, tries, hints, seeks, guesses, turns, chooses, acts, finds, lacks, shows, Replies, refuses, no_place, declines, fails, no_frame, LetsGo, unlocks, returns, releases, GoesBy, moves, divides, cuts, fits, owns, lets_go, answers, posts, commits, takes, zeroes, first_copies, caches, shares, posts_copy, copies, installs, accesses, faults}
 use Rattle.machine_sound.specs.Log.{GoesOn, Replays}
 use Rattle.machine_sound.proofs.OneMap.{log_leads_to_one}
 use Rattle.machine_alone.specs.Alone.{IsCopied, IsNoted}
@@ -136,7 +136,7 @@ logged_on first t users c request copy w v u k (answers held reply r h) =
     (w.calls.log, subst (IsLogged first w.calls.log (w.calls.number c) c copy) (replies_asked w c held reply r) k, (w.calls.events, refl))
 logged_on first t users c request copy w v u k (posts change shoot e h) =
     to_asked first (w.calls.number c) copy c _ _ v h refl (was_asked first (w.calls.number c) copy c (Post change shoot) w e refl k)
-logged_on first t users c request copy w v u k (commits change held counts e n l h) =
+logged_on first t users c request copy w v u k (commits goal change counts e n l h) =
     to_told first (w.calls.number c) copy c _ _ _ v h refl
     (w.calls.log, was_asked first (w.calls.number c) copy c (Acks change held) w e refl k, (w.calls.events, refl))
 logged_on first t users c request copy w v u k (takes touch old x e l h) =

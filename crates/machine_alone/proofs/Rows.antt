@@ -21,17 +21,17 @@ use Rattle.vm_base.specs.Functions.{put}
 use Rattle.vm_base.specs.Plain.{File, mode_of}
 use Rattle.vm_base.proofs.Functions.{put_same}
 use Rattle.slot_lock.specs.declared.plan.Touch.{Touch}
-use Rattle.slot_lock.specs.Plan.{range_of}
+use Rattle.slot_lock.specs.Plan.{range_of, goal_range}
 use Rattle.slot_lock.specs.Slots.{Slots}
 use Rattle.vm_calls.specs.Settling.{is_private_store}
 use Rattle.vm_calls.specs.declared.fault.Settled.{Settled}
 use Rattle.vm_calls.specs.declared.fault.Settled.TheVariants.{MapErr, AccErr, Bus, Has, Copies, Cached, Wants}
 use Rattle.machine_model.specs.declared.event.Event.TheVariants.{Go}
 use Rattle.machine_model.specs.declared.log.Entry.TheVariants as EntryOf
-use Rattle.machine_model.specs.declared.phase.Goal.{Goal}
-use Rattle.machine_model.specs.declared.phase.Goal.TheVariants as To
+use Rattle.slot_lock.specs.declared.plan.Goal.{Goal}
+use Rattle.slot_lock.specs.declared.plan.Goal.TheVariants as To
 use Rattle.machine_model.specs.declared.phase.Phase.{Phase}
-use Rattle.machine_model.specs.declared.phase.Phase.TheVariants.{Check, Lock, Decide, Post, Acks, Unlock, Answer, Try, Settle, Want, Fill, CopyPost, CopyAcks, Install, Release}
+use Rattle.machine_model.specs.declared.phase.Phase.TheVariants.{Check, Lock, Guess, Find, Back as Leaving, Cut, Decide, Post, Acks, Unlock, Answer, Try, Settle, Want, Fill, CopyPost, CopyAcks, Install, Release}
 use Rattle.machine_model.specs.Accesses.{NoneFree, info_with_core, found_at, after_frame, after_install, reply_of, memory_after}
 use Rattle.machine_model.specs.Files.{is_private, prot_installed, prot_shown, shows_some}
 use Rattle.machine_model.specs.Filling.{after_zeros, after_first_copy, after_caching, after_sharing, after_copy_post, after_copy}
@@ -39,14 +39,13 @@ use Rattle.machine_model.specs.Actions.{to, let_go, after_reply, with_entry, det
 use Rattle.machine_model.specs.Changes.{slots_after, after_post, reply_to}
 use Rattle.machine_model.specs.Counting.{with_counts}
 use Rattle.machine_model.specs.Translating.{frame_reached, after_translating, entry_for, entry_of_page}
-use Rattle.machine_model.specs.Holding.{goal_range}
 use Rattle.machine_model.specs.Locks.{locking, all_locked, locked_to, held_after}
 use Rattle.machine_model.specs.World.{World, Hardware, Memory}
 use Rattle.machine_coherence.specs.Coherent.{IsBacked, IsSoundEntry}
 use Rattle.machine_laws.specs.Orderly.{IsUsable}
 use Rattle.machine_laws.proofs.Deciding.{change_sound, sound_range}
 use Rattle.machine_laws.proofs.Moves.{IsCallOf, call_at}
-use Rattle.machine_laws.proofs.Shapes.{IsFault, Moves, locks, tries, acts, finds, lacks, shows, Replies, refuses, no_place, declines, fails, no_frame, LetsGo, unlocks, releases, GoesBy, moves, divides, owns, lets_go, answers, posts, commits, takes, zeroes, first_copies, caches, shares, posts_copy, copies, installs, accesses, faults}
+use Rattle.machine_laws.proofs.Shapes.{IsFault, Moves, locks, tries, hints, seeks, guesses, turns, chooses, acts, finds, lacks, shows, Replies, refuses, no_place, declines, fails, no_frame, LetsGo, unlocks, returns, releases, GoesBy, moves, divides, cuts, fits, owns, lets_go, answers, posts, commits, takes, zeroes, first_copies, caches, shares, posts_copy, copies, installs, accesses, faults}
 use Rattle.machine_sound.specs.Sound.{IsDue}
 use Rattle.machine_sound.specs.Invariant.{Fine}
 use Rattle.machine_sound.proofs.Reaching.{at_page}
@@ -329,7 +328,7 @@ goes_near first w c v f after sure own (answers held reply r h) = replies_near f
 goes_near first w c v f after sure own (posts change shoot e h) =
     nears first w c (Post change shoot) (Acks change (range_of change)) w.slots (after_post c change shoot w).hardware w.memory v e (rw h refl)
     (omega arith) (sure_at first w c (Post change shoot) e sure)
-goes_near first w c v f after sure own (commits change held counts e n l h) =
+goes_near first w c v f after sure own (commits goal change counts e n l h) =
     tells_near first w c (Acks change held) (Some held) (reply_to change) (slots_after change w.slots) w.hardware (with_counts counts w).memory v e h
     (omega arith) (due_reply first (reply_to change) (reply_is change))
 goes_near first w c v f after sure own (takes touch old x e l h) = takes_near first w c touch old x v e (sure_at first w c (Want touch old) e sure) l h

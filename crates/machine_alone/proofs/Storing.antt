@@ -15,20 +15,21 @@ use Rattle.slot_lock.specs.declared.plan.Touch.{Touch}
 use Rattle.vm_calls.specs.declared.fault.Settled.{Settled}
 use Rattle.vm_calls.specs.declared.fault.Settled.TheVariants.{MapErr, AccErr, Bus, Has, Copies, Cached, Wants}
 use Rattle.vm_calls.specs.Settling.{is_private_store, settled, source}
+use Rattle.slot_lock.specs.Plan.{goal_range}
 use Rattle.machine_model.specs.declared.event.Outcome.TheVariants.{Stepped}
-use Rattle.machine_model.specs.declared.phase.Goal.{Goal}
-use Rattle.machine_model.specs.declared.phase.Goal.TheVariants as To
+use Rattle.slot_lock.specs.declared.plan.Goal.{Goal}
+use Rattle.slot_lock.specs.declared.plan.Goal.TheVariants as To
 use Rattle.machine_model.specs.declared.phase.Phase.{Phase}
 use Rattle.machine_model.specs.declared.phase.Phase.TheVariants.{Lock, Unlock, CopyAcks, Install}
 use Rattle.machine_model.specs.Accesses.{after_finding, found_at, is_past_end, taken_for}
 use Rattle.machine_model.specs.Actions.{to, let_go}
 use Rattle.machine_model.specs.Files.{back_of, file_frame, shows_some}
 use Rattle.machine_model.specs.Filling.{info_copied}
-use Rattle.machine_model.specs.Holding.{goal_range, taken_in}
+use Rattle.machine_model.specs.Holding.{taken_in}
 use Rattle.machine_model.specs.Locks.{all_locked, held_after, locked_to}
 use Rattle.machine_model.specs.World.{World}
 use Rattle.machine_model.specs.Step.{Goes}
-use Rattle.machine_laws.proofs.Shapes.{Moves, locks, tries, acts, finds, lacks, shows, LetsGo, unlocks, releases, GoesBy, moves, divides, owns, lets_go, answers, posts, commits, takes, zeroes, first_copies, caches, shares, posts_copy, copies, installs, accesses, faults}
+use Rattle.machine_laws.proofs.Shapes.{Moves, locks, tries, hints, seeks, guesses, turns, chooses, acts, finds, lacks, shows, LetsGo, unlocks, returns, releases, GoesBy, moves, divides, cuts, fits, owns, lets_go, answers, posts, commits, takes, zeroes, first_copies, caches, shares, posts_copy, copies, installs, accesses, faults}
 use Rattle.machine_sound.specs.Invariant.{Fine}
 use Rattle.machine_sound.proofs.Fills.{uncached, unshown}
 
@@ -165,7 +166,7 @@ storable_on w c v f g (owns goal cursor b t e l h) = storable_to c (locked_to go
 storable_on w c v f g (lets_go held b t new l u h) = storable_to c new _ v h (lets_go_storable w.memory.cached t.info (w.calls.phase c) held b new l)
 storable_on w c v f g (answers held reply r h) = storable_to c (let_go held reply) _ v h (gone_storable w.memory.cached w.slots.info held reply)
 storable_on w c v f g (posts change shoot e h) = storable_to c _ _ v h tt
-storable_on w c v f g (commits change held counts e n l h) = storable_to c (Unlock held _) _ v h tt
+storable_on w c v f g (commits goal change counts e n l h) = storable_to c (Unlock held _) _ v h tt
 storable_on w c v f g (takes touch old x e l h) = storable_to c (taken_for touch old x) _ v h (taken_storable w.memory.cached w.slots.info touch old x)
 storable_on w c v f g (zeroes touch x counts e b t h) =
     storable_page c touch w.slots.info (info_with_frame x (w.slots.info touch.page)) _ v h (put_same w.slots.info touch.page _)

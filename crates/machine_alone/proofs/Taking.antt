@@ -25,7 +25,7 @@ use Rattle.machine_model.specs.World.{World}
 use Rattle.machine_laws.specs.Brackets.{nth}
 use Rattle.machine_laws.specs.Orderly.{Serves}
 use Rattle.machine_laws.proofs.Moves.{IsCallOf, call_at}
-use Rattle.machine_laws.proofs.Shapes.{GoesBy, moves, divides, owns, lets_go, answers, posts, commits, takes, zeroes, first_copies, caches, shares, posts_copy, copies, installs, accesses, faults}
+use Rattle.machine_laws.proofs.Shapes.{GoesBy, moves, divides, cuts, fits, owns, lets_go, answers, posts, commits, takes, zeroes, first_copies, caches, shares, posts_copy, copies, installs, accesses, faults}
 use Rattle.machine_sound.specs.Invariant.{Fine}
 use Rattle.machine_alone.specs.Taken.{one_if_taken, taken_below, frames_for, is_access}
 use Rattle.machine_alone.proofs.Rows.{HasTaken, IsSureOf, sure_at}
@@ -156,7 +156,7 @@ taken_on first c request w v f number sure k (owns goal cursor b t e l h) = free
 taken_on first c request w v f number sure k (lets_go held b t new l u h) = free_same first request v _ (ap (λ (v : World). v.memory.is_free) h) k
 taken_on first c request w v f number sure k (answers held reply r h) = free_same first request v _ (ap (λ (v : World). v.memory.is_free) h) k
 taken_on first c request w v f number sure k (posts change shoot e h) = free_same first request v _ (ap (λ (v : World). v.memory.is_free) h) k
-taken_on first c request w v f number sure k (commits change held counts e n l h) = free_same first request v _ (ap (λ (v : World). v.memory.is_free) h) k
+taken_on first c request w v f number sure k (commits goal change counts e n l h) = free_same first request v _ (ap (λ (v : World). v.memory.is_free) h) k
 taken_on first c request w v f number sure k (takes touch old x e l h) =
     let call : IsCallOf w c (Want touch old) = call_at w c (Want touch old) e f.order in
     let same : w.memory.is_free ≡ first = sure_at first w c (Want touch old) e sure in

@@ -15,7 +15,7 @@ use Rattle.slot_lock.specs.declared.plan.Change.{Change}
 use Rattle.slot_lock.specs.declared.plan.Change.TheVariants.{Put, Clear, Protect}
 use Rattle.slot_lock.specs.declared.plan.Plan.TheVariants as PlanOf
 use Rattle.slot_lock.specs.declared.plan.Touch.{Touch}
-use Rattle.slot_lock.specs.Plan.{range_of}
+use Rattle.slot_lock.specs.Plan.{range_of, goal_range}
 use Rattle.slot_lock.specs.Slots.{Slots, IsUser}
 use Rattle.vm_calls.specs.declared.decision.Decision.TheVariants.{Act}
 use Rattle.vm_calls.specs.Decisions.{Decides}
@@ -24,20 +24,20 @@ use Rattle.shootdown.specs.declared.message.Message.{Message}
 use Rattle.shootdown.specs.Inboxes.{awaited}
 use Rattle.shootdown.specs.Messages.{message_of, posted}
 use Rattle.machine_model.specs.declared.phase.Phase.{Phase}
-use Rattle.machine_model.specs.declared.phase.Phase.TheVariants.{Free, Check, Lock, Decide, Post, Acks, Unlock, Answer, Try, Settle, Want, Fill, CopyPost, CopyAcks, Install, Release}
-use Rattle.machine_model.specs.declared.phase.Goal.{Goal}
-use Rattle.machine_model.specs.declared.phase.Goal.TheVariants as To
+use Rattle.machine_model.specs.declared.phase.Phase.TheVariants.{Free, Check, Lock, Guess, Find, Back as Leaving, Cut, Decide, Post, Acks, Unlock, Answer, Try, Settle, Want, Fill, CopyPost, CopyAcks, Install, Release}
+use Rattle.slot_lock.specs.declared.plan.Goal.{Goal}
+use Rattle.slot_lock.specs.declared.plan.Goal.TheVariants as To
 use Rattle.machine_model.specs.Accesses.{taken_for, after_frame, after_install, reply_of, memory_after}
 use Rattle.machine_model.specs.Actions.{to, let_go, after_reply, with_entry, detach_entry}
 use Rattle.machine_model.specs.Filling.{cores_of, after_zeros, after_first_copy, after_caching, after_sharing, after_copy}
 use Rattle.machine_model.specs.Changes.{slots_after, reply_to}
 use Rattle.machine_model.specs.Counting.{with_counts}
-use Rattle.machine_model.specs.Holding.{awaits_in, goal_range, page_of_touch}
+use Rattle.machine_model.specs.Holding.{awaits_in, page_of_touch}
 use Rattle.machine_model.specs.Locks.{locking, locked_to, all_locked, held_after}
 use Rattle.machine_model.specs.Translating.{inboxes_after, after_shot, after_translating, with_hardware}
 use Rattle.machine_model.specs.World.{World, Hardware}
 use Rattle.machine_laws.proofs.Moves.{IsCallOf, call_at, page_is}
-use Rattle.machine_laws.proofs.Shapes.{Moves, locks, tries, acts as decides, finds, lacks, shows, LetsGo, unlocks, releases, GoesBy, moves, divides, owns, lets_go, answers, posts, commits, takes, zeroes, first_copies, caches, shares, posts_copy, copies, installs, accesses, faults}
+use Rattle.machine_laws.proofs.Shapes.{Moves, locks, tries, hints, seeks, guesses, turns, chooses, acts as decides, finds, lacks, shows, LetsGo, unlocks, returns, releases, GoesBy, moves, divides, cuts, fits, owns, lets_go, answers, posts, commits, takes, zeroes, first_copies, caches, shares, posts_copy, copies, installs, accesses, faults}
 use Rattle.machine_coherence.specs.Coherent.{AreAsked}
 use Rattle.machine_sound.specs.Invariant.{Fine}
 use Rattle.machine_alone.specs.Alone.{takes_left}
@@ -260,7 +260,7 @@ told_on w c v f others (posts change shoot e h) =
     let k : IsCallOf w c (Post change shoot) = call_at w c (Post change shoot) e f.order in
     posted_told w c (Acks change (range_of change)) shoot (range_of change) v f others h (ap awaits_in e) refl
     (acts_users w.made.file w.slots change (range_of change) shoot k.ready)
-told_on w c v f others (commits change held total e n l h) = replied_untold c (Some held) (reply_to change)
+told_on w c v f others (commits goal change total e n l h) = replied_untold c (Some held) (reply_to change)
     (with_counts total (record w { slots = slots_after change w.slots })) v h
 told_on w c v f others (takes touch old x e l h) =
     to_untold c (taken_for touch old x) (record w { memory = (after_frame c touch old x w).memory }) v h (taken_untold touch old x)

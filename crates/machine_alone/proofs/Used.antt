@@ -18,21 +18,21 @@ use Rattle.mmu.specs.Tlb.{tlb_at}
 use Rattle.slot_lock.specs.declared.plan.Change.{Change}
 use Rattle.slot_lock.specs.declared.plan.Plan.TheVariants as PlanOf
 use Rattle.slot_lock.specs.declared.plan.Touch.{Touch}
-use Rattle.slot_lock.specs.Plan.{range_of}
+use Rattle.slot_lock.specs.Plan.{range_of, goal_range}
 use Rattle.slot_lock.specs.Slots.{Slots, with_info}
 use Rattle.vm_calls.specs.declared.fault.Settled.{Settled}
 use Rattle.vm_calls.specs.declared.fault.Settled.TheVariants.{MapErr, AccErr, Bus, Has, Copies, Cached, Wants}
-use Rattle.machine_model.specs.declared.phase.Goal.{Goal}
-use Rattle.machine_model.specs.declared.phase.Goal.TheVariants as To
+use Rattle.slot_lock.specs.declared.plan.Goal.{Goal}
+use Rattle.slot_lock.specs.declared.plan.Goal.TheVariants as To
 use Rattle.machine_model.specs.declared.phase.Phase.{Phase}
-use Rattle.machine_model.specs.declared.phase.Phase.TheVariants.{Check, Lock, Decide, Post, Acks, Unlock, Answer, Try, Settle, Want, Fill, CopyPost, CopyAcks, Install, Release}
+use Rattle.machine_model.specs.declared.phase.Phase.TheVariants.{Check, Lock, Guess, Find, Back as Leaving, Cut, Decide, Post, Acks, Unlock, Answer, Try, Settle, Want, Fill, CopyPost, CopyAcks, Install, Release}
 use Rattle.machine_model.specs.Accesses.{found_at, taken_for, after_frame, after_install, reply_of, memory_after}
 use Rattle.machine_model.specs.Actions.{to, let_go, after_reply, with_entry, detach_entry}
 use Rattle.machine_model.specs.Files.{back_of, is_private, shows_file}
 use Rattle.machine_model.specs.Filling.{after_zeros, after_first_copy, after_caching, after_sharing, after_copy_post, after_copy, info_copied}
 use Rattle.machine_model.specs.Changes.{AwaitsNobody, slots_after, after_post, reply_to}
 use Rattle.machine_model.specs.Counting.{with_counts}
-use Rattle.machine_model.specs.Holding.{goal_range, page_of_touch}
+use Rattle.machine_model.specs.Holding.{page_of_touch}
 use Rattle.machine_model.specs.Locks.{locking, all_locked, locked_to, held_after}
 use Rattle.machine_model.specs.Translating.{frame_reached, translated_by, after_translating, with_hardware}
 use Rattle.machine_model.specs.World.{World, Hardware}
@@ -40,7 +40,7 @@ use Rattle.machine_coherence.specs.Coherent.{IsCoherent, IsSoundEntry}
 use Rattle.machine_laws.specs.Brackets.{nth}
 use Rattle.machine_laws.specs.Orderly.{IsUsable, Serves}
 use Rattle.machine_laws.proofs.Moves.{IsCallOf, call_at}
-use Rattle.machine_laws.proofs.Shapes.{IsFault, Moves, locks, tries, acts, finds, lacks, shows, Replies, refuses, no_place, declines, fails, no_frame, LetsGo, unlocks, releases, GoesBy, moves, divides, owns, lets_go, answers, posts, commits, takes, zeroes, first_copies, caches, shares, posts_copy, copies, installs, accesses, faults}
+use Rattle.machine_laws.proofs.Shapes.{IsFault, Moves, locks, tries, hints, seeks, guesses, turns, chooses, acts, finds, lacks, shows, Replies, refuses, no_place, declines, fails, no_frame, LetsGo, unlocks, returns, releases, GoesBy, moves, divides, cuts, fits, owns, lets_go, answers, posts, commits, takes, zeroes, first_copies, caches, shares, posts_copy, copies, installs, accesses, faults}
 use Rattle.machine_laws.proofs.Effects.{Asked, status}
 use Rattle.machine_sound.specs.Invariant.{Fine}
 use Rattle.machine_sound.proofs.Fills.{private_only}
@@ -230,7 +230,7 @@ asks_on request copy w c v f number a (owns goal cursor b t e l h) = a
 asks_on request copy w c v f number a (lets_go held b t new l u h) = a
 asks_on request copy w c v f number a (answers held reply r h) = a
 asks_on request copy w c v f number a (posts change shoot e h) = a
-asks_on request copy w c v f number a (commits change held counts e n l h) = a
+asks_on request copy w c v f number a (commits goal change counts e n l h) = a
 asks_on request copy w c v f number a (takes touch old x e l h) = a
 asks_on request copy w c v f number a (zeroes touch x counts e b t h) = a
 asks_on request copy w c v f number a (first_copies touch x counts e b t h) =
@@ -368,7 +368,7 @@ used_on free m first c request copy w v f framed number sure from asks u (answer
 used_on free m first c request copy w v f framed number sure from asks u (posts change shoot e h) =
     used_to m first c request copy (Acks change (range_of change)) (record w { hardware = (after_post c change shoot w).hardware }) v h
     (used_at m first c request copy w (Post change shoot) e u)
-used_on free m first c request copy w v f framed number sure from asks u (commits change held counts e n l h) =
+used_on free m first c request copy w v f framed number sure from asks u (commits goal change counts e n l h) =
     replied m first c request copy (Some held) (reply_to change) (with_counts counts (record w { slots = slots_after change w.slots })) v h
     (change_used m first c request copy w change held f number e u)
 used_on free m first c request copy w v f framed number sure from asks u (takes touch old x e l h) =
@@ -468,7 +468,7 @@ unwaited_on first c w v f t k (lets_go held b s new l u h) =
     (still_users first (recorded w.slots) (recorded s) c (λ p d. ap (λ (s : Slots). is_recorded (s.info p) d) u.now) k)
 unwaited_on first c w v f t k (answers held reply r h) = left_users first c v w.slots (ap (λ (v : World). v.slots) h) k
 unwaited_on first c w v f t k (posts change shoot e h) = left_users first c v w.slots (ap (λ (v : World). v.slots) h) k
-unwaited_on first c w v f t k (commits change held counts e n l h) =
+unwaited_on first c w v f t k (commits goal change counts e n l h) =
     left_users first c v (slots_after change w.slots) (ap (λ (v : World). v.slots) h)
     (λ d p ne i. changed_drops w.slots change p d ∙ none_dropped w c (range_of change) (subst (IsTold w.slots w.hardware c) e t) n d p ne (k d p ne i))
 unwaited_on first c w v f t k (takes touch old x e l h) = left_users first c v w.slots (ap (λ (v : World). v.slots) h) k
