@@ -8,6 +8,7 @@ pub mod Using
 pub mod Used
 mod Noting
 pub mod Taking
+pub mod Aiming
 mod Awaiting
 pub mod Serving
 pub mod Ending

@@ -148,6 +148,14 @@ elsewhere_least m reach place (Hint range) = omega arith
 elsewhere_least m reach place (Run range) = omega arith
 elsewhere_least m reach place Window = omega arith
 
+-- a mapping that lets pages go still has some, or looks elsewhere
+pub back_all : (P : Phase → Type 0) (place : Place) (target : Target) (o : Option PageRange) → P (Guess place) → P (trying place Window)
+    → ((held : PageRange) → P (Leaving place target held)) → P (back_to place target o)
+back_all P place (Hint range) None g w h = g
+back_all P place (Run range) None g w h = w
+back_all P place Window None g w h = w
+back_all P place target (Some held) g w h = h held
+
 pub back_less : (m : ℕ) (reach old : Touch → Option ℕ) (place : Place) (target : Target) (held : PageRange) (b : ℕ) → held.first < b → b ≤ held.end
     → rank m reach (back_to place target (held_after held b)) < rank m old (Leaving place target held)
 back_less m reach old place target held b l e =
