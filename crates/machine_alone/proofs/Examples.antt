@@ -1,6 +1,6 @@
 -- On a new machine every store is answered SIGSEGV, whatever steps the call takes: the law says so without looking at them. And what a copy
 -- changes.
-use Rattle.std.proofs.Common.{◌⊎◌, inl, inr, ◌≡◌, ◌≢◌, ℕ, ◌<◌, Bool, true, false, refl, subst, Some, None}
+use Rattle.std.proofs.Common.{◌⊎◌, inl, inr, ◌≡◌, ◌≢◌, ℕ, ◌<◌, arith, Bool, true, false, refl, subst, Some, None}
 use Rattle.vm_base.specs.declared.replies.Reply.{Reply}
 use Rattle.vm_base.specs.declared.replies.Reply.TheVariants.{Mapped, Done, Byte, Refused, Segv, Bus, NoFrame, NoMemory}
 use Rattle.vm_base.specs.declared.replies.SegvCode.TheVariants.{MapErr}
@@ -46,7 +46,7 @@ stores_fault : (slots : Slots) → IsNew slots → (begun x v : World) (n : ℕ)
     → (o ≡ Answered (Segv MapErr)) ⊎ IsAwaiting (new_world made slots) x nothing 0 (Store 65540 41) o v
 stores_fault slots new begun x v n o call steps step not below =
     let w : World = new_world made slots in
-    let reached = reached_opening made slots new in
+    let reached = reached_opening made slots (omega arith) new in
     elim ((served_alone w begun nothing 0 (Store 65540 41) reached refl (λ c. refl) call).ends n x v o steps step not below) [
       | inl k ↦ inl (subst (λ y. o ≡ Answered y) (faults w.memory.is_free k.0.after k.0.reply k.0.stands (k.0.due 0 0)) k.0.answered)
       | inr a ↦ inr a

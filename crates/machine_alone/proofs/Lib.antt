@@ -5,10 +5,10 @@ mod Framed
 mod Rows
 pub mod Telling
 pub mod Using
+pub mod Aiming
 pub mod Used
 mod Noting
 pub mod Taking
-pub mod Aiming
 mod Awaiting
 pub mod Serving
 pub mod Ending

@@ -21,7 +21,7 @@ use Rattle.vm_base.specs.Functions.{put}
 use Rattle.vm_base.specs.Plain.{File, mode_of}
 use Rattle.vm_base.proofs.Functions.{put_same}
 use Rattle.slot_lock.specs.declared.plan.Touch.{Touch}
-use Rattle.slot_lock.specs.Plan.{range_of, target_range, goal_range, goal_plan, HasTarget, IsSoundGoal}
+use Rattle.slot_lock.specs.Plan.{target_range, goal_range, goal_plan, HasTarget, IsSoundGoal}
 use Rattle.slot_lock.specs.declared.plan.Change.TheVariants.{Put}
 use Rattle.slot_lock.specs.declared.plan.Place.{Place}
 use Rattle.slot_lock.specs.declared.plan.Target.{Target}

@@ -117,6 +117,7 @@ row_of first w t c request x o v h after (ends d reply e s lt p k) =
     returns reply (ap x.calls.phase (sym same) ∙ p) s (k ∙ ap (λ n. to n Free (with_event x)) same)
 row_of first w t c request x o v h after (goes d going s lt g) =
     nears s g (goes_near first (with_event x) c v (reached_fine x h.reached) after h.sure h.storable g)
+row_of first w t c request x o v h after (aims d place target a s lt p k) = elim a [ ]
 row_of first w t c request x o v h after (gives_up d e s lt can u k) = absurd cc
 row_of first w t c request x o v h after (works d s lt k) = absurd (no_work k)
   where
@@ -141,9 +142,13 @@ closed_free : (phase : Phase) → status phase ≡ Closed → phase ≡ Free
 closed_free Free e = refl
 closed_free (Check request) e = absurd cc
 closed_free (Lock goal cursor) e = absurd cc
+closed_free (Guess place) e = absurd cc
+closed_free (Find place target) e = absurd cc
+closed_free (Leaving place target held) e = absurd cc
+closed_free (Cut place target range) e = absurd cc
 closed_free (Decide change) e = absurd cc
 closed_free (Post change shoot) e = absurd cc
-closed_free (Acks change held) e = absurd cc
+closed_free (Acks goal change) e = absurd cc
 closed_free (Unlock held reply) e = absurd cc
 closed_free (Answer reply) e = absurd cc
 closed_free (Try touch) e = absurd cc
@@ -276,6 +281,7 @@ begun w c request m (happens n shape) s = go shape
         )
     go (ends d reply e k lt p h) = absurd cc
     go (goes d e k lt g) = absurd (no_going d (Call c request) e refl)
+    go (aims d place target a k lt p h) = elim a [ ]
     go (gives_up d e s lt can u h) = absurd cc
     go (works d s lt k) = absurd (no_work d k)
     go (joins p t2 e s page j m h) = absurd cc
@@ -365,7 +371,7 @@ less_test a b h = grind (arith, nat_tests)
 -- a call that waits has no reply, has made no copy, and has changed no user
 waits_unchanged : (t : Plain) (first now : Users) (reach : Touch → Option ℕ) (c : ℕ) (request : Request) (copy : Option ℕ) (phase : Phase) (range : PageRange)
     → Waits phase range → Used t first now reach c request copy phase → (status phase ≡ Asked) × (copy ≡ None) × Same now first
-waits_unchanged t first now reach c request copy phase range (for_change change held p i) u =
+waits_unchanged t first now reach c request copy phase range (for_change goal change p i) u =
     let z = subst (Used t first now reach c request copy) p u in (ap status p, z.0, z.1)
 waits_unchanged t first now reach c request copy phase range (for_copy touch frame p i) u =
     let z = subst (Used t first now reach c request copy) p u in (ap status p, z.0, z.1)
@@ -381,10 +387,10 @@ waiting_leads free w t c request x h a none =
 will_answer : (w : World) (t : Plain) (c : ℕ) (request : Request) (x : World) (range : PageRange) → IsServing w.memory.is_free w t c request x → (f : Fine x)
     → f.plain ≡ t → Waits (x.calls.phase c) range
     → WillAnswer t c request range × (taken_below x.memory.is_free x.made.frames ≡ taken_below w.memory.is_free x.made.frames + frames_for request)
-will_answer w t c request x range h f from (for_change change held p i) =
-    let z = change_answers x t c request change held f from h.number p in (
+will_answer w t c request x range h f from (for_change goal change p i) =
+    let z = change_answers x t c request goal change f from h.number p in (
       subst (WillAnswer t c request) (sym i) z.0,
-      change_frames w.memory.is_free x.memory.is_free request x.made.frames (sure_at w.memory.is_free x c (Acks change held) p h.sure) z.1,
+      change_frames w.memory.is_free x.memory.is_free request x.made.frames (sure_at w.memory.is_free x c (Acks goal change) p h.sure) z.1,
     )
 will_answer w t c request x range h f from (for_copy touch frame p i) =
     let z = copy_frames x c request touch frame w.memory.is_free f h.number p (sure_at w.memory.is_free x c (CopyAcks touch frame) p h.sure) in (
@@ -483,7 +489,7 @@ pub served_alone : (w begun : World) (t : Plain) (core : ℕ) (request : Request
     → IsServedAlone w t core request begun
 served_alone w begun t core request reached leads calm s =
     let start = starts w t core request begun reached leads calm s in
-    let most : left_of begun core ≡ 2 ^ 37 = ap (rank_of begun.slots (reach_of begun.hardware core)) start.1 in
+    let most : left_of begun core ≡ 2 ^ 38 = ap (rank_of begun.slots (reach_of begun.hardware core)) start.1 in
     record {
       short = λ n x k. let a = (along w.memory.is_free w t core request begun start.0 n x k).1 in omega (arith, a, most);
       ends = λ n x v o k s not below.

@@ -16,7 +16,7 @@ use Rattle.machine_alone.specs.Users.{Users, Same, recorded, users_after, with_u
 use Rattle.vm_base.specs.Plain.{Plain, nothing_mapped}
 use Rattle.machine_model.specs.declared.event.Blocker.TheVariants as WaitsFor
 use Rattle.machine_model.specs.declared.event.Event.{Event}
-use Rattle.machine_model.specs.declared.event.Event.TheVariants.{Call, Go, Frame, Take, GiveUp}
+use Rattle.machine_model.specs.declared.event.Event.TheVariants.{Call, Go, Frame, Guess, Whole, Take, GiveUp}
 use Rattle.machine_model.specs.declared.event.Outcome.{Outcome}
 use Rattle.machine_model.specs.declared.event.Outcome.TheVariants.{Stepped, Idle, Wait, Answered}
 use Rattle.machine_model.specs.declared.log.Entry.{Entry}
@@ -189,11 +189,13 @@ pub record IsBesideCalls (w v : World) : Type 0 where
 abbrev pub KeepsTakes : World → World → Type 0
 KeepsTakes w v = (d : ℕ) → left_to v d ≡ left_to w d
 
--- A core that is awaited, and no other, takes; no frame is asked for, and no call can be given up.
+-- A core that is awaited, and no other, takes; no frame is asked for, no place looked for, and no call can be given up.
 abbrev pub ComesBeside : World → Event → Outcome → World → Type 0
 ComesBeside w (Call c request) o v = ⊥
 ComesBeside w (Go c) o v = (o ≡ Idle) × KeepsTakes w v
 ComesBeside w (Frame c f) o v = (o ≡ Idle) × KeepsTakes w v
+ComesBeside w (Guess c page) o v = (o ≡ Idle) × KeepsTakes w v
+ComesBeside w (Whole c) o v = (o ≡ Idle) × KeepsTakes w v
 ComesBeside w (GiveUp c) o v = (o ≡ Idle) × KeepsTakes w v
 ComesBeside w (Take c) o v =
     ((o ≡ Stepped) × (0 < left_to w c) × ((d : ℕ) → left_to v d ≡ put (left_to w) c (pred (left_to w c)) d))
