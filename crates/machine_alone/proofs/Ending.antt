@@ -38,6 +38,7 @@ use Rattle.machine_alone.specs.Copies.{page_copied, with_copy}
 use Rattle.machine_alone.specs.Taken.{frames_for, frames_taken, is_access, taken_below}
 use Rattle.machine_alone.specs.Users.{recorded}
 use Rattle.machine_alone.proofs.Awaiting.{change_answers, copy_frames}
+use Rattle.machine_alone.proofs.First.{copy_first, named_first}
 use Rattle.machine_alone.proofs.Noting.{IsLogged}
 use Rattle.machine_alone.proofs.Rank.{rank_of, reach_of, hits, size}
 use Rattle.machine_alone.proofs.Rows.{HasTaken, IsDueReply, IsSure, IsSureOf, left_of, sure_at}
@@ -339,6 +340,7 @@ answered_at_last w t c request k l x v o reply h step at answered e nobody =
     let sure : IsDueReply l.free reply = subst (IsSure l.free x.memory.is_free (reach_of x.hardware c)) at h.sure in
     record {
       served = z;
+      first = λ named. copy_first t c request z.reply z.after (named_first t c request z.reply named) z.stands;
       framed = l.framed z.reply (subst (IsDueReply l.free) (sym same) sure) (with_copy t (page_copied t request z.reply)) z.after z.stands;
       frames = subst (λ (v : World). frames_taken v ≤ frames_taken w) (sym e)
           (subst (λ n. taken_below x.memory.is_free n ≤ frames_taken w) (sym (ap (λ (m : Made). m.frames) h.made)) most);

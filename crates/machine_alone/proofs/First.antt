@@ -20,7 +20,7 @@ use Rattle.slot_lock.specs.declared.plan.Place.{Place}
 use Rattle.vm_calls.specs.Checks.{hint_at, placed_count}
 use Rattle.machine_sound.specs.Log.{Stands}
 use Rattle.machine_alone.specs.Copies.{page_copied, with_copy}
-use Rattle.machine_alone.specs.First.{FirstStands, is_placed}
+use Rattle.machine_alone.specs.First.{FirstAnswers, FirstStands, is_placed}
 use Rattle.machine_alone.proofs.Aiming.{IsPlaceOf}
 
 -- ---- the first place
@@ -190,10 +190,10 @@ placed_uncopied t (Fetch addr) reply e = absurd cc
 
 -- of the map in which the page has got its copy
 pub copy_first : (t : Plain) (c : ℕ) (request : Request) (reply : Reply) (u : Plain) → IsFirstReply t c request reply
-    → Stands (with_copy t (page_copied t request reply)) c request reply u → FirstStands (with_copy t (page_copied t request reply)) c request reply u
+    → Stands (with_copy t (page_copied t request reply)) c request reply u → FirstAnswers t c request reply u
 copy_first t c request reply u f h = go (is_placed request) refl
   where
-    go : (b : Bool) → is_placed request ≡ b → FirstStands (with_copy t (page_copied t request reply)) c request reply u
+    go : (b : Bool) → is_placed request ≡ b → FirstAnswers t c request reply u
     go false e = stands_first (with_copy t (page_copied t request reply)) c request reply u (named_first _ c request reply e) h
     go true e =
         let same : with_copy t (page_copied t request reply) ≡ t = ap (with_copy t) (placed_uncopied t request reply e) in

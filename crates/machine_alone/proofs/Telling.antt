@@ -270,7 +270,7 @@ posted_told w c new shoot range v f others h none asks all =
     (subst (IsToldOf w.slots (after_shot w.hardware c shoot range) c) (sym asks) (posts_tell w c shoot range f others none all)))
 
 -- no core uses a page that isn't mapped
-unmapped_unused : (o : Option PageInfo) (d : ℕ) → is_some (entry_of o) ≡ false → is_recorded o d ≡ true → ⊥
+pub unmapped_unused : (o : Option PageInfo) (d : ℕ) → is_some (entry_of o) ≡ false → is_recorded o d ≡ true → ⊥
 unmapped_unused None d free r = cc
 unmapped_unused (Some info) d free r = cc
 

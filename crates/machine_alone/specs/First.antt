@@ -7,6 +7,7 @@ use Rattle.vm_base.specs.declared.requests.Request.TheVariants.{Mmap}
 use Rattle.vm_base.specs.Apply.{FirstApplies}
 use Rattle.vm_base.specs.Plain.{Plain}
 use Rattle.machine_sound.specs.Log.{IsServable}
+use Rattle.machine_alone.specs.Copies.{page_copied, with_copy}
 
 -- an mmap that leaves its place open
 abbrev pub is_placed : Request → Bool
@@ -19,3 +20,7 @@ abbrev pub FirstStands : Plain → ℕ → Request → Reply → Plain → Type 
 FirstStands t core request NoFrame u = IsServable t request × (u ≡ t)
 FirstStands t core request NoMemory u = u ≡ t
 FirstStands t core request y u = FirstApplies t core request y u
+
+-- the first answer of the map t, once the page of a store has got the copy that it needs
+abbrev pub FirstAnswers : Plain → ℕ → Request → Reply → Plain → Type 0
+FirstAnswers t core request reply after = FirstStands (with_copy t (page_copied t request reply)) core request reply after
