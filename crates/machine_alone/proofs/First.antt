@@ -40,7 +40,8 @@ valid_few : (h n : ℕ) → are_pages (pages_from h n) ≡ true → n < 2 ^ 35
 valid_few h n e = grind (arith, nat_tests)
 
 -- a hint that is free
-hint_first : (mapped : ℕ → Bool) (window : PageRange) (h len : ℕ) (range : PageRange) → hint_at h (placed_count len) ≡ Some range → IsFree mapped range
+hint_first : (mapped : ℕ → Bool) (window : PageRange) (h len : ℕ) (range : PageRange) → hint_at h (placed_count len) ≡ Some range
+    → IsFree mapped range
     → IsFirstPlace mapped window h (page_count len) (Some range.first)
 hint_first mapped window h len range e free = go (are_pages (pages_from h (placed_count len))) refl e
   where
@@ -65,7 +66,8 @@ hint_taken mapped h len taken hint =
     count = let a = valid_few h (page_count len) hint.0 in omega (arith, a)
 
     given : hint_at h (placed_count len) ≡ Some (pages_from h (placed_count len))
-    given = ap (λ b. if b then Some (pages_from h (placed_count len)) else None) (subst (λ n. are_pages (pages_from h n) ≡ true) (sym count) hint.0)
+    given =
+        ap (λ b. if b then Some (pages_from h (placed_count len)) else None) (subst (λ n. are_pages (pages_from h n) ≡ true) (sym count) hint.0)
 
 -- what finds a room is fewer pages than there are
 room_count : (mapped : ℕ → Bool) (c len s n : ℕ) → c < 64 → (n ≡ placed_count len) ⊎ (n ≡ page_count len) → IsRoom mapped (window_of c) n s
@@ -81,7 +83,8 @@ least_counted mapped c len (Some first) few least =
     subst (λ n. IsLeastRoom mapped (window_of c) n (Some first)) (room_count mapped c len first (placed_count len) few (inl refl) least.0) least
 
 -- it is the plain map's
-pub first_place : (mapped : ℕ → Bool) (c : ℕ) (request : Request) (place : Place) (found : Option ℕ) (k : IsPlaceOf c request place) → c < 64
+pub first_place : (mapped : ℕ → Bool) (c : ℕ) (request : Request) (place : Place) (found : Option ℕ) (k : IsPlaceOf c request place)
+    → c < 64
     → IsFirst mapped place found → IsFirstPlace mapped (window_of c) (page_of k.addr) (page_count k.len) found
 first_place mapped c request place found k few (inl h) =
     subst (IsFirstPlace mapped (window_of c) (page_of k.addr) (page_count k.len)) (sym h.3)
@@ -103,7 +106,8 @@ reply_one None (Some s) e = absurd cc
 reply_one (Some s) None e = absurd cc
 reply_one (Some s) (Some r) e = let same : s * 4096 ≡ r * 4096 = cc in let z : s ≡ r = omega (arith, same) in ap Some z
 
-maps_reply : (t u : Plain) (found : Option ℕ) (n : ℕ) (back : Back) (prot : Prot) (y : Reply) → Maps t (range_at found n) back prot y u → y ≡ reply_at found
+maps_reply : (t u : Plain) (found : Option ℕ) (n : ℕ) (back : Back) (prot : Prot) (y : Reply) → Maps t (range_at found n) back prot y u
+    → y ≡ reply_at found
 maps_reply t u None n back prot y h = h.0
 maps_reply t u (Some s) n back prot y h = h.0
 
@@ -120,7 +124,8 @@ placed_first t c request place found reply k few first e u h =
     back : Back
     back = back_at k.flags k.file k.off
 
-    maps : (b : Bool) → b ≡ false → MapsAt IsPlace b t c k.addr k.len back k.prot reply u → MapsAt IsFirstPlace b t c k.addr k.len back k.prot reply u
+    maps : (b : Bool) → b ≡ false → MapsAt IsPlace b t c k.addr k.len back k.prot reply u
+        → MapsAt IsFirstPlace b t c k.addr k.len back k.prot reply u
     maps true i m = absurd cc
     maps false i m =
         let same : found ≡ m.0 = reply_one found m.0 (sym e ∙ maps_reply t u m.0 (page_count k.len) back k.prot reply m.2) in (
@@ -144,7 +149,8 @@ named_first t c request reply named u = go (refusal (λ n. mode_of (t.file n)) r
     maps true addr len back prot e m = m
     maps false addr len back prot e m = absurd cc
 
-    go : (o : Option Reply) (r : Request) → is_placed r ≡ false → AppliesAfter IsPlace o t c r reply u → AppliesAfter IsFirstPlace o t c r reply u
+    go : (o : Option Reply) (r : Request) → is_placed r ≡ false → AppliesAfter IsPlace o t c r reply u
+        → AppliesAfter IsFirstPlace o t c r reply u
     go (Some y) r e h = h
     go None (Mmap addr len prot flags file off) e h = maps flags.fixed addr len (back_at flags file off) prot e h
     go None (Munmap addr len) e h = h
@@ -161,7 +167,8 @@ refused_first t c request reply answer e u h =
 
 -- ---- entries of a log
 
-pub stands_first : (t : Plain) (c : ℕ) (request : Request) (reply : Reply) (u : Plain) → IsFirstReply t c request reply → Stands t c request reply u
+pub stands_first : (t : Plain) (c : ℕ) (request : Request) (reply : Reply) (u : Plain) → IsFirstReply t c request reply
+    → Stands t c request reply u
     → FirstStands t c request reply u
 stands_first t c request (Mapped at) u f h = f u h
 stands_first t c request Done u f h = f u h

@@ -136,7 +136,8 @@ logged_on first t users c request copy w v u k (moves new m h) =
     let a = moves_asked w c new m in
     to_asked first (w.calls.number c) copy c new w v h a.0 (subst (IsLogged first w.calls.log (w.calls.number c) c copy) a.1 k)
 logged_on first t users c request copy w v u k (divides goal cursor s e i h) = subst (IsLoggedOf first (w.calls.number c) copy c) (sym h) k
-logged_on first t users c request copy w v u k (cuts place target range s e i h) = subst (IsLoggedOf first (w.calls.number c) copy c) (sym h) k
+logged_on first t users c request copy w v u k (cuts place target range s e i h) =
+    subst (IsLoggedOf first (w.calls.number c) copy c) (sym h) k
 logged_on first t users c request copy w v u k (fits place target range e i h) =
     to_asked first (w.calls.number c) copy c _ w v h refl (was_asked first (w.calls.number c) copy c (Cut place target range) w e refl k)
 logged_on first t users c request copy w v u k (owns goal cursor b s e l h) =

@@ -143,7 +143,8 @@ unlock_less m n reach old held reply b l e =
     by_test (λ o. rank m reach (let_go o reply) < size held + 1) (b == held.end) None (Some (between b held.end)) (λ _. omega arith) (λ _. omega arith)
 
 -- what lies behind a target that is let go: the guess of a run, or the window
-elsewhere_least : (m : ℕ) (reach : Touch → Option ℕ) (place : Place) (target : Target) → rank m reach (elsewhere place target) ≤ m + elsewhere_rank place target
+elsewhere_least : (m : ℕ) (reach : Touch → Option ℕ) (place : Place) (target : Target)
+    → rank m reach (elsewhere place target) ≤ m + elsewhere_rank place target
 elsewhere_least m reach place (Hint range) = omega arith
 elsewhere_least m reach place (Run range) = omega arith
 elsewhere_least m reach place Window = omega arith
@@ -156,7 +157,8 @@ back_all P place (Run range) None g w h = w
 back_all P place Window None g w h = w
 back_all P place target (Some held) g w h = h held
 
-pub back_less : (m : ℕ) (reach old : Touch → Option ℕ) (place : Place) (target : Target) (held : PageRange) (b : ℕ) → held.first < b → b ≤ held.end
+pub back_less : (m : ℕ) (reach old : Touch → Option ℕ) (place : Place) (target : Target) (held : PageRange) (b : ℕ) → held.first < b
+    → b ≤ held.end
     → rank m reach (back_to place target (held_after held b)) < rank m old (Leaving place target held)
 back_less m reach old place target held b l e =
     by_test (λ o. rank m reach (back_to place target o) < m + (size held + (elsewhere_rank place target + 1))) (b == held.end) None (Some (between b held.end))

@@ -255,7 +255,8 @@ divides_near first w c goal cursor t v e same fewer h = subst (Nears first w c) 
 
 -- a slot that crosses an edge of the range is divided
 cuts_near : (first : ℕ → Bool) (w : World) (c : ℕ) (place : Place) (target : Target) (range : PageRange) (t : Slots) (v : World)
-    → w.calls.phase c ≡ Cut place target range → w.memory.is_free ≡ first → missing t < missing w.slots → v ≡ record w { slots = t } → Nears first w c v
+    → w.calls.phase c ≡ Cut place target range → w.memory.is_free ≡ first → missing t < missing w.slots → v ≡ record w { slots = t }
+    → Nears first w c v
 cuts_near first w c place target range t v e same fewer h = subst (Nears first w c) (sym h) (record {
   made = refl;
   less = subst (λ p. rank_of t (reach_of w.hardware c) p < rank_of w.slots (reach_of w.hardware c) p) (sym e) (omega (arith, fewer));
@@ -263,7 +264,8 @@ cuts_near first w c place target range t v e same fewer h = subst (Nears first w
 })
 
 lets_go_near : (first : ℕ → Bool) (w : World) (c : ℕ) (held : PageRange) (b : ℕ) (t : Slots) (new : Phase) (v : World) → IsSureOf first c w
-    → LetsGo (w.calls.phase c) held b new → held.first < b → b ≤ held.end → missing t ≡ missing w.slots → v ≡ to c new (record w { slots = t })
+    → LetsGo (w.calls.phase c) held b new → held.first < b → b ≤ held.end → missing t ≡ missing w.slots
+    → v ≡ to c new (record w { slots = t })
     → Nears first w c v
 lets_go_near first w c held b t new v sure (unlocks reply e n) l m same h =
     nears first w c (Unlock held reply) (let_go (held_after held b) reply) t w.hardware w.memory v e (rw (h, n) refl)

@@ -100,7 +100,8 @@ mapped_same m (Some info) None h = absurd h
 shown_mapped : (w : World) (t : Plain) → Good w t → is_mapped (entries w.slots) ≡ is_mapped t.entry
 shown_mapped w t g = fun_ext (λ p. mapped_same w.memory (w.slots.info p) (t.entry p) (g.pages p))
 
-mode_same : (bytes : ℕ → Bytes) (cached : ℕ → Option ℕ) (first now : Option File) → ShowsFile bytes cached first now → mode_of now ≡ mode_of first
+mode_same : (bytes : ℕ → Bytes) (cached : ℕ → Option ℕ) (first now : Option File) → ShowsFile bytes cached first now
+    → mode_of now ≡ mode_of first
 mode_same bytes cached None None h = refl
 mode_same bytes cached (Some f) (Some g) h = ap Some (sym h.0)
 mode_same bytes cached None (Some g) h = absurd h
@@ -170,7 +171,8 @@ check_first w t c request reply g = go (refusal (λ n. mode_of (w.made.file n)) 
     go : (o : Option Reply) → refusal (λ n. mode_of (w.made.file n)) request ≡ o → unless_refused o (plan_of c request) ≡ Err reply
         → IsFirstReply t c request reply
     go None e k = named_first t c request reply (unplanned c request reply k)
-    go (Some answer) e k = refused_first t c request reply answer (ap (λ (modes : ℕ → Option Mode). refusal modes request) (shown_modes w t g) ∙ e)
+    go (Some answer) e k =
+        refused_first t c request reply answer (ap (λ (modes : ℕ → Option Mode). refusal modes request) (shown_modes w t g) ∙ e)
 
 -- ---- decisions
 
@@ -186,7 +188,8 @@ turned mapped s place Window same aim d k = k
 
 -- what is decided is the first place
 chosen : (mapped : ℕ → Bool) (s : Slots) (place : Place) (target : Target) (range : PageRange) (shoot : ℕ) → is_mapped (entries s) ≡ mapped
-    → IsTarget place target → DecidesPlace s place target (Act range shoot) → IsNext mapped place target → IsFirst mapped place (Some range.first)
+    → IsTarget place target → DecidesPlace s place target (Act range shoot) → IsNext mapped place target
+    → IsFirst mapped place (Some range.first)
 chosen mapped s place (Hint run) range shoot same aim (free f e) k =
     let whole : run ≡ range = cc in
     inl (run, aim, subst (λ (m : ℕ → Bool). IsFree m run) same f, ap (λ (r : PageRange). Some r.first) (sym whole))
@@ -216,7 +219,8 @@ unplaced mapped s place Window errno same (None, none, e) k =
 unplaced mapped s place Window errno same (Some first, least, e) k = absurd cc
 
 -- what is guessed is the least room
-guessed : (mapped : ℕ → Bool) (place : Place) (found : Option ℕ) → IsHintTaken mapped place.hint → IsLeastRoom mapped place.window place.count found
+guessed : (mapped : ℕ → Bool) (place : Place) (found : Option ℕ) → IsHintTaken mapped place.hint
+    → IsLeastRoom mapped place.window place.count found
     → IsNext mapped place (guess_of place found)
 guessed mapped place None k least = k
 guessed mapped place (Some first) k least = (k, least)
@@ -227,10 +231,12 @@ guessed mapped place (Some first) k least = (k, least)
 abbrev pub IsBefore : Plain → ℕ → Option ℕ → World → Type 0
 IsBefore t c copy w = (status (w.calls.phase c) ≡ Asked) × (copy ≡ None) → Good w t
 
-seeks_at : (t : Plain) (c : ℕ) (request : Request) (w : World) (old : Phase) → w.calls.phase c ≡ old → IsSeeking t c request w → Seeks t c request old
+seeks_at : (t : Plain) (c : ℕ) (request : Request) (w : World) (old : Phase) → w.calls.phase c ≡ old → IsSeeking t c request w
+    → Seeks t c request old
 seeks_at t c request w old e k = subst (Seeks t c request) e k
 
-seeks_to : (t : Plain) (c : ℕ) (request : Request) (new : Phase) (x v : World) → v ≡ to c new x → Seeks t c request new → IsSeeking t c request v
+seeks_to : (t : Plain) (c : ℕ) (request : Request) (new : Phase) (x v : World) → v ≡ to c new x → Seeks t c request new
+    → IsSeeking t c request v
 seeks_to t c request new x v h k = subst (IsSeeking t c request) (sym h) (subst (Seeks t c request) (sym (put_same x.calls.phase c new)) k)
 
 seeks_gone : (t : Plain) (c : ℕ) (request : Request) (held : Option PageRange) (reply : Reply) → IsFirstReply t c request reply
@@ -239,7 +245,8 @@ seeks_gone t c request None reply k = k
 seeks_gone t c request (Some held) reply k = k
 
 -- its reply, whatever the log has
-seeks_replied : (t : Plain) (c : ℕ) (request : Request) (held : Option PageRange) (reply : Reply) (v : World) → v.calls.phase c ≡ let_go held reply
+seeks_replied : (t : Plain) (c : ℕ) (request : Request) (held : Option PageRange) (reply : Reply) (v : World)
+    → v.calls.phase c ≡ let_go held reply
     → IsFirstReply t c request reply → IsSeeking t c request v
 seeks_replied t c request held reply v e k = subst (Seeks t c request) (sym e) (seeks_gone t c request held reply k)
 
@@ -249,15 +256,24 @@ no_hint place None e = refl
 no_hint place (Some range) e = absurd cc
 
 unhinted : (w : World) (c : ℕ) (request : Request) (place : Place) (new : Phase) (v : World) → Goes w c (w.calls.phase c) Stepped v
-    → w.calls.phase c ≡ Check request → new ≡ Guess place → checked_by w.made c request ≡ Ok (PlanOf.Place place) → v ≡ to c new w → place.hint ≡ None
+    → w.calls.phase c ≡ Check request → new ≡ Guess place → checked_by w.made c request ≡ Ok (PlanOf.Place place) → v ≡ to c new w
+    → place.hint ≡ None
 unhinted w c request place new v g e n k h =
     let b = subst (λ phase. Goes w c phase Stepped v) e g in
     let after : v ≡ to c (placing place place.hint) w = b.1 ∙ ap (λ r. after_plan c r w) k in
     no_hint place place.hint
     (sym n ∙ (sym (put_same w.calls.phase c new) ∙ (ap (λ (v : World). v.calls.phase c) (sym h ∙ after) ∙ put_same w.calls.phase c (placing place place.hint))))
 
+-- while the call finds whether its target is free
+finding : (t : Plain) (users : Users) (c : ℕ) (request : Request) (copy : Option ℕ) (w : World) (place : Place) (target : Target)
+    → w.calls.phase c ≡ Find place target → IsBefore t c copy w → IsUsed t users c request copy w
+    → is_mapped (entries w.slots) ≡ is_mapped t.entry
+finding t users c request copy w place target e good u =
+    shown_mapped w t (good (ap status e, (used_at t users c request copy w (Find place target) e u).0))
+
 moves_seek : (t : Plain) (users : Users) (c : ℕ) (request : Request) (copy : Option ℕ) (w : World) (new : Phase) (v : World) (f : Fine w)
-    → IsBefore t c copy w → IsUsed t users c request copy w → Goes w c (w.calls.phase c) Stepped v → IsSeeking t c request w → Moves w c new → v ≡ to c new w
+    → IsBefore t c copy w → IsUsed t users c request copy w → Goes w c (w.calls.phase c) Stepped v → IsSeeking t c request w
+    → Moves w c new → v ≡ to c new w
     → Seeks t c request new
 moves_seek t users c request copy w new v f good u g k (locks r change e n i) h = subst (Seeks t c request) (sym n) tt
 moves_seek t users c request copy w new v f good u g k (tries r touch e n i) h = subst (Seeks t c request) (sym n) tt
@@ -267,16 +283,17 @@ moves_seek t users c request copy w new v f good u g k (seeks r place e n i) h =
 moves_seek t users c request copy w new v f good u g k (guesses place found e n least) h =
     subst (Seeks t c request) (sym n)
     (guessed (is_mapped t.entry) place found (seeks_at t c request w (Guess place) e k)
-    (subst (λ (m : ℕ → Bool). IsLeastRoom m place.window place.count found) (shown_mapped w t (good (ap status e, (used_at t users c request copy w (Guess place) e u).0))) least))
+    (subst (λ (m : ℕ → Bool). IsLeastRoom m place.window place.count found)
+    (shown_mapped w t (good (ap status e, (used_at t users c request copy w (Guess place) e u).0))) least))
 moves_seek t users c request copy w new v f good u g k (turns place target e n d) h =
     let its : IsCallOf w c (Find place target) = call_at w c (Find place target) e f.order in
     subst (Seeks t c request) (sym n)
-    (turned (is_mapped t.entry) w.slots place target (shown_mapped w t (good (ap status e, (used_at t users c request copy w (Find place target) e u).0))) its.ready d
+    (turned (is_mapped t.entry) w.slots place target (finding t users c request copy w place target e good u) its.ready d
     (seeks_at t c request w (Find place target) e k))
 moves_seek t users c request copy w new v f good u g k (chooses place target range shoot e n d) h =
     let its : IsCallOf w c (Find place target) = call_at w c (Find place target) e f.order in
     subst (Seeks t c request) (sym n)
-    (chosen (is_mapped t.entry) w.slots place target range shoot (shown_mapped w t (good (ap status e, (used_at t users c request copy w (Find place target) e u).0))) its.ready d
+    (chosen (is_mapped t.entry) w.slots place target range shoot (finding t users c request copy w place target e good u) its.ready d
     (seeks_at t c request w (Find place target) e k))
 moves_seek t users c request copy w new v f good u g k (acts change range shoot e n d) h = subst (Seeks t c request) (sym n) tt
 moves_seek t users c request copy w new v f good u g k (finds touch x e n i) h = subst (Seeks t c request) (sym n) tt
@@ -284,14 +301,15 @@ moves_seek t users c request copy w new v f good u g k (lacks touch old e n i j)
 moves_seek t users c request copy w new v f good u g k (shows touch e n i j) h = subst (Seeks t c request) (sym n) tt
 
 replies_seek : (t : Plain) (users : Users) (c : ℕ) (request : Request) (copy : Option ℕ) (w : World) (held : Option PageRange) (reply : Reply) (f : Fine w) → c < 64
-    → nth w.calls.requests (w.calls.number c) ≡ Some request → IsBefore t c copy w → IsUsed t users c request copy w → IsSeeking t c request w
+    → nth w.calls.requests (w.calls.number c) ≡ Some request → IsBefore t c copy w → IsUsed t users c request copy w
+    → IsSeeking t c request w
     → Replies w c held reply → IsFirstReply t c request reply
 replies_seek t users c request copy w held reply f few number good u k (refuses r e h j) =
     subst (λ r. IsFirstReply t c r reply) (same_request w c r request (call_at w c (Check r) e f.order).asked number)
     (check_first w t c r reply (good (ap status e, (used_at t users c request copy w (Check r) e u).0)) j)
 replies_seek t users c request copy w held reply f few number good u k (no_place place target errno e h i d) =
     let its : IsCallOf w c (Find place target) = call_at w c (Find place target) e f.order in
-    let z = unplaced (is_mapped t.entry) w.slots place target errno (shown_mapped w t (good (ap status e, (used_at t users c request copy w (Find place target) e u).0))) d (seeks_at t c request w (Find place target) e k) in
+    let z = unplaced (is_mapped t.entry) w.slots place target errno (finding t users c request copy w place target e good u) d (seeks_at t c request w (Find place target) e k) in
     placed_first t c request place None reply (its_place w c place request number its.asked) few z.0 (i ∙ z.1)
 replies_seek t users c request copy w held reply f few number good u k (declines change errno e h i d) =
     named_first t c request reply (change_is_named w c change request number (call_at w c (Decide change) e f.order).asked)
@@ -316,7 +334,8 @@ commits_seek t c request w (To.Access touch) change f few number e k =
     named_first t c request (reply_to change)
     (touch_is_named w c touch request number (call_at w c (Acks (To.Access touch) change) e f.order).asked)
 
-locked_seek : (t : Plain) (c : ℕ) (request : Request) (goal : Goal) (b : ℕ) → IsNextGoal (is_mapped t.entry) goal → Seeks t c request (locked_to goal b)
+locked_seek : (t : Plain) (c : ℕ) (request : Request) (goal : Goal) (b : ℕ) → IsNextGoal (is_mapped t.entry) goal
+    → Seeks t c request (locked_to goal b)
 locked_seek t c request goal b k = go goal (nat_le (goal_range goal).end b) k
   where
     go : (goal : Goal) (p : Bool) → IsNextGoal (is_mapped t.entry) goal → Seeks t c request (cond p (all_locked goal) (Lock goal b))
@@ -345,9 +364,11 @@ at_phase c new x v h = ap (λ (v : World). v.calls.phase c) h ∙ put_same x.cal
 -- ---- every plain step
 
 pub seeks_on : (t : Plain) (users : Users) (c : ℕ) (request : Request) (copy : Option ℕ) (w v : World) (f : Fine w) → c < 64
-    → nth w.calls.requests (w.calls.number c) ≡ Some request → IsBefore t c copy w → IsUsed t users c request copy w → Goes w c (w.calls.phase c) Stepped v → IsSeeking t c request w → GoesBy w c v
+    → nth w.calls.requests (w.calls.number c) ≡ Some request → IsBefore t c copy w → IsUsed t users c request copy w
+    → Goes w c (w.calls.phase c) Stepped v → IsSeeking t c request w → GoesBy w c v
     → IsSeeking t c request v
-seeks_on t users c request copy w v f few number good u g k (moves new m h) = seeks_to t c request new w v h (moves_seek t users c request copy w new v f good u g k m h)
+seeks_on t users c request copy w v f few number good u g k (moves new m h) =
+    seeks_to t c request new w v h (moves_seek t users c request copy w new v f good u g k m h)
 seeks_on t users c request copy w v f few number good u g k (divides goal cursor s e i h) = subst (IsSeeking t c request) (sym h) k
 seeks_on t users c request copy w v f few number good u g k (cuts place target range s e i h) = subst (IsSeeking t c request) (sym h) k
 seeks_on t users c request copy w v f few number good u g k (fits place target range e i h) =
@@ -360,7 +381,8 @@ seeks_on t users c request copy w v f few number good u g k (lets_go held b s ne
 seeks_on t users c request copy w v f few number good u g k (answers held reply r h) =
     seeks_replied t c request held reply v (ap (λ (v : World). v.calls.phase c) h ∙ put_same w.calls.phase c (let_go held reply))
     (replies_seek t users c request copy w held reply f few number good u k r)
-seeks_on t users c request copy w v f few number good u g k (posts change shoot e h) = seeks_to t c request (Acks (To.Change change) change) _ v h tt
+seeks_on t users c request copy w v f few number good u g k (posts change shoot e h) =
+    seeks_to t c request (Acks (To.Change change) change) _ v h tt
 seeks_on t users c request copy w v f few number good u g k (commits goal change counts e n l h) =
     seeks_replied t c request (Some (goal_range goal)) (reply_to change) v
     (ap (λ (v : World). v.calls.phase c) h ∙ put_same w.calls.phase c (let_go (Some (goal_range goal)) (reply_to change)))
@@ -368,11 +390,15 @@ seeks_on t users c request copy w v f few number good u g k (commits goal change
 seeks_on t users c request copy w v f few number good u g k (takes touch old x e l h) =
     seeks_to t c request (taken_for touch old x) _ v h (taken_seek t c request touch old x)
 seeks_on t users c request copy w v f few number good u g k (zeroes touch x counts e b i h) = seeks_to t c request (Install touch) _ v h tt
-seeks_on t users c request copy w v f few number good u g k (first_copies touch x counts e b i h) = seeks_to t c request (Install touch) _ v h tt
-seeks_on t users c request copy w v f few number good u g k (caches touch x counts e s n i h) = seeks_to t c request (Install touch) _ v h tt
-seeks_on t users c request copy w v f few number good u g k (shares touch own x counts e s n i h) = seeks_to t c request (Install touch) _ v h tt
+seeks_on t users c request copy w v f few number good u g k (first_copies touch x counts e b i h) =
+    seeks_to t c request (Install touch) _ v h tt
+seeks_on t users c request copy w v f few number good u g k (caches touch x counts e s n i h) =
+    seeks_to t c request (Install touch) _ v h tt
+seeks_on t users c request copy w v f few number good u g k (shares touch own x counts e s n i h) =
+    seeks_to t c request (Install touch) _ v h tt
 seeks_on t users c request copy w v f few number good u g k (posts_copy touch x e h) = seeks_to t c request (CopyAcks touch x) _ v h tt
-seeks_on t users c request copy w v f few number good u g k (copies touch x y counts e n a i h) = seeks_to t c request (Install touch) _ v h tt
+seeks_on t users c request copy w v f few number good u g k (copies touch x y counts e n a i h) =
+    seeks_to t c request (Install touch) _ v h tt
 seeks_on t users c request copy w v f few number good u g k (installs touch e h) = seeks_to t c request _ _ v h tt
 seeks_on t users c request copy w v f few number good u g k (accesses touch x e i h) =
     seeks_replied t c request None (reply_of touch x w.memory) v

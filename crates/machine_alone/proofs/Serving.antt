@@ -421,7 +421,8 @@ acks_named x c request (To.Change planned) change d f number p u =
 acks_named x c request (To.Access touch) change d f number p u =
     touch_is_named x c touch request number (call_at x c (Acks (To.Access touch) change) p f.order).asked
 
-waits_named : (x : World) (c : ℕ) (request : Request) (range : PageRange) (d : ℕ) → Fine x → nth x.calls.requests (x.calls.number c) ≡ Some request
+waits_named : (x : World) (c : ℕ) (request : Request) (range : PageRange) (d : ℕ) → Fine x
+    → nth x.calls.requests (x.calls.number c) ≡ Some request
     → Waits (x.calls.phase c) range → IsUser x.slots range d → is_placed request ≡ false
 waits_named x c request range d f number (for_change goal change p i) u =
     acks_named x c request goal change d f number p (subst (λ r. IsUser x.slots r d) i u)

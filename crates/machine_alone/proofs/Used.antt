@@ -198,7 +198,8 @@ replies_keep : (t : Plain) (c : ℕ) (request : Request) (w : World) (held : Opt
 replies_keep t c request w held reply f number (refuses r e h j) =
     let is : r ≡ request = same_request w c r request (call_at w c (Check r) e f.order).asked number in
     subst (λ r. Keeps t c r reply) is (refused_keeps (λ k. mode_of (w.made.file k)) t c r reply j)
-replies_keep t c request w held reply f number (no_place place target errno e h i d) = subst (Keeps t c request) (sym i) (refl, λ u p d. refl)
+replies_keep t c request w held reply f number (no_place place target errno e h i d) =
+    subst (Keeps t c request) (sym i) (refl, λ u p d. refl)
 replies_keep t c request w held reply f number (declines change errno e h i d) = subst (Keeps t c request) (sym i) (refl, λ u p d. refl)
 replies_keep t c request w held reply f number (fails touch e h x) = fault_keeps t c request (found_at w touch) reply x
 replies_keep t c request w held reply f number (no_frame touch old e h i none) = subst (Keeps t c request) (sym i) (refl, λ u p d. refl)
@@ -206,7 +207,8 @@ replies_keep t c request w held reply f number (no_frame touch old e h i none) =
 unchanged : (t : Plain) (first : Users) (c : ℕ) (request : Request) (copy : Option ℕ) (w : World) (held : Option PageRange) (reply : Reply)
     → IsUsed t first c request copy w → Replies w c held reply → (copy ≡ None) × Same (recorded w.slots) first
 unchanged t first c request copy w held reply u (refuses r e h j) = used_at t first c request copy w (Check r) e u
-unchanged t first c request copy w held reply u (no_place place target errno e h i d) = used_at t first c request copy w (Find place target) e u
+unchanged t first c request copy w held reply u (no_place place target errno e h i d) =
+    used_at t first c request copy w (Find place target) e u
 unchanged t first c request copy w held reply u (declines change errno e h i d) = used_at t first c request copy w (Decide change) e u
 unchanged t first c request copy w held reply u (fails touch e h x) = used_at t first c request copy w (Settle touch) e u
 unchanged t first c request copy w held reply u (no_frame touch old e h i none) = used_at t first c request copy w (Want touch old) e u
