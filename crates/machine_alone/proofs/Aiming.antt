@@ -151,7 +151,8 @@ placed_drops t c request place range k valid size =
 
     whole : pages_from range.first (page_count k.len) ≡ range
     whole =
-        ap (λ n. pages_from range.first n) (sym (counted k.len range valid count)) ∙ ap (λ b. record { first = range.first; end = b }) (sym count)
+        ap (λ n. pages_from range.first n) (sym (counted k.len range valid count))
+        ∙ ap (λ b. record { first = range.first; end = b }) (sym count)
 
 -- a change to which a goal leads
 pub goal_drops : (modes : ℕ → Option Mode) (made : Made) (s : Slots) (t : Plain) (c : ℕ) (request : Request) (goal : Goal) (change : Change)

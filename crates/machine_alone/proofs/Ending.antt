@@ -308,7 +308,8 @@ few w t c request k = go (waits_at (w.calls.phase c) k.range k.at_wait)
     go (for_change goal change p i) =
         let f = reached_fine w k.reached in
         let call : IsCallOf w c (Acks goal change) = call_at w c (Acks goal change) p f.order in
-        let valid = goal_valid goal (call_sound w c goal f.order (has_core w c f.order (λ k. let a = sym p ∙ k in cc)) call.asked call.ready.0) in
+        let inside = has_core w c f.order (λ k. let a = sym p ∙ k in cc) in
+        let valid = goal_valid goal (call_sound w c goal f.order inside call.asked call.ready.0) in
         let high = valid.high in
         let left : left_of w c ≡ size (goal_range goal) + 2 = ap (rank_of w.slots (reach_of w.hardware c)) p in
         omega (arith, high, left)

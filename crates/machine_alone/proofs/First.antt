@@ -67,7 +67,8 @@ hint_taken mapped h len taken hint =
 
     given : hint_at h (placed_count len) ≡ Some (pages_from h (placed_count len))
     given =
-        ap (λ b. if b then Some (pages_from h (placed_count len)) else None) (subst (λ n. are_pages (pages_from h n) ≡ true) (sym count) hint.0)
+        ap (λ b. if b then Some (pages_from h (placed_count len)) else None)
+        (subst (λ n. are_pages (pages_from h n) ≡ true) (sym count) hint.0)
 
 -- what finds a room is fewer pages than there are
 room_count : (mapped : ℕ → Bool) (c len s n : ℕ) → c < 64 → (n ≡ placed_count len) ⊎ (n ≡ page_count len) → IsRoom mapped (window_of c) n s
@@ -78,9 +79,11 @@ room_count mapped c len s n few (inr e) room = let high = room.1 in omega (arith
 least_counted : (mapped : ℕ → Bool) (c len : ℕ) (found : Option ℕ) → c < 64 → IsLeastRoom mapped (window_of c) (placed_count len) found
     → IsLeastRoom mapped (window_of c) (page_count len) found
 least_counted mapped c len None few none =
-    λ s room. none s (subst (λ n. IsRoom mapped (window_of c) n s) (sym (room_count mapped c len s (page_count len) few (inr refl) room)) room)
+    λ s room.
+    none s (subst (λ n. IsRoom mapped (window_of c) n s) (sym (room_count mapped c len s (page_count len) few (inr refl) room)) room)
 least_counted mapped c len (Some first) few least =
-    subst (λ n. IsLeastRoom mapped (window_of c) n (Some first)) (room_count mapped c len first (placed_count len) few (inl refl) least.0) least
+    subst (λ n. IsLeastRoom mapped (window_of c) n (Some first))
+    (room_count mapped c len first (placed_count len) few (inl refl) least.0) least
 
 -- it is the plain map's
 pub first_place : (mapped : ℕ → Bool) (c : ℕ) (request : Request) (place : Place) (found : Option ℕ) (k : IsPlaceOf c request place)
@@ -115,7 +118,8 @@ maps_reply t u (Some s) n back prot y h = h.0
 abbrev pub IsFirstReply : Plain → ℕ → Request → Reply → Type 0
 IsFirstReply t c request reply = (u : Plain) → Applies t c request reply u → FirstApplies t c request reply u
 
-pub placed_first : (t : Plain) (c : ℕ) (request : Request) (place : Place) (found : Option ℕ) (reply : Reply) (k : IsPlaceOf c request place) → c < 64
+pub placed_first : (t : Plain) (c : ℕ) (request : Request) (place : Place) (found : Option ℕ) (reply : Reply)
+    (k : IsPlaceOf c request place) → c < 64
     → IsFirst (is_mapped t.entry) place found → reply ≡ reply_at found → IsFirstReply t c request reply
 placed_first t c request place found reply k few first e u h =
     subst (λ r. FirstApplies t c r reply u) (sym k.asks)

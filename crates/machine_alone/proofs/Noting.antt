@@ -116,7 +116,8 @@ lets_go_logged first call copy c w x held b new v k (unlocks reply e n) same h =
     to_told first call copy c new reply x v h (ap status n ∙ told_in (held_after held b) reply)
     (subst (λ calls. IsNoted first copy call c reply calls.log) (sym same) (subst (IsLogged first w.calls.log call c copy) (ap status e) k))
 lets_go_logged first call copy c w x held b new v k (returns place target e n) same h =
-    to_asked first call copy c new x v h (ap status n ∙ back_all (λ p. status p ≡ Asked) place target (held_after held b) refl refl (λ k. refl))
+    to_asked first call copy c new x v h
+    (ap status n ∙ back_all (λ p. status p ≡ Asked) place target (held_after held b) refl refl (λ k. refl))
     (subst (λ calls. IsCopied first copy call calls.log) (sym same) (was_asked first call copy c (Leaving place target held) w e refl k))
 lets_go_logged first call copy c w x held b new v k (releases touch e i n) same h =
     to_asked first call copy c new x v h (ap status n)

@@ -161,7 +161,8 @@ pub back_less : (m : ℕ) (reach old : Touch → Option ℕ) (place : Place) (ta
     → b ≤ held.end
     → rank m reach (back_to place target (held_after held b)) < rank m old (Leaving place target held)
 back_less m reach old place target held b l e =
-    by_test (λ o. rank m reach (back_to place target o) < m + (size held + (elsewhere_rank place target + 1))) (b == held.end) None (Some (between b held.end))
+    by_test (λ o. rank m reach (back_to place target o) < m + (size held + (elsewhere_rank place target + 1)))
+    (b == held.end) None (Some (between b held.end))
     (λ _. let a = elsewhere_least m reach place target in omega (arith, a)) (λ _. omega arith)
 
 -- ---- a mapping that looks for its place

@@ -262,7 +262,8 @@ unhinted w c request place new v g e n k h =
     let b = subst (λ phase. Goes w c phase Stepped v) e g in
     let after : v ≡ to c (placing place place.hint) w = b.1 ∙ ap (λ r. after_plan c r w) k in
     no_hint place place.hint
-    (sym n ∙ (sym (put_same w.calls.phase c new) ∙ (ap (λ (v : World). v.calls.phase c) (sym h ∙ after) ∙ put_same w.calls.phase c (placing place place.hint))))
+    (sym n ∙ (sym (put_same w.calls.phase c new)
+    ∙ (ap (λ (v : World). v.calls.phase c) (sym h ∙ after) ∙ put_same w.calls.phase c (placing place place.hint))))
 
 -- while the call finds whether its target is free
 finding : (t : Plain) (users : Users) (c : ℕ) (request : Request) (copy : Option ℕ) (w : World) (place : Place) (target : Target)
@@ -300,7 +301,8 @@ moves_seek t users c request copy w new v f good u g k (finds touch x e n i) h =
 moves_seek t users c request copy w new v f good u g k (lacks touch old e n i j) h = subst (Seeks t c request) (sym n) tt
 moves_seek t users c request copy w new v f good u g k (shows touch e n i j) h = subst (Seeks t c request) (sym n) tt
 
-replies_seek : (t : Plain) (users : Users) (c : ℕ) (request : Request) (copy : Option ℕ) (w : World) (held : Option PageRange) (reply : Reply) (f : Fine w) → c < 64
+replies_seek : (t : Plain) (users : Users) (c : ℕ) (request : Request) (copy : Option ℕ) (w : World) (held : Option PageRange) (reply : Reply)
+    (f : Fine w) → c < 64
     → nth w.calls.requests (w.calls.number c) ≡ Some request → IsBefore t c copy w → IsUsed t users c request copy w
     → IsSeeking t c request w
     → Replies w c held reply → IsFirstReply t c request reply
@@ -309,7 +311,9 @@ replies_seek t users c request copy w held reply f few number good u k (refuses 
     (check_first w t c r reply (good (ap status e, (used_at t users c request copy w (Check r) e u).0)) j)
 replies_seek t users c request copy w held reply f few number good u k (no_place place target errno e h i d) =
     let its : IsCallOf w c (Find place target) = call_at w c (Find place target) e f.order in
-    let z = unplaced (is_mapped t.entry) w.slots place target errno (finding t users c request copy w place target e good u) d (seeks_at t c request w (Find place target) e k) in
+    let z =
+    unplaced (is_mapped t.entry) w.slots place target errno (finding t users c request copy w place target e good u) d
+    (seeks_at t c request w (Find place target) e k) in
     placed_first t c request place None reply (its_place w c place request number its.asked) few z.0 (i ∙ z.1)
 replies_seek t users c request copy w held reply f few number good u k (declines change errno e h i d) =
     named_first t c request reply (change_is_named w c change request number (call_at w c (Decide change) e f.order).asked)
@@ -403,5 +407,6 @@ seeks_on t users c request copy w v f few number good u g k (installs touch e h)
 seeks_on t users c request copy w v f few number good u g k (accesses touch x e i h) =
     seeks_replied t c request None (reply_of touch x w.memory) v
     (ap (λ (v : World). v.calls.phase c) h ∙ put_same w.calls.phase c (Answer (reply_of touch x w.memory)))
-    (named_first t c request (reply_of touch x w.memory) (touch_is_named w c touch request number (call_at w c (Try touch) e f.order).asked))
+    (named_first t c request (reply_of touch x w.memory)
+    (touch_is_named w c touch request number (call_at w c (Try touch) e f.order).asked))
 seeks_on t users c request copy w v f few number good u g k (faults touch e i h) = seeks_to t c request (locking (To.Access touch)) _ v h tt

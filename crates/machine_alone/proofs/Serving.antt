@@ -536,8 +536,8 @@ seeking_along w t c request m h k (suc n) x s =
     ]
 
 -- its reply is the first
-first_reply : (w : World) (t : Plain) (c : ℕ) (request : Request) (o : Outcome) (x v : World) (reply : Reply) (k : IsServed w t c request o v)
-    → o ≡ Answered reply → x.calls.phase c ≡ Answer reply → IsSeeking t c request x → FirstAnswers t c request k.reply k.after
+first_reply : (w : World) (t : Plain) (c : ℕ) (request : Request) (o : Outcome) (x v : World) (reply : Reply)
+    (k : IsServed w t c request o v) → o ≡ Answered reply → x.calls.phase c ≡ Answer reply → IsSeeking t c request x → FirstAnswers t c request k.reply k.after
 first_reply w t c request o x v reply k answered at seeking =
     let both : Answered k.reply ≡ Answered reply = sym k.answered ∙ answered in
     let same : reply ≡ k.reply = cc in

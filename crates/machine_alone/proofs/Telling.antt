@@ -279,8 +279,10 @@ quiet_told : (w : World) (c : ℕ) (range : PageRange) → Fine w → ((b : ℕ)
     → awaits_in (w.calls.phase c) ≡ None
     → ((d : ℕ) → IsUser w.slots range d → ⊥) → IsToldOf w.slots w.hardware c (Some range)
 quiet_told w c range f others e unused d =
-    let none : w.hardware.inbox d ≡ [] = no_message w.calls.phase d (w.hardware.inbox d) (nobody_awaits w c others e) (f.coherent.asked d) in (
-      subst (λ ms. (is_some (message_of ms c) ≡ true) ↔ ((d ≢ c) × IsUser w.slots range d)) (sym none) (λ m. absurd cc, λ u. absurd (unused d u.1)),
+    let none : w.hardware.inbox d ≡ [] =
+    no_message w.calls.phase d (w.hardware.inbox d) (nobody_awaits w c others e) (f.coherent.asked d) in (
+      subst (λ ms. (is_some (message_of ms c) ≡ true) ↔ ((d ≢ c) × IsUser w.slots range d)) (sym none)
+          (λ m. absurd cc, λ u. absurd (unused d u.1)),
       subst (λ ms. takes_left ms ≡ (if is_some (message_of ms c) then 2 else 0)) (sym none) refl,
     )
 
