@@ -246,22 +246,13 @@ owns_sure first free reach goal b h = go goal (nat_le (goal_range goal).end b)
     go (To.Access touch) true = h
     go goal false = h
 
-divides_near : (first : ℕ → Bool) (w : World) (c : ℕ) (goal : Goal) (cursor : ℕ) (t : Slots) (v : World) → w.calls.phase c ≡ Lock goal cursor
-    → w.memory.is_free ≡ first → missing t < missing w.slots → v ≡ record w { slots = t } → Nears first w c v
-divides_near first w c goal cursor t v e same fewer h = subst (Nears first w c) (sym h) (record {
+-- a slot is divided, and the call is where it was
+stays_near : (first : ℕ → Bool) (w : World) (c : ℕ) (old : Phase) (t : Slots) (v : World) → w.calls.phase c ≡ old → IsSureOf first c w
+    → rank_of t (reach_of w.hardware c) old < rank_of w.slots (reach_of w.hardware c) old → v ≡ record w { slots = t } → Nears first w c v
+stays_near first w c old t v e sure fewer h = subst (Nears first w c) (sym h) (record {
   made = refl;
-  less = subst (λ p. rank_of t (reach_of w.hardware c) p < rank_of w.slots (reach_of w.hardware c) p) (sym e) (omega (arith, fewer));
-  sure = subst (IsSure first w.memory.is_free (reach_of w.hardware c)) (sym e) same;
-})
-
--- a slot that crosses an edge of the range is divided
-cuts_near : (first : ℕ → Bool) (w : World) (c : ℕ) (place : Place) (target : Target) (range : PageRange) (t : Slots) (v : World)
-    → w.calls.phase c ≡ Cut place target range → w.memory.is_free ≡ first → missing t < missing w.slots → v ≡ record w { slots = t }
-    → Nears first w c v
-cuts_near first w c place target range t v e same fewer h = subst (Nears first w c) (sym h) (record {
-  made = refl;
-  less = subst (λ p. rank_of t (reach_of w.hardware c) p < rank_of w.slots (reach_of w.hardware c) p) (sym e) (omega (arith, fewer));
-  sure = subst (IsSure first w.memory.is_free (reach_of w.hardware c)) (sym e) same;
+  less = subst (λ p. rank_of t (reach_of w.hardware c) p < rank_of w.slots (reach_of w.hardware c) p) (sym e) fewer;
+  sure = sure;
 })
 
 lets_go_near : (first : ℕ → Bool) (w : World) (c : ℕ) (held : PageRange) (b : ℕ) (t : Slots) (new : Phase) (v : World) → IsSureOf first c w
@@ -381,10 +372,11 @@ pub goes_near : (first : ℕ → Bool) (w : World) (c : ℕ) (v : World) → Fin
     → Nears first w c v
 goes_near first w c v f after sure own (moves new m h) = moves_near first w c new v f sure m h
 goes_near first w c v f after sure own (divides goal cursor t e s h) =
-    divides_near first w c goal cursor t v e (sure_at first w c (Lock goal cursor) e sure) (missing_less w.slots t None s.divides.0 s.divides.1.1 s.divides.2) h
+    let fewer = missing_less w.slots t None s.divides.0 s.divides.1.1 s.divides.2 in
+    stays_near first w c (Lock goal cursor) t v e sure (omega (arith, fewer)) h
 goes_near first w c v f after sure own (cuts place target range t e s h) =
-    cuts_near first w c place target range t v e (sure_at first w c (Cut place target range) e sure)
-    (missing_less w.slots t (Some c) s.divides.0 s.divides.1.1 s.divides.2) h
+    let fewer = missing_less w.slots t (Some c) s.divides.0 s.divides.1.1 s.divides.2 in
+    stays_near first w c (Cut place target range) t v e sure (omega (arith, fewer)) h
 goes_near first w c v f after sure own (fits place target range e i h) =
     nears first w c (Cut place target range) (Acks (To.Place place target) (Put range place.meta)) w.slots w.hardware w.memory v e
     (rw h refl) (omega arith) (sure_at first w c (Cut place target range) e sure)
