@@ -8,24 +8,25 @@ use Rattle.vm_base.specs.Apply.{detached}
 use Rattle.vm_base.specs.Plain.{Plain}
 use Rattle.vm_base.proofs.Functions.{put_same}
 use Rattle.slot_lock.specs.declared.plan.Touch.{Touch}
+use Rattle.slot_lock.specs.Plan.{goal_range}
 use Rattle.machine_model.specs.declared.log.Entry.{Entry}
 use Rattle.machine_model.specs.declared.log.Entry.TheVariants as EntryOf
-use Rattle.machine_model.specs.declared.phase.Goal.{Goal}
-use Rattle.machine_model.specs.declared.phase.Goal.TheVariants as To
+use Rattle.slot_lock.specs.declared.plan.Goal.{Goal}
+use Rattle.slot_lock.specs.declared.plan.Goal.TheVariants as To
 use Rattle.machine_model.specs.declared.phase.Phase.{Phase}
-use Rattle.machine_model.specs.declared.phase.Phase.TheVariants.{Lock, Post, Acks, Try, Want, Fill, CopyPost, CopyAcks, Install, Release}
+use Rattle.machine_model.specs.declared.phase.Phase.TheVariants.{Lock, Back as Leaving, Cut, Post, Acks, Try, Want, Fill, CopyPost, CopyAcks, Install, Release}
 use Rattle.machine_model.specs.Accesses.{taken_for}
 use Rattle.machine_model.specs.Actions.{to, let_go, with_entry, answer_entry}
-use Rattle.machine_model.specs.Holding.{goal_range}
 use Rattle.machine_model.specs.Locks.{all_locked, held_after, locked_to}
 use Rattle.machine_model.specs.World.{World}
 use Rattle.machine_laws.proofs.Effects.{Status, Closed, Asked, Told, status, told_in}
-use Rattle.machine_laws.proofs.Shapes.{Moves, locks, tries, acts, finds, lacks, shows, Replies, refuses, no_place, declines, fails, no_frame, LetsGo, unlocks, releases, GoesBy, moves, divides, owns, lets_go, answers, posts, commits, takes, zeroes, first_copies, caches, shares, posts_copy, copies, installs, accesses, faults}
+use Rattle.machine_laws.proofs.Shapes.{Moves, locks, tries, hints, seeks, guesses, turns, chooses, acts, finds, lacks, shows, Replies, refuses, no_place, declines, fails, no_frame, LetsGo, unlocks, returns, releases, GoesBy, moves, divides, cuts, fits, owns, lets_go, answers, posts, commits, takes, zeroes, first_copies, caches, shares, posts_copy, copies, installs, accesses, faults}
 use Rattle.machine_sound.specs.Log.{GoesOn, Replays}
 use Rattle.machine_sound.proofs.OneMap.{log_leads_to_one}
 use Rattle.machine_alone.specs.Alone.{IsCopied, IsNoted}
 use Rattle.machine_alone.specs.Copies.{or_else, with_copy}
 use Rattle.machine_alone.specs.Users.{Users}
+use Rattle.machine_alone.proofs.Rank.{back_all}
 use Rattle.machine_alone.proofs.Used.{IsFrom, IsUsed, copy_after, used_at}
 
 -- the log is that of the beginning, with the copy that the call has made, and with its reply once it has one
@@ -79,6 +80,11 @@ was_asked first call copy c old w e a k = subst (IsLogged first w.calls.log call
 moves_asked : (w : World) (c : ℕ) (new : Phase) → Moves w c new → (status new ≡ Asked) × (status (w.calls.phase c) ≡ Asked)
 moves_asked w c new (locks r change e n k) = (ap status n, ap status e)
 moves_asked w c new (tries r touch e n k) = (ap status n, ap status e)
+moves_asked w c new (hints r place range e n i k) = (ap status n, ap status e)
+moves_asked w c new (seeks r place e n k) = (ap status n, ap status e)
+moves_asked w c new (guesses place found e n least) = (ap status n, ap status e)
+moves_asked w c new (turns place target e n d) = (ap status n, ap status e)
+moves_asked w c new (chooses place target range shoot e n d) = (ap status n, ap status e)
 moves_asked w c new (acts change range shoot e n d) = (ap status n, ap status e)
 moves_asked w c new (finds touch f e n k) = (ap status n, ap status e)
 moves_asked w c new (lacks touch old e n k i) = (ap status n, ap status e)
@@ -86,7 +92,7 @@ moves_asked w c new (shows touch e n k i) = (ap status n, ap status e)
 
 replies_asked : (w : World) (c : ℕ) (held : Option PageRange) (reply : Reply) → Replies w c held reply → status (w.calls.phase c) ≡ Asked
 replies_asked w c held reply (refuses r e h j) = ap status e
-replies_asked w c held reply (no_place r place e h i j) = ap status e
+replies_asked w c held reply (no_place place target errno e h i d) = ap status e
 replies_asked w c held reply (declines change errno e h i d) = ap status e
 replies_asked w c held reply (fails touch e h x) = ap status e
 replies_asked w c held reply (no_frame touch old e h i none) = ap status e
@@ -95,6 +101,7 @@ locked_asked : (goal : Goal) (b : ℕ) → status (locked_to goal b) ≡ Asked
 locked_asked goal b = go goal (nat_le (goal_range goal).end b)
   where
     go : (goal : Goal) (p : Bool) → status (cond p (all_locked goal) (Lock goal b)) ≡ Asked
+    go (To.Place place target) true = refl
     go (To.Change change) true = refl
     go (To.Access touch) true = refl
     go goal false = refl
@@ -108,6 +115,10 @@ lets_go_logged : (first : List Entry) (call : ℕ) (copy : Option ℕ) (c : ℕ)
 lets_go_logged first call copy c w x held b new v k (unlocks reply e n) same h =
     to_told first call copy c new reply x v h (ap status n ∙ told_in (held_after held b) reply)
     (subst (λ calls. IsNoted first copy call c reply calls.log) (sym same) (subst (IsLogged first w.calls.log call c copy) (ap status e) k))
+lets_go_logged first call copy c w x held b new v k (returns place target e n) same h =
+    to_asked first call copy c new x v h
+    (ap status n ∙ back_all (λ p. status p ≡ Asked) place target (held_after held b) refl refl (λ k. refl))
+    (subst (λ calls. IsCopied first copy call calls.log) (sym same) (was_asked first call copy c (Leaving place target held) w e refl k))
 lets_go_logged first call copy c w x held b new v k (releases touch e i n) same h =
     to_asked first call copy c new x v h (ap status n)
     (subst (λ calls. IsCopied first copy call calls.log) (sym same) (was_asked first call copy c (Release touch) w e refl k))
@@ -126,6 +137,10 @@ logged_on first t users c request copy w v u k (moves new m h) =
     let a = moves_asked w c new m in
     to_asked first (w.calls.number c) copy c new w v h a.0 (subst (IsLogged first w.calls.log (w.calls.number c) c copy) a.1 k)
 logged_on first t users c request copy w v u k (divides goal cursor s e i h) = subst (IsLoggedOf first (w.calls.number c) copy c) (sym h) k
+logged_on first t users c request copy w v u k (cuts place target range s e i h) =
+    subst (IsLoggedOf first (w.calls.number c) copy c) (sym h) k
+logged_on first t users c request copy w v u k (fits place target range e i h) =
+    to_asked first (w.calls.number c) copy c _ w v h refl (was_asked first (w.calls.number c) copy c (Cut place target range) w e refl k)
 logged_on first t users c request copy w v u k (owns goal cursor b s e l h) =
     to_asked first (w.calls.number c) copy c (locked_to goal b) (record w { slots = s }) v h (locked_asked goal b)
     (was_asked first (w.calls.number c) copy c (Lock goal cursor) w e refl k)
@@ -136,9 +151,9 @@ logged_on first t users c request copy w v u k (answers held reply r h) =
     (w.calls.log, subst (IsLogged first w.calls.log (w.calls.number c) c copy) (replies_asked w c held reply r) k, (w.calls.events, refl))
 logged_on first t users c request copy w v u k (posts change shoot e h) =
     to_asked first (w.calls.number c) copy c _ _ v h refl (was_asked first (w.calls.number c) copy c (Post change shoot) w e refl k)
-logged_on first t users c request copy w v u k (commits change held counts e n l h) =
+logged_on first t users c request copy w v u k (commits goal change counts e n l h) =
     to_told first (w.calls.number c) copy c _ _ _ v h refl
-    (w.calls.log, was_asked first (w.calls.number c) copy c (Acks change held) w e refl k, (w.calls.events, refl))
+    (w.calls.log, was_asked first (w.calls.number c) copy c (Acks goal change) w e refl k, (w.calls.events, refl))
 logged_on first t users c request copy w v u k (takes touch old x e l h) =
     to_asked first (w.calls.number c) copy c (taken_for touch old x) _ v h (taken_asked touch old x)
     (was_asked first (w.calls.number c) copy c (Want touch old) w e refl k)
