@@ -1,5 +1,5 @@
-//! Tests of the parts of a machine, a module for each crate that is tested: `frames`, `refcache`, `backing`, `shootdown` and
-//! `tickets`.
+//! Tests of the parts of a machine, a module for each crate that is tested: `frames`, `refcache`,
+//! `backing`, `shootdown` and `tickets`.
 #![tactic(auto)]
 
 #[cfg(test)]

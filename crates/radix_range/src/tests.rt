@@ -1,5 +1,5 @@
-//! The same calls on both slot maps, worked acquisitions, cuts and folds, each allocation refused in turn, and memory that
-//! comes back.
+//! The same calls on both slot maps, worked acquisitions, cuts and folds, each allocation refused
+//! in turn, and memory that comes back.
 ghost use Rattle.std.specs.Prelude.{◌≡◌, ◌+◌, ◌-◌, ◌<◌, ◌≤◌, ◌^◌, IsTrue, Some};
 ghost use Rattle.vm_base.specs.Pages.{IsPage, IsPageRange, pages_from};
 ghost use Rattle.slot_lock.specs.Slots.{IsHeld, IsSlot, OwnsAll};
@@ -513,8 +513,8 @@ fn another_core_waits_on_both_maps(rt: HostRuntime) -> Result<(), Fail> {
     Ok(())
 }
 
-// A page in the middle of the second slot of the root, and what it has once that slot is mapped: the range's first page
-// has file page 5.
+// A page in the middle of the second slot of the root, and what it has once that slot is mapped:
+// the range's first page has file page 5.
 const INNER: u64 = 0x800_0258;
 
 fn inner_info() -> Option<PageInfo> {
@@ -748,8 +748,8 @@ fn seen<M: SlotMap>(map: &M) -> [Seen; 4] {
     ]
 }
 
-// Tells whether a map whose heap has room for it and no more stays as it is where a division is refused, locking or
-// cutting, and can be locked where it need not be divided.
+// Tells whether a map whose heap has room for it and no more stays as it is where a division is
+// refused, locking or cutting, and can be locked where it need not be divided.
 fn refuses_unchanged<M: SlotMap>(map: &mut M, locked: PageRange) -> Result<bool, NoMemory>
     requires pages { IsPageRange locked }
     requires low { locked.first ≤ 2 ^ 27 }
@@ -786,7 +786,8 @@ fn refusals_change_nothing(rt: HostRuntime) -> Result<(), Fail> {
     Ok(())
 }
 
-// How much of a heap is used while a tree is new, has a page that is a slot of its own, and is folded again.
+// How much of a heap is used while a tree is new, has a page that is a slot of its own, and is
+// folded again.
 fn memory_of(heap: &LocalHeap) -> Result<[usize; 3], NoMemory> {
     let core = CoreId::new(1);
     let one = one_page(16);
