@@ -32,7 +32,8 @@ calls_of it = record {
 -- ---- the whole
 
 -- of slots, hardware, frames, counts, files and calls
-abbrev pub world_of : {A : Type 0} → Slots → Hardware → FrameParts → Counts → List FileParts → CallTable A → World
+abbrev pub world_of : {A : Type 0} → Slots → Hardware → FrameParts → Counts → List FileParts
+    → CallTable A → World
 world_of slots hardware frames counts files calls = record {
   made = record {
     cores = length calls.phases.items;
@@ -52,9 +53,13 @@ world_of slots hardware frames counts files calls = record {
 }
 
 -- the state that the engine has, by what its map says of slots
-abbrev pub world : {M H A : Type 0} {map : _} {read : _} {cpu : _} → (M → Slots) → Engine M H A map read cpu → World
-world slots it = world_of (slots it.map) (parts it.cores).hardware it.frames (counts_of it.counts) it.objects it.calls
+abbrev pub world : {M H A : Type 0} {map : _} {read : _} {cpu : _} → (M → Slots)
+    → Engine M H A map read cpu → World
+world slots it =
+    world_of (slots it.map) (parts it.cores).hardware it.frames (counts_of it.counts) it.objects
+    it.calls
 
 -- where the call of a core stands
-abbrev pub phase_of : {M H A : Type 0} {map : _} {read : _} {cpu : _} → Engine M H A map read cpu → ℕ → Phase
+abbrev pub phase_of : {M H A : Type 0} {map : _} {read : _} {cpu : _} → Engine M H A map read cpu
+    → ℕ → Phase
 phase_of it = phase_at it.calls.phases.items

@@ -29,12 +29,12 @@ use Rattle.slot_lock.specs.Plan.{IsSoundGoal, IsSoundHint, IsSoundPlace, IsTarge
 use Rattle.slot_lock.specs.Slots.{Slots}
 use Rattle.vm_calls.specs.declared.decision.Decision.TheVariants.{Act}
 use Rattle.vm_calls.specs.Checks.{checked, place_of, placed_count, plan_of, touch_of, touched}
-use Rattle.vm_calls.specs.Decisions.{DecidesPlace, DecidesRun, DecidesWindow}
-use Rattle.vm_calls.specs.Decisions.DecidesRun.{free, taken}
+use Rattle.vm_calls.specs.Decisions.{DecidesPlace, DecidesWindow}
 use Rattle.vm_calls.proofs.Passed.{passed}
+use Rattle.vm_calls.proofs.Plainly.{counted}
 use Rattle.machine_model.specs.World.{Made}
 use Rattle.machine_laws.specs.Orderly.{IsChosen, LeadsTo}
-use Rattle.machine_laws.proofs.Deciding.{acts_valid}
+use Rattle.machine_laws.proofs.Deciding.{acts_valid, run_own}
 use Rattle.machine_alone.specs.Taken.{is_access}
 use Rattle.machine_alone.proofs.Using.{DropsAll, change_drops, either_plan, no_change}
 
@@ -86,10 +86,6 @@ place_asked modes c request place e =
 hint_size : (place : Place) (range : PageRange) → IsSoundPlace place → place.hint ≡ Some range → range.end ≡ range.first + place.count
 hint_size place range ok e = (subst (λ o. IsSoundHint o place.count) e ok.hint).1
 
-run_is : (s : Slots) (run range : PageRange) (shoot : ℕ) → DecidesRun s run (Act range shoot) → run ≡ range
-run_is s run range shoot (free f e) = cc
-run_is s run range shoot (taken h e) = absurd cc
-
 sized : (run range : PageRange) (n : ℕ) → run ≡ range → run.end ≡ run.first + n → range.end ≡ range.first + n
 sized run range n e h = subst (λ (r : PageRange). r.end ≡ r.first + n) e h
 
@@ -102,8 +98,8 @@ window_size s place range shoot (Some first, least, e) =
 -- it has as many pages as were asked for
 pub act_size : (s : Slots) (place : Place) (target : Target) (range : PageRange) (shoot : ℕ) → IsSoundPlace place → IsTarget place target
     → DecidesPlace s place target (Act range shoot) → range.end ≡ range.first + place.count
-act_size s place (Hint run) range shoot ok aim d = sized run range place.count (run_is s run range shoot d) (hint_size place run ok aim)
-act_size s place (Run run) range shoot ok aim d = sized run range place.count (run_is s run range shoot d) aim.size
+act_size s place (Hint run) range shoot ok aim d = sized run range place.count (sym (run_own s run range shoot d)) (hint_size place run ok aim)
+act_size s place (Run run) range shoot ok aim d = sized run range place.count (sym (run_own s run range shoot d)) aim.size
 act_size s place Window range shoot ok aim d = window_size s place range shoot d
 
 -- so many pages from a page's first byte on
@@ -131,11 +127,6 @@ pages_at first len = go (len == 0) refl
     go true e = ap (λ a. range a ((first * 4096) / 4096)) start ∙ ap (range first) (none (zero_len e))
     go false e = ap (λ a. range a ((first * 4096 + len + 4095) / 4096)) start ∙ ap (range first) some
 
--- fewer pages than there are are all placed
-pub counted : (len : ℕ) (range : PageRange) → IsPageRange range → range.end ≡ range.first + placed_count len
-    → placed_count len ≡ page_count len
-counted len range valid size = let high = valid.high in let low = valid.low in omega (arith, high, low, size)
-
 -- ---- the users of its pages
 
 -- they have none after the mapping, and no page has got a copy
@@ -151,7 +142,8 @@ placed_drops t c request place range k valid size =
 
     whole : pages_from range.first (page_count k.len) ≡ range
     whole =
-        ap (λ n. pages_from range.first n) (sym (counted k.len range valid count))
+        ap (λ n. pages_from range.first n)
+        (sym (counted k.len (let high = valid.high in let low = valid.low in omega (arith, high, low, count))))
         ∙ ap (λ b. record { first = range.first; end = b }) (sym count)
 
 -- a change to which a goal leads

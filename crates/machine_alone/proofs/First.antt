@@ -1,7 +1,6 @@
 -- The first place of a mapping, and the first answers
-use Rattle.std.proofs.Common.{◌≡◌, ℕ, ◌*◌, ◌^◌, ◌<◌, ◌⊎◌, not, Bool, true, false, inl, inr, refl, sym, ap, subst, arith, Some, None, Option, ◌∙◌}
+use Rattle.std.proofs.Common.{◌≡◌, ℕ, ◌*◌, ◌<◌, ◌⊎◌, not, Bool, true, false, inl, inr, refl, sym, ap, subst, arith, Some, None, Option, ◌∙◌}
 use Rattle.std.specs.Prelude.{if◌then◌else◌}
-use Rattle.std.proofs.lemmas.Bool.Decides.{nat_tests}
 use Rattle.vm_base.specs.declared.info.Back.{Back}
 use Rattle.vm_base.specs.declared.page.PageRange.{PageRange}
 use Rattle.vm_base.specs.declared.replies.Errno.TheVariants.{ENOMEM}
@@ -12,12 +11,13 @@ use Rattle.vm_base.specs.declared.requests.Request.TheVariants.{Mmap, Munmap, Mp
 use Rattle.vm_base.specs.declared.rights.Prot.{Prot}
 use Rattle.vm_base.specs.Apply.{Applies, AppliesAfter, FirstApplies, Maps, MapsAt, back_at, range_at}
 use Rattle.vm_base.specs.Pages.{are_pages, page_count, page_of, pages_from, window_of}
-use Rattle.vm_base.specs.Places.{IsFirstPlace, IsFree, IsHint, IsLeastRoom, IsPlace, IsRoom}
+use Rattle.vm_base.specs.Places.{IsFirstPlace, IsFree, IsHint, IsLeastRoom, IsPlace}
 use Rattle.vm_base.specs.Places.IsFirstPlace.{at_hint, in_window}
 use Rattle.vm_base.specs.Plain.{Plain, is_mapped, mode_of}
 use Rattle.vm_base.specs.Refusals.{refusal}
 use Rattle.slot_lock.specs.declared.plan.Place.{Place}
 use Rattle.vm_calls.specs.Checks.{hint_at, placed_count}
+use Rattle.vm_calls.proofs.Plainly.{counted, few-found, hint-is, none-found, valid-few}
 use Rattle.machine_sound.specs.Log.{Stands}
 use Rattle.machine_alone.specs.Copies.{page_copied, with_copy}
 use Rattle.machine_alone.specs.First.{FirstAnswers, FirstStands, is_placed}
@@ -36,26 +36,16 @@ IsFirst mapped place found =
     ((range : PageRange) × (place.hint ≡ Some range) × IsFree mapped range × (found ≡ Some range.first))
     ⊎ (IsHintTaken mapped place.hint × IsLeastRoom mapped place.window place.count found)
 
-valid_few : (h n : ℕ) → are_pages (pages_from h n) ≡ true → n < 2 ^ 35
-valid_few h n e = grind (arith, nat_tests)
-
 -- a hint that is free
 hint_first : (mapped : ℕ → Bool) (window : PageRange) (h len : ℕ) (range : PageRange) → hint_at h (placed_count len) ≡ Some range
     → IsFree mapped range
     → IsFirstPlace mapped window h (page_count len) (Some range.first)
-hint_first mapped window h len range e free = go (are_pages (pages_from h (placed_count len))) refl e
-  where
-    go : (b : Bool) → are_pages (pages_from h (placed_count len)) ≡ b
-        → ◌≡◌ {A = Option PageRange} (if b then Some (pages_from h (placed_count len)) else None) (Some range)
-        → IsFirstPlace mapped window h (page_count len) (Some range.first)
-    go true i k =
-        let same : pages_from h (placed_count len) ≡ range = cc in
-        let count : placed_count len ≡ page_count len = let a = valid_few h (placed_count len) i in omega (arith, a) in
-        at_hint (
-          subst (λ n. are_pages (pages_from h n) ≡ true) count i,
-          subst (λ n. IsFree mapped (pages_from h n)) count (subst (IsFree mapped) (sym same) free),
-        ) (ap (λ (r : PageRange). Some r.first) (sym same))
-    go false i k = absurd cc
+hint_first mapped window h len range e free =
+    let (valid, is) = hint-is h (placed_count len) range e in
+    let same : placed_count len ≡ page_count len = counted len (valid-few h (placed_count len) valid) in
+    let there : range ≡ pages_from h (page_count len) = is ∙ ap (λ n. pages_from h n) same in
+    at_hint (subst (λ n. are_pages (pages_from h n) ≡ true) same valid, subst (IsFree mapped) there free)
+    (ap (λ (r : PageRange). Some r.first) there)
 
 -- a hint that isn't
 hint_taken : (mapped : ℕ → Bool) (h len : ℕ) → IsHintTaken mapped (hint_at h (placed_count len)) → ¬ IsHint mapped h (page_count len)
@@ -63,27 +53,19 @@ hint_taken mapped h len taken hint =
     subst (IsHintTaken mapped) given taken (subst (λ n. IsFree mapped (pages_from h n)) (sym count) hint.1)
   where
     count : placed_count len ≡ page_count len
-    count = let a = valid_few h (page_count len) hint.0 in omega (arith, a)
+    count = let few = valid-few h (page_count len) hint.0 in omega (arith, few)
 
     given : hint_at h (placed_count len) ≡ Some (pages_from h (placed_count len))
     given =
         ap (λ b. if b then Some (pages_from h (placed_count len)) else None)
         (subst (λ n. are_pages (pages_from h n) ≡ true) (sym count) hint.0)
 
--- what finds a room is fewer pages than there are
-room_count : (mapped : ℕ → Bool) (c len s n : ℕ) → c < 64 → (n ≡ placed_count len) ⊎ (n ≡ page_count len) → IsRoom mapped (window_of c) n s
-    → placed_count len ≡ page_count len
-room_count mapped c len s n few (inl e) room = let high = room.1 in omega (arith, few, e, high)
-room_count mapped c len s n few (inr e) room = let high = room.1 in omega (arith, few, e, high)
-
 least_counted : (mapped : ℕ → Bool) (c len : ℕ) (found : Option ℕ) → c < 64 → IsLeastRoom mapped (window_of c) (placed_count len) found
     → IsLeastRoom mapped (window_of c) (page_count len) found
-least_counted mapped c len None few none =
-    λ s room.
-    none s (subst (λ n. IsRoom mapped (window_of c) n s) (sym (room_count mapped c len s (page_count len) few (inr refl) room)) room)
+least_counted mapped c len None few none = none-found mapped c len few none
 least_counted mapped c len (Some first) few least =
     subst (λ n. IsLeastRoom mapped (window_of c) n (Some first))
-    (room_count mapped c len first (placed_count len) few (inl refl) least.0) least
+    (counted len (few-found c first (placed_count len) few least.0.1)) least
 
 -- it is the plain map's
 pub first_place : (mapped : ℕ → Bool) (c : ℕ) (request : Request) (place : Place) (found : Option ℕ) (k : IsPlaceOf c request place)

@@ -24,14 +24,11 @@ use Rattle.slot_lock.specs.declared.plan.Touch.{Touch}
 use Rattle.slot_lock.specs.Plan.{target_range, goal_range, goal_plan, HasTarget, IsSoundGoal}
 use Rattle.slot_lock.specs.declared.plan.Change.TheVariants.{Put}
 use Rattle.slot_lock.specs.declared.plan.Place.{Place}
-use Rattle.slot_lock.specs.declared.plan.Target.{Target}
-use Rattle.slot_lock.specs.declared.plan.Target.TheVariants.{Hint, Run, Window}
+use Rattle.slot_lock.specs.declared.plan.Target.TheVariants.{Hint, Window}
 use Rattle.vm_base.specs.declared.requests.Request.{Request}
-use Rattle.vm_calls.specs.declared.decision.Decision.TheVariants.{Again}
-use Rattle.vm_calls.specs.Decisions.{DecidesPlace}
 use Rattle.machine_model.specs.Placing.{back_to, guess_of, trying}
-use Rattle.machine_laws.proofs.Going.{call_sound, has_core}
-use Rattle.machine_laws.proofs.Deciding.{goal_valid, window_stays}
+use Rattle.machine_laws.proofs.Going.{call_sound, has_core, passed_on}
+use Rattle.machine_laws.proofs.Deciding.{goal_valid}
 use Rattle.slot_lock.specs.Slots.{Slots}
 use Rattle.vm_calls.specs.Settling.{is_private_store}
 use Rattle.vm_calls.specs.declared.fault.Settled.{Settled}
@@ -52,7 +49,7 @@ use Rattle.machine_model.specs.Translating.{frame_reached, after_translating, en
 use Rattle.machine_model.specs.Locks.{locking, all_locked, locked_to, held_after}
 use Rattle.machine_model.specs.World.{World, Hardware, Memory}
 use Rattle.machine_coherence.specs.Coherent.{IsBacked, IsSoundEntry}
-use Rattle.machine_laws.specs.Orderly.{IsPassed, IsUsable}
+use Rattle.machine_laws.specs.Orderly.{IsUsable}
 use Rattle.machine_laws.proofs.Deciding.{change_sound, sound_range}
 use Rattle.machine_laws.proofs.Moves.{IsCallOf, call_at}
 use Rattle.machine_laws.proofs.Shapes.{IsFault, Moves, locks, tries, hints, seeks, guesses, turns, chooses, acts, finds, lacks, shows, Replies, refuses, no_place, declines, fails, no_frame, LetsGo, unlocks, returns, releases, GoesBy, moves, divides, cuts, fits, owns, lets_go, answers, posts, commits, takes, zeroes, first_copies, caches, shares, posts_copy, copies, installs, accesses, faults}
@@ -131,12 +128,6 @@ place_sound w c request place goal f e passed aim =
     call_sound w c goal f.order (has_core w c f.order (λ k. let a = sym e ∙ k in cc))
     (record { request = request; number = (call_at w c (Check request) e f.order).asked; passed = passed }) aim
 
--- a mapping looks elsewhere only from its hint or a run
-passes : (s : Slots) (place : Place) (target : Target) → DecidesPlace s place target Again → IsPassed target
-passes s place (Hint range) d = tt
-passes s place (Run range) d = tt
-passes s place Window d = window_stays s place d
-
 moves_near : (first : ℕ → Bool) (w : World) (c : ℕ) (new : Phase) (v : World) → Fine w → IsSureOf first c w → Moves w c new → v ≡ to c new w
     → Nears first w c v
 moves_near first w c new v f sure (locks request change e n passed) h =
@@ -163,7 +154,7 @@ moves_near first w c new v f sure (guesses place found e n least) h =
     (guess_less (missing w.slots) (reach_of w.hardware c) (reach_of w.hardware c) place found) (sure_at first w c (Guess place) e sure)
 moves_near first w c new v f sure (turns place target e n d) h =
     nears first w c (Find place target) (Leaving place target (target_range place target)) w.slots w.hardware w.memory v e (rw (h, n) refl)
-    (turn_less (missing w.slots) (reach_of w.hardware c) (reach_of w.hardware c) place target (passes w.slots place target d))
+    (turn_less (missing w.slots) (reach_of w.hardware c) (reach_of w.hardware c) place target (passed_on w.slots place target d))
     (sure_at first w c (Find place target) e sure)
 moves_near first w c new v f sure (chooses place target range shoot e n d) h =
     nears first w c (Find place target) (Cut place target range) w.slots w.hardware w.memory v e (rw (h, n) refl)

@@ -12,7 +12,7 @@ use Rattle.vm_base.specs.declared.requests.Request.TheVariants.{Mmap, Munmap, Mp
 use Rattle.vm_base.specs.declared.rights.Mode.{Mode}
 use Rattle.vm_base.specs.Places.{IsFree, IsLeastRoom}
 use Rattle.vm_base.specs.Pages.{pages_from}
-use Rattle.vm_base.specs.Plain.{Bytes, Entry, File, Plain, is_mapped, mode_of}
+use Rattle.vm_base.specs.Plain.{Entry, Plain, is_mapped, mode_of}
 use Rattle.vm_base.specs.Refusals.{refusal}
 use Rattle.vm_base.proofs.Functions.{put_same}
 use Rattle.slot_lock.specs.declared.plan.Change.{Change}
@@ -47,7 +47,8 @@ use Rattle.machine_laws.specs.Orderly.{Serves}
 use Rattle.machine_laws.proofs.Effects.{Asked, status}
 use Rattle.machine_laws.proofs.Moves.{IsCallOf, call_at}
 use Rattle.machine_laws.proofs.Shapes.{Moves, locks, tries, hints, seeks, guesses, turns, chooses, acts, finds, lacks, shows, Replies, refuses, no_place, declines, fails, no_frame, LetsGo, unlocks, returns, releases, GoesBy, moves, divides, cuts, fits, owns, lets_go, answers, posts, commits, takes, zeroes, first_copies, caches, shares, posts_copy, copies, installs, accesses, faults}
-use Rattle.machine_sound.specs.Invariant.{Fine, Good, ShowsFile, ShowsPage}
+use Rattle.machine_sound.specs.Invariant.{Fine, Good, ShowsPage}
+use Rattle.machine_sound.proofs.Replies.{has_modes}
 use Rattle.machine_alone.specs.First.{is_placed}
 use Rattle.machine_alone.specs.Users.{Users}
 use Rattle.machine_alone.proofs.Aiming.{IsPlaceOf, place_asked}
@@ -100,16 +101,9 @@ mapped_same m (Some info) None h = absurd h
 shown_mapped : (w : World) (t : Plain) → Good w t → is_mapped (entries w.slots) ≡ is_mapped t.entry
 shown_mapped w t g = fun_ext (λ p. mapped_same w.memory (w.slots.info p) (t.entry p) (g.pages p))
 
-mode_same : (bytes : ℕ → Bytes) (cached : ℕ → Option ℕ) (first now : Option File) → ShowsFile bytes cached first now
-    → mode_of now ≡ mode_of first
-mode_same bytes cached None None h = refl
-mode_same bytes cached (Some f) (Some g) h = ap Some (sym h.0)
-mode_same bytes cached None (Some g) h = absurd h
-mode_same bytes cached (Some f) None h = absurd h
-
 -- and the files are open for the same
 shown_modes : (w : World) (t : Plain) → Good w t → ◌≡◌ {A = ℕ → Option Mode} (λ n. mode_of (t.file n)) (λ n. mode_of (w.made.file n))
-shown_modes w t g = fun_ext (λ n. mode_same w.memory.bytes (w.memory.cached n) (w.made.file n) (t.file n) (g.files n))
+shown_modes w t g = fun_ext (has_modes w t g)
 
 -- ---- requests that don't leave their place open
 

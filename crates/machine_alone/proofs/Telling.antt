@@ -1,6 +1,6 @@
 -- Which cores a lone call waits for: the others that are recorded on the pages that it changes or copies
-use Rattle.std.proofs.Common.{◌≡◌, ◌≢◌, ℕ, ◌<◌, Bool, true, false, cond, refl, sym, ap, subst, arith, Some, None, Option, List, [], ◌∷◌, ◌++◌, ◌∙◌}
-use Rattle.std.specs.Prelude.{◌↔◌, ◌==◌, is_some, if◌then◌else◌, nat_le}
+use Rattle.std.proofs.Common.{◌≡◌, ◌≢◌, ℕ, ◌<◌, Bool, true, false, refl, sym, ap, subst, arith, Some, None, Option, List, [], ◌∷◌, ◌++◌, ◌∙◌}
+use Rattle.std.specs.Prelude.{◌↔◌, ◌==◌, is_some, if◌then◌else◌}
 use Rattle.std.proofs.lemmas.Bool.Decides.{nat_tests}
 use Rattle.vm_base.specs.declared.info.PageInfo.{PageInfo}
 use Rattle.vm_base.specs.declared.page.PageRange.{PageRange}
@@ -10,17 +10,14 @@ use Rattle.vm_base.specs.Info.{is_recorded}
 use Rattle.vm_base.proofs.CoreSets.{members-empty}
 use Rattle.vm_base.specs.Functions.{put}
 use Rattle.vm_base.proofs.Functions.{has_in, put_all, put_same, put_other, eq_true, eq_false}
-use Rattle.vm_base.specs.Plain.{File}
 use Rattle.slot_lock.specs.declared.plan.Change.{Change}
-use Rattle.slot_lock.specs.declared.plan.Change.TheVariants.{Put, Clear, Protect}
+use Rattle.slot_lock.specs.declared.plan.Change.TheVariants.{Put}
 use Rattle.slot_lock.specs.declared.plan.Place.{Place}
 use Rattle.slot_lock.specs.declared.plan.Target.{Target}
 use Rattle.slot_lock.specs.declared.plan.Touch.{Touch}
 use Rattle.slot_lock.specs.Plan.{range_of, goal_range}
 use Rattle.slot_lock.specs.Slots.{Slots, IsUser}
-use Rattle.vm_calls.specs.declared.decision.Decision.TheVariants.{Act}
-use Rattle.vm_calls.specs.Decisions.{Decides, entry_of}
-use Rattle.vm_calls.specs.Decisions.DecidesProtect.{no_page, no_write, acts}
+use Rattle.vm_calls.specs.Decisions.{entry_of}
 use Rattle.shootdown.specs.declared.message.Message.{Message}
 use Rattle.shootdown.specs.Inboxes.{awaited}
 use Rattle.shootdown.specs.Messages.{message_of, posted}
@@ -34,17 +31,18 @@ use Rattle.machine_model.specs.Filling.{cores_of, after_zeros, after_first_copy,
 use Rattle.machine_model.specs.Changes.{slots_after, reply_to}
 use Rattle.machine_model.specs.Counting.{with_counts}
 use Rattle.machine_model.specs.Holding.{awaits_in, page_of_touch}
-use Rattle.machine_model.specs.Locks.{locking, locked_to, all_locked, held_after}
+use Rattle.machine_model.specs.Locks.{locking, locked_to}
 use Rattle.machine_model.specs.Placing.{after_cuts}
 use Rattle.machine_laws.proofs.Deciding.{place_free}
 use Rattle.machine_model.specs.Translating.{inboxes_after, after_shot, after_translating, with_hardware}
 use Rattle.machine_model.specs.World.{World, Hardware}
 use Rattle.machine_laws.proofs.Moves.{IsCallOf, call_at, page_is}
-use Rattle.machine_laws.proofs.Shapes.{Moves, locks, tries, hints, seeks, guesses, turns, chooses, acts as decides, finds, lacks, shows, LetsGo, unlocks, returns, releases, GoesBy, moves, divides, cuts, fits, owns, lets_go, answers, posts, commits, takes, zeroes, first_copies, caches, shares, posts_copy, copies, installs, accesses, faults}
+use Rattle.machine_laws.proofs.Shapes.{GoesBy, moves, divides, cuts, fits, owns, lets_go, answers, posts, commits, takes, zeroes, first_copies, caches, shares, posts_copy, copies, installs, accesses, faults}
+use Rattle.machine_laws.proofs.Effects.{moves_quiet, locked_quiet, let_go_still, lets_go_still, taken_asked}
 use Rattle.machine_coherence.specs.Coherent.{AreAsked}
+use Rattle.machine_coherence.proofs.Steps.{users}
 use Rattle.machine_sound.specs.Invariant.{Fine}
 use Rattle.machine_alone.specs.Alone.{takes_left}
-use Rattle.machine_alone.proofs.Rank.{back_all}
 
 -- The cores that have core c's message, if it asks for these pages, are the others that are recorded on them, and have taken nothing of it.
 abbrev pub IsToldOf : Slots → Hardware → ℕ → Option PageRange → Type 0
@@ -130,17 +128,7 @@ left_is_awaited phase d (m ∷ ms) c only h = go (m.from == c) refl
     go true e = (λ _. some m.is_cleared, λ _. refl)
     go false e = absurd (let a = only m.from (eq_false m.from c e) in let b = h.1 in cc)
 
--- the cores that are to be told are those that are recorded on the pages
-acts_users : (files : ℕ → Option File) (s : Slots) (change : Change) (changes : PageRange) (shoot : ℕ)
-    → Decides files s (To.Change change) (Act changes shoot)
-    → (core : ℕ) → (members shoot core ≡ true) ↔ IsUser s (range_of change) core
-acts_users files s (Put range meta) changes shoot h = h.1
-acts_users files s (Clear range) changes shoot h = h.1
-acts_users files s (Protect range prot) changes shoot (no_page a e) = absurd cc
-acts_users files s (Protect range prot) changes shoot (no_write a w r e) = absurd cc
-acts_users files s (Protect range prot) changes shoot (acts a r k) = k.1
-
--- and so are those of a page that is to get a copy
+-- the cores that are to be told are those that are recorded on the page that is to get a copy
 copy_users : (s : Slots) (touch : Touch) (core : ℕ) → (members (cores_of (s.info touch.page)) core ≡ true) ↔ IsUser s (page_of_touch touch) core
 copy_users s touch core = (
   λ m. (touch.page, page_is touch, here (s.info touch.page) m),
@@ -216,49 +204,13 @@ to_untold c new x v h none =
     subst (λ (v : World). IsTold v.slots v.hardware c (v.calls.phase c)) (sym h)
     (untold x.slots x.hardware c (put x.calls.phase c new c) (ap awaits_in (put_same x.calls.phase c new) ∙ none))
 
-moves_untold : (w : World) (c : ℕ) (new : Phase) → Moves w c new → awaits_in new ≡ None
-moves_untold w c new (locks request change e n k) = ap awaits_in n
-moves_untold w c new (tries request touch e n k) = ap awaits_in n
-moves_untold w c new (hints request place range e n i k) = ap awaits_in n
-moves_untold w c new (seeks request place e n k) = ap awaits_in n
-moves_untold w c new (guesses place found e n least) = ap awaits_in n
-moves_untold w c new (turns place target e n d) = ap awaits_in n
-moves_untold w c new (chooses place target range shoot e n d) = ap awaits_in n
-moves_untold w c new (decides change range shoot e n d) = ap awaits_in n
-moves_untold w c new (finds touch f e n u) = ap awaits_in n
-moves_untold w c new (lacks touch old e n u k) = ap awaits_in n
-moves_untold w c new (shows touch e n u k) = ap awaits_in n
-
-locked_untold : (goal : Goal) (b : ℕ) → awaits_in (locked_to goal b) ≡ None
-locked_untold goal b = go goal (nat_le (goal_range goal).end b)
-  where
-    go : (goal : Goal) (p : Bool) → awaits_in (cond p (all_locked goal) (Lock goal b)) ≡ None
-    go (To.Place place target) true = refl
-    go (To.Change change) true = refl
-    go (To.Access touch) true = refl
-    go goal false = refl
-
-let_go_untold : (held : Option PageRange) (reply : Reply) → awaits_in (let_go held reply) ≡ None
-let_go_untold None reply = refl
-let_go_untold (Some held) reply = refl
-
-lets_go_untold : (old : Phase) (held : PageRange) (b : ℕ) (new : Phase) → LetsGo old held b new → awaits_in new ≡ None
-lets_go_untold old held b new (unlocks reply e n) = ap awaits_in n ∙ let_go_untold (held_after held b) reply
-lets_go_untold old held b new (returns place target e n) =
-    ap awaits_in n ∙ back_all (λ p. awaits_in p ≡ None) place target (held_after held b) refl refl (λ k. refl)
-lets_go_untold old held b new (releases touch e h n) = ap awaits_in n
-
-taken_untold : (touch : Touch) (old : Option ℕ) (f : ℕ) → awaits_in (taken_for touch old f) ≡ None
-taken_untold touch None f = refl
-taken_untold touch (Some g) f = refl
-
 -- with its reply
 replied_untold : (c : ℕ) (held : Option PageRange) (reply : Reply) (x v : World) → v ≡ after_reply c held reply x
     → IsTold v.slots v.hardware c (v.calls.phase c)
 replied_untold c held reply x v h =
     subst (λ (v : World). IsTold v.slots v.hardware c (v.calls.phase c)) (sym h)
     (untold x.slots x.hardware c (put x.calls.phase c (let_go held reply) c) (ap awaits_in (put_same x.calls.phase c (let_go held reply))
-    ∙ let_go_untold held reply))
+    ∙ (let_go_still held reply).awaits))
 
 -- with the messages sent
 posted_told : (w : World) (c : ℕ) (new : Phase) (shoot : ℕ) (range : PageRange) (v : World) → Fine w → ((b : ℕ) → b ≢ c → w.calls.phase b ≡ Free)
@@ -299,24 +251,24 @@ fits_told w c place target range v f others e h =
 
 pub told_on : (w : World) (c : ℕ) (v : World) → Fine w → ((b : ℕ) → b ≢ c → w.calls.phase b ≡ Free) → GoesBy w c v
     → IsTold v.slots v.hardware c (v.calls.phase c)
-told_on w c v f others (moves new m h) = to_untold c new w v h (moves_untold w c new m)
+told_on w c v f others (moves new m h) = to_untold c new w v h (moves_quiet w c new m).1.still.awaits
 told_on w c v f others (divides goal cursor t e s h) =
     subst (λ (v : World). IsTold v.slots v.hardware c (v.calls.phase c)) (sym h) (untold t w.hardware c (w.calls.phase c) (ap awaits_in e))
 told_on w c v f others (cuts place target range t e s h) =
     subst (λ (v : World). IsTold v.slots v.hardware c (v.calls.phase c)) (sym h) (untold t w.hardware c (w.calls.phase c) (ap awaits_in e))
 told_on w c v f others (fits place target range e i h) =
     fits_told w c place target range v f others e h
-told_on w c v f others (owns goal cursor b t e l h) = to_untold c (locked_to goal b) (record w { slots = t }) v h (locked_untold goal b)
-told_on w c v f others (lets_go held b t new l u h) = to_untold c new (record w { slots = t }) v h (lets_go_untold (w.calls.phase c) held b new l)
+told_on w c v f others (owns goal cursor b t e l h) = to_untold c (locked_to goal b) (record w { slots = t }) v h (locked_quiet goal b).still.awaits
+told_on w c v f others (lets_go held b t new l u h) = to_untold c new (record w { slots = t }) v h (lets_go_still (w.calls.phase c) held b new l).1.awaits
 told_on w c v f others (answers held reply r h) = replied_untold c held reply w v h
 told_on w c v f others (posts change shoot e h) =
     let k : IsCallOf w c (Post change shoot) = call_at w c (Post change shoot) e f.order in
     posted_told w c (Acks (To.Change change) change) shoot (range_of change) v f others h (ap awaits_in e) refl
-    (acts_users w.made.file w.slots change (range_of change) shoot k.ready)
+    (users w.made.file w.slots change (range_of change) shoot k.ready)
 told_on w c v f others (commits goal change total e n l h) = replied_untold c (Some (goal_range goal)) (reply_to change)
     (with_counts total (record w { slots = slots_after change w.slots })) v h
 told_on w c v f others (takes touch old x e l h) =
-    to_untold c (taken_for touch old x) (record w { memory = (after_frame c touch old x w).memory }) v h (taken_untold touch old x)
+    to_untold c (taken_for touch old x) (record w { memory = (after_frame c touch old x w).memory }) v h (taken_asked touch old x).1
 told_on w c v f others (zeroes touch x counts e b t h) =
     to_untold c (Install touch) (record w { slots = (after_zeros c touch x counts w).slots; memory = (after_zeros c touch x counts w).memory }) v h refl
 told_on w c v f others (first_copies touch x counts e b t h) =

@@ -131,8 +131,8 @@ untold any k = absurd (let e = (k.dropped 0 1 page_20 refl).0 20 refl in cc)
 -- a call that makes a placed mapping, which tells nobody, where another core has an entry of a page of it
 untold_place : (any : ℕ → Option PageInfo) (place : Place) (target : Target)
     → ¬ IsCoherent no_cache any (λ c. Acks (To.Place place target) (Put page_20 place.meta)) (record {
-  table = λ d p. Some entry;
-  tlb = λ d. [];
-  inbox = λ d. [];
-})
+      table = λ d p. Some entry;
+      tlb = λ d. [];
+      inbox = λ d. [];
+    })
 untold_place any place target k = absurd (let e = (k.dropped 0 1 page_20 refl).0 20 refl in cc)

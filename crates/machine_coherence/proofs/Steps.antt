@@ -89,7 +89,7 @@ page_backed {cached} {info} page new f k =
 -- ---- Post
 
 -- the decision shoots just the cores that are recorded on the range
-users : (files : ℕ → Option File) (s : Slots) (change : Change) (changes : PageRange) (shoot : ℕ)
+pub users : (files : ℕ → Option File) (s : Slots) (change : Change) (changes : PageRange) (shoot : ℕ)
     → Decides files s (To.Change change) (Act changes shoot)
     → (core : ℕ) → (members shoot core ≡ true) ↔ IsUser s (range_of change) core
 users files s (Put range meta) changes shoot h = h.1

@@ -38,12 +38,20 @@ abbrev pub IsCopyFor : List Begun → List Entry → ℕ → ℕ → ℕ → ℕ
 IsCopyFor calls log i step k page = (b : Begun) × (nth calls k ≡ Some b) × IsStoreTo b.request page × (b.step < step)
     × ((j later core : ℕ) (reply : Reply) → IsAnswer log j later k core reply → i < j)
 
+-- the entries are of events before the n-th
+abbrev pub AreBefore : ℕ → List Entry → Type 0
+AreBefore n log = (i : ℕ) (x : Entry) → slice_get log i ≡ Some x → step_of x < n
+
+-- each is of a later event than those before it
+abbrev pub StepsRise : List Entry → Type 0
+StepsRise log = (i j : ℕ) (x y : Entry) → i < j → slice_get log i ≡ Some x → slice_get log j ≡ Some y → step_of x < step_of y
+
 -- before the n-th event, when these calls were begun
 pub record Chronicle (n : ℕ) (calls : List Begun) (requests : List Request) (log : List Entry) (call : ℕ → ℕ) (stat : ℕ → Status) : Type 0 where
   pub same : requests ≡ requests_of calls
   pub before : (k : ℕ) (b : Begun) → nth calls k ≡ Some b → b.step < n
-  pub made : (i : ℕ) (x : Entry) → slice_get log i ≡ Some x → step_of x < n
-  pub rises : (i j : ℕ) (x y : Entry) → i < j → slice_get log i ≡ Some x → slice_get log j ≡ Some y → step_of x < step_of y
+  pub made : AreBefore n log
+  pub rises : StepsRise log
   pub begun : (i step k core : ℕ) (reply : Reply) → IsAnswer log i step k core reply → (b : Begun) × (nth calls k ≡ Some b) × (b.core ≡ core) × (b.step < step)
   pub once : (i j step later k core other : ℕ) (reply reply2 : Reply) → IsAnswer log i step k core reply → IsAnswer log j later k other reply2 → i ≡ j
   pub copies : (i step k page : ℕ) → IsDetach log i step k page → IsCopyFor calls log i step k page
@@ -108,26 +116,33 @@ abbrev pub is_reply : Entry → Bool
 is_reply (Answer step call core reply) = true
 is_reply (Detach step call page) = false
 
+-- with one of the n-th event at its end
+made_more : (n : ℕ) (log : List Entry) (new : Entry) → step_of new ≡ n → AreBefore n log → AreBefore (suc n) (log ++ new ∷ [])
+made_more n log new now made i x e = elim (get_either log new i x e) [
+  | inl k ↦ omega (arith, made i x k.0)
+  | inr k ↦ let s : step_of x ≡ n = ap step_of k.1 ∙ now in omega (arith, s)
+]
+
+rises_more : (n : ℕ) (log : List Entry) (new : Entry) → step_of new ≡ n → AreBefore n log → StepsRise log → StepsRise (log ++ new ∷ [])
+rises_more n log new now made rises i j x y lt a b = elim (get_either log new j y b) [
+  | inl k ↦ elim (get_either log new i x a) [
+    | inl l ↦ rises i j x y lt l.0 k.0
+    | inr l ↦ absurd (omega (arith, l.0, k.1, lt))
+  ]
+  | inr k ↦ elim (get_either log new i x a) [
+    | inl l ↦ let s : step_of y ≡ n = ap step_of k.1 ∙ now in omega (arith, s, made i x l.0)
+    | inr l ↦ absurd (omega (arith, l.0, k.0, lt))
+  ]
+]
+
 chron_tells : (n : ℕ) (calls : List Begun) (requests : List Request) (log : List Entry) (call : ℕ → ℕ) (stat : ℕ → Status) (c : ℕ)
     (reply : Reply) → stat c ≡ Asked → Chronicle n calls requests log call stat
     → Chronicle (suc n) calls requests (log ++ Answer n (call c) c reply ∷ []) call (put stat c (Told reply))
 chron_tells n calls requests log call stat c reply e h = record {
   same = h.same;
   before = λ k b e. omega (arith, h.before k b e);
-  made = λ i x e. elim (get_either log new i x e) [
-    | inl k ↦ omega (arith, h.made i x k.0)
-    | inr k ↦ let s : step_of x ≡ n = ap step_of k.1 in omega (arith, s)
-  ];
-  rises = λ i j x y lt a b. elim (get_either log new j y b) [
-    | inl k ↦ elim (get_either log new i x a) [
-      | inl l ↦ h.rises i j x y lt l.0 k.0
-      | inr l ↦ absurd (omega (arith, l.0, k.1, lt))
-    ]
-    | inr k ↦ elim (get_either log new i x a) [
-      | inl l ↦ let s : step_of y ≡ n = ap step_of k.1 in omega (arith, s, h.made i x l.0)
-      | inr l ↦ absurd (omega (arith, l.0, k.0, lt))
-    ]
-  ];
+  made = made_more n log new refl h.made;
+  rises = rises_more n log new refl h.made h.rises;
   begun = λ i step k core r a. elim (get_either log new i (Answer step k core r) a) [
     | inl l ↦ h.begun i step k core r l.0
     | inr l ↦
@@ -200,20 +215,8 @@ chron_detaches : (n : ℕ) (calls : List Begun) (requests : List Request) (log :
 chron_detaches n calls requests log call stat c page request e number store h = record {
   same = h.same;
   before = λ k b e. omega (arith, h.before k b e);
-  made = λ i x e. elim (get_either log new i x e) [
-    | inl k ↦ omega (arith, h.made i x k.0)
-    | inr k ↦ let s : step_of x ≡ n = ap step_of k.1 in omega (arith, s)
-  ];
-  rises = λ i j x y lt a b. elim (get_either log new j y b) [
-    | inl k ↦ elim (get_either log new i x a) [
-      | inl l ↦ h.rises i j x y lt l.0 k.0
-      | inr l ↦ absurd (omega (arith, l.0, k.1, lt))
-    ]
-    | inr k ↦ elim (get_either log new i x a) [
-      | inl l ↦ let s : step_of y ≡ n = ap step_of k.1 in omega (arith, s, h.made i x l.0)
-      | inr l ↦ absurd (omega (arith, l.0, k.0, lt))
-    ]
-  ];
+  made = made_more n log new refl h.made;
+  rises = rises_more n log new refl h.made h.rises;
   begun = λ i step k core r a. h.begun i step k core r (old i step k core r a);
   once = λ i j step later k core other r q a b. h.once i j step later k core other r q (old i step k core r a) (old j later k other q b);
   copies = λ i step k at a. elim (get_either log new i (Detach step k at) a) [

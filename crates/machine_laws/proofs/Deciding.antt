@@ -111,7 +111,7 @@ acts_own files s (Protect range prot) changes shoot (no_write a w r e) = absurd 
 acts_own files s (Protect range prot) changes shoot (acts a r k) = k.0
 
 -- a mapping goes to the whole of its hint or run
-run_own : (s : Slots) (run range : PageRange) (shoot : ℕ) → DecidesRun s run (Act range shoot) → range ≡ run
+pub run_own : (s : Slots) (run range : PageRange) (shoot : ℕ) → DecidesRun s run (Act range shoot) → range ≡ run
 run_own s run range shoot (free f e) = cc
 run_own s run range shoot (taken h e) = absurd cc
 

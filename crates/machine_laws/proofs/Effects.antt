@@ -36,7 +36,7 @@ use Rattle.machine_model.specs.Actions.{to, with_entry, after_reply, let_go, ans
 use Rattle.machine_model.specs.Changes.{slots_after, after_post, reply_to}
 use Rattle.machine_model.specs.Counting.{with_counts}
 use Rattle.machine_model.specs.GivingUp.{given_back}
-use Rattle.machine_model.specs.Holding.{can_give_up, still_held, taken_in}
+use Rattle.machine_model.specs.Holding.{awaits_in, can_give_up, still_held, taken_in}
 use Rattle.machine_model.specs.Locks.{locking, locked_to, all_locked, held_after}
 use Rattle.machine_model.specs.Placing.{trying, back_to}
 use Rattle.machine_model.specs.Translating.{after_translating}
@@ -90,6 +90,79 @@ pub data Effect (w : World) (e : Event) (o : Outcome) (v : World) : Type 0 where
       → v.calls.log ≡ w.calls.log ++ detach_entry w c page ∷ [] → ((d : ℕ) → statuses v d ≡ statuses w d) → Effect w e o v
   opens : (c : ℕ) (request : Request) → e ≡ Call c request → o ≡ Stepped → statuses w c ≡ Closed → v ≡ after_call c request w → Effect w e o v
   closes : (c : ℕ) (reply : Reply) → e ≡ Go c → o ≡ Answered reply → statuses w c ≡ Told reply → v ≡ to c Free w → Effect w e o v
+
+-- ---- calls that wait for nothing
+
+-- the call in this phase awaits no core, and has taken no frame
+pub record IsStill (phase : Phase) : Type 0 where
+  pub awaits : awaits_in phase ≡ None
+  pub taken : taken_in phase ≡ None
+
+-- and it has no reply yet
+pub record IsQuiet (phase : Phase) : Type 0 where
+  pub asked : status phase ≡ Asked
+  pub still : IsStill phase
+
+quiet_at : {p q : Phase} → p ≡ q → status q ≡ Asked → awaits_in q ≡ None → taken_in q ≡ None → IsQuiet p
+quiet_at e a n t = record { asked = ap status e ∙ a; still = record { awaits = ap awaits_in e ∙ n; taken = ap taken_in e ∙ t } }
+
+-- before and after a step to another phase
+pub moves_quiet : (w : World) (c : ℕ) (new : Phase) → Moves w c new → IsQuiet (w.calls.phase c) × IsQuiet new
+moves_quiet w c new (locks request change e n k) = (quiet_at e refl refl refl, quiet_at n refl refl refl)
+moves_quiet w c new (tries request touch e n k) = (quiet_at e refl refl refl, quiet_at n refl refl refl)
+moves_quiet w c new (hints request place range e n i k) = (quiet_at e refl refl refl, quiet_at n refl refl refl)
+moves_quiet w c new (seeks request place e n k) = (quiet_at e refl refl refl, quiet_at n refl refl refl)
+moves_quiet w c new (guesses place found e n i) = (quiet_at e refl refl refl, quiet_at n refl refl refl)
+moves_quiet w c new (turns place target e n d) = (quiet_at e refl refl refl, quiet_at n refl refl refl)
+moves_quiet w c new (chooses place target range shoot e n d) = (quiet_at e refl refl refl, quiet_at n refl refl refl)
+moves_quiet w c new (acts change range shoot e n d) = (quiet_at e refl refl refl, quiet_at n refl refl refl)
+moves_quiet w c new (finds touch f e n u) = (quiet_at e refl refl refl, quiet_at n refl refl refl)
+moves_quiet w c new (lacks touch old e n u d) = (quiet_at e refl refl refl, quiet_at n refl refl refl)
+moves_quiet w c new (shows touch e n u d) = (quiet_at e refl refl refl, quiet_at n refl refl refl)
+
+-- before a reply that changes nothing
+pub replies_quiet : (w : World) (c : ℕ) (held : Option PageRange) (reply : Reply) → Replies w c held reply → IsQuiet (w.calls.phase c)
+replies_quiet w c held reply (refuses request e h k) = quiet_at e refl refl refl
+replies_quiet w c held reply (no_place place target errno e h r d) = quiet_at e refl refl refl
+replies_quiet w c held reply (declines change errno e h r d) = quiet_at e refl refl refl
+replies_quiet w c held reply (fails touch e h f) = quiet_at e refl refl refl
+replies_quiet w c held reply (no_frame touch old e h r f) = quiet_at e refl refl refl
+
+pub locked_quiet : (goal : Goal) (b : ℕ) → IsQuiet (locked_to goal b)
+locked_quiet goal b = go goal (nat_le (goal_range goal).end b)
+  where
+    go : (goal : Goal) (p : Bool) → IsQuiet (cond p (all_locked goal) (Lock goal b))
+    go (To.Place place target) true = quiet_at refl refl refl refl
+    go (To.Change change) true = quiet_at refl refl refl refl
+    go (To.Access touch) true = quiet_at refl refl refl refl
+    go goal false = quiet_at refl refl refl refl
+
+-- a mapping that looks elsewhere
+pub back_quiet : (place : Place) (target : Target) (held : Option PageRange) → IsQuiet (back_to place target held)
+back_quiet place target (Some held) = quiet_at refl refl refl refl
+back_quiet place (Hint range) None = quiet_at refl refl refl refl
+back_quiet place (Run range) None = quiet_at refl refl refl refl
+back_quiet place Window None = quiet_at refl refl refl refl
+
+-- a call that has its reply
+pub let_go_still : (held : Option PageRange) (reply : Reply) → IsStill (let_go held reply)
+let_go_still None reply = record { awaits = refl; taken = refl }
+let_go_still (Some held) reply = record { awaits = refl; taken = refl }
+
+-- before and after a slot is let go
+pub lets_go_still : (old : Phase) (held : PageRange) (b : ℕ) (new : Phase) → LetsGo old held b new → IsStill old × IsStill new
+lets_go_still old held b new (unlocks reply e n) =
+    (subst IsStill (sym e) (record { awaits = refl; taken = refl }), subst IsStill (sym n) (let_go_still (held_after held b) reply))
+lets_go_still old held b new (returns place target e n) =
+    ((quiet_at e refl refl refl).still, subst IsStill (sym n) (back_quiet place target (held_after held b)).still)
+lets_go_still old held b new (releases touch e h n) =
+    ((quiet_at e refl refl refl).still, subst IsStill (sym n) (record { awaits = refl; taken = refl }))
+
+-- a call that has just taken a frame
+pub taken_asked : (touch : Touch) (old : Option ℕ) (f : ℕ)
+    → (status (taken_for touch old f) ≡ Asked) × (awaits_in (taken_for touch old f) ≡ None)
+taken_asked touch None f = (refl, refl)
+taken_asked touch (Some g) f = (refl, refl)
 
 -- ---- which request a copy serves
 
@@ -194,42 +267,6 @@ with_reply w e c held reply t h m v i was k =
 
 -- ---- the shapes
 
-locked_asked : (goal : Goal) (b : ℕ) → status (locked_to goal b) ≡ Asked
-locked_asked goal b = go goal (nat_le (goal_range goal).end b)
-  where
-    go : (goal : Goal) (p : Bool) → status (cond p (all_locked goal) (Lock goal b)) ≡ Asked
-    go (To.Place place target) true = refl
-    go (To.Change change) true = refl
-    go (To.Access touch) true = refl
-    go goal false = refl
-
-same : (w : World) (c : ℕ) (old new : Phase) → w.calls.phase c ≡ old → status new ≡ status old → status new ≡ statuses w c
-same w c old new e h = h ∙ sym (ap status e)
-
-moves_same : (w : World) (c : ℕ) (new : Phase) → Moves w c new → status new ≡ statuses w c
-moves_same w c new (locks request change e n k) = ap status n ∙ sym (ap status e)
-moves_same w c new (tries request touch e n k) = ap status n ∙ sym (ap status e)
-moves_same w c new (hints request place range e n i k) = ap status n ∙ sym (ap status e)
-moves_same w c new (seeks request place e n k) = ap status n ∙ sym (ap status e)
-moves_same w c new (guesses place found e n i) = ap status n ∙ sym (ap status e)
-moves_same w c new (turns place target e n d) = ap status n ∙ sym (ap status e)
-moves_same w c new (chooses place target range shoot e n d) = ap status n ∙ sym (ap status e)
-moves_same w c new (acts change range shoot e n d) = ap status n ∙ sym (ap status e)
-moves_same w c new (finds touch f e n u) = ap status n ∙ sym (ap status e)
-moves_same w c new (lacks touch old e n u d) = ap status n ∙ sym (ap status e)
-moves_same w c new (shows touch e n u d) = ap status n ∙ sym (ap status e)
-
-replies_asked : (w : World) (c : ℕ) (held : Option PageRange) (reply : Reply) → Replies w c held reply → statuses w c ≡ Asked
-replies_asked w c held reply (refuses request e h k) = ap status e
-replies_asked w c held reply (no_place place target errno e h r d) = ap status e
-replies_asked w c held reply (declines change errno e h r d) = ap status e
-replies_asked w c held reply (fails touch e h f) = ap status e
-replies_asked w c held reply (no_frame touch old e h r f) = ap status e
-
-taken_asked : (touch : Touch) (old : Option ℕ) (f : ℕ) → status (taken_for touch old f) ≡ Asked
-taken_asked touch None f = refl
-taken_asked touch (Some g) f = refl
-
 -- only a store gives a private page a copy
 stores : (back : Back) (access : Access) → is_private_store back access ≡ true → access ≡ Store
 stores (Private n k) Store h = refl
@@ -238,33 +275,28 @@ stores (Private n k) Fetch h = absurd cc
 stores (Shared n k) access h = absurd cc
 stores Anon access h = absurd cc
 
--- a mapping that looks elsewhere has no reply
-back_asked : (place : Place) (target : Target) (held : Option PageRange) → status (back_to place target held) ≡ Asked
-back_asked place target (Some held) = refl
-back_asked place (Hint range) None = refl
-back_asked place (Run range) None = refl
-back_asked place Window None = refl
-
 lets_go_same : (old : Phase) (held : PageRange) (b : ℕ) (new : Phase) → LetsGo old held b new → status new ≡ status old
 lets_go_same old held b new (unlocks reply e n) = ap status n ∙ told_in (held_after held b) reply ∙ sym (ap status e)
-lets_go_same old held b new (returns place target e n) = ap status n ∙ back_asked place target (held_after held b) ∙ sym (ap status e)
+lets_go_same old held b new (returns place target e n) = ap status n ∙ (back_quiet place target (held_after held b)).asked ∙ sym (ap status e)
 lets_go_same old held b new (releases touch e h n) = ap status n ∙ sym (ap status e)
 
 step_effect : (w : World) (e : Event) (c : ℕ) (v : World) → IsOrderly w → IsInner e Stepped → GoesBy w c v → Effect w e Stepped v
-step_effect w e c v g i (moves new m h) = goes_on w e c new w.slots w.hardware w.memory v i (moves_same w c new m) h
+step_effect w e c v g i (moves new m h) =
+    let (old, now) = moves_quiet w c new m in
+    goes_on w e c new w.slots w.hardware w.memory v i (now.asked ∙ sym old.asked) h
 step_effect w e c v g i (divides goal cursor t k s h) = beside w e t w.hardware w.memory v i h
 step_effect w e c v g i (cuts place target range t k s h) = beside w e t w.hardware w.memory v i h
 step_effect w e c v g i (fits place target range k cut h) =
     goes_on w e c (At.Acks (To.Place place target) (Put range place.meta)) w.slots w.hardware w.memory v i (sym (ap status k)) h
-step_effect w e c v g i (owns goal cursor b t k l h) = goes_on w e c (locked_to goal b) t w.hardware w.memory v i (locked_asked goal b ∙ sym (ap status k)) h
+step_effect w e c v g i (owns goal cursor b t k l h) = goes_on w e c (locked_to goal b) t w.hardware w.memory v i ((locked_quiet goal b).asked ∙ sym (ap status k)) h
 step_effect w e c v g i (lets_go held b t new l u h) = goes_on w e c new t w.hardware w.memory v i (lets_go_same (w.calls.phase c) held b new l) h
-step_effect w e c v g i (answers held reply r h) = with_reply w e c held reply w.slots w.hardware w.memory v i (replies_asked w c held reply r) h
+step_effect w e c v g i (answers held reply r h) = with_reply w e c held reply w.slots w.hardware w.memory v i (replies_quiet w c held reply r).asked h
 step_effect w e c v g i (posts change shoot k h) =
     goes_on w e c (At.Acks (To.Change change) change) w.slots (after_post c change shoot w).hardware w.memory v i (sym (ap status k)) h
 step_effect w e c v g i (commits goal change counts k n l h) =
     with_reply w e c (Some (goal_range goal)) (reply_to change) (slots_after change w.slots) w.hardware (with_counts counts w).memory v i (ap status k) h
 step_effect w e c v g i (takes touch old f k l h) =
-    goes_on w e c (taken_for touch old f) w.slots w.hardware (after_frame c touch old f w).memory v i (taken_asked touch old f ∙ sym (ap status k)) h
+    goes_on w e c (taken_for touch old f) w.slots w.hardware (after_frame c touch old f w).memory v i ((taken_asked touch old f).0 ∙ sym (ap status k)) h
 step_effect w e c v g i (zeroes touch f counts k b l h) =
     goes_on w e c (Install touch) (after_zeros c touch f counts w).slots w.hardware (after_zeros c touch f counts w).memory v i (sym (ap status k)) h
 step_effect w e c v g i (first_copies touch f counts k store l h) =

@@ -95,7 +95,7 @@ pub aims_kept : (w : World) (c : ℕ) (place : Place) (target : Target) → IsOr
 aims_kept w c place target g lt e i = places w c (Guess place) place target e g lt refl refl (call_at w c (Guess place) e g).asked i
 
 -- only a hint or a run is passed
-passed_on : (s : Slots) (place : Place) (target : Target) → DecidesPlace s place target Again → IsPassed target
+pub passed_on : (s : Slots) (place : Place) (target : Target) → DecidesPlace s place target Again → IsPassed target
 passed_on s place (Hint range) d = tt
 passed_on s place (Run range) d = tt
 passed_on s place Window d = window_stays s place d

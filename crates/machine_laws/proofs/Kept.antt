@@ -35,12 +35,12 @@ use Rattle.machine_laws.proofs.Asked.{asked_more}
 use Rattle.machine_laws.proofs.Counted.{frees, written, counted, counts_down, freed}
 use Rattle.machine_laws.proofs.Changed.{changed_owner, changed_edge, same_outside}
 use Rattle.machine_laws.proofs.Deciding.{change_sound, touch_sound, sound_range, goal_valid, acts_in, acts_valid}
-use Rattle.machine_laws.proofs.Moves.{IsCallOf, call_at, Touches, untouched, KeepsCached, tells, none_taken, asked_gone, held_gone, out_gone, IsHeldRange, ready_gone, ready_kept, awaits_held}
+use Rattle.machine_laws.proofs.Moves.{IsCallOf, call_at, Touches, untouched, KeepsCached, tells, none_taken, asked_gone, held_gone, out_gone, IsHeldRange, ready_gone, awaits_held}
 use Rattle.machine_laws.proofs.Numbered.{at_new}
 use Rattle.machine_laws.proofs.OpenCalls.{one, open_put}
 use Rattle.machine_laws.proofs.Owned.{changed_belongs}
 use Rattle.machine_laws.proofs.Shapes.{Replies, refuses, no_place, declines, fails, no_frame, GoesBy, moves, divides, cuts, fits, owns, lets_go, answers, posts, commits, takes, zeroes, first_copies, caches, shares, posts_copy, copies, installs, accesses, faults, Works, clears, invalidates, walks, evicts, flushes, reviews, frees as frees_frame, Shape, rests, begins, ends, goes, aims, aimed, gives_up, works, joins, Comes, stopped, acts as happens, comes}
-use Rattle.machine_laws.proofs.Slots.{divided}
+use Rattle.machine_laws.proofs.Slots.{divided, other_edges}
 use Rattle.machine_laws.proofs.Going.{steps, page_range, call_sound, place_valid, moves_kept, aims_kept, fits_kept, posts_kept, faults_kept}
 use Rattle.machine_laws.proofs.Locking.{owns_kept, lets_go_kept}
 use Rattle.machine_laws.proofs.Paging.{given_below, takes_kept, zeroes_kept, first_copies_kept, caches_kept, shares_kept, posts_copy_kept, copies_kept, installs_kept}
@@ -310,21 +310,9 @@ end_stays s t c e j mine at = go (t.edge (e + 1)) refl
         let none : s.owner e ≡ None = subst (λ p. s.owner p ≡ None) same free in cc)
 
 joined : (w : World) (t : Slots) → Joins w.slots t → IsOrderly w → IsOrderly (record w { slots = t })
-joined w t j g = record {
-  asked = g.asked;
-  owned = λ c p i. ap (λ f. f p) j.owners ∙ g.owned c p i;
-  only = λ c p i. g.only c p (sym (ap (λ f. f p) j.owners) ∙ i);
-  cut = λ c. cut (range_held (w.calls.phase c)) c (λ p i. g.owned c p i) (g.cut c);
-  cut_out = λ c. cut (awaits_in (w.calls.phase c)) c (λ p i. g.owned c p (awaits_held w.made w.slots w.memory.cached (w.calls.phase c) p (g.ready c) i)) (g.cut_out c);
-  ready = λ c. ready_kept w.made w.slots t w.memory.cached (w.calls.phase c) (λ p i. ap (λ f. f p) j.info) (g.ready c);
-  pages = λ p. subst (λ info. BelongsTo w.made p (info p)) (sym j.info) (g.pages p);
-  taken = g.taken;
-  memory = g.memory;
-  outside = g.outside;
-  few = g.few;
-  room = g.room;
-  limit = g.limit;
-}
+joined w t j g =
+    other_edges w t j.owners j.info (λ c. cut (range_held (w.calls.phase c)) c (λ p i. g.owned c p i) (g.cut c))
+    (λ c. cut (awaits_in (w.calls.phase c)) c (λ p i. g.owned c p (awaits_held w.made w.slots w.memory.cached (w.calls.phase c) p (g.ready c) i)) (g.cut_out c)) g
   where
     cut : (held : Option PageRange) (c : ℕ) → ((p : ℕ) → some_has held p ≡ true → w.slots.owner p ≡ Some c) → IsCutFor w.slots.edge held → IsCutFor t.edge held
     cut None c mine h = tt

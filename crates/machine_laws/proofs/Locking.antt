@@ -18,7 +18,7 @@ use Rattle.slot_lock.specs.declared.plan.Target.TheVariants.{Hint, Run, Window}
 use Rattle.slot_lock.specs.Plan.{target_range, goal_range, HasTarget}
 use Rattle.slot_lock.specs.Slots.{Slots, Locks, Unlocks, between, with_owner}
 use Rattle.machine_model.specs.declared.phase.Phase.{Phase}
-use Rattle.machine_model.specs.declared.phase.Phase.TheVariants.{Lock, Back as Leaving, Unlock, Try, Release}
+use Rattle.machine_model.specs.declared.phase.Phase.TheVariants.{Lock, Guess, Back as Leaving, Unlock, Answer, Try, Release}
 use Rattle.machine_model.specs.Actions.{to, let_go}
 use Rattle.machine_model.specs.Holding.{range_held, awaits_in, holds, some_has, taken_in, is_open}
 use Rattle.machine_model.specs.Locks.{locked_to, all_locked, held_after}
@@ -142,18 +142,29 @@ record Remains (made : Made) (s : Slots) (cached : ℕ → ℕ → Option ℕ) (
   out : IsCutFor s.edge (awaits_in new)
   ready : IsReady made s cached new
 
+-- all of them were let go, and the call awaits nothing
+none_remains : (made : Made) (s : Slots) (cached : ℕ → ℕ → Option ℕ) (held : PageRange) (b : ℕ) (new : Phase) → range_held new ≡ None
+    → IsCutFor s.edge (awaits_in new) → (b == held.end) ≡ true → IsReady made s cached new → Remains made s cached held b new
+none_remains made s cached held b new none out whole ready = record {
+  gone = λ p x y. nothing p y;
+  less = λ p x. absurd (nothing p x);
+  rest = λ p x y. absurd (past p x y);
+  cut = subst (IsCutFor s.edge) (sym none) tt;
+  out = out;
+  ready = ready;
+}
+  where
+    nothing : (p : ℕ) → holds new p ≡ true → ⊥
+    nothing p h = absurd (let i : holds new p ≡ false = ap (λ r. some_has r p) none in cc (h, i))
+
+    past : (p : ℕ) → has (between held.first b) p ≡ false → has held p ≡ true → ⊥
+    past p x y = grind (arith, nat_tests)
+
 remains : (made : Made) (s : Slots) (cached : ℕ → ℕ → Option ℕ) (held : PageRange) (b : ℕ) (reply : Reply) → IsPageRange held → s.edge b ≡ true → s.edge held.end ≡ true → held.first < b → b ≤ held.end
     → Remains made s cached held b (let_go (held_after held b) reply)
 remains made s cached held b reply range eb ee lt by =
     by_test (λ o. Remains made s cached held b (let_go o reply)) (b == held.end) None (Some (between b held.end))
-    (λ i. record {
-      gone = λ p x y. cc;
-      less = λ p x. absurd cc;
-      rest = λ p x y. grind (arith, nat_tests);
-      cut = tt;
-      out = tt;
-      ready = tt;
-    })
+    (λ i. none_remains made s cached held b (Answer reply) refl tt i tt)
     (λ i. record {
       gone = λ p x y. grind (arith, nat_tests);
       less = λ p x. grind (arith, nat_tests);
@@ -208,14 +219,8 @@ back_asked w c place Window None s = s
 back_empty : (w : World) (c : ℕ) (place : Place) (target : Target) (held : PageRange) (b : ℕ) → IsOrderly w → c < w.made.cores
     → Serves w.made w.calls.requests c (w.calls.number c) (PlanOf.Place place) → IsPassed target → (b == held.end) ≡ true
     → Remains w.made w.slots w.memory.cached held b (elsewhere place target)
-back_empty w c place (Hint range) held b g lt s passed i = record {
-  gone = λ p x y. cc;
-  less = λ p x. absurd cc;
-  rest = λ p x y. grind (arith, nat_tests);
-  cut = tt;
-  out = tt;
-  ready = tt;
-}
+back_empty w c place (Hint range) held b g lt s passed i =
+    none_remains w.made w.slots w.memory.cached held b (Guess place) refl tt i tt
 back_empty w c place (Run range) held b g lt s passed i =
     let window : IsPageRange place.window = place_valid w c place Window g lt s tt in record {
       gone = λ p x y. none_yet place.window.first p y;

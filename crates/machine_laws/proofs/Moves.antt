@@ -275,10 +275,13 @@ tells w c held reply t m step call core g lt was touches keeps its pages memory 
 
 -- ---- a call that holds the same pages as before
 
-pub same_pages : (w : World) (c : ℕ) (old new : Phase) → IsCallOf w c old → range_held new ≡ range_held old → IsCutFor w.slots.edge (awaits_in new)
-    → IsAsked w.made w.calls.requests c (w.calls.number c) new
-    → IsReady w.made w.slots w.memory.cached new → ((f : ℕ) → taken_in new ≡ Some f → f < w.made.frames) → IsCallOf w c new
-same_pages w c old new k same out asked ready taken = record {
+-- over pages that have this
+pub same_range : (w : World) (c : ℕ) (old new : Phase) (info : ℕ → Option PageInfo) (cached : ℕ → ℕ → Option ℕ) → IsCallOf w c old
+    → range_held new ≡ range_held old → IsCutFor w.slots.edge (awaits_in new)
+    → IsAsked w.made w.calls.requests c (w.calls.number c) new → IsReady w.made (record w.slots { info = info }) cached new
+    → ((f : ℕ) → taken_in new ≡ Some f → f < w.made.frames)
+    → IsCall w.made (record w.slots { info = info }) cached w.calls.requests c (w.calls.number c) new
+same_range w c old new info cached k same out asked ready taken = record {
   asked = asked;
   owned = λ p h. k.owned p (sym (ap (λ r. some_has r p) same) ∙ h);
   only = λ p h. ap (λ r. some_has r p) same ∙ k.only p h;
@@ -287,6 +290,12 @@ same_pages w c old new k same out asked ready taken = record {
   ready = ready;
   taken = taken;
 }
+
+-- over pages that have what they had
+pub same_pages : (w : World) (c : ℕ) (old new : Phase) → IsCallOf w c old → range_held new ≡ range_held old → IsCutFor w.slots.edge (awaits_in new)
+    → IsAsked w.made w.calls.requests c (w.calls.number c) new
+    → IsReady w.made w.slots w.memory.cached new → ((f : ℕ) → taken_in new ≡ Some f → f < w.made.frames) → IsCallOf w c new
+same_pages w c old new = same_range w c old new w.slots.info w.memory.cached
 
 -- a call that has a reply has taken no frame, and asks for nothing more
 pub none_taken : (held : Option PageRange) (reply : Reply) (f : ℕ) → taken_in (let_go held reply) ≡ Some f → ⊥

@@ -24,7 +24,7 @@ use Rattle.machine_model.specs.Holding.{page_of_touch, range_held, awaits_in, so
 use Rattle.machine_model.specs.World.{World, Made, Memory}
 use Rattle.machine_laws.specs.Orderly.{IsOrderly, IsAsked, Serves, IsCutFor, IsReady, IsUsable, BelongsTo, IsMemory}
 use Rattle.machine_laws.proofs.Counted.{frees, written, cached_more, counted}
-use Rattle.machine_laws.proofs.Moves.{IsCall, IsCallOf, call_at, Touches, untouched, KeepsCached, page_is, goes_on, copies_on, same_pages}
+use Rattle.machine_laws.proofs.Moves.{IsCall, IsCallOf, call_at, Touches, untouched, KeepsCached, page_is, goes_on, copies_on, same_pages, same_range}
 use Rattle.machine_laws.proofs.Owned.{framed_belongs, copied_belongs, recorded_belongs}
 use Rattle.machine_laws.proofs.Slots.{touches_info}
 use Rattle.machine_laws.proofs.Going.{steps}
@@ -109,18 +109,8 @@ at_page : (w : World) (c : ℕ) (touch : Touch) (old new : Phase) (info : Option
     → IsAsked w.made w.calls.requests c (w.calls.number c) new → IsReady w.made (with_info w.slots touch.page info) cached new
     → ((f : ℕ) → taken_in new ≡ Some f → ⊥)
     → IsCall w.made (with_info w.slots touch.page info) cached w.calls.requests c (w.calls.number c) new
-at_page w c touch old new info cached e g was same out asked ready none = record {
-  asked = asked;
-  owned = λ p h. k.owned p (sym (ap (λ r. some_has r p) same) ∙ h);
-  only = λ p h. ap (λ r. some_has r p) same ∙ k.only p h;
-  cut = subst (IsCutFor w.slots.edge) (sym same) k.cut;
-  cut_out = out;
-  ready = ready;
-  taken = λ f h. absurd (none f h);
-}
-  where
-    k : IsCallOf w c old
-    k = call_at w c old e g
+at_page w c touch old new info cached e g was same out asked ready none =
+    same_range w c old new (put w.slots.info touch.page info) cached (call_at w c old e g) same out asked ready (λ f h. absurd (none f h))
 
 page_touches : (w : World) (c : ℕ) (touch : Touch) (old : Phase) (info : Option PageInfo) → w.calls.phase c ≡ old → IsOrderly w
     → range_held old ≡ Some (page_of_touch touch) → Touches w.slots (with_info w.slots touch.page info) c

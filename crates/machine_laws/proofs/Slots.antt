@@ -60,16 +60,18 @@ loses w c old phase set k asked gone less rest cut out ready taken = record {
   taken = taken;
 }
 
--- slots that were only divided
-pub divided : (w : World) (t : Slots) (o : Option ℕ) (at : ℕ) → Divides w.slots t o at → IsOrderly w → IsOrderly (record w { slots = t })
-divided w t o at h g = record {
+-- pages have the same owners and mappings, and slots begin where calls have them begin
+pub other_edges : (w : World) (t : Slots) → t.owner ≡ w.slots.owner → t.info ≡ w.slots.info
+    → ((c : ℕ) → IsCutFor t.edge (range_held (w.calls.phase c))) → ((c : ℕ) → IsCutFor t.edge (awaits_in (w.calls.phase c)))
+    → IsOrderly w → IsOrderly (record w { slots = t })
+other_edges w t owners info cut cut_out g = record {
   asked = g.asked;
-  owned = λ c p i. ap (λ f. f p) h.owners ∙ g.owned c p i;
-  only = λ c p i. g.only c p (sym (ap (λ f. f p) h.owners) ∙ i);
-  cut = λ c. cut_kept w.slots.edge t.edge h.kept (range_held (w.calls.phase c)) (g.cut c);
-  cut_out = λ c. cut_kept w.slots.edge t.edge h.kept (awaits_in (w.calls.phase c)) (g.cut_out c);
-  ready = λ c. ready_kept w.made w.slots t w.memory.cached (w.calls.phase c) (λ p i. ap (λ f. f p) h.info) (g.ready c);
-  pages = λ p. subst (λ info. BelongsTo w.made p (info p)) (sym h.info) (g.pages p);
+  owned = λ c p i. ap (λ f. f p) owners ∙ g.owned c p i;
+  only = λ c p i. g.only c p (sym (ap (λ f. f p) owners) ∙ i);
+  cut = cut;
+  cut_out = cut_out;
+  ready = λ c. ready_kept w.made w.slots t w.memory.cached (w.calls.phase c) (λ p i. ap (λ f. f p) info) (g.ready c);
+  pages = λ p. subst (λ o. BelongsTo w.made p (o p)) (sym info) (g.pages p);
   taken = g.taken;
   memory = g.memory;
   outside = g.outside;
@@ -77,3 +79,9 @@ divided w t o at h g = record {
   room = g.room;
   limit = g.limit;
 }
+
+-- slots that were only divided
+pub divided : (w : World) (t : Slots) (o : Option ℕ) (at : ℕ) → Divides w.slots t o at → IsOrderly w → IsOrderly (record w { slots = t })
+divided w t o at h g =
+    other_edges w t h.owners h.info (λ c. cut_kept w.slots.edge t.edge h.kept (range_held (w.calls.phase c)) (g.cut c))
+    (λ c. cut_kept w.slots.edge t.edge h.kept (awaits_in (w.calls.phase c)) (g.cut_out c)) g

@@ -1,5 +1,6 @@
--- What holds between two steps: a call does what its request asks for, it owns the pages that its phase says and no others, no slot
--- crosses an edge of them or of those that are about to change, and each call that has no reply yet finds room for it in the log.
+-- What holds between two steps: a call does what its request asks for, it owns the pages that its
+-- phase says and no others, no slot crosses an edge of them or of those that are about to change,
+-- and each call that has no reply yet finds room for it in the log.
 use Rattle.std.specs.Prelude.{◌≡◌, ℕ, zero, suc, ◌+◌, ◌<◌, ◌≤◌, Bool, true, false, if◌then◌else◌, List, [], ◌∷◌, length, Option, None, Some, Ok, is_some}
 use Rattle.vm_base.specs.declared.info.PageInfo.{PageInfo}
 use Rattle.vm_base.specs.declared.page.PageRange.{PageRange}
@@ -39,7 +40,8 @@ use Rattle.machine_laws.specs.Brackets.{nth}
 
 -- ---- which request a call serves
 
--- the call with this number has a request that its arguments don't refuse, and that asks for this plan
+-- the call with this number has a request that its arguments don't refuse, and that asks for this
+-- plan
 pub record Serves (made : Made) (requests : List Request) (core call : ℕ) (plan : Plan) : Type 0 where
   pub request : Request
   pub number : nth requests call ≡ Some request
@@ -66,14 +68,18 @@ IsCutFor edge (Some held) = held.first < held.end → IsCutRange edge held
 
 -- ---- what a call relies on
 
--- the page is mapped, allows the access, doesn't lie past the end of its file, and has this frame, if it has one
+-- the page is mapped, allows the access, doesn't lie past the end of its file, and has this frame,
+-- if it has one
 abbrev pub IsUsable : (ℕ → Option File) → Option PageInfo → Access → Option ℕ → Type 0
 IsUsable file None access frame = ⊥
 IsUsable file (Some info) access frame =
-    (is_allowed info.meta.prot access ≡ true) × (is_past_end file (Some info) ≡ false) × (info.frame ≡ frame)
+    (is_allowed info.meta.prot access ≡ true) × (is_past_end file (Some info) ≡ false)
+    × (info.frame ≡ frame)
 
--- the access is a store to a private page whose frame, this one, caches its file page: a copy is due
-pub record IsCopyDue (cached : ℕ → ℕ → Option ℕ) (info : Option PageInfo) (access : Access) (frame : ℕ) : Type 0 where
+-- the access is a store to a private page whose frame, this one, caches its file page: a copy is
+-- due
+pub record IsCopyDue (cached : ℕ → ℕ → Option ℕ) (info : Option PageInfo) (access : Access)
+    (frame : ℕ) : Type 0 where
   pub store : is_private_store (back_of info) access ≡ true
   pub shown : shows_file cached (back_of info) frame ≡ true
 
@@ -82,15 +88,18 @@ abbrev pub IsWanted : (ℕ → ℕ → Option ℕ) → Option PageInfo → Acces
 IsWanted cached info access None = Unit {0}
 IsWanted cached info access (Some old) = IsCopyDue cached info access old
 
--- a call that has taken no frame finds one that caches the page's file page, and that the page may show
+-- a call that has taken no frame finds one that caches the page's file page, and that the page may
+-- show
 abbrev pub IsFillable : (ℕ → ℕ → Option ℕ) → Option PageInfo → Access → Option ℕ → Type 0
 IsFillable cached info access (Some f) = Unit {0}
 IsFillable cached info access None =
-    (is_private_store (back_of info) access ≡ false) × ((g : ℕ) × (file_frame cached (back_of info) ≡ Some g))
+    (is_private_store (back_of info) access ≡ false)
+    × ((g : ℕ) × (file_frame cached (back_of info) ≡ Some g))
 
 abbrev pub IsCopying : Made → Slots → (ℕ → ℕ → Option ℕ) → Touch → Type 0
 IsCopying made s cached touch =
-    (g : ℕ) × IsUsable made.file (s.info touch.page) touch.access (Some g) × IsCopyDue cached (s.info touch.page) touch.access g
+    (g : ℕ) × IsUsable made.file (s.info touch.page) touch.access (Some g)
+    × IsCopyDue cached (s.info touch.page) touch.access g
 
 -- the pages held let the call act on the range
 abbrev pub IsChosen : Made → Slots → Goal → PageRange → Type 0
@@ -115,25 +124,34 @@ pub record IsRest (target held : PageRange) : Type 0 where
   pub same_end : held.end ≡ target.end
 
 abbrev pub IsReady : Made → Slots → (ℕ → ℕ → Option ℕ) → Phase → Type 0
-IsReady made s cached (Lock goal cursor) = ((goal_range goal).first ≤ cursor) × (cursor < (goal_range goal).end) × HasTarget goal
+IsReady made s cached (Lock goal cursor) =
+    ((goal_range goal).first ≤ cursor) × (cursor < (goal_range goal).end) × HasTarget goal
 IsReady made s cached (Find place target) = IsTarget place target
-IsReady made s cached (Back place target held) = IsPassed target × IsRest (target_range place target) held
-IsReady made s cached (Cut place target range) = IsTarget place target × IsChosen made s (To.Place place target) range
-IsReady made s cached (Post change shoot) = Decides made.file s (To.Change change) (Act (range_of change) shoot)
-IsReady made s cached (Acks goal change) = HasTarget goal × LeadsTo goal change × IsChosen made s goal (range_of change)
+IsReady made s cached (Back place target held) =
+    IsPassed target × IsRest (target_range place target) held
+IsReady made s cached (Cut place target range) =
+    IsTarget place target × IsChosen made s (To.Place place target) range
+IsReady made s cached (Post change shoot) =
+    Decides made.file s (To.Change change) (Act (range_of change) shoot)
+IsReady made s cached (Acks goal change) =
+    HasTarget goal × LeadsTo goal change × IsChosen made s goal (range_of change)
 IsReady made s cached (Unlock held reply) = IsPageRange held
 IsReady made s cached (Want touch old) =
-    IsUsable made.file (s.info touch.page) touch.access old × IsWanted cached (s.info touch.page) touch.access old
+    IsUsable made.file (s.info touch.page) touch.access old
+    × IsWanted cached (s.info touch.page) touch.access old
 IsReady made s cached (Fill touch frame) =
-    IsUsable made.file (s.info touch.page) touch.access None × IsFillable cached (s.info touch.page) touch.access frame
+    IsUsable made.file (s.info touch.page) touch.access None
+    × IsFillable cached (s.info touch.page) touch.access frame
 IsReady made s cached (CopyPost touch frame) = IsCopying made s cached touch
 IsReady made s cached (CopyAcks touch frame) = IsCopying made s cached touch
-IsReady made s cached (Install touch) = (f : ℕ) × IsUsable made.file (s.info touch.page) touch.access (Some f)
+IsReady made s cached (Install touch) =
+    (f : ℕ) × IsUsable made.file (s.info touch.page) touch.access (Some f)
 IsReady made s cached _ = Unit {0}
 
 -- ---- pages
 
--- only a valid page is mapped, and its frame and the cores that are recorded on it are the machine's
+-- only a valid page is mapped, and its frame and the cores that are recorded on it are the
+-- machine's
 pub record BelongsTo (made : Made) (page : ℕ) (info : Option PageInfo) : Type 0 where
   pub valid : is_some info ≡ true → IsPage page
   pub frame : (f : ℕ) → frame_of info ≡ Some f → f < made.frames
@@ -141,7 +159,8 @@ pub record BelongsTo (made : Made) (page : ℕ) (info : Option PageInfo) : Type 
 
 -- ---- memory
 
--- frames that are free, or cache a file's page, are the machine's, and Refcache counts its frames for its cores
+-- frames that are free, or cache a file's page, are the machine's, and Refcache counts its frames
+-- for its cores
 pub record IsMemory (made : Made) (m : Memory) : Type 0 where
   pub free : (f : ℕ) → m.is_free f ≡ true → f < made.frames
   pub cached : (n k f : ℕ) → m.cached n k ≡ Some f → f < made.frames
@@ -184,7 +203,8 @@ pub record Order (made : Made) (s : Slots) (m : Memory) (phase : ℕ → Phase) 
   pub outside : (c : ℕ) → made.cores ≤ c → phase c ≡ Free
   -- the window of each core has valid pages alone
   pub few : made.cores ≤ 64
-  -- each call without a reply finds room in the log, which is made with room for one reply of each call
+  -- each call without a reply finds room in the log, which is made with room for one reply of each
+  -- call
   pub room : answer_count log + open_calls phase made.cores ≤ length requests
   pub limit : length requests ≤ made.calls
 
@@ -195,4 +215,5 @@ abbrev pub AllStepsKeepOrder : Type 0
 AllStepsKeepOrder = (w v : World) (e : Event) (o : Outcome) → IsOrderly w → Step w e o v → IsOrderly v
 
 abbrev pub AllOpeningsAreOrderly : Type 0
-AllOpeningsAreOrderly = (made : Made) (slots : Slots) → made.cores ≤ 64 → IsNew slots → IsOrderly (new_world made slots)
+AllOpeningsAreOrderly =
+    (made : Made) (slots : Slots) → made.cores ≤ 64 → IsNew slots → IsOrderly (new_world made slots)

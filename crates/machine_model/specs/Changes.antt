@@ -1,4 +1,5 @@
--- The check of a request's arguments, and the steps of a fixed mmap, of munmap and mprotect; those of a placed mmap from its commit on
+-- The check of a request's arguments, and the steps of a fixed mmap, of munmap and mprotect; those
+-- of a placed mmap from its commit on
 use Rattle.std.specs.Prelude.{◌≡◌, ℕ, ◌-◌, ◌⊎◌, true, false, None, Some, Result, Ok, Err}
 use Rattle.vm_base.specs.declared.page.PageRange.{PageRange}
 use Rattle.vm_base.specs.declared.requests.Request.{Request}
@@ -57,14 +58,17 @@ after_decision c change Again w = w
 
 abbrev pub DecidesNext : World → ℕ → Change → Outcome → World → Type 0
 DecidesNext w c change o v =
-    (d : Decision) × Decides w.made.file w.slots (To.Change change) d × Becomes (after_decision c change d w) o v
+    (d : Decision) × Decides w.made.file w.slots (To.Change change) d
+    × Becomes (after_decision c change d w) o v
 
 -- ---- Post
 
--- The recorded cores are told to drop their translations of the pages, core c's own being dropped at once.
+-- The recorded cores are told to drop their translations of the pages, core c's own being dropped
+-- at once.
 abbrev pub after_post : ℕ → Change → ℕ → World → World
 after_post c change shoot w =
-    to c (Acks (To.Change change) change) (with_hardware (after_shot w.hardware c shoot (range_of change)) w)
+    to c (Acks (To.Change change) change)
+    (with_hardware (after_shot w.hardware c shoot (range_of change)) w)
 
 -- ---- Acks
 
@@ -80,7 +84,8 @@ reply_to change = answer_to (To.Change change) (range_of change)
 -- the change is made at once, these are the counts from there on, and its reply stands
 abbrev pub after_commit : ℕ → Change → PageRange → Counts → World → World
 after_commit c change held counts w =
-    after_reply c (Some held) (reply_to change) (with_counts counts (record w { slots = slots_after change w.slots }))
+    after_reply c (Some held) (reply_to change)
+    (with_counts counts (record w { slots = slots_after change w.slots }))
 
 -- core c has counted down the frames that the change takes from pages, in order of pages
 abbrev pub CountsLost : ℕ → Change → World → Counts → Type 0
@@ -102,5 +107,6 @@ pub record Awaits (h : Hardware) (c set : ℕ) : Type 0 where
 abbrev pub CommitsNext : World → ℕ → Change → PageRange → Outcome → World → Type 0
 CommitsNext w c change held o v =
     (AwaitsNobody w.hardware c
-    × ((counts : Counts) × CountsLost c change w counts × Becomes (after_commit c change held counts w) o v))
+    × ((counts : Counts) × CountsLost c change w counts
+    × Becomes (after_commit c change held counts w) o v))
     ⊎ ((set : ℕ) × Awaits w.hardware c set × (o ≡ Wait (WaitsFor.Acks set)) × (v ≡ w))

@@ -1,4 +1,5 @@
--- What a call is at, by its phase: its plan, the pages that it locks, those that it holds, and the frame that it has taken
+-- What a call is at, by its phase: its plan, the pages that it locks, those that it holds, and the
+-- frame that it has taken
 use Rattle.std.specs.Prelude.{ℕ, ◌==◌, Bool, true, false, if◌then◌else◌, Option, None, Some}
 use Rattle.vm_base.specs.declared.page.PageRange.{PageRange}
 use Rattle.vm_base.specs.Functions.{has}
@@ -104,7 +105,8 @@ is_open (Unlock held reply) = false
 is_open (Answer reply) = false
 is_open _ = true
 
--- the call may still be given up, where it awaits no other core: it has no reply, and hasn't asked others to drop what a change takes
+-- the call may still be given up, where it awaits no other core: it has no reply, and hasn't asked
+-- others to drop what a change takes
 abbrev pub can_give_up : Phase → Bool
 can_give_up (Acks goal change) = false
 can_give_up phase = is_open phase

@@ -39,10 +39,12 @@ LocksTo w c goal t Split o v = Becomes (record w { slots = t }) o v
 LocksTo w c goal t (Locked b) o v = Becomes (to c (locked_to goal b) (record w { slots = t })) o v
 LocksTo w c goal t (Held by) o v = (o ≡ Wait (Slot by)) × (v ≡ w)
 
--- One step towards holding the pages from the cursor on. Which slot is divided, and where, the slot map chooses.
+-- One step towards holding the pages from the cursor on. Which slot is divided, and where, the slot
+-- map chooses.
 abbrev pub LocksNext : World → ℕ → Goal → ℕ → Outcome → World → Type 0
 LocksNext w c goal cursor o v =
-    (got : Got) × ((t : Slots) × Steps w.slots t c cursor (goal_range goal).end got × LocksTo w c goal t got o v)
+    (got : Got)
+    × ((t : Slots) × Steps w.slots t c cursor (goal_range goal).end got × LocksTo w c goal t got o v)
 
 -- ---- Unlock and Release: the leftmost slot is let go
 
@@ -63,8 +65,10 @@ Releases w c touch o v =
 
 -- ---- Fold
 
--- Slots that nobody holds are joined at a page, where that is possible. Which ones, and when, the slot map chooses.
+-- Slots that nobody holds are joined at a page, where that is possible. Which ones, and when, the
+-- slot map chooses.
 abbrev pub FoldsAt : World → ℕ → Outcome → World → Type 0
 FoldsAt w page o v =
     Idles w o v
-    ⊎ (IsPage page × ((t : Slots) × Joins w.slots t × IsSlotMap t × Becomes (record w { slots = t }) o v))
+    ⊎ (IsPage page
+    × ((t : Slots) × Joins w.slots t × IsSlotMap t × Becomes (record w { slots = t }) o v))

@@ -1,5 +1,6 @@
--- How a mapping without MAP_FIXED finds its place: its hint's pages are locked, then those of one run of its window that it guesses to be
--- free, then its window, never two of them at once. It goes to pages that are free while it holds them.
+-- How a mapping without MAP_FIXED finds its place: its hint's pages are locked, then those of one
+-- run of its window that it guesses to be free, then its window, never two of them at once. It goes
+-- to pages that are free while it holds them.
 use Rattle.std.specs.Prelude.{◌≡◌, ℕ, ◌+◌, ◌&&◌, nat_le, Bool, Option, None, Some, cond}
 use Rattle.vm_base.specs.declared.page.PageRange.{PageRange}
 use Rattle.vm_base.specs.declared.replies.Reply.TheVariants.{Refused}
@@ -73,7 +74,8 @@ TakesWindow w c _ o v = Idles w o v
 -- ---- Find: all pages of the target are held
 
 abbrev pub after_finding_place : ℕ → Place → Target → Decision → World → World
-after_finding_place c place target (Refuse e) w = after_reply c (Some (target_range place target)) (Refused e) w
+after_finding_place c place target (Refuse e) w =
+    after_reply c (Some (target_range place target)) (Refused e) w
 after_finding_place c place target (Act range shoot) w = to c (Cut place target range) w
 after_finding_place c place target Again w = to c (Back place target (target_range place target)) w
 
@@ -84,7 +86,8 @@ FindsNext w c place target o v =
 
 -- ---- Back: the leftmost slot is let go
 
--- where a mapping looks that can't go to this target: after its hint for a run, after a run in its window
+-- where a mapping looks that can't go to this target: after its hint for a run, after a run in its
+-- window
 abbrev pub elsewhere : Place → Target → Phase
 elsewhere place (Hint range) = Guess place
 elsewhere place (Run range) = trying place Window
@@ -102,7 +105,8 @@ GoesBack w c place target held o v =
 
 -- ---- Cut
 
--- the mapping is to be made at the range. No core is told: pages that aren't mapped have no recorded core
+-- the mapping is to be made at the range. No core is told: pages that aren't mapped have no
+-- recorded core
 abbrev pub after_cuts : ℕ → Place → Target → PageRange → World → World
 after_cuts c place target range w = to c (Acks (To.Place place target) (Put range place.meta)) w
 

@@ -1,4 +1,5 @@
--- One step of the machine, as a relation of the states before and after. Where the slot map may choose, any choice is allowed.
+-- One step of the machine, as a relation of the states before and after. Where the slot map may
+-- choose, any choice is allowed.
 use Rattle.std.specs.Prelude.{◌≡◌, ℕ, zero, suc, ◌-◌, ◌^◌, Bool, true, cond, nat_lt, length, List, [], ◌∷◌, ◌++◌, Option, None, Some}
 use Rattle.vm_base.specs.declared.requests.Request.{Request}
 use Rattle.vm_base.specs.Functions.{put}
@@ -36,7 +37,8 @@ after_call c request w = to c (At.Check request) (record w {
 -- a core has one call at a time; past the limit of calls none begins
 abbrev pub Begins : World → ℕ → Request → Phase → Outcome → World → Type 0
 Begins w c request At.Free o v =
-    cond (nat_lt (length w.calls.requests) w.made.calls) (Becomes (after_call c request w) o v) ((o ≡ Full) × (v ≡ w))
+    cond (nat_lt (length w.calls.requests) w.made.calls) (Becomes (after_call c request w) o v)
+    ((o ≡ Full) × (v ≡ w))
 Begins w c request _ o v = Idles w o v
 
 -- ---- Go: a step of the call of core c, which is in this phase

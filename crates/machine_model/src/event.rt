@@ -4,7 +4,8 @@ ghost use Rattle.machine_model.specs.Events.{core_of};
 
 use vm_base::{CoreId, CoreSet, Reply, Request};
 
-/// One step. Frames and pages are numbers of which some don't exist; an event that names such a one is not possible.
+/// One step. Frames and pages are numbers of which some don't exist; an event that names such a one
+/// is not possible.
 #[derive(Clone, Copy, Debug, PartialEq, Eq)]
 pub enum Event {
     /// The core begins a call.
@@ -19,8 +20,8 @@ pub enum Event {
     Whole(CoreId),
     /// The core acts on the oldest message of its inbox.
     Take(CoreId),
-    /// The core's TLB gets the page's translation from its tables, without an access (Intel SDM volume 3A, caching
-    /// translation information).
+    /// The core's TLB gets the page's translation from its tables, without an access (Intel SDM
+    /// volume 3A, caching translation information).
     Walk(CoreId, u64),
     /// The core's TLB drops its translation of the page.
     Evict(CoreId, u64),

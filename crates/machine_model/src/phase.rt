@@ -21,13 +21,15 @@ pub enum Phase {
         place: Place,
         target: Target,
     },
-    /// Some page of the target is mapped: these of its pages are still to be unlocked, and then the mapping looks elsewhere.
+    /// Some page of the target is mapped: these of its pages are still to be unlocked, and then the
+    /// mapping looks elsewhere.
     Back {
         place: Place,
         target: Target,
         held: PageRange,
     },
-    /// The mapping goes to this range of its target, and the slots that cross an edge of the range are to be cut.
+    /// The mapping goes to this range of its target, and the slots that cross an edge of the range
+    /// are to be cut.
     Cut {
         place: Place,
         target: Target,
@@ -61,7 +63,8 @@ pub enum Phase {
         touch: Touch,
         old: Option<u32>,
     },
-    /// The page is to get a frame: the one that caches its file page, or else this one, which the call has taken.
+    /// The page is to get a frame: the one that caches its file page, or else this one, which the
+    /// call has taken.
     Fill {
         touch: Touch,
         frame: Option<u32>,

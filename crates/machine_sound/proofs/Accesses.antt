@@ -30,6 +30,7 @@ use Rattle.machine_model.specs.World.{World, Memory}
 use Rattle.machine_counting.specs.Counted.{IsCountedState}
 use Rattle.machine_laws.proofs.Moves.{IsCallOf, call_at}
 use Rattle.machine_laws.proofs.Shapes.{IsFault}
+use Rattle.machine_counting.proofs.Kept.{same_with_core}
 use Rattle.machine_sound.specs.Invariant.{Fine, Good, Shows, ShowsPage, own_frame}
 use Rattle.machine_sound.proofs.Moves.{Leaves, shows_less, goes_on, tells, answers}
 use Rattle.machine_sound.proofs.Reaching.{ReachesFrame, reaches}
@@ -152,10 +153,6 @@ no_frame_told w event c touch old held e none f =
 
 -- ---- Install
 
-recorded_frame : (c : ℕ) (o : Option PageInfo) → frame_of (info_with_core c o) ≡ frame_of o
-recorded_frame c None = refl
-recorded_frame c (Some info) = refl
-
 recorded_own : (cached : ℕ → ℕ → Option ℕ) (c : ℕ) (o : Option PageInfo) → own_frame cached (info_with_core c o) ≡ own_frame cached o
 recorded_own cached c None = refl
 recorded_own cached c (Some info) = refl
@@ -180,9 +177,9 @@ core_installed w event c touch f =
     (recorded_shown w.memory c (w.slots.info touch.page) (f.plain.entry touch.page) (f.good.pages touch.page)) (λ p ne. f.good.pages p))
     f.good.files
     (λ p x. put_all (λ p o. frame_of o ≡ Some x → frame_of (w.slots.info p) ≡ Some x) w.slots.info touch.page new
-    (λ h. sym (recorded_frame c (w.slots.info touch.page)) ∙ h) (λ p ne h. h) p)
+    (λ h. sym (same_with_core c (w.slots.info touch.page)) ∙ h) (λ p ne h. h) p)
     (λ p x. put_all (λ p o. own_frame cached o ≡ Some x → own_frame cached (w.slots.info p) ≡ Some x) w.slots.info touch.page new
     (λ h. sym (recorded_own cached c (w.slots.info touch.page)) ∙ h) (λ p ne h. h) p)
     (λ p x. put_all (λ p o. frame_of o ≡ Some x → is_past_end w.made.file o ≡ false) w.slots.info touch.page new
-    (λ h. recorded_whole w.made.file c (w.slots.info touch.page) ∙ f.good.whole touch.page x (sym (recorded_frame c (w.slots.info touch.page)) ∙ h))
+    (λ h. recorded_whole w.made.file c (w.slots.info touch.page) ∙ f.good.whole touch.page x (sym (same_with_core c (w.slots.info touch.page)) ∙ h))
     (λ p ne h. f.good.whole p x h) p))

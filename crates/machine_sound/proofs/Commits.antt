@@ -21,6 +21,7 @@ use Rattle.machine_model.specs.Accesses.{is_past_end}
 use Rattle.machine_model.specs.World.{World, Memory}
 use Rattle.machine_laws.proofs.Changed.{changed_all}
 use Rattle.machine_laws.proofs.Moves.{IsCallOf, call_at}
+use Rattle.machine_counting.proofs.Kept.{same_with_prot}
 use Rattle.machine_sound.specs.Invariant.{Fine, ShowsPage, ShowsFile, own_frame}
 use Rattle.machine_sound.proofs.Moves.{Leaves, shows_less, with_counts_shown, tells}
 use Rattle.machine_sound.proofs.Replies.{reply_is, due_so, made_of, acted, led_goes}
@@ -52,10 +53,6 @@ files_changed t (Put range meta) = refl
 files_changed t (Clear range) = refl
 files_changed t (Protect range prot) = refl
 
-protected_frame : (prot : Prot) (o : Option PageInfo) → frame_of (info_with_prot prot o) ≡ frame_of o
-protected_frame prot None = refl
-protected_frame prot (Some info) = refl
-
 protected_own : (cached : ℕ → ℕ → Option ℕ) (prot : Prot) (o : Option PageInfo) → own_frame cached (info_with_prot prot o) ≡ own_frame cached o
 protected_own cached prot None = refl
 protected_own cached prot (Some info) = refl
@@ -67,7 +64,7 @@ protected_whole file prot (Some info) = refl
 fewer_frames : (s : Slots) (change : Change) (p f : ℕ) → frame_of ((slots_after change s).info p) ≡ Some f → frame_of (s.info p) ≡ Some f
 fewer_frames s change p f =
     changed_all (λ p o. frame_of o ≡ Some f → frame_of (s.info p) ≡ Some f) s change (λ range meta p e i h. absurd cc) (λ p h. absurd cc)
-    (λ prot p old h. sym (protected_frame prot (s.info p)) ∙ h) (λ p h. h) p
+    (λ prot p old h. sym (same_with_prot prot (s.info p)) ∙ h) (λ p h. h) p
 
 fewer_own : (cached : ℕ → ℕ → Option ℕ) (s : Slots) (change : Change) (p f : ℕ) → own_frame cached ((slots_after change s).info p) ≡ Some f
     → own_frame cached (s.info p) ≡ Some f
@@ -80,7 +77,7 @@ whole_still : (file : ℕ → Option File) (s : Slots) (change : Change) → ((p
     → (p f : ℕ) → frame_of ((slots_after change s).info p) ≡ Some f → is_past_end file ((slots_after change s).info p) ≡ false
 whole_still file s change h p f =
     changed_all (λ p o. frame_of o ≡ Some f → is_past_end file o ≡ false) s change (λ range meta p e i k. absurd cc) (λ p k. absurd cc)
-    (λ prot p old k. protected_whole file prot (s.info p) ∙ h p f (sym (protected_frame prot (s.info p)) ∙ k)) (λ p k. h p f k) p
+    (λ prot p old k. protected_whole file prot (s.info p) ∙ h p f (sym (same_with_prot prot (s.info p)) ∙ k)) (λ p k. h p f k) p
 
 -- ---- Acks
 

@@ -18,7 +18,7 @@ use Rattle.machine_model.specs.Step.{Run}
 use Rattle.machine_sound.specs.Sound.{SoundRun}
 use Rattle.machine_sound.proofs.Examples.{read_write, anonymous}
 use Rattle.machine_sound.proofs.Kept.{runs_sound}
-use Rattle.machine_sound.proofs.Run.{made, slots, new, one_page, only_16, then}
+use Rattle.machine_sound.proofs.Run.{made, slots, new, locks_page, unlocks_page, then}
 
 abbrev events : List Event
 events = Call 0 (Mmap 65536 4096 read_write (anonymous false) 0 0) ∷ Go 0 ∷ Go 0 ∷ Go 0 ∷ Go 0 ∷ Go 0 ∷ Go 0 ∷ Go 0 ∷ []
@@ -32,24 +32,12 @@ ran = (
   _,
   then _ (refl, refl) (then _ (refl, refl)
       -- the hint's page is locked, and isn't mapped
-      (then _ (Locked 17, (_, record { slot = one_page slots refl; by_end = omega arith; was_free = λ p h k. refl; now = refl }, (refl, refl)))
+      (then _ (Locked 17, (_, locks_page slots 0 16 refl (λ p h. refl), (refl, refl)))
       (then _ (Act (between 16 17) 0, free (λ p h. refl) refl, (refl, refl))
       -- no slot crosses its edges, and nobody is awaited
       (then _ (fit.Fits, (_, (record { begins = refl; ends = refl }, refl), (refl, refl)))
       (then _ (inl (λ d. refl, (_, (_, refl, refl), (refl, refl))))
-      (then _ (
-        17,
-        (
-          _,
-          record {
-            slot = one_page _ refl;
-            by_end = omega arith;
-            was_held = λ p h k. ap (λ b. cond b (Some 0) None) (only_16 p h k);
-            now = refl;
-          },
-          (refl, refl),
-        ),
-      )
+      (then _ (17, (_, unlocks_page _ 0 16 refl (λ p h. ap (λ b. cond b (Some 0) None) h), (refl, refl)))
       (then _ (refl, refl)
       refl))))))),
   refl,

@@ -55,7 +55,7 @@ mode_same bytes cached (Some f) (Some g) h = ap Some (sym h.0)
 mode_same bytes cached None (Some g) h = absurd h
 mode_same bytes cached (Some f) None h = absurd h
 
-has_modes : (w : World) (t : Plain) → Good w t → HasModes t w.made.file
+pub has_modes : (w : World) (t : Plain) → Good w t → HasModes t w.made.file
 has_modes w t g n = mode_same w.memory.bytes (w.memory.cached n) (w.made.file n) (t.file n) (g.files n)
 
 page_shown : (m : Memory) (o : Option PageInfo) (z : Option Entry) → ShowsPage m o z → plainly.ShowsPage z o

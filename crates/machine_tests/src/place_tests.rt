@@ -21,7 +21,8 @@ c0! mmap 0x7ffffffff001 4096 rw- pa = 0x7ffffffff000
 c0! mmap 0xffffffffffffffff 4096 rw- pa = 0x8000003000
 ";
 
-/// A guess is tested again once it is held: another core may have mapped it meanwhile, and then the window is taken.
+/// A guess is tested again once it is held: another core may have mapped it meanwhile, and then the
+/// window is taken.
 const OVERTAKEN: &str = "\
 c0 call mmap 0 4096 rw- pa = step
 c0 go = step
@@ -62,7 +63,8 @@ c0 guess 0xfffffff000 = step
 c0 finish = 0x8000000000
 ";
 
-/// Two cores have two windows; one that takes its whole window keeps others out of it, until the place is found.
+/// Two cores have two windows; one that takes its whole window keeps others out of it, until the
+/// place is found.
 const WINDOWS: &str = "\
 c1! mmap 0 4096 rw- pa = 0x10000000000
 c0 call mmap 0 4096 rw- pa = step

@@ -25,8 +25,8 @@ pub fn machine<A: Allocator + Clone + Drop>(
     }
 }
 
-/// The number, from 0 on, of the first line that gives something else. A line has the words of a trace's line, ` = `, and what
-/// it must give.
+/// The number, from 0 on, of the first line that gives something else. A line has the words of a
+/// trace's line, ` = `, and what it must give.
 pub fn first_wrong<A: Allocator + Clone>(
     machine: &mut Machine<RunList<A>, A>,
     lines: &str,

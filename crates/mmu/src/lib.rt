@@ -1,4 +1,5 @@
-//! A core's page tables and TLB: four-level paging of 4 KiB pages (Intel SDM volume 3A, 4-level paging).
+//! A core's page tables and TLB: four-level paging of 4 KiB pages (Intel SDM volume 3A, 4-level
+//! paging).
 #![tactic(auto)]
 
 pub mod cpu;

@@ -1,5 +1,5 @@
-//! Each public call on its way that succeeds, with values of the manual and of the project's rules, and each allocation
-//! of `install` refused in turn.
+//! Each public call on its way that succeeds, with values of the manual and of the project's rules,
+//! and each allocation of `install` refused in turn.
 ghost use Rattle.std.specs.Prelude.{◌≡◌, true};
 ghost use Rattle.vm_base.specs.Pages.{is_page};
 
@@ -41,7 +41,8 @@ fn set<A: Allocator + Clone>(
     Ok(())
 }
 
-/// The entries of a writable page of frame 3, of the page when it is set again, and of one without rights.
+/// The entries of a writable page of frame 3, of the page when it is set again, and of one without
+/// rights.
 fn entries(alloc: Global) -> Result<[Option<u64>; 3], NoMemory> {
     let mut cpu = Cpu::new(alloc)?;
     set(&mut cpu, 16, 3, READ_WRITE)?;
@@ -132,8 +133,8 @@ fn a_page_is_walked_and_evicted_once(rt: HostRuntime) {
     assert_eq!(rt; got, Ok([true, false, true, false]));
 }
 
-/// Whether an installation was made with this allocator, and whether the entries then are as before it. Where a table is
-/// there, an entry can be set in both cases.
+/// Whether an installation was made with this allocator, and whether the entries then are as before
+/// it. Where a table is there, an entry can be set in both cases.
 fn tried<A: Allocator + Clone>(alloc: A) -> Result<(bool, bool), NoMemory> {
     let mut cpu = Cpu::new(alloc)?;
     cpu.install(1, 7, READ_WRITE)?;
@@ -164,7 +165,8 @@ fn seen<A: Allocator + Clone>(cpu: &Cpu<A>) -> [Option<u64>; 4] {
 fn a_refused_installation_changes_no_entry(rt: HostRuntime) {
     let mut some_refused = false;
     let mut some_done = false;
-    // The steps are no larger than any allocation, so that each of the six is the first refused in some heap.
+    // The steps are no larger than any allocation, so that each of the six is the first refused in
+    // some heap.
     for step in 0..1000usize {
         let Ok(heap) = LocalHeap::new(rt.alloc(), 45_056 + step * 32) else {
             continue

@@ -1,4 +1,5 @@
-//! `radix_node`: each call once with ample memory, and a making and an expansion refused for want of it.
+//! `radix_node`: each call once with ample memory, and a making and an expansion refused for want
+//! of it.
 ghost use Rattle.std.specs.Prelude.{◌≡◌, ◌+◌, ◌<◌, ◌≤◌, ◌^◌, false, Some};
 ghost use Rattle.vm_base.specs.Info.{info_file_page, is_leaf};
 
@@ -21,8 +22,8 @@ const FILE: Meta = Meta {
     prot: READ,
 };
 
-// What a slot says: the file page of its first page, the core that holds it, how many of its pages lie before the page
-// that was asked for, and how many it has.
+// What a slot says: the file page of its first page, the core that holds it, how many of its pages
+// lie before the page that was asked for, and how many it has.
 type Seen = (Option<u64>, Option<u8>, u64, u64);
 
 fn seen(found: Found<'_>) -> Seen {
@@ -96,8 +97,8 @@ fn fold_at<A: Allocator>(node: &mut Node<A>, page: u64) -> bool {
     node.fold_at(page)
 }
 
-// The slots of six pages before and after the slot of pages 1024 up to 1536 was given a mapping and expanded, and
-// whether it was expanded, expanded once more and folded.
+// The slots of six pages before and after the slot of pages 1024 up to 1536 was given a mapping and
+// expanded, and whether it was expanded, expanded once more and folded.
 #[derive(Clone, Copy)]
 struct Expansion {
     before: [Option<Seen>; 2],
@@ -226,7 +227,8 @@ fn used() -> PageInfo
     }
 }
 
-// Whether a used page's slot says what it was given, is mapped, has its frame and its core, and is plain.
+// Whether a used page's slot says what it was given, is mapped, has its frame and its core, and is
+// plain.
 fn a_leaf() -> [bool; 5] {
     let state = SlotState::new(Some(used()), None);
     let same = state.info() == Some(used());
@@ -257,8 +259,8 @@ fn a_slot_says_what_it_was_given(rt: HostRuntime) -> Result<(), Fail> {
     Ok(())
 }
 
-// What walks over the pages round a used one find: its core, whether it is listed alone with its frame, whether pages are
-// mapped, and free pages.
+// What walks over the pages round a used one find: its core, whether it is listed alone with its
+// frame, whether pages are mapped, and free pages.
 type Walked = (bool, bool, [bool; 2], u64);
 
 fn walked<A: Allocator>(node: &mut Node<A>) -> Option<Walked> {
@@ -306,7 +308,8 @@ fn walks_find_a_used_page(rt: HostRuntime) -> Result<(), Fail> {
     Ok(())
 }
 
-// Attempts to lock slots of 512 pages: too few pages from the first, from its second page, and one that is free, twice.
+// Attempts to lock slots of 512 pages: too few pages from the first, from its second page, and one
+// that is free, twice.
 fn attempts<A: Allocator>(node: &mut Node<A>) -> Option<[Lock; 4]> {
     if node.level() != 1 {
         return None;

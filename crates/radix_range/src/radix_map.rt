@@ -11,11 +11,12 @@ use std::alloc::Allocator;
 use vm_base::info::info_from;
 use vm_base::{CoreId, CoreSet, Meta, NoMemory, PageInfo, PageRange, Prot};
 
-/// A map of slots as a tree of four levels. A slot of the root has 2^27 pages, of the next levels 2^18, 2^9 and 1. The
-/// pages are those of the lower half of the addresses and as many above them, which are never mapped and never held;
-/// nor is page 0. A division makes 512 slots of equal size. A fold makes one slot of the deepest node that has the page,
-/// where it isn't the root, none of its slots is a node, nobody holds them, they have no frame and no recorded core, and
-/// they are all unmapped or each goes on from the one before.
+/// A map of slots as a tree of four levels. A slot of the root has 2^27 pages, of the next levels
+/// 2^18, 2^9 and 1. The pages are those of the lower half of the addresses and as many above them,
+/// which are never mapped and never held; nor is page 0. A division makes 512 slots of equal size.
+/// A fold makes one slot of the deepest node that has the page, where it isn't the root, none of
+/// its slots is a node, nobody holds them, they have no frame and no recorded core, and they are
+/// all unmapped or each goes on from the one before.
 #[derive(Drop)]
 pub struct RadixMap<A: Allocator> {
     root: Node<A>,

@@ -1,5 +1,5 @@
-//! `slot_lock`: footprints, goals and lent slots. What a list of runs does as a slot map is tested beside the tree, by the same
-//! calls.
+//! `slot_lock`: footprints, goals and lent slots. What a list of runs does as a slot map is tested
+//! beside the tree, by the same calls.
 ghost use Rattle.std.specs.Prelude.{◌≡◌, ◌+◌, ◌<◌, ◌^◌};
 ghost use Rattle.vm_base.specs.Pages.{pages_from};
 
@@ -105,7 +105,8 @@ fn lent_slots_are_a_map(rt: HostRuntime) -> Result<(), Fail> {
     let mut map = RunList::lent(rt.alloc())?;
     assert!(rt; map.add_slot(16, 20, own, None)?);
     assert!(rt; map.add_slot(20, 21, own, used)?);
-    // a gap, an overlap, several pages of one frame, no page, pages past the last valid one, file pages past a file's last
+    // a gap, an overlap, several pages of one frame, no page, pages past the last valid one, file
+    // pages past a file's last
     assert!(rt; !map.add_slot(22, 23, own, unused)?);
     assert!(rt; !map.add_slot(20, 23, own, unused)?);
     assert!(rt; !map.add_slot(21, 23, own, used)?);

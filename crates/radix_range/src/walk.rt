@@ -1,4 +1,5 @@
-//! What is found on the pages of a range: each slot, and each node that has some of them, is visited once.
+//! What is found on the pages of a range: each slot, and each node that has some of them, is
+//! visited once.
 ghost use Rattle.std.specs.Prelude.{◌≡◌, ℕ, ◌+◌, ◌^◌, ◌<◌, ◌≤◌, ◌↔◌, IfSome, IfNone, IsTrue, true};
 ghost use Rattle.vm_base.specs.Cores.{members};
 ghost use Rattle.vm_base.specs.Pages.{IsPageRange};
@@ -90,7 +91,8 @@ pub fn all_mapped<A: Allocator>(root: &Node<A>, range: PageRange) -> bool
 pub fn first_frame<A: Allocator>(root: &Node<A>, from: u64, end: u64) -> Option<(u64, u32)>
     requires tree { IsRadix root.now }
     requires end { end ≤ 2 ^ 35 }
-    ensures some { IfSome result (λ taken. IsFirstFrame (tree_slots root.now) from end taken.0 taken.1) }
+    ensures some { IfSome result (λ taken.
+        IsFirstFrame (tree_slots root.now) from end taken.0 taken.1) }
     ensures none { IfNone result (NoFrames (tree_slots root.now) from end) }
 {
     if from >= end {
@@ -99,15 +101,16 @@ pub fn first_frame<A: Allocator>(root: &Node<A>, from: u64, end: u64) -> Option<
     root.first_frame(from, end)
 }
 
-/// Adds the pages from `from` up to `end` that have a frame, and their frames, to the list, in order of pages, until it is
-/// full. Answers the page up to which none is left out.
+/// Adds the pages from `from` up to `end` that have a frame, and their frames, to the list, in
+/// order of pages, until it is full. Answers the page up to which none is left out.
 pub fn list_frames<A: Allocator>(root: &Node<A>, from: u64, end: u64, list: &mut FramedPages) -> u64
     requires tree { IsRadix root.now }
     requires ordered { from ≤ end }
     requires end { end ≤ 2 ^ 35 }
     ensures low { from ≤ result }
     ensures high { result ≤ end }
-    ensures added { AddsFrames (frames_in (tree_slots root.now)) from result list.old.items list.new.items }
+    ensures added { AddsFrames (frames_in (tree_slots root.now)) from result
+        list.old.items list.new.items }
     ensures full { result < end → array_vec_len list.new ≡ 32 }
 {
     if from == end {

@@ -1,4 +1,5 @@
-//! `vm_calls`: the rows over a list of runs, each test of the arguments on both sides of its edge, and what an access finds.
+//! `vm_calls`: the rows over a list of runs, each test of the arguments on both sides of its edge,
+//! and what an access finds.
 ghost use Rattle.std.specs.Prelude.{◌≡◌, IsTrue, IfOk, true};
 ghost use Rattle.vm_base.specs.Functions.{has};
 ghost use Rattle.vm_base.specs.Pages.{IsPage, IsPageRange};
@@ -32,7 +33,8 @@ enum Came {
     Stuck,
 }
 
-/// What comes of a request that is answered so. No page has a frame: an access that is answered with a byte wants one.
+/// What comes of a request that is answered so. No page has a frame: an access that is answered
+/// with a byte wants one.
 fn came_of(ask: Ask, reply: Reply) -> Came {
     match (ask, reply) {
         (Ask::Load(_) | Ask::Fetch(_) | Ask::Store(_, _), Reply::Byte(_) | Reply::Done) =>
@@ -176,7 +178,8 @@ fn allowed<A: Allocator>(
     }
 }
 
-/// The decision over a mapping that looks for a place: under its hint, if it has one, and else with its window held.
+/// The decision over a mapping that looks for a place: under its hint, if it has one, and else with
+/// its window held.
 fn looked_for<A: Allocator>(map: &RunList<A>, objects: &Objects<A>, place: Place) -> Decision
     requires { IsSoundPlace place }
     ensures { IsSoundAct (GoalOf.Place place TargetOf.Window) result }
@@ -264,7 +267,8 @@ fn run<A: Allocator>(
     }))
 }
 
-/// The first row that comes to something else than the reply that stands in it, on a new map with one file.
+/// The first row that comes to something else than the reply that stands in it, on a new map with
+/// one file.
 fn first_wrong<A: Allocator + Clone>(
     alloc: A,
     mode: Mode,
@@ -302,7 +306,8 @@ fn each_row_is_answered(rt: HostRuntime) {
     assert_eq!(rt; first_wrong_table(rt.alloc()), Ok(None));
 }
 
-/// The first row whose arguments alone don't come to this, with one file of 10 bytes: none where they pass.
+/// The first row whose arguments alone don't come to this, with one file of 10 bytes: none where
+/// they pass.
 fn first_passed_wrong<A: Allocator + Clone>(
     alloc: A,
     mode: Mode,

@@ -47,7 +47,9 @@ second_or (Some r) n f = f r
 
 -- the end of the range that has the cursor
 abbrev pub end_at : Footprint → ℕ → ℕ
-end_at fp cursor = second_or fp.second fp.first.end (λ r. if nat_le fp.first.end cursor then r.end else fp.first.end)
+end_at fp cursor =
+    second_or fp.second fp.first.end
+    (λ r. if nat_le fp.first.end cursor then r.end else fp.first.end)
 
 -- where the cursor goes after the pages up to b of a range
 abbrev pub next_after : Footprint → ℕ → ℕ
@@ -90,5 +92,6 @@ rest_of (Some r) = Some (one_range r)
 
 -- the pages from b on, once those up to b of the first range are let go, if there are some
 abbrev pub after : Footprint → ℕ → Option Footprint
-after fp b = if b == fp.first.end then rest_of fp.second else Some
-    (record { first = between b fp.first.end; second = fp.second })
+after fp b =
+    if b == fp.first.end then rest_of fp.second
+    else Some (record { first = between b fp.first.end; second = fp.second })

@@ -1,4 +1,5 @@
-//! Slots of pages that cores hold: what a slot map does, a first slot map, and how a call takes its pages.
+//! Slots of pages that cores hold: what a slot map does, a first slot map, and how a call takes its
+//! pages.
 #![tactic(auto)]
 
 pub mod acquire;

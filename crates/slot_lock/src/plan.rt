@@ -5,8 +5,8 @@ ghost use Rattle.slot_lock.specs.Plan.{IsSoundGoal, range_of, target_range, goal
 
 use vm_base::{Access, Meta, PageRange, Prot};
 
-/// A mapping of `count` pages whose place is still to be found: at the hint, which is given if all its pages are valid, or
-/// else in the window.
+/// A mapping of `count` pages whose place is still to be found: at the hint, which is given if all
+/// its pages are valid, or else in the window.
 #[derive(Clone, Copy, Debug, PartialEq, Eq)]
 pub struct Place {
     pub hint: Option<PageRange>,
@@ -43,8 +43,9 @@ pub enum Plan {
     Touch(Touch),
 }
 
-/// Which pages a placed mapping has locked, or is to lock: those of its hint, those of a run of its window that it guessed
-/// to be free, or its window. They are one range, and a mapping has one target at a time.
+/// Which pages a placed mapping has locked, or is to lock: those of its hint, those of a run of its
+/// window that it guessed to be free, or its window. They are one range, and a mapping has one
+/// target at a time.
 #[derive(Clone, Copy, Debug, PartialEq, Eq)]
 pub enum Target {
     Hint(PageRange),
@@ -64,7 +65,8 @@ pub enum Goal {
 }
 
 impl Goal {
-    /// The pages that a call with this goal locks: an access its page, a change its range, a placed mapping its target.
+    /// The pages that a call with this goal locks: an access its page, a change its range, a placed
+    /// mapping its target.
     pub fn range(self) -> PageRange
         requires { IsSoundGoal self }
         ensures value { result ≡ goal_range self }

@@ -1,5 +1,6 @@
-// How long the parts take: with one of the words below, nanoseconds a round; with no word each part runs with little to do.
-// bench/pieces.sh says what the parts are, and compares them with plain Rust; bench/threads.sh compares threads with one.
+// How long the parts take: with one of the words below, nanoseconds a round; with no word each part
+// runs with little to do. bench/pieces.sh says what the parts are, and compares them with plain
+// Rust; bench/threads.sh compares threads with one.
 #![tactic(auto)]
 
 ghost use Rattle.std.specs.Prelude.{◌<◌, ◌≤◌, ◌^◌};
@@ -22,7 +23,8 @@ use std::sync::Wait;
 use std::thread::Threads;
 use std::{env, io};
 
-/// Shows how long one round took, in nanoseconds with one decimal, or that there was no memory or no such part.
+/// Shows how long one round took, in nanoseconds with one decimal, or that there was no memory or
+/// no such part.
 fn show(rt: &impl Print, nanos: Option<u128>, rounds: u64) -> io::Result<()>
     requires { 0 < rounds }
 {
@@ -93,8 +95,8 @@ fn rounds_of(word: &str) -> u64
     }
 }
 
-/// The nanoseconds of so many rounds of the part, over so many mapped pages where it has a map; none where memory is
-/// refused, or there is no such part.
+/// The nanoseconds of so many rounds of the part, over so many mapped pages where it has a map;
+/// none where memory is refused, or there is no such part.
 fn time<R: Threads + Wait + Clock + Sync>(
     rt: &R,
     alloc: Global,

@@ -1,4 +1,5 @@
-//! Ranges of a radix tree's single pages: looked through for free pages and for cores, and mapped and unmapped.
+//! Ranges of a radix tree's single pages: looked through for free pages and for cores, and mapped
+//! and unmapped.
 ghost use Rattle.std.specs.Prelude.{◌≡◌, ◌+◌, ◌<◌, ◌≤◌, ◌^◌, IfOk, IsTrue, Some};
 ghost use Rattle.vm_base.specs.Pages.{IsPage, IsPageRange, pages_from};
 ghost use Rattle.slot_lock.specs.Slots.{IsHeld};
@@ -143,7 +144,8 @@ fn edits<M: SlotMap>(map: &mut M, core: CoreId, range: PageRange, rounds: u64)
     }
 }
 
-/// The nanoseconds of so many rounds over one range; none where memory is refused or the range isn't held.
+/// The nanoseconds of so many rounds over one range; none where memory is refused or the range
+/// isn't held.
 pub fn time_edits(
     rt: &impl Clock,
     alloc: Global,

@@ -19,13 +19,15 @@ abbrev pub after_copy : Plain → Option Plain → Plain
 after_copy t None = t
 after_copy t (Some copied) = copied
 
--- the state in which a request is answered: where it can't be at once, the one after its page's copy
+-- the state in which a request is answered: where it can't be at once, the one after its page's
+-- copy
 abbrev pub prepared : Plain → Request → Plain
 prepared t (StoreOf addr byte) = if is_some (access_reply t addr Store) then t else after_copy t
     (detached t (page_of addr))
 prepared t _ = t
 
--- A core's request is answered y, and leaves u, after the copy that was due before it, if one was: where places go by the rule,
+-- A core's request is answered y, and leaves u, after the copy that was due before it, if one was:
+-- where places go by the rule,
 abbrev pub AnswersBy : PlaceRule → Plain → ℕ → Request → Reply → Plain → Type 0
 AnswersBy rule t core request y u = AppliesBy rule (prepared t request) core request y u
 

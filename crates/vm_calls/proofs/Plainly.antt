@@ -136,24 +136,25 @@ protects t files s core addr len prot d h dec ok = by d dec
 
 -- ---- places
 
-valid-few : (h n : ℕ) → are_pages (pages_from h n) ≡ true → n < 2 ^ 35
+pub valid-few : (h n : ℕ) → are_pages (pages_from h n) ≡ true → n < 2 ^ 35
 valid-few h n e = grind (arith, nat_tests)
 
 -- what finds a room is fewer pages than there are
-few-found : (core first n : ℕ) → core < 64 → first + n ≤ (window_of core).end → n < 2 ^ 35
+pub few-found : (core first n : ℕ) → core < 64 → first + n ≤ (window_of core).end → n < 2 ^ 35
 few-found core first n few high = omega (arith, few, high)
 
-counted : (n : ℕ) → placed_count n < 2 ^ 35 → placed_count n ≡ page_count n
+-- fewer pages than there are are all placed
+pub counted : (n : ℕ) → placed_count n < 2 ^ 35 → placed_count n ≡ page_count n
 counted n few = omega (arith, few)
 
-none-found : (m : ℕ → Bool) (core len : ℕ) → core < 64 → ((s : ℕ) → ¬ IsRoom m (window_of core) (placed_count len) s)
+pub none-found : (m : ℕ → Bool) (core len : ℕ) → core < 64 → ((s : ℕ) → ¬ IsRoom m (window_of core) (placed_count len) s)
     → (s : ℕ) → ¬ IsRoom m (window_of core) (page_count len) s
 none-found m core len few none s room =
     let same : placed_count len ≡ page_count len = omega (arith, few-found core s (page_count len) few room.1) in
     none s (subst (λ (n : ℕ). IsRoom m (window_of core) n s) (sym same) room)
 
 -- a hint is given where all its pages are valid
-hint-is : (h n : ℕ) (range : PageRange) → hint_at h n ≡ Some range → (are_pages (pages_from h n) ≡ true) × (range ≡ pages_from h n)
+pub hint-is : (h n : ℕ) (range : PageRange) → hint_at h n ≡ Some range → (are_pages (pages_from h n) ≡ true) × (range ≡ pages_from h n)
 hint-is h n range is = go (are_pages (pages_from h n)) refl is
   where
     go : (b : Bool) → are_pages (pages_from h n) ≡ b → ◌≡◌ {A = Option PageRange} (if b then Some (pages_from h n) else None) (Some range)

@@ -25,8 +25,8 @@ use Rattle.vm_calls.specs.declared.decision.Decision.TheVariants.{Refuse, Act, A
 
 -- ---- what may be read
 
--- The pages may be asked for, and within a slot the mapping goes on from page to page, as in every slot map. Of other pages nothing is
--- said: a few slots may have been lent.
+-- The pages may be asked for, and within a slot the mapping goes on from page to page, as in every
+-- slot map. Of other pages nothing is said: a few slots may have been lent.
 pub record IsReadable (reads : ℕ → Type 0) (s : Slots) (r : PageRange) : Type 0 where
   pub reads_all : (p : ℕ) → has r p ≡ true → reads p
   pub goes_on : (p : ℕ) → has r p ≡ true → has r (p + 1) ≡ true → s.edge (p + 1) ≡ false
@@ -54,7 +54,8 @@ AreAlike r s t = (p : ℕ) → has r p ≡ true → s.info p ≡ t.info p
 
 -- ---- decisions
 
--- what the pages of the range are changed to can be: there is some page, all are valid, and file pages fit
+-- what the pages of the range are changed to can be: there is some page, all are valid, and file
+-- pages fit
 abbrev pub IsSoundAct : Goal → Decision → Type 0
 IsSoundAct goal (Refuse e) = Unit {0}
 IsSoundAct goal Again = Unit {0}
@@ -66,14 +67,15 @@ IsSoundAct (To.Access touch) (Act range shoot) = ⊥
 abbrev pub Acts : Slots → PageRange → Decision → Type 0
 Acts s range (Refuse e) = ⊥
 Acts s range Again = ⊥
-Acts s range (Act changes shoot) = (changes ≡ range) × ((core : ℕ) → (members shoot core ≡ true) ↔ IsUser s range core)
+Acts s range (Act changes shoot) =
+    (changes ≡ range) × ((core : ℕ) → (members shoot core ≡ true) ↔ IsUser s range core)
 
 -- some page of the range is mapped
 abbrev pub HasMapped : (ℕ → Option Entry) → PageRange → Type 0
 HasMapped entry r = HasPage is_some entry r
 
--- Under a hint or a guessed run a mapping goes there, if no page of it is mapped, and else looks elsewhere. Unmapped pages have no
--- recorded core.
+-- Under a hint or a guessed run a mapping goes there, if no page of it is mapped, and else looks
+-- elsewhere. Unmapped pages have no recorded core.
 pub data DecidesRun (s : Slots) (range : PageRange) (d : Decision) : Type 0 where
   free : IsFree (is_mapped (entries s)) range → d ≡ Act range 0 → DecidesRun s range d
   taken : HasMapped (entries s) range → d ≡ Again → DecidesRun s range d
@@ -85,7 +87,8 @@ act_at (Some first) n = Act (pages_from first n) 0
 -- with its window held it goes to the least room there, or is refused where there is none
 abbrev pub DecidesWindow : Slots → Place → Decision → Type 0
 DecidesWindow s place d =
-    (found : Option ℕ) × IsLeastRoom (is_mapped (entries s)) place.window place.count found × (d ≡ act_at found place.count)
+    (found : Option ℕ) × IsLeastRoom (is_mapped (entries s)) place.window place.count found
+    × (d ≡ act_at found place.count)
 
 abbrev pub DecidesPlace : Slots → Place → Target → Decision → Type 0
 DecidesPlace s place (Hint range) d = DecidesRun s range d
@@ -95,7 +98,8 @@ DecidesPlace s place Window d = DecidesWindow s place d
 -- another protection is refused as by the plain map
 pub data DecidesProtect (files : ℕ → Option File) (s : Slots) (range : PageRange) (prot : Prot)
     (d : Decision) : Type 0 where
-  no_page : HasPage is_absent (entries s) range → d ≡ Refuse ENOMEM → DecidesProtect files s range prot d
+  no_page : HasPage is_absent (entries s) range → d ≡ Refuse ENOMEM
+      → DecidesProtect files s range prot d
   no_write : ¬ HasPage is_absent (entries s) range → prot.write ≡ true
       → HasPage (is_read_only files) (entries s) range → d ≡ Refuse EACCES
       → DecidesProtect files s range prot d

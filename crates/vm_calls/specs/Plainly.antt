@@ -22,15 +22,16 @@ use Rattle.vm_calls.specs.declared.decision.Decision.TheVariants.{Refuse, Act, A
 use Rattle.vm_calls.specs.Checks.{checked, HasModes}
 use Rattle.vm_calls.specs.Decisions.{Decides, HasMapped, IsNoAccess, AreAlike}
 
--- the plain map has the page as the slot shows it: backed and protected alike, with whatever own bytes
+-- the plain map has the page as the slot shows it: backed and protected alike, with whatever own
+-- bytes
 abbrev pub ShowsPage : Option Entry → Option PageInfo → Type 0
 ShowsPage None None = Unit {0}
 ShowsPage (Some e) (Some info) = (e.back ≡ info.meta.back) × (e.prot ≡ info.meta.prot)
 ShowsPage None (Some info) = ⊥
 ShowsPage (Some e) None = ⊥
 
--- The slots show the plain map's pages of the range, and its files are open for the same as these. Of other pages nothing is said: a few
--- slots may have been lent.
+-- The slots show the plain map's pages of the range, and its files are open for the same as these.
+-- Of other pages nothing is said: a few slots may have been lent.
 pub record IsShown (t : Plain) (files : ℕ → Option File) (s : Slots) (r : PageRange) : Type 0 where
   pub pages : (p : ℕ) → has r p ≡ true → ShowsPage (t.entry p) (s.info p)
   pub modes : HasModes t files
@@ -51,16 +52,20 @@ left_by t (To.Change (Clear r)) range = unmapped t range
 left_by t (To.Change (Protect r prot)) range = protected t range prot
 left_by t (To.Access touch) range = t
 
--- The decision is the plain map's answer to the request; a call that looks elsewhere has none yet, and some page of its target is mapped.
+-- The decision is the plain map's answer to the request; a call that looks elsewhere has none yet,
+-- and some page of its target is mapped.
 abbrev pub IsPlain : Plain → ℕ → Request → Goal → Decision → Type 0
 IsPlain t core request goal (Refuse e) = Applies t core request (Refused e) t
-IsPlain t core request goal (Act range shoot) = Applies t core request (answer_to goal range) (left_by t goal range)
+IsPlain t core request goal (Act range shoot) =
+    Applies t core request (answer_to goal range) (left_by t goal range)
 IsPlain t core request goal Again = HasMapped t.entry (goal_range goal)
 
 abbrev pub DecisionsArePlain : Type 0
 DecisionsArePlain =
-    (t : Plain) (files : ℕ → Option File) (s : Slots) (core : ℕ) (request : Request) (goal : Goal) (d : Decision)
-    → core < 64 → IsShown t files s (goal_range goal) → checked (λ n. mode_of (files n)) core request ≡ Ok (goal_plan goal)
+    (t : Plain) (files : ℕ → Option File) (s : Slots) (core : ℕ) (request : Request) (goal : Goal)
+    (d : Decision)
+    → core < 64 → IsShown t files s (goal_range goal)
+    → checked (λ n. mode_of (files n)) core request ≡ Ok (goal_plan goal)
     → HasTarget goal → IsNoAccess goal
     → Decides files s goal d → IsPlain t core request goal d
 
@@ -82,7 +87,8 @@ CheckedPlansAreSound =
 abbrev pub RefusalsArePlain : Type 0
 RefusalsArePlain =
     (t : Plain) (files : ℕ → Option File) (core : ℕ) (request : Request) (reply : Reply)
-    → HasModes t files → checked (λ n. mode_of (files n)) core request ≡ Err reply → Applies t core request reply t
+    → HasModes t files → checked (λ n. mode_of (files n)) core request ≡ Err reply
+    → Applies t core request reply t
 
 -- ---- accesses
 
@@ -93,7 +99,8 @@ touched_by t touch _ = t
 
 -- the entry of its page answers an access, and says what a store changes
 abbrev pub EntryAnswers : Plain → Touch → Reply → Plain → Type 0
-EntryAnswers t touch y u = (entry_reply t.file (t.entry touch.page) touch.access touch.offset ≡ Some y)
+EntryAnswers t touch y u =
+    (entry_reply t.file (t.entry touch.page) touch.access touch.offset ≡ Some y)
     × (u ≡ touched_by t touch y)
 
 -- a request that the check finds to be an access is answered by the entry of its page

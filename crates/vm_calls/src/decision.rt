@@ -18,8 +18,8 @@ use vm_base::{Back, CoreSet, Errno, PageInfo, PageRange, Prot};
 pub enum Decision {
     /// It is refused, and changes nothing.
     Refuse(Errno),
-    /// It changes the pages of the range. `shoot` are the cores that are recorded on some page of it, which may have
-    /// translations that are to go first.
+    /// It changes the pages of the range. `shoot` are the cores that are recorded on some page of
+    /// it, which may have translations that are to go first.
     Act {
         /// The pages.
         range: PageRange,
@@ -42,7 +42,8 @@ fn act<M: SlotRead>(map: &M, range: PageRange) -> Decision
     }
 }
 
-/// A mapping goes to its hint or to the run that it guessed, if no page of it is mapped; else it looks elsewhere.
+/// A mapping goes to its hint or to the run that it guessed, if no page of it is mapped; else it
+/// looks elsewhere.
 fn decide_run<M: SlotRead>(map: &M, range: PageRange) -> Decision
     requires range { IsPageRange range }
     requires reads { (p : ℕ) → has range p ≡ true → M.reads map.now p }
@@ -104,8 +105,8 @@ fn is_read_only<A: Allocator>(objects: &Objects<A>, info: Option<PageInfo>) -> b
     }
 }
 
-/// Tells whether some page of the range is a shared one of a file that isn't open for writing. One page of each slot is
-/// looked at.
+/// Tells whether some page of the range is a shared one of a file that isn't open for writing. One
+/// page of each slot is looked at.
 fn has_read_only<M: SlotRead, A: Allocator>(map: &M, objects: &Objects<A>, range: PageRange) -> bool
     requires readable { IsReadable (λ p. M.reads map.now p) (M.slots map.now) range }
     ensures { IsTrue result ↔ HasPage (is_read_only (files_of objects.now))
@@ -142,12 +143,13 @@ fn decide_protect<M: SlotRead, A: Allocator>(
     act(map, range)
 }
 
-/// What a call does that holds the pages that it locks for this goal, which isn't an access and follows a plan that passed
-/// the check of its arguments. A placed mapping that holds its hint or a guessed run acts there if no page of it is mapped,
-/// and else looks elsewhere; one that holds its window acts on the least room, or is refused (`ENOMEM`) where there is
-/// none. `mprotect` is refused where a page isn't mapped (`ENOMEM`), and, if all are, where write is asked for and a page is
-/// a shared one of a file that isn't open for writing (`EACCES`; POSIX.1-2017, mprotect). Only held pages are read, so lent
-/// slots serve as well as a whole map.
+/// What a call does that holds the pages that it locks for this goal, which isn't an access and
+/// follows a plan that passed the check of its arguments. A placed mapping that holds its hint or a
+/// guessed run acts there if no page of it is mapped, and else looks elsewhere; one that holds its
+/// window acts on the least room, or is refused (`ENOMEM`) where there is none. `mprotect` is
+/// refused where a page isn't mapped (`ENOMEM`), and, if all are, where write is asked for and a
+/// page is a shared one of a file that isn't open for writing (`EACCES`; POSIX.1-2017, mprotect).
+/// Only held pages are read, so lent slots serve as well as a whole map.
 pub fn decide<M: SlotRead, A: Allocator>(map: &M, objects: &Objects<A>, goal: Goal) -> Decision
     requires no_access { IsNoAccess goal }
     requires sound { IsSoundGoal goal }
