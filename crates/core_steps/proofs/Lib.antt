@@ -11,3 +11,4 @@ pub mod Framing
 pub mod Calling
 pub mod Reached
 pub mod Runs
+pub mod MapLines

@@ -5,8 +5,6 @@
 pub mod cpu;
 pub mod entry;
 pub mod level;
-#[cfg(test)]
-mod tests;
 pub mod tlb;
 pub mod translated;
 

@@ -1,11 +1,13 @@
-//! Tests of the parts of a machine, a module for each crate that is tested: `frames`, `refcache`,
-//! `backing`, `shootdown` and `tickets`.
+//! Tests of the parts of a machine, a module for each crate that is tested: `frames`, `refcache`, `backing`, `shootdown`,
+//! `mmu` and `tickets`.
 #![tactic(auto)]
 
 #[cfg(test)]
 mod backing_tests;
 #[cfg(test)]
 mod frames_tests;
+#[cfg(test)]
+mod mmu_tests;
 #[cfg(test)]
 mod refcache_tests;
 #[cfg(test)]

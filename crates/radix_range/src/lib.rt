@@ -2,6 +2,7 @@
 #![tactic(auto)]
 
 pub mod change;
+pub mod full;
 pub mod radix_map;
 pub mod slot;
 pub mod walk;
@@ -9,8 +10,12 @@ pub mod walk;
 pub use radix_map::RadixMap;
 
 #[cfg(test)]
+mod lock_tests;
+#[cfg(test)]
 mod node_tests;
 #[cfg(test)]
 mod slot_tests;
+#[cfg(test)]
+mod test_calls;
 #[cfg(test)]
 mod tests;

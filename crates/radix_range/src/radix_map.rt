@@ -1,9 +1,10 @@
 //! The second slot map: a radix tree.
 ghost use Rattle.std.specs.Prelude.{◌≡◌, ◌≢◌, ℕ, ◌+◌, ◌-◌, ◌^◌, ◌<◌, ◌≤◌, IfOk, OnErr, Option, Some, Bool};
-ghost use Rattle.radix_range.specs.Tree.{IsRadix};
+ghost use Rattle.radix_range.specs.Mapped.{IsFull};
+ghost use Rattle.radix_range.specs.Tree.{IsRadix, tree_slots};
 
 use crate::slot::slot_at;
-use crate::{change, walk};
+use crate::{change, full, walk};
 use radix_node::{Lock, Node};
 use slot_lock::{Change, Fit, FramedPages, Got, SlotMap, SlotRead};
 use std::alloc::Allocator;
@@ -19,7 +20,10 @@ use vm_base::{CoreId, CoreSet, Meta, NoMemory, PageInfo, PageRange, Prot};
 #[derive(Drop)]
 pub struct RadixMap<A: Allocator> {
     root: Node<A>,
+    // pages that are all mapped, among which no room is looked for
+    full: PageRange,
     ghost ok: { IsRadix root },
+    ghost all_full: { IsFull (tree_slots root) full },
 }
 
 impl<A: Allocator + Clone> RadixMap<A> {
@@ -30,7 +34,10 @@ impl<A: Allocator + Clone> RadixMap<A> {
         ensures { IfOk result (λ map. IsNew (⟦<RadixMap<A> as SlotRead>⟧.slots map)) }
     {
         match Node::new(alloc, 3) {
-            Ok(root) => Ok(RadixMap { root }),
+            Ok(root) => Ok(RadixMap {
+                root,
+                full: PageRange { first: 0, end: 0 },
+            }),
             Err(e) => Err(e),
         }
     }
@@ -58,7 +65,7 @@ impl<A: Allocator> SlotRead for RadixMap<A> {
     }
 
     fn first_free_run(&self, range: PageRange, n: u64) -> Option<u64> {
-        walk::first_free_run(&self.root, range, n)
+        walk::first_free_run(&self.root, self.full, range, n)
     }
 
     fn recorded(&self, range: PageRange) -> CoreSet {
@@ -122,9 +129,11 @@ impl<A: Allocator + Clone> SlotMap for RadixMap<A> {
 
     fn set_range(&mut self, core: CoreId, range: PageRange, meta: Meta) {
         change::change(&mut self.root, Change::Put { range, meta });
+        self.full = full::with_range(self.full, range);
     }
 
     fn clear_range(&mut self, core: CoreId, range: PageRange) {
+        self.full = full::without_range(self.full, range);
         change::change(&mut self.root, Change::Clear { range });
     }
 

@@ -1,186 +1,18 @@
-//! The same calls on both slot maps, worked acquisitions, cuts and folds, each allocation refused
-//! in turn, and memory that comes back.
-ghost use Rattle.std.specs.Prelude.{◌≡◌, ◌+◌, ◌-◌, ◌<◌, ◌≤◌, ◌^◌, IsTrue, Some};
-ghost use Rattle.vm_base.specs.Pages.{IsPage, IsPageRange, pages_from};
-ghost use Rattle.slot_lock.specs.Slots.{IsHeld, IsSlot, OwnsAll};
+//! What both slot maps say of pages after the same calls: pages changed, frames listed and lost, cuts, and each allocation
+//! refused in turn.
+ghost use Rattle.std.specs.Prelude.{◌≡◌, ◌+◌, ◌<◌, ◌≤◌, ◌^◌, IsTrue, Some};
+ghost use Rattle.vm_base.specs.Pages.{IsPage, IsPageRange};
+ghost use Rattle.slot_lock.specs.Slots.{IsHeld};
 
 use crate::radix_map::RadixMap;
+use crate::test_calls::{
+    ALL, FILE, READ_WRITE, WIDE, acquired, clear, cut_inside, mark, one_page, protect, put, unlock,
+    unused,
+};
 use linked_list_allocator::LocalHeap;
-use slot_lock::{Acquire, Fit, Footprint, Framed, FramedPages, Got, RunList, SlotMap, SlotRead};
+use slot_lock::{Fit, Framed, FramedPages, RunList, SlotMap, SlotRead};
 use std::test::Fail;
-use vm_base::{Back, CoreId, CoreSet, Meta, NoMemory, PageInfo, PageRange, Prot, is_valid};
-
-const READ: Prot = Prot {
-    read: true,
-    write: false,
-    exec: false,
-};
-
-const READ_WRITE: Prot = Prot {
-    read: true,
-    write: true,
-    exec: false,
-};
-
-// A private mapping of a file, from its fifth page on.
-const FILE: Meta = Meta {
-    back: Back::Private { file: 3, page: 5 },
-    prot: READ,
-};
-
-const ALL: PageRange = PageRange {
-    first: 1,
-    end: 0x8_0000_0000,
-};
-
-// The second slot of the tree's root.
-const WIDE: PageRange = PageRange {
-    first: 0x800_0000,
-    end: 0x1000_0000,
-};
-
-fn one_page(page: u64) -> PageRange
-    requires { page < 2 ^ 35 }
-    ensures { result ≡ pages_from page 1 }
-{
-    PageRange {
-        first: page,
-        end: page + 1,
-    }
-}
-
-// One step, where the cursor is on a page that the core doesn't hold.
-fn step<M: SlotMap>(
-    map: &mut M,
-    acquire: &mut Acquire,
-    core: CoreId,
-) -> Result<Option<Got>, NoMemory> {
-    if acquire.is_done() || !is_valid(acquire.cursor) {
-        return Ok(None);
-    }
-    if let Some(owner) = map.owner(acquire.cursor) {
-        if owner.index() == core.index() {
-            return Ok(None);
-        }
-    }
-    Ok(Some(acquire.next(map, core)?))
-}
-
-// How many slots are divided and how many are locked, in at most so many steps.
-fn steps_of<M: SlotMap>(
-    map: &mut M,
-    acquire: &mut Acquire,
-    core: CoreId,
-    steps: u32,
-) -> Result<(u32, u32), NoMemory> {
-    let mut splits = 0u32;
-    let mut locks = 0u32;
-    for _ in 0..steps {
-        match step(map, acquire, core)? {
-            Some(Got::Split) => splits = splits.saturating_add(1),
-            Some(Got::Locked(_)) => locks = locks.saturating_add(1),
-            _ => {}
-        }
-    }
-    Ok((splits, locks))
-}
-
-// The same, until the range is held.
-fn acquired<M: SlotMap>(
-    map: &mut M,
-    core: CoreId,
-    range: PageRange,
-    steps: u32,
-) -> Result<(u32, u32), NoMemory>
-    requires { IsPageRange range }
-{
-    let mut acquire = Acquire::new(Footprint::one(range));
-    steps_of(map, &mut acquire, core, steps)
-}
-
-// What is counted so, and what of the two ranges is held by then.
-type Locked = ((u32, u32), Option<Footprint>);
-
-fn locked_two<M: SlotMap>(
-    map: &mut M,
-    core: CoreId,
-    range: PageRange,
-    other: PageRange,
-) -> Result<Locked, NoMemory>
-    requires range { IsPageRange range }
-    requires other { IsPageRange other }
-{
-    let mut acquire = Acquire::new(Footprint::both(range, other));
-    let counts = steps_of(map, &mut acquire, core, 10)?;
-    Ok((counts, acquire.footprint.below(acquire.cursor)))
-}
-
-// Tells whether the core holds the pages, which are one slot.
-fn is_held<M: SlotMap>(map: &M, core: CoreId, range: PageRange) -> bool
-    requires { IsPageRange range }
-    ensures held { IsTrue result → IsHeld (M.slots map.now) core range }
-    ensures slot { IsTrue result → IsSlot (M.slots map.now) range.first range.end }
-{
-    let slot = map.slot(range.first);
-    if slot.first != range.first || slot.end != range.end {
-        return false;
-    }
-    match map.owner(range.first) {
-        Some(owner) => owner.index() == core.index(),
-        None => false,
-    }
-}
-
-// Each call that changes a map, where its condition holds.
-
-fn put<M: SlotMap>(map: &mut M, core: CoreId, range: PageRange) -> bool
-    requires pages { IsPageRange range }
-    requires few { range.end - range.first ≤ 2 ^ 34 }
-{
-    if !is_held(map, core, range) {
-        return false;
-    }
-    map.set_range(core, range, FILE);
-    true
-}
-
-fn clear<M: SlotMap>(map: &mut M, core: CoreId, range: PageRange) -> bool
-    requires { IsPageRange range }
-{
-    if !is_held(map, core, range) {
-        return false;
-    }
-    map.clear_range(core, range);
-    true
-}
-
-fn protect<M: SlotMap>(map: &mut M, core: CoreId, range: PageRange, prot: Prot) -> bool
-    requires { IsPageRange range }
-{
-    if !is_held(map, core, range) || !map.all_mapped(range) {
-        return false;
-    }
-    map.protect_range(core, range, prot);
-    true
-}
-
-fn mark<M: SlotMap>(map: &mut M, core: CoreId, page: u64, frame: u32) -> bool
-    requires { IsPage page }
-{
-    if !is_held(map, core, one_page(page)) {
-        return false;
-    }
-    let Some(info) = map.page(page) else {
-        return false;
-    };
-    let used = PageInfo {
-        frame: Some(frame),
-        cores: CoreSet::empty().with(core),
-        ..info
-    };
-    map.set_leaf(core, page, used);
-    true
-}
+use vm_base::{CoreId, CoreSet, Meta, NoMemory, PageInfo, PageRange};
 
 // Whether one list of the pages of a range that have a frame is this, and says to go as far.
 fn lists<M: SlotMap>(map: &M, range: PageRange, expected: &[Framed], upto: u64) -> bool
@@ -188,71 +20,6 @@ fn lists<M: SlotMap>(map: &M, range: PageRange, expected: &[Framed], upto: u64) 
 {
     let mut list = FramedPages::new();
     map.list_frames(range.first, range.end, &mut list) == upto && list.as_slice() == expected
-}
-
-// The slot that begins with the pages and ends by their end.
-fn unlock<M: SlotMap>(map: &mut M, core: CoreId, range: PageRange) -> Option<u64> {
-    if !is_valid(range.first) {
-        return None;
-    }
-    let slot = map.slot(range.first);
-    if slot.first != range.first || range.end < slot.end {
-        return None;
-    }
-    match map.owner(range.first) {
-        Some(owner) if owner.index() == core.index() => Some(map.unlock_next(
-            core,
-            range.first,
-            range.end,
-        )),
-        _ => None,
-    }
-}
-
-// How many slots are unlocked until nothing of the pages is held.
-fn let_go<M: SlotMap>(map: &mut M, core: CoreId, pages: Option<Footprint>) -> u32 {
-    let mut held = pages;
-    let mut count = 0u32;
-    for _ in 0..10 {
-        if let Some(footprint) = held {
-            if let Some(end) = unlock(map, core, footprint.first) {
-                held = footprint.after(end);
-                count = count.saturating_add(1);
-            }
-        }
-    }
-    count
-}
-
-// A step of a cut, after which the pages are still held.
-fn cut<M: SlotMap>(map: &mut M, core: CoreId, range: PageRange) -> Result<Fit, NoMemory>
-    requires pages { IsPageRange range }
-    requires held { OwnsAll (M.slots map.old) core range.first range.end }
-    ensures { OwnsAll (M.slots map.new) core range.first range.end }
-{
-    map.cut_next(core, range)
-}
-
-// Four steps of a cut of some pages of a held slot.
-fn cut_inside<M: SlotMap>(
-    map: &mut M,
-    core: CoreId,
-    slot: PageRange,
-    range: PageRange,
-) -> Result<Option<[Fit; 4]>, NoMemory>
-    requires slot { IsPageRange slot }
-    requires pages { IsPageRange range }
-    requires low { slot.first ≤ range.first }
-    requires high { range.end ≤ slot.end }
-{
-    if !is_held(map, core, slot) {
-        return Ok(None);
-    }
-    let first = cut(map, core, range)?;
-    let second = cut(map, core, range)?;
-    let third = cut(map, core, range)?;
-    let fourth = cut(map, core, range)?;
-    Ok(Some([first, second, third, fourth]))
 }
 
 // What a map answers while page 16 is held, mapped, used, protected and freed.
@@ -350,10 +117,40 @@ fn each_change_on_both_maps(rt: HostRuntime) -> Result<(), Fail> {
     Ok(())
 }
 
-// What a page of the file has that no core has used.
-fn unused(page: u64) -> Option<PageInfo> {
-    let back = Back::Private { file: 3, page };
-    Some(PageInfo::unused(Meta { back, ..FILE }))
+// Maps a page.
+fn mapped_page<M: SlotMap>(map: &mut M, page: u64) -> Result<bool, NoMemory>
+    requires { IsPage page }
+{
+    acquired(map, CoreId::new(1), one_page(page), 5)?;
+    Ok(put(map, CoreId::new(1), one_page(page)))
+}
+
+// Where room is found round mapped pages: 16 and 17, then 20 too, then 16 and 20 alone.
+fn room_round<M: SlotMap>(map: &mut M) -> Result<[Option<u64>; 6], NoMemory> {
+    let round = PageRange { first: 15, end: 23 };
+    let right = PageRange { first: 17, end: 22 };
+    let is_put = mapped_page(map, 16)? && mapped_page(map, 17)?;
+    let before = map.first_free_run(round, 1);
+    let after = map.first_free_run(round, 5);
+    let is_put_beside = mapped_page(map, 20)? && is_put;
+    let between = map.first_free_run(right, 2);
+    let none = map.first_free_run(right, 3);
+    let is_cleared = clear(map, CoreId::new(1), one_page(17)) && is_put_beside;
+    let wider = map.first_free_run(round, 3);
+    let within = map.first_free_run(right, 1);
+    let found = [before, after, between, none, wider, within];
+    Ok(if is_cleared { found } else { [None; 6] })
+}
+
+#[test]
+fn room_is_found_round_mapped_pages(rt: HostRuntime) -> Result<(), Fail> {
+    let mut list = RunList::new(rt.alloc())?;
+    let mut tree = RadixMap::new(rt.alloc())?;
+    let room = [Some(15), Some(18), Some(18), None, Some(17), Some(17)];
+    let same = room;
+    assert!(rt; room_round(&mut list)? == room);
+    assert!(rt; room_round(&mut tree)? == same);
+    Ok(())
 }
 
 // Maps a page and gives it a frame.
@@ -497,29 +294,9 @@ fn many_frames_go_at_once_on_both_maps(rt: HostRuntime) -> Result<(), Fail> {
     Ok(())
 }
 
-#[test]
-fn another_core_waits_on_both_maps(rt: HostRuntime) -> Result<(), Fail> {
-    let mut list = RunList::new(rt.alloc())?;
-    let mut tree = RadixMap::new(rt.alloc())?;
-    let one = one_page(16);
-    assert_eq!(rt; acquired(&mut list, CoreId::new(1), one, 5)?, (2, 1));
-    assert_eq!(rt; acquired(&mut tree, CoreId::new(1), one, 5)?, (3, 1));
-    assert_eq!(rt; acquired(&mut list, CoreId::new(2), one, 5)?, (0, 0));
-    assert_eq!(rt; acquired(&mut tree, CoreId::new(2), one, 5)?, (0, 0));
-    assert!(rt; list.owner(16) == Some(CoreId::new(1)));
-    assert!(rt; tree.owner(16) == Some(CoreId::new(1)));
-    assert!(rt; list.owner(17) == None);
-    assert!(rt; tree.owner(17) == None);
-    Ok(())
-}
-
-// A page in the middle of the second slot of the root, and what it has once that slot is mapped:
-// the range's first page has file page 5.
+// A page in the middle of the second slot of the root, and what it has once that slot is mapped: the range's first page
+// has file page 5.
 const INNER: u64 = 0x800_0258;
-
-fn inner_info() -> Option<PageInfo> {
-    unused(605)
-}
 
 // Holds and maps the second slot of the root, and cuts it round some of its pages.
 fn cut_wide<M: SlotMap>(map: &mut M, range: PageRange) -> Result<Option<[Fit; 4]>, NoMemory>
@@ -533,202 +310,56 @@ fn cut_wide<M: SlotMap>(map: &mut M, range: PageRange) -> Result<Option<[Fit; 4]
     cut_inside(map, core, WIDE, range)
 }
 
+// The steps of a cut round the page, what it has then, and its slot.
+type CutOne = (Option<[Fit; 4]>, Option<PageInfo>, PageRange);
+
+fn cuts_one<M: SlotMap>(map: &mut M) -> Result<CutOne, NoMemory> {
+    let steps = cut_wide(map, one_page(INNER))?;
+    Ok((steps, map.page(INNER), map.slot(INNER)))
+}
+
 #[test]
 fn cuts_keep_file_pages_on_both_maps(rt: HostRuntime) -> Result<(), Fail> {
     let mut list = RunList::new(rt.alloc())?;
     let mut tree = RadixMap::new(rt.alloc())?;
-    let one = one_page(INNER);
     let two_cuts = Some([Fit::Cut, Fit::Cut, Fit::Fits, Fit::Fits]);
     let three_cuts = Some([Fit::Cut, Fit::Cut, Fit::Cut, Fit::Fits]);
-    assert!(rt; cut_wide(&mut list, one)? == two_cuts);
-    assert!(rt; cut_wide(&mut tree, one)? == three_cuts);
-    assert_eq!(rt; (list.page(INNER), list.slot(INNER)), (inner_info(), one));
-    assert_eq!(rt; (tree.page(INNER), tree.slot(INNER)), (inner_info(), one));
+    assert!(rt; cuts_one(&mut list)? == (two_cuts, unused(605), one_page(INNER)));
+    assert!(rt; cuts_one(&mut tree)? == (three_cuts, unused(605), one_page(INNER)));
     Ok(())
+}
+
+// The steps of a cut from the page up to the end of a slot of 512 pages, the slots of the first and the last page of them,
+// and who holds the last.
+type CutMore = (Option<[Fit; 4]>, PageRange, PageRange, Option<CoreId>);
+
+fn cuts_more<M: SlotMap>(map: &mut M) -> Result<CutMore, NoMemory> {
+    let range = PageRange {
+        first: INNER,
+        end: 0x800_0800,
+    };
+    let steps = cut_wide(map, range)?;
+    let last = 0x800_07ff;
+    Ok((steps, map.slot(INNER), map.slot(last), map.owner(last)))
 }
 
 #[test]
 fn cuts_begin_at_the_start(rt: HostRuntime) -> Result<(), Fail> {
     let mut list = RunList::new(rt.alloc())?;
     let mut tree = RadixMap::new(rt.alloc())?;
-    // up to the end of a slot of 512 pages
     let range = PageRange {
         first: INNER,
         end: 0x800_0800,
     };
-    let two_cuts = Some([Fit::Cut, Fit::Cut, Fit::Fits, Fit::Fits]);
-    let three_cuts = Some([Fit::Cut, Fit::Cut, Fit::Cut, Fit::Fits]);
-    assert!(rt; cut_wide(&mut list, range)? == two_cuts);
-    assert!(rt; cut_wide(&mut tree, range)? == three_cuts);
-    assert_eq!(rt; list.slot(0x800_07ff), range);
     // the slot of the last page wasn't divided
     let last = PageRange {
         first: 0x800_0600,
         end: 0x800_0800,
     };
-    assert_eq!(rt; tree.slot(0x800_07ff), last);
-    assert_eq!(rt; tree.slot(INNER), one_page(INNER));
-    assert!(rt; tree.owner(0x800_07ff) == Some(CoreId::new(2)));
-    Ok(())
-}
-
-#[test]
-fn the_slot_of_the_cursor_is_divided(rt: HostRuntime) -> Result<(), Fail> {
-    let mut list = RunList::new(rt.alloc())?;
-    let mut tree = RadixMap::new(rt.alloc())?;
-    let core = CoreId::new(1);
-    let first = one_page(0x800_0000);
-    assert_eq!(rt; acquired(&mut list, core, first, 5)?, (2, 1));
-    assert_eq!(rt; acquired(&mut tree, core, first, 5)?, (3, 1));
-    assert_eq!(rt; list.slot(0x800_0000), first);
-    assert_eq!(rt; tree.slot(0x800_0000), first);
-    assert_eq!(rt; (list.slot(16).first, list.slot(16).end), (1, 0x800_0000));
-    assert_eq!(rt; (tree.slot(16).first, tree.slot(16).end), (0, 0x800_0000));
-    Ok(())
-}
-
-// Two ranges with a gap between.
-const LEFT: PageRange = PageRange { first: 16, end: 18 };
-
-const RIGHT: PageRange = PageRange { first: 20, end: 22 };
-
-// Which core holds each page from 15 to 22, one round the ranges.
-fn owners<M: SlotMap>(map: &M) -> [Option<CoreId>; 8] {
-    [
-        map.owner(15),
-        map.owner(16),
-        map.owner(17),
-        map.owner(18),
-        map.owner(19),
-        map.owner(20),
-        map.owner(21),
-        map.owner(22),
-    ]
-}
-
-#[test]
-fn two_ranges_on_both_maps(rt: HostRuntime) -> Result<(), Fail> {
-    let mut list = RunList::new(rt.alloc())?;
-    let mut tree = RadixMap::new(rt.alloc())?;
-    let core = CoreId::new(1);
-    let both = Some(Footprint {
-        first: LEFT,
-        second: Some(RIGHT),
-    });
-    assert_eq!(rt; locked_two(&mut list, core, RIGHT, LEFT)?, ((4, 2), both));
-    assert_eq!(rt; locked_two(&mut tree, core, RIGHT, LEFT)?, ((3, 4), both));
-    let own = Some(core);
-    let held = [None, own, own, None, None, own, own, None];
-    assert!(rt; owners(&list) == held);
-    assert!(rt; owners(&tree) == held);
-    assert_eq!(rt; let_go(&mut list, core, both), 2);
-    assert_eq!(rt; let_go(&mut tree, core, both), 4);
-    assert!(rt; owners(&list) == [None; 8]);
-    assert!(rt; owners(&tree) == [None; 8]);
-    Ok(())
-}
-
-#[test]
-fn gives_up_in_mid_lock_on_both_maps(rt: HostRuntime) -> Result<(), Fail> {
-    let mut list = RunList::new(rt.alloc())?;
-    let mut tree = RadixMap::new(rt.alloc())?;
-    let other = CoreId::new(2);
-    acquired(&mut list, other, one_page(21), 5)?;
-    acquired(&mut tree, other, one_page(21), 5)?;
-    let core = CoreId::new(1);
-    let (list_counts, list_held) = locked_two(&mut list, core, LEFT, RIGHT)?;
-    let (tree_counts, tree_held) = locked_two(&mut tree, core, LEFT, RIGHT)?;
-    let held = Some(Footprint {
-        first: LEFT,
-        second: Some(one_page(20)),
-    });
-    assert_eq!(rt; (list_counts, list_held), ((3, 2), held));
-    assert_eq!(rt; (tree_counts, tree_held), ((0, 3), held));
-    assert_eq!(rt; let_go(&mut list, core, list_held), 2);
-    assert_eq!(rt; let_go(&mut tree, core, tree_held), 3);
-    let alone = [None, None, None, None, None, None, Some(other), None];
-    assert!(rt; owners(&list) == alone);
-    assert!(rt; owners(&tree) == alone);
-    Ok(())
-}
-
-#[test]
-fn all_pages_take_three_splits(rt: HostRuntime) -> Result<(), Fail> {
-    let mut list = RunList::new(rt.alloc())?;
-    let mut tree = RadixMap::new(rt.alloc())?;
-    let core = CoreId::new(0);
-    assert_eq!(rt; acquired(&mut list, core, ALL, 5)?, (0, 1));
-    // 511 slots of one page, 511 of 2^9, 511 of 2^18 and 255 of 2^27
-    assert_eq!(rt; acquired(&mut tree, core, ALL, 1800)?, (3, 1788));
-    assert!(rt; tree.owner(1) == Some(core));
-    assert!(rt; tree.owner(0x7_ffff_ffff) == Some(core));
-    assert_eq!(rt; tree.first_free_run(ALL, 0x7_ffff_ffff), Some(1));
-    Ok(())
-}
-
-#[test]
-fn two_pages_take_four_splits(rt: HostRuntime) -> Result<(), Fail> {
-    let mut list = RunList::new(rt.alloc())?;
-    let mut tree = RadixMap::new(rt.alloc())?;
-    let core = CoreId::new(0);
-    let two = PageRange {
-        first: 511,
-        end: 513,
-    };
-    assert_eq!(rt; acquired(&mut list, core, two, 10)?, (2, 1));
-    assert_eq!(rt; acquired(&mut tree, core, two, 10)?, (4, 2));
-    assert_eq!(rt; tree.slot(512), one_page(512));
-    assert!(rt; tree.owner(512) == Some(core));
-    assert!(rt; tree.owner(513) == None);
-    Ok(())
-}
-
-#[test]
-fn folds_with_the_next_slot(rt: HostRuntime) -> Result<(), Fail> {
-    let mut list = RunList::new(rt.alloc())?;
-    let core = CoreId::new(1);
-    let one = one_page(16);
-    assert_eq!(rt; acquired(&mut list, core, one, 5)?, (2, 1));
-    assert!(rt; put(&mut list, core, one));
-    assert_eq!(rt; unlock(&mut list, core, one), Some(17));
-    assert!(rt; !list.fold(1));
-    assert_eq!(rt; acquired(&mut list, core, one, 5)?, (0, 1));
-    assert!(rt; clear(&mut list, core, one));
-    assert_eq!(rt; unlock(&mut list, core, one), Some(17));
-    assert!(rt; list.fold(1));
-    assert!(rt; list.fold(1));
-    assert!(rt; !list.fold(1));
-    assert_eq!(rt; list.slot(16), ALL);
-    Ok(())
-}
-
-#[test]
-fn folds_up_to_the_root(rt: HostRuntime) -> Result<(), Fail> {
-    let mut tree = RadixMap::new(rt.alloc())?;
-    let core = CoreId::new(1);
-    let one = one_page(16);
-    assert!(rt; !tree.fold(16));
-    assert_eq!(rt; acquired(&mut tree, core, one, 5)?, (3, 1));
-    assert!(rt; put(&mut tree, core, one));
-    assert!(rt; !tree.fold(16));
-    assert_eq!(rt; unlock(&mut tree, core, one), Some(17));
-    // page 16 alone is mapped
-    assert!(rt; !tree.fold(16));
-    assert_eq!(rt; acquired(&mut tree, core, one, 5)?, (0, 1));
-    assert!(rt; clear(&mut tree, core, one));
-    assert_eq!(rt; unlock(&mut tree, core, one), Some(17));
-    assert!(rt; tree.fold(16));
-    assert_eq!(rt; tree.slot(16), PageRange { first: 0, end: 512 });
-    assert!(rt; tree.fold(16));
-    assert!(rt; tree.fold(16));
-    assert!(rt; !tree.fold(16));
-    assert_eq!(rt;
-        tree.slot(16),
-        PageRange {
-            first: 0,
-            end: 0x800_0000
-        }
-    );
+    let two_cuts = Some([Fit::Cut, Fit::Cut, Fit::Fits, Fit::Fits]);
+    let three_cuts = Some([Fit::Cut, Fit::Cut, Fit::Cut, Fit::Fits]);
+    assert!(rt; cuts_more(&mut list)? == (two_cuts, range, range, Some(CoreId::new(2))));
+    assert!(rt; cuts_more(&mut tree)? == (three_cuts, one_page(INNER), last, Some(CoreId::new(2))));
     Ok(())
 }
 
@@ -748,8 +379,8 @@ fn seen<M: SlotMap>(map: &M) -> [Seen; 4] {
     ]
 }
 
-// Tells whether a map whose heap has room for it and no more stays as it is where a division is
-// refused, locking or cutting, and can be locked where it need not be divided.
+// Tells whether a map whose heap has room for it and no more stays as it is where a division is refused, locking or
+// cutting, and can be locked where it need not be divided.
 fn refuses_unchanged<M: SlotMap>(map: &mut M, locked: PageRange) -> Result<bool, NoMemory>
     requires pages { IsPageRange locked }
     requires low { locked.first ≤ 2 ^ 27 }
@@ -765,58 +396,33 @@ fn refuses_unchanged<M: SlotMap>(map: &mut M, locked: PageRange) -> Result<bool,
     Ok(split && unsplit && locks && cut && seen(map) == held)
 }
 
+// Whether neither map is made without memory, and a list with room for its first three runs and no more refuses so.
+fn refuses_lists(none: &LocalHeap, small: &LocalHeap) -> Result<bool, NoMemory> {
+    let none_made = RunList::new(none).is_err() && RadixMap::new(none).is_err();
+    Ok(none_made && refuses_unchanged(&mut RunList::new(small)?, ALL)?)
+}
+
+// Whether a tree refuses so, where the heap has room for one.
+fn refuses_tree(heap: &LocalHeap) -> Result<Option<bool>, NoMemory> {
+    match RadixMap::new(heap) {
+        Err(_) => Ok(None),
+        Ok(mut tree) => Ok(Some(refuses_unchanged(&mut tree, WIDE)?)),
+    }
+}
+
 #[test]
 fn refusals_change_nothing(rt: HostRuntime) -> Result<(), Fail> {
     let none = LocalHeap::new(rt.alloc(), 0)?;
-    assert!(rt; RunList::new(&none).is_err());
-    assert!(rt; RadixMap::new(&none).is_err());
-    // room for the first three runs and no more
     let small = LocalHeap::new(rt.alloc(), 400)?;
-    assert!(rt; refuses_unchanged(&mut RunList::new(&small)?, ALL)?);
+    assert!(rt; refuses_lists(&none, &small)?);
     for pages in 1..100 {
         let heap = LocalHeap::new(rt.alloc(), pages * 4096)?;
-        if let Ok(mut tree) = RadixMap::new(&heap) {
+        if let Some(refuses) = refuses_tree(&heap)? {
             // room for the root and no more: 64 bytes for each of its 512 slots at most
-            assert!(rt; pages <= 9);
-            assert!(rt; refuses_unchanged(&mut tree, WIDE)?);
+            assert!(rt; refuses && pages <= 9);
             return Ok(());
         }
     }
     assert!(rt; false);
-    Ok(())
-}
-
-// How much of a heap is used while a tree is new, has a page that is a slot of its own, and is
-// folded again.
-fn memory_of(heap: &LocalHeap) -> Result<[usize; 3], NoMemory> {
-    let core = CoreId::new(1);
-    let one = one_page(16);
-    let mut tree = RadixMap::new(heap)?;
-    let new = heap.used();
-    acquired(&mut tree, core, one, 5)?;
-    let grown = heap.used();
-    unlock(&mut tree, core, one);
-    tree.fold(16);
-    tree.fold(16);
-    tree.fold(16);
-    Ok([new, grown, heap.used()])
-}
-
-// A tree that is dropped while it has nodes of every level.
-fn grown_and_dropped(heap: &LocalHeap) -> Result<(u32, u32), NoMemory> {
-    let mut tree = RadixMap::new(heap)?;
-    acquired(&mut tree, CoreId::new(1), one_page(16), 5)
-}
-
-#[test]
-fn memory_comes_back(rt: HostRuntime) -> Result<(), Fail> {
-    let heap = LocalHeap::new(rt.alloc(), 0x10_0000)?;
-    let before = heap.used();
-    let [new, grown, folded] = memory_of(&heap)?;
-    assert!(rt; before < new && new < grown);
-    assert_eq!(rt; folded, new);
-    assert_eq!(rt; heap.used(), before);
-    assert_eq!(rt; grown_and_dropped(&heap)?, (3, 1));
-    assert_eq!(rt; heap.used(), before);
     Ok(())
 }

@@ -10,6 +10,7 @@ mod clears;
 mod counts;
 mod hits;
 mod ranges;
+mod room;
 mod slots;
 mod threads;
 mod tree;
@@ -47,12 +48,14 @@ fn tell(rt: &impl Print, nanos: Option<u128>) -> io::Result<()> {
 }
 
 /// The words of the parts.
-const WORDS: [&str; 23] = [
+const WORDS: [&str; 25] = [
     "slots",
     "look",
     "tree",
     "scan",
     "edit",
+    "room",
+    "gaps",
     "hit",
     "oldest",
     "newest",
@@ -81,6 +84,8 @@ fn rounds_of(word: &str) -> u64
         "clear" => 20_000,
         "scan" => 5_000,
         "edit" => 2_000,
+        "room" => 1_000_000,
+        "gaps" => 1_000,
         "hit" | "oldest" | "newest" => 50_000_000,
         "byte" | "count" => 20_000_000,
         "look" => 10_000_000,
@@ -100,7 +105,7 @@ fn time<R: Threads + Wait + Clock + Sync>(
     rounds: u64,
 ) -> io::Result<Option<u128>>
     requires some { 4096 < pages }
-    requires few { pages ≤ 2 ^ 20 }
+    requires few { pages ≤ 2 ^ 19 }
 {
     match word {
         "slots" => slots::time(rt, alloc, pages, rounds),
@@ -108,6 +113,8 @@ fn time<R: Threads + Wait + Clock + Sync>(
         "tree" => tree::time_changes(rt, alloc, pages, rounds),
         "scan" => ranges::time_scans(rt, alloc, pages, rounds),
         "edit" => ranges::time_edits(rt, alloc, pages, rounds),
+        "room" => room::time_mapping(rt, alloc, pages, rounds),
+        "gaps" => room::time_gaps(rt, alloc, pages, rounds),
         "hit" => hits::time(rt, alloc, Order::Anywhere, rounds),
         "oldest" => hits::time(rt, alloc, Order::Oldest, rounds),
         "newest" => hits::time(rt, alloc, Order::Newest, rounds),

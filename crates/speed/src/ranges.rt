@@ -100,7 +100,7 @@ fn holds(map: &RadixMap<Global>, core: CoreId, page: u64) -> bool
 }
 
 /// Tells whether the core holds the range's pages, and no slot crosses an edge of it.
-fn is_held(map: &RadixMap<Global>, core: CoreId, range: PageRange) -> bool
+pub fn is_held(map: &RadixMap<Global>, core: CoreId, range: PageRange) -> bool
     requires pages { IsPageRange range }
     requires below { range.end < 2 ^ 35 }
     ensures held { IsTrue result → IsHeld (⟦<RadixMap<Global> as SlotRead>⟧.slots map.now) core range }
@@ -119,7 +119,7 @@ fn is_held(map: &RadixMap<Global>, core: CoreId, range: PageRange) -> bool
 }
 
 /// Maps the range anew.
-fn put<M: SlotMap>(map: &mut M, core: CoreId, range: PageRange)
+pub fn put<M: SlotMap>(map: &mut M, core: CoreId, range: PageRange)
     requires held { IsHeld (M.slots map.old) core range }
     ensures held { IsHeld (M.slots map.new) core range }
 {

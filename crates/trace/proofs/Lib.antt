@@ -1,3 +1,4 @@
+pub mod ShownLemmas
 pub mod RunLemmas
 pub mod TextLemmas
 pub mod TurnLemmas

@@ -6,12 +6,12 @@ ghost use Rattle.trace.specs.Events.{event_of};
 ghost use Rattle.trace.specs.Gives.{Gives, Wants, WantsFinish, is_event, TellsFinish, TellsStep};
 
 use crate::fault::TraceFault;
-use crate::outcome_text::{LineText, write_finished, write_outcome};
+use crate::outcome_text::{write_finished, write_outcome};
 use core_steps::Machine;
 use machine_model::{Event, Outcome};
 use slot_lock::SlotMap;
 use std::alloc::Allocator;
-use trace_text::{Action, Line};
+use trace_text::{Action, Line, LineText};
 use vm_base::{CoreId, NoMemory, Request};
 
 // The event that the core's action is.

@@ -8,8 +8,10 @@ pub mod laws;
 pub mod outcome_text;
 pub mod replay;
 pub mod replayer;
+pub mod shown;
 
 pub use fault::TraceFault;
+pub use shown::Show;
 
 #[cfg(test)]
 mod row_tests;

@@ -3,17 +3,18 @@ ghost use Rattle.std.specs.Prelude.{◌≡◌, ◌⊎◌, [], option_map, None, 
 ghost use Rattle.core_steps.specs.Machine.{state};
 ghost use Rattle.trace_text.specs.Words.{words_of};
 ghost use Rattle.trace.specs.Stage.{Stage, Start, Declared, stage_of, Opens, OpenFails, CanOpen, Acts, BadFails, EventActs, EventFails, EventWants, FileFails, LateFails, LineActs, LineFails, LineWants, SpaceFails, kind_of};
+ghost use Rattle.trace.specs.Shown.{log_at};
 
 use crate::declaration::{Declaration, FileLine};
 use crate::event_lines::run_line;
 use crate::fault::TraceFault;
-use crate::outcome_text::LineText;
 use core_steps::{Machine, SetupFault};
+use machine_model::Entry;
 use mmu::{Cpu, Hardware};
 use radix_range::RadixMap;
 use slot_lock::SlotMap;
 use std::alloc::Allocator;
-use trace_text::{Line, first_word_is_file, first_word_is_vm, is_printable, read_line};
+use trace_text::{Line, LineText, first_word_is_file, first_word_is_vm, is_printable, read_line};
 
 /// What acts on the lines of a trace, one at a time.
 pub trait Staged {
@@ -32,6 +33,10 @@ pub trait Staged {
     fn finish(&self) -> Result<(), TraceFault>
         ensures ok { OnOk result (CanOpen (stage self.now)) }
         ensures err { IfErr result (λ f. OpenFails (stage self.now) f) };
+
+    /// The log of the machine; up to the first event it is empty.
+    fn log(&self) -> &[Entry]
+        ensures { result.now ≡ log_at (stage self.now) };
 }
 
 /// A replay between two lines. Up to the `vm` line it has neither a declaration nor a machine, then a declaration, and from
@@ -269,6 +274,13 @@ impl<A: Allocator + Clone + Drop> Staged for Replayer<A> {
                 Ok(_) => Ok(()),
                 Err(fault) => Err(fault),
             },
+        }
+    }
+
+    fn log(&self) -> &[Entry] {
+        match &self.machine {
+            Some(machine) => machine.log(),
+            None => &[],
         }
     }
 }

@@ -2,6 +2,7 @@
 //! that each gives.
 use crate::fault::TraceFault;
 use crate::replay::replay;
+use crate::shown::Show;
 use core_steps::SetupFault;
 use std::test::Fail;
 use trace_io::sink::Noted;
@@ -34,7 +35,10 @@ fn events_of_one_core(rt: HostRuntime) -> Result<(), Fail> {
     ] {
         let mut reader = Counted::new(input);
         let mut writer = Noted::new(Vec::new(rt.alloc()));
-        assert_eq!(rt; replay(rt.alloc(), &mut reader, &mut writer), Ok(()));
+        assert_eq!(rt;
+            replay(rt.alloc(), &mut reader, &mut writer, Show::Outcomes),
+            Ok(())
+        );
         assert_eq!(rt; writer.writer.as_slice(), output);
     }
     Ok(())
@@ -72,7 +76,10 @@ fn events_of_several_cores(rt: HostRuntime) -> Result<(), Fail> {
     ] {
         let mut reader = Counted::new(input);
         let mut writer = Noted::new(Vec::new(rt.alloc()));
-        assert_eq!(rt; replay(rt.alloc(), &mut reader, &mut writer), Ok(()));
+        assert_eq!(rt;
+            replay(rt.alloc(), &mut reader, &mut writer, Show::Outcomes),
+            Ok(())
+        );
         assert_eq!(rt; writer.writer.as_slice(), output);
     }
     Ok(())
@@ -110,7 +117,10 @@ fn events_of_files(rt: HostRuntime) -> Result<(), Fail> {
     ] {
         let mut reader = Counted::new(input);
         let mut writer = Noted::new(Vec::new(rt.alloc()));
-        assert_eq!(rt; replay(rt.alloc(), &mut reader, &mut writer), Ok(()));
+        assert_eq!(rt;
+            replay(rt.alloc(), &mut reader, &mut writer, Show::Outcomes),
+            Ok(())
+        );
         assert_eq!(rt; writer.writer.as_slice(), output);
     }
     Ok(())
@@ -163,7 +173,10 @@ fn events_of_placed_mappings(rt: HostRuntime) -> Result<(), Fail> {
     ] {
         let mut reader = Counted::new(input);
         let mut writer = Noted::new(Vec::new(rt.alloc()));
-        assert_eq!(rt; replay(rt.alloc(), &mut reader, &mut writer), Ok(()));
+        assert_eq!(rt;
+            replay(rt.alloc(), &mut reader, &mut writer, Show::Outcomes),
+            Ok(())
+        );
         assert_eq!(rt; writer.writer.as_slice(), output);
     }
     Ok(())
@@ -204,7 +217,10 @@ fn files_that_are_refused(rt: HostRuntime) -> Result<(), Fail> {
     ] {
         let mut reader = Counted::new(input);
         let mut writer = Noted::new(Vec::new(rt.alloc()));
-        assert_eq!(rt; replay(rt.alloc(), &mut reader, &mut writer), Err(fault));
+        assert_eq!(rt;
+            replay(rt.alloc(), &mut reader, &mut writer, Show::Outcomes),
+            Err(fault)
+        );
     }
     Ok(())
 }

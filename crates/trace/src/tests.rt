@@ -1,8 +1,9 @@
 //! The texts of outcomes, lines acted on one by one, and replays in heaps that are too small and to writers that fail at a flush.
 use crate::fault::TraceFault;
-use crate::outcome_text::{LineText, write_finished, write_outcome};
+use crate::outcome_text::{write_finished, write_outcome};
 use crate::replay::replay;
 use crate::replayer::{Replayer, Staged};
+use crate::shown::Show;
 use core_steps::{Finished, SetupFault};
 use linked_list_allocator::LocalHeap;
 use machine_model::{Blocker, Outcome};
@@ -12,6 +13,7 @@ use std::io::{ErrorKind, Read, Write};
 use std::test::Fail;
 use trace_io::sink::Noted;
 use trace_io::source::Counted;
+use trace_text::LineText;
 use vm_base::{CoreId, CoreSet, Reply};
 
 #[test]
@@ -95,7 +97,7 @@ fn each_heap_that_is_too_small(rt: HostRuntime) -> Result<(), Fail> {
         let heap = LocalHeap::new(rt.alloc(), 65_408 + 512 * n)?;
         let mut reader = Counted::new(TEXT);
         let mut writer = Noted::new(Vec::new(rt.alloc()));
-        let result = replay(&heap, &mut reader, &mut writer);
+        let result = replay(&heap, &mut reader, &mut writer, Show::Outcomes);
         let written = writer.writer.as_slice();
         assert!(rt; WHOLE.starts_with(written));
         match result {
@@ -183,7 +185,7 @@ fn replies_go_out_before_the_next_read(rt: HostRuntime) -> Result<(), Fail> {
     ] {
         let mut reader = Counted::new(Typed { bytes: TEXT });
         let mut writer = failing_at(rt.alloc(), flushes);
-        let result = replay(rt.alloc(), &mut reader, &mut writer);
+        let result = replay(rt.alloc(), &mut reader, &mut writer, Show::Outcomes);
         assert_eq!(rt; result, Err(TraceFault::WriteFailed));
         assert_eq!(rt; writer.writer.held.as_slice(), written);
         assert_eq!(rt; reader.reads, flushes);
@@ -191,7 +193,10 @@ fn replies_go_out_before_the_next_read(rt: HostRuntime) -> Result<(), Fail> {
     }
     let mut reader = Counted::new(Typed { bytes: TEXT });
     let mut writer = failing_at(rt.alloc(), 6);
-    assert_eq!(rt; replay(rt.alloc(), &mut reader, &mut writer), Ok(()));
+    assert_eq!(rt;
+        replay(rt.alloc(), &mut reader, &mut writer, Show::Outcomes),
+        Ok(())
+    );
     assert!(rt; writer.flushed);
     Ok(())
 }
@@ -202,7 +207,7 @@ fn a_failing_flush_is_told_after_a_fault(rt: HostRuntime) -> Result<(), Fail> {
     for (flushes, fault) in [(2, TraceFault::WriteFailed), (3, TraceFault::BadLine(2))] {
         let mut reader = Counted::new(b"vm 1 1\nfrob".as_slice());
         let mut writer = failing_at(rt.alloc(), flushes);
-        let result = replay(rt.alloc(), &mut reader, &mut writer);
+        let result = replay(rt.alloc(), &mut reader, &mut writer, Show::Outcomes);
         assert_eq!(rt; result, Err(fault));
         assert_eq!(rt; reader.reads, 2);
     }

@@ -1,8 +1,9 @@
-//! Lines as the format's description gives them, good and bad, and the texts of replies.
+//! Lines as the format's description gives them, good and bad, and the texts of replies and of the lists' lines.
 use crate::action::Action;
 use crate::line::{Line, first_word_is_file, first_word_is_vm, is_printable, read_line};
+use crate::lists::{LineText, write_answer, write_detach, write_map_line};
 use crate::printing::{address_text, number_text, reply_text};
-use vm_base::{CoreId, Errno, Flags, Mode, Prot, Reply, Request, SegvCode};
+use vm_base::{Back, CoreId, Errno, Flags, Mode, PageRange, Prot, Reply, Request, SegvCode};
 
 const READ_WRITE: Prot = Prot {
     read: true,
@@ -313,4 +314,82 @@ fn texts_of_numbers(rt: HostRuntime) {
     assert_eq!(rt; number_text(0).as_str(), "0");
     assert_eq!(rt; number_text(4096).as_str(), "4096");
     assert_eq!(rt; number_text(u64::MAX).as_str(), "18446744073709551615");
+}
+
+#[test]
+fn lines_of_the_log(rt: HostRuntime) {
+    let mut text = LineText::new();
+    for (step, call, reply, line) in [
+        (1, 1, Reply::Mapped(0x10000), "log 1 call 1 0x10000\n"),
+        (40, 3, Reply::Done, "log 40 call 3 done\n"),
+        (41, 4, Reply::Byte(65), "log 41 call 4 65\n"),
+        (
+            u64::MAX,
+            u64::MAX - 1,
+            Reply::Segv(SegvCode::AccErr),
+            "log 18446744073709551615 call 18446744073709551614 segv accerr\n",
+        ),
+    ] {
+        write_answer(&mut text, step, call, reply);
+        assert_eq!(rt; text.as_str(), line);
+    }
+    for (step, page, line) in [
+        (12, 16, "log 12 detach 0x10000\n"),
+        (0, 0, "log 0 detach 0x0\n"),
+        (9, 0x7_ffff_ffff, "log 9 detach 0x7ffffffff000\n"),
+        (7, u64::MAX, "log 7 detach 0xffffffffffffffff000\n"),
+    ] {
+        write_detach(&mut text, step, page);
+        assert_eq!(rt; text.as_str(), line);
+    }
+}
+
+#[test]
+fn lines_of_the_mappings(rt: HostRuntime) {
+    let read = Prot {
+        write: false,
+        ..READ_WRITE
+    };
+    let none = Prot {
+        read: false,
+        ..read
+    };
+    let mut text = LineText::new();
+    for (first, end, prot, back, line) in [
+        (
+            16,
+            17,
+            READ_WRITE,
+            Back::Shared { file: 0, page: 0 },
+            "0x10000-0x11000 rw- shared 0 0x0\n",
+        ),
+        (17, 18, read, Back::Anon, "0x11000-0x12000 r-- anon\n"),
+        (
+            18,
+            20,
+            READ_WRITE,
+            Back::Shared { file: 0, page: 2 },
+            "0x12000-0x14000 rw- shared 0 0x2000\n",
+        ),
+        (
+            0x7_ffff_fffe,
+            0x8_0000_0000,
+            Prot { exec: true, ..none },
+            Back::Private { file: 15, page: 3 },
+            "0x7fffffffe000-0x800000000000 --x private 15 0x3000\n",
+        ),
+        (
+            0,
+            u64::MAX,
+            none,
+            Back::Private {
+                file: u32::MAX,
+                page: u64::MAX,
+            },
+            "0x0-0xffffffffffffffff000 --- private 4294967295 0xffffffffffffffff000\n",
+        ),
+    ] {
+        write_map_line(&mut text, PageRange { first, end }, prot, back);
+        assert_eq!(rt; text.as_str(), line);
+    }
 }
