@@ -53,4 +53,5 @@ pub record ClosesFront (show : Show) (s : Stage) (old new : Option (List ℕ)) :
 
 -- why a trace couldn't be closed
 abbrev pub CloseFails : Show → Stage → Option (List ℕ) → Option (List ℕ) → TraceFault → Type 0
-CloseFails show s old new f = (OpenFails s f × Keeps old new) ⊎ ((f ≡ WriteFailed) × ClosesFront show s old new)
+CloseFails show s old new f =
+    (OpenFails s f × Keeps old new) ⊎ ((f ≡ WriteFailed) × ClosesFront show s old new)
