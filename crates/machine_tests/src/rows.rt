@@ -5,8 +5,7 @@ use slot_lock::RunList;
 use std::alloc::{Allocator, Global};
 use trace::declaration::Declaration;
 use trace::event_lines::run_line;
-use trace_text::LineText;
-use trace_text::read_line;
+use trace_text::{LineText, read_line};
 use vm_base::NoMemory;
 
 /// The machine that is declared.

@@ -3,8 +3,8 @@
 ghost use Rattle.std.specs.Prelude.{◌≡◌, true};
 ghost use Rattle.vm_base.specs.Pages.{is_page};
 
-use mmu::{Cpu, Hardware, Translated, has_right, indices};
 use linked_list_allocator::LocalHeap;
+use mmu::{Cpu, Hardware, Translated, has_right, indices};
 use std::alloc::{Allocator, Global};
 use vm_base::{Access, NoMemory, PageRange, Prot};
 

@@ -8,14 +8,3 @@ pub mod slot;
 pub mod walk;
 
 pub use radix_map::RadixMap;
-
-#[cfg(test)]
-mod lock_tests;
-#[cfg(test)]
-mod node_tests;
-#[cfg(test)]
-mod slot_tests;
-#[cfg(test)]
-mod test_calls;
-#[cfg(test)]
-mod tests;

@@ -7,6 +7,7 @@ use std::env::{Env, FillError};
 use std::io;
 use std::io::{ErrorKind, Read, Write};
 use std::test::Fail;
+use trace::shown::Show;
 use trace_io::sink::Noted;
 use trace_io::source::Counted;
 
@@ -435,7 +436,7 @@ fn no_memory_for_the_replay(rt: HostRuntime) -> Result<(), Fail> {
         let mut reader = source_of(STORED, AMPLE);
         let mut out = sink_of(rt.alloc(), AMPLE);
         let mut errors = Vec::new(rt.alloc());
-        let status = job::run(&heap, &mut reader, &mut out, &mut errors);
+        let status = job::run(&heap, &mut reader, &mut out, &mut errors, Show::Outcomes);
         assert_eq!(rt; errors.as_slice(), fault);
         assert_eq!(rt; status, 3);
     }

@@ -13,8 +13,8 @@ use Rattle.trace.specs.declared.fault.TraceFault.TheVariants.{TooLong, NoMemory,
 use Rattle.trace.specs.Stage.{Stage, Start, LineFails, CanOpen, OpenFails, Acts}
 use Rattle.trace.specs.Runs.{Runs}
 use Rattle.trace.specs.declared.shown.Show.{Show}
-use Rattle.trace.specs.Shown.{told, IsBehind, Closes, ClosesFront, CloseFails}
-use Rattle.trace.proofs.ShownLemmas.{told_more, told_none, front_more, whole_front}
+use Rattle.trace.specs.Shown.{told, IsBehind, IsBegunBehind, Closes, ClosesFront, CloseFails}
+use Rattle.trace.proofs.ShownLemmas.{begun_behind, told_more, told_none, front_more, whole_front}
 use Rattle.trace.specs.Turns.{Scene, Advances, IsOver, Fails, read_fails, unsent, too_long, no_memory, refused, unwritten}
 use Rattle.trace.specs.Ends.{Front, AreRead, Stops, reading, unmade, wanting, overlong, refusing, unopened, writing, closing, Ends}
 
@@ -287,7 +287,7 @@ run_ends show input wo wn now next n (Err f) h v o (inl e) =
     (Appends-kept _ _ _ _ (Appends-kept _ _ _ _ h.appends v.written) e.1)
 run_ends show input wo wn now next n (Err f) h v o (inr e) =
     closing e.0 (front_of show input wo now n h) (over_left h.rest now.left h.left v.ended) (subst CanOpen v.stage e.1.opens) e.1.behind
-    (subst (λ s. IsBehind show s e.1.behind) v.stage e.1.is) (front_more _ _ _ _ _ (Appends-kept _ _ _ _ h.appends v.written) e.1.appends)
+    (subst (λ s. IsBegunBehind show s e.1.behind) v.stage e.1.is) (front_more _ _ _ _ _ (Appends-kept _ _ _ _ h.appends v.written) e.1.appends)
 
 pub some_ends : {T : Type 0} (show : Show) (o wo wn : Option (List ℕ)) (now next : Scene) (n : ℕ) (r : Result T TraceFault)
     → IfSome o (λ input. HasRun show input wo now n) → IsOver now next → OnOk r (Closes show next.stage next.written wn)
@@ -352,7 +352,7 @@ ends_lost show input unread a b (Ok x) h =
       text = h.text;
       lines = sym (append-nil (lines_of input));
       runs = h.runs;
-    }) refl h.opens h.behind h.is (whole_front _ _ _ h.appends)
+    }) refl h.opens h.behind (begun_behind show h.stage h.behind h.is) (whole_front _ _ _ h.appends)
 ends_lost show input unread a b (Err f) h = stops_lost show input unread a b f h
 
 pub some_kept : {T : Type 0} (show : Show) (o unread a b c : Option (List ℕ)) (r : Result T TraceFault) → IfSome o (λ input. Ends show input unread a b r)

@@ -9,18 +9,21 @@ use Rattle.std.specs.Io.KnownBytes.{Appends}
 use Rattle.machine_model.specs.declared.log.Entry.{Entry}
 use Rattle.trace_io.specs.Sink.{AppendsFront}
 use Rattle.trace.specs.declared.shown.Show.{Show}
-use Rattle.trace.specs.declared.shown.Show.TheVariants.{Outcomes, OutcomesAndLog}
-use Rattle.trace.specs.Shown.{told, entry_text, log_text}
+use Rattle.trace.specs.declared.shown.Show.TheVariants.{Outcomes, OutcomesAndLog, Maps}
+use Rattle.trace.specs.Stage.{Stage}
+use Rattle.trace.specs.Shown.{told, entry_text, log_text, IsBehind, IsBegunBehind}
 
 -- ---- the text of outcomes
 
 pub told_none : (show : Show) → told show [] ≡ []
 told_none Outcomes = refl
 told_none OutcomesAndLog = refl
+told_none Maps = refl
 
 pub told_more : (show : Show) (xs ys : List ℕ) → told show (xs ++ ys) ≡ told show xs ++ told show ys
 told_more Outcomes xs ys = refl
 told_more OutcomesAndLog xs ys = refl
+told_more Maps xs ys = refl
 
 -- ---- fronts
 
@@ -81,3 +84,11 @@ log_whole a b log n h p = subst (λ l. Appends a b (log_text l)) (whole log n h)
   where
     whole : (log : List Entry) (n : ℕ) → length log ≤ n → take n log ≡ log
     whole log n h = grind (arith, common_steps)
+
+-- ---- what comes behind the outcomes
+
+-- all of it is what it begins with
+pub begun_behind : (show : Show) (s : Stage) (text : List ℕ) → IsBehind show s text → IsBegunBehind show s text
+begun_behind Outcomes s text is = is
+begun_behind OutcomesAndLog s text is = is
+begun_behind Maps s text is = (_, is.0, is.1, is.2)

@@ -9,7 +9,7 @@ use Rattle.trace.specs.declared.fault.TraceFault.TheVariants.{TooLong, ReadFaile
 use Rattle.trace.specs.declared.shown.Show.{Show}
 use Rattle.trace.specs.Stage.{Stage, Start, LineFails, LineWants, CanOpen, OpenFails}
 use Rattle.trace.specs.Runs.{Runs}
-use Rattle.trace.specs.Shown.{told, IsBehind}
+use Rattle.trace.specs.Shown.{told, IsBehind, IsBegunBehind}
 
 -- All lines were acted on, a machine could be made, and what is to be shown was written: the lines'
 -- text, and what comes behind it.
@@ -44,9 +44,9 @@ pub record AreRead (input : List ℕ) (unread : Option (List ℕ)) (done : List 
 
 -- After a fault the text of the lines before it has gone out, where it is shown, and nothing comes
 -- behind it. After a failed write a front of the text has, or, where all lines were acted on, of it
--- and what comes behind it. After a failed read no newline is among what was read behind those
--- lines. Memory may be wanting before anything is read (unmade), and where a step of the machine
--- was refused; then no more than its line was read.
+-- and what comes behind it, which of the mappings are the first ones. After a failed read no
+-- newline is among what was read behind those lines. Memory may be wanting before anything is read
+-- (unmade), and where a step of the machine was refused; then no more than its line was read.
 pub data Stops (show : Show) (input : List ℕ) (unread old new : Option (List ℕ))
     (f : TraceFault) : Type 0 where
   reading : f ≡ ReadFailed → (p : Front input) (r : AreRead input unread p.done) → IsUnbroken r.held
@@ -67,8 +67,8 @@ pub data Stops (show : Show) (input : List ℕ) (unread old new : Option (List �
   writing : f ≡ WriteFailed → (p : Front input) → AppendsFront old new (told show p.text)
       → Stops show input unread old new f
   closing : f ≡ WriteFailed → (p : Front input) → p.more ≡ [] → CanOpen p.stage → (behind : List ℕ)
-      → IsBehind show p.stage behind → AppendsFront old new (told show p.text ++ behind)
-      → Stops show input unread old new f
+      → IsBegunBehind show p.stage behind
+      → AppendsFront old new (told show p.text ++ behind) → Stops show input unread old new f
 
 -- what the reader has not given, and what the writer held and holds
 abbrev pub Ends : {T : Type 0} → Show → List ℕ → Option (List ℕ) → Option (List ℕ) → Option (List ℕ)

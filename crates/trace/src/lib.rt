@@ -12,8 +12,3 @@ pub mod shown;
 
 pub use fault::TraceFault;
 pub use shown::Show;
-
-#[cfg(test)]
-mod row_tests;
-#[cfg(test)]
-mod tests;

@@ -10,7 +10,7 @@ ghost use Rattle.trace.specs.Shown.{Closes, CloseFails};
 
 use crate::fault::TraceFault;
 use crate::replayer::{Replayer, Staged};
-use crate::shown::{Show, write_log, write_told};
+use crate::shown::{Show, write_log, write_maps, write_told};
 use std::alloc::Allocator;
 use trace_io::lines::{Found, LineReader, NoLine};
 use trace_io::sink::Sink;
@@ -84,6 +84,7 @@ fn close<W: Sink, R: Staged>(
     let done = match show {
         Show::Outcomes => Ok(()),
         Show::OutcomesAndLog => write_log(writer, replayer.log(), text),
+        Show::Maps => write_maps(writer, replayer, text),
     };
     if let Err(_) = done {
         return Err(TraceFault::WriteFailed);
@@ -143,7 +144,7 @@ fn replay_text<A: Allocator + Clone + Drop, S: Source, W: Sink>(
 }
 
 /// Acts on each line as it is read, and writes its text before the next line is acted on; at the end of the trace, if no fault came, the
-/// log comes behind the text, where it is to be shown. The text goes out before each read that a line has to wait for, and at the end,
+/// log comes behind the text, or the list of mappings in place of it, where it is to be shown. The text goes out before each read that a line has to wait for, and at the end,
 /// after a fault too. A write or a flush that fails ends the replay, and is told even where another fault came first.
 pub fn replay<A: Allocator + Clone + Drop, S: Source, W: Sink>(
     alloc: A,

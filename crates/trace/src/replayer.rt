@@ -1,15 +1,16 @@
 //! A replay between two lines, and what one line does to it.
-ghost use Rattle.std.specs.Prelude.{◌≡◌, ◌⊎◌, [], option_map, None, IfOk, IfErr, IfSome, OnOk, IsSomeAnd};
+ghost use Rattle.std.specs.Prelude.{◌≡◌, ◌≤◌, ◌⊎◌, [], option_map, None, IfOk, IfErr, IfNone, IfSome, OnOk, IsSomeAnd};
 ghost use Rattle.core_steps.specs.Machine.{state};
 ghost use Rattle.trace_text.specs.Words.{words_of};
 ghost use Rattle.trace.specs.Stage.{Stage, Start, Declared, stage_of, Opens, OpenFails, CanOpen, Acts, BadFails, EventActs, EventFails, EventWants, FileFails, LateFails, LineActs, LineFails, LineWants, SpaceFails, kind_of};
-ghost use Rattle.trace.specs.Shown.{log_at};
+ghost use Rattle.trace.specs.Shown.{HasNoneAt, IsNextAt, IsStartAt, log_at};
 
 use crate::declaration::{Declaration, FileLine};
 use crate::event_lines::run_line;
 use crate::fault::TraceFault;
 use core_steps::{Machine, SetupFault};
 use machine_model::Entry;
+use map_list::MapLine;
 use mmu::{Cpu, Hardware};
 use radix_range::RadixMap;
 use slot_lock::SlotMap;
@@ -37,6 +38,14 @@ pub trait Staged {
     /// The log of the machine; up to the first event it is empty.
     fn log(&self) -> &[Entry]
         ensures { result.now ≡ log_at (stage self.now) };
+
+    /// The first mapping that begins at the page `from` or above, where none goes across that page; up to the first event there is
+    /// none.
+    fn next_map_line(&self, from: u64) -> Option<MapLine>
+        requires low { 1 ≤ from }
+        requires begins { IsStartAt (stage self.now) from }
+        ensures some { IfSome result (IsNextAt (stage self.now) from) }
+        ensures none { IfNone result (HasNoneAt (stage self.now) from) };
 }
 
 /// A replay between two lines. Up to the `vm` line it has neither a declaration nor a machine, then a declaration, and from
@@ -281,6 +290,13 @@ impl<A: Allocator + Clone + Drop> Staged for Replayer<A> {
         match &self.machine {
             Some(machine) => machine.log(),
             None => &[],
+        }
+    }
+
+    fn next_map_line(&self, from: u64) -> Option<MapLine> {
+        match &self.machine {
+            Some(machine) => machine.next_map_line(from),
+            None => None,
         }
     }
 }

@@ -17,8 +17,3 @@ pub use action::Action;
 pub use line::{Line, first_word_is_file, first_word_is_vm, is_printable, read_line};
 pub use lists::{LineText, write_answer, write_detach, write_map_line};
 pub use printing::{ShortText, address_text, number_text, reply_text};
-
-#[cfg(test)]
-mod io_tests;
-#[cfg(test)]
-mod tests;

@@ -4,12 +4,12 @@ ghost use Rattle.std.specs.Prelude.{◌≡◌, ◌+◌, ◌<◌, ◌≤◌, ◌^
 ghost use Rattle.vm_base.specs.Pages.{IsPage, IsPageRange};
 ghost use Rattle.slot_lock.specs.Slots.{IsHeld};
 
-use crate::radix_map::RadixMap;
-use crate::test_calls::{
+use crate::slot_calls::{
     ALL, FILE, READ_WRITE, WIDE, acquired, clear, cut_inside, mark, one_page, protect, put, unlock,
     unused,
 };
 use linked_list_allocator::LocalHeap;
+use radix_range::RadixMap;
 use slot_lock::{Fit, Framed, FramedPages, RunList, SlotMap, SlotRead};
 use std::test::Fail;
 use vm_base::{CoreId, CoreSet, Meta, NoMemory, PageInfo, PageRange};

@@ -1,9 +1,4 @@
 //! The texts of outcomes, lines acted on one by one, and replays in heaps that are too small and to writers that fail at a flush.
-use crate::fault::TraceFault;
-use crate::outcome_text::{write_finished, write_outcome};
-use crate::replay::replay;
-use crate::replayer::{Replayer, Staged};
-use crate::shown::Show;
 use core_steps::{Finished, SetupFault};
 use linked_list_allocator::LocalHeap;
 use machine_model::{Blocker, Outcome};
@@ -11,6 +6,11 @@ use std::alloc::Global;
 use std::io;
 use std::io::{ErrorKind, Read, Write};
 use std::test::Fail;
+use trace::fault::TraceFault;
+use trace::outcome_text::{write_finished, write_outcome};
+use trace::replay::replay;
+use trace::replayer::{Replayer, Staged};
+use trace::shown::Show;
 use trace_io::sink::Noted;
 use trace_io::source::Counted;
 use trace_text::LineText;

@@ -1,8 +1,8 @@
 //! Lines as the format's description gives them, good and bad, and the texts of replies and of the lists' lines.
-use crate::action::Action;
-use crate::line::{Line, first_word_is_file, first_word_is_vm, is_printable, read_line};
-use crate::lists::{LineText, write_answer, write_detach, write_map_line};
-use crate::printing::{address_text, number_text, reply_text};
+use trace_text::action::Action;
+use trace_text::line::{Line, first_word_is_file, first_word_is_vm, is_printable, read_line};
+use trace_text::lists::{LineText, write_answer, write_detach, write_map_line};
+use trace_text::printing::{address_text, number_text, reply_text};
 use vm_base::{Back, CoreId, Errno, Flags, Mode, PageRange, Prot, Reply, Request, SegvCode};
 
 const READ_WRITE: Prot = Prot {

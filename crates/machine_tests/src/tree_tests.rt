@@ -1,10 +1,10 @@
 //! Traces of one core and of several, whose lines open files, guess places, take messages, walk, evict, count and fold, and the text
 //! that each gives.
-use crate::fault::TraceFault;
-use crate::replay::replay;
-use crate::shown::Show;
 use core_steps::SetupFault;
 use std::test::Fail;
+use trace::fault::TraceFault;
+use trace::replay::replay;
+use trace::shown::Show;
 use trace_io::sink::Noted;
 use trace_io::source::Counted;
 

@@ -1,9 +1,9 @@
 //! Worked acquisitions and folds on both slot maps, and memory that comes back.
 ghost use Rattle.std.specs.Prelude.{◌≡◌, ◌<◌, ◌≤◌, ◌^◌};
 
-use crate::radix_map::RadixMap;
-use crate::test_calls::{ALL, Locked, acquired, clear, let_go, locked_two, one_page, put, unlock};
+use crate::slot_calls::{ALL, Locked, acquired, clear, let_go, locked_two, one_page, put, unlock};
 use linked_list_allocator::LocalHeap;
+use radix_range::RadixMap;
 use slot_lock::{Footprint, RunList, SlotMap, SlotRead};
 use std::test::Fail;
 use vm_base::{CoreId, NoMemory, PageRange};

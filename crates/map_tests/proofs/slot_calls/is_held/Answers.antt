@@ -1,7 +1,7 @@
 use Rattle.std.proofs.Common.{Some, sym, ◌∙◌, ap}
 use Rattle.slot_lock.specs.RunLaws.{from_test}
 use Rattle.slot_lock.proofs.SlotLaws.{slot-IsHeld}
-use Rattle.radix_range.proofs.test_calls.is_held.Goals as goal
+use Rattle.map_tests.proofs.slot_calls.is_held.Goals as goal
 
 pub returns-in-Some-clause-held : goal.returns-in-Some-clause-held
 returns-in-Some-clause-held g c = λ is.
