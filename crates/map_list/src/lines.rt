@@ -84,7 +84,8 @@ pub fn next_line<M: SlotRead>(map: &M, from: u64) -> Option<MapLine>
     requires laws { IsSlotMap (M.slots map.now) }
     requires reads { (p : ℕ) → IsPage p → M.reads map.now p }
     requires from { 1 ≤ from }
-    requires begins { ¬ GoesOn (slot_metas (M.slots map.now) (from - 1)) (slot_metas (M.slots map.now) from) }
+    requires begins { ¬ GoesOn (slot_metas (M.slots map.now) (from - 1))
+        (slot_metas (M.slots map.now) from) }
     ensures some { IfSome result (IsNextLine (slot_metas (M.slots map.now)) from) }
     ensures none { IfNone result (NoneMapped (slot_metas (M.slots map.now)) from (2 ^ 35)) }
 {
