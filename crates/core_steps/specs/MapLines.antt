@@ -16,7 +16,8 @@ ListsMaps w lines = (t : Plain) → LeadsTo w t → IsMapList (plain_metas t) li
 
 -- no mapping goes across the page, as none does across page 1,
 abbrev pub IsLineStart : World → ℕ → Type 0
-IsLineStart w from = (from ≡ 1) ⊎ ((t : Plain) → LeadsTo w t → ¬ GoesOn (plain_metas t (from - 1)) (plain_metas t from))
+IsLineStart w from = (from ≡ 1)
+    ⊎ ((t : Plain) → LeadsTo w t → ¬ GoesOn (plain_metas t (from - 1)) (plain_metas t from))
 
 -- this is its first mapping that begins at a page or above,
 abbrev pub IsNextMap : World → ℕ → MapLine → Type 0

@@ -6,8 +6,8 @@ use std::test::Fail;
 use trace::declaration::{Declaration, FileLine};
 use vm_base::{Back, Mode, NoMemory, PageRange, Prot};
 
-/// Three pages of a file, of which the second is replaced; the file's next page behind them. The third page and the one behind it
-/// are one mapping again, though one was stored to.
+/// Three pages of a file, of which the second is replaced; the file's next page behind them. The
+/// third page and the one behind it are one mapping again, though one was stored to.
 const REPLACED: &str = "\
 c0! mmap 0x10000 12288 rw- sf 0 0 = 0x10000
 c1! mmap 0x11000 4096 r-- pfa = 0x11000

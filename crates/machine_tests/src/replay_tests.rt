@@ -1,4 +1,5 @@
-//! The texts of outcomes, lines acted on one by one, and replays in heaps that are too small and to writers that fail at a flush.
+//! The texts of outcomes, lines acted on one by one, and replays in heaps that are too small and to
+//! writers that fail at a flush.
 use core_steps::{Finished, SetupFault};
 use linked_list_allocator::LocalHeap;
 use machine_model::{Blocker, Outcome};
@@ -86,7 +87,8 @@ const TEXT: &[u8] =
 
 const WHOLE: &[u8] = b"0x10000\n0x20000\ndone\n";
 
-// Heaps from too small for a chunk of lines up to ample: each place that takes memory is refused in one of them.
+// Heaps from too small for a chunk of lines up to ample: each place that takes memory is refused in
+// one of them.
 #[test]
 fn each_heap_that_is_too_small(rt: HostRuntime) -> Result<(), Fail> {
     let mut at_start = false;
@@ -139,7 +141,8 @@ impl Read for Typed<'_> {
     }
 }
 
-// Holds what it was given, and fails at the flush with this number, counted from 0, and at each later one.
+// Holds what it was given, and fails at the flush with this number, counted from 0, and at each
+// later one.
 #[derive(Drop)]
 struct Closing {
     held: Vec<u8>,
@@ -201,7 +204,8 @@ fn replies_go_out_before_the_next_read(rt: HostRuntime) -> Result<(), Fail> {
     Ok(())
 }
 
-// The first flush is before the text is read, the second before its end is, and the third after the fault.
+// The first flush is before the text is read, the second before its end is, and the third after the
+// fault.
 #[test]
 fn a_failing_flush_is_told_after_a_fault(rt: HostRuntime) -> Result<(), Fail> {
     for (flushes, fault) in [(2, TraceFault::WriteFailed), (3, TraceFault::BadLine(2))] {

@@ -1,5 +1,5 @@
-//! Traces of one core and of several, whose lines open files, guess places, take messages, walk, evict, count and fold, and the text
-//! that each gives.
+//! Traces of one core and of several, whose lines open files, guess places, take messages, walk,
+//! evict, count and fold, and the text that each gives.
 use core_steps::SetupFault;
 use std::test::Fail;
 use trace::fault::TraceFault;
@@ -27,7 +27,8 @@ fn events_of_one_core(rt: HostRuntime) -> Result<(), Fail> {
             b"vm 1 4\nc0! mmap 0x10000 4096 rw- pfa\nc0 walk 0x10000\nc0! load 0x10000\nc0 walk 0x10000\nc0 evict 0x10000\nc0 evict 0x10000\nc0 walk 0x10000\nc0! load 0x10000\n".as_slice(),
             b"0x10000\nidle\n0\nidle\nstep\nidle\nstep\n0\n".as_slice(),
         ),
-        // The page's slot stands in the tree's last level: once it is unmapped, each fold joins a node's 512 slots, up to the root.
+        // The page's slot stands in the tree's last level: once it is unmapped, each fold joins a
+        // node's 512 slots, up to the root.
         (
             b"vm 1 4\nc0! mmap 0x10000 4096 rw- pfa\nfold 0x1000\nc0! munmap 0x10000 4096\nfold 0x1000\nfold 0x1000\nfold 0x1000\nfold 0x1000\n".as_slice(),
             b"0x10000\nidle\ndone\nstep\nstep\nstep\nidle\n".as_slice(),
@@ -44,7 +45,8 @@ fn events_of_one_core(rt: HostRuntime) -> Result<(), Fail> {
     Ok(())
 }
 
-// Several cores: a call waits for the slots that another holds, and for the cores that its shootdown told.
+// Several cores: a call waits for the slots that another holds, and for the cores that its
+// shootdown told.
 #[test]
 fn events_of_several_cores(rt: HostRuntime) -> Result<(), Fail> {
     for (input, output) in [
@@ -63,12 +65,14 @@ fn events_of_several_cores(rt: HostRuntime) -> Result<(), Fail> {
             b"vm 2 4\nc0! mmap 0x10000 4096 rw- pfa\nc1! load 0x10000\nc0! mprotect 0x10000 4096 rw-\nc1 take\nc1 take\nc0 finish\nc0! mprotect 0x10000 4096 rw-\n".as_slice(),
             b"0x10000\n0\nwait acks 1\nstep\nstep\ndone\ndone\n".as_slice(),
         ),
-        // Of three cores, one walks and evicts while its translation is still asked for, and takes after the other.
+        // Of three cores, one walks and evicts while its translation is still asked for, and takes
+        // after the other.
         (
             b"vm 3 4\nc0! mmap 0x10000 4096 rw- pfa\nc0! store 0x10000 65\nc1! load 0x10000\nc2! load 0x10000\nc0 call mprotect 0x10000 4096 r--\nc0 finish\nc1 take\nc1 walk 0x10000\nc2 walk 0x10000\nc2 evict 0x10000\nc2 walk 0x10000\nc1 take\nc0 finish\nc2! store 0x10000 7\nc2 take\nc2 take\nc0 finish\nc2! store 0x10000 8\nc1! load 0x10000\n".as_slice(),
             b"0x10000\ndone\n65\n65\nstep\nwait acks 1 2\nstep\nidle\nidle\nstep\nstep\nstep\nwait acks 2\ndone\nstep\nstep\ndone\nsegv accerr\n7\n".as_slice(),
         ),
-        // Up to the acknowledgement the other core still reads what it has in its TLB, and a walk between the two takes finds nothing.
+        // Up to the acknowledgement the other core still reads what it has in its TLB, and a walk
+        // between the two takes finds nothing.
         (
             b"vm 2 4\nc0! mmap 0x10000 4096 rw- pfa\nc0! store 0x10000 65\nc1! load 0x10000\nc0 call munmap 0x10000 4096\nc0 finish\nc1! load 0x10000\nc1 take\nc1 walk 0x10000\nc1 take\nc1! load 0x10000\nc0 finish\nc1 finish\n".as_slice(),
             b"0x10000\ndone\n65\nstep\nwait acks 1\n65\nstep\nidle\nstep\nwait slot 0\ndone\nsegv maperr\n".as_slice(),
@@ -85,7 +89,8 @@ fn events_of_several_cores(rt: HostRuntime) -> Result<(), Fail> {
     Ok(())
 }
 
-// Files of one core and of two: what their pages show, what may be mapped of them, and the copy that a private page gets for a store.
+// Files of one core and of two: what their pages show, what may be mapped of them, and the copy
+// that a private page gets for a store.
 #[test]
 fn events_of_files(rt: HostRuntime) -> Result<(), Fail> {
     for (input, output) in [
@@ -94,7 +99,8 @@ fn events_of_files(rt: HostRuntime) -> Result<(), Fail> {
             b"vm 1 4\nfile 0 rw 5000 7\nc0! mmap 0x10000 12288 rw- sf 0 0\nc0! load 0x11387\nc0! load 0x11388\nc0! load 0x12000\n".as_slice(),
             b"0x10000\n142\n0\nbus\n".as_slice(),
         ),
-        // Of a file open for reading alone no shared page may be written, and a store to a private one leaves the file as it was.
+        // Of a file open for reading alone no shared page may be written, and a store to a private
+        // one leaves the file as it was.
         (
             b"vm 1 4\nfile 0 r 4096 1\nc0! mmap 0x10000 4096 rw- sf 0 0\nc0! mmap 0x10000 4096 r-- sf 0 0\nc0! mprotect 0x10000 4096 rw-\nc0! mmap 0x20000 4096 rw- pf 0 0\nc0! store 0x20000 9\nc0! load 0x10000\n".as_slice(),
             b"eacces\n0x10000\neacces\n0x20000\ndone\n1\n".as_slice(),
@@ -104,12 +110,14 @@ fn events_of_files(rt: HostRuntime) -> Result<(), Fail> {
             b"vm 1 4\nfile 0 rw 4096 0\nc0! mmap 0x10000 4096 rw- pf 0 0\nc0! mmap 0x20000 4096 rw- sf 0 0\nc0! load 0x10005\nc0! store 0x20005 99\nc0! load 0x10005\nc0! store 0x10005 7\nc0! load 0x20005\n".as_slice(),
             b"0x10000\n0x20000\n5\ndone\n99\ndone\n99\n".as_slice(),
         ),
-        // A store to a private page that another core reads waits for that core alone, which then reads the copy.
+        // A store to a private page that another core reads waits for that core alone, which then
+        // reads the copy.
         (
             b"vm 2 4\nfile 0 r 4096 0\nc0! mmap 0x10000 4096 rw- pf 0 0\nc0! load 0x10005\nc1! load 0x10005\nc0! store 0x10005 9\nc1 take\nc1 take\nc0 finish\nc1! load 0x10005\nc1! load 0x10006\n".as_slice(),
             b"0x10000\n5\n5\nwait acks 1\nstep\nstep\ndone\n9\n6\n".as_slice(),
         ),
-        // What is refused of a mapping of a file: both sharings, no such file, an offset within a page, and an end past the last offset.
+        // What is refused of a mapping of a file: both sharings, no such file, an offset within a
+        // page, and an end past the last offset.
         (
             b"vm 1 4\nfile 0 rw 10 0\nc0! mmap 0x10000 4096 rw- psfa\nc0! mmap 0x10000 4096 rw- fa\nc0! mmap 0x10001 4096 rw- pfa\nc0! mmap 0 4096 rw- pfa\nc0! mmap 0 4096 r-- p 7 0\nc0! mmap 0 4096 r-- p 0 1\nc0! mmap 0 4096 r-- p 0 0x800000000000\nc0! mmap 0 4096 r-- p 0 0x7ffffffff000\n".as_slice(),
             b"einval\neinval\neinval\nenomem\nebadf\neinval\neoverflow\n0x8000000000\n".as_slice(),
@@ -126,7 +134,8 @@ fn events_of_files(rt: HostRuntime) -> Result<(), Fail> {
     Ok(())
 }
 
-// Mappings without MAP_FIXED: at the hint, else at a guessed run that is free once it is held, else at the least room of the window.
+// Mappings without MAP_FIXED: at the hint, else at a guessed run that is free once it is held, else
+// at the least room of the window.
 #[test]
 fn events_of_placed_mappings(rt: HostRuntime) -> Result<(), Fail> {
     for (input, output) in [
@@ -135,7 +144,8 @@ fn events_of_placed_mappings(rt: HostRuntime) -> Result<(), Fail> {
             b"vm 1 4\nc0! mmap 0 1 rw- pa\nc0! mmap 0 1 rw- pa\n".as_slice(),
             b"0x8000000000\n0x8000001000\n".as_slice(),
         ),
-        // A hint is the place where all its pages are valid and none is mapped; it may be any address of its first page.
+        // A hint is the place where all its pages are valid and none is mapped; it may be any
+        // address of its first page.
         (
             b"vm 1 4\nc0! mmap 0x20000 4096 rw- pa\nc0! mmap 0x20000 4096 rw- pa\nc0! mmap 0x7ffffffff000 4097 rw- pa\nc0! mmap 0x7ffffffff001 4096 rw- pa\n".as_slice(),
             b"0x20000\n0x8000000000\n0x8000001000\n0x7ffffffff000\n".as_slice(),
@@ -182,7 +192,8 @@ fn events_of_placed_mappings(rt: HostRuntime) -> Result<(), Fail> {
     Ok(())
 }
 
-// A bad line of a file is told where it stands; what is wrong with the files together, where the space is made.
+// A bad line of a file is told where it stands; what is wrong with the files together, where the
+// space is made.
 #[test]
 fn files_that_are_refused(rt: HostRuntime) -> Result<(), Fail> {
     for (input, fault) in [

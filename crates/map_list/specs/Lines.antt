@@ -1,4 +1,5 @@
--- The list of mappings, as a user sees them: neighbouring pages are one line where the second goes on from the first
+-- The list of mappings, as a user sees them: neighbouring pages are one line where the second goes
+-- on from the first
 use Rattle.std.specs.Prelude.{◌≡◌, ℕ, ◌-◌, ◌^◌, ◌<◌, ◌≤◌, List, [], ◌∷◌, Option, None, Some}
 use Rattle.vm_base.specs.declared.info.Meta.{Meta}
 use Rattle.vm_base.specs.declared.info.PageInfo.{PageInfo}
@@ -32,8 +33,8 @@ NoneMapped meta first end = (p : ℕ) → first ≤ p → p < end → meta p ≡
 
 -- ---- lines
 
--- The second page goes on from the first, which is mapped: it has the same protection, and the next page of the same file, shared or
--- private as the first; after an anonymous page an anonymous one.
+-- The second page goes on from the first, which is mapped: it has the same protection, and the next
+-- page of the same file, shared or private as the first; after an anonymous page an anonymous one.
 abbrev pub GoesOn : Option Meta → Option Meta → Type 0
 GoesOn None next = ⊥
 GoesOn (Some meta) next = next ≡ Some (advance meta 1)
@@ -42,10 +43,12 @@ GoesOn (Some meta) next = next ≡ Some (advance meta 1)
 abbrev pub meta_of : MapLine → Meta
 meta_of line = record { back = line.back; prot = line.prot }
 
--- The line's pages are valid ones, mapped one after another from its first on, and it can't be made longer at either end.
+-- The line's pages are valid ones, mapped one after another from its first on, and it can't be made
+-- longer at either end.
 pub record IsLine (meta : ℕ → Option Meta) (line : MapLine) : Type 0 where
   pub pages : IsPageRange line.range
-  pub mapped : (p : ℕ) → line.range.first ≤ p → p < line.range.end → meta p ≡ Some (advance (meta_of line) (p - line.range.first))
+  pub mapped : (p : ℕ) → line.range.first ≤ p → p < line.range.end
+      → meta p ≡ Some (advance (meta_of line) (p - line.range.first))
   pub begins : ¬ GoesOn (meta (line.range.first - 1)) (meta line.range.first)
   pub ends : ¬ GoesOn (meta (line.range.end - 1)) (meta line.range.end)
 
@@ -58,7 +61,8 @@ pub record IsNextLine (meta : ℕ → Option Meta) (from : ℕ) (line : MapLine)
 -- these are the lines from first up to end, in order, and no other page there is mapped
 abbrev pub ListsLines : (ℕ → Option Meta) → ℕ → ℕ → List MapLine → Type 0
 ListsLines meta first end [] = NoneMapped meta first end
-ListsLines meta first end (x ∷ xs) = IsNextLine meta first x × (x.range.end ≤ end) × ListsLines meta x.range.end end xs
+ListsLines meta first end (x ∷ xs) =
+    IsNextLine meta first x × (x.range.end ≤ end) × ListsLines meta x.range.end end xs
 
 -- the list of all mappings: the lines of all valid pages
 abbrev pub IsMapList : (ℕ → Option Meta) → List MapLine → Type 0

@@ -40,7 +40,8 @@ fn first_mapped<M: SlotRead>(map: &M, from: u64) -> Option<(u64, Meta)>
     requires laws { IsSlotMap (M.slots map.now) }
     requires reads { (p : ℕ) → IsPage p → M.reads map.now p }
     requires from { 1 ≤ from }
-    ensures some { IfSome result (λ found. IsFirstMapped (slot_metas (M.slots map.now)) from found.0 found.1) }
+    ensures some { IfSome result (λ found.
+        IsFirstMapped (slot_metas (M.slots map.now)) from found.0 found.1) }
     ensures none { IfNone result (NoneMapped (slot_metas (M.slots map.now)) from (2 ^ 35)) }
 {
     let mut page = from;
@@ -54,7 +55,8 @@ fn first_mapped<M: SlotRead>(map: &M, from: u64) -> Option<(u64, Meta)>
     None
 }
 
-// Where the pages end that are mapped one after another from this one on. One page of each slot is looked at.
+// Where the pages end that are mapped one after another from this one on. One page of each slot is
+// looked at.
 fn run_end<M: SlotRead>(map: &M, first: u64, meta: Meta) -> u64
     requires laws { IsSlotMap (M.slots map.now) }
     requires reads { (p : ℕ) → IsPage p → M.reads map.now p }
@@ -76,13 +78,14 @@ fn run_end<M: SlotRead>(map: &M, first: u64, meta: Meta) -> u64
     end
 }
 
-/// The first line that begins at the page `from` or above, where no line goes across that page: it is 1, or the end of another
-/// line. One page of each slot is looked at, and no memory is taken.
+/// The first line that begins at the page `from` or above, where no line goes across that page: it
+/// is 1, or the end of another line. One page of each slot is looked at, and no memory is taken.
 pub fn next_line<M: SlotRead>(map: &M, from: u64) -> Option<MapLine>
     requires laws { IsSlotMap (M.slots map.now) }
     requires reads { (p : ℕ) → IsPage p → M.reads map.now p }
     requires from { 1 ≤ from }
-    requires begins { ¬ GoesOn (slot_metas (M.slots map.now) (from - 1)) (slot_metas (M.slots map.now) from) }
+    requires begins { ¬ GoesOn (slot_metas (M.slots map.now) (from - 1))
+        (slot_metas (M.slots map.now) from) }
     ensures some { IfSome result (IsNextLine (slot_metas (M.slots map.now)) from) }
     ensures none { IfNone result (NoneMapped (slot_metas (M.slots map.now)) from (2 ^ 35)) }
 {

@@ -29,7 +29,8 @@ fn another_core_waits_on_both_maps(rt: HostRuntime) -> Result<(), Fail> {
     Ok(())
 }
 
-// What is counted where the first page of the root's second slot is locked, its slot then, and the slot of page 16.
+// What is counted where the first page of the root's second slot is locked, its slot then, and the
+// slot of page 16.
 fn first_of_wide<M: SlotMap>(map: &mut M) -> Result<(Counts, PageRange, PageRange), NoMemory> {
     let counts = acquired(map, CoreId::new(1), one_page(0x800_0000), 5)?;
     Ok((counts, map.slot(0x800_0000), map.slot(16)))
@@ -100,8 +101,8 @@ fn two_ranges_on_both_maps(rt: HostRuntime) -> Result<(), Fail> {
     Ok(())
 }
 
-// Whether the first range and the first page of the second are locked with these counts where another core holds the
-// page after it, and unlocked as so many slots.
+// Whether the first range and the first page of the second are locked with these counts where
+// another core holds the page after it, and unlocked as so many slots.
 fn gives_up<M: SlotMap>(map: &mut M, counts: Counts, unlocks: u32) -> Result<bool, NoMemory> {
     let other = CoreId::new(2);
     acquired(map, other, one_page(21), 5)?;
@@ -151,8 +152,8 @@ fn all_pages_take_three_splits(rt: HostRuntime) -> Result<(), Fail> {
     Ok(())
 }
 
-// What is counted where two pages at the edge of a node are locked, the second's slot then, and whether it alone is held of
-// it and the next.
+// What is counted where two pages at the edge of a node are locked, the second's slot then, and
+// whether it alone is held of it and the next.
 fn edge_pages<M: SlotMap>(map: &mut M) -> Result<(Counts, PageRange, bool), NoMemory> {
     let core = CoreId::new(0);
     let two = PageRange {
@@ -208,7 +209,8 @@ fn folds_with_the_next_slot(rt: HostRuntime) -> Result<(), Fail> {
     Ok(())
 }
 
-// Whether a slot of the root is folded where page 16 of it is no longer held or mapped, one level after another.
+// Whether a slot of the root is folded where page 16 of it is no longer held or mapped, one level
+// after another.
 fn folds_thrice<M: SlotMap>(map: &mut M) -> Result<bool, NoMemory> {
     let core = CoreId::new(1);
     let one = one_page(16);
@@ -243,7 +245,8 @@ fn folds_up_to_the_root(rt: HostRuntime) -> Result<(), Fail> {
     Ok(())
 }
 
-// How much of a heap is used while a tree is new, has a page that is a slot of its own, and is folded again.
+// How much of a heap is used while a tree is new, has a page that is a slot of its own, and is
+// folded again.
 fn memory_of(heap: &LocalHeap) -> Result<[usize; 3], NoMemory> {
     let core = CoreId::new(1);
     let one = one_page(16);

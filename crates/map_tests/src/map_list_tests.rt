@@ -106,7 +106,8 @@ fn pieces_of_a_mapping_are_one_line(rt: HostRuntime) -> Result<(), Fail> {
 
 #[test]
 fn lines_end_where_the_backing_does(rt: HostRuntime) -> Result<(), Fail> {
-    // a page of the file twice, one left out, another kind, another file, another protection, and an unmapped page
+    // a page of the file twice, one left out, another kind, another file, another protection, and
+    // an unmapped page
     let given = [
         mapped(16, 18, READ, shared(0)),
         mapped(18, 19, READ, shared(1)),

@@ -1,5 +1,5 @@
-//! What both slot maps say of pages after the same calls: pages changed, frames listed and lost, cuts, and each allocation
-//! refused in turn.
+//! What both slot maps say of pages after the same calls: pages changed, frames listed and lost,
+//! cuts, and each allocation refused in turn.
 ghost use Rattle.std.specs.Prelude.{◌≡◌, ◌+◌, ◌<◌, ◌≤◌, ◌^◌, IsTrue, Some};
 ghost use Rattle.vm_base.specs.Pages.{IsPage, IsPageRange};
 ghost use Rattle.slot_lock.specs.Slots.{IsHeld};
@@ -294,8 +294,8 @@ fn many_frames_go_at_once_on_both_maps(rt: HostRuntime) -> Result<(), Fail> {
     Ok(())
 }
 
-// A page in the middle of the second slot of the root, and what it has once that slot is mapped: the range's first page
-// has file page 5.
+// A page in the middle of the second slot of the root, and what it has once that slot is mapped:
+// the range's first page has file page 5.
 const INNER: u64 = 0x800_0258;
 
 // Holds and maps the second slot of the root, and cuts it round some of its pages.
@@ -329,8 +329,8 @@ fn cuts_keep_file_pages_on_both_maps(rt: HostRuntime) -> Result<(), Fail> {
     Ok(())
 }
 
-// The steps of a cut from the page up to the end of a slot of 512 pages, the slots of the first and the last page of them,
-// and who holds the last.
+// The steps of a cut from the page up to the end of a slot of 512 pages, the slots of the first and
+// the last page of them, and who holds the last.
 type CutMore = (Option<[Fit; 4]>, PageRange, PageRange, Option<CoreId>);
 
 fn cuts_more<M: SlotMap>(map: &mut M) -> Result<CutMore, NoMemory> {
@@ -379,8 +379,8 @@ fn seen<M: SlotMap>(map: &M) -> [Seen; 4] {
     ]
 }
 
-// Tells whether a map whose heap has room for it and no more stays as it is where a division is refused, locking or
-// cutting, and can be locked where it need not be divided.
+// Tells whether a map whose heap has room for it and no more stays as it is where a division is
+// refused, locking or cutting, and can be locked where it need not be divided.
 fn refuses_unchanged<M: SlotMap>(map: &mut M, locked: PageRange) -> Result<bool, NoMemory>
     requires pages { IsPageRange locked }
     requires low { locked.first ≤ 2 ^ 27 }
@@ -396,7 +396,8 @@ fn refuses_unchanged<M: SlotMap>(map: &mut M, locked: PageRange) -> Result<bool,
     Ok(split && unsplit && locks && cut && seen(map) == held)
 }
 
-// Whether neither map is made without memory, and a list with room for its first three runs and no more refuses so.
+// Whether neither map is made without memory, and a list with room for its first three runs and no
+// more refuses so.
 fn refuses_lists(none: &LocalHeap, small: &LocalHeap) -> Result<bool, NoMemory> {
     let none_made = RunList::new(none).is_err() && RadixMap::new(none).is_err();
     Ok(none_made && refuses_unchanged(&mut RunList::new(small)?, ALL)?)

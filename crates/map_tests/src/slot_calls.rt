@@ -1,4 +1,5 @@
-//! The calls of both slot maps, each where its condition holds, for the tests of `page_tests` and `lock_tests`.
+//! The calls of both slot maps, each where its condition holds, for the tests of `page_tests` and
+//! `lock_tests`.
 ghost use Rattle.std.specs.Prelude.{◌≡◌, ◌+◌, ◌-◌, ◌<◌, ◌≤◌, ◌^◌, IsTrue};
 ghost use Rattle.vm_base.specs.Pages.{IsPage, IsPageRange, pages_from};
 ghost use Rattle.slot_lock.specs.Slots.{IsHeld, IsSlot, OwnsAll};

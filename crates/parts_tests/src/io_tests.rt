@@ -1,4 +1,5 @@
-//! `trace_io`: a text that comes a byte at a time, a read that fails in mid-stream, and writers that stop.
+//! `trace_io`: a text that comes a byte at a time, a read that fails in mid-stream, and writers
+//! that stop.
 use linked_list_allocator::LocalHeap;
 use std::alloc::Global;
 use std::io;
@@ -153,7 +154,8 @@ fn no_read_past_the_limit(rt: HostRuntime) -> Result<(), Fail> {
     Ok(())
 }
 
-// Both lines come by the first read. Before the second read the text must go out, so a writer that fails at its flush stops there.
+// Both lines come by the first read. Before the second read the text must go out, so a writer that
+// fails at its flush stops there.
 #[test]
 fn what_was_written_goes_out_before_a_read(rt: HostRuntime) -> Result<(), Fail> {
     let mut source = Counted::new(b"c0 go\nc1 go\nc2".as_slice());

@@ -1,4 +1,5 @@
-//! Lines as the format's description gives them, good and bad, and the texts of replies and of the lists' lines.
+//! Lines as the format's description gives them, good and bad, and the texts of replies and of the
+//! lists' lines.
 use trace_text::action::Action;
 use trace_text::line::{Line, first_word_is_file, first_word_is_vm, is_printable, read_line};
 use trace_text::lists::{LineText, write_answer, write_detach, write_map_line};

@@ -4,7 +4,8 @@ ghost use Rattle.vm_base.specs.Functions.{has};
 
 use vm_base::PageRange;
 
-/// What is known once the pages of a range are mapped: the run with the range, where they touch, else the longer of them.
+/// What is known once the pages of a range are mapped: the run with the range, where they touch,
+/// else the longer of them.
 pub fn with_range(full: PageRange, range: PageRange) -> PageRange
     ensures { (p : ℕ) → has result p ≡ true → (has full p ≡ true) ⊎ (has range p ≡ true) }
 {
@@ -20,7 +21,8 @@ pub fn with_range(full: PageRange, range: PageRange) -> PageRange
     full
 }
 
-/// What is known once the pages of a range are unmapped: what the run has before the range, or else what it has after it.
+/// What is known once the pages of a range are unmapped: what the run has before the range, or else
+/// what it has after it.
 pub fn without_range(full: PageRange, range: PageRange) -> PageRange
     ensures { (p : ℕ) → has result p ≡ true → (has full p ≡ true) × (has range p ≡ false) }
 {

@@ -33,7 +33,8 @@ fn free_run<A: Allocator>(root: &Node<A>, range: PageRange, n: u64) -> Option<u6
     }
 }
 
-/// The least start of `n` unmapped pages in the range, if there is one. Pages that are known to be mapped aren't looked at.
+/// The least start of `n` unmapped pages in the range, if there is one. Pages that are known to be
+/// mapped aren't looked at.
 pub fn first_free_run<A: Allocator>(
     root: &Node<A>,
     full: PageRange,

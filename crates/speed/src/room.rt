@@ -1,4 +1,5 @@
-//! Room looked for: after many pages of one mapping, and after many pages between which there is one free page each.
+//! Room looked for: after many pages of one mapping, and after many pages between which there is
+//! one free page each.
 ghost use Rattle.std.specs.Prelude.{◌+◌, ◌<◌, ◌≤◌, ◌^◌};
 ghost use Rattle.vm_base.specs.Pages.{IsPageRange};
 
@@ -20,7 +21,8 @@ const END: u64 = 0x1000_0000;
 /// In how many steps a range is locked.
 const STEPS: u64 = 2_000;
 
-/// One step of locking the pages from the cursor up to the end; the page from which none is locked by then.
+/// One step of locking the pages from the cursor up to the end; the page from which none is locked
+/// by then.
 fn lock_from(map: &mut RadixMap<Global>, core: CoreId, cursor: u64, end: u64) -> u64
     requires { end ≤ 2 ^ 35 }
 {
@@ -77,8 +79,8 @@ fn finds(map: &RadixMap<Global>, range: PageRange, room: u64, rounds: u64) -> u6
     found
 }
 
-/// The nanoseconds of so many searches in a window that begins with a mapping of twice so many pages; none where memory is
-/// refused or other room was found.
+/// The nanoseconds of so many searches in a window that begins with a mapping of twice so many
+/// pages; none where memory is refused or other room was found.
 pub fn time_mapping(
     rt: &impl Clock,
     alloc: Global,
@@ -105,8 +107,8 @@ pub fn time_mapping(
     Ok(None)
 }
 
-/// The nanoseconds of so many searches after twice so many mapped pages, between which there is one free page each; none
-/// where memory is refused or other room was found.
+/// The nanoseconds of so many searches after twice so many mapped pages, between which there is one
+/// free page each; none where memory is refused or other room was found.
 pub fn time_gaps(
     rt: &impl Clock,
     alloc: Global,

@@ -41,12 +41,15 @@ pub data Fails (show : Show) (old new : Scene) (number : ℕ) (f : TraceFault) :
   read_fails : f ≡ ReadFailed → (held : List ℕ) → IsUnbroken held → IsHeld held new
       → Keeps old.left new.left → Keeps old.written new.written → Fails show old new number f
   unsent : f ≡ WriteFailed → Keeps old.written new.written → Fails show old new number f
-  too_long : f ≡ TooLong (number + 1) → BeginsTooLong old.left → Keeps old.written new.written → Fails show old new number f
+  too_long : f ≡ TooLong (number + 1) → BeginsTooLong old.left → Keeps old.written new.written
+      → Fails show old new number f
   no_memory : f ≡ NoMemory → (line held : List ℕ) → length line ≤ 256 → IsUnbroken line
       → TakesLine old.left new.left line
-      → IsHeld held new → LineWants old.stage line → Keeps old.written new.written → Fails show old new number f
+      → IsHeld held new → LineWants old.stage line → Keeps old.written new.written
+      → Fails show old new number f
   refused : (line : List ℕ) → length line ≤ 256 → IsUnbroken line → TakesLine old.left new.left line
-      → LineFails old.stage (number + 1) line f → Keeps old.written new.written → Fails show old new number f
+      → LineFails old.stage (number + 1) line f → Keeps old.written new.written
+      → Fails show old new number f
   unwritten : f ≡ WriteFailed → (line text : List ℕ) → length line ≤ 256 → IsUnbroken line
       → TakesLine old.left new.left line
       → Acts old.stage line new.stage text → AppendsFront old.written new.written (told show text)
