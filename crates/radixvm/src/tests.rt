@@ -397,8 +397,18 @@ fn bad_words(rt: HostRuntime) -> Result<(), Fail> {
         [b"radixvm".as_slice(), b"frob".as_slice()].as_slice(),
         [b"radixvm".as_slice(), b"--frob".as_slice()].as_slice(),
         [b"radixvm".as_slice(), b"run".as_slice(), b"now".as_slice()].as_slice(),
-        [b"radixvm".as_slice(), b"maps".as_slice(), b"--log".as_slice()].as_slice(),
-        [b"radixvm".as_slice(), b"--log".as_slice(), b"run".as_slice()].as_slice(),
+        [
+            b"radixvm".as_slice(),
+            b"maps".as_slice(),
+            b"--log".as_slice(),
+        ]
+        .as_slice(),
+        [
+            b"radixvm".as_slice(),
+            b"--log".as_slice(),
+            b"run".as_slice(),
+        ]
+        .as_slice(),
         [b"radixvm".as_slice(), b"run".as_slice(), b"\xff".as_slice()].as_slice(),
     ] {
         let ran = run_words(rt.alloc(), &rt.alloc(), words, STORED, AMPLE);
