@@ -78,7 +78,8 @@ place_planned c (Fetch addr) place e = absurd (no_touch addr 0 By.Fetch place e)
 
 pub place_asked : (modes : ℕ → Option Mode) (c : ℕ) (request : Request) (place : Place) → checked modes c request ≡ Ok (PlanOf.Place place)
     → IsPlaceOf c request place
-place_asked modes c request place e = place_planned c request place (passed (refusal modes request) (plan_of c request) (PlanOf.Place place) e).1
+place_asked modes c request place e =
+    place_planned c request place (passed (refusal modes request) (plan_of c request) (PlanOf.Place place) e).1
 
 -- ---- the range to which the mapping goes
 
@@ -92,7 +93,8 @@ run_is s run range shoot (taken h e) = absurd cc
 sized : (run range : PageRange) (n : ℕ) → run ≡ range → run.end ≡ run.first + n → range.end ≡ range.first + n
 sized run range n e h = subst (λ (r : PageRange). r.end ≡ r.first + n) e h
 
-window_size : (s : Slots) (place : Place) (range : PageRange) (shoot : ℕ) → DecidesWindow s place (Act range shoot) → range.end ≡ range.first + place.count
+window_size : (s : Slots) (place : Place) (range : PageRange) (shoot : ℕ) → DecidesWindow s place (Act range shoot)
+    → range.end ≡ range.first + place.count
 window_size s place range shoot (None, none, e) = absurd cc
 window_size s place range shoot (Some first, least, e) =
     let same : pages_from first place.count ≡ range = cc in sized (pages_from first place.count) range place.count same refl
@@ -130,13 +132,15 @@ pages_at first len = go (len == 0) refl
     go false e = ap (λ a. range a ((first * 4096 + len + 4095) / 4096)) start ∙ ap (range first) some
 
 -- fewer pages than there are are all placed
-pub counted : (len : ℕ) (range : PageRange) → IsPageRange range → range.end ≡ range.first + placed_count len → placed_count len ≡ page_count len
+pub counted : (len : ℕ) (range : PageRange) → IsPageRange range → range.end ≡ range.first + placed_count len
+    → placed_count len ≡ page_count len
 counted len range valid size = let high = valid.high in let low = valid.low in omega (arith, high, low, size)
 
 -- ---- the users of its pages
 
 -- they have none after the mapping, and no page has got a copy
-pub placed_drops : (t : Plain) (c : ℕ) (request : Request) (place : Place) (range : PageRange) → IsPlaceOf c request place → IsPageRange range
+pub placed_drops : (t : Plain) (c : ℕ) (request : Request) (place : Place) (range : PageRange) → IsPlaceOf c request place
+    → IsPageRange range
     → range.end ≡ range.first + place.count → DropsAll t c request (Put range place.meta)
 placed_drops t c request place range k valid size =
     subst (λ r. DropsAll t c r (Put range place.meta)) (sym k.asks)
@@ -146,7 +150,9 @@ placed_drops t c request place range k valid size =
     count = size ∙ ap (λ (x : Place). range.first + x.count) k.placed
 
     whole : pages_from range.first (page_count k.len) ≡ range
-    whole = ap (λ n. pages_from range.first n) (sym (counted k.len range valid count)) ∙ ap (λ b. record { first = range.first; end = b }) (sym count)
+    whole =
+        ap (λ n. pages_from range.first n) (sym (counted k.len range valid count))
+        ∙ ap (λ b. record { first = range.first; end = b }) (sym count)
 
 -- a change to which a goal leads
 pub goal_drops : (modes : ℕ → Option Mode) (made : Made) (s : Slots) (t : Plain) (c : ℕ) (request : Request) (goal : Goal) (change : Change)
@@ -163,7 +169,8 @@ goal_drops modes made s t c request (To.Access touch) change e g lead d = absurd
 
 -- ---- a change is no access
 
-change_no_access : (modes : ℕ → Option Mode) (c : ℕ) (request : Request) (change : Change) → checked modes c request ≡ Ok (PlanOf.Change change)
+change_no_access : (modes : ℕ → Option Mode) (c : ℕ) (request : Request) (change : Change)
+    → checked modes c request ≡ Ok (PlanOf.Change change)
     → is_access request ≡ false
 change_no_access modes c request change e = go request (passed (refusal modes request) (plan_of c request) (PlanOf.Change change) e).1
   where
@@ -176,7 +183,8 @@ change_no_access modes c request change e = go request (passed (refusal modes re
     go (Fetch addr) e = absurd (no_change c (Fetch addr) addr 0 By.Fetch change e)
 
 -- nor what a goal leads to
-pub goal_no_access : (modes : ℕ → Option Mode) (c : ℕ) (request : Request) (goal : Goal) (change : Change) → checked modes c request ≡ Ok (goal_plan goal)
+pub goal_no_access : (modes : ℕ → Option Mode) (c : ℕ) (request : Request) (goal : Goal) (change : Change)
+    → checked modes c request ≡ Ok (goal_plan goal)
     → LeadsTo goal change → is_access request ≡ false
 goal_no_access modes c request (To.Place place target) change e lead = ap is_access (place_asked modes c request place e).asks
 goal_no_access modes c request (To.Change planned) change e lead = change_no_access modes c request planned e

@@ -29,7 +29,8 @@ footprint_has made s cached (Check request) p r h = h
 footprint_has made s cached (Leaving place target held) p r h =
     let rest = r.1 in
     let low = has_in held p h in
-    in_has (target_range place target) p (let a = low.0 in let b = rest.low in omega (arith, a, b)) (let a = low.1 in let b = rest.same_end in omega (arith, a, b))
+    in_has (target_range place target) p (let a = low.0 in let b = rest.low in omega (arith, a, b))
+    (let a = low.1 in let b = rest.same_end in omega (arith, a, b))
 footprint_has made s cached (Guess place) p r h = h
 footprint_has made s cached (Find place target) p r h = h
 footprint_has made s cached (Cut place target range) p r h = h

@@ -83,7 +83,8 @@ change_answers w t c request goal change f from number p =
     (call_sound w c goal f.order inside call.asked call.ready.0) call.ready.1 call.ready.2 in
     let none : page_copied t request (reply_to change) ≡ None = subst (λ r. page_copied t r (reply_to change) ≡ None) same drops.0 in
     let access : is_access request ≡ false =
-    subst (λ r. is_access r ≡ false) same (goal_no_access (λ n. mode_of (w.made.file n)) c call.asked.request goal change call.asked.passed call.ready.1) in (
+    subst (λ r. is_access r ≡ false) same
+    (goal_no_access (λ n. mode_of (w.made.file n)) c call.asked.request goal change call.asked.passed call.ready.1) in (
       record {
         reply = reply_to change;
         after = after;

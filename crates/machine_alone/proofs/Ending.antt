@@ -38,6 +38,7 @@ use Rattle.machine_alone.specs.Copies.{page_copied, with_copy}
 use Rattle.machine_alone.specs.Taken.{frames_for, frames_taken, is_access, taken_below}
 use Rattle.machine_alone.specs.Users.{recorded}
 use Rattle.machine_alone.proofs.Awaiting.{change_answers, copy_frames}
+use Rattle.machine_alone.proofs.First.{copy_first, named_first}
 use Rattle.machine_alone.proofs.Noting.{IsLogged}
 use Rattle.machine_alone.proofs.Rank.{rank_of, reach_of, hits, size}
 use Rattle.machine_alone.proofs.Rows.{HasTaken, IsDueReply, IsSure, IsSureOf, left_of, sure_at}
@@ -307,7 +308,8 @@ few w t c request k = go (waits_at (w.calls.phase c) k.range k.at_wait)
     go (for_change goal change p i) =
         let f = reached_fine w k.reached in
         let call : IsCallOf w c (Acks goal change) = call_at w c (Acks goal change) p f.order in
-        let valid = goal_valid goal (call_sound w c goal f.order (has_core w c f.order (λ k. let a = sym p ∙ k in cc)) call.asked call.ready.0) in
+        let inside = has_core w c f.order (λ k. let a = sym p ∙ k in cc) in
+        let valid = goal_valid goal (call_sound w c goal f.order inside call.asked call.ready.0) in
         let high = valid.high in
         let left : left_of w c ≡ size (goal_range goal) + 2 = ap (rank_of w.slots (reach_of w.hardware c)) p in
         omega (arith, high, left)
@@ -339,6 +341,7 @@ answered_at_last w t c request k l x v o reply h step at answered e nobody =
     let sure : IsDueReply l.free reply = subst (IsSure l.free x.memory.is_free (reach_of x.hardware c)) at h.sure in
     record {
       served = z;
+      first = λ named. copy_first t c request z.reply z.after (named_first t c request z.reply named) z.stands;
       framed = l.framed z.reply (subst (IsDueReply l.free) (sym same) sure) (with_copy t (page_copied t request z.reply)) z.after z.stands;
       frames = subst (λ (v : World). frames_taken v ≤ frames_taken w) (sym e)
           (subst (λ n. taken_below x.memory.is_free n ≤ frames_taken w) (sym (ap (λ (m : Made). m.frames) h.made)) most);

@@ -116,7 +116,8 @@ lets_go_logged first call copy c w x held b new v k (unlocks reply e n) same h =
     to_told first call copy c new reply x v h (ap status n ∙ told_in (held_after held b) reply)
     (subst (λ calls. IsNoted first copy call c reply calls.log) (sym same) (subst (IsLogged first w.calls.log call c copy) (ap status e) k))
 lets_go_logged first call copy c w x held b new v k (returns place target e n) same h =
-    to_asked first call copy c new x v h (ap status n ∙ back_all (λ p. status p ≡ Asked) place target (held_after held b) refl refl (λ k. refl))
+    to_asked first call copy c new x v h
+    (ap status n ∙ back_all (λ p. status p ≡ Asked) place target (held_after held b) refl refl (λ k. refl))
     (subst (λ calls. IsCopied first copy call calls.log) (sym same) (was_asked first call copy c (Leaving place target held) w e refl k))
 lets_go_logged first call copy c w x held b new v k (releases touch e i n) same h =
     to_asked first call copy c new x v h (ap status n)
@@ -136,7 +137,8 @@ logged_on first t users c request copy w v u k (moves new m h) =
     let a = moves_asked w c new m in
     to_asked first (w.calls.number c) copy c new w v h a.0 (subst (IsLogged first w.calls.log (w.calls.number c) c copy) a.1 k)
 logged_on first t users c request copy w v u k (divides goal cursor s e i h) = subst (IsLoggedOf first (w.calls.number c) copy c) (sym h) k
-logged_on first t users c request copy w v u k (cuts place target range s e i h) = subst (IsLoggedOf first (w.calls.number c) copy c) (sym h) k
+logged_on first t users c request copy w v u k (cuts place target range s e i h) =
+    subst (IsLoggedOf first (w.calls.number c) copy c) (sym h) k
 logged_on first t users c request copy w v u k (fits place target range e i h) =
     to_asked first (w.calls.number c) copy c _ w v h refl (was_asked first (w.calls.number c) copy c (Cut place target range) w e refl k)
 logged_on first t users c request copy w v u k (owns goal cursor b s e l h) =

@@ -142,8 +142,11 @@ pub unlock_less : (m n : ℕ) (reach old : Touch → Option ℕ) (held : PageRan
 unlock_less m n reach old held reply b l e =
     by_test (λ o. rank m reach (let_go o reply) < size held + 1) (b == held.end) None (Some (between b held.end)) (λ _. omega arith) (λ _. omega arith)
 
+-- ---- a mapping that looks for its place
+
 -- what lies behind a target that is let go: the guess of a run, or the window
-elsewhere_least : (m : ℕ) (reach : Touch → Option ℕ) (place : Place) (target : Target) → rank m reach (elsewhere place target) ≤ m + elsewhere_rank place target
+elsewhere_least : (m : ℕ) (reach : Touch → Option ℕ) (place : Place) (target : Target)
+    → rank m reach (elsewhere place target) ≤ m + elsewhere_rank place target
 elsewhere_least m reach place (Hint range) = omega arith
 elsewhere_least m reach place (Run range) = omega arith
 elsewhere_least m reach place Window = omega arith
@@ -156,13 +159,14 @@ back_all P place (Run range) None g w h = w
 back_all P place Window None g w h = w
 back_all P place target (Some held) g w h = h held
 
-pub back_less : (m : ℕ) (reach old : Touch → Option ℕ) (place : Place) (target : Target) (held : PageRange) (b : ℕ) → held.first < b → b ≤ held.end
+-- with fewer steps left
+pub back_less : (m : ℕ) (reach old : Touch → Option ℕ) (place : Place) (target : Target) (held : PageRange) (b : ℕ) → held.first < b
+    → b ≤ held.end
     → rank m reach (back_to place target (held_after held b)) < rank m old (Leaving place target held)
 back_less m reach old place target held b l e =
-    by_test (λ o. rank m reach (back_to place target o) < m + (size held + (elsewhere_rank place target + 1))) (b == held.end) None (Some (between b held.end))
+    by_test (λ o. rank m reach (back_to place target o) < m + (size held + (elsewhere_rank place target + 1)))
+    (b == held.end) None (Some (between b held.end))
     (λ _. let a = elsewhere_least m reach place target in omega (arith, a)) (λ _. omega arith)
-
--- ---- a mapping that looks for its place
 
 -- it lets a hint or a run go before it looks elsewhere
 pub turn_less : (m : ℕ) (reach old : Touch → Option ℕ) (place : Place) (target : Target) → IsPassed target
@@ -171,20 +175,24 @@ turn_less m reach old place (Hint range) k = omega arith
 turn_less m reach old place (Run range) k = omega arith
 turn_less m reach old place Window k = absurd k
 
+-- it cuts the slots of its target, or is refused
 pub find_more : (m : ℕ) (reach : Touch → Option ℕ) (place : Place) (target : Target)
     → m + (size (target_range place target) + 3) < rank m reach (Find place target)
 find_more m reach place (Hint range) = omega arith
 find_more m reach place (Run range) = omega arith
 find_more m reach place Window = omega arith
 
+-- it locks the run that it guesses, or its window
 pub guess_less : (m : ℕ) (reach old : Touch → Option ℕ) (place : Place) (found : Option ℕ)
     → rank m reach (trying place (guess_of place found)) < rank m old (Guess place)
 guess_less m reach old place None = omega arith
 guess_less m reach old place (Some first) = omega arith
 
+-- its window has valid pages alone
 few_placed : (place : Place) → IsSoundPlace place → window_rank place ≤ 2 ^ 36 + 4
 few_placed place k = let high = k.window.high in omega (arith, high)
 
+-- after its check it looks for a run, or locks its hint
 pub seek_less : (m : ℕ) (reach : Touch → Option ℕ) (place : Place) → m ≤ 2 ^ 35 → IsSoundPlace place → rank m reach (Guess place) < 2 ^ 38
 seek_less m reach place most k = let a = few_placed place k in let fits = k.fits in omega (arith, a, fits, most)
 

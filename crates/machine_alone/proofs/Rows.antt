@@ -151,7 +151,8 @@ moves_near first w c new v f sure (tries request touch e n passed) h =
 moves_near first w c new v f sure (hints request place range e n i passed) h =
     let sound = place_sound w c request place (To.Place place (Hint range)) f e passed i in
     nears first w c (Check request) (trying place (Hint range)) w.slots w.hardware w.memory v e (rw (h, n) refl)
-    (hint_less (missing w.slots) (reach_of w.hardware c) place range (missing_most w.slots) sound.plan (goal_valid (To.Place place (Hint range)) sound))
+    (hint_less (missing w.slots) (reach_of w.hardware c) place range (missing_most w.slots) sound.plan
+    (goal_valid (To.Place place (Hint range)) sound))
     (sure_at first w c (Check request) e sure)
 moves_near first w c new v f sure (seeks request place e n passed) h =
     nears first w c (Check request) (Guess place) w.slots w.hardware w.memory v e (rw (h, n) refl)
@@ -217,8 +218,8 @@ replies_near first w c held reply v f sure (refuses request e h j) k =
     (due_reply first reply (refused w f.plain c request reply f.good j).0)
 replies_near first w c held reply v f sure (no_place place target errno e h r d) k =
     tells_near first w c (Find place target) held reply w.slots w.hardware w.memory v e k
-    (subst (λ o. rank_of w.slots (reach_of w.hardware c) (let_go o reply) < rank_of w.slots (reach_of w.hardware c) (Find place target)) (sym h)
-    (let a = find_more (missing w.slots) (reach_of w.hardware c) place target in omega (arith, a)))
+    (subst (λ o. rank_of w.slots (reach_of w.hardware c) (let_go o reply) < rank_of w.slots (reach_of w.hardware c) (Find place target))
+    (sym h) (let a = find_more (missing w.slots) (reach_of w.hardware c) place target in omega (arith, a)))
     (due_reply first reply (subst IsReply (sym r) tt))
 replies_near first w c held reply v f sure (declines change errno e h r d) k =
     tells_near first w c (Decide change) held reply w.slots w.hardware w.memory v e k
@@ -245,34 +246,28 @@ owns_sure first free reach goal b h = go goal (nat_le (goal_range goal).end b)
     go (To.Access touch) true = h
     go goal false = h
 
-divides_near : (first : ℕ → Bool) (w : World) (c : ℕ) (goal : Goal) (cursor : ℕ) (t : Slots) (v : World) → w.calls.phase c ≡ Lock goal cursor
-    → w.memory.is_free ≡ first → missing t < missing w.slots → v ≡ record w { slots = t } → Nears first w c v
-divides_near first w c goal cursor t v e same fewer h = subst (Nears first w c) (sym h) (record {
+-- a slot is divided, and the call is where it was
+stays_near : (first : ℕ → Bool) (w : World) (c : ℕ) (old : Phase) (t : Slots) (v : World) → w.calls.phase c ≡ old → IsSureOf first c w
+    → rank_of t (reach_of w.hardware c) old < rank_of w.slots (reach_of w.hardware c) old → v ≡ record w { slots = t } → Nears first w c v
+stays_near first w c old t v e sure fewer h = subst (Nears first w c) (sym h) (record {
   made = refl;
-  less = subst (λ p. rank_of t (reach_of w.hardware c) p < rank_of w.slots (reach_of w.hardware c) p) (sym e) (omega (arith, fewer));
-  sure = subst (IsSure first w.memory.is_free (reach_of w.hardware c)) (sym e) same;
-})
-
--- a slot that crosses an edge of the range is divided
-cuts_near : (first : ℕ → Bool) (w : World) (c : ℕ) (place : Place) (target : Target) (range : PageRange) (t : Slots) (v : World)
-    → w.calls.phase c ≡ Cut place target range → w.memory.is_free ≡ first → missing t < missing w.slots → v ≡ record w { slots = t } → Nears first w c v
-cuts_near first w c place target range t v e same fewer h = subst (Nears first w c) (sym h) (record {
-  made = refl;
-  less = subst (λ p. rank_of t (reach_of w.hardware c) p < rank_of w.slots (reach_of w.hardware c) p) (sym e) (omega (arith, fewer));
-  sure = subst (IsSure first w.memory.is_free (reach_of w.hardware c)) (sym e) same;
+  less = subst (λ p. rank_of t (reach_of w.hardware c) p < rank_of w.slots (reach_of w.hardware c) p) (sym e) fewer;
+  sure = sure;
 })
 
 lets_go_near : (first : ℕ → Bool) (w : World) (c : ℕ) (held : PageRange) (b : ℕ) (t : Slots) (new : Phase) (v : World) → IsSureOf first c w
-    → LetsGo (w.calls.phase c) held b new → held.first < b → b ≤ held.end → missing t ≡ missing w.slots → v ≡ to c new (record w { slots = t })
+    → LetsGo (w.calls.phase c) held b new → held.first < b → b ≤ held.end → missing t ≡ missing w.slots
+    → v ≡ to c new (record w { slots = t })
     → Nears first w c v
 lets_go_near first w c held b t new v sure (unlocks reply e n) l m same h =
     nears first w c (Unlock held reply) (let_go (held_after held b) reply) t w.hardware w.memory v e (rw (h, n) refl)
     (unlock_less (missing t) (missing w.slots) (reach_of w.hardware c) (reach_of w.hardware c) held reply b l m)
     (sure_gone first w.memory.is_free (reach_of w.hardware c) (held_after held b) reply (sure_at first w c (Unlock held reply) e sure))
 lets_go_near first w c held b t new v sure (returns place target e n) l m same h =
+    let reach : Touch → Option ℕ = reach_of w.hardware c in
     nears first w c (Leaving place target held) (back_to place target (held_after held b)) t w.hardware w.memory v e (rw (h, n) refl)
-    (subst (λ z. rank z (reach_of w.hardware c) (back_to place target (held_after held b)) < rank_of w.slots (reach_of w.hardware c) (Leaving place target held))
-    (sym same) (back_less (missing w.slots) (reach_of w.hardware c) (reach_of w.hardware c) place target held b l m))
+    (subst (λ z. rank z reach (back_to place target (held_after held b)) < rank_of w.slots reach (Leaving place target held))
+    (sym same) (back_less (missing w.slots) reach reach place target held b l m))
     (back_all (IsSure first w.memory.is_free (reach_of w.hardware c)) place target (held_after held b)
     (sure_at first w c (Leaving place target held) e sure) (sure_at first w c (Leaving place target held) e sure)
     (λ k. sure_at first w c (Leaving place target held) e sure))
@@ -377,13 +372,14 @@ pub goes_near : (first : ℕ → Bool) (w : World) (c : ℕ) (v : World) → Fin
     → Nears first w c v
 goes_near first w c v f after sure own (moves new m h) = moves_near first w c new v f sure m h
 goes_near first w c v f after sure own (divides goal cursor t e s h) =
-    divides_near first w c goal cursor t v e (sure_at first w c (Lock goal cursor) e sure) (missing_less w.slots t None s.divides.0 s.divides.1.1 s.divides.2) h
+    let fewer = missing_less w.slots t None s.divides.0 s.divides.1.1 s.divides.2 in
+    stays_near first w c (Lock goal cursor) t v e sure (omega (arith, fewer)) h
 goes_near first w c v f after sure own (cuts place target range t e s h) =
-    cuts_near first w c place target range t v e (sure_at first w c (Cut place target range) e sure)
-    (missing_less w.slots t (Some c) s.divides.0 s.divides.1.1 s.divides.2) h
+    let fewer = missing_less w.slots t (Some c) s.divides.0 s.divides.1.1 s.divides.2 in
+    stays_near first w c (Cut place target range) t v e sure (omega (arith, fewer)) h
 goes_near first w c v f after sure own (fits place target range e i h) =
-    nears first w c (Cut place target range) (Acks (To.Place place target) (Put range place.meta)) w.slots w.hardware w.memory v e (rw h refl)
-    (omega arith) (sure_at first w c (Cut place target range) e sure)
+    nears first w c (Cut place target range) (Acks (To.Place place target) (Put range place.meta)) w.slots w.hardware w.memory v e
+    (rw h refl) (omega arith) (sure_at first w c (Cut place target range) e sure)
 goes_near first w c v f after sure own (owns goal cursor b t e l h) =
     let edge : t.edge ≡ w.slots.edge = ap (λ (x : Slots). x.edge) l.now in
     let same : missing t ≡ missing w.slots = missing_same w.slots t edge in
@@ -395,11 +391,11 @@ goes_near first w c v f after sure own (lets_go held b t new l u h) = lets_go_ne
     (missing_same w.slots t (ap (λ (x : Slots). x.edge) u.now)) h
 goes_near first w c v f after sure own (answers held reply r h) = replies_near first w c held reply v f sure r h
 goes_near first w c v f after sure own (posts change shoot e h) =
-    nears first w c (Post change shoot) (Acks (To.Change change) change) w.slots (after_post c change shoot w).hardware w.memory v e (rw h refl)
-    (omega arith) (sure_at first w c (Post change shoot) e sure)
+    nears first w c (Post change shoot) (Acks (To.Change change) change) w.slots (after_post c change shoot w).hardware w.memory v e
+    (rw h refl) (omega arith) (sure_at first w c (Post change shoot) e sure)
 goes_near first w c v f after sure own (commits goal change counts e n l h) =
-    tells_near first w c (Acks goal change) (Some (goal_range goal)) (reply_to change) (slots_after change w.slots) w.hardware (with_counts counts w).memory v e h
-    (omega arith) (due_reply first (reply_to change) (reply_is change))
+    tells_near first w c (Acks goal change) (Some (goal_range goal)) (reply_to change) (slots_after change w.slots) w.hardware
+    (with_counts counts w).memory v e h (omega arith) (due_reply first (reply_to change) (reply_is change))
 goes_near first w c v f after sure own (takes touch old x e l h) = takes_near first w c touch old x v e (sure_at first w c (Want touch old) e sure) l h
 goes_near first w c v f after sure own (zeroes touch x counts e b t h) =
     nears first w c (Fill touch (Some x)) (Install touch) (after_zeros c touch x counts w).slots w.hardware

@@ -17,7 +17,12 @@ use Rattle.machine_model.specs.declared.log.Entry.TheVariants as EntryOf
 use Rattle.machine_model.specs.declared.phase.Phase.{Phase}
 use Rattle.machine_model.specs.declared.phase.Phase.TheVariants.{Free, Check, Lock, Guess, Find, Back as Leaving, Cut, Decide, Post, Acks, Unlock, Answer, Try, Settle, Want, Fill, CopyPost, CopyAcks, Install, Release}
 use Rattle.machine_model.specs.World.{World, Made}
+use Rattle.slot_lock.specs.declared.plan.Change.{Change}
+use Rattle.slot_lock.specs.declared.plan.Goal.{Goal}
+use Rattle.slot_lock.specs.declared.plan.Goal.TheVariants as To
 use Rattle.slot_lock.specs.declared.plan.Touch.{Touch}
+use Rattle.slot_lock.specs.Plan.{range_of}
+use Rattle.slot_lock.specs.Slots.{IsUser}
 use Rattle.machine_model.specs.Holding.{awaits_in, holds}
 use Rattle.machine_model.specs.Actions.{to}
 use Rattle.machine_model.specs.Changes.{Awaits}
@@ -27,7 +32,9 @@ use Rattle.machine_laws.proofs.Effects.{Closed, Asked, Told, status, SameCalls, 
 use Rattle.machine_laws.proofs.Numbered.{at_new}
 use Rattle.machine_laws.proofs.Shapes.{Rests, absent, busy, full, free as callless, cannot, waits, awaits, GoesBy, Works, clears, invalidates, walks, evicts, flushes, reviews, frees, IsGoing, going, picking, Shape, rests, begins, ends, goes, aims, gives_up, works, joins, Comes, stopped, acts as happens, comes}
 use Rattle.machine_sound.specs.Log.{Replays, Stands}
-use Rattle.machine_sound.specs.Invariant.{Fine}
+use Rattle.machine_sound.specs.Invariant.{Fine, Good}
+use Rattle.machine_laws.proofs.Deciding.{place_free}
+use Rattle.machine_laws.proofs.Moves.{IsCallOf, call_at}
 use Rattle.machine_sound.specs.Sound.{IsReached}
 use Rattle.machine_sound.proofs.Logs.{replays_requests}
 use Rattle.machine_sound.proofs.OneMap.{log_leads_to_one}
@@ -36,6 +43,9 @@ use Rattle.machine_alone.specs.Alone.{IsCalm, LeadsTo, IsNoted, IsServed, IsServ
 use Rattle.machine_alone.specs.Copies.{page_copied, with_copy}
 use Rattle.machine_alone.specs.Users.{Users, Same, recorded}
 use Rattle.machine_alone.specs.Taken.{frames_for, frames_taken, taken_below}
+use Rattle.machine_alone.specs.First.{FirstAnswers, is_placed}
+use Rattle.machine_alone.proofs.First.{IsFirstReply, copy_first, named_first}
+use Rattle.machine_alone.proofs.Seeking.{IsSeeking, Seeks, change_is_named, seeks_on, touch_is_named}
 use Rattle.machine_alone.proofs.Awaiting.{WillAnswer, change_answers, copy_answers, change_frames, copy_frames}
 use Rattle.machine_alone.proofs.Framed.{reached_framed}
 use Rattle.machine_alone.proofs.Noting.{IsLogged, IsLoggedOf, from_log, is_with_copy, last_entry, logged_on}
@@ -44,7 +54,7 @@ use Rattle.machine_alone.proofs.Taking.{TakesOne, taken_most, taken_on}
 use Rattle.machine_alone.proofs.Used.{IsFrom, Used, IsUsed, KeepsUsers, asks_on, copy_after, used_on, unwaited_on}
 use Rattle.machine_alone.proofs.Using.{IsStoreFor}
 use Rattle.machine_alone.proofs.Rank.{reach_of, rank_of}
-use Rattle.machine_alone.proofs.Telling.{IsTold, IsToldOf, Waits, for_change, for_copy, waits_at, told_on}
+use Rattle.machine_alone.proofs.Telling.{IsTold, IsToldOf, Waits, for_change, for_copy, waits_at, told_on, unmapped_unused}
 use Rattle.machine_alone.proofs.Rows.{IsDueReply, IsSure, IsSureOf, left_of, Nears, goes_near, sure_at}
 
 -- In x the call of core c, begun in w, whose log leads to t, serves its request. These frames were free before it took one.
@@ -398,6 +408,27 @@ will_answer w t c request x range h f from (for_copy touch frame p i) =
       let a = z.0 in let b = z.1 in omega (arith, a, b),
     )
 
+-- a request that leaves its place open waits for nobody: it goes to pages that no core uses
+acks_named : (x : World) (c : ℕ) (request : Request) (goal : Goal) (change : Change) (d : ℕ) → Fine x
+    → nth x.calls.requests (x.calls.number c) ≡ Some request → x.calls.phase c ≡ Acks goal change → IsUser x.slots (range_of change) d
+    → is_placed request ≡ false
+acks_named x c request (To.Place place target) change d f number p u =
+    let call : IsCallOf x c (Acks (To.Place place target) change) = call_at x c (Acks (To.Place place target) change) p f.order in
+    let free = place_free x.slots place target (range_of change) call.ready.2.0 call.ready.2.1 in
+    absurd (unmapped_unused (x.slots.info u.0) d (free u.0 u.1) u.2)
+acks_named x c request (To.Change planned) change d f number p u =
+    change_is_named x c planned request number (call_at x c (Acks (To.Change planned) change) p f.order).asked
+acks_named x c request (To.Access touch) change d f number p u =
+    touch_is_named x c touch request number (call_at x c (Acks (To.Access touch) change) p f.order).asked
+
+waits_named : (x : World) (c : ℕ) (request : Request) (range : PageRange) (d : ℕ) → Fine x
+    → nth x.calls.requests (x.calls.number c) ≡ Some request
+    → Waits (x.calls.phase c) range → IsUser x.slots range d → is_placed request ≡ false
+waits_named x c request range d f number (for_change goal change p i) u =
+    acks_named x c request goal change d f number p (subst (λ r. IsUser x.slots r d) i u)
+waits_named x c request range d f number (for_copy touch frame p i) u =
+    touch_is_named x c touch request number (call_at x c (CopyAcks touch frame) p f.order).asked
+
 awaited_by : (w : World) (t : Plain) (c : ℕ) (request : Request) (x : World) (o : Outcome) (v : World) (range : PageRange) (set : ℕ)
     → IsServing w.memory.is_free w t c request x → IsTold x.slots x.hardware c (x.calls.phase c) → awaits_in (x.calls.phase c) ≡ Some range
     → o ≡ Wait (WaitsFor.Acks set) → Awaits x.hardware c set → v ≡ with_event x → IsAwaiting w x t c request o v
@@ -409,6 +440,7 @@ awaited_by w t c request x o v range set h was_told p e a k =
     let leads : LeadsTo x t = waiting_leads w.memory.is_free w t c request x h kept.0 kept.1 in
     let from : f.plain ≡ t = log_leads_to_one x.calls.requests x.calls.log (nothing_mapped x.made.file) f.plain t f.log leads in
     let will = will_answer w t c request x range h f from waits in
+    let named : is_placed request ≡ false = waits_named x c request range a.some.0 f h.number waits ((told a.some.0).0.0 a.some.1).1 in
     record {
       waiting = record {
         range = range;
@@ -434,10 +466,18 @@ awaited_by w t c request x o v range set h was_told p e a k =
       reply = will.0.reply;
       after = will.0.after;
       stands = will.0.stands;
+      first = copy_first t c request will.0.reply will.0.after (named_first t c request will.0.reply named) will.0.stands;
+      named = named;
       drops = will.0.drops;
     }
 
 -- ---- the whole call
+
+few_cores : (x : World) (c : ℕ) → nat_lt c x.made.cores ≡ true → Fine x → c < 64
+few_cores x c inside f = let few = f.order.few in let l = below c x.made.cores inside in omega (arith, few, l)
+  where
+    below : (a b : ℕ) → nat_lt a b ≡ true → a < b
+    below a b h = grind (arith, nat_tests)
 
 told_step : (w : World) (t : Plain) (c : ℕ) (request : Request) (x v : World) → IsServing w.memory.is_free w t c request x → Step x (Go c) Stepped v
     → IsTold v.slots v.hardware c (v.calls.phase c)
@@ -479,6 +519,30 @@ unwaited_along w t c request m h told u (suc n) x s =
       | awaits_acks _ _ _ e _ _ ↦ absurd cc
     ]
 
+-- what the call knows of its first place
+seeking_along : (w : World) (t : Plain) (c : ℕ) (request : Request) (m : World) → IsServing w.memory.is_free w t c request m
+    → IsSeeking t c request m → (n : ℕ) (x : World) → StepsTo m c n x → IsSeeking t c request x
+seeking_along w t c request m h k zero x s = subst (IsSeeking t c request) (sym s) k
+seeking_along w t c request m h k (suc n) x s =
+    let z = (along w.memory.is_free w t c request m h n s.0 s.1).0 in
+    let f : Fine s.0 = reached_fine s.0 z.reached in
+    let shape : Shape (with_event s.0) (Go c) Stepped x = before_limit s.0 c x (comes s.0 (Go c) Stepped x s.2) s.2 in
+    elim (row_of w.memory.is_free w t c request s.0 Stepped x z (reached_fine x (reached_step s.0 x (Go c) Stepped z.reached s.2)) shape) [
+      | nears _ g _ ↦ seeks_on t (recorded w.slots) c request z.copy (with_event s.0) x f (few_cores s.0 c z.inside f) z.number
+          (λ b. subst (Good s.0) (subst (λ o. IsFrom t o f.plain) b.1 (goes_from w.memory.is_free w t c request s.0 z f b.0)) f.good)
+          z.used (goes_of s.0 c x s.2) (seeking_along w t c request m h k n s.0 s.1) g
+      | returns _ _ e _ ↦ absurd cc
+      | awaits_acks _ _ _ e _ _ ↦ absurd cc
+    ]
+
+-- its reply is the first
+first_reply : (w : World) (t : Plain) (c : ℕ) (request : Request) (o : Outcome) (x v : World) (reply : Reply)
+    (k : IsServed w t c request o v) → o ≡ Answered reply → x.calls.phase c ≡ Answer reply → IsSeeking t c request x → FirstAnswers t c request k.reply k.after
+first_reply w t c request o x v reply k answered at seeking =
+    let both : Answered k.reply ≡ Answered reply = sym k.answered ∙ answered in
+    let same : reply ≡ k.reply = cc in
+    copy_first t c request k.reply k.after (subst (IsFirstReply t c request) same (subst (Seeks t c request) at seeking)) k.stands
+
 -- its reply drops no other user
 keeps_others : (w : World) (t : Plain) (c : ℕ) (request : Request) (o : Outcome) (x v : World) (k : IsServed w t c request o v) → v ≡ to c Free (with_event x)
     → KeepsUsers (recorded w.slots) c (recorded x.slots) → KeepsOthers t (recorded w.slots) c request k.reply
@@ -498,13 +562,14 @@ served_alone w begun t core request reached leads calm s =
           let told = told_along w t core request begun start.0 first n x k in
           let same : KeepsUsers (recorded w.slots) core (recorded begun.slots) = λ d p ne i. ap (λ (m : World). recorded m.slots p d) start.2 ∙ i in
           let unwaited = unwaited_along w t core request begun start.0 first same n x k in
+          let seeking = seeking_along w t core request begun start.0 (subst (Seeks t core request) (sym start.1) tt) n x k in
           elim (row_of w.memory.is_free w t core request x o v h (reached_fine v (reached_step x v (Go core) o h.reached s))
           (shape_at x core o v (less_test x.calls.events event_limit below) (comes x (Go core) o v s))) [
             | nears e _ _ ↦ absurd (not e)
             | returns reply at answered e ↦
                 let k = returned w.memory.is_free w t core request x v o reply h s at answered e (λ d m u i. d)
                 (taken_most w.memory.is_free x.memory.is_free request w.made.frames h.taken) in
-                inl (k, keeps_others w t core request o x v k e unwaited)
+                inl (k, keeps_others w t core request o x v k e unwaited, first_reply w t core request o x v reply k answered at seeking)
             | awaits_acks range set p e a k ↦ inr (awaited_by w t core request x o v range set h told p e a k)
           ];
     }

@@ -127,11 +127,16 @@ storable_page c touch info new x v h e k =
 moves_storable : (w : World) (c : ℕ) (new : Phase) (v : World) → Goes w c (w.calls.phase c) Stepped v → Moves w c new → v ≡ to c new w → IsStorableOf c v
 moves_storable w c new v g (locks request change e n k) h = storable_to c new w v h (subst (IsStorable w.memory.cached w.slots.info) (sym n) tt)
 moves_storable w c new v g (tries request touch e n k) h = storable_to c new w v h (subst (IsStorable w.memory.cached w.slots.info) (sym n) tt)
-moves_storable w c new v g (hints request place range e n i k) h = storable_to c new w v h (subst (IsStorable w.memory.cached w.slots.info) (sym n) tt)
-moves_storable w c new v g (seeks request place e n k) h = storable_to c new w v h (subst (IsStorable w.memory.cached w.slots.info) (sym n) tt)
-moves_storable w c new v g (guesses place found e n least) h = storable_to c new w v h (subst (IsStorable w.memory.cached w.slots.info) (sym n) tt)
-moves_storable w c new v g (turns place target e n d) h = storable_to c new w v h (subst (IsStorable w.memory.cached w.slots.info) (sym n) tt)
-moves_storable w c new v g (chooses place target range shoot e n d) h = storable_to c new w v h (subst (IsStorable w.memory.cached w.slots.info) (sym n) tt)
+moves_storable w c new v g (hints request place range e n i k) h =
+    storable_to c new w v h (subst (IsStorable w.memory.cached w.slots.info) (sym n) tt)
+moves_storable w c new v g (seeks request place e n k) h =
+    storable_to c new w v h (subst (IsStorable w.memory.cached w.slots.info) (sym n) tt)
+moves_storable w c new v g (guesses place found e n least) h =
+    storable_to c new w v h (subst (IsStorable w.memory.cached w.slots.info) (sym n) tt)
+moves_storable w c new v g (turns place target e n d) h =
+    storable_to c new w v h (subst (IsStorable w.memory.cached w.slots.info) (sym n) tt)
+moves_storable w c new v g (chooses place target range shoot e n d) h =
+    storable_to c new w v h (subst (IsStorable w.memory.cached w.slots.info) (sym n) tt)
 moves_storable w c new v g (acts change range shoot e n d) h = storable_to c new w v h (subst (IsStorable w.memory.cached w.slots.info) (sym n) tt)
 moves_storable w c new v g (finds touch f e n u) h =
     let b = subst (λ phase. Goes w c phase Stepped v) e g in

@@ -146,13 +146,16 @@ pub taken_on : (first : ℕ → Bool) (c : ℕ) (request : Request) (w v : World
     → IsSureOf first c w → TakesOne first w.memory.is_free request → GoesBy w c v → TakesOne first v.memory.is_free request
 taken_on first c request w v f number sure k (moves new m h) = free_same first request v _ (ap (λ (v : World). v.memory.is_free) h) k
 taken_on first c request w v f number sure k (divides goal cursor t e s h) = free_same first request v _ (ap (λ (v : World). v.memory.is_free) h) k
-taken_on first c request w v f number sure k (cuts place target range t e s h) = free_same first request v _ (ap (λ (v : World). v.memory.is_free) h) k
-taken_on first c request w v f number sure k (fits place target range e i h) = free_same first request v _ (ap (λ (v : World). v.memory.is_free) h) k
+taken_on first c request w v f number sure k (cuts place target range t e s h) =
+    free_same first request v _ (ap (λ (v : World). v.memory.is_free) h) k
+taken_on first c request w v f number sure k (fits place target range e i h) =
+    free_same first request v _ (ap (λ (v : World). v.memory.is_free) h) k
 taken_on first c request w v f number sure k (owns goal cursor b t e l h) = free_same first request v _ (ap (λ (v : World). v.memory.is_free) h) k
 taken_on first c request w v f number sure k (lets_go held b t new l u h) = free_same first request v _ (ap (λ (v : World). v.memory.is_free) h) k
 taken_on first c request w v f number sure k (answers held reply r h) = free_same first request v _ (ap (λ (v : World). v.memory.is_free) h) k
 taken_on first c request w v f number sure k (posts change shoot e h) = free_same first request v _ (ap (λ (v : World). v.memory.is_free) h) k
-taken_on first c request w v f number sure k (commits goal change counts e n l h) = free_same first request v _ (ap (λ (v : World). v.memory.is_free) h) k
+taken_on first c request w v f number sure k (commits goal change counts e n l h) =
+    free_same first request v _ (ap (λ (v : World). v.memory.is_free) h) k
 taken_on first c request w v f number sure k (takes touch old x e l h) =
     let call : IsCallOf w c (Want touch old) = call_at w c (Want touch old) e f.order in
     let same : w.memory.is_free ≡ first = sure_at first w c (Want touch old) e sure in

@@ -270,21 +270,25 @@ posted_told w c new shoot range v f others h none asks all =
     (subst (IsToldOf w.slots (after_shot w.hardware c shoot range) c) (sym asks) (posts_tell w c shoot range f others none all)))
 
 -- no core uses a page that isn't mapped
-unmapped_unused : (o : Option PageInfo) (d : ℕ) → is_some (entry_of o) ≡ false → is_recorded o d ≡ true → ⊥
+pub unmapped_unused : (o : Option PageInfo) (d : ℕ) → is_some (entry_of o) ≡ false → is_recorded o d ≡ true → ⊥
 unmapped_unused None d free r = cc
 unmapped_unused (Some info) d free r = cc
 
 -- pages that no core uses, while nobody awaits
-quiet_told : (w : World) (c : ℕ) (range : PageRange) → Fine w → ((b : ℕ) → b ≢ c → w.calls.phase b ≡ Free) → awaits_in (w.calls.phase c) ≡ None
+quiet_told : (w : World) (c : ℕ) (range : PageRange) → Fine w → ((b : ℕ) → b ≢ c → w.calls.phase b ≡ Free)
+    → awaits_in (w.calls.phase c) ≡ None
     → ((d : ℕ) → IsUser w.slots range d → ⊥) → IsToldOf w.slots w.hardware c (Some range)
 quiet_told w c range f others e unused d =
-    let none : w.hardware.inbox d ≡ [] = no_message w.calls.phase d (w.hardware.inbox d) (nobody_awaits w c others e) (f.coherent.asked d) in (
-      subst (λ ms. (is_some (message_of ms c) ≡ true) ↔ ((d ≢ c) × IsUser w.slots range d)) (sym none) (λ m. absurd cc, λ u. absurd (unused d u.1)),
+    let none : w.hardware.inbox d ≡ [] =
+    no_message w.calls.phase d (w.hardware.inbox d) (nobody_awaits w c others e) (f.coherent.asked d) in (
+      subst (λ ms. (is_some (message_of ms c) ≡ true) ↔ ((d ≢ c) × IsUser w.slots range d)) (sym none)
+          (λ m. absurd cc, λ u. absurd (unused d u.1)),
       subst (λ ms. takes_left ms ≡ (if is_some (message_of ms c) then 2 else 0)) (sym none) refl,
     )
 
 -- a mapping goes to pages that no core uses
-fits_told : (w : World) (c : ℕ) (place : Place) (target : Target) (range : PageRange) (v : World) → Fine w → ((b : ℕ) → b ≢ c → w.calls.phase b ≡ Free)
+fits_told : (w : World) (c : ℕ) (place : Place) (target : Target) (range : PageRange) (v : World) → Fine w
+    → ((b : ℕ) → b ≢ c → w.calls.phase b ≡ Free)
     → w.calls.phase c ≡ Cut place target range → v ≡ after_cuts c place target range w → IsTold v.slots v.hardware c (v.calls.phase c)
 fits_told w c place target range v f others e h =
     let k : IsCallOf w c (Cut place target range) = call_at w c (Cut place target range) e f.order in

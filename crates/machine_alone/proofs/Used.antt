@@ -130,11 +130,14 @@ moves_used t first c request copy w new u (hints r place range e n i k) =
 moves_used t first c request copy w new u (seeks r place e n k) =
     subst (Used t first (recorded w.slots) (reach_of w.hardware c) c request copy) (sym n) (used_at t first c request copy w (Check r) e u)
 moves_used t first c request copy w new u (guesses place found e n least) =
-    subst (Used t first (recorded w.slots) (reach_of w.hardware c) c request copy) (sym n) (used_at t first c request copy w (Guess place) e u)
+    subst (Used t first (recorded w.slots) (reach_of w.hardware c) c request copy) (sym n)
+    (used_at t first c request copy w (Guess place) e u)
 moves_used t first c request copy w new u (turns place target e n d) =
-    subst (Used t first (recorded w.slots) (reach_of w.hardware c) c request copy) (sym n) (used_at t first c request copy w (Find place target) e u)
+    subst (Used t first (recorded w.slots) (reach_of w.hardware c) c request copy) (sym n)
+    (used_at t first c request copy w (Find place target) e u)
 moves_used t first c request copy w new u (chooses place target range shoot e n d) =
-    subst (Used t first (recorded w.slots) (reach_of w.hardware c) c request copy) (sym n) (used_at t first c request copy w (Find place target) e u)
+    subst (Used t first (recorded w.slots) (reach_of w.hardware c) c request copy) (sym n)
+    (used_at t first c request copy w (Find place target) e u)
 moves_used t first c request copy w new u (acts change range shoot e n d) =
     subst (Used t first (recorded w.slots) (reach_of w.hardware c) c request copy) (sym n) (used_at t first c request copy w (Decide change) e u)
 moves_used t first c request copy w new u (finds touch f e n k) =
@@ -198,7 +201,8 @@ replies_keep : (t : Plain) (c : ℕ) (request : Request) (w : World) (held : Opt
 replies_keep t c request w held reply f number (refuses r e h j) =
     let is : r ≡ request = same_request w c r request (call_at w c (Check r) e f.order).asked number in
     subst (λ r. Keeps t c r reply) is (refused_keeps (λ k. mode_of (w.made.file k)) t c r reply j)
-replies_keep t c request w held reply f number (no_place place target errno e h i d) = subst (Keeps t c request) (sym i) (refl, λ u p d. refl)
+replies_keep t c request w held reply f number (no_place place target errno e h i d) =
+    subst (Keeps t c request) (sym i) (refl, λ u p d. refl)
 replies_keep t c request w held reply f number (declines change errno e h i d) = subst (Keeps t c request) (sym i) (refl, λ u p d. refl)
 replies_keep t c request w held reply f number (fails touch e h x) = fault_keeps t c request (found_at w touch) reply x
 replies_keep t c request w held reply f number (no_frame touch old e h i none) = subst (Keeps t c request) (sym i) (refl, λ u p d. refl)
@@ -206,7 +210,8 @@ replies_keep t c request w held reply f number (no_frame touch old e h i none) =
 unchanged : (t : Plain) (first : Users) (c : ℕ) (request : Request) (copy : Option ℕ) (w : World) (held : Option PageRange) (reply : Reply)
     → IsUsed t first c request copy w → Replies w c held reply → (copy ≡ None) × Same (recorded w.slots) first
 unchanged t first c request copy w held reply u (refuses r e h j) = used_at t first c request copy w (Check r) e u
-unchanged t first c request copy w held reply u (no_place place target errno e h i d) = used_at t first c request copy w (Find place target) e u
+unchanged t first c request copy w held reply u (no_place place target errno e h i d) =
+    used_at t first c request copy w (Find place target) e u
 unchanged t first c request copy w held reply u (declines change errno e h i d) = used_at t first c request copy w (Decide change) e u
 unchanged t first c request copy w held reply u (fails touch e h x) = used_at t first c request copy w (Settle touch) e u
 unchanged t first c request copy w held reply u (no_frame touch old e h i none) = used_at t first c request copy w (Want touch old) e u
@@ -220,7 +225,8 @@ change_used t first c request copy w goal change f number e u =
     let k : IsCallOf w c (Acks goal change) = call_at w c (Acks goal change) e f.order in
     let is : k.asked.request ≡ request = same_request w c k.asked.request request k.asked.number number in
     let sound = call_sound w c goal f.order (has_core w c f.order (λ k. let a = sym e ∙ k in cc)) k.asked k.ready.0 in
-    let drops = goal_drops (λ k. mode_of (w.made.file k)) w.made w.slots t c k.asked.request goal change k.asked.passed sound k.ready.1 k.ready.2 in
+    let drops =
+    goal_drops (λ k. mode_of (w.made.file k)) w.made w.slots t c k.asked.request goal change k.asked.passed sound k.ready.1 k.ready.2 in
     let z = used_at t first c request copy w (Acks goal change) e u in (
       subst (λ r. page_copied t r (reply_to change) ≡ None) is drops.0 ∙ sym z.0,
       λ p d.
@@ -382,7 +388,8 @@ used_on free m first c request copy w v f framed number sure from asks u (cuts p
     subst (IsUsed m first c request copy) (sym h)
     (subst (Used m first (recorded t) (reach_of w.hardware c) c request copy) (sym e) (z.0, λ p d. same p d ∙ z.1 p d))
 used_on free m first c request copy w v f framed number sure from asks u (fits place target range e i h) =
-    used_to m first c request copy (Acks (To.Place place target) (Put range place.meta)) w v h (used_at m first c request copy w (Cut place target range) e u)
+    used_to m first c request copy (Acks (To.Place place target) (Put range place.meta)) w v h
+    (used_at m first c request copy w (Cut place target range) e u)
 used_on free m first c request copy w v f framed number sure from asks u (owns goal cursor b t e l h) =
     let same : Same (recorded t) (recorded w.slots) = λ p d. ap (λ (s : Slots). is_recorded (s.info p) d) l.now in
     let z = used_at m first c request copy w (Lock goal cursor) e u in
@@ -398,7 +405,8 @@ used_on free m first c request copy w v f framed number sure from asks u (posts 
     used_to m first c request copy (Acks (To.Change change) change) (record w { hardware = (after_post c change shoot w).hardware }) v h
     (used_at m first c request copy w (Post change shoot) e u)
 used_on free m first c request copy w v f framed number sure from asks u (commits goal change counts e n l h) =
-    replied m first c request copy (Some (goal_range goal)) (reply_to change) (with_counts counts (record w { slots = slots_after change w.slots })) v h
+    replied m first c request copy (Some (goal_range goal)) (reply_to change)
+    (with_counts counts (record w { slots = slots_after change w.slots })) v h
     (change_used m first c request copy w goal change f number e u)
 used_on free m first c request copy w v f framed number sure from asks u (takes touch old x e l h) =
     used_to m first c request copy (taken_for touch old x) (record w { memory = (after_frame c touch old x w).memory }) v h

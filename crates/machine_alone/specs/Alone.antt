@@ -11,6 +11,7 @@ use Rattle.shootdown.specs.declared.message.Message.{Message}
 use Rattle.machine_laws.specs.Brackets.{nth}
 use Rattle.machine_model.specs.Holding.{awaits_in, can_give_up}
 use Rattle.machine_alone.specs.Copies.{page_copied, with_copy}
+use Rattle.machine_alone.specs.First.{FirstAnswers, is_placed}
 use Rattle.machine_alone.specs.Taken.{frames_for, frames_taken, is_access}
 use Rattle.machine_alone.specs.Users.{Users, Same, recorded, users_after, with_user, without}
 use Rattle.vm_base.specs.Plain.{Plain, nothing_mapped}
@@ -93,7 +94,7 @@ users_dropped core request range users =
 
 -- A call, begun in w, waits in x for the other cores that are recorded on its pages, for just these, and nothing changes but that a store
 -- has taken the frame of its copy. Each of them has both takes before it. The map t answers its request with this reply, which leaves
--- these pages without users, but for a store's core.
+-- these pages without users, but for a store's core. Its request doesn't leave its place open.
 pub record IsAwaiting (w x : World) (t : Plain) (core : ℕ) (request : Request) (outcome : Outcome) (v : World) : Type 0 where
   pub waiting : IsWaiting x t core request
   pub set : ℕ
@@ -109,16 +110,19 @@ pub record IsAwaiting (w x : World) (t : Plain) (core : ℕ) (request : Request)
   pub reply : Reply
   pub after : Plain
   pub stands : Stands (with_copy t (page_copied t request reply)) core request reply after
+  pub first : FirstAnswers t core request reply after
+  pub named : is_placed request ≡ false
   pub drops : (u : Users) → Same (users_after t core request reply u) (users_dropped core request waiting.range u)
 
 -- Begun in w, whose log leads to t, the call takes few plain steps. The first that isn't plain, before the limit of events, hands out its
--- reply, which drops no other user, or waits for other cores' acknowledgements.
+-- reply, which drops no other user and is the first of the map's answers, or waits for other cores' acknowledgements.
 pub record IsServedAlone (w : World) (t : Plain) (core : ℕ) (request : Request) (begun : World) : Type 0 where
   pub short : (n : ℕ) (x : World) → StepsTo begun core n x → n < 2 ^ 40
   pub ends : (n : ℕ) (x v : World) (outcome : Outcome) → StepsTo begun core n x → Step x (Go core) outcome v
       → outcome ≢ Stepped
       → x.calls.events < event_limit
-      → ((k : IsServed w t core request outcome v) × KeepsOthers t (recorded w.slots) core request k.reply)
+      → ((k : IsServed w t core request outcome v) × KeepsOthers t (recorded w.slots) core request k.reply
+      × FirstAnswers t core request k.reply k.after)
       ⊎ IsAwaiting w x t core request outcome v
 
 -- in each state that a machine reaches, with any number of cores
@@ -137,9 +141,11 @@ pub record IsAwaitingStill (w : World) (outcome : Outcome) (v : World) : Type 0 
   pub exact : (d : ℕ) → (members set d ≡ true) ↔ (0 < takes_left (w.hardware.inbox d))
   pub stays : v ≡ with_event w
 
--- it is answered: nobody is awaited any more, no frame more is taken, and the reply isn't "no frame"
+-- it is answered: nobody is awaited any more, no frame more is taken, and the reply isn't "no frame"; a request that doesn't leave its
+-- place open has one answer
 pub record IsAnsweredAtLast (w : World) (t : Plain) (core : ℕ) (request : Request) (outcome : Outcome) (v : World) : Type 0 where
   pub served : IsServed w t core request outcome v
+  pub first : is_placed request ≡ false → FirstAnswers t core request served.reply served.after
   pub framed : served.reply ≢ NoFrame
   pub frames : frames_taken v ≤ frames_taken w
   pub nobody : (d : ℕ) → takes_left (w.hardware.inbox d) ≡ 0

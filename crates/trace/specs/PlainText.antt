@@ -10,8 +10,7 @@ use Rattle.machine_model.specs.declared.event.Blocker.TheVariants.{Acks}
 use Rattle.machine_model.specs.declared.event.Outcome.TheVariants.{Stepped, Wait, Idle, Answered, Full}
 use Rattle.machine_model.specs.World.{World}
 use Rattle.machine_model.specs.Step.{event_limit}
-use Rattle.machine_sound.specs.Log.{Stands}
-use Rattle.machine_alone.specs.Copies.{page_copied, with_copy}
+use Rattle.machine_alone.specs.First.{FirstAnswers}
 use Rattle.machine_alone.specs.Taken.{is_access}
 use Rattle.machine_alone.specs.Users.{Users, users_after}
 use Rattle.trace_text.specs.Line.{line_of}
@@ -58,17 +57,14 @@ nothing_reached = record {
 
 -- ---- a call
 
--- The plain map gives the request this reply, and is then after. A private page that has shown its file's page gets a copy before a store to
--- it that is done.
-abbrev pub Replies : Plain → ℕ → Request → Reply → Plain → Type 0
-Replies t core request reply after = Stands (with_copy t (page_copied t request reply)) core request reply after
-
--- The request has this reply, and the plain map and the users go on. (The reply is that map's; where more accesses were made than there are
--- frames, "no frame" may answer one that the map would serve, and changes nothing.)
+-- The request has this reply, and the plain map and the users go on. (The reply is the first of that map's: a private page that has shown its
+-- file's page gets a copy before a store to it that is done, and a mapping that leaves its place open is at its hint, if that is free, else
+-- at the least room of its core's window. Where more accesses were made than there are frames, "no frame" may answer one that the map would
+-- serve, and changes nothing.)
 pub record IsAnswered (s : Reached) (core : ℕ) (request : Request) (reply : Reply) (r : Reached)
     (text : List ℕ) : Type 0 where
   pub after : Plain
-  pub replies : Replies s.plain core request reply after
+  pub replies : FirstAnswers s.plain core request reply after
   pub given : reply ≢ NoMemory
   pub framed : reply ≡ NoFrame → s.frames < s.accesses
   pub next : r ≡ record s { plain = after; users = users_after s.plain core request reply s.users; waiting = None }
@@ -89,7 +85,7 @@ AnswersAtOnce s core request r text =
 pub record IsHeldUp (s : Reached) (core : ℕ) (request : Request) (r : Reached) (text : List ℕ) : Type 0 where
   pub reply : Reply
   pub after : Plain
-  pub replies : Replies s.plain core request reply after
+  pub replies : FirstAnswers s.plain core request reply after
   pub set : ℕ
   pub some : (d : ℕ) × (members set d ≡ true)
   pub exact : (d : ℕ) → (members set d ≡ true) ↔ IsDropped s core request reply d
