@@ -3,7 +3,7 @@ use Rattle.std.proofs.Common.{◌≡◌, ℕ, ◌-◌, ◌^◌, ⊎_elim, Option
 use Rattle.std.proofs.Math.Logic.{∥∥₁_elim}
 use Rattle.std.proofs.Math.Path.{fun_ext}
 use Rattle.std.proofs.Props.{props}
-use Rattle.std.specs.Prelude.{IfOk, IfSome, IfNone}
+use Rattle.std.specs.Prelude.{IfOk, OnErr, IfSome, IfNone}
 use Rattle.vm_base.specs.declared.info.Back.{Back}
 use Rattle.vm_base.specs.declared.info.PageInfo.{PageInfo}
 use Rattle.vm_base.specs.declared.memory.NoMemory.{NoMemory}
@@ -51,6 +51,12 @@ no_map w r from None h = λ t leads. subst (λ metas. NoneMapped metas from (2 ^
 no_map w r from (Some line) h = tt
 
 -- and the other way
+pub some_map : {V : Type 0} (w : World) → ∥ IsReached w ∥₁ → (result : Result V NoMemory)
+    → OnErr result (¬ NoneMapped (slot_metas w.slots) 1 (2 ^ 35)) → OnErr result (¬ HasNoMap w 1)
+some_map w r (Ok lines) h = tt
+some_map w r (Err none) h = λ nothing. ∥∥₁_elim (legal w r).sound (hlevel props) (λ s.
+    h (subst (λ metas. NoneMapped metas 1 (2 ^ 35)) (sym (same_metas w r s.0 s.1.log)) (nothing s.0 s.1.log)))
+
 pub line_start : (w : World) → ∥ IsReached w ∥₁ → IsSlotMap w.slots → (from : ℕ) → IsLineStart w from
     → ¬ GoesOn (slot_metas w.slots (from - 1)) (slot_metas w.slots from)
 line_start w r laws from start = ⊎_elim

@@ -116,9 +116,11 @@ impl<M: SlotMap, A: Allocator + Clone> Machine<M, A> {
     }
 
     /// All mappings, in order: those of the plain page map to which the log leads (POSIX.1-2017, mmap, munmap and mprotect).
-    /// Neighbouring pages are one where the protection is the same and the backing goes on. The error says that memory ran out.
+    /// Neighbouring pages are one where the protection is the same and the backing goes on. The error says that memory ran out,
+    /// and some page is mapped.
     pub fn plain_maps<B: Allocator>(&self, alloc: B) -> Result<Vec<MapLine, B>, NoMemory>
         ensures lines { IfOk result (λ lines. ListsMaps (state self.now) lines.items) }
+        ensures err_only { OnErr result (¬ HasNoMap (state self.now) 1) }
         ensures legal { IsLegal (state self.now) }
     {
         all_lines(&self.engine.map, alloc)

@@ -1,5 +1,5 @@
 //! Lines of the list of mappings.
-ghost use Rattle.std.specs.Prelude.{◌≡◌, ◌≢◌, ℕ, ◌+◌, ◌-◌, ◌^◌, ◌<◌, ◌≤◌, ◌↔◌, IsTrue, IfSome, IfNone, IfOk, Some};
+ghost use Rattle.std.specs.Prelude.{◌≡◌, ◌≢◌, ℕ, ◌+◌, ◌-◌, ◌^◌, ◌<◌, ◌≤◌, ◌↔◌, IsTrue, IfSome, IfNone, IfOk, OnErr, Some};
 ghost use Rattle.vm_base.specs.Info.{advance};
 ghost use Rattle.vm_base.specs.Pages.{IsPage};
 ghost use Rattle.slot_lock.specs.Slots.{IsSlotMap};
@@ -97,11 +97,12 @@ pub fn next_line<M: SlotRead>(map: &M, from: u64) -> Option<MapLine>
     })
 }
 
-/// All lines, in order. The error says that memory ran out.
+/// All lines, in order. The error says that memory ran out, and some page is mapped.
 pub fn all_lines<M: SlotRead, A: Allocator>(map: &M, alloc: A) -> Result<Vec<MapLine, A>, NoMemory>
     requires laws { IsSlotMap (M.slots map.now) }
     requires reads { (p : ℕ) → IsPage p → M.reads map.now p }
-    ensures { IfOk result (λ lines. IsMapList (slot_metas (M.slots map.now)) lines.items) }
+    ensures lines { IfOk result (λ lines. IsMapList (slot_metas (M.slots map.now)) lines.items) }
+    ensures err_only { OnErr result (¬ NoneMapped (slot_metas (M.slots map.now)) 1 (2 ^ 35)) }
 {
     let mut lines = Vec::new(alloc);
     let mut from = 1;

@@ -25,5 +25,5 @@ lines-preserved g c =
     to_more _ c.lines.lines.items c.push.new.self.items c.lines.from c.in-Some.line (c.in_ok-push.ensures {u = tt}).items c.lines.invariant
     c.in-Some.ensures.some
 
-pub returns : goal.returns
-returns g c = lists_all _ c.lines.lines.items c.lines.from c.lines.invariant c.in_default.ensures.none
+pub returns-clause-lines : goal.returns-clause-lines
+returns-clause-lines g c = lists_all _ c.lines.lines.items c.lines.from c.lines.invariant c.in_default.ensures.none
