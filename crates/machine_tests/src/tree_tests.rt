@@ -235,3 +235,47 @@ fn files_that_are_refused(rt: HostRuntime) -> Result<(), Fail> {
     }
     Ok(())
 }
+
+// The log behind the outcomes, and the mappings in place of them. Each step counts: a refused call begins, is checked and answers; a
+// mapping of one page of a new space has its reply at its ninth step, and is answered at its eleventh.
+#[test]
+fn log_and_mappings(rt: HostRuntime) -> Result<(), Fail> {
+    for (input, show, output) in [
+        (b"vm 1 4\n".as_slice(), Show::OutcomesAndLog, b"".as_slice()),
+        (b"vm 1 4\nc0 flush\n", Show::Maps, b""),
+        // A call that has no reply yet is in no log.
+        (
+            b"vm 1 4\nc0! mmap 0x10000 0 rw- pfa\nc0! mmap 0x10000 4096 rw- pfa\nc0 call load 0x10000\n",
+            Show::OutcomesAndLog,
+            b"einval\n0x10000\nstep\nlog 2 call 1 einval\nlog 12 call 2 0x10000\n",
+        ),
+        // Two mappings of neighbouring file pages are one.
+        (
+            b"vm 1 4\nfile 0 r 8192 0\nc0! mmap 0x11000 4096 r-x pf 0 4096\nc0! mmap 0x10000 4096 r-x pf 0 0\nc0! mmap 0x12000 4096 r-x pfa\n",
+            Show::Maps,
+            b"0x10000-0x12000 r-x private 0 0x0\n0x12000-0x13000 r-x anon\n",
+        ),
+    ] {
+        let mut reader = Counted::new(input);
+        let mut writer = Noted::new(Vec::new(rt.alloc()));
+        assert_eq!(rt; replay(rt.alloc(), &mut reader, &mut writer, show), Ok(()));
+        assert_eq!(rt; writer.writer.as_slice(), output);
+    }
+    Ok(())
+}
+
+// After a fault neither comes.
+#[test]
+fn nothing_behind_a_fault(rt: HostRuntime) -> Result<(), Fail> {
+    for (show, output) in [
+        (Show::OutcomesAndLog, b"0x10000\n".as_slice()),
+        (Show::Maps, b"".as_slice()),
+    ] {
+        let mut reader = Counted::new(b"vm 1 4\nc0! mmap 0x10000 4096 rw- pfa\nfrob\n".as_slice());
+        let mut writer = Noted::new(Vec::new(rt.alloc()));
+        let result = replay(rt.alloc(), &mut reader, &mut writer, show);
+        assert_eq!(rt; result, Err(TraceFault::BadLine(3)));
+        assert_eq!(rt; writer.writer.as_slice(), output);
+    }
+    Ok(())
+}

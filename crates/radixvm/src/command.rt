@@ -10,8 +10,8 @@ use std::alloc::{AllocError, Allocator, Global};
 use std::env::Env;
 use std::io::Write;
 use std::{env, io};
-use trace_io::sink::{Sink, write_all};
 use trace::shown::Show;
+use trace_io::sink::{Sink, write_all};
 use trace_io::source::Source;
 
 // The program's words.

@@ -374,6 +374,8 @@ fn help_and_version(rt: HostRuntime) -> Result<(), Fail> {
             "mprotect ADDR LEN PROT",
             "segv maperr",
             "setup S5",
+            "log STEP call CALL REPLY",
+            "START-END PROT BACK",
         ] {
             assert!(rt; text.contains(part));
         }
@@ -395,6 +397,18 @@ fn bad_words(rt: HostRuntime) -> Result<(), Fail> {
         [b"radixvm".as_slice(), b"frob".as_slice()].as_slice(),
         [b"radixvm".as_slice(), b"--frob".as_slice()].as_slice(),
         [b"radixvm".as_slice(), b"run".as_slice(), b"now".as_slice()].as_slice(),
+        [
+            b"radixvm".as_slice(),
+            b"maps".as_slice(),
+            b"--log".as_slice(),
+        ]
+        .as_slice(),
+        [
+            b"radixvm".as_slice(),
+            b"--log".as_slice(),
+            b"run".as_slice(),
+        ]
+        .as_slice(),
         [b"radixvm".as_slice(), b"run".as_slice(), b"\xff".as_slice()].as_slice(),
     ] {
         let ran = run_words(rt.alloc(), &rt.alloc(), words, STORED, AMPLE);
@@ -439,6 +453,32 @@ fn no_memory_for_the_replay(rt: HostRuntime) -> Result<(), Fail> {
         let status = job::run(&heap, &mut reader, &mut out, &mut errors, Show::Outcomes);
         assert_eq!(rt; errors.as_slice(), fault);
         assert_eq!(rt; status, 3);
+    }
+    Ok(())
+}
+
+// The store has its reply at its tenth step, each load at its third.
+#[test]
+fn log_and_mappings(rt: HostRuntime) -> Result<(), Fail> {
+    for (words, output) in [
+        (
+            [
+                b"radixvm".as_slice(),
+                b"run".as_slice(),
+                b"--log".as_slice(),
+            ]
+            .as_slice(),
+            b"0x10000\ndone\n41\n0\nlog 9 call 1 0x10000\nlog 21 call 2 done\nlog 25 call 3 41\nlog 29 call 4 0\n".as_slice(),
+        ),
+        (
+            [b"radixvm".as_slice(), b"maps".as_slice()].as_slice(),
+            b"0x10000-0x11000 rw- anon\n".as_slice(),
+        ),
+    ] {
+        let ran = run_words(rt.alloc(), &rt.alloc(), words, STORED, AMPLE);
+        assert_eq!(rt; ran.out.as_slice(), output);
+        assert_eq!(rt; ran.errors.as_slice(), b"".as_slice());
+        assert_eq!(rt; ran.status, 0);
     }
     Ok(())
 }
