@@ -41,9 +41,9 @@ pub record AreRead (input : List ℕ) (unread : Option (List ℕ)) (done : List 
   pub reader : unread ≡ Some rest
 
 -- After a fault the text of the lines before it has gone out, where it is shown, and nothing comes behind it. After a failed write a front of
--- the text has, or, where all lines were acted on, of it and what comes behind it, which of the mappings are the first ones. After a failed read no newline is among what was read behind
--- those lines. Memory may be wanting before anything is read (unmade), and where a step of the machine was refused; then no more than its
--- line was read.
+-- the text has, or, where all lines were acted on, a front of it and of what comes behind it, or of the first mappings (closing). After a
+-- failed read no newline is among what was read behind those lines. Memory may be wanting before anything is read (unmade), and where a
+-- step of the machine was refused; then no more than its line was read.
 pub data Stops (show : Show) (input : List ℕ) (unread old new : Option (List ℕ)) (f : TraceFault) : Type 0 where
   reading : f ≡ ReadFailed → (p : Front input) (r : AreRead input unread p.done) → IsUnbroken r.held
       → Appends old new (told show p.text) → Stops show input unread old new f

@@ -44,7 +44,8 @@ mapping_text line = map_line line.range line.prot line.back
 unfoldable pub maps_text : List MapLine → List ℕ
 maps_text lines = flat_map mapping_text lines
 
--- Of the plain page map to which the log leads: these are its mappings from page 1 up to this one, in order. Up to the first event it has none.
+-- Of the plain page map to which the log leads: these are its mappings from page 1 up to this one, in order. Up to the first event it has
+-- none.
 abbrev pub ListsUpTo : Stage → ℕ → List MapLine → Type 0
 ListsUpTo Start end lines = lines ≡ []
 ListsUpTo (Declared a) end lines = lines ≡ []
