@@ -1,5 +1,5 @@
 -- The mappings, written one after another.
-use Rattle.std.proofs.Common.{◌≡◌, ℕ, ◌+◌, ◌^◌, ◌<◌, ◌≤◌, List, [], ◌∷◌, ◌++◌, Option, None, Some, IfSome, ⊎_elim, inl, inr, arith, refl, sym, ap, ◌∙◌, subst, append-nil}
+use Rattle.std.proofs.Common.{◌≡◌, ℕ, ◌^◌, ◌<◌, ◌≤◌, List, [], ◌∷◌, ◌++◌, Option, None, Some, IfSome, ⊎_elim, inl, inr, arith, refl, sym, ap, ◌∙◌, subst, append-nil}
 use Rattle.std.proofs.Math.Logic.{∥∥₁_elim}
 use Rattle.std.proofs.Props.{props}
 use Rattle.std.proofs.lemmas.Bool.{cases_lt}
@@ -25,7 +25,8 @@ none_then : (meta : ℕ → Option Meta) (first m end : ℕ) → NoneMapped meta
 none_then meta first m end h g = λ p a b. ⊎_elim (λ (l : p < m). h p a l) (λ (l : m ≤ p). g p l b) (cases_lt p m)
 
 -- one line more
-lists_more : (meta : ℕ → Option Meta) (first m : ℕ) (xs : List MapLine) (y : MapLine) → first ≤ m → ListsLines meta first m xs → IsNextLine meta m y
+lists_more : (meta : ℕ → Option Meta) (first m : ℕ) (xs : List MapLine) (y : MapLine) → first ≤ m → ListsLines meta first m xs
+    → IsNextLine meta m y
     → ListsLines meta first y.range.end (xs ++ y ∷ [])
 lists_more meta first m [] y l h next = (
   record { is = next.is; low = (let a = next.low in omega arith); before = none_then meta first m y.range.first h next.before },

@@ -1,8 +1,6 @@
 -- Whole runs, a line at a time.
 use Rattle.std.proofs.Common.{◌≡◌, ◌≢◌, ℕ, zero, suc, ◌+◌, ◌<◌, ◌≤◌, false, Bool, cond, List, [], ◌∷◌, ◌++◌, Option, None, Some, Result, Ok, Err, IfSome, IfErr, OnOk, length, take, ◌⊎◌, inl, inr, arith, refl, sym, ap, ◌∙◌, subst, eqb, append_assoc, append-nil, length-append}
 use Rattle.std.proofs.lemmas.Bool.{ne_eqb}
-use Rattle.std.proofs.Math.Seq.{take-append-add}
-use Rattle.std.proofs.lemmas.Grind.{common_steps}
 use Rattle.std.proofs.KnownBytes.{Appends-nil, Appends-trans, Appends-kept}
 use Rattle.std.specs.Io.KnownBytes.{Keeps, Appends, IsAtEnd, prepend_known}
 use Rattle.trace_io.specs.Lines.{onto, lines_of, IsUnbroken, IsFirstLine, TakesLine, BeginsTooLong}
@@ -13,7 +11,7 @@ use Rattle.trace.specs.declared.fault.TraceFault.TheVariants.{TooLong, NoMemory,
 use Rattle.trace.specs.Stage.{Stage, Start, LineFails, CanOpen, OpenFails, Acts}
 use Rattle.trace.specs.Runs.{Runs}
 use Rattle.trace.specs.declared.shown.Show.{Show}
-use Rattle.trace.specs.Shown.{told, IsBehind, IsBegunBehind, Closes, ClosesFront, CloseFails}
+use Rattle.trace.specs.Shown.{told, IsBehind, IsBegunBehind, Closes, CloseFails}
 use Rattle.trace.proofs.ShownLemmas.{begun_behind, told_more, told_none, front_more, whole_front}
 use Rattle.trace.specs.Turns.{Scene, Advances, IsOver, Fails, read_fails, unsent, too_long, no_memory, refused, unwritten}
 use Rattle.trace.specs.Ends.{Front, AreRead, Stops, reading, unmade, wanting, overlong, refusing, unopened, writing, closing, Ends}
@@ -138,7 +136,8 @@ pub record HasRun (show : Show) (input : List ℕ) (old : Option (List ℕ)) (no
   pub count : number ≡ length done
 
 -- nothing has been read yet
-pub run_none : (show : Show) (input : List ℕ) (old : Option (List ℕ)) (now : Scene) → now.left ≡ Some input → now.stage ≡ Start → now.written ≡ old → HasRun show input old now 0
+pub run_none : (show : Show) (input : List ℕ) (old : Option (List ℕ)) (now : Scene) → now.left ≡ Some input → now.stage ≡ Start
+    → now.written ≡ old → HasRun show input old now 0
 run_none show input old now e s w = record {
   done = [];
   text = [];
@@ -251,12 +250,14 @@ pub some_init : (show : Show) (o wo : Option (List ℕ)) (stage : Stage) (w : Wi
 some_init show None wo stage w e s = tt
 some_init show (Some input) wo stage w e s = run_none show input wo _ (ap (left (Some input)) e) s refl
 
-pub some_more : (show : Show) (o wo : Option (List ℕ)) (now next : Scene) (n : ℕ) → IfSome o (λ input. HasRun show input wo now n) → Advances show now next
+pub some_more : (show : Show) (o wo : Option (List ℕ)) (now next : Scene) (n : ℕ)
+    → IfSome o (λ input. HasRun show input wo now n) → Advances show now next
     → IfSome o (λ input. HasRun show input wo next (n + 1))
 some_more show None wo now next n h a = tt
 some_more show (Some input) wo now next n h a = run_more show input wo now next n h a
 
-pub some_fails : (show : Show) (o wo : Option (List ℕ)) (now next : Scene) (n : ℕ) (f : TraceFault) → IfSome o (λ input. HasRun show input wo now n)
+pub some_fails : (show : Show) (o wo : Option (List ℕ)) (now next : Scene) (n : ℕ) (f : TraceFault)
+    → IfSome o (λ input. HasRun show input wo now n)
     → Fails show now next n f → IfSome o (λ input. Stops show input next.unread wo next.written f)
 some_fails show None wo now next n f h a = tt
 some_fails show (Some input) wo now next n f h a = run_fails show input wo now next n f h a
@@ -304,7 +305,8 @@ front_kept : (a b c : Option (List ℕ)) (xs : List ℕ) → AppendsFront a b xs
 front_kept a b c xs p k = (p.0, p.1, Appends-kept a b c (take p.0 xs) p.2 k)
 
 -- a flush keeps what was written
-stops_kept : (show : Show) (input : List ℕ) (unread a b c : Option (List ℕ)) (f : TraceFault) → Stops show input unread a b f → Keeps b c → Stops show input unread a c f
+stops_kept : (show : Show) (input : List ℕ) (unread a b c : Option (List ℕ)) (f : TraceFault) → Stops show input unread a b f
+    → Keeps b c → Stops show input unread a c f
 stops_kept show input unread a b c f (reading e p r u w) k = reading e p r u (Appends-kept _ _ _ _ w k)
 stops_kept show input unread a b c f (unmade e u w) k = unmade e u (Appends-kept _ _ _ _ w k)
 stops_kept show input unread a b c f (wanting e p line others m r n w) k = wanting e p line others m r n (Appends-kept _ _ _ _ w k)
@@ -314,7 +316,8 @@ stops_kept show input unread a b c f (unopened p e q w) k = unopened p e q (Appe
 stops_kept show input unread a b c f (writing e p w) k = writing e p (front_kept _ _ _ _ w k)
 stops_kept show input unread a b c f (closing e p m o behind is w) k = closing e p m o behind is (front_kept _ _ _ _ w k)
 
-ends_kept : {T : Type 0} (show : Show) (input : List ℕ) (unread a b c : Option (List ℕ)) (r : Result T TraceFault) → Ends show input unread a b r → Keeps b c
+ends_kept : {T : Type 0} (show : Show) (input : List ℕ) (unread a b c : Option (List ℕ)) (r : Result T TraceFault)
+    → Ends show input unread a b r → Keeps b c
     → Ends show input unread a c r
 ends_kept show input unread a b c (Ok x) h k = record {
   stage = h.stage;
@@ -330,7 +333,8 @@ ends_kept show input unread a b c (Err f) h k = stops_kept show input unread a b
 nothing_run : (input : List ℕ) → Front input
 nothing_run input = record { done = []; more = lines_of input; stage = Start; text = []; lines = refl; runs = (refl, refl) }
 
-stops_lost : (show : Show) (input : List ℕ) (unread a b : Option (List ℕ)) (f : TraceFault) → Stops show input unread a b f → Stops show input unread a b WriteFailed
+stops_lost : (show : Show) (input : List ℕ) (unread a b : Option (List ℕ)) (f : TraceFault) → Stops show input unread a b f
+    → Stops show input unread a b WriteFailed
 unfolding nothing_run
 stops_lost show input unread a b f (reading e p r u w) = writing refl p (whole_front _ _ _ w)
 stops_lost show input unread a b f (unmade e u w) =
@@ -342,7 +346,8 @@ stops_lost show input unread a b f (unopened p e q w) = writing refl p (whole_fr
 stops_lost show input unread a b f (writing e p w) = writing refl p w
 stops_lost show input unread a b f (closing e p m o behind is w) = closing refl p m o behind is w
 
-ends_lost : {T : Type 0} (show : Show) (input : List ℕ) (unread a b : Option (List ℕ)) (r : Result T TraceFault) → Ends show input unread a b r
+ends_lost : {T : Type 0} (show : Show) (input : List ℕ) (unread a b : Option (List ℕ)) (r : Result T TraceFault)
+    → Ends show input unread a b r
     → Stops show input unread a b WriteFailed
 ends_lost show input unread a b (Ok x) h =
     closing refl (record {
@@ -355,12 +360,14 @@ ends_lost show input unread a b (Ok x) h =
     }) refl h.opens h.behind (begun_behind show h.stage h.behind h.is) (whole_front _ _ _ h.appends)
 ends_lost show input unread a b (Err f) h = stops_lost show input unread a b f h
 
-pub some_kept : {T : Type 0} (show : Show) (o unread a b c : Option (List ℕ)) (r : Result T TraceFault) → IfSome o (λ input. Ends show input unread a b r)
+pub some_kept : {T : Type 0} (show : Show) (o unread a b c : Option (List ℕ)) (r : Result T TraceFault)
+    → IfSome o (λ input. Ends show input unread a b r)
     → Keeps b c → IfSome o (λ input. Ends show input unread a c r)
 some_kept show None unread a b c r h k = tt
 some_kept show (Some input) unread a b c r h k = ends_kept show input unread a b c r h k
 
-pub some_lost : {T : Type 0} (show : Show) (o unread a b c : Option (List ℕ)) (r : Result T TraceFault) → IfSome o (λ input. Ends show input unread a b r)
+pub some_lost : {T : Type 0} (show : Show) (o unread a b c : Option (List ℕ)) (r : Result T TraceFault)
+    → IfSome o (λ input. Ends show input unread a b r)
     → Keeps b c → IfSome o (λ input. Stops show input unread a c WriteFailed)
 some_lost show None unread a b c r h k = tt
 some_lost show (Some input) unread a b c r h k = stops_kept show input unread a b c WriteFailed (ends_lost show input unread a b r h) k
@@ -375,6 +382,7 @@ pub fault_kept : {T U : Type 0} (r : Result T TraceFault) (s : Result U TraceFau
 fault_kept r s f a b c e d (inl w) k = let same : f ≡ WriteFailed = cc in inl (d ∙ ap Err same)
 fault_kept r s f a b c e d (inr l) k = inr (l ∙ k)
 
-pub mark_then : {T : Type 0} (r : Result T TraceFault) (a b c : Bool) → (r ≡ Err WriteFailed) ⊎ (c ≡ b) → b ≡ a → (r ≡ Err WriteFailed) ⊎ (c ≡ a)
+pub mark_then : {T : Type 0} (r : Result T TraceFault) (a b c : Bool) → (r ≡ Err WriteFailed) ⊎ (c ≡ b) → b ≡ a
+    → (r ≡ Err WriteFailed) ⊎ (c ≡ a)
 mark_then r a b c (inl w) k = inl w
 mark_then r a b c (inr l) k = inr (l ∙ k)

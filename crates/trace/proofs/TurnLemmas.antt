@@ -105,7 +105,8 @@ unfolding is_own
 end_not_write s f h e = let clash : false ≡ true = sym (ap is_own e) ∙ own_open s f h in cc
 
 -- a line that wasn't acted on fails the turn
-pub act_fails : (show : Show) (old new : Scene) (n : ℕ) (line held seen : List ℕ) (f : TraceFault) → Keeps old.written new.written → length line ≤ 256
+pub act_fails : (show : Show) (old new : Scene) (n : ℕ) (line held seen : List ℕ) (f : TraceFault)
+    → Keeps old.written new.written → length line ≤ 256
     → IsUnbroken line → TakesLine old.left new.left line → IsHeld held new → seen ≡ line
     → ((f ≡ NoMemory) × LineWants old.stage seen) ⊎ LineFails old.stage (n + 1) seen f → Fails show old new n f
 act_fails show old new n line held seen f keeps short unbroken takes holds same (inl e) =
@@ -120,7 +121,8 @@ appends_after (Some x) (Some y) None xs k p = absurd p
 appends_after (Some x) (Some y) (Some z) xs k p = p ∙ ap (λ l. l ++ xs) k
 
 -- a line whose text wasn't written whole fails the turn
-pub text_lost : (show : Show) (old new : Scene) (mid : Option (List ℕ)) (n : ℕ) (line seen text : List ℕ) → length line ≤ 256 → IsUnbroken line
+pub text_lost : (show : Show) (old new : Scene) (mid : Option (List ℕ)) (n : ℕ) (line seen text : List ℕ) → length line ≤ 256
+    → IsUnbroken line
     → TakesLine old.left new.left line → seen ≡ line → Acts old.stage seen new.stage text
     → Keeps old.written mid → AppendsFront mid new.written (told show text) → Fails show old new n WriteFailed
 text_lost show old new mid n line seen text short unbroken takes same acts keeps front =

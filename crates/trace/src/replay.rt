@@ -144,8 +144,9 @@ fn replay_text<A: Allocator + Clone + Drop, S: Source, W: Sink>(
 }
 
 /// Acts on each line as it is read, and writes its text before the next line is acted on; at the end of the trace, if no fault came, the
-/// log comes behind the text, or the list of mappings in place of it, where it is to be shown. The text goes out before each read that a line has to wait for, and at the end,
-/// after a fault too. A write or a flush that fails ends the replay, and is told even where another fault came first.
+/// log comes behind the text, or the list of mappings in place of it, where it is to be shown. What is written goes out before each read
+/// that a line has to wait for, and at the end, after a fault too. A write or a flush that fails ends the replay, and is told even where
+/// another fault came first.
 pub fn replay<A: Allocator + Clone + Drop, S: Source, W: Sink>(
     alloc: A,
     reader: &mut S,

@@ -1,4 +1,4 @@
-use Rattle.std.proofs.Common.{arith, refl, inr, ap, Ok, ◌∙◌}
+use Rattle.std.proofs.Common.{arith, refl, ap, Ok, ◌∙◌}
 use Rattle.trace.proofs.RunLemmas.{some_init, some_more, some_fails, some_ends, mark_kept, mark_then, fault_kept}
 use Rattle.trace.proofs.replay.replay_lines.Goals as goal
 

@@ -1,4 +1,4 @@
-use Rattle.std.proofs.Common.{refl, ◌∙◌}
+use Rattle.std.proofs.Common.{refl}
 use Rattle.trace.specs.Turns.{read_fails, unsent}
 use Rattle.trace.proofs.TurnLemmas.{not_read, not_write, act_fails, text_lost}
 use Rattle.trace.proofs.replay.turn.Goals as goal

@@ -1,4 +1,4 @@
-use Rattle.std.proofs.Common.{arith, refl, subst, ap, ◌∙◌, ◌+◌}
+use Rattle.std.proofs.Common.{arith, refl, subst, ◌∙◌}
 use Rattle.std.specs.Io.KnownBytes.{Appends}
 use Rattle.trace_io.specs.Sink.{AppendsFront}
 use Rattle.trace.proofs.ShownLemmas.{log_none, log_more, log_front}

@@ -1,7 +1,7 @@
-use Rattle.std.proofs.Common.{arith, refl, subst, ◌∙◌}
+use Rattle.std.proofs.Common.{refl, subst, ◌∙◌}
 use Rattle.std.specs.Io.KnownBytes.{Appends}
 use Rattle.trace_io.specs.Sink.{AppendsFront}
-use Rattle.trace.proofs.MapsLemmas.{goes_up, listed_none, listed_more, listed_front, listed_all}
+use Rattle.trace.proofs.MapsLemmas.{listed_none, listed_more, listed_front, listed_all}
 use Rattle.trace.proofs.shown.write_maps.Goals as goal
 
 pub lines-init : goal.lines-init
