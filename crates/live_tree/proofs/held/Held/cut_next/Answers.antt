@@ -12,14 +12,14 @@ use Rattle.live_tree.proofs.held.Held.cut_next.Goals.{After-put_in_place}
 
 -- the first slot that crosses an edge was replaced by its parts, and all guards still lie side by side
 cut : (g : _) (c : After-put_in_place g) → CutsFirst c.args.range (record {
-      first = c.self.inside.first;
-      end = c.self.inside.end;
-      slots = map slot_of c.self.inside.guards.items;
-    }) (record {
-      first = c.self.inside.first;
-      end = c.self.inside.end;
-      slots = map slot_of c.put_in_place.new.guards.items;
-    })
+  first = c.self.inside.first;
+  end = c.self.inside.end;
+  slots = map slot_of c.self.inside.guards.items;
+}) (record {
+  first = c.self.inside.first;
+  end = c.self.inside.end;
+  slots = map slot_of c.put_in_place.new.guards.items;
+})
     × (All IsSome c.put_in_place.new.guards.items
     × SideBySide c.self.inside.first c.self.inside.end (map slot_of c.put_in_place.new.guards.items))
 cut g c =

@@ -209,14 +209,20 @@ narrow g t c =
     let ends = ap (λ v. (cell_at (runs v) c.args.end).offset) c.self.view_is ∙ c.requires.ends in
     elim c.match-index_mut.branch [
       | in-Own w ↦
-          rw w.self-inside-is (refl, own_narrow _ w.in-Own.state w.edit.new.self c.args.by c.args.edit.now c.self.invariant at
-          (sym w.in-Own.is ∙ c.index_mut.ensures.value) begins ends c.requires.sound w.edit.ensures)
+          rw w.self-inside-is (
+            refl,
+            own_narrow _ w.in-Own.state w.edit.new.self c.args.by c.args.edit.now c.self.invariant at
+                (sym w.in-Own.is ∙ c.index_mut.ensures.value) begins ends c.requires.sound w.edit.ensures,
+          )
       | in-Child w ↦
-          rw w.self-inside-is (refl, child_narrow _ w.in-Child.node (record w.in-Child.node { value = w.edit-in-Child.new.self })
-          w.deref_mut.result.now c.args.by c.args.edit.now c.self.invariant at
-          (sym w.in-Child.is ∙ c.index_mut.ensures.value) w.deref_mut.ensures.value
-          w.edit-in-Child.ensures.level w.edit-in-Child.ensures.whole w.edit-in-Child.ensures.inside
-          w.edit-in-Child.ensures.outside)
+          rw w.self-inside-is (
+            refl,
+            child_narrow _ w.in-Child.node (record w.in-Child.node { value = w.edit-in-Child.new.self })
+                w.deref_mut.result.now c.args.by c.args.edit.now c.self.invariant at
+                (sym w.in-Child.is ∙ c.index_mut.ensures.value) w.deref_mut.ensures.value
+                w.edit-in-Child.ensures.level w.edit-in-Child.ensures.whole w.edit-in-Child.ensures.inside
+                w.edit-in-Child.ensures.outside,
+          )
     ]
 
 pub invariant_of-self : goal.invariant_of-self
