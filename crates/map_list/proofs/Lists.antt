@@ -11,7 +11,7 @@ none_then : (meta : ℕ → Option Meta) (first m end : ℕ) → NoneMapped meta
 none_then meta first m end h g = λ p a b. ⊎_elim (λ (l : p < m). h p a l) (λ (l : m ≤ p). g p l b) (cases_lt p m)
 
 -- one more line
-lists_more : (meta : ℕ → Option Meta) (first m : ℕ) (xs : List MapLine) (y : MapLine) → first ≤ m → ListsLines meta first m xs → IsNextLine meta m y
+pub lists_more : (meta : ℕ → Option Meta) (first m : ℕ) (xs : List MapLine) (y : MapLine) → first ≤ m → ListsLines meta first m xs → IsNextLine meta m y
     → ListsLines meta first y.range.end (xs ++ y ∷ [])
 lists_more meta first m [] y l h next = (
   record { is = next.is; low = (let a = next.low in omega arith); before = none_then meta first m y.range.first h next.before },
@@ -25,7 +25,7 @@ lists_more meta first m (x ∷ xs) y l h next = (
 )
 
 -- no more lines
-lists_end : (meta : ℕ → Option Meta) (first m end : ℕ) (xs : List MapLine) → m ≤ end → ListsLines meta first m xs → NoneMapped meta m end
+pub lists_end : (meta : ℕ → Option Meta) (first m end : ℕ) (xs : List MapLine) → m ≤ end → ListsLines meta first m xs → NoneMapped meta m end
     → ListsLines meta first end xs
 lists_end meta first m end [] l h none = none_then meta first m end h none
 lists_end meta first m end (x ∷ xs) l h none = (h.0, (let a = h.1 in omega arith), lists_end meta x.range.end m end xs l h.2 none)

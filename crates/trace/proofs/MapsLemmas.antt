@@ -1,15 +1,14 @@
 -- The mappings, written one after another.
-use Rattle.std.proofs.Common.{◌≡◌, ℕ, ◌^◌, ◌<◌, ◌≤◌, List, [], ◌∷◌, ◌++◌, Option, None, Some, IfSome, ⊎_elim, inl, inr, arith, refl, sym, ap, ◌∙◌, subst, append-nil}
+use Rattle.std.proofs.Common.{◌≡◌, ℕ, ◌^◌, ◌<◌, ◌≤◌, List, [], ◌∷◌, ◌++◌, Option, None, Some, IfSome, inl, inr, arith, refl, sym, ap, ◌∙◌, subst, append-nil}
 use Rattle.std.proofs.Math.Logic.{∥∥₁_elim}
 use Rattle.std.proofs.Props.{props}
-use Rattle.std.proofs.lemmas.Bool.{cases_lt}
 use Rattle.std.proofs.lemmas.Grind.{flat_map-append}
 use Rattle.std.proofs.KnownBytes.{Appends-nil, Appends-trans}
 use Rattle.std.specs.List.{flat_map}
 use Rattle.std.specs.Io.KnownBytes.{Appends}
 use Rattle.map_list.specs.declared.lines.MapLine.{MapLine}
-use Rattle.vm_base.specs.declared.info.Meta.{Meta}
-use Rattle.map_list.specs.Lines.{IsNextLine, ListsLines, NoneMapped, plain_metas}
+use Rattle.map_list.specs.Lines.{plain_metas}
+use Rattle.map_list.proofs.Lists.{lists_end, lists_more}
 use Rattle.machine_model.specs.World.{World}
 use Rattle.core_steps.specs.Machine.{IsLegal}
 use Rattle.core_steps.specs.MapLines.{IsNextMap}
@@ -18,32 +17,6 @@ use Rattle.trace.specs.declared.shown.Show.TheVariants.{Maps}
 use Rattle.trace.specs.Stage.{Stage, Start, Declared, Running}
 use Rattle.trace.specs.Shown.{mapping_text, maps_text, ListsUpTo, IsStartAt, IsNextAt, HasNoneAt, IsBehind, IsBegunBehind}
 use Rattle.trace.proofs.ShownLemmas.{front_more}
-
--- ---- lists that grow at their end
-
-none_then : (meta : ℕ → Option Meta) (first m end : ℕ) → NoneMapped meta first m → NoneMapped meta m end → NoneMapped meta first end
-none_then meta first m end h g = λ p a b. ⊎_elim (λ (l : p < m). h p a l) (λ (l : m ≤ p). g p l b) (cases_lt p m)
-
--- one line more
-lists_more : (meta : ℕ → Option Meta) (first m : ℕ) (xs : List MapLine) (y : MapLine) → first ≤ m → ListsLines meta first m xs
-    → IsNextLine meta m y
-    → ListsLines meta first y.range.end (xs ++ y ∷ [])
-lists_more meta first m [] y l h next = (
-  record { is = next.is; low = (let a = next.low in omega arith); before = none_then meta first m y.range.first h next.before },
-  omega arith,
-  λ p a b. absurd (omega arith),
-)
-lists_more meta first m (x ∷ xs) y l h next = (
-  h.0,
-  (let a = h.1 in let b = next.low in let c = next.is.pages.some in omega arith),
-  lists_more meta x.range.end m xs y h.1 h.2 next,
-)
-
--- no line more
-lists_end : (meta : ℕ → Option Meta) (first m end : ℕ) (xs : List MapLine) → m ≤ end → ListsLines meta first m xs → NoneMapped meta m end
-    → ListsLines meta first end xs
-lists_end meta first m end [] l h none = none_then meta first m end h none
-lists_end meta first m end (x ∷ xs) l h none = (h.0, (let a = h.1 in omega arith), lists_end meta x.range.end m end xs l h.2 none)
 
 -- ---- the mappings of a trace
 

@@ -44,8 +44,8 @@ mapping_text line = map_line line.range line.prot line.back
 unfoldable pub maps_text : List MapLine → List ℕ
 maps_text lines = flat_map mapping_text lines
 
--- Of the plain page map to which the log leads: these are its mappings from page 1 up to this one, in order. Up to the first event it has
--- none.
+-- Of the plain page map to which the log leads: these are its mappings from page 1 up to this one,
+-- in order. Up to the first event it has none.
 abbrev pub ListsUpTo : Stage → ℕ → List MapLine → Type 0
 ListsUpTo Start end lines = lines ≡ []
 ListsUpTo (Declared a) end lines = lines ≡ []
@@ -61,7 +61,8 @@ IsStartAt (Running w) from = IsLineStart w from
 abbrev pub IsNextAt : Stage → ℕ → MapLine → Type 0
 IsNextAt Start from line = ⊥
 IsNextAt (Declared a) from line = ⊥
-IsNextAt (Running w) from line = IsNextMap w from line × (from < line.range.end) × (line.range.end ≤ 2 ^ 35)
+IsNextAt (Running w) from line =
+    IsNextMap w from line × (from < line.range.end) × (line.range.end ≤ 2 ^ 35)
 
 -- there is none
 abbrev pub HasNoneAt : Stage → ℕ → Type 0
@@ -79,7 +80,8 @@ IsBehind Maps s text = (lines : List MapLine) × ListsUpTo s (2 ^ 35) lines × (
 abbrev pub IsBegunBehind : Show → Stage → List ℕ → Type 0
 IsBegunBehind Outcomes s text = IsBehind Outcomes s text
 IsBegunBehind OutcomesAndLog s text = IsBehind OutcomesAndLog s text
-IsBegunBehind Maps s text = (end : ℕ) × (lines : List MapLine) × ListsUpTo s end lines × (text ≡ maps_text lines)
+IsBegunBehind Maps s text =
+    (end : ℕ) × (lines : List MapLine) × ListsUpTo s end lines × (text ≡ maps_text lines)
 
 -- a machine could be made, and what comes behind the outcomes was written
 pub record Closes (show : Show) (s : Stage) (old new : Option (List ℕ)) : Type 0 where
@@ -97,4 +99,5 @@ pub record ClosesFront (show : Show) (s : Stage) (old new : Option (List ℕ)) :
 
 -- why a trace couldn't be closed
 abbrev pub CloseFails : Show → Stage → Option (List ℕ) → Option (List ℕ) → TraceFault → Type 0
-CloseFails show s old new f = (OpenFails s f × Keeps old new) ⊎ ((f ≡ WriteFailed) × ClosesFront show s old new)
+CloseFails show s old new f =
+    (OpenFails s f × Keeps old new) ⊎ ((f ≡ WriteFailed) × ClosesFront show s old new)
