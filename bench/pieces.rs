@@ -1,7 +1,7 @@
 //! Plain Rust programs that the parts are measured against: one page locked and unlocked among many slots; of a radix tree,
-//! a page looked up, a page changed, ranges looked through, and ranges changed; translations that the TLB has, anywhere and
-//! at each of its ends, and ones that it fills; the table entries of a large range dropped; bytes of frames, filled frames
-//! and copied ones; and references counted, flushed and reviewed. Standard library alone.
+//! a page looked up, a page changed, ranges looked through, and ranges changed; room found in a map of runs; translations
+//! that the TLB has, anywhere and at each of its ends, and ones that it fills; the table entries of a large range dropped;
+//! bytes of frames, filled frames and copied ones; and references counted, flushed and reviewed. Standard library alone.
 //! Build: `rustc --edition 2021 -C opt-level=3 bench/pieces.rs`.
 use std::collections::{BTreeMap, VecDeque};
 use std::hint::black_box;
@@ -390,6 +390,69 @@ fn edits(pages: u64, rounds: u64) -> Duration {
     let took = start.elapsed();
     assert!(tree.page(first).is_none());
     took
+}
+
+// ---- room in a map of mapped runs
+
+/// The mapped pages from its key up to `end`. A mapping of many pages is one run.
+struct Mapped {
+    end: u64,
+    #[allow(dead_code)]
+    info: Info,
+}
+
+struct Mappings {
+    by_start: BTreeMap<u64, Mapped>,
+}
+
+impl Mappings {
+    /// So many mappings of `width` pages, one from each `step` pages to the next.
+    fn filled(first: u64, count: u64, width: u64, step: u64) -> Mappings {
+        let info = Info { back: Back::Anon, prot: READ_WRITE, frame: None, cores: 0 };
+        let run = |k: u64| (first + k * step, Mapped { end: first + k * step + width, info });
+        Mappings { by_start: (0..count).map(run).collect() }
+    }
+
+    /// The least start of `n` free pages from `first` up to `end`.
+    fn free_run(&self, first: u64, end: u64, n: u64) -> Option<u64> {
+        let mut open = match self.by_start.range(..first).next_back() {
+            Some((_, run)) => run.end.max(first),
+            None => first,
+        };
+        for (start, run) in self.by_start.range(first..end) {
+            if open + n <= *start {
+                return Some(open);
+            }
+            open = run.end;
+        }
+        (open + n <= end).then_some(open)
+    }
+}
+
+/// Looks for 2 to 16 free pages, which are found at this page.
+fn finds(map: &Mappings, first: u64, end: u64, room: u64, rounds: u64) -> Duration {
+    let mut found = 0u64;
+    let start = Instant::now();
+    for round in 0..rounds {
+        if black_box(map).free_run(first, end, 2 + round % 15) == Some(room) {
+            found += 1;
+        }
+    }
+    let took = start.elapsed();
+    assert_eq!(found, rounds);
+    took
+}
+
+/// In a window that begins with one mapping of twice so many pages.
+fn room(pages: u64, rounds: u64) -> Duration {
+    let (first, end) = black_box((0x800_0000, 0x1000_0000));
+    finds(&Mappings::filled(first, 1, 2 * pages, 0), first, end, first + 2 * pages, rounds)
+}
+
+/// After twice so many mappings of one page, between which there is one free page each.
+fn gaps(pages: u64, rounds: u64) -> Duration {
+    let (first, end) = black_box((16, 0x800_0000));
+    finds(&Mappings::filled(first, 2 * pages, 1, 2), first, end, first + 4 * pages - 1, rounds)
 }
 
 // ---- tables and TLB
@@ -900,6 +963,8 @@ fn main() {
         Some("tree") => (changes(50_000, 5_000_000), 5_000_000),
         Some("scan") => (scans(50_000, 5_000), 5_000),
         Some("edit") => (edits(50_000, 2_000), 2_000),
+        Some("room") => (room(50_000, 1_000_000), 1_000_000),
+        Some("gaps") => (gaps(50_000, 1_000), 1_000),
         Some("hit") => (hits(50_000_000, 0, 37), 50_000_000),
         Some("oldest") => (hits(50_000_000, 0, 0), 50_000_000),
         Some("newest") => (hits(50_000_000, 63, 0), 50_000_000),

@@ -26,8 +26,8 @@ cached_pages (Some f) k = get_or f.cached k None
 abbrev pub cached_in : List FileParts → ℕ → ℕ → Option ℕ
 cached_in fs n = cached_pages (slice_get fs n)
 
--- The bytes of a file's page as they now are: those of the frame that caches it, which stores may have changed, or else the
--- file's own.
+-- The bytes of a file's page as they now are: those of the frame that caches it, which stores may
+-- have changed, or else the file's own.
 abbrev pub bytes_now : Option ℕ → (ℕ → Bytes) → Bytes → Bytes
 bytes_now None frames own = own
 bytes_now (Some g) frames own = frames g

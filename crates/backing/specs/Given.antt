@@ -20,7 +20,11 @@ given_files specs n = given_file (slice_get specs n)
 
 -- the open file of which no page is cached yet
 abbrev pub opened : {A : Type 0} → FileSpec A → FileParts
-opened s = record { mode = s.mode; bytes = s.bytes.items; cached = replicate (page_count (length s.bytes.items)) None }
+opened s = record {
+  mode = s.mode;
+  bytes = s.bytes.items;
+  cached = replicate (page_count (length s.bytes.items)) None;
+}
 
 abbrev pub is_shared : Sharing → Bool
 is_shared Private = false

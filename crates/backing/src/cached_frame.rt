@@ -3,8 +3,8 @@ ghost use Rattle.std.specs.Prelude.{◌≡◌, Some, None};
 
 use std::marker::Model;
 
-/// The frame that caches one page of a file, if one does. It takes no memory. A clause sees it as the frame's number or
-/// none.
+/// The frame that caches one page of a file, if one does. It takes no memory. A clause sees it as
+/// the frame's number or none.
 #[derive(Clone, Copy, Debug, PartialEq, Eq)]
 pub struct CachedFrame {
     number: Option<u32>,

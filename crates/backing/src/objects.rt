@@ -9,8 +9,9 @@ use std::alloc::{AllocError, Allocator};
 use std::marker::Model;
 use vm_base::{Errno, Mode, Prot};
 
-/// The open files by their numbers from 0 on, at most 16, and the frames that cache their pages. Once they are made, no
-/// call takes memory or fails. A clause sees the files as `files_of`, and the caching frames as `cached_in`.
+/// The open files by their numbers from 0 on, at most 16, and the frames that cache their pages.
+/// Once they are made, no call takes memory or fails. A clause sees the files as `files_of`, and
+/// the caching frames as `cached_in`.
 #[derive(Drop)]
 pub struct Objects<A: Allocator> {
     files: Vec<FileObject<A>, A>,
@@ -46,7 +47,8 @@ impl<A: Allocator + Clone> Objects<A> {
     ghost use Rattle.backing.specs.Files.{files_of, cached_in};
     ghost use Rattle.backing.specs.Given.{given_files};
 
-    /// Opens the files, of which no page is cached; their bytes are moved, not copied. The error says that memory ran out.
+    /// Opens the files, of which no page is cached; their bytes are moved, not copied. The error
+    /// says that memory ran out.
     pub fn new(alloc: A, files: Vec<FileSpec<A>, A>) -> Result<Objects<A>, AllocError>
         requires { length files.items ≤ 16 }
         ensures files { IfOk result (λ o. files_of o ≡ given_files files.items) }
@@ -89,9 +91,9 @@ impl<A: Allocator> Objects<A> {
         }
     }
 
-    /// Tells whether the file lets itself be mapped so (POSIX.1-2017, mmap, ERRORS), in this order: `EBADF` where there is
-    /// no such file; `EACCES` where it isn't open for reading, or where pages are to be shared and written and it isn't
-    /// open for writing.
+    /// Tells whether the file lets itself be mapped so (POSIX.1-2017, mmap, ERRORS), in this order:
+    /// `EBADF` where there is no such file; `EACCES` where it isn't open for reading, or where
+    /// pages are to be shared and written and it isn't open for writing.
     pub fn may(&self, file: u64, sharing: Sharing, prot: Prot) -> Result<(), Errno>
         ensures { (len : ℕ) (off : ℕ) (flags : Flags) → flags.shared ≡ is_shared sharing
             → off + len ≤ 2 ^ 47
@@ -109,8 +111,8 @@ impl<A: Allocator> Objects<A> {
         Ok(())
     }
 
-    /// Tells whether a page lies wholly past the end of its file, in which case an access to it gets `SIGBUS`
-    /// (POSIX.1-2017, mmap). There may be no such file, and then no page of it.
+    /// Tells whether a page lies wholly past the end of its file, in which case an access to it
+    /// gets `SIGBUS` (POSIX.1-2017, mmap). There may be no such file, and then no page of it.
     pub fn is_past_end(&self, file: u32, page: u64) -> bool
         ensures { result ≡ not (is_some (file_bytes (files_of self.now file) page)) }
     {
@@ -121,8 +123,8 @@ impl<A: Allocator> Objects<A> {
         }
     }
 
-    /// A file's own byte in a page that it has, at an offset in bytes; zero after the file's length. What stores changed
-    /// isn't seen here, but in the frame that caches the page.
+    /// A file's own byte in a page that it has, at an offset in bytes; zero after the file's
+    /// length. What stores changed isn't seen here, but in the frame that caches the page.
     pub fn byte(&self, file: u32, page: u64, offset: usize) -> u8
         requires page { is_some (file_bytes (files_of self.now file) page) ≡ true }
         requires offset { offset < 4096 }
@@ -131,7 +133,8 @@ impl<A: Allocator> Objects<A> {
         self.files[file as usize].byte(page, offset)
     }
 
-    /// A file's own bytes of a page that it has, up to the file's length: at most 4,096, after which the page has zeros.
+    /// A file's own bytes of a page that it has, up to the file's length: at most 4,096, after
+    /// which the page has zeros.
     pub fn own_bytes(&self, file: u32, page: u64) -> &[u8]
         requires { is_some (file_bytes (files_of self.now file) page) ≡ true }
         ensures short { length result.now ≤ 4096 }
@@ -163,8 +166,9 @@ impl<A: Allocator> Objects<A> {
         self.files[file as usize].set_cached(page, frame);
     }
 
-    /// Gives a frame the bytes of a file's page as they now are: those of the frame that caches it, or else the file's own
-    /// bytes, and zeros after them. The caller has seen that a caching frame is one of `frames`.
+    /// Gives a frame the bytes of a file's page as they now are: those of the frame that caches it,
+    /// or else the file's own bytes, and zeros after them. The caller has seen that a caching frame
+    /// is one of `frames`.
     pub fn fill(&self, file: u32, page: u64, frames: &mut Frames<A>, frame: u32)
         requires page { is_some (file_bytes (files_of self.now file) page) ≡ true }
         requires frame { frame < frames.old.count }

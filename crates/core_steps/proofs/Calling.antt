@@ -3,8 +3,8 @@ use Rattle.std.proofs.Common.{◌≡◌, ℕ, suc, ◌<◌, Bool, true, false, n
 use Rattle.std.specs.Prelude.{slice_set}
 use Rattle.vm_base.specs.declared.requests.Request.{Request}
 use Rattle.slot_lock.specs.Slots.{Slots}
-use Rattle.backing.specs.Files.{FileParts, files_of, cached_in}
-use Rattle.frames.specs.Parts.{FrameParts, frame_bytes, free_frames}
+use Rattle.backing.specs.Files.{FileParts}
+use Rattle.frames.specs.Parts.{FrameParts}
 use Rattle.refcache.specs.Counts.{Counts}
 use Rattle.machine_model.specs.declared.event.Outcome.TheVariants.{Stepped}
 use Rattle.machine_model.specs.declared.log.Entry.{Entry}
@@ -13,25 +13,15 @@ use Rattle.machine_model.specs.declared.phase.Phase.TheVariants.{Free, Check}
 use Rattle.machine_model.specs.World.{World, Hardware}
 use Rattle.machine_model.specs.Actions.{to}
 use Rattle.machine_model.specs.Step.{Begins, after_call}
-use Rattle.core_steps.specs.State.{phase_at, number_at}
+use Rattle.core_steps.specs.State.{phase_at, number_at, world_with}
 use Rattle.core_steps.proofs.Lists.{number_set}
 use Rattle.core_steps.proofs.Rows.{if_true}
 
 -- the state of an engine whose calls have these parts
 abbrev listed : Slots → Hardware → FrameParts → Counts → List FileParts → List Phase → List ℕ → List Request → List Entry → ℕ → ℕ → World
 listed slots hardware frames counts files phases numbers requests log limit events =
-    record {
-      made = record { cores = length phases; frames = frames.count; calls = limit; file = files_of files };
-      slots = slots;
-      hardware = hardware;
-      memory = record {
-        bytes = frame_bytes frames;
-        is_free = free_frames frames;
-        counts = counts;
-        cached = cached_in files;
-      };
-      calls = record { phase = phase_at phases; number = number_at numbers; requests = requests; log = log; events = events };
-    }
+    world_with slots hardware frames counts files (length phases) limit
+    (record { phase = phase_at phases; number = number_at numbers; requests = requests; log = log; events = events })
 
 -- the request is kept, and the core's call has its number
 pub numbered : (slots : Slots) (hardware : Hardware) (frames : FrameParts) (counts : Counts) (files : List FileParts) (phases : List Phase)

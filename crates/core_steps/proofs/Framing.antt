@@ -182,10 +182,10 @@ alone_at w c phase touch i e s = record {
 }
 
 pub fill_alone : (w : World) (c : ℕ) (touch : Touch) (frame : Option ℕ) → IsAt w c (Fill touch frame) → IsAloneAt w.slots c touch.page
-fill_alone w c touch frame i = alone_at w c (Fill touch frame) touch i refl (sound_at w c (Fill touch frame) (PlanOf.Touch touch) i tt (λ h. h))
+fill_alone w c touch frame i = alone_at w c (Fill touch frame) touch i refl (sound_at w c (Fill touch frame) (PlanOf.Touch touch) i (λ h. h))
 
 pub copy_alone : (w : World) (c : ℕ) (touch : Touch) (f : ℕ) → IsAt w c (CopyAcks touch f) → IsAloneAt w.slots c touch.page
-copy_alone w c touch f i = alone_at w c (CopyAcks touch f) touch i refl (sound_at w c (CopyAcks touch f) (PlanOf.Touch touch) i tt (λ h. h))
+copy_alone w c touch f i = alone_at w c (CopyAcks touch f) touch i refl (sound_at w c (CopyAcks touch f) (PlanOf.Touch touch) i (λ h. h))
 
 pub taken_here : (w : World) (c : ℕ) (phase : Phase) → IsAt w c phase → IfSome (taken_in phase) (λ f. (f < w.made.frames) × (w.memory.is_free f ≡ false))
 taken_here w c phase i = go (taken_in phase) refl

@@ -1,5 +1,5 @@
 -- What the code learns of the core that is to make a step: it knows only that the state is one that runs reach
-use Rattle.std.proofs.Common.{◌≡◌, ◌≢◌, ℕ, ◌+◌, ◌<◌, ◌≤◌, ◌^◌, ◌==◌, ◌||◌, Bool, true, false, List, [], ◌∷◌, Option, Some, None, is_some, refl, sym, subst, ap, arith, cond, ◌∙◌, pos, ◌<ℤ◌, ◌≤ℤ◌, ◌&&◌}
+use Rattle.std.proofs.Common.{◌≡◌, ◌≢◌, ℕ, ◌+◌, ◌<◌, ◌≤◌, ◌^◌, ◌==◌, ◌||◌, Bool, true, false, List, [], ◌∷◌, Option, Some, None, is_some, refl, sym, subst, ap, arith, cond, ◌∙◌, pos, ◌<ℤ◌, ◌≤ℤ◌, ◌&&◌, nat_lt}
 use Rattle.std.specs.Prelude.{if◌then◌else◌, IfSome}
 use Rattle.std.proofs.Math.Logic.{∥∥₁_elim, ∥∥₁_map}
 use Rattle.std.proofs.Props.{props}
@@ -21,11 +21,17 @@ use Rattle.slot_lock.specs.declared.plan.Change.TheVariants.{Put, Clear, Protect
 use Rattle.slot_lock.specs.declared.plan.Plan.{Plan}
 use Rattle.slot_lock.specs.declared.plan.Plan.TheVariants as PlanOf
 use Rattle.slot_lock.specs.declared.plan.Touch.{Touch}
-use Rattle.slot_lock.specs.Plan.{range_of, IsSound, IsSoundChange, IsSoundTouch}
+use Rattle.slot_lock.specs.declared.plan.Goal.{Goal}
+use Rattle.slot_lock.specs.declared.plan.Goal.TheVariants as To
+use Rattle.slot_lock.specs.declared.plan.Place.{Place}
+use Rattle.slot_lock.specs.declared.plan.Target.{Target}
+use Rattle.slot_lock.specs.declared.plan.Target.TheVariants.{Hint, Run, Window}
+use Rattle.slot_lock.specs.Plan.{goal_plan, goal_range, range_of, target_range, HasTarget, IsSound, IsSoundGoal, IsSoundTouch}
 use Rattle.slot_lock.specs.Slots.{IsSlot, IsHeld, IsUser}
 use Rattle.vm_calls.specs.declared.decision.Decision.TheVariants.{Act}
 use Rattle.vm_calls.specs.Decisions.{Decides}
 use Rattle.vm_calls.specs.Decisions.DecidesProtect.{no_page, no_write, acts}
+use Rattle.vm_calls.proofs.Passed.{checked_is_sound}
 use Rattle.mmu.specs.declared.entry.Translation.{Translation}
 use Rattle.mmu.specs.declared.tlb.TlbEntry.{TlbEntry}
 use Rattle.mmu.specs.declared.translated.Translated.TheVariants as By
@@ -41,25 +47,24 @@ use Rattle.refcache.specs.Counts.{Counts, true_count}
 use Rattle.refcache.specs.Sound.{IsReached}
 use Rattle.refcache.specs.Steps.{Takes, Reviewing, IsUnused}
 use Rattle.refcache.proofs.Reached.{reached_is_orderly}
-use Rattle.machine_model.specs.declared.phase.Goal.{Goal}
-use Rattle.machine_model.specs.declared.phase.Goal.TheVariants as To
 use Rattle.machine_model.specs.declared.phase.Phase.{Phase}
-use Rattle.machine_model.specs.declared.phase.Phase.TheVariants.{Free, Check, Lock, Decide, Post, Acks, Unlock, Answer, Try, Settle, Want, Fill, CopyPost, CopyAcks, Install, Release}
+use Rattle.machine_model.specs.declared.phase.Phase.TheVariants.{Free, Check, Lock, Guess, Find, Back, Cut, Decide, Post, Acks, Unlock, Answer, Try, Settle, Want, Fill, CopyPost, CopyAcks, Install, Release}
 use Rattle.machine_model.specs.World.{World}
 use Rattle.machine_model.specs.Changes.{AwaitsNobody}
 use Rattle.machine_model.specs.Files.{is_private, shows_some, prot_shown, prot_installed}
-use Rattle.machine_model.specs.Holding.{can_give_up, awaits_in, goal_plan, goal_range, holds, is_open, page_of_touch, plan_in, range_held, some_has, taken_in}
+use Rattle.machine_model.specs.Holding.{can_give_up, awaits_in, holds, is_open, page_of_touch, plan_in, range_held, some_has, taken_in}
 use Rattle.machine_model.specs.Translating.{entry_for, entry_of_page, translated_by, frame_reached}
 use Rattle.machine_counting.specs.Counted.{users_of}
 use Rattle.machine_counting.proofs.Kept.{counted_positive, framed_page}
 use Rattle.machine_laws.specs.Orderly.{IsOrderly, IsAsked, IsCutFor, IsCutRange, IsUsable, Serves, answer_count}
-use Rattle.machine_laws.proofs.Deciding.{IsUnplaced, change_sound, touch_sound, sound_range}
+use Rattle.machine_laws.proofs.Deciding.{acts_valid, goal_valid, sound_range}
 use Rattle.machine_laws.proofs.Moves.{call_at, IsCallOf}
 use Rattle.machine_laws.proofs.OpenCalls.{one, open_put}
 use Rattle.machine_coherence.specs.Coherent.{Every, IsSoundEntry, AreAsked}
 use Rattle.machine_sound.specs.Invariant.{Fine}
-use Rattle.core_steps.specs.Moving.{IsAt}
+use Rattle.core_steps.specs.Moving.{IsAt, goal_in}
 use Rattle.core_steps.specs.Taking.{AreCounted}
+use Rattle.core_steps.proofs.Sounding.{goal_if, place_if, range_if, sound_if}
 
 -- ---- the order
 
@@ -248,61 +253,39 @@ frame_below w c touch f t h = go (tlb_at (w.hardware.tlb c) touch.page) (w.hardw
 
 -- ---- its plan passed the check of the arguments, and so is sound
 
-asked_at : (w : World) (c : ℕ) (phase : Phase) (plan : Plan) → IsAt w c phase
-    → (IsAsked w.made w.calls.requests c (w.calls.number c) phase → Serves w.made w.calls.requests c (w.calls.number c) plan)
-    → ∥ Serves w.made w.calls.requests c (w.calls.number c) plan ∥₁
-asked_at w c phase plan i serves = ∥∥₁_map (order i) (λ g. serves (call_at w c phase i.phase g).asked)
+-- the core is one of at most 64
+few_here : (w : World) (c : ℕ) → IsOrderly w → c < w.made.cores → c < 64
+few_here w c g here = let few = g.few in omega (arith, few, here)
 
-abbrev Asked : World → ℕ → Plan → Type 0
-Asked w c plan = ∥ Serves w.made w.calls.requests c (w.calls.number c) plan ∥₁
+served : (w : World) (c : ℕ) (plan : Plan) → IsOrderly w → c < w.made.cores
+    → Serves w.made w.calls.requests c (w.calls.number c) plan → IsSound plan
+served w c plan g here s = checked_is_sound _ c s.request plan (few_here w c g here) s.passed
 
-sound_in : (w : World) (c : ℕ) (change : Change) → Serves w.made w.calls.requests c (w.calls.number c) (PlanOf.Change change) → IsSoundChange change
-sound_in w c change s = change_sound _ c s.request change s.passed
-
--- what is said of a range and of a plan is a proposition
-range_in : (w : World) (c : ℕ) (change : Change) → Asked w c (PlanOf.Change change) → IsPageRange (range_of change)
-range_in w c change t = record {
-  some = ∥∥₁_elim t (hlevel props) (λ s. (sound_range change (sound_in w c change s)).some);
-  low = ∥∥₁_elim t (hlevel props) (λ s. (sound_range change (sound_in w c change s)).low);
-  high = ∥∥₁_elim t (hlevel props) (λ s. (sound_range change (sound_in w c change s)).high);
-}
-
-sound_if : (w : World) (c : ℕ) (plan : Plan) → IsUnplaced plan → Asked w c plan → IsSound plan
-sound_if w c (PlanOf.Place place) u t = absurd u
-sound_if w c (PlanOf.Change (Put range meta)) u t = record {
-  pages = range_in w c (Put range meta) t;
-  fits = ∥∥₁_elim t (hlevel props) (λ s. (sound_in w c (Put range meta) s).fits);
-}
-sound_if w c (PlanOf.Change (Clear range)) u t = range_in w c (Clear range) t
-sound_if w c (PlanOf.Change (Protect range prot)) u t = range_in w c (Protect range prot) t
-sound_if w c (PlanOf.Touch touch) u t = record {
-  page = ∥∥₁_elim t (hlevel props) (λ s. (touch_sound _ c s.request touch s.passed).page);
-  offset = ∥∥₁_elim t (hlevel props) (λ s. (touch_sound _ c s.request touch s.passed).offset);
-}
-
-pub sound_at : (w : World) (c : ℕ) (phase : Phase) (plan : Plan) → IsAt w c phase → IsUnplaced plan
+pub sound_at : (w : World) (c : ℕ) (phase : Phase) (plan : Plan) → IsAt w c phase
     → (IsAsked w.made w.calls.requests c (w.calls.number c) phase → Serves w.made w.calls.requests c (w.calls.number c) plan) → IsSound plan
-sound_at w c phase plan i u serves = sound_if w c plan u (asked_at w c phase plan i serves)
+sound_at w c phase plan i serves =
+    sound_if plan (∥∥₁_map (order i) (λ g. served w c plan g i.here (serves (call_at w c phase i.phase g).asked)))
 
-unplaced : (goal : Goal) → IsUnplaced (goal_plan goal)
-unplaced (To.Change change) = tt
-unplaced (To.Access touch) = tt
+-- and so is its goal, where its target is of its mapping
+pub goal_at : (w : World) (c : ℕ) (phase : Phase) (goal : Goal) → IsAt w c phase
+    → (IsAsked w.made w.calls.requests c (w.calls.number c) phase → Serves w.made w.calls.requests c (w.calls.number c) (goal_plan goal))
+    → (IsCallOf w c phase → HasTarget goal) → IsSoundGoal goal
+goal_at w c phase goal i serves has_target =
+    goal_if goal (∥∥₁_map (order i) (λ g.
+    let call = call_at w c phase i.phase g in
+    record { plan = served w c (goal_plan goal) g i.here (serves call.asked); target = has_target call }))
 
-pub goal_sound : (w : World) (c : ℕ) (goal : Goal) (cursor : ℕ) → IsAt w c (Lock goal cursor) → IsSound (goal_plan goal)
-goal_sound w c goal cursor i = sound_at w c (Lock goal cursor) (goal_plan goal) i (unplaced goal) (λ h. h)
+pub goal_sound : (w : World) (c : ℕ) (goal : Goal) (cursor : ℕ) → IsAt w c (Lock goal cursor) → IsSoundGoal goal
+goal_sound w c goal cursor i = goal_at w c (Lock goal cursor) goal i (λ h. h) (λ call. call.ready.2)
 
 -- ---- the pages that are to be locked
 
 pub touch_range : (touch : Touch) → IsSoundTouch touch → IsPageRange (page_of_touch touch)
 touch_range touch h = record { some = omega arith; low = h.page.0; high = let last = h.page.1 in omega (arith, last) }
 
-goal_pages : (goal : Goal) → IsSound (goal_plan goal) → IsPageRange (goal_range goal)
-goal_pages (To.Change change) h = sound_range change h
-goal_pages (To.Access touch) h = touch_range touch h
-
 pub range_ends : (w : World) (c : ℕ) (goal : Goal) (cursor : ℕ) → IsAt w c (Lock goal cursor) → (1 ≤ cursor) × ((goal_range goal).end ≤ 2 ^ 35)
 range_ends w c goal cursor i =
-    let pages = goal_pages goal (goal_sound w c goal cursor i) in
+    let pages = goal_valid goal (goal_sound w c goal cursor i) in
     let low = pages.low in
     (∥∥₁_elim (order i) (hlevel props) (λ g. let from = (call_at w c (Lock goal cursor) i.phase g).ready.0 in omega (arith, low, from)), pages.high)
 
@@ -361,7 +344,7 @@ nobody_awaited w c phase i idle d = go (message_of (w.hardware.inbox d) c) refl
 user_here : (w : World) (range : PageRange) (d : ℕ) → IsOrderly w → IsUser w.slots range d → d < w.made.cores
 user_here w range d g u = (g.pages u.0).cores d u.2
 
-shot_by : (w : World) (change : Change) (shoot d : ℕ) → Decides w.made.file w.slots (PlanOf.Change change) (Act (range_of change) shoot)
+shot_by : (w : World) (change : Change) (shoot d : ℕ) → Decides w.made.file w.slots (To.Change change) (Act (range_of change) shoot)
     → members shoot d ≡ true → IsUser w.slots (range_of change) d
 shot_by w (Put range meta) shoot d h m = (h.1 d).0 m
 shot_by w (Clear range) shoot d h m = (h.1 d).0 m
@@ -379,7 +362,7 @@ valid_range range h = let low = h.low in let high = h.high in grind (arith, nat_
 pub change_pages : (w : World) (c : ℕ) (phase : Phase) (change : Change) → IsAt w c phase
     → (IsAsked w.made w.calls.requests c (w.calls.number c) phase → Serves w.made w.calls.requests c (w.calls.number c) (PlanOf.Change change))
     → are_pages (range_of change) ≡ true
-change_pages w c phase change i serves = valid_range (range_of change) (sound_range change (sound_at w c phase (PlanOf.Change change) i tt serves))
+change_pages w c phase change i serves = valid_range (range_of change) (sound_range change (sound_at w c phase (PlanOf.Change change) i serves))
 
 -- the oldest message is of valid pages
 abbrev pub IsValidAsked : Took → Type 0
@@ -387,30 +370,44 @@ IsValidAsked (TookOf.Clear range) = are_pages range ≡ true
 IsValidAsked (TookOf.Invalidate range) = are_pages range ≡ true
 IsValidAsked TookOf.Idle = Unit {0}
 
-awaited_pages : (w : World) (c : ℕ) (range : PageRange) (phase : Phase) → IsOrderly w → w.calls.phase c ≡ phase
+awaited_pages : (w : World) (c : ℕ) (range : PageRange) (phase : Phase) → IsOrderly w → w.calls.phase c ≡ phase → c < w.made.cores
     → awaits_in phase ≡ Some range → are_pages range ≡ true
-awaited_pages w c range (Acks change held) g e h =
-    let call = call_at w c (Acks change held) e g in
+awaited_pages w c range (Acks goal change) g e here h =
+    let call = call_at w c (Acks goal change) e g in
+    let sound : IsSoundGoal goal = record { plan = served w c (goal_plan goal) g here call.asked; target = call.ready.0 } in
     let same : range_of change ≡ range = cc in
-    subst (λ r. are_pages r ≡ true) same (valid_range (range_of change) (sound_range change (sound_in w c change call.asked)))
-awaited_pages w c range (CopyAcks touch frame) g e h =
+    subst (λ r. are_pages r ≡ true) same
+    (valid_range (range_of change) (acts_valid _ w.slots goal (range_of change) call.ready.2.0 sound call.ready.2.1))
+awaited_pages w c range (CopyAcks touch frame) g e here h =
     let call = call_at w c (CopyAcks touch frame) e g in
     let same : page_of_touch touch ≡ range = cc in
-    subst (λ r. are_pages r ≡ true) same (valid_range (page_of_touch touch) (touch_range touch (touch_sound _ c call.asked.request touch call.asked.passed)))
-awaited_pages w c range Free g e h = absurd cc
-awaited_pages w c range (Check request) g e h = absurd cc
-awaited_pages w c range (Lock goal cursor) g e h = absurd cc
-awaited_pages w c range (Decide change) g e h = absurd cc
-awaited_pages w c range (Post change shoot) g e h = absurd cc
-awaited_pages w c range (Unlock held reply) g e h = absurd cc
-awaited_pages w c range (Answer reply) g e h = absurd cc
-awaited_pages w c range (Try touch) g e h = absurd cc
-awaited_pages w c range (Settle touch) g e h = absurd cc
-awaited_pages w c range (Want touch old) g e h = absurd cc
-awaited_pages w c range (Fill touch frame) g e h = absurd cc
-awaited_pages w c range (CopyPost touch frame) g e h = absurd cc
-awaited_pages w c range (Install touch) g e h = absurd cc
-awaited_pages w c range (Release touch) g e h = absurd cc
+    subst (λ r. are_pages r ≡ true) same (valid_range (page_of_touch touch) (touch_range touch (served w c (PlanOf.Touch touch) g here call.asked)))
+awaited_pages w c range Free g e here h = absurd cc
+awaited_pages w c range (Check request) g e here h = absurd cc
+awaited_pages w c range (Lock goal cursor) g e here h = absurd cc
+awaited_pages w c range (Guess place) g e here h = absurd cc
+awaited_pages w c range (Find place target) g e here h = absurd cc
+awaited_pages w c range (Back place target held) g e here h = absurd cc
+awaited_pages w c range (Cut place target changes) g e here h = absurd cc
+awaited_pages w c range (Decide change) g e here h = absurd cc
+awaited_pages w c range (Post change shoot) g e here h = absurd cc
+awaited_pages w c range (Unlock held reply) g e here h = absurd cc
+awaited_pages w c range (Answer reply) g e here h = absurd cc
+awaited_pages w c range (Try touch) g e here h = absurd cc
+awaited_pages w c range (Settle touch) g e here h = absurd cc
+awaited_pages w c range (Want touch old) g e here h = absurd cc
+awaited_pages w c range (Fill touch frame) g e here h = absurd cc
+awaited_pages w c range (CopyPost touch frame) g e here h = absurd cc
+awaited_pages w c range (Install touch) g e here h = absurd cc
+awaited_pages w c range (Release touch) g e here h = absurd cc
+
+-- a call that awaits pages is of one of the machine's cores
+awaits_here : (w : World) (c : ℕ) (range : PageRange) → IsOrderly w → awaits_in (w.calls.phase c) ≡ Some range → c < w.made.cores
+awaits_here w c range g h = go (nat_lt c w.made.cores) refl
+  where
+    go : (b : Bool) → nat_lt c w.made.cores ≡ b → c < w.made.cores
+    go true e = grind (arith, nat_tests)
+    go false e = let outside : w.calls.phase c ≡ Free = g.outside c (grind (arith, nat_tests, e)) in absurd cc
 
 pub message_pages : (w : World) (d : ℕ) → ∥ Fine w ∥₁ → (took : Took) → took ≡ asked (w.hardware.inbox d) → IsValidAsked took
 message_pages w d t took e = subst IsValidAsked (sym e) (go (w.hardware.inbox d) refl)
@@ -423,7 +420,8 @@ message_pages w d t took e = subst IsValidAsked (sym e) (go (w.hardware.inbox d)
     go [] same = tt
     go (m ∷ ms) same =
         by m m.is_cleared (∥∥₁_elim t (hlevel props) (λ g.
-        awaited_pages w m.from m.range (w.calls.phase m.from) g.order refl (subst (AreAsked w.calls.phase d) same (g.coherent.asked d)).1))
+        let awaited_one = (subst (AreAsked w.calls.phase d) same (g.coherent.asked d)).1 in
+        awaited_pages w m.from m.range (w.calls.phase m.from) g.order refl (awaits_here w m.from m.range g.order awaited_one) awaited_one))
 
 pub valid_page : (p : ℕ) → IsPage p → is_page p ≡ true
 valid_page p h = let low = h.0 in let high = h.1 in grind (arith, nat_tests, low, high)
@@ -485,30 +483,38 @@ install_mapped w c touch i e =
     let usable = install_page w c touch (call_at w c (Install touch) i.phase g) in
     subst (λ o. IsUsable w.made.file o touch.access (Some usable.0)) e usable.1)
 
--- ---- the plan of a call, whatever its phase
+-- ---- the goal of a call that holds pages for one, whatever its phase
 
-pub plan_sound : (w : World) (c : ℕ) (phase : Phase) → IsAt w c phase → IfSome (plan_in phase) IsSound
-plan_sound w c Free i = tt
-plan_sound w c (Check request) i = tt
-plan_sound w c (Lock goal cursor) i = goal_sound w c goal cursor i
-plan_sound w c (Decide change) i = sound_at w c (Decide change) (PlanOf.Change change) i tt (λ h. h)
-plan_sound w c (Post change shoot) i = sound_at w c (Post change shoot) (PlanOf.Change change) i tt (λ h. h)
-plan_sound w c (Acks change held) i = sound_at w c (Acks change held) (PlanOf.Change change) i tt (λ h. h)
-plan_sound w c (Unlock held reply) i = tt
-plan_sound w c (Answer reply) i = tt
-plan_sound w c (Try touch) i = sound_at w c (Try touch) (PlanOf.Touch touch) i tt (λ h. h)
-plan_sound w c (Settle touch) i = sound_at w c (Settle touch) (PlanOf.Touch touch) i tt (λ h. h)
-plan_sound w c (Want touch old) i = sound_at w c (Want touch old) (PlanOf.Touch touch) i tt (λ h. h)
-plan_sound w c (Fill touch frame) i = sound_at w c (Fill touch frame) (PlanOf.Touch touch) i tt (λ h. h)
-plan_sound w c (CopyPost touch frame) i = sound_at w c (CopyPost touch frame) (PlanOf.Touch touch) i tt (λ h. h)
-plan_sound w c (CopyAcks touch frame) i = sound_at w c (CopyAcks touch frame) (PlanOf.Touch touch) i tt (λ h. h)
-plan_sound w c (Install touch) i = sound_at w c (Install touch) (PlanOf.Touch touch) i tt (λ h. h)
-plan_sound w c (Release touch) i = sound_at w c (Release touch) (PlanOf.Touch touch) i tt (λ h. h)
+pub goal_in_sound : (w : World) (c : ℕ) (phase : Phase) → IsAt w c phase → IfSome (goal_in phase) IsSoundGoal
+goal_in_sound w c Free i = tt
+goal_in_sound w c (Check request) i = tt
+goal_in_sound w c (Lock goal cursor) i = goal_sound w c goal cursor i
+goal_in_sound w c (Guess place) i = tt
+goal_in_sound w c (Find place target) i = goal_at w c (Find place target) (To.Place place target) i (λ h. h) (λ call. call.ready)
+goal_in_sound w c (Back place target held) i = tt
+goal_in_sound w c (Cut place target range) i = goal_at w c (Cut place target range) (To.Place place target) i (λ h. h) (λ call. call.ready.0)
+goal_in_sound w c (Decide change) i = goal_at w c (Decide change) (To.Change change) i (λ h. h) (λ call. tt)
+goal_in_sound w c (Post change shoot) i = goal_at w c (Post change shoot) (To.Change change) i (λ h. h) (λ call. tt)
+goal_in_sound w c (Acks goal change) i = goal_at w c (Acks goal change) goal i (λ h. h) (λ call. call.ready.0)
+goal_in_sound w c (Unlock held reply) i = tt
+goal_in_sound w c (Answer reply) i = tt
+goal_in_sound w c (Try touch) i = tt
+goal_in_sound w c (Settle touch) i = goal_at w c (Settle touch) (To.Access touch) i (λ h. h) (λ call. tt)
+goal_in_sound w c (Want touch old) i = goal_at w c (Want touch old) (To.Access touch) i (λ h. h) (λ call. tt)
+goal_in_sound w c (Fill touch frame) i = goal_at w c (Fill touch frame) (To.Access touch) i (λ h. h) (λ call. tt)
+goal_in_sound w c (CopyPost touch frame) i = goal_at w c (CopyPost touch frame) (To.Access touch) i (λ h. h) (λ call. tt)
+goal_in_sound w c (CopyAcks touch frame) i = goal_at w c (CopyAcks touch frame) (To.Access touch) i (λ h. h) (λ call. tt)
+goal_in_sound w c (Install touch) i = goal_at w c (Install touch) (To.Access touch) i (λ h. h) (λ call. tt)
+goal_in_sound w c (Release touch) i = goal_at w c (Release touch) (To.Access touch) i (λ h. h) (λ call. tt)
 
 -- a call that may be given up has no reply yet
 pub opened : (phase : Phase) → can_give_up phase ≡ true → is_open phase ≡ true
 opened (Check request) e = refl
 opened (Lock goal cursor) e = refl
+opened (Guess place) e = refl
+opened (Find place target) e = refl
+opened (Back place target held) e = refl
+opened (Cut place target range) e = refl
 opened (Decide change) e = refl
 opened (Post change shoot) e = refl
 opened (Try touch) e = refl
@@ -520,6 +526,6 @@ opened (CopyAcks touch frame) e = refl
 opened (Install touch) e = refl
 opened (Release touch) e = refl
 opened Free e = absurd cc
-opened (Acks change held) e = absurd cc
+opened (Acks goal change) e = absurd cc
 opened (Unlock held reply) e = absurd cc
 opened (Answer reply) e = absurd cc

@@ -3,9 +3,12 @@ pub mod Each
 pub mod Rows
 pub mod Lost
 pub mod Opened
+pub mod Sounding
 pub mod Known
+pub mod Placing
 pub mod Changing
 pub mod Framing
 pub mod Calling
 pub mod Reached
 pub mod Runs
+pub mod MapLines

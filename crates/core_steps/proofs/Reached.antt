@@ -1,8 +1,9 @@
 -- What a machine knows of the state that it has: some run leads to it
-use Rattle.std.proofs.Common.{◌≡◌, ℕ, ◌<◌, ◌+◌, sym, subst, Result, Ok, Err}
+use Rattle.std.proofs.Common.{◌≡◌, ℕ, ◌<◌, ◌≤◌, ◌+◌, ◌||◌, Bool, true, false, nat_lt, Option, None, Some, refl, sym, subst, arith, Result, Ok, Err}
 use Rattle.std.proofs.Math.Numerals.{add-one}
-use Rattle.std.specs.Prelude.{IfOk, ◌≢◌}
+use Rattle.std.specs.Prelude.{IfOk, ◌≢◌, if◌then◌else◌}
 use Rattle.std.proofs.Math.Logic.{∥∥₁_map}
+use Rattle.std.proofs.lemmas.Bool.Decides.{nat_tests}
 use Rattle.vm_base.specs.declared.memory.NoMemory.{NoMemory}
 use Rattle.slot_lock.specs.Slots.{Slots, IsNew}
 use Rattle.machine_model.specs.declared.event.Event.{Event}
@@ -19,7 +20,9 @@ use Rattle.core_steps.specs.declared.setup.Setup.{Setup}
 use Rattle.core_steps.specs.Finishing.{Finishes, IsRefused, finish_limit}
 use Rattle.core_steps.specs.Machine.{IsLegal}
 use Rattle.core_steps.specs.Moving.{MayWant, Tries}
-use Rattle.core_steps.specs.Setups.{made_of}
+use Rattle.core_steps.specs.declared.setup.SetupFault.{SetupFault}
+use Rattle.core_steps.specs.declared.setup.SetupFault.TheVariants.{Cores}
+use Rattle.core_steps.specs.Setups.{fault_of, made_of}
 
 pub fine : (w : World) → ∥ IsReached w ∥₁ → ∥ Fine w ∥₁
 fine w t = ∥∥₁_map t (reached_fine w)
@@ -27,8 +30,19 @@ fine w t = ∥∥₁_map t (reached_fine w)
 pub legal : (w : World) → ∥ IsReached w ∥₁ → IsLegal w
 legal w t = record { reached = t; sound = ∥∥₁_map t (reached_sound w) }
 
-pub new_reached : {A : Type 0} (w : World) (s : Setup A) (slots : Slots) → IsNew slots → w ≡ new_world (made_of s) slots → ∥ IsReached w ∥₁
-new_reached w s slots n e = subst (λ u. ∥ IsReached u ∥₁) (sym e) ∣ reached_opening (made_of s) slots n ∣₁
+-- a setup without fault has at most 64 cores
+pub few_cores : {A : Type 0} (s : Setup A) → fault_of s ≡ None → s.cores ≤ 64
+few_cores s e =
+    let not_many : (nat_lt s.cores 1 || nat_lt 64 s.cores) ≡ false = first (nat_lt s.cores 1 || nat_lt 64 s.cores) _ e in
+    grind (arith, nat_tests, not_many)
+  where
+    first : (b : Bool) (rest : Option SetupFault) → (if b then Some Cores else rest) ≡ None → b ≡ false
+    first true rest h = absurd cc
+    first false rest h = refl
+
+pub new_reached : {A : Type 0} (w : World) (s : Setup A) (slots : Slots) → fault_of s ≡ None → IsNew slots → w ≡ new_world (made_of s) slots
+    → ∥ IsReached w ∥₁
+new_reached w s slots fine_setup n e = subst (λ u. ∥ IsReached u ∥₁) (sym e) ∣ reached_opening (made_of s) slots (few_cores s fine_setup) n ∣₁
 
 -- a step was made, or refused
 pub kept_by : (r : Result Outcome NoMemory) (w v : World) (e : Event) → Tries (Step w e) (MayWant w e) w r v → ∥ IsReached w ∥₁ → ∥ IsReached v ∥₁

@@ -16,7 +16,7 @@ use Rattle.machine_model.specs.declared.event.Outcome.{Outcome}
 use Rattle.machine_model.specs.declared.event.Outcome.TheVariants.{Stepped, Idle}
 use Rattle.machine_model.specs.Step.{Acts, with_event}
 use Rattle.machine_model.specs.declared.phase.Phase.{Phase}
-use Rattle.machine_model.specs.declared.phase.Phase.TheVariants.{Free, Check, Lock, Decide, Post, Acks, Unlock, Answer, Try, Settle, Want, Fill, CopyPost, CopyAcks, Install, Release}
+use Rattle.machine_model.specs.declared.phase.Phase.TheVariants.{Free, Check, Lock, Guess, Find, Back, Cut, Decide, Post, Acks, Unlock, Answer, Try, Settle, Want, Fill, CopyPost, CopyAcks, Install, Release}
 use Rattle.machine_model.specs.World.{World, Hardware}
 use Rattle.vm_base.specs.declared.info.PageInfo.{PageInfo}
 use Rattle.vm_base.specs.Cores.{with_member}
@@ -119,9 +119,13 @@ given_up w v c (CopyAcks touch frame) e nobody h = inl (nobody refl, (refl, h))
 given_up w v c Free e nobody h = absurd cc
 given_up w v c (Check request) e nobody h = (refl, h)
 given_up w v c (Lock goal cursor) e nobody h = (refl, h)
+given_up w v c (Guess place) e nobody h = (refl, h)
+given_up w v c (Find place target) e nobody h = (refl, h)
+given_up w v c (Back place target held) e nobody h = (refl, h)
+given_up w v c (Cut place target range) e nobody h = (refl, h)
 given_up w v c (Decide change) e nobody h = (refl, h)
 given_up w v c (Post change shoot) e nobody h = (refl, h)
-given_up w v c (Acks change held) e nobody h = absurd cc
+given_up w v c (Acks goal change) e nobody h = absurd cc
 given_up w v c (Unlock held reply) e nobody h = absurd cc
 given_up w v c (Answer reply) e nobody h = absurd cc
 given_up w v c (Try touch) e nobody h = (refl, h)
@@ -137,9 +141,13 @@ not_given_up w v c (CopyAcks touch frame) e h = absurd cc
 not_given_up w v c Free e h = (refl, h)
 not_given_up w v c (Check request) e h = absurd cc
 not_given_up w v c (Lock goal cursor) e h = absurd cc
+not_given_up w v c (Guess place) e h = absurd cc
+not_given_up w v c (Find place target) e h = absurd cc
+not_given_up w v c (Back place target held) e h = absurd cc
+not_given_up w v c (Cut place target range) e h = absurd cc
 not_given_up w v c (Decide change) e h = absurd cc
 not_given_up w v c (Post change shoot) e h = absurd cc
-not_given_up w v c (Acks change held) e h = (refl, h)
+not_given_up w v c (Acks goal change) e h = (refl, h)
 not_given_up w v c (Unlock held reply) e h = (refl, h)
 not_given_up w v c (Answer reply) e h = (refl, h)
 not_given_up w v c (Try touch) e h = absurd cc
@@ -156,9 +164,13 @@ copy_awaited w v c (CopyAcks touch frame) a h = inr (a.1, (refl, h))
 copy_awaited w v c Free a h = let due = a.0 in absurd cc
 copy_awaited w v c (Check request) a h = let due = a.0 in absurd cc
 copy_awaited w v c (Lock goal cursor) a h = let due = a.0 in absurd cc
+copy_awaited w v c (Guess place) a h = let due = a.0 in absurd cc
+copy_awaited w v c (Find place target) a h = let due = a.0 in absurd cc
+copy_awaited w v c (Back place target held) a h = let due = a.0 in absurd cc
+copy_awaited w v c (Cut place target range) a h = let due = a.0 in absurd cc
 copy_awaited w v c (Decide change) a h = let due = a.0 in absurd cc
 copy_awaited w v c (Post change shoot) a h = let due = a.0 in absurd cc
-copy_awaited w v c (Acks change held) a h = let due = a.0 in absurd cc
+copy_awaited w v c (Acks goal change) a h = let due = a.0 in absurd cc
 copy_awaited w v c (Unlock held reply) a h = let due = a.0 in absurd cc
 copy_awaited w v c (Answer reply) a h = let due = a.0 in absurd cc
 copy_awaited w v c (Try touch) a h = let due = a.0 in absurd cc

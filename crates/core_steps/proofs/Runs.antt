@@ -1,5 +1,5 @@
 -- Runs that grow by one event
-use Rattle.std.proofs.Common.{◌≡◌, ℕ, ◌+◌, ◌<◌, List, [], ◌∷◌, ◌++◌, refl, sym, subst, ap, ◌∙◌, take, length, get_or}
+use Rattle.std.proofs.Common.{◌≡◌, ℕ, ◌+◌, ◌<◌, ◌≤◌, List, [], ◌∷◌, ◌++◌, refl, sym, subst, ap, ◌∙◌, take, length, get_or}
 use Rattle.std.proofs.lemmas.List.{take_more}
 use Rattle.std.proofs.lemmas.Option.{slice_get_read}
 use Rattle.slot_lock.specs.Slots.{Slots, IsNew}
@@ -15,13 +15,13 @@ use Rattle.core_steps.specs.Moving.{MayWant}
 use Rattle.core_steps.specs.Running.{IsRefusedAt}
 
 -- the first events are all of them
-pub all_bracketed : (made : Made) (slots : Slots) (first es : List Event) (os : List Outcome) (w : World) → IsNew slots → first ≡ es
-    → Run (new_world made slots) first os w → IsBracketed es os w
-all_bracketed made slots first es os w new e r = bracketed made slots es os w new (subst (λ es. Run (new_world made slots) es os w) e r)
+pub all_bracketed : (made : Made) (slots : Slots) (first es : List Event) (os : List Outcome) (w : World) → made.cores ≤ 64 → IsNew slots
+    → first ≡ es → Run (new_world made slots) first os w → IsBracketed es os w
+all_bracketed made slots first es os w few new e r = bracketed made slots es os w few new (subst (λ es. Run (new_world made slots) es os w) e r)
 
-pub all_sound : (made : Made) (slots : Slots) (first es : List Event) (os : List Outcome) (w : World) → IsNew slots → first ≡ es
+pub all_sound : (made : Made) (slots : Slots) (first es : List Event) (os : List Outcome) (w : World) → made.cores ≤ 64 → IsNew slots → first ≡ es
     → Run (new_world made slots) first os w → SoundRun (new_world made slots) es os w
-all_sound made slots first es os w new e r = runs_sound made slots es os w new (subst (λ es. Run (new_world made slots) es os w) e r)
+all_sound made slots first es os w few new e r = runs_sound made slots es os w few new (subst (λ es. Run (new_world made slots) es os w) e r)
 
 -- the event at n comes next
 pub next_run : (w : World) (es : List Event) (n : ℕ) (e : Event) (os : List Outcome) (m v : World) (o : Outcome) → n < length es

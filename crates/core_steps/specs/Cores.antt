@@ -16,12 +16,16 @@ pub record CoreParts : Type 0 where
   pub inboxes : ℕ
   pub hardware : Hardware
 
-abbrev pub parts_of : {C : Type 0} → (C → ℕ → Option Translation) → (C → List TlbEntry) → List C → List InboxOf
-    → CoreParts
+abbrev pub parts_of : {C : Type 0} → (C → ℕ → Option Translation) → (C → List TlbEntry) → List C
+    → List InboxOf → CoreParts
 parts_of table tlb cpus boxes = record {
   count = length cpus;
   inboxes = length boxes;
-  hardware = record { table = of_each table (λ p. None) cpus; tlb = of_each tlb [] cpus; inbox = inbox boxes };
+  hardware = record {
+    table = of_each table (λ p. None) cpus;
+    tlb = of_each tlb [] cpus;
+    inbox = inbox boxes;
+  };
 }
 
 -- each core has an inbox

@@ -21,4 +21,5 @@ IsOfFile back n k = (back ≡ Shared n k) ⊎ (back ≡ Private n k)
 
 -- the copy in frame f, of frame g, is counted and made
 abbrev pub MakesCopy : World → ℕ → Touch → ℕ → ℕ → World → Type 0
-MakesCopy w c touch f g v = (counts : Counts) × CountsCopy c f g w.memory.counts counts × (v ≡ after_copy c touch f g counts w)
+MakesCopy w c touch f g v = (counts : Counts) × CountsCopy c f g w.memory.counts counts
+    × (v ≡ after_copy c touch f g counts w)

@@ -12,10 +12,12 @@ use Rattle.core_steps.specs.Moving.{MayWant}
 abbrev pub finish_limit : ℕ
 finish_limit = 2 ^ 40
 
--- the last outcome is the first that isn't Stepped; the limit is told only where all of so many steps were
+-- the last outcome is the first that isn't Stepped; the limit is told only where all of so many
+-- steps were
 abbrev pub EndsIn : World → ℕ → ℕ → Finished → World → Type 0
 EndsIn w core n (Last outcome) v =
-    (n < finish_limit) × (outcome ≢ Stepped) × ((m : World) × StepsTo w core n m × Step m (Go core) outcome v)
+    (n < finish_limit) × (outcome ≢ Stepped)
+    × ((m : World) × StepsTo w core n m × Step m (Go core) outcome v)
 EndsIn w core n Stuck v = (n ≡ finish_limit) × StepsTo w core n v
 
 abbrev pub Finishes : World → ℕ → Finished → World → Type 0

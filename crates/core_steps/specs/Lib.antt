@@ -8,3 +8,4 @@ pub mod Filling
 pub mod Machine
 pub mod Finishing
 pub mod Running
+pub mod MapLines

@@ -1,28 +1,36 @@
--- What a step of an engine does, and which steps may be refused for memory: those at which a slot is to be divided, those that install the
--- first entry of a page, and those that make a copy of a private page, which the log is to have
-use Rattle.std.specs.Prelude.{◌≡◌, ℕ, ◌<◌, ◌⊎◌, Bool, true, false, None, Result, Ok, Err}
+-- What a step of an engine does, and which steps may be refused for memory: those at which a slot
+-- is to be divided or cut, those that install the first entry of a page, and those that make a copy
+-- of a private page, which the log is to have
+use Rattle.std.specs.Prelude.{◌≡◌, ℕ, ◌<◌, ◌⊎◌, Bool, true, false, Option, None, Some, Result, Ok, Err}
 use Rattle.vm_base.specs.Pages.{IsPage}
-use Rattle.slot_lock.specs.Slots.{Slots, Crosses}
+use Rattle.slot_lock.specs.declared.plan.Goal.{Goal}
+use Rattle.slot_lock.specs.declared.plan.Goal.TheVariants as To
+use Rattle.slot_lock.specs.Plan.{goal_range}
+use Rattle.slot_lock.specs.Slots.{Slots, Crosses, IsCrossed}
 use Rattle.vm_calls.specs.Settling.{is_private_store}
 use Rattle.machine_model.specs.declared.event.Event.{Event}
 use Rattle.machine_model.specs.declared.event.Event.TheVariants.{Go, Fold}
 use Rattle.machine_model.specs.declared.event.Outcome.{Outcome}
 use Rattle.machine_model.specs.declared.event.Outcome.TheVariants.{Stepped, Idle, Full}
 use Rattle.machine_model.specs.declared.phase.Phase.{Phase}
-use Rattle.machine_model.specs.declared.phase.Phase.TheVariants.{Lock, Fill, CopyAcks, Install}
+use Rattle.machine_model.specs.declared.phase.Phase.TheVariants.{Lock, Find, Cut, Decide, Post, Acks, Settle, Want, Fill, CopyPost, CopyAcks, Install, Release}
 use Rattle.machine_model.specs.Changes.{AwaitsNobody, Awaits}
 use Rattle.machine_model.specs.Files.{back_of}
-use Rattle.machine_model.specs.Holding.{goal_range}
 use Rattle.machine_model.specs.World.{World, Hardware}
 use Rattle.machine_sound.specs.Invariant.{Fine}
 
 -- ---- want of memory
 
--- the slot that the call of core c is to lock next is free and crosses an edge of the pages that the call is to hold, or the core's tables
--- have no entry yet of the page that is to get one, or a private page is to get a copy for a store, for which no core is awaited
+-- the slot that the call of core c is to lock next is free and crosses an edge of the pages that
+-- the call is to hold, or one that it holds crosses an edge of the pages where its mapping goes, or
+-- the core's tables have no entry yet of the page that is to get one, or a private page is to get a
+-- copy for a store, for which no core is awaited
 abbrev pub WantsMemory : World → ℕ → Phase → Type 0
-WantsMemory w c (Lock goal cursor) = (w.slots.owner cursor ≡ None) × Crosses w.slots cursor (goal_range goal).end
-WantsMemory w c (Fill touch frame) = is_private_store (back_of (w.slots.info touch.page)) touch.access ≡ true
+WantsMemory w c (Lock goal cursor) =
+    (w.slots.owner cursor ≡ None) × Crosses w.slots cursor (goal_range goal).end
+WantsMemory w c (Cut place target range) = IsCrossed w.slots range
+WantsMemory w c (Fill touch frame) =
+    is_private_store (back_of (w.slots.info touch.page)) touch.access ≡ true
 WantsMemory w c (CopyAcks touch frame) = AwaitsNobody w.hardware c
 WantsMemory w c (Install touch) = w.hardware.table c touch.page ≡ None
 WantsMemory w c _ = ⊥
@@ -33,9 +41,29 @@ MayWant w (Go c) = WantsMemory w c (w.calls.phase c)
 MayWant w _ = ⊥
 
 -- what may be refused did this, or it was refused as it may be, and nothing changed
-abbrev pub Tries : {T E : Type 0} → (T → World → Type 0) → Type 0 → World → Result T E → World → Type 0
+abbrev pub Tries : {T E : Type 0} → (T → World → Type 0) → Type 0 → World → Result T E → World
+    → Type 0
 Tries Does MayRefuse w (Ok done) v = Does done v
 Tries Does MayRefuse w (Err refused) v = (v ≡ w) × MayRefuse
+
+-- ---- goals
+
+-- what the call has locked pages for, or is to lock them for
+abbrev pub goal_in : Phase → Option Goal
+goal_in (Lock goal cursor) = Some goal
+goal_in (Find place target) = Some (To.Place place target)
+goal_in (Cut place target range) = Some (To.Place place target)
+goal_in (Decide change) = Some (To.Change change)
+goal_in (Post change shoot) = Some (To.Change change)
+goal_in (Acks goal change) = Some goal
+goal_in (Settle touch) = Some (To.Access touch)
+goal_in (Want touch old) = Some (To.Access touch)
+goal_in (Fill touch frame) = Some (To.Access touch)
+goal_in (CopyPost touch frame) = Some (To.Access touch)
+goal_in (CopyAcks touch frame) = Some (To.Access touch)
+goal_in (Install touch) = Some (To.Access touch)
+goal_in (Release touch) = Some (To.Access touch)
+goal_in _ = None
 
 -- ---- copies
 
@@ -52,14 +80,17 @@ AwaitsCopy h c phase false = is_copy_due phase ≡ true → AwaitsNobody h c
 -- ---- joins of slots
 
 -- the slots were joined at the page as the map joins them, or they couldn't be
-abbrev pub FoldsExactly : (Slots → ℕ → Type 0) → (Slots → Slots → ℕ → Type 0) → Slots → ℕ → Outcome → Slots → Type 0
+abbrev pub FoldsExactly : (Slots → ℕ → Type 0) → (Slots → Slots → ℕ → Type 0) → Slots → ℕ → Outcome
+    → Slots → Type 0
 FoldsExactly CanFold Folds s page o t =
     ((o ≡ Stepped) × IsPage page × CanFold s page × Folds s t page)
     ⊎ ((o ≡ Idle) × (IsPage page × CanFold s page → ⊥) × (t ≡ s))
 
 -- a Fold that is taken joins slots just where the map can, and as the map does
-abbrev pub JoinsAsMap : (Slots → ℕ → Type 0) → (Slots → Slots → ℕ → Type 0) → World → Event → Outcome → World → Type 0
-JoinsAsMap CanFold Folds w (Fold page) o v = (o ≡ Full) ⊎ FoldsExactly CanFold Folds w.slots page o v.slots
+abbrev pub JoinsAsMap : (Slots → ℕ → Type 0) → (Slots → Slots → ℕ → Type 0) → World → Event
+    → Outcome → World → Type 0
+JoinsAsMap CanFold Folds w (Fold page) o v =
+    (o ≡ Full) ⊎ FoldsExactly CanFold Folds w.slots page o v.slots
 JoinsAsMap CanFold Folds w _ o v = Unit {0}
 
 -- ---- the core that is to make a step

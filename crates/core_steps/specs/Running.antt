@@ -16,8 +16,9 @@ IsRefusedAt w events at =
     (e : Event) × (slice_get events at ≡ Some e)
     × ((outcomes : List Outcome) × ((m : World) × Run w (take at events) outcomes m × MayWant m e))
 
--- The setup makes no machine, or an event was refused. The number of events stands for the list of outcomes, which found no
--- room before the first of them.
+-- The setup makes no machine, or an event was refused. The number of events stands for the list of
+-- outcomes, which found no room before the first of them.
 abbrev pub Fails : {A : Type 0} → World → Setup A → List Event → RunFault → Type 0
 Fails w setup events (By.Setup fault) = IsFirstFault setup fault
-Fails w setup events (By.NoMemory at) = (fault_of setup ≡ None) × ((at ≡ length events) ⊎ IsRefusedAt w events at)
+Fails w setup events (By.NoMemory at) =
+    (fault_of setup ≡ None) × ((at ≡ length events) ⊎ IsRefusedAt w events at)

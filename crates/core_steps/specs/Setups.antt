@@ -15,7 +15,8 @@ is_too_long len = nat_lt 1048576 len
 abbrev pub has_long : {A : Type 0} → List (FileSpec A) → Bool
 has_long files = list_any (λ file. is_too_long (length file.bytes.items)) files
 
--- 1 to 64 cores, at most 65,536 frames, at most 16 files, none of them too long, at most 1,048,576 calls
+-- 1 to 64 cores, at most 65,536 frames, at most 16 files, none of them too long, at most 1,048,576
+-- calls
 abbrev pub first_fault : ℕ → ℕ → ℕ → Bool → ℕ → Option SetupFault
 first_fault cores frames files long calls =
     if nat_lt cores 1 || nat_lt 64 cores then Some Cores
@@ -34,4 +35,5 @@ IsFirstFault s fault = (fault_of s ≡ Some fault) ⊎ ((fault_of s ≡ None) ×
 
 -- the machine's files are those of the setup, each with its own bytes
 abbrev pub made_of : {A : Type 0} → Setup A → Made
-made_of s = record { cores = s.cores; frames = s.frames; calls = s.calls; file = given_files s.files.items }
+made_of s =
+    record { cores = s.cores; frames = s.frames; calls = s.calls; file = given_files s.files.items }

@@ -31,15 +31,11 @@ calls_of it = record {
 
 -- ---- the whole
 
--- of slots, hardware, frames, counts, files and calls
-abbrev pub world_of : {A : Type 0} → Slots → Hardware → FrameParts → Counts → List FileParts → CallTable A → World
-world_of slots hardware frames counts files calls = record {
-  made = record {
-    cores = length calls.phases.items;
-    frames = frames.count;
-    calls = calls.requests.limit;
-    file = files_of files;
-  };
+-- of slots, hardware, frames, counts and files, for so many cores and calls, and of calls
+abbrev pub world_with : Slots → Hardware → FrameParts → Counts → List FileParts → ℕ → ℕ → Calls
+    → World
+world_with slots hardware frames counts files cores limit calls = record {
+  made = record { cores = cores; frames = frames.count; calls = limit; file = files_of files };
   slots = slots;
   hardware = hardware;
   memory = record {
@@ -48,13 +44,24 @@ world_of slots hardware frames counts files calls = record {
     counts = counts;
     cached = cached_in files;
   };
-  calls = calls_of calls;
+  calls = calls;
 }
 
+-- of the table of calls
+abbrev pub world_of : {A : Type 0} → Slots → Hardware → FrameParts → Counts → List FileParts
+    → CallTable A → World
+world_of slots hardware frames counts files calls =
+    world_with slots hardware frames counts files (length calls.phases.items) calls.requests.limit
+    (calls_of calls)
+
 -- the state that the engine has, by what its map says of slots
-abbrev pub world : {M H A : Type 0} {map : _} {read : _} {cpu : _} → (M → Slots) → Engine M H A map read cpu → World
-world slots it = world_of (slots it.map) (parts it.cores).hardware it.frames (counts_of it.counts) it.objects it.calls
+abbrev pub world : {M H A : Type 0} {map : _} {read : _} {cpu : _} → (M → Slots)
+    → Engine M H A map read cpu → World
+world slots it =
+    world_of (slots it.map) (parts it.cores).hardware it.frames (counts_of it.counts) it.objects
+    it.calls
 
 -- where the call of a core stands
-abbrev pub phase_of : {M H A : Type 0} {map : _} {read : _} {cpu : _} → Engine M H A map read cpu → ℕ → Phase
+abbrev pub phase_of : {M H A : Type 0} {map : _} {read : _} {cpu : _} → Engine M H A map read cpu
+    → ℕ → Phase
 phase_of it = phase_at it.calls.phases.items

@@ -9,9 +9,9 @@ ghost use Rattle.core_steps.specs.Moving.{IsAt};
 
 use crate::acquire::locking;
 use crate::engine::Engine;
-use machine_model::{Goal, Outcome, Phase};
+use machine_model::{Outcome, Phase};
 use mmu::{Hardware, Translated};
-use slot_lock::{SlotMap, Touch};
+use slot_lock::{Goal, SlotMap, Touch};
 use std::alloc::Allocator;
 use vm_base::{Access, CoreId, Reply};
 

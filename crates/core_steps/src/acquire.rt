@@ -1,16 +1,16 @@
 //! Locking all pages of a call, slot by slot from left to right.
 ghost use Rattle.std.specs.Prelude.{◌≡◌, ◌<◌, ◌≤◌};
-ghost use Rattle.slot_lock.specs.Plan.{IsSound, IsSoundTouch};
-ghost use Rattle.machine_model.specs.Holding.{goal_plan, goal_range, page_of_touch};
+ghost use Rattle.slot_lock.specs.Plan.{IsSoundGoal, IsSoundTouch, goal_range};
+ghost use Rattle.machine_model.specs.Holding.{page_of_touch};
 ghost use Rattle.machine_model.specs.Locks.{all_locked, locked_to, locking};
 ghost use Rattle.machine_model.specs.Step.{Goes};
 ghost use Rattle.core_steps.specs.State.{world};
 ghost use Rattle.core_steps.specs.Moving.{IsAt, WantsMemory, Tries};
 
 use crate::engine::Engine;
-use machine_model::{Blocker, Goal, Outcome, Phase};
+use machine_model::{Blocker, Outcome, Phase};
 use mmu::Hardware;
-use slot_lock::{Got, SlotMap, Touch};
+use slot_lock::{Goal, Got, SlotMap, Touch};
 use std::alloc::Allocator;
 use vm_base::{CoreId, NoMemory, PageRange};
 
@@ -25,37 +25,27 @@ pub fn page_of_touch(touch: Touch) -> PageRange
     }
 }
 
-/// The pages that are to be locked.
-pub fn goal_range(goal: Goal) -> PageRange
-    requires { IsSound (goal_plan goal) }
-    ensures { result ≡ goal_range goal }
-{
-    match goal {
-        Goal::Change(change) => change.range(),
-        Goal::Access(touch) => page_of_touch(touch),
-    }
-}
-
 /// All pages of the goal are to be locked, from the first on.
 pub fn locking(goal: Goal) -> Phase
-    requires { IsSound (goal_plan goal) }
+    requires { IsSoundGoal goal }
     ensures { result ≡ locking goal }
 {
     Phase::Lock {
         goal,
-        cursor: goal_range(goal).first,
+        cursor: goal.range().first,
     }
 }
 
 /// Where the call goes on once the pages up to the cursor are locked.
 fn locked_to(goal: Goal, cursor: u64) -> Phase
-    requires { IsSound (goal_plan goal) }
+    requires { IsSoundGoal goal }
     ensures { result ≡ locked_to goal cursor }
 {
-    if cursor < goal_range(goal).end {
+    if cursor < goal.range().end {
         return Phase::Lock { goal, cursor };
     }
     match goal {
+        Goal::Place { place, target } => Phase::Find { place, target },
         Goal::Change(change) => Phase::Decide(change),
         Goal::Access(touch) => Phase::Settle(touch),
     }
@@ -69,7 +59,7 @@ impl<M: SlotMap, H: Hardware, A: Allocator> Engine<M, H, A> {
             (WantsMemory (world M.slots self.old) core (Phase.Lock goal cursor))
             (world M.slots self.old) result (world M.slots self.new) }
     {
-        let end = goal_range(goal).end;
+        let end = goal.range().end;
         match self.map.lock_next(core, cursor, end)? {
             Got::Split => Ok(Outcome::Stepped),
             Got::Held(by) => Ok(Outcome::Wait(Blocker::Slot(by))),

@@ -25,7 +25,7 @@ fn let_go(held: Option<PageRange>, reply: Reply) -> Phase
 }
 
 /// What is still held once the pages up to `unlocked_to` are let go.
-fn held_after(held: PageRange, unlocked_to: u64) -> Option<PageRange>
+pub fn held_after(held: PageRange, unlocked_to: u64) -> Option<PageRange>
     ensures { result ≡ held_after held unlocked_to }
 {
     if unlocked_to == held.end {

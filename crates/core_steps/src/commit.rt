@@ -16,7 +16,7 @@ use crate::engine::Engine;
 use machine_model::{Blocker, Outcome, Phase};
 use mmu::Hardware;
 use refcache::Refcache;
-use slot_lock::{Change, Framed, FramedPages, SlotMap};
+use slot_lock::{Change, Framed, FramedPages, Goal, SlotMap};
 use std::alloc::Allocator;
 use vm_base::page::PAGE_SIZE;
 use vm_base::{CoreId, PageRange, Reply};
@@ -97,16 +97,16 @@ fn reply_to(change: Change) -> Reply
 
 impl<M: SlotMap, H: Hardware, A: Allocator> Engine<M, H, A> {
     /// Once no core is awaited, the change is made at once, and its reply stands from here on.
-    pub fn go_acks(&mut self, core: CoreId, change: Change, held: PageRange) -> Outcome
-        requires { IsAt (world M.slots self.old) core (Phase.Acks change held) }
-        ensures { Goes (world M.slots self.old) core (Phase.Acks change held) result
+    pub fn go_acks(&mut self, core: CoreId, goal: Goal, change: Change) -> Outcome
+        requires { IsAt (world M.slots self.old) core (Phase.Acks goal change) }
+        ensures { Goes (world M.slots self.old) core (Phase.Acks goal change) result
             (world M.slots self.new) }
     {
         if let Some(waiting) = self.cores.awaited(core) {
             return Outcome::Wait(Blocker::Acks(waiting));
         }
         make_change(&mut self.map, &mut self.counts, core, change);
-        self.reply(core, Some(held), reply_to(change));
+        self.reply(core, Some(goal.range()), reply_to(change));
         Outcome::Stepped
     }
 }

@@ -7,7 +7,7 @@ ghost use Rattle.core_steps.specs.Moving.{IsAt};
 use crate::engine::Engine;
 use machine_model::{Outcome, Phase};
 use mmu::Hardware;
-use slot_lock::{Change, Plan, SlotMap};
+use slot_lock::{Change, Goal, SlotMap};
 use std::alloc::Allocator;
 use vm_base::{CoreId, CoreSet, Reply};
 use vm_calls::{Decision, decide};
@@ -18,11 +18,12 @@ impl<M: SlotMap, H: Hardware, A: Allocator> Engine<M, H, A> {
         requires { IsAt (world M.slots self.old) core (Phase.Decide change) }
         ensures { Goes (world M.slots self.old) core (Phase.Decide change) result (world M.slots self.new) }
     {
-        match decide(&self.map, &self.objects, Plan::Change(change)) {
+        match decide(&self.map, &self.objects, Goal::Change(change)) {
             Decision::Refuse(errno) => {
                 self.reply(core, Some(change.range()), Reply::Refused(errno));
             }
             Decision::Act { shoot, .. } => self.go_to(core, Phase::Post { change, shoot }),
+            Decision::Again => {}
         }
         Outcome::Stepped
     }
@@ -33,9 +34,9 @@ impl<M: SlotMap, H: Hardware, A: Allocator> Engine<M, H, A> {
         ensures { Goes (world M.slots self.old) core (Phase.Post change shoot) result
             (world M.slots self.new) }
     {
-        let held = change.range();
-        self.cores.shoot(core, shoot, held);
-        self.go_to(core, Phase::Acks { change, held });
+        self.cores.shoot(core, shoot, change.range());
+        let goal = Goal::Change(change);
+        self.go_to(core, Phase::Acks { goal, change });
         Outcome::Stepped
     }
 }

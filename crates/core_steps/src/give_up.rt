@@ -1,14 +1,14 @@
 //! A call that is given up for want of memory.
 ghost use Rattle.std.specs.Prelude.{◌≡◌, ◌<◌, IfSome, false};
 ghost use Rattle.vm_base.specs.declared.page.PageRange.{PageRange};
-ghost use Rattle.slot_lock.specs.Plan.{IsSound};
+ghost use Rattle.slot_lock.specs.Plan.{IsSoundGoal};
 ghost use Rattle.frames.specs.Parts.{frame_bytes, free_frames};
 ghost use Rattle.machine_model.specs.GivingUp.{GivesUp, given_back};
-ghost use Rattle.machine_model.specs.Holding.{can_give_up, if_some_page, plan_in, range_held, still_held, taken_in};
+ghost use Rattle.machine_model.specs.Holding.{can_give_up, if_some_page, range_held, still_held, taken_in};
 ghost use Rattle.core_steps.specs.State.{phase_of, world};
-ghost use Rattle.core_steps.specs.Moving.{AwaitsCopy, IsOf, is_copy_due};
+ghost use Rattle.core_steps.specs.Moving.{AwaitsCopy, IsOf, goal_in, is_copy_due};
 
-use crate::acquire::{goal_range, page_of_touch};
+use crate::acquire::page_of_touch;
 use crate::engine::Engine;
 use frames::Frames;
 use machine_model::{Outcome, Phase};
@@ -41,18 +41,21 @@ fn taken_in(phase: &Phase) -> Option<u32>
 
 /// The pages that the call holds.
 fn range_held(phase: &Phase) -> Option<PageRange>
-    requires { IfSome (plan_in phase.now) IsSound }
+    requires { IfSome (goal_in phase.now) IsSoundGoal }
     ensures { result ≡ range_held phase.now }
 {
     match phase {
-        Phase::Free | Phase::Check(_) | Phase::Answer(_) | Phase::Try(_) => None,
+        Phase::Free | Phase::Check(_) | Phase::Guess(_) | Phase::Answer(_) | Phase::Try(_) => None,
         Phase::Lock { goal, cursor } => Some(PageRange {
-            first: goal_range(*goal).first,
+            first: goal.range().first,
             end: *cursor,
         }),
+        Phase::Find { place, target } => Some(target.range(*place)),
+        Phase::Back { held, .. } => Some(*held),
+        Phase::Cut { place, target, .. } => Some(target.range(*place)),
         Phase::Decide(change) => Some(change.range()),
         Phase::Post { change, .. } => Some(change.range()),
-        Phase::Acks { held, .. } => Some(*held),
+        Phase::Acks { goal, .. } => Some(goal.range()),
         Phase::Unlock { held, .. } => Some(*held),
         Phase::Settle(touch) => Some(page_of_touch(*touch)),
         Phase::Want { touch, .. } => Some(page_of_touch(*touch)),

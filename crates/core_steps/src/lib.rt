@@ -20,6 +20,7 @@ mod file_pages;
 mod filling;
 mod give_up;
 pub mod machine;
+mod place;
 mod reserved;
 pub mod run_result;
 pub mod running;

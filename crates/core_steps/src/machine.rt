@@ -5,6 +5,7 @@ ghost use Rattle.core_steps.specs.State.{world};
 use crate::engine::Engine;
 use crate::setup::{Setup, SetupFault};
 use machine_model::{Entry, Event, Outcome};
+use map_list::{MapLine, all_lines, next_line};
 use mmu::{Cpu, Hardware};
 use slot_lock::SlotMap;
 use std::alloc::Allocator;
@@ -58,7 +59,7 @@ impl<M: SlotMap + Drop, A: Allocator + Clone + Drop> Machine<M, A> {
 }
 
 impl<M: SlotMap, A: Allocator + Clone> Machine<M, A> {
-    ghost use Rattle.std.specs.Prelude.{◌≡◌, ◌<◌, true, IfOk, OnErr};
+    ghost use Rattle.std.specs.Prelude.{◌≡◌, ◌≤◌, ◌<◌, true, IfOk, OnErr, IfSome, IfNone};
     ghost use Rattle.vm_base.specs.Pages.{is_page};
     ghost use Rattle.mmu.specs.Tables.{word_of};
     ghost use Rattle.machine_model.specs.Step.{Step};
@@ -66,6 +67,7 @@ impl<M: SlotMap, A: Allocator + Clone> Machine<M, A> {
     ghost use Rattle.core_steps.specs.Moving.{JoinsAsMap, MayWant, Tries};
     ghost use Rattle.core_steps.specs.Finishing.{Finishes, IsRefused};
     ghost use Rattle.core_steps.specs.Machine.{state, IsLegal};
+    ghost use Rattle.core_steps.specs.MapLines.{HasNoMap, IsLineStart, IsNextMap, ListsMaps};
 
     /// One event. A refusal for memory leaves the machine unchanged, and comes only at a step of a call at which a slot is to
     /// be divided, which installs the first entry of a page, or which makes a private page's copy. Slots are joined just
@@ -111,6 +113,29 @@ impl<M: SlotMap, A: Allocator + Clone> Machine<M, A> {
         ensures legal { IsLegal (state self.now) }
     {
         &self.engine.calls.log.items
+    }
+
+    /// All mappings, in order: those of the plain page map to which the log leads (POSIX.1-2017, mmap, munmap and mprotect).
+    /// Neighbouring pages are one where the protection is the same and the backing goes on. The error says that memory ran out,
+    /// and some page is mapped.
+    pub fn plain_maps<B: Allocator>(&self, alloc: B) -> Result<Vec<MapLine, B>, NoMemory>
+        ensures lines { IfOk result (λ lines. ListsMaps (state self.now) lines.items) }
+        ensures err_only { OnErr result (¬ HasNoMap (state self.now) 1) }
+        ensures legal { IsLegal (state self.now) }
+    {
+        all_lines(&self.engine.map, alloc)
+    }
+
+    /// The first of these mappings that begins at the page `from` or above, where none goes across that page: it is 1, or the
+    /// end of another. It takes no memory.
+    pub fn next_map_line(&self, from: u64) -> Option<MapLine>
+        requires from { 1 ≤ from }
+        requires begins { IsLineStart (state self.now) from }
+        ensures some { IfSome result (IsNextMap (state self.now) from) }
+        ensures none { IfNone result (HasNoMap (state self.now) from) }
+        ensures legal { IsLegal (state self.now) }
+    {
+        next_line(&self.engine.map, from)
     }
 
     /// How many cores the machine has.

@@ -13,7 +13,8 @@ pub record Members : Type 0 where
 abbrev pub IsSummed : List ℕ → List ℕ → Type 0
 IsSummed words summary = (w : ℕ) → bit_in summary w ≡ nat_lt 0 (slice_index words w)
 
--- The members are below the limit, the summary has the words that are not 0, and `size` members are counted.
+-- The members are below the limit, the summary has the words that are not 0, and `size` members are
+-- counted.
 pub record IsCounted (words summary : List ℕ) (limit size : ℕ) : Type 0 where
   pub room : limit ≤ length words * 64
   pub few : limit ≤ 65536
@@ -36,7 +37,8 @@ frame_bytes p = stored_bytes p.store
 abbrev pub free_frames : FrameParts → ℕ → Bool
 free_frames p = bit_in p.free
 
--- one frame: its page, once it was written to, for how many pages there is memory, and whether it is free
+-- one frame: its page, once it was written to, for how many pages there is memory, and whether it
+-- is free
 pub record CellParts : Type 0 where
   pub pages : List (List ℕ)
   pub capacity : ℕ

@@ -5,9 +5,9 @@ use crate::page_bytes::{self, FRAME_SIZE, Page};
 use std::alloc::{AllocError, Allocator};
 use std::marker::Model;
 
-/// The bytes of frames by their numbers from 0 on. The memory of all pages is reserved when they are made, and none of it is
-/// touched but the pages of frames that were written to, which stand in the order of their first writes. A clause sees the
-/// bytes of each frame as `stored_bytes`.
+/// The bytes of frames by their numbers from 0 on. The memory of all pages is reserved when they
+/// are made, and none of it is touched but the pages of frames that were written to, which stand in
+/// the order of their first writes. A clause sees the bytes of each frame as `stored_bytes`.
 #[derive(Drop)]
 pub struct ByteStore<A: Allocator> {
     places: Vec<Option<u32>, A>,
@@ -20,9 +20,17 @@ impl<A: Allocator> Model for ByteStore<A> {
 
     ghost Value = { Stored };
 
-    ghost view = { λ s. record { places = s.places.items; pages = s.pages.items; capacity = vec_capacity s.pages } };
+    ghost view = { λ s. record {
+      places = s.places.items;
+      pages = s.pages.items;
+      capacity = vec_capacity s.pages;
+    } };
 
-    ghost invariant = { λ s. IsStored (record { places = s.places.items; pages = s.pages.items; capacity = vec_capacity s.pages }) };
+    ghost invariant = { λ s. IsStored (record {
+      places = s.places.items;
+      pages = s.pages.items;
+      capacity = vec_capacity s.pages;
+    }) };
 }
 
 /// No frame of so many has a page yet.
@@ -86,8 +94,8 @@ impl<A: Allocator> ByteStore<A> {
         page_bytes::push(&mut self.pages, page);
     }
 
-    /// Sets the byte of a frame that has no page yet. It stands by itself, so that only the first write to a frame has a
-    /// page on its stack.
+    /// Sets the byte of a frame that has no page yet. It stands by itself, so that only the first
+    /// write to a frame has a page on its stack.
     #[inline(never)]
     fn set_first_byte(&mut self, frame: u32, offset: usize, byte: u8)
         requires frame { frame < length self.old.places }
@@ -136,7 +144,8 @@ impl<A: Allocator> ByteStore<A> {
     pub fn fill(&mut self, frame: u32, bytes: &[u8])
         requires frame { frame < length self.old.places }
         requires short { length bytes.now ≤ 4096 }
-        ensures bytes { stored_bytes self.new ≡ put (stored_bytes self.old) frame (page_bytes bytes.now 0) }
+        ensures bytes { stored_bytes self.new
+            ≡ put (stored_bytes self.old) frame (page_bytes bytes.now 0) }
         ensures count { length self.new.places ≡ length self.old.places }
         ensures capacity { self.new.capacity ≡ self.old.capacity }
     {
@@ -152,7 +161,8 @@ impl<A: Allocator> ByteStore<A> {
     fn copy_page(&mut self, at: u32, from: u32, to: u32)
         requires page { get_or self.old.places from None ≡ Some at }
         requires to { to < length self.old.places }
-        ensures bytes { stored_bytes self.new ≡ put (stored_bytes self.old) to (stored_bytes self.old from) }
+        ensures bytes { stored_bytes self.new
+            ≡ put (stored_bytes self.old) to (stored_bytes self.old from) }
         ensures count { length self.new.places ≡ length self.old.places }
         ensures capacity { self.new.capacity ≡ self.old.capacity }
     {
@@ -170,7 +180,8 @@ impl<A: Allocator> ByteStore<A> {
     pub fn copy(&mut self, from: u32, to: u32)
         requires from { from < length self.old.places }
         requires to { to < length self.old.places }
-        ensures bytes { stored_bytes self.new ≡ put (stored_bytes self.old) to (stored_bytes self.old from) }
+        ensures bytes { stored_bytes self.new
+            ≡ put (stored_bytes self.old) to (stored_bytes self.old from) }
         ensures count { length self.new.places ≡ length self.old.places }
         ensures capacity { self.new.capacity ≡ self.old.capacity }
     {

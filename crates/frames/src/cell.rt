@@ -5,8 +5,9 @@ use crate::page_bytes::{self, Page};
 use std::alloc::{AllocError, Allocator};
 use std::marker::Model;
 
-/// One frame of 4,096 bytes, free or taken. Its memory is reserved when it is made, and not touched before the frame is
-/// written to; no other call takes memory or fails. A clause sees its bytes as `cell_bytes`.
+/// One frame of 4,096 bytes, free or taken. Its memory is reserved when it is made, and not touched
+/// before the frame is written to; no other call takes memory or fails. A clause sees its bytes as
+/// `cell_bytes`.
 #[derive(Drop)]
 pub struct FrameCell<A: Allocator> {
     // Empty as long as the frame wasn't written to.
@@ -21,7 +22,11 @@ impl<A: Allocator> Model for FrameCell<A> {
 
     ghost Value = { CellParts };
 
-    ghost view = { λ s. record { pages = s.pages.items; capacity = vec_capacity s.pages; is_free = not s.is_taken } };
+    ghost view = { λ s. record {
+      pages = s.pages.items;
+      capacity = vec_capacity s.pages;
+      is_free = not s.is_taken;
+    } };
 
     ghost invariant = { λ s. (1 ≤ vec_capacity s.pages) × (length s.pages.items ≤ 1) };
 }

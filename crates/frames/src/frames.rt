@@ -9,9 +9,10 @@ use crate::free_set::FreeSet;
 use std::alloc::{AllocError, Allocator};
 use std::marker::Model;
 
-/// Frames of 4,096 bytes each, by their numbers from 0 on, and which of them are free. Once they are made, no call
-/// takes memory or fails, and only the memory of frames that were written to is touched. A clause sees the bytes of each
-/// frame as `frame_bytes`, and the free ones as `free_frames`.
+/// Frames of 4,096 bytes each, by their numbers from 0 on, and which of them are free. Once they
+/// are made, no call takes memory or fails, and only the memory of frames that were written to is
+/// touched. A clause sees the bytes of each frame as `frame_bytes`, and the free ones as
+/// `free_frames`.
 #[derive(Drop)]
 pub struct Frames<A: Allocator> {
     bytes: ByteStore<A>,
@@ -34,7 +35,8 @@ impl<A: Allocator + Clone> Frames<A> {
     ghost use Rattle.vm_base.specs.Plain.{zeros};
     ghost use Rattle.frames.specs.Parts.{frame_bytes, free_frames};
 
-    /// Makes `count` frames: all are free, and all their bytes are 0. The error says that memory ran out.
+    /// Makes `count` frames: all are free, and all their bytes are 0. The error says that memory
+    /// ran out.
     pub fn new(alloc: A, count: u32) -> Result<Frames<A>, AllocError>
         requires { count ≤ 65536 }
         ensures count { IfOk result (λ s. s.count ≡ count) }
@@ -147,7 +149,8 @@ impl<A: Allocator> Frames<A> {
     pub fn fill(&mut self, frame: u32, bytes: &[u8])
         requires frame { frame < self.old.count }
         requires short { length bytes.now ≤ 4096 }
-        ensures bytes { frame_bytes self.new ≡ put (frame_bytes self.old) frame (page_bytes bytes.now 0) }
+        ensures bytes { frame_bytes self.new
+            ≡ put (frame_bytes self.old) frame (page_bytes bytes.now 0) }
         ensures free { free_frames self.new ≡ free_frames self.old }
         ensures count { self.new.count ≡ self.old.count }
         ensures capacity { self.new.store.capacity ≡ self.old.store.capacity }
@@ -159,7 +162,8 @@ impl<A: Allocator> Frames<A> {
     pub fn copy(&mut self, from: u32, to: u32)
         requires from { from < self.old.count }
         requires to { to < self.old.count }
-        ensures bytes { frame_bytes self.new ≡ put (frame_bytes self.old) to (frame_bytes self.old from) }
+        ensures bytes { frame_bytes self.new
+            ≡ put (frame_bytes self.old) to (frame_bytes self.old from) }
         ensures free { free_frames self.new ≡ free_frames self.old }
         ensures count { self.new.count ≡ self.old.count }
         ensures capacity { self.new.store.capacity ≡ self.old.store.capacity }

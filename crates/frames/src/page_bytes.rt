@@ -102,7 +102,8 @@ pub fn set_byte<A: Allocator>(pages: &mut Vec<Page, A>, at: usize, offset: usize
 pub fn fill<A: Allocator>(pages: &mut Vec<Page, A>, at: usize, from: &[u8])
     requires page { at < vec_len pages.old }
     requires short { length from.now ≤ 4096 }
-    ensures bytes { all_pages pages.new.items ≡ put (all_pages pages.old.items) at (page_bytes from.now 0) }
+    ensures bytes { all_pages pages.new.items
+        ≡ put (all_pages pages.old.items) at (page_bytes from.now 0) }
     ensures len { vec_len pages.new ≡ vec_len pages.old }
     ensures capacity { vec_capacity pages.new ≡ vec_capacity pages.old }
 {

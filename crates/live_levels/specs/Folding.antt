@@ -8,18 +8,21 @@ use Rattle.live_levels.specs.declared.joint.Joint.{Joint}
 use Rattle.live_levels.specs.Replay.{dated, replay}
 use Rattle.live_levels.specs.Slots.{SlotView}
 
--- the slot can be a part of a larger one: nobody is to lock it first, and it has no frame and no recorded core
+-- the slot can be a part of a larger one: nobody is to lock it first, and it has no frame and no
+-- recorded core
 pub record CanBegin (s : SlotView) : Type 0 where
   pub free : s.owner ≡ None
   pub no_leaf : is_leaf s.content ≡ false
 
--- the slot follows on: it can be a part, begins where the others end, and its mapping goes on from theirs
+-- the slot follows on: it can be a part, begins where the others end, and its mapping goes on from
+-- theirs
 pub record CanFollow (j : Joint) (s : SlotView) : Type 0 where
   pub part : CanBegin s
   pub next : s.first ≡ j.end
   pub goes_on : s.content ≡ info_from j.content (s.first - j.first)
 
--- the change with which a slot begins that stands for its parts: it is mapped as the first page is, or unmapped
+-- the change with which a slot begins that stands for its parts: it is mapped as the first page is,
+-- or unmapped
 abbrev pub begun_act : Option PageInfo → Act
 begun_act None = Clear
 begun_act (Some info) = Put info.meta

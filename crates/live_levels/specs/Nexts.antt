@@ -37,7 +37,8 @@ module _ {S : Type 0} (stepped : S → ℕ → S → Type 0) (before now : S) wh
 module _ {A S : Type 0} (stepped : S → ℕ → S → Type 0) (before now : S) where
   -- a step was noted exactly where a slot was divided
   abbrev pub Answers : ℕ → ℕ → ℕ → Next A → Type 0
-  Answers core cursor end (NextOf.Whole guard) = (now ≡ before) × IsWhole core cursor end (mutex_guard_value guard)
+  Answers core cursor end (NextOf.Whole guard) =
+      (now ≡ before) × IsWhole core cursor end (mutex_guard_value guard)
   Answers core cursor end NextOf.Split = Noted stepped before now
   Answers core cursor end (NextOf.Owned other) = (now ≡ before) × (other ≢ core)
   Answers core cursor end NextOf.NoMemory = now ≡ before

@@ -13,7 +13,8 @@ abbrev pub carried_act : Option PageInfo → ℕ → Act
 carried_act None by = Clear
 carried_act (Some info) by = Put (advance info.meta by)
 
--- what 512 slots of so many pages can carry on: no page has a frame or a recorded core, and the file pages are numbers
+-- what 512 slots of so many pages can carry on: no page has a frame or a recorded core, and the
+-- file pages are numbers
 pub record CanCarry (content : Option PageInfo) (pages : ℕ) : Type 0 where
   pub no_leaf : is_leaf content ≡ false
   pub fits : info_file_page content + 512 * pages ≤ 2 ^ 36
@@ -22,8 +23,8 @@ pub record CanCarry (content : Option PageInfo) (pages : ℕ) : Type 0 where
 abbrev pub IsPlaced : ℕ → ℕ → SlotView → Type 0
 IsPlaced first count s = (s.first ≡ first) × (s.count ≡ count)
 
--- The slot has so many pages from the divided slot's page `by` on. Its first page has what it had, by a history of one
--- change, and its owner is the one that was chosen
+-- The slot has so many pages from the divided slot's page `by` on. Its first page has what it had,
+-- by a history of one change, and its owner is the one that was chosen
 pub record IsPart (d : Divided) (ticket pages by : ℕ) (s : SlotView) : Type 0 where
   pub place : IsPlaced (d.first + by) pages s
   pub owner : s.owner ≡ d.owner
@@ -53,4 +54,5 @@ divided_for s owner = record { first = s.first; content = s.content; owner = own
 -- the slots are the 512 parts of the divided slot, in order
 pub record AreParts (d : Divided) (ticket pages : ℕ) (slots : List SlotView) : Type 0 where
   pub count : length slots ≡ 512
-  pub each : (k : ℕ) (other : SlotView) → k < 512 → IsPart d ticket pages (k * pages) (get_or slots k other)
+  pub each : (k : ℕ) (other : SlotView) → k < 512
+      → IsPart d ticket pages (k * pages) (get_or slots k other)

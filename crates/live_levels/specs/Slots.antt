@@ -7,7 +7,8 @@ use Rattle.live_levels.specs.declared.act.Act.TheVariants.{Put, Clear, Protect, 
 use Rattle.live_levels.specs.declared.act.SlotChange.{SlotChange}
 use Rattle.live_levels.specs.Replay.{after, replay}
 
--- a slot: its pages, its owner, what its first page has, its changes, and how many more fit without memory
+-- a slot: its pages, its owner, what its first page has, its changes, and how many more fit without
+-- memory
 pub record SlotView : Type 0 where
   pub first : ℕ
   pub count : ℕ
@@ -17,11 +18,18 @@ pub record SlotView : Type 0 where
   pub room : ℕ
 
 abbrev pub slot_view : ℕ → ℕ → Option ℕ → Option PageInfo → List SlotChange → ℕ → SlotView
-slot_view first count owner content changes room =
-    record { first = first; count = count; owner = owner; content = content; changes = changes; room = room }
+slot_view first count owner content changes room = record {
+  first = first;
+  count = count;
+  owner = owner;
+  content = content;
+  changes = changes;
+  room = room;
+}
 
--- What holds of every slot whose lock is free: its content is the replay of its history; it has pages, whose file pages
--- are numbers; and a page with a frame or a recorded core is a slot of its own
+-- What holds of every slot whose lock is free: its content is the replay of its history; it has
+-- pages, whose file pages are numbers; and a page with a frame or a recorded core is a slot of its
+-- own
 pub record IsSlot (s : SlotView) : Type 0 where
   pub replays : s.content ≡ replay s.changes
   pub some : 1 ≤ s.count
@@ -40,7 +48,8 @@ Suits (Record core) count = count ≡ 1
 
 -- the slot after one more change
 abbrev pub changed : SlotView → SlotChange → SlotView
-changed s c = record s { content = after s.content c.act; changes = s.changes ++ c ∷ []; room = s.room - 1 }
+changed s c =
+    record s { content = after s.content c.act; changes = s.changes ++ c ∷ []; room = s.room - 1 }
 
 -- what a page of the slot has
 abbrev pub content_at : SlotView → ℕ → Option PageInfo

@@ -14,8 +14,8 @@ pub struct SlotHistory<A: Allocator> {
     pub changes: Vec<SlotChange, A>,
 }
 
-/// Adds the slot's history, where the slot begins at `next`, and answers its end. `None` where memory ran out, or the slot
-/// begins elsewhere.
+/// Adds the slot's history, where the slot begins at `next`, and answers its end. `None` where
+/// memory ran out, or the slot begins elsewhere.
 pub(crate) fn gather_slot<A: Allocator + Clone>(
     alloc: &A,
     slot: &SlotState<A>,

@@ -18,7 +18,8 @@ fn can_begin<A: Allocator>(slot: &SlotState<A>) -> bool
     !is_leaf(slot.content()) && slot.owner().is_none()
 }
 
-/// One slot, where it can be a part of a larger one: no core is to lock it first, and it has no frame and no recorded core.
+/// One slot, where it can be a part of a larger one: no core is to lock it first, and it has no
+/// frame and no recorded core.
 pub(crate) fn begin_joint<A: Allocator>(slot: &SlotState<A>) -> Option<Joint>
     ensures some { IfSome result (λ j. (j.first ≡ slot.now.first)
         × (j.end ≡ slot.now.first + slot.now.count) × (j.content ≡ slot.now.content)) }
@@ -59,8 +60,9 @@ pub(crate) fn join_next<A: Allocator>(joint: Joint, slot: &SlotState<A>) -> Opti
     })
 }
 
-/// Lets the slot stand for its parts, which it had been divided into: it begins anew with one change, under the ticket
-/// of the step, which is noted. Answers false, and changes nothing, where they have other pages. It takes no memory.
+/// Lets the slot stand for its parts, which it had been divided into: it begins anew with one
+/// change, under the ticket of the step, which is noted. Answers false, and changes nothing, where
+/// they have other pages. It takes no memory.
 pub(crate) fn replace<A: Allocator, S: Stepper>(
     slot: &mut SlotState<A>,
     joint: &Joint,

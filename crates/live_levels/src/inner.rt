@@ -22,7 +22,8 @@ struct Place<C, A: Allocator> {
     below: OnceLock<Box<C, A>>,
 }
 
-/// 512 slots of several pages, each under its lock or divided. A lookup takes no lock above the slot that it finds.
+/// 512 slots of several pages, each under its lock or divided. A lookup takes no lock above the
+/// slot that it finds.
 #[derive(Drop)]
 pub struct Inner<C, A: Allocator> {
     first: u64,

@@ -4,7 +4,8 @@ ghost use Rattle.vm_base.specs.Info.{info_file_page, is_leaf};
 
 use vm_base::PageInfo;
 
-/// Slots side by side that can be one: their pages from `first` up to `end`, and what the first page has.
+/// Slots side by side that can be one: their pages from `first` up to `end`, and what the first
+/// page has.
 #[derive(Clone, Copy, Debug)]
 pub struct Joint {
     pub first: u64,

@@ -1,4 +1,5 @@
-//! What the levels of the shared tree do. A level is 512 slots side by side, and none of the types holds itself.
+//! What the levels of the shared tree do. A level is 512 slots side by side, and none of the types
+//! holds itself.
 ghost use Rattle.std.specs.Prelude.{◌≡◌, ◌≢◌, ℕ, ◌+◌, ◌*◌, ◌<◌, ◌≤◌, ◌^◌, [], ◌∷◌, ◌++◌, vec_len, vec_capacity, Some, IfSome, IfNone, IsTrue, ◌↔◌, ◌-◌};
 ghost use Rattle.std.specs.Sync.Mutex.{mutex_guard_value};
 ghost use Rattle.live_levels.specs.Parts.{AreParts, divided_for};
@@ -14,7 +15,8 @@ use std::alloc::Allocator;
 use std::sync::{MutexGuard, OnceLock, Wait};
 use vm_base::{CoreId, NoMemory, PageInfo};
 
-/// Who draws a ticket and notes a step under it. Whoever calls it holds the locks of all that the step touches.
+/// Who draws a ticket and notes a step under it. Whoever calls it holds the locks of all that the
+/// step touches.
 pub trait Stepper {
     ghost use Rattle.std.specs.Prelude.{ℕ};
 
@@ -60,10 +62,12 @@ pub trait Level<A: Allocator + Clone>: Drop {
     /// A level with room for 512 slots of so many pages each, from the page `first` on.
     fn new(alloc: A, first: u64, pages: u64) -> Result<Self, NoMemory>;
 
-    /// Takes the slots over, in their order and as far as there is room, each under a lock of its own. It takes no memory.
+    /// Takes the slots over, in their order and as far as there is room, each under a lock of its
+    /// own. It takes no memory.
     fn fill(&mut self, slots: &mut Vec<SlotState<A>, A>);
 
-    /// Locks the slot that has the cursor, where it begins there and ends by the end; else it divides the slot.
+    /// Locks the slot that has the cursor, where it begins there and ends by the end; else it
+    /// divides the slot.
     fn lock_next<'a, R: Wait, S: Stepper>(
         &'a self,
         rt: &R,
@@ -77,7 +81,8 @@ pub trait Level<A: Allocator + Clone>: Drop {
         requires stepper { S.can_step stepper.old }
         ensures { Answers S.stepped stepper.old stepper.new core cursor end result };
 
-    /// Locks the deepest slot that has the page, whoever is to lock it first. `None` where a slot was in a wrong place.
+    /// Locks the deepest slot that has the page, whoever is to lock it first. `None` where a slot
+    /// was in a wrong place.
     fn lock_at<'a, R: Wait>(&'a self, rt: &R, page: u64) -> Option<MutexGuard<'a, SlotState<A>>>
         ensures { IfSome result (λ guard. HasPage (mutex_guard_value guard) page) };
 
@@ -86,8 +91,8 @@ pub trait Level<A: Allocator + Clone>: Drop {
         requires { S.can_step stepper.old }
         ensures { Cuts S.stepped stepper.old stepper.new result };
 
-    /// Adds the histories of all slots, which lie side by side from the page `next` on, and answers the page after them.
-    /// `None` where memory ran out, or a slot was in a wrong place.
+    /// Adds the histories of all slots, which lie side by side from the page `next` on, and answers
+    /// the page after them. `None` where memory ran out, or a slot was in a wrong place.
     fn gather(&mut self, alloc: &A, slots: &mut Vec<SlotHistory<A>, A>, next: u64) -> Option<u64>
         ensures { IfSome result (λ end. Grew next end slots.old.items slots.new.items) };
 
@@ -97,14 +102,15 @@ pub trait Level<A: Allocator + Clone>: Drop {
     /// All slots of this level, where none is divided and they can be one.
     fn joint(&mut self) -> Option<Joint>;
 
-    /// Makes one slot of the deepest level that has the page, where that isn't this one and its slots can be one. Answers
-    /// whether it did, which is noted.
+    /// Makes one slot of the deepest level that has the page, where that isn't this one and its
+    /// slots can be one. Answers whether it did, which is noted.
     fn fold<S: Stepper>(&mut self, stepper: &mut S, page: u64) -> bool
         requires { S.can_step stepper.old }
         ensures { Folds S.stepped stepper.old stepper.new result };
 }
 
-/// The number of the slot that has the page, in a level of slots of so many pages from the page `first` on.
+/// The number of the slot that has the page, in a level of slots of so many pages from the page
+/// `first` on.
 pub(crate) fn index_of(first: u64, pages: u64, page: u64) -> Option<usize> {
     let from = page.checked_sub(first)?;
     let index = from.checked_div(pages)?;
@@ -125,7 +131,8 @@ pub(crate) fn has_page<A: Allocator>(slot: &SlotState<A>, page: u64) -> bool
 
 /// Puts the item behind the others, where there is room. It takes no memory.
 pub(crate) fn put<T: Drop, A: Allocator>(items: &mut Vec<T, A>, item: T)
-    ensures { vec_len items.old < vec_capacity items.old → items.new.items ≡ items.old.items ++ item ∷ [] }
+    ensures { vec_len items.old < vec_capacity items.old
+        → items.new.items ≡ items.old.items ++ item ∷ [] }
 {
     if items.len() < items.capacity() {
         items.push_reserved(item);
@@ -146,8 +153,9 @@ pub(crate) fn other_owner<A: Allocator>(slot: &SlotState<A>, core: CoreId) -> Op
     Some(owner)
 }
 
-/// Divides a slot whose lock is held: the level below it gets 512 slots, which carry on what its pages have, and is shown
-/// to all threads. Only what stands before the ticket is drawn takes memory.
+/// Divides a slot whose lock is held: the level below it gets 512 slots, which carry on what its
+/// pages have, and is shown to all threads. Only what stands before the ticket is drawn takes
+/// memory.
 pub(crate) fn divide<C: Level<A>, A: Allocator + Clone, S: Stepper>(
     alloc: &A,
     stepper: &mut S,
@@ -180,8 +188,8 @@ pub(crate) fn divide<C: Level<A>, A: Allocator + Clone, S: Stepper>(
     Fit::Cut
 }
 
-/// Shows the level to all threads, once it has these slots: the parts of the slot that is divided, each with one change
-/// under the ticket. It takes no memory.
+/// Shows the level to all threads, once it has these slots: the parts of the slot that is divided,
+/// each with one change under the ticket. It takes no memory.
 fn show<C: Level<A>, A: Allocator + Clone>(
     below: &OnceLock<Box<C, A>>,
     mut level: Box<C, A>,

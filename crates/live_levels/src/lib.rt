@@ -1,5 +1,5 @@
-//! The levels of the tree of slots that threads share: each slot under a lock of its own, with the history of its
-//! changes, whose replay is what its pages have.
+//! The levels of the tree of slots that threads share: each slot under a lock of its own, with the
+//! history of its changes, whose replay is what its pages have.
 #![tactic(auto)]
 
 pub mod act;

@@ -38,8 +38,8 @@ pub fn side_by_side<A: Allocator + Clone>(
     Ok(slots)
 }
 
-/// Lets each of 512 slots begin with its part of what the divided slot has, by a history of one change. It takes no
-/// memory.
+/// Lets each of 512 slots begin with its part of what the divided slot has, by a history of one
+/// change. It takes no memory.
 pub fn carry_on<A: Allocator>(
     slots: &mut Vec<SlotState<A>, A>,
     divided: &Divided,

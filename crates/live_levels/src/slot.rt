@@ -9,10 +9,10 @@ use std::alloc::{AllocError, Allocator};
 use std::marker::Model;
 use vm_base::{CoreId, PageInfo};
 
-/// A slot of neighbouring pages: its place, the core that is to lock it first, what its pages have, and the changes that
-/// led to it, each under its ticket. The first change stands apart, so that it takes no memory. Whenever a thread locks
-/// the slot, what its first page has is the replay of its changes; a page with a frame or a recorded core is a slot of
-/// its own.
+/// A slot of neighbouring pages: its place, the core that is to lock it first, what its pages have,
+/// and the changes that led to it, each under its ticket. The first change stands apart, so that it
+/// takes no memory. Whenever a thread locks the slot, what its first page has is the replay of its
+/// changes; a page with a frame or a recorded core is a slot of its own.
 #[derive(Drop)]
 pub struct SlotState<A: Allocator> {
     first: u64,
@@ -30,9 +30,11 @@ impl<A: Allocator> Model for SlotState<A> {
 
     ghost Value = { SlotView };
 
-    ghost view = { λ s. slot_view s.first s.count s.owner s.content (history s.begun s.later.items) (vec_capacity s.later - vec_len s.later) };
+    ghost view = { λ s. slot_view s.first s.count s.owner s.content (history s.begun s.later.items)
+        (vec_capacity s.later - vec_len s.later) };
 
-    ghost invariant = { λ s. IsSlot (slot_view s.first s.count s.owner s.content (history s.begun s.later.items) (vec_capacity s.later - vec_len s.later)) };
+    ghost invariant = { λ s. IsSlot (slot_view s.first s.count s.owner s.content
+        (history s.begun s.later.items) (vec_capacity s.later - vec_len s.later)) };
 }
 
 impl<A: Allocator> SlotState<A> {

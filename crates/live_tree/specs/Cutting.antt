@@ -9,7 +9,8 @@ use Rattle.live_tree.specs.Held.{HeldView, SideBySide, CrossesNoEdge}
 use Rattle.live_tree.specs.declared.held.cut.Cutting.{Cutting}
 use Rattle.live_tree.specs.declared.held.cut.Cutting.TheVariants.{Cut, Fits, NoMemory, Lost}
 
--- the first held slot that crosses an edge of the range was replaced by 512, which have its pages, and the others stay
+-- the first held slot that crosses an edge of the range was replaced by 512, which have its pages,
+-- and the others stay
 pub record CutsFirst (range : PageRange) (h k : HeldView) : Type 0 where
   pub left : List SlotView
   pub slot : SlotView

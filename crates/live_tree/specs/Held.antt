@@ -37,11 +37,13 @@ is_inside range s = leb range.first s.first && leb (s.first + s.count) range.end
 
 -- a slot after the commit: one change more where it lies in the range, and else as it was
 abbrev pub committed : ℕ → Change → SlotView → SlotView
-committed ticket change s = cond (is_inside (range_of change) s) (changed s (dated ticket (act_on change s))) s
+committed ticket change s =
+    cond (is_inside (range_of change) s) (changed s (dated ticket (act_on change s))) s
 
 -- the slot lies in the range or has no page of it
 abbrev pub CrossesNoEdge : PageRange → SlotView → Type 0
-CrossesNoEdge range s = (is_inside range s ≡ true) ⊎ ((s.first + s.count ≤ range.first) ⊎ (range.end ≤ s.first))
+CrossesNoEdge range s =
+    (is_inside range s ≡ true) ⊎ ((s.first + s.count ≤ range.first) ⊎ (range.end ≤ s.first))
 
 -- a slot in the range has room for one change more
 abbrev pub HasRoom : PageRange → SlotView → Type 0

@@ -24,7 +24,8 @@ abbrev pub ChangesPages : Change → HeldView → HeldView → Type 0
 ChangesPages change h k = (p : ℕ) → h.first ≤ p → p < h.end
     → (shown k.slots).info p ≡ (changed (shown h.slots) change).info p
 
--- a map has the held pages as they are, with the core as their owner, and else nothing is mapped or held
+-- a map has the held pages as they are, with the core as their owner, and else nothing is mapped or
+-- held
 pub record Lends (core : ℕ) (h : HeldView) (s : Slots) : Type 0 where
   pub info : (p : ℕ) → h.first ≤ p → p < h.end → s.info p ≡ (shown h.slots).info p
   pub owner : (p : ℕ) → h.first ≤ p → p < h.end → s.owner p ≡ Some core

@@ -13,7 +13,8 @@ pub record Locks (core end room : ℕ) (h k : HeldView) : Type 0 where
   pub has_room : room ≤ slot.room
   pub now : k ≡ with_slot h slot
 
--- a step was noted exactly where a slot was locked or divided, and the held slots stay but for one that was locked
+-- a step was noted exactly where a slot was locked or divided, and the held slots stay but for one
+-- that was locked
 module _ {S : Type 0} (stepped : S → ℕ → S → Type 0) (before now : S) (h k : HeldView) where
   abbrev pub Acquires : ℕ → ℕ → ℕ → Got → Type 0
   Acquires core end room Locked = Noted stepped before now × Locks core end room h k

@@ -44,7 +44,8 @@ pub enum Got {
     Lost,
 }
 
-/// The locked slots of a call, from left to right and side by side. A clause sees their pages and the slots.
+/// The locked slots of a call, from left to right and side by side. A clause sees their pages and
+/// the slots.
 #[derive(Drop)]
 pub struct Held<'a, A: Allocator> {
     first: u64,
@@ -61,7 +62,8 @@ impl<'a, A: Allocator> Model for Held<'a, A> {
 
     ghost view = { λ h. record { first = h.first; end = h.end; slots = map slot_of h.guards.items } };
 
-    ghost invariant = { λ h. All IsSome h.guards.items × SideBySide h.first h.end (map slot_of h.guards.items) };
+    ghost invariant = { λ h. All IsSome h.guards.items
+        × SideBySide h.first h.end (map slot_of h.guards.items) };
 }
 
 impl<'a, A: Allocator + Clone> Held<'a, A> {
@@ -90,8 +92,8 @@ impl<'a, A: Allocator + Clone> Held<'a, A> {
         self.guards.len()
     }
 
-    /// One locked slot more, which begins where the others end. Where memory is wanting, it is unlocked, and the others
-    /// stay held.
+    /// One locked slot more, which begins where the others end. Where memory is wanting, it is
+    /// unlocked, and the others stay held.
     pub fn push(&mut self, guard: MutexGuard<'a, SlotState<A>>) -> Result<(), NoMemory>
         requires next { (mutex_guard_value guard).first ≡ self.old.end }
         ensures ok { OnOk result (self.new ≡ with_slot self.old (mutex_guard_value guard.entry)) }
@@ -107,10 +109,11 @@ impl<'a, A: Allocator + Clone> Held<'a, A> {
         }
     }
 
-    /// One step of the core towards holding the pages up to the end: the deepest slot that has the next page is locked, where
-    /// it begins there and ends by the end, with room for so many changes; else it is divided into 512. Either is noted while
-    /// the slot is locked. It waits while another thread has the slot locked. Want of memory leaves the held slots as they
-    /// are, and lets go of the slot that was to be one of them.
+    /// One step of the core towards holding the pages up to the end: the deepest slot that has the
+    /// next page is locked, where it begins there and ends by the end, with room for so many
+    /// changes; else it is divided into 512. Either is noted while the slot is locked. It waits
+    /// while another thread has the slot locked. Want of memory leaves the held slots as they are,
+    /// and lets go of the slot that was to be one of them.
     pub fn lock_next<R: Wait, S: Stepper>(
         &mut self,
         rt: &R,
@@ -149,14 +152,15 @@ impl<'a, A: Allocator + Clone> Held<'a, A> {
         Letting::of(guards)
     }
 
-    /// Makes the change in the held slots that lie in its range, each under one change more of its history, and in no
-    /// other. It takes no memory.
+    /// Makes the change in the held slots that lie in its range, each under one change more of its
+    /// history, and in no other. It takes no memory.
     pub fn commit(&mut self, ticket: u64, change: Change)
         requires covers { Covers self.old (range_of change) }
         requires edges { All (CrossesNoEdge (range_of change)) self.old.slots }
         requires room { All (HasRoom (range_of change)) self.old.slots }
         requires files { FitsFiles change }
-        ensures slots { self.new ≡ record self.old { slots = map (committed ticket change) self.old.slots } }
+        ensures slots { self.new
+            ≡ record self.old { slots = map (committed ticket change) self.old.slots } }
         ensures pages { ChangesPages change self.old self.new }
     {
         commit_all(&mut self.guards, ticket, change);

@@ -5,8 +5,8 @@ ghost use Rattle.live_levels.specs.Histories.{Chain, Grew};
 use live_levels::close::SlotHistory;
 use std::alloc::Allocator;
 
-/// The histories of slots that lie side by side and have all pages below 2^36, and so all valid pages. Only a tree hands
-/// them out.
+/// The histories of slots that lie side by side and have all pages below 2^36, and so all valid
+/// pages. Only a tree hands them out.
 #[derive(Drop)]
 pub struct Histories<A: Allocator> {
     slots: Vec<SlotHistory<A>, A>,

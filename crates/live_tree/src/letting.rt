@@ -10,8 +10,8 @@ use std::alloc::Allocator;
 use std::marker::Model;
 use std::sync::MutexGuard;
 
-/// Held slots that are let go one after another, from left to right. A clause sees those that are still locked: the slots
-/// of which nothing is noted yet, and the slot that was noted last.
+/// Held slots that are let go one after another, from left to right. A clause sees those that are
+/// still locked: the slots of which nothing is noted yet, and the slot that was noted last.
 #[derive(Drop)]
 pub struct Letting<'a, A: Allocator> {
     // from right to left, so that the next one is the last
@@ -51,8 +51,9 @@ impl<'a, A: Allocator> Letting<'a, A> {
         self.guards.len()
     }
 
-    /// Notes that the leftmost slot is let go, and answers the ticket of the step. The slot is still locked then, and no
-    /// core is to lock it first any more. The slot that was noted before is unlocked. It takes no memory.
+    /// Notes that the leftmost slot is let go, and answers the ticket of the step. The slot is
+    /// still locked then, and no core is to lock it first any more. The slot that was noted before
+    /// is unlocked. It takes no memory.
     pub fn note_first<S: Stepper>(&mut self, stepper: &mut S) -> u64
         requires some { 0 < length self.old.slots }
         requires step { S.can_step stepper.old }
@@ -76,8 +77,8 @@ impl<'a, A: Allocator> Letting<'a, A> {
         self.noted = None;
     }
 
-    /// Lets the leftmost slot go, and answers the ticket of the step, which is noted while the slot is still locked. No
-    /// core is to lock the slot first any more. It takes no memory.
+    /// Lets the leftmost slot go, and answers the ticket of the step, which is noted while the slot
+    /// is still locked. No core is to lock the slot first any more. It takes no memory.
     pub fn unlock_first<S: Stepper>(&mut self, stepper: &mut S) -> u64
         requires some { 0 < length self.old.slots }
         requires step { S.can_step stepper.old }

@@ -40,8 +40,9 @@ impl<A: Allocator + Clone> SharedTree<A> {
         SharedTree::over(alloc, slots)
     }
 
-    /// The slots with which a tree begins, before any thread shares them: the 512 of the first level, which have all pages
-    /// below 2^36. Nothing is mapped, nothing is held, and there is no history.
+    /// The slots with which a tree begins, before any thread shares them: the 512 of the first
+    /// level, which have all pages below 2^36. Nothing is mapped, nothing is held, and there is no
+    /// history.
     pub fn first_slots(alloc: &A) -> Result<Vec<SlotState<A>, A>, NoMemory>
         ensures slots { IfOk result (λ slots. AreUnused 0 (2 ^ 27) slots.items) }
         ensures pages { IfOk result (λ slots. IsNew (shown slots.items)) }
@@ -50,7 +51,8 @@ impl<A: Allocator + Clone> SharedTree<A> {
         Ok(slots)
     }
 
-    /// A tree that begins with these slots. What they are from then on no clause knows, since threads change them.
+    /// A tree that begins with these slots. What they are from then on no clause knows, since
+    /// threads change them.
     pub fn over(alloc: A, mut slots: Vec<SlotState<A>, A>) -> Result<SharedTree<A>, NoMemory>
         requires { AreUnused 0 (2 ^ 27) slots.items }
     {
@@ -70,9 +72,10 @@ impl<A: Allocator + Clone> SharedTree<A> {
         &self.alloc
     }
 
-    /// One step of the core towards holding the pages from the cursor up to the end: the deepest slot that has the cursor
-    /// is locked, where it begins there and ends by the end; else it is divided into 512, which is noted. It waits while
-    /// another thread has the slot locked. Want of memory changes nothing.
+    /// One step of the core towards holding the pages from the cursor up to the end: the deepest
+    /// slot that has the cursor is locked, where it begins there and ends by the end; else it is
+    /// divided into 512, which is noted. It waits while another thread has the slot locked. Want of
+    /// memory changes nothing.
     pub fn lock_next<'a, R: Wait, S: Stepper>(
         &'a self,
         rt: &R,
@@ -89,16 +92,18 @@ impl<A: Allocator + Clone> SharedTree<A> {
             .lock_next(rt, &self.alloc, stepper, core, cursor, end)
     }
 
-    /// Locks the deepest slot that has the page, whoever is to lock it first. It waits while another thread has it locked.
-    /// `None` where a slot was in a wrong place, or no slot has the page.
+    /// Locks the deepest slot that has the page, whoever is to lock it first. It waits while
+    /// another thread has it locked. `None` where a slot was in a wrong place, or no slot has the
+    /// page.
     pub fn lock_at<'a, R: Wait>(&'a self, rt: &R, page: u64) -> Option<MutexGuard<'a, SlotState<A>>>
         ensures { IfSome result (λ guard. HasPage (mutex_guard_value guard) page) }
     {
         self.root.lock_at(rt, page)
     }
 
-    /// Divides a slot that the core holds, and lends, into 512, which is noted. The core is to lock them first: others
-    /// that come before it let go again. The slot itself has no meaning from then on. Want of memory changes nothing.
+    /// Divides a slot that the core holds, and lends, into 512, which is noted. The core is to lock
+    /// them first: others that come before it let go again. The slot itself has no meaning from
+    /// then on. Want of memory changes nothing.
     pub fn cut<S: Stepper>(&self, stepper: &mut S, core: CoreId, slot: &SlotState<A>) -> Fit
         requires { S.can_step stepper.old }
         ensures { Cuts S.stepped stepper.old stepper.new result }
@@ -106,10 +111,11 @@ impl<A: Allocator + Clone> SharedTree<A> {
         self.root.cut(&self.alloc, stepper, core, slot)
     }
 
-    /// Makes one slot of the deepest level that has the page, where that isn't the first level and its slots can be one: none
-    /// is divided, no core is to lock one first, they have no frame and no recorded core, and the mapping goes on from slot
-    /// to slot. The slot begins its history anew with one change under the ticket of the step, which is noted. Answers
-    /// whether it did; else nothing changes. It takes no memory.
+    /// Makes one slot of the deepest level that has the page, where that isn't the first level and
+    /// its slots can be one: none is divided, no core is to lock one first, they have no frame and
+    /// no recorded core, and the mapping goes on from slot to slot. The slot begins its history
+    /// anew with one change under the ticket of the step, which is noted. Answers whether it did;
+    /// else nothing changes. It takes no memory.
     pub fn fold<S: Stepper>(&mut self, stepper: &mut S, page: u64) -> bool
         requires { S.can_step stepper.old }
         ensures { Folds S.stepped stepper.old stepper.new result }
@@ -117,8 +123,8 @@ impl<A: Allocator + Clone> SharedTree<A> {
         self.root.fold(stepper, page)
     }
 
-    /// The histories of all slots in the order of their pages, which are all pages below 2^36. `None` where memory ran
-    /// out, or a slot was in a wrong place.
+    /// The histories of all slots in the order of their pages, which are all pages below 2^36.
+    /// `None` where memory ran out, or a slot was in a wrong place.
     pub fn histories(&mut self) -> Option<Histories<A>> {
         let Ok(own) = self.alloc.clone() else {
             return None;

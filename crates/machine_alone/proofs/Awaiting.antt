@@ -1,5 +1,5 @@
 -- What a call that waits will be answered: the plain page map says it before
-use Rattle.std.proofs.Common.{◌≡◌, ℕ, suc, ◌+◌, Bool, true, false, arith, refl, sym, ap, subst, Some, None, Option, ◌∙◌}
+use Rattle.std.proofs.Common.{◌≡◌, ℕ, suc, ◌+◌, ◌<◌, Bool, true, false, arith, refl, sym, ap, subst, Some, None, Option, ◌∙◌}
 use Rattle.std.specs.Prelude.{is_some, if◌then◌else◌}
 use Rattle.vm_base.specs.declared.info.Back.{Back}
 use Rattle.vm_base.specs.declared.info.Back.TheVariants.{Anon, Shared, Private}
@@ -19,11 +19,11 @@ use Rattle.vm_base.specs.Plain.{Bytes, Entry, File, Plain, mode_of}
 use Rattle.vm_base.specs.Rights.{is_allowed}
 use Rattle.vm_base.proofs.Functions.{put_same}
 use Rattle.slot_lock.specs.declared.plan.Change.{Change}
-use Rattle.slot_lock.specs.declared.plan.Plan.TheVariants as PlanOf
+use Rattle.slot_lock.specs.declared.plan.Goal.{Goal}
 use Rattle.slot_lock.specs.declared.plan.Touch.{Touch}
 use Rattle.slot_lock.specs.Plan.{range_of}
 use Rattle.vm_calls.specs.Checks.{touch_of}
-use Rattle.vm_calls.specs.Plainly.{left_by, touched_by}
+use Rattle.vm_calls.specs.Plainly.{touched_by}
 use Rattle.machine_model.specs.declared.phase.Phase.TheVariants.{Acks, CopyAcks}
 use Rattle.machine_model.specs.Changes.{reply_to}
 use Rattle.machine_model.specs.Files.{back_of}
@@ -31,21 +31,23 @@ use Rattle.machine_model.specs.Holding.{page_of_touch, taken_in}
 use Rattle.machine_model.specs.World.{World}
 use Rattle.machine_laws.specs.Brackets.{nth}
 use Rattle.machine_laws.specs.Orderly.{IsUsable}
+use Rattle.machine_laws.proofs.Going.{call_sound, has_core}
 use Rattle.machine_laws.proofs.Moves.{IsCallOf, call_at}
 use Rattle.machine_sound.specs.Log.{CanAccess, Stands}
 use Rattle.machine_sound.specs.Invariant.{Fine}
 use Rattle.machine_sound.proofs.Fills.{IsUncopied, as_store, its_copy, private_only, shown_uncopied}
 use Rattle.machine_sound.proofs.Pages.{framed}
-use Rattle.machine_sound.proofs.Replies.{acted, touched_stands}
+use Rattle.machine_sound.proofs.Replies.{acted, led_goes, made_of, touched_stands}
 use Rattle.machine_sound.proofs.Stores.{with_own}
 use Rattle.machine_alone.specs.Alone.{users_dropped}
 use Rattle.machine_alone.specs.Copies.{or_else, page_copied, page_due, with_copy}
 use Rattle.machine_alone.specs.Taken.{frames_for, is_access, taken_below}
 use Rattle.machine_alone.specs.Users.{Users, Same, users_after, with_user, without}
+use Rattle.machine_alone.proofs.Aiming.{goal_drops, goal_no_access}
 use Rattle.machine_alone.proofs.Rows.{HasTaken}
-use Rattle.machine_alone.proofs.Taking.{change_no_access, its_access, one_taken_of}
+use Rattle.machine_alone.proofs.Taking.{its_access, one_taken_of}
 use Rattle.machine_alone.proofs.Used.{its_touch, same_request}
-use Rattle.machine_alone.proofs.Using.{IsTouchOf, loads, stores, fetches, as_asked, added, change_drops, copied_so, store_asked}
+use Rattle.machine_alone.proofs.Using.{IsTouchOf, loads, stores, fetches, as_asked, added, copied_so, store_asked}
 
 -- the map t answers the request with this reply, which leaves the pages of the range without users, but for a store's core
 pub record WillAnswer (t : Plain) (c : ℕ) (request : Request) (range : PageRange) : Type 0 where
@@ -60,19 +62,29 @@ no_store : (b : Bool) (x y : Users) → b ≡ false → Same y (if b then x else
 no_store true x y e p c = absurd cc
 no_store false x y e p c = refl
 
-pub change_answers : (w : World) (t : Plain) (c : ℕ) (request : Request) (change : Change) (held : PageRange) (f : Fine w) → f.plain ≡ t
-    → nth w.calls.requests (w.calls.number c) ≡ Some request → w.calls.phase c ≡ Acks change held
+pub change_answers : (w : World) (t : Plain) (c : ℕ) (request : Request) (goal : Goal) (change : Change) (f : Fine w) → f.plain ≡ t
+    → nth w.calls.requests (w.calls.number c) ≡ Some request → w.calls.phase c ≡ Acks goal change
     → WillAnswer t c request (range_of change) × (is_access request ≡ false)
-change_answers w t c request change held f from number p =
-    let call : IsCallOf w c (Acks change held) = call_at w c (Acks change held) p f.order in
+change_answers w t c request goal change f from number p =
+    let call : IsCallOf w c (Acks goal change) = call_at w c (Acks goal change) p f.order in
+    let inside : c < w.made.cores = has_core w c f.order (λ k. let a = sym p ∙ k in cc) in
     let same : call.asked.request ≡ request = same_request w c call.asked.request request call.asked.number number in
-    let after : Plain = left_by f.plain (PlanOf.Change change) (range_of change) in
+    let after : Plain = made_of f.plain change in
     let stands : Stands f.plain c call.asked.request (reply_to change) after =
-    acted w f.plain c call.asked.request change call.ready.1.0 f.good call.asked.passed call.ready.1.1 in
-    let drops = change_drops (λ k. mode_of (w.made.file k)) t c call.asked.request change call.asked.passed in
+    acted w f.plain c call.asked.request goal change f.good
+    (record {
+      few = let few = f.order.few in omega (arith, inside, few);
+      passed = call.asked.passed;
+      target = call.ready.0;
+      none = led_goes goal change call.ready.1;
+    }) call.ready.1 call.ready.2 in
+    let drops =
+    goal_drops (λ k. mode_of (w.made.file k)) w.made w.slots t c call.asked.request goal change call.asked.passed
+    (call_sound w c goal f.order inside call.asked call.ready.0) call.ready.1 call.ready.2 in
     let none : page_copied t request (reply_to change) ≡ None = subst (λ r. page_copied t r (reply_to change) ≡ None) same drops.0 in
     let access : is_access request ≡ false =
-    subst (λ r. is_access r ≡ false) same (change_no_access (λ n. mode_of (w.made.file n)) c call.asked.request change call.asked.passed) in (
+    subst (λ r. is_access r ≡ false) same
+    (goal_no_access (λ n. mode_of (w.made.file n)) c call.asked.request goal change call.asked.passed call.ready.1) in (
       record {
         reply = reply_to change;
         after = after;

@@ -18,9 +18,10 @@ use Rattle.shootdown.specs.declared.message.Took.{Took}
 use Rattle.shootdown.specs.declared.message.Took.TheVariants as TookOf
 use Rattle.shootdown.specs.Messages.{asked, message_of, remaining}
 use Rattle.slot_lock.specs.declared.plan.Change.{Change}
+use Rattle.slot_lock.specs.declared.plan.Goal.{Goal}
 use Rattle.slot_lock.specs.declared.plan.Touch.{Touch}
 use Rattle.machine_model.specs.declared.event.Event.{Event}
-use Rattle.machine_model.specs.declared.event.Event.TheVariants.{Call, Go, Frame, Take, Walk, Evict, Flush, Review, Fold, GiveUp}
+use Rattle.machine_model.specs.declared.event.Event.TheVariants.{Call, Go, Frame, Guess, Whole, Take, Walk, Evict, Flush, Review, Fold, GiveUp}
 use Rattle.machine_model.specs.declared.event.Outcome.{Outcome}
 use Rattle.machine_model.specs.declared.event.Outcome.TheVariants.{Stepped, Idle, Full}
 use Rattle.machine_model.specs.declared.phase.Phase.{Phase}
@@ -31,6 +32,7 @@ use Rattle.machine_model.specs.Counting.{ReportsFlush, ReportsReview}
 use Rattle.machine_model.specs.Events.{core_of}
 use Rattle.machine_model.specs.GivingUp.{GivesUp}
 use Rattle.machine_model.specs.Holding.{awaits_in, can_give_up}
+use Rattle.machine_model.specs.Placing.{GuessesThisRun, TakesWindow}
 use Rattle.machine_model.specs.Translating.{TakesMessage, after_eviction, after_walk, can_walk, tables_cleared, tlb_invalidated, with_hardware, with_inbox}
 use Rattle.machine_model.specs.World.{World, Hardware}
 use Rattle.machine_model.specs.Step.{Acts, Goes, is_here, with_event, event_limit, Step}
@@ -99,13 +101,13 @@ rest_at w core r c = go (c == core) refl
 
 -- by the phase, which is free or waits
 by_rest : (w : World) (c : ℕ) (P : Phase → Type 0) → Rest w c
-    → (A : Type 0) → (P Free → A) → ((change : Change) (held : PageRange) → P (Acks change held) → A)
+    → (A : Type 0) → (P Free → A) → ((goal : Goal) (change : Change) → P (Acks goal change) → A)
     → ((touch : Touch) (frame : ℕ) → w.calls.phase c ≡ CopyAcks touch frame → P (CopyAcks touch frame) → A) → P (w.calls.phase c) → A
 by_rest w c P (inl e) A f g k h = f (subst P e h)
 by_rest w c P (inr e) A f g k h = waiting e.1
   where
     waiting : Waits (w.calls.phase c) e.0 → A
-    waiting (for_change change held p i) = g change held (subst P p h)
+    waiting (for_change goal change p i) = g goal change (subst P p h)
     waiting (for_copy touch frame p i) = k touch frame p (subst P p h)
 
 -- ---- messages
@@ -233,11 +235,19 @@ acted w v core (Go c) o r b h =
     let k = idles w v z.1 in (k.0, (z.0, k.1))
 acted w v core (Frame c f) o r b h =
     by_rest w c (λ phase. TakesThisFrame (with_event w) c phase f o v) (rest_at w core r c) _
-    (λ z. let k = idles w v z.1 in (k.0, (z.0, k.1))) (λ change held z. let k = idles w v z.1 in (k.0, (z.0, k.1)))
+    (λ z. let k = idles w v z.1 in (k.0, (z.0, k.1))) (λ goal change z. let k = idles w v z.1 in (k.0, (z.0, k.1)))
+    (λ touch frame p z. let k = idles w v z.1 in (k.0, (z.0, k.1))) h
+acted w v core (Guess c page) o r b h =
+    by_rest w c (λ phase. GuessesThisRun (with_event w) c phase page o v) (rest_at w core r c) _
+    (λ z. let k = idles w v z.1 in (k.0, (z.0, k.1))) (λ goal change z. let k = idles w v z.1 in (k.0, (z.0, k.1)))
+    (λ touch frame p z. let k = idles w v z.1 in (k.0, (z.0, k.1))) h
+acted w v core (Whole c) o r b h =
+    by_rest w c (λ phase. TakesWindow (with_event w) c phase o v) (rest_at w core r c) _
+    (λ z. let k = idles w v z.1 in (k.0, (z.0, k.1))) (λ goal change z. let k = idles w v z.1 in (k.0, (z.0, k.1)))
     (λ touch frame p z. let k = idles w v z.1 in (k.0, (z.0, k.1))) h
 acted w v core (GiveUp c) o r b h =
     by_rest w c (λ phase. GivesUp (with_event w) c phase o v) (rest_at w core r c) _
-    (λ z. let k = idles w v z.1 in (k.0, (z.0, k.1))) (λ change held z. let k = idles w v z.1 in (k.0, (z.0, k.1)))
+    (λ z. let k = idles w v z.1 in (k.0, (z.0, k.1))) (λ goal change z. let k = idles w v z.1 in (k.0, (z.0, k.1)))
     (λ touch frame p z. let i = not_given_up w v core r c touch frame o p b z in let k = idles w v i.1 in (k.0, (i.0, k.1))) h
 acted w v core (Take c) o r b h = taken w v core r c o (asked (w.hardware.inbox c)) refl h
 acted w v core (Walk c p) o r b h =
@@ -257,6 +267,8 @@ absent : (w v : World) (e : Event) (o : Outcome) → IsBeside w e → is_here w.
 absent w v (Call c request) o b i h = absurd b
 absent w v (Go c) o b i h = let k = idles w v h.1 in (k.0, (h.0, k.1))
 absent w v (Frame c f) o b i h = let k = idles w v h.1 in (k.0, (h.0, k.1))
+absent w v (Guess c page) o b i h = let k = idles w v h.1 in (k.0, (h.0, k.1))
+absent w v (Whole c) o b i h = let k = idles w v h.1 in (k.0, (h.0, k.1))
 absent w v (GiveUp c) o b i h = let k = idles w v h.1 in (k.0, (h.0, k.1))
 absent w v (Take c) o b i h = let k = idles w v h.1 in (k.0, inr (h.0, inr i, k.1))
 absent w v (Walk c p) o b i h = let k = idles w v h.1 in (k.0, (inr h.0, k.1))

@@ -7,17 +7,17 @@ use Rattle.vm_base.specs.declared.replies.Reply.{Reply}
 use Rattle.vm_base.specs.declared.replies.Reply.TheVariants as ReplyOf
 use Rattle.vm_base.specs.declared.requests.Request.{Request}
 use Rattle.vm_base.specs.Functions.{put}
-use Rattle.vm_base.specs.Plain.{Plain, mode_of}
+use Rattle.vm_base.specs.Plain.{Plain}
 use Rattle.vm_base.proofs.Functions.{put_all, put_other, put_same}
 use Rattle.shootdown.specs.Inboxes.{awaited}
 use Rattle.slot_lock.specs.declared.plan.Touch.{Touch}
-use Rattle.slot_lock.specs.Plan.{range_of}
+use Rattle.slot_lock.specs.Plan.{goal_range}
 use Rattle.machine_model.specs.declared.event.Blocker.TheVariants as WaitsFor
 use Rattle.machine_model.specs.declared.event.Event.TheVariants.{Go}
 use Rattle.machine_model.specs.declared.event.Outcome.{Outcome}
 use Rattle.machine_model.specs.declared.event.Outcome.TheVariants.{Stepped, Wait, Answered}
 use Rattle.machine_model.specs.declared.phase.Phase.{Phase}
-use Rattle.machine_model.specs.declared.phase.Phase.TheVariants.{Free, Check, Lock, Decide, Post, Acks, Unlock, Answer, Try, Settle, Want, Fill, CopyPost, CopyAcks, Install, Release}
+use Rattle.machine_model.specs.declared.phase.Phase.TheVariants.{Free, Check, Lock, Guess, Find, Back as Leaving, Cut, Decide, Post, Acks, Unlock, Answer, Try, Settle, Want, Fill, CopyPost, CopyAcks, Install, Release}
 use Rattle.machine_model.specs.Accesses.{NoneFree}
 use Rattle.machine_model.specs.Actions.{let_go, to}
 use Rattle.machine_model.specs.Changes.{Awaits, AwaitsNobody}
@@ -25,10 +25,11 @@ use Rattle.machine_model.specs.Holding.{awaits_in, taken_in}
 use Rattle.machine_model.specs.Locks.{held_after}
 use Rattle.machine_model.specs.World.{World, Made}
 use Rattle.machine_model.specs.Step.{with_event, event_limit, Step, StepsTo}
-use Rattle.machine_laws.proofs.Deciding.{change_sound, sound_range}
+use Rattle.machine_laws.proofs.Deciding.{goal_valid}
+use Rattle.machine_laws.proofs.Going.{call_sound, has_core}
 use Rattle.machine_laws.proofs.Effects.{status}
 use Rattle.machine_laws.proofs.Moves.{IsCallOf, call_at}
-use Rattle.machine_laws.proofs.Shapes.{Moves, locks, tries, acts, finds, lacks, shows, Replies, refuses, no_place, declines, fails, no_frame, LetsGo, unlocks, releases, GoesBy, moves, divides, owns, lets_go, answers, posts, commits, takes, zeroes, first_copies, caches, shares, posts_copy, copies, installs, accesses, faults, comes}
+use Rattle.machine_laws.proofs.Shapes.{Moves, locks, tries, hints, seeks, guesses, turns, chooses, acts, finds, lacks, shows, Replies, refuses, no_place, declines, fails, no_frame, LetsGo, unlocks, returns, releases, GoesBy, moves, divides, cuts, fits, owns, lets_go, answers, posts, commits, takes, zeroes, first_copies, caches, shares, posts_copy, copies, installs, accesses, faults, comes}
 use Rattle.machine_sound.specs.Log.{Stands}
 use Rattle.machine_sound.specs.Invariant.{Fine}
 use Rattle.machine_sound.proofs.Kept.{reached_fine, reached_step}
@@ -37,6 +38,7 @@ use Rattle.machine_alone.specs.Copies.{page_copied, with_copy}
 use Rattle.machine_alone.specs.Taken.{frames_for, frames_taken, is_access, taken_below}
 use Rattle.machine_alone.specs.Users.{recorded}
 use Rattle.machine_alone.proofs.Awaiting.{change_answers, copy_frames}
+use Rattle.machine_alone.proofs.First.{copy_first, named_first}
 use Rattle.machine_alone.proofs.Noting.{IsLogged}
 use Rattle.machine_alone.proofs.Rank.{rank_of, reach_of, hits, size}
 use Rattle.machine_alone.proofs.Rows.{HasTaken, IsDueReply, IsSure, IsSureOf, left_of, sure_at}
@@ -61,7 +63,7 @@ abbrev IsPastOf : ℕ → World → Type 0
 IsPastOf c w = IsPast (reach_of w.hardware c) (w.calls.phase c)
 
 past_waits : (reach : Touch → Option ℕ) (phase : Phase) (range : PageRange) → IsPast reach phase → Waits phase range → ⊥
-past_waits reach phase range k (for_change change held p i) = subst (IsPast reach) p k
+past_waits reach phase range k (for_change goal change p i) = subst (IsPast reach) p k
 past_waits reach phase range k (for_copy touch frame p i) = subst (IsPast reach) p k
 
 past_at : (c : ℕ) (w : World) (old : Phase) → w.calls.phase c ≡ old → IsPastOf c w → IsPast (reach_of w.hardware c) old
@@ -77,6 +79,11 @@ gone_past reach (Some held) reply = tt
 not_moving : (w : World) (c : ℕ) (new : Phase) → IsPastOf c w → Moves w c new → ⊥
 not_moving w c new k (locks request change e n i) = past_at c w (Check request) e k
 not_moving w c new k (tries request touch e n i) = past_at c w (Check request) e k
+not_moving w c new k (hints request place range e n i j) = past_at c w (Check request) e k
+not_moving w c new k (seeks request place e n i) = past_at c w (Check request) e k
+not_moving w c new k (guesses place found e n i) = past_at c w (Guess place) e k
+not_moving w c new k (turns place target e n i) = past_at c w (Find place target) e k
+not_moving w c new k (chooses place target range shoot e n i) = past_at c w (Find place target) e k
 not_moving w c new k (acts change range shoot e n i) = past_at c w (Decide change) e k
 not_moving w c new k (finds touch f e n i) = past_at c w (Settle touch) e k
 not_moving w c new k (lacks touch old e n i j) = past_at c w (Settle touch) e k
@@ -84,28 +91,31 @@ not_moving w c new k (shows touch e n i j) = past_at c w (Settle touch) e k
 
 not_replying : (w : World) (c : ℕ) (held : Option PageRange) (reply : Reply) → IsPastOf c w → Replies w c held reply → ⊥
 not_replying w c held reply k (refuses r e h j) = past_at c w (Check r) e k
-not_replying w c held reply k (no_place r place e h i j) = past_at c w (Check r) e k
+not_replying w c held reply k (no_place place target errno e h i d) = past_at c w (Find place target) e k
 not_replying w c held reply k (declines change errno e h i d) = past_at c w (Decide change) e k
 not_replying w c held reply k (fails touch e h x) = past_at c w (Settle touch) e k
 not_replying w c held reply k (no_frame touch old e h i none) = past_at c w (Want touch old) e k
 
 lets_go_past : (free : ℕ → Bool) (w x : World) (c : ℕ) (held : PageRange) (b : ℕ) (new : Phase) (v : World) → IsSureOf free c w
-    → LetsGo (w.calls.phase c) held b new
+    → IsPastOf c w → LetsGo (w.calls.phase c) held b new
     → x.hardware ≡ w.hardware → v ≡ to c new x → IsPastOf c v
-lets_go_past free w x c held b new v sure (unlocks reply e n) same h =
+lets_go_past free w x c held b new v sure k (unlocks reply e n) same h =
     past_to c new x v h (subst (IsPast (reach_of x.hardware c)) (sym n) (gone_past (reach_of x.hardware c) (held_after held b) reply))
-lets_go_past free w x c held b new v sure (releases touch e i n) same h =
+lets_go_past free w x c held b new v sure k (returns place target e n) same h = absurd (past_at c w (Leaving place target held) e k)
+lets_go_past free w x c held b new v sure k (releases touch e i n) same h =
     let hit : hits (reach_of w.hardware c) touch ≡ true = sure_at free w c (Release touch) e sure in
     past_to c new x v h (subst (IsPast (reach_of x.hardware c)) (sym n) (subst (λ z. hits (reach_of z c) touch ≡ true) (sym same) hit))
 
 past_next : (free : ℕ → Bool) (w : World) (c : ℕ) (v : World) → IsSureOf free c w → IsPastOf c w → GoesBy w c v → IsPastOf c v
 past_next free w c v sure k (moves new m h) = absurd (not_moving w c new k m)
 past_next free w c v sure k (divides goal cursor t e s h) = absurd (past_at c w (Lock goal cursor) e k)
+past_next free w c v sure k (cuts place target range t e s h) = absurd (past_at c w (Cut place target range) e k)
+past_next free w c v sure k (fits place target range e i h) = absurd (past_at c w (Cut place target range) e k)
 past_next free w c v sure k (owns goal cursor b t e l h) = absurd (past_at c w (Lock goal cursor) e k)
-past_next free w c v sure k (lets_go held b t new l u h) = lets_go_past free w (record w { slots = t }) c held b new v sure l refl h
+past_next free w c v sure k (lets_go held b t new l u h) = lets_go_past free w (record w { slots = t }) c held b new v sure k l refl h
 past_next free w c v sure k (answers held reply r h) = absurd (not_replying w c held reply k r)
 past_next free w c v sure k (posts change shoot e h) = absurd (past_at c w (Post change shoot) e k)
-past_next free w c v sure k (commits change held counts e n l h) = absurd (past_at c w (Acks change held) e k)
+past_next free w c v sure k (commits goal change counts e n l h) = absurd (past_at c w (Acks goal change) e k)
 past_next free w c v sure k (takes touch old x e l h) = absurd (past_at c w (Want touch old) e k)
 past_next free w c v sure k (zeroes touch x counts e b t h) = absurd (past_at c w (Fill touch (Some x)) e k)
 past_next free w c v sure k (first_copies touch x counts e b t h) = absurd (past_at c w (Fill touch (Some x)) e k)
@@ -126,6 +136,11 @@ other_phase w c old range e a none = let z = sym (ap awaits_in e) ∙ a in cc
 no_moves : (w : World) (c : ℕ) (new : Phase) (range : PageRange) → awaits_in (w.calls.phase c) ≡ Some range → Moves w c new → ⊥
 no_moves w c new range a (locks request change e n i) = other_phase w c (Check request) range e a refl
 no_moves w c new range a (tries request touch e n i) = other_phase w c (Check request) range e a refl
+no_moves w c new range a (hints request place r e n i j) = other_phase w c (Check request) range e a refl
+no_moves w c new range a (seeks request place e n i) = other_phase w c (Check request) range e a refl
+no_moves w c new range a (guesses place found e n i) = other_phase w c (Guess place) range e a refl
+no_moves w c new range a (turns place target e n i) = other_phase w c (Find place target) range e a refl
+no_moves w c new range a (chooses place target r shoot e n i) = other_phase w c (Find place target) range e a refl
 no_moves w c new range a (acts change r shoot e n i) = other_phase w c (Decide change) range e a refl
 no_moves w c new range a (finds touch f e n i) = other_phase w c (Settle touch) range e a refl
 no_moves w c new range a (lacks touch old e n i j) = other_phase w c (Settle touch) range e a refl
@@ -134,7 +149,7 @@ no_moves w c new range a (shows touch e n i j) = other_phase w c (Settle touch) 
 no_replies : (w : World) (c : ℕ) (held : Option PageRange) (reply : Reply) (range : PageRange) → awaits_in (w.calls.phase c) ≡ Some range
     → Replies w c held reply → ⊥
 no_replies w c held reply range a (refuses r e h j) = other_phase w c (Check r) range e a refl
-no_replies w c held reply range a (no_place r place e h i j) = other_phase w c (Check r) range e a refl
+no_replies w c held reply range a (no_place place target errno e h i d) = other_phase w c (Find place target) range e a refl
 no_replies w c held reply range a (declines change errno e h i d) = other_phase w c (Decide change) range e a refl
 no_replies w c held reply range a (fails touch e h x) = other_phase w c (Settle touch) range e a refl
 no_replies w c held reply range a (no_frame touch old e h i none) = other_phase w c (Want touch old) range e a refl
@@ -142,17 +157,20 @@ no_replies w c held reply range a (no_frame touch old e h i none) = other_phase 
 no_letting : (w : World) (c : ℕ) (held : PageRange) (b : ℕ) (new : Phase) (range : PageRange) → awaits_in (w.calls.phase c) ≡ Some range
     → LetsGo (w.calls.phase c) held b new → ⊥
 no_letting w c held b new range a (unlocks reply e n) = other_phase w c (Unlock held reply) range e a refl
+no_letting w c held b new range a (returns place target e n) = other_phase w c (Leaving place target held) range e a refl
 no_letting w c held b new range a (releases touch e i n) = other_phase w c (Release touch) range e a refl
 
 wait_ends : (w : World) (c : ℕ) (v : World) (range : PageRange) → awaits_in (w.calls.phase c) ≡ Some range → GoesBy w c v
     → AwaitsNobody w.hardware c × IsPastOf c v
 wait_ends w c v range a (moves new m h) = absurd (no_moves w c new range a m)
 wait_ends w c v range a (divides goal cursor t e s h) = absurd (other_phase w c (Lock goal cursor) range e a refl)
+wait_ends w c v range a (cuts place target r t e s h) = absurd (other_phase w c (Cut place target r) range e a refl)
+wait_ends w c v range a (fits place target r e i h) = absurd (other_phase w c (Cut place target r) range e a refl)
 wait_ends w c v range a (owns goal cursor b t e l h) = absurd (other_phase w c (Lock goal cursor) range e a refl)
 wait_ends w c v range a (lets_go held b t new l u h) = absurd (no_letting w c held b new range a l)
 wait_ends w c v range a (answers held reply r h) = absurd (no_replies w c held reply range a r)
 wait_ends w c v range a (posts change shoot e h) = absurd (other_phase w c (Post change shoot) range e a refl)
-wait_ends w c v range a (commits change held counts e n l h) = (n, past_to c (Unlock held _) _ v h tt)
+wait_ends w c v range a (commits goal change counts e n l h) = (n, past_to c (Unlock (goal_range goal) _) _ v h tt)
 wait_ends w c v range a (takes touch old x e l h) = absurd (other_phase w c (Want touch old) range e a refl)
 wait_ends w c v range a (zeroes touch x counts e b t h) = absurd (other_phase w c (Fill touch (Some x)) range e a refl)
 wait_ends w c v range a (first_copies touch x counts e b t h) = absurd (other_phase w c (Fill touch (Some x)) range e a refl)
@@ -205,12 +223,12 @@ at_last w t c request k = go (waits_at (w.calls.phase c) k.range k.at_wait)
     f = reached_fine w k.reached
 
     go : Waits (w.calls.phase c) k.range → IsAtLast w t c request
-    go (for_change change held p i) =
-        let access : is_access request ≡ false = (change_answers w f.plain c request change held f refl k.number p).1 in
+    go (for_change goal change p i) =
+        let access : is_access request ≡ false = (change_answers w f.plain c request goal change f refl k.number p).1 in
         let none : frames_for request ≡ 0 = ap (λ (b : Bool). if b then 1 else 0) access in
         record {
           free = w.memory.is_free;
-          serving = serving_at w.memory.is_free w t c request k (Acks change held) p refl refl tt (refl, λ q d. refl) (inl refl);
+          serving = serving_at w.memory.is_free w t c request k (Acks goal change) p refl refl tt (refl, λ q d. refl) (inl refl);
           framed = λ reply due m u stands e. let z = no_frame_access m u c request (subst (λ r. Stands m c request r u) e stands) in cc;
           frames = λ now h. let a = taken_most w.memory.is_free now request w.made.frames h in omega (arith, a, none);
         }
@@ -287,14 +305,14 @@ few : (w : World) (t : Plain) (c : ℕ) (request : Request) → IsWaiting w t c 
 few w t c request k = go (waits_at (w.calls.phase c) k.range k.at_wait)
   where
     go : Waits (w.calls.phase c) k.range → left_of w c < 2 ^ 40
-    go (for_change change held p i) =
+    go (for_change goal change p i) =
         let f = reached_fine w k.reached in
-        let call : IsCallOf w c (Acks change held) = call_at w c (Acks change held) p f.order in
-        let range = sound_range change (change_sound (λ n. mode_of (w.made.file n)) c call.asked.request change call.asked.passed) in
-        let high = range.high in
-        let same : held.end ≡ (range_of change).end = ap (λ (r : PageRange). r.end) call.ready.0 in
-        let left : left_of w c ≡ size held + 2 = ap (rank_of w.slots (reach_of w.hardware c)) p in
-        omega (arith, high, same, left)
+        let call : IsCallOf w c (Acks goal change) = call_at w c (Acks goal change) p f.order in
+        let inside = has_core w c f.order (λ k. let a = sym p ∙ k in cc) in
+        let valid = goal_valid goal (call_sound w c goal f.order inside call.asked call.ready.0) in
+        let high = valid.high in
+        let left : left_of w c ≡ size (goal_range goal) + 2 = ap (rank_of w.slots (reach_of w.hardware c)) p in
+        omega (arith, high, left)
     go (for_copy touch frame p i) =
         let left : left_of w c ≡ 9 = ap (rank_of w.slots (reach_of w.hardware c)) p in
         omega (arith, left)
@@ -323,6 +341,7 @@ answered_at_last w t c request k l x v o reply h step at answered e nobody =
     let sure : IsDueReply l.free reply = subst (IsSure l.free x.memory.is_free (reach_of x.hardware c)) at h.sure in
     record {
       served = z;
+      first = λ named. copy_first t c request z.reply z.after (named_first t c request z.reply named) z.stands;
       framed = l.framed z.reply (subst (IsDueReply l.free) (sym same) sure) (with_copy t (page_copied t request z.reply)) z.after z.stands;
       frames = subst (λ (v : World). frames_taken v ≤ frames_taken w) (sym e)
           (subst (λ n. taken_below x.memory.is_free n ≤ frames_taken w) (sym (ap (λ (m : Made). m.frames) h.made)) most);

@@ -1,11 +1,16 @@
--- On a new machine every store is answered SIGSEGV, whatever steps the call takes: the law says so without looking at them. And what a copy
--- changes.
-use Rattle.std.proofs.Common.{◌⊎◌, inl, inr, ◌≡◌, ◌≢◌, ℕ, ◌<◌, Bool, true, false, refl, subst, Some, None}
+-- On a new machine every store is answered SIGSEGV, and a mapping goes to its first place, whatever steps the call takes: the law says so
+-- without looking at them. And what a copy changes.
+use Rattle.std.proofs.Common.{◌⊎◌, inl, inr, ◌≡◌, ◌≢◌, ℕ, ◌<◌, arith, Bool, true, false, refl, subst, Some, None}
 use Rattle.vm_base.specs.declared.replies.Reply.{Reply}
 use Rattle.vm_base.specs.declared.replies.Reply.TheVariants.{Mapped, Done, Byte, Refused, Segv, Bus, NoFrame, NoMemory}
 use Rattle.vm_base.specs.declared.replies.SegvCode.TheVariants.{MapErr}
 use Rattle.vm_base.specs.declared.info.Back.TheVariants.{Private}
-use Rattle.vm_base.specs.declared.requests.Request.TheVariants.{Load, Store}
+use Rattle.vm_base.specs.declared.requests.Request.{Request}
+use Rattle.vm_base.specs.declared.requests.Request.TheVariants.{Mmap, Load, Store}
+use Rattle.vm_base.specs.Apply.{FirstApplies}
+use Rattle.vm_base.specs.Places.IsFirstPlace.{at_hint, in_window}
+use Rattle.vm_base.proofs.OneAnswer.{one_answer}
+use Rattle.machine_alone.specs.First.{FirstAnswers}
 use Rattle.vm_base.specs.declared.rights.Mode.TheVariants.{R}
 use Rattle.vm_base.specs.Functions.{put}
 use Rattle.vm_base.specs.Plain.{Plain, nothing_mapped, zeros}
@@ -46,10 +51,54 @@ stores_fault : (slots : Slots) → IsNew slots → (begun x v : World) (n : ℕ)
     → (o ≡ Answered (Segv MapErr)) ⊎ IsAwaiting (new_world made slots) x nothing 0 (Store 65540 41) o v
 stores_fault slots new begun x v n o call steps step not below =
     let w : World = new_world made slots in
-    let reached = reached_opening made slots new in
+    let reached = reached_opening made slots (omega arith) new in
     elim ((served_alone w begun nothing 0 (Store 65540 41) reached refl (λ c. refl) call).ends n x v o steps step not below) [
       | inl k ↦ inl (subst (λ y. o ≡ Answered y) (faults w.memory.is_free k.0.after k.0.reply k.0.stands (k.0.due 0 0)) k.0.answered)
       | inr a ↦ inr a
+    ]
+
+-- ---- a mapping that leaves its place open
+
+abbrev asked : ℕ → Request
+asked addr = Mmap addr 4096 (record { read = true; write = true; exec = false })
+    (record { private = true; shared = false; fixed = false; anon = true }) 0 0
+
+-- a free hint is the first place
+at_its_hint : (t : Plain) × FirstApplies nothing 0 (asked 65536) (Mapped 65536) t
+at_its_hint = (_, (Some 16, at_hint (refl, λ p h. refl) refl, (refl, refl)))
+
+-- and without one, as page 0 is never valid, it is the first page of the core's window
+in_its_window : (t : Plain) × FirstApplies nothing 0 (asked 0) (Mapped 549755813888) t
+in_its_window = (
+  _,
+  (
+    Some 134217728,
+    in_window (λ h. let e = h.0 in cc) ((omega arith, omega arith, λ p h. refl), λ r l room. let low = room.0 in omega (arith, l, low)),
+    (refl, refl),
+  ),
+)
+
+-- on a new machine it is answered so, whatever steps its call takes
+first_is : (addr at : ℕ) (is_free : ℕ → Bool) (t u : Plain) (y : Reply) → FirstApplies nothing 0 (asked addr) (Mapped at) t
+    → FirstAnswers nothing 0 (asked addr) y u → IsDue (Go 0) is_free (Answer 0 0 0 y) → y ≡ Mapped at
+first_is addr at is_free t u (Mapped a) k h d = (one_answer nothing u t 0 (asked addr) (Mapped a) (Mapped at) h k).0
+first_is addr at is_free t u Done k h d = (one_answer nothing u t 0 (asked addr) Done (Mapped at) h k).0
+first_is addr at is_free t u (Byte b) k h d = (one_answer nothing u t 0 (asked addr) (Byte b) (Mapped at) h k).0
+first_is addr at is_free t u (Refused r) k h d = (one_answer nothing u t 0 (asked addr) (Refused r) (Mapped at) h k).0
+first_is addr at is_free t u (Segv s) k h d = (one_answer nothing u t 0 (asked addr) (Segv s) (Mapped at) h k).0
+first_is addr at is_free t u Bus k h d = (one_answer nothing u t 0 (asked addr) Bus (Mapped at) h k).0
+first_is addr at is_free t u NoFrame k h d = absurd h.0
+first_is addr at is_free t u NoMemory k h d = absurd cc
+
+maps_first : (addr at : ℕ) (slots : Slots) → IsNew slots → (t : Plain) → FirstApplies nothing 0 (asked addr) (Mapped at) t
+    → (begun x v : World) (n : ℕ) (o : Outcome) → Step (new_world made slots) (Call 0 (asked addr)) Stepped begun
+    → StepsTo begun 0 n x → Step x (Go 0) o v → o ≢ Stepped → x.calls.events < event_limit → o ≡ Answered (Mapped at)
+maps_first addr at slots new t first begun x v n o call steps step not below =
+    let w : World = new_world made slots in
+    let reached = reached_opening made slots (omega arith) new in
+    elim ((served_alone w begun nothing 0 (asked addr) reached refl (λ c. refl) call).ends n x v o steps step not below) [
+      | inl k ↦ subst (λ y. o ≡ Answered y) (first_is addr at w.memory.is_free t k.0.after k.0.reply first k.2 (k.0.due 0 0)) k.0.answered
+      | inr a ↦ absurd (let named = a.named in cc)
     ]
 
 -- ---- a private page of a file

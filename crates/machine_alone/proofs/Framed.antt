@@ -20,7 +20,7 @@ use Rattle.machine_model.specs.Step.{Run, with_event}
 use Rattle.machine_laws.specs.Orderly.{IsUsable}
 use Rattle.machine_laws.proofs.Changed.{changed_all}
 use Rattle.machine_laws.proofs.Moves.{IsCallOf, call_at}
-use Rattle.machine_laws.proofs.Shapes.{GoesBy, moves, divides, owns, lets_go, answers, posts, commits, takes, zeroes, first_copies, caches, shares, posts_copy, copies, installs, accesses, faults, Works, clears, invalidates, walks, evicts, flushes, reviews, frees, Shape, rests, begins, ends, goes, gives_up, works, joins, Comes, stopped, acts as happens, comes}
+use Rattle.machine_laws.proofs.Shapes.{GoesBy, moves, divides, cuts, fits, owns, lets_go, answers, posts, commits, takes, zeroes, first_copies, caches, shares, posts_copy, copies, installs, accesses, faults, Works, clears, invalidates, walks, evicts, flushes, reviews, frees, Shape, rests, begins, ends, goes, aims, gives_up, works, joins, Comes, stopped, acts as happens, comes}
 use Rattle.machine_sound.specs.Invariant.{Fine}
 use Rattle.machine_sound.specs.Sound.{IsReached}
 use Rattle.machine_sound.proofs.Kept.{fine_step}
@@ -64,11 +64,13 @@ left_framed info v e h = subst AreFramed (sym e) h
 goes_framed : (w : World) (c : ℕ) (v : World) → Fine w → AreFramed w.slots.info → GoesBy w c v → AreFramed v.slots.info
 goes_framed w c v f k (moves new m h) = left_framed _ v (ap (λ (v : World). v.slots.info) h) k
 goes_framed w c v f k (divides goal cursor t e s h) = left_framed _ v (ap (λ (v : World). v.slots.info) h ∙ s.divides.2.info) k
+goes_framed w c v f k (cuts place target range t e s h) = left_framed _ v (ap (λ (v : World). v.slots.info) h ∙ s.divides.2.info) k
+goes_framed w c v f k (fits place target range e i h) = left_framed _ v (ap (λ (v : World). v.slots.info) h) k
 goes_framed w c v f k (owns goal cursor b t e l h) = left_framed _ v (ap (λ (v : World). v.slots.info) h ∙ ap (λ (s : Slots). s.info) l.now) k
 goes_framed w c v f k (lets_go held b t new l u h) = left_framed _ v (ap (λ (v : World). v.slots.info) h ∙ ap (λ (s : Slots). s.info) u.now) k
 goes_framed w c v f k (answers held reply r h) = left_framed _ v (ap (λ (v : World). v.slots.info) h) k
 goes_framed w c v f k (posts change shoot e h) = left_framed _ v (ap (λ (v : World). v.slots.info) h) k
-goes_framed w c v f k (commits change held counts e n l h) =
+goes_framed w c v f k (commits goal change counts e n l h) =
     left_framed _ v (ap (λ (v : World). v.slots.info) h)
     (changed_all (λ p o. IsFramedFor o) w.slots change (λ r meta p e i c h. absurd (let a = members-empty c in cc (a, h)))
     (λ p c h. absurd cc) (λ prot p old. protected_framed (w.slots.info p) prot) k)
@@ -105,6 +107,7 @@ shape_framed w e o v f k (rests i h) = left_framed _ v (ap (λ (v : World). v.sl
 shape_framed w e o v f k (begins c request i s lt p below h) = left_framed _ v (ap (λ (v : World). v.slots.info) h) k
 shape_framed w e o v f k (ends c reply i s lt p h) = left_framed _ v (ap (λ (v : World). v.slots.info) h) k
 shape_framed w e o v f k (goes c i s lt g) = goes_framed w c v f k g
+shape_framed w e o v f k (aims c place target a s lt p h) = left_framed _ v (ap (λ (v : World). v.slots.info) h) k
 shape_framed w e o v f k (gives_up c i s lt can u h) = left_framed _ v (ap (λ (v : World). v.slots.info) h) k
 shape_framed w e o v f k (works c s lt g) = works_framed w c e v k g
 shape_framed w e o v f k (joins p t i s page j m h) = left_framed _ v (ap (λ (v : World). v.slots.info) h ∙ j.info) k
@@ -124,5 +127,5 @@ run_framed w (e ∷ es) [] v f k r = absurd r
 
 pub reached_framed : (w : World) → IsReached w → AreFramed w.slots.info
 reached_framed w h =
-    run_framed (new_world h.made h.slots) h.events h.outcomes w (fine_opening h.made h.slots h.new)
+    run_framed (new_world h.made h.slots) h.events h.outcomes w (fine_opening h.made h.slots h.few h.new)
     (λ p c e. absurd (let a = ap (λ o. is_recorded o c) (h.new.unmapped p) in cc)) h.run

@@ -5,7 +5,10 @@ mod Framed
 mod Rows
 pub mod Telling
 pub mod Using
+pub mod Aiming
+pub mod First
 pub mod Used
+mod Seeking
 mod Noting
 pub mod Taking
 mod Awaiting

@@ -1,26 +1,21 @@
 -- The entries that a call has made in the log: that of its copy, if its page has got one, and that of its reply
-use Rattle.std.proofs.Common.{◌≡◌, ℕ, Bool, true, false, cond, refl, sym, ap, subst, Some, None, Option, ◌∙◌, List, [], ◌∷◌, ◌++◌}
-use Rattle.std.specs.Prelude.{nat_le}
+use Rattle.std.proofs.Common.{◌≡◌, ℕ, refl, sym, ap, subst, Some, None, Option, ◌∙◌, List, [], ◌∷◌, ◌++◌}
 use Rattle.vm_base.specs.declared.page.PageRange.{PageRange}
 use Rattle.vm_base.specs.declared.replies.Reply.{Reply}
 use Rattle.vm_base.specs.declared.requests.Request.{Request}
 use Rattle.vm_base.specs.Apply.{detached}
 use Rattle.vm_base.specs.Plain.{Plain}
 use Rattle.vm_base.proofs.Functions.{put_same}
-use Rattle.slot_lock.specs.declared.plan.Touch.{Touch}
 use Rattle.machine_model.specs.declared.log.Entry.{Entry}
 use Rattle.machine_model.specs.declared.log.Entry.TheVariants as EntryOf
-use Rattle.machine_model.specs.declared.phase.Goal.{Goal}
-use Rattle.machine_model.specs.declared.phase.Goal.TheVariants as To
 use Rattle.machine_model.specs.declared.phase.Phase.{Phase}
-use Rattle.machine_model.specs.declared.phase.Phase.TheVariants.{Lock, Post, Acks, Try, Want, Fill, CopyPost, CopyAcks, Install, Release}
+use Rattle.machine_model.specs.declared.phase.Phase.TheVariants.{Lock, Back as Leaving, Cut, Post, Acks, Try, Want, Fill, CopyPost, CopyAcks, Install, Release}
 use Rattle.machine_model.specs.Accesses.{taken_for}
 use Rattle.machine_model.specs.Actions.{to, let_go, with_entry, answer_entry}
-use Rattle.machine_model.specs.Holding.{goal_range}
-use Rattle.machine_model.specs.Locks.{all_locked, held_after, locked_to}
+use Rattle.machine_model.specs.Locks.{held_after, locked_to}
 use Rattle.machine_model.specs.World.{World}
-use Rattle.machine_laws.proofs.Effects.{Status, Closed, Asked, Told, status, told_in}
-use Rattle.machine_laws.proofs.Shapes.{Moves, locks, tries, acts, finds, lacks, shows, Replies, refuses, no_place, declines, fails, no_frame, LetsGo, unlocks, releases, GoesBy, moves, divides, owns, lets_go, answers, posts, commits, takes, zeroes, first_copies, caches, shares, posts_copy, copies, installs, accesses, faults}
+use Rattle.machine_laws.proofs.Effects.{Status, Closed, Asked, Told, status, told_in, moves_quiet, replies_quiet, locked_quiet, back_quiet, taken_asked}
+use Rattle.machine_laws.proofs.Shapes.{LetsGo, unlocks, returns, releases, GoesBy, moves, divides, cuts, fits, owns, lets_go, answers, posts, commits, takes, zeroes, first_copies, caches, shares, posts_copy, copies, installs, accesses, faults}
 use Rattle.machine_sound.specs.Log.{GoesOn, Replays}
 use Rattle.machine_sound.proofs.OneMap.{log_leads_to_one}
 use Rattle.machine_alone.specs.Alone.{IsCopied, IsNoted}
@@ -76,38 +71,15 @@ was_asked : (first : List Entry) (call : ℕ) (copy : Option ℕ) (c : ℕ) (old
     → IsLoggedOf first call copy c w → IsCopied first copy call w.calls.log
 was_asked first call copy c old w e a k = subst (IsLogged first w.calls.log call c copy) (ap status e ∙ a) k
 
-moves_asked : (w : World) (c : ℕ) (new : Phase) → Moves w c new → (status new ≡ Asked) × (status (w.calls.phase c) ≡ Asked)
-moves_asked w c new (locks r change e n k) = (ap status n, ap status e)
-moves_asked w c new (tries r touch e n k) = (ap status n, ap status e)
-moves_asked w c new (acts change range shoot e n d) = (ap status n, ap status e)
-moves_asked w c new (finds touch f e n k) = (ap status n, ap status e)
-moves_asked w c new (lacks touch old e n k i) = (ap status n, ap status e)
-moves_asked w c new (shows touch e n k i) = (ap status n, ap status e)
-
-replies_asked : (w : World) (c : ℕ) (held : Option PageRange) (reply : Reply) → Replies w c held reply → status (w.calls.phase c) ≡ Asked
-replies_asked w c held reply (refuses r e h j) = ap status e
-replies_asked w c held reply (no_place r place e h i j) = ap status e
-replies_asked w c held reply (declines change errno e h i d) = ap status e
-replies_asked w c held reply (fails touch e h x) = ap status e
-replies_asked w c held reply (no_frame touch old e h i none) = ap status e
-
-locked_asked : (goal : Goal) (b : ℕ) → status (locked_to goal b) ≡ Asked
-locked_asked goal b = go goal (nat_le (goal_range goal).end b)
-  where
-    go : (goal : Goal) (p : Bool) → status (cond p (all_locked goal) (Lock goal b)) ≡ Asked
-    go (To.Change change) true = refl
-    go (To.Access touch) true = refl
-    go goal false = refl
-
-taken_asked : (touch : Touch) (old : Option ℕ) (f : ℕ) → status (taken_for touch old f) ≡ Asked
-taken_asked touch None f = refl
-taken_asked touch (Some g) f = refl
-
 lets_go_logged : (first : List Entry) (call : ℕ) (copy : Option ℕ) (c : ℕ) (w : World) (x : World) (held : PageRange) (b : ℕ) (new : Phase) (v : World)
     → IsLoggedOf first call copy c w → LetsGo (w.calls.phase c) held b new → x.calls ≡ w.calls → v ≡ to c new x → IsLoggedOf first call copy c v
 lets_go_logged first call copy c w x held b new v k (unlocks reply e n) same h =
     to_told first call copy c new reply x v h (ap status n ∙ told_in (held_after held b) reply)
     (subst (λ calls. IsNoted first copy call c reply calls.log) (sym same) (subst (IsLogged first w.calls.log call c copy) (ap status e) k))
+lets_go_logged first call copy c w x held b new v k (returns place target e n) same h =
+    to_asked first call copy c new x v h
+    (ap status n ∙ (back_quiet place target (held_after held b)).asked)
+    (subst (λ calls. IsCopied first copy call calls.log) (sym same) (was_asked first call copy c (Leaving place target held) w e refl k))
 lets_go_logged first call copy c w x held b new v k (releases touch e i n) same h =
     to_asked first call copy c new x v h (ap status n)
     (subst (λ calls. IsCopied first copy call calls.log) (sym same) (was_asked first call copy c (Release touch) w e refl k))
@@ -123,24 +95,28 @@ pub logged_on : (first : List Entry) (t : Plain) (users : Users) (c : ℕ) (requ
     → IsUsed t users c request copy w → IsLoggedOf first (w.calls.number c) copy c w → (g : GoesBy w c v)
     → IsLoggedOf first (w.calls.number c) (copy_after g copy) c v
 logged_on first t users c request copy w v u k (moves new m h) =
-    let a = moves_asked w c new m in
-    to_asked first (w.calls.number c) copy c new w v h a.0 (subst (IsLogged first w.calls.log (w.calls.number c) c copy) a.1 k)
+    let (old, now) = moves_quiet w c new m in
+    to_asked first (w.calls.number c) copy c new w v h now.asked (subst (IsLogged first w.calls.log (w.calls.number c) c copy) old.asked k)
 logged_on first t users c request copy w v u k (divides goal cursor s e i h) = subst (IsLoggedOf first (w.calls.number c) copy c) (sym h) k
+logged_on first t users c request copy w v u k (cuts place target range s e i h) =
+    subst (IsLoggedOf first (w.calls.number c) copy c) (sym h) k
+logged_on first t users c request copy w v u k (fits place target range e i h) =
+    to_asked first (w.calls.number c) copy c _ w v h refl (was_asked first (w.calls.number c) copy c (Cut place target range) w e refl k)
 logged_on first t users c request copy w v u k (owns goal cursor b s e l h) =
-    to_asked first (w.calls.number c) copy c (locked_to goal b) (record w { slots = s }) v h (locked_asked goal b)
+    to_asked first (w.calls.number c) copy c (locked_to goal b) (record w { slots = s }) v h (locked_quiet goal b).asked
     (was_asked first (w.calls.number c) copy c (Lock goal cursor) w e refl k)
 logged_on first t users c request copy w v u k (lets_go held b s new l i h) =
     lets_go_logged first (w.calls.number c) copy c w (record w { slots = s }) held b new v k l refl h
 logged_on first t users c request copy w v u k (answers held reply r h) =
     to_told first (w.calls.number c) copy c (let_go held reply) reply (with_entry (answer_entry w c reply) w) v h (told_in held reply)
-    (w.calls.log, subst (IsLogged first w.calls.log (w.calls.number c) c copy) (replies_asked w c held reply r) k, (w.calls.events, refl))
+    (w.calls.log, subst (IsLogged first w.calls.log (w.calls.number c) c copy) (replies_quiet w c held reply r).asked k, (w.calls.events, refl))
 logged_on first t users c request copy w v u k (posts change shoot e h) =
     to_asked first (w.calls.number c) copy c _ _ v h refl (was_asked first (w.calls.number c) copy c (Post change shoot) w e refl k)
-logged_on first t users c request copy w v u k (commits change held counts e n l h) =
+logged_on first t users c request copy w v u k (commits goal change counts e n l h) =
     to_told first (w.calls.number c) copy c _ _ _ v h refl
-    (w.calls.log, was_asked first (w.calls.number c) copy c (Acks change held) w e refl k, (w.calls.events, refl))
+    (w.calls.log, was_asked first (w.calls.number c) copy c (Acks goal change) w e refl k, (w.calls.events, refl))
 logged_on first t users c request copy w v u k (takes touch old x e l h) =
-    to_asked first (w.calls.number c) copy c (taken_for touch old x) _ v h (taken_asked touch old x)
+    to_asked first (w.calls.number c) copy c (taken_for touch old x) _ v h (taken_asked touch old x).0
     (was_asked first (w.calls.number c) copy c (Want touch old) w e refl k)
 logged_on first t users c request copy w v u k (zeroes touch x counts e b i h) =
     to_asked first (w.calls.number c) copy c _ _ v h refl (was_asked first (w.calls.number c) copy c (Fill touch (Some x)) w e refl k)

@@ -1,5 +1,5 @@
 -- What a step of a call does beside which no other call runs: after it fewer are left, and "no frame" isn't its reply where one was free.
-use Rattle.std.proofs.Common.{◌≡◌, ℕ, ◌≤◌, ◌<◌, ◌+◌, ◌^◌, ◌⊎◌, Bool, true, false, cond, refl, sym, subst, ap, arith, Some, None, Option, ◌∙◌, inl, inr}
+use Rattle.std.proofs.Common.{◌≡◌, ℕ, ◌≤◌, ◌<◌, ◌+◌, ◌^◌, ◌⊎◌, Bool, true, false, cond, refl, sym, subst, ap, arith, Some, None, Option, Ok, ◌∙◌, inl, inr}
 use Rattle.std.specs.Prelude.{is_some, nat_le, ◌&&◌, if◌then◌else◌}
 use Rattle.vm_base.specs.declared.info.Back.{Back}
 use Rattle.vm_base.specs.declared.info.Back.TheVariants.{Anon, Shared, Private}
@@ -21,37 +21,43 @@ use Rattle.vm_base.specs.Functions.{put}
 use Rattle.vm_base.specs.Plain.{File, mode_of}
 use Rattle.vm_base.proofs.Functions.{put_same}
 use Rattle.slot_lock.specs.declared.plan.Touch.{Touch}
-use Rattle.slot_lock.specs.Plan.{range_of}
+use Rattle.slot_lock.specs.Plan.{target_range, goal_range, goal_plan, HasTarget, IsSoundGoal}
+use Rattle.slot_lock.specs.declared.plan.Change.TheVariants.{Put}
+use Rattle.slot_lock.specs.declared.plan.Place.{Place}
+use Rattle.slot_lock.specs.declared.plan.Target.TheVariants.{Hint, Window}
+use Rattle.vm_base.specs.declared.requests.Request.{Request}
+use Rattle.machine_model.specs.Placing.{back_to, guess_of, trying}
+use Rattle.machine_laws.proofs.Going.{call_sound, has_core, passed_on}
+use Rattle.machine_laws.proofs.Deciding.{goal_valid}
 use Rattle.slot_lock.specs.Slots.{Slots}
 use Rattle.vm_calls.specs.Settling.{is_private_store}
 use Rattle.vm_calls.specs.declared.fault.Settled.{Settled}
 use Rattle.vm_calls.specs.declared.fault.Settled.TheVariants.{MapErr, AccErr, Bus, Has, Copies, Cached, Wants}
 use Rattle.machine_model.specs.declared.event.Event.TheVariants.{Go}
 use Rattle.machine_model.specs.declared.log.Entry.TheVariants as EntryOf
-use Rattle.machine_model.specs.declared.phase.Goal.{Goal}
-use Rattle.machine_model.specs.declared.phase.Goal.TheVariants as To
+use Rattle.slot_lock.specs.declared.plan.Goal.{Goal}
+use Rattle.slot_lock.specs.declared.plan.Goal.TheVariants as To
 use Rattle.machine_model.specs.declared.phase.Phase.{Phase}
-use Rattle.machine_model.specs.declared.phase.Phase.TheVariants.{Check, Lock, Decide, Post, Acks, Unlock, Answer, Try, Settle, Want, Fill, CopyPost, CopyAcks, Install, Release}
+use Rattle.machine_model.specs.declared.phase.Phase.TheVariants.{Check, Lock, Guess, Find, Back as Leaving, Cut, Decide, Post, Acks, Unlock, Answer, Try, Settle, Want, Fill, CopyPost, CopyAcks, Install, Release}
 use Rattle.machine_model.specs.Accesses.{NoneFree, info_with_core, found_at, after_frame, after_install, reply_of, memory_after}
 use Rattle.machine_model.specs.Files.{is_private, prot_installed, prot_shown, shows_some}
 use Rattle.machine_model.specs.Filling.{after_zeros, after_first_copy, after_caching, after_sharing, after_copy_post, after_copy}
 use Rattle.machine_model.specs.Actions.{to, let_go, after_reply, with_entry, detach_entry}
-use Rattle.machine_model.specs.Changes.{slots_after, after_post, reply_to}
+use Rattle.machine_model.specs.Changes.{checked_by, slots_after, after_post, reply_to}
 use Rattle.machine_model.specs.Counting.{with_counts}
 use Rattle.machine_model.specs.Translating.{frame_reached, after_translating, entry_for, entry_of_page}
-use Rattle.machine_model.specs.Holding.{goal_range}
 use Rattle.machine_model.specs.Locks.{locking, all_locked, locked_to, held_after}
 use Rattle.machine_model.specs.World.{World, Hardware, Memory}
 use Rattle.machine_coherence.specs.Coherent.{IsBacked, IsSoundEntry}
 use Rattle.machine_laws.specs.Orderly.{IsUsable}
 use Rattle.machine_laws.proofs.Deciding.{change_sound, sound_range}
 use Rattle.machine_laws.proofs.Moves.{IsCallOf, call_at}
-use Rattle.machine_laws.proofs.Shapes.{IsFault, Moves, locks, tries, acts, finds, lacks, shows, Replies, refuses, no_place, declines, fails, no_frame, LetsGo, unlocks, releases, GoesBy, moves, divides, owns, lets_go, answers, posts, commits, takes, zeroes, first_copies, caches, shares, posts_copy, copies, installs, accesses, faults}
+use Rattle.machine_laws.proofs.Shapes.{IsFault, Moves, locks, tries, hints, seeks, guesses, turns, chooses, acts, finds, lacks, shows, Replies, refuses, no_place, declines, fails, no_frame, LetsGo, unlocks, returns, releases, GoesBy, moves, divides, cuts, fits, owns, lets_go, answers, posts, commits, takes, zeroes, first_copies, caches, shares, posts_copy, copies, installs, accesses, faults}
 use Rattle.machine_sound.specs.Sound.{IsDue}
 use Rattle.machine_sound.specs.Invariant.{Fine}
 use Rattle.machine_sound.proofs.Reaching.{at_page}
 use Rattle.machine_sound.proofs.Replies.{IsReply, due_so, refused, reply_is}
-use Rattle.machine_alone.proofs.Rank.{missing, missing_same, missing_less, missing_most, reach_of, hits, rank, rank_of, lock_less, unlock_less}
+use Rattle.machine_alone.proofs.Rank.{missing, missing_same, missing_less, missing_most, reach_of, hits, rank, rank_of, lock_less, unlock_less, back_all, back_less, turn_less, find_more, guess_less, seek_less, hint_less}
 use Rattle.machine_alone.proofs.Storing.{IsStorable, IsStorableOf, shows_for}
 
 abbrev pub IsDueReply : (ℕ → Bool) → Reply → Type 0
@@ -108,12 +114,19 @@ sure_at first w c old e h = subst (IsSure first w.memory.is_free (reach_of w.har
 
 -- ---- moves
 
-tried_most : (m : ℕ) (reach : Touch → Option ℕ) (touch : Touch) → m ≤ 2 ^ 35 → rank m reach (Try touch) < 2 ^ 37
+tried_most : (m : ℕ) (reach : Touch → Option ℕ) (touch : Touch) → m ≤ 2 ^ 35 → rank m reach (Try touch) < 2 ^ 38
 tried_most m reach touch l = go (hits reach touch)
   where
-    go : (b : Bool) → cond b 2 (m + 14) < 2 ^ 37
+    go : (b : Bool) → cond b 2 (m + 14) < 2 ^ 38
     go true = omega arith
     go false = omega (arith, l)
+
+-- what the check of the arguments lets through is sound
+place_sound : (w : World) (c : ℕ) (request : Request) (place : Place) (goal : Goal) → Fine w → w.calls.phase c ≡ Check request
+    → checked_by w.made c request ≡ Ok (goal_plan goal) → HasTarget goal → IsSoundGoal goal
+place_sound w c request place goal f e passed aim =
+    call_sound w c goal f.order (has_core w c f.order (λ k. let a = sym e ∙ k in cc))
+    (record { request = request; number = (call_at w c (Check request) e f.order).asked; passed = passed }) aim
 
 moves_near : (first : ℕ → Bool) (w : World) (c : ℕ) (new : Phase) (v : World) → Fine w → IsSureOf first c w → Moves w c new → v ≡ to c new w
     → Nears first w c v
@@ -126,6 +139,26 @@ moves_near first w c new v f sure (locks request change e n passed) h =
 moves_near first w c new v f sure (tries request touch e n passed) h =
     nears first w c (Check request) (Try touch) w.slots w.hardware w.memory v e (rw (h, n) refl)
     (tried_most (missing w.slots) (reach_of w.hardware c) touch (missing_most w.slots)) (inl (sure_at first w c (Check request) e sure))
+moves_near first w c new v f sure (hints request place range e n i passed) h =
+    let sound = place_sound w c request place (To.Place place (Hint range)) f e passed i in
+    nears first w c (Check request) (trying place (Hint range)) w.slots w.hardware w.memory v e (rw (h, n) refl)
+    (hint_less (missing w.slots) (reach_of w.hardware c) place range (missing_most w.slots) sound.plan
+    (goal_valid (To.Place place (Hint range)) sound))
+    (sure_at first w c (Check request) e sure)
+moves_near first w c new v f sure (seeks request place e n passed) h =
+    nears first w c (Check request) (Guess place) w.slots w.hardware w.memory v e (rw (h, n) refl)
+    (seek_less (missing w.slots) (reach_of w.hardware c) place (missing_most w.slots)
+    (place_sound w c request place (To.Place place Window) f e passed tt).plan) (sure_at first w c (Check request) e sure)
+moves_near first w c new v f sure (guesses place found e n least) h =
+    nears first w c (Guess place) (trying place (guess_of place found)) w.slots w.hardware w.memory v e (rw (h, n) refl)
+    (guess_less (missing w.slots) (reach_of w.hardware c) (reach_of w.hardware c) place found) (sure_at first w c (Guess place) e sure)
+moves_near first w c new v f sure (turns place target e n d) h =
+    nears first w c (Find place target) (Leaving place target (target_range place target)) w.slots w.hardware w.memory v e (rw (h, n) refl)
+    (turn_less (missing w.slots) (reach_of w.hardware c) (reach_of w.hardware c) place target (passed_on w.slots place target d))
+    (sure_at first w c (Find place target) e sure)
+moves_near first w c new v f sure (chooses place target range shoot e n d) h =
+    nears first w c (Find place target) (Cut place target range) w.slots w.hardware w.memory v e (rw (h, n) refl)
+    (find_more (missing w.slots) (reach_of w.hardware c) place target) (sure_at first w c (Find place target) e sure)
 moves_near first w c new v f sure (acts change range shoot e n d) h =
     nears first w c (Decide change) (Post change shoot) w.slots w.hardware w.memory v e (rw (h, n) refl)
     (omega arith) (sure_at first w c (Decide change) e sure)
@@ -172,11 +205,13 @@ replies_near : (first : ℕ → Bool) (w : World) (c : ℕ) (held : Option PageR
     → Replies w c held reply → v ≡ after_reply c held reply w → Nears first w c v
 replies_near first w c held reply v f sure (refuses request e h j) k =
     tells_near first w c (Check request) held reply w.slots w.hardware w.memory v e k
-    (subst (λ o. rank_of w.slots (reach_of w.hardware c) (let_go o reply) < 2 ^ 37) (sym h) (omega arith))
+    (subst (λ o. rank_of w.slots (reach_of w.hardware c) (let_go o reply) < 2 ^ 38) (sym h) (omega arith))
     (due_reply first reply (refused w f.plain c request reply f.good j).0)
-replies_near first w c held reply v f sure (no_place request place e h r j) k =
-    tells_near first w c (Check request) held reply w.slots w.hardware w.memory v e k
-    (subst (λ o. rank_of w.slots (reach_of w.hardware c) (let_go o reply) < 2 ^ 37) (sym h) (omega arith)) (due_reply first reply (subst IsReply (sym r) tt))
+replies_near first w c held reply v f sure (no_place place target errno e h r d) k =
+    tells_near first w c (Find place target) held reply w.slots w.hardware w.memory v e k
+    (subst (λ o. rank_of w.slots (reach_of w.hardware c) (let_go o reply) < rank_of w.slots (reach_of w.hardware c) (Find place target))
+    (sym h) (let a = find_more (missing w.slots) (reach_of w.hardware c) place target in omega (arith, a)))
+    (due_reply first reply (subst IsReply (sym r) tt))
 replies_near first w c held reply v f sure (declines change errno e h r d) k =
     tells_near first w c (Decide change) held reply w.slots w.hardware w.memory v e k
     (subst (λ o. rank_of w.slots (reach_of w.hardware c) (let_go o reply) < rank_of w.slots (reach_of w.hardware c) (Decide change))
@@ -197,25 +232,37 @@ owns_sure : (first free : ℕ → Bool) (reach : Touch → Option ℕ) (goal : G
 owns_sure first free reach goal b h = go goal (nat_le (goal_range goal).end b)
   where
     go : (goal : Goal) (p : Bool) → IsSure first free reach (cond p (all_locked goal) (Lock goal b))
+    go (To.Place place target) true = h
     go (To.Change change) true = h
     go (To.Access touch) true = h
     go goal false = h
 
-divides_near : (first : ℕ → Bool) (w : World) (c : ℕ) (goal : Goal) (cursor : ℕ) (t : Slots) (v : World) → w.calls.phase c ≡ Lock goal cursor
-    → w.memory.is_free ≡ first → missing t < missing w.slots → v ≡ record w { slots = t } → Nears first w c v
-divides_near first w c goal cursor t v e same fewer h = subst (Nears first w c) (sym h) (record {
+-- a slot is divided, and the call is where it was
+stays_near : (first : ℕ → Bool) (w : World) (c : ℕ) (old : Phase) (t : Slots) (v : World) → w.calls.phase c ≡ old → IsSureOf first c w
+    → rank_of t (reach_of w.hardware c) old < rank_of w.slots (reach_of w.hardware c) old → v ≡ record w { slots = t } → Nears first w c v
+stays_near first w c old t v e sure fewer h = subst (Nears first w c) (sym h) (record {
   made = refl;
-  less = subst (λ p. rank_of t (reach_of w.hardware c) p < rank_of w.slots (reach_of w.hardware c) p) (sym e) (omega (arith, fewer));
-  sure = subst (IsSure first w.memory.is_free (reach_of w.hardware c)) (sym e) same;
+  less = subst (λ p. rank_of t (reach_of w.hardware c) p < rank_of w.slots (reach_of w.hardware c) p) (sym e) fewer;
+  sure = sure;
 })
 
 lets_go_near : (first : ℕ → Bool) (w : World) (c : ℕ) (held : PageRange) (b : ℕ) (t : Slots) (new : Phase) (v : World) → IsSureOf first c w
-    → LetsGo (w.calls.phase c) held b new → held.first < b → b ≤ held.end → v ≡ to c new (record w { slots = t }) → Nears first w c v
-lets_go_near first w c held b t new v sure (unlocks reply e n) l m h =
+    → LetsGo (w.calls.phase c) held b new → held.first < b → b ≤ held.end → missing t ≡ missing w.slots
+    → v ≡ to c new (record w { slots = t })
+    → Nears first w c v
+lets_go_near first w c held b t new v sure (unlocks reply e n) l m same h =
     nears first w c (Unlock held reply) (let_go (held_after held b) reply) t w.hardware w.memory v e (rw (h, n) refl)
     (unlock_less (missing t) (missing w.slots) (reach_of w.hardware c) (reach_of w.hardware c) held reply b l m)
     (sure_gone first w.memory.is_free (reach_of w.hardware c) (held_after held b) reply (sure_at first w c (Unlock held reply) e sure))
-lets_go_near first w c held b t new v sure (releases touch e at n) l m h =
+lets_go_near first w c held b t new v sure (returns place target e n) l m same h =
+    let reach : Touch → Option ℕ = reach_of w.hardware c in
+    nears first w c (Leaving place target held) (back_to place target (held_after held b)) t w.hardware w.memory v e (rw (h, n) refl)
+    (subst (λ z. rank z reach (back_to place target (held_after held b)) < rank_of w.slots reach (Leaving place target held))
+    (sym same) (back_less (missing w.slots) reach reach place target held b l m))
+    (back_all (IsSure first w.memory.is_free (reach_of w.hardware c)) place target (held_after held b)
+    (sure_at first w c (Leaving place target held) e sure) (sure_at first w c (Leaving place target held) e sure)
+    (λ k. sure_at first w c (Leaving place target held) e sure))
+lets_go_near first w c held b t new v sure (releases touch e at n) l m same h =
     let hit : hits (reach_of w.hardware c) touch ≡ true = sure_at first w c (Release touch) e sure in
     nears first w c (Release touch) (Try touch) t w.hardware w.memory v e (rw (h, n) refl)
     (let a : rank_of t (reach_of w.hardware c) (Try touch) ≡ 2 = ap (λ b. cond b 2 (missing t + 14)) hit in omega (arith, a)) (inr hit)
@@ -316,7 +363,14 @@ pub goes_near : (first : ℕ → Bool) (w : World) (c : ℕ) (v : World) → Fin
     → Nears first w c v
 goes_near first w c v f after sure own (moves new m h) = moves_near first w c new v f sure m h
 goes_near first w c v f after sure own (divides goal cursor t e s h) =
-    divides_near first w c goal cursor t v e (sure_at first w c (Lock goal cursor) e sure) (missing_less w.slots t None s.divides.0 s.divides.1.1 s.divides.2) h
+    let fewer = missing_less w.slots t None s.divides.0 s.divides.1.1 s.divides.2 in
+    stays_near first w c (Lock goal cursor) t v e sure (omega (arith, fewer)) h
+goes_near first w c v f after sure own (cuts place target range t e s h) =
+    let fewer = missing_less w.slots t (Some c) s.divides.0 s.divides.1.1 s.divides.2 in
+    stays_near first w c (Cut place target range) t v e sure (omega (arith, fewer)) h
+goes_near first w c v f after sure own (fits place target range e i h) =
+    nears first w c (Cut place target range) (Acks (To.Place place target) (Put range place.meta)) w.slots w.hardware w.memory v e
+    (rw h refl) (omega arith) (sure_at first w c (Cut place target range) e sure)
 goes_near first w c v f after sure own (owns goal cursor b t e l h) =
     let edge : t.edge ≡ w.slots.edge = ap (λ (x : Slots). x.edge) l.now in
     let same : missing t ≡ missing w.slots = missing_same w.slots t edge in
@@ -324,14 +378,15 @@ goes_near first w c v f after sure own (owns goal cursor b t e l h) =
     (subst (λ m. rank m (reach_of w.hardware c) (locked_to goal b) < rank_of w.slots (reach_of w.hardware c) (Lock goal cursor)) (sym same)
     (lock_less (missing w.slots) (reach_of w.hardware c) (reach_of w.hardware c) goal cursor b l.slot.ordered l.by_end))
     (owns_sure first w.memory.is_free (reach_of w.hardware c) goal b (sure_at first w c (Lock goal cursor) e sure))
-goes_near first w c v f after sure own (lets_go held b t new l u h) = lets_go_near first w c held b t new v sure l u.slot.ordered u.by_end h
+goes_near first w c v f after sure own (lets_go held b t new l u h) = lets_go_near first w c held b t new v sure l u.slot.ordered u.by_end
+    (missing_same w.slots t (ap (λ (x : Slots). x.edge) u.now)) h
 goes_near first w c v f after sure own (answers held reply r h) = replies_near first w c held reply v f sure r h
 goes_near first w c v f after sure own (posts change shoot e h) =
-    nears first w c (Post change shoot) (Acks change (range_of change)) w.slots (after_post c change shoot w).hardware w.memory v e (rw h refl)
-    (omega arith) (sure_at first w c (Post change shoot) e sure)
-goes_near first w c v f after sure own (commits change held counts e n l h) =
-    tells_near first w c (Acks change held) (Some held) (reply_to change) (slots_after change w.slots) w.hardware (with_counts counts w).memory v e h
-    (omega arith) (due_reply first (reply_to change) (reply_is change))
+    nears first w c (Post change shoot) (Acks (To.Change change) change) w.slots (after_post c change shoot w).hardware w.memory v e
+    (rw h refl) (omega arith) (sure_at first w c (Post change shoot) e sure)
+goes_near first w c v f after sure own (commits goal change counts e n l h) =
+    tells_near first w c (Acks goal change) (Some (goal_range goal)) (reply_to change) (slots_after change w.slots) w.hardware
+    (with_counts counts w).memory v e h (omega arith) (due_reply first (reply_to change) (reply_is change))
 goes_near first w c v f after sure own (takes touch old x e l h) = takes_near first w c touch old x v e (sure_at first w c (Want touch old) e sure) l h
 goes_near first w c v f after sure own (zeroes touch x counts e b t h) =
     nears first w c (Fill touch (Some x)) (Install touch) (after_zeros c touch x counts w).slots w.hardware

@@ -15,9 +15,14 @@ use Rattle.machine_model.specs.declared.event.Outcome.TheVariants.{Stepped, Idle
 use Rattle.machine_model.specs.declared.log.Entry.{Entry}
 use Rattle.machine_model.specs.declared.log.Entry.TheVariants as EntryOf
 use Rattle.machine_model.specs.declared.phase.Phase.{Phase}
-use Rattle.machine_model.specs.declared.phase.Phase.TheVariants.{Free, Check, Lock, Decide, Post, Acks, Unlock, Answer, Try, Settle, Want, Fill, CopyPost, CopyAcks, Install, Release}
+use Rattle.machine_model.specs.declared.phase.Phase.TheVariants.{Free, Check, Lock, Guess, Find, Back as Leaving, Cut, Decide, Post, Acks, Unlock, Answer, Try, Settle, Want, Fill, CopyPost, CopyAcks, Install, Release}
 use Rattle.machine_model.specs.World.{World, Made}
+use Rattle.slot_lock.specs.declared.plan.Change.{Change}
+use Rattle.slot_lock.specs.declared.plan.Goal.{Goal}
+use Rattle.slot_lock.specs.declared.plan.Goal.TheVariants as To
 use Rattle.slot_lock.specs.declared.plan.Touch.{Touch}
+use Rattle.slot_lock.specs.Plan.{range_of}
+use Rattle.slot_lock.specs.Slots.{IsUser}
 use Rattle.machine_model.specs.Holding.{awaits_in, holds}
 use Rattle.machine_model.specs.Actions.{to}
 use Rattle.machine_model.specs.Changes.{Awaits}
@@ -25,9 +30,11 @@ use Rattle.machine_model.specs.Step.{Acts, Goes, after_call, with_event, event_l
 use Rattle.machine_laws.specs.Brackets.{nth}
 use Rattle.machine_laws.proofs.Effects.{Closed, Asked, Told, status, SameCalls, Effect, keeps, tells, detaches, opens, closes, effect_of}
 use Rattle.machine_laws.proofs.Numbered.{at_new}
-use Rattle.machine_laws.proofs.Shapes.{Rests, absent, busy, full, free as callless, cannot, waits, awaits, GoesBy, Works, clears, invalidates, walks, evicts, flushes, reviews, frees, IsGoing, going, picking, Shape, rests, begins, ends, goes, gives_up, works, joins, Comes, stopped, acts as happens, comes}
+use Rattle.machine_laws.proofs.Shapes.{Rests, absent, busy, full, free as callless, cannot, waits, awaits, GoesBy, Works, clears, invalidates, walks, evicts, flushes, reviews, frees, IsGoing, going, picking, Shape, rests, begins, ends, goes, aims, gives_up, works, joins, Comes, stopped, acts as happens, comes}
 use Rattle.machine_sound.specs.Log.{Replays, Stands}
-use Rattle.machine_sound.specs.Invariant.{Fine}
+use Rattle.machine_sound.specs.Invariant.{Fine, Good}
+use Rattle.machine_laws.proofs.Deciding.{place_free}
+use Rattle.machine_laws.proofs.Moves.{IsCallOf, call_at}
 use Rattle.machine_sound.specs.Sound.{IsReached}
 use Rattle.machine_sound.proofs.Logs.{replays_requests}
 use Rattle.machine_sound.proofs.OneMap.{log_leads_to_one}
@@ -36,6 +43,9 @@ use Rattle.machine_alone.specs.Alone.{IsCalm, LeadsTo, IsNoted, IsServed, IsServ
 use Rattle.machine_alone.specs.Copies.{page_copied, with_copy}
 use Rattle.machine_alone.specs.Users.{Users, Same, recorded}
 use Rattle.machine_alone.specs.Taken.{frames_for, frames_taken, taken_below}
+use Rattle.machine_alone.specs.First.{FirstAnswers, is_placed}
+use Rattle.machine_alone.proofs.First.{IsFirstReply, copy_first, named_first}
+use Rattle.machine_alone.proofs.Seeking.{IsSeeking, Seeks, change_is_named, seeks_on, touch_is_named}
 use Rattle.machine_alone.proofs.Awaiting.{WillAnswer, change_answers, copy_answers, change_frames, copy_frames}
 use Rattle.machine_alone.proofs.Framed.{reached_framed}
 use Rattle.machine_alone.proofs.Noting.{IsLogged, IsLoggedOf, from_log, is_with_copy, last_entry, logged_on}
@@ -44,7 +54,7 @@ use Rattle.machine_alone.proofs.Taking.{TakesOne, taken_most, taken_on}
 use Rattle.machine_alone.proofs.Used.{IsFrom, Used, IsUsed, KeepsUsers, asks_on, copy_after, used_on, unwaited_on}
 use Rattle.machine_alone.proofs.Using.{IsStoreFor}
 use Rattle.machine_alone.proofs.Rank.{reach_of, rank_of}
-use Rattle.machine_alone.proofs.Telling.{IsTold, IsToldOf, Waits, for_change, for_copy, waits_at, told_on}
+use Rattle.machine_alone.proofs.Telling.{IsTold, IsToldOf, Waits, for_change, for_copy, waits_at, told_on, unmapped_unused}
 use Rattle.machine_alone.proofs.Rows.{IsDueReply, IsSure, IsSureOf, left_of, Nears, goes_near, sure_at}
 
 -- In x the call of core c, begun in w, whose log leads to t, serves its request. These frames were free before it took one.
@@ -117,6 +127,7 @@ row_of first w t c request x o v h after (ends d reply e s lt p k) =
     returns reply (ap x.calls.phase (sym same) ∙ p) s (k ∙ ap (λ n. to n Free (with_event x)) same)
 row_of first w t c request x o v h after (goes d going s lt g) =
     nears s g (goes_near first (with_event x) c v (reached_fine x h.reached) after h.sure h.storable g)
+row_of first w t c request x o v h after (aims d place target a s lt p k) = elim a [ ]
 row_of first w t c request x o v h after (gives_up d e s lt can u k) = absurd cc
 row_of first w t c request x o v h after (works d s lt k) = absurd (no_work k)
   where
@@ -141,9 +152,13 @@ closed_free : (phase : Phase) → status phase ≡ Closed → phase ≡ Free
 closed_free Free e = refl
 closed_free (Check request) e = absurd cc
 closed_free (Lock goal cursor) e = absurd cc
+closed_free (Guess place) e = absurd cc
+closed_free (Find place target) e = absurd cc
+closed_free (Leaving place target held) e = absurd cc
+closed_free (Cut place target range) e = absurd cc
 closed_free (Decide change) e = absurd cc
 closed_free (Post change shoot) e = absurd cc
-closed_free (Acks change held) e = absurd cc
+closed_free (Acks goal change) e = absurd cc
 closed_free (Unlock held reply) e = absurd cc
 closed_free (Answer reply) e = absurd cc
 closed_free (Try touch) e = absurd cc
@@ -276,6 +291,7 @@ begun w c request m (happens n shape) s = go shape
         )
     go (ends d reply e k lt p h) = absurd cc
     go (goes d e k lt g) = absurd (no_going d (Call c request) e refl)
+    go (aims d place target a k lt p h) = elim a [ ]
     go (gives_up d e s lt can u h) = absurd cc
     go (works d s lt k) = absurd (no_work d k)
     go (joins p t2 e s page j m h) = absurd cc
@@ -365,7 +381,7 @@ less_test a b h = grind (arith, nat_tests)
 -- a call that waits has no reply, has made no copy, and has changed no user
 waits_unchanged : (t : Plain) (first now : Users) (reach : Touch → Option ℕ) (c : ℕ) (request : Request) (copy : Option ℕ) (phase : Phase) (range : PageRange)
     → Waits phase range → Used t first now reach c request copy phase → (status phase ≡ Asked) × (copy ≡ None) × Same now first
-waits_unchanged t first now reach c request copy phase range (for_change change held p i) u =
+waits_unchanged t first now reach c request copy phase range (for_change goal change p i) u =
     let z = subst (Used t first now reach c request copy) p u in (ap status p, z.0, z.1)
 waits_unchanged t first now reach c request copy phase range (for_copy touch frame p i) u =
     let z = subst (Used t first now reach c request copy) p u in (ap status p, z.0, z.1)
@@ -381,16 +397,37 @@ waiting_leads free w t c request x h a none =
 will_answer : (w : World) (t : Plain) (c : ℕ) (request : Request) (x : World) (range : PageRange) → IsServing w.memory.is_free w t c request x → (f : Fine x)
     → f.plain ≡ t → Waits (x.calls.phase c) range
     → WillAnswer t c request range × (taken_below x.memory.is_free x.made.frames ≡ taken_below w.memory.is_free x.made.frames + frames_for request)
-will_answer w t c request x range h f from (for_change change held p i) =
-    let z = change_answers x t c request change held f from h.number p in (
+will_answer w t c request x range h f from (for_change goal change p i) =
+    let z = change_answers x t c request goal change f from h.number p in (
       subst (WillAnswer t c request) (sym i) z.0,
-      change_frames w.memory.is_free x.memory.is_free request x.made.frames (sure_at w.memory.is_free x c (Acks change held) p h.sure) z.1,
+      change_frames w.memory.is_free x.memory.is_free request x.made.frames (sure_at w.memory.is_free x c (Acks goal change) p h.sure) z.1,
     )
 will_answer w t c request x range h f from (for_copy touch frame p i) =
     let z = copy_frames x c request touch frame w.memory.is_free f h.number p (sure_at w.memory.is_free x c (CopyAcks touch frame) p h.sure) in (
       subst (WillAnswer t c request) (sym i) (copy_answers x t c request touch frame f from h.number p),
       let a = z.0 in let b = z.1 in omega (arith, a, b),
     )
+
+-- a request that leaves its place open waits for nobody: it goes to pages that no core uses
+acks_named : (x : World) (c : ℕ) (request : Request) (goal : Goal) (change : Change) (d : ℕ) → Fine x
+    → nth x.calls.requests (x.calls.number c) ≡ Some request → x.calls.phase c ≡ Acks goal change → IsUser x.slots (range_of change) d
+    → is_placed request ≡ false
+acks_named x c request (To.Place place target) change d f number p u =
+    let call : IsCallOf x c (Acks (To.Place place target) change) = call_at x c (Acks (To.Place place target) change) p f.order in
+    let free = place_free x.slots place target (range_of change) call.ready.2.0 call.ready.2.1 in
+    absurd (unmapped_unused (x.slots.info u.0) d (free u.0 u.1) u.2)
+acks_named x c request (To.Change planned) change d f number p u =
+    change_is_named x c planned request number (call_at x c (Acks (To.Change planned) change) p f.order).asked
+acks_named x c request (To.Access touch) change d f number p u =
+    touch_is_named x c touch request number (call_at x c (Acks (To.Access touch) change) p f.order).asked
+
+waits_named : (x : World) (c : ℕ) (request : Request) (range : PageRange) (d : ℕ) → Fine x
+    → nth x.calls.requests (x.calls.number c) ≡ Some request
+    → Waits (x.calls.phase c) range → IsUser x.slots range d → is_placed request ≡ false
+waits_named x c request range d f number (for_change goal change p i) u =
+    acks_named x c request goal change d f number p (subst (λ r. IsUser x.slots r d) i u)
+waits_named x c request range d f number (for_copy touch frame p i) u =
+    touch_is_named x c touch request number (call_at x c (CopyAcks touch frame) p f.order).asked
 
 awaited_by : (w : World) (t : Plain) (c : ℕ) (request : Request) (x : World) (o : Outcome) (v : World) (range : PageRange) (set : ℕ)
     → IsServing w.memory.is_free w t c request x → IsTold x.slots x.hardware c (x.calls.phase c) → awaits_in (x.calls.phase c) ≡ Some range
@@ -403,6 +440,7 @@ awaited_by w t c request x o v range set h was_told p e a k =
     let leads : LeadsTo x t = waiting_leads w.memory.is_free w t c request x h kept.0 kept.1 in
     let from : f.plain ≡ t = log_leads_to_one x.calls.requests x.calls.log (nothing_mapped x.made.file) f.plain t f.log leads in
     let will = will_answer w t c request x range h f from waits in
+    let named : is_placed request ≡ false = waits_named x c request range a.some.0 f h.number waits ((told a.some.0).0.0 a.some.1).1 in
     record {
       waiting = record {
         range = range;
@@ -428,10 +466,18 @@ awaited_by w t c request x o v range set h was_told p e a k =
       reply = will.0.reply;
       after = will.0.after;
       stands = will.0.stands;
+      first = copy_first t c request will.0.reply will.0.after (named_first t c request will.0.reply named) will.0.stands;
+      named = named;
       drops = will.0.drops;
     }
 
 -- ---- the whole call
+
+few_cores : (x : World) (c : ℕ) → nat_lt c x.made.cores ≡ true → Fine x → c < 64
+few_cores x c inside f = let few = f.order.few in let l = below c x.made.cores inside in omega (arith, few, l)
+  where
+    below : (a b : ℕ) → nat_lt a b ≡ true → a < b
+    below a b h = grind (arith, nat_tests)
 
 told_step : (w : World) (t : Plain) (c : ℕ) (request : Request) (x v : World) → IsServing w.memory.is_free w t c request x → Step x (Go c) Stepped v
     → IsTold v.slots v.hardware c (v.calls.phase c)
@@ -473,6 +519,30 @@ unwaited_along w t c request m h told u (suc n) x s =
       | awaits_acks _ _ _ e _ _ ↦ absurd cc
     ]
 
+-- what the call knows of its first place
+seeking_along : (w : World) (t : Plain) (c : ℕ) (request : Request) (m : World) → IsServing w.memory.is_free w t c request m
+    → IsSeeking t c request m → (n : ℕ) (x : World) → StepsTo m c n x → IsSeeking t c request x
+seeking_along w t c request m h k zero x s = subst (IsSeeking t c request) (sym s) k
+seeking_along w t c request m h k (suc n) x s =
+    let z = (along w.memory.is_free w t c request m h n s.0 s.1).0 in
+    let f : Fine s.0 = reached_fine s.0 z.reached in
+    let shape : Shape (with_event s.0) (Go c) Stepped x = before_limit s.0 c x (comes s.0 (Go c) Stepped x s.2) s.2 in
+    elim (row_of w.memory.is_free w t c request s.0 Stepped x z (reached_fine x (reached_step s.0 x (Go c) Stepped z.reached s.2)) shape) [
+      | nears _ g _ ↦ seeks_on t (recorded w.slots) c request z.copy (with_event s.0) x f (few_cores s.0 c z.inside f) z.number
+          (λ b. subst (Good s.0) (subst (λ o. IsFrom t o f.plain) b.1 (goes_from w.memory.is_free w t c request s.0 z f b.0)) f.good)
+          z.used (goes_of s.0 c x s.2) (seeking_along w t c request m h k n s.0 s.1) g
+      | returns _ _ e _ ↦ absurd cc
+      | awaits_acks _ _ _ e _ _ ↦ absurd cc
+    ]
+
+-- its reply is the first
+first_reply : (w : World) (t : Plain) (c : ℕ) (request : Request) (o : Outcome) (x v : World) (reply : Reply)
+    (k : IsServed w t c request o v) → o ≡ Answered reply → x.calls.phase c ≡ Answer reply → IsSeeking t c request x → FirstAnswers t c request k.reply k.after
+first_reply w t c request o x v reply k answered at seeking =
+    let both : Answered k.reply ≡ Answered reply = sym k.answered ∙ answered in
+    let same : reply ≡ k.reply = cc in
+    copy_first t c request k.reply k.after (subst (IsFirstReply t c request) same (subst (Seeks t c request) at seeking)) k.stands
+
 -- its reply drops no other user
 keeps_others : (w : World) (t : Plain) (c : ℕ) (request : Request) (o : Outcome) (x v : World) (k : IsServed w t c request o v) → v ≡ to c Free (with_event x)
     → KeepsUsers (recorded w.slots) c (recorded x.slots) → KeepsOthers t (recorded w.slots) c request k.reply
@@ -483,7 +553,7 @@ pub served_alone : (w begun : World) (t : Plain) (core : ℕ) (request : Request
     → IsServedAlone w t core request begun
 served_alone w begun t core request reached leads calm s =
     let start = starts w t core request begun reached leads calm s in
-    let most : left_of begun core ≡ 2 ^ 37 = ap (rank_of begun.slots (reach_of begun.hardware core)) start.1 in
+    let most : left_of begun core ≡ 2 ^ 38 = ap (rank_of begun.slots (reach_of begun.hardware core)) start.1 in
     record {
       short = λ n x k. let a = (along w.memory.is_free w t core request begun start.0 n x k).1 in omega (arith, a, most);
       ends = λ n x v o k s not below.
@@ -492,13 +562,14 @@ served_alone w begun t core request reached leads calm s =
           let told = told_along w t core request begun start.0 first n x k in
           let same : KeepsUsers (recorded w.slots) core (recorded begun.slots) = λ d p ne i. ap (λ (m : World). recorded m.slots p d) start.2 ∙ i in
           let unwaited = unwaited_along w t core request begun start.0 first same n x k in
+          let seeking = seeking_along w t core request begun start.0 (subst (Seeks t core request) (sym start.1) tt) n x k in
           elim (row_of w.memory.is_free w t core request x o v h (reached_fine v (reached_step x v (Go core) o h.reached s))
           (shape_at x core o v (less_test x.calls.events event_limit below) (comes x (Go core) o v s))) [
             | nears e _ _ ↦ absurd (not e)
             | returns reply at answered e ↦
                 let k = returned w.memory.is_free w t core request x v o reply h s at answered e (λ d m u i. d)
                 (taken_most w.memory.is_free x.memory.is_free request w.made.frames h.taken) in
-                inl (k, keeps_others w t core request o x v k e unwaited)
+                inl (k, keeps_others w t core request o x v k e unwaited, first_reply w t core request o x v reply k answered at seeking)
             | awaits_acks range set p e a k ↦ inr (awaited_by w t core request x o v range set h told p e a k)
           ];
     }

@@ -15,21 +15,23 @@ use Rattle.slot_lock.specs.declared.plan.Touch.{Touch}
 use Rattle.vm_calls.specs.declared.fault.Settled.{Settled}
 use Rattle.vm_calls.specs.declared.fault.Settled.TheVariants.{MapErr, AccErr, Bus, Has, Copies, Cached, Wants}
 use Rattle.vm_calls.specs.Settling.{is_private_store, settled, source}
+use Rattle.slot_lock.specs.Plan.{goal_range}
 use Rattle.machine_model.specs.declared.event.Outcome.TheVariants.{Stepped}
-use Rattle.machine_model.specs.declared.phase.Goal.{Goal}
-use Rattle.machine_model.specs.declared.phase.Goal.TheVariants as To
+use Rattle.slot_lock.specs.declared.plan.Goal.{Goal}
+use Rattle.slot_lock.specs.declared.plan.Goal.TheVariants as To
 use Rattle.machine_model.specs.declared.phase.Phase.{Phase}
-use Rattle.machine_model.specs.declared.phase.Phase.TheVariants.{Lock, Unlock, CopyAcks, Install}
+use Rattle.machine_model.specs.declared.phase.Phase.TheVariants.{Lock, Acks, Unlock, CopyAcks, Install}
 use Rattle.machine_model.specs.Accesses.{after_finding, found_at, is_past_end, taken_for}
 use Rattle.machine_model.specs.Actions.{to, let_go}
 use Rattle.machine_model.specs.Files.{back_of, file_frame, shows_some}
 use Rattle.machine_model.specs.Filling.{info_copied}
-use Rattle.machine_model.specs.Holding.{goal_range, taken_in}
+use Rattle.machine_model.specs.Holding.{taken_in}
 use Rattle.machine_model.specs.Locks.{all_locked, held_after, locked_to}
 use Rattle.machine_model.specs.World.{World}
 use Rattle.machine_model.specs.Step.{Goes}
-use Rattle.machine_laws.proofs.Shapes.{Moves, locks, tries, acts, finds, lacks, shows, LetsGo, unlocks, releases, GoesBy, moves, divides, owns, lets_go, answers, posts, commits, takes, zeroes, first_copies, caches, shares, posts_copy, copies, installs, accesses, faults}
+use Rattle.machine_laws.proofs.Shapes.{Moves, locks, tries, hints, seeks, guesses, turns, chooses, acts, finds, lacks, shows, LetsGo, unlocks, returns, releases, GoesBy, moves, divides, cuts, fits, owns, lets_go, answers, posts, commits, takes, zeroes, first_copies, caches, shares, posts_copy, copies, installs, accesses, faults}
 use Rattle.machine_sound.specs.Invariant.{Fine}
+use Rattle.machine_alone.proofs.Rank.{back_all}
 use Rattle.machine_sound.proofs.Fills.{uncached, unshown}
 
 -- the access is a store to a private page that shows its file's page
@@ -125,6 +127,16 @@ storable_page c touch info new x v h e k =
 moves_storable : (w : World) (c : ℕ) (new : Phase) (v : World) → Goes w c (w.calls.phase c) Stepped v → Moves w c new → v ≡ to c new w → IsStorableOf c v
 moves_storable w c new v g (locks request change e n k) h = storable_to c new w v h (subst (IsStorable w.memory.cached w.slots.info) (sym n) tt)
 moves_storable w c new v g (tries request touch e n k) h = storable_to c new w v h (subst (IsStorable w.memory.cached w.slots.info) (sym n) tt)
+moves_storable w c new v g (hints request place range e n i k) h =
+    storable_to c new w v h (subst (IsStorable w.memory.cached w.slots.info) (sym n) tt)
+moves_storable w c new v g (seeks request place e n k) h =
+    storable_to c new w v h (subst (IsStorable w.memory.cached w.slots.info) (sym n) tt)
+moves_storable w c new v g (guesses place found e n least) h =
+    storable_to c new w v h (subst (IsStorable w.memory.cached w.slots.info) (sym n) tt)
+moves_storable w c new v g (turns place target e n d) h =
+    storable_to c new w v h (subst (IsStorable w.memory.cached w.slots.info) (sym n) tt)
+moves_storable w c new v g (chooses place target range shoot e n d) h =
+    storable_to c new w v h (subst (IsStorable w.memory.cached w.slots.info) (sym n) tt)
 moves_storable w c new v g (acts change range shoot e n d) h = storable_to c new w v h (subst (IsStorable w.memory.cached w.slots.info) (sym n) tt)
 moves_storable w c new v g (finds touch f e n u) h =
     let b = subst (λ phase. Goes w c phase Stepped v) e g in
@@ -139,6 +151,7 @@ locked_storable : (cached : ℕ → ℕ → Option ℕ) (info : ℕ → Option P
 locked_storable cached info goal b = go goal (nat_le (goal_range goal).end b)
   where
     go : (goal : Goal) (p : Bool) → IsStorable cached info (cond p (all_locked goal) (Lock goal b))
+    go (To.Place place target) true = tt
     go (To.Change change) true = tt
     go (To.Access touch) true = tt
     go goal false = tt
@@ -150,6 +163,8 @@ gone_storable cached info (Some held) reply = tt
 lets_go_storable : (cached : ℕ → ℕ → Option ℕ) (info : ℕ → Option PageInfo) (old : Phase) (held : PageRange) (b : ℕ) (new : Phase) → LetsGo old held b new
     → IsStorable cached info new
 lets_go_storable cached info old held b new (unlocks reply e n) = subst (IsStorable cached info) (sym n) (gone_storable cached info (held_after held b) reply)
+lets_go_storable cached info old held b new (returns place target e n) =
+    subst (IsStorable cached info) (sym n) (back_all (IsStorable cached info) place target (held_after held b) tt tt (λ held. tt))
 lets_go_storable cached info old held b new (releases touch e h n) = subst (IsStorable cached info) (sym n) tt
 
 taken_storable : (cached : ℕ → ℕ → Option ℕ) (info : ℕ → Option PageInfo) (touch : Touch) (old : Option ℕ) (f : ℕ)
@@ -161,11 +176,14 @@ pub storable_on : (w : World) (c : ℕ) (v : World) → Fine w → Goes w c (w.c
 storable_on w c v f g (moves new m h) = moves_storable w c new v g m h
 storable_on w c v f g (divides goal cursor t e s h) =
     subst (IsStorableOf c) (sym h) (subst (IsStorable w.memory.cached t.info) (sym e) tt)
+storable_on w c v f g (cuts place target range t e s h) =
+    subst (IsStorableOf c) (sym h) (subst (IsStorable w.memory.cached t.info) (sym e) tt)
+storable_on w c v f g (fits place target range e i h) = storable_to c (Acks _ _) _ v h tt
 storable_on w c v f g (owns goal cursor b t e l h) = storable_to c (locked_to goal b) _ v h (locked_storable w.memory.cached t.info goal b)
 storable_on w c v f g (lets_go held b t new l u h) = storable_to c new _ v h (lets_go_storable w.memory.cached t.info (w.calls.phase c) held b new l)
 storable_on w c v f g (answers held reply r h) = storable_to c (let_go held reply) _ v h (gone_storable w.memory.cached w.slots.info held reply)
 storable_on w c v f g (posts change shoot e h) = storable_to c _ _ v h tt
-storable_on w c v f g (commits change held counts e n l h) = storable_to c (Unlock held _) _ v h tt
+storable_on w c v f g (commits goal change counts e n l h) = storable_to c (Unlock (goal_range goal) _) _ v h tt
 storable_on w c v f g (takes touch old x e l h) = storable_to c (taken_for touch old x) _ v h (taken_storable w.memory.cached w.slots.info touch old x)
 storable_on w c v f g (zeroes touch x counts e b t h) =
     storable_page c touch w.slots.info (info_with_frame x (w.slots.info touch.page)) _ v h (put_same w.slots.info touch.page _)

@@ -1,23 +1,17 @@
 -- How many frames are taken after a step: an access takes one, and nothing else takes any.
-use Rattle.std.proofs.Common.{◌≡◌, ℕ, zero, suc, ◌+◌, ◌≤◌, ◌<◌, ◌==◌, ◌⊎◌, Bool, true, false, cond, inl, inr, refl, sym, ap, subst, arith, Some, None, Option, Ok, ◌∙◌}
+use Rattle.std.proofs.Common.{◌≡◌, ℕ, zero, suc, ◌+◌, ◌≤◌, ◌<◌, ◌==◌, ◌⊎◌, Bool, true, false, cond, inl, inr, refl, sym, ap, subst, arith, Some, None, Option, ◌∙◌}
 use Rattle.std.proofs.Math.Path.{fun_ext}
 use Rattle.std.specs.Prelude.{if◌then◌else◌}
 use Rattle.std.proofs.lemmas.Bool.Decides.{nat_tests}
 use Rattle.vm_base.specs.declared.requests.Request.{Request}
 use Rattle.vm_base.specs.declared.requests.Request.TheVariants.{Mmap, Munmap, Mprotect, Load, Store, Fetch}
-use Rattle.vm_base.specs.declared.rights.Mode.{Mode}
 use Rattle.vm_base.specs.Functions.{put}
 use Rattle.vm_base.specs.Plain.{Plain}
 use Rattle.vm_base.specs.declared.replies.Reply.TheVariants as ReplyOf
-use Rattle.vm_base.specs.declared.rights.Access.TheVariants as By
-use Rattle.slot_lock.specs.declared.plan.Change.{Change}
 use Rattle.machine_sound.specs.Log.{Stands}
-use Rattle.vm_base.specs.Refusals.{refusal}
 use Rattle.vm_base.proofs.Functions.{eq_true, eq_false, put_all, put_other}
 use Rattle.slot_lock.specs.declared.plan.Plan.TheVariants as PlanOf
 use Rattle.slot_lock.specs.declared.plan.Touch.{Touch}
-use Rattle.vm_calls.specs.Checks.{checked, plan_of}
-use Rattle.vm_calls.proofs.Passed.{passed}
 use Rattle.machine_model.specs.declared.phase.Phase.TheVariants.{Want, Fill}
 use Rattle.machine_model.specs.Accesses.{NoneFree}
 use Rattle.machine_model.specs.GivingUp.{given_back}
@@ -25,11 +19,11 @@ use Rattle.machine_model.specs.World.{World}
 use Rattle.machine_laws.specs.Brackets.{nth}
 use Rattle.machine_laws.specs.Orderly.{Serves}
 use Rattle.machine_laws.proofs.Moves.{IsCallOf, call_at}
-use Rattle.machine_laws.proofs.Shapes.{GoesBy, moves, divides, owns, lets_go, answers, posts, commits, takes, zeroes, first_copies, caches, shares, posts_copy, copies, installs, accesses, faults}
+use Rattle.machine_laws.proofs.Shapes.{GoesBy, moves, divides, cuts, fits, owns, lets_go, answers, posts, commits, takes, zeroes, first_copies, caches, shares, posts_copy, copies, installs, accesses, faults}
 use Rattle.machine_sound.specs.Invariant.{Fine}
 use Rattle.machine_alone.specs.Taken.{one_if_taken, taken_below, frames_for, is_access}
 use Rattle.machine_alone.proofs.Rows.{HasTaken, IsSureOf, sure_at}
-use Rattle.machine_alone.proofs.Using.{IsTouchOf, loads, stores, fetches, no_change}
+use Rattle.machine_alone.proofs.Using.{IsTouchOf, loads, stores, fetches}
 use Rattle.machine_alone.proofs.Used.{its_touch}
 
 -- ---- sets of frames
@@ -152,11 +146,16 @@ pub taken_on : (first : ℕ → Bool) (c : ℕ) (request : Request) (w v : World
     → IsSureOf first c w → TakesOne first w.memory.is_free request → GoesBy w c v → TakesOne first v.memory.is_free request
 taken_on first c request w v f number sure k (moves new m h) = free_same first request v _ (ap (λ (v : World). v.memory.is_free) h) k
 taken_on first c request w v f number sure k (divides goal cursor t e s h) = free_same first request v _ (ap (λ (v : World). v.memory.is_free) h) k
+taken_on first c request w v f number sure k (cuts place target range t e s h) =
+    free_same first request v _ (ap (λ (v : World). v.memory.is_free) h) k
+taken_on first c request w v f number sure k (fits place target range e i h) =
+    free_same first request v _ (ap (λ (v : World). v.memory.is_free) h) k
 taken_on first c request w v f number sure k (owns goal cursor b t e l h) = free_same first request v _ (ap (λ (v : World). v.memory.is_free) h) k
 taken_on first c request w v f number sure k (lets_go held b t new l u h) = free_same first request v _ (ap (λ (v : World). v.memory.is_free) h) k
 taken_on first c request w v f number sure k (answers held reply r h) = free_same first request v _ (ap (λ (v : World). v.memory.is_free) h) k
 taken_on first c request w v f number sure k (posts change shoot e h) = free_same first request v _ (ap (λ (v : World). v.memory.is_free) h) k
-taken_on first c request w v f number sure k (commits change held counts e n l h) = free_same first request v _ (ap (λ (v : World). v.memory.is_free) h) k
+taken_on first c request w v f number sure k (commits goal change counts e n l h) =
+    free_same first request v _ (ap (λ (v : World). v.memory.is_free) h) k
 taken_on first c request w v f number sure k (takes touch old x e l h) =
     let call : IsCallOf w c (Want touch old) = call_at w c (Want touch old) e f.order in
     let same : w.memory.is_free ≡ first = sure_at first w c (Want touch old) e sure in
@@ -176,20 +175,6 @@ taken_on first c request w v f number sure k (copies touch x g counts e n a t h)
 taken_on first c request w v f number sure k (installs touch e h) = free_same first request v _ (ap (λ (v : World). v.memory.is_free) h) k
 taken_on first c request w v f number sure k (accesses touch x e i h) = free_same first request v _ (ap (λ (v : World). v.memory.is_free) h) k
 taken_on first c request w v f number sure k (faults touch e i h) = free_same first request v _ (ap (λ (v : World). v.memory.is_free) h) k
-
--- ---- a change is no access
-
-pub change_no_access : (modes : ℕ → Option Mode) (core : ℕ) (request : Request) (change : Change) → checked modes core request ≡ Ok (PlanOf.Change change)
-    → is_access request ≡ false
-change_no_access modes core request change e = go request (passed (refusal modes request) (plan_of core request) (PlanOf.Change change) e).1
-  where
-    go : (r : Request) → plan_of core r ≡ Ok (PlanOf.Change change) → is_access r ≡ false
-    go (Mmap addr len prot flags file off) e = refl
-    go (Munmap addr len) e = refl
-    go (Mprotect addr len prot) e = refl
-    go (Load addr) e = absurd (no_change core (Load addr) addr 0 By.Load change e)
-    go (Store addr byte) e = absurd (no_change core (Store addr byte) addr byte By.Store change e)
-    go (Fetch addr) e = absurd (no_change core (Fetch addr) addr 0 By.Fetch change e)
 
 -- an access alone may be answered "no frame"
 pub no_frame_access : (t u : Plain) (core : ℕ) (request : Request) → Stands t core request ReplyOf.NoFrame u → is_access request ≡ true

@@ -1,6 +1,6 @@
 -- Which cores a lone call waits for: the others that are recorded on the pages that it changes or copies
-use Rattle.std.proofs.Common.{◌≡◌, ◌≢◌, ℕ, ◌<◌, Bool, true, false, cond, refl, sym, ap, subst, arith, Some, None, Option, List, [], ◌∷◌, ◌++◌, ◌∙◌}
-use Rattle.std.specs.Prelude.{◌↔◌, ◌==◌, is_some, if◌then◌else◌, nat_le}
+use Rattle.std.proofs.Common.{◌≡◌, ◌≢◌, ℕ, ◌<◌, Bool, true, false, refl, sym, ap, subst, arith, Some, None, Option, List, [], ◌∷◌, ◌++◌, ◌∙◌}
+use Rattle.std.specs.Prelude.{◌↔◌, ◌==◌, is_some, if◌then◌else◌}
 use Rattle.std.proofs.lemmas.Bool.Decides.{nat_tests}
 use Rattle.vm_base.specs.declared.info.PageInfo.{PageInfo}
 use Rattle.vm_base.specs.declared.page.PageRange.{PageRange}
@@ -10,35 +10,37 @@ use Rattle.vm_base.specs.Info.{is_recorded}
 use Rattle.vm_base.proofs.CoreSets.{members-empty}
 use Rattle.vm_base.specs.Functions.{put}
 use Rattle.vm_base.proofs.Functions.{has_in, put_all, put_same, put_other, eq_true, eq_false}
-use Rattle.vm_base.specs.Plain.{File}
 use Rattle.slot_lock.specs.declared.plan.Change.{Change}
-use Rattle.slot_lock.specs.declared.plan.Change.TheVariants.{Put, Clear, Protect}
-use Rattle.slot_lock.specs.declared.plan.Plan.TheVariants as PlanOf
+use Rattle.slot_lock.specs.declared.plan.Change.TheVariants.{Put}
+use Rattle.slot_lock.specs.declared.plan.Place.{Place}
+use Rattle.slot_lock.specs.declared.plan.Target.{Target}
 use Rattle.slot_lock.specs.declared.plan.Touch.{Touch}
-use Rattle.slot_lock.specs.Plan.{range_of}
+use Rattle.slot_lock.specs.Plan.{range_of, goal_range}
 use Rattle.slot_lock.specs.Slots.{Slots, IsUser}
-use Rattle.vm_calls.specs.declared.decision.Decision.TheVariants.{Act}
-use Rattle.vm_calls.specs.Decisions.{Decides}
-use Rattle.vm_calls.specs.Decisions.DecidesProtect.{no_page, no_write, acts}
+use Rattle.vm_calls.specs.Decisions.{entry_of}
 use Rattle.shootdown.specs.declared.message.Message.{Message}
 use Rattle.shootdown.specs.Inboxes.{awaited}
 use Rattle.shootdown.specs.Messages.{message_of, posted}
 use Rattle.machine_model.specs.declared.phase.Phase.{Phase}
-use Rattle.machine_model.specs.declared.phase.Phase.TheVariants.{Free, Check, Lock, Decide, Post, Acks, Unlock, Answer, Try, Settle, Want, Fill, CopyPost, CopyAcks, Install, Release}
-use Rattle.machine_model.specs.declared.phase.Goal.{Goal}
-use Rattle.machine_model.specs.declared.phase.Goal.TheVariants as To
+use Rattle.machine_model.specs.declared.phase.Phase.TheVariants.{Free, Check, Lock, Guess, Find, Back as Leaving, Cut, Decide, Post, Acks, Unlock, Answer, Try, Settle, Want, Fill, CopyPost, CopyAcks, Install, Release}
+use Rattle.slot_lock.specs.declared.plan.Goal.{Goal}
+use Rattle.slot_lock.specs.declared.plan.Goal.TheVariants as To
 use Rattle.machine_model.specs.Accesses.{taken_for, after_frame, after_install, reply_of, memory_after}
 use Rattle.machine_model.specs.Actions.{to, let_go, after_reply, with_entry, detach_entry}
 use Rattle.machine_model.specs.Filling.{cores_of, after_zeros, after_first_copy, after_caching, after_sharing, after_copy}
 use Rattle.machine_model.specs.Changes.{slots_after, reply_to}
 use Rattle.machine_model.specs.Counting.{with_counts}
-use Rattle.machine_model.specs.Holding.{awaits_in, goal_range, page_of_touch}
-use Rattle.machine_model.specs.Locks.{locking, locked_to, all_locked, held_after}
+use Rattle.machine_model.specs.Holding.{awaits_in, page_of_touch}
+use Rattle.machine_model.specs.Locks.{locking, locked_to}
+use Rattle.machine_model.specs.Placing.{after_cuts}
+use Rattle.machine_laws.proofs.Deciding.{place_free}
 use Rattle.machine_model.specs.Translating.{inboxes_after, after_shot, after_translating, with_hardware}
 use Rattle.machine_model.specs.World.{World, Hardware}
 use Rattle.machine_laws.proofs.Moves.{IsCallOf, call_at, page_is}
-use Rattle.machine_laws.proofs.Shapes.{Moves, locks, tries, acts as decides, finds, lacks, shows, LetsGo, unlocks, releases, GoesBy, moves, divides, owns, lets_go, answers, posts, commits, takes, zeroes, first_copies, caches, shares, posts_copy, copies, installs, accesses, faults}
+use Rattle.machine_laws.proofs.Shapes.{GoesBy, moves, divides, cuts, fits, owns, lets_go, answers, posts, commits, takes, zeroes, first_copies, caches, shares, posts_copy, copies, installs, accesses, faults}
+use Rattle.machine_laws.proofs.Effects.{moves_quiet, locked_quiet, let_go_still, lets_go_still, taken_asked}
 use Rattle.machine_coherence.specs.Coherent.{AreAsked}
+use Rattle.machine_coherence.proofs.Steps.{users}
 use Rattle.machine_sound.specs.Invariant.{Fine}
 use Rattle.machine_alone.specs.Alone.{takes_left}
 
@@ -56,15 +58,19 @@ IsTold s h c phase = IsToldOf s h c (awaits_in phase)
 
 -- a call in this phase waits until others have dropped these pages: those of a change, or that of a store that is to have a copy
 pub data Waits (phase : Phase) (range : PageRange) : Type 0 where
-  for_change : (change : Change) (held : PageRange) → phase ≡ Acks change held → range ≡ range_of change → Waits phase range
+  for_change : (goal : Goal) (change : Change) → phase ≡ Acks goal change → range ≡ range_of change → Waits phase range
   for_copy : (touch : Touch) (frame : ℕ) → phase ≡ CopyAcks touch frame → range ≡ page_of_touch touch → Waits phase range
 
 pub waits_at : (phase : Phase) (range : PageRange) → awaits_in phase ≡ Some range → Waits phase range
-waits_at (Acks change held) range e = for_change change held refl cc
+waits_at (Acks goal change) range e = for_change goal change refl cc
 waits_at (CopyAcks touch frame) range e = for_copy touch frame refl cc
 waits_at Free range e = absurd cc
 waits_at (Check request) range e = absurd cc
 waits_at (Lock goal cursor) range e = absurd cc
+waits_at (Guess place) range e = absurd cc
+waits_at (Find place target) range e = absurd cc
+waits_at (Leaving place target held) range e = absurd cc
+waits_at (Cut place target chosen) range e = absurd cc
 waits_at (Decide change) range e = absurd cc
 waits_at (Post change shoot) range e = absurd cc
 waits_at (Unlock held reply) range e = absurd cc
@@ -122,17 +128,7 @@ left_is_awaited phase d (m ∷ ms) c only h = go (m.from == c) refl
     go true e = (λ _. some m.is_cleared, λ _. refl)
     go false e = absurd (let a = only m.from (eq_false m.from c e) in let b = h.1 in cc)
 
--- the cores that are to be told are those that are recorded on the pages
-acts_users : (files : ℕ → Option File) (s : Slots) (change : Change) (changes : PageRange) (shoot : ℕ)
-    → Decides files s (PlanOf.Change change) (Act changes shoot)
-    → (core : ℕ) → (members shoot core ≡ true) ↔ IsUser s (range_of change) core
-acts_users files s (Put range meta) changes shoot h = h.1
-acts_users files s (Clear range) changes shoot h = h.1
-acts_users files s (Protect range prot) changes shoot (no_page a e) = absurd cc
-acts_users files s (Protect range prot) changes shoot (no_write a w r e) = absurd cc
-acts_users files s (Protect range prot) changes shoot (acts a r k) = k.1
-
--- and so are those of a page that is to get a copy
+-- the cores that are to be told are those that are recorded on the page that is to get a copy
 copy_users : (s : Slots) (touch : Touch) (core : ℕ) → (members (cores_of (s.info touch.page)) core ≡ true) ↔ IsUser s (page_of_touch touch) core
 copy_users s touch core = (
   λ m. (touch.page, page_is touch, here (s.info touch.page) m),
@@ -150,6 +146,15 @@ copy_users s touch core = (
     there None m = absurd cc
     there (Some info) m = m
 
+-- where the call of core c, the only one, awaits nothing
+nobody_awaits : (w : World) (c : ℕ) → ((b : ℕ) → b ≢ c → w.calls.phase b ≡ Free) → awaits_in (w.calls.phase c) ≡ None
+    → (b : ℕ) → awaits_in (w.calls.phase b) ≡ None
+nobody_awaits w c others e b = this (b == c) refl
+  where
+    this : (z : Bool) → (b == c) ≡ z → awaits_in (w.calls.phase b) ≡ None
+    this true i = ap (λ n. awaits_in (w.calls.phase n)) (eq_true b c i) ∙ e
+    this false i = ap awaits_in (others b (eq_false b c i))
+
 -- just after the messages were sent to the cores that are recorded on these pages
 posts_tell : (w : World) (c shoot : ℕ) (range : PageRange) → Fine w → ((b : ℕ) → b ≢ c → w.calls.phase b ≡ Free) → awaits_in (w.calls.phase c) ≡ None
     → ((d : ℕ) → (members shoot d ≡ true) ↔ IsUser w.slots range d)
@@ -162,11 +167,7 @@ posts_tell w c shoot range f others e all d = (
 )
   where
     nobody : (b : ℕ) → awaits_in (w.calls.phase b) ≡ None
-    nobody b = this (b == c) refl
-      where
-        this : (z : Bool) → (b == c) ≡ z → awaits_in (w.calls.phase b) ≡ None
-        this true i = ap (λ n. awaits_in (w.calls.phase n)) (eq_true b c i) ∙ e
-        this false i = ap awaits_in (others b (eq_false b c i))
+    nobody = nobody_awaits w c others e
 
     untaken : (b : Bool) (ms : List Message) → ms ≡ []
         → takes_left (if b then ms ++ posted c range ∷ [] else ms)
@@ -203,41 +204,13 @@ to_untold c new x v h none =
     subst (λ (v : World). IsTold v.slots v.hardware c (v.calls.phase c)) (sym h)
     (untold x.slots x.hardware c (put x.calls.phase c new c) (ap awaits_in (put_same x.calls.phase c new) ∙ none))
 
-moves_untold : (w : World) (c : ℕ) (new : Phase) → Moves w c new → awaits_in new ≡ None
-moves_untold w c new (locks request change e n k) = ap awaits_in n
-moves_untold w c new (tries request touch e n k) = ap awaits_in n
-moves_untold w c new (decides change range shoot e n d) = ap awaits_in n
-moves_untold w c new (finds touch f e n u) = ap awaits_in n
-moves_untold w c new (lacks touch old e n u k) = ap awaits_in n
-moves_untold w c new (shows touch e n u k) = ap awaits_in n
-
-locked_untold : (goal : Goal) (b : ℕ) → awaits_in (locked_to goal b) ≡ None
-locked_untold goal b = go goal (nat_le (goal_range goal).end b)
-  where
-    go : (goal : Goal) (p : Bool) → awaits_in (cond p (all_locked goal) (Lock goal b)) ≡ None
-    go (To.Change change) true = refl
-    go (To.Access touch) true = refl
-    go goal false = refl
-
-let_go_untold : (held : Option PageRange) (reply : Reply) → awaits_in (let_go held reply) ≡ None
-let_go_untold None reply = refl
-let_go_untold (Some held) reply = refl
-
-lets_go_untold : (old : Phase) (held : PageRange) (b : ℕ) (new : Phase) → LetsGo old held b new → awaits_in new ≡ None
-lets_go_untold old held b new (unlocks reply e n) = ap awaits_in n ∙ let_go_untold (held_after held b) reply
-lets_go_untold old held b new (releases touch e h n) = ap awaits_in n
-
-taken_untold : (touch : Touch) (old : Option ℕ) (f : ℕ) → awaits_in (taken_for touch old f) ≡ None
-taken_untold touch None f = refl
-taken_untold touch (Some g) f = refl
-
 -- with its reply
 replied_untold : (c : ℕ) (held : Option PageRange) (reply : Reply) (x v : World) → v ≡ after_reply c held reply x
     → IsTold v.slots v.hardware c (v.calls.phase c)
 replied_untold c held reply x v h =
     subst (λ (v : World). IsTold v.slots v.hardware c (v.calls.phase c)) (sym h)
     (untold x.slots x.hardware c (put x.calls.phase c (let_go held reply) c) (ap awaits_in (put_same x.calls.phase c (let_go held reply))
-    ∙ let_go_untold held reply))
+    ∙ (let_go_still held reply).awaits))
 
 -- with the messages sent
 posted_told : (w : World) (c : ℕ) (new : Phase) (shoot : ℕ) (range : PageRange) (v : World) → Fine w → ((b : ℕ) → b ≢ c → w.calls.phase b ≡ Free)
@@ -248,22 +221,54 @@ posted_told w c new shoot range v f others h none asks all =
     (subst (IsTold w.slots (after_shot w.hardware c shoot range) c) (sym (put_same w.calls.phase c new))
     (subst (IsToldOf w.slots (after_shot w.hardware c shoot range) c) (sym asks) (posts_tell w c shoot range f others none all)))
 
+-- no core uses a page that isn't mapped
+pub unmapped_unused : (o : Option PageInfo) (d : ℕ) → is_some (entry_of o) ≡ false → is_recorded o d ≡ true → ⊥
+unmapped_unused None d free r = cc
+unmapped_unused (Some info) d free r = cc
+
+-- pages that no core uses, while nobody awaits
+quiet_told : (w : World) (c : ℕ) (range : PageRange) → Fine w → ((b : ℕ) → b ≢ c → w.calls.phase b ≡ Free)
+    → awaits_in (w.calls.phase c) ≡ None
+    → ((d : ℕ) → IsUser w.slots range d → ⊥) → IsToldOf w.slots w.hardware c (Some range)
+quiet_told w c range f others e unused d =
+    let none : w.hardware.inbox d ≡ [] =
+    no_message w.calls.phase d (w.hardware.inbox d) (nobody_awaits w c others e) (f.coherent.asked d) in (
+      subst (λ ms. (is_some (message_of ms c) ≡ true) ↔ ((d ≢ c) × IsUser w.slots range d)) (sym none)
+          (λ m. absurd cc, λ u. absurd (unused d u.1)),
+      subst (λ ms. takes_left ms ≡ (if is_some (message_of ms c) then 2 else 0)) (sym none) refl,
+    )
+
+-- a mapping goes to pages that no core uses
+fits_told : (w : World) (c : ℕ) (place : Place) (target : Target) (range : PageRange) (v : World) → Fine w
+    → ((b : ℕ) → b ≢ c → w.calls.phase b ≡ Free)
+    → w.calls.phase c ≡ Cut place target range → v ≡ after_cuts c place target range w → IsTold v.slots v.hardware c (v.calls.phase c)
+fits_told w c place target range v f others e h =
+    let k : IsCallOf w c (Cut place target range) = call_at w c (Cut place target range) e f.order in
+    let free = place_free w.slots place target range k.ready.1.0 k.ready.1.1 in
+    subst (λ (v : World). IsTold v.slots v.hardware c (v.calls.phase c)) (sym h)
+    (subst (IsTold w.slots w.hardware c) (sym (put_same w.calls.phase c (Acks (To.Place place target) (Put range place.meta))))
+    (quiet_told w c range f others (ap awaits_in e) (λ d u. unmapped_unused (w.slots.info u.0) d (free u.0 u.1) u.2)))
+
 pub told_on : (w : World) (c : ℕ) (v : World) → Fine w → ((b : ℕ) → b ≢ c → w.calls.phase b ≡ Free) → GoesBy w c v
     → IsTold v.slots v.hardware c (v.calls.phase c)
-told_on w c v f others (moves new m h) = to_untold c new w v h (moves_untold w c new m)
+told_on w c v f others (moves new m h) = to_untold c new w v h (moves_quiet w c new m).1.still.awaits
 told_on w c v f others (divides goal cursor t e s h) =
     subst (λ (v : World). IsTold v.slots v.hardware c (v.calls.phase c)) (sym h) (untold t w.hardware c (w.calls.phase c) (ap awaits_in e))
-told_on w c v f others (owns goal cursor b t e l h) = to_untold c (locked_to goal b) (record w { slots = t }) v h (locked_untold goal b)
-told_on w c v f others (lets_go held b t new l u h) = to_untold c new (record w { slots = t }) v h (lets_go_untold (w.calls.phase c) held b new l)
+told_on w c v f others (cuts place target range t e s h) =
+    subst (λ (v : World). IsTold v.slots v.hardware c (v.calls.phase c)) (sym h) (untold t w.hardware c (w.calls.phase c) (ap awaits_in e))
+told_on w c v f others (fits place target range e i h) =
+    fits_told w c place target range v f others e h
+told_on w c v f others (owns goal cursor b t e l h) = to_untold c (locked_to goal b) (record w { slots = t }) v h (locked_quiet goal b).still.awaits
+told_on w c v f others (lets_go held b t new l u h) = to_untold c new (record w { slots = t }) v h (lets_go_still (w.calls.phase c) held b new l).1.awaits
 told_on w c v f others (answers held reply r h) = replied_untold c held reply w v h
 told_on w c v f others (posts change shoot e h) =
     let k : IsCallOf w c (Post change shoot) = call_at w c (Post change shoot) e f.order in
-    posted_told w c (Acks change (range_of change)) shoot (range_of change) v f others h (ap awaits_in e) refl
-    (acts_users w.made.file w.slots change (range_of change) shoot k.ready)
-told_on w c v f others (commits change held total e n l h) = replied_untold c (Some held) (reply_to change)
+    posted_told w c (Acks (To.Change change) change) shoot (range_of change) v f others h (ap awaits_in e) refl
+    (users w.made.file w.slots change (range_of change) shoot k.ready)
+told_on w c v f others (commits goal change total e n l h) = replied_untold c (Some (goal_range goal)) (reply_to change)
     (with_counts total (record w { slots = slots_after change w.slots })) v h
 told_on w c v f others (takes touch old x e l h) =
-    to_untold c (taken_for touch old x) (record w { memory = (after_frame c touch old x w).memory }) v h (taken_untold touch old x)
+    to_untold c (taken_for touch old x) (record w { memory = (after_frame c touch old x w).memory }) v h (taken_asked touch old x).1
 told_on w c v f others (zeroes touch x counts e b t h) =
     to_untold c (Install touch) (record w { slots = (after_zeros c touch x counts w).slots; memory = (after_zeros c touch x counts w).memory }) v h refl
 told_on w c v f others (first_copies touch x counts e b t h) =

@@ -16,31 +16,33 @@ use Rattle.mmu.specs.declared.entry.Translation.{Translation}
 use Rattle.mmu.specs.Tables.{translated}
 use Rattle.mmu.specs.Tlb.{tlb_at}
 use Rattle.slot_lock.specs.declared.plan.Change.{Change}
+use Rattle.slot_lock.specs.declared.plan.Change.TheVariants.{Put}
 use Rattle.slot_lock.specs.declared.plan.Plan.TheVariants as PlanOf
 use Rattle.slot_lock.specs.declared.plan.Touch.{Touch}
-use Rattle.slot_lock.specs.Plan.{range_of}
+use Rattle.slot_lock.specs.Plan.{range_of, goal_range}
 use Rattle.slot_lock.specs.Slots.{Slots, with_info}
 use Rattle.vm_calls.specs.declared.fault.Settled.{Settled}
 use Rattle.vm_calls.specs.declared.fault.Settled.TheVariants.{MapErr, AccErr, Bus, Has, Copies, Cached, Wants}
-use Rattle.machine_model.specs.declared.phase.Goal.{Goal}
-use Rattle.machine_model.specs.declared.phase.Goal.TheVariants as To
+use Rattle.slot_lock.specs.declared.plan.Goal.{Goal}
+use Rattle.slot_lock.specs.declared.plan.Goal.TheVariants as To
 use Rattle.machine_model.specs.declared.phase.Phase.{Phase}
-use Rattle.machine_model.specs.declared.phase.Phase.TheVariants.{Check, Lock, Decide, Post, Acks, Unlock, Answer, Try, Settle, Want, Fill, CopyPost, CopyAcks, Install, Release}
+use Rattle.machine_model.specs.declared.phase.Phase.TheVariants.{Check, Lock, Guess, Find, Back as Leaving, Cut, Decide, Post, Acks, Unlock, Answer, Try, Settle, Want, Fill, CopyPost, CopyAcks, Install, Release}
 use Rattle.machine_model.specs.Accesses.{found_at, taken_for, after_frame, after_install, reply_of, memory_after}
 use Rattle.machine_model.specs.Actions.{to, let_go, after_reply, with_entry, detach_entry}
 use Rattle.machine_model.specs.Files.{back_of, is_private, shows_file}
 use Rattle.machine_model.specs.Filling.{after_zeros, after_first_copy, after_caching, after_sharing, after_copy_post, after_copy, info_copied}
 use Rattle.machine_model.specs.Changes.{AwaitsNobody, slots_after, after_post, reply_to}
 use Rattle.machine_model.specs.Counting.{with_counts}
-use Rattle.machine_model.specs.Holding.{goal_range, page_of_touch}
+use Rattle.machine_model.specs.Holding.{page_of_touch}
 use Rattle.machine_model.specs.Locks.{locking, all_locked, locked_to, held_after}
 use Rattle.machine_model.specs.Translating.{frame_reached, translated_by, after_translating, with_hardware}
 use Rattle.machine_model.specs.World.{World, Hardware}
 use Rattle.machine_coherence.specs.Coherent.{IsCoherent, IsSoundEntry}
 use Rattle.machine_laws.specs.Brackets.{nth}
 use Rattle.machine_laws.specs.Orderly.{IsUsable, Serves}
+use Rattle.machine_laws.proofs.Going.{call_sound, has_core}
 use Rattle.machine_laws.proofs.Moves.{IsCallOf, call_at}
-use Rattle.machine_laws.proofs.Shapes.{IsFault, Moves, locks, tries, acts, finds, lacks, shows, Replies, refuses, no_place, declines, fails, no_frame, LetsGo, unlocks, releases, GoesBy, moves, divides, owns, lets_go, answers, posts, commits, takes, zeroes, first_copies, caches, shares, posts_copy, copies, installs, accesses, faults}
+use Rattle.machine_laws.proofs.Shapes.{IsFault, Moves, locks, tries, hints, seeks, guesses, turns, chooses, acts, finds, lacks, shows, Replies, refuses, no_place, declines, fails, no_frame, LetsGo, unlocks, returns, releases, GoesBy, moves, divides, cuts, fits, owns, lets_go, answers, posts, commits, takes, zeroes, first_copies, caches, shares, posts_copy, copies, installs, accesses, faults}
 use Rattle.machine_laws.proofs.Effects.{Asked, status}
 use Rattle.machine_sound.specs.Invariant.{Fine}
 use Rattle.machine_sound.proofs.Fills.{private_only}
@@ -48,11 +50,12 @@ use Rattle.machine_sound.proofs.Pages.{IsFramed, framed, is_copied}
 use Rattle.machine_sound.proofs.Reaching.{ReachesFrame, at_page, reaches}
 use Rattle.machine_alone.specs.Copies.{page_copied}
 use Rattle.machine_alone.specs.Users.{Users, Same, recorded, users_after, users_left, with_user, without}
+use Rattle.machine_alone.proofs.Aiming.{goal_drops}
 use Rattle.machine_alone.proofs.Framed.{AreFramed}
-use Rattle.machine_alone.proofs.Rank.{reach_of, hits}
+use Rattle.machine_alone.proofs.Rank.{back_all, reach_of, hits}
 use Rattle.machine_alone.proofs.Rows.{IsSureOf, sure_at}
 use Rattle.machine_alone.proofs.Telling.{IsTold, IsToldOf}
-use Rattle.machine_alone.proofs.Using.{Keeps, refused_keeps, change_drops, IsTouchOf, touch_asked, touch_adds, store_asked, IsCopyFor, IsStoreFor, copied_so, filled_same, installed_adds, changed_drops, copied_drops, unused_left, left_same, already}
+use Rattle.machine_alone.proofs.Using.{Keeps, refused_keeps, IsTouchOf, touch_asked, touch_adds, store_asked, IsCopyFor, IsStoreFor, copied_so, filled_same, installed_adds, changed_drops, copied_drops, unused_left, left_same, already}
 
 -- Before the call they were first. They are as they were until its page has got a copy, its access is installed or its reply stands.
 abbrev pub Used : Plain → Users → Users → (Touch → Option ℕ) → ℕ → Request → Option ℕ → Phase → Type 0
@@ -122,6 +125,19 @@ moves_used t first c request copy w new u (locks r change e n k) =
     subst (Used t first (recorded w.slots) (reach_of w.hardware c) c request copy) (sym n) (used_at t first c request copy w (Check r) e u)
 moves_used t first c request copy w new u (tries r touch e n k) =
     subst (Used t first (recorded w.slots) (reach_of w.hardware c) c request copy) (sym n) (inl (used_at t first c request copy w (Check r) e u))
+moves_used t first c request copy w new u (hints r place range e n i k) =
+    subst (Used t first (recorded w.slots) (reach_of w.hardware c) c request copy) (sym n) (used_at t first c request copy w (Check r) e u)
+moves_used t first c request copy w new u (seeks r place e n k) =
+    subst (Used t first (recorded w.slots) (reach_of w.hardware c) c request copy) (sym n) (used_at t first c request copy w (Check r) e u)
+moves_used t first c request copy w new u (guesses place found e n least) =
+    subst (Used t first (recorded w.slots) (reach_of w.hardware c) c request copy) (sym n)
+    (used_at t first c request copy w (Guess place) e u)
+moves_used t first c request copy w new u (turns place target e n d) =
+    subst (Used t first (recorded w.slots) (reach_of w.hardware c) c request copy) (sym n)
+    (used_at t first c request copy w (Find place target) e u)
+moves_used t first c request copy w new u (chooses place target range shoot e n d) =
+    subst (Used t first (recorded w.slots) (reach_of w.hardware c) c request copy) (sym n)
+    (used_at t first c request copy w (Find place target) e u)
 moves_used t first c request copy w new u (acts change range shoot e n d) =
     subst (Used t first (recorded w.slots) (reach_of w.hardware c) c request copy) (sym n) (used_at t first c request copy w (Decide change) e u)
 moves_used t first c request copy w new u (finds touch f e n k) =
@@ -137,6 +153,7 @@ locked_used : (t : Plain) (first now : Users) (reach : Touch → Option ℕ) (c 
 locked_used t first now reach c request copy goal b h = go goal (nat_le (goal_range goal).end b)
   where
     go : (goal : Goal) (p : Bool) → Used t first now reach c request copy (cond p (all_locked goal) (Lock goal b))
+    go (To.Place place target) true = h
     go (To.Change change) true = h
     go (To.Access touch) true = h
     go goal false = h
@@ -154,6 +171,11 @@ lets_go_used free m first c request copy w t held b new same sure u (unlocks rep
     let z = used_at m first c request copy w (Unlock held reply) e u in
     subst (Used m first (recorded t) (reach_of w.hardware c) c request copy) (sym n)
     (gone m first (recorded t) (reach_of w.hardware c) c request copy (held_after held b) reply (z.0, λ p d. same p d ∙ z.1 p d))
+lets_go_used free m first c request copy w t held b new same sure u (returns place target e n) =
+    let z = used_at m first c request copy w (Leaving place target held) e u in
+    let k : (copy ≡ None) × Same (recorded t) first = (z.0, λ p d. same p d ∙ z.1 p d) in
+    subst (Used m first (recorded t) (reach_of w.hardware c) c request copy) (sym n)
+    (back_all (Used m first (recorded t) (reach_of w.hardware c) c request copy) place target (held_after held b) k k (λ held. k))
 lets_go_used free m first c request copy w t held b new same sure u (releases touch e h n) =
     subst (Used m first (recorded t) (reach_of w.hardware c) c request copy) (sym n)
     (inr ((λ p d. same p d ∙ used_at m first c request copy w (Release touch) e u p d), sure_at free w c (Release touch) e sure))
@@ -179,7 +201,8 @@ replies_keep : (t : Plain) (c : ℕ) (request : Request) (w : World) (held : Opt
 replies_keep t c request w held reply f number (refuses r e h j) =
     let is : r ≡ request = same_request w c r request (call_at w c (Check r) e f.order).asked number in
     subst (λ r. Keeps t c r reply) is (refused_keeps (λ k. mode_of (w.made.file k)) t c r reply j)
-replies_keep t c request w held reply f number (no_place r place e h i j) = subst (Keeps t c request) (sym i) (refl, λ u p d. refl)
+replies_keep t c request w held reply f number (no_place place target errno e h i d) =
+    subst (Keeps t c request) (sym i) (refl, λ u p d. refl)
 replies_keep t c request w held reply f number (declines change errno e h i d) = subst (Keeps t c request) (sym i) (refl, λ u p d. refl)
 replies_keep t c request w held reply f number (fails touch e h x) = fault_keeps t c request (found_at w touch) reply x
 replies_keep t c request w held reply f number (no_frame touch old e h i none) = subst (Keeps t c request) (sym i) (refl, λ u p d. refl)
@@ -187,21 +210,24 @@ replies_keep t c request w held reply f number (no_frame touch old e h i none) =
 unchanged : (t : Plain) (first : Users) (c : ℕ) (request : Request) (copy : Option ℕ) (w : World) (held : Option PageRange) (reply : Reply)
     → IsUsed t first c request copy w → Replies w c held reply → (copy ≡ None) × Same (recorded w.slots) first
 unchanged t first c request copy w held reply u (refuses r e h j) = used_at t first c request copy w (Check r) e u
-unchanged t first c request copy w held reply u (no_place r place e h i j) = used_at t first c request copy w (Check r) e u
+unchanged t first c request copy w held reply u (no_place place target errno e h i d) =
+    used_at t first c request copy w (Find place target) e u
 unchanged t first c request copy w held reply u (declines change errno e h i d) = used_at t first c request copy w (Decide change) e u
 unchanged t first c request copy w held reply u (fails touch e h x) = used_at t first c request copy w (Settle touch) e u
 unchanged t first c request copy w held reply u (no_frame touch old e h i none) = used_at t first c request copy w (Want touch old) e u
 
 -- ---- a change that is made
 
-change_used : (t : Plain) (first : Users) (c : ℕ) (request : Request) (copy : Option ℕ) (w : World) (change : Change) (held : PageRange) → Fine w
-    → nth w.calls.requests (w.calls.number c) ≡ Some request → w.calls.phase c ≡ Acks change held → IsUsed t first c request copy w
+change_used : (t : Plain) (first : Users) (c : ℕ) (request : Request) (copy : Option ℕ) (w : World) (goal : Goal) (change : Change) → Fine w
+    → nth w.calls.requests (w.calls.number c) ≡ Some request → w.calls.phase c ≡ Acks goal change → IsUsed t first c request copy w
     → (page_copied t request (reply_to change) ≡ copy) × Same (recorded (slots_after change w.slots)) (users_after t c request (reply_to change) first)
-change_used t first c request copy w change held f number e u =
-    let k : IsCallOf w c (Acks change held) = call_at w c (Acks change held) e f.order in
+change_used t first c request copy w goal change f number e u =
+    let k : IsCallOf w c (Acks goal change) = call_at w c (Acks goal change) e f.order in
     let is : k.asked.request ≡ request = same_request w c k.asked.request request k.asked.number number in
-    let drops = change_drops (λ k. mode_of (w.made.file k)) t c k.asked.request change k.asked.passed in
-    let z = used_at t first c request copy w (Acks change held) e u in (
+    let sound = call_sound w c goal f.order (has_core w c f.order (λ k. let a = sym e ∙ k in cc)) k.asked k.ready.0 in
+    let drops =
+    goal_drops (λ k. mode_of (w.made.file k)) w.made w.slots t c k.asked.request goal change k.asked.passed sound k.ready.1 k.ready.2 in
+    let z = used_at t first c request copy w (Acks goal change) e u in (
       subst (λ r. page_copied t r (reply_to change) ≡ None) is drops.0 ∙ sym z.0,
       λ p d.
           changed_drops w.slots change p d ∙ ap (λ b. cond (has (range_of change) p) false b) (z.1 p d)
@@ -226,11 +252,13 @@ pub asks_on : (request : Request) (copy : Option ℕ) (w : World) (c : ℕ) (v :
     → IsStoreFor request copy → (g : GoesBy w c v) → IsStoreFor request (copy_after g copy)
 asks_on request copy w c v f number a (moves new m h) = a
 asks_on request copy w c v f number a (divides goal cursor t e s h) = a
+asks_on request copy w c v f number a (cuts place target range t e s h) = a
+asks_on request copy w c v f number a (fits place target range e i h) = a
 asks_on request copy w c v f number a (owns goal cursor b t e l h) = a
 asks_on request copy w c v f number a (lets_go held b t new l u h) = a
 asks_on request copy w c v f number a (answers held reply r h) = a
 asks_on request copy w c v f number a (posts change shoot e h) = a
-asks_on request copy w c v f number a (commits change held counts e n l h) = a
+asks_on request copy w c v f number a (commits goal change counts e n l h) = a
 asks_on request copy w c v f number a (takes touch old x e l h) = a
 asks_on request copy w c v f number a (zeroes touch x counts e b t h) = a
 asks_on request copy w c v f number a (first_copies touch x counts e b t h) =
@@ -354,6 +382,14 @@ used_on free m first c request copy w v f framed number sure from asks u (divide
     let z = used_at m first c request copy w (Lock goal cursor) e u in
     subst (IsUsed m first c request copy) (sym h)
     (subst (Used m first (recorded t) (reach_of w.hardware c) c request copy) (sym e) (z.0, λ p d. same p d ∙ z.1 p d))
+used_on free m first c request copy w v f framed number sure from asks u (cuts place target range t e s h) =
+    let same : Same (recorded t) (recorded w.slots) = λ p d. ap (λ (i : ℕ → Option PageInfo). is_recorded (i p) d) s.divides.2.info in
+    let z = used_at m first c request copy w (Cut place target range) e u in
+    subst (IsUsed m first c request copy) (sym h)
+    (subst (Used m first (recorded t) (reach_of w.hardware c) c request copy) (sym e) (z.0, λ p d. same p d ∙ z.1 p d))
+used_on free m first c request copy w v f framed number sure from asks u (fits place target range e i h) =
+    used_to m first c request copy (Acks (To.Place place target) (Put range place.meta)) w v h
+    (used_at m first c request copy w (Cut place target range) e u)
 used_on free m first c request copy w v f framed number sure from asks u (owns goal cursor b t e l h) =
     let same : Same (recorded t) (recorded w.slots) = λ p d. ap (λ (s : Slots). is_recorded (s.info p) d) l.now in
     let z = used_at m first c request copy w (Lock goal cursor) e u in
@@ -366,11 +402,12 @@ used_on free m first c request copy w v f framed number sure from asks u (answer
     (kept m first (recorded w.slots) c request copy reply (unchanged m first c request copy w held reply u r)
     (replies_keep m c request w held reply f number r))
 used_on free m first c request copy w v f framed number sure from asks u (posts change shoot e h) =
-    used_to m first c request copy (Acks change (range_of change)) (record w { hardware = (after_post c change shoot w).hardware }) v h
+    used_to m first c request copy (Acks (To.Change change) change) (record w { hardware = (after_post c change shoot w).hardware }) v h
     (used_at m first c request copy w (Post change shoot) e u)
-used_on free m first c request copy w v f framed number sure from asks u (commits change held counts e n l h) =
-    replied m first c request copy (Some held) (reply_to change) (with_counts counts (record w { slots = slots_after change w.slots })) v h
-    (change_used m first c request copy w change held f number e u)
+used_on free m first c request copy w v f framed number sure from asks u (commits goal change counts e n l h) =
+    replied m first c request copy (Some (goal_range goal)) (reply_to change)
+    (with_counts counts (record w { slots = slots_after change w.slots })) v h
+    (change_used m first c request copy w goal change f number e u)
 used_on free m first c request copy w v f framed number sure from asks u (takes touch old x e l h) =
     used_to m first c request copy (taken_for touch old x) (record w { memory = (after_frame c touch old x w).memory }) v h
     (taken_used m first (recorded w.slots) (reach_of w.hardware c) c request copy touch old x (used_at m first c request copy w (Want touch old) e u))
@@ -460,6 +497,10 @@ unwaited_on first c w v f t k (moves new m h) = left_users first c v w.slots (ap
 unwaited_on first c w v f t k (divides goal cursor s e i h) =
     left_users first c v s (ap (λ (v : World). v.slots) h)
     (still_users first (recorded w.slots) (recorded s) c (λ p d. ap (λ (i : ℕ → Option PageInfo). is_recorded (i p) d) i.divides.2.info) k)
+unwaited_on first c w v f t k (cuts place target range s e i h) =
+    left_users first c v s (ap (λ (v : World). v.slots) h)
+    (still_users first (recorded w.slots) (recorded s) c (λ p d. ap (λ (i : ℕ → Option PageInfo). is_recorded (i p) d) i.divides.2.info) k)
+unwaited_on first c w v f t k (fits place target range e i h) = left_users first c v w.slots (ap (λ (v : World). v.slots) h) k
 unwaited_on first c w v f t k (owns goal cursor b s e l h) =
     left_users first c v s (ap (λ (v : World). v.slots) h)
     (still_users first (recorded w.slots) (recorded s) c (λ p d. ap (λ (s : Slots). is_recorded (s.info p) d) l.now) k)
@@ -468,7 +509,7 @@ unwaited_on first c w v f t k (lets_go held b s new l u h) =
     (still_users first (recorded w.slots) (recorded s) c (λ p d. ap (λ (s : Slots). is_recorded (s.info p) d) u.now) k)
 unwaited_on first c w v f t k (answers held reply r h) = left_users first c v w.slots (ap (λ (v : World). v.slots) h) k
 unwaited_on first c w v f t k (posts change shoot e h) = left_users first c v w.slots (ap (λ (v : World). v.slots) h) k
-unwaited_on first c w v f t k (commits change held counts e n l h) =
+unwaited_on first c w v f t k (commits goal change counts e n l h) =
     left_users first c v (slots_after change w.slots) (ap (λ (v : World). v.slots) h)
     (λ d p ne i. changed_drops w.slots change p d ∙ none_dropped w c (range_of change) (subst (IsTold w.slots w.hardware c) e t) n d p ne (k d p ne i))
 unwaited_on first c w v f t k (takes touch old x e l h) = left_users first c v w.slots (ap (λ (v : World). v.slots) h) k

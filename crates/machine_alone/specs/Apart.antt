@@ -14,7 +14,8 @@ abbrev pub AreApart : World → ℕ → ℕ → Type 0
 AreApart w c d = (p : ℕ) → some_has (range_in (w.calls.phase c)) p ≡ true
     → some_has (range_in (w.calls.phase d)) p ≡ true → ⊥
 
--- No page is held by two calls, and a call doesn't wait for a slot of another whose footprint is apart from its own.
+-- No page is held by two calls, and a call doesn't wait for a slot of another whose footprint is
+-- apart from its own.
 pub record KeepApart (w : World) : Type 0 where
   pub held : (c d p : ℕ) → holds (w.calls.phase c) p ≡ true → holds (w.calls.phase d) p ≡ true → c ≡ d
   pub waits : (c d : ℕ) (outcome : Outcome) (v : World) → AreApart w c d → Step w (Go c) outcome v

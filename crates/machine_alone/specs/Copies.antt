@@ -1,4 +1,5 @@
--- The copy that a private page of a file gets before a store to it, where it has shown its file's page until then
+-- The copy that a private page of a file gets before a store to it, where it has shown its file's
+-- page until then
 use Rattle.std.specs.Prelude.{ℕ, Option, None, Some}
 use Rattle.vm_base.specs.declared.replies.Reply.{Reply}
 use Rattle.vm_base.specs.declared.replies.Reply.TheVariants.{Done}

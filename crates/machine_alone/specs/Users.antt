@@ -1,4 +1,5 @@
--- Who uses a page: the cores whose access of it was served since its mapping was made, its protection changed or it got a copy of its own
+-- Who uses a page: the cores whose access of it was served since its mapping was made, its
+-- protection changed or it got a copy of its own
 use Rattle.std.specs.Prelude.{◌≡◌, ℕ, cond, Bool, true, false, Option, None, Some}
 use Rattle.vm_base.specs.declared.page.PageRange.{PageRange}
 use Rattle.vm_base.specs.declared.replies.Reply.{Reply}
@@ -42,12 +43,13 @@ abbrev pub users_left : Option ℕ → Users → Users
 users_left None users = users
 users_left (Some page) users = without (pages_from page 1) users
 
--- A request was done: an munmap or mprotect drops all users of its pages, and a store makes its core one. Where the page got a copy first,
--- the core is the only one.
+-- A request was done: an munmap or mprotect drops all users of its pages, and a store makes its
+-- core one. Where the page got a copy first, the core is the only one.
 abbrev pub after_done : Plain → ℕ → Request → Users → Users
 after_done t core (Munmap addr len) users = without (pages_of addr len) users
 after_done t core (Mprotect addr len prot) users = without (pages_of addr len) users
-after_done t core (Store addr byte) users = with_user (page_of addr) core (users_left (page_due t (Store addr byte)) users)
+after_done t core (Store addr byte) users =
+    with_user (page_of addr) core (users_left (page_due t (Store addr byte)) users)
 after_done t core _ users = users
 
 -- a byte was read

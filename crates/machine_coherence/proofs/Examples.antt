@@ -5,7 +5,10 @@ use Rattle.vm_base.specs.declared.info.PageInfo.{PageInfo}
 use Rattle.vm_base.specs.declared.page.PageRange.{PageRange}
 use Rattle.vm_base.specs.Functions.{put}
 use Rattle.vm_base.proofs.Functions.{put_all, put_both, eq_true}
-use Rattle.slot_lock.specs.declared.plan.Change.TheVariants.{Clear}
+use Rattle.slot_lock.specs.declared.plan.Change.TheVariants.{Put, Clear}
+use Rattle.slot_lock.specs.declared.plan.Goal.TheVariants as To
+use Rattle.slot_lock.specs.declared.plan.Place.{Place}
+use Rattle.slot_lock.specs.declared.plan.Target.{Target}
 use Rattle.mmu.specs.declared.entry.Translation.{Translation}
 use Rattle.mmu.specs.declared.tlb.TlbEntry.{TlbEntry}
 use Rattle.shootdown.specs.declared.message.Message.{Message}
@@ -44,7 +47,7 @@ abbrev info : ℕ → Option PageInfo
 info = put (λ p. None) 20 (Some used)
 
 abbrev phase : ℕ → Phase
-phase = put (λ c. Free) 0 (Acks (Clear page_20) page_20)
+phase = put (λ c. Free) 0 (Acks (To.Change (Clear page_20)) (Clear page_20))
 
 abbrev table : ℕ → Option Translation
 table = put (λ p. None) 20 (Some entry)
@@ -65,7 +68,7 @@ told = record {
   tlbs = ((backed, inl refl), tt);
   asked = (λ e. omega (arith, e), refl, refl, tt);
   dropped = λ c range. put_all (λ c ph. awaits_in ph ≡ Some range → HasDropped table tlb range (message_of inbox c))
-      (λ c. Free) 0 (Acks (Clear page_20) page_20) (λ a is. absurd cc) (λ c ne a. absurd cc) c;
+      (λ c. Free) 0 (Acks (To.Change (Clear page_20)) (Clear page_20)) (λ a is. absurd cc) (λ c ne a. absurd cc) c;
 }
 
 untouched : (d : ℕ) → IsCore no_cache info phase d (λ p. None) [] []
@@ -118,9 +121,18 @@ unrecorded : (calls : ℕ → Phase) → ¬ IsCoherent no_cache (λ p. Some (rec
 unrecorded calls k = absurd (let e = (k.tables 1 20 entry refl).recorded in cc)
 
 -- a call that awaits a page of which another core has an entry, without having told it
-untold : (any : ℕ → Option PageInfo) → ¬ IsCoherent no_cache any (λ c. Acks (Clear page_20) page_20) (record {
+untold : (any : ℕ → Option PageInfo) → ¬ IsCoherent no_cache any (λ c. Acks (To.Change (Clear page_20)) (Clear page_20)) (record {
   table = λ d p. Some entry;
   tlb = λ d. [];
   inbox = λ d. [];
 })
 untold any k = absurd (let e = (k.dropped 0 1 page_20 refl).0 20 refl in cc)
+
+-- a call that makes a placed mapping, which tells nobody, where another core has an entry of a page of it
+untold_place : (any : ℕ → Option PageInfo) (place : Place) (target : Target)
+    → ¬ IsCoherent no_cache any (λ c. Acks (To.Place place target) (Put page_20 place.meta)) (record {
+      table = λ d p. Some entry;
+      tlb = λ d. [];
+      inbox = λ d. [];
+    })
+untold_place any place target k = absurd (let e = (k.dropped 0 1 page_20 refl).0 20 refl in cc)

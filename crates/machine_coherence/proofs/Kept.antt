@@ -1,12 +1,11 @@
 -- Every step from an orderly and coherent state leaves a coherent one.
-use Rattle.std.proofs.Common.{◌≡◌, ℕ, true, refl, sym, ap, subst, ◌∙◌, Some, None, Option, List}
-use Rattle.std.specs.Prelude.{nat_le}
+use Rattle.std.proofs.Common.{◌≡◌, ℕ, true, refl, sym, ap, subst, Some, None, Option, List}
 use Rattle.vm_base.specs.declared.info.PageInfo.{PageInfo}
 use Rattle.vm_base.specs.declared.page.PageRange.{PageRange}
-use Rattle.vm_base.specs.declared.replies.Reply.{Reply}
 use Rattle.vm_base.specs.declared.replies.Reply.TheVariants.{NoMemory}
 use Rattle.vm_base.specs.Functions.{put, over, has}
-use Rattle.vm_base.proofs.Functions.{by_test, put_all, put_both}
+use Rattle.vm_base.proofs.Functions.{put_all, put_both}
+use Rattle.slot_lock.specs.declared.plan.Goal.TheVariants as To
 use Rattle.slot_lock.specs.declared.plan.Touch.{Touch}
 use Rattle.slot_lock.specs.Slots.{Slots}
 use Rattle.mmu.specs.declared.entry.Translation.{Translation}
@@ -20,23 +19,23 @@ use Rattle.shootdown.specs.declared.message.Took.TheVariants as took
 use Rattle.shootdown.specs.Messages.{message_of, asked, remaining}
 use Rattle.machine_model.specs.declared.event.Event.{Event}
 use Rattle.machine_model.specs.declared.event.Outcome.{Outcome}
-use Rattle.machine_model.specs.declared.phase.Goal.{Goal}
-use Rattle.machine_model.specs.declared.phase.Goal.TheVariants as To
 use Rattle.machine_model.specs.declared.phase.Phase.{Phase}
-use Rattle.machine_model.specs.declared.phase.Phase.TheVariants.{Free, Check, Lock, Decide, Post, Acks, Unlock, Answer, Try, Settle, Want, Fill, CopyPost, CopyAcks, Install, Release}
+use Rattle.machine_model.specs.declared.phase.Phase.TheVariants.{Free, Check, Lock, Guess, Find, Back, Cut, Decide, Post, Acks, Unlock, Answer, Try, Settle, Want, Fill, CopyPost, CopyAcks, Install, Release}
 use Rattle.machine_model.specs.Accesses.{reply_of, taken_for}
 use Rattle.machine_model.specs.Actions.{let_go}
-use Rattle.machine_model.specs.Holding.{awaits_in, can_give_up, goal_range, still_held}
-use Rattle.machine_model.specs.Locks.{locking, locked_to, all_locked, held_after}
+use Rattle.machine_model.specs.Holding.{awaits_in, can_give_up, still_held}
+use Rattle.machine_model.specs.Locks.{locking, locked_to}
+use Rattle.machine_model.specs.Placing.{trying}
 use Rattle.machine_model.specs.Translating.{with_tlb, with_inbox, tables_cleared, tlb_invalidated, translated_by, after_translating, after_walk, after_eviction}
 use Rattle.machine_model.specs.World.{World, Hardware, Made, new_world}
 use Rattle.machine_model.specs.Step.{with_event, Step}
 use Rattle.machine_laws.specs.Orderly.{IsOrderly}
-use Rattle.machine_laws.proofs.Shapes.{Moves, locks, tries, acts, finds, lacks, shows, Replies, refuses, no_place, declines, fails, no_frame, LetsGo, unlocks, releases, GoesBy, moves, divides, owns, lets_go, answers, posts, commits, takes, zeroes, first_copies, caches, shares, posts_copy, copies, installs, accesses, faults, Works, clears, invalidates, walks, evicts, flushes, reviews, frees, Shape, rests, begins, ends, goes, gives_up, works, joins, IsUnawaited, Comes, stopped, acts as happens, comes}
+use Rattle.machine_laws.proofs.Shapes.{GoesBy, moves, divides, cuts, fits, owns, lets_go, answers, posts, commits, takes, zeroes, first_copies, caches, shares, posts_copy, copies, installs, accesses, faults, Works, clears, invalidates, walks, evicts, flushes, reviews, frees, Shape, rests, begins, ends, goes, aims, gives_up, works, joins, IsUnawaited, Comes, stopped, acts as happens, comes}
+use Rattle.machine_laws.proofs.Effects.{moves_quiet, replies_quiet, locked_quiet, let_go_still, lets_go_still, taken_asked}
 use Rattle.machine_coherence.specs.Coherent.{AreTakenNew, IsCoherent, IsCoherentState}
 use Rattle.machine_coherence.proofs.Lists.{none_sent}
 use Rattle.machine_coherence.proofs.Cores.{IsCore, core_of, of_cores, fills as core_fills, drops, clears as core_clears, invalidates as core_invalidates}
-use Rattle.machine_coherence.proofs.Steps.{goes_on, goes_silent, silent_by, posts_kept, commits_kept, fills_kept, caches_kept, posts_copy_kept, copies_kept, installs_kept}
+use Rattle.machine_coherence.proofs.Steps.{goes_on, goes_silent, silent_by, posts_kept, fits_kept, commits_kept, fills_kept, caches_kept, posts_copy_kept, copies_kept, installs_kept}
 
 -- ---- one core's TLB changes, or what it has beside its call
 
@@ -102,48 +101,6 @@ invalidation_kept {cached} {info} {phase} {h} c range e k =
     (tlb_without (has range) (h.tlb c)) (remaining (h.inbox c))
     (core_invalidates range (h.inbox c) e (core_of c k)) (λ d ne. core_of d k))
 
--- ---- phases in which a call awaits nothing
-
-let_go_none : (held : Option PageRange) (reply : Reply) → awaits_in (let_go held reply) ≡ None
-let_go_none None reply = refl
-let_go_none (Some held) reply = refl
-
-move_none : (w : World) (c : ℕ) (new : Phase) → Moves w c new
-    → (awaits_in (w.calls.phase c) ≡ None) × (awaits_in new ≡ None)
-move_none w c new (locks request change e n passed) = (ap awaits_in e, ap awaits_in n)
-move_none w c new (tries request touch e n passed) = (ap awaits_in e, ap awaits_in n)
-move_none w c new (acts change range shoot e n d) = (ap awaits_in e, ap awaits_in n)
-move_none w c new (finds touch f e n u) = (ap awaits_in e, ap awaits_in n)
-move_none w c new (shows touch e n u d) = (ap awaits_in e, ap awaits_in n)
-move_none w c new (lacks touch old e n u d) = (ap awaits_in e, ap awaits_in n)
-
-reply_none : (w : World) (c : ℕ) (held : Option PageRange) (reply : Reply) → Replies w c held reply
-    → awaits_in (w.calls.phase c) ≡ None
-reply_none w c held reply (refuses request e h k) = ap awaits_in e
-reply_none w c held reply (no_place request place e h r k) = ap awaits_in e
-reply_none w c held reply (declines change errno e h r d) = ap awaits_in e
-reply_none w c held reply (fails touch e h f) = ap awaits_in e
-reply_none w c held reply (no_frame touch old e h r f) = ap awaits_in e
-
-lets_go_none : (old : Phase) (held : PageRange) (b : ℕ) (new : Phase) → LetsGo old held b new
-    → (awaits_in old ≡ None) × (awaits_in new ≡ None)
-lets_go_none old held b new (unlocks reply e n) =
-    (ap awaits_in e, ap awaits_in n ∙ let_go_none (held_after held b) reply)
-lets_go_none old held b new (releases touch e h n) = (ap awaits_in e, ap awaits_in n)
-
-all_locked_none : (goal : Goal) → awaits_in (all_locked goal) ≡ None
-all_locked_none (To.Change change) = refl
-all_locked_none (To.Access touch) = refl
-
-locked_to_none : (goal : Goal) (b : ℕ) → awaits_in (locked_to goal b) ≡ None
-locked_to_none goal b =
-    by_test (λ ph. awaits_in ph ≡ None) (nat_le (goal_range goal).end b) (all_locked goal) (Lock goal b)
-    (λ _. all_locked_none goal) (λ _. refl)
-
-taken_none : (touch : Touch) (old : Option ℕ) (f : ℕ) → awaits_in (taken_for touch old f) ≡ None
-taken_none touch None f = refl
-taken_none touch (Some x) f = refl
-
 -- ---- every shape
 
 -- pages have the same
@@ -161,24 +118,27 @@ info_of t s e = ap (λ x. x.info) e
 
 goes_kept : (w : World) (c : ℕ) (v : World) → IsOrderly w → AreTakenNew w.slots.info w.calls.phase → IsCoherentState w → GoesBy w c v → IsCoherentState v
 goes_kept w c v g n k (moves new m h) =
-    let none = move_none w c new m in
-    subst IsCoherentState (sym h) (moved w c new w.slots none.0 none.1 refl k)
+    let (old, now) = moves_quiet w c new m in
+    subst IsCoherentState (sym h) (moved w c new w.slots old.still.awaits now.still.awaits refl k)
 goes_kept w c v g n k (divides goal cursor t e s h) =
     subst IsCoherentState (sym h) (same_info w.slots t s.divides.2.info k)
+goes_kept w c v g n k (cuts place target range t e s h) =
+    subst IsCoherentState (sym h) (same_info w.slots t s.divides.2.info k)
+goes_kept w c v g n k (fits place target range e cut h) = subst IsCoherentState (sym h) (fits_kept w c place target range g e k)
 goes_kept w c v g n k (owns goal cursor b t e l h) =
     subst IsCoherentState (sym h)
-    (moved w c (locked_to goal b) t (ap awaits_in e) (locked_to_none goal b) (info_of t _ l.now) k)
+    (moved w c (locked_to goal b) t (ap awaits_in e) (locked_quiet goal b).still.awaits (info_of t _ l.now) k)
 goes_kept w c v g n k (lets_go held b t new l u h) =
-    let none = lets_go_none (w.calls.phase c) held b new l in
-    subst IsCoherentState (sym h) (moved w c new t none.0 none.1 (info_of t _ u.now) k)
+    let (old, now) = lets_go_still (w.calls.phase c) held b new l in
+    subst IsCoherentState (sym h) (moved w c new t old.awaits now.awaits (info_of t _ u.now) k)
 goes_kept w c v g n k (answers held reply r h) =
     subst IsCoherentState (sym h)
-    (moved w c (let_go held reply) w.slots (reply_none w c held reply r) (let_go_none held reply) refl k)
+    (moved w c (let_go held reply) w.slots (replies_quiet w c held reply r).still.awaits (let_go_still held reply).awaits refl k)
 goes_kept w c v g n k (posts change shoot e h) = subst IsCoherentState (sym h) (posts_kept w c change shoot g e k)
-goes_kept w c v g n k (commits change held counts e nobody l h) =
-    subst IsCoherentState (sym h) (commits_kept w c change held counts e nobody k)
+goes_kept w c v g n k (commits goal change counts e nobody l h) =
+    subst IsCoherentState (sym h) (commits_kept w c goal change counts e nobody k)
 goes_kept w c v g n k (takes touch old f e l h) =
-    subst IsCoherentState (sym h) (moved w c (taken_for touch old f) w.slots (ap awaits_in e) (taken_none touch old f) refl k)
+    subst IsCoherentState (sym h) (moved w c (taken_for touch old f) w.slots (ap awaits_in e) (taken_asked touch old f).1 refl k)
 goes_kept w c v g n k (zeroes touch f counts e b t h) = subst IsCoherentState (sym h) (fills_kept w c touch (Some f) f g e k)
 goes_kept w c v g n k (first_copies touch f counts e b t h) = subst IsCoherentState (sym h) (fills_kept w c touch (Some f) f g e k)
 goes_kept w c v g n k (shares touch own x counts e s i t h) = subst IsCoherentState (sym h) (fills_kept w c touch own x g e k)
@@ -208,10 +168,14 @@ works_kept w c event v k (frees i f counts t h) = subst IsCoherentState (sym h) 
 given_up_silent : (w : World) (c : ℕ) (phase : Phase) → w.calls.phase c ≡ phase → can_give_up phase ≡ true → IsUnawaited w.hardware c phase
     → IsCoherentState w → (d : ℕ) → message_of (w.hardware.inbox d) c ≡ None
 given_up_silent w c (CopyAcks touch f) e can u k d = silent_by (message_of (w.hardware.inbox d) c) (u d)
-given_up_silent w c (Acks change held) e can u k d = absurd cc
+given_up_silent w c (Acks goal change) e can u k d = absurd cc
 given_up_silent w c Free e can u k d = none_sent w.calls.phase c d (w.hardware.inbox d) (ap awaits_in e) (k.asked d)
 given_up_silent w c (Check request) e can u k d = none_sent w.calls.phase c d (w.hardware.inbox d) (ap awaits_in e) (k.asked d)
 given_up_silent w c (Lock goal cursor) e can u k d = none_sent w.calls.phase c d (w.hardware.inbox d) (ap awaits_in e) (k.asked d)
+given_up_silent w c (Guess place) e can u k d = none_sent w.calls.phase c d (w.hardware.inbox d) (ap awaits_in e) (k.asked d)
+given_up_silent w c (Find place target) e can u k d = none_sent w.calls.phase c d (w.hardware.inbox d) (ap awaits_in e) (k.asked d)
+given_up_silent w c (Back place target held) e can u k d = none_sent w.calls.phase c d (w.hardware.inbox d) (ap awaits_in e) (k.asked d)
+given_up_silent w c (Cut place target range) e can u k d = none_sent w.calls.phase c d (w.hardware.inbox d) (ap awaits_in e) (k.asked d)
 given_up_silent w c (Decide change) e can u k d = none_sent w.calls.phase c d (w.hardware.inbox d) (ap awaits_in e) (k.asked d)
 given_up_silent w c (Post change shoot) e can u k d = none_sent w.calls.phase c d (w.hardware.inbox d) (ap awaits_in e) (k.asked d)
 given_up_silent w c (Unlock held reply) e can u k d = none_sent w.calls.phase c d (w.hardware.inbox d) (ap awaits_in e) (k.asked d)
@@ -232,9 +196,11 @@ shape_kept w e o v g n k (begins c request i s lt p below h) =
 shape_kept w e o v g n k (ends c reply i s lt p h) =
     subst IsCoherentState (sym h) (moved w c Free w.slots (ap awaits_in p) refl refl k)
 shape_kept w e o v g n k (goes c i s lt b) = goes_kept w c v g n k b
+shape_kept w e o v g n k (aims c place target a s lt p h) =
+    subst IsCoherentState (sym h) (moved w c (trying place target) w.slots (ap awaits_in p) refl refl k)
 shape_kept w e o v g n k (gives_up c i s lt can u h) =
     let held : Option PageRange = still_held (w.calls.phase c) in
-    subst IsCoherentState (sym h) (goes_silent c (let_go held NoMemory) (given_up_silent w c (w.calls.phase c) refl can u k) (let_go_none held NoMemory) k)
+    subst IsCoherentState (sym h) (goes_silent c (let_go held NoMemory) (given_up_silent w c (w.calls.phase c) refl can u k) (let_go_still held NoMemory).awaits k)
 shape_kept w e o v g n k (works c s lt b) = works_kept w c e v k b
 shape_kept w e o v g n k (joins p t i s page j m h) = subst IsCoherentState (sym h) (same_info w.slots t j.info k)
 

@@ -13,14 +13,18 @@ use Rattle.vm_base.specs.declared.rights.Prot.{Prot}
 use Rattle.vm_base.specs.Cores.{members}
 use Rattle.vm_base.specs.Functions.{put, over, has}
 use Rattle.vm_base.specs.Info.{frame_of, is_recorded, info_with_frame}
-use Rattle.vm_base.specs.Plain.{File}
+use Rattle.vm_base.specs.Places.{IsFree}
+use Rattle.vm_base.specs.Plain.{File, is_mapped}
 use Rattle.vm_base.specs.Rights.{is_allowed}
 use Rattle.vm_base.proofs.Functions.{by_test, put_all, put_both, put_same, put_other, has_in}
 use Rattle.slot_lock.specs.declared.plan.Change.{Change}
 use Rattle.slot_lock.specs.declared.plan.Change.TheVariants.{Put, Clear, Protect}
-use Rattle.slot_lock.specs.declared.plan.Plan.TheVariants as PlanOf
+use Rattle.slot_lock.specs.declared.plan.Goal.{Goal}
+use Rattle.slot_lock.specs.declared.plan.Goal.TheVariants as To
+use Rattle.slot_lock.specs.declared.plan.Place.{Place}
+use Rattle.slot_lock.specs.declared.plan.Target.{Target}
 use Rattle.slot_lock.specs.declared.plan.Touch.{Touch}
-use Rattle.slot_lock.specs.Plan.{range_of}
+use Rattle.slot_lock.specs.Plan.{range_of, goal_range}
 use Rattle.slot_lock.specs.Slots.{Slots, IsUser}
 use Rattle.mmu.specs.declared.entry.Translation.{Translation}
 use Rattle.mmu.specs.declared.tlb.TlbEntry.{TlbEntry}
@@ -29,22 +33,24 @@ use Rattle.mmu.specs.Tlb.{tlb_without}
 use Rattle.shootdown.specs.declared.message.Message.{Message}
 use Rattle.shootdown.specs.Messages.{message_of, posted}
 use Rattle.vm_calls.specs.declared.decision.Decision.TheVariants.{Act}
-use Rattle.vm_calls.specs.Decisions.{Decides}
+use Rattle.vm_calls.specs.Decisions.{Decides, entries, entry_of}
 use Rattle.vm_calls.specs.Decisions.DecidesProtect.{no_page, no_write, acts}
 use Rattle.machine_model.specs.declared.phase.Phase.{Phase}
-use Rattle.machine_model.specs.declared.phase.Phase.TheVariants.{Free, Check, Lock, Decide, Post, Acks, Unlock, Answer, Try, Settle, Want, Fill, CopyPost, CopyAcks, Install, Release}
+use Rattle.machine_model.specs.declared.phase.Phase.TheVariants.{Cut, Post, Acks, Fill, CopyPost, CopyAcks, Install, Release}
 use Rattle.machine_model.specs.Accesses.{after_install, info_with_core}
 use Rattle.machine_model.specs.Files.{back_of, file_frame, shows_file, shows_some, with_cached, is_private, prot_shown, prot_installed}
 use Rattle.machine_model.specs.Filling.{after_caching, after_copy_post, after_copy, cores_of, info_copied}
 use Rattle.machine_model.specs.Actions.{let_go}
 use Rattle.machine_model.specs.Changes.{slots_after, reply_to, after_post, after_commit, AwaitsNobody}
-use Rattle.machine_model.specs.Holding.{awaits_in, holds, taken_in, page_of_touch}
+use Rattle.machine_model.specs.Holding.{awaits_in, some_has, holds, taken_in, page_of_touch}
+use Rattle.machine_model.specs.Placing.{after_cuts}
 use Rattle.machine_model.specs.Translating.{entry_for, entry_of_page, inboxes_after, after_shot}
-use Rattle.machine_model.specs.World.{World, Made, Hardware}
+use Rattle.machine_model.specs.World.{World, Hardware}
 use Rattle.refcache.specs.Counts.{Counts}
-use Rattle.machine_laws.specs.Orderly.{IsOrderly, IsReady, IsUsable}
+use Rattle.machine_laws.specs.Orderly.{IsOrderly, IsUsable}
 use Rattle.machine_laws.proofs.Changed.{same_outside}
-use Rattle.machine_laws.proofs.Moves.{call_at, page_is}
+use Rattle.machine_laws.proofs.Deciding.{place_free}
+use Rattle.machine_laws.proofs.Moves.{call_at, page_is, awaits_held}
 use Rattle.machine_laws.proofs.Owned.{members_with}
 use Rattle.machine_coherence.specs.Coherent.{AreTakenNew, AllowsSome, IsBacked, IsSoundEntry, IsTableClear, IsTlbClear, HasDropped, IsCoherent, IsCoherentState}
 use Rattle.machine_coherence.proofs.Lists.{every_map, none_sent, none_left}
@@ -83,8 +89,8 @@ page_backed {cached} {info} page new f k =
 -- ---- Post
 
 -- the decision shoots just the cores that are recorded on the range
-users : (files : ℕ → Option File) (s : Slots) (change : Change) (changes : PageRange) (shoot : ℕ)
-    → Decides files s (PlanOf.Change change) (Act changes shoot)
+pub users : (files : ℕ → Option File) (s : Slots) (change : Change) (changes : PageRange) (shoot : ℕ)
+    → Decides files s (To.Change change) (Act changes shoot)
     → (core : ℕ) → (members shoot core ≡ true) ↔ IsUser s (range_of change) core
 users files s (Put range meta) changes shoot h = h.1
 users files s (Clear range) changes shoot h = h.1
@@ -151,8 +157,32 @@ pub posts_kept : (w : World) (c : ℕ) (change : Change) (shoot : ℕ) → IsOrd
     → IsCoherentState w → IsCoherentState (after_post c change shoot w)
 posts_kept w c change shoot g e k =
     let decided = (call_at w c (Post change shoot) e g).ready in
-    posts w.memory.cached w.slots w.calls.phase w.hardware c shoot (range_of change) (Acks change (range_of change)) (ap awaits_in e) refl
+    posts w.memory.cached w.slots w.calls.phase w.hardware c shoot (range_of change) (Acks (To.Change change) change) (ap awaits_in e) refl
     (λ d u. (users w.made.file w.slots change (range_of change) shoot decided d).1 u) k
+
+-- ---- Cut: nobody is asked
+
+-- pages that aren't mapped have no recorded core
+no_users : (s : Slots) (range : PageRange) (d : ℕ) → IsFree (is_mapped (entries s)) range → ¬ IsUser s range d
+no_users s range d free u = go (s.info u.0) refl
+  where
+    go : (o : Option PageInfo) → s.info u.0 ≡ o → ⊥
+    go None e = let some = u.2 in let none : is_recorded (s.info u.0) d ≡ is_recorded None d = ap (λ o. is_recorded o d) e in cc
+    go (Some info) e = let none = free u.0 u.1 in
+        let some : is_mapped (entries s) u.0 ≡ is_some (entry_of (Some info)) = ap (λ o. is_some (entry_of o)) e in cc
+
+pub fits_kept : (w : World) (c : ℕ) (place : Place) (target : Target) (range : PageRange) → IsOrderly w
+    → w.calls.phase c ≡ Cut place target range → IsCoherentState w → IsCoherentState (after_cuts c place target range w)
+fits_kept w c place target range g e k =
+    of_cores w.memory.cached w.slots.info (put w.calls.phase c new) w.hardware
+    (λ d. let q = nothing_there w.slots range (no_users w.slots range d free) (core_of d k) in
+    awaits_nothing c new range refl (none_sent w.calls.phase c d (w.hardware.inbox d) (ap awaits_in e) (k.asked d)) q.0 q.1 (core_of d k))
+  where
+    new : Phase
+    new = Acks (To.Place place target) (Put range place.meta)
+
+    free : IsFree (is_mapped (entries w.slots)) range
+    free = let chosen = (call_at w c (Cut place target range) e g).ready.1 in place_free w.slots place target range chosen.0 chosen.1
 
 -- ---- Acks
 
@@ -174,11 +204,11 @@ commits {cached} {info} {phase} {h} info2 c range new awaits none nobody same k 
     left : (d : ℕ) → IsTableClear (h.table d) range × IsTlbClear (h.tlb d) range
     left d = subst (HasDropped (h.table d) (h.tlb d) range) (silent d) (k.dropped c d range awaits)
 
-pub commits_kept : (w : World) (c : ℕ) (change : Change) (held : PageRange) (counts : Counts)
-    → w.calls.phase c ≡ Acks change held → AwaitsNobody w.hardware c → IsCoherentState w
-    → IsCoherentState (after_commit c change held counts w)
-commits_kept w c change held counts e nobody k =
-    commits (slots_after change w.slots).info c (range_of change) (let_go (Some held) (reply_to change)) (ap awaits_in e)
+pub commits_kept : (w : World) (c : ℕ) (goal : Goal) (change : Change) (counts : Counts)
+    → w.calls.phase c ≡ Acks goal change → AwaitsNobody w.hardware c → IsCoherentState w
+    → IsCoherentState (after_commit c change (goal_range goal) counts w)
+commits_kept w c goal change counts e nobody k =
+    commits (slots_after change w.slots).info c (range_of change) (let_go (Some (goal_range goal)) (reply_to change)) (ap awaits_in e)
     refl nobody (same_outside w.slots change) k
 
 -- ---- Fill
@@ -347,33 +377,11 @@ usable_right : (file : ℕ → Option File) (info : Option PageInfo) (access : A
 usable_right file None access frame u = absurd u
 usable_right file (Some info) access frame u = has_some info.meta.prot access u.0
 
--- a call that awaits a range holds its pages
-awaits_held : (made : Made) (s : Slots) (cached : ℕ → ℕ → Option ℕ) (phase : Phase) (range : PageRange) (p : ℕ) → IsReady made s cached phase
-    → awaits_in phase ≡ Some range → has range p ≡ true → holds phase p ≡ true
-awaits_held made s cached (Acks change held) range p ready a i =
-    let same : range_of change ≡ range = cc in
-    subst (λ r. has r p ≡ true) (sym (ready.0 ∙ same)) i
-awaits_held made s cached Free range p ready a i = absurd cc
-awaits_held made s cached (Check request) range p ready a i = absurd cc
-awaits_held made s cached (Lock goal cursor) range p ready a i = absurd cc
-awaits_held made s cached (Decide change) range p ready a i = absurd cc
-awaits_held made s cached (Post change shoot) range p ready a i = absurd cc
-awaits_held made s cached (Unlock held reply) range p ready a i = absurd cc
-awaits_held made s cached (Answer reply) range p ready a i = absurd cc
-awaits_held made s cached (Try touch) range p ready a i = absurd cc
-awaits_held made s cached (Settle touch) range p ready a i = absurd cc
-awaits_held made s cached (CopyPost touch frame) range p ready a i = absurd cc
-awaits_held made s cached (CopyAcks touch frame) range p ready a i = let same : page_of_touch touch ≡ range = cc in subst (λ r. has r p ≡ true) (sym same) i
-awaits_held made s cached (Want touch old) range p ready a i = absurd cc
-awaits_held made s cached (Fill touch frame) range p ready a i = absurd cc
-awaits_held made s cached (Install touch) range p ready a i = absurd cc
-awaits_held made s cached (Release touch) range p ready a i = absurd cc
-
 -- no call awaits a page that a call holds which awaits nothing
 unawaited : (w : World) (c p : ℕ) → IsOrderly w → awaits_in (w.calls.phase c) ≡ None → holds (w.calls.phase c) p ≡ true
     → (x : ℕ) (range : PageRange) → awaits_in (w.calls.phase x) ≡ Some range → has range p ≡ true → ⊥
 unawaited w c p g none mine x range a i =
-    let held : holds (w.calls.phase x) p ≡ true = awaits_held w.made w.slots w.memory.cached (w.calls.phase x) range p (g.ready x) a i in
+    let held : holds (w.calls.phase x) p ≡ true = awaits_held w.made w.slots w.memory.cached (w.calls.phase x) p (g.ready x) (ap (λ o. some_has o p) a ∙ i) in
     let its : w.slots.owner p ≡ Some x = g.owned x p held in
     let my : w.slots.owner p ≡ Some c = g.owned c p mine in
     let same : x ≡ c = cc in

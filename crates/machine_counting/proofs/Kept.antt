@@ -1,21 +1,20 @@
 -- Every step from an orderly state whose frames are counted leaves one.
 use Rattle.std.proofs.Common.{◌≡◌, ◌≢◌, ℕ, ◌<◌, ◌+◌, ◌-◌, ◌^◌, true, false, ◌⊎◌, inl, inr, cond, refl, sym, ap, subst, arith, ◌∙◌, ℤ, pos, ◌+ℤ◌, ◌<ℤ◌, Some, None, Option}
-use Rattle.std.specs.Prelude.{is_some, nat_le}
+use Rattle.std.specs.Prelude.{is_some}
 use Rattle.std.proofs.lemmas.Int.{ints}
 use Rattle.vm_base.specs.declared.info.Back.{Back}
 use Rattle.vm_base.specs.declared.info.Back.TheVariants.{Anon, Shared, Private}
 use Rattle.vm_base.specs.declared.info.PageInfo.{PageInfo}
 use Rattle.vm_base.specs.Apply.{is_anonymous}
 use Rattle.vm_base.specs.declared.page.PageRange.{PageRange}
-use Rattle.vm_base.specs.declared.replies.Reply.{Reply}
 use Rattle.vm_base.specs.declared.replies.Reply.TheVariants.{NoMemory}
 use Rattle.vm_base.specs.declared.rights.Access.{Access}
 use Rattle.vm_base.specs.declared.rights.Prot.{Prot}
 use Rattle.vm_base.specs.Functions.{put, has}
 use Rattle.vm_base.specs.Info.{advance, frame_of, info_with_frame, info_with_prot, unused}
 use Rattle.vm_base.specs.Pages.{IsPage, IsPageRange, pages_from}
-use Rattle.vm_base.specs.Plain.{Bytes, File, mode_of}
-use Rattle.vm_base.proofs.Functions.{by_test, put_all, across_all, put_same, put_other}
+use Rattle.vm_base.specs.Plain.{Bytes, File}
+use Rattle.vm_base.proofs.Functions.{put_all, across_all, put_same, put_other}
 use Rattle.refcache.specs.declared.reports.Review.TheVariants as review
 use Rattle.refcache.specs.Counts.{Counts, true_count, no_counts}
 use Rattle.refcache.specs.Steps.{Begin, Inc, Dec, Flushing, Reviewing, Takes, IsUnused, Step as CountStep}
@@ -24,15 +23,16 @@ use Rattle.refcache.proofs.Reached.{steps_reach, freed_is_unused, unused_at_firs
 use Rattle.refcache.proofs.Unused.{unused_stays}
 use Rattle.slot_lock.specs.declared.plan.Change.{Change}
 use Rattle.slot_lock.specs.declared.plan.Change.TheVariants.{Put, Clear, Protect}
+use Rattle.slot_lock.specs.declared.plan.Goal.{Goal}
+use Rattle.slot_lock.specs.declared.plan.Goal.TheVariants as To
+use Rattle.slot_lock.specs.declared.plan.Place.{Place}
 use Rattle.slot_lock.specs.declared.plan.Touch.{Touch}
-use Rattle.slot_lock.specs.Plan.{range_of}
+use Rattle.slot_lock.specs.Plan.{range_of, goal_range}
 use Rattle.slot_lock.specs.Slots.{Slots, IsNew, between}
 use Rattle.machine_model.specs.declared.event.Event.{Event}
 use Rattle.machine_model.specs.declared.event.Outcome.{Outcome}
-use Rattle.machine_model.specs.declared.phase.Goal.{Goal}
-use Rattle.machine_model.specs.declared.phase.Goal.TheVariants as To
 use Rattle.machine_model.specs.declared.phase.Phase.{Phase}
-use Rattle.machine_model.specs.declared.phase.Phase.TheVariants.{Free, Check, Acks, Fill, CopyPost, CopyAcks, Install, Release, Lock}
+use Rattle.machine_model.specs.declared.phase.Phase.TheVariants.{Free, Check, Acks, Fill, CopyPost, CopyAcks, Install, Release}
 use Rattle.machine_model.specs.Accesses.{after_frame, taken_for, after_install, memory_after, reply_of, info_with_core}
 use Rattle.machine_model.specs.Files.{back_of, file_frame, with_cached}
 use Rattle.machine_model.specs.Filling.{after_zeros, after_first_copy, after_caching, after_sharing, after_copy, info_copied, CountsCopy}
@@ -41,14 +41,16 @@ use Rattle.machine_model.specs.Changes.{slots_after, after_commit, CountsLost, r
 use Rattle.machine_model.specs.Counting.{CountsDown, frame_lost, with_counts, with_free}
 use Rattle.machine_model.specs.GivingUp.{given_back, after_give_up}
 use Rattle.machine_model.specs.Holding.{taken_in, still_held}
-use Rattle.machine_model.specs.Locks.{locking, locked_to, all_locked, held_after}
+use Rattle.machine_model.specs.Locks.{locking, locked_to}
+use Rattle.machine_model.specs.Placing.{trying}
 use Rattle.machine_model.specs.Step.{Step, with_event}
 use Rattle.machine_model.specs.World.{World, Made, Memory, new_world}
 use Rattle.machine_laws.specs.Orderly.{IsOrderly, IsUsable}
 use Rattle.machine_laws.proofs.Changed.{same_outside}
-use Rattle.machine_laws.proofs.Deciding.{change_sound, sound_range}
-use Rattle.machine_laws.proofs.Moves.{IsCallOf, call_at}
-use Rattle.machine_laws.proofs.Shapes.{IsShowing, Moves, locks, tries, acts, finds, lacks, shows, LetsGo, unlocks, releases, GoesBy, moves, divides, owns, lets_go, answers, posts, commits, takes, zeroes, first_copies, caches, shares, posts_copy, copies, installs, accesses, faults, Works, clears, invalidates, walks, evicts, flushes, reviews, frees, Shape, rests, begins, ends, goes, gives_up, works, joins, Comes, stopped, acts as happens, comes}
+use Rattle.machine_laws.proofs.Effects.{moves_quiet, locked_quiet, let_go_still, lets_go_still}
+use Rattle.machine_laws.proofs.Going.{acks_valid}
+use Rattle.machine_laws.proofs.Moves.{call_at}
+use Rattle.machine_laws.proofs.Shapes.{IsShowing, GoesBy, moves, divides, cuts, fits, owns, lets_go, answers, posts, commits, takes, zeroes, first_copies, caches, shares, posts_copy, copies, installs, accesses, faults, Works, clears, invalidates, walks, evicts, flushes, reviews, frees, Shape, rests, begins, ends, goes, aims, gives_up, works, joins, Comes, stopped, acts as happens, comes}
 use Rattle.machine_counting.specs.Counted.{FilePage, one_if, IsCounted, IsCountedState}
 use Rattle.machine_counting.proofs.Pages.{CountsPages, counts_same, counts_none, counts_some, page_up, page_cached, page_over, GiveUpFrames, range_down, none_down, unused_down}
 
@@ -93,30 +95,6 @@ others : (phase : ℕ → Phase) (c : ℕ) (new : Phase) → taken_in new ≡ No
 others phase c new none d f =
     put_all (λ d x. taken_in x ≡ Some f → (d ≢ c) × (taken_in (phase d) ≡ Some f)) phase c new
     (λ h. absurd cc) (λ d ne h. (ne, h)) d
-
-none_let_go : (held : Option PageRange) (reply : Reply) → taken_in (let_go held reply) ≡ None
-none_let_go None reply = refl
-none_let_go (Some held) reply = refl
-
-none_locked : (goal : Goal) (b : ℕ) → taken_in (locked_to goal b) ≡ None
-none_locked goal b =
-    by_test (λ x. taken_in x ≡ None) (nat_le _ b) (all_locked goal) (Lock goal b) (λ _. all goal) (λ _. refl)
-  where
-    all : (goal : Goal) → taken_in (all_locked goal) ≡ None
-    all (To.Change change) = refl
-    all (To.Access touch) = refl
-
-none_moved : (w : World) (c : ℕ) (new : Phase) → Moves w c new → taken_in new ≡ None
-none_moved w c new (locks request change e n p) = ap taken_in n
-none_moved w c new (tries request touch e n p) = ap taken_in n
-none_moved w c new (acts change range shoot e n d) = ap taken_in n
-none_moved w c new (finds touch f e n u) = ap taken_in n
-none_moved w c new (lacks touch old e n u d) = ap taken_in n
-none_moved w c new (shows touch e n u d) = ap taken_in n
-
-none_left : (old : Phase) (held : PageRange) (b : ℕ) (new : Phase) → LetsGo old held b new → taken_in new ≡ None
-none_left old held b new (unlocks reply e n) = ap taken_in n ∙ none_let_go (held_after held b) reply
-none_left old held b new (releases touch e h n) = ap taken_in n
 
 -- ---- what changes neither frames of pages nor free frames
 
@@ -172,7 +150,7 @@ other_slots : (w : World) (t : Slots) → IsCountedState w → t.info ≡ w.slot
 other_slots w t k same = subst (λ info. IsCounted info w.calls.phase w.memory) (sym same) k
 
 -- a core is recorded on a page
-same_with_core : (c : ℕ) (o : Option PageInfo) → frame_of (info_with_core c o) ≡ frame_of o
+pub same_with_core : (c : ℕ) (o : Option PageInfo) → frame_of (info_with_core c o) ≡ frame_of o
 same_with_core c None = refl
 same_with_core c (Some info) = refl
 
@@ -222,7 +200,7 @@ range_lost w c change counts h k l gone =
     r = range_of change
 
 -- a protected page keeps its frame
-same_with_prot : (prot : Prot) (o : Option PageInfo) → frame_of (info_with_prot prot o) ≡ frame_of o
+pub same_with_prot : (prot : Prot) (o : Option PageInfo) → frame_of (info_with_prot prot o) ≡ frame_of o
 same_with_prot prot None = refl
 same_with_prot prot (Some info) = refl
 
@@ -243,23 +221,15 @@ changed_users w c (Protect range prot) counts h k l =
     (λ p. info_with_prot prot (w.slots.info p))
     (λ p i. same_with_prot prot (w.slots.info p)) (λ p i. refl)) k.users)
 
-commits_kept : (w : World) (c : ℕ) (change : Change) (held : PageRange) (counts : Counts) → IsOrderly w
-    → IsCountedState w → w.calls.phase c ≡ Acks change held → CountsLost c change w counts
-    → IsCountedState (after_commit c change held counts w)
-commits_kept w c change held counts g k e l =
-    stays w (slots_after change w.slots).info (put w.calls.phase c (let_go (Some held) (reply_to change)))
+commits_kept : (w : World) (c : ℕ) (goal : Goal) (change : Change) (counts : Counts) → IsOrderly w
+    → IsCountedState w → w.calls.phase c ≡ Acks goal change → CountsLost c change w counts
+    → IsCountedState (after_commit c change (goal_range goal) counts w)
+commits_kept w c goal change counts g k e l =
+    stays w (slots_after change w.slots).info (put w.calls.phase c (let_go (Some (goal_range goal)) (reply_to change)))
     (with_counts counts w).memory k refl
-    (changed_users w c change counts range k l)
+    (changed_users w c change counts (acks_valid w c goal change g e) k l)
     (λ f u. unused_down c (frame_lost change w.slots.info) _ _ w.memory.counts counts f g.memory.reached l u) refl
-    (λ d f h. (others w.calls.phase c (let_go (Some held) (reply_to change)) refl d f h).1)
-  where
-    call : IsCallOf w c (Acks change held)
-    call = call_at w c (Acks change held) e g
-
-    range : IsPageRange (range_of change)
-    range =
-        sound_range change
-        (change_sound (λ n. mode_of (w.made.file n)) c call.asked.request change call.asked.passed)
+    (λ d f h. (others w.calls.phase c (let_go (Some (goal_range goal)) (reply_to change)) refl d f h).1)
 
 -- ---- Want
 
@@ -310,16 +280,19 @@ takes_kept w c touch old f k was_free = record {
 
 -- ---- Fill
 
+-- the page is mapped, has no frame, and can get this one
+abbrev LacksFrame : Option PageInfo → ℕ → Type 0
+LacksFrame o f = (is_some o ≡ true) × (frame_of o ≡ None) × (frame_of (info_with_frame f o) ≡ Some f)
+
 -- a page that an access can use, and that has no frame
 usable_page : (file : ℕ → Option File) (o : Option PageInfo) (access : Access) (f : ℕ) → IsUsable file o access None
-    → (is_some o ≡ true) × (frame_of o ≡ None) × (frame_of (info_with_frame f o) ≡ Some f)
+    → LacksFrame o f
 usable_page file None access f u = absurd u
 usable_page file (Some info) access f u = (refl, u.2, refl)
 
 -- a page that has none yet
 page_lacks : (w : World) (c : ℕ) (touch : Touch) (own : Option ℕ) (f : ℕ) → IsOrderly w → w.calls.phase c ≡ Fill touch own
-    → (is_some (w.slots.info touch.page) ≡ true) × (frame_of (w.slots.info touch.page) ≡ None)
-    × (frame_of (info_with_frame f (w.slots.info touch.page)) ≡ Some f)
+    → LacksFrame (w.slots.info touch.page) f
 page_lacks w c touch own f g e = usable_page w.made.file (w.slots.info touch.page) touch.access f (call_at w c (Fill touch own) e g).ready.0
 
 -- The frame that a call had taken is in use from here on, and nothing else that was unused is. So it is neither free nor another's.
@@ -369,8 +342,7 @@ owned_kept w c touch f counts bytes g k e t = record {
   alone = u.alone;
 }
   where
-    page : (is_some (w.slots.info touch.page) ≡ true) × (frame_of (w.slots.info touch.page) ≡ None)
-        × (frame_of (info_with_frame f (w.slots.info touch.page)) ≡ Some f)
+    page : LacksFrame (w.slots.info touch.page) f
     page = page_lacks w c touch (Some f) f g e
 
     u : Uses w c f (Install touch) counts
@@ -446,8 +418,7 @@ caches_kept w c touch f counts g k e is_shown none t = record {
   alone = u.alone;
 }
   where
-    page : (is_some (w.slots.info touch.page) ≡ true) × (frame_of (w.slots.info touch.page) ≡ None)
-        × (frame_of (info_with_frame f (w.slots.info touch.page)) ≡ Some f)
+    page : LacksFrame (w.slots.info touch.page) f
     page = page_lacks w c touch (Some f) f g e
 
     mine : IsUnused w.memory.counts f
@@ -573,11 +544,11 @@ gives_up_kept w c k = go (taken_in (w.calls.phase c)) refl
     new = let_go (still_held (w.calls.phase c)) NoMemory
 
     other : (d x : ℕ) → taken_in (put w.calls.phase c new d) ≡ Some x → (d ≢ c) × (taken_in (w.calls.phase d) ≡ Some x)
-    other = others w.calls.phase c new (none_let_go (still_held (w.calls.phase c)) NoMemory)
+    other = others w.calls.phase c new (let_go_still (still_held (w.calls.phase c)) NoMemory).taken
 
     go : (o : Option ℕ) → taken_in (w.calls.phase c) ≡ o
         → IsCounted w.slots.info (put w.calls.phase c new) (record w.memory { is_free = given_back o w.memory.is_free })
-    go None e = moved w c new k (none_let_go (still_held (w.calls.phase c)) NoMemory)
+    go None e = moved w c new k (let_go_still (still_held (w.calls.phase c)) NoMemory).taken
     go (Some f) e = record {
       page_in = k.page_in;
       caches = k.caches;
@@ -594,22 +565,25 @@ gives_up_kept w c k = go (taken_in (w.calls.phase c)) refl
 -- ---- every shape
 
 goes_kept : (w : World) (c : ℕ) (v : World) → IsOrderly w → IsCountedState w → GoesBy w c v → IsCountedState v
-goes_kept w c v g k (moves new m h) = subst IsCountedState (sym h) (moved w c new k (none_moved w c new m))
+goes_kept w c v g k (moves new m h) = subst IsCountedState (sym h) (moved w c new k (moves_quiet w c new m).1.still.taken)
 goes_kept w c v g k (divides goal cursor t e s h) = subst IsCountedState (sym h) (other_slots w t k s.divides.2.info)
+goes_kept w c v g k (cuts place target range t e s h) = subst IsCountedState (sym h) (other_slots w t k s.divides.2.info)
+goes_kept w c v g k (fits place target range e cut h) =
+    subst IsCountedState (sym h) (moved w c (Acks (To.Place place target) (Put range place.meta)) k refl)
 goes_kept w c v g k (owns goal cursor b t e l h) =
     subst IsCountedState (sym h)
-    (goes_on w c (locked_to goal b) t w.memory k refl (none_more w c (locked_to goal b) (none_locked goal b))
+    (goes_on w c (locked_to goal b) t w.memory k refl (none_more w c (locked_to goal b) (locked_quiet goal b).still.taken)
     (λ p. ap (λ s. frame_of (s.info p)) l.now) refl refl)
 goes_kept w c v g k (lets_go held b t new l u h) =
     subst IsCountedState (sym h)
-    (goes_on w c new t w.memory k refl (none_more w c new (none_left (w.calls.phase c) held b new l))
+    (goes_on w c new t w.memory k refl (none_more w c new (lets_go_still (w.calls.phase c) held b new l).1.taken)
     (λ p. ap (λ s. frame_of (s.info p)) u.now) refl refl)
 goes_kept w c v g k (answers held reply r h) =
-    subst IsCountedState (sym h) (moved w c (let_go held reply) k (none_let_go held reply))
+    subst IsCountedState (sym h) (moved w c (let_go held reply) k (let_go_still held reply).taken)
 goes_kept w c v g k (posts change shoot e h) =
-    subst IsCountedState (sym h) (moved w c (Acks change (range_of change)) k refl)
-goes_kept w c v g k (commits change held counts e n l h) =
-    subst IsCountedState (sym h) (commits_kept w c change held counts g k e l)
+    subst IsCountedState (sym h) (moved w c (Acks (To.Change change) change) k refl)
+goes_kept w c v g k (commits goal change counts e n l h) =
+    subst IsCountedState (sym h) (commits_kept w c goal change counts g k e l)
 goes_kept w c v g k (takes touch old f e l h) = subst IsCountedState (sym h) (takes_kept w c touch old f k l)
 goes_kept w c v g k (zeroes touch f counts e b t h) =
     subst IsCountedState (sym h) (owned_kept w c touch f counts (after_zeros c touch f counts w).memory.bytes g k e t)
@@ -648,6 +622,8 @@ shape_kept w e o v g k (begins c request i s lt p below h) =
     subst IsCountedState (sym h) (moved w c (Check request) k refl)
 shape_kept w e o v g k (ends c reply i s lt p h) = subst IsCountedState (sym h) (moved w c Free k refl)
 shape_kept w e o v g k (goes c i s lt m) = goes_kept w c v g k m
+shape_kept w e o v g k (aims c place target a s lt p h) =
+    subst IsCountedState (sym h) (moved w c (trying place target) k refl)
 shape_kept w e o v g k (gives_up c i s lt can u h) = subst IsCountedState (sym h) (gives_up_kept w c k)
 shape_kept w e o v g k (works c s lt m) = works_kept w c e v g k m
 shape_kept w e o v g k (joins p t i s page j m h) = subst IsCountedState (sym h) (other_slots w t k j.info)

@@ -36,8 +36,9 @@ abbrev pub one_if : Option FilePage → ℕ
 one_if None = 0
 one_if (Some x) = 1
 
--- Each frame's true count is the number of pages that have it, and one more where it caches a page of a file; no frame caches two. Nothing
--- is left in the counts of a frame that is free or that a call has taken; a taken frame isn't free, and no two calls have taken one frame.
+-- Each frame's true count is the number of pages that have it, and one more where it caches a page
+-- of a file; no frame caches two. Nothing is left in the counts of a frame that is free or that a
+-- call has taken; a taken frame isn't free, and no two calls have taken one frame.
 pub record IsCounted (info : ℕ → Option PageInfo) (phase : ℕ → Phase) (m : Memory) : Type 0 where
   -- the file page that a frame caches
   pub page_in : ℕ → Option FilePage
@@ -54,8 +55,10 @@ abbrev pub IsCountedState : World → Type 0
 IsCountedState w = IsCounted w.slots.info w.calls.phase w.memory
 
 abbrev pub AllStepsKeepCounts : Type 0
-AllStepsKeepCounts = (w v : World) (e : Event) (o : Outcome) → IsOrderly w → IsCountedState w → Step w e o v
+AllStepsKeepCounts =
+    (w v : World) (e : Event) (o : Outcome) → IsOrderly w → IsCountedState w → Step w e o v
     → IsCountedState v
 
 abbrev pub AllOpeningsAreCounted : Type 0
-AllOpeningsAreCounted = (made : Made) (slots : Slots) → IsNew slots → IsCountedState (new_world made slots)
+AllOpeningsAreCounted =
+    (made : Made) (slots : Slots) → IsNew slots → IsCountedState (new_world made slots)

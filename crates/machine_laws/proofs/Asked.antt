@@ -3,7 +3,7 @@ use Rattle.std.proofs.Common.{ℕ, Some, None, Option, List, [], ◌∷◌, ◌+
 use Rattle.vm_base.specs.declared.requests.Request.{Request}
 use Rattle.slot_lock.specs.declared.plan.Plan.{Plan}
 use Rattle.machine_model.specs.declared.phase.Phase.{Phase}
-use Rattle.machine_model.specs.declared.phase.Phase.TheVariants.{Free, Check, Lock, Decide, Post, Acks, Unlock, Answer, Try, Settle, Want, Fill, CopyPost, CopyAcks, Install, Release}
+use Rattle.machine_model.specs.declared.phase.Phase.TheVariants.{Free, Check, Lock, Guess, Find, Back, Cut, Decide, Post, Acks, Unlock, Answer, Try, Settle, Want, Fill, CopyPost, CopyAcks, Install, Release}
 use Rattle.machine_model.specs.Holding.{plan_in}
 use Rattle.machine_model.specs.World.{Made}
 use Rattle.machine_laws.specs.Orderly.{IsAsked, ServesSome}
@@ -19,9 +19,13 @@ pub asked_more : (made : Made) (rs : List Request) (r : Request) (c n : ℕ) (ph
 asked_more made rs r c n Free h = h
 asked_more made rs r c n (Check request) h = at_old rs r n request h
 asked_more made rs r c n (Lock goal cursor) h = serves_more made rs r c n (plan_in (Lock goal cursor)) h
+asked_more made rs r c n (Guess place) h = serves_more made rs r c n (plan_in (Guess place)) h
+asked_more made rs r c n (Find place target) h = serves_more made rs r c n (plan_in (Find place target)) h
+asked_more made rs r c n (Back place target held) h = serves_more made rs r c n (plan_in (Back place target held)) h
+asked_more made rs r c n (Cut place target range) h = serves_more made rs r c n (plan_in (Cut place target range)) h
 asked_more made rs r c n (Decide change) h = serves_more made rs r c n (plan_in (Decide change)) h
 asked_more made rs r c n (Post change shoot) h = serves_more made rs r c n (plan_in (Post change shoot)) h
-asked_more made rs r c n (Acks change held) h = serves_more made rs r c n (plan_in (Acks change held)) h
+asked_more made rs r c n (Acks goal change) h = serves_more made rs r c n (plan_in (Acks goal change)) h
 asked_more made rs r c n (Unlock held reply) h = h
 asked_more made rs r c n (Answer reply) h = h
 asked_more made rs r c n (Try touch) h = serves_more made rs r c n (plan_in (Try touch)) h

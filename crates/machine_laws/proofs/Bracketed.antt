@@ -38,12 +38,20 @@ abbrev pub IsCopyFor : List Begun → List Entry → ℕ → ℕ → ℕ → ℕ
 IsCopyFor calls log i step k page = (b : Begun) × (nth calls k ≡ Some b) × IsStoreTo b.request page × (b.step < step)
     × ((j later core : ℕ) (reply : Reply) → IsAnswer log j later k core reply → i < j)
 
+-- the entries are of events before the n-th
+abbrev pub AreBefore : ℕ → List Entry → Type 0
+AreBefore n log = (i : ℕ) (x : Entry) → slice_get log i ≡ Some x → step_of x < n
+
+-- each is of a later event than those before it
+abbrev pub StepsRise : List Entry → Type 0
+StepsRise log = (i j : ℕ) (x y : Entry) → i < j → slice_get log i ≡ Some x → slice_get log j ≡ Some y → step_of x < step_of y
+
 -- before the n-th event, when these calls were begun
 pub record Chronicle (n : ℕ) (calls : List Begun) (requests : List Request) (log : List Entry) (call : ℕ → ℕ) (stat : ℕ → Status) : Type 0 where
   pub same : requests ≡ requests_of calls
   pub before : (k : ℕ) (b : Begun) → nth calls k ≡ Some b → b.step < n
-  pub made : (i : ℕ) (x : Entry) → slice_get log i ≡ Some x → step_of x < n
-  pub rises : (i j : ℕ) (x y : Entry) → i < j → slice_get log i ≡ Some x → slice_get log j ≡ Some y → step_of x < step_of y
+  pub made : AreBefore n log
+  pub rises : StepsRise log
   pub begun : (i step k core : ℕ) (reply : Reply) → IsAnswer log i step k core reply → (b : Begun) × (nth calls k ≡ Some b) × (b.core ≡ core) × (b.step < step)
   pub once : (i j step later k core other : ℕ) (reply reply2 : Reply) → IsAnswer log i step k core reply → IsAnswer log j later k other reply2 → i ≡ j
   pub copies : (i step k page : ℕ) → IsDetach log i step k page → IsCopyFor calls log i step k page
@@ -108,26 +116,33 @@ abbrev pub is_reply : Entry → Bool
 is_reply (Answer step call core reply) = true
 is_reply (Detach step call page) = false
 
+-- with one of the n-th event at its end
+made_more : (n : ℕ) (log : List Entry) (new : Entry) → step_of new ≡ n → AreBefore n log → AreBefore (suc n) (log ++ new ∷ [])
+made_more n log new now made i x e = elim (get_either log new i x e) [
+  | inl k ↦ omega (arith, made i x k.0)
+  | inr k ↦ let s : step_of x ≡ n = ap step_of k.1 ∙ now in omega (arith, s)
+]
+
+rises_more : (n : ℕ) (log : List Entry) (new : Entry) → step_of new ≡ n → AreBefore n log → StepsRise log → StepsRise (log ++ new ∷ [])
+rises_more n log new now made rises i j x y lt a b = elim (get_either log new j y b) [
+  | inl k ↦ elim (get_either log new i x a) [
+    | inl l ↦ rises i j x y lt l.0 k.0
+    | inr l ↦ absurd (omega (arith, l.0, k.1, lt))
+  ]
+  | inr k ↦ elim (get_either log new i x a) [
+    | inl l ↦ let s : step_of y ≡ n = ap step_of k.1 ∙ now in omega (arith, s, made i x l.0)
+    | inr l ↦ absurd (omega (arith, l.0, k.0, lt))
+  ]
+]
+
 chron_tells : (n : ℕ) (calls : List Begun) (requests : List Request) (log : List Entry) (call : ℕ → ℕ) (stat : ℕ → Status) (c : ℕ)
     (reply : Reply) → stat c ≡ Asked → Chronicle n calls requests log call stat
     → Chronicle (suc n) calls requests (log ++ Answer n (call c) c reply ∷ []) call (put stat c (Told reply))
 chron_tells n calls requests log call stat c reply e h = record {
   same = h.same;
   before = λ k b e. omega (arith, h.before k b e);
-  made = λ i x e. elim (get_either log new i x e) [
-    | inl k ↦ omega (arith, h.made i x k.0)
-    | inr k ↦ let s : step_of x ≡ n = ap step_of k.1 in omega (arith, s)
-  ];
-  rises = λ i j x y lt a b. elim (get_either log new j y b) [
-    | inl k ↦ elim (get_either log new i x a) [
-      | inl l ↦ h.rises i j x y lt l.0 k.0
-      | inr l ↦ absurd (omega (arith, l.0, k.1, lt))
-    ]
-    | inr k ↦ elim (get_either log new i x a) [
-      | inl l ↦ let s : step_of y ≡ n = ap step_of k.1 in omega (arith, s, h.made i x l.0)
-      | inr l ↦ absurd (omega (arith, l.0, k.0, lt))
-    ]
-  ];
+  made = made_more n log new refl h.made;
+  rises = rises_more n log new refl h.made h.rises;
   begun = λ i step k core r a. elim (get_either log new i (Answer step k core r) a) [
     | inl l ↦ h.begun i step k core r l.0
     | inr l ↦
@@ -160,8 +175,7 @@ chron_tells n calls requests log call stat c reply e h = record {
     )
     | inr l ↦ absurd (let other = ap is_reply l.1 in cc)
   ];
-  stands = put_all (λ d s. Stands (suc n) calls (log ++ new ∷ []) d (call d) s) stat c (Told reply)
-      (mine.0, (length log, n, get_new log new, omega arith)) (λ d ne. other d ne (stat d) (h.stands d));
+  stands = put_all (λ d s. Stands (suc n) calls (log ++ new ∷ []) d (call d) s) stat c (Told reply) (mine.0, (length log, n, get_new log new, omega arith)) (λ d ne. other d ne (stat d) (h.stands d));
 }
   where
     new : Entry
@@ -201,20 +215,8 @@ chron_detaches : (n : ℕ) (calls : List Begun) (requests : List Request) (log :
 chron_detaches n calls requests log call stat c page request e number store h = record {
   same = h.same;
   before = λ k b e. omega (arith, h.before k b e);
-  made = λ i x e. elim (get_either log new i x e) [
-    | inl k ↦ omega (arith, h.made i x k.0)
-    | inr k ↦ let s : step_of x ≡ n = ap step_of k.1 in omega (arith, s)
-  ];
-  rises = λ i j x y lt a b. elim (get_either log new j y b) [
-    | inl k ↦ elim (get_either log new i x a) [
-      | inl l ↦ h.rises i j x y lt l.0 k.0
-      | inr l ↦ absurd (omega (arith, l.0, k.1, lt))
-    ]
-    | inr k ↦ elim (get_either log new i x a) [
-      | inl l ↦ let s : step_of y ≡ n = ap step_of k.1 in omega (arith, s, h.made i x l.0)
-      | inr l ↦ absurd (omega (arith, l.0, k.0, lt))
-    ]
-  ];
+  made = made_more n log new refl h.made;
+  rises = rises_more n log new refl h.made h.rises;
   begun = λ i step k core r a. h.begun i step k core r (old i step k core r a);
   once = λ i j step later k core other r q a b. h.once i j step later k core other r q (old i step k core r a) (old j later k other q b);
   copies = λ i step k at a. elim (get_either log new i (Detach step k at) a) [
@@ -300,11 +302,8 @@ chron_opens n calls requests log call stat c request h = record {
   begun = λ i step k core r a. let b = h.begun i step k core r a in (b.0, at_old calls new k b.0 b.1, b.2, b.3);
   once = h.once;
   copies = λ i step k page a. let b = h.copies i step k page a in (b.0, at_old calls new k b.0 b.1, b.2, b.3, b.4);
-  stands = put_both (λ d k s. Stands (suc n) (calls ++ new ∷ []) log d k s) call stat c (suc (length requests)) Asked (
-    subst (IsLatest (calls ++ new ∷ []) c) (ap suc (sym size)) (latest_new calls new),
-    λ i step core r a. let b = h.begun i step
-        (suc (length requests)) core r a in let lt = within calls (suc (length requests)) b.0 b.1 in omega (arith, lt, size),
-  )
+  stands = put_both (λ d k s. Stands (suc n) (calls ++ new ∷ []) log d k s) call stat c (suc (length requests)) Asked
+      (subst (IsLatest (calls ++ new ∷ []) c) (ap suc (sym size)) (latest_new calls new), λ i step core r a. let b = h.begun i step (suc (length requests)) core r a in let lt = within calls (suc (length requests)) b.0 b.1 in omega (arith, lt, size))
       (λ d ne. other d ne (stat d) (h.stands d));
 }
   where
@@ -471,8 +470,7 @@ Grows w v = (i : ℕ) (x : Entry) → slice_get w.calls.log i ≡ Some x → sli
 grows_by : (w : World) (e : Event) (o : Outcome) (v : World) → Effect w e o v → Grows w v
 grows_by w e o v (keeps q k l s) = λ i x a. ap (λ l. slice_get l i) l ∙ a
 grows_by w e o v (tells c reply q k a l s) = λ i x b. ap (λ l. slice_get l i) l ∙ get_old w.calls.log (Answer w.calls.events (w.calls.number c) c reply) i x b
-grows_by w e o v (detaches c page request q k a number store l s) = λ i x b. ap (λ l. slice_get l i) l
-    ∙ get_old w.calls.log (Detach w.calls.events (w.calls.number c) page) i x b
+grows_by w e o v (detaches c page request q k a number store l s) = λ i x b. ap (λ l. slice_get l i) l ∙ get_old w.calls.log (Detach w.calls.events (w.calls.number c) page) i x b
 grows_by w e o v (opens c request f g a k) = λ i x b. ap (λ v. slice_get v.calls.log i) k ∙ b
 grows_by w e o v (closes c reply f g a k) = λ i x b. ap (λ v. slice_get v.calls.log i) k ∙ b
 
@@ -498,8 +496,7 @@ pub record Parted (w : World) (es : List Event) (os : List Outcome) (v : World) 
   pub after : Grows new v
   pub few : length (take n es) ≤ n
 
-parted : (w : World) (es : List Event) (os : List Outcome) (v : World) (n : ℕ) (e : Event) (o : Outcome) → IsOrderly w → Run w es os v
-    → nth es (suc n) ≡ Some e → nth os (suc n) ≡ Some o → Parted w es os v n e o
+parted : (w : World) (es : List Event) (os : List Outcome) (v : World) (n : ℕ) (e : Event) (o : Outcome) → IsOrderly w → Run w es os v → nth es (suc n) ≡ Some e → nth os (suc n) ≡ Some o → Parted w es os v n e o
 parted w [] os v n e o g r a b = absurd cc
 parted w (d ∷ es) [] v n e o g r a b = absurd r
 parted w (d ∷ es) (p ∷ os) v zero e o g r a b =
@@ -543,46 +540,33 @@ told_before calls w e core reply v at h (closes c r f g a k) =
     subst (λ d. (call : ℕ) × IsLatest calls d call × IsAnsweredBefore (suc w.calls.events) w.calls.log call d reply) here
     (subst (λ r. (call : ℕ) × IsLatest calls c call × IsAnsweredBefore (suc w.calls.events) w.calls.log call c r) same (w.calls.number c, told.0, told.1))
 
-ends : (calls : List Begun) (w : World) (e : Event) (core : ℕ) (reply : Reply) (v : World) → core_of e ≡ Some core → IsOrderly w → Kept calls w
-    → Comes w e (Answered reply) v
+ends : (calls : List Begun) (w : World) (e : Event) (core : ℕ) (reply : Reply) (v : World) → core_of e ≡ Some core → IsOrderly w → Kept calls w → Comes w e (Answered reply) v
     → (call : ℕ) × IsLatest calls core call × IsAnsweredBefore (suc w.calls.events) w.calls.log call core reply
 ends calls w e core reply v at g h (stopped i q k) = absurd (let no = q.1 in cc)
 ends calls w e core reply v at g h (acts i shape) = told_before calls w e core reply v at h (effect_of (with_event w) e (Answered reply) v g shape)
 
-answered_at : (made : Made) (slots : Slots) (es : List Event) (os : List Outcome) (v : World) (n core : ℕ) (e : Event) (reply : Reply) → IsNew slots
-    → core_of e ≡ Some core
+answered_at : (made : Made) (slots : Slots) (es : List Event) (os : List Outcome) (v : World) (n core : ℕ) (e : Event) (reply : Reply) → made.cores ≤ 64 → IsNew slots → core_of e ≡ Some core
     → Parted (new_world made slots) es os v n e (Answered reply)
     → (call : ℕ) × IsLatest (calls_of (take n es) (take n os)) core call × IsAnsweredBefore (suc n) v.calls.log call core reply
-answered_at made slots es os v n core e reply new at p =
-    let before : After 1 [] (new_world made slots) (take n es) (take n os) p.old = goes 1 [] (new_world made slots) (take n es) (take n os) p.old
-    (inl refl) (opening_is_orderly made slots new) (kept_opening made slots) p.first in
+answered_at made slots es os v n core e reply cores new at p =
+    let before : After 1 [] (new_world made slots) (take n es) (take n os) p.old = goes 1 [] (new_world made slots) (take n es) (take n os) p.old (inl refl) (opening_is_orderly made slots cores new) (kept_opening made slots) p.first in
     let come : Comes p.old e (Answered reply) p.new = comes p.old e (Answered reply) p.new p.step in
     let end = ends (calls_of (take n es) (take n os)) p.old e core reply p.new at p.order before.kept come in
     let said = end.2 in
     let few = before.few in
     let size = p.few in
-    let lt = said.3 in (
-      end.0,
-      end.1,
-      (
-        said.0,
-        said.1,
-        p.after said.0 (Answer said.1 end.0 core reply)
-            (grows_at p.old e (Answered reply) p.new p.order come said.0 (Answer said.1 end.0 core reply) said.2),
-        omega (arith, few, size, lt),
-      ),
-    )
+    let lt = said.3 in
+    (end.0, end.1, (said.0, said.1, p.after said.0 (Answer said.1 end.0 core reply) (grows_at p.old e (Answered reply) p.new p.order come said.0 (Answer said.1 end.0 core reply) said.2), omega (arith, few, size, lt)))
 
 pub bracketed : AllRunsBracketed
-bracketed made slots es os w new r =
-    let order : IsOrderly (new_world made slots) = opening_is_orderly made slots new in
+bracketed made slots es os w cores new r =
+    let order : IsOrderly (new_world made slots) = opening_is_orderly made slots cores new in
     let all : After 1 [] (new_world made slots) es os w = goes 1 [] (new_world made slots) es os w (inl refl) order (kept_opening made slots) r in
     record {
       rises = all.kept.rises;
       begun = all.kept.begun;
       once = all.kept.once;
       copies = all.kept.copies;
-      answered = λ n core e reply a at b. answered_at made slots es os w n core e reply new at
-          (parted (new_world made slots) es os w n e (Answered reply) order r a b);
+      answered = λ n core e reply a at b. answered_at made slots es os w n core e reply cores new at (parted (new_world made slots) es os w n e (Answered reply) order r a b);
       requests = all.kept.same;
     }

@@ -1,5 +1,5 @@
 -- What the check of the arguments and the decision say of plans, on whichever core: vm_calls says it of cores below 64
-use Rattle.std.proofs.Common.{◌≡◌, ℕ, Bool, true, false, sym, subst, arith, Some, None, Option, Result, Ok}
+use Rattle.std.proofs.Common.{◌≡◌, ℕ, ◌+◌, ◌<◌, ◌≤◌, Bool, true, false, sym, subst, arith, Some, None, Option, Result, Ok}
 use Rattle.std.specs.Prelude.{if◌then◌else◌}
 use Rattle.vm_base.specs.declared.info.Meta.{Meta}
 use Rattle.vm_base.specs.declared.page.PageRange.{PageRange}
@@ -9,24 +9,32 @@ use Rattle.vm_base.specs.declared.requests.Request.TheVariants.{Mmap, Munmap, Mp
 use Rattle.vm_base.specs.declared.rights.Mode.{Mode}
 use Rattle.vm_base.specs.Apply.{meta_of}
 use Rattle.vm_base.specs.Functions.{has}
-use Rattle.vm_base.specs.Pages.{IsPageRange, pages_of}
-use Rattle.vm_base.specs.Plain.{File}
+use Rattle.vm_base.specs.Pages.{IsPageRange, pages_from, pages_of}
+use Rattle.vm_base.specs.Places.{IsFree}
+use Rattle.vm_base.specs.Plain.{File, is_mapped}
 use Rattle.vm_base.specs.Refusals.{refusal}
+use Rattle.vm_base.proofs.Functions.{has_in, in_has}
 use Rattle.slot_lock.specs.declared.plan.Change.{Change}
 use Rattle.slot_lock.specs.declared.plan.Change.TheVariants.{Put, Clear, Protect}
 use Rattle.slot_lock.specs.declared.plan.Place.{Place}
 use Rattle.slot_lock.specs.declared.plan.Plan.{Plan}
 use Rattle.slot_lock.specs.declared.plan.Plan.TheVariants as PlanOf
 use Rattle.slot_lock.specs.declared.plan.Touch.{Touch}
-use Rattle.slot_lock.specs.Plan.{range_of, IsSoundChange, IsSoundTouch}
+use Rattle.slot_lock.specs.declared.plan.Goal.{Goal}
+use Rattle.slot_lock.specs.declared.plan.Goal.TheVariants as To
+use Rattle.slot_lock.specs.declared.plan.Target.{Target}
+use Rattle.slot_lock.specs.declared.plan.Target.TheVariants.{Hint, Run, Window}
+use Rattle.slot_lock.specs.Plan.{range_of, goal_range, goal_plan, HasTarget, IsSoundChange, IsSoundTouch, IsSoundGoal}
 use Rattle.slot_lock.specs.Slots.{Slots}
 use Rattle.vm_calls.specs.declared.decision.Decision.{Decision}
-use Rattle.vm_calls.specs.declared.decision.Decision.TheVariants.{Act}
+use Rattle.vm_calls.specs.declared.decision.Decision.TheVariants.{Act, Again}
 use Rattle.vm_calls.specs.Checks.{checked, plan_of, unless_refused, place_of}
-use Rattle.vm_calls.specs.Decisions.{Decides}
+use Rattle.vm_calls.specs.Decisions.{Decides, DecidesPlace, DecidesRun, DecidesWindow, entries}
+use Rattle.vm_calls.specs.Decisions.DecidesRun.{free, taken}
 use Rattle.vm_calls.specs.Decisions.DecidesProtect.{no_page, no_write, acts}
-use Rattle.vm_calls.proofs.Alike.{change_alike}
+use Rattle.vm_calls.proofs.Alike.{decision_alike}
 use Rattle.vm_calls.proofs.Passed.{checked_is_sound}
+use Rattle.vm_calls.proofs.Targets.{goal-pages, place-act}
 
 -- ---- a plan that isn't placed is the same on each core
 
@@ -75,18 +83,81 @@ sound_range (Put range meta) h = h.pages
 sound_range (Clear range) h = h
 sound_range (Protect range prot) h = h
 
+-- ---- goals
+
+-- what the check of the arguments lets through, with a target of its mapping if it is to be placed
+pub goal_sound : (modes : ℕ → Option Mode) (core : ℕ) (request : Request) (goal : Goal) → core < 64
+    → checked modes core request ≡ Ok (goal_plan goal) → HasTarget goal → IsSoundGoal goal
+goal_sound modes core request goal few h target =
+    record { plan = checked_is_sound modes core request (goal_plan goal) few h; target = target }
+
+pub goal_valid : (goal : Goal) → IsSoundGoal goal → IsPageRange (goal_range goal)
+goal_valid goal h = goal-pages goal h
+
 -- ---- decisions
 
--- where the pages of the range have the same
-pub decides_kept : (files : ℕ → Option File) (s t : Slots) (change : Change) (d : Decision) → ((p : ℕ) → has (range_of change) p ≡ true → t.info p ≡ s.info p)
-    → Decides files s (PlanOf.Change change) d → Decides files t (PlanOf.Change change) d
-decides_kept files s t change d same h = change_alike files s t change d (λ p i. sym (same p i)) h
+-- where the pages of the goal have the same
+pub decides_kept : (files : ℕ → Option File) (s t : Slots) (goal : Goal) (d : Decision)
+    → ((p : ℕ) → has (goal_range goal) p ≡ true → t.info p ≡ s.info p) → Decides files s goal d → Decides files t goal d
+decides_kept files s t goal d same h = decision_alike files s t goal d (λ p i. sym (same p i)) h
 
 -- a change acts on its own range
 pub acts_own : (files : ℕ → Option File) (s : Slots) (change : Change) (changes : PageRange) (shoot : ℕ)
-    → Decides files s (PlanOf.Change change) (Act changes shoot) → changes ≡ range_of change
+    → Decides files s (To.Change change) (Act changes shoot) → changes ≡ range_of change
 acts_own files s (Put range meta) changes shoot h = h.0
 acts_own files s (Clear range) changes shoot h = h.0
 acts_own files s (Protect range prot) changes shoot (no_page a e) = absurd cc
 acts_own files s (Protect range prot) changes shoot (no_write a w r e) = absurd cc
 acts_own files s (Protect range prot) changes shoot (acts a r k) = k.0
+
+-- a mapping goes to the whole of its hint or run
+pub run_own : (s : Slots) (run range : PageRange) (shoot : ℕ) → DecidesRun s run (Act range shoot) → range ≡ run
+run_own s run range shoot (free f e) = cc
+run_own s run range shoot (taken h e) = absurd cc
+
+room_in : (window range : PageRange) (first n p : ℕ) → window.first ≤ first → first + n ≤ window.end → range ≡ pages_from first n
+    → has range p ≡ true → has window p ≡ true
+room_in window range first n p low high e h =
+    let i : has (pages_from first n) p ≡ true = subst (λ r. has r p ≡ true) e h in
+    let at = has_in (pages_from first n) p i in
+    in_has window p (omega (arith, low, at.0)) (omega (arith, high, at.1))
+
+window_in : (s : Slots) (place : Place) (range : PageRange) (shoot p : ℕ) → DecidesWindow s place (Act range shoot) → has range p ≡ true
+    → has place.window p ≡ true
+window_in s place range shoot p (None, none, e) h = absurd cc
+window_in s place range shoot p (Some first, least, e) h = room_in place.window range first place.count p least.0.0 least.0.1 (cc) h
+
+-- a call changes pages that it holds
+pub acts_in : (files : ℕ → Option File) (s : Slots) (goal : Goal) (range : PageRange) (shoot p : ℕ) → Decides files s goal (Act range shoot)
+    → has range p ≡ true → has (goal_range goal) p ≡ true
+acts_in files s (To.Place place (Hint run)) range shoot p d h = subst (λ r. has r p ≡ true) (run_own s run range shoot d) h
+acts_in files s (To.Place place (Run run)) range shoot p d h = subst (λ r. has r p ≡ true) (run_own s run range shoot d) h
+acts_in files s (To.Place place Window) range shoot p d h = window_in s place range shoot p d h
+acts_in files s (To.Change change) range shoot p d h = subst (λ r. has r p ≡ true) (acts_own files s change range shoot d) h
+acts_in files s (To.Access touch) range shoot p d h = absurd d
+
+-- which are valid
+pub acts_valid : (files : ℕ → Option File) (s : Slots) (goal : Goal) (range : PageRange) (shoot : ℕ) → IsSoundGoal goal
+    → Decides files s goal (Act range shoot) → IsPageRange range
+acts_valid files s (To.Place place target) range shoot g d = (place-act s place target (Act range shoot) g.plan g.target d).pages
+acts_valid files s (To.Change change) range shoot g d =
+    subst IsPageRange (sym (acts_own files s change range shoot d)) (goal-pages (To.Change change) g)
+acts_valid files s (To.Access touch) range shoot g d = absurd d
+
+-- a mapping goes to pages that aren't mapped
+free_of : (s : Slots) (run range : PageRange) (shoot : ℕ) → DecidesRun s run (Act range shoot) → IsFree (is_mapped (entries s)) range
+free_of s run range shoot (free f e) = let same : run ≡ range = cc in subst (IsFree (is_mapped (entries s))) same f
+free_of s run range shoot (taken h e) = absurd cc
+
+pub place_free : (s : Slots) (place : Place) (target : Target) (range : PageRange) (shoot : ℕ) → DecidesPlace s place target (Act range shoot)
+    → IsFree (is_mapped (entries s)) range
+place_free s place (Hint run) range shoot d = free_of s run range shoot d
+place_free s place (Run run) range shoot d = free_of s run range shoot d
+place_free s place Window range shoot (None, none, e) = absurd cc
+place_free s place Window range shoot (Some first, least, e) =
+    let same : pages_from first place.count ≡ range = cc in subst (IsFree (is_mapped (entries s))) same least.0.2
+
+-- a mapping is refused in its window alone, and is never sent on from it
+pub window_stays : (s : Slots) (place : Place) → DecidesWindow s place Again → ⊥
+window_stays s place (None, none, e) = cc
+window_stays s place (Some first, least, e) = cc

@@ -12,7 +12,11 @@ use Rattle.slot_lock.specs.declared.plan.Touch.{Touch}
 use Rattle.vm_calls.specs.Settling.{is_private_store}
 use Rattle.vm_base.specs.declared.replies.Reply.{Reply}
 use Rattle.vm_base.specs.declared.replies.Reply.TheVariants.{NoMemory}
-use Rattle.slot_lock.specs.Plan.{range_of}
+use Rattle.slot_lock.specs.declared.plan.Goal.{Goal}
+use Rattle.slot_lock.specs.declared.plan.Goal.TheVariants as To
+use Rattle.slot_lock.specs.declared.plan.Target.{Target}
+use Rattle.slot_lock.specs.declared.plan.Target.TheVariants.{Hint, Run, Window}
+use Rattle.slot_lock.specs.Plan.{goal_range}
 use Rattle.vm_base.specs.declared.requests.Request.{Request}
 use Rattle.vm_base.specs.Functions.{put}
 use Rattle.vm_base.proofs.Functions.{put_all, put_both}
@@ -22,8 +26,6 @@ use Rattle.machine_model.specs.declared.event.Event.TheVariants as EventOf
 use Rattle.machine_model.specs.declared.event.Event.TheVariants.{Call, Go}
 use Rattle.machine_model.specs.declared.event.Outcome.{Outcome}
 use Rattle.machine_model.specs.declared.event.Outcome.TheVariants.{Stepped, Answered}
-use Rattle.machine_model.specs.declared.phase.Goal.{Goal}
-use Rattle.machine_model.specs.declared.phase.Goal.TheVariants as To
 use Rattle.machine_model.specs.declared.phase.Phase.{Phase}
 use Rattle.machine_model.specs.declared.phase.Phase.TheVariants.{Free, Lock, Unlock, Answer, Fill, Install, Release}
 use Rattle.machine_model.specs.declared.phase.Phase.TheVariants as At
@@ -34,8 +36,9 @@ use Rattle.machine_model.specs.Actions.{to, with_entry, after_reply, let_go, ans
 use Rattle.machine_model.specs.Changes.{slots_after, after_post, reply_to}
 use Rattle.machine_model.specs.Counting.{with_counts}
 use Rattle.machine_model.specs.GivingUp.{given_back}
-use Rattle.machine_model.specs.Holding.{goal_range, can_give_up, still_held, taken_in}
+use Rattle.machine_model.specs.Holding.{awaits_in, can_give_up, still_held, taken_in}
 use Rattle.machine_model.specs.Locks.{locking, locked_to, all_locked, held_after}
+use Rattle.machine_model.specs.Placing.{trying, back_to}
 use Rattle.machine_model.specs.Translating.{after_translating}
 use Rattle.machine_model.specs.World.{World, Hardware, Memory}
 use Rattle.machine_model.specs.Step.{after_call}
@@ -54,7 +57,7 @@ use Rattle.vm_calls.specs.Checks.{checked, plan_of, unless_refused, touch_of, pl
 use Rattle.machine_laws.specs.Brackets.{nth, IsStoreTo}
 use Rattle.machine_laws.specs.Orderly.{IsOrderly, Serves}
 use Rattle.machine_laws.proofs.Moves.{IsCallOf, call_at}
-use Rattle.machine_laws.proofs.Shapes.{IsInner, rests_inner, Moves, locks, tries, acts, finds, lacks, shows, Replies, refuses, no_place, declines, fails, no_frame, LetsGo, unlocks, releases, GoesBy, moves, divides, owns, lets_go, answers, posts, commits, takes, zeroes, first_copies, caches, shares, posts_copy, copies, installs, accesses, faults, Works, clears, invalidates, walks, evicts, flushes, reviews, frees, IsGoing, going, picking, Shape, rests, begins, ends, goes, gives_up, works, joins}
+use Rattle.machine_laws.proofs.Shapes.{IsInner, rests_inner, Moves, locks, tries, hints, seeks, guesses, turns, chooses, acts, finds, lacks, shows, Replies, refuses, no_place, declines, fails, no_frame, LetsGo, unlocks, returns, releases, GoesBy, moves, divides, cuts, fits, owns, lets_go, answers, posts, commits, takes, zeroes, first_copies, caches, shares, posts_copy, copies, installs, accesses, faults, Works, clears, invalidates, walks, evicts, flushes, reviews, frees, IsGoing, going, picking, IsAiming, at_run, at_window, Shape, rests, begins, ends, goes, aims, gives_up, works, joins}
 
 -- a core has no call, one without a reply, or one with this reply
 pub data Status : Type 0 where
@@ -88,6 +91,79 @@ pub data Effect (w : World) (e : Event) (o : Outcome) (v : World) : Type 0 where
   opens : (c : ℕ) (request : Request) → e ≡ Call c request → o ≡ Stepped → statuses w c ≡ Closed → v ≡ after_call c request w → Effect w e o v
   closes : (c : ℕ) (reply : Reply) → e ≡ Go c → o ≡ Answered reply → statuses w c ≡ Told reply → v ≡ to c Free w → Effect w e o v
 
+-- ---- calls that wait for nothing
+
+-- the call in this phase awaits no core, and has taken no frame
+pub record IsStill (phase : Phase) : Type 0 where
+  pub awaits : awaits_in phase ≡ None
+  pub taken : taken_in phase ≡ None
+
+-- and it has no reply yet
+pub record IsQuiet (phase : Phase) : Type 0 where
+  pub asked : status phase ≡ Asked
+  pub still : IsStill phase
+
+quiet_at : {p q : Phase} → p ≡ q → status q ≡ Asked → awaits_in q ≡ None → taken_in q ≡ None → IsQuiet p
+quiet_at e a n t = record { asked = ap status e ∙ a; still = record { awaits = ap awaits_in e ∙ n; taken = ap taken_in e ∙ t } }
+
+-- before and after a step to another phase
+pub moves_quiet : (w : World) (c : ℕ) (new : Phase) → Moves w c new → IsQuiet (w.calls.phase c) × IsQuiet new
+moves_quiet w c new (locks request change e n k) = (quiet_at e refl refl refl, quiet_at n refl refl refl)
+moves_quiet w c new (tries request touch e n k) = (quiet_at e refl refl refl, quiet_at n refl refl refl)
+moves_quiet w c new (hints request place range e n i k) = (quiet_at e refl refl refl, quiet_at n refl refl refl)
+moves_quiet w c new (seeks request place e n k) = (quiet_at e refl refl refl, quiet_at n refl refl refl)
+moves_quiet w c new (guesses place found e n i) = (quiet_at e refl refl refl, quiet_at n refl refl refl)
+moves_quiet w c new (turns place target e n d) = (quiet_at e refl refl refl, quiet_at n refl refl refl)
+moves_quiet w c new (chooses place target range shoot e n d) = (quiet_at e refl refl refl, quiet_at n refl refl refl)
+moves_quiet w c new (acts change range shoot e n d) = (quiet_at e refl refl refl, quiet_at n refl refl refl)
+moves_quiet w c new (finds touch f e n u) = (quiet_at e refl refl refl, quiet_at n refl refl refl)
+moves_quiet w c new (lacks touch old e n u d) = (quiet_at e refl refl refl, quiet_at n refl refl refl)
+moves_quiet w c new (shows touch e n u d) = (quiet_at e refl refl refl, quiet_at n refl refl refl)
+
+-- before a reply that changes nothing
+pub replies_quiet : (w : World) (c : ℕ) (held : Option PageRange) (reply : Reply) → Replies w c held reply → IsQuiet (w.calls.phase c)
+replies_quiet w c held reply (refuses request e h k) = quiet_at e refl refl refl
+replies_quiet w c held reply (no_place place target errno e h r d) = quiet_at e refl refl refl
+replies_quiet w c held reply (declines change errno e h r d) = quiet_at e refl refl refl
+replies_quiet w c held reply (fails touch e h f) = quiet_at e refl refl refl
+replies_quiet w c held reply (no_frame touch old e h r f) = quiet_at e refl refl refl
+
+pub locked_quiet : (goal : Goal) (b : ℕ) → IsQuiet (locked_to goal b)
+locked_quiet goal b = go goal (nat_le (goal_range goal).end b)
+  where
+    go : (goal : Goal) (p : Bool) → IsQuiet (cond p (all_locked goal) (Lock goal b))
+    go (To.Place place target) true = quiet_at refl refl refl refl
+    go (To.Change change) true = quiet_at refl refl refl refl
+    go (To.Access touch) true = quiet_at refl refl refl refl
+    go goal false = quiet_at refl refl refl refl
+
+-- a mapping that looks elsewhere
+pub back_quiet : (place : Place) (target : Target) (held : Option PageRange) → IsQuiet (back_to place target held)
+back_quiet place target (Some held) = quiet_at refl refl refl refl
+back_quiet place (Hint range) None = quiet_at refl refl refl refl
+back_quiet place (Run range) None = quiet_at refl refl refl refl
+back_quiet place Window None = quiet_at refl refl refl refl
+
+-- a call that has its reply
+pub let_go_still : (held : Option PageRange) (reply : Reply) → IsStill (let_go held reply)
+let_go_still None reply = record { awaits = refl; taken = refl }
+let_go_still (Some held) reply = record { awaits = refl; taken = refl }
+
+-- before and after a slot is let go
+pub lets_go_still : (old : Phase) (held : PageRange) (b : ℕ) (new : Phase) → LetsGo old held b new → IsStill old × IsStill new
+lets_go_still old held b new (unlocks reply e n) =
+    (subst IsStill (sym e) (record { awaits = refl; taken = refl }), subst IsStill (sym n) (let_go_still (held_after held b) reply))
+lets_go_still old held b new (returns place target e n) =
+    ((quiet_at e refl refl refl).still, subst IsStill (sym n) (back_quiet place target (held_after held b)).still)
+lets_go_still old held b new (releases touch e h n) =
+    ((quiet_at e refl refl refl).still, subst IsStill (sym n) (record { awaits = refl; taken = refl }))
+
+-- a call that has just taken a frame
+pub taken_asked : (touch : Touch) (old : Option ℕ) (f : ℕ)
+    → (status (taken_for touch old f) ≡ Asked) × (awaits_in (taken_for touch old f) ≡ None)
+taken_asked touch None f = (refl, refl)
+taken_asked touch (Some g) f = (refl, refl)
+
 -- ---- which request a copy serves
 
 -- a request that is to store a byte of a page is a store to it
@@ -95,21 +171,18 @@ store_of : (core : ℕ) (request : Request) (touch : Touch) → plan_of core req
     → IsStoreTo request touch.page
 store_of core (RequestOf.Store addr byte) touch h a = go (is_page (page_of addr)) h
   where
-    go : (b : Bool) → ◌≡◌ {A = Result Plan Reply} (if b then Ok (PlanOf.Touch (touch_of addr Store byte)) else Err (ReplyOf.Segv MapErr))
-        (Ok (PlanOf.Touch touch))
+    go : (b : Bool) → ◌≡◌ {A = Result Plan Reply} (if b then Ok (PlanOf.Touch (touch_of addr Store byte)) else Err (ReplyOf.Segv MapErr)) (Ok (PlanOf.Touch touch))
         → page_of addr ≡ touch.page
     go true e = let same : touch_of addr Store byte ≡ touch = cc in ap (λ t. t.page) same
     go false e = absurd cc
 store_of core (RequestOf.Load addr) touch h a = absurd (go (is_page (page_of addr)) h)
   where
-    go : (b : Bool) → ◌≡◌ {A = Result Plan Reply} (if b then Ok (PlanOf.Touch (touch_of addr Load 0)) else Err (ReplyOf.Segv MapErr))
-        (Ok (PlanOf.Touch touch)) → ⊥
+    go : (b : Bool) → ◌≡◌ {A = Result Plan Reply} (if b then Ok (PlanOf.Touch (touch_of addr Load 0)) else Err (ReplyOf.Segv MapErr)) (Ok (PlanOf.Touch touch)) → ⊥
     go true e = let same : touch_of addr Load 0 ≡ touch = cc in let other = ap (λ t. t.access) same in cc (other, a)
     go false e = cc
 store_of core (RequestOf.Fetch addr) touch h a = absurd (go (is_page (page_of addr)) h)
   where
-    go : (b : Bool) → ◌≡◌ {A = Result Plan Reply} (if b then Ok (PlanOf.Touch (touch_of addr Fetch 0)) else Err (ReplyOf.Segv MapErr))
-        (Ok (PlanOf.Touch touch)) → ⊥
+    go : (b : Bool) → ◌≡◌ {A = Result Plan Reply} (if b then Ok (PlanOf.Touch (touch_of addr Fetch 0)) else Err (ReplyOf.Segv MapErr)) (Ok (PlanOf.Touch touch)) → ⊥
     go true e = let same : touch_of addr Fetch 0 ≡ touch = cc in let other = ap (λ t. t.access) same in cc (other, a)
     go false e = cc
 store_of core (RequestOf.Munmap addr len) touch h a = absurd cc
@@ -117,8 +190,7 @@ store_of core (RequestOf.Mprotect addr len prot) touch h a = absurd cc
 store_of core (RequestOf.Mmap addr len prot flags file off) touch h a =
     absurd (go flags.fixed (Put (pages_of addr len) (meta_of prot flags file off)) (place_of core addr len (meta_of prot flags file off)) h)
   where
-    go : (b : Bool) (change : Change) (place : Place)
-        → ◌≡◌ {A = Result Plan Reply} (if b then Ok (PlanOf.Change change) else Ok (PlanOf.Place place)) (Ok (PlanOf.Touch touch)) → ⊥
+    go : (b : Bool) (change : Change) (place : Place) → ◌≡◌ {A = Result Plan Reply} (if b then Ok (PlanOf.Change change) else Ok (PlanOf.Place place)) (Ok (PlanOf.Touch touch)) → ⊥
     go true change place e = cc
     go false change place e = cc
 
@@ -141,6 +213,10 @@ status_told g c phase s e = put_both (λ d x s. status x ≡ s) g (λ d. status 
 going_inner : (c : ℕ) (e : Event) → IsGoing c e → IsInner e Stepped
 going_inner c e going = ((λ n. refl), refl)
 going_inner c e (picking f) = ((λ n. refl), refl)
+
+aiming_inner : (c : ℕ) (place : Place) (e : Event) (target : Target) → IsAiming c place e target → IsInner e Stepped
+aiming_inner c place e target (at_run p run) = ((λ n. refl), refl)
+aiming_inner c place e target at_window = ((λ n. refl), refl)
 
 inner_of : (e f : Event) → e ≡ f → IsInner f Stepped → IsInner e Stepped
 inner_of e f same i = subst (λ x. IsInner x Stepped) (sym same) i
@@ -191,36 +267,6 @@ with_reply w e c held reply t h m v i was k =
 
 -- ---- the shapes
 
-locked_asked : (goal : Goal) (b : ℕ) → status (locked_to goal b) ≡ Asked
-locked_asked goal b = go goal (nat_le (goal_range goal).end b)
-  where
-    go : (goal : Goal) (p : Bool) → status (cond p (all_locked goal) (Lock goal b)) ≡ Asked
-    go (To.Change change) true = refl
-    go (To.Access touch) true = refl
-    go goal false = refl
-
-same : (w : World) (c : ℕ) (old new : Phase) → w.calls.phase c ≡ old → status new ≡ status old → status new ≡ statuses w c
-same w c old new e h = h ∙ sym (ap status e)
-
-moves_same : (w : World) (c : ℕ) (new : Phase) → Moves w c new → status new ≡ statuses w c
-moves_same w c new (locks request change e n k) = ap status n ∙ sym (ap status e)
-moves_same w c new (tries request touch e n k) = ap status n ∙ sym (ap status e)
-moves_same w c new (acts change range shoot e n d) = ap status n ∙ sym (ap status e)
-moves_same w c new (finds touch f e n u) = ap status n ∙ sym (ap status e)
-moves_same w c new (lacks touch old e n u d) = ap status n ∙ sym (ap status e)
-moves_same w c new (shows touch e n u d) = ap status n ∙ sym (ap status e)
-
-replies_asked : (w : World) (c : ℕ) (held : Option PageRange) (reply : Reply) → Replies w c held reply → statuses w c ≡ Asked
-replies_asked w c held reply (refuses request e h k) = ap status e
-replies_asked w c held reply (no_place request place e h r k) = ap status e
-replies_asked w c held reply (declines change errno e h r d) = ap status e
-replies_asked w c held reply (fails touch e h f) = ap status e
-replies_asked w c held reply (no_frame touch old e h r f) = ap status e
-
-taken_asked : (touch : Touch) (old : Option ℕ) (f : ℕ) → status (taken_for touch old f) ≡ Asked
-taken_asked touch None f = refl
-taken_asked touch (Some g) f = refl
-
 -- only a store gives a private page a copy
 stores : (back : Back) (access : Access) → is_private_store back access ≡ true → access ≡ Store
 stores (Private n k) Store h = refl
@@ -231,20 +277,26 @@ stores Anon access h = absurd cc
 
 lets_go_same : (old : Phase) (held : PageRange) (b : ℕ) (new : Phase) → LetsGo old held b new → status new ≡ status old
 lets_go_same old held b new (unlocks reply e n) = ap status n ∙ told_in (held_after held b) reply ∙ sym (ap status e)
+lets_go_same old held b new (returns place target e n) = ap status n ∙ (back_quiet place target (held_after held b)).asked ∙ sym (ap status e)
 lets_go_same old held b new (releases touch e h n) = ap status n ∙ sym (ap status e)
 
 step_effect : (w : World) (e : Event) (c : ℕ) (v : World) → IsOrderly w → IsInner e Stepped → GoesBy w c v → Effect w e Stepped v
-step_effect w e c v g i (moves new m h) = goes_on w e c new w.slots w.hardware w.memory v i (moves_same w c new m) h
+step_effect w e c v g i (moves new m h) =
+    let (old, now) = moves_quiet w c new m in
+    goes_on w e c new w.slots w.hardware w.memory v i (now.asked ∙ sym old.asked) h
 step_effect w e c v g i (divides goal cursor t k s h) = beside w e t w.hardware w.memory v i h
-step_effect w e c v g i (owns goal cursor b t k l h) = goes_on w e c (locked_to goal b) t w.hardware w.memory v i (locked_asked goal b ∙ sym (ap status k)) h
+step_effect w e c v g i (cuts place target range t k s h) = beside w e t w.hardware w.memory v i h
+step_effect w e c v g i (fits place target range k cut h) =
+    goes_on w e c (At.Acks (To.Place place target) (Put range place.meta)) w.slots w.hardware w.memory v i (sym (ap status k)) h
+step_effect w e c v g i (owns goal cursor b t k l h) = goes_on w e c (locked_to goal b) t w.hardware w.memory v i ((locked_quiet goal b).asked ∙ sym (ap status k)) h
 step_effect w e c v g i (lets_go held b t new l u h) = goes_on w e c new t w.hardware w.memory v i (lets_go_same (w.calls.phase c) held b new l) h
-step_effect w e c v g i (answers held reply r h) = with_reply w e c held reply w.slots w.hardware w.memory v i (replies_asked w c held reply r) h
+step_effect w e c v g i (answers held reply r h) = with_reply w e c held reply w.slots w.hardware w.memory v i (replies_quiet w c held reply r).asked h
 step_effect w e c v g i (posts change shoot k h) =
-    goes_on w e c (At.Acks change (range_of change)) w.slots (after_post c change shoot w).hardware w.memory v i (sym (ap status k)) h
-step_effect w e c v g i (commits change held counts k n l h) =
-    with_reply w e c (Some held) (reply_to change) (slots_after change w.slots) w.hardware (with_counts counts w).memory v i (ap status k) h
+    goes_on w e c (At.Acks (To.Change change) change) w.slots (after_post c change shoot w).hardware w.memory v i (sym (ap status k)) h
+step_effect w e c v g i (commits goal change counts k n l h) =
+    with_reply w e c (Some (goal_range goal)) (reply_to change) (slots_after change w.slots) w.hardware (with_counts counts w).memory v i (ap status k) h
 step_effect w e c v g i (takes touch old f k l h) =
-    goes_on w e c (taken_for touch old f) w.slots w.hardware (after_frame c touch old f w).memory v i (taken_asked touch old f ∙ sym (ap status k)) h
+    goes_on w e c (taken_for touch old f) w.slots w.hardware (after_frame c touch old f w).memory v i ((taken_asked touch old f).0 ∙ sym (ap status k)) h
 step_effect w e c v g i (zeroes touch f counts k b l h) =
     goes_on w e c (Install touch) (after_zeros c touch f counts w).slots w.hardware (after_zeros c touch f counts w).memory v i (sym (ap status k)) h
 step_effect w e c v g i (first_copies touch f counts k store l h) =
@@ -253,8 +305,7 @@ step_effect w e c v g i (first_copies touch f counts k store l h) =
 step_effect w e c v g i (caches touch f counts k s n l h) =
     goes_on w e c (Install touch) (after_caching c touch f counts w).slots w.hardware (after_caching c touch f counts w).memory v i (sym (ap status k)) h
 step_effect w e c v g i (shares touch own x counts k s n l h) =
-    goes_on w e c (Install touch) (after_sharing c touch own x counts w).slots w.hardware (after_sharing c touch own x counts w).memory v i
-    (sym (ap status k)) h
+    goes_on w e c (Install touch) (after_sharing c touch own x counts w).slots w.hardware (after_sharing c touch own x counts w).memory v i (sym (ap status k)) h
 step_effect w e c v g i (posts_copy touch f k h) =
     goes_on w e c (At.CopyAcks touch f) w.slots (after_copy_post c touch f w).hardware w.memory v i (sym (ap status k)) h
 step_effect w e c v g i (copies touch f x counts k n at l h) =
@@ -284,6 +335,10 @@ work_effect w e c v i (frees j f counts k h) = beside w e w.slots w.hardware v.m
 given_up_asked : (phase : Phase) → can_give_up phase ≡ true → status phase ≡ Asked
 given_up_asked (At.Check r) h = refl
 given_up_asked (At.Lock goal cursor) h = refl
+given_up_asked (At.Guess place) h = refl
+given_up_asked (At.Find place target) h = refl
+given_up_asked (At.Back place target held) h = refl
+given_up_asked (At.Cut place target range) h = refl
 given_up_asked (At.Decide change) h = refl
 given_up_asked (At.Post change shoot) h = refl
 given_up_asked (At.Try touch) h = refl
@@ -295,16 +350,18 @@ given_up_asked (At.Fill touch f) h = refl
 given_up_asked (At.Install touch) h = refl
 given_up_asked (At.Release touch) h = refl
 given_up_asked At.Free h = absurd cc
-given_up_asked (At.Acks change held) h = absurd cc
+given_up_asked (At.Acks goal change) h = absurd cc
 given_up_asked (At.Unlock held reply) h = absurd cc
 given_up_asked (At.Answer reply) h = absurd cc
 
 pub effect_of : (w : World) (e : Event) (o : Outcome) (v : World) → IsOrderly w → Shape w e o v → Effect w e o v
-effect_of w e o v g (rests r h) = subst (Effect w e o) (sym h)
-    (keeps (rests_inner w e o r) (record { events = refl; requests = refl; number = refl }) refl (λ d. refl))
+effect_of w e o v g (rests r h) = subst (Effect w e o) (sym h) (keeps (rests_inner w e o r) (record { events = refl; requests = refl; number = refl }) refl (λ d. refl))
 effect_of w e o v g (begins c request i s lt p below h) = opens c request i s (ap status p) h
 effect_of w e o v g (ends c reply i s lt p h) = closes c reply i s (ap status p) h
 effect_of w e o v g (goes c i s lt k) = subst (λ o. Effect w e o v) (sym s) (step_effect w e c v g (going_inner c e i) k)
+effect_of w e o v g (aims c place target a s lt p h) =
+    subst (λ o. Effect w e o v) (sym s)
+    (goes_on w e c (trying place target) w.slots w.hardware w.memory v (aiming_inner c place e target a) (sym (ap status p)) h)
 effect_of w e o v g (gives_up c i s lt can u h) =
     subst (λ o. Effect w e o v) (sym s)
     (with_reply w e c (still_held (w.calls.phase c)) NoMemory w.slots w.hardware

@@ -44,7 +44,7 @@ new : IsNew slots
 new = record { unmapped = λ p. refl; free = λ p. refl }
 
 has_brackets : IsBracketed events outcomes ran.0
-has_brackets = bracketed made slots events outcomes ran.0 new ran.1
+has_brackets = bracketed made slots events outcomes ran.0 (omega arith) new ran.1
 
 began : calls_of events outcomes ≡ record { core = 0; request = empty; step = 1 } ∷ []
 began = refl

@@ -9,8 +9,9 @@ pub mod Counted
 pub mod Owned
 pub mod Asked
 pub mod Opening
-pub mod Begun
-pub mod Beside
+pub mod Going
+pub mod Locking
+pub mod Paging
 pub mod Kept
 pub mod Effects
 pub mod Bracketed

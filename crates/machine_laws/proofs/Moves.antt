@@ -5,6 +5,7 @@ use Rattle.vm_base.specs.declared.info.Back.TheVariants.{Anon, Shared, Private}
 use Rattle.vm_base.specs.declared.info.PageInfo.{PageInfo}
 use Rattle.vm_base.specs.declared.page.PageRange.{PageRange}
 use Rattle.vm_base.specs.declared.rights.Access.{Access}
+use Rattle.vm_calls.specs.declared.decision.Decision.TheVariants.{Act}
 use Rattle.vm_calls.specs.Settling.{is_cached}
 use Rattle.vm_base.specs.declared.replies.Reply.{Reply}
 use Rattle.vm_base.specs.declared.requests.Request.{Request}
@@ -12,18 +13,21 @@ use Rattle.vm_base.specs.Functions.{put, has}
 use Rattle.vm_base.specs.Pages.{IsPageRange}
 use Rattle.vm_base.specs.Plain.{File}
 use Rattle.vm_base.proofs.Functions.{put_all, in_has}
+use Rattle.slot_lock.specs.declared.plan.Goal.{Goal}
+use Rattle.slot_lock.specs.declared.plan.Goal.TheVariants as To
 use Rattle.slot_lock.specs.declared.plan.Touch.{Touch}
+use Rattle.slot_lock.specs.Plan.{range_of, goal_range}
 use Rattle.slot_lock.specs.Slots.{Slots}
 use Rattle.machine_model.specs.declared.log.Entry.{Entry}
 use Rattle.machine_model.specs.declared.phase.Phase.{Phase}
-use Rattle.machine_model.specs.declared.phase.Phase.TheVariants.{Free, Check, Lock, Decide, Post, Acks, Unlock, Answer, Try, Settle, Want, Fill, CopyPost, CopyAcks, Install, Release}
+use Rattle.machine_model.specs.declared.phase.Phase.TheVariants.{Free, Check, Lock, Guess, Find, Back as Leaving, Cut, Decide, Post, Acks, Unlock, Answer, Try, Settle, Want, Fill, CopyPost, CopyAcks, Install, Release}
 use Rattle.machine_model.specs.World.{World, Made, Memory}
 use Rattle.machine_model.specs.declared.log.Entry.TheVariants.{Answer as Told, Detach}
 use Rattle.machine_model.specs.Actions.{let_go}
 use Rattle.machine_model.specs.Files.{back_of, file_frame, shows_file}
-use Rattle.machine_model.specs.Holding.{holds, some_has, range_held, taken_in, is_open, page_of_touch}
-use Rattle.machine_laws.specs.Orderly.{Order, IsOrderly, IsAsked, IsCutFor, IsReady, IsUsable, IsCopyDue, IsWanted, IsFillable, BelongsTo, IsMemory, answer_count}
-use Rattle.machine_laws.proofs.Deciding.{decides_kept}
+use Rattle.machine_model.specs.Holding.{holds, some_has, range_held, awaits_in, taken_in, is_open, page_of_touch}
+use Rattle.machine_laws.specs.Orderly.{Order, IsOrderly, IsAsked, IsCutFor, IsReady, IsUsable, IsCopyDue, IsWanted, IsFillable, IsChosen, BelongsTo, IsMemory, answer_count}
+use Rattle.machine_laws.proofs.Deciding.{decides_kept, acts_in}
 use Rattle.machine_laws.proofs.OpenCalls.{one, open_put}
 
 -- ---- one call
@@ -34,6 +38,7 @@ pub record IsCall (made : Made) (s : Slots) (cached : ℕ → ℕ → Option ℕ
   pub owned : (p : ℕ) → holds phase p ≡ true → s.owner p ≡ Some c
   pub only : (p : ℕ) → s.owner p ≡ Some c → holds phase p ≡ true
   pub cut : IsCutFor s.edge (range_held phase)
+  pub cut_out : IsCutFor s.edge (awaits_in phase)
   pub ready : IsReady made s cached phase
   pub taken : (f : ℕ) → taken_in phase ≡ Some f → f < made.frames
 
@@ -43,7 +48,7 @@ IsCallOf w c phase = IsCall w.made w.slots w.memory.cached w.calls.requests c (w
 
 pub call_at : (w : World) (c : ℕ) (phase : Phase) → w.calls.phase c ≡ phase → IsOrderly w → IsCallOf w c phase
 call_at w c phase e g =
-    subst (IsCallOf w c) e (record { asked = g.asked c; owned = g.owned c; only = g.only c; cut = g.cut c; ready = g.ready c; taken = g.taken c })
+    subst (IsCallOf w c) e (record { asked = g.asked c; owned = g.owned c; only = g.only c; cut = g.cut c; cut_out = g.cut_out c; ready = g.ready c; taken = g.taken c })
 
 -- ---- a step of core c changes only what c owns, and adds edges
 
@@ -118,9 +123,13 @@ ready_cached made s cached now keeps (CopyAcks touch frame) h = (h.0, h.1, copy_
 ready_cached made s cached now keeps Free h = h
 ready_cached made s cached now keeps (Check request) h = h
 ready_cached made s cached now keeps (Lock goal cursor) h = h
+ready_cached made s cached now keeps (Guess place) h = h
+ready_cached made s cached now keeps (Find place target) h = h
+ready_cached made s cached now keeps (Leaving place target held) h = h
+ready_cached made s cached now keeps (Cut place target range) h = h
 ready_cached made s cached now keeps (Decide change) h = h
 ready_cached made s cached now keeps (Post change shoot) h = h
-ready_cached made s cached now keeps (Acks change held) h = h
+ready_cached made s cached now keeps (Acks goal change) h = h
 ready_cached made s cached now keeps (Unlock held reply) h = h
 ready_cached made s cached now keeps (Answer reply) h = h
 ready_cached made s cached now keeps (Try touch) h = h
@@ -128,30 +137,59 @@ ready_cached made s cached now keeps (Settle touch) h = h
 ready_cached made s cached now keeps (Install touch) h = h
 ready_cached made s cached now keeps (Release touch) h = h
 
+chosen_kept : (made : Made) (s t : Slots) (goal : Goal) (range : PageRange) → ((p : ℕ) → has (goal_range goal) p ≡ true → t.info p ≡ s.info p)
+    → IsChosen made s goal range → IsChosen made t goal range
+chosen_kept made s t goal range same h = (h.0, decides_kept made.file s t goal (Act range h.0) same h.1)
+
 -- where the pages that the call holds have the same
 pub ready_kept : (made : Made) (s t : Slots) (cached : ℕ → ℕ → Option ℕ) (phase : Phase)
     → ((p : ℕ) → holds phase p ≡ true → t.info p ≡ s.info p) → IsReady made s cached phase → IsReady made t cached phase
-ready_kept made s t cached (Post change shoot) same h = decides_kept made.file s t change _ same h
-ready_kept made s t cached (Acks change held) same h =
-    (h.0, (h.1.0, decides_kept made.file s t change _ (λ p i. same p (subst (λ r. has r p ≡ true) (sym h.0) i)) h.1.1))
+ready_kept made s t cached (Cut place target range) same h = (h.0, chosen_kept made s t (To.Place place target) range same h.1)
+ready_kept made s t cached (Post change shoot) same h = decides_kept made.file s t (To.Change change) _ same h
+ready_kept made s t cached (Acks goal change) same h = (h.0, h.1, chosen_kept made s t goal (range_of change) same h.2)
 ready_kept made s t cached (Want touch old) same h =
     subst (λ o. IsUsable made.file o touch.access old × IsWanted cached o touch.access old) (sym (same touch.page (page_is touch))) h
 ready_kept made s t cached (Fill touch frame) same h =
     subst (λ o. IsUsable made.file o touch.access None × IsFillable cached o touch.access frame) (sym (same touch.page (page_is touch))) h
-ready_kept made s t cached (CopyPost touch frame) same h = copying_kept made cached touch (s.info touch.page) (t.info touch.page)
-    (same touch.page (page_is touch)) h
-ready_kept made s t cached (CopyAcks touch frame) same h = copying_kept made cached touch (s.info touch.page) (t.info touch.page)
-    (same touch.page (page_is touch)) h
+ready_kept made s t cached (CopyPost touch frame) same h = copying_kept made cached touch (s.info touch.page) (t.info touch.page) (same touch.page (page_is touch)) h
+ready_kept made s t cached (CopyAcks touch frame) same h = copying_kept made cached touch (s.info touch.page) (t.info touch.page) (same touch.page (page_is touch)) h
 ready_kept made s t cached (Install touch) same h = (h.0, usable_kept made.file s t touch (Some h.0) same h.1)
 ready_kept made s t cached Free same h = h
 ready_kept made s t cached (Check request) same h = h
 ready_kept made s t cached (Lock goal cursor) same h = h
+ready_kept made s t cached (Guess place) same h = h
+ready_kept made s t cached (Find place target) same h = h
+ready_kept made s t cached (Leaving place target held) same h = h
 ready_kept made s t cached (Decide change) same h = h
 ready_kept made s t cached (Unlock held reply) same h = h
 ready_kept made s t cached (Answer reply) same h = h
 ready_kept made s t cached (Try touch) same h = h
 ready_kept made s t cached (Settle touch) same h = h
 ready_kept made s t cached (Release touch) same h = h
+
+-- what changes once other cores have acknowledged is held
+pub awaits_held : (made : Made) (s : Slots) (cached : ℕ → ℕ → Option ℕ) (phase : Phase) (p : ℕ) → IsReady made s cached phase → some_has (awaits_in phase) p ≡ true
+    → holds phase p ≡ true
+awaits_held made s cached (Acks goal change) p r h = acts_in made.file s goal (range_of change) r.2.0 p r.2.1 h
+awaits_held made s cached (CopyAcks touch frame) p r h = h
+awaits_held made s cached Free p r h = absurd cc
+awaits_held made s cached (Check request) p r h = absurd cc
+awaits_held made s cached (Lock goal cursor) p r h = absurd cc
+awaits_held made s cached (Guess place) p r h = absurd cc
+awaits_held made s cached (Find place target) p r h = absurd cc
+awaits_held made s cached (Leaving place target held) p r h = absurd cc
+awaits_held made s cached (Cut place target range) p r h = absurd cc
+awaits_held made s cached (Decide change) p r h = absurd cc
+awaits_held made s cached (Post change shoot) p r h = absurd cc
+awaits_held made s cached (Unlock held reply) p r h = absurd cc
+awaits_held made s cached (Answer reply) p r h = absurd cc
+awaits_held made s cached (Try touch) p r h = absurd cc
+awaits_held made s cached (Settle touch) p r h = absurd cc
+awaits_held made s cached (Want touch old) p r h = absurd cc
+awaits_held made s cached (Fill touch frame) p r h = absurd cc
+awaits_held made s cached (CopyPost touch frame) p r h = absurd cc
+awaits_held made s cached (Install touch) p r h = absurd cc
+awaits_held made s cached (Release touch) p r h = absurd cc
 
 other_call : (made : Made) (s t : Slots) (cached now : ℕ → ℕ → Option ℕ) (requests : List Request) (c d call : ℕ) (phase : Phase) → d ≢ c
     → Touches s t c → KeepsCached cached now → IsCall made s cached requests d call phase → IsCall made t now requests d call phase
@@ -160,6 +198,7 @@ other_call made s t cached now requests c d call phase ne h keeps k = record {
   owned = λ p i. h.still d p ne (k.owned p i);
   only = λ p i. k.only p (h.now d p ne i);
   cut = cut_kept s.edge t.edge h.edge (range_held phase) k.cut;
+  cut_out = cut_kept s.edge t.edge h.edge (awaits_in phase) k.cut_out;
   ready = ready_cached made t cached now keeps phase
       (ready_kept made s t cached phase (λ p i. h.info p (λ e. ne (let a = k.owned p i in cc))) k.ready);
   taken = k.taken;
@@ -177,11 +216,13 @@ moved w c new t m log g lt touches keeps call pages memory more = record {
   owned = λ d. (calls d).owned;
   only = λ d. (calls d).only;
   cut = λ d. (calls d).cut;
+  cut_out = λ d. (calls d).cut_out;
   ready = λ d. (calls d).ready;
   pages = pages;
   taken = λ d. (calls d).taken;
   memory = memory;
   outside = put_all (λ d x. w.made.cores ≤ d → x ≡ Free) w.calls.phase c new (λ h. absurd (omega (arith, h, lt))) (λ d ne. g.outside d);
+  few = g.few;
   room = let a = open_put w.calls.phase c new w.made.cores lt in let b = g.room in omega (arith, a, b, more);
   limit = g.limit;
 }
@@ -234,17 +275,27 @@ tells w c held reply t m step call core g lt was touches keeps its pages memory 
 
 -- ---- a call that holds the same pages as before
 
-pub same_pages : (w : World) (c : ℕ) (old new : Phase) → IsCallOf w c old → range_held new ≡ range_held old
-    → IsAsked w.made w.calls.requests c (w.calls.number c) new
-    → IsReady w.made w.slots w.memory.cached new → ((f : ℕ) → taken_in new ≡ Some f → f < w.made.frames) → IsCallOf w c new
-same_pages w c old new k same asked ready taken = record {
+-- over pages that have this
+pub same_range : (w : World) (c : ℕ) (old new : Phase) (info : ℕ → Option PageInfo) (cached : ℕ → ℕ → Option ℕ) → IsCallOf w c old
+    → range_held new ≡ range_held old → IsCutFor w.slots.edge (awaits_in new)
+    → IsAsked w.made w.calls.requests c (w.calls.number c) new → IsReady w.made (record w.slots { info = info }) cached new
+    → ((f : ℕ) → taken_in new ≡ Some f → f < w.made.frames)
+    → IsCall w.made (record w.slots { info = info }) cached w.calls.requests c (w.calls.number c) new
+same_range w c old new info cached k same out asked ready taken = record {
   asked = asked;
   owned = λ p h. k.owned p (sym (ap (λ r. some_has r p) same) ∙ h);
   only = λ p h. ap (λ r. some_has r p) same ∙ k.only p h;
   cut = subst (IsCutFor w.slots.edge) (sym same) k.cut;
+  cut_out = out;
   ready = ready;
   taken = taken;
 }
+
+-- over pages that have what they had
+pub same_pages : (w : World) (c : ℕ) (old new : Phase) → IsCallOf w c old → range_held new ≡ range_held old → IsCutFor w.slots.edge (awaits_in new)
+    → IsAsked w.made w.calls.requests c (w.calls.number c) new
+    → IsReady w.made w.slots w.memory.cached new → ((f : ℕ) → taken_in new ≡ Some f → f < w.made.frames) → IsCallOf w c new
+same_pages w c old new = same_range w c old new w.slots.info w.memory.cached
 
 -- a call that has a reply has taken no frame, and asks for nothing more
 pub none_taken : (held : Option PageRange) (reply : Reply) (f : ℕ) → taken_in (let_go held reply) ≡ Some f → ⊥
@@ -259,6 +310,10 @@ asked_gone made requests c call (Some held) reply = tt
 pub held_gone : (held : Option PageRange) (reply : Reply) → range_held (let_go held reply) ≡ held
 held_gone None reply = refl
 held_gone (Some held) reply = refl
+
+pub out_gone : (edge : ℕ → Bool) (held : Option PageRange) (reply : Reply) → IsCutFor edge (awaits_in (let_go held reply))
+out_gone edge None reply = tt
+out_gone edge (Some held) reply = tt
 
 -- what it still holds are valid pages
 abbrev pub IsHeldRange : Option PageRange → Type 0

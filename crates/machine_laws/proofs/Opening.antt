@@ -1,5 +1,5 @@
 -- A machine over new slots begins orderly.
-use Rattle.std.proofs.Common.{refl, subst, sym, arith}
+use Rattle.std.proofs.Common.{◌≤◌, refl, subst, sym, arith}
 use Rattle.std.proofs.lemmas.Bool.Decides.{nat_tests}
 use Rattle.slot_lock.specs.Slots.{Slots, IsNew}
 use Rattle.refcache.specs.Counts.{no_counts}
@@ -9,12 +9,13 @@ use Rattle.machine_laws.specs.Orderly.{IsOrderly, BelongsTo}
 use Rattle.machine_laws.proofs.OpenCalls.{open_none}
 use Rattle.machine_laws.proofs.Owned.{unmapped_belongs}
 
-pub opening_is_orderly : (made : Made) (slots : Slots) → IsNew slots → IsOrderly (new_world made slots)
-opening_is_orderly made slots new = record {
+pub opening_is_orderly : (made : Made) (slots : Slots) → made.cores ≤ 64 → IsNew slots → IsOrderly (new_world made slots)
+opening_is_orderly made slots few new = record {
   asked = λ c. tt;
   owned = λ c p h. absurd cc;
   only = λ c p h. absurd (let e = new.free p in cc);
   cut = λ c. tt;
+  cut_out = λ c. tt;
   ready = λ c. tt;
   pages = λ p. subst (BelongsTo made p) (sym (new.unmapped p)) (unmapped_belongs made p);
   taken = λ c f h. absurd cc;
@@ -26,6 +27,7 @@ opening_is_orderly made slots new = record {
     objects = refl;
   };
   outside = λ c h. refl;
+  few = few;
   room = let e = open_none made.cores in omega (arith, e);
   limit = omega arith;
 }

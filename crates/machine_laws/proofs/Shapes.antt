@@ -1,7 +1,7 @@
 -- What a step is: it changes nothing, begins a call, ends one, or is one of a few things that a call in some phase does. Every
 -- statement on steps is shown shape by shape, so that no row of the machine is taken apart twice.
-use Rattle.std.proofs.Common.{◌≡◌, ◌≢◌, ℕ, sym, ap, subst, ◌∙◌, ◌<◌, inl, inr, Bool, true, false, cond, refl, arith, Some, None, Option, Result, Ok, Err, [], length}
-use Rattle.std.specs.Prelude.{nat_lt, ◌&&◌, ◌||◌, is_some, if◌then◌else◌}
+use Rattle.std.proofs.Common.{◌≡◌, ◌≢◌, ℕ, sym, ap, subst, ◌∙◌, ◌+◌, ◌<◌, ◌≤◌, inl, inr, Bool, true, false, cond, refl, arith, Some, None, Option, Result, Ok, Err, [], length}
+use Rattle.std.specs.Prelude.{nat_lt, nat_le, ◌&&◌, ◌||◌, is_some, if◌then◌else◌}
 use Rattle.std.proofs.lemmas.Bool.Decides.{nat_tests}
 use Rattle.vm_base.specs.declared.info.Back.{Back}
 use Rattle.vm_base.specs.declared.info.Back.TheVariants.{Anon, Shared, Private}
@@ -12,13 +12,14 @@ use Rattle.vm_base.specs.declared.rights.Access.TheVariants.{Load, Store, Fetch}
 use Rattle.vm_base.specs.Apply.{is_anonymous}
 use Rattle.vm_base.specs.Info.{frame_of}
 use Rattle.vm_base.specs.declared.replies.Errno.{Errno}
-use Rattle.vm_base.specs.declared.replies.Errno.TheVariants.{ENOMEM}
 use Rattle.vm_base.specs.declared.replies.SegvCode.TheVariants as Code
 use Rattle.vm_base.specs.declared.replies.Reply.{Reply}
 use Rattle.vm_base.specs.declared.replies.Reply.TheVariants as ReplyOf
 use Rattle.vm_base.specs.declared.requests.Request.{Request}
 use Rattle.vm_base.specs.Plain.{File}
-use Rattle.vm_base.specs.Pages.{IsPage}
+use Rattle.vm_base.specs.Pages.{IsPage, pages_from}
+use Rattle.vm_base.specs.Places.{IsLeastRoom}
+use Rattle.vm_base.specs.Plain.{is_mapped}
 use Rattle.vm_base.specs.Rights.{is_allowed}
 use Rattle.mmu.specs.Tlb.{tlb_at}
 use Rattle.refcache.specs.declared.reports.Flush.{Flush}
@@ -31,19 +32,27 @@ use Rattle.shootdown.specs.declared.message.Took.{Took}
 use Rattle.shootdown.specs.declared.message.Took.TheVariants as took
 use Rattle.shootdown.specs.Messages.{asked, remaining}
 use Rattle.slot_lock.specs.declared.plan.Change.{Change}
+use Rattle.slot_lock.specs.declared.plan.Change.TheVariants.{Put, Clear, Protect}
+use Rattle.slot_lock.specs.declared.plan.Goal.{Goal}
+use Rattle.slot_lock.specs.declared.plan.Goal.TheVariants as To
 use Rattle.slot_lock.specs.declared.plan.Place.{Place}
 use Rattle.slot_lock.specs.declared.plan.Plan.{Plan}
 use Rattle.slot_lock.specs.declared.plan.Plan.TheVariants as PlanOf
+use Rattle.slot_lock.specs.declared.plan.Target.{Target}
+use Rattle.slot_lock.specs.declared.plan.Target.TheVariants.{Hint, Run, Window}
 use Rattle.slot_lock.specs.declared.plan.Touch.{Touch}
+use Rattle.slot_lock.specs.declared.slot_map.Fit.{Fit}
+use Rattle.slot_lock.specs.declared.slot_map.Fit.TheVariants as fit
 use Rattle.slot_lock.specs.declared.slot_map.Got.{Got}
 use Rattle.slot_lock.specs.declared.slot_map.Got.TheVariants.{Split, Locked, Held}
-use Rattle.slot_lock.specs.Plan.{range_of}
-use Rattle.slot_lock.specs.Slots.{Slots, Steps, Splits, Locks, Unlocks, Joins, IsSlotMap}
+use Rattle.slot_lock.specs.Plan.{range_of, target_range, goal_range, IsRunOf, IsTarget}
+use Rattle.slot_lock.specs.Slots.{Slots, Steps, Splits, Locks, Unlocks, Joins, IsSlotMap, Cuts, IsCut, CutSteps}
 use Rattle.vm_calls.specs.declared.decision.Decision.{Decision}
-use Rattle.vm_calls.specs.declared.decision.Decision.TheVariants.{Refuse, Act}
+use Rattle.vm_calls.specs.declared.decision.Decision.TheVariants.{Refuse, Act, Again}
 use Rattle.vm_calls.specs.declared.fault.Settled.{Settled}
 use Rattle.vm_calls.specs.declared.fault.Settled.TheVariants.{MapErr, AccErr, Bus, Has, Copies, Cached, Wants}
-use Rattle.vm_calls.specs.Decisions.{Decides}
+use Rattle.vm_calls.specs.Decisions.{Decides, entries}
+use Rattle.vm_calls.specs.Decisions.DecidesProtect.{no_page, no_write, acts as protects}
 use Rattle.vm_calls.specs.Settling.{settled, source, is_cached, is_private_store}
 use Rattle.machine_model.specs.declared.event.Blocker.TheVariants as WaitsFor
 use Rattle.machine_model.specs.declared.event.Event.{Event}
@@ -51,10 +60,8 @@ use Rattle.machine_model.specs.declared.event.Event.TheVariants as EventOf
 use Rattle.machine_model.specs.declared.event.Event.TheVariants.{Call, Go}
 use Rattle.machine_model.specs.declared.event.Outcome.{Outcome}
 use Rattle.machine_model.specs.declared.event.Outcome.TheVariants.{Stepped, Idle, Answered, Full, Wait}
-use Rattle.machine_model.specs.declared.phase.Goal.{Goal}
-use Rattle.machine_model.specs.declared.phase.Goal.TheVariants as To
 use Rattle.machine_model.specs.declared.phase.Phase.{Phase}
-use Rattle.machine_model.specs.declared.phase.Phase.TheVariants.{Free, Check, Lock, Decide, Post, Acks, Unlock, Answer, Try, Settle, Want, Fill, CopyPost, CopyAcks, Install, Release}
+use Rattle.machine_model.specs.declared.phase.Phase.TheVariants.{Free, Check, Lock, Guess, Find, Back as Leaving, Cut, Decide, Post, Acks, Unlock, Answer, Try, Settle, Want, Fill, CopyPost, CopyAcks, Install, Release}
 use Rattle.machine_model.specs.Accesses.{after_translation, found_at, is_past_end, after_finding, NoneFree, TakesFrame, TakesThisFrame, after_frame, after_install, after_access}
 use Rattle.machine_model.specs.Files.{back_of, file_frame}
 use Rattle.machine_model.specs.Filling.{FillsFromFile, FillsBacked, after_zeros, after_first_copy, after_caching, after_sharing, after_copy_post, after_copy, CountsCopy, CopiesNext}
@@ -63,8 +70,9 @@ use Rattle.machine_model.specs.Changes.{checked_by, after_plan, after_decision, 
 use Rattle.machine_model.specs.Counting.{with_counts, with_free, ReportsFlush, ReportsReview}
 use Rattle.machine_model.specs.GivingUp.{GivesUp, after_give_up}
 use Rattle.machine_model.specs.Events.{core_of}
-use Rattle.machine_model.specs.Holding.{goal_range, page_of_touch, awaits_in, can_give_up}
+use Rattle.machine_model.specs.Holding.{page_of_touch, awaits_in, can_give_up}
 use Rattle.machine_model.specs.Locks.{locking, locked_to, held_after, LocksTo, FoldsAt}
+use Rattle.machine_model.specs.Placing.{placing, trying, guess_of, GuessesNext, GuessesThisRun, TakesWindow, after_guess, after_finding_place, back_to, after_cuts, CutsTo}
 use Rattle.machine_model.specs.Translating.{translated_by, frame_reached, after_translating, with_hardware, with_inbox, tables_cleared, tlb_invalidated, TakesMessage, can_walk, after_walk, Walks, after_eviction, Evicts}
 use Rattle.machine_model.specs.World.{World, Hardware}
 use Rattle.machine_model.specs.Step.{after_call, Begins, Goes, Acts, is_here, with_event, event_limit, Step}
@@ -88,8 +96,18 @@ pub data Moves (w : World) (c : ℕ) (new : Phase) : Type 0 where
       → checked_by w.made c request ≡ Ok (PlanOf.Change change) → Moves w c new
   tries : (request : Request) (touch : Touch) → w.calls.phase c ≡ Check request → new ≡ Try touch
       → checked_by w.made c request ≡ Ok (PlanOf.Touch touch) → Moves w c new
+  hints : (request : Request) (place : Place) (range : PageRange) → w.calls.phase c ≡ Check request → new ≡ trying place (Hint range)
+      → place.hint ≡ Some range → checked_by w.made c request ≡ Ok (PlanOf.Place place) → Moves w c new
+  seeks : (request : Request) (place : Place) → w.calls.phase c ≡ Check request → new ≡ Guess place
+      → checked_by w.made c request ≡ Ok (PlanOf.Place place) → Moves w c new
+  guesses : (place : Place) (found : Option ℕ) → w.calls.phase c ≡ Guess place → new ≡ trying place (guess_of place found)
+      → IsLeastRoom (is_mapped (entries w.slots)) place.window place.count found → Moves w c new
+  turns : (place : Place) (target : Target) → w.calls.phase c ≡ Find place target → new ≡ Leaving place target (target_range place target)
+      → Decides w.made.file w.slots (To.Place place target) Again → Moves w c new
+  chooses : (place : Place) (target : Target) (range : PageRange) (shoot : ℕ) → w.calls.phase c ≡ Find place target
+      → new ≡ Cut place target range → Decides w.made.file w.slots (To.Place place target) (Act range shoot) → Moves w c new
   acts : (change : Change) (range : PageRange) (shoot : ℕ) → w.calls.phase c ≡ Decide change → new ≡ Post change shoot
-      → Decides w.made.file w.slots (PlanOf.Change change) (Act range shoot) → Moves w c new
+      → Decides w.made.file w.slots (To.Change change) (Act range shoot) → Moves w c new
   finds : (touch : Touch) (f : ℕ) → w.calls.phase c ≡ Settle touch → new ≡ Install touch
       → IsUsable w.made.file (w.slots.info touch.page) touch.access (Some f) → Moves w c new
   lacks : (touch : Touch) (old : Option ℕ) → w.calls.phase c ≡ Settle touch → new ≡ Want touch old
@@ -109,10 +127,11 @@ IsFault _ reply = ⊥
 -- core c's call, which holds this, has its reply, and nothing else changes
 pub data Replies (w : World) (c : ℕ) (held : Option PageRange) (reply : Reply) : Type 0 where
   refuses : (request : Request) → w.calls.phase c ≡ Check request → held ≡ None → checked_by w.made c request ≡ Err reply → Replies w c held reply
-  no_place : (request : Request) (place : Place) → w.calls.phase c ≡ Check request → held ≡ None → reply ≡ ReplyOf.Refused ENOMEM
-      → checked_by w.made c request ≡ Ok (PlanOf.Place place) → Replies w c held reply
+  no_place : (place : Place) (target : Target) (errno : Errno) → w.calls.phase c ≡ Find place target
+      → held ≡ Some (target_range place target) → reply ≡ ReplyOf.Refused errno
+      → Decides w.made.file w.slots (To.Place place target) (Refuse errno) → Replies w c held reply
   declines : (change : Change) (errno : Errno) → w.calls.phase c ≡ Decide change → held ≡ Some (range_of change) → reply ≡ ReplyOf.Refused errno
-      → Decides w.made.file w.slots (PlanOf.Change change) (Refuse errno) → Replies w c held reply
+      → Decides w.made.file w.slots (To.Change change) (Refuse errno) → Replies w c held reply
   fails : (touch : Touch) → w.calls.phase c ≡ Settle touch → held ≡ Some (page_of_touch touch) → IsFault (found_at w touch) reply
       → Replies w c held reply
   no_frame : (touch : Touch) (old : Option ℕ) → w.calls.phase c ≡ Want touch old → held ≡ Some (page_of_touch touch) → reply ≡ ReplyOf.NoFrame
@@ -121,6 +140,8 @@ pub data Replies (w : World) (c : ℕ) (held : Option PageRange) (reply : Reply)
 -- a call in this phase lets the pages of what it holds up to b go, and goes on to the new phase
 pub data LetsGo (old : Phase) (held : PageRange) (b : ℕ) (new : Phase) : Type 0 where
   unlocks : (reply : Reply) → old ≡ Unlock held reply → new ≡ let_go (held_after held b) reply → LetsGo old held b new
+  returns : (place : Place) (target : Target) → old ≡ Leaving place target held → new ≡ back_to place target (held_after held b)
+      → LetsGo old held b new
   releases : (touch : Touch) → old ≡ Release touch → held ≡ page_of_touch touch → new ≡ Try touch → LetsGo old held b new
 
 -- the page is of a file, and the access is no store that would give it a copy of its own
@@ -133,14 +154,18 @@ pub data GoesBy (w : World) (c : ℕ) (v : World) : Type 0 where
   moves : (new : Phase) → Moves w c new → v ≡ to c new w → GoesBy w c v
   divides : (goal : Goal) (cursor : ℕ) (t : Slots) → w.calls.phase c ≡ Lock goal cursor → Splits w.slots t cursor (goal_range goal).end
       → v ≡ record w { slots = t } → GoesBy w c v
+  cuts : (place : Place) (target : Target) (range : PageRange) (t : Slots) → w.calls.phase c ≡ Cut place target range
+      → Cuts w.slots t c range → v ≡ record w { slots = t } → GoesBy w c v
+  fits : (place : Place) (target : Target) (range : PageRange) → w.calls.phase c ≡ Cut place target range → IsCut w.slots range
+      → v ≡ after_cuts c place target range w → GoesBy w c v
   owns : (goal : Goal) (cursor b : ℕ) (t : Slots) → w.calls.phase c ≡ Lock goal cursor → Locks w.slots t c cursor (goal_range goal).end b
       → v ≡ to c (locked_to goal b) (record w { slots = t }) → GoesBy w c v
   lets_go : (held : PageRange) (b : ℕ) (t : Slots) (new : Phase) → LetsGo (w.calls.phase c) held b new
       → Unlocks w.slots t c held.first held.end b → v ≡ to c new (record w { slots = t }) → GoesBy w c v
   answers : (held : Option PageRange) (reply : Reply) → Replies w c held reply → v ≡ after_reply c held reply w → GoesBy w c v
   posts : (change : Change) (shoot : ℕ) → w.calls.phase c ≡ Post change shoot → v ≡ after_post c change shoot w → GoesBy w c v
-  commits : (change : Change) (held : PageRange) (counts : Counts) → w.calls.phase c ≡ Acks change held → AwaitsNobody w.hardware c
-      → CountsLost c change w counts → v ≡ after_commit c change held counts w → GoesBy w c v
+  commits : (goal : Goal) (change : Change) (counts : Counts) → w.calls.phase c ≡ Acks goal change → AwaitsNobody w.hardware c
+      → CountsLost c change w counts → v ≡ after_commit c change (goal_range goal) counts w → GoesBy w c v
   takes : (touch : Touch) (old : Option ℕ) (f : ℕ) → w.calls.phase c ≡ Want touch old → w.memory.is_free f ≡ true
       → v ≡ after_frame c touch old f w → GoesBy w c v
   zeroes : (touch : Touch) (f : ℕ) (counts : Counts) → w.calls.phase c ≡ Fill touch (Some f)
@@ -185,6 +210,12 @@ pub data IsGoing (c : ℕ) : Event → Type 0 where
   going : IsGoing c (Go c)
   picking : (f : ℕ) → IsGoing c (EventOf.Frame c f)
 
+-- the events by which a placed mapping is given a target, and the target
+pub data IsAiming (c : ℕ) (place : Place) : Event → Target → Type 0 where
+  at_run : (p : ℕ) → IsRunOf place.window place.count (pages_from p place.count)
+      → IsAiming c place (EventOf.Guess c p) (Run (pages_from p place.count))
+  at_window : IsAiming c place (EventOf.Whole c) Window
+
 -- Why event e changes nothing: the machine lacks its core, its core has a call or has none, no call may begin any more, it isn't
 -- possible, another core holds the slot at the cursor, or other cores haven't acknowledged.
 pub data Rests (w : World) (e : Event) (o : Outcome) : Type 0 where
@@ -211,6 +242,8 @@ pub data Shape (w : World) (e : Event) (o : Outcome) (v : World) : Type 0 where
   ends : (c : ℕ) (reply : Reply) → e ≡ Go c → o ≡ Answered reply → c < w.made.cores → w.calls.phase c ≡ Answer reply
       → v ≡ to c Free w → Shape w e o v
   goes : (c : ℕ) → IsGoing c e → o ≡ Stepped → c < w.made.cores → GoesBy w c v → Shape w e o v
+  aims : (c : ℕ) (place : Place) (target : Target) → IsAiming c place e target → o ≡ Stepped → c < w.made.cores → w.calls.phase c ≡ Guess place
+      → v ≡ after_guess c place target w → Shape w e o v
   gives_up : (c : ℕ) → e ≡ EventOf.GiveUp c → o ≡ Stepped → c < w.made.cores → can_give_up (w.calls.phase c) ≡ true
       → IsUnawaited w.hardware c (w.calls.phase c) → v ≡ after_give_up c (w.calls.phase c) w → Shape w e o v
   works : (c : ℕ) → o ≡ Stepped → c < w.made.cores → Works w c e v → Shape w e o v
@@ -222,12 +255,19 @@ pub data Comes (w : World) (e : Event) (o : Outcome) (v : World) : Type 0 where
   stopped : nat_lt w.calls.events event_limit ≡ false → IsInner e o → v ≡ w → Comes w e o v
   acts : nat_lt w.calls.events event_limit ≡ true → Shape (with_event w) e o v → Comes w e o v
 
+-- the target is of the mapping
+pub aimed : (c : ℕ) (place : Place) (e : Event) (target : Target) → IsAiming c place e target → IsTarget place target
+aimed c place e target (at_run p run) = run
+aimed c place e target at_window = tt
+
 -- ---- every step has one
 
 inner_full : (e : Event) → IsInner e Full
 inner_full (Call c request) = ((λ n. refl), refl)
 inner_full (Go c) = ((λ n. refl), refl)
 inner_full (EventOf.Frame c f) = ((λ n. refl), refl)
+inner_full (EventOf.Guess c p) = ((λ n. refl), refl)
+inner_full (EventOf.Whole c) = ((λ n. refl), refl)
 inner_full (EventOf.Take c) = ((λ n. refl), refl)
 inner_full (EventOf.Walk c p) = ((λ n. refl), refl)
 inner_full (EventOf.Evict c p) = ((λ n. refl), refl)
@@ -240,6 +280,8 @@ inner_idle : (e : Event) → IsInner e Idle
 inner_idle (Call c request) = ((λ n. refl), refl)
 inner_idle (Go c) = ((λ n. refl), refl)
 inner_idle (EventOf.Frame c f) = ((λ n. refl), refl)
+inner_idle (EventOf.Guess c p) = ((λ n. refl), refl)
+inner_idle (EventOf.Whole c) = ((λ n. refl), refl)
 inner_idle (EventOf.Take c) = ((λ n. refl), refl)
 inner_idle (EventOf.Walk c p) = ((λ n. refl), refl)
 inner_idle (EventOf.Evict c p) = ((λ n. refl), refl)
@@ -271,9 +313,13 @@ call_shape w c request Free o v lt e h = go (nat_lt (length w.calls.requests) w.
     go false i k = rests (full c request refl i k.0) k.1
 call_shape w c request (Check r) o v lt e h = rests (busy c request refl (λ f. let a = sym e ∙ f in cc) h.0) h.1
 call_shape w c request (Lock goal cursor) o v lt e h = rests (busy c request refl (λ f. let a = sym e ∙ f in cc) h.0) h.1
+call_shape w c request (Guess place) o v lt e h = rests (busy c request refl (λ f. let a = sym e ∙ f in cc) h.0) h.1
+call_shape w c request (Find place target) o v lt e h = rests (busy c request refl (λ f. let a = sym e ∙ f in cc) h.0) h.1
+call_shape w c request (Leaving place target held) o v lt e h = rests (busy c request refl (λ f. let a = sym e ∙ f in cc) h.0) h.1
+call_shape w c request (Cut place target range) o v lt e h = rests (busy c request refl (λ f. let a = sym e ∙ f in cc) h.0) h.1
 call_shape w c request (Decide change) o v lt e h = rests (busy c request refl (λ f. let a = sym e ∙ f in cc) h.0) h.1
 call_shape w c request (Post change shoot) o v lt e h = rests (busy c request refl (λ f. let a = sym e ∙ f in cc) h.0) h.1
-call_shape w c request (Acks change held) o v lt e h = rests (busy c request refl (λ f. let a = sym e ∙ f in cc) h.0) h.1
+call_shape w c request (Acks goal change) o v lt e h = rests (busy c request refl (λ f. let a = sym e ∙ f in cc) h.0) h.1
 call_shape w c request (Unlock held reply) o v lt e h = rests (busy c request refl (λ f. let a = sym e ∙ f in cc) h.0) h.1
 call_shape w c request (Answer reply) o v lt e h = rests (busy c request refl (λ f. let a = sym e ∙ f in cc) h.0) h.1
 call_shape w c request (Try touch) o v lt e h = rests (busy c request refl (λ f. let a = sym e ∙ f in cc) h.0) h.1
@@ -289,11 +335,17 @@ call_shape w c request (Release touch) o v lt e h = rests (busy c request refl (
 step : (w : World) (c : ℕ) (o : Outcome) (v : World) → c < w.made.cores → o ≡ Stepped → GoesBy w c v → Shape w (Go c) o v
 step w c o v lt s g = goes c going s lt g
 
+-- by whether the mapping has a hint
+place_shape : (w : World) (c : ℕ) (request : Request) (place : Place) (hint : Option PageRange) (v : World) → w.calls.phase c ≡ Check request
+    → place.hint ≡ hint → checked_by w.made c request ≡ Ok (PlanOf.Place place) → v ≡ to c (placing place hint) w → GoesBy w c v
+place_shape w c request place None v e i k h = moves (Guess place) (seeks request place e refl k) h
+place_shape w c request place (Some range) v e i k h = moves (trying place (Hint range)) (hints request place range e refl i k) h
+
 check_shape : (w : World) (c : ℕ) (request : Request) (o : Outcome) (v : World) (r : Result Plan Reply) → w.calls.phase c ≡ Check request
     → checked_by w.made c request ≡ r
     → v ≡ after_plan c r w → GoesBy w c v
 check_shape w c request o v (Err reply) e k h = answers None reply (refuses request e refl k) h
-check_shape w c request o v (Ok (PlanOf.Place place)) e k h = answers None (ReplyOf.Refused ENOMEM) (no_place request place e refl refl k) h
+check_shape w c request o v (Ok (PlanOf.Place place)) e k h = place_shape w c request place place.hint v e refl k h
 check_shape w c request o v (Ok (PlanOf.Change change)) e k h = moves (locking (To.Change change)) (locks request change e refl k) h
 check_shape w c request o v (Ok (PlanOf.Touch touch)) e k h = moves (Try touch) (tries request touch e refl k) h
 
@@ -304,11 +356,50 @@ lock_shape w c goal cursor Split t o v lt e s h = step w c o v lt h.0 (divides g
 lock_shape w c goal cursor (Locked b) t o v lt e s h = step w c o v lt h.0 (owns goal cursor b t e s h.1)
 lock_shape w c goal cursor (Held by) t o v lt e s h = rests (waits c goal cursor by refl e s.0 s.1 h.0) h.1
 
+-- ---- a placed mapping
+
+run_of : (window : PageRange) (n first : ℕ) → window.first ≤ first → first + n ≤ window.end → IsRunOf window n (pages_from first n)
+run_of window n first low high = record { size = refl; low = low; high = high }
+
+pub guess_is_target : (mapped : ℕ → Bool) (place : Place) (found : Option ℕ) → IsLeastRoom mapped place.window place.count found
+    → IsTarget place (guess_of place found)
+guess_is_target mapped place None h = tt
+guess_is_target mapped place (Some first) h = run_of place.window place.count first h.0.0 h.0.1
+
+guess_shape : (w : World) (c : ℕ) (place : Place) (o : Outcome) (v : World) → c < w.made.cores → w.calls.phase c ≡ Guess place
+    → GuessesNext w c place o v → Shape w (Go c) o v
+guess_shape w c place o v lt e h = step w c o v lt h.2.0 (moves (trying place (guess_of place h.0)) (guesses place h.0 e refl h.1) h.2.1)
+
+find_shape : (w : World) (c : ℕ) (place : Place) (target : Target) (d : Decision) (v : World) → w.calls.phase c ≡ Find place target
+    → Decides w.made.file w.slots (To.Place place target) d → v ≡ after_finding_place c place target d w → GoesBy w c v
+find_shape w c place target (Refuse errno) v e d h =
+    answers (Some (target_range place target)) (ReplyOf.Refused errno) (no_place place target errno e refl refl d) h
+find_shape w c place target (Act range shoot) v e d h = moves (Cut place target range) (chooses place target range shoot e refl d) h
+find_shape w c place target Again v e d h = moves (Leaving place target (target_range place target)) (turns place target e refl d) h
+
+cut_shape : (w : World) (c : ℕ) (place : Place) (target : Target) (range : PageRange) (f : Fit) (t : Slots) (o : Outcome) (v : World)
+    → c < w.made.cores → w.calls.phase c ≡ Cut place target range → CutSteps w.slots t c range f → CutsTo w c place target range t f o v
+    → Shape w (Go c) o v
+cut_shape w c place target range fit.Cut t o v lt e s h = step w c o v lt h.0 (cuts place target range t e s h.1)
+cut_shape w c place target range fit.Fits t o v lt e s h =
+    step w c o v lt h.0 (fits place target range e s.0 h.1)
+
+-- ---- changes
+
+-- a change whose range is given never looks elsewhere
+no_again : (files : ℕ → Option File) (s : Slots) (change : Change) → Decides files s (To.Change change) Again → ⊥
+no_again files s (Put range meta) h = h
+no_again files s (Clear range) h = h
+no_again files s (Protect range prot) (no_page a e) = cc
+no_again files s (Protect range prot) (no_write a k r e) = cc
+no_again files s (Protect range prot) (protects a r k) = k
+
 decide_shape : (w : World) (c : ℕ) (change : Change) (d : Decision) (v : World) → w.calls.phase c ≡ Decide change
-    → Decides w.made.file w.slots (PlanOf.Change change) d
+    → Decides w.made.file w.slots (To.Change change) d
     → v ≡ after_decision c change d w → GoesBy w c v
 decide_shape w c change (Refuse errno) v e d h = answers (Some (range_of change)) (ReplyOf.Refused errno) (declines change errno e refl refl d) h
 decide_shape w c change (Act range shoot) v e d h = moves (Post change shoot) (acts change range shoot e refl d) h
+decide_shape w c change Again v e d h = absurd (no_again w.made.file w.slots change d)
 
 try_shape : (w : World) (c : ℕ) (touch : Touch) (frame : Option ℕ) (v : World) → w.calls.phase c ≡ Try touch
     → frame_reached (translated_by w.hardware c touch) ≡ frame
@@ -402,24 +493,28 @@ copy_shape w c touch f o v lt e (inl h) =
     step w c o v lt h.1.4.0 (copies touch f h.1.0 h.1.1 e h.0 h.1.2 h.1.3 h.1.4.1)
 copy_shape w c touch f o v lt e (inr h) = rests (awaits c (page_of_touch touch) h.0 refl (ap awaits_in e) h.1 h.2) h.3
 
-acks_shape : (w : World) (c : ℕ) (change : Change) (held : PageRange) (o : Outcome) (v : World) → c < w.made.cores
-    → w.calls.phase c ≡ Acks change held → CommitsNext w c change held o v → Shape w (Go c) o v
-acks_shape w c change held o v lt e (inl h) = step w c o v lt h.1.2.0 (commits change held h.1.0 e h.0 h.1.1 h.1.2.1)
-acks_shape w c change held o v lt e (inr h) = rests (awaits c (range_of change) h.0 refl (ap awaits_in e) h.1 h.2) h.3
+acks_shape : (w : World) (c : ℕ) (goal : Goal) (change : Change) (o : Outcome) (v : World) → c < w.made.cores
+    → w.calls.phase c ≡ Acks goal change → CommitsNext w c change (goal_range goal) o v → Shape w (Go c) o v
+acks_shape w c goal change o v lt e (inl h) = step w c o v lt h.1.2.0 (commits goal change h.1.0 e h.0 h.1.1 h.1.2.1)
+acks_shape w c goal change o v lt e (inr h) = rests (awaits c (range_of change) h.0 refl (ap awaits_in e) h.1 h.2) h.3
 
 go_shape : (w : World) (c : ℕ) (phase : Phase) (o : Outcome) (v : World) → c < w.made.cores → w.calls.phase c ≡ phase → Goes w c phase o v → Shape w (Go c) o v
 go_shape w c Free o v lt e h = rests (free c refl e h.0) h.1
 go_shape w c (Check request) o v lt e h = step w c o v lt h.0 (check_shape w c request o v (checked_by w.made c request) e refl h.1)
 go_shape w c (Lock goal cursor) o v lt e h = lock_shape w c goal cursor h.0 h.1.0 o v lt e h.1.1 h.1.2
+go_shape w c (Guess place) o v lt e h = guess_shape w c place o v lt e h
+go_shape w c (Find place target) o v lt e h = step w c o v lt h.2.0 (find_shape w c place target h.0 v e h.1 h.2.1)
+go_shape w c (Leaving place target held) o v lt e h = step w c o v lt h.1.2.0 (lets_go held h.0 h.1.0 (back_to place target (held_after held h.0))
+    (returns place target e refl) h.1.1 h.1.2.1)
+go_shape w c (Cut place target range) o v lt e h = cut_shape w c place target range h.0 h.1.0 o v lt e h.1.1 h.1.2
 go_shape w c (Decide change) o v lt e h = step w c o v lt h.2.0 (decide_shape w c change h.0 v e h.1 h.2.1)
 go_shape w c (Post change shoot) o v lt e h = step w c o v lt h.0 (posts change shoot e h.1)
-go_shape w c (Acks change held) o v lt e h = acks_shape w c change held o v lt e h
+go_shape w c (Acks goal change) o v lt e h = acks_shape w c goal change o v lt e h
 go_shape w c (Unlock held reply) o v lt e h = step w c o v lt h.1.2.0 (lets_go held h.0 h.1.0 (let_go (held_after held h.0) reply)
     (unlocks reply e refl) h.1.1 h.1.2.1)
 go_shape w c (Answer reply) o v lt e h = ends c reply refl h.0 lt e h.1
 go_shape w c (Try touch) o v lt e h = step w c o v lt h.0 (try_shape w c touch (frame_reached (translated_by w.hardware c touch)) v e refl h.1)
-go_shape w c (Settle touch) o v lt e h = step w c o v lt h.0
-    (settle_shape w c touch (found_at w touch) v e refl (found w.made.file w.memory.cached (w.slots.info touch.page) touch.access) h.1)
+go_shape w c (Settle touch) o v lt e h = step w c o v lt h.0 (settle_shape w c touch (found_at w touch) v e refl (found w.made.file w.memory.cached (w.slots.info touch.page) touch.access) h.1)
 go_shape w c (Want touch old) o v lt e h = want_shape w c touch old o v lt e h
 go_shape w c (Fill touch own) o v lt e h = fill_shape w c touch own (back_of (w.slots.info touch.page)) touch.access o v lt e refl refl h
 go_shape w c (CopyPost touch f) o v lt e h = step w c o v lt h.0 (posts_copy touch f e h.1)
@@ -445,9 +540,13 @@ frame_shape w c f (Want touch old) o v lt e h = go (w.memory.is_free f) refl h
 frame_shape w c f Free o v lt e h = idles w (EventOf.Frame c f) o v (λ d x. cc) (λ d r x. cc) h
 frame_shape w c f (Check r) o v lt e h = idles w (EventOf.Frame c f) o v (λ d x. cc) (λ d r x. cc) h
 frame_shape w c f (Lock goal cursor) o v lt e h = idles w (EventOf.Frame c f) o v (λ d x. cc) (λ d r x. cc) h
+frame_shape w c f (Guess place) o v lt e h = idles w (EventOf.Frame c f) o v (λ d x. cc) (λ d r x. cc) h
+frame_shape w c f (Find place target) o v lt e h = idles w (EventOf.Frame c f) o v (λ d x. cc) (λ d r x. cc) h
+frame_shape w c f (Leaving place target held) o v lt e h = idles w (EventOf.Frame c f) o v (λ d x. cc) (λ d r x. cc) h
+frame_shape w c f (Cut place target range) o v lt e h = idles w (EventOf.Frame c f) o v (λ d x. cc) (λ d r x. cc) h
 frame_shape w c f (Decide change) o v lt e h = idles w (EventOf.Frame c f) o v (λ d x. cc) (λ d r x. cc) h
 frame_shape w c f (Post change shoot) o v lt e h = idles w (EventOf.Frame c f) o v (λ d x. cc) (λ d r x. cc) h
-frame_shape w c f (Acks change held) o v lt e h = idles w (EventOf.Frame c f) o v (λ d x. cc) (λ d r x. cc) h
+frame_shape w c f (Acks goal change) o v lt e h = idles w (EventOf.Frame c f) o v (λ d x. cc) (λ d r x. cc) h
 frame_shape w c f (Unlock held reply) o v lt e h = idles w (EventOf.Frame c f) o v (λ d x. cc) (λ d r x. cc) h
 frame_shape w c f (Answer reply) o v lt e h = idles w (EventOf.Frame c f) o v (λ d x. cc) (λ d r x. cc) h
 frame_shape w c f (Try touch) o v lt e h = idles w (EventOf.Frame c f) o v (λ d x. cc) (λ d r x. cc) h
@@ -457,6 +556,63 @@ frame_shape w c f (CopyPost touch g) o v lt e h = idles w (EventOf.Frame c f) o 
 frame_shape w c f (CopyAcks touch g) o v lt e h = idles w (EventOf.Frame c f) o v (λ d x. cc) (λ d r x. cc) h
 frame_shape w c f (Install touch) o v lt e h = idles w (EventOf.Frame c f) o v (λ d x. cc) (λ d r x. cc) h
 frame_shape w c f (Release touch) o v lt e h = idles w (EventOf.Frame c f) o v (λ d x. cc) (λ d r x. cc) h
+
+-- a run that a placed mapping is to guess, where it looks for a place
+run_shape : (w : World) (c first : ℕ) (phase : Phase) (o : Outcome) (v : World) → c < w.made.cores → w.calls.phase c ≡ phase
+    → GuessesThisRun w c phase first o v → Shape w (EventOf.Guess c first) o v
+run_shape w c first (Guess place) o v lt e h = go (nat_le place.window.first first) (nat_le (first + place.count) place.window.end) refl refl h
+  where
+    upto : (a b : ℕ) → nat_le a b ≡ true → a ≤ b
+    upto a b h = grind (arith, nat_tests)
+
+    go : (a b : Bool) → nat_le place.window.first first ≡ a → nat_le (first + place.count) place.window.end ≡ b
+        → cond (a && b) (Becomes (after_guess c place (Run (pages_from first place.count)) w) o v) (Idles w o v) → Shape w (EventOf.Guess c first) o v
+    go true true i j k = aims c place (Run (pages_from first place.count))
+        (at_run first (run_of place.window place.count first (upto _ _ i) (upto _ _ j))) k.0 lt e k.1
+    go true false i j k = idles w (EventOf.Guess c first) o v (λ d x. cc) (λ d r x. cc) k
+    go false b i j k = idles w (EventOf.Guess c first) o v (λ d x. cc) (λ d r x. cc) k
+run_shape w c first Free o v lt e h = idles w (EventOf.Guess c first) o v (λ d x. cc) (λ d r x. cc) h
+run_shape w c first (Check r) o v lt e h = idles w (EventOf.Guess c first) o v (λ d x. cc) (λ d r x. cc) h
+run_shape w c first (Lock goal cursor) o v lt e h = idles w (EventOf.Guess c first) o v (λ d x. cc) (λ d r x. cc) h
+run_shape w c first (Find place target) o v lt e h = idles w (EventOf.Guess c first) o v (λ d x. cc) (λ d r x. cc) h
+run_shape w c first (Leaving place target held) o v lt e h = idles w (EventOf.Guess c first) o v (λ d x. cc) (λ d r x. cc) h
+run_shape w c first (Cut place target range) o v lt e h = idles w (EventOf.Guess c first) o v (λ d x. cc) (λ d r x. cc) h
+run_shape w c first (Decide change) o v lt e h = idles w (EventOf.Guess c first) o v (λ d x. cc) (λ d r x. cc) h
+run_shape w c first (Post change shoot) o v lt e h = idles w (EventOf.Guess c first) o v (λ d x. cc) (λ d r x. cc) h
+run_shape w c first (Acks goal change) o v lt e h = idles w (EventOf.Guess c first) o v (λ d x. cc) (λ d r x. cc) h
+run_shape w c first (Unlock held reply) o v lt e h = idles w (EventOf.Guess c first) o v (λ d x. cc) (λ d r x. cc) h
+run_shape w c first (Answer reply) o v lt e h = idles w (EventOf.Guess c first) o v (λ d x. cc) (λ d r x. cc) h
+run_shape w c first (Try touch) o v lt e h = idles w (EventOf.Guess c first) o v (λ d x. cc) (λ d r x. cc) h
+run_shape w c first (Settle touch) o v lt e h = idles w (EventOf.Guess c first) o v (λ d x. cc) (λ d r x. cc) h
+run_shape w c first (Want touch old) o v lt e h = idles w (EventOf.Guess c first) o v (λ d x. cc) (λ d r x. cc) h
+run_shape w c first (Fill touch g) o v lt e h = idles w (EventOf.Guess c first) o v (λ d x. cc) (λ d r x. cc) h
+run_shape w c first (CopyPost touch g) o v lt e h = idles w (EventOf.Guess c first) o v (λ d x. cc) (λ d r x. cc) h
+run_shape w c first (CopyAcks touch g) o v lt e h = idles w (EventOf.Guess c first) o v (λ d x. cc) (λ d r x. cc) h
+run_shape w c first (Install touch) o v lt e h = idles w (EventOf.Guess c first) o v (λ d x. cc) (λ d r x. cc) h
+run_shape w c first (Release touch) o v lt e h = idles w (EventOf.Guess c first) o v (λ d x. cc) (λ d r x. cc) h
+
+window_shape : (w : World) (c : ℕ) (phase : Phase) (o : Outcome) (v : World) → c < w.made.cores → w.calls.phase c ≡ phase
+    → TakesWindow w c phase o v → Shape w (EventOf.Whole c) o v
+window_shape w c (Guess place) o v lt e h = aims c place Window at_window h.0 lt e h.1
+window_shape w c Free o v lt e h = idles w (EventOf.Whole c) o v (λ d x. cc) (λ d r x. cc) h
+window_shape w c (Check r) o v lt e h = idles w (EventOf.Whole c) o v (λ d x. cc) (λ d r x. cc) h
+window_shape w c (Lock goal cursor) o v lt e h = idles w (EventOf.Whole c) o v (λ d x. cc) (λ d r x. cc) h
+window_shape w c (Find place target) o v lt e h = idles w (EventOf.Whole c) o v (λ d x. cc) (λ d r x. cc) h
+window_shape w c (Leaving place target held) o v lt e h = idles w (EventOf.Whole c) o v (λ d x. cc) (λ d r x. cc) h
+window_shape w c (Cut place target range) o v lt e h = idles w (EventOf.Whole c) o v (λ d x. cc) (λ d r x. cc) h
+window_shape w c (Decide change) o v lt e h = idles w (EventOf.Whole c) o v (λ d x. cc) (λ d r x. cc) h
+window_shape w c (Post change shoot) o v lt e h = idles w (EventOf.Whole c) o v (λ d x. cc) (λ d r x. cc) h
+window_shape w c (Acks goal change) o v lt e h = idles w (EventOf.Whole c) o v (λ d x. cc) (λ d r x. cc) h
+window_shape w c (Unlock held reply) o v lt e h = idles w (EventOf.Whole c) o v (λ d x. cc) (λ d r x. cc) h
+window_shape w c (Answer reply) o v lt e h = idles w (EventOf.Whole c) o v (λ d x. cc) (λ d r x. cc) h
+window_shape w c (Try touch) o v lt e h = idles w (EventOf.Whole c) o v (λ d x. cc) (λ d r x. cc) h
+window_shape w c (Settle touch) o v lt e h = idles w (EventOf.Whole c) o v (λ d x. cc) (λ d r x. cc) h
+window_shape w c (Want touch old) o v lt e h = idles w (EventOf.Whole c) o v (λ d x. cc) (λ d r x. cc) h
+window_shape w c (Fill touch g) o v lt e h = idles w (EventOf.Whole c) o v (λ d x. cc) (λ d r x. cc) h
+window_shape w c (CopyPost touch g) o v lt e h = idles w (EventOf.Whole c) o v (λ d x. cc) (λ d r x. cc) h
+window_shape w c (CopyAcks touch g) o v lt e h = idles w (EventOf.Whole c) o v (λ d x. cc) (λ d r x. cc) h
+window_shape w c (Install touch) o v lt e h = idles w (EventOf.Whole c) o v (λ d x. cc) (λ d r x. cc) h
+window_shape w c (Release touch) o v lt e h = idles w (EventOf.Whole c) o v (λ d x. cc) (λ d r x. cc) h
 
 take_shape : (w : World) (c : ℕ) (t : Took) (o : Outcome) (v : World) → c < w.made.cores → asked (w.hardware.inbox c) ≡ t
     → TakesMessage w c t o v → Shape w (EventOf.Take c) o v
@@ -514,9 +670,13 @@ give_up_shape : (w : World) (c : ℕ) (phase : Phase) (o : Outcome) (v : World) 
 give_up_shape w c Free o v lt e h = can_give_up_shape w c Free o v lt e tt h
 give_up_shape w c (Check request) o v lt e h = can_give_up_shape w c (Check request) o v lt e tt h
 give_up_shape w c (Lock goal cursor) o v lt e h = can_give_up_shape w c (Lock goal cursor) o v lt e tt h
+give_up_shape w c (Guess place) o v lt e h = can_give_up_shape w c (Guess place) o v lt e tt h
+give_up_shape w c (Find place target) o v lt e h = can_give_up_shape w c (Find place target) o v lt e tt h
+give_up_shape w c (Leaving place target held) o v lt e h = can_give_up_shape w c (Leaving place target held) o v lt e tt h
+give_up_shape w c (Cut place target range) o v lt e h = can_give_up_shape w c (Cut place target range) o v lt e tt h
 give_up_shape w c (Decide change) o v lt e h = can_give_up_shape w c (Decide change) o v lt e tt h
 give_up_shape w c (Post change shoot) o v lt e h = can_give_up_shape w c (Post change shoot) o v lt e tt h
-give_up_shape w c (Acks change held) o v lt e h = can_give_up_shape w c (Acks change held) o v lt e tt h
+give_up_shape w c (Acks goal change) o v lt e h = can_give_up_shape w c (Acks goal change) o v lt e tt h
 give_up_shape w c (Unlock held reply) o v lt e h = can_give_up_shape w c (Unlock held reply) o v lt e tt h
 give_up_shape w c (Answer reply) o v lt e h = can_give_up_shape w c (Answer reply) o v lt e tt h
 give_up_shape w c (Try touch) o v lt e h = can_give_up_shape w c (Try touch) o v lt e tt h
@@ -535,6 +695,8 @@ act_shape : (w : World) (e : Event) (o : Outcome) (v : World) → is_here w.made
 act_shape w (Call c request) o v here h = call_shape w c request (w.calls.phase c) o v (below c w.made.cores here) refl h
 act_shape w (Go c) o v here h = go_shape w c (w.calls.phase c) o v (below c w.made.cores here) refl h
 act_shape w (EventOf.Frame c f) o v here h = frame_shape w c f (w.calls.phase c) o v (below c w.made.cores here) refl h
+act_shape w (EventOf.Guess c p) o v here h = run_shape w c p (w.calls.phase c) o v (below c w.made.cores here) refl h
+act_shape w (EventOf.Whole c) o v here h = window_shape w c (w.calls.phase c) o v (below c w.made.cores here) refl h
 act_shape w (EventOf.Take c) o v here h = take_shape w c (asked (w.hardware.inbox c)) o v (below c w.made.cores here) refl h
 act_shape w (EventOf.Walk c p) o v here h = walk_shape w c p o v (below c w.made.cores here) h
 act_shape w (EventOf.Evict c p) o v here h = evict_shape w c p o v (below c w.made.cores here) h

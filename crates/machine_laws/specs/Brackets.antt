@@ -1,6 +1,6 @@
--- Brackets of calls: in the log of a run each reply stands once, between the event that began its call and the event that
--- handed it out. Events are numbered from 1, and so are the calls begun.
-use Rattle.std.specs.Prelude.{◌≡◌, ◌≢◌, ℕ, zero, suc, ◌<◌, List, [], ◌∷◌, ◌++◌, take, slice_get, Option, None, Some}
+-- Brackets of calls: in the log of a run each reply stands once, between the event that began its
+-- call and the event that handed it out. Events are numbered from 1, and so are the calls begun.
+use Rattle.std.specs.Prelude.{◌≡◌, ◌≢◌, ℕ, zero, suc, ◌<◌, ◌≤◌, List, [], ◌∷◌, ◌++◌, take, slice_get, Option, None, Some}
 use Rattle.vm_base.specs.declared.replies.Reply.{Reply}
 use Rattle.vm_base.specs.declared.requests.Request.{Request}
 use Rattle.vm_base.specs.declared.requests.Request.TheVariants.{Store}
@@ -61,7 +61,8 @@ step_of (EntryOf.Detach step call page) = step
 
 -- at this place of the log stands the reply to a call
 abbrev pub IsAnswer : List Entry → ℕ → ℕ → ℕ → ℕ → Reply → Type 0
-IsAnswer log place step call core reply = slice_get log place ≡ Some (EntryOf.Answer step call core reply)
+IsAnswer log place step call core reply =
+    slice_get log place ≡ Some (EntryOf.Answer step call core reply)
 
 -- at this place of the log stands the copy of a page that was made for a call
 abbrev pub IsDetach : List Entry → ℕ → ℕ → ℕ → ℕ → Type 0
@@ -74,27 +75,34 @@ IsStoreTo _ page = ⊥
 
 -- the log has the reply to a call from an event before the n-th
 abbrev pub IsAnsweredBefore : ℕ → List Entry → ℕ → ℕ → Reply → Type 0
-IsAnsweredBefore n log call core reply = (place step : ℕ) × IsAnswer log place step call core reply × (step < n)
+IsAnsweredBefore n log call core reply =
+    (place step : ℕ) × IsAnswer log place step call core reply × (step < n)
 
 -- ---- the brackets
 
 -- The events came to these outcomes and left w.
 pub record IsBracketed (es : List Event) (os : List Outcome) (w : World) : Type 0 where
   -- the steps in the log rise
-  pub rises : (i j : ℕ) (x y : Entry) → i < j → slice_get w.calls.log i ≡ Some x → slice_get w.calls.log j ≡ Some y
+  pub rises : (i j : ℕ) (x y : Entry) → i < j → slice_get w.calls.log i ≡ Some x
+      → slice_get w.calls.log j ≡ Some y
       → step_of x < step_of y
   -- each reply is that of a call of its core, begun before it
   pub begun : (i step call core : ℕ) (reply : Reply) → IsAnswer w.calls.log i step call core reply
       → (b : Begun) × (nth (calls_of es os) call ≡ Some b) × (b.core ≡ core) × (b.step < step)
   -- no call has two
-  pub once : (i j step step2 call core core2 : ℕ) (reply reply2 : Reply) → IsAnswer w.calls.log i step call core reply
+  pub once : (i j step step2 call core core2 : ℕ) (reply reply2 : Reply)
+      → IsAnswer w.calls.log i step call core reply
       → IsAnswer w.calls.log j step2 call core2 reply2 → i ≡ j
-  -- each copy was made for a store to its page, begun before it, whose reply stands in no earlier place
+  -- each copy was made for a store to its page, begun before it, whose reply stands in no earlier
+  -- place
   pub copies : (i step call page : ℕ) → IsDetach w.calls.log i step call page
-      → (b : Begun) × (nth (calls_of es os) call ≡ Some b) × IsStoreTo b.request page × (b.step < step)
+      → (b : Begun) × (nth (calls_of es os) call ≡ Some b) × IsStoreTo b.request page
+      × (b.step < step)
       × ((j step2 core : ℕ) (reply : Reply) → IsAnswer w.calls.log j step2 call core reply → i < j)
-  -- after n events comes one that hands out a reply: it is that of the core's latest call, and stands in the log before
-  pub answered : (n core : ℕ) (e : Event) (reply : Reply) → nth es (suc n) ≡ Some e → core_of e ≡ Some core
+  -- after n events comes one that hands out a reply: it is that of the core's latest call, and
+  -- stands in the log before
+  pub answered : (n core : ℕ) (e : Event) (reply : Reply) → nth es (suc n) ≡ Some e
+      → core_of e ≡ Some core
       → nth os (suc n) ≡ Some (Answered reply)
       → (call : ℕ) × IsLatest (calls_of (take n es) (take n os)) core call
       × IsAnsweredBefore (suc n) w.calls.log call core reply
@@ -103,4 +111,4 @@ pub record IsBracketed (es : List Event) (os : List Outcome) (w : World) : Type 
 
 abbrev pub AllRunsBracketed : Type 0
 AllRunsBracketed = (made : Made) (slots : Slots) (es : List Event) (os : List Outcome) (w : World)
-    → IsNew slots → Run (new_world made slots) es os w → IsBracketed es os w
+    → made.cores ≤ 64 → IsNew slots → Run (new_world made slots) es os w → IsBracketed es os w

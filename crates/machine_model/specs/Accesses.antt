@@ -13,12 +13,12 @@ use Rattle.vm_base.specs.Cores.{with_member}
 use Rattle.vm_base.specs.Plain.{Bytes, File, file_bytes}
 use Rattle.vm_base.specs.Apply.{byte_reply}
 use Rattle.slot_lock.specs.declared.plan.Touch.{Touch}
+use Rattle.slot_lock.specs.declared.plan.Goal.TheVariants as To
 use Rattle.slot_lock.specs.Slots.{with_info}
 use Rattle.vm_calls.specs.declared.fault.Settled.{Settled}
 use Rattle.vm_calls.specs.declared.fault.Settled.TheVariants.{MapErr, AccErr, Bus, Has, Copies, Cached, Wants}
 use Rattle.vm_calls.specs.Settling.{settled}
 use Rattle.machine_model.specs.declared.event.Outcome.{Outcome}
-use Rattle.machine_model.specs.declared.phase.Goal.TheVariants as To
 use Rattle.machine_model.specs.declared.phase.Phase.{Phase}
 use Rattle.machine_model.specs.declared.phase.Phase.TheVariants.{Want, Fill, CopyPost, Install, Release}
 use Rattle.machine_model.specs.World.{World, Memory}
@@ -37,7 +37,8 @@ bytes_after Fetch frame i byte bytes = bytes
 
 -- the memory after an access of a frame
 abbrev pub memory_after : Touch → ℕ → Memory → Memory
-memory_after touch frame m = record m { bytes = bytes_after touch.access frame touch.offset touch.byte m.bytes }
+memory_after touch frame m =
+    record m { bytes = bytes_after touch.access frame touch.offset touch.byte m.bytes }
 
 -- what an access of a frame answers
 abbrev pub reply_of : Touch → ℕ → Memory → Reply
@@ -74,12 +75,16 @@ is_past_end file (Some info) = lies_past_end file info.meta.back
 abbrev pub found_at : World → Touch → Settled
 found_at w touch =
     let info = w.slots.info touch.page in
-    settled info touch.access (is_past_end w.made.file info) (file_frame w.memory.cached (back_of info))
+    settled info touch.access (is_past_end w.made.file info)
+    (file_frame w.memory.cached (back_of info))
 
--- a page that has a frame is ready, another gets the one that caches its file page, or wants one; so does a copy of its frame
+-- a page that has a frame is ready, another gets the one that caches its file page, or wants one;
+-- so does a copy of its frame
 abbrev pub after_finding : ℕ → Touch → Settled → World → World
-after_finding c touch MapErr w = after_reply c (Some (page_of_touch touch)) (ReplyOf.Segv Code.MapErr) w
-after_finding c touch AccErr w = after_reply c (Some (page_of_touch touch)) (ReplyOf.Segv Code.AccErr) w
+after_finding c touch MapErr w =
+    after_reply c (Some (page_of_touch touch)) (ReplyOf.Segv Code.MapErr) w
+after_finding c touch AccErr w =
+    after_reply c (Some (page_of_touch touch)) (ReplyOf.Segv Code.AccErr) w
 after_finding c touch Bus w = after_reply c (Some (page_of_touch touch)) ReplyOf.Bus w
 after_finding c touch (Has f) w = to c (Install touch) w
 after_finding c touch (Copies f) w = to c (Want touch (Some f)) w
@@ -91,14 +96,16 @@ after_settle c touch w = after_finding c touch (found_at w touch) w
 
 -- ---- Want
 
--- with the frame taken the page gets it, or first the copy is made known of the frame that the page has
+-- with the frame taken the page gets it, or first the copy is made known of the frame that the page
+-- has
 abbrev pub taken_for : Touch → Option ℕ → ℕ → Phase
 taken_for touch None f = Fill touch (Some f)
 taken_for touch (Some old) f = CopyPost touch f
 
 abbrev pub after_frame : ℕ → Touch → Option ℕ → ℕ → World → World
 after_frame c touch old f w =
-    to c (taken_for touch old f) (record w { memory = record w.memory { is_free = put w.memory.is_free f false } })
+    to c (taken_for touch old f)
+    (record w { memory = record w.memory { is_free = put w.memory.is_free f false } })
 
 -- the least free frame
 pub record IsLeastFree (is_free : ℕ → Bool) (f : ℕ) : Type 0 where
@@ -110,7 +117,8 @@ NoneFree is_free = (f : ℕ) → is_free f ≡ false
 
 abbrev pub TakesFrame : World → ℕ → Touch → Option ℕ → Outcome → World → Type 0
 TakesFrame w c touch old o v =
-    (NoneFree w.memory.is_free × Becomes (after_reply c (Some (page_of_touch touch)) ReplyOf.NoFrame w) o v)
+    (NoneFree w.memory.is_free
+    × Becomes (after_reply c (Some (page_of_touch touch)) ReplyOf.NoFrame w) o v)
     ⊎ ((f : ℕ) × IsLeastFree w.memory.is_free f × Becomes (after_frame c touch old f w) o v)
 
 -- a call that wants a frame takes this one, if it is free
@@ -130,5 +138,6 @@ after_install c touch w =
     let info = w.slots.info touch.page in
     to c (Release touch) (record w {
       slots = with_info w.slots touch.page (info_with_core c info);
-      hardware = with_table w.hardware c (put (w.hardware.table c) touch.page (entry_of_page w.memory.cached info));
+      hardware = with_table w.hardware c
+          (put (w.hardware.table c) touch.page (entry_of_page w.memory.cached info));
     })

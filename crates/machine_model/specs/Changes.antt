@@ -1,8 +1,8 @@
--- The check of a request's arguments, and the steps of mmap, munmap and mprotect
+-- The check of a request's arguments, and the steps of a fixed mmap, of munmap and mprotect; those
+-- of a placed mmap from its commit on
 use Rattle.std.specs.Prelude.{◌≡◌, ℕ, ◌-◌, ◌⊎◌, true, false, None, Some, Result, Ok, Err}
 use Rattle.vm_base.specs.declared.page.PageRange.{PageRange}
 use Rattle.vm_base.specs.declared.requests.Request.{Request}
-use Rattle.vm_base.specs.declared.replies.Errno.TheVariants.{ENOMEM}
 use Rattle.vm_base.specs.declared.replies.Reply.{Reply}
 use Rattle.vm_base.specs.declared.replies.Reply.TheVariants.{Refused}
 use Rattle.vm_base.specs.Cores.{members}
@@ -11,10 +11,11 @@ use Rattle.slot_lock.specs.declared.plan.Change.{Change}
 use Rattle.slot_lock.specs.declared.plan.Change.TheVariants.{Put, Clear, Protect}
 use Rattle.slot_lock.specs.declared.plan.Plan.{Plan}
 use Rattle.slot_lock.specs.declared.plan.Plan.TheVariants as PlanOf
+use Rattle.slot_lock.specs.declared.plan.Goal.TheVariants as To
 use Rattle.slot_lock.specs.Plan.{range_of}
 use Rattle.slot_lock.specs.Slots.{Slots, cleared, mapped, protected}
 use Rattle.vm_calls.specs.declared.decision.Decision.{Decision}
-use Rattle.vm_calls.specs.declared.decision.Decision.TheVariants.{Refuse, Act}
+use Rattle.vm_calls.specs.declared.decision.Decision.TheVariants.{Refuse, Act, Again}
 use Rattle.vm_calls.specs.Checks.{checked}
 use Rattle.vm_calls.specs.Decisions.{Decides}
 use Rattle.vm_calls.specs.Plainly.{answer_to}
@@ -23,12 +24,12 @@ use Rattle.refcache.specs.Counts.{Counts}
 use Rattle.machine_model.specs.declared.event.Blocker.TheVariants as WaitsFor
 use Rattle.machine_model.specs.declared.event.Outcome.{Outcome}
 use Rattle.machine_model.specs.declared.event.Outcome.TheVariants.{Wait}
-use Rattle.machine_model.specs.declared.phase.Goal.TheVariants as To
 use Rattle.machine_model.specs.declared.phase.Phase.TheVariants.{Post, Acks, Try}
 use Rattle.machine_model.specs.World.{World, Made, Hardware}
 use Rattle.machine_model.specs.Actions.{Becomes, to, after_reply}
 use Rattle.machine_model.specs.Counting.{CountsDown, frame_lost, with_counts}
 use Rattle.machine_model.specs.Locks.{locking}
+use Rattle.machine_model.specs.Placing.{placing}
 use Rattle.machine_model.specs.Translating.{after_shot, with_hardware}
 
 -- ---- Check
@@ -37,10 +38,10 @@ use Rattle.machine_model.specs.Translating.{after_shot, with_hardware}
 abbrev pub checked_by : Made → ℕ → Request → Result Plan Reply
 checked_by made c request = checked (λ n. mode_of (made.file n)) c request
 
--- A request that its arguments don't refuse goes on. A mapping without MAP_FIXED finds no place yet.
+-- A request that its arguments don't refuse goes on.
 abbrev pub after_plan : ℕ → Result Plan Reply → World → World
 after_plan c (Err reply) w = after_reply c None reply w
-after_plan c (Ok (PlanOf.Place place)) w = after_reply c None (Refused ENOMEM) w
+after_plan c (Ok (PlanOf.Place place)) w = to c (placing place place.hint) w
 after_plan c (Ok (PlanOf.Change change)) w = to c (locking (To.Change change)) w
 after_plan c (Ok (PlanOf.Touch touch)) w = to c (Try touch) w
 
@@ -49,20 +50,25 @@ after_check c request w = after_plan c (checked_by w.made c request) w
 
 -- ---- Decide
 
+-- (a change whose range is given never looks elsewhere)
 abbrev pub after_decision : ℕ → Change → Decision → World → World
 after_decision c change (Refuse e) w = after_reply c (Some (range_of change)) (Refused e) w
 after_decision c change (Act range shoot) w = to c (Post change shoot) w
+after_decision c change Again w = w
 
 abbrev pub DecidesNext : World → ℕ → Change → Outcome → World → Type 0
 DecidesNext w c change o v =
-    (d : Decision) × Decides w.made.file w.slots (PlanOf.Change change) d × Becomes (after_decision c change d w) o v
+    (d : Decision) × Decides w.made.file w.slots (To.Change change) d
+    × Becomes (after_decision c change d w) o v
 
 -- ---- Post
 
--- The recorded cores are told to drop their translations of the pages, core c's own being dropped at once.
+-- The recorded cores are told to drop their translations of the pages, core c's own being dropped
+-- at once.
 abbrev pub after_post : ℕ → Change → ℕ → World → World
 after_post c change shoot w =
-    to c (Acks change (range_of change)) (with_hardware (after_shot w.hardware c shoot (range_of change)) w)
+    to c (Acks (To.Change change) change)
+    (with_hardware (after_shot w.hardware c shoot (range_of change)) w)
 
 -- ---- Acks
 
@@ -73,12 +79,13 @@ slots_after (Protect range prot) s = protected s range prot
 
 -- what a change that is made answers
 abbrev pub reply_to : Change → Reply
-reply_to change = answer_to (PlanOf.Change change) (range_of change)
+reply_to change = answer_to (To.Change change) (range_of change)
 
 -- the change is made at once, these are the counts from there on, and its reply stands
 abbrev pub after_commit : ℕ → Change → PageRange → Counts → World → World
 after_commit c change held counts w =
-    after_reply c (Some held) (reply_to change) (with_counts counts (record w { slots = slots_after change w.slots }))
+    after_reply c (Some held) (reply_to change)
+    (with_counts counts (record w { slots = slots_after change w.slots }))
 
 -- core c has counted down the frames that the change takes from pages, in order of pages
 abbrev pub CountsLost : ℕ → Change → World → Counts → Type 0
@@ -100,5 +107,6 @@ pub record Awaits (h : Hardware) (c set : ℕ) : Type 0 where
 abbrev pub CommitsNext : World → ℕ → Change → PageRange → Outcome → World → Type 0
 CommitsNext w c change held o v =
     (AwaitsNobody w.hardware c
-    × ((counts : Counts) × CountsLost c change w counts × Becomes (after_commit c change held counts w) o v))
+    × ((counts : Counts) × CountsLost c change w counts
+    × Becomes (after_commit c change held counts w) o v))
     ⊎ ((set : ℕ) × Awaits w.hardware c set × (o ≡ Wait (WaitsFor.Acks set)) × (v ≡ w))

@@ -1,5 +1,5 @@
--- How frames are counted by the pages that have them, and come back (Refcache of the RadixVM paper, EuroSys 2013, with this project's
--- exact rules)
+-- How frames are counted by the pages that have them, and come back (Refcache of the RadixVM paper,
+-- EuroSys 2013, with this project's exact rules)
 use Rattle.std.specs.Prelude.{◌≡◌, ℕ, zero, suc, true, Option, None, Some}
 use Rattle.vm_base.specs.declared.info.PageInfo.{PageInfo}
 use Rattle.vm_base.specs.Functions.{put}

@@ -40,7 +40,8 @@ abbrev pub page_now : Memory → Option File → ℕ → ℕ → Bytes
 page_now m None n k = zeros
 page_now m (Some file) n k = bytes_in m.bytes (file.bytes k) (m.cached n k)
 
--- the bytes that a page has without own ones: zeros of no file, and else those of its file page as they now are
+-- the bytes that a page has without own ones: zeros of no file, and else those of its file page as
+-- they now are
 abbrev pub bytes_shown : (ℕ → Option File) → Memory → Back → Bytes
 bytes_shown file m Anon = zeros
 bytes_shown file m (Shared n k) = page_now m (file n) n k
@@ -53,12 +54,14 @@ abbrev pub is_private : Back → Bool
 is_private (Private n k) = true
 is_private _ = false
 
--- Through a private page that shows its file's page nothing is stored, so that the file never sees a store (POSIX.1-2017, mmap,
--- MAP_PRIVATE): it may be read, and fetched where that is allowed.
+-- Through a private page that shows its file's page nothing is stored, so that the file never sees
+-- a store (POSIX.1-2017, mmap, MAP_PRIVATE): it may be read, and fetched where that is allowed.
 abbrev pub prot_shown : Bool → Prot → Prot
-prot_shown shown prot = if shown then record { read = true; write = false; exec = prot.exec } else prot
+prot_shown shown prot =
+    if shown then record { read = true; write = false; exec = prot.exec } else prot
 
 -- the protection that the page's entries have
 abbrev pub prot_installed : (ℕ → ℕ → Option ℕ) → PageInfo → Prot
 prot_installed cached info =
-    prot_shown (is_private info.meta.back && shows_some cached info.meta.back info.frame) info.meta.prot
+    prot_shown (is_private info.meta.back && shows_some cached info.meta.back info.frame)
+    info.meta.prot

@@ -27,13 +27,17 @@ use Rattle.machine_model.specs.Translating.{after_shot, with_hardware}
 
 -- the page has this frame
 abbrev pub with_frame_at : Touch → ℕ → World → World
-with_frame_at touch f w = record w { slots = with_info w.slots touch.page (info_with_frame f (w.slots.info touch.page)) }
+with_frame_at touch f w =
+    record w { slots = with_info w.slots touch.page (info_with_frame f (w.slots.info touch.page)) }
 
--- the page has this frame, which has the bytes that the page showed before, and these are the counts
+-- the page has this frame, which has the bytes that the page showed before, and these are the
+-- counts
 abbrev pub with_new_frame : Touch → ℕ → Counts → World → World
 with_new_frame touch f counts w =
     let shown = bytes_shown w.made.file w.memory (back_of (w.slots.info touch.page)) in
-    with_frame_at touch f (record w { memory = record w.memory { bytes = put w.memory.bytes f shown; counts = counts } })
+    with_frame_at touch f (record w {
+      memory = record w.memory { bytes = put w.memory.bytes f shown; counts = counts };
+    })
 
 -- an anonymous page gets a frame of zeros
 abbrev pub after_zeros : ℕ → Touch → ℕ → Counts → World → World
@@ -54,35 +58,47 @@ after_caching c touch f counts w =
 -- the page shows the frame that caches its file page, and a frame that the call has taken goes back
 abbrev pub after_sharing : ℕ → Touch → Option ℕ → ℕ → Counts → World → World
 after_sharing c touch own g counts w =
-    to c (Install touch)
-    (with_frame_at touch g (record w { memory = record w.memory { counts = counts; is_free = given_back own w.memory.is_free } }))
+    to c (Install touch) (with_frame_at touch g (record w {
+      memory = record w.memory { counts = counts; is_free = given_back own w.memory.is_free };
+    }))
 
--- The page shows its file's page: by the frame that caches it, or else by this one, which is counted for the page and for the file.
--- (A call that has taken no frame comes here where one caches it.)
+-- The page shows its file's page: by the frame that caches it, or else by this one, which is
+-- counted for the page and for the file. (A call that has taken no frame comes here where one
+-- caches it.)
 abbrev pub FillsFromFile : World → ℕ → Touch → Option ℕ → Option ℕ → Outcome → World → Type 0
 FillsFromFile w c touch own (Some g) o v =
-    (counts : Counts) × Takes w.memory.counts (Inc c g) counts × Becomes (after_sharing c touch own g counts w) o v
+    (counts : Counts) × Takes w.memory.counts (Inc c g) counts
+    × Becomes (after_sharing c touch own g counts w) o v
 FillsFromFile w c touch (Some f) None o v =
-    (counts : Counts) × Takes w.memory.counts (Begin f 2) counts × Becomes (after_caching c touch f counts w) o v
+    (counts : Counts) × Takes w.memory.counts (Begin f 2) counts
+    × Becomes (after_caching c touch f counts w) o v
 FillsFromFile w c touch None None o v = ⊥
 
 -- the page has a frame of its own, counted once, which leads to this state
 abbrev pub FillsOwn : World → (ℕ → Counts → World) → Option ℕ → Outcome → World → Type 0
 FillsOwn w after None o v = ⊥
-FillsOwn w after (Some f) o v = (counts : Counts) × Takes w.memory.counts (Begin f 1) counts × Becomes (after f counts) o v
+FillsOwn w after (Some f) o v =
+    (counts : Counts) × Takes w.memory.counts (Begin f 1) counts × Becomes (after f counts) o v
 
 -- by what backs the page, and the access
 abbrev pub FillsBacked : World → ℕ → Touch → Option ℕ → Back → Access → Outcome → World → Type 0
-FillsBacked w c touch frame Anon access o v = FillsOwn w (λ f counts. after_zeros c touch f counts w) frame o v
-FillsBacked w c touch frame (Shared n k) access o v = FillsFromFile w c touch frame (w.memory.cached n k) o v
-FillsBacked w c touch frame (Private n k) Store o v = FillsOwn w (λ f counts. after_first_copy c touch f counts w) frame o v
-FillsBacked w c touch frame (Private n k) Load o v = FillsFromFile w c touch frame (w.memory.cached n k) o v
-FillsBacked w c touch frame (Private n k) Fetch o v = FillsFromFile w c touch frame (w.memory.cached n k) o v
+FillsBacked w c touch frame Anon access o v =
+    FillsOwn w (λ f counts. after_zeros c touch f counts w) frame o v
+FillsBacked w c touch frame (Shared n k) access o v =
+    FillsFromFile w c touch frame (w.memory.cached n k) o v
+FillsBacked w c touch frame (Private n k) Store o v =
+    FillsOwn w (λ f counts. after_first_copy c touch f counts w) frame o v
+FillsBacked w c touch frame (Private n k) Load o v =
+    FillsFromFile w c touch frame (w.memory.cached n k) o v
+FillsBacked w c touch frame (Private n k) Fetch o v =
+    FillsFromFile w c touch frame (w.memory.cached n k) o v
 
 abbrev pub FillsFrame : World → ℕ → Touch → Option ℕ → Outcome → World → Type 0
-FillsFrame w c touch frame o v = FillsBacked w c touch frame (back_of (w.slots.info touch.page)) touch.access o v
+FillsFrame w c touch frame o v =
+    FillsBacked w c touch frame (back_of (w.slots.info touch.page)) touch.access o v
 
--- ---- CopyPost: a private page that shows its file's page is to get a copy, so no core may go on translating it
+-- ---- CopyPost: a private page that shows its file's page is to get a copy, so no core may go on
+-- translating it
 
 abbrev pub cores_of : Option PageInfo → ℕ
 cores_of None = 0
@@ -91,7 +107,8 @@ cores_of (Some info) = info.cores
 abbrev pub after_copy_post : ℕ → Touch → ℕ → World → World
 after_copy_post c touch f w =
     to c (CopyAcks touch f)
-    (with_hardware (after_shot w.hardware c (cores_of (w.slots.info touch.page)) (page_of_touch touch)) w)
+    (with_hardware
+    (after_shot w.hardware c (cores_of (w.slots.info touch.page)) (page_of_touch touch)) w)
 
 -- ---- CopyAcks
 
@@ -116,6 +133,7 @@ CountsCopy c f g v w = (m : Counts) × Takes v (Begin f 1) m × Takes m (Dec c g
 abbrev pub CopiesNext : World → ℕ → Touch → ℕ → Outcome → World → Type 0
 CopiesNext w c touch f o v =
     (AwaitsNobody w.hardware c
-    × ((g : ℕ) × (counts : Counts) × (frame_of (w.slots.info touch.page) ≡ Some g) × CountsCopy c f g w.memory.counts counts
+    × ((g : ℕ) × (counts : Counts) × (frame_of (w.slots.info touch.page) ≡ Some g)
+    × CountsCopy c f g w.memory.counts counts
     × Becomes (after_copy c touch f g counts w) o v))
     ⊎ ((set : ℕ) × Awaits w.hardware c set × (o ≡ Wait (WaitsFor.Acks set)) × (v ≡ w))

@@ -1,4 +1,5 @@
--- What a call is at, by its phase: its plan, the pages that it locks, those that it holds, and the frame that it has taken
+-- What a call is at, by its phase: its plan, the pages that it locks, those that it holds, and the
+-- frame that it has taken
 use Rattle.std.specs.Prelude.{ℕ, ◌==◌, Bool, true, false, if◌then◌else◌, Option, None, Some}
 use Rattle.vm_base.specs.declared.page.PageRange.{PageRange}
 use Rattle.vm_base.specs.Functions.{has}
@@ -6,37 +7,27 @@ use Rattle.vm_base.specs.Pages.{pages_from}
 use Rattle.slot_lock.specs.declared.plan.Plan.{Plan}
 use Rattle.slot_lock.specs.declared.plan.Plan.TheVariants as PlanOf
 use Rattle.slot_lock.specs.declared.plan.Touch.{Touch}
-use Rattle.slot_lock.specs.Plan.{range_of}
+use Rattle.slot_lock.specs.Plan.{range_of, target_range, goal_range, goal_plan}
 use Rattle.slot_lock.specs.Slots.{between}
-use Rattle.machine_model.specs.declared.phase.Goal.{Goal}
-use Rattle.machine_model.specs.declared.phase.Goal.TheVariants as To
 use Rattle.machine_model.specs.declared.phase.Phase.{Phase}
-use Rattle.machine_model.specs.declared.phase.Phase.TheVariants.{Free, Check, Lock, Decide, Post, Acks, Unlock, Answer, Try, Settle, Want, Fill, CopyPost, CopyAcks, Install, Release}
+use Rattle.machine_model.specs.declared.phase.Phase.TheVariants.{Free, Check, Lock, Guess, Find, Back, Cut, Decide, Post, Acks, Unlock, Answer, Try, Settle, Want, Fill, CopyPost, CopyAcks, Install, Release}
 
 -- the page of an access
 abbrev pub page_of_touch : Touch → PageRange
 page_of_touch touch = pages_from touch.page 1
-
--- ---- goals
-
-abbrev pub goal_range : Goal → PageRange
-goal_range (To.Change change) = range_of change
-goal_range (To.Access touch) = page_of_touch touch
-
-abbrev pub goal_plan : Goal → Plan
-goal_plan (To.Change change) = PlanOf.Change change
-goal_plan (To.Access touch) = PlanOf.Touch touch
-
--- ---- phases
 
 -- what the call does, from the check of its arguments on until it has a reply
 abbrev pub plan_in : Phase → Option Plan
 plan_in Free = None
 plan_in (Check request) = None
 plan_in (Lock goal cursor) = Some (goal_plan goal)
+plan_in (Guess place) = Some (PlanOf.Place place)
+plan_in (Find place target) = Some (PlanOf.Place place)
+plan_in (Back place target held) = Some (PlanOf.Place place)
+plan_in (Cut place target range) = Some (PlanOf.Place place)
 plan_in (Decide change) = Some (PlanOf.Change change)
 plan_in (Post change shoot) = Some (PlanOf.Change change)
-plan_in (Acks change held) = Some (PlanOf.Change change)
+plan_in (Acks goal change) = Some (goal_plan goal)
 plan_in (Unlock held reply) = None
 plan_in (Answer reply) = None
 plan_in (Try touch) = Some (PlanOf.Touch touch)
@@ -53,9 +44,13 @@ abbrev pub range_held : Phase → Option PageRange
 range_held Free = None
 range_held (Check request) = None
 range_held (Lock goal cursor) = Some (between (goal_range goal).first cursor)
+range_held (Guess place) = None
+range_held (Find place target) = Some (target_range place target)
+range_held (Back place target held) = Some held
+range_held (Cut place target range) = Some (target_range place target)
 range_held (Decide change) = Some (range_of change)
 range_held (Post change shoot) = Some (range_of change)
-range_held (Acks change held) = Some held
+range_held (Acks goal change) = Some (goal_range goal)
 range_held (Unlock held reply) = Some held
 range_held (Answer reply) = None
 range_held (Try touch) = None
@@ -67,9 +62,10 @@ range_held (CopyAcks touch frame) = Some (page_of_touch touch)
 range_held (Install touch) = Some (page_of_touch touch)
 range_held (Release touch) = Some (page_of_touch touch)
 
--- the pages that the call has locked or is to lock (its footprint)
+-- the pages that the call has locked or is to lock (its footprint): of a placed mapping its target
 abbrev pub range_in : Phase → Option PageRange
 range_in (Lock goal cursor) = Some (goal_range goal)
+range_in (Back place target held) = Some (target_range place target)
 range_in phase = range_held phase
 
 abbrev pub some_has : Option PageRange → ℕ → Bool
@@ -80,9 +76,9 @@ some_has (Some r) p = has r p
 abbrev pub holds : Phase → ℕ → Bool
 holds phase p = some_has (range_held phase) p
 
--- the pages whose translations other cores are asked to drop
+-- the pages whose translations other cores were asked to drop, and which change once they have
 abbrev pub awaits_in : Phase → Option PageRange
-awaits_in (Acks change held) = Some (range_of change)
+awaits_in (Acks goal change) = Some (range_of change)
 awaits_in (CopyAcks touch frame) = Some (page_of_touch touch)
 awaits_in _ = None
 
@@ -109,7 +105,8 @@ is_open (Unlock held reply) = false
 is_open (Answer reply) = false
 is_open _ = true
 
--- the call may still be given up, where it awaits no other core: it has no reply, and hasn't asked others to drop what a change takes
+-- the call may still be given up, where it awaits no other core: it has no reply, and hasn't asked
+-- others to drop what a change takes
 abbrev pub can_give_up : Phase → Bool
-can_give_up (Acks change held) = false
+can_give_up (Acks goal change) = false
 can_give_up phase = is_open phase

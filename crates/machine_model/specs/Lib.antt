@@ -3,6 +3,7 @@ pub mod World
 pub mod Holding
 pub mod Actions
 pub mod Locks
+pub mod Placing
 pub mod Files
 pub mod Translating
 pub mod Counting

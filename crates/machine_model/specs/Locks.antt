@@ -3,6 +3,9 @@ use Rattle.std.specs.Prelude.{◌≡◌, ℕ, ◌+◌, ◌⊎◌, ◌==◌, nat_
 use Rattle.vm_base.specs.declared.page.PageRange.{PageRange}
 use Rattle.vm_base.specs.declared.replies.Reply.{Reply}
 use Rattle.slot_lock.specs.declared.plan.Touch.{Touch}
+use Rattle.slot_lock.specs.declared.plan.Goal.{Goal}
+use Rattle.slot_lock.specs.declared.plan.Goal.TheVariants as To
+use Rattle.slot_lock.specs.Plan.{goal_range}
 use Rattle.slot_lock.specs.declared.slot_map.Got.{Got}
 use Rattle.slot_lock.specs.declared.slot_map.Got.TheVariants.{Split, Locked, Held}
 use Rattle.vm_base.specs.Pages.{IsPage}
@@ -10,13 +13,10 @@ use Rattle.slot_lock.specs.Slots.{Slots, Steps, Unlocks, Joins, IsSlotMap, betwe
 use Rattle.machine_model.specs.declared.event.Blocker.TheVariants.{Slot}
 use Rattle.machine_model.specs.declared.event.Outcome.{Outcome}
 use Rattle.machine_model.specs.declared.event.Outcome.TheVariants.{Wait}
-use Rattle.machine_model.specs.declared.phase.Goal.{Goal}
-use Rattle.machine_model.specs.declared.phase.Goal.TheVariants as To
 use Rattle.machine_model.specs.declared.phase.Phase.{Phase}
-use Rattle.machine_model.specs.declared.phase.Phase.TheVariants.{Lock, Decide, Try, Settle}
+use Rattle.machine_model.specs.declared.phase.Phase.TheVariants.{Lock, Find, Decide, Try, Settle}
 use Rattle.machine_model.specs.World.{World}
 use Rattle.machine_model.specs.Actions.{Idles, Becomes, to, let_go}
-use Rattle.machine_model.specs.Holding.{goal_range}
 
 -- ---- Lock
 
@@ -26,6 +26,7 @@ locking goal = Lock goal (goal_range goal).first
 
 -- all pages are held
 abbrev pub all_locked : Goal → Phase
+all_locked (To.Place place target) = Find place target
 all_locked (To.Change change) = Decide change
 all_locked (To.Access touch) = Settle touch
 
@@ -38,10 +39,12 @@ LocksTo w c goal t Split o v = Becomes (record w { slots = t }) o v
 LocksTo w c goal t (Locked b) o v = Becomes (to c (locked_to goal b) (record w { slots = t })) o v
 LocksTo w c goal t (Held by) o v = (o ≡ Wait (Slot by)) × (v ≡ w)
 
--- One step towards holding the pages from the cursor on. Which slot is divided, and where, the slot map chooses.
+-- One step towards holding the pages from the cursor on. Which slot is divided, and where, the slot
+-- map chooses.
 abbrev pub LocksNext : World → ℕ → Goal → ℕ → Outcome → World → Type 0
 LocksNext w c goal cursor o v =
-    (got : Got) × ((t : Slots) × Steps w.slots t c cursor (goal_range goal).end got × LocksTo w c goal t got o v)
+    (got : Got)
+    × ((t : Slots) × Steps w.slots t c cursor (goal_range goal).end got × LocksTo w c goal t got o v)
 
 -- ---- Unlock and Release: the leftmost slot is let go
 
@@ -62,8 +65,10 @@ Releases w c touch o v =
 
 -- ---- Fold
 
--- Slots that nobody holds are joined at a page, where that is possible. Which ones, and when, the slot map chooses.
+-- Slots that nobody holds are joined at a page, where that is possible. Which ones, and when, the
+-- slot map chooses.
 abbrev pub FoldsAt : World → ℕ → Outcome → World → Type 0
 FoldsAt w page o v =
     Idles w o v
-    ⊎ (IsPage page × ((t : Slots) × Joins w.slots t × IsSlotMap t × Becomes (record w { slots = t }) o v))
+    ⊎ (IsPage page
+    × ((t : Slots) × Joins w.slots t × IsSlotMap t × Becomes (record w { slots = t }) o v))

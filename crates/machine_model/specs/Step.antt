@@ -1,12 +1,14 @@
--- One step of the machine, as a relation of the states before and after. Where the slot map may choose, any choice is allowed.
+-- One step of the machine, as a relation of the states before and after. Where the slot map may
+-- choose, any choice is allowed.
 use Rattle.std.specs.Prelude.{◌≡◌, ℕ, zero, suc, ◌-◌, ◌^◌, Bool, true, cond, nat_lt, length, List, [], ◌∷◌, ◌++◌, Option, None, Some}
 use Rattle.vm_base.specs.declared.requests.Request.{Request}
 use Rattle.vm_base.specs.Functions.{put}
+use Rattle.slot_lock.specs.Plan.{goal_range}
 use Rattle.shootdown.specs.Messages.{asked}
 use Rattle.machine_model.specs.declared.phase.Phase.{Phase}
 use Rattle.machine_model.specs.declared.phase.Phase.TheVariants as At
 use Rattle.machine_model.specs.declared.event.Event.{Event}
-use Rattle.machine_model.specs.declared.event.Event.TheVariants.{Call, Go, Frame, Take, Walk, Evict, Flush, Review, Fold, GiveUp}
+use Rattle.machine_model.specs.declared.event.Event.TheVariants.{Call, Go, Frame, Guess, Whole, Take, Walk, Evict, Flush, Review, Fold, GiveUp}
 use Rattle.machine_model.specs.declared.event.Outcome.{Outcome}
 use Rattle.machine_model.specs.declared.event.Outcome.TheVariants.{Stepped, Answered, Full}
 use Rattle.machine_model.specs.Events.{core_of}
@@ -15,6 +17,7 @@ use Rattle.machine_model.specs.Actions.{Idles, Becomes, to}
 use Rattle.machine_model.specs.Counting.{FlushesOnce, ReviewsOnce}
 use Rattle.machine_model.specs.GivingUp.{GivesUp}
 use Rattle.machine_model.specs.Locks.{LocksNext, UnlocksNext, Releases, FoldsAt}
+use Rattle.machine_model.specs.Placing.{GuessesNext, GuessesThisRun, TakesWindow, FindsNext, GoesBack, CutsNext}
 use Rattle.machine_model.specs.Changes.{after_check, DecidesNext, after_post, CommitsNext}
 use Rattle.machine_model.specs.Accesses.{after_try, after_settle, TakesFrame, TakesThisFrame, after_install}
 use Rattle.machine_model.specs.Filling.{FillsFrame, after_copy_post, CopiesNext}
@@ -34,7 +37,8 @@ after_call c request w = to c (At.Check request) (record w {
 -- a core has one call at a time; past the limit of calls none begins
 abbrev pub Begins : World → ℕ → Request → Phase → Outcome → World → Type 0
 Begins w c request At.Free o v =
-    cond (nat_lt (length w.calls.requests) w.made.calls) (Becomes (after_call c request w) o v) ((o ≡ Full) × (v ≡ w))
+    cond (nat_lt (length w.calls.requests) w.made.calls) (Becomes (after_call c request w) o v)
+    ((o ≡ Full) × (v ≡ w))
 Begins w c request _ o v = Idles w o v
 
 -- ---- Go: a step of the call of core c, which is in this phase
@@ -43,9 +47,13 @@ abbrev pub Goes : World → ℕ → Phase → Outcome → World → Type 0
 Goes w c At.Free o v = Idles w o v
 Goes w c (At.Check request) o v = Becomes (after_check c request w) o v
 Goes w c (At.Lock goal cursor) o v = LocksNext w c goal cursor o v
+Goes w c (At.Guess place) o v = GuessesNext w c place o v
+Goes w c (At.Find place target) o v = FindsNext w c place target o v
+Goes w c (At.Back place target held) o v = GoesBack w c place target held o v
+Goes w c (At.Cut place target range) o v = CutsNext w c place target range o v
 Goes w c (At.Decide change) o v = DecidesNext w c change o v
 Goes w c (At.Post change shoot) o v = Becomes (after_post c change shoot w) o v
-Goes w c (At.Acks change held) o v = CommitsNext w c change held o v
+Goes w c (At.Acks goal change) o v = CommitsNext w c change (goal_range goal) o v
 Goes w c (At.Unlock held reply) o v = UnlocksNext w c held reply o v
 Goes w c (At.Answer reply) o v = (o ≡ Answered reply) × (v ≡ to c At.Free w)
 Goes w c (At.Try touch) o v = Becomes (after_try c touch w) o v
@@ -64,6 +72,8 @@ abbrev pub Acts : World → Event → Outcome → World → Type 0
 Acts w (Call c request) o v = Begins w c request (w.calls.phase c) o v
 Acts w (Go c) o v = Goes w c (w.calls.phase c) o v
 Acts w (Frame c f) o v = TakesThisFrame w c (w.calls.phase c) f o v
+Acts w (Guess c p) o v = GuessesThisRun w c (w.calls.phase c) p o v
+Acts w (Whole c) o v = TakesWindow w c (w.calls.phase c) o v
 Acts w (Take c) o v = TakesMessage w c (asked (w.hardware.inbox c)) o v
 Acts w (Walk c p) o v = Walks w c p o v
 Acts w (Evict c p) o v = Evicts w c p o v

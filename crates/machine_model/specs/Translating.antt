@@ -1,5 +1,5 @@
--- What cores do with their tables, TLBs and inboxes (Intel SDM volume 3A, 4-level paging, caching translation information, and propagation
--- of changes to other processors)
+-- What cores do with their tables, TLBs and inboxes (Intel SDM volume 3A, 4-level paging, caching
+-- translation information, and propagation of changes to other processors)
 use Rattle.std.specs.Prelude.{ℕ, ◌&&◌, Bool, false, not, cond, if◌then◌else◌, List, [], ◌∷◌, ◌++◌, Option, None, Some, is_some}
 use Rattle.vm_base.specs.declared.info.PageInfo.{PageInfo}
 use Rattle.vm_base.specs.declared.page.PageRange.{PageRange}
@@ -75,7 +75,8 @@ abbrev pub inboxes_after : ℕ → ℕ → PageRange → (ℕ → List Message) 
 inboxes_after c shoot range inbox d =
     if put (members shoot) c false d then inbox d ++ posted c range ∷ [] else inbox d
 
--- Core c drops its own translations of the range, and asks the other cores of the set to drop theirs.
+-- Core c drops its own translations of the range, and asks the other cores of the set to drop
+-- theirs.
 abbrev pub after_shot : Hardware → ℕ → ℕ → PageRange → Hardware
 after_shot h c shoot range =
     let own = tlb_invalidated (tables_cleared h c range) c range in
@@ -86,12 +87,19 @@ after_shot h c shoot range =
 abbrev pub with_hardware : Hardware → World → World
 with_hardware h w = record w { hardware = h }
 
--- The oldest message is acted on: at the first take the tables are cleared, at the second the TLB is invalidated.
+-- The oldest message is acted on: at the first take the tables are cleared, at the second the TLB
+-- is invalidated.
 abbrev pub TakesMessage : World → ℕ → Took → Outcome → World → Type 0
 TakesMessage w c (Clear range) o v =
-    Becomes (with_hardware (with_inbox (tables_cleared w.hardware c range) c (remaining (w.hardware.inbox c))) w) o v
+    Becomes
+    (with_hardware
+    (with_inbox (tables_cleared w.hardware c range) c (remaining (w.hardware.inbox c))) w)
+    o v
 TakesMessage w c (Invalidate range) o v =
-    Becomes (with_hardware (with_inbox (tlb_invalidated w.hardware c range) c (remaining (w.hardware.inbox c))) w) o v
+    Becomes
+    (with_hardware
+    (with_inbox (tlb_invalidated w.hardware c range) c (remaining (w.hardware.inbox c))) w)
+    o v
 TakesMessage w c Idle o v = Idles w o v
 
 -- the tables have the page, and the TLB hasn't
@@ -103,7 +111,8 @@ after_walk h c p = with_tlb h c (tlb_walked (tlb_at (h.tlb c) p) (h.table c p) p
 
 abbrev pub Walks : World → ℕ → ℕ → Outcome → World → Type 0
 Walks w c p o v =
-    cond (can_walk w.hardware c p) (Becomes (with_hardware (after_walk w.hardware c p) w) o v) (Idles w o v)
+    cond (can_walk w.hardware c p) (Becomes (with_hardware (after_walk w.hardware c p) w) o v)
+    (Idles w o v)
 
 abbrev pub after_eviction : Hardware → ℕ → ℕ → Hardware
 after_eviction h c p = with_tlb h c (tlb_without (is_page p) (h.tlb c))

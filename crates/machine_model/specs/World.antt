@@ -18,21 +18,23 @@ pub record Made : Type 0 where
   pub calls : ℕ
   pub file : ℕ → Option File
 
--- of each core: its tables' entry of each page, its TLB from the oldest filled on, and its inbox from the oldest message on
+-- of each core: its tables' entry of each page, its TLB from the oldest filled on, and its inbox
+-- from the oldest message on
 pub record Hardware : Type 0 where
   pub table : ℕ → ℕ → Option Translation
   pub tlb : ℕ → List TlbEntry
   pub inbox : ℕ → List Message
 
--- of each frame: its bytes, whether it is free, and its counts; of each file and each page of it: the frame that caches it
+-- of each frame: its bytes, whether it is free, and its counts; of each file and each page of it:
+-- the frame that caches it
 pub record Memory : Type 0 where
   pub bytes : ℕ → Bytes
   pub is_free : ℕ → Bool
   pub counts : Counts
   pub cached : ℕ → ℕ → Option ℕ
 
--- Of each core: where its call stands, and the number of its latest call. And the requests of the calls begun, the log, and how many
--- events were taken.
+-- Of each core: where its call stands, and the number of its latest call. And the requests of the
+-- calls begun, the log, and how many events were taken.
 pub record Calls : Type 0 where
   pub phase : ℕ → Phase
   pub number : ℕ → ℕ

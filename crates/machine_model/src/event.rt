@@ -4,7 +4,8 @@ ghost use Rattle.machine_model.specs.Events.{core_of};
 
 use vm_base::{CoreId, CoreSet, Reply, Request};
 
-/// One step. Frames and pages are numbers of which some don't exist; an event that names such a one is not possible.
+/// One step. Frames and pages are numbers of which some don't exist; an event that names such a one
+/// is not possible.
 #[derive(Clone, Copy, Debug, PartialEq, Eq)]
 pub enum Event {
     /// The core begins a call.
@@ -13,10 +14,14 @@ pub enum Event {
     Go(CoreId),
     /// The core's call, which wants a frame, takes this one.
     Frame(CoreId, u64),
+    /// The core's call, which looks for a place, guesses that there is one from this page on.
+    Guess(CoreId, u64),
+    /// The core's call, which looks for a place, guesses none and takes its whole window.
+    Whole(CoreId),
     /// The core acts on the oldest message of its inbox.
     Take(CoreId),
-    /// The core's TLB gets the page's translation from its tables, without an access (Intel SDM volume 3A, caching
-    /// translation information).
+    /// The core's TLB gets the page's translation from its tables, without an access (Intel SDM
+    /// volume 3A, caching translation information).
     Walk(CoreId, u64),
     /// The core's TLB drops its translation of the page.
     Evict(CoreId, u64),
@@ -39,6 +44,8 @@ impl Event {
             Event::Call(core, _) => Some(*core),
             Event::Go(core) => Some(*core),
             Event::Frame(core, _) => Some(*core),
+            Event::Guess(core, _) => Some(*core),
+            Event::Whole(core) => Some(*core),
             Event::Take(core) => Some(*core),
             Event::Walk(core, _) => Some(*core),
             Event::Evict(core, _) => Some(*core),

@@ -7,4 +7,4 @@ pub mod phase;
 
 pub use event::{Blocker, Event, Outcome};
 pub use log::Entry;
-pub use phase::{Goal, Phase};
+pub use phase::Phase;

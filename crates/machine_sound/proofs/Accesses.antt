@@ -30,6 +30,7 @@ use Rattle.machine_model.specs.World.{World, Memory}
 use Rattle.machine_counting.specs.Counted.{IsCountedState}
 use Rattle.machine_laws.proofs.Moves.{IsCallOf, call_at}
 use Rattle.machine_laws.proofs.Shapes.{IsFault}
+use Rattle.machine_counting.proofs.Kept.{same_with_core}
 use Rattle.machine_sound.specs.Invariant.{Fine, Good, Shows, ShowsPage, own_frame}
 use Rattle.machine_sound.proofs.Moves.{Leaves, shows_less, goes_on, tells, answers}
 use Rattle.machine_sound.proofs.Reaching.{ReachesFrame, reaches}
@@ -57,8 +58,7 @@ pub access_made : (w : World) (event : Event) (c : ℕ) (touch : Touch) (f : ℕ
     → Leaves w event (after_access c touch f (with_hardware (after_translating w.hardware c touch) w))
 access_made w event c touch f e h fine =
     let reply : Reply = reply_of touch f w.memory in
-    let r : ReachesFrame w.memory.cached
-    (w.slots.info touch.page) touch.access f = reaches w.memory.cached w.slots.info w.calls.phase w.hardware c touch f fine.coherent h in
+    let r : ReachesFrame w.memory.cached (w.slots.info touch.page) touch.access f = reaches w.memory.cached w.slots.info w.calls.phase w.hardware c touch f fine.coherent h in
     let i : IsFramed w fine.plain touch.page f = framed w fine.plain touch.page f fine.good (ap frame_of r.mapped ∙ r.frame) in
     let same : r.page ≡ i.info = let a = r.mapped in let b = i.at_slot in cc in
     let allowed : is_allowed i.info.meta.prot touch.access ≡ true = subst (λ (x : PageInfo). is_allowed x.meta.prot touch.access ≡ true) same r.allowed in
@@ -115,8 +115,7 @@ fault_reply w t touch reply g h = go (w.slots.info touch.page) refl h
 
     has : (info : PageInfo) → w.slots.info touch.page ≡ Some info → (a b : Bool) → is_allowed info.meta.prot touch.access ≡ a
         → is_past_end w.made.file (Some info) ≡ b
-        → IsFault (if a then (if b then PastEnd else source info.meta.back info.frame touch.access
-        (file_frame w.memory.cached info.meta.back)) else Forbidden) reply
+        → IsFault (if a then (if b then PastEnd else source info.meta.back info.frame touch.access (file_frame w.memory.cached info.meta.back)) else Forbidden) reply
         → Told reply
     has info e true true i j f = subst Told (sym f) (tt, past_reply w t touch.page touch.access touch.offset info g e i j, refl)
     has info e true false i j f =
@@ -154,10 +153,6 @@ no_frame_told w event c touch old held e none f =
 
 -- ---- Install
 
-recorded_frame : (c : ℕ) (o : Option PageInfo) → frame_of (info_with_core c o) ≡ frame_of o
-recorded_frame c None = refl
-recorded_frame c (Some info) = refl
-
 recorded_own : (cached : ℕ → ℕ → Option ℕ) (c : ℕ) (o : Option PageInfo) → own_frame cached (info_with_core c o) ≡ own_frame cached o
 recorded_own cached c None = refl
 recorded_own cached c (Some info) = refl
@@ -182,9 +177,9 @@ core_installed w event c touch f =
     (recorded_shown w.memory c (w.slots.info touch.page) (f.plain.entry touch.page) (f.good.pages touch.page)) (λ p ne. f.good.pages p))
     f.good.files
     (λ p x. put_all (λ p o. frame_of o ≡ Some x → frame_of (w.slots.info p) ≡ Some x) w.slots.info touch.page new
-    (λ h. sym (recorded_frame c (w.slots.info touch.page)) ∙ h) (λ p ne h. h) p)
+    (λ h. sym (same_with_core c (w.slots.info touch.page)) ∙ h) (λ p ne h. h) p)
     (λ p x. put_all (λ p o. own_frame cached o ≡ Some x → own_frame cached (w.slots.info p) ≡ Some x) w.slots.info touch.page new
     (λ h. sym (recorded_own cached c (w.slots.info touch.page)) ∙ h) (λ p ne h. h) p)
     (λ p x. put_all (λ p o. frame_of o ≡ Some x → is_past_end w.made.file o ≡ false) w.slots.info touch.page new
-    (λ h. recorded_whole w.made.file c (w.slots.info touch.page) ∙ f.good.whole touch.page x (sym (recorded_frame c (w.slots.info touch.page)) ∙ h))
+    (λ h. recorded_whole w.made.file c (w.slots.info touch.page) ∙ f.good.whole touch.page x (sym (same_with_core c (w.slots.info touch.page)) ∙ h))
     (λ p ne h. f.good.whole p x h) p))

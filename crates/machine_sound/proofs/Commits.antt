@@ -1,8 +1,7 @@
 -- The change that a call makes of its pages is the plain page map's.
-use Rattle.std.proofs.Common.{◌≡◌, ℕ, Bool, true, false, cond, refl, sym, subst, Some, None, Option, ◌∙◌}
+use Rattle.std.proofs.Common.{◌≡◌, ℕ, ◌<◌, Bool, true, false, cond, refl, sym, subst, Some, None, Option, ◌∙◌}
 use Rattle.std.specs.Prelude.{◌-◌}
 use Rattle.vm_base.specs.declared.info.PageInfo.{PageInfo}
-use Rattle.vm_base.specs.declared.page.PageRange.{PageRange}
 use Rattle.vm_base.specs.declared.rights.Prot.{Prot}
 use Rattle.vm_base.specs.Functions.{has}
 use Rattle.vm_base.specs.Info.{advance, advance_back, unused, frame_of, info_with_prot}
@@ -10,10 +9,9 @@ use Rattle.vm_base.specs.Plain.{File, Entry, Plain}
 use Rattle.vm_base.specs.Apply.{new_entry, with_prot}
 use Rattle.slot_lock.specs.declared.plan.Change.{Change}
 use Rattle.slot_lock.specs.declared.plan.Change.TheVariants.{Put, Clear, Protect}
-use Rattle.slot_lock.specs.declared.plan.Plan.TheVariants as PlanOf
-use Rattle.slot_lock.specs.Plan.{range_of}
+use Rattle.slot_lock.specs.declared.plan.Goal.{Goal}
+use Rattle.slot_lock.specs.Plan.{goal_range}
 use Rattle.slot_lock.specs.Slots.{Slots}
-use Rattle.vm_calls.specs.Plainly.{left_by}
 use Rattle.machine_model.specs.declared.event.Event.{Event}
 use Rattle.machine_model.specs.declared.phase.Phase.TheVariants.{Acks}
 use Rattle.refcache.specs.Counts.{Counts}
@@ -23,15 +21,12 @@ use Rattle.machine_model.specs.Accesses.{is_past_end}
 use Rattle.machine_model.specs.World.{World, Memory}
 use Rattle.machine_laws.proofs.Changed.{changed_all}
 use Rattle.machine_laws.proofs.Moves.{IsCallOf, call_at}
+use Rattle.machine_counting.proofs.Kept.{same_with_prot}
 use Rattle.machine_sound.specs.Invariant.{Fine, ShowsPage, ShowsFile, own_frame}
 use Rattle.machine_sound.proofs.Moves.{Leaves, shows_less, with_counts_shown, tells}
-use Rattle.machine_sound.proofs.Replies.{reply_is, due_so, acted}
+use Rattle.machine_sound.proofs.Replies.{reply_is, due_so, made_of, acted, led_goes}
 
 -- ---- what a change makes of pages, on both sides
-
--- the plain page map after the change
-abbrev made_of : Plain → Change → Plain
-made_of t change = left_by t (PlanOf.Change change) (range_of change)
 
 both_tests : {V W : Type 0} (P : V → W → Type 0) (b : Bool) (x y : V) (a d : W) → (b ≡ true → P x a) → (b ≡ false → P y d) → P (cond b x y) (cond b a d)
 both_tests P true x y a d h k = h refl
@@ -58,10 +53,6 @@ files_changed t (Put range meta) = refl
 files_changed t (Clear range) = refl
 files_changed t (Protect range prot) = refl
 
-protected_frame : (prot : Prot) (o : Option PageInfo) → frame_of (info_with_prot prot o) ≡ frame_of o
-protected_frame prot None = refl
-protected_frame prot (Some info) = refl
-
 protected_own : (cached : ℕ → ℕ → Option ℕ) (prot : Prot) (o : Option PageInfo) → own_frame cached (info_with_prot prot o) ≡ own_frame cached o
 protected_own cached prot None = refl
 protected_own cached prot (Some info) = refl
@@ -73,7 +64,7 @@ protected_whole file prot (Some info) = refl
 fewer_frames : (s : Slots) (change : Change) (p f : ℕ) → frame_of ((slots_after change s).info p) ≡ Some f → frame_of (s.info p) ≡ Some f
 fewer_frames s change p f =
     changed_all (λ p o. frame_of o ≡ Some f → frame_of (s.info p) ≡ Some f) s change (λ range meta p e i h. absurd cc) (λ p h. absurd cc)
-    (λ prot p old h. sym (protected_frame prot (s.info p)) ∙ h) (λ p h. h) p
+    (λ prot p old h. sym (same_with_prot prot (s.info p)) ∙ h) (λ p h. h) p
 
 fewer_own : (cached : ℕ → ℕ → Option ℕ) (s : Slots) (change : Change) (p f : ℕ) → own_frame cached ((slots_after change s).info p) ≡ Some f
     → own_frame cached (s.info p) ≡ Some f
@@ -86,16 +77,17 @@ whole_still : (file : ℕ → Option File) (s : Slots) (change : Change) → ((p
     → (p f : ℕ) → frame_of ((slots_after change s).info p) ≡ Some f → is_past_end file ((slots_after change s).info p) ≡ false
 whole_still file s change h p f =
     changed_all (λ p o. frame_of o ≡ Some f → is_past_end file o ≡ false) s change (λ range meta p e i k. absurd cc) (λ p k. absurd cc)
-    (λ prot p old k. protected_whole file prot (s.info p) ∙ h p f (sym (protected_frame prot (s.info p)) ∙ k)) (λ p k. h p f k) p
+    (λ prot p old k. protected_whole file prot (s.info p) ∙ h p f (sym (same_with_prot prot (s.info p)) ∙ k)) (λ p k. h p f k) p
 
 -- ---- Acks
 
-pub change_committed : (w : World) (event : Event) (c : ℕ) (change : Change) (held : PageRange) (counts : Counts) → w.calls.phase c ≡ Acks change held → Fine w
-    → Leaves w event (after_commit c change held counts w)
-change_committed w event c change held counts e f =
-    tells w event c (Some held) (reply_to change) (slots_after change w.slots) w.hardware (with_counts counts w).memory f
+pub change_committed : (w : World) (event : Event) (c : ℕ) (goal : Goal) (change : Change) (counts : Counts) → c < 64
+    → w.calls.phase c ≡ Acks goal change → Fine w → Leaves w event (after_commit c change (goal_range goal) counts w)
+change_committed w event c goal change counts few e f =
+    tells w event c (Some (goal_range goal)) (reply_to change) (slots_after change w.slots) w.hardware (with_counts counts w).memory f
     (made_of f.plain change) k.asked.request k.asked.number
-    (acted w f.plain c k.asked.request change k.ready.1.0 f.good k.asked.passed k.ready.1.1)
+    (acted w f.plain c k.asked.request goal change f.good
+    (record { few = few; passed = k.asked.passed; target = k.ready.0; none = led_goes goal change k.ready.1 }) k.ready.1 k.ready.2)
     (due_so event w.memory.is_free w.calls.events (w.calls.number c) c (reply_to change) (reply_is change))
     (with_counts_shown w.made.file (slots_after change w.slots).info w.memory counts (made_of f.plain change)
     (shows_less w f.plain (made_of f.plain change) (slots_after change w.slots).info w.memory.bytes f.good
@@ -103,5 +95,5 @@ change_committed w event c change held counts e f =
     (subst (λ file. (n : ℕ) → ShowsFile w.memory.bytes (w.memory.cached n) (w.made.file n) (file n)) (sym (files_changed f.plain change)) f.good.files)
     (fewer_frames w.slots change) (fewer_own w.memory.cached w.slots change) (whole_still w.made.file w.slots change f.good.whole)))
   where
-    k : IsCallOf w c (Acks change held)
-    k = call_at w c (Acks change held) e f.order
+    k : IsCallOf w c (Acks goal change)
+    k = call_at w c (Acks goal change) e f.order

@@ -1,11 +1,14 @@
 -- Logs that are legal, and entries that aren't, by computation
-use Rattle.std.proofs.Common.{◌≡◌, Bool, true, false, refl, Some, None, List, [], ◌∷◌}
+use Rattle.std.proofs.Common.{◌≡◌, ℕ, arith, Bool, true, false, refl, subst, Some, None, Option, List, [], ◌∷◌}
 use Rattle.vm_base.specs.declared.replies.Errno.TheVariants.{EINVAL, ENOMEM}
 use Rattle.vm_base.specs.declared.replies.Reply.TheVariants.{Mapped, Done, Byte, Refused, NoFrame}
 use Rattle.vm_base.specs.declared.requests.Flags.{Flags}
 use Rattle.vm_base.specs.declared.requests.Request.{Request}
 use Rattle.vm_base.specs.declared.requests.Request.TheVariants.{Mmap, Munmap, Load, Store}
 use Rattle.vm_base.specs.declared.rights.Prot.{Prot}
+use Rattle.vm_base.specs.declared.info.Back.TheVariants.{Anon}
+use Rattle.vm_base.specs.Apply.{Maps, range_at}
+use Rattle.vm_base.specs.Places.IsPlace.{at_hint, in_window, nowhere}
 use Rattle.vm_base.specs.Plain.{Plain, nothing_mapped}
 use Rattle.machine_model.specs.declared.log.Entry.{Entry}
 use Rattle.machine_model.specs.declared.log.Entry.TheVariants.{Answer}
@@ -26,7 +29,7 @@ nothing = nothing_mapped (λ n. None)
 
 -- Entries stand in the order of their steps, which need not be that of their calls.
 abbrev entries : List Entry
-entries = Answer 7 4 1 (Refused ENOMEM) ∷ Answer 9 1 0 (Mapped 65536) ∷ Answer 18 2 0 Done ∷ Answer 22 3 0 (Byte 41) ∷ []
+entries = Answer 7 4 1 (Mapped 65536) ∷ Answer 9 1 0 (Mapped 65536) ∷ Answer 18 2 0 Done ∷ Answer 22 3 0 (Byte 41) ∷ []
 
 -- they are legal
 legal : (t : Plain) × Replays requests nothing entries t
@@ -34,7 +37,8 @@ legal = (
   _,
   (
     _,
-    (_, refl, (refl, refl)),
+    -- its hint is free, and so it goes there
+    (_, refl, (Some 16, at_hint (refl, λ p h. refl) refl, (refl, refl))),
     (
       _,
       (_, refl, (refl, refl)),
@@ -50,6 +54,21 @@ legal = (
     ),
   ),
 )
+
+-- the same mapping may as well be anywhere in its core's window
+elsewhere : (t : Plain) × Stands nothing 0 (Mmap 65536 4096 read_write (anonymous false) 0 0) (Mapped 549755813888) t
+elsewhere = (_, (Some 134217728, in_window 134217728 (omega arith, omega arith, λ p h. refl) refl, (refl, refl)))
+
+-- but it isn't refused while there is room
+no_refusal : (t : Plain) → Stands nothing 0 (Mmap 65536 4096 read_write (anonymous false) 0 0) (Refused ENOMEM) t → ⊥
+no_refusal t h = elim h.1 [
+  | at_hint a e ↦ placed _ e
+  | in_window s a e ↦ placed s e
+  | nowhere a e ↦ a 134217728 (omega arith, omega arith, λ p i. refl)
+]
+  where
+    placed : (s : ℕ) → h.0 ≡ Some s → ⊥
+    placed s e = let z = subst (λ (o : Option ℕ). Maps nothing (range_at o 1) Anon read_write (Refused ENOMEM) t) e h.2 in let same = z.0 in cc
 
 -- after them no other byte is loaded
 other_byte : (u : Plain) → Stands legal.0 0 (Load 65540) (Byte 7) u → ⊥

@@ -7,16 +7,17 @@ use Rattle.machine_model.specs.declared.event.Event.{Event}
 use Rattle.machine_model.specs.declared.event.Event.TheVariants.{GiveUp}
 use Rattle.machine_model.specs.declared.event.Outcome.{Outcome}
 use Rattle.machine_model.specs.declared.event.Outcome.TheVariants.{Stepped, Idle, Full, Wait, Answered}
-use Rattle.machine_model.specs.declared.phase.Goal.{Goal}
+use Rattle.slot_lock.specs.declared.plan.Goal.{Goal}
+use Rattle.slot_lock.specs.Plan.{goal_range}
 use Rattle.machine_model.specs.declared.phase.Phase.TheVariants.{Lock}
 use Rattle.machine_model.specs.Events.{core_of}
 use Rattle.machine_model.specs.GivingUp.{given_back, after_give_up}
-use Rattle.machine_model.specs.Holding.{goal_range, range_in, some_has, taken_in}
+use Rattle.machine_model.specs.Holding.{range_in, some_has, taken_in}
 use Rattle.machine_model.specs.Step.{with_event, Step}
 use Rattle.machine_model.specs.World.{World}
 use Rattle.machine_laws.specs.Orderly.{IsOrderly}
 use Rattle.machine_laws.proofs.Moves.{IsCallOf, call_at}
-use Rattle.machine_laws.proofs.Shapes.{GoesBy, moves, divides, owns, lets_go, answers, posts, commits, takes, zeroes, first_copies, caches, shares, posts_copy, copies, installs, accesses, faults, Works, clears, invalidates, walks, evicts, flushes, reviews, frees, IsGoing, going, picking, Rests, absent, busy, full, free, cannot, waits, awaits, Shape, rests, begins, ends, goes, gives_up, works, joins, Comes, stopped, acts, comes}
+use Rattle.machine_laws.proofs.Shapes.{GoesBy, moves, divides, cuts, fits, owns, lets_go, answers, posts, commits, takes, zeroes, first_copies, caches, shares, posts_copy, copies, installs, accesses, faults, Works, clears, invalidates, walks, evicts, flushes, reviews, frees, IsGoing, going, picking, Rests, absent, busy, full, free, cannot, waits, awaits, Shape, rests, begins, ends, goes, aims, gives_up, works, joins, Comes, stopped, acts, comes}
 use Rattle.machine_sound.specs.Sound.{IsFreedBy, FreesOnly, IsBlocked}
 use Rattle.machine_sound.specs.Sound.IsFreedBy.{by_review, by_call}
 
@@ -39,11 +40,13 @@ back_frees w e c by (Some x) k f was now = one_freed w e x (by_call c by k) f wa
 going_frees : (w : World) (e : Event) (c : ℕ) (v : World) → core_of e ≡ Some c → GoesBy w c v → FreesOnly w e v
 going_frees w e c v by (moves new m h) f was now = none_freed w e f _ (ap (λ (v : World). v.memory.is_free f) h) was now
 going_frees w e c v by (divides goal cursor t p s h) f was now = none_freed w e f _ (ap (λ (v : World). v.memory.is_free f) h) was now
+going_frees w e c v by (cuts place target range t p s h) f was now = none_freed w e f _ (ap (λ (v : World). v.memory.is_free f) h) was now
+going_frees w e c v by (fits place target range p i h) f was now = none_freed w e f _ (ap (λ (v : World). v.memory.is_free f) h) was now
 going_frees w e c v by (owns goal cursor b t p l h) f was now = none_freed w e f _ (ap (λ (v : World). v.memory.is_free f) h) was now
 going_frees w e c v by (lets_go held b t new l u h) f was now = none_freed w e f _ (ap (λ (v : World). v.memory.is_free f) h) was now
 going_frees w e c v by (answers held reply r h) f was now = none_freed w e f _ (ap (λ (v : World). v.memory.is_free f) h) was now
 going_frees w e c v by (posts change shoot p h) f was now = none_freed w e f _ (ap (λ (v : World). v.memory.is_free f) h) was now
-going_frees w e c v by (commits change held counts p n l h) f was now = none_freed w e f _ (ap (λ (v : World). v.memory.is_free f) h) was now
+going_frees w e c v by (commits goal change counts p n l h) f was now = none_freed w e f _ (ap (λ (v : World). v.memory.is_free f) h) was now
 going_frees w e c v by (takes touch old x p l h) f was now =
     absurd (put_all (λ f b. w.memory.is_free f ≡ false → b ≡ true → ⊥) w.memory.is_free x false (λ _ k. cc) (λ f ne a k. cc) f was
     (sym (ap (λ (v : World). v.memory.is_free f) h) ∙ now))
@@ -81,6 +84,7 @@ shape_frees w e o v (rests i h) f was now = none_freed w e f _ (ap (λ (v : Worl
 shape_frees w e o v (begins c request i s lt p few h) f was now = none_freed w e f _ (ap (λ (v : World). v.memory.is_free f) h) was now
 shape_frees w e o v (ends c reply i s lt p h) f was now = none_freed w e f _ (ap (λ (v : World). v.memory.is_free f) h) was now
 shape_frees w e o v (goes c i s lt k) f was now = going_frees w e c v (its_core c e i) k f was now
+shape_frees w e o v (aims c place target a s lt p h) f was now = none_freed w e f _ (ap (λ (v : World). v.memory.is_free f) h) was now
 shape_frees w e o v (gives_up c i s lt can u h) f was now = subst (λ e. IsFreedBy w e f) (sym i) (give_up_frees w c v h f was now)
 shape_frees w e o v (works c s lt k) f was now = work_frees w e c v k f was now
 shape_frees w e o v (joins p t i s page j m h) f was now = none_freed w e f _ (ap (λ (v : World). v.memory.is_free f) h) was now
@@ -126,6 +130,7 @@ shape_blocked w e o v g (rests i h) = rests_blocked w e o g i
 shape_blocked w e o v g (begins c request i s lt p few h) = unblocked w e o Stepped s tt
 shape_blocked w e o v g (ends c reply i s lt p h) = unblocked w e o (Answered reply) s tt
 shape_blocked w e o v g (goes c i s lt k) = unblocked w e o Stepped s tt
+shape_blocked w e o v g (aims c place target a s lt p h) = unblocked w e o Stepped s tt
 shape_blocked w e o v g (gives_up c i s lt can u h) = unblocked w e o Stepped s tt
 shape_blocked w e o v g (works c s lt k) = unblocked w e o Stepped s tt
 shape_blocked w e o v g (joins p t i s page j m h) = unblocked w e o Stepped s tt

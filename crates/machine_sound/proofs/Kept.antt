@@ -1,19 +1,18 @@
 -- Each step from a fine state leaves a fine one, and so each reached state is fine.
-use Rattle.std.proofs.Common.{◌≡◌, ℕ, true, refl, sym, ap, subst, Some, Option, List, [], ◌∷◌, ◌++◌, inl}
+use Rattle.std.proofs.Common.{◌≡◌, ℕ, ◌<◌, ◌≤◌, arith, true, refl, sym, ap, subst, Some, Option, List, [], ◌∷◌, ◌++◌, inl}
 use Rattle.vm_base.specs.declared.page.PageRange.{PageRange}
-use Rattle.vm_base.specs.declared.replies.Errno.TheVariants.{ENOMEM}
 use Rattle.vm_base.specs.declared.replies.Reply.{Reply}
 use Rattle.vm_base.specs.declared.replies.Reply.TheVariants.{Refused, NoMemory}
 use Rattle.vm_base.specs.declared.requests.Request.{Request}
 use Rattle.vm_base.specs.Plain.{nothing_mapped}
 use Rattle.slot_lock.specs.Slots.{Slots, IsNew}
-use Rattle.slot_lock.specs.Plan.{range_of}
 use Rattle.machine_model.specs.declared.event.Event.{Event}
 use Rattle.machine_model.specs.declared.event.Event.TheVariants.{GiveUp}
 use Rattle.machine_model.specs.declared.event.Outcome.{Outcome}
-use Rattle.machine_model.specs.declared.phase.Goal.TheVariants as To
+use Rattle.slot_lock.specs.declared.plan.Change.TheVariants.{Put}
+use Rattle.slot_lock.specs.declared.plan.Goal.TheVariants as To
 use Rattle.machine_model.specs.declared.phase.Phase.{Phase}
-use Rattle.machine_model.specs.declared.phase.Phase.TheVariants.{Free, Check, Lock, Decide, Post, Acks, Unlock, Answer, Try, Settle, Want, Fill, CopyPost, CopyAcks, Install, Release}
+use Rattle.machine_model.specs.declared.phase.Phase.TheVariants.{Free, Check, Lock, Guess, Find, Back as Leaving, Cut, Decide, Post, Acks, Unlock, Answer, Try, Settle, Want, Fill, CopyPost, CopyAcks, Install, Release}
 use Rattle.machine_model.specs.Actions.{after_reply}
 use Rattle.machine_model.specs.Accesses.{after_frame, taken_for}
 use Rattle.machine_model.specs.Filling.{after_copy_post}
@@ -22,6 +21,7 @@ use Rattle.machine_model.specs.Counting.{with_counts, with_free}
 use Rattle.machine_model.specs.GivingUp.{after_give_up, given_back}
 use Rattle.machine_model.specs.Holding.{taken_in, still_held, can_give_up}
 use Rattle.machine_model.specs.Locks.{locking, locked_to}
+use Rattle.machine_model.specs.Placing.{trying}
 use Rattle.machine_model.specs.Translating.{after_translating}
 use Rattle.machine_model.specs.World.{World, Made, new_world}
 use Rattle.machine_model.specs.Step.{after_call, with_event, Step, Run}
@@ -29,7 +29,7 @@ use Rattle.machine_laws.proofs.Kept.{kept as order_kept}
 use Rattle.machine_laws.proofs.Moves.{IsCallOf, call_at}
 use Rattle.machine_laws.specs.Brackets.{nth}
 use Rattle.machine_laws.specs.Orderly.{IsAsked}
-use Rattle.machine_laws.proofs.Shapes.{Replies, refuses, no_place, declines, fails, no_frame, GoesBy, moves, divides, owns, lets_go, answers, posts, commits, takes, zeroes, first_copies, caches, shares, posts_copy, copies, installs, accesses, faults, Works, clears, invalidates, walks, evicts, flushes, reviews, frees, Shape, rests, begins, ends, goes, gives_up, works, joins, Comes, stopped, acts as happens, comes}
+use Rattle.machine_laws.proofs.Shapes.{Replies, refuses, no_place, declines, fails, no_frame, GoesBy, moves, divides, cuts, fits, owns, lets_go, answers, posts, commits, takes, zeroes, first_copies, caches, shares, posts_copy, copies, installs, accesses, faults, Works, clears, invalidates, walks, evicts, flushes, reviews, frees, Shape, rests, begins, ends, goes, aims, gives_up, works, joins, Comes, stopped, acts as happens, comes}
 use Rattle.machine_coherence.proofs.Kept.{kept as translations_kept}
 use Rattle.machine_counting.proofs.Kept.{kept as counts_kept}
 use Rattle.machine_sound.specs.Sound.{IsReached, IsSoundState, IsSoundStep, Notes, SoundRun}
@@ -43,60 +43,67 @@ use Rattle.machine_sound.proofs.Moves as left
 use Rattle.machine_sound.proofs.Moves.{Leaves, stays, shows_same, with_memory, goes_on, beside}
 use Rattle.machine_sound.proofs.Freeing.{frees_only, blocked}
 use Rattle.machine_sound.proofs.Opening.{fine_opening}
-use Rattle.machine_sound.proofs.Replies.{due_so, refused, no_place_stands, declined}
+use Rattle.machine_sound.proofs.Replies.{due_so, refused, declined}
 use Rattle.machine_sound.proofs.Sound.{fine_sound}
 
 -- ---- the shapes
 
-replies_left : (w : World) (event : Event) (c : ℕ) (held : Option PageRange) (reply : Reply) → Fine w → Replies w c held reply
+replies_left : (w : World) (event : Event) (c : ℕ) (held : Option PageRange) (reply : Reply) → c < 64 → Fine w → Replies w c held reply
     → Leaves w event (after_reply c held reply w)
-replies_left w event c held reply f (refuses request e h k) =
+replies_left w event c held reply few f (refuses request e h k) =
     let number = (call_at w c (Check request) e f.order).asked in
     let z = refused w f.plain c request reply f.good k in
     left.answers w event c held reply f request number z.1 (due_so event w.memory.is_free w.calls.events (w.calls.number c) c reply z.0)
-replies_left w event c held reply f (no_place request place e h r k) =
+replies_left w event c held reply few f (no_place place target errno e h r d) =
+    let k : IsCallOf w c (Find place target) = call_at w c (Find place target) e f.order in
     subst (λ y. Leaves w event (after_reply c held y w)) (sym r)
-    (left.answers w event c held (Refused ENOMEM) f request (call_at w c (Check request) e f.order).asked
-    (no_place_stands w f.plain c request place f.good k) tt)
-replies_left w event c held reply f (declines change errno e h r d) =
+    (left.answers w event c held (Refused errno) f k.asked.request k.asked.number
+    (declined w f.plain c k.asked.request (To.Place place target) errno f.good
+    (record { few = few; passed = k.asked.passed; target = k.ready; none = tt }) d) tt)
+replies_left w event c held reply few f (declines change errno e h r d) =
     let k : IsCallOf w c (Decide change) = call_at w c (Decide change) e f.order in
     subst (λ y. Leaves w event (after_reply c held y w)) (sym r)
     (left.answers w event c held (Refused errno) f k.asked.request k.asked.number
-    (declined w f.plain c k.asked.request change errno f.good k.asked.passed d) tt)
-replies_left w event c held reply f (fails touch e h x) = fault_told w event c touch held reply e x f
-replies_left w event c held reply f (no_frame touch old e h r none) =
+    (declined w f.plain c k.asked.request (To.Change change) errno f.good
+    (record { few = few; passed = k.asked.passed; target = tt; none = tt }) d) tt)
+replies_left w event c held reply few f (fails touch e h x) = fault_told w event c touch held reply e x f
+replies_left w event c held reply few f (no_frame touch old e h r none) =
     subst (λ y. Leaves w event (after_reply c held y w)) (sym r) (no_frame_told w event c touch old held e none f)
 
-goes_left : (w : World) (event : Event) (c : ℕ) (v : World) → Fine w → GoesBy w c v → Leaves w event v
-goes_left w event c v f (moves new m h) = subst (Leaves w event) (sym h) (goes_on w event c new w.slots w.hardware w.memory f f.good)
-goes_left w event c v f (divides goal cursor t e s h) =
+goes_left : (w : World) (event : Event) (c : ℕ) (v : World) → c < 64 → Fine w → GoesBy w c v → Leaves w event v
+goes_left w event c v few f (moves new m h) = subst (Leaves w event) (sym h) (goes_on w event c new w.slots w.hardware w.memory f f.good)
+goes_left w event c v few f (divides goal cursor t e s h) =
     subst (Leaves w event) (sym h) (beside w event t w.hardware w.memory f (shows_same w f.plain t.info s.divides.2.info f.good))
-goes_left w event c v f (owns goal cursor b t e l h) =
+goes_left w event c v few f (cuts place target range t e s h) =
+    subst (Leaves w event) (sym h) (beside w event t w.hardware w.memory f (shows_same w f.plain t.info s.divides.2.info f.good))
+goes_left w event c v few f (fits place target range e i h) =
+    subst (Leaves w event) (sym h) (goes_on w event c (Acks (To.Place place target) (Put range place.meta)) w.slots w.hardware w.memory f f.good)
+goes_left w event c v few f (owns goal cursor b t e l h) =
     subst (Leaves w event) (sym h)
     (goes_on w event c (locked_to goal b) t w.hardware w.memory f (shows_same w f.plain t.info (ap (λ (x : Slots). x.info) l.now) f.good))
-goes_left w event c v f (lets_go held b t new l u h) =
+goes_left w event c v few f (lets_go held b t new l u h) =
     subst (Leaves w event) (sym h)
     (goes_on w event c new t w.hardware w.memory f (shows_same w f.plain t.info (ap (λ (x : Slots). x.info) u.now) f.good))
-goes_left w event c v f (answers held reply r h) = subst (Leaves w event) (sym h) (replies_left w event c held reply f r)
-goes_left w event c v f (posts change shoot e h) =
+goes_left w event c v few f (answers held reply r h) = subst (Leaves w event) (sym h) (replies_left w event c held reply few f r)
+goes_left w event c v few f (posts change shoot e h) =
     subst (Leaves w event) (sym h)
-    (goes_on w event c (Acks change (range_of change)) w.slots (after_post c change shoot w).hardware w.memory f f.good)
-goes_left w event c v f (commits change held counts e n l h) =
-    subst (Leaves w event) (sym h) (change_committed w event c change held counts e f)
-goes_left w event c v f (takes touch old x e l h) =
+    (goes_on w event c (Acks (To.Change change) change) w.slots (after_post c change shoot w).hardware w.memory f f.good)
+goes_left w event c v few f (commits goal change counts e n l h) =
+    subst (Leaves w event) (sym h) (change_committed w event c goal change counts few e f)
+goes_left w event c v few f (takes touch old x e l h) =
     subst (Leaves w event) (sym h)
     (goes_on w event c (taken_for touch old x) w.slots w.hardware (after_frame c touch old x w).memory f (with_memory w f.plain f.good))
-goes_left w event c v f (zeroes touch x counts e b t h) = subst (Leaves w event) (sym h) (page_zeroed w event c touch x counts e b f)
-goes_left w event c v f (first_copies touch x counts e b t h) = subst (Leaves w event) (sym h) (page_first_copied w event c touch x counts e b f)
-goes_left w event c v f (caches touch x counts e s n t h) = subst (Leaves w event) (sym h) (page_cached w event c touch x counts e s n f)
-goes_left w event c v f (shares touch own x counts e s i t h) = subst (Leaves w event) (sym h) (page_shared w event c touch own x counts e s i f)
-goes_left w event c v f (posts_copy touch x e h) =
+goes_left w event c v few f (zeroes touch x counts e b t h) = subst (Leaves w event) (sym h) (page_zeroed w event c touch x counts e b f)
+goes_left w event c v few f (first_copies touch x counts e b t h) = subst (Leaves w event) (sym h) (page_first_copied w event c touch x counts e b f)
+goes_left w event c v few f (caches touch x counts e s n t h) = subst (Leaves w event) (sym h) (page_cached w event c touch x counts e s n f)
+goes_left w event c v few f (shares touch own x counts e s i t h) = subst (Leaves w event) (sym h) (page_shared w event c touch own x counts e s i f)
+goes_left w event c v few f (posts_copy touch x e h) =
     subst (Leaves w event) (sym h)
     (goes_on w event c (CopyAcks touch x) w.slots (after_copy_post c touch x w).hardware w.memory f f.good)
-goes_left w event c v f (copies touch x g counts e n at t h) = subst (Leaves w event) (sym h) (page_copied w event c touch x g counts e at f)
-goes_left w event c v f (installs touch e h) = subst (Leaves w event) (sym h) (core_installed w event c touch f)
-goes_left w event c v f (accesses touch x e i h) = subst (Leaves w event) (sym h) (access_made w event c touch x e i f)
-goes_left w event c v f (faults touch e i h) =
+goes_left w event c v few f (copies touch x g counts e n at t h) = subst (Leaves w event) (sym h) (page_copied w event c touch x g counts e at f)
+goes_left w event c v few f (installs touch e h) = subst (Leaves w event) (sym h) (core_installed w event c touch f)
+goes_left w event c v few f (accesses touch x e i h) = subst (Leaves w event) (sym h) (access_made w event c touch x e i f)
+goes_left w event c v few f (faults touch e i h) =
     subst (Leaves w event) (sym h)
     (goes_on w event c (locking (To.Access touch)) w.slots (after_translating w.hardware c touch) w.memory f f.good)
 
@@ -127,6 +134,10 @@ its_request : (made : Made) (requests : List Request) (c call : ℕ) (phase : Ph
     → (request : Request) × (nth requests call ≡ Some request)
 its_request made requests c call (Check request) can h = (request, h)
 its_request made requests c call (Lock goal cursor) can h = (h.request, h.number)
+its_request made requests c call (Guess place) can h = (h.request, h.number)
+its_request made requests c call (Find place target) can h = (h.request, h.number)
+its_request made requests c call (Leaving place target held) can h = (h.request, h.number)
+its_request made requests c call (Cut place target range) can h = (h.request, h.number)
 its_request made requests c call (Decide change) can h = (h.request, h.number)
 its_request made requests c call (Post change shoot) can h = (h.request, h.number)
 its_request made requests c call (Try touch) can h = (h.request, h.number)
@@ -138,7 +149,7 @@ its_request made requests c call (Fill touch frame) can h = (h.request, h.number
 its_request made requests c call (Install touch) can h = (h.request, h.number)
 its_request made requests c call (Release touch) can h = (h.request, h.number)
 its_request made requests c call Free can h = absurd cc
-its_request made requests c call (Acks change held) can h = absurd cc
+its_request made requests c call (Acks goal change) can h = absurd cc
 its_request made requests c call (Unlock held reply) can h = absurd cc
 its_request made requests c call (Answer reply) can h = absurd cc
 
@@ -152,9 +163,10 @@ shape_left : (w : World) (e : Event) (o : Outcome) (v : World) → Fine w → Sh
 shape_left w e o v f (rests i h) = subst (Leaves w e) (sym h) (stays w e f)
 shape_left w e o v f (begins c request i s lt p below h) = subst (Leaves w e) (sym h) (begun w e c request f)
 shape_left w e o v f (ends c reply i s lt p h) = subst (Leaves w e) (sym h) (goes_on w e c Free w.slots w.hardware w.memory f f.good)
-shape_left w e o v f (goes c i s lt g) = goes_left w e c v f g
-shape_left w e o v f (gives_up c i s lt can u h) = subst (Leaves w e) (sym h)
-    (subst (λ e. Leaves w e (after_give_up c (w.calls.phase c) w)) (sym i) (given_up w c f can))
+shape_left w e o v f (goes c i s lt g) = goes_left w e c v (let few = f.order.few in omega (arith, lt, few)) f g
+shape_left w e o v f (aims c place target a s lt p h) =
+    subst (Leaves w e) (sym h) (goes_on w e c (trying place target) w.slots w.hardware w.memory f f.good)
+shape_left w e o v f (gives_up c i s lt can u h) = subst (Leaves w e) (sym h) (subst (λ e. Leaves w e (after_give_up c (w.calls.phase c) w)) (sym i) (given_up w c f can))
 shape_left w e o v f (works c s lt k) = works_left w e c v f k
 shape_left w e o v f (joins p t i s page j m h) =
     subst (Leaves w e) (sym h) (beside w e t w.hardware w.memory f (shows_same w f.plain t.info j.info f.good))
@@ -203,7 +215,7 @@ fine_run w [] (o ∷ os) v f r = absurd r
 fine_run w (e ∷ es) [] v f r = absurd r
 
 pub reached_fine : (w : World) → IsReached w → Fine w
-reached_fine w h = fine_run (new_world h.made h.slots) h.events h.outcomes w (fine_opening h.made h.slots h.new) h.run
+reached_fine w h = fine_run (new_world h.made h.slots) h.events h.outcomes w (fine_opening h.made h.slots h.few h.new) h.run
 
 pub reached_sound : (w : World) → IsReached w → IsSoundState w
 reached_sound w h = fine_sound w (reached_fine w h)
@@ -223,6 +235,7 @@ run_more (d ∷ es) (p ∷ os) w m v e o r s = (r.0, r.1, run_more es os r.0 m v
 pub reached_step : (w v : World) (e : Event) (o : Outcome) → IsReached w → Step w e o v → IsReached v
 reached_step w v e o h s = record {
   made = h.made;
+  few = h.few;
   slots = h.slots;
   events = h.events ++ e ∷ [];
   outcomes = h.outcomes ++ o ∷ [];
@@ -230,8 +243,8 @@ reached_step w v e o h s = record {
   run = run_more h.events h.outcomes (new_world h.made h.slots) w v e o h.run s;
 }
 
-pub reached_opening : (made : Made) (slots : Slots) → IsNew slots → IsReached (new_world made slots)
-reached_opening made slots new = record { made = made; slots = slots; events = []; outcomes = []; new = new; run = refl }
+pub reached_opening : (made : Made) (slots : Slots) → made.cores ≤ 64 → IsNew slots → IsReached (new_world made slots)
+reached_opening made slots few new = record { made = made; few = few; slots = slots; events = []; outcomes = []; new = new; run = refl }
 
 sound_run : (w : World) (es : List Event) (os : List Outcome) (v : World) → Fine w → Run w es os v → SoundRun w es os v
 sound_run w [] [] v f r = (fine_sound w f, r)
@@ -240,6 +253,6 @@ sound_run w (e ∷ es) (o ∷ os) v f r =
 sound_run w [] (o ∷ os) v f r = r
 sound_run w (e ∷ es) [] v f r = r
 
-pub runs_sound : (made : Made) (slots : Slots) (events : List Event) (outcomes : List Outcome) (w : World) → IsNew slots
+pub runs_sound : (made : Made) (slots : Slots) (events : List Event) (outcomes : List Outcome) (w : World) → made.cores ≤ 64 → IsNew slots
     → Run (new_world made slots) events outcomes w → SoundRun (new_world made slots) events outcomes w
-runs_sound made slots events outcomes w new r = sound_run (new_world made slots) events outcomes w (fine_opening made slots new) r
+runs_sound made slots events outcomes w few new r = sound_run (new_world made slots) events outcomes w (fine_opening made slots few new) r

@@ -14,3 +14,5 @@ pub mod Sound
 pub mod Kept
 mod Examples
 mod Run
+mod PlacedRun
+mod TakenRun

@@ -1,29 +1,84 @@
 -- A log leads to one plain page map.
-use Rattle.std.proofs.Common.{◌≡◌, ℕ, Bool, true, false, cond, sym, subst, Some, List, [], ◌∷◌, ◌∙◌}
+use Rattle.std.proofs.Common.{◌≡◌, ℕ, Bool, true, false, sym, ap, subst, arith, Option, None, Some, List, [], ◌∷◌, ◌∙◌}
+use Rattle.std.specs.Prelude.{◌*◌}
+use Rattle.vm_base.specs.declared.info.Back.{Back}
+use Rattle.vm_base.specs.declared.page.PageRange.{PageRange}
+use Rattle.vm_base.specs.declared.rights.Prot.{Prot}
+use Rattle.vm_base.specs.declared.requests.Request.TheVariants.{Mmap, Munmap, Mprotect, Load as LoadOf, Store as StoreOf, Fetch as FetchOf}
+use Rattle.vm_base.specs.Pages.{page_count, pages_from}
 use Rattle.vm_base.specs.declared.replies.Reply.{Reply}
 use Rattle.vm_base.specs.declared.replies.Reply.TheVariants.{Mapped, Done, Byte, Refused, Segv, Bus, NoFrame, NoMemory}
 use Rattle.vm_base.specs.declared.requests.Request.{Request}
-use Rattle.vm_base.specs.Plain.{Plain}
-use Rattle.vm_base.specs.Apply.{Applies}
-use Rattle.vm_base.proofs.OneAnswer.{one_answer}
+use Rattle.vm_base.specs.Plain.{Plain, mode_of}
+use Rattle.vm_base.specs.Refusals.{refusal}
+use Rattle.vm_base.specs.Places.{IsPlace}
+use Rattle.vm_base.specs.Apply.{Applies, AppliesAfter, Performs, Maps, MapsAt, Protects, mapped, range_at, back_at}
+use Rattle.vm_base.specs.Apply.Protects.{no_page, no_write, done}
 use Rattle.machine_model.specs.declared.log.Entry.{Entry}
 use Rattle.machine_model.specs.declared.log.Entry.TheVariants.{Answer, Detach}
-use Rattle.machine_sound.specs.Log.{Stands, FindsNoPlace, GoesOn, Replays, is_placed}
+use Rattle.machine_sound.specs.Log.{Stands, GoesOn, Replays}
+
+-- ---- answers: the reply says what is left, also where a mapping may have more than one place
+
+maps_one : (t u v : Plain) (n : ℕ) (a b : Option ℕ) (back : Back) (prot : Prot) (y : Reply) → Maps t (range_at a n) back prot y u
+    → Maps t (range_at b n) back prot y v → u ≡ v
+maps_one t u v n None None back prot y h k = h.1 ∙ sym k.1
+maps_one t u v n None (Some r) back prot y h k = absurd (let e = sym h.0 ∙ k.0 in cc)
+maps_one t u v n (Some s) None back prot y h k = absurd (let e = sym h.0 ∙ k.0 in cc)
+maps_one t u v n (Some s) (Some r) back prot y h k =
+    let e : Mapped (s * 4096) ≡ Mapped (r * 4096) = sym h.0 ∙ k.0 in
+    let at : s * 4096 ≡ r * 4096 = cc in
+    let same : s ≡ r = omega (arith, at) in
+    h.1 ∙ (ap (λ (p : ℕ). mapped t (pages_from p n) back prot) same ∙ sym k.1)
+
+maps_at_one : (fixed : Bool) (t u v : Plain) (core addr len : ℕ) (back : Back) (prot : Prot) (y : Reply)
+    → MapsAt IsPlace fixed t core addr len back prot y u → MapsAt IsPlace fixed t core addr len back prot y v → u ≡ v
+maps_at_one true t u v core addr len back prot y h k = h.1 ∙ sym k.1
+maps_at_one false t u v core addr len back prot y h k = maps_one t u v (page_count len) h.0 k.0 back prot y h.2 k.2
+
+protects_one : (t u v : Plain) (r : PageRange) (prot : Prot) (y : Reply) → Protects t r prot y u → Protects t r prot y v → u ≡ v
+protects_one t u v r prot y h k = elim h [
+  | no_page a b c ↦ elim k [
+    | no_page d e f ↦ c ∙ sym f
+    | no_write d e f g i ↦ absurd (d a)
+    | done d e f g ↦ absurd (d a)
+  ]
+  | no_write a w b c x ↦ elim k [
+    | no_page d e f ↦ absurd (a d)
+    | no_write d e f g i ↦ x ∙ sym i
+    | done d e f g ↦ absurd (e w b)
+  ]
+  | done a b c x ↦ elim k [
+    | no_page d e f ↦ absurd (a d)
+    | no_write d e f g i ↦ absurd (b e f)
+    | done d e f g ↦ x ∙ sym g
+  ]
+]
+
+performs_one : (t u v : Plain) (core : ℕ) (request : Request) (y : Reply) → Performs IsPlace t core request y u → Performs IsPlace t core request y v → u ≡ v
+performs_one t u v core (Mmap addr len prot flags file off) y h k = maps_at_one flags.fixed t u v core addr len (back_at flags file off) prot y h k
+performs_one t u v core (Munmap addr len) y h k = h.1 ∙ sym k.1
+performs_one t u v core (Mprotect addr len prot) y h k = protects_one t u v _ prot y h k
+performs_one t u v core (LoadOf addr) y h k = h.1 ∙ sym k.1
+performs_one t u v core (StoreOf addr byte) y h k = h.1 ∙ sym k.1
+performs_one t u v core (FetchOf addr) y h k = h.1 ∙ sym k.1
+
+leaves_one : (t u v : Plain) (core : ℕ) (request : Request) (y : Reply) → Applies t core request y u → Applies t core request y v → u ≡ v
+leaves_one t u v core request y h k = go (refusal (λ n. mode_of (t.file n)) request) h k
+  where
+    go : (o : Option Reply) → AppliesAfter IsPlace o t core request y u → AppliesAfter IsPlace o t core request y v → u ≡ v
+    go None h k = performs_one t u v core request y h k
+    go (Some refused) h k = h.1 ∙ sym k.1
 
 -- ---- entries
 
-reply_one : (t u v : Plain) (core : ℕ) (request : Request) (y : Reply) (placed : Bool) → cond placed (FindsNoPlace t request y u) (Applies t core request y u)
-    → cond placed (FindsNoPlace t request y v) (Applies t core request y v) → u ≡ v
-reply_one t u v core request y true h k = h.1 ∙ sym k.1
-reply_one t u v core request y false h k = (one_answer t u v core request y y h k).1
-
 stands_one : (t u v : Plain) (core : ℕ) (request : Request) (y : Reply) → Stands t core request y u → Stands t core request y v → u ≡ v
-stands_one t u v core request (Mapped a) h k = reply_one t u v core request (Mapped a) (is_placed request) h k
-stands_one t u v core request Done h k = reply_one t u v core request Done (is_placed request) h k
-stands_one t u v core request (Byte b) h k = reply_one t u v core request (Byte b) (is_placed request) h k
-stands_one t u v core request (Refused e) h k = reply_one t u v core request (Refused e) (is_placed request) h k
-stands_one t u v core request (Segv s) h k = reply_one t u v core request (Segv s) (is_placed request) h k
-stands_one t u v core request Bus h k = reply_one t u v core request Bus (is_placed request) h k
+stands_one t u v core request (Mapped a) h k = leaves_one t u v core request (Mapped a) h k
+stands_one t u v core request Done h k = leaves_one t u v core request Done h k
+stands_one t u v core request (Byte b) h k = leaves_one t u v core request (Byte b) h k
+stands_one t u v core request (Refused e) h k = leaves_one t u v core request (Refused e) h k
+stands_one t u v core request (Segv s) h k = leaves_one t u v core request (Segv s) h k
+stands_one t u v core request Bus h k = leaves_one t u v core request Bus h k
 stands_one t u v core request NoFrame h k = h.1 ∙ sym k.1
 stands_one t u v core request NoMemory h k = h ∙ sym k
 

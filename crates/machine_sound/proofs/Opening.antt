@@ -1,5 +1,5 @@
 -- A machine over new slots begins well.
-use Rattle.std.proofs.Common.{◌≡◌, ℕ, refl, sym, subst, ap, Some, None, Option}
+use Rattle.std.proofs.Common.{◌≡◌, ℕ, ◌≤◌, refl, sym, subst, ap, Some, None, Option}
 use Rattle.vm_base.specs.Info.{frame_of}
 use Rattle.vm_base.specs.Plain.{File, zeros, nothing_mapped}
 use Rattle.slot_lock.specs.Slots.{Slots, IsNew}
@@ -13,9 +13,9 @@ shows_itself : (o : Option File) → ShowsFile (λ f. zeros) (λ k. None) o o
 shows_itself None = tt
 shows_itself (Some f) = (refl, refl, λ k. refl)
 
-pub fine_opening : (made : Made) (slots : Slots) → IsNew slots → Fine (new_world made slots)
-fine_opening made slots new = record {
-  order = opening_is_orderly made slots new;
+pub fine_opening : (made : Made) (slots : Slots) → made.cores ≤ 64 → IsNew slots → Fine (new_world made slots)
+fine_opening made slots few new = record {
+  order = opening_is_orderly made slots few new;
   coherent = opening_is_coherent made slots;
   counted = opening_is_counted made slots new;
   plain = nothing_mapped made.file;

@@ -1,9 +1,8 @@
 -- Replies that the plain page map gives, as entries of a log
-use Rattle.std.proofs.Common.{◌≡◌, ℕ, Bool, true, false, cond, refl, sym, ap, subst, arith, Some, None, Option, Result, Ok, Err, ◌∙◌}
+use Rattle.std.proofs.Common.{◌≡◌, ℕ, ◌<◌, Bool, true, false, cond, refl, sym, ap, subst, Some, None, Option, Result, Ok, Err}
 use Rattle.std.specs.Prelude.{◌&&◌, ◌==◌, not, if◌then◌else◌}
-use Rattle.std.proofs.Math.Path.{fun_ext}
 use Rattle.vm_base.specs.declared.info.PageInfo.{PageInfo}
-use Rattle.vm_base.specs.declared.info.Back.{Back}
+use Rattle.vm_base.specs.declared.page.PageRange.{PageRange}
 use Rattle.vm_base.specs.declared.replies.Errno.{Errno}
 use Rattle.vm_base.specs.declared.replies.Errno.TheVariants.{EINVAL, ENOMEM, EACCES, EBADF, EOVERFLOW}
 use Rattle.vm_base.specs.declared.replies.SegvCode.TheVariants.{MapErr}
@@ -13,26 +12,27 @@ use Rattle.vm_base.specs.declared.requests.Flags.{Flags}
 use Rattle.vm_base.specs.declared.requests.Request.{Request}
 use Rattle.vm_base.specs.declared.requests.Request.TheVariants.{Mmap, Munmap, Mprotect, Load, Store, Fetch}
 use Rattle.vm_base.specs.declared.rights.Access.{Access}
-use Rattle.vm_base.specs.declared.rights.Access.TheVariants as To
+use Rattle.vm_base.specs.declared.rights.Access.TheVariants as By
 use Rattle.vm_base.specs.declared.rights.Mode.{Mode}
 use Rattle.vm_base.specs.declared.rights.Prot.{Prot}
 use Rattle.vm_base.specs.Pages.{is_page, page_of, pages_of, is_aligned, are_pages}
 use Rattle.vm_base.specs.Plain.{Bytes, File, Entry, Plain, mode_of}
 use Rattle.vm_base.specs.Refusals.{refusal, file_refusal, is_one_kind}
-use Rattle.vm_base.specs.Apply.{Applies, AppliesAfter, Performs, MapsAt, back_at, meta_of}
+use Rattle.vm_base.specs.Apply.{Applies, meta_of}
 use Rattle.vm_base.proofs.Functions.{by_test}
-use Rattle.slot_lock.specs.declared.footprint.Footprint.{Footprint}
+use Rattle.slot_lock.specs.declared.plan.Goal.{Goal}
+use Rattle.slot_lock.specs.declared.plan.Goal.TheVariants as To
 use Rattle.slot_lock.specs.declared.plan.Change.{Change}
 use Rattle.slot_lock.specs.declared.plan.Change.TheVariants.{Put, Clear, Protect}
 use Rattle.slot_lock.specs.declared.plan.Place.{Place}
 use Rattle.slot_lock.specs.declared.plan.Plan.{Plan}
 use Rattle.slot_lock.specs.declared.plan.Plan.TheVariants as PlanOf
 use Rattle.slot_lock.specs.declared.plan.Touch.{Touch}
-use Rattle.slot_lock.specs.Plan.{range_of}
+use Rattle.slot_lock.specs.Plan.{range_of, goal_range, goal_plan, HasTarget}
 use Rattle.vm_calls.specs.declared.decision.Decision.{Decision}
 use Rattle.vm_calls.specs.declared.decision.Decision.TheVariants.{Refuse, Act}
 use Rattle.vm_calls.specs.Checks.{plan_of, unless_refused, touched, touch_of, place_of, HasModes}
-use Rattle.vm_calls.specs.Decisions.{Decides}
+use Rattle.vm_calls.specs.Decisions.{Decides, IsNoAccess}
 use Rattle.vm_calls.specs.Plainly.{IsShown, IsPlain, EntryAnswers, answer_to, left_by}
 use Rattle.vm_calls.specs.Plainly as plainly
 use Rattle.vm_calls.proofs.Accesses.{access_answered, refusal_answered}
@@ -42,8 +42,8 @@ use Rattle.machine_model.specs.declared.event.Event.{Event}
 use Rattle.machine_model.specs.declared.log.Entry.TheVariants as EntryOf
 use Rattle.machine_model.specs.Changes.{checked_by, reply_to}
 use Rattle.machine_model.specs.World.{World, Memory}
-use Rattle.machine_laws.proofs.Deciding.{at_first}
-use Rattle.machine_sound.specs.Log.{Stands, FindsNoPlace, CanAccess, is_placed, or_no_place}
+use Rattle.machine_laws.specs.Orderly.{IsChosen, LeadsTo}
+use Rattle.machine_sound.specs.Log.{Stands, CanAccess}
 use Rattle.machine_sound.specs.Sound.{IsDue}
 use Rattle.machine_sound.specs.Invariant.{Good, ShowsPage, ShowsFile}
 
@@ -55,12 +55,8 @@ mode_same bytes cached (Some f) (Some g) h = ap Some (sym h.0)
 mode_same bytes cached None (Some g) h = absurd h
 mode_same bytes cached (Some f) None h = absurd h
 
-has_modes : (w : World) (t : Plain) → Good w t → HasModes t w.made.file
+pub has_modes : (w : World) (t : Plain) → Good w t → HasModes t w.made.file
 has_modes w t g n = mode_same w.memory.bytes (w.memory.cached n) (w.made.file n) (t.file n) (g.files n)
-
-refusal_same : (w : World) (t : Plain) (request : Request) → Good w t → refusal (λ k. mode_of (t.file k)) request ≡ refusal
-    (λ k. mode_of (w.made.file k)) request
-refusal_same w t request g = ap (λ modes. refusal modes request) (fun_ext (has_modes w t g))
 
 page_shown : (m : Memory) (o : Option PageInfo) (z : Option Entry) → ShowsPage m o z → plainly.ShowsPage z o
 page_shown m None None h = tt
@@ -68,8 +64,8 @@ page_shown m (Some info) (Some page) h = (sym h.0, sym h.1)
 page_shown m None (Some page) h = absurd h
 page_shown m (Some info) None h = absurd h
 
-is_shown : (w : World) (t : Plain) (fp : Footprint) → Good w t → IsShown t w.made.file w.slots fp
-is_shown w t fp g = record { pages = λ p i. page_shown w.memory (w.slots.info p) (t.entry p) (g.pages p); modes = has_modes w t g }
+is_shown : (w : World) (t : Plain) (r : PageRange) → Good w t → IsShown t w.made.file w.slots r
+is_shown w t r g = record { pages = λ p i. page_shown w.memory (w.slots.info p) (t.entry p) (g.pages p); modes = has_modes w t g }
 
 -- ---- replies that are the plain page map's
 
@@ -78,8 +74,8 @@ IsReply NoFrame = ⊥
 IsReply NoMemory = ⊥
 IsReply _ = Unit {0}
 
-stands_so : (t u : Plain) (c : ℕ) (request : Request) (y : Reply) → IsReply y → cond (is_placed request) (FindsNoPlace t request y u)
-    (Applies t c request y u) → Stands t c request y u
+-- the plain page map answers so
+stands_so : (t u : Plain) (c : ℕ) (request : Request) (y : Reply) → IsReply y → Applies t c request y u → Stands t c request y u
 stands_so t u c request (Mapped a) i h = h
 stands_so t u c request Done i h = h
 stands_so t u c request (Byte b) i h = h
@@ -99,10 +95,6 @@ due_so event is_free step call core (Segv s) i = tt
 due_so event is_free step call core Bus i = tt
 due_so event is_free step call core NoFrame i = absurd i
 due_so event is_free step call core NoMemory i = absurd i
-
--- the plain page map answers so a request that needs no place
-applied : (t u : Plain) (c : ℕ) (request : Request) (y : Reply) → IsReply y → is_placed request ≡ false → Applies t c request y u → Stands t c request y u
-applied t u c request y i placed h = stands_so t u c request y i (subst (λ b. cond b (FindsNoPlace t request y u) (Applies t c request y u)) (sym placed) h)
 
 -- ---- Check: refusals
 
@@ -144,165 +136,83 @@ missed addr byte access reply h = go (is_page (page_of addr)) h
     go true e = absurd cc
     go false e = let same : Segv MapErr ≡ reply = cc in subst IsReply same tt
 
-unplanned : (core : ℕ) (request : Request) (reply : Reply) → plan_of core request ≡ Err reply → IsReply reply × (is_placed request ≡ false)
+unplanned : (core : ℕ) (request : Request) (reply : Reply) → plan_of core request ≡ Err reply → IsReply reply
 unplanned core (Mmap addr len prot flags file off) reply h =
     absurd (choice flags.fixed (PlanOf.Change (Put (pages_of addr len) (meta_of prot flags file off)))
     (PlanOf.Place (place_of core addr len (meta_of prot flags file off))) reply h)
 unplanned core (Munmap addr len) reply h = absurd cc
 unplanned core (Mprotect addr len prot) reply h = absurd cc
-unplanned core (Load addr) reply h = (missed addr 0 To.Load reply h, refl)
-unplanned core (Store addr byte) reply h = (missed addr byte To.Store reply h, refl)
-unplanned core (Fetch addr) reply h = (missed addr 0 To.Fetch reply h, refl)
-
-either : (P Q : Type 0) (b : Bool) → P → Q → cond b P Q
-either P Q true p q = p
-either P Q false p q = q
+unplanned core (Load addr) reply h = missed addr 0 By.Load reply h
+unplanned core (Store addr byte) reply h = missed addr byte By.Store reply h
+unplanned core (Fetch addr) reply h = missed addr 0 By.Fetch reply h
 
 -- what the check answers at once
 pub refused : (w : World) (t : Plain) (c : ℕ) (request : Request) (reply : Reply) → Good w t → checked_by w.made c request ≡ Err reply
     → IsReply reply × Stands t c request reply t
-refused w t c request reply g h = go (refusal (λ k. mode_of (w.made.file k)) request) refl h
+refused w t c request reply g h = (is_reply, stands_so t t c request reply is_reply (refusal_answered t w.made.file c request reply (has_modes w t g) h))
   where
-    applies : Applies t c request reply t
-    applies = refusal_answered t w.made.file c request reply (has_modes w t g) h
+    go : (o : Option Reply) → refusal (λ k. mode_of (w.made.file k)) request ≡ o → unless_refused o (plan_of c request) ≡ Err reply → IsReply reply
+    go (Some y) e k = let same : y ≡ reply = cc in subst IsReply same ((refusals (λ k. mode_of (w.made.file k)) request).is_reply y e)
+    go None e k = unplanned c request reply k
 
-    by_refusal : (y : Reply) → y ≡ reply → refusal (λ k. mode_of (w.made.file k)) request ≡ Some y → IsReply reply × Stands t c request reply t
-    by_refusal y same e =
-        let i : IsReply reply = subst IsReply same ((refusals (λ k. mode_of (w.made.file k)) request).is_reply y e) in (
-          i,
-          stands_so t t c request reply i
-              (either (FindsNoPlace t request reply t) (Applies t c request reply t) (is_placed request)
-              (sym (ap or_no_place (refusal_same w t request g ∙ e ∙ ap Some same)), refl) applies),
-        )
-
-    go : (o : Option Reply) → refusal (λ k. mode_of (w.made.file k)) request ≡ o → unless_refused o (plan_of c request) ≡ Err reply
-        → IsReply reply × Stands t c request reply t
-    go (Some y) e k = by_refusal y (cc) e
-    go None e k = let z = unplanned c request reply k in (z.0, applied t t c request reply z.0 z.1 applies)
-
--- a mapping without MAP_FIXED
-pub no_place_stands : (w : World) (t : Plain) (c : ℕ) (request : Request) (place : Place) → Good w t
-    → checked_by w.made c request ≡ Ok (PlanOf.Place place) → Stands t c request (Refused ENOMEM) t
-no_place_stands w t c request place g h = go request (passed (refusal (λ k. mode_of (w.made.file k)) request) (plan_of c request) (PlanOf.Place place) h)
-  where
-    Found : Request → Type 0
-    Found r = (refusal (λ k. mode_of (w.made.file k)) r ≡ None) × (plan_of c r ≡ Ok (PlanOf.Place place))
-
-    no_touch : (addr byte : ℕ) (access : Access) → touched addr access byte ≡ Ok (PlanOf.Place place) → ⊥
-    no_touch addr byte access e = by (is_page (page_of addr)) e
-      where
-        by : (b : Bool) → ◌≡◌ {A = Result Plan Reply} (if b then Ok (PlanOf.Touch (touch_of addr access byte)) else Err (Segv MapErr))
-            (Ok (PlanOf.Place place)) → ⊥
-        by true e = cc
-        by false e = cc
-
-    go : (r : Request) → Found r → Stands t c r (Refused ENOMEM) t
-    go (Mmap addr len prot flags file off) k = by flags.fixed refl k.1
-      where
-        r : Request
-        r = Mmap addr len prot flags file off
-
-        by : (b : Bool) → flags.fixed ≡ b
-            → ◌≡◌ {A = Result Plan Reply} (if b then Ok (PlanOf.Change (Put (pages_of addr len) (meta_of prot flags file off))) else Ok
-            (PlanOf.Place (place_of c addr len (meta_of prot flags file off)))) (Ok (PlanOf.Place place))
-            → Stands t c r (Refused ENOMEM) t
-        by true i e = absurd cc
-        by false i e =
-            subst (λ b. cond (not b) (FindsNoPlace t r (Refused ENOMEM) t) (Applies t c r (Refused ENOMEM) t)) (sym i)
-            (sym (ap or_no_place (refusal_same w t r g ∙ k.0)), refl)
-    go (Munmap addr len) k = absurd (let e = k.1 in cc)
-    go (Mprotect addr len prot) k = absurd (let e = k.1 in cc)
-    go (Load addr) k = absurd (no_touch addr 0 To.Load k.1)
-    go (Store addr byte) k = absurd (no_touch addr byte To.Store k.1)
-    go (Fetch addr) k = absurd (no_touch addr 0 To.Fetch k.1)
-
--- ---- requests that need no place
-
-fixed_change : (b : Bool) (x : Plan) (place : Place) (change : Change)
-    → ◌≡◌ {A = Result Plan Reply} (if b then Ok x else Ok (PlanOf.Place place)) (Ok (PlanOf.Change change)) → not b ≡ false
-fixed_change true x place change h = refl
-fixed_change false x place change h = absurd cc
+    is_reply : IsReply reply
+    is_reply = go (refusal (λ k. mode_of (w.made.file k)) request) refl h
 
 fixed_touch : (b : Bool) (x : Change) (place : Place) (touch : Touch)
     → ◌≡◌ {A = Result Plan Reply} (if b then Ok (PlanOf.Change x) else Ok (PlanOf.Place place)) (Ok (PlanOf.Touch touch)) → ⊥
 fixed_touch true x place touch h = cc
 fixed_touch false x place touch h = cc
 
-change_unplaced : (core : ℕ) (request : Request) (change : Change) → plan_of core request ≡ Ok (PlanOf.Change change) → is_placed request ≡ false
-change_unplaced core (Mmap addr len prot flags file off) change h =
-    fixed_change flags.fixed (PlanOf.Change (Put (pages_of addr len) (meta_of prot flags file off)))
-    (place_of core addr len (meta_of prot flags file off)) change h
-change_unplaced core (Munmap addr len) change h = refl
-change_unplaced core (Mprotect addr len prot) change h = refl
-change_unplaced core (Load addr) change h = refl
-change_unplaced core (Store addr byte) change h = refl
-change_unplaced core (Fetch addr) change h = refl
-
-touch_unplaced : (core : ℕ) (request : Request) (touch : Touch) → plan_of core request ≡ Ok (PlanOf.Touch touch) → is_placed request ≡ false
-touch_unplaced core (Mmap addr len prot flags file off) touch h =
-    absurd (fixed_touch flags.fixed (Put (pages_of addr len) (meta_of prot flags file off)) (place_of core addr len (meta_of prot flags file off)) touch h)
-touch_unplaced core (Munmap addr len) touch h = refl
-touch_unplaced core (Mprotect addr len prot) touch h = refl
-touch_unplaced core (Load addr) touch h = refl
-touch_unplaced core (Store addr byte) touch h = refl
-touch_unplaced core (Fetch addr) touch h = refl
-
--- their answer is the same on each core
-core_free : (t u : Plain) (core : ℕ) (request : Request) (y : Reply) → is_placed request ≡ false → Applies t 0 request y u → Applies t core request y u
-core_free t u core request y placed h = go (refusal (λ k. mode_of (t.file k)) request) h
-  where
-    maps : (b : Bool) (addr len : ℕ) (back : Back) (prot : Prot) → not b ≡ false → MapsAt b t 0 addr len back prot y u → MapsAt b t core addr len back prot y u
-    maps true addr len back prot e k = k
-    maps false addr len back prot e k = absurd cc
-
-    performs : (r : Request) → is_placed r ≡ false → Performs t 0 r y u → Performs t core r y u
-    performs (Mmap addr len prot flags file off) e k = maps flags.fixed addr len (back_at flags file off) prot e k
-    performs (Munmap addr len) e k = k
-    performs (Mprotect addr len prot) e k = k
-    performs (Load addr) e k = k
-    performs (Store addr byte) e k = k
-    performs (Fetch addr) e k = k
-
-    go : (o : Option Reply) → AppliesAfter o t 0 request y u → AppliesAfter o t core request y u
-    go None k = performs request placed k
-    go (Some r) k = k
-
 -- ---- decisions
 
-decided_plain : (w : World) (t : Plain) (c : ℕ) (request : Request) (change : Change) (d : Decision) → Good w t
-    → checked_by w.made c request ≡ Ok (PlanOf.Change change)
-    → Decides w.made.file w.slots (PlanOf.Change change) d → IsPlain t 0 request (PlanOf.Change change) d
-decided_plain w t c request change d g h k =
-    plain t w.made.file w.slots 0 request (PlanOf.Change change) d (omega arith) (is_shown w t _ g)
-    (at_first (λ n. mode_of (w.made.file n)) c request (PlanOf.Change change) tt h) tt k
+-- what a call knows that decides over the pages that it holds
+pub record Knows (w : World) (c : ℕ) (request : Request) (goal : Goal) : Type 0 where
+  pub few : c < 64
+  pub passed : checked_by w.made c request ≡ Ok (goal_plan goal)
+  pub target : HasTarget goal
+  pub none : IsNoAccess goal
 
-unplaced : (w : World) (c : ℕ) (request : Request) (change : Change) → checked_by w.made c request ≡ Ok (PlanOf.Change change) → is_placed request ≡ false
-unplaced w c request change h = change_unplaced c request change (passed (refusal (λ k. mode_of (w.made.file k)) request)
-    (plan_of c request) (PlanOf.Change change) h).1
+decided_plain : (w : World) (t : Plain) (c : ℕ) (request : Request) (goal : Goal) (d : Decision) → Good w t → Knows w c request goal
+    → Decides w.made.file w.slots goal d → IsPlain t c request goal d
+decided_plain w t c request goal d g k h =
+    plain t w.made.file w.slots c request goal d k.few (is_shown w t (goal_range goal) g) k.passed k.target k.none h
 
--- a refusal of the decision
-pub declined : (w : World) (t : Plain) (c : ℕ) (request : Request) (change : Change) (errno : Errno) → Good w t
-    → checked_by w.made c request ≡ Ok (PlanOf.Change change)
-    → Decides w.made.file w.slots (PlanOf.Change change) (Refuse errno) → Stands t c request (Refused errno) t
-declined w t c request change errno g h k =
-    let p : is_placed request ≡ false = unplaced w c request change h in
-    applied t t c request (Refused errno) tt p (core_free t t c request (Refused errno) p (decided_plain w t c request change (Refuse errno) g h k))
+-- a refusal of the decision: of a placed mapping, where its whole window is held and has no room
+pub declined : (w : World) (t : Plain) (c : ℕ) (request : Request) (goal : Goal) (errno : Errno) → Good w t → Knows w c request goal
+    → Decides w.made.file w.slots goal (Refuse errno) → Stands t c request (Refused errno) t
+declined w t c request goal errno g k h = decided_plain w t c request goal (Refuse errno) g k h
 
 pub reply_is : (change : Change) → IsReply (reply_to change)
 reply_is (Put range meta) = tt
 reply_is (Clear range) = tt
 reply_is (Protect range prot) = tt
 
+-- the plain page map after the change
+abbrev pub made_of : Plain → Change → Plain
+made_of t change = left_by t (To.Change change) (range_of change)
+
+-- the change to which a goal leads is the one that its decision answers
+led_to : (t : Plain) (c : ℕ) (request : Request) (goal : Goal) (change : Change) → LeadsTo goal change
+    → Applies t c request (answer_to goal (range_of change)) (left_by t goal (range_of change))
+    → Applies t c request (reply_to change) (made_of t change)
+led_to t c request (To.Place place target) change e h =
+    subst (λ (x : Change). Applies t c request (reply_to x) (made_of t x)) (sym e) h
+led_to t c request (To.Change planned) change e h =
+    subst (λ (x : Change). Applies t c request (answer_to (To.Change x) (range_of change)) (left_by t (To.Change x) (range_of change))) (sym e) h
+led_to t c request (To.Access touch) change e h = absurd e
+
+-- a goal that leads to a change is no access
+pub led_goes : (goal : Goal) (change : Change) → LeadsTo goal change → IsNoAccess goal
+led_goes (To.Place place target) change e = tt
+led_goes (To.Change planned) change e = tt
+led_goes (To.Access touch) change e = absurd e
+
 -- a change that is made
-pub acted : (w : World) (t : Plain) (c : ℕ) (request : Request) (change : Change) (shoot : ℕ) → Good w t
-    → checked_by w.made c request ≡ Ok (PlanOf.Change change)
-    → Decides w.made.file w.slots (PlanOf.Change change) (Act (range_of change) shoot)
-    → Stands t c request (reply_to change) (left_by t (PlanOf.Change change) (range_of change))
-acted w t c request change shoot g h k =
-    let p : is_placed request ≡ false = unplaced w c request change h in
-    let u : Plain = left_by t (PlanOf.Change change) (range_of change) in
-    applied t u c request (reply_to change) (reply_is change) p
-    (core_free t u c request (reply_to change) p (decided_plain w t c request change (Act (range_of change) shoot) g h k))
+pub acted : (w : World) (t : Plain) (c : ℕ) (request : Request) (goal : Goal) (change : Change) → Good w t → Knows w c request goal
+    → LeadsTo goal change → IsChosen w.made w.slots goal (range_of change) → Stands t c request (reply_to change) (made_of t change)
+acted w t c request goal change g k e h =
+    stands_so t (made_of t change) c request (reply_to change) (reply_is change)
+    (led_to t c request goal change e (decided_plain w t c request goal (Act (range_of change) h.0) g k h.1))
 
 -- ---- accesses
 
@@ -311,9 +221,7 @@ pub touched_stands : (w : World) (t u : Plain) (c : ℕ) (request : Request) (to
     → checked_by w.made c request ≡ Ok (PlanOf.Touch touch)
     → EntryAnswers t touch y u → Stands t c request y u
 touched_stands w t u c request touch y i h a =
-    applied t u c request y i (touch_unplaced c request touch (passed (refusal (λ k. mode_of (w.made.file k)) request) (plan_of c request)
-    (PlanOf.Touch touch) h).1)
-    ((access_answered t (λ n. mode_of (w.made.file n)) c request touch h y u).1 a)
+    stands_so t u c request y i ((access_answered t (λ n. mode_of (w.made.file n)) c request touch h y u).1 a)
 
 -- a page that an access reaches
 pub no_frame_stands : (w : World) (t : Plain) (c : ℕ) (request : Request) (touch : Touch) → checked_by w.made c request ≡ Ok (PlanOf.Touch touch)
@@ -327,9 +235,9 @@ no_frame_stands w t c request touch h k = go request (passed (refusal (λ k. mod
         subst (λ (x : Touch). CanAccess t.file (t.entry x.page) x.access) at k
 
     go : (r : Request) → plan_of c r ≡ Ok (PlanOf.Touch touch) → Stands t c r NoFrame t
-    go (Load addr) e = (its addr 0 To.Load e, refl)
-    go (Store addr byte) e = (its addr byte To.Store e, refl)
-    go (Fetch addr) e = (its addr 0 To.Fetch e, refl)
+    go (Load addr) e = (its addr 0 By.Load e, refl)
+    go (Store addr byte) e = (its addr byte By.Store e, refl)
+    go (Fetch addr) e = (its addr 0 By.Fetch e, refl)
     go (Mmap addr len prot flags file off) e = absurd (fixed_touch flags.fixed (Put (pages_of addr len) (meta_of prot flags file off))
         (place_of c addr len (meta_of prot flags file off)) touch e)
     go (Munmap addr len) e = absurd cc

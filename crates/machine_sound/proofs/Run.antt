@@ -1,6 +1,7 @@
 -- A worked run of two cores, by computation: one maps a page, and the other stores a byte in it, for which it has to wait.
-use Rattle.std.proofs.Common.{◌≡◌, ℕ, ◌≤◌, ◌<◌, ◌++◌, Bool, true, false, cond, inl, inr, refl, ap, arith, Some, None, List, [], ◌∷◌}
+use Rattle.std.proofs.Common.{◌≡◌, ℕ, ◌+◌, ◌++◌, Bool, true, false, cond, inl, inr, refl, ap, arith, Some, None, List, [], ◌∷◌}
 use Rattle.std.specs.Prelude.{is_some}
+use Rattle.vm_base.specs.declared.page.PageRange.{PageRange}
 use Rattle.vm_base.specs.declared.replies.Reply.TheVariants.{Mapped, Done}
 use Rattle.vm_base.specs.declared.requests.Request.TheVariants.{Mmap, Store}
 use Rattle.vm_base.specs.Functions.{has, put}
@@ -11,7 +12,7 @@ use Rattle.vm_base.proofs.Functions.{in_has, put_all}
 use Rattle.vm_base.specs.Pages.{pages_of}
 use Rattle.shootdown.specs.Inboxes.{awaited}
 use Rattle.machine_model.specs.Translating.{inboxes_after}
-use Rattle.slot_lock.specs.Slots.{Slots, IsSlot, IsNew, between}
+use Rattle.slot_lock.specs.Slots.{Slots, IsSlot, IsNew, Locks, Unlocks, between, with_owner}
 use Rattle.slot_lock.specs.declared.slot_map.Got.TheVariants.{Locked, Held}
 use Rattle.machine_model.specs.declared.event.Event.{Event}
 use Rattle.machine_model.specs.declared.event.Event.TheVariants.{Call, Go}
@@ -28,25 +29,48 @@ use Rattle.machine_sound.specs.Sound.{SoundRun}
 use Rattle.machine_sound.proofs.Examples.{read_write, anonymous}
 use Rattle.machine_sound.proofs.Kept.{runs_sound}
 
-abbrev made : Made
+abbrev pub made : Made
 made = record { cores = 2; frames = 4; calls = 8; file = λ n. None }
 
 -- each page is a slot of its own
-abbrev slots : Slots
+abbrev pub slots : Slots
 slots = record { info = λ p. None; owner = λ p. None; edge = λ p. true }
 
-new : IsNew slots
+pub new : IsNew slots
 new = record { unmapped = λ p. refl; free = λ p. refl }
 
-one_page : (s : Slots) → s.edge ≡ (λ p. true) → IsSlot s 16 17
-one_page s e = record { ordered = omega arith; begins = ap (λ f. f 16) e; ends = ap (λ f. f 17) e; inside = λ p h k. absurd (omega (arith, h, k)) }
+one_page : (s : Slots) (page : ℕ) → s.edge ≡ (λ p. true) → IsSlot s page (page + 1)
+one_page s page e = record {
+  ordered = omega arith;
+  begins = ap (λ f. f page) e;
+  ends = ap (λ f. f (page + 1)) e;
+  inside = λ p h k. absurd (omega (arith, h, k));
+}
 
--- page 16 and no other
-only_16 : (p : ℕ) → 16 ≤ p → p < 17 → has (between 16 17) p ≡ true
-only_16 p h k = in_has (between 16 17) p h k
+-- a core locks one that is free
+pub locks_page : (s : Slots) (core page : ℕ) → s.edge ≡ (λ p. true)
+    → ((p : ℕ) → has (between page (page + 1)) p ≡ true → s.owner p ≡ None)
+    → Locks s (with_owner s page (page + 1) (Some core)) core page (page + 1) (page + 1)
+locks_page s core page e free = record {
+  slot = one_page s page e;
+  by_end = omega arith;
+  was_free = λ p h k. free p (in_has (between page (page + 1)) p h k);
+  now = refl;
+}
+
+-- and lets its own go
+pub unlocks_page : (s : Slots) (core page : ℕ) → s.edge ≡ (λ p. true)
+    → ((p : ℕ) → has (between page (page + 1)) p ≡ true → s.owner p ≡ Some core)
+    → Unlocks s (with_owner s page (page + 1) None) core page (page + 1) (page + 1)
+unlocks_page s core page e mine = record {
+  slot = one_page s page e;
+  by_end = omega arith;
+  was_held = λ p h k. mine p (in_has (between page (page + 1)) p h k);
+  now = refl;
+}
 
 -- nobody is recorded where nothing is mapped
-nobody : (core : ℕ) → members 0 core ≡ true → ⊥
+pub nobody : (core : ℕ) → members 0 core ≡ true → ⊥
 nobody core h = let none = members-empty core in cc (none, h)
 
 abbrev events : List Event
@@ -66,18 +90,18 @@ outcomes =
     ∷ Answered Done ∷ Answered (Mapped 65536) ∷ []
 
 -- a step, and then the others
-then : {P Q : World → Type 0} (m : World) → P m → Q m → (x : World) × P x × Q x
+pub then : {P Q : World → Type 0} (m : World) → P m → Q m → (x : World) × P x × Q x
 then m s r = (m, s, r)
 
--- nobody was told
-quiet : (d : ℕ) → awaited (inboxes_after 0 0 (pages_of 65536 4096) (λ c. [])) 0 d ≡ false
-quiet d = go (put (members 0) 0 false d) refl
+-- nobody was told by a core whose change told none
+pub quiet : (told core : ℕ) (range : PageRange) (d : ℕ) → awaited (inboxes_after told 0 range (λ c. [])) core d ≡ false
+quiet told core range d = go (put (members 0) told false d) refl
   where
-    none : put (members 0) 0 false d ≡ true → ⊥
-    none = put_all (λ d b. b ≡ true → ⊥) (members 0) 0 false (λ h. cc) (λ d ne h. nobody d h) d
+    none : put (members 0) told false d ≡ true → ⊥
+    none = put_all (λ d b. b ≡ true → ⊥) (members 0) told false (λ h. cc) (λ d ne h. nobody d h) d
 
-    go : (b : Bool) → put (members 0) 0 false d ≡ b
-        → is_some (message_of (cond b ([] ++ posted 0 (pages_of 65536 4096) ∷ []) []) 0) ≡ false
+    go : (b : Bool) → put (members 0) told false d ≡ b
+        → is_some (message_of (cond b ([] ++ posted told range ∷ []) []) core) ≡ false
     go true i = absurd (none i)
     go false i = refl
 
@@ -87,57 +111,20 @@ ran = (
   _,
   then _ (refl, refl) (then _ (refl, refl)
       -- core 0 holds the page
-      (then _ (Locked 17, (_, record { slot = one_page slots refl; by_end = omega arith; was_free = λ p h k. refl; now = refl }, (refl, refl)))
+      (then _ (Locked 17, (_, locks_page slots 0 16 refl (λ p h. refl), (refl, refl)))
       -- core 1 finds nothing mapped, and waits for the page
       (then _ (refl, refl) (then _ (refl, refl) (then _ (refl, refl)
       (then _ (Held 0, (_, (λ h. absurd cc, refl, refl), (refl, refl)))
       -- core 0 makes the change, and lets the page go
       (then _ (Act (between 16 17) 0, (refl, λ core. (λ m. absurd (nobody core m), λ u. absurd (let z = u.2 in cc))), (refl, refl)) (then _ (refl, refl)
-      (then _ (inl (quiet, (_, (_, refl, refl), (refl, refl))))
-      (then _ (
-        17,
-        (
-          _,
-          record {
-            slot = one_page _ refl;
-            by_end = omega arith;
-            was_held = λ p h k. ap (λ b. cond b (Some 0) None)
-                (only_16 p h k);
-            now = refl;
-          },
-          (refl, refl),
-        ),
-      )
+      (then _ (inl (quiet 0 0 (pages_of 65536 4096), (_, (_, refl, refl), (refl, refl))))
+      (then _ (17, (_, unlocks_page _ 0 16 refl (λ p h. ap (λ b. cond b (Some 0) None) h), (refl, refl)))
       -- core 1 locks the page, gives it a frame, and stores
-      (then _ (
-        Locked 17,
-        (
-          _,
-          record {
-            slot = one_page _ refl;
-            by_end = omega arith;
-            was_free = λ p h k. ap (λ b. cond b None (cond b (Some 0) None)) (only_16 p h k);
-            now = refl;
-          },
-          (refl, refl),
-        ),
-      )
+      (then _ (Locked 17, (_, locks_page _ 1 16 refl (λ p h. ap (λ b. cond b None (cond b (Some 0) None)) h), (refl, refl)))
       (then _ (refl, refl)
       (then _ (inr (0, record { free = refl; least = λ g h. absurd (omega (arith, h)) }, (refl, refl)))
       (then _ (_, (unused_at_first 2 4 0, omega arith, omega arith, refl, omega arith), (refl, refl)) (then _ (refl, refl)
-      (then _ (
-        17,
-        (
-          _,
-          record {
-            slot = one_page _ refl;
-            by_end = omega arith;
-            was_held = λ p h k. ap (λ b. cond b (Some 1) (cond b None (cond b (Some 0) None))) (only_16 p h k);
-            now = refl;
-          },
-          (refl, refl),
-        ),
-      )
+      (then _ (17, (_, unlocks_page _ 1 16 refl (λ p h. ap (λ b. cond b (Some 1) (cond b None (cond b (Some 0) None))) h), (refl, refl)))
       (then _ (refl, refl)
       -- both hand out their replies
       (then _ (refl, refl) (then _ (refl, refl)
@@ -147,4 +134,4 @@ ran = (
 
 -- and so it is sound
 is_sound : SoundRun (new_world made slots) events outcomes ran.0
-is_sound = runs_sound made slots events outcomes ran.0 new ran.1
+is_sound = runs_sound made slots events outcomes ran.0 (omega arith) new ran.1

@@ -1,4 +1,5 @@
--- What the states of a run have in common beside their order, their translations and their counts: each shows the plain page map to which its log leads.
+-- What the states of a run have in common beside their order, their translations and their counts:
+-- each shows the plain page map to which its log leads.
 use Rattle.std.specs.Prelude.{◌≡◌, ◌≢◌, ℕ, false, cond, if◌then◌else◌, List, Option, None, Some}
 use Rattle.vm_base.specs.declared.info.Back.{Back}
 use Rattle.vm_base.specs.declared.info.Back.TheVariants.{Anon, Shared, Private}
@@ -31,7 +32,8 @@ own_frame cached (Some info) = own_frame_of cached info.meta.back info.frame
 
 -- a page's own frame is no other page's
 abbrev pub AreApart : (ℕ → ℕ → Option ℕ) → (ℕ → Option PageInfo) → Type 0
-AreApart cached info = (p q f : ℕ) → own_frame cached (info p) ≡ Some f → frame_of (info q) ≡ Some f → p ≡ q
+AreApart cached info =
+    (p q f : ℕ) → own_frame cached (info p) ≡ Some f → frame_of (info q) ≡ Some f → p ≡ q
 
 -- nor a file's
 abbrev pub AreUnfiled : (ℕ → ℕ → Option ℕ) → (ℕ → Option PageInfo) → Type 0
@@ -45,15 +47,18 @@ MayOwn Anon = Unit {0}
 MayOwn (Shared n k) = ⊥
 MayOwn (Private n k) = Unit {0}
 
--- The bytes of its own that a page has: without a frame the first ones, none where its frame caches its file page, else the frame's.
+-- The bytes of its own that a page has: without a frame the first ones, none where its frame caches
+-- its file page, else the frame's.
 abbrev pub Owns : Memory → Back → Option ℕ → Option Bytes → Type 0
 Owns m back None own = own ≡ first_own back
-Owns m back (Some f) own = cond (shows_file m.cached back f) (own ≡ None) (MayOwn back × (own ≡ Some (m.bytes f)))
+Owns m back (Some f) own =
+    cond (shows_file m.cached back f) (own ≡ None) (MayOwn back × (own ≡ Some (m.bytes f)))
 
 abbrev pub ShowsPage : Memory → Option PageInfo → Option PageEntry → Type 0
 ShowsPage m None None = Unit {0}
 ShowsPage m (Some info) (Some page) =
-    (info.meta.back ≡ page.back) × (info.meta.prot ≡ page.prot) × Owns m info.meta.back info.frame page.own
+    (info.meta.back ≡ page.back) × (info.meta.prot ≡ page.prot)
+    × Owns m info.meta.back info.frame page.own
 ShowsPage m None (Some page) = ⊥
 ShowsPage m (Some info) None = ⊥
 
@@ -67,7 +72,8 @@ ShowsFile bytes cached None (Some now) = ⊥
 ShowsFile bytes cached (Some first) None = ⊥
 
 -- slots and memory that show the plain page map t, where the files were these at the start
-pub record Shows (file : ℕ → Option File) (info : ℕ → Option PageInfo) (m : Memory) (t : Plain) : Type 0 where
+pub record Shows (file : ℕ → Option File) (info : ℕ → Option PageInfo) (m : Memory)
+    (t : Plain) : Type 0 where
   pub pages : (p : ℕ) → ShowsPage m (info p) (t.entry p)
   pub files : (n : ℕ) → ShowsFile m.bytes (m.cached n) (file n) (t.file n)
   pub apart : AreApart m.cached info
@@ -80,11 +86,10 @@ Good w t = Shows w.made.file w.slots.info w.memory t
 
 -- ---- the invariant
 
--- of these parts of a state: they are orderly, translations keep up with slots, frames are counted, and the log leads to a plain page map
--- that slots and memory show
-pub record Fit (made : Made) (s : Slots) (h : Hardware) (m : Memory) (phase : ℕ → Phase) (number : ℕ → ℕ)
-    (requests : List Request)
-    (entries : List Entry) : Type 0 where
+-- of these parts of a state: they are orderly, translations keep up with slots, frames are counted,
+-- and the log leads to a plain page map that slots and memory show
+pub record Fit (made : Made) (s : Slots) (h : Hardware) (m : Memory) (phase : ℕ → Phase)
+    (number : ℕ → ℕ) (requests : List Request) (entries : List Entry) : Type 0 where
   pub order : Order made s m phase number requests entries
   pub coherent : IsCoherent m.cached s.info phase h
   pub counted : IsCounted s.info phase m
@@ -93,4 +98,5 @@ pub record Fit (made : Made) (s : Slots) (h : Hardware) (m : Memory) (phase : �
   pub good : Shows made.file s.info m plain
 
 abbrev pub Fine : World → Type 0
-Fine w = Fit w.made w.slots w.hardware w.memory w.calls.phase w.calls.number w.calls.requests w.calls.log
+Fine w =
+    Fit w.made w.slots w.hardware w.memory w.calls.phase w.calls.number w.calls.requests w.calls.log

@@ -1,17 +1,16 @@
--- Legal logs: applied in order, each entry says what a plain page map answers (POSIX.1-2017, mmap, munmap and mprotect).
-use Rattle.std.specs.Prelude.{◌≡◌, ℕ, Bool, true, false, not, cond, List, [], ◌∷◌, Option, None, Some, is_some}
-use Rattle.vm_base.specs.declared.replies.Errno.TheVariants.{ENOMEM}
+-- Legal logs: applied in order, each entry says what a plain page map answers (POSIX.1-2017, mmap,
+-- munmap and mprotect). A mapping without MAP_FIXED is at its hint, if that is free, or anywhere in
+-- its core's window where there is room; where there is none it is refused.
+use Rattle.std.specs.Prelude.{◌≡◌, ℕ, true, List, [], ◌∷◌, Option, None, Some, is_some}
 use Rattle.vm_base.specs.declared.replies.Reply.{Reply}
-use Rattle.vm_base.specs.declared.replies.Reply.TheVariants.{Refused, NoFrame, NoMemory}
+use Rattle.vm_base.specs.declared.replies.Reply.TheVariants.{NoFrame, NoMemory}
 use Rattle.vm_base.specs.declared.requests.Request.{Request}
-use Rattle.vm_base.specs.declared.requests.Request.TheVariants.{Mmap}
 use Rattle.vm_base.specs.declared.requests.Request.TheVariants.{Load as LoadOf, Store as StoreOf, Fetch as FetchOf}
 use Rattle.vm_base.specs.declared.rights.Access.{Access}
 use Rattle.vm_base.specs.declared.rights.Access.TheVariants.{Load, Store, Fetch}
 use Rattle.vm_base.specs.Pages.{page_of}
 use Rattle.vm_base.specs.Rights.{is_allowed}
-use Rattle.vm_base.specs.Plain.{File, Entry as PageEntry, Plain, bytes_of, mode_of}
-use Rattle.vm_base.specs.Refusals.{refusal}
+use Rattle.vm_base.specs.Plain.{File, Entry as PageEntry, Plain, bytes_of}
 use Rattle.vm_base.specs.Apply.{Applies, detached}
 use Rattle.machine_model.specs.declared.log.Entry.{Entry}
 use Rattle.machine_model.specs.declared.log.Entry.TheVariants.{Answer, Detach}
@@ -22,7 +21,8 @@ use Rattle.machine_laws.specs.Brackets.{nth}
 -- the page is mapped, its protection allows the access, and it has bytes
 abbrev pub CanAccess : (ℕ → Option File) → Option PageEntry → Access → Type 0
 CanAccess files None access = ⊥
-CanAccess files (Some e) access = (is_allowed e.prot access ≡ true) × (is_some (bytes_of files e.back e.own) ≡ true)
+CanAccess files (Some e) access =
+    (is_allowed e.prot access ≡ true) × (is_some (bytes_of files e.back e.own) ≡ true)
 
 -- the request is an access of such a page
 abbrev pub IsServable : Plain → Request → Type 0
@@ -31,37 +31,23 @@ IsServable t (StoreOf addr byte) = CanAccess t.file (t.entry (page_of addr)) Sto
 IsServable t (FetchOf addr) = CanAccess t.file (t.entry (page_of addr)) Fetch
 IsServable t _ = ⊥
 
--- ---- a mapping whose place is left open
-
--- mmap without MAP_FIXED
-abbrev pub is_placed : Request → Bool
-is_placed (Mmap addr len prot flags file off) = not flags.fixed
-is_placed _ = false
-
-abbrev pub or_no_place : Option Reply → Reply
-or_no_place None = Refused ENOMEM
-or_no_place (Some refused) = refused
-
--- The machine looks for no place yet: such a request gets the refusal of its arguments, or else ENOMEM, and changes nothing.
--- (This definition goes once the machine places mappings: they are answered as the plain page map answers them.)
-abbrev pub FindsNoPlace : Plain → Request → Reply → Plain → Type 0
-FindsNoPlace t request y u = (y ≡ or_no_place (refusal (λ k. mode_of (t.file k)) request)) × (u ≡ t)
-
 -- ---- entries
 
--- A core's request may be answered y, and leaves u. NoFrame answers only an access that would be served, and NoMemory any request; both
--- change nothing. Every other reply, and what it leaves, is the plain page map's.
+-- A core's request may be answered y, and leaves u. NoFrame answers only an access that would be
+-- served, and NoMemory any request; both change nothing. Every other reply, and what it leaves, is
+-- the plain page map's.
 abbrev pub Stands : Plain → ℕ → Request → Reply → Plain → Type 0
 Stands t core request NoFrame u = IsServable t request × (u ≡ t)
 Stands t core request NoMemory u = u ≡ t
-Stands t core request y u = cond (is_placed request) (FindsNoPlace t request y u) (Applies t core request y u)
+Stands t core request y u = Applies t core request y u
 
--- The entry, where these are the requests of the calls in order. A page gets a copy of its own where it is a private page that shows its
--- file's bytes, and a store to it is allowed.
+-- The entry, where these are the requests of the calls in order. A page gets a copy of its own
+-- where it is a private page that shows its file's bytes, and a store to it is allowed.
 abbrev pub GoesOn : List Request → Plain → Entry → Plain → Type 0
 GoesOn requests t (Answer step call core reply) u =
     (request : Request) × (nth requests call ≡ Some request) × Stands t core request reply u
-GoesOn requests t (Detach step call page) u = CanAccess t.file (t.entry page) Store × (detached t page ≡ Some u)
+GoesOn requests t (Detach step call page) u =
+    CanAccess t.file (t.entry page) Store × (detached t page ≡ Some u)
 
 -- the entries, applied in order, lead from t to u
 abbrev pub Replays : List Request → Plain → List Entry → Plain → Type 0

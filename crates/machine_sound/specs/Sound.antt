@@ -1,5 +1,5 @@
 -- What holds in each state that a machine reaches, and of each step from there
-use Rattle.std.specs.Prelude.{◌≡◌, ◌≢◌, ℕ, suc, ◌⊎◌, Bool, true, false, List, [], ◌∷◌, ◌++◌, slice_get, Some, pos}
+use Rattle.std.specs.Prelude.{◌≡◌, ◌≢◌, ℕ, suc, ◌≤◌, ◌⊎◌, Bool, true, false, List, [], ◌∷◌, ◌++◌, slice_get, Some, pos}
 use Rattle.vm_base.specs.declared.replies.Reply.TheVariants.{NoFrame, NoMemory}
 use Rattle.vm_base.specs.Plain.{Plain, nothing_mapped}
 use Rattle.slot_lock.specs.Slots.{Slots, IsNew}
@@ -30,26 +30,33 @@ use Rattle.machine_sound.specs.Translations.{Translates, Agrees, IsNamed}
 
 -- ---- a state
 
--- The log, applied to no mappings and the files of the start, leads to the plain page map t. Each translation of each core agrees with
--- t, and no frame that something names is free to be handed out.
+-- The log, applied to no mappings and the files of the start, leads to the plain page map t. Each
+-- translation of each core agrees with t, and no frame that something names is free to be handed
+-- out.
 pub record IsSound (w : World) (t : Plain) : Type 0 where
   pub log : Replays w.calls.requests (nothing_mapped w.made.file) w.calls.log t
   pub agrees : (c p : ℕ) (e : Translation) → Translates w.hardware c p e → Agrees w t p e
   pub named : (f : ℕ) → IsNamed w f → w.memory.is_free f ≡ false
   -- an entry of a core's tables: its slot records the core
-  pub recorded : (c p : ℕ) (e : Translation) → w.hardware.table c p ≡ Some e → is_recorded (w.slots.info p) c ≡ true
-  -- an entry of a core's TLB: its tables have it, or it was cleared from them and its oldest message isn't acknowledged yet
-  pub mirrors : (c i : ℕ) (e : TlbEntry) → slice_get (w.hardware.tlb c) i ≡ Some e → Mirrors (w.hardware.table c) (w.hardware.inbox c) e
+  pub recorded : (c p : ℕ) (e : Translation) → w.hardware.table c p ≡ Some e
+      → is_recorded (w.slots.info p) c ≡ true
+  -- an entry of a core's TLB: its tables have it, or it was cleared from them and its oldest
+  -- message isn't acknowledged yet
+  pub mirrors : (c i : ℕ) (e : TlbEntry) → slice_get (w.hardware.tlb c) i ≡ Some e
+      → Mirrors (w.hardware.table c) (w.hardware.inbox c) e
   -- each frame counts the pages that have it, and one more where it caches a page of a file
-  pub users : (f : ℕ) → ((n k : ℕ) → w.memory.cached n k ≢ Some f) → true_count w.memory.counts f ≡ pos (users_of w.slots.info f)
-  pub cached : (n k f : ℕ) → w.memory.cached n k ≡ Some f → true_count w.memory.counts f ≡ pos (suc (users_of w.slots.info f))
+  pub users : (f : ℕ) → ((n k : ℕ) → w.memory.cached n k ≢ Some f)
+      → true_count w.memory.counts f ≡ pos (users_of w.slots.info f)
+  pub cached : (n k f : ℕ) → w.memory.cached n k ≡ Some f
+      → true_count w.memory.counts f ≡ pos (suc (users_of w.slots.info f))
 
 abbrev pub IsSoundState : World → Type 0
 IsSoundState w = (t : Plain) × IsSound w t
 
 -- ---- a step
 
--- The entry was due at this event, where these frames were free: no frame was at a NoFrame, and a NoMemory answers a call that was given up.
+-- The entry was due at this event, where these frames were free: no frame was at a NoFrame, and a
+-- NoMemory answers a call that was given up.
 abbrev pub IsDue : Event → (ℕ → Bool) → Entry → Type 0
 IsDue event is_free (Answer step call core NoFrame) = NoneFree is_free
 IsDue event is_free (Answer step call core NoMemory) = event ≡ GiveUp core
@@ -62,17 +69,21 @@ Notes w event v =
     ⊎ ((entry : Entry) × (v.calls.log ≡ w.calls.log ++ entry ∷ []) × (step_of entry ≡ v.calls.events)
     × IsDue event w.memory.is_free entry)
 
--- what made a frame free: a review of Refcache, or a call that had taken it for a page, and is given up or shows a file's frame instead
+-- what made a frame free: a review of Refcache, or a call that had taken it for a page, and is
+-- given up or shows a file's frame instead
 pub data IsFreedBy (w : World) (event : Event) (f : ℕ) : Type 0 where
-  by_review : (c : ℕ) (counts : Counts) → event ≡ Review c → Takes w.memory.counts (Reviewing c (review.Freed f)) counts → IsFreedBy w event f
-  by_call : (c : ℕ) → core_of event ≡ Some c → taken_in (w.calls.phase c) ≡ Some f → IsFreedBy w event f
+  by_review : (c : ℕ) (counts : Counts) → event ≡ Review c
+      → Takes w.memory.counts (Reviewing c (review.Freed f)) counts → IsFreedBy w event f
+  by_call : (c : ℕ) → core_of event ≡ Some c → taken_in (w.calls.phase c) ≡ Some f
+      → IsFreedBy w event f
 
 -- no other frame becomes free
 abbrev pub FreesOnly : World → Event → World → Type 0
-FreesOnly w event v = (f : ℕ) → w.memory.is_free f ≡ false → v.memory.is_free f ≡ true → IsFreedBy w event f
+FreesOnly w event v =
+    (f : ℕ) → w.memory.is_free f ≡ false → v.memory.is_free f ≡ true → IsFreedBy w event f
 
--- What a call waits for is there: another core owns a slot with a page of the call's, or some cores' inboxes, just those of the set, have
--- its message.
+-- What a call waits for is there: another core owns a slot with a page of the call's, or some
+-- cores' inboxes, just those of the set, have its message.
 abbrev pub IsBlocked : World → Event → Outcome → Type 0
 IsBlocked w event (Wait (WaitsFor.Slot by)) =
     (c : ℕ) × (event ≡ Go c) × (by ≢ c) × (p : ℕ) × (some_has (range_in (w.calls.phase c)) p ≡ true)
@@ -88,9 +99,12 @@ pub record IsSoundStep (w : World) (event : Event) (outcome : Outcome) (v : Worl
 
 -- ---- states that are reached
 
--- A run of a machine over new slots leads to w, with any number of cores, any files and any order of events.
+-- A run of a machine over new slots leads to w, with up to 64 cores, any files and any order of
+-- events.
 pub record IsReached (w : World) : Type 0 where
   pub made : Made
+  -- each core's window has valid pages
+  pub few : made.cores ≤ 64
   pub slots : Slots
   pub events : List Event
   pub outcomes : List Outcome
@@ -103,12 +117,14 @@ AllReachedAreSound = (w : World) → IsReached w → IsSoundState w
 
 -- and so is each step from there
 abbrev pub AllStepsAreSound : Type 0
-AllStepsAreSound = (w v : World) (event : Event) (outcome : Outcome) → IsReached w → Step w event outcome v
+AllStepsAreSound =
+    (w v : World) (event : Event) (outcome : Outcome) → IsReached w → Step w event outcome v
     → IsSoundStep w event outcome v
 
 -- ---- runs, state by state
 
--- The events, in order, may come to these outcomes one after another; each state on the way is sound, and each step.
+-- The events, in order, may come to these outcomes one after another; each state on the way is
+-- sound, and each step.
 abbrev pub SoundRun : World → List Event → List Outcome → World → Type 0
 SoundRun w [] [] v = IsSoundState w × (v ≡ w)
 SoundRun w (e ∷ es) (o ∷ os) v = IsSoundState w × ((m : World) × Step w e o m × IsSoundStep w e o m
@@ -117,5 +133,7 @@ SoundRun w [] (o ∷ os) v = ⊥
 SoundRun w (e ∷ es) [] v = ⊥
 
 abbrev pub AllRunsSound : Type 0
-AllRunsSound = (made : Made) (slots : Slots) (events : List Event) (outcomes : List Outcome) (w : World)
-    → IsNew slots → Run (new_world made slots) events outcomes w → SoundRun (new_world made slots) events outcomes w
+AllRunsSound =
+    (made : Made) (slots : Slots) (events : List Event) (outcomes : List Outcome) (w : World)
+    → made.cores ≤ 64 → IsNew slots → Run (new_world made slots) events outcomes w
+    → SoundRun (new_world made slots) events outcomes w

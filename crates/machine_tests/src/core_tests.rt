@@ -103,7 +103,8 @@ fold 0xf000 = step
 fold 0xf000 = idle
 ";
 
-/// Four frames, numbered from 0. The check, the fault, the lock and the look at the slot come before one is taken.
+/// Four frames, numbered from 0. The check, the fault, the lock and the look at the slot come
+/// before one is taken.
 const ASKED: &str = "\
 c0! mmap 0x10000 4096 rw- pfa = 0x10000
 c0 call store 0x10000 65 = step
@@ -172,8 +173,8 @@ c0 finish = done
 c0 giveup = idle
 ";
 
-/// Tells whether a call goes so many steps, the lines then give what they must, and the same request goes through afterwards: the only
-/// frame can be had.
+/// Tells whether a call goes so many steps, the lines then give what they must, and the same
+/// request goes through afterwards: the only frame can be had.
 fn gives_up(
     alloc: Global,
     call: &str,
@@ -202,7 +203,8 @@ fn a_call_is_given_up_until_its_reply_stands(rt: HostRuntime) -> Result<(), Fail
             4,
             7,
         ),
-        // the check, the fault, the lock, the look at the slot, the frame, its bytes, the entry, the unlocking and the access
+        // the check, the fault, the lock, the look at the slot, the frame, its bytes, the entry,
+        // the unlocking and the access
         (
             "c0 call store 0x10000 65 = step",
             "c0! store 0x10000 65 = done",

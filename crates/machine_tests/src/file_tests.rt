@@ -1,11 +1,12 @@
-//! Pages of files, row by row: shared ones, private ones that are read and then stored to, and copies that wait for other cores.
+//! Pages of files, row by row: shared ones, private ones that are read and then stored to, and
+//! copies that wait for other cores.
 use crate::rows::moved;
 use std::test::Fail;
 use trace::declaration::{Declaration, FileLine};
 use vm_base::Mode;
 
-/// Two pages of two cores show one page of the file, for which one frame is enough: it is read from the file once. Past the file's
-/// last byte are zeros, and past its last page is nothing.
+/// Two pages of two cores show one page of the file, for which one frame is enough: it is read from
+/// the file once. Past the file's last byte are zeros, and past its last page is nothing.
 const SHOWN: &str = "\
 c0! mmap 0x10000 4096 rw- sf 0 0 = 0x10000
 c1! mmap 0x11000 8192 rw- sf 0 0 = 0x11000
@@ -21,7 +22,8 @@ c1! store 0x12000 67 = bus
 c1! load 0x12fff = bus
 ";
 
-/// A private page that two cores read and one stores to: the other is told first, and the file keeps its bytes.
+/// A private page that two cores read and one stores to: the other is told first, and the file
+/// keeps its bytes.
 const COPIED: &str = "\
 c0! mmap 0x10000 4096 rw- pf 0 0 = 0x10000
 c0! mmap 0x11000 4096 rw- sf 0 0 = 0x11000
@@ -52,8 +54,8 @@ c0! load 0x10001 = 8
 c1! store 0x10000 65 = done
 ";
 
-/// One core has taken a frame for its page when the other's page gets the file page cached: the frame goes back, and a third page
-/// gets it.
+/// One core has taken a frame for its page when the other's page gets the file page cached: the
+/// frame goes back, and a third page gets it.
 const MEANWHILE: &str = "\
 c0! mmap 0x10000 4096 rw- sf 0 0 = 0x10000
 c1! mmap 0x11000 4096 rw- sf 0 0 = 0x11000
@@ -70,7 +72,8 @@ c0 finish = 66
 c1! store 0x12000 67 = done
 ";
 
-/// A copy is given up only while no core is awaited for it. Its frame goes back, and the store can be made again.
+/// A copy is given up only while no core is awaited for it. Its frame goes back, and the store can
+/// be made again.
 const GIVEN_UP: &str = "\
 c0! mmap 0x10000 4096 rw- pf 0 0 = 0x10000
 c0! load 0x10000 = 7
@@ -131,7 +134,8 @@ c0! store 0x10005 7 = done
 c0! load 0x20005 = 99
 ";
 
-/// A file that is open for writing alone: no such file comes before an end past all pages, and that before what it is open for.
+/// A file that is open for writing alone: no such file comes before an end past all pages, and that
+/// before what it is open for.
 const REFUSED: &str = "\
 c0! mmap 0x10000 4096 r-- pf 1 0x7ffffffff001 = einval
 c0! mmap 0x10000 4096 r-- pf 1 0x800000000000 = ebadf

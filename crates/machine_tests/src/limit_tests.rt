@@ -30,7 +30,8 @@ c63 go = idle
 c63 call mmap 0x10000 0 rw- pfa = idle
 ";
 
-/// Tells whether the lines give what they must on a machine of two calls, and leave the entries that they must.
+/// Tells whether the lines give what they must on a machine of two calls, and leave the entries
+/// that they must.
 fn ends_at_the_limit(alloc: Global) -> Result<bool, NoMemory> {
     let entry = Entry::Answer {
         step: 2,
@@ -67,14 +68,16 @@ fn last_step(log: &[Entry]) -> u64 {
 struct Came {
     /// A step was refused, and the log had so many entries then.
     refused: Option<usize>,
-    /// The refused step was refused again and changed nothing, and there was an end once there was room.
+    /// The refused step was refused again and changed nothing, and there was an end once there was
+    /// room.
     is_right: bool,
     /// The event of the log's last entry in the end.
     step: u64,
 }
 
-/// Begins a call by these lines, and goes on with it while all but `room` bytes of its heap are taken. Where a step is refused,
-/// they are given back. Nothing is said where so much can't be taken in one piece.
+/// Begins a call by these lines, and goes on with it while all but `room` bytes of its heap are
+/// taken. Where a step is refused, they are given back. Nothing is said where so much can't be
+/// taken in one piece.
 fn call_in(heap: &LocalHeap, lines: &str, room: usize) -> Result<Option<Came>, NoMemory> {
     let core = CoreId::new(0);
     let mut declared = Declaration::new(1, 2, 16);
@@ -134,10 +137,11 @@ c0 call store 0x10000 65 = step
 fn a_refused_step_changes_nothing(rt: HostRuntime) -> Result<(), Fail> {
     let heap = LocalHeap::new(rt.alloc(), 400_000)?;
     for (lines, unit, logged, least, last) in [
-        // the map has five slots in the end, of 64 bytes or more; after the check come two divisions, a lock, the decision and the post:
-        // the change is the event 8
+        // the map has five slots in the end, of 64 bytes or more; after the check come two
+        // divisions, a lock, the decision and the post: the change is the event 8
         (MAPPED, 32, 0, 6, 8),
-        // below the root three tables of at least 4096 bytes are made, and 2048 bytes are less than the holes of the map
+        // below the root three tables of at least 4096 bytes are made, and 2048 bytes are less than
+        // the holes of the map
         (STORED, 512, 1, 20, 20),
         // the log has room for answers alone: a copy takes more
         (COPIED, 64, 1, 1, 20),

@@ -5,8 +5,7 @@ use slot_lock::RunList;
 use std::alloc::{Allocator, Global};
 use trace::declaration::Declaration;
 use trace::event_lines::run_line;
-use trace::outcome_text::LineText;
-use trace_text::read_line;
+use trace_text::{LineText, read_line};
 use vm_base::NoMemory;
 
 /// The machine that is declared.
@@ -25,8 +24,8 @@ pub fn machine<A: Allocator + Clone + Drop>(
     }
 }
 
-/// The number, from 0 on, of the first line that gives something else. A line has the words of a trace's line, ` = `, and what
-/// it must give.
+/// The number, from 0 on, of the first line that gives something else. A line has the words of a
+/// trace's line, ` = `, and what it must give.
 pub fn first_wrong<A: Allocator + Clone>(
     machine: &mut Machine<RunList<A>, A>,
     lines: &str,

@@ -169,8 +169,8 @@ fn memory_comes_last(rt: HostRuntime) -> Result<(), Fail> {
     Ok(())
 }
 
-// In heaps from too small for the machine up to ample first each allocation of the machine is refused, then the list of outcomes, as
-// many as there are events, and then nothing is.
+// In heaps from too small for the machine up to ample first each allocation of the machine is
+// refused, then the list of outcomes, as many as there are events, and then nothing is.
 #[test]
 fn heaps_that_are_too_small(rt: HostRuntime) -> Result<(), Fail> {
     let mut last = 0;

@@ -1,5 +1,20 @@
-//! Tests of the maps of slots, a module for each crate that is tested: `live_tree`.
+//! Tests of the maps of slots: of a node of the tree (`node_tests`), of the list of runs
+//! (`slot_tests`), of what pages have in both maps (`page_tests`), of their locks, folds and memory
+//! (`lock_tests`), of the list of mappings (`map_list_tests`) and of the tree that threads will share
+//! (`live_tree_tests`). `slot_calls` is what they call.
 #![tactic(auto)]
 
 #[cfg(test)]
 mod live_tree_tests;
+#[cfg(test)]
+mod lock_tests;
+#[cfg(test)]
+mod map_list_tests;
+#[cfg(test)]
+mod node_tests;
+#[cfg(test)]
+mod page_tests;
+#[cfg(test)]
+mod slot_calls;
+#[cfg(test)]
+mod slot_tests;

@@ -68,8 +68,8 @@ fn let_all_go(counter: &mut Counter, held: Held<'_, Global>) -> usize {
     count
 }
 
-// How many slots are divided and how many are locked until all pages up to the end are held, and how many steps are noted
-// until they are let go again.
+// How many slots are divided and how many are locked until all pages up to the end are held, and
+// how many steps are noted until they are let go again.
 fn counted<R: Wait>(
     rt: &R,
     tree: &SharedTree<Global>,
@@ -135,9 +135,9 @@ fn place_of(slots: &[SlotHistory<Global>], page: u64) -> Option<(u64, u64)> {
     None
 }
 
-// What folds come to in a tree in which the page 16 of each of the first two slots was acquired: how many slots its
-// histories have, whether four folds at a page did something, how many slots there are then, and which slots the two pages
-// are in.
+// What folds come to in a tree in which the page 16 of each of the first two slots was acquired:
+// how many slots its histories have, whether four folds at a page did something, how many slots
+// there are then, and which slots the two pages are in.
 #[derive(Drop)]
 struct Folded {
     before: usize,
@@ -168,7 +168,8 @@ fn fold_at<R: Wait>(rt: &R, alloc: Global, page: u64) -> Option<Folded> {
     })
 }
 
-// What a core is told that asks once for a slot from the page on, and how many steps are noted until it has let go again.
+// What a core is told that asks once for a slot from the page on, and how many steps are noted
+// until it has let go again.
 fn told<R: Wait>(
     rt: &R,
     tree: &SharedTree<Global>,
@@ -221,8 +222,8 @@ fn cut_at_its_begin<R: Wait>(rt: &R, tree: &SharedTree<Global>) -> Option<(u32, 
     Some((cuts, count))
 }
 
-// What a tree does at the page past its last one: whether a slot is locked there, whether one is folded, and how many slots
-// there are then.
+// What a tree does at the page past its last one: whether a slot is locked there, whether one is
+// folded, and how many slots there are then.
 fn at_the_end<R: Wait>(rt: &R, alloc: Global) -> Option<(bool, bool, usize)> {
     let mut tree = SharedTree::new(alloc).ok()?;
     let mut counter = Counter { steps: 0 };
@@ -231,7 +232,8 @@ fn at_the_end<R: Wait>(rt: &R, alloc: Global) -> Option<(bool, bool, usize)> {
     Some((is_locked, is_folded, tree.histories()?.slots().len()))
 }
 
-// Many rounds in which a thread of its own locks the page 16, changes it once and lets it go; whether each did.
+// Many rounds in which a thread of its own locks the page 16, changes it once and lets it go;
+// whether each did.
 fn change_often<R: Wait>(rt: &R, tree: &SharedTree<Global>, core: CoreId) -> bool {
     let mut counter = Counter { steps: 0 };
     'rounds: for _ in 0..ROUNDS {

@@ -18,7 +18,8 @@ permits t Load = true
 permits t Store = t.write
 permits t Fetch = t.exec
 
--- the frame's address, P (bit 0), R/W (bit 1), U/S (bit 2), and XD (bit 63) where the page isn't executable
+-- the frame's address, P (bit 0), R/W (bit 1), U/S (bit 2), and XD (bit 63) where the page isn't
+-- executable
 abbrev pub entry_word : Translation → ℕ
 entry_word t = t.frame * 4096 + 1 + (if t.write then 2 else 0) + 4 + (if t.exec then 0 else 2 ^ 63)
 

@@ -21,8 +21,8 @@ abbrev pub fill : Option Translation → Access → Translated
 fill None access = Fault
 fill (Some t) access = if permits t access then Fill t.frame else Fault
 
--- How an access to a page is translated: the TLB's translation of the page, if there is one, decides alone, and
--- without one the tables'.
+-- How an access to a page is translated: the TLB's translation of the page, if there is one,
+-- decides alone, and without one the tables'.
 abbrev pub translated : Option Translation → Option Translation → Access → Translated
 translated (Some cached) entry access = hit cached access
 translated None entry access = fill entry access

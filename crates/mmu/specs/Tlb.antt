@@ -23,7 +23,8 @@ is_page p q = q == p
 
 -- with one translation more, the oldest filled making room
 abbrev pub tlb_filled : ℕ → Translation → List TlbEntry → List TlbEntry
-tlb_filled p e es = (if length es == 64 then drop 1 es else es) ++ record { page = p; translation = e } ∷ []
+tlb_filled p e es =
+    (if length es == 64 then drop 1 es else es) ++ record { page = p; translation = e } ∷ []
 
 -- a number below 256 for each page: the lower four bytes of the page's number, in one by xor
 unfoldable pub page_hash : ℕ → ℕ

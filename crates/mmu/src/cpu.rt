@@ -29,18 +29,19 @@ pub trait Hardware: Drop {
     /// The TLB, the oldest filled first.
     ghost tlb: { Self → List TlbEntry };
 
-    /// Translates an access to a page. A translation in the TLB decides alone; without one the tables decide. A fill
-    /// enters the TLB, where the oldest filled may have to go; a fault drops the page's translation from it (Intel SDM
-    /// volume 3A, caching translation information). The tables stay.
+    /// Translates an access to a page. A translation in the TLB decides alone; without one the
+    /// tables decide. A fill enters the TLB, where the oldest filled may have to go; a fault drops
+    /// the page's translation from it (Intel SDM volume 3A, caching translation information). The
+    /// tables stay.
     fn translate(&mut self, page: u64, access: Access) -> Translated
         requires { is_valid page ≡ true }
         ensures value { result ≡ translated (tlb_at (tlb self.old) page) (table self.old page) access }
         ensures table { table self.new ≡ table self.old }
         ensures tlb { tlb self.new ≡ tlb_after result page (table self.old page) (tlb self.old) };
 
-    /// Sets the table entry of a page whose protection gives some right. Memory may be wanting only where a table is
-    /// missing: then none of the 512 pages that share the page's table of the last level has an entry, and no entry
-    /// changes. The TLB stays in both cases.
+    /// Sets the table entry of a page whose protection gives some right. Memory may be wanting only
+    /// where a table is missing: then none of the 512 pages that share the page's table of the last
+    /// level has an entry, and no entry changes. The TLB stays in both cases.
     fn install(&mut self, page: u64, frame: u32, prot: Prot) -> Result<(), NoMemory>
         requires page { is_valid page ≡ true }
         requires some_right { has_right prot ≡ true }
@@ -51,28 +52,32 @@ pub trait Hardware: Drop {
         ensures err_last { OnErr result ((q : ℕ) → q / 512 ≡ page / 512 → table self.old q ≡ None) }
         ensures tlb { tlb self.new ≡ tlb self.old };
 
-    /// Fills the TLB from the tables without an access, where the tables have the page and the TLB hasn't; tells
-    /// whether it did. The tables stay.
+    /// Fills the TLB from the tables without an access, where the tables have the page and the TLB
+    /// hasn't; tells whether it did. The tables stay.
     fn walk(&mut self, page: u64) -> bool
         requires { is_valid page ≡ true }
-        ensures value { result ≡ not (is_some (tlb_at (tlb self.old) page)) && is_some (table self.old page) }
+        ensures value { result
+            ≡ not (is_some (tlb_at (tlb self.old) page)) && is_some (table self.old page) }
         ensures table { table self.new ≡ table self.old }
-        ensures tlb { tlb self.new ≡ tlb_walked (tlb_at (tlb self.old) page) (table self.old page) page (tlb self.old) };
+        ensures tlb { tlb self.new
+            ≡ tlb_walked (tlb_at (tlb self.old) page) (table self.old page) page (tlb self.old) };
 
     /// Drops the page's translation from the TLB; tells whether it had one. The tables stay.
     fn evict(&mut self, page: u64) -> bool
         ensures value { result ≡ is_some (tlb_at (tlb self.old) page) }
         ensures table { table self.new ≡ table self.old }
-        ensures tlb { tlb self.new ≡ (if result then tlb_without (is_page page) (tlb self.old) else tlb self.old) };
+        ensures tlb { tlb self.new
+            ≡ (if result then tlb_without (is_page page) (tlb self.old) else tlb self.old) };
 
-    /// Drops the table entries of the pages of the range, in the time of the tables that are there. The TLB stays.
+    /// Drops the table entries of the pages of the range, in the time of the tables that are there.
+    /// The TLB stays.
     fn clear_tables(&mut self, range: PageRange)
         requires { are_pages range ≡ true }
         ensures table { table self.new ≡ over (table self.old) (has range) None }
         ensures tlb { tlb self.new ≡ tlb self.old };
 
-    /// Drops the translations of the pages of the range from the TLB (Intel SDM volume 3A, invalidation of TLBs). The
-    /// tables stay.
+    /// Drops the translations of the pages of the range from the TLB (Intel SDM volume 3A,
+    /// invalidation of TLBs). The tables stay.
     fn invalidate(&mut self, range: PageRange)
         ensures table { table self.new ≡ table self.old }
         ensures tlb { tlb self.new ≡ tlb_without (has range) (tlb self.old) };
@@ -96,7 +101,8 @@ pub struct Cpu<A: Allocator + Clone> {
 }
 
 impl<A: Allocator + Clone> Cpu<A> {
-    /// A core whose tables and TLB are empty. Only the root table is made; without memory for it there is no core.
+    /// A core whose tables and TLB are empty. Only the root table is made; without memory for it
+    /// there is no core.
     pub fn new(alloc: A) -> Result<Self, NoMemory>
         ensures table { IfOk result (λ c. (p : ℕ) → ⟦<Self as Hardware>⟧.table c p ≡ None) }
         ensures tlb { IfOk result (λ c. ⟦<Self as Hardware>⟧.tlb c ≡ []) }

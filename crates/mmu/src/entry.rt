@@ -42,9 +42,9 @@ impl Translation {
         }
     }
 
-    /// The 64 bits of the last-level entry: the frame's address with P (bit 0), R/W (bit 1) and U/S (bit 2), and XD
-    /// (bit 63) where the page isn't executable (Intel SDM volume 3A, 4-level paging, format of a page-table entry
-    /// that maps a 4-KByte page).
+    /// The 64 bits of the last-level entry: the frame's address with P (bit 0), R/W (bit 1) and U/S
+    /// (bit 2), and XD (bit 63) where the page isn't executable (Intel SDM volume 3A, 4-level
+    /// paging, format of a page-table entry that maps a 4-KByte page).
     pub fn word(self) -> u64
         ensures { result ≡ entry_word self }
     {
@@ -75,8 +75,8 @@ pub fn has_right(prot: Prot) -> bool
     prot.read || prot.write || prot.exec
 }
 
-/// The places of an address in the tables of the four levels, from the root on: bits 47:39, 38:30, 29:21 and 20:12
-/// (Intel SDM volume 3A, 4-level paging, linear-address translation).
+/// The places of an address in the tables of the four levels, from the root on: bits 47:39, 38:30,
+/// 29:21 and 20:12 (Intel SDM volume 3A, 4-level paging, linear-address translation).
 pub fn indices(addr: u64) -> [u16; 4]
     ensures root { slice_index result 0 ≡ level_index 39 addr }
     ensures second { slice_index result 1 ≡ level_index 30 addr }

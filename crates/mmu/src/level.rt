@@ -1,4 +1,5 @@
-//! Page tables of one level and those below: a finite map from the pages that they cover to translations.
+//! Page tables of one level and those below: a finite map from the pages that they cover to
+//! translations.
 ghost use Rattle.std.specs.Prelude.{◌≡◌, ◌≢◌, ℕ, ◌+◌, ◌^◌, length, ◌*◌, ◌/◌, ◌%◌, ◌<◌, ◌≤◌, Option, None, Some, IfOk, OnOk, OnErr, vec_len, slice_index, slice_index_or, option_and_then};
 ghost use Rattle.vm_base.specs.Functions.{put, over, has};
 ghost use Rattle.mmu.specs.Entry.{decode};
@@ -28,7 +29,8 @@ pub trait Level<A: Allocator>: Drop {
     fn clear(&mut self, width: u64, range: PageRange)
         requires width { width ≡ pages }
         requires covered { range.end ≤ pages }
-        ensures { (q : ℕ) → q < pages → entry_at self.new q ≡ over (entry_at self.old) (has range) None q };
+        ensures { (q : ℕ) → q < pages
+            → entry_at self.new q ≡ over (entry_at self.old) (has range) None q };
 
     /// A table without entries.
     fn make(alloc: A) -> Result<Self, NoMemory>
@@ -36,8 +38,8 @@ pub trait Level<A: Allocator>: Drop {
         Self: Sized,
         ensures { IfOk result (λ t. (page : ℕ) → entry_at t page ≡ None) };
 
-    /// Sets the entry of a page. Where memory is refused no entry changes, and none of the 512 pages has one that share the
-    /// page's table of the last level.
+    /// Sets the entry of a page. Where memory is refused no entry changes, and none of the 512
+    /// pages has one that share the page's table of the last level.
     fn install(
         &mut self,
         alloc: &A,
@@ -125,7 +127,8 @@ pub struct Inner<C: Drop, A: Allocator> {
 impl<C: Level<A>, A: Allocator + Clone> Level<A> for Inner<C, A> {
     ghost pages = { 512 * C.pages };
 
-    ghost entry_at = { λ t page. option_and_then (λ b. C.entry_at b.value (page % C.pages)) (slice_index_or t.tables.items (page / C.pages) None) };
+    ghost entry_at = { λ t page. option_and_then (λ b. C.entry_at b.value (page % C.pages))
+        (slice_index_or t.tables.items (page / C.pages) None) };
 
     ghost some_page = { Prim.omega (arith, C.some_page) };
 
@@ -210,8 +213,11 @@ fn clear_tables<C: Level<A>, A: Allocator>(
     requires full { vec_len tables.old ≡ 512 }
     requires covered { range.end ≤ 512 * C.pages }
     ensures full { vec_len tables.new ≡ 512 }
-    ensures entries { (q : ℕ) → option_and_then (λ b. C.entry_at b.value (q % C.pages)) (slice_index_or tables.new.items (q / C.pages) None)
-        ≡ over (λ p. option_and_then (λ b. C.entry_at b.value (p % C.pages)) (slice_index_or tables.old.items (p / C.pages) None)) (has range) None q }
+    ensures entries { (q : ℕ)
+        → option_and_then (λ b. C.entry_at b.value (q % C.pages))
+        (slice_index_or tables.new.items (q / C.pages) None)
+        ≡ over (λ p. option_and_then (λ b. C.entry_at b.value (p % C.pages))
+        (slice_index_or tables.old.items (p / C.pages) None)) (has range) None q }
 {
     let end = range.end.div_ceil(below);
     'tables: for i in range.first / below..end {

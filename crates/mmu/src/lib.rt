@@ -1,11 +1,10 @@
-//! A core's page tables and TLB: four-level paging of 4 KiB pages (Intel SDM volume 3A, 4-level paging).
+//! A core's page tables and TLB: four-level paging of 4 KiB pages (Intel SDM volume 3A, 4-level
+//! paging).
 #![tactic(auto)]
 
 pub mod cpu;
 pub mod entry;
 pub mod level;
-#[cfg(test)]
-mod tests;
 pub mod tlb;
 pub mod translated;
 

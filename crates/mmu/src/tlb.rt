@@ -21,11 +21,12 @@ pub struct TlbEntry {
 #[derive(Drop)]
 pub struct Tlb {
     entries: ArrayVec<TlbEntry, PLACES>,
-    /// Where a page's translation may stand, by a hash of the page's number: the place at which one was seen last, counted
-    /// on by `gone`. It is tested before it is used, so it may be out of date.
+    /// Where a page's translation may stand, by a hash of the page's number: the place at which one
+    /// was seen last, counted on by `gone`. It is tested before it is used, so it may be out of
+    /// date.
     places: [u8; 256],
-    /// How many translations are of pages with each hash. A page whose hash has none is missed without a look at the
-    /// translations.
+    /// How many translations are of pages with each hash. A page whose hash has none is missed
+    /// without a look at the translations.
     counts: [u8; 256],
     /// How many translations have made room, modulo 256. Each moved the others by one place.
     gone: u8,
@@ -58,8 +59,8 @@ impl Tlb {
         }
     }
 
-    /// The place of the page's translation, if there is one: where it was seen last, or else by a look at each, where one
-    /// has the page's hash.
+    /// The place of the page's translation, if there is one: where it was seen last, or else by a
+    /// look at each, where one has the page's hash.
     fn place_of(&mut self, page: u64) -> Option<usize>
         ensures value { result ≡ position (λ e. e.page == page) self.old.entries.items }
         ensures within { IfSome result (λ place. place < length self.old.entries.items) }
@@ -106,7 +107,8 @@ impl Tlb {
         }
     }
 
-    /// Takes in the translation of a page that has none. Where there is no room, the oldest filled goes.
+    /// Takes in the translation of a page that has none. Where there is no room, the oldest filled
+    /// goes.
     pub fn fill(&mut self, page: u64, translation: Translation)
         requires { tlb_at self.old.entries.items page ≡ None }
         ensures { self.new.entries.items ≡ tlb_filled page translation self.old.entries.items }
@@ -150,7 +152,8 @@ impl Tlb {
     }
 }
 
-/// The lower four bytes of the page's number, in one by xor. It tells 64 pages of any stride of a power of 2 apart.
+/// The lower four bytes of the page's number, in one by xor. It tells 64 pages of any stride of a
+/// power of 2 apart.
 #[tactic(auto, unfolding(crate::specs::Tlb::page_hash))]
 fn hash(page: u64) -> usize
     ensures value { result ≡ page_hash page }

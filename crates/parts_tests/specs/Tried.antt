@@ -10,4 +10,5 @@ pub record IsTrial (p : Parts) (cores : ℕ) (trues : List ℕ) (fresh : Bool) :
   pub same_objects : length p.objects ≡ length trues
   pub exact : (o : ℕ) → o < length trues → true_count (counts_of p) o ≡ pos (slice_index_or trues o 0)
   -- before the first step but a beginning, an object of count 0 is unused
-  pub unused : fresh ≡ true → (o : ℕ) → o < length trues → slice_index_or trues o 0 ≡ 0 → IsUnused (counts_of p) o
+  pub unused : fresh ≡ true → (o : ℕ) → o < length trues → slice_index_or trues o 0 ≡ 0
+      → IsUnused (counts_of p) o

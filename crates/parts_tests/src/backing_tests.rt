@@ -1,4 +1,5 @@
-//! `backing`: each call once with ample memory, what a mode lets files be mapped for, and each allocation refused in turn.
+//! `backing`: each call once with ample memory, what a mode lets files be mapped for, and each
+//! allocation refused in turn.
 ghost use Rattle.std.specs.Prelude.{◌≡◌};
 
 use backing::{CachedFrame, FileSpec, Objects, Sharing};
@@ -42,8 +43,8 @@ fn open_few<A: Allocator + Clone>(
     Objects::new(alloc, specs)
 }
 
-/// File 0 has 5000 bytes from 7 on, file 1 has none, and file 2 has one page. They are open for both, for writing and for
-/// reading.
+/// File 0 has 5000 bytes from 7 on, file 1 has none, and file 2 has one page. They are open for
+/// both, for writing and for reading.
 fn three_files<A: Allocator + Clone>(alloc: A) -> Result<Objects<A>, AllocError> {
     let mut specs = Vec::new(alloc.clone()?);
     specs.push(spec(alloc.clone()?, Mode::RW, 5000, 7)?)?;

@@ -1,4 +1,5 @@
-//! `frames`: each call once with ample memory, counts of a few sets, and each allocation refused in turn.
+//! `frames`: each call once with ample memory, counts of a few sets, and each allocation refused in
+//! turn.
 use frames::{FrameCell, Frames};
 use linked_list_allocator::LocalHeap;
 use std::alloc::Allocator;

@@ -1,5 +1,6 @@
-//! Tests of the parts of a machine, a module for each crate that is tested: `frames`, `refcache`, `backing`, `shootdown` and
-//! `tickets`.
+//! Tests of the parts of a machine and of its text, a module for each crate that is tested: `frames`,
+//! `refcache`, `backing`, `shootdown`, `mmu`, `tickets`, `trace_io` (`io_tests`) and `trace_text`
+//! (`text_tests`).
 #![tactic(auto)]
 
 #[cfg(test)]
@@ -7,10 +8,16 @@ mod backing_tests;
 #[cfg(test)]
 mod frames_tests;
 #[cfg(test)]
+mod io_tests;
+#[cfg(test)]
+mod mmu_tests;
+#[cfg(test)]
 mod refcache_tests;
 #[cfg(test)]
 mod refcache_trial;
 #[cfg(test)]
 mod shootdown_tests;
+#[cfg(test)]
+mod text_tests;
 #[cfg(test)]
 mod tickets_tests;

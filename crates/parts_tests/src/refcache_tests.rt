@@ -1,4 +1,5 @@
-//! `refcache`: rows of calls with what each must answer, as worked examples of the rules, and its pieces by themselves.
+//! `refcache`: rows of calls with what each must answer, as worked examples of the rules, and its
+//! pieces by themselves.
 
 use crate::refcache_trial::{Answer, Call, Trial};
 use linked_list_allocator::LocalHeap;

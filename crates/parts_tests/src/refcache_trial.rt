@@ -43,7 +43,8 @@ fn zeros<A: Allocator>(alloc: A, objects: usize) -> Result<Vec<u64, A>, AllocErr
     Ok(counts)
 }
 
-/// A Refcache, its number of cores, the true count of each object, and whether no step but beginnings has been made.
+/// A Refcache, its number of cores, the true count of each object, and whether no step but
+/// beginnings has been made.
 #[derive(Drop)]
 pub struct Trial<A: Allocator> {
     counts: Refcache<A>,

@@ -69,7 +69,8 @@ fn lanes_of(
     all: Vec<Ticketer, Global>,
 ) -> Result<Vec<Lane, Global>, AllocError>
     requires { All (λ t. (t.word ≡ word.now) × (t.tickets ≡ [])) all.items }
-    ensures { IfOk result (λ v. All (λ l. (l.ticketer.word ≡ word.now) × (l.ticketer.tickets ≡ [])) v.items) }
+    ensures { IfOk result (λ v.
+        All (λ l. (l.ticketer.word ≡ word.now) × (l.ticketer.tickets ≡ [])) v.items) }
 {
     let mut lanes = Vec::with_capacity(alloc, all.len())?;
     'lanes: for ticketer in all {

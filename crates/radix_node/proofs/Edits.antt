@@ -315,11 +315,11 @@ child_ends {level = level} {i = i} d b v old first end lo hi by edit n l is same
 -- ---- a range that one slot has
 
 -- the slot with this number is written, and the range's pages are changed
-pub record Narrow {A : Type 0} (level i : ℕ) (ss : List (Slot A)) (t : Slot A) (first end by : ℕ) (edit : Edit) : Type 0 where
-  pub node : IsNode level (set ss i t)
-  pub edits : Edits (flatten (width_of level) (parts_of ss)) (flatten (width_of level) (parts_of (set ss i t)))
-      first end by edit ((i + 1) * width_of level)
-  pub by_end : end ≤ (i + 1) * width_of level
+pub record Narrow {A : Type 0} (level : ℕ) (ss ts : List (Slot A)) (first end by : ℕ) (edit : Edit) : Type 0 where
+  pub last : ℕ
+  pub node : IsNode level ts
+  pub edits : Edits (flatten (width_of level) (parts_of ss)) (flatten (width_of level) (parts_of ts)) first end by edit last
+  pub by_end : end ≤ last
 
 -- the range lies in the slot that has its first page
 pub record InSlot (level first end i rest : ℕ) : Type 0 where
@@ -337,7 +337,7 @@ pub own_narrow : {A : Type 0} {level first end i rest : ℕ} {ss : List (Slot A)
     → (cell_at (flatten (width_of level) (parts_of ss)) first).offset ≡ 0
     → (cell_at (flatten (width_of level) (parts_of ss)) end).offset ≡ 0
     → CanEdit edit (by + (end - first)) → state_of t ≡ edited edit by (state_of s)
-    → Narrow level i ss (OwnSlot t) first end by edit
+    → Narrow level ss (set ss i (OwnSlot t)) first end by edit
 own_narrow {level = level} {first = first} {end = end} {i = i} {ss = ss} d s t by edit n h is begins ends can is_t =
     let rs = flatten (width_of level) (parts_of ss) in
     let none = none_yet rs by edit h in
@@ -349,6 +349,7 @@ own_narrow {level = level} {first = first} {end = end} {i = i} {ss = ss} d s t b
     let e : by ≡ by + (i * width_of level - first) = omega (arith, h.place.page_is) in
     let node = own_node d s t first end by by edit n h.place.slot_in is inside can e is_t in
     record {
+      last = (i + 1) * width_of level;
       node = node;
       edits = edits_own d s t rs first end by by edit n node h.place.slot_in is past inside e is_t none;
       by_end = omega (arith, h.place.page_is, h.place.rest_in, h.short);
@@ -385,7 +386,7 @@ pub child_narrow : {A : Type 0} {level first end i rest : ℕ} {ss : List (Slot 
     → c.value.level ≡ v.level → IsWhole c.value.level (512 * width_of c.value.level) (runs c.value)
     → ((q : ℕ) → rest ≤ q → q < rest + (end - first) → cell_at (runs c.value) q ≡ edited_cell edit (by + (q - rest)) (cell_at (runs v) q))
     → ((q : ℕ) → (q < rest) ⊎ (rest + (end - first) ≤ q) → cell_at (runs c.value) q ≡ cell_at (runs v) q)
-    → Narrow level i ss (Child c) first end by edit
+    → Narrow level ss (set ss i (Child c)) first end by edit
 child_narrow {level = level} {first = first} {end = end} {i = i} {rest = rest} {ss = ss} d b c v by edit n h is same lev whole inside outside =
     let rs = flatten (width_of level) (parts_of ss) in
     let past : first < i * width_of level + width_of level =
@@ -393,6 +394,7 @@ child_narrow {level = level} {first = first} {end = end} {i = i} {rest = rest} {
     let e : by ≡ by + (i * width_of level + rest - first) = omega (arith, h.place.page_is) in
     let node = child_node d b c v n h.place.slot_in is same lev whole in
     record {
+      last = (i + 1) * width_of level;
       node = node;
       edits = edits_child d b c v rs first end rest (rest + (end - first)) by by edit n node h.place.slot_in is same past
           (part_of_slot h) e inside outside (none_yet rs by edit h);

@@ -58,7 +58,8 @@ in_parts r = divided (r.width / 512) r.state
 -- 512 slots of w pages carry on what one slot says
 abbrev pub IsCarried : ℕ → State → List Run → Type 0
 IsCarried w s rs =
-    (k : ℕ) → k < 512 → cell_at rs (k * w) ≡ record { state = state_from s (k * w); offset = 0; width = w }
+    (k : ℕ) → k < 512
+    → cell_at rs (k * w) ≡ record { state = state_from s (k * w); offset = 0; width = w }
 
 -- 512 plain slots that carry on what their first says were joined to one
 pub record Folds (old new : List Run) (page : ℕ) : Type 0 where
@@ -66,7 +67,8 @@ pub record Folds (old new : List Run) (page : ℕ) : Type 0 where
   pub large : 1 < (cell_at new page).width
   pub parts : old ≡ with_run in_parts new page
 
--- A node of a lower level than this, which has the page, has no child, and its slots are plain and carry on what the first says
+-- A node of a lower level than this, which has the page, has no child, and its slots are plain and
+-- carry on what the first says
 pub record CanJoin (level : ℕ) (rs : List Run) (page : ℕ) : Type 0 where
   pub own_level : ℕ
   pub low : own_level < level
@@ -82,7 +84,8 @@ pub record CanJoin (level : ℕ) (rs : List Run) (page : ℕ) : Type 0 where
 
 -- ---- what holds of each slot
 
--- the file pages of its pages are numbers, and only a slot of one page has a frame or a recorded core
+-- the file pages of its pages are numbers, and only a slot of one page has a frame or a recorded
+-- core
 pub record IsSound (width : ℕ) (s : State) : Type 0 where
   pub fits : info_file_page s.info + width ≤ 2 ^ 36
   pub alone : is_leaf s.info ≡ true → width ≡ 1
@@ -92,7 +95,8 @@ abbrev pub level_of : ℕ → ℕ
 level_of width =
     if width == 1 then 0 else (if width == 512 then 1 else (if width == 2 ^ 18 then 2 else 3))
 
--- the slot that has the page is one of a level up to this one, and begins at a multiple of its pages
+-- the slot that has the page is one of a level up to this one, and begins at a multiple of its
+-- pages
 pub record IsCell (level page : ℕ) (c : Cell) : Type 0 where
   pub low : level_of c.width ≤ level
   pub width_is : c.width ≡ width_of (level_of c.width)

@@ -28,9 +28,11 @@ frame_in true frame = Some frame
 abbrev pub info_in : Option Back → SlotState → Option PageInfo
 info_in None s = None
 info_in (Some back) s =
-    Some
-    (record
-    { meta = record { back = back; prot = s.prot }; frame = frame_in s.has_frame s.frame; cores = s.cores })
+    Some (record {
+      meta = record { back = back; prot = s.prot };
+      frame = frame_in s.has_frame s.frame;
+      cores = s.cores;
+    })
 
 abbrev pub state_of : SlotState → State
 state_of s = record { info = info_in (back_of s.kind s.file s.file_page) s; owner = s.owner }

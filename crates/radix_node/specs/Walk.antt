@@ -48,7 +48,8 @@ pub record IsOpen (rs : List Run) (base first end n start here : ℕ) : Type 0 w
   pub free : (p : ℕ) → first ≤ p → p < end → here ≤ base + p → (cell_at rs p).state.info ≡ None
   pub before : (r : ℕ) → start ≤ r → r < here → Blocked rs base first end n r
 
--- the n pages from here on are free as far as they lie in the range; from start up to here no n free pages begin
+-- the n pages from here on are free as far as they lie in the range; from start up to here no n
+-- free pages begin
 pub record IsFree (rs : List Run) (base first end n start here : ℕ) : Type 0 where
   pub low : start ≤ here
   pub high : here + n ≤ base + end

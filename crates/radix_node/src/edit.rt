@@ -21,8 +21,8 @@ pub enum Edit {
 }
 
 impl<A: Allocator> Node<A> {
-    /// Changes the node's pages from `first` up to `end`, whose edges no slot crosses, as those of a range that begins `by`
-    /// pages before them.
+    /// Changes the node's pages from `first` up to `end`, whose edges no slot crosses, as those of
+    /// a range that begins `by` pages before them.
     pub fn edit(&mut self, first: u64, end: u64, edit: &Edit, by: u64)
         requires some { first < end }
         requires within { end ≤ 512 * width_of self.old.level }

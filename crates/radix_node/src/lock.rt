@@ -11,7 +11,8 @@ use crate::state::SlotState;
 use std::alloc::Allocator;
 use vm_base::CoreId;
 
-/// What an attempt to lock the slot of a page came to, which has to begin at the page and to have at most so many pages.
+/// What an attempt to lock the slot of a page came to, which has to begin at the page and to have
+/// at most so many pages.
 #[derive(Clone, Copy, Debug, PartialEq, Eq)]
 pub enum Lock {
     /// A core holds the slot.
@@ -25,8 +26,8 @@ pub enum Lock {
 }
 
 impl SlotState {
-    /// Locks the slot for the core, where nobody holds it, and it begins at the page and has at most `room` pages. The slot
-    /// has `width` pages, of which `offset` lie before the page.
+    /// Locks the slot for the core, where nobody holds it, and it begins at the page and has at
+    /// most `room` pages. The slot has `width` pages, of which `offset` lie before the page.
     pub fn lock(&mut self, offset: u64, width: u64, room: u64, core: CoreId) -> Lock
         ensures meets { Meets (record { state = state_of self.old; offset = offset; width = width })
             room result }
@@ -47,8 +48,8 @@ impl SlotState {
 }
 
 impl<A: Allocator> Node<A> {
-    /// Locks the slot that has the page for the core, where nobody holds it, and it begins at the page and has at most
-    /// `room` pages. Else nothing changes.
+    /// Locks the slot that has the page for the core, where nobody holds it, and it begins at the
+    /// page and has at most `room` pages. Else nothing changes.
     pub fn lock_at(&mut self, page: u64, room: u64, core: CoreId) -> Lock
         requires { page < 512 * width_of self.old.level }
         ensures level { self.new.level ≡ self.old.level }

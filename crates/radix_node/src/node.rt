@@ -22,8 +22,8 @@ pub enum Slot<A: Allocator> {
     Child(Box<Node<A>, A>),
 }
 
-/// A node of the tree: 512 slots of 512^level pages each. Dropping it frees all below it. A clause sees it as its level
-/// and its parts, each of which is a slot's state or the slots below.
+/// A node of the tree: 512 slots of 512^level pages each. Dropping it frees all below it. A clause
+/// sees it as its level and its parts, each of which is a slot's state or the slots below.
 #[cycle(node)]
 #[derive(Drop)]
 pub struct Node<A: Allocator> {
@@ -126,8 +126,8 @@ impl<A: Allocator> Node<A> {
         }
     }
 
-    // What all pages of the node have as one slot, where no slot is a child, all are plain, and each goes on from the
-    // first.
+    // What all pages of the node have as one slot, where no slot is a child, all are plain, and
+    // each goes on from the first.
     fn joined(&self) -> Option<SlotState>
         ensures some { IfSome result (λ s. IsPlain (state_of s)
             × (self.now.parts ≡ owns_divided (width_of self.now.level) (state_of s))) }
@@ -151,8 +151,9 @@ impl<A: Allocator> Node<A> {
         Some(first)
     }
 
-    /// Joins the 512 slots of a child to one, where none of them is a child, nobody holds one, they have no frame and no
-    /// recorded core, and all are empty or each goes on from the one before. Answers whether it did.
+    /// Joins the 512 slots of a child to one, where none of them is a child, nobody holds one, they
+    /// have no frame and no recorded core, and all are empty or each goes on from the one before.
+    /// Answers whether it did.
     pub fn fold(&mut self, slot: usize) -> bool
         requires { slot < 512 }
         ensures level { self.new.level ≡ self.old.level }
@@ -244,8 +245,8 @@ impl<A: Allocator + Clone> Node<A> {
         Ok(Node { level, slots })
     }
 
-    /// Makes a slot a child with 512 slots, which carry on the slot's content and its owner. A refusal for memory changes
-    /// nothing.
+    /// Makes a slot a child with 512 slots, which carry on the slot's content and its owner. A
+    /// refusal for memory changes nothing.
     pub fn expand(&mut self, slot: usize) -> Result<(), NoMemory>
         requires slot { slot < 512 }
         requires above { 0 < self.old.level }
@@ -278,7 +279,8 @@ impl<A: Allocator + Clone> Node<A> {
         }
     }
 
-    /// Makes 512 slots of the slot that has the page, which is one of several pages. A refusal for memory changes nothing.
+    /// Makes 512 slots of the slot that has the page, which is one of several pages. A refusal for
+    /// memory changes nothing.
     pub fn expand_at(&mut self, page: u64) -> Result<(), NoMemory>
         requires within { page < 512 * width_of self.old.level }
         requires large { 1 < (cell_at (runs self.old) page).width }

@@ -45,7 +45,8 @@ pub struct SlotSpan {
     pub to: usize,
 }
 
-/// The slots of a node of the level that have the pages from `first` up to `end`, which are counted from the node's first.
+/// The slots of a node of the level that have the pages from `first` up to `end`, which are counted
+/// from the node's first.
 #[inline(always)]
 pub fn slots_of(level: u8, first: u64, end: u64) -> SlotSpan
     requires level { level ≤ 3 }

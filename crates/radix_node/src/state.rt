@@ -21,8 +21,8 @@ pub enum Kind {
     Copies,
 }
 
-/// A slot that is no child: what its pages have, and the core that holds it. Its parts lie side by side, in 32 bytes, since
-/// a node has 512 slots.
+/// A slot that is no child: what its pages have, and the core that holds it. Its parts lie side by
+/// side, in 32 bytes, since a node has 512 slots.
 #[derive(Clone, Copy, Debug)]
 pub struct SlotState {
     // the file page of the first page, where a file backs it
@@ -234,8 +234,8 @@ impl SlotState {
         self.owner.is_none() && !is_leaf(self.info())
     }
 
-    /// Tells whether two slots that nobody holds, without frame and recorded core, are such that the second's pages go
-    /// on from the first's, `by` pages later.
+    /// Tells whether two slots that nobody holds, without frame and recorded core, are such that
+    /// the second's pages go on from the first's, `by` pages later.
     pub fn goes_on(&self, next: &SlotState, by: u64) -> bool
         requires fits { info_file_page (state_of self.now).info + by < 2 ^ 64 }
         requires plain { IsPlain (state_of self.now) }

@@ -1,4 +1,5 @@
-//! Walks over the slots of a range of a node's pages, from left to right: each slot, and each node below, is visited once.
+//! Walks over the slots of a range of a node's pages, from left to right: each slot, and each node
+//! below, is visited once.
 ghost use Rattle.std.specs.Prelude.{◌≡◌, ℕ, ◌+◌, ◌*◌, ◌<◌, ◌≤◌, ◌^◌, ◌↔◌, IfSome, IfNone, IsTrue, min, max, true};
 ghost use Rattle.vm_base.specs.Cores.{members};
 ghost use Rattle.arrayvec.specs.ArrayVec.{array_vec_len};
@@ -74,7 +75,8 @@ impl<A: Allocator> Node<A> {
     pub fn first_frame(&self, first: u64, end: u64) -> Option<(u64, u32)>
         requires some { first < end }
         requires within { end ≤ 512 * width_of self.now.level }
-        ensures some { IfSome result (λ taken. IsFirstFramed (runs self.now) first end taken.0 taken.1) }
+        ensures some { IfSome result (λ taken.
+            IsFirstFramed (runs self.now) first end taken.0 taken.1) }
         ensures none { IfNone result (OnAll HasNoFrame (runs self.now) first end) }
     {
         let width = slot_pages(self.level);
@@ -98,8 +100,9 @@ impl<A: Allocator> Node<A> {
         None
     }
 
-    /// Adds the node's pages from `first` up to `end` that have a frame, and their frames, to the list, in order, until it is
-    /// full. Answers the page up to which none is left out. There and in the list the node's pages are counted from `base` on.
+    /// Adds the node's pages from `first` up to `end` that have a frame, and their frames, to the
+    /// list, in order, until it is full. Answers the page up to which none is left out. There and
+    /// in the list the node's pages are counted from `base` on.
     pub fn list_frames(&self, base: u64, first: u64, end: u64, list: &mut FramedPages) -> u64
         requires some { first < end }
         requires within { end ≤ 512 * width_of self.now.level }
@@ -135,8 +138,9 @@ impl<A: Allocator> Node<A> {
         base + end
     }
 
-    /// Looks for the first `n` free pages that end by `end`, where the node's pages are counted from `base` on but for `first`
-    /// and `end`, and the pages from `start` up to `first` are free, and too few.
+    /// Looks for the first `n` free pages that end by `end`, where the node's pages are counted
+    /// from `base` on but for `first` and `end`, and the pages from `start` up to `first` are free,
+    /// and too few.
     pub fn free_run(&self, base: u64, first: u64, end: u64, n: u64, start: u64) -> FreeRun
         requires some { first < end }
         requires within { end ≤ 512 * width_of self.now.level }

@@ -6,3 +6,4 @@ pub mod Locking
 pub mod New
 pub mod NodeFolds
 pub mod Edits
+pub mod Mapped

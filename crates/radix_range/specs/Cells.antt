@@ -29,7 +29,8 @@ cell_earlier (r ∷ rs) page n h =
     (λ (l : r.width ≤ page). there (cell_earlier rs (page - r.width) n) l h) (cases_lt page r.width)
   where
     here : page < r.width → n ≤ (cell_at (r ∷ rs) page).offset
-        → cell_at (r ∷ rs) (page - n) ≡ moved (cell_at (r ∷ rs) page) ((cell_at (r ∷ rs) page).offset - n)
+        → cell_at (r ∷ rs) (page - n)
+        ≡ moved (cell_at (r ∷ rs) page) ((cell_at (r ∷ rs) page).offset - n)
     here l h =
         let e = cell_at-here r rs page l in
         cell_at-here r rs (page - n) (omega arith)
@@ -39,7 +40,8 @@ cell_earlier (r ∷ rs) page n h =
         → cell_at rs (page - r.width - n) ≡ moved (cell_at rs (page - r.width))
         ((cell_at rs (page - r.width)).offset - n))
         → r.width ≤ page → n ≤ (cell_at (r ∷ rs) page).offset
-        → cell_at (r ∷ rs) (page - n) ≡ moved (cell_at (r ∷ rs) page) ((cell_at (r ∷ rs) page).offset - n)
+        → cell_at (r ∷ rs) (page - n)
+        ≡ moved (cell_at (r ∷ rs) page) ((cell_at (r ∷ rs) page).offset - n)
     there below l h =
         let e = cell_at-there r rs page l in
         let m = subst (λ (c : Cell). n ≤ c.offset) e h in
@@ -71,7 +73,8 @@ cell_after (r ∷ rs) page =
         subst P (sym (cell_at-here r rs page l)) at
 
     there : (cell_at rs
-        (page - r.width - (cell_at rs (page - r.width)).offset + (cell_at rs (page - r.width)).width)).offset ≡ 0
+        (page - r.width - (cell_at rs (page - r.width)).offset
+        + (cell_at rs (page - r.width)).width)).offset ≡ 0
         → r.width ≤ page → P (cell_at (r ∷ rs) page)
     there below l =
         let c = cell_in rs (page - r.width) in
@@ -184,7 +187,8 @@ changed_outside f (r ∷ rs) page p h t o =
         let o' = subst Out e o in
         let c = cell_in rs (page - r.width) in
         ap (λ qs. cell_at qs p) (with_run-there f r rs page m) ∙ ⊎_elim
-        (λ (a : p < r.width). cell_at-here r (with_run f rs (page - r.width)) p a ∙ sym (cell_at-here r rs p a))
+        (λ (a : p < r.width).
+        cell_at-here r (with_run f rs (page - r.width)) p a ∙ sym (cell_at-here r rs p a))
         (λ (b : r.width ≤ p).
         cell_at-there r (with_run f rs (page - r.width)) p b
         ∙ below (omega arith) t' (beyond m b o')

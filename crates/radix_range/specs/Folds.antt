@@ -5,8 +5,8 @@ use Rattle.vm_base.specs.Info.{info_from, is_leaf}
 use Rattle.slot_lock.specs.Slots.{Slots, IsSlot, between}
 use Rattle.radix_node.specs.Run.{width_of}
 
--- A node below the root has the page, and its 512 slots are no nodes: nobody holds them, they have no frame and no
--- recorded core, and their pages go on from slot to slot
+-- A node below the root has the page, and its 512 slots are no nodes: nobody holds them, they have
+-- no frame and no recorded core, and their pages go on from slot to slot
 pub record CanFold (s : Slots) (page : ℕ) : Type 0 where
   pub level : ℕ
   pub below_root : level < 3

@@ -2,5 +2,6 @@ pub mod Tree
 pub mod Found
 pub mod Locking
 pub mod Folds
+pub mod Mapped
 pub mod Cells
 pub mod TreeLaws

@@ -11,7 +11,8 @@ pub record GoesPast (s : Slots) (cursor end : ℕ) : Type 0 where
   pub past : end < last
   pub free : (p : ℕ) → cursor ≤ p → p < last → s.owner p ≡ None
 
--- what a core's attempt to lock the cursor's slot comes to, which has to begin there and to end by `end`
+-- what a core's attempt to lock the cursor's slot comes to, which has to begin there and to end by
+-- `end`
 abbrev pub Tries : Slots → Slots → ℕ → ℕ → ℕ → Lock → Type 0
 Tries s t core cursor end (Held by) = (s.owner cursor ≡ Some by) × (t ≡ s)
 Tries s t core cursor end Before = (s.owner cursor ≡ None) × (s.edge cursor ≡ false) × (t ≡ s)

@@ -50,7 +50,8 @@ is_slot rs page =
           let n : start_of rs page + (p - start_of rs page) ≡ p = omega arith in
           let later =
           cell_later rs (start_of rs page) (p - start_of rs page) (omega (arith, zero, wide)) in
-          let is : (cell_at rs p).offset ≡ (cell_at rs (start_of rs page)).offset + (p - start_of rs page) =
+          let is : (cell_at rs p).offset
+          ≡ (cell_at rs (start_of rs page)).offset + (p - start_of rs page) =
           ap (λ m. (cell_at rs m).offset) (sym n) ∙ ap (λ (c : Cell). c.offset) later in
           other_test _ _ (omega (arith, zero));
     }
@@ -83,8 +84,8 @@ cell_of rs page p a b =
     none n = omega arith
 
 pub is_found : (v : Parts) → IsRadix v → (page : ℕ) → page < 2 ^ 36
-    → IsFound (tree_slots v) page (start_of (runs v) page) (start_of (runs v) page + (cell_at (runs v) page).width)
-    (cell_at (runs v) page).state
+    → IsFound (tree_slots v) page (start_of (runs v) page)
+    (start_of (runs v) page + (cell_at (runs v) page).width) (cell_at (runs v) page).state
 is_found v ok page h =
     let rs = runs v in
     let c = cell_in rs page in
@@ -155,13 +156,18 @@ tree-is_slot_map v ok = record {
   alone = λ p h. ⊎_elim
       (λ (l : p < 2 ^ 36). alone p l h)
       (λ (l : 2 ^ 36 ≤ p). absurd
-      (leaf_no_state 0 (sym (ap (λ (c : Cell). is_leaf (info_from c.state.info c.offset)) (past p l)) ∙ h)))
+      (leaf_no_state 0
+      (sym (ap (λ (c : Cell). is_leaf (info_from c.state.info c.offset)) (past p l)) ∙ h)))
       (cases_lt p (2 ^ 36));
   fits = λ p. ⊎_elim
-      (λ (l : p < 2 ^ 36). let c = cell_ok v ok p l in fits_from (cell_at rs p).state.info (cell_at rs p).offset
+      (λ (l : p < 2 ^ 36).
+      let c = cell_ok v ok p l in
+      fits_from (cell_at rs p).state.info (cell_at rs p).offset
       (cell_at rs p).width c.within c.sound.fits)
-      (λ (l : 2 ^ 36 ≤ p). let none = ap (λ (c : Cell). info_file_page (info_from c.state.info c.offset))
-      (past p l) in omega arith)
+      (λ (l : 2 ^ 36 ≤ p).
+      let none =
+      ap (λ (c : Cell). info_file_page (info_from c.state.info c.offset)) (past p l) in
+      omega arith)
       (cases_lt p (2 ^ 36));
 }
   where

@@ -17,7 +17,8 @@ use slot_lock::Change;
 use std::alloc::Allocator;
 use vm_base::{CoreId, NoMemory, PageInfo, PageRange};
 
-/// Makes 512 slots of the slot that has the valid page and begins before it. A refusal for memory changes nothing.
+/// Makes 512 slots of the slot that has the valid page and begins before it. A refusal for memory
+/// changes nothing.
 pub fn expand<A: Allocator + Clone>(root: &mut Node<A>, page: u64) -> Result<(), NoMemory>
     requires tree { IsRadix root.old }
     requires page { IsPage page }
@@ -31,8 +32,8 @@ pub fn expand<A: Allocator + Clone>(root: &mut Node<A>, page: u64) -> Result<(),
     root.expand_at(page)
 }
 
-/// Locks the slot that has the cursor for the core, in one walk, where nobody holds it, and it begins at the cursor and ends
-/// by `end`. Else nothing changes.
+/// Locks the slot that has the cursor for the core, in one walk, where nobody holds it, and it
+/// begins at the cursor and ends by `end`. Else nothing changes.
 pub fn lock<A: Allocator>(root: &mut Node<A>, core: CoreId, cursor: u64, end: u64) -> Lock
     requires tree { IsRadix root.old }
     requires ordered { cursor < end }
@@ -121,7 +122,8 @@ pub fn change<A: Allocator>(root: &mut Node<A>, change: Change)
     }
 }
 
-/// Folds the deepest node below the root that has the page, where all its slots can be one. Answers whether it did.
+/// Folds the deepest node below the root that has the page, where all its slots can be one. Answers
+/// whether it did.
 pub fn fold<A: Allocator>(root: &mut Node<A>, page: u64) -> bool
     requires tree { IsRadix root.old }
     requires page { IsPage page }

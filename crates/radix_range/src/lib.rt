@@ -2,15 +2,9 @@
 #![tactic(auto)]
 
 pub mod change;
+pub mod full;
 pub mod radix_map;
 pub mod slot;
 pub mod walk;
 
 pub use radix_map::RadixMap;
-
-#[cfg(test)]
-mod node_tests;
-#[cfg(test)]
-mod slot_tests;
-#[cfg(test)]
-mod tests;

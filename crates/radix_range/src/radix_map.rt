@@ -1,24 +1,29 @@
 //! The second slot map: a radix tree.
 ghost use Rattle.std.specs.Prelude.{◌≡◌, ◌≢◌, ℕ, ◌+◌, ◌-◌, ◌^◌, ◌<◌, ◌≤◌, IfOk, OnErr, Option, Some, Bool};
-ghost use Rattle.radix_range.specs.Tree.{IsRadix};
+ghost use Rattle.radix_range.specs.Mapped.{IsFull};
+ghost use Rattle.radix_range.specs.Tree.{IsRadix, tree_slots};
 
 use crate::slot::slot_at;
-use crate::{change, walk};
+use crate::{change, full, walk};
 use radix_node::{Lock, Node};
 use slot_lock::{Change, Fit, FramedPages, Got, SlotMap, SlotRead};
 use std::alloc::Allocator;
 use vm_base::info::info_from;
 use vm_base::{CoreId, CoreSet, Meta, NoMemory, PageInfo, PageRange, Prot};
 
-/// A map of slots as a tree of four levels. A slot of the root has 2^27 pages, of the next levels 2^18, 2^9 and 1. The
-/// pages are those of the lower half of the addresses and as many above them, which are never mapped and never held;
-/// nor is page 0. A division makes 512 slots of equal size. A fold makes one slot of the deepest node that has the page,
-/// where it isn't the root, none of its slots is a node, nobody holds them, they have no frame and no recorded core, and
-/// they are all unmapped or each goes on from the one before.
+/// A map of slots as a tree of four levels. A slot of the root has 2^27 pages, of the next levels
+/// 2^18, 2^9 and 1. The pages are those of the lower half of the addresses and as many above them,
+/// which are never mapped and never held; nor is page 0. A division makes 512 slots of equal size.
+/// A fold makes one slot of the deepest node that has the page, where it isn't the root, none of
+/// its slots is a node, nobody holds them, they have no frame and no recorded core, and they are
+/// all unmapped or each goes on from the one before.
 #[derive(Drop)]
 pub struct RadixMap<A: Allocator> {
     root: Node<A>,
+    // pages that are all mapped, among which no room is looked for
+    full: PageRange,
     ghost ok: { IsRadix root },
+    ghost all_full: { IsFull (tree_slots root) full },
 }
 
 impl<A: Allocator + Clone> RadixMap<A> {
@@ -29,7 +34,10 @@ impl<A: Allocator + Clone> RadixMap<A> {
         ensures { IfOk result (λ map. IsNew (⟦<RadixMap<A> as SlotRead>⟧.slots map)) }
     {
         match Node::new(alloc, 3) {
-            Ok(root) => Ok(RadixMap { root }),
+            Ok(root) => Ok(RadixMap {
+                root,
+                full: PageRange { first: 0, end: 0 },
+            }),
             Err(e) => Err(e),
         }
     }
@@ -57,7 +65,7 @@ impl<A: Allocator> SlotRead for RadixMap<A> {
     }
 
     fn first_free_run(&self, range: PageRange, n: u64) -> Option<u64> {
-        walk::first_free_run(&self.root, range, n)
+        walk::first_free_run(&self.root, self.full, range, n)
     }
 
     fn recorded(&self, range: PageRange) -> CoreSet {
@@ -121,9 +129,11 @@ impl<A: Allocator + Clone> SlotMap for RadixMap<A> {
 
     fn set_range(&mut self, core: CoreId, range: PageRange, meta: Meta) {
         change::change(&mut self.root, Change::Put { range, meta });
+        self.full = full::with_range(self.full, range);
     }
 
     fn clear_range(&mut self, core: CoreId, range: PageRange) {
+        self.full = full::without_range(self.full, range);
         change::change(&mut self.root, Change::Clear { range });
     }
 

@@ -1,4 +1,5 @@
-//! What is found on the pages of a range: each slot, and each node that has some of them, is visited once.
+//! What is found on the pages of a range: each slot, and each node that has some of them, is
+//! visited once.
 ghost use Rattle.std.specs.Prelude.{◌≡◌, ℕ, ◌+◌, ◌^◌, ◌<◌, ◌≤◌, ◌↔◌, IfSome, IfNone, IsTrue, true};
 ghost use Rattle.vm_base.specs.Cores.{members};
 ghost use Rattle.vm_base.specs.Pages.{IsPageRange};
@@ -7,24 +8,65 @@ ghost use Rattle.slot_lock.specs.Framed.{AddsFrames, frames_in};
 ghost use Rattle.slot_lock.specs.Slots.{IsFreeRun, IsUser, AllMapped, NoFrames};
 ghost use Rattle.radix_range.specs.Tree.{IsRadix, tree_slots};
 ghost use Rattle.radix_range.specs.Found.{IsFirstFrame};
+ghost use Rattle.radix_range.specs.Mapped.{IsFull};
 
 use radix_node::{FreeRun, Node};
 use slot_lock::FramedPages;
 use std::alloc::Allocator;
 use vm_base::{CoreSet, PageRange};
 
-/// The least start of `n` unmapped pages in the range, if there is one.
-pub fn first_free_run<A: Allocator>(root: &Node<A>, range: PageRange, n: u64) -> Option<u64>
+// The least start of `n` unmapped pages in the range, if there is one. There may be no pages in it.
+fn free_run<A: Allocator>(root: &Node<A>, range: PageRange, n: u64) -> Option<u64>
     requires some { 1 ≤ n }
     requires tree { IsRadix root.now }
+    requires high { range.end ≤ 2 ^ 35 }
+    ensures found { IfSome result (IsFreeRun (tree_slots root.now) range n) }
+    ensures least { IfSome result (λ s. (r : ℕ) → r < s → ¬ IsFreeRun (tree_slots root.now) range n r) }
+    ensures none { IfNone result ((r : ℕ) → ¬ IsFreeRun (tree_slots root.now) range n r) }
+{
+    if range.end <= range.first {
+        return None;
+    }
+    match root.free_run(0, range.first, range.end, n, range.first) {
+        FreeRun::Found(start) => Some(start),
+        FreeRun::Open(_) => None,
+    }
+}
+
+/// The least start of `n` unmapped pages in the range, if there is one. Pages that are known to be
+/// mapped aren't looked at.
+pub fn first_free_run<A: Allocator>(
+    root: &Node<A>,
+    full: PageRange,
+    range: PageRange,
+    n: u64,
+) -> Option<u64>
+    requires some { 1 ≤ n }
+    requires tree { IsRadix root.now }
+    requires full { IsFull (tree_slots root.now) full }
     requires range { IsPageRange range }
     ensures found { IfSome result (IsFreeRun (tree_slots root.now) range n) }
     ensures least { IfSome result (λ s. (r : ℕ) → r < s → ¬ IsFreeRun (tree_slots root.now) range n r) }
     ensures none { IfNone result ((r : ℕ) → ¬ IsFreeRun (tree_slots root.now) range n r) }
 {
-    match root.free_run(0, range.first, range.end, n, range.first) {
-        FreeRun::Found(start) => Some(start),
-        FreeRun::Open(_) => None,
+    let first = full.first.max(range.first);
+    let end = full.end.min(range.end);
+    if end <= first {
+        return free_run(root, range, n);
+    }
+    let front = PageRange {
+        first: range.first,
+        end: first,
+    };
+    match free_run(root, front, n) {
+        Some(start) => Some(start),
+        None => {
+            let rest = PageRange {
+                first: end,
+                end: range.end,
+            };
+            free_run(root, rest, n)
+        }
     }
 }
 
@@ -50,7 +92,8 @@ pub fn all_mapped<A: Allocator>(root: &Node<A>, range: PageRange) -> bool
 pub fn first_frame<A: Allocator>(root: &Node<A>, from: u64, end: u64) -> Option<(u64, u32)>
     requires tree { IsRadix root.now }
     requires end { end ≤ 2 ^ 35 }
-    ensures some { IfSome result (λ taken. IsFirstFrame (tree_slots root.now) from end taken.0 taken.1) }
+    ensures some { IfSome result (λ taken.
+        IsFirstFrame (tree_slots root.now) from end taken.0 taken.1) }
     ensures none { IfNone result (NoFrames (tree_slots root.now) from end) }
 {
     if from >= end {
@@ -59,15 +102,16 @@ pub fn first_frame<A: Allocator>(root: &Node<A>, from: u64, end: u64) -> Option<
     root.first_frame(from, end)
 }
 
-/// Adds the pages from `from` up to `end` that have a frame, and their frames, to the list, in order of pages, until it is
-/// full. Answers the page up to which none is left out.
+/// Adds the pages from `from` up to `end` that have a frame, and their frames, to the list, in
+/// order of pages, until it is full. Answers the page up to which none is left out.
 pub fn list_frames<A: Allocator>(root: &Node<A>, from: u64, end: u64, list: &mut FramedPages) -> u64
     requires tree { IsRadix root.now }
     requires ordered { from ≤ end }
     requires end { end ≤ 2 ^ 35 }
     ensures low { from ≤ result }
     ensures high { result ≤ end }
-    ensures added { AddsFrames (frames_in (tree_slots root.now)) from result list.old.items list.new.items }
+    ensures added { AddsFrames (frames_in (tree_slots root.now)) from result
+        list.old.items list.new.items }
     ensures full { result < end → array_vec_len list.new ≡ 32 }
 {
     if from == end {

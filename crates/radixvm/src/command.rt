@@ -5,33 +5,47 @@ ghost use Rattle.radixvm.specs.Status.{words_status};
 use crate::help;
 use crate::job::run;
 use clap::error::ErrorKind;
-use clap::{Command, Error};
+use clap::{Arg, ArgAction, Command, Error};
 use std::alloc::{AllocError, Allocator, Global};
 use std::env::Env;
 use std::io::Write;
 use std::{env, io};
+use trace::shown::Show;
 use trace_io::sink::{Sink, write_all};
 use trace_io::source::Source;
 
 // The program's words.
 fn grammar<'a>(alloc: Global) -> Result<Command<'a>, AllocError> {
+    let log = Arg::new(alloc, "log")
+        .long("log")
+        .action(ArgAction::SetTrue)
+        .help(help::LOG_ABOUT);
     let run = Command::new(alloc, "run")
         .about(help::RUN_ABOUT)
+        .after_help(help::TRACE)
+        .arg(log)?;
+    let maps = Command::new(alloc, "maps")
+        .about(help::MAPS_ABOUT)
         .after_help(help::TRACE);
     let program = Command::new(alloc, "radixvm")
         .about(help::ABOUT)
         .after_help(help::TRACE)
         .version("0.1.0")
         .subcommand_required(true)
-        .subcommand(run)?;
+        .subcommand(run)?
+        .subcommand(maps)?;
     Ok(program)
 }
 
-// Parses the words. There is one job for now.
-fn parse<A: Allocator>(alloc: Global, words: &[String<A>]) -> Result<(), Error> {
+// Parses the words: what a replay is to show.
+fn parse<A: Allocator>(alloc: Global, words: &[String<A>]) -> Result<Show, Error> {
     let program = grammar(alloc)?;
-    program.try_get_matches_from(words)?;
-    Ok(())
+    let matches = program.try_get_matches_from(words)?;
+    match matches.subcommand_matches("run") {
+        Some(run) if run.get_flag("log") => Ok(Show::OutcomesAndLog),
+        Some(_) => Ok(Show::Outcomes),
+        None => Ok(Show::Maps),
+    }
 }
 
 // Prints a text on standard output, and answers the status.
@@ -80,8 +94,9 @@ pub fn command<A: Allocator, S: Source, W: Sink, E: Write>(
 ) -> u8
     ensures { result ≤ 3 }
 {
-    let Err(error) = parse(alloc, words) else {
-        return run(alloc, reader, out, errors);
+    let error = match parse(alloc, words) {
+        Ok(shown) => return run(alloc, reader, out, errors, shown),
+        Err(error) => error,
     };
     let Ok(text) = format!(in alloc; "{error}") else {
         return refuse_words(WordsFault::NoMemory, errors);

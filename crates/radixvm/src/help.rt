@@ -8,6 +8,14 @@ pub const ABOUT: &str =
 pub const RUN_ABOUT: &str =
     "Replays the trace on standard input, one line of output for each event line";
 
+/// What `--log` adds to it.
+pub const LOG_ABOUT: &str =
+    "At the end, writes the log: a line for each reply and each page that got a copy";
+
+/// What `maps` does.
+pub const MAPS_ABOUT: &str =
+    "Replays the trace on standard input, and writes its mappings at the end, not its outcomes";
+
 /// What a trace may hold, what comes out, and how the program ends.
 pub const TRACE: &str = "\
 Input, a line of at most 256 bytes each; a line that begins with # says nothing:
@@ -18,6 +26,9 @@ Input, a line of at most 256 bytes each; a line that begins with # says nothing:
   cC call REQ               core C begins a call
   cC go                     one step of core C's call
   cC frame F                core C's call, which wants a frame, takes frame F
+  cC guess ADDR             core C's call, which looks for a place, guesses that there
+                            is room from ADDR's page on
+  cC whole                  core C's call, which looks for a place, takes its window
   cC giveup                 core C's call is given up for want of memory
   cC take                   core C acts on its oldest message
   cC walk ADDR              core C's TLB gets ADDR's page from the core's tables
@@ -60,6 +71,17 @@ Output, a line for each line of an event, as soon as no whole line is left to re
   idle          the core has no call, or has one already, or isn't there; or what the
                 line asks for isn't possible now
   full          CALLS calls have begun
+
+The log, which run --log writes behind these lines, in order of its steps (the number
+of an event; a line of an event makes one or more):
+  log STEP call CALL REPLY  call CALL, of all calls in order, has the reply from there on
+  log STEP detach ADDR      ADDR's private page has a copy of its own from there on
+
+The mappings, which maps writes in order of addresses, in place of all these lines:
+  START-END PROT BACK       neighbouring pages of one mapping; END is the first address
+                            after them; BACK is anon, or shared or private, the file's
+                            number, and the offset of the first page in hexadecimal
+After a fault neither comes.
 
 Example:
   printf 'vm 1 4\\nc0! mmap 0x10000 4096 rw- pfa\\nc0! store 0x10004 41\\nc0! load 0x10004\\n' | radixvm run

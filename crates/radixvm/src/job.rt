@@ -9,6 +9,7 @@ use std::alloc::Allocator;
 use std::io::Write;
 use trace::fault::TraceFault;
 use trace::replay::replay;
+use trace::shown::Show;
 use trace_io::sink::Sink;
 use trace_io::source::Source;
 
@@ -25,21 +26,22 @@ pub fn status_of_fault(fault: TraceFault) -> u8
     }
 }
 
-/// Replays the trace, prints a fault as `radixvm: ` and its text, and answers the status: 0, or that of the fault.
+/// Replays the trace, showing what is asked for, prints a fault as `radixvm: ` and its text, and answers the status: 0, or that of the fault.
 pub fn run<A: Allocator + Clone + Drop, S: Source, W: Sink, E: Write>(
     alloc: A,
     reader: &mut S,
     out: &mut W,
     errors: &mut E,
+    show: Show,
 ) -> u8
     ensures ends { (r : Result Unit TraceFault) × (result ≡ status_of r)
-        × IfSome (S.remaining reader.old) (λ input. Ends input (S.remaining reader.new)
+        × IfSome (S.remaining reader.old) (λ input. Ends show input (S.remaining reader.new)
         (W.contents out.old) (W.contents out.new) r)
         × TellsFaults r (S.failed reader.new) (S.reads reader.new)
         (W.failed out.old) (W.failed out.new) (W.is_flushed out.new) }
     ensures within { result ≤ 3 }
 {
-    match replay(alloc, reader, out) {
+    match replay(alloc, reader, out, show) {
         Ok(()) => 0,
         Err(fault) => {
             let _ = writeln!(errors, "radixvm: {fault}");

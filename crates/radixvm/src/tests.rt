@@ -7,6 +7,7 @@ use std::env::{Env, FillError};
 use std::io;
 use std::io::{ErrorKind, Read, Write};
 use std::test::Fail;
+use trace::shown::Show;
 use trace_io::sink::Noted;
 use trace_io::source::Counted;
 
@@ -373,6 +374,8 @@ fn help_and_version(rt: HostRuntime) -> Result<(), Fail> {
             "mprotect ADDR LEN PROT",
             "segv maperr",
             "setup S5",
+            "log STEP call CALL REPLY",
+            "START-END PROT BACK",
         ] {
             assert!(rt; text.contains(part));
         }
@@ -394,6 +397,18 @@ fn bad_words(rt: HostRuntime) -> Result<(), Fail> {
         [b"radixvm".as_slice(), b"frob".as_slice()].as_slice(),
         [b"radixvm".as_slice(), b"--frob".as_slice()].as_slice(),
         [b"radixvm".as_slice(), b"run".as_slice(), b"now".as_slice()].as_slice(),
+        [
+            b"radixvm".as_slice(),
+            b"maps".as_slice(),
+            b"--log".as_slice(),
+        ]
+        .as_slice(),
+        [
+            b"radixvm".as_slice(),
+            b"--log".as_slice(),
+            b"run".as_slice(),
+        ]
+        .as_slice(),
         [b"radixvm".as_slice(), b"run".as_slice(), b"\xff".as_slice()].as_slice(),
     ] {
         let ran = run_words(rt.alloc(), &rt.alloc(), words, STORED, AMPLE);
@@ -435,9 +450,35 @@ fn no_memory_for_the_replay(rt: HostRuntime) -> Result<(), Fail> {
         let mut reader = source_of(STORED, AMPLE);
         let mut out = sink_of(rt.alloc(), AMPLE);
         let mut errors = Vec::new(rt.alloc());
-        let status = job::run(&heap, &mut reader, &mut out, &mut errors);
+        let status = job::run(&heap, &mut reader, &mut out, &mut errors, Show::Outcomes);
         assert_eq!(rt; errors.as_slice(), fault);
         assert_eq!(rt; status, 3);
+    }
+    Ok(())
+}
+
+// The store has its reply at its tenth step, each load at its third.
+#[test]
+fn log_and_mappings(rt: HostRuntime) -> Result<(), Fail> {
+    for (words, output) in [
+        (
+            [
+                b"radixvm".as_slice(),
+                b"run".as_slice(),
+                b"--log".as_slice(),
+            ]
+            .as_slice(),
+            b"0x10000\ndone\n41\n0\nlog 9 call 1 0x10000\nlog 21 call 2 done\nlog 25 call 3 41\nlog 29 call 4 0\n".as_slice(),
+        ),
+        (
+            [b"radixvm".as_slice(), b"maps".as_slice()].as_slice(),
+            b"0x10000-0x11000 rw- anon\n".as_slice(),
+        ),
+    ] {
+        let ran = run_words(rt.alloc(), &rt.alloc(), words, STORED, AMPLE);
+        assert_eq!(rt; ran.out.as_slice(), output);
+        assert_eq!(rt; ran.errors.as_slice(), b"".as_slice());
+        assert_eq!(rt; ran.status, 0);
     }
     Ok(())
 }

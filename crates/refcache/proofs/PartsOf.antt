@@ -56,31 +56,14 @@ read_kept f xs k x d lt e = fun_ext (λ j. go j (same_or_not j k))
 same_counts : (v w : Counts) → v.cores ≡ w.cores → v.objects ≡ w.objects → v.epoch ≡ w.epoch → v.global ≡ w.global → v.queued ≡ w.queued
     → v.dirty ≡ w.dirty → v.delta ≡ w.delta → v.queue ≡ w.queue → v.flushed ≡ w.flushed → v ≡ w
 same_counts v w a i b c d e f g h =
-    let s0 : Counts = record w {
-      cores = v.cores;
-      objects = v.objects;
-      epoch = v.epoch;
-      global = v.global;
-      queued = v.queued;
-      dirty = v.dirty;
-      delta = v.delta;
-      queue = v.queue;
-    } in
-    let s1 : Counts = record w {
-      cores = v.cores;
-      objects = v.objects;
-      epoch = v.epoch;
-      global = v.global;
-      queued = v.queued;
-      dirty = v.dirty;
-      delta = v.delta;
-    } in
-    let s2 : Counts = record w { cores = v.cores; objects = v.objects; epoch = v.epoch; global = v.global; queued = v.queued; dirty = v.dirty } in
-    let s3 : Counts = record w { cores = v.cores; objects = v.objects; epoch = v.epoch; global = v.global; queued = v.queued } in
-    let s4 : Counts = record w { cores = v.cores; objects = v.objects; epoch = v.epoch; global = v.global } in
-    let s5 : Counts = record w { cores = v.cores; objects = v.objects; epoch = v.epoch } in
-    let s6 : Counts = record w { cores = v.cores; objects = v.objects } in
     let s7 : Counts = record w { cores = v.cores } in
+    let s6 : Counts = record s7 { objects = v.objects } in
+    let s5 : Counts = record s6 { epoch = v.epoch } in
+    let s4 : Counts = record s5 { global = v.global } in
+    let s3 : Counts = record s4 { queued = v.queued } in
+    let s2 : Counts = record s3 { dirty = v.dirty } in
+    let s1 : Counts = record s2 { delta = v.delta } in
+    let s0 : Counts = record s1 { queue = v.queue } in
     let p0 : v ≡ s0 = ap (λ x. let y : Counts = record s0 { flushed = x } in y) h in
     let p1 : s0 ≡ s1 = ap (λ x. let y : Counts = record s1 { queue = x } in y) g in
     let p2 : s1 ≡ s2 = ap (λ x. let y : Counts = record s2 { delta = x } in y) f in

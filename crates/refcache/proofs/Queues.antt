@@ -1,5 +1,5 @@
 -- Review queues over the steps: they keep their order, epochs never fall, and a queued object stands in a queue.
-use Rattle.std.proofs.Common.{◌≡◌, ◌≢◌, ℕ, ◌≤◌, ◌<◌, ◌+◌, Bool, true, false, cond, refl, sym, ap, subst, arith, ℤ, pos, negsuc, ◌∙◌, List, [], ◌∷◌, ◌++◌, ◌⊎◌, inl, inr}
+use Rattle.std.proofs.Common.{◌≡◌, ◌≢◌, ℕ, ◌≤◌, ◌<◌, ◌+◌, Bool, true, false, cond, refl, sym, ap, subst, arith, ℤ, pos, negsuc, ◌∙◌, List, [], ◌∷◌, ◌++◌, ◌⊎◌, inl, inr, Option}
 use Rattle.std.specs.Ordering.{int_eq}
 use Rattle.std.proofs.lemmas.Bool.Decides.{Decides-int_eq}
 use Rattle.refcache.specs.declared.reports.Queued.{Queued}
@@ -61,8 +61,10 @@ later_then u v w f g =
       behind = λ d e l b. g.behind d e (omega (arith, l, up)) (f.behind d e l b);
     }
 
-pub later_drained : (c o : ℕ) (v : Counts) → Later v (drained c o v)
-later_drained c o v = record {
+-- a step that changes no queue, and no mark of what is queued
+beside : (v : Counts) (global : ℕ → ℤ) (dirty : ℕ → Bool) (delta : ℕ → ℕ → Option ℤ) (flushed : ℕ → Bool)
+    → Later v (record v { global = global; dirty = dirty; delta = delta; flushed = flushed })
+beside v global dirty delta flushed = record {
   cores = refl;
   objects = refl;
   epoch = omega arith;
@@ -74,57 +76,20 @@ later_drained c o v = record {
   behind = λ d e l b. b;
 }
 
-pub later_added : (c o : ℕ) (by : ℤ) (v : Counts) → Later v (added c o by v)
-later_added c o by v = record {
-  cores = refl;
-  objects = refl;
-  epoch = omega arith;
-  queues = λ q. record {
-    past = q.past;
-    rising = q.rising;
-    found = q.found;
-  };
-  behind = λ d e l b. b;
-}
+later_drained : (c o : ℕ) (v : Counts) → Later v (drained c o v)
+later_drained c o v = beside v _ _ _ _
 
-pub later_soiled : (o : ℕ) (v : Counts) → Later v (soiled o v)
-later_soiled o v = record {
-  cores = refl;
-  objects = refl;
-  epoch = omega arith;
-  queues = λ q. record {
-    past = q.past;
-    rising = q.rising;
-    found = q.found;
-  };
-  behind = λ d e l b. b;
-}
+later_added : (c o : ℕ) (by : ℤ) (v : Counts) → Later v (added c o by v)
+later_added c o by v = beside v _ _ _ _
 
-pub later_begun : (o k : ℕ) (v : Counts) → Later v (begun o k v)
-later_begun o k v = record {
-  cores = refl;
-  objects = refl;
-  epoch = omega arith;
-  queues = λ q. record {
-    past = q.past;
-    rising = q.rising;
-    found = q.found;
-  };
-  behind = λ d e l b. b;
-}
+later_soiled : (o : ℕ) (v : Counts) → Later v (soiled o v)
+later_soiled o v = beside v _ _ _ _
 
-pub later_marked : (c : ℕ) (v : Counts) → Later v (marked c v)
-later_marked c v = record {
-  cores = refl;
-  objects = refl;
-  epoch = omega arith;
-  queues = λ q. record {
-    past = q.past;
-    rising = q.rising;
-    found = q.found;
-  };
-  behind = λ d e l b. b;
-}
+later_begun : (o k : ℕ) (v : Counts) → Later v (begun o k v)
+later_begun o k v = beside v _ _ _ _
+
+later_marked : (c : ℕ) (v : Counts) → Later v (marked c v)
+later_marked c v = beside v _ _ _ _
 
 pub later_ended : (v : Counts) → Later v (ended v)
 later_ended v = record {

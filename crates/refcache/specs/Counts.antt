@@ -5,7 +5,8 @@ use Rattle.refcache.specs.declared.reports.Queued.{Queued}
 use Rattle.vm_base.specs.Functions.{put}
 use Rattle.refcache.specs.Sums.{sum_below}
 
--- Cores and objects are numbered from 0 up to their number; a core's delta of an object is none where it has no entry.
+-- Cores and objects are numbered from 0 up to their number; a core's delta of an object is none
+-- where it has no entry.
 pub record Counts : Type 0 where
   pub cores : ℕ
   pub objects : ℕ

@@ -57,7 +57,11 @@ impl<A: Allocator> Model for CoreCounts<A> {
 
     ghost Value = { Core };
 
-    ghost view = { λ c. record { places = c.places; queue = c.queue.items; room = deque_capacity c.queue } };
+    ghost view = { λ c. record {
+      places = c.places;
+      queue = c.queue.items;
+      room = deque_capacity c.queue;
+    } };
 
     ghost invariant = { λ c. ArePlaces c.places × (length c.queue.items ≤ deque_capacity c.queue) };
 }
@@ -70,8 +74,8 @@ impl<A: Allocator> CoreCounts<A> {
     ghost use Rattle.refcache.specs.Steps.{IsQuiet, IsInTheWay};
     ghost use Rattle.refcache.specs.declared.reports.Queued.{Queued};
 
-    /// A core without entries, whose queue has room for `objects` objects and one more. The error is a refusal of memory;
-    /// no other call takes any.
+    /// A core without entries, whose queue has room for `objects` objects and one more. The error
+    /// is a refusal of memory; no other call takes any.
     pub fn new(alloc: A, objects: u32) -> Result<Self, AllocError>
         ensures { IfOk result (IsNewCore (objects + 1)) }
     {
@@ -90,8 +94,9 @@ impl<A: Allocator> CoreCounts<A> {
         least(&self.places)
     }
 
-    /// The object whose entry must be evicted before the delta of `object` may change by `by`, 1 or -1: another object
-    /// that stands in its place, or itself, where its delta would go past `DELTA_LIMIT`.
+    /// The object whose entry must be evicted before the delta of `object` may change by `by`, 1 or
+    /// -1: another object that stands in its place, or itself, where its delta would go past
+    /// `DELTA_LIMIT`.
     pub fn in_the_way(&self, object: u32, by: i64) -> Option<u32>
         requires one { (neg_ℤ (pos 1) ≤ℤ by) × (by ≤ℤ pos 1) }
         ensures some { IfSome result (λ p. IsInTheWay (entries self.now.places) object by p) }
@@ -114,8 +119,8 @@ impl<A: Allocator> CoreCounts<A> {
         self.queue.len() < self.queue.capacity()
     }
 
-    /// Tells whether the entry of an object, which has this count, may be evicted: whether there is one, the queue has room
-    /// for one more object, and the count takes any delta.
+    /// Tells whether the entry of an object, which has this count, may be evicted: whether there is
+    /// one, the queue has room for one more object, and the count takes any delta.
     pub fn can_evict(&self, count: &ObjectCount, object: u32) -> bool
         ensures entry { result ≡ true → entries self.now.places object ≢ None }
         ensures room { result ≡ true → length self.now.queue < self.now.room }
@@ -126,8 +131,8 @@ impl<A: Allocator> CoreCounts<A> {
         has_entry(&self.places, object) && self.has_room() && count.takes_any_delta()
     }
 
-    /// Evicts the entry of an object: its delta goes into the object's count, and the object is queued in this epoch
-    /// where its count is then 0 and it was in no queue.
+    /// Evicts the entry of an object: its delta goes into the object's count, and the object is
+    /// queued in this epoch where its count is then 0 and it was in no queue.
     #[tactic(auto, using(crate::proofs::Way::own_place, crate::proofs::Way::small_delta))]
     pub fn evict(&mut self, count: &mut ObjectCount, object: u32, epoch: u64)
         requires entry { entries self.old.places object ≢ None }
@@ -176,9 +181,10 @@ impl<A: Allocator> CoreCounts<A> {
         self.queue.front().copied()
     }
 
-    /// One look at the front of the queue, an object with this count. `Idle` where there is none, or where it was queued less
-    /// than two epochs ago; then nothing changes. Else the object leaves the queue: `Dropped` where the count isn't 0, `Freed`
-    /// where it is and the object has no dirty mark. With the mark it loses it and is queued anew at the end: `Requeued`.
+    /// One look at the front of the queue, an object with this count. `Idle` where there is none,
+    /// or where it was queued less than two epochs ago; then nothing changes. Else the object
+    /// leaves the queue: `Dropped` where the count isn't 0, `Freed` where it is and the object has
+    /// no dirty mark. With the mark it loses it and is queued anew at the end: `Requeued`.
     #[tactic(auto, using(crate::proofs::Due::due_reviewed))]
     pub fn review(&mut self, count: &mut ObjectCount, epoch: u64) -> Review
         ensures reviewed { ReviewsPiece self.old.queue epoch count.old result count.new self.new.queue }
@@ -192,7 +198,8 @@ impl<A: Allocator> CoreCounts<A> {
         decided
     }
 
-    /// Decides of the front of the queue, an object with this count, as `review` does of one that is due.
+    /// Decides of the front of the queue, an object with this count, as `review` does of one that
+    /// is due.
     fn decide(&mut self, count: &mut ObjectCount, epoch: u64) -> Review
         requires { 0 < length self.old.queue }
         ensures decides { (x : Queued) (rest : List Queued) → self.old.queue ≡ x ∷ rest

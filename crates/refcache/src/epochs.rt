@@ -12,7 +12,8 @@ use vm_base::{CoreId, CoreSet};
 /// Tells whether each of the first `cores` cores is in the set.
 fn has_all(flushed: CoreSet, cores: u8) -> bool
     requires { cores ≤ 64 }
-    ensures { MatchBool result (AllMarked cores (members flushed)) (AllMarked cores (members flushed) → ⊥) }
+    ensures { MatchBool result (AllMarked cores (members flushed))
+        (AllMarked cores (members flushed) → ⊥) }
 {
     'cores: for core in 0..cores {
         if !flushed.contains(CoreId::new(core)) {
@@ -61,9 +62,10 @@ impl Epochs {
         self.number
     }
 
-    /// Marks a core without delta entries as flushed in this epoch: `Flushed`, or `EpochEnded` where it was the last
-    /// one to be marked, so that the next epoch has begun, without marks. `Idle` where the core is marked, or where
-    /// the last epoch, 2^64 - 1, would end; then nothing changes. The answer is never `Evicted`.
+    /// Marks a core without delta entries as flushed in this epoch: `Flushed`, or `EpochEnded`
+    /// where it was the last one to be marked, so that the next epoch has begun, without marks.
+    /// `Idle` where the core is marked, or where the last epoch, 2^64 - 1, would end; then nothing
+    /// changes. The answer is never `Evicted`.
     #[tactic(auto, using(crate::proofs::Way::no_members))]
     pub fn mark(&mut self, core: CoreId) -> Flush
         ensures marks { Marks self.old.cores self.old.number

@@ -26,7 +26,11 @@ impl<A: Allocator> Model for CountTable<A> {
 
     ghost Value = { Parts };
 
-    ghost view = { λ r. record { objects = r.objects.items; cores = r.cores.items; epochs = r.epochs } };
+    ghost view = { λ r. record {
+      objects = r.objects.items;
+      cores = r.cores.items;
+      epochs = r.epochs;
+    } };
 }
 
 impl<A: Allocator> CountTable<A> {
@@ -138,7 +142,8 @@ impl<A: Allocator> CountTable<A> {
     fn add(&mut self, core: usize, object: u32, by: i64)
         requires core { core < length self.old.cores }
         requires one { (neg_ℤ (pos 1) ≤ℤ by) × (by ≤ℤ pos 1) }
-        requires room { (p : ℕ) → IsInTheWay (entries (core_at self.old.cores core).places) object by p → ⊥ }
+        requires room { (p : ℕ)
+            → IsInTheWay (entries (core_at self.old.cores core).places) object by p → ⊥ }
         ensures counts { counts_of self.new ≡ added core object by (counts_of self.old) }
         ensures room { rooms self.new ≡ rooms self.old }
         ensures epochs { self.new.epochs.cores ≡ self.old.epochs.cores }
@@ -154,7 +159,8 @@ impl<A: Allocator> CountTable<A> {
         requires ready { (o : ℕ) → entries (core_at self.old.cores core).places o ≢ None
             → CanEvict self.old core o }
         ensures makes { MakesRoom (counts_of self.old) core object by (counts_of self.new) }
-        ensures free { (p : ℕ) → IsInTheWay (entries (core_at self.new.cores core).places) object by p → ⊥ }
+        ensures free { (p : ℕ)
+            → IsInTheWay (entries (core_at self.new.cores core).places) object by p → ⊥ }
         ensures room { rooms self.new ≡ rooms self.old }
         ensures epochs { self.new.epochs.cores ≡ self.old.epochs.cores }
     {

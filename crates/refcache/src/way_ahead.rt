@@ -8,7 +8,8 @@ ghost use Rattle.refcache.specs.Steps.{IsInTheWay};
 use crate::places::{Entry, PLACES, count_entry, drop_entry, in_the_way};
 use std::marker::Model;
 
-/// Drops the entry that is in the way before the delta of `object` changes by `by`, and tells whose it was.
+/// Drops the entry that is in the way before the delta of `object` changes by `by`, and tells whose
+/// it was.
 #[tactic(auto, using(crate::proofs::Way::own_place))]
 fn clear_way(places: &mut [Option<Entry>], object: u32, by: i64) -> Option<u32>
     requires places { ArePlaces places.old }
@@ -24,8 +25,8 @@ fn clear_way(places: &mut [Option<Entry>], object: u32, by: i64) -> Option<u32>
     Some(other)
 }
 
-/// A copy of a core's entries, in which objects are counted ahead of the core. It takes no memory. A clause sees it as the
-/// places of the entries.
+/// A copy of a core's entries, in which objects are counted ahead of the core. It takes no memory.
+/// A clause sees it as the places of the entries.
 #[derive(Drop)]
 pub struct WayAhead {
     places: [Option<Entry>; PLACES],
@@ -58,9 +59,9 @@ impl WayAhead {
         WayAhead { places }
     }
 
-    /// The object whose entry the core must evict before its delta of `object` may change by `by`, 1 or -1, once it has
-    /// evicted what was told before and counted all objects asked for before. The entry leaves the copy, and the object is
-    /// counted there.
+    /// The object whose entry the core must evict before its delta of `object` may change by `by`,
+    /// 1 or -1, once it has evicted what was told before and counted all objects asked for before.
+    /// The entry leaves the copy, and the object is counted there.
     pub fn count(&mut self, object: u32, by: i64) -> Option<u32>
         requires one { (neg_ℤ (pos 1) ≤ℤ by) × (by ≤ℤ pos 1) }
         ensures some { IfSome result (λ p. IsInTheWay (entries self.old) object by p) }

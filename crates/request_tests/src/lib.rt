@@ -1,5 +1,5 @@
-//! Tests of what a request is to be answered, a module for each crate that is tested: `vm_base`, `plain_map` and `vm_calls`. The
-//! last two walk the same rows.
+//! Tests of what a request is to be answered, a module for each crate that is tested: `vm_base`,
+//! `plain_map` and `vm_calls`. The last two walk the same rows.
 #![tactic(auto)]
 
 #[cfg(test)]

@@ -1,4 +1,5 @@
-//! Requests of core 0, one after another, with the replies of POSIX.1-2017 and of this project's profile of it.
+//! Requests of core 0, one after another, with the replies of POSIX.1-2017 and of this project's
+//! profile of it.
 use vm_base::{Errno, Flags, Mode, Prot, Reply, Request, SegvCode};
 
 pub const NONE: Prot = Prot {
@@ -225,7 +226,8 @@ const RIGHTS: &[(Ask, Reply)] = &[
     (Ask::Protect(0x10001, 0, RW), EINVAL),
 ];
 
-/// A file of 5000 bytes from 7 on, open for both, ends in its second page: byte 4999 is (7 + 4999) mod 256.
+/// A file of 5000 bytes from 7 on, open for both, ends in its second page: byte 4999 is (7 + 4999)
+/// mod 256.
 const END_OF_A_FILE: &[(Ask, Reply)] = &[
     (
         Ask::Map(0x10000, 12288, RW, SHARED_FIXED),

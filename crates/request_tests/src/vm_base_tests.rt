@@ -1,4 +1,5 @@
-//! `vm_base`: each public function once, with the values that the public standards and this project's rules give.
+//! `vm_base`: each public function once, with the values that the public standards and this
+//! project's rules give.
 ghost use Rattle.std.specs.Prelude.{◌≡◌, false};
 ghost use Rattle.vm_base.specs.Info.{file_page, info_file_page, is_leaf};
 

@@ -1,17 +1,20 @@
-//! `vm_calls`: the rows over a list of runs, each test of the arguments on both sides of its edge, and what an access finds.
+//! `vm_calls`: the rows over a list of runs, each test of the arguments on both sides of its edge,
+//! and what an access finds.
 ghost use Rattle.std.specs.Prelude.{◌≡◌, IsTrue, IfOk, true};
 ghost use Rattle.vm_base.specs.Functions.{has};
 ghost use Rattle.vm_base.specs.Pages.{IsPage, IsPageRange};
-ghost use Rattle.slot_lock.specs.Plan.{IsSound, IsSoundChange};
+ghost use Rattle.slot_lock.specs.declared.plan.Goal.TheVariants as GoalOf;
+ghost use Rattle.slot_lock.specs.declared.plan.Target.TheVariants as TargetOf;
+ghost use Rattle.slot_lock.specs.Plan.{IsSoundChange, IsSoundGoal, IsSoundPlace, IsTarget};
 ghost use Rattle.slot_lock.specs.Slots.{IsHeld};
-ghost use Rattle.vm_calls.specs.Decisions.{IsNoTouch, IsSoundAct};
+ghost use Rattle.vm_calls.specs.Decisions.{IsNoAccess, IsSoundAct};
 
 use crate::rows::{
     ACCERR, ANON, ANON_FIXED, Ask, DONE, EACCES, EBADF, EINVAL, END, ENOMEM, EOVERFLOW, MAPERR,
     NO_FLAGS, NONE, PRIVATE, PRIVATE_FIXED, R, RW, SHARED, TABLES, W, request_of,
 };
 use backing::{FileSpec, Objects};
-use slot_lock::{Change, Plan, RunList, SlotMap, SlotRead, Touch};
+use slot_lock::{Change, Goal, Place, Plan, RunList, SlotMap, SlotRead, Target, Touch};
 use std::alloc::{AllocError, Allocator, Global};
 use std::test::Fail;
 use vm_base::{
@@ -30,7 +33,8 @@ enum Came {
     Stuck,
 }
 
-/// What comes of a request that is answered so. No page has a frame: an access that is answered with a byte wants one.
+/// What comes of a request that is answered so. No page has a frame: an access that is answered
+/// with a byte wants one.
 fn came_of(ask: Ask, reply: Reply) -> Came {
     match (ask, reply) {
         (Ask::Load(_) | Ask::Fetch(_) | Ask::Store(_, _), Reply::Byte(_) | Reply::Done) =>
@@ -53,12 +57,12 @@ fn one_file<A: Allocator + Clone>(
 }
 
 /// The decision over a whole map.
-fn decided<M: SlotMap, A: Allocator>(map: &M, objects: &Objects<A>, plan: Plan) -> Decision
-    requires no_touch { IsNoTouch plan }
-    requires sound { IsSound plan }
-    ensures { IsSoundAct plan result }
+fn decided<M: SlotMap, A: Allocator>(map: &M, objects: &Objects<A>, goal: Goal) -> Decision
+    requires no_access { IsNoAccess goal }
+    requires sound { IsSoundGoal goal }
+    ensures { IsSoundAct goal result }
 {
-    decide(map, objects, plan)
+    decide(map, objects, goal)
 }
 
 /// Slots that a call lends, as a list: only their pages may be asked for.
@@ -106,7 +110,7 @@ fn decided_lent<A: Allocator>(
     if range.first < lent.pages.first || lent.pages.end < range.end {
         return None;
     }
-    Some(decide(lent, objects, Plan::Change(change)))
+    Some(decide(lent, objects, Goal::Change(change)))
 }
 
 /// Locks the pages of a range that lie in one slot.
@@ -158,24 +162,53 @@ fn make<A: Allocator>(map: &mut RunList<A>, core: CoreId, change: Change) -> Res
     Ok(true)
 }
 
-/// The change that a plan comes to.
-fn change_of<A: Allocator>(
+/// The change, if it isn't refused.
+fn allowed<A: Allocator>(
     map: &RunList<A>,
     objects: &Objects<A>,
-    plan: Plan,
-) -> Result<Change, Errno>
-    requires no_touch { IsNoTouch plan }
-    requires sound { IsSound plan }
+    change: Change,
+) -> Result<Change, Came>
+    requires { IsSoundChange change }
     ensures { IfOk result (λ change. IsSoundChange change) }
 {
-    match (plan, decided(map, objects, plan)) {
-        (_, Decision::Refuse(errno)) => Err(errno),
-        (Plan::Place(place), Decision::Act { range, .. }) => Ok(Change::Put {
-            range,
-            meta: place.meta,
-        }),
-        (Plan::Change(change), _) => Ok(change),
-        (Plan::Touch(_), _) => unreachable!(),
+    match decided(map, objects, Goal::Change(change)) {
+        Decision::Act { .. } => Ok(change),
+        Decision::Refuse(errno) => Err(Came::Reply(Reply::Refused(errno))),
+        Decision::Again => Err(Came::Stuck),
+    }
+}
+
+/// The decision over a mapping that looks for a place: under its hint, if it has one, and else with
+/// its window held.
+fn looked_for<A: Allocator>(map: &RunList<A>, objects: &Objects<A>, place: Place) -> Decision
+    requires { IsSoundPlace place }
+    ensures { IsSoundAct (GoalOf.Place place TargetOf.Window) result }
+{
+    if let Some(hint) = place.hint {
+        let target = Target::Hint(hint);
+        let decision = decided(map, objects, Goal::Place { place, target });
+        if decision != Decision::Again {
+            return decision;
+        }
+    }
+    let target = Target::Window;
+    decided(map, objects, Goal::Place { place, target })
+}
+
+/// The mapping at its place, if it finds one.
+fn placed<A: Allocator>(
+    map: &RunList<A>,
+    objects: &Objects<A>,
+    place: Place,
+) -> Result<Change, Came>
+    requires { IsSoundPlace place }
+    ensures { IfOk result (λ change. IsSoundChange change) }
+{
+    let meta = place.meta;
+    match looked_for(map, objects, place) {
+        Decision::Act { range, .. } => Ok(Change::Put { range, meta }),
+        Decision::Refuse(errno) => Err(Came::Reply(Reply::Refused(errno))),
+        Decision::Again => Err(Came::Stuck),
     }
 }
 
@@ -216,11 +249,13 @@ fn run<A: Allocator>(
         Err(reply) => return Ok(Came::Reply(reply)),
         Ok(plan) => plan,
     };
-    if let Plan::Touch(touch) = plan {
-        return Ok(came_of_found(found(map, objects, touch)));
-    }
-    let change = match change_of(map, objects, plan) {
-        Err(errno) => return Ok(Came::Reply(Reply::Refused(errno))),
+    let change = match plan {
+        Plan::Touch(touch) => return Ok(came_of_found(found(map, objects, touch))),
+        Plan::Place(place) => placed(map, objects, place),
+        Plan::Change(change) => allowed(map, objects, change),
+    };
+    let change = match change {
+        Err(came) => return Ok(came),
         Ok(change) => change,
     };
     if !make(map, CoreId::new(0), change)? {
@@ -232,7 +267,8 @@ fn run<A: Allocator>(
     }))
 }
 
-/// The first row that comes to something else than the reply that stands in it, on a new map with one file.
+/// The first row that comes to something else than the reply that stands in it, on a new map with
+/// one file.
 fn first_wrong<A: Allocator + Clone>(
     alloc: A,
     mode: Mode,
@@ -270,7 +306,8 @@ fn each_row_is_answered(rt: HostRuntime) {
     assert_eq!(rt; first_wrong_table(rt.alloc()), Ok(None));
 }
 
-/// The first row whose arguments alone don't come to this, with one file of 10 bytes: none where they pass.
+/// The first row whose arguments alone don't come to this, with one file of 10 bytes: none where
+/// they pass.
 fn first_passed_wrong<A: Allocator + Clone>(
     alloc: A,
     mode: Mode,
@@ -484,7 +521,7 @@ fn decided_after_use<A: Allocator>(
         map.set_leaf(CoreId::new(0), 16, PageInfo { cores, ..info });
     }
     match check(objects, CoreId::new(0), request) {
-        Ok(Plan::Change(change)) => Ok(Some(decided(map, objects, Plan::Change(change)))),
+        Ok(Plan::Change(change)) => Ok(Some(decided(map, objects, Goal::Change(change)))),
         _ => Ok(None),
     }
 }
@@ -534,5 +571,79 @@ fn two_lent_slots_read_as_a_map(rt: HostRuntime) -> Result<(), Fail> {
     assert!(rt; decided_lent(&lent, &objects, protect) == Some(act));
     let beyond = PageRange { first: 16, end: 19 };
     assert!(rt; decided_lent(&lent, &objects, Change::Clear { range: beyond }) == None);
+    Ok(())
+}
+
+/// The decision over a mapping of two pages with page 16 as its hint, or over a run of core 0's window.
+fn aimed<A: Allocator>(map: &RunList<A>, objects: &Objects<A>, target: Target) -> Option<Decision> {
+    let request = request_of(Ask::Map(0x10000, 8192, RW, ANON));
+    let Ok(Plan::Place(place)) = check(objects, CoreId::new(0), request) else {
+        return None;
+    };
+    if !is_target(place, target) {
+        return None;
+    }
+    Some(decided(map, objects, Goal::Place { place, target }))
+}
+
+/// Tells whether a target is the mapping's hint, a run of its window, or its window.
+fn is_target(place: Place, target: Target) -> bool
+    ensures { IsTrue result → IsTarget place target }
+{
+    match target {
+        Target::Hint(range) => place.hint == Some(range),
+        Target::Run(range) => {
+            place.window.first <= range.first
+                && range.end <= place.window.end
+                && range.first <= range.end
+                && range.end - range.first == place.count
+        }
+        Target::Window => true,
+    }
+}
+
+#[test]
+fn a_mapping_looks_elsewhere_where_a_page_is_mapped(rt: HostRuntime) -> Result<(), Fail> {
+    let objects = one_file(rt.alloc(), Mode::RW, 0)?;
+    let mut map = RunList::new(rt.alloc())?;
+    let hint = Target::Hint(PageRange { first: 16, end: 18 });
+    let first = 0x800_0000;
+    let least = PageRange {
+        first,
+        end: first + 2,
+    };
+    let next = PageRange {
+        first: first + 1,
+        end: first + 3,
+    };
+    let shoot = CoreSet::empty();
+    let at_hint = PageRange { first: 16, end: 18 };
+    assert!(rt;
+        aimed(&map, &objects, hint)
+            == Some(Decision::Act {
+                range: at_hint,
+                shoot
+            })
+    );
+    assert!(rt;
+        aimed(&map, &objects, Target::Run(next)) == Some(Decision::Act { range: next, shoot })
+    );
+    // the last page of the hint, and the first page of the window
+    let used = request_of(Ask::Map(0x11000, 4096, RW, ANON_FIXED));
+    assert!(rt; run(&mut map, &objects, used)? == Came::Reply(Reply::Mapped(0x11000)));
+    assert!(rt; aimed(&map, &objects, hint) == Some(Decision::Again));
+    assert!(rt;
+        aimed(&map, &objects, Target::Window)
+            == Some(Decision::Act {
+                range: least,
+                shoot
+            })
+    );
+    let used = request_of(Ask::Map(0x80_0000_0000, 4096, RW, ANON_FIXED));
+    assert!(rt; run(&mut map, &objects, used)? == Came::Reply(Reply::Mapped(0x80_0000_0000)));
+    assert!(rt; aimed(&map, &objects, Target::Run(least)) == Some(Decision::Again));
+    assert!(rt;
+        aimed(&map, &objects, Target::Window) == Some(Decision::Act { range: next, shoot })
+    );
     Ok(())
 }

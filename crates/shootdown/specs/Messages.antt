@@ -41,4 +41,5 @@ waiter (m ∷ ms) = if m.is_cleared then Some m.from else None
 -- each message is another core's, and no core has two
 abbrev pub AreFromOthers : ℕ → List Message → Type 0
 AreFromOthers core [] = Unit {0}
-AreFromOthers core (m ∷ ms) = (m.from < 64) × (m.from ≢ core) × (message_of ms m.from ≡ None) × AreFromOthers core ms
+AreFromOthers core (m ∷ ms) =
+    (m.from < 64) × (m.from ≢ core) × (message_of ms m.from ≡ None) × AreFromOthers core ms

@@ -83,8 +83,8 @@ impl Inbox {
         });
     }
 
-    /// Acts on the oldest message. Its first take asks for the tables and marks it, its second asks for the TLB
-    /// and acknowledges it: it is gone. The other messages stay.
+    /// Acts on the oldest message. Its first take asks for the tables and marks it, its second asks
+    /// for the TLB and acknowledges it: it is gone. The other messages stay.
     pub fn take(&mut self) -> Took
         ensures core { self.new.core ≡ self.old.core }
         ensures took { result ≡ asked self.old.messages }

@@ -14,7 +14,8 @@ use vm_base::{CoreId, CoreSet, PageRange};
 /// The most cores.
 pub const CORES: usize = 64;
 
-/// The inbox of each core. A clause sees them as a list, and `inbox` of it gives the messages of a core.
+/// The inbox of each core. A clause sees them as a list, and `inbox` of it gives the messages of a
+/// core.
 #[derive(Drop)]
 pub struct Inboxes {
     inboxes: ArrayVec<Inbox, CORES>,
@@ -51,8 +52,8 @@ impl Inboxes {
         }
     }
 
-    /// Puts a message into the inbox of each core of `to`, behind those that it has. `from` then waits for these
-    /// cores. The other inboxes stay.
+    /// Puts a message into the inbox of each core of `to`, behind those that it has. `from` then
+    /// waits for these cores. The other inboxes stay.
     pub fn post(&mut self, from: CoreId, to: CoreSet, range: PageRange)
         requires idle { (d : ℕ) → awaited (inbox self.old) from d ≡ false }
         requires others { members to from ≡ false }
@@ -64,13 +65,15 @@ impl Inboxes {
         self.awaited[from.index() as usize] = to;
     }
 
-    /// Acts on the oldest message of the core. Its first take asks the core to clear its tables, its second to
-    /// invalidate its TLB; with the second it is acknowledged and gone. The other inboxes stay.
+    /// Acts on the oldest message of the core. Its first take asks the core to clear its tables,
+    /// its second to invalidate its TLB; with the second it is acknowledged and gone. The other
+    /// inboxes stay.
     pub fn take(&mut self, core: CoreId) -> Took
         requires { core < length self.old }
         ensures cores { length self.new ≡ length self.old }
         ensures took { result ≡ asked (inbox self.old core) }
-        ensures messages { inbox self.new ≡ put (inbox self.old) core (remaining (inbox self.old core)) }
+        ensures messages { inbox self.new
+            ≡ put (inbox self.old) core (remaining (inbox self.old core)) }
     {
         let waiter = waiter(&self.inboxes, core);
         acknowledge(&mut self.awaited, waiter, core);
@@ -125,7 +128,8 @@ fn take_at(inboxes: &mut [Inbox], core: CoreId) -> Took
     requires { core < length inboxes.old }
     ensures took { result ≡ asked (inbox inboxes.old core) }
     ensures owners { owner inboxes.new ≡ owner inboxes.old }
-    ensures messages { inbox inboxes.new ≡ put (inbox inboxes.old) core (remaining (inbox inboxes.old core)) }
+    ensures messages { inbox inboxes.new
+        ≡ put (inbox inboxes.old) core (remaining (inbox inboxes.old core)) }
 {
     inboxes[core.index() as usize].take()
 }

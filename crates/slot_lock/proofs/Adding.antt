@@ -10,7 +10,7 @@ use Rattle.slot_lock.specs.Runs.{IsRuns, IsInner, IsInside, get_run, run_at, cut
 use Rattle.slot_lock.specs.Places.{run_at_is}
 use Rattle.slot_lock.specs.Slots.{Slots, IsSlot, between}
 use Rattle.slot_lock.specs.RunSlots.{slots_of}
-use Rattle.slot_lock.specs.RunLaws.{edge_at, is_slot, info_from_zero}
+use Rattle.slot_lock.specs.RunLaws.{is_slot}
 use Rattle.slot_lock.specs.Adding.{IsRest, IsSoundSlot, CanAdd, with_edge, filled}
 use Rattle.slot_lock.proofs.Steps.{owner_at}
 use Rattle.slot_lock.proofs.Joins.{next_info}

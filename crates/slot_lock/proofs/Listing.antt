@@ -1,8 +1,8 @@
 -- Lists of the pages that have a frame
-use Rattle.std.proofs.Common.{◌≡◌, ℕ, ◌+◌, ◌-◌, ◌^◌, ◌<◌, ◌≤◌, ◌||◌, ⊎_elim, true, is_some, List, length, [], ◌∷◌, ◌++◌, Option, None, Some, max, min, refl, sym, ◌∙◌, ap, subst, arith}
+use Rattle.std.proofs.Common.{◌≡◌, ℕ, ◌+◌, ◌-◌, ◌<◌, ◌≤◌, ⊎_elim, true, List, length, [], ◌∷◌, ◌++◌, Option, None, Some, max, min, refl, sym, ◌∙◌, ap, subst, arith}
 use Rattle.std.proofs.lemmas.Bool.{cases_lt}
 use Rattle.vm_base.specs.declared.info.PageInfo.{PageInfo}
-use Rattle.vm_base.specs.Info.{frame_of, info_from, is_leaf}
+use Rattle.vm_base.specs.Info.{frame_of, is_leaf}
 use Rattle.slot_lock.specs.declared.framed.Framed.{Framed}
 use Rattle.slot_lock.specs.declared.run.Run.{Run}
 use Rattle.slot_lock.specs.Framed.{HasNone, ListsFrames, AddsFrames, frames_in}

@@ -5,7 +5,8 @@ use Rattle.vm_base.specs.Functions.{put, over, across, has}
 use Rattle.vm_base.specs.Info.{info_from, info_file_page, is_leaf}
 use Rattle.slot_lock.specs.Slots.{Slots, IsSlot, between}
 
--- the pages from this one to the last valid one are one slot, which nobody holds, and nothing is mapped there
+-- the pages from this one to the last valid one are one slot, which nobody holds, and nothing is
+-- mapped there
 pub record IsRest (s : Slots) (start : ℕ) : Type 0 where
   pub slot : IsSlot s start (2 ^ 35)
   pub free : s.owner start ≡ None

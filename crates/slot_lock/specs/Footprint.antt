@@ -1,15 +1,12 @@
--- The pages that a call locks, a cursor over them, and what of them is held
+-- The pages that an acquisition locks, a cursor over them, and what of them is held
 use Rattle.std.specs.Prelude.{ℕ, ◌<◌, ◌==◌, ◌||◌, nat_lt, nat_le, min, max, Bool, false, if◌then◌else◌, Option, Some, None}
 use Rattle.std.specs.Option.{ForSome}
 use Rattle.vm_base.specs.declared.page.PageRange.{PageRange}
 use Rattle.vm_base.specs.Functions.{has}
-use Rattle.vm_base.specs.Pages.{IsPageRange, pages_from}
+use Rattle.vm_base.specs.Pages.{IsPageRange}
 use Rattle.slot_lock.specs.declared.footprint.Footprint.{Footprint}
-use Rattle.slot_lock.specs.declared.plan.Plan.{Plan}
-use Rattle.slot_lock.specs.declared.plan.Plan.TheVariants as PlanOf
 use Rattle.slot_lock.specs.declared.slot_map.Got.{Got}
 use Rattle.slot_lock.specs.declared.slot_map.Got.TheVariants.{Split, Locked, Held}
-use Rattle.slot_lock.specs.Plan.{range_of}
 use Rattle.slot_lock.specs.Slots.{between}
 
 -- ---- which footprints there are
@@ -19,7 +16,7 @@ pub record IsFootprint (fp : Footprint) : Type 0 where
   pub front : IsPageRange fp.first
   pub apart : ForSome fp.second (λ r. (fp.first.end < r.first) × IsPageRange r)
 
--- ---- the footprint of a plan
+-- ---- footprints of ranges
 
 abbrev pub one_range : PageRange → Footprint
 one_range r = record { first = r; second = None }
@@ -33,17 +30,6 @@ both r s =
     if nat_lt r.end s.first then two_ranges r s
     else if nat_lt s.end r.first then two_ranges s r
     else one_range (between (min r.first s.first) (max r.end s.end))
-
-abbrev pub with_hint : Option PageRange → PageRange → Footprint
-with_hint None window = one_range window
-with_hint (Some hint) window = both hint window
-
--- an access locks its page; a change its range; a mapping without a place its hint's pages, if all are valid, and its
--- core's window
-abbrev pub footprint_of : Plan → Footprint
-footprint_of (PlanOf.Place place) = with_hint place.hint place.window
-footprint_of (PlanOf.Change change) = one_range (range_of change)
-footprint_of (PlanOf.Touch touch) = one_range (pages_from touch.page 1)
 
 -- ---- the cursor
 
@@ -61,7 +47,9 @@ second_or (Some r) n f = f r
 
 -- the end of the range that has the cursor
 abbrev pub end_at : Footprint → ℕ → ℕ
-end_at fp cursor = second_or fp.second fp.first.end (λ r. if nat_le fp.first.end cursor then r.end else fp.first.end)
+end_at fp cursor =
+    second_or fp.second fp.first.end
+    (λ r. if nat_le fp.first.end cursor then r.end else fp.first.end)
 
 -- where the cursor goes after the pages up to b of a range
 abbrev pub next_after : Footprint → ℕ → ℕ
@@ -104,5 +92,6 @@ rest_of (Some r) = Some (one_range r)
 
 -- the pages from b on, once those up to b of the first range are let go, if there are some
 abbrev pub after : Footprint → ℕ → Option Footprint
-after fp b = if b == fp.first.end then rest_of fp.second else Some
-    (record { first = between b fp.first.end; second = fp.second })
+after fp b =
+    if b == fp.first.end then rest_of fp.second
+    else Some (record { first = between b fp.first.end; second = fp.second })

@@ -21,4 +21,5 @@ ListsFrames frame first end (x ∷ xs) =
 
 -- they were added at the end of a list
 abbrev pub AddsFrames : (ℕ → Option ℕ) → ℕ → ℕ → List Framed → List Framed → Type 0
-AddsFrames frame first end old new = (xs : List Framed) × (new ≡ old ++ xs) × ListsFrames frame first end xs
+AddsFrames frame first end old new =
+    (xs : List Framed) × (new ≡ old ++ xs) × ListsFrames frame first end xs

@@ -14,8 +14,10 @@ pub starts_rise : (rs : List Run) → IsRuns rs → (i k : ℕ) → i + k < leng
     → (get_run rs i).start ≤ (get_run rs (i + k)).start
 starts_rise rs ok i zero h = rw add-zero (omega arith)
 starts_rise rs ok i (suc k) h =
-    let before : (get_run rs i).start ≤ (get_run rs (i + k)).start = starts_rise rs ok i k (omega arith) in
-    let step : (get_run rs (i + k)).start < (get_run rs (i + k + 1)).start = ok.rising (i + k) (omega arith) in
+    let before : (get_run rs i).start ≤ (get_run rs (i + k)).start =
+    starts_rise rs ok i k (omega arith) in
+    let step : (get_run rs (i + k)).start < (get_run rs (i + k + 1)).start =
+    ok.rising (i + k) (omega arith) in
     let same : i + suc k ≡ i + k + 1 = omega arith in
     rw same (omega arith)
 
@@ -43,7 +45,8 @@ pub place_by_starts : (rs : List Run) (p i : ℕ) → i < length rs
     → (i + 1 < length rs → p < (get_run rs (i + 1)).start) → place_of rs p ≡ i
 unfolding place_of
 place_by_starts rs p i h below above =
-    let n : prefix_len (begins_by p) rs ≡ i + 1 = prefix_len_is (begins_by p) rs (i + 1) nobody (omega arith)
+    let n : prefix_len (begins_by p) rs ≡ i + 1 =
+    prefix_len_is (begins_by p) rs (i + 1) nobody (omega arith)
     (λ k l. passes p (get_run rs k).start (below k (omega arith)))
     (λ l. stops p (get_run rs (i + 1)).start (above l)) in
     omega arith
@@ -67,7 +70,8 @@ at_prefix rs p n e some =
     let most : prefix_len (begins_by p) rs ≤ length rs = prefix_len-le-length (begins_by p) rs in
     record {
       within = omega arith;
-      from = passed p (get_run rs (n - 1)).start (prefix_len_passes (begins_by p) rs (n - 1) nobody (omega arith));
+      from = passed p (get_run rs (n - 1)).start
+          (prefix_len_passes (begins_by p) rs (n - 1) nobody (omega arith));
       until = λ h.
           let same : n - 1 + 1 ≡ prefix_len (begins_by p) rs = omega arith in
           rw same (stopped p (get_run rs (prefix_len (begins_by p) rs)).start
@@ -101,7 +105,8 @@ after_first rs ok p zero h v =
     absurd (omega (arith, ok.one_second))
 after_first rs ok p (suc i) h v = omega arith
 
-pub before_last : (rs : List Run) → IsRuns rs → (p i : ℕ) → IsAt rs p i → p < 2 ^ 35 → i + 1 < length rs
+pub before_last : (rs : List Run) → IsRuns rs → (p i : ℕ) → IsAt rs p i → p < 2 ^ 35
+    → i + 1 < length rs
 before_last rs ok p i h v = ⊎_elim (λ l. l) (λ l. last l) (cases_lt (i + 1) (length rs))
   where
     last : length rs ≤ i + 1 → i + 1 < length rs
@@ -115,5 +120,6 @@ start_most rs ok i h = let l = starts_rise_to rs ok i (length rs - 1) (omega ari
     omega (arith, l, ok.limit_last)
 
 -- what an index reads
-pub read_run : (rs : List Run) (i : ℕ) (r : Run) → i < length rs → r ≡ get_or rs i r → r ≡ get_run rs i
+pub read_run : (rs : List Run) (i : ℕ) (r : Run) → i < length rs → r ≡ get_or rs i r
+    → r ≡ get_run rs i
 read_run rs i r h e = e ∙ get_or_default rs i r nobody h

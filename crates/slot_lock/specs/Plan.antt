@@ -1,20 +1,42 @@
--- What a call does: the pages that it changes, and which plans there are
+-- What a call does: the pages that it locks and changes, and which plans and goals there are
 use Rattle.std.specs.Prelude.{ℕ, ◌≡◌, ◌+◌, ◌-◌, ◌≤◌, ◌<◌, ◌^◌, Option, None, Some}
 use Rattle.vm_base.specs.declared.page.PageRange.{PageRange}
 use Rattle.vm_base.specs.declared.info.Meta.{Meta}
 use Rattle.vm_base.specs.Info.{file_page}
-use Rattle.vm_base.specs.Pages.{IsPage, IsPageRange}
+use Rattle.vm_base.specs.Pages.{IsPage, IsPageRange, pages_from}
 use Rattle.slot_lock.specs.declared.plan.Change.{Change}
 use Rattle.slot_lock.specs.declared.plan.Change.TheVariants.{Put, Clear, Protect}
 use Rattle.slot_lock.specs.declared.plan.Place.{Place}
 use Rattle.slot_lock.specs.declared.plan.Touch.{Touch}
 use Rattle.slot_lock.specs.declared.plan.Plan.{Plan}
 use Rattle.slot_lock.specs.declared.plan.Plan.TheVariants as PlanOf
+use Rattle.slot_lock.specs.declared.plan.Target.{Target}
+use Rattle.slot_lock.specs.declared.plan.Target.TheVariants.{Hint, Run, Window}
+use Rattle.slot_lock.specs.declared.plan.Goal.{Goal}
+use Rattle.slot_lock.specs.declared.plan.Goal.TheVariants as To
 
 abbrev pub range_of : Change → PageRange
 range_of (Put range meta) = range
 range_of (Clear range) = range
 range_of (Protect range prot) = range
+
+-- the pages of a placed mapping's target
+abbrev pub target_range : Place → Target → PageRange
+target_range place (Hint range) = range
+target_range place (Run range) = range
+target_range place Window = place.window
+
+-- the pages that a call has locked, or is to lock (its footprint)
+abbrev pub goal_range : Goal → PageRange
+goal_range (To.Place place target) = target_range place target
+goal_range (To.Change change) = range_of change
+goal_range (To.Access touch) = pages_from touch.page 1
+
+-- the plan that the call follows
+abbrev pub goal_plan : Goal → Plan
+goal_plan (To.Place place target) = PlanOf.Place place
+goal_plan (To.Change change) = PlanOf.Change change
+goal_plan (To.Access touch) = PlanOf.Touch touch
 
 -- the file pages of so many pages from the mapping's first on are numbers that a file can have
 abbrev pub FitsFile : Meta → ℕ → Type 0
@@ -49,3 +71,26 @@ abbrev pub IsSound : Plan → Type 0
 IsSound (PlanOf.Place place) = IsSoundPlace place
 IsSound (PlanOf.Change change) = IsSoundChange change
 IsSound (PlanOf.Touch touch) = IsSoundTouch touch
+
+-- ---- goals
+
+-- so many pages of the window
+pub record IsRunOf (window : PageRange) (count : ℕ) (run : PageRange) : Type 0 where
+  pub size : run.end ≡ run.first + count
+  pub low : window.first ≤ run.first
+  pub high : run.end ≤ window.end
+
+-- the target is the mapping's hint, some run of its window, or its window
+abbrev pub IsTarget : Place → Target → Type 0
+IsTarget place (Hint range) = place.hint ≡ Some range
+IsTarget place (Run range) = IsRunOf place.window place.count range
+IsTarget place Window = Unit {0}
+
+abbrev pub HasTarget : Goal → Type 0
+HasTarget (To.Place place target) = IsTarget place target
+HasTarget (To.Change change) = Unit {0}
+HasTarget (To.Access touch) = Unit {0}
+
+pub record IsSoundGoal (goal : Goal) : Type 0 where
+  pub plan : IsSound (goal_plan goal)
+  pub target : HasTarget goal

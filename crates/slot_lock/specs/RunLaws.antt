@@ -20,7 +20,8 @@ advance_back_twice Anon m n = refl
 advance_back_twice (Shared f k) m n = ap (Shared f) (omega arith)
 advance_back_twice (Private f k) m n = ap (Private f) (omega arith)
 
-pub info_from_twice : (o : Option PageInfo) (m n : ℕ) → info_from (info_from o m) n ≡ info_from o (m + n)
+pub info_from_twice : (o : Option PageInfo) (m n : ℕ)
+    → info_from (info_from o m) n ≡ info_from o (m + n)
 info_from_twice None m n = refl
 info_from_twice (Some info) m n = ap
     (λ b. Some (record info { meta = record { back = b; prot = info.meta.prot } }))
@@ -33,7 +34,8 @@ advance_back_zero (Private f k) = ap (Private f) (omega arith)
 
 pub info_from_zero : (o : Option PageInfo) → info_from o 0 ≡ o
 info_from_zero None = refl
-info_from_zero (Some info) = ap (λ b. Some (record info { meta = record { back = b; prot = info.meta.prot } }))
+info_from_zero (Some info) =
+    ap (λ b. Some (record info { meta = record { back = b; prot = info.meta.prot } }))
     (advance_back_zero info.meta.back)
 
 pub is_leaf-info_from : (o : Option PageInfo) (n : ℕ) → is_leaf (info_from o n) ≡ is_leaf o
@@ -50,7 +52,8 @@ owner_free (Some c) h = cc
 
 -- ---- file pages
 
-back_on : (b : Back) (n m : ℕ) → n < m → file_page b + m ≤ 2 ^ 35 → file_page (advance_back b n) + (m - n) ≤ 2 ^ 35
+back_on : (b : Back) (n m : ℕ) → n < m → file_page b + m ≤ 2 ^ 35
+    → file_page (advance_back b n) + (m - n) ≤ 2 ^ 35
 back_on Anon n m l h = omega arith
 back_on (Shared f k) n m l h = omega arith
 back_on (Private f k) n m l h = omega arith
@@ -61,7 +64,8 @@ pub fits_on : (o : Option PageInfo) (n m : ℕ) → n < m → info_file_page o +
 fits_on None n m l h = omega arith
 fits_on (Some info) n m l h = back_on info.meta.back n m l h
 
-back_before : (b : Back) (n m : ℕ) → n ≤ m → m ≤ 2 ^ 35 → file_page (advance_back b n) + (m - n) ≤ 2 ^ 35
+back_before : (b : Back) (n m : ℕ) → n ≤ m → m ≤ 2 ^ 35
+    → file_page (advance_back b n) + (m - n) ≤ 2 ^ 35
     → file_page b + m ≤ 2 ^ 35
 back_before Anon n m l k h = omega arith
 back_before (Shared f p) n m l k h = omega arith
@@ -94,7 +98,8 @@ pub from_other_test : (a b : ℕ) → (a == b) ≡ false → a ≢ b
 from_other_test a b h = grind (arith, nat_tests)
 
 -- ---- edges
-pub edge_at : (rs : List Run) → IsRuns rs → (i : ℕ) → i < length rs → (slots_of rs).edge (get_run rs i).start ≡ true
+pub edge_at : (rs : List Run) → IsRuns rs → (i : ℕ) → i < length rs
+    → (slots_of rs).edge (get_run rs i).start ≡ true
 edge_at rs ok i h =
     let run = run_at_is rs ok (get_run rs i).start i
     (record { within = h; from = omega arith; until = λ l. ok.rising i l }) in
@@ -111,26 +116,29 @@ run_next rs ok p h =
       until = λ l. below f.at l (f.is.until l);
     }) ∙ sym f.run
   where
-    below : (i : ℕ) → i + 1 < length rs → p < (get_run rs (i + 1)).start → p + 1 < (get_run rs (i + 1)).start
+    below : (i : ℕ) → i + 1 < length rs → p < (get_run rs (i + 1)).start
+        → p + 1 < (get_run rs (i + 1)).start
     below i l above =
         ⊎_elim (λ k. k) (λ k.
         let same : (get_run rs (i + 1)).start ≡ p + 1 = omega arith in
         let edge = rw same at (edge_at rs ok (i + 1) l) in
         absurd cc) (cases_lt (p + 1) (get_run rs (i + 1)).start)
 
-pub is_slot : (rs : List Run) → IsRuns rs → (i : ℕ) → i + 1 < length rs → IsSlot (slots_of rs) (get_run rs i).start
-    (get_run rs (i + 1)).start
+pub is_slot : (rs : List Run) → IsRuns rs → (i : ℕ) → i + 1 < length rs
+    → IsSlot (slots_of rs) (get_run rs i).start (get_run rs (i + 1)).start
 is_slot rs ok i h = record {
   ordered = ok.rising i h;
   begins = edge_at rs ok i (omega arith);
   ends = edge_at rs ok (i + 1) h;
   inside = λ p a b.
-      let run = run_at_is rs ok p i (record { within = omega arith; from = omega arith; until = λ _. b }) in
+      let run =
+      run_at_is rs ok p i (record { within = omega arith; from = omega arith; until = λ _. b }) in
       rw run (other_test _ _ (omega arith));
 }
 
 -- ---- the laws
-last_run : (rs : List Run) → IsRuns rs → (p : ℕ) → 2 ^ 35 ≤ p → run_at rs p ≡ get_run rs (length rs - 1)
+last_run : (rs : List Run) → IsRuns rs → (p : ℕ) → 2 ^ 35 ≤ p
+    → run_at rs p ≡ get_run rs (length rs - 1)
 last_run rs ok p h = run_at_is rs ok p (length rs - 1) (record {
   within = omega (arith, ok.some);
   from = omega (arith, ok.limit_last);
@@ -148,11 +156,13 @@ outside : (p : ℕ) → ¬ IsPage p → (p ≡ 0) ⊎ (2 ^ 35 ≤ p)
 outside p h = ⊎_elim (λ a. inl (omega arith)) (λ a. ⊎_elim (λ b. absurd (h (a, b))) (λ b. inr b)
     (cases_lt p (2 ^ 35))) (cases_lt p 1)
 
-unmapped_at : (rs : List Run) → IsRuns rs → (p : ℕ) → (p ≡ 0) ⊎ (2 ^ 35 ≤ p) → (slots_of rs).info p ≡ None
+unmapped_at : (rs : List Run) → IsRuns rs → (p : ℕ) → (p ≡ 0) ⊎ (2 ^ 35 ≤ p)
+    → (slots_of rs).info p ≡ None
 unmapped_at rs ok p (inl z) = rw (z, zero_run rs ok) (info_from_unmapped _ _ ok.zero_unmapped)
 unmapped_at rs ok p (inr l) = rw (last_run rs ok p l) (info_from_unmapped _ _ ok.limit_unmapped)
 
-free_at : (rs : List Run) → IsRuns rs → (p : ℕ) → (p ≡ 0) ⊎ (2 ^ 35 ≤ p) → (slots_of rs).owner p ≡ None
+free_at : (rs : List Run) → IsRuns rs → (p : ℕ) → (p ≡ 0) ⊎ (2 ^ 35 ≤ p)
+    → (slots_of rs).owner p ≡ None
 free_at rs ok p (inl z) = rw (z, zero_run rs ok) (owner_free _ ok.zero_free)
 free_at rs ok p (inr l) = rw (last_run rs ok p l) (owner_free _ ok.limit_free)
 
@@ -166,7 +176,8 @@ slots_of-is_slot_map rs ok = record {
       let from : (run_at rs p).start ≤ p = (let f = found rs ok p in rw f.run f.is.from) in
       let n : p + 1 - (run_at rs p).start ≡ p - (run_at rs p).start + 1 = omega arith in
       rw (run_next rs ok p h, n) (sym (info_from_twice _ _ 1));
-  alone = λ p h. alone_at p (found rs ok p) (sym (is_leaf-info_from (run_at rs p).info (p - (run_at rs p).start)) ∙ h);
+  alone = λ p h. alone_at p (found rs ok p)
+      (sym (is_leaf-info_from (run_at rs p).info (p - (run_at rs p).start)) ∙ h);
   fits = λ p. fits_at p (found rs ok p);
 }
   where
@@ -180,12 +191,14 @@ slots_of-is_slot_map rs ok = record {
         omega (arith, f.is.from))
         (λ l.
         let same : f.at ≡ length rs - 1 = omega (arith, f.is.within) in
-        let none = no_file_page (get_run rs f.at).info (p - (get_run rs f.at).start) (rw same ok.limit_unmapped) in
+        let none =
+        no_file_page (get_run rs f.at).info (p - (get_run rs f.at).start)
+        (rw same ok.limit_unmapped) in
         omega arith)
         (cases_lt (f.at + 1) (length rs)))
 
-    alone_at : (p : ℕ) (f : Found rs p) → is_leaf (run_at rs p).info ≡ true → ((slots_of rs).edge p ≡ true)
-        × ((slots_of rs).edge (p + 1) ≡ true)
+    alone_at : (p : ℕ) (f : Found rs p) → is_leaf (run_at rs p).info ≡ true
+        → ((slots_of rs).edge p ≡ true) × ((slots_of rs).edge (p + 1) ≡ true)
     alone_at p f h =
         let leaf = rw f.run at h in
         ⊎_elim

@@ -1,5 +1,5 @@
--- A list of runs, each of the pages from its start up to the next one's. The first is page 0 and the last is what
--- lies above all valid pages: no core holds them and nothing is mapped there
+-- A list of runs, each of the pages from its start up to the next one's. The first is page 0 and
+-- the last is what lies above all valid pages: no core holds them and nothing is mapped there
 use Rattle.std.specs.Prelude.{◌≡◌, ℕ, ◌+◌, ◌-◌, ◌^◌, ◌<◌, ◌≤◌, nat_le, Bool, true, false, List, length, slice_index_or, Option, Some, None, is_some}
 use Rattle.std.specs.List.{insert, prefix_len}
 use Rattle.vm_base.specs.declared.info.PageInfo.{PageInfo}
@@ -45,7 +45,8 @@ pub record IsRuns (rs : List Run) : Type 0 where
   pub limit_free : is_some (get_run rs (length rs - 1)).owner ≡ false
   -- the file pages of a run's pages are numbers that a file can have
   pub fits : (k : ℕ) → k + 1 < length rs
-      → info_file_page (get_run rs k).info + ((get_run rs (k + 1)).start - (get_run rs k).start) ≤ 2 ^ 35
+      → info_file_page (get_run rs k).info + ((get_run rs (k + 1)).start - (get_run rs k).start)
+      ≤ 2 ^ 35
   -- a page with a frame or a recorded core is a slot of its own
   pub alone : (k : ℕ) → k + 1 < length rs → is_leaf (get_run rs k).info ≡ true
       → (get_run rs (k + 1)).start ≡ (get_run rs k).start + 1

@@ -12,7 +12,8 @@ use Rattle.slot_lock.specs.declared.slot_map.Fit.TheVariants.{Cut, Fits}
 use Rattle.slot_lock.specs.declared.slot_map.Got.{Got}
 use Rattle.slot_lock.specs.declared.slot_map.Got.TheVariants.{Split, Locked, Held}
 
--- What a slot map says of each page: what it has, who owns its slot, and whether a slot begins at it
+-- What a slot map says of each page: what it has, who owns its slot, and whether a slot begins at
+-- it
 pub record Slots : Type 0 where
   pub info : ℕ → Option PageInfo
   pub owner : ℕ → Option ℕ
@@ -40,7 +41,8 @@ pub record IsSlotMap (s : Slots) : Type 0 where
   pub goes_on : (p : ℕ) → IsPage p → s.edge (p + 1) ≡ false → s.info (p + 1) ≡ info_from (s.info p) 1
   -- a page with a frame or a recorded core is a slot of its own
   pub alone : (p : ℕ) → is_leaf (s.info p) ≡ true → (s.edge p ≡ true) × (s.edge (p + 1) ≡ true)
-  -- the file page of each page is small, so that the pages of any range have file pages that are numbers
+  -- the file page of each page is small, so that the pages of any range have file pages that are
+  -- numbers
   pub fits : (p : ℕ) → info_file_page (s.info p) < 2 ^ 36
 
 -- nothing is mapped and nothing is held
@@ -67,7 +69,8 @@ mapped s range meta = record s {
 
 -- the pages of the range have this protection and no recorded core, and all else stays
 abbrev pub protected : Slots → PageRange → Prot → Slots
-protected s range prot = record s { info = across s.info (has range) (λ p. info_with_prot prot (s.info p)) }
+protected s range prot =
+    record s { info = across s.info (has range) (λ p. info_with_prot prot (s.info p)) }
 
 -- one page has this, and all else stays
 abbrev pub with_info : Slots → ℕ → Option PageInfo → Slots
@@ -98,10 +101,11 @@ crossed_edge s range = if s.edge range.first then range.end else range.first
 
 -- slots begin inside the slot at these of its pages, and all else stays
 abbrev pub divided : Slots → PageRange → (ℕ → Bool) → Slots
-divided s slot begins = record s { edge = across s.edge (has (between (slot.first + 1) slot.end)) begins }
+divided s slot begins =
+    record s { edge = across s.edge (has (between (slot.first + 1) slot.end)) begins }
 
--- The slot that crosses the page was divided into parts, and all else stays. Which pages begin a part turns on the map:
--- they are given by the slot and the page that it crosses
+-- The slot that crosses the page was divided into parts, and all else stays. Which pages begin a
+-- part turns on the map: they are given by the slot and the page that it crosses
 pub record DividesAs (parts : PageRange → ℕ → ℕ → Bool) (s t : Slots) (at : ℕ) : Type 0 where
   pub slot : PageRange
   pub is_slot : IsSlot s slot.first slot.end
@@ -109,8 +113,8 @@ pub record DividesAs (parts : PageRange → ℕ → ℕ → Bool) (s t : Slots) 
   pub below : at < slot.end
   pub now : t ≡ divided s slot (parts slot at)
 
--- The slot that begins at the page can be one with the slot before it: nobody holds them, they have no frame and no
--- recorded core, and the mapping goes on from one to the other
+-- The slot that begins at the page can be one with the slot before it: nobody holds them, they have
+-- no frame and no recorded core, and the mapping goes on from one to the other
 pub record CanBeOne (s : Slots) (at : ℕ) : Type 0 where
   pub page : IsPage at
   pub free : s.owner (at - 1) ≡ None
@@ -132,8 +136,8 @@ pub record Joins (s t : Slots) : Type 0 where
 abbrev pub without_edge : Slots → ℕ → Slots
 without_edge s at = record s { edge = put s.edge at false }
 
--- The page's slot ends where a slot of valid pages begins. Both are unheld, without frame and recorded core, and the
--- second's pages go on from the first's
+-- The page's slot ends where a slot of valid pages begins. Both are unheld, without frame and
+-- recorded core, and the second's pages go on from the first's
 pub record CanJoin (s : Slots) (page at : ℕ) : Type 0 where
   pub above : page < at
   pub next : (p : ℕ) → page < p → p < at → s.edge p ≡ false

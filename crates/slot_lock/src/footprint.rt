@@ -1,10 +1,8 @@
-//! The pages that a call locks.
+//! The pages that an acquisition locks.
 ghost use Rattle.std.specs.Prelude.{◌≡◌, ℕ, ◌+◌, ◌^◌, ◌<◌, ◌≤◌, true, IfSome, Option};
 ghost use Rattle.vm_base.specs.Pages.{IsPageRange};
-ghost use Rattle.slot_lock.specs.Plan.{IsSound};
-ghost use Rattle.slot_lock.specs.Footprint.{IsFootprint, one_range, both, footprint_of, end_at, next_after, is_past, below, after};
+ghost use Rattle.slot_lock.specs.Footprint.{IsFootprint, one_range, both, end_at, next_after, is_past, below, after};
 
-use crate::plan::Plan;
 use vm_base::PageRange;
 
 /// One or two ranges of pages, from left to right, with a gap between.
@@ -12,28 +10,6 @@ use vm_base::PageRange;
 pub struct Footprint {
     pub first: PageRange,
     pub second: Option<PageRange>,
-}
-
-impl Plan {
-    /// The pages that a call with this plan locks: an access its page; a change its range; a mapping without a place the
-    /// pages of its hint, if all are valid, and its core's window.
-    pub fn footprint(self) -> Footprint
-        requires { IsSound self }
-        ensures value { result ≡ footprint_of self }
-        ensures sound { IsFootprint result }
-    {
-        match self {
-            Plan::Place(place) => match place.hint {
-                None => Footprint::one(place.window),
-                Some(hint) => Footprint::both(hint, place.window),
-            },
-            Plan::Change(change) => Footprint::one(change.range()),
-            Plan::Touch(touch) => Footprint::one(PageRange {
-                first: touch.page,
-                end: touch.page + 1,
-            }),
-        }
-    }
 }
 
 impl Footprint {

@@ -3,8 +3,8 @@ ghost use Rattle.std.specs.Prelude.{◌≡◌, ℕ, ◌^◌, ◌<◌, ◌≤◌,
 ghost use Rattle.slot_lock.specs.Slots.{Slots, IsSlotMap, Divides, Joins};
 ghost use Rattle.slot_lock.specs.Edges.{edges_below};
 
-/// Each division makes the slots of valid pages more, and there are never more of them than 2^35. So the divisions of a
-/// run without folds are bounded.
+/// Each division makes the slots of valid pages more, and there are never more of them than 2^35.
+/// So the divisions of a run without folds are bounded.
 pub fn division_adds_an_edge()
     ensures grows { (s : Slots) (t : Slots) (owner : Option ℕ) (at : ℕ) → at < 2 ^ 35
         → Divides s t owner at → edges_below s (2 ^ 35) < edges_below t (2 ^ 35) }

@@ -1,4 +1,5 @@
-//! Slots of pages that cores hold: what a slot map does, a first slot map, and how a call takes its pages.
+//! Slots of pages that cores hold: what a slot map does, a first slot map, and how a call takes its
+//! pages.
 #![tactic(auto)]
 
 pub mod acquire;
@@ -15,6 +16,6 @@ pub mod walk;
 pub use acquire::Acquire;
 pub use footprint::Footprint;
 pub use framed::{Framed, FramedPages};
-pub use plan::{Change, Place, Plan, Touch};
+pub use plan::{Change, Goal, Place, Plan, Target, Touch};
 pub use run_list::RunList;
 pub use slot_map::{Fit, Got, SlotMap, SlotRead};

@@ -87,7 +87,8 @@ pub fn cut<A: Allocator>(runs: &mut Vec<Run, A>, i: usize, at: u64) -> Result<()
     ensures items { OnOk result (runs.new.items ≡ cut_runs runs.old.items i at) }
     ensures ok { OnOk result (Divides (slots_of runs.old.items) (slots_of runs.new.items)
         (get_run runs.old.items i).owner at) }
-    ensures exact { OnOk result (DividesAs two_parts (slots_of runs.old.items) (slots_of runs.new.items) at) }
+    ensures exact { OnOk result
+        (DividesAs two_parts (slots_of runs.old.items) (slots_of runs.new.items) at) }
     ensures err { OnErr result (runs.new.items ≡ runs.old.items) }
     ensures full { OnErr result (vec_capacity runs.old ≤ vec_len runs.old) }
     ensures capacity { vec_capacity runs.old ≤ vec_capacity runs.new }
@@ -142,8 +143,8 @@ pub fn change<A: Allocator>(runs: &mut Vec<Run, A>, change: Change)
     }
 }
 
-// Tells whether the run at a place and the next one are two slots that nobody holds, without frame and recorded core,
-// whose pages go on from one another.
+// Tells whether the run at a place and the next one are two slots that nobody holds, without frame
+// and recorded core, whose pages go on from one another.
 fn can_join(runs: &[Run], i: usize) -> bool
     requires runs { IsRuns runs.now }
     requires within { i < length runs.now }
@@ -155,8 +156,9 @@ fn can_join(runs: &[Run], i: usize) -> bool
     runs[i].joins(runs[i + 1])
 }
 
-/// Joins the page's slot with the next one, where nobody holds them, they have no frame and no recorded core, and the
-/// pages of the second go on from those of the first. Answers whether it did.
+/// Joins the page's slot with the next one, where nobody holds them, they have no frame and no
+/// recorded core, and the pages of the second go on from those of the first. Answers whether it
+/// did.
 pub fn fold<A: Allocator>(runs: &mut Vec<Run, A>, page: u64) -> bool
     requires runs { IsRuns runs.old.items }
     requires page { IsPage page }

@@ -11,9 +11,10 @@ use std::alloc::Allocator;
 use vm_base::info::info_from;
 use vm_base::{CoreId, CoreSet, Meta, NoMemory, PageInfo, PageRange, Prot};
 
-/// A map of slots as the list of them, in order. A division makes two slots. A fold joins a page's slot with the next one
-/// to its right, where nobody holds them, they have no frame and no recorded core, and the second's pages go on from the
-/// first's. Page 0 and what lies above all valid pages stay slots of their own.
+/// A map of slots as the list of them, in order. A division makes two slots. A fold joins a page's
+/// slot with the next one to its right, where nobody holds them, they have no frame and no recorded
+/// core, and the second's pages go on from the first's. Page 0 and what lies above all valid pages
+/// stay slots of their own.
 #[derive(Drop)]
 pub struct RunList<A: Allocator> {
     runs: Vec<Run, A>,
@@ -49,7 +50,8 @@ impl<A: Allocator> RunList<A> {
         Ok(RunList { runs })
     }
 
-    /// A map to lend slots to, from left to right, so that they can be read as one: all valid pages unmapped and unheld.
+    /// A map to lend slots to, from left to right, so that they can be read as one: all valid pages
+    /// unmapped and unheld.
     pub fn lent(alloc: A) -> Result<RunList<A>, NoMemory>
         ensures new { IfOk result (λ map. IsNew (⟦<RunList<A> as SlotRead>⟧.slots map)) }
         ensures rest { IfOk result (λ map. IsRest (⟦<RunList<A> as SlotRead>⟧.slots map) 1) }
@@ -57,10 +59,10 @@ impl<A: Allocator> RunList<A> {
         RunList::new(alloc)
     }
 
-    /// Adds the slot of the pages from `first` up to `end`, with its owner and what its first page has. Answers false,
-    /// and changes nothing, where it doesn't begin at the end of the last one, has no valid page or another one too, is a
-    /// slot of several pages with a frame or a recorded core, or has file pages that no file can have. A refusal for
-    /// memory changes nothing.
+    /// Adds the slot of the pages from `first` up to `end`, with its owner and what its first page
+    /// has. Answers false, and changes nothing, where it doesn't begin at the end of the last one,
+    /// has no valid page or another one too, is a slot of several pages with a frame or a recorded
+    /// core, or has file pages that no file can have. A refusal for memory changes nothing.
     pub fn add_slot(
         &mut self,
         first: u64,

@@ -1,7 +1,8 @@
 //! Maps of slots that cores hold.
 //!
-//! A slot is a set of neighbouring pages with one owner or none, whose mapping goes on from page to page. A new map has
-//! all valid pages unmapped and unheld. A page with a frame or a recorded core is a slot of its own.
+//! A slot is a set of neighbouring pages with one owner or none, whose mapping goes on from page to
+//! page. A new map has all valid pages unmapped and unheld. A page with a frame or a recorded core
+//! is a slot of its own.
 ghost use Rattle.std.specs.Prelude.{◌≡◌, ◌≢◌, ℕ, ◌+◌, ◌-◌, ◌^◌, ◌<◌, ◌≤◌, ◌↔◌, IfOk, OnErr, IfSome, IfNone, IsTrue, true, Bool, Option, Some, None};
 ghost use Rattle.vm_base.specs.declared.page.PageRange.{PageRange};
 ghost use Rattle.vm_base.specs.Functions.{has};
@@ -92,8 +93,9 @@ pub trait SlotMap: SlotRead {
         requires { IsPage page }
         ensures { result ≡ (Self.slots self.now).owner page };
 
-    /// One step of the core towards holding the pages from the cursor up to the end: the cursor's slot is another core's,
-    /// or is divided where it crosses the first edge of them that it crosses, or is locked.
+    /// One step of the core towards holding the pages from the cursor up to the end: the cursor's
+    /// slot is another core's, or is divided where it crosses the first edge of them that it
+    /// crosses, or is locked.
     fn lock_next(&mut self, core: CoreId, cursor: u64, end: u64) -> Result<Got, NoMemory>
         requires ordered { cursor < end }
         requires valid { (1 ≤ cursor) × (end ≤ 2 ^ 35) }
@@ -104,10 +106,11 @@ pub trait SlotMap: SlotRead {
             (λ got. IfSplit got (DividesAs parts (Self.slots self.old) (Self.slots self.new)
             (crossed_edge (Self.slots self.old) (between cursor end)))) }
         ensures err { OnErr result (Self.slots self.new ≡ Self.slots self.old) }
-        ensures err_only { OnErr result (((Self.slots self.old).owner cursor ≡ None) × Crosses (Self.slots self.old) cursor end) };
+        ensures err_only { OnErr result (((Self.slots self.old).owner cursor ≡ None)
+            × Crosses (Self.slots self.old) cursor end) };
 
-    /// One step of the core towards slots that don't cross an edge of the range, whose pages it holds: the slot that
-    /// crosses its start is divided, or else the one that crosses its end.
+    /// One step of the core towards slots that don't cross an edge of the range, whose pages it
+    /// holds: the slot that crosses its start is divided, or else the one that crosses its end.
     fn cut_next(&mut self, core: CoreId, range: PageRange) -> Result<Fit, NoMemory>
         requires range { IsPageRange range }
         requires held { OwnsAll (Self.slots self.old) core range.first range.end }
@@ -136,7 +139,8 @@ pub trait SlotMap: SlotRead {
         requires held { IsHeld (Self.slots self.old) core range }
         ensures { Self.slots self.new ≡ cleared (Self.slots self.old) range };
 
-    /// Changes the protection of the pages of the range, and forgets which cores are recorded there. Frames stay.
+    /// Changes the protection of the pages of the range, and forgets which cores are recorded
+    /// there. Frames stay.
     fn protect_range(&mut self, core: CoreId, range: PageRange, prot: Prot)
         requires held { IsHeld (Self.slots self.old) core range }
         requires mapped { AllMapped (Self.slots self.old) range }
@@ -148,10 +152,11 @@ pub trait SlotMap: SlotRead {
         requires held { OwnsAll (Self.slots self.old) core from end }
         ensures some { IfSome result
             (λ taken. LosesFrame (Self.slots self.old) (Self.slots self.new) from end taken.0 taken.1) }
-        ensures none { IfNone result (NoFrames (Self.slots self.old) from end × (Self.slots self.new ≡ Self.slots self.old)) };
+        ensures none { IfNone result (NoFrames (Self.slots self.old) from end
+            × (Self.slots self.new ≡ Self.slots self.old)) };
 
-    /// Adds the pages from `from` up to `end` that have a frame, and their frames, to the list, in order of pages, until it is
-    /// full. Answers the page up to which none is left out.
+    /// Adds the pages from `from` up to `end` that have a frame, and their frames, to the list, in
+    /// order of pages, until it is full. Answers the page up to which none is left out.
     fn list_frames(&self, from: u64, end: u64, list: &mut FramedPages) -> u64
         requires pages { (1 ≤ from) × (from ≤ end) × (end ≤ 2 ^ 35) }
         ensures low { from ≤ result }
@@ -168,7 +173,8 @@ pub trait SlotMap: SlotRead {
         requires meta { HasMeta ((Self.slots self.old).info page) info.meta }
         ensures { Self.slots self.new ≡ with_info (Self.slots self.old) page (Some info) };
 
-    /// Joins slots round the page that nobody holds, where their pages go on from one another. Answers whether it did.
+    /// Joins slots round the page that nobody holds, where their pages go on from one another.
+    /// Answers whether it did.
     fn fold(&mut self, page: u64) -> bool
         requires { IsPage page }
         ensures can { IsTrue result ↔ can_fold (Self.slots self.old) page }

@@ -120,15 +120,16 @@ fn frame_of(info: Option<PageInfo>) -> Option<u32>
     }
 }
 
-/// Adds the pages from `from` up to `end` that have a frame, and their frames, to the list, in order of pages, until it is
-/// full. Answers the page up to which none is left out.
+/// Adds the pages from `from` up to `end` that have a frame, and their frames, to the list, in
+/// order of pages, until it is full. Answers the page up to which none is left out.
 pub fn list_frames(runs: &[Run], from: u64, end: u64, list: &mut FramedPages) -> u64
     requires runs { IsRuns runs.now }
     requires ordered { from ≤ end }
     requires end { end ≤ 2 ^ 35 }
     ensures low { from ≤ result }
     ensures high { result ≤ end }
-    ensures added { AddsFrames (frames_in (slots_of runs.now)) from result list.old.items list.new.items }
+    ensures added { AddsFrames (frames_in (slots_of runs.now)) from result
+        list.old.items list.new.items }
     ensures full { result < end → array_vec_len list.new ≡ 32 }
 {
     let mut i = place(runs, from);

@@ -29,7 +29,8 @@ fn page_at(place: u64) -> u64
     0x800_0000 + 13_421_772 * place
 }
 
-/// Sets the entries of the ten pages. Their tables stay when entries are dropped, so only the first time takes memory.
+/// Sets the entries of the ten pages. Their tables stay when entries are dropped, so only the first
+/// time takes memory.
 fn install(cpu: &mut Cpu<Global>) -> Result<(), NoMemory> {
     'pages: for place in 0..10u64 {
         cpu.install(page_at(place), place as u32, READ_WRITE)?;
@@ -37,8 +38,8 @@ fn install(cpu: &mut Cpu<Global>) -> Result<(), NoMemory> {
     Ok(())
 }
 
-/// The nanoseconds of so many clears, each after the ten entries were set again, which isn't counted; none where memory is
-/// refused.
+/// The nanoseconds of so many clears, each after the ten entries were set again, which isn't
+/// counted; none where memory is refused.
 pub fn time(rt: &impl Clock, alloc: Global, rounds: u64) -> io::Result<Option<u128>> {
     let mut cpu = match Cpu::new(alloc) {
         Err(_) => return Ok(None),

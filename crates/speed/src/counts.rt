@@ -90,7 +90,8 @@ fn count(counts: &mut Counts, rounds: u64) -> u64 {
     counted
 }
 
-/// Counts objects up and down, flushes them and reviews them two epochs later, many times; how many rounds freed one.
+/// Counts objects up and down, flushes them and reviews them two epochs later, many times; how many
+/// rounds freed one.
 fn flush(counts: &mut Counts, rounds: u64) -> u64 {
     let mut object = 0u64;
     let mut freed = 0u64;
@@ -107,7 +108,8 @@ fn flush(counts: &mut Counts, rounds: u64) -> u64 {
     freed
 }
 
-/// The nanoseconds of so many objects counted up and down; none where memory is refused or a round did nothing.
+/// The nanoseconds of so many objects counted up and down; none where memory is refused or a round
+/// did nothing.
 pub fn time_counts(rt: &impl Clock, alloc: Global, rounds: u64) -> io::Result<Option<u128>> {
     let mut counts = match Counts::new(alloc) {
         Err(_) => return Ok(None),
@@ -122,8 +124,8 @@ pub fn time_counts(rt: &impl Clock, alloc: Global, rounds: u64) -> io::Result<Op
     Ok(None)
 }
 
-/// The nanoseconds of so many objects counted up and down, flushed and reviewed; none where memory is refused or a round
-/// freed nothing.
+/// The nanoseconds of so many objects counted up and down, flushed and reviewed; none where memory
+/// is refused or a round freed nothing.
 pub fn time_flushes(rt: &impl Clock, alloc: Global, rounds: u64) -> io::Result<Option<u128>> {
     let mut counts = match Counts::new(alloc) {
         Err(_) => return Ok(None),

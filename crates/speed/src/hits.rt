@@ -74,8 +74,8 @@ fn loads(cpu: &mut Cpu<Global>, order: Order, rounds: u64) -> (u64, u64) {
     (hits, sum)
 }
 
-/// Many loads of 65 pages in turn, so that each page went from the TLB before it is loaded again; how many of them filled the
-/// TLB, and the sum of their frames.
+/// Many loads of 65 pages in turn, so that each page went from the TLB before it is loaded again;
+/// how many of them filled the TLB, and the sum of their frames.
 fn misses(cpu: &mut Cpu<Global>, rounds: u64) -> (u64, u64) {
     let mut place = 63;
     let mut fills = 0u64;

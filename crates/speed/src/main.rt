@@ -1,5 +1,6 @@
-// How long the parts take: with one of the words below, nanoseconds a round; with no word each part runs with little to do.
-// bench/pieces.sh says what the parts are, and compares them with plain Rust; bench/threads.sh compares threads with one.
+// How long the parts take: with one of the words below, nanoseconds a round; with no word each part
+// runs with little to do. bench/pieces.sh says what the parts are, and compares them with plain
+// Rust; bench/threads.sh compares threads with one.
 #![tactic(auto)]
 
 ghost use Rattle.std.specs.Prelude.{◌<◌, ◌≤◌, ◌^◌};
@@ -9,6 +10,7 @@ mod clears;
 mod counts;
 mod hits;
 mod ranges;
+mod room;
 mod slots;
 mod threads;
 mod tree;
@@ -21,7 +23,8 @@ use std::sync::Wait;
 use std::thread::Threads;
 use std::{env, io};
 
-/// Shows how long one round took, in nanoseconds with one decimal, or that there was no memory or no such part.
+/// Shows how long one round took, in nanoseconds with one decimal, or that there was no memory or
+/// no such part.
 fn show(rt: &impl Print, nanos: Option<u128>, rounds: u64) -> io::Result<()>
     requires { 0 < rounds }
 {
@@ -45,12 +48,14 @@ fn tell(rt: &impl Print, nanos: Option<u128>) -> io::Result<()> {
 }
 
 /// The words of the parts.
-const WORDS: [&str; 23] = [
+const WORDS: [&str; 25] = [
     "slots",
     "look",
     "tree",
     "scan",
     "edit",
+    "room",
+    "gaps",
     "hit",
     "oldest",
     "newest",
@@ -79,6 +84,8 @@ fn rounds_of(word: &str) -> u64
         "clear" => 20_000,
         "scan" => 5_000,
         "edit" => 2_000,
+        "room" => 1_000_000,
+        "gaps" => 1_000,
         "hit" | "oldest" | "newest" => 50_000_000,
         "byte" | "count" => 20_000_000,
         "look" => 10_000_000,
@@ -88,8 +95,8 @@ fn rounds_of(word: &str) -> u64
     }
 }
 
-/// The nanoseconds of so many rounds of the part, over so many mapped pages where it has a map; none where memory is
-/// refused, or there is no such part.
+/// The nanoseconds of so many rounds of the part, over so many mapped pages where it has a map;
+/// none where memory is refused, or there is no such part.
 fn time<R: Threads + Wait + Clock + Sync>(
     rt: &R,
     alloc: Global,
@@ -98,7 +105,7 @@ fn time<R: Threads + Wait + Clock + Sync>(
     rounds: u64,
 ) -> io::Result<Option<u128>>
     requires some { 4096 < pages }
-    requires few { pages ≤ 2 ^ 20 }
+    requires few { pages ≤ 2 ^ 19 }
 {
     match word {
         "slots" => slots::time(rt, alloc, pages, rounds),
@@ -106,6 +113,8 @@ fn time<R: Threads + Wait + Clock + Sync>(
         "tree" => tree::time_changes(rt, alloc, pages, rounds),
         "scan" => ranges::time_scans(rt, alloc, pages, rounds),
         "edit" => ranges::time_edits(rt, alloc, pages, rounds),
+        "room" => room::time_mapping(rt, alloc, pages, rounds),
+        "gaps" => room::time_gaps(rt, alloc, pages, rounds),
         "hit" => hits::time(rt, alloc, Order::Anywhere, rounds),
         "oldest" => hits::time(rt, alloc, Order::Oldest, rounds),
         "newest" => hits::time(rt, alloc, Order::Newest, rounds),

@@ -1,4 +1,5 @@
-//! Ranges of a radix tree's single pages: looked through for free pages and for cores, and mapped and unmapped.
+//! Ranges of a radix tree's single pages: looked through for free pages and for cores, and mapped
+//! and unmapped.
 ghost use Rattle.std.specs.Prelude.{◌≡◌, ◌+◌, ◌<◌, ◌≤◌, ◌^◌, IfOk, IsTrue, Some};
 ghost use Rattle.vm_base.specs.Pages.{IsPage, IsPageRange, pages_from};
 ghost use Rattle.slot_lock.specs.Slots.{IsHeld};
@@ -99,7 +100,7 @@ fn holds(map: &RadixMap<Global>, core: CoreId, page: u64) -> bool
 }
 
 /// Tells whether the core holds the range's pages, and no slot crosses an edge of it.
-fn is_held(map: &RadixMap<Global>, core: CoreId, range: PageRange) -> bool
+pub fn is_held(map: &RadixMap<Global>, core: CoreId, range: PageRange) -> bool
     requires pages { IsPageRange range }
     requires below { range.end < 2 ^ 35 }
     ensures held { IsTrue result → IsHeld (⟦<RadixMap<Global> as SlotRead>⟧.slots map.now) core range }
@@ -118,7 +119,7 @@ fn is_held(map: &RadixMap<Global>, core: CoreId, range: PageRange) -> bool
 }
 
 /// Maps the range anew.
-fn put<M: SlotMap>(map: &mut M, core: CoreId, range: PageRange)
+pub fn put<M: SlotMap>(map: &mut M, core: CoreId, range: PageRange)
     requires held { IsHeld (M.slots map.old) core range }
     ensures held { IsHeld (M.slots map.new) core range }
 {
@@ -143,7 +144,8 @@ fn edits<M: SlotMap>(map: &mut M, core: CoreId, range: PageRange, rounds: u64)
     }
 }
 
-/// The nanoseconds of so many rounds over one range; none where memory is refused or the range isn't held.
+/// The nanoseconds of so many rounds over one range; none where memory is refused or the range
+/// isn't held.
 pub fn time_edits(
     rt: &impl Clock,
     alloc: Global,

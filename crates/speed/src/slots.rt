@@ -136,7 +136,8 @@ fn passes<M: SlotMap>(map: &mut M, core: CoreId, pages: u64, rounds: u64) -> u64
     locked
 }
 
-/// The nanoseconds of so many passes over so many mapped pages; none where memory is refused or a pass locked nothing.
+/// The nanoseconds of so many passes over so many mapped pages; none where memory is refused or a
+/// pass locked nothing.
 pub fn time(rt: &impl Clock, alloc: Global, pages: u64, rounds: u64) -> io::Result<Option<u128>>
     requires some { 0 < pages }
     requires few { pages ≤ 2 ^ 20 }

@@ -1,5 +1,6 @@
-//! One page of the tree that threads share locked, read and unlocked, by one thread and by four on pages of different nodes;
-//! the same with a ticket for each of the two steps, and beside it over one mutex, and over a mutex of each thread's own.
+//! One page of the tree that threads share locked, read and unlocked, by one thread and by four on
+//! pages of different nodes; the same with a ticket for each of the two steps, and beside it over
+//! one mutex, and over a mutex of each thread's own.
 ghost use Rattle.std.specs.Prelude.{◌≡◌, ◌+◌, ◌<◌, ◌≤◌, ◌^◌, [], All, length};
 ghost use Rattle.live_tree.specs.Held.{HeldView};
 
@@ -45,7 +46,8 @@ impl<'a> Model for Drawer<'a> {
 
     ghost view = { λ d. d.drawn };
 
-    ghost invariant = { λ d. (d.ticketer.word ≡ d.tickets.now) × (length d.ticketer.tickets ≤ d.drawn) };
+    ghost invariant = { λ d. (d.ticketer.word ≡ d.tickets.now)
+        × (length d.ticketer.tickets ≤ d.drawn) };
 }
 
 impl<'a> Drawer<'a> {
@@ -92,7 +94,8 @@ impl<'a> Stepper for Counter<'a> {
     }
 }
 
-/// What one thread locks, with what it draws tickets, and how long its rounds took, where each locked it.
+/// What one thread locks, with what it draws tickets, and how long its rounds took, where each
+/// locked it.
 #[derive(Drop)]
 struct Lane<'a> {
     number: u8,
@@ -238,8 +241,8 @@ fn lanes_of<'a>(
     Ok(lanes)
 }
 
-/// The nanoseconds that the slowest of so many threads took for so many rounds of its own; none where memory is refused or a
-/// round locked nothing.
+/// The nanoseconds that the slowest of so many threads took for so many rounds of its own; none
+/// where memory is refused or a round locked nothing.
 pub fn time<R: Threads + Wait + Clock + Sync>(
     rt: &R,
     alloc: Global,

@@ -115,7 +115,8 @@ fn changes<M: SlotMap>(map: &mut M, core: CoreId, pages: u64, rounds: u64) -> u6
     locked
 }
 
-/// The nanoseconds of so many look-ups among so many mapped pages; none where memory is refused or a page isn't found.
+/// The nanoseconds of so many look-ups among so many mapped pages; none where memory is refused or
+/// a page isn't found.
 pub fn time_look_ups(
     rt: &impl Clock,
     alloc: Global,

@@ -1,4 +1,5 @@
--- The ticket word as plain data: what each ticketer has drawn, and how many others it may still split off.
+-- The ticket word as plain data: what each ticketer has drawn, and how many others it may still
+-- split off.
 use Rattle.std.specs.Prelude.{◌≡◌, ℕ, ◌+◌, ◌^◌, ◌<◌, ◌≤◌, ltb, ◌==◌, sum_by, count_by, List, [], ◌∷◌, ◌++◌, length, slice_index, cond, All}
 use mathlib.Core.Option.{some}
 use lib.ListN.{get_elem?}
@@ -27,11 +28,14 @@ drawn ts n = record { tickets = ts; spare = n }
 pub record Dealt (s : State (Unit {0}) Drawn) : Type 0 where
   -- there is one word
   pub one_word : length s.words ≡ 1
-  -- each number below the word is a ticket of exactly one ticketer, once, and none has any other ticket
-  pub each_once : (x : ℕ) → sum_by (λ v. times x v.tickets) s.views ≡ once_below x (slice_index s.words 0)
+  -- each number below the word is a ticket of exactly one ticketer, once, and none has any other
+  -- ticket
+  pub each_once : (x : ℕ)
+      → sum_by (λ v. times x v.tickets) s.views ≡ once_below x (slice_index s.words 0)
   pub counted : sum_by (λ v. length v.tickets) s.views ≡ slice_index s.words 0
   -- none has a ticket at or above the word
-  pub below : (seat : ℕ) (v : Drawn) → get_elem? s.views seat ≡ some v → All (λ t. t < slice_index s.words 0) v.tickets
+  pub below : (seat : ℕ) (v : Drawn) → get_elem? s.views seat ≡ some v
+      → All (λ t. t < slice_index s.words 0) v.tickets
   -- each drew its tickets in rising order
   pub rising : (seat : ℕ) (v : Drawn) → get_elem? s.views seat ≡ some v → Rises v.tickets
   -- the ticketers and all that they may still split off are at most 64
@@ -39,9 +43,11 @@ pub record Dealt (s : State (Unit {0}) Drawn) : Type 0 where
   -- none has more than 2^32 tickets
   pub short : (seat : ℕ) (v : Drawn) → get_elem? s.views seat ≡ some v → length v.tickets ≤ 2 ^ 32
 
--- the next ticket is the number found, which is above all that were drawn before through the same ticketer
+-- the next ticket is the number found, which is above all that were drawn before through the same
+-- ticketer
 abbrev pub Draws : Step (Unit {0}) → Me (Unit {0}) Drawn → ℕ → Me (Unit {0}) Drawn → Type 0
-Draws st v n w = (w ≡ (drawn (v.0.tickets ++ n ∷ []) v.0.spare, v.1)) × All (λ t. t < n) v.0.tickets × (n < 2 ^ 39)
+Draws st v n w = (w ≡ (drawn (v.0.tickets ++ n ∷ []) v.0.spare, v.1)) × All (λ t. t < n) v.0.tickets
+    × (n < 2 ^ 39)
 
 -- ---- what clauses see of a ticketer
 
@@ -55,7 +61,8 @@ pub record TicketerView : Type 0 where
 abbrev pub IsNew : TableId → ℕ → TicketerView → Type 0
 IsNew word spare t = (t.word ≡ word) × (t.tickets ≡ []) × (t.spare ≡ spare)
 
--- at the end: the word is n, and the rule holds of it and of all views, that of this ticketer among them
+-- at the end: the word is n, and the rule holds of it and of all views, that of this ticketer among
+-- them
 pub record Closed (n : ℕ) (t : TicketerView) : Type 0 where
   pub state : State (Unit {0}) Drawn
   pub dealt : Dealt state

@@ -7,15 +7,15 @@ use std::alloc::{AllocError, Allocator};
 use std::collections::LinkedList;
 use std::marker::Model;
 
-/// What a ticketer knows: the tickets that it drew, in order, and how many others it may still split off. No value of it
-/// is made.
+/// What a ticketer knows: the tickets that it drew, in order, and how many others it may still
+/// split off. No value of it is made.
 pub struct Drawn {
     pub tickets: LinkedList<u64>,
     pub spare: u64,
 }
 
-/// The rule of the word, which holds between any two steps: each number below the word was drawn by exactly one
-/// ticketer, once, and no other number was.
+/// The rule of the word, which holds between any two steps: each number below the word was drawn by
+/// exactly one ticketer, once, and no other number was.
 pub struct Once;
 
 impl TableRule<(), Drawn, ()> for Once {
@@ -48,8 +48,8 @@ impl Split<Drawn> for SplitOff {
     ghost right = { λ _. drawn [] 0 };
 }
 
-/// The right to draw tickets from one word. It has no bytes. A clause sees the word, the tickets drawn so far in order,
-/// and how many ticketers it may still split off.
+/// The right to draw tickets from one word. It has no bytes. A clause sees the word, the tickets
+/// drawn so far in order, and how many ticketers it may still split off.
 #[derive(Drop)]
 pub struct Ticketer {
     seat: Seat<(), Drawn>,
@@ -61,13 +61,17 @@ impl Model for Ticketer {
 
     ghost Value = { TicketerView };
 
-    ghost view = { λ t. record { word = t.seat.table_id; tickets = t.seat.me.0.tickets; spare = t.seat.me.0.spare } };
+    ghost view = { λ t. record {
+      word = t.seat.table_id;
+      tickets = t.seat.me.0.tickets;
+      spare = t.seat.me.0.spare;
+    } };
 
     ghost invariant = { λ t. t.seat.me.1 ≡ [] };
 }
 
-/// The word from which all tickets of a space are drawn. It is no lock: a draw is one atomic addition. A clause sees which
-/// word it is, and no number, since other threads draw at any time.
+/// The word from which all tickets of a space are drawn. It is no lock: a draw is one atomic
+/// addition. A clause sees which word it is, and no number, since other threads draw at any time.
 #[derive(Drop)]
 pub struct Tickets<A: Allocator> {
     table: Table<(), Drawn, (), Once, A>,
@@ -83,7 +87,8 @@ impl<A: Allocator> Model for Tickets<A> {
 
     ghost view = { λ t. t.table.shared.table_id };
 
-    ghost invariant = { λ t. (t.table.shared.table_id.words ≡ 1) × (t.table.shared.table_id.slots ≡ 0) };
+    ghost invariant = { λ t. (t.table.shared.table_id.words ≡ 1)
+        × (t.table.shared.table_id.slots ≡ 0) };
 }
 
 impl<A: Allocator> Tickets<A> {
@@ -95,12 +100,14 @@ impl<A: Allocator> Tickets<A> {
         Ok((Tickets { table }, Ticketer { seat }))
     }
 
-    /// Draws the next ticket. No other draw of any thread gives the same one, and it is above all that this ticketer drew
-    /// before. It stays below 2^39, since there are at most 64 ticketers, each with at most 2^32 tickets.
+    /// Draws the next ticket. No other draw of any thread gives the same one, and it is above all
+    /// that this ticketer drew before. It stays below 2^39, since there are at most 64 ticketers,
+    /// each with at most 2^32 tickets.
     pub fn draw(&self, ticketer: &mut Ticketer) -> u64
         requires here { ticketer.old.word ≡ self.now }
         requires room { length ticketer.old.tickets < 2 ^ 32 }
-        ensures drawn { ticketer.new ≡ record ticketer.old { tickets = ticketer.old.tickets ++ result ∷ [] } }
+        ensures drawn { ticketer.new
+            ≡ record ticketer.old { tickets = ticketer.old.tickets ++ result ∷ [] } }
         ensures later { All (λ t. t < result) ticketer.old.tickets }
         ensures small { result < 2 ^ 39 }
     {
@@ -120,8 +127,8 @@ impl<A: Allocator> Tickets<A> {
         Ticketer { seat }
     }
 
-    /// How many tickets were drawn in all. Between any two steps, and so now, the rule holds, of this ticketer among
-    /// others.
+    /// How many tickets were drawn in all. Between any two steps, and so now, the rule holds, of
+    /// this ticketer among others.
     pub fn close(self, ticketer: Ticketer) -> u64
         requires here { ticketer.word ≡ self }
         ensures { Closed result ticketer }

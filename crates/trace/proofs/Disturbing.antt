@@ -63,7 +63,7 @@ gives_up w s core m = go s.waiting m.waiting
         its true i =
             let same : core ≡ o.core = eq_true core o.core i in
             elim (waits_at (w.calls.phase o.core) z.waiting.range z.waiting.at_wait) [
-              | for_change change held is r ↦ inr (inl (ap (λ c. can_give_up (w.calls.phase c)) same ∙ ap can_give_up is))
+              | for_change goal change is r ↦ inr (inl (ap (λ c. can_give_up (w.calls.phase c)) same ∙ ap can_give_up is))
               | for_copy touch frame is r ↦
                   let call : IsCallOf w o.core (CopyAcks touch frame) =
                   call_at w o.core (CopyAcks touch frame) is (reached_fine w m.reached).order in

@@ -1,5 +1,5 @@
 -- The lines of a trace make one run.
-use Rattle.std.proofs.Common.{◌≡◌, ℕ, zero, suc, List, [], ◌∷◌, ◌++◌, Option, None, Some, refl, sym, ap, subst, append_assoc, append-nil}
+use Rattle.std.proofs.Common.{◌≡◌, ℕ, zero, suc, ◌≤◌, List, [], ◌∷◌, ◌++◌, Option, None, Some, refl, sym, ap, subst, append_assoc, append-nil}
 use Rattle.std.specs.Prelude.{replicate, IsSomeAnd}
 use Rattle.vm_base.specs.declared.requests.Request.{Request}
 use Rattle.slot_lock.specs.Slots.{Slots, IsNew}
@@ -23,6 +23,7 @@ use Rattle.trace.specs.OutcomeText.{finished_text}
 use Rattle.trace.specs.Gives.{Gives, GoesOn, TellsFinish}
 use Rattle.trace.specs.Stage.{Stage, Start, Declared, Running, Opens, LineActs, EventActs}
 use Rattle.trace.specs.Runs.{Runs}
+use Rattle.trace.proofs.Opening.{few_cores}
 use Rattle.trace.specs.EventRuns.{AsksFinish, Asks, AllAsk, IsRun}
 
 -- ---- runs one after another
@@ -126,6 +127,7 @@ moved (Now core request) w v text h = called core request h.0 w h.1 v text h.2 h
 pub record HasRun (w : World) (es : List Event) (os : List Outcome) : Type 0 where
   pub asked : Asked
   pub slots : Slots
+  pub few : asked.cores ≤ 64
   pub new : IsNew slots
   pub run : Run (new_world (made_by asked) slots) es os w
 
@@ -140,6 +142,7 @@ opened Start w es os r o = absurd o
 opened (Declared s) w es os r o = record {
   asked = s;
   slots = o.1.0;
+  few = few_cores s o.0;
   new = o.1.1;
   run = subst (λ es. Run (new_world (made_by s) o.1.0) es os w) (sym r.0) (subst (λ os. Run (new_world (made_by s) o.1.0) [] os w) (sym r.1) o.1.2);
 }
@@ -174,6 +177,7 @@ event_next line old new es os text r (w, v, opens, gives, is) =
           (record {
             asked = h.asked;
             slots = h.slots;
+            few = h.few;
             new = h.new;
             run = run_then es m.events os m.outcomes (new_world (made_by h.asked) h.slots) w v h.run m.run;
           });
@@ -268,6 +272,6 @@ traces_are_runs lines text w r =
       outcomes = a.outcomes;
       asks = a.asks;
       run = h.run;
-      sound = runs_sound (made_by h.asked) h.slots a.events a.outcomes w h.new h.run;
-      brackets = bracketed (made_by h.asked) h.slots a.events a.outcomes w h.new h.run;
+      sound = runs_sound (made_by h.asked) h.slots a.events a.outcomes w h.few h.new h.run;
+      brackets = bracketed (made_by h.asked) h.slots a.events a.outcomes w h.few h.new h.run;
     }

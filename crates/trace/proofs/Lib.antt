@@ -1,3 +1,5 @@
+pub mod ShownLemmas
+pub mod MapsLemmas
 pub mod RunLemmas
 pub mod TextLemmas
 pub mod TurnLemmas

@@ -5,7 +5,7 @@ use Rattle.machine_model.specs.declared.event.Event.TheVariants.{Go}
 use Rattle.machine_model.specs.declared.event.Outcome.{Outcome}
 use Rattle.machine_model.specs.World.{World}
 use Rattle.machine_model.specs.Step.{with_event, Step}
-use Rattle.machine_laws.proofs.Shapes.{GoesBy, moves, divides, owns, lets_go, answers, posts, commits, takes, zeroes, first_copies, caches, shares, posts_copy, copies, installs, accesses, faults, Works, clears, invalidates, walks, evicts, flushes, reviews, frees, Shape, rests, begins, ends, goes, gives_up, works, joins, Comes, stopped, acts, comes}
+use Rattle.machine_laws.proofs.Shapes.{GoesBy, moves, divides, cuts, fits, owns, lets_go, answers, posts, commits, takes, zeroes, first_copies, caches, shares, posts_copy, copies, installs, accesses, faults, Works, clears, invalidates, walks, evicts, flushes, reviews, frees, Shape, rests, begins, ends, goes, aims, gives_up, works, joins, Comes, stopped, acts, comes}
 
 -- what the machine was made with, how many events were counted, and the requests of the calls begun
 abbrev IsKept : World → World → Type 0
@@ -17,11 +17,13 @@ kept w v x e k = subst (IsKept w) (sym e) k
 goes_kept : (w : World) (c : ℕ) (v : World) → GoesBy w c v → IsKept w v
 goes_kept w c v (moves new m h) = kept w v _ h (refl, refl, refl)
 goes_kept w c v (divides goal cursor t e s h) = kept w v _ h (refl, refl, refl)
+goes_kept w c v (cuts place target range t e k h) = kept w v _ h (refl, refl, refl)
+goes_kept w c v (fits place target range e k h) = kept w v _ h (refl, refl, refl)
 goes_kept w c v (owns goal cursor b t e l h) = kept w v _ h (refl, refl, refl)
 goes_kept w c v (lets_go held b t new l u h) = kept w v _ h (refl, refl, refl)
 goes_kept w c v (answers held reply r h) = kept w v _ h (refl, refl, refl)
 goes_kept w c v (posts change shoot e h) = kept w v _ h (refl, refl, refl)
-goes_kept w c v (commits change held counts e a l h) = kept w v _ h (refl, refl, refl)
+goes_kept w c v (commits goal change counts e a l h) = kept w v _ h (refl, refl, refl)
 goes_kept w c v (takes touch old f e l h) = kept w v _ h (refl, refl, refl)
 goes_kept w c v (zeroes touch f counts e b t h) = kept w v _ h (refl, refl, refl)
 goes_kept w c v (first_copies touch f counts e b t h) = kept w v _ h (refl, refl, refl)
@@ -47,6 +49,7 @@ shape_kept w e o v (rests r h) = (ap (λ (v : World). v.made) h, ap (λ (v : Wor
 shape_kept w e o v (begins c request i s lt p below h) = (ap (λ (v : World). v.made) h, ap (λ (v : World). v.calls.events) h)
 shape_kept w e o v (ends c reply i s lt p h) = (ap (λ (v : World). v.made) h, ap (λ (v : World). v.calls.events) h)
 shape_kept w e o v (goes c i s lt g) = let k = goes_kept w c v g in (k.0, k.1)
+shape_kept w e o v (aims c place target a i lt p h) = (ap (λ (v : World). v.made) h, ap (λ (v : World). v.calls.events) h)
 shape_kept w e o v (gives_up c i s lt k u h) = (ap (λ (v : World). v.made) h, ap (λ (v : World). v.calls.events) h)
 shape_kept w e o v (works c s lt k) = let z = works_kept w c e v k in (z.0, z.1)
 shape_kept w e o v (joins p t i s k j m h) = (ap (λ (v : World). v.made) h, ap (λ (v : World). v.calls.events) h)
@@ -71,6 +74,7 @@ shape_requests w c o v (rests r h) = ap (λ (v : World). v.calls.requests) h
 shape_requests w c o v (begins d request i s lt p below h) = absurd cc
 shape_requests w c o v (ends d reply i s lt p h) = ap (λ (v : World). v.calls.requests) h
 shape_requests w c o v (goes d i s lt g) = (goes_kept w d v g).2
+shape_requests w c o v (aims d place target a i lt p h) = ap (λ (v : World). v.calls.requests) h
 shape_requests w c o v (gives_up d i s lt k u h) = absurd cc
 shape_requests w c o v (works d s lt k) = (works_kept w d (Go c) v k).2
 shape_requests w c o v (joins p t i s k j m h) = absurd cc

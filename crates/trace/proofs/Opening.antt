@@ -1,11 +1,12 @@
 -- The files that the lines of a trace open, one after another.
-use Rattle.std.proofs.Common.{◌≡◌, ◌≢◌, ℕ, zero, suc, ◌+◌, ◌<◌, Bool, true, false, List, [], ◌∷◌, ◌++◌, Some, None, refl, sym, ap, ◌∙◌, arith, length, length-append, slice_get}
+use Rattle.std.proofs.Common.{◌≡◌, ◌≢◌, ℕ, zero, suc, ◌+◌, ◌<◌, ◌≤◌, Bool, true, false, List, [], ◌∷◌, ◌++◌, Option, Some, None, refl, sym, ap, ◌∙◌, arith, length, length-append, slice_get}
 use Rattle.std.specs.Prelude.{◌==◌, ◌&&◌, ◌||◌, ◌^◌, nat_lt, if◌then◌else◌}
 use Rattle.std.proofs.Math.Path.{fun_ext}
 use Rattle.std.proofs.lemmas.Bool.Decides.{nat_tests}
 use Rattle.vm_base.specs.Functions.{put}
 use Rattle.vm_base.specs.Plain.{nothing_mapped}
 use Rattle.vm_base.proofs.Functions.{eq_true, put_all}
+use Rattle.core_steps.specs.declared.setup.SetupFault.{SetupFault}
 use Rattle.core_steps.specs.declared.setup.SetupFault.TheVariants.{Cores, Frames, TooManyFiles, FileTooLong, Calls}
 use Rattle.trace.specs.declared.declaration.FileLine.{FileLine}
 use Rattle.trace.specs.Declarations.{Asked, asks_for, asked_fault, file_at, file_of, has_long, is_next, with_file}
@@ -84,3 +85,11 @@ few_files a none = go (nat_lt a.cores 1 || nat_lt 64 a.cores) (nat_lt 65536 a.fr
     go false true z e h = absurd cc
     go false false true e h = absurd cc
     go false false false e h = grind (arith, nat_tests)
+
+-- nor too many cores
+pub few_cores : (a : Asked) → asked_fault a ≡ None → a.cores ≤ 64
+few_cores a none = grind (arith, nat_tests, not_many (nat_lt a.cores 1 || nat_lt 64 a.cores) _ none)
+  where
+    not_many : (b : Bool) (rest : Option SetupFault) → (if b then Some Cores else rest) ≡ None → b ≡ false
+    not_many true rest h = absurd cc
+    not_many false rest h = refl

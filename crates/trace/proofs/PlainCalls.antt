@@ -27,6 +27,7 @@ use Rattle.machine_sound.specs.Sound.{IsDue, IsReached}
 use Rattle.machine_sound.proofs.Kept.{reached_fine, reached_step}
 use Rattle.machine_alone.specs.Alone.{ComesBeside, IsAwaiting, IsBeside, IsBesideCalls, IsCalm, IsResting, IsServed, IsServedAlone, IsServedAtLast, IsWaiting, KeepsOthers, KeepsTakes, LeadsTo, left_to, takes_left, users_dropped}
 use Rattle.machine_alone.specs.Copies.{page_copied, with_copy}
+use Rattle.machine_alone.specs.First.{FirstAnswers, is_placed}
 use Rattle.machine_alone.specs.Taken.{frames_for, frames_taken, is_access}
 use Rattle.machine_alone.proofs.Taking.{all_taken, no_frame_access}
 use Rattle.machine_alone.specs.Users.{Users, Same, recorded, users_after, with_user, without}
@@ -45,6 +46,7 @@ use Rattle.trace.proofs.Limits.{step_made, step_grows, go_requests}
 
 pub record IsOpen (w : World) (s : Reached) (o : Open) : Type 0 where
   pub waiting : IsWaiting w s.plain o.core o.request
+  pub named : is_placed o.request ≡ false
   pub takes : (d : ℕ) → left_to w d ≡ o.takes d
   pub there : (d : ℕ) → 0 < o.takes d → nat_lt d w.made.cores ≡ true
 
@@ -126,6 +128,7 @@ meets_beside w v s m r b k = meets_with w v s s.waiting m r b (go s.waiting m.wa
     go None calm = λ c. ap (λ f. f c) b.phases ∙ calm c
     go (Some o) z = record {
       waiting = still_waiting w v s.plain o.core o.request z.waiting r b;
+      named = z.named;
       takes = λ d. k d ∙ z.takes d;
       there = λ d l. ap (λ (m : Made). nat_lt d m.cores) b.made ∙ z.there d l;
     }
@@ -155,6 +158,7 @@ pub meets_taken : (w v : World) (s : Reached) (o : Open) (c : ℕ) → Meets w s
 meets_taken w v s o c m z r b k =
     meets_with w v s (Some (record o { takes = put o.takes c (pred (o.takes c)) })) m r b (record {
       waiting = still_waiting w v s.plain o.core o.request z.waiting r b;
+      named = z.named;
       takes = λ d. k d ∙ put_both (λ d x y. x ≡ y) (left_to w) o.takes c (pred (left_to w c)) (pred (o.takes c)) (ap pred (z.takes c)) (λ j ne. z.takes j) d;
       there = λ d l. ap (λ (m : Made). nat_lt d m.cores) b.made ∙
           put_all (λ d n. 0 < n → nat_lt d w.made.cores ≡ true) o.takes c (pred (o.takes c)) (λ l. z.there c (above_pred (o.takes c) l))
@@ -219,15 +223,16 @@ no_give_up core e = absurd cc
 -- what a served call leaves; b is what was begun before
 served : (w v : World) (s : Reached) (core : ℕ) (request : Request) (o : Outcome) (text : List ℕ) → s.cores ≡ w.made.cores → s.calls ≡ w.made.calls
     → recorded w.slots ≡ s.users → v.made ≡ w.made → s.begun ≡ length v.calls.requests → s.frames ≡ w.made.frames → frames_taken v ≤ s.accesses
-    → (k : IsServed w s.plain core request o v) → (k.reply ≡ NoFrame → s.frames < s.accesses) → text ≡ outcome_text o
+    → (k : IsServed w s.plain core request o v) → FirstAnswers s.plain core request k.reply k.after → (k.reply ≡ NoFrame → s.frames < s.accesses)
+    → text ≡ outcome_text o
     → IsNext v (λ r. IsAnswered s core request k.reply r text)
-served w v s core request o text cores calls users made begun frames most k framed t =
+served w v s core request o text cores calls users made begun frames most k first framed t =
     let due = k.due 0 0 in
     record {
       next = record s { plain = k.after; users = users_after s.plain core request k.reply s.users; waiting = None };
       answers = record {
         after = k.after;
-        replies = k.stands;
+        replies = first;
         given = λ e. no_give_up core (subst (λ r. IsDue (Ev.Go core) w.memory.is_free (Answer 0 0 core r)) e due);
         framed = framed;
         next = refl;
@@ -275,7 +280,7 @@ held_up w x v s core request o text cores calls users made begun frames most rea
       answers = record {
         reply = a.reply;
         after = a.after;
-        replies = a.stands;
+        replies = a.first;
         set = a.set;
         some = a.some;
         exact = λ d. (λ m. dropped d ((a.exact d).0 m), λ h. (a.exact d).1 (uses d h));
@@ -294,6 +299,7 @@ held_up w x v s core request o text cores calls users made begun frames most rea
         waiting = record {
           waiting = still_waiting x (with_event x) s.plain core request a.waiting (subst IsReached a.stays reached)
               (record { made = refl; phases = refl; numbers = refl; requests = refl; log = refl; users = λ p d. refl; frames = least (frames_taken x) });
+          named = a.named;
           takes = a.takes;
           there = λ d l. ap (λ (m : Made). nat_lt d m.cores) made ∙ a.there d ((a.exact d).0 (member d l)).1;
         };
@@ -352,7 +358,8 @@ call_ends w begun core n request (Last o) v s text m calm call made asked below 
           let most = d.0.frames in
           let before = m.taken in
           let z = served w v (one_more s request) core request o text m.cores m.calls m.users (step_made x (Ev.Go core) o v h.2.2 ∙ (k.0 ∙ made))
-          (counted v.calls.requests (go_requests x core o v h.2.2 ∙ (k.1 ∙ asked))) m.frames (omega (arith, most, before)) d.0 (λ e. framed o d.0 e) t in
+          (counted v.calls.requests (go_requests x core o v h.2.2 ∙ (k.1 ∙ asked))) m.frames (omega (arith, most, before)) d.0 d.2
+          (λ e. framed o d.0 e) t in
           record {
             next = z.next;
             answers = inl (
@@ -410,7 +417,7 @@ open_ends w n (Last outcome) v s o text m z below h t =
           let before = m.taken in
           let y = served w v s o.core o.request outcome text m.cores m.calls m.users (step_made x (Ev.Go o.core) outcome v h.2.2 ∙ k.0)
           (m.begun ∙ ap length (sym (go_requests x o.core outcome v h.2.2 ∙ k.1))) m.frames (omega (arith, most, before)) d.served
-          (λ e. absurd (d.framed e)) t in
+          (d.first z.named) (λ e. absurd (d.framed e)) t in
           record { next = y.next; answers = inl (d.served.reply, y.answers, d.framed, λ e. sym (z.takes e) ∙ d.nobody e); meets = y.meets }
       | inr a ↦ record {
         next = s;

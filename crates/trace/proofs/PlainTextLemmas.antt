@@ -37,7 +37,7 @@ use Rattle.trace.specs.Runs.{Runs}
 use Rattle.trace.specs.PlainText.{Open, Reached, nothing_reached, one_more, AnswersAtOnce, IsHeldUp, NowAnswers, FinishAnswers, OpenAnswers, Idles, TakeAnswers, ActAnswers, MayStep, LineAnswers, Disturbs, AllAnswer, takes_apart, AreWhole, with_opened}
 use Rattle.trace.proofs.Disturbing.{gives_up}
 use Rattle.trace.proofs.Limits.{step_grows}
-use Rattle.trace.proofs.Opening.{IsDeclared, declared_so, declares_file, declares_space, few_files}
+use Rattle.trace.proofs.Opening.{IsDeclared, declared_so, declares_file, declares_space, few_cores, few_files}
 use Rattle.trace.proofs.PlainCalls.{Meets, MeetsOpen, IsNext, beside, calm_left, call_ends, finish_free, meets_beside, meets_event, meets_taken, open_ends, steps_kept}
 
 -- ---- a line of one event
@@ -115,6 +115,10 @@ acts w v s core By.Flush o text a m below k t =
     let z = beside w v s (Ev.Flush core) o m tt below k in inr (may_step w v s o text m z.0 z.2.0 t (meets_beside w v s m z.0 z.1 z.2.1))
 acts w v s core By.Review o text a m below k t =
     let z = beside w v s (Ev.Review core) o m tt below k in inr (may_step w v s o text m z.0 z.2.0 t (meets_beside w v s m z.0 z.1 z.2.1))
+acts w v s core (By.Guess p) o text a m below k t =
+    let z = beside w v s (Ev.Guess core p) o m tt below k in inr (idle v s o text z.2.0 t (meets_beside w v s m z.0 z.1 z.2.1))
+acts w v s core By.Whole o text a m below k t =
+    let z = beside w v s (Ev.Whole core) o m tt below k in inr (idle v s o text z.2.0 t (meets_beside w v s m z.0 z.1 z.2.1))
 acts w v s core (By.Walk p) o text a m below k t =
     let z = beside w v s (Ev.Walk core p) o m tt below k in inr (may_step w v s o text m z.0 z.2.0 t (meets_beside w v s m z.0 z.1 z.2.1))
 acts w v s core (By.Evict p) o text a m below k t =
@@ -308,9 +312,9 @@ ReachedAt Start s = s ≡ nothing_reached
 ReachedAt (Declared a) s = IsDeclared a s
 ReachedAt (Running w) s = Meets w s
 
-meets_opening : (a : Asked) (slots : Slots) (s : Reached) → IsNew slots → s ≡ declared_so a → Meets (new_world (made_by a) slots) s
-meets_opening a slots s new e = subst (Meets (new_world (made_by a) slots)) (sym e) (record {
-  reached = reached_opening (made_by a) slots new;
+meets_opening : (a : Asked) (slots : Slots) (s : Reached) → a.cores ≤ 64 → IsNew slots → s ≡ declared_so a → Meets (new_world (made_by a) slots) s
+meets_opening a slots s few new e = subst (Meets (new_world (made_by a) slots)) (sym e) (record {
+  reached = reached_opening (made_by a) slots few new;
   cores = refl;
   calls = refl;
   begun = refl;
@@ -323,7 +327,7 @@ meets_opening a slots s new e = subst (Meets (new_world (made_by a) slots)) (sym
 
 opened : (old : Stage) (w : World) (s : Reached) → ReachedAt old s → Opens old w → Meets w s
 opened Start w s r o = absurd o
-opened (Declared a) w s r o = subst (λ w. Meets w s) (sym o.1.2) (meets_opening a o.1.0 s o.1.1 (r (few_files a o.0)).1)
+opened (Declared a) w s r o = subst (λ w. Meets w s) (sym o.1.2) (meets_opening a o.1.0 s (few_cores a o.0) o.1.1 (r (few_files a o.0)).1)
 opened (Running m) w s r o = subst (λ w. Meets w s) (sym o) r
 
 -- ---- a line

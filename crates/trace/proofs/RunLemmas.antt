@@ -1,8 +1,6 @@
 -- Whole runs, a line at a time.
 use Rattle.std.proofs.Common.{◌≡◌, ◌≢◌, ℕ, zero, suc, ◌+◌, ◌<◌, ◌≤◌, false, Bool, cond, List, [], ◌∷◌, ◌++◌, Option, None, Some, Result, Ok, Err, IfSome, IfErr, OnOk, length, take, ◌⊎◌, inl, inr, arith, refl, sym, ap, ◌∙◌, subst, eqb, append_assoc, append-nil, length-append}
 use Rattle.std.proofs.lemmas.Bool.{ne_eqb}
-use Rattle.std.proofs.Math.Seq.{take-append-add}
-use Rattle.std.proofs.lemmas.Grind.{common_steps}
 use Rattle.std.proofs.KnownBytes.{Appends-nil, Appends-trans, Appends-kept}
 use Rattle.std.specs.Io.KnownBytes.{Keeps, Appends, IsAtEnd, prepend_known}
 use Rattle.trace_io.specs.Lines.{onto, lines_of, IsUnbroken, IsFirstLine, TakesLine, BeginsTooLong}
@@ -12,8 +10,11 @@ use Rattle.trace.specs.declared.fault.TraceFault.{TraceFault}
 use Rattle.trace.specs.declared.fault.TraceFault.TheVariants.{TooLong, NoMemory, WriteFailed}
 use Rattle.trace.specs.Stage.{Stage, Start, LineFails, CanOpen, OpenFails, Acts}
 use Rattle.trace.specs.Runs.{Runs}
+use Rattle.trace.specs.declared.shown.Show.{Show}
+use Rattle.trace.specs.Shown.{told, IsBehind, IsBegunBehind, Closes, CloseFails}
+use Rattle.trace.proofs.ShownLemmas.{begun_behind, told_more, told_none, front_more, whole_front}
 use Rattle.trace.specs.Turns.{Scene, Advances, IsOver, Fails, read_fails, unsent, too_long, no_memory, refused, unwritten}
-use Rattle.trace.specs.Ends.{Front, AreRead, Stops, reading, unmade, wanting, overlong, refusing, unopened, writing, Ends}
+use Rattle.trace.specs.Ends.{Front, AreRead, Stops, reading, unmade, wanting, overlong, refusing, unopened, writing, closing, Ends}
 
 -- the line is before its newline
 lines-ended : (line ys : List ℕ) → IsUnbroken line → lines_of (line ++ 10 ∷ ys) ≡ line ∷ lines_of ys
@@ -122,7 +123,7 @@ taken_more input whole rest line ys done t u (inr h) = go t.joins
     )
 
 -- the lines so far were acted on, and what is left has the others
-pub record HasRun (input : List ℕ) (old : Option (List ℕ)) (now : Scene) (number : ℕ) : Type 0 where
+pub record HasRun (show : Show) (input : List ℕ) (old : Option (List ℕ)) (now : Scene) (number : ℕ) : Type 0 where
   pub done : List (List ℕ)
   pub text : List ℕ
   pub whole : List ℕ
@@ -131,12 +132,13 @@ pub record HasRun (input : List ℕ) (old : Option (List ℕ)) (now : Scene) (nu
   pub left : now.left ≡ Some rest
   pub lines : lines_of input ≡ done ++ lines_of rest
   pub runs : Runs Start done now.stage text
-  pub appends : Appends old now.written text
+  pub appends : Appends old now.written (told show text)
   pub count : number ≡ length done
 
 -- nothing has been read yet
-pub run_none : (input : List ℕ) (old : Option (List ℕ)) (now : Scene) → now.left ≡ Some input → now.stage ≡ Start → now.written ≡ old → HasRun input old now 0
-run_none input old now e s w = record {
+pub run_none : (show : Show) (input : List ℕ) (old : Option (List ℕ)) (now : Scene) → now.left ≡ Some input → now.stage ≡ Start
+    → now.written ≡ old → HasRun show input old now 0
+run_none show input old now e s w = record {
   done = [];
   text = [];
   whole = [];
@@ -145,7 +147,7 @@ run_none input old now e s w = record {
   left = e;
   lines = refl;
   runs = (s, refl);
-  appends = subst (λ o. Appends old o []) (sym w) (Appends-nil old);
+  appends = subst (Appends old now.written) (sym (told_none show)) (subst (λ o. Appends old o []) (sym w) (Appends-nil old));
   count = refl;
 }
 
@@ -161,9 +163,9 @@ next_line : (input line rest ys : List ℕ) (done : List (List ℕ)) → lines_o
     → IsFirstLine rest line ys → lines_of input ≡ done ++ line ∷ lines_of ys
 next_line input line rest ys done e u f = e ∙ ap (λ l. done ++ l) (lines-first rest line ys u f)
 
-pub run_more : (input : List ℕ) (old : Option (List ℕ)) (now next : Scene) (number : ℕ) → HasRun input old now number → Advances now next
-    → HasRun input old next (number + 1)
-run_more input old now next number h a =
+pub run_more : (show : Show) (input : List ℕ) (old : Option (List ℕ)) (now next : Scene) (number : ℕ) → HasRun show input old now number
+    → Advances show now next → HasRun show input old next (number + 1)
+run_more show input old now next number h a =
     let (ys, left, first) = takes_known h.rest a.line now.left next.left h.left a.takes in
     let (whole, taken) = taken_more input h.whole h.rest a.line ys h.done h.taken a.unbroken first in
     record {
@@ -175,20 +177,13 @@ run_more input old now next number h a =
       left = left;
       lines = next_line input a.line h.rest ys h.done h.lines a.unbroken first ∙ sym (append_assoc h.done (a.line ∷ []) (lines_of ys));
       runs = runs-snoc Start now.stage next.stage h.done a.line h.text a.text h.runs a.short a.acts;
-      appends = Appends-trans _ _ _ _ _ h.appends a.appends;
+      appends = subst (Appends old next.written) (sym (told_more show h.text a.text)) (Appends-trans _ _ _ _ _ h.appends a.appends);
       count = let c = h.count in omega (arith, length-append h.done (a.line ∷ []));
     }
 
--- a front goes behind what was written whole
-front_more : (a b c : Option (List ℕ)) (xs ys : List ℕ) → Appends a b xs → AppendsFront b c ys → AppendsFront a c (xs ++ ys)
-front_more a b c xs ys p q =
-    let fits = q.1 in
-    let size = length-append xs ys in
-    (length xs + q.0, omega arith, subst (Appends a c) (sym (take-append-add xs ys q.0)) (Appends-trans a b c xs (take q.0 ys) p q.2))
-
 -- what was acted on so far
-front_of : (input : List ℕ) (old : Option (List ℕ)) (now : Scene) (number : ℕ) → HasRun input old now number → Front input
-front_of input old now number h = record { done = h.done; more = lines_of h.rest; stage = now.stage; text = h.text; lines = h.lines; runs = h.runs }
+front_of : (show : Show) (input : List ℕ) (old : Option (List ℕ)) (now : Scene) (number : ℕ) → HasRun show input old now number → Front input
+front_of show input old now number h = record { done = h.done; more = lines_of h.rest; stage = now.stage; text = h.text; lines = h.lines; runs = h.runs }
 
 long_known : (rest : List ℕ) (old : Option (List ℕ)) → old ≡ Some rest → BeginsTooLong old → LongFirst 256 rest
 long_known rest None e b = absurd (cc)
@@ -218,34 +213,27 @@ kept_known rest None new e k = absurd (cc)
 kept_known rest (Some xs) None e k = absurd k
 kept_known rest (Some xs) (Some ys) e k = cc
 
-take_all_of : (xs : List ℕ) → take (length xs) xs ≡ xs
-take_all_of xs = grind (arith, common_steps)
-
--- the whole is a front
-whole_front : (a b : Option (List ℕ)) (xs : List ℕ) → Appends a b xs → AppendsFront a b xs
-whole_front a b xs p = (length xs, omega arith, subst (Appends a b) (sym (take_all_of xs)) p)
-
-pub run_fails : (input : List ℕ) (old : Option (List ℕ)) (now next : Scene) (number : ℕ) (f : TraceFault) → HasRun input old now number
-    → Fails now next number f → Stops input next.unread old next.written f
+pub run_fails : (show : Show) (input : List ℕ) (old : Option (List ℕ)) (now next : Scene) (number : ℕ) (f : TraceFault)
+    → HasRun show input old now number → Fails show now next number f → Stops show input next.unread old next.written f
 unfolding front_of
-run_fails input old now next number f h (read_fails e held u l m k) =
+run_fails show input old now next number f h (read_fails e held u l m k) =
     let (r, same) = known_read input h.whole h.rest held h.done next.left next.unread h.taken (kept_known h.rest now.left next.left h.left m) l.0 l.1 in
-    reading e (front_of input old now number h) r (subst IsUnbroken (sym same) u) (Appends-kept _ _ _ _ h.appends k)
-run_fails input old now next number f h (unsent e k) =
-    writing e (front_of input old now number h) (whole_front _ _ _ (Appends-kept _ _ _ _ h.appends k))
-run_fails input old now next number f h (too_long e b k) =
+    reading e (front_of show input old now number h) r (subst IsUnbroken (sym same) u) (Appends-kept _ _ _ _ h.appends k)
+run_fails show input old now next number f h (unsent e k) =
+    writing e (front_of show input old now number h) (whole_front _ _ _ (Appends-kept _ _ _ _ h.appends k))
+run_fails show input old now next number f h (too_long e b k) =
     let l = long_known h.rest now.left h.left b in
-    overlong (front_of input old now number h) l.line l.others l.lines l.long (e ∙ ap (λ n. TooLong (n + 1)) h.count) (Appends-kept _ _ _ _ h.appends k)
-run_fails input old now next number f h (no_memory e line held short u t l w k) =
+    overlong (front_of show input old now number h) l.line l.others l.lines l.long (e ∙ ap (λ n. TooLong (n + 1)) h.count) (Appends-kept _ _ _ _ h.appends k)
+run_fails show input old now next number f h (no_memory e line held short u t l w k) =
     let (ys, left, first) = takes_known h.rest line now.left next.left h.left t in
     let (whole, taken) = taken_more input h.whole h.rest line ys h.done h.taken u first in
     let (r, same) = known_read input whole ys held (h.done ++ line ∷ []) next.left next.unread taken left l.0 l.1 in
-    wanting e (front_of input old now number h) line (lines_of ys) (lines-first h.rest line ys u first) r w (Appends-kept _ _ _ _ h.appends k)
-run_fails input old now next number f h (refused line short u t b k) =
+    wanting e (front_of show input old now number h) line (lines_of ys) (lines-first h.rest line ys u first) r w (Appends-kept _ _ _ _ h.appends k)
+run_fails show input old now next number f h (refused line short u t b k) =
     let (ys, left, first) = takes_known h.rest line now.left next.left h.left t in
-    refusing (front_of input old now number h) line (lines_of ys) (lines-first h.rest line ys u first) short
+    refusing (front_of show input old now number h) line (lines_of ys) (lines-first h.rest line ys u first) short
     (subst (λ n. LineFails now.stage (n + 1) line f) h.count b) (Appends-kept _ _ _ _ h.appends k)
-run_fails input old now next number f h (unwritten e line text short u t a w) =
+run_fails show input old now next number f h (unwritten e line text short u t a w) =
     let (ys, left, first) = takes_known h.rest line now.left next.left h.left t in
     writing e (record {
       done = h.done ++ line ∷ [];
@@ -254,109 +242,135 @@ run_fails input old now next number f h (unwritten e line text short u t a w) =
       text = h.text ++ text;
       lines = next_line input line h.rest ys h.done h.lines u first ∙ sym (append_assoc h.done (line ∷ []) (lines_of ys));
       runs = runs-snoc Start now.stage next.stage h.done line h.text text h.runs short a;
-    }) (front_more old now.written next.written h.text text h.appends w)
+    }) (subst (AppendsFront old next.written) (sym (told_more show h.text text)) (front_more old now.written next.written _ _ h.appends w))
 
 -- the same, where what the reader has may be unknown
-pub some_init : (o wo : Option (List ℕ)) (stage : Stage) (w : Window) → w ≡ opening → stage ≡ Start
-    → IfSome o (λ input. HasRun input wo (record { left = left o w; unread = o; stage = stage; written = wo }) 0)
-some_init None wo stage w e s = tt
-some_init (Some input) wo stage w e s = run_none input wo _ (ap (left (Some input)) e) s refl
+pub some_init : (show : Show) (o wo : Option (List ℕ)) (stage : Stage) (w : Window) → w ≡ opening → stage ≡ Start
+    → IfSome o (λ input. HasRun show input wo (record { left = left o w; unread = o; stage = stage; written = wo }) 0)
+some_init show None wo stage w e s = tt
+some_init show (Some input) wo stage w e s = run_none show input wo _ (ap (left (Some input)) e) s refl
 
-pub some_more : (o wo : Option (List ℕ)) (now next : Scene) (n : ℕ) → IfSome o (λ input. HasRun input wo now n) → Advances now next
-    → IfSome o (λ input. HasRun input wo next (n + 1))
-some_more None wo now next n h a = tt
-some_more (Some input) wo now next n h a = run_more input wo now next n h a
+pub some_more : (show : Show) (o wo : Option (List ℕ)) (now next : Scene) (n : ℕ)
+    → IfSome o (λ input. HasRun show input wo now n) → Advances show now next
+    → IfSome o (λ input. HasRun show input wo next (n + 1))
+some_more show None wo now next n h a = tt
+some_more show (Some input) wo now next n h a = run_more show input wo now next n h a
 
-pub some_fails : (o wo : Option (List ℕ)) (now next : Scene) (n : ℕ) (f : TraceFault) → IfSome o (λ input. HasRun input wo now n)
-    → Fails now next n f → IfSome o (λ input. Stops input next.unread wo next.written f)
-some_fails None wo now next n f h a = tt
-some_fails (Some input) wo now next n f h a = run_fails input wo now next n f h a
+pub some_fails : (show : Show) (o wo : Option (List ℕ)) (now next : Scene) (n : ℕ) (f : TraceFault)
+    → IfSome o (λ input. HasRun show input wo now n)
+    → Fails show now next n f → IfSome o (λ input. Stops show input next.unread wo next.written f)
+some_fails show None wo now next n f h a = tt
+some_fails show (Some input) wo now next n f h a = run_fails show input wo now next n f h a
 
 -- at the end no line is left
 over_left : (rest : List ℕ) (old : Option (List ℕ)) → old ≡ Some rest → IsAtEnd old → lines_of rest ≡ []
 over_left rest None e a = absurd (cc)
 over_left rest (Some xs) e a = let same : rest ≡ [] = cc in ap lines_of same
 
-run_ends : {T : Type 0} (input : List ℕ) (wo : Option (List ℕ)) (now next : Scene) (n : ℕ) (r : Result T TraceFault) → HasRun input wo now n → IsOver now next
-    → OnOk r (CanOpen next.stage) → IfErr r (λ f. OpenFails next.stage f) → Ends input next.unread wo next.written r
+-- and the trace is closed
+run_ends : {T : Type 0} (show : Show) (input : List ℕ) (wo wn : Option (List ℕ)) (now next : Scene) (n : ℕ) (r : Result T TraceFault)
+    → HasRun show input wo now n → IsOver now next → OnOk r (Closes show next.stage next.written wn)
+    → IfErr r (λ f. CloseFails show next.stage next.written wn f) → Ends show input next.unread wo wn r
 unfolding front_of
-run_ends input wo now next n (Ok x) h v o e =
+run_ends show input wo wn now next n (Ok x) h v o e =
     let none = over_left h.rest now.left h.left v.ended in
     record {
       stage = now.stage;
       text = h.text;
+      behind = o.behind;
       runs = subst (λ ls. Runs Start ls now.stage h.text) (sym (h.lines ∙ ap (λ l. h.done ++ l) none ∙ append-nil h.done)) h.runs;
-      opens = subst CanOpen v.stage o;
-      appends = Appends-kept _ _ _ _ h.appends v.written;
+      opens = subst CanOpen v.stage o.opens;
+      is = subst (λ s. IsBehind show s o.behind) v.stage o.is;
+      appends = Appends-trans _ _ _ _ _ (Appends-kept _ _ _ _ h.appends v.written) o.appends;
     }
-run_ends input wo now next n (Err f) h v o e =
-    unopened (front_of input wo now n h) (over_left h.rest now.left h.left v.ended) (subst (λ s. OpenFails s f) v.stage e)
-    (Appends-kept _ _ _ _ h.appends v.written)
+run_ends show input wo wn now next n (Err f) h v o (inl e) =
+    unopened (front_of show input wo now n h) (over_left h.rest now.left h.left v.ended) (subst (λ s. OpenFails s f) v.stage e.0)
+    (Appends-kept _ _ _ _ (Appends-kept _ _ _ _ h.appends v.written) e.1)
+run_ends show input wo wn now next n (Err f) h v o (inr e) =
+    closing e.0 (front_of show input wo now n h) (over_left h.rest now.left h.left v.ended) (subst CanOpen v.stage e.1.opens) e.1.behind
+    (subst (λ s. IsBegunBehind show s e.1.behind) v.stage e.1.is) (front_more _ _ _ _ _ (Appends-kept _ _ _ _ h.appends v.written) e.1.appends)
 
-pub some_ends : {T : Type 0} (o wo : Option (List ℕ)) (now next : Scene) (n : ℕ) (r : Result T TraceFault)
-    → IfSome o (λ input. HasRun input wo now n) → IsOver now next
-    → OnOk r (CanOpen next.stage) → IfErr r (λ f. OpenFails next.stage f) → IfSome o (λ input. Ends input next.unread wo next.written r)
-some_ends None wo now next n r h v o e = tt
-some_ends (Some input) wo now next n r h v o e = run_ends input wo now next n r h v o e
+pub some_ends : {T : Type 0} (show : Show) (o wo wn : Option (List ℕ)) (now next : Scene) (n : ℕ) (r : Result T TraceFault)
+    → IfSome o (λ input. HasRun show input wo now n) → IsOver now next → OnOk r (Closes show next.stage next.written wn)
+    → IfErr r (λ f. CloseFails show next.stage next.written wn f) → IfSome o (λ input. Ends show input next.unread wo wn r)
+some_ends show None wo wn now next n r h v o e = tt
+some_ends show (Some input) wo wn now next n r h v o e = run_ends show input wo wn now next n r h v o e
 
 -- no line was acted on
-pub none_ran : (o wo : Option (List ℕ)) → IfSome o (λ input. Stops input o wo wo NoMemory)
-none_ran None wo = tt
-none_ran (Some input) wo = unmade refl refl (Appends-nil wo)
+pub none_ran : (show : Show) (o wo : Option (List ℕ)) → IfSome o (λ input. Stops show input o wo wo NoMemory)
+none_ran show None wo = tt
+none_ran show (Some input) wo = unmade refl refl (Appends-nil wo)
 
 front_kept : (a b c : Option (List ℕ)) (xs : List ℕ) → AppendsFront a b xs → Keeps b c → AppendsFront a c xs
 front_kept a b c xs p k = (p.0, p.1, Appends-kept a b c (take p.0 xs) p.2 k)
 
 -- a flush keeps what was written
-stops_kept : (input : List ℕ) (unread a b c : Option (List ℕ)) (f : TraceFault) → Stops input unread a b f → Keeps b c → Stops input unread a c f
-stops_kept input unread a b c f (reading e p r u w) k = reading e p r u (Appends-kept _ _ _ _ w k)
-stops_kept input unread a b c f (unmade e u w) k = unmade e u (Appends-kept _ _ _ _ w k)
-stops_kept input unread a b c f (wanting e p line others m r n w) k = wanting e p line others m r n (Appends-kept _ _ _ _ w k)
-stops_kept input unread a b c f (overlong p line others e l q w) k = overlong p line others e l q (Appends-kept _ _ _ _ w k)
-stops_kept input unread a b c f (refusing p line others e q l w) k = refusing p line others e q l (Appends-kept _ _ _ _ w k)
-stops_kept input unread a b c f (unopened p e q w) k = unopened p e q (Appends-kept _ _ _ _ w k)
-stops_kept input unread a b c f (writing e p w) k = writing e p (front_kept _ _ _ _ w k)
+stops_kept : (show : Show) (input : List ℕ) (unread a b c : Option (List ℕ)) (f : TraceFault) → Stops show input unread a b f
+    → Keeps b c → Stops show input unread a c f
+stops_kept show input unread a b c f (reading e p r u w) k = reading e p r u (Appends-kept _ _ _ _ w k)
+stops_kept show input unread a b c f (unmade e u w) k = unmade e u (Appends-kept _ _ _ _ w k)
+stops_kept show input unread a b c f (wanting e p line others m r n w) k = wanting e p line others m r n (Appends-kept _ _ _ _ w k)
+stops_kept show input unread a b c f (overlong p line others e l q w) k = overlong p line others e l q (Appends-kept _ _ _ _ w k)
+stops_kept show input unread a b c f (refusing p line others e q l w) k = refusing p line others e q l (Appends-kept _ _ _ _ w k)
+stops_kept show input unread a b c f (unopened p e q w) k = unopened p e q (Appends-kept _ _ _ _ w k)
+stops_kept show input unread a b c f (writing e p w) k = writing e p (front_kept _ _ _ _ w k)
+stops_kept show input unread a b c f (closing e p m o behind is w) k = closing e p m o behind is (front_kept _ _ _ _ w k)
 
-ends_kept : {T : Type 0} (input : List ℕ) (unread a b c : Option (List ℕ)) (r : Result T TraceFault) → Ends input unread a b r → Keeps b c
-    → Ends input unread a c r
-ends_kept input unread a b c (Ok x) h k = record { stage = h.stage; text = h.text; runs = h.runs; opens = h.opens; appends = Appends-kept _ _ _ _ h.appends k }
-ends_kept input unread a b c (Err f) h k = stops_kept input unread a b c f h k
+ends_kept : {T : Type 0} (show : Show) (input : List ℕ) (unread a b c : Option (List ℕ)) (r : Result T TraceFault)
+    → Ends show input unread a b r → Keeps b c
+    → Ends show input unread a c r
+ends_kept show input unread a b c (Ok x) h k = record {
+  stage = h.stage;
+  text = h.text;
+  behind = h.behind;
+  runs = h.runs;
+  opens = h.opens;
+  is = h.is;
+  appends = Appends-kept _ _ _ _ h.appends k;
+}
+ends_kept show input unread a b c (Err f) h k = stops_kept show input unread a b c f h k
 
 nothing_run : (input : List ℕ) → Front input
 nothing_run input = record { done = []; more = lines_of input; stage = Start; text = []; lines = refl; runs = (refl, refl) }
 
-stops_lost : (input : List ℕ) (unread a b : Option (List ℕ)) (f : TraceFault) → Stops input unread a b f → Stops input unread a b WriteFailed
+stops_lost : (show : Show) (input : List ℕ) (unread a b : Option (List ℕ)) (f : TraceFault) → Stops show input unread a b f
+    → Stops show input unread a b WriteFailed
 unfolding nothing_run
-stops_lost input unread a b f (reading e p r u w) = writing refl p (whole_front _ _ _ w)
-stops_lost input unread a b f (unmade e u w) = writing refl (nothing_run input) (whole_front _ _ _ w)
-stops_lost input unread a b f (wanting e p line others m r n w) = writing refl p (whole_front _ _ _ w)
-stops_lost input unread a b f (overlong p line others e l q w) = writing refl p (whole_front _ _ _ w)
-stops_lost input unread a b f (refusing p line others e q l w) = writing refl p (whole_front _ _ _ w)
-stops_lost input unread a b f (unopened p e q w) = writing refl p (whole_front _ _ _ w)
-stops_lost input unread a b f (writing e p w) = writing refl p w
+stops_lost show input unread a b f (reading e p r u w) = writing refl p (whole_front _ _ _ w)
+stops_lost show input unread a b f (unmade e u w) =
+    writing refl (nothing_run input) (subst (AppendsFront a b) (sym (told_none show)) (whole_front _ _ _ w))
+stops_lost show input unread a b f (wanting e p line others m r n w) = writing refl p (whole_front _ _ _ w)
+stops_lost show input unread a b f (overlong p line others e l q w) = writing refl p (whole_front _ _ _ w)
+stops_lost show input unread a b f (refusing p line others e q l w) = writing refl p (whole_front _ _ _ w)
+stops_lost show input unread a b f (unopened p e q w) = writing refl p (whole_front _ _ _ w)
+stops_lost show input unread a b f (writing e p w) = writing refl p w
+stops_lost show input unread a b f (closing e p m o behind is w) = closing refl p m o behind is w
 
-ends_lost : {T : Type 0} (input : List ℕ) (unread a b : Option (List ℕ)) (r : Result T TraceFault) → Ends input unread a b r
-    → Stops input unread a b WriteFailed
-ends_lost input unread a b (Ok x) h =
-    writing refl (record {
+ends_lost : {T : Type 0} (show : Show) (input : List ℕ) (unread a b : Option (List ℕ)) (r : Result T TraceFault)
+    → Ends show input unread a b r
+    → Stops show input unread a b WriteFailed
+ends_lost show input unread a b (Ok x) h =
+    closing refl (record {
       done = lines_of input;
       more = [];
       stage = h.stage;
       text = h.text;
       lines = sym (append-nil (lines_of input));
       runs = h.runs;
-    }) (whole_front _ _ _ h.appends)
-ends_lost input unread a b (Err f) h = stops_lost input unread a b f h
+    }) refl h.opens h.behind (begun_behind show h.stage h.behind h.is) (whole_front _ _ _ h.appends)
+ends_lost show input unread a b (Err f) h = stops_lost show input unread a b f h
 
-pub some_kept : {T : Type 0} (o unread a b c : Option (List ℕ)) (r : Result T TraceFault) → IfSome o (λ input. Ends input unread a b r)
-    → Keeps b c → IfSome o (λ input. Ends input unread a c r)
-some_kept None unread a b c r h k = tt
-some_kept (Some input) unread a b c r h k = ends_kept input unread a b c r h k
+pub some_kept : {T : Type 0} (show : Show) (o unread a b c : Option (List ℕ)) (r : Result T TraceFault)
+    → IfSome o (λ input. Ends show input unread a b r)
+    → Keeps b c → IfSome o (λ input. Ends show input unread a c r)
+some_kept show None unread a b c r h k = tt
+some_kept show (Some input) unread a b c r h k = ends_kept show input unread a b c r h k
 
-pub some_lost : {T : Type 0} (o unread a b c : Option (List ℕ)) (r : Result T TraceFault) → IfSome o (λ input. Ends input unread a b r)
-    → Keeps b c → IfSome o (λ input. Stops input unread a c WriteFailed)
-some_lost None unread a b c r h k = tt
-some_lost (Some input) unread a b c r h k = stops_kept input unread a b c WriteFailed (ends_lost input unread a b r h) k
+pub some_lost : {T : Type 0} (show : Show) (o unread a b c : Option (List ℕ)) (r : Result T TraceFault)
+    → IfSome o (λ input. Ends show input unread a b r)
+    → Keeps b c → IfSome o (λ input. Stops show input unread a c WriteFailed)
+some_lost show None unread a b c r h k = tt
+some_lost show (Some input) unread a b c r h k = stops_kept show input unread a b c WriteFailed (ends_lost show input unread a b r h) k
 
 -- what isn't `write failed` leaves the writer's mark as it was
 pub mark_kept : {T : Type 0} (r : Result T TraceFault) (x : T) (a b : Bool) → r ≡ Ok x → (r ≡ Err WriteFailed) ⊎ (b ≡ a) → b ≡ a
@@ -367,3 +381,8 @@ pub fault_kept : {T U : Type 0} (r : Result T TraceFault) (s : Result U TraceFau
     → (r ≡ Err WriteFailed) ⊎ (c ≡ b) → b ≡ a → (s ≡ Err WriteFailed) ⊎ (c ≡ a)
 fault_kept r s f a b c e d (inl w) k = let same : f ≡ WriteFailed = cc in inl (d ∙ ap Err same)
 fault_kept r s f a b c e d (inr l) k = inr (l ∙ k)
+
+pub mark_then : {T : Type 0} (r : Result T TraceFault) (a b c : Bool) → (r ≡ Err WriteFailed) ⊎ (c ≡ b) → b ≡ a
+    → (r ≡ Err WriteFailed) ⊎ (c ≡ a)
+mark_then r a b c (inl w) k = inl w
+mark_then r a b c (inr l) k = inr (l ∙ k)

@@ -11,6 +11,8 @@ use Rattle.core_steps.specs.declared.setup.SetupFault.{SetupFault}
 use Rattle.trace.specs.declared.fault.TraceFault.{TraceFault}
 use Rattle.trace.specs.declared.fault.TraceFault.TheVariants.{BadLine, TooLong, ReadFailed, NoVmLine, NoMemory, Setup, WriteFailed}
 use Rattle.trace.specs.Stage.{Stage, Start, Declared, Running, SetupFails, OpenFails, LineWants, Kind, OfSpace, OfFile, OfEvents, kind_of, LateFails, BadFails, SpaceFails, FileFails, SaidFails, BytesFail, LineFails, Acts}
+use Rattle.trace.specs.declared.shown.Show.{Show}
+use Rattle.trace.specs.Shown.{told}
 use Rattle.trace.specs.Declarations.{Asked, asked_fault}
 use Rattle.trace.specs.Turns.{Scene, IsHeld, Fails, no_memory, refused, unwritten}
 
@@ -103,12 +105,13 @@ unfolding is_own
 end_not_write s f h e = let clash : false ≡ true = sym (ap is_own e) ∙ own_open s f h in cc
 
 -- a line that wasn't acted on fails the turn
-pub act_fails : (old new : Scene) (n : ℕ) (line held seen : List ℕ) (f : TraceFault) → Keeps old.written new.written → length line ≤ 256
+pub act_fails : (show : Show) (old new : Scene) (n : ℕ) (line held seen : List ℕ) (f : TraceFault)
+    → Keeps old.written new.written → length line ≤ 256
     → IsUnbroken line → TakesLine old.left new.left line → IsHeld held new → seen ≡ line
-    → ((f ≡ NoMemory) × LineWants old.stage seen) ⊎ LineFails old.stage (n + 1) seen f → Fails old new n f
-act_fails old new n line held seen f keeps short unbroken takes holds same (inl e) =
+    → ((f ≡ NoMemory) × LineWants old.stage seen) ⊎ LineFails old.stage (n + 1) seen f → Fails show old new n f
+act_fails show old new n line held seen f keeps short unbroken takes holds same (inl e) =
     no_memory e.0 line held short unbroken takes holds (subst (LineWants old.stage) same e.1) keeps
-act_fails old new n line held seen f keeps short unbroken takes holds same (inr h) =
+act_fails show old new n line held seen f keeps short unbroken takes holds same (inr h) =
     refused line short unbroken takes (subst (λ l. LineFails old.stage (n + 1) l f) same h) keeps
 
 appends_after : (a b c : Option (List ℕ)) (xs : List ℕ) → Keeps a b → Appends b c xs → Appends a c xs
@@ -118,10 +121,11 @@ appends_after (Some x) (Some y) None xs k p = absurd p
 appends_after (Some x) (Some y) (Some z) xs k p = p ∙ ap (λ l. l ++ xs) k
 
 -- a line whose text wasn't written whole fails the turn
-pub text_lost : (old new : Scene) (mid : Option (List ℕ)) (n : ℕ) (line seen text shown : List ℕ) → length line ≤ 256 → IsUnbroken line
-    → TakesLine old.left new.left line → seen ≡ line → Acts old.stage seen new.stage text → shown ≡ text
-    → Keeps old.written mid → AppendsFront mid new.written shown → Fails old new n WriteFailed
-text_lost old new mid n line seen text shown short unbroken takes same acts whole keeps front =
-    let from : AppendsFront old.written new.written shown = (front.0, front.1, appends_after _ _ _ _ keeps front.2) in
+pub text_lost : (show : Show) (old new : Scene) (mid : Option (List ℕ)) (n : ℕ) (line seen text : List ℕ) → length line ≤ 256
+    → IsUnbroken line
+    → TakesLine old.left new.left line → seen ≡ line → Acts old.stage seen new.stage text
+    → Keeps old.written mid → AppendsFront mid new.written (told show text) → Fails show old new n WriteFailed
+text_lost show old new mid n line seen text short unbroken takes same acts keeps front =
+    let from : AppendsFront old.written new.written (told show text) = (front.0, front.1, appends_after _ _ _ _ keeps front.2) in
     unwritten refl line text short unbroken takes (subst (λ l. Acts old.stage l new.stage text) same acts)
-    (subst (AppendsFront old.written new.written) whole from)
+    from

@@ -7,8 +7,8 @@ use Rattle.core_steps.specs.declared.setup.SetupFault.{SetupFault}
 use Rattle.core_steps.specs.Setups.{first_fault, is_too_long}
 use Rattle.trace.specs.declared.declaration.FileLine.{FileLine}
 
--- The cores, frames and calls that the vm line asks for, the number that the next file has, and the files so far: of more than a space
--- may have as many as show that there are too many.
+-- The cores, frames and calls that the vm line asks for, the number that the next file has, and the
+-- files so far: of more than a space may have as many as show that there are too many.
 pub record Asked : Type 0 where
   pub cores : ℕ
   pub frames : ℕ
@@ -18,7 +18,8 @@ pub record Asked : Type 0 where
 
 -- by the vm line alone
 abbrev pub asks_for : ℕ → ℕ → ℕ → Asked
-asks_for cores frames calls = record { cores = cores; frames = frames; calls = calls; next = 0; files = [] }
+asks_for cores frames calls =
+    record { cores = cores; frames = frames; calls = calls; next = 0; files = [] }
 
 -- the files' numbers are 0, 1, 2 and so on, below 2^64 - 1
 abbrev pub is_next : Asked → ℕ → Bool
@@ -53,8 +54,14 @@ has_long files = list_any (λ file. is_too_long file.len) files
 
 -- what is wrong with it first, but for want of memory
 abbrev pub asked_fault : Asked → Option SetupFault
-asked_fault asked = first_fault asked.cores asked.frames (length asked.files) (has_long asked.files) asked.calls
+asked_fault asked =
+    first_fault asked.cores asked.frames (length asked.files) (has_long asked.files) asked.calls
 
 -- what a machine is made with
 abbrev pub made_by : Asked → Made
-made_by asked = record { cores = asked.cores; frames = asked.frames; calls = asked.calls; file = file_at asked.files }
+made_by asked = record {
+  cores = asked.cores;
+  frames = asked.frames;
+  calls = asked.calls;
+  file = file_at asked.files;
+}

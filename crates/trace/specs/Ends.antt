@@ -6,16 +6,21 @@ use Rattle.trace_io.specs.Sink.{AppendsFront}
 use Rattle.trace_io.specs.Source.{HasStopped}
 use Rattle.trace.specs.declared.fault.TraceFault.{TraceFault}
 use Rattle.trace.specs.declared.fault.TraceFault.TheVariants.{TooLong, ReadFailed, NoMemory, WriteFailed}
+use Rattle.trace.specs.declared.shown.Show.{Show}
 use Rattle.trace.specs.Stage.{Stage, Start, LineFails, LineWants, CanOpen, OpenFails}
 use Rattle.trace.specs.Runs.{Runs}
+use Rattle.trace.specs.Shown.{told, IsBehind, IsBegunBehind}
 
--- all lines were acted on, their text was written, and a machine could be made
-pub record Completes (input : List ℕ) (old new : Option (List ℕ)) : Type 0 where
+-- All lines were acted on, a machine could be made, and what is to be shown was written: the lines'
+-- text, and what comes behind it.
+pub record Completes (show : Show) (input : List ℕ) (old new : Option (List ℕ)) : Type 0 where
   pub stage : Stage
   pub text : List ℕ
+  pub behind : List ℕ
   pub runs : Runs Start (lines_of input) stage text
   pub opens : CanOpen stage
-  pub appends : Appends old new text
+  pub is : IsBehind show stage behind
+  pub appends : Appends old new (told show text ++ behind)
 
 -- the first lines, and the text that they give
 pub record Front (input : List ℕ) : Type 0 where
@@ -26,7 +31,8 @@ pub record Front (input : List ℕ) : Type 0 where
   pub lines : lines_of input ≡ done ++ more
   pub runs : Runs Start done stage text
 
--- these lines were read, and behind them what the reader has given besides, at most a chunk of 65,536 bytes
+-- these lines were read, and behind them what the reader has given besides, at most a chunk of
+-- 65,536 bytes
 pub record AreRead (input : List ℕ) (unread : Option (List ℕ)) (done : List (List ℕ)) : Type 0 where
   pub whole : List ℕ
   pub held : List ℕ
@@ -36,32 +42,43 @@ pub record AreRead (input : List ℕ) (unread : Option (List ℕ)) (done : List 
   pub few : length held ≤ 65536
   pub reader : unread ≡ Some rest
 
--- After a fault the text of the lines before it has gone out, and after a failed write a front of the text. After a failed read
--- no newline is among what was read behind those lines. Memory may be wanting before anything is read (unmade), and where a step
--- of the machine was refused; then no more than its line was read.
-pub data Stops (input : List ℕ) (unread old new : Option (List ℕ)) (f : TraceFault) : Type 0 where
+-- After a fault the text of the lines before it has gone out, where it is shown, and nothing comes
+-- behind it. After a failed write a front of the text has, or, where all lines were acted on, a front
+-- of it and of what comes behind it, or of the first mappings (closing). After a failed read no
+-- newline is among what was read behind those lines. Memory may be wanting before anything is read
+-- (unmade), and where a step of the machine was refused; then no more than its line was read.
+pub data Stops (show : Show) (input : List ℕ) (unread old new : Option (List ℕ))
+    (f : TraceFault) : Type 0 where
   reading : f ≡ ReadFailed → (p : Front input) (r : AreRead input unread p.done) → IsUnbroken r.held
-      → Appends old new p.text → Stops input unread old new f
-  unmade : f ≡ NoMemory → unread ≡ Some input → Appends old new [] → Stops input unread old new f
-  wanting : f ≡ NoMemory → (p : Front input) (line : List ℕ) (others : List (List ℕ)) → p.more ≡ line ∷ others
-      → AreRead input unread (p.done ++ line ∷ []) → LineWants p.stage line → Appends old new p.text
-      → Stops input unread old new f
-  overlong : (p : Front input) (line : List ℕ) (others : List (List ℕ)) → p.more ≡ line ∷ others → 256 < length line
-      → f ≡ TooLong (length p.done + 1) → Appends old new p.text → Stops input unread old new f
-  refusing : (p : Front input) (line : List ℕ) (others : List (List ℕ)) → p.more ≡ line ∷ others → length line ≤ 256
-      → LineFails p.stage (length p.done + 1) line f → Appends old new p.text → Stops input unread old new f
-  unopened : (p : Front input) → p.more ≡ [] → OpenFails p.stage f → Appends old new p.text
-      → Stops input unread old new f
-  writing : f ≡ WriteFailed → (p : Front input) → AppendsFront old new p.text → Stops input unread old new f
+      → Appends old new (told show p.text) → Stops show input unread old new f
+  unmade : f ≡ NoMemory → unread ≡ Some input → Appends old new [] → Stops show input unread old new f
+  wanting : f ≡ NoMemory → (p : Front input) (line : List ℕ) (others : List (List ℕ))
+      → p.more ≡ line ∷ others → AreRead input unread (p.done ++ line ∷ [])
+      → LineWants p.stage line → Appends old new (told show p.text)
+      → Stops show input unread old new f
+  overlong : (p : Front input) (line : List ℕ) (others : List (List ℕ)) → p.more ≡ line ∷ others
+      → 256 < length line → f ≡ TooLong (length p.done + 1) → Appends old new (told show p.text)
+      → Stops show input unread old new f
+  refusing : (p : Front input) (line : List ℕ) (others : List (List ℕ)) → p.more ≡ line ∷ others
+      → length line ≤ 256 → LineFails p.stage (length p.done + 1) line f
+      → Appends old new (told show p.text) → Stops show input unread old new f
+  unopened : (p : Front input) → p.more ≡ [] → OpenFails p.stage f
+      → Appends old new (told show p.text) → Stops show input unread old new f
+  writing : f ≡ WriteFailed → (p : Front input) → AppendsFront old new (told show p.text)
+      → Stops show input unread old new f
+  closing : f ≡ WriteFailed → (p : Front input) → p.more ≡ [] → CanOpen p.stage → (behind : List ℕ)
+      → IsBegunBehind show p.stage behind
+      → AppendsFront old new (told show p.text ++ behind) → Stops show input unread old new f
 
 -- what the reader has not given, and what the writer held and holds
-abbrev pub Ends : {T : Type 0} → List ℕ → Option (List ℕ) → Option (List ℕ) → Option (List ℕ) → Result T TraceFault
-    → Type 0
-Ends input unread old new (Ok x) = Completes input old new
-Ends input unread old new (Err f) = Stops input unread old new f
+abbrev pub Ends : {T : Type 0} → Show → List ℕ → Option (List ℕ) → Option (List ℕ) → Option (List ℕ)
+    → Result T TraceFault → Type 0
+Ends show input unread old new (Ok x) = Completes show input old new
+Ends show input unread old new (Err f) = Stops show input unread old new f
 
--- `read failed` is told only of a read that failed or was one too many, and `write failed` only where a write or a flush failed; where
--- it isn't told, none failed, and all that was written has gone out.
+-- `read failed` is told only of a read that failed or was one too many, and `write failed` only
+-- where a write or a flush failed; where it isn't told, none failed, and all that was written has
+-- gone out.
 pub record TellsFaults {T : Type 0} (r : Result T TraceFault) (read_failed : Bool) (reads : ℕ)
     (before failed is_flushed : Bool) : Type 0 where
   pub read : r ≡ Err ReadFailed → HasStopped read_failed reads

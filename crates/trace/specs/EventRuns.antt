@@ -1,4 +1,5 @@
--- The run that the lines of a trace make: which events they ask for, and which of the outcomes they print
+-- The run that the lines of a trace make: which events they ask for, and which of the outcomes they
+-- print
 use Rattle.std.specs.Prelude.{◌≡◌, ◌≢◌, ℕ, ◌<◌, List, [], ◌∷◌, ◌++◌, replicate, IsSomeAnd}
 use Rattle.vm_base.specs.declared.requests.Request.{Request}
 use Rattle.slot_lock.specs.Slots.{Slots, IsNew}
@@ -33,18 +34,21 @@ abbrev pub GoesUntil : ℕ → ℕ → Finished → List Event → List Outcome 
 GoesUntil core n (Last o) es os =
     (n < finish_limit) × (o ≢ Stepped) × (es ≡ replicate n (Ev.Go core) ++ Ev.Go core ∷ [])
     × (os ≡ replicate n Stepped ++ o ∷ [])
-GoesUntil core n Stuck es os = (n ≡ finish_limit) × (es ≡ replicate n (Ev.Go core)) × (os ≡ replicate n Stepped)
+GoesUntil core n Stuck es os =
+    (n ≡ finish_limit) × (es ≡ replicate n (Ev.Go core)) × (os ≡ replicate n Stepped)
 
 -- the last of these outcomes is printed
 abbrev pub AsksFinish : ℕ → List Event → List Outcome → List ℕ → Type 0
-AsksFinish core es os text = (n : ℕ) × (f : Finished) × GoesUntil core n f es os × (text ≡ finished_text f)
+AsksFinish core es os text =
+    (n : ℕ) × (f : Finished) × GoesUntil core n f es os × (text ≡ finished_text f)
 
 -- a call that begins is finished; of one that doesn't the outcome is printed
 abbrev pub AsksCall : ℕ → Request → Outcome → List Event → List Outcome → List ℕ → Type 0
 AsksCall core request Stepped es os text =
     (more : List Event) × (others : List Outcome) × AsksFinish core more others text
     × (es ≡ Ev.Call core request ∷ more) × (os ≡ Stepped ∷ others)
-AsksCall core request o es os text = (es ≡ Ev.Call core request ∷ []) × (os ≡ o ∷ []) × (text ≡ outcome_text o)
+AsksCall core request o es os text =
+    (es ≡ Ev.Call core request ∷ []) × (os ≡ o ∷ []) × (text ≡ outcome_text o)
 
 -- what a line asks for, the outcomes, and its text
 abbrev pub Asks : Line → List Event → List Outcome → List ℕ → Type 0
@@ -59,8 +63,8 @@ Asks (Now core request) es os text = (o : Outcome) × AsksCall core request o es
 -- ---- lines
 
 -- a line, and then what the others ask for
-pub record AsksFirst (line : List ℕ) (Others : List Event → List Outcome → List ℕ → Type 0) (es : List Event)
-    (os : List Outcome) (text : List ℕ) : Type 0 where
+pub record AsksFirst (line : List ℕ) (Others : List Event → List Outcome → List ℕ → Type 0)
+    (es : List Event) (os : List Outcome) (text : List ℕ) : Type 0 where
   pub first : List Event
   pub later : List Event
   pub outcome : List Outcome
@@ -80,8 +84,9 @@ AllAsk (line ∷ lines) es os text = AsksFirst line (AllAsk lines) es os text
 
 -- ---- a trace
 
--- The lines ask for these events of a machine over new slots, and print of their outcomes what the text says. The run is sound: its log is
--- that of a plain page map, in which each reply that was handed out stands once, between its call and its answer.
+-- The lines ask for these events of a machine over new slots, and print of their outcomes what the
+-- text says. The run is sound: its log is that of a plain page map, in which each reply that was
+-- handed out stands once, between its call and its answer.
 pub record IsRun (lines : List (List ℕ)) (text : List ℕ) (w : World) : Type 0 where
   pub asked : Asked
   pub slots : Slots
@@ -95,5 +100,6 @@ pub record IsRun (lines : List (List ℕ)) (text : List ℕ) (w : World) : Type 
 
 -- lines that are acted on from the start, up to a machine
 abbrev pub AllTracesAreRuns : Type 0
-AllTracesAreRuns = (lines : List (List ℕ)) (text : List ℕ) (w : World) → Runs Start lines (Running w) text
+AllTracesAreRuns =
+    (lines : List (List ℕ)) (text : List ℕ) (w : World) → Runs Start lines (Running w) text
     → IsRun lines text w

@@ -8,3 +8,4 @@ pub mod Stage
 pub mod Turns
 pub mod EventRuns
 pub mod PlainText
+pub mod Shown

@@ -28,7 +28,8 @@ stage_of None None = Start
 -- the machine that an event's line finds: one of new slots, if there was none before
 abbrev pub Opens : Stage → World → Type 0
 Opens Start w = ⊥
-Opens (Declared a) w = (asked_fault a ≡ None) × ((slots : Slots) × IsNew slots × (w ≡ new_world (made_by a) slots))
+Opens (Declared a) w =
+    (asked_fault a ≡ None) × ((slots : Slots) × IsNew slots × (w ≡ new_world (made_by a) slots))
 Opens (Running v) w = w ≡ v
 
 -- a machine can be made, or is there
@@ -37,8 +38,8 @@ CanOpen Start = ⊥
 CanOpen (Declared a) = asked_fault a ≡ None
 CanOpen (Running w) = ⊤
 
--- Why no machine was made of what is asked for: its own first fault, or want of memory, for the bytes of files where there are some, or
--- for the machine.
+-- Why no machine was made of what is asked for: its own first fault, or want of memory, for the
+-- bytes of files where there are some, or for the machine.
 abbrev pub SetupFails : Asked → Option SetupFault → TraceFault → Type 0
 SetupFails a (Some own) f = f ≡ By.Setup own
 SetupFails a None f = ((a.files ≢ []) × (f ≡ By.NoMemory)) ⊎ (f ≡ By.Setup Of.NoMemory)
@@ -55,11 +56,13 @@ pub data Kind : Type 0 where
   OfEvents : Kind
 
 abbrev pub kind_of : List Word → Kind
-kind_of words = if begins_with_vm words then OfSpace else if begins_with_file words then OfFile else OfEvents
+kind_of words =
+    if begins_with_vm words then OfSpace else if begins_with_file words then OfFile else OfEvents
 
 -- The setup's fault comes before that of a line at which a machine is to be made.
 abbrev pub LateFails : Asked → ℕ → TraceFault → Type 0
-LateFails a number f = SetupFails a (asked_fault a) f ⊎ ((asked_fault a ≡ None) × (f ≡ By.BadLine number))
+LateFails a number f =
+    SetupFails a (asked_fault a) f ⊎ ((asked_fault a ≡ None) × (f ≡ By.BadLine number))
 
 -- why a bad line isn't acted on: at the line of a file no machine is made
 abbrev pub BadFails : Stage → ℕ → Kind → TraceFault → Type 0
@@ -114,11 +117,13 @@ pub record LineWants (s : Stage) (line : List ℕ) : Type 0 where
 
 -- a line that is acted on, by what it says
 abbrev pub EventActs : Stage → Line → Stage → List ℕ → Type 0
-EventActs old line new text = (w : World) × (v : World) × Opens old w × Gives w line v text × (new ≡ Running v)
+EventActs old line new text =
+    (w : World) × (v : World) × Opens old w × Gives w line v text × (new ≡ Running v)
 
 abbrev pub LineActs : Stage → Line → Stage → List ℕ → Type 0
 LineActs old Blank new text = (new ≡ old) × (text ≡ [])
-LineActs old (Space cores frames calls) new text = (old ≡ Start) × (new ≡ Declared (asks_for cores frames calls)) × (text ≡ [])
+LineActs old (Space cores frames calls) new text =
+    (old ≡ Start) × (new ≡ Declared (asks_for cores frames calls)) × (text ≡ [])
 LineActs old (File n mode len seed) new text = (a : Asked) × (old ≡ Declared a) × (is_next a n ≡ true)
     × (new ≡ Declared (with_file a (record { mode = mode; len = len; seed = seed }))) × (text ≡ [])
 LineActs old (Act core action) new text = EventActs old (Act core action) new text
@@ -131,6 +136,8 @@ pub record Acts (old : Stage) (line : List ℕ) (new : Stage) (text : List ℕ) 
   pub printable : are_printable line ≡ true
   pub acts : IsSomeAnd (line_of line) (λ l. LineActs old l new text)
 
--- why a line with words that isn't the vm line isn't acted on: there is no machine, or it isn't the line of an event
+-- why a line with words that isn't the vm line isn't acted on: there is no machine, or it isn't the
+-- line of an event
 abbrev pub EventFails : Stage → ℕ → Option Line → TraceFault → Type 0
-EventFails s number line f = OpenFails s f ⊎ (CanOpen s × (is_event line ≡ false) × (f ≡ By.BadLine number))
+EventFails s number line f =
+    OpenFails s f ⊎ (CanOpen s × (is_event line ≡ false) × (f ≡ By.BadLine number))

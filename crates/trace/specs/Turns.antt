@@ -5,7 +5,9 @@ use Rattle.trace_io.specs.Lines.{IsUnbroken, TakesLine, BeginsTooLong}
 use Rattle.trace_io.specs.Sink.{AppendsFront}
 use Rattle.trace.specs.declared.fault.TraceFault.{TraceFault}
 use Rattle.trace.specs.declared.fault.TraceFault.TheVariants.{TooLong, ReadFailed, NoMemory, WriteFailed}
+use Rattle.trace.specs.declared.shown.Show.{Show}
 use Rattle.trace.specs.Stage.{Stage, LineFails, LineWants, Acts}
+use Rattle.trace.specs.Shown.{told}
 
 -- what is still to come, what of it has not been read yet, the stage, and what the writer holds
 pub record Scene : Type 0 where
@@ -14,15 +16,15 @@ pub record Scene : Type 0 where
   pub stage : Stage
   pub written : Option (List ℕ)
 
--- a line was taken, acted on, and its text written
-pub record Advances (old new : Scene) : Type 0 where
+-- a line was taken, acted on, and its text written where it is to be shown
+pub record Advances (show : Show) (old new : Scene) : Type 0 where
   pub line : List ℕ
   pub text : List ℕ
   pub short : length line ≤ 256
   pub unbroken : IsUnbroken line
   pub takes : TakesLine old.left new.left line
   pub acts : Acts old.stage line new.stage text
-  pub appends : Appends old.written new.written text
+  pub appends : Appends old.written new.written (told show text)
 
 -- nothing was left
 pub record IsOver (old new : Scene) : Type 0 where
@@ -35,21 +37,25 @@ abbrev pub IsHeld : List ℕ → Scene → Type 0
 IsHeld held s = (length held ≤ 65536) × (s.left ≡ prepend_known held s.unread)
 
 -- line number + 1 was not acted on, for this fault
-pub data Fails (old new : Scene) (number : ℕ) (f : TraceFault) : Type 0 where
+pub data Fails (show : Show) (old new : Scene) (number : ℕ) (f : TraceFault) : Type 0 where
   read_fails : f ≡ ReadFailed → (held : List ℕ) → IsUnbroken held → IsHeld held new
-      → Keeps old.left new.left → Keeps old.written new.written → Fails old new number f
-  unsent : f ≡ WriteFailed → Keeps old.written new.written → Fails old new number f
-  too_long : f ≡ TooLong (number + 1) → BeginsTooLong old.left → Keeps old.written new.written → Fails old new number f
+      → Keeps old.left new.left → Keeps old.written new.written → Fails show old new number f
+  unsent : f ≡ WriteFailed → Keeps old.written new.written → Fails show old new number f
+  too_long : f ≡ TooLong (number + 1) → BeginsTooLong old.left → Keeps old.written new.written
+      → Fails show old new number f
   no_memory : f ≡ NoMemory → (line held : List ℕ) → length line ≤ 256 → IsUnbroken line
       → TakesLine old.left new.left line
-      → IsHeld held new → LineWants old.stage line → Keeps old.written new.written → Fails old new number f
+      → IsHeld held new → LineWants old.stage line → Keeps old.written new.written
+      → Fails show old new number f
   refused : (line : List ℕ) → length line ≤ 256 → IsUnbroken line → TakesLine old.left new.left line
-      → LineFails old.stage (number + 1) line f → Keeps old.written new.written → Fails old new number f
+      → LineFails old.stage (number + 1) line f → Keeps old.written new.written
+      → Fails show old new number f
   unwritten : f ≡ WriteFailed → (line text : List ℕ) → length line ≤ 256 → IsUnbroken line
       → TakesLine old.left new.left line
-      → Acts old.stage line new.stage text → AppendsFront old.written new.written text → Fails old new number f
+      → Acts old.stage line new.stage text → AppendsFront old.written new.written (told show text)
+      → Fails show old new number f
 
-abbrev pub Turns : Scene → Scene → ℕ → Result Bool TraceFault → Type 0
-Turns old new number (Ok true) = Advances old new
-Turns old new number (Ok false) = IsOver old new
-Turns old new number (Err f) = Fails old new number f
+abbrev pub Turns : Show → Scene → Scene → ℕ → Result Bool TraceFault → Type 0
+Turns show old new number (Ok true) = Advances show old new
+Turns show old new number (Ok false) = IsOver old new
+Turns show old new number (Err f) = Fails show old new number f

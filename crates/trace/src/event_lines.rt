@@ -6,12 +6,12 @@ ghost use Rattle.trace.specs.Events.{event_of};
 ghost use Rattle.trace.specs.Gives.{Gives, Wants, WantsFinish, is_event, TellsFinish, TellsStep};
 
 use crate::fault::TraceFault;
-use crate::outcome_text::{LineText, write_finished, write_outcome};
+use crate::outcome_text::{write_finished, write_outcome};
 use core_steps::Machine;
 use machine_model::{Event, Outcome};
 use slot_lock::SlotMap;
 use std::alloc::Allocator;
-use trace_text::{Action, Line};
+use trace_text::{Action, Line, LineText};
 use vm_base::{CoreId, NoMemory, Request};
 
 // The event that the core's action is.
@@ -26,6 +26,8 @@ fn event_of(core: CoreId, action: Action) -> Event
         Action::Review => Event::Review(core),
         Action::GiveUp => Event::GiveUp(core),
         Action::Frame(frame) => Event::Frame(core, frame),
+        Action::Guess(page) => Event::Guess(core, page),
+        Action::Whole => Event::Whole(core),
         Action::Walk(page) => Event::Walk(core, page),
         Action::Evict(page) => Event::Evict(core, page),
     }

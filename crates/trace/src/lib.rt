@@ -8,10 +8,7 @@ pub mod laws;
 pub mod outcome_text;
 pub mod replay;
 pub mod replayer;
+pub mod shown;
 
 pub use fault::TraceFault;
-
-#[cfg(test)]
-mod row_tests;
-#[cfg(test)]
-mod tests;
+pub use shown::Show;

@@ -3,14 +3,10 @@ ghost use Rattle.std.specs.Prelude.{◌≡◌, ◌+◌, ◌<◌, ◌≤◌, ◌+
 ghost use Rattle.vm_base.specs.Cores.{members};
 ghost use Rattle.trace.specs.OutcomeText.{core_text, cores_text, finished_text, outcome_text};
 
-use arrayvec::ArrayString;
 use core_steps::Finished;
 use machine_model::{Blocker, Outcome};
-use trace_text::{number_text, reply_text};
+use trace_text::{LineText, number_text, reply_text};
 use vm_base::{CoreId, CoreSet};
-
-/// Room for one line of output. The longest names 64 cores.
-pub type LineText = ArrayString<256>;
 
 // A core behind a space, if it is a member.
 fn push_member(text: &mut LineText, cores: CoreSet, core: CoreId)

@@ -1,31 +1,34 @@
 //! The lines of a trace, acted on one by one.
-ghost use Rattle.std.specs.Prelude.{◌≡◌, ◌+◌, ◌^◌, ◌<◌, ◌⊎◌, Err, IfOk, IfSome, true};
+ghost use Rattle.std.specs.Prelude.{◌≡◌, ◌+◌, ◌^◌, ◌<◌, ◌⊎◌, Err, IfErr, IfOk, IfSome, OnOk, true};
 ghost use Rattle.trace_io.specs.Source.{HasStopped};
 ghost use Rattle.trace_io.specs.Window.{left, budget, opening};
 ghost use Rattle.trace.specs.declared.fault.TraceFault.TheVariants.{ReadFailed, WriteFailed};
 ghost use Rattle.trace.specs.Turns.{Turns, Scene};
 ghost use Rattle.trace.specs.Stage.{Start};
 ghost use Rattle.trace.specs.Ends.{Ends, TellsFaults};
+ghost use Rattle.trace.specs.Shown.{Closes, CloseFails};
 
 use crate::fault::TraceFault;
-use crate::outcome_text::LineText;
 use crate::replayer::{Replayer, Staged};
+use crate::shown::{Show, write_log, write_maps, write_told};
 use std::alloc::Allocator;
 use trace_io::lines::{Found, LineReader, NoLine};
-use trace_io::sink::{Sink, write_all};
+use trace_io::sink::Sink;
 use trace_io::source::Source;
+use trace_text::LineText;
 
-// Acts on the next line and writes its text, or answers false where there is none.
+// Acts on the next line and writes its text, where that is shown, or answers false where there is none.
 fn turn<A: Allocator, S: Source, W: Sink, R: Staged>(
     lines: &mut LineReader<A>,
     reader: &mut S,
     writer: &mut W,
     replayer: &mut R,
     number: u64,
+    show: Show,
     text: &mut LineText,
 ) -> Result<bool, TraceFault>
     requires { number + 1 < 2 ^ 64 }
-    ensures turns { Turns
+    ensures turns { Turns show
         (record {
           left = left (S.remaining reader.old) lines.old;
           unread = S.remaining reader.old;
@@ -54,12 +57,39 @@ fn turn<A: Allocator, S: Source, W: Sink, R: Staged>(
             if let Err(fault) = replayer.act(number + 1, lines.line(), text) {
                 return Err(fault);
             }
-            if let Err(_) = write_all(writer, text.as_str().as_bytes()) {
+            if let Err(_) = write_told(writer, show, text) {
                 return Err(TraceFault::WriteFailed);
             }
             Ok(true)
         }
     }
+}
+
+// Ends the trace, and writes what comes behind the text of its lines.
+fn close<W: Sink, R: Staged>(
+    writer: &mut W,
+    replayer: &R,
+    show: Show,
+    text: &mut LineText,
+) -> Result<(), TraceFault>
+    ensures ok { OnOk result (Closes show (R.stage replayer.now) (W.contents writer.old) (W.contents writer.new)) }
+    ensures err { IfErr result (λ f. CloseFails show (R.stage replayer.now)
+        (W.contents writer.old) (W.contents writer.new) f) }
+    ensures write { result ≡ Err WriteFailed → W.failed writer.new ≡ true }
+    ensures kept { (result ≡ Err WriteFailed) ⊎ (W.failed writer.new ≡ W.failed writer.old) }
+{
+    if let Err(fault) = replayer.finish() {
+        return Err(fault);
+    }
+    let done = match show {
+        Show::Outcomes => Ok(()),
+        Show::OutcomesAndLog => write_log(writer, replayer.log(), text),
+        Show::Maps => write_maps(writer, replayer, text),
+    };
+    if let Err(_) = done {
+        return Err(TraceFault::WriteFailed);
+    }
+    Ok(())
 }
 
 // Acts on the lines until the text ends.
@@ -68,21 +98,22 @@ fn replay_lines<A: Allocator, S: Source, W: Sink, R: Staged>(
     reader: &mut S,
     writer: &mut W,
     replayer: &mut R,
+    show: Show,
     text: &mut LineText,
 ) -> Result<(), TraceFault>
     requires fresh { lines.old ≡ opening }
     requires start { R.stage replayer.old ≡ Start }
     ensures ends { IfSome (S.remaining reader.old) (λ input.
-        Ends input (S.remaining reader.new) (W.contents writer.old) (W.contents writer.new) result) }
+        Ends show input (S.remaining reader.new) (W.contents writer.old) (W.contents writer.new) result) }
     ensures read { result ≡ Err ReadFailed → HasStopped (S.failed reader.new) (S.reads reader.new) }
     ensures write { result ≡ Err WriteFailed → W.failed writer.new ≡ true }
     ensures kept { (result ≡ Err WriteFailed) ⊎ (W.failed writer.new ≡ W.failed writer.old) }
 {
     let mut number = 0u64;
     'lines: loop {
-        match turn(lines, reader, writer, replayer, number, text) {
+        match turn(lines, reader, writer, replayer, number, show, text) {
             Ok(true) => number += 1,
-            Ok(false) => return replayer.finish(),
+            Ok(false) => return close(writer, replayer, show, text),
             Err(fault) => return Err(fault),
         }
     }
@@ -93,9 +124,10 @@ fn replay_text<A: Allocator + Clone + Drop, S: Source, W: Sink>(
     alloc: A,
     reader: &mut S,
     writer: &mut W,
+    show: Show,
 ) -> Result<(), TraceFault>
     ensures ends { IfSome (S.remaining reader.old) (λ input.
-        Ends input (S.remaining reader.new) (W.contents writer.old) (W.contents writer.new) result) }
+        Ends show input (S.remaining reader.new) (W.contents writer.old) (W.contents writer.new) result) }
     ensures read { result ≡ Err ReadFailed → HasStopped (S.failed reader.new) (S.reads reader.new) }
     ensures write { result ≡ Err WriteFailed → W.failed writer.new ≡ true }
     ensures kept { (result ≡ Err WriteFailed) ⊎ (W.failed writer.new ≡ W.failed writer.old) }
@@ -108,24 +140,26 @@ fn replay_text<A: Allocator + Clone + Drop, S: Source, W: Sink>(
     };
     let mut replayer = Replayer::new(alloc);
     let mut text = LineText::new();
-    replay_lines(&mut lines, reader, writer, &mut replayer, &mut text)
+    replay_lines(&mut lines, reader, writer, &mut replayer, show, &mut text)
 }
 
-/// Acts on each line as it is read, and writes its text before the next line is acted on. The text goes out before each read that
-/// a line has to wait for, and at the end, after a fault too. A write or a flush that fails ends the replay, and is told even where
+/// Acts on each line as it is read, and writes its text before the next line is acted on; at the end of the trace, if no fault came, the
+/// log comes behind the text, or the list of mappings in place of it, where it is to be shown. What is written goes out before each read
+/// that a line has to wait for, and at the end, after a fault too. A write or a flush that fails ends the replay, and is told even where
 /// another fault came first.
 pub fn replay<A: Allocator + Clone + Drop, S: Source, W: Sink>(
     alloc: A,
     reader: &mut S,
     writer: &mut W,
+    show: Show,
 ) -> Result<(), TraceFault>
     // What went out, and which fault it is, where the reader tells its bytes.
     ensures ends { IfSome (S.remaining reader.old) (λ input.
-        Ends input (S.remaining reader.new) (W.contents writer.old) (W.contents writer.new) result) }
+        Ends show input (S.remaining reader.new) (W.contents writer.old) (W.contents writer.new) result) }
     ensures told { TellsFaults result (S.failed reader.new) (S.reads reader.new)
         (W.failed writer.old) (W.failed writer.new) (W.is_flushed writer.new) }
 {
-    let done = replay_text(alloc, reader, writer);
+    let done = replay_text(alloc, reader, writer, show);
     match writer.flush() {
         Ok(()) => done,
         Err(_) => Err(TraceFault::WriteFailed),

@@ -1,19 +1,21 @@
 //! A replay between two lines, and what one line does to it.
-ghost use Rattle.std.specs.Prelude.{◌≡◌, ◌⊎◌, [], option_map, None, IfOk, IfErr, IfSome, OnOk, IsSomeAnd};
+ghost use Rattle.std.specs.Prelude.{◌≡◌, ◌≤◌, ◌⊎◌, [], option_map, None, IfOk, IfErr, IfNone, IfSome, OnOk, IsSomeAnd};
 ghost use Rattle.core_steps.specs.Machine.{state};
 ghost use Rattle.trace_text.specs.Words.{words_of};
 ghost use Rattle.trace.specs.Stage.{Stage, Start, Declared, stage_of, Opens, OpenFails, CanOpen, Acts, BadFails, EventActs, EventFails, EventWants, FileFails, LateFails, LineActs, LineFails, LineWants, SpaceFails, kind_of};
+ghost use Rattle.trace.specs.Shown.{HasNoneAt, IsNextAt, IsStartAt, log_at};
 
 use crate::declaration::{Declaration, FileLine};
 use crate::event_lines::run_line;
 use crate::fault::TraceFault;
-use crate::outcome_text::LineText;
 use core_steps::{Machine, SetupFault};
+use machine_model::Entry;
+use map_list::MapLine;
 use mmu::{Cpu, Hardware};
 use radix_range::RadixMap;
 use slot_lock::SlotMap;
 use std::alloc::Allocator;
-use trace_text::{Line, first_word_is_file, first_word_is_vm, is_printable, read_line};
+use trace_text::{Line, LineText, first_word_is_file, first_word_is_vm, is_printable, read_line};
 
 /// What acts on the lines of a trace, one at a time.
 pub trait Staged {
@@ -32,6 +34,18 @@ pub trait Staged {
     fn finish(&self) -> Result<(), TraceFault>
         ensures ok { OnOk result (CanOpen (stage self.now)) }
         ensures err { IfErr result (λ f. OpenFails (stage self.now) f) };
+
+    /// The log of the machine; up to the first event it is empty.
+    fn log(&self) -> &[Entry]
+        ensures { result.now ≡ log_at (stage self.now) };
+
+    /// The first mapping that begins at the page `from` or above, where none goes across that page; up to the first event there is
+    /// none.
+    fn next_map_line(&self, from: u64) -> Option<MapLine>
+        requires low { 1 ≤ from }
+        requires begins { IsStartAt (stage self.now) from }
+        ensures some { IfSome result (IsNextAt (stage self.now) from) }
+        ensures none { IfNone result (HasNoneAt (stage self.now) from) };
 }
 
 /// A replay between two lines. Up to the `vm` line it has neither a declaration nor a machine, then a declaration, and from
@@ -269,6 +283,20 @@ impl<A: Allocator + Clone + Drop> Staged for Replayer<A> {
                 Ok(_) => Ok(()),
                 Err(fault) => Err(fault),
             },
+        }
+    }
+
+    fn log(&self) -> &[Entry] {
+        match &self.machine {
+            Some(machine) => machine.log(),
+            None => &[],
+        }
+    }
+
+    fn next_map_line(&self, from: u64) -> Option<MapLine> {
+        match &self.machine {
+            Some(machine) => machine.next_map_line(from),
+            None => None,
         }
     }
 }

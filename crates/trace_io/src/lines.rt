@@ -1,5 +1,5 @@
-//! Lines of at most 256 bytes, read in chunks of fixed size: once made, a reader of lines takes no memory. Before it reads,
-//! what was written goes out.
+//! Lines of at most 256 bytes, read in chunks of fixed size: once made, a reader of lines takes no
+//! memory. Before it reads, what was written goes out.
 ghost use Rattle.std.specs.Prelude.{◌≡◌, ◌+◌, ◌-◌, ◌<◌, ◌≤◌, ◌^◌, length, take, slice_range, IfOk, OnOk, OnErr};
 ghost use Rattle.std.specs.Io.KnownBytes.{Keeps, Consumes, IsAtEnd};
 ghost use Rattle.trace_io.specs.Source.{HasStopped};
@@ -16,8 +16,8 @@ pub const LINE_LIMIT: usize = 256;
 /// How many bytes are read at once.
 const CHUNK: usize = 65_536;
 
-// What the bytes held begin with: a line and its newline, more bytes without one than a line may have, or
-// neither.
+// What the bytes held begin with: a line and its newline, more bytes without one than a line may
+// have, or neither.
 #[derive(Clone, Copy, Debug, PartialEq, Eq)]
 enum Scan {
     Line,
@@ -79,7 +79,8 @@ impl<A: Allocator> LineReader<A> {
     ghost use Rattle.trace_io.specs.Source.{HasStopped};
     ghost use Rattle.std.specs.Io.KnownBytes.{Keeps, IsAtEnd};
 
-    /// A reader of lines that has read nothing. It takes all of its memory here, 64 KiB; `Err` where there is none.
+    /// A reader of lines that has read nothing. It takes all of its memory here, 64 KiB; `Err`
+    /// where there is none.
     pub fn new(alloc: A) -> Result<LineReader<A>, AllocError>
         ensures { IfOk result (λ r. r ≡ opening) }
     {
@@ -182,10 +183,11 @@ impl<A: Allocator> LineReader<A> {
         }
     }
 
-    /// Goes on to the next line, which `line` then gives. A line that is too long isn't taken, and is found again
-    /// by the next call. Where no whole line is held, what was written goes out before the first read, so whoever waits for
-    /// it before they go on sees it. At an `Err` no byte is lost, and no newline is among the bytes held; where the writer
-    /// failed, no read was made.
+    /// Goes on to the next line, which `line` then gives. A line that is too long isn't taken, and
+    /// is found again by the next call. Where no whole line is held, what was written goes out
+    /// before the first read, so whoever waits for it before they go on sees it. At an `Err` no
+    /// byte is lost, and no newline is among the bytes held; where the writer failed, no read was
+    /// made.
     pub fn next_line<S: Source, W: Sink>(
         &mut self,
         reader: &mut S,

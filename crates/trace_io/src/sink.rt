@@ -1,4 +1,5 @@
-//! What is written to: a writer that tells what it holds, whether all of it has gone out, and whether a write has failed.
+//! What is written to: a writer that tells what it holds, whether all of it has gone out, and
+//! whether a write has failed.
 ghost use Rattle.std.specs.Prelude.{◌≡◌, ◌<◌, ℕ, List, Bool, true, false, Option, length, IfOk, OnOk, OnErr};
 ghost use Rattle.std.specs.Io.{WritesAtMost};
 ghost use Rattle.std.specs.Io.KnownBytes.{Keeps, Appends, WriteAppends};
@@ -10,8 +11,8 @@ use std::io::Write;
 #[derive(Clone, Copy, Debug, PartialEq, Eq)]
 pub struct WriteFailed;
 
-/// A writer that tells what it holds, whether all of it has gone out, and whether a write or a flush has failed or a write
-/// has taken no byte.
+/// A writer that tells what it holds, whether all of it has gone out, and whether a write or a
+/// flush has failed or a write has taken no byte.
 pub trait Sink {
     // The bytes that the writer holds, where they are known.
     ghost contents: { Self → Option (List ℕ) };
@@ -20,8 +21,8 @@ pub trait Sink {
     // Whether all that was written has gone out, so that none of it lies in a buffer.
     ghost is_flushed: { Self → Bool };
 
-    /// Writes a front of the bytes, at least one, and answers how many (POSIX.1-2017, write). At an `Err` the
-    /// write has failed, or took no byte; what the writer holds is unchanged.
+    /// Writes a front of the bytes, at least one, and answers how many (POSIX.1-2017, write). At an
+    /// `Err` the write has failed, or took no byte; what the writer holds is unchanged.
     fn write(&mut self, bytes: &[u8]) -> Result<usize, WriteFailed>
         requires { 0 < length bytes.now }
         ensures bound { WritesAtMost result bytes.now }
@@ -30,8 +31,8 @@ pub trait Sink {
         ensures ok { OnOk result (failed self.new ≡ failed self.old) }
         ensures err { OnErr result (failed self.new ≡ true) };
 
-    /// Hands on what lies in a buffer; after an `Ok` all that was written has gone out. What the writer holds is unchanged,
-    /// at an `Err` too.
+    /// Hands on what lies in a buffer; after an `Ok` all that was written has gone out. What the
+    /// writer holds is unchanged, at an `Err` too.
     fn flush(&mut self) -> Result<(), WriteFailed>
         ensures bytes { Keeps (contents self.old) (contents self.new) }
         ensures out { OnOk result (is_flushed self.new ≡ true) }
@@ -92,7 +93,8 @@ impl<W: Write> Sink for Noted<W> {
 pub fn write_all<W: Sink>(writer: &mut W, bytes: &[u8]) -> Result<(), WriteFailed>
     ensures ok { OnOk result (Appends (W.contents writer.old) (W.contents writer.new) bytes.now) }
     ensures kept { OnOk result (W.failed writer.new ≡ W.failed writer.old) }
-    ensures front { OnErr result (AppendsFront (W.contents writer.old) (W.contents writer.new) bytes.now) }
+    ensures front { OnErr result
+        (AppendsFront (W.contents writer.old) (W.contents writer.new) bytes.now) }
     ensures err { OnErr result (W.failed writer.new ≡ true) }
 {
     let mut done = 0;

@@ -1,4 +1,5 @@
-//! What is read from: a reader that tells its bytes, how often it was read, and whether a read has failed.
+//! What is read from: a reader that tells its bytes, how often it was read, and whether a read has
+//! failed.
 ghost use Rattle.std.specs.Prelude.{◌≡◌, ◌+◌, ◌^◌, ◌<◌, ℕ, List, Bool, false, Option, OnOk, OnErr};
 ghost use Rattle.std.specs.Io.{ReadsAtMost};
 ghost use Rattle.std.specs.Io.KnownBytes.{ReadConsumes};
@@ -22,9 +23,9 @@ pub trait Source {
     // Whether a read has failed.
     ghost failed: { Self → Bool };
 
-    /// Reads into the front of the buffer, and answers how many bytes: 0 only at the end, or for a buffer
-    /// without room (POSIX.1-2017, read). At an `Err` a read has failed, an interrupted one too, or
-    /// `READ_LIMIT` reads gave an answer before; no byte is lost.
+    /// Reads into the front of the buffer, and answers how many bytes: 0 only at the end, or for a
+    /// buffer without room (POSIX.1-2017, read). At an `Err` a read has failed, an interrupted one
+    /// too, or `READ_LIMIT` reads gave an answer before; no byte is lost.
     fn read(&mut self, buffer: &mut [u8]) -> Result<usize, ReadFailed>
         ensures bound { ReadsAtMost result buffer.new }
         ensures bytes { ReadConsumes (remaining self.old) (remaining self.new) result buffer.new }

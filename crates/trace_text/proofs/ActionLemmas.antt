@@ -10,11 +10,11 @@ use Rattle.trace_text.specs.Words.{Word, front_word}
 use Rattle.trace_text.specs.Number.{number_of}
 use Rattle.trace_text.specs.Request.{◌>>=◌, ended, request_of}
 use Rattle.trace_text.specs.Spelling.{SpellsNumber, SpellsPage}
-use Rattle.trace_text.specs.Action.{number_alone, page_alone, call_of, frame_of, walk_of, evict_of, bare_of, action_of}
+use Rattle.trace_text.specs.Action.{number_alone, page_alone, call_of, frame_of, guess_of, walk_of, evict_of, bare_of, action_of}
 use Rattle.trace_text.specs.Line.{act_of, task_of}
 use Rattle.trace_text.specs.Grammar.{Does}
 use Rattle.trace_text.specs.declared.action.Action.{Action}
-use Rattle.trace_text.specs.declared.action.Action.TheVariants.{Call, Go, Take, Flush, Review, GiveUp, Frame, Walk, Evict}
+use Rattle.trace_text.specs.declared.action.Action.TheVariants.{Call, Go, Take, Flush, Review, GiveUp, Frame, Guess, Whole, Walk, Evict}
 use Rattle.trace_text.specs.declared.line.Line.TheVariants.{Act}
 
 -- ---- what is said is read
@@ -28,7 +28,7 @@ unfolding page_alone
 page_all w page (addr, s, p) = ap (λ o. o >>= λ a. Some (page_of a)) (alone_all w addr s) ∙ ap Some (sym p)
 
 pub act_is_read : (core : ℕ) (a : Action) (words : List Word) → Does a words → task_of core words ≡ Some (Act core a)
-unfolding task_of act_of action_of call_of frame_of walk_of evict_of
+unfolding task_of act_of action_of call_of frame_of guess_of walk_of evict_of
 act_is_read core (Call request) words (args, e, k) =
     ap (task_of core) e ∙ ap (λ o. (o >>= λ q. Some (Call q)) >>= λ a. Some (Act core a)) (asked_is_read request args k)
 act_is_read core Go words e = ap (task_of core) e
@@ -38,6 +38,9 @@ act_is_read core Review words e = ap (task_of core) e
 act_is_read core GiveUp words e = ap (task_of core) e
 act_is_read core (Frame frame) words (w, e, s) =
     ap (task_of core) e ∙ ap (λ o. (o >>= λ f. Some (Frame f)) >>= λ a. Some (Act core a)) (alone_all w frame s)
+act_is_read core (Guess page) words (w, e, s) =
+    ap (task_of core) e ∙ ap (λ o. (o >>= λ p. Some (Guess p)) >>= λ a. Some (Act core a)) (page_all w page s)
+act_is_read core Whole words e = ap (task_of core) e
 act_is_read core (Walk page) words (w, e, s) =
     ap (task_of core) e ∙ ap (λ o. (o >>= λ p. Some (Walk p)) >>= λ a. Some (Act core a)) (page_all w page s)
 act_is_read core (Evict page) words (w, e, s) =
@@ -76,6 +79,14 @@ only_frame args a e =
     let (w, is, s) = alone_only args frame k in
     subst (λ x. Does x (codes "frame" ∷ args)) same (w, ap (λ ws. codes "frame" ∷ ws) is, s)
 
+only_guess : (args : List Word) (a : Action) → guess_of args ≡ Some a → Does a (codes "guess" ∷ args)
+unfolding guess_of
+only_guess args a e =
+    let (page, k, e1) = bind_some (page_alone args) (λ p. Some (Guess p)) a e in
+    let same : Guess page ≡ a = cc in
+    let (w, is, s) = page_only args page k in
+    subst (λ x. Does x (codes "guess" ∷ args)) same (w, ap (λ ws. codes "guess" ∷ ws) is, s)
+
 only_walk : (args : List Word) (a : Action) → walk_of args ≡ Some a → Does a (codes "walk" ∷ args)
 unfolding walk_of
 only_walk args a e =
@@ -113,7 +124,10 @@ only_bare name a e = elim (chosen (bytes_eq name (codes "go")) _ _ (Some a) e) [
         | inl m ↦ told a Review name (codes "review") m.0 m.1 refl
         | inr m ↦ elim (chosen (bytes_eq name (codes "giveup")) _ _ (Some a) m.1) [
           | inl n ↦ told a GiveUp name (codes "giveup") n.0 n.1 refl
-          | inr n ↦ let bad = n.1 in absurd (cc)
+          | inr n ↦ elim (chosen (bytes_eq name (codes "whole")) _ _ (Some a) n.1) [
+            | inl o ↦ told a Whole name (codes "whole") o.0 o.1 refl
+            | inr o ↦ let bad = o.1 in absurd (cc)
+          ]
         ]
       ]
     ]
@@ -133,11 +147,14 @@ only_action name args a e = elim (chosen (bytes_eq name (codes "call")) _ _ (Som
   | inl h ↦ named a name (codes "call") args h.0 (only_call args a h.1)
   | inr h ↦ elim (chosen (bytes_eq name (codes "frame")) _ _ (Some a) h.1) [
     | inl k ↦ named a name (codes "frame") args k.0 (only_frame args a k.1)
-    | inr k ↦ elim (chosen (bytes_eq name (codes "walk")) _ _ (Some a) k.1) [
-      | inl l ↦ named a name (codes "walk") args l.0 (only_walk args a l.1)
-      | inr l ↦ elim (chosen (bytes_eq name (codes "evict")) _ _ (Some a) l.1) [
-        | inl m ↦ named a name (codes "evict") args m.0 (only_evict args a m.1)
-        | inr m ↦ only_ended name args a m.1
+    | inr k ↦ elim (chosen (bytes_eq name (codes "guess")) _ _ (Some a) k.1) [
+      | inl l ↦ named a name (codes "guess") args l.0 (only_guess args a l.1)
+      | inr l ↦ elim (chosen (bytes_eq name (codes "walk")) _ _ (Some a) l.1) [
+        | inl m ↦ named a name (codes "walk") args m.0 (only_walk args a m.1)
+        | inr m ↦ elim (chosen (bytes_eq name (codes "evict")) _ _ (Some a) m.1) [
+          | inl n ↦ named a name (codes "evict") args n.0 (only_evict args a n.1)
+          | inr n ↦ only_ended name args a n.1
+        ]
       ]
     ]
   ]

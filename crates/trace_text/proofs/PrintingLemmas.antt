@@ -1,9 +1,12 @@
 -- Digits of a number before its last one.
-use Rattle.std.proofs.Common.{◌≡◌, ℕ, ◌+◌, ◌^◌, ◌/◌, ◌%◌, ◌<◌, ◌≤◌, List, [], ◌∷◌, ◌++◌, length, map, arith, append_assoc, false}
+use Rattle.std.proofs.Common.{◌≡◌, ℕ, ◌+◌, ◌^◌, ◌*◌, ◌/◌, ◌%◌, ◌<◌, ◌≤◌, List, [], ◌∷◌, ◌++◌, length, map, arith, append_assoc, false, codes, refl, sym, ap, ◌∙◌, cond, eqb}
+use Rattle.std.proofs.lemmas.Bool.{ne_eqb}
 use Rattle.std.proofs.lemmas.Int.Digits.{digits_of_step, length-digits_of_step, length-digits_of-le}
 use Rattle.std.proofs.lemmas.List.{map-append, length-append, length-map}
 use Rattle.std.specs.Fmt.{digit_glyph}
 use Rattle.std.specs.Int.Digits.{digits_of}
+use Rattle.trace_text.specs.Printing.{address_of, hexadecimal}
+use Rattle.trace_text.specs.Lists.{start_of}
 
 -- an address has at most 16 digits
 pub address_digits : (n : ℕ) → n < 2 ^ 64 → length (digits_of 16 n) ≤ 16
@@ -22,3 +25,35 @@ digits_more n front new glyph h e g =
 
 pub length_printed : (front ds : List ℕ) → length (front ++ map (digit_glyph false) ds) ≡ length front + length ds
 length_printed front ds = omega (arith, length-append front (map (digit_glyph false) ds), length-map ds (digit_glyph false))
+
+-- sixteen times a number has one more digit, a 0
+digits_shifted : (n m : ℕ) → 0 < n → m ≡ n * 16 → digits_of 16 m ≡ digits_of 16 n ++ 0 ∷ []
+digits_shifted n m h e =
+    let front : m / 16 ≡ n = omega (arith, e) in
+    let last : m % 16 ≡ 0 = omega (arith, e) in
+    digits_of_step 16 m (omega arith) (omega (arith, e)) ∙ ap (λ k. digits_of 16 k ++ m % 16 ∷ []) front
+    ∙ ap (λ d. digits_of 16 n ++ d ∷ []) last
+
+-- and 4096 times a number has three more
+digits_of_start : (n : ℕ) → 0 < n → digits_of 16 (n * 4096) ≡ digits_of 16 n ++ 0 ∷ 0 ∷ 0 ∷ []
+digits_of_start n h =
+    digits_shifted (n * 256) (n * 4096) (omega arith) (omega arith)
+    ∙ ap (λ ds. ds ++ 0 ∷ []) (digits_shifted (n * 16) (n * 256) (omega arith) (omega arith)
+    ∙ ap (λ ds. ds ++ 0 ∷ []) (digits_shifted n (n * 16) h refl))
+    ∙ append_assoc (digits_of 16 n ++ 0 ∷ []) (0 ∷ []) (0 ∷ []) ∙ append_assoc (digits_of 16 n) (0 ∷ []) (0 ∷ 0 ∷ [])
+
+hexadecimal_digits : (n : ℕ) → 0 < n → hexadecimal n ≡ map (digit_glyph false) (digits_of 16 n)
+hexadecimal_digits n h =
+    let some : eqb n 0 ≡ false = ne_eqb n 0 (λ e. absurd (omega (arith, h, e))) in
+    ap (λ b. cond b (codes "0") (map (digit_glyph false) (digits_of 16 n))) some
+
+-- the digits of a page's number, and three of 0 behind them, are those of its address
+pub start_printed : (n : ℕ) (text number new : List ℕ) → 0 < n → number ≡ text ++ address_of n → new ≡ number ++ codes "000"
+    → new ≡ text ++ start_of n
+start_printed n text number new h e f =
+    let short = hexadecimal_digits n h in
+    let long = hexadecimal_digits (n * 4096) (omega (arith, h)) in
+    let shifted = map-append (digit_glyph false) (digits_of 16 n) (0 ∷ 0 ∷ 0 ∷ []) in
+    let more = long ∙ ap (map (digit_glyph false)) (digits_of_start n h) ∙ shifted ∙ ap (λ ds. ds ++ codes "000") (sym short) in
+    f ∙ ap (λ t. t ++ codes "000") e ∙ append_assoc text (address_of n) (codes "000")
+    ∙ ap (λ ds. text ++ (codes "0x" ++ ds)) (sym more)

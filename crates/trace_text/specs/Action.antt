@@ -6,7 +6,7 @@ use Rattle.trace_text.specs.Words.{Word, front_word}
 use Rattle.trace_text.specs.Number.{number_of}
 use Rattle.trace_text.specs.Request.{◌>>=◌, ended, request_of}
 use Rattle.trace_text.specs.declared.action.Action.{Action}
-use Rattle.trace_text.specs.declared.action.Action.TheVariants.{Call, Go, Take, Flush, Review, GiveUp, Frame, Walk, Evict}
+use Rattle.trace_text.specs.declared.action.Action.TheVariants.{Call, Go, Take, Flush, Review, GiveUp, Frame, Guess, Whole, Walk, Evict}
 
 -- the number that is the last word
 unfoldable pub number_alone : List Word → Option ℕ
@@ -31,6 +31,11 @@ frame_of words = do
   frame ← number_alone words
   Some (Frame frame)
 
+unfoldable pub guess_of : List Word → Option Action
+guess_of words = do
+  page ← page_alone words
+  Some (Guess page)
+
 unfoldable pub walk_of : List Word → Option Action
 walk_of words = do
   page ← page_alone words
@@ -47,12 +52,14 @@ bare_of name = if bytes_eq name (codes "go") then Some Go
     else if bytes_eq name (codes "take") then Some Take
     else if bytes_eq name (codes "flush") then Some Flush
     else if bytes_eq name (codes "review") then Some Review
-    else if bytes_eq name (codes "giveup") then Some GiveUp else None
+    else if bytes_eq name (codes "giveup") then Some GiveUp
+    else if bytes_eq name (codes "whole") then Some Whole else None
 
 -- an action, by its name and the words behind it
 unfoldable pub action_of : Word → List Word → Option Action
 action_of name args = if bytes_eq name (codes "call") then call_of args
     else if bytes_eq name (codes "frame") then frame_of args
+    else if bytes_eq name (codes "guess") then guess_of args
     else if bytes_eq name (codes "walk") then walk_of args
     else if bytes_eq name (codes "evict") then evict_of args
     else (bare_of name >>= λ action. ended args action)

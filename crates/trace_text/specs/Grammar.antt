@@ -9,25 +9,28 @@ use Rattle.trace_text.specs.Printing.{address_of}
 use Rattle.trace_text.specs.Spelling.{SpellsNumber, SpellsPage, SpellsFlags, SpellsCore, mode_text, rights_text}
 use Rattle.trace_text.specs.Line.{line_of_words}
 use Rattle.trace_text.specs.declared.action.Action.{Action}
-use Rattle.trace_text.specs.declared.action.Action.TheVariants.{Call, Go, Take, Flush, Review, GiveUp, Frame, Walk, Evict}
+use Rattle.trace_text.specs.declared.action.Action.TheVariants.{Call, Go, Take, Flush, Review, GiveUp, Frame, Guess, Whole, Walk, Evict}
 use Rattle.trace_text.specs.declared.line.Line.{Line}
 use Rattle.trace_text.specs.declared.line.Line.TheVariants.{Blank, Space, File, Act, Fold, Finish, Now}
 
--- the words after the flags: a file and an offset, both 0 where a mapping of zero bytes leaves them out
+-- the words after the flags: a file and an offset, both 0 where a mapping of zero bytes leaves them
+-- out
 abbrev pub Backs : Flags → ℕ → ℕ → List Word → Type 0
 Backs flags file off words = ((words ≡ []) × (flags.anon ≡ true) × (file ≡ 0) × (off ≡ 0))
     ⊎ ((f : Word) × (o : Word) × (words ≡ f ∷ o ∷ []) × SpellsNumber f file × SpellsNumber o off)
 
 -- the words say this request
 abbrev pub Asks : Request → List Word → Type 0
-Asks (Mmap addr len prot flags file off) words = (a : Word) × (l : Word) × (p : Word) × (f : Word) × (more : List Word)
+Asks (Mmap addr len prot flags file off) words =
+    (a : Word) × (l : Word) × (p : Word) × (f : Word) × (more : List Word)
     × (words ≡ codes "mmap" ∷ a ∷ l ∷ p ∷ f ∷ more) × SpellsNumber a addr × SpellsNumber l len
     × (p ≡ rights_text prot) × SpellsFlags f flags
     × Backs flags file off more
 Asks (Munmap addr len) words = (a : Word) × (l : Word) × (words ≡ codes "munmap" ∷ a ∷ l ∷ [])
     × SpellsNumber a addr × SpellsNumber l len
 Asks (Mprotect addr len prot) words = (a : Word) × (l : Word) × (p : Word)
-    × (words ≡ codes "mprotect" ∷ a ∷ l ∷ p ∷ []) × SpellsNumber a addr × SpellsNumber l len × (p ≡ rights_text prot)
+    × (words ≡ codes "mprotect" ∷ a ∷ l ∷ p ∷ []) × SpellsNumber a addr × SpellsNumber l len
+    × (p ≡ rights_text prot)
 Asks (Load addr) words = (a : Word) × (words ≡ codes "load" ∷ a ∷ []) × SpellsNumber a addr
 Asks (Store addr byte) words = (a : Word) × (b : Word) × (words ≡ codes "store" ∷ a ∷ b ∷ [])
     × SpellsNumber a addr × SpellsNumber b byte × (byte ≤ 255)
@@ -42,21 +45,27 @@ Does Flush words = words ≡ codes "flush" ∷ []
 Does Review words = words ≡ codes "review" ∷ []
 Does GiveUp words = words ≡ codes "giveup" ∷ []
 Does (Frame frame) words = (f : Word) × (words ≡ codes "frame" ∷ f ∷ []) × SpellsNumber f frame
+Does (Guess page) words = (a : Word) × (words ≡ codes "guess" ∷ a ∷ []) × SpellsPage a page
+Does Whole words = words ≡ codes "whole" ∷ []
 Does (Walk page) words = (a : Word) × (words ≡ codes "walk" ∷ a ∷ []) × SpellsPage a page
 Does (Evict page) words = (a : Word) × (words ≡ codes "evict" ∷ a ∷ []) × SpellsPage a page
 
 -- the words after CORES and FRAMES: CALLS, which is 4096 where left out
 abbrev pub Limits : ℕ → List Word → Type 0
-Limits calls words = ((words ≡ []) × (calls ≡ 4096)) ⊎ ((w : Word) × (words ≡ w ∷ []) × SpellsNumber w calls)
+Limits calls words =
+    ((words ≡ []) × (calls ≡ 4096)) ⊎ ((w : Word) × (words ≡ w ∷ []) × SpellsNumber w calls)
 
 -- the words of a line say this
 abbrev pub Says : Line → List Word → Type 0
 Says Blank words = words ≡ []
 Says (Space cores frames calls) words = (c : Word) × (f : Word) × (more : List Word)
-    × (words ≡ codes "vm" ∷ c ∷ f ∷ more) × SpellsNumber c cores × SpellsNumber f frames × Limits calls more
-Says (File number mode len seed) words = (n : Word) × (l : Word) × (s : Word) × (words ≡ codes "file" ∷ n ∷ mode_text mode ∷ l ∷ s ∷ [])
+    × (words ≡ codes "vm" ∷ c ∷ f ∷ more) × SpellsNumber c cores × SpellsNumber f frames
+    × Limits calls more
+Says (File number mode len seed) words =
+    (n : Word) × (l : Word) × (s : Word) × (words ≡ codes "file" ∷ n ∷ mode_text mode ∷ l ∷ s ∷ [])
     × SpellsNumber n number × SpellsNumber l len × SpellsNumber s seed × (seed ≤ 255)
-Says (Act core action) words = (c : Word) × (args : List Word) × (words ≡ c ∷ args) × SpellsCore c core × Does action args
+Says (Act core action) words =
+    (c : Word) × (args : List Word) × (words ≡ c ∷ args) × SpellsCore c core × Does action args
 Says (Fold page) words = (a : Word) × (words ≡ codes "fold" ∷ a ∷ []) × SpellsPage a page
 Says (Finish core) words = (c : Word) × (words ≡ c ∷ codes "finish" ∷ []) × SpellsCore c core
 Says (Now core request) words = (c : Word) × (args : List Word) × (words ≡ (c ++ codes "!") ∷ args)
@@ -72,4 +81,5 @@ ReadsOnly = (line : Line) (words : List Word) → line_of_words words ≡ Some l
 
 -- numbers and addresses that are printed are read back as themselves
 abbrev pub ReadsPrinted : Type 0
-ReadsPrinted = (n : ℕ) → n < 2 ^ 64 → (number_of (decimal n) ≡ Some n) × (number_of (address_of n) ≡ Some n)
+ReadsPrinted =
+    (n : ℕ) → n < 2 ^ 64 → (number_of (decimal n) ≡ Some n) × (number_of (address_of n) ≡ Some n)

@@ -5,4 +5,5 @@ pub mod Action
 pub mod Line
 pub mod Printing
 pub mod Spelling
+pub mod Lists
 pub mod Grammar

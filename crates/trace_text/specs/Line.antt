@@ -66,13 +66,15 @@ file_of words = do
 
 -- a number of one digit, and of two without a leading zero
 abbrev pub one_digit : ℕ → Option ℕ
-one_digit d = if nat_le (byte (codes "0")) d && nat_le d (byte (codes "9")) then Some (d - byte (codes "0")) else None
+one_digit d =
+    if nat_le (byte (codes "0")) d && nat_le d (byte (codes "9")) then Some (d - byte (codes "0"))
+    else None
 
 abbrev pub two_digits : ℕ → ℕ → Option ℕ
 two_digits d e =
     let n = 10 * (d - byte (codes "0")) + (e - byte (codes "0")) in
-    if nat_le (byte (codes "1")) d && nat_le d (byte (codes "9")) && nat_le (byte (codes "0")) e && nat_le e
-    (byte (codes "9"))
+    if nat_le (byte (codes "1")) d && nat_le d (byte (codes "9")) && nat_le (byte (codes "0")) e
+    && nat_le e (byte (codes "9"))
     then (if nat_lt 63 n then None else Some n) else None
 
 abbrev pub core_number : List ℕ → Option ℕ
@@ -105,7 +107,8 @@ now_of word args = do
 
 -- a line of a core: `cC! REQ`, or `cC` and what it is told
 unfoldable pub event_of : Word → List Word → Option Line
-event_of name args = if ends_with_byte (byte (codes "!")) name then now_of (strip_last (byte (codes "!")) name) args
+event_of name args =
+    if ends_with_byte (byte (codes "!")) name then now_of (strip_last (byte (codes "!")) name) args
     else (core_of name >>= λ core. task_of core args)
 
 unfoldable pub fold_of : List Word → Option Line

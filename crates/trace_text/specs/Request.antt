@@ -20,7 +20,8 @@ ended (w ∷ ws) x = None
 
 -- a right's letter, or a dash where it isn't given
 abbrev pub mark_of : ℕ → ℕ → Option Bool
-mark_of letter c = if c == letter then Some true else if c == byte (codes "-") then Some false else None
+mark_of letter c =
+    if c == letter then Some true else if c == byte (codes "-") then Some false else None
 
 -- three marks: of read, write and execute
 unfoldable pub prot_of : Word → Option Prot

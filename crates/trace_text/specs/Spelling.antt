@@ -37,7 +37,8 @@ mark true letter = letter
 mark false letter = codes "-"
 
 abbrev pub rights_text : Prot → Word
-rights_text prot = mark prot.read (codes "r") ++ mark prot.write (codes "w") ++ mark prot.exec (codes "x")
+rights_text prot =
+    mark prot.read (codes "r") ++ mark prot.write (codes "w") ++ mark prot.exec (codes "x")
 
 abbrev pub mode_text : Mode → Word
 mode_text R = codes "r"
@@ -59,7 +60,8 @@ pub record SpellsLetters (word : Word) (flags : Flags) : Type 0 where
   pub shared : occurrences (byte (codes "s")) word ≡ times flags.shared
   pub fixed : occurrences (byte (codes "f")) word ≡ times flags.fixed
   pub anon : occurrences (byte (codes "a")) word ≡ times flags.anon
-  pub others : length word ≡ times flags.private + times flags.shared + times flags.fixed + times flags.anon
+  pub others : length word
+      ≡ times flags.private + times flags.shared + times flags.fixed + times flags.anon
 
 -- or a dash for none
 abbrev pub SpellsFlags : Word → Flags → Type 0

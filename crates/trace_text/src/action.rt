@@ -1,7 +1,7 @@
 //! What a core is to do, as words: `call REQ`, `go`, `frame F`, `walk ADDR` and the like.
 ghost use Rattle.std.specs.Prelude.{◌≡◌};
 ghost use Rattle.trace_text.specs.Words.{words_of};
-ghost use Rattle.trace_text.specs.Action.{action_of, bare_of, call_of, evict_of, frame_of, number_alone, page_alone, walk_of};
+ghost use Rattle.trace_text.specs.Action.{action_of, bare_of, call_of, evict_of, frame_of, guess_of, number_alone, page_alone, walk_of};
 
 use crate::number::read_number;
 use crate::request::read_request;
@@ -25,6 +25,10 @@ pub enum Action {
     GiveUp,
     /// `frame F`: take the frame with this number, which may be the number of none.
     Frame(u64),
+    /// `guess ADDR`: guess that there is a place from the page with this number on.
+    Guess(u64),
+    /// `whole`: guess no place, and take the whole window.
+    Whole,
     /// `walk ADDR`: fill the TLB from the tables, at the page with this number.
     Walk(u64),
     /// `evict ADDR`: drop the TLB's translation of the page with this number.
@@ -69,6 +73,14 @@ fn read_frame(args: &[u8]) -> Option<Action>
     Some(Action::Frame(frame))
 }
 
+#[tactic(auto, unfolding(crate::specs::Action::guess_of))]
+fn read_guess(args: &[u8]) -> Option<Action>
+    ensures { result ≡ guess_of (words_of args.now) }
+{
+    let page = read_page_alone(args)?;
+    Some(Action::Guess(page))
+}
+
 #[tactic(auto, unfolding(crate::specs::Action::walk_of))]
 fn read_walk(args: &[u8]) -> Option<Action>
     ensures { result ≡ walk_of (words_of args.now) }
@@ -99,6 +111,8 @@ fn read_bare(name: &[u8]) -> Option<Action>
         Some(Action::Review)
     } else if name == b"giveup".as_slice() {
         Some(Action::GiveUp)
+    } else if name == b"whole".as_slice() {
+        Some(Action::Whole)
     } else {
         None
     }
@@ -114,6 +128,8 @@ pub fn read_action(name: &[u8], args: &[u8]) -> Option<Action>
         read_call(args)
     } else if name == b"frame".as_slice() {
         read_frame(args)
+    } else if name == b"guess".as_slice() {
+        read_guess(args)
     } else if name == b"walk".as_slice() {
         read_walk(args)
     } else if name == b"evict".as_slice() {

@@ -1,4 +1,4 @@
-//! The text of traces: what a line says, and what a reply is written as.
+//! The text of traces: what a line says, and what replies, the log and the list of mappings are written as.
 #![tactic(auto)]
 
 pub mod action;
@@ -6,6 +6,7 @@ pub mod core_line;
 pub mod file_line;
 pub mod grammar;
 pub mod line;
+pub mod lists;
 pub mod number;
 pub mod printing;
 pub mod request;
@@ -14,9 +15,5 @@ pub mod words;
 
 pub use action::Action;
 pub use line::{Line, first_word_is_file, first_word_is_vm, is_printable, read_line};
+pub use lists::{LineText, write_answer, write_detach, write_map_line};
 pub use printing::{ShortText, address_text, number_text, reply_text};
-
-#[cfg(test)]
-mod io_tests;
-#[cfg(test)]
-mod tests;

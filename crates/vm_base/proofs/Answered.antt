@@ -1,4 +1,4 @@
--- Each request has an answer: what the definitions ask of a range or a window is found by going through it
+-- Each request has an answer by the first place: what the definitions ask of a range or a window is found by going through it
 use Rattle.std.proofs.Common.{◌≡◌, ℕ, zero, suc, ◌<◌, ◌≤◌, ◌+◌, ◌*◌, ◌-◌, ◌⊎◌, inl, inr, Bool, true, false, is_some, refl, subst, arith, Some, None, Option}
 use Rattle.std.proofs.lemmas.Bool.{cases_lt}
 use Rattle.vm_base.specs.declared.info.Back.{Back}
@@ -13,13 +13,13 @@ use Rattle.vm_base.specs.declared.rights.Access.{Access}
 use Rattle.vm_base.specs.declared.rights.Access.TheVariants.{Load, Store, Fetch}
 use Rattle.vm_base.specs.Functions.{has}
 use Rattle.vm_base.specs.Pages.{are_pages, page_count, page_of, pages_from, pages_of, window_of}
-use Rattle.vm_base.specs.Places.{IsFree, IsHint, IsPlace, IsLeastRoom, IsRoom}
-use Rattle.vm_base.specs.Places.IsPlace.{at_hint, in_window}
+use Rattle.vm_base.specs.Places.{IsFree, IsHint, IsFirstPlace, IsLeastRoom, IsRoom}
+use Rattle.vm_base.specs.Places.IsFirstPlace.{at_hint, in_window}
 use Rattle.vm_base.specs.Plain.{Entry, Plain, mode_of, is_mapped}
 use Rattle.vm_base.specs.Refusals.{refusal}
 use Rattle.vm_base.specs.Apply.{AppliesAfter, Performs, Maps, MapsAt, Protects, HasPage, Accesses, access_reply, accessed, back_at, is_absent, is_read_only, mapped, protected, range_at, unmapped}
 use Rattle.vm_base.specs.Apply.Protects.{no_page, no_write, done}
-use Rattle.vm_base.specs.Answers.{Answers, prepared}
+use Rattle.vm_base.specs.Answers.{FirstAnswers, prepared}
 use Rattle.vm_base.proofs.Functions.{has_in, in_has}
 use Rattle.vm_base.proofs.Ready.{load_ready, fetch_ready, store_ready}
 
@@ -109,10 +109,10 @@ least_room m w n = go (room_below m w n (suc w.end))
     go (inl found) = (Some found.0, found.1)
     go (inr none) = (None, λ s room. let high : s + n ≤ w.end = room.1 in none s (omega (arith, high)) room)
 
-place : (m : ℕ → Bool) (w : PageRange) (h n : ℕ) → (at : Option ℕ) × IsPlace m w h n at
+place : (m : ℕ → Bool) (w : PageRange) (h n : ℕ) → (at : Option ℕ) × IsFirstPlace m w h n at
 place m w h n = go (hint_or_not m h n)
   where
-    go : IsHint m h n ⊎ (IsHint m h n → ⊥) → (at : Option ℕ) × IsPlace m w h n at
+    go : IsHint m h n ⊎ (IsHint m h n → ⊥) → (at : Option ℕ) × IsFirstPlace m w h n at
     go (inl hint) = (Some h, at_hint hint refl)
     go (inr none) = let least = least_room m w n in (least.0, in_window none least.1)
 
@@ -125,7 +125,7 @@ maps : (t : Plain) (o : Option PageRange) (back : Back) (prot : Prot) → Replie
 maps t None back prot = (Refused ENOMEM, t, (refl, refl))
 maps t (Some r) back prot = (Mapped (r.first * 4096), mapped t r back prot, (refl, refl))
 
-maps_at : (fixed : Bool) (t : Plain) (core addr len : ℕ) (back : Back) (prot : Prot) → Replies (MapsAt fixed t core addr len back prot)
+maps_at : (fixed : Bool) (t : Plain) (core addr len : ℕ) (back : Back) (prot : Prot) → Replies (MapsAt IsFirstPlace fixed t core addr len back prot)
 maps_at true t core addr len back prot = maps t (Some (pages_of addr len)) back prot
 maps_at false t core addr len back prot =
     let found = place (is_mapped t.entry) (window_of core) (page_of addr) (page_count len) in
@@ -151,7 +151,7 @@ accesses t addr a byte h = go (access_reply t addr a) refl h
     go None e some = absurd cc
     go (Some y) e some = (y, accessed t addr byte y, (e, refl))
 
-performs : (t : Plain) (core : ℕ) (request : Request) → Replies (Performs (prepared t request) core request)
+performs : (t : Plain) (core : ℕ) (request : Request) → Replies (Performs IsFirstPlace (prepared t request) core request)
 performs t core (Mmap addr len prot flags file off) = maps_at flags.fixed t core addr len (back_at flags file off) prot
 performs t core (Munmap addr len) = (Done, unmapped t (pages_of addr len), (refl, refl))
 performs t core (Mprotect addr len prot) = protects t (pages_of addr len) prot
@@ -159,9 +159,9 @@ performs t core (LoadOf addr) = accesses t addr Load 0 (load_ready t addr)
 performs t core (StoreOf addr byte) = accesses (prepared t (StoreOf addr byte)) addr Store byte (store_ready t addr byte)
 performs t core (FetchOf addr) = accesses t addr Fetch 0 (fetch_ready t addr)
 
-pub answered : (t : Plain) (core : ℕ) (request : Request) → Replies (Answers t core request)
+pub answered : (t : Plain) (core : ℕ) (request : Request) → Replies (FirstAnswers t core request)
 answered t core request = go (refusal (λ n. mode_of ((prepared t request).file n)) request)
   where
-    go : (o : Option Reply) → Replies (AppliesAfter o (prepared t request) core request)
+    go : (o : Option Reply) → Replies (AppliesAfter IsFirstPlace o (prepared t request) core request)
     go None = performs t core request
     go (Some y) = (y, prepared t request, (refl, refl))

@@ -7,11 +7,11 @@ use Rattle.vm_base.specs.declared.requests.Request.TheVariants.{Mmap, Munmap, Mp
 use Rattle.vm_base.specs.declared.rights.Prot.{Prot}
 use Rattle.vm_base.specs.declared.rights.Access.{Access}
 use Rattle.vm_base.specs.Pages.{page_count, page_of, window_of}
-use Rattle.vm_base.specs.Places.{IsPlace, IsLeastRoom}
-use Rattle.vm_base.specs.Places.IsPlace.{at_hint, in_window}
+use Rattle.vm_base.specs.Places.{IsFirstPlace, IsLeastRoom}
+use Rattle.vm_base.specs.Places.IsFirstPlace.{at_hint, in_window}
 use Rattle.vm_base.specs.Plain.{Plain, mode_of, is_mapped}
 use Rattle.vm_base.specs.Refusals.{refusal}
-use Rattle.vm_base.specs.Apply.{Applies, AppliesAfter, Performs, Maps, MapsAt, Protects, Accesses, range_at, back_at, accessed}
+use Rattle.vm_base.specs.Apply.{FirstApplies, AppliesAfter, Performs, Maps, MapsAt, Protects, Accesses, range_at, back_at, accessed}
 use Rattle.vm_base.specs.Apply.Protects.{no_page, no_write, done}
 
 least_one : (m : ℕ → Bool) (w : PageRange) (n : ℕ) (a b : Option ℕ) → IsLeastRoom m w n a → IsLeastRoom m w n b → a ≡ b
@@ -24,7 +24,7 @@ least_one m w n (Some s) (Some r) l k =
     let same : s ≡ r = omega (arith, not_below, not_above) in
     ap Some same
 
-place_one : (m : ℕ → Bool) (w : PageRange) (h n : ℕ) (a b : Option ℕ) → IsPlace m w h n a → IsPlace m w h n b → a ≡ b
+place_one : (m : ℕ → Bool) (w : PageRange) (h n : ℕ) (a b : Option ℕ) → IsFirstPlace m w h n a → IsFirstPlace m w h n b → a ≡ b
 place_one m w h n a b p q = elim p [
   | at_hint x e ↦ elim q [
     | at_hint y f ↦ e ∙ sym f
@@ -42,7 +42,7 @@ maps_one t u v None back prot y z h k = (h.0 ∙ sym k.0, h.1 ∙ sym k.1)
 maps_one t u v (Some r) back prot y z h k = (h.0 ∙ sym k.0, h.1 ∙ sym k.1)
 
 maps_at_one : (fixed : Bool) (t u v : Plain) (core addr len : ℕ) (back : Back) (prot : Prot) (y z : Reply)
-    → MapsAt fixed t core addr len back prot y u → MapsAt fixed t core addr len back prot z v → (y ≡ z) × (u ≡ v)
+    → MapsAt IsFirstPlace fixed t core addr len back prot y u → MapsAt IsFirstPlace fixed t core addr len back prot z v → (y ≡ z) × (u ≡ v)
 maps_at_one true t u v core addr len back prot y z h k = (h.0 ∙ sym k.0, h.1 ∙ sym k.1)
 maps_at_one false t u v core addr len back prot y z h k =
     let same : h.0 ≡ k.0 = place_one (is_mapped t.entry) (window_of core) (page_of addr) (page_count len) h.0 k.0 h.1 k.1 in
@@ -73,7 +73,7 @@ accesses_one t u v addr a byte y z h k =
     let same : y ≡ z = cc in
     (same, h.1 ∙ (ap (λ (r : Reply). accessed t addr byte r) same ∙ sym k.1))
 
-performs_one : (t u v : Plain) (core : ℕ) (request : Request) (y z : Reply) → Performs t core request y u → Performs t core request z v → (y ≡ z) × (u ≡ v)
+performs_one : (t u v : Plain) (core : ℕ) (request : Request) (y z : Reply) → Performs IsFirstPlace t core request y u → Performs IsFirstPlace t core request z v → (y ≡ z) × (u ≡ v)
 performs_one t u v core (Mmap addr len prot flags file off) y z h k = maps_at_one flags.fixed t u v core addr len (back_at flags file off) prot y z h k
 performs_one t u v core (Munmap addr len) y z h k = (h.0 ∙ sym k.0, h.1 ∙ sym k.1)
 performs_one t u v core (Mprotect addr len prot) y z h k = protects_one t u v _ prot y z h k
@@ -81,10 +81,10 @@ performs_one t u v core (LoadOf addr) y z h k = accesses_one t u v addr _ _ y z 
 performs_one t u v core (StoreOf addr byte) y z h k = accesses_one t u v addr _ _ y z h k
 performs_one t u v core (FetchOf addr) y z h k = accesses_one t u v addr _ _ y z h k
 
-after_one : (t u v : Plain) (core : ℕ) (request : Request) (y z : Reply) (o : Option Reply) → AppliesAfter o t core request y u
-    → AppliesAfter o t core request z v → (y ≡ z) × (u ≡ v)
+after_one : (t u v : Plain) (core : ℕ) (request : Request) (y z : Reply) (o : Option Reply) → AppliesAfter IsFirstPlace o t core request y u
+    → AppliesAfter IsFirstPlace o t core request z v → (y ≡ z) × (u ≡ v)
 after_one t u v core request y z None h k = performs_one t u v core request y z h k
 after_one t u v core request y z (Some refused) h k = (h.0 ∙ sym k.0, h.1 ∙ sym k.1)
 
-pub one_answer : (t u v : Plain) (core : ℕ) (request : Request) (y z : Reply) → Applies t core request y u → Applies t core request z v → (y ≡ z) × (u ≡ v)
+pub one_answer : (t u v : Plain) (core : ℕ) (request : Request) (y z : Reply) → FirstApplies t core request y u → FirstApplies t core request z v → (y ≡ z) × (u ≡ v)
 one_answer t u v core request y z h k = after_one t u v core request y z (refusal (λ n. mode_of (t.file n)) request) h k

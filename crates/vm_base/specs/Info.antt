@@ -1,4 +1,5 @@
--- What backs a page and those after it. The pages of a mapping of a file have the pages of the file in order (POSIX.1-2017, mmap).
+-- What backs a page and those after it. The pages of a mapping of a file have the pages of the file
+-- in order (POSIX.1-2017, mmap).
 use Rattle.std.specs.Prelude.{ℕ, ◌+◌, ◌==◌, ◌||◌, not, Bool, false, Option, None, Some, is_some}
 use Rattle.vm_base.specs.declared.info.Back.{Back}
 use Rattle.vm_base.specs.declared.info.Back.TheVariants.{Anon, Shared, Private}
@@ -55,7 +56,8 @@ is_leaf (Some info) = is_some info.frame || not (info.cores == 0)
 -- the page with another protection, under which no core has used it
 abbrev pub info_with_prot : Prot → Option PageInfo → Option PageInfo
 info_with_prot prot None = None
-info_with_prot prot (Some info) = Some (record info { meta = record info.meta { prot = prot }; cores = 0 })
+info_with_prot prot (Some info) =
+    Some (record info { meta = record info.meta { prot = prot }; cores = 0 })
 
 -- the page with a frame
 abbrev pub info_with_frame : ℕ → Option PageInfo → Option PageInfo

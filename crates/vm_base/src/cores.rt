@@ -5,7 +5,8 @@ ghost use Rattle.vm_base.specs.Cores.{members, either, with_member};
 
 use std::marker::Model;
 
-/// A core (a logical processor in the Intel SDM's words), numbered 0 to 63. A clause sees it as its number.
+/// A core (a logical processor in the Intel SDM's words), numbered 0 to 63. A clause sees it as its
+/// number.
 #[derive(Clone, Copy, Debug, PartialEq, Eq)]
 pub struct CoreId {
     index: u8,
@@ -39,8 +40,9 @@ impl CoreId {
     }
 }
 
-/// A set of cores: those that may have a translation of a page, or those that are still waited for. It takes no
-/// memory, and is passed by value. A clause sees it as a number whose bit `c` is 1 where core `c` is a member.
+/// A set of cores: those that may have a translation of a page, or those that are still waited for.
+/// It takes no memory, and is passed by value. A clause sees it as a number whose bit `c` is 1
+/// where core `c` is a member.
 #[derive(Clone, Copy, Debug, PartialEq, Eq)]
 pub struct CoreSet {
     bits: u64,

@@ -6,12 +6,12 @@ ghost use Rattle.vm_base.specs.Info.{is_leaf, info_with_prot};
 use crate::cores::CoreSet;
 use crate::rights::Prot;
 
-/// What backs a page. Files are counted from 0 in the order in which they were opened, and a file's pages of 4096
-/// bytes from 0 too.
+/// What backs a page. Files are counted from 0 in the order in which they were opened, and a file's
+/// pages of 4096 bytes from 0 too.
 #[derive(Clone, Copy, Debug, PartialEq, Eq)]
 pub enum Back {
-    /// Zero bytes. POSIX.1-2017 has no `MAP_ANONYMOUS`; it is a common extension. With one address space, shared and
-    /// private anonymous pages are alike.
+    /// Zero bytes. POSIX.1-2017 has no `MAP_ANONYMOUS`; it is a common extension. With one address
+    /// space, shared and private anonymous pages are alike.
     Anon,
     /// A page of a file: a store changes the file (POSIX.1-2017, mmap, `MAP_SHARED`).
     Shared {
@@ -29,7 +29,8 @@ pub enum Back {
     },
 }
 
-/// A mapping of the first of some neighbouring pages. Each later page has the next file page, and the same protection.
+/// A mapping of the first of some neighbouring pages. Each later page has the next file page, and
+/// the same protection.
 #[derive(Clone, Copy, Debug, PartialEq, Eq)]
 pub struct Meta {
     /// What backs the first page.
@@ -50,8 +51,8 @@ pub struct PageInfo {
 }
 
 impl Meta {
-    /// The mapping of the page `by` pages on: the next file pages, the same protection. The caller has seen that the
-    /// number of the file page fits 64 bits.
+    /// The mapping of the page `by` pages on: the next file pages, the same protection. The caller
+    /// has seen that the number of the file page fits 64 bits.
     pub fn advanced(self, by: u64) -> Meta
         requires { file_page self.back + by < 2 ^ 64 }
         ensures { result ≡ advance self by }
@@ -86,8 +87,8 @@ impl PageInfo {
     }
 }
 
-/// What the page has that lies `by` pages on in the same slot: nothing if the slot is unmapped, else the next file
-/// pages. The caller has seen that the number of the file page fits 64 bits.
+/// What the page has that lies `by` pages on in the same slot: nothing if the slot is unmapped,
+/// else the next file pages. The caller has seen that the number of the file page fits 64 bits.
 pub fn info_from(info: Option<PageInfo>, by: u64) -> Option<PageInfo>
     requires { info_file_page info + by < 2 ^ 64 }
     ensures { result ≡ info_from info by }
@@ -118,8 +119,9 @@ pub fn is_same(meta: Meta, other: Meta) -> bool
     meta == other
 }
 
-/// Tells whether what a page has goes on at the page `by` pages later, which has `next`: whether both can be in one slot.
-/// The caller has seen that neither has a frame or a recorded core, and that the number of the file page fits 64 bits.
+/// Tells whether what a page has goes on at the page `by` pages later, which has `next`: whether
+/// both can be in one slot. The caller has seen that neither has a frame or a recorded core, and
+/// that the number of the file page fits 64 bits.
 pub fn goes_on(info: Option<PageInfo>, next: Option<PageInfo>, by: u64) -> bool
     requires fits { info_file_page info + by < 2 ^ 64 }
     requires no_leaf { is_leaf info ≡ false }
@@ -133,8 +135,8 @@ pub fn goes_on(info: Option<PageInfo>, next: Option<PageInfo>, by: u64) -> bool
     }
 }
 
-/// What a page has under another protection, under which no core has used it yet: the same frame, and no recorded core.
-/// An unmapped page stays so.
+/// What a page has under another protection, under which no core has used it yet: the same frame,
+/// and no recorded core. An unmapped page stays so.
 pub fn protected(info: Option<PageInfo>, prot: Prot) -> Option<PageInfo>
     ensures { result ≡ info_with_prot prot info }
 {

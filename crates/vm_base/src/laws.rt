@@ -1,11 +1,14 @@
 //! What follows from the definitions in specs/.
-ghost use Rattle.vm_base.specs.Laws.{EachRequestHasOneAnswer, EachRequestIsAnswered, PagesHaveBytes};
+ghost use Rattle.vm_base.specs.Laws.{EachRequestHasOneFirstAnswer, EachRequestIsAnswered, FirstAnswersAreAnswers, PagesHaveBytes};
 
-/// In any state of the plain page map each request of a core has an answer, after the copy that is due before it, if one
-/// is. Two answers in one state are the same one, and leave the same state.
+/// In any state of the plain page map each request of a core has an answer by the first place,
+/// after the copy that is due before it, if one is. Two such answers in one state are the same one,
+/// and leave the same state; and each is an answer of the plain map, which may also choose another
+/// place.
 pub fn requests_have_one_answer()
     ensures some { EachRequestIsAnswered }
-    ensures one { EachRequestHasOneAnswer }
+    ensures one { EachRequestHasOneFirstAnswer }
+    ensures first { FirstAnswersAreAnswers }
 {}
 
 /// `pages_of` are just the pages in which some byte of the range lies.

@@ -92,9 +92,9 @@ fn mprotect_refusal(addr: u64, len: u64) -> Option<Reply>
     None
 }
 
-/// The answer of the first test of the request's arguments that holds, if one does (POSIX.1-2017, mmap, munmap and
-/// mprotect, ERRORS; the order of the tests is this project's). `mode` says for what the request's file is open, if there
-/// is such a file. Accesses have no test here.
+/// The answer of the first test of the request's arguments that holds, if one does (POSIX.1-2017,
+/// mmap, munmap and mprotect, ERRORS; the order of the tests is this project's). `mode` says for
+/// what the request's file is open, if there is such a file. Accesses have no test here.
 pub fn refusal(mode: Option<Mode>, request: Request) -> Option<Reply>
     ensures { result ≡ refusal (λ file. mode) request }
 {

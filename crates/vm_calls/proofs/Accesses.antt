@@ -13,6 +13,7 @@ use Rattle.vm_base.specs.declared.replies.Reply.TheVariants.{Mapped, Done, Byte,
 use Rattle.vm_base.specs.declared.replies.SegvCode.TheVariants.{MapErr}
 use Rattle.vm_base.specs.Pages.{is_page, page_of, offset_of, pages_of}
 use Rattle.vm_base.specs.Plain.{File, Plain, mode_of}
+use Rattle.vm_base.specs.Places.{IsPlace}
 use Rattle.vm_base.specs.Refusals.{refusal}
 use Rattle.vm_base.specs.Apply.{meta_of, Applies, AppliesAfter, Performs, Accesses, accessed, access_reply, entry_reply}
 use Rattle.slot_lock.specs.declared.plan.Change.TheVariants.{Put}
@@ -90,7 +91,7 @@ no-reply : (b : Bool) (x y : Plan) (reply : Reply) → ◌≡◌ {A = Result Pla
 no-reply true x y reply is = absurd cc
 no-reply false x y reply is = absurd cc
 
-plan-refused : (t : Plain) (core : ℕ) (request : Request) (reply : Reply) → plan_of core request ≡ Err reply → Performs t core request reply t
+plan-refused : (t : Plain) (core : ℕ) (request : Request) (reply : Reply) → plan_of core request ≡ Err reply → Performs IsPlace t core request reply t
 plan-refused t core (Mmap addr len prot flags file off) reply is =
     absurd (no-reply flags.fixed (PlanOf.Change (Put (pages_of addr len) (meta_of prot flags file off)))
     (PlanOf.Place (place_of core addr len (meta_of prot flags file off))) reply is)
@@ -106,6 +107,6 @@ refusal_answered t files core request reply h is =
     let modes : (λ n. mode_of (files n)) ≡ (λ n. mode_of (t.file n)) = sym (fun_ext h) in
     go (refusal (λ n. mode_of (t.file n)) request) (ap (λ (m : ℕ → Option Mode). checked m core request) (sym modes) ∙ is)
   where
-    go : (o : Option Reply) → unless_refused o (plan_of core request) ≡ Err reply → AppliesAfter o t core request reply t
+    go : (o : Option Reply) → unless_refused o (plan_of core request) ≡ Err reply → AppliesAfter IsPlace o t core request reply t
     go None is = plan-refused t core request reply is
     go (Some r) is = (cc, refl)

@@ -1,9 +1,10 @@
-mod Rooms
+mod Seeking
+pub mod Rooms
 mod Steps
 mod Absent
+pub mod Targets
 pub mod Readable
 pub mod Passed
-pub mod Covered
 mod Places
 pub mod Alike
 pub mod Accesses

@@ -1,16 +1,16 @@
 -- Free runs of slots are the rooms of the plain map
-use Rattle.std.proofs.Common.{◌≡◌, ℕ, ◌+◌, ◌<◌, ◌≤◌, Bool, false, Option, Some, None, is_some, refl, sym, subst, ap, arith}
+use Rattle.std.proofs.Common.{◌≡◌, ℕ, ◌+◌, ◌-◌, ◌<◌, ◌≤◌, ◌⊎◌, inl, inr, true, false, Option, Some, None, is_some, refl, ap, arith}
 use Rattle.std.specs.Prelude.{IfSome, IfNone}
 use Rattle.vm_base.specs.declared.page.PageRange.{PageRange}
 use Rattle.vm_base.specs.declared.info.PageInfo.{PageInfo}
+use Rattle.vm_base.specs.Functions.{has}
 use Rattle.vm_base.specs.Pages.{pages_from}
 use Rattle.vm_base.specs.Plain.{is_mapped}
-use Rattle.vm_base.specs.Places.{IsRoom, IsLeastRoom, IsHint, IsPlace}
-use Rattle.vm_base.specs.Places.IsPlace.{in_window}
+use Rattle.vm_base.specs.Places.{IsFree, IsRoom, IsLeastRoom}
 use Rattle.vm_base.proofs.Functions.{has_in, in_has}
-use Rattle.slot_lock.specs.Plan.{IsSoundHint}
 use Rattle.slot_lock.specs.Slots.{Slots, IsFreeRun}
-use Rattle.vm_calls.specs.Decisions.{entries, entry_of, hint_page}
+use Rattle.vm_calls.specs.Decisions.{HasMapped, entries, entry_of}
+use Rattle.vm_calls.proofs.Seeking.{seek}
 
 none-mapped : (o : Option PageInfo) → is_some (entry_of o) ≡ false → o ≡ None
 none-mapped None h = refl
@@ -36,26 +36,23 @@ pub least-room : (s : Slots) (window : PageRange) (n : ℕ) (o : Option ℕ) →
 least-room s window n None found least none = λ r room. none r (room-run s window n r room)
 least-room s window n (Some f) found least none = (run-room s window n f found, λ r lt room. least r lt (room-run s window n r room))
 
--- no mapping is placed at page 0
-pub no-hint : (mapped : ℕ → Bool) (n : ℕ) → ¬ IsHint mapped (hint_page None) n
-no-hint mapped n h = absurd cc
+-- as many unmapped pages as the range has are all of its pages
+pub free-range : (s : Slots) (range : PageRange) (start : ℕ) → range.first < range.end → IsFreeRun s range (range.end - range.first) start
+    → IsFree (is_mapped (entries s)) range
+free-range s range start some h = λ p in'.
+    let z : (range.first ≤ p) × (p < range.end) = has_in range p in' in
+    let free : s.info p ≡ None = h.free p (omega (arith, some, h.low, h.high, z.0)) (omega (arith, some, h.low, h.high, z.1)) in
+    ap (λ (o : Option PageInfo). is_some (entry_of o)) free
 
-pub hint-run : (s : Slots) (hint : PageRange) (n : ℕ) → IsSoundHint (Some hint) n → IsHint (is_mapped (entries s)) hint.first n → IsFreeRun s hint n hint.first
-hint-run s hint n ok h = room-run s hint n hint.first (omega arith, omega (arith, ok.1), h.1)
-
--- what a search of the window says, where there is no hint
-pub place-without : (s : Slots) (hint : Option PageRange) (window : PageRange) (n : ℕ) (o : Option ℕ) → hint ≡ None
-    → IfSome o (IsFreeRun s window n) → IfSome o (λ f. (r : ℕ) → r < f → ¬ IsFreeRun s window n r) → IfNone o ((r : ℕ) → ¬ IsFreeRun s window n r)
-    → IsPlace (is_mapped (entries s)) window (hint_page hint) n o
-place-without s hint window n o e found least none =
-    subst (λ (z : Option PageRange). IsPlace (is_mapped (entries s)) window (hint_page z) n o) (sym e)
-    (in_window (no-hint (is_mapped (entries s)) n) (least-room s window n o found least none))
-
--- and where the hint's pages aren't free
-pub place-beside : (s : Slots) (hint : Option PageRange) (at window : PageRange) (n : ℕ) (o : Option ℕ) → hint ≡ Some at
-    → IsSoundHint hint n → ((r : ℕ) → ¬ IsFreeRun s at n r)
-    → IfSome o (IsFreeRun s window n) → IfSome o (λ f. (r : ℕ) → r < f → ¬ IsFreeRun s window n r) → IfNone o ((r : ℕ) → ¬ IsFreeRun s window n r)
-    → IsPlace (is_mapped (entries s)) window (hint_page hint) n o
-place-beside s hint at window n o e ok taken found least none =
-    subst (λ (z : Option PageRange). IsPlace (is_mapped (entries s)) window (hint_page z) n o) (sym e)
-    (in_window (λ h. taken at.first (hint-run s at n (subst (λ (z : Option PageRange). IsSoundHint z n) e ok) h)) (least-room s window n o found least none))
+-- where there is no such run some page is mapped
+pub taken-range : (s : Slots) (range : PageRange) → range.first < range.end → ((r : ℕ) → ¬ IsFreeRun s range (range.end - range.first) r)
+    → HasMapped (entries s) range
+taken-range s range some h = by (seek is_some (entries s) range)
+  where
+    by : HasMapped (entries s) range ⊎ ((p : ℕ) → has range p ≡ true → is_some (entries s p) ≡ false) → HasMapped (entries s) range
+    by (inl found) = found
+    by (inr none) = absurd (h range.first (record {
+      low = omega arith;
+      high = omega (arith, some);
+      free = λ p a b. none-mapped (s.info p) (none p (in_has range p a (omega (arith, some, b))));
+    }))

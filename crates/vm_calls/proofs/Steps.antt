@@ -1,5 +1,5 @@
 -- Steps from slot to slot, with one page of each looked at
-use Rattle.std.proofs.Common.{◌≡◌, ℕ, zero, suc, ◌+◌, ◌-◌, ◌<◌, ◌≤◌, ◌⊎◌, inl, inr, ◌||◌, Bool, true, false, Option, Some, None, refl, ◌∙◌, ap, arith}
+use Rattle.std.proofs.Common.{◌≡◌, ℕ, zero, suc, ◌+◌, ◌-◌, ◌<◌, ◌≤◌, ◌⊎◌, inl, inr, true, false, Option, Some, None, refl, ◌∙◌, ap, arith}
 use Rattle.std.proofs.lemmas.Bool.{cases_lt}
 use Rattle.vm_base.specs.declared.page.PageRange.{PageRange}
 use Rattle.vm_base.specs.declared.info.Back.{Back}
@@ -10,7 +10,6 @@ use Rattle.vm_base.specs.Info.{info_from, advance_back}
 use Rattle.vm_base.specs.Plain.{File}
 use Rattle.vm_base.specs.Apply.{is_read_only, is_read_only_back, HasPage}
 use Rattle.vm_base.proofs.Functions.{has_in, in_has}
-use Rattle.slot_lock.specs.Footprint.{covers, one_range}
 use Rattle.slot_lock.specs.Slots.{Slots, IsSlot}
 use Rattle.vm_calls.specs.Decisions.{IsReadable, entries, entry_of}
 
@@ -29,10 +28,7 @@ same-file : (files : ℕ → Option File) (o : Option PageInfo) (n : ℕ) → is
 same-file files None n = refl
 same-file files (Some info) n = same-back files info.meta.back n
 
-covered : (range : PageRange) (p : ℕ) → range.first ≤ p → p < range.end → covers (one_range range) p ≡ true
-covered range p a b = ap (λ (t : Bool). t || false) (in_has range p a b)
-
-within-slot : (reads : ℕ → Type 0) (files : ℕ → Option File) (s : Slots) (range : PageRange) → IsReadable reads s (one_range range)
+within-slot : (reads : ℕ → Type 0) (files : ℕ → Option File) (s : Slots) (range : PageRange) → IsReadable reads s range
     → (first end page : ℕ) → IsSlot s first end → first ≤ page → range.first ≤ page
     → (k : ℕ) → page + k < end → page + k < range.end → is_read_only files (entries s (page + k)) ≡ is_read_only files (entries s page)
 within-slot reads files s range ok first end page slot low from zero h r = ap (λ (n : ℕ). is_read_only files (entries s n)) (omega arith)
@@ -40,14 +36,14 @@ within-slot reads files s range ok first end page slot low from (suc k) h r =
     let at : page + suc k ≡ page + k + 1 = omega arith in
     let inside : s.edge (page + k + 1) ≡ false = slot.inside (page + k + 1) (omega arith) (omega arith) in
     let next : s.info (page + k + 1) ≡ info_from (s.info (page + k)) 1 = ok.goes_on (page + k)
-    (covered range (page + k) (omega arith) (omega arith)) (covered range (page + k + 1) (omega arith) (omega arith)) inside in
+    (in_has range (page + k) (omega arith) (omega arith)) (in_has range (page + k + 1) (omega arith) (omega arith)) inside in
     ap (λ (n : ℕ). is_read_only files (entries s n)) at
     ∙ (ap (λ (o : Option PageInfo). is_read_only files (entry_of o)) next
     ∙ (same-file files (s.info (page + k)) 1
     ∙ within-slot reads files s range ok first end page slot low from k (omega arith) (omega arith)))
 
 -- the slot of the page is passed by one look at the page
-pub passed-slot : (reads : ℕ → Type 0) (files : ℕ → Option File) (s : Slots) (range : PageRange) → IsReadable reads s (one_range range)
+pub passed-slot : (reads : ℕ → Type 0) (files : ℕ → Option File) (s : Slots) (range : PageRange) → IsReadable reads s range
     → (slot : PageRange) (page : ℕ) → IsSlot s slot.first slot.end → has slot page ≡ true
     → is_read_only files (entries s page) ≡ false → Passed files s range page → Passed files s range slot.end
 passed-slot reads files s range ok slot page is here not before =

@@ -23,8 +23,8 @@ use Rattle.slot_lock.specs.declared.plan.Plan.TheVariants as PlanOf
 
 -- ---- a mapping without MAP_FIXED
 
--- How many pages are to be placed for so many bytes. There are fewer than 2^35 pages, so from that number on none is placed, and the
--- count stops there.
+-- How many pages are to be placed for so many bytes. There are fewer than 2^35 pages, so from that
+-- number on none is placed, and the count stops there.
 abbrev pub placed_count : ℕ → ℕ
 placed_count len = min (page_count len) (2 ^ 35)
 
@@ -43,12 +43,14 @@ place_of core addr len meta = record {
 -- ---- an access
 
 abbrev pub touch_of : ℕ → Access → ℕ → Touch
-touch_of addr access byte = record { page = page_of addr; offset = offset_of addr; access = access; byte = byte }
+touch_of addr access byte =
+    record { page = page_of addr; offset = offset_of addr; access = access; byte = byte }
 
 -- on an invalid page nothing is mapped
 abbrev pub touched : ℕ → Access → ℕ → Result Plan Reply
-touched addr access byte = if is_page (page_of addr) then Ok (PlanOf.Touch (touch_of addr access byte)) else Err
-    (Segv MapErr)
+touched addr access byte =
+    if is_page (page_of addr) then Ok (PlanOf.Touch (touch_of addr access byte))
+    else Err (Segv MapErr)
 
 -- ---- every request
 

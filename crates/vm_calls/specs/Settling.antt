@@ -16,7 +16,8 @@ use Rattle.vm_calls.specs.declared.fault.Settled.TheVariants.{MapErr, AccErr, Bu
 
 -- ---- what it finds
 
--- a store to a private page of a file, which the file is never to see (POSIX.1-2017, mmap, MAP_PRIVATE)
+-- a store to a private page of a file, which the file is never to see (POSIX.1-2017, mmap,
+-- MAP_PRIVATE)
 abbrev pub is_private_store : Back → Access → Bool
 is_private_store (Private file page) Store = true
 is_private_store _ _ = false
@@ -26,11 +27,13 @@ abbrev pub is_cached : Option ℕ → ℕ → Bool
 is_cached None f = false
 is_cached (Some g) f = g == f
 
--- Where the frame comes from of a page with bytes: its own, or else the one that caches its file page. A private store has to have one
--- that caches no file page: a copy, or a new one.
+-- Where the frame comes from of a page with bytes: its own, or else the one that caches its file
+-- page. A private store has to have one that caches no file page: a copy, or a new one.
 abbrev pub source : Back → Option ℕ → Access → Option ℕ → Settled
-source back (Some f) access cached = if is_private_store back access && is_cached cached f then Copies f else Has f
-source back None access (Some g) = if is_private_store back access || is_anonymous back then Wants else Cached g
+source back (Some f) access cached =
+    if is_private_store back access && is_cached cached f then Copies f else Has f
+source back None access (Some g) =
+    if is_private_store back access || is_anonymous back then Wants else Cached g
 source back None access None = Wants
 
 abbrev pub settled : Option PageInfo → Access → Bool → Option ℕ → Settled
@@ -42,20 +45,22 @@ settled (Some info) access past_end cached =
 
 -- ---- what the plain page map has there
 
--- The page has own bytes: an anonymous page always, a shared page of a file never, and a private one where it has a frame that isn't its
--- file page's.
+-- The page has own bytes: an anonymous page always, a shared page of a file never, and a private
+-- one where it has a frame that isn't its file page's.
 abbrev pub has_own : Back → Option ℕ → Option ℕ → Bool
 has_own Anon frame cached = true
 has_own (Shared file page) frame cached = false
 has_own (Private file page) None cached = false
 has_own (Private file page) (Some f) cached = not (is_cached cached f)
 
--- The page's entry in a plain map: none where the page isn't mapped, else backed and protected alike, with bytes of its own or without,
--- and with bytes unless the file page lies past its file's end
+-- The page's entry in a plain map: none where the page isn't mapped, else backed and protected
+-- alike, with bytes of its own or without, and with bytes unless the file page lies past its file's
+-- end
 abbrev pub IsEntryOf : (ℕ → Option File) → Option Entry → Option PageInfo → Bool → Option ℕ → Type 0
 IsEntryOf files None None past_end cached = Unit {0}
 IsEntryOf files (Some e) (Some info) past_end cached =
-    (e.back ≡ info.meta.back) × (e.prot ≡ info.meta.prot) × (is_some e.own ≡ has_own info.meta.back info.frame cached)
+    (e.back ≡ info.meta.back) × (e.prot ≡ info.meta.prot)
+    × (is_some e.own ≡ has_own info.meta.back info.frame cached)
     × (is_some (bytes_of files e.back e.own) ≡ not past_end)
 IsEntryOf files None (Some info) past_end cached = ⊥
 IsEntryOf files (Some e) None past_end cached = ⊥
@@ -77,8 +82,8 @@ abbrev pub stores_privately : Option PageInfo → Access → Bool
 stores_privately None a = false
 stores_privately (Some info) a = is_private_store info.meta.back a
 
--- A fault is what the plain map answers (y). Where a frame is found, the plain map finds a byte; where one is to be copied, a copy is due
--- there; and where one is wanted, one or the other.
+-- A fault is what the plain map answers (y). Where a frame is found, the plain map finds a byte;
+-- where one is to be copied, a copy is due there; and where one is wanted, one or the other.
 abbrev pub IsSettled : Settled → Option PageInfo → Access → Option Reply → Type 0
 IsSettled MapErr info a y = y ≡ Some (ReplyOf.Segv Code.MapErr)
 IsSettled AccErr info a y = y ≡ Some (ReplyOf.Segv Code.AccErr)

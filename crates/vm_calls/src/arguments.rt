@@ -90,10 +90,11 @@ fn touched(addr: u64, access: Access, byte: u8) -> Result<Plan, Reply>
     }
 }
 
-/// What a request of the core is to do, or its reply, if its arguments alone decide that: the answer of the first test
-/// that refuses them (POSIX.1-2017, mmap, munmap and mprotect, ERRORS; the order of the tests is this project's), `Done`
-/// for an `mprotect` of length 0, and `Segv(MapErr)` for an access to an invalid page. Any request may be asked for; sums
-/// of addresses and lengths don't wrap.
+/// What a request of the core is to do, or its reply, if its arguments alone decide that: the
+/// answer of the first test that refuses them (POSIX.1-2017, mmap, munmap and mprotect, ERRORS; the
+/// order of the tests is this project's), `Done` for an `mprotect` of length 0, and `Segv(MapErr)`
+/// for an access to an invalid page. Any request may be asked for; sums of addresses and lengths
+/// don't wrap.
 pub fn check<A: Allocator>(
     objects: &Objects<A>,
     core: CoreId,

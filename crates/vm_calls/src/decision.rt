@@ -1,18 +1,15 @@
 //! The decision of a call that holds its pages.
-ghost use Rattle.std.specs.Prelude.{◌≡◌, ℕ, ◌+◌, ◌^◌, ◌<◌, ◌≤◌, ◌↔◌, IsTrue, IfSome, true, Option};
+ghost use Rattle.std.specs.Prelude.{◌≡◌, ℕ, ◌+◌, ◌^◌, ◌<◌, ◌≤◌, ◌↔◌, IsTrue, true, Option};
 ghost use Rattle.vm_base.specs.Functions.{has};
 ghost use Rattle.vm_base.specs.Pages.{IsPageRange};
-ghost use Rattle.vm_base.specs.Plain.{is_mapped};
-ghost use Rattle.vm_base.specs.Places.{IsPlace};
 ghost use Rattle.vm_base.specs.Apply.{HasPage, is_read_only};
-ghost use Rattle.slot_lock.specs.declared.plan.Plan.TheVariants as PlanOf;
-ghost use Rattle.slot_lock.specs.Plan.{IsSound, IsSoundPlace};
-ghost use Rattle.slot_lock.specs.Footprint.{footprint_of, one_range, with_hint};
+ghost use Rattle.slot_lock.specs.declared.plan.Goal.TheVariants as GoalOf;
+ghost use Rattle.slot_lock.specs.Plan.{IsSoundGoal, IsSoundPlace, goal_range, target_range};
 ghost use Rattle.backing.specs.Files.{files_of};
-ghost use Rattle.vm_calls.specs.Decisions.{Decides, DecidesPlace, DecidesProtect, Acts, IsReadable, IsNoTouch, IsSoundAct, entries, entry_of, hint_page};
+ghost use Rattle.vm_calls.specs.Decisions.{Decides, DecidesRun, DecidesWindow, DecidesPlace, DecidesProtect, Acts, IsReadable, IsNoAccess, IsSoundAct, entries, entry_of};
 
 use backing::Objects;
-use slot_lock::{Change, Place, Plan, SlotRead};
+use slot_lock::{Change, Goal, Place, SlotRead, Target};
 use std::alloc::Allocator;
 use vm_base::{Back, CoreSet, Errno, PageInfo, PageRange, Prot};
 
@@ -21,14 +18,16 @@ use vm_base::{Back, CoreSet, Errno, PageInfo, PageRange, Prot};
 pub enum Decision {
     /// It is refused, and changes nothing.
     Refuse(Errno),
-    /// It changes the pages of the range. `shoot` are the cores that are recorded on some page of it, which may have
-    /// translations that are to go first.
+    /// It changes the pages of the range. `shoot` are the cores that are recorded on some page of
+    /// it, which may have translations that are to go first.
     Act {
         /// The pages.
         range: PageRange,
         /// The cores.
         shoot: CoreSet,
     },
+    /// Some page of its hint or of the run that it guessed is mapped: it looks elsewhere for a place.
+    Again,
 }
 
 /// The call changes the range.
@@ -43,32 +42,29 @@ fn act<M: SlotRead>(map: &M, range: PageRange) -> Decision
     }
 }
 
-/// The first page of a mapping's place: its hint's, if its pages are unmapped, or else that of the least room in the window.
-fn find<M: SlotRead>(map: &M, place: Place) -> Option<u64>
-    requires sound { IsSoundPlace place }
-    requires readable { IsReadable (λ p. M.reads map.now p) (M.slots map.now)
-        (with_hint place.hint place.window) }
-    ensures place { IsPlace (is_mapped (entries (M.slots map.now))) place.window
-        (hint_page place.hint) place.count result }
-    ensures within { IfSome result (λ s. (1 ≤ s) × (s + place.count ≤ 2 ^ 35)) }
+/// A mapping goes to its hint or to the run that it guessed, if no page of it is mapped; else it
+/// looks elsewhere.
+fn decide_run<M: SlotRead>(map: &M, range: PageRange) -> Decision
+    requires range { IsPageRange range }
+    requires reads { (p : ℕ) → has range p ≡ true → M.reads map.now p }
+    ensures { DecidesRun (M.slots map.now) range result }
 {
-    if let Some(hint) = place.hint {
-        if let Some(first) = map.first_free_run(hint, place.count) {
-            return Some(first);
-        }
+    match map.first_free_run(range, range.end - range.first) {
+        Some(_) => Decision::Act {
+            range,
+            shoot: CoreSet::empty(),
+        },
+        None => Decision::Again,
     }
-    map.first_free_run(place.window, place.count)
 }
 
-/// A mapping goes to its place, which has no recorded core, or is refused where there is none.
-fn decide_place<M: SlotRead>(map: &M, place: Place) -> Decision
+/// A mapping goes to the least room of its window, or is refused where there is none.
+fn decide_window<M: SlotRead>(map: &M, place: Place) -> Decision
     requires sound { IsSoundPlace place }
-    requires readable { IsReadable (λ p. M.reads map.now p) (M.slots map.now)
-        (with_hint place.hint place.window) }
-    ensures decision { DecidesPlace (M.slots map.now) place result }
-    ensures sound { IsSoundAct (PlanOf.Place place) result }
+    requires reads { (p : ℕ) → has place.window p ≡ true → M.reads map.now p }
+    ensures { DecidesWindow (M.slots map.now) place result }
 {
-    let Some(first) = find(map, place) else {
+    let Some(first) = map.first_free_run(place.window, place.count) else {
         return Decision::Refuse(Errno::ENOMEM);
     };
     Decision::Act {
@@ -77,6 +73,19 @@ fn decide_place<M: SlotRead>(map: &M, place: Place) -> Decision
             end: first + place.count,
         },
         shoot: CoreSet::empty(),
+    }
+}
+
+/// Whether a mapping goes to a place of its target.
+fn decide_place<M: SlotRead>(map: &M, place: Place, target: Target) -> Decision
+    requires sound { IsSoundGoal (GoalOf.Place place target) }
+    requires reads { (p : ℕ) → has (target_range place target) p ≡ true → M.reads map.now p }
+    ensures { DecidesPlace (M.slots map.now) place target result }
+{
+    match target {
+        Target::Hint(range) => decide_run(map, range),
+        Target::Run(range) => decide_run(map, range),
+        Target::Window => decide_window(map, place),
     }
 }
 
@@ -96,10 +105,10 @@ fn is_read_only<A: Allocator>(objects: &Objects<A>, info: Option<PageInfo>) -> b
     }
 }
 
-/// Tells whether some page of the range is a shared one of a file that isn't open for writing. One page of each slot is
-/// looked at.
+/// Tells whether some page of the range is a shared one of a file that isn't open for writing. One
+/// page of each slot is looked at.
 fn has_read_only<M: SlotRead, A: Allocator>(map: &M, objects: &Objects<A>, range: PageRange) -> bool
-    requires readable { IsReadable (λ p. M.reads map.now p) (M.slots map.now) (one_range range) }
+    requires readable { IsReadable (λ p. M.reads map.now p) (M.slots map.now) range }
     ensures { IsTrue result ↔ HasPage (is_read_only (files_of objects.now))
         (entries (M.slots map.now)) range }
 {
@@ -122,7 +131,7 @@ fn decide_protect<M: SlotRead, A: Allocator>(
     prot: Prot,
 ) -> Decision
     requires range { IsPageRange range }
-    requires readable { IsReadable (λ p. M.reads map.now p) (M.slots map.now) (one_range range) }
+    requires readable { IsReadable (λ p. M.reads map.now p) (M.slots map.now) range }
     ensures { DecidesProtect (files_of objects.now) (M.slots map.now) range prot result }
 {
     if !map.all_mapped(range) {
@@ -134,25 +143,27 @@ fn decide_protect<M: SlotRead, A: Allocator>(
     act(map, range)
 }
 
-/// What a call does that holds the pages of its plan's footprint; the plan isn't an access, and passed the check of its
-/// arguments. A mapping without `MAP_FIXED` is refused (`ENOMEM`) where it finds no place. `mprotect` is refused where a
-/// page isn't mapped (`ENOMEM`), and, if all are, where write is asked for and a page is a shared one of a file that isn't
-/// open for writing (`EACCES`; POSIX.1-2017, mprotect). Only pages of the footprint are read, so lent slots serve as well as
-/// a whole map.
-pub fn decide<M: SlotRead, A: Allocator>(map: &M, objects: &Objects<A>, plan: Plan) -> Decision
-    requires no_touch { IsNoTouch plan }
-    requires sound { IsSound plan }
-    requires readable { IsReadable (λ p. M.reads map.now p) (M.slots map.now) (footprint_of plan) }
-    ensures decision { Decides (files_of objects.now) (M.slots map.now) plan result }
-    ensures sound { IsSoundAct plan result }
+/// What a call does that holds the pages that it locks for this goal, which isn't an access and
+/// follows a plan that passed the check of its arguments. A placed mapping that holds its hint or a
+/// guessed run acts there if no page of it is mapped, and else looks elsewhere; one that holds its
+/// window acts on the least room, or is refused (`ENOMEM`) where there is none. `mprotect` is
+/// refused where a page isn't mapped (`ENOMEM`), and, if all are, where write is asked for and a
+/// page is a shared one of a file that isn't open for writing (`EACCES`; POSIX.1-2017, mprotect).
+/// Only held pages are read, so lent slots serve as well as a whole map.
+pub fn decide<M: SlotRead, A: Allocator>(map: &M, objects: &Objects<A>, goal: Goal) -> Decision
+    requires no_access { IsNoAccess goal }
+    requires sound { IsSoundGoal goal }
+    requires readable { IsReadable (λ p. M.reads map.now p) (M.slots map.now) (goal_range goal) }
+    ensures decision { Decides (files_of objects.now) (M.slots map.now) goal result }
+    ensures sound { IsSoundAct goal result }
 {
-    match plan {
-        Plan::Place(place) => decide_place(map, place),
-        Plan::Change(Change::Put { range, .. }) => act(map, range),
-        Plan::Change(Change::Clear { range }) => act(map, range),
-        Plan::Change(Change::Protect { range, prot }) => {
+    match goal {
+        Goal::Place { place, target } => decide_place(map, place, target),
+        Goal::Change(Change::Put { range, .. }) => act(map, range),
+        Goal::Change(Change::Clear { range }) => act(map, range),
+        Goal::Change(Change::Protect { range, prot }) => {
             decide_protect(map, objects, range, prot)
         }
-        Plan::Touch(_) => unreachable!(),
+        Goal::Access(_) => unreachable!(),
     }
 }

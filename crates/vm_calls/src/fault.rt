@@ -17,7 +17,8 @@ pub enum Settled {
     Bus,
     /// The page has this frame.
     Has(u32),
-    /// The private page has the frame that caches its file page, and the store is to change a copy of it.
+    /// The private page has the frame that caches its file page, and the store is to change a copy
+    /// of it.
     Copies(u32),
     /// The page has no frame, and this one caches its file page.
     Cached(u32),
@@ -25,10 +26,11 @@ pub enum Settled {
     Wants,
 }
 
-/// What an access finds at a page. `past_end` tells whether the page's file page lies past the end of its file, and `cached`
-/// is the frame that caches it: false and none where the page is anonymous or not mapped. The tests come in this order:
-/// no mapping, the protection, the end of the file (POSIX.1-2017, mmap), the page's frame, the frame that caches its file
-/// page. A store to a private page never reaches a frame that caches a file page.
+/// What an access finds at a page. `past_end` tells whether the page's file page lies past the end
+/// of its file, and `cached` is the frame that caches it: false and none where the page is
+/// anonymous or not mapped. The tests come in this order: no mapping, the protection, the end of
+/// the file (POSIX.1-2017, mmap), the page's frame, the frame that caches its file page. A store to
+/// a private page never reaches a frame that caches a file page.
 pub fn settle(
     info: Option<PageInfo>,
     access: Access,
@@ -36,7 +38,8 @@ pub fn settle(
     cached: Option<u32>,
 ) -> Settled
     ensures value { result ≡ settled info access past_end cached }
-    ensures plain { (files : ℕ → Option File) (entry : Option Entry) (offset : ℕ) → IsEntryOf files entry info past_end cached
+    ensures plain { (files : ℕ → Option File) (entry : Option Entry) (offset : ℕ)
+        → IsEntryOf files entry info past_end cached
         → IsSettled result info access (entry_reply files entry access offset) }
 {
     let Some(info) = info else {
@@ -64,7 +67,8 @@ fn source(back: Back, frame: Option<u32>, access: Access, cached: Option<u32>) -
     }
 }
 
-/// Tells whether the access is a store to a private page of a file (POSIX.1-2017, mmap: the file never sees it).
+/// Tells whether the access is a store to a private page of a file (POSIX.1-2017, mmap: the file
+/// never sees it).
 fn is_private_store(back: Back, access: Access) -> bool
     ensures { result ≡ is_private_store back access }
 {

@@ -1,5 +1,5 @@
-//! What a request is to do: the check of its arguments, the decision over the pages that its call holds, and what an access
-//! finds at its page. No call takes memory.
+//! What a request is to do: the check of its arguments, the decision over the pages that its call
+//! holds, and what an access finds at its page. No call takes memory.
 #![tactic(auto)]
 
 pub mod arguments;

@@ -31,9 +31,10 @@ pub enum Cutting {
 }
 
 impl<'a, A: Allocator + Clone> Held<'a, A> {
-    /// One step of the core towards held slots that cross no edge of the range: the leftmost that does is cut into 512,
-    /// which is noted, and they are held in its place. They are locked while it is still locked, and no other core may
-    /// lock them first, so that no page is let go in between. Want of memory changes nothing.
+    /// One step of the core towards held slots that cross no edge of the range: the leftmost that
+    /// does is cut into 512, which is noted, and they are held in its place. They are locked while
+    /// it is still locked, and no other core may lock them first, so that no page is let go in
+    /// between. Want of memory changes nothing.
     pub fn cut_next<R: Wait, S: Stepper>(
         &mut self,
         rt: &R,
@@ -105,7 +106,8 @@ fn crossing<'a, A: Allocator>(guards: &Guards<'a, A>, range: PageRange) -> Optio
     None
 }
 
-// Locks the 512 slots from the page `first` up to `end`, in room that there is, and tells whether they are that.
+// Locks the 512 slots from the page `first` up to `end`, in room that there is, and tells whether
+// they are that.
 fn lock_parts<'a, R: Wait, A: Allocator + Clone>(
     rt: &R,
     tree: &'a SharedTree<A>,

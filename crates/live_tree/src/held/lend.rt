@@ -14,8 +14,9 @@ use std::sync::MutexGuard;
 use vm_base::CoreId;
 
 impl<'a, A: Allocator + Clone> Held<'a, A> {
-    /// A map of the held slots, for what reads slots: it has their pages as they are, with this core as owner, and nothing
-    /// else. `None` where memory ran out, or a held slot has a page that isn't valid or a file page that no file can have.
+    /// A map of the held slots, for what reads slots: it has their pages as they are, with this
+    /// core as owner, and nothing else. `None` where memory ran out, or a held slot has a page that
+    /// isn't valid or a file page that no file can have.
     pub fn lent<B: Allocator>(&self, alloc: B, core: CoreId) -> Option<RunList<B>>
         ensures { IfSome result (λ map. Lends core self.now (⟦<RunList<B> as SlotRead>⟧.slots map)) }
     {

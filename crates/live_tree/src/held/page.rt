@@ -21,11 +21,12 @@ impl<'a, A: Allocator + Clone> Held<'a, A> {
         page_at(&self.guards, page)
     }
 
-    /// Makes the same change in each held slot, under one ticket, as where the held page gets a frame or a recorded core. It
-    /// takes no memory.
+    /// Makes the same change in each held slot, under one ticket, as where the held page gets a
+    /// frame or a recorded core. It takes no memory.
     pub fn change_each(&mut self, ticket: u64, act: Act)
         requires { All (CanTake act) self.old.slots }
-        ensures { self.new ≡ record self.old { slots = map (λ s. changed s (dated ticket act)) self.old.slots } }
+        ensures { self.new
+            ≡ record self.old { slots = map (λ s. changed s (dated ticket act)) self.old.slots } }
     {
         change_all(&mut self.guards, ticket, &act);
     }

@@ -10,8 +10,8 @@ use std::sync::MutexGuard;
 use vm_base::{NoMemory, PageRange};
 
 impl<'a, A: Allocator + Clone> Held<'a, A> {
-    /// Makes room for one change in the history of each held slot that lies in the range. A refusal changes nothing but
-    /// how much room there is.
+    /// Makes room for one change in the history of each held slot that lies in the range. A refusal
+    /// changes nothing but how much room there is.
     pub fn reserve(&mut self, range: PageRange) -> Result<(), NoMemory>
         ensures room { OnOk result (All (HasRoom range) self.new.slots) }
         ensures place { (self.new.first ≡ self.old.first) × (self.new.end ≡ self.old.end) }

@@ -4,6 +4,7 @@ use Rattle.machine_model.specs.World.{new_world}
 use Rattle.machine_model.specs.Step.{Run}
 use Rattle.std.proofs.lemmas.List.{take_all}
 use Rattle.core_steps.specs.Setups.{made_of}
+use Rattle.core_steps.proofs.Reached.{few_cores}
 use Rattle.core_steps.proofs.Runs.{next_run, refused_next, all_bracketed, all_sound}
 use Rattle.core_steps.proofs.running.run.Goals as goal
 
@@ -30,12 +31,14 @@ returns-clause-run g c =
 pub returns-clause-brackets : goal.returns-clause-brackets
 returns-clause-brackets g c =
     let all : take c.events.at c.args.events.now ≡ c.args.events.now = take_all c.events.at c.args.events.now c.events-test.false in
-    all_bracketed (made_of c.args.setup) (g.M.SlotRead.slots c.args.map) _ c.args.events.now c.events.outcomes.items _ c.requires all c.events.invariant.run
+    all_bracketed (made_of c.args.setup) (g.M.SlotRead.slots c.args.map) _ c.args.events.now c.events.outcomes.items _
+    (few_cores c.args.setup c.in-Ok-new.ensures.sound) c.requires all c.events.invariant.run
 
 pub returns-clause-sound : goal.returns-clause-sound
 returns-clause-sound g c =
     let all : take c.events.at c.args.events.now ≡ c.args.events.now = take_all c.events.at c.args.events.now c.events-test.false in
-    all_sound (made_of c.args.setup) (g.M.SlotRead.slots c.args.map) _ c.args.events.now c.events.outcomes.items _ c.requires all c.events.invariant.run
+    all_sound (made_of c.args.setup) (g.M.SlotRead.slots c.args.map) _ c.args.events.now c.events.outcomes.items _
+    (few_cores c.args.setup c.in-Ok-new.ensures.sound) c.requires all c.events.invariant.run
 
 pub returns-in-Err-step-clause-fault : goal.returns-in-Err-step-clause-fault
 returns-in-Err-step-clause-fault g c = (

@@ -1,20 +1,24 @@
-use Rattle.std.proofs.Common.{◌≡◌, ◌+◌, ◌*◌, ◌<◌, ◌≤◌, ◌^◌, ◌↔◌, true, refl, sym, ap, ◌∙◌, subst, rules, arith}
-use Rattle.vm_base.specs.Cores.{members}
-use Rattle.radix_node.specs.Run.{width_of}
-use Rattle.radix_node.specs.Node.{runs}
-use Rattle.radix_node.specs.Walk.{Finds}
-use Rattle.radix_range.proofs.Walks.{of_root, users_are, mapped_are, no_frames, nowhere, first_framed, free_run_found, free_run_least, free_run_none}
+use Rattle.std.proofs.Common.{◌≡◌, ℕ, ◌<◌, ◌≤◌, arith}
+use Rattle.slot_lock.specs.Slots.{IsFreeRun, between}
+use Rattle.radix_range.specs.Tree.{tree_slots}
+use Rattle.radix_range.proofs.Mapped.{least_in_front, only_in_rest, least_in_rest, none_in_rest}
 use Rattle.radix_range.proofs.walk.first_free_run.Goals as goal
 
-pub free_run-requires-clause-within : goal.free_run-requires-clause-within
-free_run-requires-clause-within g c = of_root c.args.root.now c.requires.tree c.args.range.end (omega (arith, c.requires.range.high))
+pub returns-in-Some-clause-least : goal.returns-in-Some-clause-least
+returns-in-Some-clause-least g c =
+    least_in_front (tree_slots c.args.root.now) c.args.range c.max-first.result c.args.n c.in-Some.start c.in-Some.ensures.found
+    c.in-Some.ensures.least
 
-pub returns-in-Found-clause-least : goal.returns-in-Found-clause-least
-returns-in-Found-clause-least g c =
-    free_run_least (runs c.args.root.now) c.args.range c.args.n c.in-Found.start
-    (subst (λ r. Finds (runs c.args.root.now) 0 c.args.range.first c.args.range.end c.args.n c.args.range.first r) c.in-Found.is c.free_run.ensures)
+pub returns-in-None-clause-least : goal.returns-in-None-clause-least
+returns-in-None-clause-least g c =
+    least_in_rest (tree_slots c.args.root.now) c.args.range c.min-end.result c.args.n c.free_run-in-None.result
+    (only_in_rest (tree_slots c.args.root.now) c.args.full c.args.range c.max-first.result c.min-end.result c.args.n c.requires.full
+    (omega (arith, c.max-first.ensures)) (omega (arith, c.min-end.ensures)) c.requires.some c.if-end-first.false c.in-None.ensures.none)
+    c.free_run-in-None.ensures.least
 
-pub returns-in-Open-clause-none : goal.returns-in-Open-clause-none
-returns-in-Open-clause-none g c =
-    free_run_none (runs c.args.root.now) c.args.range c.args.n c.in-Open.field-0
-    (subst (λ r. Finds (runs c.args.root.now) 0 c.args.range.first c.args.range.end c.args.n c.args.range.first r) c.in-Open.is c.free_run.ensures)
+pub returns-in-None-clause-none : goal.returns-in-None-clause-none
+returns-in-None-clause-none g c =
+    none_in_rest (tree_slots c.args.root.now) c.args.range c.min-end.result c.args.n c.free_run-in-None.result
+    (only_in_rest (tree_slots c.args.root.now) c.args.full c.args.range c.max-first.result c.min-end.result c.args.n c.requires.full
+    (omega (arith, c.max-first.ensures)) (omega (arith, c.min-end.ensures)) c.requires.some c.if-end-first.false c.in-None.ensures.none)
+    c.free_run-in-None.ensures.none

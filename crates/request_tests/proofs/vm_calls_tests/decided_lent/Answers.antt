@@ -3,12 +3,10 @@ use Rattle.vm_base.specs.declared.page.PageRange.{PageRange}
 use Rattle.vm_base.specs.Functions.{has}
 use Rattle.vm_base.specs.Pages.{IsPage}
 use Rattle.vm_base.proofs.Functions.{has_in, in_has}
-use Rattle.slot_lock.specs.declared.plan.Plan.TheVariants as PlanOf
+use Rattle.slot_lock.specs.declared.plan.Goal.TheVariants as To
 use Rattle.slot_lock.specs.Plan.{range_of}
-use Rattle.slot_lock.specs.Footprint.{covers, one_range}
 use Rattle.slot_lock.specs.RunLaws.{slots_of-is_slot_map}
-use Rattle.vm_calls.proofs.Covered.{covered-one}
-use Rattle.vm_calls.proofs.Readable.{plan-valid}
+use Rattle.vm_calls.proofs.Readable.{goal-valid}
 use Rattle.request_tests.proofs.vm_calls_tests.decided_lent.Goals as goal
 
 pub decide-requires-clause-readable : goal.decide-requires-clause-readable
@@ -17,9 +15,9 @@ decide-requires-clause-readable g c =
     let pages : PageRange = c.args.lent.now.pages in
     let low : pages.first ≤ range.first = subst (λ (r : PageRange). pages.first ≤ r.first) c.range-range.ensures c.if-range-lent.false in
     let high : range.end ≤ pages.end = subst (λ (r : PageRange). r.end ≤ pages.end) c.range-range.ensures c.if-lent-range.false in
-    let valid : (p : ℕ) → covers (one_range range) p ≡ true → IsPage p = plan-valid (PlanOf.Change c.args.change) c.requires in
-    let lent : (p : ℕ) → covers (one_range range) p ≡ true → has pages p ≡ true = λ p h.
-    let z : (range.first ≤ p) × (p < range.end) = has_in range p (covered-one range p h) in
+    let valid : (p : ℕ) → has range p ≡ true → IsPage p = goal-valid (To.Change c.args.change) (record { plan = c.requires; target = tt }) in
+    let lent : (p : ℕ) → has range p ≡ true → has pages p ≡ true = λ p h.
+    let z : (range.first ≤ p) × (p < range.end) = has_in range p h in
     in_has pages p (omega (arith, low, z.0)) (omega (arith, high, z.1)) in
     record {
       reads_all = λ p h. (valid p h, lent p h);

@@ -1,27 +1,28 @@
-use Rattle.std.proofs.Common.{arith, refl, inr, ap, Ok, ◌∙◌}
-use Rattle.trace.proofs.RunLemmas.{some_init, some_more, some_fails, some_ends, mark_kept, fault_kept}
+use Rattle.std.proofs.Common.{arith, refl, ap, Ok, ◌∙◌}
+use Rattle.trace.proofs.RunLemmas.{some_init, some_more, some_fails, some_ends, mark_kept, mark_then, fault_kept}
 use Rattle.trace.proofs.replay.replay_lines.Goals as goal
 
 pub lines-init : goal.lines-init
-lines-init g c = record { budget = rw c.requires.fresh (omega arith); kept = refl; ran = some_init _ _ _ _ c.requires.fresh c.requires.start }
+lines-init g c = record { budget = rw c.requires.fresh (omega arith); kept = refl; ran = some_init _ _ _ _ _ c.requires.fresh c.requires.start }
 
 pub lines-preserved : goal.lines-preserved
 lines-preserved g c =
     let turns = rw c.in-Ok-true.field-0-test at c.in-Ok-true.ensures.turns in
     let less = c.in-Ok-true.ensures.budget c.in-Ok-true.field-0-test in
     let kept = mark_kept _ _ _ _ (ap Ok c.in-Ok-true.field-0-test) c.in-Ok-true.ensures.kept ∙ c.lines.invariant.kept in
-    record { budget = omega (arith, less, c.lines.invariant.budget); kept = kept; ran = some_more _ _ _ _ _ c.lines.invariant.ran turns }
+    record { budget = omega (arith, less, c.lines.invariant.budget); kept = kept; ran = some_more _ _ _ _ _ _ c.lines.invariant.ran turns }
 
 pub returns-in-Ok-false-clause-ends : goal.returns-in-Ok-false-clause-ends
 returns-in-Ok-false-clause-ends g c =
     let turns = rw c.in-Ok-false.field-0-test at c.in-Ok-false.ensures.turns in
-    some_ends _ _ _ _ _ _ c.lines.invariant.ran turns c.finish.ensures.ok c.finish.ensures.err
+    some_ends _ _ _ _ _ _ _ _ c.lines.invariant.ran turns c.close.ensures.ok c.close.ensures.err
 
 pub returns-in-Err-clause-ends : goal.returns-in-Err-clause-ends
-returns-in-Err-clause-ends g c = some_fails _ _ _ _ _ _ c.lines.invariant.ran c.in-Err.ensures.turns
+returns-in-Err-clause-ends g c = some_fails _ _ _ _ _ _ _ c.lines.invariant.ran c.in-Err.ensures.turns
 
 pub returns-in-Ok-false-clause-kept : goal.returns-in-Ok-false-clause-kept
-returns-in-Ok-false-clause-kept g c = inr (mark_kept _ _ _ _ refl c.in-Ok-false.ensures.kept ∙ c.lines.invariant.kept)
+returns-in-Ok-false-clause-kept g c =
+    mark_then _ _ _ _ c.close.ensures.kept (mark_kept _ _ _ _ refl c.in-Ok-false.ensures.kept ∙ c.lines.invariant.kept)
 
 pub returns-in-Err-clause-kept : goal.returns-in-Err-clause-kept
 returns-in-Err-clause-kept g c = fault_kept _ _ _ _ _ _ refl refl c.in-Err.ensures.kept c.lines.invariant.kept

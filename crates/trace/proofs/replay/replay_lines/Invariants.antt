@@ -8,7 +8,7 @@ abbrev pub invariant-lines : goal.invariant-lines
 invariant-lines g l = record {
   budget : l.number + budget (g.S.Source.reads l.reader) l.lines ≤ 65536 * 2 ^ 32;
   kept : g.W.Sink.failed l.writer ≡ g.W.Sink.failed l.initial.writer;
-  ran : IfSome (g.S.Source.remaining l.initial.reader) (λ input. HasRun input (g.W.Sink.contents l.initial.writer)
+  ran : IfSome (g.S.Source.remaining l.initial.reader) (λ input. HasRun l.fn.show input (g.W.Sink.contents l.initial.writer)
       (record {
         left = left (g.S.Source.remaining l.reader) l.lines;
         unread = g.S.Source.remaining l.reader;

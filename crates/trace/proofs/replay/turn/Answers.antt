@@ -1,4 +1,4 @@
-use Rattle.std.proofs.Common.{refl, ◌∙◌}
+use Rattle.std.proofs.Common.{refl}
 use Rattle.trace.specs.Turns.{read_fails, unsent}
 use Rattle.trace.proofs.TurnLemmas.{not_read, not_write, act_fails, text_lost}
 use Rattle.trace.proofs.replay.turn.Goals as goal
@@ -15,7 +15,7 @@ pub returns-in-Err-clause-turns : goal.returns-in-Err-clause-turns
 returns-in-Err-clause-turns g c =
     let given = c.in-Ok-Line.ensures in
     let found = rw c.in-Ok-Line.field-0-is at given.found in
-    act_fails _ _ _ _ _ _ _ given.written found.0 found.1 found.2 (given.few, refl) c.line.ensures c.in-Err.ensures.err
+    act_fails _ _ _ _ _ _ _ _ given.written found.0 found.1 found.2 (given.few, refl) c.line.ensures c.in-Err.ensures.err
 
 pub returns-in-Err-clause-read : goal.returns-in-Err-clause-read
 returns-in-Err-clause-read g c e = not_read _ _ _ _ c.in-Err.ensures.err (cc)
@@ -23,8 +23,8 @@ returns-in-Err-clause-read g c e = not_read _ _ _ _ c.in-Err.ensures.err (cc)
 pub returns-in-Err-clause-write : goal.returns-in-Err-clause-write
 returns-in-Err-clause-write g c e = not_write _ _ _ _ c.in-Err.ensures.err (cc)
 
-pub returns-in-Err-write_all-clause-turns : goal.returns-in-Err-write_all-clause-turns
-returns-in-Err-write_all-clause-turns g c =
+pub returns-in-Err-write_told-clause-turns : goal.returns-in-Err-write_told-clause-turns
+returns-in-Err-write_told-clause-turns g c =
     let found = rw c.in-Ok-Line.field-0-is at c.in-Ok-Line.ensures.found in
-    text_lost _ _ _ _ _ _ _ _ found.0 found.1 found.2 c.line.ensures c.in_default.ensures.ok (c.as_bytes.ensures.value
-    ∙ c.as_str.ensures.value) c.in-Ok-Line.ensures.written c.in-Err-write_all.ensures.front
+    text_lost _ _ _ _ _ _ _ _ found.0 found.1 found.2 c.line.ensures c.in_default.ensures.ok c.in-Ok-Line.ensures.written
+    c.in-Err-write_told.ensures.front

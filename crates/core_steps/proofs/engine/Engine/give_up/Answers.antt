@@ -2,14 +2,14 @@ use Rattle.std.proofs.Common.{◌≡◌, refl, sym, subst, ◌∙◌, rules, tru
 use Rattle.machine_model.specs.Holding.{can_give_up}
 use Rattle.core_steps.specs.Moving.{AwaitsCopy}
 use Rattle.core_steps.specs.State.{world}
-use Rattle.core_steps.proofs.Known.{opened, plan_sound, room_for}
+use Rattle.core_steps.proofs.Known.{goal_in_sound, opened, room_for}
 use Rattle.core_steps.proofs.Framing.{taken_here}
 use Rattle.core_steps.proofs.Rows.{copy_awaited, given_up, not_given_up}
 use Rattle.core_steps.proofs.engine.Engine.give_up.Goals as goal
 
 pub range_held-requires : goal.range_held-requires
 range_held-requires g c =
-    plan_sound (world g.M.SlotRead.slots c.args.self.now) c.args.core c.phase_of-phase.result
+    goal_in_sound (world g.M.SlotRead.slots c.args.self.now) c.args.core c.phase_of-phase.result
     (record { here = c.requires.here; phase = sym c.phase_of-phase.ensures; fine = c.requires.fine })
 
 pub reply-requires-clause-room : goal.reply-requires-clause-room

@@ -1,7 +1,7 @@
 use Rattle.std.proofs.Common.{inl, refl}
 use Rattle.core_steps.specs.State.{world}
 use Rattle.core_steps.proofs.Known.{are_counted, core_counted, room_for}
-use Rattle.core_steps.proofs.Changing.{acks_held, acks_sound, acks_mapped}
+use Rattle.core_steps.proofs.Changing.{acks_goal, acks_held, acks_sound, acks_mapped}
 use Rattle.core_steps.proofs.engine.Engine.go_acks.Goals as goal
 
 pub make_change-requires-clause-sound : goal.make_change-requires-clause-sound
@@ -19,6 +19,9 @@ make_change-requires-clause-here g c = core_counted (world g.M.SlotRead.slots c.
 pub make_change-requires-clause-counted : goal.make_change-requires-clause-counted
 make_change-requires-clause-counted g c = are_counted (world g.M.SlotRead.slots c.args.self.now) c.requires.fine
 
+pub range-requires : goal.range-requires
+range-requires g c = acks_goal _ c.args.core _ _ c.requires
+
 pub reply_to-requires : goal.reply_to-requires
 reply_to-requires g c = acks_sound _ c.args.core _ _ c.requires
 
@@ -27,4 +30,4 @@ reply-requires-clause-room g c = room_for _ c.args.core _ c.requires refl
 
 pub returns : goal.returns
 returns g c =
-    inl (c.in_default.ensures.none, (_, c.make_change.ensures.counted, (refl, rw (c.reply.ensures, c.reply_to.ensures, c.make_change.ensures.slots) refl)))
+    inl (c.in_default.ensures.none, (_, c.make_change.ensures.counted, (refl, rw (c.reply.ensures, c.range.ensures.value, c.reply_to.ensures, c.make_change.ensures.slots) refl)))

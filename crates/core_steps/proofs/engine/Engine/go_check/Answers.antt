@@ -11,9 +11,6 @@ use Rattle.core_steps.proofs.engine.Engine.go_check.Goals.{in-Ok-Change, in-Ok-T
 pub reply-requires-clause-room : goal.reply-requires-clause-room
 reply-requires-clause-room g c = room_for _ c.args.core (Check c.args.request) c.requires refl
 
-pub reply-requires-in-Err-clause-room : goal.reply-requires-in-Err-clause-room
-reply-requires-in-Err-clause-room g c = room_for _ c.args.core (Check c.args.request) c.requires refl
-
 pub returns : goal.returns
 returns g c = elim c.match-check.branch [
   | in-Ok-Change w ↦
@@ -28,14 +25,15 @@ returns g c = elim c.match-check.branch [
         rw w.self-is (planned (world g.M.SlotRead.slots c.args.self.now) _ c.args.core c.args.request _ (sym e ∙ c.check.ensures.value)
             w.go_to-in-Ok-Touch.ensures),
       )
-  | in-Ok-Place w ↦ (
-    refl,
-    rw w.self-is (planned (world g.M.SlotRead.slots c.args.self.now) _ c.args.core c.args.request (Ok (PlanOf.Place w.in-Ok-Place.field-0-0))
-        (sym (w.in-Ok-Place.is ∙ ap Ok w.in-Ok-Place.field-0-is) ∙ c.check.ensures.value) w.reply.ensures),
-  )
+  | in-Ok-Place w ↦
+      let e : c.check.result ≡ Ok (PlanOf.Place w.in-Ok-Place.place) = search rules in (
+        refl,
+        rw w.self-is (planned (world g.M.SlotRead.slots c.args.self.now) _ c.args.core c.args.request _ (sym e ∙ c.check.ensures.value)
+            (w.go_to-in-Ok-Place.ensures ∙ ap (λ p. to c.args.core p (world g.M.SlotRead.slots c.args.self.now)) w.placing.ensures)),
+      )
   | in-Err w ↦ (
     refl,
     rw w.self-is (planned (world g.M.SlotRead.slots c.args.self.now) _ c.args.core c.args.request _ (sym w.in-Err.is ∙ c.check.ensures.value)
-        w.reply-in-Err.ensures),
+        w.reply.ensures),
   )
 ]

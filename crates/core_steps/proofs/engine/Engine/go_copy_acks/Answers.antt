@@ -11,7 +11,7 @@ use Rattle.core_steps.proofs.engine.Engine.go_copy_acks.Goals.{in-Some-page+in-S
 pub page-requires : goal.page-requires
 page-requires g c =
     g.met.M.SlotMap.reads_all c.args.self.now.map c.args.touch.page
-    (sound_at _ c.args.core (CopyAcks c.args.touch c.args.frame) (PlanOf.Touch c.args.touch) c.requires tt (λ h. h)).page
+    (sound_at _ c.args.core (CopyAcks c.args.touch c.args.frame) (PlanOf.Touch c.args.touch) c.requires (λ h. h)).page
 
 pub returns : goal.returns
 returns g c = elim c.match-page.branch [

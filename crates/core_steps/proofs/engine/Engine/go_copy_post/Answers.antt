@@ -12,15 +12,15 @@ use Rattle.core_steps.proofs.engine.Engine.go_copy_post.Goals as goal
 pub page-requires : goal.page-requires
 page-requires g c =
     g.met.M.SlotMap.reads_all c.args.self.now.map c.args.touch.page
-    (sound_at _ c.args.core (CopyPost c.args.touch c.args.frame) (PlanOf.Touch c.args.touch) c.requires tt (λ h. h)).page
+    (sound_at _ c.args.core (CopyPost c.args.touch c.args.frame) (PlanOf.Touch c.args.touch) c.requires (λ h. h)).page
 
 pub page_of_touch-requires : goal.page_of_touch-requires
-page_of_touch-requires g c = sound_at _ c.args.core (CopyPost c.args.touch c.args.frame) (PlanOf.Touch c.args.touch) c.requires tt (λ h. h)
+page_of_touch-requires g c = sound_at _ c.args.core (CopyPost c.args.touch c.args.frame) (PlanOf.Touch c.args.touch) c.requires (λ h. h)
 
 pub shoot-requires-clause-pages : goal.shoot-requires-clause-pages
 shoot-requires-clause-pages g c =
     rw c.page_of_touch.ensures (valid_range (page_of_touch c.args.touch) (touch_range c.args.touch
-    (sound_at _ c.args.core (CopyPost c.args.touch c.args.frame) (PlanOf.Touch c.args.touch) c.requires tt (λ h. h))))
+    (sound_at _ c.args.core (CopyPost c.args.touch c.args.frame) (PlanOf.Touch c.args.touch) c.requires (λ h. h))))
 
 pub shoot-requires-clause-idle : goal.shoot-requires-clause-idle
 shoot-requires-clause-idle g c =

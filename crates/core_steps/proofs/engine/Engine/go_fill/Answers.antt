@@ -10,7 +10,7 @@ use Rattle.core_steps.proofs.engine.Engine.go_fill.Goals as goal
 pub page-info-requires : goal.page-info-requires
 page-info-requires g c =
     g.met.M.SlotMap.reads_all c.args.self.now.map c.args.touch.page
-    (sound_at _ c.args.core (Fill c.args.touch c.args.frame) (PlanOf.Touch c.args.touch) c.requires tt (λ h. h)).page
+    (sound_at _ c.args.core (Fill c.args.touch c.args.frame) (PlanOf.Touch c.args.touch) c.requires (λ h. h)).page
 
 pub fill_zeros-requires-clause-backed : goal.fill_zeros-requires-clause-backed
 fill_zeros-requires-clause-backed g c = sym (c.back_of.ensures ∙ ap back_of c.page-info.ensures) ∙ c.in-Anon.is

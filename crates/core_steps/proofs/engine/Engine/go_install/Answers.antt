@@ -11,10 +11,10 @@ use Rattle.core_steps.proofs.engine.Engine.go_install.Goals.{in-Some+in-Some-fra
 pub page-requires : goal.page-requires
 page-requires g c =
     g.met.M.SlotMap.reads_all c.args.self.now.map c.args.touch.page
-    (sound_at _ c.args.core (Install c.args.touch) (Touch c.args.touch) c.requires tt (λ h. h)).page
+    (sound_at _ c.args.core (Install c.args.touch) (Touch c.args.touch) c.requires (λ h. h)).page
 
 pub set_leaf-requires-clause-valid : goal.set_leaf-requires-clause-valid
-set_leaf-requires-clause-valid g c = (sound_at _ c.args.core (Install c.args.touch) (Touch c.args.touch) c.requires tt (λ h. h)).page
+set_leaf-requires-clause-valid g c = (sound_at _ c.args.core (Install c.args.touch) (Touch c.args.touch) c.requires (λ h. h)).page
 
 pub set_leaf-requires-clause-held : goal.set_leaf-requires-clause-held
 set_leaf-requires-clause-held g c = owns _ c.args.core (Install c.args.touch) c.requires c.args.touch.page (page_is c.args.touch)
@@ -23,7 +23,7 @@ pub set_leaf-requires-clause-alone : goal.set_leaf-requires-clause-alone
 set_leaf-requires-clause-alone g c = one_slot _ c.args.core (Install c.args.touch) c.args.touch c.requires refl
 
 pub install-requires-clause-page : goal.install-requires-clause-page
-install-requires-clause-page g c = valid_page c.args.touch.page (sound_at _ c.args.core (Install c.args.touch) (Touch c.args.touch) c.requires tt (λ h. h)).page
+install-requires-clause-page g c = valid_page c.args.touch.page (sound_at _ c.args.core (Install c.args.touch) (Touch c.args.touch) c.requires (λ h. h)).page
 
 pub install-requires-clause-some_right : goal.install-requires-clause-some_right
 install-requires-clause-some_right g c =

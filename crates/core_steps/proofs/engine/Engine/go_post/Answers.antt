@@ -4,7 +4,7 @@ use Rattle.core_steps.proofs.Known.{change_pages, nobody_awaited, shot_here}
 use Rattle.core_steps.proofs.engine.Engine.go_post.Goals as goal
 
 pub shoot-requires-clause-pages : goal.shoot-requires-clause-pages
-shoot-requires-clause-pages g c = rw c.range-held.ensures (change_pages _ c.args.core (Post c.args.change c.args.shoot) c.args.change c.requires (λ h. h))
+shoot-requires-clause-pages g c = rw c.range.ensures (change_pages _ c.args.core (Post c.args.change c.args.shoot) c.args.change c.requires (λ h. h))
 
 pub shoot-requires-clause-idle : goal.shoot-requires-clause-idle
 shoot-requires-clause-idle g c = nobody_awaited _ c.args.core (Post c.args.change c.args.shoot) c.requires refl

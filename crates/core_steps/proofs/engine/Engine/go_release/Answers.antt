@@ -15,4 +15,4 @@ unlock_next-requires-clause-slot g c =
 
 pub overflow_add-touch : goal.overflow_add-touch
 overflow_add-touch g c =
-    let last = (sound_at _ c.args.core (Release c.args.touch) (Touch c.args.touch) c.requires tt (λ h. h)).page.1 in omega (arith, last)
+    let last = (sound_at _ c.args.core (Release c.args.touch) (Touch c.args.touch) c.requires (λ h. h)).page.1 in omega (arith, last)

@@ -7,10 +7,10 @@ use Rattle.core_steps.proofs.engine.Engine.go_settle.Goals as goal
 pub page-info-requires : goal.page-info-requires
 page-info-requires g c =
     g.met.M.SlotMap.reads_all c.args.self.now.map c.args.touch.page
-    (sound_at _ c.args.core (Settle c.args.touch) (Touch c.args.touch) c.requires tt (λ h. h)).page
+    (sound_at _ c.args.core (Settle c.args.touch) (Touch c.args.touch) c.requires (λ h. h)).page
 
 pub settled_to-requires-clause-room : goal.settled_to-requires-clause-room
 settled_to-requires-clause-room g c = room_for _ c.args.core (Settle c.args.touch) c.requires refl
 
 pub settled_to-requires-clause-touch : goal.settled_to-requires-clause-touch
-settled_to-requires-clause-touch g c = sound_at _ c.args.core (Settle c.args.touch) (Touch c.args.touch) c.requires tt (λ h. h)
+settled_to-requires-clause-touch g c = sound_at _ c.args.core (Settle c.args.touch) (Touch c.args.touch) c.requires (λ h. h)

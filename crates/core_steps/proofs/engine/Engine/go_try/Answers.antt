@@ -7,16 +7,17 @@ use Rattle.core_steps.proofs.Known.{frame_below, room_for, sound_at, valid_page}
 use Rattle.core_steps.proofs.engine.Engine.go_try.Goals as goal
 
 pub translate-requires-clause-page : goal.translate-requires-clause-page
-translate-requires-clause-page g c = valid_page c.args.touch.page (sound_at _ c.args.core (Try c.args.touch) (Touch c.args.touch) c.requires tt (λ h. h)).page
+translate-requires-clause-page g c = valid_page c.args.touch.page (sound_at _ c.args.core (Try c.args.touch) (Touch c.args.touch) c.requires (λ h. h)).page
 
 pub locking-requires : goal.locking-requires
-locking-requires g c = sound_at _ c.args.core (Try c.args.touch) (Touch c.args.touch) c.requires tt (λ h. h)
+locking-requires g c =
+    record { plan = sound_at _ c.args.core (Try c.args.touch) (Touch c.args.touch) c.requires (λ h. h); target = tt }
 
 pub access-requires-clause-room : goal.access-requires-clause-room
 access-requires-clause-room g c = room_for _ c.args.core (Try c.args.touch) c.requires refl
 
 pub access-requires-clause-offset : goal.access-requires-clause-offset
-access-requires-clause-offset g c = (sound_at _ c.args.core (Try c.args.touch) (Touch c.args.touch) c.requires tt (λ h. h)).offset
+access-requires-clause-offset g c = (sound_at _ c.args.core (Try c.args.touch) (Touch c.args.touch) c.requires (λ h. h)).offset
 
 pub access-requires-clause-frame : goal.access-requires-clause-frame
 access-requires-clause-frame g c =

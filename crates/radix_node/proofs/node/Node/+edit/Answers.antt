@@ -6,9 +6,9 @@ use Rattle.radix_node.specs.Edit.{CanEdit, edited_cell}
 use Rattle.radix_node.proofs.Divided.{part_ends}
 use Rattle.radix_node.proofs.Flat.{IsPlace, whole-node, child_level, child_pages, child_node}
 use Rattle.radix_node.proofs.Walks.{Along, IsPart, along_below, along_done, along_next, slot_small}
-use Rattle.radix_node.proofs.Edits.{Edits, edits_none, own_within, own_node, edits_own, edits_child, child_begins, child_ends, can_fewer, InSlot, own_narrow, child_narrow, child_uncrossed}
+use Rattle.radix_node.proofs.Edits.{Edits, edits_none, own_within, own_node, edits_own, edits_child, child_begins, child_ends, can_fewer, InSlot, Narrow, own_narrow, child_narrow, child_uncrossed}
 use Rattle.radix_node.proofs.node.Node.+edit.Goals as goal
-use Rattle.radix_node.proofs.node.Node.+edit.Goals.{in-Own, in-Child, in-Own-index_mut, in-Child-index_mut}
+use Rattle.radix_node.proofs.node.Node.+edit.Goals.{Joined-index_mut, in-Own, in-Child, in-Own-index_mut, in-Child-index_mut}
 
 pub slots-init : goal.slots-init
 slots-init g t c =
@@ -193,8 +193,11 @@ edit-requires-in-Child g t c κs within =
     omega (arith, w, at.short, p.rest) in
     search rules
 
-pub invariant_of-self : goal.invariant_of-self
-invariant_of-self g t c =
+-- the slot that has the whole range was edited in its place
+narrow : (g : _) (t : _) (c : Joined-index_mut g t) → (c.match-index_mut.self-inside.level ≡ c.self.inside.level)
+    × Narrow c.self.inside.level c.self.inside.slots.items c.match-index_mut.self-inside.slots.items c.args.first c.args.end
+    c.args.by c.args.edit.now
+narrow g t c =
     let p = c.place_of-place.ensures in
     let at : InSlot c.self.inside.level c.args.first c.args.end _ _ = record {
       place = record { slot_in = p.slot; page_is = p.page; rest_in = p.rest };
@@ -206,16 +209,24 @@ invariant_of-self g t c =
     let ends = ap (λ v. (cell_at (runs v) c.args.end).offset) c.self.view_is ∙ c.requires.ends in
     elim c.match-index_mut.branch [
       | in-Own w ↦
-          rw w.self-inside-is
-          ((own_narrow _ w.in-Own.state w.edit.new.self c.args.by c.args.edit.now c.self.invariant at (sym w.in-Own.is
-          ∙ c.index_mut.ensures.value) begins ends c.requires.sound w.edit.ensures).node)
+          rw w.self-inside-is (
+            refl,
+            own_narrow _ w.in-Own.state w.edit.new.self c.args.by c.args.edit.now c.self.invariant at
+                (sym w.in-Own.is ∙ c.index_mut.ensures.value) begins ends c.requires.sound w.edit.ensures,
+          )
       | in-Child w ↦
-          rw w.self-inside-is
-          ((child_narrow _ w.in-Child.node (record w.in-Child.node { value = w.edit-in-Child.new.self }) w.deref_mut.result.now c.args.by
-          c.args.edit.now c.self.invariant at (sym w.in-Child.is ∙ c.index_mut.ensures.value) w.deref_mut.ensures.value
-          w.edit-in-Child.ensures.level w.edit-in-Child.ensures.whole w.edit-in-Child.ensures.inside
-          w.edit-in-Child.ensures.outside).node)
+          rw w.self-inside-is (
+            refl,
+            child_narrow _ w.in-Child.node (record w.in-Child.node { value = w.edit-in-Child.new.self })
+                w.deref_mut.result.now c.args.by c.args.edit.now c.self.invariant at
+                (sym w.in-Child.is ∙ c.index_mut.ensures.value) w.deref_mut.ensures.value
+                w.edit-in-Child.ensures.level w.edit-in-Child.ensures.whole w.edit-in-Child.ensures.inside
+                w.edit-in-Child.ensures.outside,
+          )
     ]
+
+pub invariant_of-self : goal.invariant_of-self
+invariant_of-self g t c = let (same, h) = narrow g t c in rw same h.node
 
 pub returns-then-end-first-clause-whole : goal.returns-then-end-first-clause-whole
 returns-then-end-first-clause-whole g t c =
@@ -223,54 +234,10 @@ returns-then-end-first-clause-whole g t c =
 
 pub returns-then-end-first-clause-inside : goal.returns-then-end-first-clause-inside
 returns-then-end-first-clause-inside g t c =
-    let p = c.place_of-place.ensures in
-    let at : InSlot c.self.inside.level c.args.first c.args.end _ _ = record {
-      place = record { slot_in = p.slot; page_is = p.page; rest_in = p.rest };
-      some = c.requires.some;
-      short = subst (λ w. c.args.end - c.args.first ≤ w - c.place_of-place.result.rest) c.slot_pages-width.ensures c.if-end-first.true;
-    } in
-    let begins =
-    ap (λ v. (cell_at (runs v) c.args.first).offset) c.self.view_is ∙ c.requires.begins in
-    let ends = ap (λ v. (cell_at (runs v) c.args.end).offset) c.self.view_is ∙ c.requires.ends in
-    elim c.match-index_mut.branch [
-      | in-Own w ↦
-          rw w.self-inside-is
-          (let h = own_narrow _ w.in-Own.state w.edit.new.self c.args.by c.args.edit.now c.self.invariant at (sym w.in-Own.is
-          ∙ c.index_mut.ensures.value) begins ends c.requires.sound w.edit.ensures in
-          rw (← c.self.view_is) (λ p a b. h.edits.inside p a b (omega (arith, h.by_end))))
-      | in-Child w ↦
-          rw w.self-inside-is
-          (let h = child_narrow _ w.in-Child.node (record w.in-Child.node { value = w.edit-in-Child.new.self }) w.deref_mut.result.now
-          c.args.by c.args.edit.now c.self.invariant at (sym w.in-Child.is ∙ c.index_mut.ensures.value) w.deref_mut.ensures.value
-          w.edit-in-Child.ensures.level w.edit-in-Child.ensures.whole w.edit-in-Child.ensures.inside w.edit-in-Child.ensures.outside in
-          rw (← c.self.view_is) (λ p a b. h.edits.inside p a b (omega (arith, h.by_end))))
-    ]
+    let (same, h) = narrow g t c in
+    rw (same, ← c.self.view_is) (λ p a b. h.edits.inside p a b (omega (arith, h.by_end)))
 
 pub returns-then-end-first-clause-outside : goal.returns-then-end-first-clause-outside
 returns-then-end-first-clause-outside g t c =
-    let p = c.place_of-place.ensures in
-    let at : InSlot c.self.inside.level c.args.first c.args.end _ _ = record {
-      place = record { slot_in = p.slot; page_is = p.page; rest_in = p.rest };
-      some = c.requires.some;
-      short = subst (λ w. c.args.end - c.args.first ≤ w - c.place_of-place.result.rest) c.slot_pages-width.ensures c.if-end-first.true;
-    } in
-    let begins =
-    ap (λ v. (cell_at (runs v) c.args.first).offset) c.self.view_is ∙ c.requires.begins in
-    let ends = ap (λ v. (cell_at (runs v) c.args.end).offset) c.self.view_is ∙ c.requires.ends in
-    elim c.match-index_mut.branch [
-      | in-Own w ↦
-          rw w.self-inside-is
-          (rw (← c.self.view_is)
-          (own_narrow _ w.in-Own.state w.edit.new.self c.args.by c.args.edit.now c.self.invariant at
-          (sym w.in-Own.is ∙ c.index_mut.ensures.value) begins ends c.requires.sound
-          w.edit.ensures).edits.outside)
-      | in-Child w ↦
-          rw w.self-inside-is
-          (rw (← c.self.view_is)
-          (child_narrow _ w.in-Child.node
-          (record w.in-Child.node { value = w.edit-in-Child.new.self }) w.deref_mut.result.now
-          c.args.by c.args.edit.now c.self.invariant at
-          (sym w.in-Child.is ∙ c.index_mut.ensures.value) w.deref_mut.ensures.value
-          w.edit-in-Child.ensures.level w.edit-in-Child.ensures.whole w.edit-in-Child.ensures.inside
-          w.edit-in-Child.ensures.outside).edits.outside)
-    ]
+    let (same, h) = narrow g t c in
+    rw (same, ← c.self.view_is) h.edits.outside

@@ -4,6 +4,7 @@ use Rattle.slot_lock.proofs.Steps.{slot_by_edge}
 use Rattle.radix_range.specs.Tree.{tree_slots}
 use Rattle.radix_range.specs.TreeLaws.{tree-is_slot_map}
 use Rattle.radix_range.specs.Found.{in_512}
+use Rattle.radix_range.proofs.Mapped.{expanded}
 use Rattle.radix_range.proofs.radix_map.RadixMapSlotMap.cut_next.Goals as goal
 
 pub returns-then-slot_at-range-clause-step : goal.returns-then-slot_at-range-clause-step
@@ -42,3 +43,14 @@ pub returns-then-slot_at-range-2-clause-exact : goal.returns-then-slot_at-range-
 returns-then-slot_at-range-2-clause-exact g c =
     let first : c.slot_at.result.first ≡ c.args.range.first = omega (arith, c.slot_at.ensures.low, c.if-slot_at-range.false) in
     at_end in_512 _ _ c.args.range (ap (tree_slots c.args.self.now.root).edge (sym first) ∙ c.slot_at.ensures.slot.begins) c.in_ok-expand-2.ensures.exact
+
+pub invariant_of-self-clause-all_full : goal.invariant_of-self-clause-all_full
+invariant_of-self-clause-all_full g c =
+    expanded c.expand.result c.args.self.now.root c.expand.new.root _ c.args.self.now.full c.expand.ensures.ok
+    c.expand.ensures.err c.args.self.now.all_full
+
+pub invariant_of-self-then-slot_at-range-2-clause-all_full : goal.invariant_of-self-then-slot_at-range-2-clause-all_full
+invariant_of-self-then-slot_at-range-2-clause-all_full g c =
+    expanded c.expand-then-slot_at-range-2.result c.args.self.now.root c.expand-then-slot_at-range-2.new.root _
+    c.args.self.now.full c.expand-then-slot_at-range-2.ensures.ok c.expand-then-slot_at-range-2.ensures.err
+    c.args.self.now.all_full

@@ -6,6 +6,7 @@ use Rattle.slot_lock.proofs.Steps.{slot_by_edge}
 use Rattle.radix_range.specs.Tree.{tree_slots}
 use Rattle.radix_range.specs.TreeLaws.{tree-is_slot_map}
 use Rattle.radix_range.specs.Found.{in_512}
+use Rattle.radix_range.proofs.Mapped.{expanded, same_slots, same_info}
 use Rattle.radix_range.proofs.radix_map.RadixMapSlotMap.lock_next.Goals as goal
 
 pub expand-requires-clause-crossed : goal.expand-requires-clause-crossed
@@ -45,3 +46,31 @@ returns-in_ok-expand-in-Beyond-clause-step g c =
     splits in_512 _ _ c.args.cursor c.args.end d.0 c.requires.ordered free
     (inr (λ p a b. e.0.slot.inside p a (omega (arith, b, e.0.past)))) d.1 (rw free_end at d.2)
     (at_end in_512 _ _ (between c.args.cursor c.args.end) e.0.slot.begins exact)
+
+pub invariant_of-self : goal.invariant_of-self
+invariant_of-self g c = record {
+  ok = c.lock.ensures.tree;
+  all_full = same_slots (tree_slots c.args.self.now.root) (tree_slots c.lock.new.root) c.args.self.now.full
+      c.args.self.now.all_full c.in-Held.ensures.tries.1;
+}
+
+pub invariant_of-self-in-Before-clause-all_full : goal.invariant_of-self-in-Before-clause-all_full
+invariant_of-self-in-Before-clause-all_full g c =
+    expanded c.expand.result c.lock.new.root c.expand.new.root _ c.args.self.now.full c.expand.ensures.ok
+    c.expand.ensures.err
+    (same_slots (tree_slots c.args.self.now.root) (tree_slots c.lock.new.root) c.args.self.now.full
+    c.args.self.now.all_full c.in-Before.ensures.tries.2)
+
+pub invariant_of-self-in-Beyond-clause-all_full : goal.invariant_of-self-in-Beyond-clause-all_full
+invariant_of-self-in-Beyond-clause-all_full g c =
+    expanded c.expand-in-Beyond.result c.lock.new.root c.expand-in-Beyond.new.root _ c.args.self.now.full
+    c.expand-in-Beyond.ensures.ok c.expand-in-Beyond.ensures.err
+    (same_slots (tree_slots c.args.self.now.root) (tree_slots c.lock.new.root) c.args.self.now.full
+    c.args.self.now.all_full c.in-Beyond.ensures.tries.1)
+
+pub invariant_of-self-in-Locked-1 : goal.invariant_of-self-in-Locked-1
+invariant_of-self-in-Locked-1 g c = record {
+  ok = c.lock.ensures.tree;
+  all_full = same_info (tree_slots c.args.self.now.root) (tree_slots c.lock.new.root) c.args.self.now.full
+      c.args.self.now.all_full (ap (λ (s : Slots). s.info) c.in-Locked.ensures.tries.now);
+}

@@ -1,8 +1,10 @@
-use Rattle.std.proofs.Common.{◌∙◌, arith}
+use Rattle.std.proofs.Common.{◌∙◌, ap, arith}
 use Rattle.slot_lock.proofs.SlotLaws.{held_page}
 use Rattle.slot_lock.proofs.Steps.{slot_by_edge}
 use Rattle.radix_range.specs.Tree.{tree_slots}
 use Rattle.radix_range.specs.TreeLaws.{tree-is_slot_map}
+use Rattle.radix_range.proofs.Mapped.{same_info}
+use Rattle.slot_lock.specs.Slots.{Slots}
 use Rattle.radix_range.proofs.radix_map.RadixMapSlotMap.unlock_next.Goals as goal
 
 pub set_owner-requires-clause-page : goal.set_owner-requires-clause-page
@@ -20,3 +22,8 @@ returns g c =
       was_held = λ p a b. e.one_owner p a b ∙ c.requires.held;
       now = e.slots;
     }
+
+pub invariant_of-self-clause-all_full : goal.invariant_of-self-clause-all_full
+invariant_of-self-clause-all_full g c =
+    same_info (tree_slots c.args.self.now.root) (tree_slots c.set_owner.new.root) c.args.self.now.full c.args.self.now.all_full
+    (ap (λ (s : Slots). s.info) c.set_owner.ensures.slots)

@@ -1,0 +1,28 @@
+-- The list of mappings of the plain page map to which a machine's log leads
+use Rattle.std.specs.Prelude.{◌≡◌, ℕ, ◌-◌, ◌^◌, ◌⊎◌, List}
+use Rattle.vm_base.specs.Plain.{Plain, nothing_mapped}
+use Rattle.map_list.specs.declared.lines.MapLine.{MapLine}
+use Rattle.map_list.specs.Lines.{GoesOn, IsMapList, IsNextLine, NoneMapped, plain_metas}
+use Rattle.machine_model.specs.World.{World}
+use Rattle.machine_sound.specs.Log.{Replays}
+
+-- the log of w, applied to no mappings and the files of the start, leads to the plain page map t
+abbrev pub LeadsTo : World → Plain → Type 0
+LeadsTo w t = Replays w.calls.requests (nothing_mapped w.made.file) w.calls.log t
+
+-- of that map: these are all its mappings, in order,
+abbrev pub ListsMaps : World → List MapLine → Type 0
+ListsMaps w lines = (t : Plain) → LeadsTo w t → IsMapList (plain_metas t) lines
+
+-- no mapping goes across the page, as none does across page 1,
+abbrev pub IsLineStart : World → ℕ → Type 0
+IsLineStart w from = (from ≡ 1)
+    ⊎ ((t : Plain) → LeadsTo w t → ¬ GoesOn (plain_metas t (from - 1)) (plain_metas t from))
+
+-- this is its first mapping that begins at a page or above,
+abbrev pub IsNextMap : World → ℕ → MapLine → Type 0
+IsNextMap w from line = (t : Plain) → LeadsTo w t → IsNextLine (plain_metas t) from line
+
+-- and no valid page from there on is mapped
+abbrev pub HasNoMap : World → ℕ → Type 0
+HasNoMap w from = (t : Plain) → LeadsTo w t → NoneMapped (plain_metas t) from (2 ^ 35)

@@ -1,0 +1,18 @@
+-- What is known of the pages that were walked over
+use Rattle.std.specs.Prelude.{◌≡◌, ℕ, ◌-◌, ◌^◌, ◌<◌, ◌≤◌, Option, Some}
+use Rattle.vm_base.specs.declared.info.Meta.{Meta}
+use Rattle.vm_base.specs.Info.{advance}
+use Rattle.map_list.specs.Lines.{NoneMapped}
+
+-- the valid page is the first from a page on that is mapped, and it is mapped so
+pub record IsFirstMapped (meta : ℕ → Option Meta) (from first : ℕ) (its : Meta) : Type 0 where
+  pub low : from ≤ first
+  pub high : first < 2 ^ 35
+  pub before : NoneMapped meta from first
+  pub mapped : meta first ≡ Some its
+
+-- the valid pages from first up to end are mapped one after another
+pub record IsRun (meta : ℕ → Option Meta) (first : ℕ) (its : Meta) (end : ℕ) : Type 0 where
+  pub some : first < end
+  pub high : end ≤ 2 ^ 35
+  pub mapped : (p : ℕ) → first ≤ p → p < end → meta p ≡ Some (advance its (p - first))

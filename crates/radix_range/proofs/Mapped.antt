@@ -1,0 +1,138 @@
+-- What keeps pages mapped, and where no room is among them
+use Rattle.std.proofs.Common.{◌≡◌, ℕ, ◌+◌, ◌<◌, ◌≤◌, ◌⊎◌, inl, inr, ⊎_elim, Bool, true, false, IsTrue, ◌==◌, Option, Some, None, is_some, IfSome, IfNone, OnOk, OnErr, Result, Ok, Err, refl, sym, ap, ◌∙◌, arith}
+use Rattle.std.proofs.lemmas.Bool.Decides.{nat_tests}
+use Rattle.std.proofs.lemmas.Bool.{cases_lt}
+use Rattle.vm_base.specs.declared.page.PageRange.{PageRange}
+use Rattle.vm_base.specs.declared.info.PageInfo.{PageInfo}
+use Rattle.vm_base.specs.declared.info.Meta.{Meta}
+use Rattle.vm_base.specs.declared.rights.Prot.{Prot}
+use Rattle.vm_base.specs.Functions.{has}
+use Rattle.vm_base.specs.Info.{info_with_prot, info_without_frame}
+use Rattle.vm_base.specs.Pages.{IsPage}
+use Rattle.vm_base.proofs.Functions.{by_test, in_has}
+use Rattle.slot_lock.specs.Slots.{Slots, Divides, IsFreeRun, Joins, between, cleared, mapped, protected, with_info}
+use Rattle.slot_lock.proofs.Adding.{no_some}
+use Rattle.radix_node.specs.Node.{Parts}
+use Rattle.radix_range.specs.Tree.{tree_slots}
+use Rattle.radix_range.specs.Mapped.{IsFull}
+
+two : (b : Bool) → b ≡ false → b ≡ true → ⊥
+two b e f = cc
+
+-- ---- what keeps pages mapped
+
+pub same_info : (s t : Slots) (full : PageRange) → IsFull s full → t.info ≡ s.info → IsFull t full
+same_info s t full a e = record { mapped = λ p h. ap (λ (f : ℕ → Option PageInfo). is_some (f p)) e ∙ a.mapped p h }
+
+pub same_slots : (s t : Slots) (full : PageRange) → IsFull s full → t ≡ s → IsFull t full
+same_slots s t full a e = same_info s t full a (ap (λ (u : Slots). u.info) e)
+
+-- an expansion, or its refusal
+pub expanded : {T E : Type 0} (r : Result T E) (v w : Parts) (owner : Option ℕ) (full : PageRange)
+    → OnOk r ((at : ℕ) × IsPage at × Divides (tree_slots v) (tree_slots w) owner at) → OnErr r (w ≡ v)
+    → IsFull (tree_slots v) full → IsFull (tree_slots w) full
+expanded (Ok x) v w owner full (at, valid, d) err a = same_info (tree_slots v) (tree_slots w) full a d.info
+expanded (Err e) v w owner full ok err a = same_slots (tree_slots v) (tree_slots w) full a (ap tree_slots err)
+
+-- a fold, or none
+pub folded : (b : Bool) (v w : Parts) (full : PageRange) → (IsTrue b → Joins (tree_slots v) (tree_slots w)) → (¬ IsTrue b → w ≡ v)
+    → IsFull (tree_slots v) full → IsFull (tree_slots w) full
+folded true v w full joins same a = same_info (tree_slots v) (tree_slots w) full a (joins refl).info
+folded false v w full joins same a = same_slots (tree_slots v) (tree_slots w) full a (ap tree_slots (same (λ x. two false refl x)))
+
+-- one page that stays mapped
+pub one_info : (s : Slots) (page : ℕ) (info : Option PageInfo) (full : PageRange)
+    → (is_some (s.info page) ≡ true → is_some info ≡ true) → IsFull s full → IsFull (with_info s page info) full
+one_info s page info full stays a = record {
+  mapped = λ p h. by_test (λ (o : Option PageInfo). is_some o ≡ true) (p == page) info (s.info p)
+      (λ e. stays (ap (λ q. is_some (s.info q)) (sym (is_page p e)) ∙ a.mapped p h)) (λ _. a.mapped p h);
+}
+  where
+    is_page : (p : ℕ) → (p == page) ≡ true → p ≡ page
+    is_page p e = grind (arith, nat_tests)
+
+pub some_without : (o : Option PageInfo) → is_some o ≡ true → is_some (info_without_frame o) ≡ true
+some_without None e = cc
+some_without (Some info) e = refl
+
+some_with : (prot : Prot) (o : Option PageInfo) → is_some o ≡ true → is_some (info_with_prot prot o) ≡ true
+some_with prot None e = cc
+some_with prot (Some info) e = refl
+
+pub all_protected : (s : Slots) (range : PageRange) (prot : Prot) (full : PageRange) → IsFull s full → IsFull (protected s range prot) full
+all_protected s range prot full a = record {
+  mapped = λ p h. by_test (λ (o : Option PageInfo). is_some o ≡ true) (has range p) (info_with_prot prot (s.info p)) (s.info p)
+      (λ _. some_with prot (s.info p) (a.mapped p h)) (λ _. a.mapped p h);
+}
+
+-- pages of the run or of the range that is mapped
+pub all_put : (s : Slots) (range : PageRange) (meta : Meta) (full more : PageRange) → IsFull s full
+    → ((p : ℕ) → has more p ≡ true → (has full p ≡ true) ⊎ (has range p ≡ true)) → IsFull (mapped s range meta) more
+all_put s range meta full more a of = record {
+  mapped = λ p h. by_test (λ (o : Option PageInfo). is_some o ≡ true) (has range p) _ (s.info p)
+      (λ _. refl) (λ e. ⊎_elim (λ x. a.mapped p x) (λ y. absurd (two _ e y)) (of p h));
+}
+
+-- pages of the run that aren't in the range that is unmapped
+pub all_cleared : (s : Slots) (range full less : PageRange) → IsFull s full
+    → ((p : ℕ) → has less p ≡ true → (has full p ≡ true) × (has range p ≡ false)) → IsFull (cleared s range) less
+all_cleared s range full less a of = record {
+  mapped = λ p h. by_test (λ (o : Option PageInfo). is_some o ≡ true) (has range p) None (s.info p)
+      (λ e. absurd (two _ (of p h).1 e)) (λ _. a.mapped p (of p h).0);
+}
+
+-- ---- room where such pages, from first up to end, lie in a range
+
+-- a free run of the range lies before them or after them
+pub on_a_side : (s : Slots) (full : PageRange) (first end n r : ℕ) → IsFull s full → full.first ≤ first
+    → end ≤ full.end → 1 ≤ n → first < end
+    → ((p : ℕ) → r ≤ p → p < r + n → s.info p ≡ None) → (r + n ≤ first) ⊎ (end ≤ r)
+on_a_side s full first end n r a low high some order free = ⊎_elim
+    (λ (x : r < end). ⊎_elim
+    (λ (y : first < r + n). ⊎_elim
+    (λ (z : r < first). absurd (both first (omega arith) (omega arith) (omega arith) y))
+    (λ (z : first ≤ r). absurd (both r z x (omega arith) (omega arith)))
+    (cases_lt r first))
+    (λ (y : r + n ≤ first). inl y)
+    (cases_lt first (r + n)))
+    (λ (x : end ≤ r). inr x)
+    (cases_lt r end)
+  where
+    both : (p : ℕ) → first ≤ p → p < end → r ≤ p → p < r + n → ⊥
+    both p u v w x = no_some (s.info p) (a.mapped p (in_has full p (omega arith) (omega arith))) (free p w x)
+
+pub in_front : (s : Slots) (range : PageRange) (first n r : ℕ) → IsFreeRun s range n r → r + n ≤ first
+    → IsFreeRun s (between range.first first) n r
+in_front s range first n r f h = record { low = f.low; high = h; free = f.free }
+
+pub in_rest : (s : Slots) (range : PageRange) (end n r : ℕ) → IsFreeRun s range n r → end ≤ r → IsFreeRun s (between end range.end) n r
+in_rest s range end n r f h = record { low = h; high = f.high; free = f.free }
+
+-- the least run before them is the range's least
+pub least_in_front : (s : Slots) (range : PageRange) (first n start : ℕ) → IsFreeRun s (between range.first first) n start
+    → ((r : ℕ) → r < start → ¬ IsFreeRun s (between range.first first) n r)
+    → (r : ℕ) → r < start → ¬ IsFreeRun s range n r
+least_in_front s range first n start f least r l g = least r l (in_front s range first n r g (omega (arith, f.high)))
+
+-- with none before them, the runs of the range are those after them
+pub only_in_rest : (s : Slots) (full range : PageRange) (first end n : ℕ) → IsFull s full → full.first ≤ first → end ≤ full.end → 1 ≤ n
+    → first < end → ((r : ℕ) → ¬ IsFreeRun s (between range.first first) n r)
+    → (r : ℕ) → IsFreeRun s range n r → IsFreeRun s (between end range.end) n r
+only_in_rest s full range first end n a low high some order none r f = ⊎_elim
+    (λ x. absurd (none r (in_front s range first n r f x)))
+    (λ x. in_rest s range end n r f x)
+    (on_a_side s full first end n r a low high some order f.free)
+
+pub least_in_rest : (s : Slots) (range : PageRange) (end n : ℕ) (o : Option ℕ)
+    → ((r : ℕ) → IsFreeRun s range n r → IsFreeRun s (between end range.end) n r)
+    → IfSome o (λ x. (r : ℕ) → r < x → ¬ IsFreeRun s (between end range.end) n r)
+    → IfSome o (λ x. (r : ℕ) → r < x → ¬ IsFreeRun s range n r)
+least_in_rest s range end n None only h = h
+least_in_rest s range end n (Some x) only h = λ r l f. h r l (only r f)
+
+pub none_in_rest : (s : Slots) (range : PageRange) (end n : ℕ) (o : Option ℕ)
+    → ((r : ℕ) → IsFreeRun s range n r → IsFreeRun s (between end range.end) n r)
+    → IfNone o ((r : ℕ) → ¬ IsFreeRun s (between end range.end) n r)
+    → IfNone o ((r : ℕ) → ¬ IsFreeRun s range n r)
+none_in_rest s range end n None only h = λ r f. h r (only r f)
+none_in_rest s range end n (Some x) only h = h

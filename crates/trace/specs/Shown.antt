@@ -1,0 +1,103 @@
+-- What a replay shows: the text of outcomes, and what comes behind it at the end
+use Rattle.std.specs.Prelude.{◌≡◌, ℕ, ◌^◌, ◌<◌, ◌≤◌, ◌⊎◌, List, [], Option}
+use Rattle.std.specs.List.{flat_map}
+use Rattle.std.specs.Io.KnownBytes.{Keeps, Appends}
+use Rattle.machine_model.specs.declared.log.Entry.{Entry}
+use Rattle.machine_model.specs.declared.log.Entry.TheVariants.{Answer, Detach}
+use Rattle.trace_io.specs.Sink.{AppendsFront}
+use Rattle.vm_base.specs.Plain.{Plain}
+use Rattle.map_list.specs.declared.lines.MapLine.{MapLine}
+use Rattle.map_list.specs.Lines.{ListsLines, plain_metas}
+use Rattle.core_steps.specs.MapLines.{HasNoMap, IsLineStart, IsNextMap, LeadsTo}
+use Rattle.trace_text.specs.Lists.{answer_line, detach_line, map_line}
+use Rattle.trace.specs.declared.fault.TraceFault.{TraceFault}
+use Rattle.trace.specs.declared.fault.TraceFault.TheVariants.{WriteFailed}
+use Rattle.trace.specs.declared.shown.Show.{Show}
+use Rattle.trace.specs.declared.shown.Show.TheVariants.{Outcomes, OutcomesAndLog, Maps}
+use Rattle.trace.specs.Stage.{Stage, Start, Declared, Running, CanOpen, OpenFails}
+
+-- what is written of the text of outcomes
+abbrev pub told : Show → List ℕ → List ℕ
+told Outcomes text = text
+told OutcomesAndLog text = text
+told Maps text = []
+
+-- an entry of a log as a line
+abbrev pub entry_text : Entry → List ℕ
+entry_text (Answer step call core reply) = answer_line step call reply
+entry_text (Detach step call page) = detach_line step page
+
+-- a line for each entry, in order
+unfoldable pub log_text : List Entry → List ℕ
+log_text log = flat_map entry_text log
+
+-- the log of the machine; up to the first event it is empty
+abbrev pub log_at : Stage → List Entry
+log_at Start = []
+log_at (Declared a) = []
+log_at (Running w) = w.calls.log
+
+-- a line for each mapping, in order
+abbrev pub mapping_text : MapLine → List ℕ
+mapping_text line = map_line line.range line.prot line.back
+
+unfoldable pub maps_text : List MapLine → List ℕ
+maps_text lines = flat_map mapping_text lines
+
+-- Of the plain page map to which the log leads: these are its mappings from page 1 up to this one,
+-- in order. Up to the first event it has none.
+abbrev pub ListsUpTo : Stage → ℕ → List MapLine → Type 0
+ListsUpTo Start end lines = lines ≡ []
+ListsUpTo (Declared a) end lines = lines ≡ []
+ListsUpTo (Running w) end lines = (t : Plain) → LeadsTo w t → ListsLines (plain_metas t) 1 end lines
+
+-- no mapping goes across the page
+abbrev pub IsStartAt : Stage → ℕ → Type 0
+IsStartAt Start from = Unit {0}
+IsStartAt (Declared a) from = Unit {0}
+IsStartAt (Running w) from = IsLineStart w from
+
+-- this is the first mapping that begins there or above
+abbrev pub IsNextAt : Stage → ℕ → MapLine → Type 0
+IsNextAt Start from line = ⊥
+IsNextAt (Declared a) from line = ⊥
+IsNextAt (Running w) from line =
+    IsNextMap w from line × (from < line.range.end) × (line.range.end ≤ 2 ^ 35)
+
+-- there is none
+abbrev pub HasNoneAt : Stage → ℕ → Type 0
+HasNoneAt Start from = Unit {0}
+HasNoneAt (Declared a) from = Unit {0}
+HasNoneAt (Running w) from = HasNoMap w from
+
+-- what comes behind the outcomes, where the trace ends at this stage
+abbrev pub IsBehind : Show → Stage → List ℕ → Type 0
+IsBehind Outcomes s text = text ≡ []
+IsBehind OutcomesAndLog s text = text ≡ log_text (log_at s)
+IsBehind Maps s text = (lines : List MapLine) × ListsUpTo s (2 ^ 35) lines × (text ≡ maps_text lines)
+
+-- that, or of the mappings the first ones
+abbrev pub IsBegunBehind : Show → Stage → List ℕ → Type 0
+IsBegunBehind Outcomes s text = IsBehind Outcomes s text
+IsBegunBehind OutcomesAndLog s text = IsBehind OutcomesAndLog s text
+IsBegunBehind Maps s text =
+    (end : ℕ) × (lines : List MapLine) × ListsUpTo s end lines × (text ≡ maps_text lines)
+
+-- a machine could be made, and what comes behind the outcomes was written
+pub record Closes (show : Show) (s : Stage) (old new : Option (List ℕ)) : Type 0 where
+  pub opens : CanOpen s
+  pub behind : List ℕ
+  pub is : IsBehind show s behind
+  pub appends : Appends old new behind
+
+-- the same, but a write failed
+pub record ClosesFront (show : Show) (s : Stage) (old new : Option (List ℕ)) : Type 0 where
+  pub opens : CanOpen s
+  pub behind : List ℕ
+  pub is : IsBegunBehind show s behind
+  pub appends : AppendsFront old new behind
+
+-- why a trace couldn't be closed
+abbrev pub CloseFails : Show → Stage → Option (List ℕ) → Option (List ℕ) → TraceFault → Type 0
+CloseFails show s old new f =
+    (OpenFails s f × Keeps old new) ⊎ ((f ≡ WriteFailed) × ClosesFront show s old new)
