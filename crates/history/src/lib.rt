@@ -1,0 +1,4 @@
+//! A list that only proofs read.
+#![tactic(auto)]
+
+pub mod history;
