@@ -5,6 +5,7 @@ ghost use Rattle.core_steps.specs.State.{calls_of};
 
 use crate::calls::CallTable;
 use crate::reserved::Reserved;
+use crate::tally::Tally;
 use machine_model::Phase;
 use std::alloc::Allocator;
 use vm_base::NoMemory;
@@ -23,7 +24,7 @@ pub fn new_call_table<A: Allocator + Clone>(
 {
     let phases = vec![in alloc.clone()?; Phase::Free; cores]?;
     let numbers = vec![in alloc.clone()?; 0u64; cores]?;
-    let requests = Reserved::new(alloc.clone()?, limit)?;
+    let requests = Tally::new(limit);
     let log = Reserved::new(alloc, limit)?;
     Ok(CallTable {
         phases,

@@ -3,6 +3,7 @@ ghost use Rattle.std.specs.Prelude.{◌≡◌, ◌+◌, ◌≤◌, length};
 ghost use Rattle.machine_laws.specs.Orderly.{answer_count};
 
 use crate::reserved::Reserved;
+use crate::tally::Tally;
 use machine_model::{Entry, Phase};
 use std::alloc::Allocator;
 use vm_base::{CoreId, NoMemory, Request};
@@ -14,8 +15,8 @@ pub(crate) struct CallTable<A: Allocator> {
     pub phases: Vec<Phase, A>,
     /// Of each core: the number of its latest call, from 1; 0 before its first.
     pub numbers: Vec<u64, A>,
-    /// The requests of the calls begun, in order.
-    pub requests: Reserved<Request, A>,
+    /// The requests of the calls begun, in order, of which only the number is kept.
+    pub requests: Tally<Request>,
     /// The replies fixed and the copies made so far, in order. Room for the reply of each call is kept.
     pub log: Reserved<Entry, A>,
     /// How many events were taken.

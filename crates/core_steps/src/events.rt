@@ -25,8 +25,7 @@ impl<M: SlotMap, H: Hardware, A: Allocator> Engine<M, H, A> {
                 if self.calls.requests.is_full() {
                     return Outcome::Full;
                 }
-                self.calls.requests.push(request);
-                let number = self.calls.requests.items.len() as u64;
+                let number = self.calls.requests.push(&request);
                 self.calls.numbers[core.index() as usize] = number;
                 self.go_to(core, Phase::Check(request));
                 Outcome::Stepped

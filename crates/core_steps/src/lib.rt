@@ -25,6 +25,7 @@ mod reserved;
 pub mod run_result;
 pub mod running;
 pub mod setup;
+mod tally;
 
 pub use machine::{Finished, Machine};
 pub use run_result::{Run, RunFault};

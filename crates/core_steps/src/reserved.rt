@@ -1,5 +1,5 @@
 //! Lists whose memory is taken when they are made.
-ghost use Rattle.std.specs.Prelude.{◌≡◌, ◌+◌, ◌<◌, ◌≤◌, ◌++◌, ◌∷◌, [], IfOk, OnOk, OnErr, nat_lt, length, vec_len, vec_capacity, not};
+ghost use Rattle.std.specs.Prelude.{◌≡◌, ◌+◌, ◌<◌, ◌≤◌, ◌++◌, ◌∷◌, [], IfOk, OnOk, OnErr, vec_len, vec_capacity};
 
 use std::alloc::{AllocError, Allocator};
 
@@ -23,13 +23,6 @@ impl<T: Copy + Drop, A: Allocator> Reserved<T, A> {
     {
         let items = Vec::with_capacity(alloc, limit as usize)?;
         Ok(Reserved { items, limit })
-    }
-
-    /// Tells whether no room is left.
-    pub fn is_full(&self) -> bool
-        ensures { result ≡ not (nat_lt (length self.now.items.items) self.now.limit) }
-    {
-        self.items.len() as u64 >= self.limit
     }
 
     /// One element more, for which there is room.

@@ -2,3 +2,5 @@
 #![tactic(auto)]
 
 pub mod history;
+
+pub use crate::history::History;
