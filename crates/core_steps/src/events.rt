@@ -7,13 +7,14 @@ ghost use Rattle.core_steps.specs.State.{phase_of, world};
 ghost use Rattle.core_steps.specs.Moving.{JoinsAsMap, MayWant, Tries, WantsMemory};
 
 use crate::engine::Engine;
+use crate::ledger::Ledger;
 use machine_model::{Event, Outcome, Phase};
 use mmu::Hardware;
 use slot_lock::SlotMap;
 use std::alloc::Allocator;
 use vm_base::{CoreId, NoMemory, Request};
 
-impl<M: SlotMap, H: Hardware, A: Allocator> Engine<M, H, A> {
+impl<M: SlotMap, H: Hardware, A: Allocator, L: Ledger> Engine<M, H, A, L> {
     /// A call begins, if the core has none and the limit of calls isn't reached.
     fn call(&mut self, core: CoreId, request: Request) -> Outcome
         requires { core < length self.old.calls.phases.items }

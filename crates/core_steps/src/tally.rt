@@ -1,7 +1,8 @@
 //! Lists that are only counted.
-ghost use Rattle.std.specs.Prelude.{◌≡◌, ◌+◌, ◌<◌, ◌≤◌, ◌++◌, ◌∷◌, [], nat_lt, length, not};
+ghost use Rattle.std.specs.Prelude.{◌≡◌, ◌+◌, ◌<◌, ◌≤◌, ◌++◌, ◌∷◌, [], nat_lt, length, not, OnOk, OnErr};
 
 use history::History;
+use std::alloc::AllocError;
 
 /// How many elements a list of at most `limit` has. What they are, only clauses know.
 #[derive(Drop)]
@@ -45,5 +46,24 @@ impl<T> Tally<T> {
         self.items = self.items.and(value);
         self.count += 1;
         self.count
+    }
+
+    /// One element more, beyond those that there may be: how many more there may be stays.
+    pub fn push_beyond(&mut self, value: &T) -> Result<(), AllocError>
+        ensures items { OnOk result (self.new.items.items ≡ self.old.items.items ++ value.now ∷ []) }
+        ensures limit { OnOk result (self.new.limit ≡ self.old.limit + 1) }
+        ensures same_items { OnErr result (self.new.items.items ≡ self.old.items.items) }
+        ensures same_limit { OnErr result (self.new.limit ≡ self.old.limit) }
+    {
+        let Some(limit) = self.limit.checked_add(1) else {
+            return Err(AllocError);
+        };
+        let Some(count) = self.count.checked_add(1) else {
+            return Err(AllocError);
+        };
+        self.limit = limit;
+        self.items = self.items.and(value);
+        self.count = count;
+        Ok(())
     }
 }
