@@ -1,5 +1,5 @@
 //! A machine over a list of runs, and lines of text that move it.
-use core_steps::Machine;
+use core_steps::{Kept, Machine};
 use machine_model::Entry;
 use slot_lock::RunList;
 use std::alloc::{Allocator, Global};
@@ -12,7 +12,7 @@ use vm_base::NoMemory;
 pub fn machine<A: Allocator + Clone + Drop>(
     alloc: A,
     declared: &Declaration,
-) -> Result<Machine<RunList<A>, A>, NoMemory> {
+) -> Result<Machine<RunList<A>, A, Kept<A>>, NoMemory> {
     if declared.fault().is_some() {
         return Err(NoMemory);
     }
@@ -27,7 +27,7 @@ pub fn machine<A: Allocator + Clone + Drop>(
 /// The number, from 0 on, of the first line that gives something else. A line has the words of a
 /// trace's line, ` = `, and what it must give.
 pub fn first_wrong<A: Allocator + Clone>(
-    machine: &mut Machine<RunList<A>, A>,
+    machine: &mut Machine<RunList<A>, A, Kept<A>>,
     lines: &str,
 ) -> Option<usize> {
     let mut text = LineText::new();
