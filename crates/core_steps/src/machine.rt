@@ -3,6 +3,8 @@ ghost use Rattle.machine_sound.specs.Sound.{IsReached};
 ghost use Rattle.core_steps.specs.State.{world};
 
 use crate::engine::Engine;
+use crate::kept::Kept;
+use crate::ledger::{Ledger, Opening};
 use crate::setup::{Setup, SetupFault};
 use machine_model::{Entry, Event, Outcome};
 use map_list::{MapLine, all_lines, next_line};
@@ -23,26 +25,26 @@ pub enum Finished {
     Stuck,
 }
 
-/// One address space over a slot map, which events move step by step.
+/// One address space over a slot map, which events move step by step. What becomes of its log's entries, its ledger says.
 #[derive(Drop)]
-pub struct Machine<M: SlotMap, A: Allocator + Clone>
+pub struct Machine<M: SlotMap, A: Allocator + Clone, L: Ledger>
 where
     Cpu<A>: Hardware,
 {
-    engine: Engine<M, Cpu<A>, A>,
+    engine: Engine<M, Cpu<A>, A, L>,
     ghost reached: { ∥ IsReached (world M.slots engine) ∥₁ },
 }
 
-impl<M: SlotMap + Drop, A: Allocator + Clone + Drop> Machine<M, A> {
+impl<M: SlotMap + Drop, A: Allocator + Clone + Drop, L: Opening<A> + Drop> Machine<M, A, L> {
     ghost use Rattle.std.specs.Prelude.{◌≡◌, IfOk, IfErr, OnErr, None};
     ghost use Rattle.slot_lock.specs.Slots.{IsNew};
     ghost use Rattle.machine_model.specs.World.{new_world};
     ghost use Rattle.core_steps.specs.Setups.{fault_of, IsFirstFault, made_of};
     ghost use Rattle.core_steps.specs.Machine.{state};
 
-    /// A machine over a new slot map. It keeps room for the reply of each call, so that logging one takes no memory. The
+    /// A machine over a new slot map. Its ledger has room for the reply of each call, so that logging one takes no memory. The
     /// bytes of the files are moved, not copied. Of several faults the first is told, in the order of `SetupFault`.
-    pub fn new(alloc: A, map: M, setup: Setup<A>) -> Result<Machine<M, A>, SetupFault>
+    pub fn new(alloc: A, map: M, setup: Setup<A>) -> Result<Machine<M, A, L>, SetupFault>
         requires { IsNew (M.slots map) }
         ensures opening { IfOk result (λ machine. state machine ≡ new_world (made_of setup) (M.slots map)) }
         ensures sound { IfOk result (λ machine. fault_of setup ≡ None) }
@@ -58,8 +60,8 @@ impl<M: SlotMap + Drop, A: Allocator + Clone + Drop> Machine<M, A> {
     }
 }
 
-impl<M: SlotMap, A: Allocator + Clone> Machine<M, A> {
-    ghost use Rattle.std.specs.Prelude.{◌≡◌, ◌≤◌, ◌<◌, true, IfOk, OnErr, IfSome, IfNone};
+impl<M: SlotMap, A: Allocator + Clone, L: Ledger> Machine<M, A, L> {
+    ghost use Rattle.std.specs.Prelude.{◌≡◌, ◌≤◌, ◌<◌, false, true, IfOk, OnErr, IfSome, IfNone};
     ghost use Rattle.vm_base.specs.Pages.{is_page};
     ghost use Rattle.mmu.specs.Tables.{word_of};
     ghost use Rattle.machine_model.specs.Step.{Step};
@@ -106,15 +108,6 @@ impl<M: SlotMap, A: Allocator + Clone> Machine<M, A> {
         Ok(Finished::Stuck)
     }
 
-    /// The entries made so far, in order. They are those of a plain page map (POSIX.1-2017, mmap, munmap and mprotect),
-    /// applied one after another.
-    pub fn log(&self) -> &[Entry]
-        ensures entries { result.now ≡ (state self.now).calls.log }
-        ensures legal { IsLegal (state self.now) }
-    {
-        &self.engine.calls.log.items
-    }
-
     /// All mappings, in order: those of the plain page map to which the log leads (POSIX.1-2017, mmap, munmap and mprotect).
     /// Neighbouring pages are one where the protection is the same and the backing goes on. The error says that memory ran out,
     /// and some page is mapped.
@@ -138,6 +131,15 @@ impl<M: SlotMap, A: Allocator + Clone> Machine<M, A> {
         next_line(&self.engine.map, from)
     }
 
+    /// The entries made so far, where the ledger keeps them, as `log` gives them.
+    pub fn kept_log(&self) -> Option<&[Entry]>
+        ensures some { IfSome result (λ entries. entries.now ≡ (state self.now).calls.log) }
+        ensures none { IfNone result (L.keeps ≡ false) }
+        ensures legal { IsLegal (state self.now) }
+    {
+        self.engine.calls.log.kept()
+    }
+
     /// How many cores the machine has.
     pub fn cores(&self) -> usize
         ensures { result ≡ (state self.now).made.cores }
@@ -153,5 +155,19 @@ impl<M: SlotMap, A: Allocator + Clone> Machine<M, A> {
         ensures { result ≡ word_of ((state self.now).hardware.table core page) }
     {
         self.engine.cores.entry(core, page)
+    }
+}
+
+impl<M: SlotMap, A: Allocator + Clone> Machine<M, A, Kept<A>> {
+    ghost use Rattle.std.specs.Prelude.{◌≡◌};
+    ghost use Rattle.core_steps.specs.Machine.{state, IsLegal};
+
+    /// The entries made so far, in order. They are those of a plain page map (POSIX.1-2017, mmap, munmap and mprotect),
+    /// applied one after another.
+    pub fn log(&self) -> &[Entry]
+        ensures entries { result.now ≡ (state self.now).calls.log }
+        ensures legal { IsLegal (state self.now) }
+    {
+        &self.engine.calls.log.items
     }
 }
