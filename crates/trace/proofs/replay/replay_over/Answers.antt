@@ -1,5 +1,5 @@
 use Rattle.trace.proofs.RunLemmas.{none_ran}
-use Rattle.trace.proofs.replay.replay_text.Goals as goal
+use Rattle.trace.proofs.replay.replay_over.Goals as goal
 
 pub returns-in_default-clause-ends : goal.returns-in_default-clause-ends
 returns-in_default-clause-ends g c = none_ran _ _ _
