@@ -16,7 +16,7 @@ use vm_base::{CoreId, NoMemory, Request};
 
 impl<M: SlotMap, H: Hardware, A: Allocator, L: Ledger> Engine<M, H, A, L> {
     /// A call begins, if the core has none and the limit of calls isn't reached.
-    fn call(&mut self, core: CoreId, request: Request) -> Outcome
+    pub fn call(&mut self, core: CoreId, request: Request) -> Outcome
         requires { core < length self.old.calls.phases.items }
         ensures { Begins (world M.slots self.old) core request (phase_of self.old core) result
             (world M.slots self.new) }
@@ -125,7 +125,7 @@ impl<M: SlotMap, H: Hardware, A: Allocator, L: Ledger> Engine<M, H, A, L> {
     }
 
     /// Tells whether the core is the machine's, if an event has one.
-    fn is_here(&self, core: Option<CoreId>) -> bool
+    pub fn is_here(&self, core: Option<CoreId>) -> bool
         ensures { result ≡ is_here (world M.slots self.now).made core }
     {
         match core {

@@ -27,6 +27,7 @@ mod place;
 pub mod run_result;
 pub mod running;
 pub mod setup;
+mod starting;
 mod tally;
 
 pub use counted::Counted;

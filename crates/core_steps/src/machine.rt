@@ -6,12 +6,13 @@ use crate::engine::Engine;
 use crate::kept::Kept;
 use crate::ledger::{Ledger, Opening};
 use crate::setup::{Setup, SetupFault};
+use crate::starting::Started;
 use machine_model::{Entry, Event, Outcome};
 use map_list::{MapLine, all_lines, next_line};
 use mmu::{Cpu, Hardware};
 use slot_lock::SlotMap;
 use std::alloc::Allocator;
-use vm_base::{CoreId, NoMemory};
+use vm_base::{CoreId, NoMemory, Request};
 
 /// How many steps finish a call at the most.
 const FINISH_LIMIT: u64 = 1 << 40;
@@ -64,10 +65,11 @@ impl<M: SlotMap, A: Allocator + Clone, L: Ledger> Machine<M, A, L> {
     ghost use Rattle.std.specs.Prelude.{◌≡◌, ◌≤◌, ◌<◌, false, true, IfOk, OnErr, IfSome, IfNone};
     ghost use Rattle.vm_base.specs.Pages.{is_page};
     ghost use Rattle.mmu.specs.Tables.{word_of};
-    ghost use Rattle.machine_model.specs.Step.{Step};
+    ghost use Rattle.machine_model.specs.Step.{Step, StepsTo};
+    ghost use Rattle.machine_model.specs.World.{World};
     ghost use Rattle.machine_sound.specs.Sound.{IsSoundStep};
     ghost use Rattle.core_steps.specs.Moving.{JoinsAsMap, MayWant, Tries};
-    ghost use Rattle.core_steps.specs.Finishing.{Finishes, IsRefused};
+    ghost use Rattle.core_steps.specs.Finishing.{Calls, Finishes, IsCallRefused, IsRefused, finish_limit};
     ghost use Rattle.core_steps.specs.Machine.{state, IsLegal};
     ghost use Rattle.core_steps.specs.MapLines.{HasNoMap, IsLineStart, IsNextMap, ListsMaps};
 
@@ -89,14 +91,16 @@ impl<M: SlotMap, A: Allocator + Clone, L: Ledger> Machine<M, A, L> {
         self.engine.step(event)
     }
 
-    /// Steps of the core's call until one isn't Stepped, at most 2^40. After a refusal for memory the steps before it
-    /// stand.
-    pub fn finish(&mut self, core: CoreId) -> Result<Finished, NoMemory>
-        ensures ends { IfOk result (λ finished. Finishes (state self.old) core finished (state self.new)) }
-        ensures err { OnErr result (IsRefused (state self.old) core (state self.new)) }
+    // Steps of the core's call until one isn't Stepped, where so many plain ones were made before, at most 2^40 with them.
+    fn go_on(&mut self, core: CoreId, steps: u64) -> Result<Finished, NoMemory>
+        requires { steps < finish_limit }
+        ensures ends { IfOk result (λ finished. (was : World) → StepsTo was core steps (state self.old)
+            → Finishes was core finished (state self.new)) }
+        ensures err { OnErr result ((was : World) → StepsTo was core steps (state self.old)
+            → IsRefused was core (state self.new)) }
         ensures legal { IsLegal (state self.new) }
     {
-        'steps: for n in 0..FINISH_LIMIT {
+        'steps: for n in steps..FINISH_LIMIT {
             let outcome = match self.step(Event::Go(core)) {
                 Ok(outcome) => outcome,
                 Err(refused) => return Err(refused),
@@ -106,6 +110,34 @@ impl<M: SlotMap, A: Allocator + Clone, L: Ledger> Machine<M, A, L> {
             }
         }
         Ok(Finished::Stuck)
+    }
+
+    /// Steps of the core's call until one isn't Stepped, at most 2^40. After a refusal for memory the steps before it
+    /// stand.
+    pub fn finish(&mut self, core: CoreId) -> Result<Finished, NoMemory>
+        ensures ends { IfOk result (λ finished. Finishes (state self.old) core finished (state self.new)) }
+        ensures err { OnErr result (IsRefused (state self.old) core (state self.new)) }
+        ensures legal { IsLegal (state self.new) }
+    {
+        self.go_on(core, 0)
+    }
+
+    /// A call, and if it begins its steps until one isn't Stepped, at most 2^40: what `step` with the call's event does, and
+    /// then `finish`. A call that doesn't begin has told why: Idle or Full. After a refusal for memory the steps before it
+    /// stand.
+    pub fn call(&mut self, core: CoreId, request: Request) -> Result<Finished, NoMemory>
+        ensures ends { IfOk result (λ finished. Calls (state self.old) core request finished (state self.new)) }
+        ensures err { OnErr result (IsCallRefused (state self.old) core request (state self.new)) }
+        ensures legal { IsLegal (state self.new) }
+    {
+        match self.engine.start(core, request) {
+            Started::Ended(outcome) => Ok(Finished::Last(outcome)),
+            Started::Begun { steps } => self.go_on(core, steps),
+            Started::Untouched => match self.step(Event::Call(core, request))? {
+                Outcome::Stepped => self.go_on(core, 0),
+                outcome => Ok(Finished::Last(outcome)),
+            },
+        }
     }
 
     /// All mappings, in order: those of the plain page map to which the log leads (POSIX.1-2017, mmap, munmap and mprotect).

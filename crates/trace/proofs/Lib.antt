@@ -6,7 +6,6 @@ pub mod TurnLemmas
 pub mod EventRunLemmas
 pub mod Acting
 pub mod EventLines
-pub mod Limits
 pub mod PlainCalls
 pub mod Opening
 pub mod Disturbing

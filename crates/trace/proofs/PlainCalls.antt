@@ -40,7 +40,7 @@ use Rattle.core_steps.specs.declared.machine.Finished.TheVariants.{Last, Stuck}
 use Rattle.core_steps.specs.Finishing.{EndsIn}
 use Rattle.trace.specs.OutcomeText.{outcome_text, finished_text}
 use Rattle.trace.specs.PlainText.{Open, Reached, IsAnswered, IsDropped, AnswersAtOnce, IsHeldUp, OpenAnswers, one_more}
-use Rattle.trace.proofs.Limits.{step_made, step_grows, go_requests}
+use Rattle.core_steps.proofs.Limits.{step_made, step_grows, go_requests}
 
 -- ---- the state
 

@@ -36,7 +36,7 @@ use Rattle.trace.specs.Stage.{Stage, Start, Declared, Running, Opens, LineActs, 
 use Rattle.trace.specs.Runs.{Runs}
 use Rattle.trace.specs.PlainText.{Open, Reached, nothing_reached, one_more, AnswersAtOnce, IsHeldUp, NowAnswers, FinishAnswers, OpenAnswers, Idles, TakeAnswers, ActAnswers, MayStep, LineAnswers, Disturbs, AllAnswer, takes_apart, AreWhole, with_opened}
 use Rattle.trace.proofs.Disturbing.{gives_up}
-use Rattle.trace.proofs.Limits.{step_grows}
+use Rattle.core_steps.proofs.Limits.{step_grows}
 use Rattle.trace.proofs.Opening.{IsDeclared, declared_so, declares_file, declares_space, few_cores, few_files}
 use Rattle.trace.proofs.PlainCalls.{Meets, MeetsOpen, IsNext, beside, calm_left, call_ends, finish_free, meets_beside, meets_event, meets_taken, open_ends, steps_kept}
 

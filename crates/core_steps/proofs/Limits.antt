@@ -44,7 +44,7 @@ works_kept w c e v (flushes i report counts t h) = kept w v _ h (refl, refl, ref
 works_kept w c e v (reviews i report counts t h) = kept w v _ h (refl, refl, refl)
 works_kept w c e v (frees i f counts t h) = kept w v _ h (refl, refl, refl)
 
-shape_kept : (w : World) (e : Event) (o : Outcome) (v : World) → Shape w e o v → (v.made ≡ w.made) × (v.calls.events ≡ w.calls.events)
+pub shape_kept : (w : World) (e : Event) (o : Outcome) (v : World) → Shape w e o v → (v.made ≡ w.made) × (v.calls.events ≡ w.calls.events)
 shape_kept w e o v (rests r h) = (ap (λ (v : World). v.made) h, ap (λ (v : World). v.calls.events) h)
 shape_kept w e o v (begins c request i s lt p below h) = (ap (λ (v : World). v.made) h, ap (λ (v : World). v.calls.events) h)
 shape_kept w e o v (ends c reply i s lt p h) = (ap (λ (v : World). v.made) h, ap (λ (v : World). v.calls.events) h)
