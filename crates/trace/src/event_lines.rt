@@ -86,13 +86,9 @@ fn tell_call<M: SlotMap, A: Allocator + Clone, L: Ledger>(
         (state machine.new) text.new.bytes) }
     ensures err { OnErr result (Wants (state machine.old) (Line.Now core request)) }
 {
-    match machine.step(Event::Call(core, request))? {
-        Outcome::Stepped => tell_finish(machine, core, text),
-        outcome => {
-            write_outcome(text, outcome);
-            Ok(())
-        }
-    }
+    let finished = machine.call(core, request)?;
+    write_finished(text, finished);
+    Ok(())
 }
 
 /// Moves the machine as the line says, and replaces the text by what it gives. A line that is bad, or the line of
