@@ -1,6 +1,6 @@
 //! Pages of files, row by row: shared ones, private ones that are read and then stored to, and
 //! copies that wait for other cores.
-use crate::rows::moved;
+use crate::rows::{first_wrong_counted, moved};
 use std::test::Fail;
 use trace::declaration::{Declaration, FileLine};
 use vm_base::Mode;
@@ -166,6 +166,8 @@ fn pages_of_files(rt: HostRuntime) -> Result<(), Fail> {
         assert_eq!(rt; came.wrong, None);
         assert_eq!(rt; came.logged, logged);
         assert!(rt; came.copy == copy);
+        let counted = first_wrong_counted(rt.alloc(), &declared, lines)?;
+        assert_eq!(rt; counted, None);
     }
     Ok(())
 }

@@ -1,5 +1,5 @@
 //! The limits of a machine, and memory that is refused to it.
-use crate::rows::{first_wrong, machine};
+use crate::rows::{first_wrong, first_wrong_counted, machine};
 use linked_list_allocator::LocalHeap;
 use machine_model::{Entry, Event};
 use std::alloc::Global;
@@ -52,6 +52,8 @@ fn ends_at_the_limit(alloc: Global) -> Result<bool, NoMemory> {
 #[test]
 fn calls_end_at_the_limit(rt: HostRuntime) -> Result<(), Fail> {
     assert!(rt; ends_at_the_limit(rt.alloc())?);
+    let counted = first_wrong_counted(rt.alloc(), &Declaration::new(1, 1, 1), LAST)?;
+    assert_eq!(rt; counted, None);
     Ok(())
 }
 

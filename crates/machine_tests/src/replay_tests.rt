@@ -1,6 +1,6 @@
 //! The texts of outcomes, lines acted on one by one, and replays in heaps that are too small and to
 //! writers that fail at a flush.
-use core_steps::{Finished, SetupFault};
+use core_steps::{Finished, Kept, SetupFault};
 use linked_list_allocator::LocalHeap;
 use machine_model::{Blocker, Outcome};
 use std::alloc::Global;
@@ -60,7 +60,7 @@ fn the_longest_text_has_its_room(rt: HostRuntime) {
 
 #[test]
 fn lines_one_by_one(rt: HostRuntime) {
-    let mut replayer = Replayer::new(rt.alloc());
+    let mut replayer = Replayer::<Global, Kept<Global>>::new(rt.alloc());
     let mut text = LineText::new();
     assert_eq!(rt; replayer.finish(), Err(TraceFault::NoVmLine));
     for (line, shown) in [

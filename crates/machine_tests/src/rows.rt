@@ -1,5 +1,5 @@
 //! A machine over a list of runs, and lines of text that move it.
-use core_steps::Machine;
+use core_steps::{Counted, Kept, Ledger, Machine, Opening};
 use machine_model::Entry;
 use slot_lock::RunList;
 use std::alloc::{Allocator, Global};
@@ -8,11 +8,11 @@ use trace::event_lines::run_line;
 use trace_text::{LineText, read_line};
 use vm_base::NoMemory;
 
-/// The machine that is declared.
-pub fn machine<A: Allocator + Clone + Drop>(
+/// The machine that is declared, over a ledger of this kind.
+fn machine_over<L: Opening<A> + Drop, A: Allocator + Clone + Drop>(
     alloc: A,
     declared: &Declaration,
-) -> Result<Machine<RunList<A>, A>, NoMemory> {
+) -> Result<Machine<RunList<A>, A, L>, NoMemory> {
     if declared.fault().is_some() {
         return Err(NoMemory);
     }
@@ -24,10 +24,18 @@ pub fn machine<A: Allocator + Clone + Drop>(
     }
 }
 
+/// The machine that is declared. It keeps its log.
+pub fn machine<A: Allocator + Clone + Drop>(
+    alloc: A,
+    declared: &Declaration,
+) -> Result<Machine<RunList<A>, A, Kept<A>>, NoMemory> {
+    machine_over::<Kept<A>, A>(alloc, declared)
+}
+
 /// The number, from 0 on, of the first line that gives something else. A line has the words of a
 /// trace's line, ` = `, and what it must give.
-pub fn first_wrong<A: Allocator + Clone>(
-    machine: &mut Machine<RunList<A>, A>,
+pub fn first_wrong<A: Allocator + Clone, L: Ledger>(
+    machine: &mut Machine<RunList<A>, A, L>,
     lines: &str,
 ) -> Option<usize> {
     let mut text = LineText::new();
@@ -43,6 +51,16 @@ pub fn first_wrong<A: Allocator + Clone>(
         }
     }
     None
+}
+
+/// The number of the first line that gives something else on a new machine that only counts its log.
+pub fn first_wrong_counted(
+    alloc: Global,
+    declared: &Declaration,
+    lines: &str,
+) -> Result<Option<usize>, NoMemory> {
+    let mut machine = machine_over::<Counted, Global>(alloc, declared)?;
+    Ok(first_wrong(&mut machine, lines))
 }
 
 /// The index of the log's first copy, its call and its page.

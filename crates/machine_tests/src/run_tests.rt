@@ -1,6 +1,6 @@
 //! Whole lists of events, and why they may fail.
 use backing::FileSpec;
-use core_steps::{RunFault, Setup, SetupFault, run};
+use core_steps::{Counted, Kept, RunFault, Setup, SetupFault, run};
 use linked_list_allocator::LocalHeap;
 use machine_model::{Entry, Event, Outcome};
 use slot_lock::RunList;
@@ -50,8 +50,27 @@ fn comes_to(
         files: Vec::new(alloc.clone()?),
         calls: 2,
     };
-    match run(alloc, map, setup, events) {
+    match run::<RunList<Global>, Global, Kept<Global>>(alloc, map, setup, events) {
         Ok(done) => Ok(done.outcomes.as_slice() == outcomes && done.machine.log() == log),
+        Err(_) => Ok(false),
+    }
+}
+
+/// Tells whether such a run came to these outcomes, whose log was only counted.
+fn comes_to_counted(
+    alloc: Global,
+    events: &[Event],
+    outcomes: &[Outcome],
+) -> Result<bool, NoMemory> {
+    let map = RunList::new(alloc.clone()?)?;
+    let setup = Setup {
+        cores: 1,
+        frames: 1,
+        files: Vec::new(alloc.clone()?),
+        calls: 2,
+    };
+    match run::<RunList<Global>, Global, Counted>(alloc, map, setup, events) {
+        Ok(done) => Ok(done.outcomes.as_slice() == outcomes),
         Err(_) => Ok(false),
     }
 }
@@ -64,7 +83,7 @@ fn fault<A: Allocator + Clone + Drop, B: Allocator + Clone + Drop>(
 ) -> Result<Option<RunFault>, NoMemory> {
     let map = RunList::new(slots)?;
     let events = mmap_and_go(4096);
-    match run(alloc, map, setup, events.as_slice()) {
+    match run::<RunList<B>, A, Kept<A>>(alloc, map, setup, events.as_slice()) {
         Ok(_) => Ok(None),
         Err(fault) => Ok(Some(fault)),
     }
@@ -111,6 +130,8 @@ fn a_refused_call(rt: HostRuntime) -> Result<(), Fail> {
             &log[..logged],
         )?;
         assert!(rt; is_right);
+        let is_counted_right = comes_to_counted(rt.alloc(), &events[..begun], &outcomes[..begun])?;
+        assert!(rt; is_counted_right);
     }
     Ok(())
 }
