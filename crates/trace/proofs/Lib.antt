@@ -7,6 +7,7 @@ pub mod EventRunLemmas
 pub mod Acting
 pub mod EventLines
 pub mod Limits
+pub mod Replying
 pub mod PlainCalls
 pub mod Opening
 pub mod Disturbing
