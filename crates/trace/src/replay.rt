@@ -175,13 +175,16 @@ fn replay_text<A: Allocator + Clone + Drop, S: Source, W: Sink>(
 /// log comes behind the text, or the list of mappings in place of it, where it is to be shown. What is written goes out before each read
 /// that a line has to wait for, and at the end, after a fault too. A write or a flush that fails ends the replay, and is told even where
 /// another fault came first.
+///
+/// Where no line takes a call apart (`call`, `go`), what is written is what a plain page map gives,
+/// up to a call that is made while another waits: `laws::whole_traces_are_plain` says it in words.
 pub fn replay<A: Allocator + Clone + Drop, S: Source, W: Sink>(
     alloc: A,
     reader: &mut S,
     writer: &mut W,
     show: Show,
 ) -> Result<(), TraceFault>
-    // What went out, and which fault it is, where the reader tells its bytes.
+    // What went out, that it is the plain page map's, and which fault it is, where the reader tells its bytes.
     ensures ends { IfSome (S.remaining reader.old) (λ input.
         Ends show input (S.remaining reader.new) (W.contents writer.old) (W.contents writer.new) result) }
     ensures told { TellsFaults result (S.failed reader.new) (S.reads reader.new)
