@@ -4,6 +4,7 @@ pub mod FlagLemmas
 pub mod CoreLemmas
 pub mod FileLemmas
 pub mod LineLemmas
+pub mod PrintableLemmas
 pub mod RequestLemmas
 pub mod ActionLemmas
 pub mod PrintingLemmas

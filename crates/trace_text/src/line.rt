@@ -1,7 +1,7 @@
 //! What a line of a trace says.
 ghost use Rattle.std.specs.Prelude.{◌≡◌, option_map};
 ghost use Rattle.trace_text.specs.Words.{words_of};
-ghost use Rattle.trace_text.specs.Line.{are_printable, begins_with, begins_with_file, begins_with_vm, fold_of, line_of, line_of_words};
+ghost use Rattle.trace_text.specs.Line.{are_printable, begins_with, begins_with_file, begins_with_vm, fold_of, is_comment, line_of, line_of_words};
 
 use crate::action::{Action, read_page_alone};
 use crate::core_line::read_core_line;
@@ -49,6 +49,29 @@ pub fn is_printable(bytes: &[u8]) -> bool
         printable &= *b >= 0x20 && *b <= 0x7e;
     }
     printable
+}
+
+// Tells whether the line is a comment: its first byte is `#`.
+fn is_comment(bytes: &[u8]) -> bool
+    ensures { result ≡ is_comment bytes.now }
+{
+    match bytes {
+        [b'#', ..] => true,
+        _ => false,
+    }
+}
+
+/// Tells whether each byte of the line is printable, which says this, as `read_line` told. A line that is read has no other
+/// bytes, so only those of a comment or of a bad line are looked at.
+#[tactic(auto, using(crate::proofs::PrintableLemmas::line_printable))]
+pub fn is_printable_line(bytes: &[u8], said: &Option<Line>) -> bool
+    requires { said.now ≡ line_of bytes.now }
+    ensures { result ≡ are_printable bytes.now }
+{
+    if !is_comment(bytes) && said.is_some() {
+        return true;
+    }
+    is_printable(bytes)
 }
 
 // Tells whether this is the first word.
@@ -106,8 +129,8 @@ fn read_words(bytes: &[u8]) -> Option<Line>
 pub fn read_line(bytes: &[u8]) -> Option<Line>
     ensures { result ≡ line_of bytes.now }
 {
-    match bytes {
-        [b'#', ..] => Some(Line::Blank),
-        _ => read_words(bytes),
+    if is_comment(bytes) {
+        return Some(Line::Blank);
     }
+    read_words(bytes)
 }
