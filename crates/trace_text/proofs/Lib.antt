@@ -9,4 +9,5 @@ pub mod RequestLemmas
 pub mod ActionLemmas
 pub mod PrintingLemmas
 pub mod NumberLemmas
+pub mod FrontLemmas
 pub mod WordLemmas

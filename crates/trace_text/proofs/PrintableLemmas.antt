@@ -1,5 +1,5 @@
 -- What is read has no bytes but printable ones.
-use Rattle.std.proofs.Common.{◌≡◌, inl, inr, ℕ, ◌+◌, ◌*◌, Bool, true, false, cond, not, eqb, ltb, List, [], ◌∷◌, ◌++◌, Option, Some, None, is_some, codes, arith, refl, ap, ◌∙◌, subst, sym}
+use Rattle.std.proofs.Common.{◌≡◌, inl, inr, ℕ, ◌+◌, ◌*◌, Bool, true, false, cond, not, eqb, ltb, List, [], ◌∷◌, ◌++◌, Option, Some, None, is_some, codes, arith, refl, ap, ◌∙◌, sym}
 use Rattle.std.proofs.lemmas.Bool.Decides.{nat_tests}
 use Rattle.std.specs.Prelude.{nat_le, ◌&&◌, option_and_then}
 use Rattle.std.specs.List.{list_all}
@@ -14,7 +14,7 @@ use Rattle.vm_base.specs.declared.requests.Request.TheVariants.{Mmap, Munmap, Mp
 use Rattle.trace_io.specs.Lines.{onto}
 use Rattle.trace_text.specs.Words.{Word, words_of, begins_word}
 use Rattle.trace_text.specs.Number.{digit_of, value_from, below_word, number_of}
-use Rattle.trace_text.specs.Request.{no_flags, flag_more, flags_from, flags_of}
+use Rattle.trace_text.specs.Request.{no_flags, flag_more, flags_from}
 use Rattle.trace_text.specs.Line.{are_printable, core_number, core_of, is_comment, line_of, line_of_words}
 use Rattle.trace_text.specs.Spelling.{SpellsNumber, SpellsPage, SpellsFlags, SpellsCore, rights_text, mode_text}
 use Rattle.trace_text.specs.Grammar.{Backs, Asks, Does, Limits, Says, ReadsPrintable}
