@@ -15,7 +15,9 @@ use mmu::{Cpu, Hardware};
 use radix_range::RadixMap;
 use slot_lock::SlotMap;
 use std::alloc::Allocator;
-use trace_text::{Line, LineText, first_word_is_file, first_word_is_vm, is_printable, read_line};
+use trace_text::{
+    Line, LineText, first_word_is_file, first_word_is_vm, is_printable_line, read_line,
+};
 
 /// What acts on the lines of a trace, one at a time.
 pub trait Staged {
@@ -253,10 +255,11 @@ impl<A: Allocator + Clone + Drop, L: Opening<A> + Drop> Staged for Replayer<A, L
 
     #[tactic(auto, using(crate::proofs::Acting::event_failed))]
     fn act(&mut self, number: u64, line: &[u8], text: &mut LineText) -> Result<(), TraceFault> {
-        if !is_printable(line) {
+        let said = read_line(line);
+        if !is_printable_line(line, &said) {
             return Err(TraceFault::BadLine(number));
         }
-        let Some(said) = read_line(line) else {
+        let Some(said) = said else {
             return Err(self.fault_of_bad(number, line));
         };
         match said {
