@@ -53,7 +53,8 @@ rest() {
 
     bench/make_trace_four.sh $((lines * 5 / 2)) > "$trace"
     "$program" run < "$trace" > "$work/replies"
-    "$program" run --log < "$trace" | cmp -n "$(wc -c < "$work/replies")" - "$work/replies"
+    "$program" run --log < "$trace" > "$work/logged"
+    cmp -n "$(wc -c < "$work/replies")" "$work/logged" "$work/replies"
     read -r logged shown <<< "$(bench/measure.py --own-texts "$runs" "$trace" "$program" run --log -- "$program" run)"
     row 'run --log of the four-core trace, beside run' ms "$logged" "$shown" 1.3
 
