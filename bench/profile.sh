@@ -10,7 +10,7 @@ cd "$(dirname "$0")/.."
 dearest() {
     perf record -q -e cpu-clock -F 2000 -o "$work/samples" "$@" < "$work/trace" > /dev/null 2>&1
     perf report -i "$work/samples" --stdio --no-children --no-inline -F overhead,symbol 2> /dev/null \
-        | awk '/^ +[0-9]/ && shown < 5 { share = $1; $1 = $2 = ""; sub(/^ +/, ""); sub(/::h[0-9a-f]{16}$/, ""); print share ",\"" $0 "\""; shown++ }'
+        | awk '/^ +[0-9]/ && shown < 5 { share = $1; $1 = $2 = ""; sub(/^ +/, ""); sub(/::(<#[0-9a-f]+>|h[0-9a-f]+)$/, ""); print share ",\"" $0 "\""; shown++ }'
 }
 
 names=("$@")
