@@ -39,9 +39,9 @@ def aim_of(shape):
     return "1.0" if shape == "four-cores" else "1.2"
 
 
-def shapes_table(rows, instructions):
+def shapes_table(rows, counted):
     return table(
-        ["Shape", "What its lines do", ">Lines", ">Ours (ms)", ">Plain (ms)", ">Ratio", ">Aim", ">Instructions"],
+        ["Shape", "What its lines do", ">Lines", ">Ours (ms)", ">Plain (ms)", ">Ratio", ">Aim", ">Instructions", ">Steps a line"],
         [
             [
                 row["shape"],
@@ -51,21 +51,21 @@ def shapes_table(rows, instructions):
                 row["plain_ms"],
                 marked(row["ratio"], aim_of(row["shape"])),
                 aim_of(row["shape"]),
-                instructions.get(row["shape"], ""),
+                *counted.get(row["shape"], ("", "")),
             ]
             for row in rows
         ],
     )
 
 
-def short_shapes_table(rows, instructions):
+def short_shapes_table(rows, counted):
     return table(
         ["Shape of trace", ">Ratio", ">Instructions"],
         [
             [
                 f"{row['shape']}: {row['what']}",
                 marked(row["ratio"], aim_of(row["shape"])),
-                instructions.get(row["shape"], ""),
+                counted.get(row["shape"], ("",))[0],
             ]
             for row in rows
         ],
@@ -117,9 +117,14 @@ def rest_table(rows):
 
 
 def profile_table(rows):
+    """A row for each shape and program. Of a function's path the last two words are shown."""
+    dearest = {}
+    for row in rows:
+        name = "::".join(row["function"].split("::")[-2:])
+        dearest.setdefault((row["shape"], row["program"]), []).append(f"`{name}` {float(row['share'].rstrip('%')):.0f}")
     return table(
-        ["Shape", "Program", ">Share", "Function"],
-        [[row["shape"], row["program"], row["share"], f"`{row['function']}`"] for row in rows],
+        ["Shape", "Program", "The five dearest functions, and how many of 100 samples each has"],
+        [[shape, program, ", ".join(functions)] for (shape, program), functions in dearest.items()],
     )
 
 
@@ -231,11 +236,11 @@ def draw(slots, lines):
 
 def main():
     shapes = read_rows("shapes.csv")
-    instructions = {row["shape"]: row["ratio"] for row in read_rows("instructions.csv")}
+    counted = {row["shape"]: (row["ratio"], row["steps"]) for row in read_rows("instructions.csv")}
     slots, lines = read_rows("growth-slots.csv"), read_rows("growth-lines.csv")
     if shapes:
-        put_table("docs/SPEED.md", "shapes", shapes_table(shapes, instructions))
-        put_table("README.md", "shapes", short_shapes_table(shapes, instructions))
+        put_table("docs/SPEED.md", "shapes", shapes_table(shapes, counted))
+        put_table("README.md", "shapes", short_shapes_table(shapes, counted))
     for name, rows, make in [
         ("slots", slots, slots_table),
         ("lines", lines, lines_table),
