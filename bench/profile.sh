@@ -1,28 +1,47 @@
 #!/usr/bin/env bash
 # Prints for each shape whose ratio in docs/shapes.csv is above 1.2 (or for those named) the five functions in which the program spends
 # most of its time, by their share of samples (perf, a sample each half millisecond of processor time), and the same of the plain program.
-# With names left out it does so too for loads among 100,000 slots and for their list of mappings, and writes all to docs/profile.csv.
+# Then the shares of text, machine and kernel. With names left out it does so too for loads among 100,000 slots and for their list of
+# mappings, and writes all to docs/profile.csv and docs/parts.csv.
 # Usage: bench/profile.sh [NAME]..
 set -euo pipefail
 cd "$(dirname "$0")/.."
 . bench/common.sh
 
-# The five dearest functions of a command on the trace: share and name, without hashes, and without generic arguments.
-dearest() {
+# Share and name of each function of a command on the trace, without hashes: the kernel's begin with "kernel ".
+sample() {
     perf record -q -e cpu-clock -F 2000 -o "$work/samples" "$@" < "$work/trace" 2>&1 > /dev/null | { grep -v '^\[' >&2 || true; }
-    perf report -i "$work/samples" --stdio --no-children --no-inline -F overhead,symbol 2> /dev/null \
-        | awk '/^ +[0-9]/ && shown < 5 { share = $1; $1 = $2 = ""; sub(/^ +/, ""); sub(/::(<#[0-9a-f]+>|h[0-9a-f]+)$/, ""); print share ",\"" $0 "\""; shown++ }'
+    perf report -i "$work/samples" --stdio --no-children --no-inline -F overhead,symbol 2> /dev/null | awk '/^ +[0-9]/ {
+        share = $1; where = $2; $1 = $2 = ""; sub(/^ +/, ""); sub(/::(<#[0-9a-f]+>|h[0-9a-f]+)$/, "")
+        print share, (where == "[k]" ? "kernel " : "") $0
+    }'
+}
+
+# The five dearest functions.
+dearest() { awk 'NR <= 5 { share = $1; $1 = ""; sub(/^ +(kernel )?/, ""); print share ",\"" $0 "\"" }' "$work/functions"; }
+
+# The shares of the kernel, of text (lines read, words and numbers, texts written) and of the machine with all else.
+parts() {
+    awk '{ share = $1 + 0; all += share; $1 = ""; sub(/^ +/, "") }
+        /^kernel / { kernel += share; next }
+        /^(trace_text|trace_io|radixvm|trace::(replay|outcome_text|shown))|baseline::(main|baseline::(request|maps))|memchr|std::io|core::(fmt|str|num)|fmt::/ { text += share }
+        END { printf "%.0f,%.0f,%.0f\n", 100 * text / all, 100 * (all - text - kernel) / all, 100 * kernel / all }' "$work/functions"
 }
 
 # Both programs on the trace, each with the word.
 profile() { # NAME WORD
-    dearest "$program" "$2" | sed "s/^/$1,ours,/" >> "$table"
-    dearest "$plain" "$2" | sed "s/^/$1,plain,/" >> "$table"
+    sample "$program" "$2" > "$work/functions"
+    dearest | sed "s/^/$1,ours,/" >> "$table"
+    parts | sed "s/^/$1,ours,/" >> "$shares"
+    sample "$plain" "$2" > "$work/functions"
+    dearest | sed "s/^/$1,plain,/" >> "$table"
+    parts | sed "s/^/$1,plain,/" >> "$shares"
 }
 
 names=("$@")
 [ $# -gt 0 ] || mapfile -t names < <(awk -F, 'NR > 1 && $5 > 1.2 { print $1 }' docs/shapes.csv)
-table=$work/profile.csv
+table=$work/profile.csv shares=$work/parts.csv
+echo shape,program,text,machine,kernel > "$shares"
 echo shape,program,share,function > "$table"
 for name in "${names[@]}"; do
     bench/make_shape.sh "$name" > "$work/trace"
@@ -33,6 +52,6 @@ if [ $# -eq 0 ]; then
     profile 'load among 100000 slots' run
     bench/make_growth.sh map 100000 > "$work/trace"
     profile 'maps of 100000 slots' maps
-    cp "$table" docs/profile.csv
+    cp "$table" "$shares" docs/
 fi
-cat "$table"
+cat "$table" "$shares"
