@@ -22,9 +22,11 @@ dearest() { awk 'NR <= 5 { share = $1; $1 = ""; sub(/^ +(kernel )?/, ""); print 
 
 # The shares of the kernel, of text (lines read, words and numbers, texts written) and of the machine with all else.
 parts() {
-    awk '{ share = $1 + 0; all += share; $1 = ""; sub(/^ +/, "") }
+    local ours='^(trace_text|trace_io|radixvm|trace::(replay|outcome_text|shown))'
+    local theirs='baseline::(main|baseline::(request|maps))' both='memchr|std::io|core::(fmt|str|num)|fmt::'
+    awk -v text_names="$ours|$theirs|$both" '{ share = $1 + 0; all += share; $1 = ""; sub(/^ +/, "") }
         /^kernel / { kernel += share; next }
-        /^(trace_text|trace_io|radixvm|trace::(replay|outcome_text|shown))|baseline::(main|baseline::(request|maps))|memchr|std::io|core::(fmt|str|num)|fmt::/ { text += share }
+        $0 ~ text_names { text += share }
         END { printf "%.0f,%.0f,%.0f\n", 100 * text / all, 100 * (all - text - kernel) / all, 100 * kernel / all }' "$work/functions"
 }
 

@@ -168,24 +168,31 @@ LEFT, RIGHT, ABOVE, BELOW = 78, 130, 44, 52
 COLOURS = ["#0060a8", "#c0501c", "#6aa5d8", "#e8a27e"]
 
 
-def nice_step(top):
-    """A step of 1, 2 or 5 times a power of ten, of which at most six make the top."""
+def marks_from_zero(top):
+    """Marks from zero on, at a step of 1, 2 or 5 times a power of ten: at most seven, the last at or above the top."""
     power = 10 ** math.floor(math.log10(top / 6))
-    return next(power * factor for factor in (1, 2, 5, 10) if power * factor * 6 >= top)
+    step = next(power * factor for factor in (1, 2, 5, 10) if power * factor * 6 >= top)
+    return [i * step for i in range(math.ceil(top / step) + 1)]
 
 
-def picture(name, title, x_label, y_label, series):
-    """Writes a chart of the series (name to points): x in powers of ten, y from zero on."""
+def marks_in_powers(low, top):
+    """The powers of ten from the one at or below `low` to the one at or above `top`."""
+    return [10.0**i for i in range(math.floor(math.log10(low)), math.ceil(math.log10(top)) + 1)]
+
+
+def picture(name, title, x_label, y_label, series, in_powers=False):
+    """Writes a chart of the series (name to points): x in powers of ten, y from zero on, or in powers of ten too."""
     xs = [math.log10(x) for points in series.values() for x, _ in points]
-    top = max(y for points in series.values() for _, y in points)
-    step = nice_step(top)
-    top = step * math.ceil(top / step * 1.02)
+    ys = [y for points in series.values() for _, y in points]
+    marks = marks_in_powers(min(ys), max(ys)) if in_powers else marks_from_zero(max(ys))
+    scale = math.log10 if in_powers else float
+    lowest, highest = scale(marks[0]), scale(marks[-1])
 
     def left(x):
         return LEFT + (math.log10(x) - min(xs)) / (max(xs) - min(xs)) * (WIDTH - LEFT - RIGHT)
 
     def down(y):
-        return HEIGHT - BELOW - y / top * (HEIGHT - ABOVE - BELOW)
+        return HEIGHT - BELOW - (scale(y) - lowest) / (highest - lowest) * (HEIGHT - ABOVE - BELOW)
 
     def text(x, y, words, anchor="middle", more=""):
         return f'<text x="{x:.1f}" y="{y:.1f}" text-anchor="{anchor}"{more}>{words}</text>'
@@ -198,10 +205,10 @@ def picture(name, title, x_label, y_label, series):
         text((LEFT + WIDTH - RIGHT) / 2, HEIGHT - 14, x_label),
         text(18, (ABOVE + HEIGHT - BELOW) / 2, y_label, "middle", f' transform="rotate(-90 18 {(ABOVE + HEIGHT - BELOW) / 2})"'),
     ]
-    for i in range(round(top / step) + 1):
-        y = down(i * step)
+    for mark in marks:
+        y = down(mark)
         parts.append(f'<line x1="{LEFT}" y1="{y:.1f}" x2="{WIDTH - RIGHT}" y2="{y:.1f}" stroke="#ddd"/>')
-        parts.append(text(LEFT - 8, y + 4, f"{i * step:,g}", "end"))
+        parts.append(text(LEFT - 8, y + 4, f"{mark:,g}", "end"))
     for x in sorted({x for points in series.values() for x, _ in points}):
         parts.append(text(left(x), HEIGHT - BELOW + 18, f"{x:,}"))
     names = []
@@ -231,7 +238,7 @@ def draw(slots, lines):
         picture(
             "growth-slots.svg",
             "Time of a line over the number of mappings",
-            "mappings (one page each)",
+            "mappings of one page each, in powers of ten",
             "nanoseconds a line",
             {
                 "mmap, ours": points(kinds["map"], "slots", "ours_ns"),
@@ -242,15 +249,16 @@ def draw(slots, lines):
         )
     if lines:
         for name, title, unit, column, by in [
-            ("growth-lines-memory.svg", "Most memory at once over the number of lines", "MiB", "kib", 1024),
-            ("growth-lines-time.svg", "Processor time over the number of lines", "seconds", "ms", 1000),
+            ("growth-lines-memory.svg", "Most memory at once over the number of lines", "MiB, in powers of ten", "kib", 1024),
+            ("growth-lines-time.svg", "Processor time over the number of lines", "milliseconds, in powers of ten", "ms", 1),
         ]:
             picture(
                 name,
                 title,
-                "lines of the trace",
+                "lines of the trace, in powers of ten",
                 unit,
                 {"ours": points(lines, "lines", f"ours_{column}", by), "plain": points(lines, "lines", f"plain_{column}", by)},
+                in_powers=True,
             )
 
 
