@@ -1,6 +1,7 @@
 //! The plain Rust program that the traces are measured against: the same texts in and out, for lines of whole calls (`cC!`,
 //! `call`, `finish`; mappings with MAP_FIXED), takes, walks, evictions, flushes and reviews. Each core has page tables and a
-//! TLB; the slots of pages stand in a radix tree. With the word `maps` it writes the list of mappings in place of the replies.
+//! TLB; the slots of pages stand in a radix tree. It keeps no log. With the word `maps` it writes the list of mappings in place
+//! of the replies.
 //! Standard library alone. Build: `rustc --edition 2021 -C opt-level=3 bench/baseline.rs`.
 mod baseline {
     pub mod counts;

@@ -61,6 +61,8 @@ rest() {
     bench/make_growth.sh map 100000 > "$trace"
     read -r ours theirs <<< "$(bench/measure.py "$runs" "$trace" "$program" maps -- "$plain" maps)"
     row 'maps of 100,000 slots, beside plain Rust' ms "$ours" "$theirs" 1.0
+    read -r ours theirs <<< "$(bench/measure.py "$runs" "$trace" "$program" run -- "$plain")"
+    row 'run of the same trace, beside plain Rust' ms "$ours" "$theirs" ''
 }
 
 over_slots > "$work/growth-slots.csv"

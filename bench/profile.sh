@@ -1,6 +1,6 @@
 #!/usr/bin/env bash
 # Prints for each shape whose ratio in docs/shapes.csv is above 1.2 (or for those named) the five functions in which the program spends
-# most of its time, by their share of samples (perf, a sample each half millisecond of processor time), and the same of the plain program.
+# most of its time, by their share of samples (perf, 8,000 samples a second of processor time), and the same of the plain program.
 # Then the shares of text, machine and kernel. With names left out it does so too for loads among 100,000 slots and for their list of
 # mappings, and writes all to docs/profile.csv and docs/parts.csv.
 # Usage: bench/profile.sh [NAME]..
@@ -10,7 +10,7 @@ cd "$(dirname "$0")/.."
 
 # Share and name of each function of a command on the trace, without hashes: the kernel's begin with "kernel ".
 sample() {
-    perf record -q -e cpu-clock -F 2000 -o "$work/samples" "$@" < "$work/trace" 2>&1 > /dev/null | { grep -v '^\[' >&2 || true; }
+    perf record -q -e cpu-clock -F 8000 -o "$work/samples" "$@" < "$work/trace" 2>&1 > /dev/null | { grep -v '^\[' >&2 || true; }
     perf report -i "$work/samples" --stdio --no-children --no-inline -F overhead,symbol 2> /dev/null | awk '/^ +[0-9]/ {
         share = $1; where = $2; $1 = $2 = ""; sub(/^ +/, ""); sub(/::(<#[0-9a-f]+>|h[0-9a-f]+)$/, "")
         print share, (where == "[k]" ? "kernel " : "") $0
@@ -27,7 +27,7 @@ parts() {
     awk -v text_names="$ours|$theirs|$both" '{ share = $1 + 0; all += share; $1 = ""; sub(/^ +/, "") }
         /^kernel / { kernel += share; next }
         $0 ~ text_names { text += share }
-        END { printf "%.0f,%.0f,%.0f\n", 100 * text / all, 100 * (all - text - kernel) / all, 100 * kernel / all }' "$work/functions"
+        END { printf "%.1f,%.1f,%.1f\n", 100 * text / all, 100 * (all - text - kernel) / all, 100 * kernel / all }' "$work/functions"
 }
 
 # Both programs on the trace, each with the word.
