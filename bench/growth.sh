@@ -1,12 +1,12 @@
 #!/usr/bin/env bash
 # Measures how time and memory grow: the time of a line over the number of slots; time and memory over the number of lines; the memory
-# of sparse pages; what the log costs; and the list of mappings. The program and the plain one of bench/baseline.rs run in turn, and must
-# write the same text. Writes docs/growth-slots.csv, docs/growth-lines.csv and docs/growth-rest.csv, and prints them.
-# Usage: bench/growth.sh [--tenth]; --tenth takes fewer lines and one run, and writes no file.
+# of sparse pages; what the log costs; and the list of mappings. The program and the plain one of bench/baseline.rs run in turn, five
+# times each (or RUNS, if set; ten million lines once), and must write the same text. Writes docs/growth-slots.csv, docs/growth-lines.csv
+# and docs/growth-rest.csv, and prints them. Usage: bench/growth.sh [--tenth]; --tenth takes fewer lines and one run, and writes no file.
 set -euo pipefail
 cd "$(dirname "$0")/.."
 . bench/common.sh
-runs=5 lines=400000 counts='100000 1000000 10000000'
+runs=${RUNS:-5} lines=400000 counts='100000 1000000 10000000'
 if [ "${1:-}" = --tenth ]; then runs=1 lines=40000 counts='100000 300000'; fi
 trace=$work/trace
 

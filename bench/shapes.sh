@@ -1,11 +1,12 @@
 #!/usr/bin/env bash
-# Measures each shape of trace (bench/make_shape.sh) on the program and on the plain Rust program of bench/baseline.rs: five runs each,
-# alternating, medians of the processor time. Both must write the same text, byte for byte. Prints a table in Markdown, and writes it
-# to docs/shapes.csv where all shapes are measured in full. Usage: bench/shapes.sh [--tenth] [NAME]..; --tenth takes a tenth of the lines and one run.
+# Measures each shape of trace (bench/make_shape.sh) on the program and on the plain Rust program of bench/baseline.rs: five runs each
+# (or RUNS, if set), alternating, medians of the processor time. Both must write the same text, byte for byte. Prints a table in
+# Markdown, and writes it to docs/shapes.csv where all shapes are measured in full.
+# Usage: bench/shapes.sh [--tenth] [NAME]..; --tenth takes a tenth of the lines and one run.
 set -euo pipefail
 cd "$(dirname "$0")/.."
 . bench/common.sh
-runs=5 part=1
+runs=${RUNS:-5} part=1
 if [ "${1:-}" = --tenth ]; then runs=1 part=10; shift; fi
 table=$work/shapes.csv
 echo shape,lines,ours_ms,plain_ms,ratio,what > "$table"
