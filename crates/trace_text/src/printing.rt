@@ -63,6 +63,7 @@ pub fn address_text(address: u64) -> ShortText
 }
 
 /// Appends the number, as `number_text` has it.
+#[inline(always)]
 pub fn push_number(text: &mut LineText, number: u64)
     requires { length text.old.bytes + 20 ≤ 256 }
     ensures bytes { text.new.bytes ≡ text.old.bytes ++ decimal number }
@@ -87,6 +88,7 @@ fn refusal_word(errno: Errno) -> &'static str
 }
 
 /// Appends the reply as a trace's output has it: an address, a byte in decimal, or words in lower case, without a newline.
+#[inline(always)]
 pub fn push_reply(text: &mut LineText, reply: Reply)
     requires { length text.old.bytes + 20 ≤ 256 }
     ensures bytes { text.new.bytes ≡ text.old.bytes ++ text_of reply }
