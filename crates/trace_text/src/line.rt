@@ -63,8 +63,8 @@ fn is_comment(bytes: &[u8]) -> bool
     }
 }
 
-/// Tells whether each byte of the line is printable, which says this, as `read_line` told. A line that is read has no other
-/// bytes, so only those of a comment or of a bad line are looked at.
+/// Tells whether each byte of the line is printable, which says this, as `read_line` told. A line that
+/// is read has no other bytes, so only those of a comment or of a bad line are looked at.
 #[tactic(auto, using(crate::proofs::PrintableLemmas::line_printable))]
 pub fn is_printable_line(bytes: &[u8], said: &Option<Line>) -> bool
     requires { said.now ≡ line_of bytes.now }

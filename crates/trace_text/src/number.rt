@@ -89,7 +89,8 @@ pub fn read_number(word: &[u8]) -> Option<u64>
     }
 }
 
-// How many of the first 16 bytes are digits of the base, up to the first that is none, and their value.
+// How many of the first 16 bytes are digits of the base, up to the first that is none, and their
+// value.
 #[inline(always)]
 fn front_value(bytes: &[u8], base: u64) -> (u64, usize)
     requires { base ≤ 16 }
@@ -110,7 +111,8 @@ fn front_value(bytes: &[u8], base: u64) -> (u64, usize)
     (number, count)
 }
 
-// The value of the digits up to the first space, and what begins there; `None` where other bytes stand before it, or more than 16 digits.
+// The value of the digits up to the first space, and what begins there; `None` where other bytes stand
+// before it, or more than 16 digits.
 #[inline(always)]
 fn ended_value(digits: &[u8], base: u64) -> Option<(u64, &[u8])>
     requires { base ≤ 16 }
