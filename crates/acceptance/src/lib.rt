@@ -1,5 +1,5 @@
 //! Tests of the whole, over the tree of slots and over the list of runs: `row_tests` compares the
-//! tables of `rows`, `random_tests` compares random
+//! tables of `rows`, also with memory that is refused (`starved`), `random_tests` compares random
 //! traces, and `stream_tests` has reads and writes that fail. `run_tests` has whole lists of events
 //! and heaps that are too small, and `replay_tests` the texts of outcomes and a replay's flushes.
 #![tactic(auto)]
@@ -20,6 +20,8 @@ mod row_tests;
 mod rows;
 #[cfg(test)]
 mod run_tests;
+#[cfg(test)]
+mod starved;
 #[cfg(test)]
 mod stream_tests;
 #[cfg(test)]

@@ -5,7 +5,6 @@ ghost use Rattle.core_steps.specs.Machine.{state};
 
 use crate::by_hand::{Moves, outcome_of};
 use core_steps::Machine;
-use linked_list_allocator::LocalHeap;
 use machine_model::{Entry, Event, Outcome};
 use map_list::MapLine;
 use radix_range::RadixMap;
@@ -308,16 +307,4 @@ pub fn told_over(
         Over::Tree | Over::TreeByHand => told_with(alloc, RadixMap::new(alloc)?, trace, told),
         Over::List | Over::ListByHand => told_with(alloc, RunList::new(alloc)?, trace, told),
     }
-}
-
-/// The text of a trace over a tree in a heap of the smallest multiple of 4096 bytes that has its
-/// root, with ample memory for all else.
-pub fn text_in_a_full_heap(alloc: Global, trace: &str) -> Result<String<Global>, NoMemory> {
-    for pages in 1..100usize {
-        let heap = LocalHeap::new(alloc, 4096 * pages)?;
-        if let Ok(map) = RadixMap::new(&heap) {
-            return told_with(alloc, map, trace, Told::Shown(Show::Outcomes));
-        }
-    }
-    Err(NoMemory)
 }

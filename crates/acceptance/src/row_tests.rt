@@ -1,6 +1,7 @@
 //! The tables of `rows`, each over the slot maps that it holds of.
 use crate::machines::Over;
 use crate::rows;
+use crate::starved::Marks;
 use crate::table::{Compared, compare_all};
 use std::test::Fail;
 use trace::shown::Show;
@@ -44,11 +45,31 @@ fn each_row_gives_its_text(rt: HostRuntime) -> Result<(), Fail> {
     Ok(())
 }
 
-// A tree that has no room to grow refuses, and a call that is given up leaves it as it was.
+// Each event is given again until it has memory. What it gives, and what can be seen at the end,
+// is as with ample memory from the start.
 #[test]
-fn a_tree_in_a_full_heap(rt: HostRuntime) -> Result<(), Fail> {
-    let found = compare_all(rt.alloc(), rows::FULL_HEAP, Compared::FullHeap)?;
-    assert_eq!(rt; found.wrong.as_str(), "");
-    assert_eq!(rt; found.rows, 1);
+fn refused_memory_changes_nothing(rt: HostRuntime) -> Result<(), Fail> {
+    for (table, compared, count) in [
+        (
+            rows::REFUSALS,
+            Compared::Starved(Over::Tree, Marks::Told),
+            6,
+        ),
+        (
+            rows::REFUSED_SOMEWHERE,
+            Compared::Starved(Over::Tree, Marks::Untold),
+            1,
+        ),
+        (
+            rows::REFUSED_SOMEWHERE,
+            Compared::Starved(Over::List, Marks::Untold),
+            1,
+        ),
+        (rows::FULL_HEAP, Compared::FullHeap, 1),
+    ] {
+        let found = compare_all(rt.alloc(), table, compared)?;
+        assert_eq!(rt; found.wrong.as_str(), "");
+        assert_eq!(rt; found.rows, count);
+    }
     Ok(())
 }

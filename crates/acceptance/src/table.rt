@@ -1,5 +1,6 @@
 //! Tables of rows, as `rows` has them.
-use crate::machines::{Over, Told, text_in_a_full_heap, text_over, told_over};
+use crate::machines::{Over, Told, text_over, told_over};
+use crate::starved::{Marks, text_in_a_full_heap, text_of_starved};
 use std::alloc::Global;
 use trace::shown::Show;
 use trace_text::number::read_number;
@@ -22,6 +23,8 @@ pub enum Compared {
     Order(Over),
     /// The entries of the cores' tables behind it.
     Entries(Over),
+    /// What a machine gives whose memory is full before each event.
+    Starved(Over, Marks),
     /// What one gives whose tree has no room to grow.
     FullHeap,
 }
@@ -96,6 +99,7 @@ fn text_of(alloc: Global, compared: Compared, trace: &str) -> Result<String<Glob
             order_of(alloc, &text)
         }
         Compared::Entries(over) => told_over(alloc, over, trace, Told::Entries),
+        Compared::Starved(over, marks) => text_of_starved(alloc, over, trace, marks),
         Compared::FullHeap => text_in_a_full_heap(alloc, trace),
     }
 }
