@@ -1,4 +1,5 @@
 //! Whole lists of events, and why they may fail.
+use crate::machines::{declared, machine_over, push_outcomes};
 use backing::FileSpec;
 use core_steps::{Counted, Kept, RunFault, Setup, SetupFault, run};
 use linked_list_allocator::LocalHeap;
@@ -197,8 +198,8 @@ fn heaps_that_are_too_small(rt: HostRuntime) -> Result<(), Fail> {
     let mut last = 0;
     let mut made = 0;
     let mut listed = 0;
-    for n in 0..12_000usize {
-        let heap = LocalHeap::new(rt.alloc(), 64 + 16 * n)?;
+    for n in 0..6_000usize {
+        let heap = LocalHeap::new(rt.alloc(), 64 + 32 * n)?;
         let setup = Setup {
             cores: 1,
             frames: 1,
@@ -222,7 +223,7 @@ fn heaps_that_are_too_small(rt: HostRuntime) -> Result<(), Fail> {
         }
     }
     // the inboxes alone have 64 times 63 messages of 16 bytes and more
-    assert!(rt; 4032 < made && made < listed && last == 2);
+    assert!(rt; 2016 < made && made < listed && last == 2);
     Ok(())
 }
 
@@ -244,5 +245,51 @@ fn a_division_is_refused(rt: HostRuntime) -> Result<(), Fail> {
         }
     }
     assert!(rt; told == Some(RunFault::NoMemory { at: 2 }));
+    Ok(())
+}
+
+/// Nine mappings, none of which goes on.
+const NINE: &str = "\
+vm 1 4
+c0! mmap 0x10000 4096 rw- pfa
+c0! mmap 0x12000 4096 rw- pfa
+c0! mmap 0x14000 4096 rw- pfa
+c0! mmap 0x16000 4096 rw- pfa
+c0! mmap 0x18000 4096 rw- pfa
+c0! mmap 0x1a000 4096 rw- pfa
+c0! mmap 0x1c000 4096 rw- pfa
+c0! mmap 0x1e000 4096 rw- pfa
+c0! mmap 0x20000 4096 rw- pfa
+";
+
+/// How many heaps were too small for the list of mappings, and how many lines it has in the first
+/// that isn't, if these are the lines that it has elsewhere.
+fn lists_in_heaps(alloc: Global) -> Result<Option<(u64, usize)>, NoMemory> {
+    let mut text = String::new(alloc);
+    let mut machine = machine_over(alloc, RunList::new(alloc)?, &declared(NINE))?;
+    push_outcomes(&mut machine, NINE, &mut text)?;
+    let whole = machine.plain_maps(alloc)?;
+    for n in 0..1000u64 {
+        let heap = LocalHeap::new(alloc, 64 + 16 * n as usize)?;
+        if let Ok(lines) = machine.plain_maps(&heap) {
+            let is_whole = lines.as_slice() == whole.as_slice();
+            return Ok(if is_whole {
+                Some((n, lines.len()))
+            } else {
+                None
+            });
+        }
+    }
+    Ok(None)
+}
+
+#[test]
+fn a_list_of_mappings_is_refused_or_whole(rt: HostRuntime) -> Result<(), Fail> {
+    let Some((refused, lines)) = lists_in_heaps(rt.alloc())? else {
+        assert!(rt; false, "another list");
+        return Ok(());
+    };
+    assert!(rt; refused > 0);
+    assert_eq!(rt; lines, 9);
     Ok(())
 }
