@@ -1,19 +1,22 @@
 //! The plain Rust program that the traces are measured against: the same texts in and out, for lines of whole calls (`cC!`,
-//! `call`, `finish`), takes, walks, evictions, flushes and reviews. Each core has page tables and a TLB; the
-//! slots of pages stand in a radix tree. Standard library alone.
-//! Build: `rustc --edition 2021 -C opt-level=3 bench/baseline.rs`.
+//! `call`, `finish`; mappings with MAP_FIXED), takes, walks, evictions, flushes and reviews. Each core has page tables and a
+//! TLB; the slots of pages stand in a radix tree. It keeps no log. With the word `maps` it writes the list of mappings in place
+//! of the replies.
+//! Standard library alone. Build: `rustc --edition 2021 -C opt-level=3 bench/baseline.rs`.
 mod baseline {
     pub mod counts;
     pub mod cpu;
     pub mod files;
     pub mod frames;
     pub mod machine;
+    pub mod maps;
     pub mod request;
     pub mod slots;
 }
 
 use baseline::files::File;
 use baseline::machine::{Machine, Outcome};
+use baseline::maps::{Backing, Mapping};
 use baseline::request::{read_line, Line};
 use std::io::{self, BufRead, BufReader, BufWriter, Write};
 use std::process::ExitCode;
@@ -55,7 +58,56 @@ fn write_outcome(out: &mut impl Write, outcome: Outcome) -> io::Result<()> {
     }
 }
 
+fn write_mapping(out: &mut impl Write, mapping: &Mapping) -> io::Result<()> {
+    let letter = |has_right, letter| if has_right { letter } else { '-' };
+    let prot = mapping.prot;
+    write!(
+        out,
+        "{:#x}-{:#x} {}{}{}",
+        mapping.start,
+        mapping.end,
+        letter(prot.read, 'r'),
+        letter(prot.write, 'w'),
+        letter(prot.exec, 'x'),
+    )?;
+    match mapping.backing {
+        Backing::Anon => writeln!(out, " anon"),
+        Backing::Shared { file, offset } => writeln!(out, " shared {file} {offset:#x}"),
+        Backing::Private { file, offset } => writeln!(out, " private {file} {offset:#x}"),
+    }
+}
+
+/// Makes the machine, opens a file, or acts, and tells what an action came to. `Err` where the line stands at a wrong place.
+fn obey(machine: &mut Option<Machine>, line: Line) -> Result<Option<Outcome>, ()> {
+    match (line, machine) {
+        (Line::Blank, _) => {}
+        (
+            Line::Space {
+                cores: cores @ 1..=64,
+                frames: frames @ 0..=65_536,
+                calls,
+            },
+            machine @ None,
+        ) => *machine = Some(Machine::new(cores as usize, frames as usize, calls)),
+        (
+            Line::File {
+                can_read,
+                can_write,
+                len: len @ 0..=1_048_576,
+                seed,
+            },
+            Some(machine),
+        ) => machine.open(File::new(can_read, can_write, len as usize, seed)),
+        (Line::Core { core, action }, Some(machine)) => {
+            return Ok(Some(machine.act(core, action)));
+        }
+        _ => return Err(()),
+    }
+    Ok(None)
+}
+
 fn main() -> io::Result<ExitCode> {
+    let shows_maps = std::env::args().nth(1).as_deref() == Some("maps");
     let mut input = BufReader::with_capacity(1 << 16, io::stdin().lock());
     let mut out = BufWriter::with_capacity(1 << 16, io::stdout().lock());
     let mut machine = None;
@@ -63,40 +115,24 @@ fn main() -> io::Result<ExitCode> {
     let mut count = 0u64;
     while input.read_until(b'\n', &mut line)? > 0 {
         count += 1;
-        match (read_line(line.trim_ascii_end()), &mut machine) {
-            (Some(Line::Blank), _) => {}
-            (
-                Some(Line::Space {
-                    cores: cores @ 1..=64,
-                    frames: frames @ 0..=65_536,
-                    calls,
-                }),
-                None,
-            ) => {
-                machine = Some(Machine::new(cores as usize, frames as usize, calls));
-            }
-            (
-                Some(Line::File {
-                    can_read,
-                    can_write,
-                    len: len @ 0..=1_048_576,
-                    seed,
-                    ..
-                }),
-                Some(machine),
-            ) => {
-                machine.open(File::new(can_read, can_write, len as usize, seed));
-            }
-            (Some(Line::Core { core, action }), Some(machine)) => {
-                write_outcome(&mut out, machine.act(core, action))?;
-            }
-            _ => {
+        let obeyed = read_line(line.trim_ascii_end())
+            .ok_or(())
+            .and_then(|line| obey(&mut machine, line));
+        match obeyed {
+            Ok(Some(outcome)) if !shows_maps => write_outcome(&mut out, outcome)?,
+            Ok(_) => {}
+            Err(()) => {
                 out.flush()?;
                 eprintln!("line {count}: bad line");
                 return Ok(ExitCode::from(2));
             }
         }
         line.clear();
+    }
+    if let (true, Some(machine)) = (shows_maps, &machine) {
+        for mapping in machine.maps() {
+            write_mapping(&mut out, &mapping)?;
+        }
     }
     out.flush()?;
     Ok(ExitCode::SUCCESS)

@@ -11,12 +11,7 @@ pub struct File {
 
 impl File {
     pub fn new(can_read: bool, can_write: bool, len: usize, seed: u8) -> File {
-        let mut byte = seed;
-        let mut bytes = Vec::with_capacity(len);
-        for _ in 0..len {
-            bytes.push(byte);
-            byte = byte.wrapping_add(1);
-        }
+        let bytes = (0..len).map(|i| seed.wrapping_add(i as u8)).collect();
         let cached = vec![None; len.div_ceil(PAGE_BYTES)];
         File {
             can_read,

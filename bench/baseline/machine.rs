@@ -3,6 +3,7 @@ use crate::baseline::counts::Counts;
 use crate::baseline::cpu::Cpu;
 use crate::baseline::files::File;
 use crate::baseline::frames::Frames;
+use crate::baseline::maps::{self, Mapping};
 use crate::baseline::request::{Access, Action, Flags, Prot, Request};
 use crate::baseline::slots::{Back, Page, Slots, State};
 use std::collections::VecDeque;
@@ -562,6 +563,11 @@ impl Machine {
             page.cores = 0;
         }
         self.install(core, touch)
+    }
+
+    /// All mappings, in order of addresses.
+    pub fn maps(&self) -> Vec<Mapping> {
+        maps::maps(&self.slots)
     }
 
     fn review(&mut self, core: usize) -> bool {

@@ -1,6 +1,6 @@
 //! What the lines of a trace ask for.
 
-#[derive(Clone, Copy)]
+#[derive(Clone, Copy, PartialEq, Eq)]
 pub struct Prot {
     pub read: bool,
     pub write: bool,

@@ -3,7 +3,7 @@
 use crate::baseline::request::Prot;
 
 /// What backs a page: zero bytes, or a file. A page's number and `from` are, wrapping, the number of its page of the file.
-#[derive(Clone, Copy)]
+#[derive(Clone, Copy, PartialEq, Eq)]
 pub enum Back {
     Anon,
     Shared { file: usize, from: u64 },
@@ -93,6 +93,20 @@ impl Node {
             }
         }
     }
+
+    /// Shows the mapped slots, from left to right, with their pages.
+    fn each_mapped(&self, base: u64, act: &mut impl FnMut(u64, u64, &Page)) {
+        for (k, slot) in (0u64..).zip(&self.slots) {
+            let start = base + (k << self.shift);
+            match slot {
+                Slot::Own(State {
+                    page: Some(page), ..
+                }) => act(start, start + (1 << self.shift), page),
+                Slot::Own(_) => {}
+                Slot::Child(node) => node.each_mapped(start, act),
+            }
+        }
+    }
 }
 
 pub struct Slots {
@@ -123,6 +137,11 @@ impl Slots {
 
     pub fn each(&mut self, first: u64, end: u64, mut act: impl FnMut(&mut State)) {
         self.root.each(0, first, end, &mut act);
+    }
+
+    /// Shows the mapped slots, from left to right, with their pages.
+    pub fn each_mapped(&self, mut act: impl FnMut(u64, u64, &Page)) {
+        self.root.each_mapped(0, &mut act);
     }
 
     /// The core that holds the page's slot.

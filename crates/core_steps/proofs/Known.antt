@@ -23,10 +23,7 @@ use Rattle.slot_lock.specs.declared.plan.Plan.TheVariants as PlanOf
 use Rattle.slot_lock.specs.declared.plan.Touch.{Touch}
 use Rattle.slot_lock.specs.declared.plan.Goal.{Goal}
 use Rattle.slot_lock.specs.declared.plan.Goal.TheVariants as To
-use Rattle.slot_lock.specs.declared.plan.Place.{Place}
-use Rattle.slot_lock.specs.declared.plan.Target.{Target}
-use Rattle.slot_lock.specs.declared.plan.Target.TheVariants.{Hint, Run, Window}
-use Rattle.slot_lock.specs.Plan.{goal_plan, goal_range, range_of, target_range, HasTarget, IsSound, IsSoundGoal, IsSoundTouch}
+use Rattle.slot_lock.specs.Plan.{goal_plan, goal_range, range_of, HasTarget, IsSound, IsSoundGoal, IsSoundTouch}
 use Rattle.slot_lock.specs.Slots.{IsSlot, IsHeld, IsUser}
 use Rattle.vm_calls.specs.declared.decision.Decision.TheVariants.{Act}
 use Rattle.vm_calls.specs.Decisions.{Decides}
@@ -52,7 +49,7 @@ use Rattle.machine_model.specs.declared.phase.Phase.TheVariants.{Free, Check, Lo
 use Rattle.machine_model.specs.World.{World}
 use Rattle.machine_model.specs.Changes.{AwaitsNobody}
 use Rattle.machine_model.specs.Files.{is_private, shows_some, prot_shown, prot_installed}
-use Rattle.machine_model.specs.Holding.{can_give_up, awaits_in, holds, is_open, page_of_touch, plan_in, range_held, some_has, taken_in}
+use Rattle.machine_model.specs.Holding.{can_give_up, awaits_in, holds, is_open, page_of_touch, range_held, some_has, taken_in}
 use Rattle.machine_model.specs.Translating.{entry_for, entry_of_page, translated_by, frame_reached}
 use Rattle.machine_counting.specs.Counted.{users_of}
 use Rattle.machine_counting.proofs.Kept.{counted_positive, framed_page}
@@ -64,7 +61,7 @@ use Rattle.machine_coherence.specs.Coherent.{Every, IsSoundEntry, AreAsked}
 use Rattle.machine_sound.specs.Invariant.{Fine}
 use Rattle.core_steps.specs.Moving.{IsAt, goal_in}
 use Rattle.core_steps.specs.Taking.{AreCounted}
-use Rattle.core_steps.proofs.Sounding.{goal_if, place_if, range_if, sound_if}
+use Rattle.core_steps.proofs.Sounding.{goal_if, sound_if}
 
 -- ---- the order
 

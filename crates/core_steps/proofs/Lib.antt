@@ -12,3 +12,5 @@ pub mod Calling
 pub mod Reached
 pub mod Runs
 pub mod MapLines
+pub mod Limits
+pub mod AtOnce

@@ -8,12 +8,13 @@ use Rattle.frames.specs.Parts.{FrameParts, frame_bytes, free_frames}
 use Rattle.refcache.specs.Counts.{Counts, no_counts}
 use Rattle.machine_model.specs.World.{Hardware, new_world, no_calls, no_translations}
 use Rattle.core_steps.specs.declared.calls.CallTable.{CallTable}
+use Rattle.core_steps.specs.declared.ledger.Ledger.{Ghosts as LedgerGhosts}
 use Rattle.core_steps.specs.declared.setup.Setup.{Setup}
 use Rattle.core_steps.specs.Setups.{made_of}
 use Rattle.core_steps.specs.State.{world_of, calls_of}
 
-pub opened : {A : Type 0} (slots : Slots) (hardware : Hardware) (frames : FrameParts) (counts : Counts) (files : List FileParts)
-    (calls : CallTable A) (s : Setup A)
+pub opened : {A L : Type 0} {ledger : LedgerGhosts L} (slots : Slots) (hardware : Hardware) (frames : FrameParts) (counts : Counts) (files : List FileParts)
+    (calls : CallTable A L ledger) (s : Setup A)
     → hardware ≡ no_translations → frames.count ≡ s.frames → frame_bytes frames ≡ (λ f. zeros) → free_frames frames ≡ (λ f. nat_lt f s.frames)
     → counts ≡ no_counts s.cores s.frames → files_of files ≡ given_files s.files.items → cached_in files ≡ (λ n k. None) → calls_of calls ≡ no_calls
     → length calls.phases.items ≡ s.cores → calls.requests.limit ≡ s.calls

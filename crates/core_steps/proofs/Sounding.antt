@@ -12,7 +12,7 @@ use Rattle.slot_lock.specs.declared.plan.Plan.{Plan}
 use Rattle.slot_lock.specs.declared.plan.Plan.TheVariants as PlanOf
 use Rattle.slot_lock.specs.declared.plan.Target.{Target}
 use Rattle.slot_lock.specs.declared.plan.Target.TheVariants.{Hint, Run, Window}
-use Rattle.slot_lock.specs.Plan.{goal_plan, HasTarget, IsRunOf, IsSound, IsSoundGoal, IsSoundHint, IsSoundPlace, IsTarget}
+use Rattle.slot_lock.specs.Plan.{goal_plan, HasTarget, IsSound, IsSoundGoal, IsSoundHint, IsSoundPlace, IsTarget}
 
 -- ---- plans
 

@@ -1,8 +1,10 @@
 -- What finishing a call comes to: steps of a core, one after another, until one is not Stepped
 use Rattle.std.specs.Prelude.{◌≡◌, ◌≢◌, ℕ, ◌<◌, ◌^◌}
+use Rattle.vm_base.specs.declared.requests.Request.{Request}
 use Rattle.core_steps.specs.declared.machine.Finished.{Finished}
 use Rattle.core_steps.specs.declared.machine.Finished.TheVariants.{Last, Stuck}
-use Rattle.machine_model.specs.declared.event.Event.TheVariants.{Go}
+use Rattle.machine_model.specs.declared.event.Event.TheVariants.{Call, Go}
+use Rattle.machine_model.specs.declared.event.Outcome.{Outcome}
 use Rattle.machine_model.specs.declared.event.Outcome.TheVariants.{Stepped}
 use Rattle.machine_model.specs.World.{World}
 use Rattle.machine_model.specs.Step.{Step, StepsTo}
@@ -26,3 +28,20 @@ Finishes w core finished v = (n : ℕ) × EndsIn w core n finished v
 -- some steps were made, and the next, which may be refused for memory, was
 abbrev pub IsRefused : World → ℕ → World → Type 0
 IsRefused w core v = (n : ℕ) × (n < finish_limit) × MayWant v (Go core) × StepsTo w core n v
+
+-- ---- a call with its steps
+
+-- of a call that began the steps are made that finish it; of one that didn't this is the outcome
+abbrev pub GoesOn : World → ℕ → Outcome → Finished → World → Type 0
+GoesOn m core Stepped finished v = Finishes m core finished v
+GoesOn m core o finished v = (v ≡ m) × (finished ≡ Last o)
+
+-- a call begins, and is finished
+abbrev pub Calls : World → ℕ → Request → Finished → World → Type 0
+Calls w core request finished v =
+    (o : Outcome) × (m : World) × Step w (Call core request) o m × GoesOn m core o finished v
+
+-- it began, and one of its steps, which may be refused for memory, was
+abbrev pub IsCallRefused : World → ℕ → Request → World → Type 0
+IsCallRefused w core request v =
+    (m : World) × Step w (Call core request) Stepped m × IsRefused m core v

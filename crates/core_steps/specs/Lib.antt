@@ -7,5 +7,6 @@ pub mod Taking
 pub mod Filling
 pub mod Machine
 pub mod Finishing
+pub mod AtOnce
 pub mod Running
 pub mod MapLines

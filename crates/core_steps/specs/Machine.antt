@@ -7,8 +7,8 @@ use Rattle.core_steps.specs.declared.machine.Machine.{Machine}
 use Rattle.core_steps.specs.State.{world}
 
 -- the state that the machine has
-abbrev pub state : {M A : Type 0} {map : MapGhosts M} {read : ReadGhosts M} {clone : _} {cpu : _}
-    → Machine M A map read clone cpu → World
+abbrev pub state : {M A L : Type 0} {map : MapGhosts M} {read : ReadGhosts M} {clone : _}
+    {ledger : _} {cpu : _} → Machine M A L map read clone ledger cpu → World
 state {read = read} it = world read.slots it.engine
 
 -- a run of events leads to it, and it is sound

@@ -10,6 +10,7 @@ use Rattle.machine_model.specs.declared.phase.Phase.TheVariants.{Free}
 use Rattle.machine_model.specs.World.{World, Hardware, Calls}
 use Rattle.core_steps.specs.declared.calls.CallTable.{CallTable}
 use Rattle.core_steps.specs.declared.engine.Engine.{Engine}
+use Rattle.core_steps.specs.declared.ledger.Ledger.{Ghosts as LedgerGhosts}
 use Rattle.core_steps.specs.Parts.{parts}
 
 -- ---- the calls
@@ -20,12 +21,12 @@ phase_at phases c = slice_index_or phases c Free
 abbrev pub number_at : List ℕ → ℕ → ℕ
 number_at numbers c = slice_index numbers c
 
-abbrev pub calls_of : {A : Type 0} → CallTable A → Calls
-calls_of it = record {
+abbrev pub calls_of : {A L : Type 0} {ledger : LedgerGhosts L} → CallTable A L ledger → Calls
+calls_of {ledger = ledger} it = record {
   phase = phase_at it.phases.items;
   number = number_at it.numbers.items;
   requests = it.requests.items.items;
-  log = it.log.items.items;
+  log = ledger.entries it.log;
   events = it.events;
 }
 
@@ -48,20 +49,20 @@ world_with slots hardware frames counts files cores limit calls = record {
 }
 
 -- of the table of calls
-abbrev pub world_of : {A : Type 0} → Slots → Hardware → FrameParts → Counts → List FileParts
-    → CallTable A → World
+abbrev pub world_of : {A L : Type 0} {ledger : LedgerGhosts L} → Slots → Hardware → FrameParts
+    → Counts → List FileParts → CallTable A L ledger → World
 world_of slots hardware frames counts files calls =
     world_with slots hardware frames counts files (length calls.phases.items) calls.requests.limit
     (calls_of calls)
 
 -- the state that the engine has, by what its map says of slots
-abbrev pub world : {M H A : Type 0} {map : _} {read : _} {cpu : _} → (M → Slots)
-    → Engine M H A map read cpu → World
+abbrev pub world : {M H A L : Type 0} {map : _} {read : _} {cpu : _} {ledger : _} → (M → Slots)
+    → Engine M H A L map read cpu ledger → World
 world slots it =
     world_of (slots it.map) (parts it.cores).hardware it.frames (counts_of it.counts) it.objects
     it.calls
 
 -- where the call of a core stands
-abbrev pub phase_of : {M H A : Type 0} {map : _} {read : _} {cpu : _} → Engine M H A map read cpu
-    → ℕ → Phase
+abbrev pub phase_of : {M H A L : Type 0} {map : _} {read : _} {cpu : _} {ledger : _}
+    → Engine M H A L map read cpu ledger → ℕ → Phase
 phase_of it = phase_at it.calls.phases.items

@@ -9,6 +9,7 @@ ghost use Rattle.core_steps.specs.Moving.{IsAt};
 
 use crate::acquire::locking;
 use crate::engine::Engine;
+use crate::ledger::Ledger;
 use machine_model::{Outcome, Phase};
 use mmu::{Hardware, Translated};
 use slot_lock::{Goal, SlotMap, Touch};
@@ -25,11 +26,11 @@ fn byte_reply(access: Access, byte: u8) -> Reply
     }
 }
 
-impl<M: SlotMap, H: Hardware, A: Allocator> Engine<M, H, A> {
+impl<M: SlotMap, H: Hardware, A: Allocator, L: Ledger> Engine<M, H, A, L> {
     /// The byte is read or written in the frame, and the call has its reply.
     fn access(&mut self, core: CoreId, touch: Touch, frame: u32)
         requires here { core < length self.old.calls.phases.items }
-        requires room { answer_count self.old.calls.log.items.items < self.old.calls.requests.limit }
+        requires room { answer_count (L.entries self.old.calls.log) < self.old.calls.requests.limit }
         requires frame { frame < self.old.frames.count }
         requires offset { touch.offset < 4096 }
         ensures { world M.slots self.new ≡ after_access core touch frame (world M.slots self.old) }

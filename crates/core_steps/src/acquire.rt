@@ -8,6 +8,7 @@ ghost use Rattle.core_steps.specs.State.{world};
 ghost use Rattle.core_steps.specs.Moving.{IsAt, WantsMemory, Tries};
 
 use crate::engine::Engine;
+use crate::ledger::Ledger;
 use machine_model::{Blocker, Outcome, Phase};
 use mmu::Hardware;
 use slot_lock::{Goal, Got, SlotMap, Touch};
@@ -51,7 +52,7 @@ fn locked_to(goal: Goal, cursor: u64) -> Phase
     }
 }
 
-impl<M: SlotMap, H: Hardware, A: Allocator> Engine<M, H, A> {
+impl<M: SlotMap, H: Hardware, A: Allocator, L: Ledger> Engine<M, H, A, L> {
     /// One step towards holding all pages of the goal. A refusal for memory changes nothing.
     pub fn go_lock(&mut self, core: CoreId, goal: Goal, cursor: u64) -> Result<Outcome, NoMemory>
         requires { IsAt (world M.slots self.old) core (Phase.Lock goal cursor) }

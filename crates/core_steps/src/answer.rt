@@ -8,6 +8,7 @@ ghost use Rattle.core_steps.specs.State.{world};
 ghost use Rattle.core_steps.specs.Moving.{IsAt};
 
 use crate::engine::Engine;
+use crate::ledger::Ledger;
 use machine_model::{Entry, Outcome, Phase};
 use mmu::Hardware;
 use slot_lock::{SlotMap, Touch};
@@ -37,12 +38,12 @@ pub fn held_after(held: PageRange, unlocked_to: u64) -> Option<PageRange>
     })
 }
 
-impl<M: SlotMap, H: Hardware, A: Allocator> Engine<M, H, A> {
+impl<M: SlotMap, H: Hardware, A: Allocator, L: Ledger> Engine<M, H, A, L> {
     /// The call of a core, which holds these pages, has its reply from here on: it is logged, and the pages are unlocked
     /// next.
     pub fn reply(&mut self, core: CoreId, held: Option<PageRange>, reply: Reply)
         requires here { core < length self.old.calls.phases.items }
-        requires room { answer_count self.old.calls.log.items.items < self.old.calls.requests.limit }
+        requires room { answer_count (L.entries self.old.calls.log) < self.old.calls.requests.limit }
         ensures { world M.slots self.new ≡ after_reply core held reply (world M.slots self.old) }
     {
         self.calls.log.push(Entry::Answer {

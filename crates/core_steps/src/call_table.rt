@@ -4,17 +4,18 @@ ghost use Rattle.machine_model.specs.World.{no_calls};
 ghost use Rattle.core_steps.specs.State.{calls_of};
 
 use crate::calls::CallTable;
-use crate::reserved::Reserved;
+use crate::ledger::Opening;
+use crate::tally::Tally;
 use machine_model::Phase;
 use std::alloc::Allocator;
 use vm_base::NoMemory;
 
 /// A table for so many cores without a call, which has room for so many calls.
-pub fn new_call_table<A: Allocator + Clone>(
+pub fn new_call_table<A: Allocator + Clone, L: Opening<A>>(
     alloc: A,
     cores: usize,
     limit: u64,
-) -> Result<CallTable<A>, NoMemory>
+) -> Result<CallTable<A, L>, NoMemory>
     requires cores { cores ≤ 64 }
     requires limit { limit ≤ 1048576 }
     ensures calls { IfOk result (λ table. calls_of table ≡ no_calls) }
@@ -23,8 +24,8 @@ pub fn new_call_table<A: Allocator + Clone>(
 {
     let phases = vec![in alloc.clone()?; Phase::Free; cores]?;
     let numbers = vec![in alloc.clone()?; 0u64; cores]?;
-    let requests = Reserved::new(alloc.clone()?, limit)?;
-    let log = Reserved::new(alloc, limit)?;
+    let requests = Tally::new(limit);
+    let log = L::open(alloc, limit)?;
     Ok(CallTable {
         phases,
         numbers,

@@ -2,30 +2,31 @@
 ghost use Rattle.std.specs.Prelude.{◌≡◌, ◌+◌, ◌≤◌, length};
 ghost use Rattle.machine_laws.specs.Orderly.{answer_count};
 
-use crate::reserved::Reserved;
+use crate::ledger::Ledger;
+use crate::tally::Tally;
 use machine_model::{Entry, Phase};
 use std::alloc::Allocator;
 use vm_base::{CoreId, NoMemory, Request};
 
 /// Where the call of each core stands, the calls begun, and the log.
 #[derive(Drop)]
-pub(crate) struct CallTable<A: Allocator> {
+pub(crate) struct CallTable<A: Allocator, L: Ledger> {
     /// Of each core: where its call stands.
     pub phases: Vec<Phase, A>,
     /// Of each core: the number of its latest call, from 1; 0 before its first.
     pub numbers: Vec<u64, A>,
-    /// The requests of the calls begun, in order.
-    pub requests: Reserved<Request, A>,
+    /// The requests of the calls begun, in order, of which only the number is kept.
+    pub requests: Tally<Request>,
     /// The replies fixed and the copies made so far, in order. Room for the reply of each call is kept.
-    pub log: Reserved<Entry, A>,
+    pub log: L,
     /// How many events were taken.
     pub events: u64,
     ghost numbered: { length numbers.items ≡ length phases.items },
     ghost few: { length phases.items ≤ 64 },
-    ghost logged: { log.limit + answer_count log.items.items ≡ requests.limit + length log.items.items },
+    ghost logged: { L.limit log + answer_count (L.entries log) ≡ requests.limit + length (L.entries log) },
 }
 
-impl<A: Allocator> CallTable<A> {
+impl<A: Allocator, L: Ledger> CallTable<A, L> {
     ghost use Rattle.std.specs.Prelude.{◌<◌, ◌++◌, ◌∷◌, [], OnOk, OnErr};
     ghost use Rattle.machine_model.specs.declared.log.Entry.TheVariants.{Detach};
     ghost use Rattle.core_steps.specs.State.{calls_of, number_at};
@@ -35,7 +36,7 @@ impl<A: Allocator> CallTable<A> {
     pub fn log_detach(&mut self, core: CoreId, page: u64) -> Result<(), NoMemory>
         requires { core < length self.old.phases.items }
         ensures ok { OnOk result (calls_of self.new ≡ record (calls_of self.old) {
-          log = self.old.log.items.items
+          log = L.entries self.old.log
               ++ Detach self.old.events (number_at self.old.numbers.items core) page ∷ [];
         }) }
         ensures err { OnErr result (calls_of self.new ≡ calls_of self.old) }

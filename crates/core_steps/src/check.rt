@@ -6,6 +6,7 @@ ghost use Rattle.core_steps.specs.Moving.{IsAt};
 
 use crate::acquire::locking;
 use crate::engine::Engine;
+use crate::ledger::Ledger;
 use crate::place::placing;
 use machine_model::{Outcome, Phase};
 use mmu::Hardware;
@@ -14,7 +15,7 @@ use std::alloc::Allocator;
 use vm_base::{CoreId, Request};
 use vm_calls::check;
 
-impl<M: SlotMap, H: Hardware, A: Allocator> Engine<M, H, A> {
+impl<M: SlotMap, H: Hardware, A: Allocator, L: Ledger> Engine<M, H, A, L> {
     /// The arguments are checked: the call goes on, or has its reply. A mapping without `MAP_FIXED` begins with its hint, if
     /// all pages of it are valid.
     pub fn go_check(&mut self, core: CoreId, request: Request) -> Outcome

@@ -13,6 +13,7 @@ ghost use Rattle.core_steps.specs.Moving.{IsAt};
 ghost use Rattle.core_steps.specs.Taking.{AreCounted, AreUsed, CountsEach, IsMappedFor};
 
 use crate::engine::Engine;
+use crate::ledger::Ledger;
 use machine_model::{Blocker, Outcome, Phase};
 use mmu::Hardware;
 use refcache::Refcache;
@@ -95,7 +96,7 @@ fn reply_to(change: Change) -> Reply
     }
 }
 
-impl<M: SlotMap, H: Hardware, A: Allocator> Engine<M, H, A> {
+impl<M: SlotMap, H: Hardware, A: Allocator, L: Ledger> Engine<M, H, A, L> {
     /// Once no core is awaited, the change is made at once, and its reply stands from here on.
     pub fn go_acks(&mut self, core: CoreId, goal: Goal, change: Change) -> Outcome
         requires { IsAt (world M.slots self.old) core (Phase.Acks goal change) }

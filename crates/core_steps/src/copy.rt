@@ -8,6 +8,7 @@ ghost use Rattle.core_steps.specs.Moving.{IsAt, Tries, WantsMemory};
 
 use crate::acquire::page_of_touch;
 use crate::engine::Engine;
+use crate::ledger::Ledger;
 use machine_model::{Blocker, Outcome, Phase};
 use mmu::Hardware;
 use slot_lock::{SlotMap, Touch};
@@ -24,7 +25,7 @@ fn cores_of(info: &Option<PageInfo>) -> CoreSet
     }
 }
 
-impl<M: SlotMap, H: Hardware, A: Allocator> Engine<M, H, A> {
+impl<M: SlotMap, H: Hardware, A: Allocator, L: Ledger> Engine<M, H, A, L> {
     /// The core drops its own translations of the page, and the other recorded cores are asked to drop theirs.
     pub fn go_copy_post(&mut self, core: CoreId, touch: Touch, frame: u32) -> Outcome
         requires { IsAt (world M.slots self.old) core (Phase.CopyPost touch frame) }

@@ -6,6 +6,7 @@ ghost use Rattle.core_steps.specs.State.{world};
 ghost use Rattle.core_steps.specs.Moving.{IsOf};
 
 use crate::engine::Engine;
+use crate::ledger::Ledger;
 use machine_model::Outcome;
 use mmu::Hardware;
 use shootdown::Took;
@@ -13,7 +14,7 @@ use slot_lock::SlotMap;
 use std::alloc::Allocator;
 use vm_base::{CoreId, is_valid};
 
-impl<M: SlotMap, H: Hardware, A: Allocator> Engine<M, H, A> {
+impl<M: SlotMap, H: Hardware, A: Allocator, L: Ledger> Engine<M, H, A, L> {
     /// The core acts on its oldest message: its tables are cleared at the first take, its TLB is invalidated at the second
     /// (Intel SDM volume 3A, propagation of paging-structure changes to multiple processors).
     pub fn take(&mut self, core: CoreId) -> Outcome

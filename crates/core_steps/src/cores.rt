@@ -71,6 +71,7 @@ impl<H: Hardware, A: Allocator> Cores<H, A> {
     ghost use Rattle.core_steps.specs.Parts.{parts};
 
     /// How the core translates the access. A hit is one look in its TLB.
+    #[inline(always)]
     pub fn translate(&mut self, core: CoreId, touch: Touch) -> Translated
         requires here { core < (parts self.old).count }
         requires page { is_page touch.page ≡ true }

@@ -6,6 +6,7 @@ ghost use Rattle.core_steps.specs.State.{world};
 ghost use Rattle.core_steps.specs.Moving.{IsOf, FoldsExactly};
 
 use crate::engine::Engine;
+use crate::ledger::Ledger;
 use machine_model::Outcome;
 use mmu::Hardware;
 use refcache::{Flush, Review};
@@ -13,7 +14,7 @@ use slot_lock::SlotMap;
 use std::alloc::Allocator;
 use vm_base::{CoreId, is_valid};
 
-impl<M: SlotMap, H: Hardware, A: Allocator> Engine<M, H, A> {
+impl<M: SlotMap, H: Hardware, A: Allocator, L: Ledger> Engine<M, H, A, L> {
     /// The core flushes one of its counts, or ends its part of the epoch (Refcache of the RadixVM paper, EuroSys 2013).
     pub fn flush(&mut self, core: CoreId) -> Outcome
         requires { IsOf (world M.slots self.old) core }

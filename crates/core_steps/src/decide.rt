@@ -5,6 +5,7 @@ ghost use Rattle.core_steps.specs.State.{world};
 ghost use Rattle.core_steps.specs.Moving.{IsAt};
 
 use crate::engine::Engine;
+use crate::ledger::Ledger;
 use machine_model::{Outcome, Phase};
 use mmu::Hardware;
 use slot_lock::{Change, Goal, SlotMap};
@@ -12,7 +13,7 @@ use std::alloc::Allocator;
 use vm_base::{CoreId, CoreSet, Reply};
 use vm_calls::{Decision, decide};
 
-impl<M: SlotMap, H: Hardware, A: Allocator> Engine<M, H, A> {
+impl<M: SlotMap, H: Hardware, A: Allocator, L: Ledger> Engine<M, H, A, L> {
     /// All pages are held: the change may be made, or is refused.
     pub fn go_decide(&mut self, core: CoreId, change: Change) -> Outcome
         requires { IsAt (world M.slots self.old) core (Phase.Decide change) }

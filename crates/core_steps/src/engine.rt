@@ -5,6 +5,7 @@ ghost use Rattle.core_steps.specs.Parts.{parts};
 use crate::call_table::new_call_table;
 use crate::calls::CallTable;
 use crate::cores::{Bare, Cores};
+use crate::ledger::{Ledger, Opening};
 use crate::setup::Setup;
 use backing::Objects;
 use frames::Frames;
@@ -17,7 +18,7 @@ use vm_base::{CoreId, NoMemory};
 
 /// The machine's parts.
 #[derive(Drop)]
-pub(crate) struct Engine<M: SlotMap, H: Hardware, A: Allocator> {
+pub(crate) struct Engine<M: SlotMap, H: Hardware, A: Allocator, L: Ledger> {
     /// The slot map.
     pub map: M,
     /// The cores' tables, TLBs and inboxes.
@@ -29,11 +30,11 @@ pub(crate) struct Engine<M: SlotMap, H: Hardware, A: Allocator> {
     /// The open files.
     pub objects: Objects<A>,
     /// The calls.
-    pub calls: CallTable<A>,
+    pub calls: CallTable<A, L>,
     ghost same_cores: { (parts cores).count ≡ length calls.phases.items },
 }
 
-impl<M: SlotMap, H: Hardware, A: Allocator> Engine<M, H, A> {
+impl<M: SlotMap, H: Hardware, A: Allocator, L: Ledger> Engine<M, H, A, L> {
     ghost use Rattle.std.specs.Prelude.{◌≡◌, ◌<◌, length};
     ghost use Rattle.machine_model.specs.Actions.{to};
     ghost use Rattle.core_steps.specs.State.{phase_of, world};
@@ -55,7 +56,12 @@ impl<M: SlotMap, H: Hardware, A: Allocator> Engine<M, H, A> {
     }
 }
 
-impl<M: SlotMap + Drop, H: Bare<A>, A: Allocator + Clone + Drop> Engine<M, H, A> {
+impl<M: SlotMap + Drop, H: Bare<A>, A: Allocator + Clone + Drop, L: Opening<A> + Drop> Engine<
+    M,
+    H,
+    A,
+    L,
+> {
     ghost use Rattle.std.specs.Prelude.{◌≡◌, IfOk, None};
     ghost use Rattle.slot_lock.specs.Slots.{IsNew};
     ghost use Rattle.machine_model.specs.World.{new_world};
@@ -63,7 +69,7 @@ impl<M: SlotMap + Drop, H: Bare<A>, A: Allocator + Clone + Drop> Engine<M, H, A>
     ghost use Rattle.core_steps.specs.State.{world};
 
     /// An engine over a new slot map. The bytes of the files are moved, not copied.
-    pub fn new(alloc: A, map: M, setup: Setup<A>) -> Result<Engine<M, H, A>, NoMemory>
+    pub fn new(alloc: A, map: M, setup: Setup<A>) -> Result<Engine<M, H, A, L>, NoMemory>
         requires new { IsNew (M.slots map) }
         requires sound { fault_of setup ≡ None }
         ensures { IfOk result (λ engine. world M.slots engine ≡ new_world (made_of setup) (M.slots map)) }

@@ -7,15 +7,16 @@ ghost use Rattle.core_steps.specs.State.{phase_of, world};
 ghost use Rattle.core_steps.specs.Moving.{JoinsAsMap, MayWant, Tries, WantsMemory};
 
 use crate::engine::Engine;
+use crate::ledger::Ledger;
 use machine_model::{Event, Outcome, Phase};
 use mmu::Hardware;
 use slot_lock::SlotMap;
 use std::alloc::Allocator;
 use vm_base::{CoreId, NoMemory, Request};
 
-impl<M: SlotMap, H: Hardware, A: Allocator> Engine<M, H, A> {
+impl<M: SlotMap, H: Hardware, A: Allocator, L: Ledger> Engine<M, H, A, L> {
     /// A call begins, if the core has none and the limit of calls isn't reached.
-    fn call(&mut self, core: CoreId, request: Request) -> Outcome
+    pub fn call(&mut self, core: CoreId, request: Request) -> Outcome
         requires { core < length self.old.calls.phases.items }
         ensures { Begins (world M.slots self.old) core request (phase_of self.old core) result
             (world M.slots self.new) }
@@ -25,8 +26,7 @@ impl<M: SlotMap, H: Hardware, A: Allocator> Engine<M, H, A> {
                 if self.calls.requests.is_full() {
                     return Outcome::Full;
                 }
-                self.calls.requests.push(request);
-                let number = self.calls.requests.items.len() as u64;
+                let number = self.calls.requests.push(&request);
                 self.calls.numbers[core.index() as usize] = number;
                 self.go_to(core, Phase::Check(request));
                 Outcome::Stepped
@@ -125,7 +125,7 @@ impl<M: SlotMap, H: Hardware, A: Allocator> Engine<M, H, A> {
     }
 
     /// Tells whether the core is the machine's, if an event has one.
-    fn is_here(&self, core: Option<CoreId>) -> bool
+    pub fn is_here(&self, core: Option<CoreId>) -> bool
         ensures { result ≡ is_here (world M.slots self.now).made core }
     {
         match core {

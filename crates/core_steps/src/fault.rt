@@ -13,6 +13,7 @@ ghost use Rattle.core_steps.specs.Moving.{IsAt, IsOf, Tries, WantsMemory};
 use crate::acquire::page_of_touch;
 use crate::engine::Engine;
 use crate::file_pages::{back_of, file_frame, is_past_end, prot_installed};
+use crate::ledger::Ledger;
 use machine_model::{Outcome, Phase};
 use mmu::Hardware;
 use slot_lock::{SlotMap, Touch};
@@ -33,11 +34,11 @@ fn taken_for(touch: Touch, old: Option<u32>, frame: u32) -> Phase
     }
 }
 
-impl<M: SlotMap, H: Hardware, A: Allocator> Engine<M, H, A> {
+impl<M: SlotMap, H: Hardware, A: Allocator, L: Ledger> Engine<M, H, A, L> {
     /// The access goes on by what it found at its page: it is answered, or the page has a frame, or wants one.
     fn settled_to(&mut self, core: CoreId, touch: Touch, settled: Settled)
         requires here { core < length self.old.calls.phases.items }
-        requires room { answer_count self.old.calls.log.items.items < self.old.calls.requests.limit }
+        requires room { answer_count (L.entries self.old.calls.log) < self.old.calls.requests.limit }
         requires touch { IsSoundTouch touch }
         ensures { world M.slots self.new ≡ after_finding core touch settled (world M.slots self.old) }
     {

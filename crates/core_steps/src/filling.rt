@@ -15,6 +15,7 @@ ghost use Rattle.core_steps.specs.Moving.{IsAt, Tries, WantsMemory};
 use crate::engine::Engine;
 use crate::file_pages::back_of;
 use crate::give_up::give_back;
+use crate::ledger::Ledger;
 use machine_model::{Outcome, Phase};
 use mmu::Hardware;
 use slot_lock::{SlotMap, Touch};
@@ -32,7 +33,7 @@ fn set_frame<M: SlotMap>(map: &mut M, core: CoreId, page: u64, frame: u32)
     }
 }
 
-impl<M: SlotMap, H: Hardware, A: Allocator> Engine<M, H, A> {
+impl<M: SlotMap, H: Hardware, A: Allocator, L: Ledger> Engine<M, H, A, L> {
     /// The anonymous page gets the frame that the call has taken, with zero bytes and counted once.
     fn fill_zeros(&mut self, core: CoreId, touch: Touch, frame: Option<u32>) -> Outcome
         requires at { IsAt (world M.slots self.old) core (Phase.Fill touch frame) }

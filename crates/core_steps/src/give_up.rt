@@ -10,6 +10,7 @@ ghost use Rattle.core_steps.specs.Moving.{AwaitsCopy, IsOf, goal_in, is_copy_due
 
 use crate::acquire::page_of_touch;
 use crate::engine::Engine;
+use crate::ledger::Ledger;
 use frames::Frames;
 use machine_model::{Outcome, Phase};
 use mmu::Hardware;
@@ -98,7 +99,7 @@ pub fn give_back<A: Allocator>(frames: &mut Frames<A>, own: Option<u32>)
     }
 }
 
-impl<M: SlotMap, H: Hardware, A: Allocator> Engine<M, H, A> {
+impl<M: SlotMap, H: Hardware, A: Allocator, L: Ledger> Engine<M, H, A, L> {
     /// Tells whether the call waits for other cores before its copy is made.
     fn awaits_copy(&self, core: CoreId, phase: &Phase) -> bool
         ensures { AwaitsCopy (world M.slots self.now).hardware core phase.now result }

@@ -3,13 +3,16 @@ ghost use Rattle.machine_sound.specs.Sound.{IsReached};
 ghost use Rattle.core_steps.specs.State.{world};
 
 use crate::engine::Engine;
+use crate::kept::Kept;
+use crate::ledger::{Ledger, Opening};
 use crate::setup::{Setup, SetupFault};
+use crate::starting::Started;
 use machine_model::{Entry, Event, Outcome};
 use map_list::{MapLine, all_lines, next_line};
 use mmu::{Cpu, Hardware};
 use slot_lock::SlotMap;
 use std::alloc::Allocator;
-use vm_base::{CoreId, NoMemory};
+use vm_base::{CoreId, NoMemory, Request};
 
 /// How many steps finish a call at the most.
 const FINISH_LIMIT: u64 = 1 << 40;
@@ -23,26 +26,26 @@ pub enum Finished {
     Stuck,
 }
 
-/// One address space over a slot map, which events move step by step.
+/// One address space over a slot map, which events move step by step. What becomes of its log's entries, its ledger says.
 #[derive(Drop)]
-pub struct Machine<M: SlotMap, A: Allocator + Clone>
+pub struct Machine<M: SlotMap, A: Allocator + Clone, L: Ledger>
 where
     Cpu<A>: Hardware,
 {
-    engine: Engine<M, Cpu<A>, A>,
+    engine: Engine<M, Cpu<A>, A, L>,
     ghost reached: { ∥ IsReached (world M.slots engine) ∥₁ },
 }
 
-impl<M: SlotMap + Drop, A: Allocator + Clone + Drop> Machine<M, A> {
+impl<M: SlotMap + Drop, A: Allocator + Clone + Drop, L: Opening<A> + Drop> Machine<M, A, L> {
     ghost use Rattle.std.specs.Prelude.{◌≡◌, IfOk, IfErr, OnErr, None};
     ghost use Rattle.slot_lock.specs.Slots.{IsNew};
     ghost use Rattle.machine_model.specs.World.{new_world};
     ghost use Rattle.core_steps.specs.Setups.{fault_of, IsFirstFault, made_of};
     ghost use Rattle.core_steps.specs.Machine.{state};
 
-    /// A machine over a new slot map. It keeps room for the reply of each call, so that logging one takes no memory. The
+    /// A machine over a new slot map. Its ledger has room for the reply of each call, so that logging one takes no memory. The
     /// bytes of the files are moved, not copied. Of several faults the first is told, in the order of `SetupFault`.
-    pub fn new(alloc: A, map: M, setup: Setup<A>) -> Result<Machine<M, A>, SetupFault>
+    pub fn new(alloc: A, map: M, setup: Setup<A>) -> Result<Machine<M, A, L>, SetupFault>
         requires { IsNew (M.slots map) }
         ensures opening { IfOk result (λ machine. state machine ≡ new_world (made_of setup) (M.slots map)) }
         ensures sound { IfOk result (λ machine. fault_of setup ≡ None) }
@@ -58,14 +61,15 @@ impl<M: SlotMap + Drop, A: Allocator + Clone + Drop> Machine<M, A> {
     }
 }
 
-impl<M: SlotMap, A: Allocator + Clone> Machine<M, A> {
-    ghost use Rattle.std.specs.Prelude.{◌≡◌, ◌≤◌, ◌<◌, true, IfOk, OnErr, IfSome, IfNone};
+impl<M: SlotMap, A: Allocator + Clone, L: Ledger> Machine<M, A, L> {
+    ghost use Rattle.std.specs.Prelude.{◌≡◌, ◌≤◌, ◌<◌, false, true, IfOk, OnErr, IfSome, IfNone};
     ghost use Rattle.vm_base.specs.Pages.{is_page};
     ghost use Rattle.mmu.specs.Tables.{word_of};
-    ghost use Rattle.machine_model.specs.Step.{Step};
+    ghost use Rattle.machine_model.specs.Step.{Step, StepsTo};
+    ghost use Rattle.machine_model.specs.World.{World};
     ghost use Rattle.machine_sound.specs.Sound.{IsSoundStep};
     ghost use Rattle.core_steps.specs.Moving.{JoinsAsMap, MayWant, Tries};
-    ghost use Rattle.core_steps.specs.Finishing.{Finishes, IsRefused};
+    ghost use Rattle.core_steps.specs.Finishing.{Calls, Finishes, IsCallRefused, IsRefused, finish_limit};
     ghost use Rattle.core_steps.specs.Machine.{state, IsLegal};
     ghost use Rattle.core_steps.specs.MapLines.{HasNoMap, IsLineStart, IsNextMap, ListsMaps};
 
@@ -87,14 +91,16 @@ impl<M: SlotMap, A: Allocator + Clone> Machine<M, A> {
         self.engine.step(event)
     }
 
-    /// Steps of the core's call until one isn't Stepped, at most 2^40. After a refusal for memory the steps before it
-    /// stand.
-    pub fn finish(&mut self, core: CoreId) -> Result<Finished, NoMemory>
-        ensures ends { IfOk result (λ finished. Finishes (state self.old) core finished (state self.new)) }
-        ensures err { OnErr result (IsRefused (state self.old) core (state self.new)) }
+    // Steps of the core's call until one isn't Stepped, where so many plain ones were made before, at most 2^40 with them.
+    fn go_on(&mut self, core: CoreId, steps: u64) -> Result<Finished, NoMemory>
+        requires { steps < finish_limit }
+        ensures ends { IfOk result (λ finished. (was : World) → StepsTo was core steps (state self.old)
+            → Finishes was core finished (state self.new)) }
+        ensures err { OnErr result ((was : World) → StepsTo was core steps (state self.old)
+            → IsRefused was core (state self.new)) }
         ensures legal { IsLegal (state self.new) }
     {
-        'steps: for n in 0..FINISH_LIMIT {
+        'steps: for n in steps..FINISH_LIMIT {
             let outcome = match self.step(Event::Go(core)) {
                 Ok(outcome) => outcome,
                 Err(refused) => return Err(refused),
@@ -106,13 +112,32 @@ impl<M: SlotMap, A: Allocator + Clone> Machine<M, A> {
         Ok(Finished::Stuck)
     }
 
-    /// The entries made so far, in order. They are those of a plain page map (POSIX.1-2017, mmap, munmap and mprotect),
-    /// applied one after another.
-    pub fn log(&self) -> &[Entry]
-        ensures entries { result.now ≡ (state self.now).calls.log }
-        ensures legal { IsLegal (state self.now) }
+    /// Steps of the core's call until one isn't Stepped, at most 2^40. After a refusal for memory the steps before it
+    /// stand.
+    pub fn finish(&mut self, core: CoreId) -> Result<Finished, NoMemory>
+        ensures ends { IfOk result (λ finished. Finishes (state self.old) core finished (state self.new)) }
+        ensures err { OnErr result (IsRefused (state self.old) core (state self.new)) }
+        ensures legal { IsLegal (state self.new) }
     {
-        &self.engine.calls.log.items
+        self.go_on(core, 0)
+    }
+
+    /// A call, and if it begins its steps until one isn't Stepped, at most 2^40: what `step` with the call's event does, and
+    /// then `finish`. A call that doesn't begin has told why: Idle or Full. After a refusal for memory the steps before it
+    /// stand.
+    pub fn call(&mut self, core: CoreId, request: Request) -> Result<Finished, NoMemory>
+        ensures ends { IfOk result (λ finished. Calls (state self.old) core request finished (state self.new)) }
+        ensures err { OnErr result (IsCallRefused (state self.old) core request (state self.new)) }
+        ensures legal { IsLegal (state self.new) }
+    {
+        match self.engine.start(core, request) {
+            Started::Ended(outcome) => Ok(Finished::Last(outcome)),
+            Started::Begun { steps } => self.go_on(core, steps),
+            Started::Untouched => match self.step(Event::Call(core, request))? {
+                Outcome::Stepped => self.go_on(core, 0),
+                outcome => Ok(Finished::Last(outcome)),
+            },
+        }
     }
 
     /// All mappings, in order: those of the plain page map to which the log leads (POSIX.1-2017, mmap, munmap and mprotect).
@@ -138,6 +163,15 @@ impl<M: SlotMap, A: Allocator + Clone> Machine<M, A> {
         next_line(&self.engine.map, from)
     }
 
+    /// The entries made so far, where the ledger keeps them, as `log` gives them.
+    pub fn kept_log(&self) -> Option<&[Entry]>
+        ensures some { IfSome result (λ entries. entries.now ≡ (state self.now).calls.log) }
+        ensures none { IfNone result (L.keeps ≡ false) }
+        ensures legal { IsLegal (state self.now) }
+    {
+        self.engine.calls.log.kept()
+    }
+
     /// How many cores the machine has.
     pub fn cores(&self) -> usize
         ensures { result ≡ (state self.now).made.cores }
@@ -153,5 +187,19 @@ impl<M: SlotMap, A: Allocator + Clone> Machine<M, A> {
         ensures { result ≡ word_of ((state self.now).hardware.table core page) }
     {
         self.engine.cores.entry(core, page)
+    }
+}
+
+impl<M: SlotMap, A: Allocator + Clone> Machine<M, A, Kept<A>> {
+    ghost use Rattle.std.specs.Prelude.{◌≡◌};
+    ghost use Rattle.core_steps.specs.Machine.{state, IsLegal};
+
+    /// The entries made so far, in order. They are those of a plain page map (POSIX.1-2017, mmap, munmap and mprotect),
+    /// applied one after another.
+    pub fn log(&self) -> &[Entry]
+        ensures entries { result.now ≡ (state self.now).calls.log }
+        ensures legal { IsLegal (state self.now) }
+    {
+        &self.engine.calls.log.items
     }
 }

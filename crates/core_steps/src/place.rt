@@ -13,6 +13,7 @@ ghost use Rattle.core_steps.specs.Moving.{IsAt, IsOf, Tries, WantsMemory};
 use crate::acquire::locking;
 use crate::answer::held_after;
 use crate::engine::Engine;
+use crate::ledger::Ledger;
 use machine_model::{Outcome, Phase};
 use mmu::Hardware;
 use slot_lock::{Change, Fit, Goal, Place, SlotMap, Target};
@@ -98,7 +99,7 @@ fn back_to(place: Place, target: Target, held: Option<PageRange>) -> Phase
     }
 }
 
-impl<M: SlotMap, H: Hardware, A: Allocator> Engine<M, H, A> {
+impl<M: SlotMap, H: Hardware, A: Allocator, L: Ledger> Engine<M, H, A, L> {
     /// The least room of the window is guessed, or the window is taken where there is none: the slots are read as they are
     /// now, and nobody holds them for the call yet.
     pub fn go_guess(&mut self, core: CoreId, place: Place) -> Outcome

@@ -1,4 +1,5 @@
 //! What running a list of events comes to.
+use crate::ledger::Ledger;
 use crate::machine::Machine;
 use crate::setup::SetupFault;
 use machine_model::Outcome;
@@ -8,14 +9,14 @@ use std::alloc::Allocator;
 
 /// A run of all events of a list.
 #[derive(Drop)]
-pub struct Run<M: SlotMap, A: Allocator + Clone>
+pub struct Run<M: SlotMap, A: Allocator + Clone, L: Ledger>
 where
     Cpu<A>: Hardware,
 {
     /// What each event came to, in order.
     pub outcomes: Vec<Outcome, A>,
     /// The machine after the last event.
-    pub machine: Machine<M, A>,
+    pub machine: Machine<M, A, L>,
 }
 
 /// Why a run ended early.

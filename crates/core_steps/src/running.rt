@@ -9,6 +9,7 @@ ghost use Rattle.core_steps.specs.Machine.{state};
 ghost use Rattle.core_steps.specs.Setups.{IsFirstFault, made_of};
 ghost use Rattle.core_steps.specs.Running.{Fails};
 
+use crate::ledger::Opening;
 use crate::machine::Machine;
 use crate::run_result::{Run, RunFault};
 use crate::setup::{Setup, SetupFault};
@@ -23,12 +24,12 @@ use std::alloc::Allocator;
 ///
 /// A fault of the setup comes before want of memory for the list of outcomes, and that before the first event. After a fault
 /// nothing is handed back.
-pub fn run<M: SlotMap + Drop, A: Allocator + Clone + Drop>(
+pub fn run<M: SlotMap + Drop, A: Allocator + Clone + Drop, L: Opening<A> + Drop>(
     alloc: A,
     map: M,
     setup: Setup<A>,
     events: &[Event],
-) -> Result<Run<M, A>, RunFault>
+) -> Result<Run<M, A, L>, RunFault>
     requires { IsNew (M.slots map) }
     ensures run { IfOk result (λ done. RunsTo (new_world (made_of setup) (M.slots map)) events.now done.outcomes.items (state done.machine)) }
     ensures all { IfOk result (λ done. length done.outcomes.items ≡ length events.now) }

@@ -1,12 +1,14 @@
-//! Tests of the parts of a machine and of its text, a module for each crate that is tested: `frames`,
-//! `refcache`, `backing`, `shootdown`, `mmu`, `tickets`, `trace_io` (`io_tests`) and `trace_text`
-//! (`text_tests`).
+//! Tests of the parts of a machine and of its text, a module for each crate that is tested: `history`,
+//! `frames`, `refcache`, `backing`, `shootdown`, `mmu`, `tickets`, `trace_io` (`io_tests`) and
+//! `trace_text` (`text_tests`).
 #![tactic(auto)]
 
 #[cfg(test)]
 mod backing_tests;
 #[cfg(test)]
 mod frames_tests;
+#[cfg(test)]
+mod history_tests;
 #[cfg(test)]
 mod io_tests;
 #[cfg(test)]

@@ -1,9 +1,11 @@
 //! Lines as the format's description gives them, good and bad, and the texts of replies and of the
 //! lists' lines.
 use trace_text::action::Action;
-use trace_text::line::{Line, first_word_is_file, first_word_is_vm, is_printable, read_line};
-use trace_text::lists::{LineText, write_answer, write_detach, write_map_line};
-use trace_text::printing::{address_text, number_text, reply_text};
+use trace_text::line::{
+    Line, first_word_is_file, first_word_is_vm, is_printable, is_printable_line, read_line,
+};
+use trace_text::lists::{write_answer, write_detach, write_map_line};
+use trace_text::printing::{LineText, address_text, number_text, push_number, push_reply};
 use vm_base::{Back, CoreId, Errno, Flags, Mode, PageRange, Prot, Reply, Request, SegvCode};
 
 const READ_WRITE: Prot = Prot {
@@ -131,6 +133,15 @@ fn requests_of_a_core(rt: HostRuntime) {
             },
         ),
         (b"c0! fetch 00010".as_slice(), Request::Fetch { addr: 10 }),
+        // Words stand apart by any number of spaces, and a number may have any number of zeros in front.
+        (
+            b"  c0!  load   0x00000000000000010  ".as_slice(),
+            Request::Load { addr: 16 },
+        ),
+        (
+            b"c0! store 00000000000000000007  0x00000000000000029".as_slice(),
+            Request::Store { addr: 7, byte: 41 },
+        ),
     ] {
         assert!(rt; is_printable(text));
         assert_eq!(rt; read_line(text), Some(Line::Now(core, request)));
@@ -229,6 +240,14 @@ fn bad_lines(rt: HostRuntime) {
         b"c0! load 0X10".as_slice(),
         b"c0! load 0x".as_slice(),
         b"c0! load -1".as_slice(),
+        b"c0! load".as_slice(),
+        b"c0! load ".as_slice(),
+        b"c0! load 12a".as_slice(),
+        b"c0! load 0x1g".as_slice(),
+        b"c0! load 0x 1".as_slice(),
+        b"c0! load 1 2".as_slice(),
+        b"c0! loads 0".as_slice(),
+        b"c0!load 0".as_slice(),
         b"c0! store 0 256".as_slice(),
         b"c0! mmap 0 4096 rw- pp".as_slice(),
         b"c0! mmap 0 4096 rw pa".as_slice(),
@@ -243,6 +262,22 @@ fn bad_lines(rt: HostRuntime) {
     assert!(rt; !is_printable(b"vm 1 1\r"));
     assert!(rt; !is_printable(b"\x7f"));
     assert!(rt; is_printable(b" ~"));
+}
+
+#[test]
+fn printable_lines(rt: HostRuntime) {
+    for (text, is_so) in [
+        (b"c0! load 0".as_slice(), true),
+        (b"frob".as_slice(), true),
+        (b"# a comment~".as_slice(), true),
+        (b"".as_slice(), true),
+        (b"# a comment\t".as_slice(), false),
+        (b"c0! load\t0".as_slice(), false),
+        (b"c0! load 0\r".as_slice(), false),
+        (b"\x7f".as_slice(), false),
+    ] {
+        assert_eq!(rt; is_printable_line(text, &read_line(text)), is_so);
+    }
 }
 
 #[test]
@@ -303,7 +338,9 @@ fn texts_of_replies(rt: HostRuntime) {
         (Reply::NoFrame, "noframe"),
         (Reply::NoMemory, "nomemory"),
     ] {
-        assert_eq!(rt; reply_text(reply).as_str(), text);
+        let mut line = LineText::new();
+        push_reply(&mut line, reply);
+        assert_eq!(rt; line.as_str(), text);
     }
 }
 
@@ -315,6 +352,10 @@ fn texts_of_numbers(rt: HostRuntime) {
     assert_eq!(rt; number_text(0).as_str(), "0");
     assert_eq!(rt; number_text(4096).as_str(), "4096");
     assert_eq!(rt; number_text(u64::MAX).as_str(), "18446744073709551615");
+    let mut line = LineText::new();
+    push_number(&mut line, 0);
+    push_number(&mut line, u64::MAX);
+    assert_eq!(rt; line.as_str(), "018446744073709551615");
 }
 
 #[test]

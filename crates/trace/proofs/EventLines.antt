@@ -1,5 +1,5 @@
 -- What the steps of a line of an event give
-use Rattle.std.proofs.Common.{◌≡◌, ℕ, List, Option, Some, None, false, inl, inr, Result, Ok, Err, refl, sym, subst}
+use Rattle.std.proofs.Common.{◌≡◌, ℕ, List, Option, Some, None, false, inl, inr, Result, Ok, Err, refl, sym, ap, ◌∙◌, subst}
 use Rattle.std.specs.Prelude.{IsSomeAnd, IfErr, OnOk, OnErr, ◌⊎◌}
 use Rattle.vm_base.specs.declared.memory.NoMemory.{NoMemory}
 use Rattle.machine_model.specs.declared.event.Outcome.{Outcome}
@@ -10,31 +10,30 @@ use Rattle.trace.specs.Declarations.{Asked, asked_fault, made_by}
 use Rattle.trace.specs.declared.fault.TraceFault.{TraceFault}
 use Rattle.trace.specs.declared.fault.TraceFault.TheVariants as By
 use Rattle.trace.specs.Stage.{Stage, Start, Declared, Running, CanOpen, EventActs, EventFails, EventWants, Opens, stage_of}
-use Rattle.machine_model.specs.declared.event.Event.TheVariants as Ev
-use Rattle.machine_model.specs.Step.{Step}
 use Rattle.vm_base.specs.declared.requests.Request.{Request}
 use Rattle.trace_text.specs.declared.line.Line.{Line}
 use Rattle.trace_text.specs.declared.line.Line.TheVariants.{Now}
-use Rattle.trace.specs.OutcomeText.{outcome_text}
-use Rattle.trace.specs.Gives.{Gives, GoesOn, TellsFinish, Wants, is_event}
+use Rattle.core_steps.specs.declared.machine.Finished.{Finished}
+use Rattle.core_steps.specs.Finishing.{Calls, GoesOn as CallGoesOn}
+use Rattle.trace.specs.OutcomeText.{finished_text}
+use Rattle.trace.specs.Gives.{Gives, GoesOn, Wants, is_event}
 
 pub on_err : {U : Type 0} (r : Result U NoMemory) (P : Type 0) → P → OnErr r P
 on_err (Ok u) P h = tt
 on_err (Err x) P h = h
 
--- a call that began is finished
-pub began : {U : Type 0} (r : Result U NoMemory) (w m v : World) (core : ℕ) (request : Request) (o : Outcome) (text : List ℕ) → o ≡ Stepped
-    → Step w (Ev.Call core request) o m → OnOk r (TellsFinish m core v text) → OnOk r (Gives w (Now core request) v text)
-began (Ok u) w m v core request o text e s h = (o, m, s, subst (λ o. GoesOn m core o v text) (sym e) h)
-began (Err x) w m v core request o text e s h = tt
+-- a call, and the text of what it came to
+goes_on : (o : Outcome) (m v : World) (core : ℕ) (f : Finished) (text : List ℕ) → CallGoesOn m core o f v → text ≡ finished_text f
+    → GoesOn m core o v text
+goes_on Stepped m v core f text g t = (f, g, t)
+goes_on (Wait blocker) m v core f text g t = (g.0, t ∙ ap finished_text g.1)
+goes_on Idle m v core f text g t = (g.0, t ∙ ap finished_text g.1)
+goes_on (Answered reply) m v core f text g t = (g.0, t ∙ ap finished_text g.1)
+goes_on Full m v core f text g t = (g.0, t ∙ ap finished_text g.1)
 
--- of a call that didn't begin the outcome is told
-pub told : (m : World) (core : ℕ) (o : Outcome) (v : World) (text : List ℕ) → (o ≡ Stepped → ⊥) → v ≡ m → text ≡ outcome_text o → GoesOn m core o v text
-told m core Stepped v text n e t = absurd (n refl)
-told m core (Wait blocker) v text n e t = (e, t)
-told m core Idle v text n e t = (e, t)
-told m core (Answered reply) v text n e t = (e, t)
-told m core Full v text n e t = (e, t)
+pub called : (w v : World) (core : ℕ) (request : Request) (f : Finished) (text : List ℕ) → Calls w core request f v → text ≡ finished_text f
+    → Gives w (Now core request) v text
+called w v core request f text c t = (c.0, c.1, c.2, goes_on c.0 c.1 v core f text c.3 t)
 
 -- the line is this one, and what it asks for is done
 pub line_gives : {U : Type 0} (line : Option Line) (l : Line) (r : Result U NoMemory) (u : U) (P : Line → Type 0) → line ≡ Some l → r ≡ Ok u → OnOk r (P l)

@@ -6,9 +6,10 @@ pub mod TurnLemmas
 pub mod EventRunLemmas
 pub mod Acting
 pub mod EventLines
-pub mod Limits
+pub mod Replying
 pub mod PlainCalls
 pub mod Opening
 pub mod Disturbing
 pub mod PlainTextLemmas
 pub mod Declaring
+mod Examples

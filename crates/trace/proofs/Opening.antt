@@ -33,7 +33,13 @@ one_more files file n e = fun_ext (put_all (λ j o. o ≡ file_at (files ++ file
 
 -- how far a trace has come that declares this
 abbrev pub declared_so : Asked → Reached
-declared_so a = record nothing_reached { cores = a.cores; frames = a.frames; calls = a.calls; plain = nothing_mapped (file_at a.files) }
+declared_so a = record nothing_reached {
+  cores = a.cores;
+  frames = a.frames;
+  calls = a.calls;
+  files = file_at a.files;
+  plain = nothing_mapped (file_at a.files);
+}
 
 -- as long as there aren't too many files, which are counted
 abbrev pub IsDeclared : Asked → Reached → Type 0
@@ -43,10 +49,10 @@ IsDeclared a s = length a.files < 17 → (a.next ≡ length a.files) × (s ≡ d
 pub declares_space : (cores frames calls : ℕ) (s : Reached) → s ≡ nothing_reached
     → IsDeclared (asks_for cores frames calls) (record s { cores = cores; frames = frames; calls = calls })
 declares_space cores frames calls s e l =
-    let none : nothing_mapped (λ n. None) ≡ nothing_mapped (file_at []) = ap nothing_mapped (fun_ext (λ n. refl)) in (
+    let none : nothing_reached.files ≡ file_at [] = fun_ext (λ n. refl) in (
       refl,
       ap (λ (s : Reached). record s { cores = cores; frames = frames; calls = calls }) e
-          ∙ ap (λ t. record nothing_reached { cores = cores; frames = frames; calls = calls; plain = t }) none,
+          ∙ ap (λ f. record nothing_reached { cores = cores; frames = frames; calls = calls; files = f; plain = nothing_mapped f }) none,
     )
 
 number_of : (a : Asked) (n : ℕ) → is_next a n ≡ true → n ≡ a.next
@@ -58,18 +64,18 @@ number_of a n h = go (n == a.next) refl h
 
 -- the line of a file
 pub declares_file : (a : Asked) (n : ℕ) (file : FileLine) (s : Reached) → is_next a n ≡ true → IsDeclared a s
-    → IsDeclared (with_file a file) (record s { plain = with_opened s.plain n file })
+    → IsDeclared (with_file a file) (with_opened s n file)
 declares_file a n file s next d = go (nat_lt (length a.files) 17) refl
   where
     go : (b : Bool) → nat_lt (length a.files) 17 ≡ b
-        → IsDeclared (record a { next = suc a.next; files = if b then a.files ++ file ∷ [] else a.files }) (record s { plain = with_opened s.plain n file })
+        → IsDeclared (record a { next = suc a.next; files = if b then a.files ++ file ∷ [] else a.files }) (with_opened s n file)
     go true few l =
         let was = d (grind (arith, nat_tests)) in
         let count : length (a.files ++ file ∷ []) ≡ length a.files + 1 = length-append a.files (file ∷ []) in
         let number : a.next ≡ length a.files = was.0 in (
           omega (arith, count, number),
-          ap (λ (s : Reached). record s { plain = with_opened s.plain n file }) was.1
-              ∙ ap (λ f. record (declared_so a) { plain = nothing_mapped f }) (one_more a.files file n (number_of a n next ∙ number)),
+          ap (λ (s : Reached). with_opened s n file) was.1
+              ∙ ap (λ f. record (declared_so a) { files = f; plain = nothing_mapped f }) (one_more a.files file n (number_of a n next ∙ number)),
         )
     go false many l = absurd (let few : nat_lt (length a.files) 17 ≡ true = grind (arith, nat_tests) in cc)
 

@@ -1,5 +1,5 @@
 -- The state of a machine between two lines of a trace in which no call runs beside another
-use Rattle.std.proofs.Common.{◌≡◌, ◌≢◌, ℕ, zero, suc, ◌+◌, ◌≤◌, ◌<◌, ◌^◌, ◌⊎◌, inl, inr, Bool, true, false, cond, List, [], ◌∷◌, ◌++◌, Option, None, Some, refl, sym, ap, subst, ◌∙◌, arith, length, length-append}
+use Rattle.std.proofs.Common.{◌≡◌, ◌≢◌, ℕ, zero, suc, ◌+◌, ◌≤◌, ◌<◌, ◌^◌, ◌⊎◌, inl, inr, Bool, true, false, cond, List, [], ◌∷◌, ◌++◌, Option, None, Some, refl, sym, ap, subst, ◌∙◌, arith}
 use Rattle.std.proofs.Math.Path.{fun_ext}
 use Rattle.std.specs.Prelude.{nat_lt, pred, if◌then◌else◌}
 use Rattle.vm_base.specs.declared.page.PageRange.{PageRange}
@@ -39,8 +39,9 @@ use Rattle.core_steps.specs.declared.machine.Finished.{Finished}
 use Rattle.core_steps.specs.declared.machine.Finished.TheVariants.{Last, Stuck}
 use Rattle.core_steps.specs.Finishing.{EndsIn}
 use Rattle.trace.specs.OutcomeText.{outcome_text, finished_text}
-use Rattle.trace.specs.PlainText.{Open, Reached, IsAnswered, IsDropped, AnswersAtOnce, IsHeldUp, OpenAnswers, one_more}
-use Rattle.trace.proofs.Limits.{step_made, step_grows, go_requests}
+use Rattle.trace.specs.PlainText.{Open, Reached, IsAnswered, IsDropped, AnswersAtOnce, IsHeldUp, OpenAnswers, one_more, replies_in}
+use Rattle.core_steps.proofs.Limits.{step_made, step_grows, go_requests}
+use Rattle.trace.proofs.Replying.{noted_replies, untold_along, waiting_untold}
 
 -- ---- the state
 
@@ -58,7 +59,9 @@ pub record Meets (w : World) (s : Reached) : Type 0 where
   pub reached : IsReached w
   pub cores : s.cores ≡ w.made.cores
   pub calls : s.calls ≡ w.made.calls
-  pub begun : s.begun ≡ length w.calls.requests
+  pub files : s.files ≡ w.made.file
+  pub requests : s.requests ≡ w.calls.requests
+  pub replies : replies_in w.calls.log ≡ s.replies
   pub log : LeadsTo w s.plain
   pub frames : s.frames ≡ w.made.frames
   pub taken : frames_taken w ≤ s.accesses
@@ -113,7 +116,9 @@ meets_with w v s o m r b k = record {
   reached = r;
   cores = m.cores ∙ ap (λ (d : Made). d.cores) (sym b.made);
   calls = m.calls ∙ ap (λ (d : Made). d.calls) (sym b.made);
-  begun = m.begun ∙ ap length (sym b.requests);
+  files = m.files ∙ ap (λ (d : Made). d.file) (sym b.made);
+  requests = m.requests ∙ sym b.requests;
+  replies = ap replies_in b.log ∙ m.replies;
   log = leads_on w v s.plain b m.log;
   frames = m.frames ∙ ap (λ (d : Made). d.frames) (sym b.made);
   taken = let a = b.frames in let c = m.taken in omega (arith, a, c);
@@ -220,16 +225,22 @@ finish_free w core (suc n) Stuck v s text m free below h t = absurd (no_steps n 
 no_give_up : (core : ℕ) → Ev.Go core ≡ Ev.GiveUp core → ⊥
 no_give_up core e = absurd cc
 
--- what a served call leaves; b is what was begun before
+-- what a served call leaves; s is what was reached before, with the call among those begun
 served : (w v : World) (s : Reached) (core : ℕ) (request : Request) (o : Outcome) (text : List ℕ) → s.cores ≡ w.made.cores → s.calls ≡ w.made.calls
-    → recorded w.slots ≡ s.users → v.made ≡ w.made → s.begun ≡ length v.calls.requests → s.frames ≡ w.made.frames → frames_taken v ≤ s.accesses
+    → s.files ≡ w.made.file → replies_in w.calls.log ≡ s.replies
+    → recorded w.slots ≡ s.users → v.made ≡ w.made → s.requests ≡ v.calls.requests → s.frames ≡ w.made.frames → frames_taken v ≤ s.accesses
     → (k : IsServed w s.plain core request o v) → FirstAnswers s.plain core request k.reply k.after → (k.reply ≡ NoFrame → s.frames < s.accesses)
     → text ≡ outcome_text o
     → IsNext v (λ r. IsAnswered s core request k.reply r text)
-served w v s core request o text cores calls users made begun frames most k first framed t =
+served w v s core request o text cores calls files replies users made requests frames most k first framed t =
     let due = k.due 0 0 in
     record {
-      next = record s { plain = k.after; users = users_after s.plain core request k.reply s.users; waiting = None };
+      next = record s {
+        replies = s.replies ++ k.reply ∷ [];
+        plain = k.after;
+        users = users_after s.plain core request k.reply s.users;
+        waiting = None;
+      };
       answers = record {
         after = k.after;
         replies = first;
@@ -242,7 +253,10 @@ served w v s core request o text cores calls users made begun frames most k firs
         reached = k.reached;
         cores = cores ∙ ap (λ (d : Made). d.cores) (sym made);
         calls = calls ∙ ap (λ (d : Made). d.calls) (sym made);
-        begun = begun;
+        files = files ∙ ap (λ (d : Made). d.file) (sym made);
+        requests = requests;
+        replies = noted_replies w.calls.log (page_copied s.plain request k.reply) (v.calls.number core) core k.reply v.calls.log k.noted
+            ∙ ap (λ rs. rs ++ k.reply ∷ []) replies;
         log = k.leads;
         frames = frames ∙ ap (λ (d : Made). d.frames) (sym made);
         taken = most;
@@ -271,10 +285,11 @@ others_dropped core request range users p d ne = go (is_access request)
 
 -- of a call that waits: whom it waits for
 held_up : (w x v : World) (s : Reached) (core : ℕ) (request : Request) (o : Outcome) (text : List ℕ) → s.cores ≡ w.made.cores → s.calls ≡ w.made.calls
-    → recorded w.slots ≡ s.users → x.made ≡ w.made → s.begun ≡ length x.calls.requests → s.frames ≡ w.made.frames
+    → s.files ≡ w.made.file → replies_in x.calls.log ≡ s.replies
+    → recorded w.slots ≡ s.users → x.made ≡ w.made → s.requests ≡ x.calls.requests → s.frames ≡ w.made.frames
     → frames_taken w + frames_for request ≤ s.accesses → IsReached v → IsAwaiting w x s.plain core request o v
     → text ≡ outcome_text o → IsNext v (λ r. IsHeldUp s core request r text)
-held_up w x v s core request o text cores calls users made begun frames most reached a t =
+held_up w x v s core request o text cores calls files replies users made requests frames most reached a t =
     record {
       next = record s { waiting = Some call };
       answers = record {
@@ -291,7 +306,9 @@ held_up w x v s core request o text cores calls users made begun frames most rea
         reached = subst IsReached a.stays reached;
         cores = cores ∙ ap (λ (d : Made). d.cores) (sym made);
         calls = calls ∙ ap (λ (d : Made). d.calls) (sym made);
-        begun = begun;
+        files = files ∙ ap (λ (d : Made). d.file) (sym made);
+        requests = requests;
+        replies = replies;
         log = a.waiting.leads;
         frames = frames ∙ ap (λ (d : Made). d.frames) (sym made);
         taken = let b = a.frames in omega (arith, b, most);
@@ -346,9 +363,10 @@ held_up w x v s core request o text cores calls users made begun frames most rea
 -- what a call that began comes to
 pub call_ends : (w begun : World) (core n : ℕ) (request : Request) (f : Finished) (v : World) (s : Reached) (text : List ℕ) → Meets w s → IsCalm w
     → Step w (Ev.Call core request) Stepped begun → begun.made ≡ w.made → begun.calls.requests ≡ w.calls.requests ++ request ∷ []
+    → begun.calls.log ≡ w.calls.log
     → v.calls.events < event_limit → EndsIn begun core n f v → text ≡ finished_text f
     → IsNext v (λ r. AnswersAtOnce (one_more s request) core request r text ⊎ IsHeldUp (one_more s request) core request r text)
-call_ends w begun core n request (Last o) v s text m calm call made asked below h t =
+call_ends w begun core n request (Last o) v s text m calm call made asked same below h t =
     let x = h.2.0 in
     let k = steps_kept n core begun x h.2.1 in
     let up = step_grows x (Ev.Go core) o v h.2.2 in
@@ -357,7 +375,8 @@ call_ends w begun core n request (Last o) v s text m calm call made asked below 
       | inl d ↦
           let most = d.0.frames in
           let before = m.taken in
-          let z = served w v (one_more s request) core request o text m.cores m.calls m.users (step_made x (Ev.Go core) o v h.2.2 ∙ (k.0 ∙ made))
+          let z = served w v (one_more s request) core request o text m.cores m.calls m.files m.replies m.users
+          (step_made x (Ev.Go core) o v h.2.2 ∙ (k.0 ∙ made))
           (counted v.calls.requests (go_requests x core o v h.2.2 ∙ (k.1 ∙ asked))) m.frames (omega (arith, most, before)) d.0 d.2
           (λ e. framed o d.0 e) t in
           record {
@@ -372,7 +391,8 @@ call_ends w begun core n request (Last o) v s text m calm call made asked below 
           }
       | inr a ↦
           let before = m.taken in
-          let z = held_up w x v (one_more s request) core request o text m.cores m.calls m.users (k.0 ∙ made) (counted x.calls.requests (k.1 ∙ asked))
+          let z = held_up w x v (one_more s request) core request o text m.cores m.calls m.files (unanswered x a.waiting h.2.1 ∙ m.replies) m.users
+          (k.0 ∙ made) (counted x.calls.requests (k.1 ∙ asked))
           m.frames (omega (arith, before)) (reached_step x v (Ev.Go core) o a.waiting.reached h.2.2) a t in
           record { next = z.next; answers = inr z.answers; meets = z.meets }
     ]
@@ -389,13 +409,15 @@ call_ends w begun core n request (Last o) v s text m calm call made asked below 
         let before = m.taken in
         omega (arith, all, one, frames, before)
 
-    counted : (rs : List Request) → rs ≡ w.calls.requests ++ request ∷ [] → suc s.begun ≡ length rs
-    counted rs e =
-        let count : length (w.calls.requests ++ request ∷ []) ≡ length w.calls.requests + 1 = length-append w.calls.requests (request ∷ []) in
-        let now : length rs ≡ length (w.calls.requests ++ request ∷ []) = ap length e in
-        let was = m.begun in
-        omega (arith, was, now, count)
-call_ends w begun core n request Stuck v s text m calm call made asked below h t =
+    counted : (rs : List Request) → rs ≡ w.calls.requests ++ request ∷ [] → s.requests ++ request ∷ [] ≡ rs
+    counted rs e = ap (λ qs. qs ++ request ∷ []) m.requests ∙ sym e
+
+    -- where the call waits, it has no reply yet
+    unanswered : (x : World) → IsWaiting x s.plain core request → StepsTo begun core n x → replies_in x.calls.log ≡ replies_in w.calls.log
+    unanswered x waiting steps =
+        (untold_along (replies_in w.calls.log) core n begun x (reached_step w begun (Ev.Call core request) Stepped m.reached call)
+        (λ none. ap replies_in same) steps).1 (waiting_untold x s.plain core request waiting)
+call_ends w begun core n request Stuck v s text m calm call made asked same below h t =
     let alone : IsServedAlone w s.plain core request begun = served_alone w begun s.plain core request m.reached m.log calm call in
     let few = alone.short n v h.1 in
     let all : n ≡ 2 ^ 40 = h.0 in
@@ -415,8 +437,8 @@ open_ends w n (Last outcome) v s o text m z below h t =
       | inl d ↦
           let most = d.frames in
           let before = m.taken in
-          let y = served w v s o.core o.request outcome text m.cores m.calls m.users (step_made x (Ev.Go o.core) outcome v h.2.2 ∙ k.0)
-          (m.begun ∙ ap length (sym (go_requests x o.core outcome v h.2.2 ∙ k.1))) m.frames (omega (arith, most, before)) d.served
+          let y = served w v s o.core o.request outcome text m.cores m.calls m.files m.replies m.users (step_made x (Ev.Go o.core) outcome v h.2.2 ∙ k.0)
+          (m.requests ∙ sym (go_requests x o.core outcome v h.2.2 ∙ k.1)) m.frames (omega (arith, most, before)) d.served
           (d.first z.named) (λ e. absurd (d.framed e)) t in
           record { next = y.next; answers = inl (d.served.reply, y.answers, d.framed, λ e. sym (z.takes e) ∙ d.nobody e); meets = y.meets }
       | inr a ↦ record {

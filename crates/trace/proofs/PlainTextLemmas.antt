@@ -1,20 +1,26 @@
--- The text of a trace in which no call runs beside another is that of the plain page map and the users of its pages.
+-- The text of a trace in which no call runs beside another, and what comes behind it, are those of the plain page map and the users of its pages.
 use Rattle.std.proofs.Common.{◌≡◌, ◌≢◌, ℕ, ◌≤◌, ◌<◌, ◌==◌, ◌⊎◌, inl, inr, Bool, true, false, cond, List, [], ◌∷◌, Option, None, Some, refl, sym, ap, subst, ◌∙◌, arith, length}
-use Rattle.std.specs.Prelude.{nat_lt, pred, IsSomeAnd}
+use Rattle.std.specs.Prelude.{◌^◌, nat_lt, pred, IsSomeAnd}
 use Rattle.std.proofs.Math.Path.{fun_ext}
 use Rattle.vm_base.specs.Functions.{put}
 use Rattle.vm_base.specs.Info.{is_recorded}
 use Rattle.std.proofs.lemmas.Bool.Decides.{nat_tests}
 use Rattle.vm_base.specs.declared.requests.Request.{Request}
+use Rattle.vm_base.specs.Plain.{nothing_mapped}
 use Rattle.vm_base.proofs.Functions.{eq_true, eq_false}
 use Rattle.slot_lock.specs.Slots.{Slots, IsNew}
+use Rattle.map_list.specs.declared.lines.MapLine.{MapLine}
+use Rattle.map_list.specs.Lines.{IsMapList, plain_metas}
+use Rattle.machine_model.specs.declared.event.Event.{Event}
 use Rattle.machine_model.specs.declared.event.Event.TheVariants as Ev
 use Rattle.machine_model.specs.declared.event.Outcome.{Outcome}
 use Rattle.machine_model.specs.declared.event.Outcome.TheVariants.{Stepped, Wait, Idle, Answered, Full}
 use Rattle.machine_model.specs.declared.phase.Phase.TheVariants.{Free}
 use Rattle.machine_model.specs.Actions.{Becomes}
 use Rattle.machine_model.specs.World.{World, new_world}
-use Rattle.machine_model.specs.Step.{after_call, Begins as BeginsBy, Acts, with_event, event_limit, Step}
+use Rattle.machine_model.specs.Events.{core_of}
+use Rattle.machine_model.specs.Step.{after_call, Begins as BeginsBy, Acts, is_here, with_event, event_limit, Step}
+use Rattle.machine_sound.specs.Log.{Replays}
 use Rattle.machine_sound.specs.Sound.{IsReached}
 use Rattle.machine_sound.proofs.Kept.{reached_opening, reached_step}
 use Rattle.machine_alone.proofs.Taking.{none_taken}
@@ -28,15 +34,18 @@ use Rattle.trace_text.specs.declared.action.Action.TheVariants as By
 use Rattle.trace_text.specs.declared.line.Line.{Line}
 use Rattle.trace_text.specs.declared.line.Line.TheVariants.{Blank, Space, File, Act, Fold, Finish, Now}
 use Rattle.trace.specs.declared.declaration.FileLine.{FileLine}
-use Rattle.trace.specs.Declarations.{Asked, made_by}
+use Rattle.trace.specs.declared.shown.Show.{Show}
+use Rattle.trace.specs.declared.shown.Show.TheVariants.{Outcomes, OutcomesAndLog, Maps}
+use Rattle.trace.specs.Declarations.{Asked, asked_fault, made_by}
 use Rattle.trace.specs.Events.{event_of}
 use Rattle.trace.specs.OutcomeText.{outcome_text, finished_text}
 use Rattle.trace.specs.Gives.{Gives, GoesOn, TellsFinish}
-use Rattle.trace.specs.Stage.{Stage, Start, Declared, Running, Opens, LineActs, EventActs}
+use Rattle.trace.specs.Stage.{Stage, Start, Declared, Running, CanOpen, Opens, LineActs, EventActs}
 use Rattle.trace.specs.Runs.{Runs}
-use Rattle.trace.specs.PlainText.{Open, Reached, nothing_reached, one_more, AnswersAtOnce, IsHeldUp, NowAnswers, FinishAnswers, OpenAnswers, Idles, TakeAnswers, ActAnswers, MayStep, LineAnswers, Disturbs, AllAnswer, takes_apart, AreWhole, with_opened}
+use Rattle.trace.specs.Shown.{log_at, ListsUpTo, IsBehind}
+use Rattle.trace.specs.PlainText.{Open, Reached, nothing_reached, one_more, AnswersAtOnce, IsHeldUp, NowAnswers, FinishAnswers, OpenAnswers, Idles, TakeAnswers, ActAnswers, MayStep, CoreMayStep, LineAnswers, Disturbs, AllAnswer, IsLogOf, IsPlainBehind, takes_apart, AreWhole, with_opened, events_at, GivesPlainText}
 use Rattle.trace.proofs.Disturbing.{gives_up}
-use Rattle.trace.proofs.Limits.{step_grows}
+use Rattle.core_steps.proofs.Limits.{step_grows}
 use Rattle.trace.proofs.Opening.{IsDeclared, declared_so, declares_file, declares_space, few_cores, few_files}
 use Rattle.trace.proofs.PlainCalls.{Meets, MeetsOpen, IsNext, beside, calm_left, call_ends, finish_free, meets_beside, meets_event, meets_taken, open_ends, steps_kept}
 
@@ -54,6 +63,34 @@ may_step w v s o text m r (inr e) t k = record { next = s; answers = (refl, inr 
 
 idle : (v : World) (s : Reached) (o : Outcome) (text : List ℕ) → o ≡ Idle → text ≡ outcome_text o → Meets v s → IsNext v (λ r. Idles s r text)
 idle v s o text e t k = record { next = s; answers = (refl, t ∙ ap outcome_text e); meets = k }
+
+-- what a core that isn't there is to do is idle
+lacking : (w v : World) (core : ℕ) (e : Event) (o : Outcome) → core_of e ≡ Some core → nat_lt core w.made.cores ≡ false → w.calls.events < event_limit
+    → Step w e o v → o ≡ Idle
+lacking w v core e o its lacks below k =
+    go (nat_lt w.calls.events event_limit) (is_here w.made (core_of e)) (grind (arith, nat_tests)) (ap (is_here w.made) its ∙ lacks) k
+  where
+    go : (a b : Bool) → a ≡ true → b ≡ false
+        → cond a (cond b (Acts (with_event w) e o v) ((o ≡ Idle) × (v ≡ with_event w))) ((o ≡ Full) × (v ≡ w)) → o ≡ Idle
+    go true false i j k = k.0
+    go true true i j k = absurd cc
+    go false b i j k = absurd cc
+
+core_may_step : (w v : World) (s : Reached) (core : ℕ) (e : Event) (o : Outcome) (text : List ℕ) → core_of e ≡ Some core → Meets w s
+    → w.calls.events < event_limit → Step w e o v → (o ≡ Stepped) ⊎ (o ≡ Idle) → IsReached v → text ≡ outcome_text o → Meets v s
+    → IsNext v (λ r. CoreMayStep s core r text)
+core_may_step w v s core e o text its m below k came r t after = go (nat_lt core w.made.cores) refl
+  where
+    here : (b : Bool) → nat_lt core w.made.cores ≡ b → (r : Reached) → cond b (MayStep s r text) (Idles s r text) → CoreMayStep s core r text
+    here b i r h = subst (λ b. cond b (MayStep s r text) (Idles s r text)) (sym (ap (nat_lt core) m.cores ∙ i)) h
+
+    go : (b : Bool) → nat_lt core w.made.cores ≡ b → IsNext v (λ r. CoreMayStep s core r text)
+    go true i =
+        let z : IsNext v (λ r. MayStep s r text) = may_step w v s o text m r came t after in
+        record { next = z.next; answers = here true i z.next z.answers; meets = z.meets }
+    go false i =
+        let z : IsNext v (λ r. Idles s r text) = idle v s o text (lacking w v core e o its i below k) t after in
+        record { next = z.next; answers = here false i z.next z.answers; meets = z.meets }
 
 some_left : (n : ℕ) → 0 < n → nat_lt 0 n ≡ true
 some_left n l = grind (arith, nat_tests)
@@ -112,17 +149,21 @@ acts w v s core By.GiveUp o text a m below k t = elim (gives_up w s core m) [
   | inr b ↦ let z = beside w v s (Ev.GiveUp core) o m b below k in inr (idle v s o text z.2.0 t (meets_beside w v s m z.0 z.1 z.2.1))
 ]
 acts w v s core By.Flush o text a m below k t =
-    let z = beside w v s (Ev.Flush core) o m tt below k in inr (may_step w v s o text m z.0 z.2.0 t (meets_beside w v s m z.0 z.1 z.2.1))
+    let z = beside w v s (Ev.Flush core) o m tt below k in
+    inr (core_may_step w v s core (Ev.Flush core) o text refl m below k z.2.0 z.0 t (meets_beside w v s m z.0 z.1 z.2.1))
 acts w v s core By.Review o text a m below k t =
-    let z = beside w v s (Ev.Review core) o m tt below k in inr (may_step w v s o text m z.0 z.2.0 t (meets_beside w v s m z.0 z.1 z.2.1))
+    let z = beside w v s (Ev.Review core) o m tt below k in
+    inr (core_may_step w v s core (Ev.Review core) o text refl m below k z.2.0 z.0 t (meets_beside w v s m z.0 z.1 z.2.1))
 acts w v s core (By.Guess p) o text a m below k t =
     let z = beside w v s (Ev.Guess core p) o m tt below k in inr (idle v s o text z.2.0 t (meets_beside w v s m z.0 z.1 z.2.1))
 acts w v s core By.Whole o text a m below k t =
     let z = beside w v s (Ev.Whole core) o m tt below k in inr (idle v s o text z.2.0 t (meets_beside w v s m z.0 z.1 z.2.1))
 acts w v s core (By.Walk p) o text a m below k t =
-    let z = beside w v s (Ev.Walk core p) o m tt below k in inr (may_step w v s o text m z.0 z.2.0 t (meets_beside w v s m z.0 z.1 z.2.1))
+    let z = beside w v s (Ev.Walk core p) o m tt below k in
+    inr (core_may_step w v s core (Ev.Walk core p) o text refl m below k z.2.0 z.0 t (meets_beside w v s m z.0 z.1 z.2.1))
 acts w v s core (By.Evict p) o text a m below k t =
-    let z = beside w v s (Ev.Evict core p) o m tt below k in inr (may_step w v s o text m z.0 z.2.0 t (meets_beside w v s m z.0 z.1 z.2.1))
+    let z = beside w v s (Ev.Evict core p) o m tt below k in
+    inr (core_may_step w v s core (Ev.Evict core p) o text refl m below k z.2.0 z.0 t (meets_beside w v s m z.0 z.1 z.2.1))
 
 folds : (w v : World) (s : Reached) (p : ℕ) (o : Outcome) (text : List ℕ) → Meets w s → w.calls.events < event_limit
     → Step w (Ev.Fold p) o v → text ≡ outcome_text o
@@ -186,11 +227,11 @@ by_tests : (w : World) (s : Reached) (core : ℕ) (request : Request) (r : Reach
     → cond x (cond y (CallGives s core request r text) ((r ≡ s) × (text ≡ outcome_text Full))) ((r ≡ s) × (text ≡ outcome_text Idle))
     → NowAnswers s core request r text
 by_tests w s core request r text x y m i j h =
-    subst (λ x. cond x (cond (nat_lt s.begun s.calls) (CallGives s core request r text) ((r ≡ s) × (text ≡ outcome_text Full))) ((r ≡ s)
+    subst (λ x. cond x (cond (nat_lt (length s.requests) s.calls) (CallGives s core request r text) ((r ≡ s) × (text ≡ outcome_text Full))) ((r ≡ s)
     × (text ≡ outcome_text Idle)))
     (sym (by_name core core s.cores w.made.cores x refl m.cores i))
     (subst (λ y. cond x (cond y (CallGives s core request r text) ((r ≡ s) × (text ≡ outcome_text Full))) ((r ≡ s) × (text ≡ outcome_text Idle)))
-    (sym (by_name s.begun (length w.calls.requests) s.calls w.made.calls y m.begun m.calls j)) h)
+    (sym (by_name (length s.requests) (length w.calls.requests) s.calls w.made.calls y (ap length m.requests) m.calls j)) h)
 
 stands_still : (w x v : World) (s : Reached) (core : ℕ) (request : Request) (o : Outcome) → Meets w s → Step w (Ev.Call core request) o x
     → x ≡ with_event w → v ≡ x
@@ -223,7 +264,7 @@ told_call w x v s core request text m calm step b below h = elim b [
   | fills i j e is ↦ absurd cc
   | starts i j e is ↦
       let d = call_ends w x core h.1.0 request h.0 v s text m calm step (ap (λ (v : World). v.made) is)
-      (ap (λ (v : World). v.calls.requests) is) below h.1.1 h.2 in
+      (ap (λ (v : World). v.calls.requests) is) (ap (λ (v : World). v.calls.log) is) below h.1.1 h.2 in
       record { next = d.next; answers = by_tests w s core request d.next text true true m i j d.answers; meets = d.meets }
 ]
 
@@ -266,42 +307,33 @@ gives_grows w (Finish core) v text h = finish_grows w core h.1.0 h.0 v h.1.1
 gives_grows w (Now core request) v text h =
     let a = step_grows w (Ev.Call core request) h.0 h.1 h.2 in let b = goes_grows h.1 core h.0 v text h.3 in omega (arith, a, b)
 
-events_of : Stage → ℕ
-events_of Start = 0
-events_of (Declared s) = 0
-events_of (Running w) = w.calls.events
-
-opens_grows : (s : Stage) (w : World) → Opens s w → events_of s ≤ w.calls.events
-unfolding events_of
+opens_grows : (s : Stage) (w : World) → Opens s w → events_at s ≤ w.calls.events
 opens_grows Start w o = absurd o
 opens_grows (Declared s) w o = omega arith
 opens_grows (Running m) w o = let h : w.calls.events ≡ m.calls.events = ap (λ (w : World). w.calls.events) o in omega (arith, h)
 
-event_grows : (line : Line) (old new : Stage) (text : List ℕ) → EventActs old line new text → events_of old ≤ events_of new
-unfolding events_of
+event_grows : (line : Line) (old new : Stage) (text : List ℕ) → EventActs old line new text → events_at old ≤ events_at new
 event_grows line old new text (w, v, opens, gives, is) =
     let a = opens_grows old w opens in
     let b = gives_grows w line v text gives in
-    let c : events_of new ≡ v.calls.events = ap events_of is in
+    let c : events_at new ≡ v.calls.events = ap events_at is in
     omega (arith, a, b, c)
 
-line_grows : (line : Line) (old new : Stage) (text : List ℕ) → LineActs old line new text → events_of old ≤ events_of new
-unfolding events_of
-line_grows Blank old new text a = let h : events_of new ≡ events_of old = ap events_of a.0 in omega (arith, h)
-line_grows (Space cores frames calls) old new text a = let h : events_of old ≡ 0 = ap events_of a.0 in omega (arith, h)
-line_grows (File n mode len seed) old new text a = let h : events_of old ≡ 0 = ap events_of a.1 in omega (arith, h)
+line_grows : (line : Line) (old new : Stage) (text : List ℕ) → LineActs old line new text → events_at old ≤ events_at new
+line_grows Blank old new text a = let h : events_at new ≡ events_at old = ap events_at a.0 in omega (arith, h)
+line_grows (Space cores frames calls) old new text a = let h : events_at old ≡ 0 = ap events_at a.0 in omega (arith, h)
+line_grows (File n mode len seed) old new text a = let h : events_at old ≡ 0 = ap events_at a.1 in omega (arith, h)
 line_grows (Act core action) old new text a = event_grows (Act core action) old new text a
 line_grows (Fold page) old new text a = event_grows (Fold page) old new text a
 line_grows (Finish core) old new text a = event_grows (Finish core) old new text a
 line_grows (Now core request) old new text a = event_grows (Now core request) old new text a
 
-some_grows : (line : Option Line) (old new : Stage) (text : List ℕ) → IsSomeAnd line (λ l. LineActs old l new text) → events_of old ≤ events_of new
+some_grows : (line : Option Line) (old new : Stage) (text : List ℕ) → IsSomeAnd line (λ l. LineActs old l new text) → events_at old ≤ events_at new
 some_grows None old new text a = absurd a
 some_grows (Some line) old new text a = line_grows line old new text a
 
-lines_grow : (lines : List (List ℕ)) (old new : Stage) (text : List ℕ) → Runs old lines new text → events_of old ≤ events_of new
-unfolding events_of
-lines_grow [] old new text r = let h : events_of new ≡ events_of old = ap events_of r.0 in omega (arith, h)
+lines_grow : (lines : List (List ℕ)) (old new : Stage) (text : List ℕ) → Runs old lines new text → events_at old ≤ events_at new
+lines_grow [] old new text r = let h : events_at new ≡ events_at old = ap events_at r.0 in omega (arith, h)
 lines_grow (l ∷ ls) old new text (mid, front, rest, short, acts, more, is) =
     let a = some_grows (line_of l) old mid front acts.acts in let b = lines_grow ls mid new rest more in omega (arith, a, b)
 
@@ -317,7 +349,9 @@ meets_opening a slots s few new e = subst (Meets (new_world (made_by a) slots)) 
   reached = reached_opening (made_by a) slots few new;
   cores = refl;
   calls = refl;
-  begun = refl;
+  files = refl;
+  requests = refl;
+  replies = refl;
   log = refl;
   frames = refl;
   taken = let z = none_taken (λ f. nat_lt f a.frames) a.frames (λ j l. grind (arith, nat_tests)) in omega (arith, z);
@@ -344,9 +378,8 @@ plain_next : (line : Line) (new : Stage) (v : World) (s : Reached) (text : List 
     → IsNext v (λ r. LineAnswers s line r text) → IsPlain line new s text
 plain_next line new v s text e k = record { next = k.next; answers = k.answers; reached = is_running new v k.next e k.meets }
 
-line_plain : (line : Line) (old new : Stage) (s : Reached) (text : List ℕ) → takes_apart (Some line) ≡ false → events_of new < event_limit → ReachedAt old s
+line_plain : (line : Line) (old new : Stage) (s : Reached) (text : List ℕ) → takes_apart (Some line) ≡ false → events_at new < event_limit → ReachedAt old s
     → LineActs old line new text → Disturbs s.waiting line ⊎ IsPlain line new s text
-unfolding events_of
 line_plain Blank old new s text f below r a = inr (record { next = s; answers = (refl, a.1); reached = subst (λ x. ReachedAt x s) (sym a.0) r })
 line_plain (Space cores frames calls) old new s text f below r a =
     let first : s ≡ nothing_reached = subst (λ x. ReachedAt x s) a.0 r in
@@ -359,24 +392,23 @@ line_plain (Space cores frames calls) old new s text f below r a =
 line_plain (File n mode len seed) old new s text f below r (a, is, next, now, t) =
     let file : FileLine = record { mode = mode; len = len; seed = seed } in
     inr (record {
-      next = record s { plain = with_opened s.plain n file };
+      next = with_opened s n file;
       answers = (refl, t);
-      reached = subst (λ x. ReachedAt x (record s { plain = with_opened s.plain n file })) (sym now)
-          (declares_file a n file s next (subst (λ x. ReachedAt x s) is r));
+      reached = subst (λ x. ReachedAt x (with_opened s n file)) (sym now) (declares_file a n file s next (subst (λ x. ReachedAt x s) is r));
     })
 line_plain (Act core action) old new s text f below r (w, v, opens, gives, is) =
-    let top : events_of new ≡ v.calls.events = ap events_of is in
+    let top : events_at new ≡ v.calls.events = ap events_at is in
     let up = gives_grows w (Act core action) v text gives in
     elim (acts w v s core action gives.0 text f (opened old w s r opens) (omega (arith, top, up, below)) gives.1 gives.2) [
       | inl d ↦ inl d
       | inr k ↦ inr (plain_next (Act core action) new v s text is k)
     ]
 line_plain (Fold page) old new s text f below r (w, v, opens, gives, is) =
-    let top : events_of new ≡ v.calls.events = ap events_of is in
+    let top : events_at new ≡ v.calls.events = ap events_at is in
     let up = gives_grows w (Fold page) v text gives in
     inr (plain_next (Fold page) new v s text is (folds w v s page gives.0 text (opened old w s r opens) (omega (arith, top, up, below)) gives.1 gives.2))
 line_plain (Finish core) old new s text f below r (w, v, opens, gives, is) =
-    let top : events_of new ≡ v.calls.events = ap events_of is in
+    let top : events_at new ≡ v.calls.events = ap events_at is in
     let up = gives_grows w (Finish core) v text gives in
     inr (plain_next (Finish core) new v s text is
     (finishes w core gives.1.0 gives.0 v s text (opened old w s r opens) (omega (arith, top, up, below)) (omega (arith, top, below)) gives.1.1 gives.2))
@@ -385,7 +417,7 @@ line_plain (Now core request) old new s text f below r (w, v, opens, gives, is) 
     go : (op : Option Open) → s.waiting ≡ op → MeetsOpen w s op → Disturbs op (Now core request) ⊎ IsPlain (Now core request) new s text
     go (Some op) e k = inl tt
     go None e calm =
-        let top : events_of new ≡ v.calls.events = ap events_of is in
+        let top : events_at new ≡ v.calls.events = ap events_at is in
         let up = gives_grows w (Now core request) v text gives in
         inr (plain_next (Now core request) new v s text is
         (told w gives.1 v s core request gives.0 text (opened old w s r opens) calm (omega (arith, top, up, below))
@@ -396,7 +428,7 @@ pub record IsPlainSome (line : Option Line) (new : Stage) (s : Reached) (text : 
   pub answers : IsSomeAnd line (λ said. LineAnswers s said next text)
   pub reached : ReachedAt new next
 
-some_plain : (line : Option Line) (old new : Stage) (s : Reached) (text : List ℕ) → takes_apart line ≡ false → events_of new < event_limit → ReachedAt old s
+some_plain : (line : Option Line) (old new : Stage) (s : Reached) (text : List ℕ) → takes_apart line ≡ false → events_at new < event_limit → ReachedAt old s
     → IsSomeAnd line (λ l. LineActs old l new text) → IsSomeAnd line (λ said. Disturbs s.waiting said) ⊎ IsPlainSome line new s text
 some_plain None old new s text f below r a = absurd a
 some_plain (Some line) old new s text f below r a = elim (line_plain line old new s text f below r a) [
@@ -406,20 +438,49 @@ some_plain (Some line) old new s text f below r a = elim (line_plain line old ne
 
 -- ---- lines
 
-all_plain : (lines : List (List ℕ)) (old new : Stage) (s : Reached) (text : List ℕ) → AreWhole lines → events_of new < event_limit → ReachedAt old s
-    → Runs old lines new text → AllAnswer s lines text
-all_plain [] old new s text f below r h = h.1
-all_plain (l ∷ ls) old new s text f below r (mid, front, rest, short, acts, more, is) =
+all_plain : (End : Reached → Type 0) (lines : List (List ℕ)) (old new : Stage) (s : Reached) (text : List ℕ) → AreWhole lines
+    → events_at new < event_limit → ((r : Reached) → ReachedAt new r → End r) → ReachedAt old s
+    → Runs old lines new text → AllAnswer End s lines text
+all_plain End [] old new s text f below ends r h = (h.1, ends s (subst (λ x. ReachedAt x s) (sym h.0) r))
+all_plain End (l ∷ ls) old new s text f below ends r (mid, front, rest, short, acts, more, is) =
     let up = lines_grow ls mid new rest more in
-    go (λ next reached. all_plain ls mid new next rest f.1 below reached more)
+    go (λ next reached. all_plain End ls mid new next rest f.1 below ends reached more)
     (some_plain (line_of l) old mid s front f.0 (omega (arith, up, below)) r acts.acts)
   where
-    go : ((next : Reached) → ReachedAt mid next → AllAnswer next ls rest)
-        → IsSomeAnd (line_of l) (λ said. Disturbs s.waiting said) ⊎ IsPlainSome (line_of l) mid s front → AllAnswer s (l ∷ ls) text
+    go : ((next : Reached) → ReachedAt mid next → AllAnswer End next ls rest)
+        → IsSomeAnd (line_of l) (λ said. Disturbs s.waiting said) ⊎ IsPlainSome (line_of l) mid s front → AllAnswer End s (l ∷ ls) text
     go later (inl over) = inl over
     go later (inr k) = inr (front, rest, is, (k.next, k.answers, later k.next k.reached))
 
-pub whole_traces_plain : (lines : List (List ℕ)) (text : List ℕ) (w : World) → AreWhole lines → Runs Start lines (Running w) text → w.calls.events < event_limit
-    → AllAnswer nothing_reached lines text
-unfolding events_of
-whole_traces_plain lines text w f r below = all_plain lines Start (Running w) nothing_reached text f below refl r
+-- ---- behind the lines
+
+declared_at : (a : Asked) (r : Reached) → asked_fault a ≡ None → IsDeclared a r → r ≡ declared_so a
+declared_at a r none at = (at (few_files a none)).1
+
+log_of : (stage : Stage) (r : Reached) → CanOpen stage → ReachedAt stage r → IsLogOf r (log_at stage)
+log_of Start r o at = absurd o
+log_of (Declared a) r o at = subst (λ r. IsLogOf r []) (sym (declared_at a r o at)) (record { replies = refl; legal = refl })
+log_of (Running w) r o m = record {
+  replies = m.replies;
+  legal = subst (λ qs. Replays qs (nothing_mapped r.files) w.calls.log r.plain) (sym m.requests)
+      (subst (λ f. Replays w.calls.requests (nothing_mapped f) w.calls.log r.plain) (sym m.files) m.log);
+}
+
+maps_of : (stage : Stage) (r : Reached) (lines : List MapLine) → CanOpen stage → ReachedAt stage r → ListsUpTo stage (2 ^ 35) lines
+    → IsMapList (plain_metas r.plain) lines
+maps_of Start r lines o at k = absurd o
+maps_of (Declared a) r lines o at k = subst (λ ls. IsMapList (plain_metas r.plain) ls) (sym k)
+    (subst (λ (r : Reached). IsMapList (plain_metas r.plain) []) (sym (declared_at a r o at)) (λ p low high. refl))
+maps_of (Running w) r lines o m k = k r.plain m.log
+
+plain_behind : (show : Show) (stage : Stage) (behind : List ℕ) (r : Reached) → CanOpen stage → IsBehind show stage behind → ReachedAt stage r
+    → IsPlainBehind show stage behind r
+plain_behind Outcomes stage behind r o is at = is
+plain_behind OutcomesAndLog stage behind r o is at = (is, log_of stage r o at)
+plain_behind Maps stage behind r o is at = (is.0, maps_of stage r is.0 o at is.1, is.2)
+
+pub whole_traces_plain : (show : Show) (lines : List (List ℕ)) (stage : Stage) (text behind : List ℕ) → Runs Start lines stage text → CanOpen stage
+    → IsBehind show stage behind → GivesPlainText show lines stage text behind
+whole_traces_plain show lines stage text behind runs opens is whole below =
+    all_plain (IsPlainBehind show stage behind) lines Start stage nothing_reached text whole below
+    (λ r at. plain_behind show stage behind r opens is at) refl runs

@@ -12,6 +12,7 @@ use Rattle.trace.specs.Stage.{Stage, Start, LineFails, CanOpen, OpenFails, Acts}
 use Rattle.trace.specs.Runs.{Runs}
 use Rattle.trace.specs.declared.shown.Show.{Show}
 use Rattle.trace.specs.Shown.{told, IsBehind, IsBegunBehind, Closes, CloseFails}
+use Rattle.trace.proofs.PlainTextLemmas.{whole_traces_plain}
 use Rattle.trace.proofs.ShownLemmas.{begun_behind, told_more, told_none, front_more, whole_front}
 use Rattle.trace.specs.Turns.{Scene, Advances, IsOver, Fails, read_fails, unsent, too_long, no_memory, refused, unwritten}
 use Rattle.trace.specs.Ends.{Front, AreRead, Stops, reading, unmade, wanting, overlong, refusing, unopened, writing, closing, Ends}
@@ -274,13 +275,18 @@ run_ends : {T : Type 0} (show : Show) (input : List ℕ) (wo wn : Option (List �
 unfolding front_of
 run_ends show input wo wn now next n (Ok x) h v o e =
     let none = over_left h.rest now.left h.left v.ended in
+    let runs : Runs Start (lines_of input) now.stage h.text =
+    subst (λ ls. Runs Start ls now.stage h.text) (sym (h.lines ∙ ap (λ l. h.done ++ l) none ∙ append-nil h.done)) h.runs in
+    let opens : CanOpen now.stage = subst CanOpen v.stage o.opens in
+    let is : IsBehind show now.stage o.behind = subst (λ s. IsBehind show s o.behind) v.stage o.is in
     record {
       stage = now.stage;
       text = h.text;
       behind = o.behind;
-      runs = subst (λ ls. Runs Start ls now.stage h.text) (sym (h.lines ∙ ap (λ l. h.done ++ l) none ∙ append-nil h.done)) h.runs;
-      opens = subst CanOpen v.stage o.opens;
-      is = subst (λ s. IsBehind show s o.behind) v.stage o.is;
+      runs = runs;
+      opens = opens;
+      is = is;
+      plain = whole_traces_plain show (lines_of input) now.stage h.text o.behind runs opens is;
       appends = Appends-trans _ _ _ _ _ (Appends-kept _ _ _ _ h.appends v.written) o.appends;
     }
 run_ends show input wo wn now next n (Err f) h v o (inl e) =
@@ -326,6 +332,7 @@ ends_kept show input unread a b c (Ok x) h k = record {
   runs = h.runs;
   opens = h.opens;
   is = h.is;
+  plain = h.plain;
   appends = Appends-kept _ _ _ _ h.appends k;
 }
 ends_kept show input unread a b c (Err f) h k = stops_kept show input unread a b c f h k

@@ -10,9 +10,10 @@ use Rattle.trace.specs.declared.shown.Show.{Show}
 use Rattle.trace.specs.Stage.{Stage, Start, LineFails, LineWants, CanOpen, OpenFails}
 use Rattle.trace.specs.Runs.{Runs}
 use Rattle.trace.specs.Shown.{told, IsBehind, IsBegunBehind}
+use Rattle.trace.specs.PlainText.{GivesPlainText}
 
 -- All lines were acted on, a machine could be made, and what is to be shown was written: the lines'
--- text, and what comes behind it.
+-- text, and what comes behind it. Where no line takes a call apart, both are the plain page map's.
 pub record Completes (show : Show) (input : List ℕ) (old new : Option (List ℕ)) : Type 0 where
   pub stage : Stage
   pub text : List ℕ
@@ -20,6 +21,7 @@ pub record Completes (show : Show) (input : List ℕ) (old new : Option (List �
   pub runs : Runs Start (lines_of input) stage text
   pub opens : CanOpen stage
   pub is : IsBehind show stage behind
+  pub plain : GivesPlainText show (lines_of input) stage text behind
   pub appends : Appends old new (told show text ++ behind)
 
 -- the first lines, and the text that they give

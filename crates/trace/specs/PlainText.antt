@@ -1,16 +1,20 @@
 -- The text of a trace in which no call runs beside another, as the plain page map and the users of
--- its pages give it
-use Rattle.std.specs.Prelude.{◌≡◌, ◌≢◌, ℕ, suc, ◌+◌, pred, ◌<◌, ◌⊎◌, ◌↔◌, ◌==◌, nat_lt, cond, if◌then◌else◌, Bool, true, false, List, [], ◌∷◌, ◌++◌, IsSomeAnd, Option, None, Some}
+-- its pages give it; and what comes behind that text, the log or the list of mappings
+use Rattle.std.specs.Prelude.{◌≡◌, ◌≢◌, ℕ, ◌+◌, pred, ◌<◌, ◌⊎◌, ◌↔◌, ◌==◌, nat_lt, cond, if◌then◌else◌, Bool, true, false, List, [], ◌∷◌, ◌++◌, length, IsSomeAnd, Option, None, Some}
 use Rattle.vm_base.specs.declared.replies.Reply.{Reply}
 use Rattle.vm_base.specs.declared.replies.Reply.TheVariants.{NoFrame, NoMemory}
 use Rattle.vm_base.specs.declared.requests.Request.{Request}
 use Rattle.vm_base.specs.Cores.{members}
 use Rattle.vm_base.specs.Functions.{put}
-use Rattle.vm_base.specs.Plain.{Plain, nothing_mapped}
+use Rattle.vm_base.specs.Plain.{File as OpenFile, Plain, nothing_mapped}
+use Rattle.map_list.specs.declared.lines.MapLine.{MapLine}
+use Rattle.map_list.specs.Lines.{IsMapList, plain_metas}
 use Rattle.machine_model.specs.declared.event.Blocker.TheVariants.{Acks}
 use Rattle.machine_model.specs.declared.event.Outcome.TheVariants.{Stepped, Wait, Idle, Answered, Full}
-use Rattle.machine_model.specs.World.{World}
+use Rattle.machine_model.specs.declared.log.Entry.{Entry}
+use Rattle.machine_model.specs.declared.log.Entry.TheVariants.{Answer, Detach}
 use Rattle.machine_model.specs.Step.{event_limit}
+use Rattle.machine_sound.specs.Log.{Replays}
 use Rattle.machine_alone.specs.First.{FirstAnswers}
 use Rattle.machine_alone.specs.Taken.{is_access}
 use Rattle.machine_alone.specs.Users.{Users, users_after}
@@ -20,10 +24,13 @@ use Rattle.trace_text.specs.declared.action.Action.TheVariants as By
 use Rattle.trace_text.specs.declared.line.Line.{Line}
 use Rattle.trace_text.specs.declared.line.Line.TheVariants.{Blank, Space, File, Act, Fold, Finish, Now}
 use Rattle.trace.specs.declared.declaration.FileLine.{FileLine}
+use Rattle.trace.specs.declared.shown.Show.{Show}
+use Rattle.trace.specs.declared.shown.Show.TheVariants.{Outcomes, OutcomesAndLog, Maps}
 use Rattle.trace.specs.Declarations.{file_of}
 use Rattle.trace.specs.OutcomeText.{outcome_text}
-use Rattle.trace.specs.Stage.{Start, Running}
+use Rattle.trace.specs.Stage.{Stage, Start, Declared, Running, CanOpen}
 use Rattle.trace.specs.Runs.{Runs}
+use Rattle.trace.specs.Shown.{log_at, log_text, maps_text, IsBehind}
 
 -- A call that waits: whose it is, what it asks for, and how many takes each core still has before
 -- it
@@ -32,14 +39,17 @@ pub record Open : Type 0 where
   pub request : Request
   pub takes : ℕ → ℕ
 
--- How far a trace has come: the cores, the frames and the calls that its vm line allows, the calls
--- begun, how many of them are loads, stores and fetches, the plain page map, the users of its
--- pages, and the call that waits, if there is one.
+-- How far a trace has come: the cores, the frames and the calls that its vm line allows, the files
+-- as their lines open them, the requests of the calls begun and the replies handed out, both in
+-- order, how many of those requests are loads, stores and fetches, the plain page map, the users of
+-- its pages, and the call that waits, if there is one.
 pub record Reached : Type 0 where
   pub cores : ℕ
   pub frames : ℕ
   pub calls : ℕ
-  pub begun : ℕ
+  pub files : ℕ → Option OpenFile
+  pub requests : List Request
+  pub replies : List Reply
   pub accesses : ℕ
   pub plain : Plain
   pub users : Users
@@ -51,20 +61,27 @@ nothing_reached = record {
   cores = 0;
   frames = 0;
   calls = 0;
-  begun = 0;
+  files = λ n. None;
+  requests = [];
+  replies = [];
   accesses = 0;
   plain = nothing_mapped (λ n. None);
   users = λ p c. false;
   waiting = None;
 }
 
+-- nothing happens
+abbrev pub Idles : Reached → Reached → List ℕ → Type 0
+Idles s r text = (r ≡ s) × (text ≡ outcome_text Idle)
+
 -- ---- a call
 
--- The request has this reply, and the plain map and the users go on. (The reply is the first of
--- that map's: a private page that has shown its file's page gets a copy before a store to it that
--- is done, and a mapping that leaves its place open is at its hint, if that is free, else at the
--- least room of its core's window. Where more accesses were made than there are frames, "no frame"
--- may answer one that the map would serve, and changes nothing.)
+-- The request has this reply, and the plain map and the users go on. The reply is the first of that
+-- map's: a private page that has shown its file's page gets a copy before a store to it that is
+-- done, and a mapping that leaves its place open is at its hint, if that is free, else at the least
+-- room of its core's window. It is never "no memory". "No frame" may answer an access that the map
+-- would serve, and changes nothing; it comes only where more accesses were made than there are
+-- frames.
 pub record IsAnswered (s : Reached) (core : ℕ) (request : Request) (reply : Reply) (r : Reached)
     (text : List ℕ) : Type 0 where
   pub after : Plain
@@ -72,6 +89,7 @@ pub record IsAnswered (s : Reached) (core : ℕ) (request : Request) (reply : Re
   pub given : reply ≢ NoMemory
   pub framed : reply ≡ NoFrame → s.frames < s.accesses
   pub next : r ≡ record s {
+    replies = s.replies ++ reply ∷ [];
     plain = after;
     users = users_after s.plain core request reply s.users;
     waiting = None;
@@ -80,8 +98,8 @@ pub record IsAnswered (s : Reached) (core : ℕ) (request : Request) (reply : Re
 
 -- core d, another one, uses a page that the reply leaves without users
 abbrev pub IsDropped : Reached → ℕ → Request → Reply → ℕ → Type 0
-IsDropped s core request reply d = (d ≢ core)
-    × ((p : ℕ) × (s.users p d ≡ true) × (users_after s.plain core request reply s.users p d ≡ false))
+IsDropped s core request reply d = (d ≢ core) × ((p : ℕ) × (s.users p d ≡ true)
+    × (users_after s.plain core request reply s.users p d ≡ false))
 
 -- the reply drops no other core: it is given at once
 abbrev pub AnswersAtOnce : Reached → ℕ → Request → Reached → List ℕ → Type 0
@@ -107,17 +125,20 @@ pub record IsHeldUp (s : Reached) (core : ℕ) (request : Request) (r : Reached)
 
 -- one call more has begun
 abbrev pub one_more : Reached → Request → Reached
-one_more s request =
-    record s { begun = suc s.begun; accesses = s.accesses + (if is_access request then 1 else 0) }
+one_more s request = record s {
+  requests = s.requests ++ request ∷ [];
+  accesses = s.accesses + (if is_access request then 1 else 0);
+}
 
 -- a core that the space lacks begins no call, and past the limit of calls none begins
 abbrev pub NowAnswers : Reached → ℕ → Request → Reached → List ℕ → Type 0
 NowAnswers s core request r text =
     cond (nat_lt core s.cores)
-    (cond (nat_lt s.begun s.calls) (AnswersAtOnce (one_more s request) core request r text
+    (cond (nat_lt (length s.requests) s.calls)
+    (AnswersAtOnce (one_more s request) core request r text
     ⊎ IsHeldUp (one_more s request) core request r text)
     ((r ≡ s) × (text ≡ outcome_text Full)))
-    ((r ≡ s) × (text ≡ outcome_text Idle))
+    (Idles s r text)
 
 -- ---- a call that waits
 
@@ -140,14 +161,11 @@ OpenAnswers s o r text =
     × AwaitsNobody o)
     ⊎ IsStillHeldUp s o r text
 
--- nothing happens
-abbrev pub Idles : Reached → Reached → List ℕ → Type 0
-Idles s r text = (r ≡ s) × (text ≡ outcome_text Idle)
-
 -- only the core whose call waits has something to finish
 abbrev pub FinishAnswers : Reached → Option Open → ℕ → Reached → List ℕ → Type 0
 FinishAnswers s None core r text = Idles s r text
-FinishAnswers s (Some o) core r text = cond (core == o.core) (OpenAnswers s o r text) (Idles s r text)
+FinishAnswers s (Some o) core r text =
+    cond (core == o.core) (OpenAnswers s o r text) (Idles s r text)
 
 -- only a core that has a take before it takes
 abbrev pub TakeAnswers : Reached → Option Open → ℕ → Reached → List ℕ → Type 0
@@ -164,6 +182,10 @@ TakeAnswers s (Some o) core r text =
 abbrev pub MayStep : Reached → Reached → List ℕ → Type 0
 MayStep s r text = (r ≡ s) × ((text ≡ outcome_text Stepped) ⊎ (text ≡ outcome_text Idle))
 
+-- the same of a core; one that the space lacks does nothing
+abbrev pub CoreMayStep : Reached → ℕ → Reached → List ℕ → Type 0
+CoreMayStep s core r text = cond (nat_lt core s.cores) (MayStep s r text) (Idles s r text)
+
 -- what an event of a core gives, if it is no step of a call
 abbrev pub ActAnswers : Reached → ℕ → Action → Reached → List ℕ → Type 0
 ActAnswers s core (By.Call request) r text = ⊥
@@ -171,25 +193,28 @@ ActAnswers s core By.Go r text = ⊥
 ActAnswers s core By.Take r text = TakeAnswers s s.waiting core r text
 ActAnswers s core (By.Frame frame) r text = Idles s r text
 ActAnswers s core By.GiveUp r text = Idles s r text
-ActAnswers s core By.Flush r text = MayStep s r text
-ActAnswers s core By.Review r text = MayStep s r text
+ActAnswers s core By.Flush r text = CoreMayStep s core r text
+ActAnswers s core By.Review r text = CoreMayStep s core r text
 ActAnswers s core (By.Guess page) r text = Idles s r text
 ActAnswers s core By.Whole r text = Idles s r text
-ActAnswers s core (By.Walk page) r text = MayStep s r text
-ActAnswers s core (By.Evict page) r text = MayStep s r text
+ActAnswers s core (By.Walk page) r text = CoreMayStep s core r text
+ActAnswers s core (By.Evict page) r text = CoreMayStep s core r text
 
--- the map with the file that a line asks for
-abbrev pub with_opened : Plain → ℕ → FileLine → Plain
-with_opened t n file = record t { file = put t.file n (file_of (Some file)) }
+-- the files, and the map's, with the one that a line opens
+abbrev pub with_opened : Reached → ℕ → FileLine → Reached
+with_opened s n file = record s {
+  files = put s.files n (file_of (Some file));
+  plain = record s.plain { file = put s.plain.file n (file_of (Some file)) };
+}
 
--- what a line gives, and how far the trace has come then
+-- What a line gives, and how far the trace has come then. No line gives `stuck`: in each case the
+-- text is none, or that of a step, of a reply, of a wait for acknowledgements, `idle` or `full`.
 abbrev pub LineAnswers : Reached → Line → Reached → List ℕ → Type 0
 LineAnswers s Blank r text = (r ≡ s) × (text ≡ [])
 LineAnswers s (Space cores frames calls) r text =
     (r ≡ record s { cores = cores; frames = frames; calls = calls }) × (text ≡ [])
 LineAnswers s (File n mode len seed) r text =
-    (r ≡ record s { plain = with_opened s.plain n (record { mode = mode; len = len; seed = seed }) })
-    × (text ≡ [])
+    (r ≡ with_opened s n (record { mode = mode; len = len; seed = seed })) × (text ≡ [])
 LineAnswers s (Finish core) r text = FinishAnswers s s.waiting core r text
 LineAnswers s (Now core request) r text = NowAnswers s core request r text
 LineAnswers s (Act core action) r text = ActAnswers s core action r text
@@ -203,15 +228,41 @@ Disturbs (Some o) (Act core By.GiveUp) =
     (core ≡ o.core) × (is_access o.request ≡ true) × AwaitsNobody o
 Disturbs waiting line = ⊥
 
--- the text of the lines up to the first that disturbs a call; of what comes from there on nothing
--- is said
-abbrev pub AllAnswer : Reached → List (List ℕ) → List ℕ → Type 0
-AllAnswer s [] text = text ≡ []
-AllAnswer s (line ∷ lines) text =
+-- The text of the lines, one after another, and what holds of how far the trace has come at its end
+-- (End). From the first line on that disturbs a call, nothing is said.
+abbrev pub AllAnswer : (Reached → Type 0) → Reached → List (List ℕ) → List ℕ → Type 0
+AllAnswer End s [] text = (text ≡ []) × End s
+AllAnswer End s (line ∷ lines) text =
     IsSomeAnd (line_of line) (λ said. Disturbs s.waiting said)
     ⊎ ((front : List ℕ) × (rest : List ℕ) × (text ≡ front ++ rest)
     × ((r : Reached) × IsSomeAnd (line_of line) (λ said. LineAnswers s said r front)
-    × AllAnswer r lines rest))
+    × AllAnswer End r lines rest))
+
+-- ---- behind the lines
+
+-- the replies in a log, in order
+abbrev pub replies_in : List Entry → List Reply
+replies_in [] = []
+replies_in (Answer step call core reply ∷ log) = reply ∷ replies_in log
+replies_in (Detach step call page ∷ log) = replies_in log
+
+-- The log of such a trace: its replies are those that the lines gave, in order. And it is legal:
+-- applied entry by entry to no mappings and the files as they were opened, each reply as that to
+-- its call's request, it leads to the plain page map that the lines reach.
+pub record IsLogOf (r : Reached) (log : List Entry) : Type 0 where
+  pub replies : replies_in log ≡ r.replies
+  pub legal : Replays r.requests (nothing_mapped r.files) log r.plain
+
+-- What comes behind the text, where the trace ends at this stage: nothing, the lines of that log,
+-- or the list of all mappings of that plain page map.
+abbrev pub IsPlainBehind : Show → Stage → List ℕ → Reached → Type 0
+IsPlainBehind Outcomes stage behind r = behind ≡ []
+IsPlainBehind OutcomesAndLog stage behind r =
+    (behind ≡ log_text (log_at stage)) × IsLogOf r (log_at stage)
+IsPlainBehind Maps stage behind r =
+    (lines : List MapLine) × IsMapList (plain_metas r.plain) lines × (behind ≡ maps_text lines)
+
+-- ---- a trace
 
 -- a line that begins a call or goes one step on, and no more
 abbrev pub takes_apart : Option Line → Bool
@@ -224,9 +275,22 @@ abbrev pub AreWhole : List (List ℕ) → Type 0
 AreWhole [] = Unit {0}
 AreWhole (line ∷ lines) = (takes_apart (line_of line) ≡ false) × AreWhole lines
 
--- The text of such lines is that of the plain page map and the users of its pages, line for line,
--- while the machine can count its events.
+-- how many events were counted: none before there is a machine
+abbrev pub events_at : Stage → ℕ
+events_at Start = 0
+events_at (Declared a) = 0
+events_at (Running w) = w.calls.events
+
+-- While the machine can count its events, the text of such lines is that of the plain page map and
+-- the users of its pages, line for line, and what comes behind it is that map's, too.
+abbrev pub GivesPlainText : Show → List (List ℕ) → Stage → List ℕ → List ℕ → Type 0
+GivesPlainText show lines stage text behind =
+    AreWhole lines → events_at stage < event_limit
+    → AllAnswer (IsPlainBehind show stage behind) nothing_reached lines text
+
+-- so it is for all lines that are acted on, where the trace can end there
 abbrev pub AllWholeTracesArePlain : Type 0
-AllWholeTracesArePlain = (lines : List (List ℕ)) (text : List ℕ) (w : World) → AreWhole lines
-    → Runs Start lines (Running w) text
-    → w.calls.events < event_limit → AllAnswer nothing_reached lines text
+AllWholeTracesArePlain =
+    (show : Show) (lines : List (List ℕ)) (stage : Stage) (text behind : List ℕ)
+    → Runs Start lines stage text → CanOpen stage → IsBehind show stage behind
+    → GivesPlainText show lines stage text behind

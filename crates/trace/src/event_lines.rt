@@ -7,7 +7,7 @@ ghost use Rattle.trace.specs.Gives.{Gives, Wants, WantsFinish, is_event, TellsFi
 
 use crate::fault::TraceFault;
 use crate::outcome_text::{write_finished, write_outcome};
-use core_steps::Machine;
+use core_steps::{Ledger, Machine};
 use machine_model::{Event, Outcome};
 use slot_lock::SlotMap;
 use std::alloc::Allocator;
@@ -34,8 +34,8 @@ fn event_of(core: CoreId, action: Action) -> Event
 }
 
 // One step.
-fn tell_step<M: SlotMap, A: Allocator + Clone>(
-    machine: &mut Machine<M, A>,
+fn tell_step<M: SlotMap, A: Allocator + Clone, L: Ledger>(
+    machine: &mut Machine<M, A, L>,
     event: Event,
     text: &mut LineText,
 ) -> Result<(), NoMemory>
@@ -48,8 +48,8 @@ fn tell_step<M: SlotMap, A: Allocator + Clone>(
 }
 
 // One step, which the core is to do.
-fn tell_act<M: SlotMap, A: Allocator + Clone>(
-    machine: &mut Machine<M, A>,
+fn tell_act<M: SlotMap, A: Allocator + Clone, L: Ledger>(
+    machine: &mut Machine<M, A, L>,
     core: CoreId,
     action: Action,
     text: &mut LineText,
@@ -62,8 +62,8 @@ fn tell_act<M: SlotMap, A: Allocator + Clone>(
 }
 
 // All steps of the core's call.
-fn tell_finish<M: SlotMap, A: Allocator + Clone>(
-    machine: &mut Machine<M, A>,
+fn tell_finish<M: SlotMap, A: Allocator + Clone, L: Ledger>(
+    machine: &mut Machine<M, A, L>,
     core: CoreId,
     text: &mut LineText,
 ) -> Result<(), NoMemory>
@@ -76,8 +76,8 @@ fn tell_finish<M: SlotMap, A: Allocator + Clone>(
 }
 
 // A call, which is finished if it could begin.
-fn tell_call<M: SlotMap, A: Allocator + Clone>(
-    machine: &mut Machine<M, A>,
+fn tell_call<M: SlotMap, A: Allocator + Clone, L: Ledger>(
+    machine: &mut Machine<M, A, L>,
     core: CoreId,
     request: Request,
     text: &mut LineText,
@@ -86,19 +86,15 @@ fn tell_call<M: SlotMap, A: Allocator + Clone>(
         (state machine.new) text.new.bytes) }
     ensures err { OnErr result (Wants (state machine.old) (Line.Now core request)) }
 {
-    match machine.step(Event::Call(core, request))? {
-        Outcome::Stepped => tell_finish(machine, core, text),
-        outcome => {
-            write_outcome(text, outcome);
-            Ok(())
-        }
-    }
+    let finished = machine.call(core, request)?;
+    write_finished(text, finished);
+    Ok(())
 }
 
 /// Moves the machine as the line says, and replaces the text by what it gives. A line that is bad, or the line of
 /// a space or of a file, is a bad line here, and nothing changes. At `NoMemory` the steps before the refused one stand.
-pub fn run_line<M: SlotMap, A: Allocator + Clone>(
-    machine: &mut Machine<M, A>,
+pub fn run_line<M: SlotMap, A: Allocator + Clone, L: Ledger>(
+    machine: &mut Machine<M, A, L>,
     line: Option<Line>,
     number: u64,
     text: &mut LineText,

@@ -5,8 +5,8 @@ ghost use Rattle.trace.specs.OutcomeText.{core_text, cores_text, finished_text, 
 
 use core_steps::Finished;
 use machine_model::{Blocker, Outcome};
-use trace_text::{LineText, number_text, reply_text};
-use vm_base::{CoreId, CoreSet};
+use trace_text::{LineText, number_text, push_reply};
+use vm_base::{CoreId, CoreSet, Reply};
 
 // A core behind a space, if it is a member.
 fn push_member(text: &mut LineText, cores: CoreSet, core: CoreId)
@@ -57,6 +57,14 @@ fn write_wait(text: &mut LineText, blocker: Blocker)
     text.push_str("\n");
 }
 
+fn write_reply(text: &mut LineText, reply: Reply)
+    ensures { text.new.bytes ≡ outcome_text (Outcome.Answered reply) }
+{
+    text.clear();
+    push_reply(text, reply);
+    text.push_str("\n");
+}
+
 /// Replaces the text by that of the outcome, with its newline.
 pub fn write_outcome(text: &mut LineText, outcome: Outcome)
     ensures { text.new.bytes ≡ outcome_text outcome }
@@ -65,7 +73,7 @@ pub fn write_outcome(text: &mut LineText, outcome: Outcome)
         Outcome::Stepped => write_word(text, "step"),
         Outcome::Wait(blocker) => write_wait(text, blocker),
         Outcome::Idle => write_word(text, "idle"),
-        Outcome::Answered(reply) => write_word(text, reply_text(reply).as_str()),
+        Outcome::Answered(reply) => write_reply(text, reply),
         Outcome::Full => write_word(text, "full"),
     }
 }

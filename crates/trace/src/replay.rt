@@ -3,6 +3,7 @@ ghost use Rattle.std.specs.Prelude.{◌≡◌, ◌+◌, ◌^◌, ◌<◌, ◌⊎
 ghost use Rattle.trace_io.specs.Source.{HasStopped};
 ghost use Rattle.trace_io.specs.Window.{left, budget, opening};
 ghost use Rattle.trace.specs.declared.fault.TraceFault.TheVariants.{ReadFailed, WriteFailed};
+ghost use Rattle.trace.specs.declared.shown.Show.TheVariants.{OutcomesAndLog};
 ghost use Rattle.trace.specs.Turns.{Turns, Scene};
 ghost use Rattle.trace.specs.Stage.{Start};
 ghost use Rattle.trace.specs.Ends.{Ends, TellsFaults};
@@ -11,6 +12,7 @@ ghost use Rattle.trace.specs.Shown.{Closes, CloseFails};
 use crate::fault::TraceFault;
 use crate::replayer::{Replayer, Staged};
 use crate::shown::{Show, write_log, write_maps, write_told};
+use core_steps::{Counted, Kept, Opening};
 use std::alloc::Allocator;
 use trace_io::lines::{Found, LineReader, NoLine};
 use trace_io::sink::Sink;
@@ -65,13 +67,14 @@ fn turn<A: Allocator, S: Source, W: Sink, R: Staged>(
     }
 }
 
-// Ends the trace, and writes what comes behind the text of its lines.
+// Ends the trace, and writes what comes behind the text of its lines. A log that is to be shown is kept.
 fn close<W: Sink, R: Staged>(
     writer: &mut W,
     replayer: &R,
     show: Show,
     text: &mut LineText,
 ) -> Result<(), TraceFault>
+    requires { show ≡ OutcomesAndLog → R.keeps ≡ true }
     ensures ok { OnOk result (Closes show (R.stage replayer.now) (W.contents writer.old) (W.contents writer.new)) }
     ensures err { IfErr result (λ f. CloseFails show (R.stage replayer.now)
         (W.contents writer.old) (W.contents writer.new) f) }
@@ -83,7 +86,11 @@ fn close<W: Sink, R: Staged>(
     }
     let done = match show {
         Show::Outcomes => Ok(()),
-        Show::OutcomesAndLog => write_log(writer, replayer.log(), text),
+        Show::OutcomesAndLog => match replayer.log() {
+            Some(log) => write_log(writer, log, text),
+            // this never comes, since the log is kept
+            None => Ok(()),
+        },
         Show::Maps => write_maps(writer, replayer, text),
     };
     if let Err(_) = done {
@@ -103,6 +110,7 @@ fn replay_lines<A: Allocator, S: Source, W: Sink, R: Staged>(
 ) -> Result<(), TraceFault>
     requires fresh { lines.old ≡ opening }
     requires start { R.stage replayer.old ≡ Start }
+    requires keeps { show ≡ OutcomesAndLog → R.keeps ≡ true }
     ensures ends { IfSome (S.remaining reader.old) (λ input.
         Ends show input (S.remaining reader.new) (W.contents writer.old) (W.contents writer.new) result) }
     ensures read { result ≡ Err ReadFailed → HasStopped (S.failed reader.new) (S.reads reader.new) }
@@ -119,13 +127,14 @@ fn replay_lines<A: Allocator, S: Source, W: Sink, R: Staged>(
     }
 }
 
-// Acts on all lines. Memory for a chunk of lines is taken before anything is read.
-fn replay_text<A: Allocator + Clone + Drop, S: Source, W: Sink>(
+// Acts on all lines, over a ledger of this kind. Memory for a chunk of lines is taken before anything is read.
+fn replay_over<L: Opening<A> + Drop, A: Allocator + Clone + Drop, S: Source, W: Sink>(
     alloc: A,
     reader: &mut S,
     writer: &mut W,
     show: Show,
 ) -> Result<(), TraceFault>
+    requires { show ≡ OutcomesAndLog → L.keeps ≡ true }
     ensures ends { IfSome (S.remaining reader.old) (λ input.
         Ends show input (S.remaining reader.new) (W.contents writer.old) (W.contents writer.new) result) }
     ensures read { result ≡ Err ReadFailed → HasStopped (S.failed reader.new) (S.reads reader.new) }
@@ -138,22 +147,44 @@ fn replay_text<A: Allocator + Clone + Drop, S: Source, W: Sink>(
     let Ok(mut lines) = LineReader::new(for_lines) else {
         return Err(TraceFault::NoMemory);
     };
-    let mut replayer = Replayer::new(alloc);
+    let mut replayer = Replayer::<A, L>::new(alloc);
     let mut text = LineText::new();
     replay_lines(&mut lines, reader, writer, &mut replayer, show, &mut text)
+}
+
+// Acts on all lines. The log is kept only where it is to be shown.
+fn replay_text<A: Allocator + Clone + Drop, S: Source, W: Sink>(
+    alloc: A,
+    reader: &mut S,
+    writer: &mut W,
+    show: Show,
+) -> Result<(), TraceFault>
+    ensures ends { IfSome (S.remaining reader.old) (λ input.
+        Ends show input (S.remaining reader.new) (W.contents writer.old) (W.contents writer.new) result) }
+    ensures read { result ≡ Err ReadFailed → HasStopped (S.failed reader.new) (S.reads reader.new) }
+    ensures write { result ≡ Err WriteFailed → W.failed writer.new ≡ true }
+    ensures kept { (result ≡ Err WriteFailed) ⊎ (W.failed writer.new ≡ W.failed writer.old) }
+{
+    match show {
+        Show::OutcomesAndLog => replay_over::<Kept<A>, A, S, W>(alloc, reader, writer, show),
+        Show::Outcomes | Show::Maps => replay_over::<Counted, A, S, W>(alloc, reader, writer, show),
+    }
 }
 
 /// Acts on each line as it is read, and writes its text before the next line is acted on; at the end of the trace, if no fault came, the
 /// log comes behind the text, or the list of mappings in place of it, where it is to be shown. What is written goes out before each read
 /// that a line has to wait for, and at the end, after a fault too. A write or a flush that fails ends the replay, and is told even where
 /// another fault came first.
+///
+/// Where no line takes a call apart (`call`, `go`), what is written is what a plain page map gives,
+/// up to a call that is made while another waits: `laws::whole_traces_are_plain` says it in words.
 pub fn replay<A: Allocator + Clone + Drop, S: Source, W: Sink>(
     alloc: A,
     reader: &mut S,
     writer: &mut W,
     show: Show,
 ) -> Result<(), TraceFault>
-    // What went out, and which fault it is, where the reader tells its bytes.
+    // What went out, that it is the plain page map's, and which fault it is, where the reader tells its bytes.
     ensures ends { IfSome (S.remaining reader.old) (λ input.
         Ends show input (S.remaining reader.new) (W.contents writer.old) (W.contents writer.new) result) }
     ensures told { TellsFaults result (S.failed reader.new) (S.reads reader.new)

@@ -1,5 +1,5 @@
 //! A replay between two lines, and what one line does to it.
-ghost use Rattle.std.specs.Prelude.{◌≡◌, ◌≤◌, ◌⊎◌, [], option_map, None, IfOk, IfErr, IfNone, IfSome, OnOk, IsSomeAnd};
+ghost use Rattle.std.specs.Prelude.{◌≡◌, ◌≤◌, ◌⊎◌, [], Bool, false, option_map, None, IfOk, IfErr, IfNone, IfSome, OnOk, IsSomeAnd};
 ghost use Rattle.core_steps.specs.Machine.{state};
 ghost use Rattle.trace_text.specs.Words.{words_of};
 ghost use Rattle.trace.specs.Stage.{Stage, Start, Declared, stage_of, Opens, OpenFails, CanOpen, Acts, BadFails, EventActs, EventFails, EventWants, FileFails, LateFails, LineActs, LineFails, LineWants, SpaceFails, kind_of};
@@ -8,19 +8,23 @@ ghost use Rattle.trace.specs.Shown.{HasNoneAt, IsNextAt, IsStartAt, log_at};
 use crate::declaration::{Declaration, FileLine};
 use crate::event_lines::run_line;
 use crate::fault::TraceFault;
-use core_steps::{Machine, SetupFault};
+use core_steps::{Ledger, Machine, Opening, SetupFault};
 use machine_model::Entry;
 use map_list::MapLine;
 use mmu::{Cpu, Hardware};
 use radix_range::RadixMap;
 use slot_lock::SlotMap;
 use std::alloc::Allocator;
-use trace_text::{Line, LineText, first_word_is_file, first_word_is_vm, is_printable, read_line};
+use trace_text::{
+    Line, LineText, first_word_is_file, first_word_is_vm, is_printable_line, read_line,
+};
 
 /// What acts on the lines of a trace, one at a time.
 pub trait Staged {
     // How far the trace has come.
     ghost stage: { Self → Stage };
+    // Whether its log can be read.
+    ghost keeps: { Bool };
 
     /// Acts on the line with this number, and replaces the text by what it gives. A fault that isn't want of memory
     /// is the line's first. After a fault no other line is acted on.
@@ -35,9 +39,10 @@ pub trait Staged {
         ensures ok { OnOk result (CanOpen (stage self.now)) }
         ensures err { IfErr result (λ f. OpenFails (stage self.now) f) };
 
-    /// The log of the machine; up to the first event it is empty.
-    fn log(&self) -> &[Entry]
-        ensures { result.now ≡ log_at (stage self.now) };
+    /// The log of the machine, where it is kept; up to the first event it is empty.
+    fn log(&self) -> Option<&[Entry]>
+        ensures some { IfSome result (λ log. log.now ≡ log_at (stage self.now)) }
+        ensures none { IfNone result (keeps ≡ false) };
 
     /// The first mapping that begins at the page `from` or above, where none goes across that page; up to the first event there is
     /// none.
@@ -49,24 +54,24 @@ pub trait Staged {
 }
 
 /// A replay between two lines. Up to the `vm` line it has neither a declaration nor a machine, then a declaration, and from
-/// the first line of an event on a machine.
+/// the first line of an event on a machine, whose log goes to the ledger.
 #[derive(Drop)]
-pub struct Replayer<A: Allocator + Clone>
+pub struct Replayer<A: Allocator + Clone, L: Ledger>
 where
     RadixMap<A>: SlotMap,
     Cpu<A>: Hardware,
 {
     alloc: A,
     declaration: Option<Declaration>,
-    machine: Option<Machine<RadixMap<A>, A>>,
+    machine: Option<Machine<RadixMap<A>, A, L>>,
 }
 
 // The machine that is asked for. Its own faults come before want of memory for the bytes of files, and that before want of
 // memory for the machine.
-fn made<A: Allocator + Clone + Drop>(
+fn made<A: Allocator + Clone + Drop, L: Opening<A> + Drop>(
     alloc: &A,
     declaration: &Option<Declaration>,
-) -> Result<Machine<RadixMap<A>, A>, TraceFault>
+) -> Result<Machine<RadixMap<A>, A, L>, TraceFault>
     ensures ok { IfOk result (λ m. Opens (stage_of declaration.now None) (state m)) }
     ensures err { IfErr result (λ f. OpenFails (stage_of declaration.now None) f) }
 {
@@ -99,22 +104,22 @@ fn made<A: Allocator + Clone + Drop>(
 
 // What is told of a bad line at which a machine is to be made: why none can be, or else that the line is bad.
 #[tactic(auto, using(crate::proofs::Acting::late_err, crate::proofs::Acting::late_ok))]
-fn late_fault<A: Allocator + Clone + Drop>(
+fn late_fault<A: Allocator + Clone + Drop, L: Opening<A> + Drop>(
     alloc: &A,
     declaration: &Option<Declaration>,
     number: u64,
 ) -> TraceFault
     ensures { IfSome declaration.now (λ a. LateFails a number result) }
 {
-    match made(alloc, declaration) {
+    match made::<A, L>(alloc, declaration) {
         Ok(_) => TraceFault::BadLine(number),
         Err(fault) => fault,
     }
 }
 
-impl<A: Allocator + Clone + Drop> Replayer<A> {
+impl<A: Allocator + Clone + Drop, L: Opening<A> + Drop> Replayer<A, L> {
     /// A replay before the first line.
-    pub fn new(alloc: A) -> Replayer<A>
+    pub fn new(alloc: A) -> Replayer<A, L>
         ensures { ⟦<Self as Staged>⟧.stage result ≡ Start }
     {
         Replayer {
@@ -142,7 +147,7 @@ impl<A: Allocator + Clone + Drop> Replayer<A> {
             return Err(TraceFault::BadLine(number));
         }
         if self.declaration.is_some() {
-            return Err(late_fault(&self.alloc, &self.declaration, number));
+            return Err(late_fault::<A, L>(&self.alloc, &self.declaration, number));
         }
         self.declaration = Some(Declaration::new(cores, frames, calls));
         text.clear();
@@ -166,7 +171,7 @@ impl<A: Allocator + Clone + Drop> Replayer<A> {
         if first_word_is_file(line) {
             return TraceFault::BadLine(number);
         }
-        late_fault(&self.alloc, &self.declaration, number)
+        late_fault::<A, L>(&self.alloc, &self.declaration, number)
     }
 
     // Takes in the line of a file.
@@ -243,15 +248,18 @@ impl<A: Allocator + Clone + Drop> Replayer<A> {
     }
 }
 
-impl<A: Allocator + Clone + Drop> Staged for Replayer<A> {
+impl<A: Allocator + Clone + Drop, L: Opening<A> + Drop> Staged for Replayer<A, L> {
     ghost stage = { λ r. stage_of r.declaration (option_map state r.machine) };
+
+    ghost keeps = { L.keeps };
 
     #[tactic(auto, using(crate::proofs::Acting::event_failed))]
     fn act(&mut self, number: u64, line: &[u8], text: &mut LineText) -> Result<(), TraceFault> {
-        if !is_printable(line) {
+        let said = read_line(line);
+        if !is_printable_line(line, &said) {
             return Err(TraceFault::BadLine(number));
         }
-        let Some(said) = read_line(line) else {
+        let Some(said) = said else {
             return Err(self.fault_of_bad(number, line));
         };
         match said {
@@ -279,17 +287,17 @@ impl<A: Allocator + Clone + Drop> Staged for Replayer<A> {
     fn finish(&self) -> Result<(), TraceFault> {
         match &self.machine {
             Some(_) => Ok(()),
-            None => match made(&self.alloc, &self.declaration) {
+            None => match made::<A, L>(&self.alloc, &self.declaration) {
                 Ok(_) => Ok(()),
                 Err(fault) => Err(fault),
             },
         }
     }
 
-    fn log(&self) -> &[Entry] {
+    fn log(&self) -> Option<&[Entry]> {
         match &self.machine {
-            Some(machine) => machine.log(),
-            None => &[],
+            Some(machine) => machine.kept_log(),
+            None => Some(&[]),
         }
     }
 

@@ -188,6 +188,7 @@ impl<A: Allocator> LineReader<A> {
     /// before the first read, so whoever waits for it before they go on sees it. At an `Err` no
     /// byte is lost, and no newline is among the bytes held; where the writer failed, no read was
     /// made.
+    #[inline(always)]
     pub fn next_line<S: Source, W: Sink>(
         &mut self,
         reader: &mut S,

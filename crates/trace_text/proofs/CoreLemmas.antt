@@ -9,7 +9,7 @@ use Rattle.trace_text.specs.Line.{core_number, core_of}
 use Rattle.trace_text.specs.Spelling.{SpellsCore}
 use Rattle.trace_text.proofs.Choices.{chosen}
 
-one : (c : ℕ) → c < 10 → core_number ((48 + c) ∷ []) ≡ Some c
+pub one : (c : ℕ) → c < 10 → core_number ((48 + c) ∷ []) ≡ Some c
 one c h =
     let test : nat_le 48 (48 + c) && nat_le (48 + c) 57 ≡ true = grind (arith, nat_tests) in
     ap (λ b. cond b (Some (48 + c - 48)) None) test ∙ ap (λ n. Some n) (omega arith)

@@ -1,5 +1,5 @@
 -- The line of a file and its grammar.
-use Rattle.std.proofs.Common.{◌≡◌, inl, inr, ℕ, true, List, [], ◌∷◌, Some, codes, refl, sym, ap, ◌∙◌, subst}
+use Rattle.std.proofs.Common.{◌≡◌, inl, inr, ℕ, true, List, [], ◌∷◌, Some, codes, refl, ap, ◌∙◌, subst}
 use Rattle.std.specs.Str.{bytes_eq}
 use Rattle.std.proofs.lemmas.Slice.Eq.{bytes_eq-Decides}
 use Rattle.vm_base.specs.declared.rights.Mode.{Mode}
@@ -9,7 +9,7 @@ use Rattle.trace_text.proofs.RequestLemmas.{byte_all, byte_only}
 use Rattle.trace_text.proofs.SpellingLemmas.{number_all, number_only}
 use Rattle.trace_text.specs.Words.{Word, front_word}
 use Rattle.trace_text.specs.Number.{number_of}
-use Rattle.trace_text.specs.Request.{◌>>=◌, ended, byte_of}
+use Rattle.trace_text.specs.Request.{ended, byte_of}
 use Rattle.trace_text.specs.Spelling.{mode_text}
 use Rattle.trace_text.specs.Line.{mode_of, contents_of, file_of}
 use Rattle.trace_text.specs.Grammar.{Says}

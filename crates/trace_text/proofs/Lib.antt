@@ -4,8 +4,10 @@ pub mod FlagLemmas
 pub mod CoreLemmas
 pub mod FileLemmas
 pub mod LineLemmas
+pub mod PrintableLemmas
 pub mod RequestLemmas
 pub mod ActionLemmas
 pub mod PrintingLemmas
 pub mod NumberLemmas
+pub mod FrontLemmas
 pub mod WordLemmas

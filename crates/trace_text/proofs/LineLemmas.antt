@@ -67,7 +67,7 @@ acts w core rest k = elim (core_shape w core k) [
       ∙ ap (λ o. o >>= λ c. task_of c rest) (ap core_of (sym e) ∙ k))
 ]
 
-now_read : (w : Word) (core : ℕ) (rest : List Word) → core_of w ≡ Some core → line_of_words ((w ++ codes "!") ∷ rest) ≡ now_of w rest
+pub now_read : (w : Word) (core : ℕ) (rest : List Word) → core_of w ≡ Some core → line_of_words ((w ++ codes "!") ∷ rest) ≡ now_of w rest
 unfolding line_of_words event_of
 now_read w core rest k = elim (core_shape w core k) [
   | inl (d, e, h) ↦ subst (λ v. line_of_words ((v ++ codes "!") ∷ rest) ≡ now_of v rest) (sym e) refl

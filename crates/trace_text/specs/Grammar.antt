@@ -3,11 +3,11 @@ use Rattle.std.specs.Prelude.{◌≡◌, ℕ, ◌^◌, ◌<◌, ◌≤◌, decim
 use Rattle.vm_base.specs.declared.requests.Flags.{Flags}
 use Rattle.vm_base.specs.declared.requests.Request.{Request}
 use Rattle.vm_base.specs.declared.requests.Request.TheVariants.{Mmap, Munmap, Mprotect, Load, Store, Fetch}
-use Rattle.trace_text.specs.Words.{Word}
+use Rattle.trace_text.specs.Words.{Word, words_of}
 use Rattle.trace_text.specs.Number.{number_of}
 use Rattle.trace_text.specs.Printing.{address_of}
 use Rattle.trace_text.specs.Spelling.{SpellsNumber, SpellsPage, SpellsFlags, SpellsCore, mode_text, rights_text}
-use Rattle.trace_text.specs.Line.{line_of_words}
+use Rattle.trace_text.specs.Line.{are_printable, line_of_words}
 use Rattle.trace_text.specs.declared.action.Action.{Action}
 use Rattle.trace_text.specs.declared.action.Action.TheVariants.{Call, Go, Take, Flush, Review, GiveUp, Frame, Guess, Whole, Walk, Evict}
 use Rattle.trace_text.specs.declared.line.Line.{Line}
@@ -78,6 +78,11 @@ ReadsAll = (line : Line) (words : List Word) → Says line words → line_of_wor
 -- what is read is said
 abbrev pub ReadsOnly : Type 0
 ReadsOnly = (line : Line) (words : List Word) → line_of_words words ≡ Some line → Says line words
+
+-- and has no bytes but printable ones
+abbrev pub ReadsPrintable : Type 0
+ReadsPrintable = (line : Line) (bytes : List ℕ) → line_of_words (words_of bytes) ≡ Some line
+    → are_printable bytes ≡ true
 
 -- numbers and addresses that are printed are read back as themselves
 abbrev pub ReadsPrinted : Type 0

@@ -1,6 +1,7 @@
 pub mod Words
 pub mod Number
 pub mod Request
+pub mod Front
 pub mod Action
 pub mod Line
 pub mod Printing

@@ -123,6 +123,11 @@ line_of_words (name ∷ args) = if bytes_eq name (codes "vm") then space_of args
     else if bytes_eq name (codes "file") then file_of args
     else if bytes_eq name (codes "fold") then fold_of args else event_of name args
 
+-- the first byte is a #
+abbrev pub is_comment : List ℕ → Bool
+is_comment [] = false
+is_comment (b ∷ bs) = b == byte (codes "#")
+
 -- what printable bytes say; a line that begins with # says nothing
 abbrev pub line_of : List ℕ → Option Line
 line_of [] = line_of_words (words_of [])

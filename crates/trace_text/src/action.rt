@@ -3,7 +3,7 @@ ghost use Rattle.std.specs.Prelude.{◌≡◌};
 ghost use Rattle.trace_text.specs.Words.{words_of};
 ghost use Rattle.trace_text.specs.Action.{action_of, bare_of, call_of, evict_of, frame_of, guess_of, number_alone, page_alone, walk_of};
 
-use crate::number::read_number;
+use crate::number::next_number;
 use crate::request::read_request;
 use crate::words::next_word;
 use vm_base::{Request, page_of};
@@ -36,12 +36,11 @@ pub enum Action {
 }
 
 // The number that is the last word.
-#[tactic(auto, unfolding(crate::specs::Action::number_alone))]
+#[tactic(auto, using(crate::proofs::FrontLemmas::alone_by), unfolding(crate::specs::Action::number_alone))]
 fn read_number_alone(args: &[u8]) -> Option<u64>
     ensures { result ≡ number_alone (words_of args.now) }
 {
-    let (word, rest) = next_word(args)?;
-    let number = read_number(word)?;
+    let (number, rest) = next_number(args)?;
     if next_word(rest).is_some() {
         return None;
     }

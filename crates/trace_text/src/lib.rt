@@ -14,6 +14,8 @@ pub mod space_line;
 pub mod words;
 
 pub use action::Action;
-pub use line::{Line, first_word_is_file, first_word_is_vm, is_printable, read_line};
-pub use lists::{LineText, write_answer, write_detach, write_map_line};
-pub use printing::{ShortText, address_text, number_text, reply_text};
+pub use line::{
+    Line, first_word_is_file, first_word_is_vm, is_printable, is_printable_line, read_line,
+};
+pub use lists::{write_answer, write_detach, write_map_line};
+pub use printing::{LineText, ShortText, address_text, number_text, push_number, push_reply};

@@ -1,11 +1,13 @@
 //! What a line of a trace says.
-ghost use Rattle.std.specs.Prelude.{◌≡◌, option_map};
+ghost use Rattle.std.specs.Prelude.{◌≡◌, IfSome, option_map};
+ghost use Rattle.trace_text.specs.Front.{BeginsNow};
 ghost use Rattle.trace_text.specs.Words.{words_of};
-ghost use Rattle.trace_text.specs.Line.{are_printable, begins_with, begins_with_file, begins_with_vm, fold_of, line_of, line_of_words};
+ghost use Rattle.trace_text.specs.Line.{are_printable, begins_with, begins_with_file, begins_with_vm, fold_of, is_comment, line_of, line_of_words};
 
 use crate::action::{Action, read_page_alone};
 use crate::core_line::read_core_line;
 use crate::file_line::read_file;
+use crate::request::read_request;
 use crate::space_line::read_space;
 use crate::words::next_word;
 use vm_base::{CoreId, Mode, Request};
@@ -51,6 +53,29 @@ pub fn is_printable(bytes: &[u8]) -> bool
     printable
 }
 
+// Tells whether the line is a comment: its first byte is `#`.
+fn is_comment(bytes: &[u8]) -> bool
+    ensures { result ≡ is_comment bytes.now }
+{
+    match bytes {
+        [b'#', ..] => true,
+        _ => false,
+    }
+}
+
+/// Tells whether each byte of the line is printable, which says this, as `read_line` told. A line that
+/// is read has no other bytes, so only those of a comment or of a bad line are looked at.
+#[tactic(auto, using(crate::proofs::PrintableLemmas::line_printable))]
+pub fn is_printable_line(bytes: &[u8], said: &Option<Line>) -> bool
+    requires { said.now ≡ line_of bytes.now }
+    ensures { result ≡ are_printable bytes.now }
+{
+    if !is_comment(bytes) && said.is_some() {
+        return true;
+    }
+    is_printable(bytes)
+}
+
 // Tells whether this is the first word.
 fn first_word_is(bytes: &[u8], word: &[u8]) -> bool
     ensures { result ≡ begins_with word.now (words_of bytes.now) }
@@ -83,8 +108,21 @@ fn read_fold(args: &[u8]) -> Option<Line>
     Some(Line::Fold(page))
 }
 
+// A core of one digit that makes a call and finishes it, and the bytes of the call.
+#[inline(always)]
+fn front_now(bytes: &[u8]) -> Option<(CoreId, &[u8])>
+    ensures { IfSome result (λ f. BeginsNow bytes.now f.0 f.1.now) }
+{
+    match bytes {
+        [b'c', digit, b'!', b' ', args @ ..] if *digit >= b'0' && *digit <= b'9' => {
+            Some((CoreId::new(*digit - b'0'), args))
+        }
+        _ => None,
+    }
+}
+
 #[tactic(auto, unfolding(crate::specs::Line::line_of_words))]
-fn read_words(bytes: &[u8]) -> Option<Line>
+fn read_any(bytes: &[u8]) -> Option<Line>
     ensures { result ≡ line_of_words (words_of bytes.now) }
 {
     let Some((name, args)) = next_word(bytes) else {
@@ -101,13 +139,24 @@ fn read_words(bytes: &[u8]) -> Option<Line>
     }
 }
 
+// Most lines are known by their first bytes, and their first word isn't looked for.
+fn read_words(bytes: &[u8]) -> Option<Line>
+    ensures { result ≡ line_of_words (words_of bytes.now) }
+{
+    if let Some(begun) = front_now(bytes) {
+        let request = read_request(begun.1)?;
+        return Some(Line::Now(begun.0, request));
+    }
+    read_any(bytes)
+}
+
 /// What a line of printable bytes says, without its newline; `None` where it is a bad line. A line whose first
 /// byte is `#` is a comment.
 pub fn read_line(bytes: &[u8]) -> Option<Line>
     ensures { result ≡ line_of bytes.now }
 {
-    match bytes {
-        [b'#', ..] => Some(Line::Blank),
-        _ => read_words(bytes),
+    if is_comment(bytes) {
+        return Some(Line::Blank);
     }
+    read_words(bytes)
 }

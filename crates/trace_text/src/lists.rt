@@ -3,21 +3,8 @@ ghost use Rattle.std.specs.Prelude.{◌≡◌, ◌+◌, ◌≤◌, ◌++◌, dec
 ghost use Rattle.trace_text.specs.Lists.{answer_line, back_text, detach_line, file_text, map_line, start_of};
 ghost use Rattle.trace_text.specs.Spelling.{mark, rights_text};
 
-use crate::printing::{address_text, number_text, reply_text};
-use arrayvec::ArrayString;
+use crate::printing::{LineText, address_text, push_number, push_reply};
 use vm_base::{Back, PageRange, Prot, Reply};
-
-/// Room for one line of output.
-pub type LineText = ArrayString<256>;
-
-// Appends the number in decimal.
-fn push_number(text: &mut LineText, number: u64)
-    requires { length text.old.bytes + 20 ≤ 256 }
-    ensures bytes { text.new.bytes ≡ text.old.bytes ++ decimal number }
-    ensures short { length text.new.bytes ≤ length text.old.bytes + 20 }
-{
-    text.push_str(number_text(number).as_str());
-}
 
 // Appends the address at which the page begins. It may lie past 2^64: three digits of 0 behind those of the page's number are
 // 4096 times it.
@@ -99,7 +86,7 @@ pub fn write_answer(text: &mut LineText, step: u64, call: u64, reply: Reply)
     text.push_str(" call ");
     push_number(text, call);
     text.push_str(" ");
-    text.push_str(reply_text(reply).as_str());
+    push_reply(text, reply);
     text.push_str("\n");
 }
 

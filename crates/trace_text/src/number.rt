@@ -1,18 +1,29 @@
 //! Numbers in a trace: decimal digits, or `0x` and hexadecimal digits, below 2^64.
-ghost use Rattle.std.specs.Prelude.{◌≡◌, ◌<◌, ◌≤◌, length, option_map};
+ghost use Rattle.std.specs.Prelude.{◌≡◌, ◌^◌, ◌<◌, ◌≤◌, ◌∷◌, IfSome, Some, length, option_map, take};
 ghost use Rattle.trace_text.specs.Number.{digit_of, value_from, below_word, number_of};
+ghost use Rattle.trace_text.specs.Front.{EndsValue, front_number};
+ghost use Rattle.trace_text.specs.Words.{words_of};
+
+use crate::words::{next_word, trimmed};
 
 // What a digit stands for, in any base up to 16.
 #[inline(always)]
 fn digit(c: u8) -> Option<u64>
     ensures { result ≡ digit_of c }
 {
-    match c {
-        b'0'..=b'9' => Some(u64::from(c - b'0')),
-        b'a'..=b'f' => Some(u64::from(c - b'a' + 10)),
-        b'A'..=b'F' => Some(u64::from(c - b'A' + 10)),
-        _ => None,
+    let decimal = c.wrapping_sub(b'0');
+    if decimal < 10 {
+        return Some(u64::from(decimal));
     }
+    let lower = c.wrapping_sub(b'a');
+    if lower < 6 {
+        return Some(u64::from(lower) + 10);
+    }
+    let upper = c.wrapping_sub(b'A');
+    if upper < 6 {
+        return Some(u64::from(upper) + 10);
+    }
+    None
 }
 
 // The value of up to 16 digits, one or more, whose base is no greater than 16: it is below 2^64.
@@ -76,4 +87,69 @@ pub fn read_number(word: &[u8]) -> Option<u64>
         }
         _ => value(word, 10),
     }
+}
+
+// How many of the first 16 bytes are digits of the base, up to the first that is none, and their
+// value.
+#[inline(always)]
+fn front_value(bytes: &[u8], base: u64) -> (u64, usize)
+    requires { base ≤ 16 }
+    ensures within { result.1 ≤ length bytes.now }
+    ensures fits { result.0 < 2 ^ 64 }
+    ensures value { value_from base 0 (take result.1 bytes.now) ≡ Some result.0 }
+{
+    let most = bytes.len().min(16);
+    let mut number = 0u64;
+    let mut count = 0;
+    while count < most {
+        match digit(bytes[count]) {
+            Some(d) if d < base => number = number * base + d,
+            _ => return (number, count),
+        }
+        count += 1;
+    }
+    (number, count)
+}
+
+// The value of the digits up to the first space, and what begins there; `None` where other bytes stand
+// before it, or more than 16 digits.
+#[inline(always)]
+fn ended_value(digits: &[u8], base: u64) -> Option<(u64, &[u8])>
+    requires { base ≤ 16 }
+    ensures { IfSome result (λ f. EndsValue base digits.now f.0 f.1.now) }
+{
+    let (number, count) = front_value(digits, base);
+    let (_, rest) = digits.split_at(count);
+    if count > 0 && (rest.is_empty() || rest[0] == b' ') {
+        return Some((number, rest));
+    }
+    None
+}
+
+// The bytes behind `0x`, where these stand at the front.
+#[inline(always)]
+fn hexadecimal_digits(word: &[u8]) -> Option<&[u8]>
+    ensures { IfSome result (λ digits. word.now ≡ 48 ∷ 120 ∷ digits.now) }
+{
+    match word {
+        [b'0', b'x', digits @ ..] => Some(digits),
+        _ => None,
+    }
+}
+
+/// The number that the first word spells, and the bytes after it. Up to 16 digits are read once, from left to right.
+pub fn next_number(bytes: &[u8]) -> Option<(u64, &[u8])>
+    ensures { option_map (λ f. (f.0, words_of f.1.now)) result ≡ front_number (words_of bytes.now) }
+{
+    let word = trimmed(bytes);
+    let short = match hexadecimal_digits(word) {
+        Some(digits) => ended_value(digits, 16),
+        None => ended_value(word, 10),
+    };
+    if short.is_some() {
+        return short;
+    }
+    let (word, rest) = next_word(word)?;
+    let number = read_number(word)?;
+    Some((number, rest))
 }

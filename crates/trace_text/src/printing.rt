@@ -1,4 +1,4 @@
-//! What numbers, addresses and replies are written as, in short texts that take no memory.
+//! What numbers, addresses and replies are written as, in texts of fixed size that take no memory.
 ghost use Rattle.std.specs.Prelude.{◌≡◌, ◌+◌, ◌<◌, ◌≤◌, ◌++◌, false, length, decimal, map};
 ghost use Rattle.std.specs.Fmt.{digit_glyph};
 ghost use Rattle.std.specs.Int.Digits.{digits_of};
@@ -8,8 +8,11 @@ ghost use Rattle.trace_text.specs.Printing.{address_of, refusal_of, text_of};
 use arrayvec::ArrayString;
 use vm_base::{Errno, Reply, SegvCode};
 
-/// A text of at most 20 bytes: each number below 2^64 fits, each address and each reply.
+/// A text of at most 20 bytes: each number below 2^64 fits, and each address.
 pub type ShortText = ArrayString<20>;
+
+/// Room for one line of output.
+pub type LineText = ArrayString<256>;
 
 // The character of a hexadecimal digit, in lower case.
 fn digit_character(digit: u8) -> char
@@ -59,14 +62,16 @@ pub fn address_text(address: u64) -> ShortText
     text
 }
 
-// A text of a few letters.
-fn word_text(word: &str) -> ShortText
-    requires { length word.now ≤ 20 }
-    ensures { result.bytes ≡ word.now }
+/// Appends the number, as `number_text` has it.
+#[inline(always)]
+pub fn push_number(text: &mut LineText, number: u64)
+    requires { length text.old.bytes + 20 ≤ 256 }
+    ensures bytes { text.new.bytes ≡ text.old.bytes ++ decimal number }
+    ensures short { length text.new.bytes ≤ length text.old.bytes + 20 }
 {
-    let mut text = ShortText::new();
-    text.push_str(word);
-    text
+    let mut buffer = itoa::Buffer::new();
+    let digits = buffer.format(number);
+    text.push_str(digits);
 }
 
 fn refusal_word(errno: Errno) -> &'static str
@@ -82,19 +87,22 @@ fn refusal_word(errno: Errno) -> &'static str
     }
 }
 
-/// The reply as a trace's output has it: an address, a byte in decimal, or words in lower case, without a newline.
-pub fn reply_text(reply: Reply) -> ShortText
-    ensures { result.bytes ≡ text_of reply }
+/// Appends the reply as a trace's output has it: an address, a byte in decimal, or words in lower case, without a newline.
+#[inline(always)]
+pub fn push_reply(text: &mut LineText, reply: Reply)
+    requires { length text.old.bytes + 20 ≤ 256 }
+    ensures bytes { text.new.bytes ≡ text.old.bytes ++ text_of reply }
+    ensures short { length text.new.bytes ≤ length text.old.bytes + 20 }
 {
     match reply {
-        Reply::Mapped(address) => address_text(address),
-        Reply::Done => word_text("done"),
-        Reply::Byte(byte) => number_text(byte as u64),
-        Reply::Refused(errno) => word_text(refusal_word(errno)),
-        Reply::Segv(SegvCode::MapErr) => word_text("segv maperr"),
-        Reply::Segv(SegvCode::AccErr) => word_text("segv accerr"),
-        Reply::Bus => word_text("bus"),
-        Reply::NoFrame => word_text("noframe"),
-        Reply::NoMemory => word_text("nomemory"),
+        Reply::Mapped(address) => text.push_str(address_text(address).as_str()),
+        Reply::Done => text.push_str("done"),
+        Reply::Byte(byte) => push_number(text, u64::from(byte)),
+        Reply::Refused(errno) => text.push_str(refusal_word(errno)),
+        Reply::Segv(SegvCode::MapErr) => text.push_str("segv maperr"),
+        Reply::Segv(SegvCode::AccErr) => text.push_str("segv accerr"),
+        Reply::Bus => text.push_str("bus"),
+        Reply::NoFrame => text.push_str("noframe"),
+        Reply::NoMemory => text.push_str("nomemory"),
     }
 }

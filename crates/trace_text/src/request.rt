@@ -1,10 +1,11 @@
 //! Requests as words: `mmap`, `munmap`, `mprotect`, `load`, `store` and `fetch`.
-ghost use Rattle.std.specs.Prelude.{◌≡◌, ◌<◌, ◌≤◌, ◌==◌, option_map, length};
+ghost use Rattle.std.specs.Prelude.{◌≡◌, ◌<◌, ◌≤◌, ◌==◌, ◌++◌, IfSome, codes, option_map, length};
 ghost use Rattle.trace_text.specs.Words.{words_of};
 ghost use Rattle.trace_text.specs.Request.{backed_of, byte_of, fetch_of, flag_more, flags_of, load_of, mark_of, mmap_of, mprotect_of, munmap_of, prot_of, protected_of, request_of, store_of};
+ghost use Rattle.trace_text.specs.Front.{stored_of};
 
-use crate::number::read_number;
-use crate::words::next_word;
+use crate::number::{next_number, read_number};
+use crate::words::{next_word, trimmed};
 use vm_base::{Flags, Prot, Request};
 
 const NO_FLAGS: Flags = Flags {
@@ -172,30 +173,36 @@ fn read_mprotect(args: &[u8]) -> Option<Request>
     read_protected(addr, len, rest)
 }
 
-#[tactic(auto, unfolding(crate::specs::Request::load_of))]
+#[tactic(auto, using(crate::proofs::FrontLemmas::load_by), unfolding(crate::specs::Request::load_of))]
 fn read_load(args: &[u8]) -> Option<Request>
     ensures { result ≡ load_of (words_of args.now) }
 {
-    let (addr, rest) = next_word(args)?;
-    let addr = read_number(addr)?;
+    let (addr, rest) = next_number(args)?;
     if next_word(rest).is_some() {
         return None;
     }
     Some(Request::Load { addr })
 }
 
-#[tactic(auto, unfolding(crate::specs::Request::store_of))]
-fn read_store(args: &[u8]) -> Option<Request>
-    ensures { result ≡ store_of (words_of args.now) }
+// The byte, as the last word.
+#[tactic(auto, unfolding(crate::specs::Front::stored_of))]
+fn read_stored(addr: u64, args: &[u8]) -> Option<Request>
+    ensures { result ≡ stored_of addr (words_of args.now) }
 {
-    let (addr, rest) = next_word(args)?;
-    let addr = read_number(addr)?;
-    let (value, rest) = next_word(rest)?;
+    let (value, rest) = next_word(args)?;
     let byte = read_byte(value)?;
     if next_word(rest).is_some() {
         return None;
     }
     Some(Request::Store { addr, byte })
+}
+
+#[tactic(auto, using(crate::proofs::FrontLemmas::store_by), unfolding(crate::specs::Request::store_of))]
+fn read_store(args: &[u8]) -> Option<Request>
+    ensures { result ≡ store_of (words_of args.now) }
+{
+    let (addr, rest) = next_number(args)?;
+    read_stored(addr, rest)
 }
 
 #[tactic(auto, unfolding(crate::specs::Request::fetch_of))]
@@ -210,10 +217,32 @@ fn read_fetch(args: &[u8]) -> Option<Request>
     Some(Request::Fetch { addr })
 }
 
-/// The request that the words say, its name first; `None` where they say none. Addresses, lengths and offsets
-/// are in bytes. Nothing but the form is tested: what a request asks for may still be refused.
+// What stands behind `load` and a space.
+#[inline(always)]
+fn behind_load(bytes: &[u8]) -> Option<&[u8]>
+    ensures { IfSome result (λ args. bytes.now ≡ codes "load " ++ args.now) }
+{
+    match bytes {
+        [b'l', b'o', b'a', b'd', b' ', args @ ..] => Some(args),
+        _ => None,
+    }
+}
+
+// What stands behind `store` and a space.
+#[inline(always)]
+fn behind_store(bytes: &[u8]) -> Option<&[u8]>
+    ensures { IfSome result (λ args. bytes.now ≡ codes "store " ++ args.now) }
+{
+    match bytes {
+        [b's', b't', b'o', b'r', b'e', b' ', args @ ..] => Some(args),
+        _ => None,
+    }
+}
+
+// The request that the words say, whichever it is.
+#[inline(never)]
 #[tactic(auto, unfolding(crate::specs::Request::request_of))]
-pub fn read_request(words: &[u8]) -> Option<Request>
+fn read_any(words: &[u8]) -> Option<Request>
     ensures { result ≡ request_of (words_of words.now) }
 {
     let (name, args) = next_word(words)?;
@@ -232,4 +261,21 @@ pub fn read_request(words: &[u8]) -> Option<Request>
     } else {
         None
     }
+}
+
+/// The request that the words say, its name first; `None` where they say none. Addresses, lengths and offsets
+/// are in bytes. Nothing but the form is tested: what a request asks for may still be refused. The commonest are known by the
+/// bytes that they begin with, and their names aren't looked for.
+#[tactic(auto, using(crate::proofs::FrontLemmas::load_named, crate::proofs::FrontLemmas::store_named))]
+pub fn read_request(words: &[u8]) -> Option<Request>
+    ensures { result ≡ request_of (words_of words.now) }
+{
+    let bytes = trimmed(words);
+    if let Some(args) = behind_load(bytes) {
+        return read_load(args);
+    }
+    if let Some(args) = behind_store(bytes) {
+        return read_store(args);
+    }
+    read_any(bytes)
 }

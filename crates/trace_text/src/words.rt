@@ -30,6 +30,14 @@ fn word_length(bytes: &[u8]) -> usize
     bytes.len()
 }
 
+/// The bytes from the first word on, none where there is no word.
+pub fn trimmed(bytes: &[u8]) -> &[u8]
+    ensures { words_of result.now ≡ words_of bytes.now }
+{
+    let (_, rest) = bytes.split_at(space_count(bytes));
+    rest
+}
+
 /// The first word, and the bytes after it.
 pub fn next_word(bytes: &[u8]) -> Option<(&[u8], &[u8])>
     ensures { option_map (λ f. (f.0.now, words_of f.1.now)) result ≡ front_word (words_of bytes.now) }

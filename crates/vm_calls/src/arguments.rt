@@ -95,6 +95,7 @@ fn touched(addr: u64, access: Access, byte: u8) -> Result<Plan, Reply>
 /// order of the tests is this project's), `Done` for an `mprotect` of length 0, and `Segv(MapErr)`
 /// for an access to an invalid page. Any request may be asked for; sums of addresses and lengths
 /// don't wrap.
+#[inline(always)]
 pub fn check<A: Allocator>(
     objects: &Objects<A>,
     core: CoreId,

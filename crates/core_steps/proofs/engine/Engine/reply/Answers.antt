@@ -5,7 +5,7 @@ use Rattle.core_steps.proofs.engine.Engine.reply.Goals as goal
 pub invariant_of-self : goal.invariant_of-self
 invariant_of-self g c =
     let calls = c.args.self.now.calls in
-    let logged = room_kept calls.log.items.items _ _ calls.log.limit _ calls.requests.limit calls.logged c.push.ensures.items
+    let logged = room_kept (g.L.Ledger.entries calls.log) _ _ (g.L.Ledger.limit calls.log) _ calls.requests.limit calls.logged c.push.ensures.items
     (ap (λ n. n + 1) c.push.ensures.limit) in (
       (calls.numbered, (calls.few, (logged, tt))),
       (c.args.self.now.same_cores, tt),

@@ -1,0 +1,149 @@
+#!/usr/bin/env bash
+# Writes the trace of one shape to standard output, of so many lines (its own count where left out; a shape may end its last round a
+# few lines later, and touches and sparse pages have one count). What is drawn comes from one generator of fixed seed (Lehmer's), so
+# the text is always the same. Usage: bench/make_shape.sh NAME [LINES], or bench/make_shape.sh for the list of names and their counts.
+set -eu
+cd "$(dirname "$0")"
+
+# Each shape, its number of lines, and what it does.
+shapes='one-core 1000000 one core maps 1,000 pages one by one, stores and loads, and now and then maps one anew
+four-cores 1000000 four cores share 384 pages: misses, evictions, shootdowns, flushes and reviews
+hits-one 1000000 stores and loads on one page, which the TLB has
+hits-thousand 1000000 stores and loads over 1,000 pages, of which the TLB has 64
+touch-upwards 65002 each of 65,000 pages loaded for the first time, from the first on
+touch-random 65002 the same in random order
+map-one 500000 one page mapped and unmapped
+map-thousand 20000 1,000 pages mapped and unmapped
+map-overlap 200000 ranges of up to 200 pages mapped and unmapped where others lie
+protect 200000 mprotect of up to 64 pages, and an access to one of them
+refused 500000 accesses that the rights forbid, or of unmapped pages
+faults 500000 accesses that fault on pages that have a frame, after mprotect
+files-sixteen 100000 loads through 16 files of 1 MiB, which one core maps shared and another privately
+files-shared 500000 two cores store and load through four files of 1 MiB
+files-private 200000 two cores read private pages of a file, and one stores: shootdown and copy
+sparse 30001 10,000 pages 1,000 apart mapped, stored to, and loaded from'
+
+[ $# -gt 0 ] || { echo "$shapes"; exit; }
+default=$(awk -v name="$1" '$1 == name { print $2 }' <<< "$shapes")
+[ -n "$default" ] || { echo "bench/make_shape.sh: no shape $1" >&2; exit 2; }
+lines=${2:-$default}
+case $1 in
+    one-core) exec ./make_trace.sh "$lines" ;;
+    four-cores) exec ./make_trace_four.sh "$lines" ;;
+    files-sixteen) exec ./make_trace_files.sh "$lines" ;;
+esac
+awk -v shape="$1" -v lines="$lines" '
+function draw(n) { seed = (seed * 16807) % 2147483647; return int(seed / 8) % n }
+function emit(line) { print line; count++ }
+# In two parts, since some awks write no number of more than 32 bits.
+function at(page, offset) { return sprintf("0x%x%03x", 16 + page, offset) }
+function map(page, pages, prot) { emit("c0! mmap " at(page, 0) " " pages * 4096 " " prot " pfa") }
+function unmap(page, pages) { emit("c0! munmap " at(page, 0) " " pages * 4096) }
+function load(core, page) { emit("c" core "! load " at(page, count % 4096)) }
+function store(core, page) { emit("c" core "! store " at(page, count % 4096) " " count % 256) }
+function access(core, page) { if (count % 3) load(core, page); else store(core, page) }
+
+function hits(pages) {
+    emit("vm 1 1024 1048576")
+    map(0, pages, "rw-")
+    while (count < lines) access(0, (count * 7919) % pages)
+}
+function touches(pages, is_shuffled,    i, j, other) {
+    emit("vm 1 65536 1048576")
+    map(0, pages, "rw-")
+    for (i = 0; i < pages; i++) order[i] = i
+    for (i = pages - 1; i > 0 && is_shuffled; i--) {
+        j = draw(i + 1); other = order[i]; order[i] = order[j]; order[j] = other
+    }
+    for (i = 0; i < pages; i++) load(0, order[i])
+}
+function cycles(pages,    page) {
+    emit("vm 1 1024 1048576")
+    while (count < lines) { page = draw(2048); map(page, pages, "rw-"); unmap(page, pages) }
+}
+function overlaps(    page, pages) {
+    emit("vm 1 1024 1048576")
+    while (count < lines) {
+        page = draw(4096); pages = 1 + draw(200)
+        if (draw(5) < 3) map(page, pages, draw(2) ? "rw-" : "r--"); else unmap(page, pages)
+    }
+}
+function protects(    i, page, pages) {
+    emit("vm 1 8192 1048576")
+    map(0, 4096, "rw-")
+    for (i = 0; i < 4096; i += 2) store(0, i)
+    split("r-- rw- rwx ---", prots, " ")
+    while (count < lines) {
+        page = draw(4096 - 64); pages = 1 + draw(64)
+        emit("c0! mprotect " at(page, 0) " " pages * 4096 " " prots[1 + draw(4)])
+        access(0, page + draw(pages))
+    }
+}
+function refusals(    page) {
+    emit("vm 1 1024 1048576")
+    map(0, 250, "r--"); map(250, 250, "rw-"); map(500, 250, "---")
+    for (page = 0; page < 500; page += 2) load(0, page)
+    while (count < lines) {
+        page = draw(250)
+        if (count % 5 == 0) store(0, page)
+        else if (count % 5 == 1) emit("c0! fetch " at(250 + page, 0))
+        else if (count % 5 == 2) load(0, 500 + page)
+        else if (count % 5 == 3) load(0, 750 + page)
+        else emit("c0! load " (page % 2 ? "0x10" : "0x800000000000"))
+    }
+}
+function faults(    i) {
+    emit("vm 1 1024 1048576")
+    map(0, 1000, "rw-")
+    for (i = 0; i < 1000; i++) store(0, i)
+    while (count < lines) {
+        emit("c0! mprotect " at(0, 0) " " 1000 * 4096 " rw-")
+        for (i = 0; i < 1000; i++) access(0, (i * 389) % 1000)
+    }
+}
+function shared_files(    file) {
+    emit("vm 2 4096 1048576")
+    for (file = 0; file < 4; file++) emit("file " file " rw 1048576 " file * 7)
+    for (file = 0; file < 4; file++) emit("c0! mmap " at(file * 256, 0) " 1048576 rw- sf " file " 0")
+    while (count < lines) access(draw(2), draw(1024))
+}
+# Core 0 maps 64 pages anew, which core 1 had used; both read them; core 0 stores to every other one, for which it gets a copy.
+function private_round(round,    page) {
+    emit("c0! mmap " at(0, 0) " 262144 rw- pf 0 " (round % 4) * 262144)
+    if (round) { emit("c1 take"); emit("c1 take"); emit("c0 finish") }
+    for (page = 0; page < 64; page++) { load(0, page); load(1, page) }
+    for (page = 0; page < 64; page += 2) { store(0, page); emit("c1 take"); emit("c1 take"); emit("c0 finish"); load(1, page) }
+}
+# The counts of both cores are flushed, two epochs end, and the lost frames come back.
+function give_back(    i) {
+    for (i = 0; i < 66; i++) { emit("c0 flush"); emit("c1 flush") }
+    for (i = 0; i < 2; i++) { emit("c0 flush"); emit("c1 flush") }
+    for (i = 0; i < 560; i++) emit("c0 review")
+}
+function private_files(    round) {
+    emit("vm 2 4096 1048576")
+    emit("file 0 rw 1048576 3")
+    for (round = 0; count < lines; round++) { private_round(round); if (round % 16 == 15) give_back() }
+}
+function sparse(pages,    i) {
+    emit("vm 1 65536 1048576")
+    for (i = 0; i < pages; i++) map(i * 1000, 1, "rw-")
+    for (i = 0; i < pages; i++) store(0, i * 1000)
+    for (i = 0; i < pages; i++) load(0, (i * 7919) % pages * 1000)
+}
+BEGIN {
+    seed = 20131
+    if (shape == "hits-one") hits(1)
+    if (shape == "hits-thousand") hits(1000)
+    if (shape == "touch-upwards") touches(65000, 0)
+    if (shape == "touch-random") touches(65000, 1)
+    if (shape == "map-one") cycles(1)
+    if (shape == "map-thousand") cycles(1000)
+    if (shape == "map-overlap") overlaps()
+    if (shape == "protect") protects()
+    if (shape == "refused") refusals()
+    if (shape == "faults") faults()
+    if (shape == "files-shared") shared_files()
+    if (shape == "files-private") private_files()
+    if (shape == "sparse") sparse(10000)
+}'

@@ -1,0 +1,28 @@
+//! Tests of the whole, over the tree of slots and over the list of runs: `row_tests` compares the
+//! tables of `rows`, also with memory that is refused (`starved`), `random_tests` compares random
+//! traces, and `stream_tests` has reads and writes that fail. `run_tests` has whole lists of events
+//! and heaps that are too small, and `replay_tests` the texts of outcomes and a replay's flushes.
+#![tactic(auto)]
+
+#[cfg(test)]
+mod by_hand;
+#[cfg(test)]
+mod machines;
+#[cfg(test)]
+mod random;
+#[cfg(test)]
+mod random_tests;
+#[cfg(test)]
+mod replay_tests;
+#[cfg(test)]
+mod row_tests;
+#[cfg(test)]
+mod rows;
+#[cfg(test)]
+mod run_tests;
+#[cfg(test)]
+mod starved;
+#[cfg(test)]
+mod stream_tests;
+#[cfg(test)]
+mod table;

@@ -1,0 +1,91 @@
+-- Events of a core that is ready for one
+use Rattle.std.proofs.Common.{◌≡◌, ℕ, suc, ◌+◌, ◌<◌, Bool, true, false, nat_lt, Option, Some, refl, sym, subst, arith, Result, Ok, Err}
+use Rattle.std.specs.Prelude.{◌≢◌, IfOk, OnErr}
+use Rattle.vm_base.specs.declared.memory.NoMemory.{NoMemory}
+use Rattle.core_steps.specs.declared.machine.Finished.{Finished}
+use Rattle.std.proofs.Math.Logic.{∥∥₁_map}
+use Rattle.std.proofs.lemmas.Bool.Decides.{nat_tests}
+use Rattle.vm_base.specs.declared.replies.Reply.{Reply}
+use Rattle.vm_base.specs.declared.requests.Request.{Request}
+use Rattle.machine_model.specs.declared.event.Event.{Event}
+use Rattle.machine_model.specs.declared.event.Event.TheVariants.{Call, Go}
+use Rattle.machine_model.specs.declared.event.Outcome.TheVariants.{Answered, Full, Idle, Stepped, Wait}
+use Rattle.machine_model.specs.declared.phase.Phase.{Phase}
+use Rattle.core_steps.specs.declared.machine.Finished.TheVariants.{Last}
+use Rattle.core_steps.specs.Finishing.{Calls, Finishes, IsCallRefused, IsRefused}
+use Rattle.machine_model.specs.declared.event.Outcome.{Outcome}
+use Rattle.machine_model.specs.Events.{core_of}
+use Rattle.machine_model.specs.World.{World}
+use Rattle.machine_model.specs.Step.{Acts, Goes, Step, StepsTo, event_limit, is_here, with_event}
+use Rattle.machine_laws.proofs.Shapes.{Comes, stopped, acts, comes}
+use Rattle.machine_sound.proofs.Kept.{reached_step}
+use Rattle.core_steps.specs.AtOnce.{IsReady, TakesOne}
+use Rattle.core_steps.proofs.Limits.{shape_kept, step_made}
+use Rattle.core_steps.proofs.Rows.{if_true, counted as one_more}
+
+less : (n m : ℕ) → n < m → nat_lt n m ≡ true
+less n m h = grind (arith, nat_tests)
+
+counted : (w v : World) (e : Event) (o : Outcome) → w.calls.events < event_limit → Step w e o v → v.calls.events ≡ suc w.calls.events
+counted w v e o below s = go (comes w e o v s)
+  where
+    go : Comes w e o v → v.calls.events ≡ suc w.calls.events
+    go (stopped n i h) = absurd (let yes = less w.calls.events event_limit below in cc)
+    go (acts n shape) = (shape_kept (with_event w) e o v shape).1
+
+-- the event of a core that is ready is counted, and leaves a state that runs reach
+pub takes_one : (w v : World) (c : ℕ) (e : Event) (o : Outcome) → IsReady w c → core_of e ≡ Some c
+    → Acts (record w { calls = record w.calls { events = w.calls.events + 1 } }) e o v → TakesOne w e o v
+takes_one w v c e o ready k a = record {
+  step = s;
+  reached = ∥∥₁_map ready.reached (λ h. reached_step w v e o h s);
+  made = step_made w e o v s;
+  counted = counted w v e o ready.below s;
+}
+  where
+    s : Step w e o v
+    s = if_true (nat_lt w.calls.events event_limit) _ _ (less w.calls.events event_limit ready.below)
+        (if_true (is_here w.made (core_of e)) _ _ (subst (λ d. is_here w.made d ≡ true) (sym k) (less c w.made.cores ready.here)) (one_more w v e o a))
+
+-- a step of its call, which is in this phase
+pub goes_one : (w v : World) (c : ℕ) (phase : Phase) (o p : Outcome) → IsReady w c → w.calls.phase c ≡ phase → o ≡ p
+    → Goes (record w { calls = record w.calls { events = w.calls.events + 1 } }) c phase o v → TakesOne w (Go c) p v
+goes_one w v c phase o p ready e k a =
+    subst (λ q. TakesOne w (Go c) q v) k
+    (takes_one w v c (Go c) o ready refl
+    (subst (λ q. Goes (record w { calls = record w.calls { events = w.calls.events + 1 } }) c q o v) (sym e) a))
+
+-- ---- a call, and steps of it that were made at once
+
+pub after_one : {m v : World} {c : ℕ} → TakesOne m (Go c) Stepped v → StepsTo m c 1 v
+after_one {m} {v} {c} t = (m, refl, t.step)
+
+pub after_two : {m n v : World} {c : ℕ} → TakesOne m (Go c) Stepped n → TakesOne n (Go c) Stepped v → StepsTo m c 2 v
+after_two {m} {n} {v} {c} t u = (n, (m, refl, t.step), u.step)
+
+pub answered : {w m n x v : World} {c : ℕ} {request : Request} {reply : Reply} → TakesOne w (Call c request) Stepped m → TakesOne m (Go c) Stepped n
+    → TakesOne n (Go c) Stepped x → TakesOne x (Go c) (Answered reply) v → Calls w c request (Last (Answered reply)) v
+answered {w} {m} {n} {x} {v} {c} {request} {reply} b k t a =
+    (Stepped, m, b.step, (2, (omega arith, (λ e. cc), (x, after_two k t, a.step))))
+
+pub as_stepped : {w v : World} {e : Event} {o : Outcome} → TakesOne w e o v → o ≡ Stepped → TakesOne w e Stepped v
+as_stepped {w} {v} {e} {o} t k = subst (λ p. TakesOne w e p v) k t
+
+-- ---- a call that is begun by itself
+
+pub goes_on : (r : Result Finished NoMemory) (o : Outcome) (w m v : World) (c : ℕ) (request : Request) → o ≡ Stepped → Step w (Call c request) o m
+    → IfOk r (λ f. (was : World) → StepsTo was c 0 m → Finishes was c f v) → IfOk r (λ f. Calls w c request f v)
+goes_on (Ok f) o w m v c request e s h = (Stepped, m, subst (λ p. Step w (Call c request) p m) e s, h m refl)
+goes_on (Err x) o w m v c request e s h = tt
+
+pub goes_refused : (r : Result Finished NoMemory) (o : Outcome) (w m v : World) (c : ℕ) (request : Request) → o ≡ Stepped → Step w (Call c request) o m
+    → OnErr r ((was : World) → StepsTo was c 0 m → IsRefused was c v) → OnErr r (IsCallRefused w c request v)
+goes_refused (Ok f) o w m v c request e s h = tt
+goes_refused (Err x) o w m v c request e s h = (m, subst (λ p. Step w (Call c request) p m) e s, h m refl)
+
+pub not_begun : (o : Outcome) (w m : World) (c : ℕ) (request : Request) → o ≢ Stepped → Step w (Call c request) o m → Calls w c request (Last o) m
+not_begun Stepped w m c request n s = absurd (n refl)
+not_begun (Wait b) w m c request n s = (Wait b, m, s, (refl, refl))
+not_begun Idle w m c request n s = (Idle, m, s, (refl, refl))
+not_begun (Answered reply) w m c request n s = (Answered reply, m, s, (refl, refl))
+not_begun Full w m c request n s = (Full, m, s, (refl, refl))

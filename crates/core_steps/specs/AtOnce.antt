@@ -1,0 +1,34 @@
+-- What is done of a call at once: its event, and those of its first steps
+use Rattle.std.specs.Prelude.{◌≡◌, ℕ, suc, ◌<◌}
+use Rattle.vm_base.specs.declared.requests.Request.{Request}
+use Rattle.machine_model.specs.declared.event.Event.{Event}
+use Rattle.machine_model.specs.declared.event.Event.TheVariants.{Call}
+use Rattle.machine_model.specs.declared.event.Outcome.{Outcome}
+use Rattle.machine_model.specs.declared.event.Outcome.TheVariants.{Stepped}
+use Rattle.machine_model.specs.World.{World}
+use Rattle.machine_model.specs.Step.{Step, StepsTo, event_limit}
+use Rattle.machine_sound.specs.Sound.{IsReached}
+use Rattle.core_steps.specs.Finishing.{Calls, finish_limit}
+use Rattle.core_steps.specs.declared.machine.Finished.TheVariants.{Last}
+use Rattle.core_steps.specs.declared.starting.Started.{Started}
+use Rattle.core_steps.specs.declared.starting.Started.TheVariants.{Untouched, Begun, Ended}
+
+-- one event more can be counted, and the core is the machine's
+pub record IsReady (w : World) (core : ℕ) : Type 0 where
+  pub reached : ∥ IsReached w ∥₁
+  pub below : w.calls.events < event_limit
+  pub here : core < w.made.cores
+
+-- the event came to this, and was counted
+pub record TakesOne (w : World) (e : Event) (o : Outcome) (v : World) : Type 0 where
+  pub step : Step w e o v
+  pub reached : ∥ IsReached v ∥₁
+  pub made : v.made ≡ w.made
+  pub counted : v.calls.events ≡ suc w.calls.events
+
+-- how far a call has come that was begun with its first steps
+abbrev pub Starts : World → ℕ → Request → Started → World → Type 0
+Starts w core request Untouched v = v ≡ w
+Starts w core request (Begun steps) v = (steps < finish_limit)
+    × ((m : World) × Step w (Call core request) Stepped m × StepsTo m core steps v)
+Starts w core request (Ended o) v = Calls w core request (Last o) v

@@ -1,0 +1,210 @@
+-- Numbers at the front of the bytes.
+use Rattle.std.proofs.Common.{inl, inr, ◌≡◌, ◌≢◌, ℕ, zero, suc, ◌+◌, ◌*◌, ◌^◌, ◌<◌, ◌≤◌, Bool, true, false, cond, eqb, ltb, List, [], ◌∷◌, ◌++◌, length, take, drop, get_or, Option, Some, None, arith, refl, sym, ap, ◌∙◌, subst, length-take-le}
+use Rattle.std.proofs.Math.Nat.{mul-le-mul_left, pow-suc}
+use Rattle.std.proofs.lemmas.List.{get_or-take, take_more}
+use Rattle.std.proofs.lemmas.Bool.Decides.{nat_tests}
+use Rattle.std.specs.Prelude.{option_and_then, option_map, IfSome, is_some, ◌&&◌, codes}
+use Rattle.trace_text.specs.Words.{Word, words_of, front_word}
+use Rattle.trace_text.specs.Number.{digit_of, value_from, below_word, number_of}
+use Rattle.trace_text.specs.Request.{◌>>=◌, ended, byte_of, load_of, store_of, request_of}
+use Rattle.trace_text.specs.Front.{BeginsNow, EndsValue, front_number, stored_of}
+use Rattle.trace_text.specs.Line.{line_of_words, now_of}
+use Rattle.trace_text.specs.declared.line.Line.TheVariants.{Now}
+use Rattle.trace_text.proofs.CoreLemmas.{one}
+use Rattle.trace_text.proofs.LineLemmas.{now_read}
+use Rattle.trace_text.specs.Action.{number_alone}
+use Rattle.trace_text.proofs.Choices.{chosen}
+use Rattle.trace_text.proofs.WordLemmas.{words-front}
+use Rattle.vm_base.specs.declared.requests.Request.{Request}
+use Rattle.vm_base.specs.declared.requests.Request.TheVariants.{Load, Store}
+
+-- ---- values, digit by digit
+
+ltb-yes : (a b : ℕ) → a < b → ltb a b ≡ true
+ltb-yes a b h = grind (arith, nat_tests)
+
+-- a digit behind others
+value_snoc : (base m : ℕ) (xs : List ℕ) (c n d : ℕ) → value_from base m xs ≡ Some n → digit_of c ≡ Some d → d < base
+    → value_from base m (xs ++ c ∷ []) ≡ Some (n * base + d)
+value_snoc base m [] c n d e is low =
+    let same : m ≡ n = cc in
+    ap (option_and_then (λ y. cond (ltb y base) (Some (m * base + y)) None)) is
+    ∙ ap (λ b. cond b (Some (m * base + d)) None) (ltb-yes d base low) ∙ ap (λ k. Some (k * base + d)) same
+value_snoc base m (x ∷ xs) c n d e is low = go (λ k f. value_snoc base k xs c n d f is low) (digit_of x) e
+  where
+    go : ((k : ℕ) → value_from base k xs ≡ Some n → value_from base k (xs ++ c ∷ []) ≡ Some (n * base + d)) → (o : Option ℕ)
+        → option_and_then (λ y. cond (ltb y base) (value_from base (m * base + y) xs) None) o ≡ Some n
+        → option_and_then (λ y. cond (ltb y base) (value_from base (m * base + y) (xs ++ c ∷ [])) None) o ≡ Some (n * base + d)
+    go others None e = absurd (cc)
+    go others (Some y) e = elim (chosen (ltb y base) (value_from base (m * base + y) xs) None (Some n) e) [
+      | inl h ↦ ap (λ b. cond b (value_from base (m * base + y) (xs ++ c ∷ [])) None) h.0 ∙ others (m * base + y) h.1
+      | inr h ↦ let bad = h.1 in absurd (cc)
+    ]
+
+pub value_next : (base : ℕ) (cs : List ℕ) (i n d : ℕ) → i < length cs → value_from base 0 (take i cs) ≡ Some n → Some d ≡ digit_of (get_or cs i 0) → d < base
+    → value_from base 0 (take (i + 1) cs) ≡ Some (n * base + d)
+value_next base cs i n d h e is low = ap (value_from base 0) (take_more cs i 0 h) ∙ value_snoc base 0 (take i cs) (get_or cs i 0) n d e (sym is) low
+
+-- and the bound that it keeps
+pub value_grown : (n base d i : ℕ) → n < 16 ^ i → base ≤ 16 → d < base → n * base + d < 16 ^ (i + 1)
+value_grown n base d i h low less =
+    let most : n * base ≤ n * 16 = mul-le-mul_left n low in
+    let more : 16 ^ (i + 1) ≡ 16 ^ i * 16 = grind (arith, pow-suc 16 i) in
+    omega arith
+
+-- no digit is a space
+value_unspaced : (base m : ℕ) (xs : List ℕ) (n : ℕ) → value_from base m xs ≡ Some n → (k : ℕ) → k < length xs → get_or xs k 0 ≢ 32
+value_unspaced base m [] n e k h = absurd (omega arith)
+value_unspaced base m (x ∷ xs) n e k h = go (λ j f. value_unspaced base j xs n f) (digit_of x) refl e k h
+  where
+    go : ((j : ℕ) → value_from base j xs ≡ Some n → (k : ℕ) → k < length xs → get_or xs k 0 ≢ 32) → (o : Option ℕ) → digit_of x ≡ o
+        → option_and_then (λ y. cond (ltb y base) (value_from base (m * base + y) xs) None) o ≡ Some n
+        → (k : ℕ) → k < length (x ∷ xs) → get_or (x ∷ xs) k 0 ≢ 32
+    go others None is e k h = absurd (cc)
+    go others (Some y) is e zero h = λ space.
+        let none : None ≡ Some y = sym (ap digit_of space) ∙ is in absurd (cc)
+    go others (Some y) is e (suc k) h = elim (chosen (ltb y base) (value_from base (m * base + y) xs) None (Some n) e) [
+      | inl t ↦ others (m * base + y) t.1 k (omega arith)
+      | inr t ↦ let bad = t.1 in absurd (cc)
+    ]
+
+-- ---- the number of a word
+
+below : (n : ℕ) → n < 2 ^ 64 → below_word (Some n) ≡ Some n
+below n h = ap (λ b. cond b (Some n) None) (ltb-yes n (2 ^ 64) h)
+
+-- decimal digits don't begin with 0x
+decimal_number : (w : Word) (n : ℕ) → 0 < length w → value_from 10 0 w ≡ Some n → n < 2 ^ 64 → number_of w ≡ Some n
+decimal_number [] n some e h = absurd (omega arith)
+decimal_number (c ∷ []) n some e h = ap below_word e ∙ below n h
+decimal_number (c ∷ (d ∷ ds)) n some e h = go _ (eqb c 48 && eqb d 120) refl
+  where
+    go : (x : Option ℕ) (b : Bool) → (eqb c 48 && eqb d 120) ≡ b → cond b x (below_word (value_from 10 0 (c ∷ (d ∷ ds)))) ≡ Some n
+    go x false is = ap below_word e ∙ below n h
+    go x true is =
+        let zero : c ≡ 48 = grind (arith, nat_tests, is) in
+        let letter : d ≡ 120 = grind (arith, nat_tests, is) in
+        let none : value_from 10 0 (48 ∷ 120 ∷ ds) ≡ Some n = subst (λ y. value_from 10 0 (48 ∷ y ∷ ds) ≡ Some n) letter
+        (subst (λ y. value_from 10 0 (y ∷ d ∷ ds) ≡ Some n) zero e) in
+        absurd (cc)
+
+hexadecimal_number : (ds : Word) (n : ℕ) → 0 < length ds → value_from 16 0 ds ≡ Some n → n < 2 ^ 64 → number_of (48 ∷ 120 ∷ ds) ≡ Some n
+hexadecimal_number [] n some e h = absurd (omega arith)
+hexadecimal_number (d ∷ ds) n some e h = ap below_word e ∙ below n h
+
+-- ---- a number at the front
+
+-- the word that ends where a space or nothing follows
+front_is : (word : List ℕ) (k n : ℕ) → 0 < k → k ≤ length word → ((i : ℕ) → i < k → get_or word i 0 ≢ 32) → (k < length word → get_or word k 0 ≡ 32)
+    → number_of (take k word) ≡ Some n → Some (n, words_of (drop k word)) ≡ front_number (words_of word)
+front_is word k n some within letters ends is =
+    sym (ap front_number (words-front word k some within letters ends) ∙ ap (λ q. q >>= λ m. Some (m, words_of (drop k word))) is)
+
+unspaced_front : (base : ℕ) (xs : List ℕ) (k n : ℕ) → k ≤ length xs → value_from base 0 (take k xs) ≡ Some n → (i : ℕ) → i < k → get_or xs i 0 ≢ 32
+unspaced_front base xs k n within e i low =
+    let size : length (take k xs) ≡ k = length-take-le k xs within in
+    λ space. value_unspaced base 0 (take k xs) n e i (omega arith) (get_or-take k xs i 0 low ∙ space)
+
+decimal_ends : (word others : List ℕ) (n : ℕ) → EndsValue 10 word n others → Some (n, words_of others) ≡ front_number (words_of word)
+decimal_ends word others n s =
+    let some = s.some in
+    let within = s.within in
+    let size : length (take s.count word) ≡ s.count = length-take-le s.count word s.within in
+    ap (λ r. Some (n, words_of r)) s.rest
+    ∙ front_is word s.count n s.some s.within (unspaced_front 10 word s.count n s.within s.value) s.ends
+    (decimal_number (take s.count word) n (omega arith) s.value s.fits)
+
+-- nor are 0 and x
+unspaced_behind : (digits : List ℕ) (k : ℕ) → ((i : ℕ) → i < k → get_or digits i 0 ≢ 32) → (i : ℕ) → i < suc (suc k) → get_or (48 ∷ 120 ∷ digits) i 0 ≢ 32
+unspaced_behind digits k others zero low = λ same. absurd (omega arith)
+unspaced_behind digits k others (suc zero) low = λ same. absurd (omega arith)
+unspaced_behind digits k others (suc (suc i)) low = others i (omega arith)
+
+behind_is : (digits : List ℕ) (k n : ℕ) → 0 < k → k ≤ length digits → ((i : ℕ) → i < k → get_or digits i 0 ≢ 32) → (k < length digits → get_or digits k 0 ≡ 32)
+    → number_of (48 ∷ 120 ∷ take k digits) ≡ Some n → Some (n, words_of (drop k digits)) ≡ front_number (words_of (48 ∷ 120 ∷ digits))
+behind_is digits k n some within letters ends is =
+    front_is (48 ∷ 120 ∷ digits) (suc (suc k)) n (omega arith) (omega arith) (unspaced_behind digits k letters) (λ more. ends (omega arith)) is
+
+hexadecimal_ends : (digits others : List ℕ) (n : ℕ) → EndsValue 16 digits n others → Some (n, words_of others) ≡ front_number (words_of (48 ∷ 120 ∷ digits))
+hexadecimal_ends digits others n s =
+    let some = s.some in
+    let size : length (take s.count digits) ≡ s.count = length-take-le s.count digits s.within in
+    ap (λ r. Some (n, words_of r)) s.rest
+    ∙ behind_is digits s.count n s.some s.within (unspaced_front 16 digits s.count n s.within s.value) s.ends
+    (hexadecimal_number (take s.count digits) n (omega arith) s.value s.fits)
+
+pub decimal_front : {R : Type 0} (now : R → List ℕ) (o : Option (ℕ × R)) (word bytes : List ℕ) → is_some o ≡ true
+    → IfSome o (λ f. EndsValue 10 word f.0 (now f.1)) → words_of word ≡ words_of bytes
+    → option_map (λ f. (f.0, words_of (now f.1))) o ≡ front_number (words_of bytes)
+decimal_front now None word bytes e s is = absurd (cc)
+decimal_front now (Some f) word bytes e s is = decimal_ends word (now f.1) f.0 s ∙ ap front_number is
+
+pub hexadecimal_front : {R : Type 0} (now : R → List ℕ) (o : Option (ℕ × R)) (digits bytes : List ℕ) → is_some o ≡ true
+    → IfSome o (λ f. EndsValue 16 digits f.0 (now f.1)) → words_of (48 ∷ 120 ∷ digits) ≡ words_of bytes
+    → option_map (λ f. (f.0, words_of (now f.1))) o ≡ front_number (words_of bytes)
+hexadecimal_front now None digits bytes e s is = absurd (cc)
+hexadecimal_front now (Some f) digits bytes e s is = hexadecimal_ends digits (now f.1) f.0 s ∙ ap front_number is
+
+abbrev pair : ℕ → List Word → Option (ℕ × List Word)
+pair n words = Some (n, words)
+
+numbered : {B : Type 0} (ws : List Word) (f : ℕ → List Word → Option B) (o : Option (ℕ × List Word)) → o ≡ front_number ws
+    → (front_word ws >>= λ w. number_of w.0 >>= λ n. f n w.1) ≡ (o >>= λ p. f p.0 p.1)
+numbered {B = B} ws f o e = go (front_word ws) ∙ ap (λ q. q >>= λ p. f p.0 p.1) (sym e)
+  where
+    inner : (q : Option ℕ) (rest : List Word) → (q >>= λ n. f n rest) ≡ ((q >>= λ n. pair n rest) >>= λ p. f p.0 p.1)
+    inner None rest = refl
+    inner (Some n) rest = refl
+
+    go : (q : Option (Word × List Word)) → (q >>= λ w. number_of w.0 >>= λ n. f n w.1) ≡ ((q >>= λ w. number_of w.0 >>= λ n. pair n w.1) >>= λ p. f p.0 p.1)
+    go None = refl
+    go (Some w) = inner (number_of w.0) w.1
+
+pub load_by : (ws : List Word) (o : Option (ℕ × List Word)) → o ≡ front_number ws → load_of ws ≡ (o >>= λ p. ended p.1 (Load p.0))
+unfolding load_of
+load_by ws o e = numbered ws (λ n rest. ended rest (Load n)) o e
+
+pub store_by : (ws : List Word) (o : Option (ℕ × List Word)) → o ≡ front_number ws → store_of ws ≡ (o >>= λ p. stored_of p.0 p.1)
+unfolding store_of stored_of
+store_by ws o e = numbered ws (λ n rest. front_word rest >>= λ v. byte_of v.0 >>= λ b. ended v.1 (Store n b)) o e
+
+pub alone_by : (ws : List Word) (o : Option (ℕ × List Word)) → o ≡ front_number ws → number_alone ws ≡ (o >>= λ p. ended p.1 p.0)
+unfolding number_alone
+alone_by ws o e = numbered ws (λ n rest. ended rest n) o e
+
+-- ---- a request that is known by the bytes that it begins with
+
+pub load_named : (words bytes args : List ℕ) → words_of bytes ≡ words_of words → bytes ≡ codes "load " ++ args
+    → load_of (words_of args) ≡ request_of (words_of words)
+unfolding request_of
+load_named words bytes args same e = ap (λ b. request_of (words_of b)) (sym e) ∙ ap request_of same
+
+pub store_named : (words bytes args : List ℕ) → words_of bytes ≡ words_of words → bytes ≡ codes "store " ++ args
+    → store_of (words_of args) ≡ request_of (words_of words)
+unfolding request_of
+store_named words bytes args same e = ap (λ b. request_of (words_of b)) (sym e) ∙ ap request_of same
+
+-- a call of a core of one digit
+now_words : (x : ℕ) (args : List ℕ) → eqb x 32 ≡ false → words_of (99 ∷ x ∷ 33 ∷ 32 ∷ args) ≡ (99 ∷ x ∷ 33 ∷ []) ∷ words_of args
+now_words x args e = rw e refl
+
+now_is : (core : ℕ) (args : List ℕ) → core < 10
+    → line_of_words (words_of (99 ∷ (48 + core) ∷ 33 ∷ 32 ∷ args)) ≡ (request_of (words_of args) >>= λ q. Some (Now core q))
+unfolding now_of
+now_is core args low =
+    let letter : eqb (48 + core) 32 ≡ false = grind (arith, nat_tests) in
+    ap line_of_words (now_words (48 + core) args letter)
+    ∙ now_read (99 ∷ (48 + core) ∷ []) core (words_of args) (one core low)
+    ∙ ap (λ o. o >>= λ c. request_of (words_of args) >>= λ q. Some (Now c q)) (one core low)
+
+now_named : (bytes args : List ℕ) (core : ℕ) → BeginsNow bytes core args
+    → line_of_words (words_of bytes) ≡ (request_of (words_of args) >>= λ q. Some (Now core q))
+now_named bytes args core begins = ap (λ b. line_of_words (words_of b)) begins.is ∙ now_is core args begins.low
+
+pub now_some : (bytes args : List ℕ) (core : ℕ) (request : Request) → BeginsNow bytes core args → Some request ≡ request_of (words_of args)
+    → Some (Now core request) ≡ line_of_words (words_of bytes)
+now_some bytes args core request begins e = ap (λ o. o >>= λ q. Some (Now core q)) e ∙ sym (now_named bytes args core begins)
+
+pub now_none : (bytes args : List ℕ) (core : ℕ) → BeginsNow bytes core args → None ≡ request_of (words_of args)
+    → None ≡ line_of_words (words_of bytes)
+now_none bytes args core begins e = ap (λ o. o >>= λ q. Some (Now core q)) e ∙ sym (now_named bytes args core begins)
