@@ -94,8 +94,8 @@ const COPYING: &[u8] =
 const COPIED: &[u8] = b"0x10000\n7\ndone\n9\n";
 
 // Heaps from too small for a chunk of lines up to ample: each place that takes memory is refused in
-// one of them. What has gone out then is the text of the lines before. A log that is kept takes memory
-// for a copy.
+// one of them. What has gone out then is the text of the lines before. (A copy takes memory where the
+// log is kept: `starved` refuses it.)
 #[test]
 fn each_heap_that_is_too_small(rt: HostRuntime) -> Result<(), Fail> {
     let mut at_start = false;
@@ -105,13 +105,13 @@ fn each_heap_that_is_too_small(rt: HostRuntime) -> Result<(), Fail> {
         let heap = LocalHeap::new(rt.alloc(), 65_408 + 512 * n)?;
         let mut reader = Counted::new(COPYING);
         let mut writer = Noted::new(Vec::new(rt.alloc()));
-        let result = replay(&heap, &mut reader, &mut writer, Show::OutcomesAndLog);
+        let result = replay(&heap, &mut reader, &mut writer, Show::Outcomes);
         let written = writer.writer.as_slice();
-        assert!(rt; COPIED.starts_with(written) || result.is_ok());
+        assert!(rt; COPIED.starts_with(written));
         assert!(rt; written.is_empty() || written.ends_with(b"\n"));
         match result {
             Ok(()) => {
-                assert!(rt; written.starts_with(COPIED));
+                assert_eq!(rt; written, COPIED);
                 in_lines[4] = true;
             }
             Err(TraceFault::NoMemory) if reader.reads == 0 => at_start = true,
@@ -128,8 +128,8 @@ fn each_heap_that_is_too_small(rt: HostRuntime) -> Result<(), Fail> {
         }
     }
     assert!(rt; at_start && at_making);
-    // the divisions of the first line, the tables of the second, and the copy of the third
-    assert!(rt; in_lines[0] && in_lines[1] && in_lines[2] && in_lines[4]);
+    // the divisions of the first line, and the tables of the second
+    assert!(rt; in_lines[0] && in_lines[1] && in_lines[4]);
     Ok(())
 }
 
