@@ -1,5 +1,5 @@
 -- Events of a core that is ready for one
-use Rattle.std.proofs.Common.{◌≡◌, ℕ, suc, ◌+◌, ◌<◌, Bool, true, false, nat_lt, Option, Some, refl, sym, subst, arith, Result, Ok, Err}
+use Rattle.std.proofs.Common.{◌≡◌, ℕ, suc, ◌+◌, ◌<◌, true, nat_lt, Some, refl, sym, subst, arith, Result, Ok, Err}
 use Rattle.std.specs.Prelude.{◌≢◌, IfOk, OnErr}
 use Rattle.vm_base.specs.declared.memory.NoMemory.{NoMemory}
 use Rattle.core_steps.specs.declared.machine.Finished.{Finished}
@@ -33,6 +33,13 @@ counted w v e o below s = go (comes w e o v s)
     go (stopped n i h) = absurd (let yes = less w.calls.events event_limit below in cc)
     go (acts n shape) = (shape_kept (with_event w) e o v shape).1
 
+-- an event that can be counted, of a core of the machine's
+pub counted_step : (w v : World) (c : ℕ) (e : Event) (o : Outcome) → w.calls.events < event_limit → core_of e ≡ Some c → c < w.made.cores
+    → Acts (with_event w) e o v → Step w e o v
+counted_step w v c e o below k here a =
+    if_true (nat_lt w.calls.events event_limit) _ _ (less w.calls.events event_limit below)
+    (if_true (is_here w.made (core_of e)) _ _ (subst (λ d. is_here w.made d ≡ true) (sym k) (less c w.made.cores here)) a)
+
 -- the event of a core that is ready is counted, and leaves a state that runs reach
 pub takes_one : (w v : World) (c : ℕ) (e : Event) (o : Outcome) → IsReady w c → core_of e ≡ Some c
     → Acts (record w { calls = record w.calls { events = w.calls.events + 1 } }) e o v → TakesOne w e o v
@@ -44,8 +51,7 @@ takes_one w v c e o ready k a = record {
 }
   where
     s : Step w e o v
-    s = if_true (nat_lt w.calls.events event_limit) _ _ (less w.calls.events event_limit ready.below)
-        (if_true (is_here w.made (core_of e)) _ _ (subst (λ d. is_here w.made d ≡ true) (sym k) (less c w.made.cores ready.here)) (one_more w v e o a))
+    s = counted_step w v c e o ready.below k ready.here (one_more w v e o a)
 
 -- a step of its call, which is in this phase
 pub goes_one : (w v : World) (c : ℕ) (phase : Phase) (o p : Outcome) → IsReady w c → w.calls.phase c ≡ phase → o ≡ p

@@ -14,3 +14,4 @@ pub mod Runs
 pub mod MapLines
 pub mod Limits
 pub mod AtOnce
+pub mod SlotRuns

@@ -16,7 +16,7 @@ use std::alloc::Allocator;
 use vm_base::{CoreId, PageRange, Reply};
 
 /// Where a call goes on that has its reply: what it holds is unlocked, and then the reply is handed out.
-fn let_go(held: Option<PageRange>, reply: Reply) -> Phase
+pub fn let_go(held: Option<PageRange>, reply: Reply) -> Phase
     ensures { result ≡ let_go held reply }
 {
     match held {

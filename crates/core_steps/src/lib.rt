@@ -27,6 +27,7 @@ mod place;
 pub mod run_result;
 pub mod running;
 pub mod setup;
+mod slots_at_once;
 mod starting;
 mod tally;
 

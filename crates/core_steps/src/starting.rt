@@ -1,4 +1,5 @@
-//! A call that begins, with the steps that it can make at once. No step looks up anew what the one before it has left.
+//! A call that begins, with the steps that it can make at once. No step looks up anew what the one
+//! before it has left.
 ghost use Rattle.std.specs.Prelude.{◌≡◌};
 ghost use Rattle.machine_model.specs.declared.event.Event.{Event};
 ghost use Rattle.machine_model.specs.declared.event.Outcome.{Outcome};
@@ -66,8 +67,9 @@ impl<M: SlotMap, H: Hardware, A: Allocator, L: Ledger> Engine<M, H, A, L> {
         let _ = self.go_answer(core, reply);
     }
 
-    /// The events of a call and of its first steps, one after another: it begins, its arguments are checked, an access tries
-    /// its page, and where the page's translation is at hand the reply is handed out.
+    /// The events of a call and of its first steps, one after another: it begins, its arguments are
+    /// checked, an access tries its page, and where the page's translation is at hand the reply is
+    /// handed out.
     pub fn start(&mut self, core: CoreId, request: Request) -> Started
         requires { ∥ IsReached (world M.slots self.old) ∥₁ }
         ensures starts { Starts (world M.slots self.old) core request result (world M.slots self.new) }
