@@ -67,6 +67,7 @@ impl<M: SlotMap, A: Allocator + Clone, L: Ledger> Machine<M, A, L> {
     ghost use Rattle.std.specs.Prelude.{◌≡◌, ◌≤◌, ◌<◌, false, true, IfOk, OnErr, IfSome, IfNone};
     ghost use Rattle.vm_base.specs.Pages.{is_page};
     ghost use Rattle.mmu.specs.Tables.{word_of};
+    ghost use Rattle.machine_model.specs.declared.event.Event.{Event};
     ghost use Rattle.machine_model.specs.Step.{Step, StepsTo};
     ghost use Rattle.machine_model.specs.World.{World};
     ghost use Rattle.machine_sound.specs.Sound.{IsSoundStep};
@@ -95,6 +96,19 @@ impl<M: SlotMap, A: Allocator + Clone, L: Ledger> Machine<M, A, L> {
         self.engine.step(event)
     }
 
+    // The next step of the core's call, as `step` makes it: without a look at what event it is.
+    fn next(&mut self, core: CoreId) -> Result<Outcome, NoMemory>
+        ensures step { Tries (Step (state self.old) (Event.Go core))
+            (MayWant (state self.old) (Event.Go core))
+            (state self.old) result (state self.new) }
+        ensures legal { IsLegal (state self.new) }
+    {
+        if self.engine.calls.events == u64::MAX || !self.engine.is_here(Some(core)) {
+            return self.step(Event::Go(core));
+        }
+        self.engine.go_next(core)
+    }
+
     // Steps of the core's call until one isn't Stepped, where so many plain ones were made before, at
     // most 2^40 with them.
     fn go_on(&mut self, core: CoreId, steps: u64) -> Result<Finished, NoMemory>
@@ -108,7 +122,7 @@ impl<M: SlotMap, A: Allocator + Clone, L: Ledger> Machine<M, A, L> {
         let mut n = steps;
         'steps: while n < FINISH_LIMIT {
             n += self.engine.slots_at_once(core, FINISH_LIMIT - 1 - n);
-            let outcome = match self.step(Event::Go(core)) {
+            let outcome = match self.next(core) {
                 Ok(outcome) => outcome,
                 Err(refused) => return Err(refused),
             };

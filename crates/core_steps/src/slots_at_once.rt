@@ -37,13 +37,16 @@ impl<M: SlotMap, H: Hardware, A: Allocator, L: Ledger> Engine<M, H, A, L> {
         run.slots
     }
 
-    // Slots of what is held, from its first page on.
+    // Slots of what is held, from its first page on; a page alone by a step too.
     fn unlock_slots(&mut self, core: CoreId, held: PageRange, reply: Reply, most: u64) -> u64
         requires at { IsAt (world M.slots self.old) core (Phase.Unlock held reply) }
         requires room { self.old.calls.events + most ≤ event_limit }
         ensures few { result ≤ most }
         ensures steps { StepsTo (world M.slots self.old) core result (world M.slots self.new) }
     {
+        if held.end - held.first == 1 {
+            return 0;
+        }
         let run = self.map.unlock_run(core, held.first, held.end, most);
         if run.slots == 0 {
             return 0;
