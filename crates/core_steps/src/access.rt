@@ -43,8 +43,8 @@ impl<M: SlotMap, H: Hardware, A: Allocator, L: Ledger> Engine<M, H, A, L> {
         self.reply(core, None, byte_reply(touch.access, byte));
     }
 
-    /// The page is translated: the byte is read or written, or there is a fault (Intel SDM volume 3A, page-fault
-    /// exceptions).
+    /// The page is translated: the byte is read or written, or there is a fault (Intel
+    /// SDM volume 3A, page-fault exceptions).
     pub fn go_try(&mut self, core: CoreId, touch: Touch) -> Outcome
         requires { IsAt (world M.slots self.old) core (Phase.Try touch) }
         ensures { Goes (world M.slots self.old) core (Phase.Try touch) result (world M.slots self.new) }

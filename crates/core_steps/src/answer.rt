@@ -1,4 +1,5 @@
-//! The end of a call: its reply is fixed and logged, its pages are unlocked, and the reply is handed out.
+//! The end of a call: its reply is fixed and logged, its pages are unlocked, and the
+//! reply is handed out.
 ghost use Rattle.std.specs.Prelude.{◌≡◌, ◌<◌, ◌≤◌, length};
 ghost use Rattle.machine_model.specs.Actions.{let_go, after_reply};
 ghost use Rattle.machine_model.specs.Locks.{held_after};
@@ -15,7 +16,8 @@ use slot_lock::{SlotMap, Touch};
 use std::alloc::Allocator;
 use vm_base::{CoreId, PageRange, Reply};
 
-/// Where a call goes on that has its reply: what it holds is unlocked, and then the reply is handed out.
+/// Where a call goes on that has its reply: what it holds is unlocked, and then the reply
+/// is handed out.
 pub fn let_go(held: Option<PageRange>, reply: Reply) -> Phase
     ensures { result ≡ let_go held reply }
 {
@@ -39,8 +41,8 @@ pub fn held_after(held: PageRange, unlocked_to: u64) -> Option<PageRange>
 }
 
 impl<M: SlotMap, H: Hardware, A: Allocator, L: Ledger> Engine<M, H, A, L> {
-    /// The call of a core, which holds these pages, has its reply from here on: it is logged, and the pages are unlocked
-    /// next.
+    /// The call of a core, which holds these pages, has its reply from here on: it is
+    /// logged, and the pages are unlocked next.
     pub fn reply(&mut self, core: CoreId, held: Option<PageRange>, reply: Reply)
         requires here { core < length self.old.calls.phases.items }
         requires room { answer_count (L.entries self.old.calls.log) < self.old.calls.requests.limit }

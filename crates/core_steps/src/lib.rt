@@ -1,4 +1,5 @@
-//! The machine: one address space, which its cores' events move step by step as the abstract machine says.
+//! The machine: one address space, which its cores' events move step by step as the
+//! abstract machine says.
 #![tactic(auto)]
 
 mod access;
