@@ -2,6 +2,7 @@
 #![tactic(auto)]
 
 mod access;
+mod access_at_once;
 mod acquire;
 mod answer;
 mod call_table;
