@@ -5,7 +5,6 @@ use Rattle.vm_base.specs.declared.memory.NoMemory.{NoMemory}
 use Rattle.core_steps.specs.declared.machine.Finished.{Finished}
 use Rattle.std.proofs.Math.Logic.{∥∥₁_map}
 use Rattle.std.proofs.lemmas.Bool.Decides.{nat_tests}
-use Rattle.vm_base.specs.declared.replies.Reply.{Reply}
 use Rattle.vm_base.specs.declared.requests.Request.{Request}
 use Rattle.machine_model.specs.declared.event.Event.{Event}
 use Rattle.machine_model.specs.declared.event.Event.TheVariants.{Call, Go}
@@ -23,7 +22,7 @@ use Rattle.core_steps.specs.AtOnce.{IsReady, TakesOne}
 use Rattle.core_steps.proofs.Limits.{shape_kept, step_made}
 use Rattle.core_steps.proofs.Rows.{if_true, counted as one_more}
 
-less : (n m : ℕ) → n < m → nat_lt n m ≡ true
+pub less : (n m : ℕ) → n < m → nat_lt n m ≡ true
 less n m h = grind (arith, nat_tests)
 
 counted : (w v : World) (e : Event) (o : Outcome) → w.calls.events < event_limit → Step w e o v → v.calls.events ≡ suc w.calls.events
@@ -60,22 +59,6 @@ goes_one w v c phase o p ready e k a =
     subst (λ q. TakesOne w (Go c) q v) k
     (takes_one w v c (Go c) o ready refl
     (subst (λ q. Goes (record w { calls = record w.calls { events = w.calls.events + 1 } }) c q o v) (sym e) a))
-
--- ---- a call, and steps of it that were made at once
-
-pub after_one : {m v : World} {c : ℕ} → TakesOne m (Go c) Stepped v → StepsTo m c 1 v
-after_one {m} {v} {c} t = (m, refl, t.step)
-
-pub after_two : {m n v : World} {c : ℕ} → TakesOne m (Go c) Stepped n → TakesOne n (Go c) Stepped v → StepsTo m c 2 v
-after_two {m} {n} {v} {c} t u = (n, (m, refl, t.step), u.step)
-
-pub answered : {w m n x v : World} {c : ℕ} {request : Request} {reply : Reply} → TakesOne w (Call c request) Stepped m → TakesOne m (Go c) Stepped n
-    → TakesOne n (Go c) Stepped x → TakesOne x (Go c) (Answered reply) v → Calls w c request (Last (Answered reply)) v
-answered {w} {m} {n} {x} {v} {c} {request} {reply} b k t a =
-    (Stepped, m, b.step, (2, (omega arith, (λ e. cc), (x, after_two k t, a.step))))
-
-pub as_stepped : {w v : World} {e : Event} {o : Outcome} → TakesOne w e o v → o ≡ Stepped → TakesOne w e Stepped v
-as_stepped {w} {v} {e} {o} t k = subst (λ p. TakesOne w e p v) k t
 
 -- ---- a call that is begun by itself
 

@@ -15,3 +15,4 @@ pub mod MapLines
 pub mod Limits
 pub mod AtOnce
 pub mod SlotRuns
+pub mod AccessAtOnce

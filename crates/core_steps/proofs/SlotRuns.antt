@@ -27,7 +27,7 @@ use Rattle.core_steps.proofs.Known.{is_left}
 use Rattle.core_steps.proofs.Changing.{unlock_range}
 
 -- of two changes at one place the later stays
-put_twice : {V : Type 0} (f : ℕ → V) (k : ℕ) (a b : V) → put f k b ≡ put (put f k a) k b
+pub put_twice : {V : Type 0} (f : ℕ → V) (k : ℕ) (a b : V) → put f k b ≡ put (put f k a) k b
 put_twice f k a b = fun_ext (put_both (λ j x y. x ≡ y) f (put f k a) k b b refl (λ j other. sym (put_other f k a j other)))
 
 -- with these phases and slots, and so many events

@@ -3,6 +3,7 @@
 #![tactic(auto)]
 
 mod access;
+mod access_at_once;
 mod acquire;
 mod answer;
 mod call_table;
