@@ -4,7 +4,7 @@ ghost use Rattle.std.specs.Prelude.{◌≡◌, ◌<◌, ◌≤◌, ◌^◌};
 use crate::slot_calls::{ALL, Locked, acquired, clear, let_go, locked_two, one_page, put, unlock};
 use linked_list_allocator::LocalHeap;
 use radix_range::RadixMap;
-use slot_lock::{Footprint, RunList, SlotMap, SlotRead};
+use slot_lock::{Footprint, RunList, SlotMap, SlotRead, SlotRun};
 use std::test::Fail;
 use vm_base::{CoreId, NoMemory, PageRange};
 
@@ -127,6 +127,32 @@ fn gives_up_in_mid_lock_on_both_maps(rt: HostRuntime) -> Result<(), Fail> {
     let mut tree = RadixMap::new(rt.alloc())?;
     assert!(rt; gives_up(&mut list, (3, 2), 2)?);
     assert!(rt; gives_up(&mut tree, (0, 3), 3)?);
+    Ok(())
+}
+
+// Slots that are locked at once, at most 100 and as many as can be, where another core holds page
+// 600 and all pages up to 1024 are slots; those that are unlocked at once then.
+fn runs<M: SlotMap>(map: &mut M) -> Result<[SlotRun; 5], NoMemory> {
+    let other = CoreId::new(2);
+    acquired(map, other, one_page(16), 5)?;
+    unlock(map, other, one_page(16));
+    acquired(map, other, one_page(600), 5)?;
+    let core = CoreId::new(1);
+    let few = map.lock_run(core, 1, 1024, 100);
+    let node = map.lock_run(core, 101, 1024, 2000);
+    let held = map.lock_run(core, 512, 1024, 2000);
+    let back = map.unlock_run(core, 1, 1024, 2000);
+    Ok([few, node, held, back, map.unlock_run(core, 1, 1024, 2000)])
+}
+
+#[test]
+fn slots_are_locked_at_once(rt: HostRuntime) -> Result<(), Fail> {
+    let mut tree = RadixMap::new(rt.alloc())?;
+    let [few, node, held, back, none] = runs(&mut tree)?;
+    assert!(rt; (few.slots, few.upto, node.slots, node.upto) == (100, 101, 411, 512));
+    assert!(rt; (held.slots, held.upto, back.slots, back.upto) == (88, 600, 511, 512));
+    assert!(rt; (none.slots, none.upto) == (0, 1));
+    assert!(rt; owners(&tree) == [None; 8]);
     Ok(())
 }
 
