@@ -1,5 +1,5 @@
-//! What `lock_tests` and `page_tests` ask of a map, on a new map of each kind. The tests own no map: what
-//! owns one is dear to prove, and stands here once for each kind.
+//! What `lock_tests` and `page_tests` ask of a map, on a new map of each kind. The tests own no map:
+//! what owns one is dear to prove, and stands here once for each kind.
 use crate::slot_calls::Counts;
 use crate::{lock_tests, page_tests};
 use radix_range::RadixMap;
