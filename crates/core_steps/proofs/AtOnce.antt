@@ -1,11 +1,10 @@
 -- Events of a core that is ready for one
-use Rattle.std.proofs.Common.{◌≡◌, ℕ, suc, ◌+◌, ◌<◌, Bool, true, false, nat_lt, Option, Some, refl, sym, subst, arith, Result, Ok, Err}
+use Rattle.std.proofs.Common.{◌≡◌, ℕ, suc, ◌+◌, ◌<◌, true, nat_lt, Some, refl, sym, subst, arith, Result, Ok, Err}
 use Rattle.std.specs.Prelude.{◌≢◌, IfOk, OnErr}
 use Rattle.vm_base.specs.declared.memory.NoMemory.{NoMemory}
 use Rattle.core_steps.specs.declared.machine.Finished.{Finished}
 use Rattle.std.proofs.Math.Logic.{∥∥₁_map}
 use Rattle.std.proofs.lemmas.Bool.Decides.{nat_tests}
-use Rattle.vm_base.specs.declared.replies.Reply.{Reply}
 use Rattle.vm_base.specs.declared.requests.Request.{Request}
 use Rattle.machine_model.specs.declared.event.Event.{Event}
 use Rattle.machine_model.specs.declared.event.Event.TheVariants.{Call, Go}
@@ -23,7 +22,7 @@ use Rattle.core_steps.specs.AtOnce.{IsReady, TakesOne}
 use Rattle.core_steps.proofs.Limits.{shape_kept, step_made}
 use Rattle.core_steps.proofs.Rows.{if_true, counted as one_more}
 
-less : (n m : ℕ) → n < m → nat_lt n m ≡ true
+pub less : (n m : ℕ) → n < m → nat_lt n m ≡ true
 less n m h = grind (arith, nat_tests)
 
 counted : (w v : World) (e : Event) (o : Outcome) → w.calls.events < event_limit → Step w e o v → v.calls.events ≡ suc w.calls.events
@@ -32,6 +31,13 @@ counted w v e o below s = go (comes w e o v s)
     go : Comes w e o v → v.calls.events ≡ suc w.calls.events
     go (stopped n i h) = absurd (let yes = less w.calls.events event_limit below in cc)
     go (acts n shape) = (shape_kept (with_event w) e o v shape).1
+
+-- an event that can be counted, of a core of the machine's
+pub counted_step : (w v : World) (c : ℕ) (e : Event) (o : Outcome) → w.calls.events < event_limit → core_of e ≡ Some c → c < w.made.cores
+    → Acts (with_event w) e o v → Step w e o v
+counted_step w v c e o below k here a =
+    if_true (nat_lt w.calls.events event_limit) _ _ (less w.calls.events event_limit below)
+    (if_true (is_here w.made (core_of e)) _ _ (subst (λ d. is_here w.made d ≡ true) (sym k) (less c w.made.cores here)) a)
 
 -- the event of a core that is ready is counted, and leaves a state that runs reach
 pub takes_one : (w v : World) (c : ℕ) (e : Event) (o : Outcome) → IsReady w c → core_of e ≡ Some c
@@ -44,8 +50,7 @@ takes_one w v c e o ready k a = record {
 }
   where
     s : Step w e o v
-    s = if_true (nat_lt w.calls.events event_limit) _ _ (less w.calls.events event_limit ready.below)
-        (if_true (is_here w.made (core_of e)) _ _ (subst (λ d. is_here w.made d ≡ true) (sym k) (less c w.made.cores ready.here)) (one_more w v e o a))
+    s = counted_step w v c e o ready.below k ready.here (one_more w v e o a)
 
 -- a step of its call, which is in this phase
 pub goes_one : (w v : World) (c : ℕ) (phase : Phase) (o p : Outcome) → IsReady w c → w.calls.phase c ≡ phase → o ≡ p
@@ -54,22 +59,6 @@ goes_one w v c phase o p ready e k a =
     subst (λ q. TakesOne w (Go c) q v) k
     (takes_one w v c (Go c) o ready refl
     (subst (λ q. Goes (record w { calls = record w.calls { events = w.calls.events + 1 } }) c q o v) (sym e) a))
-
--- ---- a call, and steps of it that were made at once
-
-pub after_one : {m v : World} {c : ℕ} → TakesOne m (Go c) Stepped v → StepsTo m c 1 v
-after_one {m} {v} {c} t = (m, refl, t.step)
-
-pub after_two : {m n v : World} {c : ℕ} → TakesOne m (Go c) Stepped n → TakesOne n (Go c) Stepped v → StepsTo m c 2 v
-after_two {m} {n} {v} {c} t u = (n, (m, refl, t.step), u.step)
-
-pub answered : {w m n x v : World} {c : ℕ} {request : Request} {reply : Reply} → TakesOne w (Call c request) Stepped m → TakesOne m (Go c) Stepped n
-    → TakesOne n (Go c) Stepped x → TakesOne x (Go c) (Answered reply) v → Calls w c request (Last (Answered reply)) v
-answered {w} {m} {n} {x} {v} {c} {request} {reply} b k t a =
-    (Stepped, m, b.step, (2, (omega arith, (λ e. cc), (x, after_two k t, a.step))))
-
-pub as_stepped : {w v : World} {e : Event} {o : Outcome} → TakesOne w e o v → o ≡ Stepped → TakesOne w e Stepped v
-as_stepped {w} {v} {e} {o} t k = subst (λ p. TakesOne w e p v) k t
 
 -- ---- a call that is begun by itself
 

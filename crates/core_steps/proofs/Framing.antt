@@ -1,5 +1,6 @@
 -- What the code learns of a page that is to get a frame
-use Rattle.std.proofs.Common.{◌≡◌, ℕ, zero, suc, ◌<◌, ◌≤◌, ◌^◌, Bool, true, false, not, List, length, get_or, Option, None, Some, Result, Ok, Err, is_some, inl, inr, refl, sym, ap, subst, arith, ◌∙◌, cond, pos, ◌+ℤ◌, ◌<ℤ◌, ◌⊎◌, ◌==◌}
+use Rattle.std.proofs.Common.{◌≡◌, ℕ, zero, suc, ◌<◌, ◌≤◌, ◌^◌, Bool, true, false, not, List, length, get_or, Option, None, Some, Result, Ok}
+use Rattle.std.proofs.Common.{Err, is_some, inl, inr, refl, sym, ap, subst, arith, ◌∙◌, cond, pos, ◌+ℤ◌, ◌<ℤ◌, ◌⊎◌, ◌==◌}
 use Rattle.std.specs.Prelude.{IfNone, IfSome, if◌then◌else◌, nat_lt}
 use Rattle.std.proofs.Math.Logic.{∥∥₁_elim}
 use Rattle.std.proofs.Props.{props}
@@ -32,7 +33,8 @@ use Rattle.machine_model.specs.declared.phase.Phase.TheVariants.{Free, Fill, Cop
 use Rattle.machine_model.specs.Accesses.{lies_past_end}
 use Rattle.machine_model.specs.Actions.{to, with_entry, detach_entry}
 use Rattle.machine_model.specs.Files.{back_of, bytes_shown, file_frame, page_now, with_cached}
-use Rattle.machine_model.specs.Filling.{CopiesNext, FillsBacked, FillsFrame, FillsFromFile, FillsOwn, after_copy, after_first_copy, after_zeros, cores_of, info_copied}
+use Rattle.machine_model.specs.Filling.{CopiesNext, FillsBacked, FillsFrame, FillsFromFile, FillsOwn, after_copy}
+use Rattle.machine_model.specs.Filling.{after_first_copy, after_zeros, cores_of, info_copied}
 use Rattle.machine_model.specs.Holding.{page_of_touch, range_held, some_has, taken_in}
 use Rattle.machine_model.specs.Step.{Goes}
 use Rattle.machine_model.specs.Changes.{AwaitsNobody, Awaits}

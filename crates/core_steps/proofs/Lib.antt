@@ -14,3 +14,5 @@ pub mod Runs
 pub mod MapLines
 pub mod Limits
 pub mod AtOnce
+pub mod SlotRuns
+pub mod AccessAtOnce

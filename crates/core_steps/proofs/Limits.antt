@@ -5,7 +5,9 @@ use Rattle.machine_model.specs.declared.event.Event.TheVariants.{Go}
 use Rattle.machine_model.specs.declared.event.Outcome.{Outcome}
 use Rattle.machine_model.specs.World.{World}
 use Rattle.machine_model.specs.Step.{with_event, Step}
-use Rattle.machine_laws.proofs.Shapes.{GoesBy, moves, divides, cuts, fits, owns, lets_go, answers, posts, commits, takes, zeroes, first_copies, caches, shares, posts_copy, copies, installs, accesses, faults, Works, clears, invalidates, walks, evicts, flushes, reviews, frees, Shape, rests, begins, ends, goes, aims, gives_up, works, joins, Comes, stopped, acts, comes}
+use Rattle.machine_laws.proofs.Shapes.{GoesBy, moves, divides, cuts, fits, owns, lets_go, answers, posts, commits, takes, zeroes, first_copies, caches, shares}
+use Rattle.machine_laws.proofs.Shapes.{posts_copy, copies, installs, accesses, faults, Works, clears, invalidates, walks, evicts, flushes, reviews, frees}
+use Rattle.machine_laws.proofs.Shapes.{Shape, rests, begins, ends, goes, aims, gives_up, works, joins, Comes, stopped, acts, comes}
 
 -- what the machine was made with, how many events were counted, and the requests of the calls begun
 abbrev IsKept : World → World → Type 0

@@ -1,5 +1,5 @@
 -- What a machine knows of the state that it has: some run leads to it
-use Rattle.std.proofs.Common.{◌≡◌, ℕ, ◌<◌, ◌≤◌, ◌+◌, ◌||◌, Bool, true, false, nat_lt, Option, None, Some, refl, sym, subst, arith, Result, Ok, Err}
+use Rattle.std.proofs.Common.{◌≡◌, ℕ, zero, suc, ◌<◌, ◌≤◌, ◌+◌, ◌||◌, Bool, true, false, nat_lt, Option, None, Some, refl, sym, subst, arith, Result, Ok, Err}
 use Rattle.std.proofs.Math.Numerals.{add-one}
 use Rattle.std.specs.Prelude.{IfOk, OnErr, ◌≢◌, if◌then◌else◌}
 use Rattle.std.proofs.Math.Logic.{∥∥₁_map}
@@ -62,6 +62,21 @@ refused_at was now new c n h s r = subst (IsRefused was c) (sym r.0) (n, h, r.1,
 -- after some steps one is plain
 pub steps_more : (was now new : World) (c n : ℕ) (o : Outcome) → o ≡ Stepped → StepsTo was c n now → Step now (Go c) o new → StepsTo was c (n + 1) new
 steps_more was now new c n o e s step = subst (λ k. StepsTo was c k new) (sym (add-one n)) (now, s, subst (λ o. Step now (Go c) o new) e step)
+
+-- after some steps some more are plain
+pub steps_join : (was now new : World) (c n k : ℕ) → StepsTo was c n now → StepsTo now c k new → StepsTo was c (n + k) new
+steps_join was now new c n k s more = let swap : k + n ≡ n + k = omega arith in subst (λ j. StepsTo was c j new) swap (go k new more)
+  where
+    go : (k : ℕ) (v : World) → StepsTo now c k v → StepsTo was c (k + n) v
+    go zero v same =
+        let sum : n ≡ 0 + n = omega arith in subst (λ j. StepsTo was c j v) sum (subst (StepsTo was c n) (sym same) s)
+    go (suc k) v (m, before, step) =
+        let sum : suc (k + n) ≡ suc k + n = omega arith in subst (λ j. StepsTo was c j v) sum (m, go k m before, step)
+
+-- they lead to a state that runs reach
+pub steps_reached : (w v : World) (c n : ℕ) → StepsTo w c n v → ∥ IsReached w ∥₁ → ∥ IsReached v ∥₁
+steps_reached w v c zero same t = subst (λ u. ∥ IsReached u ∥₁) (sym same) t
+steps_reached w v c (suc n) (m, before, step) t = ∥∥₁_map (steps_reached w m c n before t) (λ h. reached_step m v (Go c) Stepped h step)
 
 -- or is the last
 pub steps_end : (was now new : World) (c n : ℕ) (o : Outcome) → n < finish_limit → o ≢ Stepped → StepsTo was c n now → Step now (Go c) o new

@@ -1,5 +1,6 @@
 -- Rows of the model that turn on one test
-use Rattle.std.proofs.Common.{◌≡◌, ℕ, Bool, true, false, not, ◌&&◌, List, [], ◌∷◌, Option, None, Some, Result, is_some, cond, inl, inr, refl, sym, ap, subst, ◌∙◌}
+use Rattle.std.proofs.Common.{◌≡◌, ℕ, Bool, true, false, not, ◌&&◌, List, [], ◌∷◌, Option, None, Some}
+use Rattle.std.proofs.Common.{Result, is_some, cond, inl, inr, refl, sym, ap, subst, ◌∙◌}
 use Rattle.std.proofs.Math.Numerals.{add-one}
 use Rattle.std.specs.Prelude.{if◌then◌else◌, ◌+◌}
 use Rattle.vm_base.specs.Functions.{put}
@@ -16,7 +17,8 @@ use Rattle.machine_model.specs.declared.event.Outcome.{Outcome}
 use Rattle.machine_model.specs.declared.event.Outcome.TheVariants.{Stepped, Idle}
 use Rattle.machine_model.specs.Step.{Acts, with_event}
 use Rattle.machine_model.specs.declared.phase.Phase.{Phase}
-use Rattle.machine_model.specs.declared.phase.Phase.TheVariants.{Free, Check, Lock, Guess, Find, Back, Cut, Decide, Post, Acks, Unlock, Answer, Try, Settle, Want, Fill, CopyPost, CopyAcks, Install, Release}
+use Rattle.machine_model.specs.declared.phase.Phase.TheVariants.{Free, Check, Lock, Guess, Find, Back, Cut, Decide, Post, Acks, Unlock, Answer, Try}
+use Rattle.machine_model.specs.declared.phase.Phase.TheVariants.{Settle, Want, Fill, CopyPost, CopyAcks, Install, Release}
 use Rattle.machine_model.specs.World.{World, Hardware}
 use Rattle.vm_base.specs.declared.info.PageInfo.{PageInfo}
 use Rattle.vm_base.specs.Cores.{with_member}
@@ -34,7 +36,8 @@ use Rattle.machine_model.specs.GivingUp.{GivesUp, after_give_up}
 use Rattle.machine_model.specs.Holding.{can_give_up}
 use Rattle.core_steps.specs.Moving.{AwaitsCopy}
 use Rattle.vm_base.specs.declared.page.PageRange.{PageRange}
-use Rattle.machine_model.specs.Translating.{Evicts, TakesMessage, Walks, after_eviction, after_walk, can_walk, tables_cleared, tlb_invalidated, with_hardware, with_inbox, with_table, entry_for, entry_of_page}
+use Rattle.machine_model.specs.Translating.{Evicts, TakesMessage, Walks, after_eviction, after_walk, can_walk, tables_cleared}
+use Rattle.machine_model.specs.Translating.{tlb_invalidated, with_hardware, with_inbox, with_table, entry_for, entry_of_page}
 use Rattle.core_steps.proofs.Each.{put_id}
 
 pub if_true : (b : Bool) (x y : Type 0) → b ≡ true → x → cond b x y

@@ -1,7 +1,7 @@
 //! The access of a byte.
 ghost use Rattle.std.specs.Prelude.{◌≡◌, ◌<◌, length};
 ghost use Rattle.vm_base.specs.Apply.{byte_reply};
-ghost use Rattle.machine_model.specs.Accesses.{after_access};
+ghost use Rattle.machine_model.specs.Accesses.{after_access, memory_after, reply_of};
 ghost use Rattle.machine_model.specs.Step.{Goes};
 ghost use Rattle.machine_laws.specs.Orderly.{answer_count};
 ghost use Rattle.core_steps.specs.State.{world};
@@ -27,6 +27,23 @@ fn byte_reply(access: Access, byte: u8) -> Reply
 }
 
 impl<M: SlotMap, H: Hardware, A: Allocator, L: Ledger> Engine<M, H, A, L> {
+    /// The byte is read or written in the frame. It answers what the access does.
+    pub fn touch_byte(&mut self, touch: Touch, frame: u32) -> Reply
+        requires frame { frame < self.old.frames.count }
+        requires offset { touch.offset < 4096 }
+        ensures reply { result ≡ reply_of touch frame (world M.slots self.old).memory }
+        ensures memory { world M.slots self.new ≡ record (world M.slots self.old) {
+          memory = memory_after touch frame (world M.slots self.old).memory;
+        } }
+    {
+        let byte = self.frames.byte(frame, touch.offset as usize);
+        if touch.access == Access::Store {
+            self.frames
+                .set_byte(frame, touch.offset as usize, touch.byte);
+        }
+        byte_reply(touch.access, byte)
+    }
+
     /// The byte is read or written in the frame, and the call has its reply.
     fn access(&mut self, core: CoreId, touch: Touch, frame: u32)
         requires here { core < length self.old.calls.phases.items }
@@ -35,16 +52,12 @@ impl<M: SlotMap, H: Hardware, A: Allocator, L: Ledger> Engine<M, H, A, L> {
         requires offset { touch.offset < 4096 }
         ensures { world M.slots self.new ≡ after_access core touch frame (world M.slots self.old) }
     {
-        let byte = self.frames.byte(frame, touch.offset as usize);
-        if touch.access == Access::Store {
-            self.frames
-                .set_byte(frame, touch.offset as usize, touch.byte);
-        }
-        self.reply(core, None, byte_reply(touch.access, byte));
+        let reply = self.touch_byte(touch, frame);
+        self.reply(core, None, reply);
     }
 
-    /// The page is translated: the byte is read or written, or there is a fault (Intel SDM volume 3A, page-fault
-    /// exceptions).
+    /// The page is translated: the byte is read or written, or there is a fault (Intel
+    /// SDM volume 3A, page-fault exceptions).
     pub fn go_try(&mut self, core: CoreId, touch: Touch) -> Outcome
         requires { IsAt (world M.slots self.old) core (Phase.Try touch) }
         ensures { Goes (world M.slots self.old) core (Phase.Try touch) result (world M.slots self.new) }

@@ -38,7 +38,7 @@ pub fn locking(goal: Goal) -> Phase
 }
 
 /// Where the call goes on once the pages up to the cursor are locked.
-fn locked_to(goal: Goal, cursor: u64) -> Phase
+pub fn locked_to(goal: Goal, cursor: u64) -> Phase
     requires { IsSoundGoal goal }
     ensures { result ≡ locked_to goal cursor }
 {

@@ -1,6 +1,7 @@
-//! The end of a call: its reply is fixed and logged, its pages are unlocked, and the reply is handed out.
+//! The end of a call: its reply is fixed and logged, its pages are unlocked, and the
+//! reply is handed out.
 ghost use Rattle.std.specs.Prelude.{◌≡◌, ◌<◌, ◌≤◌, length};
-ghost use Rattle.machine_model.specs.Actions.{let_go, after_reply};
+ghost use Rattle.machine_model.specs.Actions.{let_go, after_reply, answer_entry, with_entry};
 ghost use Rattle.machine_model.specs.Locks.{held_after};
 ghost use Rattle.machine_model.specs.Step.{Goes};
 ghost use Rattle.machine_laws.specs.Orderly.{answer_count};
@@ -15,8 +16,9 @@ use slot_lock::{SlotMap, Touch};
 use std::alloc::Allocator;
 use vm_base::{CoreId, PageRange, Reply};
 
-/// Where a call goes on that has its reply: what it holds is unlocked, and then the reply is handed out.
-fn let_go(held: Option<PageRange>, reply: Reply) -> Phase
+/// Where a call goes on that has its reply: what it holds is unlocked, and then the reply
+/// is handed out.
+pub fn let_go(held: Option<PageRange>, reply: Reply) -> Phase
     ensures { result ≡ let_go held reply }
 {
     match held {
@@ -39,12 +41,13 @@ pub fn held_after(held: PageRange, unlocked_to: u64) -> Option<PageRange>
 }
 
 impl<M: SlotMap, H: Hardware, A: Allocator, L: Ledger> Engine<M, H, A, L> {
-    /// The call of a core, which holds these pages, has its reply from here on: it is logged, and the pages are unlocked
-    /// next.
-    pub fn reply(&mut self, core: CoreId, held: Option<PageRange>, reply: Reply)
+    /// It is logged that the call of a core has this reply.
+    pub fn log_reply(&mut self, core: CoreId, reply: Reply)
         requires here { core < length self.old.calls.phases.items }
         requires room { answer_count (L.entries self.old.calls.log) < self.old.calls.requests.limit }
-        ensures { world M.slots self.new ≡ after_reply core held reply (world M.slots self.old) }
+        ensures log { world M.slots self.new ≡ with_entry (answer_entry (world M.slots self.old) core reply)
+            (world M.slots self.old) }
+        ensures cores { length self.new.calls.phases.items ≡ length self.old.calls.phases.items }
     {
         self.calls.log.push(Entry::Answer {
             step: self.calls.events,
@@ -52,6 +55,16 @@ impl<M: SlotMap, H: Hardware, A: Allocator, L: Ledger> Engine<M, H, A, L> {
             core,
             reply,
         });
+    }
+
+    /// The call of a core, which holds these pages, has its reply from here on: it is
+    /// logged, and the pages are unlocked next.
+    pub fn reply(&mut self, core: CoreId, held: Option<PageRange>, reply: Reply)
+        requires here { core < length self.old.calls.phases.items }
+        requires room { answer_count (L.entries self.old.calls.log) < self.old.calls.requests.limit }
+        ensures { world M.slots self.new ≡ after_reply core held reply (world M.slots self.old) }
+    {
+        self.log_reply(core, reply);
         self.go_to(core, let_go(held, reply));
     }
 

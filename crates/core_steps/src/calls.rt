@@ -31,8 +31,8 @@ impl<A: Allocator, L: Ledger> CallTable<A, L> {
     ghost use Rattle.machine_model.specs.declared.log.Entry.TheVariants.{Detach};
     ghost use Rattle.core_steps.specs.State.{calls_of, number_at};
 
-    /// It is logged that the core's call has made a copy of its own for the page. The room for replies stays. A refusal for
-    /// memory changes nothing.
+    /// It is logged that the core's call has made a copy of its own for the page. The
+    /// room for replies stays. A refusal for memory changes nothing.
     pub fn log_detach(&mut self, core: CoreId, page: u64) -> Result<(), NoMemory>
         requires { core < length self.old.phases.items }
         ensures ok { OnOk result (calls_of self.new ≡ record (calls_of self.old) {

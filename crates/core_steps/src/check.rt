@@ -16,8 +16,8 @@ use vm_base::{CoreId, Request};
 use vm_calls::check;
 
 impl<M: SlotMap, H: Hardware, A: Allocator, L: Ledger> Engine<M, H, A, L> {
-    /// The arguments are checked: the call goes on, or has its reply. A mapping without `MAP_FIXED` begins with its hint, if
-    /// all pages of it are valid.
+    /// The arguments are checked: the call goes on, or has its reply. A mapping without
+    /// `MAP_FIXED` begins with its hint, if all pages of it are valid.
     pub fn go_check(&mut self, core: CoreId, request: Request) -> Outcome
         requires { IsAt (world M.slots self.old) core (Phase.Check request) }
         ensures { Goes (world M.slots self.old) core (Phase.Check request) result (world M.slots self.new) }

@@ -55,7 +55,8 @@ fn count_frames<M: SlotMap, A: Allocator>(
     }
 }
 
-/// Makes the change of pages that the core holds. The frames of replaced and unmapped pages are counted down first.
+/// Makes the change of pages that the core holds. The frames of replaced and unmapped
+/// pages are counted down first.
 fn make_change<M: SlotMap, A: Allocator>(
     map: &mut M,
     counts: &mut Refcache<A>,

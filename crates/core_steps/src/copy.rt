@@ -1,4 +1,5 @@
-//! The copy of a private page that shows its file's page, for a store: no core may go on translating it by the old frame.
+//! The copy of a private page that shows its file's page, for a store: no core may go on
+//! translating it by the old frame.
 ghost use Rattle.std.specs.Prelude.{◌≡◌, Some, OnOk, OnErr};
 ghost use Rattle.machine_model.specs.Filling.{cores_of};
 ghost use Rattle.machine_model.specs.Step.{Goes};
@@ -26,7 +27,8 @@ fn cores_of(info: &Option<PageInfo>) -> CoreSet
 }
 
 impl<M: SlotMap, H: Hardware, A: Allocator, L: Ledger> Engine<M, H, A, L> {
-    /// The core drops its own translations of the page, and the other recorded cores are asked to drop theirs.
+    /// The core drops its own translations of the page, and the other recorded cores are
+    /// asked to drop theirs.
     pub fn go_copy_post(&mut self, core: CoreId, touch: Touch, frame: u32) -> Outcome
         requires { IsAt (world M.slots self.old) core (Phase.CopyPost touch frame) }
         ensures { Goes (world M.slots self.old) core (Phase.CopyPost touch frame) result (world M.slots self.new) }
@@ -37,8 +39,8 @@ impl<M: SlotMap, H: Hardware, A: Allocator, L: Ledger> Engine<M, H, A, L> {
         Outcome::Stepped
     }
 
-    /// The page, which has the frame `shown`, gets a copy of it in `frame`, which no core has used yet. A refusal for memory
-    /// changes nothing.
+    /// The page, which has the frame `shown`, gets a copy of it in `frame`, which no core
+    /// has used yet. A refusal for memory changes nothing.
     fn make_copy(
         &mut self,
         core: CoreId,
@@ -72,7 +74,8 @@ impl<M: SlotMap, H: Hardware, A: Allocator, L: Ledger> Engine<M, H, A, L> {
         Ok(())
     }
 
-    /// Once no core is awaited, the page gets its copy at once. A refusal for memory, which comes only then, changes nothing.
+    /// Once no core is awaited, the page gets its copy at once. A refusal for memory,
+    /// which comes only then, changes nothing.
     pub fn go_copy_acks(
         &mut self,
         core: CoreId,

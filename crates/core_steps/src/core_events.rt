@@ -15,8 +15,9 @@ use std::alloc::Allocator;
 use vm_base::{CoreId, is_valid};
 
 impl<M: SlotMap, H: Hardware, A: Allocator, L: Ledger> Engine<M, H, A, L> {
-    /// The core acts on its oldest message: its tables are cleared at the first take, its TLB is invalidated at the second
-    /// (Intel SDM volume 3A, propagation of paging-structure changes to multiple processors).
+    /// The core acts on its oldest message: its tables are cleared at the first take, its
+    /// TLB is invalidated at the second (Intel SDM volume 3A, propagation of
+    /// paging-structure changes to multiple processors).
     pub fn take(&mut self, core: CoreId) -> Outcome
         requires { IsOf (world M.slots self.old) core }
         ensures { TakesMessage (world M.slots self.old) core

@@ -8,8 +8,8 @@ use slot_lock::Touch;
 use std::alloc::Allocator;
 use vm_base::{CoreId, CoreSet, NoMemory, PageRange, Prot};
 
-/// The tables and the TLB of each core, and its inbox. A clause sees them as `parts`: how many cores there are, and the
-/// hardware of the abstract machine. Only `new` and `install` take memory.
+/// The tables and the TLB of each core, and its inbox. A clause sees them as `parts`: how many
+/// cores there are, and the hardware of the abstract machine. Only `new` and `install` take memory.
 #[derive(Drop)]
 pub(crate) struct Cores<H: Hardware, A: Allocator> {
     /// Of each core: its tables and its TLB.
@@ -57,7 +57,8 @@ impl<H: Bare<A>, A: Allocator + Clone> Cores<H, A> {
 }
 
 impl<H: Hardware, A: Allocator> Cores<H, A> {
-    ghost use Rattle.std.specs.Prelude.{◌<◌, true, Some, is_some, IfNone, IfSome, OnOk, OnErr, if◌then◌else◌};
+    ghost use Rattle.std.specs.Prelude.{◌<◌, true, Some, is_some, if◌then◌else◌};
+    ghost use Rattle.std.specs.Prelude.{IfNone, IfSome, OnOk, OnErr};
     ghost use Rattle.vm_base.specs.Cores.{members};
     ghost use Rattle.vm_base.specs.Functions.{put};
     ghost use Rattle.vm_base.specs.Pages.{is_page, are_pages};
@@ -67,7 +68,10 @@ impl<H: Hardware, A: Allocator> Cores<H, A> {
     ghost use Rattle.shootdown.specs.Inboxes.{awaited};
     ghost use Rattle.shootdown.specs.Messages.{asked, remaining};
     ghost use Rattle.machine_model.specs.Changes.{AwaitsNobody, Awaits};
-    ghost use Rattle.machine_model.specs.Translating.{translated_by, frame_reached, after_translating, can_walk, after_walk, after_eviction, after_shot, tables_cleared, tlb_invalidated, with_table, with_inbox};
+    ghost use Rattle.machine_model.specs.Translating.{translated_by, frame_reached, after_translating};
+    ghost use Rattle.machine_model.specs.Translating.{can_walk, after_walk, after_eviction, after_shot};
+    ghost use Rattle.machine_model.specs.Translating.{tables_cleared, tlb_invalidated};
+    ghost use Rattle.machine_model.specs.Translating.{with_inbox, with_table};
     ghost use Rattle.core_steps.specs.Parts.{parts};
 
     /// How the core translates the access. A hit is one look in its TLB.
@@ -82,7 +86,8 @@ impl<H: Hardware, A: Allocator> Cores<H, A> {
         self.cpus[core.index() as usize].translate(touch.page, touch.access)
     }
 
-    /// The core's tables get the page's entry. Memory may be wanting only where they have none; then nothing changes.
+    /// The core's tables get the page's entry. Memory may be wanting only where they have
+    /// none; then nothing changes.
     pub fn install(
         &mut self,
         core: CoreId,
@@ -102,7 +107,8 @@ impl<H: Hardware, A: Allocator> Cores<H, A> {
         self.cpus[core.index() as usize].install(page, frame, prot)
     }
 
-    /// The core's TLB gets the page's translation from its tables, if they have one and the TLB has none; tells whether it did.
+    /// The core's TLB gets the page's translation from its tables, if they have one and
+    /// the TLB has none; tells whether it did.
     pub fn walk(&mut self, core: CoreId, page: u64) -> bool
         requires here { core < (parts self.old).count }
         requires page { is_page page ≡ true }
@@ -143,8 +149,8 @@ impl<H: Hardware, A: Allocator> Cores<H, A> {
         self.cpus[core.index() as usize].invalidate(range);
     }
 
-    /// The core drops its own translations of the pages of the range, and every other core of the set is asked to drop its
-    /// own. The core then waits for these.
+    /// The core drops its own translations of the pages of the range, and every other
+    /// core of the set is asked to drop its own. The core then waits for these.
     pub fn shoot(&mut self, core: CoreId, set: CoreSet, range: PageRange)
         requires here { core < (parts self.old).count }
         requires pages { are_pages range ≡ true }
@@ -158,7 +164,8 @@ impl<H: Hardware, A: Allocator> Cores<H, A> {
         self.inboxes.post(core, set.without(core), range);
     }
 
-    /// What the oldest message of the core's inbox asks it to do. At the second take of a message it is acknowledged.
+    /// What the oldest message of the core's inbox asks it to do. At the second take of a
+    /// message it is acknowledged.
     pub fn take(&mut self, core: CoreId) -> Took
         requires { core < (parts self.old).count }
         ensures took { result ≡ asked ((parts self.old).hardware.inbox core) }

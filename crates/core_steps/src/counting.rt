@@ -15,7 +15,8 @@ use std::alloc::Allocator;
 use vm_base::{CoreId, is_valid};
 
 impl<M: SlotMap, H: Hardware, A: Allocator, L: Ledger> Engine<M, H, A, L> {
-    /// The core flushes one of its counts, or ends its part of the epoch (Refcache of the RadixVM paper, EuroSys 2013).
+    /// The core flushes one of its counts, or ends its part of the epoch (Refcache of the
+    /// RadixVM paper, EuroSys 2013).
     pub fn flush(&mut self, core: CoreId) -> Outcome
         requires { IsOf (world M.slots self.old) core }
         ensures { FlushesOnce (world M.slots self.old) core result (world M.slots self.new) }
@@ -26,7 +27,8 @@ impl<M: SlotMap, H: Hardware, A: Allocator, L: Ledger> Engine<M, H, A, L> {
         }
     }
 
-    /// The core reviews the frame at the front of its queue. If no page has it any more, it may be taken again.
+    /// The core reviews the frame at the front of its queue. If no page has it any more,
+    /// it may be taken again.
     pub fn review(&mut self, core: CoreId) -> Outcome
         requires { IsOf (world M.slots self.old) core }
         ensures { ReviewsOnce (world M.slots self.old) core result (world M.slots self.new) }

@@ -1,4 +1,5 @@
-//! The decision of a change whose pages are held, and the message to the cores that may have translations of them.
+//! The decision of a change whose pages are held, and the message to the cores that may
+//! have translations of them.
 ghost use Rattle.std.specs.Prelude.{◌≡◌};
 ghost use Rattle.machine_model.specs.Step.{Goes};
 ghost use Rattle.core_steps.specs.State.{world};
@@ -29,7 +30,8 @@ impl<M: SlotMap, H: Hardware, A: Allocator, L: Ledger> Engine<M, H, A, L> {
         Outcome::Stepped
     }
 
-    /// The core drops its own translations of the pages, and the other recorded cores are asked to drop theirs.
+    /// The core drops its own translations of the pages, and the other recorded cores are
+    /// asked to drop theirs.
     pub fn go_post(&mut self, core: CoreId, change: Change, shoot: CoreSet) -> Outcome
         requires { IsAt (world M.slots self.old) core (Phase.Post change shoot) }
         ensures { Goes (world M.slots self.old) core (Phase.Post change shoot) result

@@ -1,8 +1,10 @@
 //! One event: a call begins or goes one step on, a core acts for itself, or slots are joined.
 ghost use Rattle.std.specs.Prelude.{◌≡◌, ◌+◌, ◌^◌, ◌<◌, length, true, IfOk};
+ghost use Rattle.machine_model.specs.declared.event.Event.{Event};
 ghost use Rattle.machine_model.specs.Events.{core_of};
 ghost use Rattle.machine_model.specs.Step.{Acts, Begins, Goes, Step, with_event, is_here};
 ghost use Rattle.machine_sound.specs.Invariant.{Fine};
+ghost use Rattle.core_steps.specs.AtOnce.{IsReady};
 ghost use Rattle.core_steps.specs.State.{phase_of, world};
 ghost use Rattle.core_steps.specs.Moving.{JoinsAsMap, MayWant, Tries, WantsMemory};
 
@@ -116,6 +118,25 @@ impl<M: SlotMap, H: Hardware, A: Allocator, L: Ledger> Engine<M, H, A, L> {
     {
         self.calls.events += 1;
         match self.act(event) {
+            Ok(outcome) => Ok(outcome),
+            Err(NoMemory) => {
+                self.calls.events -= 1;
+                Err(NoMemory)
+            }
+        }
+    }
+
+    /// The event of the next step of the core's call: what `step` makes of it where one event more can
+    /// be counted and the core is the machine's, without a look at either. A refusal for memory changes
+    /// nothing.
+    pub fn go_next(&mut self, core: CoreId) -> Result<Outcome, NoMemory>
+        requires { IsReady (world M.slots self.old) core }
+        ensures { Tries (Step (world M.slots self.old) (Event.Go core))
+            (MayWant (world M.slots self.old) (Event.Go core))
+            (world M.slots self.old) result (world M.slots self.new) }
+    {
+        self.calls.events += 1;
+        match self.go(core) {
             Ok(outcome) => Ok(outcome),
             Err(NoMemory) => {
                 self.calls.events -= 1;

@@ -1,5 +1,6 @@
-//! A fault of an access whose page is held: what the page's slot says is read, a frame is taken, the page's translation is
-//! installed, and the core is recorded. `filling` and `copy` say how the page gets the frame.
+//! A fault of an access whose page is held: what the page's slot says is read, a frame is
+//! taken, the page's translation is installed, and the core is recorded. `filling` and
+//! `copy` say how the page gets the frame.
 ghost use Rattle.std.specs.Prelude.{◌≡◌, ℕ, ◌<◌, true, false, length, IfNone, IfSome};
 ghost use Rattle.slot_lock.specs.Plan.{IsSoundTouch};
 ghost use Rattle.vm_calls.specs.declared.fault.Settled.{Settled};
@@ -21,7 +22,8 @@ use std::alloc::Allocator;
 use vm_base::{CoreId, NoMemory, PageInfo, Reply, SegvCode};
 use vm_calls::{Settled, settle};
 
-/// Where the call goes on that has taken this frame: the page gets it, or a copy in it of the frame that the page has.
+/// Where the call goes on that has taken this frame: the page gets it, or a copy in it of
+/// the frame that the page has.
 fn taken_for(touch: Touch, old: Option<u32>, frame: u32) -> Phase
     ensures { result ≡ taken_for touch old frame }
 {
@@ -35,7 +37,8 @@ fn taken_for(touch: Touch, old: Option<u32>, frame: u32) -> Phase
 }
 
 impl<M: SlotMap, H: Hardware, A: Allocator, L: Ledger> Engine<M, H, A, L> {
-    /// The access goes on by what it found at its page: it is answered, or the page has a frame, or wants one.
+    /// The access goes on by what it found at its page: it is answered, or the page has a
+    /// frame, or wants one.
     fn settled_to(&mut self, core: CoreId, touch: Touch, settled: Settled)
         requires here { core < length self.old.calls.phases.items }
         requires room { answer_count (L.entries self.old.calls.log) < self.old.calls.requests.limit }
@@ -57,8 +60,8 @@ impl<M: SlotMap, H: Hardware, A: Allocator, L: Ledger> Engine<M, H, A, L> {
         }
     }
 
-    /// What the page's slot says is read: no mapping, a protection that forbids the access, a page past its file's end, a
-    /// frame that is there, or one that is still to be taken.
+    /// What the page's slot says is read: no mapping, a protection that forbids the access,
+    /// a page past its file's end, a frame that is there, or one that is still to be taken.
     pub fn go_settle(&mut self, core: CoreId, touch: Touch) -> Outcome
         requires { IsAt (world M.slots self.old) core (Phase.Settle touch) }
         ensures { Goes (world M.slots self.old) core (Phase.Settle touch) result (world M.slots self.new) }
@@ -121,7 +124,8 @@ impl<M: SlotMap, H: Hardware, A: Allocator, L: Ledger> Engine<M, H, A, L> {
         }
     }
 
-    /// The core's tables get the page's entry, and the core is recorded on the page. A refusal for memory changes nothing.
+    /// The core's tables get the page's entry, and the core is recorded on the page. A
+    /// refusal for memory changes nothing.
     pub fn go_install(&mut self, core: CoreId, touch: Touch) -> Result<Outcome, NoMemory>
         requires { IsAt (world M.slots self.old) core (Phase.Install touch) }
         ensures { Tries (Goes (world M.slots self.old) core (Phase.Install touch))

@@ -1,5 +1,5 @@
-//! What a page has to do with the page of its file: whether that is there, which frame caches it, and what translations of the
-//! page allow.
+//! What a page has to do with the page of its file: whether that is there, which frame
+//! caches it, and what translations of the page allow.
 ghost use Rattle.std.specs.Prelude.{◌≡◌};
 ghost use Rattle.backing.specs.Files.{cached_in, files_of};
 ghost use Rattle.machine_model.specs.Accesses.{is_past_end};
@@ -44,8 +44,8 @@ pub fn file_frame<A: Allocator>(objects: &Objects<A>, back: Back) -> Option<u32>
     }
 }
 
-/// The protection that the page's entries have: through a private page that shows its file's page nothing is stored, so that the
-/// file never sees a store (POSIX.1-2017, mmap, `MAP_PRIVATE`).
+/// The protection that the page's entries have: through a private page that shows its file's page
+/// nothing is stored, so that the file never sees a store (POSIX.1-2017, mmap, `MAP_PRIVATE`).
 pub fn prot_installed<A: Allocator>(objects: &Objects<A>, info: &PageInfo) -> Prot
     ensures { result ≡ prot_installed (cached_in objects.now) info.now }
 {

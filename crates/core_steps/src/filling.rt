@@ -1,4 +1,5 @@
-//! How a page gets its frame: a new one of zeros, the one that caches its file page, or a copy of its file page.
+//! How a page gets its frame: a new one of zeros, the one that caches its file page, or a
+//! copy of its file page.
 ghost use Rattle.std.specs.Prelude.{◌≡◌, None, Some};
 ghost use Rattle.vm_base.specs.declared.info.Back.TheVariants.{Anon, Private};
 ghost use Rattle.vm_base.specs.declared.rights.Access.TheVariants.{Store};
@@ -53,8 +54,8 @@ impl<M: SlotMap, H: Hardware, A: Allocator, L: Ledger> Engine<M, H, A, L> {
         Outcome::Stepped
     }
 
-    /// The private page gets the frame that the call has taken, with the bytes of its file page as they now are and counted once,
-    /// for a store. A refusal for memory changes nothing.
+    /// The private page gets the frame that the call has taken, with the bytes of its file page
+    /// as they now are and counted once, for a store. A refusal for memory changes nothing.
     fn fill_copy(
         &mut self,
         core: CoreId,
@@ -83,7 +84,8 @@ impl<M: SlotMap, H: Hardware, A: Allocator, L: Ledger> Engine<M, H, A, L> {
         Ok(Outcome::Stepped)
     }
 
-    /// The page shows the frame that caches its file page, and is counted there; a frame that the call has taken goes back.
+    /// The page shows the frame that caches its file page, and is counted there; a frame
+    /// that the call has taken goes back.
     fn share(&mut self, core: CoreId, touch: Touch, own: Option<u32>, cached: u32)
         requires at { IsAt (world M.slots self.old) core (Phase.Fill touch own) }
         requires cached { file_frame (world M.slots self.old).memory.cached
@@ -96,7 +98,8 @@ impl<M: SlotMap, H: Hardware, A: Allocator, L: Ledger> Engine<M, H, A, L> {
         self.go_to(core, Phase::Install(touch));
     }
 
-    /// The frame gets the file page, caches it from here on, and is counted for the file and for the page, which shows it.
+    /// The frame gets the file page, caches it from here on, and is counted for the file
+    /// and for the page, which shows it.
     fn cache(&mut self, core: CoreId, touch: Touch, frame: u32, file: u32, page: u64)
         requires at { IsAt (world M.slots self.old) core (Phase.Fill touch (Some frame)) }
         requires backed { IsOfFile (back_of ((M.slots self.old.map).info touch.page)) file page }
@@ -110,7 +113,8 @@ impl<M: SlotMap, H: Hardware, A: Allocator, L: Ledger> Engine<M, H, A, L> {
         self.go_to(core, Phase::Install(touch));
     }
 
-    /// The page shows its file page: by the frame that caches it, or else by the one that the call has taken.
+    /// The page shows its file page: by the frame that caches it, or else by the one that
+    /// the call has taken.
     fn show_file(
         &mut self,
         core: CoreId,
@@ -136,8 +140,8 @@ impl<M: SlotMap, H: Hardware, A: Allocator, L: Ledger> Engine<M, H, A, L> {
         Outcome::Stepped
     }
 
-    /// The page gets its frame, by what backs it and by the access. A refusal for memory, which only a private page's first store
-    /// may have, changes nothing.
+    /// The page gets its frame, by what backs it and by the access. A refusal for memory,
+    /// which only a private page's first store may have, changes nothing.
     pub fn go_fill(
         &mut self,
         core: CoreId,

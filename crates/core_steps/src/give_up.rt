@@ -4,7 +4,8 @@ ghost use Rattle.vm_base.specs.declared.page.PageRange.{PageRange};
 ghost use Rattle.slot_lock.specs.Plan.{IsSoundGoal};
 ghost use Rattle.frames.specs.Parts.{frame_bytes, free_frames};
 ghost use Rattle.machine_model.specs.GivingUp.{GivesUp, given_back};
-ghost use Rattle.machine_model.specs.Holding.{can_give_up, if_some_page, range_held, still_held, taken_in};
+ghost use Rattle.machine_model.specs.Holding.{can_give_up, if_some_page, range_held};
+ghost use Rattle.machine_model.specs.Holding.{still_held, taken_in};
 ghost use Rattle.core_steps.specs.State.{phase_of, world};
 ghost use Rattle.core_steps.specs.Moving.{AwaitsCopy, IsOf, goal_in, is_copy_due};
 
@@ -110,8 +111,8 @@ impl<M: SlotMap, H: Hardware, A: Allocator, L: Ledger> Engine<M, H, A, L> {
         self.cores.awaited(core).is_some()
     }
 
-    /// The core's call is given up, if it still can be: a frame that no page has yet goes back, and what is held is unlocked
-    /// next.
+    /// The core's call is given up, if it still can be: a frame that no page has yet goes
+    /// back, and what is held is unlocked next.
     pub fn give_up(&mut self, core: CoreId) -> Outcome
         requires { IsOf (world M.slots self.old) core }
         ensures { GivesUp (world M.slots self.old) core (phase_of self.old core) result

@@ -1,11 +1,13 @@
 //! What becomes of the entries of a log.
-ghost use Rattle.std.specs.Prelude.{◌≡◌, ◌+◌, ◌<◌, ◌≤◌, ◌++◌, ◌∷◌, [], ℕ, List, Bool, false, length, IfOk, IfNone, IfSome, OnOk, OnErr};
+ghost use Rattle.std.specs.Prelude.{◌≡◌, ◌+◌, ◌^◌, ◌<◌, ◌≤◌, ◌++◌, ◌∷◌, [], ℕ, List, length, Bool};
+ghost use Rattle.std.specs.Prelude.{false, IfOk, IfNone, IfSome, OnOk, OnErr};
 ghost use Rattle.machine_model.specs.declared.log.Entry.{Entry as EntryOf};
 
 use machine_model::Entry;
 use std::alloc::AllocError;
 
-/// A log of at most `limit` entries, for all of which there is room. Only an entry beyond them may take memory.
+/// A log of at most `limit` entries, for all of which there is room. Only an entry beyond
+/// them may take memory.
 pub trait Ledger {
     // The entries so far.
     ghost entries: { Self → List EntryOf };
@@ -20,12 +22,15 @@ pub trait Ledger {
         ensures items { entries self.new ≡ entries self.old ++ entry ∷ [] }
         ensures limit { limit self.new ≡ limit self.old };
 
-    /// One entry more, for which memory is taken: the room that was left stays. A refusal changes nothing.
+    /// One entry more, for which memory may be taken: the room that was left stays. A refusal
+    /// changes nothing. A log that keeps no entries takes no memory, and refuses only where 64
+    /// bits don't hold the new limit.
     fn push_beyond(&mut self, entry: Entry) -> Result<(), AllocError>
         ensures items { OnOk result (entries self.new ≡ entries self.old ++ entry ∷ []) }
         ensures limit { OnOk result (limit self.new ≡ limit self.old + 1) }
         ensures same_items { OnErr result (entries self.new ≡ entries self.old) }
-        ensures same_limit { OnErr result (limit self.new ≡ limit self.old) };
+        ensures same_limit { OnErr result (limit self.new ≡ limit self.old) }
+        ensures err_only { OnErr result (keeps ≡ false → 2 ^ 64 ≤ limit self.old + 1) };
 
     /// The entries so far, in order, where they are kept.
     fn kept(&self) -> Option<&[Entry]>

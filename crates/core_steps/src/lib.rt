@@ -1,7 +1,9 @@
-//! The machine: one address space, which its cores' events move step by step as the abstract machine says.
+//! The machine: one address space, which its cores' events move step by step as the
+//! abstract machine says.
 #![tactic(auto)]
 
 mod access;
+mod access_at_once;
 mod acquire;
 mod answer;
 mod call_table;
@@ -27,6 +29,7 @@ mod place;
 pub mod run_result;
 pub mod running;
 pub mod setup;
+mod slots_at_once;
 mod starting;
 mod tally;
 

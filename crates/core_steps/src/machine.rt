@@ -26,7 +26,8 @@ pub enum Finished {
     Stuck,
 }
 
-/// One address space over a slot map, which events move step by step. What becomes of its log's entries, its ledger says.
+/// One address space over a slot map, which events move step by step. What becomes of its log's
+/// entries, its ledger says.
 #[derive(Drop)]
 pub struct Machine<M: SlotMap, A: Allocator + Clone, L: Ledger>
 where
@@ -43,8 +44,9 @@ impl<M: SlotMap + Drop, A: Allocator + Clone + Drop, L: Opening<A> + Drop> Machi
     ghost use Rattle.core_steps.specs.Setups.{fault_of, IsFirstFault, made_of};
     ghost use Rattle.core_steps.specs.Machine.{state};
 
-    /// A machine over a new slot map. Its ledger has room for the reply of each call, so that logging one takes no memory. The
-    /// bytes of the files are moved, not copied. Of several faults the first is told, in the order of `SetupFault`.
+    /// A machine over a new slot map. Its ledger has room for the reply of each call, so that logging
+    /// one takes no memory. The bytes of the files are moved, not copied. Of several faults the first
+    /// is told, in the order of `SetupFault`.
     pub fn new(alloc: A, map: M, setup: Setup<A>) -> Result<Machine<M, A, L>, SetupFault>
         requires { IsNew (M.slots map) }
         ensures opening { IfOk result (λ machine. state machine ≡ new_world (made_of setup) (M.slots map)) }
@@ -65,19 +67,22 @@ impl<M: SlotMap, A: Allocator + Clone, L: Ledger> Machine<M, A, L> {
     ghost use Rattle.std.specs.Prelude.{◌≡◌, ◌≤◌, ◌<◌, false, true, IfOk, OnErr, IfSome, IfNone};
     ghost use Rattle.vm_base.specs.Pages.{is_page};
     ghost use Rattle.mmu.specs.Tables.{word_of};
+    ghost use Rattle.machine_model.specs.declared.event.Event.{Event};
     ghost use Rattle.machine_model.specs.Step.{Step, StepsTo};
     ghost use Rattle.machine_model.specs.World.{World};
     ghost use Rattle.machine_sound.specs.Sound.{IsSoundStep};
     ghost use Rattle.core_steps.specs.Moving.{JoinsAsMap, MayWant, Tries};
-    ghost use Rattle.core_steps.specs.Finishing.{Calls, Finishes, IsCallRefused, IsRefused, finish_limit};
+    ghost use Rattle.core_steps.specs.Finishing.{Calls, Finishes, finish_limit};
+    ghost use Rattle.core_steps.specs.Finishing.{IsCallRefused, IsRefused};
     ghost use Rattle.core_steps.specs.Machine.{state, IsLegal};
     ghost use Rattle.core_steps.specs.MapLines.{HasNoMap, IsLineStart, IsNextMap, ListsMaps};
 
-    /// One event. A refusal for memory leaves the machine unchanged, and comes only at a step of a call at which a slot is to
-    /// be divided, which installs the first entry of a page, or which makes a private page's copy. Slots are joined just
-    /// where the map can join them. The state that is left is one of a plain page map's (POSIX.1-2017, mmap, munmap and
-    /// mprotect). The step's log entry, if it made one, was due, a frame became free only by a review or by the call that
-    /// had taken it and gave it to no page, and what is waited for is there.
+    /// One event. A refusal for memory leaves the machine unchanged, and comes only at a step of a call
+    /// at which a slot is to be divided, which installs the first entry of a page, or which makes a
+    /// private page's copy. Slots are joined just where the map can join them. The state that is left
+    /// is one of a plain page map's (POSIX.1-2017, mmap, munmap and mprotect). The step's log entry, if
+    /// it made one, was due, a frame became free only by a review or by the call that had taken it and
+    /// gave it to no page, and what is waited for is there.
     pub fn step(&mut self, event: Event) -> Result<Outcome, NoMemory>
         ensures step { Tries (Step (state self.old) event)
             (MayWant (state self.old) event)
@@ -91,7 +96,21 @@ impl<M: SlotMap, A: Allocator + Clone, L: Ledger> Machine<M, A, L> {
         self.engine.step(event)
     }
 
-    // Steps of the core's call until one isn't Stepped, where so many plain ones were made before, at most 2^40 with them.
+    // The next step of the core's call, as `step` makes it: without a look at what event it is.
+    fn next(&mut self, core: CoreId) -> Result<Outcome, NoMemory>
+        ensures step { Tries (Step (state self.old) (Event.Go core))
+            (MayWant (state self.old) (Event.Go core))
+            (state self.old) result (state self.new) }
+        ensures legal { IsLegal (state self.new) }
+    {
+        if self.engine.calls.events == u64::MAX || !self.engine.is_here(Some(core)) {
+            return self.step(Event::Go(core));
+        }
+        self.engine.go_next(core)
+    }
+
+    // Steps of the core's call until one isn't Stepped, where so many plain ones were made before, at
+    // most 2^40 with them.
     fn go_on(&mut self, core: CoreId, steps: u64) -> Result<Finished, NoMemory>
         requires { steps < finish_limit }
         ensures ends { IfOk result (λ finished. (was : World) → StepsTo was core steps (state self.old)
@@ -100,20 +119,23 @@ impl<M: SlotMap, A: Allocator + Clone, L: Ledger> Machine<M, A, L> {
             → IsRefused was core (state self.new)) }
         ensures legal { IsLegal (state self.new) }
     {
-        'steps: for n in steps..FINISH_LIMIT {
-            let outcome = match self.step(Event::Go(core)) {
+        let mut n = steps;
+        'steps: while n < FINISH_LIMIT {
+            n += self.engine.slots_at_once(core, FINISH_LIMIT - 1 - n);
+            let outcome = match self.next(core) {
                 Ok(outcome) => outcome,
                 Err(refused) => return Err(refused),
             };
             if outcome != Outcome::Stepped {
                 return Ok(Finished::Last(outcome));
             }
+            n += 1;
         }
         Ok(Finished::Stuck)
     }
 
-    /// Steps of the core's call until one isn't Stepped, at most 2^40. After a refusal for memory the steps before it
-    /// stand.
+    /// Steps of the core's call until one isn't Stepped, at most 2^40. After a refusal for memory the
+    /// steps before it stand.
     pub fn finish(&mut self, core: CoreId) -> Result<Finished, NoMemory>
         ensures ends { IfOk result (λ finished. Finishes (state self.old) core finished (state self.new)) }
         ensures err { OnErr result (IsRefused (state self.old) core (state self.new)) }
@@ -122,9 +144,9 @@ impl<M: SlotMap, A: Allocator + Clone, L: Ledger> Machine<M, A, L> {
         self.go_on(core, 0)
     }
 
-    /// A call, and if it begins its steps until one isn't Stepped, at most 2^40: what `step` with the call's event does, and
-    /// then `finish`. A call that doesn't begin has told why: Idle or Full. After a refusal for memory the steps before it
-    /// stand.
+    /// A call, and if it begins its steps until one isn't Stepped, at most 2^40: what `step` with the
+    /// call's event does, and then `finish`. A call that doesn't begin has told why: Idle or Full.
+    /// After a refusal for memory the steps before it stand.
     pub fn call(&mut self, core: CoreId, request: Request) -> Result<Finished, NoMemory>
         ensures ends { IfOk result (λ finished. Calls (state self.old) core request finished (state self.new)) }
         ensures err { OnErr result (IsCallRefused (state self.old) core request (state self.new)) }
@@ -140,9 +162,9 @@ impl<M: SlotMap, A: Allocator + Clone, L: Ledger> Machine<M, A, L> {
         }
     }
 
-    /// All mappings, in order: those of the plain page map to which the log leads (POSIX.1-2017, mmap, munmap and mprotect).
-    /// Neighbouring pages are one where the protection is the same and the backing goes on. The error says that memory ran out,
-    /// and some page is mapped.
+    /// All mappings, in order: those of the plain page map to which the log leads (POSIX.1-2017, mmap,
+    /// munmap and mprotect). Neighbouring pages are one where the protection is the same and the
+    /// backing goes on. The error says that memory ran out, and some page is mapped.
     pub fn plain_maps<B: Allocator>(&self, alloc: B) -> Result<Vec<MapLine, B>, NoMemory>
         ensures lines { IfOk result (λ lines. ListsMaps (state self.now) lines.items) }
         ensures err_only { OnErr result (¬ HasNoMap (state self.now) 1) }
@@ -151,8 +173,8 @@ impl<M: SlotMap, A: Allocator + Clone, L: Ledger> Machine<M, A, L> {
         all_lines(&self.engine.map, alloc)
     }
 
-    /// The first of these mappings that begins at the page `from` or above, where none goes across that page: it is 1, or the
-    /// end of another. It takes no memory.
+    /// The first of these mappings that begins at the page `from` or above, where none goes across that
+    /// page: it is 1, or the end of another. It takes no memory.
     pub fn next_map_line(&self, from: u64) -> Option<MapLine>
         requires from { 1 ≤ from }
         requires begins { IsLineStart (state self.now) from }
@@ -179,8 +201,8 @@ impl<M: SlotMap, A: Allocator + Clone, L: Ledger> Machine<M, A, L> {
         self.engine.calls.phases.len()
     }
 
-    /// The 64 bits of the entry that the core's tables have of the page (Intel SDM volume 3A, 4-level paging, format of a
-    /// page-table entry that maps a 4-KByte page).
+    /// The 64 bits of the entry that the core's tables have of the page (Intel SDM volume 3A, 4-level
+    /// paging, format of a page-table entry that maps a 4-KByte page).
     pub fn entry(&self, core: CoreId, page: u64) -> Option<u64>
         requires here { core < (state self.now).made.cores }
         requires page { is_page page ≡ true }
@@ -194,8 +216,8 @@ impl<M: SlotMap, A: Allocator + Clone> Machine<M, A, Kept<A>> {
     ghost use Rattle.std.specs.Prelude.{◌≡◌};
     ghost use Rattle.core_steps.specs.Machine.{state, IsLegal};
 
-    /// The entries made so far, in order. They are those of a plain page map (POSIX.1-2017, mmap, munmap and mprotect),
-    /// applied one after another.
+    /// The entries made so far, in order. They are those of a plain page map (POSIX.1-2017, mmap,
+    /// munmap and mprotect), applied one after another.
     pub fn log(&self) -> &[Entry]
         ensures entries { result.now ≡ (state self.now).calls.log }
         ensures legal { IsLegal (state self.now) }

@@ -1,11 +1,13 @@
-//! How a mapping without `MAP_FIXED` finds its place: at its hint, else at one run of its window that it guesses to be free, else
-//! at the least room of its window. It holds one of the three at a time, and maps no page that it doesn't hold.
+//! How a mapping without `MAP_FIXED` finds its place: at its hint, else at one run of its
+//! window that it guesses to be free, else at the least room of its window. It holds one
+//! of the three at a time, and maps no page that it doesn't hold.
 ghost use Rattle.std.specs.Prelude.{◌≡◌, ◌+◌, ◌^◌, ◌<◌, ◌≤◌, IfSome};
 ghost use Rattle.vm_base.specs.Pages.{pages_from};
 ghost use Rattle.slot_lock.specs.declared.plan.Goal.TheVariants as GoalOf;
 ghost use Rattle.slot_lock.specs.declared.plan.Target.TheVariants.{Run};
 ghost use Rattle.slot_lock.specs.Plan.{IsSoundGoal, IsSoundPlace};
-ghost use Rattle.machine_model.specs.Placing.{GuessesThisRun, TakesWindow, back_to, elsewhere, guess_of, has_run, placing, trying};
+ghost use Rattle.machine_model.specs.Placing.{GuessesThisRun, TakesWindow, back_to, elsewhere};
+ghost use Rattle.machine_model.specs.Placing.{guess_of, has_run, placing, trying};
 ghost use Rattle.machine_model.specs.Step.{Goes};
 ghost use Rattle.core_steps.specs.State.{phase_of, world};
 ghost use Rattle.core_steps.specs.Moving.{IsAt, IsOf, Tries, WantsMemory};
@@ -100,8 +102,8 @@ fn back_to(place: Place, target: Target, held: Option<PageRange>) -> Phase
 }
 
 impl<M: SlotMap, H: Hardware, A: Allocator, L: Ledger> Engine<M, H, A, L> {
-    /// The least room of the window is guessed, or the window is taken where there is none: the slots are read as they are
-    /// now, and nobody holds them for the call yet.
+    /// The least room of the window is guessed, or the window is taken where there is
+    /// none: the slots are read as they are now, and nobody holds them for the call yet.
     pub fn go_guess(&mut self, core: CoreId, place: Place) -> Outcome
         requires { IsAt (world M.slots self.old) core (Phase.Guess place) }
         ensures { Goes (world M.slots self.old) core (Phase.Guess place) result (world M.slots self.new) }
@@ -111,7 +113,8 @@ impl<M: SlotMap, H: Hardware, A: Allocator, L: Ledger> Engine<M, H, A, L> {
         Outcome::Stepped
     }
 
-    /// The core's call, if it looks for a place, guesses the run from this page on, if it lies in its window.
+    /// The core's call, if it looks for a place, guesses the run from this page on, if it
+    /// lies in its window.
     pub fn guess(&mut self, core: CoreId, first: u64) -> Outcome
         requires { IsOf (world M.slots self.old) core }
         ensures { GuessesThisRun (world M.slots self.old) core (phase_of self.old core) first result
@@ -140,7 +143,8 @@ impl<M: SlotMap, H: Hardware, A: Allocator, L: Ledger> Engine<M, H, A, L> {
         Outcome::Stepped
     }
 
-    /// All pages of the target are held: the mapping goes to pages of it, looks elsewhere, or is refused.
+    /// All pages of the target are held: the mapping goes to pages of it, looks
+    /// elsewhere, or is refused.
     pub fn go_find(&mut self, core: CoreId, place: Place, target: Target) -> Outcome
         requires { IsAt (world M.slots self.old) core (Phase.Find place target) }
         ensures { Goes (world M.slots self.old) core (Phase.Find place target) result
@@ -187,8 +191,8 @@ impl<M: SlotMap, H: Hardware, A: Allocator, L: Ledger> Engine<M, H, A, L> {
         Outcome::Stepped
     }
 
-    /// One step towards slots that don't cross an edge of the range where the mapping goes. A refusal for memory changes
-    /// nothing.
+    /// One step towards slots that don't cross an edge of the range where the mapping
+    /// goes. A refusal for memory changes nothing.
     pub fn go_cut(
         &mut self,
         core: CoreId,

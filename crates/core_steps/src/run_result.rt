@@ -24,7 +24,7 @@ where
 pub enum RunFault {
     /// The setup makes no machine.
     Setup(SetupFault),
-    /// The event with this index, from 0, was refused for memory. Where it is the number of events, the list of outcomes
-    /// found no room, and no event was run.
+    /// The event with this index, from 0, was refused for memory. Where it is the number
+    /// of events, the list of outcomes found no room, and no event was run.
     NoMemory { at: usize },
 }

@@ -17,13 +17,14 @@ use machine_model::Event;
 use slot_lock::SlotMap;
 use std::alloc::Allocator;
 
-/// All events, in order, on a new machine over a new slot map. The outcomes and the machine are handed back: each reply stands
-/// once in its log, between the event that began its call and the event that handed it out. In each state of the run the log
-/// is that of a plain page map (POSIX.1-2017, mmap, munmap and mprotect), each translation agrees with that map, and no frame
-/// that something names is free.
+/// All events, in order, on a new machine over a new slot map. The outcomes and the
+/// machine are handed back: each reply stands once in its log, between the event that
+/// began its call and the event that handed it out. In each state of the run the log is
+/// that of a plain page map (POSIX.1-2017, mmap, munmap and mprotect), each translation
+/// agrees with that map, and no frame that something names is free.
 ///
-/// A fault of the setup comes before want of memory for the list of outcomes, and that before the first event. After a fault
-/// nothing is handed back.
+/// A fault of the setup comes before want of memory for the list of outcomes, and that
+/// before the first event. After a fault nothing is handed back.
 pub fn run<M: SlotMap + Drop, A: Allocator + Clone + Drop, L: Opening<A> + Drop>(
     alloc: A,
     map: M,
@@ -31,10 +32,12 @@ pub fn run<M: SlotMap + Drop, A: Allocator + Clone + Drop, L: Opening<A> + Drop>
     events: &[Event],
 ) -> Result<Run<M, A, L>, RunFault>
     requires { IsNew (M.slots map) }
-    ensures run { IfOk result (λ done. RunsTo (new_world (made_of setup) (M.slots map)) events.now done.outcomes.items (state done.machine)) }
+    ensures run { IfOk result (λ done. RunsTo (new_world (made_of setup) (M.slots map)) events.now
+        done.outcomes.items (state done.machine)) }
     ensures all { IfOk result (λ done. length done.outcomes.items ≡ length events.now) }
     ensures brackets { IfOk result (λ done. IsBracketed events.now done.outcomes.items (state done.machine)) }
-    ensures sound { IfOk result (λ done. SoundRun (new_world (made_of setup) (M.slots map)) events.now done.outcomes.items (state done.machine)) }
+    ensures sound { IfOk result (λ done. SoundRun (new_world (made_of setup) (M.slots map)) events.now
+        done.outcomes.items (state done.machine)) }
     ensures fault { IfErr result (λ fault. Fails (new_world (made_of setup) (M.slots map)) setup events.now fault) }
 {
     let Ok(own) = alloc.clone() else {

@@ -52,9 +52,9 @@ impl fmt::Display for SetupFault {
     }
 }
 
-/// The first fault of so many cores, frames, files and calls, if they have one; `has_long` tells whether one of the
-/// files has more bytes than a file may have. No memory is looked at, so that a setup can be tested before its files
-/// are there.
+/// The first fault of so many cores, frames, files and calls, if they have one;
+/// `has_long` tells whether one of the files has more bytes than a file may have. No
+/// memory is looked at, so that a setup can be tested before its files are there.
 pub fn first_fault(
     cores: u64,
     frames: u64,

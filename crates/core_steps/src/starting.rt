@@ -1,19 +1,21 @@
-//! A call that begins, with the steps that it can make at once. No step looks up anew what the one before it has left.
-ghost use Rattle.std.specs.Prelude.{◌≡◌};
+//! A call that begins, with the steps that it can make at once. No step looks up anew what the one
+//! before it has left.
+ghost use Rattle.std.specs.Prelude.{◌≡◌, ◌<◌, true, length};
 ghost use Rattle.machine_model.specs.declared.event.Event.{Event};
 ghost use Rattle.machine_model.specs.declared.event.Outcome.{Outcome};
 ghost use Rattle.machine_model.specs.declared.phase.Phase.{Phase};
 ghost use Rattle.machine_sound.specs.Sound.{IsReached};
-ghost use Rattle.core_steps.specs.AtOnce.{IsReady, Starts, TakesOne};
+ghost use Rattle.core_steps.specs.AtOnce.{CanBegin, IsReady, Starts, TakesOne};
 ghost use Rattle.core_steps.specs.State.{phase_of, world};
 
+use crate::access_at_once::access_of;
 use crate::engine::Engine;
 use crate::ledger::Ledger;
 use machine_model::{Outcome, Phase};
 use mmu::Hardware;
-use slot_lock::{SlotMap, Touch};
+use slot_lock::SlotMap;
 use std::alloc::Allocator;
-use vm_base::{CoreId, Reply, Request};
+use vm_base::{CoreId, Request};
 
 /// How far a call has come that was begun.
 #[derive(Clone, Copy, Debug, PartialEq, Eq)]
@@ -46,28 +48,20 @@ impl<M: SlotMap, H: Hardware, A: Allocator, L: Ledger> Engine<M, H, A, L> {
         let _ = self.go_check(core, request);
     }
 
-    // The event of the step that translates an access.
-    fn try_next(&mut self, core: CoreId, touch: Touch)
-        requires ready { IsReady (world M.slots self.old) core }
-        requires phase { phase_of self.old core ≡ Phase.Try touch }
-        ensures { TakesOne (world M.slots self.old) (Event.Go core) Outcome.Stepped (world M.slots self.new) }
+    // Tells whether a call of the core can begin.
+    fn can_begin(&self, core: CoreId) -> bool
+        requires { core < length self.now.calls.phases.items }
+        ensures { result ≡ true → CanBegin (world M.slots self.now) core }
     {
-        self.calls.events += 1;
-        let _ = self.go_try(core, touch);
+        match self.calls.phases[core.index() as usize] {
+            Phase::Free => !self.calls.requests.is_full(),
+            _ => false,
+        }
     }
 
-    // The event of the step that hands out the reply.
-    fn answer_next(&mut self, core: CoreId, reply: Reply)
-        requires ready { IsReady (world M.slots self.old) core }
-        requires phase { phase_of self.old core ≡ Phase.Answer reply }
-        ensures { TakesOne (world M.slots self.old) (Event.Go core) (Outcome.Answered reply) (world M.slots self.new) }
-    {
-        self.calls.events += 1;
-        let _ = self.go_answer(core, reply);
-    }
-
-    /// The events of a call and of its first steps, one after another: it begins, its arguments are checked, an access tries
-    /// its page, and where the page's translation is at hand the reply is handed out.
+    /// The events of a call and of its first steps: it begins, and its arguments are checked. Those of
+    /// an access are made at once: it tries its page too, and where the page's translation is at hand
+    /// the reply is handed out.
     pub fn start(&mut self, core: CoreId, request: Request) -> Started
         requires { ∥ IsReached (world M.slots self.old) ∥₁ }
         ensures starts { Starts (world M.slots self.old) core request result (world M.slots self.new) }
@@ -75,6 +69,11 @@ impl<M: SlotMap, H: Hardware, A: Allocator, L: Ledger> Engine<M, H, A, L> {
     {
         if self.calls.events >= u64::MAX - 3 || !self.is_here(Some(core)) {
             return Started::Untouched;
+        }
+        if let Some(touch) = access_of(request)
+            && self.can_begin(core)
+        {
+            return self.access_at_once(core, request, touch);
         }
         let outcome = self.begin(core, request);
         if outcome != Outcome::Stepped {
@@ -84,14 +83,6 @@ impl<M: SlotMap, H: Hardware, A: Allocator, L: Ledger> Engine<M, H, A, L> {
             return Started::Begun { steps: 0 };
         };
         self.check_next(core, request);
-        let Phase::Try(touch) = self.calls.phases[core.index() as usize] else {
-            return Started::Begun { steps: 1 };
-        };
-        self.try_next(core, touch);
-        let Phase::Answer(reply) = self.calls.phases[core.index() as usize] else {
-            return Started::Begun { steps: 2 };
-        };
-        self.answer_next(core, reply);
-        Started::Ended(Outcome::Answered(reply))
+        Started::Begun { steps: 1 }
     }
 }

@@ -1,5 +1,6 @@
 //! Lists that are only counted.
-ghost use Rattle.std.specs.Prelude.{◌≡◌, ◌+◌, ◌<◌, ◌≤◌, ◌++◌, ◌∷◌, [], nat_lt, length, not, OnOk, OnErr};
+ghost use Rattle.std.specs.Prelude.{◌≡◌, ◌+◌, ◌^◌, ◌<◌, ◌≤◌, ◌++◌, ◌∷◌, [], nat_lt};
+ghost use Rattle.std.specs.Prelude.{length, not, OnOk, OnErr};
 
 use history::History;
 use std::alloc::AllocError;
@@ -14,6 +15,7 @@ pub struct Tally<T> {
     /// How many there may be at the most.
     pub limit: u64,
     ghost counted: { count ≡ length items.items },
+    ghost within: { count ≤ limit },
 }
 
 impl<T> Tally<T> {
@@ -48,22 +50,20 @@ impl<T> Tally<T> {
         self.count
     }
 
-    /// One element more, beyond those that there may be: how many more there may be stays.
+    /// One element more, beyond those that there may be: how many more there may be stays. No memory
+    /// is taken: the error says that 64 bits don't hold the new limit, and then nothing changes.
     pub fn push_beyond(&mut self, value: &T) -> Result<(), AllocError>
         ensures items { OnOk result (self.new.items.items ≡ self.old.items.items ++ value.now ∷ []) }
         ensures limit { OnOk result (self.new.limit ≡ self.old.limit + 1) }
         ensures same_items { OnErr result (self.new.items.items ≡ self.old.items.items) }
         ensures same_limit { OnErr result (self.new.limit ≡ self.old.limit) }
+        ensures err_only { OnErr result (2 ^ 64 ≤ self.old.limit + 1) }
     {
-        let Some(limit) = self.limit.checked_add(1) else {
+        if self.limit == u64::MAX {
             return Err(AllocError);
-        };
-        let Some(count) = self.count.checked_add(1) else {
-            return Err(AllocError);
-        };
-        self.limit = limit;
-        self.items = self.items.and(value);
-        self.count = count;
+        }
+        self.limit += 1;
+        let _ = self.push(value);
         Ok(())
     }
 }

@@ -1,5 +1,6 @@
 -- What happens beside a call that waits, or where no core has a call
-use Rattle.std.proofs.Common.{◌≡◌, ◌≢◌, ℕ, ◌<◌, ◌≤◌, ◌==◌, ◌⊎◌, Bool, true, false, cond, inl, inr, refl, sym, ap, subst, arith, None, Some, Option, List, [], ◌∷◌, ◌∙◌}
+use Rattle.std.proofs.Common.{◌≡◌, ◌≢◌, ℕ, ◌<◌, ◌≤◌, ◌==◌, ◌⊎◌, Bool, true, false, cond, inl, inr, refl, sym}
+use Rattle.std.proofs.Common.{ap, subst, arith, None, Some, Option, List, [], ◌∷◌, ◌∙◌}
 use Rattle.std.specs.Prelude.{if◌then◌else◌, is_some, nat_lt, pred}
 use Rattle.std.proofs.lemmas.Bool.Decides.{nat_tests}
 use Rattle.vm_base.specs.declared.info.PageInfo.{PageInfo}

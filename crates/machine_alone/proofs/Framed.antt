@@ -20,7 +20,9 @@ use Rattle.machine_model.specs.Step.{Run, with_event}
 use Rattle.machine_laws.specs.Orderly.{IsUsable}
 use Rattle.machine_laws.proofs.Changed.{changed_all}
 use Rattle.machine_laws.proofs.Moves.{IsCallOf, call_at}
-use Rattle.machine_laws.proofs.Shapes.{GoesBy, moves, divides, cuts, fits, owns, lets_go, answers, posts, commits, takes, zeroes, first_copies, caches, shares, posts_copy, copies, installs, accesses, faults, Works, clears, invalidates, walks, evicts, flushes, reviews, frees, Shape, rests, begins, ends, goes, aims, gives_up, works, joins, Comes, stopped, acts as happens, comes}
+use Rattle.machine_laws.proofs.Shapes.{GoesBy, moves, divides, cuts, fits, owns, lets_go, answers, posts, commits, takes, zeroes, first_copies, caches, shares}
+use Rattle.machine_laws.proofs.Shapes.{posts_copy, copies, installs, accesses, faults, Works, clears, invalidates, walks, evicts, flushes, reviews, frees}
+use Rattle.machine_laws.proofs.Shapes.{Shape, rests, begins, ends, goes, aims, gives_up, works, joins, Comes, stopped, acts as happens, comes}
 use Rattle.machine_sound.specs.Invariant.{Fine}
 use Rattle.machine_sound.specs.Sound.{IsReached}
 use Rattle.machine_sound.proofs.Kept.{fine_step}

@@ -15,7 +15,8 @@ use Rattle.machine_model.specs.Actions.{to, let_go, with_entry, answer_entry}
 use Rattle.machine_model.specs.Locks.{held_after, locked_to}
 use Rattle.machine_model.specs.World.{World}
 use Rattle.machine_laws.proofs.Effects.{Status, Closed, Asked, Told, status, told_in, moves_quiet, replies_quiet, locked_quiet, back_quiet, taken_asked}
-use Rattle.machine_laws.proofs.Shapes.{LetsGo, unlocks, returns, releases, GoesBy, moves, divides, cuts, fits, owns, lets_go, answers, posts, commits, takes, zeroes, first_copies, caches, shares, posts_copy, copies, installs, accesses, faults}
+use Rattle.machine_laws.proofs.Shapes.{LetsGo, unlocks, returns, releases, GoesBy, moves, divides, cuts, fits, owns, lets_go, answers, posts, commits}
+use Rattle.machine_laws.proofs.Shapes.{takes, zeroes, first_copies, caches, shares, posts_copy, copies, installs, accesses, faults}
 use Rattle.machine_sound.specs.Log.{GoesOn, Replays}
 use Rattle.machine_sound.proofs.OneMap.{log_leads_to_one}
 use Rattle.machine_alone.specs.Alone.{IsCopied, IsNoted}

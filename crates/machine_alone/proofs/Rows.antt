@@ -38,7 +38,8 @@ use Rattle.machine_model.specs.declared.log.Entry.TheVariants as EntryOf
 use Rattle.slot_lock.specs.declared.plan.Goal.{Goal}
 use Rattle.slot_lock.specs.declared.plan.Goal.TheVariants as To
 use Rattle.machine_model.specs.declared.phase.Phase.{Phase}
-use Rattle.machine_model.specs.declared.phase.Phase.TheVariants.{Check, Lock, Guess, Find, Back as Leaving, Cut, Decide, Post, Acks, Unlock, Answer, Try, Settle, Want, Fill, CopyPost, CopyAcks, Install, Release}
+use Rattle.machine_model.specs.declared.phase.Phase.TheVariants.{Check, Lock, Guess, Find, Back as Leaving, Cut, Decide, Post, Acks, Unlock, Answer}
+use Rattle.machine_model.specs.declared.phase.Phase.TheVariants.{Try, Settle, Want, Fill, CopyPost, CopyAcks, Install, Release}
 use Rattle.machine_model.specs.Accesses.{NoneFree, info_with_core, found_at, after_frame, after_install, reply_of, memory_after}
 use Rattle.machine_model.specs.Files.{is_private, prot_installed, prot_shown, shows_some}
 use Rattle.machine_model.specs.Filling.{after_zeros, after_first_copy, after_caching, after_sharing, after_copy_post, after_copy}
@@ -52,12 +53,16 @@ use Rattle.machine_coherence.specs.Coherent.{IsBacked, IsSoundEntry}
 use Rattle.machine_laws.specs.Orderly.{IsUsable}
 use Rattle.machine_laws.proofs.Deciding.{change_sound, sound_range}
 use Rattle.machine_laws.proofs.Moves.{IsCallOf, call_at}
-use Rattle.machine_laws.proofs.Shapes.{IsFault, Moves, locks, tries, hints, seeks, guesses, turns, chooses, acts, finds, lacks, shows, Replies, refuses, no_place, declines, fails, no_frame, LetsGo, unlocks, returns, releases, GoesBy, moves, divides, cuts, fits, owns, lets_go, answers, posts, commits, takes, zeroes, first_copies, caches, shares, posts_copy, copies, installs, accesses, faults}
+use Rattle.machine_laws.proofs.Shapes.{IsFault, Moves, locks, tries, hints, seeks, guesses, turns, chooses, acts, finds, lacks, shows}
+use Rattle.machine_laws.proofs.Shapes.{Replies, refuses, no_place, declines, fails, no_frame, LetsGo, unlocks, returns, releases, GoesBy}
+use Rattle.machine_laws.proofs.Shapes.{moves, divides, cuts, fits, owns, lets_go, answers, posts, commits, takes, zeroes, first_copies}
+use Rattle.machine_laws.proofs.Shapes.{caches, shares, posts_copy, copies, installs, accesses, faults}
 use Rattle.machine_sound.specs.Sound.{IsDue}
 use Rattle.machine_sound.specs.Invariant.{Fine}
 use Rattle.machine_sound.proofs.Reaching.{at_page}
 use Rattle.machine_sound.proofs.Replies.{IsReply, due_so, refused, reply_is}
-use Rattle.machine_alone.proofs.Rank.{missing, missing_same, missing_less, missing_most, reach_of, hits, rank, rank_of, lock_less, unlock_less, back_all, back_less, turn_less, find_more, guess_less, seek_less, hint_less}
+use Rattle.machine_alone.proofs.Rank.{missing, missing_same, missing_less, missing_most, reach_of, hits, rank, rank_of, lock_less}
+use Rattle.machine_alone.proofs.Rank.{unlock_less, back_all, back_less, turn_less, find_more, guess_less, seek_less, hint_less}
 use Rattle.machine_alone.proofs.Storing.{IsStorable, IsStorableOf, shows_for}
 
 abbrev pub IsDueReply : (ℕ → Bool) → Reply → Type 0

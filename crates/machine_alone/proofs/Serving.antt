@@ -1,5 +1,6 @@
 -- A call that no other call runs beside serves its request until it hands out the reply.
-use Rattle.std.proofs.Common.{◌≡◌, ◌≢◌, ℕ, zero, suc, ◌≤◌, ◌<◌, ◌+◌, ◌==◌, ◌^◌, Bool, true, false, cond, refl, sym, subst, ap, arith, inl, inr, Some, None, Option, ◌∙◌, List, length}
+use Rattle.std.proofs.Common.{◌≡◌, ◌≢◌, ℕ, zero, suc, ◌≤◌, ◌<◌, ◌+◌, ◌==◌, ◌^◌, Bool, true, false, cond, refl, sym}
+use Rattle.std.proofs.Common.{subst, ap, arith, inl, inr, Some, None, Option, ◌∙◌, List, length}
 use Rattle.std.specs.Prelude.{nat_lt, if◌then◌else◌}
 use Rattle.std.proofs.lemmas.Bool.Decides.{nat_tests}
 use Rattle.vm_base.specs.declared.page.PageRange.{PageRange}
@@ -15,7 +16,8 @@ use Rattle.machine_model.specs.declared.event.Outcome.TheVariants.{Stepped, Idle
 use Rattle.machine_model.specs.declared.log.Entry.{Entry}
 use Rattle.machine_model.specs.declared.log.Entry.TheVariants as EntryOf
 use Rattle.machine_model.specs.declared.phase.Phase.{Phase}
-use Rattle.machine_model.specs.declared.phase.Phase.TheVariants.{Free, Check, Lock, Guess, Find, Back as Leaving, Cut, Decide, Post, Acks, Unlock, Answer, Try, Settle, Want, Fill, CopyPost, CopyAcks, Install, Release}
+use Rattle.machine_model.specs.declared.phase.Phase.TheVariants.{Free, Check, Lock, Guess, Find, Back as Leaving, Cut, Decide, Post, Acks, Unlock, Answer}
+use Rattle.machine_model.specs.declared.phase.Phase.TheVariants.{Try, Settle, Want, Fill, CopyPost, CopyAcks, Install, Release}
 use Rattle.machine_model.specs.World.{World, Made}
 use Rattle.slot_lock.specs.declared.plan.Change.{Change}
 use Rattle.slot_lock.specs.declared.plan.Goal.{Goal}
@@ -30,7 +32,9 @@ use Rattle.machine_model.specs.Step.{Acts, Goes, after_call, with_event, event_l
 use Rattle.machine_laws.specs.Brackets.{nth}
 use Rattle.machine_laws.proofs.Effects.{Closed, Asked, Told, status, SameCalls, Effect, keeps, tells, detaches, opens, closes, effect_of}
 use Rattle.machine_laws.proofs.Numbered.{at_new}
-use Rattle.machine_laws.proofs.Shapes.{Rests, absent, busy, full, free as callless, cannot, waits, awaits, GoesBy, Works, clears, invalidates, walks, evicts, flushes, reviews, frees, IsGoing, going, picking, Shape, rests, begins, ends, goes, aims, gives_up, works, joins, Comes, stopped, acts as happens, comes}
+use Rattle.machine_laws.proofs.Shapes.{Rests, absent, busy, full, free as callless, cannot, waits, awaits, GoesBy, Works, clears, invalidates}
+use Rattle.machine_laws.proofs.Shapes.{walks, evicts, flushes, reviews, frees, IsGoing, going, picking, Shape, rests, begins, ends, goes, aims}
+use Rattle.machine_laws.proofs.Shapes.{gives_up, works, joins, Comes, stopped, acts as happens, comes}
 use Rattle.machine_sound.specs.Log.{Replays, Stands}
 use Rattle.machine_sound.specs.Invariant.{Fine, Good}
 use Rattle.machine_laws.proofs.Deciding.{place_free}

@@ -29,7 +29,9 @@ use Rattle.machine_model.specs.Holding.{taken_in}
 use Rattle.machine_model.specs.Locks.{all_locked, held_after, locked_to}
 use Rattle.machine_model.specs.World.{World}
 use Rattle.machine_model.specs.Step.{Goes}
-use Rattle.machine_laws.proofs.Shapes.{Moves, locks, tries, hints, seeks, guesses, turns, chooses, acts, finds, lacks, shows, LetsGo, unlocks, returns, releases, GoesBy, moves, divides, cuts, fits, owns, lets_go, answers, posts, commits, takes, zeroes, first_copies, caches, shares, posts_copy, copies, installs, accesses, faults}
+use Rattle.machine_laws.proofs.Shapes.{Moves, locks, tries, hints, seeks, guesses, turns, chooses, acts, finds, lacks, shows, LetsGo, unlocks}
+use Rattle.machine_laws.proofs.Shapes.{returns, releases, GoesBy, moves, divides, cuts, fits, owns, lets_go, answers, posts, commits, takes, zeroes}
+use Rattle.machine_laws.proofs.Shapes.{first_copies, caches, shares, posts_copy, copies, installs, accesses, faults}
 use Rattle.machine_sound.specs.Invariant.{Fine}
 use Rattle.machine_alone.proofs.Rank.{back_all}
 use Rattle.machine_sound.proofs.Fills.{uncached, unshown}

@@ -1,5 +1,6 @@
 -- How many frames are taken after a step: an access takes one, and nothing else takes any.
-use Rattle.std.proofs.Common.{◌≡◌, ℕ, zero, suc, ◌+◌, ◌≤◌, ◌<◌, ◌==◌, ◌⊎◌, Bool, true, false, cond, inl, inr, refl, sym, ap, subst, arith, Some, None, Option, ◌∙◌}
+use Rattle.std.proofs.Common.{◌≡◌, ℕ, zero, suc, ◌+◌, ◌≤◌, ◌<◌, ◌==◌, ◌⊎◌, Bool, true, false, cond, inl, inr}
+use Rattle.std.proofs.Common.{refl, sym, ap, subst, arith, Some, None, Option, ◌∙◌}
 use Rattle.std.proofs.Math.Path.{fun_ext}
 use Rattle.std.specs.Prelude.{if◌then◌else◌}
 use Rattle.std.proofs.lemmas.Bool.Decides.{nat_tests}
@@ -19,7 +20,8 @@ use Rattle.machine_model.specs.World.{World}
 use Rattle.machine_laws.specs.Brackets.{nth}
 use Rattle.machine_laws.specs.Orderly.{Serves}
 use Rattle.machine_laws.proofs.Moves.{IsCallOf, call_at}
-use Rattle.machine_laws.proofs.Shapes.{GoesBy, moves, divides, cuts, fits, owns, lets_go, answers, posts, commits, takes, zeroes, first_copies, caches, shares, posts_copy, copies, installs, accesses, faults}
+use Rattle.machine_laws.proofs.Shapes.{GoesBy, moves, divides, cuts, fits, owns, lets_go, answers, posts, commits, takes, zeroes}
+use Rattle.machine_laws.proofs.Shapes.{first_copies, caches, shares, posts_copy, copies, installs, accesses, faults}
 use Rattle.machine_sound.specs.Invariant.{Fine}
 use Rattle.machine_alone.specs.Taken.{one_if_taken, taken_below, frames_for, is_access}
 use Rattle.machine_alone.proofs.Rows.{HasTaken, IsSureOf, sure_at}

@@ -22,7 +22,8 @@ use Rattle.shootdown.specs.declared.message.Message.{Message}
 use Rattle.shootdown.specs.Inboxes.{awaited}
 use Rattle.shootdown.specs.Messages.{message_of, posted}
 use Rattle.machine_model.specs.declared.phase.Phase.{Phase}
-use Rattle.machine_model.specs.declared.phase.Phase.TheVariants.{Free, Check, Lock, Guess, Find, Back as Leaving, Cut, Decide, Post, Acks, Unlock, Answer, Try, Settle, Want, Fill, CopyPost, CopyAcks, Install, Release}
+use Rattle.machine_model.specs.declared.phase.Phase.TheVariants.{Free, Check, Lock, Guess, Find, Back as Leaving, Cut, Decide, Post, Acks, Unlock, Answer}
+use Rattle.machine_model.specs.declared.phase.Phase.TheVariants.{Try, Settle, Want, Fill, CopyPost, CopyAcks, Install, Release}
 use Rattle.slot_lock.specs.declared.plan.Goal.{Goal}
 use Rattle.slot_lock.specs.declared.plan.Goal.TheVariants as To
 use Rattle.machine_model.specs.Accesses.{taken_for, after_frame, after_install, reply_of, memory_after}
@@ -37,7 +38,8 @@ use Rattle.machine_laws.proofs.Deciding.{place_free}
 use Rattle.machine_model.specs.Translating.{inboxes_after, after_shot, after_translating, with_hardware}
 use Rattle.machine_model.specs.World.{World, Hardware}
 use Rattle.machine_laws.proofs.Moves.{IsCallOf, call_at, page_is}
-use Rattle.machine_laws.proofs.Shapes.{GoesBy, moves, divides, cuts, fits, owns, lets_go, answers, posts, commits, takes, zeroes, first_copies, caches, shares, posts_copy, copies, installs, accesses, faults}
+use Rattle.machine_laws.proofs.Shapes.{GoesBy, moves, divides, cuts, fits, owns, lets_go, answers, posts, commits, takes, zeroes}
+use Rattle.machine_laws.proofs.Shapes.{first_copies, caches, shares, posts_copy, copies, installs, accesses, faults}
 use Rattle.machine_laws.proofs.Effects.{moves_quiet, locked_quiet, let_go_still, lets_go_still, taken_asked}
 use Rattle.machine_coherence.specs.Coherent.{AreAsked}
 use Rattle.machine_coherence.proofs.Steps.{users}

@@ -26,7 +26,8 @@ use Rattle.vm_calls.specs.declared.fault.Settled.TheVariants.{MapErr, AccErr, Bu
 use Rattle.slot_lock.specs.declared.plan.Goal.{Goal}
 use Rattle.slot_lock.specs.declared.plan.Goal.TheVariants as To
 use Rattle.machine_model.specs.declared.phase.Phase.{Phase}
-use Rattle.machine_model.specs.declared.phase.Phase.TheVariants.{Check, Lock, Guess, Find, Back as Leaving, Cut, Decide, Post, Acks, Unlock, Answer, Try, Settle, Want, Fill, CopyPost, CopyAcks, Install, Release}
+use Rattle.machine_model.specs.declared.phase.Phase.TheVariants.{Check, Lock, Guess, Find, Back as Leaving, Cut, Decide, Post, Acks, Unlock, Answer}
+use Rattle.machine_model.specs.declared.phase.Phase.TheVariants.{Try, Settle, Want, Fill, CopyPost, CopyAcks, Install, Release}
 use Rattle.machine_model.specs.Accesses.{found_at, taken_for, after_frame, after_install, reply_of, memory_after}
 use Rattle.machine_model.specs.Actions.{to, let_go, after_reply, with_entry, detach_entry}
 use Rattle.machine_model.specs.Files.{back_of, is_private, shows_file}
@@ -42,7 +43,10 @@ use Rattle.machine_laws.specs.Brackets.{nth}
 use Rattle.machine_laws.specs.Orderly.{IsUsable, Serves}
 use Rattle.machine_laws.proofs.Going.{call_sound, has_core}
 use Rattle.machine_laws.proofs.Moves.{IsCallOf, call_at}
-use Rattle.machine_laws.proofs.Shapes.{IsFault, Moves, locks, tries, hints, seeks, guesses, turns, chooses, acts, finds, lacks, shows, Replies, refuses, no_place, declines, fails, no_frame, LetsGo, unlocks, returns, releases, GoesBy, moves, divides, cuts, fits, owns, lets_go, answers, posts, commits, takes, zeroes, first_copies, caches, shares, posts_copy, copies, installs, accesses, faults}
+use Rattle.machine_laws.proofs.Shapes.{IsFault, Moves, locks, tries, hints, seeks, guesses, turns, chooses, acts, finds, lacks, shows}
+use Rattle.machine_laws.proofs.Shapes.{Replies, refuses, no_place, declines, fails, no_frame, LetsGo, unlocks, returns, releases, GoesBy}
+use Rattle.machine_laws.proofs.Shapes.{moves, divides, cuts, fits, owns, lets_go, answers, posts, commits, takes, zeroes, first_copies}
+use Rattle.machine_laws.proofs.Shapes.{caches, shares, posts_copy, copies, installs, accesses, faults}
 use Rattle.machine_laws.proofs.Effects.{Asked, status}
 use Rattle.machine_sound.specs.Invariant.{Fine}
 use Rattle.machine_sound.proofs.Fills.{private_only}
@@ -55,7 +59,8 @@ use Rattle.machine_alone.proofs.Framed.{AreFramed}
 use Rattle.machine_alone.proofs.Rank.{back_all, reach_of, hits}
 use Rattle.machine_alone.proofs.Rows.{IsSureOf, sure_at}
 use Rattle.machine_alone.proofs.Telling.{IsTold, IsToldOf}
-use Rattle.machine_alone.proofs.Using.{Keeps, refused_keeps, IsTouchOf, touch_asked, touch_adds, store_asked, IsCopyFor, IsStoreFor, copied_so, filled_same, installed_adds, changed_drops, copied_drops, unused_left, left_same, already}
+use Rattle.machine_alone.proofs.Using.{Keeps, refused_keeps, IsTouchOf, touch_asked, touch_adds, store_asked, IsCopyFor, IsStoreFor, copied_so}
+use Rattle.machine_alone.proofs.Using.{filled_same, installed_adds, changed_drops, copied_drops, unused_left, left_same, already}
 
 -- Before the call they were first. They are as they were until its page has got a copy, its access is installed or its reply stands.
 abbrev pub Used : Plain → Users → Users → (Touch → Option ℕ) → ℕ → Request → Option ℕ → Phase → Type 0

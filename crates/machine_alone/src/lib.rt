@@ -2,7 +2,8 @@
 #![tactic(auto)]
 
 ghost use Rattle.machine_alone.specs.Apart.{AllCallsKeepApart};
-ghost use Rattle.machine_alone.specs.Alone.{AllLoneCallsAreAnswered, AllStepsBesideRest, AllWaitingCallsAreAnswered};
+ghost use Rattle.machine_alone.specs.Alone.{AllLoneCallsAreAnswered, AllStepsBesideRest};
+ghost use Rattle.machine_alone.specs.Alone.{AllWaitingCallsAreAnswered};
 
 /// A call that begins in a reached state where no core has a call, and beside which no other call
 /// runs, takes fewer than 2^40 plain steps. The first that isn't plain hands out its reply, or

@@ -17,7 +17,8 @@ use Rattle.machine_model.specs.Holding.{awaits_in}
 use Rattle.machine_model.specs.Translating.{entry_of_page}
 use Rattle.machine_model.specs.World.{Hardware}
 use Rattle.machine_coherence.specs.Coherent.{Every, AllowsSome, IsBacked, Mirrors, IsSoundEntry, AreAsked, IsTableClear, IsTlbClear, HasDropped, IsCoherent}
-use Rattle.machine_coherence.proofs.Lists.{every_map, every_both, every_left, every_kept, none_left, every_filled, asked_still, posted_other, posted_own, asked_more}
+use Rattle.machine_coherence.proofs.Lists.{every_map, every_both, every_left, every_kept, none_left, every_filled}
+use Rattle.machine_coherence.proofs.Lists.{asked_still, posted_other, posted_own, asked_more}
 
 -- of core d
 pub record IsCore (cached : ℕ → ℕ → Option ℕ) (info : ℕ → Option PageInfo) (phase : ℕ → Phase) (d : ℕ) (table : ℕ → Option Translation)

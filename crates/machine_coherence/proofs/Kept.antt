@@ -20,7 +20,8 @@ use Rattle.shootdown.specs.Messages.{message_of, asked, remaining}
 use Rattle.machine_model.specs.declared.event.Event.{Event}
 use Rattle.machine_model.specs.declared.event.Outcome.{Outcome}
 use Rattle.machine_model.specs.declared.phase.Phase.{Phase}
-use Rattle.machine_model.specs.declared.phase.Phase.TheVariants.{Free, Check, Lock, Guess, Find, Back, Cut, Decide, Post, Acks, Unlock, Answer, Try, Settle, Want, Fill, CopyPost, CopyAcks, Install, Release}
+use Rattle.machine_model.specs.declared.phase.Phase.TheVariants.{Free, Check, Lock, Guess, Find, Back, Cut, Decide, Post, Acks, Unlock, Answer, Try}
+use Rattle.machine_model.specs.declared.phase.Phase.TheVariants.{Settle, Want, Fill, CopyPost, CopyAcks, Install, Release}
 use Rattle.machine_model.specs.Accesses.{reply_of, taken_for}
 use Rattle.machine_model.specs.Actions.{let_go}
 use Rattle.machine_model.specs.Holding.{awaits_in, can_give_up, still_held}
@@ -30,12 +31,15 @@ use Rattle.machine_model.specs.Translating.{with_tlb, with_inbox, tables_cleared
 use Rattle.machine_model.specs.World.{World, Hardware, Made, new_world}
 use Rattle.machine_model.specs.Step.{with_event, Step}
 use Rattle.machine_laws.specs.Orderly.{IsOrderly}
-use Rattle.machine_laws.proofs.Shapes.{GoesBy, moves, divides, cuts, fits, owns, lets_go, answers, posts, commits, takes, zeroes, first_copies, caches, shares, posts_copy, copies, installs, accesses, faults, Works, clears, invalidates, walks, evicts, flushes, reviews, frees, Shape, rests, begins, ends, goes, aims, gives_up, works, joins, IsUnawaited, Comes, stopped, acts as happens, comes}
+use Rattle.machine_laws.proofs.Shapes.{GoesBy, moves, divides, cuts, fits, owns, lets_go, answers, posts, commits, takes, zeroes, first_copies, caches, shares}
+use Rattle.machine_laws.proofs.Shapes.{posts_copy, copies, installs, accesses, faults, Works, clears, invalidates, walks, evicts, flushes, reviews, frees}
+use Rattle.machine_laws.proofs.Shapes.{Shape, rests, begins, ends, goes, aims, gives_up, works, joins, IsUnawaited, Comes, stopped, acts as happens, comes}
 use Rattle.machine_laws.proofs.Effects.{moves_quiet, replies_quiet, locked_quiet, let_go_still, lets_go_still, taken_asked}
 use Rattle.machine_coherence.specs.Coherent.{AreTakenNew, IsCoherent, IsCoherentState}
 use Rattle.machine_coherence.proofs.Lists.{none_sent}
 use Rattle.machine_coherence.proofs.Cores.{IsCore, core_of, of_cores, fills as core_fills, drops, clears as core_clears, invalidates as core_invalidates}
-use Rattle.machine_coherence.proofs.Steps.{goes_on, goes_silent, silent_by, posts_kept, fits_kept, commits_kept, fills_kept, caches_kept, posts_copy_kept, copies_kept, installs_kept}
+use Rattle.machine_coherence.proofs.Steps.{goes_on, goes_silent, silent_by, posts_kept, fits_kept, commits_kept, fills_kept}
+use Rattle.machine_coherence.proofs.Steps.{caches_kept, posts_copy_kept, copies_kept, installs_kept}
 
 -- ---- one core's TLB changes, or what it has beside its call
 
@@ -200,7 +204,8 @@ shape_kept w e o v g n k (aims c place target a s lt p h) =
     subst IsCoherentState (sym h) (moved w c (trying place target) w.slots (ap awaits_in p) refl refl k)
 shape_kept w e o v g n k (gives_up c i s lt can u h) =
     let held : Option PageRange = still_held (w.calls.phase c) in
-    subst IsCoherentState (sym h) (goes_silent c (let_go held NoMemory) (given_up_silent w c (w.calls.phase c) refl can u k) (let_go_still held NoMemory).awaits k)
+    subst IsCoherentState (sym h)
+    (goes_silent c (let_go held NoMemory) (given_up_silent w c (w.calls.phase c) refl can u k) (let_go_still held NoMemory).awaits k)
 shape_kept w e o v g n k (works c s lt b) = works_kept w c e v k b
 shape_kept w e o v g n k (joins p t i s page j m h) = subst IsCoherentState (sym h) (same_info w.slots t j.info k)
 

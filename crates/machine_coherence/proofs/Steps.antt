@@ -54,7 +54,8 @@ use Rattle.machine_laws.proofs.Moves.{call_at, page_is, awaits_held}
 use Rattle.machine_laws.proofs.Owned.{members_with}
 use Rattle.machine_coherence.specs.Coherent.{AreTakenNew, AllowsSome, IsBacked, IsSoundEntry, IsTableClear, IsTlbClear, HasDropped, IsCoherent, IsCoherentState}
 use Rattle.machine_coherence.proofs.Lists.{every_map, none_sent, none_left}
-use Rattle.machine_coherence.proofs.Cores.{IsCore, core_of, of_cores, moves_on, backed_still, backed_outside, cleared_has, shoots, awaits_nothing, awaits_core, installs}
+use Rattle.machine_coherence.proofs.Cores.{IsCore, core_of, of_cores, moves_on, backed_still, backed_outside}
+use Rattle.machine_coherence.proofs.Cores.{cleared_has, shoots, awaits_nothing, awaits_core, installs}
 
 -- ---- the whole, over cores
 

@@ -1,5 +1,6 @@
 -- Every step from an orderly state whose frames are counted leaves one.
-use Rattle.std.proofs.Common.{◌≡◌, ◌≢◌, ℕ, ◌<◌, ◌+◌, ◌-◌, ◌^◌, true, false, ◌⊎◌, inl, inr, cond, refl, sym, ap, subst, arith, ◌∙◌, ℤ, pos, ◌+ℤ◌, ◌<ℤ◌, Some, None, Option}
+use Rattle.std.proofs.Common.{◌≡◌, ◌≢◌, ℕ, ◌<◌, ◌+◌, ◌-◌, ◌^◌, true, false, ◌⊎◌, inl, inr, cond, refl, sym, ap}
+use Rattle.std.proofs.Common.{subst, arith, ◌∙◌, ℤ, pos, ◌+ℤ◌, ◌<ℤ◌, Some, None, Option}
 use Rattle.std.specs.Prelude.{is_some}
 use Rattle.std.proofs.lemmas.Int.{ints}
 use Rattle.vm_base.specs.declared.info.Back.{Back}
@@ -50,9 +51,12 @@ use Rattle.machine_laws.proofs.Changed.{same_outside}
 use Rattle.machine_laws.proofs.Effects.{moves_quiet, locked_quiet, let_go_still, lets_go_still}
 use Rattle.machine_laws.proofs.Going.{acks_valid}
 use Rattle.machine_laws.proofs.Moves.{call_at}
-use Rattle.machine_laws.proofs.Shapes.{IsShowing, GoesBy, moves, divides, cuts, fits, owns, lets_go, answers, posts, commits, takes, zeroes, first_copies, caches, shares, posts_copy, copies, installs, accesses, faults, Works, clears, invalidates, walks, evicts, flushes, reviews, frees, Shape, rests, begins, ends, goes, aims, gives_up, works, joins, Comes, stopped, acts as happens, comes}
+use Rattle.machine_laws.proofs.Shapes.{IsShowing, GoesBy, moves, divides, cuts, fits, owns, lets_go, answers, posts, commits, takes, zeroes, first_copies}
+use Rattle.machine_laws.proofs.Shapes.{caches, shares, posts_copy, copies, installs, accesses, faults, Works, clears, invalidates, walks, evicts, flushes}
+use Rattle.machine_laws.proofs.Shapes.{reviews, frees, Shape, rests, begins, ends, goes, aims, gives_up, works, joins, Comes, stopped, acts as happens, comes}
 use Rattle.machine_counting.specs.Counted.{FilePage, one_if, IsCounted, IsCountedState}
-use Rattle.machine_counting.proofs.Pages.{CountsPages, counts_same, counts_none, counts_some, page_up, page_cached, page_over, GiveUpFrames, range_down, none_down, unused_down}
+use Rattle.machine_counting.proofs.Pages.{CountsPages, counts_same, counts_none, counts_some, page_up, page_cached}
+use Rattle.machine_counting.proofs.Pages.{page_over, GiveUpFrames, range_down, none_down, unused_down}
 
 -- ---- frames of pages
 

@@ -1,5 +1,6 @@
 -- How many pages have a frame, and true counts that are those numbers
-use Rattle.std.proofs.Common.{◌≡◌, ◌≢◌, ℕ, zero, suc, ◌≤◌, ◌<◌, ◌+◌, Bool, true, false, cond, ◌==◌, refl, sym, ap, subst, arith, ◌∙◌, pos, negsuc, ◌+ℤ◌, ◌<ℤ◌, Some, None, Option}
+use Rattle.std.proofs.Common.{◌≡◌, ◌≢◌, ℕ, zero, suc, ◌≤◌, ◌<◌, ◌+◌, Bool, true, false, cond, ◌==◌, refl, sym, ap}
+use Rattle.std.proofs.Common.{subst, arith, ◌∙◌, pos, negsuc, ◌+ℤ◌, ◌<ℤ◌, Some, None, Option}
 use Rattle.std.specs.Prelude.{if◌then◌else◌}
 use Rattle.std.proofs.lemmas.Bool.Decides.{nat_tests}
 use Rattle.std.proofs.lemmas.Int.{ints}

@@ -1,5 +1,6 @@
 -- Each reply stands once in the log, between its call and its answer: what holds before each event of a run, from its start.
-use Rattle.std.proofs.Common.{◌≡◌, ◌≢◌, ℕ, zero, suc, ◌+◌, ◌<◌, ◌≤◌, Bool, true, false, refl, sym, subst, ap, arith, Some, List, [], ◌∷◌, ◌++◌, ◌⊎◌, ◌∙◌, inl, inr, length, take, slice_get}
+use Rattle.std.proofs.Common.{◌≡◌, ◌≢◌, ℕ, zero, suc, ◌+◌, ◌<◌, ◌≤◌, Bool, true, false, refl, sym, subst, ap, arith, Some}
+use Rattle.std.proofs.Common.{List, [], ◌∷◌, ◌++◌, ◌⊎◌, ◌∙◌, inl, inr, length, take, slice_get}
 use Rattle.std.specs.Prelude.{nat_lt}
 use Rattle.vm_base.specs.declared.replies.Reply.{Reply}
 use Rattle.vm_base.specs.declared.requests.Request.{Request}
@@ -17,7 +18,8 @@ use Rattle.machine_model.specs.Actions.{to}
 use Rattle.machine_model.specs.Events.{core_of}
 use Rattle.machine_model.specs.World.{World, Made, new_world}
 use Rattle.machine_model.specs.Step.{after_call, with_event, event_limit, Step, Run}
-use Rattle.machine_laws.specs.Brackets.{nth, Begun, begun_by, calls_from, calls_of, requests_of, IsLatest, step_of, IsAnswer, IsDetach, IsStoreTo, IsAnsweredBefore, AllRunsBracketed}
+use Rattle.machine_laws.specs.Brackets.{nth, Begun, begun_by, calls_from, calls_of, requests_of, IsLatest, step_of}
+use Rattle.machine_laws.specs.Brackets.{IsAnswer, IsDetach, IsStoreTo, IsAnsweredBefore, AllRunsBracketed}
 use Rattle.machine_laws.specs.Orderly.{IsOrderly}
 use Rattle.machine_laws.proofs.Kept.{kept}
 use Rattle.machine_laws.proofs.Opening.{opening_is_orderly}
@@ -175,7 +177,9 @@ chron_tells n calls requests log call stat c reply e h = record {
     )
     | inr l ↦ absurd (let other = ap is_reply l.1 in cc)
   ];
-  stands = put_all (λ d s. Stands (suc n) calls (log ++ new ∷ []) d (call d) s) stat c (Told reply) (mine.0, (length log, n, get_new log new, omega arith)) (λ d ne. other d ne (stat d) (h.stands d));
+  stands =
+      put_all (λ d s. Stands (suc n) calls (log ++ new ∷ []) d (call d) s) stat c (Told reply) (mine.0, (length log, n, get_new log new, omega arith))
+      (λ d ne. other d ne (stat d) (h.stands d));
 }
   where
     new : Entry
@@ -302,8 +306,11 @@ chron_opens n calls requests log call stat c request h = record {
   begun = λ i step k core r a. let b = h.begun i step k core r a in (b.0, at_old calls new k b.0 b.1, b.2, b.3);
   once = h.once;
   copies = λ i step k page a. let b = h.copies i step k page a in (b.0, at_old calls new k b.0 b.1, b.2, b.3, b.4);
-  stands = put_both (λ d k s. Stands (suc n) (calls ++ new ∷ []) log d k s) call stat c (suc (length requests)) Asked
-      (subst (IsLatest (calls ++ new ∷ []) c) (ap suc (sym size)) (latest_new calls new), λ i step core r a. let b = h.begun i step (suc (length requests)) core r a in let lt = within calls (suc (length requests)) b.0 b.1 in omega (arith, lt, size))
+  stands = put_both (λ d k s. Stands (suc n) (calls ++ new ∷ []) log d k s) call stat c (suc (length requests)) Asked (
+    subst (IsLatest (calls ++ new ∷ []) c) (ap suc (sym size)) (latest_new calls new),
+    λ i step core r a. let b = h.begun i step (suc (length requests)) core r a in
+        let lt = within calls (suc (length requests)) b.0 b.1 in omega (arith, lt, size),
+  )
       (λ d ne. other d ne (stat d) (h.stands d));
 }
   where
@@ -470,7 +477,8 @@ Grows w v = (i : ℕ) (x : Entry) → slice_get w.calls.log i ≡ Some x → sli
 grows_by : (w : World) (e : Event) (o : Outcome) (v : World) → Effect w e o v → Grows w v
 grows_by w e o v (keeps q k l s) = λ i x a. ap (λ l. slice_get l i) l ∙ a
 grows_by w e o v (tells c reply q k a l s) = λ i x b. ap (λ l. slice_get l i) l ∙ get_old w.calls.log (Answer w.calls.events (w.calls.number c) c reply) i x b
-grows_by w e o v (detaches c page request q k a number store l s) = λ i x b. ap (λ l. slice_get l i) l ∙ get_old w.calls.log (Detach w.calls.events (w.calls.number c) page) i x b
+grows_by w e o v (detaches c page request q k a number store l s) =
+    λ i x b. ap (λ l. slice_get l i) l ∙ get_old w.calls.log (Detach w.calls.events (w.calls.number c) page) i x b
 grows_by w e o v (opens c request f g a k) = λ i x b. ap (λ v. slice_get v.calls.log i) k ∙ b
 grows_by w e o v (closes c reply f g a k) = λ i x b. ap (λ v. slice_get v.calls.log i) k ∙ b
 
@@ -496,7 +504,8 @@ pub record Parted (w : World) (es : List Event) (os : List Outcome) (v : World) 
   pub after : Grows new v
   pub few : length (take n es) ≤ n
 
-parted : (w : World) (es : List Event) (os : List Outcome) (v : World) (n : ℕ) (e : Event) (o : Outcome) → IsOrderly w → Run w es os v → nth es (suc n) ≡ Some e → nth os (suc n) ≡ Some o → Parted w es os v n e o
+parted : (w : World) (es : List Event) (os : List Outcome) (v : World) (n : ℕ) (e : Event) (o : Outcome) → IsOrderly w → Run w es os v → nth es (suc n) ≡ Some e
+    → nth os (suc n) ≡ Some o → Parted w es os v n e o
 parted w [] os v n e o g r a b = absurd cc
 parted w (d ∷ es) [] v n e o g r a b = absurd r
 parted w (d ∷ es) (p ∷ os) v zero e o g r a b =
@@ -540,23 +549,35 @@ told_before calls w e core reply v at h (closes c r f g a k) =
     subst (λ d. (call : ℕ) × IsLatest calls d call × IsAnsweredBefore (suc w.calls.events) w.calls.log call d reply) here
     (subst (λ r. (call : ℕ) × IsLatest calls c call × IsAnsweredBefore (suc w.calls.events) w.calls.log call c r) same (w.calls.number c, told.0, told.1))
 
-ends : (calls : List Begun) (w : World) (e : Event) (core : ℕ) (reply : Reply) (v : World) → core_of e ≡ Some core → IsOrderly w → Kept calls w → Comes w e (Answered reply) v
+ends : (calls : List Begun) (w : World) (e : Event) (core : ℕ) (reply : Reply) (v : World) → core_of e ≡ Some core → IsOrderly w → Kept calls w
+    → Comes w e (Answered reply) v
     → (call : ℕ) × IsLatest calls core call × IsAnsweredBefore (suc w.calls.events) w.calls.log call core reply
 ends calls w e core reply v at g h (stopped i q k) = absurd (let no = q.1 in cc)
 ends calls w e core reply v at g h (acts i shape) = told_before calls w e core reply v at h (effect_of (with_event w) e (Answered reply) v g shape)
 
-answered_at : (made : Made) (slots : Slots) (es : List Event) (os : List Outcome) (v : World) (n core : ℕ) (e : Event) (reply : Reply) → made.cores ≤ 64 → IsNew slots → core_of e ≡ Some core
-    → Parted (new_world made slots) es os v n e (Answered reply)
+answered_at : (made : Made) (slots : Slots) (es : List Event) (os : List Outcome) (v : World) (n core : ℕ) (e : Event) (reply : Reply) → made.cores ≤ 64
+    → IsNew slots → core_of e ≡ Some core → Parted (new_world made slots) es os v n e (Answered reply)
     → (call : ℕ) × IsLatest (calls_of (take n es) (take n os)) core call × IsAnsweredBefore (suc n) v.calls.log call core reply
 answered_at made slots es os v n core e reply cores new at p =
-    let before : After 1 [] (new_world made slots) (take n es) (take n os) p.old = goes 1 [] (new_world made slots) (take n es) (take n os) p.old (inl refl) (opening_is_orderly made slots cores new) (kept_opening made slots) p.first in
+    let before : After 1 [] (new_world made slots) (take n es) (take n os) p.old =
+    goes 1 [] (new_world made slots) (take n es) (take n os) p.old (inl refl) (opening_is_orderly made slots cores new)
+    (kept_opening made slots) p.first in
     let come : Comes p.old e (Answered reply) p.new = comes p.old e (Answered reply) p.new p.step in
     let end = ends (calls_of (take n es) (take n os)) p.old e core reply p.new at p.order before.kept come in
     let said = end.2 in
     let few = before.few in
     let size = p.few in
-    let lt = said.3 in
-    (end.0, end.1, (said.0, said.1, p.after said.0 (Answer said.1 end.0 core reply) (grows_at p.old e (Answered reply) p.new p.order come said.0 (Answer said.1 end.0 core reply) said.2), omega (arith, few, size, lt)))
+    let lt = said.3 in (
+      end.0,
+      end.1,
+      (
+        said.0,
+        said.1,
+        p.after said.0 (Answer said.1 end.0 core reply)
+            (grows_at p.old e (Answered reply) p.new p.order come said.0 (Answer said.1 end.0 core reply) said.2),
+        omega (arith, few, size, lt),
+      ),
+    )
 
 pub bracketed : AllRunsBracketed
 bracketed made slots es os w cores new r =
@@ -567,6 +588,8 @@ bracketed made slots es os w cores new r =
       begun = all.kept.begun;
       once = all.kept.once;
       copies = all.kept.copies;
-      answered = λ n core e reply a at b. answered_at made slots es os w n core e reply cores new at (parted (new_world made slots) es os w n e (Answered reply) order r a b);
+      answered =
+          λ n core e reply a at b. answered_at made slots es os w n core e reply cores new at
+          (parted (new_world made slots) es os w n e (Answered reply) order r a b);
       requests = all.kept.same;
     }

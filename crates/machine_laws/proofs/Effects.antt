@@ -57,7 +57,11 @@ use Rattle.vm_calls.specs.Checks.{checked, plan_of, unless_refused, touch_of, pl
 use Rattle.machine_laws.specs.Brackets.{nth, IsStoreTo}
 use Rattle.machine_laws.specs.Orderly.{IsOrderly, Serves}
 use Rattle.machine_laws.proofs.Moves.{IsCallOf, call_at}
-use Rattle.machine_laws.proofs.Shapes.{IsInner, rests_inner, Moves, locks, tries, hints, seeks, guesses, turns, chooses, acts, finds, lacks, shows, Replies, refuses, no_place, declines, fails, no_frame, LetsGo, unlocks, returns, releases, GoesBy, moves, divides, cuts, fits, owns, lets_go, answers, posts, commits, takes, zeroes, first_copies, caches, shares, posts_copy, copies, installs, accesses, faults, Works, clears, invalidates, walks, evicts, flushes, reviews, frees, IsGoing, going, picking, IsAiming, at_run, at_window, Shape, rests, begins, ends, goes, aims, gives_up, works, joins}
+use Rattle.machine_laws.proofs.Shapes.{IsInner, rests_inner, Moves, locks, tries, hints, seeks, guesses, turns, chooses, acts, finds, lacks, shows, Replies}
+use Rattle.machine_laws.proofs.Shapes.{refuses, no_place, declines, fails, no_frame, LetsGo, unlocks, returns, releases, GoesBy, moves, divides, cuts, fits}
+use Rattle.machine_laws.proofs.Shapes.{owns, lets_go, answers, posts, commits, takes, zeroes, first_copies, caches, shares, posts_copy, copies, installs}
+use Rattle.machine_laws.proofs.Shapes.{accesses, faults, Works, clears, invalidates, walks, evicts, flushes, reviews, frees, IsGoing, going, picking, IsAiming}
+use Rattle.machine_laws.proofs.Shapes.{at_run, at_window, Shape, rests, begins, ends, goes, aims, gives_up, works, joins}
 
 -- a core has no call, one without a reply, or one with this reply
 pub data Status : Type 0 where
@@ -171,18 +175,21 @@ store_of : (core : ℕ) (request : Request) (touch : Touch) → plan_of core req
     → IsStoreTo request touch.page
 store_of core (RequestOf.Store addr byte) touch h a = go (is_page (page_of addr)) h
   where
-    go : (b : Bool) → ◌≡◌ {A = Result Plan Reply} (if b then Ok (PlanOf.Touch (touch_of addr Store byte)) else Err (ReplyOf.Segv MapErr)) (Ok (PlanOf.Touch touch))
+    go : (b : Bool)
+        → ◌≡◌ {A = Result Plan Reply} (if b then Ok (PlanOf.Touch (touch_of addr Store byte)) else Err (ReplyOf.Segv MapErr)) (Ok (PlanOf.Touch touch))
         → page_of addr ≡ touch.page
     go true e = let same : touch_of addr Store byte ≡ touch = cc in ap (λ t. t.page) same
     go false e = absurd cc
 store_of core (RequestOf.Load addr) touch h a = absurd (go (is_page (page_of addr)) h)
   where
-    go : (b : Bool) → ◌≡◌ {A = Result Plan Reply} (if b then Ok (PlanOf.Touch (touch_of addr Load 0)) else Err (ReplyOf.Segv MapErr)) (Ok (PlanOf.Touch touch)) → ⊥
+    go : (b : Bool) → ◌≡◌ {A = Result Plan Reply} (if b then Ok (PlanOf.Touch (touch_of addr Load 0)) else Err (ReplyOf.Segv MapErr)) (Ok (PlanOf.Touch touch))
+        → ⊥
     go true e = let same : touch_of addr Load 0 ≡ touch = cc in let other = ap (λ t. t.access) same in cc (other, a)
     go false e = cc
 store_of core (RequestOf.Fetch addr) touch h a = absurd (go (is_page (page_of addr)) h)
   where
-    go : (b : Bool) → ◌≡◌ {A = Result Plan Reply} (if b then Ok (PlanOf.Touch (touch_of addr Fetch 0)) else Err (ReplyOf.Segv MapErr)) (Ok (PlanOf.Touch touch)) → ⊥
+    go : (b : Bool) → ◌≡◌ {A = Result Plan Reply} (if b then Ok (PlanOf.Touch (touch_of addr Fetch 0)) else Err (ReplyOf.Segv MapErr)) (Ok (PlanOf.Touch touch))
+        → ⊥
     go true e = let same : touch_of addr Fetch 0 ≡ touch = cc in let other = ap (λ t. t.access) same in cc (other, a)
     go false e = cc
 store_of core (RequestOf.Munmap addr len) touch h a = absurd cc
@@ -190,7 +197,8 @@ store_of core (RequestOf.Mprotect addr len prot) touch h a = absurd cc
 store_of core (RequestOf.Mmap addr len prot flags file off) touch h a =
     absurd (go flags.fixed (Put (pages_of addr len) (meta_of prot flags file off)) (place_of core addr len (meta_of prot flags file off)) h)
   where
-    go : (b : Bool) (change : Change) (place : Place) → ◌≡◌ {A = Result Plan Reply} (if b then Ok (PlanOf.Change change) else Ok (PlanOf.Place place)) (Ok (PlanOf.Touch touch)) → ⊥
+    go : (b : Bool) (change : Change) (place : Place)
+        → ◌≡◌ {A = Result Plan Reply} (if b then Ok (PlanOf.Change change) else Ok (PlanOf.Place place)) (Ok (PlanOf.Touch touch)) → ⊥
     go true change place e = cc
     go false change place e = cc
 
@@ -288,7 +296,8 @@ step_effect w e c v g i (divides goal cursor t k s h) = beside w e t w.hardware 
 step_effect w e c v g i (cuts place target range t k s h) = beside w e t w.hardware w.memory v i h
 step_effect w e c v g i (fits place target range k cut h) =
     goes_on w e c (At.Acks (To.Place place target) (Put range place.meta)) w.slots w.hardware w.memory v i (sym (ap status k)) h
-step_effect w e c v g i (owns goal cursor b t k l h) = goes_on w e c (locked_to goal b) t w.hardware w.memory v i ((locked_quiet goal b).asked ∙ sym (ap status k)) h
+step_effect w e c v g i (owns goal cursor b t k l h) =
+    goes_on w e c (locked_to goal b) t w.hardware w.memory v i ((locked_quiet goal b).asked ∙ sym (ap status k)) h
 step_effect w e c v g i (lets_go held b t new l u h) = goes_on w e c new t w.hardware w.memory v i (lets_go_same (w.calls.phase c) held b new l) h
 step_effect w e c v g i (answers held reply r h) = with_reply w e c held reply w.slots w.hardware w.memory v i (replies_quiet w c held reply r).asked h
 step_effect w e c v g i (posts change shoot k h) =
@@ -305,7 +314,8 @@ step_effect w e c v g i (first_copies touch f counts k store l h) =
 step_effect w e c v g i (caches touch f counts k s n l h) =
     goes_on w e c (Install touch) (after_caching c touch f counts w).slots w.hardware (after_caching c touch f counts w).memory v i (sym (ap status k)) h
 step_effect w e c v g i (shares touch own x counts k s n l h) =
-    goes_on w e c (Install touch) (after_sharing c touch own x counts w).slots w.hardware (after_sharing c touch own x counts w).memory v i (sym (ap status k)) h
+    goes_on w e c (Install touch) (after_sharing c touch own x counts w).slots w.hardware (after_sharing c touch own x counts w).memory v i
+    (sym (ap status k)) h
 step_effect w e c v g i (posts_copy touch f k h) =
     goes_on w e c (At.CopyAcks touch f) w.slots (after_copy_post c touch f w).hardware w.memory v i (sym (ap status k)) h
 step_effect w e c v g i (copies touch f x counts k n at l h) =
@@ -355,7 +365,8 @@ given_up_asked (At.Unlock held reply) h = absurd cc
 given_up_asked (At.Answer reply) h = absurd cc
 
 pub effect_of : (w : World) (e : Event) (o : Outcome) (v : World) → IsOrderly w → Shape w e o v → Effect w e o v
-effect_of w e o v g (rests r h) = subst (Effect w e o) (sym h) (keeps (rests_inner w e o r) (record { events = refl; requests = refl; number = refl }) refl (λ d. refl))
+effect_of w e o v g (rests r h) =
+    subst (Effect w e o) (sym h) (keeps (rests_inner w e o r) (record { events = refl; requests = refl; number = refl }) refl (λ d. refl))
 effect_of w e o v g (begins c request i s lt p below h) = opens c request i s (ap status p) h
 effect_of w e o v g (ends c reply i s lt p h) = closes c reply i s (ap status p) h
 effect_of w e o v g (goes c i s lt k) = subst (λ o. Effect w e o v) (sym s) (step_effect w e c v g (going_inner c e i) k)

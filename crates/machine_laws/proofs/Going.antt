@@ -20,7 +20,8 @@ use Rattle.slot_lock.specs.Slots.{IsCut, Slots, between}
 use Rattle.vm_calls.specs.declared.decision.Decision.TheVariants.{Act, Again}
 use Rattle.vm_calls.specs.Decisions.{Decides, DecidesPlace, entries}
 use Rattle.machine_model.specs.declared.phase.Phase.{Phase}
-use Rattle.machine_model.specs.declared.phase.Phase.TheVariants.{Free, Check, Guess, Find, Back as Leaving, Cut, Decide, Post, Acks, Try, Settle, Want, Fill, Install}
+use Rattle.machine_model.specs.declared.phase.Phase.TheVariants.{Free, Check, Guess, Find, Back as Leaving, Cut, Decide, Post}
+use Rattle.machine_model.specs.declared.phase.Phase.TheVariants.{Acks, Try, Settle, Want, Fill, Install}
 use Rattle.machine_model.specs.Accesses.{after_frame}
 use Rattle.machine_model.specs.Actions.{to}
 use Rattle.machine_model.specs.Changes.{after_post}
@@ -37,7 +38,8 @@ use Rattle.machine_laws.proofs.Shapes.{Moves, locks, tries, hints, seeks, guesse
 
 pub steps : (w : World) (c : ℕ) (old new : Phase) → w.calls.phase c ≡ old → IsOrderly w → c < w.made.cores → is_open new ≡ is_open old
     → range_held new ≡ range_held old → IsCutFor w.slots.edge (awaits_in new)
-    → IsAsked w.made w.calls.requests c (w.calls.number c) new → IsReady w.made w.slots w.memory.cached new → ((f : ℕ) → taken_in new ≡ Some f → f < w.made.frames) → IsOrderly (to c new w)
+    → IsAsked w.made w.calls.requests c (w.calls.number c) new → IsReady w.made w.slots w.memory.cached new
+    → ((f : ℕ) → taken_in new ≡ Some f → f < w.made.frames) → IsOrderly (to c new w)
 steps w c old new e g lt opened same out asked ready after_frame =
     goes_on w c new w.slots w.memory g lt (opened ∙ sym (ap is_open e)) (untouched w.slots c) (λ n k f h. h)
     (same_pages w c old new (call_at w c old e g) same out asked ready after_frame) g.pages g.memory

@@ -1,5 +1,6 @@
 -- Every step from an orderly state leaves an orderly one.
-use Rattle.std.proofs.Common.{◌≡◌, ◌≢◌, ℕ, suc, ◌≤◌, ◌<◌, ◌+◌, Bool, true, false, cond, refl, sym, ap, subst, arith, Some, None, Option, List, [], ◌∷◌, ◌++◌, ◌∙◌, length, length-append, ◌==◌}
+use Rattle.std.proofs.Common.{◌≡◌, ◌≢◌, ℕ, suc, ◌≤◌, ◌<◌, ◌+◌, Bool, true, false, cond, refl, sym, ap, subst, arith, Some}
+use Rattle.std.proofs.Common.{None, Option, List, [], ◌∷◌, ◌++◌, ◌∙◌, length, length-append, ◌==◌}
 use Rattle.std.specs.Prelude.{◌-◌}
 use Rattle.std.proofs.lemmas.Bool.Decides.{nat_tests}
 use Rattle.vm_base.specs.declared.page.PageRange.{PageRange}
@@ -19,7 +20,8 @@ use Rattle.slot_lock.specs.Slots.{Slots, Joins, between}
 use Rattle.machine_model.specs.declared.event.Event.{Event}
 use Rattle.machine_model.specs.declared.event.Outcome.{Outcome}
 use Rattle.machine_model.specs.declared.phase.Phase.{Phase}
-use Rattle.machine_model.specs.declared.phase.Phase.TheVariants.{Free, Check, Lock, Guess, Find, Back as Leaving, Cut, Decide, Post, Acks, Unlock, Answer, Try, Settle, Want, Fill, CopyPost, CopyAcks, Install, Release}
+use Rattle.machine_model.specs.declared.phase.Phase.TheVariants.{Free, Check, Lock, Guess, Find, Back as Leaving, Cut, Decide, Post, Acks, Unlock, Answer}
+use Rattle.machine_model.specs.declared.phase.Phase.TheVariants.{Try, Settle, Want, Fill, CopyPost, CopyAcks, Install, Release}
 use Rattle.machine_model.specs.Accesses.{after_access, memory_after, reply_of}
 use Rattle.machine_model.specs.Actions.{after_reply, let_go}
 use Rattle.refcache.specs.Counts.{Counts}
@@ -35,15 +37,20 @@ use Rattle.machine_laws.proofs.Asked.{asked_more}
 use Rattle.machine_laws.proofs.Counted.{frees, written, counted, counts_down, freed}
 use Rattle.machine_laws.proofs.Changed.{changed_owner, changed_edge, same_outside}
 use Rattle.machine_laws.proofs.Deciding.{change_sound, touch_sound, sound_range, goal_valid, acts_in, acts_valid}
-use Rattle.machine_laws.proofs.Moves.{IsCallOf, call_at, Touches, untouched, KeepsCached, tells, none_taken, asked_gone, held_gone, out_gone, IsHeldRange, ready_gone, awaits_held}
+use Rattle.machine_laws.proofs.Moves.{IsCallOf, call_at, Touches, untouched, KeepsCached, tells, none_taken, asked_gone}
+use Rattle.machine_laws.proofs.Moves.{held_gone, out_gone, IsHeldRange, ready_gone, awaits_held}
 use Rattle.machine_laws.proofs.Numbered.{at_new}
 use Rattle.machine_laws.proofs.OpenCalls.{one, open_put}
 use Rattle.machine_laws.proofs.Owned.{changed_belongs}
-use Rattle.machine_laws.proofs.Shapes.{Replies, refuses, no_place, declines, fails, no_frame, GoesBy, moves, divides, cuts, fits, owns, lets_go, answers, posts, commits, takes, zeroes, first_copies, caches, shares, posts_copy, copies, installs, accesses, faults, Works, clears, invalidates, walks, evicts, flushes, reviews, frees as frees_frame, Shape, rests, begins, ends, goes, aims, aimed, gives_up, works, joins, Comes, stopped, acts as happens, comes}
+use Rattle.machine_laws.proofs.Shapes.{Replies, refuses, no_place, declines, fails, no_frame, GoesBy, moves, divides, cuts, fits, owns, lets_go, answers}
+use Rattle.machine_laws.proofs.Shapes.{posts, commits, takes, zeroes, first_copies, caches, shares, posts_copy, copies, installs, accesses, faults, Works}
+use Rattle.machine_laws.proofs.Shapes.{clears, invalidates, walks, evicts, flushes, reviews, frees as frees_frame, Shape, rests, begins, ends, goes, aims}
+use Rattle.machine_laws.proofs.Shapes.{aimed, gives_up, works, joins, Comes, stopped, acts as happens, comes}
 use Rattle.machine_laws.proofs.Slots.{divided, other_edges}
 use Rattle.machine_laws.proofs.Going.{steps, page_range, call_sound, place_valid, moves_kept, aims_kept, fits_kept, posts_kept, faults_kept}
 use Rattle.machine_laws.proofs.Locking.{owns_kept, lets_go_kept}
-use Rattle.machine_laws.proofs.Paging.{given_below, takes_kept, zeroes_kept, first_copies_kept, caches_kept, shares_kept, posts_copy_kept, copies_kept, installs_kept}
+use Rattle.machine_laws.proofs.Paging.{given_below, takes_kept, zeroes_kept, first_copies_kept, caches_kept}
+use Rattle.machine_laws.proofs.Paging.{shares_kept, posts_copy_kept, copies_kept, installs_kept}
 
 -- ---- the call has its reply, and nothing else changes
 
@@ -57,7 +64,8 @@ record Ends (phase : Phase) (held : Option PageRange) : Type 0 where
 ends_by : (phase old : Phase) (held : Option PageRange) → phase ≡ old → Ends old held → Ends phase held
 ends_by phase old held e h = subst (λ x. Ends x held) (sym e) h
 
-reply_ends : (w : World) (c : ℕ) (held : Option PageRange) (reply : Reply) → IsOrderly w → c < w.made.cores → Replies w c held reply → Ends (w.calls.phase c) held
+reply_ends : (w : World) (c : ℕ) (held : Option PageRange) (reply : Reply) → IsOrderly w → c < w.made.cores → Replies w c held reply
+    → Ends (w.calls.phase c) held
 reply_ends w c held reply g lt (refuses request e h k) =
     ends_by _ (Check request) held e (subst (Ends (Check request)) (sym h) (record { opened = refl; same = λ p. refl; cut = λ edge k. k; valid = tt }))
 reply_ends w c held reply g lt (no_place place target errno e h r d) =
@@ -76,11 +84,21 @@ reply_ends w c held reply g lt (declines change errno e h r d) =
 reply_ends w c held reply g lt (fails touch e h f) =
     let k : IsCallOf w c (Settle touch) = call_at w c (Settle touch) e g in
     ends_by _ (Settle touch) held e (subst (Ends (Settle touch)) (sym h)
-    (record { opened = refl; same = λ p. refl; cut = λ edge k. k; valid = page_range touch (touch_sound (λ k. mode_of (w.made.file k)) c k.asked.request touch k.asked.passed) }))
+    (record {
+      opened = refl;
+      same = λ p. refl;
+      cut = λ edge k. k;
+      valid = page_range touch (touch_sound (λ k. mode_of (w.made.file k)) c k.asked.request touch k.asked.passed);
+    }))
 reply_ends w c held reply g lt (no_frame touch old e h r f) =
     let k : IsCallOf w c (Want touch old) = call_at w c (Want touch old) e g in
     ends_by _ (Want touch old) held e (subst (Ends (Want touch old)) (sym h)
-    (record { opened = refl; same = λ p. refl; cut = λ edge k. k; valid = page_range touch (touch_sound (λ k. mode_of (w.made.file k)) c k.asked.request touch k.asked.passed) }))
+    (record {
+      opened = refl;
+      same = λ p. refl;
+      cut = λ edge k. k;
+      valid = page_range touch (touch_sound (λ k. mode_of (w.made.file k)) c k.asked.request touch k.asked.passed);
+    }))
 
 -- over these slots, which it owns as before, and this memory
 replied : (w : World) (c : ℕ) (held : Option PageRange) (reply : Reply) (t : Slots) (m : Memory) → IsOrderly w → c < w.made.cores → Ends (w.calls.phase c) held
@@ -148,7 +166,8 @@ commits_kept w c goal change counts g lt e l =
 accesses_kept : (w : World) (c : ℕ) (touch : Touch) (f : ℕ) → IsOrderly w → c < w.made.cores → w.calls.phase c ≡ Try touch
     → IsOrderly (after_access c touch f w)
 accesses_kept w c touch f g lt e =
-    replied w c None (reply_of touch f w.memory) w.slots (memory_after touch f w.memory) g lt (ends_by _ (Try touch) None e (record { opened = refl; same = λ p. refl; cut = λ edge k. k; valid = tt }))
+    replied w c None (reply_of touch f w.memory) w.slots (memory_after touch f w.memory) g lt
+    (ends_by _ (Try touch) None e (record { opened = refl; same = λ p. refl; cut = λ edge k. k; valid = tt }))
     (untouched w.slots c) refl refl (λ n k f h. h) g.pages (written w.made w.memory _ g.memory)
 
 -- ---- a call is given up
@@ -209,7 +228,8 @@ locked_ends w c goal cursor g lt e = go ((goal_range goal).first == cursor) refl
     }
 
 -- what a call that may be given up still holds
-gives_up_ends : (w : World) (c : ℕ) (phase : Phase) → IsOrderly w → c < w.made.cores → w.calls.phase c ≡ phase → can_give_up phase ≡ true → Ends phase (still_held phase)
+gives_up_ends : (w : World) (c : ℕ) (phase : Phase) → IsOrderly w → c < w.made.cores → w.calls.phase c ≡ phase → can_give_up phase ≡ true
+    → Ends phase (still_held phase)
 gives_up_ends w c (Check request) g lt e can = record { opened = refl; same = λ p. refl; cut = λ edge k. k; valid = tt }
 gives_up_ends w c (Try touch) g lt e can = record { opened = refl; same = λ p. refl; cut = λ edge k. k; valid = tt }
 gives_up_ends w c (Lock goal cursor) g lt e can = locked_ends w c goal cursor g lt e
@@ -312,7 +332,8 @@ end_stays s t c e j mine at = go (t.edge (e + 1)) refl
 joined : (w : World) (t : Slots) → Joins w.slots t → IsOrderly w → IsOrderly (record w { slots = t })
 joined w t j g =
     other_edges w t j.owners j.info (λ c. cut (range_held (w.calls.phase c)) c (λ p i. g.owned c p i) (g.cut c))
-    (λ c. cut (awaits_in (w.calls.phase c)) c (λ p i. g.owned c p (awaits_held w.made w.slots w.memory.cached (w.calls.phase c) p (g.ready c) i)) (g.cut_out c)) g
+    (λ c. cut (awaits_in (w.calls.phase c)) c
+    (λ p i. g.owned c p (awaits_held w.made w.slots w.memory.cached (w.calls.phase c) p (g.ready c) i)) (g.cut_out c)) g
   where
     cut : (held : Option PageRange) (c : ℕ) → ((p : ℕ) → some_has held p ≡ true → w.slots.owner p ≡ Some c) → IsCutFor w.slots.edge held → IsCutFor t.edge held
     cut None c mine h = tt
@@ -336,7 +357,8 @@ goes_kept w c v g lt (fits place target range e cut h) = subst IsOrderly (sym h)
 goes_kept w c v g lt (owns goal cursor b t e l h) = subst IsOrderly (sym h) (owns_kept w c goal cursor b t g lt e l)
 goes_kept w c v g lt (lets_go held b t new l u h) = subst IsOrderly (sym h) (lets_go_kept w c held b t new g lt l u)
 goes_kept w c v g lt (answers held reply r h) =
-    subst IsOrderly (sym h) (replied w c held reply w.slots w.memory g lt (reply_ends w c held reply g lt r) (untouched w.slots c) refl refl (λ n k f h. h) g.pages g.memory)
+    subst IsOrderly (sym h)
+    (replied w c held reply w.slots w.memory g lt (reply_ends w c held reply g lt r) (untouched w.slots c) refl refl (λ n k f h. h) g.pages g.memory)
 goes_kept w c v g lt (posts change shoot e h) = subst IsOrderly (sym h) (posts_kept w c change shoot g lt e)
 goes_kept w c v g lt (commits goal change counts e n l h) = subst IsOrderly (sym h) (commits_kept w c goal change counts g lt e l)
 goes_kept w c v g lt (takes touch old f e l h) = subst IsOrderly (sym h) (takes_kept w c touch old f g lt e l)

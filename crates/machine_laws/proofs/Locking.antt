@@ -85,7 +85,8 @@ locked_taken (To.Access touch) f h = cc
 -- the slot from the cursor up to b is core c's, which holds the pages up to b in the new phase
 owned_to : (w : World) (c : ℕ) (goal : Goal) (cursor b : ℕ) (t : Slots) (new : Phase) → w.calls.phase c ≡ Lock goal cursor → IsOrderly w → c < w.made.cores
     → Locks w.slots t c cursor (goal_range goal).end b → is_open new ≡ true → range_held new ≡ Some (between (goal_range goal).first b)
-    → IsCutFor w.slots.edge (awaits_in new) → IsAsked w.made w.calls.requests c (w.calls.number c) new → IsReady w.made w.slots w.memory.cached new → ((f : ℕ) → taken_in new ≡ Some f → ⊥)
+    → IsCutFor w.slots.edge (awaits_in new) → IsAsked w.made w.calls.requests c (w.calls.number c) new → IsReady w.made w.slots w.memory.cached new
+    → ((f : ℕ) → taken_in new ≡ Some f → ⊥)
     → IsOrderly (to c new (record w { slots = t }))
 owned_to w c goal cursor b t new e g lt l opened held out asked ready none =
     subst (λ s. IsOrderly (to c new (record w { slots = s }))) (sym l.now)
@@ -160,7 +161,8 @@ none_remains made s cached held b new none out whole ready = record {
     past : (p : ℕ) → has (between held.first b) p ≡ false → has held p ≡ true → ⊥
     past p x y = grind (arith, nat_tests)
 
-remains : (made : Made) (s : Slots) (cached : ℕ → ℕ → Option ℕ) (held : PageRange) (b : ℕ) (reply : Reply) → IsPageRange held → s.edge b ≡ true → s.edge held.end ≡ true → held.first < b → b ≤ held.end
+remains : (made : Made) (s : Slots) (cached : ℕ → ℕ → Option ℕ) (held : PageRange) (b : ℕ) (reply : Reply) → IsPageRange held → s.edge b ≡ true
+    → s.edge held.end ≡ true → held.first < b → b ≤ held.end
     → Remains made s cached held b (let_go (held_after held b) reply)
 remains made s cached held b reply range eb ee lt by =
     by_test (λ o. Remains made s cached held b (let_go o reply)) (b == held.end) None (Some (between b held.end))
@@ -179,8 +181,9 @@ shut None reply = refl
 shut (Some held) reply = refl
 
 -- over slots in which nobody owns the pages up to b
-let_go_to : (w : World) (c : ℕ) (old new : Phase) (held : PageRange) (b : ℕ) (t : Slots) → w.calls.phase c ≡ old → IsOrderly w → c < w.made.cores → range_held old ≡ Some held
-    → is_open new ≡ is_open old → Unlocks w.slots t c held.first held.end b → Remains w.made w.slots w.memory.cached held b new → IsAsked w.made w.calls.requests c (w.calls.number c) new
+let_go_to : (w : World) (c : ℕ) (old new : Phase) (held : PageRange) (b : ℕ) (t : Slots) → w.calls.phase c ≡ old → IsOrderly w → c < w.made.cores
+    → range_held old ≡ Some held → is_open new ≡ is_open old → Unlocks w.slots t c held.first held.end b → Remains w.made w.slots w.memory.cached held b new
+    → IsAsked w.made w.calls.requests c (w.calls.number c) new
     → ((f : ℕ) → taken_in new ≡ Some f → ⊥) → IsOrderly (to c new (record w { slots = t }))
 let_go_to w c old new held b t e g lt was opened u m asked none =
     subst (λ s. IsOrderly (to c new (record w { slots = s }))) (sym u.now)
@@ -265,7 +268,8 @@ back_remains w c place target held b g lt s r eb ee more by =
 one_page : (touch : Touch) (b : ℕ) → touch.page < b → b ≤ touch.page + 1 → b ≡ touch.page + 1
 one_page touch b l m = omega (arith, l, m)
 
-pub lets_go_kept : (w : World) (c : ℕ) (held : PageRange) (b : ℕ) (t : Slots) (new : Phase) → IsOrderly w → c < w.made.cores → LetsGo (w.calls.phase c) held b new
+pub lets_go_kept : (w : World) (c : ℕ) (held : PageRange) (b : ℕ) (t : Slots) (new : Phase) → IsOrderly w → c < w.made.cores
+    → LetsGo (w.calls.phase c) held b new
     → Unlocks w.slots t c held.first held.end b → IsOrderly (to c new (record w { slots = t }))
 lets_go_kept w c held b t new g lt (unlocks reply e n) u =
     subst (λ x. IsOrderly (to c x (record w { slots = t }))) (sym n)

@@ -20,13 +20,15 @@ use Rattle.slot_lock.specs.Plan.{range_of, goal_range}
 use Rattle.slot_lock.specs.Slots.{Slots}
 use Rattle.machine_model.specs.declared.log.Entry.{Entry}
 use Rattle.machine_model.specs.declared.phase.Phase.{Phase}
-use Rattle.machine_model.specs.declared.phase.Phase.TheVariants.{Free, Check, Lock, Guess, Find, Back as Leaving, Cut, Decide, Post, Acks, Unlock, Answer, Try, Settle, Want, Fill, CopyPost, CopyAcks, Install, Release}
+use Rattle.machine_model.specs.declared.phase.Phase.TheVariants.{Free, Check, Lock, Guess, Find, Back as Leaving, Cut, Decide, Post, Acks, Unlock, Answer}
+use Rattle.machine_model.specs.declared.phase.Phase.TheVariants.{Try, Settle, Want, Fill, CopyPost, CopyAcks, Install, Release}
 use Rattle.machine_model.specs.World.{World, Made, Memory}
 use Rattle.machine_model.specs.declared.log.Entry.TheVariants.{Answer as Told, Detach}
 use Rattle.machine_model.specs.Actions.{let_go}
 use Rattle.machine_model.specs.Files.{back_of, file_frame, shows_file}
 use Rattle.machine_model.specs.Holding.{holds, some_has, range_held, awaits_in, taken_in, is_open, page_of_touch}
-use Rattle.machine_laws.specs.Orderly.{Order, IsOrderly, IsAsked, IsCutFor, IsReady, IsUsable, IsCopyDue, IsWanted, IsFillable, IsChosen, BelongsTo, IsMemory, answer_count}
+use Rattle.machine_laws.specs.Orderly.{Order, IsOrderly, IsAsked, IsCutFor, IsReady, IsUsable, IsCopyDue, IsWanted}
+use Rattle.machine_laws.specs.Orderly.{IsFillable, IsChosen, BelongsTo, IsMemory, answer_count}
 use Rattle.machine_laws.proofs.Deciding.{decides_kept, acts_in}
 use Rattle.machine_laws.proofs.OpenCalls.{one, open_put}
 
@@ -48,7 +50,8 @@ IsCallOf w c phase = IsCall w.made w.slots w.memory.cached w.calls.requests c (w
 
 pub call_at : (w : World) (c : ℕ) (phase : Phase) → w.calls.phase c ≡ phase → IsOrderly w → IsCallOf w c phase
 call_at w c phase e g =
-    subst (IsCallOf w c) e (record { asked = g.asked c; owned = g.owned c; only = g.only c; cut = g.cut c; cut_out = g.cut_out c; ready = g.ready c; taken = g.taken c })
+    subst (IsCallOf w c) e
+    (record { asked = g.asked c; owned = g.owned c; only = g.only c; cut = g.cut c; cut_out = g.cut_out c; ready = g.ready c; taken = g.taken c })
 
 -- ---- a step of core c changes only what c owns, and adds edges
 
@@ -151,8 +154,10 @@ ready_kept made s t cached (Want touch old) same h =
     subst (λ o. IsUsable made.file o touch.access old × IsWanted cached o touch.access old) (sym (same touch.page (page_is touch))) h
 ready_kept made s t cached (Fill touch frame) same h =
     subst (λ o. IsUsable made.file o touch.access None × IsFillable cached o touch.access frame) (sym (same touch.page (page_is touch))) h
-ready_kept made s t cached (CopyPost touch frame) same h = copying_kept made cached touch (s.info touch.page) (t.info touch.page) (same touch.page (page_is touch)) h
-ready_kept made s t cached (CopyAcks touch frame) same h = copying_kept made cached touch (s.info touch.page) (t.info touch.page) (same touch.page (page_is touch)) h
+ready_kept made s t cached (CopyPost touch frame) same h =
+    copying_kept made cached touch (s.info touch.page) (t.info touch.page) (same touch.page (page_is touch)) h
+ready_kept made s t cached (CopyAcks touch frame) same h =
+    copying_kept made cached touch (s.info touch.page) (t.info touch.page) (same touch.page (page_is touch)) h
 ready_kept made s t cached (Install touch) same h = (h.0, usable_kept made.file s t touch (Some h.0) same h.1)
 ready_kept made s t cached Free same h = h
 ready_kept made s t cached (Check request) same h = h
@@ -168,7 +173,8 @@ ready_kept made s t cached (Settle touch) same h = h
 ready_kept made s t cached (Release touch) same h = h
 
 -- what changes once other cores have acknowledged is held
-pub awaits_held : (made : Made) (s : Slots) (cached : ℕ → ℕ → Option ℕ) (phase : Phase) (p : ℕ) → IsReady made s cached phase → some_has (awaits_in phase) p ≡ true
+pub awaits_held : (made : Made) (s : Slots) (cached : ℕ → ℕ → Option ℕ) (phase : Phase) (p : ℕ) → IsReady made s cached phase
+    → some_has (awaits_in phase) p ≡ true
     → holds phase p ≡ true
 awaits_held made s cached (Acks goal change) p r h = acts_in made.file s goal (range_of change) r.2.0 p r.2.1 h
 awaits_held made s cached (CopyAcks touch frame) p r h = h

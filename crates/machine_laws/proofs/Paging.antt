@@ -154,8 +154,11 @@ framed_ready : (made : Made) (s : Slots) (cached : ℕ → ℕ → Option ℕ) (
     → IsUsable made.file (s.info touch.page) touch.access None
     → IsReady made (with_info s touch.page (info_with_frame f (s.info touch.page))) cached (Install touch)
 framed_ready made s cached touch f u =
-    let new : Option PageInfo = info_with_frame f (s.info touch.page) in
-    (f, subst (λ o. IsUsable made.file o touch.access (Some f)) (sym (put_same s.info touch.page new)) (framed_usable made f (s.info touch.page) touch.access u))
+    let new : Option PageInfo = info_with_frame f (s.info touch.page) in (
+      f,
+      subst (λ o. IsUsable made.file o touch.access (Some f)) (sym (put_same s.info touch.page new))
+          (framed_usable made f (s.info touch.page) touch.access u),
+    )
 
 -- memory in which frame f has these bytes and is counted
 filled_memory : (w : World) (f n : ℕ) (counts : Counts) (bytes : ℕ → Bytes) → IsOrderly w → Takes w.memory.counts (Begin f n) counts
@@ -239,5 +242,6 @@ copies_kept w c touch f x counts g lt e t =
 
 pub installs_kept : (w : World) (c : ℕ) (touch : Touch) → IsOrderly w → c < w.made.cores → w.calls.phase c ≡ Install touch → IsOrderly (after_install c touch w)
 installs_kept w c touch g lt e =
-    sets_page w c touch (Install touch) (Release touch) (info_with_core c (w.slots.info touch.page)) w.memory e g lt refl refl refl tt (λ n k f h. h) (call_at w c (Install touch) e g).asked tt
+    sets_page w c touch (Install touch) (Release touch) (info_with_core c (w.slots.info touch.page)) w.memory e g lt refl refl refl tt (λ n k f h. h)
+    (call_at w c (Install touch) e g).asked tt
     (λ x h. cc) (recorded_belongs w.made touch.page c (w.slots.info touch.page) lt (g.pages touch.page)) g.memory

@@ -1,6 +1,7 @@
 -- What a step is: it changes nothing, begins a call, ends one, or is one of a few things that a call in some phase does. Every
 -- statement on steps is shown shape by shape, so that no row of the machine is taken apart twice.
-use Rattle.std.proofs.Common.{◌≡◌, ◌≢◌, ℕ, sym, ap, subst, ◌∙◌, ◌+◌, ◌<◌, ◌≤◌, inl, inr, Bool, true, false, cond, refl, arith, Some, None, Option, Result, Ok, Err, [], length}
+use Rattle.std.proofs.Common.{◌≡◌, ◌≢◌, ℕ, sym, ap, subst, ◌∙◌, ◌+◌, ◌<◌, ◌≤◌, inl, inr, Bool, true, false, cond}
+use Rattle.std.proofs.Common.{refl, arith, Some, None, Option, Result, Ok, Err, [], length}
 use Rattle.std.specs.Prelude.{nat_lt, nat_le, ◌&&◌, ◌||◌, is_some, if◌then◌else◌}
 use Rattle.std.proofs.lemmas.Bool.Decides.{nat_tests}
 use Rattle.vm_base.specs.declared.info.Back.{Back}
@@ -61,10 +62,13 @@ use Rattle.machine_model.specs.declared.event.Event.TheVariants.{Call, Go}
 use Rattle.machine_model.specs.declared.event.Outcome.{Outcome}
 use Rattle.machine_model.specs.declared.event.Outcome.TheVariants.{Stepped, Idle, Answered, Full, Wait}
 use Rattle.machine_model.specs.declared.phase.Phase.{Phase}
-use Rattle.machine_model.specs.declared.phase.Phase.TheVariants.{Free, Check, Lock, Guess, Find, Back as Leaving, Cut, Decide, Post, Acks, Unlock, Answer, Try, Settle, Want, Fill, CopyPost, CopyAcks, Install, Release}
-use Rattle.machine_model.specs.Accesses.{after_translation, found_at, is_past_end, after_finding, NoneFree, TakesFrame, TakesThisFrame, after_frame, after_install, after_access}
+use Rattle.machine_model.specs.declared.phase.Phase.TheVariants.{Free, Check, Lock, Guess, Find, Back as Leaving, Cut, Decide, Post, Acks, Unlock, Answer}
+use Rattle.machine_model.specs.declared.phase.Phase.TheVariants.{Try, Settle, Want, Fill, CopyPost, CopyAcks, Install, Release}
+use Rattle.machine_model.specs.Accesses.{after_translation, found_at, is_past_end, after_finding, NoneFree, TakesFrame}
+use Rattle.machine_model.specs.Accesses.{TakesThisFrame, after_frame, after_install, after_access}
 use Rattle.machine_model.specs.Files.{back_of, file_frame}
-use Rattle.machine_model.specs.Filling.{FillsFromFile, FillsBacked, after_zeros, after_first_copy, after_caching, after_sharing, after_copy_post, after_copy, CountsCopy, CopiesNext}
+use Rattle.machine_model.specs.Filling.{FillsFromFile, FillsBacked, after_zeros, after_first_copy, after_caching}
+use Rattle.machine_model.specs.Filling.{after_sharing, after_copy_post, after_copy, CountsCopy, CopiesNext}
 use Rattle.machine_model.specs.Actions.{Idles, Becomes, to, after_reply, let_go}
 use Rattle.machine_model.specs.Changes.{checked_by, after_plan, after_decision, after_post, after_commit, CountsLost, AwaitsNobody, Awaits, CommitsNext}
 use Rattle.machine_model.specs.Counting.{with_counts, with_free, ReportsFlush, ReportsReview}
@@ -72,8 +76,10 @@ use Rattle.machine_model.specs.GivingUp.{GivesUp, after_give_up}
 use Rattle.machine_model.specs.Events.{core_of}
 use Rattle.machine_model.specs.Holding.{page_of_touch, awaits_in, can_give_up}
 use Rattle.machine_model.specs.Locks.{locking, locked_to, held_after, LocksTo, FoldsAt}
-use Rattle.machine_model.specs.Placing.{placing, trying, guess_of, GuessesNext, GuessesThisRun, TakesWindow, after_guess, after_finding_place, back_to, after_cuts, CutsTo}
-use Rattle.machine_model.specs.Translating.{translated_by, frame_reached, after_translating, with_hardware, with_inbox, tables_cleared, tlb_invalidated, TakesMessage, can_walk, after_walk, Walks, after_eviction, Evicts}
+use Rattle.machine_model.specs.Placing.{placing, trying, guess_of, GuessesNext, GuessesThisRun, TakesWindow}
+use Rattle.machine_model.specs.Placing.{after_guess, after_finding_place, back_to, after_cuts, CutsTo}
+use Rattle.machine_model.specs.Translating.{translated_by, frame_reached, after_translating, with_hardware, with_inbox, tables_cleared}
+use Rattle.machine_model.specs.Translating.{tlb_invalidated, TakesMessage, can_walk, after_walk, Walks, after_eviction, Evicts}
 use Rattle.machine_model.specs.World.{World, Hardware}
 use Rattle.machine_model.specs.Step.{after_call, Begins, Goes, Acts, is_here, with_event, event_limit, Step}
 use Rattle.machine_laws.specs.Brackets.{begun_by}
@@ -514,7 +520,8 @@ go_shape w c (Unlock held reply) o v lt e h = step w c o v lt h.1.2.0 (lets_go h
     (unlocks reply e refl) h.1.1 h.1.2.1)
 go_shape w c (Answer reply) o v lt e h = ends c reply refl h.0 lt e h.1
 go_shape w c (Try touch) o v lt e h = step w c o v lt h.0 (try_shape w c touch (frame_reached (translated_by w.hardware c touch)) v e refl h.1)
-go_shape w c (Settle touch) o v lt e h = step w c o v lt h.0 (settle_shape w c touch (found_at w touch) v e refl (found w.made.file w.memory.cached (w.slots.info touch.page) touch.access) h.1)
+go_shape w c (Settle touch) o v lt e h =
+    step w c o v lt h.0 (settle_shape w c touch (found_at w touch) v e refl (found w.made.file w.memory.cached (w.slots.info touch.page) touch.access) h.1)
 go_shape w c (Want touch old) o v lt e h = want_shape w c touch old o v lt e h
 go_shape w c (Fill touch own) o v lt e h = fill_shape w c touch own (back_of (w.slots.info touch.page)) touch.access o v lt e refl refl h
 go_shape w c (CopyPost touch f) o v lt e h = step w c o v lt h.0 (posts_copy touch f e h.1)

@@ -31,7 +31,8 @@ pub gains : (w : World) (c : ℕ) (old phase : Phase) (set : ℕ → Bool) → I
     → ((p : ℕ) → set p ≡ true → holds phase p ≡ true)
     → ((p : ℕ) → holds old p ≡ true → holds phase p ≡ true)
     → ((p : ℕ) → set p ≡ false → holds phase p ≡ true → holds old p ≡ true)
-    → IsCutFor w.slots.edge (range_held phase) → IsCutFor w.slots.edge (awaits_in phase) → IsReady w.made w.slots w.memory.cached phase → ((f : ℕ) → taken_in phase ≡ Some f → f < w.made.frames)
+    → IsCutFor w.slots.edge (range_held phase) → IsCutFor w.slots.edge (awaits_in phase) → IsReady w.made w.slots w.memory.cached phase
+    → ((f : ℕ) → taken_in phase ≡ Some f → f < w.made.frames)
     → IsCall w.made (record w.slots { owner = over w.slots.owner set (Some c) }) w.memory.cached w.calls.requests c (w.calls.number c) phase
 gains w c old phase set k asked new more back cut out ready taken = record {
   asked = asked;
@@ -48,7 +49,8 @@ pub loses : (w : World) (c : ℕ) (old phase : Phase) (set : ℕ → Bool) → I
     → ((p : ℕ) → set p ≡ true → holds phase p ≡ true → ⊥)
     → ((p : ℕ) → holds phase p ≡ true → holds old p ≡ true)
     → ((p : ℕ) → set p ≡ false → holds old p ≡ true → holds phase p ≡ true)
-    → IsCutFor w.slots.edge (range_held phase) → IsCutFor w.slots.edge (awaits_in phase) → IsReady w.made w.slots w.memory.cached phase → ((f : ℕ) → taken_in phase ≡ Some f → f < w.made.frames)
+    → IsCutFor w.slots.edge (range_held phase) → IsCutFor w.slots.edge (awaits_in phase) → IsReady w.made w.slots w.memory.cached phase
+    → ((f : ℕ) → taken_in phase ≡ Some f → f < w.made.frames)
     → IsCall w.made (record w.slots { owner = over w.slots.owner set None }) w.memory.cached w.calls.requests c (w.calls.number c) phase
 loses w c old phase set k asked gone less rest cut out ready taken = record {
   asked = asked;

@@ -29,7 +29,8 @@ use Rattle.machine_model.specs.declared.event.Outcome.{Outcome}
 use Rattle.machine_model.specs.declared.log.Entry.{Entry}
 use Rattle.machine_model.specs.declared.log.Entry.TheVariants.{Answer, Detach}
 use Rattle.machine_model.specs.declared.phase.Phase.{Phase}
-use Rattle.machine_model.specs.declared.phase.Phase.TheVariants.{Free, Check, Lock, Find, Back, Cut, Post, Acks, Unlock, Want, Fill, CopyPost, CopyAcks, Install}
+use Rattle.machine_model.specs.declared.phase.Phase.TheVariants.{Free, Check, Lock, Find, Back, Cut, Post, Acks, Unlock, Want}
+use Rattle.machine_model.specs.declared.phase.Phase.TheVariants.{Fill, CopyPost, CopyAcks, Install}
 use Rattle.machine_model.specs.World.{World, Made, Memory, new_world}
 use Rattle.machine_model.specs.Accesses.{is_past_end}
 use Rattle.machine_model.specs.Changes.{checked_by}

@@ -58,7 +58,8 @@ pub access_made : (w : World) (event : Event) (c : ℕ) (touch : Touch) (f : ℕ
     → Leaves w event (after_access c touch f (with_hardware (after_translating w.hardware c touch) w))
 access_made w event c touch f e h fine =
     let reply : Reply = reply_of touch f w.memory in
-    let r : ReachesFrame w.memory.cached (w.slots.info touch.page) touch.access f = reaches w.memory.cached w.slots.info w.calls.phase w.hardware c touch f fine.coherent h in
+    let r : ReachesFrame w.memory.cached (w.slots.info touch.page) touch.access f =
+    reaches w.memory.cached w.slots.info w.calls.phase w.hardware c touch f fine.coherent h in
     let i : IsFramed w fine.plain touch.page f = framed w fine.plain touch.page f fine.good (ap frame_of r.mapped ∙ r.frame) in
     let same : r.page ≡ i.info = let a = r.mapped in let b = i.at_slot in cc in
     let allowed : is_allowed i.info.meta.prot touch.access ≡ true = subst (λ (x : PageInfo). is_allowed x.meta.prot touch.access ≡ true) same r.allowed in
@@ -115,7 +116,9 @@ fault_reply w t touch reply g h = go (w.slots.info touch.page) refl h
 
     has : (info : PageInfo) → w.slots.info touch.page ≡ Some info → (a b : Bool) → is_allowed info.meta.prot touch.access ≡ a
         → is_past_end w.made.file (Some info) ≡ b
-        → IsFault (if a then (if b then PastEnd else source info.meta.back info.frame touch.access (file_frame w.memory.cached info.meta.back)) else Forbidden) reply
+        → IsFault
+        (if a then (if b then PastEnd else source info.meta.back info.frame touch.access (file_frame w.memory.cached info.meta.back)) else Forbidden)
+        reply
         → Told reply
     has info e true true i j f = subst Told (sym f) (tt, past_reply w t touch.page touch.access touch.offset info g e i j, refl)
     has info e true false i j f =

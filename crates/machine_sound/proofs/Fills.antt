@@ -136,7 +136,8 @@ page_zeroed w event c touch f counts e anon fine =
     goes_on w event c (Install touch) (after_zeros c touch f counts w).slots w.hardware (after_zeros c touch f counts w).memory fine
     (with_counts_shown w.made.file _ (with_bytes w.memory f shown) counts fine.plain
     (owned_shown w c f touch.page shown (info_with_frame f (w.slots.info touch.page)) fine.plain fine (ap taken_in e)
-    (new_frame f (w.slots.info touch.page)) (filled_past w.made.file f (w.slots.info touch.page) ∙ usable_past w.made.file (w.slots.info touch.page) touch.access None k.ready.0)
+    (new_frame f (w.slots.info touch.page))
+    (filled_past w.made.file f (w.slots.info touch.page) ∙ usable_past w.made.file (w.slots.info touch.page) touch.access None k.ready.0)
     (subst (λ x. ShowsPage (with_bytes w.memory f x) (info_with_frame f (w.slots.info touch.page)) (fine.plain.entry touch.page)) (sym are_zeros)
     (zeros_shown w.memory f (w.slots.info touch.page) (fine.plain.entry touch.page) anon
     (no_frame_yet w.made.file touch.access (w.slots.info touch.page) k.ready.0) (fine.good.pages touch.page)))
@@ -184,7 +185,8 @@ copy_shown w t page f x k new meta frame none =
           (subst (λ m. MayOwn m.back) (sym meta) k.may_own, ap Some (sym (put_same w.memory.bytes f x)))),
     )
 
-pub private_only : (back : Back) (access : Access) → is_private_store back access ≡ true → (access ≡ Store) × (is_uncopied back None ≡ true) × MayOwn back × (back ≢ Anon)
+pub private_only : (back : Back) (access : Access) → is_private_store back access ≡ true
+    → (access ≡ Store) × (is_uncopied back None ≡ true) × MayOwn back × (back ≢ Anon)
     × (first_own back ≡ None)
 private_only (Private n k) Store h = (refl, refl, tt, λ e. cc, refl)
 private_only (Private n k) Load h = absurd cc
@@ -231,7 +233,8 @@ page_first_copied w event c touch f counts e store fine =
     (its_copy w fine.plain touch.page x z)
     (with_counts_shown w.made.file _ (with_bytes w.memory f x) counts (with_own fine.plain touch.page z.entry x)
     (owned_shown w c f touch.page x (info_with_frame f (w.slots.info touch.page)) (with_own fine.plain touch.page z.entry x) fine (ap taken_in e)
-    (new_frame f (w.slots.info touch.page)) (filled_past w.made.file f (w.slots.info touch.page) ∙ usable_past w.made.file (w.slots.info touch.page) touch.access None k.ready.0)
+    (new_frame f (w.slots.info touch.page))
+    (filled_past w.made.file f (w.slots.info touch.page) ∙ usable_past w.made.file (w.slots.info touch.page) touch.access None k.ready.0)
     (subst (λ o. ShowsPage (with_bytes w.memory f x) (info_with_frame f o) ((with_own fine.plain touch.page z.entry x).entry touch.page)) (sym z.at_slot)
     (copy_shown w fine.plain touch.page f x z (record z.info { frame = Some f }) refl refl (uncached w f fine c (ap taken_in e))))
     (λ p ne. put_other fine.plain.entry touch.page (Some (record z.entry { own = Some x })) p ne) refl))
@@ -246,7 +249,8 @@ page_first_copied w event c touch f counts e store fine =
     z = first_uncopied w fine.plain touch.page touch.access fine.good k.ready.0 store
 
 -- a page whose frame shows its file's page
-pub shown_uncopied : (w : World) (t : Plain) (page g : ℕ) (access : Access) (k : IsFramed w t page g) → is_private_store (back_of (w.slots.info page)) access ≡ true
+pub shown_uncopied : (w : World) (t : Plain) (page g : ℕ) (access : Access) (k : IsFramed w t page g)
+    → is_private_store (back_of (w.slots.info page)) access ≡ true
     → shows_file w.memory.cached (back_of (w.slots.info page)) g ≡ true → IsUncopied w t page (w.memory.bytes g)
 shown_uncopied w t page g access k store shown =
     let p = private_only k.info.meta.back access (ap (λ o. is_private_store (back_of o) access) (sym k.at_slot) ∙ store) in
@@ -269,7 +273,8 @@ pub page_copied : (w : World) (event : Event) (c : ℕ) (touch : Touch) (f g : �
 page_copied w event c touch f g counts e at fine =
     copies_on w event c touch.page (Install touch) (after_copy c touch f g counts w).slots w.hardware (after_copy c touch f g counts w).memory fine
     (with_own fine.plain touch.page z.entry x)
-    (as_store w fine.plain touch.page touch.access (Some k.ready.0) fine.good k.ready.1 (private_only (back_of (w.slots.info touch.page)) touch.access k.ready.2.store).0)
+    (as_store w fine.plain touch.page touch.access (Some k.ready.0) fine.good k.ready.1
+    (private_only (back_of (w.slots.info touch.page)) touch.access k.ready.2.store).0)
     (its_copy w fine.plain touch.page x z)
     (with_counts_shown w.made.file _ (with_bytes w.memory f x) counts (with_own fine.plain touch.page z.entry x)
     (owned_shown w c f touch.page x (info_copied f (w.slots.info touch.page)) (with_own fine.plain touch.page z.entry x) fine (ap taken_in e)
@@ -322,7 +327,8 @@ not_anon Anon h e = cc
 not_anon (Shared n k) h e = cc
 not_anon (Private n k) h e = cc
 
-framed_own_none : (cached : ℕ → ℕ → Option ℕ) (f : ℕ) (o : Option PageInfo) → shows_file cached (back_of o) f ≡ true → own_frame cached (info_with_frame f o) ≡ None
+framed_own_none : (cached : ℕ → ℕ → Option ℕ) (f : ℕ) (o : Option PageInfo) → shows_file cached (back_of o) f ≡ true
+    → own_frame cached (info_with_frame f o) ≡ None
 framed_own_none cached f None h = refl
 framed_own_none cached f (Some info) h = own_none cached info.meta.back f h
 

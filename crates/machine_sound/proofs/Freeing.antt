@@ -17,7 +17,10 @@ use Rattle.machine_model.specs.Step.{with_event, Step}
 use Rattle.machine_model.specs.World.{World}
 use Rattle.machine_laws.specs.Orderly.{IsOrderly}
 use Rattle.machine_laws.proofs.Moves.{IsCallOf, call_at}
-use Rattle.machine_laws.proofs.Shapes.{GoesBy, moves, divides, cuts, fits, owns, lets_go, answers, posts, commits, takes, zeroes, first_copies, caches, shares, posts_copy, copies, installs, accesses, faults, Works, clears, invalidates, walks, evicts, flushes, reviews, frees, IsGoing, going, picking, Rests, absent, busy, full, free, cannot, waits, awaits, Shape, rests, begins, ends, goes, aims, gives_up, works, joins, Comes, stopped, acts, comes}
+use Rattle.machine_laws.proofs.Shapes.{GoesBy, moves, divides, cuts, fits, owns, lets_go, answers, posts, commits, takes, zeroes, first_copies, caches}
+use Rattle.machine_laws.proofs.Shapes.{shares, posts_copy, copies, installs, accesses, faults, Works, clears, invalidates, walks, evicts, flushes, reviews}
+use Rattle.machine_laws.proofs.Shapes.{frees, IsGoing, going, picking, Rests, absent, busy, full, free, cannot, waits, awaits, Shape, rests, begins, ends}
+use Rattle.machine_laws.proofs.Shapes.{goes, aims, gives_up, works, joins, Comes, stopped, acts, comes}
 use Rattle.machine_sound.specs.Sound.{IsFreedBy, FreesOnly, IsBlocked}
 use Rattle.machine_sound.specs.Sound.IsFreedBy.{by_review, by_call}
 

@@ -12,7 +12,8 @@ use Rattle.machine_model.specs.declared.event.Outcome.{Outcome}
 use Rattle.slot_lock.specs.declared.plan.Change.TheVariants.{Put}
 use Rattle.slot_lock.specs.declared.plan.Goal.TheVariants as To
 use Rattle.machine_model.specs.declared.phase.Phase.{Phase}
-use Rattle.machine_model.specs.declared.phase.Phase.TheVariants.{Free, Check, Lock, Guess, Find, Back as Leaving, Cut, Decide, Post, Acks, Unlock, Answer, Try, Settle, Want, Fill, CopyPost, CopyAcks, Install, Release}
+use Rattle.machine_model.specs.declared.phase.Phase.TheVariants.{Free, Check, Lock, Guess, Find, Back as Leaving, Cut, Decide, Post, Acks, Unlock, Answer}
+use Rattle.machine_model.specs.declared.phase.Phase.TheVariants.{Try, Settle, Want, Fill, CopyPost, CopyAcks, Install, Release}
 use Rattle.machine_model.specs.Actions.{after_reply}
 use Rattle.machine_model.specs.Accesses.{after_frame, taken_for}
 use Rattle.machine_model.specs.Filling.{after_copy_post}
@@ -29,7 +30,10 @@ use Rattle.machine_laws.proofs.Kept.{kept as order_kept}
 use Rattle.machine_laws.proofs.Moves.{IsCallOf, call_at}
 use Rattle.machine_laws.specs.Brackets.{nth}
 use Rattle.machine_laws.specs.Orderly.{IsAsked}
-use Rattle.machine_laws.proofs.Shapes.{Replies, refuses, no_place, declines, fails, no_frame, GoesBy, moves, divides, cuts, fits, owns, lets_go, answers, posts, commits, takes, zeroes, first_copies, caches, shares, posts_copy, copies, installs, accesses, faults, Works, clears, invalidates, walks, evicts, flushes, reviews, frees, Shape, rests, begins, ends, goes, aims, gives_up, works, joins, Comes, stopped, acts as happens, comes}
+use Rattle.machine_laws.proofs.Shapes.{Replies, refuses, no_place, declines, fails, no_frame, GoesBy, moves, divides, cuts, fits, owns, lets_go}
+use Rattle.machine_laws.proofs.Shapes.{answers, posts, commits, takes, zeroes, first_copies, caches, shares, posts_copy, copies, installs, accesses}
+use Rattle.machine_laws.proofs.Shapes.{faults, Works, clears, invalidates, walks, evicts, flushes, reviews, frees, Shape, rests, begins, ends, goes}
+use Rattle.machine_laws.proofs.Shapes.{aims, gives_up, works, joins, Comes, stopped, acts as happens, comes}
 use Rattle.machine_coherence.proofs.Kept.{kept as translations_kept}
 use Rattle.machine_counting.proofs.Kept.{kept as counts_kept}
 use Rattle.machine_sound.specs.Sound.{IsReached, IsSoundState, IsSoundStep, Notes, SoundRun}
@@ -166,7 +170,8 @@ shape_left w e o v f (ends c reply i s lt p h) = subst (Leaves w e) (sym h) (goe
 shape_left w e o v f (goes c i s lt g) = goes_left w e c v (let few = f.order.few in omega (arith, lt, few)) f g
 shape_left w e o v f (aims c place target a s lt p h) =
     subst (Leaves w e) (sym h) (goes_on w e c (trying place target) w.slots w.hardware w.memory f f.good)
-shape_left w e o v f (gives_up c i s lt can u h) = subst (Leaves w e) (sym h) (subst (λ e. Leaves w e (after_give_up c (w.calls.phase c) w)) (sym i) (given_up w c f can))
+shape_left w e o v f (gives_up c i s lt can u h) =
+    subst (Leaves w e) (sym h) (subst (λ e. Leaves w e (after_give_up c (w.calls.phase c) w)) (sym i) (given_up w c f can))
 shape_left w e o v f (works c s lt k) = works_left w e c v f k
 shape_left w e o v f (joins p t i s page j m h) =
     subst (Leaves w e) (sym h) (beside w e t w.hardware w.memory f (shows_same w f.plain t.info j.info f.good))

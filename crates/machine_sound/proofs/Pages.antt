@@ -247,10 +247,12 @@ past_reply w t p access i info g h allowed past = go (t.entry p) refl (subst (λ
         ap (λ b. answer_of t.file access i b entry.back entry.own) (sym (ap (λ prot. is_allowed prot access) s.1) ∙ allowed)
         ∙ bus (needs_copy access entry.back entry.own) (bytes_of t.file entry.back entry.own) (has_bytes w t p info entry g h e ∙ ap not past)
 
-pub can_access : (w : World) (t : Plain) (p : ℕ) (access : Access) (frame : Option ℕ) → Good w t → IsUsable w.made.file (w.slots.info p) access frame → CanAccess t.file (t.entry p) access
+pub can_access : (w : World) (t : Plain) (p : ℕ) (access : Access) (frame : Option ℕ) → Good w t → IsUsable w.made.file (w.slots.info p) access frame
+    → CanAccess t.file (t.entry p) access
 can_access w t p access frame g u = go (w.slots.info p) (t.entry p) refl refl (g.pages p) u
   where
-    go : (o : Option PageInfo) (z : Option Entry) → w.slots.info p ≡ o → t.entry p ≡ z → ShowsPage w.memory o z → IsUsable w.made.file o access frame → CanAccess t.file z access
+    go : (o : Option PageInfo) (z : Option Entry) → w.slots.info p ≡ o → t.entry p ≡ z → ShowsPage w.memory o z → IsUsable w.made.file o access frame
+        → CanAccess t.file z access
     go None z a b s u = absurd u
     go (Some info) None a b s u = absurd s
     go (Some info) (Some entry) a b s u =

@@ -22,7 +22,8 @@ use Rattle.machine_sound.proofs.Reaching.{HasPage, backs, allows, at_place}
 backed : (w : World) → Fine w → (c p : ℕ) (e : Translation) → Translates w.hardware c p e → IsBacked w.memory.cached (w.slots.info p) c e
 backed w f c p e = elim [
   | by_table h ↦ f.coherent.tables c p e h
-  | by_tlb i h ↦ (at_place (IsSoundEntry w.memory.cached w.slots.info c (w.hardware.table c) (w.hardware.inbox c)) (w.hardware.tlb c) i (record { page = p; translation = e }) (f.coherent.tlbs c) h).0
+  | by_tlb i h ↦ (at_place (IsSoundEntry w.memory.cached w.slots.info c (w.hardware.table c) (w.hardware.inbox c)) (w.hardware.tlb c) i
+      (record { page = p; translation = e }) (f.coherent.tlbs c) h).0
 ]
 
 agrees : (w : World) (f : Fine w) (c p : ℕ) (e : Translation) → IsBacked w.memory.cached (w.slots.info p) c e → Agrees w f.plain p e
@@ -58,7 +59,8 @@ uncounted w k f none = go (k.counted.page_in f) refl
     go (Some x) e = absurd (none x.file x.page (k.counted.cached f x e))
 
 counted_twice : (w : World) (k : Fine w) (n l f : ℕ) → w.memory.cached n l ≡ Some f → true_count w.memory.counts f ≡ pos (suc (users_of w.slots.info f))
-counted_twice w k n l f h = let a : one_if (k.counted.page_in f) ≡ 1 = ap one_if (k.counted.caches n l f h) in let b = k.counted.users f in omega (arith, ints, a, b)
+counted_twice w k n l f h =
+    let a : one_if (k.counted.page_in f) ≡ 1 = ap one_if (k.counted.caches n l f h) in let b = k.counted.users f in omega (arith, ints, a, b)
 
 pub fine_sound : (w : World) → Fine w → IsSoundState w
 fine_sound w fine = (
@@ -75,7 +77,9 @@ fine_sound w fine = (
       | by_call c h ↦ fine.counted.busy c f h
     ];
     recorded = λ c p e h. (fine.coherent.tables c p e h).recorded;
-    mirrors = λ c i e h. (at_place (IsSoundEntry w.memory.cached w.slots.info c (w.hardware.table c) (w.hardware.inbox c)) (w.hardware.tlb c) i e (fine.coherent.tlbs c) h).1;
+    mirrors =
+        λ c i e h. (at_place (IsSoundEntry w.memory.cached w.slots.info c (w.hardware.table c) (w.hardware.inbox c)) (w.hardware.tlb c)
+        i e (fine.coherent.tlbs c) h).1;
     users = λ f none. uncounted w fine f none;
     cached = λ n k f h. counted_twice w fine n k f h;
   },

@@ -1,55 +1,45 @@
 //! Worked acquisitions and folds on both slot maps, and memory that comes back.
 ghost use Rattle.std.specs.Prelude.{◌≡◌, ◌<◌, ◌≤◌, ◌^◌};
 
-use crate::slot_calls::{ALL, Locked, acquired, clear, let_go, locked_two, one_page, put, unlock};
+use crate::cases::{Case, on_both, on_list, on_tree};
+use crate::slot_calls::{ALL, Counts, acquired, clear, let_go, locked_two, one_page, put, unlock};
 use linked_list_allocator::LocalHeap;
 use radix_range::RadixMap;
-use slot_lock::{Footprint, RunList, SlotMap, SlotRead};
+use slot_lock::{Footprint, SlotMap};
 use std::test::Fail;
 use vm_base::{CoreId, NoMemory, PageRange};
 
-// How many slots are divided and how many are locked.
-type Counts = (u32, u32);
-
-// What two cores count that want the same page, and who holds it and the next page then.
-type Waits = ([Counts; 2], Option<CoreId>, Option<CoreId>);
-
-fn waits<M: SlotMap>(map: &mut M) -> Result<Waits, NoMemory> {
+// Whether a core locks page 16 with these counts, and another waits for it.
+pub fn waits<M: SlotMap>(map: &mut M, counts: Counts) -> Result<bool, NoMemory> {
     let first = acquired(map, CoreId::new(1), one_page(16), 5)?;
     let second = acquired(map, CoreId::new(2), one_page(16), 5)?;
-    Ok(([first, second], map.owner(16), map.owner(17)))
+    let owners = [map.owner(16), map.owner(17)];
+    Ok([first, second] == [counts, (0, 0)] && owners == [Some(CoreId::new(1)), None])
 }
 
 #[test]
 fn another_core_waits_on_both_maps(rt: HostRuntime) -> Result<(), Fail> {
-    let mut list = RunList::new(rt.alloc())?;
-    let mut tree = RadixMap::new(rt.alloc())?;
-    assert!(rt; waits(&mut list)? == ([(2, 1), (0, 0)], Some(CoreId::new(1)), None));
-    assert!(rt; waits(&mut tree)? == ([(3, 1), (0, 0)], Some(CoreId::new(1)), None));
+    let told = on_both(rt.alloc(), Case::Waits((2, 1)), Case::Waits((3, 1)))?;
+    assert!(rt; told == [true, true]);
     Ok(())
 }
 
-// What is counted where the first page of the root's second slot is locked, its slot then, and the
-// slot of page 16.
-fn first_of_wide<M: SlotMap>(map: &mut M) -> Result<(Counts, PageRange, PageRange), NoMemory> {
-    let counts = acquired(map, CoreId::new(1), one_page(0x800_0000), 5)?;
-    Ok((counts, map.slot(0x800_0000), map.slot(16)))
+// Whether the first page of the root's second slot is locked as a slot of its own, with these counts,
+// and the slot of page 16 begins so and ends before it.
+pub fn divides_wide<M: SlotMap>(map: &mut M, counts: Counts, first: u64) -> Result<bool, NoMemory> {
+    let counted = acquired(map, CoreId::new(1), one_page(0x800_0000), 5)?;
+    let below = PageRange {
+        first,
+        end: 0x800_0000,
+    };
+    let slots = [map.slot(0x800_0000), map.slot(16)];
+    Ok(counted == counts && slots == [one_page(0x800_0000), below])
 }
 
 #[test]
 fn the_slot_of_the_cursor_is_divided(rt: HostRuntime) -> Result<(), Fail> {
-    let mut list = RunList::new(rt.alloc())?;
-    let mut tree = RadixMap::new(rt.alloc())?;
-    let below = PageRange {
-        first: 1,
-        end: 0x800_0000,
-    };
-    let all_below = PageRange {
-        first: 0,
-        end: 0x800_0000,
-    };
-    assert!(rt; first_of_wide(&mut list)? == ((2, 1), one_page(0x800_0000), below));
-    assert!(rt; first_of_wide(&mut tree)? == ((3, 1), one_page(0x800_0000), all_below));
+    let (list, tree) = (Case::DividesWide((2, 1), 1), Case::DividesWide((3, 1), 0));
+    assert!(rt; on_both(rt.alloc(), list, tree)? == [true, true]);
     Ok(())
 }
 
@@ -73,7 +63,7 @@ fn owners<M: SlotMap>(map: &M) -> [Option<CoreId>; 8] {
 }
 
 // Whether both ranges are locked with these counts, and unlocked as so many slots.
-fn locks_both<M: SlotMap>(map: &mut M, counts: Counts, unlocks: u32) -> Result<bool, NoMemory> {
+pub fn locks_both<M: SlotMap>(map: &mut M, counts: Counts, unlocks: u32) -> Result<bool, NoMemory> {
     let core = CoreId::new(1);
     let (counted, held) = locked_two(map, core, RIGHT, LEFT)?;
     let owned = owners(map);
@@ -94,16 +84,14 @@ fn locks_both<M: SlotMap>(map: &mut M, counts: Counts, unlocks: u32) -> Result<b
 
 #[test]
 fn two_ranges_on_both_maps(rt: HostRuntime) -> Result<(), Fail> {
-    let mut list = RunList::new(rt.alloc())?;
-    let mut tree = RadixMap::new(rt.alloc())?;
-    assert!(rt; locks_both(&mut list, (4, 2), 2)?);
-    assert!(rt; locks_both(&mut tree, (3, 4), 4)?);
+    let (list, tree) = (Case::LocksBoth((4, 2), 2), Case::LocksBoth((3, 4), 4));
+    assert!(rt; on_both(rt.alloc(), list, tree)? == [true, true]);
     Ok(())
 }
 
 // Whether the first range and the first page of the second are locked with these counts where
 // another core holds the page after it, and unlocked as so many slots.
-fn gives_up<M: SlotMap>(map: &mut M, counts: Counts, unlocks: u32) -> Result<bool, NoMemory> {
+pub fn gives_up<M: SlotMap>(map: &mut M, counts: Counts, unlocks: u32) -> Result<bool, NoMemory> {
     let other = CoreId::new(2);
     acquired(map, other, one_page(21), 5)?;
     let core = CoreId::new(1);
@@ -123,15 +111,40 @@ fn gives_up<M: SlotMap>(map: &mut M, counts: Counts, unlocks: u32) -> Result<boo
 
 #[test]
 fn gives_up_in_mid_lock_on_both_maps(rt: HostRuntime) -> Result<(), Fail> {
-    let mut list = RunList::new(rt.alloc())?;
-    let mut tree = RadixMap::new(rt.alloc())?;
-    assert!(rt; gives_up(&mut list, (3, 2), 2)?);
-    assert!(rt; gives_up(&mut tree, (0, 3), 3)?);
+    let (list, tree) = (Case::GivesUp((3, 2), 2), Case::GivesUp((0, 3), 3));
+    assert!(rt; on_both(rt.alloc(), list, tree)? == [true, true]);
+    Ok(())
+}
+
+// Whether so many slots are locked at once, up to a page: at most 100 first and then as many as can
+// be, where another core holds page 600 and all pages up to 1024 are slots; and unlocked at once then.
+pub fn locks_at_once<M: SlotMap>(map: &mut M) -> Result<bool, NoMemory> {
+    let other = CoreId::new(2);
+    acquired(map, other, one_page(16), 5)?;
+    unlock(map, other, one_page(16));
+    acquired(map, other, one_page(600), 5)?;
+    let core = CoreId::new(1);
+    let few = map.lock_run(core, 1, 1024, 100);
+    let node = map.lock_run(core, 101, 1024, 2000);
+    let held = map.lock_run(core, 512, 1024, 2000);
+    let back = map.unlock_run(core, 1, 1024, 2000);
+    let none = map.unlock_run(core, 1, 1024, 2000);
+    Ok(
+        (few.slots, few.upto, node.slots, node.upto) == (100, 101, 411, 512)
+            && (held.slots, held.upto, back.slots, back.upto) == (88, 600, 511, 512)
+            && (none.slots, none.upto) == (0, 1)
+            && owners(map) == [None; 8],
+    )
+}
+
+#[test]
+fn slots_are_locked_at_once(rt: HostRuntime) -> Result<(), Fail> {
+    assert!(rt; on_tree(rt.alloc(), Case::LocksAtOnce)?);
     Ok(())
 }
 
 // Whether all pages are locked with these counts, and still free.
-fn locks_all<M: SlotMap>(map: &mut M, counts: Counts) -> Result<bool, NoMemory> {
+pub fn locks_all<M: SlotMap>(map: &mut M, counts: Counts) -> Result<bool, NoMemory> {
     let core = CoreId::new(0);
     let counted = acquired(map, core, ALL, 1800)?;
     Ok(
@@ -144,37 +157,29 @@ fn locks_all<M: SlotMap>(map: &mut M, counts: Counts) -> Result<bool, NoMemory> 
 
 #[test]
 fn all_pages_take_three_splits(rt: HostRuntime) -> Result<(), Fail> {
-    let mut list = RunList::new(rt.alloc())?;
-    let mut tree = RadixMap::new(rt.alloc())?;
-    assert!(rt; locks_all(&mut list, (0, 1))?);
-    // 511 slots of one page, 511 of 2^9, 511 of 2^18 and 255 of 2^27
-    assert!(rt; locks_all(&mut tree, (3, 1788))?);
+    // in the tree 511 slots of one page, 511 of 2^9, 511 of 2^18 and 255 of 2^27
+    let (list, tree) = (Case::LocksAll((0, 1)), Case::LocksAll((3, 1788)));
+    assert!(rt; on_both(rt.alloc(), list, tree)? == [true, true]);
     Ok(())
 }
 
-// What is counted where two pages at the edge of a node are locked, the second's slot then, and
-// whether it alone is held of it and the next.
-fn edge_pages<M: SlotMap>(map: &mut M) -> Result<(Counts, PageRange, bool), NoMemory> {
+// Whether two pages at the edge of a node are locked with these counts, and not the next, where the
+// second's slot begins so.
+pub fn locks_edge<M: SlotMap>(map: &mut M, counts: Counts, first: u64) -> Result<bool, NoMemory> {
     let core = CoreId::new(0);
     let two = PageRange {
         first: 511,
         end: 513,
     };
-    let counts = acquired(map, core, two, 10)?;
+    let counted = acquired(map, core, two, 10)?;
     let is_held = map.owner(512) == Some(core) && map.owner(513) == None;
-    Ok((counts, map.slot(512), is_held))
+    Ok(is_held && counted == counts && map.slot(512) == PageRange { first, end: 513 })
 }
 
 #[test]
 fn two_pages_take_four_splits(rt: HostRuntime) -> Result<(), Fail> {
-    let mut list = RunList::new(rt.alloc())?;
-    let mut tree = RadixMap::new(rt.alloc())?;
-    let two = PageRange {
-        first: 511,
-        end: 513,
-    };
-    assert!(rt; edge_pages(&mut list)? == ((2, 1), two, true));
-    assert!(rt; edge_pages(&mut tree)? == ((4, 2), one_page(512), true));
+    let (list, tree) = (Case::LocksEdge((2, 1), 511), Case::LocksEdge((4, 2), 512));
+    assert!(rt; on_both(rt.alloc(), list, tree)? == [true, true]);
     Ok(())
 }
 
@@ -194,7 +199,7 @@ fn clears_one<M: SlotMap>(map: &mut M) -> Result<bool, NoMemory> {
     Ok(clear(map, core, one) && unlock(map, core, one) == Some(17) && counted == (0, 1))
 }
 
-fn folds_twice<M: SlotMap>(map: &mut M) -> Result<bool, NoMemory> {
+pub fn folds_twice<M: SlotMap>(map: &mut M) -> Result<bool, NoMemory> {
     let is_mapped = maps_one(map, (2, 1))?;
     let early = map.fold(1);
     let is_cleared = clears_one(map)?;
@@ -204,8 +209,7 @@ fn folds_twice<M: SlotMap>(map: &mut M) -> Result<bool, NoMemory> {
 
 #[test]
 fn folds_with_the_next_slot(rt: HostRuntime) -> Result<(), Fail> {
-    let mut list = RunList::new(rt.alloc())?;
-    assert!(rt; folds_twice(&mut list)?);
+    assert!(rt; on_list(rt.alloc(), Case::FoldsTwice)?);
     Ok(())
 }
 
@@ -224,24 +228,25 @@ fn folds_thrice<M: SlotMap>(map: &mut M) -> Result<bool, NoMemory> {
     Ok(counted == (3, 1) && is_put && unlocked == Some(17) && !early && clears_one(map)?)
 }
 
-// The slots of page 16 as the levels above it are folded, until none is.
-fn folded_slots<M: SlotMap>(map: &mut M) -> ([bool; 4], PageRange, PageRange) {
+// Whether it is folded so, and then up to the root, as the slots of page 16 tell on the way.
+pub fn folds_up<M: SlotMap>(map: &mut M) -> Result<bool, NoMemory> {
+    if !folds_thrice(map)? {
+        return Ok(false);
+    }
     let first = map.fold(16);
     let low = map.slot(16);
     let folds = [first, map.fold(16), map.fold(16), map.fold(16)];
-    (folds, low, map.slot(16))
+    let wide = PageRange {
+        first: 0,
+        end: 0x800_0000,
+    };
+    let slots = [PageRange { first: 0, end: 512 }, wide];
+    Ok(folds == [true, true, true, false] && [low, map.slot(16)] == slots)
 }
 
 #[test]
 fn folds_up_to_the_root(rt: HostRuntime) -> Result<(), Fail> {
-    let mut tree = RadixMap::new(rt.alloc())?;
-    assert!(rt; folds_thrice(&mut tree)?);
-    let low = PageRange { first: 0, end: 512 };
-    let high = PageRange {
-        first: 0,
-        end: 0x800_0000,
-    };
-    assert!(rt; folded_slots(&mut tree) == ([true, true, true, false], low, high));
+    assert!(rt; on_tree(rt.alloc(), Case::FoldsUp)?);
     Ok(())
 }
 

@@ -4,13 +4,14 @@ ghost use Rattle.std.specs.Prelude.{◌≡◌, ◌+◌, ◌<◌, ◌≤◌, ◌^
 ghost use Rattle.vm_base.specs.Pages.{IsPage, IsPageRange};
 ghost use Rattle.slot_lock.specs.Slots.{IsHeld};
 
+use crate::cases::{Case, on_both};
 use crate::slot_calls::{
     ALL, FILE, READ_WRITE, WIDE, acquired, clear, cut_inside, mark, one_page, protect, put, unlock,
     unused,
 };
 use linked_list_allocator::LocalHeap;
 use radix_range::RadixMap;
-use slot_lock::{Fit, Framed, FramedPages, RunList, SlotMap, SlotRead};
+use slot_lock::{Fit, Framed, FramedPages, RunList, SlotMap};
 use std::test::Fail;
 use vm_base::{CoreId, CoreSet, Meta, NoMemory, PageInfo, PageRange};
 
@@ -103,17 +104,15 @@ fn expected() -> Answers {
     }
 }
 
-fn answers_as_expected<M: SlotMap>(map: &mut M) -> Result<bool, NoMemory> {
+pub fn answers_as_expected<M: SlotMap>(map: &mut M) -> Result<bool, NoMemory> {
     let answers = each_change(map)?;
     Ok(answers == expected())
 }
 
 #[test]
 fn each_change_on_both_maps(rt: HostRuntime) -> Result<(), Fail> {
-    let mut list = RunList::new(rt.alloc())?;
-    let mut tree = RadixMap::new(rt.alloc())?;
-    assert!(rt; answers_as_expected(&mut list)?);
-    assert!(rt; answers_as_expected(&mut tree)?);
+    let told = on_both(rt.alloc(), Case::EachChange, Case::EachChange)?;
+    assert!(rt; told == [true, true]);
     Ok(())
 }
 
@@ -125,8 +124,8 @@ fn mapped_page<M: SlotMap>(map: &mut M, page: u64) -> Result<bool, NoMemory>
     Ok(put(map, CoreId::new(1), one_page(page)))
 }
 
-// Where room is found round mapped pages: 16 and 17, then 20 too, then 16 and 20 alone.
-fn room_round<M: SlotMap>(map: &mut M) -> Result<[Option<u64>; 6], NoMemory> {
+// Whether room is found round mapped pages: 16 and 17, then 20 too, then 16 and 20 alone.
+pub fn finds_room<M: SlotMap>(map: &mut M) -> Result<bool, NoMemory> {
     let round = PageRange { first: 15, end: 23 };
     let right = PageRange { first: 17, end: 22 };
     let is_put = mapped_page(map, 16)? && mapped_page(map, 17)?;
@@ -139,17 +138,12 @@ fn room_round<M: SlotMap>(map: &mut M) -> Result<[Option<u64>; 6], NoMemory> {
     let wider = map.first_free_run(round, 3);
     let within = map.first_free_run(right, 1);
     let found = [before, after, between, none, wider, within];
-    Ok(if is_cleared { found } else { [None; 6] })
+    Ok(is_cleared && found == [Some(15), Some(18), Some(18), None, Some(17), Some(17)])
 }
 
 #[test]
 fn room_is_found_round_mapped_pages(rt: HostRuntime) -> Result<(), Fail> {
-    let mut list = RunList::new(rt.alloc())?;
-    let mut tree = RadixMap::new(rt.alloc())?;
-    let room = [Some(15), Some(18), Some(18), None, Some(17), Some(17)];
-    let same = room;
-    assert!(rt; room_round(&mut list)? == room);
-    assert!(rt; room_round(&mut tree)? == same);
+    assert!(rt; on_both(rt.alloc(), Case::FindsRoom, Case::FindsRoom)? == [true, true]);
     Ok(())
 }
 
@@ -180,7 +174,7 @@ const SPREAD: [Framed; 3] = [
 ];
 
 // Whether such pages are listed, all of them and those of a smaller range.
-fn lists_spread<M: SlotMap>(map: &mut M) -> Result<bool, NoMemory> {
+pub fn lists_spread<M: SlotMap>(map: &mut M) -> Result<bool, NoMemory> {
     let is_made = framed_page(map, 512, 9)?
         && framed_page(map, 1600, 2)?
         && framed_page(map, 510, 4)?;
@@ -201,10 +195,8 @@ fn lists_spread<M: SlotMap>(map: &mut M) -> Result<bool, NoMemory> {
 
 #[test]
 fn frames_are_listed_on_both_maps(rt: HostRuntime) -> Result<(), Fail> {
-    let mut list = RunList::new(rt.alloc())?;
-    let mut tree = RadixMap::new(rt.alloc())?;
-    assert!(rt; lists_spread(&mut list)?);
-    assert!(rt; lists_spread(&mut tree)?);
+    let told = on_both(rt.alloc(), Case::ListsSpread, Case::ListsSpread)?;
+    assert!(rt; told == [true, true]);
     Ok(())
 }
 
@@ -275,7 +267,7 @@ fn is_held_in_slots<M: SlotMap>(map: &M, core: CoreId, range: PageRange) -> bool
 }
 
 // Whether all the pages lose their frames where they are mapped anew at once.
-fn lose_many<M: SlotMap>(map: &mut M) -> Result<bool, NoMemory> {
+pub fn lose_many<M: SlotMap>(map: &mut M) -> Result<bool, NoMemory> {
     let core = CoreId::new(1);
     let is_made = frame_many(map)? && lists_many(map);
     if !is_made || !is_held_in_slots(map, core, MANY) {
@@ -287,10 +279,8 @@ fn lose_many<M: SlotMap>(map: &mut M) -> Result<bool, NoMemory> {
 
 #[test]
 fn many_frames_go_at_once_on_both_maps(rt: HostRuntime) -> Result<(), Fail> {
-    let mut list = RunList::new(rt.alloc())?;
-    let mut tree = RadixMap::new(rt.alloc())?;
-    assert!(rt; lose_many(&mut list)?);
-    assert!(rt; lose_many(&mut tree)?);
+    let told = on_both(rt.alloc(), Case::LosesMany, Case::LosesMany)?;
+    assert!(rt; told == [true, true]);
     Ok(())
 }
 
@@ -310,56 +300,56 @@ fn cut_wide<M: SlotMap>(map: &mut M, range: PageRange) -> Result<Option<[Fit; 4]
     cut_inside(map, core, WIDE, range)
 }
 
-// The steps of a cut round the page, what it has then, and its slot.
-type CutOne = (Option<[Fit; 4]>, Option<PageInfo>, PageRange);
-
-fn cuts_one<M: SlotMap>(map: &mut M) -> Result<CutOne, NoMemory> {
+// Whether a cut round the page takes so many steps, and the page has its file page and slot then.
+pub fn cuts_one<M: SlotMap>(map: &mut M, cuts: usize) -> Result<bool, NoMemory> {
     let steps = cut_wide(map, one_page(INNER))?;
-    Ok((steps, map.page(INNER), map.slot(INNER)))
+    let found = (map.page(INNER), map.slot(INNER));
+    Ok(is_so_many(steps, cuts) && found == (unused(605), one_page(INNER)))
+}
+
+// Whether so many of four steps cut, and the others found that the range fits.
+fn is_so_many(steps: Option<[Fit; 4]>, cuts: usize) -> bool {
+    let two = [Fit::Cut, Fit::Cut, Fit::Fits, Fit::Fits];
+    let three = [Fit::Cut, Fit::Cut, Fit::Cut, Fit::Fits];
+    (cuts == 2 && steps == Some(two)) || (cuts == 3 && steps == Some(three))
 }
 
 #[test]
 fn cuts_keep_file_pages_on_both_maps(rt: HostRuntime) -> Result<(), Fail> {
-    let mut list = RunList::new(rt.alloc())?;
-    let mut tree = RadixMap::new(rt.alloc())?;
-    let two_cuts = Some([Fit::Cut, Fit::Cut, Fit::Fits, Fit::Fits]);
-    let three_cuts = Some([Fit::Cut, Fit::Cut, Fit::Cut, Fit::Fits]);
-    assert!(rt; cuts_one(&mut list)? == (two_cuts, unused(605), one_page(INNER)));
-    assert!(rt; cuts_one(&mut tree)? == (three_cuts, unused(605), one_page(INNER)));
+    let told = on_both(rt.alloc(), Case::CutsOne(2), Case::CutsOne(3))?;
+    assert!(rt; told == [true, true]);
     Ok(())
 }
 
-// The steps of a cut from the page up to the end of a slot of 512 pages, the slots of the first and
-// the last page of them, and who holds the last.
-type CutMore = (Option<[Fit; 4]>, PageRange, PageRange, Option<CoreId>);
-
-fn cuts_more<M: SlotMap>(map: &mut M) -> Result<CutMore, NoMemory> {
-    let range = PageRange {
-        first: INNER,
-        end: 0x800_0800,
-    };
-    let steps = cut_wide(map, range)?;
+// Whether a cut from the page up to the end of a slot of 512 pages takes so many steps, the slots of
+// the first and the last page of them are these then, and the core holds the last.
+pub fn cuts_more<M: SlotMap>(
+    map: &mut M,
+    cuts: usize,
+    slots: [PageRange; 2],
+) -> Result<bool, NoMemory> {
+    let steps = cut_wide(map, UPPER)?;
     let last = 0x800_07ff;
-    Ok((steps, map.slot(INNER), map.slot(last), map.owner(last)))
+    let is_held = map.owner(last) == Some(CoreId::new(2));
+    Ok(is_so_many(steps, cuts) && [map.slot(INNER), map.slot(last)] == slots && is_held)
 }
+
+// The pages from that one up to the end of a slot of 512 pages.
+const UPPER: PageRange = PageRange {
+    first: INNER,
+    end: 0x800_0800,
+};
 
 #[test]
 fn cuts_begin_at_the_start(rt: HostRuntime) -> Result<(), Fail> {
-    let mut list = RunList::new(rt.alloc())?;
-    let mut tree = RadixMap::new(rt.alloc())?;
-    let range = PageRange {
-        first: INNER,
-        end: 0x800_0800,
-    };
     // the slot of the last page wasn't divided
     let last = PageRange {
         first: 0x800_0600,
         end: 0x800_0800,
     };
-    let two_cuts = Some([Fit::Cut, Fit::Cut, Fit::Fits, Fit::Fits]);
-    let three_cuts = Some([Fit::Cut, Fit::Cut, Fit::Cut, Fit::Fits]);
-    assert!(rt; cuts_more(&mut list)? == (two_cuts, range, range, Some(CoreId::new(2))));
-    assert!(rt; cuts_more(&mut tree)? == (three_cuts, one_page(INNER), last, Some(CoreId::new(2))));
+    let list = Case::CutsMore(2, [UPPER, UPPER]);
+    let tree = Case::CutsMore(3, [one_page(INNER), last]);
+    assert!(rt; on_both(rt.alloc(), list, tree)? == [true, true]);
     Ok(())
 }
 

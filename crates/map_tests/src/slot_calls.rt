@@ -63,13 +63,16 @@ pub fn step<M: SlotMap>(
     Ok(Some(acquire.next(map, core)?))
 }
 
-// How many slots are divided and how many are locked, in at most so many steps.
+// How many slots are divided and how many are locked.
+pub type Counts = (u32, u32);
+
+// Both, in at most so many steps.
 pub fn steps_of<M: SlotMap>(
     map: &mut M,
     acquire: &mut Acquire,
     core: CoreId,
     steps: u32,
-) -> Result<(u32, u32), NoMemory> {
+) -> Result<Counts, NoMemory> {
     let mut splits = 0u32;
     let mut locks = 0u32;
     for _ in 0..steps {
@@ -88,7 +91,7 @@ pub fn acquired<M: SlotMap>(
     core: CoreId,
     range: PageRange,
     steps: u32,
-) -> Result<(u32, u32), NoMemory>
+) -> Result<Counts, NoMemory>
     requires { IsPageRange range }
 {
     let mut acquire = Acquire::new(Footprint::one(range));
@@ -96,7 +99,7 @@ pub fn acquired<M: SlotMap>(
 }
 
 // What is counted so, and what of the two ranges is held by then.
-pub type Locked = ((u32, u32), Option<Footprint>);
+pub type Locked = (Counts, Option<Footprint>);
 
 pub fn locked_two<M: SlotMap>(
     map: &mut M,

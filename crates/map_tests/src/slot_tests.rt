@@ -1,34 +1,10 @@
 //! `slot_lock`: footprints, goals and lent slots. What a list of runs does as a slot map is tested
 //! beside the tree, by the same calls.
-ghost use Rattle.std.specs.Prelude.{◌≡◌, ◌+◌, ◌<◌, ◌^◌};
-ghost use Rattle.vm_base.specs.Pages.{pages_from};
-
+use crate::slot_calls::{FILE, one_page};
 use linked_list_allocator::LocalHeap;
 use slot_lock::{Change, Footprint, Goal, Place, RunList, SlotMap, SlotRead, Target, Touch};
 use std::test::Fail;
-use vm_base::{Access, Back, CoreId, CoreSet, Meta, PageInfo, PageRange, Prot};
-
-const READ: Prot = Prot {
-    read: true,
-    write: false,
-    exec: false,
-};
-
-// A private mapping of a file, from its fifth page on.
-const FILE: Meta = Meta {
-    back: Back::Private { file: 3, page: 5 },
-    prot: READ,
-};
-
-fn one_page(page: u64) -> PageRange
-    requires { page < 2 ^ 35 }
-    ensures { result ≡ pages_from page 1 }
-{
-    PageRange {
-        first: page,
-        end: page + 1,
-    }
-}
+use vm_base::{Access, Back, CoreId, CoreSet, Meta, PageInfo, PageRange};
 
 #[test]
 fn footprints_are_ordered(rt: HostRuntime) -> Result<(), Fail> {

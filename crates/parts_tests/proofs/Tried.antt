@@ -1,5 +1,6 @@
 -- Steps beside a list of true counts.
-use Rattle.std.proofs.Common.{◌≡◌, ◌≢◌, ℕ, ◌≤◌, ◌<◌, ◌+◌, ◌-◌, ◌==◌, ◌^◌, Bool, true, false, refl, sym, ap, subst, arith, ◌∙◌, cond, ℤ, pos, negsuc, ◌+ℤ◌, ◌<ℤ◌, List, length, slice_index_or, slice_set, ◌⊎◌, inl, inr}
+use Rattle.std.proofs.Common.{◌≡◌, ◌≢◌, ℕ, ◌≤◌, ◌<◌, ◌+◌, ◌-◌, ◌==◌, ◌^◌, Bool, true, false, refl, sym, ap, subst, arith, ◌∙◌, cond, ℤ}
+use Rattle.std.proofs.Common.{pos, negsuc, ◌+ℤ◌, ◌<ℤ◌, List, length, slice_index_or, slice_set, ◌⊎◌, inl, inr}
 use Rattle.std.specs.List.{All}
 use Rattle.std.proofs.lemmas.Int.{ints}
 use Rattle.std.proofs.lemmas.List.{get_or-set_same, get_or-set_other, length-set}

@@ -5,7 +5,7 @@ ghost use Rattle.std.specs.Prelude.{◌≡◌};
 use backing::{CachedFrame, FileSpec, Objects, Sharing};
 use frames::Frames;
 use linked_list_allocator::LocalHeap;
-use std::alloc::{AllocError, Allocator};
+use std::alloc::{AllocError, Allocator, Global};
 use std::test::Fail;
 use vm_base::{Errno, Mode, Prot};
 
@@ -135,21 +135,45 @@ fn pages_past_the_end(rt: HostRuntime) -> Result<(), Fail> {
     Ok(())
 }
 
+/// The modes of files 0, 1, 3 and the last number.
+fn modes<A: Allocator>(objects: &Objects<A>) -> [Option<Mode>; 4] {
+    [
+        objects.mode(0),
+        objects.mode(1),
+        objects.mode(3),
+        objects.mode(u64::MAX),
+    ]
+}
+
+/// How each file may be mapped: files 0 and 1, file 2 three times, and two that aren't open.
+fn mappings<A: Allocator>(objects: &Objects<A>) -> [Result<(), Errno>; 8] {
+    [
+        objects.may(0, Sharing::Shared, WRITE),
+        objects.may(1, Sharing::Private, READ),
+        objects.may(1, Sharing::Shared, WRITE),
+        objects.may(2, Sharing::Shared, READ),
+        objects.may(2, Sharing::Shared, WRITE),
+        objects.may(2, Sharing::Private, WRITE),
+        objects.may(3, Sharing::Private, READ),
+        objects.may(u64::MAX, Sharing::Shared, WRITE),
+    ]
+}
+
 #[test]
 fn modes_and_mappings(rt: HostRuntime) -> Result<(), Fail> {
     let objects = three_files(rt.alloc())?;
-    assert!(rt; objects.mode(0) == Some(Mode::RW));
-    assert!(rt; objects.mode(1) == Some(Mode::W));
-    assert!(rt; objects.mode(3) == None);
-    assert!(rt; objects.mode(u64::MAX) == None);
-    assert!(rt; objects.may(0, Sharing::Shared, WRITE) == Ok(()));
-    assert!(rt; objects.may(1, Sharing::Private, READ) == Err(Errno::EACCES));
-    assert!(rt; objects.may(1, Sharing::Shared, WRITE) == Err(Errno::EACCES));
-    assert!(rt; objects.may(2, Sharing::Shared, READ) == Ok(()));
-    assert!(rt; objects.may(2, Sharing::Shared, WRITE) == Err(Errno::EACCES));
-    assert!(rt; objects.may(2, Sharing::Private, WRITE) == Ok(()));
-    assert!(rt; objects.may(3, Sharing::Private, READ) == Err(Errno::EBADF));
-    assert!(rt; objects.may(u64::MAX, Sharing::Shared, WRITE) == Err(Errno::EBADF));
+    assert!(rt; modes(&objects) == [Some(Mode::RW), Some(Mode::W), None, None]);
+    let expected = [
+        Ok(()),
+        Err(Errno::EACCES),
+        Err(Errno::EACCES),
+        Ok(()),
+        Err(Errno::EACCES),
+        Ok(()),
+        Err(Errno::EBADF),
+        Err(Errno::EBADF),
+    ];
+    assert!(rt; mappings(&objects) == expected);
     Ok(())
 }
 
@@ -162,35 +186,58 @@ fn one_page_by_itself(rt: HostRuntime) -> Result<(), Fail> {
     Ok(())
 }
 
+/// Whether page 1 of file 0 is cached, and once more, and page 2, which isn't there, and a page of
+/// file 2; the frames of four pages then.
+fn cached_pages<A: Allocator>(objects: &mut Objects<A>) -> ([bool; 4], [Option<u32>; 4]) {
+    let done = [
+        cache(objects, 0, 1, 5),
+        cache(objects, 0, 1, 6),
+        cache(objects, 0, 2, 6),
+        cache(objects, 2, 0, 9),
+    ];
+    let frames = [
+        objects.cached(0, 0),
+        objects.cached(0, 1),
+        objects.cached(2, 0),
+        objects.cached(3, 0),
+    ];
+    (done, frames)
+}
+
 #[test]
 fn pages_are_cached_one_by_one(rt: HostRuntime) -> Result<(), Fail> {
     let mut objects = three_files(rt.alloc())?;
-    assert!(rt; cache(&mut objects, 0, 1, 5));
-    assert!(rt; !cache(&mut objects, 0, 1, 6));
-    assert!(rt; !cache(&mut objects, 0, 2, 6));
-    assert!(rt; cache(&mut objects, 2, 0, 9));
-    assert_eq!(rt; objects.cached(0, 0), None);
-    assert_eq!(rt; objects.cached(0, 1), Some(5));
-    assert_eq!(rt; objects.cached(2, 0), Some(9));
-    assert_eq!(rt; objects.cached(3, 0), None);
+    let (done, frames) = cached_pages(&mut objects);
+    assert!(rt; done == [true, false, false, true]);
+    assert!(rt; frames == [None, Some(5), Some(9), None]);
     Ok(())
+}
+
+/// Three bytes of a frame that got a page of a file, and of one that got it after the page was cached
+/// and changed; whether each call was made, and a byte of the page then.
+type Filled = ([u8; 3], [u8; 3], [bool; 3], Option<u8>);
+
+fn filled_twice(alloc: Global) -> Result<Filled, AllocError> {
+    let mut objects = three_files(alloc)?;
+    let mut frames = Frames::new(alloc, 3)?;
+    frames.set_byte(0, 4095, 77);
+    let first = filled(&objects, 0, 1, &mut frames, 0);
+    let copied = [frames.byte(0, 0), frames.byte(0, 903), frames.byte(0, 4095)];
+    let is_cached = cache(&mut objects, 0, 1, 0);
+    frames.set_byte(0, 903, 9);
+    let second = filled(&objects, 0, 1, &mut frames, 2);
+    let changed = [frames.byte(2, 0), frames.byte(2, 903), frames.byte(2, 4095)];
+    let done = [first, is_cached, second];
+    Ok((copied, changed, done, byte_at(&objects, 0, 1, 903)))
 }
 
 #[test]
 fn frames_get_bytes_as_they_now_are(rt: HostRuntime) -> Result<(), Fail> {
-    let mut objects = three_files(rt.alloc())?;
-    let mut frames = Frames::new(rt.alloc(), 3)?;
-    frames.set_byte(0, 4095, 77);
-    assert!(rt; filled(&objects, 0, 1, &mut frames, 0));
-    let copied = [frames.byte(0, 0), frames.byte(0, 903), frames.byte(0, 4095)];
+    let (copied, changed, done, byte) = filled_twice(rt.alloc())?;
     // offset 4096 of the file: (7 + 4096) mod 256
-    assert_eq!(rt; copied, [7, 142, 0]);
-    assert!(rt; cache(&mut objects, 0, 1, 0));
-    frames.set_byte(0, 903, 9);
-    assert!(rt; filled(&objects, 0, 1, &mut frames, 2));
-    let changed = [frames.byte(2, 0), frames.byte(2, 903), frames.byte(2, 4095)];
-    assert_eq!(rt; changed, [7, 9, 0]);
-    assert_eq!(rt; byte_at(&objects, 0, 1, 903), Some(142));
+    assert!(rt; copied == [7, 142, 0]);
+    assert!(rt; changed == [7, 9, 0]);
+    assert!(rt; (done, byte) == ([true, true, true], Some(142)));
     Ok(())
 }
 

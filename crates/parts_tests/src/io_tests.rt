@@ -1,7 +1,7 @@
 //! `trace_io`: a text that comes a byte at a time, a read that fails in mid-stream, and writers
 //! that stop.
 use linked_list_allocator::LocalHeap;
-use std::alloc::Global;
+use std::alloc::{AllocError, Global};
 use std::io;
 use std::io::{ErrorKind, Read, Write};
 use std::test::Fail;
@@ -82,24 +82,38 @@ fn drip(bytes: &[u8], fails_at: u64) -> Counted<Dripping<'_>> {
     })
 }
 
-#[test]
-fn lines_come_one_by_one(rt: HostRuntime) -> Result<(), Fail> {
+// Whether the next line is this one.
+fn next_is<S: Source, W: Sink>(
+    lines: &mut LineReader<Global>,
+    source: &mut S,
+    sink: &mut W,
+    line: &[u8],
+) -> bool {
+    lines.next_line(source, sink) == Ok(Found::Line) && lines.line() == line
+}
+
+// Whether each line comes, and the end.
+fn lines_come(alloc: Global) -> Result<[bool; 4], AllocError> {
+    let mut lines = LineReader::new(alloc)?;
     let mut source = drip(TEXT, 100);
-    let mut sink = full_at(rt.alloc(), 1);
-    let mut lines = LineReader::new(rt.alloc())?;
-    assert_eq!(rt; lines.next_line(&mut source, &mut sink), Ok(Found::Line));
-    assert_eq!(rt; lines.line(), b"vm 1 4".as_slice());
-    assert_eq!(rt; lines.next_line(&mut source, &mut sink), Ok(Found::Line));
-    assert_eq!(rt; lines.line(), b"".as_slice());
-    assert_eq!(rt; lines.next_line(&mut source, &mut sink), Ok(Found::Line));
-    assert_eq!(rt; lines.line(), b"c0 go".as_slice());
-    assert_eq!(rt; lines.next_line(&mut source, &mut sink), Ok(Found::End));
-    Ok(())
+    let mut sink = full_at(alloc, 1);
+    Ok([
+        next_is(&mut lines, &mut source, &mut sink, b"vm 1 4"),
+        next_is(&mut lines, &mut source, &mut sink, b""),
+        next_is(&mut lines, &mut source, &mut sink, b"c0 go"),
+        lines.next_line(&mut source, &mut sink) == Ok(Found::End),
+    ])
 }
 
 #[test]
-fn a_line_of_256_bytes_is_not_too_long(rt: HostRuntime) -> Result<(), Fail> {
-    let mut text = Vec::new(rt.alloc());
+fn lines_come_one_by_one(rt: HostRuntime) -> Result<(), Fail> {
+    assert!(rt; lines_come(rt.alloc())? == [true, true, true, true]);
+    Ok(())
+}
+
+// A line of 256 bytes, and one of 257.
+fn long_lines(alloc: Global) -> Result<Vec<u8>, AllocError> {
+    let mut text = Vec::new(alloc);
     for _ in 0..256 {
         text.push(b'a')?;
     }
@@ -107,13 +121,29 @@ fn a_line_of_256_bytes_is_not_too_long(rt: HostRuntime) -> Result<(), Fail> {
     for _ in 0..257 {
         text.push(b'b')?;
     }
-    let mut source = Counted::new(text.as_slice());
-    let mut sink = full_at(rt.alloc(), 1);
-    let mut lines = LineReader::new(rt.alloc())?;
-    assert_eq!(rt; lines.next_line(&mut source, &mut sink), Ok(Found::Line));
-    assert_eq!(rt; lines.line().len(), 256);
-    assert_eq!(rt; lines.next_line(&mut source, &mut sink), Ok(Found::TooLong));
-    assert_eq!(rt; lines.next_line(&mut source, &mut sink), Ok(Found::TooLong));
+    Ok(text)
+}
+
+// What three calls give for such lines, and how many bytes the first line has.
+type Long = ([Result<Found, NoLine>; 3], usize);
+
+fn read_long(alloc: Global, text: &[u8]) -> Result<Long, AllocError> {
+    let mut lines = LineReader::new(alloc)?;
+    let mut source = Counted::new(text);
+    let mut sink = full_at(alloc, 1);
+    let first = lines.next_line(&mut source, &mut sink);
+    let length = lines.line().len();
+    let second = lines.next_line(&mut source, &mut sink);
+    let third = lines.next_line(&mut source, &mut sink);
+    Ok(([first, second, third], length))
+}
+
+#[test]
+fn a_line_of_256_bytes_is_not_too_long(rt: HostRuntime) -> Result<(), Fail> {
+    let text = long_lines(rt.alloc())?;
+    let (found, length) = read_long(rt.alloc(), &text)?;
+    assert!(rt; found == [Ok(Found::Line), Ok(Found::TooLong), Ok(Found::TooLong)]);
+    assert_eq!(rt; length, 256);
     Ok(())
 }
 
@@ -156,26 +186,24 @@ fn no_read_past_the_limit(rt: HostRuntime) -> Result<(), Fail> {
 
 // Both lines come by the first read. Before the second read the text must go out, so a writer that
 // fails at its flush stops there.
+fn written_goes_out(alloc: Global) -> Result<[bool; 5], AllocError> {
+    let mut lines = LineReader::new(alloc)?;
+    let mut source = Counted::new(b"c0 go\nc1 go\nc2".as_slice());
+    let mut sink = full_at(alloc, 1);
+    let first = lines.next_line(&mut source, &mut sink) == Ok(Found::Line);
+    let is_held = write_all(&mut sink, b"ok\n") == Ok(()) && !sink.flushed;
+    let second = lines.next_line(&mut source, &mut sink) == Ok(Found::Line) && source.reads == 1;
+    let stops = lines.next_line(&mut source, &mut sink) == Err(NoLine::WriteFailed)
+        && sink.failed
+        && source.reads == 1;
+    sink.writer.full_at = 2;
+    let goes_on = next_is(&mut lines, &mut source, &mut sink, b"c2") && sink.flushed;
+    Ok([first, is_held, second, stops, goes_on])
+}
+
 #[test]
 fn what_was_written_goes_out_before_a_read(rt: HostRuntime) -> Result<(), Fail> {
-    let mut source = Counted::new(b"c0 go\nc1 go\nc2".as_slice());
-    let mut sink = full_at(rt.alloc(), 1);
-    let mut lines = LineReader::new(rt.alloc())?;
-    assert_eq!(rt; lines.next_line(&mut source, &mut sink), Ok(Found::Line));
-    assert_eq!(rt; write_all(&mut sink, b"ok\n"), Ok(()));
-    assert!(rt; !sink.flushed);
-    assert_eq!(rt; lines.next_line(&mut source, &mut sink), Ok(Found::Line));
-    assert_eq!(rt; source.reads, 1);
-    assert_eq!(rt;
-        lines.next_line(&mut source, &mut sink),
-        Err(NoLine::WriteFailed)
-    );
-    assert!(rt; sink.failed);
-    assert_eq!(rt; source.reads, 1);
-    sink.writer.full_at = 2;
-    assert_eq!(rt; lines.next_line(&mut source, &mut sink), Ok(Found::Line));
-    assert!(rt; sink.flushed);
-    assert_eq!(rt; lines.line(), b"c2".as_slice());
+    assert!(rt; written_goes_out(rt.alloc())? == [true, true, true, true, true]);
     Ok(())
 }
 

@@ -4,7 +4,7 @@
 use crate::refcache_trial::{Answer, Call, Trial};
 use linked_list_allocator::LocalHeap;
 use refcache::{CoreCounts, Epochs, Flush, ObjectCount, Queued, Refcache, Review, WayAhead};
-use std::alloc::Allocator;
+use std::alloc::{AllocError, Allocator, Global};
 use std::test::Fail;
 use vm_base::CoreId;
 
@@ -216,29 +216,60 @@ fn evict<A: Allocator>(part: &mut CoreCounts<A>, count: &mut ObjectCount, object
     may
 }
 
-#[test]
-fn pieces_free_an_object(rt: HostRuntime) -> Result<(), Fail> {
-    let mut part = CoreCounts::new(rt.alloc(), 0)?;
+/// What the pieces tell of object 5, whose count of 1 goes down.
+#[derive(Clone, Copy)]
+struct Told {
+    /// Whether the object was counted down, and another in its place.
+    counted: [bool; 2],
+    least: Option<u32>,
+    /// Whether its entry was evicted, twice, and whether there is room then.
+    evicted: [bool; 3],
+    /// The front of the queue, before and after all reviews.
+    fronts: [Option<Queued>; 2],
+    due: Option<u32>,
+    /// Reviews in the epochs 1, 2 and 9.
+    reviews: [Review; 3],
+    /// Its global count, and whether the count is as new.
+    end: (i64, bool),
+}
+
+fn told_by_pieces(alloc: Global) -> Result<Told, AllocError> {
+    let mut part = CoreCounts::new(alloc, 0)?;
     let mut count = ObjectCount::new();
     count.begin(1);
-    assert!(rt; count_down(&mut part, 5));
-    assert!(rt; !count_down(&mut part, 69));
-    assert_eq!(rt; part.least(), Some(5));
-    assert!(rt; evict(&mut part, &mut count, 5));
-    assert!(rt; !evict(&mut part, &mut count, 5));
-    assert!(rt; !part.has_room());
+    let counted = [count_down(&mut part, 5), count_down(&mut part, 69)];
+    let least = part.least();
+    let first = evict(&mut part, &mut count, 5);
+    let second = evict(&mut part, &mut count, 5);
+    let evicted = [first, second, part.has_room()];
+    let front = part.front();
+    let early = part.review(&mut count, 1);
+    let due = part.due(2);
+    let freed = part.review(&mut count, 2);
+    let reviews = [early, freed, part.review(&mut count, 9)];
+    Ok(Told {
+        counted,
+        least,
+        evicted,
+        fronts: [front, part.front()],
+        due,
+        reviews,
+        end: (count.global(), count == ObjectCount::new()),
+    })
+}
+
+#[test]
+fn pieces_free_an_object(rt: HostRuntime) -> Result<(), Fail> {
+    let told = told_by_pieces(rt.alloc())?;
     let queued = Queued {
         object: 5,
         epoch: 0,
     };
-    assert_eq!(rt; part.front(), Some(queued));
-    assert_eq!(rt; part.review(&mut count, 1), Review::Idle);
-    assert_eq!(rt; part.due(2), Some(5));
-    assert_eq!(rt; part.review(&mut count, 2), Review::Freed(5));
-    assert_eq!(rt; part.review(&mut count, 9), Review::Idle);
-    assert_eq!(rt; part.front(), None);
-    assert_eq!(rt; count.global(), 0);
-    assert_eq!(rt; count, ObjectCount::new());
+    assert!(rt; (told.counted, told.least) == ([true, false], Some(5)));
+    assert!(rt; told.evicted == [true, false, false]);
+    assert!(rt; (told.fronts, told.due) == ([Some(queued), None], Some(5)));
+    assert!(rt; told.reviews == [Review::Idle, Review::Freed(5), Review::Idle]);
+    assert!(rt; told.end == (0, true));
     Ok(())
 }
 

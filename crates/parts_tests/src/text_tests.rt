@@ -81,7 +81,7 @@ fn files_of_a_space(rt: HostRuntime) {
 }
 
 #[test]
-fn requests_of_a_core(rt: HostRuntime) {
+fn mappings_of_a_core(rt: HostRuntime) {
     let core = CoreId::new(0);
     for (text, request) in [
         (
@@ -106,6 +106,16 @@ fn requests_of_a_core(rt: HostRuntime) {
                 off: 4096,
             },
         ),
+    ] {
+        assert!(rt; is_printable(text));
+        assert_eq!(rt; read_line(text), Some(Line::Now(core, request)));
+    }
+}
+
+#[test]
+fn requests_of_a_core(rt: HostRuntime) {
+    let core = CoreId::new(0);
+    for (text, request) in [
         (
             b"c0! munmap 0x10000 0x1000".as_slice(),
             Request::Munmap {
@@ -133,7 +143,17 @@ fn requests_of_a_core(rt: HostRuntime) {
             },
         ),
         (b"c0! fetch 00010".as_slice(), Request::Fetch { addr: 10 }),
-        // Words stand apart by any number of spaces, and a number may have any number of zeros in front.
+    ] {
+        assert!(rt; is_printable(text));
+        assert_eq!(rt; read_line(text), Some(Line::Now(core, request)));
+    }
+}
+
+// Words stand apart by any number of spaces, and a number may have any number of zeros in front.
+#[test]
+fn spaces_and_zeros(rt: HostRuntime) {
+    let core = CoreId::new(0);
+    for (text, request) in [
         (
             b"  c0!  load   0x00000000000000010  ".as_slice(),
             Request::Load { addr: 16 },

@@ -1,5 +1,6 @@
 //! `tickets`: threads that draw side by side.
-ghost use Rattle.std.specs.Prelude.{◌≡◌, ℕ, ◌+◌, ◌-◌, ◌^◌, ◌<◌, ◌≤◌, [], length, All, IfOk, IfSome, slice_get};
+ghost use Rattle.std.specs.Prelude.{◌≡◌, ℕ, ◌+◌, ◌-◌, ◌^◌, ◌<◌, ◌≤◌, [], length, All};
+ghost use Rattle.std.specs.Prelude.{IfOk, IfSome, slice_get};
 ghost use Rattle.tickets.specs.Tickets.{Closed};
 
 use std::alloc::{AllocError, Global};

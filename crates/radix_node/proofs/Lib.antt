@@ -4,6 +4,7 @@ pub mod Divided
 pub mod Joined
 pub mod Folds
 pub mod Locks
+pub mod OwnedRuns
 pub mod Walks
 pub mod Listing
 pub mod Edits

@@ -2,6 +2,7 @@ pub mod State
 pub mod Run
 pub mod Node
 pub mod Lock
+pub mod OwnedRuns
 pub mod Slots
 pub mod SlotsFall
 pub mod Walk

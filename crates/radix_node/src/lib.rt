@@ -4,6 +4,7 @@
 pub mod edit;
 pub mod lock;
 pub mod node;
+pub mod own_run;
 pub mod place;
 pub mod state;
 pub mod walk;
@@ -11,5 +12,6 @@ pub mod walk;
 pub use edit::Edit;
 pub use lock::Lock;
 pub use node::{Found, Node, Slot};
+pub use own_run::{Handover, OwnedRun};
 pub use state::{Kind, SlotState};
 pub use walk::FreeRun;

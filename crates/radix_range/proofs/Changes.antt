@@ -62,11 +62,12 @@ by_limit v ok page end slot h = slot_by_edge (tree_slots v) page end (2 ^ 35) sl
 pub owner_sound : (w : ℕ) (s : State) (owner : Option ℕ) → IsSound w s → IsSound w (record { info = s.info; owner = owner })
 owner_sound w s owner h = record { fits = h.fits; alone = h.alone }
 
-pub restated_owner : (s : Slots) (page end : ℕ) (state : State) (owner : Option ℕ) → Here s page end state
+pub restated_owner : (s : Slots) (page end : ℕ) (state : State) (owner : Option ℕ)
+    → ((p : ℕ) → page ≤ p → p < end → s.info p ≡ info_from state.info (p - page))
     → restated s page end (record { info = state.info; owner = owner }) ≡ with_owner s page end owner
-restated_owner s page end state owner h = same_slots _ _
+restated_owner s page end state owner info = same_slots _ _
     (λ p. by_test (λ x. x ≡ s.info p) (has (between page end) p) _ _
-    (λ e. let b = has_in (between page end) p e in sym (h.info p b.0 b.1))
+    (λ e. let b = has_in (between page end) p e in sym (info p b.0 b.1))
     (λ e. refl))
     (λ p. refl)
     (λ p. refl)

@@ -3,6 +3,7 @@ pub mod Expansions
 pub mod Sets
 pub mod Changes
 pub mod Locking
+pub mod OwnedRuns
 pub mod New
 pub mod NodeFolds
 pub mod Edits

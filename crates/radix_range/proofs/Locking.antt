@@ -47,7 +47,7 @@ pub owned_slots : (v u : Parts) → IsRadix v → (page end : ℕ) (owner : Opti
     → tree_slots u ≡ with_owner (tree_slots v) page end owner
 owned_slots v u ok page end owner l h e =
     set_slots (runs v) (runs u) page end _ (owned_set v u ok page end owner l h e)
-    ∙ restated_owner (tree_slots v) page end (cell_at (runs v) page).state owner h
+    ∙ restated_owner (tree_slots v) page end (cell_at (runs v) page).state owner h.info
 
 pub owned_radix : (v u : Parts) → IsRadix v → (page end : ℕ) (owner : Option ℕ) → 1 ≤ page
     → page < 2 ^ 35

@@ -6,7 +6,7 @@ ghost use Rattle.radix_range.specs.Tree.{IsRadix, tree_slots};
 use crate::slot::slot_at;
 use crate::{change, full, walk};
 use radix_node::{Lock, Node};
-use slot_lock::{Change, Fit, FramedPages, Got, SlotMap, SlotRead};
+use slot_lock::{Change, Fit, FramedPages, Got, SlotMap, SlotRead, SlotRun};
 use std::alloc::Allocator;
 use vm_base::info::info_from;
 use vm_base::{CoreId, CoreSet, Meta, NoMemory, PageInfo, PageRange, Prot};
@@ -125,6 +125,14 @@ impl<A: Allocator + Clone> SlotMap for RadixMap<A> {
 
     fn unlock_next(&mut self, core: CoreId, cursor: u64, end: u64) -> u64 {
         change::set_owner(&mut self.root, cursor, None)
+    }
+
+    fn lock_run(&mut self, core: CoreId, cursor: u64, end: u64, most: u64) -> SlotRun {
+        change::lock_run(&mut self.root, core, cursor, end, most)
+    }
+
+    fn unlock_run(&mut self, core: CoreId, cursor: u64, end: u64, most: u64) -> SlotRun {
+        change::unlock_run(&mut self.root, core, cursor, end, most)
     }
 
     fn set_range(&mut self, core: CoreId, range: PageRange, meta: Meta) {

@@ -83,8 +83,9 @@ pub fn refuse_words<E: Write>(fault: WordsFault, errors: &mut E) -> u8
     }
 }
 
-/// Does what the words say, the program's name first, and answers the status: 0; 2 for a fault of the words or of the
-/// text; 3 where reading, writing or memory failed. A fault is printed on `errors` as `radixvm: ` and its text.
+/// Does what the words say, the program's name first, and answers the status: 0; 2 for a
+/// fault of the words or of the text; 3 where reading, writing or memory failed. A fault
+/// is printed on `errors` as `radixvm: ` and its text.
 pub fn command<A: Allocator, S: Source, W: Sink, E: Write>(
     alloc: Global,
     words: &[String<A>],

@@ -13,7 +13,8 @@ use trace::shown::Show;
 use trace_io::sink::Sink;
 use trace_io::source::Source;
 
-/// The status that a fault ends the program with: 2 where the text is at fault, 3 where its surroundings are.
+/// The status that a fault ends the program with: 2 where the text is at fault, 3 where
+/// its surroundings are.
 pub fn status_of_fault(fault: TraceFault) -> u8
     ensures value { result ≡ fault_status fault }
     ensures within { result ≤ 3 }
@@ -26,7 +27,8 @@ pub fn status_of_fault(fault: TraceFault) -> u8
     }
 }
 
-/// Replays the trace, showing what is asked for, prints a fault as `radixvm: ` and its text, and answers the status: 0, or that of the fault.
+/// Replays the trace, showing what is asked for, prints a fault as `radixvm: ` and its
+/// text, and answers the status: 0, or that of the fault.
 pub fn run<A: Allocator + Clone + Drop, S: Source, W: Sink, E: Write>(
     alloc: A,
     reader: &mut S,

@@ -5,7 +5,7 @@ ghost use Rattle.slot_lock.specs.Runs.{IsRuns};
 use crate::framed::FramedPages;
 use crate::plan::Change;
 use crate::run::{self, Run};
-use crate::slot_map::{Fit, Got, SlotMap, SlotRead};
+use crate::slot_map::{Fit, Got, SlotMap, SlotRead, SlotRun};
 use crate::{lent, walk};
 use std::alloc::Allocator;
 use vm_base::info::info_from;
@@ -180,6 +180,21 @@ impl<A: Allocator> SlotMap for RunList<A> {
         let slot_end = self.runs[i + 1].start;
         run::set_owner(&mut self.runs, i, None);
         slot_end
+    }
+
+    // a slot of the list is looked for anew each time, so that several at once save nothing
+    fn lock_run(&mut self, core: CoreId, cursor: u64, end: u64, most: u64) -> SlotRun {
+        SlotRun {
+            slots: 0,
+            upto: cursor,
+        }
+    }
+
+    fn unlock_run(&mut self, core: CoreId, cursor: u64, end: u64, most: u64) -> SlotRun {
+        SlotRun {
+            slots: 0,
+            upto: cursor,
+        }
     }
 
     fn set_range(&mut self, core: CoreId, range: PageRange, meta: Meta) {

@@ -12,6 +12,7 @@ ghost use Rattle.slot_lock.specs.Plan.{FitsFile};
 ghost use Rattle.arrayvec.specs.ArrayVec.{array_vec_len};
 ghost use Rattle.slot_lock.specs.Framed.{AddsFrames, frames_in};
 ghost use Rattle.slot_lock.specs.Slots.{Slots, IsSlot, IsSlotBy, IsSlotMap, IsHeld, IsCrossed, OwnsAll, Steps, Crosses, CutSteps, Unlocks, Joins, HasMeta, IsFreeRun, LosesFrame, NoFrames, IsUser, AllMapped, DividesAs, IfSplit, IfCut, between, crossed_edge, cleared, mapped, protected, with_info};
+ghost use Rattle.slot_lock.specs.SlotRuns.{LocksRun, UnlocksRun};
 
 use crate::framed::FramedPages;
 use vm_base::{CoreId, CoreSet, Meta, NoMemory, PageInfo, PageRange, Prot};
@@ -34,6 +35,15 @@ pub enum Fit {
     Cut,
     /// No slot crosses an edge of the range.
     Fits,
+}
+
+/// Slots that were locked, or unlocked, one after another.
+#[derive(Clone, Copy, Debug, PartialEq, Eq)]
+pub struct SlotRun {
+    /// How many slots they are.
+    pub slots: u64,
+    /// The page up to which they reach.
+    pub upto: u64,
 }
 
 /// Slots that are only read: a whole map, or a few slots of one.
@@ -127,6 +137,23 @@ pub trait SlotMap: SlotRead {
         requires held { (Self.slots self.old).owner cursor ≡ Some core }
         requires slot { IsSlotBy (Self.slots self.old) cursor end }
         ensures { Unlocks (Self.slots self.old) (Self.slots self.new) core cursor end result };
+
+    /// Locks free slots that end by `end`, one after another from the cursor on: what so many calls
+    /// of `lock_next` do. How many, the map chooses: those that it finds side by side, at most
+    /// `most`, and none where the cursor's slot is held or is to be divided.
+    fn lock_run(&mut self, core: CoreId, cursor: u64, end: u64, most: u64) -> SlotRun
+        requires ordered { cursor < end }
+        requires valid { (1 ≤ cursor) × (end ≤ 2 ^ 35) }
+        ensures few { result.slots ≤ most }
+        ensures locks { LocksRun (Self.slots self.old) (Self.slots self.new) core cursor end result };
+
+    /// Unlocks slots of the core that end by `end`, one after another from the cursor on: what so
+    /// many calls of `unlock_next` do. How many, the map chooses, as in `lock_run`.
+    fn unlock_run(&mut self, core: CoreId, cursor: u64, end: u64, most: u64) -> SlotRun
+        requires ordered { cursor < end }
+        requires valid { (1 ≤ cursor) × (end ≤ 2 ^ 35) }
+        ensures few { result.slots ≤ most }
+        ensures unlocks { UnlocksRun (Self.slots self.old) (Self.slots self.new) core cursor end result };
 
     /// Maps the pages of the range anew, each later one to the next file page.
     fn set_range(&mut self, core: CoreId, range: PageRange, meta: Meta)

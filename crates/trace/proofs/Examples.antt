@@ -22,7 +22,8 @@ use Rattle.trace.specs.declared.shown.Show.TheVariants.{Maps}
 use Rattle.trace.specs.OutcomeText.{outcome_text}
 use Rattle.trace.specs.Stage.{Stage}
 use Rattle.trace.specs.Shown.{maps_text}
-use Rattle.trace.specs.PlainText.{Open, Reached, nothing_reached, one_more, Idles, AnswersAtOnce, IsHeldUp, OpenAnswers, FinishAnswers, TakeAnswers, MayStep, CoreMayStep, ActAnswers, LineAnswers, IsLogOf, IsPlainBehind}
+use Rattle.trace.specs.PlainText.{Open, Reached, nothing_reached, one_more, Idles, AnswersAtOnce, IsHeldUp, OpenAnswers, FinishAnswers}
+use Rattle.trace.specs.PlainText.{TakeAnswers, MayStep, CoreMayStep, ActAnswers, LineAnswers, IsLogOf, IsPlainBehind}
 
 -- one core, and nothing is mapped
 abbrev one_core : Reached

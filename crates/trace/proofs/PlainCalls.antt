@@ -1,5 +1,6 @@
 -- The state of a machine between two lines of a trace in which no call runs beside another
-use Rattle.std.proofs.Common.{◌≡◌, ◌≢◌, ℕ, zero, suc, ◌+◌, ◌≤◌, ◌<◌, ◌^◌, ◌⊎◌, inl, inr, Bool, true, false, cond, List, [], ◌∷◌, ◌++◌, Option, None, Some, refl, sym, ap, subst, ◌∙◌, arith}
+use Rattle.std.proofs.Common.{◌≡◌, ◌≢◌, ℕ, zero, suc, ◌+◌, ◌≤◌, ◌<◌, ◌^◌, ◌⊎◌, inl, inr, Bool, true, false, cond, List}
+use Rattle.std.proofs.Common.{[], ◌∷◌, ◌++◌, Option, None, Some, refl, sym, ap, subst, ◌∙◌, arith}
 use Rattle.std.proofs.Math.Path.{fun_ext}
 use Rattle.std.specs.Prelude.{nat_lt, pred, if◌then◌else◌}
 use Rattle.vm_base.specs.declared.page.PageRange.{PageRange}
@@ -25,7 +26,8 @@ use Rattle.machine_model.specs.Accesses.{NoneFree}
 use Rattle.machine_sound.specs.Log.{Replays, Stands}
 use Rattle.machine_sound.specs.Sound.{IsDue, IsReached}
 use Rattle.machine_sound.proofs.Kept.{reached_fine, reached_step}
-use Rattle.machine_alone.specs.Alone.{ComesBeside, IsAwaiting, IsBeside, IsBesideCalls, IsCalm, IsResting, IsServed, IsServedAlone, IsServedAtLast, IsWaiting, KeepsOthers, KeepsTakes, LeadsTo, left_to, takes_left, users_dropped}
+use Rattle.machine_alone.specs.Alone.{ComesBeside, IsAwaiting, IsBeside, IsBesideCalls, IsCalm, IsResting, IsServed, IsServedAlone}
+use Rattle.machine_alone.specs.Alone.{IsServedAtLast, IsWaiting, KeepsOthers, KeepsTakes, LeadsTo, left_to, takes_left, users_dropped}
 use Rattle.machine_alone.specs.Copies.{page_copied, with_copy}
 use Rattle.machine_alone.specs.First.{FirstAnswers, is_placed}
 use Rattle.machine_alone.specs.Taken.{frames_for, frames_taken, is_access}

@@ -1,5 +1,6 @@
 -- The text of a trace in which no call runs beside another, and what comes behind it, are those of the plain page map and the users of its pages.
-use Rattle.std.proofs.Common.{◌≡◌, ◌≢◌, ℕ, ◌≤◌, ◌<◌, ◌==◌, ◌⊎◌, inl, inr, Bool, true, false, cond, List, [], ◌∷◌, Option, None, Some, refl, sym, ap, subst, ◌∙◌, arith, length}
+use Rattle.std.proofs.Common.{◌≡◌, ◌≢◌, ℕ, ◌≤◌, ◌<◌, ◌==◌, ◌⊎◌, inl, inr, Bool, true, false, cond, List, [], ◌∷◌}
+use Rattle.std.proofs.Common.{Option, None, Some, refl, sym, ap, subst, ◌∙◌, arith, length}
 use Rattle.std.specs.Prelude.{◌^◌, nat_lt, pred, IsSomeAnd}
 use Rattle.std.proofs.Math.Path.{fun_ext}
 use Rattle.vm_base.specs.Functions.{put}
@@ -43,11 +44,14 @@ use Rattle.trace.specs.Gives.{Gives, GoesOn, TellsFinish}
 use Rattle.trace.specs.Stage.{Stage, Start, Declared, Running, CanOpen, Opens, LineActs, EventActs}
 use Rattle.trace.specs.Runs.{Runs}
 use Rattle.trace.specs.Shown.{log_at, ListsUpTo, IsBehind}
-use Rattle.trace.specs.PlainText.{Open, Reached, nothing_reached, one_more, AnswersAtOnce, IsHeldUp, NowAnswers, FinishAnswers, OpenAnswers, Idles, TakeAnswers, ActAnswers, MayStep, CoreMayStep, LineAnswers, Disturbs, AllAnswer, IsLogOf, IsPlainBehind, takes_apart, AreWhole, with_opened, events_at, GivesPlainText}
+use Rattle.trace.specs.PlainText.{Open, Reached, nothing_reached, one_more, AnswersAtOnce, IsHeldUp, NowAnswers, FinishAnswers, OpenAnswers}
+use Rattle.trace.specs.PlainText.{Idles, TakeAnswers, ActAnswers, MayStep, CoreMayStep, LineAnswers, Disturbs, AllAnswer, IsLogOf}
+use Rattle.trace.specs.PlainText.{IsPlainBehind, takes_apart, AreWhole, with_opened, events_at, GivesPlainText}
 use Rattle.trace.proofs.Disturbing.{gives_up}
 use Rattle.core_steps.proofs.Limits.{step_grows}
 use Rattle.trace.proofs.Opening.{IsDeclared, declared_so, declares_file, declares_space, few_cores, few_files}
-use Rattle.trace.proofs.PlainCalls.{Meets, MeetsOpen, IsNext, beside, calm_left, call_ends, finish_free, meets_beside, meets_event, meets_taken, open_ends, steps_kept}
+use Rattle.trace.proofs.PlainCalls.{Meets, MeetsOpen, IsNext, beside, calm_left, call_ends, finish_free}
+use Rattle.trace.proofs.PlainCalls.{meets_beside, meets_event, meets_taken, open_ends, steps_kept}
 
 -- ---- a line of one event
 

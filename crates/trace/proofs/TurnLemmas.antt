@@ -10,7 +10,8 @@ use Rattle.trace_text.specs.declared.line.Line.TheVariants.{Blank, Space, File, 
 use Rattle.core_steps.specs.declared.setup.SetupFault.{SetupFault}
 use Rattle.trace.specs.declared.fault.TraceFault.{TraceFault}
 use Rattle.trace.specs.declared.fault.TraceFault.TheVariants.{BadLine, TooLong, ReadFailed, NoVmLine, NoMemory, Setup, WriteFailed}
-use Rattle.trace.specs.Stage.{Stage, Start, Declared, Running, SetupFails, OpenFails, LineWants, Kind, OfSpace, OfFile, OfEvents, kind_of, LateFails, BadFails, SpaceFails, FileFails, SaidFails, BytesFail, LineFails, Acts}
+use Rattle.trace.specs.Stage.{Stage, Start, Declared, Running, SetupFails, OpenFails, LineWants, Kind, OfSpace, OfFile, OfEvents, kind_of}
+use Rattle.trace.specs.Stage.{LateFails, BadFails, SpaceFails, FileFails, SaidFails, BytesFail, LineFails, Acts}
 use Rattle.trace.specs.declared.shown.Show.{Show}
 use Rattle.trace.specs.Shown.{told}
 use Rattle.trace.specs.Declarations.{Asked, asked_fault}

@@ -37,8 +37,8 @@ impl Default for FileLine {
     }
 }
 
-/// What the `vm` line and the `file` lines behind it ask for. It takes no memory: the bytes of a file are made where a
-/// setup is.
+/// What the `vm` line and the `file` lines behind it ask for. It takes no memory: the
+/// bytes of a file are made where a setup is.
 #[derive(Drop)]
 pub struct Declaration {
     cores: u64,
@@ -131,7 +131,8 @@ impl Declaration {
         }
     }
 
-    /// Takes in a file that has the next number, and tells whether it has. No file has the number 2^64 - 1.
+    /// Takes in a file that has the next number, and tells whether it has. No file has
+    /// the number 2^64 - 1.
     pub fn add(&mut self, number: u64, file: FileLine) -> bool
         ensures told { result ≡ is_next self.old number }
         ensures added { result ≡ true → self.new ≡ with_file self.old file }
@@ -164,8 +165,8 @@ impl Declaration {
         )
     }
 
-    /// The setup that is asked for, where it has no fault. The bytes of its files are made here, and the error says that memory
-    /// for them ran out. No files take no memory.
+    /// The setup that is asked for, where it has no fault. The bytes of its files are made
+    /// here, and the error says that memory for them ran out. No files take no memory.
     pub fn setup<A: Allocator + Clone>(&self, alloc: A) -> Result<Setup<A>, AllocError>
         requires { asked_fault self.now ≡ None }
         ensures asked { IfErr result (λ refused. self.now.files ≢ []) }

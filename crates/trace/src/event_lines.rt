@@ -91,8 +91,9 @@ fn tell_call<M: SlotMap, A: Allocator + Clone, L: Ledger>(
     Ok(())
 }
 
-/// Moves the machine as the line says, and replaces the text by what it gives. A line that is bad, or the line of
-/// a space or of a file, is a bad line here, and nothing changes. At `NoMemory` the steps before the refused one stand.
+/// Moves the machine as the line says, and replaces the text by what it gives. A line
+/// that is bad, or the line of a space or of a file, is a bad line here, and nothing
+/// changes. At `NoMemory` the steps before the refused one stand.
 pub fn run_line<M: SlotMap, A: Allocator + Clone, L: Ledger>(
     machine: &mut Machine<M, A, L>,
     line: Option<Line>,

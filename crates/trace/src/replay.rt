@@ -67,7 +67,8 @@ fn turn<A: Allocator, S: Source, W: Sink, R: Staged>(
     }
 }
 
-// Ends the trace, and writes what comes behind the text of its lines. A log that is to be shown is kept.
+// Ends the trace, and writes what comes behind the text of its lines. A log that is to be
+// shown is kept.
 fn close<W: Sink, R: Staged>(
     writer: &mut W,
     replayer: &R,
@@ -127,7 +128,8 @@ fn replay_lines<A: Allocator, S: Source, W: Sink, R: Staged>(
     }
 }
 
-// Acts on all lines, over a ledger of this kind. Memory for a chunk of lines is taken before anything is read.
+// Acts on all lines, over a ledger of this kind. Memory for a chunk of lines is taken
+// before anything is read.
 fn replay_over<L: Opening<A> + Drop, A: Allocator + Clone + Drop, S: Source, W: Sink>(
     alloc: A,
     reader: &mut S,
@@ -171,10 +173,11 @@ fn replay_text<A: Allocator + Clone + Drop, S: Source, W: Sink>(
     }
 }
 
-/// Acts on each line as it is read, and writes its text before the next line is acted on; at the end of the trace, if no fault came, the
-/// log comes behind the text, or the list of mappings in place of it, where it is to be shown. What is written goes out before each read
-/// that a line has to wait for, and at the end, after a fault too. A write or a flush that fails ends the replay, and is told even where
-/// another fault came first.
+/// Acts on each line as it is read, and writes its text before the next line is acted on;
+/// at the end of the trace, if no fault came, the log comes behind the text, or the list
+/// of mappings in place of it, where it is to be shown. What is written goes out before
+/// each read that a line has to wait for, and at the end, after a fault too. A write or a
+/// flush that fails ends the replay, and is told even where another fault came first.
 ///
 /// Where no line takes a call apart (`call`, `go`), what is written is what a plain page map gives,
 /// up to a call that is made while another waits: `laws::whole_traces_are_plain` says it in words.
@@ -184,7 +187,8 @@ pub fn replay<A: Allocator + Clone + Drop, S: Source, W: Sink>(
     writer: &mut W,
     show: Show,
 ) -> Result<(), TraceFault>
-    // What went out, that it is the plain page map's, and which fault it is, where the reader tells its bytes.
+    // What went out, that it is the plain page map's, and which fault it is, where the
+    // reader tells its bytes.
     ensures ends { IfSome (S.remaining reader.old) (λ input.
         Ends show input (S.remaining reader.new) (W.contents writer.old) (W.contents writer.new) result) }
     ensures told { TellsFaults result (S.failed reader.new) (S.reads reader.new)

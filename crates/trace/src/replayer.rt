@@ -1,8 +1,11 @@
 //! A replay between two lines, and what one line does to it.
-ghost use Rattle.std.specs.Prelude.{◌≡◌, ◌≤◌, ◌⊎◌, [], Bool, false, option_map, None, IfOk, IfErr, IfNone, IfSome, OnOk, IsSomeAnd};
+ghost use Rattle.std.specs.Prelude.{◌≡◌, ◌≤◌, ◌⊎◌, [], Bool, false, option_map, None, IfOk};
+ghost use Rattle.std.specs.Prelude.{IfErr, IfNone, IfSome, OnOk, IsSomeAnd};
 ghost use Rattle.core_steps.specs.Machine.{state};
 ghost use Rattle.trace_text.specs.Words.{words_of};
-ghost use Rattle.trace.specs.Stage.{Stage, Start, Declared, stage_of, Opens, OpenFails, CanOpen, Acts, BadFails, EventActs, EventFails, EventWants, FileFails, LateFails, LineActs, LineFails, LineWants, SpaceFails, kind_of};
+ghost use Rattle.trace.specs.Stage.{Stage, Start, Declared, stage_of, Opens, OpenFails, CanOpen, Acts};
+ghost use Rattle.trace.specs.Stage.{BadFails, EventActs, EventFails, EventWants, FileFails, LateFails};
+ghost use Rattle.trace.specs.Stage.{LineActs, LineFails, LineWants, SpaceFails, kind_of};
 ghost use Rattle.trace.specs.Shown.{HasNoneAt, IsNextAt, IsStartAt, log_at};
 
 use crate::declaration::{Declaration, FileLine};
@@ -26,8 +29,8 @@ pub trait Staged {
     // Whether its log can be read.
     ghost keeps: { Bool };
 
-    /// Acts on the line with this number, and replaces the text by what it gives. A fault that isn't want of memory
-    /// is the line's first. After a fault no other line is acted on.
+    /// Acts on the line with this number, and replaces the text by what it gives. A fault that
+    /// isn't want of memory is the line's first. After a fault no other line is acted on.
     fn act(&mut self, number: u64, line: &[u8], text: &mut LineText) -> Result<(), TraceFault>
         ensures ok { OnOk result (Acts (stage self.old) line.now (stage self.new) text.new.bytes) }
         ensures err { IfErr result (λ f.
@@ -44,8 +47,8 @@ pub trait Staged {
         ensures some { IfSome result (λ log. log.now ≡ log_at (stage self.now)) }
         ensures none { IfNone result (keeps ≡ false) };
 
-    /// The first mapping that begins at the page `from` or above, where none goes across that page; up to the first event there is
-    /// none.
+    /// The first mapping that begins at the page `from` or above, where none goes across
+    /// that page; up to the first event there is none.
     fn next_map_line(&self, from: u64) -> Option<MapLine>
         requires low { 1 ≤ from }
         requires begins { IsStartAt (stage self.now) from }
@@ -53,8 +56,8 @@ pub trait Staged {
         ensures none { IfNone result (HasNoneAt (stage self.now) from) };
 }
 
-/// A replay between two lines. Up to the `vm` line it has neither a declaration nor a machine, then a declaration, and from
-/// the first line of an event on a machine, whose log goes to the ledger.
+/// A replay between two lines. Up to the `vm` line it has neither a declaration nor a machine, then
+/// a declaration, and from the first line of an event on a machine, whose log goes to the ledger.
 #[derive(Drop)]
 pub struct Replayer<A: Allocator + Clone, L: Ledger>
 where
@@ -66,8 +69,8 @@ where
     machine: Option<Machine<RadixMap<A>, A, L>>,
 }
 
-// The machine that is asked for. Its own faults come before want of memory for the bytes of files, and that before want of
-// memory for the machine.
+// The machine that is asked for. Its own faults come before want of memory for the bytes
+// of files, and that before want of memory for the machine.
 fn made<A: Allocator + Clone + Drop, L: Opening<A> + Drop>(
     alloc: &A,
     declaration: &Option<Declaration>,
@@ -102,7 +105,8 @@ fn made<A: Allocator + Clone + Drop, L: Opening<A> + Drop>(
     }
 }
 
-// What is told of a bad line at which a machine is to be made: why none can be, or else that the line is bad.
+// What is told of a bad line at which a machine is to be made: why none can be, or else
+// that the line is bad.
 #[tactic(auto, using(crate::proofs::Acting::late_err, crate::proofs::Acting::late_ok))]
 fn late_fault<A: Allocator + Clone + Drop, L: Opening<A> + Drop>(
     alloc: &A,
@@ -199,8 +203,9 @@ impl<A: Allocator + Clone + Drop, L: Opening<A> + Drop> Replayer<A, L> {
         Ok(())
     }
 
-    // Acts on the first line of an event, which needs a machine: it is made. It stands by itself, so that the lines after
-    // it have no room for a machine on their stack, which would be cleared for each.
+    // Acts on the first line of an event, which needs a machine: it is made. It stands by
+    // itself, so that the lines after it have no room for a machine on their stack, which
+    // would be cleared for each.
     #[inline(never)]
     fn act_on_first_event(
         &mut self,

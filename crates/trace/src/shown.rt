@@ -14,9 +14,11 @@ use trace_text::{LineText, write_answer, write_detach, write_map_line};
 pub enum Show {
     /// The outcome of each line of an event.
     Outcomes,
-    /// That, and at the end of the trace the log: a line for each reply and for each page that got a copy of its own, in order.
+    /// That, and at the end of the trace the log: a line for each reply and for each page
+    /// that got a copy of its own, in order.
     OutcomesAndLog,
-    /// No outcome, and at the end of the trace the list of mappings: a line for each range of neighbouring pages, in order.
+    /// No outcome, and at the end of the trace the list of mappings: a line for each
+    /// range of neighbouring pages, in order.
     Maps,
 }
 
@@ -49,7 +51,8 @@ fn write_entry(text: &mut LineText, entry: Entry)
     }
 }
 
-/// Writes a line for each entry of a log, in order. At an `Err` a front of them was written. The text is where each line is made.
+/// Writes a line for each entry of a log, in order. At an `Err` a front of them was
+/// written. The text is where each line is made.
 pub fn write_log<W: Sink>(
     writer: &mut W,
     log: &[Entry],
@@ -73,7 +76,8 @@ pub fn write_log<W: Sink>(
     Ok(())
 }
 
-/// Writes a line for each mapping, in order. At an `Err` a front of them was written. The text is where each line is made.
+/// Writes a line for each mapping, in order. At an `Err` a front of them was written. The
+/// text is where each line is made.
 pub fn write_maps<W: Sink, R: Staged>(
     writer: &mut W,
     replayer: &R,

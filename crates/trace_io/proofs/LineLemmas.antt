@@ -1,5 +1,6 @@
 -- On lines and the search for a newline.
-use Rattle.std.proofs.Common.{◌≡◌, ℕ, ◌+◌, ◌-◌, ◌<◌, ◌≤◌, List, ◌++◌, length, take, drop, arith, sym, ap, subst, ◌∙◌, eq-eqb, length-take, length-drop, length-append, append_assoc, Option, None, Some}
+use Rattle.std.proofs.Common.{◌≡◌, ℕ, ◌+◌, ◌-◌, ◌<◌, ◌≤◌, List, ◌++◌, length, take, drop, arith, sym, ap, subst, ◌∙◌, eq-eqb}
+use Rattle.std.proofs.Common.{length-take, length-drop, length-append, append_assoc, Option, None, Some}
 use Rattle.std.proofs.lemmas.List.{get_or-take, take-append-le}
 use Rattle.std.proofs.Math.Seq.{take-add}
 use Rattle.std.specs.Io.KnownBytes.{Keeps, Consumes, prepend_known}

@@ -1,6 +1,7 @@
 //! Lines of at most 256 bytes, read in chunks of fixed size: once made, a reader of lines takes no
 //! memory. Before it reads, what was written goes out.
-ghost use Rattle.std.specs.Prelude.{◌≡◌, ◌+◌, ◌-◌, ◌<◌, ◌≤◌, ◌^◌, length, take, slice_range, IfOk, OnOk, OnErr};
+ghost use Rattle.std.specs.Prelude.{◌≡◌, ◌+◌, ◌-◌, ◌<◌, ◌≤◌, ◌^◌, length, take};
+ghost use Rattle.std.specs.Prelude.{slice_range, IfOk, OnOk, OnErr};
 ghost use Rattle.std.specs.Io.KnownBytes.{Keeps, Consumes, IsAtEnd};
 ghost use Rattle.trace_io.specs.Source.{HasStopped};
 
@@ -71,7 +72,8 @@ impl<A: Allocator> Model for LineReader<A> {
 }
 
 impl<A: Allocator> LineReader<A> {
-    ghost use Rattle.std.specs.Prelude.{◌≡◌, ◌+◌, ◌<◌, ◌≤◌, ◌⊎◌, length, IfOk, OnOk, OnErr, Err, true, false};
+    ghost use Rattle.std.specs.Prelude.{◌≡◌, ◌+◌, ◌<◌, ◌≤◌, ◌⊎◌, length, IfOk, OnOk};
+    ghost use Rattle.std.specs.Prelude.{OnErr, Err, true, false};
     ghost use Rattle.trace_io.specs.Window.{opening, left, budget, TakesHeld};
     ghost use Rattle.trace_io.specs.Lines.{IsUnbroken, IsTooLong, TakesLine, BeginsTooLong};
     ghost use Rattle.trace_io.specs.Scans.{Scans};

@@ -1,5 +1,6 @@
 -- Names of cores.
-use Rattle.std.proofs.Common.{inl, inr, List, eqb, decimal, sym, ◌≡◌, ℕ, ◌+◌, ◌-◌, ◌*◌, ◌/◌, ◌%◌, ◌<◌, ◌≤◌, true, false, cond, [], ◌∷◌, ◌++◌, Some, None, arith, ap, ◌∙◌}
+use Rattle.std.proofs.Common.{inl, inr, List, eqb, decimal, sym, ◌≡◌, ℕ, ◌+◌, ◌-◌, ◌*◌, ◌/◌, ◌%◌, ◌<◌, ◌≤◌}
+use Rattle.std.proofs.Common.{true, false, cond, [], ◌∷◌, ◌++◌, Some, None, arith, ap, ◌∙◌}
 use Rattle.std.specs.Prelude.{nat_le, nat_lt, ◌&&◌}
 use Rattle.std.proofs.lemmas.Bool.{cases_lt}
 use Rattle.std.proofs.lemmas.Bool.Decides.{nat_tests}

@@ -1,5 +1,6 @@
 -- Lines and their grammar.
-use Rattle.std.proofs.Common.{◌≡◌, ◌⊎◌, inl, inr, ℕ, ◌<◌, ◌≤◌, true, false, cond, List, [], ◌∷◌, ◌++◌, Some, None, codes, arith, refl, sym, ap, ◌∙◌, subst, eqb, length, take, get_or, ◌-◌, suc, zero}
+use Rattle.std.proofs.Common.{◌≡◌, ◌⊎◌, inl, inr, ℕ, ◌<◌, ◌≤◌, true, false, cond, List, [], ◌∷◌, ◌++◌, Some, None, codes}
+use Rattle.std.proofs.Common.{arith, refl, sym, ap, ◌∙◌, subst, eqb, length, take, get_or, ◌-◌, suc, zero}
 use Rattle.std.proofs.lemmas.Bool.Decides.{nat_tests}
 use Rattle.std.specs.Prelude.{nat_le, nat_lt, ◌&&◌, ◌+◌, ◌*◌}
 use Rattle.std.specs.Str.{bytes_eq}

@@ -1,5 +1,6 @@
 -- What is read has no bytes but printable ones.
-use Rattle.std.proofs.Common.{◌≡◌, inl, inr, ℕ, ◌+◌, ◌*◌, Bool, true, false, cond, not, eqb, ltb, List, [], ◌∷◌, ◌++◌, Option, Some, None, is_some, codes, arith, refl, ap, ◌∙◌, sym}
+use Rattle.std.proofs.Common.{◌≡◌, inl, inr, ℕ, ◌+◌, ◌*◌, Bool, true, false, cond, not, eqb, ltb, List, [], ◌∷◌, ◌++◌}
+use Rattle.std.proofs.Common.{Option, Some, None, is_some, codes, arith, refl, ap, ◌∙◌, sym}
 use Rattle.std.proofs.lemmas.Bool.Decides.{nat_tests}
 use Rattle.std.specs.Prelude.{nat_le, ◌&&◌, option_and_then}
 use Rattle.std.specs.List.{list_all}
@@ -91,7 +92,8 @@ value_printable : (base n : ℕ) (cs : List ℕ) (v : ℕ) → value_from base n
 value_printable base n [] v e = refl
 value_printable base n (c ∷ cs) v e = go (λ m f. value_printable base m cs v f) (digit_of c) refl e
   where
-    go : ((m : ℕ) → value_from base m cs ≡ Some v → are_printable cs ≡ true) → (o : Option ℕ) → digit_of c ≡ o → option_and_then (λ d. cond (ltb d base) (value_from base (n * base + d) cs) None) o ≡ Some v
+    go : ((m : ℕ) → value_from base m cs ≡ Some v → are_printable cs ≡ true) → (o : Option ℕ) → digit_of c ≡ o
+        → option_and_then (λ d. cond (ltb d base) (value_from base (n * base + d) cs) None) o ≡ Some v
         → printable c && are_printable cs ≡ true
     go others None is e = absurd (cc)
     go others (Some d) is e = elim (chosen (ltb d base) (value_from base (n * base + d) cs) None (Some v) e) [
@@ -168,7 +170,8 @@ letters_printable : (f : Flags) (cs : Word) (g : Flags) → flags_from f cs ≡ 
 letters_printable f [] g e = refl
 letters_printable f (c ∷ cs) g e = go (λ m k. letters_printable m cs g k) (flag_more f c) refl e
   where
-    go : ((m : Flags) → flags_from m cs ≡ Some g → are_printable cs ≡ true) → (o : Option Flags) → flag_more f c ≡ o → option_and_then (λ m. flags_from m cs) o ≡ Some g → printable c && are_printable cs ≡ true
+    go : ((m : Flags) → flags_from m cs ≡ Some g → are_printable cs ≡ true) → (o : Option Flags) → flag_more f c ≡ o
+        → option_and_then (λ m. flags_from m cs) o ≡ Some g → printable c && are_printable cs ≡ true
     go others None is e = absurd (cc)
     go others (Some m) is e = both (printable c) (are_printable cs) (flag_printable f c m is) (others m e)
 

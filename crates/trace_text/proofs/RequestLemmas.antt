@@ -7,7 +7,8 @@ use Rattle.vm_base.specs.declared.rights.Prot.{Prot}
 use Rattle.vm_base.specs.declared.requests.Flags.{Flags}
 use Rattle.trace_text.specs.Words.{Word, front_word}
 use Rattle.trace_text.specs.Number.{number_of}
-use Rattle.trace_text.specs.Request.{◌>>=◌, ended, byte_of, request_of, load_of, store_of, fetch_of, mmap_of, munmap_of, mprotect_of, protected_of, prot_of, flags_of, backed_of}
+use Rattle.trace_text.specs.Request.{◌>>=◌, ended, byte_of, request_of, load_of, store_of, fetch_of, mmap_of, munmap_of}
+use Rattle.trace_text.specs.Request.{mprotect_of, protected_of, prot_of, flags_of, backed_of}
 use Rattle.trace_text.specs.Spelling.{SpellsNumber}
 use Rattle.trace_text.specs.Grammar.{Asks, Backs}
 use Rattle.trace_text.proofs.Choices.{bind_some, ended_some, front_some, chosen}

@@ -1,5 +1,6 @@
 -- Words, from the spaces before them and after them.
-use Rattle.std.proofs.Common.{◌≡◌, ◌≢◌, ℕ, zero, suc, ◌<◌, ◌≤◌, List, [], ◌∷◌, length, take, drop, get_or, arith, refl, length-drop, add-zero, sym, ap, ◌∙◌, eq-eqb, true, false, Bool, eqb, Some, None}
+use Rattle.std.proofs.Common.{◌≡◌, ◌≢◌, ℕ, zero, suc, ◌<◌, ◌≤◌, List, [], ◌∷◌, length, take, drop, get_or, arith, refl}
+use Rattle.std.proofs.Common.{length-drop, add-zero, sym, ap, ◌∙◌, eq-eqb, true, false, Bool, eqb, Some, None}
 use Rattle.std.proofs.lemmas.Bool.Decides.{nat_tests}
 use Rattle.std.proofs.lemmas.List.{get_or-drop}
 use Rattle.std.specs.Prelude.{not, cond}

@@ -1,7 +1,8 @@
 //! What a core is to do, as words: `call REQ`, `go`, `frame F`, `walk ADDR` and the like.
 ghost use Rattle.std.specs.Prelude.{◌≡◌};
 ghost use Rattle.trace_text.specs.Words.{words_of};
-ghost use Rattle.trace_text.specs.Action.{action_of, bare_of, call_of, evict_of, frame_of, guess_of, number_alone, page_alone, walk_of};
+ghost use Rattle.trace_text.specs.Action.{action_of, bare_of, call_of, evict_of, frame_of, guess_of};
+ghost use Rattle.trace_text.specs.Action.{number_alone, page_alone, walk_of};
 
 use crate::number::next_number;
 use crate::request::read_request;
@@ -117,8 +118,8 @@ fn read_bare(name: &[u8]) -> Option<Action>
     }
 }
 
-/// The action with this name, whose other words are in `args`; `None` where they say none. Nothing but the form is
-/// tested: whether the action is possible is the machine's to tell.
+/// The action with this name, whose other words are in `args`; `None` where they say none.
+/// Nothing but the form is tested: whether the action is possible is the machine's to tell.
 #[tactic(auto, unfolding(crate::specs::Action::action_of))]
 pub fn read_action(name: &[u8], args: &[u8]) -> Option<Action>
     ensures { result ≡ action_of name.now (words_of args.now) }

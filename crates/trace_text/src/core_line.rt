@@ -67,7 +67,8 @@ fn read_task(core: CoreId, words: &[u8]) -> Option<Line>
     }
 }
 
-/// The line of a core whose first word is `name` and whose other words are in `args`; `None` where they say none.
+/// The line of a core whose first word is `name` and whose other words are in `args`;
+/// `None` where they say none.
 #[tactic(auto, unfolding(crate::specs::Line::event_of, crate::specs::Line::now_of))]
 pub fn read_core_line(name: &[u8], args: &[u8]) -> Option<Line>
     ensures { result ≡ event_of name.now (words_of args.now) }

@@ -1,4 +1,5 @@
-//! The text of traces: what a line says, and what replies, the log and the list of mappings are written as.
+//! The text of traces: what a line says, and what replies, the log and the list of
+//! mappings are written as.
 #![tactic(auto)]
 
 pub mod action;

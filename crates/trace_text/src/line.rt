@@ -2,7 +2,8 @@
 ghost use Rattle.std.specs.Prelude.{◌≡◌, IfSome, option_map};
 ghost use Rattle.trace_text.specs.Front.{BeginsNow};
 ghost use Rattle.trace_text.specs.Words.{words_of};
-ghost use Rattle.trace_text.specs.Line.{are_printable, begins_with, begins_with_file, begins_with_vm, fold_of, is_comment, line_of, line_of_words};
+ghost use Rattle.trace_text.specs.Line.{are_printable, begins_with, begins_with_file, begins_with_vm};
+ghost use Rattle.trace_text.specs.Line.{fold_of, is_comment, line_of, line_of_words};
 
 use crate::action::{Action, read_page_alone};
 use crate::core_line::read_core_line;
@@ -23,8 +24,8 @@ pub enum Line {
         frames: u64,
         calls: u64,
     },
-    /// `file N MODE LEN SEED`: the file with this number is open for this, and has so many bytes. The byte at offset
-    /// `i` is `(seed + i) mod 256`.
+    /// `file N MODE LEN SEED`: the file with this number is open for this, and has so
+    /// many bytes. The byte at offset `i` is `(seed + i) mod 256`.
     File {
         number: u64,
         mode: Mode,
@@ -41,8 +42,8 @@ pub enum Line {
     Now(CoreId, Request),
 }
 
-/// Tells whether each byte is printable ASCII, 0x20 to 0x7e. A line with another byte is bad, a comment too. It looks at
-/// all bytes even after a bad one, so that many are compared at once.
+/// Tells whether each byte is printable ASCII, 0x20 to 0x7e. A line with another byte is bad, a
+/// comment too. It looks at all bytes even after a bad one, so that many are compared at once.
 pub fn is_printable(bytes: &[u8]) -> bool
     ensures { result ≡ are_printable bytes.now }
 {
@@ -150,8 +151,8 @@ fn read_words(bytes: &[u8]) -> Option<Line>
     read_any(bytes)
 }
 
-/// What a line of printable bytes says, without its newline; `None` where it is a bad line. A line whose first
-/// byte is `#` is a comment.
+/// What a line of printable bytes says, without its newline; `None` where it is a bad
+/// line. A line whose first byte is `#` is a comment.
 pub fn read_line(bytes: &[u8]) -> Option<Line>
     ensures { result ≡ line_of bytes.now }
 {

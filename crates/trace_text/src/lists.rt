@@ -1,13 +1,14 @@
 //! The lines of the log and of the list of mappings, in a buffer of fixed size.
 ghost use Rattle.std.specs.Prelude.{◌≡◌, ◌+◌, ◌≤◌, ◌++◌, decimal, length};
-ghost use Rattle.trace_text.specs.Lists.{answer_line, back_text, detach_line, file_text, map_line, start_of};
+ghost use Rattle.trace_text.specs.Lists.{answer_line, back_text, detach_line};
+ghost use Rattle.trace_text.specs.Lists.{file_text, map_line, start_of};
 ghost use Rattle.trace_text.specs.Spelling.{mark, rights_text};
 
 use crate::printing::{LineText, address_text, push_number, push_reply};
 use vm_base::{Back, PageRange, Prot, Reply};
 
-// Appends the address at which the page begins. It may lie past 2^64: three digits of 0 behind those of the page's number are
-// 4096 times it.
+// Appends the address at which the page begins. It may lie past 2^64: three digits of 0
+// behind those of the page's number are 4096 times it.
 fn push_start(text: &mut LineText, page: u64)
     requires { length text.old.bytes + 23 ≤ 256 }
     ensures bytes { text.new.bytes ≡ text.old.bytes ++ start_of page }
@@ -75,8 +76,8 @@ fn push_back(text: &mut LineText, back: Back)
     }
 }
 
-/// Replaces the text by the log's line of an answer, with its newline: from the event with the number `step` on, the call with the
-/// number `call` has the reply.
+/// Replaces the text by the log's line of an answer, with its newline: from the event
+/// with the number `step` on, the call with the number `call` has the reply.
 pub fn write_answer(text: &mut LineText, step: u64, call: u64, reply: Reply)
     ensures { text.new.bytes ≡ answer_line step call reply }
 {
@@ -90,8 +91,8 @@ pub fn write_answer(text: &mut LineText, step: u64, call: u64, reply: Reply)
     text.push_str("\n");
 }
 
-/// Replaces the text by the log's line of a private page that got a copy of its own, with its newline: it has it from the event with
-/// the number `step` on.
+/// Replaces the text by the log's line of a private page that got a copy of its own, with
+/// its newline: it has it from the event with the number `step` on.
 pub fn write_detach(text: &mut LineText, step: u64, page: u64)
     ensures { text.new.bytes ≡ detach_line step page }
 {
@@ -103,7 +104,8 @@ pub fn write_detach(text: &mut LineText, step: u64, page: u64)
     text.push_str("\n");
 }
 
-/// Replaces the text by the line of a range of pages with one mapping, with its newline. `back` is what backs the range's first page.
+/// Replaces the text by the line of a range of pages with one mapping, with its newline.
+/// `back` is what backs the range's first page.
 pub fn write_map_line(text: &mut LineText, range: PageRange, prot: Prot, back: Back)
     ensures { text.new.bytes ≡ map_line range prot back }
 {

@@ -60,7 +60,8 @@ fn long_value(digits: &[u8], base: u64) -> Option<u64>
     Some(n)
 }
 
-// The value of digits, one or more, below 2^64: without a test for what is too great where they are few.
+// The value of digits, one or more, below 2^64: without a test for what is too great
+// where they are few.
 #[inline(always)]
 fn value(digits: &[u8], base: u64) -> Option<u64>
     requires { 1 < base }
@@ -137,7 +138,8 @@ fn hexadecimal_digits(word: &[u8]) -> Option<&[u8]>
     }
 }
 
-/// The number that the first word spells, and the bytes after it. Up to 16 digits are read once, from left to right.
+/// The number that the first word spells, and the bytes after it. Up to 16 digits are
+/// read once, from left to right.
 pub fn next_number(bytes: &[u8]) -> Option<(u64, &[u8])>
     ensures { option_map (λ f. (f.0, words_of f.1.now)) result ≡ front_number (words_of bytes.now) }
 {

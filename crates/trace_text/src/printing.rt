@@ -48,7 +48,8 @@ pub fn number_text(number: u64) -> ShortText
     text
 }
 
-/// The address, or the offset, as `0x` and lower case hexadecimal digits without leading zeros, `0x0` for zero.
+/// The address, or the offset, as `0x` and lower case hexadecimal digits without leading
+/// zeros, `0x0` for zero.
 pub fn address_text(address: u64) -> ShortText
     ensures { result.bytes ≡ address_of address }
 {
@@ -87,7 +88,8 @@ fn refusal_word(errno: Errno) -> &'static str
     }
 }
 
-/// Appends the reply as a trace's output has it: an address, a byte in decimal, or words in lower case, without a newline.
+/// Appends the reply as a trace's output has it: an address, a byte in decimal, or words
+/// in lower case, without a newline.
 #[inline(always)]
 pub fn push_reply(text: &mut LineText, reply: Reply)
     requires { length text.old.bytes + 20 ≤ 256 }

@@ -1,7 +1,9 @@
 //! Requests as words: `mmap`, `munmap`, `mprotect`, `load`, `store` and `fetch`.
 ghost use Rattle.std.specs.Prelude.{◌≡◌, ◌<◌, ◌≤◌, ◌==◌, ◌++◌, IfSome, codes, option_map, length};
 ghost use Rattle.trace_text.specs.Words.{words_of};
-ghost use Rattle.trace_text.specs.Request.{backed_of, byte_of, fetch_of, flag_more, flags_of, load_of, mark_of, mmap_of, mprotect_of, munmap_of, prot_of, protected_of, request_of, store_of};
+ghost use Rattle.trace_text.specs.Request.{backed_of, byte_of, fetch_of, flag_more, flags_of, load_of};
+ghost use Rattle.trace_text.specs.Request.{mark_of, mmap_of, mprotect_of, munmap_of, prot_of};
+ghost use Rattle.trace_text.specs.Request.{protected_of, request_of, store_of};
 ghost use Rattle.trace_text.specs.Front.{stored_of};
 
 use crate::number::{next_number, read_number};
@@ -263,9 +265,9 @@ fn read_any(words: &[u8]) -> Option<Request>
     }
 }
 
-/// The request that the words say, its name first; `None` where they say none. Addresses, lengths and offsets
-/// are in bytes. Nothing but the form is tested: what a request asks for may still be refused. The commonest are known by the
-/// bytes that they begin with, and their names aren't looked for.
+/// The request that the words say, its name first; `None` where they say none. Addresses, lengths and
+/// offsets are in bytes. Nothing but the form is tested: what a request asks for may still be refused.
+/// The commonest are known by the bytes that they begin with, and their names aren't looked for.
 #[tactic(auto, using(crate::proofs::FrontLemmas::load_named, crate::proofs::FrontLemmas::store_named))]
 pub fn read_request(words: &[u8]) -> Option<Request>
     ensures { result ≡ request_of (words_of words.now) }

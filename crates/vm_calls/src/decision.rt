@@ -106,12 +106,16 @@ fn is_read_only<A: Allocator>(objects: &Objects<A>, info: Option<PageInfo>) -> b
 }
 
 /// Tells whether some page of the range is a shared one of a file that isn't open for writing. One
-/// page of each slot is looked at.
+/// page of each slot is looked at, where there are files at all.
 fn has_read_only<M: SlotRead, A: Allocator>(map: &M, objects: &Objects<A>, range: PageRange) -> bool
     requires readable { IsReadable (λ p. M.reads map.now p) (M.slots map.now) range }
     ensures { IsTrue result ↔ HasPage (is_read_only (files_of objects.now))
         (entries (M.slots map.now)) range }
 {
+    // files are numbered from 0 on
+    let Some(_) = objects.mode(0) else {
+        return false;
+    };
     let mut page = range.first;
     'slots: while page < range.end {
         if is_read_only(objects, map.page(page)) {

@@ -7,7 +7,9 @@ cores-init c = record { bytes = sym (append-nil _); short = omega (arith, c.requ
 
 pub cores-preserved : goal.cores-preserved
 cores-preserved c = record {
-  bytes = pushed_more c.cores.index c.args.cores c.new.result (c.cores.index + 1) _ _ _ (omega arith) c.new.ensures c.cores.invariant.bytes c.push_member.ensures.bytes;
+  bytes =
+      pushed_more c.cores.index c.args.cores c.new.result (c.cores.index + 1) _ _ _ (omega arith) c.new.ensures
+      c.cores.invariant.bytes c.push_member.ensures.bytes;
   short = omega (arith, c.cores.invariant.short, c.push_member.ensures.short);
 }
 

@@ -3,7 +3,8 @@ use Rattle.trace_text.proofs.FrontLemmas.{now_some, now_none}
 use Rattle.trace_text.proofs.line.read_words.Goals as goal
 
 pub returns-in_err-request : goal.returns-in_err-request
-returns-in_err-request c = c.from_residual.ensures ∙ now_none c.args.bytes.now c.in-Some.begun.1.now c.in-Some.begun.0 c.in-Some.ensures c.in_err-request.ensures
+returns-in_err-request c =
+    c.from_residual.ensures ∙ now_none c.args.bytes.now c.in-Some.begun.1.now c.in-Some.begun.0 c.in-Some.ensures c.in_err-request.ensures
 
 pub returns-in-Some : goal.returns-in-Some
 returns-in-Some c =

@@ -26,5 +26,7 @@ loop-count-preserved c =
     record {
       within = omega (arith, c.loop-count-test.true);
       fits = value_grown c.loop-count.number c.args.base c.in-Some.d c.loop-count.count c.loop-count.invariant.fits c.requires low;
-      same = value_next c.args.base c.args.bytes.now c.loop-count.count c.loop-count.number c.in-Some.d (omega (arith, c.min-most.ensures, c.loop-count-test.true)) c.loop-count.invariant.same c.in-Some.ensures low;
+      same =
+          value_next c.args.base c.args.bytes.now c.loop-count.count c.loop-count.number c.in-Some.d
+          (omega (arith, c.min-most.ensures, c.loop-count-test.true)) c.loop-count.invariant.same c.in-Some.ensures low;
     }

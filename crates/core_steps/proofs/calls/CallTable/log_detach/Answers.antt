@@ -9,6 +9,7 @@ invariant_of-self g c =
       numbered = calls.numbered;
       few = calls.few;
       logged =
-          room_kept_either c.push_beyond.result (g.L.Ledger.entries calls.log) _ _ (g.L.Ledger.limit calls.log) _ calls.requests.limit refl calls.logged c.push_beyond.ensures.items
-          c.push_beyond.ensures.limit c.push_beyond.ensures.same_items c.push_beyond.ensures.same_limit;
+          room_kept_either c.push_beyond.result (g.L.Ledger.entries calls.log) _ _ (g.L.Ledger.limit calls.log) _
+          calls.requests.limit refl calls.logged c.push_beyond.ensures.items c.push_beyond.ensures.limit
+          c.push_beyond.ensures.same_items c.push_beyond.ensures.same_limit;
     }

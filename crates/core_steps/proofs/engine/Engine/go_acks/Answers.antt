@@ -30,4 +30,5 @@ reply-requires-clause-room g c = room_for _ c.args.core _ c.requires refl
 
 pub returns : goal.returns
 returns g c =
-    inl (c.in_default.ensures.none, (_, c.make_change.ensures.counted, (refl, rw (c.reply.ensures, c.range.ensures.value, c.reply_to.ensures, c.make_change.ensures.slots) refl)))
+    let made = c.make_change.ensures in
+    inl (c.in_default.ensures.none, (_, made.counted, (refl, rw (c.reply.ensures, c.range.ensures.value, c.reply_to.ensures, made.slots) refl)))

@@ -6,7 +6,8 @@ use Rattle.core_steps.specs.State.{world}
 use Rattle.core_steps.proofs.Framing.{copies, copy_framed}
 use Rattle.core_steps.proofs.Known.{sound_at}
 use Rattle.core_steps.proofs.engine.Engine.go_copy_acks.Goals as goal
-use Rattle.core_steps.proofs.engine.Engine.go_copy_acks.Goals.{in-Some-page+in-Some-frame+in_ok-make_copy, in_default-2, in_default-2-via-in-None-1, in_default-2-via-in-Some-page+in-None-1}
+use Rattle.core_steps.proofs.engine.Engine.go_copy_acks.Goals.{in-Some-page+in-Some-frame+in_ok-make_copy, in_default-2}
+use Rattle.core_steps.proofs.engine.Engine.go_copy_acks.Goals.{in_default-2-via-in-None-1, in_default-2-via-in-Some-page+in-None-1}
 
 pub page-requires : goal.page-requires
 page-requires g c =

@@ -6,7 +6,8 @@ use Rattle.machine_model.specs.Actions.{to}
 use Rattle.core_steps.proofs.Rows.{installed}
 use Rattle.core_steps.proofs.Known.{install_frame, install_mapped, install_right, one_slot, owns, page_is, sound_at, valid_page}
 use Rattle.core_steps.proofs.engine.Engine.go_install.Goals as goal
-use Rattle.core_steps.proofs.engine.Engine.go_install.Goals.{in-Some+in-Some-frame+in_ok-install, in_default, in_default-via-in-None-1, in_default-via-in-Some+in-None-1}
+use Rattle.core_steps.proofs.engine.Engine.go_install.Goals.{in-Some+in-Some-frame+in_ok-install, in_default}
+use Rattle.core_steps.proofs.engine.Engine.go_install.Goals.{in_default-via-in-None-1, in_default-via-in-Some+in-None-1}
 
 pub page-requires : goal.page-requires
 page-requires g c =

@@ -1,6 +1,6 @@
 use Rattle.std.proofs.Common.{◌+◌, ap}
 use Rattle.core_steps.proofs.Lists.{room_kept}
-use Rattle.core_steps.proofs.engine.Engine.reply.Goals as goal
+use Rattle.core_steps.proofs.engine.Engine.log_reply.Goals as goal
 
 pub invariant_of-self : goal.invariant_of-self
 invariant_of-self g c =

@@ -1,0 +1,87 @@
+//! The first events of an access, made at once: the core's phase isn't written between them.
+ghost use Rattle.std.specs.Prelude.{◌≡◌, ◌<◌, ℕ, length, IfSome, Ok};
+ghost use Rattle.slot_lock.specs.declared.plan.Plan.TheVariants as PlanOf;
+ghost use Rattle.vm_calls.specs.Checks.{touched};
+ghost use Rattle.machine_model.specs.Changes.{checked_by};
+ghost use Rattle.machine_model.specs.World.{Made};
+ghost use Rattle.machine_sound.specs.Sound.{IsReached};
+ghost use Rattle.core_steps.specs.AtOnce.{IsAccess, Starts, with_call};
+ghost use Rattle.core_steps.specs.State.{world};
+
+use crate::acquire::locking;
+use crate::engine::Engine;
+use crate::ledger::Ledger;
+use crate::starting::Started;
+use machine_model::Outcome;
+use mmu::{Hardware, Translated};
+use slot_lock::{Goal, SlotMap, Touch};
+use std::alloc::Allocator;
+use vm_base::{Access, CoreId, Request, is_valid, offset_of, page_of};
+
+/// The access of the byte at an address, if its page is a valid one.
+#[inline(always)]
+fn valid_touch(addr: u64, access: Access, byte: u8) -> Option<Touch>
+    ensures { IfSome result (λ touch. touched addr access byte ≡ Ok (PlanOf.Touch touch)) }
+{
+    let touch = Touch {
+        page: page_of(addr),
+        offset: offset_of(addr),
+        access,
+        byte,
+    };
+    if is_valid(touch.page) {
+        Some(touch)
+    } else {
+        None
+    }
+}
+
+/// The access that a request asks for, if it asks for one and the page is a valid one.
+#[inline(always)]
+pub fn access_of(request: Request) -> Option<Touch>
+    ensures { IfSome result (λ touch. (made : Made) (core : ℕ)
+        → checked_by made core request ≡ Ok (PlanOf.Touch touch)) }
+{
+    match request {
+        Request::Load { addr } => valid_touch(addr, Access::Load, 0),
+        Request::Store { addr, byte } => valid_touch(addr, Access::Store, byte),
+        Request::Fetch { addr } => valid_touch(addr, Access::Fetch, 0),
+        _ => None,
+    }
+}
+
+impl<M: SlotMap, H: Hardware, A: Allocator, L: Ledger> Engine<M, H, A, L> {
+    // The request is kept, and the core's call has its number.
+    fn number_call(&mut self, core: CoreId, request: Request)
+        requires here { core < length self.old.calls.phases.items }
+        requires room { length self.old.calls.requests.items.items < self.old.calls.requests.limit }
+        ensures { world M.slots self.new ≡ with_call core request (world M.slots self.old) }
+    {
+        let number = self.calls.requests.push(&request);
+        self.calls.numbers[core.index() as usize] = number;
+    }
+
+    /// The events of an access that can begin: it begins, its arguments are checked, its page is tried,
+    /// and where a frame is reached the reply is handed out. Then the core has no call, as before. A
+    /// fault leads to the lock of its page.
+    pub fn access_at_once(&mut self, core: CoreId, request: Request, touch: Touch) -> Started
+        requires { IsAccess (world M.slots self.old) core request touch }
+        ensures { Starts (world M.slots self.old) core request result (world M.slots self.new)
+            × ∥ IsReached (world M.slots self.new) ∥₁ }
+    {
+        self.number_call(core, request);
+        self.calls.events += 3;
+        match self.cores.translate(core, touch) {
+            Translated::Hit(frame) | Translated::Fill(frame) => {
+                let reply = self.touch_byte(touch, frame);
+                self.log_reply(core, reply);
+                self.calls.events += 1;
+                Started::Ended(Outcome::Answered(reply))
+            }
+            Translated::Fault => {
+                self.go_to(core, locking(Goal::Access(touch)));
+                Started::Begun { steps: 2 }
+            }
+        }
+    }
+}

@@ -1,0 +1,79 @@
+//! Slots that a call locks or unlocks one after another, made at once: so many plain steps.
+ghost use Rattle.std.specs.Prelude.{◌≡◌, ◌+◌, ◌≤◌};
+ghost use Rattle.machine_model.specs.declared.phase.Phase.{Phase};
+ghost use Rattle.machine_model.specs.Step.{StepsTo, event_limit};
+ghost use Rattle.machine_sound.specs.Sound.{IsReached};
+ghost use Rattle.core_steps.specs.State.{world};
+ghost use Rattle.core_steps.specs.Moving.{IsAt};
+
+use crate::acquire::locked_to;
+use crate::answer::{held_after, let_go};
+use crate::engine::Engine;
+use crate::ledger::Ledger;
+use machine_model::Phase;
+use mmu::Hardware;
+use slot_lock::{Goal, SlotMap};
+use std::alloc::Allocator;
+use vm_base::{CoreId, PageRange, Reply};
+
+impl<M: SlotMap, H: Hardware, A: Allocator, L: Ledger> Engine<M, H, A, L> {
+    // Slots of the goal, from the cursor on. A page alone is one slot, which a step locks as fast.
+    fn lock_slots(&mut self, core: CoreId, goal: Goal, cursor: u64, most: u64) -> u64
+        requires at { IsAt (world M.slots self.old) core (Phase.Lock goal cursor) }
+        requires room { self.old.calls.events + most ≤ event_limit }
+        ensures few { result ≤ most }
+        ensures steps { StepsTo (world M.slots self.old) core result (world M.slots self.new) }
+    {
+        let end = goal.range().end;
+        if end - cursor == 1 {
+            return 0;
+        }
+        let run = self.map.lock_run(core, cursor, end, most);
+        if run.slots == 0 {
+            return 0;
+        }
+        self.calls.events += run.slots;
+        self.go_to(core, locked_to(goal, run.upto));
+        run.slots
+    }
+
+    // Slots of what is held, from its first page on; a page alone by a step too.
+    fn unlock_slots(&mut self, core: CoreId, held: PageRange, reply: Reply, most: u64) -> u64
+        requires at { IsAt (world M.slots self.old) core (Phase.Unlock held reply) }
+        requires room { self.old.calls.events + most ≤ event_limit }
+        ensures few { result ≤ most }
+        ensures steps { StepsTo (world M.slots self.old) core result (world M.slots self.new) }
+    {
+        if held.end - held.first == 1 {
+            return 0;
+        }
+        let run = self.map.unlock_run(core, held.first, held.end, most);
+        if run.slots == 0 {
+            return 0;
+        }
+        self.calls.events += run.slots;
+        let left = held_after(held, run.upto);
+        self.go_to(core, let_go(left, reply));
+        run.slots
+    }
+
+    /// The events of the next steps of the core's call, as long as each of them locks or unlocks one
+    /// slot and the map finds these side by side, at most so many. It answers how many they were: none
+    /// where the call does something else next, or can't go on.
+    pub fn slots_at_once(&mut self, core: CoreId, most: u64) -> u64
+        requires { ∥ IsReached (world M.slots self.old) ∥₁ }
+        ensures few { result ≤ most }
+        ensures steps { StepsTo (world M.slots self.old) core result (world M.slots self.new) }
+        ensures reached { ∥ IsReached (world M.slots self.new) ∥₁ }
+    {
+        if !self.is_here(Some(core)) {
+            return 0;
+        }
+        let room = most.min(u64::MAX - self.calls.events);
+        match self.calls.phases[core.index() as usize] {
+            Phase::Lock { goal, cursor } => self.lock_slots(core, goal, cursor, room),
+            Phase::Unlock { held, reply } => self.unlock_slots(core, held, reply, room),
+            _ => 0,
+        }
+    }
+}
