@@ -32,7 +32,7 @@ use Rattle.machine_laws.specs.Orderly.{IsChosen, LeadsTo}
 use Rattle.machine_laws.proofs.Deciding.{acts_in, sound_range}
 use Rattle.machine_laws.proofs.Moves.{call_at, IsCallOf}
 use Rattle.core_steps.specs.Moving.{IsAt}
-use Rattle.core_steps.specs.Taking.{IsMappedFor}
+use Rattle.slot_lock.specs.Changes.{IsMappedFor}
 use Rattle.core_steps.proofs.Sounding.{sound_if}
 use Rattle.core_steps.proofs.Known.{order, goal_at, held_range}
 

@@ -4,13 +4,14 @@ ghost use Rattle.vm_base.specs.Info.{frame_of};
 ghost use Rattle.vm_base.specs.Pages.{IsPageRange};
 ghost use Rattle.refcache.specs.Parts.{counts_of};
 ghost use Rattle.slot_lock.specs.Plan.{IsSoundChange, range_of};
+ghost use Rattle.slot_lock.specs.Changes.{IsMappedFor};
 ghost use Rattle.slot_lock.specs.Slots.{IsHeld};
 ghost use Rattle.machine_model.specs.Changes.{slots_after, reply_to};
 ghost use Rattle.machine_model.specs.Counting.{CountsDown, frame_lost};
 ghost use Rattle.machine_model.specs.Step.{Goes};
 ghost use Rattle.core_steps.specs.State.{world};
 ghost use Rattle.core_steps.specs.Moving.{IsAt};
-ghost use Rattle.core_steps.specs.Taking.{AreCounted, AreUsed, CountsEach, IsMappedFor};
+ghost use Rattle.core_steps.specs.Taking.{AreCounted, AreUsed, CountsEach};
 
 use crate::engine::Engine;
 use crate::ledger::Ledger;

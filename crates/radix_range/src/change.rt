@@ -5,7 +5,7 @@ ghost use Rattle.vm_base.specs.Info.{info_without_frame};
 ghost use Rattle.slot_lock.specs.Plan.{IsSoundChange, range_of};
 ghost use Rattle.slot_lock.specs.Slots.{Divides, DividesAs, HasMeta, IsCut, IsSlot, Joins, between, with_owner, with_info};
 ghost use Rattle.slot_lock.specs.SlotRuns.{LocksRun, UnlocksRun};
-ghost use Rattle.slot_lock.specs.RunSlots.{changed};
+ghost use Rattle.slot_lock.specs.Changes.{changed};
 ghost use Rattle.radix_node.specs.Edit.{CanEdit};
 ghost use Rattle.radix_range.specs.Tree.{IsRadix, tree_slots};
 ghost use Rattle.radix_range.specs.Folds.{CanFold, FoldsNode};
