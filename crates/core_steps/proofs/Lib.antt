@@ -16,3 +16,4 @@ pub mod Limits
 pub mod AtOnce
 pub mod SlotRuns
 pub mod AccessAtOnce
+pub mod OnePage
