@@ -16,4 +16,5 @@ pub mod Limits
 pub mod AtOnce
 pub mod SlotRuns
 pub mod AccessAtOnce
+pub mod ChangeAtOnce
 pub mod OnePage

@@ -17,7 +17,8 @@ use std::alloc::Allocator;
 use vm_base::{CoreId, PageRange, Reply};
 
 impl<M: SlotMap, H: Hardware, A: Allocator, L: Ledger> Engine<M, H, A, L> {
-    // Slots of the goal, from the cursor on. A page alone is one slot, which a step locks as fast.
+    // Slots of the goal, from the cursor on. A page alone is one slot, which a step locks as fast, but
+    // for a change of one page, whose steps may go on at once.
     fn lock_slots(&mut self, core: CoreId, goal: Goal, cursor: u64, most: u64) -> u64
         requires at { IsAt (world M.slots self.old) core (Phase.Lock goal cursor) }
         requires room { self.old.calls.events + most ≤ event_limit }
@@ -26,7 +27,10 @@ impl<M: SlotMap, H: Hardware, A: Allocator, L: Ledger> Engine<M, H, A, L> {
     {
         let end = goal.range().end;
         if end - cursor == 1 {
-            return 0;
+            return match goal {
+                Goal::Change(change) => self.change_at_once(core, change, cursor, most),
+                Goal::Place { .. } | Goal::Access(_) => 0,
+            };
         }
         let run = self.map.lock_run(core, cursor, end, most);
         if run.slots == 0 {
