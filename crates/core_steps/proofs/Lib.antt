@@ -17,3 +17,4 @@ pub mod AtOnce
 pub mod SlotRuns
 pub mod AccessAtOnce
 pub mod OnePage
+pub mod FaultAtOnce
