@@ -197,6 +197,13 @@ taken_unused w c phase i f h = record {
   unqueued = ∥∥₁_elim i.fine (hlevel props) (λ g. (taken_is_unused w g c f (ap taken_in i.phase ∙ h)).unqueued);
 }
 
+pub free_unused : (w : World) (f : ℕ) → ∥ Fine w ∥₁ → w.memory.is_free f ≡ true → IsUnused w.memory.counts f
+free_unused w f t h = record {
+  zero = ∥∥₁_elim t (hlevel props) (λ g. (free_is_unused w g f h).zero);
+  entries = λ d lt. ∥∥₁_elim t (hlevel props) (λ g. (free_is_unused w g f h).entries d lt);
+  unqueued = ∥∥₁_elim t (hlevel props) (λ g. (free_is_unused w g f h).unqueued);
+}
+
 pub are_counted : (w : World) → ∥ Fine w ∥₁ → AreCounted w.slots.info w.memory.counts
 are_counted w t = record {
   page = λ p f h. ∥∥₁_elim t (hlevel props) (λ g. framed_page w g.order f p h);
@@ -453,7 +460,7 @@ right_allowed prot Fetch h = exec prot.read prot.write prot.exec h
     exec false false d e = e
 
 -- what shows its file's page may be read
-right_shown : (shown : Bool) (prot : Prot) → has_right prot ≡ true → has_right (prot_shown shown prot) ≡ true
+pub right_shown : (shown : Bool) (prot : Prot) → has_right prot ≡ true → has_right (prot_shown shown prot) ≡ true
 right_shown true prot h = refl
 right_shown false prot h = h
 

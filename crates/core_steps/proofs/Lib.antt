@@ -18,3 +18,4 @@ pub mod SlotRuns
 pub mod AccessAtOnce
 pub mod ChangeAtOnce
 pub mod OnePage
+pub mod FaultAtOnce

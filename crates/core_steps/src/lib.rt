@@ -20,6 +20,7 @@ mod decide;
 mod engine;
 mod events;
 mod fault;
+mod fault_at_once;
 mod file_pages;
 mod filling;
 mod give_up;
