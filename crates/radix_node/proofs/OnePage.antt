@@ -8,7 +8,7 @@ use Rattle.radix_node.specs.declared.node.Slot.{Slot}
 use Rattle.radix_node.specs.declared.node.Slot.TheVariants.{Own as OwnSlot, Child}
 use Rattle.radix_node.specs.declared.state.SlotState.{SlotState}
 use Rattle.radix_node.specs.State.{state_of}
-use Rattle.radix_node.specs.Run.{Run, Cell, cell_at, width_of, IsWhole}
+use Rattle.radix_node.specs.Run.{Run, cell_at, width_of, IsWhole}
 use Rattle.radix_node.specs.Node.{Parts, runs, flatten}
 use Rattle.radix_node.specs.Slots.{parts_of, IsNode}
 use Rattle.radix_node.specs.Edit.{CanEdit, edited, edited_cell}

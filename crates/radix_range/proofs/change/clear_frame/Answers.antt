@@ -1,7 +1,6 @@
-use Rattle.std.proofs.Common.{◌∙◌, refl, Some}
+use Rattle.std.proofs.Common.{◌∙◌, refl}
 use Rattle.vm_base.specs.Info.{info_without_frame}
-use Rattle.radix_node.specs.declared.edit.Edit.TheVariants.{Put, DropFrame}
-use Rattle.slot_lock.specs.RunLaws.{info_from_zero}
+use Rattle.radix_node.specs.declared.edit.Edit.TheVariants.{DropFrame}
 use Rattle.radix_range.specs.Tree.{tree_slots}
 use Rattle.radix_range.proofs.Edits.{edited_one}
 use Rattle.radix_range.proofs.change.clear_frame.Goals as goal

@@ -1,7 +1,7 @@
-use Rattle.std.proofs.Common.{◌+◌, arith}
+use Rattle.std.proofs.Common.{◌+◌}
 use Rattle.slot_lock.specs.Slots.{between}
 use Rattle.radix_node.specs.Node.{runs}
-use Rattle.radix_range.proofs.Edits.{begins_at, edited_page, edited_radix, edited_slots}
+use Rattle.radix_range.proofs.Edits.{begins_at, edited_page, edited_slots}
 use Rattle.radix_range.proofs.change.edit_one.Goals as goal
 
 pub returns-clause-slots : goal.returns-clause-slots

@@ -1,5 +1,5 @@
-use Rattle.std.proofs.Common.{◌≡◌, ◌+◌, ◌*◌, ◌<◌, refl, sym, ap, ◌∙◌, rules, arith}
-use Rattle.radix_node.specs.Run.{width_of, cell_at}
+use Rattle.std.proofs.Common.{◌≡◌, ◌+◌, refl, sym, ap, ◌∙◌, rules}
+use Rattle.radix_node.specs.Run.{cell_at}
 use Rattle.radix_node.specs.Node.{Parts, runs}
 use Rattle.radix_node.proofs.Flat.{IsPlace, whole-node, child_level, child_pages}
 use Rattle.radix_node.proofs.Edits.{Narrow}
