@@ -5,7 +5,8 @@ use Rattle.std.specs.Prelude.{◌≡◌, ℕ, ◌<◌, ◌⊎◌, Bool, true, fa
 use Rattle.vm_base.specs.Pages.{IsPage}
 use Rattle.slot_lock.specs.declared.plan.Goal.{Goal}
 use Rattle.slot_lock.specs.declared.plan.Goal.TheVariants as To
-use Rattle.slot_lock.specs.Plan.{goal_range}
+use Rattle.slot_lock.specs.declared.plan.Touch.{Touch}
+use Rattle.slot_lock.specs.Plan.{IsSoundTouch, goal_range}
 use Rattle.slot_lock.specs.Slots.{Slots, Crosses, IsCrossed}
 use Rattle.vm_calls.specs.Settling.{is_private_store}
 use Rattle.machine_model.specs.declared.event.Event.{Event}
@@ -16,7 +17,9 @@ use Rattle.machine_model.specs.declared.phase.Phase.{Phase}
 use Rattle.machine_model.specs.declared.phase.Phase.TheVariants.{Lock, Find, Cut, Decide, Post, Acks, Settle, Want, Fill, CopyPost, CopyAcks, Install, Release}
 use Rattle.machine_model.specs.Changes.{AwaitsNobody, Awaits}
 use Rattle.machine_model.specs.Files.{back_of}
+use Rattle.machine_model.specs.Translating.{frame_reached, translated_by}
 use Rattle.machine_model.specs.World.{World, Hardware}
+use Rattle.machine_laws.specs.Orderly.{answer_count}
 use Rattle.machine_sound.specs.Invariant.{Fine}
 
 -- ---- want of memory
@@ -105,3 +108,14 @@ pub record IsAt (w : World) (core : ℕ) (at : Phase) : Type 0 where
   pub here : core < w.made.cores
   pub phase : w.calls.phase core ≡ at
   pub fine : ∥ Fine w ∥₁
+
+-- ---- an access
+
+-- the access can be tried: its page is a valid one, there is room for its reply, and it finds no
+-- frame but the machine's
+pub record CanTry (w : World) (core : ℕ) (touch : Touch) : Type 0 where
+  pub here : core < w.made.cores
+  pub sound : IsSoundTouch touch
+  pub room : answer_count w.calls.log < w.made.calls
+  pub frame : (f : ℕ) → frame_reached (translated_by w.hardware core touch) ≡ Some f
+      → f < w.made.frames

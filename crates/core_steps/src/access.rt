@@ -1,11 +1,11 @@
 //! The access of a byte.
 ghost use Rattle.std.specs.Prelude.{◌≡◌, ◌<◌, length};
 ghost use Rattle.vm_base.specs.Apply.{byte_reply};
-ghost use Rattle.machine_model.specs.Accesses.{after_access, memory_after, reply_of};
+ghost use Rattle.machine_model.specs.Accesses.{after_access, after_try, memory_after, reply_of};
 ghost use Rattle.machine_model.specs.Step.{Goes};
 ghost use Rattle.machine_laws.specs.Orderly.{answer_count};
 ghost use Rattle.core_steps.specs.State.{world};
-ghost use Rattle.core_steps.specs.Moving.{IsAt};
+ghost use Rattle.core_steps.specs.Moving.{CanTry, IsAt};
 
 use crate::acquire::locking;
 use crate::engine::Engine;
@@ -58,14 +58,22 @@ impl<M: SlotMap, H: Hardware, A: Allocator, L: Ledger> Engine<M, H, A, L> {
 
     /// The page is translated: the byte is read or written, or there is a fault (Intel
     /// SDM volume 3A, page-fault exceptions).
-    pub fn go_try(&mut self, core: CoreId, touch: Touch) -> Outcome
-        requires { IsAt (world M.slots self.old) core (Phase.Try touch) }
-        ensures { Goes (world M.slots self.old) core (Phase.Try touch) result (world M.slots self.new) }
+    pub fn try_touch(&mut self, core: CoreId, touch: Touch)
+        requires { CanTry (world M.slots self.old) core touch }
+        ensures { world M.slots self.new ≡ after_try core touch (world M.slots self.old) }
     {
         match self.cores.translate(core, touch) {
             Translated::Hit(frame) | Translated::Fill(frame) => self.access(core, touch, frame),
             Translated::Fault => self.go_to(core, locking(Goal::Access(touch))),
         }
+    }
+
+    /// The access is tried.
+    pub fn go_try(&mut self, core: CoreId, touch: Touch) -> Outcome
+        requires { IsAt (world M.slots self.old) core (Phase.Try touch) }
+        ensures { Goes (world M.slots self.old) core (Phase.Try touch) result (world M.slots self.new) }
+    {
+        self.try_touch(core, touch);
         Outcome::Stepped
     }
 }

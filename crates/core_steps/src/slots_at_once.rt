@@ -1,4 +1,5 @@
-//! Slots that a call locks or unlocks one after another, made at once: so many plain steps.
+//! Steps of a call that are made at once: so many plain ones. Slots that it locks or unlocks one after
+//! another, and what a fault, or a change of one page, does at its page.
 ghost use Rattle.std.specs.Prelude.{◌≡◌, ◌+◌, ◌≤◌};
 ghost use Rattle.machine_model.specs.declared.phase.Phase.{Phase};
 ghost use Rattle.machine_model.specs.Step.{StepsTo, event_limit};
@@ -17,7 +18,8 @@ use std::alloc::Allocator;
 use vm_base::{CoreId, PageRange, Reply};
 
 impl<M: SlotMap, H: Hardware, A: Allocator, L: Ledger> Engine<M, H, A, L> {
-    // Slots of the goal, from the cursor on. A page alone is one slot, which a step locks as fast.
+    // Slots of the goal, from the cursor on. A page alone is one slot, which a step locks as fast, but
+    // for a change of one page, whose steps may go on at once.
     fn lock_slots(&mut self, core: CoreId, goal: Goal, cursor: u64, most: u64) -> u64
         requires at { IsAt (world M.slots self.old) core (Phase.Lock goal cursor) }
         requires room { self.old.calls.events + most ≤ event_limit }
@@ -26,7 +28,10 @@ impl<M: SlotMap, H: Hardware, A: Allocator, L: Ledger> Engine<M, H, A, L> {
     {
         let end = goal.range().end;
         if end - cursor == 1 {
-            return 0;
+            return match goal {
+                Goal::Change(change) => self.change_at_once(core, change, cursor, most),
+                Goal::Place { .. } | Goal::Access(_) => 0,
+            };
         }
         let run = self.map.lock_run(core, cursor, end, most);
         if run.slots == 0 {
@@ -57,10 +62,26 @@ impl<M: SlotMap, H: Hardware, A: Allocator, L: Ledger> Engine<M, H, A, L> {
         run.slots
     }
 
-    /// The events of the next steps of the core's call, as long as each of them locks or unlocks one
-    /// slot and the map finds these side by side, at most so many. It answers how many they were: none
-    /// where the call does something else next, or can't go on.
-    pub fn slots_at_once(&mut self, core: CoreId, most: u64) -> u64
+    // Steps from the lock of the goal's pages on: of an access, and of a change of one page, those at the
+    // page too.
+    fn lock_at_once(&mut self, core: CoreId, goal: Goal, cursor: u64, most: u64) -> u64
+        requires at { IsAt (world M.slots self.old) core (Phase.Lock goal cursor) }
+        requires reached { ∥ IsReached (world M.slots self.old) ∥₁ }
+        requires room { self.old.calls.events + most ≤ event_limit }
+        ensures few { result ≤ most }
+        ensures steps { StepsTo (world M.slots self.old) core result (world M.slots self.new) }
+    {
+        match goal {
+            Goal::Access(touch) => self.fault_at_once(core, touch, most),
+            _ => self.lock_slots(core, goal, cursor, most),
+        }
+    }
+
+    /// The events of the next steps of the core's call that can be made at once, at most so many: those
+    /// that lock or unlock slots which the map finds side by side, and those of a fault, or of a change
+    /// of one page, at a page that nobody holds. It answers how many they were: none where the call does
+    /// something else next, or can't go on.
+    pub fn steps_at_once(&mut self, core: CoreId, most: u64) -> u64
         requires { ∥ IsReached (world M.slots self.old) ∥₁ }
         ensures few { result ≤ most }
         ensures steps { StepsTo (world M.slots self.old) core result (world M.slots self.new) }
@@ -71,7 +92,7 @@ impl<M: SlotMap, H: Hardware, A: Allocator, L: Ledger> Engine<M, H, A, L> {
         }
         let room = most.min(u64::MAX - self.calls.events);
         match self.calls.phases[core.index() as usize] {
-            Phase::Lock { goal, cursor } => self.lock_slots(core, goal, cursor, room),
+            Phase::Lock { goal, cursor } => self.lock_at_once(core, goal, cursor, room),
             Phase::Unlock { held, reply } => self.unlock_slots(core, held, reply, room),
             _ => 0,
         }

@@ -6,7 +6,8 @@ ghost use Rattle.vm_base.specs.Info.{info_with_prot, info_from, info_file_page, 
 ghost use Rattle.slot_lock.specs.Plan.{IsSoundChange, range_of};
 ghost use Rattle.slot_lock.specs.Runs.{IsRuns, IsAt, IsInner, IsInside, IsJoint, get_run, cut_runs};
 ghost use Rattle.slot_lock.specs.Slots.{Divides, DividesAs, HasMeta, IsCut, CanJoin, Folds, with_owner, with_info};
-ghost use Rattle.slot_lock.specs.RunSlots.{slots_of, changed, two_parts};
+ghost use Rattle.slot_lock.specs.Changes.{changed};
+ghost use Rattle.slot_lock.specs.RunSlots.{slots_of, two_parts};
 
 use crate::plan::Change;
 use std::alloc::Allocator;
