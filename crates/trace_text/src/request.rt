@@ -181,6 +181,7 @@ fn read_store(args: &[u8]) -> Option<Request>
     Some(Request::Store { addr, byte })
 }
 
+#[inline(always)]
 #[tactic(auto, unfolding(crate::specs::Request::fetch_of))]
 fn read_fetch(args: &[u8]) -> Option<Request>
     ensures { result ≡ fetch_of (words_of args.now) }
@@ -296,6 +297,7 @@ fn read_any(words: &[u8]) -> Option<Request>
 /// The request that the words say, its name first; `None` where they say none. Addresses, lengths and
 /// offsets are in bytes. Nothing but the form is tested: what a request asks for may still be refused.
 /// Most are known by the bytes that they begin with, and their names aren't looked for.
+#[inline(always)]
 pub fn read_request(words: &[u8]) -> Option<Request>
     ensures { result ≡ request_of (words_of words.now) }
 {
