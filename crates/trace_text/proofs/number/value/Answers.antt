@@ -1,6 +1,6 @@
 use Rattle.std.proofs.Common.{arith, ◌∙◌}
 use Rattle.trace_text.proofs.NumberLemmas.{value_past, value_end}
-use Rattle.trace_text.proofs.number.long_value.Goals as goal
+use Rattle.trace_text.proofs.number.value.Goals as goal
 
 pub returns-in_err-checked_mul : goal.returns-in_err-checked_mul
 returns-in_err-checked_mul c =

@@ -1,6 +1,6 @@
 use Rattle.std.proofs.Common.{◌≡◌, ◌<◌, ◌^◌, drop}
 use Rattle.trace_text.specs.Number.{value_from}
-use Rattle.trace_text.proofs.number.long_value.Given as goal
+use Rattle.trace_text.proofs.number.value.Given as goal
 
 -- the rest of the digits goes behind n
 abbrev pub invariant-loop-c : goal.invariant-loop-c
