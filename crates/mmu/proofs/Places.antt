@@ -1,17 +1,18 @@
 -- The translations that stand at places: what a place that is dropped leaves, and which places are held no more
-use Rattle.std.proofs.Common.{◌≡◌, ◌≢◌, ℕ, ◌+◌, ◌<◌, ◌≤◌, ◌==◌, ◌&&◌, Bool, true, false, List, [], ◌∷◌, ◌++◌, length, take, drop, map, None, Some, nat_lt, refl, sym, ◌∙◌, ap, subst, arith, zero, suc}
+use Rattle.std.proofs.Common.{◌≡◌, ◌≢◌, ℕ, ◌+◌, ◌<◌, ◌≤◌, ◌==◌, ◌&&◌, Bool, true, false, cond, List, [], ◌∷◌, ◌++◌, length, take, drop, map, filter, Option, None, Some, nat_lt, refl, sym, ◌∙◌, ap, subst, arith, zero, suc}
 use Rattle.std.proofs.lemmas.List.{take_more, take_more_set, take_all, drop_all, take-append-le, length-append, append-nil, get_or_default, set-get_or}
 use Rattle.std.proofs.lemmas.List.Edits.{map_over_more}
 use Rattle.std.proofs.lemmas.List.Elements.{filter_map-append}
 use Rattle.std.proofs.lemmas.Bool.Decides.{nat_tests}
 use Rattle.std.proofs.Math.ListN.{set, length-set}
 use Rattle.std.proofs.Math.Seq.{map-set_same}
-use Rattle.std.specs.List.{refill}
+use Rattle.std.specs.List.{refill, cons_option}
 use Rattle.std.specs.Prelude.{if◌then◌else◌}
+use Rattle.mmu.specs.declared.tlb.TlbEntry.{TlbEntry}
 use Rattle.mmu.specs.declared.tlb.Filled.{Filled}
 use Rattle.mmu.specs.Tlb.{tlb_at, tlb_without, is_page, are_distinct}
 use Rattle.mmu.specs.Fills.{held_entry, entries_of, filled_at, has_page, dropped, filled_page, filled_older, AreChained}
-use Rattle.mmu.proofs.Distinct.{absent_before, found_between, dropped_between}
+use Rattle.mmu.proofs.Distinct.{found_between, dropped_between}
 
 both : (a b : Bool) → (a && b) ≡ true → (a ≡ true) × (b ≡ true)
 both true true e = (refl, refl)
@@ -58,20 +59,6 @@ one_less fs i y l h =
     let was : length (entries_of fs) ≡ length before + length (e ∷ behind) = ap length (parted fs i l h) ∙ length-append before (e ∷ behind) in
     omega arith
 
--- so before it fewer are held than in all, and none of them is of its page
-pub fewer_before : (fs : List Filled) (i : ℕ) → i < length fs → (filled_at fs i).is_held ≡ true
-    → length (entries_of (take i fs)) < length (entries_of fs)
-fewer_before fs i l h =
-    let behind = (filled_at fs i).entry ∷ entries_of (drop (suc i) fs) in
-    let was : length (entries_of fs) ≡ length (entries_of (take i fs)) + length behind =
-    ap length (parted fs i l h) ∙ length-append (entries_of (take i fs)) behind in
-    omega arith
-
-pub absent_yet : (fs : List Filled) (i : ℕ) → are_distinct (entries_of fs) ≡ true → i < length fs → (filled_at fs i).is_held ≡ true
-    → tlb_at (entries_of (take i fs)) (filled_at fs i).entry.page ≡ None
-absent_yet fs i d l h =
-    absent_before (entries_of (take i fs)) (entries_of (drop (suc i) fs)) (filled_at fs i).entry (ap are_distinct (sym (parted fs i l h)) ∙ d)
-
 -- all but the page that stood there
 pub page_left : (fs : List Filled) (i : ℕ) (y : Filled) → are_distinct (entries_of fs) ≡ true → i < length fs → (filled_at fs i).is_held ≡ true
     → entries_of (set fs i (dropped y)) ≡ tlb_without (is_page (filled_at fs i).entry.page) (entries_of fs)
@@ -95,11 +82,7 @@ pushed fs new f e is = ap entries_of is ∙ filter_map-append held_entry fs (f �
     alone : f.is_held ≡ true → entries_of (f ∷ []) ≡ f.entry ∷ []
     alone e = rw e refl
 
--- a place more, which is held or isn't
-pub taken_in : (fs : List Filled) (i : ℕ) → i < length fs → (filled_at fs i).is_held ≡ true
-    → entries_of (take (i + 1) fs) ≡ entries_of (take i fs) ++ (filled_at fs i).entry ∷ []
-taken_in fs i l h = pushed (take i fs) (take (i + 1) fs) (filled_at fs i) h (take_more fs i (filled_at [] 0) l)
-
+-- a place more, which isn't held
 pub passed_over : (fs : List Filled) (i : ℕ) → i < length fs → (filled_at fs i).is_held ≡ false
     → entries_of (take (i + 1) fs) ≡ entries_of (take i fs)
 passed_over fs i l h =
@@ -197,19 +180,16 @@ some_left fs i none some = go (nat_lt i (length fs)) refl
 
 -- ---- a place that is written as dropped
 
--- as the places read after the write
+-- places that were lent, as they were given back
+given_back : (fs new : List Filled) → length new ≡ length fs → refill (length fs) fs new ≡ new
+given_back fs new same =
+    take-append-le (length fs) new (drop (length new) fs) (omega (arith, same)) ∙ take_all (length fs) new (omega (arith, same))
+
 pub written : (fs read : List Filled) (i : ℕ) → read ≡ fs
     → refill (length fs) fs (set read i (dropped (filled_at read i))) ≡ set fs i (dropped (filled_at fs i))
-written fs read i e = ap (λ xs. refill (length fs) fs (set xs i (dropped (filled_at xs i)))) e ∙ all
-  where
-    ws : List Filled
-    ws = set fs i (dropped (filled_at fs i))
-
-    same : length ws ≡ length fs
-    same = length-set fs i (dropped (filled_at fs i))
-
-    all : refill (length fs) fs ws ≡ ws
-    all = take-append-le (length fs) ws (drop (length ws) fs) (omega (arith, same)) ∙ take_all (length fs) ws (omega (arith, same))
+written fs read i e =
+    ap (λ xs. refill (length fs) fs (set xs i (dropped (filled_at xs i)))) e
+    ∙ given_back fs (set fs i (dropped (filled_at fs i))) (length-set fs i (dropped (filled_at fs i)))
 
 -- the chains are as they were
 pub still_chained : (newest : List ℕ) (fs : List Filled) (i : ℕ) → AreChained newest (map filled_page fs) (map filled_older fs)
@@ -272,3 +252,53 @@ walk_done s fs now n past is =
     ap entries_of (is ∙ ap (λ xs. map (drop_if s) xs ++ drop n fs) (take_all n fs past)
     ∙ ap (λ xs. map (drop_if s) fs ++ xs) (drop_all n fs past) ∙ append-nil (map (drop_if s) fs))
     ∙ walked_over s fs
+
+-- ---- places without gaps
+
+same_without_gaps : (fs : List Filled) → entries_of (filter (λ (f : Filled). f.is_held) fs) ≡ entries_of fs
+same_without_gaps [] = refl
+same_without_gaps (x ∷ xs) = go x.is_held refl (same_without_gaps xs)
+  where
+    go : (b : Bool) → x.is_held ≡ b → entries_of (filter (λ (f : Filled). f.is_held) xs) ≡ entries_of xs
+        → entries_of (filter (λ (f : Filled). f.is_held) (x ∷ xs)) ≡ entries_of (x ∷ xs)
+    go true e rest =
+        ap (λ b. entries_of (cond b (x ∷ filter (λ (f : Filled). f.is_held) xs) (filter (λ (f : Filled). f.is_held) xs))) e
+        ∙ ap (cons_option (held_entry x)) rest
+    go false e rest =
+        ap (λ b. entries_of (cond b (x ∷ filter (λ (f : Filled). f.is_held) xs) (filter (λ (f : Filled). f.is_held) xs))) e
+        ∙ rest ∙ sym (ap (λ b. cons_option (if b then Some x.entry else None) (entries_of xs)) e)
+
+length_without_gaps : (fs : List Filled) → length (filter (λ (f : Filled). f.is_held) fs) ≡ length (entries_of fs)
+length_without_gaps [] = refl
+length_without_gaps (x ∷ xs) = go x.is_held refl (length_without_gaps xs)
+  where
+    go : (b : Bool) → x.is_held ≡ b → length (filter (λ (f : Filled). f.is_held) xs) ≡ length (entries_of xs)
+        → length (filter (λ (f : Filled). f.is_held) (x ∷ xs)) ≡ length (entries_of (x ∷ xs))
+    go true e rest = rw e (ap suc rest)
+    go false e rest = rw e rest
+
+-- the places after the others were let go and these were lent out and given back
+pub record Moved (fs kept new : List Filled) : Type 0 where
+  pub all : refill (length kept) kept new ≡ new
+  pub same : entries_of new ≡ entries_of fs
+  pub short : length new ≡ length (entries_of fs)
+
+pub moved : (fs kept lent new : List Filled) → kept ≡ filter (λ (f : Filled). f.is_held) fs → lent ≡ kept → length new ≡ length lent
+    → entries_of new ≡ entries_of lent → Moved fs kept new
+moved fs kept lent new is read long e = record {
+  all = given_back kept new (long ∙ ap length read);
+  same = e ∙ ap entries_of (read ∙ is) ∙ same_without_gaps fs;
+  short = long ∙ ap length (read ∙ is) ∙ length_without_gaps fs;
+}
+
+-- a place that is led on from holds what it held
+pub led_on : (fs : List Filled) (i link : ℕ)
+    → entries_of (set fs i (record { entry = (filled_at fs i).entry; is_held = (filled_at fs i).is_held; older = link })) ≡ entries_of fs
+led_on [] i link = refl
+led_on (x ∷ xs) zero link = refl
+led_on (x ∷ xs) (suc i) link = go (held_entry x) (led_on xs i link)
+  where
+    go : (o : Option TlbEntry) → entries_of (set xs i (record { entry = (filled_at xs i).entry; is_held = (filled_at xs i).is_held; older = link })) ≡ entries_of xs
+        → cons_option o (entries_of (set xs i (record { entry = (filled_at xs i).entry; is_held = (filled_at xs i).is_held; older = link })))
+        ≡ cons_option o (entries_of xs)
+    go o rest = ap (cons_option o) rest

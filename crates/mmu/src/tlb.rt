@@ -121,7 +121,7 @@ impl Tlb {
             self.drop_oldest();
         }
         if self.fills.is_full() {
-            *self = self.moved_up();
+            self.move_up();
         }
     }
 
@@ -135,33 +135,31 @@ impl Tlb {
         self.first = oldest + 1;
     }
 
-    /// The place of the oldest filled that is held.
+    /// The place of the oldest filled that is held, or the number of places where none is.
     fn oldest(&self) -> usize
-        requires { 0 < length (entries_of self.now.fills.items) }
-        ensures within { result < length self.now.fills.items }
-        ensures bounded { result < 128 }
-        ensures held { (filled_at self.now.fills.items result).is_held ≡ true }
+        ensures within { result ≤ length self.now.fills.items }
+        ensures bounded { result ≤ 128 }
+        ensures held { result < length self.now.fills.items
+            → (filled_at self.now.fills.items result).is_held ≡ true }
         ensures gone { entries_of (take result self.now.fills.items) ≡ [] }
     {
-        let mut place = self.first;
-        'gone: while !self.fills[place].is_held {
-            place += 1;
-        }
-        place
-    }
-
-    /// The same translations without a gap between their places.
-    fn moved_up(&self) -> Tlb
-        ensures entries { entries_of result.fills.items ≡ entries_of self.now.fills.items }
-        ensures short { length result.fills.items ≡ length (entries_of self.now.fills.items) }
-    {
-        let mut tlb = Tlb::new();
-        'fills: for filled in self.fills.iter() {
-            if filled.is_held {
-                tlb.push(filled.entry.page, filled.entry.translation);
+        let end = self.fills.len();
+        'gone: for place in self.first..end {
+            if self.fills[place].is_held {
+                return place;
             }
         }
-        tlb
+        end
+    }
+
+    /// Moves the held translations to the front.
+    fn move_up(&mut self)
+        ensures entries { entries_of self.new.fills.items ≡ entries_of self.old.fills.items }
+        ensures short { length self.new.fills.items ≡ length (entries_of self.old.fills.items) }
+    {
+        self.fills.retain(|filled| filled.is_held);
+        self.newest = chain(&mut self.fills);
+        self.first = 0;
     }
 
     /// Takes in the translation of a page that has none, behind the others.
@@ -205,7 +203,8 @@ impl Tlb {
         }
     }
 
-    /// Drops the translations of the pages of the range, which are looked for at each place.
+    /// Drops the translations of the pages of the range, which are looked for at each place. The next
+    /// walk begins where the first is held.
     fn drop_within(&mut self, range: PageRange)
         ensures { entries_of self.new.fills.items
             ≡ tlb_without (has range) (entries_of self.old.fills.items) }
@@ -216,6 +215,7 @@ impl Tlb {
                 self.let_go(place);
             }
         }
+        self.first = self.oldest();
     }
 
     /// Drops the translation of the page.
@@ -248,4 +248,20 @@ fn hash(page: u64) -> usize
     ensures below { result < 256 }
 {
     ((page ^ (page >> 8) ^ (page >> 16) ^ (page >> 24)) % 256) as usize
+}
+
+/// Leads from each place to the next older one of its hash; where those begin, by hash.
+fn chain(fills: &mut [Filled]) -> [u8; 256]
+    requires { length fills.old ≤ 128 }
+    ensures entries { entries_of fills.new ≡ entries_of fills.old }
+    ensures chained { AreChained result (map filled_page fills.new) (map filled_older fills.new) }
+    ensures len { length fills.new ≡ length fills.old }
+{
+    let mut newest = [0; 256];
+    'places: for place in 0..fills.len() {
+        let hash = hash(fills[place].entry.page);
+        fills[place].older = newest[hash];
+        newest[hash] = (place + 1) as u8;
+    }
+    newest
 }
