@@ -9,3 +9,4 @@ pub mod Walks
 pub mod Listing
 pub mod Edits
 mod Written
+mod Pages
