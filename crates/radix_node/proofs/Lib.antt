@@ -9,3 +9,5 @@ pub mod Walks
 pub mod Listing
 pub mod Edits
 pub mod OnePage
+mod Written
+mod Pages

@@ -21,6 +21,31 @@ pub enum Edit {
 }
 
 impl<A: Allocator> Node<A> {
+    // Changes pages as `edit` does, in a node whose slots have one page each.
+    fn edit_pages(&mut self, first: usize, end: usize, edit: &Edit, by: u64)
+        requires level { self.old.level ≡ 0 }
+        requires some { first < end }
+        requires within { end ≤ 512 }
+        requires few { by + (end - first) ≤ 2 ^ 36 }
+        requires sound { CanEdit edit.now (by + (end - first)) }
+        ensures level { self.new.level ≡ self.old.level }
+        ensures whole { IsWhole self.new.level (512 * width_of self.new.level) (runs self.new) }
+        ensures inside { (p : ℕ) → first ≤ p → p < end
+            → cell_at (runs self.new) p ≡ edited_cell edit.now (by + (p - first))
+            (cell_at (runs self.old) p) }
+        ensures outside { (p : ℕ) → (p < first) ⊎ (end ≤ p)
+            → cell_at (runs self.new) p ≡ cell_at (runs self.old) p }
+    {
+        let edit = *edit;
+        let slots = self.slots.as_mut_slice();
+        'pages: for k in first..end {
+            match &mut slots[k] {
+                Slot::Own(state) => state.edit(&edit, by + (k - first) as u64),
+                Slot::Child(_) => unreachable!(),
+            }
+        }
+    }
+
     /// Changes the node's pages from `first` up to `end`, whose edges no slot crosses, as those of
     /// a range that begins `by` pages before them.
     pub fn edit(&mut self, first: u64, end: u64, edit: &Edit, by: u64)
@@ -38,6 +63,9 @@ impl<A: Allocator> Node<A> {
         ensures outside { (p : ℕ) → (p < first) ⊎ (end ≤ p)
             → cell_at (runs self.new) p ≡ cell_at (runs self.old) p }
     {
+        if self.level == 0 {
+            return self.edit_pages(first as usize, end as usize, edit, by);
+        }
         let width = slot_pages(self.level);
         let place = place_of(self.level, first);
         if end - first <= width - place.rest {
