@@ -1,5 +1,5 @@
 -- A fault whose page is a slot of its own that nobody holds, made at once: the states that it passes, and the one that is left
-use Rattle.std.proofs.Common.{◌≡◌, ℕ, suc, ◌+◌, ◌<◌, ◌≤◌, ◌&&◌, ◌||◌, Bool, true, false, [], ◌∷◌, ◌++◌, Option, Some, None, refl, sym, subst, ap, ◌∙◌, arith, inr}
+use Rattle.std.proofs.Common.{◌≡◌, ℕ, suc, ◌+◌, ◌<◌, ◌≤◌, ◌&&◌, ◌||◌, Bool, true, false, [], ◌∷◌, ◌++◌, Option, Some, None, refl, sym, subst, ap, ◌∙◌, arith, inl, inr, add-one, ◌⊎◌}
 use Rattle.std.specs.Prelude.{if◌then◌else◌}
 use Rattle.std.proofs.Math.Logic.{∥∥₁_elim}
 use Rattle.std.proofs.Props.{props}
@@ -19,7 +19,10 @@ use Rattle.vm_base.proofs.Functions.{put_same}
 use Rattle.slot_lock.specs.declared.plan.Goal.TheVariants as To
 use Rattle.slot_lock.specs.declared.plan.Plan.TheVariants as PlanOf
 use Rattle.slot_lock.specs.declared.plan.Touch.{Touch}
+use Rattle.slot_lock.specs.Plan.{IsSoundGoal}
 use Rattle.slot_lock.specs.Slots.{IsFreeSlot, with_info}
+use Rattle.mmu.specs.declared.translated.Translated.{Translated}
+use Rattle.mmu.specs.declared.translated.Translated.TheVariants as By
 use Rattle.mmu.specs.Entry.{has_right}
 use Rattle.refcache.specs.Counts.{Counts}
 use Rattle.refcache.specs.Steps.{Takes, Begin, Inc}
@@ -31,9 +34,9 @@ use Rattle.machine_model.specs.declared.event.Outcome.TheVariants.{Stepped}
 use Rattle.machine_model.specs.declared.log.Entry.TheVariants as EntryOf
 use Rattle.machine_model.specs.declared.phase.Phase.{Phase}
 use Rattle.machine_model.specs.declared.phase.Phase.TheVariants.{Answer, Fill, Install, Lock, Release, Settle, Try, Unlock, Want}
-use Rattle.machine_model.specs.World.{Memory, World}
+use Rattle.machine_model.specs.World.{Hardware, Memory, World}
 use Rattle.machine_model.specs.Accesses.{IsLeastFree, after_finding, after_translation, after_try, found_at, info_with_core, is_past_end, memory_after, reply_of}
-use Rattle.machine_model.specs.Actions.{to}
+use Rattle.machine_model.specs.Actions.{after_reply, answer_entry, to, with_entry}
 use Rattle.machine_model.specs.Files.{back_of, file_frame, is_private, prot_installed, shows_some}
 use Rattle.machine_model.specs.Filling.{FillsBacked, FillsFrame, FillsFromFile}
 use Rattle.machine_model.specs.Holding.{page_of_touch}
@@ -44,16 +47,19 @@ use Rattle.machine_laws.specs.Orderly.{answer_count}
 use Rattle.machine_laws.proofs.Moves.{call_at}
 use Rattle.machine_sound.specs.Invariant.{Fine}
 use Rattle.machine_sound.specs.Sound.{IsReached}
+use Rattle.core_steps.specs.declared.fault_at_once.FaultEnd.{FaultEnd}
+use Rattle.core_steps.specs.declared.fault_at_once.FaultEnd.TheVariants as End
 use Rattle.core_steps.specs.declared.fault_at_once.Source.{Source}
 use Rattle.core_steps.specs.declared.fault_at_once.Source.TheVariants.{Own, Cached, Free}
-use Rattle.core_steps.specs.Moving.{CanTry, IsAt}
-use Rattle.core_steps.specs.OnePage.{CanTake, IsFailure, IsFault, IsSource, TakesFrom, frame_from, steps_from, trying, with_translation}
+use Rattle.core_steps.specs.Moving.{CanTry, IsAt, tried_to}
+use Rattle.core_steps.specs.OnePage.{CanTake, IsFailure, IsFault, IsSource, Makes, MakesTo, TakesFrom, at_lock, fault_end, frame_from, steps_from, trying, with_translation}
 use Rattle.core_steps.proofs.AtOnce.{counted_step}
 use Rattle.core_steps.proofs.Framing.{counted_few, fills_zeros, shown_here, shown_used, zeroed}
 use Rattle.core_steps.proofs.Known.{core_counted, frame_below, frame_counted, free_below, free_unused, goal_sound, is_left, order}
 use Rattle.core_steps.proofs.Known.{right_allowed, right_shown, room_for, sound_at}
 use Rattle.core_steps.proofs.OnePage.{after, holding, locked, moved, released, unlocked}
-use Rattle.core_steps.proofs.Reached.{fine}
+use Rattle.core_steps.proofs.Each.{put_id}
+use Rattle.core_steps.proofs.Reached.{fine, steps_reached}
 use Rattle.core_steps.proofs.SlotRuns.{put_twice}
 
 -- ---- the try of an access
@@ -110,6 +116,24 @@ tries w v c touch n room here left =
         let answer = Answer (reply_of touch f w.memory) in
         ap (λ p. answered f p (w.calls.events + (n + 1))) (put_twice w.calls.phase c (Try touch) answer)
         ∙ ap (answered f (put (put w.calls.phase c (Try touch)) c answer)) sum
+
+-- what a translation reaches
+pub reached_by : (by t : Translated) (f : ℕ) → t ≡ by → (t ≡ By.Hit f) ⊎ (t ≡ By.Fill f) → frame_reached by ≡ Some f
+reached_by by t f e (inl k) = ap frame_reached (sym e ∙ k)
+reached_by by t f e (inr k) = ap frame_reached (sym e ∙ k)
+
+-- a frame was reached, and the reply is logged
+pub touched : (w y z : World) (c : ℕ) (touch : Touch) (f : ℕ) (reply : Reply) (h : Hardware) → frame_reached (translated_by w.hardware c touch) ≡ Some f
+    → h ≡ after_translating w.hardware c touch → y ≡ record (with_hardware h w) { memory = memory_after touch f w.memory }
+    → reply ≡ reply_of touch f w.memory → z ≡ with_entry (answer_entry y c reply) y → to c (Answer reply) z ≡ after_try c touch w
+touched w y z c touch f reply h reached translates memory replies logs =
+    let t = with_hardware (after_translating w.hardware c touch) w in
+    let same : y ≡ record t { memory = memory_after touch f w.memory } =
+    memory ∙ ap {A = Hardware} (λ h. record (with_hardware h w) { memory = memory_after touch f w.memory }) translates in
+    ap (to c (Answer reply)) logs
+    ∙ (ap (λ y. to c (Answer reply) (with_entry (answer_entry y c reply) y)) same
+    ∙ (ap (λ r. after_reply c None r (record t { memory = memory_after touch f w.memory })) replies
+    ∙ ap (λ o. after_translation c touch o t) (sym reached)))
 
 -- ---- what is found at the page
 
@@ -420,3 +444,86 @@ module _ (w : World) (c : ℕ) (touch : Touch) (fault : IsFault w c touch) where
         subst (λ k. StepsTo w c k (trying c touch k v)) (sym many)
         (gets_page v from memory comes (subst (λ x. TakesFrom x.memory c from memory) now takes)
         (is_left ∙ ap {A = World} (λ x. record x { memory = memory }) (now ∙ ap (λ f. with_translation c touch.page (shown f) w) same)))
+
+-- ---- by the states that the code leaves, in which the core's phase isn't written
+
+-- what the phase was before is forgotten
+unwritten : (v : World) (c : ℕ) (touch : Touch) (phase : Phase) → to c phase v ≡ to c phase (at_lock c touch v)
+unwritten v c touch phase =
+    ap (λ f. record v { calls = record v.calls { phase = f } }) (put_twice v.calls.phase c (locking (To.Access touch)) phase)
+
+module _ (w : World) (c : ℕ) (touch : Touch) (fault : IsFault (at_lock c touch w) c touch) where
+  pub failed : (v : World) (reply : Reply) → IsFailure (found_at w touch) reply
+      → v ≡ record w {
+        calls = record w.calls {
+          events = w.calls.events + 2 + 1;
+          log = w.calls.log ++ EntryOf.Answer (w.calls.events + 2) (w.calls.number c) c reply ∷ [];
+        };
+      }
+      → Makes w c touch (End.Replied 3 reply) v
+  failed v reply failure now = record {
+    few = omega arith;
+    steps = fails (at_lock c touch w) c touch fault (to c (Answer reply) v) reply failure
+        (unwritten v c touch (Answer reply) ∙ ap (λ x. to c (Answer reply) (at_lock c touch x)) now);
+    cores = ap (λ (x : World). x.made.cores) now;
+    phases = ap (λ (x : World). x.calls.phase) now;
+    events = ap (λ (x : World). x.calls.events) now ∙ omega arith;
+  }
+
+  module _ (info : PageInfo) (e : w.slots.info touch.page ≡ Some info) (source : Source)
+      (comes : IsSource (found_at w touch) info.meta.back w.memory.is_free source) where
+    pub takes_it : (a : World) (shown : PageInfo) → a ≡ with_translation c touch.page shown w → CanTake a c source
+    takes_it a shown now = subst (λ x. CanTake x c source) (sym now) (can_take (at_lock c touch w) c touch fault info e source comes)
+
+    -- the page is shown in a, and its frame taken in v
+    module _ (a v : World) (f n : ℕ) (same : f ≡ frame_from source) (many : n ≡ steps_from source)
+        (now : a ≡ with_translation c touch.page (record info { frame = Some f }) w)
+        (taken : (memory : Memory) × TakesFrom a.memory c source memory × (v ≡ record a { memory = memory })) where
+      gets : StepsTo (at_lock c touch w) c n (trying c touch n v)
+      gets =
+          subst (StepsTo (at_lock c touch w) c n) (sym (unwritten (record v { calls = record v.calls { events = v.calls.events + n } }) c touch (Try touch)))
+          (gets_there (at_lock c touch w) c touch fault info e (at_lock c touch a) (at_lock c touch v) source f n same many comes
+          (ap (at_lock c touch) now) (taken.0, taken.1, ap (at_lock c touch) taken.2))
+
+      pub gets_reached : ∥ IsReached (trying c touch n v) ∥₁
+      gets_reached = steps_reached (at_lock c touch w) _ c n gets fault.reached
+
+      pub few_before : n ≤ 6
+      few_before = subst (λ k. k ≤ 6) (sym many) (few_steps (at_lock c touch w) c touch fault info e source)
+
+      left_cores : v.made.cores ≡ w.made.cores
+      left_cores = ap (λ (x : World). x.made.cores) taken.2 ∙ ap (λ (x : World). x.made.cores) now
+
+      left_phases : v.calls.phase ≡ w.calls.phase
+      left_phases = ap (λ (x : World). x.calls.phase) taken.2 ∙ ap (λ (x : World). x.calls.phase) now
+
+      pub left_events : v.calls.events ≡ w.calls.events
+      left_events = ap (λ (x : World). x.calls.events) taken.2 ∙ ap (λ (x : World). x.calls.events) now
+
+      pub ends : (r : Option Reply) (x : World) (end : FaultEnd) → end ≡ fault_end (n + 1) r
+          → Step (trying c touch n v) (Go c) Stepped (to c (tried_to touch r) x)
+          → x.made.cores ≡ v.made.cores → x.calls.phase ≡ v.calls.phase → x.calls.events ≡ v.calls.events + (n + 1) → Makes w c touch end x
+      ends r x end same_end step cores phases events = subst (λ z. Makes w c touch z x) (sym same_end) (go r step)
+        where
+          to_end : (phase : Phase) → Step (trying c touch n v) (Go c) Stepped (to c phase x) → MakesTo w c touch (n + 1) phase x
+          to_end phase s = record {
+            few = let few = few_before in omega (arith, few);
+            steps = subst (λ k. StepsTo (at_lock c touch w) c k (to c phase x)) (sym (add-one n)) (trying c touch n v, gets, s);
+            cores = cores ∙ left_cores;
+            phases = phases ∙ left_phases;
+            events = events ∙ ap (λ k. k + (n + 1)) left_events;
+          }
+
+          go : (r : Option Reply) → Step (trying c touch n v) (Go c) Stepped (to c (tried_to touch r) x) → Makes w c touch (fault_end (n + 1) r) x
+          go (Some reply) s = to_end (Answer reply) s
+          go None s = to_end (locking (To.Access touch)) s
+
+-- and where the core's call is to lock its page
+pub locked_already : (w : World) (c : ℕ) (touch : Touch) → w.calls.phase c ≡ locking (To.Access touch) → at_lock c touch w ≡ w
+locked_already w c touch at = ap (λ f. record w { calls = record w.calls { phase = f } }) (put_id w.calls.phase c _ (sym at))
+
+-- its call can lock it
+pub can_lock : (w : World) (c : ℕ) (touch : Touch) → c < w.made.cores → ∥ IsReached (at_lock c touch w) ∥₁ → IsSoundGoal (To.Access touch)
+can_lock w c touch here reached =
+    goal_sound (at_lock c touch w) c (To.Access touch) touch.page
+    (record { here = here; phase = put_same w.calls.phase c (locking (To.Access touch)); fine = fine (at_lock c touch w) reached })

@@ -1,6 +1,6 @@
 -- A fault whose page is a slot of its own that nobody holds: what it finds there, where the page's
 -- frame comes from, and what is left
-use Rattle.std.specs.Prelude.{◌≡◌, ℕ, ◌+◌, ◌<◌, ◌≤◌, ◌^◌, Bool, true, false, Some, pos, ◌<ℤ◌}
+use Rattle.std.specs.Prelude.{◌≡◌, ℕ, ◌+◌, ◌<◌, ◌≤◌, ◌^◌, Bool, true, false, Option, None, Some, pos, ◌<ℤ◌}
 use Rattle.vm_base.specs.declared.info.Back.{Back}
 use Rattle.vm_base.specs.declared.info.Back.TheVariants.{Anon}
 use Rattle.vm_base.specs.declared.info.PageInfo.{PageInfo}
@@ -14,15 +14,18 @@ use Rattle.vm_calls.specs.declared.fault.Settled.{Settled}
 use Rattle.vm_calls.specs.declared.fault.Settled.TheVariants as Found
 use Rattle.refcache.specs.Counts.{Counts, true_count}
 use Rattle.refcache.specs.Steps.{Takes, Begin, Inc, IsUnused}
-use Rattle.machine_model.specs.declared.phase.Phase.TheVariants.{Try}
+use Rattle.machine_model.specs.declared.phase.Phase.{Phase}
+use Rattle.machine_model.specs.declared.phase.Phase.TheVariants.{Answer, Try}
 use Rattle.machine_model.specs.Accesses.{IsLeastFree, after_finding, info_with_core}
 use Rattle.machine_model.specs.Actions.{after_reply, to}
 use Rattle.machine_model.specs.Holding.{page_of_touch}
 use Rattle.machine_model.specs.Locks.{locking}
-use Rattle.machine_model.specs.Step.{event_limit}
+use Rattle.machine_model.specs.Step.{StepsTo, event_limit}
 use Rattle.machine_model.specs.Translating.{entry_of_page, with_table}
 use Rattle.machine_model.specs.World.{Memory, World}
 use Rattle.machine_sound.specs.Sound.{IsReached}
+use Rattle.core_steps.specs.declared.fault_at_once.FaultEnd.{FaultEnd}
+use Rattle.core_steps.specs.declared.fault_at_once.FaultEnd.TheVariants.{Untouched, Again, Replied}
 use Rattle.core_steps.specs.declared.fault_at_once.Source.{Source}
 use Rattle.core_steps.specs.declared.fault_at_once.Source.TheVariants.{Own, Cached, Free}
 
@@ -52,6 +55,10 @@ abbrev pub steps_from : Source → ℕ
 steps_from (Own f) = 4
 steps_from (Cached f) = 5
 steps_from (Free f) = 6
+
+-- the state in which the core's call is to lock the page of its access
+abbrev pub at_lock : ℕ → Touch → World → World
+at_lock core touch w = to core (locking (To.Access touch)) w
 
 -- an access that finds this at a page with this backing gets the frame from there
 abbrev pub IsSource : Settled → Back → (ℕ → Bool) → Source → Type 0
@@ -107,3 +114,24 @@ with_translation core page info w = record w {
 abbrev pub trying : ℕ → Touch → ℕ → World → World
 trying core touch n w =
     to core (Try touch) (record w { calls = record w.calls { events = w.calls.events + n } })
+
+-- from the lock of the page n steps lead to v, but for the core's phase, which would be this one and
+-- isn't written
+pub record MakesTo (w : World) (core : ℕ) (touch : Touch) (n : ℕ) (phase : Phase) (v : World)
+    : Type 0 where
+  pub few : n ≤ 7
+  pub steps : StepsTo (at_lock core touch w) core n (to core phase v)
+  pub cores : v.made.cores ≡ w.made.cores
+  pub phases : v.calls.phase ≡ w.calls.phase
+  pub events : v.calls.events ≡ w.calls.events + n
+
+-- where so many steps end by what the try of the page came to
+abbrev pub fault_end : ℕ → Option Reply → FaultEnd
+fault_end steps (Some reply) = Replied steps reply
+fault_end steps None = Again steps
+
+-- the steps of the fault end so
+abbrev pub Makes : World → ℕ → Touch → FaultEnd → World → Type 0
+Makes w core touch Untouched v = v ≡ w
+Makes w core touch (Again steps) v = MakesTo w core touch steps (locking (To.Access touch)) v
+Makes w core touch (Replied steps reply) v = MakesTo w core touch steps (Answer reply) v

@@ -9,20 +9,23 @@ ghost use Rattle.frames.specs.Parts.{free_frames};
 ghost use Rattle.machine_model.specs.declared.event.Event.{Event};
 ghost use Rattle.machine_model.specs.declared.event.Outcome.{Outcome};
 ghost use Rattle.machine_model.specs.Accesses.{found_at};
+ghost use Rattle.machine_model.specs.Actions.{to};
 ghost use Rattle.machine_model.specs.Files.{prot_installed};
 ghost use Rattle.machine_model.specs.Locks.{locking};
 ghost use Rattle.machine_model.specs.Step.{Step, StepsTo, event_limit};
 ghost use Rattle.machine_model.specs.World.{Memory};
 ghost use Rattle.machine_sound.specs.Sound.{IsReached};
-ghost use Rattle.core_steps.specs.OnePage.{CanTake, IsFailure, IsFault, IsSource, TakesFrom, frame_from, steps_from, trying, with_translation};
+ghost use Rattle.core_steps.specs.OnePage.{CanTake, IsFailure, IsFault, IsSource, Makes, TakesFrom, at_lock, fault_end, frame_from, steps_from, trying, with_translation};
+ghost use Rattle.core_steps.specs.Moving.{tried_to};
 ghost use Rattle.core_steps.specs.State.{world};
 
+use crate::acquire::locking;
 use crate::engine::Engine;
 use crate::file_pages::prot_installed;
 use crate::ledger::Ledger;
 use machine_model::Phase;
 use mmu::Hardware;
-use slot_lock::{SlotMap, Touch};
+use slot_lock::{Goal, SlotMap, Touch};
 use std::alloc::Allocator;
 use vm_base::{Back, CoreId, PageInfo, Reply, SegvCode};
 use vm_calls::Settled;
@@ -63,6 +66,27 @@ impl Source {
     }
 }
 
+/// Where a fault's steps end that are made at once.
+#[derive(Clone, Copy, Debug, PartialEq, Eq)]
+pub(crate) enum FaultEnd {
+    /// No step was made.
+    Untouched,
+    /// So many were made, and the access faulted again.
+    Again { steps: u64 },
+    /// So many were made, and the access has this reply, which is logged.
+    Replied { steps: u64, reply: Reply },
+}
+
+// What the try of the page came to is where so many steps end.
+fn fault_end(steps: u64, tried: Option<Reply>) -> FaultEnd
+    ensures { result ≡ fault_end steps tried }
+{
+    match tried {
+        Some(reply) => FaultEnd::Replied { steps, reply },
+        None => FaultEnd::Again { steps },
+    }
+}
+
 /// What an access that fails is answered.
 fn failure(settled: Settled) -> Option<Reply>
     ensures { IfSome result (IsFailure settled) }
@@ -76,18 +100,16 @@ fn failure(settled: Settled) -> Option<Reply>
 }
 
 impl<M: SlotMap, H: Hardware, A: Allocator, L: Ledger> Engine<M, H, A, L> {
-    // The access fails at its page, and this is answered.
-    fn fail_at_once(&mut self, core: CoreId, touch: Touch, reply: Reply) -> u64
-        requires fault { IsFault (world M.slots self.old) core touch }
+    // The access fails at its page, and this is its reply.
+    fn fail_at_once(&mut self, core: CoreId, touch: Touch, reply: Reply) -> FaultEnd
+        requires fault { IsFault (at_lock core touch (world M.slots self.old)) core touch }
         requires fails { IsFailure (found_at (world M.slots self.old) touch) reply }
-        ensures few { result ≤ 7 }
-        ensures steps { StepsTo (world M.slots self.old) core result (world M.slots self.new) }
+        ensures { Makes (world M.slots self.old) core touch result (world M.slots self.new) }
     {
         self.calls.events += 2;
         self.log_reply(core, reply);
         self.calls.events += 1;
-        self.go_to(core, Phase::Answer(reply));
-        3
+        FaultEnd::Replied { steps: 3, reply }
     }
 
     // Where the page's frame comes from, if neither a message is to be sent nor a file to be read.
@@ -144,25 +166,33 @@ impl<M: SlotMap, H: Hardware, A: Allocator, L: Ledger> Engine<M, H, A, L> {
     }
 
     // The access is tried again, so many steps later than those that are counted.
-    fn try_page(&mut self, core: CoreId, touch: Touch, steps: u64)
+    fn try_page(&mut self, core: CoreId, touch: Touch, steps: u64) -> Option<Reply>
         requires here { core < length self.old.calls.phases.items }
         requires room { self.old.calls.events + steps < event_limit }
         requires reached { ∥ IsReached (trying core touch steps (world M.slots self.old)) ∥₁ }
-        ensures { Step (trying core touch steps (world M.slots self.old)) (Event.Go core) Outcome.Stepped
-            (world M.slots self.new) }
+        ensures step { Step (trying core touch steps (world M.slots self.old)) (Event.Go core) Outcome.Stepped
+            (to core (tried_to touch result) (world M.slots self.new)) }
+        ensures phases { (world M.slots self.new).calls.phase ≡ (world M.slots self.old).calls.phase }
+        ensures events { self.new.calls.events ≡ self.old.calls.events + (steps + 1) }
+        ensures cores { length self.new.calls.phases.items ≡ length self.old.calls.phases.items }
     {
         self.calls.events += steps + 1;
-        self.try_touch(core, touch);
+        self.try_touch(core, touch)
     }
 
     // The page, which has this, gets its frame from there, and the access is tried again.
-    fn show_at_once(&mut self, core: CoreId, touch: Touch, info: PageInfo, source: Source) -> u64
-        requires fault { IsFault (world M.slots self.old) core touch }
+    fn show_at_once(
+        &mut self,
+        core: CoreId,
+        touch: Touch,
+        info: PageInfo,
+        source: Source,
+    ) -> FaultEnd
+        requires fault { IsFault (at_lock core touch (world M.slots self.old)) core touch }
         requires info { (M.slots self.old.map).info touch.page ≡ Some info }
         requires source { IsSource (found_at (world M.slots self.old) touch) info.meta.back
             (world M.slots self.old).memory.is_free source }
-        ensures few { result ≤ 7 }
-        ensures steps { StepsTo (world M.slots self.old) core result (world M.slots self.new) }
+        ensures { Makes (world M.slots self.old) core touch result (world M.slots self.new) }
     {
         let frame = source.frame();
         let shown = PageInfo {
@@ -170,18 +200,41 @@ impl<M: SlotMap, H: Hardware, A: Allocator, L: Ledger> Engine<M, H, A, L> {
             ..info
         };
         if !self.show_page(core, touch.page, shown, frame) {
-            return 0;
+            return FaultEnd::Untouched;
         }
         self.take_from(core, source);
-        let steps = source.steps();
-        self.try_page(core, touch, steps);
-        steps + 1
+        let before = source.steps();
+        let tried = self.try_page(core, touch, before);
+        fault_end(before + 1, tried)
     }
 
-    /// The events of an access's next steps where its page, which is to be locked, is a slot of its own
-    /// that nobody holds: all up to the next try of the page, or up to the answer where the access
-    /// fails. It answers how many they were: none where a plain step has to look, since there may be
-    /// no memory or no frame, a file is to be read, or other cores are to be told.
+    /// The steps of an access whose page is to be locked, where that is a slot of its own that nobody
+    /// holds: up to the next try of the page, or up to the reply where the access fails. The core's
+    /// phase isn't written. No step is made where a plain one has to look, since there may be no
+    /// memory or no frame, a file is to be read, or other cores are to be told.
+    pub fn make_fault(&mut self, core: CoreId, touch: Touch) -> FaultEnd
+        requires here { core < length self.old.calls.phases.items }
+        requires reached { ∥ IsReached (at_lock core touch (world M.slots self.old)) ∥₁ }
+        requires room { self.old.calls.events + 7 ≤ event_limit }
+        ensures { Makes (world M.slots self.old) core touch result (world M.slots self.new) }
+    {
+        let Some(page) = self.map.free_page(touch.page) else {
+            return FaultEnd::Untouched;
+        };
+        let settled = self.find(touch, &page.info);
+        if let Some(reply) = failure(settled) {
+            return self.fail_at_once(core, touch, reply);
+        }
+        if let Some(info) = page.info
+            && let Some(source) = self.source_of(settled, info.meta.back)
+        {
+            return self.show_at_once(core, touch, info, source);
+        }
+        FaultEnd::Untouched
+    }
+
+    /// The events of a fault's steps, as `make_fault` makes them, where the core's call is to lock its
+    /// page. It answers how many they were.
     pub fn fault_at_once(&mut self, core: CoreId, touch: Touch, most: u64) -> u64
         requires at { (world M.slots self.old).calls.phase core ≡ locking (To.Access touch) }
         requires here { core < length self.old.calls.phases.items }
@@ -193,18 +246,16 @@ impl<M: SlotMap, H: Hardware, A: Allocator, L: Ledger> Engine<M, H, A, L> {
         if most < MOST_STEPS {
             return 0;
         }
-        let Some(page) = self.map.free_page(touch.page) else {
-            return 0;
-        };
-        let settled = self.find(touch, &page.info);
-        if let Some(reply) = failure(settled) {
-            return self.fail_at_once(core, touch, reply);
+        match self.make_fault(core, touch) {
+            FaultEnd::Untouched => 0,
+            FaultEnd::Again { steps } => {
+                self.go_to(core, locking(Goal::Access(touch)));
+                steps
+            }
+            FaultEnd::Replied { steps, reply } => {
+                self.go_to(core, Phase::Answer(reply));
+                steps
+            }
         }
-        if let Some(info) = page.info
-            && let Some(source) = self.source_of(settled, info.meta.back)
-        {
-            return self.show_at_once(core, touch, info, source);
-        }
-        0
     }
 }

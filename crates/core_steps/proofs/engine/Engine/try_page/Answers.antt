@@ -6,6 +6,6 @@ pub try_touch-requires : goal.try_touch-requires
 try_touch-requires g c =
     can_try_later (world g.M.SlotRead.slots c.args.self.now) c.args.core c.args.touch c.args.steps _ c.requires.here c.requires.reached
 
-pub returns : goal.returns
-returns g c =
-    tries (world g.M.SlotRead.slots c.args.self.now) _ c.args.core c.args.touch c.args.steps c.requires.room c.requires.here c.try_touch.ensures
+pub returns-clause-step : goal.returns-clause-step
+returns-clause-step g c =
+    tries (world g.M.SlotRead.slots c.args.self.now) _ c.args.core c.args.touch c.args.steps c.requires.room c.requires.here c.try_touch.ensures.tried
