@@ -3,7 +3,7 @@ use Rattle.std.proofs.lemmas.Nat.Bits.{bit_at-zero}
 use Rattle.vm_base.specs.Functions.{put}
 use Rattle.vm_base.specs.Cores.{members}
 use Rattle.vm_base.proofs.Functions.{eq_true}
-use Rattle.parts_tests.proofs.shootdown_tests.a_core_waits_until_each_target_has_acknowledged.Goals as goal
+use Rattle.parts_tests.proofs.shootdown_tests.taken_in_turn.Goals as goal
 
 -- a member of a set of two is one of them
 one_of_two : (e : ℕ) → e ≡ 0 → (f g : ℕ → Bool) (a b : ℕ) → f ≡ put (members e) a true → g ≡ put f b true → (d : ℕ) → g d ≡ true → (d ≡ a) ⊎ (d ≡ b)
@@ -17,7 +17,7 @@ one_of_two e z f g a b h k d t = go (d == b) (d == a) refl refl (sym (ap (λ x. 
         absurd (cc)
 
 pub post-requires-clause-others : goal.post-requires-clause-others
-post-requires-clause-others g c = go (members c.with-targets.result c.new-sender.result) refl
+post-requires-clause-others c = go (members c.with-targets.result c.new-sender.result) refl
   where
     go : (b : Bool) → members c.with-targets.result c.new-sender.result ≡ b → members c.with-targets.result c.new-sender.result ≡ false
     go false e = e
@@ -30,7 +30,7 @@ post-requires-clause-others g c = go (members c.with-targets.result c.new-sender
         neither (inr s) = omega arith
 
 pub post-requires-clause-within : goal.post-requires-clause-within
-post-requires-clause-within g c = λ d e. go d (one_of_two c.empty.result c.empty.ensures (members c.with.result)
+post-requires-clause-within c = λ d e. go d (one_of_two c.empty.result c.empty.ensures (members c.with.result)
     (members c.with-targets.result) c.new-near.result c.new-far.result c.with.ensures.members c.with-targets.ensures.members d e)
   where
     go : (d : ℕ) → (d ≡ c.new-near.result) ⊎ (d ≡ c.new-far.result) → d < length c.new-inboxes.result
