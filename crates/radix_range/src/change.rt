@@ -179,7 +179,7 @@ fn edit_of(change: Change) -> Edit
     }
 }
 
-/// Changes each page of a range that no slot crosses the edge of, in one walk over the range's slots.
+/// Makes a change of pages that no slot crosses the edge of, in one walk over their slots.
 pub fn change<A: Allocator>(root: &mut Node<A>, change: Change)
     requires tree { IsRadix root.old }
     requires sound { IsSoundChange change }
@@ -187,7 +187,11 @@ pub fn change<A: Allocator>(root: &mut Node<A>, change: Change)
     ensures tree { IsRadix root.new }
     ensures slots { tree_slots root.new ≡ changed (tree_slots root.old) change }
 {
-    edit_range(root, change.range(), &edit_of(change));
+    let range = change.range();
+    if range.end - range.first == 1 {
+        return change_one(root, change);
+    }
+    edit_range(root, range, &edit_of(change));
 }
 
 /// Makes a change of a page that is a slot of its own.
