@@ -22,7 +22,7 @@ use Rattle.slot_lock.specs.declared.plan.Touch.{Touch}
 use Rattle.slot_lock.specs.Slots.{IsFreeSlot, with_info}
 use Rattle.mmu.specs.Entry.{has_right}
 use Rattle.refcache.specs.Counts.{Counts}
-use Rattle.refcache.specs.Steps.{Takes, Begin, Inc, IsUnused}
+use Rattle.refcache.specs.Steps.{Takes, Begin, Inc}
 use Rattle.vm_calls.specs.declared.fault.Settled.{Settled}
 use Rattle.vm_calls.specs.declared.fault.Settled.TheVariants as Found
 use Rattle.vm_calls.specs.Settling.{is_cached, is_private_store, settled, source}
@@ -33,7 +33,7 @@ use Rattle.machine_model.specs.declared.phase.Phase.{Phase}
 use Rattle.machine_model.specs.declared.phase.Phase.TheVariants.{Answer, Fill, Install, Lock, Release, Settle, Try, Unlock, Want}
 use Rattle.machine_model.specs.World.{Memory, World}
 use Rattle.machine_model.specs.Accesses.{IsLeastFree, after_finding, after_translation, after_try, found_at, info_with_core, is_past_end, memory_after, reply_of}
-use Rattle.machine_model.specs.Actions.{answer_entry, to, with_entry}
+use Rattle.machine_model.specs.Actions.{to}
 use Rattle.machine_model.specs.Files.{back_of, file_frame, is_private, prot_installed, shows_some}
 use Rattle.machine_model.specs.Filling.{FillsBacked, FillsFrame, FillsFromFile}
 use Rattle.machine_model.specs.Holding.{page_of_touch}
@@ -47,13 +47,13 @@ use Rattle.machine_sound.specs.Sound.{IsReached}
 use Rattle.core_steps.specs.declared.fault_at_once.Source.{Source}
 use Rattle.core_steps.specs.declared.fault_at_once.Source.TheVariants.{Own, Cached, Free}
 use Rattle.core_steps.specs.Moving.{CanTry, IsAt}
-use Rattle.core_steps.specs.OnePage.{CanTake, IsFailure, IsFault, IsSource, TakesFrom, frame_from, steps_from, trying, with_translation}
+use Rattle.core_steps.specs.OnePage.{CanTake, IsFailure, IsFault, IsSource, TakesFrom, frame_from, replied, steps_from, trying, with_translation}
 use Rattle.core_steps.proofs.AtOnce.{counted_step}
 use Rattle.core_steps.proofs.Framing.{counted_few, fills_zeros, shown_here, shown_used, zeroed}
 use Rattle.core_steps.proofs.Known.{core_counted, frame_below, frame_counted, free_below, free_unused, goal_sound, is_left, order}
 use Rattle.core_steps.proofs.Known.{right_allowed, right_shown, room_for, sound_at}
 use Rattle.core_steps.proofs.OnePage.{after, holding, locked, moved, released, unlocked}
-use Rattle.core_steps.proofs.Reached.{fine, steps_reached}
+use Rattle.core_steps.proofs.Reached.{fine}
 use Rattle.core_steps.proofs.SlotRuns.{put_twice}
 
 -- ---- the try of an access
@@ -251,12 +251,7 @@ module _ (w : World) (c : ℕ) (touch : Touch) (fault : IsFault w c touch) where
   told reply n = record w { calls = record w.calls { log = w.calls.log ++ EntryOf.Answer n (w.calls.number c) c reply ∷ [] } }
 
   pub fails : (v : World) (reply : Reply) → IsFailure (found_at w touch) reply
-      → v ≡ to c (Answer reply) (record (told reply (w.calls.events + 2)) {
-        calls = record (told reply (w.calls.events + 2)).calls {
-          events = w.calls.events + 2 + 1;
-        };
-      })
-      → StepsTo w c 3 v
+      → v ≡ replied c reply 2 w → StepsTo w c 3 v
   fails v reply failure left =
       let limit = fault.room in
       let x = told reply (suc (w.calls.events + 1)) in

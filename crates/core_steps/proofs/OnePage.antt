@@ -6,7 +6,7 @@ use Rattle.std.proofs.Math.Path.{fun_ext}
 use Rattle.std.proofs.lemmas.Bool.Decides.{nat_tests}
 use Rattle.vm_base.specs.declared.replies.Reply.{Reply}
 use Rattle.vm_base.specs.Functions.{has, over, put}
-use Rattle.vm_base.proofs.Functions.{has_in, over_all, put_same}
+use Rattle.vm_base.proofs.Functions.{has_in, put_same}
 use Rattle.slot_lock.specs.declared.plan.Goal.{Goal}
 use Rattle.slot_lock.specs.declared.plan.Touch.{Touch}
 use Rattle.slot_lock.specs.declared.slot_map.Got.TheVariants.{Locked}

@@ -20,7 +20,6 @@ ghost use Rattle.core_steps.specs.State.{world};
 use crate::engine::Engine;
 use crate::file_pages::prot_installed;
 use crate::ledger::Ledger;
-use machine_model::Phase;
 use mmu::Hardware;
 use slot_lock::{SlotMap, Touch};
 use std::alloc::Allocator;
@@ -83,10 +82,7 @@ impl<M: SlotMap, H: Hardware, A: Allocator, L: Ledger> Engine<M, H, A, L> {
         ensures few { result ≤ 7 }
         ensures steps { StepsTo (world M.slots self.old) core result (world M.slots self.new) }
     {
-        self.calls.events += 2;
-        self.log_reply(core, reply);
-        self.calls.events += 1;
-        self.go_to(core, Phase::Answer(reply));
+        self.reply_at_once(core, reply, 2);
         3
     }
 
