@@ -9,5 +9,6 @@ pub mod Machine
 pub mod Finishing
 pub mod AtOnce
 pub mod OnePage
+pub mod PageChange
 pub mod Running
 pub mod MapLines

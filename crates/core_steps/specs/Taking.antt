@@ -1,5 +1,5 @@
 -- What making a change needs, and what it does first
-use Rattle.std.specs.Prelude.{◌≡◌, ℕ, ◌+◌, ◌<◌, ◌^◌, ◌==◌, if◌then◌else◌, false, List, [], ◌∷◌, Option, Some, pos, ◌≤ℤ◌}
+use Rattle.std.specs.Prelude.{◌≡◌, ℕ, ◌+◌, ◌<◌, ◌^◌, ◌==◌, if◌then◌else◌, false, List, [], ◌∷◌, Option, Some, pos, ◌<ℤ◌, ◌≤ℤ◌}
 use Rattle.std.specs.List.{AllByRecursion}
 use Rattle.vm_base.specs.declared.page.PageRange.{PageRange}
 use Rattle.vm_base.specs.declared.info.PageInfo.{PageInfo}
@@ -16,6 +16,11 @@ pub record AlikeOutside (s t : Slots) (range : PageRange) : Type 0 where
   pub owner : t.owner ≡ s.owner
   pub edge : t.edge ≡ s.edge
   pub info : (p : ℕ) → has range p ≡ false → t.info p ≡ s.info p
+
+-- some page has the frame, as far as the counts say
+pub record IsCounted (counts : Counts) (frame : ℕ) : Type 0 where
+  pub object : frame < counts.objects
+  pub used : pos 0 <ℤ true_count counts frame
 
 -- each frame of a page is counted at least once for each page that has it
 pub record AreCounted (info : ℕ → Option PageInfo) (counts : Counts) : Type 0 where

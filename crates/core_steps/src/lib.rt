@@ -8,6 +8,7 @@ mod acquire;
 mod answer;
 mod call_table;
 mod calls;
+mod change_at_once;
 mod check;
 mod commit;
 mod copy;

@@ -1,5 +1,5 @@
 //! Steps of a call that are made at once: so many plain ones. Slots that it locks or unlocks one after
-//! another, and what a fault does at its page.
+//! another, and what a fault, or a change of one page, does at its page.
 ghost use Rattle.std.specs.Prelude.{◌≡◌, ◌+◌, ◌≤◌};
 ghost use Rattle.machine_model.specs.declared.phase.Phase.{Phase};
 ghost use Rattle.machine_model.specs.Step.{StepsTo, event_limit};
@@ -18,7 +18,8 @@ use std::alloc::Allocator;
 use vm_base::{CoreId, PageRange, Reply};
 
 impl<M: SlotMap, H: Hardware, A: Allocator, L: Ledger> Engine<M, H, A, L> {
-    // Slots of the goal, from the cursor on. A page alone is one slot, which a step locks as fast.
+    // Slots of the goal, from the cursor on. A page alone is one slot, which a step locks as fast, but
+    // for a change of one page, whose steps may go on at once.
     fn lock_slots(&mut self, core: CoreId, goal: Goal, cursor: u64, most: u64) -> u64
         requires at { IsAt (world M.slots self.old) core (Phase.Lock goal cursor) }
         requires room { self.old.calls.events + most ≤ event_limit }
@@ -27,7 +28,10 @@ impl<M: SlotMap, H: Hardware, A: Allocator, L: Ledger> Engine<M, H, A, L> {
     {
         let end = goal.range().end;
         if end - cursor == 1 {
-            return 0;
+            return match goal {
+                Goal::Change(change) => self.change_at_once(core, change, cursor, most),
+                Goal::Place { .. } | Goal::Access(_) => 0,
+            };
         }
         let run = self.map.lock_run(core, cursor, end, most);
         if run.slots == 0 {
@@ -58,7 +62,8 @@ impl<M: SlotMap, H: Hardware, A: Allocator, L: Ledger> Engine<M, H, A, L> {
         run.slots
     }
 
-    // Steps from the lock of the goal's pages on: of an access those at its page too.
+    // Steps from the lock of the goal's pages on: of an access, and of a change of one page, those at the
+    // page too.
     fn lock_at_once(&mut self, core: CoreId, goal: Goal, cursor: u64, most: u64) -> u64
         requires at { IsAt (world M.slots self.old) core (Phase.Lock goal cursor) }
         requires reached { ∥ IsReached (world M.slots self.old) ∥₁ }
@@ -73,9 +78,9 @@ impl<M: SlotMap, H: Hardware, A: Allocator, L: Ledger> Engine<M, H, A, L> {
     }
 
     /// The events of the next steps of the core's call that can be made at once, at most so many: those
-    /// that lock or unlock slots which the map finds side by side, and those of a fault at a page that
-    /// nobody holds. It answers how many they were: none where the call does something else next, or
-    /// can't go on.
+    /// that lock or unlock slots which the map finds side by side, and those of a fault, or of a change
+    /// of one page, at a page that nobody holds. It answers how many they were: none where the call does
+    /// something else next, or can't go on.
     pub fn steps_at_once(&mut self, core: CoreId, most: u64) -> u64
         requires { ∥ IsReached (world M.slots self.old) ∥₁ }
         ensures few { result ≤ most }

@@ -8,3 +8,4 @@ pub mod OwnedRuns
 pub mod Walks
 pub mod Listing
 pub mod Edits
+pub mod OnePage

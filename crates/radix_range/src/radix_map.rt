@@ -172,7 +172,7 @@ impl<A: Allocator + Clone> SlotMap for RadixMap<A> {
     }
 
     fn change_free(&mut self, change: Change) {
-        change::change(&mut self.root, change);
+        change::change_one(&mut self.root, change);
         self.full = full::with_change(self.full, change);
     }
 
