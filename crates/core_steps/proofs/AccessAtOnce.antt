@@ -38,7 +38,7 @@ use Rattle.core_steps.proofs.Reached.{fine, steps_join, steps_reached}
 use Rattle.core_steps.proofs.SlotRuns.{put_twice}
 
 -- so many events more were counted
-abbrev pub with_events : ℕ → World → World
+abbrev with_events : ℕ → World → World
 with_events n w = record w { calls = record w.calls { events = w.calls.events + n } }
 
 -- the state in which the access has its translation, the core's phase not being written

@@ -12,13 +12,10 @@ use Rattle.vm_base.specs.Functions.{has, put}
 use Rattle.vm_base.specs.Info.{frame_of, is_recorded}
 use Rattle.vm_base.specs.Pages.{IsPageRange, are_pages}
 use Rattle.vm_base.proofs.CoreSets.{members-empty}
-use Rattle.vm_base.proofs.Functions.{has_in}
 use Rattle.slot_lock.specs.declared.plan.Change.{Change}
 use Rattle.slot_lock.specs.declared.plan.Change.TheVariants.{Put, Clear, Protect}
 use Rattle.slot_lock.specs.declared.plan.Goal.TheVariants as To
-use Rattle.slot_lock.specs.declared.plan.Plan.TheVariants as PlanOf
 use Rattle.slot_lock.specs.declared.slot_map.FreePage.{FreePage}
-use Rattle.slot_lock.specs.Changes.{IsMappedFor}
 use Rattle.slot_lock.specs.Plan.{IsSoundChange, range_of}
 use Rattle.slot_lock.specs.Slots.{IsFreePage, IsSlot, Slots, between}
 use Rattle.vm_calls.specs.declared.decision.Decision.{Decision}
@@ -32,20 +29,19 @@ use Rattle.machine_model.specs.declared.event.Outcome.TheVariants.{Stepped}
 use Rattle.machine_model.specs.declared.log.Entry.TheVariants as EntryOf
 use Rattle.machine_model.specs.declared.phase.Phase.TheVariants.{Acks, Answer, Decide, Lock, Post, Unlock}
 use Rattle.machine_model.specs.World.{Hardware, World}
-use Rattle.machine_model.specs.Actions.{answer_entry, to, with_entry}
-use Rattle.machine_model.specs.Changes.{AwaitsNobody, CountsLost, after_commit, reply_to, slots_after}
+use Rattle.machine_model.specs.Changes.{AwaitsNobody, CountsLost, reply_to, slots_after}
 use Rattle.machine_model.specs.Counting.{CountsDown, frame_lost}
-use Rattle.machine_model.specs.Step.{Step, StepsTo, event_limit, with_event}
+use Rattle.machine_model.specs.Step.{Step, StepsTo, event_limit}
 use Rattle.machine_model.specs.Translating.{after_shot, with_hardware}
-use Rattle.machine_coherence.specs.Coherent.{Every, HasDropped, IsBacked, IsSoundEntry}
+use Rattle.machine_coherence.specs.Coherent.{Every, HasDropped, IsSoundEntry}
 use Rattle.machine_laws.specs.Orderly.{answer_count}
 use Rattle.machine_laws.proofs.Deciding.{sound_range}
 use Rattle.machine_laws.proofs.Moves.{call_at}
 use Rattle.machine_sound.specs.Invariant.{Fine}
 use Rattle.core_steps.specs.Moving.{IsAt}
+use Rattle.core_steps.specs.OnePage.{replied}
 use Rattle.core_steps.specs.PageChange.{IsAlone, IsPageChange}
 use Rattle.core_steps.specs.Taking.{IsCounted}
-use Rattle.core_steps.proofs.AccessAtOnce.{with_events}
 use Rattle.core_steps.proofs.Each.{own_dropped}
 use Rattle.core_steps.proofs.Known.{are_counted, change_pages, goal_sound, nobody_awaited, order, pages_counted, room_for, shot_just}
 use Rattle.core_steps.proofs.OnePage.{after, held, holding, locked, moved, unlocked}
@@ -118,15 +114,14 @@ module _ (w : World) (c : ℕ) (change : Change) (page : FreePage) (errno : Errn
         ),
       )
 
-  pub refuses_at_once : (z v : World) → z ≡ with_entry (answer_entry (with_events 2 w) c reply) (with_events 2 w) → v ≡ to c (Answer reply) (with_events 1 z)
-      → StepsTo w c 3 v
-  refuses_at_once z v log left =
+  pub refuses_at_once : (v : World) → v ≡ replied c reply 2 w → StepsTo w c 3 v
+  refuses_at_once v left =
       let first = (range_of change).first in
       let room = i.room in
       let sum : w.calls.events + 2 + 1 ≡ w.calls.events + 3 = omega arith in
       let logged = refused_at (w.calls.events + 2) in
-      subst (StepsTo w c 3) (sym (left ∙ ap (λ x. to c (Answer reply) (with_events 1 x)) log
-      ∙ ap (λ n. record logged { calls = record logged.calls { phase = put w.calls.phase c (Answer reply); events = n } }) sum)) (
+      subst (StepsTo w c 3)
+      (sym (left ∙ ap (λ n. record logged { calls = record logged.calls { phase = put w.calls.phase c (Answer reply); events = n } }) sum)) (
         _,
         (_, (w, refl, locks w c change page (Refuse errno) i), refuses),
         unlocked logged c first reply 2 (omega (arith, room)) i.at.here i.found.alone.slot i.found.alone.free,
@@ -214,32 +209,21 @@ module _ (w : World) (c : ℕ) (change : Change) (page : FreePage) (shoot : ℕ)
     all_steps : StepsTo w c 5 (after c (Answer (reply_to change)) 5 made)
     all_steps = (_, (_, (_, (_, (w, refl, locks w c change page (Act (range_of change) shoot) i), posts), tells), commits), unlocks)
 
-    -- with this hardware, these slots and this reply
-    abbrev left_by : Hardware → Slots → Reply → ℕ → ℕ → World
-    left_by h slots reply n events = record w {
-      slots = slots;
-      hardware = h;
-      memory = record w.memory { counts = counts };
-      calls = record w.calls {
-        phase = put w.calls.phase c (Answer reply);
-        log = w.calls.log ++ EntryOf.Answer n (w.calls.number c) c reply ∷ [];
-        events = events;
-      };
-    }
+    -- with this hardware and these slots
+    abbrev with_parts : Hardware → Slots → World
+    with_parts h slots = record w { slots = slots; hardware = h; memory = record w.memory { counts = counts } }
 
-    pub makes_at_once : (h : Hardware) (range : PageRange) (slots : Slots) (reply : Reply) (z v : World) → range ≡ range_of change
+    pub makes_at_once : (h : Hardware) (range : PageRange) (slots : Slots) (reply : Reply) (v : World) → range ≡ range_of change
         → h ≡ after_shot w.hardware c shoot range → slots ≡ slots_after change w.slots → reply ≡ reply_to change
-        → z ≡ with_entry (answer_entry (with_events 4 w) c reply)
-        (with_events 4 (record w { slots = slots; hardware = h; memory = record w.memory { counts = counts } }))
-        → v ≡ to c (Answer reply) (with_events 1 z) → StepsTo w c 5 v
-    makes_at_once h range slots reply z v same shot changed replies log left =
+        → v ≡ replied c reply 4 (with_parts h slots) → StepsTo w c 5 v
+    makes_at_once h range slots reply v same shot changed replies left =
         let sum : w.calls.events + 4 + 1 ≡ w.calls.events + 5 = omega arith in
-        let four = w.calls.events + 4 in
-        subst (StepsTo w c 5) (sym (left ∙ (ap (λ x. to c (Answer reply) (with_events 1 x)) log
-        ∙ (ap (left_by h slots reply four) sum
-        ∙ (ap (λ x. left_by x slots reply four (w.calls.events + 5)) (shot ∙ ap (after_shot w.hardware c shoot) same)
-        ∙ (ap (λ x. left_by (after_shot w.hardware c shoot (range_of change)) x reply four (w.calls.events + 5)) changed
-        ∙ ap (λ x. left_by (after_shot w.hardware c shoot (range_of change)) (slots_after change w.slots) x four (w.calls.events + 5)) replies)))))) all_steps
+        let x = with_parts (after_shot w.hardware c shoot (range_of change)) (slots_after change w.slots) in
+        let y = replied c (reply_to change) 4 x in
+        subst (StepsTo w c 5) (sym (left ∙ (ap (λ r. replied c r 4 (with_parts h slots)) replies
+        ∙ (ap (λ s. replied c (reply_to change) 4 (with_parts h s)) changed
+        ∙ (ap (λ z. replied c (reply_to change) 4 (with_parts z (slots_after change w.slots))) (shot ∙ ap (after_shot w.hardware c shoot) same)
+        ∙ ap (λ n. record y { calls = record y.calls { events = n } }) sum))))) all_steps
 
 -- ---- what the code is to know of such a change
 

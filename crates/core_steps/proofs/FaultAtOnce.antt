@@ -52,7 +52,7 @@ use Rattle.core_steps.specs.declared.fault_at_once.FaultEnd.TheVariants as End
 use Rattle.core_steps.specs.declared.fault_at_once.Source.{Source}
 use Rattle.core_steps.specs.declared.fault_at_once.Source.TheVariants.{Own, Cached, Free}
 use Rattle.core_steps.specs.Moving.{CanTry, IsAt, tried_to}
-use Rattle.core_steps.specs.OnePage.{CanTake, IsFailure, IsFault, IsSource, Makes, MakesTo, TakesFrom, at_lock, fault_end, frame_from, steps_from, trying, with_translation}
+use Rattle.core_steps.specs.OnePage.{CanTake, IsFailure, IsFault, IsSource, Makes, MakesTo, TakesFrom, at_lock, fault_end, frame_from, logged_later, replied, steps_from, trying, with_translation}
 use Rattle.core_steps.proofs.AtOnce.{counted_step}
 use Rattle.core_steps.proofs.Framing.{counted_few, fills_zeros, shown_here, shown_used, zeroed}
 use Rattle.core_steps.proofs.Known.{core_counted, frame_below, frame_counted, free_below, free_unused, goal_sound, is_left, order}
@@ -275,12 +275,7 @@ module _ (w : World) (c : ℕ) (touch : Touch) (fault : IsFault w c touch) where
   told reply n = record w { calls = record w.calls { log = w.calls.log ++ EntryOf.Answer n (w.calls.number c) c reply ∷ [] } }
 
   pub fails : (v : World) (reply : Reply) → IsFailure (found_at w touch) reply
-      → v ≡ to c (Answer reply) (record (told reply (w.calls.events + 2)) {
-        calls = record (told reply (w.calls.events + 2)).calls {
-          events = w.calls.events + 2 + 1;
-        };
-      })
-      → StepsTo w c 3 v
+      → v ≡ replied c reply 2 w → StepsTo w c 3 v
   fails v reply failure left =
       let limit = fault.room in
       let x = told reply (suc (w.calls.events + 1)) in
@@ -454,13 +449,7 @@ unwritten v c touch phase =
 
 module _ (w : World) (c : ℕ) (touch : Touch) (fault : IsFault (at_lock c touch w) c touch) where
   pub failed : (v : World) (reply : Reply) → IsFailure (found_at w touch) reply
-      → v ≡ record w {
-        calls = record w.calls {
-          events = w.calls.events + 2 + 1;
-          log = w.calls.log ++ EntryOf.Answer (w.calls.events + 2) (w.calls.number c) c reply ∷ [];
-        };
-      }
-      → Makes w c touch (End.Replied 3 reply) v
+      → v ≡ logged_later c reply 2 w → Makes w c touch (End.Replied 3 reply) v
   failed v reply failure now = record {
     few = omega arith;
     steps = fails (at_lock c touch w) c touch fault (to c (Answer reply) v) reply failure

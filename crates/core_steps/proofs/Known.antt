@@ -28,7 +28,7 @@ use Rattle.slot_lock.specs.declared.plan.Goal.TheVariants as To
 use Rattle.slot_lock.specs.Plan.{goal_plan, goal_range, range_of, HasTarget, IsSound, IsSoundGoal, IsSoundTouch}
 use Rattle.slot_lock.specs.Slots.{Slots, IsSlot, IsHeld, IsUser}
 use Rattle.vm_calls.specs.declared.decision.Decision.TheVariants.{Act}
-use Rattle.vm_calls.specs.Decisions.{Decides, DecidesChange}
+use Rattle.vm_calls.specs.Decisions.{DecidesChange}
 use Rattle.vm_calls.specs.Decisions.DecidesProtect.{no_page, no_write, acts}
 use Rattle.vm_calls.proofs.Passed.{checked_is_sound}
 use Rattle.mmu.specs.declared.entry.Translation.{Translation}

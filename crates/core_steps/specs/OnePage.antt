@@ -1,6 +1,6 @@
 -- A fault whose page is a slot of its own that nobody holds: what it finds there, where the page's
--- frame comes from, and what is left
-use Rattle.std.specs.Prelude.{◌≡◌, ℕ, ◌+◌, ◌<◌, ◌≤◌, ◌^◌, Bool, true, false, Option, None, Some, pos, ◌<ℤ◌}
+-- frame comes from, and what is left, there and after a change of such a page
+use Rattle.std.specs.Prelude.{◌≡◌, ℕ, ◌+◌, ◌<◌, ◌≤◌, ◌^◌, [], ◌∷◌, ◌++◌, Bool, true, false, Option, None, Some, pos, ◌<ℤ◌}
 use Rattle.vm_base.specs.declared.info.Back.{Back}
 use Rattle.vm_base.specs.declared.info.Back.TheVariants.{Anon}
 use Rattle.vm_base.specs.declared.info.PageInfo.{PageInfo}
@@ -14,6 +14,7 @@ use Rattle.vm_calls.specs.declared.fault.Settled.{Settled}
 use Rattle.vm_calls.specs.declared.fault.Settled.TheVariants as Found
 use Rattle.refcache.specs.Counts.{Counts, true_count}
 use Rattle.refcache.specs.Steps.{Takes, Begin, Inc, IsUnused}
+use Rattle.machine_model.specs.declared.log.Entry.TheVariants as EntryOf
 use Rattle.machine_model.specs.declared.phase.Phase.{Phase}
 use Rattle.machine_model.specs.declared.phase.Phase.TheVariants.{Answer, Try}
 use Rattle.machine_model.specs.Accesses.{IsLeastFree, after_finding, info_with_core}
@@ -114,6 +115,20 @@ with_translation core page info w = record w {
 abbrev pub trying : ℕ → Touch → ℕ → World → World
 trying core touch n w =
     to core (Try touch) (record w { calls = record w.calls { events = w.calls.events + n } })
+
+-- the core's call has this reply, which was logged at the event so many later, and at the next one
+-- the call let its page go: but for the core's phase,
+abbrev pub logged_later : ℕ → Reply → ℕ → World → World
+logged_later core reply n w = record w {
+  calls = record w.calls {
+    log = w.calls.log ++ EntryOf.Answer (w.calls.events + n) (w.calls.number core) core reply ∷ [];
+    events = w.calls.events + n + 1;
+  };
+}
+
+-- and with it
+abbrev pub replied : ℕ → Reply → ℕ → World → World
+replied core reply n w = to core (Answer reply) (logged_later core reply n w)
 
 -- from the lock of the page n steps lead to v, but for the core's phase, which would be this one and
 -- isn't written

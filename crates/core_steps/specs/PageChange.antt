@@ -1,6 +1,5 @@
 -- A change of one page that is a slot of its own and that nobody holds
-use Rattle.std.specs.Prelude.{◌≡◌, ℕ, ◌+◌, ◌≤◌, false, Option}
-use Rattle.vm_base.specs.declared.info.PageInfo.{PageInfo}
+use Rattle.std.specs.Prelude.{◌≡◌, ℕ, ◌+◌, ◌≤◌, false}
 use Rattle.vm_base.specs.Cores.{members}
 use Rattle.vm_base.specs.Functions.{put}
 use Rattle.slot_lock.specs.declared.plan.Change.{Change}

@@ -1,5 +1,5 @@
 //! The steps of a change of one page, made at once: where the page is a slot of its own that nobody
-//! holds, and no other core may have a translation of it. The page is looked for once, and isn't locked.
+//! holds, and no other core may have a translation of it. The page is looked for once and not locked.
 ghost use Rattle.std.specs.Prelude.{◌≡◌, ◌+◌, ◌≤◌};
 ghost use Rattle.slot_lock.specs.declared.plan.Change.{Change};
 ghost use Rattle.slot_lock.specs.declared.plan.Goal.TheVariants as GoalOf;
@@ -15,7 +15,6 @@ ghost use Rattle.core_steps.specs.State.{world};
 use crate::commit::{count_page, reply_to};
 use crate::engine::Engine;
 use crate::ledger::Ledger;
-use machine_model::Phase;
 use mmu::Hardware;
 use slot_lock::{Change, FreePage, SlotMap};
 use std::alloc::Allocator;
@@ -35,15 +34,10 @@ impl<M: SlotMap, H: Hardware, A: Allocator, L: Ledger> Engine<M, H, A, L> {
             × IsPageChange (world M.slots self.old) core change page (DecisionOf.Refuse errno) }
         ensures { StepsTo (world M.slots self.old) core 3 (world M.slots self.new) }
     {
-        let reply = Reply::Refused(errno);
-        self.calls.events += 2;
-        self.log_reply(core, reply);
-        self.calls.events += 1;
-        self.go_to(core, Phase::Answer(reply));
+        self.reply_at_once(core, Reply::Refused(errno), 2);
     }
 
-    // The steps of a change that is made: these cores are recorded on the page. What is logged has the
-    // number of the fourth.
+    // The steps of a change that is made: these cores are recorded on the page.
     #[inline(always)]
     fn make_at_once(&mut self, core: CoreId, change: Change, page: FreePage, shoot: CoreSet)
         requires change { IsPageChange (world M.slots self.old) core change page
@@ -54,11 +48,7 @@ impl<M: SlotMap, H: Hardware, A: Allocator, L: Ledger> Engine<M, H, A, L> {
         self.cores.shoot_alone(core, shoot, change.range());
         count_page(&mut self.counts, core, change, page.info);
         self.map.change_free(change);
-        let reply = reply_to(change);
-        self.calls.events += 4;
-        self.log_reply(core, reply);
-        self.calls.events += 1;
-        self.go_to(core, Phase::Answer(reply));
+        self.reply_at_once(core, reply_to(change), 4);
     }
 
     /// The events of the steps from the lock of a change's page to its unlock, if it has just one page,

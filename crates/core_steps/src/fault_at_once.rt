@@ -106,9 +106,7 @@ impl<M: SlotMap, H: Hardware, A: Allocator, L: Ledger> Engine<M, H, A, L> {
         requires fails { IsFailure (found_at (world M.slots self.old) touch) reply }
         ensures { Makes (world M.slots self.old) core touch result (world M.slots self.new) }
     {
-        self.calls.events += 2;
-        self.log_reply(core, reply);
-        self.calls.events += 1;
+        self.log_at_once(core, reply, 2);
         FaultEnd::Replied { steps: 3, reply }
     }
 

@@ -27,16 +27,16 @@ pub change_free-requires-clause-mapped : goal.change_free-requires-clause-mapped
 change_free-requires-clause-mapped g c =
     let i = c.requires.change in acts_mapped _ (g.M.SlotRead.slots c.args.self.now.map) c.args.change c.args.shoot (i.decides _ (sym i.found.info))
 
-pub reply_to-reply-requires : goal.reply_to-reply-requires
-reply_to-reply-requires g c = is_sound _ c.args.core c.args.change c.args.page _ c.requires.change
+pub reply_to-requires : goal.reply_to-requires
+reply_to-requires g c = is_sound _ c.args.core c.args.change c.args.page _ c.requires.change
 
-pub log_reply-requires-clause-room : goal.log_reply-requires-clause-room
-log_reply-requires-clause-room g c = room_to_log _ c.args.core c.args.change c.args.page _ c.requires.change
+pub reply_at_once-requires-clause-room : goal.reply_at_once-requires-clause-room
+reply_at_once-requires-clause-room g c = room_to_log _ c.args.core c.args.change c.args.page _ c.requires.change
 
 pub returns : goal.returns
 returns g c =
     let before = world g.M.SlotRead.slots c.args.self.now in
     makes_at_once before c.args.core c.args.change c.args.page c.args.shoot c.requires.change c.requires.alone _
-    (c.count_page.ensures before.slots.info _ c.requires.change.found.info) (parts c.shoot_alone.new.self).hardware _ _ _ _ _
+    (c.count_page.ensures before.slots.info _ c.requires.change.found.info) (parts c.shoot_alone.new.self).hardware _ _ _ _
     c.range.ensures c.shoot_alone.ensures.after c.change_free.ensures
-    c.reply_to-reply.ensures c.log_reply.ensures.log c.go_to.ensures
+    c.reply_to.ensures c.reply_at_once.ensures
