@@ -31,8 +31,8 @@ mod place;
 pub mod run_result;
 pub mod running;
 pub mod setup;
-mod slots_at_once;
 mod starting;
+mod steps_at_once;
 mod tally;
 
 pub use counted::Counted;
