@@ -15,7 +15,9 @@ use Rattle.machine_model.specs.declared.event.Event.TheVariants.{Go, Fold}
 use Rattle.machine_model.specs.declared.event.Outcome.{Outcome}
 use Rattle.machine_model.specs.declared.event.Outcome.TheVariants.{Stepped, Idle, Full}
 use Rattle.machine_model.specs.declared.phase.Phase.{Phase}
-use Rattle.machine_model.specs.declared.phase.Phase.TheVariants.{Lock, Find, Cut, Decide, Post, Acks, Answer, Settle, Want, Fill, CopyPost, CopyAcks, Install, Release}
+use Rattle.machine_model.specs.declared.phase.Phase.TheVariants.{Lock, Find, Cut, Decide, Post, Acks}
+use Rattle.machine_model.specs.declared.phase.Phase.TheVariants.{Answer, Settle, Want, Fill, CopyPost}
+use Rattle.machine_model.specs.declared.phase.Phase.TheVariants.{CopyAcks, Install, Release}
 use Rattle.machine_model.specs.Changes.{AwaitsNobody, Awaits}
 use Rattle.machine_model.specs.Files.{back_of}
 use Rattle.machine_model.specs.Locks.{locking}

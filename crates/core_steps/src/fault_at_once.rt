@@ -1,6 +1,7 @@
 //! A fault of an access, made at once: its page is found once and set once. No other core can act in
 //! between, so that the page, which nobody holds, need not be locked, nor the core's phase written.
-ghost use Rattle.std.specs.Prelude.{◌≡◌, ◌+◌, ◌<◌, ◌≤◌, ℕ, None, Some, IfSome, if◌then◌else◌, true, length};
+ghost use Rattle.std.specs.Prelude.{◌≡◌, ◌+◌, ◌<◌, ◌≤◌, ℕ, None, Some, IfSome, if◌then◌else◌, true};
+ghost use Rattle.std.specs.Prelude.{length};
 ghost use Rattle.vm_base.specs.Pages.{IsPage};
 ghost use Rattle.slot_lock.specs.declared.plan.Goal.TheVariants as To;
 ghost use Rattle.slot_lock.specs.Slots.{HasMeta, IsFreeSlot};
@@ -15,7 +16,9 @@ ghost use Rattle.machine_model.specs.Locks.{locking};
 ghost use Rattle.machine_model.specs.Step.{Step, StepsTo, event_limit};
 ghost use Rattle.machine_model.specs.World.{Memory};
 ghost use Rattle.machine_sound.specs.Sound.{IsReached};
-ghost use Rattle.core_steps.specs.OnePage.{CanTake, IsFailure, IsFault, IsSource, Makes, TakesFrom, at_lock, fault_end, frame_from, steps_from, trying, with_translation};
+ghost use Rattle.core_steps.specs.OnePage.{CanTake, IsFailure, IsFault, IsSource, Makes, TakesFrom};
+ghost use Rattle.core_steps.specs.OnePage.{at_lock, fault_end, frame_from, steps_from, trying};
+ghost use Rattle.core_steps.specs.OnePage.{with_translation};
 ghost use Rattle.core_steps.specs.Moving.{tried_to};
 ghost use Rattle.core_steps.specs.State.{world};
 

@@ -1,5 +1,6 @@
 -- What a TLB keeps: the translations that were filled, in their order, with chains by a hash of the page
-use Rattle.std.specs.Prelude.{◌≡◌, ◌≢◌, ℕ, ◌+◌, ◌<◌, ◌≤◌, ◌==◌, ◌&&◌, Bool, false, if◌then◌else◌, length, List, Option, None, Some, slice_index, slice_index_or}
+use Rattle.std.specs.Prelude.{◌≡◌, ◌≢◌, ℕ, ◌+◌, ◌<◌, ◌≤◌, ◌==◌, ◌&&◌, Bool, false, if◌then◌else◌}
+use Rattle.std.specs.Prelude.{length, List, Option, None, Some, slice_index, slice_index_or}
 use Rattle.std.specs.List.{filter_map}
 use Rattle.mmu.specs.declared.tlb.TlbEntry.{TlbEntry}
 use Rattle.mmu.specs.declared.tlb.Filled.{Filled}

@@ -1,5 +1,6 @@
 //! What one core translates addresses by: tables of its own, and a TLB.
-ghost use Rattle.std.specs.Prelude.{◌≡◌, ◌&&◌, ◌/◌, ℕ, [], None, Some, true, is_some, not, length, ◌≤◌, IfOk, OnOk, OnErr, List, Option, if◌then◌else◌};
+ghost use Rattle.std.specs.Prelude.{◌≡◌, ◌&&◌, ◌/◌, ℕ, [], None, Some, true, is_some, not, length, ◌≤◌};
+ghost use Rattle.std.specs.Prelude.{IfOk, OnOk, OnErr, List, Option, if◌then◌else◌};
 ghost use Rattle.vm_base.specs.Functions.{put, over, has};
 ghost use Rattle.vm_base.specs.Pages.{is_page as is_valid, are_pages};
 ghost use Rattle.mmu.specs.declared.entry.Translation.{Translation};

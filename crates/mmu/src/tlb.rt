@@ -1,8 +1,10 @@
 //! The translations that a core holds, the oldest filled first.
-ghost use Rattle.std.specs.Prelude.{◌≡◌, ◌==◌, ◌+◌, ◌<◌, ◌≤◌, [], ◌∷◌, ◌++◌, true, None, IfSome, length, drop, take, map, slice_set, if◌then◌else◌};
+ghost use Rattle.std.specs.Prelude.{◌≡◌, ◌==◌, ◌+◌, ◌<◌, ◌≤◌, [], ◌∷◌, ◌++◌, true, None, IfSome};
+ghost use Rattle.std.specs.Prelude.{length, drop, take, map, slice_set, if◌then◌else◌};
 ghost use Rattle.vm_base.specs.Functions.{has};
 ghost use Rattle.mmu.specs.Tlb.{tlb_at, tlb_without, is_page, tlb_filled, are_distinct, page_hash};
-ghost use Rattle.mmu.specs.Fills.{entries_of, filled_at, has_page, dropped, filled_page, filled_older, AreChained};
+ghost use Rattle.mmu.specs.Fills.{entries_of, filled_at, has_page, dropped, filled_page, filled_older};
+ghost use Rattle.mmu.specs.Fills.{AreChained};
 
 use crate::entry::Translation;
 use arrayvec::ArrayVec;

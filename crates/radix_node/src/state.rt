@@ -1,7 +1,9 @@
 //! What a slot that is no child says of its pages.
-ghost use Rattle.std.specs.Prelude.{◌≡◌, ◌+◌, ◌<◌, ◌^◌, ◌↔◌, IsTrue, Option, None, Some, is_some, true, false};
+ghost use Rattle.std.specs.Prelude.{◌≡◌, ◌+◌, ◌<◌, ◌^◌, ◌↔◌, IsTrue, Option, None, Some, is_some, true};
+ghost use Rattle.std.specs.Prelude.{false};
 ghost use Rattle.vm_base.specs.Cores.{members};
-ghost use Rattle.vm_base.specs.Info.{file_page, info_file_page, info_from, info_with_prot, info_without_frame, is_leaf, frame_of, is_recorded};
+ghost use Rattle.vm_base.specs.Info.{file_page, info_file_page, info_from, info_with_prot};
+ghost use Rattle.vm_base.specs.Info.{info_without_frame, is_leaf, frame_of, is_recorded};
 ghost use Rattle.radix_node.specs.Edit.{CanEdit, edited};
 ghost use Rattle.radix_node.specs.State.{back_of, frame_in, state_of, state_from, IsPlain};
 

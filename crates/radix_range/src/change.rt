@@ -1,9 +1,11 @@
 //! Changes of a tree's slots.
-ghost use Rattle.std.specs.Prelude.{◌≡◌, ℕ, ◌+◌, ◌-◌, ◌^◌, ◌<◌, ◌≤◌, ◌↔◌, OnOk, OnErr, IsTrue, true, false, Option, Some};
+ghost use Rattle.std.specs.Prelude.{◌≡◌, ℕ, ◌+◌, ◌-◌, ◌^◌, ◌<◌, ◌≤◌, ◌↔◌, OnOk, OnErr, IsTrue, true};
+ghost use Rattle.std.specs.Prelude.{false, Option, Some};
 ghost use Rattle.vm_base.specs.Pages.{IsPage, IsPageRange};
 ghost use Rattle.vm_base.specs.Info.{info_without_frame};
 ghost use Rattle.slot_lock.specs.Plan.{IsSoundChange, range_of};
-ghost use Rattle.slot_lock.specs.Slots.{Divides, DividesAs, HasMeta, IsCut, IsSlot, Joins, Slots, between, with_owner, with_info};
+ghost use Rattle.slot_lock.specs.Slots.{Divides, DividesAs, HasMeta, IsCut, IsSlot, Joins, Slots};
+ghost use Rattle.slot_lock.specs.Slots.{between, with_owner, with_info};
 ghost use Rattle.slot_lock.specs.SlotRuns.{LocksRun, UnlocksRun};
 ghost use Rattle.slot_lock.specs.Changes.{changed};
 ghost use Rattle.radix_node.specs.Edit.{CanEdit};

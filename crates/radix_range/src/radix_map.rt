@@ -1,5 +1,6 @@
 //! The second slot map: a radix tree.
-ghost use Rattle.std.specs.Prelude.{◌≡◌, ◌≢◌, ℕ, ◌+◌, ◌-◌, ◌^◌, ◌<◌, ◌≤◌, IfOk, OnErr, Option, Some, Bool};
+ghost use Rattle.std.specs.Prelude.{◌≡◌, ◌≢◌, ℕ, ◌+◌, ◌-◌, ◌^◌, ◌<◌, ◌≤◌, IfOk, OnErr, Option, Some};
+ghost use Rattle.std.specs.Prelude.{Bool};
 ghost use Rattle.radix_range.specs.Mapped.{IsFull};
 ghost use Rattle.radix_range.specs.Tree.{IsRadix, tree_slots};
 

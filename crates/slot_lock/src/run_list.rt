@@ -1,5 +1,6 @@
 //! The first slot map: a list of runs.
-ghost use Rattle.std.specs.Prelude.{◌≡◌, ◌≢◌, ℕ, ◌+◌, ◌-◌, ◌^◌, ◌<◌, ◌≤◌, IfOk, OnErr, Option, Some, Bool, length};
+ghost use Rattle.std.specs.Prelude.{◌≡◌, ◌≢◌, ℕ, ◌+◌, ◌-◌, ◌^◌, ◌<◌, ◌≤◌, IfOk, OnErr, Option, Some};
+ghost use Rattle.std.specs.Prelude.{Bool, length};
 ghost use Rattle.slot_lock.specs.Runs.{IsRuns};
 
 use crate::framed::FramedPages;

@@ -3,7 +3,8 @@
 //! A slot is a set of neighbouring pages with one owner or none, whose mapping goes on from page to
 //! page. A new map has all valid pages unmapped and unheld. A page with a frame or a recorded core
 //! is a slot of its own.
-ghost use Rattle.std.specs.Prelude.{◌≡◌, ◌≢◌, ℕ, ◌+◌, ◌-◌, ◌^◌, ◌<◌, ◌≤◌, ◌↔◌, ◌⊎◌, IfOk, OnErr, IfSome, IfNone, IsTrue, true, Bool, Option, Some, None};
+ghost use Rattle.std.specs.Prelude.{◌≡◌, ◌≢◌, ℕ, ◌+◌, ◌-◌, ◌^◌, ◌<◌, ◌≤◌, ◌↔◌, ◌⊎◌, IfOk, OnErr};
+ghost use Rattle.std.specs.Prelude.{IfSome, IfNone, IsTrue, true, Bool, Option, Some, None};
 ghost use Rattle.vm_base.specs.declared.page.PageRange.{PageRange};
 ghost use Rattle.vm_base.specs.Functions.{has};
 ghost use Rattle.vm_base.specs.Cores.{members};
@@ -12,7 +13,11 @@ ghost use Rattle.slot_lock.specs.Plan.{FitsFile, IsSoundChange, range_of};
 ghost use Rattle.arrayvec.specs.ArrayVec.{array_vec_len};
 ghost use Rattle.slot_lock.specs.Framed.{AddsFrames, frames_in};
 ghost use Rattle.slot_lock.specs.Changes.{changed, IsMappedFor};
-ghost use Rattle.slot_lock.specs.Slots.{Slots, IsSlot, IsSlotBy, IsSlotMap, IsFreePage, IsFreeSlot, IsHeld, IsCrossed, OwnsAll, Steps, Crosses, CutSteps, Unlocks, Joins, HasMeta, IsFreeRun, LosesFrame, NoFrames, IsUser, AllMapped, DividesAs, IfSplit, IfCut, between, crossed_edge, cleared, mapped, protected, with_info};
+ghost use Rattle.slot_lock.specs.Slots.{Slots, IsSlot, IsSlotBy, IsSlotMap, IsFreePage, IsFreeSlot};
+ghost use Rattle.slot_lock.specs.Slots.{IsHeld, IsCrossed, OwnsAll, Steps, Crosses, CutSteps, Unlocks};
+ghost use Rattle.slot_lock.specs.Slots.{Joins, HasMeta, IsFreeRun, LosesFrame, NoFrames, IsUser};
+ghost use Rattle.slot_lock.specs.Slots.{AllMapped, DividesAs, IfSplit, IfCut, between, crossed_edge};
+ghost use Rattle.slot_lock.specs.Slots.{cleared, mapped, protected, with_info};
 ghost use Rattle.slot_lock.specs.SlotRuns.{LocksRun, UnlocksRun};
 
 use crate::framed::FramedPages;

@@ -5,7 +5,8 @@ use Rattle.vm_base.specs.Pages.{page_of}
 use Rattle.trace_text.specs.Words.{Word}
 use Rattle.trace_text.specs.Request.{◌>>=◌, ended, front_number, request_of}
 use Rattle.trace_text.specs.declared.action.Action.{Action}
-use Rattle.trace_text.specs.declared.action.Action.TheVariants.{Call, Go, Take, Flush, Review, GiveUp, Frame, Guess, Whole, Walk, Evict}
+use Rattle.trace_text.specs.declared.action.Action.TheVariants.{Call, Go, Take, Flush, Review, GiveUp}
+use Rattle.trace_text.specs.declared.action.Action.TheVariants.{Frame, Guess, Whole, Walk, Evict}
 
 -- the number that is the last word
 unfoldable pub number_alone : List Word → Option ℕ

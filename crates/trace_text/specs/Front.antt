@@ -1,5 +1,6 @@
 -- What bytes begin with.
-use Rattle.std.specs.Prelude.{◌≡◌, ℕ, ◌^◌, ◌+◌, ◌<◌, ◌≤◌, List, ◌∷◌, ◌++◌, Some, length, take, drop, slice_index, codes}
+use Rattle.std.specs.Prelude.{◌≡◌, ℕ, ◌^◌, ◌+◌, ◌<◌, ◌≤◌, List, ◌∷◌, ◌++◌, Some, length, take, drop}
+use Rattle.std.specs.Prelude.{slice_index, codes}
 use Rattle.trace_text.specs.Words.{byte}
 use Rattle.trace_text.specs.Number.{value_from}
 

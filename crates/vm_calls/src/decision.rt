@@ -9,7 +9,9 @@ ghost use Rattle.slot_lock.specs.declared.plan.Goal.TheVariants as GoalOf;
 ghost use Rattle.slot_lock.specs.Plan.{IsSoundGoal, IsSoundPlace, goal_range, range_of, target_range};
 ghost use Rattle.backing.specs.Files.{files_of};
 ghost use Rattle.vm_calls.specs.declared.decision.Decision.TheVariants as DecisionOf;
-ghost use Rattle.vm_calls.specs.Decisions.{Decides, DecidesPage, DecidesRun, DecidesWindow, DecidesPlace, DecidesProtect, Acts, IsReadable, IsNoAccess, IsSoundAct, entries, entry_of};
+ghost use Rattle.vm_calls.specs.Decisions.{Decides, DecidesPage, DecidesRun, DecidesWindow};
+ghost use Rattle.vm_calls.specs.Decisions.{DecidesPlace, DecidesProtect, Acts, IsReadable, IsNoAccess};
+ghost use Rattle.vm_calls.specs.Decisions.{IsSoundAct, entries, entry_of};
 
 use backing::Objects;
 use slot_lock::{Change, Goal, Place, SlotRead, Target};
