@@ -1,5 +1,5 @@
 #!/usr/bin/env bash
-# Prints for each shape whose ratio in docs/shapes.csv is above 1.2 (or for those named) the five functions in which the program spends
+# Prints for the six shapes whose ratio in docs/shapes.csv is the highest (or for those named) the five functions in which the program spends
 # most of its time, by their share of samples (perf, 8,000 samples a second of processor time), and the same of the plain program.
 # Then the shares of text, machine and kernel. With names left out it does so too for loads among 100,000 slots and for their list of
 # mappings, and writes all to docs/profile.csv and docs/parts.csv.
@@ -41,7 +41,7 @@ profile() { # NAME WORD
 }
 
 names=("$@")
-[ $# -gt 0 ] || mapfile -t names < <(awk -F, 'NR > 1 && $5 > 1.2 { print $1 }' docs/shapes.csv)
+[ $# -gt 0 ] || mapfile -t names < <(tail -n +2 docs/shapes.csv | sort -t, -k5,5 -nr | head -n 6 | cut -d, -f1)
 table=$work/profile.csv shares=$work/parts.csv
 echo shape,program,text,machine,kernel > "$shares"
 echo shape,program,share,function > "$table"

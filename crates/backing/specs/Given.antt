@@ -1,5 +1,6 @@
 -- The files that are asked for, and what a mapping of one may be refused for
-use Rattle.std.specs.Prelude.{ℕ, Bool, true, false, List, slice_get, length, replicate, Option, Some, None, Result, Ok, Err}
+use Rattle.std.specs.Prelude.{ℕ, Bool, true, false, List, slice_get, length, replicate, Option, Some}
+use Rattle.std.specs.Prelude.{None, Result, Ok, Err}
 use Rattle.vm_base.specs.declared.replies.Errno.{Errno}
 use Rattle.vm_base.specs.declared.replies.Reply.{Reply}
 use Rattle.vm_base.specs.Pages.{page_count}

@@ -60,7 +60,8 @@ impl<A: Allocator + Clone> Objects<A> {
 }
 
 impl<A: Allocator> Objects<A> {
-    ghost use Rattle.std.specs.Prelude.{◌≡◌, ℕ, ◌<◌, ◌≤◌, ◌+◌, ◌^◌, Some, None, IfSome, is_some, not, true, length};
+    ghost use Rattle.std.specs.Prelude.{◌≡◌, ℕ, ◌<◌, ◌≤◌, ◌+◌, ◌^◌, Some, None, IfSome, is_some, not};
+    ghost use Rattle.std.specs.Prelude.{true, length};
     ghost use Rattle.vm_base.specs.declared.requests.Flags.{Flags};
     ghost use Rattle.vm_base.specs.Functions.{put};
     ghost use Rattle.vm_base.specs.Plain.{file_bytes, mode_of, page_bytes};

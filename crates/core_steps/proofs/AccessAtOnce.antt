@@ -1,5 +1,5 @@
 -- The first events of an access, made at once: the states that it passes, and the one that is left
-use Rattle.std.proofs.Common.{◌≡◌, ℕ, suc, ◌+◌, ◌<◌, not, [], ◌∷◌, ◌++◌, length, Option, Some, None, refl, sym, subst, ap, ◌∙◌, arith}
+use Rattle.std.proofs.Common.{◌≡◌, ℕ, suc, ◌+◌, ◌<◌, ◌≤◌, not, [], ◌∷◌, ◌++◌, length, Option, Some, None, refl, sym, subst, ap, ◌∙◌, arith}
 use Rattle.std.proofs.Math.Logic.{∥∥₁_map}
 use Rattle.vm_base.specs.declared.replies.Reply.{Reply}
 use Rattle.vm_base.specs.declared.requests.Request.{Request}
@@ -19,20 +19,22 @@ use Rattle.machine_model.specs.Accesses.{after_access, after_translation, memory
 use Rattle.machine_model.specs.Actions.{Becomes, answer_entry, to, with_entry}
 use Rattle.machine_model.specs.Changes.{after_plan}
 use Rattle.machine_model.specs.Locks.{locking}
-use Rattle.machine_model.specs.Step.{Goes, Step, StepsTo, after_call, with_event}
+use Rattle.machine_model.specs.Step.{Goes, Step, StepsTo, after_call, event_limit, with_event}
 use Rattle.machine_model.specs.Translating.{after_translating, frame_reached, translated_by, with_hardware}
 use Rattle.machine_laws.specs.Orderly.{answer_count}
 use Rattle.machine_sound.specs.Sound.{IsReached}
 use Rattle.machine_sound.proofs.Kept.{reached_step}
 use Rattle.core_steps.specs.declared.machine.Finished.TheVariants.{Last}
-use Rattle.core_steps.specs.AtOnce.{IsAccess, with_call}
+use Rattle.core_steps.specs.declared.starting.Started.TheVariants as Started
+use Rattle.core_steps.specs.AtOnce.{IsAccess, Starts, with_call}
 use Rattle.core_steps.specs.Finishing.{Calls}
 use Rattle.core_steps.specs.Moving.{IsAt}
+use Rattle.core_steps.specs.OnePage.{MakesTo, at_lock}
 use Rattle.core_steps.proofs.AtOnce.{counted_step, less}
 use Rattle.core_steps.proofs.Calling.{begun as begins_so}
 use Rattle.core_steps.proofs.Each.{put_id}
 use Rattle.core_steps.proofs.Known.{frame_below, room_for, sound_at}
-use Rattle.core_steps.proofs.Reached.{fine}
+use Rattle.core_steps.proofs.Reached.{fine, steps_join, steps_reached}
 use Rattle.core_steps.proofs.SlotRuns.{put_twice}
 
 -- so many events more were counted
@@ -191,3 +193,68 @@ module _ (w : World) (c : ℕ) (request : Request) (touch : Touch) (i : IsAccess
           (Stepped, begun, begins, (2, (omega arith, (λ e. cc), (after_access c touch f translated, two, last)))),
           ∥∥₁_map (tried_reached (Some f) some) (λ h. reached_step _ _ (Go c) (Answered reply) h last),
         )
+
+    -- ---- the steps behind the fault
+
+    module _ (none : frame_reached (translated_by a.hardware c touch) ≡ None) where
+      -- the state in which the fault is told
+      abbrev y : World
+      y = translated_in h a
+
+      begins_fault : ((m : World) × Step w (Call c request) Stepped m × StepsTo m c 2 (at_lock c touch y)) × ∥ IsReached (at_lock c touch y) ∥₁
+      begins_fault = faults (at_lock c touch y) (locking (To.Access touch)) none refl refl
+
+      pub fault_reached : ∥ IsReached (at_lock c touch y) ∥₁
+      fault_reached = begins_fault.1
+
+      pub fault_room : y.calls.events + 7 ≤ event_limit
+      fault_room =
+          let events : y.calls.events ≡ w.calls.events + 3 = ap (λ (x : World). x.calls.events + 3) kept in
+          let below = i.below in
+          omega (arith, events, below)
+
+      pub faults_again : (v x : World) (n : ℕ) (phase : Phase) → MakesTo y c touch n (locking (To.Access touch)) v → phase ≡ locking (To.Access touch)
+          → x ≡ to c phase v → Starts w c request (Started.Begun (2 + n)) x × ∥ IsReached x ∥₁
+      faults_again v x n phase makes locks left =
+          let few = makes.few in
+          let was = begins_fault in
+          let last : StepsTo (at_lock c touch y) c n x =
+          subst (StepsTo (at_lock c touch y) c n) (sym (left ∙ ap (λ p. to c p v) locks)) makes.steps in
+          ((omega (arith, few), (was.0.0, was.0.1, steps_join was.0.0 (at_lock c touch y) x c 2 n was.0.2 last)), steps_reached (at_lock c touch y) x c n last was.1)
+
+      pub fault_replied : (v : World) (n : ℕ) (reply : Reply) → MakesTo y c touch n (Answer reply) v
+          → Starts w c request (Started.Ended (Answered reply)) (with_events 1 v) × ∥ IsReached (with_events 1 v) ∥₁
+      fault_replied v n reply makes =
+          let few = makes.few in
+          let was = begins_fault in
+          let m = to c (Answer reply) v in
+          let steps = steps_join was.0.0 (at_lock c touch y) m c 2 n was.0.2 makes.steps in
+          let reached = steps_reached (at_lock c touch y) m c n makes.steps was.1 in (
+            (Stepped, was.0.0, was.0.1, (2 + n, (omega (arith, few), (λ e. cc), (m, steps, last)))),
+            ∥∥₁_map reached (λ h. reached_step m (with_events 1 v) (Go c) (Answered reply) h last),
+          )
+        where
+          phases : v.calls.phase ≡ w.calls.phase
+          phases = makes.phases ∙ ap (λ (x : World). x.calls.phase) kept
+
+          cores : v.made.cores ≡ w.made.cores
+          cores = makes.cores ∙ ap (λ (x : World). x.made.cores) kept
+
+          free : v.calls.phase ≡ put (put v.calls.phase c (Answer reply)) c Free
+          free = sym (put_id v.calls.phase c Free (sym (ap (λ f. f c) phases ∙ i.begins.free))) ∙ put_twice v.calls.phase c (Answer reply) Free
+
+          last : Step (to c (Answer reply) v) (Go c) (Answered reply) (with_events 1 v)
+          last =
+              let m = to c (Answer reply) v in
+              let few = makes.few in
+              let counted = makes.events in
+              let events : y.calls.events ≡ w.calls.events + 3 = ap (λ (x : World). x.calls.events + 3) kept in
+              let below = i.below in
+              let more : v.calls.events + 1 ≡ suc v.calls.events = omega arith in
+              counted_step m (with_events 1 v) c (Go c) (Answered reply) (omega (arith, few, counted, events, below)) refl
+              (subst (λ n. c < n) (sym cores) i.here)
+              (subst (λ p. Goes (with_event m) c p (Answered reply) (with_events 1 v)) (sym (put_same v.calls.phase c (Answer reply))) (
+                refl,
+                ap (λ f. record v { calls = record v.calls { phase = f; events = v.calls.events + 1 } }) free
+                    ∙ ap (λ k. record v { calls = record v.calls { phase = put (put v.calls.phase c (Answer reply)) c Free; events = k } }) more,
+              ))

@@ -5,8 +5,8 @@ use Rattle.std.proofs.Math.Path.{fun_ext}
 use Rattle.std.proofs.lemmas.List.{map-set, length-map, get_or-map}
 use Rattle.vm_base.specs.declared.page.PageRange.{PageRange}
 use Rattle.vm_base.specs.Cores.{members}
-use Rattle.vm_base.specs.Functions.{put}
-use Rattle.vm_base.proofs.Functions.{put_all}
+use Rattle.vm_base.specs.Functions.{has, over, put}
+use Rattle.vm_base.proofs.Functions.{over_all, put_all}
 use Rattle.mmu.specs.declared.entry.Translation.{Translation}
 use Rattle.mmu.specs.declared.tlb.TlbEntry.{TlbEntry}
 use Rattle.mmu.specs.Tlb.{tlb_without, is_page}
@@ -15,7 +15,9 @@ use Rattle.shootdown.specs.Messages.{InboxOf, posted}
 use Rattle.shootdown.specs.Inboxes.{inbox, sent}
 use Rattle.machine_model.specs.World.{Hardware, no_translations}
 use Rattle.machine_model.specs.Translating.{with_table, with_tlb, tables_cleared, tlb_invalidated, after_eviction, after_shot}
+use Rattle.machine_coherence.specs.Coherent.{Every, HasDropped}
 use Rattle.core_steps.specs.Cores.{of_each, parts_of}
+use Rattle.core_steps.specs.PageChange.{IsAlone}
 use Rattle.core_steps.proofs.Lists.{set_is_put}
 
 -- ---- one function
@@ -101,7 +103,37 @@ module _ {C : Type 0} (table : C → ℕ → Option Translation) (tlb : C → Li
   evict_set p true et el = tlb_set (λ t l. tlb_without (is_page p) l) et el
   evict_set p false et el = none_set et el
 
+-- ---- a core that has nothing of a range
+
+-- of changes to what is there already
+over_id : {V : Type 0} (f : ℕ → V) (s : ℕ → Bool) (v : V) → ((j : ℕ) → s j ≡ true → f j ≡ v) → over f s v ≡ f
+over_id f s v same = fun_ext (over_all (λ j x. x ≡ f j) f s v (λ j e. sym (same j e)) (λ j e. refl))
+
+without_none : (s : ℕ → Bool) (es : List TlbEntry) → Every (λ (e : TlbEntry). s e.page ≡ false) es → tlb_without s es ≡ es
+without_none s [] none = refl
+without_none s (e ∷ es) none = rw none.0 (ap (λ xs. e ∷ xs) (without_none s es none.1))
+
+nothing_dropped : (h : Hardware) (core : ℕ) (range : PageRange) → HasDropped (h.table core) (h.tlb core) range None
+    → tlb_invalidated (tables_cleared h core range) core range ≡ h
+nothing_dropped h core range none =
+    ap (λ t. tlb_invalidated (record h { table = t }) core range) (put_id h.table core _ (over_id (h.table core) (has range) None none.0))
+    ∙ ap (λ l. record h { tlb = l }) (put_id h.tlb core _ (without_none (has range) (h.tlb core) none.1))
+
 -- ---- a shootdown
+
+pub own_dropped : (h : Hardware) (core set : ℕ) (range : PageRange) → IsAlone set core
+    → after_shot h core set range ≡ tlb_invalidated (tables_cleared h core range) core range
+own_dropped h core set range alone =
+    ap (λ b. record (tlb_invalidated (tables_cleared h core range) core range) { inbox = b }) (fun_ext (λ d. rw (alone d) refl))
+
+-- the core of the set that is shot is this one, or there is none
+pub shot_alone : (h0 h1 : Hardware) (core set : ℕ) (range : PageRange) → IsAlone set core
+    → h1 ≡ tlb_invalidated (tables_cleared h0 core range) core range → h1 ≡ after_shot h0 core set range
+shot_alone h0 h1 core set range alone e = e ∙ sym (own_dropped h0 core set range alone)
+
+pub shot_nobody : (h : Hardware) (core set : ℕ) (range : PageRange) → IsAlone set core → HasDropped (h.table core) (h.tlb core) range None
+    → h ≡ after_shot h core set range
+shot_nobody h core set range alone none = sym (own_dropped h core set range alone ∙ nothing_dropped h core range none)
 
 pub shot_set : (h0 h2 : Hardware) (core set to : ℕ) (range : PageRange) (boxes : ℕ → List Message)
     → h2 ≡ tlb_invalidated (tables_cleared h0 core range) core range

@@ -1,7 +1,7 @@
 -- What the code learns of the core that is to make a step: it knows only that the state is one that runs reach
 use Rattle.std.proofs.Common.{◌≡◌, ◌≢◌, ℕ, ◌+◌, ◌<◌, ◌≤◌, ◌^◌, ◌==◌, ◌||◌, Bool, true, false, List, [], ◌∷◌, Option, Some, None}
 use Rattle.std.proofs.Common.{is_some, refl, sym, subst, ap, arith, cond, ◌∙◌, pos, ◌<ℤ◌, ◌≤ℤ◌, ◌&&◌, nat_lt}
-use Rattle.std.specs.Prelude.{if◌then◌else◌, IfSome}
+use Rattle.std.specs.Prelude.{if◌then◌else◌, IfSome, ◌↔◌}
 use Rattle.std.proofs.Math.Logic.{∥∥₁_elim, ∥∥₁_map}
 use Rattle.std.proofs.Props.{props}
 use Rattle.std.proofs.lemmas.Bool.Decides.{nat_tests}
@@ -15,6 +15,7 @@ use Rattle.vm_base.specs.Cores.{members}
 use Rattle.vm_base.specs.Functions.{has}
 use Rattle.vm_base.specs.Pages.{IsPage, IsPageRange, are_pages, is_page}
 use Rattle.vm_base.specs.Info.{frame_of}
+use Rattle.vm_base.specs.Plain.{File}
 use Rattle.vm_base.specs.Rights.{is_allowed}
 use Rattle.vm_base.proofs.Functions.{in_has, eq_true}
 use Rattle.slot_lock.specs.declared.plan.Change.{Change}
@@ -25,9 +26,9 @@ use Rattle.slot_lock.specs.declared.plan.Touch.{Touch}
 use Rattle.slot_lock.specs.declared.plan.Goal.{Goal}
 use Rattle.slot_lock.specs.declared.plan.Goal.TheVariants as To
 use Rattle.slot_lock.specs.Plan.{goal_plan, goal_range, range_of, HasTarget, IsSound, IsSoundGoal, IsSoundTouch}
-use Rattle.slot_lock.specs.Slots.{IsSlot, IsHeld, IsUser}
+use Rattle.slot_lock.specs.Slots.{Slots, IsSlot, IsHeld, IsUser}
 use Rattle.vm_calls.specs.declared.decision.Decision.TheVariants.{Act}
-use Rattle.vm_calls.specs.Decisions.{Decides}
+use Rattle.vm_calls.specs.Decisions.{DecidesChange}
 use Rattle.vm_calls.specs.Decisions.DecidesProtect.{no_page, no_write, acts}
 use Rattle.vm_calls.proofs.Passed.{checked_is_sound}
 use Rattle.mmu.specs.declared.entry.Translation.{Translation}
@@ -113,7 +114,7 @@ counts_reached w g = g.order.memory.reached
 counts_sized : (w : World) → Fine w → (w.memory.counts.cores ≡ w.made.cores) × (w.memory.counts.objects ≡ w.made.frames)
 counts_sized w g = (g.order.memory.cores, g.order.memory.objects)
 
-pages_counted : (w : World) → Fine w → (p f : ℕ) → frame_of (w.slots.info p) ≡ Some f → pos 0 <ℤ true_count w.memory.counts f
+pub pages_counted : (w : World) → Fine w → (p f : ℕ) → frame_of (w.slots.info p) ≡ Some f → pos 0 <ℤ true_count w.memory.counts f
 pages_counted w g p f h = counted_positive w g.order g.counted f p h
 
 users_counted : (w : World) → Fine w → (f : ℕ) → pos (users_of w.slots.info f) ≤ℤ true_count w.memory.counts f
@@ -194,6 +195,13 @@ taken_unused w c phase i f h = record {
   zero = ∥∥₁_elim i.fine (hlevel props) (λ g. (taken_is_unused w g c f (ap taken_in i.phase ∙ h)).zero);
   entries = λ d lt. ∥∥₁_elim i.fine (hlevel props) (λ g. (taken_is_unused w g c f (ap taken_in i.phase ∙ h)).entries d lt);
   unqueued = ∥∥₁_elim i.fine (hlevel props) (λ g. (taken_is_unused w g c f (ap taken_in i.phase ∙ h)).unqueued);
+}
+
+pub free_unused : (w : World) (f : ℕ) → ∥ Fine w ∥₁ → w.memory.is_free f ≡ true → IsUnused w.memory.counts f
+free_unused w f t h = record {
+  zero = ∥∥₁_elim t (hlevel props) (λ g. (free_is_unused w g f h).zero);
+  entries = λ d lt. ∥∥₁_elim t (hlevel props) (λ g. (free_is_unused w g f h).entries d lt);
+  unqueued = ∥∥₁_elim t (hlevel props) (λ g. (free_is_unused w g f h).unqueued);
 }
 
 pub are_counted : (w : World) → ∥ Fine w ∥₁ → AreCounted w.slots.info w.memory.counts
@@ -343,17 +351,18 @@ nobody_awaited w c phase i idle d = go (message_of (w.hardware.inbox d) c) refl
 user_here : (w : World) (range : PageRange) (d : ℕ) → IsOrderly w → IsUser w.slots range d → d < w.made.cores
 user_here w range d g u = (g.pages u.0).cores d u.2
 
-shot_by : (w : World) (change : Change) (shoot d : ℕ) → Decides w.made.file w.slots (To.Change change) (Act (range_of change) shoot)
-    → members shoot d ≡ true → IsUser w.slots (range_of change) d
-shot_by w (Put range meta) shoot d h m = (h.1 d).0 m
-shot_by w (Clear range) shoot d h m = (h.1 d).0 m
-shot_by w (Protect range prot) shoot d (no_page a e) m = absurd cc
-shot_by w (Protect range prot) shoot d (no_write a x r e) m = absurd cc
-shot_by w (Protect range prot) shoot d (acts a r k) m = (k.1 d).0 m
+-- a change shoots just the cores that are recorded on a page of its range
+pub shot_just : (files : ℕ → Option File) (s : Slots) (change : Change) (shoot : ℕ) → DecidesChange files s change (Act (range_of change) shoot)
+    → (d : ℕ) → (members shoot d ≡ true) ↔ IsUser s (range_of change) d
+shot_just files s (Put range meta) shoot h d = h.1 d
+shot_just files s (Clear range) shoot h d = h.1 d
+shot_just files s (Protect range prot) shoot (no_page a e) d = absurd cc
+shot_just files s (Protect range prot) shoot (no_write a x r e) d = absurd cc
+shot_just files s (Protect range prot) shoot (acts a r k) d = k.1 d
 
 pub shot_here : (w : World) (c : ℕ) (change : Change) (shoot : ℕ) → IsAt w c (Post change shoot) → (d : ℕ) → members shoot d ≡ true → d < w.made.cores
 shot_here w c change shoot i d m =
-    ∥∥₁_elim (order i) (hlevel props) (λ g. user_here w (range_of change) d g (shot_by w change shoot d (call_at w c (Post change shoot) i.phase g).ready m))
+    ∥∥₁_elim (order i) (hlevel props) (λ g. user_here w (range_of change) d g ((shot_just w.made.file w.slots change shoot (call_at w c (Post change shoot) i.phase g).ready d).0 m))
 
 pub valid_range : (range : PageRange) → IsPageRange range → are_pages range ≡ true
 valid_range range h = let low = h.low in let high = h.high in grind (arith, nat_tests, low, high)
@@ -451,7 +460,7 @@ right_allowed prot Fetch h = exec prot.read prot.write prot.exec h
     exec false false d e = e
 
 -- what shows its file's page may be read
-right_shown : (shown : Bool) (prot : Prot) → has_right prot ≡ true → has_right (prot_shown shown prot) ≡ true
+pub right_shown : (shown : Bool) (prot : Prot) → has_right prot ≡ true → has_right (prot_shown shown prot) ≡ true
 right_shown true prot h = refl
 right_shown false prot h = h
 

@@ -16,3 +16,6 @@ pub mod Limits
 pub mod AtOnce
 pub mod SlotRuns
 pub mod AccessAtOnce
+pub mod ChangeAtOnce
+pub mod OnePage
+pub mod FaultAtOnce

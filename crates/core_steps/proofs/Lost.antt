@@ -1,7 +1,7 @@
 -- Frames that are counted down, page by page
 use Rattle.std.proofs.Common.{◌≡◌, ℕ, zero, suc, ◌+◌, ◌-◌, ◌^◌, ◌<◌, ◌≤◌, List, [], ◌∷◌, ◌++◌, length, Bool, true, false, Option}
 use Rattle.std.proofs.Common.{None, Some, refl, sym, ap, subst, arith, ◌∙◌, cond, ◌==◌, pos, negsuc, ◌+ℤ◌, ◌≤ℤ◌}
-use Rattle.std.specs.Prelude.{if◌then◌else◌}
+use Rattle.std.specs.Prelude.{IfSome, if◌then◌else◌}
 use Rattle.std.specs.List.{AllByRecursion}
 use Rattle.std.proofs.lemmas.Bool.Decides.{nat_tests}
 use Rattle.std.proofs.lemmas.Int.{ints}
@@ -10,15 +10,17 @@ use Rattle.vm_base.specs.Info.{frame_of}
 use Rattle.vm_base.specs.Functions.{put}
 use Rattle.vm_base.proofs.Functions.{put_all, put_other}
 use Rattle.slot_lock.specs.declared.framed.Framed.{Framed}
+use Rattle.slot_lock.specs.declared.plan.Change.{Change}
+use Rattle.slot_lock.specs.declared.plan.Change.TheVariants.{Put, Clear, Protect}
 use Rattle.slot_lock.specs.Framed.{AddsFrames, ListsFrames}
 use Rattle.refcache.specs.Counts.{Counts, true_count}
 use Rattle.refcache.specs.Steps.{Takes, Dec}
 use Rattle.refcache.proofs.Moves.{true_counts_move}
 use Rattle.refcache.proofs.Reached.{same_size}
-use Rattle.machine_model.specs.Counting.{CountsOne, CountsDown}
+use Rattle.machine_model.specs.Counting.{CountsOne, CountsDown, frame_lost}
 use Rattle.machine_counting.specs.Counted.{users_of}
 use Rattle.machine_counting.proofs.Pages.{one, pages_put}
-use Rattle.core_steps.specs.Taking.{AreCounted, AreUsed, CountsEach, times_in}
+use Rattle.core_steps.specs.Taking.{AreCounted, AreUsed, CountsEach, IsCounted, times_in}
 
 -- ---- pages without a frame change nothing
 
@@ -47,9 +49,21 @@ lost_then c frame first (suc n) k v m w h g =
     subst (λ j. CountsDown c frame first j v w) count
     (h.0, h.1, lost_then c frame (suc first) n k h.0 m w h.2 (subst (λ f. CountsDown c frame f k m w) at g))
 
-lost_one : (c : ℕ) (frame : ℕ → Option ℕ) (page f : ℕ) (v w : Counts) → frame page ≡ Some f → Takes v (Dec c f) w → CountsDown c frame page 1 v w
+pub lost_one : (c : ℕ) (frame : ℕ → Option ℕ) (page f : ℕ) (v w : Counts) → frame page ≡ Some f → Takes v (Dec c f) w → CountsDown c frame page 1 v w
 unfolding CountsDown
 lost_one c frame page f v w e h = (w, subst (λ o. CountsOne c o v w) (sym e) h, refl)
+
+-- ---- a page of a change
+
+-- the page loses what is counted
+pub lost_counted : (change : Change) (info : Option PageInfo) (counts : Counts) (f : ℕ) → IfSome (frame_of info) (IsCounted counts)
+    → frame_lost change (λ p. info) 0 ≡ Some f → IsCounted counts f
+lost_counted (Put range meta) info counts f counted e = subst (λ o. IfSome o (IsCounted counts)) e counted
+lost_counted (Clear range) info counts f counted e = subst (λ o. IfSome o (IsCounted counts)) e counted
+lost_counted (Protect range prot) info counts f counted e = absurd cc
+
+pub none_lost : (c : ℕ) (frame : ℕ → Option ℕ) (page : ℕ) (v : Counts) → frame page ≡ None → CountsDown c frame page 1 v v
+none_lost c frame page v e = lost_none c frame page 1 v (λ p a b. let same : p ≡ page = omega (arith, a, b) in ap frame same ∙ e)
 
 -- ---- one frame is counted down
 

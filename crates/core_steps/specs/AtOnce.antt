@@ -45,10 +45,10 @@ pub record CanBegin (w : World) (core : ℕ) : Type 0 where
   pub free : w.calls.phase core ≡ Free
   pub room : length w.calls.requests < w.made.calls
 
--- this access can begin, and four events more can be counted
+-- this access can begin, and all its events can be counted
 pub record IsAccess (w : World) (core : ℕ) (request : Request) (touch : Touch) : Type 0 where
   pub reached : ∥ IsReached w ∥₁
-  pub below : w.calls.events + 3 < event_limit
+  pub below : w.calls.events + 11 < event_limit
   pub here : core < w.made.cores
   pub begins : CanBegin w core
   pub plan : checked_by w.made core request ≡ Ok (PlanOf.Touch touch)

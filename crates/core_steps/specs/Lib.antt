@@ -8,5 +8,7 @@ pub mod Filling
 pub mod Machine
 pub mod Finishing
 pub mod AtOnce
+pub mod OnePage
+pub mod PageChange
 pub mod Running
 pub mod MapLines

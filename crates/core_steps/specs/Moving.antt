@@ -2,10 +2,12 @@
 -- is to be divided or cut, those that install the first entry of a page, and those that make a copy
 -- of a private page, which the log is to have
 use Rattle.std.specs.Prelude.{◌≡◌, ℕ, ◌<◌, ◌⊎◌, Bool, true, false, Option, None, Some, Result, Ok, Err}
+use Rattle.vm_base.specs.declared.replies.Reply.{Reply}
 use Rattle.vm_base.specs.Pages.{IsPage}
 use Rattle.slot_lock.specs.declared.plan.Goal.{Goal}
 use Rattle.slot_lock.specs.declared.plan.Goal.TheVariants as To
-use Rattle.slot_lock.specs.Plan.{goal_range}
+use Rattle.slot_lock.specs.declared.plan.Touch.{Touch}
+use Rattle.slot_lock.specs.Plan.{IsSoundTouch, goal_range}
 use Rattle.slot_lock.specs.Slots.{Slots, Crosses, IsCrossed}
 use Rattle.vm_calls.specs.Settling.{is_private_store}
 use Rattle.machine_model.specs.declared.event.Event.{Event}
@@ -13,10 +15,15 @@ use Rattle.machine_model.specs.declared.event.Event.TheVariants.{Go, Fold}
 use Rattle.machine_model.specs.declared.event.Outcome.{Outcome}
 use Rattle.machine_model.specs.declared.event.Outcome.TheVariants.{Stepped, Idle, Full}
 use Rattle.machine_model.specs.declared.phase.Phase.{Phase}
-use Rattle.machine_model.specs.declared.phase.Phase.TheVariants.{Lock, Find, Cut, Decide, Post, Acks, Settle, Want, Fill, CopyPost, CopyAcks, Install, Release}
+use Rattle.machine_model.specs.declared.phase.Phase.TheVariants.{Lock, Find, Cut, Decide, Post, Acks}
+use Rattle.machine_model.specs.declared.phase.Phase.TheVariants.{Answer, Settle, Want, Fill, CopyPost}
+use Rattle.machine_model.specs.declared.phase.Phase.TheVariants.{CopyAcks, Install, Release}
 use Rattle.machine_model.specs.Changes.{AwaitsNobody, Awaits}
 use Rattle.machine_model.specs.Files.{back_of}
+use Rattle.machine_model.specs.Locks.{locking}
+use Rattle.machine_model.specs.Translating.{frame_reached, translated_by}
 use Rattle.machine_model.specs.World.{World, Hardware}
+use Rattle.machine_laws.specs.Orderly.{answer_count}
 use Rattle.machine_sound.specs.Invariant.{Fine}
 
 -- ---- want of memory
@@ -105,3 +112,19 @@ pub record IsAt (w : World) (core : ℕ) (at : Phase) : Type 0 where
   pub here : core < w.made.cores
   pub phase : w.calls.phase core ≡ at
   pub fine : ∥ Fine w ∥₁
+
+-- ---- an access
+
+-- the access can be tried: its page is a valid one, there is room for its reply, and it finds no
+-- frame but the machine's
+pub record CanTry (w : World) (core : ℕ) (touch : Touch) : Type 0 where
+  pub here : core < w.made.cores
+  pub sound : IsSoundTouch touch
+  pub room : answer_count w.calls.log < w.made.calls
+  pub frame : (f : ℕ) → frame_reached (translated_by w.hardware core touch) ≡ Some f
+      → f < w.made.frames
+
+-- where the call goes on that has tried its access: it was answered this, or faulted
+abbrev pub tried_to : Touch → Option Reply → Phase
+tried_to touch (Some reply) = Answer reply
+tried_to touch None = locking (To.Access touch)

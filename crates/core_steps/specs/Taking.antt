@@ -1,14 +1,13 @@
 -- What making a change needs, and what it does first
-use Rattle.std.specs.Prelude.{◌≡◌, ℕ, ◌+◌, ◌<◌, ◌^◌, ◌==◌, if◌then◌else◌, false, List, [], ◌∷◌, Option, Some, pos, ◌≤ℤ◌}
+use Rattle.std.specs.Prelude.{◌≡◌, ℕ, ◌+◌, ◌<◌, ◌^◌, ◌==◌, if◌then◌else◌, false, List, [], ◌∷◌, Option}
+use Rattle.std.specs.Prelude.{Some, pos, ◌<ℤ◌, ◌≤ℤ◌}
 use Rattle.std.specs.List.{AllByRecursion}
 use Rattle.vm_base.specs.declared.page.PageRange.{PageRange}
 use Rattle.vm_base.specs.declared.info.PageInfo.{PageInfo}
 use Rattle.vm_base.specs.Functions.{has}
 use Rattle.vm_base.specs.Info.{frame_of}
 use Rattle.slot_lock.specs.declared.framed.Framed.{Framed}
-use Rattle.slot_lock.specs.declared.plan.Change.{Change}
-use Rattle.slot_lock.specs.declared.plan.Change.TheVariants.{Put, Clear, Protect}
-use Rattle.slot_lock.specs.Slots.{Slots, AllMapped}
+use Rattle.slot_lock.specs.Slots.{Slots}
 use Rattle.refcache.specs.Counts.{Counts, true_count}
 use Rattle.refcache.specs.Steps.{Takes, Dec}
 use Rattle.machine_counting.specs.Counted.{users_of}
@@ -19,11 +18,10 @@ pub record AlikeOutside (s t : Slots) (range : PageRange) : Type 0 where
   pub edge : t.edge ≡ s.edge
   pub info : (p : ℕ) → has range p ≡ false → t.info p ≡ s.info p
 
--- only mapped pages get another protection
-abbrev pub IsMappedFor : Slots → Change → Type 0
-IsMappedFor s (Put range meta) = Unit {0}
-IsMappedFor s (Clear range) = Unit {0}
-IsMappedFor s (Protect range prot) = AllMapped s range
+-- some page has the frame, as far as the counts say
+pub record IsCounted (counts : Counts) (frame : ℕ) : Type 0 where
+  pub object : frame < counts.objects
+  pub used : pos 0 <ℤ true_count counts frame
 
 -- each frame of a page is counted at least once for each page that has it
 pub record AreCounted (info : ℕ → Option PageInfo) (counts : Counts) : Type 0 where

@@ -1,11 +1,11 @@
 //! The access of a byte.
 ghost use Rattle.std.specs.Prelude.{◌≡◌, ◌<◌, length};
 ghost use Rattle.vm_base.specs.Apply.{byte_reply};
-ghost use Rattle.machine_model.specs.Accesses.{after_access, memory_after, reply_of};
+ghost use Rattle.machine_model.specs.Accesses.{after_try, memory_after, reply_of};
+ghost use Rattle.machine_model.specs.Actions.{to};
 ghost use Rattle.machine_model.specs.Step.{Goes};
-ghost use Rattle.machine_laws.specs.Orderly.{answer_count};
 ghost use Rattle.core_steps.specs.State.{world};
-ghost use Rattle.core_steps.specs.Moving.{IsAt};
+ghost use Rattle.core_steps.specs.Moving.{CanTry, IsAt, tried_to};
 
 use crate::acquire::locking;
 use crate::engine::Engine;
@@ -44,27 +44,34 @@ impl<M: SlotMap, H: Hardware, A: Allocator, L: Ledger> Engine<M, H, A, L> {
         byte_reply(touch.access, byte)
     }
 
-    /// The byte is read or written in the frame, and the call has its reply.
-    fn access(&mut self, core: CoreId, touch: Touch, frame: u32)
-        requires here { core < length self.old.calls.phases.items }
-        requires room { answer_count (L.entries self.old.calls.log) < self.old.calls.requests.limit }
-        requires frame { frame < self.old.frames.count }
-        requires offset { touch.offset < 4096 }
-        ensures { world M.slots self.new ≡ after_access core touch frame (world M.slots self.old) }
+    /// The page is translated: the byte is read or written and the reply logged, or there is a fault
+    /// (Intel SDM volume 3A, page-fault exceptions). The core's phase isn't written.
+    pub fn try_touch(&mut self, core: CoreId, touch: Touch) -> Option<Reply>
+        requires { CanTry (world M.slots self.old) core touch }
+        ensures tried { to core (tried_to touch result) (world M.slots self.new)
+            ≡ after_try core touch (world M.slots self.old) }
+        ensures phases { (world M.slots self.new).calls.phase ≡ (world M.slots self.old).calls.phase }
+        ensures events { self.new.calls.events ≡ self.old.calls.events }
+        ensures cores { length self.new.calls.phases.items ≡ length self.old.calls.phases.items }
     {
-        let reply = self.touch_byte(touch, frame);
-        self.reply(core, None, reply);
+        match self.cores.translate(core, touch) {
+            Translated::Hit(frame) | Translated::Fill(frame) => {
+                let reply = self.touch_byte(touch, frame);
+                self.log_reply(core, reply);
+                Some(reply)
+            }
+            Translated::Fault => None,
+        }
     }
 
-    /// The page is translated: the byte is read or written, or there is a fault (Intel
-    /// SDM volume 3A, page-fault exceptions).
+    /// The access is tried.
     pub fn go_try(&mut self, core: CoreId, touch: Touch) -> Outcome
         requires { IsAt (world M.slots self.old) core (Phase.Try touch) }
         ensures { Goes (world M.slots self.old) core (Phase.Try touch) result (world M.slots self.new) }
     {
-        match self.cores.translate(core, touch) {
-            Translated::Hit(frame) | Translated::Fill(frame) => self.access(core, touch, frame),
-            Translated::Fault => self.go_to(core, locking(Goal::Access(touch))),
+        match self.try_touch(core, touch) {
+            Some(reply) => self.go_to(core, Phase::Answer(reply)),
+            None => self.go_to(core, locking(Goal::Access(touch))),
         }
         Outcome::Stepped
     }

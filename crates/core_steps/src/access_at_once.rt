@@ -10,6 +10,7 @@ ghost use Rattle.core_steps.specs.State.{world};
 
 use crate::acquire::locking;
 use crate::engine::Engine;
+use crate::fault_at_once::FaultEnd;
 use crate::ledger::Ledger;
 use crate::starting::Started;
 use machine_model::Outcome;
@@ -63,7 +64,7 @@ impl<M: SlotMap, H: Hardware, A: Allocator, L: Ledger> Engine<M, H, A, L> {
 
     /// The events of an access that can begin: it begins, its arguments are checked, its page is tried,
     /// and where a frame is reached the reply is handed out. Then the core has no call, as before. A
-    /// fault leads to the lock of its page.
+    /// fault leads to the lock of its page, and on from there as far as `make_fault` goes.
     pub fn access_at_once(&mut self, core: CoreId, request: Request, touch: Touch) -> Started
         requires { IsAccess (world M.slots self.old) core request touch }
         ensures { Starts (world M.slots self.old) core request result (world M.slots self.new)
@@ -78,10 +79,20 @@ impl<M: SlotMap, H: Hardware, A: Allocator, L: Ledger> Engine<M, H, A, L> {
                 self.calls.events += 1;
                 Started::Ended(Outcome::Answered(reply))
             }
-            Translated::Fault => {
-                self.go_to(core, locking(Goal::Access(touch)));
-                Started::Begun { steps: 2 }
-            }
+            Translated::Fault => match self.make_fault(core, touch) {
+                FaultEnd::Untouched => {
+                    self.go_to(core, locking(Goal::Access(touch)));
+                    Started::Begun { steps: 2 }
+                }
+                FaultEnd::Again { steps } => {
+                    self.go_to(core, locking(Goal::Access(touch)));
+                    Started::Begun { steps: 2 + steps }
+                }
+                FaultEnd::Replied { reply, .. } => {
+                    self.calls.events += 1;
+                    Started::Ended(Outcome::Answered(reply))
+                }
+            },
         }
     }
 }

@@ -1,12 +1,13 @@
 //! The end of a call: its reply is fixed and logged, its pages are unlocked, and the
 //! reply is handed out.
-ghost use Rattle.std.specs.Prelude.{◌≡◌, ◌<◌, ◌≤◌, length};
+ghost use Rattle.std.specs.Prelude.{◌≡◌, ◌+◌, ◌<◌, ◌≤◌, length};
 ghost use Rattle.machine_model.specs.Actions.{let_go, after_reply, answer_entry, with_entry};
 ghost use Rattle.machine_model.specs.Locks.{held_after};
-ghost use Rattle.machine_model.specs.Step.{Goes};
+ghost use Rattle.machine_model.specs.Step.{Goes, event_limit};
 ghost use Rattle.machine_laws.specs.Orderly.{answer_count};
 ghost use Rattle.core_steps.specs.State.{world};
 ghost use Rattle.core_steps.specs.Moving.{IsAt};
+ghost use Rattle.core_steps.specs.OnePage.{logged_later, replied};
 
 use crate::engine::Engine;
 use crate::ledger::Ledger;
@@ -66,6 +67,31 @@ impl<M: SlotMap, H: Hardware, A: Allocator, L: Ledger> Engine<M, H, A, L> {
     {
         self.log_reply(core, reply);
         self.go_to(core, let_go(held, reply));
+    }
+
+    /// The last steps of a call that need not lock its page: the reply is logged at the event so many
+    /// later, and at the next one the page is let go. The core's phase isn't written.
+    pub fn log_at_once(&mut self, core: CoreId, reply: Reply, steps: u64)
+        requires here { core < length self.old.calls.phases.items }
+        requires room { answer_count (L.entries self.old.calls.log) < self.old.calls.requests.limit }
+        requires events { self.old.calls.events + steps < event_limit }
+        ensures log { world M.slots self.new ≡ logged_later core reply steps (world M.slots self.old) }
+        ensures cores { length self.new.calls.phases.items ≡ length self.old.calls.phases.items }
+    {
+        self.calls.events += steps;
+        self.log_reply(core, reply);
+        self.calls.events += 1;
+    }
+
+    /// The same, and the reply is to be handed out.
+    pub fn reply_at_once(&mut self, core: CoreId, reply: Reply, steps: u64)
+        requires here { core < length self.old.calls.phases.items }
+        requires room { answer_count (L.entries self.old.calls.log) < self.old.calls.requests.limit }
+        requires events { self.old.calls.events + steps < event_limit }
+        ensures { world M.slots self.new ≡ replied core reply steps (world M.slots self.old) }
+    {
+        self.log_at_once(core, reply, steps);
+        self.go_to(core, Phase::Answer(reply));
     }
 
     /// The leftmost slot that is held is unlocked.

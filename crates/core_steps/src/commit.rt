@@ -1,16 +1,18 @@
 //! The change of the pages, once no core that was told is awaited any more.
-ghost use Rattle.std.specs.Prelude.{◌≡◌, ◌-◌, ◌<◌};
+ghost use Rattle.std.specs.Prelude.{◌≡◌, ℕ, ◌-◌, ◌<◌, IfSome, Option};
+ghost use Rattle.vm_base.specs.declared.info.PageInfo.{PageInfo};
 ghost use Rattle.vm_base.specs.Info.{frame_of};
 ghost use Rattle.vm_base.specs.Pages.{IsPageRange};
 ghost use Rattle.refcache.specs.Parts.{counts_of};
 ghost use Rattle.slot_lock.specs.Plan.{IsSoundChange, range_of};
+ghost use Rattle.slot_lock.specs.Changes.{IsMappedFor};
 ghost use Rattle.slot_lock.specs.Slots.{IsHeld};
 ghost use Rattle.machine_model.specs.Changes.{slots_after, reply_to};
 ghost use Rattle.machine_model.specs.Counting.{CountsDown, frame_lost};
 ghost use Rattle.machine_model.specs.Step.{Goes};
 ghost use Rattle.core_steps.specs.State.{world};
 ghost use Rattle.core_steps.specs.Moving.{IsAt};
-ghost use Rattle.core_steps.specs.Taking.{AreCounted, AreUsed, CountsEach, IsMappedFor};
+ghost use Rattle.core_steps.specs.Taking.{AreCounted, AreUsed, CountsEach, IsCounted};
 
 use crate::engine::Engine;
 use crate::ledger::Ledger;
@@ -20,7 +22,7 @@ use refcache::Refcache;
 use slot_lock::{Change, Framed, FramedPages, Goal, SlotMap};
 use std::alloc::Allocator;
 use vm_base::page::PAGE_SIZE;
-use vm_base::{CoreId, PageRange, Reply};
+use vm_base::{CoreId, PageInfo, PageRange, Reply};
 
 /// Counts the frames of the listed pages down, in order.
 fn count_list<A: Allocator>(counts: &mut Refcache<A>, core: CoreId, list: &[Framed])
@@ -52,6 +54,35 @@ fn count_frames<M: SlotMap, A: Allocator>(
         list.clear();
         from = map.list_frames(from, range.end, &mut list);
         count_list(counts, core, &list);
+    }
+}
+
+/// The frame that a page, which has this, loses by a change, if it does.
+fn frame_lost(change: Change, info: Option<PageInfo>) -> Option<u32>
+    ensures { (infos : ℕ → Option PageInfo) (p : ℕ) → info ≡ infos p
+        → result ≡ frame_lost change infos p }
+{
+    match change {
+        Change::Put { .. } | Change::Clear { .. } => info?.frame,
+        Change::Protect { .. } => None,
+    }
+}
+
+/// Counts down the frame that the only page of a change, which has this, loses by it, if it does.
+#[inline(always)]
+pub fn count_page<A: Allocator>(
+    counts: &mut Refcache<A>,
+    core: CoreId,
+    change: Change,
+    info: Option<PageInfo>,
+)
+    requires here { core < (counts_of counts.old).cores }
+    requires counted { IfSome (frame_of info) (IsCounted (counts_of counts.old)) }
+    ensures { (infos : ℕ → Option PageInfo) (p : ℕ) → info ≡ infos p
+        → CountsDown core (frame_lost change infos) p 1 (counts_of counts.old) (counts_of counts.new) }
+{
+    if let Some(frame) = frame_lost(change, info) {
+        counts.dec(core, frame);
     }
 }
 
@@ -87,7 +118,7 @@ fn make_change<M: SlotMap, A: Allocator>(
 }
 
 /// What a change that is made answers.
-fn reply_to(change: Change) -> Reply
+pub fn reply_to(change: Change) -> Reply
     requires { IsSoundChange change }
     ensures { result ≡ reply_to change }
 {

@@ -57,7 +57,7 @@ impl<H: Bare<A>, A: Allocator + Clone> Cores<H, A> {
 }
 
 impl<H: Hardware, A: Allocator> Cores<H, A> {
-    ghost use Rattle.std.specs.Prelude.{◌<◌, true, Some, is_some, if◌then◌else◌};
+    ghost use Rattle.std.specs.Prelude.{◌<◌, true, false, Some, is_some, if◌then◌else◌};
     ghost use Rattle.std.specs.Prelude.{IfNone, IfSome, OnOk, OnErr};
     ghost use Rattle.vm_base.specs.Cores.{members};
     ghost use Rattle.vm_base.specs.Functions.{put};
@@ -67,11 +67,13 @@ impl<H: Hardware, A: Allocator> Cores<H, A> {
     ghost use Rattle.mmu.specs.Tlb.{tlb_at};
     ghost use Rattle.shootdown.specs.Inboxes.{awaited};
     ghost use Rattle.shootdown.specs.Messages.{asked, remaining};
+    ghost use Rattle.machine_coherence.specs.Coherent.{HasDropped};
     ghost use Rattle.machine_model.specs.Changes.{AwaitsNobody, Awaits};
     ghost use Rattle.machine_model.specs.Translating.{translated_by, frame_reached, after_translating};
     ghost use Rattle.machine_model.specs.Translating.{can_walk, after_walk, after_eviction, after_shot};
     ghost use Rattle.machine_model.specs.Translating.{tables_cleared, tlb_invalidated};
     ghost use Rattle.machine_model.specs.Translating.{with_inbox, with_table};
+    ghost use Rattle.core_steps.specs.PageChange.{IsAlone};
     ghost use Rattle.core_steps.specs.Parts.{parts};
 
     /// How the core translates the access. A hit is one look in its TLB.
@@ -149,6 +151,18 @@ impl<H: Hardware, A: Allocator> Cores<H, A> {
         self.cpus[core.index() as usize].invalidate(range);
     }
 
+    /// The core drops its own translations of the pages of the range.
+    fn drop_own(&mut self, core: CoreId, range: PageRange)
+        requires here { core < (parts self.old).count }
+        requires pages { are_pages range ≡ true }
+        ensures count { (parts self.new).count ≡ (parts self.old).count }
+        ensures after { (parts self.new).hardware
+            ≡ tlb_invalidated (tables_cleared (parts self.old).hardware core range) core range }
+    {
+        self.clear_tables(core, range);
+        self.invalidate(core, range);
+    }
+
     /// The core drops its own translations of the pages of the range, and every other
     /// core of the set is asked to drop its own. The core then waits for these.
     pub fn shoot(&mut self, core: CoreId, set: CoreSet, range: PageRange)
@@ -159,9 +173,25 @@ impl<H: Hardware, A: Allocator> Cores<H, A> {
         ensures count { (parts self.new).count ≡ (parts self.old).count }
         ensures after { (parts self.new).hardware ≡ after_shot (parts self.old).hardware core set range }
     {
-        self.clear_tables(core, range);
-        self.invalidate(core, range);
+        self.drop_own(core, range);
         self.inboxes.post(core, set.without(core), range);
+    }
+
+    /// What `shoot` does where no other core is in the set: none is asked, and none is waited for. A
+    /// core that isn't in the set has nothing to drop.
+    #[inline(always)]
+    pub fn shoot_alone(&mut self, core: CoreId, set: CoreSet, range: PageRange)
+        requires here { core < (parts self.old).count }
+        requires pages { are_pages range ≡ true }
+        requires alone { IsAlone set core }
+        requires dropped { members set core ≡ false → HasDropped ((parts self.old).hardware.table core)
+            ((parts self.old).hardware.tlb core) range None }
+        ensures count { (parts self.new).count ≡ (parts self.old).count }
+        ensures after { (parts self.new).hardware ≡ after_shot (parts self.old).hardware core set range }
+    {
+        if set.contains(core) {
+            self.drop_own(core, range);
+        }
     }
 
     /// What the oldest message of the core's inbox asks it to do. At the second take of a

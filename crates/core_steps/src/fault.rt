@@ -5,7 +5,7 @@ ghost use Rattle.std.specs.Prelude.{◌≡◌, ℕ, ◌<◌, true, false, length
 ghost use Rattle.slot_lock.specs.Plan.{IsSoundTouch};
 ghost use Rattle.vm_calls.specs.declared.fault.Settled.{Settled};
 ghost use Rattle.frames.specs.Parts.{free_frames};
-ghost use Rattle.machine_model.specs.Accesses.{TakesThisFrame, after_finding, taken_for};
+ghost use Rattle.machine_model.specs.Accesses.{TakesThisFrame, after_finding, found_at, taken_for};
 ghost use Rattle.machine_model.specs.Step.{Goes};
 ghost use Rattle.machine_laws.specs.Orderly.{answer_count};
 ghost use Rattle.core_steps.specs.State.{phase_of, world};
@@ -60,6 +60,16 @@ impl<M: SlotMap, H: Hardware, A: Allocator, L: Ledger> Engine<M, H, A, L> {
         }
     }
 
+    /// What the access finds at its page, which has this.
+    pub fn find(&self, touch: Touch, info: &Option<PageInfo>) -> Settled
+        requires { info.now ≡ (M.slots self.now.map).info touch.page }
+        ensures { result ≡ found_at (world M.slots self.now) touch }
+    {
+        let past_end = is_past_end(&self.objects, info);
+        let cached = file_frame(&self.objects, back_of(info));
+        settle(*info, touch.access, past_end, cached)
+    }
+
     /// What the page's slot says is read: no mapping, a protection that forbids the access,
     /// a page past its file's end, a frame that is there, or one that is still to be taken.
     pub fn go_settle(&mut self, core: CoreId, touch: Touch) -> Outcome
@@ -67,9 +77,8 @@ impl<M: SlotMap, H: Hardware, A: Allocator, L: Ledger> Engine<M, H, A, L> {
         ensures { Goes (world M.slots self.old) core (Phase.Settle touch) result (world M.slots self.new) }
     {
         let info = self.map.page(touch.page);
-        let past_end = is_past_end(&self.objects, &info);
-        let cached = file_frame(&self.objects, back_of(&info));
-        self.settled_to(core, touch, settle(info, touch.access, past_end, cached));
+        let settled = self.find(touch, &info);
+        self.settled_to(core, touch, settled);
         Outcome::Stepped
     }
 

@@ -121,7 +121,7 @@ impl<M: SlotMap, A: Allocator + Clone, L: Ledger> Machine<M, A, L> {
     {
         let mut n = steps;
         'steps: while n < FINISH_LIMIT {
-            n += self.engine.slots_at_once(core, FINISH_LIMIT - 1 - n);
+            n += self.engine.steps_at_once(core, FINISH_LIMIT - 1 - n);
             let outcome = match self.next(core) {
                 Ok(outcome) => outcome,
                 Err(refused) => return Err(refused),

@@ -67,7 +67,7 @@ impl<M: SlotMap, H: Hardware, A: Allocator, L: Ledger> Engine<M, H, A, L> {
         ensures starts { Starts (world M.slots self.old) core request result (world M.slots self.new) }
         ensures reached { ∥ IsReached (world M.slots self.new) ∥₁ }
     {
-        if self.calls.events >= u64::MAX - 3 || !self.is_here(Some(core)) {
+        if self.calls.events >= u64::MAX - 11 || !self.is_here(Some(core)) {
             return Started::Untouched;
         }
         if let Some(touch) = access_of(request)

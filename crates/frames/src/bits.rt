@@ -1,5 +1,6 @@
 //! Sets of numbers, kept as bits in words of 64.
-ghost use Rattle.std.specs.Prelude.{◌≡◌, ◌≢◌, ℕ, ◌*◌, ◌/◌, ◌<◌, ◌≤◌, IfNone, IfSome, length, slice_index, true, false};
+ghost use Rattle.std.specs.Prelude.{◌≡◌, ◌≢◌, ℕ, ◌*◌, ◌/◌, ◌<◌, ◌≤◌, IfNone, IfSome, length};
+ghost use Rattle.std.specs.Prelude.{slice_index, true, false};
 ghost use Rattle.vm_base.specs.Functions.{put};
 ghost use Rattle.frames.specs.Bits.{bit_in};
 

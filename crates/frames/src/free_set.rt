@@ -1,5 +1,6 @@
 //! A set of numbers below a limit, which finds its least member by a look at few words.
-ghost use Rattle.std.specs.Prelude.{◌≡◌, ℕ, ◌*◌, ◌<◌, ◌≤◌, length, IfNone, IfSome, IfOk, nat_lt, true, false};
+ghost use Rattle.std.specs.Prelude.{◌≡◌, ℕ, ◌*◌, ◌<◌, ◌≤◌, length, IfNone, IfSome, IfOk, nat_lt, true};
+ghost use Rattle.std.specs.Prelude.{false};
 ghost use Rattle.vm_base.specs.Functions.{put};
 ghost use Rattle.frames.specs.Bits.{bit_in, count_below};
 ghost use Rattle.frames.specs.Parts.{IsSummed};

@@ -1,5 +1,6 @@
 //! Slots that are made one again, once no thread shares the tree.
-ghost use Rattle.std.specs.Prelude.{◌≡◌, ◌+◌, ◌-◌, ◌<◌, ◌≤◌, ◌^◌, ◌↔◌, IsTrue, IfSome, IfNone, None, false};
+ghost use Rattle.std.specs.Prelude.{◌≡◌, ◌+◌, ◌-◌, ◌<◌, ◌≤◌, ◌^◌, ◌↔◌, IsTrue, IfSome, IfNone, None};
+ghost use Rattle.std.specs.Prelude.{false};
 ghost use Rattle.live_levels.specs.Folding.{CanBegin, CanFollow, Replaces, begun_act};
 ghost use Rattle.live_levels.specs.Slots.{Suits};
 

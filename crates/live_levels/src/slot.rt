@@ -1,5 +1,6 @@
 //! What lies under a slot's lock.
-ghost use Rattle.std.specs.Prelude.{◌≡◌, ℕ, ◌+◌, ◌-◌, ◌<◌, ◌≤◌, ◌^◌, false, [], ◌∷◌, ◌++◌, None, IfOk, OnOk};
+ghost use Rattle.std.specs.Prelude.{◌≡◌, ℕ, ◌+◌, ◌-◌, ◌<◌, ◌≤◌, ◌^◌, false, [], ◌∷◌, ◌++◌, None, IfOk};
+ghost use Rattle.std.specs.Prelude.{OnOk};
 ghost use Rattle.vm_base.specs.Info.{info_file_page, is_leaf};
 ghost use Rattle.live_levels.specs.Replay.{replay, dated};
 ghost use Rattle.live_levels.specs.Slots.{SlotView, IsSlot, Suits, changed};

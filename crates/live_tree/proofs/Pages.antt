@@ -10,7 +10,7 @@ use Rattle.vm_base.specs.Info.{advance, info_from, info_with_prot, unused}
 use Rattle.slot_lock.specs.declared.plan.Change.{Change}
 use Rattle.slot_lock.specs.declared.plan.Change.TheVariants.{Put, Clear, Protect}
 use Rattle.slot_lock.specs.Plan.{range_of}
-use Rattle.slot_lock.specs.RunSlots.{changed}
+use Rattle.slot_lock.specs.Changes.{changed}
 use Rattle.slot_lock.specs.RunLaws.{info_from_twice}
 use Rattle.live_levels.specs.Slots.{SlotView, content_at}
 use Rattle.live_levels.specs.Replay.{after, dated}

@@ -1,5 +1,6 @@
 -- Held slots of which one is cut into smaller ones
-use Rattle.std.specs.Prelude.{◌≡◌, ◌⊎◌, ℕ, ◌+◌, ◌<◌, List, [], ◌∷◌, ◌++◌, length, map, take, get_or, Option, All, IsSome}
+use Rattle.std.specs.Prelude.{◌≡◌, ◌⊎◌, ℕ, ◌+◌, ◌<◌, List, [], ◌∷◌, ◌++◌, length, map, take, get_or}
+use Rattle.std.specs.Prelude.{Option, All, IsSome}
 use Rattle.std.specs.declared.sync.MutexGuard.{MutexGuard}
 use Rattle.vm_base.specs.declared.page.PageRange.{PageRange}
 use Rattle.live_levels.specs.Slots.{SlotView}

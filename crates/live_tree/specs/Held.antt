@@ -1,5 +1,6 @@
 -- The slots that a call holds, and what a commit does to them
-use Rattle.std.specs.Prelude.{◌≡◌, ℕ, ◌+◌, ◌-◌, ◌<◌, ◌≤◌, leb, ◌&&◌, ◌⊎◌, cond, Bool, true, List, [], ◌∷◌, ◌++◌, map}
+use Rattle.std.specs.Prelude.{◌≡◌, ℕ, ◌+◌, ◌-◌, ◌<◌, ◌≤◌, leb, ◌&&◌, ◌⊎◌, cond, Bool, true, List, []}
+use Rattle.std.specs.Prelude.{◌∷◌, ◌++◌, map}
 use Rattle.vm_base.specs.declared.page.PageRange.{PageRange}
 use Rattle.vm_base.specs.Info.{advance}
 use Rattle.slot_lock.specs.declared.plan.Change.{Change}

@@ -1,8 +1,9 @@
 -- Held slots, seen as what a slot map says of each page
-use Rattle.std.specs.Prelude.{◌≡◌, ◌⊎◌, ℕ, ◌+◌, ◌<◌, ◌≤◌, ◌==◌, nat_lt, if◌then◌else◌, List, [], ◌∷◌, Some, None}
+use Rattle.std.specs.Prelude.{◌≡◌, ◌⊎◌, ℕ, ◌+◌, ◌<◌, ◌≤◌, ◌==◌, nat_lt, if◌then◌else◌, List, [], ◌∷◌}
+use Rattle.std.specs.Prelude.{Some, None}
 use Rattle.slot_lock.specs.declared.plan.Change.{Change}
 use Rattle.slot_lock.specs.Slots.{Slots}
-use Rattle.slot_lock.specs.RunSlots.{changed}
+use Rattle.slot_lock.specs.Changes.{changed}
 use Rattle.live_levels.specs.Slots.{SlotView, content_at}
 use Rattle.live_tree.specs.Guards.{no_slot}
 use Rattle.live_tree.specs.Held.{HeldView}

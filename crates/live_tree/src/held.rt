@@ -1,10 +1,12 @@
 //! The slots that a call holds.
-ghost use Rattle.std.specs.Prelude.{◌≡◌, ℕ, ◌+◌, ◌-◌, ◌<◌, ◌≤◌, ◌^◌, true, [], ◌∷◌, ◌++◌, length, map, All, OnOk, OnErr, IsSome, None};
+ghost use Rattle.std.specs.Prelude.{◌≡◌, ℕ, ◌+◌, ◌-◌, ◌<◌, ◌≤◌, ◌^◌, true, [], ◌∷◌, ◌++◌, length, map};
+ghost use Rattle.std.specs.Prelude.{All, OnOk, OnErr, IsSome, None};
 ghost use Rattle.std.specs.Sync.Mutex.{mutex_guard_value};
 ghost use Rattle.slot_lock.specs.Plan.{range_of};
 ghost use Rattle.live_levels.specs.Slots.{SlotView, Suits};
 ghost use Rattle.live_tree.specs.Guards.{slot_of};
-ghost use Rattle.live_tree.specs.Held.{HeldView, with_slot, committed, Covers, CrossesNoEdge, HasRoom, FitsFiles, act_on, is_inside};
+ghost use Rattle.live_tree.specs.Held.{HeldView, with_slot, committed, Covers, CrossesNoEdge, HasRoom};
+ghost use Rattle.live_tree.specs.Held.{FitsFiles, act_on, is_inside};
 ghost use Rattle.live_tree.specs.Letting.{letting_view};
 ghost use Rattle.live_tree.specs.Shown.{ChangesPages};
 ghost use Rattle.live_tree.specs.Steps.{Acquires};

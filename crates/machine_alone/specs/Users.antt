@@ -5,7 +5,8 @@ use Rattle.vm_base.specs.declared.page.PageRange.{PageRange}
 use Rattle.vm_base.specs.declared.replies.Reply.{Reply}
 use Rattle.vm_base.specs.declared.replies.Reply.TheVariants.{Mapped, Done, Byte}
 use Rattle.vm_base.specs.declared.requests.Request.{Request}
-use Rattle.vm_base.specs.declared.requests.Request.TheVariants.{Mmap, Munmap, Mprotect, Load, Store, Fetch}
+use Rattle.vm_base.specs.declared.requests.Request.TheVariants.{Mmap, Munmap, Mprotect, Load, Store}
+use Rattle.vm_base.specs.declared.requests.Request.TheVariants.{Fetch}
 use Rattle.vm_base.specs.Functions.{has, put}
 use Rattle.vm_base.specs.Info.{is_recorded}
 use Rattle.vm_base.specs.Pages.{page_of, pages_from, pages_of}

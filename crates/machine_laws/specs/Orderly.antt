@@ -1,7 +1,8 @@
 -- What holds between two steps: a call does what its request asks for, it owns the pages that its
 -- phase says and no others, no slot crosses an edge of them or of those that are about to change,
 -- and each call that has no reply yet finds room for it in the log.
-use Rattle.std.specs.Prelude.{◌≡◌, ℕ, zero, suc, ◌+◌, ◌<◌, ◌≤◌, Bool, true, false, if◌then◌else◌, List, [], ◌∷◌, length, Option, None, Some, Ok, is_some}
+use Rattle.std.specs.Prelude.{◌≡◌, ℕ, zero, suc, ◌+◌, ◌<◌, ◌≤◌, Bool, true, false, if◌then◌else◌, List}
+use Rattle.std.specs.Prelude.{[], ◌∷◌, length, Option, None, Some, Ok, is_some}
 use Rattle.vm_base.specs.declared.info.PageInfo.{PageInfo}
 use Rattle.vm_base.specs.declared.page.PageRange.{PageRange}
 use Rattle.vm_base.specs.declared.requests.Request.{Request}
@@ -29,7 +30,8 @@ use Rattle.machine_model.specs.declared.event.Outcome.{Outcome}
 use Rattle.machine_model.specs.declared.log.Entry.{Entry}
 use Rattle.machine_model.specs.declared.log.Entry.TheVariants.{Answer, Detach}
 use Rattle.machine_model.specs.declared.phase.Phase.{Phase}
-use Rattle.machine_model.specs.declared.phase.Phase.TheVariants.{Free, Check, Lock, Find, Back, Cut, Post, Acks, Unlock, Want}
+use Rattle.machine_model.specs.declared.phase.Phase.TheVariants.{Free, Check, Lock, Find, Back, Cut}
+use Rattle.machine_model.specs.declared.phase.Phase.TheVariants.{Post, Acks, Unlock, Want}
 use Rattle.machine_model.specs.declared.phase.Phase.TheVariants.{Fill, CopyPost, CopyAcks, Install}
 use Rattle.machine_model.specs.World.{World, Made, Memory, new_world}
 use Rattle.machine_model.specs.Accesses.{is_past_end}

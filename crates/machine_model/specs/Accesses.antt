@@ -1,5 +1,6 @@
 -- The steps of a load, a store or a fetch
-use Rattle.std.specs.Prelude.{◌≡◌, ℕ, ◌<◌, ◌⊎◌, Bool, true, false, not, cond, Option, None, Some, is_some}
+use Rattle.std.specs.Prelude.{◌≡◌, ℕ, ◌<◌, ◌⊎◌, Bool, true, false, not, cond, Option, None, Some}
+use Rattle.std.specs.Prelude.{is_some}
 use Rattle.vm_base.specs.declared.info.PageInfo.{PageInfo}
 use Rattle.vm_base.specs.declared.info.Back.{Back}
 use Rattle.vm_base.specs.declared.info.Back.TheVariants.{Anon, Shared, Private}
@@ -16,7 +17,8 @@ use Rattle.slot_lock.specs.declared.plan.Touch.{Touch}
 use Rattle.slot_lock.specs.declared.plan.Goal.TheVariants as To
 use Rattle.slot_lock.specs.Slots.{with_info}
 use Rattle.vm_calls.specs.declared.fault.Settled.{Settled}
-use Rattle.vm_calls.specs.declared.fault.Settled.TheVariants.{MapErr, AccErr, Bus, Has, Copies, Cached, Wants}
+use Rattle.vm_calls.specs.declared.fault.Settled.TheVariants.{MapErr, AccErr, Bus, Has, Copies, Cached}
+use Rattle.vm_calls.specs.declared.fault.Settled.TheVariants.{Wants}
 use Rattle.vm_calls.specs.Settling.{settled}
 use Rattle.machine_model.specs.declared.event.Outcome.{Outcome}
 use Rattle.machine_model.specs.declared.phase.Phase.{Phase}
@@ -26,7 +28,8 @@ use Rattle.machine_model.specs.Actions.{Idles, Becomes, to, after_reply}
 use Rattle.machine_model.specs.Files.{back_of, file_frame}
 use Rattle.machine_model.specs.Holding.{page_of_touch}
 use Rattle.machine_model.specs.Locks.{locking}
-use Rattle.machine_model.specs.Translating.{translated_by, frame_reached, after_translating, entry_of_page, with_table, with_hardware}
+use Rattle.machine_model.specs.Translating.{translated_by, frame_reached, after_translating}
+use Rattle.machine_model.specs.Translating.{entry_of_page, with_table, with_hardware}
 
 -- ---- Try
 

@@ -8,12 +8,12 @@ use Rattle.vm_base.specs.declared.replies.Reply.TheVariants.{Refused}
 use Rattle.vm_base.specs.Cores.{members}
 use Rattle.vm_base.specs.Plain.{mode_of}
 use Rattle.slot_lock.specs.declared.plan.Change.{Change}
-use Rattle.slot_lock.specs.declared.plan.Change.TheVariants.{Put, Clear, Protect}
 use Rattle.slot_lock.specs.declared.plan.Plan.{Plan}
 use Rattle.slot_lock.specs.declared.plan.Plan.TheVariants as PlanOf
 use Rattle.slot_lock.specs.declared.plan.Goal.TheVariants as To
 use Rattle.slot_lock.specs.Plan.{range_of}
-use Rattle.slot_lock.specs.Slots.{Slots, cleared, mapped, protected}
+use Rattle.slot_lock.specs.Changes.{changed}
+use Rattle.slot_lock.specs.Slots.{Slots}
 use Rattle.vm_calls.specs.declared.decision.Decision.{Decision}
 use Rattle.vm_calls.specs.declared.decision.Decision.TheVariants.{Refuse, Act, Again}
 use Rattle.vm_calls.specs.Checks.{checked}
@@ -73,9 +73,7 @@ after_post c change shoot w =
 -- ---- Acks
 
 abbrev pub slots_after : Change → Slots → Slots
-slots_after (Put range meta) s = mapped s range meta
-slots_after (Clear range) s = cleared s range
-slots_after (Protect range prot) s = protected s range prot
+slots_after change s = changed s change
 
 -- what a change that is made answers
 abbrev pub reply_to : Change → Reply

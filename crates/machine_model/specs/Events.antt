@@ -1,7 +1,9 @@
 -- Events
 use Rattle.std.specs.Prelude.{ℕ, Option, None, Some}
 use Rattle.machine_model.specs.declared.event.Event.{Event}
-use Rattle.machine_model.specs.declared.event.Event.TheVariants.{Call, Go, Frame, Guess, Whole, Take, Walk, Evict, Flush, Review, Fold, GiveUp}
+use Rattle.machine_model.specs.declared.event.Event.TheVariants.{Call, Go, Frame, Guess, Whole, Take}
+use Rattle.machine_model.specs.declared.event.Event.TheVariants.{Walk, Evict, Flush, Review, Fold}
+use Rattle.machine_model.specs.declared.event.Event.TheVariants.{GiveUp}
 
 -- the core that takes the step, if one does
 abbrev pub core_of : Event → Option ℕ

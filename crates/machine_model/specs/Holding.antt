@@ -10,7 +10,10 @@ use Rattle.slot_lock.specs.declared.plan.Touch.{Touch}
 use Rattle.slot_lock.specs.Plan.{range_of, target_range, goal_range, goal_plan}
 use Rattle.slot_lock.specs.Slots.{between}
 use Rattle.machine_model.specs.declared.phase.Phase.{Phase}
-use Rattle.machine_model.specs.declared.phase.Phase.TheVariants.{Free, Check, Lock, Guess, Find, Back, Cut, Decide, Post, Acks, Unlock, Answer, Try, Settle, Want, Fill, CopyPost, CopyAcks, Install, Release}
+use Rattle.machine_model.specs.declared.phase.Phase.TheVariants.{Free, Check, Lock, Guess, Find, Back}
+use Rattle.machine_model.specs.declared.phase.Phase.TheVariants.{Cut, Decide, Post, Acks, Unlock}
+use Rattle.machine_model.specs.declared.phase.Phase.TheVariants.{Answer, Try, Settle, Want, Fill}
+use Rattle.machine_model.specs.declared.phase.Phase.TheVariants.{CopyPost, CopyAcks, Install, Release}
 
 -- the page of an access
 abbrev pub page_of_touch : Touch → PageRange

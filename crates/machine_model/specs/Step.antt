@@ -1,6 +1,7 @@
 -- One step of the machine, as a relation of the states before and after. Where the slot map may
 -- choose, any choice is allowed.
-use Rattle.std.specs.Prelude.{◌≡◌, ℕ, zero, suc, ◌-◌, ◌^◌, Bool, true, cond, nat_lt, length, List, [], ◌∷◌, ◌++◌, Option, None, Some}
+use Rattle.std.specs.Prelude.{◌≡◌, ℕ, zero, suc, ◌-◌, ◌^◌, Bool, true, cond, nat_lt, length, List, []}
+use Rattle.std.specs.Prelude.{◌∷◌, ◌++◌, Option, None, Some}
 use Rattle.vm_base.specs.declared.requests.Request.{Request}
 use Rattle.vm_base.specs.Functions.{put}
 use Rattle.slot_lock.specs.Plan.{goal_range}
@@ -8,7 +9,9 @@ use Rattle.shootdown.specs.Messages.{asked}
 use Rattle.machine_model.specs.declared.phase.Phase.{Phase}
 use Rattle.machine_model.specs.declared.phase.Phase.TheVariants as At
 use Rattle.machine_model.specs.declared.event.Event.{Event}
-use Rattle.machine_model.specs.declared.event.Event.TheVariants.{Call, Go, Frame, Guess, Whole, Take, Walk, Evict, Flush, Review, Fold, GiveUp}
+use Rattle.machine_model.specs.declared.event.Event.TheVariants.{Call, Go, Frame, Guess, Whole, Take}
+use Rattle.machine_model.specs.declared.event.Event.TheVariants.{Walk, Evict, Flush, Review, Fold}
+use Rattle.machine_model.specs.declared.event.Event.TheVariants.{GiveUp}
 use Rattle.machine_model.specs.declared.event.Outcome.{Outcome}
 use Rattle.machine_model.specs.declared.event.Outcome.TheVariants.{Stepped, Answered, Full}
 use Rattle.machine_model.specs.Events.{core_of}
@@ -17,9 +20,11 @@ use Rattle.machine_model.specs.Actions.{Idles, Becomes, to}
 use Rattle.machine_model.specs.Counting.{FlushesOnce, ReviewsOnce}
 use Rattle.machine_model.specs.GivingUp.{GivesUp}
 use Rattle.machine_model.specs.Locks.{LocksNext, UnlocksNext, Releases, FoldsAt}
-use Rattle.machine_model.specs.Placing.{GuessesNext, GuessesThisRun, TakesWindow, FindsNext, GoesBack, CutsNext}
+use Rattle.machine_model.specs.Placing.{GuessesNext, GuessesThisRun, TakesWindow, FindsNext, GoesBack}
+use Rattle.machine_model.specs.Placing.{CutsNext}
 use Rattle.machine_model.specs.Changes.{after_check, DecidesNext, after_post, CommitsNext}
-use Rattle.machine_model.specs.Accesses.{after_try, after_settle, TakesFrame, TakesThisFrame, after_install}
+use Rattle.machine_model.specs.Accesses.{after_try, after_settle, TakesFrame, TakesThisFrame}
+use Rattle.machine_model.specs.Accesses.{after_install}
 use Rattle.machine_model.specs.Filling.{FillsFrame, after_copy_post, CopiesNext}
 use Rattle.machine_model.specs.Translating.{TakesMessage, Walks, Evicts}
 

@@ -1,6 +1,7 @@
 -- What cores do with their tables, TLBs and inboxes (Intel SDM volume 3A, 4-level paging, caching
 -- translation information, and propagation of changes to other processors)
-use Rattle.std.specs.Prelude.{ℕ, ◌&&◌, Bool, false, not, cond, if◌then◌else◌, List, [], ◌∷◌, ◌++◌, Option, None, Some, is_some}
+use Rattle.std.specs.Prelude.{ℕ, ◌&&◌, Bool, false, not, cond, if◌then◌else◌, List, [], ◌∷◌, ◌++◌}
+use Rattle.std.specs.Prelude.{Option, None, Some, is_some}
 use Rattle.vm_base.specs.declared.info.PageInfo.{PageInfo}
 use Rattle.vm_base.specs.declared.page.PageRange.{PageRange}
 use Rattle.vm_base.specs.declared.rights.Prot.{Prot}

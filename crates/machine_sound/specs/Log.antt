@@ -5,7 +5,8 @@ use Rattle.std.specs.Prelude.{◌≡◌, ℕ, true, List, [], ◌∷◌, Option,
 use Rattle.vm_base.specs.declared.replies.Reply.{Reply}
 use Rattle.vm_base.specs.declared.replies.Reply.TheVariants.{NoFrame, NoMemory}
 use Rattle.vm_base.specs.declared.requests.Request.{Request}
-use Rattle.vm_base.specs.declared.requests.Request.TheVariants.{Load as LoadOf, Store as StoreOf, Fetch as FetchOf}
+use Rattle.vm_base.specs.declared.requests.Request.TheVariants.{Load as LoadOf, Store as StoreOf}
+use Rattle.vm_base.specs.declared.requests.Request.TheVariants.{Fetch as FetchOf}
 use Rattle.vm_base.specs.declared.rights.Access.{Access}
 use Rattle.vm_base.specs.declared.rights.Access.TheVariants.{Load, Store, Fetch}
 use Rattle.vm_base.specs.Pages.{page_of}

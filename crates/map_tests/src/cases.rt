@@ -1,14 +1,15 @@
-//! What `lock_tests` and `page_tests` ask of a map, on a new map of each kind. The tests own no map:
+//! What `free_tests`, `lock_tests` and `page_tests` ask of a map, on a new map of each kind. The tests own no map:
 //! what owns one is dear to prove, and stands here once for each kind.
 use crate::slot_calls::Counts;
-use crate::{lock_tests, page_tests};
+use crate::{free_tests, lock_tests, page_tests};
 use radix_range::RadixMap;
-use slot_lock::{RunList, SlotMap};
+use slot_lock::{FreePage, RunList, SlotMap};
 use std::alloc::Global;
 use vm_base::{NoMemory, PageRange};
 
 // A question to a new map, with what turns on its kind: how many slots are divided and how many
-// locked, how many are unlocked, where a slot begins, how often slots are cut, and slots.
+// locked, how many are unlocked, where a slot begins, how often slots are cut, slots, and what is
+// found of a page.
 #[derive(Clone, Copy)]
 pub enum Case {
     Waits(Counts),
@@ -26,6 +27,10 @@ pub enum Case {
     LosesMany,
     CutsOne(usize),
     CutsMore(usize, [PageRange; 2]),
+    FindsFree(Option<FreePage>),
+    FindsNoneInWide,
+    ChangesFree,
+    MakesRoomFree,
 }
 
 // Whether the map answers as it should.
@@ -46,6 +51,10 @@ fn holds<M: SlotMap>(map: &mut M, case: Case) -> Result<bool, NoMemory> {
         Case::LosesMany => page_tests::lose_many(map),
         Case::CutsOne(cuts) => page_tests::cuts_one(map, cuts),
         Case::CutsMore(cuts, slots) => page_tests::cuts_more(map, cuts, slots),
+        Case::FindsFree(beside) => free_tests::finds_free(map, beside),
+        Case::FindsNoneInWide => free_tests::finds_none_in_wide(map),
+        Case::ChangesFree => free_tests::changes_free(map),
+        Case::MakesRoomFree => free_tests::makes_room_free(map),
     }
 }
 

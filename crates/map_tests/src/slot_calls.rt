@@ -1,10 +1,10 @@
-//! The calls of both slot maps, each where its condition holds, for the tests of `page_tests` and
-//! `lock_tests`.
+//! The calls of both slot maps, each where its condition holds, for the tests of `page_tests`,
+//! `free_tests` and `lock_tests`.
 ghost use Rattle.std.specs.Prelude.{◌≡◌, ◌+◌, ◌-◌, ◌<◌, ◌≤◌, ◌^◌, IsTrue};
 ghost use Rattle.vm_base.specs.Pages.{IsPage, IsPageRange, pages_from};
 ghost use Rattle.slot_lock.specs.Slots.{IsHeld, IsSlot, OwnsAll};
 
-use slot_lock::{Acquire, Fit, Footprint, Got, SlotMap};
+use slot_lock::{Acquire, Change, Fit, Footprint, Got, SlotMap};
 use vm_base::{Back, CoreId, CoreSet, Meta, NoMemory, PageInfo, PageRange, Prot, is_valid};
 
 pub const READ: Prot = Prot {
@@ -171,6 +171,64 @@ pub fn mark<M: SlotMap>(map: &mut M, core: CoreId, page: u64, frame: u32) -> boo
         return false;
     }
     let Some(info) = map.page(page) else {
+        return false;
+    };
+    let used = PageInfo {
+        frame: Some(frame),
+        cores: CoreSet::empty().with(core),
+        ..info
+    };
+    map.set_leaf(core, page, used);
+    true
+}
+
+// The same of a page that is a slot of its own, which nobody holds.
+
+pub fn put_free<M: SlotMap>(map: &mut M, page: u64) -> bool
+    requires { IsPage page }
+{
+    let Some(_) = map.free_page(page) else {
+        return false;
+    };
+    map.change_free(Change::Put {
+        range: one_page(page),
+        meta: FILE,
+    });
+    true
+}
+
+pub fn clear_free<M: SlotMap>(map: &mut M, page: u64) -> bool
+    requires { IsPage page }
+{
+    let Some(_) = map.free_page(page) else {
+        return false;
+    };
+    let range = one_page(page);
+    map.change_free(Change::Clear { range });
+    true
+}
+
+pub fn protect_free<M: SlotMap>(map: &mut M, page: u64, prot: Prot) -> bool
+    requires { IsPage page }
+{
+    let range = one_page(page);
+    let Some(_) = map.free_page(page) else {
+        return false;
+    };
+    if !map.all_mapped(range) {
+        return false;
+    }
+    map.change_free(Change::Protect { range, prot });
+    true
+}
+
+pub fn mark_free<M: SlotMap>(map: &mut M, core: CoreId, page: u64, frame: u32) -> bool
+    requires { IsPage page }
+{
+    let Some(free) = map.free_page(page) else {
+        return false;
+    };
+    let Some(info) = free.info else {
         return false;
     };
     let used = PageInfo {

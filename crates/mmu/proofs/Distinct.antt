@@ -1,13 +1,13 @@
 -- A TLB with one translation of a page at most: where the page stands, and what changes leave so
-use Rattle.std.proofs.Common.{◌≡◌, ℕ, ◌<◌, ◌==◌, ◌&&◌, Bool, true, false, List, [], ◌∷◌, ◌++◌, length, drop, Option, None, Some, is_some, get_or, nat_lt, refl, ◌∙◌, sym, ap, arith, not, zero, suc, remove}
+use Rattle.std.proofs.Common.{◌≡◌, ℕ, ◌+◌, ◌<◌, ◌≤◌, ◌==◌, ◌&&◌, ◌||◌, nat_lt, Bool, true, false, List, [], ◌∷◌, ◌++◌, drop, Option, None, Some, is_some, refl, ◌∙◌, sym, ap, arith, not}
 use Rattle.std.specs.Prelude.{if◌then◌else◌}
-use Rattle.std.specs.List.{position, position_or_len}
-use Rattle.std.proofs.lemmas.List.Sums.{position_or_len_is}
-use Rattle.std.proofs.lemmas.List.Quantifiers.{position-Some}
+use Rattle.std.proofs.lemmas.List.Elements.{filter-append}
 use Rattle.std.proofs.lemmas.Bool.Decides.{nat_tests}
+use Rattle.vm_base.specs.declared.page.PageRange.{PageRange}
+use Rattle.vm_base.specs.Functions.{has}
 use Rattle.mmu.specs.declared.entry.Translation.{Translation}
 use Rattle.mmu.specs.declared.tlb.TlbEntry.{TlbEntry}
-use Rattle.mmu.specs.Tlb.{tlb_at, tlb_without, is_page, tlb_filled, are_distinct}
+use Rattle.mmu.specs.Tlb.{tlb_at, tlb_without, is_page, are_distinct}
 
 -- ---- pages without a translation
 
@@ -20,11 +20,6 @@ parts x xs p h = go (x.page == p) refl h
 
 absent_more : (x : TlbEntry) (xs : List TlbEntry) (p : ℕ) → (x.page == p) ≡ false → tlb_at xs p ≡ None → tlb_at (x ∷ xs) p ≡ None
 absent_more x xs p e h = ap (λ b. if b then Some x.translation else tlb_at xs p) e ∙ h
-
-absent : (es : List TlbEntry) (p i : ℕ) (d : TlbEntry) → tlb_at es p ≡ None → i < length es → ((get_or es i d).page == p) ≡ false
-absent [] p i d h l = absurd (omega arith)
-absent (x ∷ xs) p zero d h l = (parts x xs p h).0
-absent (x ∷ xs) p (suc i) d h l = absent xs p i d (parts x xs p h).1 (omega arith)
 
 absent_end : (es : List TlbEntry) (x : TlbEntry) (p : ℕ) → tlb_at es p ≡ None → (x.page == p) ≡ false → tlb_at (es ++ x ∷ []) p ≡ None
 absent_end [] x p h e = absent_more x [] p e refl
@@ -56,28 +51,6 @@ apart_head x xs h = go (tlb_at xs x.page) refl (are_distinct xs) refl h
 distinct_more : (x : TlbEntry) (xs : List TlbEntry) → tlb_at xs x.page ≡ None → are_distinct xs ≡ true → are_distinct (x ∷ xs) ≡ true
 distinct_more x xs e f = ap (λ o. not (is_some o) && are_distinct xs) e ∙ f
 
-apart : (es : List TlbEntry) (i k : ℕ) (d : TlbEntry) (p : ℕ) → are_distinct es ≡ true → k < i → i < length es
-    → ((get_or es i d).page == p) ≡ true → ((get_or es k d).page == p) ≡ false
-apart [] i k d p h lt l e = absurd (omega arith)
-apart (x ∷ xs) zero k d p h lt l e = absurd (omega arith)
-apart (x ∷ xs) (suc i) zero d p h lt l e =
-    let other : ((get_or xs i d).page == x.page) ≡ false = absent xs x.page i d (apart_head x xs h).0 (omega arith) in
-    let same : ((get_or xs i d).page == p) ≡ true = e in
-    grind (arith, nat_tests)
-apart (x ∷ xs) (suc i) (suc k) d p h lt l e = apart xs i k d p (apart_head x xs h).1 (omega arith) (omega arith) e
-
--- wherever the page stands, that is its first place
-pub at_place : (es : List TlbEntry) (p i : ℕ) (d : TlbEntry) → are_distinct es ≡ true → i < length es → ((get_or es i d).page == p) ≡ true
-    → position (λ (e : TlbEntry). e.page == p) es ≡ Some i
-at_place es p i d h l e = go (position_or_len (λ (x : TlbEntry). x.page == p) es)
-    (position_or_len_is (λ (x : TlbEntry). x.page == p) es i d (omega arith) (λ k lt. apart es i k d p h lt l e) (λ _. e))
-  where
-    go : (n : ℕ) → n ≡ i → (if nat_lt n (length es) then Some n else None) ≡ Some i
-    go n same = rw same (ap (λ b. if b then Some i else None) below)
-      where
-        below : nat_lt i (length es) ≡ true
-        below = grind (arith, nat_tests)
-
 pub distinct_end : (es : List TlbEntry) (x : TlbEntry) → are_distinct es ≡ true → tlb_at es x.page ≡ None → are_distinct (es ++ x ∷ []) ≡ true
 distinct_end [] x h n = refl
 distinct_end (y ∷ ys) x h n =
@@ -89,16 +62,6 @@ pub distinct_drop : (es : List TlbEntry) → are_distinct es ≡ true → are_di
 distinct_drop [] h = refl
 distinct_drop (x ∷ xs) h = (apart_head x xs h).1
 
-pub distinct_filled : (es : List TlbEntry) (p : ℕ) (t : Translation) → are_distinct es ≡ true → tlb_at es p ≡ None → are_distinct (tlb_filled p t es) ≡ true
-distinct_filled es p t h n = go (length es == 64)
-  where
-    x : TlbEntry
-    x = record { page = p; translation = t }
-
-    go : (b : Bool) → are_distinct ((if b then drop 1 es else es) ++ x ∷ []) ≡ true
-    go true = distinct_end (drop 1 es) x (distinct_drop es h) (absent_drop es p n)
-    go false = distinct_end es x h n
-
 pub distinct_without : (s : ℕ → Bool) (es : List TlbEntry) → are_distinct es ≡ true → are_distinct (tlb_without s es) ≡ true
 distinct_without s [] h = refl
 distinct_without s (x ∷ xs) h = go (distinct_without s xs (apart_head x xs h).1) (s x.page)
@@ -107,26 +70,82 @@ distinct_without s (x ∷ xs) h = go (distinct_without s xs (apart_head x xs h).
     go rest true = rest
     go rest false = distinct_more x (tlb_without s xs) (absent_without s xs x.page (apart_head x xs h).0) rest
 
--- ---- the one translation of a page
+-- ---- the translation of a page, and those before and behind it
+
+absent_inside : (front behind : List TlbEntry) (e : TlbEntry) (p : ℕ) → tlb_at (front ++ e ∷ behind) p ≡ None → (e.page == p) ≡ false
+absent_inside [] behind e p h = (parts e behind p h).0
+absent_inside (x ∷ xs) behind e p h = absent_inside xs behind e p (parts x (xs ++ e ∷ behind) p h).1
+
+pub absent_before : (front behind : List TlbEntry) (e : TlbEntry) → are_distinct (front ++ e ∷ behind) ≡ true → tlb_at front e.page ≡ None
+absent_before [] behind e h = refl
+absent_before (x ∷ xs) behind e h =
+    let s = apart_head x (xs ++ e ∷ behind) h in
+    let other : (e.page == x.page) ≡ false = absent_inside xs behind e x.page s.0 in
+    let flipped : (x.page == e.page) ≡ false = grind (arith, nat_tests) in
+    absent_more x xs e.page flipped (absent_before xs behind e s.1)
+
+absent_behind : (front behind : List TlbEntry) (e : TlbEntry) → are_distinct (front ++ e ∷ behind) ≡ true → tlb_at behind e.page ≡ None
+absent_behind [] behind e h = (apart_head e behind h).0
+absent_behind (x ∷ xs) behind e h = absent_behind xs behind e (apart_head x (xs ++ e ∷ behind) h).1
+
+past_absent : (front behind : List TlbEntry) (p : ℕ) → tlb_at front p ≡ None → tlb_at (front ++ behind) p ≡ tlb_at behind p
+past_absent [] behind p h = refl
+past_absent (x ∷ xs) behind p h = rw (parts x xs p h).0 (past_absent xs behind p (parts x xs p h).1)
+
+itself : (p : ℕ) → (p == p) ≡ true
+itself p = grind (arith, nat_tests)
+
+pub found_between : (front behind : List TlbEntry) (e : TlbEntry) → are_distinct (front ++ e ∷ behind) ≡ true → tlb_at (front ++ e ∷ behind) e.page ≡ Some e.translation
+found_between front behind e h = past_absent front (e ∷ behind) e.page (absent_before front behind e h) ∙ ap (λ b. if b then Some e.translation else tlb_at behind e.page) (itself e.page)
 
 -- without a page that has none
 pub none_dropped : (es : List TlbEntry) (p : ℕ) → tlb_at es p ≡ None → es ≡ tlb_without (is_page p) es
 none_dropped [] p h = refl
 none_dropped (x ∷ xs) p h = rw (parts x xs p h).0 (ap (λ ys. x ∷ ys) (none_dropped xs p (parts x xs p h).1))
 
--- wherever the page stands, what is left there is all but that page
-one_dropped : (es : List TlbEntry) (p i : ℕ) (d : TlbEntry) → are_distinct es ≡ true → i < length es → ((get_or es i d).page == p) ≡ true
-    → remove es i ≡ tlb_without (is_page p) es
-one_dropped [] p i d h l e = absurd (omega arith)
-one_dropped (x ∷ xs) p zero d h l e =
-    let here : x.page ≡ p = grind (arith, nat_tests) in
-    let none : tlb_at xs p ≡ None = ap (tlb_at xs) (sym here) ∙ (apart_head x xs h).0 in
-    rw e (none_dropped xs p none)
-one_dropped (x ∷ xs) p (suc i) d h l e =
-    let differs : (x.page == p) ≡ false = apart (x ∷ xs) (suc i) 0 d p h (omega arith) l e in
-    rw differs (ap (λ ys. x ∷ ys) (one_dropped xs p i d (apart_head x xs h).1 (omega arith) e))
+pub dropped_between : (front behind : List TlbEntry) (e : TlbEntry) → are_distinct (front ++ e ∷ behind) ≡ true
+    → front ++ behind ≡ tlb_without (is_page e.page) (front ++ e ∷ behind)
+dropped_between front behind e h =
+    let rest = tlb_without (is_page e.page) behind in
+    ap (λ xs. xs ++ behind) (none_dropped front e.page (absent_before front behind e h))
+    ∙ ap (λ ys. tlb_without (is_page e.page) front ++ ys) (none_dropped behind e.page (absent_behind front behind e h)
+    ∙ sym (ap (λ b. if not b then e ∷ rest else rest) (itself e.page)))
+    ∙ sym (filter-append (λ (x : TlbEntry). not (x.page == e.page)) front (e ∷ behind))
 
--- what is left at the place that the page was found at
-pub found_dropped : (es : List TlbEntry) (p i : ℕ) (d : TlbEntry) → are_distinct es ≡ true
-    → position (λ (e : TlbEntry). e.page == p) es ≡ Some i → remove es i ≡ tlb_without (is_page p) es
-found_dropped es p i d h at = let s = position-Some (λ (e : TlbEntry). e.page == p) es i d at in one_dropped es p i d h s.0 s.1
+-- ---- without the pages of a set
+
+pub without_none : (s : ℕ → Bool) (es : List TlbEntry) → ((p : ℕ) → s p ≡ false) → es ≡ tlb_without s es
+without_none s [] n = refl
+without_none s (x ∷ xs) n = rw (n x.page) (ap (λ ys. x ∷ ys) (without_none s xs n))
+
+pub without_same : (s t : ℕ → Bool) (es : List TlbEntry) → ((p : ℕ) → s p ≡ t p) → tlb_without s es ≡ tlb_without t es
+without_same s t [] same = refl
+without_same s t (x ∷ xs) same = rw (same x.page) (ap (λ ys. if not (t x.page) then x ∷ ys else ys) (without_same s t xs same))
+
+-- one page more
+pub without_more : (s t : ℕ → Bool) (q : ℕ) (es : List TlbEntry) → ((p : ℕ) → t p ≡ (s p || is_page q p))
+    → tlb_without (is_page q) (tlb_without s es) ≡ tlb_without t es
+without_more s t q [] both = refl
+without_more s t q (x ∷ xs) both = rw (both x.page) (go (s x.page) (x.page == q) refl (without_more s t q xs both))
+  where
+    rest : List TlbEntry
+    rest = tlb_without s xs
+
+    go : (b c : Bool) → (x.page == q) ≡ c → tlb_without (is_page q) rest ≡ tlb_without t xs
+        → tlb_without (is_page q) (if not b then x ∷ rest else rest) ≡ (if not (b || (x.page == q)) then x ∷ tlb_without t xs else tlb_without t xs)
+    go true c e more = more
+    go false true e more = rw e more
+    go false false e more = rw e (ap (λ ys. x ∷ ys) more)
+
+-- the pages of a range from its first one on, and one page more
+pub from_first : (r : PageRange) (es : List TlbEntry) → es ≡ tlb_without (λ p. has r p && nat_lt p r.first) es
+from_first r es = without_none (λ p. has r p && nat_lt p r.first) es (λ p. grind (arith, nat_tests))
+
+pub page_more : (r : PageRange) (q : ℕ) (now es : List TlbEntry) → r.first ≤ q → q < r.end → now ≡ tlb_without (λ p. has r p && nat_lt p q) es
+    → tlb_without (is_page q) now ≡ tlb_without (λ p. has r p && nat_lt p (q + 1)) es
+page_more r q now es from lt is =
+    ap (tlb_without (is_page q)) is
+    ∙ without_more (λ p. has r p && nat_lt p q) (λ p. has r p && nat_lt p (q + 1)) q es (λ p. grind (arith, nat_tests))
+
+pub to_end : (r : PageRange) (q : ℕ) (es : List TlbEntry) → r.end ≤ q → tlb_without (λ p. has r p && nat_lt p q) es ≡ tlb_without (has r) es
+to_end r q es past = without_same (λ p. has r p && nat_lt p q) (has r) es (λ p. grind (arith, nat_tests))

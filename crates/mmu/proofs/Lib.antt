@@ -1,7 +1,7 @@
 pub mod Empty
-pub mod Cached
 pub mod Distinct
-pub mod Counted
+pub mod Places
+pub mod Chains
 pub mod Clearing
 pub mod Valid
 pub mod LastTable

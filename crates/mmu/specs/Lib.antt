@@ -1,3 +1,4 @@
 pub mod Entry
 pub mod Tlb
+pub mod Fills
 pub mod Tables

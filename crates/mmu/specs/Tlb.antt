@@ -1,5 +1,7 @@
 -- A TLB: the translations that a core holds, the oldest filled first
-use Rattle.std.specs.Prelude.{◌≡◌, ℕ, ◌<◌, ◌==◌, ◌&&◌, not, Bool, true, is_some, if◌then◌else◌, length, List, [], ◌∷◌, ◌++◌, Option, None, Some, drop, filter, count_by, slice_index, bit_xor, ◌/◌, ◌%◌, ◌^◌}
+use Rattle.std.specs.Prelude.{◌≡◌, ℕ, ◌<◌, ◌==◌, ◌&&◌, not, Bool, true, is_some, if◌then◌else◌, length}
+use Rattle.std.specs.Prelude.{List, [], ◌∷◌, ◌++◌, Option, None, Some, drop, filter, count_by}
+use Rattle.std.specs.Prelude.{slice_index, bit_xor, ◌/◌, ◌%◌, ◌^◌}
 use Rattle.mmu.specs.declared.entry.Translation.{Translation}
 use Rattle.mmu.specs.declared.tlb.TlbEntry.{TlbEntry}
 

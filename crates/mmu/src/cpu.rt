@@ -1,11 +1,13 @@
 //! What one core translates addresses by: tables of its own, and a TLB.
-ghost use Rattle.std.specs.Prelude.{◌≡◌, ◌&&◌, ◌/◌, ℕ, [], None, Some, true, is_some, not, length, ◌≤◌, IfOk, OnOk, OnErr, List, Option, if◌then◌else◌};
+ghost use Rattle.std.specs.Prelude.{◌≡◌, ◌&&◌, ◌/◌, ℕ, [], None, Some, true, is_some, not, length, ◌≤◌};
+ghost use Rattle.std.specs.Prelude.{IfOk, OnOk, OnErr, List, Option, if◌then◌else◌};
 ghost use Rattle.vm_base.specs.Functions.{put, over, has};
 ghost use Rattle.vm_base.specs.Pages.{is_page as is_valid, are_pages};
 ghost use Rattle.mmu.specs.declared.entry.Translation.{Translation};
 ghost use Rattle.mmu.specs.declared.tlb.TlbEntry.{TlbEntry};
 ghost use Rattle.mmu.specs.Entry.{has_right, translation_of};
 ghost use Rattle.mmu.specs.Tlb.{tlb_at, tlb_without, is_page, are_distinct};
+ghost use Rattle.mmu.specs.Fills.{entries_of};
 ghost use Rattle.mmu.specs.Tables.{on_pages, translated, tlb_after, tlb_walked, word_of};
 
 use crate::entry::Translation;
@@ -124,7 +126,7 @@ impl<A: Allocator + Clone> Cpu<A> {
 impl<A: Allocator + Clone> Hardware for Cpu<A> {
     ghost table = { λ c. on_pages (⟦<Root<A> as Level<A>>⟧.entry_at c.root) };
 
-    ghost tlb = { λ c. c.tlb.entries.items };
+    ghost tlb = { λ c. entries_of c.tlb.fills.items };
 
     ghost few = { λ c. c.tlb.few };
 

@@ -1,6 +1,8 @@
 //! Page tables of one level and those below: a finite map from the pages that they cover to
 //! translations.
-ghost use Rattle.std.specs.Prelude.{◌≡◌, ◌≢◌, ℕ, ◌+◌, ◌^◌, length, ◌*◌, ◌/◌, ◌%◌, ◌<◌, ◌≤◌, Option, None, Some, IfOk, OnOk, OnErr, vec_len, slice_index, slice_index_or, option_and_then};
+ghost use Rattle.std.specs.Prelude.{◌≡◌, ◌≢◌, ℕ, ◌+◌, ◌^◌, length, ◌*◌, ◌/◌, ◌%◌, ◌<◌, ◌≤◌, Option};
+ghost use Rattle.std.specs.Prelude.{None, Some, IfOk, OnOk, OnErr, vec_len, slice_index};
+ghost use Rattle.std.specs.Prelude.{slice_index_or, option_and_then};
 ghost use Rattle.vm_base.specs.Functions.{put, over, has};
 ghost use Rattle.mmu.specs.Entry.{decode};
 ghost use Rattle.mmu.specs.declared.entry.Translation.{Translation};

@@ -1,14 +1,23 @@
 //! The translations that a core holds, the oldest filled first.
-ghost use Rattle.std.specs.Prelude.{◌≡◌, ◌==◌, ◌<◌, ◌≤◌, [], not, true, None, IfSome, length, drop, position, if◌then◌else◌};
+ghost use Rattle.std.specs.Prelude.{◌≡◌, ◌==◌, ◌+◌, ◌<◌, ◌≤◌, [], ◌∷◌, ◌++◌, true, None, IfSome};
+ghost use Rattle.std.specs.Prelude.{length, drop, take, map, slice_set, if◌then◌else◌};
 ghost use Rattle.vm_base.specs.Functions.{has};
-ghost use Rattle.mmu.specs.Tlb.{tlb_at, tlb_without, is_page, tlb_filled, are_distinct, page_hash, AreCounts};
+ghost use Rattle.mmu.specs.Tlb.{tlb_at, tlb_without, is_page, tlb_filled, are_distinct, page_hash};
+ghost use Rattle.mmu.specs.Fills.{entries_of, filled_at, has_page, dropped, filled_page, filled_older};
+ghost use Rattle.mmu.specs.Fills.{AreChained};
 
 use crate::entry::Translation;
 use arrayvec::ArrayVec;
 use vm_base::PageRange;
 
-/// The places of a TLB.
-const PLACES: usize = 64;
+/// How many translations a TLB holds at most.
+const HELD: usize = 64;
+
+/// How many translations are filled before the held ones are moved to the front.
+const PLACES: usize = 128;
+
+/// A range of at most so many pages is dropped page by page, and a longer one place by place.
+const FEW_PAGES: u64 = 16;
 
 /// A cached translation of a page.
 #[derive(Clone, Copy, Debug, Default, PartialEq, Eq)]
@@ -17,138 +26,219 @@ pub struct TlbEntry {
     pub translation: Translation,
 }
 
+/// A translation that was filled. It keeps its place when it is dropped, so that the others keep
+/// theirs.
+#[derive(Clone, Copy, Debug, Default)]
+struct Filled {
+    entry: TlbEntry,
+    /// Whether the TLB still holds it.
+    is_held: bool,
+    /// One more than the place of the newest of the older ones whose page has the same hash; 0
+    /// where none has it.
+    older: u8,
+}
+
 /// At most 64 translations, of distinct pages.
 #[derive(Drop)]
 pub struct Tlb {
-    entries: ArrayVec<TlbEntry, PLACES>,
-    /// Where a page's translation may stand, by a hash of the page's number: the place at which one
-    /// was seen last, counted on by `gone`. It is tested before it is used, so it may be out of
-    /// date.
-    places: [u8; 256],
-    /// How many translations are of pages with each hash. A page whose hash has none is missed
-    /// without a look at the translations.
-    counts: [u8; 256],
-    /// How many translations have made room, modulo 256. Each moved the others by one place.
-    gone: u8,
-    ghost few: { length entries.items ≤ 64 },
-    ghost distinct: { are_distinct entries.items ≡ true },
-    ghost counted: { AreCounts counts entries.items },
+    /// What was filled, the oldest first.
+    fills: ArrayVec<Filled, PLACES>,
+    /// For each hash, one more than the place of the newest whose page has it; 0 where none has it.
+    /// From there on `older` leads to all others.
+    newest: [u8; 256],
+    /// No place before this one is held.
+    first: usize,
+    /// How many places are held.
+    held: usize,
+    ghost few: { length (entries_of fills.items) ≤ 64 },
+    ghost counted: { held ≡ length (entries_of fills.items) },
+    ghost distinct: { are_distinct (entries_of fills.items) ≡ true },
+    ghost begun: { first ≤ length fills.items },
+    ghost gone: { entries_of (take first fills.items) ≡ [] },
+    ghost chained: { AreChained newest (map filled_page fills.items) (map filled_older fills.items) },
 }
 
 impl Tlb {
     /// No translations.
     pub fn new() -> Tlb
-        ensures { result.entries.items ≡ [] }
+        ensures { result.fills.items ≡ [] }
     {
         Tlb {
-            entries: ArrayVec::new(),
-            places: [0; 256],
-            counts: [0; 256],
-            gone: 0,
+            fills: ArrayVec::new(),
+            newest: [0; 256],
+            first: 0,
+            held: 0,
         }
     }
 
     /// The translation of the page.
-    pub fn find(&mut self, page: u64) -> Option<Translation>
-        ensures value { result ≡ tlb_at self.old.entries.items page }
-        ensures entries { self.new.entries.items ≡ self.old.entries.items }
+    pub fn find(&self, page: u64) -> Option<Translation>
+        ensures { result ≡ tlb_at (entries_of self.now.fills.items) page }
     {
         match self.place_of(page) {
             None => None,
-            Some(place) => Some(self.entries[place].translation),
+            Some(place) => Some(self.fills[place].entry.translation),
         }
     }
 
-    /// The place of the page's translation, if there is one: where it was seen last, or else by a
-    /// look at each, where one has the page's hash.
-    fn place_of(&mut self, page: u64) -> Option<usize>
-        ensures value { result ≡ position (λ e. e.page == page) self.old.entries.items }
-        ensures within { IfSome result (λ place. place < length self.old.entries.items) }
-        ensures entries { self.new.entries.items ≡ self.old.entries.items }
+    /// The place of the page's translation, if there is one: the newest of its hash, or one older.
+    fn place_of(&self, page: u64) -> Option<usize>
+        ensures within { IfSome result (λ place. place < length self.now.fills.items) }
+        ensures found { IfSome result (λ place.
+            has_page page (filled_at self.now.fills.items place) ≡ true) }
+        ensures missing { result ≡ None → tlb_at (entries_of self.now.fills.items) page ≡ None }
     {
-        let noted = self.noted(page);
-        if noted < self.entries.len() && self.entries[noted].page == page {
-            return Some(noted);
-        }
-        if self.counts[hash(page)] == 0 {
-            return None;
-        }
-        match first_place(&self.entries, page) {
-            None => None,
-            Some(place) => {
-                self.note(page, place);
-                Some(place)
+        let mut link = usize::from(self.newest[hash(page)]);
+        'chain: while self.first < link {
+            let filled = self.fills[link - 1];
+            if filled.is_held && filled.entry.page == page {
+                return Some(link - 1);
             }
+            link = usize::from(filled.older);
         }
-    }
-
-    /// Where a translation of a page with this hash was seen last.
-    fn noted(&self, page: u64) -> usize {
-        usize::from(self.places[hash(page)].wrapping_sub(self.gone))
-    }
-
-    /// Notes where the page's translation stands.
-    fn note(&mut self, page: u64, place: usize)
-        requires { place < 64 }
-        ensures { self.new.entries.items ≡ self.old.entries.items }
-    {
-        self.places[hash(page)] = (place as u8).wrapping_add(self.gone);
-    }
-
-    /// Drops the oldest filled where there is no room for another.
-    fn make_room(&mut self)
-        ensures { self.new.entries.items ≡ (if length self.old.entries.items == 64
-            then drop 1 self.old.entries.items else self.old.entries.items) }
-    {
-        if self.entries.is_full() {
-            let oldest = self.entries.remove(0);
-            self.gone = self.gone.wrapping_add(1);
-            self.counts[hash(oldest.page)] -= 1;
-        }
+        None
     }
 
     /// Takes in the translation of a page that has none. Where there is no room, the oldest filled
     /// goes.
     pub fn fill(&mut self, page: u64, translation: Translation)
-        requires { tlb_at self.old.entries.items page ≡ None }
-        ensures { self.new.entries.items ≡ tlb_filled page translation self.old.entries.items }
+        requires { tlb_at (entries_of self.old.fills.items) page ≡ None }
+        ensures { entries_of self.new.fills.items
+            ≡ tlb_filled page translation (entries_of self.old.fills.items) }
     {
         self.make_room();
-        let place = self.entries.len();
-        self.entries.push(TlbEntry { page, translation });
-        self.counts[hash(page)] += 1;
-        self.note(page, place);
+        self.push(page, translation);
+    }
+
+    /// Drops the oldest filled where there is no room for another, and moves the held ones to the
+    /// front where no place is left.
+    fn make_room(&mut self)
+        ensures entries { entries_of self.new.fills.items
+            ≡ (if length (entries_of self.old.fills.items) == 64
+            then drop 1 (entries_of self.old.fills.items) else entries_of self.old.fills.items) }
+        ensures few { length (entries_of self.new.fills.items) < 64 }
+        ensures room { length self.new.fills.items < 128 }
+    {
+        if self.held == HELD {
+            self.drop_oldest();
+        }
+        if self.fills.is_full() {
+            self.move_up();
+        }
+    }
+
+    /// Drops the oldest filled.
+    fn drop_oldest(&mut self)
+        requires { 0 < length (entries_of self.old.fills.items) }
+        ensures { entries_of self.new.fills.items ≡ drop 1 (entries_of self.old.fills.items) }
+    {
+        let oldest = self.oldest();
+        self.let_go(oldest);
+        self.first = oldest + 1;
+    }
+
+    /// The place of the oldest filled that is held, or the number of places where none is.
+    fn oldest(&self) -> usize
+        ensures within { result ≤ length self.now.fills.items }
+        ensures bounded { result ≤ 128 }
+        ensures held { result < length self.now.fills.items
+            → (filled_at self.now.fills.items result).is_held ≡ true }
+        ensures gone { entries_of (take result self.now.fills.items) ≡ [] }
+    {
+        let end = self.fills.len();
+        'gone: for place in self.first..end {
+            if self.fills[place].is_held {
+                return place;
+            }
+        }
+        end
+    }
+
+    /// Moves the held translations to the front.
+    fn move_up(&mut self)
+        ensures entries { entries_of self.new.fills.items ≡ entries_of self.old.fills.items }
+        ensures short { length self.new.fills.items ≡ length (entries_of self.old.fills.items) }
+    {
+        self.fills.retain(|filled| filled.is_held);
+        self.newest = chain(&mut self.fills);
+        self.first = 0;
+    }
+
+    /// Takes in the translation of a page that has none, behind the others.
+    fn push(&mut self, page: u64, translation: Translation)
+        requires few { length (entries_of self.old.fills.items) < 64 }
+        requires room { length self.old.fills.items < 128 }
+        requires absent { tlb_at (entries_of self.old.fills.items) page ≡ None }
+        ensures entries { entries_of self.new.fills.items ≡ entries_of self.old.fills.items
+            ++ record { page = page; translation = translation } ∷ [] }
+        ensures len { length self.new.fills.items ≡ length self.old.fills.items + 1 }
+    {
+        let hash = hash(page);
+        self.fills.push(Filled {
+            entry: TlbEntry { page, translation },
+            is_held: true,
+            older: self.newest[hash],
+        });
+        self.newest[hash] = self.fills.len() as u8;
+        self.held += 1;
     }
 
     /// Drops the translations of the pages of the range.
     pub fn invalidate(&mut self, range: PageRange)
-        ensures { self.new.entries.items ≡ tlb_without (has range) self.old.entries.items }
+        ensures { entries_of self.new.fills.items
+            ≡ tlb_without (has range) (entries_of self.old.fills.items) }
     {
-        let before = self.entries.len();
-        self.entries.retain(|entry| is_outside(entry, range));
-        if self.entries.len() != before {
-            self.counts = counts_of(&self.entries);
-            self.renote();
+        if range.end.saturating_sub(range.first) <= FEW_PAGES {
+            self.drop_each(range);
+        } else {
+            self.drop_within(range);
         }
+    }
+
+    /// Drops the translations of the pages of the range, each of which is looked for.
+    fn drop_each(&mut self, range: PageRange)
+        ensures { entries_of self.new.fills.items
+            ≡ tlb_without (has range) (entries_of self.old.fills.items) }
+    {
+        'pages: for page in range.first..range.end {
+            self.drop_page(page);
+        }
+    }
+
+    /// Drops the translations of the pages of the range, which are looked for at each place. The next
+    /// walk begins where the first is held.
+    fn drop_within(&mut self, range: PageRange)
+        ensures { entries_of self.new.fills.items
+            ≡ tlb_without (has range) (entries_of self.old.fills.items) }
+    {
+        'places: for place in self.first..self.fills.len() {
+            let filled = self.fills[place];
+            if filled.is_held && range.contains(filled.entry.page) {
+                self.let_go(place);
+            }
+        }
+        self.first = self.oldest();
     }
 
     /// Drops the translation of the page.
     pub fn drop_page(&mut self, page: u64)
-        ensures { self.new.entries.items ≡ tlb_without (is_page page) self.old.entries.items }
+        ensures { entries_of self.new.fills.items
+            ≡ tlb_without (is_page page) (entries_of self.old.fills.items) }
     {
         if let Some(place) = self.place_of(page) {
-            self.entries.remove(place);
-            self.counts[hash(page)] -= 1;
-            self.renote();
+            self.let_go(place);
         }
     }
 
-    /// Notes anew where each translation stands, after some in their midst were dropped.
-    fn renote(&mut self)
-        ensures { self.new.entries.items ≡ self.old.entries.items }
+    /// Drops the translation at a place that is held.
+    fn let_go(&mut self, place: usize)
+        requires within { place < length self.old.fills.items }
+        requires held { (filled_at self.old.fills.items place).is_held ≡ true }
+        ensures { self.new.fills.items ≡ slice_set self.old.fills.items place
+            (dropped (filled_at self.old.fills.items place)) }
     {
-        self.places = places_of(&self.entries);
-        self.gone = 0;
+        self.fills[place].is_held = false;
+        self.held -= 1;
     }
 }
 
@@ -162,40 +252,18 @@ fn hash(page: u64) -> usize
     ((page ^ (page >> 8) ^ (page >> 16) ^ (page >> 24)) % 256) as usize
 }
 
-/// How many entries have each hash.
-fn counts_of(entries: &[TlbEntry]) -> [u8; 256]
-    requires { length entries.now ≤ 64 }
-    ensures { AreCounts result entries.now }
+/// Leads from each place to the next older one of its hash; where those begin, by hash.
+fn chain(fills: &mut [Filled]) -> [u8; 256]
+    requires { length fills.old ≤ 128 }
+    ensures entries { entries_of fills.new ≡ entries_of fills.old }
+    ensures chained { AreChained result (map filled_page fills.new) (map filled_older fills.new) }
+    ensures len { length fills.new ≡ length fills.old }
 {
-    let mut counts = [0; 256];
-    for entry in entries {
-        counts[hash(entry.page)] += 1;
+    let mut newest = [0; 256];
+    'places: for place in 0..fills.len() {
+        let hash = hash(fills[place].entry.page);
+        fills[place].older = newest[hash];
+        newest[hash] = (place + 1) as u8;
     }
-    counts
-}
-
-/// Where an entry with each hash stands; 0 where none has it.
-fn places_of(entries: &[TlbEntry]) -> [u8; 256]
-    requires { length entries.now ≤ 64 }
-{
-    let mut places = [0; 256];
-    for (place, entry) in entries.iter().enumerate() {
-        places[hash(entry.page)] = place as u8;
-    }
-    places
-}
-
-/// The first place of a translation of the page.
-fn first_place(entries: &[TlbEntry], page: u64) -> Option<usize>
-    ensures value { result ≡ position (λ e. e.page == page) entries.now }
-    ensures within { IfSome result (λ place. place < length entries.now) }
-{
-    entries.iter().position(|entry| entry.page == page)
-}
-
-/// Tells whether the entry's page is none of the range's.
-fn is_outside(entry: &TlbEntry, range: PageRange) -> bool
-    ensures { result ≡ not (has range entry.now.page) }
-{
-    !range.contains(entry.page)
+    newest
 }

@@ -45,11 +45,11 @@ fn open_few<A: Allocator + Clone>(
 
 /// File 0 has 5000 bytes from 7 on, file 1 has none, and file 2 has one page. They are open for
 /// both, for writing and for reading.
-fn three_files<A: Allocator + Clone>(alloc: A) -> Result<Objects<A>, AllocError> {
-    let mut specs = Vec::new(alloc.clone()?);
-    specs.push(spec(alloc.clone()?, Mode::RW, 5000, 7)?)?;
-    specs.push(spec(alloc.clone()?, Mode::W, 0, 0)?)?;
-    specs.push(spec(alloc.clone()?, Mode::R, 4096, 1)?)?;
+fn three_files(alloc: Global) -> Result<Objects<Global>, AllocError> {
+    let mut specs = Vec::new(alloc);
+    for (mode, len, seed) in [(Mode::RW, 5000, 7), (Mode::W, 0, 0), (Mode::R, 4096, 1)] {
+        specs.push(spec(alloc, mode, len, seed)?)?;
+    }
     open_few(alloc, specs)
 }
 
@@ -92,16 +92,24 @@ fn filled<A: Allocator>(
     true
 }
 
+/// The first byte of file 0, its last, the one behind that, the last of its last page and one past
+/// its end; the last of file 2.
+fn bytes_of<A: Allocator>(objects: &Objects<A>) -> [Option<u8>; 6] {
+    [
+        byte_at(objects, 0, 0, 0),
+        byte_at(objects, 0, 1, 903),
+        byte_at(objects, 0, 1, 904),
+        byte_at(objects, 0, 1, 4095),
+        byte_at(objects, 0, 2, 0),
+        byte_at(objects, 2, 0, 4095),
+    ]
+}
+
 #[test]
 fn bytes_are_zero_after_the_length(rt: HostRuntime) -> Result<(), Fail> {
     let objects = three_files(rt.alloc())?;
-    assert_eq!(rt; byte_at(&objects, 0, 0, 0), Some(7));
     // offset 4999 of the file: (7 + 4999) mod 256
-    assert_eq!(rt; byte_at(&objects, 0, 1, 903), Some(142));
-    assert_eq!(rt; byte_at(&objects, 0, 1, 904), Some(0));
-    assert_eq!(rt; byte_at(&objects, 0, 1, 4095), Some(0));
-    assert_eq!(rt; byte_at(&objects, 0, 2, 0), None);
-    assert_eq!(rt; byte_at(&objects, 2, 0, 4095), Some(0));
+    assert!(rt; bytes_of(&objects) == [Some(7), Some(142), Some(0), Some(0), None, Some(0)]);
     Ok(())
 }
 
@@ -113,25 +121,40 @@ fn own_length<A: Allocator>(objects: &Objects<A>, file: u32, page: u64) -> Optio
     Some(objects.own_bytes(file, page).len())
 }
 
+/// The same of both pages of file 0, and of the first of file 1.
+fn own_lengths<A: Allocator>(objects: &Objects<A>) -> [Option<usize>; 3] {
+    [
+        own_length(objects, 0, 0),
+        own_length(objects, 0, 1),
+        own_length(objects, 1, 0),
+    ]
+}
+
 #[test]
 fn own_bytes_end_with_the_file(rt: HostRuntime) -> Result<(), Fail> {
     let objects = three_files(rt.alloc())?;
-    assert_eq!(rt; own_length(&objects, 0, 0), Some(4096));
-    assert_eq!(rt; own_length(&objects, 0, 1), Some(904));
-    assert_eq!(rt; own_length(&objects, 1, 0), None);
+    assert!(rt; own_lengths(&objects) == [Some(4096), Some(904), None]);
     Ok(())
+}
+
+/// Whether pages lie past the end: 1, 2 and the last number of file 0, the first of file 1, 0 and 1 of
+/// file 2, and the first of one that isn't open.
+fn past_ends<A: Allocator>(objects: &Objects<A>) -> [bool; 7] {
+    [
+        objects.is_past_end(0, 1),
+        objects.is_past_end(0, 2),
+        objects.is_past_end(0, u64::MAX),
+        objects.is_past_end(1, 0),
+        objects.is_past_end(2, 0),
+        objects.is_past_end(2, 1),
+        objects.is_past_end(3, 0),
+    ]
 }
 
 #[test]
 fn pages_past_the_end(rt: HostRuntime) -> Result<(), Fail> {
     let objects = three_files(rt.alloc())?;
-    assert!(rt; !objects.is_past_end(0, 1));
-    assert!(rt; objects.is_past_end(0, 2));
-    assert!(rt; objects.is_past_end(0, u64::MAX));
-    assert!(rt; objects.is_past_end(1, 0));
-    assert!(rt; !objects.is_past_end(2, 0));
-    assert!(rt; objects.is_past_end(2, 1));
-    assert!(rt; objects.is_past_end(3, 0));
+    assert!(rt; past_ends(&objects) == [false, true, true, true, false, true, true]);
     Ok(())
 }
 
@@ -178,12 +201,11 @@ fn modes_and_mappings(rt: HostRuntime) -> Result<(), Fail> {
 }
 
 #[test]
-fn one_page_by_itself(rt: HostRuntime) -> Result<(), Fail> {
+fn one_page_by_itself(rt: HostRuntime) {
     let mut page = CachedFrame::none();
     assert_eq!(rt; page.get(), None);
     page.set(3);
     assert_eq!(rt; page.get(), Some(3));
-    Ok(())
 }
 
 /// Whether page 1 of file 0 is cached, and once more, and page 2, which isn't there, and a page of
@@ -241,17 +263,20 @@ fn frames_get_bytes_as_they_now_are(rt: HostRuntime) -> Result<(), Fail> {
     Ok(())
 }
 
+/// Whether a file of one page was opened in a heap.
+fn is_opened(heap: &LocalHeap) -> Result<bool, AllocError> {
+    let mut given = Vec::new(heap);
+    given.push(spec(heap, Mode::RW, 4096, 7)?)?;
+    Ok(open_few(heap, given).is_ok())
+}
+
 #[test]
 fn each_allocation_may_be_refused(rt: HostRuntime) -> Result<(), Fail> {
     // The file takes its 4,096 bytes once: what is asked for is what is opened.
     for (room, fits) in [(4304, false), (4992, true)] {
         let heap = LocalHeap::new(rt.alloc(), room)?;
-        let mut given = Vec::new(&heap);
-        given.push(spec(&heap, Mode::RW, 4096, 7)?)?;
-        let made = open_few(&heap, given);
-        assert_eq!(rt; made.is_ok(), fits);
-        drop(made);
-        assert_eq!(rt; heap.used(), 0);
+        let opened = is_opened(&heap);
+        assert!(rt; (opened, heap.used()) == (Ok(fits), 0));
     }
     Ok(())
 }
@@ -259,8 +284,11 @@ fn each_allocation_may_be_refused(rt: HostRuntime) -> Result<(), Fail> {
 #[test]
 fn no_files_are_open(rt: HostRuntime) -> Result<(), Fail> {
     let objects = Objects::none(rt.alloc());
-    assert!(rt; objects.mode(0) == None);
-    assert!(rt; objects.is_past_end(0, 0));
-    assert_eq!(rt; objects.cached(0, 0), None);
+    let told = (
+        objects.mode(0),
+        objects.is_past_end(0, 0),
+        objects.cached(0, 0),
+    );
+    assert!(rt; told == (None, true, None));
     Ok(())
 }

@@ -147,25 +147,24 @@ fn a_line_of_256_bytes_is_not_too_long(rt: HostRuntime) -> Result<(), Fail> {
     Ok(())
 }
 
+// Whether two lines come, the read fails, and again, and the third line comes once it doesn't.
+fn read_failing(alloc: Global) -> Result<[bool; 5], AllocError> {
+    let mut lines = LineReader::new(alloc)?;
+    let mut source = drip(TEXT, 9);
+    let mut sink = full_at(alloc, 1);
+    let first = lines.next_line(&mut source, &mut sink) == Ok(Found::Line);
+    let second = lines.next_line(&mut source, &mut sink) == Ok(Found::Line);
+    let failed = lines.next_line(&mut source, &mut sink);
+    let fails = failed == Err(NoLine::ReadFailed) && source.failed;
+    let again = lines.next_line(&mut source, &mut sink) == Err(NoLine::ReadFailed);
+    source.reader.fails_at = 100;
+    let goes_on = next_is(&mut lines, &mut source, &mut sink, b"c0 go");
+    Ok([first, second, fails, again, goes_on])
+}
+
 #[test]
 fn a_failed_read_loses_no_byte(rt: HostRuntime) -> Result<(), Fail> {
-    let mut source = drip(TEXT, 9);
-    let mut sink = full_at(rt.alloc(), 1);
-    let mut lines = LineReader::new(rt.alloc())?;
-    assert_eq!(rt; lines.next_line(&mut source, &mut sink), Ok(Found::Line));
-    assert_eq!(rt; lines.next_line(&mut source, &mut sink), Ok(Found::Line));
-    assert_eq!(rt;
-        lines.next_line(&mut source, &mut sink),
-        Err(NoLine::ReadFailed)
-    );
-    assert!(rt; source.failed);
-    assert_eq!(rt;
-        lines.next_line(&mut source, &mut sink),
-        Err(NoLine::ReadFailed)
-    );
-    source.reader.fails_at = 100;
-    assert_eq!(rt; lines.next_line(&mut source, &mut sink), Ok(Found::Line));
-    assert_eq!(rt; lines.line(), b"c0 go".as_slice());
+    assert!(rt; read_failing(rt.alloc())? == [true, true, true, true, true]);
     Ok(())
 }
 
@@ -177,9 +176,9 @@ fn no_read_past_the_limit(rt: HostRuntime) -> Result<(), Fail> {
         failed: false,
     };
     let mut buffer = [0; 4];
-    assert_eq!(rt; source.read(&mut buffer), Ok(4));
-    assert_eq!(rt; source.read(&mut buffer), Err(ReadFailed));
-    assert!(rt; !source.failed);
+    let first = source.read(&mut buffer);
+    let second = source.read(&mut buffer);
+    assert!(rt; (first, second, source.failed) == (Ok(4), Err(ReadFailed), false));
     assert_eq!(rt; source.reader, b" 4\n\nc0 go".as_slice());
     Ok(())
 }
@@ -207,23 +206,28 @@ fn what_was_written_goes_out_before_a_read(rt: HostRuntime) -> Result<(), Fail> 
     Ok(())
 }
 
+// What two texts and a flush after each come to, and whether the second text failed by itself.
+fn write_twice(sink: &mut Noted<Filling>) -> ([Result<(), WriteFailed>; 4], bool) {
+    let first = write_all(sink, b"done\n");
+    let flushed = sink.flush();
+    let second = write_all(sink, b"segv maperr\n");
+    let has_failed = sink.failed;
+    ([first, flushed, second, sink.flush()], has_failed)
+}
+
 #[test]
-fn a_write_that_takes_no_byte_fails(rt: HostRuntime) -> Result<(), Fail> {
+fn a_write_that_takes_no_byte_fails(rt: HostRuntime) {
     let mut sink = full_at(rt.alloc(), 4);
-    assert_eq!(rt; write_all(&mut sink, b"done\n"), Ok(()));
-    assert_eq!(rt; sink.flush(), Ok(()));
-    assert_eq!(rt; write_all(&mut sink, b"segv maperr\n"), Err(WriteFailed));
-    assert!(rt; sink.failed);
-    assert_eq!(rt; sink.flush(), Err(WriteFailed));
+    let (done, has_failed) = write_twice(&mut sink);
+    assert!(rt; has_failed && done == [Ok(()), Ok(()), Err(WriteFailed), Err(WriteFailed)]);
     assert_eq!(rt; sink.writer.held.as_slice(), b"done\nsegv m".as_slice());
-    Ok(())
 }
 
 #[test]
 fn a_reader_of_lines_needs_its_chunk(rt: HostRuntime) -> Result<(), Fail> {
-    let small = LocalHeap::new(rt.alloc(), 65_000)?;
-    assert!(rt; LineReader::new(&small).is_err());
-    let large = LocalHeap::new(rt.alloc(), 66_000)?;
-    assert!(rt; LineReader::new(&large).is_ok());
+    for (room, fits) in [(65_000, false), (66_000, true)] {
+        let heap = LocalHeap::new(rt.alloc(), room)?;
+        assert!(rt; LineReader::new(&heap).is_ok() == fits);
+    }
     Ok(())
 }

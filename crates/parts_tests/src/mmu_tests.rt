@@ -134,17 +134,19 @@ fn a_page_is_walked_and_evicted_once(rt: HostRuntime) {
 }
 
 /// Whether an installation was made with this allocator, and whether the entries then are as before
-/// it. Where a table is there, an entry can be set in both cases.
+/// it.
 fn tried<A: Allocator + Clone>(alloc: A) -> Result<(bool, bool), NoMemory> {
     let mut cpu = Cpu::new(alloc)?;
+    tried_on(&mut cpu)
+}
+
+/// The same on a new core. Where a table is there, an entry can be set in both cases.
+fn tried_on<A: Allocator + Clone>(cpu: &mut Cpu<A>) -> Result<(bool, bool), NoMemory> {
     cpu.install(1, 7, READ_WRITE)?;
     cpu.install(512, 8, READ_EXECUTE)?;
-    let before = seen(&cpu);
-    let done = match cpu.install(0x4_0000_0000, 9, READ_WRITE) {
-        Ok(_) => true,
-        Err(_) => false,
-    };
-    let after = seen(&cpu);
+    let before = seen(cpu);
+    let done = cpu.install(0x4_0000_0000, 9, READ_WRITE).is_ok();
+    let after = seen(cpu);
     if let Err(_) = cpu.install(2, 10, READ_EXECUTE) {
         return Ok((done, done));
     }

@@ -1,9 +1,10 @@
 //! `refcache`: rows of calls with what each must answer, as worked examples of the rules, and its
 //! pieces by themselves.
+ghost use Rattle.std.specs.Prelude.{◌≤◌, ◌^◌};
 
 use crate::refcache_trial::{Answer, Call, Trial};
 use linked_list_allocator::LocalHeap;
-use refcache::{CoreCounts, Epochs, Flush, ObjectCount, Queued, Refcache, Review, WayAhead};
+use refcache::{CoreCounts, Epochs, Flush, ObjectCount, Queued, Refcache, Review};
 use std::alloc::{AllocError, Allocator, Global};
 use std::test::Fail;
 use vm_base::CoreId;
@@ -19,7 +20,7 @@ const EVICTED: Answer = Answer::Flush(Flush::Evicted(0));
 const QUIET: Answer = Answer::Review(Review::Idle);
 
 /// A row of a worked example: a call and its answer, or what is counted at that point.
-#[derive(Clone, Copy, Debug)]
+#[derive(Clone, Copy)]
 enum Row {
     Call(Call, Answer),
     Global(u32, i64),
@@ -38,14 +39,27 @@ fn comes<A: Allocator>(trial: &mut Trial<A>, row: Row) -> bool {
 }
 
 /// The place of the first row that doesn't come as it says.
-fn first_wrong<A: Allocator>(trial: Trial<A>, rows: &[Row]) -> Option<usize> {
-    let mut trial = trial;
+fn first_wrong<A: Allocator>(trial: &mut Trial<A>, rows: &[Row]) -> Option<usize> {
     for (place, row) in rows.iter().enumerate() {
-        if !comes(&mut trial, *row) {
+        if !comes(trial, *row) {
             return Some(place);
         }
     }
     None
+}
+
+/// The same from so many cores and objects on.
+fn wrong_of(
+    alloc: Global,
+    cores: u8,
+    objects: u32,
+    rows: &[Row],
+) -> Result<Option<usize>, AllocError>
+    requires cores { (1 ≤ cores) × (cores ≤ 64) }
+    requires objects { objects ≤ 2 ^ 16 }
+{
+    let mut trial = Trial::new(alloc, cores, objects)?;
+    Ok(first_wrong(&mut trial, rows))
 }
 
 const QUEUED_ANEW: [Row; 18] = [
@@ -140,30 +154,13 @@ const COUNTED_UP_SINCE: [Row; 13] = [
 
 #[test]
 fn worked_examples(rt: HostRuntime) -> Result<(), Fail> {
-    assert_eq!(rt;
-        first_wrong(Trial::new(rt.alloc(), 2, 1)?, &QUEUED_ANEW),
-        None
-    );
-    assert_eq!(rt;
-        first_wrong(Trial::new(rt.alloc(), 1, 65)?, &EVICTED_FROM_ITS_PLACE),
-        None
-    );
-    assert_eq!(rt;
-        first_wrong(Trial::new(rt.alloc(), 2, 1)?, &FREED_LATER),
-        None
-    );
-    assert_eq!(rt;
-        first_wrong(Trial::new(rt.alloc(), 1, 1)?, &LIVES_AND_IS_FREED),
-        None
-    );
-    assert_eq!(rt;
-        first_wrong(Trial::new(rt.alloc(), 64, 65_536)?, &LARGEST),
-        None
-    );
-    assert_eq!(rt;
-        first_wrong(Trial::new(rt.alloc(), 2, 1)?, &COUNTED_UP_SINCE),
-        None
-    );
+    let alloc = rt.alloc();
+    assert_eq!(rt; wrong_of(alloc, 2, 1, &QUEUED_ANEW)?, None);
+    assert_eq!(rt; wrong_of(alloc, 1, 65, &EVICTED_FROM_ITS_PLACE)?, None);
+    assert_eq!(rt; wrong_of(alloc, 2, 1, &FREED_LATER)?, None);
+    assert_eq!(rt; wrong_of(alloc, 1, 1, &LIVES_AND_IS_FREED)?, None);
+    assert_eq!(rt; wrong_of(alloc, 64, 65_536, &LARGEST)?, None);
+    assert_eq!(rt; wrong_of(alloc, 2, 1, &COUNTED_UP_SINCE)?, None);
     Ok(())
 }
 
@@ -273,27 +270,25 @@ fn pieces_free_an_object(rt: HostRuntime) -> Result<(), Fail> {
     Ok(())
 }
 
-/// The object in the way of counting one down ahead.
-fn down_ahead(ahead: &mut WayAhead, object: u32) -> Option<u32> {
-    ahead.count(object, -1)
+/// What is in the way of counting objects down ahead, one after another.
+fn down_ahead<A: Allocator>(part: &CoreCounts<A>) -> [Option<u32>; 5] {
+    let mut ahead = part.way_ahead();
+    [
+        ahead.count(5, -1),
+        ahead.count(69, -1),
+        ahead.count(69, -1),
+        ahead.count(6, -1),
+        ahead.count(5, -1),
+    ]
 }
 
 #[test]
 fn way_ahead_tells_what_must_go(rt: HostRuntime) -> Result<(), Fail> {
     let mut part = CoreCounts::new(rt.alloc(), 200)?;
-    assert!(rt; count_down(&mut part, 5));
-    let mut ahead = part.way_ahead();
-    let rows = [
-        (5, None),
-        (69, Some(5)),
-        (69, None),
-        (6, None),
-        (5, Some(69)),
-    ];
-    for (object, want) in rows {
-        assert_eq!(rt; down_ahead(&mut ahead, object), want);
-    }
-    assert_eq!(rt; part.least(), Some(5));
+    let is_down = count_down(&mut part, 5);
+    let ahead = down_ahead(&part);
+    assert!(rt; (is_down, part.least()) == (true, Some(5)));
+    assert!(rt; ahead == [None, Some(5), None, None, Some(69)]);
     Ok(())
 }
 

@@ -9,7 +9,7 @@ use std::marker::Model;
 use vm_base::CoreId;
 
 /// A call, as a row of a test writes it.
-#[derive(Clone, Copy, Debug, PartialEq, Eq)]
+#[derive(Clone, Copy)]
 pub enum Call {
     /// An object and its count.
     Begin(u32, u64),
@@ -22,7 +22,7 @@ pub enum Call {
 }
 
 /// What a call answered.
-#[derive(Clone, Copy, Debug, PartialEq, Eq)]
+#[derive(Clone, Copy, PartialEq)]
 pub enum Answer {
     Done,
     /// It may not be made, and wasn't.

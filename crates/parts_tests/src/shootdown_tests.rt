@@ -6,6 +6,16 @@ const PAGES: PageRange = PageRange { first: 16, end: 18 };
 
 const OTHERS: PageRange = PageRange { first: 40, end: 41 };
 
+fn five_takes(inbox: &mut Inbox) -> [Took; 5] {
+    [
+        inbox.take(),
+        inbox.take(),
+        inbox.take(),
+        inbox.take(),
+        inbox.take(),
+    ]
+}
+
 #[test]
 fn an_inbox_is_acted_on_from_the_oldest_message(rt: HostRuntime) {
     let mut inbox = Inbox::new(CoreId::new(1));
@@ -15,32 +25,47 @@ fn an_inbox_is_acted_on_from_the_oldest_message(rt: HostRuntime) {
     inbox.post(CoreId::new(63), OTHERS);
     assert!(rt; inbox.has_of(CoreId::new(63)));
     assert!(rt; !inbox.has_of(CoreId::new(2)));
-    for want in [
-        Took::Clear(PAGES),
-        Took::Invalidate(PAGES),
-        Took::Clear(OTHERS),
-        Took::Invalidate(OTHERS),
-        Took::Idle,
-    ] {
-        assert_eq!(rt; inbox.take(), want);
-    }
+    let takes = five_takes(&mut inbox);
+    let first = (Took::Clear(PAGES), Took::Invalidate(PAGES));
+    let second = (Took::Clear(OTHERS), Took::Invalidate(OTHERS));
+    assert!(rt; takes == [first.0, first.1, second.0, second.1, Took::Idle]);
     assert!(rt; !inbox.has_of(CoreId::new(63)));
 }
 
-#[test]
-fn a_core_waits_until_each_target_has_acknowledged(rt: HostRuntime) {
+/// For whom core 0 waits after it posted to cores 1 and 3, and after each of these took once or twice;
+/// what cores 2, 3, 3, 1, 1 and 1 take.
+fn taken_in_turn() -> ([CoreSet; 4], [Took; 6]) {
     let (sender, near, far) = (CoreId::new(0), CoreId::new(1), CoreId::new(3));
     let mut inboxes = Inboxes::new(4);
     let targets = CoreSet::empty().with(near).with(far);
     inboxes.post(sender, targets, PAGES);
-    assert_eq!(rt; inboxes.waiting(sender), targets);
-    assert_eq!(rt; inboxes.take(CoreId::new(2)), Took::Idle);
-    assert_eq!(rt; inboxes.take(far), Took::Clear(PAGES));
-    assert_eq!(rt; inboxes.waiting(sender), targets);
-    assert_eq!(rt; inboxes.take(far), Took::Invalidate(PAGES));
-    assert_eq!(rt; inboxes.waiting(sender), targets.without(far));
-    assert_eq!(rt; inboxes.take(near), Took::Clear(PAGES));
-    assert_eq!(rt; inboxes.take(near), Took::Invalidate(PAGES));
-    assert_eq!(rt; inboxes.waiting(sender), CoreSet::empty());
-    assert_eq!(rt; inboxes.take(near), Took::Idle);
+    let posted = inboxes.waiting(sender);
+    let beside = inboxes.take(CoreId::new(2));
+    let far_first = inboxes.take(far);
+    let cleared = inboxes.waiting(sender);
+    let far_second = inboxes.take(far);
+    let acknowledged = inboxes.waiting(sender);
+    let near_first = inboxes.take(near);
+    let near_second = inboxes.take(near);
+    let done = inboxes.waiting(sender);
+    let takes = [
+        beside,
+        far_first,
+        far_second,
+        near_first,
+        near_second,
+        inboxes.take(near),
+    ];
+    ([posted, cleared, acknowledged, done], takes)
+}
+
+#[test]
+fn a_core_waits_until_each_target_has_acknowledged(rt: HostRuntime) {
+    let (waiting, takes) = taken_in_turn();
+    let (near, far) = (CoreId::new(1), CoreId::new(3));
+    let targets = CoreSet::empty().with(near).with(far);
+    assert!(rt; waiting == [targets, targets, targets.without(far), CoreSet::empty()]);
+    let (clear, invalidate) = (Took::Clear(PAGES), Took::Invalidate(PAGES));
+    let want = [Took::Idle, clear, invalidate, clear, invalidate, Took::Idle];
+    assert!(rt; takes == want);
 }

@@ -1,12 +1,218 @@
 //! Lines as the format's description gives them, good and bad, and the texts of replies and of the
 //! lists' lines.
-use trace_text::action::Action;
+use std::alloc::{AllocError, Global};
+use std::test::Fail;
 use trace_text::line::{
-    Line, first_word_is_file, first_word_is_vm, is_printable, is_printable_line, read_line,
+    first_word_is_file, first_word_is_vm, is_printable, is_printable_line, read_line,
 };
 use trace_text::lists::{write_answer, write_detach, write_map_line};
 use trace_text::printing::{LineText, address_text, number_text, push_number, push_reply};
-use vm_base::{Back, CoreId, Errno, Flags, Mode, PageRange, Prot, Reply, Request, SegvCode};
+use vm_base::{Back, Errno, PageRange, Prot, Reply, SegvCode};
+
+/// Sizes of a space. Each row of a table is a line and what it says, as `Debug` shows that.
+const SPACES: &str = "\
+vm 1 4 => Some(Space { cores: 1, frames: 4, calls: 4096 })
+vm 1 1 2 => Some(Space { cores: 1, frames: 1, calls: 2 })
+  vm  0x40   007  => Some(Space { cores: 64, frames: 7, calls: 4096 })
+";
+
+/// Files of a space.
+const FILES: &str = "\
+file 0 r 4096 1 => Some(File { number: 0, mode: R, len: 4096, seed: 1 })
+file 2 w 0 255 => Some(File { number: 2, mode: W, len: 0, seed: 255 })
+ file  0x10 rw 0x100001  007  => Some(File { number: 16, mode: RW, len: 1048577, seed: 7 })
+";
+
+/// Calls of a core. Words stand apart by any number of spaces, and a number may have any number of
+/// zeros in front.
+const REQUESTS: &str = "\
+c0! mmap 0x10000 4096 rw- pfa => Some(Now(CoreId { index: 0 }, Mmap { addr: 65536, len: 4096, \
+    prot: Prot { read: true, write: true, exec: false }, \
+    flags: Flags { private: true, shared: false, fixed: true, anon: true }, file: 0, off: 0 }))
+c0! mmap 0 0x2000 rw- s 3 0x1000 => Some(Now(CoreId { index: 0 }, Mmap { addr: 0, len: 8192, \
+    prot: Prot { read: true, write: true, exec: false }, \
+    flags: Flags { private: false, shared: true, fixed: false, anon: false }, file: 3, off: 4096 }))
+c0! munmap 0x10000 0x1000 => Some(Now(CoreId { index: 0 }, Munmap { addr: 65536, len: 4096 }))
+c0! mprotect 0x10000 1 rw- => Some(Now(CoreId { index: 0 }, Mprotect { addr: 65536, len: 1, \
+    prot: Prot { read: true, write: true, exec: false } }))
+c0! load 0xFFFFffffFFFFffff => Some(Now(CoreId { index: 0 }, Load { addr: 18446744073709551615 }))
+c0! store 0x10004 41 => Some(Now(CoreId { index: 0 }, Store { addr: 65540, byte: 41 }))
+c0! fetch 00010 => Some(Now(CoreId { index: 0 }, Fetch { addr: 10 }))
+  c0!  load   0x00000000000000010   => Some(Now(CoreId { index: 0 }, Load { addr: 16 }))
+c0! store 00000000000000000007  0x00000000000000029 => Some(Now(CoreId { index: 0 }, \
+    Store { addr: 7, byte: 41 }))
+";
+
+/// Actions of a core. An address stands for its page, the last byte of a page too.
+const ACTIONS: &str = "\
+c7 call load 0 => Some(Act(CoreId { index: 7 }, Call(Load { addr: 0 })))
+c63 go => Some(Act(CoreId { index: 63 }, Go))
+c1  take => Some(Act(CoreId { index: 1 }, Take))
+c0 flush  => Some(Act(CoreId { index: 0 }, Flush))
+c0 review => Some(Act(CoreId { index: 0 }, Review))
+c2 giveup => Some(Act(CoreId { index: 2 }, GiveUp))
+c0 frame 3 => Some(Act(CoreId { index: 0 }, Frame(3)))
+c0 frame 18446744073709551615 => Some(Act(CoreId { index: 0 }, Frame(18446744073709551615)))
+c5 guess 0x8000005fff => Some(Act(CoreId { index: 5 }, Guess(134217733)))
+c0  guess 18446744073709551615  => Some(Act(CoreId { index: 0 }, Guess(4503599627370495)))
+c12 whole => Some(Act(CoreId { index: 12 }, Whole))
+c0 walk 0x10000 => Some(Act(CoreId { index: 0 }, Walk(16)))
+c10 walk 0 => Some(Act(CoreId { index: 10 }, Walk(0)))
+c0 evict 0x10FFF => Some(Act(CoreId { index: 0 }, Evict(16)))
+c0 evict 0xffffffffffffffff => Some(Act(CoreId { index: 0 }, Evict(4503599627370495)))
+";
+
+/// Other lines, those that say nothing, and two bad ones that end in a space.
+const OTHERS: &str = "\
+c10 finish  => Some(Finish(CoreId { index: 10 }))
+fold 0x1000 => Some(Fold(1))
+fold 4095 => Some(Fold(0))
+ => Some(Blank)
+    => Some(Blank)
+# vm 1 1 => Some(Blank)
+# => Some(Blank)
+c0! load  => None
+c0! mmap 0 4096 rw-  => None
+";
+
+/// Whether the line is printable, and says what is written of it.
+fn says(alloc: Global, line: &str, said: &str) -> Result<bool, AllocError> {
+    let shown = format!(in alloc; "{:?}", read_line(line.as_bytes()))?;
+    Ok(is_printable(line.as_bytes()) && shown.as_str() == said)
+}
+
+/// The first row whose line says something else.
+fn first_wrong<'a>(alloc: Global, rows: &'a str) -> Result<Option<&'a str>, AllocError> {
+    for row in rows.lines() {
+        match row.split_once(" => ") {
+            Some((line, said)) if says(alloc, line, said)? => {}
+            _ => return Ok(Some(row)),
+        }
+    }
+    Ok(None)
+}
+
+#[test]
+fn lines_say_what_is_written_of_them(rt: HostRuntime) -> Result<(), Fail> {
+    for rows in [SPACES, FILES, REQUESTS, ACTIONS, OTHERS] {
+        assert_eq!(rt; first_wrong(rt.alloc(), rows)?, None);
+    }
+    Ok(())
+}
+
+#[test]
+fn first_words(rt: HostRuntime) {
+    for row in SPACES.lines() {
+        assert!(rt; first_word_is_vm(row.as_bytes()));
+    }
+    for row in FILES.lines() {
+        assert!(rt; first_word_is_file(row.as_bytes()));
+    }
+    assert!(rt; !first_word_is_vm(b"vmx 1 1"));
+    assert!(rt; !first_word_is_vm(b"   "));
+    assert!(rt; first_word_is_file(b"file"));
+    assert!(rt; !first_word_is_file(b"files 0 r 1 1"));
+    assert!(rt; !first_word_is_file(b""));
+}
+
+const BAD_LINES: &str = "\
+vm 1
+vm 1 4 4096 1
+ # comment
+file 0 rw 4096
+file 0 rw 4096 256
+file 0 rw 4096 7 7
+file 0 wr 4096 7
+file 0 - 4096 7
+file rw 4096 7
+file 0 rw 0x10000000000000000 7
+c64 go
+c01 go
+C0 go
+c go
+c0 go on
+c0! go
+c0 ! load 0
+c0! frob
+c0! load 0x10000000000000000
+c0! load 0X10
+c0! load 0x
+c0! load -1
+c0! load
+c0! load 12a
+c0! load 0x1g
+c0! load 0x 1
+c0! load 1 2
+c0! loads 0
+c0!load 0
+c0! store 0 256
+c0! mmap 0 4096 rw- pp
+c0! mmap 0 4096 rw pa
+c0! mmap 0 4096 wr- pa
+c0! mmap 0 4096 rw- p
+c0! mmap 0 4096 rw- pa 1
+c0
+c0 takes
+c0 Take
+c0 give up
+c0 take 1
+c0 flush 0
+c0 review c1
+c0 giveup now
+c0 frame
+c0 frame f
+c0 frame 1 2
+c0 frame 18446744073709551616
+c0 guess
+c0 guess 0x1000 1
+c0 guess 0x10000000000000000
+c0! guess 0x1000
+c0 whole 0x1000
+c0 Whole
+whole
+c0 walk
+c0 walk 0x1000 1
+c0 evict
+c0 evict 0x10000000000000000
+c0 fold 0x1000
+c64 take
+c00 flush
+take
+fold
+fold 0x1000 1
+Fold 0x1000
+fold! 0x1000
+";
+
+#[test]
+fn bad_lines(rt: HostRuntime) {
+    for line in BAD_LINES.lines() {
+        assert_eq!(rt; read_line(line.as_bytes()), None);
+    }
+}
+
+#[test]
+fn printable_bytes(rt: HostRuntime) {
+    assert!(rt; !is_printable(b"#\t"));
+    assert!(rt; !is_printable(b"vm 1 1\r"));
+    assert!(rt; !is_printable(b"\x7f"));
+    assert!(rt; is_printable(b" ~"));
+}
+
+/// Whether a line is printable, beside what it says.
+fn printable(line: &str) -> bool {
+    is_printable_line(line.as_bytes(), &read_line(line.as_bytes()))
+}
+
+#[test]
+fn printable_lines(rt: HostRuntime) {
+    for line in ["c0! load 0", "frob", "# a comment~", ""] {
+        assert!(rt; printable(line));
+    }
+    for line in ["# a comment\t", "c0! load\t0", "c0! load 0\r", "\x7f"] {
+        assert!(rt; !printable(line));
+    }
+}
 
 const READ_WRITE: Prot = Prot {
     read: true,
@@ -14,329 +220,11 @@ const READ_WRITE: Prot = Prot {
     exec: false,
 };
 
-// `pfa`
-const PLACED: Flags = Flags {
-    private: true,
-    shared: false,
-    fixed: true,
-    anon: true,
-};
-
-// `s`
-const SHARED: Flags = Flags {
-    private: false,
-    shared: true,
-    fixed: false,
-    anon: false,
-};
-
-#[test]
-fn sizes_of_a_space(rt: HostRuntime) {
-    for (text, cores, frames, calls) in [
-        (b"vm 1 4".as_slice(), 1, 4, 4096),
-        (b"vm 1 1 2".as_slice(), 1, 1, 2),
-        (b"  vm  0x40   007 ".as_slice(), 64, 7, 4096),
-    ] {
-        assert!(rt; first_word_is_vm(text));
-        assert_eq!(rt;
-            read_line(text),
-            Some(Line::Space {
-                cores,
-                frames,
-                calls
-            })
-        );
-    }
-    assert!(rt; !first_word_is_vm(b"vmx 1 1"));
-    assert!(rt; !first_word_is_vm(b"   "));
-}
-
-#[test]
-fn files_of_a_space(rt: HostRuntime) {
-    for (text, number, mode, len, seed) in [
-        (b"file 0 r 4096 1".as_slice(), 0, Mode::R, 4096, 1),
-        (b"file 2 w 0 255".as_slice(), 2, Mode::W, 0, 255),
-        (
-            b" file  0x10 rw 0x100001  007 ".as_slice(),
-            16,
-            Mode::RW,
-            1_048_577,
-            7,
-        ),
-    ] {
-        assert!(rt; first_word_is_file(text));
-        assert_eq!(rt;
-            read_line(text),
-            Some(Line::File {
-                number,
-                mode,
-                len,
-                seed
-            })
-        );
-    }
-    assert!(rt; first_word_is_file(b"file"));
-    assert!(rt; !first_word_is_file(b"files 0 r 1 1"));
-    assert!(rt; !first_word_is_file(b""));
-}
-
-#[test]
-fn mappings_of_a_core(rt: HostRuntime) {
-    let core = CoreId::new(0);
-    for (text, request) in [
-        (
-            b"c0! mmap 0x10000 4096 rw- pfa".as_slice(),
-            Request::Mmap {
-                addr: 0x10000,
-                len: 4096,
-                prot: READ_WRITE,
-                flags: PLACED,
-                file: 0,
-                off: 0,
-            },
-        ),
-        (
-            b"c0! mmap 0 0x2000 rw- s 3 0x1000".as_slice(),
-            Request::Mmap {
-                addr: 0,
-                len: 8192,
-                prot: READ_WRITE,
-                flags: SHARED,
-                file: 3,
-                off: 4096,
-            },
-        ),
-    ] {
-        assert!(rt; is_printable(text));
-        assert_eq!(rt; read_line(text), Some(Line::Now(core, request)));
-    }
-}
-
-#[test]
-fn requests_of_a_core(rt: HostRuntime) {
-    let core = CoreId::new(0);
-    for (text, request) in [
-        (
-            b"c0! munmap 0x10000 0x1000".as_slice(),
-            Request::Munmap {
-                addr: 65536,
-                len: 4096,
-            },
-        ),
-        (
-            b"c0! mprotect 0x10000 1 rw-".as_slice(),
-            Request::Mprotect {
-                addr: 65536,
-                len: 1,
-                prot: READ_WRITE,
-            },
-        ),
-        (
-            b"c0! load 0xFFFFffffFFFFffff".as_slice(),
-            Request::Load { addr: u64::MAX },
-        ),
-        (
-            b"c0! store 0x10004 41".as_slice(),
-            Request::Store {
-                addr: 65540,
-                byte: 41,
-            },
-        ),
-        (b"c0! fetch 00010".as_slice(), Request::Fetch { addr: 10 }),
-    ] {
-        assert!(rt; is_printable(text));
-        assert_eq!(rt; read_line(text), Some(Line::Now(core, request)));
-    }
-}
-
-// Words stand apart by any number of spaces, and a number may have any number of zeros in front.
-#[test]
-fn spaces_and_zeros(rt: HostRuntime) {
-    let core = CoreId::new(0);
-    for (text, request) in [
-        (
-            b"  c0!  load   0x00000000000000010  ".as_slice(),
-            Request::Load { addr: 16 },
-        ),
-        (
-            b"c0! store 00000000000000000007  0x00000000000000029".as_slice(),
-            Request::Store { addr: 7, byte: 41 },
-        ),
-    ] {
-        assert!(rt; is_printable(text));
-        assert_eq!(rt; read_line(text), Some(Line::Now(core, request)));
-    }
-}
-
-// An address stands for its page, the last byte of a page too.
-#[test]
-fn actions_of_a_core(rt: HostRuntime) {
-    for (text, core, action) in [
-        (
-            b"c7 call load 0".as_slice(),
-            7,
-            Action::Call(Request::Load { addr: 0 }),
-        ),
-        (b"c63 go".as_slice(), 63, Action::Go),
-        (b"c1  take".as_slice(), 1, Action::Take),
-        (b"c0 flush ".as_slice(), 0, Action::Flush),
-        (b"c0 review".as_slice(), 0, Action::Review),
-        (b"c2 giveup".as_slice(), 2, Action::GiveUp),
-        (b"c0 frame 3".as_slice(), 0, Action::Frame(3)),
-        (
-            b"c0 frame 18446744073709551615".as_slice(),
-            0,
-            Action::Frame(u64::MAX),
-        ),
-        (
-            b"c5 guess 0x8000005fff".as_slice(),
-            5,
-            Action::Guess(0x800_0005),
-        ),
-        (
-            b"c0  guess 18446744073709551615 ".as_slice(),
-            0,
-            Action::Guess(0xf_ffff_ffff_ffff),
-        ),
-        (b"c12 whole".as_slice(), 12, Action::Whole),
-        (b"c0 walk 0x10000".as_slice(), 0, Action::Walk(16)),
-        (b"c10 walk 0".as_slice(), 10, Action::Walk(0)),
-        (b"c0 evict 0x10FFF".as_slice(), 0, Action::Evict(16)),
-        (
-            b"c0 evict 0xffffffffffffffff".as_slice(),
-            0,
-            Action::Evict(0xf_ffff_ffff_ffff),
-        ),
-    ] {
-        assert_eq!(rt; read_line(text), Some(Line::Act(CoreId::new(core), action)));
-    }
-}
-
-#[test]
-fn other_lines(rt: HostRuntime) {
-    for (text, line) in [
-        (b"c10 finish ".as_slice(), Line::Finish(CoreId::new(10))),
-        (b"fold 0x1000".as_slice(), Line::Fold(1)),
-        (b"fold 4095".as_slice(), Line::Fold(0)),
-    ] {
-        assert_eq!(rt; read_line(text), Some(line));
-    }
-}
-
-#[test]
-fn lines_that_say_nothing(rt: HostRuntime) {
-    for text in [
-        b"".as_slice(),
-        b"   ".as_slice(),
-        b"# vm 1 1".as_slice(),
-        b"#".as_slice(),
-    ] {
-        assert_eq!(rt; read_line(text), Some(Line::Blank));
-    }
-}
-
-#[test]
-fn bad_lines(rt: HostRuntime) {
-    for text in [
-        b" # comment".as_slice(),
-        b"vm 1".as_slice(),
-        b"vm 1 4 4096 1".as_slice(),
-        b"file 0 rw 4096".as_slice(),
-        b"file 0 rw 4096 256".as_slice(),
-        b"file 0 rw 4096 7 7".as_slice(),
-        b"file 0 wr 4096 7".as_slice(),
-        b"file 0 - 4096 7".as_slice(),
-        b"file rw 4096 7".as_slice(),
-        b"file 0 rw 0x10000000000000000 7".as_slice(),
-        b"c64 go".as_slice(),
-        b"c01 go".as_slice(),
-        b"C0 go".as_slice(),
-        b"c go".as_slice(),
-        b"c0 go on".as_slice(),
-        b"c0! go".as_slice(),
-        b"c0 ! load 0".as_slice(),
-        b"c0! frob".as_slice(),
-        b"c0! load 0x10000000000000000".as_slice(),
-        b"c0! load 0X10".as_slice(),
-        b"c0! load 0x".as_slice(),
-        b"c0! load -1".as_slice(),
-        b"c0! load".as_slice(),
-        b"c0! load ".as_slice(),
-        b"c0! load 12a".as_slice(),
-        b"c0! load 0x1g".as_slice(),
-        b"c0! load 0x 1".as_slice(),
-        b"c0! load 1 2".as_slice(),
-        b"c0! loads 0".as_slice(),
-        b"c0!load 0".as_slice(),
-        b"c0! store 0 256".as_slice(),
-        b"c0! mmap 0 4096 rw- pp".as_slice(),
-        b"c0! mmap 0 4096 rw pa".as_slice(),
-        b"c0! mmap 0 4096 wr- pa".as_slice(),
-        b"c0! mmap 0 4096 rw- p".as_slice(),
-        b"c0! mmap 0 4096 rw- pa 1".as_slice(),
-        b"c0! mmap 0 4096 rw- ".as_slice(),
-    ] {
-        assert_eq!(rt; read_line(text), None);
-    }
-    assert!(rt; !is_printable(b"#\t"));
-    assert!(rt; !is_printable(b"vm 1 1\r"));
-    assert!(rt; !is_printable(b"\x7f"));
-    assert!(rt; is_printable(b" ~"));
-}
-
-#[test]
-fn printable_lines(rt: HostRuntime) {
-    for (text, is_so) in [
-        (b"c0! load 0".as_slice(), true),
-        (b"frob".as_slice(), true),
-        (b"# a comment~".as_slice(), true),
-        (b"".as_slice(), true),
-        (b"# a comment\t".as_slice(), false),
-        (b"c0! load\t0".as_slice(), false),
-        (b"c0! load 0\r".as_slice(), false),
-        (b"\x7f".as_slice(), false),
-    ] {
-        assert_eq!(rt; is_printable_line(text, &read_line(text)), is_so);
-    }
-}
-
-#[test]
-fn bad_actions(rt: HostRuntime) {
-    for text in [
-        b"c0".as_slice(),
-        b"c0 takes".as_slice(),
-        b"c0 Take".as_slice(),
-        b"c0 give up".as_slice(),
-        b"c0 take 1".as_slice(),
-        b"c0 flush 0".as_slice(),
-        b"c0 review c1".as_slice(),
-        b"c0 giveup now".as_slice(),
-        b"c0 frame".as_slice(),
-        b"c0 frame f".as_slice(),
-        b"c0 frame 1 2".as_slice(),
-        b"c0 frame 18446744073709551616".as_slice(),
-        b"c0 guess".as_slice(),
-        b"c0 guess 0x1000 1".as_slice(),
-        b"c0 guess 0x10000000000000000".as_slice(),
-        b"c0! guess 0x1000".as_slice(),
-        b"c0 whole 0x1000".as_slice(),
-        b"c0 Whole".as_slice(),
-        b"whole".as_slice(),
-        b"c0 walk".as_slice(),
-        b"c0 walk 0x1000 1".as_slice(),
-        b"c0 evict".as_slice(),
-        b"c0 evict 0x10000000000000000".as_slice(),
-        b"c0 fold 0x1000".as_slice(),
-        b"c64 take".as_slice(),
-        b"c00 flush".as_slice(),
-        b"take".as_slice(),
-        b"fold".as_slice(),
-        b"fold 0x1000 1".as_slice(),
-        b"Fold 0x1000".as_slice(),
-        b"fold! 0x1000".as_slice(),
-    ] {
-        assert_eq!(rt; read_line(text), None);
-    }
+/// Whether the reply is printed so.
+fn is_reply(reply: Reply, text: &str) -> bool {
+    let mut line = LineText::new();
+    push_reply(&mut line, reply);
+    line.as_str() == text
 }
 
 #[test]
@@ -358,28 +246,52 @@ fn texts_of_replies(rt: HostRuntime) {
         (Reply::NoFrame, "noframe"),
         (Reply::NoMemory, "nomemory"),
     ] {
-        let mut line = LineText::new();
-        push_reply(&mut line, reply);
-        assert_eq!(rt; line.as_str(), text);
+        assert!(rt; is_reply(reply, text));
     }
+}
+
+/// Whether the address is printed so.
+fn is_address(address: u64, text: &str) -> bool {
+    address_text(address).as_str() == text
+}
+
+/// Whether the number is printed so.
+fn is_number(number: u64, text: &str) -> bool {
+    number_text(number).as_str() == text
 }
 
 #[test]
 fn texts_of_numbers(rt: HostRuntime) {
-    assert_eq!(rt; address_text(0).as_str(), "0x0");
-    assert_eq!(rt; address_text(0xABCDEF).as_str(), "0xabcdef");
-    assert_eq!(rt; address_text(u64::MAX).as_str(), "0xffffffffffffffff");
-    assert_eq!(rt; number_text(0).as_str(), "0");
-    assert_eq!(rt; number_text(4096).as_str(), "4096");
-    assert_eq!(rt; number_text(u64::MAX).as_str(), "18446744073709551615");
+    assert!(rt; is_address(0, "0x0"));
+    assert!(rt; is_address(0xABCDEF, "0xabcdef"));
+    assert!(rt; is_address(u64::MAX, "0xffffffffffffffff"));
+    assert!(rt; is_number(0, "0"));
+    assert!(rt; is_number(4096, "4096"));
+    assert!(rt; is_number(u64::MAX, "18446744073709551615"));
+}
+
+#[test]
+fn numbers_one_after_another(rt: HostRuntime) {
     let mut line = LineText::new();
     push_number(&mut line, 0);
     push_number(&mut line, u64::MAX);
     assert_eq!(rt; line.as_str(), "018446744073709551615");
 }
 
+/// Whether the log's entry of this answer is the line, in place of what the text was before.
+fn is_answer(text: &mut LineText, step: u64, call: u64, reply: Reply, line: &str) -> bool {
+    write_answer(text, step, call, reply);
+    text.as_str() == line
+}
+
+/// The same of a page's own copy.
+fn is_detach(text: &mut LineText, step: u64, page: u64, line: &str) -> bool {
+    write_detach(text, step, page);
+    text.as_str() == line
+}
+
 #[test]
-fn lines_of_the_log(rt: HostRuntime) {
+fn answers_of_the_log(rt: HostRuntime) {
     let mut text = LineText::new();
     for (step, call, reply, line) in [
         (1, 1, Reply::Mapped(0x10000), "log 1 call 1 0x10000\n"),
@@ -392,18 +304,27 @@ fn lines_of_the_log(rt: HostRuntime) {
             "log 18446744073709551615 call 18446744073709551614 segv accerr\n",
         ),
     ] {
-        write_answer(&mut text, step, call, reply);
-        assert_eq!(rt; text.as_str(), line);
+        assert!(rt; is_answer(&mut text, step, call, reply, line));
     }
+}
+
+#[test]
+fn copies_of_the_log(rt: HostRuntime) {
+    let mut text = LineText::new();
     for (step, page, line) in [
         (12, 16, "log 12 detach 0x10000\n"),
         (0, 0, "log 0 detach 0x0\n"),
         (9, 0x7_ffff_ffff, "log 9 detach 0x7ffffffff000\n"),
         (7, u64::MAX, "log 7 detach 0xffffffffffffffff000\n"),
     ] {
-        write_detach(&mut text, step, page);
-        assert_eq!(rt; text.as_str(), line);
+        assert!(rt; is_detach(&mut text, step, page, line));
     }
+}
+
+/// Whether the pages' line of the list of mappings is this one.
+fn is_map_line(text: &mut LineText, pages: PageRange, prot: Prot, back: Back, line: &str) -> bool {
+    write_map_line(text, pages, prot, back);
+    text.as_str() == line
 }
 
 #[test]
@@ -451,7 +372,7 @@ fn lines_of_the_mappings(rt: HostRuntime) {
             "0x0-0xffffffffffffffff000 --- private 4294967295 0xffffffffffffffff000\n",
         ),
     ] {
-        write_map_line(&mut text, PageRange { first, end }, prot, back);
-        assert_eq!(rt; text.as_str(), line);
+        let pages = PageRange { first, end };
+        assert!(rt; is_map_line(&mut text, pages, prot, back, line));
     }
 }

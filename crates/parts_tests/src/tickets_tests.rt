@@ -108,13 +108,20 @@ fn sixty_four_threads_draw_each_ticket_once(rt: HostRuntime) -> Result<(), Fail>
     Ok(())
 }
 
+// What two ticketers draw in turn, and what closing tells then.
+fn drawn_by_two(alloc: Global) -> Result<[u64; 4], AllocError> {
+    let (tickets, mut first) = Tickets::new(alloc)?;
+    let mut second = tickets.split(&mut first);
+    Ok([
+        tickets.draw(&mut second),
+        tickets.draw(&mut first),
+        tickets.draw(&mut second),
+        tickets.close(first),
+    ])
+}
+
 #[test]
 fn closing_tells_how_many_were_drawn(rt: HostRuntime) -> Result<(), Fail> {
-    let (tickets, mut first) = Tickets::new(rt.alloc())?;
-    let mut second = tickets.split(&mut first);
-    assert!(rt; tickets.draw(&mut second) == 0);
-    assert!(rt; tickets.draw(&mut first) == 1);
-    assert!(rt; tickets.draw(&mut second) == 2);
-    assert!(rt; tickets.close(first) == 3);
+    assert!(rt; drawn_by_two(rt.alloc())? == [0, 1, 2, 3]);
     Ok(())
 }

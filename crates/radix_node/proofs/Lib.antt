@@ -8,3 +8,6 @@ pub mod OwnedRuns
 pub mod Walks
 pub mod Listing
 pub mod Edits
+pub mod OnePage
+mod Written
+mod Pages

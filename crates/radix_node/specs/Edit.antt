@@ -1,11 +1,12 @@
 -- What a change makes of a slot
-use Rattle.std.specs.Prelude.{◌≡◌, ℕ, ◌-◌, Option, None}
+use Rattle.std.specs.Prelude.{◌≡◌, ℕ, ◌+◌, ◌-◌, ◌*◌, ◌<◌, ◌≤◌, ◌⊎◌, Option, None}
 use Rattle.vm_base.specs.declared.info.PageInfo.{PageInfo}
 use Rattle.vm_base.specs.Info.{info_from, info_with_prot, info_without_frame}
 use Rattle.radix_node.specs.declared.edit.Edit.{Edit}
 use Rattle.radix_node.specs.declared.edit.Edit.TheVariants.{Put, Protect, DropFrame}
 use Rattle.radix_node.specs.State.{State}
-use Rattle.radix_node.specs.Run.{Cell, IsSound}
+use Rattle.radix_node.specs.Run.{Cell, cell_at, width_of, IsSound, IsWhole}
+use Rattle.radix_node.specs.Node.{Parts, runs}
 
 -- what a page has after a change of a range that begins so many pages before it
 abbrev pub edited_info : Edit → ℕ → Option PageInfo → Option PageInfo
@@ -27,3 +28,12 @@ abbrev pub CanEdit : Edit → ℕ → Type 0
 CanEdit (Put info) n = IsSound n (record { info = info; owner = None })
 CanEdit (Protect prot) n = Unit {0}
 CanEdit DropFrame n = Unit {0}
+
+-- a node's pages from one up to another are changed, as those of a range that begins `by` pages
+-- before them, and the others are not
+pub record EditsNode (old new : Parts) (first end by : ℕ) (edit : Edit) : Type 0 where
+  pub level : new.level ≡ old.level
+  pub whole : IsWhole new.level (512 * width_of new.level) (runs new)
+  pub inside : (p : ℕ) → first ≤ p → p < end
+      → cell_at (runs new) p ≡ edited_cell edit (by + (p - first)) (cell_at (runs old) p)
+  pub outside : (p : ℕ) → (p < first) ⊎ (end ≤ p) → cell_at (runs new) p ≡ cell_at (runs old) p

@@ -1,5 +1,6 @@
 -- A node: its 512 slots, each in a state of its own or with the slots of the node below
-use Rattle.std.specs.Prelude.{◌≡◌, ℕ, ◌-◌, ◌*◌, List, [], ◌∷◌, ◌++◌, map, Option, Some, None, slice_set, slice_get}
+use Rattle.std.specs.Prelude.{◌≡◌, ℕ, ◌-◌, ◌*◌, List, [], ◌∷◌, ◌++◌, map, Option, Some, None, slice_set}
+use Rattle.std.specs.Prelude.{slice_get}
 use Rattle.std.specs.List.{range_with_len}
 use Rattle.radix_node.specs.State.{State, state_from, IsPlain}
 use Rattle.radix_node.specs.Run.{Run, width_of, divided, IsCarried, IsSound, IsWhole}

@@ -2,6 +2,7 @@
 #![tactic(auto)]
 
 pub mod edit;
+pub mod edit_one;
 pub mod lock;
 pub mod node;
 pub mod own_run;

@@ -1,10 +1,13 @@
 //! A node: 512 slots, each in a state of its own or with a node below.
-ghost use Rattle.std.specs.Prelude.{◌≡◌, ℕ, ◌+◌, ◌*◌, ◌-◌, ◌<◌, ◌≤◌, ◌^◌, IfOk, OnOk, OnErr, IfSome, IfNone, IsTrue, ◌↔◌, false, Some, slice_get, slice_set};
+ghost use Rattle.std.specs.Prelude.{◌≡◌, ℕ, ◌+◌, ◌*◌, ◌-◌, ◌<◌, ◌≤◌, ◌^◌, IfOk, OnOk, OnErr, IfSome};
+ghost use Rattle.std.specs.Prelude.{IfNone, IsTrue, ◌↔◌, false, Some, slice_get, slice_set};
 ghost use Rattle.vm_base.specs.Info.{is_leaf, info_file_page};
 ghost use Rattle.radix_node.specs.State.{State, state_of, state_from, no_state, IsPlain};
-ghost use Rattle.radix_node.specs.Run.{width_of, Run, cell_at, with_run, in_state, in_parts, divided, CanJoin, Folds, IsCarried, IsSound, IsWhole};
+ghost use Rattle.radix_node.specs.Run.{width_of, Run, cell_at, with_run, in_state, in_parts, divided};
+ghost use Rattle.radix_node.specs.Run.{CanJoin, Folds, IsCarried, IsSound, IsWhole};
 ghost use Rattle.radix_node.specs.Slots.{part_of};
-ghost use Rattle.radix_node.specs.Node.{runs, node_of, owns_divided, Own, Below, Expands, IsOwn, IsBelow, CanFold, FoldsSlot};
+ghost use Rattle.radix_node.specs.Node.{runs, node_of, owns_divided, Own, Below, Expands, IsOwn};
+ghost use Rattle.radix_node.specs.Node.{IsBelow, CanFold, FoldsSlot};
 
 use crate::place::{SLOTS, place_of, slot_pages};
 use crate::state::SlotState;

@@ -69,8 +69,10 @@ impl<A: Allocator> Node<A> {
         ensures owners { GetOwner (runs self.old) (runs self.new)
             (first * width_of self.old.level) (width_of self.old.level) owners.now result }
     {
+        let handover = *owners;
+        let slots = self.slots.as_mut_slice();
         'slots: for k in first..end {
-            if !self.slots[k].hand_over(owners) {
+            if !slots[k].hand_over(&handover) {
                 return k - first;
             }
         }

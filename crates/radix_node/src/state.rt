@@ -1,7 +1,9 @@
 //! What a slot that is no child says of its pages.
-ghost use Rattle.std.specs.Prelude.{◌≡◌, ◌+◌, ◌<◌, ◌^◌, ◌↔◌, IsTrue, Option, None, Some, is_some, true, false};
+ghost use Rattle.std.specs.Prelude.{◌≡◌, ◌+◌, ◌<◌, ◌^◌, ◌↔◌, IsTrue, Option, None, Some, is_some, true};
+ghost use Rattle.std.specs.Prelude.{false};
 ghost use Rattle.vm_base.specs.Cores.{members};
-ghost use Rattle.vm_base.specs.Info.{info_file_page, info_from, is_leaf, frame_of, is_recorded};
+ghost use Rattle.vm_base.specs.Info.{file_page, info_file_page, info_from, info_with_prot};
+ghost use Rattle.vm_base.specs.Info.{info_without_frame, is_leaf, frame_of, is_recorded};
 ghost use Rattle.radix_node.specs.Edit.{CanEdit, edited};
 ghost use Rattle.radix_node.specs.State.{back_of, frame_in, state_of, state_from, IsPlain};
 
@@ -39,7 +41,8 @@ pub struct SlotState {
 
 // A backing as its kind, the file, and the page in it.
 fn parts_of(back: Back) -> (Kind, u32, u64)
-    ensures { back_of result.0 result.1 result.2 ≡ Some back }
+    ensures back { back_of result.0 result.1 result.2 ≡ Some back }
+    ensures page { result.2 ≡ file_page back }
 {
     match back {
         Back::Anon => (Kind::Zeros, 0, 0),
@@ -79,8 +82,10 @@ impl SlotState {
         }
     }
 
-    fn mapped(info: PageInfo, owner: Option<CoreId>) -> SlotState
-        ensures { state_of result ≡ record { info = Some info; owner = owner } }
+    // A slot whose first page has this.
+    pub(crate) fn mapped(info: PageInfo, owner: Option<CoreId>) -> SlotState
+        ensures state { state_of result ≡ record { info = Some info; owner = owner } }
+        ensures page { result.file_page ≡ info_file_page (Some info) }
     {
         let (kind, file, file_page) = parts_of(info.meta.back);
         let (has_frame, frame) = match info.frame {
@@ -152,27 +157,49 @@ impl SlotState {
         self.owner = owner;
     }
 
-    // Maps the slot's first page as the one `by` pages after a page with this.
-    fn put(&mut self, info: &PageInfo, by: u64)
-        requires { info_file_page (Some info.now) + by < 2 ^ 64 }
+    // Maps the slot's first page as the one `by` pages after the first of another slot.
+    pub(crate) fn follow(&mut self, made: &SlotState, by: u64)
+        requires { made.now.file_page + by < 2 ^ 64 }
         ensures { state_of self.new ≡ record {
-          info = info_from (Some info.now) by;
+          info = info_from (state_of made.now).info by;
           owner = (state_of self.old).owner;
         } }
     {
-        let meta = info.meta.advanced(by);
-        let (kind, file, file_page) = parts_of(meta.back);
-        let (has_frame, frame) = match info.frame {
-            None => (false, 0),
-            Some(frame) => (true, frame),
-        };
-        self.file_page = file_page;
-        self.cores = info.cores;
-        self.file = file;
-        self.frame = frame;
-        self.has_frame = has_frame;
-        self.kind = kind;
-        self.prot = meta.prot;
+        self.file_page = made.file_page + by;
+        self.cores = made.cores;
+        self.file = made.file;
+        self.frame = made.frame;
+        self.has_frame = made.has_frame;
+        self.kind = made.kind;
+        self.prot = made.prot;
+    }
+
+    // Unmaps the slot's pages.
+    pub(crate) fn clear(&mut self)
+        ensures { state_of self.new ≡ record { info = None; owner = (state_of self.old).owner } }
+    {
+        self.kind = Kind::Unmapped;
+    }
+
+    // Gives the slot's pages this protection, and no recorded core.
+    pub(crate) fn protect(&mut self, prot: Prot)
+        ensures { state_of self.new ≡ record {
+          info = info_with_prot prot (state_of self.old).info;
+          owner = (state_of self.old).owner;
+        } }
+    {
+        self.prot = prot;
+        self.cores = CoreSet::empty();
+    }
+
+    // Takes the frame from the slot's pages.
+    pub(crate) fn drop_frame(&mut self)
+        ensures { state_of self.new ≡ record {
+          info = info_without_frame (state_of self.old).info;
+          owner = (state_of self.old).owner;
+        } }
+    {
+        self.has_frame = false;
     }
 
     /// Changes the slot as one of a range that begins `by` pages before it.
@@ -181,13 +208,10 @@ impl SlotState {
         ensures { state_of self.new ≡ edited edit.now by (state_of self.old) }
     {
         match edit {
-            Edit::Put(None) => self.kind = Kind::Unmapped,
-            Edit::Put(Some(info)) => self.put(info, by),
-            Edit::Protect(prot) => {
-                self.prot = *prot;
-                self.cores = CoreSet::empty();
-            }
-            Edit::DropFrame => self.has_frame = false,
+            Edit::Put(None) => self.clear(),
+            Edit::Put(Some(info)) => self.follow(&SlotState::mapped(*info, None), by),
+            Edit::Protect(prot) => self.protect(*prot),
+            Edit::DropFrame => self.drop_frame(),
         }
     }
 

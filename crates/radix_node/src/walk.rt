@@ -1,12 +1,14 @@
 //! Walks over the slots of a range of a node's pages, from left to right: each slot, and each node
 //! below, is visited once.
-ghost use Rattle.std.specs.Prelude.{◌≡◌, ℕ, ◌+◌, ◌*◌, ◌<◌, ◌≤◌, ◌^◌, ◌↔◌, IfSome, IfNone, IsTrue, min, max, true};
+ghost use Rattle.std.specs.Prelude.{◌≡◌, ℕ, ◌+◌, ◌*◌, ◌<◌, ◌≤◌, ◌^◌, ◌↔◌, IfSome, IfNone, IsTrue, min};
+ghost use Rattle.std.specs.Prelude.{max, true};
 ghost use Rattle.vm_base.specs.Cores.{members};
 ghost use Rattle.arrayvec.specs.ArrayVec.{array_vec_len};
 ghost use Rattle.slot_lock.specs.Framed.{AddsFrames};
 ghost use Rattle.radix_node.specs.Run.{width_of};
 ghost use Rattle.radix_node.specs.Node.{runs};
-ghost use Rattle.radix_node.specs.Walk.{OnAll, IsMapped, HasNoFrame, IsFirstFramed, HasUser, Finds, frames_from};
+ghost use Rattle.radix_node.specs.Walk.{OnAll, IsMapped, HasNoFrame, IsFirstFramed, HasUser, Finds};
+ghost use Rattle.radix_node.specs.Walk.{frames_from};
 
 use crate::node::{Node, Slot};
 use crate::place::{part_in, slot_pages, slots_of};

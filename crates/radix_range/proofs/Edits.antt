@@ -1,5 +1,5 @@
 -- A change of the pages of a range
-use Rattle.std.proofs.Common.{◌≡◌, ℕ, ◌+◌, ◌-◌, ◌*◌, ◌^◌, ◌<◌, ◌≤◌, ◌==◌, ◌⊎◌, inl, inr, ⊎_elim, Bool, true, false, cond, Option, Some, None, List, refl, sym, ◌∙◌, ap, arith}
+use Rattle.std.proofs.Common.{◌≡◌, ◌≢◌, ℕ, ◌+◌, ◌-◌, ◌*◌, ◌^◌, ◌<◌, ◌≤◌, ◌==◌, ◌⊎◌, inl, inr, ⊎_elim, Bool, true, false, cond, Option, Some, None, List, refl, sym, ◌∙◌, ap, arith}
 use Rattle.std.proofs.lemmas.Bool.{cases_lt}
 use Rattle.vm_base.specs.declared.page.PageRange.{PageRange}
 use Rattle.vm_base.specs.declared.info.PageInfo.{PageInfo}
@@ -92,6 +92,18 @@ pub begins_at : (v : Parts) (p : ℕ) → (tree_slots v).edge p ≡ true → (ce
 begins_at v p h = from_test _ _ h
 
 -- ---- one page
+
+-- a change of the page alone, as one of a range
+pub edited_page : (rs qs : List Run) (page : ℕ) (edit : Edit) → cell_at qs page ≡ edited_cell edit 0 (cell_at rs page)
+    → ((p : ℕ) → p ≢ page → cell_at qs p ≡ cell_at rs p) → IsEdited rs qs (between page (page + 1)) edit
+edited_page rs qs page edit here others = record {
+  inside = λ p low high.
+      let e : p ≡ page = omega arith in
+      let none : 0 ≡ 0 + (p - page) = omega arith in
+      ap (cell_at qs) e ∙ here ∙ ap (λ n. edited_cell edit n (cell_at rs page)) none
+      ∙ ap (λ q. edited_cell edit (0 + (p - page)) (cell_at rs q)) (sym e);
+  outside = λ p o. others p (λ e. ⊎_elim (λ (x : p < page). omega arith) (λ (x : page + 1 ≤ p). omega arith) o);
+}
 
 pub edited_one : (s : Slots) (page : ℕ) (edit : Edit) (o : Option PageInfo) → edited_info edit 0 (s.info page) ≡ o
     → edited_to s (between page (page + 1)) edit ≡ with_info s page o

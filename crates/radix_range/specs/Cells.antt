@@ -1,8 +1,10 @@
 -- The slots of a list of runs, and of one whose run was changed
-use Rattle.std.proofs.Common.{◌≡◌, ◌≢◌, ◌⊎◌, inl, inr, ⊎_elim, ℕ, ◌+◌, ◌-◌, ◌*◌, ◌<◌, ◌≤◌, List, [], ◌∷◌, ◌++◌, refl, sym, ap, ◌∙◌, subst, arith}
+use Rattle.std.proofs.Common.{◌≡◌, ◌≢◌, ◌⊎◌, inl, inr, ⊎_elim, ℕ, ◌+◌, ◌-◌, ◌*◌, ◌<◌, ◌≤◌, List, []}
+use Rattle.std.proofs.Common.{◌∷◌, ◌++◌, refl, sym, ap, ◌∙◌, subst, arith}
 use Rattle.std.proofs.lemmas.Bool.{cases_lt}
 use Rattle.radix_node.specs.Run.{Run, Cell, total, cell_at, with_run}
-use Rattle.radix_node.proofs.Runs.{moved, cell_later, cell_at-here, cell_at-there, cell_at-left, cell_at-right, with_run-here, with_run-there}
+use Rattle.radix_node.proofs.Runs.{moved, cell_later, cell_at-here, cell_at-there, cell_at-left}
+use Rattle.radix_node.proofs.Runs.{cell_at-right, with_run-here, with_run-there}
 
 -- a page lies in its slot
 pub record IsIn (page : ℕ) (c : Cell) : Type 0 where

@@ -1,5 +1,6 @@
 -- What holds of each tree
-use Rattle.std.proofs.Common.{◌≡◌, ℕ, ◌+◌, ◌-◌, ◌*◌, ◌%◌, ◌/◌, ◌^◌, ◌<◌, ◌≤◌, ◌==◌, ⊎_elim, true, false, List, Option, Some, None, refl, sym, ◌∙◌, ap, subst, arith}
+use Rattle.std.proofs.Common.{◌≡◌, ℕ, ◌+◌, ◌-◌, ◌*◌, ◌%◌, ◌/◌, ◌^◌, ◌<◌, ◌≤◌, ◌==◌, ⊎_elim, true, false}
+use Rattle.std.proofs.Common.{List, Option, Some, None, refl, sym, ◌∙◌, ap, subst, arith}
 use Rattle.std.proofs.lemmas.Bool.{cases_lt}
 use Rattle.std.proofs.lemmas.Nat.{pow-add, mod-mul-add}
 use Rattle.vm_base.specs.declared.info.PageInfo.{PageInfo}
@@ -7,7 +8,8 @@ use Rattle.vm_base.specs.declared.info.Back.{Back}
 use Rattle.vm_base.specs.declared.info.Back.TheVariants.{Anon, Shared, Private}
 use Rattle.vm_base.specs.Info.{advance_back, file_page, info_from, info_file_page, is_leaf}
 use Rattle.slot_lock.specs.Slots.{IsSlotMap, IsSlot}
-use Rattle.slot_lock.specs.RunLaws.{info_from_twice, is_leaf-info_from, same_test, other_test, from_other_test}
+use Rattle.slot_lock.specs.RunLaws.{info_from_twice, is_leaf-info_from, same_test, other_test}
+use Rattle.slot_lock.specs.RunLaws.{from_other_test}
 use Rattle.radix_node.specs.State.{State, no_state}
 use Rattle.radix_node.specs.Run.{Run, Cell, cell_at, width_of, level_of, IsCell, IsSound}
 use Rattle.radix_node.specs.Node.{Parts, runs}

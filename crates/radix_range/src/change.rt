@@ -1,11 +1,13 @@
 //! Changes of a tree's slots.
-ghost use Rattle.std.specs.Prelude.{◌≡◌, ℕ, ◌+◌, ◌-◌, ◌^◌, ◌<◌, ◌≤◌, ◌↔◌, OnOk, OnErr, IsTrue, true, false, Option, Some};
+ghost use Rattle.std.specs.Prelude.{◌≡◌, ℕ, ◌+◌, ◌-◌, ◌^◌, ◌<◌, ◌≤◌, ◌↔◌, OnOk, OnErr, IsTrue, true};
+ghost use Rattle.std.specs.Prelude.{false, Option, Some};
 ghost use Rattle.vm_base.specs.Pages.{IsPage, IsPageRange};
 ghost use Rattle.vm_base.specs.Info.{info_without_frame};
 ghost use Rattle.slot_lock.specs.Plan.{IsSoundChange, range_of};
-ghost use Rattle.slot_lock.specs.Slots.{Divides, DividesAs, HasMeta, IsCut, IsSlot, Joins, between, with_owner, with_info};
+ghost use Rattle.slot_lock.specs.Slots.{Divides, DividesAs, HasMeta, IsCut, IsSlot, Joins, Slots};
+ghost use Rattle.slot_lock.specs.Slots.{between, with_owner, with_info};
 ghost use Rattle.slot_lock.specs.SlotRuns.{LocksRun, UnlocksRun};
-ghost use Rattle.slot_lock.specs.RunSlots.{changed};
+ghost use Rattle.slot_lock.specs.Changes.{changed};
 ghost use Rattle.radix_node.specs.Edit.{CanEdit};
 ghost use Rattle.radix_range.specs.Tree.{IsRadix, tree_slots};
 ghost use Rattle.radix_range.specs.Folds.{CanFold, FoldsNode};
@@ -128,6 +130,19 @@ fn edit_range<A: Allocator>(root: &mut Node<A>, range: PageRange, edit: &Edit)
     root.edit(range.first, range.end, edit, 0);
 }
 
+// Changes a page that is a slot of its own.
+fn edit_one<A: Allocator>(root: &mut Node<A>, page: u64, edit: &Edit)
+    requires tree { IsRadix root.old }
+    requires page { IsPage page }
+    requires alone { IsSlot (tree_slots root.old) page (page + 1) }
+    requires sound { CanEdit edit.now 1 }
+    ensures tree { IsRadix root.new }
+    ensures slots { tree_slots root.new ≡ edited_to (tree_slots root.old) (between page (page + 1))
+        edit.now }
+{
+    root.edit_one(page, edit);
+}
+
 /// Gives a mapped page that is a slot of its own another frame and other cores.
 pub fn set_info<A: Allocator>(root: &mut Node<A>, page: u64, info: PageInfo)
     requires tree { IsRadix root.old }
@@ -137,7 +152,7 @@ pub fn set_info<A: Allocator>(root: &mut Node<A>, page: u64, info: PageInfo)
     ensures tree { IsRadix root.new }
     ensures slots { tree_slots root.new ≡ with_info (tree_slots root.old) page (Some info) }
 {
-    edit_range(root, one_page(page), &Edit::Put(Some(info)));
+    edit_one(root, page, &Edit::Put(Some(info)));
 }
 
 /// Takes its frame from a page that is a slot of its own.
@@ -149,20 +164,24 @@ pub fn clear_frame<A: Allocator>(root: &mut Node<A>, page: u64)
     ensures slots { tree_slots root.new ≡ with_info (tree_slots root.old) page
         (info_without_frame ((tree_slots root.old).info page)) }
 {
-    edit_range(root, one_page(page), &Edit::DropFrame);
+    edit_one(root, page, &Edit::DropFrame);
 }
 
-fn one_page(page: u64) -> PageRange
-    requires { IsPage page }
-    ensures { result ≡ between page (page + 1) }
+// What a change makes of its pages, each of which goes on from the first.
+#[inline(always)]
+fn edit_of(change: Change) -> Edit
+    requires { IsSoundChange change }
+    ensures sound { CanEdit result ((range_of change).end - (range_of change).first) }
+    ensures makes { (s : Slots) → edited_to s (range_of change) result ≡ changed s change }
 {
-    PageRange {
-        first: page,
-        end: page + 1,
+    match change {
+        Change::Put { meta, .. } => Edit::Put(Some(PageInfo::unused(meta))),
+        Change::Clear { .. } => Edit::Put(None),
+        Change::Protect { prot, .. } => Edit::Protect(prot),
     }
 }
 
-/// Changes each page of a range that no slot crosses the edge of, in one walk over the range's slots.
+/// Makes a change of pages that no slot crosses the edge of, in one walk over their slots.
 pub fn change<A: Allocator>(root: &mut Node<A>, change: Change)
     requires tree { IsRadix root.old }
     requires sound { IsSoundChange change }
@@ -170,13 +189,24 @@ pub fn change<A: Allocator>(root: &mut Node<A>, change: Change)
     ensures tree { IsRadix root.new }
     ensures slots { tree_slots root.new ≡ changed (tree_slots root.old) change }
 {
-    match change {
-        Change::Put { range, meta } => {
-            edit_range(root, range, &Edit::Put(Some(PageInfo::unused(meta))))
-        }
-        Change::Clear { range } => edit_range(root, range, &Edit::Put(None)),
-        Change::Protect { range, prot } => edit_range(root, range, &Edit::Protect(prot)),
+    let range = change.range();
+    if range.end - range.first == 1 {
+        return change_one(root, change);
     }
+    edit_range(root, range, &edit_of(change));
+}
+
+/// Makes a change of a page that is a slot of its own.
+pub fn change_one<A: Allocator>(root: &mut Node<A>, change: Change)
+    requires tree { IsRadix root.old }
+    requires sound { IsSoundChange change }
+    requires one { (range_of change).end ≡ (range_of change).first + 1 }
+    requires alone { IsSlot (tree_slots root.old) (range_of change).first
+        ((range_of change).first + 1) }
+    ensures tree { IsRadix root.new }
+    ensures slots { tree_slots root.new ≡ changed (tree_slots root.old) change }
+{
+    edit_one(root, change.range().first, &edit_of(change));
 }
 
 /// Folds the deepest node below the root that has the page, where all its slots can be one. Answers

@@ -1,8 +1,24 @@
 //! A run of pages of which a map knows that all are mapped.
 ghost use Rattle.std.specs.Prelude.{◌≡◌, ℕ, ◌⊎◌, true, false};
 ghost use Rattle.vm_base.specs.Functions.{has};
+ghost use Rattle.slot_lock.specs.Slots.{Slots};
+ghost use Rattle.slot_lock.specs.Changes.{changed};
+ghost use Rattle.radix_range.specs.Mapped.{IsFull};
 
+use slot_lock::Change;
 use vm_base::PageRange;
+
+/// What is known after a change of pages.
+#[inline(always)]
+pub fn with_change(full: PageRange, change: Change) -> PageRange
+    ensures { (s : Slots) → IsFull s full → IsFull (changed s change) result }
+{
+    match change {
+        Change::Put { range, .. } => with_range(full, range),
+        Change::Clear { range } => without_range(full, range),
+        Change::Protect { .. } => full,
+    }
+}
 
 /// What is known once the pages of a range are mapped: the run with the range, where they touch,
 /// else the longer of them.

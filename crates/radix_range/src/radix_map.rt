@@ -1,12 +1,13 @@
 //! The second slot map: a radix tree.
-ghost use Rattle.std.specs.Prelude.{◌≡◌, ◌≢◌, ℕ, ◌+◌, ◌-◌, ◌^◌, ◌<◌, ◌≤◌, IfOk, OnErr, Option, Some, Bool};
+ghost use Rattle.std.specs.Prelude.{◌≡◌, ◌≢◌, ℕ, ◌+◌, ◌-◌, ◌^◌, ◌<◌, ◌≤◌, IfOk, OnErr, Option, Some};
+ghost use Rattle.std.specs.Prelude.{Bool};
 ghost use Rattle.radix_range.specs.Mapped.{IsFull};
 ghost use Rattle.radix_range.specs.Tree.{IsRadix, tree_slots};
 
 use crate::slot::slot_at;
 use crate::{change, full, walk};
 use radix_node::{Lock, Node};
-use slot_lock::{Change, Fit, FramedPages, Got, SlotMap, SlotRead, SlotRun};
+use slot_lock::{Change, Fit, FramedPages, FreePage, Got, SlotMap, SlotRead, SlotRun};
 use std::alloc::Allocator;
 use vm_base::info::info_from;
 use vm_base::{CoreId, CoreSet, Meta, NoMemory, PageInfo, PageRange, Prot};
@@ -96,6 +97,16 @@ impl<A: Allocator + Clone> SlotMap for RadixMap<A> {
         slot_at(&self.root, page).state.owner()
     }
 
+    fn free_page(&self, page: u64) -> Option<FreePage> {
+        let slot = slot_at(&self.root, page);
+        if slot.end - slot.first > 1 || slot.state.owner().is_some() {
+            return None;
+        }
+        Some(FreePage {
+            info: slot.state.info(),
+        })
+    }
+
     fn lock_next(&mut self, core: CoreId, cursor: u64, end: u64) -> Result<Got, NoMemory> {
         match change::lock(&mut self.root, core, cursor, end) {
             Lock::Held(owner) => Ok(Got::Held(owner)),
@@ -159,6 +170,11 @@ impl<A: Allocator + Clone> SlotMap for RadixMap<A> {
 
     fn list_frames(&self, from: u64, end: u64, list: &mut FramedPages) -> u64 {
         walk::list_frames(&self.root, from, end, list)
+    }
+
+    fn change_free(&mut self, change: Change) {
+        change::change_one(&mut self.root, change);
+        self.full = full::with_change(self.full, change);
     }
 
     fn set_leaf(&mut self, core: CoreId, page: u64, info: PageInfo) {

@@ -5,7 +5,8 @@ use Rattle.radixvm.specs.declared.command.WordsFault.{WordsFault}
 use Rattle.radixvm.specs.declared.command.WordsFault.TheVariants as OutOf
 use Rattle.radixvm.specs.declared.command.WordsFault.TheVariants.{NotUtf8}
 use Rattle.trace.specs.declared.fault.TraceFault.{TraceFault}
-use Rattle.trace.specs.declared.fault.TraceFault.TheVariants.{BadLine, TooLong, ReadFailed, NoVmLine, NoMemory, Setup, WriteFailed}
+use Rattle.trace.specs.declared.fault.TraceFault.TheVariants.{BadLine, TooLong, ReadFailed, NoVmLine}
+use Rattle.trace.specs.declared.fault.TraceFault.TheVariants.{NoMemory, Setup, WriteFailed}
 
 -- 2 where the text is at fault, 3 where its surroundings are
 abbrev pub fault_status : TraceFault → ℕ

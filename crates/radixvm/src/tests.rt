@@ -159,54 +159,30 @@ fn run_words<A: Allocator>(
     }
 }
 
-fn run(alloc: Global, input: &[u8], limits: Limits) -> Ran {
-    let words = [b"radixvm".as_slice(), b"run".as_slice()];
-    run_words(alloc, &alloc, &words, input, limits)
+// What the program came to, in the order of `Ran`.
+type Came<'a> = (&'a [u8], &'a [u8], u8);
+
+// Whether the program with these words comes to this.
+fn comes_to(
+    alloc: Global,
+    words: &[&[u8]],
+    input: &[u8],
+    limits: Limits,
+    (out, errors, status): Came<'_>,
+) -> bool {
+    let ran = run_words(alloc, &alloc, words, input, limits);
+    ran.out.as_slice() == out && ran.errors.as_slice() == errors && ran.status == status
 }
+
+const RUN: &[&[u8]] = &[b"radixvm", b"run"];
 
 const STORED: &[u8] =
     b"vm 1 4\nc0! mmap 0x10000 4096 rw- pfa\nc0! store 0x10004 41\nc0! load 0x10004\nc0! load 0x10005\n";
 
 #[test]
-fn replies(rt: HostRuntime) -> Result<(), Fail> {
+fn replies(rt: HostRuntime) {
     for (input, output) in [
         (STORED, b"0x10000\ndone\n41\n0\n".as_slice()),
-        (b"vm 1 0\n".as_slice(), b"".as_slice()),
-        // A new mapping replaces the old one, whose bytes are gone.
-        (
-            b"vm 1 4\nc0! mmap 0x10000 4096 rw- pfa\nc0! store 0x10000 41\nc0! mmap 0x10000 4096 rw- pfa\nc0! load 0x10000".as_slice(),
-            b"0x10000\ndone\n0x10000\n0\n".as_slice(),
-        ),
-        // munmap takes every page that has some byte of its range.
-        (
-            b"vm 1 4\nc0! mmap 0x10000 0 rw- pfa\nc0! mmap 0x10000 4096 rw- pfa\nc0! munmap 0x10000 1\nc0! load 0x10fff\n".as_slice(),
-            b"einval\n0x10000\ndone\nsegv maperr\n".as_slice(),
-        ),
-        // It is no error where nothing is mapped. Address 0 is on no valid page.
-        (
-            b"vm 1 4\nc0! munmap 0x50000 8192\nc0! load 0x50000\nc0! load 0\n".as_slice(),
-            b"done\nsegv maperr\nsegv maperr\n".as_slice(),
-        ),
-        // The last valid page is in reach, the one behind it isn't.
-        (
-            b"vm 1 4\nc0! mmap 0x1000 0x7ffffffff000 rw- pfa\nc0! mmap 0x1000 0x7ffffffff001 rw- pfa\n".as_slice(),
-            b"0x1000\nenomem\n".as_slice(),
-        ),
-        // Two calls may begin.
-        (
-            b"vm 1 1 2\nc0! mmap 0x10000 0 rw- pfa\nc0! load 0\nc0! load 0\n".as_slice(),
-            b"einval\nsegv maperr\nfull\n".as_slice(),
-        ),
-        // A refused mprotect changes nothing.
-        (
-            b"vm 1 4\nc0! mmap 0x10000 4096 rw- pfa\nc0! mprotect 0x10000 8192 r--\nc0! store 0x10000 9\n".as_slice(),
-            b"0x10000\nenomem\ndone\n".as_slice(),
-        ),
-        // A load needs any of the rights, a fetch its own.
-        (
-            b"vm 1 4\nc0! mmap 0x10000 4096 -w- pfa\nc0! load 0x10000\nc0! fetch 0x10000\nc0! mprotect 0x10000 4096 ---\nc0! load 0x10000\nc0! mprotect 0x10000 0 rw-\nc0! mprotect 0x10001 0 rw-\n".as_slice(),
-            b"0x10000\n0\nsegv accerr\ndone\nsegv accerr\ndone\neinval\n".as_slice(),
-        ),
         // A call that goes step by step, on a core that has none before it.
         (
             b"vm 1 4\nc0 go\nc0 finish\nc0 call mmap 0x10000 4096 rw- pfa\nc0 go\nc0 call load 0\nc0 finish\nc1 go\n".as_slice(),
@@ -217,213 +193,128 @@ fn replies(rt: HostRuntime) -> Result<(), Fail> {
             b"segv maperr\n".as_slice(),
         ),
     ] {
-        let ran = run(rt.alloc(), input, AMPLE);
-        assert_eq!(rt; ran.out.as_slice(), output);
-        assert_eq!(rt; ran.errors.as_slice(), b"".as_slice());
-        assert_eq!(rt; ran.status, 0);
+        assert!(rt; comes_to(rt.alloc(), RUN, input, AMPLE, (output, b"", 0)));
     }
-    Ok(())
 }
 
 #[test]
-fn faults_of_the_text(rt: HostRuntime) -> Result<(), Fail> {
+fn faults_of_the_text(rt: HostRuntime) {
     for (input, fault) in [
-        (b"".as_slice(), b"radixvm: no vm line first\n".as_slice()),
-        (b"# only this", b"radixvm: no vm line first\n"),
-        (b"c0 go\nvm 1 4", b"radixvm: no vm line first\n"),
+        (
+            b"c0 go\nvm 1 4".as_slice(),
+            b"radixvm: no vm line first\n".as_slice(),
+        ),
         (b"frob\nvm 1 4", b"radixvm: no vm line first\n"),
         (b"vm 1\n", b"radixvm: line 1: bad line\n"),
-        (b"vm 1 4\nc0! frob", b"radixvm: line 2: bad line\n"),
         (b"vm 1 4\nvm 1 4", b"radixvm: line 2: bad line\n"),
-        (
-            b"vm 1 4\nc0! load 0x10000000000000000",
-            b"radixvm: line 2: bad line\n",
-        ),
-        (b"vm 1 4\n\n# \x00\n", b"radixvm: line 3: bad line\n"),
         (b"\x7f\nvm 1 4", b"radixvm: line 1: bad line\n"),
-        (b"vm 0 4", b"radixvm: setup S1\n"),
-        (b"vm 0 4\nc0! frob", b"radixvm: setup S1\n"),
         (b"vm 0 4\nvm 1 4", b"radixvm: setup S1\n"),
         (b"vm 0 4\n#\x01", b"radixvm: line 2: bad line\n"),
-        (b"vm 1 65537", b"radixvm: setup S2\n"),
-        (b"vm 1 4\nfile 1 r 4096 0", b"radixvm: line 2: bad line\n"),
-        (
-            b"vm 1 4\nfile 0 r 1 0\nfile 1 r 1 0\nfile 2 r 1 0\nfile 3 r 1 0\nfile 4 r 1 0\nfile 5 r 1 0\nfile 6 r 1 0\nfile 7 r 1 0\nfile 8 r 1 0\nfile 9 r 1 0\nfile 10 r 1 0\nfile 11 r 1 0\nfile 12 r 1 0\nfile 13 r 1 0\nfile 14 r 1 0\nfile 15 r 1 0\nfile 16 r 1 0",
-            b"radixvm: setup S3\n",
-        ),
-        (b"vm 1 4\nfile 0 r 1048577 0", b"radixvm: setup S4\n"),
-        (b"vm 1 1 1048577", b"radixvm: setup S5\n"),
     ] {
-        let ran = run(rt.alloc(), input, AMPLE);
-        assert_eq!(rt; ran.out.as_slice(), b"".as_slice());
-        assert_eq!(rt; ran.errors.as_slice(), fault);
-        assert_eq!(rt; ran.status, 2);
+        assert!(rt; comes_to(rt.alloc(), RUN, input, AMPLE, (b"", fault, 2)));
     }
-    Ok(())
 }
 
-// A comment of so many bytes, as line 3, after a line that gives text.
-fn with_long_comment(alloc: Global, length: usize) -> Result<Vec<u8>, Fail> {
-    let mut input = Vec::new(alloc);
-    input.extend_from_slice(b"vm 1 4\nc0! load 0\n")?;
-    for _ in 0..length {
-        input.push(b'#')?;
+// Two lines were read whole before the read that fails, and one reply went out before the write.
+#[test]
+fn reads_and_writes_that_fail(rt: HostRuntime) {
+    let first = b"0x10000\n".as_slice();
+    let reads = Limits { reads: 50, ..AMPLE };
+    let unread = (first, b"radixvm: read failed\n".as_slice(), 3);
+    assert!(rt; comes_to(rt.alloc(), RUN, STORED, reads, unread));
+    for fails in [false, true] {
+        let limits = Limits {
+            writes: 1,
+            fails,
+            ..AMPLE
+        };
+        let unwritten = (first, b"radixvm: write failed\n".as_slice(), 3);
+        assert!(rt; comes_to(rt.alloc(), RUN, STORED, limits, unwritten));
     }
-    input.extend_from_slice(b"\nc0! load 0\n")?;
-    Ok(input)
 }
 
-#[test]
-fn length_of_a_line(rt: HostRuntime) -> Result<(), Fail> {
-    let fits = with_long_comment(rt.alloc(), 256)?;
-    let ran = run(rt.alloc(), &fits, AMPLE);
-    assert_eq!(rt;
-        ran.out.as_slice(),
-        b"segv maperr\nsegv maperr\n".as_slice()
-    );
-    assert_eq!(rt; ran.status, 0);
-    let long = with_long_comment(rt.alloc(), 257)?;
-    let ran = run(rt.alloc(), &long, AMPLE);
-    assert_eq!(rt; ran.out.as_slice(), b"segv maperr\n".as_slice());
-    assert_eq!(rt;
-        ran.errors.as_slice(),
-        b"radixvm: line 3: too long\n".as_slice()
-    );
-    assert_eq!(rt; ran.status, 2);
-    Ok(())
-}
-
-#[test]
-fn each_read_fails(rt: HostRuntime) -> Result<(), Fail> {
-    for reads in 0..STORED.len() as u64 {
-        let limits = Limits { reads, ..AMPLE };
-        let ran = run(rt.alloc(), STORED, limits);
-        assert!(rt; b"0x10000\ndone\n41\n0\n".starts_with(&ran.out));
-        assert_eq!(rt; ran.errors.as_slice(), b"radixvm: read failed\n".as_slice());
-        assert_eq!(rt; ran.status, 3);
-    }
-    Ok(())
-}
-
-#[test]
-fn each_write_fails(rt: HostRuntime) -> Result<(), Fail> {
-    for (writes, held) in [
-        (0, b"".as_slice()),
-        (1, b"0x10000\n".as_slice()),
-        (2, b"0x10000\ndone\n".as_slice()),
-        (3, b"0x10000\ndone\n41\n".as_slice()),
-    ] {
-        for fails in [false, true] {
-            let limits = Limits {
-                writes,
-                fails,
-                ..AMPLE
-            };
-            let ran = run(rt.alloc(), STORED, limits);
-            assert_eq!(rt; ran.out.as_slice(), held);
-            assert_eq!(rt;
-                ran.errors.as_slice(),
-                b"radixvm: write failed\n".as_slice()
-            );
-            assert_eq!(rt; ran.status, 3);
-        }
-    }
-    Ok(())
-}
-
-// A disk that is full, or a reader that went, may be noticed only when a buffer is handed on.
-#[test]
-fn a_failing_flush_is_a_fault(rt: HostRuntime) -> Result<(), Fail> {
+// Whether a failing flush is told, where the program has this word.
+fn tells_of_flush(alloc: Global, word: &[u8]) -> bool {
     let limits = Limits {
         is_closed: true,
         ..AMPLE
     };
+    let words = [b"radixvm".as_slice(), word];
+    let ran = run_words(alloc, &alloc, &words, STORED, limits);
+    ran.errors.as_slice() == b"radixvm: write failed\n".as_slice() && ran.status == 3
+}
+
+// A disk that is full, or a reader that went, may be noticed only when a buffer is handed on.
+#[test]
+fn a_failing_flush_is_a_fault(rt: HostRuntime) {
     for word in [
         b"run".as_slice(),
         b"--help".as_slice(),
         b"--version".as_slice(),
     ] {
-        let words = [b"radixvm".as_slice(), word];
-        let ran = run_words(rt.alloc(), &rt.alloc(), &words, STORED, limits);
-        assert_eq!(rt;
-            ran.errors.as_slice(),
-            b"radixvm: write failed\n".as_slice()
-        );
-        assert_eq!(rt; ran.status, 3);
+        assert!(rt; tells_of_flush(rt.alloc(), word));
     }
-    Ok(())
 }
 
-#[test]
-fn help_and_version(rt: HostRuntime) -> Result<(), Fail> {
-    for words in [
-        [b"radixvm".as_slice(), b"--help".as_slice()].as_slice(),
-        [b"radixvm".as_slice(), b"help".as_slice()].as_slice(),
-        [
-            b"radixvm".as_slice(),
-            b"run".as_slice(),
-            b"--help".as_slice(),
-        ]
-        .as_slice(),
+// Whether the text says what requests, replies, faults and lines there are.
+fn is_help(out: &[u8]) -> bool {
+    let Ok(text) = str::from_utf8(out) else {
+        return false;
+    };
+    for part in [
+        "file N MODE LEN SEED",
+        "cC! REQ",
+        "mprotect ADDR LEN PROT",
+        "segv maperr",
+        "setup S5",
+        "log STEP call CALL REPLY",
+        "START-END PROT BACK",
     ] {
-        let ran = run_words(rt.alloc(), &rt.alloc(), words, b"", AMPLE);
-        let text = str::from_utf8(&ran.out)?;
-        for part in [
-            "file N MODE LEN SEED",
-            "cC! REQ",
-            "mprotect ADDR LEN PROT",
-            "segv maperr",
-            "setup S5",
-            "log STEP call CALL REPLY",
-            "START-END PROT BACK",
-        ] {
-            assert!(rt; text.contains(part));
+        if !text.contains(part) {
+            return false;
         }
-        assert_eq!(rt; ran.errors.as_slice(), b"".as_slice());
-        assert_eq!(rt; ran.status, 0);
     }
-    let words = [b"radixvm".as_slice(), b"--version".as_slice()];
-    let ran = run_words(rt.alloc(), &rt.alloc(), &words, b"", AMPLE);
-    assert_eq!(rt; ran.out.as_slice(), b"radixvm 0.1.0\n".as_slice());
-    assert_eq!(rt; ran.status, 0);
-    Ok(())
+    true
+}
+
+// Whether the program with these words shows its help, and nothing else.
+fn helps(alloc: Global, words: &[&[u8]]) -> bool {
+    let ran = run_words(alloc, &alloc, words, b"", AMPLE);
+    is_help(&ran.out) && ran.errors.is_empty() && ran.status == 0
 }
 
 #[test]
-fn bad_words(rt: HostRuntime) -> Result<(), Fail> {
-    for words in [
-        [].as_slice(),
-        [b"radixvm".as_slice()].as_slice(),
-        [b"radixvm".as_slice(), b"frob".as_slice()].as_slice(),
-        [b"radixvm".as_slice(), b"--frob".as_slice()].as_slice(),
-        [b"radixvm".as_slice(), b"run".as_slice(), b"now".as_slice()].as_slice(),
-        [
-            b"radixvm".as_slice(),
-            b"maps".as_slice(),
-            b"--log".as_slice(),
-        ]
-        .as_slice(),
-        [
-            b"radixvm".as_slice(),
-            b"--log".as_slice(),
-            b"run".as_slice(),
-        ]
-        .as_slice(),
-        [b"radixvm".as_slice(), b"run".as_slice(), b"\xff".as_slice()].as_slice(),
-    ] {
-        let ran = run_words(rt.alloc(), &rt.alloc(), words, STORED, AMPLE);
-        assert!(rt; ran.errors.starts_with(b"radixvm: "));
-        assert!(rt; !ran.errors.starts_with(b"radixvm: error"));
-        assert_eq!(rt; ran.out.as_slice(), b"".as_slice());
-        assert_eq!(rt; ran.status, 2);
-    }
+fn help_and_version(rt: HostRuntime) {
+    assert!(rt; helps(rt.alloc(), &[b"radixvm", b"--help"]));
+    assert!(rt; helps(rt.alloc(), &[b"radixvm", b"help"]));
+    assert!(rt; helps(rt.alloc(), &[b"radixvm", b"run", b"--help"]));
+    let words = [b"radixvm".as_slice(), b"--version".as_slice()];
+    let version = (b"radixvm 0.1.0\n".as_slice(), b"".as_slice(), 0);
+    assert!(rt; comes_to(rt.alloc(), &words, b"", AMPLE, version));
+}
+
+// Whether the words are refused, with one prefix.
+fn are_refused(alloc: Global, words: &[&[u8]]) -> bool {
+    let ran = run_words(alloc, &alloc, words, STORED, AMPLE);
+    ran.errors.starts_with(b"radixvm: ")
+        && !ran.errors.starts_with(b"radixvm: error")
+        && ran.out.is_empty()
+        && ran.status == 2
+}
+
+#[test]
+fn bad_words(rt: HostRuntime) {
+    assert!(rt; are_refused(rt.alloc(), &[]));
+    assert!(rt; are_refused(rt.alloc(), &[b"radixvm"]));
+    assert!(rt; are_refused(rt.alloc(), &[b"radixvm", b"frob"]));
+    assert!(rt; are_refused(rt.alloc(), &[b"radixvm", b"--frob"]));
+    assert!(rt; are_refused(rt.alloc(), &[b"radixvm", b"run", b"now"]));
+    assert!(rt; are_refused(rt.alloc(), &[b"radixvm", b"maps", b"--log"]));
+    assert!(rt; are_refused(rt.alloc(), &[b"radixvm", b"--log", b"run"]));
+    assert!(rt; are_refused(rt.alloc(), &[b"radixvm", b"run", b"\xff"]));
     let words = [b"radixvm".as_slice(), b"\xff".as_slice()];
-    let ran = run_words(rt.alloc(), &rt.alloc(), &words, STORED, AMPLE);
-    assert_eq!(rt;
-        ran.errors.as_slice(),
-        b"radixvm: the words are not UTF-8\n".as_slice()
-    );
-    Ok(())
+    let fault = b"radixvm: the words are not UTF-8\n".as_slice();
+    assert!(rt; comes_to(rt.alloc(), &words, STORED, AMPLE, (b"", fault, 2)));
 }
 
 #[test]
@@ -431,12 +322,17 @@ fn no_memory_for_the_words(rt: HostRuntime) -> Result<(), Fail> {
     let heap = LocalHeap::new(rt.alloc(), 64)?;
     let words = [[b'r'; 256].as_slice(), b"run".as_slice()];
     let ran = run_words(rt.alloc(), &heap, &words, STORED, AMPLE);
-    assert_eq!(rt;
-        ran.errors.as_slice(),
-        b"radixvm: out of memory\n".as_slice()
-    );
-    assert_eq!(rt; ran.status, 3);
+    assert!(rt; ran.errors.as_slice() == b"radixvm: out of memory\n".as_slice() && ran.status == 3);
     Ok(())
+}
+
+// Whether a replay in this heap ends with this fault.
+fn ends_in(alloc: Global, heap: &LocalHeap, fault: &[u8]) -> bool {
+    let mut reader = source_of(STORED, AMPLE);
+    let mut out = sink_of(alloc, AMPLE);
+    let mut errors = Vec::new(alloc);
+    let status = job::run(heap, &mut reader, &mut out, &mut errors, Show::Outcomes);
+    errors.as_slice() == fault && status == 3
 }
 
 // A heap without room for a chunk of lines, and one that has that and no room for a machine.
@@ -447,38 +343,23 @@ fn no_memory_for_the_replay(rt: HostRuntime) -> Result<(), Fail> {
         (66_000, b"radixvm: setup S6\n".as_slice()),
     ] {
         let heap = LocalHeap::new(rt.alloc(), size)?;
-        let mut reader = source_of(STORED, AMPLE);
-        let mut out = sink_of(rt.alloc(), AMPLE);
-        let mut errors = Vec::new(rt.alloc());
-        let status = job::run(&heap, &mut reader, &mut out, &mut errors, Show::Outcomes);
-        assert_eq!(rt; errors.as_slice(), fault);
-        assert_eq!(rt; status, 3);
+        assert!(rt; ends_in(rt.alloc(), &heap, fault));
     }
     Ok(())
 }
 
 // The store has its reply at its tenth step, each load at its third.
 #[test]
-fn log_and_mappings(rt: HostRuntime) -> Result<(), Fail> {
-    for (words, output) in [
-        (
-            [
-                b"radixvm".as_slice(),
-                b"run".as_slice(),
-                b"--log".as_slice(),
-            ]
-            .as_slice(),
-            b"0x10000\ndone\n41\n0\nlog 9 call 1 0x10000\nlog 21 call 2 done\nlog 25 call 3 41\nlog 29 call 4 0\n".as_slice(),
-        ),
-        (
-            [b"radixvm".as_slice(), b"maps".as_slice()].as_slice(),
-            b"0x10000-0x11000 rw- anon\n".as_slice(),
-        ),
-    ] {
-        let ran = run_words(rt.alloc(), &rt.alloc(), words, STORED, AMPLE);
-        assert_eq!(rt; ran.out.as_slice(), output);
-        assert_eq!(rt; ran.errors.as_slice(), b"".as_slice());
-        assert_eq!(rt; ran.status, 0);
-    }
-    Ok(())
+fn log_and_mappings(rt: HostRuntime) {
+    let words = [
+        b"radixvm".as_slice(),
+        b"run".as_slice(),
+        b"--log".as_slice(),
+    ];
+    let log =
+        b"0x10000\ndone\n41\n0\nlog 9 call 1 0x10000\nlog 21 call 2 done\nlog 25 call 3 41\nlog 29 call 4 0\n".as_slice();
+    assert!(rt; comes_to(rt.alloc(), &words, STORED, AMPLE, (log, b"", 0)));
+    let words = [b"radixvm".as_slice(), b"maps".as_slice()];
+    let maps = b"0x10000-0x11000 rw- anon\n".as_slice();
+    assert!(rt; comes_to(rt.alloc(), &words, STORED, AMPLE, (maps, b"", 0)));
 }

@@ -1,6 +1,7 @@
 -- The counts of Refcache, and what its calls do to them.
 use Rattle.std.specs.Ordering.{int_eq}
-use Rattle.std.specs.Prelude.{ℕ, ◌+◌, Bool, true, false, cond, ℤ, pos, ◌+ℤ◌, List, [], ◌∷◌, ◌++◌, Option, Some, None, unwrap_or}
+use Rattle.std.specs.Prelude.{ℕ, ◌+◌, Bool, true, false, cond, ℤ, pos, ◌+ℤ◌, List, [], ◌∷◌, ◌++◌}
+use Rattle.std.specs.Prelude.{Option, Some, None, unwrap_or}
 use Rattle.refcache.specs.declared.reports.Queued.{Queued}
 use Rattle.vm_base.specs.Functions.{put}
 use Rattle.refcache.specs.Sums.{sum_below}

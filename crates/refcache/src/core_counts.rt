@@ -1,6 +1,7 @@
 //! What one core has: its delta entries and its review queue.
 
-ghost use Rattle.std.specs.Prelude.{◌≡◌, ℕ, ◌≤◌, None, IfSome, IfNone, unwrap_or, pos, ◌+ℤ◌, ◌≤ℤ◌, neg_ℤ, MatchBool};
+ghost use Rattle.std.specs.Prelude.{◌≡◌, ℕ, ◌≤◌, None, IfSome, IfNone, unwrap_or, pos, ◌+ℤ◌, ◌≤ℤ◌};
+ghost use Rattle.std.specs.Prelude.{neg_ℤ, MatchBool};
 ghost use Rattle.refcache.specs.Places.{entries};
 ghost use Rattle.refcache.specs.Pieces.{ArePlaces, IsLeast, lesser_object};
 ghost use Rattle.refcache.specs.Steps.{IsInTheWay, IsDelta};
@@ -67,10 +68,13 @@ impl<A: Allocator> Model for CoreCounts<A> {
 }
 
 impl<A: Allocator> CoreCounts<A> {
-    ghost use Rattle.std.specs.Prelude.{◌≡◌, ◌≢◌, true, ◌+◌, ◌<◌, ◌≤◌, ◌==◌, nat_lt, List, [], ◌∷◌, ℕ, length, IfSome, IfNone, IfOk, None, Some, unwrap_or, pos, ◌+ℤ◌, ◌≤ℤ◌, neg_ℤ};
+    ghost use Rattle.std.specs.Prelude.{◌≡◌, ◌≢◌, true, ◌+◌, ◌<◌, ◌≤◌, ◌==◌, nat_lt, List, [], ◌∷◌, ℕ};
+    ghost use Rattle.std.specs.Prelude.{length, IfSome, IfNone, IfOk, None, Some, unwrap_or, pos, ◌+ℤ◌};
+    ghost use Rattle.std.specs.Prelude.{◌≤ℤ◌, neg_ℤ};
     ghost use Rattle.vm_base.specs.Functions.{put};
     ghost use Rattle.refcache.specs.Places.{entries};
-    ghost use Rattle.refcache.specs.Pieces.{IsLeast, EvictsInto, Decides, IsFront, IsFrontDue, ReviewsPiece, IsCount, IsNewCore};
+    ghost use Rattle.refcache.specs.Pieces.{IsLeast, EvictsInto, Decides, IsFront, IsFrontDue};
+    ghost use Rattle.refcache.specs.Pieces.{ReviewsPiece, IsCount, IsNewCore};
     ghost use Rattle.refcache.specs.Steps.{IsQuiet, IsInTheWay};
     ghost use Rattle.refcache.specs.declared.reports.Queued.{Queued};
 

@@ -1,6 +1,7 @@
 //! The places of a core for its delta entries: an object may stand in one of them alone.
 
-ghost use Rattle.std.specs.Prelude.{◌≡◌, ℕ, None, Some, IfSome, IfNone, MatchBool, is_some, length, replicate, unwrap_or, pos, ◌+ℤ◌, ◌≤ℤ◌, neg_ℤ};
+ghost use Rattle.std.specs.Prelude.{◌≡◌, ℕ, None, Some, IfSome, IfNone, MatchBool, is_some, length};
+ghost use Rattle.std.specs.Prelude.{replicate, unwrap_or, pos, ◌+ℤ◌, ◌≤ℤ◌, neg_ℤ};
 ghost use Rattle.vm_base.specs.Functions.{put};
 ghost use Rattle.refcache.specs.Places.{entries, IsFreeFor};
 ghost use Rattle.refcache.specs.Pieces.{ArePlaces};

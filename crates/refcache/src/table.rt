@@ -34,9 +34,11 @@ impl<A: Allocator> Model for CountTable<A> {
 }
 
 impl<A: Allocator> CountTable<A> {
-    ghost use Rattle.std.specs.Prelude.{◌≡◌, ◌≢◌, ℕ, ◌<◌, ◌≤◌, ◌^◌, ◌+◌, IfOk, length, None, List, ◌∷◌, pos, neg_ℤ, ◌≤ℤ◌};
+    ghost use Rattle.std.specs.Prelude.{◌≡◌, ◌≢◌, ℕ, ◌<◌, ◌≤◌, ◌^◌, ◌+◌, IfOk, length, None, List, ◌∷◌};
+    ghost use Rattle.std.specs.Prelude.{pos, neg_ℤ, ◌≤ℤ◌};
     ghost use Rattle.refcache.specs.Counts.{Counts, no_counts, added, evicted};
-    ghost use Rattle.refcache.specs.Steps.{Begin, Takes, Flushes, Reviews, MakesRoom, IsClear, IsInTheWay, IsUnused};
+    ghost use Rattle.refcache.specs.Steps.{Begin, Takes, Flushes, Reviews, MakesRoom, IsClear};
+    ghost use Rattle.refcache.specs.Steps.{IsInTheWay, IsUnused};
     ghost use Rattle.refcache.specs.declared.reports.Queued.{Queued};
     ghost use Rattle.refcache.specs.Places.{entries};
     ghost use Rattle.refcache.specs.Parts.{Parts, counts_of, core_at, rooms, CanEvict};

@@ -45,7 +45,8 @@ impl Model for WayAhead {
 }
 
 impl WayAhead {
-    ghost use Rattle.std.specs.Prelude.{◌≡◌, ℕ, IfSome, IfNone, Some, unwrap_or, pos, ◌+ℤ◌, ◌≤ℤ◌, neg_ℤ};
+    ghost use Rattle.std.specs.Prelude.{◌≡◌, ℕ, IfSome, IfNone, Some, unwrap_or, pos, ◌+ℤ◌, ◌≤ℤ◌};
+    ghost use Rattle.std.specs.Prelude.{neg_ℤ};
     ghost use Rattle.vm_base.specs.Functions.{put};
     ghost use Rattle.refcache.specs.Places.{entries};
     ghost use Rattle.refcache.specs.Pieces.{ArePlaces, without};

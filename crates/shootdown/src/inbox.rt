@@ -1,7 +1,8 @@
 //! The messages that one core has to act on. Nothing here takes memory or fails.
 ghost use Rattle.std.specs.Prelude.{◌≡◌, ◌≢◌, ◌==◌, ◌∷◌, [], ◌++◌, false, is_some};
 ghost use Rattle.std.specs.List.{list_any};
-ghost use Rattle.shootdown.specs.Messages.{message_of, posted, oldest_of, asked, remaining, AreFromOthers};
+ghost use Rattle.shootdown.specs.Messages.{message_of, posted, oldest_of, asked, remaining};
+ghost use Rattle.shootdown.specs.Messages.{AreFromOthers};
 
 use crate::message::{Message, Took};
 use arrayvec::ArrayVec;

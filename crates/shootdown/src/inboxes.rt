@@ -1,8 +1,10 @@
 //! The inboxes of all cores, and who waits for whom. Nothing here takes memory or fails.
-ghost use Rattle.std.specs.Prelude.{◌≡◌, ◌≢◌, ℕ, ◌<◌, ◌≤◌, [], ◌∷◌, ◌++◌, None, Bool, true, false, length, slice_index_or};
+ghost use Rattle.std.specs.Prelude.{◌≡◌, ◌≢◌, ℕ, ◌<◌, ◌≤◌, [], ◌∷◌, ◌++◌, None, Bool, true, false};
+ghost use Rattle.std.specs.Prelude.{length, slice_index_or};
 ghost use Rattle.vm_base.specs.Functions.{put};
 ghost use Rattle.vm_base.specs.Cores.{members};
-ghost use Rattle.shootdown.specs.Messages.{InboxOf, message_of, posted, asked, remaining, waiter, AreFromOthers};
+ghost use Rattle.shootdown.specs.Messages.{InboxOf, message_of, posted, asked, remaining, waiter};
+ghost use Rattle.shootdown.specs.Messages.{AreFromOthers};
 ghost use Rattle.shootdown.specs.Inboxes.{inbox, owner, sent, awaited, acknowledged};
 
 use crate::inbox::Inbox;

@@ -16,7 +16,8 @@ use Rattle.slot_lock.specs.Plan.{IsSoundChange, range_of}
 use Rattle.slot_lock.specs.Runs.{IsRuns, IsAt, IsInner, get_run, run_at, owned_run, informed_run, changed_run}
 use Rattle.slot_lock.specs.Places.{starts_rise_to, start_most, run_at_is}
 use Rattle.slot_lock.specs.Slots.{IsCut, HasMeta, between, with_owner, with_info}
-use Rattle.slot_lock.specs.RunSlots.{slots_of, changed}
+use Rattle.slot_lock.specs.Changes.{changed}
+use Rattle.slot_lock.specs.RunSlots.{slots_of}
 use Rattle.slot_lock.specs.RunLaws.{edge_at, fits_on, is_slot, info_from_twice, info_from_zero}
 use Rattle.slot_lock.proofs.Steps.{before_limit, first_slot, slot_by_edge}
 use Rattle.slot_lock.proofs.Edits.{Edits, IsEdit, Edited, edited_each, edited_keeps, edited_edge, edited-IsRuns, same_slots, no_edits, next_edit, has_above, has_one, not_after, before, run_from, within_run}

@@ -6,9 +6,9 @@ use Rattle.vm_base.specs.Info.{info_from, info_file_page, is_leaf}
 use Rattle.slot_lock.specs.declared.run.Run.{Run}
 use Rattle.slot_lock.specs.Runs.{IsRuns, IsAt, get_run, run_at, place_of}
 use Rattle.slot_lock.specs.Places.{read_run, run_at_is, run_at_place, before_last, start_most}
-use Rattle.slot_lock.specs.Slots.{Slots, IsNew, IsSlot, IsSlotBy, Locks, Unlocks, Crosses, with_owner}
+use Rattle.slot_lock.specs.Slots.{Slots, IsFreePage, IsFreeSlot, IsNew, IsSlot, IsSlotBy, Locks, Unlocks, Crosses, with_owner}
 use Rattle.slot_lock.specs.RunSlots.{slots_of}
-use Rattle.slot_lock.specs.RunLaws.{is_slot, from_test, other_test, edge_at}
+use Rattle.slot_lock.specs.RunLaws.{info_from_zero, is_slot, from_test, other_test, edge_at}
 
 -- what an index at a page's place reads
 pub read_at : (rs : List Run) → IsRuns rs → (p i : ℕ) (r : Run) → IsAt rs p i → r ≡ get_or rs i r → r ≡ run_at rs p
@@ -145,6 +145,31 @@ one_page rs ok j p at slot valid =
     let next = slot_by_edge (slots_of rs) (get_run rs j).start (get_run rs (j + 1)).start (p + 1) (is_slot rs ok j last) slot.ends (omega arith) in
     let above = at.until last in
     (first, omega arith)
+
+-- a run of one page that nobody holds, as its page
+pub free_page : (rs : List Run) → IsRuns rs → (i p : ℕ) → IsAt rs p i → p < 2 ^ 35 → (get_run rs i).owner ≡ None
+    → p ≤ (get_run rs i).start → (get_run rs (i + 1)).start ≤ p + 1 → IsFreePage (slots_of rs) p (record { info = (get_run rs i).info })
+free_page rs ok i p at valid free begins ends =
+    let last = before_last rs ok p i at valid in
+    let here : (get_run rs i).start ≡ p = omega (arith, at.from) in
+    let above = at.until last in
+    let next : (get_run rs (i + 1)).start ≡ p + 1 = omega arith in
+    let none : p - (get_run rs i).start ≡ 0 = omega arith in
+    record {
+      alone = record {
+        slot = rw next at (slot_from rs ok i p last here);
+        free = owner_at rs ok p i at ∙ free;
+      };
+      info = sym (ap (λ (r : Run). info_from r.info (p - r.start)) (run_at_is rs ok p i at)
+          ∙ ap (info_from (get_run rs i).info) none ∙ info_from_zero (get_run rs i).info);
+    }
+
+-- a page that nobody holds, as a run of one page
+pub free_run : (rs : List Run) → IsRuns rs → (i p : ℕ) → IsAt rs p i → p < 2 ^ 35 → IsFreeSlot (slots_of rs) p
+    → ((get_run rs i).owner ≡ None) × (p ≤ (get_run rs i).start) × ((get_run rs (i + 1)).start ≤ p + 1)
+free_run rs ok i p at valid alone =
+    let one = one_page rs ok i p at alone.slot valid in
+    (sym (owner_at rs ok p i at) ∙ alone.free, omega (arith, one.0), omega (arith, one.1))
 
 -- a fact on an error, from the fact
 pub on_err : {T E P : Type 0} (r : Result T E) → P → OnErr r P

@@ -1,5 +1,6 @@
 -- The pages that an acquisition locks, a cursor over them, and what of them is held
-use Rattle.std.specs.Prelude.{ℕ, ◌<◌, ◌==◌, ◌||◌, nat_lt, nat_le, min, max, Bool, false, if◌then◌else◌, Option, Some, None}
+use Rattle.std.specs.Prelude.{ℕ, ◌<◌, ◌==◌, ◌||◌, nat_lt, nat_le, min, max, Bool, false, if◌then◌else◌}
+use Rattle.std.specs.Prelude.{Option, Some, None}
 use Rattle.std.specs.Option.{ForSome}
 use Rattle.vm_base.specs.declared.page.PageRange.{PageRange}
 use Rattle.vm_base.specs.Functions.{has}

@@ -1,5 +1,6 @@
 pub mod Plan
 pub mod Slots
+pub mod Changes
 pub mod SlotRuns
 pub mod Framed
 pub mod Footprint

@@ -1,6 +1,7 @@
 -- A list of runs, each of the pages from its start up to the next one's. The first is page 0 and
 -- the last is what lies above all valid pages: no core holds them and nothing is mapped there
-use Rattle.std.specs.Prelude.{◌≡◌, ℕ, ◌+◌, ◌-◌, ◌^◌, ◌<◌, ◌≤◌, nat_le, Bool, true, false, List, length, slice_index_or, Option, Some, None, is_some}
+use Rattle.std.specs.Prelude.{◌≡◌, ℕ, ◌+◌, ◌-◌, ◌^◌, ◌<◌, ◌≤◌, nat_le, Bool, true, false, List, length}
+use Rattle.std.specs.Prelude.{slice_index_or, Option, Some, None, is_some}
 use Rattle.std.specs.List.{insert, prefix_len}
 use Rattle.vm_base.specs.declared.info.PageInfo.{PageInfo}
 use Rattle.vm_base.specs.Info.{advance, info_from, info_file_page, info_with_prot, is_leaf, unused}

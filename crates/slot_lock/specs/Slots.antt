@@ -1,12 +1,15 @@
 -- What a slot map says of each page, and the changes of it
-use Rattle.std.specs.Prelude.{◌≡◌, ◌≢◌, ℕ, ◌+◌, ◌-◌, ◌^◌, ◌<◌, ◌≤◌, ◌⊎◌, Bool, true, false, if◌then◌else◌, Option, Some, None, is_some}
+use Rattle.std.specs.Prelude.{◌≡◌, ◌≢◌, ℕ, ◌+◌, ◌-◌, ◌^◌, ◌<◌, ◌≤◌, ◌⊎◌, Bool, true, false}
+use Rattle.std.specs.Prelude.{if◌then◌else◌, Option, Some, None, is_some}
 use Rattle.vm_base.specs.declared.page.PageRange.{PageRange}
 use Rattle.vm_base.specs.declared.info.PageInfo.{PageInfo}
 use Rattle.vm_base.specs.declared.info.Meta.{Meta}
 use Rattle.vm_base.specs.declared.rights.Prot.{Prot}
 use Rattle.vm_base.specs.Functions.{put, over, across, has}
 use Rattle.vm_base.specs.Pages.{IsPage, IsPageRange}
-use Rattle.vm_base.specs.Info.{advance, info_from, info_file_page, is_leaf, unused, frame_of, is_recorded, info_with_prot, info_without_frame}
+use Rattle.vm_base.specs.Info.{advance, info_from, info_file_page, is_leaf, unused, frame_of}
+use Rattle.vm_base.specs.Info.{is_recorded, info_with_prot, info_without_frame}
+use Rattle.slot_lock.specs.declared.slot_map.FreePage.{FreePage}
 use Rattle.slot_lock.specs.declared.slot_map.Fit.{Fit}
 use Rattle.slot_lock.specs.declared.slot_map.Fit.TheVariants.{Cut, Fits}
 use Rattle.slot_lock.specs.declared.slot_map.Got.{Got}
@@ -44,6 +47,16 @@ pub record IsSlotMap (s : Slots) : Type 0 where
   -- the file page of each page is small, so that the pages of any range have file pages that are
   -- numbers
   pub fits : (p : ℕ) → info_file_page (s.info p) < 2 ^ 36
+
+-- the page is a slot of its own, which nobody holds
+pub record IsFreeSlot (s : Slots) (page : ℕ) : Type 0 where
+  pub slot : IsSlot s page (page + 1)
+  pub free : s.owner page ≡ None
+
+-- that page has this
+pub record IsFreePage (s : Slots) (page : ℕ) (found : FreePage) : Type 0 where
+  pub alone : IsFreeSlot s page
+  pub info : found.info ≡ s.info page
 
 -- nothing is mapped and nothing is held
 pub record IsNew (s : Slots) : Type 0 where

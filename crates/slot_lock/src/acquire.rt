@@ -1,5 +1,6 @@
 //! Locking the pages of a footprint from left to right.
-ghost use Rattle.std.specs.Prelude.{◌≡◌, ◌≢◌, ℕ, ◌+◌, ◌-◌, ◌^◌, ◌<◌, ◌≤◌, ◌↔◌, IsTrue, IfOk, OnErr, Option, Some, None, Bool, true, false};
+ghost use Rattle.std.specs.Prelude.{◌≡◌, ◌≢◌, ℕ, ◌+◌, ◌-◌, ◌^◌, ◌<◌, ◌≤◌, ◌↔◌, IsTrue, IfOk, OnErr};
+ghost use Rattle.std.specs.Prelude.{Option, Some, None, Bool, true, false};
 ghost use Rattle.slot_lock.specs.Footprint.{IsFootprint, end_at, is_place, is_past, cursor_after};
 ghost use Rattle.slot_lock.specs.Slots.{Steps, Crosses};
 

@@ -1,7 +1,8 @@
 //! The pages that an acquisition locks.
 ghost use Rattle.std.specs.Prelude.{◌≡◌, ℕ, ◌+◌, ◌^◌, ◌<◌, ◌≤◌, true, IfSome, Option};
 ghost use Rattle.vm_base.specs.Pages.{IsPageRange};
-ghost use Rattle.slot_lock.specs.Footprint.{IsFootprint, one_range, both, end_at, next_after, is_past, below, after};
+ghost use Rattle.slot_lock.specs.Footprint.{IsFootprint, one_range, both, end_at, next_after, is_past};
+ghost use Rattle.slot_lock.specs.Footprint.{below, after};
 
 use vm_base::PageRange;
 

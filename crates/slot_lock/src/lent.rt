@@ -1,5 +1,6 @@
 //! Slots that are added to a list of runs from left to right.
-ghost use Rattle.std.specs.Prelude.{◌≡◌, ◌≢◌, ℕ, ◌+◌, ◌-◌, ◌^◌, ◌<◌, ◌≤◌, OnOk, OnErr, IsTrue, IfSome, IfNone, ◌↔◌, None, length};
+ghost use Rattle.std.specs.Prelude.{◌≡◌, ◌≢◌, ℕ, ◌+◌, ◌-◌, ◌^◌, ◌<◌, ◌≤◌, OnOk, OnErr, IsTrue, IfSome};
+ghost use Rattle.std.specs.Prelude.{IfNone, ◌↔◌, None, length};
 ghost use Rattle.std.specs.Vec.{vec_len, vec_capacity};
 ghost use Rattle.vm_base.specs.Info.{info_file_page};
 ghost use Rattle.slot_lock.specs.Runs.{IsRuns, IsInner, get_run};

@@ -18,4 +18,4 @@ pub use footprint::Footprint;
 pub use framed::{Framed, FramedPages};
 pub use plan::{Change, Goal, Place, Plan, Target, Touch};
 pub use run_list::RunList;
-pub use slot_map::{Fit, Got, SlotMap, SlotRead, SlotRun};
+pub use slot_map::{Fit, FreePage, Got, SlotMap, SlotRead, SlotRun};

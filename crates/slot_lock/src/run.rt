@@ -1,12 +1,15 @@
 //! Runs of pages in order, each up to the next one's start.
-ghost use Rattle.std.specs.Prelude.{◌≡◌, ℕ, ◌+◌, ◌-◌, ◌^◌, ◌<◌, ◌≤◌, OnOk, OnErr, IsTrue, ◌↔◌, None, Some, false, length};
+ghost use Rattle.std.specs.Prelude.{◌≡◌, ℕ, ◌+◌, ◌-◌, ◌^◌, ◌<◌, ◌≤◌, OnOk, OnErr, IsTrue, ◌↔◌, None};
+ghost use Rattle.std.specs.Prelude.{Some, false, length};
 ghost use Rattle.std.specs.Vec.{vec_len, vec_capacity};
 ghost use Rattle.vm_base.specs.Pages.{IsPage};
 ghost use Rattle.vm_base.specs.Info.{info_with_prot, info_from, info_file_page, is_leaf};
 ghost use Rattle.slot_lock.specs.Plan.{IsSoundChange, range_of};
 ghost use Rattle.slot_lock.specs.Runs.{IsRuns, IsAt, IsInner, IsInside, IsJoint, get_run, cut_runs};
-ghost use Rattle.slot_lock.specs.Slots.{Divides, DividesAs, HasMeta, IsCut, CanJoin, Folds, with_owner, with_info};
-ghost use Rattle.slot_lock.specs.RunSlots.{slots_of, changed, two_parts};
+ghost use Rattle.slot_lock.specs.Slots.{Divides, DividesAs, HasMeta, IsCut, CanJoin, Folds, with_owner};
+ghost use Rattle.slot_lock.specs.Slots.{with_info};
+ghost use Rattle.slot_lock.specs.Changes.{changed};
+ghost use Rattle.slot_lock.specs.RunSlots.{slots_of, two_parts};
 
 use crate::plan::Change;
 use std::alloc::Allocator;

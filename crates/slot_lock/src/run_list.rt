@@ -1,11 +1,12 @@
 //! The first slot map: a list of runs.
-ghost use Rattle.std.specs.Prelude.{◌≡◌, ◌≢◌, ℕ, ◌+◌, ◌-◌, ◌^◌, ◌<◌, ◌≤◌, IfOk, OnErr, Option, Some, Bool, length};
+ghost use Rattle.std.specs.Prelude.{◌≡◌, ◌≢◌, ℕ, ◌+◌, ◌-◌, ◌^◌, ◌<◌, ◌≤◌, IfOk, OnErr, Option, Some};
+ghost use Rattle.std.specs.Prelude.{Bool, length};
 ghost use Rattle.slot_lock.specs.Runs.{IsRuns};
 
 use crate::framed::FramedPages;
 use crate::plan::Change;
 use crate::run::{self, Run};
-use crate::slot_map::{Fit, Got, SlotMap, SlotRead, SlotRun};
+use crate::slot_map::{Fit, FreePage, Got, SlotMap, SlotRead, SlotRun};
 use crate::{lent, walk};
 use std::alloc::Allocator;
 use vm_base::info::info_from;
@@ -142,6 +143,15 @@ impl<A: Allocator> SlotMap for RunList<A> {
         self.runs[run::place(&self.runs, page)].owner
     }
 
+    fn free_page(&self, page: u64) -> Option<FreePage> {
+        let i = run::place(&self.runs, page);
+        let slot = self.runs[i];
+        if slot.owner.is_some() || slot.start < page || page + 1 < self.runs[i + 1].start {
+            return None;
+        }
+        Some(FreePage { info: slot.info })
+    }
+
     fn lock_next(&mut self, core: CoreId, cursor: u64, end: u64) -> Result<Got, NoMemory> {
         let i = run::place(&self.runs, cursor);
         let slot = self.runs[i];
@@ -224,6 +234,10 @@ impl<A: Allocator> SlotMap for RunList<A> {
 
     fn list_frames(&self, from: u64, end: u64, list: &mut FramedPages) -> u64 {
         walk::list_frames(&self.runs, from, end, list)
+    }
+
+    fn change_free(&mut self, change: Change) {
+        run::change(&mut self.runs, change);
     }
 
     fn set_leaf(&mut self, core: CoreId, page: u64, info: PageInfo) {

@@ -3,18 +3,25 @@
 //! A slot is a set of neighbouring pages with one owner or none, whose mapping goes on from page to
 //! page. A new map has all valid pages unmapped and unheld. A page with a frame or a recorded core
 //! is a slot of its own.
-ghost use Rattle.std.specs.Prelude.{◌≡◌, ◌≢◌, ℕ, ◌+◌, ◌-◌, ◌^◌, ◌<◌, ◌≤◌, ◌↔◌, IfOk, OnErr, IfSome, IfNone, IsTrue, true, Bool, Option, Some, None};
+ghost use Rattle.std.specs.Prelude.{◌≡◌, ◌≢◌, ℕ, ◌+◌, ◌-◌, ◌^◌, ◌<◌, ◌≤◌, ◌↔◌, ◌⊎◌, IfOk, OnErr};
+ghost use Rattle.std.specs.Prelude.{IfSome, IfNone, IsTrue, true, Bool, Option, Some, None};
 ghost use Rattle.vm_base.specs.declared.page.PageRange.{PageRange};
 ghost use Rattle.vm_base.specs.Functions.{has};
 ghost use Rattle.vm_base.specs.Cores.{members};
 ghost use Rattle.vm_base.specs.Pages.{IsPage, IsPageRange};
-ghost use Rattle.slot_lock.specs.Plan.{FitsFile};
+ghost use Rattle.slot_lock.specs.Plan.{FitsFile, IsSoundChange, range_of};
 ghost use Rattle.arrayvec.specs.ArrayVec.{array_vec_len};
 ghost use Rattle.slot_lock.specs.Framed.{AddsFrames, frames_in};
-ghost use Rattle.slot_lock.specs.Slots.{Slots, IsSlot, IsSlotBy, IsSlotMap, IsHeld, IsCrossed, OwnsAll, Steps, Crosses, CutSteps, Unlocks, Joins, HasMeta, IsFreeRun, LosesFrame, NoFrames, IsUser, AllMapped, DividesAs, IfSplit, IfCut, between, crossed_edge, cleared, mapped, protected, with_info};
+ghost use Rattle.slot_lock.specs.Changes.{changed, IsMappedFor};
+ghost use Rattle.slot_lock.specs.Slots.{Slots, IsSlot, IsSlotBy, IsSlotMap, IsFreePage, IsFreeSlot};
+ghost use Rattle.slot_lock.specs.Slots.{IsHeld, IsCrossed, OwnsAll, Steps, Crosses, CutSteps, Unlocks};
+ghost use Rattle.slot_lock.specs.Slots.{Joins, HasMeta, IsFreeRun, LosesFrame, NoFrames, IsUser};
+ghost use Rattle.slot_lock.specs.Slots.{AllMapped, DividesAs, IfSplit, IfCut, between, crossed_edge};
+ghost use Rattle.slot_lock.specs.Slots.{cleared, mapped, protected, with_info};
 ghost use Rattle.slot_lock.specs.SlotRuns.{LocksRun, UnlocksRun};
 
 use crate::framed::FramedPages;
+use crate::plan::Change;
 use vm_base::{CoreId, CoreSet, Meta, NoMemory, PageInfo, PageRange, Prot};
 
 /// What one step of an acquisition did.
@@ -44,6 +51,13 @@ pub struct SlotRun {
     pub slots: u64,
     /// The page up to which they reach.
     pub upto: u64,
+}
+
+/// A page that is a slot of its own, which nobody holds.
+#[derive(Clone, Copy, Debug, PartialEq, Eq)]
+pub struct FreePage {
+    /// What the page has, if it is mapped.
+    pub info: Option<PageInfo>,
 }
 
 /// Slots that are only read: a whole map, or a few slots of one.
@@ -102,6 +116,13 @@ pub trait SlotMap: SlotRead {
     fn owner(&self, page: u64) -> Option<CoreId>
         requires { IsPage page }
         ensures { result ≡ (Self.slots self.now).owner page };
+
+    /// What the page has, where it is a slot of its own that nobody holds: then it can be changed
+    /// without being locked, as long as no other core can act in between.
+    fn free_page(&self, page: u64) -> Option<FreePage>
+        requires { IsPage page }
+        ensures some { IfSome result (IsFreePage (Self.slots self.now) page) }
+        ensures none { IfNone result (¬ IsFreeSlot (Self.slots self.now) page) };
 
     /// One step of the core towards holding the pages from the cursor up to the end: the cursor's
     /// slot is another core's, or is divided where it crosses the first edge of them that it
@@ -192,10 +213,20 @@ pub trait SlotMap: SlotRead {
             list.new.items }
         ensures full { result < end → array_vec_len list.new ≡ 32 };
 
-    /// Sets the frame and the recorded cores of a mapped page that is a slot of its own.
+    /// Makes a change of one page that is a slot of its own, which nobody holds.
+    fn change_free(&mut self, change: Change)
+        requires sound { IsSoundChange change }
+        requires one { (range_of change).end ≡ (range_of change).first + 1 }
+        requires free { IsFreeSlot (Self.slots self.old) (range_of change).first }
+        requires mapped { IsMappedFor (Self.slots self.old) change }
+        ensures { Self.slots self.new ≡ changed (Self.slots self.old) change };
+
+    /// Sets the frame and the recorded cores of a mapped page that is a slot of its own, which the
+    /// core holds, or nobody.
     fn set_leaf(&mut self, core: CoreId, page: u64, info: PageInfo)
         requires valid { IsPage page }
-        requires held { (Self.slots self.old).owner page ≡ Some core }
+        requires held { ((Self.slots self.old).owner page ≡ Some core)
+            ⊎ ((Self.slots self.old).owner page ≡ None) }
         requires alone { IsSlot (Self.slots self.old) page (page + 1) }
         requires meta { HasMeta ((Self.slots self.old).info page) info.meta }
         ensures { Self.slots self.new ≡ with_info (Self.slots self.old) page (Some info) };

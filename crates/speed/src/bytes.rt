@@ -1,6 +1,7 @@
 //! Bytes of frames set and read, frames filled, and frames copied.
 ghost use Rattle.std.specs.Prelude.{◌≡◌, ◌<◌, ◌≤◌, IfOk, length};
 
+use crate::since::since;
 use frames::Frames;
 use std::alloc::{AllocError, Global};
 use std::io;
@@ -77,11 +78,7 @@ pub fn time_bytes(rt: &impl Clock, alloc: Global, rounds: u64) -> io::Result<Opt
     };
     let start = Instant::now(rt)?;
     let sum = set_and_read(&mut frames, rounds);
-    let nanos = start.elapsed(rt)?.as_nanos();
-    if sum > 0 {
-        return Ok(Some(nanos));
-    }
-    Ok(None)
+    since(rt, start, sum > 0)
 }
 
 /// The nanoseconds of so many frames filled with 3000 bytes and zeros; none where memory is refused.
@@ -93,11 +90,7 @@ pub fn time_fills(rt: &impl Clock, alloc: Global, rounds: u64) -> io::Result<Opt
     let from = [7u8; 3000];
     let start = Instant::now(rt)?;
     let byte = fill(&mut frames, &from, rounds);
-    let nanos = start.elapsed(rt)?.as_nanos();
-    if byte > 0 {
-        return Ok(Some(nanos));
-    }
-    Ok(None)
+    since(rt, start, byte > 0)
 }
 
 /// The nanoseconds of so many frames copied; none where memory is refused.
@@ -108,9 +101,5 @@ pub fn time_copies(rt: &impl Clock, alloc: Global, rounds: u64) -> io::Result<Op
     };
     let start = Instant::now(rt)?;
     let byte = copy(&mut frames, rounds);
-    let nanos = start.elapsed(rt)?.as_nanos();
-    if byte > 0 {
-        return Ok(Some(nanos));
-    }
-    Ok(None)
+    since(rt, start, byte > 0)
 }

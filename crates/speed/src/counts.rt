@@ -1,6 +1,7 @@
 //! References counted on one core, flushed, and reviewed.
 ghost use Rattle.std.specs.Prelude.{◌≡◌};
 
+use crate::since::since;
 use refcache::{CoreCounts, ObjectCount, Review};
 use std::alloc::{AllocError, Global};
 use std::io;
@@ -117,11 +118,7 @@ pub fn time_counts(rt: &impl Clock, alloc: Global, rounds: u64) -> io::Result<Op
     };
     let start = Instant::now(rt)?;
     let counted = count(&mut counts, rounds);
-    let nanos = start.elapsed(rt)?.as_nanos();
-    if counted == rounds {
-        return Ok(Some(nanos));
-    }
-    Ok(None)
+    since(rt, start, counted == rounds)
 }
 
 /// The nanoseconds of so many objects counted up and down, flushed and reviewed; none where memory
@@ -133,9 +130,5 @@ pub fn time_flushes(rt: &impl Clock, alloc: Global, rounds: u64) -> io::Result<O
     };
     let start = Instant::now(rt)?;
     let freed = flush(&mut counts, rounds);
-    let nanos = start.elapsed(rt)?.as_nanos();
-    if freed == rounds {
-        return Ok(Some(nanos));
-    }
-    Ok(None)
+    since(rt, start, freed == rounds)
 }

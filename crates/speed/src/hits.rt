@@ -2,6 +2,7 @@
 ghost use Rattle.std.specs.Prelude.{◌≡◌, ◌<◌, true};
 ghost use Rattle.vm_base.specs.Pages.{is_page};
 
+use crate::since::since;
 use mmu::{Cpu, Hardware, Translated};
 use std::alloc::Global;
 use std::io;
@@ -98,11 +99,7 @@ pub fn time(rt: &impl Clock, alloc: Global, order: Order, rounds: u64) -> io::Re
     };
     let start = Instant::now(rt)?;
     let (hits, sum) = loads(&mut cpu, order, rounds);
-    let nanos = start.elapsed(rt)?.as_nanos();
-    if hits == rounds && sum > 0 {
-        return Ok(Some(nanos));
-    }
-    Ok(None)
+    since(rt, start, hits == rounds && sum > 0)
 }
 
 /// The nanoseconds of so many loads; none where memory is refused or one of them didn't fill the TLB.
@@ -113,9 +110,5 @@ pub fn time_misses(rt: &impl Clock, alloc: Global, rounds: u64) -> io::Result<Op
     };
     let start = Instant::now(rt)?;
     let (fills, sum) = misses(&mut cpu, rounds);
-    let nanos = start.elapsed(rt)?.as_nanos();
-    if fills == rounds && sum > 0 {
-        return Ok(Some(nanos));
-    }
-    Ok(None)
+    since(rt, start, fills == rounds && sum > 0)
 }

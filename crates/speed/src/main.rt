@@ -11,6 +11,7 @@ mod counts;
 mod hits;
 mod ranges;
 mod room;
+mod since;
 mod slots;
 mod threads;
 mod tree;

@@ -4,6 +4,7 @@ ghost use Rattle.std.specs.Prelude.{◌≡◌, ◌+◌, ◌<◌, ◌≤◌, ◌^
 ghost use Rattle.vm_base.specs.Pages.{IsPage, IsPageRange, pages_from};
 ghost use Rattle.slot_lock.specs.Slots.{IsHeld};
 
+use crate::since::since;
 use crate::slots::{STRIDE, ZERO};
 use crate::tree::filled;
 use radix_range::RadixMap;
@@ -69,11 +70,7 @@ pub fn time_scans(
     };
     let start = Instant::now(rt)?;
     let none = scans(&map, pages, rounds);
-    let nanos = start.elapsed(rt)?.as_nanos();
-    if none == rounds {
-        return Ok(Some(nanos));
-    }
-    Ok(None)
+    since(rt, start, none == rounds)
 }
 
 /// Locks the page, where it is a slot of its own that nobody holds.
@@ -168,5 +165,5 @@ pub fn time_edits(
     }
     let start = Instant::now(rt)?;
     edits(&mut map, core, range, rounds);
-    Ok(Some(start.elapsed(rt)?.as_nanos()))
+    since(rt, start, true)
 }

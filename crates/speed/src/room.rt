@@ -4,6 +4,7 @@ ghost use Rattle.std.specs.Prelude.{◌+◌, ◌<◌, ◌≤◌, ◌^◌};
 ghost use Rattle.vm_base.specs.Pages.{IsPageRange};
 
 use crate::ranges::{is_held, put};
+use crate::since::since;
 use crate::tree::filled;
 use radix_range::RadixMap;
 use slot_lock::{Got, SlotMap, SlotRead};
@@ -100,11 +101,7 @@ pub fn time_mapping(
     };
     let start = Instant::now(rt)?;
     let found = finds(&map, window, FIRST + 2 * pages, rounds);
-    let nanos = start.elapsed(rt)?.as_nanos();
-    if found == rounds {
-        return Ok(Some(nanos));
-    }
-    Ok(None)
+    since(rt, start, found == rounds)
 }
 
 /// The nanoseconds of so many searches after twice so many mapped pages, between which there is one
@@ -127,9 +124,5 @@ pub fn time_gaps(
     };
     let start = Instant::now(rt)?;
     let found = finds(&map, all, 15 + 4 * pages, rounds);
-    let nanos = start.elapsed(rt)?.as_nanos();
-    if found == rounds {
-        return Ok(Some(nanos));
-    }
-    Ok(None)
+    since(rt, start, found == rounds)
 }

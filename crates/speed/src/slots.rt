@@ -3,6 +3,7 @@ ghost use Rattle.std.specs.Prelude.{◌≡◌, ◌<◌, ◌≤◌, ◌^◌, IfOk
 ghost use Rattle.vm_base.specs.Pages.{IsPage};
 ghost use Rattle.speed.specs.Free.{IsFree, IsHeldAlone};
 
+use crate::since::since;
 use slot_lock::{Got, RunList, SlotMap, SlotRead};
 use std::alloc::Global;
 use std::io;
@@ -149,9 +150,5 @@ pub fn time(rt: &impl Clock, alloc: Global, pages: u64, rounds: u64) -> io::Resu
     };
     let start = Instant::now(rt)?;
     let locked = passes(&mut map, core, pages, rounds);
-    let nanos = start.elapsed(rt)?.as_nanos();
-    if locked == rounds {
-        return Ok(Some(nanos));
-    }
-    Ok(None)
+    since(rt, start, locked == rounds)
 }

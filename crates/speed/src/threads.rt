@@ -258,6 +258,21 @@ pub fn time<R: Threads + Wait + Clock + Sync>(
     // In cache lines of their own, since all threads read them.
     let tree = Box::new(alloc, CachePadded::new(tree))?;
     let mutex = Box::new(alloc, CachePadded::new(Mutex::new(1)))?;
+    time_over(rt, alloc, shared, &tree, &mutex, threads, rounds)
+}
+
+/// The same over this tree and this mutex.
+fn time_over<R: Threads + Wait + Clock + Sync>(
+    rt: &R,
+    alloc: Global,
+    shared: Shared,
+    tree: &SharedTree<Global>,
+    mutex: &Mutex<u64>,
+    threads: u8,
+    rounds: u64,
+) -> io::Result<Option<u128>>
+    requires { (1 ≤ threads) × (threads ≤ 4) }
+{
     let (tickets, first) = Tickets::new(alloc)?;
     let mut lanes = match shared {
         Shared::Tickets => {
@@ -267,7 +282,7 @@ pub fn time<R: Threads + Wait + Clock + Sync>(
         _ => lanes_alone(alloc, threads)?,
     };
     let run = |_place: usize, lane: &mut Lane<'_>| {
-        time_lane(rt, shared, &tree, &mutex, lane, rounds)
+        time_lane(rt, shared, tree, mutex, lane, rounds)
     };
     thread::for_each_mut(rt, lanes.as_mut_slice(), usize::from(threads), &run);
     Ok(slowest(lanes.as_slice()))

@@ -3,6 +3,7 @@ ghost use Rattle.std.specs.Prelude.{◌≡◌, ◌+◌, ◌<◌, ◌≤◌, ◌^
 ghost use Rattle.vm_base.specs.Pages.{IsPage};
 ghost use Rattle.speed.specs.Free.{IsFree, IsHeldAlone};
 
+use crate::since::since;
 use crate::slots::{STRIDE, ZERO, fill, lock, page_at, unlock};
 use radix_range::RadixMap;
 use slot_lock::{SlotMap, SlotRead};
@@ -132,11 +133,7 @@ pub fn time_look_ups(
     };
     let start = Instant::now(rt)?;
     let found = look_ups(&map, pages, rounds);
-    let nanos = start.elapsed(rt)?.as_nanos();
-    if found == rounds {
-        return Ok(Some(nanos));
-    }
-    Ok(None)
+    since(rt, start, found == rounds)
 }
 
 /// The nanoseconds of so many rounds; none where memory is refused or a round locked nothing.
@@ -156,9 +153,5 @@ pub fn time_changes(
     };
     let start = Instant::now(rt)?;
     let locked = changes(&mut map, core, pages, rounds);
-    let nanos = start.elapsed(rt)?.as_nanos();
-    if locked == rounds {
-        return Ok(Some(nanos));
-    }
-    Ok(None)
+    since(rt, start, locked == rounds)
 }

@@ -1,6 +1,7 @@
 -- The ticket word as plain data: what each ticketer has drawn, and how many others it may still
 -- split off.
-use Rattle.std.specs.Prelude.{◌≡◌, ℕ, ◌+◌, ◌^◌, ◌<◌, ◌≤◌, ltb, ◌==◌, sum_by, count_by, List, [], ◌∷◌, ◌++◌, length, slice_index, cond, All}
+use Rattle.std.specs.Prelude.{◌≡◌, ℕ, ◌+◌, ◌^◌, ◌<◌, ◌≤◌, ltb, ◌==◌, sum_by, count_by, List, [], ◌∷◌}
+use Rattle.std.specs.Prelude.{◌++◌, length, slice_index, cond, All}
 use mathlib.Core.Option.{some}
 use lib.ListN.{get_elem?}
 use Rattle.atomic_table.specs.Table.{State, Me, Step}

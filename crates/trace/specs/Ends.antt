@@ -1,11 +1,13 @@
 -- How a replay of a whole text ends.
-use Rattle.std.specs.Prelude.{◌≡◌, ℕ, ◌+◌, ◌<◌, ◌≤◌, ◌⊎◌, Bool, true, List, [], ◌∷◌, ◌++◌, Option, Some, Result, Ok, Err, length}
+use Rattle.std.specs.Prelude.{◌≡◌, ℕ, ◌+◌, ◌<◌, ◌≤◌, ◌⊎◌, Bool, true, List, [], ◌∷◌, ◌++◌, Option, Some}
+use Rattle.std.specs.Prelude.{Result, Ok, Err, length}
 use Rattle.std.specs.Io.KnownBytes.{Appends}
 use Rattle.trace_io.specs.Lines.{lines_of, IsUnbroken}
 use Rattle.trace_io.specs.Sink.{AppendsFront}
 use Rattle.trace_io.specs.Source.{HasStopped}
 use Rattle.trace.specs.declared.fault.TraceFault.{TraceFault}
-use Rattle.trace.specs.declared.fault.TraceFault.TheVariants.{TooLong, ReadFailed, NoMemory, WriteFailed}
+use Rattle.trace.specs.declared.fault.TraceFault.TheVariants.{TooLong, ReadFailed, NoMemory}
+use Rattle.trace.specs.declared.fault.TraceFault.TheVariants.{WriteFailed}
 use Rattle.trace.specs.declared.shown.Show.{Show}
 use Rattle.trace.specs.Stage.{Stage, Start, LineFails, LineWants, CanOpen, OpenFails}
 use Rattle.trace.specs.Runs.{Runs}

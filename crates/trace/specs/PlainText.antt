@@ -1,6 +1,7 @@
 -- The text of a trace in which no call runs beside another, as the plain page map and the users of
 -- its pages give it; and what comes behind that text, the log or the list of mappings
-use Rattle.std.specs.Prelude.{◌≡◌, ◌≢◌, ℕ, ◌+◌, pred, ◌<◌, ◌⊎◌, ◌↔◌, ◌==◌, nat_lt, cond, if◌then◌else◌, Bool, true}
+use Rattle.std.specs.Prelude.{◌≡◌, ◌≢◌, ℕ, ◌+◌, pred, ◌<◌, ◌⊎◌, ◌↔◌, ◌==◌, nat_lt, cond, if◌then◌else◌}
+use Rattle.std.specs.Prelude.{Bool, true}
 use Rattle.std.specs.Prelude.{false, List, [], ◌∷◌, ◌++◌, length, IsSomeAnd, Option, None, Some}
 use Rattle.vm_base.specs.declared.replies.Reply.{Reply}
 use Rattle.vm_base.specs.declared.replies.Reply.TheVariants.{NoFrame, NoMemory}

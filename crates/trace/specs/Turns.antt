@@ -1,10 +1,12 @@
 -- What one turn of a replay does, and how it can fail.
-use Rattle.std.specs.Prelude.{◌≡◌, ℕ, ◌+◌, ◌≤◌, List, Bool, true, false, Option, Result, Ok, Err, length}
+use Rattle.std.specs.Prelude.{◌≡◌, ℕ, ◌+◌, ◌≤◌, List, Bool, true, false, Option, Result, Ok, Err}
+use Rattle.std.specs.Prelude.{length}
 use Rattle.std.specs.Io.KnownBytes.{Keeps, Appends, IsAtEnd, prepend_known}
 use Rattle.trace_io.specs.Lines.{IsUnbroken, TakesLine, BeginsTooLong}
 use Rattle.trace_io.specs.Sink.{AppendsFront}
 use Rattle.trace.specs.declared.fault.TraceFault.{TraceFault}
-use Rattle.trace.specs.declared.fault.TraceFault.TheVariants.{TooLong, ReadFailed, NoMemory, WriteFailed}
+use Rattle.trace.specs.declared.fault.TraceFault.TheVariants.{TooLong, ReadFailed, NoMemory}
+use Rattle.trace.specs.declared.fault.TraceFault.TheVariants.{WriteFailed}
 use Rattle.trace.specs.declared.shown.Show.{Show}
 use Rattle.trace.specs.Stage.{Stage, LineFails, LineWants, Acts}
 use Rattle.trace.specs.Shown.{told}

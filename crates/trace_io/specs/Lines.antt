@@ -1,5 +1,6 @@
 -- The lines of a text, and what a reader of lines takes.
-use Rattle.std.specs.Prelude.{◌≡◌, ℕ, ◌<◌, List, [], ◌∷◌, ◌++◌, ◌⊎◌, Option, None, Some, length, take, ⊤, slice_index, if◌then◌else◌, ◌==◌}
+use Rattle.std.specs.Prelude.{◌≡◌, ℕ, ◌<◌, List, [], ◌∷◌, ◌++◌, ◌⊎◌, Option, None, Some, length, take}
+use Rattle.std.specs.Prelude.{⊤, slice_index, if◌then◌else◌, ◌==◌}
 
 -- a byte before the first of the lines
 abbrev pub onto : ℕ → List (List ℕ) → List (List ℕ)

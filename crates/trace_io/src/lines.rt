@@ -104,6 +104,7 @@ impl<A: Allocator> LineReader<A> {
     }
 
     // Takes a line from the bytes held, if a newline is among them.
+    #[inline(always)]
     fn scan(&mut self) -> Scan
         ensures found { Scans self.old self.new result }
         ensures few { length self.new.held ≤ 65536 }
@@ -120,6 +121,7 @@ impl<A: Allocator> LineReader<A> {
             None => Scan::Nothing,
         }
     }
+
     // Reads more behind the bytes held.
     fn fill<S: Source>(&mut self, reader: &mut S) -> Result<usize, ReadFailed>
         requires { length self.old.held ≤ 256 }
@@ -160,6 +162,7 @@ impl<A: Allocator> LineReader<A> {
     }
 
     // Reads until a whole line is held, or the text ends.
+    #[inline(never)]
     fn read_line<S: Source>(&mut self, reader: &mut S) -> Result<Found, ReadFailed>
         requires short { length self.old.held ≤ 256 }
         requires unbroken { IsUnbroken self.old.held }

@@ -3,12 +3,11 @@ use Rattle.std.proofs.Common.{◌≡◌, inl, inr, ℕ, true, List, [], ◌∷�
 use Rattle.std.specs.Str.{bytes_eq}
 use Rattle.std.proofs.lemmas.Slice.Eq.{bytes_eq-Decides}
 use Rattle.vm_base.specs.Pages.{page_of}
-use Rattle.trace_text.proofs.Choices.{bind_some, ended_some, front_some, chosen}
+use Rattle.trace_text.proofs.Choices.{bind_some, ended_some, chosen}
 use Rattle.trace_text.proofs.RequestLemmas.{asked_is_read, read_is_asked}
-use Rattle.trace_text.proofs.SpellingLemmas.{number_all, number_only}
-use Rattle.trace_text.specs.Words.{Word, front_word}
-use Rattle.trace_text.specs.Number.{number_of}
-use Rattle.trace_text.specs.Request.{◌>>=◌, ended, request_of}
+use Rattle.trace_text.proofs.SpellingLemmas.{front_all, front_only}
+use Rattle.trace_text.specs.Words.{Word}
+use Rattle.trace_text.specs.Request.{◌>>=◌, ended, front_number, request_of}
 use Rattle.trace_text.specs.Spelling.{SpellsNumber, SpellsPage}
 use Rattle.trace_text.specs.Action.{number_alone, page_alone, call_of, frame_of, guess_of, walk_of, evict_of, bare_of, action_of}
 use Rattle.trace_text.specs.Line.{act_of, task_of}
@@ -21,7 +20,7 @@ use Rattle.trace_text.specs.declared.line.Line.TheVariants.{Act}
 
 alone_all : (w : Word) (n : ℕ) → SpellsNumber w n → number_alone (w ∷ []) ≡ Some n
 unfolding number_alone
-alone_all w n s = ap (λ o. o >>= λ m. Some m) (number_all w n s)
+alone_all w n s = ap (λ o. o >>= λ p. ended p.1 p.0) (front_all w [] n s)
 
 pub page_all : (w : Word) (page : ℕ) → SpellsPage w page → page_alone (w ∷ []) ≡ Some page
 unfolding page_alone
@@ -51,10 +50,10 @@ act_is_read core (Evict page) words (w, e, s) =
 alone_only : (ws : List Word) (n : ℕ) → number_alone ws ≡ Some n → (w : Word) × (ws ≡ w ∷ []) × SpellsNumber w n
 unfolding number_alone
 alone_only ws n e =
-    let (first, e1, f1) = bind_some (front_word ws) _ n e in
-    let (m, e2, f2) = bind_some (number_of first.0) (λ m. ended first.1 m) n f1 in
-    let (none, same) = ended_some first.1 m n f2 in
-    (first.0, front_some ws first e1 ∙ ap (λ l. first.0 ∷ l) none, number_only first.0 n (e2 ∙ ap Some same))
+    let (first, e1, f1) = bind_some (front_number ws) (λ p. ended p.1 p.0) n e in
+    let (none, same) = ended_some first.1 first.0 n f1 in
+    let (w, is, s) = front_only ws first e1 in
+    (w, is ∙ ap (λ l. w ∷ l) none, subst (λ m. SpellsNumber w m) same s)
 
 pub page_only : (ws : List Word) (page : ℕ) → page_alone ws ≡ Some page → (w : Word) × (ws ≡ w ∷ []) × SpellsPage w page
 unfolding page_alone

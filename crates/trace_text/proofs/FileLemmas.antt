@@ -5,11 +5,9 @@ use Rattle.std.proofs.lemmas.Slice.Eq.{bytes_eq-Decides}
 use Rattle.vm_base.specs.declared.rights.Mode.{Mode}
 use Rattle.vm_base.specs.declared.rights.Mode.TheVariants.{R, W, RW}
 use Rattle.trace_text.proofs.Choices.{bind_some, ended_some, front_some, chosen}
-use Rattle.trace_text.proofs.RequestLemmas.{byte_all, byte_only}
-use Rattle.trace_text.proofs.SpellingLemmas.{number_all, number_only}
+use Rattle.trace_text.proofs.SpellingLemmas.{byte_all, byte_only, front_all, front_only}
 use Rattle.trace_text.specs.Words.{Word, front_word}
-use Rattle.trace_text.specs.Number.{number_of}
-use Rattle.trace_text.specs.Request.{ended, byte_of}
+use Rattle.trace_text.specs.Request.{ended, front_byte, front_number}
 use Rattle.trace_text.specs.Spelling.{mode_text}
 use Rattle.trace_text.specs.Line.{mode_of, contents_of, file_of}
 use Rattle.trace_text.specs.Grammar.{Says}
@@ -26,10 +24,11 @@ pub said_file : (number : ℕ) (mode : Mode) (len seed : ℕ) (args : List Word)
 unfolding file_of contents_of
 said_file number mode len seed args (n, l, s, e, spelled, length, byte, small) =
     let same : args ≡ n ∷ mode_text mode ∷ l ∷ s ∷ [] = cc in
-    let k : number_of n ≡ Some number = number_all n number spelled in
+    let more : List Word = mode_text mode ∷ l ∷ s ∷ [] in
+    let k : front_number (n ∷ mode_text mode ∷ l ∷ s ∷ []) ≡ Some (number, mode_text mode ∷ l ∷ s ∷ []) = front_all n more number spelled in
     let m : mode_of (mode_text mode) ≡ Some mode = mode_all mode in
-    let i : number_of l ≡ Some len = number_all l len length in
-    let b : byte_of s ≡ Some seed = byte_all s seed byte small in
+    let i : front_number (l ∷ s ∷ []) ≡ Some (len, s ∷ []) = front_all l (s ∷ []) len length in
+    let b : front_byte (s ∷ []) ≡ Some (seed, []) = byte_all s [] seed byte small in
     rw (same, k, m, i, b) refl
 
 -- a mode that the test knew
@@ -53,27 +52,16 @@ mode_only word mode e = elim (chosen (bytes_eq word (codes "r")) _ _ (Some mode)
 pub only_file : (args : List Word) (line : Line) → file_of args ≡ Some line → Says line (codes "file" ∷ args)
 unfolding file_of contents_of
 only_file args line e =
-    let (first, e1, f1) = bind_some (front_word args) _ line e in
-    let (number, n1, g1) = bind_some (number_of first.0) _ line f1 in
-    let (second, e2, f2) = bind_some (front_word first.1) _ line g1 in
-    let (mode, n2, g2) = bind_some (mode_of second.0) (λ mode. contents_of number mode second.1) line f2 in
-    let (third, e3, f3) = bind_some (front_word second.1) _ line g2 in
-    let (len, n3, g3) = bind_some (number_of third.0) _ line f3 in
-    let (fourth, e4, f4) = bind_some (front_word third.1) _ line g3 in
-    let (seed, n4, g4) = bind_some (byte_of fourth.0) (λ seed. ended fourth.1 (File number mode len seed)) line f4 in
-    let (none, same) = ended_some fourth.1 (File number mode len seed) line g4 in
-    let is : second.0 ≡ mode_text mode = mode_only second.0 mode n2 in
-    let last = front_some second.1 third e3 ∙ ap (λ ws. third.0 ∷ ws) (front_some third.1 fourth e4 ∙ ap (λ ws. fourth.0 ∷ ws) none) in
-    let others = front_some first.1 second e2 ∙ ap (λ w. w ∷ second.1) is ∙ ap (λ ws. mode_text mode ∷ ws) last in
-    let words = front_some args first e1 ∙ ap (λ ws. first.0 ∷ ws) others in
-    let byte = byte_only fourth.0 seed n4 in
-    subst (λ l. Says l (codes "file" ∷ args)) same (
-      first.0,
-      third.0,
-      fourth.0,
-      ap (λ ws. codes "file" ∷ ws) words,
-      number_only first.0 number n1,
-      number_only third.0 len n3,
-      byte.0,
-      byte.1,
-    )
+    let (number, en, f1) = bind_some (front_number args) _ line e in
+    let (second, e2, f2) = bind_some (front_word number.1) _ line f1 in
+    let (mode, n2, g2) = bind_some (mode_of second.0) (λ mode. contents_of number.0 mode second.1) line f2 in
+    let (len, el, f3) = bind_some (front_number second.1) _ line g2 in
+    let (seed, es, f4) = bind_some (front_byte len.1) (λ seed. ended seed.1 (File number.0 mode len.0 seed.0)) line f3 in
+    let (none, same) = ended_some seed.1 (File number.0 mode len.0 seed.0) line f4 in
+    let (n, is, spelled) = front_only args number en in
+    let (l, third, length) = front_only second.1 len el in
+    let (s, fourth, byte, small) = byte_only len.1 seed es in
+    let last = third ∙ ap (λ ws. l ∷ ws) (fourth ∙ ap (λ ws. s ∷ ws) none) in
+    let others = front_some number.1 second e2 ∙ ap (λ w. w ∷ second.1) (mode_only second.0 mode n2) ∙ ap (λ ws. mode_text mode ∷ ws) last in
+    let words = is ∙ ap (λ ws. n ∷ ws) others in
+    subst (λ l. Says l (codes "file" ∷ args)) same (n, l, s, ap (λ ws. codes "file" ∷ ws) words, spelled, length, byte, small)

@@ -5,19 +5,17 @@ use Rattle.std.proofs.Math.Nat.{mul-le-mul_left, pow-suc}
 use Rattle.std.proofs.lemmas.List.{get_or-take, take_more}
 use Rattle.std.proofs.lemmas.Bool.Decides.{nat_tests}
 use Rattle.std.specs.Prelude.{option_and_then, option_map, IfSome, is_some, ◌&&◌, codes}
-use Rattle.trace_text.specs.Words.{Word, words_of, front_word}
+use Rattle.trace_text.specs.Words.{Word, words_of}
 use Rattle.trace_text.specs.Number.{digit_of, value_from, below_word, number_of}
-use Rattle.trace_text.specs.Request.{◌>>=◌, ended, byte_of, load_of, store_of, request_of}
-use Rattle.trace_text.specs.Front.{BeginsNow, EndsValue, front_number, stored_of}
+use Rattle.trace_text.specs.Request.{◌>>=◌, front_number, load_of, store_of, fetch_of, mmap_of, munmap_of, mprotect_of, request_of}
+use Rattle.trace_text.specs.Front.{BeginsNow, EndsValue}
 use Rattle.trace_text.specs.Line.{line_of_words, now_of}
 use Rattle.trace_text.specs.declared.line.Line.TheVariants.{Now}
 use Rattle.trace_text.proofs.CoreLemmas.{one}
 use Rattle.trace_text.proofs.LineLemmas.{now_read}
-use Rattle.trace_text.specs.Action.{number_alone}
 use Rattle.trace_text.proofs.Choices.{chosen}
 use Rattle.trace_text.proofs.WordLemmas.{words-front}
 use Rattle.vm_base.specs.declared.requests.Request.{Request}
-use Rattle.vm_base.specs.declared.requests.Request.TheVariants.{Load, Store}
 
 -- ---- values, digit by digit
 
@@ -98,6 +96,7 @@ hexadecimal_number (d ∷ ds) n some e h = ap below_word e ∙ below n h
 -- the word that ends where a space or nothing follows
 front_is : (word : List ℕ) (k n : ℕ) → 0 < k → k ≤ length word → ((i : ℕ) → i < k → get_or word i 0 ≢ 32) → (k < length word → get_or word k 0 ≡ 32)
     → number_of (take k word) ≡ Some n → Some (n, words_of (drop k word)) ≡ front_number (words_of word)
+unfolding front_number
 front_is word k n some within letters ends is =
     sym (ap front_number (words-front word k some within letters ends) ∙ ap (λ q. q >>= λ m. Some (m, words_of (drop k word))) is)
 
@@ -146,44 +145,40 @@ pub hexadecimal_front : {R : Type 0} (now : R → List ℕ) (o : Option (ℕ × 
 hexadecimal_front now None digits bytes e s is = absurd (cc)
 hexadecimal_front now (Some f) digits bytes e s is = hexadecimal_ends digits (now f.1) f.0 s ∙ ap front_number is
 
-abbrev pair : ℕ → List Word → Option (ℕ × List Word)
-pair n words = Some (n, words)
-
-numbered : {B : Type 0} (ws : List Word) (f : ℕ → List Word → Option B) (o : Option (ℕ × List Word)) → o ≡ front_number ws
-    → (front_word ws >>= λ w. number_of w.0 >>= λ n. f n w.1) ≡ (o >>= λ p. f p.0 p.1)
-numbered {B = B} ws f o e = go (front_word ws) ∙ ap (λ q. q >>= λ p. f p.0 p.1) (sym e)
-  where
-    inner : (q : Option ℕ) (rest : List Word) → (q >>= λ n. f n rest) ≡ ((q >>= λ n. pair n rest) >>= λ p. f p.0 p.1)
-    inner None rest = refl
-    inner (Some n) rest = refl
-
-    go : (q : Option (Word × List Word)) → (q >>= λ w. number_of w.0 >>= λ n. f n w.1) ≡ ((q >>= λ w. number_of w.0 >>= λ n. pair n w.1) >>= λ p. f p.0 p.1)
-    go None = refl
-    go (Some w) = inner (number_of w.0) w.1
-
-pub load_by : (ws : List Word) (o : Option (ℕ × List Word)) → o ≡ front_number ws → load_of ws ≡ (o >>= λ p. ended p.1 (Load p.0))
-unfolding load_of
-load_by ws o e = numbered ws (λ n rest. ended rest (Load n)) o e
-
-pub store_by : (ws : List Word) (o : Option (ℕ × List Word)) → o ≡ front_number ws → store_of ws ≡ (o >>= λ p. stored_of p.0 p.1)
-unfolding store_of stored_of
-store_by ws o e = numbered ws (λ n rest. front_word rest >>= λ v. byte_of v.0 >>= λ b. ended v.1 (Store n b)) o e
-
-pub alone_by : (ws : List Word) (o : Option (ℕ × List Word)) → o ≡ front_number ws → number_alone ws ≡ (o >>= λ p. ended p.1 p.0)
-unfolding number_alone
-alone_by ws o e = numbered ws (λ n rest. ended rest n) o e
-
 -- ---- a request that is known by the bytes that it begins with
+
+named : (words bytes form : List ℕ) → words_of bytes ≡ words_of words → bytes ≡ form → request_of (words_of form) ≡ request_of (words_of words)
+named words bytes form same e = ap (λ b. request_of (words_of b)) (sym e) ∙ ap request_of same
 
 pub load_named : (words bytes args : List ℕ) → words_of bytes ≡ words_of words → bytes ≡ codes "load " ++ args
     → load_of (words_of args) ≡ request_of (words_of words)
 unfolding request_of
-load_named words bytes args same e = ap (λ b. request_of (words_of b)) (sym e) ∙ ap request_of same
+load_named words bytes args same e = named words bytes (codes "load " ++ args) same e
 
 pub store_named : (words bytes args : List ℕ) → words_of bytes ≡ words_of words → bytes ≡ codes "store " ++ args
     → store_of (words_of args) ≡ request_of (words_of words)
 unfolding request_of
-store_named words bytes args same e = ap (λ b. request_of (words_of b)) (sym e) ∙ ap request_of same
+store_named words bytes args same e = named words bytes (codes "store " ++ args) same e
+
+pub fetch_named : (words bytes args : List ℕ) → words_of bytes ≡ words_of words → bytes ≡ codes "fetch " ++ args
+    → fetch_of (words_of args) ≡ request_of (words_of words)
+unfolding request_of
+fetch_named words bytes args same e = named words bytes (codes "fetch " ++ args) same e
+
+pub mmap_named : (words bytes args : List ℕ) → words_of bytes ≡ words_of words → bytes ≡ codes "mmap " ++ args
+    → mmap_of (words_of args) ≡ request_of (words_of words)
+unfolding request_of
+mmap_named words bytes args same e = named words bytes (codes "mmap " ++ args) same e
+
+pub munmap_named : (words bytes args : List ℕ) → words_of bytes ≡ words_of words → bytes ≡ codes "munmap " ++ args
+    → munmap_of (words_of args) ≡ request_of (words_of words)
+unfolding request_of
+munmap_named words bytes args same e = named words bytes (codes "munmap " ++ args) same e
+
+pub mprotect_named : (words bytes args : List ℕ) → words_of bytes ≡ words_of words → bytes ≡ codes "mprotect " ++ args
+    → mprotect_of (words_of args) ≡ request_of (words_of words)
+unfolding request_of
+mprotect_named words bytes args same e = named words bytes (codes "mprotect " ++ args) same e
 
 -- a call of a core of one digit
 now_words : (x : ℕ) (args : List ℕ) → eqb x 32 ≡ false → words_of (99 ∷ x ∷ 33 ∷ 32 ∷ args) ≡ (99 ∷ x ∷ 33 ∷ []) ∷ words_of args

@@ -11,3 +11,4 @@ pub mod PrintingLemmas
 pub mod NumberLemmas
 pub mod FrontLemmas
 pub mod WordLemmas
+pub mod DigitTable

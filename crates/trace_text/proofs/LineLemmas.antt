@@ -8,13 +8,12 @@ use Rattle.std.proofs.lemmas.Slice.Eq.{bytes_eq-Decides}
 use Rattle.std.specs.Io.BufRead.{ends_with_byte, strip_last}
 use Rattle.trace_text.proofs.Choices.{bind_some, ended_some, front_some, chosen}
 use Rattle.trace_text.proofs.RequestLemmas.{asked_is_read, read_is_asked}
-use Rattle.trace_text.proofs.SpellingLemmas.{number_all, number_only}
+use Rattle.trace_text.proofs.SpellingLemmas.{front_all, front_only}
 use Rattle.trace_text.proofs.ActionLemmas.{act_is_read, page_all, page_only, only_action}
 use Rattle.trace_text.proofs.CoreLemmas.{core_all, core_only}
 use Rattle.trace_text.proofs.FileLemmas.{said_file, only_file}
 use Rattle.trace_text.specs.Words.{Word, front_word}
-use Rattle.trace_text.specs.Number.{number_of}
-use Rattle.trace_text.specs.Request.{◌>>=◌, ended, request_of}
+use Rattle.trace_text.specs.Request.{◌>>=◌, ended, front_number, request_of}
 use Rattle.trace_text.specs.Action.{action_of, page_alone}
 use Rattle.trace_text.specs.Spelling.{mode_text}
 use Rattle.trace_text.specs.Line.{calls_of, space_of, file_of, core_number, core_of, act_of, task_of, fold_of, now_of, event_of, line_of_words}
@@ -78,14 +77,14 @@ now_read w core rest k = elim (core_shape w core k) [
 limits_all : (cores frames calls : ℕ) (more : List Word) → Limits calls more → calls_of cores frames more ≡ Some (Space cores frames calls)
 unfolding calls_of
 limits_all cores frames calls more (inl (e, n)) = rw (e, n) refl
-limits_all cores frames calls more (inr (w, e, n)) = let k : number_of w ≡ Some calls = number_all w calls n in rw (e, k) refl
+limits_all cores frames calls more (inr (w, e, n)) = let k : front_number (w ∷ []) ≡ Some (calls, []) = front_all w [] calls n in rw (e, k) refl
 
 pub said_is_read : ReadsAll
 unfolding line_of_words space_of fold_of task_of now_of
 said_is_read Blank words e = rw e refl
 said_is_read (Space cores frames calls) words (c, f, more, e, n, m, l) =
-    let k : number_of c ≡ Some cores = number_all c cores n in
-    let i : number_of f ≡ Some frames = number_all f frames m in
+    let k : front_number (c ∷ f ∷ more) ≡ Some (cores, f ∷ more) = front_all c (f ∷ more) cores n in
+    let i : front_number (f ∷ more) ≡ Some (frames, more) = front_all f more frames m in
     rw (e, k, i) (limits_all cores frames calls more l)
 said_is_read (File number mode len seed) words (n, l, s, e, spelled, length, byte, small) =
     ap line_of_words e ∙ said_file number mode len seed (n ∷ mode_text mode ∷ l ∷ s ∷ []) (n, l, s, refl, spelled, length, byte, small)
@@ -103,28 +102,21 @@ calls_only : (cores frames : ℕ) (more : List Word) (line : Line) → calls_of 
 unfolding calls_of
 calls_only cores frames [] line e = (4096, cc, inl (refl, refl))
 calls_only cores frames (w ∷ ws) line e =
-    let (calls, n, e1) = bind_some (number_of w) (λ calls. ended ws (Space cores frames calls)) line e in
-    let (none, same) = ended_some ws (Space cores frames calls) line e1 in
-    (calls, same, inr (w, ap (λ l. w ∷ l) none, number_only w calls n))
+    let (calls, ec, e1) = bind_some (front_number (w ∷ ws)) (λ calls. ended calls.1 (Space cores frames calls.0)) line e in
+    let (none, same) = ended_some calls.1 (Space cores frames calls.0) line e1 in
+    let (c, is, n) = front_only (w ∷ ws) calls ec in
+    (calls.0, same, inr (c, is ∙ ap (λ l. c ∷ l) none, n))
 
 only_space : (args : List Word) (line : Line) → space_of args ≡ Some line → Says line (codes "vm" ∷ args)
 unfolding space_of
 only_space args line e =
-    let (first, e1, f1) = bind_some (front_word args) _ line e in
-    let (cores, n1, g1) = bind_some (number_of first.0) _ line f1 in
-    let (second, e2, f2) = bind_some (front_word first.1) _ line g1 in
-    let (frames, n2, g2) = bind_some (number_of second.0) (λ frames. calls_of cores frames second.1) line f2 in
-    let (calls, same, limits) = calls_only cores frames second.1 line g2 in
-    let words = front_some args first e1 ∙ ap (λ ws. first.0 ∷ ws) (front_some first.1 second e2) in
-    subst (λ l. Says l (codes "vm" ∷ args)) same (
-      first.0,
-      second.0,
-      second.1,
-      ap (λ ws. codes "vm" ∷ ws) words,
-      number_only first.0 cores n1,
-      number_only second.0 frames n2,
-      limits,
-    )
+    let (cores, ec, f1) = bind_some (front_number args) _ line e in
+    let (frames, ef, f2) = bind_some (front_number cores.1) (λ frames. calls_of cores.0 frames.0 frames.1) line f1 in
+    let (calls, same, limits) = calls_only cores.0 frames.0 frames.1 line f2 in
+    let (c, is, n) = front_only args cores ec in
+    let (f, next, m) = front_only cores.1 frames ef in
+    subst (λ l. Says l (codes "vm" ∷ args)) same
+    (c, f, frames.1, ap (λ ws. codes "vm" ∷ ws) (is ∙ ap (λ ws. c ∷ ws) next), n, m, limits)
 
 last_is : (xs : List ℕ) (n : ℕ) → length xs ≡ suc n → get_or xs n 0 ≡ 33 → xs ≡ take n xs ++ 33 ∷ []
 last_is [] n h e = absurd (omega arith)

@@ -11,10 +11,11 @@ use Rattle.std.specs.Int.Digits.{AllBelowBase, digits_of, number_from_digits, nu
 use Rattle.std.specs.List.{AllZip}
 use Rattle.trace_text.specs.Words.{Word}
 use Rattle.trace_text.specs.Number.{digit_of, value_from, below_word, number_of}
+use Rattle.trace_text.specs.Request.{◌>>=◌, front_byte, front_number}
 use Rattle.trace_text.specs.Printing.{hexadecimal, address_of}
 use Rattle.trace_text.specs.Spelling.{IsDigit, SpellsIn, SpellsNumber}
 use Rattle.trace_text.specs.Grammar.{ReadsPrinted}
-use Rattle.trace_text.proofs.Choices.{chosen}
+use Rattle.trace_text.proofs.Choices.{bind_some, chosen}
 
 -- ---- digits
 
@@ -248,3 +249,35 @@ reads_printed (suc n) h = (
   number_all (decimal (suc n)) (suc n) (h, inl (decimal_spells (suc n) (omega arith) h)),
   number_all (address_of (suc n)) (suc n) (h, inr (hexadecimal (suc n), refl, hexadecimal_spells (suc n) (omega arith))),
 )
+
+-- ---- a number at the front of words
+
+pub front_all : (word : Word) (words : List Word) (n : ℕ) → SpellsNumber word n → front_number (word ∷ words) ≡ Some (n, words)
+unfolding front_number
+front_all word words n s = ap (λ o. o >>= λ m. Some (m, words)) (number_all word n s)
+
+pub front_only : (words : List Word) (p : ℕ × List Word) → front_number words ≡ Some p → (w : Word) × (words ≡ w ∷ p.1) × SpellsNumber w p.0
+unfolding front_number
+front_only [] p e = absurd (cc)
+front_only (w ∷ ws) p e =
+    let (n, en, e1) = bind_some (number_of w) (λ m. Some (m, ws)) p e in
+    let same : (n, ws) ≡ p = cc in
+    (w, ap (λ q. w ∷ q.1) same, subst (λ q. SpellsNumber w q.0) same (number_only w n en))
+
+pub byte_all : (word : Word) (words : List Word) (b : ℕ) → SpellsNumber word b → b ≤ 255 → front_byte (word ∷ words) ≡ Some (b, words)
+unfolding front_byte
+byte_all word words b s h =
+    let small : ltb 255 b ≡ false = grind (arith, nat_tests) in
+    ap (λ o. o >>= λ p. cond (ltb 255 p.0) None (Some p)) (front_all word words b s) ∙ ap (λ t. cond t None (Some (b, words))) small
+
+pub byte_only : (words : List Word) (p : ℕ × List Word) → front_byte words ≡ Some p → (w : Word) × (words ≡ w ∷ p.1) × SpellsNumber w p.0 × (p.0 ≤ 255)
+unfolding front_byte
+byte_only words p e =
+    let (q, en, t) = bind_some (front_number words) (λ q. cond (ltb 255 q.0) None (Some q)) p e in
+    elim (chosen (ltb 255 q.0) None (Some q) (Some p) t) [
+      | inl h ↦ let bad = h.1 in absurd (cc)
+      | inr h ↦
+          let same : q ≡ p = (let g = h.1 in cc) in
+          let (w, is, s) = front_only words p (en ∙ ap Some same) in
+          (w, is, s, subst (λ r. r.0 ≤ 255) same (grind (arith, nat_tests, h.0)))
+    ]

@@ -2,18 +2,17 @@
 use Rattle.std.specs.Prelude.{ℕ, List, Option, None, Some, if◌then◌else◌, codes}
 use Rattle.std.specs.Str.{bytes_eq}
 use Rattle.vm_base.specs.Pages.{page_of}
-use Rattle.trace_text.specs.Words.{Word, front_word}
-use Rattle.trace_text.specs.Number.{number_of}
-use Rattle.trace_text.specs.Request.{◌>>=◌, ended, request_of}
+use Rattle.trace_text.specs.Words.{Word}
+use Rattle.trace_text.specs.Request.{◌>>=◌, ended, front_number, request_of}
 use Rattle.trace_text.specs.declared.action.Action.{Action}
-use Rattle.trace_text.specs.declared.action.Action.TheVariants.{Call, Go, Take, Flush, Review, GiveUp, Frame, Guess, Whole, Walk, Evict}
+use Rattle.trace_text.specs.declared.action.Action.TheVariants.{Call, Go, Take, Flush, Review, GiveUp}
+use Rattle.trace_text.specs.declared.action.Action.TheVariants.{Frame, Guess, Whole, Walk, Evict}
 
 -- the number that is the last word
 unfoldable pub number_alone : List Word → Option ℕ
 number_alone words = do
-  first ← front_word words
-  n ← number_of first.0
-  ended first.1 n
+  first ← front_number words
+  ended first.1 first.0
 
 -- the page of the address that is the last word
 unfoldable pub page_alone : List Word → Option ℕ

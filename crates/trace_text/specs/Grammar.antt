@@ -1,15 +1,19 @@
 -- The grammar of lines, actions and requests, by what is said.
-use Rattle.std.specs.Prelude.{◌≡◌, ℕ, ◌^◌, ◌<◌, ◌≤◌, decimal, true, List, [], ◌∷◌, ◌++◌, ◌⊎◌, Some, codes}
+use Rattle.std.specs.Prelude.{◌≡◌, ℕ, ◌^◌, ◌<◌, ◌≤◌, decimal, true, List, [], ◌∷◌, ◌++◌, ◌⊎◌, Some}
+use Rattle.std.specs.Prelude.{codes}
 use Rattle.vm_base.specs.declared.requests.Flags.{Flags}
 use Rattle.vm_base.specs.declared.requests.Request.{Request}
-use Rattle.vm_base.specs.declared.requests.Request.TheVariants.{Mmap, Munmap, Mprotect, Load, Store, Fetch}
+use Rattle.vm_base.specs.declared.requests.Request.TheVariants.{Mmap, Munmap, Mprotect, Load, Store}
+use Rattle.vm_base.specs.declared.requests.Request.TheVariants.{Fetch}
 use Rattle.trace_text.specs.Words.{Word, words_of}
 use Rattle.trace_text.specs.Number.{number_of}
 use Rattle.trace_text.specs.Printing.{address_of}
-use Rattle.trace_text.specs.Spelling.{SpellsNumber, SpellsPage, SpellsFlags, SpellsCore, mode_text, rights_text}
+use Rattle.trace_text.specs.Spelling.{SpellsNumber, SpellsPage, SpellsFlags, SpellsCore, mode_text}
+use Rattle.trace_text.specs.Spelling.{rights_text}
 use Rattle.trace_text.specs.Line.{are_printable, line_of_words}
 use Rattle.trace_text.specs.declared.action.Action.{Action}
-use Rattle.trace_text.specs.declared.action.Action.TheVariants.{Call, Go, Take, Flush, Review, GiveUp, Frame, Guess, Whole, Walk, Evict}
+use Rattle.trace_text.specs.declared.action.Action.TheVariants.{Call, Go, Take, Flush, Review, GiveUp}
+use Rattle.trace_text.specs.declared.action.Action.TheVariants.{Frame, Guess, Whole, Walk, Evict}
 use Rattle.trace_text.specs.declared.line.Line.{Line}
 use Rattle.trace_text.specs.declared.line.Line.TheVariants.{Blank, Space, File, Act, Fold, Finish, Now}
 

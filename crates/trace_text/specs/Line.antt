@@ -1,13 +1,13 @@
 -- What a line of a trace says.
-use Rattle.std.specs.Prelude.{ℕ, ◌+◌, ◌-◌, ◌*◌, Bool, false, ◌&&◌, List, [], ◌∷◌, Option, None, Some, if◌then◌else◌, ◌==◌, nat_lt, nat_le, codes}
+use Rattle.std.specs.Prelude.{ℕ, ◌+◌, ◌-◌, ◌*◌, Bool, false, ◌&&◌, List, [], ◌∷◌, Option, None, Some}
+use Rattle.std.specs.Prelude.{if◌then◌else◌, ◌==◌, nat_lt, nat_le, codes}
 use Rattle.std.specs.Str.{bytes_eq}
 use Rattle.std.specs.List.{list_all}
 use Rattle.std.specs.Io.BufRead.{ends_with_byte, strip_last}
 use Rattle.vm_base.specs.declared.rights.Mode.{Mode}
 use Rattle.vm_base.specs.declared.rights.Mode.TheVariants.{R, W, RW}
 use Rattle.trace_text.specs.Words.{Word, byte, words_of, front_word}
-use Rattle.trace_text.specs.Number.{number_of}
-use Rattle.trace_text.specs.Request.{◌>>=◌, ended, byte_of, request_of}
+use Rattle.trace_text.specs.Request.{◌>>=◌, ended, front_byte, front_number, request_of}
 use Rattle.trace_text.specs.Action.{action_of, page_alone}
 use Rattle.trace_text.specs.declared.line.Line.{Line}
 use Rattle.trace_text.specs.declared.line.Line.TheVariants.{Blank, Space, File, Act, Fold, Finish, Now}
@@ -31,16 +31,14 @@ begins_with_file words = begins_with (codes "file") words
 unfoldable pub calls_of : ℕ → ℕ → List Word → Option Line
 calls_of cores frames [] = Some (Space cores frames 4096)
 calls_of cores frames (w ∷ ws) = do
-  calls ← number_of w
-  ended ws (Space cores frames calls)
+  calls ← front_number (w ∷ ws)
+  ended calls.1 (Space cores frames calls.0)
 
 unfoldable pub space_of : List Word → Option Line
 space_of words = do
-  first ← front_word words
-  cores ← number_of first.0
-  second ← front_word first.1
-  frames ← number_of second.0
-  calls_of cores frames second.1
+  cores ← front_number words
+  frames ← front_number cores.1
+  calls_of cores.0 frames.0 frames.1
 
 abbrev pub mode_of : Word → Option Mode
 mode_of word = if bytes_eq word (codes "r") then Some R
@@ -50,19 +48,16 @@ mode_of word = if bytes_eq word (codes "r") then Some R
 -- LEN and SEED, as the last words
 unfoldable pub contents_of : ℕ → Mode → List Word → Option Line
 contents_of number mode words = do
-  third ← front_word words
-  len ← number_of third.0
-  fourth ← front_word third.1
-  seed ← byte_of fourth.0
-  ended fourth.1 (File number mode len seed)
+  len ← front_number words
+  seed ← front_byte len.1
+  ended seed.1 (File number mode len.0 seed.0)
 
 unfoldable pub file_of : List Word → Option Line
 file_of words = do
-  first ← front_word words
-  number ← number_of first.0
-  second ← front_word first.1
+  number ← front_number words
+  second ← front_word number.1
   mode ← mode_of second.0
-  contents_of number mode second.1
+  contents_of number.0 mode second.1
 
 -- a number of one digit, and of two without a leading zero
 abbrev pub one_digit : ℕ → Option ℕ

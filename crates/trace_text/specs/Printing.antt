@@ -6,7 +6,8 @@ use Rattle.vm_base.specs.declared.replies.Errno.{Errno}
 use Rattle.vm_base.specs.declared.replies.Errno.TheVariants.{EINVAL, ENOMEM, EACCES, EBADF, EOVERFLOW}
 use Rattle.vm_base.specs.declared.replies.SegvCode.TheVariants.{MapErr, AccErr}
 use Rattle.vm_base.specs.declared.replies.Reply.{Reply}
-use Rattle.vm_base.specs.declared.replies.Reply.TheVariants.{Mapped, Done, Byte, Refused, Segv, Bus, NoFrame, NoMemory}
+use Rattle.vm_base.specs.declared.replies.Reply.TheVariants.{Mapped, Done, Byte, Refused, Segv, Bus}
+use Rattle.vm_base.specs.declared.replies.Reply.TheVariants.{NoFrame, NoMemory}
 
 -- lower case digits in base 16, the highest first and not zero, but for zero itself
 abbrev pub hexadecimal : ℕ → List ℕ

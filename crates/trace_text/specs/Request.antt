@@ -1,10 +1,12 @@
 -- What the words of a request say.
-use Rattle.std.specs.Prelude.{ℕ, Bool, true, false, not, ◌&&◌, List, [], ◌∷◌, Option, None, Some, if◌then◌else◌, ◌==◌, nat_lt, codes, option_and_then}
+use Rattle.std.specs.Prelude.{ℕ, Bool, true, false, not, ◌&&◌, List, [], ◌∷◌, Option, None, Some}
+use Rattle.std.specs.Prelude.{if◌then◌else◌, ◌==◌, nat_lt, codes, option_and_then}
 use Rattle.std.specs.Str.{bytes_eq}
 use Rattle.vm_base.specs.declared.rights.Prot.{Prot}
 use Rattle.vm_base.specs.declared.requests.Flags.{Flags}
 use Rattle.vm_base.specs.declared.requests.Request.{Request}
-use Rattle.vm_base.specs.declared.requests.Request.TheVariants.{Mmap, Munmap, Mprotect, Load, Store, Fetch}
+use Rattle.vm_base.specs.declared.requests.Request.TheVariants.{Mmap, Munmap, Mprotect, Load, Store}
+use Rattle.vm_base.specs.declared.requests.Request.TheVariants.{Fetch}
 use Rattle.trace_text.specs.Words.{Word, byte, front_word}
 use Rattle.trace_text.specs.Number.{number_of}
 
@@ -17,6 +19,13 @@ None >>= f = None
 abbrev pub ended : {A : Type 0} → List Word → A → Option A
 ended [] x = Some x
 ended (w ∷ ws) x = None
+
+-- the number that the first word spells, and the words after it
+unfoldable pub front_number : List Word → Option (ℕ × List Word)
+front_number words = do
+  first ← front_word words
+  n ← number_of first.0
+  Some (n, first.1)
 
 -- a right's letter, or a dash where it isn't given
 abbrev pub mark_of : ℕ → ℕ → Option Bool
@@ -35,19 +44,17 @@ prot_of (r ∷ w ∷ x ∷ []) = do
   Some (record { read = read; write = write; exec = exec })
 prot_of (r ∷ w ∷ x ∷ y ∷ ys) = None
 
--- a number up to 255
-abbrev pub byte_of : Word → Option ℕ
-byte_of w = do
-  n ← number_of w
-  if nat_lt 255 n then None else Some n
+-- a number up to 255, and the words after it
+unfoldable pub front_byte : List Word → Option (ℕ × List Word)
+front_byte words = do
+  number ← front_number words
+  if nat_lt 255 number.0 then None else Some number
 
 unfoldable pub munmap_of : List Word → Option Request
 munmap_of words = do
-  first ← front_word words
-  addr ← number_of first.0
-  second ← front_word first.1
-  len ← number_of second.0
-  ended second.1 (Munmap addr len)
+  addr ← front_number words
+  len ← front_number addr.1
+  ended len.1 (Munmap addr.0 len.0)
 
 -- the protection, as the last word
 unfoldable pub protected_of : ℕ → ℕ → List Word → Option Request
@@ -58,31 +65,25 @@ protected_of addr len words = do
 
 unfoldable pub mprotect_of : List Word → Option Request
 mprotect_of words = do
-  first ← front_word words
-  addr ← number_of first.0
-  second ← front_word first.1
-  len ← number_of second.0
-  protected_of addr len second.1
+  addr ← front_number words
+  len ← front_number addr.1
+  protected_of addr.0 len.0 len.1
 
 unfoldable pub load_of : List Word → Option Request
 load_of words = do
-  addr ← front_word words
-  a ← number_of addr.0
-  ended addr.1 (Load a)
+  addr ← front_number words
+  ended addr.1 (Load addr.0)
 
 unfoldable pub store_of : List Word → Option Request
 store_of words = do
-  addr ← front_word words
-  a ← number_of addr.0
-  value ← front_word addr.1
-  b ← byte_of value.0
-  ended value.1 (Store a b)
+  addr ← front_number words
+  value ← front_byte addr.1
+  ended value.1 (Store addr.0 value.0)
 
 unfoldable pub fetch_of : List Word → Option Request
 fetch_of words = do
-  addr ← front_word words
-  a ← number_of addr.0
-  ended addr.1 (Fetch a)
+  addr ← front_number words
+  ended addr.1 (Fetch addr.0)
 
 -- no letter of flags so far
 abbrev pub no_flags : Flags
@@ -108,22 +109,19 @@ flags_of w = if bytes_eq w (codes "-") then Some no_flags else flags_from no_fla
 unfoldable pub backed_of : ℕ → ℕ → Prot → Flags → List Word → Option Request
 backed_of addr len prot flags [] = if flags.anon then Some (Mmap addr len prot flags 0 0) else None
 backed_of addr len prot flags (w ∷ ws) = do
-  file ← number_of w
-  second ← front_word ws
-  off ← number_of second.0
-  ended second.1 (Mmap addr len prot flags file off)
+  file ← front_number (w ∷ ws)
+  off ← front_number file.1
+  ended off.1 (Mmap addr len prot flags file.0 off.0)
 
 unfoldable pub mmap_of : List Word → Option Request
 mmap_of words = do
-  first ← front_word words
-  addr ← number_of first.0
-  second ← front_word first.1
-  len ← number_of second.0
-  third ← front_word second.1
+  addr ← front_number words
+  len ← front_number addr.1
+  third ← front_word len.1
   prot ← prot_of third.0
   fourth ← front_word third.1
   flags ← flags_of fourth.0
-  backed_of addr len prot flags fourth.1
+  backed_of addr.0 len.0 prot flags fourth.1
 
 unfoldable pub request_of : List Word → Option Request
 request_of words = do

@@ -37,7 +37,7 @@ pub enum Action {
 }
 
 // The number that is the last word.
-#[tactic(auto, using(crate::proofs::FrontLemmas::alone_by), unfolding(crate::specs::Action::number_alone))]
+#[tactic(auto, unfolding(crate::specs::Action::number_alone))]
 fn read_number_alone(args: &[u8]) -> Option<u64>
     ensures { result ≡ number_alone (words_of args.now) }
 {

@@ -4,8 +4,7 @@ ghost use Rattle.trace_text.specs.Words.{words_of};
 ghost use Rattle.trace_text.specs.Line.{contents_of, file_of, mode_of};
 
 use crate::line::Line;
-use crate::number::read_number;
-use crate::request::read_byte;
+use crate::number::{next_byte, next_number};
 use crate::words::next_word;
 use vm_base::Mode;
 
@@ -29,10 +28,8 @@ fn read_mode(word: &[u8]) -> Option<Mode>
 fn read_contents(number: u64, mode: Mode, args: &[u8]) -> Option<Line>
     ensures { result ≡ contents_of number mode (words_of args.now) }
 {
-    let (len, rest) = next_word(args)?;
-    let len = read_number(len)?;
-    let (seed, rest) = next_word(rest)?;
-    let seed = read_byte(seed)?;
+    let (len, rest) = next_number(args)?;
+    let (seed, rest) = next_byte(rest)?;
     if next_word(rest).is_some() {
         return None;
     }
@@ -50,8 +47,7 @@ fn read_contents(number: u64, mode: Mode, args: &[u8]) -> Option<Line>
 pub fn read_file(args: &[u8]) -> Option<Line>
     ensures { result ≡ file_of (words_of args.now) }
 {
-    let (number, rest) = next_word(args)?;
-    let number = read_number(number)?;
+    let (number, rest) = next_number(args)?;
     let (mode, rest) = next_word(rest)?;
     let mode = read_mode(mode)?;
     read_contents(number, mode, rest)

@@ -152,7 +152,9 @@ fn read_words(bytes: &[u8]) -> Option<Line>
 }
 
 /// What a line of printable bytes says, without its newline; `None` where it is a bad
-/// line. A line whose first byte is `#` is a comment.
+/// line. A line whose first byte is `#` is a comment. It isn't inlined: its caller would copy
+/// what the line says piece by piece.
+#[inline(never)]
 pub fn read_line(bytes: &[u8]) -> Option<Line>
     ensures { result ≡ line_of bytes.now }
 {

@@ -1,51 +1,45 @@
 //! Numbers in a trace: decimal digits, or `0x` and hexadecimal digits, below 2^64.
 ghost use Rattle.std.specs.Prelude.{◌≡◌, ◌^◌, ◌<◌, ◌≤◌, ◌∷◌, IfSome, Some, length, option_map, take};
 ghost use Rattle.trace_text.specs.Number.{digit_of, value_from, below_word, number_of};
-ghost use Rattle.trace_text.specs.Front.{EndsValue, front_number};
+ghost use Rattle.trace_text.specs.Front.{EndsValue};
+ghost use Rattle.trace_text.specs.Request.{front_byte, front_number};
 ghost use Rattle.trace_text.specs.Words.{words_of};
 
 use crate::words::{next_word, trimmed};
+
+// What each byte stands for as a digit, in any base up to 16; 255 where it is none.
+const DIGITS: [u8; 256] = [
+    255, 255, 255, 255, 255, 255, 255, 255, 255, 255, 255, 255, 255, 255, 255, 255, 255, 255, 255,
+    255, 255, 255, 255, 255, 255, 255, 255, 255, 255, 255, 255, 255, 255, 255, 255, 255, 255, 255,
+    255, 255, 255, 255, 255, 255, 255, 255, 255, 255, 0, 1, 2, 3, 4, 5, 6, 7, 8, 9, 255, 255, 255,
+    255, 255, 255, 255, 10, 11, 12, 13, 14, 15, 255, 255, 255, 255, 255, 255, 255, 255, 255, 255,
+    255, 255, 255, 255, 255, 255, 255, 255, 255, 255, 255, 255, 255, 255, 255, 255, 10, 11, 12, 13,
+    14, 15, 255, 255, 255, 255, 255, 255, 255, 255, 255, 255, 255, 255, 255, 255, 255, 255, 255,
+    255, 255, 255, 255, 255, 255, 255, 255, 255, 255, 255, 255, 255, 255, 255, 255, 255, 255, 255,
+    255, 255, 255, 255, 255, 255, 255, 255, 255, 255, 255, 255, 255, 255, 255, 255, 255, 255, 255,
+    255, 255, 255, 255, 255, 255, 255, 255, 255, 255, 255, 255, 255, 255, 255, 255, 255, 255, 255,
+    255, 255, 255, 255, 255, 255, 255, 255, 255, 255, 255, 255, 255, 255, 255, 255, 255, 255, 255,
+    255, 255, 255, 255, 255, 255, 255, 255, 255, 255, 255, 255, 255, 255, 255, 255, 255, 255, 255,
+    255, 255, 255, 255, 255, 255, 255, 255, 255, 255, 255, 255, 255, 255, 255, 255, 255, 255, 255,
+    255, 255, 255, 255, 255, 255, 255, 255, 255, 255, 255, 255, 255, 255, 255, 255, 255, 255, 255,
+    255, 255, 255,
+];
 
 // What a digit stands for, in any base up to 16.
 #[inline(always)]
 fn digit(c: u8) -> Option<u64>
     ensures { result ≡ digit_of c }
 {
-    let decimal = c.wrapping_sub(b'0');
-    if decimal < 10 {
-        return Some(u64::from(decimal));
+    let value = DIGITS[usize::from(c)];
+    if value < 16 {
+        Some(u64::from(value))
+    } else {
+        None
     }
-    let lower = c.wrapping_sub(b'a');
-    if lower < 6 {
-        return Some(u64::from(lower) + 10);
-    }
-    let upper = c.wrapping_sub(b'A');
-    if upper < 6 {
-        return Some(u64::from(upper) + 10);
-    }
-    None
-}
-
-// The value of up to 16 digits, one or more, whose base is no greater than 16: it is below 2^64.
-#[inline(always)]
-fn short_value(digits: &[u8], base: u64) -> Option<u64>
-    requires base { base ≤ 16 }
-    requires short { length digits.now ≤ 16 }
-    ensures { result ≡ below_word (value_from base 0 digits.now) }
-{
-    let mut n = 0u64;
-    for c in digits {
-        let d = digit(*c)?;
-        if d >= base {
-            return None;
-        }
-        n = n * base + d;
-    }
-    Some(n)
 }
 
 // The value of digits, one or more, below 2^64.
-fn long_value(digits: &[u8], base: u64) -> Option<u64>
+fn value(digits: &[u8], base: u64) -> Option<u64>
     requires { 1 < base }
     ensures { result ≡ below_word (value_from base 0 digits.now) }
 {
@@ -58,20 +52,6 @@ fn long_value(digits: &[u8], base: u64) -> Option<u64>
         n = n.checked_mul(base)?.checked_add(d)?;
     }
     Some(n)
-}
-
-// The value of digits, one or more, below 2^64: without a test for what is too great
-// where they are few.
-#[inline(always)]
-fn value(digits: &[u8], base: u64) -> Option<u64>
-    requires { 1 < base }
-    ensures { result ≡ below_word (value_from base 0 digits.now) }
-{
-    if base <= 16 && digits.len() <= 16 {
-        short_value(digits, base)
-    } else {
-        long_value(digits, base)
-    }
 }
 
 /// The number that a word spells.
@@ -138,8 +118,20 @@ fn hexadecimal_digits(word: &[u8]) -> Option<&[u8]>
     }
 }
 
+// The number that the first word spells, and the bytes after it, however many digits it has.
+#[inline(never)]
+#[tactic(auto, unfolding(crate::specs::Request::front_number))]
+fn next_long_number(bytes: &[u8]) -> Option<(u64, &[u8])>
+    ensures { option_map (λ f. (f.0, words_of f.1.now)) result ≡ front_number (words_of bytes.now) }
+{
+    let (word, rest) = next_word(bytes)?;
+    let number = read_number(word)?;
+    Some((number, rest))
+}
+
 /// The number that the first word spells, and the bytes after it. Up to 16 digits are
 /// read once, from left to right.
+#[inline(always)]
 pub fn next_number(bytes: &[u8]) -> Option<(u64, &[u8])>
     ensures { option_map (λ f. (f.0, words_of f.1.now)) result ≡ front_number (words_of bytes.now) }
 {
@@ -151,7 +143,18 @@ pub fn next_number(bytes: &[u8]) -> Option<(u64, &[u8])>
     if short.is_some() {
         return short;
     }
-    let (word, rest) = next_word(word)?;
-    let number = read_number(word)?;
-    Some((number, rest))
+    next_long_number(word)
+}
+
+/// The number up to 255 that the first word spells, and the bytes after it.
+#[inline(always)]
+#[tactic(auto, unfolding(crate::specs::Request::front_byte))]
+pub fn next_byte(bytes: &[u8]) -> Option<(u8, &[u8])>
+    ensures { option_map (λ f. (f.0, words_of f.1.now)) result ≡ front_byte (words_of bytes.now) }
+{
+    let (number, rest) = next_number(bytes)?;
+    if number > 255 {
+        return None;
+    }
+    Some((number as u8, rest))
 }

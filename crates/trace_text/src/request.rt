@@ -1,12 +1,11 @@
 //! Requests as words: `mmap`, `munmap`, `mprotect`, `load`, `store` and `fetch`.
 ghost use Rattle.std.specs.Prelude.{◌≡◌, ◌<◌, ◌≤◌, ◌==◌, ◌++◌, IfSome, codes, option_map, length};
 ghost use Rattle.trace_text.specs.Words.{words_of};
-ghost use Rattle.trace_text.specs.Request.{backed_of, byte_of, fetch_of, flag_more, flags_of, load_of};
-ghost use Rattle.trace_text.specs.Request.{mark_of, mmap_of, mprotect_of, munmap_of, prot_of};
-ghost use Rattle.trace_text.specs.Request.{protected_of, request_of, store_of};
-ghost use Rattle.trace_text.specs.Front.{stored_of};
+ghost use Rattle.trace_text.specs.Request.{backed_of, fetch_of, flag_more, flags_of, load_of, mark_of};
+ghost use Rattle.trace_text.specs.Request.{mmap_of, mprotect_of, munmap_of, prot_of, protected_of};
+ghost use Rattle.trace_text.specs.Request.{request_of, store_of};
 
-use crate::number::{next_number, read_number};
+use crate::number::{next_byte, next_number};
 use crate::words::{next_word, trimmed};
 use vm_base::{Flags, Prot, Request};
 
@@ -77,23 +76,12 @@ fn read_flags(word: &[u8]) -> Option<Flags>
     Some(flags)
 }
 
-/// The number up to 255 that a word spells.
-pub fn read_byte(word: &[u8]) -> Option<u8>
-    ensures { result ≡ byte_of word.now }
-{
-    let n = read_number(word)?;
-    if n > 255 {
-        return None;
-    }
-    Some(n as u8)
-}
-
 // FILE and OFF, which only a mapping of zero bytes may leave out.
 #[tactic(auto, unfolding(crate::specs::Request::backed_of))]
 fn read_backing(addr: u64, len: u64, prot: Prot, flags: Flags, args: &[u8]) -> Option<Request>
     ensures { result ≡ backed_of addr len prot flags (words_of args.now) }
 {
-    let Some((file, rest)) = next_word(args) else {
+    if next_word(args).is_none() {
         if flags.anon {
             return Some(Request::Mmap {
                 addr,
@@ -105,10 +93,9 @@ fn read_backing(addr: u64, len: u64, prot: Prot, flags: Flags, args: &[u8]) -> O
             });
         }
         return None;
-    };
-    let file = read_number(file)?;
-    let (off, rest) = next_word(rest)?;
-    let off = read_number(off)?;
+    }
+    let (file, rest) = next_number(args)?;
+    let (off, rest) = next_number(rest)?;
     if next_word(rest).is_some() {
         return None;
     }
@@ -126,10 +113,8 @@ fn read_backing(addr: u64, len: u64, prot: Prot, flags: Flags, args: &[u8]) -> O
 fn read_mmap(args: &[u8]) -> Option<Request>
     ensures { result ≡ mmap_of (words_of args.now) }
 {
-    let (addr, rest) = next_word(args)?;
-    let addr = read_number(addr)?;
-    let (len, rest) = next_word(rest)?;
-    let len = read_number(len)?;
+    let (addr, rest) = next_number(args)?;
+    let (len, rest) = next_number(rest)?;
     let (prot, rest) = next_word(rest)?;
     let prot = read_prot(prot)?;
     let (flags, rest) = next_word(rest)?;
@@ -141,10 +126,8 @@ fn read_mmap(args: &[u8]) -> Option<Request>
 fn read_munmap(args: &[u8]) -> Option<Request>
     ensures { result ≡ munmap_of (words_of args.now) }
 {
-    let (addr, rest) = next_word(args)?;
-    let addr = read_number(addr)?;
-    let (len, rest) = next_word(rest)?;
-    let len = read_number(len)?;
+    let (addr, rest) = next_number(args)?;
+    let (len, rest) = next_number(rest)?;
     if next_word(rest).is_some() {
         return None;
     }
@@ -168,14 +151,13 @@ fn read_protected(addr: u64, len: u64, args: &[u8]) -> Option<Request>
 fn read_mprotect(args: &[u8]) -> Option<Request>
     ensures { result ≡ mprotect_of (words_of args.now) }
 {
-    let (addr, rest) = next_word(args)?;
-    let addr = read_number(addr)?;
-    let (len, rest) = next_word(rest)?;
-    let len = read_number(len)?;
+    let (addr, rest) = next_number(args)?;
+    let (len, rest) = next_number(rest)?;
     read_protected(addr, len, rest)
 }
 
-#[tactic(auto, using(crate::proofs::FrontLemmas::load_by), unfolding(crate::specs::Request::load_of))]
+#[inline(always)]
+#[tactic(auto, unfolding(crate::specs::Request::load_of))]
 fn read_load(args: &[u8]) -> Option<Request>
     ensures { result ≡ load_of (words_of args.now) }
 {
@@ -186,33 +168,25 @@ fn read_load(args: &[u8]) -> Option<Request>
     Some(Request::Load { addr })
 }
 
-// The byte, as the last word.
-#[tactic(auto, unfolding(crate::specs::Front::stored_of))]
-fn read_stored(addr: u64, args: &[u8]) -> Option<Request>
-    ensures { result ≡ stored_of addr (words_of args.now) }
+#[inline(always)]
+#[tactic(auto, unfolding(crate::specs::Request::store_of))]
+fn read_store(args: &[u8]) -> Option<Request>
+    ensures { result ≡ store_of (words_of args.now) }
 {
-    let (value, rest) = next_word(args)?;
-    let byte = read_byte(value)?;
+    let (addr, rest) = next_number(args)?;
+    let (byte, rest) = next_byte(rest)?;
     if next_word(rest).is_some() {
         return None;
     }
     Some(Request::Store { addr, byte })
 }
 
-#[tactic(auto, using(crate::proofs::FrontLemmas::store_by), unfolding(crate::specs::Request::store_of))]
-fn read_store(args: &[u8]) -> Option<Request>
-    ensures { result ≡ store_of (words_of args.now) }
-{
-    let (addr, rest) = next_number(args)?;
-    read_stored(addr, rest)
-}
-
+#[inline(always)]
 #[tactic(auto, unfolding(crate::specs::Request::fetch_of))]
 fn read_fetch(args: &[u8]) -> Option<Request>
     ensures { result ≡ fetch_of (words_of args.now) }
 {
-    let (addr, rest) = next_word(args)?;
-    let addr = read_number(addr)?;
+    let (addr, rest) = next_number(args)?;
     if next_word(rest).is_some() {
         return None;
     }
@@ -237,6 +211,61 @@ fn behind_store(bytes: &[u8]) -> Option<&[u8]>
 {
     match bytes {
         [b's', b't', b'o', b'r', b'e', b' ', args @ ..] => Some(args),
+        _ => None,
+    }
+}
+
+// What stands behind `fetch` and a space.
+#[inline(always)]
+fn behind_fetch(bytes: &[u8]) -> Option<&[u8]>
+    ensures { IfSome result (λ args. bytes.now ≡ codes "fetch " ++ args.now) }
+{
+    match bytes {
+        [b'f', b'e', b't', b'c', b'h', b' ', args @ ..] => Some(args),
+        _ => None,
+    }
+}
+
+// What stands behind `mmap` and a space.
+#[inline(always)]
+fn behind_mmap(bytes: &[u8]) -> Option<&[u8]>
+    ensures { IfSome result (λ args. bytes.now ≡ codes "mmap " ++ args.now) }
+{
+    match bytes {
+        [b'm', b'm', b'a', b'p', b' ', args @ ..] => Some(args),
+        _ => None,
+    }
+}
+
+// What stands behind `munmap` and a space.
+#[inline(always)]
+fn behind_munmap(bytes: &[u8]) -> Option<&[u8]>
+    ensures { IfSome result (λ args. bytes.now ≡ codes "munmap " ++ args.now) }
+{
+    match bytes {
+        [b'm', b'u', b'n', b'm', b'a', b'p', b' ', args @ ..] => Some(args),
+        _ => None,
+    }
+}
+
+// What stands behind `mprotect` and a space.
+#[inline(always)]
+fn behind_mprotect(bytes: &[u8]) -> Option<&[u8]>
+    ensures { IfSome result (λ args. bytes.now ≡ codes "mprotect " ++ args.now) }
+{
+    match bytes {
+        [
+            b'm',
+            b'p',
+            b'r',
+            b'o',
+            b't',
+            b'e',
+            b'c',
+            b't',
+            b' ',
+            args @ ..,
+        ] => Some(args),
         _ => None,
     }
 }
@@ -267,8 +296,8 @@ fn read_any(words: &[u8]) -> Option<Request>
 
 /// The request that the words say, its name first; `None` where they say none. Addresses, lengths and
 /// offsets are in bytes. Nothing but the form is tested: what a request asks for may still be refused.
-/// The commonest are known by the bytes that they begin with, and their names aren't looked for.
-#[tactic(auto, using(crate::proofs::FrontLemmas::load_named, crate::proofs::FrontLemmas::store_named))]
+/// Most are known by the bytes that they begin with, and their names aren't looked for.
+#[inline(always)]
 pub fn read_request(words: &[u8]) -> Option<Request>
     ensures { result ≡ request_of (words_of words.now) }
 {
@@ -278,6 +307,18 @@ pub fn read_request(words: &[u8]) -> Option<Request>
     }
     if let Some(args) = behind_store(bytes) {
         return read_store(args);
+    }
+    if let Some(args) = behind_fetch(bytes) {
+        return read_fetch(args);
+    }
+    if let Some(args) = behind_mmap(bytes) {
+        return read_mmap(args);
+    }
+    if let Some(args) = behind_munmap(bytes) {
+        return read_munmap(args);
+    }
+    if let Some(args) = behind_mprotect(bytes) {
+        return read_mprotect(args);
     }
     read_any(bytes)
 }

@@ -4,7 +4,7 @@ ghost use Rattle.trace_text.specs.Words.{words_of};
 ghost use Rattle.trace_text.specs.Line.{calls_of, space_of};
 
 use crate::line::Line;
-use crate::number::read_number;
+use crate::number::next_number;
 use crate::words::next_word;
 
 /// How many calls a space may begin where the line leaves it out.
@@ -14,14 +14,14 @@ pub const DEFAULT_CALLS: u64 = 4096;
 fn read_calls(cores: u64, frames: u64, args: &[u8]) -> Option<Line>
     ensures { result ≡ calls_of cores frames (words_of args.now) }
 {
-    let Some((calls, rest)) = next_word(args) else {
+    if next_word(args).is_none() {
         return Some(Line::Space {
             cores,
             frames,
             calls: DEFAULT_CALLS,
         });
-    };
-    let calls = read_number(calls)?;
+    }
+    let (calls, rest) = next_number(args)?;
     if next_word(rest).is_some() {
         return None;
     }
@@ -38,9 +38,7 @@ fn read_calls(cores: u64, frames: u64, args: &[u8]) -> Option<Line>
 pub fn read_space(args: &[u8]) -> Option<Line>
     ensures { result ≡ space_of (words_of args.now) }
 {
-    let (cores, rest) = next_word(args)?;
-    let cores = read_number(cores)?;
-    let (frames, rest) = next_word(rest)?;
-    let frames = read_number(frames)?;
+    let (cores, rest) = next_number(args)?;
+    let (frames, rest) = next_number(rest)?;
     read_calls(cores, frames, rest)
 }

@@ -39,6 +39,7 @@ pub fn trimmed(bytes: &[u8]) -> &[u8]
 }
 
 /// The first word, and the bytes after it.
+#[inline(always)]
 pub fn next_word(bytes: &[u8]) -> Option<(&[u8], &[u8])>
     ensures { option_map (λ f. (f.0.now, words_of f.1.now)) result ≡ front_word (words_of bytes.now) }
 {

@@ -1,5 +1,6 @@
 //! What follows from the definitions in specs/.
-ghost use Rattle.vm_base.specs.Laws.{EachRequestHasOneFirstAnswer, EachRequestIsAnswered, FirstAnswersAreAnswers, PagesHaveBytes};
+ghost use Rattle.vm_base.specs.Laws.{EachRequestHasOneFirstAnswer, EachRequestIsAnswered};
+ghost use Rattle.vm_base.specs.Laws.{FirstAnswersAreAnswers, PagesHaveBytes};
 
 /// In any state of the plain page map each request of a core has an answer by the first place,
 /// after the copy that is due before it, if one is. Two such answers in one state are the same one,

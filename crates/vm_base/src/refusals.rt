@@ -1,6 +1,7 @@
 //! Refusals of requests whose arguments are wrong, whatever is mapped.
 ghost use Rattle.std.specs.Prelude.{◌≡◌};
-ghost use Rattle.vm_base.specs.Refusals.{file_refusal, mmap_refusal, munmap_refusal, mprotect_refusal, refusal, is_one_kind, answer};
+ghost use Rattle.vm_base.specs.Refusals.{file_refusal, mmap_refusal, munmap_refusal, mprotect_refusal};
+ghost use Rattle.vm_base.specs.Refusals.{refusal, is_one_kind, answer};
 
 use crate::page::{is_page_start, pages};
 use crate::replies::{Errno, Reply};

@@ -2,6 +2,7 @@ mod Seeking
 pub mod Rooms
 mod Steps
 mod Absent
+mod OnePage
 pub mod Targets
 pub mod Readable
 pub mod Passed

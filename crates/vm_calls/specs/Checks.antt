@@ -7,11 +7,13 @@ use Rattle.vm_base.specs.declared.rights.Access.TheVariants.{Load, Store, Fetch}
 use Rattle.vm_base.specs.declared.rights.Mode.{Mode}
 use Rattle.vm_base.specs.declared.requests.Request.{Request}
 use Rattle.vm_base.specs.declared.requests.Request.TheVariants.{Mmap, Munmap, Mprotect}
-use Rattle.vm_base.specs.declared.requests.Request.TheVariants.{Load as LoadOf, Store as StoreOf, Fetch as FetchOf}
+use Rattle.vm_base.specs.declared.requests.Request.TheVariants.{Load as LoadOf, Store as StoreOf}
+use Rattle.vm_base.specs.declared.requests.Request.TheVariants.{Fetch as FetchOf}
 use Rattle.vm_base.specs.declared.replies.SegvCode.TheVariants.{MapErr}
 use Rattle.vm_base.specs.declared.replies.Reply.{Reply}
 use Rattle.vm_base.specs.declared.replies.Reply.TheVariants.{Segv}
-use Rattle.vm_base.specs.Pages.{is_page, page_of, offset_of, page_count, are_pages, pages_of, pages_from, window_of}
+use Rattle.vm_base.specs.Pages.{is_page, page_of, offset_of, page_count, are_pages, pages_of}
+use Rattle.vm_base.specs.Pages.{pages_from, window_of}
 use Rattle.vm_base.specs.Plain.{Plain, File, mode_of}
 use Rattle.vm_base.specs.Refusals.{refusal}
 use Rattle.vm_base.specs.Apply.{meta_of}

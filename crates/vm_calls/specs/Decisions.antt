@@ -116,3 +116,8 @@ abbrev pub Decides : (ℕ → Option File) → Slots → Goal → Decision → T
 Decides files s (To.Place place target) d = DecidesPlace s place target d
 Decides files s (To.Change change) d = DecidesChange files s change d
 Decides files s (To.Access touch) d = ⊥
+
+-- of a change of one page that has this, whatever the others have
+abbrev pub DecidesPage : (ℕ → Option File) → Change → Option PageInfo → Decision → Type 0
+DecidesPage files change info d =
+    (s : Slots) → s.info (range_of change).first ≡ info → DecidesChange files s change d

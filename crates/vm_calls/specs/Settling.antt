@@ -1,5 +1,6 @@
 -- What an access finds at its page, and what the plain page map answers there
-use Rattle.std.specs.Prelude.{◌≡◌, ℕ, ◌==◌, ◌&&◌, ◌||◌, Bool, true, false, not, if◌then◌else◌, Option, None, Some, is_some}
+use Rattle.std.specs.Prelude.{◌≡◌, ℕ, ◌==◌, ◌&&◌, ◌||◌, Bool, true, false, not, if◌then◌else◌, Option}
+use Rattle.std.specs.Prelude.{None, Some, is_some}
 use Rattle.vm_base.specs.declared.info.Back.{Back}
 use Rattle.vm_base.specs.declared.info.Back.TheVariants.{Anon, Shared, Private}
 use Rattle.vm_base.specs.declared.info.PageInfo.{PageInfo}
@@ -12,7 +13,8 @@ use Rattle.vm_base.specs.Rights.{is_allowed}
 use Rattle.vm_base.specs.Plain.{File, Entry, bytes_of}
 use Rattle.vm_base.specs.Apply.{byte_reply, is_anonymous}
 use Rattle.vm_calls.specs.declared.fault.Settled.{Settled}
-use Rattle.vm_calls.specs.declared.fault.Settled.TheVariants.{MapErr, AccErr, Bus, Has, Copies, Cached, Wants}
+use Rattle.vm_calls.specs.declared.fault.Settled.TheVariants.{MapErr, AccErr, Bus, Has, Copies, Cached}
+use Rattle.vm_calls.specs.declared.fault.Settled.TheVariants.{Wants}
 
 -- ---- what it finds
 

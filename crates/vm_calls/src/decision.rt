@@ -1,12 +1,17 @@
 //! The decision of a call that holds its pages.
-ghost use Rattle.std.specs.Prelude.{◌≡◌, ℕ, ◌+◌, ◌^◌, ◌<◌, ◌≤◌, ◌↔◌, IsTrue, true, Option};
+ghost use Rattle.std.specs.Prelude.{◌≡◌, ℕ, ◌+◌, ◌^◌, ◌<◌, ◌≤◌, ◌↔◌, IsTrue, IfErr, IfOk, true, Option};
 ghost use Rattle.vm_base.specs.Functions.{has};
 ghost use Rattle.vm_base.specs.Pages.{IsPageRange};
 ghost use Rattle.vm_base.specs.Apply.{HasPage, is_read_only};
+ghost use Rattle.vm_base.specs.Info.{is_recorded};
+ghost use Rattle.vm_base.specs.Cores.{members};
 ghost use Rattle.slot_lock.specs.declared.plan.Goal.TheVariants as GoalOf;
-ghost use Rattle.slot_lock.specs.Plan.{IsSoundGoal, IsSoundPlace, goal_range, target_range};
+ghost use Rattle.slot_lock.specs.Plan.{IsSoundGoal, IsSoundPlace, goal_range, range_of, target_range};
 ghost use Rattle.backing.specs.Files.{files_of};
-ghost use Rattle.vm_calls.specs.Decisions.{Decides, DecidesRun, DecidesWindow, DecidesPlace, DecidesProtect, Acts, IsReadable, IsNoAccess, IsSoundAct, entries, entry_of};
+ghost use Rattle.vm_calls.specs.declared.decision.Decision.TheVariants as DecisionOf;
+ghost use Rattle.vm_calls.specs.Decisions.{Decides, DecidesPage, DecidesRun, DecidesWindow};
+ghost use Rattle.vm_calls.specs.Decisions.{DecidesPlace, DecidesProtect, Acts, IsReadable, IsNoAccess};
+ghost use Rattle.vm_calls.specs.Decisions.{IsSoundAct, entries, entry_of};
 
 use backing::Objects;
 use slot_lock::{Change, Goal, Place, SlotRead, Target};
@@ -170,4 +175,38 @@ pub fn decide<M: SlotRead, A: Allocator>(map: &M, objects: &Objects<A>, goal: Go
         }
         Goal::Access(_) => unreachable!(),
     }
+}
+
+/// The cores that are recorded on a page that has this.
+fn recorded_on(info: Option<PageInfo>) -> CoreSet
+    ensures { (core : ℕ) → members result core ≡ is_recorded info core }
+{
+    match info {
+        Some(info) => info.cores,
+        None => CoreSet::empty(),
+    }
+}
+
+/// What `decide` decides of a change of one page, which has this: it is made, and these cores are
+/// recorded on the page, or it is refused.
+pub fn decide_page<A: Allocator>(
+    objects: &Objects<A>,
+    change: Change,
+    info: Option<PageInfo>,
+) -> Result<CoreSet, Errno>
+    requires one { (range_of change).end ≡ (range_of change).first + 1 }
+    ensures made { IfOk result (λ shoot. DecidesPage (files_of objects.now) change info
+        (DecisionOf.Act (range_of change) shoot)) }
+    ensures refused { IfErr result (λ errno. DecidesPage (files_of objects.now) change info
+        (DecisionOf.Refuse errno)) }
+{
+    if let Change::Protect { prot, .. } = change {
+        if info.is_none() {
+            return Err(Errno::ENOMEM);
+        }
+        if prot.write && is_read_only(objects, info) {
+            return Err(Errno::EACCES);
+        }
+    }
+    Ok(recorded_on(info))
 }

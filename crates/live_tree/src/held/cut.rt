@@ -1,5 +1,6 @@
 //! Held slots that are cut into smaller ones.
-ghost use Rattle.std.specs.Prelude.{◌≡◌, ℕ, ◌+◌, ◌<◌, ◌≤◌, ◌^◌, ◌↔◌, [], ◌∷◌, ◌++◌, List, Option, length, map, take, drop, All, IsTrue, IfSome, IfNone, IsSome};
+ghost use Rattle.std.specs.Prelude.{◌≡◌, ℕ, ◌+◌, ◌<◌, ◌≤◌, ◌^◌, ◌↔◌, [], ◌∷◌, ◌++◌, List, Option};
+ghost use Rattle.std.specs.Prelude.{length, map, take, drop, All, IsTrue, IfSome, IfNone, IsSome};
 ghost use Rattle.std.specs.List.{insert_slice};
 ghost use Rattle.std.specs.declared.sync.MutexGuard.{MutexGuard};
 ghost use Rattle.smallvec.specs.SmallVec.{HasRoomFor};

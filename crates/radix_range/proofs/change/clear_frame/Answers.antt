@@ -1,15 +1,11 @@
-use Rattle.std.proofs.Common.{◌≡◌, ◌∙◌, ap, refl, Some}
+use Rattle.std.proofs.Common.{◌∙◌, refl}
 use Rattle.vm_base.specs.Info.{info_without_frame}
-use Rattle.radix_node.specs.declared.edit.Edit.TheVariants.{Put, DropFrame}
-use Rattle.slot_lock.specs.Slots.{between}
-use Rattle.slot_lock.specs.RunLaws.{info_from_zero}
+use Rattle.radix_node.specs.declared.edit.Edit.TheVariants.{DropFrame}
 use Rattle.radix_range.specs.Tree.{tree_slots}
-use Rattle.radix_range.specs.Found.{edited_to}
 use Rattle.radix_range.proofs.Edits.{edited_one}
 use Rattle.radix_range.proofs.change.clear_frame.Goals as goal
 
 pub returns-clause-slots : goal.returns-clause-slots
 returns-clause-slots g c =
     let s = tree_slots c.args.root.now in
-    c.edit_range.ensures.slots ∙ ap (λ r. edited_to s r DropFrame) c.one_page.ensures
-    ∙ edited_one s c.args.page DropFrame (info_without_frame (s.info c.args.page)) refl
+    c.edit_one.ensures.slots ∙ edited_one s c.args.page DropFrame (info_without_frame (s.info c.args.page)) refl

@@ -1,13 +1,23 @@
 use Rattle.std.proofs.Common.{◌≡◌, ◌<◌, Some, inl, inr, arith, subst, sym, ap, ◌∙◌}
 use Rattle.machine_model.specs.Translating.{frame_reached, translated_by}
+use Rattle.machine_model.specs.Actions.{to}
 use Rattle.machine_laws.specs.Orderly.{answer_count}
 use Rattle.core_steps.specs.Parts.{parts}
 use Rattle.core_steps.specs.State.{world}
-use Rattle.core_steps.proofs.AccessAtOnce.{below_count, faults, hits, room, sound}
+use Rattle.core_steps.proofs.AccessAtOnce.{below_count, fault_reached, fault_replied, faults, faults_again, hits, room, sound}
 use Rattle.core_steps.proofs.engine.Engine.access_at_once.Goals as goal
 
 pub locking-requires : goal.locking-requires
 locking-requires g c = record { plan = sound _ c.args.core c.args.request c.args.touch c.requires; target = tt }
+
+pub locking-requires-in-Again : goal.locking-requires-in-Again
+locking-requires-in-Again g c = record { plan = sound _ c.args.core c.args.request c.args.touch c.requires; target = tt }
+
+pub make_fault-requires-clause-reached : goal.make_fault-requires-clause-reached
+make_fault-requires-clause-reached g c =
+    fault_reached _ c.args.core c.args.request c.args.touch c.requires (world g.M.SlotRead.slots c.number_call.new.self)
+    (parts c.translate.new.self).hardware c.number_call.ensures c.translate.ensures.after
+    (ap frame_reached (sym c.translate.ensures.value ∙ c.in-Fault.is))
 
 pub touch_byte-reply-requires-clause-frame : goal.touch_byte-reply-requires-clause-frame
 touch_byte-reply-requires-clause-frame g c =
@@ -26,13 +36,26 @@ log_reply-requires-clause-room g c =
     (subst (λ w. answer_count w.calls.log < w.made.calls) (sym c.number_call.ensures)
     (room _ c.args.core c.args.request c.args.touch c.requires))
 
-pub returns-in-Fault : goal.returns-in-Fault
-returns-in-Fault g c =
+pub returns-in-Untouched : goal.returns-in-Untouched
+returns-in-Untouched g c =
     let left =
-    faults _ c.args.core c.args.request c.args.touch c.requires (world g.M.SlotRead.slots c.number_call.new.self) (parts c.translate.new.self).hardware
-    c.number_call.ensures c.translate.ensures.after _ _ (ap frame_reached (sym c.translate.ensures.value ∙ c.in-Fault.is)) c.locking.ensures
-    c.go_to.ensures in
+    faults _ c.args.core c.args.request c.args.touch c.requires (world g.M.SlotRead.slots c.number_call.new.self)
+    (parts c.translate.new.self).hardware c.number_call.ensures c.translate.ensures.after _ _
+    (ap frame_reached (sym c.translate.ensures.value ∙ c.in-Fault.is)) c.locking.ensures
+    (c.go_to.ensures ∙ ap (to c.args.core c.locking.result) c.in-Untouched.ensures) in
     ((omega arith, left.0), left.1)
+
+pub returns-in-Again : goal.returns-in-Again
+returns-in-Again g c =
+    faults_again _ c.args.core c.args.request c.args.touch c.requires (world g.M.SlotRead.slots c.number_call.new.self)
+    (parts c.translate.new.self).hardware c.number_call.ensures c.translate.ensures.after
+    (ap frame_reached (sym c.translate.ensures.value ∙ c.in-Fault.is)) _ _ c.in-Again.steps _ c.in-Again.ensures c.locking-in-Again.ensures c.go_to-in-Again.ensures
+
+pub returns-in-Replied : goal.returns-in-Replied
+returns-in-Replied g c =
+    fault_replied _ c.args.core c.args.request c.args.touch c.requires (world g.M.SlotRead.slots c.number_call.new.self)
+    (parts c.translate.new.self).hardware c.number_call.ensures c.translate.ensures.after
+    (ap frame_reached (sym c.translate.ensures.value ∙ c.in-Fault.is)) (world g.M.SlotRead.slots c.make_fault.new.self) c.in-Replied.steps c.in-Replied.reply c.in-Replied.ensures
 
 pub returns-in-Hit : goal.returns-in-Hit
 returns-in-Hit g c =

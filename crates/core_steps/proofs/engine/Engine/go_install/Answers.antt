@@ -1,4 +1,4 @@
-use Rattle.std.proofs.Common.{refl, sym, ap, ◌∙◌}
+use Rattle.std.proofs.Common.{inl, refl, sym, ap, ◌∙◌}
 use Rattle.core_steps.specs.State.{world}
 use Rattle.slot_lock.specs.declared.plan.Plan.TheVariants.{Touch}
 use Rattle.machine_model.specs.declared.phase.Phase.TheVariants.{Install, Release}
@@ -18,7 +18,7 @@ pub set_leaf-requires-clause-valid : goal.set_leaf-requires-clause-valid
 set_leaf-requires-clause-valid g c = (sound_at _ c.args.core (Install c.args.touch) (Touch c.args.touch) c.requires (λ h. h)).page
 
 pub set_leaf-requires-clause-held : goal.set_leaf-requires-clause-held
-set_leaf-requires-clause-held g c = owns _ c.args.core (Install c.args.touch) c.requires c.args.touch.page (page_is c.args.touch)
+set_leaf-requires-clause-held g c = inl (owns _ c.args.core (Install c.args.touch) c.requires c.args.touch.page (page_is c.args.touch))
 
 pub set_leaf-requires-clause-alone : goal.set_leaf-requires-clause-alone
 set_leaf-requires-clause-alone g c = one_slot _ c.args.core (Install c.args.touch) c.args.touch c.requires refl

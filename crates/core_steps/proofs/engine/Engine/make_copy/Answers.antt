@@ -1,4 +1,4 @@
-use Rattle.std.proofs.Common.{◌<◌, refl, sym, subst, ap, ◌∙◌}
+use Rattle.std.proofs.Common.{◌<◌, inl, refl, sym, subst, ap, ◌∙◌}
 use Rattle.vm_base.specs.Info.{frame_of}
 use Rattle.slot_lock.specs.Slots.{HasMeta}
 use Rattle.machine_model.specs.declared.phase.Phase.TheVariants.{Install}
@@ -45,7 +45,7 @@ pub set_leaf-requires-clause-valid : goal.set_leaf-requires-clause-valid
 set_leaf-requires-clause-valid g c = (copy_alone (world g.M.SlotRead.slots c.args.self.now) c.args.core c.args.touch c.args.frame c.requires.at).valid
 
 pub set_leaf-requires-clause-held : goal.set_leaf-requires-clause-held
-set_leaf-requires-clause-held g c = (copy_alone (world g.M.SlotRead.slots c.args.self.now) c.args.core c.args.touch c.args.frame c.requires.at).held
+set_leaf-requires-clause-held g c = inl (copy_alone (world g.M.SlotRead.slots c.args.self.now) c.args.core c.args.touch c.args.frame c.requires.at).held
 
 pub set_leaf-requires-clause-alone : goal.set_leaf-requires-clause-alone
 set_leaf-requires-clause-alone g c = (copy_alone (world g.M.SlotRead.slots c.args.self.now) c.args.core c.args.touch c.args.frame c.requires.at).alone

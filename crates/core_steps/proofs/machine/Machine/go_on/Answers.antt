@@ -6,10 +6,10 @@ use Rattle.core_steps.proofs.machine.Machine.go_on.Goals as goal
 
 pub returns-in-Err-clause-err : goal.returns-in-Err-clause-err
 returns-in-Err-clause-err g c =
-    let few = c.slots_at_once-n.ensures.few in
-    let below : c.steps.n + c.slots_at_once-n.result < 2 ^ 40 = omega (arith, c.steps-test.true, few) in
-    λ was s. refused_at _ _ _ c.args.core (c.steps.n + c.slots_at_once-n.result) below
-    (steps_join _ _ _ c.args.core c.steps.n _ (c.steps.invariant.made was s) c.slots_at_once-n.ensures.steps) c.in-Err.ensures.step
+    let few = c.steps_at_once-n.ensures.few in
+    let below : c.steps.n + c.steps_at_once-n.result < 2 ^ 40 = omega (arith, c.steps-test.true, few) in
+    λ was s. refused_at _ _ _ c.args.core (c.steps.n + c.steps_at_once-n.result) below
+    (steps_join _ _ _ c.args.core c.steps.n _ (c.steps.invariant.made was s) c.steps_at_once-n.ensures.steps) c.in-Err.ensures.step
 
 pub returns-clause-ends : goal.returns-clause-ends
 returns-clause-ends g c =
@@ -22,18 +22,18 @@ returns-clause-legal g c = legal _ c.steps.self.reached
 
 pub returns-then-ne-clause-ends : goal.returns-then-ne-clause-ends
 returns-then-ne-clause-ends g c =
-    let few = c.slots_at_once-n.ensures.few in
-    let below : c.steps.n + c.slots_at_once-n.result < 2 ^ 40 = omega (arith, c.steps-test.true, few) in
+    let few = c.steps_at_once-n.ensures.few in
+    let below : c.steps.n + c.steps_at_once-n.result < 2 ^ 40 = omega (arith, c.steps-test.true, few) in
     let other : c.in-Ok.outcome ≢ Stepped = search rules in
-    λ was s. steps_end _ _ _ c.args.core (c.steps.n + c.slots_at_once-n.result) _ below other
-    (steps_join _ _ _ c.args.core c.steps.n _ (c.steps.invariant.made was s) c.slots_at_once-n.ensures.steps) c.in-Ok.ensures.step
+    λ was s. steps_end _ _ _ c.args.core (c.steps.n + c.steps_at_once-n.result) _ below other
+    (steps_join _ _ _ c.args.core c.steps.n _ (c.steps.invariant.made was s) c.steps_at_once-n.ensures.steps) c.in-Ok.ensures.step
 
 pub steps-preserved : goal.steps-preserved
 steps-preserved g c =
-    let few = c.slots_at_once-n.ensures.few in
+    let few = c.steps_at_once-n.ensures.few in
     let plain : c.in-Ok.outcome ≡ Stepped = search rules in
     record {
       few = omega (arith, c.steps-test.true, few);
-      made = λ was s. steps_more _ _ _ c.args.core (c.steps.n + c.slots_at_once-n.result) _ plain
-          (steps_join _ _ _ c.args.core c.steps.n _ (c.steps.invariant.made was s) c.slots_at_once-n.ensures.steps) c.in-Ok.ensures.step;
+      made = λ was s. steps_more _ _ _ c.args.core (c.steps.n + c.steps_at_once-n.result) _ plain
+          (steps_join _ _ _ c.args.core c.steps.n _ (c.steps.invariant.made was s) c.steps_at_once-n.ensures.steps) c.in-Ok.ensures.step;
     }

@@ -2,7 +2,7 @@ use Rattle.std.proofs.Common.{◌≡◌, ◌<◌, ◌≤◌, map, ap, sym, subst
 use Rattle.std.specs.Prelude.{All}
 use Rattle.slot_lock.specs.Plan.{range_of}
 use Rattle.live_tree.specs.Guards.{slot_of}
-use Rattle.slot_lock.specs.RunSlots.{changed}
+use Rattle.slot_lock.specs.Changes.{changed}
 use Rattle.live_tree.specs.Held.{CrossesNoEdge, HeldView}
 use Rattle.live_tree.specs.Shown.{shown}
 use Rattle.live_tree.proofs.Committed.{still_side_by_side}

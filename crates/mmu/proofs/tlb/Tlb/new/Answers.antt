@@ -1,7 +1,8 @@
-use Rattle.std.proofs.Common.{refl, sym, ap, ◌∙◌}
-use Rattle.mmu.specs.Tlb.{hashed}
-use Rattle.mmu.proofs.Empty.{get_or-replicate_default}
+use Rattle.std.proofs.Common.{replicate, sym, subst, map}
+use Rattle.mmu.specs.Fills.{filled_page, filled_older, AreChained}
+use Rattle.mmu.proofs.Chains.{none_chained}
 use Rattle.mmu.proofs.tlb.Tlb.new.Goals as goal
 
-pub invariant_of-result-clause-counted : goal.invariant_of-result-clause-counted
-invariant_of-result-clause-counted c = record { whole = refl; exact = λ h below. get_or-replicate_default 256 0 h ∙ ap (hashed h) (sym c.new.ensures) }
+pub invariant_of-result-clause-chained : goal.invariant_of-result-clause-chained
+invariant_of-result-clause-chained c =
+    subst (λ fs. AreChained (replicate 256 0) (map filled_page fs) (map filled_older fs)) (sym c.new.ensures) none_chained

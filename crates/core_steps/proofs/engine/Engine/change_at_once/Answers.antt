@@ -1,0 +1,25 @@
+use Rattle.std.proofs.Common.{arith}
+use Rattle.core_steps.proofs.ChangeAtOnce.{alone_by, first_page, page_change}
+use Rattle.core_steps.proofs.engine.Engine.change_at_once.Goals as goal
+
+pub free_page-requires : goal.free_page-requires
+free_page-requires g c =
+    rw c.range-range.ensures (let pages = first_page _ c.args.core c.args.change c.args.cursor c.requires.at in
+    let low = pages.low in let some = pages.some in let high = pages.high in (low, omega (arith, some, high)))
+
+pub refuse_at_once-requires : goal.refuse_at_once-requires
+refuse_at_once-requires g c = (
+  c.args.change,
+  c.in-Some.page,
+  page_change _ c.args.core c.args.change c.args.cursor c.range-range.result c.in-Some.page _ c.args.most c.requires.at c.range-range.ensures
+      c.if-range-ne1.false c.in-Some.ensures.some c.in-Err.ensures.refused c.requires.room c.if-most-lt-MADE.false,
+)
+
+pub make_at_once-requires-clause-change : goal.make_at_once-requires-clause-change
+make_at_once-requires-clause-change g c =
+    page_change _ c.args.core c.args.change c.args.cursor c.range-range.result c.in-Some.page _ c.args.most c.requires.at c.range-range.ensures
+    c.if-range-ne1.false c.in-Some.ensures.some c.in-Ok.ensures.made c.requires.room c.if-most-lt-MADE.false
+
+pub make_at_once-requires-clause-alone : goal.make_at_once-requires-clause-alone
+make_at_once-requires-clause-alone g c =
+    alone_by c.args.core c.in-Ok.shoot c.without.result c.without.ensures (c.is_empty.ensures.0 c.if-not-is_empty.false)

@@ -1,0 +1,10 @@
+use Rattle.core_steps.specs.State.{world}
+use Rattle.core_steps.proofs.FaultAtOnce.{failed, room}
+use Rattle.core_steps.proofs.engine.Engine.fail_at_once.Goals as goal
+
+pub log_at_once-requires-clause-room : goal.log_at_once-requires-clause-room
+log_at_once-requires-clause-room g c = room _ c.args.core c.args.touch c.requires.fault
+
+pub returns : goal.returns
+returns g c =
+    failed (world g.M.SlotRead.slots c.args.self.now) c.args.core c.args.touch c.requires.fault _ c.args.reply c.requires.fails c.log_at_once.ensures.log

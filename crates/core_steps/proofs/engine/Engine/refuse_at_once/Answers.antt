@@ -1,0 +1,8 @@
+use Rattle.core_steps.proofs.ChangeAtOnce.{refuses_at_once, room_to_log}
+use Rattle.core_steps.proofs.engine.Engine.refuse_at_once.Goals as goal
+
+pub reply_at_once-requires-clause-room : goal.reply_at_once-requires-clause-room
+reply_at_once-requires-clause-room g c = room_to_log _ c.args.core c.requires.0 c.requires.1 _ c.requires.2
+
+pub returns : goal.returns
+returns g c = refuses_at_once _ c.args.core c.requires.0 c.requires.1 c.args.errno c.requires.2 _ c.reply_at_once.ensures

@@ -1,0 +1,153 @@
+-- A fault whose page is a slot of its own that nobody holds: what it finds there, where the page's
+-- frame comes from, and what is left, there and after a change of such a page
+use Rattle.std.specs.Prelude.{◌≡◌, ℕ, ◌+◌, ◌<◌, ◌≤◌, ◌^◌, [], ◌∷◌, ◌++◌, Bool, true, false, Option}
+use Rattle.std.specs.Prelude.{None, Some, pos, ◌<ℤ◌}
+use Rattle.vm_base.specs.declared.info.Back.{Back}
+use Rattle.vm_base.specs.declared.info.Back.TheVariants.{Anon}
+use Rattle.vm_base.specs.declared.info.PageInfo.{PageInfo}
+use Rattle.vm_base.specs.declared.replies.Reply.{Reply}
+use Rattle.vm_base.specs.Functions.{put}
+use Rattle.vm_base.specs.Plain.{zeros}
+use Rattle.slot_lock.specs.declared.plan.Goal.TheVariants as To
+use Rattle.slot_lock.specs.declared.plan.Touch.{Touch}
+use Rattle.slot_lock.specs.Slots.{IsFreeSlot, with_info}
+use Rattle.vm_calls.specs.declared.fault.Settled.{Settled}
+use Rattle.vm_calls.specs.declared.fault.Settled.TheVariants as Found
+use Rattle.refcache.specs.Counts.{Counts, true_count}
+use Rattle.refcache.specs.Steps.{Takes, Begin, Inc, IsUnused}
+use Rattle.machine_model.specs.declared.log.Entry.TheVariants as EntryOf
+use Rattle.machine_model.specs.declared.phase.Phase.{Phase}
+use Rattle.machine_model.specs.declared.phase.Phase.TheVariants.{Answer, Try}
+use Rattle.machine_model.specs.Accesses.{IsLeastFree, after_finding, info_with_core}
+use Rattle.machine_model.specs.Actions.{after_reply, to}
+use Rattle.machine_model.specs.Holding.{page_of_touch}
+use Rattle.machine_model.specs.Locks.{locking}
+use Rattle.machine_model.specs.Step.{StepsTo, event_limit}
+use Rattle.machine_model.specs.Translating.{entry_of_page, with_table}
+use Rattle.machine_model.specs.World.{Memory, World}
+use Rattle.machine_sound.specs.Sound.{IsReached}
+use Rattle.core_steps.specs.declared.fault_at_once.FaultEnd.{FaultEnd}
+use Rattle.core_steps.specs.declared.fault_at_once.FaultEnd.TheVariants.{Untouched, Again, Replied}
+use Rattle.core_steps.specs.declared.fault_at_once.Source.{Source}
+use Rattle.core_steps.specs.declared.fault_at_once.Source.TheVariants.{Own, Cached, Free}
+
+-- the core's call is to lock the page of its access, which is a slot of its own that nobody holds,
+-- and all events of the fault can be counted
+pub record IsFault (w : World) (core : ℕ) (touch : Touch) : Type 0 where
+  pub reached : ∥ IsReached w ∥₁
+  pub here : core < w.made.cores
+  pub phase : w.calls.phase core ≡ locking (To.Access touch)
+  pub alone : IsFreeSlot w.slots touch.page
+  pub room : w.calls.events + 7 ≤ event_limit
+
+-- an access that finds this at its page is answered so
+abbrev pub IsFailure : Settled → Reply → Type 0
+IsFailure settled reply = (core : ℕ) (touch : Touch) (w : World)
+    → after_finding core touch settled w ≡ after_reply core (Some (page_of_touch touch)) reply w
+
+-- ---- where the page's frame comes from
+
+abbrev pub frame_from : Source → ℕ
+frame_from (Own f) = f
+frame_from (Cached f) = f
+frame_from (Free f) = f
+
+-- how many steps there are from the lock of the page up to the next try
+abbrev pub steps_from : Source → ℕ
+steps_from (Own f) = 4
+steps_from (Cached f) = 5
+steps_from (Free f) = 6
+
+-- the state in which the core's call is to lock the page of its access
+abbrev pub at_lock : ℕ → Touch → World → World
+at_lock core touch w = to core (locking (To.Access touch)) w
+
+-- an access that finds this at a page with this backing gets the frame from there
+abbrev pub IsSource : Settled → Back → (ℕ → Bool) → Source → Type 0
+IsSource settled back is_free (Own f) = settled ≡ Found.Has f
+IsSource settled back is_free (Cached f) = settled ≡ Found.Cached f
+IsSource settled back is_free (Free f) =
+    (settled ≡ Found.Wants) × (back ≡ Anon) × IsLeastFree is_free f
+
+-- the core can count the frame up
+pub record CanCount (counts : Counts) (core f : ℕ) : Type 0 where
+  pub here : core < counts.cores
+  pub object : f < counts.objects
+  pub used : pos 0 <ℤ true_count counts f
+  pub few : true_count counts f <ℤ pos (2 ^ 40)
+
+-- the frame can be taken, and its count can begin
+pub record CanBegin (m : Memory) (frames f : ℕ) : Type 0 where
+  pub here : f < frames
+  pub free : m.is_free f ≡ true
+  pub object : f < m.counts.objects
+  pub unused : IsUnused m.counts f
+
+abbrev pub CanTake : World → ℕ → Source → Type 0
+CanTake w core (Own f) = Unit {0}
+CanTake w core (Cached f) = CanCount w.memory.counts core f
+CanTake w core (Free f) = CanBegin w.memory w.made.frames f
+
+-- the memory once the frame is the page's: one of a file's page is counted up, and a free one is
+-- taken, has zeros and is counted once
+abbrev pub TakesFrom : Memory → ℕ → Source → Memory → Type 0
+TakesFrom m core (Own f) n = n ≡ m
+TakesFrom m core (Cached f) n =
+    (counts : Counts) × Takes m.counts (Inc core f) counts × (n ≡ record m { counts = counts })
+TakesFrom m core (Free f) n =
+    (counts : Counts) × Takes m.counts (Begin f 1) counts
+    × (n ≡ record m {
+      bytes = put m.bytes f zeros;
+      is_free = put m.is_free f false;
+      counts = counts;
+    })
+
+-- ---- what is left
+
+-- the page has this, with the core recorded, and the core's tables have its entry
+abbrev pub with_translation : ℕ → ℕ → PageInfo → World → World
+with_translation core page info w = record w {
+  slots = with_info w.slots page (info_with_core core (Some info));
+  hardware = with_table w.hardware core
+      (put (w.hardware.table core) page (entry_of_page w.memory.cached (Some info)));
+}
+
+-- so many events later the core's call is to try its access
+abbrev pub trying : ℕ → Touch → ℕ → World → World
+trying core touch n w =
+    to core (Try touch) (record w { calls = record w.calls { events = w.calls.events + n } })
+
+-- the core's call has this reply, which was logged at the event so many later, and at the next one
+-- the call let its page go: but for the core's phase,
+abbrev pub logged_later : ℕ → Reply → ℕ → World → World
+logged_later core reply n w = record w {
+  calls = record w.calls {
+    log = w.calls.log ++ EntryOf.Answer (w.calls.events + n) (w.calls.number core) core reply ∷ [];
+    events = w.calls.events + n + 1;
+  };
+}
+
+-- and with it
+abbrev pub replied : ℕ → Reply → ℕ → World → World
+replied core reply n w = to core (Answer reply) (logged_later core reply n w)
+
+-- from the lock of the page n steps lead to v, but for the core's phase, which would be this one and
+-- isn't written
+pub record MakesTo (w : World) (core : ℕ) (touch : Touch) (n : ℕ) (phase : Phase) (v : World)
+    : Type 0 where
+  pub few : n ≤ 7
+  pub steps : StepsTo (at_lock core touch w) core n (to core phase v)
+  pub cores : v.made.cores ≡ w.made.cores
+  pub phases : v.calls.phase ≡ w.calls.phase
+  pub events : v.calls.events ≡ w.calls.events + n
+
+-- where so many steps end by what the try of the page came to
+abbrev pub fault_end : ℕ → Option Reply → FaultEnd
+fault_end steps (Some reply) = Replied steps reply
+fault_end steps None = Again steps
+
+-- the steps of the fault end so
+abbrev pub Makes : World → ℕ → Touch → FaultEnd → World → Type 0
+Makes w core touch Untouched v = v ≡ w
+Makes w core touch (Again steps) v = MakesTo w core touch steps (locking (To.Access touch)) v
+Makes w core touch (Replied steps reply) v = MakesTo w core touch steps (Answer reply) v

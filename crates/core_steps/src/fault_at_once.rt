@@ -1,0 +1,262 @@
+//! A fault of an access, made at once: its page is found once and set once. No other core can act in
+//! between, so that the page, which nobody holds, need not be locked, nor the core's phase written.
+ghost use Rattle.std.specs.Prelude.{◌≡◌, ◌+◌, ◌<◌, ◌≤◌, ℕ, None, Some, IfSome, if◌then◌else◌, true};
+ghost use Rattle.std.specs.Prelude.{length};
+ghost use Rattle.vm_base.specs.Pages.{IsPage};
+ghost use Rattle.slot_lock.specs.declared.plan.Goal.TheVariants as To;
+ghost use Rattle.slot_lock.specs.Slots.{HasMeta, IsFreeSlot};
+ghost use Rattle.mmu.specs.Entry.{has_right};
+ghost use Rattle.frames.specs.Parts.{free_frames};
+ghost use Rattle.machine_model.specs.declared.event.Event.{Event};
+ghost use Rattle.machine_model.specs.declared.event.Outcome.{Outcome};
+ghost use Rattle.machine_model.specs.Accesses.{found_at};
+ghost use Rattle.machine_model.specs.Actions.{to};
+ghost use Rattle.machine_model.specs.Files.{prot_installed};
+ghost use Rattle.machine_model.specs.Locks.{locking};
+ghost use Rattle.machine_model.specs.Step.{Step, StepsTo, event_limit};
+ghost use Rattle.machine_model.specs.World.{Memory};
+ghost use Rattle.machine_sound.specs.Sound.{IsReached};
+ghost use Rattle.core_steps.specs.OnePage.{CanTake, IsFailure, IsFault, IsSource, Makes, TakesFrom};
+ghost use Rattle.core_steps.specs.OnePage.{at_lock, fault_end, frame_from, steps_from, trying};
+ghost use Rattle.core_steps.specs.OnePage.{with_translation};
+ghost use Rattle.core_steps.specs.Moving.{tried_to};
+ghost use Rattle.core_steps.specs.State.{world};
+
+use crate::acquire::locking;
+use crate::engine::Engine;
+use crate::file_pages::prot_installed;
+use crate::ledger::Ledger;
+use machine_model::Phase;
+use mmu::Hardware;
+use slot_lock::{Goal, SlotMap, Touch};
+use std::alloc::Allocator;
+use vm_base::{Back, CoreId, PageInfo, Reply, SegvCode};
+use vm_calls::Settled;
+
+/// The most steps that a fault makes at once.
+const MOST_STEPS: u64 = 7;
+
+/// Where the frame of a page comes from that is shown at once.
+#[derive(Clone, Copy, Debug, PartialEq, Eq)]
+pub(crate) enum Source {
+    /// The page has it.
+    Own(u32),
+    /// It caches the page's file page.
+    Cached(u32),
+    /// It is the least free one, for a page of zeros.
+    Free(u32),
+}
+
+impl Source {
+    // The frame.
+    fn frame(&self) -> u32
+        ensures { result ≡ frame_from self.now }
+    {
+        match *self {
+            Source::Own(frame) | Source::Cached(frame) | Source::Free(frame) => frame,
+        }
+    }
+
+    // How many steps of the plain ones come before the page is tried.
+    fn steps(&self) -> u64
+        ensures { result ≡ steps_from self.now }
+    {
+        match self {
+            Source::Own(_) => 4,
+            Source::Cached(_) => 5,
+            Source::Free(_) => 6,
+        }
+    }
+}
+
+/// Where a fault's steps end that are made at once.
+#[derive(Clone, Copy, Debug, PartialEq, Eq)]
+pub(crate) enum FaultEnd {
+    /// No step was made.
+    Untouched,
+    /// So many were made, and the access faulted again.
+    Again { steps: u64 },
+    /// So many were made, and the access has this reply, which is logged.
+    Replied { steps: u64, reply: Reply },
+}
+
+// What the try of the page came to is where so many steps end.
+fn fault_end(steps: u64, tried: Option<Reply>) -> FaultEnd
+    ensures { result ≡ fault_end steps tried }
+{
+    match tried {
+        Some(reply) => FaultEnd::Replied { steps, reply },
+        None => FaultEnd::Again { steps },
+    }
+}
+
+/// What an access that fails is answered.
+fn failure(settled: Settled) -> Option<Reply>
+    ensures { IfSome result (IsFailure settled) }
+{
+    match settled {
+        Settled::MapErr => Some(Reply::Segv(SegvCode::MapErr)),
+        Settled::AccErr => Some(Reply::Segv(SegvCode::AccErr)),
+        Settled::Bus => Some(Reply::Bus),
+        _ => None,
+    }
+}
+
+impl<M: SlotMap, H: Hardware, A: Allocator, L: Ledger> Engine<M, H, A, L> {
+    // The access fails at its page, and this is its reply.
+    fn fail_at_once(&mut self, core: CoreId, touch: Touch, reply: Reply) -> FaultEnd
+        requires fault { IsFault (at_lock core touch (world M.slots self.old)) core touch }
+        requires fails { IsFailure (found_at (world M.slots self.old) touch) reply }
+        ensures { Makes (world M.slots self.old) core touch result (world M.slots self.new) }
+    {
+        self.log_at_once(core, reply, 2);
+        FaultEnd::Replied { steps: 3, reply }
+    }
+
+    // Where the page's frame comes from, if neither a message is to be sent nor a file to be read.
+    fn source_of(&self, settled: Settled, back: Back) -> Option<Source>
+        ensures { IfSome result (IsSource settled back (free_frames self.now.frames)) }
+    {
+        match settled {
+            Settled::Has(frame) => Some(Source::Own(frame)),
+            Settled::Cached(frame) => Some(Source::Cached(frame)),
+            Settled::Wants if back == Back::Anon => {
+                let frame = self.frames.least_free()?;
+                Some(Source::Free(frame))
+            }
+            _ => None,
+        }
+    }
+
+    // The core's tables get the entry of the page, which has this from here on, with the core recorded.
+    // Without memory for the entry nothing changes. Tells whether there was.
+    fn show_page(&mut self, core: CoreId, page: u64, info: PageInfo, frame: u32) -> bool
+        requires here { core < length self.old.calls.phases.items }
+        requires page { IsPage page }
+        requires free { IsFreeSlot (M.slots self.old.map) page }
+        requires meta { HasMeta ((M.slots self.old.map).info page) info.meta }
+        requires frame { info.frame ≡ Some frame }
+        requires right { has_right (prot_installed (world M.slots self.old).memory.cached info) ≡ true }
+        ensures { world M.slots self.new ≡ (if result then with_translation core page info
+            (world M.slots self.old) else (world M.slots self.old)) }
+    {
+        let prot = prot_installed(&self.objects, &info);
+        let Ok(()) = self.cores.install(core, page, frame, prot) else {
+            return false;
+        };
+        let cores = info.cores.with(core);
+        self.map.set_leaf(core, page, PageInfo { cores, ..info });
+        true
+    }
+
+    // The page's frame is taken, filled and counted, as far as it has to be.
+    fn take_from(&mut self, core: CoreId, source: Source)
+        requires { CanTake (world M.slots self.old) core source }
+        ensures { (memory : Memory) × TakesFrom (world M.slots self.old).memory core source memory
+            × (world M.slots self.new ≡ record (world M.slots self.old) { memory = memory }) }
+    {
+        match source {
+            Source::Own(_) => {}
+            Source::Cached(frame) => self.counts.inc(core, frame),
+            Source::Free(frame) => {
+                self.frames.take(frame);
+                self.frames.fill_zero(frame);
+                self.counts.begin(frame, 1);
+            }
+        }
+    }
+
+    // The access is tried again, so many steps later than those that are counted.
+    fn try_page(&mut self, core: CoreId, touch: Touch, steps: u64) -> Option<Reply>
+        requires here { core < length self.old.calls.phases.items }
+        requires room { self.old.calls.events + steps < event_limit }
+        requires reached { ∥ IsReached (trying core touch steps (world M.slots self.old)) ∥₁ }
+        ensures step { Step (trying core touch steps (world M.slots self.old)) (Event.Go core) Outcome.Stepped
+            (to core (tried_to touch result) (world M.slots self.new)) }
+        ensures phases { (world M.slots self.new).calls.phase ≡ (world M.slots self.old).calls.phase }
+        ensures events { self.new.calls.events ≡ self.old.calls.events + (steps + 1) }
+        ensures cores { length self.new.calls.phases.items ≡ length self.old.calls.phases.items }
+    {
+        self.calls.events += steps + 1;
+        self.try_touch(core, touch)
+    }
+
+    // The page, which has this, gets its frame from there, and the access is tried again.
+    fn show_at_once(
+        &mut self,
+        core: CoreId,
+        touch: Touch,
+        info: PageInfo,
+        source: Source,
+    ) -> FaultEnd
+        requires fault { IsFault (at_lock core touch (world M.slots self.old)) core touch }
+        requires info { (M.slots self.old.map).info touch.page ≡ Some info }
+        requires source { IsSource (found_at (world M.slots self.old) touch) info.meta.back
+            (world M.slots self.old).memory.is_free source }
+        ensures { Makes (world M.slots self.old) core touch result (world M.slots self.new) }
+    {
+        let frame = source.frame();
+        let shown = PageInfo {
+            frame: Some(frame),
+            ..info
+        };
+        if !self.show_page(core, touch.page, shown, frame) {
+            return FaultEnd::Untouched;
+        }
+        self.take_from(core, source);
+        let before = source.steps();
+        let tried = self.try_page(core, touch, before);
+        fault_end(before + 1, tried)
+    }
+
+    /// The steps of an access whose page is to be locked, where that is a slot of its own that nobody
+    /// holds: up to the next try of the page, or up to the reply where the access fails. The core's
+    /// phase isn't written. No step is made where a plain one has to look, since there may be no
+    /// memory or no frame, a file is to be read, or other cores are to be told.
+    pub fn make_fault(&mut self, core: CoreId, touch: Touch) -> FaultEnd
+        requires here { core < length self.old.calls.phases.items }
+        requires reached { ∥ IsReached (at_lock core touch (world M.slots self.old)) ∥₁ }
+        requires room { self.old.calls.events + 7 ≤ event_limit }
+        ensures { Makes (world M.slots self.old) core touch result (world M.slots self.new) }
+    {
+        let Some(page) = self.map.free_page(touch.page) else {
+            return FaultEnd::Untouched;
+        };
+        let settled = self.find(touch, &page.info);
+        if let Some(reply) = failure(settled) {
+            return self.fail_at_once(core, touch, reply);
+        }
+        if let Some(info) = page.info
+            && let Some(source) = self.source_of(settled, info.meta.back)
+        {
+            return self.show_at_once(core, touch, info, source);
+        }
+        FaultEnd::Untouched
+    }
+
+    /// The events of a fault's steps, as `make_fault` makes them, where the core's call is to lock its
+    /// page. It answers how many they were.
+    pub fn fault_at_once(&mut self, core: CoreId, touch: Touch, most: u64) -> u64
+        requires at { (world M.slots self.old).calls.phase core ≡ locking (To.Access touch) }
+        requires here { core < length self.old.calls.phases.items }
+        requires reached { ∥ IsReached (world M.slots self.old) ∥₁ }
+        requires room { self.old.calls.events + most ≤ event_limit }
+        ensures few { result ≤ most }
+        ensures steps { StepsTo (world M.slots self.old) core result (world M.slots self.new) }
+    {
+        if most < MOST_STEPS {
+            return 0;
+        }
+        match self.make_fault(core, touch) {
+            FaultEnd::Untouched => 0,
+            FaultEnd::Again { steps } => {
+                self.go_to(core, locking(Goal::Access(touch)));
+                steps
+            }
+            FaultEnd::Replied { steps, reply } => {
+                self.go_to(core, Phase::Answer(reply));
+                steps
+            }
+        }
+    }
+}

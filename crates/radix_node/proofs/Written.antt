@@ -1,0 +1,28 @@
+-- A node's slots, written through a slice of them
+use Rattle.std.proofs.Common.{Vec, ◌≡◌, ℕ, ◌*◌, List, sym, ap, ◌∙◌, subst}
+use Rattle.std.specs.Vec.{with_items}
+use Rattle.std.proofs.lemmas.List.{with_items_is}
+use Rattle.radix_node.specs.declared.node.Slot.{Slot}
+use Rattle.radix_node.specs.Run.{Cell, cell_at, width_of, IsWhole}
+use Rattle.radix_node.specs.Node.{flatten}
+use Rattle.radix_node.specs.Slots.{parts_of, IsNode}
+use Rattle.radix_node.proofs.Flat.{whole-node}
+
+-- the node has these slots now
+pub node_written : {A Z : Type 0} {level n : ℕ} (v : Vec (Slot A) Z) (ss : List (Slot A)) → level ≡ n
+    → IsNode level v.items → IsNode n ss → IsNode level (with_items v ss).items
+node_written {level = level} v ss e was node =
+    subst (IsNode level) (sym (with_items_is v ss (node.full ∙ sym was.full ∙ sym v.ok.0)))
+    (subst (λ k. IsNode k ss) (sym e) node)
+
+pub whole_written : {A Z : Type 0} {level n : ℕ} (v : Vec (Slot A) Z) (ss : List (Slot A)) → level ≡ n
+    → IsNode level v.items → IsNode n ss
+    → IsWhole level (512 * width_of level) (flatten (width_of level) (parts_of (with_items v ss).items))
+whole_written {level = level} v ss e was node = whole-node level _ (node_written v ss e was node)
+
+pub cell_written : {A Z : Type 0} {level n : ℕ} (v : Vec (Slot A) Z) (ss : List (Slot A)) (p : ℕ) (c : Cell) → level ≡ n
+    → IsNode level v.items → IsNode n ss → cell_at (flatten (width_of n) (parts_of ss)) p ≡ c
+    → cell_at (flatten (width_of level) (parts_of (with_items v ss).items)) p ≡ c
+cell_written {n = n} v ss p c e was node h =
+    ap (λ k. cell_at (flatten (width_of k) (parts_of (with_items v ss).items)) p) e
+    ∙ ap (λ xs. cell_at (flatten (width_of n) (parts_of xs)) p) (with_items_is v ss (node.full ∙ sym was.full ∙ sym v.ok.0)) ∙ h

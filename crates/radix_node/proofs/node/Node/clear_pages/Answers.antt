@@ -1,0 +1,18 @@
+use Rattle.std.proofs.Common.{◌≡◌, ◌+◌, ◌-◌, get_or, refl, ap, rules, None, arith}
+use Rattle.radix_node.specs.declared.edit.Edit.TheVariants.{Put}
+use Rattle.radix_node.specs.declared.node.Slot.TheVariants.{Own}
+use Rattle.radix_node.specs.Node.{Parts, runs}
+use Rattle.radix_node.proofs.Pages.{page_more, pages_written}
+use Rattle.radix_node.proofs.node.Node.clear_pages.Goals as goal
+
+pub pages-preserved : goal.pages-preserved
+pages-preserved g c =
+    let is : Own c.in-Own.state ≡ get_or c.pages.slots c.pages.k c.index-slots-k.result = search rules in
+    page_more c.index-slots-k.result c.in-Own.state c.clear.new.self (runs c.args.self.now) c.args.first c.args.end 0
+    (0 + (c.pages.k - c.args.first)) (Put None) c.requires.level c.pages-test.true c.requires.within (record { fits = omega (arith, c.requires.within); alone = λ leaf. cc }) is refl
+    c.clear.ensures c.pages.invariant
+
+pub returns : goal.returns
+returns g c =
+    pages_written c.self.inside.slots c.pages.slots c.args.self.now c.args.first c.args.end 0 (Put None)
+    (ap (λ (v : Parts). v.level) c.self.view_is) c.self.invariant c.requires.level c.pages-test.false c.pages.invariant

@@ -1,0 +1,18 @@
+use Rattle.std.proofs.Common.{◌≡◌, ◌+◌, ◌-◌, get_or, refl, ap, rules}
+use Rattle.radix_node.specs.declared.edit.Edit.TheVariants.{Protect}
+use Rattle.radix_node.specs.declared.node.Slot.TheVariants.{Own}
+use Rattle.radix_node.specs.Node.{Parts, runs}
+use Rattle.radix_node.proofs.Pages.{page_more, pages_written}
+use Rattle.radix_node.proofs.node.Node.protect_pages.Goals as goal
+
+pub pages-preserved : goal.pages-preserved
+pages-preserved g c =
+    let is : Own c.in-Own.state ≡ get_or c.pages.slots c.pages.k c.index-slots-k.result = search rules in
+    page_more c.index-slots-k.result c.in-Own.state c.protect.new.self (runs c.args.self.now) c.args.first c.args.end 0
+    (0 + (c.pages.k - c.args.first)) (Protect c.args.prot) c.requires.level c.pages-test.true c.requires.within tt is refl
+    c.protect.ensures c.pages.invariant
+
+pub returns : goal.returns
+returns g c =
+    pages_written c.self.inside.slots c.pages.slots c.args.self.now c.args.first c.args.end 0 (Protect c.args.prot)
+    (ap (λ (v : Parts). v.level) c.self.view_is) c.self.invariant c.requires.level c.pages-test.false c.pages.invariant
