@@ -1,5 +1,6 @@
 -- A fault whose page is a slot of its own that nobody holds, made at once: the states that it passes, and the one that is left
-use Rattle.std.proofs.Common.{◌≡◌, ℕ, suc, ◌+◌, ◌<◌, ◌≤◌, ◌&&◌, ◌||◌, Bool, true, false, [], ◌∷◌, ◌++◌, Option, Some, None, refl, sym, subst, ap, ◌∙◌, arith, inl, inr, add-one, ◌⊎◌}
+use Rattle.std.proofs.Common.{◌≡◌, ℕ, suc, ◌+◌, ◌<◌, ◌≤◌, ◌&&◌, ◌||◌, Bool, true, false, [], ◌∷◌, ◌++◌, Option, Some, None, refl, sym}
+use Rattle.std.proofs.Common.{subst, ap, ◌∙◌, arith, inl, inr, add-one, ◌⊎◌}
 use Rattle.std.specs.Prelude.{if◌then◌else◌}
 use Rattle.std.proofs.Math.Logic.{∥∥₁_elim}
 use Rattle.std.proofs.Props.{props}
@@ -35,7 +36,8 @@ use Rattle.machine_model.specs.declared.log.Entry.TheVariants as EntryOf
 use Rattle.machine_model.specs.declared.phase.Phase.{Phase}
 use Rattle.machine_model.specs.declared.phase.Phase.TheVariants.{Answer, Fill, Install, Lock, Release, Settle, Try, Unlock, Want}
 use Rattle.machine_model.specs.World.{Hardware, Memory, World}
-use Rattle.machine_model.specs.Accesses.{IsLeastFree, after_finding, after_translation, after_try, found_at, info_with_core, is_past_end, memory_after, reply_of}
+use Rattle.machine_model.specs.Accesses.{IsLeastFree, after_finding, after_translation, after_try, found_at, info_with_core, is_past_end}
+use Rattle.machine_model.specs.Accesses.{memory_after, reply_of}
 use Rattle.machine_model.specs.Actions.{after_reply, answer_entry, to, with_entry}
 use Rattle.machine_model.specs.Files.{back_of, file_frame, is_private, prot_installed, shows_some}
 use Rattle.machine_model.specs.Filling.{FillsBacked, FillsFrame, FillsFromFile}
@@ -52,7 +54,8 @@ use Rattle.core_steps.specs.declared.fault_at_once.FaultEnd.TheVariants as End
 use Rattle.core_steps.specs.declared.fault_at_once.Source.{Source}
 use Rattle.core_steps.specs.declared.fault_at_once.Source.TheVariants.{Own, Cached, Free}
 use Rattle.core_steps.specs.Moving.{CanTry, IsAt, tried_to}
-use Rattle.core_steps.specs.OnePage.{CanTake, IsFailure, IsFault, IsSource, Makes, MakesTo, TakesFrom, at_lock, fault_end, frame_from, logged_later, replied, steps_from, trying, with_translation}
+use Rattle.core_steps.specs.OnePage.{CanTake, IsFailure, IsFault, IsSource, Makes, MakesTo, TakesFrom, at_lock, fault_end, frame_from}
+use Rattle.core_steps.specs.OnePage.{logged_later, replied, steps_from, trying, with_translation}
 use Rattle.core_steps.proofs.AtOnce.{counted_step}
 use Rattle.core_steps.proofs.Framing.{counted_few, fills_zeros, shown_here, shown_used, zeroed}
 use Rattle.core_steps.proofs.Known.{core_counted, frame_below, frame_counted, free_below, free_unused, goal_sound, is_left, order}

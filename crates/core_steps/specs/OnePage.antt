@@ -77,7 +77,7 @@ pub record CanCount (counts : Counts) (core f : ℕ) : Type 0 where
   pub few : true_count counts f <ℤ pos (2 ^ 40)
 
 -- the frame can be taken, and its count can begin
-pub record CanBegin (m : Memory) (frames f : ℕ) : Type 0 where
+pub record CanTakeFree (m : Memory) (frames f : ℕ) : Type 0 where
   pub here : f < frames
   pub free : m.is_free f ≡ true
   pub object : f < m.counts.objects
@@ -86,7 +86,7 @@ pub record CanBegin (m : Memory) (frames f : ℕ) : Type 0 where
 abbrev pub CanTake : World → ℕ → Source → Type 0
 CanTake w core (Own f) = Unit {0}
 CanTake w core (Cached f) = CanCount w.memory.counts core f
-CanTake w core (Free f) = CanBegin w.memory w.made.frames f
+CanTake w core (Free f) = CanTakeFree w.memory w.made.frames f
 
 -- the memory once the frame is the page's: one of a file's page is counted up, and a free one is
 -- taken, has zeros and is counted once

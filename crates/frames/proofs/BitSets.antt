@@ -1,5 +1,6 @@
 -- Sets of numbers as bits in words
-use Rattle.std.proofs.Common.{◌≡◌, ◌≢◌, ℕ, ◌+◌, ◌*◌, ◌/◌, ◌%◌, ◌<◌, ◌≤◌, ◌^◌, Bool, true, false, ◌==◌, ◌⊎◌, inl, inr, List, length, get_or, set, replicate, arith, refl, sym, ◌∙◌, ap, w64}
+use Rattle.std.proofs.Common.{◌≡◌, ◌≢◌, ℕ, ◌+◌, ◌*◌, ◌/◌, ◌%◌, ◌<◌, ◌≤◌, ◌^◌, Bool, true, false, ◌==◌, ◌⊎◌, inl, inr, List, length, get_or}
+use Rattle.std.proofs.Common.{set, replicate, arith, refl, sym, ◌∙◌, ap, w64}
 use Rattle.std.proofs.Math.Path.{fun_ext}
 use Rattle.std.specs.Int.{bit_not, trailing_zeros}
 use Rattle.std.specs.Int.RustNames.{bit_or}

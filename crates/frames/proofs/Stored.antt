@@ -1,5 +1,6 @@
 -- The pages of frames, and what a new page makes of them
-use Rattle.std.proofs.Common.{◌≡◌, ◌≢◌, ℕ, zero, suc, ◌+◌, ◌<◌, ◌≤◌, ◌⊎◌, inl, inr, cond, List, [], length, get_or, set, replicate, Option, Some, None, is_some, arith, refl, sym, subst, ◌∙◌, ap}
+use Rattle.std.proofs.Common.{◌≡◌, ◌≢◌, ℕ, zero, suc, ◌+◌, ◌<◌, ◌≤◌, ◌⊎◌, inl, inr, cond, List, [], length, get_or, set, replicate, Option}
+use Rattle.std.proofs.Common.{Some, None, is_some, arith, refl, sym, subst, ◌∙◌, ap}
 use Rattle.std.specs.List.{count_by}
 use Rattle.std.proofs.Math.Path.{fun_ext}
 use Rattle.std.proofs.lemmas.Bool.{cases_lt}

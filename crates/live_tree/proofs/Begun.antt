@@ -1,5 +1,6 @@
 -- Slots that were never used show nothing mapped and nothing held
-use Rattle.std.proofs.Common.{◌≡◌, ℕ, zero, suc, ◌+◌, ◌-◌, ◌<◌, nat_lt, Bool, true, false, cond, List, [], ◌∷◌, length, get_or, Option, None, refl, subst, sym, ap, ◌∙◌, arith}
+use Rattle.std.proofs.Common.{◌≡◌, ℕ, zero, suc, ◌+◌, ◌-◌, ◌<◌, nat_lt, Bool, true, false, cond, List, [], ◌∷◌, length, get_or, Option}
+use Rattle.std.proofs.Common.{None, refl, subst, sym, ap, ◌∙◌, arith}
 use Rattle.slot_lock.specs.Slots.{IsNew}
 use Rattle.live_levels.specs.Parts.{AreUnused, IsUnused}
 use Rattle.live_levels.specs.Slots.{SlotView, content_at}

@@ -1,5 +1,6 @@
 -- Chains over the places by a hash of the page: what a walk along one has passed, and what a fill leaves of them
-use Rattle.std.proofs.Common.{◌≡◌, ◌≢◌, ℕ, ◌+◌, ◌-◌, ◌<◌, ◌≤◌, ◌==◌, ◌&&◌, Bool, true, false, List, [], ◌∷◌, ◌++◌, length, take, map, None, refl, sym, ◌∙◌, ap, subst, arith, slice_index, slice_set, nat_lt, replicate}
+use Rattle.std.proofs.Common.{◌≡◌, ◌≢◌, ℕ, ◌+◌, ◌-◌, ◌<◌, ◌≤◌, ◌==◌, ◌&&◌, Bool, true, false, List, [], ◌∷◌, ◌++◌, length, take, map, None}
+use Rattle.std.proofs.Common.{refl, sym, ◌∙◌, ap, subst, arith, slice_index, slice_set, nat_lt, replicate}
 use Rattle.std.proofs.Math.ListN.{length-set}
 use Rattle.std.proofs.lemmas.List.{get_or-set_other, get_or-map, length-map, length-append, map-append, get_or_append_left, get_or_push}
 use Rattle.std.proofs.lemmas.Grind.{get_or-set_at}

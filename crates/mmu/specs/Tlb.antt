@@ -1,7 +1,7 @@
 -- A TLB: the translations that a core holds, the oldest filled first
-use Rattle.std.specs.Prelude.{◌≡◌, ℕ, ◌<◌, ◌==◌, ◌&&◌, not, Bool, true, is_some, if◌then◌else◌, length}
-use Rattle.std.specs.Prelude.{List, [], ◌∷◌, ◌++◌, Option, None, Some, drop, filter, count_by}
-use Rattle.std.specs.Prelude.{slice_index, bit_xor, ◌/◌, ◌%◌, ◌^◌}
+use Rattle.std.specs.Prelude.{◌≡◌, ℕ, ◌==◌, ◌&&◌, not, Bool, true, is_some, if◌then◌else◌, length}
+use Rattle.std.specs.Prelude.{List, [], ◌∷◌, ◌++◌, Option, None, Some, drop, filter}
+use Rattle.std.specs.Prelude.{bit_xor, ◌/◌, ◌%◌, ◌^◌}
 use Rattle.mmu.specs.declared.entry.Translation.{Translation}
 use Rattle.mmu.specs.declared.tlb.TlbEntry.{TlbEntry}
 
@@ -31,12 +31,3 @@ tlb_filled p e es =
 -- a number below 256 for each page: the lower four bytes of the page's number, in one by xor
 unfoldable pub page_hash : ℕ → ℕ
 page_hash p = bit_xor (bit_xor (bit_xor p (p / 2 ^ 8)) (p / 2 ^ 16)) (p / 2 ^ 24) % 256
-
--- how many translations are of pages with this hash
-abbrev pub hashed : ℕ → List TlbEntry → ℕ
-hashed h es = count_by (λ (e : TlbEntry). page_hash e.page == h) es
-
--- the numbers are, for each hash, how many translations have it
-pub record AreCounts (counts : List ℕ) (es : List TlbEntry) : Type 0 where
-  pub whole : length counts ≡ 256
-  pub exact : (h : ℕ) → h < 256 → slice_index counts h ≡ hashed h es

@@ -1,5 +1,6 @@
 -- A change of a range of a node's pages
-use Rattle.std.proofs.Common.{Box, ◌≡◌, ◌≢◌, ℕ, ◌+◌, ◌-◌, ◌*◌, ◌^◌, ◌<◌, ◌≤◌, ◌||◌, ◌⊎◌, inl, inr, ⊎_elim, Bool, true, false, Option, Some, None, is_some, List, length, get_or, min, max, refl, sym, ap, ◌∙◌, subst, arith}
+use Rattle.std.proofs.Common.{Box, ◌≡◌, ◌≢◌, ℕ, ◌+◌, ◌-◌, ◌*◌, ◌^◌, ◌<◌, ◌≤◌, ◌||◌, ◌⊎◌, inl, inr, ⊎_elim, Bool, true, false, Option, Some}
+use Rattle.std.proofs.Common.{None, is_some, List, length, get_or, min, max, refl, sym, ap, ◌∙◌, subst, arith}
 use Rattle.std.proofs.lemmas.Bool.{cases_lt, cases_eq}
 use Rattle.std.proofs.Math.ListN.{set, length-set}
 use Rattle.std.proofs.lemmas.List.{get_or-set_same, get_or-set_other}

@@ -1,5 +1,6 @@
 -- Slots that become a node, and nodes that become a slot
-use Rattle.std.proofs.Common.{Box, zero, suc, ◌≡◌, ◌≢◌, ℕ, ◌+◌, ◌-◌, ◌*◌, ◌/◌, ◌^◌, ◌<◌, ◌≤◌, ◌⊎◌, ⊎_elim, lit<, true, false, Bool, List, [], ◌∷◌, ◌++◌, length, map, get_or, Option, Some, None, refl, sym, ap, ◌∙◌, subst, arith}
+use Rattle.std.proofs.Common.{Box, zero, suc, ◌≡◌, ◌≢◌, ℕ, ◌+◌, ◌-◌, ◌*◌, ◌/◌, ◌^◌, ◌<◌, ◌≤◌, ◌⊎◌, ⊎_elim, lit<, true, false, Bool, List}
+use Rattle.std.proofs.Common.{[], ◌∷◌, ◌++◌, length, map, get_or, Option, Some, None, refl, sym, ap, ◌∙◌, subst, arith}
 use Rattle.std.specs.Prelude.{All, slice_get, slice_set, Result, Ok, Err, OnOk, OnErr}
 use Rattle.std.proofs.Math.Nat.{mul-div_cancel, mul_assoc, mul-le-mul_right}
 use Rattle.std.proofs.lemmas.Bool.{cases_lt}
@@ -17,7 +18,9 @@ use Rattle.radix_node.specs.Run.{Run, Cell, cell_at, with_run, in_parts, width_o
 use Rattle.radix_node.specs.Node.{Part, Own, Below, Parts, runs, runs_of, flatten, node_of, owns_divided, IsOwn, CanFold, FoldsSlot, Expands}
 use Rattle.radix_node.specs.Slots.{part_of, parts_of, IsLower, IsNode}
 use Rattle.radix_node.proofs.Runs.{cell_at-here, cell_later, with_run-one}
-use Rattle.radix_node.proofs.Flat.{IsPlace, IsWide, wide, width_pos, width-below, width-times, place_index, cell_at-Own, with_run-flatten, cell_at-flatten, part_at, is_node-set, child_part, child_level, child_pages, level_below, runs-set, cell_at-Child}
+use Rattle.radix_node.proofs.Flat.{IsPlace, IsWide, wide, width_pos, width-below, width-times, place_index, cell_at-Own, with_run-flatten}
+use Rattle.radix_node.proofs.Flat.{cell_at-flatten, part_at, is_node-set, child_part, child_level, child_pages, level_below, runs-set}
+use Rattle.radix_node.proofs.Flat.{cell_at-Child}
 use Rattle.radix_node.proofs.Divided.{CanDivide, runs-divided, part_ends}
 use Rattle.radix_node.proofs.Joined.{part_of-at, narrower}
 

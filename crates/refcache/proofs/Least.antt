@@ -1,5 +1,6 @@
 -- The least object of a core's places.
-use Rattle.std.proofs.Common.{◌≡◌, ◌≢◌, ℕ, ◌<◌, ◌≤◌, ◌+◌, ◌%◌, ◌==◌, false, cond, refl, sym, ap, subst, arith, ◌∙◌, List, Option, Some, None, IfSome, IfNone, slice_index_or, nat_lt, ◌⊎◌, inl, inr}
+use Rattle.std.proofs.Common.{◌≡◌, ◌≢◌, ℕ, ◌<◌, ◌≤◌, ◌+◌, ◌%◌, ◌==◌, false, cond, refl, sym, ap, subst, arith, ◌∙◌, List, Option, Some}
+use Rattle.std.proofs.Common.{None, IfSome, IfNone, slice_index_or, nat_lt, ◌⊎◌, inl, inr}
 use Rattle.std.proofs.lemmas.Bool.Decides.{nat_tests}
 use Rattle.refcache.specs.declared.places.Entry.{Entry}
 use Rattle.refcache.specs.Places.{entries, if_its}

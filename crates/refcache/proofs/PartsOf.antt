@@ -1,5 +1,7 @@
 -- A change of the pieces is a change of the counts that they stand for.
-use Rattle.std.proofs.Common.{◌≡◌, ◌≢◌, ℕ, zero, suc, ◌≤◌, ◌<◌, ◌%◌, ◌^◌, ◌+◌, ◌==◌, Bool, true, false, cond, refl, sym, ap, subst, ℤ, pos, ◌+ℤ◌, ◌∙◌, List, [], ◌∷◌, ◌++◌, length, Option, Some, None, slice_index_or, slice_set, unwrap_or, ◌⊎◌, inl, inr}
+use Rattle.std.proofs.Common.{◌≡◌, ◌≢◌, ℕ, zero, suc, ◌≤◌, ◌<◌, ◌%◌, ◌^◌, ◌+◌, ◌==◌, Bool, true, false, cond, refl, sym, ap, subst, ℤ, pos}
+use Rattle.std.proofs.Common.{◌+ℤ◌, ◌∙◌, List, [], ◌∷◌, ◌++◌, length, Option, Some, None, slice_index_or, slice_set, unwrap_or, ◌⊎◌, inl}
+use Rattle.std.proofs.Common.{inr}
 use Rattle.std.specs.Ordering.{int_eq}
 use Rattle.std.proofs.Math.Path.{fun_ext}
 use Rattle.std.proofs.lemmas.List.{get_or-set_same, get_or-set_other, length-set}

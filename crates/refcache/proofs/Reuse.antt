@@ -1,5 +1,6 @@
 -- The law of reuse: an object whose true count fell to 0 in epoch e is freed before epoch e + 6 begins.
-use Rattle.std.proofs.Common.{◌≡◌, ℕ, ◌≤◌, ◌<◌, ◌+◌, Bool, true, false, refl, sym, ap, subst, arith, pos, negsuc, ◌+ℤ◌, ◌∙◌, List, [], ◌∷◌, ◌++◌, Some, None, ◌⊎◌, inl, inr}
+use Rattle.std.proofs.Common.{◌≡◌, ℕ, ◌≤◌, ◌<◌, ◌+◌, Bool, true, false, refl, sym, ap, subst, arith, pos, negsuc, ◌+ℤ◌, ◌∙◌, List, [], ◌∷◌}
+use Rattle.std.proofs.Common.{◌++◌, Some, None, ◌⊎◌, inl, inr}
 use Rattle.refcache.specs.declared.reports.Review.TheVariants as review
 use Rattle.refcache.specs.Counts.{Counts, no_counts, delta_of, true_count, added}
 use Rattle.refcache.specs.Steps.{Step, Dec, Reviewing, Takes, HasEntry, Moment, IsRun, last}

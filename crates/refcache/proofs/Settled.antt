@@ -1,6 +1,7 @@
 -- A freed object is unused: while it is clean in a queue at a global count of 0, a core that was found without entries since
 -- has one only if another core has had one all the time.
-use Rattle.std.proofs.Common.{◌≡◌, ◌≢◌, ℕ, ◌≤◌, ◌<◌, ◌+◌, Bool, true, false, refl, sym, ap, subst, arith, ℤ, pos, negsuc, ◌+ℤ◌, ◌<ℤ◌, ◌∙◌, List, [], ◌∷◌, ◌++◌, Some, None, ◌⊎◌, inl, inr}
+use Rattle.std.proofs.Common.{◌≡◌, ◌≢◌, ℕ, ◌≤◌, ◌<◌, ◌+◌, Bool, true, false, refl, sym, ap, subst, arith, ℤ, pos, negsuc, ◌+ℤ◌, ◌<ℤ◌, ◌∙◌}
+use Rattle.std.proofs.Common.{List, [], ◌∷◌, ◌++◌, Some, None, ◌⊎◌, inl, inr}
 use Rattle.std.proofs.lemmas.Int.{ints}
 use Rattle.refcache.specs.declared.reports.Queued.{Queued}
 use Rattle.refcache.specs.declared.reports.Flush.{Flush}

@@ -1,5 +1,6 @@
 -- An unused object stays so until its count begins.
-use Rattle.std.proofs.Common.{◌≡◌, ◌≢◌, ℕ, ◌<◌, Bool, true, false, refl, sym, ap, subst, arith, ◌∙◌, ℤ, pos, negsuc, ◌+ℤ◌, ◌<ℤ◌, List, Some, None, ◌⊎◌, inl, inr}
+use Rattle.std.proofs.Common.{◌≡◌, ◌≢◌, ℕ, ◌<◌, Bool, true, false, refl, sym, ap, subst, arith, ◌∙◌, ℤ, pos, negsuc, ◌+ℤ◌, ◌<ℤ◌, List, Some}
+use Rattle.std.proofs.Common.{None, ◌⊎◌, inl, inr}
 use Rattle.std.proofs.lemmas.Int.{ints}
 use Rattle.refcache.specs.declared.reports.Queued.{Queued}
 use Rattle.refcache.specs.declared.reports.Flush.{Flush}

@@ -1,5 +1,6 @@
 -- Runs that have another owner, another frame, or a change of their range
-use Rattle.std.proofs.Common.{◌≡◌, ℕ, ◌+◌, ◌-◌, ◌<◌, ◌≤◌, ◌==◌, ◌||◌, ⊎_elim, Bool, true, false, cond, List, length, set, Option, Some, None, is_some, refl, sym, ◌∙◌, ap, arith}
+use Rattle.std.proofs.Common.{◌≡◌, ℕ, ◌+◌, ◌-◌, ◌<◌, ◌≤◌, ◌==◌, ◌||◌, ⊎_elim, Bool, true, false, cond, List, length, set, Option, Some}
+use Rattle.std.proofs.Common.{None, is_some, refl, sym, ◌∙◌, ap, arith}
 use Rattle.std.proofs.lemmas.Bool.{cases_lt}
 use Rattle.vm_base.specs.declared.page.PageRange.{PageRange}
 use Rattle.vm_base.specs.declared.info.PageInfo.{PageInfo}
@@ -20,7 +21,8 @@ use Rattle.slot_lock.specs.Changes.{changed}
 use Rattle.slot_lock.specs.RunSlots.{slots_of}
 use Rattle.slot_lock.specs.RunLaws.{edge_at, fits_on, is_slot, info_from_twice, info_from_zero}
 use Rattle.slot_lock.proofs.Steps.{before_limit, first_slot, slot_by_edge}
-use Rattle.slot_lock.proofs.Edits.{Edits, IsEdit, Edited, edited_each, edited_keeps, edited_edge, edited-IsRuns, same_slots, no_edits, next_edit, has_above, has_one, not_after, before, run_from, within_run}
+use Rattle.slot_lock.proofs.Edits.{Edits, IsEdit, Edited, edited_each, edited_keeps, edited_edge, edited-IsRuns, same_slots, no_edits}
+use Rattle.slot_lock.proofs.Edits.{next_edit, has_above, has_one, not_after, before, run_from, within_run}
 
 -- ---- one run
 

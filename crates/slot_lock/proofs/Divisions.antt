@@ -1,12 +1,14 @@
 -- Which slot a division divides, and laws of divisions and joins
-use Rattle.std.proofs.Common.{◌≡◌, ℕ, zero, suc, ◌+◌, ◌-◌, ◌^◌, ◌<◌, ◌≤◌, ◌⊎◌, inl, inr, ⊎_elim, Bool, true, false, Option, Some, None, refl, sym, ◌∙◌, ap, arith}
+use Rattle.std.proofs.Common.{◌≡◌, ℕ, zero, suc, ◌+◌, ◌-◌, ◌^◌, ◌<◌, ◌≤◌, ◌⊎◌, inl, inr, ⊎_elim, Bool, true, false, Option, Some, None}
+use Rattle.std.proofs.Common.{refl, sym, ◌∙◌, ap, arith}
 use Rattle.std.proofs.lemmas.Bool.{cases_lt}
 use Rattle.vm_base.specs.declared.page.PageRange.{PageRange}
 use Rattle.vm_base.specs.Functions.{has}
 use Rattle.vm_base.specs.Pages.{IsPage}
 use Rattle.vm_base.specs.Info.{info_from, is_leaf}
 use Rattle.vm_base.proofs.Functions.{by_test}
-use Rattle.slot_lock.specs.Slots.{Slots, IsSlot, IsSlotMap, Divides, DividesAs, OnlySlotOf, Splits, Cuts, IsCrossed, Joins, CanBeOne, Crosses, crossed_edge, divided, between}
+use Rattle.slot_lock.specs.Slots.{Slots, IsSlot, IsSlotMap, Divides, DividesAs, OnlySlotOf, Splits, Cuts, IsCrossed, Joins, CanBeOne}
+use Rattle.slot_lock.specs.Slots.{Crosses, crossed_edge, divided, between}
 use Rattle.slot_lock.proofs.Edits.{has_below, has_above}
 
 -- ---- the slot that is divided

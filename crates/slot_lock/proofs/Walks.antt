@@ -1,5 +1,6 @@
 -- What a walk over the runs of a range has seen
-use Rattle.std.proofs.Common.{◌≡◌, ℕ, ◌+◌, ◌-◌, ◌^◌, ◌<◌, ◌≤◌, ◌⊎◌, ◌↔◌, ◌||◌, ⊎_elim, inl, inr, Bool, true, false, List, length, get_or, Option, Some, None, is_some, refl, sym, ◌∙◌, ap, max, min, arith}
+use Rattle.std.proofs.Common.{◌≡◌, ℕ, ◌+◌, ◌-◌, ◌^◌, ◌<◌, ◌≤◌, ◌⊎◌, ◌↔◌, ◌||◌, ⊎_elim, inl, inr, Bool, true, false, List, length, get_or}
+use Rattle.std.proofs.Common.{Option, Some, None, is_some, refl, sym, ◌∙◌, ap, max, min, arith}
 use Rattle.std.proofs.lemmas.Bool.{cases_lt}
 use Rattle.std.proofs.lemmas.List.{get_or_default}
 use Rattle.vm_base.specs.declared.info.PageInfo.{PageInfo}

@@ -17,7 +17,8 @@ use Rattle.vm_base.specs.Places.{IsFree, IsHint, IsFirstPlace, IsLeastRoom, IsRo
 use Rattle.vm_base.specs.Places.IsFirstPlace.{at_hint, in_window}
 use Rattle.vm_base.specs.Plain.{Entry, Plain, mode_of, is_mapped}
 use Rattle.vm_base.specs.Refusals.{refusal}
-use Rattle.vm_base.specs.Apply.{AppliesAfter, Performs, Maps, MapsAt, Protects, HasPage, Accesses, access_reply, accessed, back_at, is_absent, is_read_only, mapped, protected, range_at, unmapped}
+use Rattle.vm_base.specs.Apply.{AppliesAfter, Performs, Maps, MapsAt, Protects, HasPage, Accesses, access_reply, accessed, back_at}
+use Rattle.vm_base.specs.Apply.{is_absent, is_read_only, mapped, protected, range_at, unmapped}
 use Rattle.vm_base.specs.Apply.Protects.{no_page, no_write, done}
 use Rattle.vm_base.specs.Answers.{FirstAnswers, prepared}
 use Rattle.vm_base.proofs.Functions.{has_in, in_has}

@@ -1,5 +1,6 @@
 -- Decisions over slots are the plain page map's answers
-use Rattle.std.proofs.Common.{◌≡◌, ℕ, ◌+◌, ◌*◌, ◌^◌, ◌<◌, ◌≤◌, not, Bool, true, false, Option, Some, None, Result, Ok, is_some, refl, sym, ◌∙◌, ap, subst, arith}
+use Rattle.std.proofs.Common.{◌≡◌, ℕ, ◌+◌, ◌*◌, ◌^◌, ◌<◌, ◌≤◌, not, Bool, true, false, Option, Some, None, Result, Ok, is_some, refl, sym}
+use Rattle.std.proofs.Common.{◌∙◌, ap, subst, arith}
 use Rattle.std.specs.Prelude.{if◌then◌else◌}
 use Rattle.std.proofs.Math.Path.{fun_ext}
 use Rattle.std.proofs.lemmas.Bool.Decides.{nat_tests}
@@ -26,7 +27,8 @@ use Rattle.vm_base.specs.Plain.{File, Entry, Plain, mode_of, is_mapped}
 use Rattle.vm_base.specs.Refusals.{refusal}
 use Rattle.vm_base.specs.Places.{IsFree, IsRoom, IsLeastRoom, IsPlace}
 use Rattle.vm_base.specs.Places.IsPlace.{at_hint, in_window, nowhere}
-use Rattle.vm_base.specs.Apply.{meta_of, Applies, AppliesAfter, Performs, Protects, MapsAt, HasPage, is_absent, is_read_only, is_read_only_back, forbids_write, mapped, unmapped, protected}
+use Rattle.vm_base.specs.Apply.{meta_of, Applies, AppliesAfter, Performs, Protects, MapsAt, HasPage, is_absent, is_read_only}
+use Rattle.vm_base.specs.Apply.{is_read_only_back, forbids_write, mapped, unmapped, protected}
 use Rattle.vm_base.specs.Apply.Protects.{no_page, no_write, done}
 use Rattle.slot_lock.specs.declared.plan.Change.{Change}
 use Rattle.slot_lock.specs.declared.plan.Change.TheVariants.{Put, Clear, Protect}

@@ -3,7 +3,8 @@ use Rattle.radix_node.specs.State.{state_of}
 use Rattle.radix_node.specs.Run.{width_of}
 use Rattle.radix_node.specs.Node.{Parts, runs}
 use Rattle.radix_node.specs.Walk.{OnAll, IsMapped, HasNoFrame}
-use Rattle.radix_node.proofs.Walks.{Along, along_in, along_part, along_down, IsPart, Seen, along_below, along_done, along_next, slot_small, seen_own, seen_child, seen_all, own_unmapped, child_unmapped, own_framed, child_framed}
+use Rattle.radix_node.proofs.Walks.{Along, along_in, along_part, along_down, IsPart, Seen, along_below, along_done, along_next, slot_small}
+use Rattle.radix_node.proofs.Walks.{seen_own, seen_child, seen_all, own_unmapped, child_unmapped, own_framed, child_framed}
 use Rattle.radix_node.proofs.node.Node.+all_mapped.Goals as goal
 use Rattle.radix_node.proofs.node.Node.+all_mapped.Goals.{in-Own+else-not-is_mapped, in-Child+else-not-all_mapped}
 

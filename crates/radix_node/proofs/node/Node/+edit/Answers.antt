@@ -6,7 +6,8 @@ use Rattle.radix_node.specs.Edit.{CanEdit, edited_cell}
 use Rattle.radix_node.proofs.Divided.{part_ends}
 use Rattle.radix_node.proofs.Flat.{IsPlace, whole-node, child_level, child_pages, child_node}
 use Rattle.radix_node.proofs.Walks.{Along, IsPart, along_below, along_done, along_next, slot_small}
-use Rattle.radix_node.proofs.Edits.{Edits, edits_none, own_within, own_node, edits_own, edits_child, child_begins, child_ends, can_fewer, InSlot, Narrow, own_narrow, child_narrow, child_uncrossed}
+use Rattle.radix_node.proofs.Edits.{Edits, edits_none, own_within, own_node, edits_own, edits_child, child_begins, child_ends, can_fewer}
+use Rattle.radix_node.proofs.Edits.{InSlot, Narrow, own_narrow, child_narrow, child_uncrossed}
 use Rattle.radix_node.proofs.node.Node.+edit.Goals as goal
 use Rattle.radix_node.proofs.node.Node.+edit.Goals.{Joined-index_mut, in-Own, in-Child, in-Own-index_mut, in-Child-index_mut}
 

@@ -5,7 +5,9 @@ use Rattle.radix_node.specs.Node.{Parts, runs, flatten}
 use Rattle.radix_node.specs.Slots.{parts_of}
 use Rattle.radix_node.specs.Walk.{Finds, IsFree, IsOpen}
 use Rattle.radix_node.proofs.Divided.{part_ends}
-use Rattle.radix_node.proofs.Walks.{Along, along_in, along_part, along_down, IsPart, FreeTo, reach_high, free_before, along_below, along_done, along_next, slot_small, free_mapped, free_on, free_found, free_child, free_found_below, free_open}
+use Rattle.radix_node.proofs.Walks.{Along, along_in, along_part, along_down, IsPart, FreeTo, reach_high, free_before, along_below}
+use Rattle.radix_node.proofs.Walks.{along_done, along_next, slot_small, free_mapped, free_on, free_found, free_child, free_found_below}
+use Rattle.radix_node.proofs.Walks.{free_open}
 use Rattle.radix_node.proofs.node.Node.+free_run.Goals as goal
 use Rattle.radix_node.proofs.node.Node.+free_run.Goals.{in-Own+then-is_mapped, in-Own+else-is_mapped+else-n-slot, in-Child+in-Open}
 

@@ -3,7 +3,9 @@ use Rattle.slot_lock.specs.declared.run.Run.{Run}
 use Rattle.slot_lock.specs.Places.{read_run, before_last}
 use Rattle.slot_lock.proofs.Adding.{no_some, none_of}
 use Rattle.slot_lock.proofs.Steps.{free_page, free_run}
-use Rattle.slot_lock.proofs.run_list.RunListSlotMap.free_page.Goals.{then-is_some-via-then-is_some, then-is_some-via-else-is_some+then-slot-page, then-is_some-via-else-is_some+else-slot-page+then-page-index}
+use Rattle.slot_lock.proofs.run_list.RunListSlotMap.free_page.Goals.{then-is_some-via-then-is_some}
+use Rattle.slot_lock.proofs.run_list.RunListSlotMap.free_page.Goals.{then-is_some-via-else-is_some+then-slot-page}
+use Rattle.slot_lock.proofs.run_list.RunListSlotMap.free_page.Goals.{then-is_some-via-else-is_some+else-slot-page+then-page-index}
 use Rattle.slot_lock.proofs.run_list.RunListSlotMap.free_page.Goals as goal
 
 pub returns-then-is_some-clause-none : goal.returns-then-is_some-clause-none
