@@ -5,7 +5,7 @@ ghost use Rattle.core_steps.specs.Machine.{state};
 
 use crate::by_hand::{Moves, outcome_of};
 use core_steps::{Kept, Machine};
-use machine_model::{Entry, Event, Outcome};
+use machine_model::{Event, Outcome};
 use map_list::MapLine;
 use radix_range::RadixMap;
 use slot_lock::{RunList, SlotMap};
@@ -21,7 +21,7 @@ use trace_text::{
     Line, LineText, address_text, number_text, read_line, write_answer, write_detach,
     write_map_line,
 };
-use vm_base::{CoreId, NoMemory};
+use vm_base::{CoreId, Entry, NoMemory};
 
 /// A machine as the program has it. It is named here alone.
 pub type Space<M, A> = Machine<M, A, Kept<A>>;

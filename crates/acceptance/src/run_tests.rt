@@ -3,11 +3,11 @@ use crate::machines::{declared, machine_over, push_outcomes};
 use backing::FileSpec;
 use core_steps::{Counted, Kept, RunFault, Setup, SetupFault, run};
 use linked_list_allocator::LocalHeap;
-use machine_model::{Entry, Event, Outcome};
+use machine_model::{Event, Outcome};
 use slot_lock::RunList;
 use std::alloc::{Allocator, Global};
 use std::test::Fail;
-use vm_base::{CoreId, Errno, Flags, Mode, NoMemory, Prot, Reply, Request};
+use vm_base::{CoreId, Entry, Errno, Flags, Mode, NoMemory, Prot, Reply, Request};
 
 /// mmap 0x10000 of so many bytes, rw-, private, fixed, anonymous, and three steps of it.
 fn mmap_and_go(len: u64) -> [Event; 4] {

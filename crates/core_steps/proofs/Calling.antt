@@ -7,7 +7,7 @@ use Rattle.backing.specs.Files.{FileParts}
 use Rattle.frames.specs.Parts.{FrameParts}
 use Rattle.refcache.specs.Counts.{Counts}
 use Rattle.machine_model.specs.declared.event.Outcome.TheVariants.{Stepped}
-use Rattle.machine_model.specs.declared.log.Entry.{Entry}
+use Rattle.vm_base.specs.declared.log.Entry.{Entry}
 use Rattle.machine_model.specs.declared.phase.Phase.{Phase}
 use Rattle.machine_model.specs.declared.phase.Phase.TheVariants.{Free, Check}
 use Rattle.machine_model.specs.World.{World, Hardware}

@@ -27,7 +27,7 @@ use Rattle.mmu.specs.declared.entry.Translation.{Translation}
 use Rattle.mmu.specs.declared.tlb.TlbEntry.{TlbEntry}
 use Rattle.machine_model.specs.declared.event.Event.TheVariants.{Go}
 use Rattle.machine_model.specs.declared.event.Outcome.TheVariants.{Stepped}
-use Rattle.machine_model.specs.declared.log.Entry.TheVariants as EntryOf
+use Rattle.vm_base.specs.declared.log.Entry.TheVariants as EntryOf
 use Rattle.machine_model.specs.declared.phase.Phase.TheVariants.{Acks, Answer, Decide, Lock, Post, Unlock}
 use Rattle.machine_model.specs.World.{Hardware, World}
 use Rattle.machine_model.specs.Changes.{AwaitsNobody, CountsLost, reply_to, slots_after}

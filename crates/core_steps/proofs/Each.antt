@@ -9,7 +9,7 @@ use Rattle.vm_base.specs.Functions.{has, over, put}
 use Rattle.vm_base.proofs.Functions.{over_all, put_all}
 use Rattle.mmu.specs.declared.entry.Translation.{Translation}
 use Rattle.mmu.specs.declared.tlb.TlbEntry.{TlbEntry}
-use Rattle.mmu.specs.Tlb.{tlb_without, is_page}
+use Rattle.mmu.specs.Tlb.{tlb_without, is_at}
 use Rattle.shootdown.specs.declared.message.Message.{Message}
 use Rattle.shootdown.specs.Messages.{InboxOf, posted}
 use Rattle.shootdown.specs.Inboxes.{inbox, sent}
@@ -98,9 +98,9 @@ module _ {C : Type 0} (table : C → ℕ → Option Translation) (tlb : C → Li
   none_set et el =
       table_set (λ t. t) et el ∙ ap (λ f. record Old { table = f }) (put_id (of_each table (λ p. None) cpus) k (Old.table k) refl)
 
-  pub evict_set : (p : ℕ) (r : Bool) → table x ≡ table y → tlb x ≡ (if r then tlb_without (is_page p) (tlb y) else tlb y)
+  pub evict_set : (p : ℕ) (r : Bool) → table x ≡ table y → tlb x ≡ (if r then tlb_without (is_at p) (tlb y) else tlb y)
       → New ≡ (if r then after_eviction Old k p else Old)
-  evict_set p true et el = tlb_set (λ t l. tlb_without (is_page p) l) et el
+  evict_set p true et el = tlb_set (λ t l. tlb_without (is_at p) l) et el
   evict_set p false et el = none_set et el
 
 -- ---- a core that has nothing of a range

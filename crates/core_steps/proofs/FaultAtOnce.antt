@@ -12,7 +12,7 @@ use Rattle.vm_base.specs.declared.rights.Access.{Access}
 use Rattle.vm_base.specs.declared.rights.Access.TheVariants.{Load, Store, Fetch}
 use Rattle.vm_base.specs.Apply.{is_anonymous}
 use Rattle.vm_base.specs.Functions.{put}
-use Rattle.vm_base.specs.Info.{info_with_frame}
+use Rattle.vm_base.specs.Info.{info_with_frame, info_with_core}
 use Rattle.vm_base.specs.Pages.{IsPage}
 use Rattle.vm_base.specs.Plain.{Bytes, zeros}
 use Rattle.vm_base.specs.Rights.{is_allowed}
@@ -32,11 +32,11 @@ use Rattle.vm_calls.specs.declared.fault.Settled.TheVariants as Found
 use Rattle.vm_calls.specs.Settling.{is_cached, is_private_store, settled, source}
 use Rattle.machine_model.specs.declared.event.Event.TheVariants.{Go}
 use Rattle.machine_model.specs.declared.event.Outcome.TheVariants.{Stepped}
-use Rattle.machine_model.specs.declared.log.Entry.TheVariants as EntryOf
+use Rattle.vm_base.specs.declared.log.Entry.TheVariants as EntryOf
 use Rattle.machine_model.specs.declared.phase.Phase.{Phase}
 use Rattle.machine_model.specs.declared.phase.Phase.TheVariants.{Answer, Fill, Install, Lock, Release, Settle, Try, Unlock, Want}
 use Rattle.machine_model.specs.World.{Hardware, Memory, World}
-use Rattle.machine_model.specs.Accesses.{IsLeastFree, after_finding, after_translation, after_try, found_at, info_with_core, is_past_end}
+use Rattle.machine_model.specs.Accesses.{IsLeastFree, after_finding, after_translation, after_try, found_at, is_past_end}
 use Rattle.machine_model.specs.Accesses.{memory_after, reply_of}
 use Rattle.machine_model.specs.Actions.{after_reply, answer_entry, to, with_entry}
 use Rattle.machine_model.specs.Files.{back_of, file_frame, is_private, prot_installed, shows_some}

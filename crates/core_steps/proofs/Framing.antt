@@ -14,7 +14,7 @@ use Rattle.vm_base.specs.declared.rights.Access.{Access}
 use Rattle.vm_base.specs.declared.rights.Access.TheVariants.{Load, Store, Fetch}
 use Rattle.vm_base.specs.Cores.{members}
 use Rattle.vm_base.specs.Functions.{put}
-use Rattle.vm_base.specs.Info.{frame_of, info_with_frame, is_recorded}
+use Rattle.vm_base.specs.Info.{frame_of, info_with_frame, is_recorded, info_with_copy}
 use Rattle.vm_base.specs.Plain.{Bytes, File, bytes_in, file_bytes, zeros}
 use Rattle.vm_base.proofs.CoreSets.{members-empty}
 use Rattle.slot_lock.specs.declared.plan.Plan.TheVariants as PlanOf
@@ -34,7 +34,7 @@ use Rattle.machine_model.specs.Accesses.{lies_past_end}
 use Rattle.machine_model.specs.Actions.{to, with_entry, detach_entry}
 use Rattle.machine_model.specs.Files.{back_of, bytes_shown, file_frame, page_now, with_cached}
 use Rattle.machine_model.specs.Filling.{CopiesNext, FillsBacked, FillsFrame, FillsFromFile, FillsOwn, after_copy}
-use Rattle.machine_model.specs.Filling.{after_first_copy, after_zeros, cores_of, info_copied}
+use Rattle.machine_model.specs.Filling.{after_first_copy, after_zeros, cores_of}
 use Rattle.machine_model.specs.Holding.{page_of_touch, range_held, some_has, taken_in}
 use Rattle.machine_model.specs.Step.{Goes}
 use Rattle.machine_model.specs.Changes.{AwaitsNobody, Awaits}
@@ -286,7 +286,7 @@ copied_so w c touch f g page counts = to c (Install touch) (with_entry (detach_e
 
 pub copied_page : (w v : World) (c : ℕ) (touch : Touch) (f g : ℕ) (counts : Counts) (info : PageInfo) → w.slots.info touch.page ≡ Some info
     → v ≡ copied_so w c touch f g (Some (record info { frame = Some f; cores = 0 })) counts → v ≡ after_copy c touch f g counts w
-copied_page w v c touch f g counts info e now = now ∙ ap (λ o. copied_so w c touch f g (info_copied f o) counts) (sym e)
+copied_page w v c touch f g counts info e now = now ∙ ap (λ o. copied_so w c touch f g (info_with_copy f o) counts) (sym e)
 
 pub copies : (w v : World) (c : ℕ) (touch : Touch) (f g : ℕ) → AwaitsNobody w.hardware c → frame_of (w.slots.info touch.page) ≡ Some g
     → MakesCopy w c touch f g v → CopiesNext w c touch f Stepped v

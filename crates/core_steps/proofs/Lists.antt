@@ -9,7 +9,7 @@ use Rattle.vm_base.specs.Functions.{put}
 use Rattle.vm_base.proofs.Functions.{put_all}
 use Rattle.machine_model.specs.declared.phase.Phase.{Phase}
 use Rattle.machine_model.specs.declared.phase.Phase.TheVariants.{Free}
-use Rattle.machine_model.specs.declared.log.Entry.{Entry}
+use Rattle.vm_base.specs.declared.log.Entry.{Entry}
 use Rattle.machine_laws.specs.Orderly.{answer_count}
 use Rattle.machine_laws.proofs.Moves.{answers_more}
 use Rattle.core_steps.specs.State.{phase_at, number_at}

@@ -12,12 +12,14 @@ use Rattle.vm_base.specs.Pages.{IsPage}
 use Rattle.vm_base.specs.Plain.{Entry, Plain}
 use Rattle.slot_lock.specs.Slots.{IsSlotMap}
 use Rattle.map_list.specs.declared.lines.MapLine.{MapLine}
-use Rattle.map_list.specs.Lines.{GoesOn, IsMapList, IsNextLine, NoneMapped, entry_meta, info_meta, plain_metas, slot_metas}
+use Rattle.map_list.specs.Lines.{GoesOn, IsMapList, IsNextLine, NoneMapped, entry_meta, plain_metas}
+use Rattle.map_list.specs.Walked.{info_meta, slot_metas}
 use Rattle.machine_model.specs.World.{World, Memory}
 use Rattle.machine_sound.specs.Invariant.{ShowsPage}
 use Rattle.machine_sound.specs.Sound.{IsReached}
 use Rattle.machine_sound.proofs.OneMap.{log_leads_to_one}
-use Rattle.core_steps.specs.MapLines.{HasNoMap, IsLineStart, IsNextMap, LeadsTo, ListsMaps}
+use Rattle.core_steps.specs.MapLines.{HasNoMap, IsLineStart, IsNextMap, ListsMaps}
+use Rattle.machine_sound.specs.Log.{LeadsTo}
 use Rattle.core_steps.proofs.Reached.{fine, legal}
 
 -- a page of the slots and the page of the plain page map that they show

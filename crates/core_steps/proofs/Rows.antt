@@ -26,7 +26,8 @@ use Rattle.vm_base.specs.declared.rights.Prot.{Prot}
 use Rattle.machine_model.specs.Files.{prot_installed}
 use Rattle.slot_lock.specs.Slots.{with_info}
 use Rattle.mmu.specs.Entry.{translation_of}
-use Rattle.machine_model.specs.Accesses.{TakesThisFrame, after_frame, after_install, info_with_core}
+use Rattle.machine_model.specs.Accesses.{TakesThisFrame, after_frame, after_install}
+use Rattle.vm_base.specs.Info.{info_with_core}
 use Rattle.machine_model.specs.Actions.{to}
 use Rattle.vm_base.specs.declared.replies.Reply.{Reply}
 use Rattle.vm_base.specs.declared.requests.Request.{Request}

@@ -16,7 +16,7 @@ use Rattle.core_steps.specs.Running.{IsRefusedAt}
 
 -- the first events are all of them
 pub all_bracketed : (made : Made) (slots : Slots) (first es : List Event) (os : List Outcome) (w : World) → made.cores ≤ 64 → IsNew slots
-    → first ≡ es → Run (new_world made slots) first os w → IsBracketed es os w
+    → first ≡ es → Run (new_world made slots) first os w → IsBracketed es os w.calls.requests w.calls.log
 all_bracketed made slots first es os w few new e r = bracketed made slots es os w few new (subst (λ es. Run (new_world made slots) es os w) e r)
 
 pub all_sound : (made : Made) (slots : Slots) (first es : List Event) (os : List Outcome) (w : World) → made.cores ≤ 64 → IsNew slots → first ≡ es

@@ -32,14 +32,14 @@ IsRefused w core v = (n : ℕ) × (n < finish_limit) × MayWant v (Go core) × S
 -- ---- a call with its steps
 
 -- of a call that began the steps are made that finish it; of one that didn't this is the outcome
-abbrev pub GoesOn : World → ℕ → Outcome → Finished → World → Type 0
-GoesOn m core Stepped finished v = Finishes m core finished v
-GoesOn m core o finished v = (v ≡ m) × (finished ≡ Last o)
+abbrev pub FinishesAfter : World → ℕ → Outcome → Finished → World → Type 0
+FinishesAfter m core Stepped finished v = Finishes m core finished v
+FinishesAfter m core o finished v = (v ≡ m) × (finished ≡ Last o)
 
 -- a call begins, and is finished
 abbrev pub Calls : World → ℕ → Request → Finished → World → Type 0
 Calls w core request finished v =
-    (o : Outcome) × (m : World) × Step w (Call core request) o m × GoesOn m core o finished v
+    (o : Outcome) × (m : World) × Step w (Call core request) o m × FinishesAfter m core o finished v
 
 -- it began, and one of its steps, which may be refused for memory, was
 abbrev pub IsCallRefused : World → ℕ → Request → World → Type 0

@@ -1,14 +1,10 @@
 -- The list of mappings of the plain page map to which a machine's log leads
 use Rattle.std.specs.Prelude.{◌≡◌, ℕ, ◌-◌, ◌^◌, ◌⊎◌, List}
-use Rattle.vm_base.specs.Plain.{Plain, nothing_mapped}
+use Rattle.vm_base.specs.Plain.{Plain}
 use Rattle.map_list.specs.declared.lines.MapLine.{MapLine}
 use Rattle.map_list.specs.Lines.{GoesOn, IsMapList, IsNextLine, NoneMapped, plain_metas}
 use Rattle.machine_model.specs.World.{World}
-use Rattle.machine_sound.specs.Log.{Replays}
-
--- the log of w, applied to no mappings and the files of the start, leads to the plain page map t
-abbrev pub LeadsTo : World → Plain → Type 0
-LeadsTo w t = Replays w.calls.requests (nothing_mapped w.made.file) w.calls.log t
+use Rattle.machine_sound.specs.Log.{LeadsTo}
 
 -- of that map: these are all its mappings, in order,
 abbrev pub ListsMaps : World → List MapLine → Type 0

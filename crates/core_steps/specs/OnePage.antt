@@ -15,10 +15,11 @@ use Rattle.vm_calls.specs.declared.fault.Settled.{Settled}
 use Rattle.vm_calls.specs.declared.fault.Settled.TheVariants as Found
 use Rattle.refcache.specs.Counts.{Counts, true_count}
 use Rattle.refcache.specs.Steps.{Takes, Begin, Inc, IsUnused}
-use Rattle.machine_model.specs.declared.log.Entry.TheVariants as EntryOf
+use Rattle.vm_base.specs.declared.log.Entry.TheVariants as EntryOf
 use Rattle.machine_model.specs.declared.phase.Phase.{Phase}
 use Rattle.machine_model.specs.declared.phase.Phase.TheVariants.{Answer, Try}
-use Rattle.machine_model.specs.Accesses.{IsLeastFree, after_finding, info_with_core}
+use Rattle.machine_model.specs.Accesses.{IsLeastFree, after_finding}
+use Rattle.vm_base.specs.Info.{info_with_core}
 use Rattle.machine_model.specs.Actions.{after_reply, to}
 use Rattle.machine_model.specs.Holding.{page_of_touch}
 use Rattle.machine_model.specs.Locks.{locking}

@@ -21,8 +21,8 @@ phase_at phases c = slice_index_or phases c Free
 abbrev pub number_at : List ℕ → ℕ → ℕ
 number_at numbers c = slice_index numbers c
 
-abbrev pub calls_of : {A L : Type 0} {ledger : LedgerGhosts L} → CallTable A L ledger → Calls
-calls_of {ledger = ledger} it = record {
+abbrev pub calls_in : {A L : Type 0} {ledger : LedgerGhosts L} → CallTable A L ledger → Calls
+calls_in {ledger = ledger} it = record {
   phase = phase_at it.phases.items;
   number = number_at it.numbers.items;
   requests = it.requests.items.items;
@@ -53,7 +53,7 @@ abbrev pub world_of : {A L : Type 0} {ledger : LedgerGhosts L} → Slots → Har
     → Counts → List FileParts → CallTable A L ledger → World
 world_of slots hardware frames counts files calls =
     world_with slots hardware frames counts files (length calls.phases.items) calls.requests.limit
-    (calls_of calls)
+    (calls_in calls)
 
 -- the state that the engine has, by what its map says of slots
 abbrev pub world : {M H A L : Type 0} {map : _} {read : _} {cpu : _} {ledger : _} → (M → Slots)

@@ -11,11 +11,11 @@ ghost use Rattle.core_steps.specs.OnePage.{logged_later, replied};
 
 use crate::engine::Engine;
 use crate::ledger::Ledger;
-use machine_model::{Entry, Outcome, Phase};
+use machine_model::{Outcome, Phase};
 use mmu::Hardware;
 use slot_lock::{SlotMap, Touch};
 use std::alloc::Allocator;
-use vm_base::{CoreId, PageRange, Reply};
+use vm_base::{CoreId, Entry, PageRange, Reply};
 
 /// Where a call goes on that has its reply: what it holds is unlocked, and then the reply
 /// is handed out.

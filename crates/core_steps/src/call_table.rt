@@ -1,7 +1,7 @@
 //! The table of the calls as it is made.
 ghost use Rattle.std.specs.Prelude.{◌≡◌, ◌≤◌, length, IfOk};
 ghost use Rattle.machine_model.specs.World.{no_calls};
-ghost use Rattle.core_steps.specs.State.{calls_of};
+ghost use Rattle.core_steps.specs.State.{calls_in};
 
 use crate::calls::CallTable;
 use crate::ledger::Opening;
@@ -18,7 +18,7 @@ pub fn new_call_table<A: Allocator + Clone, L: Opening<A>>(
 ) -> Result<CallTable<A, L>, NoMemory>
     requires cores { cores ≤ 64 }
     requires limit { limit ≤ 1048576 }
-    ensures calls { IfOk result (λ table. calls_of table ≡ no_calls) }
+    ensures calls { IfOk result (λ table. calls_in table ≡ no_calls) }
     ensures cores { IfOk result (λ table. length table.phases.items ≡ cores) }
     ensures limit { IfOk result (λ table. table.requests.limit ≡ limit) }
 {

@@ -4,9 +4,9 @@ ghost use Rattle.machine_laws.specs.Orderly.{answer_count};
 
 use crate::ledger::Ledger;
 use crate::tally::Tally;
-use machine_model::{Entry, Phase};
+use machine_model::Phase;
 use std::alloc::Allocator;
-use vm_base::{CoreId, NoMemory, Request};
+use vm_base::{CoreId, Entry, NoMemory, Request};
 
 /// Where the call of each core stands, the calls begun, and the log.
 #[derive(Drop)]
@@ -28,18 +28,18 @@ pub(crate) struct CallTable<A: Allocator, L: Ledger> {
 
 impl<A: Allocator, L: Ledger> CallTable<A, L> {
     ghost use Rattle.std.specs.Prelude.{◌<◌, ◌++◌, ◌∷◌, [], OnOk, OnErr};
-    ghost use Rattle.machine_model.specs.declared.log.Entry.TheVariants.{Detach};
-    ghost use Rattle.core_steps.specs.State.{calls_of, number_at};
+    ghost use Rattle.vm_base.specs.declared.log.Entry.TheVariants.{Detach};
+    ghost use Rattle.core_steps.specs.State.{number_at, calls_in};
 
     /// It is logged that the core's call has made a copy of its own for the page. The
     /// room for replies stays. A refusal for memory changes nothing.
     pub fn log_detach(&mut self, core: CoreId, page: u64) -> Result<(), NoMemory>
         requires { core < length self.old.phases.items }
-        ensures ok { OnOk result (calls_of self.new ≡ record (calls_of self.old) {
+        ensures ok { OnOk result (calls_in self.new ≡ record (calls_in self.old) {
           log = L.entries self.old.log
               ++ Detach self.old.events (number_at self.old.numbers.items core) page ∷ [];
         }) }
-        ensures err { OnErr result (calls_of self.new ≡ calls_of self.old) }
+        ensures err { OnErr result (calls_in self.new ≡ calls_in self.old) }
         ensures cores { length self.new.phases.items ≡ length self.old.phases.items }
         ensures limit { self.new.requests.limit ≡ self.old.requests.limit }
     {

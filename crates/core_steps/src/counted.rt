@@ -3,8 +3,8 @@ ghost use Rattle.std.specs.Prelude.{◌≡◌, false, length};
 
 use crate::ledger::{Ledger, Opening};
 use crate::tally::Tally;
-use machine_model::Entry;
 use std::alloc::AllocError;
+use vm_base::Entry;
 
 /// A log whose entries are only counted.
 #[derive(Drop)]

@@ -2,8 +2,8 @@
 ghost use Rattle.std.specs.Prelude.{◌≡◌, ◌≤◌, true, length, vec_len, vec_capacity};
 
 use crate::ledger::{Ledger, Opening};
-use machine_model::Entry;
 use std::alloc::{AllocError, Allocator};
+use vm_base::Entry;
 
 /// A log that keeps its entries.
 #[derive(Drop)]

@@ -1,10 +1,10 @@
 //! What becomes of the entries of a log.
 ghost use Rattle.std.specs.Prelude.{◌≡◌, ◌+◌, ◌^◌, ◌<◌, ◌≤◌, ◌++◌, ◌∷◌, [], ℕ, List, length, Bool};
 ghost use Rattle.std.specs.Prelude.{false, IfOk, IfNone, IfSome, OnOk, OnErr};
-ghost use Rattle.machine_model.specs.declared.log.Entry.{Entry as EntryOf};
+ghost use Rattle.vm_base.specs.declared.log.Entry.{Entry as EntryOf};
 
-use machine_model::Entry;
 use std::alloc::AllocError;
+use vm_base::Entry;
 
 /// A log of at most `limit` entries, for all of which there is room. Only an entry beyond
 /// them may take memory.

@@ -7,12 +7,12 @@ use crate::kept::Kept;
 use crate::ledger::{Ledger, Opening};
 use crate::setup::{Setup, SetupFault};
 use crate::starting::Started;
-use machine_model::{Entry, Event, Outcome};
+use machine_model::{Event, Outcome};
 use map_list::{MapLine, all_lines, next_line};
 use mmu::{Cpu, Hardware};
 use slot_lock::SlotMap;
 use std::alloc::Allocator;
-use vm_base::{CoreId, NoMemory, Request};
+use vm_base::{CoreId, Entry, NoMemory, Request};
 
 /// How many steps finish a call at the most.
 const FINISH_LIMIT: u64 = 1 << 40;

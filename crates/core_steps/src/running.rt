@@ -35,7 +35,8 @@ pub fn run<M: SlotMap + Drop, A: Allocator + Clone + Drop, L: Opening<A> + Drop>
     ensures run { IfOk result (λ done. RunsTo (new_world (made_of setup) (M.slots map)) events.now
         done.outcomes.items (state done.machine)) }
     ensures all { IfOk result (λ done. length done.outcomes.items ≡ length events.now) }
-    ensures brackets { IfOk result (λ done. IsBracketed events.now done.outcomes.items (state done.machine)) }
+    ensures brackets { IfOk result (λ done. IsBracketed events.now done.outcomes.items
+        (state done.machine).calls.requests (state done.machine).calls.log) }
     ensures sound { IfOk result (λ done. SoundRun (new_world (made_of setup) (M.slots map)) events.now
         done.outcomes.items (state done.machine)) }
     ensures fault { IfErr result (λ fault. Fails (new_world (made_of setup) (M.slots map)) setup events.now fault) }

@@ -1,21 +1,10 @@
 -- What changes of a slot come to: its content is the replay of its history
 use Rattle.std.specs.Prelude.{ℕ, List, ◌∷◌, fold, Option, Some, None}
 use Rattle.vm_base.specs.declared.info.PageInfo.{PageInfo}
-use Rattle.vm_base.specs.Cores.{with_member}
-use Rattle.vm_base.specs.Info.{unused, info_with_prot, info_with_frame}
+use Rattle.vm_base.specs.Info.{unused, info_with_core, info_with_copy, info_with_frame, info_with_prot}
 use Rattle.live_levels.specs.declared.act.Act.{Act}
 use Rattle.live_levels.specs.declared.act.Act.TheVariants.{Put, Clear, Protect, Frame, Copy, Record}
 use Rattle.live_levels.specs.declared.act.SlotChange.{SlotChange}
-
--- the page with a copy of its bytes in a frame of its own, of which no core has a translation yet
-abbrev pub info_with_copy : ℕ → Option PageInfo → Option PageInfo
-info_with_copy frame None = None
-info_with_copy frame (Some info) = Some (record info { frame = Some frame; cores = 0 })
-
--- the page with one recorded core more
-abbrev pub info_with_core : ℕ → Option PageInfo → Option PageInfo
-info_with_core core None = None
-info_with_core core (Some info) = Some (record info { cores = with_member info.cores core })
 
 -- what a slot's first page has after the act
 abbrev pub after : Option PageInfo → Act → Option PageInfo

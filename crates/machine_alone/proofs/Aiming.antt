@@ -35,7 +35,7 @@ use Rattle.vm_calls.proofs.Plainly.{counted}
 use Rattle.machine_model.specs.World.{Made}
 use Rattle.machine_laws.specs.Orderly.{IsChosen, LeadsTo}
 use Rattle.machine_laws.proofs.Deciding.{acts_valid, run_own}
-use Rattle.machine_alone.specs.Taken.{is_access}
+use Rattle.vm_base.specs.Requests.{is_access}
 use Rattle.machine_alone.proofs.Using.{DropsAll, change_drops, either_plan, no_change}
 
 -- ---- the request

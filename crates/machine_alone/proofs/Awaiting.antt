@@ -29,20 +29,20 @@ use Rattle.machine_model.specs.Changes.{reply_to}
 use Rattle.machine_model.specs.Files.{back_of}
 use Rattle.machine_model.specs.Holding.{page_of_touch, taken_in}
 use Rattle.machine_model.specs.World.{World}
-use Rattle.machine_laws.specs.Brackets.{nth}
+use Rattle.vm_base.specs.Log.{nth, CanAccess, Stands}
 use Rattle.machine_laws.specs.Orderly.{IsUsable}
 use Rattle.machine_laws.proofs.Going.{call_sound, has_core}
 use Rattle.machine_laws.proofs.Moves.{IsCallOf, call_at}
-use Rattle.machine_sound.specs.Log.{CanAccess, Stands}
 use Rattle.machine_sound.specs.Invariant.{Fine}
 use Rattle.machine_sound.proofs.Fills.{IsUncopied, as_store, its_copy, private_only, shown_uncopied}
 use Rattle.machine_sound.proofs.Pages.{framed}
 use Rattle.machine_sound.proofs.Replies.{acted, led_goes, made_of, touched_stands}
 use Rattle.machine_sound.proofs.Stores.{with_own}
 use Rattle.machine_alone.specs.Alone.{users_dropped}
-use Rattle.machine_alone.specs.Copies.{or_else, page_copied, page_due, with_copy}
-use Rattle.machine_alone.specs.Taken.{frames_for, is_access, taken_below}
-use Rattle.machine_alone.specs.Users.{Users, Same, users_after, with_user, without}
+use Rattle.vm_base.specs.Copies.{or_else, page_copied, page_due, with_copy}
+use Rattle.machine_alone.specs.Taken.{frames_for, taken_below}
+use Rattle.vm_base.specs.Requests.{is_access}
+use Rattle.vm_base.specs.Users.{Users, Same, users_after, with_user, without}
 use Rattle.machine_alone.proofs.Aiming.{goal_drops, goal_no_access}
 use Rattle.machine_alone.proofs.Rows.{HasTaken}
 use Rattle.machine_alone.proofs.Taking.{its_access, one_taken_of}

@@ -35,12 +35,13 @@ use Rattle.machine_laws.proofs.Shapes.{Moves, locks, tries, hints, seeks, guesse
 use Rattle.machine_laws.proofs.Shapes.{refuses, no_place, declines, fails, no_frame, LetsGo, unlocks, returns, releases, GoesBy, moves}
 use Rattle.machine_laws.proofs.Shapes.{divides, cuts, fits, owns, lets_go, answers, posts, commits, takes, zeroes, first_copies, caches}
 use Rattle.machine_laws.proofs.Shapes.{shares, posts_copy, copies, installs, accesses, faults, comes}
-use Rattle.machine_sound.specs.Log.{Stands}
+use Rattle.vm_base.specs.Log.{Stands}
 use Rattle.machine_sound.specs.Invariant.{Fine}
 use Rattle.machine_sound.proofs.Kept.{reached_fine, reached_step}
 use Rattle.machine_alone.specs.Alone.{IsAnsweredAtLast, IsWaiting, IsServedAtLast, IsAwaitingStill, takes_left}
-use Rattle.machine_alone.specs.Copies.{page_copied, with_copy}
-use Rattle.machine_alone.specs.Taken.{frames_for, frames_taken, is_access, taken_below}
+use Rattle.vm_base.specs.Copies.{page_copied, with_copy}
+use Rattle.machine_alone.specs.Taken.{frames_for, frames_taken, taken_below}
+use Rattle.vm_base.specs.Requests.{is_access}
 use Rattle.machine_alone.specs.Users.{recorded}
 use Rattle.machine_alone.proofs.Awaiting.{change_answers, copy_frames}
 use Rattle.machine_alone.proofs.First.{copy_first, named_first}

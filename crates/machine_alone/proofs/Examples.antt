@@ -10,7 +10,7 @@ use Rattle.vm_base.specs.declared.requests.Request.TheVariants.{Mmap, Load, Stor
 use Rattle.vm_base.specs.Apply.{FirstApplies}
 use Rattle.vm_base.specs.Places.IsFirstPlace.{at_hint, in_window}
 use Rattle.vm_base.proofs.OneAnswer.{one_answer}
-use Rattle.machine_alone.specs.First.{FirstAnswers}
+use Rattle.vm_base.specs.Log.{FirstReplies, Stands}
 use Rattle.vm_base.specs.declared.rights.Mode.TheVariants.{R}
 use Rattle.vm_base.specs.Functions.{put}
 use Rattle.vm_base.specs.Plain.{Plain, nothing_mapped, zeros}
@@ -18,15 +18,14 @@ use Rattle.slot_lock.specs.Slots.{Slots, IsNew}
 use Rattle.machine_model.specs.declared.event.Event.TheVariants.{Call, Go}
 use Rattle.machine_model.specs.declared.event.Outcome.{Outcome}
 use Rattle.machine_model.specs.declared.event.Outcome.TheVariants.{Stepped, Answered}
-use Rattle.machine_model.specs.declared.log.Entry.TheVariants.{Answer}
+use Rattle.vm_base.specs.declared.log.Entry.TheVariants.{Answer}
 use Rattle.machine_model.specs.World.{World, Made, new_world}
 use Rattle.machine_model.specs.Step.{Step, StepsTo, event_limit}
-use Rattle.machine_sound.specs.Log.{Stands}
 use Rattle.machine_sound.specs.Sound.{IsDue}
 use Rattle.machine_sound.proofs.Kept.{reached_opening}
 use Rattle.machine_alone.specs.Alone.{IsAwaiting}
-use Rattle.machine_alone.specs.Copies.{page_copied, with_copy}
-use Rattle.machine_alone.specs.Users.{users_after}
+use Rattle.vm_base.specs.Copies.{page_copied, with_copy}
+use Rattle.vm_base.specs.Users.{users_after}
 use Rattle.machine_alone.proofs.Serving.{served_alone}
 
 abbrev made : Made
@@ -80,7 +79,7 @@ in_its_window = (
 
 -- on a new machine it is answered so, whatever steps its call takes
 first_is : (addr at : ℕ) (is_free : ℕ → Bool) (t u : Plain) (y : Reply) → FirstApplies nothing 0 (asked addr) (Mapped at) t
-    → FirstAnswers nothing 0 (asked addr) y u → IsDue (Go 0) is_free (Answer 0 0 0 y) → y ≡ Mapped at
+    → FirstReplies nothing 0 (asked addr) y u → IsDue (Go 0) is_free (Answer 0 0 0 y) → y ≡ Mapped at
 first_is addr at is_free t u (Mapped a) k h d = (one_answer nothing u t 0 (asked addr) (Mapped a) (Mapped at) h k).0
 first_is addr at is_free t u Done k h d = (one_answer nothing u t 0 (asked addr) Done (Mapped at) h k).0
 first_is addr at is_free t u (Byte b) k h d = (one_answer nothing u t 0 (asked addr) (Byte b) (Mapped at) h k).0

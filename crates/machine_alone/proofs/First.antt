@@ -18,9 +18,9 @@ use Rattle.vm_base.specs.Refusals.{refusal}
 use Rattle.slot_lock.specs.declared.plan.Place.{Place}
 use Rattle.vm_calls.specs.Checks.{hint_at, placed_count}
 use Rattle.vm_calls.proofs.Plainly.{counted, few-found, hint-is, none-found, valid-few}
-use Rattle.machine_sound.specs.Log.{Stands}
-use Rattle.machine_alone.specs.Copies.{page_copied, with_copy}
-use Rattle.machine_alone.specs.First.{FirstAnswers, FirstStands, is_placed}
+use Rattle.vm_base.specs.Log.{Stands, FirstReplies}
+use Rattle.vm_base.specs.Copies.{page_copied, with_copy}
+use Rattle.vm_base.specs.Requests.{is_placed}
 use Rattle.machine_alone.proofs.Aiming.{IsPlaceOf}
 
 -- ---- the first place
@@ -153,9 +153,9 @@ refused_first t c request reply answer e u h =
 
 -- ---- entries of a log
 
-pub stands_first : (t : Plain) (c : ℕ) (request : Request) (reply : Reply) (u : Plain) → IsFirstReply t c request reply
-    → Stands t c request reply u
-    → FirstStands t c request reply u
+stands_first : (t : Plain) (c : ℕ) (request : Request) (reply : Reply) (u : Plain)
+    → IsFirstReply (with_copy t (page_copied t request reply)) c request reply
+    → Stands (with_copy t (page_copied t request reply)) c request reply u → FirstReplies t c request reply u
 stands_first t c request (Mapped at) u f h = f u h
 stands_first t c request Done u f h = f u h
 stands_first t c request (Byte byte) u f h = f u h
@@ -183,12 +183,11 @@ placed_uncopied t (Fetch addr) reply e = absurd cc
 
 -- of the map in which the page has got its copy
 pub copy_first : (t : Plain) (c : ℕ) (request : Request) (reply : Reply) (u : Plain) → IsFirstReply t c request reply
-    → Stands (with_copy t (page_copied t request reply)) c request reply u → FirstAnswers t c request reply u
+    → Stands (with_copy t (page_copied t request reply)) c request reply u → FirstReplies t c request reply u
 copy_first t c request reply u f h = go (is_placed request) refl
   where
-    go : (b : Bool) → is_placed request ≡ b → FirstAnswers t c request reply u
-    go false e = stands_first (with_copy t (page_copied t request reply)) c request reply u (named_first _ c request reply e) h
+    go : (b : Bool) → is_placed request ≡ b → FirstReplies t c request reply u
+    go false e = stands_first t c request reply u (named_first _ c request reply e) h
     go true e =
         let same : with_copy t (page_copied t request reply) ≡ t = ap (with_copy t) (placed_uncopied t request reply e) in
-        subst (λ m. FirstStands m c request reply u) (sym same)
-        (stands_first t c request reply u f (subst (λ m. Stands m c request reply u) same h))
+        stands_first t c request reply u (subst (λ m. IsFirstReply m c request reply) (sym same) f) h

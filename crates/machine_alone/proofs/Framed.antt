@@ -5,7 +5,7 @@ use Rattle.vm_base.specs.declared.info.PageInfo.{PageInfo}
 use Rattle.vm_base.specs.declared.rights.Access.{Access}
 use Rattle.vm_base.specs.declared.rights.Prot.{Prot}
 use Rattle.vm_base.specs.Functions.{put}
-use Rattle.vm_base.specs.Info.{frame_of, is_recorded, info_with_frame, info_with_prot}
+use Rattle.vm_base.specs.Info.{frame_of, is_recorded, info_with_frame, info_with_prot, info_with_core}
 use Rattle.vm_base.specs.Plain.{File}
 use Rattle.vm_base.proofs.CoreSets.{members-empty}
 use Rattle.vm_base.proofs.Functions.{put_all}
@@ -13,8 +13,7 @@ use Rattle.slot_lock.specs.Slots.{Slots}
 use Rattle.machine_model.specs.declared.event.Event.{Event}
 use Rattle.machine_model.specs.declared.event.Outcome.{Outcome}
 use Rattle.machine_model.specs.declared.phase.Phase.TheVariants.{Install}
-use Rattle.machine_model.specs.Accesses.{info_with_core}
-use Rattle.machine_model.specs.Filling.{info_copied}
+use Rattle.vm_base.specs.Info.{info_with_copy}
 use Rattle.machine_model.specs.World.{World, new_world}
 use Rattle.machine_model.specs.Step.{Run, with_event}
 use Rattle.machine_laws.specs.Orderly.{IsUsable}
@@ -41,7 +40,7 @@ filled_framed : (f : ℕ) (o : Option PageInfo) → IsFramedFor (info_with_frame
 filled_framed f None c h = absurd cc
 filled_framed f (Some info) c h = refl
 
-copied_framed : (f : ℕ) (o : Option PageInfo) → IsFramedFor (info_copied f o)
+copied_framed : (f : ℕ) (o : Option PageInfo) → IsFramedFor (info_with_copy f o)
 copied_framed f None c h = absurd cc
 copied_framed f (Some info) c h = refl
 

@@ -6,8 +6,8 @@ use Rattle.vm_base.specs.declared.requests.Request.{Request}
 use Rattle.vm_base.specs.Apply.{detached}
 use Rattle.vm_base.specs.Plain.{Plain}
 use Rattle.vm_base.proofs.Functions.{put_same}
-use Rattle.machine_model.specs.declared.log.Entry.{Entry}
-use Rattle.machine_model.specs.declared.log.Entry.TheVariants as EntryOf
+use Rattle.vm_base.specs.declared.log.Entry.{Entry}
+use Rattle.vm_base.specs.declared.log.Entry.TheVariants as EntryOf
 use Rattle.machine_model.specs.declared.phase.Phase.{Phase}
 use Rattle.machine_model.specs.declared.phase.Phase.TheVariants.{Lock, Back as Leaving, Cut, Post, Acks, Try, Want, Fill, CopyPost, CopyAcks, Install, Release}
 use Rattle.machine_model.specs.Accesses.{taken_for}
@@ -17,11 +17,11 @@ use Rattle.machine_model.specs.World.{World}
 use Rattle.machine_laws.proofs.Effects.{Status, Closed, Asked, Told, status, told_in, moves_quiet, replies_quiet, locked_quiet, back_quiet, taken_asked}
 use Rattle.machine_laws.proofs.Shapes.{LetsGo, unlocks, returns, releases, GoesBy, moves, divides, cuts, fits, owns, lets_go, answers, posts, commits}
 use Rattle.machine_laws.proofs.Shapes.{takes, zeroes, first_copies, caches, shares, posts_copy, copies, installs, accesses, faults}
-use Rattle.machine_sound.specs.Log.{GoesOn, Replays}
+use Rattle.vm_base.specs.Log.{EntryLeads, Replays}
 use Rattle.machine_sound.proofs.OneMap.{log_leads_to_one}
 use Rattle.machine_alone.specs.Alone.{IsCopied, IsNoted}
-use Rattle.machine_alone.specs.Copies.{or_else, with_copy}
-use Rattle.machine_alone.specs.Users.{Users}
+use Rattle.vm_base.specs.Copies.{or_else, with_copy}
+use Rattle.vm_base.specs.Users.{Users}
 use Rattle.machine_alone.proofs.Used.{IsFrom, IsUsed, copy_after, used_at}
 
 -- the log is that of the beginning, with the copy that the call has made, and with its reply once it has one
@@ -38,8 +38,8 @@ IsLoggedOf first call copy c w = IsLogged first w.calls.log call c copy (status 
 
 -- what the last entry did
 pub last_entry : (rs : List Request) (es : List Entry) (t u : Plain) (e : Entry) → Replays rs t (es ++ e ∷ []) u
-    → (m : Plain) × Replays rs t es m × GoesOn rs m e u
-last_entry rs [] t u e r = (t, refl, subst (GoesOn rs t e) (sym r.2) r.1)
+    → (m : Plain) × Replays rs t es m × EntryLeads rs m e u
+last_entry rs [] t u e r = (t, refl, subst (EntryLeads rs t e) (sym r.2) r.1)
 last_entry rs (x ∷ xs) t u e r = let k = last_entry rs xs r.0 u e r.2 in (k.0, (r.0, r.1, k.1), k.2)
 
 -- the map in which the call goes on

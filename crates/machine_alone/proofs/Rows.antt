@@ -34,13 +34,14 @@ use Rattle.vm_calls.specs.Settling.{is_private_store}
 use Rattle.vm_calls.specs.declared.fault.Settled.{Settled}
 use Rattle.vm_calls.specs.declared.fault.Settled.TheVariants.{MapErr, AccErr, Bus, Has, Copies, Cached, Wants}
 use Rattle.machine_model.specs.declared.event.Event.TheVariants.{Go}
-use Rattle.machine_model.specs.declared.log.Entry.TheVariants as EntryOf
+use Rattle.vm_base.specs.declared.log.Entry.TheVariants as EntryOf
 use Rattle.slot_lock.specs.declared.plan.Goal.{Goal}
 use Rattle.slot_lock.specs.declared.plan.Goal.TheVariants as To
 use Rattle.machine_model.specs.declared.phase.Phase.{Phase}
 use Rattle.machine_model.specs.declared.phase.Phase.TheVariants.{Check, Lock, Guess, Find, Back as Leaving, Cut, Decide, Post, Acks, Unlock, Answer}
 use Rattle.machine_model.specs.declared.phase.Phase.TheVariants.{Try, Settle, Want, Fill, CopyPost, CopyAcks, Install, Release}
-use Rattle.machine_model.specs.Accesses.{NoneFree, info_with_core, found_at, after_frame, after_install, reply_of, memory_after}
+use Rattle.machine_model.specs.Accesses.{NoneFree, found_at, after_frame, after_install, reply_of, memory_after}
+use Rattle.vm_base.specs.Info.{info_with_core}
 use Rattle.machine_model.specs.Files.{is_private, prot_installed, prot_shown, shows_some}
 use Rattle.machine_model.specs.Filling.{after_zeros, after_first_copy, after_caching, after_sharing, after_copy_post, after_copy}
 use Rattle.machine_model.specs.Actions.{to, let_go, after_reply, with_entry, detach_entry}

@@ -43,7 +43,7 @@ use Rattle.machine_model.specs.Locks.{all_locked, held_after, locked_to, locking
 use Rattle.machine_model.specs.Placing.{guess_of, placing}
 use Rattle.machine_model.specs.Step.{Goes}
 use Rattle.machine_model.specs.World.{Memory, World}
-use Rattle.machine_laws.specs.Brackets.{nth}
+use Rattle.vm_base.specs.Log.{nth}
 use Rattle.machine_laws.specs.Orderly.{Serves}
 use Rattle.machine_laws.proofs.Effects.{Asked, status}
 use Rattle.machine_laws.proofs.Moves.{IsCallOf, call_at}
@@ -52,8 +52,8 @@ use Rattle.machine_laws.proofs.Shapes.{declines, fails, no_frame, LetsGo, unlock
 use Rattle.machine_laws.proofs.Shapes.{answers, posts, commits, takes, zeroes, first_copies, caches, shares, posts_copy, copies, installs, accesses, faults}
 use Rattle.machine_sound.specs.Invariant.{Fine, Good, ShowsPage}
 use Rattle.machine_sound.proofs.Replies.{has_modes}
-use Rattle.machine_alone.specs.First.{is_placed}
-use Rattle.machine_alone.specs.Users.{Users}
+use Rattle.vm_base.specs.Requests.{is_placed}
+use Rattle.vm_base.specs.Users.{Users}
 use Rattle.machine_alone.proofs.Aiming.{IsPlaceOf, place_asked}
 use Rattle.machine_alone.proofs.First.{IsFirst, IsFirstReply, IsHintTaken, named_first, placed_first, refused_first, reply_at}
 use Rattle.machine_alone.proofs.Rank.{back_all}

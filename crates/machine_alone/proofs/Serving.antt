@@ -13,8 +13,8 @@ use Rattle.machine_model.specs.declared.event.Event.{Event}
 use Rattle.machine_model.specs.declared.event.Event.TheVariants.{Call, Go}
 use Rattle.machine_model.specs.declared.event.Outcome.{Outcome}
 use Rattle.machine_model.specs.declared.event.Outcome.TheVariants.{Stepped, Idle, Wait, Answered, Full}
-use Rattle.machine_model.specs.declared.log.Entry.{Entry}
-use Rattle.machine_model.specs.declared.log.Entry.TheVariants as EntryOf
+use Rattle.vm_base.specs.declared.log.Entry.{Entry}
+use Rattle.vm_base.specs.declared.log.Entry.TheVariants as EntryOf
 use Rattle.machine_model.specs.declared.phase.Phase.{Phase}
 use Rattle.machine_model.specs.declared.phase.Phase.TheVariants.{Free, Check, Lock, Guess, Find, Back as Leaving, Cut, Decide, Post, Acks, Unlock, Answer}
 use Rattle.machine_model.specs.declared.phase.Phase.TheVariants.{Try, Settle, Want, Fill, CopyPost, CopyAcks, Install, Release}
@@ -29,13 +29,12 @@ use Rattle.machine_model.specs.Holding.{awaits_in, holds}
 use Rattle.machine_model.specs.Actions.{to}
 use Rattle.machine_model.specs.Changes.{Awaits}
 use Rattle.machine_model.specs.Step.{Acts, Goes, after_call, with_event, event_limit, Step, StepsTo}
-use Rattle.machine_laws.specs.Brackets.{nth}
+use Rattle.vm_base.specs.Log.{nth, Replays, Stands, FirstReplies}
 use Rattle.machine_laws.proofs.Effects.{Closed, Asked, Told, status, SameCalls, Effect, keeps, tells, detaches, opens, closes, effect_of}
 use Rattle.machine_laws.proofs.Numbered.{at_new}
 use Rattle.machine_laws.proofs.Shapes.{Rests, absent, busy, full, free as callless, cannot, waits, awaits, GoesBy, Works, clears, invalidates}
 use Rattle.machine_laws.proofs.Shapes.{walks, evicts, flushes, reviews, frees, IsGoing, going, picking, Shape, rests, begins, ends, goes, aims}
 use Rattle.machine_laws.proofs.Shapes.{gives_up, works, joins, Comes, stopped, acts as happens, comes}
-use Rattle.machine_sound.specs.Log.{Replays, Stands}
 use Rattle.machine_sound.specs.Invariant.{Fine, Good}
 use Rattle.machine_laws.proofs.Deciding.{place_free}
 use Rattle.machine_laws.proofs.Moves.{IsCallOf, call_at}
@@ -43,11 +42,13 @@ use Rattle.machine_sound.specs.Sound.{IsReached}
 use Rattle.machine_sound.proofs.Logs.{replays_requests}
 use Rattle.machine_sound.proofs.OneMap.{log_leads_to_one}
 use Rattle.machine_sound.proofs.Kept.{reached_fine, reached_step}
-use Rattle.machine_alone.specs.Alone.{IsCalm, LeadsTo, IsNoted, IsServed, IsServedAlone, IsAwaiting, KeepsOthers}
-use Rattle.machine_alone.specs.Copies.{page_copied, with_copy}
-use Rattle.machine_alone.specs.Users.{Users, Same, recorded}
+use Rattle.machine_alone.specs.Alone.{IsCalm, IsNoted, IsServed, IsServedAlone, IsAwaiting, KeepsOthers}
+use Rattle.machine_sound.specs.Log.{LeadsTo}
+use Rattle.vm_base.specs.Copies.{page_copied, with_copy}
+use Rattle.machine_alone.specs.Users.{recorded}
+use Rattle.vm_base.specs.Users.{Users, Same}
 use Rattle.machine_alone.specs.Taken.{frames_for, frames_taken, taken_below}
-use Rattle.machine_alone.specs.First.{FirstAnswers, is_placed}
+use Rattle.vm_base.specs.Requests.{is_placed}
 use Rattle.machine_alone.proofs.First.{IsFirstReply, copy_first, named_first}
 use Rattle.machine_alone.proofs.Seeking.{IsSeeking, Seeks, change_is_named, seeks_on, touch_is_named}
 use Rattle.machine_alone.proofs.Awaiting.{WillAnswer, change_answers, copy_answers, change_frames, copy_frames}
@@ -541,7 +542,7 @@ seeking_along w t c request m h k (suc n) x s =
 
 -- its reply is the first
 first_reply : (w : World) (t : Plain) (c : ℕ) (request : Request) (o : Outcome) (x v : World) (reply : Reply)
-    (k : IsServed w t c request o v) → o ≡ Answered reply → x.calls.phase c ≡ Answer reply → IsSeeking t c request x → FirstAnswers t c request k.reply k.after
+    (k : IsServed w t c request o v) → o ≡ Answered reply → x.calls.phase c ≡ Answer reply → IsSeeking t c request x → FirstReplies t c request k.reply k.after
 first_reply w t c request o x v reply k answered at seeking =
     let both : Answered k.reply ≡ Answered reply = sym k.answered ∙ answered in
     let same : reply ≡ k.reply = cc in

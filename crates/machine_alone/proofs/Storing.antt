@@ -8,7 +8,7 @@ use Rattle.vm_base.specs.declared.page.PageRange.{PageRange}
 use Rattle.vm_base.specs.declared.replies.Reply.{Reply}
 use Rattle.vm_base.specs.declared.rights.Access.{Access}
 use Rattle.vm_base.specs.Apply.{is_anonymous}
-use Rattle.vm_base.specs.Info.{frame_of, info_with_frame}
+use Rattle.vm_base.specs.Info.{frame_of, info_with_frame, info_with_copy}
 use Rattle.vm_base.specs.Rights.{is_allowed}
 use Rattle.vm_base.proofs.Functions.{put_same}
 use Rattle.slot_lock.specs.declared.plan.Touch.{Touch}
@@ -24,7 +24,6 @@ use Rattle.machine_model.specs.declared.phase.Phase.TheVariants.{Lock, Acks, Unl
 use Rattle.machine_model.specs.Accesses.{after_finding, found_at, is_past_end, taken_for}
 use Rattle.machine_model.specs.Actions.{to, let_go}
 use Rattle.machine_model.specs.Files.{back_of, file_frame, shows_some}
-use Rattle.machine_model.specs.Filling.{info_copied}
 use Rattle.machine_model.specs.Holding.{taken_in}
 use Rattle.machine_model.specs.Locks.{all_locked, held_after, locked_to}
 use Rattle.machine_model.specs.World.{World}
@@ -99,7 +98,7 @@ filled_stores cached (Some info) access f h = ap (λ b. b && shows_some cached i
 
 -- a frame that caches no file page
 fresh_stores : (cached : ℕ → ℕ → Option ℕ) (o : Option PageInfo) (access : Access) (f : ℕ) → ((n k : ℕ) → cached n k ≢ Some f)
-    → (shows_for cached (info_with_frame f o) access ≡ false) × (shows_for cached (info_copied f o) access ≡ false)
+    → (shows_for cached (info_with_frame f o) access ≡ false) × (shows_for cached (info_with_copy f o) access ≡ false)
 fresh_stores cached None access f none = (refl, refl)
 fresh_stores cached (Some info) access f none =
     let e : (is_private_store info.meta.back access && shows_some cached info.meta.back (Some f)) ≡ false =
@@ -201,7 +200,7 @@ storable_on w c v f g (shares touch own x counts e s n t h) =
     (filled_stores w.memory.cached (w.slots.info touch.page) touch.access x s.no_copy)
 storable_on w c v f g (posts_copy touch x e h) = storable_to c (CopyAcks touch x) _ v h tt
 storable_on w c v f g (copies touch x y counts e n a t h) =
-    storable_page c touch w.slots.info (info_copied x (w.slots.info touch.page)) _ v h (put_same w.slots.info touch.page _)
+    storable_page c touch w.slots.info (info_with_copy x (w.slots.info touch.page)) _ v h (put_same w.slots.info touch.page _)
     (fresh_stores w.memory.cached (w.slots.info touch.page) touch.access x (uncached w x f c (ap taken_in e))).1
 storable_on w c v f g (installs touch e h) = storable_to c _ _ v h tt
 storable_on w c v f g (accesses touch x e i h) = storable_to c (let_go None _) _ v h tt

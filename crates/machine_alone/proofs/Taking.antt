@@ -9,7 +9,7 @@ use Rattle.vm_base.specs.declared.requests.Request.TheVariants.{Mmap, Munmap, Mp
 use Rattle.vm_base.specs.Functions.{put}
 use Rattle.vm_base.specs.Plain.{Plain}
 use Rattle.vm_base.specs.declared.replies.Reply.TheVariants as ReplyOf
-use Rattle.machine_sound.specs.Log.{Stands}
+use Rattle.vm_base.specs.Log.{Stands, nth}
 use Rattle.vm_base.proofs.Functions.{eq_true, eq_false, put_all, put_other}
 use Rattle.slot_lock.specs.declared.plan.Plan.TheVariants as PlanOf
 use Rattle.slot_lock.specs.declared.plan.Touch.{Touch}
@@ -17,13 +17,13 @@ use Rattle.machine_model.specs.declared.phase.Phase.TheVariants.{Want, Fill}
 use Rattle.machine_model.specs.Accesses.{NoneFree}
 use Rattle.machine_model.specs.GivingUp.{given_back}
 use Rattle.machine_model.specs.World.{World}
-use Rattle.machine_laws.specs.Brackets.{nth}
 use Rattle.machine_laws.specs.Orderly.{Serves}
 use Rattle.machine_laws.proofs.Moves.{IsCallOf, call_at}
 use Rattle.machine_laws.proofs.Shapes.{GoesBy, moves, divides, cuts, fits, owns, lets_go, answers, posts, commits, takes, zeroes}
 use Rattle.machine_laws.proofs.Shapes.{first_copies, caches, shares, posts_copy, copies, installs, accesses, faults}
 use Rattle.machine_sound.specs.Invariant.{Fine}
-use Rattle.machine_alone.specs.Taken.{one_if_taken, taken_below, frames_for, is_access}
+use Rattle.machine_alone.specs.Taken.{one_if_taken, taken_below, frames_for}
+use Rattle.vm_base.specs.Requests.{is_access}
 use Rattle.machine_alone.proofs.Rows.{HasTaken, IsSureOf, sure_at}
 use Rattle.machine_alone.proofs.Using.{IsTouchOf, loads, stores, fetches}
 use Rattle.machine_alone.proofs.Used.{its_touch}

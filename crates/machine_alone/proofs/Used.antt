@@ -9,7 +9,7 @@ use Rattle.vm_base.specs.declared.rights.Access.{Access}
 use Rattle.vm_base.specs.declared.rights.Access.TheVariants.{Store}
 use Rattle.vm_base.specs.Apply.{copied, detached, detached_entry, is_uncopied}
 use Rattle.vm_base.specs.Functions.{has, put}
-use Rattle.vm_base.specs.Info.{frame_of, info_with_frame, is_recorded}
+use Rattle.vm_base.specs.Info.{frame_of, info_with_frame, is_recorded, info_with_copy}
 use Rattle.vm_base.specs.Plain.{File, Plain, bytes_of, mode_of}
 use Rattle.vm_base.proofs.Functions.{put_all, put_both, put_same}
 use Rattle.mmu.specs.declared.entry.Translation.{Translation}
@@ -31,7 +31,7 @@ use Rattle.machine_model.specs.declared.phase.Phase.TheVariants.{Try, Settle, Wa
 use Rattle.machine_model.specs.Accesses.{found_at, taken_for, after_frame, after_install, reply_of, memory_after}
 use Rattle.machine_model.specs.Actions.{to, let_go, after_reply, with_entry, detach_entry}
 use Rattle.machine_model.specs.Files.{back_of, is_private, shows_file}
-use Rattle.machine_model.specs.Filling.{after_zeros, after_first_copy, after_caching, after_sharing, after_copy_post, after_copy, info_copied}
+use Rattle.machine_model.specs.Filling.{after_zeros, after_first_copy, after_caching, after_sharing, after_copy_post, after_copy}
 use Rattle.machine_model.specs.Changes.{AwaitsNobody, slots_after, after_post, reply_to}
 use Rattle.machine_model.specs.Counting.{with_counts}
 use Rattle.machine_model.specs.Holding.{page_of_touch}
@@ -39,7 +39,7 @@ use Rattle.machine_model.specs.Locks.{locking, all_locked, locked_to, held_after
 use Rattle.machine_model.specs.Translating.{frame_reached, translated_by, after_translating, with_hardware}
 use Rattle.machine_model.specs.World.{World, Hardware}
 use Rattle.machine_coherence.specs.Coherent.{IsCoherent, IsSoundEntry}
-use Rattle.machine_laws.specs.Brackets.{nth}
+use Rattle.vm_base.specs.Log.{nth}
 use Rattle.machine_laws.specs.Orderly.{IsUsable, Serves}
 use Rattle.machine_laws.proofs.Going.{call_sound, has_core}
 use Rattle.machine_laws.proofs.Moves.{IsCallOf, call_at}
@@ -52,8 +52,9 @@ use Rattle.machine_sound.specs.Invariant.{Fine}
 use Rattle.machine_sound.proofs.Fills.{private_only}
 use Rattle.machine_sound.proofs.Pages.{IsFramed, framed, is_copied}
 use Rattle.machine_sound.proofs.Reaching.{ReachesFrame, at_page, reaches}
-use Rattle.machine_alone.specs.Copies.{page_copied}
-use Rattle.machine_alone.specs.Users.{Users, Same, recorded, users_after, users_left, with_user, without}
+use Rattle.vm_base.specs.Copies.{page_copied}
+use Rattle.machine_alone.specs.Users.{recorded}
+use Rattle.vm_base.specs.Users.{Users, Same, users_after, users_left, with_user, without}
 use Rattle.machine_alone.proofs.Aiming.{goal_drops}
 use Rattle.machine_alone.proofs.Framed.{AreFramed}
 use Rattle.machine_alone.proofs.Rank.{back_all, reach_of, hits}
@@ -524,7 +525,7 @@ unwaited_on first c w v f t k (caches touch x counts e s n i h) = filled_users f
 unwaited_on first c w v f t k (shares touch own x counts e s n i h) = filled_users first c w v touch x (ap (λ (v : World). v.slots) h) k
 unwaited_on first c w v f t k (posts_copy touch x e h) = left_users first c v w.slots (ap (λ (v : World). v.slots) h) k
 unwaited_on first c w v f t k (copies touch x g counts e n a i h) =
-    left_users first c v (with_info w.slots touch.page (info_copied x (w.slots.info touch.page))) (ap (λ (v : World). v.slots) h)
+    left_users first c v (with_info w.slots touch.page (info_with_copy x (w.slots.info touch.page))) (ap (λ (v : World). v.slots) h)
     (λ d p ne j. copied_drops w.slots touch.page x p d ∙ none_dropped w c (page_of_touch touch) (subst (IsTold w.slots w.hardware c) e t) n d p ne (k d p ne j))
 unwaited_on first c w v f t k (installs touch e h) =
     let its : IsCallOf w c (Install touch) = call_at w c (Install touch) e f.order in

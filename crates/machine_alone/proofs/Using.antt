@@ -34,13 +34,13 @@ use Rattle.slot_lock.specs.Plan.{range_of}
 use Rattle.slot_lock.specs.Slots.{Slots, with_info}
 use Rattle.vm_calls.specs.Checks.{checked, place_of, plan_of, unless_refused, touched, touch_of}
 use Rattle.vm_calls.proofs.Passed.{passed, touch-of}
-use Rattle.machine_model.specs.Accesses.{info_with_core}
-use Rattle.machine_model.specs.Filling.{info_copied}
+use Rattle.vm_base.specs.Info.{info_with_core, info_with_copy}
 use Rattle.machine_model.specs.Changes.{reply_to, slots_after}
 use Rattle.machine_laws.proofs.Owned.{members_with}
 use Rattle.machine_laws.specs.Brackets.{IsStoreTo}
-use Rattle.machine_alone.specs.Copies.{if_copied, page_copied}
-use Rattle.machine_alone.specs.Users.{Users, Same, recorded, users_after, users_left, with_user, without}
+use Rattle.vm_base.specs.Copies.{if_copied, page_copied}
+use Rattle.machine_alone.specs.Users.{recorded}
+use Rattle.vm_base.specs.Users.{Users, Same, users_after, users_left, with_user, without}
 
 -- ---- a reply that refuses changes no user
 
@@ -342,14 +342,14 @@ other_page page p ne = go (has (pages_from page 1) p) refl
     go false e = refl
     go true e = absurd (ne (let k = has_in (pages_from page 1) p e in let a = k.0 in let b = k.1 in omega (arith, a, b)))
 
-copied_page : (f : ℕ) (o : Option PageInfo) (c : ℕ) → is_recorded (info_copied f o) c ≡ false
+copied_page : (f : ℕ) (o : Option PageInfo) (c : ℕ) → is_recorded (info_with_copy f o) c ≡ false
 copied_page f None c = refl
 copied_page f (Some info) c = members-empty c
 
 -- no core uses the copy yet
-pub copied_drops : (s : Slots) (page f : ℕ) → Same (recorded (with_info s page (info_copied f (s.info page)))) (users_left (Some page) (recorded s))
+pub copied_drops : (s : Slots) (page f : ℕ) → Same (recorded (with_info s page (info_with_copy f (s.info page)))) (users_left (Some page) (recorded s))
 copied_drops s page f p c =
-    put_all (λ p o. is_recorded o c ≡ cond (has (pages_from page 1) p) false (is_recorded (s.info p) c)) s.info page (info_copied f (s.info page))
+    put_all (λ p o. is_recorded o c ≡ cond (has (pages_from page 1) p) false (is_recorded (s.info p) c)) s.info page (info_with_copy f (s.info page))
     (copied_page f (s.info page) c ∙ sym (ap (λ b. cond b false (is_recorded (s.info page) c)) (in_has (pages_from page 1) page (omega arith) (omega arith))))
     (λ j ne. sym (ap (λ b. cond b false (is_recorded (s.info j) c)) (other_page page j ne))) p
 

@@ -9,34 +9,31 @@ use Rattle.vm_base.specs.Cores.{members}
 use Rattle.vm_base.specs.Functions.{put}
 use Rattle.slot_lock.specs.Slots.{IsUser}
 use Rattle.shootdown.specs.declared.message.Message.{Message}
-use Rattle.machine_laws.specs.Brackets.{nth}
+use Rattle.vm_base.specs.Log.{nth, FirstReplies, Stands}
 use Rattle.machine_model.specs.Holding.{awaits_in, can_give_up}
-use Rattle.machine_alone.specs.Copies.{page_copied, with_copy}
-use Rattle.machine_alone.specs.First.{FirstAnswers, is_placed}
-use Rattle.machine_alone.specs.Taken.{frames_for, frames_taken, is_access}
-use Rattle.machine_alone.specs.Users.{Users, Same, recorded, users_after, with_user, without}
-use Rattle.vm_base.specs.Plain.{Plain, nothing_mapped}
+use Rattle.vm_base.specs.Copies.{page_copied, with_copy}
+use Rattle.vm_base.specs.Requests.{is_placed, is_access}
+use Rattle.machine_alone.specs.Taken.{frames_for, frames_taken}
+use Rattle.machine_alone.specs.Users.{recorded}
+use Rattle.vm_base.specs.Users.{Users, Same, users_after, with_user, without}
+use Rattle.vm_base.specs.Plain.{Plain}
 use Rattle.machine_model.specs.declared.event.Blocker.TheVariants as WaitsFor
 use Rattle.machine_model.specs.declared.event.Event.{Event}
 use Rattle.machine_model.specs.declared.event.Event.TheVariants.{Call, Go, Frame, Guess, Whole, Take}
 use Rattle.machine_model.specs.declared.event.Event.TheVariants.{GiveUp}
 use Rattle.machine_model.specs.declared.event.Outcome.{Outcome}
 use Rattle.machine_model.specs.declared.event.Outcome.TheVariants.{Stepped, Idle, Wait, Answered}
-use Rattle.machine_model.specs.declared.log.Entry.{Entry}
-use Rattle.machine_model.specs.declared.log.Entry.TheVariants.{Answer, Detach}
+use Rattle.vm_base.specs.declared.log.Entry.{Entry}
+use Rattle.vm_base.specs.declared.log.Entry.TheVariants.{Answer, Detach}
 use Rattle.machine_model.specs.declared.phase.Phase.TheVariants.{Free}
 use Rattle.machine_model.specs.World.{World}
 use Rattle.machine_model.specs.Step.{Step, StepsTo, with_event, event_limit}
-use Rattle.machine_sound.specs.Log.{Replays, Stands}
+use Rattle.machine_sound.specs.Log.{LeadsTo}
 use Rattle.machine_sound.specs.Sound.{IsDue, IsReached}
 
 -- no core has a call
 abbrev pub IsCalm : World → Type 0
 IsCalm w = (c : ℕ) → w.calls.phase c ≡ Free
-
--- the log of w leads to the plain page map t
-abbrev pub LeadsTo : World → Plain → Type 0
-LeadsTo w t = Replays w.calls.requests (nothing_mapped w.made.file) w.calls.log t
 
 -- how many takes core d's inbox still needs to be empty, where it has one message at the most
 abbrev pub takes_left : List Message → ℕ
@@ -121,7 +118,7 @@ pub record IsAwaiting (w x : World) (t : Plain) (core : ℕ) (request : Request)
   pub reply : Reply
   pub after : Plain
   pub stands : Stands (with_copy t (page_copied t request reply)) core request reply after
-  pub first : FirstAnswers t core request reply after
+  pub first : FirstReplies t core request reply after
   pub named : is_placed request ≡ false
   pub drops : (u : Users)
       → Same (users_after t core request reply u) (users_dropped core request waiting.range u)
@@ -136,7 +133,7 @@ pub record IsServedAlone (w : World) (t : Plain) (core : ℕ) (request : Request
       → Step x (Go core) outcome v → outcome ≢ Stepped → x.calls.events < event_limit
       → ((k : IsServed w t core request outcome v)
       × KeepsOthers t (recorded w.slots) core request k.reply
-      × FirstAnswers t core request k.reply k.after)
+      × FirstReplies t core request k.reply k.after)
       ⊎ IsAwaiting w x t core request outcome v
 
 -- in each state that a machine reaches, with any number of cores
@@ -160,7 +157,7 @@ pub record IsAwaitingStill (w : World) (outcome : Outcome) (v : World) : Type 0 
 pub record IsAnsweredAtLast (w : World) (t : Plain) (core : ℕ) (request : Request)
     (outcome : Outcome) (v : World) : Type 0 where
   pub served : IsServed w t core request outcome v
-  pub first : is_placed request ≡ false → FirstAnswers t core request served.reply served.after
+  pub first : is_placed request ≡ false → FirstReplies t core request served.reply served.after
   pub framed : served.reply ≢ NoFrame
   pub frames : frames_taken v ≤ frames_taken w
   pub nobody : (d : ℕ) → takes_left (w.hardware.inbox d) ≡ 0

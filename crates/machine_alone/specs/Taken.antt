@@ -1,7 +1,7 @@
 -- How many frames are taken
-use Rattle.std.specs.Prelude.{ℕ, zero, suc, ◌+◌, if◌then◌else◌, Bool, true, false}
+use Rattle.std.specs.Prelude.{ℕ, zero, suc, ◌+◌, if◌then◌else◌, Bool}
 use Rattle.vm_base.specs.declared.requests.Request.{Request}
-use Rattle.vm_base.specs.declared.requests.Request.TheVariants.{Load, Store, Fetch}
+use Rattle.vm_base.specs.Requests.{is_access}
 use Rattle.machine_model.specs.World.{World}
 
 -- one frame counts where it isn't free
@@ -16,13 +16,6 @@ taken_below is_free (suc n) = one_if_taken (is_free n) + taken_below is_free n
 -- of the machine's
 abbrev pub frames_taken : World → ℕ
 frames_taken w = taken_below w.memory.is_free w.made.frames
-
--- a load, a store or a fetch
-abbrev pub is_access : Request → Bool
-is_access (Load addr) = true
-is_access (Store addr byte) = true
-is_access (Fetch addr) = true
-is_access request = false
 
 -- one frame at the most for an access, and none for any other request
 abbrev pub frames_for : Request → ℕ

@@ -13,7 +13,7 @@ use Rattle.mmu.specs.declared.tlb.TlbEntry.{TlbEntry}
 use Rattle.mmu.specs.declared.translated.Translated.{Translated}
 use Rattle.mmu.specs.declared.translated.Translated.TheVariants as By
 use Rattle.mmu.specs.Tables.{tlb_after, tlb_walked}
-use Rattle.mmu.specs.Tlb.{tlb_at, tlb_without, is_page}
+use Rattle.mmu.specs.Tlb.{tlb_at, tlb_without, is_at}
 use Rattle.shootdown.specs.declared.message.Message.{Message}
 use Rattle.shootdown.specs.declared.message.Took.TheVariants as took
 use Rattle.shootdown.specs.Messages.{message_of, asked, remaining}
@@ -58,7 +58,7 @@ tried {cached} {info} {phase} {d} {table} {tlb} {inbox} p (By.Fill f) k = go (ta
     go : (o : Option Translation) → table p ≡ o → IsCore cached info phase d table (tlb_after (By.Fill f) p o tlb) inbox
     go None e = k
     go (Some t) e = core_fills p t e k
-tried p By.Fault k = drops (is_page p) k
+tried p By.Fault k = drops (is_at p) k
 
 -- tables are walked without an access
 walked : {cached : ℕ → ℕ → Option ℕ} {info : ℕ → Option PageInfo} {phase : ℕ → Phase} {d : ℕ} {table : ℕ → Option Translation}
@@ -85,7 +85,7 @@ walk_kept {h = h} c p k =
 
 eviction_kept : {cached : ℕ → ℕ → Option ℕ} {info : ℕ → Option PageInfo} {phase : ℕ → Phase} {h : Hardware} (c p : ℕ) → IsCoherent cached info phase h
     → IsCoherent cached info phase (after_eviction h c p)
-eviction_kept {h = h} c p k = tlb_changes c (tlb_without (is_page p) (h.tlb c)) (drops (is_page p) (core_of c k)) k
+eviction_kept {h = h} c p k = tlb_changes c (tlb_without (is_at p) (h.tlb c)) (drops (is_at p) (core_of c k)) k
 
 clear_kept : {cached : ℕ → ℕ → Option ℕ} {info : ℕ → Option PageInfo} {phase : ℕ → Phase} {h : Hardware} (c : ℕ) (range : PageRange)
     → asked (h.inbox c) ≡ took.Clear range → IsCoherent cached info phase h

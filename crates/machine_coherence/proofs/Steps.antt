@@ -12,7 +12,7 @@ use Rattle.vm_base.specs.declared.rights.Access.TheVariants.{Load, Store, Fetch}
 use Rattle.vm_base.specs.declared.rights.Prot.{Prot}
 use Rattle.vm_base.specs.Cores.{members}
 use Rattle.vm_base.specs.Functions.{put, over, has}
-use Rattle.vm_base.specs.Info.{frame_of, is_recorded, info_with_frame}
+use Rattle.vm_base.specs.Info.{frame_of, is_recorded, info_with_frame, info_with_core, info_with_copy}
 use Rattle.vm_base.specs.Places.{IsFree}
 use Rattle.vm_base.specs.Plain.{File, is_mapped}
 use Rattle.vm_base.specs.Rights.{is_allowed}
@@ -37,9 +37,9 @@ use Rattle.vm_calls.specs.Decisions.{Decides, entries, entry_of}
 use Rattle.vm_calls.specs.Decisions.DecidesProtect.{no_page, no_write, acts}
 use Rattle.machine_model.specs.declared.phase.Phase.{Phase}
 use Rattle.machine_model.specs.declared.phase.Phase.TheVariants.{Cut, Post, Acks, Fill, CopyPost, CopyAcks, Install, Release}
-use Rattle.machine_model.specs.Accesses.{after_install, info_with_core}
+use Rattle.machine_model.specs.Accesses.{after_install}
 use Rattle.machine_model.specs.Files.{back_of, file_frame, shows_file, shows_some, with_cached, is_private, prot_shown, prot_installed}
-use Rattle.machine_model.specs.Filling.{after_caching, after_copy_post, after_copy, cores_of, info_copied}
+use Rattle.machine_model.specs.Filling.{after_caching, after_copy_post, after_copy, cores_of}
 use Rattle.machine_model.specs.Actions.{let_go}
 use Rattle.machine_model.specs.Changes.{slots_after, reply_to, after_post, after_commit, AwaitsNobody}
 use Rattle.machine_model.specs.Holding.{awaits_in, some_has, holds, taken_in, page_of_touch}
@@ -322,7 +322,7 @@ pub copies_kept : (w : World) (c : ℕ) (touch : Touch) (f g : ℕ) (counts : Co
     → AwaitsNobody w.hardware c → IsCoherentState w → IsCoherentState (after_copy c touch f g counts w)
 copies_kept w c touch f g counts e nobody k =
     commits (after_copy c touch f g counts w).slots.info c (page_of_touch touch) (Install touch) (ap awaits_in e) refl nobody
-    (λ p out. put_other w.slots.info touch.page (info_copied f (w.slots.info touch.page)) p (λ at. off touch p at out)) k
+    (λ p out. put_other w.slots.info touch.page (info_with_copy f (w.slots.info touch.page)) p (λ at. off touch p at out)) k
   where
     off : (touch : Touch) (p : ℕ) → p ≡ touch.page → has (page_of_touch touch) p ≡ false → ⊥
     off touch p at out = let i = page_is touch in let j = subst (λ q. has (page_of_touch touch) q ≡ false) at out in cc

@@ -18,7 +18,7 @@ use Rattle.vm_base.specs.Plain.{Bytes, File}
 use Rattle.vm_base.proofs.Functions.{put_all, across_all, put_same, put_other}
 use Rattle.refcache.specs.declared.reports.Review.TheVariants as review
 use Rattle.refcache.specs.Counts.{Counts, true_count, no_counts}
-use Rattle.refcache.specs.Steps.{Begin, Inc, Dec, Flushing, Reviewing, Takes, IsUnused, Step as CountStep}
+use Rattle.refcache.specs.Steps.{Begin, Inc, Dec, Flushing, Reviewing, Takes, IsUnused, CountStep}
 use Rattle.refcache.proofs.Moves.{true_counts_move}
 use Rattle.refcache.proofs.Reached.{steps_reach, freed_is_unused, unused_at_first, reached_is_orderly}
 use Rattle.refcache.proofs.Unused.{unused_stays}
@@ -34,9 +34,10 @@ use Rattle.machine_model.specs.declared.event.Event.{Event}
 use Rattle.machine_model.specs.declared.event.Outcome.{Outcome}
 use Rattle.machine_model.specs.declared.phase.Phase.{Phase}
 use Rattle.machine_model.specs.declared.phase.Phase.TheVariants.{Free, Check, Acks, Fill, CopyPost, CopyAcks, Install, Release}
-use Rattle.machine_model.specs.Accesses.{after_frame, taken_for, after_install, memory_after, reply_of, info_with_core}
+use Rattle.machine_model.specs.Accesses.{after_frame, taken_for, after_install, memory_after, reply_of}
+use Rattle.vm_base.specs.Info.{info_with_core, info_with_copy}
 use Rattle.machine_model.specs.Files.{back_of, file_frame, with_cached}
-use Rattle.machine_model.specs.Filling.{after_zeros, after_first_copy, after_caching, after_sharing, after_copy, info_copied, CountsCopy}
+use Rattle.machine_model.specs.Filling.{after_zeros, after_first_copy, after_caching, after_sharing, after_copy, CountsCopy}
 use Rattle.machine_model.specs.Actions.{let_go}
 use Rattle.machine_model.specs.Changes.{slots_after, after_commit, CountsLost, reply_to}
 use Rattle.machine_model.specs.Counting.{CountsDown, frame_lost, with_counts, with_free}
@@ -476,7 +477,7 @@ shares_kept w c touch own x counts g k e t = record {
 
 -- ---- a page has a copy in place of the frame that shows its file page
 
-copied_frame : (f : ℕ) (o : Option PageInfo) → is_some o ≡ true → frame_of (info_copied f o) ≡ Some f
+copied_frame : (f : ℕ) (o : Option PageInfo) → is_some o ≡ true → frame_of (info_with_copy f o) ≡ Some f
 copied_frame f None h = absurd cc
 copied_frame f (Some info) h = refl
 
@@ -492,7 +493,7 @@ copies_kept w c touch f x counts g k e had t = record {
   caches = k.caches;
   cached = k.cached;
   users = page_over w.memory.counts t.0 counts (λ f. one_if (k.page_in f)) w.slots.info c touch.page f x
-      (info_copied f (w.slots.info touch.page)) (2 ^ 35) (framed_page w g x touch.page had) had
+      (info_with_copy f (w.slots.info touch.page)) (2 ^ 35) (framed_page w g x touch.page had) had
       (copied_frame f (w.slots.info touch.page) (framed_some (w.slots.info touch.page) x had)) t.1 t.2 k.users;
   free = u.free;
   taken = u.taken;

@@ -13,7 +13,7 @@ use Rattle.vm_base.proofs.Functions.{by_test, put_same, put_other, put_all}
 use Rattle.refcache.specs.Counts.{Counts, true_count}
 use Rattle.refcache.specs.Laws.{change}
 use Rattle.refcache.specs.Sound.{IsReached}
-use Rattle.refcache.specs.Steps.{Step, Begin, Dec, Takes, IsUnused}
+use Rattle.refcache.specs.Steps.{Begin, Dec, Takes, IsUnused, CountStep}
 use Rattle.refcache.proofs.Moves.{true_counts_move}
 use Rattle.refcache.proofs.Reached.{steps_reach}
 use Rattle.refcache.proofs.Unused.{unused_stays}
@@ -102,7 +102,7 @@ flip : (f g : ℕ) → (f == g) ≡ (g == f)
 flip f g = grind (arith, nat_tests)
 
 -- a step of Refcache that moves the true counts as the page's change moves the numbers of pages
-pub counts_put : (v w : Counts) (extra : ℕ → ℕ) (step : Step) (info : ℕ → Option PageInfo) (p : ℕ) (new : Option PageInfo) (n : ℕ) → p < n
+pub counts_put : (v w : Counts) (extra : ℕ → ℕ) (step : CountStep) (info : ℕ → Option PageInfo) (p : ℕ) (new : Option PageInfo) (n : ℕ) → p < n
     → Takes v step w → ((f : ℕ) → pos (one (frame_of (info p)) f) +ℤ change step f ≡ pos (one (frame_of new) f))
     → CountsPages v extra info n → CountsPages w extra (put info p new) n
 counts_put v w extra step info p new n lt t by h f =
@@ -125,7 +125,7 @@ page_down v w extra info c p f n lt e t = counts_put v w extra (Dec c f) info p 
         go false i = ap (λ b. pos 0 +ℤ cond b (negsuc 0) (pos 0)) i
 
 -- a page without a frame gets one, which is counted once more
-pub page_up : (v w : Counts) (extra : ℕ → ℕ) (step : Step) (info : ℕ → Option PageInfo) (p f : ℕ) (new : Option PageInfo) (n : ℕ) → p < n
+pub page_up : (v w : Counts) (extra : ℕ → ℕ) (step : CountStep) (info : ℕ → Option PageInfo) (p f : ℕ) (new : Option PageInfo) (n : ℕ) → p < n
     → frame_of (info p) ≡ None → frame_of new ≡ Some f → ((g : ℕ) → change step g ≡ cond (g == f) (pos 1) (pos 0)) → Takes v step w
     → CountsPages v extra info n → CountsPages w extra (put info p new) n
 page_up v w extra step info p f new n lt none some moves t = counts_put v w extra step info p new n lt t by

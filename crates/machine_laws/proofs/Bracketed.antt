@@ -11,14 +11,15 @@ use Rattle.machine_model.specs.declared.event.Event.{Event}
 use Rattle.machine_model.specs.declared.event.Event.TheVariants.{Call}
 use Rattle.machine_model.specs.declared.event.Outcome.{Outcome}
 use Rattle.machine_model.specs.declared.event.Outcome.TheVariants.{Answered}
-use Rattle.machine_model.specs.declared.log.Entry.{Entry}
-use Rattle.machine_model.specs.declared.log.Entry.TheVariants.{Answer, Detach}
+use Rattle.vm_base.specs.declared.log.Entry.{Entry}
+use Rattle.vm_base.specs.declared.log.Entry.TheVariants.{Answer, Detach}
 use Rattle.machine_model.specs.declared.phase.Phase.TheVariants.{Free, Check}
 use Rattle.machine_model.specs.Actions.{to}
 use Rattle.machine_model.specs.Events.{core_of}
 use Rattle.machine_model.specs.World.{World, Made, new_world}
 use Rattle.machine_model.specs.Step.{after_call, with_event, event_limit, Step, Run}
-use Rattle.machine_laws.specs.Brackets.{nth, Begun, begun_by, calls_from, calls_of, requests_of, IsLatest, step_of}
+use Rattle.machine_laws.specs.Brackets.{Begun, begun_by, calls_from, calls_of, requests_of, IsLatest, step_of}
+use Rattle.vm_base.specs.Log.{nth}
 use Rattle.machine_laws.specs.Brackets.{IsAnswer, IsDetach, IsStoreTo, IsAnsweredBefore, AllRunsBracketed}
 use Rattle.machine_laws.specs.Orderly.{IsOrderly}
 use Rattle.machine_laws.proofs.Kept.{kept}

@@ -6,7 +6,7 @@ use Rattle.vm_base.proofs.Functions.{put_all}
 use Rattle.refcache.specs.declared.reports.Review.TheVariants as review
 use Rattle.refcache.specs.Counts.{Counts}
 use Rattle.refcache.specs.Laws.{IsSameSize}
-use Rattle.refcache.specs.Steps.{Step, Dec, Reviewing, Takes}
+use Rattle.refcache.specs.Steps.{Dec, Reviewing, Takes, CountStep}
 use Rattle.refcache.proofs.Reached.{steps_reach, same_size, reached_is_orderly}
 use Rattle.machine_model.specs.Counting.{CountsOne, CountsDown}
 use Rattle.machine_model.specs.World.{Made, Memory}
@@ -27,7 +27,7 @@ pub written : (made : Made) (m : Memory) (bytes : ℕ → Bytes) → IsMemory ma
 written made m bytes h = record { free = h.free; cached = h.cached; reached = h.reached; cores = h.cores; objects = h.objects }
 
 -- one step of Refcache
-pub counted : (made : Made) (m : Memory) (step : Step) (counts : Counts) → IsMemory made m → Takes m.counts step counts
+pub counted : (made : Made) (m : Memory) (step : CountStep) (counts : Counts) → IsMemory made m → Takes m.counts step counts
     → IsMemory made (record m { counts = counts })
 counted made m step counts h t =
     let size : IsSameSize m.counts counts = same_size m.counts step counts t in

@@ -54,7 +54,8 @@ use Rattle.slot_lock.specs.declared.plan.Change.{Change}
 use Rattle.slot_lock.specs.declared.plan.Change.TheVariants.{Put}
 use Rattle.slot_lock.specs.declared.plan.Place.{Place}
 use Rattle.vm_calls.specs.Checks.{checked, plan_of, unless_refused, touch_of, place_of}
-use Rattle.machine_laws.specs.Brackets.{nth, IsStoreTo}
+use Rattle.machine_laws.specs.Brackets.{IsStoreTo}
+use Rattle.vm_base.specs.Log.{nth}
 use Rattle.machine_laws.specs.Orderly.{IsOrderly, Serves}
 use Rattle.machine_laws.proofs.Moves.{IsCallOf, call_at}
 use Rattle.machine_laws.proofs.Shapes.{IsInner, rests_inner, Moves, locks, tries, hints, seeks, guesses, turns, chooses, acts, finds, lacks, shows, Replies}

@@ -10,7 +10,7 @@ use Rattle.machine_model.specs.declared.event.Event.{Event}
 use Rattle.machine_model.specs.declared.event.Event.TheVariants.{Call, Go}
 use Rattle.machine_model.specs.declared.event.Outcome.{Outcome}
 use Rattle.machine_model.specs.declared.event.Outcome.TheVariants.{Stepped, Idle, Answered}
-use Rattle.machine_model.specs.declared.log.Entry.TheVariants.{Answer}
+use Rattle.vm_base.specs.declared.log.Entry.TheVariants.{Answer}
 use Rattle.machine_model.specs.World.{World, Made, new_world}
 use Rattle.machine_model.specs.Step.{Run}
 use Rattle.machine_laws.specs.Brackets.{IsBracketed, calls_of}
@@ -43,7 +43,7 @@ ran = (_, then _ (refl, refl) (then _ (refl, refl) (then _ (refl, refl) (then _ 
 new : IsNew slots
 new = record { unmapped = λ p. refl; free = λ p. refl }
 
-has_brackets : IsBracketed events outcomes ran.0
+has_brackets : IsBracketed events outcomes ran.0.calls.requests ran.0.calls.log
 has_brackets = bracketed made slots events outcomes ran.0 (omega arith) new ran.1
 
 began : calls_of events outcomes ≡ record { core = 0; request = empty; step = 1 } ∷ []
@@ -53,13 +53,13 @@ began = refl
 
 -- a log that repeats a call
 repeated : (es : List Event) (os : List Outcome) (w : World) (reply : Reply) → w.calls.log ≡ Answer 2 1 0 reply ∷ Answer 3 1 0 reply ∷ []
-    → ¬ IsBracketed es os w
+    → ¬ IsBracketed es os w.calls.requests w.calls.log
 repeated es os w reply e b = let same : 0 ≡ 1 = b.once 0 1 2 3 1 0 0 reply reply (ap (λ l. slice_get l 0) e) (ap (λ l. slice_get l 1) e) in
     absurd (omega (arith, same))
 
 -- a log in which a reply stands after the third event, which hands it out
 late : (w : World) (reply : Reply) → w.calls.log ≡ Answer 4 1 0 reply ∷ [] → ¬ IsBracketed (Call 0 empty ∷ Go 0 ∷ Go 0 ∷ [])
-    (Stepped ∷ Stepped ∷ Answered reply ∷ []) w
+    (Stepped ∷ Stepped ∷ Answered reply ∷ []) w.calls.requests w.calls.log
 late w reply e b =
     let said = b.answered 2 0 (Go 0) reply refl refl refl in
     go said.2.0 said.2.1 said.0 (sym (ap (λ l. slice_get l said.2.0) e) ∙ said.2.2) said.2.3

@@ -18,12 +18,12 @@ use Rattle.slot_lock.specs.declared.plan.Goal.TheVariants as To
 use Rattle.slot_lock.specs.declared.plan.Touch.{Touch}
 use Rattle.slot_lock.specs.Plan.{range_of, goal_range}
 use Rattle.slot_lock.specs.Slots.{Slots}
-use Rattle.machine_model.specs.declared.log.Entry.{Entry}
+use Rattle.vm_base.specs.declared.log.Entry.{Entry}
 use Rattle.machine_model.specs.declared.phase.Phase.{Phase}
 use Rattle.machine_model.specs.declared.phase.Phase.TheVariants.{Free, Check, Lock, Guess, Find, Back as Leaving, Cut, Decide, Post, Acks, Unlock, Answer}
 use Rattle.machine_model.specs.declared.phase.Phase.TheVariants.{Try, Settle, Want, Fill, CopyPost, CopyAcks, Install, Release}
 use Rattle.machine_model.specs.World.{World, Made, Memory}
-use Rattle.machine_model.specs.declared.log.Entry.TheVariants.{Answer as Told, Detach}
+use Rattle.vm_base.specs.declared.log.Entry.TheVariants.{Answer as Told, Detach}
 use Rattle.machine_model.specs.Actions.{let_go}
 use Rattle.machine_model.specs.Files.{back_of, file_frame, shows_file}
 use Rattle.machine_model.specs.Holding.{holds, some_has, range_held, awaits_in, taken_in, is_open, page_of_touch}

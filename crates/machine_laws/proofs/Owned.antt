@@ -9,15 +9,13 @@ use Rattle.vm_base.specs.declared.page.PageRange.{PageRange}
 use Rattle.vm_base.specs.declared.rights.Prot.{Prot}
 use Rattle.vm_base.specs.Cores.{members, with_member}
 use Rattle.vm_base.specs.Functions.{put, has}
-use Rattle.vm_base.specs.Info.{unused, info_with_frame, info_with_prot}
+use Rattle.vm_base.specs.Info.{unused, info_with_frame, info_with_prot, info_with_core, info_with_copy}
 use Rattle.vm_base.specs.Pages.{IsPage, IsPageRange}
 use Rattle.vm_base.proofs.CoreSets.{members-or, members-empty}
 use Rattle.vm_base.proofs.Functions.{put_all, has_in}
 use Rattle.slot_lock.specs.declared.plan.Change.{Change}
 use Rattle.slot_lock.specs.Plan.{range_of}
 use Rattle.slot_lock.specs.Slots.{Slots}
-use Rattle.machine_model.specs.Accesses.{info_with_core}
-use Rattle.machine_model.specs.Filling.{info_copied}
 use Rattle.machine_model.specs.Changes.{slots_after}
 use Rattle.machine_model.specs.World.{Made}
 use Rattle.machine_laws.specs.Orderly.{BelongsTo}
@@ -77,7 +75,7 @@ framed_belongs made p f (Some info) lt h = record {
 }
 
 -- a copy that no core has used
-pub copied_belongs : (made : Made) (p f : ℕ) (o : Option PageInfo) → f < made.frames → BelongsTo made p o → BelongsTo made p (info_copied f o)
+pub copied_belongs : (made : Made) (p f : ℕ) (o : Option PageInfo) → f < made.frames → BelongsTo made p o → BelongsTo made p (info_with_copy f o)
 copied_belongs made p f None lt h = h
 copied_belongs made p f (Some info) lt h = record {
   valid = h.valid;

@@ -5,7 +5,7 @@ use Rattle.vm_base.specs.declared.info.Back.TheVariants.{Anon, Shared, Private}
 use Rattle.vm_base.specs.declared.info.PageInfo.{PageInfo}
 use Rattle.vm_base.specs.declared.rights.Access.{Access}
 use Rattle.vm_base.specs.Functions.{put}
-use Rattle.vm_base.specs.Info.{info_with_frame}
+use Rattle.vm_base.specs.Info.{info_with_frame, info_with_core, info_with_copy}
 use Rattle.vm_base.specs.Plain.{Bytes}
 use Rattle.vm_base.proofs.Functions.{put_all, put_same, put_other}
 use Rattle.slot_lock.specs.declared.plan.Plan.TheVariants as PlanOf
@@ -13,9 +13,9 @@ use Rattle.slot_lock.specs.declared.plan.Touch.{Touch}
 use Rattle.slot_lock.specs.Slots.{Slots, with_info}
 use Rattle.machine_model.specs.declared.phase.Phase.{Phase}
 use Rattle.machine_model.specs.declared.phase.Phase.TheVariants.{Want, Fill, CopyPost, CopyAcks, Install, Release}
-use Rattle.machine_model.specs.Accesses.{after_frame, taken_for, after_install, info_with_core}
+use Rattle.machine_model.specs.Accesses.{after_frame, taken_for, after_install}
 use Rattle.machine_model.specs.Files.{back_of, file_frame, with_cached}
-use Rattle.machine_model.specs.Filling.{after_zeros, after_first_copy, after_caching, after_sharing, after_copy_post, after_copy, info_copied, CountsCopy}
+use Rattle.machine_model.specs.Filling.{after_zeros, after_first_copy, after_caching, after_sharing, after_copy_post, after_copy, CountsCopy}
 use Rattle.machine_model.specs.Actions.{to, with_entry, detach_entry}
 use Rattle.refcache.specs.Counts.{Counts}
 use Rattle.refcache.specs.Steps.{Takes, Begin, Inc, Dec}
@@ -222,7 +222,7 @@ posts_copy_kept w c touch f g lt e =
     steps w c (CopyPost touch f) (CopyAcks touch f) e g lt refl refl k.cut k.asked k.ready k.taken
 
 copied_usable : (made : Made) (f g : ℕ) (o : Option PageInfo) (access : Access) → IsUsable made.file o access (Some g)
-    → IsUsable made.file (info_copied f o) access (Some f)
+    → IsUsable made.file (info_with_copy f o) access (Some f)
 copied_usable made f g None access u = absurd u
 copied_usable made f g (Some info) access u = (u.0, u.1, refl)
 
@@ -230,7 +230,7 @@ pub copies_kept : (w : World) (c : ℕ) (touch : Touch) (f x : ℕ) (counts : Co
     → w.calls.phase c ≡ CopyAcks touch f → CountsCopy c f x w.memory.counts counts → IsOrderly (after_copy c touch f x counts w)
 copies_kept w c touch f x counts g lt e t =
     let k : IsCallOf w c (CopyAcks touch f) = call_at w c (CopyAcks touch f) e g in
-    let new : Option PageInfo = info_copied f (w.slots.info touch.page) in
+    let new : Option PageInfo = info_with_copy f (w.slots.info touch.page) in
     copies_page w c touch (CopyAcks touch f) (Install touch) new (after_copy c touch f x counts w).memory e g lt refl refl refl tt (λ n k f h. h) k.asked (
       f,
       subst (λ o. IsUsable w.made.file o touch.access (Some f)) (sym (put_same w.slots.info touch.page new))

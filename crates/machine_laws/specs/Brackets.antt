@@ -1,26 +1,22 @@
 -- Brackets of calls: in the log of a run each reply stands once, between the event that began its
 -- call and the event that handed it out. Events are numbered from 1, and so are the calls begun.
-use Rattle.std.specs.Prelude.{◌≡◌, ◌≢◌, ℕ, zero, suc, ◌<◌, ◌≤◌, List, [], ◌∷◌, ◌++◌, take, slice_get}
-use Rattle.std.specs.Prelude.{Option, None, Some}
+use Rattle.std.specs.Prelude.{◌≡◌, ◌≢◌, ℕ, suc, ◌<◌, ◌≤◌, List, [], ◌∷◌, ◌++◌, take, slice_get}
+use Rattle.std.specs.Prelude.{Some}
 use Rattle.vm_base.specs.declared.replies.Reply.{Reply}
 use Rattle.vm_base.specs.declared.requests.Request.{Request}
 use Rattle.vm_base.specs.declared.requests.Request.TheVariants.{Store}
+use Rattle.vm_base.specs.Log.{nth}
 use Rattle.vm_base.specs.Pages.{page_of}
 use Rattle.slot_lock.specs.Slots.{Slots, IsNew}
 use Rattle.machine_model.specs.declared.event.Event.{Event}
 use Rattle.machine_model.specs.declared.event.Event.TheVariants.{Call}
 use Rattle.machine_model.specs.declared.event.Outcome.{Outcome}
 use Rattle.machine_model.specs.declared.event.Outcome.TheVariants.{Stepped, Answered}
-use Rattle.machine_model.specs.declared.log.Entry.{Entry}
-use Rattle.machine_model.specs.declared.log.Entry.TheVariants as EntryOf
+use Rattle.vm_base.specs.declared.log.Entry.{Entry}
+use Rattle.vm_base.specs.declared.log.Entry.TheVariants as EntryOf
 use Rattle.machine_model.specs.Events.{core_of}
 use Rattle.machine_model.specs.World.{World, Made, new_world}
 use Rattle.machine_model.specs.Step.{Run}
-
--- the n-th of a list, from 1
-abbrev pub nth : {A : Type 0} → List A → ℕ → Option A
-nth xs zero = None
-nth xs (suc n) = slice_get xs n
 
 -- ---- the calls of a run
 
@@ -81,35 +77,37 @@ IsAnsweredBefore n log call core reply =
 
 -- ---- the brackets
 
--- The events came to these outcomes and left w.
-pub record IsBracketed (es : List Event) (os : List Outcome) (w : World) : Type 0 where
+-- The events came to these outcomes, with these requests kept and this log.
+pub record IsBracketed (es : List Event) (os : List Outcome) (kept : List Request)
+    (log : List Entry) : Type 0 where
   -- the steps in the log rise
-  pub rises : (i j : ℕ) (x y : Entry) → i < j → slice_get w.calls.log i ≡ Some x
-      → slice_get w.calls.log j ≡ Some y
+  pub rises : (i j : ℕ) (x y : Entry) → i < j → slice_get log i ≡ Some x
+      → slice_get log j ≡ Some y
       → step_of x < step_of y
   -- each reply is that of a call of its core, begun before it
-  pub begun : (i step call core : ℕ) (reply : Reply) → IsAnswer w.calls.log i step call core reply
+  pub begun : (i step call core : ℕ) (reply : Reply) → IsAnswer log i step call core reply
       → (b : Begun) × (nth (calls_of es os) call ≡ Some b) × (b.core ≡ core) × (b.step < step)
   -- no call has two
   pub once : (i j step step2 call core core2 : ℕ) (reply reply2 : Reply)
-      → IsAnswer w.calls.log i step call core reply
-      → IsAnswer w.calls.log j step2 call core2 reply2 → i ≡ j
+      → IsAnswer log i step call core reply
+      → IsAnswer log j step2 call core2 reply2 → i ≡ j
   -- each copy was made for a store to its page, begun before it, whose reply stands in no earlier
   -- place
-  pub copies : (i step call page : ℕ) → IsDetach w.calls.log i step call page
+  pub copies : (i step call page : ℕ) → IsDetach log i step call page
       → (b : Begun) × (nth (calls_of es os) call ≡ Some b) × IsStoreTo b.request page
       × (b.step < step)
-      × ((j step2 core : ℕ) (reply : Reply) → IsAnswer w.calls.log j step2 call core reply → i < j)
+      × ((j step2 core : ℕ) (reply : Reply) → IsAnswer log j step2 call core reply → i < j)
   -- after n events comes one that hands out a reply: it is that of the core's latest call, and
   -- stands in the log before
   pub answered : (n core : ℕ) (e : Event) (reply : Reply) → nth es (suc n) ≡ Some e
       → core_of e ≡ Some core
       → nth os (suc n) ≡ Some (Answered reply)
       → (call : ℕ) × IsLatest (calls_of (take n es) (take n os)) core call
-      × IsAnsweredBefore (suc n) w.calls.log call core reply
+      × IsAnsweredBefore (suc n) log call core reply
   -- the requests kept are those of the calls
-  pub requests : w.calls.requests ≡ requests_of (calls_of es os)
+  pub requests : kept ≡ requests_of (calls_of es os)
 
 abbrev pub AllRunsBracketed : Type 0
 AllRunsBracketed = (made : Made) (slots : Slots) (es : List Event) (os : List Outcome) (w : World)
-    → made.cores ≤ 64 → IsNew slots → Run (new_world made slots) es os w → IsBracketed es os w
+    → made.cores ≤ 64 → IsNew slots → Run (new_world made slots) es os w
+    → IsBracketed es os w.calls.requests w.calls.log

@@ -27,8 +27,8 @@ use Rattle.vm_calls.specs.Settling.{is_private_store}
 use Rattle.refcache.specs.Sound.{IsReached}
 use Rattle.machine_model.specs.declared.event.Event.{Event}
 use Rattle.machine_model.specs.declared.event.Outcome.{Outcome}
-use Rattle.machine_model.specs.declared.log.Entry.{Entry}
-use Rattle.machine_model.specs.declared.log.Entry.TheVariants.{Answer, Detach}
+use Rattle.vm_base.specs.declared.log.Entry.{Entry}
+use Rattle.vm_base.specs.declared.log.Entry.TheVariants.{Answer, Detach}
 use Rattle.machine_model.specs.declared.phase.Phase.{Phase}
 use Rattle.machine_model.specs.declared.phase.Phase.TheVariants.{Free, Check, Lock, Find, Back, Cut}
 use Rattle.machine_model.specs.declared.phase.Phase.TheVariants.{Post, Acks, Unlock, Want}
@@ -39,7 +39,7 @@ use Rattle.machine_model.specs.Changes.{checked_by}
 use Rattle.machine_model.specs.Files.{back_of, file_frame, shows_file}
 use Rattle.machine_model.specs.Holding.{plan_in, range_held, holds, awaits_in, taken_in, is_open}
 use Rattle.machine_model.specs.Step.{Step}
-use Rattle.machine_laws.specs.Brackets.{nth}
+use Rattle.vm_base.specs.Log.{nth}
 
 -- ---- which request a call serves
 

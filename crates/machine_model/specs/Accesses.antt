@@ -10,7 +10,7 @@ use Rattle.vm_base.specs.declared.replies.SegvCode.TheVariants as Code
 use Rattle.vm_base.specs.declared.replies.Reply.{Reply}
 use Rattle.vm_base.specs.declared.replies.Reply.TheVariants as ReplyOf
 use Rattle.vm_base.specs.Functions.{put}
-use Rattle.vm_base.specs.Cores.{with_member}
+use Rattle.vm_base.specs.Info.{info_with_core}
 use Rattle.vm_base.specs.Plain.{Bytes, File, file_bytes}
 use Rattle.vm_base.specs.Apply.{byte_reply}
 use Rattle.slot_lock.specs.declared.plan.Touch.{Touch}
@@ -131,10 +131,6 @@ TakesThisFrame w c (Want touch old) f o v =
 TakesThisFrame w c _ f o v = Idles w o v
 
 -- ---- Install: the core is recorded on the page, and its tables get the page's entry
-
-abbrev pub info_with_core : ℕ → Option PageInfo → Option PageInfo
-info_with_core core None = None
-info_with_core core (Some info) = Some (record info { cores = with_member info.cores core })
 
 abbrev pub after_install : ℕ → Touch → World → World
 after_install c touch w =

@@ -4,9 +4,9 @@ use Rattle.vm_base.specs.declared.info.Back.{Back}
 use Rattle.vm_base.specs.declared.info.Back.TheVariants.{Anon, Shared, Private}
 use Rattle.vm_base.specs.declared.info.PageInfo.{PageInfo}
 use Rattle.vm_base.specs.declared.rights.Access.{Access}
-use Rattle.vm_base.specs.declared.rights.Access.TheVariants.{Load, Store, Fetch}
+use Rattle.vm_base.specs.declared.rights.Access.TheVariants.{Store}
 use Rattle.vm_base.specs.Functions.{put}
-use Rattle.vm_base.specs.Info.{frame_of, info_with_frame}
+use Rattle.vm_base.specs.Info.{frame_of, info_with_copy, info_with_frame}
 use Rattle.slot_lock.specs.declared.plan.Touch.{Touch}
 use Rattle.slot_lock.specs.Slots.{with_info}
 use Rattle.refcache.specs.Counts.{Counts}
@@ -88,9 +88,7 @@ FillsBacked w c touch frame (Shared n k) access o v =
     FillsFromFile w c touch frame (w.memory.cached n k) o v
 FillsBacked w c touch frame (Private n k) Store o v =
     FillsOwn w (λ f counts. after_first_copy c touch f counts w) frame o v
-FillsBacked w c touch frame (Private n k) Load o v =
-    FillsFromFile w c touch frame (w.memory.cached n k) o v
-FillsBacked w c touch frame (Private n k) Fetch o v =
+FillsBacked w c touch frame (Private n k) _ o v =
     FillsFromFile w c touch frame (w.memory.cached n k) o v
 
 abbrev pub FillsFrame : World → ℕ → Touch → Option ℕ → Outcome → World → Type 0
@@ -112,16 +110,11 @@ after_copy_post c touch f w =
 
 -- ---- CopyAcks
 
--- the page with a copy in this frame, which no core has used yet
-abbrev pub info_copied : ℕ → Option PageInfo → Option PageInfo
-info_copied f None = None
-info_copied f (Some info) = Some (record info { frame = Some f; cores = 0 })
-
 -- the frame has the bytes of g as they now are, and the page has the frame in place of g
 abbrev pub after_copy : ℕ → Touch → ℕ → ℕ → Counts → World → World
 after_copy c touch f g counts w =
     to c (Install touch) (with_entry (detach_entry w c touch.page) (record w {
-      slots = with_info w.slots touch.page (info_copied f (w.slots.info touch.page));
+      slots = with_info w.slots touch.page (info_with_copy f (w.slots.info touch.page));
       memory = record w.memory { bytes = put w.memory.bytes f (w.memory.bytes g); counts = counts };
     }))
 

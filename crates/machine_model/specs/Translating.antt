@@ -14,7 +14,7 @@ use Rattle.mmu.specs.declared.translated.Translated.{Translated}
 use Rattle.mmu.specs.declared.translated.Translated.TheVariants as By
 use Rattle.mmu.specs.Entry.{translation_of}
 use Rattle.mmu.specs.Tables.{translated, tlb_after, tlb_walked}
-use Rattle.mmu.specs.Tlb.{tlb_at, tlb_without, is_page}
+use Rattle.mmu.specs.Tlb.{tlb_at, tlb_without, is_at}
 use Rattle.shootdown.specs.declared.message.Message.{Message}
 use Rattle.shootdown.specs.declared.message.Took.{Took}
 use Rattle.shootdown.specs.declared.message.Took.TheVariants.{Clear, Invalidate, Idle}
@@ -116,7 +116,7 @@ Walks w c p o v =
     (Idles w o v)
 
 abbrev pub after_eviction : Hardware → ℕ → ℕ → Hardware
-after_eviction h c p = with_tlb h c (tlb_without (is_page p) (h.tlb c))
+after_eviction h c p = with_tlb h c (tlb_without (is_at p) (h.tlb c))
 
 abbrev pub Evicts : World → ℕ → ℕ → Outcome → World → Type 0
 Evicts w c p o v =

@@ -2,9 +2,7 @@
 #![tactic(auto)]
 
 pub mod event;
-pub mod log;
 pub mod phase;
 
 pub use event::{Blocker, Event, Outcome};
-pub use log::Entry;
 pub use phase::Phase;

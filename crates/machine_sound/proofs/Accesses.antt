@@ -9,7 +9,7 @@ use Rattle.vm_base.specs.declared.replies.Reply.TheVariants.{NoFrame}
 use Rattle.vm_base.specs.declared.rights.Access.{Access}
 use Rattle.vm_base.specs.declared.rights.Access.TheVariants.{Load, Store, Fetch}
 use Rattle.vm_base.specs.Functions.{put}
-use Rattle.vm_base.specs.Info.{frame_of}
+use Rattle.vm_base.specs.Info.{frame_of, info_with_core}
 use Rattle.vm_base.specs.Plain.{File, Entry, Plain}
 use Rattle.vm_base.specs.Rights.{is_allowed}
 use Rattle.vm_base.specs.Apply.{byte_reply, entry_reply, is_anonymous}
@@ -22,7 +22,7 @@ use Rattle.vm_calls.specs.Plainly.{touched_by}
 use Rattle.vm_calls.specs.Settling.{settled, source, is_cached, is_private_store}
 use Rattle.machine_model.specs.declared.event.Event.{Event}
 use Rattle.machine_model.specs.declared.phase.Phase.TheVariants.{Try, Settle, Want, Release}
-use Rattle.machine_model.specs.Accesses.{bytes_after, memory_after, reply_of, after_access, found_at, is_past_end, NoneFree, info_with_core, after_install}
+use Rattle.machine_model.specs.Accesses.{bytes_after, memory_after, reply_of, after_access, found_at, is_past_end, NoneFree, after_install}
 use Rattle.machine_model.specs.Files.{back_of, file_frame, shows_file, is_private}
 use Rattle.machine_model.specs.Actions.{after_reply}
 use Rattle.machine_model.specs.Translating.{translated_by, frame_reached, after_translating, with_hardware}

@@ -10,9 +10,9 @@ use Rattle.vm_base.specs.declared.info.Back.TheVariants.{Anon}
 use Rattle.vm_base.specs.Apply.{Maps, range_at}
 use Rattle.vm_base.specs.Places.IsPlace.{at_hint, in_window, nowhere}
 use Rattle.vm_base.specs.Plain.{Plain, nothing_mapped}
-use Rattle.machine_model.specs.declared.log.Entry.{Entry}
-use Rattle.machine_model.specs.declared.log.Entry.TheVariants.{Answer}
-use Rattle.machine_sound.specs.Log.{Stands, Replays}
+use Rattle.vm_base.specs.declared.log.Entry.{Entry}
+use Rattle.vm_base.specs.declared.log.Entry.TheVariants.{Answer}
+use Rattle.vm_base.specs.Log.{Stands, Replays}
 
 abbrev pub read_write : Prot
 read_write = record { read = true; write = true; exec = false }

@@ -8,7 +8,7 @@ use Rattle.vm_base.specs.declared.info.PageInfo.{PageInfo}
 use Rattle.vm_base.specs.declared.rights.Access.{Access}
 use Rattle.vm_base.specs.declared.rights.Access.TheVariants.{Load, Store, Fetch}
 use Rattle.vm_base.specs.Functions.{put}
-use Rattle.vm_base.specs.Info.{frame_of, info_with_frame}
+use Rattle.vm_base.specs.Info.{frame_of, info_with_frame, info_with_copy}
 use Rattle.vm_base.specs.Plain.{Bytes, File, Entry, Plain, bytes_of, back_bytes, bytes_in, zeros}
 use Rattle.vm_base.specs.Apply.{first_own, is_anonymous, is_uncopied, copied, detached, detached_entry}
 use Rattle.vm_base.proofs.Functions.{put_all, put_same, put_other}
@@ -19,7 +19,7 @@ use Rattle.machine_model.specs.declared.event.Event.{Event}
 use Rattle.machine_model.specs.declared.phase.Phase.TheVariants.{Fill, CopyAcks, Install}
 use Rattle.machine_model.specs.Accesses.{is_past_end}
 use Rattle.machine_model.specs.Files.{back_of, file_frame, shows_file, with_cached, page_now, bytes_shown}
-use Rattle.machine_model.specs.Filling.{after_zeros, after_first_copy, after_caching, after_sharing, after_copy, info_copied}
+use Rattle.machine_model.specs.Filling.{after_zeros, after_first_copy, after_caching, after_sharing, after_copy}
 use Rattle.machine_model.specs.Holding.{taken_in}
 use Rattle.machine_model.specs.World.{World, Memory}
 use Rattle.machine_laws.specs.Orderly.{IsUsable}
@@ -27,7 +27,7 @@ use Rattle.machine_laws.proofs.Moves.{IsCallOf, call_at}
 use Rattle.machine_laws.proofs.Shapes.{IsShowing}
 use Rattle.machine_coherence.proofs.Steps.{same_shown}
 use Rattle.machine_counting.proofs.Kept.{unused_no_page, cached_positive}
-use Rattle.machine_sound.specs.Log.{CanAccess}
+use Rattle.vm_base.specs.Log.{CanAccess}
 use Rattle.machine_sound.specs.Invariant.{Fine, Good, Shows, ShowsPage, ShowsFile, Owns, MayOwn, own_frame, own_frame_of}
 use Rattle.machine_sound.proofs.Moves.{Leaves, goes_on, copies_on, with_counts_shown}
 use Rattle.machine_sound.proofs.Pages.{with_bytes, IsFramed, framed, can_access, page_kept, file_kept, own_is_frame, own_none, shown_now, is_it}
@@ -62,7 +62,7 @@ new_frame : (f : ℕ) (o : Option PageInfo) (x : ℕ) → frame_of (info_with_fr
 new_frame f None x h = absurd cc
 new_frame f (Some info) x h = cc
 
-copied_frame : (f : ℕ) (o : Option PageInfo) (x : ℕ) → frame_of (info_copied f o) ≡ Some x → f ≡ x
+copied_frame : (f : ℕ) (o : Option PageInfo) (x : ℕ) → frame_of (info_with_copy f o) ≡ Some x → f ≡ x
 copied_frame f None x h = absurd cc
 copied_frame f (Some info) x h = cc
 
@@ -70,7 +70,7 @@ filled_past : (file : ℕ → Option File) (f : ℕ) (o : Option PageInfo) → i
 filled_past file f None = refl
 filled_past file f (Some info) = refl
 
-copied_past : (file : ℕ → Option File) (f : ℕ) (o : Option PageInfo) → is_past_end file (info_copied f o) ≡ is_past_end file o
+copied_past : (file : ℕ → Option File) (f : ℕ) (o : Option PageInfo) → is_past_end file (info_with_copy f o) ≡ is_past_end file o
 copied_past file f None = refl
 copied_past file f (Some info) = refl
 
@@ -277,10 +277,10 @@ page_copied w event c touch f g counts e at fine =
     (private_only (back_of (w.slots.info touch.page)) touch.access k.ready.2.store).0)
     (its_copy w fine.plain touch.page x z)
     (with_counts_shown w.made.file _ (with_bytes w.memory f x) counts (with_own fine.plain touch.page z.entry x)
-    (owned_shown w c f touch.page x (info_copied f (w.slots.info touch.page)) (with_own fine.plain touch.page z.entry x) fine (ap taken_in e)
+    (owned_shown w c f touch.page x (info_with_copy f (w.slots.info touch.page)) (with_own fine.plain touch.page z.entry x) fine (ap taken_in e)
     (copied_frame f (w.slots.info touch.page))
     (copied_past w.made.file f (w.slots.info touch.page) ∙ usable_past w.made.file (w.slots.info touch.page) touch.access (Some k.ready.0) k.ready.1)
-    (subst (λ o. ShowsPage (with_bytes w.memory f x) (info_copied f o) ((with_own fine.plain touch.page z.entry x).entry touch.page)) (sym z.at_slot)
+    (subst (λ o. ShowsPage (with_bytes w.memory f x) (info_with_copy f o) ((with_own fine.plain touch.page z.entry x).entry touch.page)) (sym z.at_slot)
     (copy_shown w fine.plain touch.page f x z (record z.info { frame = Some f; cores = 0 }) refl refl (uncached w f fine c (ap taken_in e))))
     (λ p ne. put_other fine.plain.entry touch.page (Some (record z.entry { own = Some x })) p ne) refl))
   where

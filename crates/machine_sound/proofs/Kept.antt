@@ -28,7 +28,7 @@ use Rattle.machine_model.specs.World.{World, Made, new_world}
 use Rattle.machine_model.specs.Step.{after_call, with_event, Step, Run}
 use Rattle.machine_laws.proofs.Kept.{kept as order_kept}
 use Rattle.machine_laws.proofs.Moves.{IsCallOf, call_at}
-use Rattle.machine_laws.specs.Brackets.{nth}
+use Rattle.vm_base.specs.Log.{nth}
 use Rattle.machine_laws.specs.Orderly.{IsAsked}
 use Rattle.machine_laws.proofs.Shapes.{Replies, refuses, no_place, declines, fails, no_frame, GoesBy, moves, divides, cuts, fits, owns, lets_go}
 use Rattle.machine_laws.proofs.Shapes.{answers, posts, commits, takes, zeroes, first_copies, caches, shares, posts_copy, copies, installs, accesses}

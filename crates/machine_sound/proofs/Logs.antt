@@ -2,12 +2,12 @@
 use Rattle.std.proofs.Common.{refl, subst, List, [], ◌∷◌, ◌++◌}
 use Rattle.vm_base.specs.declared.requests.Request.{Request}
 use Rattle.vm_base.specs.Plain.{Plain}
-use Rattle.machine_model.specs.declared.log.Entry.{Entry}
-use Rattle.machine_model.specs.declared.log.Entry.TheVariants.{Answer, Detach}
+use Rattle.vm_base.specs.declared.log.Entry.{Entry}
+use Rattle.vm_base.specs.declared.log.Entry.TheVariants.{Answer, Detach}
 use Rattle.machine_laws.proofs.Numbered.{at_old}
-use Rattle.machine_sound.specs.Log.{GoesOn, Replays}
+use Rattle.vm_base.specs.Log.{EntryLeads, Replays}
 
-goes_on_more : (rs : List Request) (r : Request) (t : Plain) (e : Entry) (u : Plain) → GoesOn rs t e u → GoesOn (rs ++ r ∷ []) t e u
+goes_on_more : (rs : List Request) (r : Request) (t : Plain) (e : Entry) (u : Plain) → EntryLeads rs t e u → EntryLeads (rs ++ r ∷ []) t e u
 goes_on_more rs r t (Answer step call core reply) u h = (h.0, at_old rs r call h.0 h.1, h.2)
 goes_on_more rs r t (Detach step call page) u h = h
 
@@ -17,6 +17,6 @@ replays_requests rs r [] t u h = h
 replays_requests rs r (e ∷ es) t u h = (h.0, goes_on_more rs r t e h.0 h.1, replays_requests rs r es h.0 u h.2)
 
 -- one entry more goes on from where the log led
-pub replays_more : (rs : List Request) (es : List Entry) (t u v : Plain) (e : Entry) → Replays rs t es u → GoesOn rs u e v → Replays rs t (es ++ e ∷ []) v
-replays_more rs [] t u v e r g = (v, subst (λ x. GoesOn rs x e v) r g, refl)
+pub replays_more : (rs : List Request) (es : List Entry) (t u v : Plain) (e : Entry) → Replays rs t es u → EntryLeads rs u e v → Replays rs t (es ++ e ∷ []) v
+replays_more rs [] t u v e r g = (v, subst (λ x. EntryLeads rs x e v) r g, refl)
 replays_more rs (x ∷ xs) t u v e r g = (r.0, r.1, replays_more rs xs r.0 u v e r.2 g)

@@ -9,15 +9,14 @@ use Rattle.vm_base.specs.Plain.{Bytes, File, Plain, nothing_mapped}
 use Rattle.slot_lock.specs.Slots.{Slots}
 use Rattle.refcache.specs.Counts.{Counts}
 use Rattle.machine_model.specs.declared.event.Event.{Event}
-use Rattle.machine_model.specs.declared.log.Entry.{Entry}
+use Rattle.vm_base.specs.declared.log.Entry.{Entry}
 use Rattle.machine_model.specs.declared.phase.Phase.{Phase}
 use Rattle.machine_model.specs.Accesses.{is_past_end}
 use Rattle.machine_model.specs.Actions.{to, with_entry, after_reply, answer_entry, detach_entry}
 use Rattle.machine_model.specs.World.{World, Hardware, Memory}
-use Rattle.machine_laws.specs.Brackets.{nth}
+use Rattle.vm_base.specs.Log.{nth, CanAccess, Replays, Stands}
 use Rattle.vm_base.specs.declared.rights.Access.TheVariants.{Store}
 use Rattle.vm_base.specs.Apply.{detached}
-use Rattle.machine_sound.specs.Log.{CanAccess, Replays, Stands}
 use Rattle.machine_sound.specs.Sound.{IsDue, Notes}
 use Rattle.machine_sound.specs.Invariant.{Fine, Shows, Good, ShowsPage, ShowsFile, own_frame}
 use Rattle.machine_sound.proofs.Logs.{replays_more}

@@ -14,9 +14,9 @@ use Rattle.vm_base.specs.Refusals.{refusal}
 use Rattle.vm_base.specs.Places.{IsPlace}
 use Rattle.vm_base.specs.Apply.{Applies, AppliesAfter, Performs, Maps, MapsAt, Protects, mapped, range_at, back_at}
 use Rattle.vm_base.specs.Apply.Protects.{no_page, no_write, done}
-use Rattle.machine_model.specs.declared.log.Entry.{Entry}
-use Rattle.machine_model.specs.declared.log.Entry.TheVariants.{Answer, Detach}
-use Rattle.machine_sound.specs.Log.{Stands, GoesOn, Replays}
+use Rattle.vm_base.specs.declared.log.Entry.{Entry}
+use Rattle.vm_base.specs.declared.log.Entry.TheVariants.{Answer, Detach}
+use Rattle.vm_base.specs.Log.{Stands, EntryLeads, Replays}
 
 -- ---- answers: the reply says what is left, also where a mapping may have more than one place
 
@@ -82,7 +82,7 @@ stands_one t u v core request Bus h k = leaves_one t u v core request Bus h k
 stands_one t u v core request NoFrame h k = h.1 ∙ sym k.1
 stands_one t u v core request NoMemory h k = h ∙ sym k
 
-entry_one : (rs : List Request) (t u v : Plain) (e : Entry) → GoesOn rs t e u → GoesOn rs t e v → u ≡ v
+entry_one : (rs : List Request) (t u v : Plain) (e : Entry) → EntryLeads rs t e u → EntryLeads rs t e v → u ≡ v
 entry_one rs t u v (Answer step call core reply) h k =
     let same : h.0 ≡ k.0 = let a : Some h.0 ≡ Some k.0 = sym h.1 ∙ k.1 in cc in
     stands_one t u v core k.0 reply (subst (λ r. Stands t core r reply u) same h.2) k.2

@@ -22,7 +22,7 @@ use Rattle.machine_model.specs.World.{World, Memory}
 use Rattle.machine_laws.specs.Orderly.{IsUsable}
 use Rattle.mmu.specs.declared.entry.Translation.{Translation}
 use Rattle.mmu.specs.Entry.{permits}
-use Rattle.machine_sound.specs.Log.{CanAccess}
+use Rattle.vm_base.specs.Log.{CanAccess}
 use Rattle.machine_sound.specs.Translations.{Agrees, AgreesWith, HasBytes}
 use Rattle.machine_sound.specs.Invariant.{Good, ShowsPage, ShowsFile, Owns, MayOwn, own_frame, own_frame_of}
 

@@ -39,11 +39,11 @@ use Rattle.vm_calls.proofs.Accesses.{access_answered, refusal_answered}
 use Rattle.vm_calls.proofs.Passed.{passed, touch-of}
 use Rattle.vm_calls.proofs.Plainly.{plain}
 use Rattle.machine_model.specs.declared.event.Event.{Event}
-use Rattle.machine_model.specs.declared.log.Entry.TheVariants as EntryOf
+use Rattle.vm_base.specs.declared.log.Entry.TheVariants as EntryOf
 use Rattle.machine_model.specs.Changes.{checked_by, reply_to}
 use Rattle.machine_model.specs.World.{World, Memory}
 use Rattle.machine_laws.specs.Orderly.{IsChosen, LeadsTo}
-use Rattle.machine_sound.specs.Log.{Stands, CanAccess}
+use Rattle.vm_base.specs.Log.{Stands, CanAccess}
 use Rattle.machine_sound.specs.Sound.{IsDue}
 use Rattle.machine_sound.specs.Invariant.{Good, ShowsPage, ShowsFile}
 

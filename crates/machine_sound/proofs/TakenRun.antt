@@ -15,7 +15,7 @@ use Rattle.machine_model.specs.declared.event.Event.{Event}
 use Rattle.machine_model.specs.declared.event.Event.TheVariants.{Call, Go, Guess}
 use Rattle.machine_model.specs.declared.event.Outcome.{Outcome}
 use Rattle.machine_model.specs.declared.event.Outcome.TheVariants.{Stepped, Answered}
-use Rattle.machine_model.specs.declared.log.Entry.TheVariants.{Answer}
+use Rattle.vm_base.specs.declared.log.Entry.TheVariants.{Answer}
 use Rattle.machine_model.specs.World.{World, new_world}
 use Rattle.machine_model.specs.Step.{Run}
 use Rattle.machine_sound.specs.Sound.{SoundRun}

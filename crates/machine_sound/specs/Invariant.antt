@@ -9,7 +9,7 @@ use Rattle.vm_base.specs.Apply.{first_own}
 use Rattle.vm_base.specs.Info.{frame_of}
 use Rattle.vm_base.specs.Plain.{Bytes, File, Entry as PageEntry, Plain, nothing_mapped, bytes_in}
 use Rattle.slot_lock.specs.Slots.{Slots}
-use Rattle.machine_model.specs.declared.log.Entry.{Entry}
+use Rattle.vm_base.specs.declared.log.Entry.{Entry}
 use Rattle.machine_model.specs.declared.phase.Phase.{Phase}
 use Rattle.machine_model.specs.Accesses.{is_past_end}
 use Rattle.machine_model.specs.Files.{shows_file}
@@ -17,7 +17,7 @@ use Rattle.machine_model.specs.World.{World, Made, Hardware, Memory}
 use Rattle.machine_laws.specs.Orderly.{Order}
 use Rattle.machine_coherence.specs.Coherent.{IsCoherent}
 use Rattle.machine_counting.specs.Counted.{IsCounted}
-use Rattle.machine_sound.specs.Log.{Replays}
+use Rattle.vm_base.specs.Log.{Replays}
 
 -- ---- frames
 

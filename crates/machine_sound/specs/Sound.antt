@@ -2,7 +2,7 @@
 use Rattle.std.specs.Prelude.{◌≡◌, ◌≢◌, ℕ, suc, ◌≤◌, ◌⊎◌, Bool, true, false, List, [], ◌∷◌, ◌++◌}
 use Rattle.std.specs.Prelude.{slice_get, Some, pos}
 use Rattle.vm_base.specs.declared.replies.Reply.TheVariants.{NoFrame, NoMemory}
-use Rattle.vm_base.specs.Plain.{Plain, nothing_mapped}
+use Rattle.vm_base.specs.Plain.{Plain}
 use Rattle.slot_lock.specs.Slots.{Slots, IsNew}
 use Rattle.vm_base.specs.Info.{is_recorded}
 use Rattle.mmu.specs.declared.entry.Translation.{Translation}
@@ -15,8 +15,8 @@ use Rattle.machine_model.specs.declared.event.Event.{Event}
 use Rattle.machine_model.specs.declared.event.Event.TheVariants.{Go, Review, GiveUp}
 use Rattle.machine_model.specs.declared.event.Outcome.{Outcome}
 use Rattle.machine_model.specs.declared.event.Outcome.TheVariants.{Wait}
-use Rattle.machine_model.specs.declared.log.Entry.{Entry}
-use Rattle.machine_model.specs.declared.log.Entry.TheVariants.{Answer}
+use Rattle.vm_base.specs.declared.log.Entry.{Entry}
+use Rattle.vm_base.specs.declared.log.Entry.TheVariants.{Answer}
 use Rattle.machine_model.specs.World.{World, Made, new_world}
 use Rattle.machine_model.specs.Accesses.{NoneFree}
 use Rattle.machine_model.specs.Events.{core_of}
@@ -26,7 +26,7 @@ use Rattle.machine_model.specs.Step.{Step, Run}
 use Rattle.machine_laws.specs.Brackets.{step_of}
 use Rattle.machine_coherence.specs.Coherent.{Mirrors}
 use Rattle.machine_counting.specs.Counted.{users_of}
-use Rattle.machine_sound.specs.Log.{Replays}
+use Rattle.machine_sound.specs.Log.{LeadsTo}
 use Rattle.machine_sound.specs.Translations.{Translates, Agrees, IsNamed}
 
 -- ---- a state
@@ -35,7 +35,7 @@ use Rattle.machine_sound.specs.Translations.{Translates, Agrees, IsNamed}
 -- translation of each core agrees with t, and no frame that something names is free to be handed
 -- out.
 pub record IsSound (w : World) (t : Plain) : Type 0 where
-  pub log : Replays w.calls.requests (nothing_mapped w.made.file) w.calls.log t
+  pub log : LeadsTo w t
   pub agrees : (c p : ℕ) (e : Translation) → Translates w.hardware c p e → Agrees w t p e
   pub named : (f : ℕ) → IsNamed w f → w.memory.is_free f ≡ false
   -- an entry of a core's tables: its slot records the core

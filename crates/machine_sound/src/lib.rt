@@ -2,7 +2,7 @@
 //! page map.
 #![tactic(auto)]
 
-ghost use Rattle.machine_sound.specs.Log.{EachLogLeadsToOneMap};
+ghost use Rattle.vm_base.specs.Log.{EachLogLeadsToOneMap};
 ghost use Rattle.machine_sound.specs.Sound.{AllReachedAreSound, AllStepsAreSound, AllRunsSound};
 
 /// Every state that a machine over new slots reaches is sound, with any files, up to 64 cores and

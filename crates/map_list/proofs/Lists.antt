@@ -5,7 +5,8 @@ use Rattle.vm_base.specs.declared.info.Meta.{Meta}
 use Rattle.map_list.specs.declared.lines.MapLine.{MapLine}
 use Rattle.vm_base.specs.Pages.{IsPage}
 use Rattle.slot_lock.specs.Slots.{Slots, IsSlotMap}
-use Rattle.map_list.specs.Lines.{GoesOn, IsMapList, IsNextLine, ListsLines, NoneMapped, info_meta, slot_metas}
+use Rattle.map_list.specs.Lines.{GoesOn, IsMapList, IsNextLine, ListsLines, NoneMapped}
+use Rattle.map_list.specs.Walked.{info_meta, slot_metas}
 
 none_then : (meta : ℕ → Option Meta) (first m end : ℕ) → NoneMapped meta first m → NoneMapped meta m end → NoneMapped meta first end
 none_then meta first m end h g = λ p a b. ⊎_elim (λ (l : p < m). h p a l) (λ (l : m ≤ p). g p l b) (cases_lt p m)

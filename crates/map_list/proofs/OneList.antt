@@ -6,7 +6,7 @@ use Rattle.vm_base.specs.declared.info.Back.TheVariants.{Anon, Shared, Private}
 use Rattle.vm_base.specs.declared.info.Meta.{Meta}
 use Rattle.vm_base.specs.Info.{advance, advance_back}
 use Rattle.map_list.specs.declared.lines.MapLine.{MapLine}
-use Rattle.map_list.specs.Lines.{GoesOn, IsLine, IsNextLine, ListsLines, NoneMapped, meta_of}
+use Rattle.map_list.specs.Lines.{GoesOn, IsLine, IsNextLine, ListsLines, NoneMapped, line_meta}
 use Rattle.map_list.proofs.Walks.{twice}
 
 back_zero : (b : Back) → advance_back b 0 ≡ b
@@ -15,12 +15,12 @@ back_zero (Shared f k) = ap (Shared f) (omega arith)
 back_zero (Private f k) = ap (Private f) (omega arith)
 
 -- a line's first page is mapped
-first_mapped : (meta : ℕ → Option Meta) (x : MapLine) → IsLine meta x → meta x.range.first ≡ Some (meta_of x)
+first_mapped : (meta : ℕ → Option Meta) (x : MapLine) → IsLine meta x → meta x.range.first ≡ Some (line_meta x)
 first_mapped meta x is =
     let some = is.pages.some in
     let none : x.range.first - x.range.first ≡ 0 = omega arith in
     is.mapped x.range.first (omega arith) some
-    ∙ (ap (λ (n : ℕ). Some (advance (meta_of x) n)) none ∙ ap (λ (b : Back). Some (record { back = b; prot = x.prot })) (back_zero x.back))
+    ∙ (ap (λ (n : ℕ). Some (advance (line_meta x) n)) none ∙ ap (λ (b : Back). Some (record { back = b; prot = x.prot })) (back_zero x.back))
 
 -- so no line begins among unmapped pages
 never : (meta : ℕ → Option Meta) (first end : ℕ) (x : MapLine) → NoneMapped meta first end → IsLine meta x → first ≤ x.range.first → x.range.first < end
@@ -43,10 +43,10 @@ same_first meta from x y a b = ⊎_elim
 -- a page inside a line goes on from the one before it
 inside : (meta : ℕ → Option Meta) (y : MapLine) (p : ℕ) → IsLine meta y → y.range.first < p → p < y.range.end → GoesOn (meta (p - 1)) (meta p)
 inside meta y p is low high =
-    let before : meta (p - 1) ≡ Some (advance (meta_of y) (p - 1 - y.range.first)) = is.mapped (p - 1) (omega arith) (omega arith) in
+    let before : meta (p - 1) ≡ Some (advance (line_meta y) (p - 1 - y.range.first)) = is.mapped (p - 1) (omega arith) (omega arith) in
     let sum : p - 1 - y.range.first + 1 ≡ p - y.range.first = omega arith in
     subst (λ o. GoesOn o (meta p)) (sym before)
-    (is.mapped p (omega arith) high ∙ ap Some (sym (twice (meta_of y) (p - 1 - y.range.first) 1 ∙ ap (advance (meta_of y)) sum)))
+    (is.mapped p (omega arith) high ∙ ap Some (sym (twice (line_meta y) (p - 1 - y.range.first) 1 ∙ ap (advance (line_meta y)) sum)))
 
 -- so two lines with the same first page have the same last one
 not_before : (meta : ℕ → Option Meta) (x y : MapLine) → IsLine meta x → IsLine meta y → x.range.first ≡ y.range.first → y.range.end ≤ x.range.end
@@ -63,7 +63,7 @@ same_line meta from x y a b =
     let low = not_before meta x y a.is b.is first in
     let high = not_before meta y x b.is a.is (sym first) in
     let end : x.range.end ≡ y.range.end = omega arith in
-    let its : meta_of x ≡ meta_of y = some_same (sym (first_mapped meta x a.is) ∙ (ap meta first ∙ first_mapped meta y b.is)) in
+    let its : line_meta x ≡ line_meta y = some_same (sym (first_mapped meta x a.is) ∙ (ap meta first ∙ first_mapped meta y b.is)) in
     ap (λ (n : ℕ). record { range = record { first = n; end = x.range.end }; prot = x.prot; back = x.back }) first
     ∙ (ap (λ (n : ℕ). record { range = record { first = y.range.first; end = n }; prot = x.prot; back = x.back }) end
     ∙ ap (λ (m : Meta). record { range = y.range; prot = m.prot; back = m.back }) its)

@@ -14,8 +14,8 @@ use Rattle.vm_base.proofs.Functions.{has_in}
 use Rattle.slot_lock.specs.Slots.{Slots, IsSlot, IsSlotMap}
 use Rattle.slot_lock.proofs.SlotLaws.{info_on}
 use Rattle.slot_lock.proofs.Steps.{slot_by_edge}
-use Rattle.map_list.specs.Lines.{GoesOn, IsNextLine, NoneMapped, info_meta, slot_metas}
-use Rattle.map_list.specs.Walked.{IsFirstMapped, IsRun}
+use Rattle.map_list.specs.Lines.{GoesOn, IsNextLine, NoneMapped}
+use Rattle.map_list.specs.Walked.{info_meta, slot_metas, IsFirstMapped, IsRun}
 
 -- ---- what the pages of a mapping are mapped to
 

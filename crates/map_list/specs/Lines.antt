@@ -2,24 +2,12 @@
 -- on from the first
 use Rattle.std.specs.Prelude.{◌≡◌, ℕ, ◌-◌, ◌^◌, ◌<◌, ◌≤◌, List, [], ◌∷◌, Option, None, Some}
 use Rattle.vm_base.specs.declared.info.Meta.{Meta}
-use Rattle.vm_base.specs.declared.info.PageInfo.{PageInfo}
 use Rattle.vm_base.specs.Info.{advance}
 use Rattle.vm_base.specs.Pages.{IsPageRange}
 use Rattle.vm_base.specs.Plain.{Entry, Plain}
-use Rattle.slot_lock.specs.Slots.{Slots}
 use Rattle.map_list.specs.declared.lines.MapLine.{MapLine}
 
--- ---- what each page is mapped to, if it is mapped
-
--- in slots
-abbrev pub info_meta : Option PageInfo → Option Meta
-info_meta None = None
-info_meta (Some info) = Some info.meta
-
-abbrev pub slot_metas : Slots → ℕ → Option Meta
-slot_metas s p = info_meta (s.info p)
-
--- in a plain page map
+-- what a page of a plain page map is mapped to, if it is mapped
 abbrev pub entry_meta : Option Entry → Option Meta
 entry_meta None = None
 entry_meta (Some e) = Some (record { back = e.back; prot = e.prot })
@@ -40,15 +28,15 @@ GoesOn None next = ⊥
 GoesOn (Some meta) next = next ≡ Some (advance meta 1)
 
 -- what the line's first page is mapped to
-abbrev pub meta_of : MapLine → Meta
-meta_of line = record { back = line.back; prot = line.prot }
+abbrev pub line_meta : MapLine → Meta
+line_meta line = record { back = line.back; prot = line.prot }
 
 -- The line's pages are valid ones, mapped one after another from its first on, and it can't be made
 -- longer at either end.
 pub record IsLine (meta : ℕ → Option Meta) (line : MapLine) : Type 0 where
   pub pages : IsPageRange line.range
   pub mapped : (p : ℕ) → line.range.first ≤ p → p < line.range.end
-      → meta p ≡ Some (advance (meta_of line) (p - line.range.first))
+      → meta p ≡ Some (advance (line_meta line) (p - line.range.first))
   pub begins : ¬ GoesOn (meta (line.range.first - 1)) (meta line.range.first)
   pub ends : ¬ GoesOn (meta (line.range.end - 1)) (meta line.range.end)
 

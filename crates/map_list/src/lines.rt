@@ -4,9 +4,8 @@ ghost use Rattle.std.specs.Prelude.{IfOk, OnErr, Some};
 ghost use Rattle.vm_base.specs.Info.{advance};
 ghost use Rattle.vm_base.specs.Pages.{IsPage};
 ghost use Rattle.slot_lock.specs.Slots.{IsSlotMap};
-ghost use Rattle.map_list.specs.Lines.{GoesOn, IsMapList, IsNextLine, NoneMapped, info_meta};
-ghost use Rattle.map_list.specs.Lines.{slot_metas};
-ghost use Rattle.map_list.specs.Walked.{IsFirstMapped, IsRun};
+ghost use Rattle.map_list.specs.Lines.{GoesOn, IsMapList, IsNextLine, NoneMapped};
+ghost use Rattle.map_list.specs.Walked.{info_meta, slot_metas, IsFirstMapped, IsRun};
 
 use slot_lock::SlotRead;
 use std::alloc::Allocator;

@@ -8,7 +8,7 @@ use Rattle.vm_base.specs.declared.page.PageRange.{PageRange}
 use Rattle.vm_base.specs.Functions.{has}
 use Rattle.mmu.specs.declared.entry.Translation.{Translation}
 use Rattle.mmu.specs.declared.tlb.TlbEntry.{TlbEntry}
-use Rattle.mmu.specs.Tlb.{tlb_at, tlb_without, is_page, are_distinct}
+use Rattle.mmu.specs.Tlb.{tlb_at, tlb_without, are_distinct, is_at}
 
 -- ---- pages without a translation
 
@@ -100,16 +100,16 @@ pub found_between : (front behind : List TlbEntry) (e : TlbEntry) → are_distin
 found_between front behind e h = past_absent front (e ∷ behind) e.page (absent_before front behind e h) ∙ ap (λ b. if b then Some e.translation else tlb_at behind e.page) (itself e.page)
 
 -- without a page that has none
-pub none_dropped : (es : List TlbEntry) (p : ℕ) → tlb_at es p ≡ None → es ≡ tlb_without (is_page p) es
+pub none_dropped : (es : List TlbEntry) (p : ℕ) → tlb_at es p ≡ None → es ≡ tlb_without (is_at p) es
 none_dropped [] p h = refl
 none_dropped (x ∷ xs) p h = rw (parts x xs p h).0 (ap (λ ys. x ∷ ys) (none_dropped xs p (parts x xs p h).1))
 
 pub dropped_between : (front behind : List TlbEntry) (e : TlbEntry) → are_distinct (front ++ e ∷ behind) ≡ true
-    → front ++ behind ≡ tlb_without (is_page e.page) (front ++ e ∷ behind)
+    → front ++ behind ≡ tlb_without (is_at e.page) (front ++ e ∷ behind)
 dropped_between front behind e h =
-    let rest = tlb_without (is_page e.page) behind in
+    let rest = tlb_without (is_at e.page) behind in
     ap (λ xs. xs ++ behind) (none_dropped front e.page (absent_before front behind e h))
-    ∙ ap (λ ys. tlb_without (is_page e.page) front ++ ys) (none_dropped behind e.page (absent_behind front behind e h)
+    ∙ ap (λ ys. tlb_without (is_at e.page) front ++ ys) (none_dropped behind e.page (absent_behind front behind e h)
     ∙ sym (ap (λ b. if not b then e ∷ rest else rest) (itself e.page)))
     ∙ sym (filter-append (λ (x : TlbEntry). not (x.page == e.page)) front (e ∷ behind))
 
@@ -124,16 +124,16 @@ without_same s t [] same = refl
 without_same s t (x ∷ xs) same = rw (same x.page) (ap (λ ys. if not (t x.page) then x ∷ ys else ys) (without_same s t xs same))
 
 -- one page more
-pub without_more : (s t : ℕ → Bool) (q : ℕ) (es : List TlbEntry) → ((p : ℕ) → t p ≡ (s p || is_page q p))
-    → tlb_without (is_page q) (tlb_without s es) ≡ tlb_without t es
+pub without_more : (s t : ℕ → Bool) (q : ℕ) (es : List TlbEntry) → ((p : ℕ) → t p ≡ (s p || is_at q p))
+    → tlb_without (is_at q) (tlb_without s es) ≡ tlb_without t es
 without_more s t q [] both = refl
 without_more s t q (x ∷ xs) both = rw (both x.page) (go (s x.page) (x.page == q) refl (without_more s t q xs both))
   where
     rest : List TlbEntry
     rest = tlb_without s xs
 
-    go : (b c : Bool) → (x.page == q) ≡ c → tlb_without (is_page q) rest ≡ tlb_without t xs
-        → tlb_without (is_page q) (if not b then x ∷ rest else rest) ≡ (if not (b || (x.page == q)) then x ∷ tlb_without t xs else tlb_without t xs)
+    go : (b c : Bool) → (x.page == q) ≡ c → tlb_without (is_at q) rest ≡ tlb_without t xs
+        → tlb_without (is_at q) (if not b then x ∷ rest else rest) ≡ (if not (b || (x.page == q)) then x ∷ tlb_without t xs else tlb_without t xs)
     go true c e more = more
     go false true e more = rw e more
     go false false e more = rw e (ap (λ ys. x ∷ ys) more)
@@ -143,9 +143,9 @@ pub from_first : (r : PageRange) (es : List TlbEntry) → es ≡ tlb_without (λ
 from_first r es = without_none (λ p. has r p && nat_lt p r.first) es (λ p. grind (arith, nat_tests))
 
 pub page_more : (r : PageRange) (q : ℕ) (now es : List TlbEntry) → r.first ≤ q → q < r.end → now ≡ tlb_without (λ p. has r p && nat_lt p q) es
-    → tlb_without (is_page q) now ≡ tlb_without (λ p. has r p && nat_lt p (q + 1)) es
+    → tlb_without (is_at q) now ≡ tlb_without (λ p. has r p && nat_lt p (q + 1)) es
 page_more r q now es from lt is =
-    ap (tlb_without (is_page q)) is
+    ap (tlb_without (is_at q)) is
     ∙ without_more (λ p. has r p && nat_lt p q) (λ p. has r p && nat_lt p (q + 1)) q es (λ p. grind (arith, nat_tests))
 
 pub to_end : (r : PageRange) (q : ℕ) (es : List TlbEntry) → r.end ≤ q → tlb_without (λ p. has r p && nat_lt p q) es ≡ tlb_without (has r) es

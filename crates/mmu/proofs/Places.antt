@@ -11,7 +11,7 @@ use Rattle.std.specs.List.{refill, cons_option}
 use Rattle.std.specs.Prelude.{if◌then◌else◌}
 use Rattle.mmu.specs.declared.tlb.TlbEntry.{TlbEntry}
 use Rattle.mmu.specs.declared.tlb.Filled.{Filled}
-use Rattle.mmu.specs.Tlb.{tlb_at, tlb_without, is_page, are_distinct}
+use Rattle.mmu.specs.Tlb.{tlb_at, tlb_without, are_distinct, is_at}
 use Rattle.mmu.specs.Fills.{held_entry, entries_of, filled_at, has_page, dropped, filled_page, filled_older, AreChained}
 use Rattle.mmu.proofs.Distinct.{found_between, dropped_between}
 
@@ -62,12 +62,12 @@ one_less fs i y l h =
 
 -- all but the page that stood there
 pub page_left : (fs : List Filled) (i : ℕ) (y : Filled) → are_distinct (entries_of fs) ≡ true → i < length fs → (filled_at fs i).is_held ≡ true
-    → entries_of (set fs i (dropped y)) ≡ tlb_without (is_page (filled_at fs i).entry.page) (entries_of fs)
+    → entries_of (set fs i (dropped y)) ≡ tlb_without (is_at (filled_at fs i).entry.page) (entries_of fs)
 page_left fs i y d l h =
     let whole = parted fs i l h in
     left_around fs i y l
     ∙ dropped_between (entries_of (take i fs)) (entries_of (drop (suc i) fs)) (filled_at fs i).entry (ap are_distinct (sym whole) ∙ d)
-    ∙ ap (tlb_without (is_page (filled_at fs i).entry.page)) (sym whole)
+    ∙ ap (tlb_without (is_at (filled_at fs i).entry.page)) (sym whole)
 
 -- all but the oldest
 pub oldest_left : (fs : List Filled) (i : ℕ) (y : Filled) → entries_of (take i fs) ≡ [] → i < length fs → (filled_at fs i).is_held ≡ true

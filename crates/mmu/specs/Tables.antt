@@ -7,7 +7,7 @@ use Rattle.mmu.specs.declared.tlb.TlbEntry.{TlbEntry}
 use Rattle.mmu.specs.declared.translated.Translated.{Translated}
 use Rattle.mmu.specs.declared.translated.Translated.TheVariants.{Hit, Fill, Fault}
 use Rattle.mmu.specs.Entry.{permits, entry_word}
-use Rattle.mmu.specs.Tlb.{tlb_without, tlb_filled, is_page}
+use Rattle.mmu.specs.Tlb.{tlb_without, tlb_filled, is_at}
 
 -- only valid pages have an entry
 abbrev pub on_pages : (ℕ → Option Translation) → ℕ → Option Translation
@@ -32,7 +32,7 @@ abbrev pub tlb_after : Translated → ℕ → Option Translation → List TlbEnt
 tlb_after (Hit frame) p entry es = es
 tlb_after (Fill frame) p None es = es
 tlb_after (Fill frame) p (Some t) es = tlb_filled p t es
-tlb_after Fault p entry es = tlb_without (is_page p) es
+tlb_after Fault p entry es = tlb_without (is_at p) es
 
 -- the TLB after the tables were walked for a page without an access
 abbrev pub tlb_walked : Option Translation → Option Translation → ℕ → List TlbEntry → List TlbEntry

@@ -20,8 +20,8 @@ abbrev pub tlb_without : (ℕ → Bool) → List TlbEntry → List TlbEntry
 tlb_without s es = filter (λ (e : TlbEntry). not (s e.page)) es
 
 -- the one page
-abbrev pub is_page : ℕ → ℕ → Bool
-is_page p q = q == p
+abbrev pub is_at : ℕ → ℕ → Bool
+is_at p q = q == p
 
 -- with one translation more, the oldest filled making room
 abbrev pub tlb_filled : ℕ → Translation → List TlbEntry → List TlbEntry

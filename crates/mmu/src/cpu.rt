@@ -6,7 +6,7 @@ ghost use Rattle.vm_base.specs.Pages.{is_page as is_valid, are_pages};
 ghost use Rattle.mmu.specs.declared.entry.Translation.{Translation};
 ghost use Rattle.mmu.specs.declared.tlb.TlbEntry.{TlbEntry};
 ghost use Rattle.mmu.specs.Entry.{has_right, translation_of};
-ghost use Rattle.mmu.specs.Tlb.{tlb_at, tlb_without, is_page, are_distinct};
+ghost use Rattle.mmu.specs.Tlb.{tlb_at, tlb_without, are_distinct, is_at};
 ghost use Rattle.mmu.specs.Fills.{entries_of};
 ghost use Rattle.mmu.specs.Tables.{on_pages, translated, tlb_after, tlb_walked, word_of};
 
@@ -69,7 +69,7 @@ pub trait Hardware: Drop {
         ensures value { result ≡ is_some (tlb_at (tlb self.old) page) }
         ensures table { table self.new ≡ table self.old }
         ensures tlb { tlb self.new
-            ≡ (if result then tlb_without (is_page page) (tlb self.old) else tlb self.old) };
+            ≡ (if result then tlb_without (is_at page) (tlb self.old) else tlb self.old) };
 
     /// Drops the table entries of the pages of the range, in the time of the tables that are there.
     /// The TLB stays.

@@ -2,7 +2,7 @@
 ghost use Rattle.std.specs.Prelude.{◌≡◌, ◌==◌, ◌+◌, ◌<◌, ◌≤◌, [], ◌∷◌, ◌++◌, true, None, IfSome};
 ghost use Rattle.std.specs.Prelude.{length, drop, take, map, slice_set, if◌then◌else◌};
 ghost use Rattle.vm_base.specs.Functions.{has};
-ghost use Rattle.mmu.specs.Tlb.{tlb_at, tlb_without, is_page, tlb_filled, are_distinct, page_hash};
+ghost use Rattle.mmu.specs.Tlb.{tlb_at, tlb_without, tlb_filled, are_distinct, page_hash, is_at};
 ghost use Rattle.mmu.specs.Fills.{entries_of, filled_at, has_page, dropped, filled_page, filled_older};
 ghost use Rattle.mmu.specs.Fills.{AreChained};
 
@@ -223,7 +223,7 @@ impl Tlb {
     /// Drops the translation of the page.
     pub fn drop_page(&mut self, page: u64)
         ensures { entries_of self.new.fills.items
-            ≡ tlb_without (is_page page) (entries_of self.old.fills.items) }
+            ≡ tlb_without (is_at page) (entries_of self.old.fills.items) }
     {
         if let Some(place) = self.place_of(page) {
             self.let_go(place);

@@ -9,10 +9,10 @@ use Rattle.vm_base.specs.declared.replies.Reply.{Reply}
 use Rattle.vm_base.specs.Pages.{page_of}
 use Rattle.vm_base.specs.Plain.{Bytes, Entry, Plain}
 use Rattle.vm_base.specs.Apply.{is_anonymous, is_uncopied, access_reply, detached}
-use Rattle.vm_base.specs.Answers.{prepared}
+use Rattle.vm_base.specs.Copies.{page_copied, with_copy as copy_made}
 use Rattle.vm_base.proofs.Functions.{put_same}
-use Rattle.vm_base.proofs.Due.{Due, due, after, with_copy, detached_due}
-use Rattle.vm_base.proofs.Ready.{prepared_due, prepared_ready, store_ready}
+use Rattle.vm_base.proofs.Due.{Due, due, after, answered, with_copy, detached_due}
+use Rattle.vm_base.proofs.Ready.{store_at_once, store_due}
 use Rattle.plain_map.specs.Shown.{entry_of, lacks_bytes}
 use Rattle.plain_map.specs.Detaches.{DetachesTo}
 
@@ -22,18 +22,22 @@ next_is t u addr d b h = (subst (λ (x : Option Plain). DetachesTo x t b u) (det
 pub at_page : (t u : Plain) (addr p : ℕ) (b : Bool) → p ≡ page_of addr → DetachesTo (detached t p) t b u → DetachesTo (detached t (page_of addr)) t b u
 at_page t u addr p b e g = subst (λ (q : ℕ). DetachesTo (detached t q) t b u) e g
 
-pub copy_prepares : (t u : Plain) (addr byte : ℕ) (b : Bool) → access_reply t addr Store ≡ None
-    → DetachesTo (detached t (page_of addr)) t b u → u ≡ prepared t (StoreOf addr byte)
-copy_prepares t u addr byte b h g =
+pub copy_prepares : (t u : Plain) (addr byte : ℕ) (y : Reply) (b : Bool) → access_reply t addr Store ≡ None
+    → DetachesTo (detached t (page_of addr)) t b u → access_reply u addr Store ≡ Some y → u ≡ copy_made t (page_copied t (StoreOf addr byte) y)
+copy_prepares t u addr byte y b h g k =
     let d = due t addr h in
-    next_is t u addr d b g ∙ sym (prepared_due t addr byte d h)
+    let is = next_is t u addr d b g in
+    is ∙ sym (store_due t addr byte y d (subst (λ (m : Plain). access_reply m addr Store ≡ Some y) is k))
 
-pub prepared_already : (t : Plain) (addr byte : ℕ) (y : Reply) → access_reply t addr Store ≡ Some y → t ≡ prepared t (StoreOf addr byte)
-prepared_already t addr byte y h = sym (prepared_ready t addr byte (ap (λ (r : Option Reply). is_some r) h))
+pub prepared_already : (t : Plain) (addr byte : ℕ) (y : Reply) → access_reply t addr Store ≡ Some y
+    → t ≡ copy_made t (page_copied t (StoreOf addr byte) y)
+prepared_already t addr byte y h = sym (store_at_once t addr byte y h)
 
 pub ready_after : (t u : Plain) (addr : ℕ) (b : Bool) → access_reply t addr Store ≡ None → DetachesTo (detached t (page_of addr)) t b u
     → is_some (access_reply u addr Store) ≡ true
-ready_after t u addr b h g = ap (λ (x : Plain). is_some (access_reply x addr Store)) (copy_prepares t u addr 0 b h g) ∙ store_ready t addr 0
+ready_after t u addr b h g =
+    let d = due t addr h in
+    ap (λ (x : Plain). is_some (access_reply x addr Store)) (next_is t u addr d b g) ∙ ap (λ (r : Option Reply). is_some r) (answered t addr d)
 
 not_anonymous : (b : Back) (o : Option Bytes) → is_uncopied b o ≡ true → is_anonymous b ≡ false
 not_anonymous Anon o h = absurd cc

@@ -13,7 +13,8 @@ use Rattle.refcache.specs.Sums.{sum_below}
 use Rattle.refcache.specs.Counts.{Counts, no_counts, delta_of, true_count, enqueued, unqueued, drained, evicted, added}
 use Rattle.refcache.specs.Pieces.{IsCount}
 use Rattle.refcache.specs.Laws.{change}
-use Rattle.refcache.specs.Steps.{Step, Begin, Inc, Dec, Flushing, Reviewing, Takes, MakesRoom, HasEntry, IsDelta, Flushes, Reviews}
+use Rattle.refcache.specs.Steps.{Begin, Inc, Dec, Flushing, Reviewing, Takes, MakesRoom, HasEntry, IsDelta, Flushes, Reviews}
+use Rattle.refcache.specs.Steps.{CountStep}
 use Rattle.refcache.proofs.Sums.{same_or_not, sum_zero}
 use Rattle.refcache.proofs.Lists.{Each, each_end}
 use Rattle.refcache.proofs.Queues.{by_notice}
@@ -175,7 +176,7 @@ up_one = (omega (arith, ints), omega (arith, ints))
 down_one : (neg_ℤ (pos 1) ≤ℤ negsuc 0) × (negsuc 0 ≤ℤ pos 1)
 down_one = (omega (arith, ints), omega (arith, ints))
 
-pub held : (v : Counts) (s : Step) (w : Counts) → Takes v s w → Held v → Held w
+pub held : (v : Counts) (s : CountStep) (w : Counts) → Takes v s w → Held v → Held w
 held v (Begin p k) w h f = subst Held (sym h.3) (record { rows = f.rows; queues = f.queues })
 held v (Inc c p) w h f = subst Held (sym h.1.4) (held_room v c p (pos 1) h.1.2 h.1.3 up_one h.1.5 f)
 held v (Dec c p) w h f = subst Held (sym h.4) (held_room v c p (negsuc 0) h.2 h.3 down_one h.5 f)
@@ -200,10 +201,10 @@ counted_open n m o =
     let s : sum_below n (λ c. pos 0) ≡ pos 0 = sum_zero n (λ c. pos 0) (λ c _. refl) in
     (omega (arith, ints, s), omega (arith, ints, s))
 
-pub counted : (v : Counts) (s : Step) (w : Counts) → Takes v s w → Counted v → Counted w
+pub counted : (v : Counts) (s : CountStep) (w : Counts) → Takes v s w → Counted v → Counted w
 counted v s w h f o = subst InRange (sym (true_counts_move v s w h o)) (go s h)
   where
-    go : (s : Step) → Takes v s w → InRange (true_count v o +ℤ change s o)
+    go : (s : CountStep) → Takes v s w → InRange (true_count v o +ℤ change s o)
     go (Begin p k) h = by_test (λ z. InRange (true_count v o +ℤ z)) (o == p) (pos k) (pos 0)
         (λ t. let none : true_count v o ≡ pos 0 = ap (true_count v) (eq_true o p t) ∙ h.0.zero in let few = h.2 in
         (omega (arith, ints, none, few), omega (arith, ints, none, few)))

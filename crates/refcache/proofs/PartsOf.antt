@@ -20,7 +20,8 @@ use Rattle.refcache.specs.declared.reports.Flush.{Flush}
 use Rattle.refcache.specs.declared.reports.Flush.TheVariants as flush
 use Rattle.refcache.specs.declared.reports.Review.{Review}
 use Rattle.refcache.specs.declared.reports.Review.TheVariants as review
-use Rattle.refcache.specs.Steps.{IsInTheWay, Begin, Takes, IsUnused, IsClear, IsQuiet, Flushes, Reviews, IsDue}
+use Rattle.refcache.specs.Steps.{IsInTheWay, Begin, Takes, IsUnused, IsClear, IsQuiet, Flushes, Reviews}
+use Rattle.refcache.specs.Steps.{IsReviewDue}
 use Rattle.vm_base.specs.Cores.{members}
 use Rattle.refcache.specs.Epochs.{Epoch, AllMarked, Marks}
 use Rattle.refcache.specs.Parts.{Parts, object_at, core_at, counts_of}
@@ -228,7 +229,7 @@ whole_reviewed p c r core count x rest inside object front places h = go r h
         (read_kept (λ z. z.is_dirty) p.objects o count none object (ap (λ z. z.is_dirty) e)) deltas
         (read_kept (λ k. k.queue) p.cores c core no_core inside (q ∙ sym front)) refl
 
-    due : x.epoch + 2 ≤ p.epochs.number → IsDue v c o rest
+    due : x.epoch + 2 ≤ p.epochs.number → IsReviewDue v c o rest
     due time = record { since = x.epoch; front = front; time = time }
 
     go : (r : Review) → ReviewsPiece (x ∷ rest) p.epochs.number (object_at p.objects x.object) r count core.queue → Reviews v c r new

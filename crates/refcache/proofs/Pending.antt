@@ -11,7 +11,8 @@ use Rattle.refcache.specs.declared.reports.Flush.TheVariants as flush
 use Rattle.refcache.specs.declared.reports.Review.TheVariants as review
 use Rattle.vm_base.specs.Functions.{put}
 use Rattle.refcache.specs.Counts.{Counts, delta_of, true_count, enqueued, unqueued, soiled, drained, evicted, added, begun, marked, ended}
-use Rattle.refcache.specs.Steps.{Step, Begin, Inc, Dec, Flushing, Reviewing, Takes, MakesRoom, HasEntry, IsUnused, IsClear, AllFlushed, Flushes, Reviews}
+use Rattle.refcache.specs.Steps.{Begin, Inc, Dec, Flushing, Reviewing, Takes, MakesRoom, HasEntry, IsUnused, IsClear, AllFlushed, Flushes, Reviews}
+use Rattle.refcache.specs.Steps.{CountStep}
 use Rattle.vm_base.proofs.Functions.{put_all, put_same, put_other}
 use Rattle.refcache.proofs.Sums.{same_or_not, cell_same, cell_row, cell_column}
 use Rattle.refcache.proofs.Lists.{Each, each_map, each_end}
@@ -290,7 +291,7 @@ pending_ended e o c v clear all f = let up = f.since in record { since = omega (
             mark (inr h) = f.swept j l (inr (omega (arith, s, less), h))
 
 -- a step keeps it, or frees the object
-abbrev pub GoesOn : ℕ → ℕ → Step → Counts → Type 0
+abbrev pub GoesOn : ℕ → ℕ → CountStep → Counts → Type 0
 GoesOn e o s w = Pending e o w ⊎ ((c : ℕ) × (s ≡ Reviewing c (review.Freed o)))
 
 pending_room : (e o : ℕ) (v : Counts) (c p : ℕ) (by : ℤ) (m : Counts) → c < v.cores → MakesRoom v c p by m → Queues v → Pending e o v → Pending e o m
@@ -341,7 +342,7 @@ pending_review e o v c (review.Dropped p) w h time f = inl (subst (Pending e o) 
     go (inr ne) = pending_unqueued e o c p h.1.since h.0 v h.1.front ne f
 pending_review e o v c review.Idle w h time f = inl (subst (Pending e o) (sym h.1) f)
 
-pub pending : (e o : ℕ) (v : Counts) (s : Step) (w : Counts) → Takes v s w → Queues v
+pub pending : (e o : ℕ) (v : Counts) (s : CountStep) (w : Counts) → Takes v s w → Queues v
     → ((c : ℕ) → c < v.cores → (v.epoch ≤ e + 3) ⊎ Behind v c (e + 3)) → Pending e o v → GoesOn e o s w
 pending e o v (Begin p k) w h q time f = inl (subst (Pending e o) (sym h.3) (pending_begun e o p k v h.0 f))
 pending e o v (Inc c p) w h q time f = inl

@@ -10,7 +10,8 @@ use Rattle.refcache.specs.declared.reports.Flush.TheVariants as flush
 use Rattle.refcache.specs.declared.reports.Review.TheVariants as review
 use Rattle.vm_base.specs.Functions.{put}
 use Rattle.refcache.specs.Counts.{Counts, no_counts, enqueued, unqueued, soiled, drained, noticed, evicted, added, begun, marked, ended}
-use Rattle.refcache.specs.Steps.{Step, Begin, Inc, Dec, Flushing, Reviewing, Takes, MakesRoom, Flushes, Reviews, IsQuiet}
+use Rattle.refcache.specs.Steps.{Begin, Inc, Dec, Flushing, Reviewing, Takes, MakesRoom, Flushes, Reviews, IsQuiet}
+use Rattle.refcache.specs.Steps.{CountStep}
 use Rattle.vm_base.proofs.Functions.{by_test, put_all, put_same, put_other}
 use Rattle.refcache.proofs.Sums.{same_or_not}
 use Rattle.refcache.proofs.Lists.{Each, Rising, Stands, each_map, each_end, rising_end, stands_end, end_stands}
@@ -208,7 +209,7 @@ later_review v c (review.Requeued o) w lt h = subst (Later v) (sym h.4)
 later_review v c (review.Dropped o) w lt h = subst (Later v) (sym h.3) (later_unqueued c o h.1.since h.0 v h.1.front)
 later_review v c review.Idle w lt h = subst (Later v) (sym h.1) (later_same v)
 
-pub later : (v : Counts) (s : Step) (w : Counts) → Takes v s w → Later v w
+pub later : (v : Counts) (s : CountStep) (w : Counts) → Takes v s w → Later v w
 later v (Begin o k) w h = subst (Later v) (sym h.3) (later_begun o k v)
 later v (Inc c o) w h = subst (Later v) (sym h.1.4)
     (later_then v h.1.2 (added c o (pos 1) h.1.2) (later_room v c o (pos 1) h.1.2 h.1.0 h.1.3) (later_added c o (pos 1) h.1.2))

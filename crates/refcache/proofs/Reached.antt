@@ -4,7 +4,8 @@ use Rattle.refcache.specs.declared.reports.Flush.TheVariants as flush
 use Rattle.refcache.specs.declared.reports.Review.{Review}
 use Rattle.refcache.specs.declared.reports.Review.TheVariants as review
 use Rattle.refcache.specs.Counts.{Counts, no_counts, drained, evicted}
-use Rattle.refcache.specs.Steps.{Step, Begin, Inc, Dec, Flushing, Reviewing, MakesRoom, Reviews, Takes}
+use Rattle.refcache.specs.Steps.{Begin, Inc, Dec, Flushing, Reviewing, MakesRoom, Reviews, Takes}
+use Rattle.refcache.specs.Steps.{CountStep}
 use Rattle.refcache.specs.Laws.{StepsReach, FreedIsUnused, UnusedAtFirst, SizesStay, IsSameSize, ReachedIsOrderly, epoch_after}
 use Rattle.refcache.proofs.Queues.{by_notice, later}
 use Rattle.refcache.proofs.Settled.{unused}
@@ -20,7 +21,7 @@ freed_is_unused v core object w reached takes = unused v core object w takes.1 (
 pub unused_at_first : UnusedAtFirst
 unused_at_first n m object = record { zero = count_clear (no_counts n m) object (λ c lt. refl); entries = λ c lt. refl; unqueued = refl }
 
-pub same_size : (v : Counts) (step : Step) (w : Counts) → Takes v step w → IsSameSize v w
+pub same_size : (v : Counts) (step : CountStep) (w : Counts) → Takes v step w → IsSameSize v w
 same_size v step w takes = let l = later v step w takes in (l.cores, l.objects)
 
 epoch_evicted : (c o : ℕ) (v : Counts) → (evicted c o v).epoch ≡ v.epoch
@@ -36,7 +37,7 @@ epoch_review v c (review.Requeued o) w h = ap (λ z. z.epoch) h.4
 epoch_review v c (review.Dropped o) w h = ap (λ z. z.epoch) h.3
 epoch_review v c review.Idle w h = ap (λ z. z.epoch) h.1
 
-epochs : (v : Counts) (step : Step) (w : Counts) → Takes v step w → w.epoch ≡ epoch_after step v.epoch
+epochs : (v : Counts) (step : CountStep) (w : Counts) → Takes v step w → w.epoch ≡ epoch_after step v.epoch
 epochs v (Begin o k) w h = ap (λ z. z.epoch) h.3
 epochs v (Inc c o) w h = ap (λ z. z.epoch) h.1.4 ∙ epoch_way v c o _ h.1.2 h.1.3
 epochs v (Dec c o) w h = ap (λ z. z.epoch) h.4 ∙ epoch_way v c o _ h.2 h.3

@@ -3,7 +3,7 @@ use Rattle.std.proofs.Common.{◌≡◌, ℕ, ◌≤◌, ◌<◌, ◌+◌, Bool,
 use Rattle.std.proofs.Common.{◌++◌, Some, None, ◌⊎◌, inl, inr}
 use Rattle.refcache.specs.declared.reports.Review.TheVariants as review
 use Rattle.refcache.specs.Counts.{Counts, no_counts, delta_of, true_count, added}
-use Rattle.refcache.specs.Steps.{Step, Dec, Reviewing, Takes, HasEntry, Moment, IsRun, last}
+use Rattle.refcache.specs.Steps.{Dec, Reviewing, Takes, HasEntry, Moment, IsRun, last, CountStep}
 use Rattle.refcache.specs.Laws.{Comes, ReviewsUntilIdle, FreesBefore, Reuse}
 use Rattle.refcache.proofs.Sums.{cell_same}
 use Rattle.refcache.proofs.Lists.{each_map, each_both, each_at}
@@ -69,7 +69,7 @@ ahead_next v x xs d epoch q t (inl (inl h)) =
     let there : Behind x.counts d x.counts.epoch = subst (λ w. Behind w d w.epoch) (sym same) here in
     inr (omega (arith, at), subst (Behind x.counts d) at there)
 
-freed_epoch : (v : Counts) (s : Step) (w : Counts) (c o : ℕ) → s ≡ Reviewing c (review.Freed o) → Takes v s w → w.epoch ≡ v.epoch
+freed_epoch : (v : Counts) (s : CountStep) (w : Counts) (c o : ℕ) → s ≡ Reviewing c (review.Freed o) → Takes v s w → w.epoch ≡ v.epoch
 freed_epoch v s w c o e t = ap (λ z. z.epoch) (subst (λ z. Takes v z w) e t).1.4
 
 frees : (n e o : ℕ) (v : Counts) (xs : List Moment) → v.cores ≡ n → IsRun v xs → Queues v → Pending e o v

@@ -10,7 +10,8 @@ use Rattle.refcache.specs.declared.reports.Flush.TheVariants as flush
 use Rattle.refcache.specs.declared.reports.Review.TheVariants as review
 use Rattle.vm_base.specs.Functions.{put}
 use Rattle.refcache.specs.Counts.{Counts, no_counts, delta_of, true_count, enqueued, unqueued, soiled, drained, evicted, added, begun, marked, ended}
-use Rattle.refcache.specs.Steps.{Step, Begin, Inc, Dec, Flushing, Reviewing, Takes, MakesRoom, HasEntry, IsUnused, IsClear, AllFlushed, Flushes, Reviews}
+use Rattle.refcache.specs.Steps.{Begin, Inc, Dec, Flushing, Reviewing, Takes, MakesRoom, HasEntry, IsUnused, IsClear, AllFlushed, Flushes, Reviews}
+use Rattle.refcache.specs.Steps.{CountStep}
 use Rattle.vm_base.proofs.Functions.{put_all, put_same, put_other}
 use Rattle.refcache.proofs.Sums.{same_or_not, cell_same, cell_row, cell_column}
 use Rattle.refcache.proofs.Lists.{Each, Stands, Once, each_map, each_both, each_end, each_in, stood_end, once_end}
@@ -270,7 +271,7 @@ settled_review v c (review.Requeued p) w h f =
 settled_review v c (review.Dropped p) w h f = subst Settled (sym h.3) (settled_unqueued c p h.1.since h.0 v h.1.front f)
 settled_review v c review.Idle w h f = subst Settled (sym h.1) f
 
-pub settled : (v : Counts) (s : Step) (w : Counts) → Takes v s w → Settled v → Settled w
+pub settled : (v : Counts) (s : CountStep) (w : Counts) → Takes v s w → Settled v → Settled w
 settled v (Begin p k) w h f = subst Settled (sym h.3) (settled_begun p k v h.0 f)
 settled v (Inc c p) w h f = subst Settled (sym h.1.4) (settled_add v c p (pos 1) h.1.2 h.1.0 h.1.1 h.1.3 f)
 settled v (Dec c p) w h f = subst Settled (sym h.4) (settled_add v c p (negsuc 0) h.2 h.0 h.1 h.3 f)

@@ -7,7 +7,7 @@ use Rattle.std.proofs.lemmas.Map.Steps.{length-le_from_distinct_below}
 use Rattle.refcache.specs.declared.reports.Queued.{Queued}
 use Rattle.refcache.specs.declared.reports.Review.TheVariants as review
 use Rattle.refcache.specs.Counts.{Counts, no_counts}
-use Rattle.refcache.specs.Steps.{Step, Reviewing, Takes, Moment, IsRun, IsUnused, last}
+use Rattle.refcache.specs.Steps.{Reviewing, Takes, Moment, IsRun, IsUnused, last, CountStep}
 use Rattle.refcache.specs.Places.{entries}
 use Rattle.refcache.specs.Parts.{Parts, counts_of, core_at, rooms, CanEvict}
 use Rattle.refcache.specs.Sound.{IsReached, IsSound}
@@ -45,7 +45,7 @@ last_more : (u : Counts) (xs : List Moment) (x : Moment) → last u (xs ++ x ∷
 last_more u [] x = refl
 last_more u (y ∷ ys) x = last_more y.counts ys x
 
-pub reached_on : (v : Counts) (s : Step) (w : Counts) → IsReached v → Takes v s w → IsReached w
+pub reached_on : (v : Counts) (s : CountStep) (w : Counts) → IsReached v → Takes v s w → IsReached w
 reached_on v s w r t =
     let x : Moment = record { step = s; counts = w } in
     let l = later v s w t in
@@ -71,7 +71,7 @@ sound_open p n m few e room epochs =
       epochs = epochs ∙ sym cores;
     }
 
-pub sound_on : (p q : Parts) (s : Step) → IsSound p → Takes (counts_of p) s (counts_of q) → rooms q ≡ rooms p → q.epochs.cores ≡ p.epochs.cores → IsSound q
+pub sound_on : (p q : Parts) (s : CountStep) → IsSound p → Takes (counts_of p) s (counts_of q) → rooms q ≡ rooms p → q.epochs.cores ≡ p.epochs.cores → IsSound q
 sound_on p q s f t room epochs =
     let l = later (counts_of p) s (counts_of q) t in
     let cores : length q.cores ≡ length p.cores = l.cores in

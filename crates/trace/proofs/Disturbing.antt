@@ -10,7 +10,7 @@ use Rattle.machine_model.specs.World.{World}
 use Rattle.machine_laws.proofs.Moves.{IsCallOf, call_at}
 use Rattle.machine_sound.proofs.Kept.{reached_fine}
 use Rattle.machine_alone.specs.Alone.{IsBeside}
-use Rattle.machine_alone.specs.Taken.{is_access}
+use Rattle.vm_base.specs.Requests.{is_access}
 use Rattle.machine_alone.proofs.Taking.{its_access}
 use Rattle.machine_alone.proofs.Telling.{for_change, for_copy, waits_at}
 use Rattle.trace_text.specs.declared.action.Action.TheVariants as By

@@ -14,9 +14,9 @@ use Rattle.vm_base.specs.declared.requests.Request.{Request}
 use Rattle.trace_text.specs.declared.line.Line.{Line}
 use Rattle.trace_text.specs.declared.line.Line.TheVariants.{Now}
 use Rattle.core_steps.specs.declared.machine.Finished.{Finished}
-use Rattle.core_steps.specs.Finishing.{Calls, GoesOn as CallGoesOn}
+use Rattle.core_steps.specs.Finishing.{Calls, FinishesAfter as CallGoesOn}
 use Rattle.trace.specs.OutcomeText.{finished_text}
-use Rattle.trace.specs.Gives.{Gives, GoesOn, Wants, is_event}
+use Rattle.trace.specs.Gives.{Gives, Wants, is_event, TellsCall}
 
 pub on_err : {U : Type 0} (r : Result U NoMemory) (P : Type 0) → P → OnErr r P
 on_err (Ok u) P h = tt
@@ -24,7 +24,7 @@ on_err (Err x) P h = h
 
 -- a call, and the text of what it came to
 goes_on : (o : Outcome) (m v : World) (core : ℕ) (f : Finished) (text : List ℕ) → CallGoesOn m core o f v → text ≡ finished_text f
-    → GoesOn m core o v text
+    → TellsCall m core o v text
 goes_on Stepped m v core f text g t = (f, g, t)
 goes_on (Wait blocker) m v core f text g t = (g.0, t ∙ ap finished_text g.1)
 goes_on Idle m v core f text g t = (g.0, t ∙ ap finished_text g.1)

@@ -20,7 +20,7 @@ use Rattle.trace_text.specs.declared.line.Line.{Line}
 use Rattle.trace_text.specs.declared.line.Line.TheVariants.{Blank, Space, File, Act, Fold, Finish, Now}
 use Rattle.trace.specs.Events.{event_of}
 use Rattle.trace.specs.OutcomeText.{finished_text}
-use Rattle.trace.specs.Gives.{Gives, GoesOn, TellsFinish}
+use Rattle.trace.specs.Gives.{Gives, TellsFinish, TellsCall}
 use Rattle.trace.specs.Stage.{Stage, Start, Declared, Running, Opens, LineActs, EventActs}
 use Rattle.trace.specs.Runs.{Runs}
 use Rattle.trace.proofs.Opening.{few_cores}
@@ -78,7 +78,7 @@ told : (core : ℕ) (w v : World) (text : List ℕ) → TellsFinish w core v tex
 told core w v text h = finished core h.1.0 h.0 w v text h.1.1 h.2
 
 called : (core : ℕ) (request : Request) (o : Outcome) (w m v : World) (text : List ℕ) → Step w (Ev.Call core request) o m
-    → GoesOn m core o v text → IsMoved (Now core request) w v text
+    → TellsCall m core o v text → IsMoved (Now core request) w v text
 called core request Stepped w m v text s h =
     let f : IsFinished core m v text = told core m v text h in
     record {

@@ -2,6 +2,8 @@
 -- and mappings that aren't.
 use Rattle.std.proofs.Common.{◌≡◌, ◌≢◌, ℕ, ◌==◌, ◌⊎◌, inl, inr, Bool, true, false, cond, List, [], ◌∷◌, Option, None, Some, length, refl, ap, ◌∙◌, arith}
 use Rattle.std.specs.Prelude.{codes, nat_lt}
+use Rattle.vm_base.specs.declared.log.Entry.{Entry}
+use Rattle.vm_base.specs.declared.log.Entry.{Entry}
 use Rattle.vm_base.specs.declared.replies.Reply.{Reply}
 use Rattle.vm_base.specs.declared.replies.Reply.TheVariants.{Mapped, Done, Byte, Refused, Segv, Bus, NoFrame, NoMemory}
 use Rattle.vm_base.specs.declared.replies.SegvCode.TheVariants.{MapErr}
@@ -13,15 +15,14 @@ use Rattle.map_list.specs.Lines.{IsMapList, plain_metas}
 use Rattle.machine_model.specs.declared.event.Blocker.TheVariants.{Acks}
 use Rattle.machine_model.specs.declared.event.Outcome.{Outcome}
 use Rattle.machine_model.specs.declared.event.Outcome.TheVariants.{Stepped, Wait, Idle, Answered, Full}
-use Rattle.machine_alone.specs.First.{FirstAnswers}
+use Rattle.vm_base.specs.Log.{FirstReplies}
 use Rattle.trace_text.specs.declared.action.Action.{Action}
 use Rattle.trace_text.specs.declared.action.Action.TheVariants as By
 use Rattle.trace_text.specs.declared.line.Line.{Line}
 use Rattle.trace_text.specs.declared.line.Line.TheVariants.{Blank, Space, File, Act, Fold, Finish, Now}
 use Rattle.trace.specs.declared.shown.Show.TheVariants.{Maps}
 use Rattle.trace.specs.OutcomeText.{outcome_text}
-use Rattle.trace.specs.Stage.{Stage}
-use Rattle.trace.specs.Shown.{maps_text}
+use Rattle.trace.specs.Listing.{maps_text}
 use Rattle.trace.specs.PlainText.{Open, Reached, nothing_reached, one_more, Idles, AnswersAtOnce, IsHeldUp, OpenAnswers, FinishAnswers}
 use Rattle.trace.specs.PlainText.{TakeAnswers, MayStep, CoreMayStep, ActAnswers, LineAnswers, IsLogOf, IsPlainBehind}
 
@@ -31,7 +32,7 @@ one_core = record nothing_reached { cores = 1; frames = 4; calls = 8 }
 
 -- ---- replies
 
-faults : (after : Plain) (y : Reply) → FirstAnswers one_core.plain 0 (Load 65540) y after → y ≢ NoMemory → y ≡ Segv MapErr
+faults : (after : Plain) (y : Reply) → FirstReplies one_core.plain 0 (Load 65540) y after → y ≢ NoMemory → y ≡ Segv MapErr
 faults after (Mapped a) h given = let e = h.0 in cc
 faults after Done h given = let e = h.0 in cc
 faults after (Byte b) h given = let e = h.0 in cc
@@ -133,5 +134,5 @@ no_lines (line ∷ lines) h = absurd (
     cc)
 
 -- where nothing is mapped no mapping is told
-no_mappings : (stage : Stage) (behind : List ℕ) → IsPlainBehind Maps stage behind one_core → behind ≡ maps_text []
-no_mappings stage behind h = h.2 ∙ ap maps_text (no_lines h.0 h.1)
+no_mappings : (log : List Entry) (behind : List ℕ) → IsPlainBehind Maps log behind one_core → behind ≡ maps_text []
+no_mappings log behind h = h.2 ∙ ap maps_text (no_lines h.0 h.1)

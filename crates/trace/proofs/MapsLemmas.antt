@@ -15,7 +15,8 @@ use Rattle.core_steps.specs.MapLines.{IsNextMap}
 use Rattle.trace_io.specs.Sink.{AppendsFront}
 use Rattle.trace.specs.declared.shown.Show.TheVariants.{Maps}
 use Rattle.trace.specs.Stage.{Stage, Start, Declared, Running}
-use Rattle.trace.specs.Shown.{mapping_text, maps_text, ListsUpTo, IsStartAt, IsNextAt, HasNoneAt, IsBehind, IsBegunBehind}
+use Rattle.trace.specs.Shown.{ListsUpTo, IsStartAt, IsNextAt, HasNoneAt, IsBehind, IsBegunBehind}
+use Rattle.trace.specs.Listing.{mapping_text, maps_text}
 use Rattle.trace.proofs.ShownLemmas.{front_more}
 
 -- ---- the mappings of a trace

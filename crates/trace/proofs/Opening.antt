@@ -5,12 +5,12 @@ use Rattle.std.specs.Prelude.{◌==◌, ◌&&◌, ◌||◌, ◌^◌, nat_lt, if�
 use Rattle.std.proofs.Math.Path.{fun_ext}
 use Rattle.std.proofs.lemmas.Bool.Decides.{nat_tests}
 use Rattle.vm_base.specs.Functions.{put}
-use Rattle.vm_base.specs.Plain.{nothing_mapped}
+use Rattle.vm_base.specs.Plain.{file_with, nothing_mapped}
 use Rattle.vm_base.proofs.Functions.{eq_true, put_all}
 use Rattle.core_steps.specs.declared.setup.SetupFault.{SetupFault}
 use Rattle.core_steps.specs.declared.setup.SetupFault.TheVariants.{Cores, Frames, TooManyFiles, FileTooLong, Calls}
 use Rattle.trace.specs.declared.declaration.FileLine.{FileLine}
-use Rattle.trace.specs.Declarations.{Asked, asks_for, asked_fault, file_at, file_of, has_long, is_next, with_file}
+use Rattle.trace.specs.Declarations.{Asked, asks_for, asked_fault, bytes_of, file_at, file_of, has_long, is_next, with_file}
 use Rattle.trace.specs.PlainText.{Reached, nothing_reached, with_opened}
 
 -- ---- one file more
@@ -65,17 +65,17 @@ number_of a n h = go (n == a.next) refl h
 
 -- the line of a file
 pub declares_file : (a : Asked) (n : ℕ) (file : FileLine) (s : Reached) → is_next a n ≡ true → IsDeclared a s
-    → IsDeclared (with_file a file) (with_opened s n file)
+    → IsDeclared (with_file a file) (with_opened s n (file_with file.mode (bytes_of file)))
 declares_file a n file s next d = go (nat_lt (length a.files) 17) refl
   where
     go : (b : Bool) → nat_lt (length a.files) 17 ≡ b
-        → IsDeclared (record a { next = suc a.next; files = if b then a.files ++ file ∷ [] else a.files }) (with_opened s n file)
+        → IsDeclared (record a { next = suc a.next; files = if b then a.files ++ file ∷ [] else a.files }) (with_opened s n (file_with file.mode (bytes_of file)))
     go true few l =
         let was = d (grind (arith, nat_tests)) in
         let count : length (a.files ++ file ∷ []) ≡ length a.files + 1 = length-append a.files (file ∷ []) in
         let number : a.next ≡ length a.files = was.0 in (
           omega (arith, count, number),
-          ap (λ (s : Reached). with_opened s n file) was.1
+          ap (λ (s : Reached). with_opened s n (file_with file.mode (bytes_of file))) was.1
               ∙ ap (λ f. record (declared_so a) { files = f; plain = nothing_mapped f }) (one_more a.files file n (number_of a n next ∙ number)),
         )
     go false many l = absurd (let few : nat_lt (length a.files) 17 ≡ true = grind (arith, nat_tests) in cc)

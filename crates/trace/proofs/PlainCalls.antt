@@ -17,22 +17,23 @@ use Rattle.machine_model.specs.declared.event.Event.TheVariants as Ev
 use Rattle.machine_model.specs.declared.event.Outcome.{Outcome}
 use Rattle.machine_model.specs.declared.event.Outcome.TheVariants.{Stepped, Idle, Full}
 use Rattle.machine_model.specs.declared.phase.Phase.TheVariants.{Free}
-use Rattle.machine_model.specs.declared.log.Entry.TheVariants.{Answer}
+use Rattle.vm_base.specs.declared.log.Entry.TheVariants.{Answer}
 use Rattle.machine_model.specs.Holding.{awaits_in}
 use Rattle.machine_model.specs.World.{World, Made}
 use Rattle.machine_model.specs.Step.{Goes, Acts, with_event, event_limit, Step, StepsTo}
-use Rattle.machine_laws.specs.Brackets.{nth}
+use Rattle.vm_base.specs.Log.{nth, Replays, Stands, FirstReplies}
 use Rattle.machine_model.specs.Accesses.{NoneFree}
-use Rattle.machine_sound.specs.Log.{Replays, Stands}
 use Rattle.machine_sound.specs.Sound.{IsDue, IsReached}
 use Rattle.machine_sound.proofs.Kept.{reached_fine, reached_step}
 use Rattle.machine_alone.specs.Alone.{ComesBeside, IsAwaiting, IsBeside, IsBesideCalls, IsCalm, IsResting, IsServed, IsServedAlone}
-use Rattle.machine_alone.specs.Alone.{IsServedAtLast, IsWaiting, KeepsOthers, KeepsTakes, LeadsTo, left_to, takes_left, users_dropped}
-use Rattle.machine_alone.specs.Copies.{page_copied, with_copy}
-use Rattle.machine_alone.specs.First.{FirstAnswers, is_placed}
-use Rattle.machine_alone.specs.Taken.{frames_for, frames_taken, is_access}
+use Rattle.machine_alone.specs.Alone.{IsServedAtLast, IsWaiting, KeepsOthers, KeepsTakes, left_to, takes_left, users_dropped}
+use Rattle.machine_sound.specs.Log.{LeadsTo}
+use Rattle.vm_base.specs.Copies.{page_copied, with_copy}
+use Rattle.vm_base.specs.Requests.{is_placed, is_access}
+use Rattle.machine_alone.specs.Taken.{frames_for, frames_taken}
 use Rattle.machine_alone.proofs.Taking.{all_taken, no_frame_access}
-use Rattle.machine_alone.specs.Users.{Users, Same, recorded, users_after, with_user, without}
+use Rattle.machine_alone.specs.Users.{recorded}
+use Rattle.vm_base.specs.Users.{Users, Same, users_after, with_user, without}
 use Rattle.machine_alone.proofs.Beside.{rests_beside}
 use Rattle.machine_alone.proofs.Ending.{served_at_last}
 use Rattle.machine_alone.proofs.Serving.{served_alone}
@@ -231,7 +232,7 @@ no_give_up core e = absurd cc
 served : (w v : World) (s : Reached) (core : ℕ) (request : Request) (o : Outcome) (text : List ℕ) → s.cores ≡ w.made.cores → s.calls ≡ w.made.calls
     → s.files ≡ w.made.file → replies_in w.calls.log ≡ s.replies
     → recorded w.slots ≡ s.users → v.made ≡ w.made → s.requests ≡ v.calls.requests → s.frames ≡ w.made.frames → frames_taken v ≤ s.accesses
-    → (k : IsServed w s.plain core request o v) → FirstAnswers s.plain core request k.reply k.after → (k.reply ≡ NoFrame → s.frames < s.accesses)
+    → (k : IsServed w s.plain core request o v) → FirstReplies s.plain core request k.reply k.after → (k.reply ≡ NoFrame → s.frames < s.accesses)
     → text ≡ outcome_text o
     → IsNext v (λ r. IsAnswered s core request k.reply r text)
 served w v s core request o text cores calls files replies users made requests frames most k first framed t =

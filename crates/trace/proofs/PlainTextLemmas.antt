@@ -7,7 +7,7 @@ use Rattle.vm_base.specs.Functions.{put}
 use Rattle.vm_base.specs.Info.{is_recorded}
 use Rattle.std.proofs.lemmas.Bool.Decides.{nat_tests}
 use Rattle.vm_base.specs.declared.requests.Request.{Request}
-use Rattle.vm_base.specs.Plain.{nothing_mapped}
+use Rattle.vm_base.specs.Plain.{file_with, nothing_mapped}
 use Rattle.vm_base.proofs.Functions.{eq_true, eq_false}
 use Rattle.slot_lock.specs.Slots.{Slots, IsNew}
 use Rattle.map_list.specs.declared.lines.MapLine.{MapLine}
@@ -21,7 +21,7 @@ use Rattle.machine_model.specs.Actions.{Becomes}
 use Rattle.machine_model.specs.World.{World, new_world}
 use Rattle.machine_model.specs.Events.{core_of}
 use Rattle.machine_model.specs.Step.{after_call, Begins as BeginsBy, Acts, is_here, with_event, event_limit, Step}
-use Rattle.machine_sound.specs.Log.{Replays}
+use Rattle.vm_base.specs.Log.{Replays}
 use Rattle.machine_sound.specs.Sound.{IsReached}
 use Rattle.machine_sound.proofs.Kept.{reached_opening, reached_step}
 use Rattle.machine_alone.proofs.Taking.{none_taken}
@@ -29,7 +29,7 @@ use Rattle.machine_alone.specs.Alone.{IsBesideCalls, IsCalm, left_to}
 use Rattle.core_steps.specs.declared.machine.Finished.{Finished}
 use Rattle.core_steps.specs.declared.machine.Finished.TheVariants.{Last, Stuck}
 use Rattle.core_steps.specs.Finishing.{EndsIn}
-use Rattle.trace_text.specs.Line.{line_of}
+use Rattle.trace_text.specs.Line.{line_of, seeded}
 use Rattle.trace_text.specs.declared.action.Action.{Action}
 use Rattle.trace_text.specs.declared.action.Action.TheVariants as By
 use Rattle.trace_text.specs.declared.line.Line.{Line}
@@ -40,13 +40,14 @@ use Rattle.trace.specs.declared.shown.Show.TheVariants.{Outcomes, OutcomesAndLog
 use Rattle.trace.specs.Declarations.{Asked, asked_fault, made_by}
 use Rattle.trace.specs.Events.{event_of}
 use Rattle.trace.specs.OutcomeText.{outcome_text, finished_text}
-use Rattle.trace.specs.Gives.{Gives, GoesOn, TellsFinish}
+use Rattle.trace.specs.Gives.{Gives, TellsFinish, TellsCall}
 use Rattle.trace.specs.Stage.{Stage, Start, Declared, Running, CanOpen, Opens, LineActs, EventActs}
 use Rattle.trace.specs.Runs.{Runs}
 use Rattle.trace.specs.Shown.{log_at, ListsUpTo, IsBehind}
 use Rattle.trace.specs.PlainText.{Open, Reached, nothing_reached, one_more, AnswersAtOnce, IsHeldUp, NowAnswers, FinishAnswers, OpenAnswers}
 use Rattle.trace.specs.PlainText.{Idles, TakeAnswers, ActAnswers, MayStep, CoreMayStep, LineAnswers, Disturbs, AllAnswer, IsLogOf}
-use Rattle.trace.specs.PlainText.{IsPlainBehind, takes_apart, AreWhole, with_opened, events_at, GivesPlainText}
+use Rattle.trace.specs.PlainText.{IsPlainBehind, takes_apart, AreWhole, with_opened}
+use Rattle.trace.specs.PlainLaw.{events_at, GivesPlainText}
 use Rattle.trace.proofs.Disturbing.{gives_up}
 use Rattle.core_steps.proofs.Limits.{step_grows}
 use Rattle.trace.proofs.Opening.{IsDeclared, declared_so, declares_file, declares_space, few_cores, few_files}
@@ -273,7 +274,7 @@ told_call w x v s core request text m calm step b below h = elim b [
 ]
 
 told : (w x v : World) (s : Reached) (core : ℕ) (request : Request) (o : Outcome) (text : List ℕ) → Meets w s → IsCalm w → w.calls.events < event_limit
-    → v.calls.events < event_limit → Step w (Ev.Call core request) o x → GoesOn x core o v text → IsNext v (λ r. NowAnswers s core request r text)
+    → v.calls.events < event_limit → Step w (Ev.Call core request) o x → TellsCall x core o v text → IsNext v (λ r. NowAnswers s core request r text)
 told w x v s core request Stepped text m calm low below step h = told_call w x v s core request text m calm step
     (begins w core request Stepped x (calm core) low step) below h
 told w x v s core request (Wait b) text m calm low below step h = told_one w x v s core request (Wait b) text m step (λ e. cc)
@@ -294,7 +295,7 @@ finish_grows m core n Stuck v h = (steps_kept n core m v h.1).2
 same_events : (m v : World) → v ≡ m → m.calls.events ≤ v.calls.events
 same_events m v e = let h : v.calls.events ≡ m.calls.events = ap (λ (v : World). v.calls.events) e in omega (arith, h)
 
-goes_grows : (m : World) (core : ℕ) (o : Outcome) (v : World) (text : List ℕ) → GoesOn m core o v text → m.calls.events ≤ v.calls.events
+goes_grows : (m : World) (core : ℕ) (o : Outcome) (v : World) (text : List ℕ) → TellsCall m core o v text → m.calls.events ≤ v.calls.events
 goes_grows m core Stepped v text h = finish_grows m core h.1.0 h.0 v h.1.1
 goes_grows m core (Wait b) v text h = same_events m v h.0
 goes_grows m core Idle v text h = same_events m v h.0
@@ -396,9 +397,9 @@ line_plain (Space cores frames calls) old new s text f below r a =
 line_plain (File n mode len seed) old new s text f below r (a, is, next, now, t) =
     let file : FileLine = record { mode = mode; len = len; seed = seed } in
     inr (record {
-      next = with_opened s n file;
+      next = with_opened s n (file_with mode (seeded len seed));
       answers = (refl, t);
-      reached = subst (λ x. ReachedAt x (with_opened s n file)) (sym now) (declares_file a n file s next (subst (λ x. ReachedAt x s) is r));
+      reached = subst (λ x. ReachedAt x (with_opened s n (file_with mode (seeded len seed)))) (sym now) (declares_file a n file s next (subst (λ x. ReachedAt x s) is r));
     })
 line_plain (Act core action) old new s text f below r (w, v, opens, gives, is) =
     let top : events_at new ≡ v.calls.events = ap events_at is in
@@ -478,7 +479,7 @@ maps_of (Declared a) r lines o at k = subst (λ ls. IsMapList (plain_metas r.pla
 maps_of (Running w) r lines o m k = k r.plain m.log
 
 plain_behind : (show : Show) (stage : Stage) (behind : List ℕ) (r : Reached) → CanOpen stage → IsBehind show stage behind → ReachedAt stage r
-    → IsPlainBehind show stage behind r
+    → IsPlainBehind show (log_at stage) behind r
 plain_behind Outcomes stage behind r o is at = is
 plain_behind OutcomesAndLog stage behind r o is at = (is, log_of stage r o at)
 plain_behind Maps stage behind r o is at = (is.0, maps_of stage r is.0 o at is.1, is.2)
@@ -486,5 +487,5 @@ plain_behind Maps stage behind r o is at = (is.0, maps_of stage r is.0 o at is.1
 pub whole_traces_plain : (show : Show) (lines : List (List ℕ)) (stage : Stage) (text behind : List ℕ) → Runs Start lines stage text → CanOpen stage
     → IsBehind show stage behind → GivesPlainText show lines stage text behind
 whole_traces_plain show lines stage text behind runs opens is whole below =
-    all_plain (IsPlainBehind show stage behind) lines Start stage nothing_reached text whole below
+    all_plain (IsPlainBehind show (log_at stage) behind) lines Start stage nothing_reached text whole below
     (λ r at. plain_behind show stage behind r opens is at) refl runs

@@ -6,8 +6,8 @@ use Rattle.vm_base.specs.Plain.{Plain}
 use Rattle.vm_base.proofs.Functions.{eq_true, eq_false, put_same}
 use Rattle.machine_model.specs.declared.event.Event.TheVariants.{Go}
 use Rattle.machine_model.specs.declared.event.Outcome.TheVariants.{Stepped}
-use Rattle.machine_model.specs.declared.log.Entry.{Entry}
-use Rattle.machine_model.specs.declared.log.Entry.TheVariants.{Answer, Detach}
+use Rattle.vm_base.specs.declared.log.Entry.{Entry}
+use Rattle.vm_base.specs.declared.log.Entry.TheVariants.{Answer, Detach}
 use Rattle.machine_model.specs.Actions.{detach_entry}
 use Rattle.machine_model.specs.World.{World}
 use Rattle.machine_model.specs.Step.{with_event, Step, StepsTo}

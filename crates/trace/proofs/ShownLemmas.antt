@@ -7,12 +7,13 @@ use Rattle.std.proofs.lemmas.List.{take_more, take-append-drop, take-append-le}
 use Rattle.std.proofs.KnownBytes.{Appends-nil, Appends-trans}
 use Rattle.std.specs.List.{flat_map}
 use Rattle.std.specs.Io.KnownBytes.{Appends}
-use Rattle.machine_model.specs.declared.log.Entry.{Entry}
+use Rattle.vm_base.specs.declared.log.Entry.{Entry}
 use Rattle.trace_io.specs.Sink.{AppendsFront}
 use Rattle.trace.specs.declared.shown.Show.{Show}
 use Rattle.trace.specs.declared.shown.Show.TheVariants.{Outcomes, OutcomesAndLog, Maps}
 use Rattle.trace.specs.Stage.{Stage}
-use Rattle.trace.specs.Shown.{told, entry_text, log_text, IsBehind, IsBegunBehind}
+use Rattle.trace.specs.Shown.{told, IsBehind, IsBegunBehind}
+use Rattle.trace_text.specs.Lists.{entry_text, log_text}
 
 -- ---- the text of outcomes
 

@@ -6,7 +6,7 @@ use Rattle.std.proofs.lemmas.List.Elements.{filter-append}
 use Rattle.std.proofs.lemmas.Grind.{flat_map-append}
 use Rattle.std.proofs.lemmas.Fmt.{length-decimal-le}
 use Rattle.vm_base.specs.Cores.{members}
-use Rattle.trace.specs.OutcomeText.{core_text, cores_text}
+use Rattle.trace_text.specs.Printing.{core_text, cores_text}
 
 pub range_more : (a n j : ℕ) → a + n ≡ j → range_with_len a (suc n) ≡ range_with_len a n ++ j ∷ []
 range_more a zero j e = let same : a ≡ j = omega arith in ap (λ x. x ∷ []) same

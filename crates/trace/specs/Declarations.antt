@@ -1,11 +1,12 @@
 -- What the vm and file lines of a trace ask for
-use Rattle.std.specs.Prelude.{ℕ, suc, ◌+◌, ◌%◌, ◌^◌, ◌==◌, ◌&&◌, Bool, nat_lt, if◌then◌else◌, List, []}
-use Rattle.std.specs.Prelude.{◌∷◌, ◌++◌, map, length, slice_get, Option, None, Some}
-use Rattle.std.specs.List.{list_any, range_with_len}
+use Rattle.std.specs.Prelude.{ℕ, suc, ◌^◌, ◌==◌, ◌&&◌, Bool, nat_lt, if◌then◌else◌, List, []}
+use Rattle.std.specs.Prelude.{◌∷◌, ◌++◌, length, slice_get, Option, None, Some}
+use Rattle.std.specs.List.{list_any}
 use Rattle.vm_base.specs.Plain.{File, file_with}
 use Rattle.machine_model.specs.World.{Made}
 use Rattle.core_steps.specs.declared.setup.SetupFault.{SetupFault}
 use Rattle.core_steps.specs.Setups.{first_fault, is_too_long}
+use Rattle.trace_text.specs.Line.{seeded}
 use Rattle.trace.specs.declared.declaration.FileLine.{FileLine}
 
 -- The cores, frames and calls that the vm line asks for, the number that the next file has, and the
@@ -35,9 +36,8 @@ with_file asked file = record asked {
 
 -- ---- the files
 
--- byte i is (SEED + i) mod 256
 abbrev pub bytes_of : FileLine → List ℕ
-bytes_of file = map (λ i. (file.seed + i) % 256) (range_with_len 0 file.len)
+bytes_of file = seeded file.len file.seed
 
 abbrev pub file_of : Option FileLine → Option File
 file_of None = None

@@ -12,7 +12,7 @@ use Rattle.trace.specs.declared.shown.Show.{Show}
 use Rattle.trace.specs.Stage.{Stage, Start, LineFails, LineWants, CanOpen, OpenFails}
 use Rattle.trace.specs.Runs.{Runs}
 use Rattle.trace.specs.Shown.{told, IsBehind, IsBegunBehind}
-use Rattle.trace.specs.PlainText.{GivesPlainText}
+use Rattle.trace.specs.PlainLaw.{GivesPlainText}
 
 -- All lines were acted on, a machine could be made, and what is to be shown was written: the lines'
 -- text, and what comes behind it. Where no line takes a call apart, both are the plain page map's.

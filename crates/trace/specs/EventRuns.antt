@@ -96,7 +96,7 @@ pub record IsRun (lines : List (List ℕ)) (text : List ℕ) (w : World) : Type 
   pub asks : AllAsk lines events outcomes text
   pub run : Run (new_world (made_by asked) slots) events outcomes w
   pub sound : SoundRun (new_world (made_by asked) slots) events outcomes w
-  pub brackets : IsBracketed events outcomes w
+  pub brackets : IsBracketed events outcomes w.calls.requests w.calls.log
 
 -- lines that are acted on from the start, up to a machine
 abbrev pub AllTracesAreRuns : Type 0

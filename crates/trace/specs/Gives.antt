@@ -23,12 +23,12 @@ abbrev pub TellsFinish : World → ℕ → World → List ℕ → Type 0
 TellsFinish w core v text = (f : Finished) × Finishes w core f v × (text ≡ finished_text f)
 
 -- a call that began is finished; of one that didn't the outcome is told
-abbrev pub GoesOn : World → ℕ → Outcome → World → List ℕ → Type 0
-GoesOn m core Stepped v text = TellsFinish m core v text
-GoesOn m core (Wait blocker) v text = (v ≡ m) × (text ≡ outcome_text (Wait blocker))
-GoesOn m core Idle v text = (v ≡ m) × (text ≡ outcome_text Idle)
-GoesOn m core (Answered reply) v text = (v ≡ m) × (text ≡ outcome_text (Answered reply))
-GoesOn m core Full v text = (v ≡ m) × (text ≡ outcome_text Full)
+abbrev pub TellsCall : World → ℕ → Outcome → World → List ℕ → Type 0
+TellsCall m core Stepped v text = TellsFinish m core v text
+TellsCall m core (Wait blocker) v text = (v ≡ m) × (text ≡ outcome_text (Wait blocker))
+TellsCall m core Idle v text = (v ≡ m) × (text ≡ outcome_text Idle)
+TellsCall m core (Answered reply) v text = (v ≡ m) × (text ≡ outcome_text (Answered reply))
+TellsCall m core Full v text = (v ≡ m) × (text ≡ outcome_text Full)
 
 abbrev pub Gives : World → Line → World → List ℕ → Type 0
 Gives w Blank v text = ⊥
@@ -38,7 +38,7 @@ Gives w (Act core action) v text = TellsStep w (event_of core action) v text
 Gives w (Fold page) v text = TellsStep w (Ev.Fold page) v text
 Gives w (Finish core) v text = TellsFinish w core v text
 Gives w (Now core request) v text = (o : Outcome) × (m : World) × Step w (Ev.Call core request) o m
-    × GoesOn m core o v text
+    × TellsCall m core o v text
 
 -- some step that finishes the core's call was refused for memory
 abbrev pub WantsFinish : World → ℕ → Type 0

@@ -8,4 +8,6 @@ pub mod Stage
 pub mod Turns
 pub mod EventRuns
 pub mod PlainText
+pub mod PlainLaw
+pub mod Listing
 pub mod Shown

@@ -3,36 +3,29 @@
 use Rattle.std.specs.Prelude.{◌≡◌, ◌≢◌, ℕ, ◌+◌, pred, ◌<◌, ◌⊎◌, ◌↔◌, ◌==◌, nat_lt, cond, if◌then◌else◌}
 use Rattle.std.specs.Prelude.{Bool, true}
 use Rattle.std.specs.Prelude.{false, List, [], ◌∷◌, ◌++◌, length, IsSomeAnd, Option, None, Some}
+use Rattle.vm_base.specs.declared.log.Entry.{Entry}
+use Rattle.vm_base.specs.declared.log.Entry.TheVariants.{Answer, Detach}
 use Rattle.vm_base.specs.declared.replies.Reply.{Reply}
 use Rattle.vm_base.specs.declared.replies.Reply.TheVariants.{NoFrame, NoMemory}
 use Rattle.vm_base.specs.declared.requests.Request.{Request}
 use Rattle.vm_base.specs.Cores.{members}
 use Rattle.vm_base.specs.Functions.{put}
-use Rattle.vm_base.specs.Plain.{File as OpenFile, Plain, nothing_mapped}
+use Rattle.vm_base.specs.Log.{FirstReplies, Replays}
+use Rattle.vm_base.specs.Plain.{File as OpenFile, Plain, file_with, nothing_mapped}
+use Rattle.vm_base.specs.Requests.{is_access}
+use Rattle.vm_base.specs.Users.{Users, users_after}
 use Rattle.map_list.specs.declared.lines.MapLine.{MapLine}
 use Rattle.map_list.specs.Lines.{IsMapList, plain_metas}
-use Rattle.machine_model.specs.declared.event.Blocker.TheVariants.{Acks}
-use Rattle.machine_model.specs.declared.event.Outcome.TheVariants.{Stepped, Wait, Idle, Answered, Full}
-use Rattle.machine_model.specs.declared.log.Entry.{Entry}
-use Rattle.machine_model.specs.declared.log.Entry.TheVariants.{Answer, Detach}
-use Rattle.machine_model.specs.Step.{event_limit}
-use Rattle.machine_sound.specs.Log.{Replays}
-use Rattle.machine_alone.specs.First.{FirstAnswers}
-use Rattle.machine_alone.specs.Taken.{is_access}
-use Rattle.machine_alone.specs.Users.{Users, users_after}
-use Rattle.trace_text.specs.Line.{line_of}
+use Rattle.trace_text.specs.Line.{line_of, seeded}
+use Rattle.trace_text.specs.Lists.{log_text}
+use Rattle.trace_text.specs.Printing.{acks_text, full_text, idle_text, reply_text, step_text}
 use Rattle.trace_text.specs.declared.action.Action.{Action}
 use Rattle.trace_text.specs.declared.action.Action.TheVariants as By
 use Rattle.trace_text.specs.declared.line.Line.{Line}
 use Rattle.trace_text.specs.declared.line.Line.TheVariants.{Blank, Space, File, Act, Fold, Finish, Now}
-use Rattle.trace.specs.declared.declaration.FileLine.{FileLine}
 use Rattle.trace.specs.declared.shown.Show.{Show}
 use Rattle.trace.specs.declared.shown.Show.TheVariants.{Outcomes, OutcomesAndLog, Maps}
-use Rattle.trace.specs.Declarations.{file_of}
-use Rattle.trace.specs.OutcomeText.{outcome_text}
-use Rattle.trace.specs.Stage.{Stage, Start, Declared, Running, CanOpen}
-use Rattle.trace.specs.Runs.{Runs}
-use Rattle.trace.specs.Shown.{log_at, log_text, maps_text, IsBehind}
+use Rattle.trace.specs.Listing.{maps_text}
 
 -- A call that waits: whose it is, what it asks for, and how many takes each core still has before
 -- it
@@ -74,7 +67,7 @@ nothing_reached = record {
 
 -- nothing happens
 abbrev pub Idles : Reached → Reached → List ℕ → Type 0
-Idles s r text = (r ≡ s) × (text ≡ outcome_text Idle)
+Idles s r text = (r ≡ s) × (text ≡ idle_text)
 
 -- ---- a call
 
@@ -87,7 +80,7 @@ Idles s r text = (r ≡ s) × (text ≡ outcome_text Idle)
 pub record IsAnswered (s : Reached) (core : ℕ) (request : Request) (reply : Reply) (r : Reached)
     (text : List ℕ) : Type 0 where
   pub after : Plain
-  pub replies : FirstAnswers s.plain core request reply after
+  pub replies : FirstReplies s.plain core request reply after
   pub given : reply ≢ NoMemory
   pub framed : reply ≡ NoFrame → s.frames < s.accesses
   pub next : r ≡ record s {
@@ -96,7 +89,7 @@ pub record IsAnswered (s : Reached) (core : ℕ) (request : Request) (reply : Re
     users = users_after s.plain core request reply s.users;
     waiting = None;
   }
-  pub tells : text ≡ outcome_text (Answered reply)
+  pub tells : text ≡ reply_text reply
 
 -- core d, another one, uses a page that the reply leaves without users
 abbrev pub IsDropped : Reached → ℕ → Request → Reply → ℕ → Type 0
@@ -115,7 +108,7 @@ pub record IsHeldUp (s : Reached) (core : ℕ) (request : Request) (r : Reached)
     (text : List ℕ) : Type 0 where
   pub reply : Reply
   pub after : Plain
-  pub replies : FirstAnswers s.plain core request reply after
+  pub replies : FirstReplies s.plain core request reply after
   pub set : ℕ
   pub some : (d : ℕ) × (members set d ≡ true)
   pub exact : (d : ℕ) → (members set d ≡ true) ↔ IsDropped s core request reply d
@@ -123,7 +116,7 @@ pub record IsHeldUp (s : Reached) (core : ℕ) (request : Request) (r : Reached)
     waiting = Some
         (record { core = core; request = request; takes = λ d. if members set d then 2 else 0 });
   }
-  pub tells : text ≡ outcome_text (Wait (Acks set))
+  pub tells : text ≡ acks_text set
 
 -- one call more has begun
 abbrev pub one_more : Reached → Request → Reached
@@ -139,7 +132,7 @@ NowAnswers s core request r text =
     (cond (nat_lt (length s.requests) s.calls)
     (AnswersAtOnce (one_more s request) core request r text
     ⊎ IsHeldUp (one_more s request) core request r text)
-    ((r ≡ s) × (text ≡ outcome_text Full)))
+    ((r ≡ s) × (text ≡ full_text)))
     (Idles s r text)
 
 -- ---- a call that waits
@@ -150,7 +143,7 @@ pub record IsStillHeldUp (s : Reached) (o : Open) (r : Reached) (text : List ℕ
   pub some : (d : ℕ) × (members set d ≡ true)
   pub exact : (d : ℕ) → (members set d ≡ true) ↔ (0 < o.takes d)
   pub next : r ≡ s
-  pub tells : text ≡ outcome_text (Wait (Acks set))
+  pub tells : text ≡ acks_text set
 
 -- no core has a take before it any more
 abbrev pub AwaitsNobody : Open → Type 0
@@ -175,14 +168,14 @@ TakeAnswers s None core r text = Idles s r text
 TakeAnswers s (Some o) core r text =
     cond (nat_lt 0 (o.takes core))
     ((r ≡ record s { waiting = Some (record o { takes = put o.takes core (pred (o.takes core)) }) })
-    × (text ≡ outcome_text Stepped))
+    × (text ≡ step_text))
     (Idles s r text)
 
 -- ---- a line
 
 -- a step or none: no part of the map tells which
 abbrev pub MayStep : Reached → Reached → List ℕ → Type 0
-MayStep s r text = (r ≡ s) × ((text ≡ outcome_text Stepped) ⊎ (text ≡ outcome_text Idle))
+MayStep s r text = (r ≡ s) × ((text ≡ step_text) ⊎ (text ≡ idle_text))
 
 -- the same of a core; one that the space lacks does nothing
 abbrev pub CoreMayStep : Reached → ℕ → Reached → List ℕ → Type 0
@@ -203,10 +196,10 @@ ActAnswers s core (By.Walk page) r text = CoreMayStep s core r text
 ActAnswers s core (By.Evict page) r text = CoreMayStep s core r text
 
 -- the files, and the map's, with the one that a line opens
-abbrev pub with_opened : Reached → ℕ → FileLine → Reached
+abbrev pub with_opened : Reached → ℕ → OpenFile → Reached
 with_opened s n file = record s {
-  files = put s.files n (file_of (Some file));
-  plain = record s.plain { file = put s.plain.file n (file_of (Some file)) };
+  files = put s.files n (Some file);
+  plain = record s.plain { file = put s.plain.file n (Some file) };
 }
 
 -- What a line gives, and how far the trace has come then. No line gives `stuck`: in each case the
@@ -216,7 +209,7 @@ LineAnswers s Blank r text = (r ≡ s) × (text ≡ [])
 LineAnswers s (Space cores frames calls) r text =
     (r ≡ record s { cores = cores; frames = frames; calls = calls }) × (text ≡ [])
 LineAnswers s (File n mode len seed) r text =
-    (r ≡ with_opened s n (record { mode = mode; len = len; seed = seed })) × (text ≡ [])
+    (r ≡ with_opened s n (file_with mode (seeded len seed))) × (text ≡ [])
 LineAnswers s (Finish core) r text = FinishAnswers s s.waiting core r text
 LineAnswers s (Now core request) r text = NowAnswers s core request r text
 LineAnswers s (Act core action) r text = ActAnswers s core action r text
@@ -255,13 +248,12 @@ pub record IsLogOf (r : Reached) (log : List Entry) : Type 0 where
   pub replies : replies_in log ≡ r.replies
   pub legal : Replays r.requests (nothing_mapped r.files) log r.plain
 
--- What comes behind the text, where the trace ends at this stage: nothing, the lines of that log,
--- or the list of all mappings of that plain page map.
-abbrev pub IsPlainBehind : Show → Stage → List ℕ → Reached → Type 0
-IsPlainBehind Outcomes stage behind r = behind ≡ []
-IsPlainBehind OutcomesAndLog stage behind r =
-    (behind ≡ log_text (log_at stage)) × IsLogOf r (log_at stage)
-IsPlainBehind Maps stage behind r =
+-- What comes behind the text, where the machine has this log: nothing, the lines of that log, or the
+-- list of all mappings of that plain page map.
+abbrev pub IsPlainBehind : Show → List Entry → List ℕ → Reached → Type 0
+IsPlainBehind Outcomes log behind r = behind ≡ []
+IsPlainBehind OutcomesAndLog log behind r = (behind ≡ log_text log) × IsLogOf r log
+IsPlainBehind Maps log behind r =
     (lines : List MapLine) × IsMapList (plain_metas r.plain) lines × (behind ≡ maps_text lines)
 
 -- ---- a trace
@@ -276,23 +268,3 @@ takes_apart line = false
 abbrev pub AreWhole : List (List ℕ) → Type 0
 AreWhole [] = Unit {0}
 AreWhole (line ∷ lines) = (takes_apart (line_of line) ≡ false) × AreWhole lines
-
--- how many events were counted: none before there is a machine
-abbrev pub events_at : Stage → ℕ
-events_at Start = 0
-events_at (Declared a) = 0
-events_at (Running w) = w.calls.events
-
--- While the machine can count its events, the text of such lines is that of the plain page map and
--- the users of its pages, line for line, and what comes behind it is that map's, too.
-abbrev pub GivesPlainText : Show → List (List ℕ) → Stage → List ℕ → List ℕ → Type 0
-GivesPlainText show lines stage text behind =
-    AreWhole lines → events_at stage < event_limit
-    → AllAnswer (IsPlainBehind show stage behind) nothing_reached lines text
-
--- so it is for all lines that are acted on, where the trace can end there
-abbrev pub AllWholeTracesArePlain : Type 0
-AllWholeTracesArePlain =
-    (show : Show) (lines : List (List ℕ)) (stage : Stage) (text behind : List ℕ)
-    → Runs Start lines stage text → CanOpen stage → IsBehind show stage behind
-    → GivesPlainText show lines stage text behind

@@ -1,15 +1,15 @@
 -- What a replay shows: the text of outcomes, and what comes behind it at the end
 use Rattle.std.specs.Prelude.{◌≡◌, ℕ, ◌^◌, ◌<◌, ◌≤◌, ◌⊎◌, List, [], Option}
-use Rattle.std.specs.List.{flat_map}
 use Rattle.std.specs.Io.KnownBytes.{Keeps, Appends}
-use Rattle.machine_model.specs.declared.log.Entry.{Entry}
-use Rattle.machine_model.specs.declared.log.Entry.TheVariants.{Answer, Detach}
+use Rattle.vm_base.specs.declared.log.Entry.{Entry}
 use Rattle.trace_io.specs.Sink.{AppendsFront}
 use Rattle.vm_base.specs.Plain.{Plain}
 use Rattle.map_list.specs.declared.lines.MapLine.{MapLine}
 use Rattle.map_list.specs.Lines.{ListsLines, plain_metas}
-use Rattle.core_steps.specs.MapLines.{HasNoMap, IsLineStart, IsNextMap, LeadsTo}
-use Rattle.trace_text.specs.Lists.{answer_line, detach_line, map_line}
+use Rattle.core_steps.specs.MapLines.{HasNoMap, IsLineStart, IsNextMap}
+use Rattle.machine_sound.specs.Log.{LeadsTo}
+use Rattle.trace_text.specs.Lists.{log_text}
+use Rattle.trace.specs.Listing.{maps_text}
 use Rattle.trace.specs.declared.fault.TraceFault.{TraceFault}
 use Rattle.trace.specs.declared.fault.TraceFault.TheVariants.{WriteFailed}
 use Rattle.trace.specs.declared.shown.Show.{Show}
@@ -22,27 +22,11 @@ told Outcomes text = text
 told OutcomesAndLog text = text
 told Maps text = []
 
--- an entry of a log as a line
-abbrev pub entry_text : Entry → List ℕ
-entry_text (Answer step call core reply) = answer_line step call reply
-entry_text (Detach step call page) = detach_line step page
-
--- a line for each entry, in order
-unfoldable pub log_text : List Entry → List ℕ
-log_text log = flat_map entry_text log
-
 -- the log of the machine; up to the first event it is empty
 abbrev pub log_at : Stage → List Entry
 log_at Start = []
 log_at (Declared a) = []
 log_at (Running w) = w.calls.log
-
--- a line for each mapping, in order
-abbrev pub mapping_text : MapLine → List ℕ
-mapping_text line = map_line line.range line.prot line.back
-
-unfoldable pub maps_text : List MapLine → List ℕ
-maps_text lines = flat_map mapping_text lines
 
 -- Of the plain page map to which the log leads: these are its mappings from page 1 up to this one,
 -- in order. Up to the first event it has none.

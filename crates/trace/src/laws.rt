@@ -1,6 +1,6 @@
 //! What the lines of a trace come to, one after another.
 ghost use Rattle.trace.specs.EventRuns.{AllTracesAreRuns};
-ghost use Rattle.trace.specs.PlainText.{AllWholeTracesArePlain};
+ghost use Rattle.trace.specs.PlainLaw.{AllWholeTracesArePlain};
 
 /// The lines that a replay acted on are one run of a machine: its events are those that
 /// the lines ask for, each line's text is that of its last outcome, the run's log is that

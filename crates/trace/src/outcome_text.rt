@@ -1,7 +1,8 @@
 //! The text of an outcome: one line, in a buffer of fixed size.
 ghost use Rattle.std.specs.Prelude.{◌≡◌, ◌+◌, ◌<◌, ◌≤◌, ◌++◌, [], cond, codes, decimal, length};
 ghost use Rattle.vm_base.specs.Cores.{members};
-ghost use Rattle.trace.specs.OutcomeText.{core_text, cores_text, finished_text, outcome_text};
+ghost use Rattle.trace.specs.OutcomeText.{finished_text, outcome_text};
+ghost use Rattle.trace_text.specs.Printing.{core_text, cores_text};
 
 use core_steps::Finished;
 use machine_model::{Blocker, Outcome};

@@ -12,7 +12,6 @@ use crate::declaration::{Declaration, FileLine};
 use crate::event_lines::run_line;
 use crate::fault::TraceFault;
 use core_steps::{Ledger, Machine, Opening, SetupFault};
-use machine_model::Entry;
 use map_list::MapLine;
 use mmu::{Cpu, Hardware};
 use radix_range::RadixMap;
@@ -21,6 +20,7 @@ use std::alloc::Allocator;
 use trace_text::{
     Line, LineText, first_word_is_file, first_word_is_vm, is_printable_line, read_line,
 };
+use vm_base::Entry;
 
 /// What acts on the lines of a trace, one at a time.
 pub trait Staged {

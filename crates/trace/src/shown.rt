@@ -2,12 +2,13 @@
 ghost use Rattle.std.specs.Prelude.{◌≡◌, ℕ, List, OnErr, OnOk, true};
 ghost use Rattle.std.specs.Io.KnownBytes.{Appends};
 ghost use Rattle.trace_io.specs.Sink.{AppendsFront};
-ghost use Rattle.trace.specs.Shown.{entry_text, log_text, told, IsBegunBehind, IsBehind};
+ghost use Rattle.trace.specs.Shown.{told, IsBegunBehind, IsBehind};
+ghost use Rattle.trace_text.specs.Lists.{entry_text, log_text};
 
 use crate::replayer::Staged;
-use machine_model::Entry;
 use trace_io::sink::{Sink, WriteFailed, write_all};
 use trace_text::{LineText, write_answer, write_detach, write_map_line};
+use vm_base::Entry;
 
 /// What a replay writes.
 #[derive(Clone, Copy, Debug, PartialEq, Eq)]

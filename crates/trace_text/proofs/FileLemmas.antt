@@ -9,12 +9,12 @@ use Rattle.trace_text.proofs.SpellingLemmas.{byte_all, byte_only, front_all, fro
 use Rattle.trace_text.specs.Words.{Word, front_word}
 use Rattle.trace_text.specs.Request.{ended, front_byte, front_number}
 use Rattle.trace_text.specs.Spelling.{mode_text}
-use Rattle.trace_text.specs.Line.{mode_of, contents_of, file_of}
+use Rattle.trace_text.specs.Line.{contents_of, file_of, mode_named}
 use Rattle.trace_text.specs.Grammar.{Says}
 use Rattle.trace_text.specs.declared.line.Line.{Line}
 use Rattle.trace_text.specs.declared.line.Line.TheVariants.{File}
 
-mode_all : (mode : Mode) → mode_of (mode_text mode) ≡ Some mode
+mode_all : (mode : Mode) → mode_named (mode_text mode) ≡ Some mode
 mode_all R = refl
 mode_all W = refl
 mode_all RW = refl
@@ -26,7 +26,7 @@ said_file number mode len seed args (n, l, s, e, spelled, length, byte, small) =
     let same : args ≡ n ∷ mode_text mode ∷ l ∷ s ∷ [] = cc in
     let more : List Word = mode_text mode ∷ l ∷ s ∷ [] in
     let k : front_number (n ∷ mode_text mode ∷ l ∷ s ∷ []) ≡ Some (number, mode_text mode ∷ l ∷ s ∷ []) = front_all n more number spelled in
-    let m : mode_of (mode_text mode) ≡ Some mode = mode_all mode in
+    let m : mode_named (mode_text mode) ≡ Some mode = mode_all mode in
     let i : front_number (l ∷ s ∷ []) ≡ Some (len, s ∷ []) = front_all l (s ∷ []) len length in
     let b : front_byte (s ∷ []) ≡ Some (seed, []) = byte_all s [] seed byte small in
     rw (same, k, m, i, b) refl
@@ -37,7 +37,7 @@ told word t known mode b e is =
     let same : known ≡ mode = cc in
     (bytes_eq-Decides word t).0 b ∙ is ∙ ap mode_text same
 
-mode_only : (word : Word) (mode : Mode) → mode_of word ≡ Some mode → word ≡ mode_text mode
+mode_only : (word : Word) (mode : Mode) → mode_named word ≡ Some mode → word ≡ mode_text mode
 mode_only word mode e = elim (chosen (bytes_eq word (codes "r")) _ _ (Some mode) e) [
   | inl h ↦ told word (codes "r") R mode h.0 h.1 refl
   | inr h ↦ elim (chosen (bytes_eq word (codes "w")) _ _ (Some mode) h.1) [
@@ -54,7 +54,7 @@ unfolding file_of contents_of
 only_file args line e =
     let (number, en, f1) = bind_some (front_number args) _ line e in
     let (second, e2, f2) = bind_some (front_word number.1) _ line f1 in
-    let (mode, n2, g2) = bind_some (mode_of second.0) (λ mode. contents_of number.0 mode second.1) line f2 in
+    let (mode, n2, g2) = bind_some (mode_named second.0) (λ mode. contents_of number.0 mode second.1) line f2 in
     let (len, el, f3) = bind_some (front_number second.1) _ line g2 in
     let (seed, es, f4) = bind_some (front_byte len.1) (λ seed. ended seed.1 (File number.0 mode len.0 seed.0)) line f3 in
     let (none, same) = ended_some seed.1 (File number.0 mode len.0 seed.0) line f4 in

@@ -1,8 +1,8 @@
 -- What a line of a trace says.
-use Rattle.std.specs.Prelude.{ℕ, ◌+◌, ◌-◌, ◌*◌, Bool, false, ◌&&◌, List, [], ◌∷◌, Option, None, Some}
-use Rattle.std.specs.Prelude.{if◌then◌else◌, ◌==◌, nat_lt, nat_le, codes}
+use Rattle.std.specs.Prelude.{ℕ, ◌+◌, ◌-◌, ◌*◌, ◌%◌, Bool, false, ◌&&◌, List, [], ◌∷◌, Option, None, Some}
+use Rattle.std.specs.Prelude.{if◌then◌else◌, ◌==◌, nat_lt, nat_le, codes, map}
 use Rattle.std.specs.Str.{bytes_eq}
-use Rattle.std.specs.List.{list_all}
+use Rattle.std.specs.List.{list_all, range_with_len}
 use Rattle.std.specs.Io.BufRead.{ends_with_byte, strip_last}
 use Rattle.vm_base.specs.declared.rights.Mode.{Mode}
 use Rattle.vm_base.specs.declared.rights.Mode.TheVariants.{R, W, RW}
@@ -40,8 +40,8 @@ space_of words = do
   frames ← front_number cores.1
   calls_of cores.0 frames.0 frames.1
 
-abbrev pub mode_of : Word → Option Mode
-mode_of word = if bytes_eq word (codes "r") then Some R
+abbrev pub mode_named : Word → Option Mode
+mode_named word = if bytes_eq word (codes "r") then Some R
     else if bytes_eq word (codes "w") then Some W
     else if bytes_eq word (codes "rw") then Some RW else None
 
@@ -52,11 +52,15 @@ contents_of number mode words = do
   seed ← front_byte len.1
   ended seed.1 (File number mode len.0 seed.0)
 
+-- the bytes of the file: byte i is (SEED + i) mod 256
+abbrev pub seeded : ℕ → ℕ → List ℕ
+seeded len seed = map (λ i. (seed + i) % 256) (range_with_len 0 len)
+
 unfoldable pub file_of : List Word → Option Line
 file_of words = do
   number ← front_number words
   second ← front_word number.1
-  mode ← mode_of second.0
+  mode ← mode_named second.0
   contents_of number.0 mode second.1
 
 -- a number of one digit, and of two without a leading zero

@@ -1,9 +1,12 @@
 -- The lines of the log and of the list of mappings, each with its newline.
 use Rattle.std.specs.Prelude.{ℕ, ◌*◌, List, ◌++◌, codes, decimal}
+use Rattle.std.specs.List.{flat_map}
 use Rattle.vm_base.specs.declared.page.PageRange.{PageRange}
 use Rattle.vm_base.specs.declared.rights.Prot.{Prot}
 use Rattle.vm_base.specs.declared.info.Back.{Back}
 use Rattle.vm_base.specs.declared.info.Back.TheVariants.{Anon, Shared, Private}
+use Rattle.vm_base.specs.declared.log.Entry.{Entry}
+use Rattle.vm_base.specs.declared.log.Entry.TheVariants.{Answer, Detach}
 use Rattle.vm_base.specs.declared.replies.Reply.{Reply}
 use Rattle.trace_text.specs.Printing.{address_of, text_of}
 use Rattle.trace_text.specs.Spelling.{rights_text}
@@ -23,6 +26,15 @@ start_of page = address_of (page * 4096)
 abbrev pub detach_line : ℕ → ℕ → List ℕ
 detach_line step page =
     codes "log " ++ decimal step ++ codes " detach " ++ start_of page ++ codes "\n"
+
+-- an entry of a log as a line
+abbrev pub entry_text : Entry → List ℕ
+entry_text (Answer step call core reply) = answer_line step call reply
+entry_text (Detach step call page) = detach_line step page
+
+-- a line for each entry, in order
+unfoldable pub log_text : List Entry → List ℕ
+log_text log = flat_map entry_text log
 
 -- a file's number, and where in it the first page begins, in bytes
 abbrev pub file_text : ℕ → ℕ → List ℕ

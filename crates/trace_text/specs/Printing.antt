@@ -1,7 +1,9 @@
--- What replies are written as: addresses in hexadecimal, every other number in decimal.
+-- What replies and outcomes are written as: addresses in hexadecimal, every other number in decimal.
 use Rattle.std.specs.Prelude.{ℕ, List, ◌++◌, codes, decimal, false, if◌then◌else◌, ◌==◌, map}
 use Rattle.std.specs.Fmt.{digit_glyph}
 use Rattle.std.specs.Int.Digits.{digits_of}
+use Rattle.std.specs.List.{filter, flat_map, range_with_len}
+use Rattle.vm_base.specs.Cores.{members}
 use Rattle.vm_base.specs.declared.replies.Errno.{Errno}
 use Rattle.vm_base.specs.declared.replies.Errno.TheVariants.{EINVAL, ENOMEM, EACCES, EBADF, EOVERFLOW}
 use Rattle.vm_base.specs.declared.replies.SegvCode.TheVariants.{MapErr, AccErr}
@@ -33,3 +35,30 @@ text_of (Segv AccErr) = codes "segv accerr"
 text_of Bus = codes "bus"
 text_of NoFrame = codes "noframe"
 text_of NoMemory = codes "nomemory"
+
+-- ---- what an event came to, with its newline
+
+-- a step, without anything to tell; nothing happened; the machine is full
+abbrev pub step_text : List ℕ
+step_text = codes "step\n"
+
+abbrev pub idle_text : List ℕ
+idle_text = codes "idle\n"
+
+abbrev pub full_text : List ℕ
+full_text = codes "full\n"
+
+abbrev pub reply_text : Reply → List ℕ
+reply_text reply = text_of reply ++ codes "\n"
+
+-- a core behind a space
+abbrev pub core_text : ℕ → List ℕ
+core_text core = codes " " ++ decimal core
+
+-- the cores of the set, ascending
+unfoldable pub cores_text : ℕ → List ℕ
+cores_text set = flat_map core_text (filter (members set) (range_with_len 0 64))
+
+-- a wait for acknowledgements of the cores of the set
+abbrev pub acks_text : ℕ → List ℕ
+acks_text set = codes "wait acks" ++ cores_text set ++ codes "\n"

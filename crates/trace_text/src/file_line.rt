@@ -1,7 +1,7 @@
 //! The line `file N MODE LEN SEED`, which says for what a file is open and which bytes it has.
 ghost use Rattle.std.specs.Prelude.{◌≡◌, option_map};
 ghost use Rattle.trace_text.specs.Words.{words_of};
-ghost use Rattle.trace_text.specs.Line.{contents_of, file_of, mode_of};
+ghost use Rattle.trace_text.specs.Line.{contents_of, file_of, mode_named};
 
 use crate::line::Line;
 use crate::number::{next_byte, next_number};
@@ -10,7 +10,7 @@ use vm_base::Mode;
 
 // For what a file is open.
 fn read_mode(word: &[u8]) -> Option<Mode>
-    ensures { result ≡ mode_of word.now }
+    ensures { result ≡ mode_named word.now }
 {
     if word == b"r".as_slice() {
         Some(Mode::R)

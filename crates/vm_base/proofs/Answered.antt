@@ -1,5 +1,5 @@
 -- Each request has an answer by the first place: what the definitions ask of a range or a window is found by going through it
-use Rattle.std.proofs.Common.{◌≡◌, ℕ, zero, suc, ◌<◌, ◌≤◌, ◌+◌, ◌*◌, ◌-◌, ◌⊎◌, inl, inr, Bool, true, false, is_some, refl, subst, arith, Some, None, Option}
+use Rattle.std.proofs.Common.{◌≡◌, ℕ, zero, suc, ◌<◌, ◌≤◌, ◌+◌, ◌*◌, ◌-◌, ◌⊎◌, inl, inr, Bool, true, false, is_some, refl, sym, subst, arith, Some, None, Option}
 use Rattle.std.proofs.lemmas.Bool.{cases_lt}
 use Rattle.vm_base.specs.declared.info.Back.{Back}
 use Rattle.vm_base.specs.declared.page.PageRange.{PageRange}
@@ -17,12 +17,14 @@ use Rattle.vm_base.specs.Places.{IsFree, IsHint, IsFirstPlace, IsLeastRoom, IsRo
 use Rattle.vm_base.specs.Places.IsFirstPlace.{at_hint, in_window}
 use Rattle.vm_base.specs.Plain.{Entry, Plain, mode_of, is_mapped}
 use Rattle.vm_base.specs.Refusals.{refusal}
-use Rattle.vm_base.specs.Apply.{AppliesAfter, Performs, Maps, MapsAt, Protects, HasPage, Accesses, access_reply, accessed, back_at}
+use Rattle.vm_base.specs.Apply.{AppliesAfter, FirstApplies, Performs, Maps, MapsAt, Protects, HasPage, Accesses, access_reply, accessed, back_at}
 use Rattle.vm_base.specs.Apply.{is_absent, is_read_only, mapped, protected, range_at, unmapped}
 use Rattle.vm_base.specs.Apply.Protects.{no_page, no_write, done}
-use Rattle.vm_base.specs.Answers.{FirstAnswers, prepared}
+use Rattle.vm_base.specs.Answers.{FirstAnswers, is_ready}
+use Rattle.vm_base.specs.Copies.{page_due}
+use Rattle.vm_base.proofs.Due.{due, after, answered as copy_answers}
 use Rattle.vm_base.proofs.Functions.{has_in, in_has}
-use Rattle.vm_base.proofs.Ready.{load_ready, fetch_ready, store_ready}
+use Rattle.vm_base.proofs.Ready.{load_ready, fetch_ready, copy_due, store_at_once, uncopied}
 
 -- a page of the range that passes the test, or none
 
@@ -152,17 +154,48 @@ accesses t addr a byte h = go (access_reply t addr a) refl h
     go None e some = absurd cc
     go (Some y) e some = (y, accessed t addr byte y, (e, refl))
 
-performs : (t : Plain) (core : ℕ) (request : Request) → Replies (Performs IsFirstPlace (prepared t request) core request)
-performs t core (Mmap addr len prot flags file off) = maps_at flags.fixed t core addr len (back_at flags file off) prot
-performs t core (Munmap addr len) = (Done, unmapped t (pages_of addr len), (refl, refl))
-performs t core (Mprotect addr len prot) = protects t (pages_of addr len) prot
-performs t core (LoadOf addr) = accesses t addr Load 0 (load_ready t addr)
-performs t core (StoreOf addr byte) = accesses (prepared t (StoreOf addr byte)) addr Store byte (store_ready t addr byte)
-performs t core (FetchOf addr) = accesses t addr Fetch 0 (fetch_ready t addr)
+performs : (t : Plain) (core : ℕ) (request : Request) → is_ready t request ≡ true → Replies (Performs IsFirstPlace t core request)
+performs t core (Mmap addr len prot flags file off) ready = maps_at flags.fixed t core addr len (back_at flags file off) prot
+performs t core (Munmap addr len) ready = (Done, unmapped t (pages_of addr len), (refl, refl))
+performs t core (Mprotect addr len prot) ready = protects t (pages_of addr len) prot
+performs t core (LoadOf addr) ready = accesses t addr Load 0 (load_ready t addr)
+performs t core (StoreOf addr byte) ready = accesses t addr Store byte ready
+performs t core (FetchOf addr) ready = accesses t addr Fetch 0 (fetch_ready t addr)
+
+applies : (t : Plain) (core : ℕ) (request : Request) → is_ready t request ≡ true → Replies (FirstApplies t core request)
+applies t core request ready = go (refusal (λ n. mode_of (t.file n)) request)
+  where
+    go : (o : Option Reply) → Replies (AppliesAfter IsFirstPlace o t core request)
+    go None = performs t core request ready
+    go (Some y) = (y, t, (refl, refl))
+
+at_once : (t : Plain) (core : ℕ) (request : Request) → is_ready t request ≡ true → page_due t request ≡ None → Replies (FirstAnswers t core request)
+at_once t core request ready due =
+    let a = applies t core request ready in (
+      a.0,
+      a.1,
+      subst (λ m. FirstApplies m core request a.0 a.1) (sym (uncopied t request a.0 due)) a.2,
+    )
+
+stores : (t : Plain) (core addr byte : ℕ) → Replies (FirstAnswers t core (StoreOf addr byte))
+stores t core addr byte = go (access_reply t addr Store) refl
+  where
+    go : (o : Option Reply) → access_reply t addr Store ≡ o → Replies (FirstAnswers t core (StoreOf addr byte))
+    go None e =
+        let d = due t addr e in
+        let u = accessed (after t addr d) addr byte Done in (
+          Done,
+          u,
+          subst (λ m. Accesses m addr Store byte Done u) (sym (copy_due t addr byte d)) (copy_answers t addr d, refl),
+        )
+    go (Some y) e =
+        let u = accessed t addr byte y in
+        (y, u, subst (λ m. Accesses m addr Store byte y u) (sym (store_at_once t addr byte y e)) (e, refl))
 
 pub answered : (t : Plain) (core : ℕ) (request : Request) → Replies (FirstAnswers t core request)
-answered t core request = go (refusal (λ n. mode_of ((prepared t request).file n)) request)
-  where
-    go : (o : Option Reply) → Replies (AppliesAfter IsFirstPlace o (prepared t request) core request)
-    go None = performs t core request
-    go (Some y) = (y, prepared t request, (refl, refl))
+answered t core (Mmap addr len prot flags file off) = at_once t core (Mmap addr len prot flags file off) refl refl
+answered t core (Munmap addr len) = at_once t core (Munmap addr len) refl refl
+answered t core (Mprotect addr len prot) = at_once t core (Mprotect addr len prot) refl refl
+answered t core (LoadOf addr) = at_once t core (LoadOf addr) refl refl
+answered t core (StoreOf addr byte) = stores t core addr byte
+answered t core (FetchOf addr) = at_once t core (FetchOf addr) refl refl

@@ -1,19 +1,19 @@
--- Loads and fetches have a reply at once, and so has a store once its page's copy is made
-use Rattle.std.proofs.Common.{◌≡◌, ℕ, Bool, true, false, cond, is_some, Option, Some, None, refl, ◌∙◌, ap}
+-- Loads and fetches have a reply at once, and so has a store once its page's copy is made, if one is due
+use Rattle.std.proofs.Common.{◌≡◌, ℕ, Bool, true, false, cond, is_some, Option, Some, None, refl, sym, subst, ◌∙◌, ap}
 use Rattle.vm_base.specs.declared.rights.Access.{Access}
 use Rattle.vm_base.specs.declared.rights.Access.TheVariants.{Load, Store, Fetch}
 use Rattle.vm_base.specs.declared.info.Back.{Back}
 use Rattle.vm_base.specs.declared.replies.SegvCode.TheVariants.{MapErr, AccErr}
 use Rattle.vm_base.specs.declared.replies.Reply.{Reply}
-use Rattle.vm_base.specs.declared.replies.Reply.TheVariants.{Segv}
+use Rattle.vm_base.specs.declared.replies.Reply.TheVariants.{Mapped, Done, Byte, Refused, Segv, Bus, NoFrame, NoMemory}
 use Rattle.vm_base.specs.declared.requests.Request.{Request}
 use Rattle.vm_base.specs.declared.requests.Request.TheVariants.{Mmap, Munmap, Mprotect, Load as LoadOf, Store as StoreOf, Fetch as FetchOf}
 use Rattle.vm_base.specs.Rights.{is_allowed}
 use Rattle.vm_base.specs.Pages.{page_of, offset_of, is_page}
 use Rattle.vm_base.specs.Plain.{Bytes, File, Entry, Plain, bytes_of}
-use Rattle.vm_base.specs.Apply.{needs_copy, bytes_reply, entry_reply, access_reply, detached}
-use Rattle.vm_base.specs.Answers.{after_copy, prepared}
-use Rattle.vm_base.proofs.Due.{Due, due, after, detached_due, answered}
+use Rattle.vm_base.specs.Apply.{needs_copy, bytes_reply, entry_reply, access_reply, copied, detached, detached_entry, is_uncopied}
+use Rattle.vm_base.specs.Copies.{if_copied, or_else, page_copied, page_due, with_copy}
+use Rattle.vm_base.proofs.Due.{Due, after, detached_due, answered}
 
 -- without a copy to be made each access has a reply
 with_bytes : (a : Access) (i : ℕ) (o : Option Bytes) → is_some (bytes_reply false o a i) ≡ true
@@ -42,31 +42,73 @@ load_ready t addr = at_once t addr Load (λ b o. refl)
 pub fetch_ready : (t : Plain) (addr : ℕ) → is_some (access_reply t addr Fetch) ≡ true
 fetch_ready t addr = at_once t addr Fetch (λ b o. refl)
 
-pub prepared_due : (t : Plain) (addr byte : ℕ) (d : Due t addr) → access_reply t addr Store ≡ None → prepared t (StoreOf addr byte) ≡ after t addr d
-prepared_due t addr byte d h =
-    ap (λ (r : Option Reply). cond (is_some r) t (after_copy t (detached t (page_of addr)))) h
-    ∙ ap (λ (x : Option Plain). after_copy t x) (detached_due t addr d)
+-- ---- the copy before a store
 
-pub prepared_ready : (t : Plain) (addr byte : ℕ) → is_some (access_reply t addr Store) ≡ true → prepared t (StoreOf addr byte) ≡ t
-prepared_ready t addr byte h = ap (λ (v : Bool). cond v t (after_copy t (detached t (page_of addr)))) h
-
--- after the copy that was due a store has a reply
-pub store_ready : (t : Plain) (addr byte : ℕ) → is_some (access_reply (prepared t (StoreOf addr byte)) addr Store) ≡ true
-store_ready t addr byte = go (access_reply t addr Store) refl
+-- a store that is done at once needs no copy
+undue : (t : Plain) (addr : ℕ) → access_reply t addr Store ≡ Some Done → detached t (page_of addr) ≡ None
+undue t addr h = go (is_page (page_of addr)) (t.entry (page_of addr)) refl h
   where
-    go : (r : Option Reply) → access_reply t addr Store ≡ r → is_some (access_reply (prepared t (StoreOf addr byte)) addr Store) ≡ true
-    go None e =
-        let d = due t addr e in
-        ap (λ (x : Plain). is_some (access_reply x addr Store)) (prepared_due t addr byte d e) ∙ ap (λ (r : Option Reply). is_some r) (answered t addr d)
-    go (Some y) e =
-        let some : is_some (access_reply t addr Store) ≡ true = ap (λ (r : Option Reply). is_some r) e in
-        ap (λ (x : Plain). is_some (access_reply x addr Store)) (prepared_ready t addr byte some) ∙ some
+    with_bytes : (e : Entry) (c : Bool) (b : Option Bytes) → is_allowed e.prot Store ≡ true → bytes_reply c b Store (offset_of addr) ≡ Some Done
+        → copied t (page_of addr) e c b ≡ None
+    with_bytes e c None a h = absurd cc
+    with_bytes e false (Some b) a h = refl
+    with_bytes e true (Some b) a h = absurd cc
+
+    allowed : (e : Entry) (v : Bool) → is_allowed e.prot Store ≡ v
+        → cond v (bytes_reply (is_uncopied e.back e.own) (bytes_of t.file e.back e.own) Store (offset_of addr)) (Some (Segv AccErr)) ≡ Some Done
+        → detached_entry t (page_of addr) (Some e) ≡ None
+    allowed e false a h = absurd cc
+    allowed e true a h = with_bytes e (is_uncopied e.back e.own) (bytes_of t.file e.back e.own) a h
+
+    go : (v : Bool) (o : Option Entry) → t.entry (page_of addr) ≡ o
+        → cond v (entry_reply t.file o Store (offset_of addr)) (Some (Segv MapErr)) ≡ Some Done → detached t (page_of addr) ≡ None
+    go false o e h = absurd cc
+    go true None e h = absurd cc
+    go true (Some x) e h = ap (λ (o : Option Entry). detached_entry t (page_of addr) o) e ∙ allowed x (is_allowed x.prot Store) refl h
+
+-- where it is due, the store is done in the map with the copy,
+pub copy_due : (t : Plain) (addr byte : ℕ) (d : Due t addr) → with_copy t (page_copied t (StoreOf addr byte) Done) ≡ after t addr d
+copy_due t addr byte d =
+    ap (λ (x : Option Plain). with_copy t (if_copied x (page_of addr))) (detached_due t addr d)
+    ∙ ap (λ (x : Option Plain). or_else t x) (detached_due t addr d)
+
+pub store_due : (t : Plain) (addr byte : ℕ) (y : Reply) (d : Due t addr) → access_reply (after t addr d) addr Store ≡ Some y
+    → with_copy t (page_copied t (StoreOf addr byte) y) ≡ after t addr d
+store_due t addr byte y d h =
+    let one : Some Done ≡ Some y = sym (answered t addr d) ∙ h in
+    let done : Done ≡ y = cc in
+    subst (λ r. with_copy t (page_copied t (StoreOf addr byte) r) ≡ after t addr d) done (copy_due t addr byte d)
+
+-- and else as the map is
+pub store_at_once : (t : Plain) (addr byte : ℕ) (y : Reply) → access_reply t addr Store ≡ Some y
+    → with_copy t (page_copied t (StoreOf addr byte) y) ≡ t
+store_at_once t addr byte (Mapped a) h = refl
+store_at_once t addr byte Done h = ap (λ (x : Option Plain). with_copy t (if_copied x (page_of addr))) (undue t addr h)
+store_at_once t addr byte (Byte b) h = refl
+store_at_once t addr byte (Refused e) h = refl
+store_at_once t addr byte (Segv s) h = refl
+store_at_once t addr byte Bus h = refl
+store_at_once t addr byte NoFrame h = refl
+store_at_once t addr byte NoMemory h = refl
 
 -- a request that is no store is answered in the state that it finds
-pub prepared_other : (t : Plain) (request : Request) → ((addr byte : ℕ) → request ≡ StoreOf addr byte → ⊥) → t ≡ prepared t request
-prepared_other t (Mmap addr len prot flags file off) other = refl
-prepared_other t (Munmap addr len) other = refl
-prepared_other t (Mprotect addr len prot) other = refl
-prepared_other t (LoadOf addr) other = refl
-prepared_other t (StoreOf addr byte) other = absurd (other addr byte refl)
-prepared_other t (FetchOf addr) other = refl
+pub other_undue : (t : Plain) (request : Request) → ((addr byte : ℕ) → request ≡ StoreOf addr byte → ⊥) → page_due t request ≡ None
+other_undue t (Mmap addr len prot flags file off) other = refl
+other_undue t (Munmap addr len) other = refl
+other_undue t (Mprotect addr len prot) other = refl
+other_undue t (LoadOf addr) other = refl
+other_undue t (StoreOf addr byte) other = absurd (other addr byte refl)
+other_undue t (FetchOf addr) other = refl
+
+none_copied : (t : Plain) (request : Request) (y : Reply) → page_due t request ≡ None → page_copied t request y ≡ None
+none_copied t request (Mapped a) h = refl
+none_copied t request Done h = h
+none_copied t request (Byte b) h = refl
+none_copied t request (Refused e) h = refl
+none_copied t request (Segv s) h = refl
+none_copied t request Bus h = refl
+none_copied t request NoFrame h = refl
+none_copied t request NoMemory h = refl
+
+pub uncopied : (t : Plain) (request : Request) (y : Reply) → page_due t request ≡ None → with_copy t (page_copied t request y) ≡ t
+uncopied t request y h = ap (with_copy t) (none_copied t request y h)

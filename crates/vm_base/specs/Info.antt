@@ -6,7 +6,7 @@ use Rattle.vm_base.specs.declared.info.Back.TheVariants.{Anon, Shared, Private}
 use Rattle.vm_base.specs.declared.info.Meta.{Meta}
 use Rattle.vm_base.specs.declared.info.PageInfo.{PageInfo}
 use Rattle.vm_base.specs.declared.rights.Prot.{Prot}
-use Rattle.vm_base.specs.Cores.{members}
+use Rattle.vm_base.specs.Cores.{members, with_member}
 
 -- the backing so many pages on
 abbrev pub advance_back : Back → ℕ → Back
@@ -68,3 +68,13 @@ info_with_frame frame (Some info) = Some (record info { frame = Some frame })
 abbrev pub info_without_frame : Option PageInfo → Option PageInfo
 info_without_frame None = None
 info_without_frame (Some info) = Some (record info { frame = None })
+
+-- the page with one recorded core more
+abbrev pub info_with_core : ℕ → Option PageInfo → Option PageInfo
+info_with_core core None = None
+info_with_core core (Some info) = Some (record info { cores = with_member info.cores core })
+
+-- the page with a copy of its bytes in a frame of its own, of which no core has a translation yet
+abbrev pub info_with_copy : ℕ → Option PageInfo → Option PageInfo
+info_with_copy frame None = None
+info_with_copy frame (Some info) = Some (record info { frame = Some frame; cores = 0 })

@@ -17,7 +17,8 @@ use Rattle.slot_lock.specs.Plan.{range_of, target_range, goal_range}
 use Rattle.slot_lock.specs.Slots.{Slots, IsUser}
 use Rattle.vm_calls.specs.declared.decision.Decision.{Decision}
 use Rattle.vm_calls.specs.declared.decision.Decision.TheVariants.{Refuse, Act, Again}
-use Rattle.vm_calls.specs.Decisions.{Decides, DecidesChange, DecidesProtect, DecidesRun, DecidesPlace, Acts, AreAlike, entries, entry_of}
+use Rattle.vm_calls.specs.Decisions.{Decides, DecidesChange, DecidesProtect, DecidesRun, DecidesPlace, AreAlike, entries, entry_of}
+use Rattle.vm_calls.specs.Decisions.{ActsOn}
 use Rattle.vm_calls.specs.Decisions.DecidesProtect.{no_page, no_write, acts}
 use Rattle.vm_calls.specs.Decisions.DecidesRun.{free, taken}
 use Rattle.vm_calls.proofs.Places.{Alike, free-alike, least-alike}
@@ -31,7 +32,7 @@ page-alike test r s t same x = (x.0, x.1, ap (λ (o : Option PageInfo). test (en
 user-alike : (r : PageRange) (s t : Slots) (core : ℕ) → AreAlike r s t → IsUser s r core → IsUser t r core
 user-alike r s t core same x = (x.0, x.1, ap (λ (o : Option PageInfo). is_recorded o core) (sym (same x.0 x.1)) ∙ x.2)
 
-acts-alike : (r : PageRange) (s t : Slots) (d : Decision) → AreAlike r s t → Acts s r d → Acts t r d
+acts-alike : (r : PageRange) (s t : Slots) (d : Decision) → AreAlike r s t → ActsOn s r d → ActsOn t r d
 acts-alike r s t (Refuse e) same a = a
 acts-alike r s t Again same a = a
 acts-alike r s t (Act changes shoot) same a =

@@ -15,7 +15,7 @@ use Rattle.slot_lock.specs.declared.plan.Change.TheVariants.{Put, Clear, Protect
 use Rattle.slot_lock.specs.Plan.{range_of}
 use Rattle.slot_lock.specs.Slots.{Slots}
 use Rattle.vm_calls.specs.declared.decision.Decision.TheVariants.{Act, Refuse}
-use Rattle.vm_calls.specs.Decisions.{Acts, DecidesChange, DecidesPage, entries, entry_of}
+use Rattle.vm_calls.specs.Decisions.{DecidesChange, DecidesPage, entries, entry_of, ActsOn}
 use Rattle.vm_calls.specs.Decisions.DecidesProtect.{no_page, no_write, acts}
 
 -- the only page of the range
@@ -37,7 +37,7 @@ no_page_passes test s range info one e h (p, in', passes) =
 
 -- the cores recorded on the page are those recorded on the range
 pub acts_on_page : (s : Slots) (range : PageRange) (info : Option PageInfo) (shoot : ℕ) → range.end ≡ range.first + 1 → s.info range.first ≡ info
-    → ((core : ℕ) → members shoot core ≡ is_recorded info core) → Acts s range (Act range shoot)
+    → ((core : ℕ) → members shoot core ≡ is_recorded info core) → ActsOn s range (Act range shoot)
 acts_on_page s range info shoot one e all = (
   refl,
   λ core. (

@@ -44,7 +44,8 @@ use Rattle.slot_lock.specs.Slots.{Slots}
 use Rattle.vm_calls.specs.declared.decision.Decision.{Decision}
 use Rattle.vm_calls.specs.declared.decision.Decision.TheVariants.{Refuse, Act, Again}
 use Rattle.vm_calls.specs.Checks.{checked, plan_of, touched, touch_of, HasModes, placed_count, hint_at, place_of}
-use Rattle.vm_calls.specs.Decisions.{Decides, DecidesProtect, DecidesPlace, DecidesRun, Acts, HasMapped, IsNoAccess, act_at, entries, entry_of}
+use Rattle.vm_calls.specs.Decisions.{Decides, DecidesProtect, DecidesPlace, DecidesRun, HasMapped, IsNoAccess, act_at, entries, entry_of}
+use Rattle.vm_calls.specs.Decisions.{ActsOn}
 use Rattle.vm_calls.specs.Decisions.DecidesProtect.{no_page as absent_page, no_write as read_only_page, acts}
 use Rattle.vm_calls.specs.Decisions.DecidesRun.{free, taken}
 use Rattle.vm_calls.specs.Plainly.{ShowsPage, IsShown, IsPlain, answer_to, left_by}
@@ -116,7 +117,7 @@ protects : (t : Plain) (files : ℕ → Option File) (s : Slots) (core addr len 
     (To.Change (Protect (pages_of addr len) prot)) d
 protects t files s core addr len prot d h dec ok = by d dec
   where
-    acting : (d : Decision) → Acts s (pages_of addr len) d
+    acting : (d : Decision) → ActsOn s (pages_of addr len) d
         → ((changes : PageRange) → changes ≡ pages_of addr len → Protects t (pages_of addr len) prot Done (protected t changes prot))
         → IsPlain t core (Mprotect addr len prot) (To.Change (Protect (pages_of addr len) prot)) d
     acting (Refuse e) a p = absurd a
@@ -172,7 +173,7 @@ Answers b t core addr len meta goal (Refuse e) = MapsAt IsPlace b t core addr le
 Answers b t core addr len meta goal (Act range shoot) = MapsAt IsPlace b t core addr len meta.back meta.prot (answer_to goal range) (left_by t goal range)
 Answers b t core addr len meta goal Again = HasMapped t.entry (goal_range goal)
 
-fixed : (t : Plain) (s : Slots) (core addr len : ℕ) (meta : Meta) (d : Decision) → Acts s (pages_of addr len) d
+fixed : (t : Plain) (s : Slots) (core addr len : ℕ) (meta : Meta) (d : Decision) → ActsOn s (pages_of addr len) d
     → Answers true t core addr len meta (To.Change (Put (pages_of addr len) meta)) d
 fixed t s core addr len meta (Refuse e) a = absurd a
 fixed t s core addr len meta Again a = absurd a
@@ -296,7 +297,7 @@ mmap-applied t core addr len prot flags file off goal Again ok a = a
 
 -- ---- munmap
 
-unmaps : (t : Plain) (s : Slots) (core addr len : ℕ) (d : Decision) → Acts s (pages_of addr len) d → refusal (λ n. mode_of (t.file n)) (Munmap addr len) ≡ None
+unmaps : (t : Plain) (s : Slots) (core addr len : ℕ) (d : Decision) → ActsOn s (pages_of addr len) d → refusal (λ n. mode_of (t.file n)) (Munmap addr len) ≡ None
     → IsPlain t core (Munmap addr len) (To.Change (Clear (pages_of addr len))) d
 unmaps t s core addr len (Refuse e) a ok = absurd a
 unmaps t s core addr len Again a ok = absurd a

@@ -64,10 +64,10 @@ IsSoundAct (To.Change change) (Act range shoot) = IsSoundChange change × (range
 IsSoundAct (To.Access touch) (Act range shoot) = ⊥
 
 -- the call changes the range, and shoots just the cores that are recorded on some page of it
-abbrev pub Acts : Slots → PageRange → Decision → Type 0
-Acts s range (Refuse e) = ⊥
-Acts s range Again = ⊥
-Acts s range (Act changes shoot) =
+abbrev pub ActsOn : Slots → PageRange → Decision → Type 0
+ActsOn s range (Refuse e) = ⊥
+ActsOn s range Again = ⊥
+ActsOn s range (Act changes shoot) =
     (changes ≡ range) × ((core : ℕ) → (members shoot core ≡ true) ↔ IsUser s range core)
 
 -- some page of the range is mapped
@@ -104,12 +104,12 @@ pub data DecidesProtect (files : ℕ → Option File) (s : Slots) (range : PageR
       → HasPage (is_read_only files) (entries s) range → d ≡ Refuse EACCES
       → DecidesProtect files s range prot d
   acts : ¬ HasPage is_absent (entries s) range
-      → (prot.write ≡ true → ¬ HasPage (is_read_only files) (entries s) range) → Acts s range d
+      → (prot.write ≡ true → ¬ HasPage (is_read_only files) (entries s) range) → ActsOn s range d
       → DecidesProtect files s range prot d
 
 abbrev pub DecidesChange : (ℕ → Option File) → Slots → Change → Decision → Type 0
-DecidesChange files s (Put range meta) d = Acts s range d
-DecidesChange files s (Clear range) d = Acts s range d
+DecidesChange files s (Put range meta) d = ActsOn s range d
+DecidesChange files s (Clear range) d = ActsOn s range d
 DecidesChange files s (Protect range prot) d = DecidesProtect files s range prot d
 
 abbrev pub Decides : (ℕ → Option File) → Slots → Goal → Decision → Type 0

@@ -10,8 +10,8 @@ ghost use Rattle.slot_lock.specs.Plan.{IsSoundGoal, IsSoundPlace, goal_range, ra
 ghost use Rattle.backing.specs.Files.{files_of};
 ghost use Rattle.vm_calls.specs.declared.decision.Decision.TheVariants as DecisionOf;
 ghost use Rattle.vm_calls.specs.Decisions.{Decides, DecidesPage, DecidesRun, DecidesWindow};
-ghost use Rattle.vm_calls.specs.Decisions.{DecidesPlace, DecidesProtect, Acts, IsReadable, IsNoAccess};
-ghost use Rattle.vm_calls.specs.Decisions.{IsSoundAct, entries, entry_of};
+ghost use Rattle.vm_calls.specs.Decisions.{DecidesPlace, DecidesProtect, IsReadable, IsNoAccess};
+ghost use Rattle.vm_calls.specs.Decisions.{ActsOn, IsSoundAct, entries, entry_of};
 
 use backing::Objects;
 use slot_lock::{Change, Goal, Place, SlotRead, Target};
@@ -39,7 +39,7 @@ pub enum Decision {
 fn act<M: SlotRead>(map: &M, range: PageRange) -> Decision
     requires range { IsPageRange range }
     requires reads { (p : ℕ) → has range p ≡ true → M.reads map.now p }
-    ensures { Acts (M.slots map.now) range result }
+    ensures { ActsOn (M.slots map.now) range result }
 {
     Decision::Act {
         range,

@@ -1,6 +1,6 @@
 use Rattle.std.proofs.Common.{sym, subst, arith}
 use Rattle.map_list.proofs.Lists.{ListsTo, lists_all, to_first, to_more}
-use Rattle.map_list.specs.Lines.{slot_metas}
+use Rattle.map_list.specs.Walked.{slot_metas}
 use Rattle.map_list.proofs.lines.all_lines.Goals as goal
 
 pub lines-init : goal.lines-init

@@ -1,5 +1,5 @@
 use Rattle.std.proofs.Common.{◌-◌, ◌^◌}
-use Rattle.map_list.specs.Lines.{slot_metas}
+use Rattle.map_list.specs.Walked.{slot_metas}
 use Rattle.map_list.proofs.Lists.{ListsTo}
 use Rattle.map_list.proofs.lines.all_lines.Given as goal
 

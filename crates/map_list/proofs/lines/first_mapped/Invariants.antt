@@ -1,5 +1,5 @@
 use Rattle.std.proofs.Common.{◌-◌, ◌^◌}
-use Rattle.map_list.specs.Lines.{slot_metas}
+use Rattle.map_list.specs.Walked.{slot_metas}
 use Rattle.map_list.proofs.Walks.{NoneBelow}
 use Rattle.map_list.proofs.lines.first_mapped.Given as goal
 

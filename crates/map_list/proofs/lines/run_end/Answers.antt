@@ -1,6 +1,6 @@
 use Rattle.std.proofs.Common.{◌-◌, Some, arith, ap, refl, sym, ◌∙◌}
 use Rattle.vm_base.specs.Info.{advance}
-use Rattle.map_list.specs.Lines.{info_meta}
+use Rattle.map_list.specs.Walked.{info_meta}
 use Rattle.map_list.proofs.Walks.{ends_at_limit, holds, run_first, run_next}
 use Rattle.map_list.proofs.lines.run_end.Goals as goal
 

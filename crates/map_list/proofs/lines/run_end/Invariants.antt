@@ -1,6 +1,5 @@
 use Rattle.std.proofs.Common.{◌-◌, ◌^◌}
-use Rattle.map_list.specs.Lines.{slot_metas}
-use Rattle.map_list.specs.Walked.{IsRun}
+use Rattle.map_list.specs.Walked.{slot_metas, IsRun}
 use Rattle.map_list.proofs.lines.run_end.Given as goal
 
 abbrev pub invariant-slots : goal.invariant-slots

@@ -1,6 +1,6 @@
 use Rattle.std.proofs.Common.{length, take, ◌-◌, ◌≡◌, ◌≤◌}
 use Rattle.std.specs.Io.KnownBytes.{Appends}
-use Rattle.trace.specs.Shown.{log_text}
+use Rattle.trace_text.specs.Lists.{log_text}
 use Rattle.trace.proofs.shown.write_log.Given as goal
 
 -- the lines of the first entries were written

@@ -1,6 +1,6 @@
 use Rattle.std.proofs.Common.{ap, ◌∙◌, arith}
 use Rattle.std.proofs.Math.ListN.{length-set}
-use Rattle.mmu.specs.Tlb.{is_page, are_distinct}
+use Rattle.mmu.specs.Tlb.{are_distinct, is_at}
 use Rattle.mmu.specs.Fills.{entries_of, filled_at, dropped}
 use Rattle.mmu.proofs.Distinct.{distinct_without}
 use Rattle.mmu.proofs.Places.{one_less, page_left, gone_still, written, still_chained}
@@ -37,7 +37,7 @@ invariant_of-self-clause-distinct c =
     let page = (filled_at fs c.args.place).entry.page in
     rw (written fs c.deref_mut.result.now c.args.place c.deref_mut.ensures.value)
     (ap are_distinct (page_left fs c.args.place (filled_at fs c.args.place) c.args.self.now.distinct c.requires.within c.requires.held)
-    ∙ distinct_without (is_page page) (entries_of fs) c.args.self.now.distinct)
+    ∙ distinct_without (is_at page) (entries_of fs) c.args.self.now.distinct)
 
 pub invariant_of-self-clause-begun : goal.invariant_of-self-clause-begun
 invariant_of-self-clause-begun c =

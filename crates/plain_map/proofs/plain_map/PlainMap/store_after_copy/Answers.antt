@@ -24,11 +24,11 @@ perform-requires-clause-room g c = λ _.
 pub returns-in-None-clause-ok : goal.returns-in-None-clause-ok
 returns-in-None-clause-ok g c =
     subst (λ (t : Plain). Accesses t c.args.addr Store c.args.byte c.perform.result (plain_of c.perform.new.self))
-    (copy_prepares (plain_of c.args.self.now) (plain_of c.detach.new.self) c.args.addr c.args.byte _ (sym c.in-None.ensures)
+    (copy_prepares (plain_of c.args.self.now) (plain_of c.detach.new.self) c.args.addr c.args.byte c.perform.result _ (sym c.in-None.ensures)
     (at_page (plain_of c.args.self.now) (plain_of c.detach.new.self) c.args.addr _ _ c.page_of.ensures.value
-    c.in_ok-detach.ensures.ok)) c.perform.ensures
+    c.in_ok-detach.ensures.ok) c.perform.ensures.0) c.perform.ensures
 
 pub returns-clause-ok : goal.returns-clause-ok
 returns-clause-ok g c =
     subst (λ (t : Plain). Accesses t c.args.addr Store c.args.byte c.in_ok-reply.reply (plain_of c.access.new.self))
-    (prepared_already (plain_of c.args.self.now) c.args.addr c.args.byte _ (sym c.in_default.ensures)) c.in_ok-reply.ensures.ok
+    (prepared_already (plain_of c.args.self.now) c.args.addr c.args.byte c.in_ok-reply.reply c.in_ok-reply.ensures.ok.0) c.in_ok-reply.ensures.ok

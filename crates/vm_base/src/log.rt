@@ -1,5 +1,6 @@
 //! The log of a machine.
-use vm_base::{CoreId, Reply};
+use crate::cores::CoreId;
+use crate::replies::Reply;
 
 /// An entry of the log.
 #[derive(Clone, Copy, Debug, PartialEq, Eq)]

@@ -1,0 +1,130 @@
+#!/usr/bin/env python3
+"""Counts what a theorem's statement reaches: the definitions of specs/ that it names, those that these name, and so on.
+
+    bench/believed.py             for each theorem of bench/believed.txt the definitions, their lines, and the files they stand in
+    bench/believed.py --files     each file too, with its definitions and lines
+
+Lines are those of definitions: no comments, no empty lines, no `use`. Types declared in code (enums and structs) are counted apart, by
+name. Then come the names that have two definitions in what one theorem reaches, and the files of specs/ that docs/DEFINITIONS.md
+doesn't name."""
+import glob
+import os
+import re
+import sys
+
+ROOT = os.path.dirname(os.path.dirname(os.path.abspath(__file__)))
+DEFINES = (
+    re.compile(r'^\s*(?:abbrev|unfoldable|reducible)\s+pub\s+(\S+)\s*:'),
+    re.compile(r'^(?:pub )?(?:record|data)\s+(\S+)'),
+    re.compile(r'^\s*(?:abbrev|unfoldable)\s+(\S+)\s*:'),
+)
+NAMED = re.compile(r'^use Rattle\.(\w+)\.specs\.([\w.]+)\.\{([^}]*)\}', re.M | re.S)
+WHOLE = re.compile(r'^use Rattle\.(\w+)\.specs\.([\w.]+) as (\w+)', re.M)
+WORD = re.compile(r'(?<![\w.])([\w◌&|≡-]+(?:\.[\w]+)*)')
+
+
+class Specs:
+    """The definitions of all specs/, by (crate, file, name), with the names that each file brings in."""
+
+    def __init__(self):
+        self.lines, self.brought, self.files = {}, {}, []
+        for path in sorted(glob.glob(f'{ROOT}/crates/*/specs/*.antt')):
+            crate, name = path.split('/')[-3], os.path.basename(path)[:-5]
+            if name != 'Lib':
+                self.files.append((crate, name))
+                self.read(crate, name, open(path, encoding='utf-8').read())
+
+    def read(self, crate, name, source):
+        names, modules = {}, {}
+        for owner, module, items in NAMED.findall(source):
+            for item in filter(None, (item.strip() for item in items.split(','))):
+                first, _, alias = item.partition(' as ')
+                names[alias or first] = (owner, module, first)
+        for owner, module, alias in WHOLE.findall(source):
+            modules[alias] = (owner, module)
+        self.brought[crate, name] = names, modules
+        current = None
+        for line in source.split('\n'):
+            text = line.strip()
+            if not text or text.startswith(('--', 'use ', 'pub mod')):
+                continue
+            found = next((m for m in (d.match(line) for d in DEFINES) if m), None)
+            if found:
+                current = (crate, name, found.group(1))
+                self.lines[current] = []
+            if current:
+                self.lines[current].append(line)
+
+    def named_by(self, key):
+        """The definitions that this one names, and what it names of elsewhere."""
+        crate, name, own = key
+        names, modules = self.brought[crate, name]
+        inside, outside = set(), set()
+        for word in WORD.findall('\n'.join(self.lines[key])):
+            first, _, rest = word.partition('.')
+            if (crate, name, first) in self.lines:
+                inside.add((crate, name, first))
+            elif first in names:
+                (inside if names[first] in self.lines else outside).add(names[first])
+            elif first in modules and rest:
+                outside.add((*modules[first], rest.split('.')[0]))
+        inside.discard(key)
+        return inside, outside
+
+    def reached_from(self, roots):
+        reached, outside, waiting = set(), set(), list(roots)
+        while waiting:
+            key = waiting.pop()
+            if key not in reached:
+                reached.add(key)
+                inside, others = self.named_by(key)
+                outside |= others
+                waiting += inside
+        return reached, outside
+
+
+def theorems():
+    """The list beside this script: a line `theorem: NAME`, and below it a definition a line, as CRATE/FILE.NAME."""
+    found = []
+    for line in open(f'{ROOT}/bench/believed.txt', encoding='utf-8'):
+        line = line.split('#')[0].strip()
+        if line.startswith('theorem:'):
+            found.append((line[8:].strip(), []))
+        elif line:
+            crate, rest = line.split('/')
+            file, name = rest.split('.')
+            found[-1][1].append((crate, file, name))
+    return found
+
+
+def main():
+    specs = Specs()
+    for title, roots in theorems():
+        for root in roots:
+            if root not in specs.lines:
+                sys.exit(f'no definition {root[0]}/{root[1]}.{root[2]}')
+        reached, outside = specs.reached_from(roots)
+        declared = {(crate, module.split('.TheVariants')[0]) for crate, module, _ in outside if module.startswith('declared')}
+        files = {}
+        for key in reached:
+            count = files.setdefault(key[:2], [0, 0])
+            count[0] += 1
+            count[1] += len(specs.lines[key])
+        lines = sum(count for _, count in files.values())
+        print(f'{title}: {lines} lines, {len(reached)} definitions, {len(files)} files; {len(declared)} types of code')
+        if '--files' in sys.argv:
+            for (crate, name), (definitions, count) in sorted(files.items()):
+                print(f'    {crate}/specs/{name}.antt: {count} lines, {definitions} definitions')
+        by_name = {}
+        for key in reached:
+            by_name.setdefault(key[2], []).append(f'{key[0]}/{key[1]}')
+        for name, places in sorted(by_name.items()):
+            if len(places) > 1:
+                print(f'    defined twice: {name}, in {" and ".join(sorted(places))}')
+    said = open(f'{ROOT}/docs/DEFINITIONS.md', encoding='utf-8').read()
+    for crate, name in specs.files:
+        if f'{crate}/specs/{name}.antt' not in said:
+            print(f'not in docs/DEFINITIONS.md: {crate}/specs/{name}.antt')
+
+
+main()
