@@ -11,8 +11,13 @@ use Rattle.machine_laws.specs.Brackets.{IsBracketed}
 use Rattle.machine_laws.proofs.Bracketed.{bracketed}
 use Rattle.machine_sound.specs.Sound.{SoundRun}
 use Rattle.machine_sound.proofs.Kept.{run_more, runs_sound}
-use Rattle.core_steps.specs.Moving.{MayWant}
-use Rattle.core_steps.specs.Running.{IsRefusedAt}
+use Rattle.core_steps.specs.Moving.{MayWant, JoinsAsMap}
+use Rattle.core_steps.specs.Running.{IsRefusedAt, LogsPlainly, RunsAsMap}
+use Rattle.core_steps.proofs.Limits.{step_made}
+use Rattle.vm_base.specs.Plain.{nothing_mapped}
+use Rattle.machine_sound.specs.Log.{Replays}
+use Rattle.machine_sound.specs.Sound.{IsReached}
+use Rattle.machine_sound.proofs.Kept.{reached_sound}
 
 -- the first events are all of them
 pub all_bracketed : (made : Made) (slots : Slots) (first es : List Event) (os : List Outcome) (w : World) → made.cores ≤ 64 → IsNew slots
@@ -33,3 +38,39 @@ next_run w es n e os m v o h is r s =
 pub refused_next : (w : World) (es : List Event) (n : ℕ) (e : Event) (os : List Outcome) (m : World) → n < length es → e ≡ get_or es n e
     → Run w (take n es) os m → MayWant m e → IsRefusedAt w es n
 refused_next w es n e os m h is r wants = (e, slice_get_read es (length es) n e refl h is, (os, (m, r, wants)))
+
+-- a run whose folds are the map's goes one event on
+joined_more : (C : Slots → ℕ → Type 0) (F : Slots → Slots → ℕ → Type 0) (es : List Event) (os : List Outcome) (w m v : World) (e : Event) (o : Outcome)
+    → RunsAsMap C F w es os m → Step m e o v → JoinsAsMap C F m e o v → RunsAsMap C F w (es ++ e ∷ []) (os ++ o ∷ []) v
+joined_more C F [] [] w m v e o r s j = (v, subst (λ w. Step w e o v) r s, subst (λ w. JoinsAsMap C F w e o v) r j, refl)
+joined_more C F [] (p ∷ os) w m v e o r s j = absurd r
+joined_more C F (d ∷ es) [] w m v e o r s j = absurd r
+joined_more C F (d ∷ es) (p ∷ os) w m v e o r s j = (r.0, r.1, r.2, joined_more C F es os r.0 m v e o r.3 s j)
+
+pub next_joined : (C : Slots → ℕ → Type 0) (F : Slots → Slots → ℕ → Type 0) (w : World) (es : List Event) (n : ℕ) (e : Event) (os : List Outcome) (m v : World) (o : Outcome)
+    → n < length es → e ≡ get_or es n e → RunsAsMap C F w (take n es) os m → Step m e o v → JoinsAsMap C F m e o v
+    → RunsAsMap C F w (take (n + 1) es) (os ++ o ∷ []) v
+next_joined C F w es n e os m v o h is r s j =
+    subst (λ f. RunsAsMap C F w f (os ++ o ∷ []) v) (sym (take_more es n e h ∙ ap (λ x. take n es ++ x ∷ []) (sym is)))
+    (joined_more C F (take n es) os w m v e o r s j)
+
+run_made : (es : List Event) (os : List Outcome) (w v : World) → Run w es os v → v.made ≡ w.made
+run_made [] [] w v r = ap (λ u. u.made) r
+run_made [] (p ∷ os) w v r = absurd r
+run_made (e ∷ es) [] w v r = absurd r
+run_made (e ∷ es) (o ∷ os) w v r = run_made es os r.0 v r.2 ∙ step_made w e o r.0 r.1
+
+plainly : (made : Made) (slots : Slots) (es : List Event) (os : List Outcome) (w : World) → made.cores ≤ 64 → IsNew slots
+    → Run (new_world made slots) es os w → LogsPlainly made.file es os w.calls.log
+plainly made slots es os w few new r =
+    let is_reached : IsReached w = record { made = made; few = few; slots = slots; events = es; outcomes = os; new = new; run = r } in
+    let sound = reached_sound w is_reached in
+    let same : w.made ≡ made = run_made es os (new_world made slots) w r in (
+      sound.0,
+      subst (λ qs. Replays qs (nothing_mapped made.file) w.calls.log sound.0) (bracketed made slots es os w few new r).requests
+          (subst (λ m. Replays w.calls.requests (nothing_mapped m.file) w.calls.log sound.0) same sound.1.log),
+    )
+
+pub all_plain : (made : Made) (slots : Slots) (first es : List Event) (os : List Outcome) (w : World) → made.cores ≤ 64 → IsNew slots → first ≡ es
+    → Run (new_world made slots) first os w → LogsPlainly made.file es os w.calls.log
+all_plain made slots first es os w few new e r = plainly made slots es os w few new (subst (λ es. Run (new_world made slots) es os w) e r)

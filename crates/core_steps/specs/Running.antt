@@ -1,14 +1,19 @@
 -- Why running a list of events on a new machine may fail
-use Rattle.std.specs.Prelude.{◌≡◌, ℕ, ◌⊎◌, length, take, slice_get, List, None, Some}
+use Rattle.std.specs.Prelude.{◌≡◌, ℕ, ◌⊎◌, [], ◌∷◌, length, take, slice_get, List, Option, None, Some}
 use Rattle.core_steps.specs.declared.run_result.RunFault.{RunFault}
 use Rattle.core_steps.specs.declared.run_result.RunFault.TheVariants as By
 use Rattle.core_steps.specs.declared.setup.Setup.{Setup}
 use Rattle.machine_model.specs.declared.event.Event.{Event}
 use Rattle.machine_model.specs.declared.event.Outcome.{Outcome}
 use Rattle.machine_model.specs.World.{World}
-use Rattle.machine_model.specs.Step.{Run}
+use Rattle.machine_model.specs.Step.{Run, Step}
+use Rattle.slot_lock.specs.Slots.{Slots}
+use Rattle.vm_base.specs.Plain.{File, Plain, nothing_mapped}
+use Rattle.machine_model.specs.declared.log.Entry.{Entry}
+use Rattle.machine_laws.specs.Brackets.{calls_of, requests_of}
+use Rattle.machine_sound.specs.Log.{Replays}
 use Rattle.core_steps.specs.Setups.{IsFirstFault, fault_of}
-use Rattle.core_steps.specs.Moving.{MayWant}
+use Rattle.core_steps.specs.Moving.{MayWant, JoinsAsMap}
 
 -- the events before this index were run, and the one there is one that may be refused for memory
 abbrev pub IsRefusedAt : World → List Event → ℕ → Type 0
@@ -22,3 +27,19 @@ abbrev pub Fails : {A : Type 0} → World → Setup A → List Event → RunFaul
 Fails w setup events (By.Setup fault) = IsFirstFault setup fault
 Fails w setup events (By.NoMemory at) =
     (fault_of setup ≡ None) × ((at ≡ length events) ⊎ IsRefusedAt w events at)
+
+-- The events, in order, may come to these outcomes one after another, and each fold joins slots just
+-- where the map can, and as the map does.
+abbrev pub RunsAsMap : (Slots → ℕ → Type 0) → (Slots → Slots → ℕ → Type 0) → World → List Event
+    → List Outcome → World → Type 0
+RunsAsMap CanFold Folds w [] [] v = v ≡ w
+RunsAsMap CanFold Folds w (e ∷ es) (o ∷ os) v = (m : World) × Step w e o m
+    × JoinsAsMap CanFold Folds w e o m × RunsAsMap CanFold Folds m es os v
+RunsAsMap CanFold Folds w [] (o ∷ os) v = ⊥
+RunsAsMap CanFold Folds w (e ∷ es) [] v = ⊥
+
+-- The log, with the requests of the calls that these events began, leads from no mappings and these
+-- files to a plain page map.
+abbrev pub LogsPlainly : (ℕ → Option File) → List Event → List Outcome → List Entry → Type 0
+LogsPlainly file events outcomes log =
+    (t : Plain) × Replays (requests_of (calls_of events outcomes)) (nothing_mapped file) log t

@@ -7,7 +7,8 @@ ghost use Rattle.machine_laws.specs.Brackets.{IsBracketed};
 ghost use Rattle.machine_sound.specs.Sound.{SoundRun};
 ghost use Rattle.core_steps.specs.Machine.{state};
 ghost use Rattle.core_steps.specs.Setups.{IsFirstFault, made_of};
-ghost use Rattle.core_steps.specs.Running.{Fails};
+ghost use Rattle.core_steps.specs.Running.{Fails, LogsPlainly, RunsAsMap};
+ghost use Rattle.backing.specs.Given.{given_files};
 
 use crate::ledger::Opening;
 use crate::machine::Machine;
@@ -34,7 +35,11 @@ pub fn run<M: SlotMap + Drop, A: Allocator + Clone + Drop, L: Opening<A> + Drop>
     requires { IsNew (M.slots map) }
     ensures run { IfOk result (λ done. RunsTo (new_world (made_of setup) (M.slots map)) events.now
         done.outcomes.items (state done.machine)) }
+    ensures joins { IfOk result (λ done. RunsAsMap M.can_fold M.folds (new_world (made_of setup) (M.slots map))
+        events.now done.outcomes.items (state done.machine)) }
     ensures all { IfOk result (λ done. length done.outcomes.items ≡ length events.now) }
+    ensures plain { IfOk result (λ done. LogsPlainly (given_files setup.files.items) events.now
+        done.outcomes.items (state done.machine).calls.log) }
     ensures brackets { IfOk result (λ done. IsBracketed events.now done.outcomes.items
         (state done.machine).calls.requests (state done.machine).calls.log) }
     ensures sound { IfOk result (λ done. SoundRun (new_world (made_of setup) (M.slots map)) events.now

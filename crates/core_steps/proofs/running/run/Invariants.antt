@@ -4,6 +4,7 @@ use Rattle.core_steps.specs.Setups.{made_of}
 use Rattle.core_steps.specs.State.{world}
 use Rattle.machine_model.specs.World.{new_world}
 use Rattle.machine_model.specs.Step.{Run}
+use Rattle.core_steps.specs.Running.{RunsAsMap}
 use Rattle.core_steps.proofs.running.run.Given as goal
 
 -- the run so far, and room for the outcomes to come
@@ -11,6 +12,8 @@ abbrev pub invariant-events : goal.invariant-events
 invariant-events g l = record {
   run : Run (new_world (made_of l.fn.setup) (g.M.SlotRead.slots l.fn.map)) (take l.at l.events) l.outcomes.items
       (world g.M.SlotRead.slots l.machine.engine);
+  joins : RunsAsMap g.M.SlotMap.can_fold g.M.SlotMap.folds (new_world (made_of l.fn.setup) (g.M.SlotRead.slots l.fn.map)) (take l.at l.events)
+      l.outcomes.items (world g.M.SlotRead.slots l.machine.engine);
   room : length l.events ≤ vec_capacity l.outcomes;
   count : vec_len l.outcomes ≡ l.at;
 }
