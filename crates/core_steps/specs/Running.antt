@@ -9,9 +9,9 @@ use Rattle.machine_model.specs.World.{World}
 use Rattle.machine_model.specs.Step.{Run, Step}
 use Rattle.slot_lock.specs.Slots.{Slots}
 use Rattle.vm_base.specs.Plain.{File, Plain, nothing_mapped}
-use Rattle.machine_model.specs.declared.log.Entry.{Entry}
+use Rattle.vm_base.specs.declared.log.Entry.{Entry}
 use Rattle.machine_laws.specs.Brackets.{calls_of, requests_of}
-use Rattle.machine_sound.specs.Log.{Replays}
+use Rattle.vm_base.specs.Log.{Replays}
 use Rattle.core_steps.specs.Setups.{IsFirstFault, fault_of}
 use Rattle.core_steps.specs.Moving.{MayWant, JoinsAsMap}
 

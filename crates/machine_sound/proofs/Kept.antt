@@ -46,6 +46,7 @@ use Rattle.machine_sound.proofs.Logs.{replays_requests}
 use Rattle.machine_sound.proofs.Moves as left
 use Rattle.machine_sound.proofs.Moves.{Leaves, stays, shows_same, with_memory, goes_on, beside}
 use Rattle.machine_sound.proofs.Freeing.{frees_only, blocked}
+use Rattle.machine_sound.proofs.Resting.{idle_step, full_step, stays_step}
 use Rattle.machine_sound.proofs.Opening.{fine_opening}
 use Rattle.machine_sound.proofs.Replies.{due_so, refused, declined}
 use Rattle.machine_sound.proofs.Sound.{fine_sound}
@@ -209,6 +210,9 @@ sound_step w v e o f s = record {
   notes = (fine_step w v e o f s).1;
   frees = frees_only w v e o s;
   blocked = blocked w v e o f.order s;
+  idle = idle_step w e o v s;
+  full = full_step w e o v s;
+  stays = stays_step w e o v s;
 }
 
 -- ---- runs

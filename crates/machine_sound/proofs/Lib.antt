@@ -5,6 +5,7 @@ pub mod Pages
 pub mod Moves
 pub mod Reaching
 mod Freeing
+mod Resting
 mod Commits
 pub mod Stores
 pub mod Fills

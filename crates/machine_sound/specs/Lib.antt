@@ -1,4 +1,5 @@
 pub mod Log
 pub mod Translations
+pub mod Possible
 pub mod Sound
 pub mod Invariant

@@ -1,6 +1,6 @@
 -- What holds in each state that a machine reaches, and of each step from there
 use Rattle.std.specs.Prelude.{◌≡◌, ◌≢◌, ℕ, suc, ◌≤◌, ◌⊎◌, Bool, true, false, List, [], ◌∷◌, ◌++◌}
-use Rattle.std.specs.Prelude.{slice_get, Some, pos}
+use Rattle.std.specs.Prelude.{slice_get, Some, pos, nat_lt, if◌then◌else◌}
 use Rattle.vm_base.specs.declared.replies.Reply.TheVariants.{NoFrame, NoMemory}
 use Rattle.vm_base.specs.Plain.{Plain}
 use Rattle.slot_lock.specs.Slots.{Slots, IsNew}
@@ -14,7 +14,7 @@ use Rattle.machine_model.specs.declared.event.Blocker.TheVariants as WaitsFor
 use Rattle.machine_model.specs.declared.event.Event.{Event}
 use Rattle.machine_model.specs.declared.event.Event.TheVariants.{Go, Review, GiveUp}
 use Rattle.machine_model.specs.declared.event.Outcome.{Outcome}
-use Rattle.machine_model.specs.declared.event.Outcome.TheVariants.{Wait}
+use Rattle.machine_model.specs.declared.event.Outcome.TheVariants.{Wait, Idle, Full}
 use Rattle.vm_base.specs.declared.log.Entry.{Entry}
 use Rattle.vm_base.specs.declared.log.Entry.TheVariants.{Answer}
 use Rattle.machine_model.specs.World.{World, Made, new_world}
@@ -22,11 +22,13 @@ use Rattle.machine_model.specs.Accesses.{NoneFree}
 use Rattle.machine_model.specs.Events.{core_of}
 use Rattle.machine_model.specs.Changes.{Awaits}
 use Rattle.machine_model.specs.Holding.{range_in, some_has, taken_in}
-use Rattle.machine_model.specs.Step.{Step, Run}
+use Rattle.machine_model.specs.Step.{Step, Run, event_limit, with_event}
 use Rattle.machine_laws.specs.Brackets.{step_of}
-use Rattle.machine_coherence.specs.Coherent.{Mirrors}
-use Rattle.machine_counting.specs.Counted.{users_of}
+use Rattle.machine_coherence.specs.Coherent.{Mirrors, IsCoherentState}
+use Rattle.machine_laws.specs.Orderly.{IsOrderly}
+use Rattle.machine_counting.specs.Counted.{users_of, IsCountedState}
 use Rattle.machine_sound.specs.Log.{LeadsTo}
+use Rattle.machine_sound.specs.Possible.{IsFull, IsIdle, OnFull, OnIdle}
 use Rattle.machine_sound.specs.Translations.{Translates, Agrees, IsNamed}
 
 -- ---- a state
@@ -92,11 +94,25 @@ IsBlocked w event (Wait (WaitsFor.Slot by)) =
 IsBlocked w event (Wait (WaitsFor.Acks set)) = (c : ℕ) × (event ≡ Go c) × Awaits w.hardware c set
 IsBlocked w event _ = Unit {0}
 
+-- the event is counted, where one more can be
+abbrev pub counted : World → World
+counted w = if nat_lt w.calls.events event_limit then with_event w else w
+
+-- what waits, isn't possible or is past a limit changes nothing but the count of events
+abbrev pub Stays : World → Outcome → World → Type 0
+Stays w (Wait blocker) v = v ≡ counted w
+Stays w Idle v = v ≡ counted w
+Stays w Full v = v ≡ counted w
+Stays w _ v = Unit {0}
+
 -- what is said of a step
 pub record IsSoundStep (w : World) (event : Event) (outcome : Outcome) (v : World) : Type 0 where
   pub notes : Notes w event v
   pub frees : FreesOnly w event v
   pub blocked : IsBlocked w event outcome
+  pub idle : OnIdle outcome (IsIdle w event)
+  pub full : OnFull outcome (IsFull w event)
+  pub stays : Stays w outcome v
 
 -- ---- states that are reached
 
@@ -115,6 +131,16 @@ pub record IsReached (w : World) : Type 0 where
 -- each such state is sound
 abbrev pub AllReachedAreSound : Type 0
 AllReachedAreSound = (w : World) → IsReached w → IsSoundState w
+
+-- In each such state a call owns just the pages that its phase says, tables and TLBs keep up with
+-- the slots, and each frame counts its pages: nothing is left in the counts of one that is taken.
+pub record KeepsUp (w : World) : Type 0 where
+  pub order : IsOrderly w
+  pub coherent : IsCoherentState w
+  pub counted : IsCountedState w
+
+abbrev pub AllReachedKeepUp : Type 0
+AllReachedKeepUp = (w : World) → IsReached w → KeepsUp w
 
 -- and so is each step from there
 abbrev pub AllStepsAreSound : Type 0

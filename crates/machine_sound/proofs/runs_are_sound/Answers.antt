@@ -1,4 +1,4 @@
-use Rattle.machine_sound.proofs.Kept.{reached_sound, steps_sound, runs_sound}
+use Rattle.machine_sound.proofs.Kept.{reached_fine, reached_sound, steps_sound, runs_sound}
 use Rattle.machine_sound.proofs.OneMap.{log_leads_to_one}
 use Rattle.machine_sound.proofs.runs_are_sound.Goals as goal
 
@@ -13,3 +13,6 @@ returns-clause-sound c = runs_sound
 
 pub returns-clause-one : goal.returns-clause-one
 returns-clause-one c = log_leads_to_one
+
+pub returns-clause-keep : goal.returns-clause-keep
+returns-clause-keep c = λ w h. let f = reached_fine w h in record { order = f.order; coherent = f.coherent; counted = f.counted }
