@@ -53,7 +53,7 @@ all_one : (n m : ℕ) → n < m → All (λ t. t < m) (n ∷ [])
 all_one n m lt zero d h = lt
 all_one n m lt (suc k) d h = absurd (omega arith)
 
-Rises-push : (xs : List ℕ) (n : ℕ) → Rises xs → All (λ t. t < n) xs → Rises (xs ++ n ∷ [])
+pub Rises-push : (xs : List ℕ) (n : ℕ) → Rises xs → All (λ t. t < n) xs → Rises (xs ++ n ∷ [])
 Rises-push [] n r h = tt
 Rises-push (x ∷ []) n r h = (h 0 0 (omega arith), tt)
 Rises-push (x ∷ y ∷ ys) n r h = (r.0, Rises-push (y ∷ ys) n r.1 (λ k d lt. h (suc k) d (omega arith)))

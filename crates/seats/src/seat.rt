@@ -1,0 +1,165 @@
+//! A seat: a core's right to draw tickets, with what was noted under each.
+ghost use Rattle.std.specs.Prelude.{◌≡◌, ◌+◌, ◌-◌, ◌^◌, ◌<◌, ◌≤◌, ◌↔◌, [], map, length, All, IsTrue};
+ghost use Rattle.std.specs.Arc.{arc_value};
+ghost use Rattle.tickets.specs.Tickets.{Rises};
+ghost use Rattle.machine_model.specs.declared.event.Event.TheVariants.{Call, Go};
+ghost use Rattle.machine_model.specs.declared.event.Outcome.TheVariants.{Stepped};
+ghost use Rattle.seats.specs.Notes.{noted, ticket_of, with_note};
+
+use crate::noted::Noted;
+use live_levels::level::Stepper;
+use machine_model::{Event, Outcome};
+use std::alloc::Allocator;
+use std::marker::Model;
+use std::sync::Arc;
+use tickets::{Ticketer, Tickets};
+use vm_base::{CoreId, Request};
+
+/// How many steps a seat may note.
+const LIMIT: usize = 1 << 32;
+
+/// A core's right to draw tickets, with the steps that were noted under each. The tickets of its
+/// notes are just those that it drew, and rise from note to note.
+#[derive(Drop)]
+pub struct Seat<A: Allocator> {
+    core: CoreId,
+    tickets: Arc<Tickets<A>, A>,
+    ticketer: Ticketer,
+    notes: Vec<Noted, A>,
+    begun: u64,
+    plain: Event,
+}
+
+impl<A: Allocator> Model for Seat<A> {
+    ghost use Rattle.std.specs.Prelude.{◌≡◌, ◌-◌, ◌^◌, ◌≤◌, map, min, vec_len, vec_capacity};
+    ghost use Rattle.std.specs.Arc.{arc_value};
+    ghost use Rattle.tickets.specs.Tickets.{Rises};
+    ghost use Rattle.seats.specs.Notes.{SeatView, ticket_of};
+
+    ghost Value = { SeatView };
+
+    ghost view = { λ s. record {
+      word = s.ticketer.word;
+      tickets = s.ticketer.tickets;
+      core = s.core;
+      notes = s.notes.items;
+      room = min (vec_capacity s.notes - vec_len s.notes) (2 ^ 32 - vec_len s.notes);
+      begun = s.begun;
+      plain = s.plain;
+    } };
+
+    ghost invariant = { λ s. (arc_value s.tickets ≡ s.ticketer.word)
+        × (s.ticketer.tickets ≡ map ticket_of s.notes.items)
+        × Rises (map ticket_of s.notes.items) × (s.begun ≤ vec_len s.notes) };
+}
+
+impl<A: Allocator> Seat<A> {
+    /// A seat of the core that has noted nothing, whose plain steps are those of the core's call.
+    pub fn new(alloc: A, core: CoreId, tickets: Arc<Tickets<A>, A>, ticketer: Ticketer) -> Seat<A>
+        requires word { arc_value tickets ≡ ticketer.word }
+        requires new { ticketer.tickets ≡ [] }
+        ensures word { (result.word ≡ ticketer.word) × (result.core ≡ core) }
+        ensures nothing { (result.notes ≡ []) × (result.tickets ≡ []) × (result.begun ≡ 0) }
+        ensures plain { result.plain ≡ Go core }
+    {
+        Seat {
+            core,
+            tickets,
+            ticketer,
+            notes: Vec::new(alloc),
+            begun: 0,
+            plain: Event::Go(core),
+        }
+    }
+
+    /// The seat's core.
+    pub fn core(&self) -> CoreId
+        ensures { result ≡ self.now.core }
+    {
+        self.core
+    }
+
+    /// How many calls were begun.
+    pub fn begun(&self) -> u64
+        ensures begun { result ≡ self.now.begun }
+        ensures noted { result ≤ length self.now.notes }
+    {
+        self.begun
+    }
+
+    /// The notes so far. Their tickets are those that the seat drew, and rise.
+    pub fn noted(&self) -> &[Noted]
+        ensures notes { result.now ≡ self.now.notes }
+        ensures tickets { map ticket_of result.now ≡ self.now.tickets }
+        ensures rising { Rises self.now.tickets }
+    {
+        self.notes.as_slice()
+    }
+
+    /// Tells whether so many more notes stay within the limit of 2^32.
+    pub fn is_within_limit(&self, count: usize) -> bool
+        ensures { IsTrue result ↔ length self.now.notes + count ≤ 2 ^ 32 }
+    {
+        let len = self.notes.len();
+        len <= LIMIT && count <= LIMIT - len
+    }
+
+    /// Makes room for so many more notes, and tells whether it could: not where they would pass the
+    /// limit, or there is no memory.
+    pub fn reserve(&mut self, count: usize) -> bool
+        ensures room { IsTrue result → count ≤ self.new.room }
+        ensures same { self.new ≡ record self.old { room = self.new.room } }
+        ensures kept { self.old.room ≤ self.new.room }
+        ensures small { self.new.room ≤ 2 ^ 32 }
+    {
+        self.is_within_limit(count) && self.notes.reserve(count).is_ok()
+    }
+
+    /// Draws a ticket, and notes the event and its outcome under it, in room that was made before;
+    /// answers the ticket, which is above all that the seat drew before. Whoever calls it holds the
+    /// locks of all that the step touches.
+    pub fn note(&mut self, event: Event, outcome: Outcome) -> u64
+        requires { 0 < self.old.room }
+        ensures noted { self.new ≡ with_note self.old (noted result event outcome) }
+        ensures later { All (λ t. t < result) self.old.tickets }
+        ensures small { result < 2 ^ 39 }
+    {
+        let ticket = self.tickets.draw(&mut self.ticketer);
+        self.notes.push_reserved(Noted {
+            ticket,
+            event,
+            outcome,
+        });
+        ticket
+    }
+
+    /// Notes that the core begins a call, in room that was made before; answers the ticket.
+    pub fn begin(&mut self, request: Request) -> u64
+        requires { 0 < self.old.room }
+        ensures { self.new ≡ record (with_note self.old
+            (noted result (Call self.old.core request) Stepped)) { begun = self.old.begun + 1 } }
+    {
+        let ticket = self.note(Event::Call(self.core, request), Outcome::Stepped);
+        self.begun += 1;
+        ticket
+    }
+
+    /// Chooses which event a plain step notes.
+    pub fn set_plain(&mut self, event: Event)
+        ensures { self.new ≡ record self.old { plain = event } }
+    {
+        self.plain = event;
+    }
+}
+
+impl<A: Allocator> Stepper for Seat<A> {
+    ghost use Rattle.seats.specs.Notes.{CanNote, Steps};
+
+    ghost can_step = { CanNote };
+
+    ghost stepped = { Steps };
+
+    fn step(&mut self) -> u64 {
+        self.note(self.plain, Outcome::Stepped)
+    }
+}
