@@ -1,6 +1,6 @@
 //! Tests of the parts of a machine and of its text, a module for each crate that is tested: `history`,
-//! `frames`, `refcache`, `backing`, `shootdown`, `mmu`, `tickets`, `trace_io` (`io_tests`) and
-//! `trace_text` (`text_tests`).
+//! `frames`, `refcache`, `backing`, `shootdown`, `mmu`, `tickets`, `seats`, `trace_io`
+//! (`io_tests`) and `trace_text` (`text_tests`).
 #![tactic(auto)]
 
 #[cfg(test)]
@@ -17,6 +17,8 @@ mod mmu_tests;
 mod refcache_tests;
 #[cfg(test)]
 mod refcache_trial;
+#[cfg(test)]
+mod seats_tests;
 #[cfg(test)]
 mod shootdown_tests;
 #[cfg(test)]
