@@ -10,7 +10,7 @@ use lib.ListN.{get_elem?}
 use Rattle.atomic_table.specs.Table.{Me, step, keeps, Allows, Splits}
 use Rattle.atomic_table.proofs.Lists.{at_set, at_snoc}
 use Rattle.tickets.specs.declared.word.Drawn.{Drawn}
-use Rattle.tickets.specs.Tickets.{times, once_below, Rises, drawn, Dealt, Draws}
+use Rattle.tickets.specs.Tickets.{middle, times, once_below, Rises, drawn, Dealt, Draws}
 
 -- a total after a change of one item
 pub sum_at : {A : Type 0} (f : A → ℕ) (l : List A) (i : ℕ) (v w : A) → get_elem? l i ≡ some v → sum_by f (set l i w) + f v ≡ sum_by f l + f w
@@ -58,23 +58,23 @@ Rises-push [] n r h = tt
 Rises-push (x ∷ []) n r h = (h 0 0 (omega arith), tt)
 Rises-push (x ∷ y ∷ ys) n r h = (r.0, Rises-push (y ∷ ys) n r.1 (λ k d lt. h (suc k) d (omega arith)))
 
-pub draws : (slots id : ℕ) (me : Me (Unit {0}) Drawn) → length me.0.tickets < 2 ^ 32 → Allows Dealt slots id me 0 (λ n. (n + 1) % 2 ^ 64)
-    (Draws (step slots 0 1 0 none) me)
+pub draws : (slots id : ℕ) (me : Me (Unit {0}) Drawn) → length me.0.tickets < 2 ^ 32 → Allows Dealt slots id me middle (λ n. (n + 1) % 2 ^ 64)
+    (Draws (step slots middle 1 0 none) me)
 draws slots id me room s h _ at small =
-    let n : ℕ = slice_index s.words 0 in
+    let n : ℕ = slice_index s.words middle in
     let v : Drawn = me.0 in
     let w : Drawn = drawn (v.tickets ++ n ∷ []) v.spare in
     let bound : n ≤ 274877906944 = (let f = few s.views h.short in let c = h.counted in let t = h.seats in omega arith) in
     let m : ℕ = (n + 1) % 2 ^ 64 in
     let next : m ≡ n + 1 = omega arith in
-    let one = h.one_word in
-    let word : slice_index (set s.words 0 m) 0 ≡ n + 1 = get_or-set_same s.words 0 m 0 (omega arith) ∙ next in
+    let row = h.row in
+    let word : slice_index (set s.words middle m) middle ≡ n + 1 = get_or-set_same s.words middle m 0 (omega (arith, row)) ∙ next in
     let len : length w.tickets ≡ length v.tickets + 1 = length-append v.tickets (n ∷ []) in (
       w,
       keeps,
       tt,
       record {
-        one_word = length-set s.words 0 m ∙ one;
+        row = length-set s.words middle m ∙ row;
         each_once = λ x.
             (let c = h.each_once x in
             let p = sum_by_push (λ (y : ℕ). cond (y == x) 1 0) v.tickets n in
@@ -107,7 +107,7 @@ splits id v some_spare s h at =
     let right : Drawn = drawn [] 0 in
     let vs : List Drawn = set s.views id left in
     record {
-      one_word = h.one_word;
+      row = h.row;
       each_once = λ x.
           (let c = h.each_once x in
           let p = sum_by_push (λ (u : Drawn). times x u.tickets) vs right in
@@ -118,9 +118,9 @@ splits id v some_spare s h at =
           let p = sum_by_push (λ (u : Drawn). length u.tickets) vs right in
           let q = sum_at (λ (u : Drawn). length u.tickets) s.views id v left at in
           omega arith);
-      below = λ k u e. ⊎_elim (each_set (λ (u : Drawn). All (λ t. t < slice_index s.words 0) u.tickets) s.views id left h.below (h.below id v at) k u)
-          (λ (t : right ≡ u). subst (λ (u : Drawn). All (λ t. t < slice_index s.words 0) u.tickets) t
-          (All-nil (λ t. t < slice_index s.words 0))) (at_snoc vs right u k e);
+      below = λ k u e. ⊎_elim (each_set (λ (u : Drawn). All (λ t. t < slice_index s.words middle) u.tickets) s.views id left h.below (h.below id v at) k u)
+          (λ (t : right ≡ u). subst (λ (u : Drawn). All (λ t. t < slice_index s.words middle) u.tickets) t
+          (All-nil (λ t. t < slice_index s.words middle))) (at_snoc vs right u k e);
       rising = λ k u e. ⊎_elim (each_set (λ (u : Drawn). Rises u.tickets) s.views id left h.rising (h.rising id v at) k u)
           (λ (t : right ≡ u). subst (λ (u : Drawn). Rises u.tickets) t tt) (at_snoc vs right u k e);
       seats =

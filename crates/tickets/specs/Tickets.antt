@@ -22,21 +22,28 @@ Rises [] = Unit {0}
 Rises (x ∷ []) = Unit {0}
 Rises (x ∷ y ∷ ys) = (x < y) × Rises (y ∷ ys)
 
+-- the word has 64 bytes on each side that nobody uses, so that nothing else lies in its cache line
+abbrev pub middle : ℕ
+middle = 8
+
+abbrev pub row_length : ℕ
+row_length = 17
+
 abbrev pub drawn : List ℕ → ℕ → Drawn
 drawn ts n = record { tickets = ts; spare = n }
 
 -- what is true of the word and of what all ticketers drew, between any two steps
 pub record Dealt (s : State (Unit {0}) Drawn) : Type 0 where
-  -- there is one word
-  pub one_word : length s.words ≡ 1
+  -- the word stands in the middle of its row
+  pub row : length s.words ≡ row_length
   -- each number below the word is a ticket of exactly one ticketer, once, and none has any other
   -- ticket
   pub each_once : (x : ℕ)
-      → sum_by (λ v. times x v.tickets) s.views ≡ once_below x (slice_index s.words 0)
-  pub counted : sum_by (λ v. length v.tickets) s.views ≡ slice_index s.words 0
+      → sum_by (λ v. times x v.tickets) s.views ≡ once_below x (slice_index s.words middle)
+  pub counted : sum_by (λ v. length v.tickets) s.views ≡ slice_index s.words middle
   -- none has a ticket at or above the word
   pub below : (seat : ℕ) (v : Drawn) → get_elem? s.views seat ≡ some v
-      → All (λ t. t < slice_index s.words 0) v.tickets
+      → All (λ t. t < slice_index s.words middle) v.tickets
   -- each drew its tickets in rising order
   pub rising : (seat : ℕ) (v : Drawn) → get_elem? s.views seat ≡ some v → Rises v.tickets
   -- the ticketers and all that they may still split off are at most 64
@@ -67,6 +74,6 @@ IsNew word spare t = (t.word ≡ word) × (t.tickets ≡ []) × (t.spare ≡ spa
 pub record Closed (n : ℕ) (t : TicketerView) : Type 0 where
   pub state : State (Unit {0}) Drawn
   pub dealt : Dealt state
-  pub word : slice_index state.words 0 ≡ n
+  pub word : slice_index state.words middle ≡ n
   pub place : ℕ
   pub view : get_elem? state.views place ≡ some (drawn t.tickets t.spare)

@@ -7,6 +7,13 @@ use std::alloc::{AllocError, Allocator};
 use std::collections::LinkedList;
 use std::marker::Model;
 
+/// The word's place in a row of words. With 64 bytes on each side that nobody uses nothing else lies in
+/// its cache line.
+const MIDDLE: usize = 8;
+
+/// How many words the row has.
+const ROW: usize = 17;
+
 /// What a ticketer knows: the tickets that it drew, in order, and how many others it may still
 /// split off. No value of it is made.
 pub struct Drawn {
@@ -70,8 +77,8 @@ impl Model for Ticketer {
     ghost invariant = { λ t. t.seat.me.1 ≡ [] };
 }
 
-/// The word from which all tickets of a space are drawn. It is no lock: a draw is one atomic
-/// addition. A clause sees which word it is, and no number, since other threads draw at any time.
+/// The word from which all tickets of a space are drawn, in a cache line of its own. It is no lock: a
+/// draw is one atomic addition. A clause sees which word it is, and no number, since other threads draw at any time.
 #[derive(Drop)]
 pub struct Tickets<A: Allocator> {
     table: Table<(), Drawn, (), Once, A>,
@@ -80,6 +87,7 @@ pub struct Tickets<A: Allocator> {
 impl<A: Allocator> Model for Tickets<A> {
     ghost use Rattle.std.specs.Prelude.{◌≡◌};
     ghost use Rattle.atomic_table.specs.Seated.{TableId, table_id_coded};
+    ghost use Rattle.tickets.specs.Tickets.{row_length};
 
     ghost Value = { TableId };
 
@@ -87,7 +95,7 @@ impl<A: Allocator> Model for Tickets<A> {
 
     ghost view = { λ t. t.table.shared.table_id };
 
-    ghost invariant = { λ t. (t.table.shared.table_id.words ≡ 1)
+    ghost invariant = { λ t. (t.table.shared.table_id.words ≡ row_length)
         × (t.table.shared.table_id.slots ≡ 0) };
 }
 
@@ -96,7 +104,7 @@ impl<A: Allocator> Tickets<A> {
     pub fn new(alloc: A) -> Result<(Tickets<A>, Ticketer), AllocError>
         ensures { IfOk result (λ t. IsNew t.0 63 t.1) }
     {
-        let (table, seat) = Table::of_words(alloc, &[0], &())?;
+        let (table, seat) = Table::of_words(alloc, &[0; ROW], &())?;
         Ok((Tickets { table }, Ticketer { seat }))
     }
 
@@ -113,7 +121,7 @@ impl<A: Allocator> Tickets<A> {
     {
         self.table
             .shared
-            .fetch_add::<Draw>(&mut ticketer.seat, 0, 1)
+            .fetch_add::<Draw>(&mut ticketer.seat, MIDDLE, 1)
     }
 
     /// Splits off a ticketer that has drawn nothing yet, and may split off none.
@@ -135,7 +143,7 @@ impl<A: Allocator> Tickets<A> {
     {
         let Tickets { table } = self;
         let closed = table.close_with(ticketer.seat);
-        let drawn = closed.word(0);
+        let drawn = closed.word(MIDDLE);
         closed.free();
         drawn
     }
