@@ -1,6 +1,8 @@
 //! The words of the command line, and what each does.
-ghost use Rattle.std.specs.Prelude.{◌≡◌, ◌≤◌};
-ghost use Rattle.radixvm.specs.Status.{words_status};
+ghost use Rattle.std.specs.Prelude.{◌≡◌, ◌≤◌, IfOk, IfSome, Result};
+ghost use Rattle.radixvm.specs.Status.{status_of, words_status};
+ghost use Rattle.trace.specs.Ends.{Ends, TellsFaults};
+ghost use Rattle.trace.specs.declared.fault.TraceFault.{TraceFault};
 
 use crate::help;
 use crate::job::run;
@@ -83,22 +85,10 @@ pub fn refuse_words<E: Write>(fault: WordsFault, errors: &mut E) -> u8
     }
 }
 
-/// Does what the words say, the program's name first, and answers the status: 0; 2 for a
-/// fault of the words or of the text; 3 where reading, writing or memory failed. A fault
-/// is printed on `errors` as `radixvm: ` and its text.
-pub fn command<A: Allocator, S: Source, W: Sink, E: Write>(
-    alloc: Global,
-    words: &[String<A>],
-    reader: &mut S,
-    out: &mut W,
-    errors: &mut E,
-) -> u8
+// Tells why the words can't be acted on, or what they ask to be told, and answers the status.
+fn tell<W: Sink, E: Write>(alloc: Global, error: &Error, out: &mut W, errors: &mut E) -> u8
     ensures { result ≤ 3 }
 {
-    let error = match parse(alloc, words) {
-        Ok(shown) => return run(alloc, reader, out, errors, shown),
-        Err(error) => error,
-    };
     let Ok(text) = format!(in alloc; "{error}") else {
         return refuse_words(WordsFault::NoMemory, errors);
     };
@@ -113,6 +103,43 @@ pub fn command<A: Allocator, S: Source, W: Sink, E: Write>(
             2
         }
     }
+}
+
+// Does what the parsed words ask for: where they ask for a replay, that replay, with its status.
+fn act<S: Source, W: Sink, E: Write>(
+    alloc: Global,
+    parsed: Result<Show, Error>,
+    reader: &mut S,
+    out: &mut W,
+    errors: &mut E,
+) -> u8
+    ensures ran { IfOk parsed (λ shown. (r : Result Unit TraceFault) × (result ≡ status_of r)
+        × IfSome (S.remaining reader.old) (λ input. Ends shown input (S.remaining reader.new)
+        (W.contents out.old) (W.contents out.new) r)
+        × TellsFaults r (S.failed reader.new) (S.reads reader.new)
+        (W.failed out.old) (W.failed out.new) (W.is_flushed out.new)) }
+    ensures within { result ≤ 3 }
+{
+    match parsed {
+        Ok(shown) => run(alloc, reader, out, errors, shown),
+        Err(error) => tell(alloc, &error, out, errors),
+    }
+}
+
+/// Does what the words say, the program's name first, and answers the status: 0; 2 for a
+/// fault of the words or of the text; 3 where reading, writing or memory failed. A fault
+/// is printed on `errors` as `radixvm: ` and its text.
+pub fn command<A: Allocator, S: Source, W: Sink, E: Write>(
+    alloc: Global,
+    words: &[String<A>],
+    reader: &mut S,
+    out: &mut W,
+    errors: &mut E,
+) -> u8
+    ensures { result ≤ 3 }
+{
+    let parsed = parse(alloc, words);
+    act(alloc, parsed, reader, out, errors)
 }
 
 /// Reads the program's words, and does what they say, as `command`.
