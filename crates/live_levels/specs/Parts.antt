@@ -25,12 +25,12 @@ abbrev pub IsPlaced : ℕ → ℕ → SlotView → Type 0
 IsPlaced first count s = (s.first ≡ first) × (s.count ≡ count)
 
 -- The slot has so many pages from the divided slot's page `by` on. Its first page has what it had,
--- by a history of one change, and its owner is the one that was chosen
-pub record IsPart (d : Divided) (ticket pages by : ℕ) (s : SlotView) : Type 0 where
+-- by a history of one change under the division's ticket, and its owner is the one that was chosen
+pub record IsPart (d : Divided) (pages by : ℕ) (s : SlotView) : Type 0 where
   pub place : IsPlaced (d.first + by) pages s
   pub owner : s.owner ≡ d.owner
   pub content : s.content ≡ info_from d.content by
-  pub changes : s.changes ≡ dated ticket (carried_act d.content by) ∷ []
+  pub changes : s.changes ≡ dated d.ticket (carried_act d.content by) ∷ []
 
 -- unmapped, with no history, and no core is to lock it first
 pub record IsUnused (s : SlotView) : Type 0 where
@@ -48,12 +48,13 @@ pub record AreUnused (first pages : ℕ) (slots : List SlotView) : Type 0 where
   pub places : AreSideBySide first pages slots
   pub each : (k : ℕ) (d : SlotView) → k < 512 → IsUnused (get_or slots k d)
 
--- the slot, as it is divided for an owner
-abbrev pub divided_for : SlotView → Option ℕ → Divided
-divided_for s owner = record { first = s.first; content = s.content; owner = owner }
+-- what was divided is the slot, and its parts are this owner's to lock first
+pub record Divides (s : SlotView) (chosen : Option ℕ) (d : Divided) : Type 0 where
+  pub first : d.first ≡ s.first
+  pub content : d.content ≡ s.content
+  pub owner : d.owner ≡ chosen
 
 -- the slots are the 512 parts of the divided slot, in order
-pub record AreParts (d : Divided) (ticket pages : ℕ) (slots : List SlotView) : Type 0 where
+pub record AreParts (d : Divided) (pages : ℕ) (slots : List SlotView) : Type 0 where
   pub count : length slots ≡ 512
-  pub each : (k : ℕ) (other : SlotView) → k < 512
-      → IsPart d ticket pages (k * pages) (get_or slots k other)
+  pub each : (k : ℕ) (other : SlotView) → k < 512 → IsPart d pages (k * pages) (get_or slots k other)

@@ -1,8 +1,9 @@
 //! One change of what a slot's pages have.
-ghost use Rattle.std.specs.Prelude.{◌≡◌};
+ghost use Rattle.std.specs.Prelude.{◌≡◌, ◌↔◌, ◌≤◌, ◌^◌, IsTrue};
 ghost use Rattle.live_levels.specs.Replay.{after};
+ghost use Rattle.live_levels.specs.Slots.{Suits};
 
-use vm_base::{CoreId, CoreSet, Meta, PageInfo, Prot};
+use vm_base::{Back, CoreId, CoreSet, Meta, PageInfo, Prot};
 
 /// What a step does to a slot's pages. A slot that is unmapped stays so but for `Put`.
 #[derive(Clone, Copy, Debug, PartialEq, Eq)]
@@ -61,5 +62,21 @@ pub fn after(info: Option<PageInfo>, act: &Act) -> Option<PageInfo>
             cores: info.cores.with(*core),
             ..info
         }),
+    }
+}
+
+/// Tells whether the act can be done to a slot of so many pages.
+pub fn suits(act: &Act, count: u64) -> bool
+    ensures { IsTrue result ↔ Suits act.now count }
+{
+    match act {
+        Act::Put(meta) => match meta.back {
+            Back::Anon => count <= 1 << 36,
+            Back::Shared { page, .. } | Back::Private { page, .. } => {
+                count <= 1 << 36 && page <= (1 << 36) - count
+            }
+        },
+        Act::Clear | Act::Protect(_) => true,
+        Act::Frame(_) | Act::Copy(_) | Act::Record(_) => count == 1,
     }
 }

@@ -1,26 +1,21 @@
 //! A level above others.
-ghost use Rattle.std.specs.Prelude.{◌≡◌, ℕ, ◌+◌, ◌-◌, ◌<◌, ◌≤◌, ◌^◌, IfSome};
+ghost use Rattle.std.specs.Prelude.{◌≡◌, ℕ, ◌+◌, ◌-◌, ◌<◌, ◌≤◌, ◌^◌, IfSome, Some};
 ghost use Rattle.std.specs.Sync.Mutex.{mutex_guard_value};
 ghost use Rattle.live_levels.specs.Nexts.{Answers, Cuts, Folds};
 ghost use Rattle.live_levels.specs.Slots.{HasPage};
 ghost use Rattle.live_levels.specs.Histories.{Grew};
 
-use crate::close::{SlotHistory, gather_slot};
-use crate::fold::{begin_joint, join_next, replace};
+use crate::ask::{Asked, ask, with_page};
+use crate::close::SlotHistory;
+use crate::fold::{begin_joint, join_next};
 use crate::joint::Joint;
-use crate::level::{Fit, Level, Next, Stepper, divide, has_page, index_of, other_owner, put};
+use crate::level::{Fit, Level, Next, Stepper, index_of, put};
 use crate::parts::SLOTS;
+use crate::place::{Place, Reached, Unshared};
 use crate::slot::SlotState;
 use std::alloc::Allocator;
-use std::sync::{Mutex, MutexGuard, OnceLock, Wait};
-use vm_base::{CoreId, NoMemory};
-
-/// A slot, and the level in its place once it is divided. From then on nobody looks at the slot itself.
-#[derive(Drop)]
-struct Place<C, A: Allocator> {
-    slot: Mutex<SlotState<A>>,
-    below: OnceLock<Box<C, A>>,
-}
+use std::sync::{MutexGuard, Wait};
+use vm_base::{CoreId, NoMemory, PageRange};
 
 /// 512 slots of several pages, each under its lock or divided. A lookup takes no lock above the
 /// slot that it finds.
@@ -45,11 +40,7 @@ impl<C: Level<A>, A: Allocator + Clone> Level<A> for Inner<C, A> {
 
     fn fill(&mut self, slots: &mut Vec<SlotState<A>, A>) {
         'slots: for slot in slots.drain(..) {
-            let place = Place {
-                slot: Mutex::new(slot),
-                below: OnceLock::new(),
-            };
-            put(&mut self.places, place);
+            put(&mut self.places, Place::new(slot));
         }
     }
 
@@ -68,26 +59,20 @@ impl<C: Level<A>, A: Allocator + Clone> Level<A> for Inner<C, A> {
         let Some(place) = self.places.get(index) else {
             return Next::Lost;
         };
-        if let Some(below) = place.below.get() {
-            return below.lock_next(rt, alloc, stepper, core, cursor, end);
-        }
-        let guard = place.slot.lock(rt);
-        if let Some(below) = place.below.get() {
-            drop(guard);
-            return below.lock_next(rt, alloc, stepper, core, cursor, end);
-        }
-        if let Some(other) = other_owner(&guard, core) {
-            return Next::Owned(other);
-        }
-        let first = guard.first();
-        if cursor < first || cursor - first >= guard.count() {
-            return Next::Lost;
-        }
-        if first == cursor && guard.count() <= end - cursor {
-            return Next::Whole(guard);
-        }
-        match divide(alloc, stepper, &guard, &place.below, guard.owner()) {
-            Fit::Cut => Next::Split,
+        let guard = match place.reach(rt) {
+            Reached::Below(below) => {
+                return below.lock_next(rt, alloc, stepper, core, cursor, end);
+            }
+            Reached::Slot(guard) => guard,
+        };
+        let larger = match ask(guard, core, cursor, end) {
+            Asked::Whole(guard) => return Next::Whole(guard),
+            Asked::Owned(guard) => return Next::Owned(guard),
+            Asked::Larger(guard) => guard,
+            Asked::Lost => return Next::Lost,
+        };
+        match place.split(alloc, stepper, &larger) {
+            Fit::Cut(_) => Next::Split,
             Fit::NoMemory => Next::NoMemory,
             Fit::Lost => Next::Lost,
         }
@@ -96,18 +81,10 @@ impl<C: Level<A>, A: Allocator + Clone> Level<A> for Inner<C, A> {
     fn lock_at<'a, R: Wait>(&'a self, rt: &R, page: u64) -> Option<MutexGuard<'a, SlotState<A>>> {
         let index = index_of(self.first, self.pages, page)?;
         let place = self.places.get(index)?;
-        if let Some(below) = place.below.get() {
-            return below.lock_at(rt, page);
+        match place.reach(rt) {
+            Reached::Below(below) => below.lock_at(rt, page),
+            Reached::Slot(guard) => with_page(guard, page),
         }
-        let guard = place.slot.lock(rt);
-        if let Some(below) = place.below.get() {
-            drop(guard);
-            return below.lock_at(rt, page);
-        }
-        if !has_page(&guard, page) {
-            return None;
-        }
-        Some(guard)
     }
 
     fn cut<S: Stepper>(
@@ -123,20 +100,14 @@ impl<C: Level<A>, A: Allocator + Clone> Level<A> for Inner<C, A> {
         let Some(place) = self.places.get(index) else {
             return Fit::Lost;
         };
-        if let Some(below) = place.below.get() {
-            return below.cut(alloc, stepper, core, slot);
-        }
-        if slot.count() != self.pages {
-            return Fit::Lost;
-        }
-        divide(alloc, stepper, slot, &place.below, Some(core))
+        place.cut(alloc, stepper, core, slot, self.pages)
     }
 
     #[tactic(auto, using(crate::proofs::Chains::grew_trans))]
     fn gather(&mut self, alloc: &A, slots: &mut Vec<SlotHistory<A>, A>, next: u64) -> Option<u64> {
         let mut at = next;
         'places: for place in self.places.iter_mut() {
-            at = gather_place(alloc, place, slots, at)?;
+            at = place.gather(alloc, slots, at)?;
         }
         Some(at)
     }
@@ -145,19 +116,22 @@ impl<C: Level<A>, A: Allocator + Clone> Level<A> for Inner<C, A> {
         let Some(index) = index_of(self.first, self.pages, page) else {
             return false;
         };
-        match self.places.get_mut(index) {
-            Some(place) => place.below.get().is_some(),
-            None => false,
+        let Some(place) = self.places.get_mut(index) else {
+            return false;
+        };
+        match place.reach_mut() {
+            Unshared::Below(_) => true,
+            Unshared::Slot(_) => false,
         }
     }
 
     fn joint(&mut self) -> Option<Joint> {
         let mut joint: Option<Joint> = None;
         'places: for place in self.places.iter_mut() {
-            if place.below.get().is_some() {
-                return None;
-            }
-            let slot = place.slot.get_mut();
+            let slot = match place.reach_mut() {
+                Unshared::Below(_) => return None,
+                Unshared::Slot(slot) => slot,
+            };
             let next = match joint {
                 None => begin_joint(slot)?,
                 Some(joint) => join_next(joint, slot)?,
@@ -167,53 +141,9 @@ impl<C: Level<A>, A: Allocator + Clone> Level<A> for Inner<C, A> {
         joint
     }
 
-    fn fold<S: Stepper>(&mut self, stepper: &mut S, page: u64) -> bool {
-        let Some(index) = index_of(self.first, self.pages, page) else {
-            return false;
-        };
-        match self.places.get_mut(index) {
-            Some(place) => fold_place(place, stepper, page),
-            None => false,
-        }
-    }
-}
-
-// Makes one slot of the deepest level below a place that has the page, where its slots can be one.
-fn fold_place<C: Level<A>, A: Allocator + Clone, S: Stepper>(
-    place: &mut Place<C, A>,
-    stepper: &mut S,
-    page: u64,
-) -> bool
-    requires { S.can_step stepper.old }
-    ensures { Folds S.stepped stepper.old stepper.new result }
-{
-    let Some(below) = place.below.get_mut() else {
-        return false;
-    };
-    if below.is_divided(page) {
-        return below.fold(stepper, page);
-    }
-    let Some(joint) = below.joint() else {
-        return false;
-    };
-    let is_replaced = replace(place.slot.get_mut(), &joint, stepper);
-    if is_replaced {
-        let _ = place.below.take();
-    }
-    is_replaced
-}
-
-// Adds the histories of all slots below a place, or the place's own.
-fn gather_place<C: Level<A>, A: Allocator + Clone>(
-    alloc: &A,
-    place: &mut Place<C, A>,
-    slots: &mut Vec<SlotHistory<A>, A>,
-    next: u64,
-) -> Option<u64>
-    ensures { IfSome result (λ end. Grew next end slots.old.items slots.new.items) }
-{
-    match place.below.get_mut() {
-        Some(below) => below.gather(alloc, slots, next),
-        None => gather_slot(alloc, place.slot.get_mut(), slots, next),
+    fn fold<S: Stepper>(&mut self, stepper: &mut S, page: u64) -> Option<PageRange> {
+        let index = index_of(self.first, self.pages, page)?;
+        let place = self.places.get_mut(index)?;
+        place.fold(stepper, page)
     }
 }

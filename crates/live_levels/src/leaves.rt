@@ -1,19 +1,20 @@
 //! The last level: slots of one page.
-ghost use Rattle.std.specs.Prelude.{◌≡◌, ℕ, ◌+◌, ◌-◌, ◌<◌, ◌≤◌, ◌^◌, IfSome};
+ghost use Rattle.std.specs.Prelude.{◌≡◌, ℕ, ◌+◌, ◌-◌, ◌<◌, ◌≤◌, ◌^◌, IfSome, Some};
 ghost use Rattle.std.specs.Sync.Mutex.{mutex_guard_value};
 ghost use Rattle.live_levels.specs.Nexts.{Answers, Cuts, Folds};
 ghost use Rattle.live_levels.specs.Slots.{HasPage};
 ghost use Rattle.live_levels.specs.Histories.{Grew};
 
+use crate::ask::{Asked, ask, with_page};
 use crate::close::{SlotHistory, gather_slot};
 use crate::fold::{begin_joint, join_next};
 use crate::joint::Joint;
-use crate::level::{Fit, Level, Next, Stepper, has_page, index_of, other_owner, put};
+use crate::level::{Fit, Level, Next, Stepper, index_of, put};
 use crate::parts::SLOTS;
 use crate::slot::SlotState;
 use std::alloc::Allocator;
 use std::sync::{Mutex, MutexGuard, Wait};
-use vm_base::{CoreId, NoMemory};
+use vm_base::{CoreId, NoMemory, PageRange};
 
 /// 512 slots of one page, each under its lock.
 #[derive(Drop)]
@@ -51,24 +52,18 @@ impl<A: Allocator + Clone> Level<A> for Leaves<A> {
         let Some(slot) = self.slots.get(index) else {
             return Next::Lost;
         };
-        let guard = slot.lock(rt);
-        if let Some(other) = other_owner(&guard, core) {
-            return Next::Owned(other);
+        match ask(slot.lock(rt), core, cursor, end) {
+            Asked::Whole(guard) => Next::Whole(guard),
+            Asked::Owned(guard) => Next::Owned(guard),
+            Asked::Larger(_guard) => Next::Lost,
+            Asked::Lost => Next::Lost,
         }
-        if guard.first() != cursor || guard.count() != 1 {
-            return Next::Lost;
-        }
-        Next::Whole(guard)
     }
 
     fn lock_at<'a, R: Wait>(&'a self, rt: &R, page: u64) -> Option<MutexGuard<'a, SlotState<A>>> {
         let index = index_of(self.first, 1, page)?;
         let slot = self.slots.get(index)?;
-        let guard = slot.lock(rt);
-        if !has_page(&guard, page) {
-            return None;
-        }
-        Some(guard)
+        with_page(slot.lock(rt), page)
     }
 
     fn cut<S: Stepper>(
@@ -107,7 +102,7 @@ impl<A: Allocator + Clone> Level<A> for Leaves<A> {
         joint
     }
 
-    fn fold<S: Stepper>(&mut self, _stepper: &mut S, _page: u64) -> bool {
-        false
+    fn fold<S: Stepper>(&mut self, _stepper: &mut S, _page: u64) -> Option<PageRange> {
+        None
     }
 }

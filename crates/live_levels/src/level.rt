@@ -3,18 +3,18 @@
 ghost use Rattle.std.specs.Prelude.{◌≡◌, ◌≢◌, ℕ, ◌+◌, ◌*◌, ◌<◌, ◌≤◌, ◌^◌, [], ◌∷◌, ◌++◌, vec_len};
 ghost use Rattle.std.specs.Prelude.{vec_capacity, Some, IfSome, IfNone, IsTrue, ◌↔◌, ◌-◌};
 ghost use Rattle.std.specs.Sync.Mutex.{mutex_guard_value};
-ghost use Rattle.live_levels.specs.Parts.{AreParts, divided_for};
 ghost use Rattle.live_levels.specs.Nexts.{Answers, Cuts, IsFreeFor, Folds};
 ghost use Rattle.live_levels.specs.Slots.{HasPage};
 ghost use Rattle.live_levels.specs.Histories.{Grew};
 
 use crate::close::SlotHistory;
 use crate::joint::Joint;
-use crate::parts::{Divided, SLOTS, carry_on, side_by_side};
+use crate::parts::SLOTS;
+use crate::place::Division;
 use crate::slot::SlotState;
 use std::alloc::Allocator;
-use std::sync::{MutexGuard, OnceLock, Wait};
-use vm_base::{CoreId, NoMemory, PageInfo};
+use std::sync::{MutexGuard, Wait};
+use vm_base::{CoreId, NoMemory, PageRange};
 
 /// Who draws a ticket and notes a step under it. Whoever calls it holds the locks of all that the
 /// step touches.
@@ -39,8 +39,8 @@ pub enum Next<'a, A: Allocator> {
     Whole(MutexGuard<'a, SlotState<A>>),
     /// The slot was divided, which was noted.
     Split,
-    /// Another core is to lock the slot first.
-    Owned(CoreId),
+    /// Another core is to lock the slot first, which is locked.
+    Owned(MutexGuard<'a, SlotState<A>>),
     /// No memory was there to divide the slot.
     NoMemory,
     /// A slot was in a wrong place. It never comes; the call gives up.
@@ -48,10 +48,10 @@ pub enum Next<'a, A: Allocator> {
 }
 
 /// What a try to cut a slot came to.
-#[derive(Clone, Copy, Debug, PartialEq, Eq)]
+#[derive(Clone, Copy, Debug)]
 pub enum Fit {
-    /// The slot was divided, which was noted.
-    Cut,
+    /// The slot was divided, which was noted: threads reach its parts in its place.
+    Cut(Division),
     /// No memory was there to divide it.
     NoMemory,
     /// A slot was in a wrong place. It never comes; the call gives up.
@@ -90,7 +90,7 @@ pub trait Level<A: Allocator + Clone>: Drop {
     /// Divides a slot that the caller holds and lends. The core is to lock the new slots first.
     fn cut<S: Stepper>(&self, alloc: &A, stepper: &mut S, core: CoreId, slot: &SlotState<A>) -> Fit
         requires { S.can_step stepper.old }
-        ensures { Cuts S.stepped stepper.old stepper.new result };
+        ensures { Cuts S.stepped stepper.old stepper.new (Some core) slot.now result };
 
     /// Adds the histories of all slots, which lie side by side from the page `next` on, and answers
     /// the page after them. `None` where memory ran out, or a slot was in a wrong place.
@@ -104,10 +104,10 @@ pub trait Level<A: Allocator + Clone>: Drop {
     fn joint(&mut self) -> Option<Joint>;
 
     /// Makes one slot of the deepest level that has the page, where that isn't this one and its
-    /// slots can be one. Answers whether it did, which is noted.
-    fn fold<S: Stepper>(&mut self, stepper: &mut S, page: u64) -> bool
+    /// slots can be one, which is noted. Answers the slot's pages.
+    fn fold<S: Stepper>(&mut self, stepper: &mut S, page: u64) -> Option<PageRange>
         requires { S.can_step stepper.old }
-        ensures { Folds S.stepped stepper.old stepper.new result };
+        ensures { Folds S.stepped stepper.old stepper.new page result };
 }
 
 /// The number of the slot that has the page, in a level of slots of so many pages from the page
@@ -122,14 +122,6 @@ pub(crate) fn index_of(first: u64, pages: u64, page: u64) -> Option<usize> {
     }
 }
 
-/// Tells whether the slot has the page.
-pub(crate) fn has_page<A: Allocator>(slot: &SlotState<A>, page: u64) -> bool
-    ensures { IsTrue result ↔ HasPage slot.now page }
-{
-    let first = slot.first();
-    first <= page && page - first < slot.count()
-}
-
 /// Puts the item behind the others, where there is room. It takes no memory.
 pub(crate) fn put<T: Drop, A: Allocator>(items: &mut Vec<T, A>, item: T)
     ensures { vec_len items.old < vec_capacity items.old
@@ -140,74 +132,8 @@ pub(crate) fn put<T: Drop, A: Allocator>(items: &mut Vec<T, A>, item: T)
     }
 }
 
-/// The other core that is to lock the slot first.
-pub(crate) fn other_owner<A: Allocator>(slot: &SlotState<A>, core: CoreId) -> Option<CoreId>
-    ensures other { IfSome result (λ other. (slot.now.owner ≡ Some other) × (other ≢ core)) }
-    ensures none { IfNone result (IsFreeFor core slot.now.owner) }
-{
-    let Some(owner) = slot.owner() else {
-        return None;
-    };
-    if owner.index() == core.index() {
-        return None;
-    }
-    Some(owner)
-}
-
-/// Divides a slot whose lock is held: the level below it gets 512 slots, which carry on what its
-/// pages have, and is shown to all threads. Only what stands before the ticket is drawn takes
-/// memory.
-pub(crate) fn divide<C: Level<A>, A: Allocator + Clone, S: Stepper>(
-    alloc: &A,
-    stepper: &mut S,
-    slot: &SlotState<A>,
-    below: &OnceLock<Box<C, A>>,
-    owner: Option<CoreId>,
-) -> Fit
-    requires { S.can_step stepper.old }
-    ensures { Cuts S.stepped stepper.old stepper.new result }
-{
-    let first = slot.first();
-    let pages = slot.count() / SLOTS as u64;
-    if pages == 0 || slot.count() != pages * SLOTS as u64 {
-        return Fit::Lost;
-    }
-    let Ok(mut parts) = side_by_side(alloc, first, pages) else {
-        return Fit::NoMemory;
-    };
-    let Ok(level) = boxed::<C, A>(alloc, first, pages) else {
-        return Fit::NoMemory;
-    };
-    let divided = Divided {
-        first,
-        content: slot.content(),
-        owner,
-    };
-    let ticket = stepper.step();
-    carry_on(&mut parts, &divided, ticket, pages);
-    show(below, level, &mut parts, slot, &owner, ticket, pages);
-    Fit::Cut
-}
-
-/// Shows the level to all threads, once it has these slots: the parts of the slot that is divided,
-/// each with one change under the ticket. It takes no memory.
-fn show<C: Level<A>, A: Allocator + Clone>(
-    below: &OnceLock<Box<C, A>>,
-    mut level: Box<C, A>,
-    parts: &mut Vec<SlotState<A>, A>,
-    _slot: &SlotState<A>,
-    _owner: &Option<CoreId>,
-    _ticket: u64,
-    _pages: u64,
-)
-    requires count { _slot.now.count ≡ 512 * _pages }
-    requires parts { AreParts (divided_for _slot.now _owner.now) _ticket _pages parts.old.items }
-{
-    level.fill(parts);
-    let _ = below.try_set(level);
-}
-
-fn boxed<C: Level<A>, A: Allocator + Clone>(
+/// A level with room for 512 slots, in a box of its own.
+pub(crate) fn boxed<C: Level<A>, A: Allocator + Clone>(
     alloc: &A,
     first: u64,
     pages: u64,

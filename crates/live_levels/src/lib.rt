@@ -3,6 +3,7 @@
 #![tactic(auto)]
 
 pub mod act;
+pub mod ask;
 pub mod close;
 pub mod fold;
 pub mod inner;
@@ -10,4 +11,5 @@ pub mod joint;
 pub mod leaves;
 pub mod level;
 pub mod parts;
+pub mod place;
 pub mod slot;

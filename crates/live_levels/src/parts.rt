@@ -12,12 +12,14 @@ use vm_base::{CoreId, NoMemory, PageInfo};
 /// How many slots a level of the tree has, and into how many a slot is divided.
 pub const SLOTS: usize = 512;
 
-/// A slot that is divided: its first page and what that page has. The owner is that of its parts.
+/// A slot that is divided: its first page, and what that page has. The owner is the core that is to
+/// lock its parts first, and the ticket that of the step which divides it.
 #[derive(Clone, Copy, Debug)]
 pub struct Divided {
     pub first: u64,
     pub content: Option<PageInfo>,
     pub owner: Option<CoreId>,
+    pub ticket: u64,
 }
 
 /// 512 unmapped slots of so many pages each, side by side, with no history.
@@ -40,19 +42,14 @@ pub fn side_by_side<A: Allocator + Clone>(
 
 /// Lets each of 512 slots begin with its part of what the divided slot has, by a history of one
 /// change. It takes no memory.
-pub fn carry_on<A: Allocator>(
-    slots: &mut Vec<SlotState<A>, A>,
-    divided: &Divided,
-    ticket: u64,
-    pages: u64,
-)
+pub fn carry_on<A: Allocator>(slots: &mut Vec<SlotState<A>, A>, divided: &Divided, pages: u64)
     requires slots { AreSideBySide divided.now.first pages slots.old.items }
     requires carry { CanCarry divided.now.content pages }
-    ensures { AreParts divided.now ticket pages slots.new.items }
+    ensures { AreParts divided.now pages slots.new.items }
 {
     'slots: for k in 0..SLOTS {
         let act = carried_act(divided.content, k as u64 * pages);
-        slots[k].restart(ticket, act, divided.owner);
+        slots[k].restart(divided.ticket, act, divided.owner);
     }
 }
 

@@ -1,6 +1,6 @@
 //! What lies under a slot's lock.
 ghost use Rattle.std.specs.Prelude.{◌≡◌, ℕ, ◌+◌, ◌-◌, ◌<◌, ◌≤◌, ◌^◌, false, [], ◌∷◌, ◌++◌, None, IfOk};
-ghost use Rattle.std.specs.Prelude.{OnOk};
+ghost use Rattle.std.specs.Prelude.{OnErr, OnOk};
 ghost use Rattle.vm_base.specs.Info.{info_file_page, is_leaf};
 ghost use Rattle.live_levels.specs.Replay.{replay, dated};
 ghost use Rattle.live_levels.specs.Slots.{SlotView, IsSlot, Suits, changed};
@@ -108,10 +108,18 @@ impl<A: Allocator> SlotState<A> {
         Ok(all)
     }
 
+    /// How many changes fit without memory.
+    pub fn room(&self) -> usize
+        ensures { result ≡ self.now.room }
+    {
+        self.later.capacity() - self.later.len()
+    }
+
     /// Makes room for this many changes more. A refusal changes nothing.
     pub fn reserve(&mut self, more: usize) -> Result<(), AllocError>
         ensures ok { OnOk result (more ≤ self.new.room) }
         ensures same { self.new ≡ record self.old { room = self.new.room } }
+        ensures err { OnErr result (self.new ≡ self.old) }
     {
         self.later.reserve(more)
     }

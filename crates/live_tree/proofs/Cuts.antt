@@ -1,6 +1,6 @@
 -- Locked slots that come in the place of one
-use Rattle.std.proofs.Common.{◌≡◌, ◌⊎◌, ℕ, zero, suc, ◌+◌, ◌<◌, ◌≤◌, List, [], ◌∷◌, ◌++◌, map, length, take, drop, get_or, Option, Some}
-use Rattle.std.proofs.Common.{None, refl, sym, ap, ◌∙◌, subst, arith}
+use Rattle.std.proofs.Common.{◌≡◌, ℕ, zero, suc, ◌+◌, ◌<◌, ◌≤◌, List, [], ◌∷◌, ◌++◌, map, length, take, drop, get_or, Option, Some}
+use Rattle.std.proofs.Common.{refl, sym, ap, ◌∙◌, subst, arith}
 use Rattle.std.specs.Prelude.{All, IsSome}
 use Rattle.std.specs.List.{insert_slice, remove}
 use Rattle.std.specs.Sync.Mutex.{mutex_guard_value}
@@ -10,42 +10,42 @@ use Rattle.std.proofs.lemmas.List.{append-nil, append_assoc, drop-drop, drop-map
 use Rattle.std.proofs.lemmas.List.Elements.{All-append, All-drop, All-take}
 use Rattle.vm_base.specs.declared.page.PageRange.{PageRange}
 use Rattle.live_levels.specs.Slots.{SlotView}
-use Rattle.live_tree.specs.Cutting.{AddsSlots, CutsFirst, IsFirstCrossing}
+use Rattle.live_tree.specs.Cutting.{AddsSlots, CutsFirst, IsFirstCrossing, IsOwnedBy}
 use Rattle.live_tree.specs.Guards.{no_slot, slot_of}
-use Rattle.live_tree.specs.Held.{CrossesNoEdge, HeldView, SideBySide}
+use Rattle.live_tree.specs.Held.{CrossesNoEdge, SideBySide}
 use Rattle.live_tree.proofs.Pushed.{all_more, map_more, side_by_side_more}
 
 -- ---- one locked slot more
 
-pub adds_none : (first : ℕ) (gs : List (Option (MutexGuard SlotView))) → AddsSlots first first 0 gs gs
-adds_none first gs = record {
+pub adds_none : (core first : ℕ) (gs : List (Option (MutexGuard SlotView))) → AddsSlots core first first 0 gs gs
+adds_none core first gs = record {
   more = [];
   are = sym (append-nil gs);
   count = refl;
   some = λ k d lt. absurd (omega arith);
   chain = refl;
+  owned = λ k d lt. absurd (omega arith);
 }
 
-pub adds_more : (first next end n : ℕ) (gs hs hs' : List (Option (MutexGuard SlotView))) (g : MutexGuard SlotView)
-    → AddsSlots first next n gs hs → hs' ≡ hs ++ Some g ∷ []
-    → (mutex_guard_value g).first ≡ next → end ≡ next + (mutex_guard_value g).count → AddsSlots first end (n + 1) gs hs'
-adds_more first next end n gs hs hs' g h is at ends = record {
+all_of_one : {X : Type 0} (P : X → Type 0) (x : X) → P x → All P (x ∷ [])
+all_of_one P x h zero e l = h
+all_of_one P x h (suc k) e l = absurd (omega arith)
+
+pub adds_more : (core first next end n : ℕ) (gs hs hs' : List (Option (MutexGuard SlotView))) (g : MutexGuard SlotView)
+    → AddsSlots core first next n gs hs → hs' ≡ hs ++ Some g ∷ []
+    → (mutex_guard_value g).first ≡ next → end ≡ next + (mutex_guard_value g).count → IsOwnedBy core (mutex_guard_value g)
+    → AddsSlots core first end (n + 1) gs hs'
+adds_more core first next end n gs hs hs' g h is at ends own = record {
   more = h.more ++ Some g ∷ [];
   are = is ∙ (ap (λ l. l ++ Some g ∷ []) h.are ∙ append_assoc gs h.more (Some g ∷ []));
   count = omega (arith, length-append h.more (Some g ∷ []), h.count);
   some = all_more h.more g h.some;
   chain = rw (map_more h.more g) (side_by_side_more first next end (map slot_of h.more) (mutex_guard_value g) h.chain at ends);
+  owned = rw (map_more h.more g) (All-append (IsOwnedBy core) (map slot_of h.more) (mutex_guard_value g ∷ []) h.owned
+      (all_of_one (IsOwnedBy core) (mutex_guard_value g) own));
 }
 
 -- ---- the first slot that crosses an edge
-
-pub fits_more : (range : PageRange) (ss : List SlotView) (i : ℕ) (d : SlotView) → All (CrossesNoEdge range) (take i ss) → i < length ss
-    → CrossesNoEdge range (get_or ss i d) → All (CrossesNoEdge range) (take (i + 1) ss)
-fits_more range ss i d h lt fits = rw (take_more ss i d lt) (All-append (CrossesNoEdge range) (take i ss) (get_or ss i d ∷ []) h one)
-  where
-    one : All (CrossesNoEdge range) (get_or ss i d ∷ [])
-    one zero e l = fits
-    one (suc k) e l = absurd (omega arith)
 
 length_map : (gs : List (Option (MutexGuard SlotView))) → length (map slot_of gs) ≡ length gs
 length_map [] = refl
@@ -57,11 +57,23 @@ get_map [] at d g lt is = absurd (omega arith)
 get_map (x ∷ xs) zero d g lt is = ap slot_of (sym is)
 get_map (x ∷ xs) (suc at) d g lt is = get_map xs at d g (omega arith) is
 
-pub one_fits : (range : PageRange) (gs : List (Option (MutexGuard SlotView))) (at : ℕ) (g : Option (MutexGuard SlotView)) → at < length gs
-    → g ≡ get_or gs at g → All (CrossesNoEdge range) (take at (map slot_of gs))
-    → CrossesNoEdge range (slot_of g) → All (CrossesNoEdge range) (take (at + 1) (map slot_of gs))
-one_fits range gs at g lt is h fits =
-    fits_more range (map slot_of gs) at (slot_of g) h (omega (arith, length_map gs, lt)) (rw (get_map gs at (slot_of g) g lt is) fits)
+-- ---- a fact of the first slots, and of one more
+
+pub one_more_holds : (P : SlotView → Type 0) (gs : List (Option (MutexGuard SlotView))) (at : ℕ) (g : Option (MutexGuard SlotView)) → at < length gs
+    → g ≡ get_or gs at g → All P (take at (map slot_of gs)) → P (slot_of g) → All P (take (at + 1) (map slot_of gs))
+one_more_holds P gs at g lt is h one =
+    let ss = map slot_of gs in
+    let last : P (get_or ss at (slot_of g)) = rw (get_map gs at (slot_of g) g lt is) one in
+    rw (take_more ss at (slot_of g) (omega (arith, length_map gs, lt)))
+    (All-append P (take at ss) (get_or ss at (slot_of g) ∷ []) h (all_of_one P (get_or ss at (slot_of g)) last))
+
+pub all_hold : (P : SlotView → Type 0) (gs : List (Option (MutexGuard SlotView))) (at : ℕ) → length gs ≤ at
+    → All P (take at (map slot_of gs)) → All P (map slot_of gs)
+all_hold P gs at le h = subst (All P) (take_all at (map slot_of gs) (omega (arith, length_map gs, le))) h
+
+pub each_holds : (P : SlotView → Type 0) (gs : List (Option (MutexGuard SlotView))) (at : ℕ) (g : Option (MutexGuard SlotView)) → at < length gs
+    → g ≡ get_or gs at g → All P (map slot_of gs) → P (slot_of g)
+each_holds P gs at g lt is all = subst P (get_map gs at (slot_of g) g lt is) (all at (slot_of g) (omega (arith, length_map gs, lt)))
 
 pub first_crossing : (range : PageRange) (gs : List (Option (MutexGuard SlotView))) (at : ℕ) (g : Option (MutexGuard SlotView))
     → at < length gs → g ≡ get_or gs at g → All (CrossesNoEdge range) (take at (map slot_of gs))
@@ -72,9 +84,9 @@ first_crossing range gs at g lt is h not = record {
   crosses = λ d. rw (get_map gs at d g lt is) not;
 }
 
-pub all_fit : (range : PageRange) (gs : List (Option (MutexGuard SlotView))) (at : ℕ) → length gs ≤ at
-    → All (CrossesNoEdge range) (take at (map slot_of gs)) → All (CrossesNoEdge range) (map slot_of gs)
-all_fit range gs at le h = subst (All (CrossesNoEdge range)) (take_all at (map slot_of gs) (omega (arith, length_map gs, le))) h
+-- where a slot crosses an edge, not all fit
+pub not_all_fit : (range : PageRange) (ss : List SlotView) (at : ℕ) → IsFirstCrossing range ss at → ¬ All (CrossesNoEdge range) ss
+not_all_fit range ss at h all = h.crosses no_slot (all at no_slot h.within)
 
 -- ---- in the place of one
 
@@ -114,11 +126,12 @@ cut_at ss at lt =
     let one : suc at ≡ at + 1 = omega arith in
     split_at ss at no_slot lt ∙ ap (λ n. take at ss ++ get_or ss at no_slot ∷ drop n ss) one
 
-pub cuts_first : (range : PageRange) (first end : ℕ) (gs hs more : List (Option (MutexGuard SlotView))) (at : ℕ) (s : SlotView)
+pub cuts_first : (core : ℕ) (range : PageRange) (first end : ℕ) (gs hs more : List (Option (MutexGuard SlotView))) (at : ℕ) (s : SlotView)
     → IsFirstCrossing range (map slot_of gs) at → s ≡ get_or (map slot_of gs) at no_slot
     → hs ≡ take at gs ++ (more ++ drop (at + 1) gs) → length more ≡ 512 → SideBySide s.first (s.first + s.count) (map slot_of more)
-    → CutsFirst range (record { first = first; end = end; slots = map slot_of gs }) (record { first = first; end = end; slots = map slot_of hs })
-cuts_first range first end gs hs more at s h here is count pages = let ss = map slot_of gs in record {
+    → All (IsOwnedBy core) (map slot_of more)
+    → CutsFirst core range (record { first = first; end = end; slots = map slot_of gs }) (record { first = first; end = end; slots = map slot_of hs })
+cuts_first core range first end gs hs more at s h here is count pages owned = let ss = map slot_of gs in record {
   left = take at ss;
   slot = s;
   right = drop (at + 1) ss;
@@ -130,6 +143,7 @@ cuts_first range first end gs hs more at s h here is count pages = let ss = map 
   crosses = rw here (h.crosses no_slot);
   count = length_map more ∙ count;
   pages = pages;
+  owned = owned;
 }
 
 pub still_held : (first end : ℕ) (gs hs more : List (Option (MutexGuard SlotView))) (at : ℕ) (s : SlotView) → at < length (map slot_of gs)
@@ -150,13 +164,13 @@ still_held first end gs hs more at s lt here is pages some held =
 
 -- ---- the whole step, from what its parts tell
 
-pub cut_done : (range : PageRange) (first end : ℕ) (gs hs ks : List (Option (MutexGuard SlotView))) (at from until next n : ℕ) (slot : MutexGuard SlotView)
+pub cut_done : (core : ℕ) (range : PageRange) (first end : ℕ) (gs hs ks : List (Option (MutexGuard SlotView))) (at from until next n : ℕ) (slot : MutexGuard SlotView)
     → All IsSome gs × SideBySide first end (map slot_of gs) → IsFirstCrossing range (map slot_of gs) at → Some slot ≡ get_or gs at (Some slot)
-    → from ≡ (mutex_guard_value slot).first → until ≡ from + (mutex_guard_value slot).count → AddsSlots from next n gs hs → (n ≡ 512) × (next ≡ until)
+    → from ≡ (mutex_guard_value slot).first → until ≡ from + (mutex_guard_value slot).count → AddsSlots core from next n gs hs → (n ≡ 512) × (next ≡ until)
     → ((fs more : List (Option (MutexGuard SlotView))) → hs ≡ fs ++ more → length more ≡ 512 → ks ≡ take at fs ++ (more ++ drop (at + 1) fs))
-    → CutsFirst range (record { first = first; end = end; slots = map slot_of gs })
+    → CutsFirst core range (record { first = first; end = end; slots = map slot_of gs })
     (record { first = first; end = end; slots = map slot_of ks }) × (All IsSome ks × SideBySide first end (map slot_of ks))
-cut_done range first end gs hs ks at from until next n slot held crossing item begins ends added done placed =
+cut_done core range first end gs hs ks at from until next n slot held crossing item begins ends added done placed =
     let s = mutex_guard_value slot in
     let lt : at < length gs = omega (arith, length_map gs, crossing.within) in
     let here : s ≡ get_or (map slot_of gs) at no_slot = sym (get_map gs at no_slot (Some slot) lt item) in
@@ -166,6 +180,6 @@ cut_done range first end gs hs ks at from until next n slot held crossing item b
     let pages : SideBySide s.first (s.first + s.count) (map slot_of added.more) =
     subst (λ (k : ℕ). SideBySide k (s.first + s.count) (map slot_of added.more)) begins
     (subst (λ (k : ℕ). SideBySide from k (map slot_of added.more)) last added.chain) in (
-      cuts_first range first end gs ks added.more at s crossing here is count pages,
+      cuts_first core range first end gs ks added.more at s crossing here is count pages added.owned,
       still_held first end gs ks added.more at s crossing.within here is pages added.some held,
     )

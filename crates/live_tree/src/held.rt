@@ -19,6 +19,7 @@ pub mod reserve;
 use crate::letting::Letting;
 use crate::tree::SharedTree;
 use live_levels::act::Act;
+use live_levels::ask::other_owner;
 use live_levels::level::{Next, Stepper};
 use live_levels::slot::SlotState;
 use slot_lock::Change;
@@ -80,6 +81,13 @@ impl<'a, A: Allocator + Clone> Held<'a, A> {
         }
     }
 
+    /// The first held page, or the one at which the first slot is to begin.
+    pub fn first(&self) -> u64
+        ensures { result ≡ self.now.first }
+    {
+        self.first
+    }
+
     /// The page after the last held one, at which the next slot is to begin.
     pub fn end(&self) -> u64
         ensures { result ≡ self.now.end }
@@ -132,7 +140,12 @@ impl<'a, A: Allocator + Clone> Held<'a, A> {
         let mut guard = match tree.lock_next(rt, stepper, core, self.end, end) {
             Next::Whole(guard) => guard,
             Next::Split => return Got::Split,
-            Next::Owned(other) => return Got::Owned(other),
+            Next::Owned(guard) => {
+                return match other_owner(&guard, core) {
+                    Some(other) => Got::Owned(other),
+                    None => Got::Lost,
+                };
+            }
             Next::NoMemory => return Got::NoMemory,
             Next::Lost => return Got::Lost,
         };

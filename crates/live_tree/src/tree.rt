@@ -1,5 +1,5 @@
 //! The shared tree: four levels of slots.
-ghost use Rattle.std.specs.Prelude.{◌≡◌, ℕ, ◌<◌, ◌^◌, IfOk, IfSome};
+ghost use Rattle.std.specs.Prelude.{◌≡◌, ℕ, ◌+◌, ◌<◌, ◌≤◌, ◌^◌, IfOk, IfSome, Some};
 ghost use Rattle.std.specs.Sync.Mutex.{mutex_guard_value};
 ghost use Rattle.live_levels.specs.Nexts.{Answers, Cuts, Folds};
 ghost use Rattle.live_levels.specs.Parts.{AreUnused};
@@ -15,7 +15,7 @@ use live_levels::parts::side_by_side;
 use live_levels::slot::SlotState;
 use std::alloc::Allocator;
 use std::sync::{MutexGuard, Wait};
-use vm_base::{CoreId, NoMemory};
+use vm_base::{CoreId, NoMemory, PageRange};
 
 /// The first level: a slot has 2^27 pages, a slot of the levels below 2^18, 2^9 and 1.
 type Root<A> = Inner<Inner<Inner<Leaves<A>, A>, A>, A>;
@@ -106,7 +106,7 @@ impl<A: Allocator + Clone> SharedTree<A> {
     /// then on. Want of memory changes nothing.
     pub fn cut<S: Stepper>(&self, stepper: &mut S, core: CoreId, slot: &SlotState<A>) -> Fit
         requires { S.can_step stepper.old }
-        ensures { Cuts S.stepped stepper.old stepper.new result }
+        ensures { Cuts S.stepped stepper.old stepper.new (Some core) slot.now result }
     {
         self.root.cut(&self.alloc, stepper, core, slot)
     }
@@ -114,13 +114,37 @@ impl<A: Allocator + Clone> SharedTree<A> {
     /// Makes one slot of the deepest level that has the page, where that isn't the first level and
     /// its slots can be one: none is divided, no core is to lock one first, they have no frame and
     /// no recorded core, and the mapping goes on from slot to slot. The slot begins its history
-    /// anew with one change under the ticket of the step, which is noted. Answers whether it did;
-    /// else nothing changes. It takes no memory.
-    pub fn fold<S: Stepper>(&mut self, stepper: &mut S, page: u64) -> bool
+    /// anew with one change under the ticket of the step, which is noted. Answers the slot's pages;
+    /// `None` where nothing changed. It takes no memory.
+    pub fn fold<S: Stepper>(&mut self, stepper: &mut S, page: u64) -> Option<PageRange>
         requires { S.can_step stepper.old }
-        ensures { Folds S.stepped stepper.old stepper.new result }
+        ensures { Folds S.stepped stepper.old stepper.new page result }
     {
         self.root.fold(stepper, page)
+    }
+
+    /// The first of so many unmapped pages side by side, from the page `from` on and up to `end`.
+    /// The slots are locked one after another, each alone, whoever holds their pages, until enough
+    /// are found: of a page that was unmapped then, another thread may make what it likes since.
+    /// `None` where there are no such pages, or a slot was in a wrong place. It takes no memory.
+    pub fn find_room<R: Wait>(&self, rt: &R, from: u64, end: u64, n: u64) -> Option<u64>
+        ensures { IfSome result (λ first. (from ≤ first) × (first + n ≤ end)) }
+    {
+        let mut first = from;
+        let mut next = from;
+        'slots: for _ in from..end {
+            if next >= end {
+                return None;
+            }
+            let slot = self.lock_at(rt, next)?;
+            next = slot.first() + slot.count();
+            if slot.content().is_some() {
+                first = next;
+            } else if end.min(next) - first >= n {
+                return Some(first);
+            }
+        }
+        None
     }
 
     /// The histories of all slots in the order of their pages, which are all pages below 2^36.

@@ -1,7 +1,8 @@
 //! Tests of the maps of slots: of a node of the tree (`node_tests`), of the list of runs
 //! (`slot_tests`), of what pages have in both maps (`page_tests`), of pages that are changed unlocked
 //! (`free_tests`), of locks, folds and memory (`lock_tests`), of the list of mappings
-//! (`map_list_tests`) and of the tree that threads will share (`live_tree_tests`). `cases` and
+//! (`map_list_tests`), and of the tree that threads will share: its steps (`live_tree_tests`), folds, room
+//! and what held slots tell (`live_fold_tests`), and two threads at once (`live_race_tests`). `cases` and
 //! `slot_calls` are what they call.
 #![tactic(auto)]
 
@@ -9,6 +10,10 @@
 mod cases;
 #[cfg(test)]
 mod free_tests;
+#[cfg(test)]
+mod live_fold_tests;
+#[cfg(test)]
+mod live_race_tests;
 #[cfg(test)]
 mod live_tree_tests;
 #[cfg(test)]

@@ -1,5 +1,5 @@
 //! `live_tree`: worked acquisitions, cuts, commits and folds, and what the histories have.
-ghost use Rattle.std.specs.Prelude.{◌≡◌, ◌<◌, ◌≤◌, ◌^◌};
+ghost use Rattle.std.specs.Prelude.{◌≡◌, ◌+◌, ◌<◌, ◌≤◌, ◌^◌};
 
 use live_levels::act::Act;
 use live_levels::close::SlotHistory;
@@ -18,8 +18,14 @@ const ROUNDS: usize = 1000;
 
 // Counts the steps that are noted, in place of tickets.
 #[derive(Drop)]
-struct Counter {
+pub(crate) struct Counter {
     steps: u64,
+}
+
+impl Counter {
+    pub(crate) fn new() -> Counter {
+        Counter { steps: 0 }
+    }
 }
 
 impl Stepper for Counter {
@@ -33,11 +39,13 @@ impl Stepper for Counter {
     }
 }
 
-// Locks until all pages up to the end are held, in at most so many steps; how many slots were divided.
-fn lock_all<'a, R: Wait>(
+// The core locks until all pages up to the end are held, each slot with room for one change, in at
+// most so many steps; how many slots were divided.
+pub(crate) fn lock_all<'a, R: Wait>(
     rt: &R,
     tree: &'a SharedTree<Global>,
     counter: &mut Counter,
+    core: CoreId,
     held: &mut Held<'a, Global>,
     end: u64,
     steps: u32,
@@ -47,7 +55,7 @@ fn lock_all<'a, R: Wait>(
         if held.end() >= end {
             return Some(splits);
         }
-        match held.lock_next(rt, tree, counter, CoreId::new(0), end, 0) {
+        match held.lock_next(rt, tree, counter, core, end, 1) {
             Got::Locked => {}
             Got::Split => splits = splits.saturating_add(1),
             Got::Owned(_) | Got::NoMemory | Got::Lost => return None,
@@ -57,7 +65,7 @@ fn lock_all<'a, R: Wait>(
 }
 
 // Lets all held slots go, and tells how many there were.
-fn let_all_go(counter: &mut Counter, held: Held<'_, Global>) -> usize {
+pub(crate) fn let_all_go(counter: &mut Counter, held: Held<'_, Global>) -> usize {
     let mut letting = held.letting();
     let count = letting.len();
     'slots: for _ in 0..count {
@@ -79,21 +87,30 @@ fn counted<R: Wait>(
 ) -> Option<(u64, usize, u64)> {
     let mut counter = Counter { steps: 0 };
     let mut held = Held::new(tree.alloc(), first);
-    let splits = lock_all(rt, tree, &mut counter, &mut held, end, steps)?;
+    let splits = lock_all(
+        rt,
+        tree,
+        &mut counter,
+        CoreId::new(0),
+        &mut held,
+        end,
+        steps,
+    )?;
     let locks = let_all_go(&mut counter, held);
     Some((splits, locks, counter.steps))
 }
 
-// How often held slots are cut until none crosses an edge of the range, in at most ten steps.
+// How often the core cuts held slots until none crosses an edge of the range, in at most ten steps.
 fn cuts<'a, R: Wait>(
     rt: &R,
     tree: &'a SharedTree<Global>,
+    core: CoreId,
     held: &mut Held<'a, Global>,
     range: PageRange,
 ) -> Option<u32> {
     let mut counter = Counter { steps: 0 };
     'cuts: for cuts in 0..10 {
-        match held.cut_next(rt, tree, &mut counter, CoreId::new(0), range) {
+        match held.cut_next(rt, tree, &mut counter, core, range) {
             Cutting::Cut => {}
             Cutting::Fits => return Some(cuts),
             Cutting::NoMemory | Cutting::Lost => return None,
@@ -102,21 +119,27 @@ fn cuts<'a, R: Wait>(
     None
 }
 
-// A first-level slot is held and cut round one page of it: how often, and how many slots are held then.
-fn cut_round<R: Wait>(rt: &R, tree: &SharedTree<Global>, page: u64) -> Option<(u32, usize)>
+// The core holds a first-level slot and cuts it round one page of it: how often, and how many slots
+// it holds then.
+fn cut_round<R: Wait>(
+    rt: &R,
+    tree: &SharedTree<Global>,
+    core: CoreId,
+    page: u64,
+) -> Option<(u32, usize)>
     requires { page < 2 ^ 27 }
 {
     let mut counter = Counter { steps: 0 };
     let mut held = Held::new(tree.alloc(), 1 << 27);
-    lock_all(rt, tree, &mut counter, &mut held, 1 << 28, 2)?;
+    lock_all(rt, tree, &mut counter, core, &mut held, 1 << 28, 2)?;
     let first = (1 << 27) + page;
     let range = PageRange {
         first,
         end: first + 1,
     };
-    let cuts = cuts(rt, tree, &mut held, range)?;
+    let cuts = cuts(rt, tree, core, &mut held, range)?;
     held.reserve(range).ok()?;
-    let lent = held.lent(*tree.alloc(), CoreId::new(0))?;
+    let lent = held.lent(*tree.alloc(), core)?;
     let count = held.len();
     if slot_lock::SlotRead::slot(&lent, 1 << 27).first != 1 << 27 {
         return None;
@@ -136,12 +159,12 @@ fn place_of(slots: &[SlotHistory<Global>], page: u64) -> Option<(u64, u64)> {
 }
 
 // What folds come to in a tree in which the page 16 of each of the first two slots was acquired:
-// how many slots its histories have, whether four folds at a page did something, how many slots
-// there are then, and which slots the two pages are in.
+// how many slots its histories have, which pages four folds at a page joined, how many slots there
+// are then, and which slots the two pages are in.
 #[derive(Drop)]
 struct Folded {
     before: usize,
-    folds: [bool; 4],
+    folds: [Option<PageRange>; 4],
     after: usize,
     places: [Option<(u64, u64)>; 2],
 }
@@ -168,6 +191,28 @@ fn fold_at<R: Wait>(rt: &R, alloc: Global, page: u64) -> Option<Folded> {
     })
 }
 
+// So many pages from the page on.
+pub(crate) fn pages_from(first: u64, count: u64) -> PageRange
+    requires { first + count < 2 ^ 64 }
+{
+    PageRange {
+        first,
+        end: first + count,
+    }
+}
+
+// What four folds join that find three levels below a slot of the first.
+fn joined_from(first: u64) -> [Option<PageRange>; 4]
+    requires { first ≤ 2 ^ 36 }
+{
+    [
+        Some(pages_from(first, 1 << 9)),
+        Some(pages_from(first, 1 << 18)),
+        Some(pages_from(first, 1 << 27)),
+        None,
+    ]
+}
+
 // What a core is told that asks once for a slot from the page on, and how many steps are noted
 // until it has let go again.
 fn told<R: Wait>(
@@ -186,14 +231,20 @@ fn told<R: Wait>(
     (got, counter.steps)
 }
 
-// A core cuts the second slot of the first level, and lets go of it; tells whether it did.
-fn is_cut<R: Wait>(rt: &R, tree: &SharedTree<Global>, core: CoreId) -> bool {
+// A core cuts a slot, and lets go of it; tells whether it did.
+fn is_cut<R: Wait>(rt: &R, tree: &SharedTree<Global>, core: CoreId, first: u64, end: u64) -> bool
+    requires { first < end }
+{
     let mut counter = Counter { steps: 0 };
-    let slot = match tree.lock_next(rt, &mut counter, core, 1 << 27, 1 << 28) {
+    let slot = match tree.lock_next(rt, &mut counter, core, first, end) {
         Next::Whole(slot) => slot,
-        Next::Split | Next::Owned(_) | Next::NoMemory | Next::Lost => return false,
+        Next::Owned(_guard) => return false,
+        Next::Split | Next::NoMemory | Next::Lost => return false,
     };
-    tree.cut(&mut counter, core, &slot) == Fit::Cut
+    match tree.cut(&mut counter, core, &slot) {
+        Fit::Cut(_) => true,
+        Fit::NoMemory | Fit::Lost => false,
+    }
 }
 
 // Tells whether a held slot of the first level can be lent.
@@ -202,7 +253,15 @@ fn is_lent<R: Wait>(rt: &R, tree: &SharedTree<Global>, first: u64) -> Option<boo
 {
     let mut counter = Counter { steps: 0 };
     let mut held = Held::new(tree.alloc(), first);
-    lock_all(rt, tree, &mut counter, &mut held, first + (1 << 27), 2)?;
+    lock_all(
+        rt,
+        tree,
+        &mut counter,
+        CoreId::new(0),
+        &mut held,
+        first + (1 << 27),
+        2,
+    )?;
     let is_lent = held.lent(*tree.alloc(), CoreId::new(0)).is_some();
     let_all_go(&mut counter, held);
     Some(is_lent)
@@ -212,12 +271,13 @@ fn is_lent<R: Wait>(rt: &R, tree: &SharedTree<Global>, first: u64) -> Option<boo
 fn cut_at_its_begin<R: Wait>(rt: &R, tree: &SharedTree<Global>) -> Option<(u32, usize)> {
     let mut counter = Counter { steps: 0 };
     let mut held = Held::new(tree.alloc(), 1 << 27);
-    lock_all(rt, tree, &mut counter, &mut held, 1 << 28, 2)?;
+    let core = CoreId::new(0);
+    lock_all(rt, tree, &mut counter, core, &mut held, 1 << 28, 2)?;
     let empty = PageRange {
         first: 1 << 27,
         end: 1 << 27,
     };
-    let cuts = cuts(rt, tree, &mut held, empty)?;
+    let cuts = cuts(rt, tree, core, &mut held, empty)?;
     let count = let_all_go(&mut counter, held);
     Some((cuts, count))
 }
@@ -228,7 +288,7 @@ fn at_the_end<R: Wait>(rt: &R, alloc: Global) -> Option<(bool, bool, usize)> {
     let mut tree = SharedTree::new(alloc).ok()?;
     let mut counter = Counter { steps: 0 };
     let is_locked = tree.lock_at(rt, 1 << 36).is_some();
-    let is_folded = tree.fold(&mut counter, 1 << 36);
+    let is_folded = tree.fold(&mut counter, 1 << 36).is_some();
     Some((is_locked, is_folded, tree.histories()?.slots().len()))
 }
 
@@ -285,7 +345,15 @@ fn two_pages_of_two_leaves_take_4_splits_and_2_locks(rt: HostRuntime) -> Result<
 #[test]
 fn a_held_slot_is_cut_round_a_page(rt: HostRuntime) -> Result<(), Fail> {
     let tree = SharedTree::new(rt.alloc()).ok().ok_or("memory")?;
-    let counts = cut_round(&rt, &tree, 1);
+    let counts = cut_round(&rt, &tree, CoreId::new(0), 1);
+    assert!(rt; counts == Some((3, 1 + 3 * 511)));
+    Ok(())
+}
+
+#[test]
+fn core_1_cuts_a_held_slot_round_a_page(rt: HostRuntime) -> Result<(), Fail> {
+    let tree = SharedTree::new(rt.alloc()).ok().ok_or("memory")?;
+    let counts = cut_round(&rt, &tree, CoreId::new(1), 1);
     assert!(rt; counts == Some((3, 1 + 3 * 511)));
     Ok(())
 }
@@ -294,7 +362,7 @@ fn a_held_slot_is_cut_round_a_page(rt: HostRuntime) -> Result<(), Fail> {
 fn levels_are_folded_up_to_the_first(rt: HostRuntime) -> Result<(), Fail> {
     let folded = fold_at(&rt, rt.alloc(), 1).ok_or("memory")?;
     assert!(rt; (folded.before, folded.after) == (512 + 6 * 511, 512 + 3 * 511));
-    assert!(rt; folded.folds == [true, true, true, false]);
+    assert!(rt; folded.folds == joined_from(0));
     assert!(rt; folded.places == [Some((0, 1 << 27)), Some(((1 << 27) + 16, 1))]);
     Ok(())
 }
@@ -303,7 +371,7 @@ fn levels_are_folded_up_to_the_first(rt: HostRuntime) -> Result<(), Fail> {
 fn a_fold_leaves_other_slots_of_the_first_level(rt: HostRuntime) -> Result<(), Fail> {
     let folded = fold_at(&rt, rt.alloc(), (1 << 27) + 1).ok_or("memory")?;
     assert!(rt; (folded.before, folded.after) == (512 + 6 * 511, 512 + 3 * 511));
-    assert!(rt; folded.folds == [true, true, true, false]);
+    assert!(rt; folded.folds == joined_from(1 << 27));
     assert!(rt; folded.places == [Some((16, 1)), Some((1 << 27, 1 << 27))]);
     Ok(())
 }
@@ -313,11 +381,25 @@ fn a_slot_that_core_0_cut_is_core_0s_until_it_lets_go(rt: HostRuntime) -> Result
     let tree = SharedTree::new(rt.alloc()).ok().ok_or("memory")?;
     let (zero, one) = (CoreId::new(0), CoreId::new(1));
     let (first, next, end) = (1 << 27, (1 << 27) + (1 << 18), (1 << 27) + (2 << 18));
-    assert!(rt; is_cut(&rt, &tree, zero));
+    assert!(rt; is_cut(&rt, &tree, zero, first, 1 << 28));
     assert!(rt; told(&rt, &tree, one, first, next) == (Got::Owned(zero), 0));
     assert!(rt; told(&rt, &tree, zero, first, next) == (Got::Locked, 2));
     assert!(rt; told(&rt, &tree, one, first, next) == (Got::Locked, 2));
     assert!(rt; told(&rt, &tree, one, next, end) == (Got::Owned(zero), 0));
+    Ok(())
+}
+
+#[test]
+fn a_page_that_core_1_cut_is_core_1s_until_it_lets_go(rt: HostRuntime) -> Result<(), Fail> {
+    let tree = SharedTree::new(rt.alloc()).ok().ok_or("memory")?;
+    let (zero, one) = (CoreId::new(0), CoreId::new(1));
+    let first = 1 << 27;
+    assert!(rt; is_cut(&rt, &tree, one, first, first + (1 << 27)));
+    assert!(rt; is_cut(&rt, &tree, one, first, first + (1 << 18)));
+    assert!(rt; is_cut(&rt, &tree, one, first, first + (1 << 9)));
+    assert!(rt; told(&rt, &tree, zero, first, first + 1) == (Got::Owned(one), 0));
+    assert!(rt; told(&rt, &tree, one, first, first + 1) == (Got::Locked, 2));
+    assert!(rt; told(&rt, &tree, zero, first, first + 1) == (Got::Locked, 2));
     Ok(())
 }
 

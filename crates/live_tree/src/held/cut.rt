@@ -1,5 +1,5 @@
 //! Held slots that are cut into smaller ones.
-ghost use Rattle.std.specs.Prelude.{◌≡◌, ℕ, ◌+◌, ◌<◌, ◌≤◌, ◌^◌, ◌↔◌, [], ◌∷◌, ◌++◌, List, Option};
+ghost use Rattle.std.specs.Prelude.{◌≡◌, ℕ, ◌+◌, ◌<◌, ◌≤◌, ◌^◌, ◌↔◌, [], ◌∷◌, ◌++◌, List, Option, Some};
 ghost use Rattle.std.specs.Prelude.{length, map, take, drop, All, IsTrue, IfSome, IfNone, IsSome};
 ghost use Rattle.std.specs.List.{insert_slice};
 ghost use Rattle.std.specs.declared.sync.MutexGuard.{MutexGuard};
@@ -32,6 +32,16 @@ pub enum Cutting {
 }
 
 impl<'a, A: Allocator + Clone> Held<'a, A> {
+    /// Tells whether no held slot crosses an edge of the range.
+    pub fn fits(&self, range: PageRange) -> bool
+        ensures { IsTrue result ↔ All (CrossesNoEdge range) self.now.slots }
+    {
+        match crossing(&self.guards, range) {
+            Some(_) => false,
+            None => true,
+        }
+    }
+
     /// One step of the core towards held slots that cross no edge of the range: the leftmost that
     /// does is cut into 512, which is noted, and they are held in its place. They are locked while
     /// it is still locked, and no other core may lock them first, so that no page is let go in
@@ -45,7 +55,7 @@ impl<'a, A: Allocator + Clone> Held<'a, A> {
         range: PageRange,
     ) -> Cutting
         requires { S.can_step stepper.old }
-        ensures { CutsNext S.stepped stepper.old stepper.new self.old self.new range result }
+        ensures { CutsNext S.stepped stepper.old stepper.new self.old self.new core range result }
     {
         let Some(at) = crossing(&self.guards, range) else {
             return Cutting::Fits;
@@ -59,12 +69,12 @@ impl<'a, A: Allocator + Clone> Held<'a, A> {
         let first = slot.first();
         let end = first + slot.count();
         match tree.cut(stepper, core, slot) {
-            Fit::Cut => {}
+            Fit::Cut(_) => {}
             Fit::NoMemory => return Cutting::NoMemory,
             Fit::Lost => return Cutting::Lost,
         }
         let len = self.guards.len();
-        if !lock_parts(rt, tree, &mut self.guards, first, end) {
+        if !lock_parts(rt, tree, &mut self.guards, core, first, end) {
             self.guards.truncate(len);
             return Cutting::Lost;
         }
@@ -107,17 +117,28 @@ fn crossing<'a, A: Allocator>(guards: &Guards<'a, A>, range: PageRange) -> Optio
     None
 }
 
+// Tells whether the core is to lock the slot first.
+fn is_own<A: Allocator>(slot: &SlotState<A>, core: CoreId) -> bool
+    ensures { IsTrue result → slot.now.owner ≡ Some core }
+{
+    match slot.owner() {
+        Some(owner) => owner.index() == core.index(),
+        None => false,
+    }
+}
+
 // Locks the 512 slots from the page `first` up to `end`, in room that there is, and tells whether
-// they are that.
+// they are that, and the core's.
 fn lock_parts<'a, R: Wait, A: Allocator + Clone>(
     rt: &R,
     tree: &'a SharedTree<A>,
     guards: &mut Guards<'a, A>,
+    core: CoreId,
     first: u64,
     end: u64,
 ) -> bool
     requires { HasRoomFor guards.old 512 }
-    ensures { (n : ℕ) × (next : ℕ) × AddsSlots first next n guards.old.items guards.new.items
+    ensures { (n : ℕ) × (next : ℕ) × AddsSlots core first next n guards.old.items guards.new.items
         × (IsTrue result → (n ≡ 512) × (next ≡ end)) }
 {
     let mut next = first;
@@ -128,7 +149,7 @@ fn lock_parts<'a, R: Wait, A: Allocator + Clone>(
         let Some(guard) = tree.lock_at(rt, next) else {
             return false;
         };
-        if guard.first() != next {
+        if guard.first() != next || !is_own(&guard, core) {
             return false;
         }
         next = guard.first() + guard.count();

@@ -1,5 +1,5 @@
 //! Held pages: what one has, and a change of each.
-ghost use Rattle.std.specs.Prelude.{◌≡◌, map, All, IsSome};
+ghost use Rattle.std.specs.Prelude.{◌≡◌, ◌↔◌, ◌<◌, map, All, IsSome, IsTrue};
 ghost use Rattle.live_levels.specs.Replay.{dated};
 ghost use Rattle.live_levels.specs.Slots.{changed};
 ghost use Rattle.live_tree.specs.Guards.{slot_of};
@@ -7,7 +7,7 @@ ghost use Rattle.live_tree.specs.Held.{CanTake};
 ghost use Rattle.live_tree.specs.Shown.{shown};
 
 use crate::held::{Guards, Held};
-use live_levels::act::Act;
+use live_levels::act::{Act, suits};
 use live_levels::slot::SlotState;
 use std::alloc::Allocator;
 use std::sync::MutexGuard;
@@ -19,6 +19,13 @@ impl<'a, A: Allocator + Clone> Held<'a, A> {
         ensures { result ≡ (shown self.now.slots).info page }
     {
         page_at(&self.guards, page)
+    }
+
+    /// Tells whether each held slot can take the change, in room that there is.
+    pub fn can_take(&self, act: Act) -> bool
+        ensures { IsTrue result ↔ All (CanTake act) self.now.slots }
+    {
+        all_can_take(&self.guards, &act)
     }
 
     /// Makes the same change in each held slot, under one ticket, as where the held page gets a
@@ -47,6 +54,37 @@ fn page_at<'a, A: Allocator>(guards: &Guards<'a, A>, page: u64) -> Option<PageIn
         }
     }
     None
+}
+
+// Tells whether the slot can take the change, in room that there is.
+fn can_take<A: Allocator>(slot: &SlotState<A>, act: &Act) -> bool
+    ensures { IsTrue result ↔ CanTake act.now slot.now }
+{
+    slot.room() > 0 && suits(act, slot.count())
+}
+
+// Tells whether the slot of a guard, which is there, can take the change.
+fn guard_can_take<A: Allocator>(guard: &Option<MutexGuard<'_, SlotState<A>>>, act: &Act) -> bool
+    requires { IsSome guard.now }
+    ensures { IsTrue result ↔ CanTake act.now (slot_of guard.now) }
+{
+    match guard {
+        Some(slot) => can_take(slot, act),
+        None => unreachable!(),
+    }
+}
+
+// Tells whether the slots of all guards can take the change.
+fn all_can_take<'a, A: Allocator>(guards: &Guards<'a, A>, act: &Act) -> bool
+    requires { All IsSome guards.now.items }
+    ensures { IsTrue result ↔ All (CanTake act.now) (map slot_of guards.now.items) }
+{
+    'guards: for guard in guards.as_slice() {
+        if !guard_can_take(guard, act) {
+            return false;
+        }
+    }
+    true
 }
 
 // The change at all guards.

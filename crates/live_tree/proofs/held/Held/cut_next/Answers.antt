@@ -1,4 +1,4 @@
-use Rattle.std.proofs.Common.{rules, ◌≡◌, ◌+◌, List, Option, Some, map, length, take, drop, get_or, ap, subst, ◌∙◌, arith}
+use Rattle.std.proofs.Common.{rules, ◌≡◌, ◌+◌, List, Option, Some, map, get_or, ap, subst, ◌∙◌, arith}
 use Rattle.std.specs.Prelude.{All, IsSome, IsTrue}
 use Rattle.std.specs.Sync.Mutex.{mutex_guard_value}
 use Rattle.std.specs.declared.sync.MutexGuard.{MutexGuard}
@@ -11,7 +11,7 @@ use Rattle.live_tree.proofs.held.Held.cut_next.Goals as goal
 use Rattle.live_tree.proofs.held.Held.cut_next.Goals.{After-put_in_place}
 
 -- the first slot that crosses an edge was replaced by its parts, and all guards still lie side by side
-cut : (g : _) (c : After-put_in_place g) → CutsFirst c.args.range (record {
+cut : (g : _) (c : After-put_in_place g) → CutsFirst c.args.core c.args.range (record {
   first = c.self.inside.first;
   end = c.self.inside.end;
   slots = map slot_of c.self.inside.guards.items;
@@ -29,8 +29,8 @@ cut g c =
     let from = c.first-first.result in
     let until = c.first-first.result + c.count.result in
     let same : c.reserve.new.self.items ≡ gs = c.reserve.ensures.items in
-    let added : AddsSlots from c.lock_parts.ensures.1 c.lock_parts.ensures.0 gs c.lock_parts.new.guards.items =
-    subst (λ (l : List (Option (MutexGuard SlotView))). AddsSlots from c.lock_parts.ensures.1 c.lock_parts.ensures.0 l
+    let added : AddsSlots c.args.core from c.lock_parts.ensures.1 c.lock_parts.ensures.0 gs c.lock_parts.new.guards.items =
+    subst (λ (l : List (Option (MutexGuard SlotView))). AddsSlots c.args.core from c.lock_parts.ensures.1 c.lock_parts.ensures.0 l
     c.lock_parts.new.guards.items) same c.lock_parts.ensures.2 in
     let locked : IsTrue c.lock_parts.result = search rules in
     let crossing : IsFirstCrossing c.args.range (map slot_of gs) at = c.in-Some.ensures.some in
@@ -42,7 +42,7 @@ cut g c =
     let begins : from ≡ (mutex_guard_value slot).first = search rules in
     let count : c.count.result ≡ (mutex_guard_value slot).count = search rules in
     let ends : until ≡ from + (mutex_guard_value slot).count = omega (arith, count) in
-    cut_done c.args.range c.self.inside.first c.self.inside.end gs c.lock_parts.new.guards.items c.put_in_place.new.guards.items
+    cut_done c.args.core c.args.range c.self.inside.first c.self.inside.end gs c.lock_parts.new.guards.items c.put_in_place.new.guards.items
     at from until c.lock_parts.ensures.1 c.lock_parts.ensures.0 slot
     c.self.invariant crossing item begins ends added (c.lock_parts.ensures.3 locked) c.put_in_place.ensures
 
@@ -52,7 +52,7 @@ invariant_of-self-2 g c = (cut g c).1
 pub returns : goal.returns
 returns g c = (
   search rules,
-  subst (λ (h : HeldView). CutsFirst c.args.range h (record {
+  subst (λ (h : HeldView). CutsFirst c.args.core c.args.range h (record {
     first = c.self.inside.first;
     end = c.self.inside.end;
     slots = map slot_of c.put_in_place.new.guards.items;

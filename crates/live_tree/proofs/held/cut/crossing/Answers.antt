@@ -1,18 +1,18 @@
-use Rattle.std.proofs.Common.{rules, ◌≡◌, ◌<◌, List, Option, map, subst, sym, arith}
+use Rattle.std.proofs.Common.{rules, List, Option, map, subst, arith}
 use Rattle.std.specs.Prelude.{All}
 use Rattle.std.specs.declared.sync.MutexGuard.{MutexGuard}
 use Rattle.live_levels.specs.Slots.{SlotView}
 use Rattle.live_tree.specs.Guards.{slot_of}
 use Rattle.live_tree.specs.Held.{CrossesNoEdge}
-use Rattle.live_tree.proofs.Cuts.{all_fit, one_fits}
+use Rattle.live_tree.proofs.Cuts.{all_hold, one_more_holds}
 use Rattle.live_tree.proofs.held.cut.crossing.Goals as goal
 
 pub guards-preserved : goal.guards-preserved
 guards-preserved g c =
     let fits : CrossesNoEdge c.args.range (slot_of c.guard-item.result) = search rules in
-    one_fits c.args.range c.as_slice-guard-items.result.now c.guards.at c.guard-item.result (omega arith) c.guard-item.is c.guards.invariant fits
+    one_more_holds (CrossesNoEdge c.args.range) c.as_slice-guard-items.result.now c.guards.at c.guard-item.result (omega arith) c.guard-item.is c.guards.invariant fits
 
 pub returns-clause-none : goal.returns-clause-none
 returns-clause-none g c =
     subst (λ (l : List (Option (MutexGuard SlotView))). All (CrossesNoEdge c.args.range) (map slot_of l)) c.as_slice-guard-items.ensures
-    (all_fit c.args.range c.as_slice-guard-items.result.now c.guards.at (omega arith) c.guards.invariant)
+    (all_hold (CrossesNoEdge c.args.range) c.as_slice-guard-items.result.now c.guards.at (omega arith) c.guards.invariant)
