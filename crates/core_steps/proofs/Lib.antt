@@ -19,3 +19,4 @@ pub mod AccessAtOnce
 pub mod ChangeAtOnce
 pub mod OnePage
 pub mod FaultAtOnce
+pub mod Keeping

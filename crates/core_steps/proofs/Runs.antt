@@ -1,7 +1,8 @@
 -- Runs that grow by one event
-use Rattle.std.proofs.Common.{◌≡◌, ℕ, ◌+◌, ◌<◌, ◌≤◌, List, [], ◌∷◌, ◌++◌, refl, sym, subst, ap, ◌∙◌, take, length, get_or}
+use Rattle.std.proofs.Common.{◌≡◌, ℕ, Bool, ◌+◌, ◌<◌, ◌≤◌, List, [], ◌∷◌, ◌++◌, refl, sym, subst, ap, ◌∙◌, take, length, get_or}
 use Rattle.std.proofs.lemmas.List.{take_more}
 use Rattle.std.proofs.lemmas.Option.{slice_get_read}
+use Rattle.vm_base.specs.declared.page.PageRange.{PageRange}
 use Rattle.slot_lock.specs.Slots.{Slots, IsNew}
 use Rattle.machine_model.specs.declared.event.Event.{Event}
 use Rattle.machine_model.specs.declared.event.Outcome.{Outcome}
@@ -12,6 +13,7 @@ use Rattle.machine_laws.proofs.Bracketed.{bracketed}
 use Rattle.machine_sound.specs.Sound.{SoundRun}
 use Rattle.machine_sound.proofs.Kept.{run_more, runs_sound}
 use Rattle.core_steps.specs.Moving.{MayWant, JoinsAsMap}
+use Rattle.core_steps.specs.Dividing.{DividesAsMap}
 use Rattle.core_steps.specs.Running.{IsRefusedAt, LogsPlainly, RunsAsMap}
 use Rattle.core_steps.proofs.Limits.{step_made}
 use Rattle.vm_base.specs.Plain.{nothing_mapped}
@@ -39,20 +41,22 @@ pub refused_next : (w : World) (es : List Event) (n : ℕ) (e : Event) (os : Lis
     → Run w (take n es) os m → MayWant m e → IsRefusedAt w es n
 refused_next w es n e os m h is r wants = (e, slice_get_read es (length es) n e refl h is, (os, (m, r, wants)))
 
--- a run whose folds are the map's goes one event on
-joined_more : (C : Slots → ℕ → Type 0) (F : Slots → Slots → ℕ → Type 0) (es : List Event) (os : List Outcome) (w m v : World) (e : Event) (o : Outcome)
-    → RunsAsMap C F w es os m → Step m e o v → JoinsAsMap C F m e o v → RunsAsMap C F w (es ++ e ∷ []) (os ++ o ∷ []) v
-joined_more C F [] [] w m v e o r s j = (v, subst (λ w. Step w e o v) r s, subst (λ w. JoinsAsMap C F w e o v) r j, refl)
-joined_more C F [] (p ∷ os) w m v e o r s j = absurd r
-joined_more C F (d ∷ es) [] w m v e o r s j = absurd r
-joined_more C F (d ∷ es) (p ∷ os) w m v e o r s j = (r.0, r.1, r.2, joined_more C F es os r.0 m v e o r.3 s j)
+-- a run that divides and joins as the map does goes one event on
+as_map_more : (P : PageRange → ℕ → ℕ → Bool) (C : Slots → ℕ → Type 0) (F : Slots → Slots → ℕ → Type 0) (es : List Event) (os : List Outcome)
+    (w m v : World) (e : Event) (o : Outcome) → RunsAsMap P C F w es os m → Step m e o v → JoinsAsMap C F m e o v → DividesAsMap P m e o v
+    → RunsAsMap P C F w (es ++ e ∷ []) (os ++ o ∷ []) v
+as_map_more P C F [] [] w m v e o r s j d =
+    (v, subst (λ w. Step w e o v) r s, subst (λ w. JoinsAsMap C F w e o v) r j, subst (λ w. DividesAsMap P w e o v) r d, refl)
+as_map_more P C F [] (p ∷ os) w m v e o r s j d = absurd r
+as_map_more P C F (x ∷ es) [] w m v e o r s j d = absurd r
+as_map_more P C F (x ∷ es) (p ∷ os) w m v e o r s j d = (r.0, r.1, r.2, r.3, as_map_more P C F es os r.0 m v e o r.4 s j d)
 
-pub next_joined : (C : Slots → ℕ → Type 0) (F : Slots → Slots → ℕ → Type 0) (w : World) (es : List Event) (n : ℕ) (e : Event) (os : List Outcome) (m v : World) (o : Outcome)
-    → n < length es → e ≡ get_or es n e → RunsAsMap C F w (take n es) os m → Step m e o v → JoinsAsMap C F m e o v
-    → RunsAsMap C F w (take (n + 1) es) (os ++ o ∷ []) v
-next_joined C F w es n e os m v o h is r s j =
-    subst (λ f. RunsAsMap C F w f (os ++ o ∷ []) v) (sym (take_more es n e h ∙ ap (λ x. take n es ++ x ∷ []) (sym is)))
-    (joined_more C F (take n es) os w m v e o r s j)
+pub next_as_map : (P : PageRange → ℕ → ℕ → Bool) (C : Slots → ℕ → Type 0) (F : Slots → Slots → ℕ → Type 0) (w : World) (es : List Event) (n : ℕ)
+    (e : Event) (os : List Outcome) (m v : World) (o : Outcome) → n < length es → e ≡ get_or es n e → RunsAsMap P C F w (take n es) os m
+    → Step m e o v → JoinsAsMap C F m e o v → DividesAsMap P m e o v → RunsAsMap P C F w (take (n + 1) es) (os ++ o ∷ []) v
+next_as_map P C F w es n e os m v o h is r s j d =
+    subst (λ f. RunsAsMap P C F w f (os ++ o ∷ []) v) (sym (take_more es n e h ∙ ap (λ x. take n es ++ x ∷ []) (sym is)))
+    (as_map_more P C F (take n es) os w m v e o r s j d)
 
 run_made : (es : List Event) (os : List Outcome) (w v : World) → Run w es os v → v.made ≡ w.made
 run_made [] [] w v r = ap (λ u. u.made) r

@@ -3,6 +3,7 @@ pub mod Cores
 pub mod Parts
 pub mod State
 pub mod Moving
+pub mod Dividing
 pub mod Taking
 pub mod Filling
 pub mod Machine
@@ -12,3 +13,4 @@ pub mod OnePage
 pub mod PageChange
 pub mod Running
 pub mod MapLines
+pub mod Changing

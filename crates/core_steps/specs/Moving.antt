@@ -1,9 +1,10 @@
 -- What a step of an engine does, and which steps may be refused for memory: those at which a slot
--- is to be divided or cut, those that install the first entry of a page, and those that make a copy
--- of a private page, which the log is to have
+-- is to be divided or cut, those that install the first entry of a table of the last level, and those
+-- that make a copy of a private page, which the log is to have
 use Rattle.std.specs.Prelude.{◌≡◌, ℕ, ◌<◌, ◌⊎◌, Bool, true, false, Option, None, Some, Result, Ok, Err}
 use Rattle.vm_base.specs.declared.replies.Reply.{Reply}
 use Rattle.vm_base.specs.Pages.{IsPage}
+use Rattle.mmu.specs.Tables.{IsEmptyBeside}
 use Rattle.slot_lock.specs.declared.plan.Goal.{Goal}
 use Rattle.slot_lock.specs.declared.plan.Goal.TheVariants as To
 use Rattle.slot_lock.specs.declared.plan.Touch.{Touch}
@@ -30,8 +31,9 @@ use Rattle.machine_sound.specs.Invariant.{Fine}
 
 -- the slot that the call of core c is to lock next is free and crosses an edge of the pages that
 -- the call is to hold, or one that it holds crosses an edge of the pages where its mapping goes, or
--- the core's tables have no entry yet of the page that is to get one, or a private page is to get a
--- copy for a store, for which no core is awaited
+-- the core's tables have no entry yet of the page that is to get one, nor of any that shares its
+-- table of the last level, or a private page is to get a copy for a store, for which no core is
+-- awaited
 abbrev pub WantsMemory : World → ℕ → Phase → Type 0
 WantsMemory w c (Lock goal cursor) =
     (w.slots.owner cursor ≡ None) × Crosses w.slots cursor (goal_range goal).end
@@ -39,7 +41,7 @@ WantsMemory w c (Cut place target range) = IsCrossed w.slots range
 WantsMemory w c (Fill touch frame) =
     is_private_store (back_of (w.slots.info touch.page)) touch.access ≡ true
 WantsMemory w c (CopyAcks touch frame) = AwaitsNobody w.hardware c
-WantsMemory w c (Install touch) = w.hardware.table c touch.page ≡ None
+WantsMemory w c (Install touch) = IsEmptyBeside (w.hardware.table c) touch.page
 WantsMemory w c _ = ⊥
 
 -- only a step of such a call takes memory

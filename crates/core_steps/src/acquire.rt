@@ -1,11 +1,12 @@
 //! Locking all pages of a call, slot by slot from left to right.
-ghost use Rattle.std.specs.Prelude.{◌≡◌, ◌<◌, ◌≤◌};
+ghost use Rattle.std.specs.Prelude.{◌≡◌, ◌<◌, ◌≤◌, IfOk};
 ghost use Rattle.slot_lock.specs.Plan.{IsSoundGoal, IsSoundTouch, goal_range};
 ghost use Rattle.machine_model.specs.Holding.{page_of_touch};
 ghost use Rattle.machine_model.specs.Locks.{all_locked, locked_to, locking};
 ghost use Rattle.machine_model.specs.Step.{Goes};
 ghost use Rattle.core_steps.specs.State.{world};
 ghost use Rattle.core_steps.specs.Moving.{IsAt, WantsMemory, Tries};
+ghost use Rattle.core_steps.specs.Dividing.{GoesAsMap};
 
 use crate::engine::Engine;
 use crate::ledger::Ledger;
@@ -56,9 +57,12 @@ impl<M: SlotMap, H: Hardware, A: Allocator, L: Ledger> Engine<M, H, A, L> {
     /// One step towards holding all pages of the goal. A refusal for memory changes nothing.
     pub fn go_lock(&mut self, core: CoreId, goal: Goal, cursor: u64) -> Result<Outcome, NoMemory>
         requires { IsAt (world M.slots self.old) core (Phase.Lock goal cursor) }
-        ensures { Tries (Goes (world M.slots self.old) core (Phase.Lock goal cursor))
+        ensures row { Tries (Goes (world M.slots self.old) core (Phase.Lock goal cursor))
             (WantsMemory (world M.slots self.old) core (Phase.Lock goal cursor))
             (world M.slots self.old) result (world M.slots self.new) }
+        ensures divides { IfOk result
+            (λ outcome. GoesAsMap M.parts (M.slots self.old.map) core (Phase.Lock goal cursor) outcome
+            (M.slots self.new.map)) }
     {
         let end = goal.range().end;
         match self.map.lock_next(core, cursor, end)? {

@@ -63,7 +63,7 @@ impl<H: Hardware, A: Allocator> Cores<H, A> {
     ghost use Rattle.vm_base.specs.Functions.{put};
     ghost use Rattle.vm_base.specs.Pages.{is_page, are_pages};
     ghost use Rattle.mmu.specs.Entry.{has_right, translation_of};
-    ghost use Rattle.mmu.specs.Tables.{word_of};
+    ghost use Rattle.mmu.specs.Tables.{IsEmptyBeside, word_of};
     ghost use Rattle.mmu.specs.Tlb.{tlb_at};
     ghost use Rattle.shootdown.specs.Inboxes.{awaited};
     ghost use Rattle.shootdown.specs.Messages.{asked, remaining};
@@ -88,8 +88,8 @@ impl<H: Hardware, A: Allocator> Cores<H, A> {
         self.cpus[core.index() as usize].translate(touch.page, touch.access)
     }
 
-    /// The core's tables get the page's entry. Memory may be wanting only where they have
-    /// none; then nothing changes.
+    /// The core's tables get the page's entry. Memory may be wanting only where none of the 512
+    /// pages has one that share the page's table of the last level; then nothing changes.
     pub fn install(
         &mut self,
         core: CoreId,
@@ -104,7 +104,7 @@ impl<H: Hardware, A: Allocator> Cores<H, A> {
         ensures ok { OnOk result ((parts self.new).hardware ≡ with_table (parts self.old).hardware core
             (put ((parts self.old).hardware.table core) page (Some (translation_of frame prot)))) }
         ensures err { OnErr result ((parts self.new).hardware ≡ (parts self.old).hardware) }
-        ensures err_only { OnErr result ((parts self.old).hardware.table core page ≡ None) }
+        ensures err_last { OnErr result (IsEmptyBeside ((parts self.old).hardware.table core) page) }
     {
         self.cpus[core.index() as usize].install(page, frame, prot)
     }

@@ -7,6 +7,7 @@ ghost use Rattle.machine_sound.specs.Invariant.{Fine};
 ghost use Rattle.core_steps.specs.AtOnce.{IsReady};
 ghost use Rattle.core_steps.specs.State.{phase_of, world};
 ghost use Rattle.core_steps.specs.Moving.{JoinsAsMap, MayWant, Tries, WantsMemory};
+ghost use Rattle.core_steps.specs.Dividing.{DividesAsMap, GoesAsMap};
 
 use crate::engine::Engine;
 use crate::ledger::Ledger;
@@ -41,9 +42,12 @@ impl<M: SlotMap, H: Hardware, A: Allocator, L: Ledger> Engine<M, H, A, L> {
     fn go(&mut self, core: CoreId) -> Result<Outcome, NoMemory>
         requires here { core < length self.old.calls.phases.items }
         requires fine { ∥ Fine (world M.slots self.old) ∥₁ }
-        ensures { Tries (Goes (world M.slots self.old) core (phase_of self.old core))
+        ensures row { Tries (Goes (world M.slots self.old) core (phase_of self.old core))
             (WantsMemory (world M.slots self.old) core (phase_of self.old core))
             (world M.slots self.old) result (world M.slots self.new) }
+        ensures divides { IfOk result
+            (λ outcome. GoesAsMap M.parts (M.slots self.old.map) core (phase_of self.old core) outcome
+            (M.slots self.new.map)) }
     {
         match self.calls.phases[core.index() as usize] {
             Phase::Free => Ok(Outcome::Idle),
@@ -87,6 +91,8 @@ impl<M: SlotMap, H: Hardware, A: Allocator, L: Ledger> Engine<M, H, A, L> {
         ensures joins { IfOk result
             (λ outcome. JoinsAsMap M.can_fold M.folds (world M.slots self.old) event outcome
             (world M.slots self.new)) }
+        ensures divides { IfOk result
+            (λ outcome. DividesAsMap M.parts (world M.slots self.old) event outcome (world M.slots self.new)) }
     {
         match event {
             Event::Call(core, request) => Ok(self.call(core, request)),
@@ -115,6 +121,8 @@ impl<M: SlotMap, H: Hardware, A: Allocator, L: Ledger> Engine<M, H, A, L> {
         ensures joins { IfOk result
             (λ outcome. JoinsAsMap M.can_fold M.folds (world M.slots self.old) event outcome
             (world M.slots self.new)) }
+        ensures divides { IfOk result
+            (λ outcome. DividesAsMap M.parts (world M.slots self.old) event outcome (world M.slots self.new)) }
     {
         self.calls.events += 1;
         match self.act(event) {
@@ -164,6 +172,8 @@ impl<M: SlotMap, H: Hardware, A: Allocator, L: Ledger> Engine<M, H, A, L> {
         ensures joins { IfOk result
             (λ outcome. JoinsAsMap M.can_fold M.folds (world M.slots self.old) event outcome
             (world M.slots self.new)) }
+        ensures divides { IfOk result
+            (λ outcome. DividesAsMap M.parts (world M.slots self.old) event outcome (world M.slots self.new)) }
     {
         if self.calls.events == u64::MAX {
             return Ok(Outcome::Full);

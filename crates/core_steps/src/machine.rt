@@ -12,7 +12,7 @@ use map_list::{MapLine, all_lines, next_line};
 use mmu::{Cpu, Hardware};
 use slot_lock::SlotMap;
 use std::alloc::Allocator;
-use vm_base::{CoreId, Entry, NoMemory, Request};
+use vm_base::{CoreId, Entry, NoMemory, PageInfo, PageRange, Request};
 
 /// How many steps finish a call at the most.
 const FINISH_LIMIT: u64 = 1 << 40;
@@ -65,30 +65,37 @@ impl<M: SlotMap + Drop, A: Allocator + Clone + Drop, L: Opening<A> + Drop> Machi
 
 impl<M: SlotMap, A: Allocator + Clone, L: Ledger> Machine<M, A, L> {
     ghost use Rattle.std.specs.Prelude.{◌≡◌, ◌≤◌, ◌<◌, false, true, IfOk, OnErr, IfSome, IfNone};
+    ghost use Rattle.vm_base.specs.Functions.{has};
     ghost use Rattle.vm_base.specs.Pages.{is_page};
+    ghost use Rattle.slot_lock.specs.Slots.{IsSlot};
     ghost use Rattle.mmu.specs.Tables.{word_of};
     ghost use Rattle.machine_model.specs.declared.event.Event.{Event};
     ghost use Rattle.machine_model.specs.Step.{Step, StepsTo};
     ghost use Rattle.machine_model.specs.World.{World};
     ghost use Rattle.machine_sound.specs.Sound.{IsSoundStep};
+    ghost use Rattle.core_steps.specs.Changing.{may_change};
     ghost use Rattle.core_steps.specs.Moving.{JoinsAsMap, MayWant, Tries};
+    ghost use Rattle.core_steps.specs.Dividing.{DividesAsMap};
     ghost use Rattle.core_steps.specs.Finishing.{Calls, Finishes, finish_limit};
     ghost use Rattle.core_steps.specs.Finishing.{IsCallRefused, IsRefused};
     ghost use Rattle.core_steps.specs.Machine.{state, IsLegal};
     ghost use Rattle.core_steps.specs.MapLines.{HasNoMap, IsLineStart, IsNextMap, ListsMaps};
 
     /// One event. A refusal for memory leaves the machine unchanged, and comes only at a step of a call
-    /// at which a slot is to be divided, which installs the first entry of a page, or which makes a
-    /// private page's copy. Slots are joined just where the map can join them. The state that is left
-    /// is one of a plain page map's (POSIX.1-2017, mmap, munmap and mprotect). The step's log entry, if
-    /// it made one, was due, a frame became free only by a review or by the call that had taken it and
-    /// gave it to no page, and what is waited for is there.
+    /// at which a slot is to be divided, which installs the first entry of a table of the last level,
+    /// or which makes a private page's copy. Slots are joined just where the map can join them, and one
+    /// that is to be locked or cut is divided just where it crosses an edge, as the map divides it. The
+    /// state that is left is one of a plain page map's (POSIX.1-2017, mmap, munmap and mprotect). The
+    /// step's log entry, if it made one, was due, a frame became free only by a review or by the call
+    /// that had taken it and gave it to no page, and what is waited for is there.
     pub fn step(&mut self, event: Event) -> Result<Outcome, NoMemory>
         ensures step { Tries (Step (state self.old) event)
             (MayWant (state self.old) event)
             (state self.old) result (state self.new) }
         ensures joins { IfOk result
             (λ outcome. JoinsAsMap M.can_fold M.folds (state self.old) event outcome (state self.new)) }
+        ensures divides { IfOk result
+            (λ outcome. DividesAsMap M.parts (state self.old) event outcome (state self.new)) }
         ensures sound { IfOk result (λ outcome. ∥ IsSoundStep (state self.old) event outcome
             (state self.new) ∥₁) }
         ensures legal { IsLegal (state self.new) }
@@ -209,6 +216,34 @@ impl<M: SlotMap, A: Allocator + Clone, L: Ledger> Machine<M, A, L> {
         ensures { result ≡ word_of ((state self.now).hardware.table core page) }
     {
         self.engine.cores.entry(core, page)
+    }
+
+    /// What the page has, if it is mapped.
+    pub fn page(&self, page: u64) -> Option<PageInfo>
+        requires { is_page page ≡ true }
+        ensures { result ≡ (state self.now).slots.info page }
+    {
+        self.engine.map.page(page)
+    }
+
+    /// The slot that has the page.
+    pub fn slot(&self, page: u64) -> PageRange
+        requires { is_page page ≡ true }
+        ensures slot { IsSlot (state self.now).slots result.first result.end }
+        ensures has { has result page ≡ true }
+    {
+        self.engine.map.slot(page)
+    }
+
+    /// Outside of these pages the event changes nothing of what pages have: those that the next step
+    /// of its core's call may change. Most events have none.
+    pub fn may_change(&self, event: Event) -> Option<PageRange>
+        ensures { result ≡ may_change (state self.now) event }
+    {
+        match event {
+            Event::Go(core) | Event::Frame(core, _) => self.engine.next_changes(core),
+            _ => None,
+        }
     }
 }
 

@@ -1,7 +1,7 @@
 //! How a mapping without `MAP_FIXED` finds its place: at its hint, else at one run of its
 //! window that it guesses to be free, else at the least room of its window. It holds one
 //! of the three at a time, and maps no page that it doesn't hold.
-ghost use Rattle.std.specs.Prelude.{◌≡◌, ◌+◌, ◌^◌, ◌<◌, ◌≤◌, IfSome};
+ghost use Rattle.std.specs.Prelude.{◌≡◌, ◌+◌, ◌^◌, ◌<◌, ◌≤◌, IfOk, IfSome};
 ghost use Rattle.vm_base.specs.Pages.{pages_from};
 ghost use Rattle.slot_lock.specs.declared.plan.Goal.TheVariants as GoalOf;
 ghost use Rattle.slot_lock.specs.declared.plan.Target.TheVariants.{Run};
@@ -11,6 +11,7 @@ ghost use Rattle.machine_model.specs.Placing.{guess_of, has_run, placing, trying
 ghost use Rattle.machine_model.specs.Step.{Goes};
 ghost use Rattle.core_steps.specs.State.{phase_of, world};
 ghost use Rattle.core_steps.specs.Moving.{IsAt, IsOf, Tries, WantsMemory};
+ghost use Rattle.core_steps.specs.Dividing.{GoesAsMap};
 
 use crate::acquire::locking;
 use crate::answer::held_after;
@@ -201,9 +202,12 @@ impl<M: SlotMap, H: Hardware, A: Allocator, L: Ledger> Engine<M, H, A, L> {
         range: PageRange,
     ) -> Result<Outcome, NoMemory>
         requires { IsAt (world M.slots self.old) core (Phase.Cut place target range) }
-        ensures { Tries (Goes (world M.slots self.old) core (Phase.Cut place target range))
+        ensures row { Tries (Goes (world M.slots self.old) core (Phase.Cut place target range))
             (WantsMemory (world M.slots self.old) core (Phase.Cut place target range))
             (world M.slots self.old) result (world M.slots self.new) }
+        ensures divides { IfOk result
+            (λ outcome. GoesAsMap M.parts (M.slots self.old.map) core (Phase.Cut place target range)
+            outcome (M.slots self.new.map)) }
     {
         match self.map.cut_next(core, range)? {
             Fit::Cut => {}

@@ -35,8 +35,8 @@ pub fn run<M: SlotMap + Drop, A: Allocator + Clone + Drop, L: Opening<A> + Drop>
     requires { IsNew (M.slots map) }
     ensures run { IfOk result (λ done. RunsTo (new_world (made_of setup) (M.slots map)) events.now
         done.outcomes.items (state done.machine)) }
-    ensures joins { IfOk result (λ done. RunsAsMap M.can_fold M.folds (new_world (made_of setup) (M.slots map))
-        events.now done.outcomes.items (state done.machine)) }
+    ensures as_map { IfOk result (λ done. RunsAsMap M.parts M.can_fold M.folds (new_world (made_of setup)
+        (M.slots map)) events.now done.outcomes.items (state done.machine)) }
     ensures all { IfOk result (λ done. length done.outcomes.items ≡ length events.now) }
     ensures plain { IfOk result (λ done. LogsPlainly (given_files setup.files.items) events.now
         done.outcomes.items (state done.machine).calls.log) }

@@ -1,5 +1,5 @@
 -- A core's tables as a function of the page, and its TLB
-use Rattle.std.specs.Prelude.{ℕ, if◌then◌else◌, List, Option, None, Some, cond}
+use Rattle.std.specs.Prelude.{◌≡◌, ℕ, ◌/◌, ◌==◌, ◌||◌, Bool, false, if◌then◌else◌, List, Option, None, Some, cond}
 use Rattle.vm_base.specs.Pages.{is_page as is_valid}
 use Rattle.vm_base.specs.declared.rights.Access.{Access}
 use Rattle.mmu.specs.declared.entry.Translation.{Translation}
@@ -12,6 +12,20 @@ use Rattle.mmu.specs.Tlb.{tlb_without, tlb_filled, is_at}
 -- only valid pages have an entry
 abbrev pub on_pages : (ℕ → Option Translation) → ℕ → Option Translation
 on_pages entries p = cond (is_valid p) (entries p) None
+
+-- whether a table that may be there has this
+abbrev pub in_table : {T : Type 0} → (T → Bool) → Option T → Bool
+in_table has None = false
+in_table has (Some t) = has t
+
+-- of which pages the table of the last level is there, with the one of this page and of the 511 that
+-- share it
+abbrev pub with_last_table : ℕ → (ℕ → Bool) → ℕ → Bool
+with_last_table p is_there q = q / 512 == p / 512 || is_there q
+
+-- none of the 512 pages has an entry that share the page's table of the last level
+abbrev pub IsEmptyBeside : (ℕ → Option Translation) → ℕ → Type 0
+IsEmptyBeside table p = (q : ℕ) → q / 512 ≡ p / 512 → table q ≡ None
 
 -- the frame, if the access is permitted
 abbrev pub hit : Translation → Access → Translated

@@ -1,5 +1,5 @@
 //! What one core translates addresses by: tables of its own, and a TLB.
-ghost use Rattle.std.specs.Prelude.{◌≡◌, ◌&&◌, ◌/◌, ℕ, [], None, Some, true, is_some, not, length, ◌≤◌};
+ghost use Rattle.std.specs.Prelude.{◌≡◌, ◌&&◌, ℕ, [], None, Some, Bool, true, false, is_some, not, length, ◌≤◌};
 ghost use Rattle.std.specs.Prelude.{IfOk, OnOk, OnErr, List, Option, if◌then◌else◌};
 ghost use Rattle.vm_base.specs.Functions.{put, over, has};
 ghost use Rattle.vm_base.specs.Pages.{is_page as is_valid, are_pages};
@@ -8,7 +8,8 @@ ghost use Rattle.mmu.specs.declared.tlb.TlbEntry.{TlbEntry};
 ghost use Rattle.mmu.specs.Entry.{has_right, translation_of};
 ghost use Rattle.mmu.specs.Tlb.{tlb_at, tlb_without, are_distinct, is_at};
 ghost use Rattle.mmu.specs.Fills.{entries_of};
-ghost use Rattle.mmu.specs.Tables.{on_pages, translated, tlb_after, tlb_walked, word_of};
+ghost use Rattle.mmu.specs.Tables.{IsEmptyBeside, on_pages, translated, tlb_after, tlb_walked};
+ghost use Rattle.mmu.specs.Tables.{with_last_table, word_of};
 
 use crate::entry::Translation;
 use crate::level::{Inner, Leaf, Level};
@@ -28,6 +29,9 @@ pub trait Hardware: Drop {
     /// The tables: the translation of each page that has an entry.
     ghost table: { Self → ℕ → Option Translation };
 
+    /// Whether the page's table of the last level is there, which 512 pages share.
+    ghost has_table: { Self → ℕ → Bool };
+
     /// The TLB, the oldest filled first.
     ghost tlb: { Self → List TlbEntry };
 
@@ -39,19 +43,22 @@ pub trait Hardware: Drop {
         requires { is_valid page ≡ true }
         ensures value { result ≡ translated (tlb_at (tlb self.old) page) (table self.old page) access }
         ensures table { table self.new ≡ table self.old }
+        ensures tables { has_table self.new ≡ has_table self.old }
         ensures tlb { tlb self.new ≡ tlb_after result page (table self.old page) (tlb self.old) };
 
     /// Sets the table entry of a page whose protection gives some right. Memory may be wanting only
-    /// where a table is missing: then none of the 512 pages that share the page's table of the last
-    /// level has an entry, and no entry changes. The TLB stays in both cases.
+    /// where the page's table of the last level is missing: then none of the 512 pages that share it
+    /// has an entry, and nothing changes. The TLB stays in both cases.
     fn install(&mut self, page: u64, frame: u32, prot: Prot) -> Result<(), NoMemory>
         requires page { is_valid page ≡ true }
         requires some_right { has_right prot ≡ true }
         ensures ok { OnOk result
             (table self.new ≡ put (table self.old) page (Some (translation_of frame prot))) }
         ensures err { OnErr result (table self.new ≡ table self.old) }
-        ensures err_only { OnErr result (table self.old page ≡ None) }
-        ensures err_last { OnErr result ((q : ℕ) → q / 512 ≡ page / 512 → table self.old q ≡ None) }
+        ensures err_last { OnErr result (IsEmptyBeside (table self.old) page) }
+        ensures tables { OnOk result (has_table self.new ≡ with_last_table page (has_table self.old)) }
+        ensures err_tables { OnErr result (has_table self.new ≡ has_table self.old) }
+        ensures err_only { OnErr result (has_table self.old page ≡ false) }
         ensures tlb { tlb self.new ≡ tlb self.old };
 
     /// Fills the TLB from the tables without an access, where the tables have the page and the TLB
@@ -61,6 +68,7 @@ pub trait Hardware: Drop {
         ensures value { result
             ≡ not (is_some (tlb_at (tlb self.old) page)) && is_some (table self.old page) }
         ensures table { table self.new ≡ table self.old }
+        ensures tables { has_table self.new ≡ has_table self.old }
         ensures tlb { tlb self.new
             ≡ tlb_walked (tlb_at (tlb self.old) page) (table self.old page) page (tlb self.old) };
 
@@ -68,6 +76,7 @@ pub trait Hardware: Drop {
     fn evict(&mut self, page: u64) -> bool
         ensures value { result ≡ is_some (tlb_at (tlb self.old) page) }
         ensures table { table self.new ≡ table self.old }
+        ensures tables { has_table self.new ≡ has_table self.old }
         ensures tlb { tlb self.new
             ≡ (if result then tlb_without (is_at page) (tlb self.old) else tlb self.old) };
 
@@ -76,12 +85,14 @@ pub trait Hardware: Drop {
     fn clear_tables(&mut self, range: PageRange)
         requires { are_pages range ≡ true }
         ensures table { table self.new ≡ over (table self.old) (has range) None }
+        ensures tables { has_table self.new ≡ has_table self.old }
         ensures tlb { tlb self.new ≡ tlb self.old };
 
     /// Drops the translations of the pages of the range from the TLB (Intel SDM volume 3A,
     /// invalidation of TLBs). The tables stay.
     fn invalidate(&mut self, range: PageRange)
         ensures table { table self.new ≡ table self.old }
+        ensures tables { has_table self.new ≡ has_table self.old }
         ensures tlb { tlb self.new ≡ tlb_without (has range) (tlb self.old) };
 
     /// The 64 bits of the page's last-level entry, if it is present.
@@ -107,6 +118,7 @@ impl<A: Allocator + Clone> Cpu<A> {
     /// there is no core.
     pub fn new(alloc: A) -> Result<Self, NoMemory>
         ensures table { IfOk result (λ c. (p : ℕ) → ⟦<Self as Hardware>⟧.table c p ≡ None) }
+        ensures tables { IfOk result (λ c. (p : ℕ) → ⟦<Self as Hardware>⟧.has_table c p ≡ false) }
         ensures tlb { IfOk result (λ c. ⟦<Self as Hardware>⟧.tlb c ≡ []) }
     {
         let Ok(of_root) = alloc.clone() else {
@@ -125,6 +137,8 @@ impl<A: Allocator + Clone> Cpu<A> {
 
 impl<A: Allocator + Clone> Hardware for Cpu<A> {
     ghost table = { λ c. on_pages (⟦<Root<A> as Level<A>>⟧.entry_at c.root) };
+
+    ghost has_table = { λ c. ⟦<Root<A> as Level<A>>⟧.has_table c.root };
 
     ghost tlb = { λ c. entries_of c.tlb.fills.items };
 

@@ -1,10 +1,12 @@
 //! Page tables of one level and those below: a finite map from the pages that they cover to
 //! translations.
 ghost use Rattle.std.specs.Prelude.{◌≡◌, ◌≢◌, ℕ, ◌+◌, ◌^◌, length, ◌*◌, ◌/◌, ◌%◌, ◌<◌, ◌≤◌, Option};
+ghost use Rattle.std.specs.Prelude.{◌==◌, Bool, true, false};
 ghost use Rattle.std.specs.Prelude.{None, Some, IfOk, OnOk, OnErr, vec_len, slice_index};
 ghost use Rattle.std.specs.Prelude.{slice_index_or, option_and_then};
 ghost use Rattle.vm_base.specs.Functions.{put, over, has};
 ghost use Rattle.mmu.specs.Entry.{decode};
+ghost use Rattle.mmu.specs.Tables.{in_table, with_last_table};
 ghost use Rattle.mmu.specs.declared.entry.Translation.{Translation};
 ghost use Rattle.std.proofs.Common.{lit<, arith, refl};
 
@@ -21,6 +23,9 @@ pub trait Level<A: Allocator>: Drop {
 
     ghost entry_at: { Self → ℕ → Option Translation };
 
+    /// Whether the page's table of the last level is there.
+    ghost has_table: { Self → ℕ → Bool };
+
     /// The entry of a page, in a table that covers `width` pages.
     fn entry(&self, width: u64, page: u64) -> Option<Translation>
         requires width { width ≡ pages }
@@ -31,17 +36,19 @@ pub trait Level<A: Allocator>: Drop {
     fn clear(&mut self, width: u64, range: PageRange)
         requires width { width ≡ pages }
         requires covered { range.end ≤ pages }
-        ensures { (q : ℕ) → q < pages
-            → entry_at self.new q ≡ over (entry_at self.old) (has range) None q };
+        ensures entries { (q : ℕ) → q < pages
+            → entry_at self.new q ≡ over (entry_at self.old) (has range) None q }
+        ensures tables { (q : ℕ) → has_table self.new q ≡ has_table self.old q };
 
-    /// A table without entries.
+    /// A table without entries, and without tables below it.
     fn make(alloc: A) -> Result<Self, NoMemory>
     where
         Self: Sized,
-        ensures { IfOk result (λ t. (page : ℕ) → entry_at t page ≡ None) };
+        ensures entries { IfOk result (λ t. (page : ℕ) → entry_at t page ≡ None) }
+        ensures tables { IfOk result (λ t. (page : ℕ) → has_table t page ≡ (pages == 512)) };
 
-    /// Sets the entry of a page. Where memory is refused no entry changes, and none of the 512
-    /// pages has one that share the page's table of the last level.
+    /// Sets the entry of a page. Memory is refused only where the page's table of the last level is
+    /// missing, so that none of the 512 pages that share it has an entry; then nothing changes.
     fn install(
         &mut self,
         alloc: &A,
@@ -53,10 +60,13 @@ pub trait Level<A: Allocator>: Drop {
         requires page { page < pages }
         ensures there { OnOk result (entry_at self.new page ≡ Some translation) }
         ensures err { OnErr result (entry_at self.new page ≡ entry_at self.old page) }
-        ensures err_only { OnErr result (entry_at self.old page ≡ None) }
         ensures err_last { OnErr result ((q : ℕ) → q < pages → q / 512 ≡ page / 512
             → entry_at self.old q ≡ None) }
-        ensures others { (q : ℕ) → q < pages → q ≢ page → entry_at self.new q ≡ entry_at self.old q };
+        ensures others { (q : ℕ) → q < pages → q ≢ page → entry_at self.new q ≡ entry_at self.old q }
+        ensures tables { OnOk result ((q : ℕ)
+            → has_table self.new q ≡ with_last_table page (has_table self.old) q) }
+        ensures err_tables { OnErr result ((q : ℕ) → has_table self.new q ≡ has_table self.old q) }
+        ensures err_only { OnErr result (has_table self.old page ≡ false) };
 
     ghost some_page: { 0 < pages };
 
@@ -75,6 +85,8 @@ impl<A: Allocator + Clone> Level<A> for Leaf<A> {
     ghost pages = { 512 };
 
     ghost entry_at = { λ t page. decode (slice_index t.entries.items page) };
+
+    ghost has_table = { λ t page. true };
 
     ghost some_page = { lit< tt };
 
@@ -130,6 +142,9 @@ impl<C: Level<A>, A: Allocator + Clone> Level<A> for Inner<C, A> {
     ghost pages = { 512 * C.pages };
 
     ghost entry_at = { λ t page. option_and_then (λ b. C.entry_at b.value (page % C.pages))
+        (slice_index_or t.tables.items (page / C.pages) None) };
+
+    ghost has_table = { λ t page. in_table (λ b. C.has_table b.value (page % C.pages))
         (slice_index_or t.tables.items (page / C.pages) None) };
 
     ghost some_page = { Prim.omega (arith, C.some_page) };
@@ -190,6 +205,8 @@ fn made<C: Level<A>, A: Allocator + Clone>(
     requires page { page < C.pages }
     ensures there { IfOk result (λ b. C.entry_at b.value page ≡ Some translation) }
     ensures others { IfOk result (λ b. (q : ℕ) → q < C.pages → q ≢ page → C.entry_at b.value q ≡ None) }
+    ensures tables { IfOk result (λ b. (q : ℕ)
+        → C.has_table b.value q ≡ with_last_table page (λ _. C.pages == 512) q) }
 {
     let Ok(one) = alloc.clone() else {
         return Err(NoMemory);
@@ -220,6 +237,9 @@ fn clear_tables<C: Level<A>, A: Allocator>(
         (slice_index_or tables.new.items (q / C.pages) None)
         ≡ over (λ p. option_and_then (λ b. C.entry_at b.value (p % C.pages))
         (slice_index_or tables.old.items (p / C.pages) None)) (has range) None q }
+    ensures tables { (q : ℕ)
+        → in_table (λ b. C.has_table b.value (q % C.pages)) (slice_index_or tables.new.items (q / C.pages) None)
+        ≡ in_table (λ b. C.has_table b.value (q % C.pages)) (slice_index_or tables.old.items (q / C.pages) None) }
 {
     let end = range.end.div_ceil(below);
     'tables: for i in range.first / below..end {
@@ -239,9 +259,11 @@ fn clear_table<C: Level<A>, A: Allocator>(
 )
     requires width { width ≡ C.pages }
     requires covered { range.end ≤ C.pages }
-    ensures { (r : ℕ) → r < C.pages
+    ensures entries { (r : ℕ) → r < C.pages
         → option_and_then (λ b. C.entry_at b.value r) table.new
         ≡ over (λ q. option_and_then (λ b. C.entry_at b.value q) table.old) (has range) None r }
+    ensures tables { (r : ℕ) → in_table (λ b. C.has_table b.value r) table.new
+        ≡ in_table (λ b. C.has_table b.value r) table.old }
 {
     if let Some(table) = table {
         table.clear(width, range);

@@ -1,5 +1,5 @@
 -- What a tree of slots says of each page
-use Rattle.std.specs.Prelude.{◌≡◌, ℕ, ◌*◌, ◌==◌, ◌<◌, ◌≤◌, ◌^◌, List}
+use Rattle.std.specs.Prelude.{◌≡◌, ℕ, ◌*◌, ◌%◌, ◌==◌, ◌||◌, ◌<◌, ◌≤◌, ◌^◌, nat_le, Bool, None, List}
 use Rattle.vm_base.specs.Info.{info_from}
 use Rattle.vm_base.specs.Pages.{IsPage}
 use Rattle.slot_lock.specs.Slots.{Slots}
@@ -17,6 +17,15 @@ slots_of rs = record {
 -- what the tree below a root says
 abbrev pub tree_slots : Parts → Slots
 tree_slots v = slots_of (runs v)
+
+-- where the slots of a root begin that has no child: each has 2^27 pages, and above them each number
+-- stands alone
+abbrev pub root_edges : ℕ → Bool
+root_edges p = p % 2 ^ 27 == 0 || nat_le (2 ^ 36) p
+
+-- a tree in which nothing is mapped, nothing is held, and only the root has slots
+abbrev pub new_tree : Slots
+new_tree = record { info = λ p. None; owner = λ p. None; edge = root_edges }
 
 -- the root has four levels, and what is no page is never mapped and never held
 pub record IsRadix (v : Parts) : Type 0 where

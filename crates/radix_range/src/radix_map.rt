@@ -29,10 +29,12 @@ pub struct RadixMap<A: Allocator> {
 
 impl<A: Allocator + Clone> RadixMap<A> {
     ghost use Rattle.slot_lock.specs.Slots.{IsNew};
+    ghost use Rattle.radix_range.specs.Tree.{root_edges};
 
     /// All valid pages unmapped and unheld, in the slots of the root.
     pub fn new(alloc: A) -> Result<RadixMap<A>, NoMemory>
-        ensures { IfOk result (λ map. IsNew (⟦<RadixMap<A> as SlotRead>⟧.slots map)) }
+        ensures new { IfOk result (λ map. IsNew (⟦<RadixMap<A> as SlotRead>⟧.slots map)) }
+        ensures edges { IfOk result (λ map. (⟦<RadixMap<A> as SlotRead>⟧.slots map).edge ≡ root_edges) }
     {
         match Node::new(alloc, 3) {
             Ok(root) => Ok(RadixMap {

@@ -1,4 +1,4 @@
-use Rattle.std.proofs.Common.{◌≡◌, take, inr, rules, subst}
+use Rattle.std.proofs.Common.{◌≡◌, ◌<◌, ℕ, zero, suc, true, false, take, inl, inr, refl, rules, subst, arith}
 use Rattle.core_steps.specs.State.{world}
 use Rattle.machine_model.specs.World.{new_world}
 use Rattle.machine_model.specs.Step.{Run}
@@ -6,13 +6,13 @@ use Rattle.std.proofs.lemmas.List.{take_all}
 use Rattle.core_steps.specs.Setups.{made_of}
 use Rattle.core_steps.proofs.Reached.{few_cores}
 use Rattle.core_steps.specs.Running.{RunsAsMap}
-use Rattle.core_steps.proofs.Runs.{next_run, next_joined, all_plain, refused_next, all_bracketed, all_sound}
+use Rattle.core_steps.proofs.Runs.{next_run, next_as_map, all_plain, refused_next, all_bracketed, all_sound}
 use Rattle.core_steps.proofs.running.run.Goals as goal
 
 pub events-init : goal.events-init
 events-init g c = record {
   run = rw c.in-Ok-with_capacity.ensures.items c.in-Ok-new.ensures.opening;
-  joins = rw c.in-Ok-with_capacity.ensures.items c.in-Ok-new.ensures.opening;
+  as_map = rw c.in-Ok-with_capacity.ensures.items c.in-Ok-new.ensures.opening;
   room = search rules;
   count = search rules;
 }
@@ -20,7 +20,8 @@ events-init g c = record {
 pub events-preserved : goal.events-preserved
 events-preserved g c = record {
   run = rw c.push_reserved.ensures.items (next_run _ _ _ _ _ _ _ _ c.events-test.true c.index-events-at.is c.events.invariant.run c.in-Ok-step.ensures.step);
-  joins = rw c.push_reserved.ensures.items (next_joined _ _ _ _ _ _ _ _ _ _ c.events-test.true c.index-events-at.is c.events.invariant.joins c.in-Ok-step.ensures.step c.in-Ok-step.ensures.joins);
+  as_map = rw c.push_reserved.ensures.items (next_as_map _ _ _ _ _ _ _ _ _ _ _ c.events-test.true c.index-events-at.is c.events.invariant.as_map
+      c.in-Ok-step.ensures.step c.in-Ok-step.ensures.joins c.in-Ok-step.ensures.divides);
   room = search rules;
   count = search rules;
 }
@@ -49,14 +50,24 @@ returns-in-Err-step-clause-fault g c = (
   inr (refused_next _ _ c.events.at c.index-events-at.result _ _ c.events-test.true c.index-events-at.is c.events.invariant.run c.in-Err-step.ensures.step.1),
 )
 
-pub returns-clause-joins : goal.returns-clause-joins
-returns-clause-joins g c =
+pub returns-clause-as_map : goal.returns-clause-as_map
+returns-clause-as_map g c =
     let all : take c.events.at c.args.events.now ≡ c.args.events.now = take_all c.events.at c.args.events.now c.events-test.false in
     let new = new_world (made_of c.args.setup) (g.M.SlotRead.slots c.args.map) in
-    subst (λ es. RunsAsMap g.M.SlotMap.can_fold g.M.SlotMap.folds new es c.events.outcomes.items (world g.M.SlotRead.slots c.events.machine.engine)) all c.events.invariant.joins
+    subst (λ es. RunsAsMap g.M.SlotMap.parts g.M.SlotMap.can_fold g.M.SlotMap.folds new es c.events.outcomes.items
+    (world g.M.SlotRead.slots c.events.machine.engine)) all c.events.invariant.as_map
 
 pub returns-clause-plain : goal.returns-clause-plain
 returns-clause-plain g c =
     let all : take c.events.at c.args.events.now ≡ c.args.events.now = take_all c.events.at c.args.events.now c.events-test.false in
     all_plain (made_of c.args.setup) (g.M.SlotRead.slots c.args.map) _ c.args.events.now c.events.outcomes.items _
     (few_cores c.args.setup c.in-Ok-new.ensures.sound) c.requires all c.events.invariant.run
+
+-- a list that finds no room is to have an outcome
+some_outcome : (n : ℕ) → (n ≡ 0 → false ≡ true) → 0 < n
+some_outcome zero h = let e : false ≡ true = h refl in absurd (cc)
+some_outcome (suc n) h = omega arith
+
+pub returns-in_default-with_capacity-clause-fault : goal.returns-in_default-with_capacity-clause-fault
+returns-in_default-with_capacity-clause-fault g c =
+    (c.in-Ok-new.ensures.sound, inl (refl, some_outcome _ c.in_default-with_capacity.ensures.succeeds))

@@ -12,8 +12,8 @@ abbrev pub invariant-events : goal.invariant-events
 invariant-events g l = record {
   run : Run (new_world (made_of l.fn.setup) (g.M.SlotRead.slots l.fn.map)) (take l.at l.events) l.outcomes.items
       (world g.M.SlotRead.slots l.machine.engine);
-  joins : RunsAsMap g.M.SlotMap.can_fold g.M.SlotMap.folds (new_world (made_of l.fn.setup) (g.M.SlotRead.slots l.fn.map)) (take l.at l.events)
-      l.outcomes.items (world g.M.SlotRead.slots l.machine.engine);
+  as_map : RunsAsMap g.M.SlotMap.parts g.M.SlotMap.can_fold g.M.SlotMap.folds (new_world (made_of l.fn.setup) (g.M.SlotRead.slots l.fn.map))
+      (take l.at l.events) l.outcomes.items (world g.M.SlotRead.slots l.machine.engine);
   room : length l.events ≤ vec_capacity l.outcomes;
   count : vec_len l.outcomes ≡ l.at;
 }

@@ -1,8 +1,10 @@
-use Rattle.std.proofs.Common.{◌≡◌, ℕ, ◌+◌, ◌*◌, ◌/◌, ◌%◌, ◌<◌, ◌≤◌, ◌&&◌, nat_lt, arith, ap, sym, ◌∙◌, Option, Box, None, cond, length, get_or}
+use Rattle.std.proofs.Common.{refl, ◌≡◌, ℕ, ◌+◌, ◌*◌, ◌/◌, ◌%◌, ◌<◌, ◌≤◌, ◌&&◌, nat_lt, arith, ap, sym, ◌∙◌, Option, Box, None, cond, length, get_or}
 use Rattle.std.specs.Prelude.{option_and_then}
 use Rattle.std.proofs.lemmas.List.{get_or_default}
 use Rattle.std.specs.Int.{div_ceil}
 use Rattle.vm_base.specs.Functions.{has}
+use Rattle.mmu.specs.Tables.{in_table}
+use Rattle.mmu.proofs.LastTable.{none_more}
 use Rattle.mmu.proofs.Clearing.{cleared_next, none_before, all_before, within_tables, past_end}
 use Rattle.mmu.proofs.level.clear_tables.Goals as goal
 
@@ -14,6 +16,7 @@ tables-init g c =
       full = c.requires.full;
       entries = λ q. sym (ap (λ b. cond b None (option_and_then (λ b. g.C.Level.entry_at b.value (q % P)) (get_or c.args.tables.now.items (q / P) None)))
           (ap (λ k. has r q && nat_lt (q / P) (r.first / k)) c.requires.below ∙ none_before r P q g.met.C.Level.some_page));
+      tables = λ q. refl;
     }
 
 pub tables-preserved : goal.tables-preserved
@@ -31,9 +34,12 @@ tables-preserved g c =
       full = c.tables.invariant.full;
       entries = cleared_next at None c.args.tables.now.items None P (has r) items i (has c.part.result) c.clear_table.new.table
           g.met.C.Level.some_page in' c.tables.invariant.entries
-          (λ k h. c.clear_table.ensures k h ∙ ap (λ o. cond (has c.part.result k) None (at o k)) (c.index_mut.ensures.value
+          (λ k h. c.clear_table.ensures.entries k h ∙ ap (λ o. cond (has c.part.result k) None (at o k)) (c.index_mut.ensures.value
           ∙ get_or_default items i c.index_mut.result.now None in'))
           (λ k h. c.part.ensures.pages k (rw c.requires.below h) ∙ ap (λ b. has r (i * b + k)) c.requires.below);
+      tables = λ q. none_more (λ (b : Box g.row.C.Denot g.row.A.Denot) (k : ℕ). g.C.Level.has_table b.value k) P items i c.clear_table.new.table in'
+          (λ k. c.clear_table.ensures.tables k ∙ ap (in_table (λ (b : Box g.row.C.Denot g.row.A.Denot). g.C.Level.has_table b.value k))
+          (c.index_mut.ensures.value ∙ get_or_default items i c.index_mut.result.now None in')) q ∙ c.tables.invariant.tables q;
     }
 
 pub returns-clause-entries : goal.returns-clause-entries

@@ -1,4 +1,5 @@
 use Rattle.std.proofs.Common.{inl, refl, sym, ap, ◌∙◌}
+use Rattle.std.proofs.lemmas.Result.{err_from_is_err_and}
 use Rattle.core_steps.specs.State.{world}
 use Rattle.slot_lock.specs.declared.plan.Plan.TheVariants.{Touch}
 use Rattle.machine_model.specs.declared.phase.Phase.TheVariants.{Install, Release}
@@ -48,3 +49,8 @@ returns g c = elim c.match-page.branch [
         ∙ x.in-Some.is) search)
   ]
 ]
+
+pub returns-in_err-install : goal.returns-in_err-install
+returns-in_err-install g c =
+    let p = err_from_is_err_and c.from_residual.result c.from_residual.ensures.1 in
+    rw p.1 (rw c.in_err-install.ensures.err refl, c.in_err-install.ensures.err_last)

@@ -8,4 +8,4 @@ pub go-requires-clause-fine : goal.go-requires-clause-fine
 go-requires-clause-fine g c = fine _ c.requires.reached
 
 pub returns-in-Ok : goal.returns-in-Ok
-returns-in-Ok g c = (takes_one _ _ c.args.core (Go c.args.core) _ c.requires refl c.in-Ok.ensures).step
+returns-in-Ok g c = (takes_one _ _ c.args.core (Go c.args.core) _ c.requires refl c.in-Ok.ensures.row).step

@@ -1,7 +1,7 @@
 use Rattle.std.proofs.Common.{◌≡◌, ℕ, true, arith}
 use Rattle.vm_base.specs.Functions.{has}
 use Rattle.vm_base.proofs.Functions.{has_in}
-use Rattle.radix_range.proofs.New.{new_radix, is_new}
+use Rattle.radix_range.proofs.New.{new_radix, is_new, root_edged}
 use Rattle.radix_range.proofs.radix_map.RadixMap.new.Goals as goal
 
 pub invariant_of-result : goal.invariant_of-result
@@ -13,5 +13,8 @@ invariant_of-result g c = record {
     no_page : (p : ℕ) → has (record { first = 0; end = 0 }) p ≡ true → ⊥
     no_page p h = let (low, high) = has_in _ p h in omega arith
 
-pub returns-in-Ok : goal.returns-in-Ok
-returns-in-Ok g c = is_new c.in-Ok.root c.in-Ok.ensures.is
+pub returns-in-Ok-clause-new : goal.returns-in-Ok-clause-new
+returns-in-Ok-clause-new g c = is_new c.in-Ok.root c.in-Ok.ensures.is
+
+pub returns-in-Ok-clause-edges : goal.returns-in-Ok-clause-edges
+returns-in-Ok-clause-edges g c = root_edged c.in-Ok.root c.in-Ok.ensures.is
