@@ -6,6 +6,8 @@ use Rattle.machine_model.specs.declared.event.Outcome.{Outcome}
 use Rattle.machine_model.specs.declared.event.Outcome.TheVariants.{Stepped, Wait, Idle, Answered, Full}
 use Rattle.machine_model.specs.World.{World, Made, new_world}
 use Rattle.slot_lock.specs.Slots.{Slots, IsNew}
+use Rattle.radix_range.specs.Tree.{root_edges, new_tree}
+use Rattle.radix_range.proofs.New.{is_new_tree}
 use Rattle.trace.specs.Declarations.{Asked, asked_fault, made_by}
 use Rattle.trace.specs.declared.fault.TraceFault.{TraceFault}
 use Rattle.trace.specs.declared.fault.TraceFault.TheVariants as By
@@ -42,9 +44,10 @@ line_gives line l r u P e k h = subst (λ o. IsSomeAnd o P) (sym e) (subst (λ r
 
 -- a machine is made of what is asked for
 pub opened : (asked : Option Asked) (a : Asked) (made : Made) (slots : Slots) (w : World) → asked ≡ Some a → asked_fault a ≡ None → IsNew slots
-    → made ≡ made_by a → w ≡ new_world made slots → Opens (stage_of asked None) w
-opened asked a made slots w e none new same is =
-    subst (λ o. Opens (stage_of o None) w) (sym e) (none, (slots, new, subst (λ m. w ≡ new_world m slots) same is))
+    → slots.edge ≡ root_edges → made ≡ made_by a → w ≡ new_world made slots → Opens (stage_of asked None) w
+opened asked a made slots w e none new edges same is =
+    let here : slots ≡ new_tree = is_new_tree slots new edges in
+    subst (λ o. Opens (stage_of o None) w) (sym e) (none, is ∙ ap (λ m. new_world m slots) same ∙ ap (new_world (made_by a)) here)
 
 pub can_open : (s : Stage) (w : World) → Opens s w → CanOpen s
 can_open Start w h = h

@@ -2,12 +2,12 @@
 use Rattle.std.proofs.Common.{◌≡◌, ℕ, zero, suc, ◌≤◌, List, [], ◌∷◌, ◌++◌, Option, None, Some, refl, sym, ap, subst, append_assoc, append-nil}
 use Rattle.std.specs.Prelude.{replicate, IsSomeAnd}
 use Rattle.vm_base.specs.declared.requests.Request.{Request}
-use Rattle.slot_lock.specs.Slots.{Slots, IsNew}
+use Rattle.radix_range.proofs.New.{new_tree_new}
 use Rattle.machine_model.specs.declared.event.Event.{Event}
 use Rattle.machine_model.specs.declared.event.Event.TheVariants as Ev
 use Rattle.machine_model.specs.declared.event.Outcome.{Outcome}
 use Rattle.machine_model.specs.declared.event.Outcome.TheVariants.{Stepped, Wait, Idle, Answered, Full}
-use Rattle.machine_model.specs.World.{World, new_world}
+use Rattle.machine_model.specs.World.{World}
 use Rattle.machine_model.specs.Step.{Step, StepsTo, Run}
 use Rattle.machine_laws.proofs.Bracketed.{bracketed}
 use Rattle.machine_sound.proofs.Kept.{runs_sound}
@@ -21,7 +21,7 @@ use Rattle.trace_text.specs.declared.line.Line.TheVariants.{Blank, Space, File, 
 use Rattle.trace.specs.Events.{event_of}
 use Rattle.trace.specs.OutcomeText.{finished_text}
 use Rattle.trace.specs.Gives.{Gives, TellsFinish, TellsCall}
-use Rattle.trace.specs.Stage.{Stage, Start, Declared, Running, Opens, LineActs, EventActs}
+use Rattle.trace.specs.Stage.{Stage, Start, Declared, Running, Opens, LineActs, EventActs, new_machine}
 use Rattle.trace.specs.Runs.{Runs}
 use Rattle.trace.proofs.Opening.{few_cores}
 use Rattle.trace.specs.EventRuns.{AsksFinish, Asks, AllAsk, IsRun}
@@ -126,10 +126,8 @@ moved (Now core request) w v text h = called core request h.0 w h.1 v text h.2 h
 
 pub record HasRun (w : World) (es : List Event) (os : List Outcome) : Type 0 where
   pub asked : Asked
-  pub slots : Slots
   pub few : asked.cores ≤ 64
-  pub new : IsNew slots
-  pub run : Run (new_world (made_by asked) slots) es os w
+  pub run : Run (new_machine asked) es os w
 
 -- so many events came before the stage
 abbrev pub IsReached : Stage → List Event → List Outcome → Type 0
@@ -141,10 +139,8 @@ opened : (s : Stage) (w : World) (es : List Event) (os : List Outcome) → IsRea
 opened Start w es os r o = absurd o
 opened (Declared s) w es os r o = record {
   asked = s;
-  slots = o.1.0;
   few = few_cores s o.0;
-  new = o.1.1;
-  run = subst (λ es. Run (new_world (made_by s) o.1.0) es os w) (sym r.0) (subst (λ os. Run (new_world (made_by s) o.1.0) [] os w) (sym r.1) o.1.2);
+  run = subst (λ es. Run (new_machine s) es os w) (sym r.0) (subst (λ os. Run (new_machine s) [] os w) (sym r.1) o.1);
 }
 opened (Running m) w es os r o = subst (λ x. HasRun x es os) (sym o) r
 
@@ -176,10 +172,8 @@ event_next line old new es os text r (w, v, opens, gives, is) =
       reached = subst (λ s. IsReached s (es ++ m.events) (os ++ m.outcomes)) (sym is)
           (record {
             asked = h.asked;
-            slots = h.slots;
             few = h.few;
-            new = h.new;
-            run = run_then es m.events os m.outcomes (new_world (made_by h.asked) h.slots) w v h.run m.run;
+            run = run_then es m.events os m.outcomes (new_machine h.asked) w v h.run m.run;
           });
     }
 
@@ -266,12 +260,10 @@ traces_are_runs lines text w r =
     let h : HasRun w a.events a.outcomes = a.reached in
     record {
       asked = h.asked;
-      slots = h.slots;
-      new = h.new;
       events = a.events;
       outcomes = a.outcomes;
       asks = a.asks;
       run = h.run;
-      sound = runs_sound (made_by h.asked) h.slots a.events a.outcomes w h.few h.new h.run;
-      brackets = bracketed (made_by h.asked) h.slots a.events a.outcomes w h.few h.new h.run;
+      sound = runs_sound (made_by h.asked) _ a.events a.outcomes w h.few new_tree_new h.run;
+      brackets = bracketed (made_by h.asked) _ a.events a.outcomes w h.few new_tree_new h.run;
     }

@@ -1,5 +1,5 @@
 -- The text of a trace in which no call runs beside another, and what comes behind it, are those of the plain page map and the users of its pages.
-use Rattle.std.proofs.Common.{◌≡◌, ◌≢◌, ℕ, ◌≤◌, ◌<◌, ◌==◌, ◌⊎◌, inl, inr, Bool, true, false, cond, List, [], ◌∷◌}
+use Rattle.std.proofs.Common.{◌≡◌, ◌≢◌, ℕ, ◌≤◌, ◌<◌, ◌==◌, ◌⊎◌, inl, inr, Bool, true, false, cond, List, [], ◌∷◌, ◌++◌}
 use Rattle.std.proofs.Common.{Option, None, Some, refl, sym, ap, subst, ◌∙◌, arith, length}
 use Rattle.std.specs.Prelude.{◌^◌, nat_lt, pred, IsSomeAnd}
 use Rattle.std.proofs.Math.Path.{fun_ext}
@@ -10,6 +10,8 @@ use Rattle.vm_base.specs.declared.requests.Request.{Request}
 use Rattle.vm_base.specs.Plain.{file_with, nothing_mapped}
 use Rattle.vm_base.proofs.Functions.{eq_true, eq_false}
 use Rattle.slot_lock.specs.Slots.{Slots, IsNew}
+use Rattle.radix_range.specs.Tree.{new_tree}
+use Rattle.radix_range.proofs.New.{new_tree_new}
 use Rattle.map_list.specs.declared.lines.MapLine.{MapLine}
 use Rattle.map_list.specs.Lines.{IsMapList, plain_metas}
 use Rattle.machine_model.specs.declared.event.Event.{Event}
@@ -29,6 +31,7 @@ use Rattle.machine_alone.specs.Alone.{IsBesideCalls, IsCalm, left_to}
 use Rattle.core_steps.specs.declared.machine.Finished.{Finished}
 use Rattle.core_steps.specs.declared.machine.Finished.TheVariants.{Last, Stuck}
 use Rattle.core_steps.specs.Finishing.{EndsIn}
+use Rattle.trace_text.proofs.LineLemmas.{line_is_said}
 use Rattle.trace_text.specs.Line.{line_of, seeded}
 use Rattle.trace_text.specs.declared.action.Action.{Action}
 use Rattle.trace_text.specs.declared.action.Action.TheVariants as By
@@ -46,7 +49,7 @@ use Rattle.trace.specs.Runs.{Runs}
 use Rattle.trace.specs.Shown.{log_at, ListsUpTo, IsBehind}
 use Rattle.trace.specs.PlainText.{Open, Reached, nothing_reached, one_more, AnswersAtOnce, IsHeldUp, NowAnswers, FinishAnswers, OpenAnswers}
 use Rattle.trace.specs.PlainText.{Idles, TakeAnswers, ActAnswers, MayStep, CoreMayStep, LineAnswers, Disturbs, AllAnswer, IsLogOf}
-use Rattle.trace.specs.PlainText.{IsPlainBehind, takes_apart, AreWhole, with_opened}
+use Rattle.trace.specs.PlainText.{IsPlainBehind, with_opened}
 use Rattle.trace.specs.PlainLaw.{events_at, GivesPlainText}
 use Rattle.trace.proofs.Disturbing.{gives_up}
 use Rattle.core_steps.proofs.Limits.{step_grows}
@@ -141,32 +144,32 @@ takes w v s core o text m below k t =
             go true i = absurd (let y = z.there core (grind (arith, nat_tests)) in cc)
             go false i = i
 
-acts : (w v : World) (s : Reached) (core : ℕ) (action : Action) (o : Outcome) (text : List ℕ) → takes_apart (Some (Act core action)) ≡ false → Meets w s
+acts : (w v : World) (s : Reached) (core : ℕ) (action : Action) (o : Outcome) (text : List ℕ) → Meets w s
     → w.calls.events < event_limit → Step w (event_of core action) o v → text ≡ outcome_text o
     → Disturbs s.waiting (Act core action) ⊎ IsNext v (λ r. ActAnswers s core action r text)
-acts w v s core (By.Call request) o text a m below k t = absurd cc
-acts w v s core By.Go o text a m below k t = absurd cc
-acts w v s core By.Take o text a m below k t = inr (takes w v s core o text m below k t)
-acts w v s core (By.Frame f) o text a m below k t =
+acts w v s core (By.Call request) o text m below k t = inl tt
+acts w v s core By.Go o text m below k t = inl tt
+acts w v s core By.Take o text m below k t = inr (takes w v s core o text m below k t)
+acts w v s core (By.Frame f) o text m below k t =
     let z = beside w v s (Ev.Frame core f) o m tt below k in inr (idle v s o text z.2.0 t (meets_beside w v s m z.0 z.1 z.2.1))
-acts w v s core By.GiveUp o text a m below k t = elim (gives_up w s core m) [
+acts w v s core By.GiveUp o text m below k t = elim (gives_up w s core m) [
   | inl d ↦ inl d
   | inr b ↦ let z = beside w v s (Ev.GiveUp core) o m b below k in inr (idle v s o text z.2.0 t (meets_beside w v s m z.0 z.1 z.2.1))
 ]
-acts w v s core By.Flush o text a m below k t =
+acts w v s core By.Flush o text m below k t =
     let z = beside w v s (Ev.Flush core) o m tt below k in
     inr (core_may_step w v s core (Ev.Flush core) o text refl m below k z.2.0 z.0 t (meets_beside w v s m z.0 z.1 z.2.1))
-acts w v s core By.Review o text a m below k t =
+acts w v s core By.Review o text m below k t =
     let z = beside w v s (Ev.Review core) o m tt below k in
     inr (core_may_step w v s core (Ev.Review core) o text refl m below k z.2.0 z.0 t (meets_beside w v s m z.0 z.1 z.2.1))
-acts w v s core (By.Guess p) o text a m below k t =
+acts w v s core (By.Guess p) o text m below k t =
     let z = beside w v s (Ev.Guess core p) o m tt below k in inr (idle v s o text z.2.0 t (meets_beside w v s m z.0 z.1 z.2.1))
-acts w v s core By.Whole o text a m below k t =
+acts w v s core By.Whole o text m below k t =
     let z = beside w v s (Ev.Whole core) o m tt below k in inr (idle v s o text z.2.0 t (meets_beside w v s m z.0 z.1 z.2.1))
-acts w v s core (By.Walk p) o text a m below k t =
+acts w v s core (By.Walk p) o text m below k t =
     let z = beside w v s (Ev.Walk core p) o m tt below k in
     inr (core_may_step w v s core (Ev.Walk core p) o text refl m below k z.2.0 z.0 t (meets_beside w v s m z.0 z.1 z.2.1))
-acts w v s core (By.Evict p) o text a m below k t =
+acts w v s core (By.Evict p) o text m below k t =
     let z = beside w v s (Ev.Evict core p) o m tt below k in
     inr (core_may_step w v s core (Ev.Evict core p) o text refl m below k z.2.0 z.0 t (meets_beside w v s m z.0 z.1 z.2.1))
 
@@ -366,7 +369,7 @@ meets_opening a slots s few new e = subst (Meets (new_world (made_by a) slots)) 
 
 opened : (old : Stage) (w : World) (s : Reached) → ReachedAt old s → Opens old w → Meets w s
 opened Start w s r o = absurd o
-opened (Declared a) w s r o = subst (λ w. Meets w s) (sym o.1.2) (meets_opening a o.1.0 s (few_cores a o.0) o.1.1 (r (few_files a o.0)).1)
+opened (Declared a) w s r o = subst (λ w. Meets w s) (sym o.1) (meets_opening a new_tree s (few_cores a o.0) new_tree_new (r (few_files a o.0)).1)
 opened (Running m) w s r o = subst (λ w. Meets w s) (sym o) r
 
 -- ---- a line
@@ -383,10 +386,10 @@ plain_next : (line : Line) (new : Stage) (v : World) (s : Reached) (text : List 
     → IsNext v (λ r. LineAnswers s line r text) → IsPlain line new s text
 plain_next line new v s text e k = record { next = k.next; answers = k.answers; reached = is_running new v k.next e k.meets }
 
-line_plain : (line : Line) (old new : Stage) (s : Reached) (text : List ℕ) → takes_apart (Some line) ≡ false → events_at new < event_limit → ReachedAt old s
+line_plain : (line : Line) (old new : Stage) (s : Reached) (text : List ℕ) → events_at new < event_limit → ReachedAt old s
     → LineActs old line new text → Disturbs s.waiting line ⊎ IsPlain line new s text
-line_plain Blank old new s text f below r a = inr (record { next = s; answers = (refl, a.1); reached = subst (λ x. ReachedAt x s) (sym a.0) r })
-line_plain (Space cores frames calls) old new s text f below r a =
+line_plain Blank old new s text below r a = inr (record { next = s; answers = (refl, a.1); reached = subst (λ x. ReachedAt x s) (sym a.0) r })
+line_plain (Space cores frames calls) old new s text below r a =
     let first : s ≡ nothing_reached = subst (λ x. ReachedAt x s) a.0 r in
     inr (record {
       next = record s { cores = cores; frames = frames; calls = calls };
@@ -394,30 +397,30 @@ line_plain (Space cores frames calls) old new s text f below r a =
       reached = subst (λ x. ReachedAt x (record s { cores = cores; frames = frames; calls = calls })) (sym a.1)
           (declares_space cores frames calls s first);
     })
-line_plain (File n mode len seed) old new s text f below r (a, is, next, now, t) =
+line_plain (File n mode len seed) old new s text below r (a, is, next, now, t) =
     let file : FileLine = record { mode = mode; len = len; seed = seed } in
     inr (record {
       next = with_opened s n (file_with mode (seeded len seed));
       answers = (refl, t);
       reached = subst (λ x. ReachedAt x (with_opened s n (file_with mode (seeded len seed)))) (sym now) (declares_file a n file s next (subst (λ x. ReachedAt x s) is r));
     })
-line_plain (Act core action) old new s text f below r (w, v, opens, gives, is) =
+line_plain (Act core action) old new s text below r (w, v, opens, gives, is) =
     let top : events_at new ≡ v.calls.events = ap events_at is in
     let up = gives_grows w (Act core action) v text gives in
-    elim (acts w v s core action gives.0 text f (opened old w s r opens) (omega (arith, top, up, below)) gives.1 gives.2) [
+    elim (acts w v s core action gives.0 text (opened old w s r opens) (omega (arith, top, up, below)) gives.1 gives.2) [
       | inl d ↦ inl d
       | inr k ↦ inr (plain_next (Act core action) new v s text is k)
     ]
-line_plain (Fold page) old new s text f below r (w, v, opens, gives, is) =
+line_plain (Fold page) old new s text below r (w, v, opens, gives, is) =
     let top : events_at new ≡ v.calls.events = ap events_at is in
     let up = gives_grows w (Fold page) v text gives in
     inr (plain_next (Fold page) new v s text is (folds w v s page gives.0 text (opened old w s r opens) (omega (arith, top, up, below)) gives.1 gives.2))
-line_plain (Finish core) old new s text f below r (w, v, opens, gives, is) =
+line_plain (Finish core) old new s text below r (w, v, opens, gives, is) =
     let top : events_at new ≡ v.calls.events = ap events_at is in
     let up = gives_grows w (Finish core) v text gives in
     inr (plain_next (Finish core) new v s text is
     (finishes w core gives.1.0 gives.0 v s text (opened old w s r opens) (omega (arith, top, up, below)) (omega (arith, top, below)) gives.1.1 gives.2))
-line_plain (Now core request) old new s text f below r (w, v, opens, gives, is) = go s.waiting refl (opened old w s r opens).waiting
+line_plain (Now core request) old new s text below r (w, v, opens, gives, is) = go s.waiting refl (opened old w s r opens).waiting
   where
     go : (op : Option Open) → s.waiting ≡ op → MeetsOpen w s op → Disturbs op (Now core request) ⊎ IsPlain (Now core request) new s text
     go (Some op) e k = inl tt
@@ -428,34 +431,26 @@ line_plain (Now core request) old new s text f below r (w, v, opens, gives, is) 
         (told w gives.1 v s core request gives.0 text (opened old w s r opens) calm (omega (arith, top, up, below))
         (omega (arith, top, below)) gives.2 gives.3))
 
-pub record IsPlainSome (line : Option Line) (new : Stage) (s : Reached) (text : List ℕ) : Type 0 where
-  pub next : Reached
-  pub answers : IsSomeAnd line (λ said. LineAnswers s said next text)
-  pub reached : ReachedAt new next
-
-some_plain : (line : Option Line) (old new : Stage) (s : Reached) (text : List ℕ) → takes_apart line ≡ false → events_at new < event_limit → ReachedAt old s
-    → IsSomeAnd line (λ l. LineActs old l new text) → IsSomeAnd line (λ said. Disturbs s.waiting said) ⊎ IsPlainSome line new s text
-some_plain None old new s text f below r a = absurd a
-some_plain (Some line) old new s text f below r a = elim (line_plain line old new s text f below r a) [
-  | inl over ↦ inl over
-  | inr k ↦ inr (record { next = k.next; answers = k.answers; reached = k.reached })
-]
-
 -- ---- lines
 
-all_plain : (End : Reached → Type 0) (lines : List (List ℕ)) (old new : Stage) (s : Reached) (text : List ℕ) → AreWhole lines
+all_plain : (End : Reached → Type 0) (lines : List (List ℕ)) (old new : Stage) (s : Reached) (text : List ℕ)
     → events_at new < event_limit → ((r : Reached) → ReachedAt new r → End r) → ReachedAt old s
     → Runs old lines new text → AllAnswer End s lines text
-all_plain End [] old new s text f below ends r h = (h.1, ends s (subst (λ x. ReachedAt x s) (sym h.0) r))
-all_plain End (l ∷ ls) old new s text f below ends r (mid, front, rest, short, acts, more, is) =
-    let up = lines_grow ls mid new rest more in
-    go (λ next reached. all_plain End ls mid new next rest f.1 below ends reached more)
-    (some_plain (line_of l) old mid s front f.0 (omega (arith, up, below)) r acts.acts)
+all_plain End [] old new s text below ends r h = (h.1, ends s (subst (λ x. ReachedAt x s) (sym h.0) r))
+all_plain End (l ∷ ls) old new s text below ends r (mid, front, rest, short, acts, more, is) =
+    said (λ next reached. all_plain End ls mid new next rest below ends reached more) (line_of l) refl acts.acts
   where
-    go : ((next : Reached) → ReachedAt mid next → AllAnswer End next ls rest)
-        → IsSomeAnd (line_of l) (λ said. Disturbs s.waiting said) ⊎ IsPlainSome (line_of l) mid s front → AllAnswer End s (l ∷ ls) text
-    go later (inl over) = inl over
-    go later (inr k) = inr (front, rest, is, (k.next, k.answers, later k.next k.reached))
+    said : ((next : Reached) → ReachedAt mid next → AllAnswer End next ls rest) → (o : Option Line) → line_of l ≡ o
+        → IsSomeAnd o (λ line. LineActs old line mid front) → AllAnswer End s (l ∷ ls) text
+    said later None e a = absurd a
+    said later (Some line) e a =
+        let up = lines_grow ls mid new rest more in
+        (line, line_is_said l line e, go (line_plain line old mid s front (omega (arith, up, below)) r a))
+      where
+        go : Disturbs s.waiting line ⊎ IsPlain line mid s front → Disturbs s.waiting line
+            ⊎ ((r : Reached) × (front : List ℕ) × (rest : List ℕ) × (text ≡ front ++ rest) × LineAnswers s line r front × AllAnswer End r ls rest)
+        go (inl over) = inl over
+        go (inr k) = inr (k.next, front, rest, is, k.answers, later k.next k.reached)
 
 -- ---- behind the lines
 
@@ -484,8 +479,8 @@ plain_behind Outcomes stage behind r o is at = is
 plain_behind OutcomesAndLog stage behind r o is at = (is, log_of stage r o at)
 plain_behind Maps stage behind r o is at = (is.0, maps_of stage r is.0 o at is.1, is.2)
 
-pub whole_traces_plain : (show : Show) (lines : List (List ℕ)) (stage : Stage) (text behind : List ℕ) → Runs Start lines stage text → CanOpen stage
+pub traces_plain : (show : Show) (lines : List (List ℕ)) (stage : Stage) (text behind : List ℕ) → Runs Start lines stage text → CanOpen stage
     → IsBehind show stage behind → GivesPlainText show lines stage text behind
-whole_traces_plain show lines stage text behind runs opens is whole below =
-    all_plain (IsPlainBehind show (log_at stage) behind) lines Start stage nothing_reached text whole below
+traces_plain show lines stage text behind runs opens is below =
+    all_plain (IsPlainBehind show (log_at stage) behind) lines Start stage nothing_reached text below
     (λ r at. plain_behind show stage behind r opens is at) refl runs

@@ -13,7 +13,7 @@ use Rattle.trace.specs.Stage.{Stage, Start, LineFails, CanOpen, OpenFails, Acts}
 use Rattle.trace.specs.Runs.{Runs}
 use Rattle.trace.specs.declared.shown.Show.{Show}
 use Rattle.trace.specs.Shown.{told, IsBehind, IsBegunBehind, Closes, CloseFails}
-use Rattle.trace.proofs.PlainTextLemmas.{whole_traces_plain}
+use Rattle.trace.proofs.PlainTextLemmas.{traces_plain}
 use Rattle.trace.proofs.ShownLemmas.{begun_behind, told_more, told_none, front_more, whole_front}
 use Rattle.trace.specs.Turns.{Scene, Advances, IsOver, Fails, read_fails, unsent, too_long, no_memory, refused, unwritten}
 use Rattle.trace.specs.Ends.{Front, AreRead, Stops, reading, unmade, wanting, overlong, refusing, unopened, writing, closing, Ends}
@@ -287,7 +287,7 @@ run_ends show input wo wn now next n (Ok x) h v o e =
       runs = runs;
       opens = opens;
       is = is;
-      plain = whole_traces_plain show (lines_of input) now.stage h.text o.behind runs opens is;
+      plain = traces_plain show (lines_of input) now.stage h.text o.behind runs opens is;
       appends = Appends-trans _ _ _ _ _ (Appends-kept _ _ _ _ h.appends v.written) o.appends;
     }
 run_ends show input wo wn now next n (Err f) h v o (inl e) =

@@ -15,7 +15,7 @@ use Rattle.trace.specs.Shown.{told, IsBehind, IsBegunBehind}
 use Rattle.trace.specs.PlainLaw.{GivesPlainText}
 
 -- All lines were acted on, a machine could be made, and what is to be shown was written: the lines'
--- text, and what comes behind it. Where no line takes a call apart, both are the plain page map's.
+-- text, and what comes behind it. Both are the plain page map's, where no line disturbs a call.
 pub record Completes (show : Show) (input : List ℕ) (old new : Option (List ℕ)) : Type 0 where
   pub stage : Stage
   pub text : List ℕ

@@ -2,12 +2,11 @@
 -- print
 use Rattle.std.specs.Prelude.{◌≡◌, ◌≢◌, ℕ, ◌<◌, List, [], ◌∷◌, ◌++◌, replicate, IsSomeAnd}
 use Rattle.vm_base.specs.declared.requests.Request.{Request}
-use Rattle.slot_lock.specs.Slots.{Slots, IsNew}
 use Rattle.machine_model.specs.declared.event.Event.{Event}
 use Rattle.machine_model.specs.declared.event.Event.TheVariants as Ev
 use Rattle.machine_model.specs.declared.event.Outcome.{Outcome}
 use Rattle.machine_model.specs.declared.event.Outcome.TheVariants.{Stepped}
-use Rattle.machine_model.specs.World.{World, new_world}
+use Rattle.machine_model.specs.World.{World}
 use Rattle.machine_model.specs.Step.{Run}
 use Rattle.machine_laws.specs.Brackets.{IsBracketed}
 use Rattle.machine_sound.specs.Sound.{SoundRun}
@@ -17,10 +16,10 @@ use Rattle.core_steps.specs.Finishing.{finish_limit}
 use Rattle.trace_text.specs.Line.{line_of}
 use Rattle.trace_text.specs.declared.line.Line.{Line}
 use Rattle.trace_text.specs.declared.line.Line.TheVariants.{Blank, Space, File, Act, Fold, Finish, Now}
-use Rattle.trace.specs.Declarations.{Asked, made_by}
+use Rattle.trace.specs.Declarations.{Asked}
 use Rattle.trace.specs.Events.{event_of}
 use Rattle.trace.specs.OutcomeText.{outcome_text, finished_text}
-use Rattle.trace.specs.Stage.{Start, Running}
+use Rattle.trace.specs.Stage.{Start, Running, new_machine}
 use Rattle.trace.specs.Runs.{Runs}
 
 -- ---- a line
@@ -84,18 +83,16 @@ AllAsk (line ∷ lines) es os text = AsksFirst line (AllAsk lines) es os text
 
 -- ---- a trace
 
--- The lines ask for these events of a machine over new slots, and print of their outcomes what the
+-- The lines ask for these events of a new machine, and print of their outcomes what the
 -- text says. The run is sound: its log is that of a plain page map, in which each reply that was
 -- handed out stands once, between its call and its answer.
 pub record IsRun (lines : List (List ℕ)) (text : List ℕ) (w : World) : Type 0 where
   pub asked : Asked
-  pub slots : Slots
-  pub new : IsNew slots
   pub events : List Event
   pub outcomes : List Outcome
   pub asks : AllAsk lines events outcomes text
-  pub run : Run (new_world (made_by asked) slots) events outcomes w
-  pub sound : SoundRun (new_world (made_by asked) slots) events outcomes w
+  pub run : Run (new_machine asked) events outcomes w
+  pub sound : SoundRun (new_machine asked) events outcomes w
   pub brackets : IsBracketed events outcomes w.calls.requests w.calls.log
 
 -- lines that are acted on from the start, up to a machine

@@ -1,8 +1,7 @@
--- The text of a trace in which no call runs beside another, as the plain page map and the users of
+-- The text of a trace up to where a call runs beside another, as the plain page map and the users of
 -- its pages give it; and what comes behind that text, the log or the list of mappings
 use Rattle.std.specs.Prelude.{◌≡◌, ◌≢◌, ℕ, ◌+◌, pred, ◌<◌, ◌⊎◌, ◌↔◌, ◌==◌, nat_lt, cond, if◌then◌else◌}
-use Rattle.std.specs.Prelude.{Bool, true}
-use Rattle.std.specs.Prelude.{false, List, [], ◌∷◌, ◌++◌, length, IsSomeAnd, Option, None, Some}
+use Rattle.std.specs.Prelude.{true, false, List, [], ◌∷◌, ◌++◌, length, Option, None, Some}
 use Rattle.vm_base.specs.declared.log.Entry.{Entry}
 use Rattle.vm_base.specs.declared.log.Entry.TheVariants.{Answer, Detach}
 use Rattle.vm_base.specs.declared.replies.Reply.{Reply}
@@ -16,7 +15,8 @@ use Rattle.vm_base.specs.Requests.{is_access}
 use Rattle.vm_base.specs.Users.{Users, users_after}
 use Rattle.map_list.specs.declared.lines.MapLine.{MapLine}
 use Rattle.map_list.specs.Lines.{IsMapList, plain_metas}
-use Rattle.trace_text.specs.Line.{line_of, seeded}
+use Rattle.trace_text.specs.Grammar.{BytesSay}
+use Rattle.trace_text.specs.Line.{seeded}
 use Rattle.trace_text.specs.Lists.{log_text}
 use Rattle.trace_text.specs.Printing.{acks_text, full_text, idle_text, reply_text, step_text}
 use Rattle.trace_text.specs.declared.action.Action.{Action}
@@ -215,9 +215,11 @@ LineAnswers s (Now core request) r text = NowAnswers s core request r text
 LineAnswers s (Act core action) r text = ActAnswers s core action r text
 LineAnswers s (Fold page) r text = MayStep s r text
 
--- A call of a line while another waits; or a store that awaits nobody any more (no other access
--- waits) is given up.
+-- A line that takes a call apart; a call of a line while another waits; or a store that awaits
+-- nobody any more (no other access waits) is given up.
 abbrev pub Disturbs : Option Open → Line → Type 0
+Disturbs waiting (Act core (By.Call request)) = Unit {0}
+Disturbs waiting (Act core By.Go) = Unit {0}
 Disturbs (Some o) (Now core request) = Unit {0}
 Disturbs (Some o) (Act core By.GiveUp) =
     (core ≡ o.core) × (is_access o.request ≡ true) × AwaitsNobody o
@@ -227,11 +229,9 @@ Disturbs waiting line = ⊥
 -- (End). From the first line on that disturbs a call, nothing is said.
 abbrev pub AllAnswer : (Reached → Type 0) → Reached → List (List ℕ) → List ℕ → Type 0
 AllAnswer End s [] text = (text ≡ []) × End s
-AllAnswer End s (line ∷ lines) text =
-    IsSomeAnd (line_of line) (λ said. Disturbs s.waiting said)
-    ⊎ ((front : List ℕ) × (rest : List ℕ) × (text ≡ front ++ rest)
-    × ((r : Reached) × IsSomeAnd (line_of line) (λ said. LineAnswers s said r front)
-    × AllAnswer End r lines rest))
+AllAnswer End s (line ∷ lines) text = (said : Line) × BytesSay said line × (Disturbs s.waiting said
+    ⊎ ((r : Reached) × (front : List ℕ) × (rest : List ℕ) × (text ≡ front ++ rest)
+    × LineAnswers s said r front × AllAnswer End r lines rest))
 
 -- ---- behind the lines
 
@@ -255,16 +255,3 @@ IsPlainBehind Outcomes log behind r = behind ≡ []
 IsPlainBehind OutcomesAndLog log behind r = (behind ≡ log_text log) × IsLogOf r log
 IsPlainBehind Maps log behind r =
     (lines : List MapLine) × IsMapList (plain_metas r.plain) lines × (behind ≡ maps_text lines)
-
--- ---- a trace
-
--- a line that begins a call or goes one step on, and no more
-abbrev pub takes_apart : Option Line → Bool
-takes_apart (Some (Act core (By.Call request))) = true
-takes_apart (Some (Act core By.Go)) = true
-takes_apart line = false
-
--- no line takes a call apart
-abbrev pub AreWhole : List (List ℕ) → Type 0
-AreWhole [] = Unit {0}
-AreWhole (line ∷ lines) = (takes_apart (line_of line) ≡ false) × AreWhole lines

@@ -1,7 +1,7 @@
 -- How far a trace has come, and what one line does to it.
 use Rattle.std.specs.Prelude.{◌≡◌, ◌≢◌, ℕ, ◌⊎◌, List, [], Bool, true, false, Option, None, Some}
 use Rattle.std.specs.Prelude.{if◌then◌else◌, IsSomeAnd, ⊤}
-use Rattle.slot_lock.specs.Slots.{Slots, IsNew}
+use Rattle.radix_range.specs.Tree.{new_tree}
 use Rattle.machine_model.specs.World.{World, new_world}
 use Rattle.core_steps.specs.declared.setup.SetupFault.{SetupFault}
 use Rattle.core_steps.specs.declared.setup.SetupFault.TheVariants as Of
@@ -26,11 +26,14 @@ stage_of asked (Some w) = Running w
 stage_of (Some a) None = Declared a
 stage_of None None = Start
 
--- the machine that an event's line finds: one of new slots, if there was none before
+-- the machine that is asked for, over a new tree of slots
+abbrev pub new_machine : Asked → World
+new_machine a = new_world (made_by a) new_tree
+
+-- the machine that an event's line finds: a new one, if there was none before
 abbrev pub Opens : Stage → World → Type 0
 Opens Start w = ⊥
-Opens (Declared a) w =
-    (asked_fault a ≡ None) × ((slots : Slots) × IsNew slots × (w ≡ new_world (made_by a) slots))
+Opens (Declared a) w = (asked_fault a ≡ None) × (w ≡ new_machine a)
 Opens (Running v) w = w ≡ v
 
 -- a machine can be made, or is there

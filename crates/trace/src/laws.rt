@@ -1,6 +1,6 @@
 //! What the lines of a trace come to, one after another.
 ghost use Rattle.trace.specs.EventRuns.{AllTracesAreRuns};
-ghost use Rattle.trace.specs.PlainLaw.{AllWholeTracesArePlain};
+ghost use Rattle.trace.specs.PlainLaw.{AllTracesArePlain};
 
 /// The lines that a replay acted on are one run of a machine: its events are those that
 /// the lines ask for, each line's text is that of its last outcome, the run's log is that
@@ -10,7 +10,7 @@ pub fn traces_are_runs()
     ensures { AllTracesAreRuns }
 {}
 
-/// A trace in which no line takes a call apart, and no call is made while another waits, gives the
+/// A trace gives, up to the first line that takes a call apart or begins one while another waits, the
 /// text of the plain page map with the files that its lines open: line for line the reply of that
 /// map's next state, or `wait acks` with just the cores that use a page whose users that reply drops,
 /// and later the reply, once each of them has taken twice; never `stuck`. A mapping that leaves its
@@ -25,9 +25,10 @@ pub fn traces_are_runs()
 /// mapping.
 ///
 /// "No frame" may stand for an access that the map would serve only where more accesses were made
-/// than there are frames, in place of a `wait acks` too, and changes nothing. From the first call
-/// beside one that waits nothing is said, nor from the first `giveup` of a store that waits for no
-/// core any more, nor of a trace with 2^64 - 1 events, where the machine stops counting.
-pub fn whole_traces_are_plain()
-    ensures { AllWholeTracesArePlain }
+/// than there are frames, in place of a `wait acks` too, and changes nothing. From the first `call`
+/// or `go` on nothing is said, nor from the first call beside one that waits, nor from the first
+/// `giveup` of a store that waits for no core any more, nor of a trace with 2^64 - 1 events, where
+/// the machine stops counting.
+pub fn traces_are_plain()
+    ensures { AllTracesArePlain }
 {}

@@ -179,8 +179,8 @@ fn replay_text<A: Allocator + Clone + Drop, S: Source, W: Sink>(
 /// each read that a line has to wait for, and at the end, after a fault too. A write or a
 /// flush that fails ends the replay, and is told even where another fault came first.
 ///
-/// Where no line takes a call apart (`call`, `go`), what is written is what a plain page map gives,
-/// up to a call that is made while another waits: `laws::whole_traces_are_plain` says it in words.
+/// Up to the first line that takes a call apart (`call`, `go`) or begins one while another waits, what
+/// is written is what a plain page map gives: `laws::traces_are_plain` says it in words.
 pub fn replay<A: Allocator + Clone + Drop, S: Source, W: Sink>(
     alloc: A,
     reader: &mut S,

@@ -1,5 +1,5 @@
 -- Lines and their grammar.
-use Rattle.std.proofs.Common.{◌≡◌, ◌⊎◌, inl, inr, ℕ, ◌<◌, ◌≤◌, true, false, cond, List, [], ◌∷◌, ◌++◌, Some, None, codes}
+use Rattle.std.proofs.Common.{◌≡◌, ◌⊎◌, inl, inr, Bool, ℕ, ◌<◌, ◌≤◌, true, false, cond, List, [], ◌∷◌, ◌++◌, Some, None, codes}
 use Rattle.std.proofs.Common.{arith, refl, sym, ap, ◌∙◌, subst, eqb, length, take, get_or, ◌-◌, suc, zero}
 use Rattle.std.proofs.lemmas.Bool.Decides.{nat_tests}
 use Rattle.std.specs.Prelude.{nat_le, nat_lt, ◌&&◌, ◌+◌, ◌*◌}
@@ -12,12 +12,12 @@ use Rattle.trace_text.proofs.SpellingLemmas.{front_all, front_only}
 use Rattle.trace_text.proofs.ActionLemmas.{act_is_read, page_all, page_only, only_action}
 use Rattle.trace_text.proofs.CoreLemmas.{core_all, core_only}
 use Rattle.trace_text.proofs.FileLemmas.{said_file, only_file}
-use Rattle.trace_text.specs.Words.{Word, front_word}
+use Rattle.trace_text.specs.Words.{Word, front_word, words_of}
 use Rattle.trace_text.specs.Request.{◌>>=◌, ended, front_number, request_of}
 use Rattle.trace_text.specs.Action.{action_of, page_alone}
 use Rattle.trace_text.specs.Spelling.{mode_text}
-use Rattle.trace_text.specs.Line.{calls_of, space_of, file_of, core_number, core_of, act_of, task_of, fold_of, now_of, event_of, line_of_words}
-use Rattle.trace_text.specs.Grammar.{Limits, Says, ReadsAll, ReadsOnly}
+use Rattle.trace_text.specs.Line.{calls_of, space_of, file_of, core_number, core_of, act_of, task_of, fold_of, now_of, event_of, line_of_words, line_of}
+use Rattle.trace_text.specs.Grammar.{Limits, Says, BytesSay, ReadsAll, ReadsOnly}
 use Rattle.trace_text.specs.declared.line.Line.{Line}
 use Rattle.trace_text.specs.declared.line.Line.TheVariants.{Blank, Space, File, Act, Fold, Finish, Now}
 
@@ -198,3 +198,15 @@ read_is_said line (name ∷ args) e = elim (chosen (bytes_eq name (codes "vm")) 
     ]
   ]
 ]
+
+-- what a line is read as is what its bytes say
+pub line_is_said : (bytes : List ℕ) (line : Line) → line_of bytes ≡ Some line → BytesSay line bytes
+line_is_said [] line e = read_is_said line [] e
+line_is_said (b ∷ bs) line e = go (eqb b 35) refl
+  where
+    go : (c : Bool) → eqb b 35 ≡ c → BytesSay line (b ∷ bs)
+    go true i =
+        let same : Some Blank ≡ Some line = sym (ap (λ c. cond c (Some Blank) (line_of_words (words_of (b ∷ bs)))) i) ∙ e in
+        subst (λ c. cond c (line ≡ Blank) (Says line (words_of (b ∷ bs)))) (sym i) (let k = same in cc)
+    go false i = subst (λ c. cond c (line ≡ Blank) (Says line (words_of (b ∷ bs)))) (sym i)
+        (read_is_said line (words_of (b ∷ bs)) (sym (ap (λ c. cond c (Some Blank) (line_of_words (words_of (b ∷ bs)))) i) ∙ e))

@@ -1,6 +1,6 @@
 -- The grammar of lines, actions and requests, by what is said.
 use Rattle.std.specs.Prelude.{◌≡◌, ℕ, ◌^◌, ◌<◌, ◌≤◌, decimal, true, List, [], ◌∷◌, ◌++◌, ◌⊎◌, Some}
-use Rattle.std.specs.Prelude.{codes}
+use Rattle.std.specs.Prelude.{codes, cond}
 use Rattle.vm_base.specs.declared.requests.Flags.{Flags}
 use Rattle.vm_base.specs.declared.requests.Request.{Request}
 use Rattle.vm_base.specs.declared.requests.Request.TheVariants.{Mmap, Munmap, Mprotect, Load, Store}
@@ -10,14 +10,14 @@ use Rattle.trace_text.specs.Number.{number_of}
 use Rattle.trace_text.specs.Printing.{address_of}
 use Rattle.trace_text.specs.Spelling.{SpellsNumber, SpellsPage, SpellsFlags, SpellsCore, mode_text}
 use Rattle.trace_text.specs.Spelling.{rights_text}
-use Rattle.trace_text.specs.Line.{are_printable, line_of_words}
+use Rattle.trace_text.specs.Line.{are_printable, is_comment, line_of_words}
 use Rattle.trace_text.specs.declared.action.Action.{Action}
 use Rattle.trace_text.specs.declared.action.Action.TheVariants.{Call, Go, Take, Flush, Review, GiveUp}
 use Rattle.trace_text.specs.declared.action.Action.TheVariants.{Frame, Guess, Whole, Walk, Evict}
 use Rattle.trace_text.specs.declared.line.Line.{Line}
 use Rattle.trace_text.specs.declared.line.Line.TheVariants.{Blank, Space, File, Act, Fold, Finish, Now}
 
--- the words after the flags: a file and an offset, both 0 where a mapping of zero bytes leaves them
+-- the words after the flags: a file and an offset, both 0 where an anonymous mapping leaves them
 -- out
 abbrev pub Backs : Flags → ℕ → ℕ → List Word → Type 0
 Backs flags file off words = ((words ≡ []) × (flags.anon ≡ true) × (file ≡ 0) × (off ≡ 0))
@@ -74,6 +74,10 @@ Says (Fold page) words = (a : Word) × (words ≡ codes "fold" ∷ a ∷ []) × 
 Says (Finish core) words = (c : Word) × (words ≡ c ∷ codes "finish" ∷ []) × SpellsCore c core
 Says (Now core request) words = (c : Word) × (args : List Word) × (words ≡ (c ++ codes "!") ∷ args)
     × SpellsCore c core × Asks request args
+
+-- the bytes of a line say this: nothing where the first is a #, else what their words say
+abbrev pub BytesSay : Line → List ℕ → Type 0
+BytesSay line bytes = cond (is_comment bytes) (line ≡ Blank) (Says line (words_of bytes))
 
 -- what is said is read
 abbrev pub ReadsAll : Type 0
