@@ -1,1 +1,2 @@
+pub mod Help
 pub mod Status

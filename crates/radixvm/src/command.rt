@@ -1,10 +1,14 @@
 //! The words of the command line, and what each does.
 ghost use Rattle.std.specs.Prelude.{◌≡◌, ◌≤◌, IfOk, IfSome, Result};
+ghost use Rattle.std.specs.Io.KnownBytes.{Appends};
+ghost use Rattle.radixvm.specs.Help.{page_of};
 ghost use Rattle.radixvm.specs.Status.{status_of, words_status};
+ghost use Rattle.radixvm.specs.declared.help.Topic.{Topic};
 ghost use Rattle.trace.specs.Ends.{Ends, TellsFaults};
 ghost use Rattle.trace.specs.declared.fault.TraceFault.{TraceFault};
 
 use crate::help;
+use crate::help::Topic;
 use crate::job::run;
 use clap::error::ErrorKind;
 use clap::{Arg, ArgAction, Command, Error};
@@ -16,43 +20,82 @@ use trace::shown::Show;
 use trace_io::sink::{Sink, write_all};
 use trace_io::source::Source;
 
+// What is printed in place of a replay.
+#[derive(Drop)]
+enum Told {
+    // Why the words are wrong, or what they ask for of the parser's own texts.
+    Words(Error),
+    // A page of the help.
+    Page(Topic),
+}
+
 // The program's words.
 fn grammar<'a>(alloc: Global) -> Result<Command<'a>, AllocError> {
     let log = Arg::new(alloc, "log")
         .long("log")
-        .action(ArgAction::SetTrue)
-        .help(help::LOG_ABOUT);
+        .action(ArgAction::SetTrue);
     let run = Command::new(alloc, "run")
-        .about(help::RUN_ABOUT)
-        .after_help(help::TRACE)
+        .override_help(help::OVERVIEW)
+        .override_usage("radixvm run [--log]")
         .arg(log)?;
     let maps = Command::new(alloc, "maps")
-        .about(help::MAPS_ABOUT)
-        .after_help(help::TRACE);
+        .override_help(help::OVERVIEW)
+        .override_usage("radixvm maps");
+    let topic = Arg::new(alloc, "TOPIC").value_parser(help::TOPICS);
+    let help = Command::new(alloc, "help")
+        .override_help(help::OVERVIEW)
+        .override_usage("radixvm help [TOPIC]")
+        .arg(topic)?;
     let program = Command::new(alloc, "radixvm")
-        .about(help::ABOUT)
-        .after_help(help::TRACE)
-        .version("0.1.0")
+        .override_help(help::OVERVIEW)
+        .override_usage(help::USAGE)
+        .version(help::VERSION)
+        .disable_help_subcommand(true)
         .subcommand_required(true)
         .subcommand(run)?
-        .subcommand(maps)?;
+        .subcommand(maps)?
+        .subcommand(help)?;
     Ok(program)
 }
 
-// Parses the words: what a replay is to show.
-fn parse<A: Allocator>(alloc: Global, words: &[String<A>]) -> Result<Show, Error> {
+// The topic of this name. The parser lets no other name through than those in `TOPICS`.
+fn topic_named(name: Option<&str>) -> Topic {
+    match name {
+        Some("trace") => Topic::Trace,
+        Some("outcomes") => Topic::Outcomes,
+        Some("log") => Topic::Log,
+        Some("maps") => Topic::Maps,
+        Some("faults") => Topic::Faults,
+        Some("cores") => Topic::Cores,
+        _ => Topic::Overview,
+    }
+}
+
+// Parses the words: what a replay is to show, or the page of the help that they ask for.
+fn matched<A: Allocator>(alloc: Global, words: &[String<A>]) -> Result<Result<Show, Topic>, Error> {
     let program = grammar(alloc)?;
     let matches = program.try_get_matches_from(words)?;
-    match matches.subcommand_matches("run") {
-        Some(run) if run.get_flag("log") => Ok(Show::OutcomesAndLog),
-        Some(_) => Ok(Show::Outcomes),
-        None => Ok(Show::Maps),
+    match matches.subcommand() {
+        Some(("run", run)) if run.get_flag("log") => Ok(Ok(Show::OutcomesAndLog)),
+        Some(("run", _)) => Ok(Ok(Show::Outcomes)),
+        Some(("help", help)) => Ok(Err(topic_named(help.get_str("TOPIC")))),
+        _ => Ok(Ok(Show::Maps)),
+    }
+}
+
+// Parses the words: what a replay is to show, or what is printed in its place.
+fn parse<A: Allocator>(alloc: Global, words: &[String<A>]) -> Result<Show, Told> {
+    match matched(alloc, words) {
+        Ok(Ok(show)) => Ok(show),
+        Ok(Err(topic)) => Err(Told::Page(topic)),
+        Err(error) => Err(Told::Words(error)),
     }
 }
 
 // Prints a text on standard output, and answers the status.
 fn show<W: Sink, E: Write>(text: &str, out: &mut W, errors: &mut E) -> u8
-    ensures { result ≤ 3 }
+    ensures shown { result ≡ 0 → Appends (W.contents out.old) (W.contents out.new) text.now }
+    ensures within { result ≤ 3 }
 {
     if write_all(out, text.as_bytes()).is_ok() && out.flush().is_ok() {
         return 0;
@@ -85,8 +128,8 @@ pub fn refuse_words<E: Write>(fault: WordsFault, errors: &mut E) -> u8
     }
 }
 
-// Tells why the words can't be acted on, or what they ask to be told, and answers the status.
-fn tell<W: Sink, E: Write>(alloc: Global, error: &Error, out: &mut W, errors: &mut E) -> u8
+// Tells why the words can't be acted on, or what they ask the parser for, and answers the status.
+fn tell_words<W: Sink, E: Write>(alloc: Global, error: &Error, out: &mut W, errors: &mut E) -> u8
     ensures { result ≤ 3 }
 {
     let Ok(text) = format!(in alloc; "{error}") else {
@@ -105,10 +148,22 @@ fn tell<W: Sink, E: Write>(alloc: Global, error: &Error, out: &mut W, errors: &m
     }
 }
 
+// Prints what is told in place of a replay, and answers the status.
+fn tell<W: Sink, E: Write>(alloc: Global, told: &Told, out: &mut W, errors: &mut E) -> u8
+    ensures page { (topic : Topic) → told.now ≡ Told.Page topic → result ≡ 0
+        → Appends (W.contents out.old) (W.contents out.new) (page_of topic) }
+    ensures within { result ≤ 3 }
+{
+    match told {
+        Told::Words(error) => tell_words(alloc, error, out, errors),
+        Told::Page(topic) => show(help::page(*topic), out, errors),
+    }
+}
+
 // Does what the parsed words ask for: where they ask for a replay, that replay, with its status.
 fn act<S: Source, W: Sink, E: Write>(
     alloc: Global,
-    parsed: Result<Show, Error>,
+    parsed: Result<Show, Told>,
     reader: &mut S,
     out: &mut W,
     errors: &mut E,
@@ -122,7 +177,7 @@ fn act<S: Source, W: Sink, E: Write>(
 {
     match parsed {
         Ok(shown) => run(alloc, reader, out, errors, shown),
-        Err(error) => tell(alloc, &error, out, errors),
+        Err(told) => tell(alloc, &told, out, errors),
     }
 }
 

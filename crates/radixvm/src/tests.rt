@@ -1,6 +1,6 @@
 //! Traces whose output, fault and status the format's description and POSIX fix, and the words of the command line.
 use crate::command::program;
-use crate::job;
+use crate::{help, job};
 use linked_list_allocator::LocalHeap;
 use std::alloc::{Allocator, Global};
 use std::env::{Env, FillError};
@@ -197,6 +197,36 @@ fn replies(rt: HostRuntime) {
     }
 }
 
+const LOGGED: &[&[u8]] = &[b"radixvm", b"run", b"--log"];
+
+const MAPPED: &[&[u8]] = &[b"radixvm", b"maps"];
+
+// A space without frames, and no event: nothing is written.
+#[test]
+fn no_event(rt: HostRuntime) {
+    for words in [RUN, LOGGED, MAPPED] {
+        assert!(rt; comes_to(rt.alloc(), words, b"vm 1 0\n", AMPLE, (b"", b"", 0)));
+    }
+}
+
+// The log has the calls that were answered, and none of what is full.
+#[test]
+fn log_of_refused_calls(rt: HostRuntime) {
+    let input = b"vm 1 1 2\nc0! mmap 0x10000 0 rw- pfa\nc0! load 0\nc0! load 0\n";
+    let output = b"einval\nsegv maperr\nfull\nlog 2 call 1 einval\nlog 5 call 2 segv maperr\n";
+    assert!(rt; comes_to(rt.alloc(), LOGGED, input, AMPLE, (output, b"", 0)));
+}
+
+// Neighbouring pages that go on in their file are one mapping, whichever call mapped them.
+#[test]
+fn mappings_of_a_file(rt: HostRuntime) {
+    let input =
+        b"vm 1 4\nfile 0 rw 5000 7\nc0! mmap 0x10000 12288 rw- sf 0 0\nc0! mmap 0x11000 4096 r-- pfa\nc0! mmap 0x13000 1 rw- sf 0 0x3000\n";
+    let output =
+        b"0x10000-0x11000 rw- shared 0 0x0\n0x11000-0x12000 r-- anon\n0x12000-0x14000 rw- shared 0 0x2000\n";
+    assert!(rt; comes_to(rt.alloc(), MAPPED, input, AMPLE, (output, b"", 0)));
+}
+
 #[test]
 fn faults_of_the_text(rt: HostRuntime) {
     for (input, fault) in [
@@ -208,6 +238,9 @@ fn faults_of_the_text(rt: HostRuntime) {
         (b"vm 1\n", b"radixvm: line 1: bad line\n"),
         (b"vm 1 4\nvm 1 4", b"radixvm: line 2: bad line\n"),
         (b"\x7f\nvm 1 4", b"radixvm: line 1: bad line\n"),
+        (b"vm 1 4\nc0! frob\n", b"radixvm: line 2: bad line\n"),
+        (b"", b"radixvm: no vm line first\n"),
+        (b"vm 0 4", b"radixvm: setup S1\n"),
         (b"vm 0 4\nvm 1 4", b"radixvm: setup S1\n"),
         (b"vm 0 4\n#\x01", b"radixvm: line 2: bad line\n"),
     ] {
@@ -256,41 +289,125 @@ fn a_failing_flush_is_a_fault(rt: HostRuntime) {
     }
 }
 
-// Whether the text says what requests, replies, faults and lines there are.
-fn is_help(out: &[u8]) -> bool {
-    let Ok(text) = str::from_utf8(out) else {
-        return false;
-    };
-    for part in [
-        "file N MODE LEN SEED",
-        "cC! REQ",
-        "mprotect ADDR LEN PROT",
-        "segv maperr",
-        "setup S5",
-        "log STEP call CALL REPLY",
-        "START-END PROT BACK",
+// Whether the program with these words prints this page of its help, and nothing else.
+fn prints(alloc: Global, words: &[&[u8]], page: &str) -> bool {
+    comes_to(alloc, words, b"", AMPLE, (page.as_bytes(), b"", 0))
+}
+
+// The script at the repository's root prints these texts from help.rt where nothing is built.
+#[test]
+fn help_and_version(rt: HostRuntime) {
+    for words in [
+        [b"radixvm".as_slice(), b"help".as_slice()].as_slice(),
+        [b"radixvm".as_slice(), b"--help".as_slice()].as_slice(),
+        [b"radixvm".as_slice(), b"-h".as_slice()].as_slice(),
+        [
+            b"radixvm".as_slice(),
+            b"run".as_slice(),
+            b"--help".as_slice(),
+        ]
+        .as_slice(),
+        [b"radixvm".as_slice(), b"maps".as_slice(), b"-h".as_slice()].as_slice(),
+        [b"radixvm".as_slice(), b"help".as_slice(), b"-h".as_slice()].as_slice(),
     ] {
-        if !text.contains(part) {
+        assert!(rt; prints(rt.alloc(), words, help::OVERVIEW));
+    }
+    let words = [b"radixvm".as_slice(), b"--version".as_slice()];
+    let version = (b"radixvm 0.1.0\n".as_slice(), b"".as_slice(), 0);
+    assert!(rt; comes_to(rt.alloc(), &words, b"", AMPLE, version));
+    assert!(rt; help::VERSION == "0.1.0");
+}
+
+// Each topic with words of the trace's grammar and its output, which its page has to have.
+const PAGES: &[(&str, &str, &[&str])] = &[
+    (
+        "trace",
+        help::TRACE,
+        &["file N MODE LEN SEED", "cC! REQ", "mprotect ADDR LEN PROT"],
+    ),
+    (
+        "outcomes",
+        help::OUTCOMES,
+        &["segv maperr", "c1 take", "c0 review"],
+    ),
+    ("log", help::LOG, &["log STEP call CALL REPLY"]),
+    ("maps", help::MAPS, &["START-END PROT BACK"]),
+    ("faults", help::FAULTS, &["line N: too long", "setup S5"]),
+    ("cores", help::CORES, &["TLB of 64", "epoch"]),
+];
+
+fn has_all(page: &str, parts: &[&str]) -> bool {
+    for part in parts {
+        if !page.contains(part) {
             return false;
         }
     }
     true
 }
 
-// Whether the program with these words shows its help, and nothing else.
-fn helps(alloc: Global, words: &[&[u8]]) -> bool {
-    let ran = run_words(alloc, &alloc, words, b"", AMPLE);
-    is_help(&ran.out) && ran.errors.is_empty() && ran.status == 0
+#[test]
+fn topics(rt: HostRuntime) {
+    for (name, page, parts) in PAGES {
+        let words = [b"radixvm".as_slice(), b"help".as_slice(), name.as_bytes()];
+        assert!(rt; prints(rt.alloc(), &words, page));
+        assert!(rt; has_all(page, parts));
+        assert!(rt; help::OVERVIEW.contains(name));
+    }
+}
+
+fn is_narrow(page: &str) -> bool {
+    for line in page.split('\n') {
+        if line.len() > 80 {
+            return false;
+        }
+    }
+    true
 }
 
 #[test]
-fn help_and_version(rt: HostRuntime) {
-    assert!(rt; helps(rt.alloc(), &[b"radixvm", b"--help"]));
-    assert!(rt; helps(rt.alloc(), &[b"radixvm", b"help"]));
-    assert!(rt; helps(rt.alloc(), &[b"radixvm", b"run", b"--help"]));
-    let words = [b"radixvm".as_slice(), b"--version".as_slice()];
-    let version = (b"radixvm 0.1.0\n".as_slice(), b"".as_slice(), 0);
-    assert!(rt; comes_to(rt.alloc(), &words, b"", AMPLE, version));
+fn help_fits_into_eighty_columns(rt: HostRuntime) {
+    for page in [
+        help::OVERVIEW,
+        help::TRACE,
+        help::OUTCOMES,
+        help::LOG,
+        help::MAPS,
+        help::FAULTS,
+        help::CORES,
+    ] {
+        assert!(rt; is_narrow(page));
+    }
+}
+
+// Whether these words are refused with this in what is told.
+fn is_told(alloc: Global, words: &[&[u8]], part: &str) -> bool {
+    let ran = run_words(alloc, &alloc, words, b"", AMPLE);
+    match str::from_utf8(&ran.errors) {
+        Ok(text) => ran.status == 2 && text.contains(part),
+        Err(_) => false,
+    }
+}
+
+#[test]
+fn wrong_words_are_told_the_right_ones(rt: HostRuntime) {
+    let rum = [b"radixvm".as_slice(), b"rum".as_slice()];
+    assert!(rt; is_told(rt.alloc(), &rum, "'run'"));
+    assert!(rt; is_told(rt.alloc(), &rum, help::USAGE));
+    assert!(rt; is_told(rt.alloc(), &[b"radixvm"], help::USAGE));
+    assert!(rt; is_told(rt.alloc(), &[b"radixvm", b"run", b"--lag"], "'--log'"));
+    let topic = [
+        b"radixvm".as_slice(),
+        b"help".as_slice(),
+        b"traces".as_slice(),
+    ];
+    assert!(rt; is_told(rt.alloc(), &topic, "'trace'"));
+    assert!(rt;
+        is_told(
+            rt.alloc(),
+            &topic,
+            "trace, outcomes, log, maps, faults, cores"
+        )
+    );
 }
 
 // Whether the words are refused, with one prefix.
@@ -351,15 +468,9 @@ fn no_memory_for_the_replay(rt: HostRuntime) -> Result<(), Fail> {
 // The store has its reply at its tenth step, each load at its third.
 #[test]
 fn log_and_mappings(rt: HostRuntime) {
-    let words = [
-        b"radixvm".as_slice(),
-        b"run".as_slice(),
-        b"--log".as_slice(),
-    ];
     let log =
         b"0x10000\ndone\n41\n0\nlog 9 call 1 0x10000\nlog 21 call 2 done\nlog 25 call 3 41\nlog 29 call 4 0\n".as_slice();
-    assert!(rt; comes_to(rt.alloc(), &words, STORED, AMPLE, (log, b"", 0)));
-    let words = [b"radixvm".as_slice(), b"maps".as_slice()];
+    assert!(rt; comes_to(rt.alloc(), LOGGED, STORED, AMPLE, (log, b"", 0)));
     let maps = b"0x10000-0x11000 rw- anon\n".as_slice();
-    assert!(rt; comes_to(rt.alloc(), &words, STORED, AMPLE, (maps, b"", 0)));
+    assert!(rt; comes_to(rt.alloc(), MAPPED, STORED, AMPLE, (maps, b"", 0)));
 }

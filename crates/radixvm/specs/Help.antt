@@ -1,0 +1,14 @@
+-- Which text each topic of the help has.
+use Rattle.std.specs.Prelude.{ℕ, List}
+use Rattle.radixvm.specs.declared.help.TheConstants as Text
+use Rattle.radixvm.specs.declared.help.Topic.{Topic}
+use Rattle.radixvm.specs.declared.help.Topic.TheVariants.{Overview, Trace, Outcomes, Log, Maps, Faults, Cores}
+
+abbrev pub page_of : Topic → List ℕ
+page_of Overview = Text.OVERVIEW.now
+page_of Trace = Text.TRACE.now
+page_of Outcomes = Text.OUTCOMES.now
+page_of Log = Text.LOG.now
+page_of Maps = Text.MAPS.now
+page_of Faults = Text.FAULTS.now
+page_of Cores = Text.CORES.now
