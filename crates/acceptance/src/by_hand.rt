@@ -30,6 +30,15 @@ fn event_of(core: CoreId, action: Action) -> Event {
     }
 }
 
+/// The event that a line is, if it is one.
+pub fn event_of_line(line: Option<Line>) -> Option<Event> {
+    match line {
+        Some(Line::Act(core, action)) => Some(event_of(core, action)),
+        Some(Line::Fold(page)) => Some(Event::Fold(page)),
+        _ => None,
+    }
+}
+
 /// The first outcome of the core's call that isn't Stepped. No call of a test has so many steps.
 fn finished<S: Moves>(space: &mut S, core: CoreId) -> Result<Outcome, NoMemory> {
     for _step in 0..1_000_000u64 {

@@ -1,11 +1,14 @@
 //! Tests of the whole, over the tree of slots and over the list of runs: `row_tests` compares the
 //! tables of `rows`, also with memory that is refused (`starved`), `random_tests` compares random
-//! traces, and `stream_tests` has reads and writes that fail. `run_tests` has whole lists of events
-//! and heaps that are too small, and `replay_tests` the texts of outcomes and a replay's flushes.
+//! traces, and `stream_tests` has reads and writes that fail. `in_one_run` gives a trace's events to
+//! `run`, `run_tests` has whole lists of events and heaps that are too small, and `replay_tests` the
+//! texts of outcomes and a replay's flushes.
 #![tactic(auto)]
 
 #[cfg(test)]
 mod by_hand;
+#[cfg(test)]
+mod in_one_run;
 #[cfg(test)]
 mod machines;
 #[cfg(test)]

@@ -357,6 +357,14 @@ a window without so much room: its one slot is locked, and the reply is the deci
 vm 1 1 2; c0! mmap 0x10000 0 rw- pa; c0! mmap 0 0x8000001000 rw- pa
 einval; enomem; log 2 call 1 einval; log 8 call 2 enomem
 
+all valid pages: three divisions, and 511, 511, 511 and 255 locks
+vm 1 4; c0! mmap 0x1000 0x7ffffffff000 rw- pfa
+0x1000; log 1796 call 1 0x1000
+
+two pages of two nodes: four divisions and two locks
+vm 1 4; c0! mmap 0x1ff000 8192 rw- pfa
+0x1ff000; log 11 call 1 0x1ff000
+
 ";
 
 /// The same over the list of runs alone.
@@ -368,6 +376,34 @@ einval; 0x10000; step; log 2 call 1 einval; log 11 call 2 0x10000
 a window without so much room, which is divided off first
 vm 1 1 2; c0! mmap 0x10000 0 rw- pa; c0! mmap 0 0x8000001000 rw- pa
 einval; enomem; log 2 call 1 einval; log 10 call 2 enomem
+
+all valid pages: no division and one lock
+vm 1 4; c0! mmap 0x1000 0x7ffffffff000 rw- pfa
+0x1000; log 6 call 1 0x1000
+
+two pages of a wider slot: two divisions, and one lock of both
+vm 1 4; c0! mmap 0x1ff000 8192 rw- pfa
+0x1ff000; log 8 call 1 0x1ff000
+
+";
+
+/// A list of events, each a line, in one run over the tree, and its log.
+pub const TREE_RUNS: &str = "\
+pages of two nodes are mapped and unmapped: then each fold joins the 512 slots of a node
+vm 1 4; c0 call mmap 0x1ff000 8192 rw- pfa; c0 go x13; fold 0x1000; \
+    c0 call munmap 0x1ff000 8192; c0 go x9; fold 0x1000 x2; fold 0x200000; fold 0x1000 x3
+step x13; 0x1ff000; idle; step x9; done; step; idle; step x3; idle; log 11 call 1 0x1ff000; \
+    log 22 call 2 done
+
+";
+
+/// The same over the list of runs.
+pub const LIST_RUNS: &str = "\
+two pages are mapped and unmapped: then a fold joins the page's slot with the next one
+vm 1 4; c0 call mmap 0x1ff000 8192 rw- pfa; c0 go x9; fold 0x1000; \
+    c0 call munmap 0x1ff000 8192; c0 go x7; fold 0x1000 x3
+step x9; 0x1ff000; idle; step x7; done; step x2; idle; log 8 call 1 0x1ff000; \
+    log 17 call 2 done
 
 ";
 

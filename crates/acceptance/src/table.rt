@@ -1,4 +1,5 @@
 //! Tables of rows, as `rows` has them.
+use crate::in_one_run::text_in_one_run;
 use crate::machines::{Over, Told, text_over, told_over};
 use crate::starved::{Marks, text_in_a_full_heap, text_of_starved};
 use std::alloc::Global;
@@ -19,6 +20,8 @@ pub struct Row<'a> {
 pub enum Compared {
     /// What a trace shows.
     Shown(Over, Show),
+    /// What a run of its events shows, with the log.
+    InOneRun(Over),
     /// The log behind it, without the numbers of its steps.
     Order(Over),
     /// The entries of the cores' tables behind it.
@@ -94,6 +97,7 @@ fn order_of(alloc: Global, text: &str) -> Result<String<Global>, NoMemory> {
 fn text_of(alloc: Global, compared: Compared, trace: &str) -> Result<String<Global>, NoMemory> {
     match compared {
         Compared::Shown(over, show) => text_over(alloc, over, trace, show),
+        Compared::InOneRun(over) => text_in_one_run(alloc, over, trace),
         Compared::Order(over) => {
             let text = text_over(alloc, over, trace, Show::OutcomesAndLog)?;
             order_of(alloc, &text)
