@@ -5,8 +5,11 @@
     bench/believed.py --files     each file too, with its definitions and lines
 
 Lines are those of definitions: no comments, no empty lines, no `use`. Types declared in code (enums and structs) are counted apart, by
-name. Then come the names that have two definitions in what one theorem reaches, and the files of specs/ that docs/DEFINITIONS.md
-doesn't name."""
+name. Then come the names that have two definitions in what one theorem reaches.
+
+It fails where docs/DEFINITIONS.md is behind: a file of specs/ that it doesn't name, a file that a theorem reaches and no row of its first
+part has under the theorem's mark, or other numbers of lines and files; and where a theorem reaches other files than those that
+bench/believed.txt lists for it."""
 import glob
 import os
 import re
@@ -83,48 +86,90 @@ class Specs:
         return reached, outside
 
 
+class Theorem:
+    def __init__(self, title):
+        self.title, self.roots, self.user = title, [], []
+
+
 def theorems():
-    """The list beside this script: a line `theorem: NAME`, and below it a definition a line, as CRATE/FILE.NAME."""
+    """The list beside this script: a line `theorem: NAME`, and below it a definition a line, as CRATE/FILE.NAME; where the files that
+    the theorem reaches are listed, a line `file: CRATE/specs/FILE.antt` for each."""
     found = []
     for line in open(f'{ROOT}/bench/believed.txt', encoding='utf-8'):
         line = line.split('#')[0].strip()
         if line.startswith('theorem:'):
-            found.append((line[8:].strip(), []))
+            found.append(Theorem(line[8:].strip()))
+        elif line.startswith('file:'):
+            found[-1].user.append(line[5:].strip())
         elif line:
             crate, rest = line.split('/')
             file, name = rest.split('.')
-            found[-1][1].append((crate, file, name))
+            found[-1].roots.append((crate, file, name))
     return found
 
 
+class Document:
+    """What docs/DEFINITIONS.md says: of each theorem its mark, its lines and its files; and the marks under which a file stands."""
+
+    def __init__(self):
+        said = open(f'{ROOT}/docs/DEFINITIONS.md', encoding='utf-8').read()
+        self.named = set(re.findall(r'`(\w+/specs/\w+\.antt)`', said))
+        self.theorems, self.marks = {}, {}
+        for row in said.split('\n## Internals')[0].split('\n'):
+            cells = [cell.strip() for cell in row.strip('|').split('|')]
+            if len(cells) == 5 and cells[0].isalpha() and len(cells[0]) == 1:
+                numbers = [int(cell.replace(',', '')) for cell in cells[3:]]
+                self.theorems[cells[1].replace('`', '')] = cells[0], numbers
+            elif len(cells) == 5:
+                for file in re.findall(r'`(\w+/specs/\w+\.antt)`', cells[3]):
+                    self.marks.setdefault(file, set()).update(cells[4].split())
+
+    def faults(self, theorem, files, lines):
+        mark, numbers = self.theorems.get(theorem.title, (None, None))
+        if mark is None:
+            yield f'no theorem of this name in docs/DEFINITIONS.md: {theorem.title}'
+            return
+        if numbers != [lines, len(files)]:
+            yield f'docs/DEFINITIONS.md has other numbers than {lines} lines in {len(files)} files: {theorem.title}'
+        for file in sorted(files):
+            if mark not in self.marks.get(file, ()):
+                yield f'not under {mark} in docs/DEFINITIONS.md: {file}'
+        if theorem.user and sorted(theorem.user) != sorted(files):
+            for file in sorted({*theorem.user} ^ {*files}):
+                yield f'{"listed, not reached" if file in theorem.user else "reached, not listed"}, in bench/believed.txt: {file}'
+
+
 def main():
-    specs = Specs()
-    for title, roots in theorems():
-        for root in roots:
+    specs, document, faults = Specs(), Document(), []
+    for theorem in theorems():
+        for root in theorem.roots:
             if root not in specs.lines:
                 sys.exit(f'no definition {root[0]}/{root[1]}.{root[2]}')
-        reached, outside = specs.reached_from(roots)
+        reached, outside = specs.reached_from(theorem.roots)
         declared = {(crate, module.split('.TheVariants')[0]) for crate, module, _ in outside if module.startswith('declared')}
         files = {}
         for key in reached:
-            count = files.setdefault(key[:2], [0, 0])
+            count = files.setdefault(f'{key[0]}/specs/{key[1]}.antt', [0, 0])
             count[0] += 1
             count[1] += len(specs.lines[key])
         lines = sum(count for _, count in files.values())
-        print(f'{title}: {lines} lines, {len(reached)} definitions, {len(files)} files; {len(declared)} types of code')
+        print(f'{theorem.title}: {lines} lines, {len(reached)} definitions, {len(files)} files; {len(declared)} types of code')
         if '--files' in sys.argv:
-            for (crate, name), (definitions, count) in sorted(files.items()):
-                print(f'    {crate}/specs/{name}.antt: {count} lines, {definitions} definitions')
+            for file, (definitions, count) in sorted(files.items()):
+                print(f'    {file}: {count} lines, {definitions} definitions')
         by_name = {}
         for key in reached:
             by_name.setdefault(key[2], []).append(f'{key[0]}/{key[1]}')
         for name, places in sorted(by_name.items()):
             if len(places) > 1:
                 print(f'    defined twice: {name}, in {" and ".join(sorted(places))}')
-    said = open(f'{ROOT}/docs/DEFINITIONS.md', encoding='utf-8').read()
+        faults += document.faults(theorem, files, lines)
     for crate, name in specs.files:
-        if f'{crate}/specs/{name}.antt' not in said:
-            print(f'not in docs/DEFINITIONS.md: {crate}/specs/{name}.antt')
+        if f'{crate}/specs/{name}.antt' not in document.named:
+            faults.append(f'not in docs/DEFINITIONS.md: {crate}/specs/{name}.antt')
+    for fault in faults:
+        print(fault)
+    sys.exit(1 if faults else 0)
 
 
 main()

@@ -7,7 +7,7 @@ plain=$work/baseline
 program=${RADIXVM_PROGRAM:-crates/radixvm/out/radixvm}
 
 rustc --edition 2021 -C opt-level=3 -o "$plain" bench/baseline.rs
-[ -n "${RADIXVM_PROGRAM:-}" ] || ./radixvm --version > /dev/null
+[ -n "${RADIXVM_PROGRAM:-}" ] || ./radixvm --build
 
 # The machine that was measured on, in one line.
 describe_machine() {

@@ -1,6 +1,6 @@
 #!/usr/bin/env python3
 """Brings what bench/shapes.sh, bench/growth.sh and bench/profile.sh measured (docs/*.csv) into the documents: the tables of
-docs/SPEED.md and README.md, each between a pair of comments that names it, and the pictures docs/growth-*.svg. Without a CSV
+docs/SPEED.md, each between a pair of comments that names it, and the pictures docs/growth-*.svg. Without a CSV
 file, its tables and pictures stay as they are."""
 
 import csv
@@ -52,20 +52,6 @@ def shapes_table(rows, counted):
                 marked(row["ratio"], aim_of(row["shape"])),
                 aim_of(row["shape"]),
                 *counted.get(row["shape"], ("", "")),
-            ]
-            for row in rows
-        ],
-    )
-
-
-def short_shapes_table(rows, counted):
-    return table(
-        ["Shape of trace", ">Ratio", ">Instructions"],
-        [
-            [
-                f"{row['shape']}: {row['what']}",
-                marked(row["ratio"], aim_of(row["shape"])),
-                counted.get(row["shape"], ("",))[0],
             ]
             for row in rows
         ],
@@ -268,7 +254,6 @@ def main():
     slots, lines = read_rows("growth-slots.csv"), read_rows("growth-lines.csv")
     if shapes:
         put_table("docs/SPEED.md", "shapes", shapes_table(shapes, counted))
-        put_table("README.md", "shapes", short_shapes_table(shapes, counted))
     for name, rows, make in [
         ("slots", slots, slots_table),
         ("lines", lines, lines_table),
