@@ -9,7 +9,7 @@ use Rattle.live_levels.specs.declared.ask.Asked.TheVariants as AskedOf
 use Rattle.live_levels.specs.declared.level.Next.{Next}
 use Rattle.live_levels.specs.declared.level.Next.TheVariants as NextOf
 use Rattle.live_levels.specs.declared.level.Fit.{Fit}
-use Rattle.live_levels.specs.declared.level.Fit.TheVariants.{Cut, NoMemory, Lost}
+use Rattle.live_levels.specs.declared.level.Fit.TheVariants.{Cut, Unseen, NoMemory, Lost}
 
 -- no other core is to lock the slot first
 abbrev pub IsFreeFor : ℕ → Option ℕ → Type 0
@@ -53,16 +53,13 @@ module _ {S : Type 0} (stepped : S → ℕ → S → Type 0) (before now : S) wh
   abbrev pub Noted : Type 0
   Noted = (ticket : ℕ) × stepped before ticket now
 
-  -- at most one step was noted
-  abbrev pub NotedOrNot : Type 0
-  NotedOrNot = Noted ⊎ (now ≡ before)
-
   -- a step was noted exactly where the slot was divided for the owner, under the ticket that is
-  -- told, but for the last case, which never comes
+  -- told, whether or not threads reach its parts
   abbrev pub Cuts : Option ℕ → SlotView → Fit → Type 0
   Cuts owner s (Cut d) = stepped before d.divided.ticket now × Divides s owner d.divided
+  Cuts owner s (Unseen d) = stepped before d.ticket now × Divides s owner d
   Cuts owner s NoMemory = now ≡ before
-  Cuts owner s Lost = NotedOrNot
+  Cuts owner s Lost = now ≡ before
 
   -- a step was noted exactly where slots were joined, which have the page
   abbrev pub Folds : ℕ → Option PageRange → Type 0
@@ -70,12 +67,13 @@ module _ {S : Type 0} (stepped : S → ℕ → S → Type 0) (before now : S) wh
   Folds page None = now ≡ before
 
 module _ {A S : Type 0} (stepped : S → ℕ → S → Type 0) (before now : S) where
-  -- a step was noted exactly where a slot was divided, but for the last case, which never comes
+  -- a step was noted exactly where a slot was divided, whether or not threads reach its parts
   abbrev pub Answers : ℕ → ℕ → ℕ → Next A → Type 0
   Answers core cursor end (NextOf.Whole guard) =
       (now ≡ before) × IsWhole core cursor end (mutex_guard_value guard)
   Answers core cursor end NextOf.Split = Noted stepped before now
+  Answers core cursor end NextOf.Unseen = Noted stepped before now
   Answers core cursor end (NextOf.Owned guard) =
       (now ≡ before) × IsOthers core cursor (mutex_guard_value guard)
   Answers core cursor end NextOf.NoMemory = now ≡ before
-  Answers core cursor end NextOf.Lost = NotedOrNot stepped before now
+  Answers core cursor end NextOf.Lost = now ≡ before

@@ -73,6 +73,7 @@ impl<C: Level<A>, A: Allocator + Clone> Level<A> for Inner<C, A> {
         };
         match place.split(alloc, stepper, &larger) {
             Fit::Cut(_) => Next::Split,
+            Fit::Unseen(_) => Next::Unseen,
             Fit::NoMemory => Next::NoMemory,
             Fit::Lost => Next::Lost,
         }

@@ -9,7 +9,7 @@ ghost use Rattle.live_levels.specs.Histories.{Grew};
 
 use crate::close::SlotHistory;
 use crate::joint::Joint;
-use crate::parts::SLOTS;
+use crate::parts::{Divided, SLOTS};
 use crate::place::Division;
 use crate::slot::SlotState;
 use std::alloc::Allocator;
@@ -41,9 +41,11 @@ pub enum Next<'a, A: Allocator> {
     Split,
     /// Another core is to lock the slot first, which is locked.
     Owned(MutexGuard<'a, SlotState<A>>),
+    /// A division was noted, but the slot's place had a level before. It never comes; the call gives up.
+    Unseen,
     /// No memory was there to divide the slot.
     NoMemory,
-    /// A slot was in a wrong place. It never comes; the call gives up.
+    /// A slot was in a wrong place, and nothing was noted. It never comes; the call gives up.
     Lost,
 }
 
@@ -52,9 +54,12 @@ pub enum Next<'a, A: Allocator> {
 pub enum Fit {
     /// The slot was divided, which was noted: threads reach its parts in its place.
     Cut(Division),
+    /// The division was noted, but the slot's place had a level before. It never comes; the call
+    /// gives up.
+    Unseen(Divided),
     /// No memory was there to divide it.
     NoMemory,
-    /// A slot was in a wrong place. It never comes; the call gives up.
+    /// A slot was in a wrong place, and nothing was noted. It never comes; the call gives up.
     Lost,
 }
 

@@ -145,7 +145,7 @@ impl<C: Level<A>, A: Allocator + Clone> Place<C, A> {
         carry_on(&mut parts, &divided, pages);
         match self.publish(level, &mut parts, &divided, slot, pages) {
             Some(division) => Fit::Cut(division),
-            None => Fit::Lost,
+            None => Fit::Unseen(divided),
         }
     }
 

@@ -4,11 +4,11 @@ use Rattle.std.specs.Prelude.{Option, Some, All, IsSome}
 use Rattle.std.specs.declared.sync.MutexGuard.{MutexGuard}
 use Rattle.vm_base.specs.declared.page.PageRange.{PageRange}
 use Rattle.live_levels.specs.Slots.{SlotView}
-use Rattle.live_levels.specs.Nexts.{Noted, NotedOrNot}
+use Rattle.live_levels.specs.Nexts.{Noted}
 use Rattle.live_tree.specs.Guards.{slot_of}
 use Rattle.live_tree.specs.Held.{HeldView, SideBySide, CrossesNoEdge}
 use Rattle.live_tree.specs.declared.held.cut.Cutting.{Cutting}
-use Rattle.live_tree.specs.declared.held.cut.Cutting.TheVariants.{Cut, Fits, NoMemory, Lost}
+use Rattle.live_tree.specs.declared.held.cut.Cutting.TheVariants.{Cut, Fits, Unseen, NoMemory, Lost}
 
 -- the core is to lock the slot first
 abbrev pub IsOwnedBy : ℕ → SlotView → Type 0
@@ -30,12 +30,13 @@ pub record CutsFirst (core : ℕ) (range : PageRange) (h k : HeldView) : Type 0 
   pub owned : All (IsOwnedBy core) parts
 
 module _ {S : Type 0} (stepped : S → ℕ → S → Type 0) (before now : S) (h k : HeldView) where
-  -- a step was noted exactly where a slot was cut, but for the last case, which never comes
+  -- a step was noted exactly where a slot was cut, whether or not its parts were found
   abbrev pub CutsNext : ℕ → PageRange → Cutting → Type 0
   CutsNext core range Cut = Noted stepped before now × CutsFirst core range h k
+  CutsNext core range Unseen = Noted stepped before now × (k ≡ h)
   CutsNext core range Fits = (now ≡ before) × (k ≡ h) × All (CrossesNoEdge range) h.slots
   CutsNext core range NoMemory = (now ≡ before) × (k ≡ h)
-  CutsNext core range Lost = NotedOrNot stepped before now × (k ≡ h)
+  CutsNext core range Lost = (now ≡ before) × (k ≡ h)
 
 -- so many locked slots were added on the right, side by side from one page up to another, which are
 -- the core's

@@ -41,9 +41,11 @@ pub enum Got {
     Split,
     /// Another core is to lock the slot first.
     Owned(CoreId),
+    /// A division was noted, but the slot's place had a level before. It never comes; the call gives up.
+    Unseen,
     /// No memory was there.
     NoMemory,
-    /// A slot was in a wrong place. It never comes; the call gives up.
+    /// A slot was in a wrong place, and nothing was noted. It never comes; the call gives up.
     Lost,
 }
 
@@ -140,6 +142,7 @@ impl<'a, A: Allocator + Clone> Held<'a, A> {
         let mut guard = match tree.lock_next(rt, stepper, core, self.end, end) {
             Next::Whole(guard) => guard,
             Next::Split => return Got::Split,
+            Next::Unseen => return Got::Unseen,
             Next::Owned(guard) => {
                 return match other_owner(&guard, core) {
                     Some(other) => Got::Owned(other),

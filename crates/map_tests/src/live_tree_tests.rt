@@ -58,7 +58,7 @@ pub(crate) fn lock_all<'a, R: Wait>(
         match held.lock_next(rt, tree, counter, core, end, 1) {
             Got::Locked => {}
             Got::Split => splits = splits.saturating_add(1),
-            Got::Owned(_) | Got::NoMemory | Got::Lost => return None,
+            Got::Owned(_) | Got::Unseen | Got::NoMemory | Got::Lost => return None,
         }
     }
     None
@@ -113,7 +113,7 @@ fn cuts<'a, R: Wait>(
         match held.cut_next(rt, tree, &mut counter, core, range) {
             Cutting::Cut => {}
             Cutting::Fits => return Some(cuts),
-            Cutting::NoMemory | Cutting::Lost => return None,
+            Cutting::Unseen | Cutting::NoMemory | Cutting::Lost => return None,
         }
     }
     None
@@ -239,11 +239,11 @@ fn is_cut<R: Wait>(rt: &R, tree: &SharedTree<Global>, core: CoreId, first: u64, 
     let slot = match tree.lock_next(rt, &mut counter, core, first, end) {
         Next::Whole(slot) => slot,
         Next::Owned(_guard) => return false,
-        Next::Split | Next::NoMemory | Next::Lost => return false,
+        Next::Split | Next::Unseen | Next::NoMemory | Next::Lost => return false,
     };
     match tree.cut(&mut counter, core, &slot) {
         Fit::Cut(_) => true,
-        Fit::NoMemory | Fit::Lost => false,
+        Fit::Unseen(_) | Fit::NoMemory | Fit::Lost => false,
     }
 }
 

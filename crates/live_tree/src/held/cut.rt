@@ -25,9 +25,12 @@ pub enum Cutting {
     Cut,
     /// No held slot crosses an edge of the range.
     Fits,
+    /// A cut was noted, but the parts weren't found in the slot's place. It never comes; the call
+    /// gives up.
+    Unseen,
     /// No memory was there.
     NoMemory,
-    /// A slot was in a wrong place. It never comes; the call gives up.
+    /// A slot was in a wrong place, and nothing was noted. It never comes; the call gives up.
     Lost,
 }
 
@@ -70,13 +73,14 @@ impl<'a, A: Allocator + Clone> Held<'a, A> {
         let end = first + slot.count();
         match tree.cut(stepper, core, slot) {
             Fit::Cut(_) => {}
+            Fit::Unseen(_) => return Cutting::Unseen,
             Fit::NoMemory => return Cutting::NoMemory,
             Fit::Lost => return Cutting::Lost,
         }
         let len = self.guards.len();
         if !lock_parts(rt, tree, &mut self.guards, core, first, end) {
             self.guards.truncate(len);
-            return Cutting::Lost;
+            return Cutting::Unseen;
         }
         put_in_place(&mut self.guards, at);
         Cutting::Cut
