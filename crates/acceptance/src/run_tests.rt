@@ -1,7 +1,7 @@
 //! Whole lists of events, and why they may fail.
 use crate::machines::{declared, machine_over, push_outcomes};
 use backing::FileSpec;
-use core_steps::{Counted, Kept, RunFault, Setup, SetupFault, run};
+use core_steps::{Forgotten, Kept, RunFault, Setup, SetupFault, run};
 use linked_list_allocator::LocalHeap;
 use machine_model::{Event, Outcome};
 use slot_lock::RunList;
@@ -70,7 +70,7 @@ fn comes_to_counted(
         files: Vec::new(alloc.clone()?),
         calls: 2,
     };
-    match run::<RunList<Global>, Global, Counted>(alloc, map, setup, events) {
+    match run::<RunList<Global>, Global, Forgotten>(alloc, map, setup, events) {
         Ok(done) => Ok(done.outcomes.as_slice() == outcomes),
         Err(_) => Ok(false),
     }

@@ -1,5 +1,5 @@
 -- Events of a core that is ready for one
-use Rattle.std.proofs.Common.{◌≡◌, ℕ, suc, ◌+◌, ◌<◌, true, nat_lt, Some, refl, sym, subst, arith, Result, Ok, Err}
+use Rattle.std.proofs.Common.{◌≡◌, ℕ, suc, ◌+◌, ◌<◌, Bool, true, nat_lt, Some, refl, sym, subst, arith, Result, Ok, Err}
 use Rattle.std.specs.Prelude.{◌≢◌, IfOk, OnErr}
 use Rattle.vm_base.specs.declared.memory.NoMemory.{NoMemory}
 use Rattle.core_steps.specs.declared.machine.Finished.{Finished}
@@ -67,10 +67,10 @@ pub goes_on : (r : Result Finished NoMemory) (o : Outcome) (w m v : World) (c : 
 goes_on (Ok f) o w m v c request e s h = (Stepped, m, subst (λ p. Step w (Call c request) p m) e s, h m refl)
 goes_on (Err x) o w m v c request e s h = tt
 
-pub goes_refused : (r : Result Finished NoMemory) (o : Outcome) (w m v : World) (c : ℕ) (request : Request) → o ≡ Stepped → Step w (Call c request) o m
-    → OnErr r ((was : World) → StepsTo was c 0 m → IsRefused was c v) → OnErr r (IsCallRefused w c request v)
-goes_refused (Ok f) o w m v c request e s h = tt
-goes_refused (Err x) o w m v c request e s h = (m, subst (λ p. Step w (Call c request) p m) e s, h m refl)
+pub goes_refused : (keeps : Bool) (r : Result Finished NoMemory) (o : Outcome) (w m v : World) (c : ℕ) (request : Request) → o ≡ Stepped → Step w (Call c request) o m
+    → OnErr r ((was : World) → StepsTo was c 0 m → IsRefused keeps was c v) → OnErr r (IsCallRefused keeps w c request v)
+goes_refused keeps (Ok f) o w m v c request e s h = tt
+goes_refused keeps (Err x) o w m v c request e s h = (m, subst (λ p. Step w (Call c request) p m) e s, h m refl)
 
 pub not_begun : (o : Outcome) (w m : World) (c : ℕ) (request : Request) → o ≢ Stepped → Step w (Call c request) o m → Calls w c request (Last o) m
 not_begun Stepped w m c request n s = absurd (n refl)

@@ -267,14 +267,14 @@ fills_private w v c touch frame n k o e (inl a) h =
 fills_private w v c touch frame n k o e (inr a) h =
     subst (λ back. FillsBacked w c touch frame back touch.access o v) (sym e) (subst (λ access. FillsBacked w c touch frame (Private n k) access o v) (sym a) h)
 
-pub fills_copy : (r : Result Outcome NoMemory) (w v : World) (c : ℕ) (touch : Touch) (frame : Option ℕ) (n k : ℕ)
+pub fills_copy : (keeps : Bool) (r : Result Outcome NoMemory) (w v : World) (c : ℕ) (touch : Touch) (frame : Option ℕ) (n k : ℕ)
     → back_of (w.slots.info touch.page) ≡ Private n k → touch.access ≡ Store
-    → Tries (FillsOwn w (λ f counts. after_first_copy c touch f counts w) frame) (Unit {0}) w r v
-    → Tries (Goes w c (Fill touch frame)) (WantsMemory w c (Fill touch frame)) w r v
-fills_copy (Ok o) w v c touch frame n k e a h =
+    → Tries (FillsOwn w (λ f counts. after_first_copy c touch f counts w) frame) (keeps ≡ true) w r v
+    → Tries (Goes w c (Fill touch frame)) (WantsMemory keeps w c (Fill touch frame)) w r v
+fills_copy keeps (Ok o) w v c touch frame n k e a h =
     subst (λ back. FillsBacked w c touch frame back touch.access o v) (sym e) (subst (λ access. FillsBacked w c touch frame (Private n k) access o v) (sym a) h)
-fills_copy (Err x) w v c touch frame n k e a h =
-    (h.0, ap (λ back. is_private_store back touch.access) e ∙ ap (is_private_store (Private n k)) a)
+fills_copy keeps (Err x) w v c touch frame n k e a h =
+    (h.0, (ap (λ back. is_private_store back touch.access) e ∙ ap (is_private_store (Private n k)) a, h.1))
 
 -- ---- a copy in place of the frame
 
@@ -323,6 +323,6 @@ copy_not_due h c phase e due = absurd cc
 pub read_at : (phases : List Phase) (c i : ℕ) (x phase : Phase) → c < length phases → i ≡ c → x ≡ get_or phases i x → x ≡ phase → phase_at phases c ≡ phase
 read_at phases c i x phase h e r is = sym (get_or_read phases c x h (r ∙ ap (λ k. get_or phases k x) e) Free) ∙ is
 
-pub goes_at : (w v : World) (c : ℕ) (r : Result Outcome NoMemory) (read phase : Phase) → read ≡ phase
-    → Tries (Goes w c phase) (WantsMemory w c phase) w r v → Tries (Goes w c read) (WantsMemory w c read) w r v
-goes_at w v c r read phase e h = subst (λ p. Tries (Goes w c p) (WantsMemory w c p) w r v) (sym e) h
+pub goes_at : (keeps : Bool) (w v : World) (c : ℕ) (r : Result Outcome NoMemory) (read phase : Phase) → read ≡ phase
+    → Tries (Goes w c phase) (WantsMemory keeps w c phase) w r v → Tries (Goes w c read) (WantsMemory keeps w c read) w r v
+goes_at keeps w v c r read phase e h = subst (λ p. Tries (Goes w c p) (WantsMemory keeps w c p) w r v) (sym e) h

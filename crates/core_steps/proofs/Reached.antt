@@ -46,18 +46,18 @@ pub new_reached : {A : Type 0} (w : World) (s : Setup A) (slots : Slots) → fau
 new_reached w s slots fine_setup n e = subst (λ u. ∥ IsReached u ∥₁) (sym e) ∣ reached_opening (made_of s) slots (few_cores s fine_setup) n ∣₁
 
 -- a step was made, or refused
-pub kept_by : (r : Result Outcome NoMemory) (w v : World) (e : Event) → Tries (Step w e) (MayWant w e) w r v → ∥ IsReached w ∥₁ → ∥ IsReached v ∥₁
-kept_by (Ok o) w v e s t = ∥∥₁_map t (λ h. reached_step w v e o h s)
-kept_by (Err x) w v e s t = subst (λ u. ∥ IsReached u ∥₁) (sym s.0) t
+pub kept_by : (keeps : Bool) (r : Result Outcome NoMemory) (w v : World) (e : Event) → Tries (Step w e) (MayWant keeps w e) w r v → ∥ IsReached w ∥₁ → ∥ IsReached v ∥₁
+kept_by keeps (Ok o) w v e s t = ∥∥₁_map t (λ h. reached_step w v e o h s)
+kept_by keeps (Err x) w v e s t = subst (λ u. ∥ IsReached u ∥₁) (sym s.0) t
 
-pub sound_by : (r : Result Outcome NoMemory) (w v : World) (e : Event) → Tries (Step w e) (MayWant w e) w r v → ∥ IsReached w ∥₁
+pub sound_by : (keeps : Bool) (r : Result Outcome NoMemory) (w v : World) (e : Event) → Tries (Step w e) (MayWant keeps w e) w r v → ∥ IsReached w ∥₁
     → IfOk r (λ o. ∥ IsSoundStep w e o v ∥₁)
-sound_by (Ok o) w v e s t = ∥∥₁_map t (λ h. steps_sound w v e o h s)
-sound_by (Err x) w v e s t = tt
+sound_by keeps (Ok o) w v e s t = ∥∥₁_map t (λ h. steps_sound w v e o h s)
+sound_by keeps (Err x) w v e s t = tt
 
 -- after some steps the next was refused, and nothing changed
-pub refused_at : (was now new : World) (c n : ℕ) → n < finish_limit → StepsTo was c n now → (new ≡ now) × MayWant now (Go c) → IsRefused was c new
-refused_at was now new c n h s r = subst (IsRefused was c) (sym r.0) (n, h, r.1, s)
+pub refused_at : (keeps : Bool) (was now new : World) (c n : ℕ) → n < finish_limit → StepsTo was c n now → (new ≡ now) × MayWant keeps now (Go c) → IsRefused keeps was c new
+refused_at keeps was now new c n h s r = subst (IsRefused keeps was c) (sym r.0) (n, h, r.1, s)
 
 -- after some steps one is plain
 pub steps_more : (was now new : World) (c n : ℕ) (o : Outcome) → o ≡ Stepped → StepsTo was c n now → Step now (Go c) o new → StepsTo was c (n + 1) new
@@ -89,7 +89,7 @@ pub finished_from : (r : Result Finished NoMemory) (w v : World) (c : ℕ) → I
 finished_from (Ok f) w v c h = h w refl
 finished_from (Err x) w v c h = tt
 
-pub refused_from : (r : Result Finished NoMemory) (w v : World) (c : ℕ) → OnErr r ((was : World) → StepsTo was c 0 w → IsRefused was c v)
-    → OnErr r (IsRefused w c v)
-refused_from (Ok f) w v c h = tt
-refused_from (Err x) w v c h = h w refl
+pub refused_from : (keeps : Bool) (r : Result Finished NoMemory) (w v : World) (c : ℕ) → OnErr r ((was : World) → StepsTo was c 0 w → IsRefused keeps was c v)
+    → OnErr r (IsRefused keeps w c v)
+refused_from keeps (Ok f) w v c h = tt
+refused_from keeps (Err x) w v c h = h w refl

@@ -37,9 +37,9 @@ next_run w es n e os m v o h is r s =
     subst (λ f. Run w f (os ++ o ∷ []) v) (sym (take_more es n e h ∙ ap (λ x. take n es ++ x ∷ []) (sym is))) (run_more (take n es) os w m v e o r s)
 
 -- the event at n is refused
-pub refused_next : (w : World) (es : List Event) (n : ℕ) (e : Event) (os : List Outcome) (m : World) → n < length es → e ≡ get_or es n e
-    → Run w (take n es) os m → MayWant m e → IsRefusedAt w es n
-refused_next w es n e os m h is r wants = (e, slice_get_read es (length es) n e refl h is, (os, (m, r, wants)))
+pub refused_next : (keeps : Bool) (w : World) (es : List Event) (n : ℕ) (e : Event) (os : List Outcome) (m : World) → n < length es → e ≡ get_or es n e
+    → Run w (take n es) os m → MayWant keeps m e → IsRefusedAt keeps w es n
+refused_next keeps w es n e os m h is r wants = (e, slice_get_read es (length es) n e refl h is, (os, (m, r, wants)))
 
 -- a run that divides and joins as the map does goes one event on
 as_map_more : (P : PageRange → ℕ → ℕ → Bool) (C : Slots → ℕ → Type 0) (F : Slots → Slots → ℕ → Type 0) (es : List Event) (os : List Outcome)

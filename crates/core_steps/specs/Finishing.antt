@@ -1,5 +1,5 @@
 -- What finishing a call comes to: steps of a core, one after another, until one is not Stepped
-use Rattle.std.specs.Prelude.{◌≡◌, ◌≢◌, ℕ, ◌<◌, ◌^◌}
+use Rattle.std.specs.Prelude.{◌≡◌, ◌≢◌, ℕ, ◌<◌, ◌^◌, Bool}
 use Rattle.vm_base.specs.declared.requests.Request.{Request}
 use Rattle.core_steps.specs.declared.machine.Finished.{Finished}
 use Rattle.core_steps.specs.declared.machine.Finished.TheVariants.{Last, Stuck}
@@ -26,8 +26,9 @@ abbrev pub Finishes : World → ℕ → Finished → World → Type 0
 Finishes w core finished v = (n : ℕ) × EndsIn w core n finished v
 
 -- some steps were made, and the next, which may be refused for memory, was
-abbrev pub IsRefused : World → ℕ → World → Type 0
-IsRefused w core v = (n : ℕ) × (n < finish_limit) × MayWant v (Go core) × StepsTo w core n v
+abbrev pub IsRefused : Bool → World → ℕ → World → Type 0
+IsRefused keeps w core v =
+    (n : ℕ) × (n < finish_limit) × MayWant keeps v (Go core) × StepsTo w core n v
 
 -- ---- a call with its steps
 
@@ -42,6 +43,6 @@ Calls w core request finished v =
     (o : Outcome) × (m : World) × Step w (Call core request) o m × FinishesAfter m core o finished v
 
 -- it began, and one of its steps, which may be refused for memory, was
-abbrev pub IsCallRefused : World → ℕ → Request → World → Type 0
-IsCallRefused w core request v =
-    (m : World) × Step w (Call core request) Stepped m × IsRefused m core v
+abbrev pub IsCallRefused : Bool → World → ℕ → Request → World → Type 0
+IsCallRefused keeps w core request v =
+    (m : World) × Step w (Call core request) Stepped m × IsRefused keeps m core v

@@ -1,6 +1,6 @@
 -- What a step of an engine does, and which steps may be refused for memory: those at which a slot
--- is to be divided or cut, those that install the first entry of a table of the last level, and those
--- that make a copy of a private page, which the log is to have
+-- is to be divided or cut, those that install the first entry of a table of the last level, and,
+-- where the log keeps its entries, those that make a copy of a private page, which the log is to have
 use Rattle.std.specs.Prelude.{◌≡◌, ℕ, ◌<◌, ◌⊎◌, Bool, true, false, Option, None, Some, Result, Ok, Err}
 use Rattle.vm_base.specs.declared.replies.Reply.{Reply}
 use Rattle.vm_base.specs.Pages.{IsPage}
@@ -33,21 +33,21 @@ use Rattle.machine_sound.specs.Invariant.{Fine}
 -- the call is to hold, or one that it holds crosses an edge of the pages where its mapping goes, or
 -- the core's tables have no entry yet of the page that is to get one, nor of any that shares its
 -- table of the last level, or a private page is to get a copy for a store, for which no core is
--- awaited
-abbrev pub WantsMemory : World → ℕ → Phase → Type 0
-WantsMemory w c (Lock goal cursor) =
+-- awaited, and the log keeps its entries
+abbrev pub WantsMemory : Bool → World → ℕ → Phase → Type 0
+WantsMemory keeps w c (Lock goal cursor) =
     (w.slots.owner cursor ≡ None) × Crosses w.slots cursor (goal_range goal).end
-WantsMemory w c (Cut place target range) = IsCrossed w.slots range
-WantsMemory w c (Fill touch frame) =
-    is_private_store (back_of (w.slots.info touch.page)) touch.access ≡ true
-WantsMemory w c (CopyAcks touch frame) = AwaitsNobody w.hardware c
-WantsMemory w c (Install touch) = IsEmptyBeside (w.hardware.table c) touch.page
-WantsMemory w c _ = ⊥
+WantsMemory keeps w c (Cut place target range) = IsCrossed w.slots range
+WantsMemory keeps w c (Fill touch frame) =
+    (is_private_store (back_of (w.slots.info touch.page)) touch.access ≡ true) × (keeps ≡ true)
+WantsMemory keeps w c (CopyAcks touch frame) = AwaitsNobody w.hardware c × (keeps ≡ true)
+WantsMemory keeps w c (Install touch) = IsEmptyBeside (w.hardware.table c) touch.page
+WantsMemory keeps w c _ = ⊥
 
 -- only a step of such a call takes memory
-abbrev pub MayWant : World → Event → Type 0
-MayWant w (Go c) = WantsMemory w c (w.calls.phase c)
-MayWant w _ = ⊥
+abbrev pub MayWant : Bool → World → Event → Type 0
+MayWant keeps w (Go c) = WantsMemory keeps w c (w.calls.phase c)
+MayWant keeps w _ = ⊥
 
 -- what may be refused did this, or it was refused as it may be, and nothing changed
 abbrev pub Tries : {T E : Type 0} → (T → World → Type 0) → Type 0 → World → Result T E → World

@@ -19,18 +19,18 @@ use Rattle.core_steps.specs.Moving.{MayWant, JoinsAsMap}
 use Rattle.core_steps.specs.Dividing.{DividesAsMap}
 
 -- the events before this index were run, and the one there is one that may be refused for memory
-abbrev pub IsRefusedAt : World → List Event → ℕ → Type 0
-IsRefusedAt w events at =
+abbrev pub IsRefusedAt : Bool → World → List Event → ℕ → Type 0
+IsRefusedAt keeps w events at =
     (e : Event) × (slice_get events at ≡ Some e)
-    × ((outcomes : List Outcome) × ((m : World) × Run w (take at events) outcomes m × MayWant m e))
+    × ((outcomes : List Outcome) × ((m : World) × Run w (take at events) outcomes m × MayWant keeps m e))
 
 -- The setup makes no machine, or an event was refused. The number of events stands for the list of
 -- outcomes, which takes memory where there is an event, and found no room before the first of them.
-abbrev pub Fails : {A : Type 0} → World → Setup A → List Event → RunFault → Type 0
-Fails w setup events (By.Setup fault) = IsFirstFault setup fault
-Fails w setup events (By.NoMemory at) =
+abbrev pub Fails : {A : Type 0} → Bool → World → Setup A → List Event → RunFault → Type 0
+Fails keeps w setup events (By.Setup fault) = IsFirstFault setup fault
+Fails keeps w setup events (By.NoMemory at) =
     (fault_of setup ≡ None)
-    × (((at ≡ length events) × (0 < length events)) ⊎ IsRefusedAt w events at)
+    × (((at ≡ length events) × (0 < length events)) ⊎ IsRefusedAt keeps w events at)
 
 -- The events, in order, may come to these outcomes one after another. Slots are joined and divided
 -- just where the map can, or has to, and as the map does.

@@ -58,7 +58,7 @@ impl<M: SlotMap, H: Hardware, A: Allocator, L: Ledger> Engine<M, H, A, L> {
     pub fn go_lock(&mut self, core: CoreId, goal: Goal, cursor: u64) -> Result<Outcome, NoMemory>
         requires { IsAt (world M.slots self.old) core (Phase.Lock goal cursor) }
         ensures row { Tries (Goes (world M.slots self.old) core (Phase.Lock goal cursor))
-            (WantsMemory (world M.slots self.old) core (Phase.Lock goal cursor))
+            (WantsMemory L.keeps (world M.slots self.old) core (Phase.Lock goal cursor))
             (world M.slots self.old) result (world M.slots self.new) }
         ensures divides { IfOk result
             (λ outcome. GoesAsMap M.parts (M.slots self.old.map) core (Phase.Lock goal cursor) outcome

@@ -27,12 +27,13 @@ pub(crate) struct CallTable<A: Allocator, L: Ledger> {
 }
 
 impl<A: Allocator, L: Ledger> CallTable<A, L> {
-    ghost use Rattle.std.specs.Prelude.{◌<◌, ◌++◌, ◌∷◌, [], OnOk, OnErr};
+    ghost use Rattle.std.specs.Prelude.{◌<◌, ◌++◌, ◌∷◌, [], true, OnOk, OnErr};
     ghost use Rattle.vm_base.specs.declared.log.Entry.TheVariants.{Detach};
     ghost use Rattle.core_steps.specs.State.{number_at, calls_in};
 
     /// It is logged that the core's call has made a copy of its own for the page. The
-    /// room for replies stays. A refusal for memory changes nothing.
+    /// room for replies stays. A refusal for memory, which comes only where the log keeps its
+    /// entries, changes nothing.
     pub fn log_detach(&mut self, core: CoreId, page: u64) -> Result<(), NoMemory>
         requires { core < length self.old.phases.items }
         ensures ok { OnOk result (calls_in self.new ≡ record (calls_in self.old) {
@@ -40,6 +41,7 @@ impl<A: Allocator, L: Ledger> CallTable<A, L> {
               ++ Detach self.old.events (number_at self.old.numbers.items core) page ∷ [];
         }) }
         ensures err { OnErr result (calls_in self.new ≡ calls_in self.old) }
+        ensures err_only { OnErr result (L.keeps ≡ true) }
         ensures cores { length self.new.phases.items ≡ length self.old.phases.items }
         ensures limit { self.new.requests.limit ≡ self.old.requests.limit }
     {

@@ -1,6 +1,6 @@
 //! The copy of a private page that shows its file's page, for a store: no core may go on
 //! translating it by the old frame.
-ghost use Rattle.std.specs.Prelude.{◌≡◌, Some, OnOk, OnErr};
+ghost use Rattle.std.specs.Prelude.{◌≡◌, Some, true, OnOk, OnErr};
 ghost use Rattle.machine_model.specs.Filling.{cores_of};
 ghost use Rattle.machine_model.specs.Step.{Goes};
 ghost use Rattle.core_steps.specs.State.{world};
@@ -40,7 +40,8 @@ impl<M: SlotMap, H: Hardware, A: Allocator, L: Ledger> Engine<M, H, A, L> {
     }
 
     /// The page, which has the frame `shown`, gets a copy of it in `frame`, which no core
-    /// has used yet. A refusal for memory changes nothing.
+    /// has used yet. A refusal for memory, which comes only where the log keeps its entries,
+    /// changes nothing.
     fn make_copy(
         &mut self,
         core: CoreId,
@@ -54,6 +55,7 @@ impl<M: SlotMap, H: Hardware, A: Allocator, L: Ledger> Engine<M, H, A, L> {
         requires shown { info.frame ≡ Some shown }
         ensures ok { OnOk result (MakesCopy (world M.slots self.old) core touch frame shown (world M.slots self.new)) }
         ensures err { OnErr result (world M.slots self.new ≡ world M.slots self.old) }
+        ensures err_only { OnErr result (L.keeps ≡ true) }
     {
         self.calls.log_detach(core, touch.page)?;
         self.frames.copy(shown, frame);
@@ -75,7 +77,7 @@ impl<M: SlotMap, H: Hardware, A: Allocator, L: Ledger> Engine<M, H, A, L> {
     }
 
     /// Once no core is awaited, the page gets its copy at once. A refusal for memory,
-    /// which comes only then, changes nothing.
+    /// which comes only then, and only where the log keeps its entries, changes nothing.
     pub fn go_copy_acks(
         &mut self,
         core: CoreId,
@@ -84,7 +86,7 @@ impl<M: SlotMap, H: Hardware, A: Allocator, L: Ledger> Engine<M, H, A, L> {
     ) -> Result<Outcome, NoMemory>
         requires { IsAt (world M.slots self.old) core (Phase.CopyAcks touch frame) }
         ensures { Tries (Goes (world M.slots self.old) core (Phase.CopyAcks touch frame))
-            (WantsMemory (world M.slots self.old) core (Phase.CopyAcks touch frame))
+            (WantsMemory L.keeps (world M.slots self.old) core (Phase.CopyAcks touch frame))
             (world M.slots self.old) result (world M.slots self.new) }
     {
         if let Some(waiting) = self.cores.awaited(core) {

@@ -43,7 +43,7 @@ impl<M: SlotMap, H: Hardware, A: Allocator, L: Ledger> Engine<M, H, A, L> {
         requires here { core < length self.old.calls.phases.items }
         requires fine { ∥ Fine (world M.slots self.old) ∥₁ }
         ensures row { Tries (Goes (world M.slots self.old) core (phase_of self.old core))
-            (WantsMemory (world M.slots self.old) core (phase_of self.old core))
+            (WantsMemory L.keeps (world M.slots self.old) core (phase_of self.old core))
             (world M.slots self.old) result (world M.slots self.new) }
         ensures divides { IfOk result
             (λ outcome. GoesAsMap M.parts (M.slots self.old.map) core (phase_of self.old core) outcome
@@ -86,7 +86,7 @@ impl<M: SlotMap, H: Hardware, A: Allocator, L: Ledger> Engine<M, H, A, L> {
         requires here { is_here (world M.slots self.old).made (core_of event) ≡ true }
         requires fine { ∥ Fine (world M.slots self.old) ∥₁ }
         ensures row { Tries (Acts (world M.slots self.old) event)
-            (MayWant (world M.slots self.old) event)
+            (MayWant L.keeps (world M.slots self.old) event)
             (world M.slots self.old) result (world M.slots self.new) }
         ensures joins { IfOk result
             (λ outcome. JoinsAsMap M.can_fold M.folds (world M.slots self.old) event outcome
@@ -116,7 +116,7 @@ impl<M: SlotMap, H: Hardware, A: Allocator, L: Ledger> Engine<M, H, A, L> {
         requires room { self.old.calls.events + 1 < 2 ^ 64 }
         requires fine { ∥ Fine (world M.slots self.old) ∥₁ }
         ensures row { Tries (Acts (with_event (world M.slots self.old)) event)
-            (MayWant (world M.slots self.old) event)
+            (MayWant L.keeps (world M.slots self.old) event)
             (world M.slots self.old) result (world M.slots self.new) }
         ensures joins { IfOk result
             (λ outcome. JoinsAsMap M.can_fold M.folds (world M.slots self.old) event outcome
@@ -140,7 +140,7 @@ impl<M: SlotMap, H: Hardware, A: Allocator, L: Ledger> Engine<M, H, A, L> {
     pub fn go_next(&mut self, core: CoreId) -> Result<Outcome, NoMemory>
         requires { IsReady (world M.slots self.old) core }
         ensures { Tries (Step (world M.slots self.old) (Event.Go core))
-            (MayWant (world M.slots self.old) (Event.Go core))
+            (MayWant L.keeps (world M.slots self.old) (Event.Go core))
             (world M.slots self.old) result (world M.slots self.new) }
     {
         self.calls.events += 1;
@@ -167,7 +167,7 @@ impl<M: SlotMap, H: Hardware, A: Allocator, L: Ledger> Engine<M, H, A, L> {
     pub fn step(&mut self, event: Event) -> Result<Outcome, NoMemory>
         requires { ∥ Fine (world M.slots self.old) ∥₁ }
         ensures step { Tries (Step (world M.slots self.old) event)
-            (MayWant (world M.slots self.old) event)
+            (MayWant L.keeps (world M.slots self.old) event)
             (world M.slots self.old) result (world M.slots self.new) }
         ensures joins { IfOk result
             (λ outcome. JoinsAsMap M.can_fold M.folds (world M.slots self.old) event outcome

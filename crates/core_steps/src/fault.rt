@@ -138,7 +138,7 @@ impl<M: SlotMap, H: Hardware, A: Allocator, L: Ledger> Engine<M, H, A, L> {
     pub fn go_install(&mut self, core: CoreId, touch: Touch) -> Result<Outcome, NoMemory>
         requires { IsAt (world M.slots self.old) core (Phase.Install touch) }
         ensures { Tries (Goes (world M.slots self.old) core (Phase.Install touch))
-            (WantsMemory (world M.slots self.old) core (Phase.Install touch))
+            (WantsMemory L.keeps (world M.slots self.old) core (Phase.Install touch))
             (world M.slots self.old) result (world M.slots self.new) }
     {
         if let Some(info) = self.map.page(touch.page)

@@ -1,6 +1,6 @@
 //! How a page gets its frame: a new one of zeros, the one that caches its file page, or a
 //! copy of its file page.
-ghost use Rattle.std.specs.Prelude.{◌≡◌, None, Some};
+ghost use Rattle.std.specs.Prelude.{◌≡◌, None, Some, true};
 ghost use Rattle.vm_base.specs.declared.info.Back.TheVariants.{Anon, Private};
 ghost use Rattle.vm_base.specs.declared.rights.Access.TheVariants.{Store};
 ghost use Rattle.vm_base.specs.Info.{info_with_frame};
@@ -55,7 +55,8 @@ impl<M: SlotMap, H: Hardware, A: Allocator, L: Ledger> Engine<M, H, A, L> {
     }
 
     /// The private page gets the frame that the call has taken, with the bytes of its file page
-    /// as they now are and counted once, for a store. A refusal for memory changes nothing.
+    /// as they now are and counted once, for a store. A refusal for memory, which comes only where
+    /// the log keeps its entries, changes nothing.
     fn fill_copy(
         &mut self,
         core: CoreId,
@@ -69,7 +70,7 @@ impl<M: SlotMap, H: Hardware, A: Allocator, L: Ledger> Engine<M, H, A, L> {
         requires store { touch.access ≡ Store }
         ensures { Tries (FillsOwn (world M.slots self.old)
             (λ f counts. after_first_copy core touch f counts (world M.slots self.old)) frame)
-            (Unit {0})
+            (L.keeps ≡ true)
             (world M.slots self.old) result (world M.slots self.new) }
     {
         let Some(frame) = frame else {
@@ -141,7 +142,8 @@ impl<M: SlotMap, H: Hardware, A: Allocator, L: Ledger> Engine<M, H, A, L> {
     }
 
     /// The page gets its frame, by what backs it and by the access. A refusal for memory,
-    /// which only a private page's first store may have, changes nothing.
+    /// which only a private page's first store may have, and only where the log keeps its entries,
+    /// changes nothing.
     pub fn go_fill(
         &mut self,
         core: CoreId,
@@ -150,7 +152,7 @@ impl<M: SlotMap, H: Hardware, A: Allocator, L: Ledger> Engine<M, H, A, L> {
     ) -> Result<Outcome, NoMemory>
         requires { IsAt (world M.slots self.old) core (Phase.Fill touch frame) }
         ensures { Tries (Goes (world M.slots self.old) core (Phase.Fill touch frame))
-            (WantsMemory (world M.slots self.old) core (Phase.Fill touch frame))
+            (WantsMemory L.keeps (world M.slots self.old) core (Phase.Fill touch frame))
             (world M.slots self.old) result (world M.slots self.new) }
     {
         let info = self.map.page(touch.page);

@@ -1,6 +1,6 @@
 //! What becomes of the entries of a log.
-ghost use Rattle.std.specs.Prelude.{◌≡◌, ◌+◌, ◌^◌, ◌<◌, ◌≤◌, ◌++◌, ◌∷◌, [], ℕ, List, length, Bool};
-ghost use Rattle.std.specs.Prelude.{false, IfOk, IfNone, IfSome, OnOk, OnErr};
+ghost use Rattle.std.specs.Prelude.{◌≡◌, ◌+◌, ◌<◌, ◌≤◌, ◌++◌, ◌∷◌, [], ℕ, List, length, Bool};
+ghost use Rattle.std.specs.Prelude.{false, true, IfOk, IfNone, IfSome, OnOk, OnErr};
 ghost use Rattle.vm_base.specs.declared.log.Entry.{Entry as EntryOf};
 
 use std::alloc::AllocError;
@@ -23,14 +23,13 @@ pub trait Ledger {
         ensures limit { limit self.new ≡ limit self.old };
 
     /// One entry more, for which memory may be taken: the room that was left stays. A refusal
-    /// changes nothing. A log that keeps no entries takes no memory, and refuses only where 64
-    /// bits don't hold the new limit.
+    /// changes nothing, and comes only where the entries are kept.
     fn push_beyond(&mut self, entry: Entry) -> Result<(), AllocError>
         ensures items { OnOk result (entries self.new ≡ entries self.old ++ entry ∷ []) }
         ensures limit { OnOk result (limit self.new ≡ limit self.old + 1) }
         ensures same_items { OnErr result (entries self.new ≡ entries self.old) }
         ensures same_limit { OnErr result (limit self.new ≡ limit self.old) }
-        ensures err_only { OnErr result (keeps ≡ false → 2 ^ 64 ≤ limit self.old + 1) };
+        ensures err_only { OnErr result (keeps ≡ true) };
 
     /// The entries so far, in order, where they are kept.
     fn kept(&self) -> Option<&[Entry]>

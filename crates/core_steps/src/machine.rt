@@ -83,14 +83,15 @@ impl<M: SlotMap, A: Allocator + Clone, L: Ledger> Machine<M, A, L> {
 
     /// One event. A refusal for memory leaves the machine unchanged, and comes only at a step of a call
     /// at which a slot is to be divided, which installs the first entry of a table of the last level,
-    /// or which makes a private page's copy. Slots are joined just where the map can join them, and one
-    /// that is to be locked or cut is divided just where it crosses an edge, as the map divides it. The
-    /// state that is left is one of a plain page map's (POSIX.1-2017, mmap, munmap and mprotect). The
-    /// step's log entry, if it made one, was due, a frame became free only by a review or by the call
-    /// that had taken it and gave it to no page, and what is waited for is there.
+    /// or which makes a private page's copy where the log keeps its entries. Slots are joined just where
+    /// the map can join them, and one that is to be locked or cut is divided just where it crosses an
+    /// edge, as the map divides it. The state that is left is one of a plain page map's (POSIX.1-2017,
+    /// mmap, munmap and mprotect). The step's log entry, if it made one, was due, a frame became free
+    /// only by a review or by the call that had taken it and gave it to no page, and what is waited for
+    /// is there.
     pub fn step(&mut self, event: Event) -> Result<Outcome, NoMemory>
         ensures step { Tries (Step (state self.old) event)
-            (MayWant (state self.old) event)
+            (MayWant L.keeps (state self.old) event)
             (state self.old) result (state self.new) }
         ensures joins { IfOk result
             (λ outcome. JoinsAsMap M.can_fold M.folds (state self.old) event outcome (state self.new)) }
@@ -106,7 +107,7 @@ impl<M: SlotMap, A: Allocator + Clone, L: Ledger> Machine<M, A, L> {
     // The next step of the core's call, as `step` makes it: without a look at what event it is.
     fn next(&mut self, core: CoreId) -> Result<Outcome, NoMemory>
         ensures step { Tries (Step (state self.old) (Event.Go core))
-            (MayWant (state self.old) (Event.Go core))
+            (MayWant L.keeps (state self.old) (Event.Go core))
             (state self.old) result (state self.new) }
         ensures legal { IsLegal (state self.new) }
     {
@@ -123,7 +124,7 @@ impl<M: SlotMap, A: Allocator + Clone, L: Ledger> Machine<M, A, L> {
         ensures ends { IfOk result (λ finished. (was : World) → StepsTo was core steps (state self.old)
             → Finishes was core finished (state self.new)) }
         ensures err { OnErr result ((was : World) → StepsTo was core steps (state self.old)
-            → IsRefused was core (state self.new)) }
+            → IsRefused L.keeps was core (state self.new)) }
         ensures legal { IsLegal (state self.new) }
     {
         let mut n = steps;
@@ -145,7 +146,7 @@ impl<M: SlotMap, A: Allocator + Clone, L: Ledger> Machine<M, A, L> {
     /// steps before it stand.
     pub fn finish(&mut self, core: CoreId) -> Result<Finished, NoMemory>
         ensures ends { IfOk result (λ finished. Finishes (state self.old) core finished (state self.new)) }
-        ensures err { OnErr result (IsRefused (state self.old) core (state self.new)) }
+        ensures err { OnErr result (IsRefused L.keeps (state self.old) core (state self.new)) }
         ensures legal { IsLegal (state self.new) }
     {
         self.go_on(core, 0)
@@ -156,7 +157,7 @@ impl<M: SlotMap, A: Allocator + Clone, L: Ledger> Machine<M, A, L> {
     /// After a refusal for memory the steps before it stand.
     pub fn call(&mut self, core: CoreId, request: Request) -> Result<Finished, NoMemory>
         ensures ends { IfOk result (λ finished. Calls (state self.old) core request finished (state self.new)) }
-        ensures err { OnErr result (IsCallRefused (state self.old) core request (state self.new)) }
+        ensures err { OnErr result (IsCallRefused L.keeps (state self.old) core request (state self.new)) }
         ensures legal { IsLegal (state self.new) }
     {
         match self.engine.start(core, request) {

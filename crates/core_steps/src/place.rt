@@ -203,7 +203,7 @@ impl<M: SlotMap, H: Hardware, A: Allocator, L: Ledger> Engine<M, H, A, L> {
     ) -> Result<Outcome, NoMemory>
         requires { IsAt (world M.slots self.old) core (Phase.Cut place target range) }
         ensures row { Tries (Goes (world M.slots self.old) core (Phase.Cut place target range))
-            (WantsMemory (world M.slots self.old) core (Phase.Cut place target range))
+            (WantsMemory L.keeps (world M.slots self.old) core (Phase.Cut place target range))
             (world M.slots self.old) result (world M.slots self.new) }
         ensures divides { IfOk result
             (λ outcome. GoesAsMap M.parts (M.slots self.old.map) core (Phase.Cut place target range)

@@ -44,7 +44,7 @@ pub fn run<M: SlotMap + Drop, A: Allocator + Clone + Drop, L: Opening<A> + Drop>
         (state done.machine).calls.requests (state done.machine).calls.log) }
     ensures sound { IfOk result (λ done. SoundRun (new_world (made_of setup) (M.slots map)) events.now
         done.outcomes.items (state done.machine)) }
-    ensures fault { IfErr result (λ fault. Fails (new_world (made_of setup) (M.slots map)) setup events.now fault) }
+    ensures fault { IfErr result (λ fault. Fails L.keeps (new_world (made_of setup) (M.slots map)) setup events.now fault) }
 {
     let Ok(own) = alloc.clone() else {
         return Err(RunFault::Setup(setup.fault().unwrap_or(SetupFault::NoMemory)));

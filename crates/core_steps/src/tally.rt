@@ -1,9 +1,8 @@
 //! Lists that are only counted.
-ghost use Rattle.std.specs.Prelude.{◌≡◌, ◌+◌, ◌^◌, ◌<◌, ◌≤◌, ◌++◌, ◌∷◌, [], nat_lt};
-ghost use Rattle.std.specs.Prelude.{length, not, OnOk, OnErr};
+ghost use Rattle.std.specs.Prelude.{◌≡◌, ◌<◌, ◌≤◌, ◌++◌, ◌∷◌, [], nat_lt};
+ghost use Rattle.std.specs.Prelude.{length, not};
 
 use history::History;
-use std::alloc::AllocError;
 
 /// How many elements a list of at most `limit` has. What they are, only clauses know.
 #[derive(Drop)]
@@ -48,22 +47,5 @@ impl<T> Tally<T> {
         self.items = self.items.and(value);
         self.count += 1;
         self.count
-    }
-
-    /// One element more, beyond those that there may be: how many more there may be stays. No memory
-    /// is taken: the error says that 64 bits don't hold the new limit, and then nothing changes.
-    pub fn push_beyond(&mut self, value: &T) -> Result<(), AllocError>
-        ensures items { OnOk result (self.new.items.items ≡ self.old.items.items ++ value.now ∷ []) }
-        ensures limit { OnOk result (self.new.limit ≡ self.old.limit + 1) }
-        ensures same_items { OnErr result (self.new.items.items ≡ self.old.items.items) }
-        ensures same_limit { OnErr result (self.new.limit ≡ self.old.limit) }
-        ensures err_only { OnErr result (2 ^ 64 ≤ self.old.limit + 1) }
-    {
-        if self.limit == u64::MAX {
-            return Err(AllocError);
-        }
-        self.limit += 1;
-        let _ = self.push(value);
-        Ok(())
     }
 }

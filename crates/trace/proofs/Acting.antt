@@ -114,14 +114,14 @@ said_failed s n kind (Some (Fold page)) f e (inr h) = absurd (let k = h.1 in cc)
 said_failed s n kind (Some (Finish core)) f e (inr h) = absurd (let k = h.1 in cc)
 said_failed s n kind (Some (Now core request)) f e (inr h) = absurd (let k = h.1 in cc)
 
-pub event_failed : {U : Type 0} (r : Result U TraceFault) (s : Stage) (n : ℕ) (bytes : List ℕ) (line : Option Line) → are_printable bytes ≡ true
+pub event_failed : {U : Type 0} (keeps : Bool) (r : Result U TraceFault) (s : Stage) (n : ℕ) (bytes : List ℕ) (line : Option Line) → are_printable bytes ≡ true
     → line ≡ line_of bytes → is_event line ≡ true
-    → IfErr r (λ f. ((f ≡ NoMemory) × IsSomeAnd line (λ l. EventWants s l)) ⊎ EventFails s n line f)
-    → IfErr r (λ f. ((f ≡ NoMemory) × LineWants s bytes) ⊎ LineFails s n bytes f)
-event_failed (Ok u) s n bytes line p e i h = tt
-event_failed (Err f) s n bytes line p e i (inl h) =
-    inl (h.0, record { printable = p; wants = subst (λ o. IsSomeAnd o (λ l. EventWants s l)) e h.1 })
-event_failed (Err f) s n bytes line p e i (inr h) = inr (record {
+    → IfErr r (λ f. ((f ≡ NoMemory) × IsSomeAnd line (λ l. EventWants keeps s l)) ⊎ EventFails s n line f)
+    → IfErr r (λ f. ((f ≡ NoMemory) × LineWants keeps s bytes) ⊎ LineFails s n bytes f)
+event_failed keeps (Ok u) s n bytes line p e i h = tt
+event_failed keeps (Err f) s n bytes line p e i (inl h) =
+    inl (h.0, record { printable = p; wants = subst (λ o. IsSomeAnd o (λ l. EventWants keeps s l)) e h.1 })
+event_failed keeps (Err f) s n bytes line p e i (inr h) = inr (record {
   because = subst (λ b. BytesFail b s n bytes f) (sym p)
       (subst (λ o. SaidFails s n (kind_of (words_of bytes)) o f) e (said_failed s n (kind_of (words_of bytes)) line f i h));
 })

@@ -1,5 +1,5 @@
 -- What the steps of a line of an event give
-use Rattle.std.proofs.Common.{◌≡◌, ℕ, List, Option, Some, None, false, inl, inr, Result, Ok, Err, refl, sym, ap, ◌∙◌, subst}
+use Rattle.std.proofs.Common.{◌≡◌, ℕ, Bool, List, Option, Some, None, false, inl, inr, Result, Ok, Err, refl, sym, ap, ◌∙◌, subst}
 use Rattle.std.specs.Prelude.{IsSomeAnd, IfErr, OnOk, OnErr, ◌⊎◌}
 use Rattle.vm_base.specs.declared.memory.NoMemory.{NoMemory}
 use Rattle.machine_model.specs.declared.event.Outcome.{Outcome}
@@ -62,10 +62,10 @@ acted (Ok u) None old w v text o h = h
 acted (Err f) line old w v text o h = tt
 
 -- or not
-pub not_acted : {U : Type 0} (r : Result U TraceFault) (line : Option Line) (old : Stage) (w : World) (number : ℕ) → Opens old w
-    → IfErr r (λ f. ((f ≡ By.NoMemory) × IsSomeAnd line (λ l. Wants w l)) ⊎ ((is_event line ≡ false) × (f ≡ By.BadLine number)))
-    → IfErr r (λ f. ((f ≡ By.NoMemory) × IsSomeAnd line (λ l. EventWants old l)) ⊎ EventFails old number line f)
-not_acted (Ok u) line old w number o h = tt
-not_acted (Err f) (Some l) old w number o (inl h) = inl (h.0, (w, o, h.1))
-not_acted (Err f) None old w number o (inl h) = inl h
-not_acted (Err f) line old w number o (inr h) = inr (inr (can_open old w o, h.0, h.1))
+pub not_acted : {U : Type 0} (keeps : Bool) (r : Result U TraceFault) (line : Option Line) (old : Stage) (w : World) (number : ℕ) → Opens old w
+    → IfErr r (λ f. ((f ≡ By.NoMemory) × IsSomeAnd line (λ l. Wants keeps w l)) ⊎ ((is_event line ≡ false) × (f ≡ By.BadLine number)))
+    → IfErr r (λ f. ((f ≡ By.NoMemory) × IsSomeAnd line (λ l. EventWants keeps old l)) ⊎ EventFails old number line f)
+not_acted keeps (Ok u) line old w number o h = tt
+not_acted keeps (Err f) (Some l) old w number o (inl h) = inl (h.0, (w, o, h.1))
+not_acted keeps (Err f) None old w number o (inl h) = inl h
+not_acted keeps (Err f) line old w number o (inr h) = inr (inr (can_open old w o, h.0, h.1))

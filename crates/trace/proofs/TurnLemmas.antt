@@ -13,7 +13,7 @@ use Rattle.trace.specs.declared.fault.TraceFault.TheVariants.{BadLine, TooLong, 
 use Rattle.trace.specs.Stage.{Stage, Start, Declared, Running, SetupFails, OpenFails, LineWants, Kind, OfSpace, OfFile, OfEvents, kind_of}
 use Rattle.trace.specs.Stage.{LateFails, BadFails, SpaceFails, FileFails, SaidFails, BytesFail, LineFails, Acts}
 use Rattle.trace.specs.declared.shown.Show.{Show}
-use Rattle.trace.specs.Shown.{told}
+use Rattle.trace.specs.Shown.{keeps_log, told}
 use Rattle.trace.specs.Declarations.{Asked, asked_fault}
 use Rattle.trace.specs.Turns.{Scene, IsHeld, Fails, no_memory, refused, unwritten}
 
@@ -81,20 +81,20 @@ unfolding is_own
 own_bytes false s n line f e = ap is_own e
 own_bytes true s n line f e = own_said s n (kind_of (words_of line)) (line_of line) f e
 
-own_act : (s : Stage) (n : ℕ) (line : List ℕ) (f : TraceFault) → ((f ≡ NoMemory) × LineWants s line) ⊎ LineFails s n line f → is_own f ≡ true
+own_act : (keeps : Bool) (s : Stage) (n : ℕ) (line : List ℕ) (f : TraceFault) → ((f ≡ NoMemory) × LineWants keeps s line) ⊎ LineFails s n line f → is_own f ≡ true
 unfolding is_own
-own_act s n line f (inl e) = ap is_own e.0
-own_act s n line f (inr h) = own_bytes (are_printable line) s n line f h.because
+own_act keeps s n line f (inl e) = ap is_own e.0
+own_act keeps s n line f (inr h) = own_bytes (are_printable line) s n line f h.because
 
-pub not_read : {X : Type 0} (s : Stage) (n : ℕ) (line : List ℕ) (f : TraceFault) → ((f ≡ NoMemory) × LineWants s line)
+pub not_read : {X : Type 0} (keeps : Bool) (s : Stage) (n : ℕ) (line : List ℕ) (f : TraceFault) → ((f ≡ NoMemory) × LineWants keeps s line)
     ⊎ LineFails s n line f → f ≡ ReadFailed → X
 unfolding is_own
-not_read s n line f h e = let clash : false ≡ true = sym (ap is_own e) ∙ own_act s n line f h in cc
+not_read keeps s n line f h e = let clash : false ≡ true = sym (ap is_own e) ∙ own_act keeps s n line f h in cc
 
-pub not_write : {X : Type 0} (s : Stage) (n : ℕ) (line : List ℕ) (f : TraceFault) → ((f ≡ NoMemory) × LineWants s line)
+pub not_write : {X : Type 0} (keeps : Bool) (s : Stage) (n : ℕ) (line : List ℕ) (f : TraceFault) → ((f ≡ NoMemory) × LineWants keeps s line)
     ⊎ LineFails s n line f → f ≡ WriteFailed → X
 unfolding is_own
-not_write s n line f h e = let clash : false ≡ true = sym (ap is_own e) ∙ own_act s n line f h in cc
+not_write keeps s n line f h e = let clash : false ≡ true = sym (ap is_own e) ∙ own_act keeps s n line f h in cc
 
 -- the end is neither the reader's fault nor the writer's
 pub end_not_read : {X : Type 0} (s : Stage) (f : TraceFault) → OpenFails s f → f ≡ ReadFailed → X
@@ -106,13 +106,13 @@ unfolding is_own
 end_not_write s f h e = let clash : false ≡ true = sym (ap is_own e) ∙ own_open s f h in cc
 
 -- a line that wasn't acted on fails the turn
-pub act_fails : (show : Show) (old new : Scene) (n : ℕ) (line held seen : List ℕ) (f : TraceFault)
-    → Keeps old.written new.written → length line ≤ 256
+pub act_fails : (keeps : Bool) (show : Show) (old new : Scene) (n : ℕ) (line held seen : List ℕ) (f : TraceFault)
+    → keeps ≡ keeps_log show → Keeps old.written new.written → length line ≤ 256
     → IsUnbroken line → TakesLine old.left new.left line → IsHeld held new → seen ≡ line
-    → ((f ≡ NoMemory) × LineWants old.stage seen) ⊎ LineFails old.stage (n + 1) seen f → Fails show old new n f
-act_fails show old new n line held seen f keeps short unbroken takes holds same (inl e) =
-    no_memory e.0 line held short unbroken takes holds (subst (LineWants old.stage) same e.1) keeps
-act_fails show old new n line held seen f keeps short unbroken takes holds same (inr h) =
+    → ((f ≡ NoMemory) × LineWants keeps old.stage seen) ⊎ LineFails old.stage (n + 1) seen f → Fails show old new n f
+act_fails kept show old new n line held seen f shown keeps short unbroken takes holds same (inl e) =
+    no_memory e.0 line held short unbroken takes holds (subst (λ k. LineWants k old.stage line) shown (subst (LineWants kept old.stage) same e.1)) keeps
+act_fails kept show old new n line held seen f shown keeps short unbroken takes holds same (inr h) =
     refused line short unbroken takes (subst (λ l. LineFails old.stage (n + 1) l f) same h) keeps
 
 appends_after : (a b c : Option (List ℕ)) (xs : List ℕ) → Keeps a b → Appends b c xs → Appends a c xs

@@ -11,7 +11,7 @@ use Rattle.trace.specs.declared.fault.TraceFault.TheVariants.{WriteFailed}
 use Rattle.trace.specs.declared.shown.Show.{Show}
 use Rattle.trace.specs.Stage.{Stage, Start, LineFails, LineWants, CanOpen, OpenFails}
 use Rattle.trace.specs.Runs.{Runs}
-use Rattle.trace.specs.Shown.{told, IsBehind, IsBegunBehind}
+use Rattle.trace.specs.Shown.{keeps_log, told, IsBehind, IsBegunBehind}
 use Rattle.trace.specs.PlainLaw.{GivesPlainText}
 
 -- All lines were acted on, a machine could be made, and what is to be shown was written: the lines'
@@ -58,7 +58,7 @@ pub data Stops (show : Show) (input : List ℕ) (unread old new : Option (List �
   unmade : f ≡ NoMemory → unread ≡ Some input → Appends old new [] → Stops show input unread old new f
   wanting : f ≡ NoMemory → (p : Front input) (line : List ℕ) (others : List (List ℕ))
       → p.more ≡ line ∷ others → AreRead input unread (p.done ++ line ∷ [])
-      → LineWants p.stage line → Appends old new (told show p.text)
+      → LineWants (keeps_log show) p.stage line → Appends old new (told show p.text)
       → Stops show input unread old new f
   overlong : (p : Front input) (line : List ℕ) (others : List (List ℕ)) → p.more ≡ line ∷ others
       → 256 < length line → f ≡ TooLong (length p.done + 1) → Appends old new (told show p.text)

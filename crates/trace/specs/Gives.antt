@@ -41,19 +41,19 @@ Gives w (Now core request) v text = (o : Outcome) × (m : World) × Step w (Ev.C
     × TellsCall m core o v text
 
 -- some step that finishes the core's call was refused for memory
-abbrev pub WantsFinish : World → ℕ → Type 0
-WantsFinish w core = (v : World) × IsRefused w core v
+abbrev pub WantsFinish : Bool → World → ℕ → Type 0
+WantsFinish keeps w core = (v : World) × IsRefused keeps w core v
 
 -- a step that the line asks for was refused for memory
-abbrev pub Wants : World → Line → Type 0
-Wants w Blank = ⊥
-Wants w (Space cores frames calls) = ⊥
-Wants w (File n mode len seed) = ⊥
-Wants w (Act core action) = MayWant w (event_of core action)
-Wants w (Fold page) = MayWant w (Ev.Fold page)
-Wants w (Finish core) = WantsFinish w core
-Wants w (Now core request) = MayWant w (Ev.Call core request)
-    ⊎ ((m : World) × Step w (Ev.Call core request) Stepped m × WantsFinish m core)
+abbrev pub Wants : Bool → World → Line → Type 0
+Wants keeps w Blank = ⊥
+Wants keeps w (Space cores frames calls) = ⊥
+Wants keeps w (File n mode len seed) = ⊥
+Wants keeps w (Act core action) = MayWant keeps w (event_of core action)
+Wants keeps w (Fold page) = MayWant keeps w (Ev.Fold page)
+Wants keeps w (Finish core) = WantsFinish keeps w core
+Wants keeps w (Now core request) = MayWant keeps w (Ev.Call core request)
+    ⊎ ((m : World) × Step w (Ev.Call core request) Stepped m × WantsFinish keeps m core)
 
 -- the line of an event
 abbrev pub is_event : Option Line → Bool

@@ -1,5 +1,5 @@
 -- What a replay shows: the text of outcomes, and what comes behind it at the end
-use Rattle.std.specs.Prelude.{◌≡◌, ℕ, ◌^◌, ◌<◌, ◌≤◌, ◌⊎◌, List, [], Option}
+use Rattle.std.specs.Prelude.{◌≡◌, ℕ, ◌^◌, ◌<◌, ◌≤◌, ◌⊎◌, Bool, true, false, List, [], Option}
 use Rattle.std.specs.Io.KnownBytes.{Keeps, Appends}
 use Rattle.vm_base.specs.declared.log.Entry.{Entry}
 use Rattle.trace_io.specs.Sink.{AppendsFront}
@@ -21,6 +21,12 @@ abbrev pub told : Show → List ℕ → List ℕ
 told Outcomes text = text
 told OutcomesAndLog text = text
 told Maps text = []
+
+-- the log is kept just where it is to be written
+abbrev pub keeps_log : Show → Bool
+keeps_log Outcomes = false
+keeps_log OutcomesAndLog = true
+keeps_log Maps = false
 
 -- the log of the machine; up to the first event it is empty
 abbrev pub log_at : Stage → List Entry

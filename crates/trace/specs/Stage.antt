@@ -111,13 +111,13 @@ pub record LineFails (s : Stage) (number : ℕ) (line : List ℕ) (f : TraceFaul
   pub because : BytesFail (are_printable line) s number line f
 
 -- a step of the machine that an event's line finds was refused for memory
-abbrev pub EventWants : Stage → Line → Type 0
-EventWants s line = (w : World) × Opens s w × Wants w line
+abbrev pub EventWants : Bool → Stage → Line → Type 0
+EventWants keeps s line = (w : World) × Opens s w × Wants keeps w line
 
 -- the same, of a line in bytes
-pub record LineWants (s : Stage) (line : List ℕ) : Type 0 where
+pub record LineWants (keeps : Bool) (s : Stage) (line : List ℕ) : Type 0 where
   pub printable : are_printable line ≡ true
-  pub wants : IsSomeAnd (line_of line) (λ l. EventWants s l)
+  pub wants : IsSomeAnd (line_of line) (λ l. EventWants keeps s l)
 
 -- a line that is acted on, by what it says
 abbrev pub EventActs : Stage → Line → Stage → List ℕ → Type 0

@@ -9,7 +9,7 @@ use Rattle.trace.specs.declared.fault.TraceFault.TheVariants.{TooLong, ReadFaile
 use Rattle.trace.specs.declared.fault.TraceFault.TheVariants.{WriteFailed}
 use Rattle.trace.specs.declared.shown.Show.{Show}
 use Rattle.trace.specs.Stage.{Stage, LineFails, LineWants, Acts}
-use Rattle.trace.specs.Shown.{told}
+use Rattle.trace.specs.Shown.{keeps_log, told}
 
 -- what is still to come, what of it has not been read yet, the stage, and what the writer holds
 pub record Scene : Type 0 where
@@ -47,7 +47,7 @@ pub data Fails (show : Show) (old new : Scene) (number : ℕ) (f : TraceFault) :
       → Fails show old new number f
   no_memory : f ≡ NoMemory → (line held : List ℕ) → length line ≤ 256 → IsUnbroken line
       → TakesLine old.left new.left line
-      → IsHeld held new → LineWants old.stage line → Keeps old.written new.written
+      → IsHeld held new → LineWants (keeps_log show) old.stage line → Keeps old.written new.written
       → Fails show old new number f
   refused : (line : List ℕ) → length line ≤ 256 → IsUnbroken line → TakesLine old.left new.left line
       → LineFails old.stage (number + 1) line f → Keeps old.written new.written

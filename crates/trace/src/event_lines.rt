@@ -40,7 +40,7 @@ fn tell_step<M: SlotMap, A: Allocator + Clone, L: Ledger>(
     text: &mut LineText,
 ) -> Result<(), NoMemory>
     ensures ok { OnOk result (TellsStep (state machine.old) event (state machine.new) text.new.bytes) }
-    ensures err { OnErr result (MayWant (state machine.old) event) }
+    ensures err { OnErr result (MayWant L.keeps (state machine.old) event) }
 {
     let outcome = machine.step(event)?;
     write_outcome(text, outcome);
@@ -56,7 +56,7 @@ fn tell_act<M: SlotMap, A: Allocator + Clone, L: Ledger>(
 ) -> Result<(), NoMemory>
     ensures ok { OnOk result (Gives (state machine.old) (Line.Act core action)
         (state machine.new) text.new.bytes) }
-    ensures err { OnErr result (Wants (state machine.old) (Line.Act core action)) }
+    ensures err { OnErr result (Wants L.keeps (state machine.old) (Line.Act core action)) }
 {
     tell_step(machine, event_of(core, action), text)
 }
@@ -68,7 +68,7 @@ fn tell_finish<M: SlotMap, A: Allocator + Clone, L: Ledger>(
     text: &mut LineText,
 ) -> Result<(), NoMemory>
     ensures ok { OnOk result (TellsFinish (state machine.old) core (state machine.new) text.new.bytes) }
-    ensures err { OnErr result (WantsFinish (state machine.old) core) }
+    ensures err { OnErr result (WantsFinish L.keeps (state machine.old) core) }
 {
     let finished = machine.finish(core)?;
     write_finished(text, finished);
@@ -84,7 +84,7 @@ fn tell_call<M: SlotMap, A: Allocator + Clone, L: Ledger>(
 ) -> Result<(), NoMemory>
     ensures ok { OnOk result (Gives (state machine.old) (Line.Now core request)
         (state machine.new) text.new.bytes) }
-    ensures err { OnErr result (Wants (state machine.old) (Line.Now core request)) }
+    ensures err { OnErr result (Wants L.keeps (state machine.old) (Line.Now core request)) }
 {
     let finished = machine.call(core, request)?;
     write_finished(text, finished);
@@ -103,7 +103,7 @@ pub fn run_line<M: SlotMap, A: Allocator + Clone, L: Ledger>(
     ensures ok { OnOk result
         (IsSomeAnd line (λ l. Gives (state machine.old) l (state machine.new) text.new.bytes)) }
     ensures err { IfErr result
-        (λ f. ((f ≡ TraceFault.NoMemory) × IsSomeAnd line (λ l. Wants (state machine.old) l))
+        (λ f. ((f ≡ TraceFault.NoMemory) × IsSomeAnd line (λ l. Wants L.keeps (state machine.old) l))
         ⊎ ((is_event line ≡ false) × (f ≡ TraceFault.BadLine number))) }
 {
     let Some(line) = line else {

@@ -7,12 +7,12 @@ ghost use Rattle.trace.specs.declared.shown.Show.TheVariants.{OutcomesAndLog};
 ghost use Rattle.trace.specs.Turns.{Turns, Scene};
 ghost use Rattle.trace.specs.Stage.{Start};
 ghost use Rattle.trace.specs.Ends.{Ends, TellsFaults};
-ghost use Rattle.trace.specs.Shown.{Closes, CloseFails};
+ghost use Rattle.trace.specs.Shown.{Closes, CloseFails, keeps_log};
 
 use crate::fault::TraceFault;
 use crate::replayer::{Replayer, Staged};
 use crate::shown::{Show, write_log, write_maps, write_told};
-use core_steps::{Counted, Kept, Opening};
+use core_steps::{Forgotten, Kept, Opening};
 use std::alloc::Allocator;
 use trace_io::lines::{Found, LineReader, NoLine};
 use trace_io::sink::Sink;
@@ -29,7 +29,8 @@ fn turn<A: Allocator, S: Source, W: Sink, R: Staged>(
     show: Show,
     text: &mut LineText,
 ) -> Result<bool, TraceFault>
-    requires { number + 1 < 2 ^ 64 }
+    requires few { number + 1 < 2 ^ 64 }
+    requires keeps { R.keeps ≡ keeps_log show }
     ensures turns { Turns show
         (record {
           left = left (S.remaining reader.old) lines.old;
@@ -111,7 +112,7 @@ fn replay_lines<A: Allocator, S: Source, W: Sink, R: Staged>(
 ) -> Result<(), TraceFault>
     requires fresh { lines.old ≡ opening }
     requires start { R.stage replayer.old ≡ Start }
-    requires keeps { show ≡ OutcomesAndLog → R.keeps ≡ true }
+    requires keeps { R.keeps ≡ keeps_log show }
     ensures ends { IfSome (S.remaining reader.old) (λ input.
         Ends show input (S.remaining reader.new) (W.contents writer.old) (W.contents writer.new) result) }
     ensures read { result ≡ Err ReadFailed → HasStopped (S.failed reader.new) (S.reads reader.new) }
@@ -136,7 +137,7 @@ fn replay_over<L: Opening<A> + Drop, A: Allocator + Clone + Drop, S: Source, W: 
     writer: &mut W,
     show: Show,
 ) -> Result<(), TraceFault>
-    requires { show ≡ OutcomesAndLog → L.keeps ≡ true }
+    requires { L.keeps ≡ keeps_log show }
     ensures ends { IfSome (S.remaining reader.old) (λ input.
         Ends show input (S.remaining reader.new) (W.contents writer.old) (W.contents writer.new) result) }
     ensures read { result ≡ Err ReadFailed → HasStopped (S.failed reader.new) (S.reads reader.new) }
@@ -169,7 +170,7 @@ fn replay_text<A: Allocator + Clone + Drop, S: Source, W: Sink>(
 {
     match show {
         Show::OutcomesAndLog => replay_over::<Kept<A>, A, S, W>(alloc, reader, writer, show),
-        Show::Outcomes | Show::Maps => replay_over::<Counted, A, S, W>(alloc, reader, writer, show),
+        Show::Outcomes | Show::Maps => replay_over::<Forgotten, A, S, W>(alloc, reader, writer, show),
     }
 }
 

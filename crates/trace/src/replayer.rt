@@ -34,7 +34,7 @@ pub trait Staged {
     fn act(&mut self, number: u64, line: &[u8], text: &mut LineText) -> Result<(), TraceFault>
         ensures ok { OnOk result (Acts (stage self.old) line.now (stage self.new) text.new.bytes) }
         ensures err { IfErr result (λ f.
-            ((f ≡ TraceFault.NoMemory) × LineWants (stage self.old) line.now)
+            ((f ≡ TraceFault.NoMemory) × LineWants keeps (stage self.old) line.now)
             ⊎ LineFails (stage self.old) number line.now f) };
 
     /// Ends the trace: a machine is made where no line has made one yet.
@@ -219,7 +219,7 @@ impl<A: Allocator + Clone + Drop, L: Opening<A> + Drop> Replayer<A, L> {
             (⟦<Self as Staged>⟧.stage self.new) text.new.bytes)) }
         ensures err { IfErr result
             (λ f. ((f ≡ TraceFault.NoMemory)
-            × IsSomeAnd line (λ l. EventWants (⟦<Self as Staged>⟧.stage self.old) l))
+            × IsSomeAnd line (λ l. EventWants L.keeps (⟦<Self as Staged>⟧.stage self.old) l))
             ⊎ EventFails (⟦<Self as Staged>⟧.stage self.old) number line f) }
     {
         let mut machine = match made(&self.alloc, &self.declaration) {
@@ -243,7 +243,7 @@ impl<A: Allocator + Clone + Drop, L: Opening<A> + Drop> Replayer<A, L> {
             (⟦<Self as Staged>⟧.stage self.new) text.new.bytes)) }
         ensures err { IfErr result
             (λ f. ((f ≡ TraceFault.NoMemory)
-            × IsSomeAnd line (λ l. EventWants (⟦<Self as Staged>⟧.stage self.old) l))
+            × IsSomeAnd line (λ l. EventWants L.keeps (⟦<Self as Staged>⟧.stage self.old) l))
             ⊎ EventFails (⟦<Self as Staged>⟧.stage self.old) number line f) }
     {
         match &mut self.machine {

@@ -47,7 +47,7 @@ returns-clause-sound g c =
 pub returns-in-Err-step-clause-fault : goal.returns-in-Err-step-clause-fault
 returns-in-Err-step-clause-fault g c = (
   c.in-Ok-new.ensures.sound,
-  inr (refused_next _ _ c.events.at c.index-events-at.result _ _ c.events-test.true c.index-events-at.is c.events.invariant.run c.in-Err-step.ensures.step.1),
+  inr (refused_next _ _ _ c.events.at c.index-events-at.result _ _ c.events-test.true c.index-events-at.is c.events.invariant.run c.in-Err-step.ensures.step.1),
 )
 
 pub returns-clause-as_map : goal.returns-clause-as_map

@@ -1,5 +1,6 @@
 use Rattle.std.proofs.Common.{arith, refl, ap, Ok, ◌∙◌}
 use Rattle.trace.proofs.RunLemmas.{some_init, some_more, some_fails, some_ends, mark_kept, mark_then, fault_kept}
+use Rattle.trace.specs.Shown.{keeps_log}
 use Rattle.trace.proofs.replay.replay_lines.Goals as goal
 
 pub lines-init : goal.lines-init
@@ -11,6 +12,9 @@ lines-preserved g c =
     let less = c.in-Ok-true.ensures.budget c.in-Ok-true.field-0-test in
     let kept = mark_kept _ _ _ _ (ap Ok c.in-Ok-true.field-0-test) c.in-Ok-true.ensures.kept ∙ c.lines.invariant.kept in
     record { budget = omega (arith, less, c.lines.invariant.budget); kept = kept; ran = some_more _ _ _ _ _ _ c.lines.invariant.ran turns }
+
+pub close-requires : goal.close-requires
+close-requires g c e = c.requires.keeps ∙ ap keeps_log e
 
 pub returns-in-Ok-false-clause-ends : goal.returns-in-Ok-false-clause-ends
 returns-in-Ok-false-clause-ends g c =

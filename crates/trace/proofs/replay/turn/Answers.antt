@@ -15,13 +15,13 @@ pub returns-in-Err-clause-turns : goal.returns-in-Err-clause-turns
 returns-in-Err-clause-turns g c =
     let given = c.in-Ok-Line.ensures in
     let found = rw c.in-Ok-Line.field-0-is at given.found in
-    act_fails _ _ _ _ _ _ _ _ given.written found.0 found.1 found.2 (given.few, refl) c.line.ensures c.in-Err.ensures.err
+    act_fails _ _ _ _ _ _ _ _ _ c.requires.keeps given.written found.0 found.1 found.2 (given.few, refl) c.line.ensures c.in-Err.ensures.err
 
 pub returns-in-Err-clause-read : goal.returns-in-Err-clause-read
-returns-in-Err-clause-read g c e = not_read _ _ _ _ c.in-Err.ensures.err (cc)
+returns-in-Err-clause-read g c e = not_read _ _ _ _ _ c.in-Err.ensures.err (cc)
 
 pub returns-in-Err-clause-write : goal.returns-in-Err-clause-write
-returns-in-Err-clause-write g c e = not_write _ _ _ _ c.in-Err.ensures.err (cc)
+returns-in-Err-clause-write g c e = not_write _ _ _ _ _ c.in-Err.ensures.err (cc)
 
 pub returns-in-Err-write_told-clause-turns : goal.returns-in-Err-write_told-clause-turns
 returns-in-Err-write_told-clause-turns g c =

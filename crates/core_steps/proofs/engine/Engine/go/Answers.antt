@@ -6,16 +6,16 @@ pub returns-in-Fill-clause-row : goal.returns-in-Fill-clause-row
 returns-in-Fill-clause-row g c =
     let phases = c.args.self.now.calls.phases.items in
     let at = read_at phases c.args.core c.index.result _ _ c.requires.here c.index.ensures.value c.index-2.ensures c.in-Fill.is in
-    goes_at (world g.M.SlotRead.slots c.args.self.now) _ c.args.core c.go_fill.result _ _ at c.go_fill.ensures
+    goes_at g.L.Ledger.keeps (world g.M.SlotRead.slots c.args.self.now) _ c.args.core c.go_fill.result _ _ at c.go_fill.ensures
 
 pub returns-in-CopyAcks-clause-row : goal.returns-in-CopyAcks-clause-row
 returns-in-CopyAcks-clause-row g c =
     let phases = c.args.self.now.calls.phases.items in
     let at = read_at phases c.args.core c.index.result _ _ c.requires.here c.index.ensures.value c.index-2.ensures c.in-CopyAcks.is in
-    goes_at (world g.M.SlotRead.slots c.args.self.now) _ c.args.core c.go_copy_acks.result _ _ at c.go_copy_acks.ensures
+    goes_at g.L.Ledger.keeps (world g.M.SlotRead.slots c.args.self.now) _ c.args.core c.go_copy_acks.result _ _ at c.go_copy_acks.ensures
 
 pub returns-in-Cut-clause-row : goal.returns-in-Cut-clause-row
 returns-in-Cut-clause-row g c =
     let phases = c.args.self.now.calls.phases.items in
     let at = read_at phases c.args.core c.index.result _ _ c.requires.here c.index.ensures.value c.index-2.ensures c.in-Cut.is in
-    goes_at (world g.M.SlotRead.slots c.args.self.now) _ c.args.core c.go_cut.result _ _ at c.go_cut.ensures.row
+    goes_at g.L.Ledger.keeps (world g.M.SlotRead.slots c.args.self.now) _ c.args.core c.go_cut.result _ _ at c.go_cut.ensures.row

@@ -23,7 +23,7 @@ returns-in-Stepped-clause-ends g c =
 
 pub returns-in-Stepped-clause-err : goal.returns-in-Stepped-clause-err
 returns-in-Stepped-clause-err g c =
-    goes_refused c.go_on-in-Stepped.result _ (world g.M.SlotRead.slots c.args.self.now.engine)
+    goes_refused g.L.Ledger.keeps c.go_on-in-Stepped.result _ (world g.M.SlotRead.slots c.args.self.now.engine)
     (world g.M.SlotRead.slots c.step.new.self.engine) (world g.M.SlotRead.slots c.go_on-in-Stepped.new.self.engine)
     c.args.core c.args.request c.in-Stepped.is
     (subst (λ w. Step w (Call c.args.core c.args.request) c.in_ok-outcome-in-Untouched.outcome

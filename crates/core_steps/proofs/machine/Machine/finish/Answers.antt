@@ -8,5 +8,5 @@ returns-clause-ends g c =
 
 pub returns-clause-err : goal.returns-clause-err
 returns-clause-err g c =
-    refused_from c.go_on.result (world g.M.SlotRead.slots c.args.self.now.engine)
+    refused_from g.L.Ledger.keeps c.go_on.result (world g.M.SlotRead.slots c.args.self.now.engine)
     (world g.M.SlotRead.slots c.go_on.new.self.engine) c.args.core c.go_on.ensures.err

@@ -8,7 +8,7 @@ pub returns-in-Err-clause-err : goal.returns-in-Err-clause-err
 returns-in-Err-clause-err g c =
     let few = c.steps_at_once-n.ensures.few in
     let below : c.steps.n + c.steps_at_once-n.result < 2 ^ 40 = omega (arith, c.steps-test.true, few) in
-    λ was s. refused_at _ _ _ c.args.core (c.steps.n + c.steps_at_once-n.result) below
+    λ was s. refused_at g.L.Ledger.keeps _ _ _ c.args.core (c.steps.n + c.steps_at_once-n.result) below
     (steps_join _ _ _ c.args.core c.steps.n _ (c.steps.invariant.made was s) c.steps_at_once-n.ensures.steps) c.in-Err.ensures.step
 
 pub returns-clause-ends : goal.returns-clause-ends

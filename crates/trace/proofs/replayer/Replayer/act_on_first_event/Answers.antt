@@ -13,7 +13,7 @@ returns-clause-ok g c =
 
 pub returns-clause-err : goal.returns-clause-err
 returns-clause-err g c =
-    not_acted c.run_line-done.result c.args.line (stage_of c.args.self.now.declaration (option_map state c.args.self.now.machine))
+    not_acted g.L.Ledger.keeps c.run_line-done.result c.args.line (stage_of c.args.self.now.declaration (option_map state c.args.self.now.machine))
     (state c.in-Ok.machine) c.args.number
     (subst (λ m. Opens (stage_of c.args.self.now.declaration (option_map state m)) (state c.in-Ok.machine)) (sym c.requires) c.in-Ok.ensures.ok)
     c.run_line-done.ensures.err
