@@ -1,6 +1,6 @@
 //! Tests of the whole, over the tree of slots and over the list of runs: `row_tests` compares the
 //! tables of `rows`, also with memory that is refused (`starved`), `random_tests` compares random
-//! traces, and `stream_tests` has reads and writes that fail. `in_one_run` gives a trace's events to
+//! traces, `log_tests` replays a log, and `stream_tests` has reads and writes that fail. `in_one_run` gives a trace's events to
 //! `run`, `run_tests` has whole lists of events and heaps that are too small, and `replay_tests` the
 //! texts of outcomes and a replay's flushes.
 #![tactic(auto)]
@@ -9,6 +9,8 @@
 mod by_hand;
 #[cfg(test)]
 mod in_one_run;
+#[cfg(test)]
+mod log_tests;
 #[cfg(test)]
 mod machines;
 #[cfg(test)]

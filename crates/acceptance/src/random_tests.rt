@@ -117,7 +117,7 @@ fn a_replay_gives_the_events_one_by_one(rt: HostRuntime) -> Result<(), Fail> {
 }
 
 /// The plain page map with the files of a trace.
-fn plain_map(alloc: Global, trace: &str) -> Result<PlainMap<Global>, NoMemory> {
+pub fn plain_map(alloc: Global, trace: &str) -> Result<PlainMap<Global>, NoMemory> {
     let declared = declared(trace);
     if declared.fault().is_some() {
         return Err(NoMemory);

@@ -1,5 +1,5 @@
 -- A call that begins
-use Rattle.std.proofs.Common.{◌≡◌, ℕ, suc, ◌<◌, Bool, true, false, not, nat_lt, List, [], ◌∷◌, ◌++◌, length, refl, ap, ◌∙◌, length-append, arith}
+use Rattle.std.proofs.Common.{◌≡◌, ℕ, suc, ◌+◌, ◌<◌, Bool, true, false, not, nat_lt, List, [], ◌∷◌, ◌++◌, length, refl, arith}
 use Rattle.std.specs.Prelude.{slice_set}
 use Rattle.vm_base.specs.declared.requests.Request.{Request}
 use Rattle.slot_lock.specs.Slots.{Slots}
@@ -9,10 +9,10 @@ use Rattle.refcache.specs.Counts.{Counts}
 use Rattle.machine_model.specs.declared.event.Outcome.TheVariants.{Stepped}
 use Rattle.vm_base.specs.declared.log.Entry.{Entry}
 use Rattle.machine_model.specs.declared.phase.Phase.{Phase}
-use Rattle.machine_model.specs.declared.phase.Phase.TheVariants.{Free, Check}
+use Rattle.machine_model.specs.declared.phase.Phase.TheVariants.{Free}
 use Rattle.machine_model.specs.World.{World, Hardware}
-use Rattle.machine_model.specs.Actions.{to}
 use Rattle.machine_model.specs.Step.{Begins, after_call}
+use Rattle.core_steps.specs.AtOnce.{with_call}
 use Rattle.core_steps.specs.State.{phase_at, number_at, world_with}
 use Rattle.core_steps.proofs.Lists.{number_set}
 use Rattle.core_steps.proofs.Rows.{if_true}
@@ -26,13 +26,13 @@ listed slots hardware frames counts files phases numbers requests log limit even
 -- the request is kept, and the core's call has its number
 pub numbered : (slots : Slots) (hardware : Hardware) (frames : FrameParts) (counts : Counts) (files : List FileParts) (phases : List Phase)
     (numbers : List ℕ) (requests more : List Request)
-    (log : List Entry) (calls limit events c i n : ℕ) (request : Request) → c < length numbers → limit ≡ calls → i ≡ c
-    → more ≡ requests ++ request ∷ [] → n ≡ length more
-    → to c (Check request) (listed slots hardware frames counts files phases (slice_set numbers i n) more log limit events)
-    ≡ after_call c request (listed slots hardware frames counts files phases numbers requests log calls events)
-numbered slots hardware frames counts files phases numbers requests more log calls limit events c i n request h kept same e m =
-    let number : n ≡ suc (length requests) = m ∙ ap length e ∙ length-append requests (request ∷ []) ∙ omega arith in
-    rw (kept, same, e, number, number_set numbers c (suc (length requests)) h) refl
+    (log now : List Entry) (limit events c i n : ℕ) (request : Request) → c < length numbers → i ≡ c
+    → more ≡ requests ++ request ∷ [] → now ≡ log → n ≡ length requests + 1
+    → listed slots hardware frames counts files phases (slice_set numbers i n) more now limit events
+    ≡ with_call c request (listed slots hardware frames counts files phases numbers requests log limit events)
+numbered slots hardware frames counts files phases numbers requests more log now limit events c i n request h same e k m =
+    let number : n ≡ suc (length requests) = omega (arith, m) in
+    rw (same, e, k, number, number_set numbers c (suc (length requests)) h) refl
 
 pub begun : (w v : World) (c : ℕ) (request : Request) (phase : Phase) → phase ≡ Free → false ≡ not (nat_lt (length w.calls.requests) w.made.calls)
     → v ≡ after_call c request w → Begins w c request phase Stepped v

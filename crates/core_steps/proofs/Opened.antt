@@ -17,7 +17,7 @@ pub opened : {A L : Type 0} {ledger : LedgerGhosts L} (slots : Slots) (hardware 
     (calls : CallTable A L ledger) (s : Setup A)
     → hardware ≡ no_translations → frames.count ≡ s.frames → frame_bytes frames ≡ (λ f. zeros) → free_frames frames ≡ (λ f. nat_lt f s.frames)
     → counts ≡ no_counts s.cores s.frames → files_of files ≡ given_files s.files.items → cached_in files ≡ (λ n k. None) → calls_in calls ≡ no_calls
-    → length calls.phases.items ≡ s.cores → calls.requests.limit ≡ s.calls
+    → length calls.phases.items ≡ s.cores → calls.limit ≡ s.calls
     → world_of slots hardware frames counts files calls ≡ new_world (made_of s) slots
 opened slots hardware frames counts files calls s bare count bytes free uncounted file cached started cores limit =
     rw (bare, count, bytes, free, uncounted, file, cached, started, cores, limit) refl

@@ -25,8 +25,8 @@ abbrev pub calls_in : {A L : Type 0} {ledger : LedgerGhosts L} → CallTable A L
 calls_in {ledger = ledger} it = record {
   phase = phase_at it.phases.items;
   number = number_at it.numbers.items;
-  requests = it.requests.items.items;
-  log = ledger.entries it.log;
+  requests = ledger.requests it.ledger;
+  log = ledger.entries it.ledger;
   events = it.events;
 }
 
@@ -52,7 +52,7 @@ world_with slots hardware frames counts files cores limit calls = record {
 abbrev pub world_of : {A L : Type 0} {ledger : LedgerGhosts L} → Slots → Hardware → FrameParts
     → Counts → List FileParts → CallTable A L ledger → World
 world_of slots hardware frames counts files calls =
-    world_with slots hardware frames counts files (length calls.phases.items) calls.requests.limit
+    world_with slots hardware frames counts files (length calls.phases.items) calls.limit
     (calls_in calls)
 
 -- the state that the engine has, by what its map says of slots

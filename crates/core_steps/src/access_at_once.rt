@@ -52,13 +52,14 @@ pub fn access_of(request: Request) -> Option<Touch>
 }
 
 impl<M: SlotMap, H: Hardware, A: Allocator, L: Ledger> Engine<M, H, A, L> {
-    // The request is kept, and the core's call has its number.
-    fn number_call(&mut self, core: CoreId, request: Request)
+    /// The request is noted, and the core's call has its number.
+    #[inline(always)]
+    pub fn number_call(&mut self, core: CoreId, request: Request)
         requires here { core < length self.old.calls.phases.items }
-        requires room { length self.old.calls.requests.items.items < self.old.calls.requests.limit }
+        requires room { length (L.requests self.old.calls.ledger) < self.old.calls.limit }
         ensures { world M.slots self.new ≡ with_call core request (world M.slots self.old) }
     {
-        let number = self.calls.requests.push(&request);
+        let number = self.calls.ledger.begin(request);
         self.calls.numbers[core.index() as usize] = number;
     }
 

@@ -45,12 +45,12 @@ impl<M: SlotMap, H: Hardware, A: Allocator, L: Ledger> Engine<M, H, A, L> {
     /// It is logged that the call of a core has this reply.
     pub fn log_reply(&mut self, core: CoreId, reply: Reply)
         requires here { core < length self.old.calls.phases.items }
-        requires room { answer_count (L.entries self.old.calls.log) < self.old.calls.requests.limit }
+        requires room { answer_count (L.entries self.old.calls.ledger) < self.old.calls.limit }
         ensures log { world M.slots self.new ≡ with_entry (answer_entry (world M.slots self.old) core reply)
             (world M.slots self.old) }
         ensures cores { length self.new.calls.phases.items ≡ length self.old.calls.phases.items }
     {
-        self.calls.log.push(Entry::Answer {
+        self.calls.ledger.push(Entry::Answer {
             step: self.calls.events,
             call: self.calls.numbers[core.index() as usize],
             core,
@@ -62,7 +62,7 @@ impl<M: SlotMap, H: Hardware, A: Allocator, L: Ledger> Engine<M, H, A, L> {
     /// logged, and the pages are unlocked next.
     pub fn reply(&mut self, core: CoreId, held: Option<PageRange>, reply: Reply)
         requires here { core < length self.old.calls.phases.items }
-        requires room { answer_count (L.entries self.old.calls.log) < self.old.calls.requests.limit }
+        requires room { answer_count (L.entries self.old.calls.ledger) < self.old.calls.limit }
         ensures { world M.slots self.new ≡ after_reply core held reply (world M.slots self.old) }
     {
         self.log_reply(core, reply);
@@ -73,7 +73,7 @@ impl<M: SlotMap, H: Hardware, A: Allocator, L: Ledger> Engine<M, H, A, L> {
     /// later, and at the next one the page is let go. The core's phase isn't written.
     pub fn log_at_once(&mut self, core: CoreId, reply: Reply, steps: u64)
         requires here { core < length self.old.calls.phases.items }
-        requires room { answer_count (L.entries self.old.calls.log) < self.old.calls.requests.limit }
+        requires room { answer_count (L.entries self.old.calls.ledger) < self.old.calls.limit }
         requires events { self.old.calls.events + steps < event_limit }
         ensures log { world M.slots self.new ≡ logged_later core reply steps (world M.slots self.old) }
         ensures cores { length self.new.calls.phases.items ≡ length self.old.calls.phases.items }
@@ -86,7 +86,7 @@ impl<M: SlotMap, H: Hardware, A: Allocator, L: Ledger> Engine<M, H, A, L> {
     /// The same, and the reply is to be handed out.
     pub fn reply_at_once(&mut self, core: CoreId, reply: Reply, steps: u64)
         requires here { core < length self.old.calls.phases.items }
-        requires room { answer_count (L.entries self.old.calls.log) < self.old.calls.requests.limit }
+        requires room { answer_count (L.entries self.old.calls.ledger) < self.old.calls.limit }
         requires events { self.old.calls.events + steps < event_limit }
         ensures { world M.slots self.new ≡ replied core reply steps (world M.slots self.old) }
     {

@@ -5,7 +5,6 @@ ghost use Rattle.core_steps.specs.State.{calls_in};
 
 use crate::calls::CallTable;
 use crate::ledger::Opening;
-use crate::tally::Tally;
 use machine_model::Phase;
 use std::alloc::Allocator;
 use vm_base::NoMemory;
@@ -20,17 +19,16 @@ pub fn new_call_table<A: Allocator + Clone, L: Opening<A>>(
     requires limit { limit ≤ 1048576 }
     ensures calls { IfOk result (λ table. calls_in table ≡ no_calls) }
     ensures cores { IfOk result (λ table. length table.phases.items ≡ cores) }
-    ensures limit { IfOk result (λ table. table.requests.limit ≡ limit) }
+    ensures limit { IfOk result (λ table. table.limit ≡ limit) }
 {
     let phases = vec![in alloc.clone()?; Phase::Free; cores]?;
     let numbers = vec![in alloc.clone()?; 0u64; cores]?;
-    let requests = Tally::new(limit);
-    let log = L::open(alloc, limit)?;
+    let ledger = L::open(alloc, limit)?;
     Ok(CallTable {
         phases,
         numbers,
-        requests,
-        log,
+        limit,
+        ledger,
         events: 0,
     })
 }

@@ -3,10 +3,9 @@ ghost use Rattle.std.specs.Prelude.{◌≡◌, ◌+◌, ◌≤◌, length};
 ghost use Rattle.machine_laws.specs.Orderly.{answer_count};
 
 use crate::ledger::Ledger;
-use crate::tally::Tally;
 use machine_model::Phase;
 use std::alloc::Allocator;
-use vm_base::{CoreId, Entry, NoMemory, Request};
+use vm_base::{CoreId, Entry, NoMemory};
 
 /// Where the call of each core stands, the calls begun, and the log.
 #[derive(Drop)]
@@ -15,21 +14,30 @@ pub(crate) struct CallTable<A: Allocator, L: Ledger> {
     pub phases: Vec<Phase, A>,
     /// Of each core: the number of its latest call, from 1; 0 before its first.
     pub numbers: Vec<u64, A>,
-    /// The requests of the calls begun, in order, of which only the number is kept.
-    pub requests: Tally<Request>,
-    /// The replies fixed and the copies made so far, in order. Room for the reply of each call is kept.
-    pub log: L,
+    /// How many may begin.
+    pub limit: u64,
+    /// The requests of the calls begun, and the replies fixed and copies made so far, both in order. Room
+    /// for the request and the reply of each call is kept.
+    pub ledger: L,
     /// How many events were taken.
     pub events: u64,
     ghost numbered: { length numbers.items ≡ length phases.items },
     ghost few: { length phases.items ≤ 64 },
-    ghost logged: { L.limit log + answer_count (L.entries log) ≡ requests.limit + length (L.entries log) },
+    ghost room: { L.calls ledger ≡ limit },
+    ghost logged: { L.limit ledger + answer_count (L.entries ledger) ≡ limit + length (L.entries ledger) },
 }
 
 impl<A: Allocator, L: Ledger> CallTable<A, L> {
-    ghost use Rattle.std.specs.Prelude.{◌<◌, ◌++◌, ◌∷◌, [], true, OnOk, OnErr};
+    ghost use Rattle.std.specs.Prelude.{◌<◌, ◌++◌, ◌∷◌, [], true, not, nat_lt, OnOk, OnErr};
     ghost use Rattle.vm_base.specs.declared.log.Entry.TheVariants.{Detach};
     ghost use Rattle.core_steps.specs.State.{number_at, calls_in};
+
+    /// Tells whether as many calls began as may.
+    pub fn is_full(&self) -> bool
+        ensures { result ≡ not (nat_lt (length (L.requests self.now.ledger)) self.now.limit) }
+    {
+        self.ledger.begun() >= self.limit
+    }
 
     /// It is logged that the core's call has made a copy of its own for the page. The
     /// room for replies stays. A refusal for memory, which comes only where the log keeps its
@@ -37,15 +45,15 @@ impl<A: Allocator, L: Ledger> CallTable<A, L> {
     pub fn log_detach(&mut self, core: CoreId, page: u64) -> Result<(), NoMemory>
         requires { core < length self.old.phases.items }
         ensures ok { OnOk result (calls_in self.new ≡ record (calls_in self.old) {
-          log = L.entries self.old.log
+          log = L.entries self.old.ledger
               ++ Detach self.old.events (number_at self.old.numbers.items core) page ∷ [];
         }) }
         ensures err { OnErr result (calls_in self.new ≡ calls_in self.old) }
         ensures err_only { OnErr result (L.keeps ≡ true) }
         ensures cores { length self.new.phases.items ≡ length self.old.phases.items }
-        ensures limit { self.new.requests.limit ≡ self.old.requests.limit }
+        ensures limit { self.new.limit ≡ self.old.limit }
     {
-        self.log.push_beyond(Entry::Detach {
+        self.ledger.push_beyond(Entry::Detach {
             step: self.events,
             call: self.numbers[core.index() as usize],
             page,

@@ -26,11 +26,10 @@ impl<M: SlotMap, H: Hardware, A: Allocator, L: Ledger> Engine<M, H, A, L> {
     {
         match self.calls.phases[core.index() as usize] {
             Phase::Free => {
-                if self.calls.requests.is_full() {
+                if self.calls.is_full() {
                     return Outcome::Full;
                 }
-                let number = self.calls.requests.push(&request);
-                self.calls.numbers[core.index() as usize] = number;
+                self.number_call(core, request);
                 self.go_to(core, Phase::Check(request));
                 Outcome::Stepped
             }

@@ -41,7 +41,7 @@ impl<M: SlotMap, H: Hardware, A: Allocator, L: Ledger> Engine<M, H, A, L> {
     /// frame, or wants one.
     fn settled_to(&mut self, core: CoreId, touch: Touch, settled: Settled)
         requires here { core < length self.old.calls.phases.items }
-        requires room { answer_count (L.entries self.old.calls.log) < self.old.calls.requests.limit }
+        requires room { answer_count (L.entries self.old.calls.ledger) < self.old.calls.limit }
         requires touch { IsSoundTouch touch }
         ensures { world M.slots self.new ≡ after_finding core touch settled (world M.slots self.old) }
     {

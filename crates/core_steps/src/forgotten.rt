@@ -1,27 +1,45 @@
-//! A log whose entries aren't kept: only clauses know them.
+//! A ledger that keeps nothing: only clauses know the requests and entries.
 ghost use Rattle.std.specs.Prelude.{◌≡◌, ◌+◌, false, length};
 
 use crate::ledger::{Ledger, Opening};
 use history::History;
 use std::alloc::AllocError;
-use vm_base::Entry;
+use vm_base::{Entry, Request};
 
-/// A log whose entries aren't kept. It takes no memory.
+/// A ledger that keeps nothing. It takes no memory.
 #[derive(Drop)]
 pub struct Forgotten {
+    requests: History<Request>,
+    /// How many requests there are.
+    begun: u64,
     entries: History<Entry>,
     /// Those for which there was no room at first.
     beyond: History<Entry>,
-    /// For how many there was room at first.
+    /// For how many of each there was room at first.
     limit: u64,
+    ghost counted: { begun ≡ length requests.items },
 }
 
 impl Ledger for Forgotten {
+    ghost requests = { λ log. log.requests.items };
+
+    ghost calls = { λ log. log.limit };
+
     ghost entries = { λ log. log.entries.items };
 
     ghost limit = { λ log. log.limit + length log.beyond.items };
 
     ghost keeps = { false };
+
+    fn begun(&self) -> u64 {
+        self.begun
+    }
+
+    fn begin(&mut self, request: Request) -> u64 {
+        self.requests = self.requests.and(&request);
+        self.begun += 1;
+        self.begun
+    }
 
     fn push(&mut self, entry: Entry) {
         self.entries = self.entries.and(&entry);
@@ -41,6 +59,8 @@ impl Ledger for Forgotten {
 impl<A: Drop> Opening<A> for Forgotten {
     fn open(_alloc: A, limit: u64) -> Result<Self, AllocError> {
         Ok(Forgotten {
+            requests: History::new(),
+            begun: 0,
             entries: History::new(),
             beyond: History::new(),
             limit,

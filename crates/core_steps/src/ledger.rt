@@ -1,26 +1,46 @@
-//! What becomes of the entries of a log.
+//! What becomes of the requests of the calls begun, and of the entries of the log.
 ghost use Rattle.std.specs.Prelude.{◌≡◌, ◌+◌, ◌<◌, ◌≤◌, ◌++◌, ◌∷◌, [], ℕ, List, length, Bool};
 ghost use Rattle.std.specs.Prelude.{false, true, IfOk, IfNone, IfSome, OnOk, OnErr};
 ghost use Rattle.vm_base.specs.declared.log.Entry.{Entry as EntryOf};
+ghost use Rattle.vm_base.specs.declared.requests.Request.{Request as RequestOf};
 
 use std::alloc::AllocError;
-use vm_base::Entry;
+use vm_base::{Entry, Request};
 
-/// A log of at most `limit` entries, for all of which there is room. Only an entry beyond
-/// them may take memory.
+/// The requests of the calls begun, and a log of at most `limit` entries. For all of both there is
+/// room. Only an entry beyond them may take memory.
 pub trait Ledger {
+    // The requests so far.
+    ghost requests: { Self → List RequestOf };
+    // How many there may be at the most.
+    ghost calls: { Self → ℕ };
     // The entries so far.
     ghost entries: { Self → List EntryOf };
     // How many there may be at the most.
     ghost limit: { Self → ℕ };
-    // Whether they can be read again.
+    // Whether both can be read again.
     ghost keeps: { Bool };
+
+    /// How many calls began.
+    fn begun(&self) -> u64
+        ensures { result ≡ length (requests self.now) };
+
+    /// A call begins: one request more, for which there is room. It answers how many they are now.
+    fn begin(&mut self, request: Request) -> u64
+        requires { length (requests self.old) < calls self.old }
+        ensures count { result ≡ length (requests self.new) }
+        ensures requests { requests self.new ≡ requests self.old ++ request ∷ [] }
+        ensures calls { calls self.new ≡ calls self.old }
+        ensures items { entries self.new ≡ entries self.old }
+        ensures limit { limit self.new ≡ limit self.old };
 
     /// One entry more, for which there is room.
     fn push(&mut self, entry: Entry)
         requires { length (entries self.old) < limit self.old }
         ensures items { entries self.new ≡ entries self.old ++ entry ∷ [] }
-        ensures limit { limit self.new ≡ limit self.old };
+        ensures limit { limit self.new ≡ limit self.old }
+        ensures requests { requests self.new ≡ requests self.old }
+        ensures calls { calls self.new ≡ calls self.old };
 
     /// One entry more, for which memory may be taken: the room that was left stays. A refusal
     /// changes nothing, and comes only where the entries are kept.
@@ -29,7 +49,9 @@ pub trait Ledger {
         ensures limit { OnOk result (limit self.new ≡ limit self.old + 1) }
         ensures same_items { OnErr result (entries self.new ≡ entries self.old) }
         ensures same_limit { OnErr result (limit self.new ≡ limit self.old) }
-        ensures err_only { OnErr result (keeps ≡ true) };
+        ensures err_only { OnErr result (keeps ≡ true) }
+        ensures requests { requests self.new ≡ requests self.old }
+        ensures calls { calls self.new ≡ calls self.old };
 
     /// The entries so far, in order, where they are kept.
     fn kept(&self) -> Option<&[Entry]>
@@ -37,13 +59,15 @@ pub trait Ledger {
         ensures none { IfNone result (keeps ≡ false) };
 }
 
-/// A log that can be made.
+/// A ledger that can be made.
 pub trait Opening<A>: Ledger {
-    /// An empty log, with room for so many entries.
+    /// An empty one, with room for so many requests and as many entries.
     fn open(alloc: A, limit: u64) -> Result<Self, AllocError>
     where
         Self: Sized,
         requires { limit ≤ 1048576 }
-        ensures items { IfOk result (λ log. Self.entries log ≡ []) }
-        ensures limit { IfOk result (λ log. Self.limit log ≡ limit) };
+        ensures requests { IfOk result (λ ledger. Self.requests ledger ≡ []) }
+        ensures calls { IfOk result (λ ledger. Self.calls ledger ≡ limit) }
+        ensures items { IfOk result (λ ledger. Self.entries ledger ≡ []) }
+        ensures limit { IfOk result (λ ledger. Self.limit ledger ≡ limit) };
 }

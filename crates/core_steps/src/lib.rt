@@ -35,7 +35,6 @@ pub mod running;
 pub mod setup;
 mod starting;
 mod steps_at_once;
-mod tally;
 
 pub use forgotten::Forgotten;
 pub use kept::Kept;

@@ -199,7 +199,7 @@ impl<M: SlotMap, A: Allocator + Clone, L: Ledger> Machine<M, A, L> {
         ensures none { IfNone result (L.keeps ≡ false) }
         ensures legal { IsLegal (state self.now) }
     {
-        self.engine.calls.log.kept()
+        self.engine.calls.ledger.kept()
     }
 
     /// How many cores the machine has.
@@ -253,11 +253,20 @@ impl<M: SlotMap, A: Allocator + Clone> Machine<M, A, Kept<A>> {
     ghost use Rattle.core_steps.specs.Machine.{state, IsLegal};
 
     /// The entries made so far, in order. They are those of a plain page map (POSIX.1-2017, mmap,
-    /// munmap and mprotect), applied one after another.
+    /// munmap and mprotect), applied one after another to the requests that `requests` gives.
     pub fn log(&self) -> &[Entry]
         ensures entries { result.now ≡ (state self.now).calls.log }
         ensures legal { IsLegal (state self.now) }
     {
-        &self.engine.calls.log.items
+        &self.engine.calls.ledger.items
+    }
+
+    /// The requests of the calls begun, in order: an entry's call is the one with that number, from 1.
+    /// So the log can be replayed.
+    pub fn requests(&self) -> &[Request]
+        ensures requests { result.now ≡ (state self.now).calls.requests }
+        ensures legal { IsLegal (state self.now) }
+    {
+        &self.engine.calls.ledger.requests
     }
 }

@@ -54,7 +54,7 @@ impl<M: SlotMap, H: Hardware, A: Allocator, L: Ledger> Engine<M, H, A, L> {
         ensures { result ≡ true → CanBegin (world M.slots self.now) core }
     {
         match self.calls.phases[core.index() as usize] {
-            Phase::Free => !self.calls.requests.is_full(),
+            Phase::Free => !self.calls.is_full(),
             _ => false,
         }
     }

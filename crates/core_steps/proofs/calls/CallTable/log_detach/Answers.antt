@@ -1,4 +1,4 @@
-use Rattle.std.proofs.Common.{refl}
+use Rattle.std.proofs.Common.{refl, ◌∙◌}
 use Rattle.core_steps.proofs.Lists.{room_kept_either}
 use Rattle.core_steps.proofs.calls.CallTable.log_detach.Goals as goal
 
@@ -8,8 +8,9 @@ invariant_of-self g c =
     record {
       numbered = calls.numbered;
       few = calls.few;
+      room = c.push_beyond.ensures.calls ∙ calls.room;
       logged =
-          room_kept_either c.push_beyond.result (g.L.Ledger.entries calls.log) _ _ (g.L.Ledger.limit calls.log) _
-          calls.requests.limit refl calls.logged c.push_beyond.ensures.items c.push_beyond.ensures.limit
+          room_kept_either c.push_beyond.result (g.L.Ledger.entries calls.ledger) _ _ (g.L.Ledger.limit calls.ledger) _
+          calls.limit refl calls.logged c.push_beyond.ensures.items c.push_beyond.ensures.limit
           c.push_beyond.ensures.same_items c.push_beyond.ensures.same_limit;
     }
