@@ -29,4 +29,11 @@ impl<T> History<T> {
     {
         History { of: PhantomData }
     }
+
+    /// The history and some more, in order.
+    pub fn and_all(&self, more: &[T]) -> History<T>
+        ensures { result.items ≡ self.now.items ++ more.now }
+    {
+        History { of: PhantomData }
+    }
 }
