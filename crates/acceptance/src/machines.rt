@@ -271,9 +271,9 @@ pub fn told_with<M: SlotMap + Drop>(
 /// What the program's replay gives, and a fault behind it.
 fn text_of_replay(alloc: Global, trace: &str, show: Show) -> Result<String<Global>, NoMemory> {
     let mut reader = Counted::new(trace.as_bytes());
-    let mut writer = Noted::new(Vec::new(alloc));
+    let mut writer = Noted::unbuffered(alloc, Vec::new(alloc));
     let result = replay(alloc, &mut reader, &mut writer, show);
-    let text = str::from_utf8(&writer.writer).unwrap_or("not UTF-8");
+    let text = str::from_utf8(writer.writer.get_ref()).unwrap_or("not UTF-8");
     let mut out = String::from_str(alloc, text)?;
     if let Err(fault) = result {
         out.push_str(&format!(in alloc; "fault {fault}\n")?)?;

@@ -104,9 +104,9 @@ fn each_heap_that_is_too_small(rt: HostRuntime) -> Result<(), Fail> {
     for n in 0..800usize {
         let heap = LocalHeap::new(rt.alloc(), 65_408 + 512 * n)?;
         let mut reader = Counted::new(COPYING);
-        let mut writer = Noted::new(Vec::new(rt.alloc()));
+        let mut writer = Noted::unbuffered(rt.alloc(), Vec::new(rt.alloc()));
         let result = replay(&heap, &mut reader, &mut writer, Show::Outcomes);
-        let written = writer.writer.as_slice();
+        let written = writer.writer.get_ref().as_slice();
         assert!(rt; COPIED.starts_with(written));
         assert!(rt; written.is_empty() || written.ends_with(b"\n"));
         match result {
@@ -180,12 +180,13 @@ impl Write for Closing {
     }
 }
 
-fn failing_at(alloc: Global, fails_at: u64) -> Noted<Closing> {
-    Noted::new(Closing {
+fn failing_at(alloc: Global, fails_at: u64) -> Noted<Closing, Global> {
+    let closing = Closing {
         held: Vec::new(alloc),
         flushes: 0,
         fails_at,
-    })
+    };
+    Noted::unbuffered(alloc, closing)
 }
 
 // Each line comes by a read, and before each read what was written goes out, as at the end of the text.
@@ -203,7 +204,7 @@ fn replies_go_out_before_the_next_read(rt: HostRuntime) -> Result<(), Fail> {
         let mut writer = failing_at(rt.alloc(), flushes);
         let result = replay(rt.alloc(), &mut reader, &mut writer, Show::Outcomes);
         assert_eq!(rt; result, Err(TraceFault::WriteFailed));
-        assert_eq!(rt; writer.writer.held.as_slice(), written);
+        assert_eq!(rt; writer.writer.get_ref().held.as_slice(), written);
         assert_eq!(rt; reader.reads, flushes);
         assert!(rt; writer.failed);
     }

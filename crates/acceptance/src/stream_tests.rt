@@ -92,18 +92,19 @@ fn replayed(alloc: Global, trace: &str, fails_at: u64, way: Writes) -> Came {
         reads: 0,
         fails_at,
     });
-    let mut writer = Noted::new(Filling {
+    let filling = Filling {
         held: Vec::new(alloc),
         writes: 0,
         way,
-    });
+    };
+    let mut writer = Noted::unbuffered(alloc, filling);
     let fault = match replay(alloc, &mut reader, &mut writer, Show::Outcomes) {
         Ok(()) => None,
         Err(fault) => Some(fault),
     };
     Came {
         fault,
-        held: writer.writer.held,
+        held: writer.writer.into_parts().0.held,
     }
 }
 

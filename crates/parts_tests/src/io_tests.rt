@@ -64,12 +64,13 @@ impl Write for Filling {
     }
 }
 
-fn full_at(alloc: Global, full_at: u64) -> Noted<Filling> {
-    Noted::new(Filling {
+fn full_at(alloc: Global, full_at: u64) -> Noted<Filling, Global> {
+    let filling = Filling {
         held: Vec::new(alloc),
         writes: 0,
         full_at,
-    })
+    };
+    Noted::unbuffered(alloc, filling)
 }
 
 const TEXT: &[u8] = b"vm 1 4\n\nc0 go";
@@ -170,11 +171,8 @@ fn a_failed_read_loses_no_byte(rt: HostRuntime) -> Result<(), Fail> {
 
 #[test]
 fn no_read_past_the_limit(rt: HostRuntime) -> Result<(), Fail> {
-    let mut source = Counted {
-        reader: TEXT,
-        reads: 4_294_967_295,
-        failed: false,
-    };
+    let mut source = Counted::new(TEXT);
+    source.reads = 4_294_967_295;
     let mut buffer = [0; 4];
     let first = source.read(&mut buffer);
     let second = source.read(&mut buffer);
@@ -195,7 +193,7 @@ fn written_goes_out(alloc: Global) -> Result<[bool; 5], AllocError> {
     let stops = lines.next_line(&mut source, &mut sink) == Err(NoLine::WriteFailed)
         && sink.failed
         && source.reads == 1;
-    sink.writer.full_at = 2;
+    sink.writer.get_mut().full_at = 2;
     let goes_on = next_is(&mut lines, &mut source, &mut sink, b"c2") && sink.flushed;
     Ok([first, is_held, second, stops, goes_on])
 }
@@ -207,7 +205,7 @@ fn what_was_written_goes_out_before_a_read(rt: HostRuntime) -> Result<(), Fail> 
 }
 
 // What two texts and a flush after each come to, and whether the second text failed by itself.
-fn write_twice(sink: &mut Noted<Filling>) -> ([Result<(), WriteFailed>; 4], bool) {
+fn write_twice(sink: &mut Noted<Filling, Global>) -> ([Result<(), WriteFailed>; 4], bool) {
     let first = write_all(sink, b"done\n");
     let flushed = sink.flush();
     let second = write_all(sink, b"segv maperr\n");
@@ -220,7 +218,10 @@ fn a_write_that_takes_no_byte_fails(rt: HostRuntime) {
     let mut sink = full_at(rt.alloc(), 4);
     let (done, has_failed) = write_twice(&mut sink);
     assert!(rt; has_failed && done == [Ok(()), Ok(()), Err(WriteFailed), Err(WriteFailed)]);
-    assert_eq!(rt; sink.writer.held.as_slice(), b"done\nsegv m".as_slice());
+    assert_eq!(rt;
+        sink.writer.get_ref().held.as_slice(),
+        b"done\nsegv m".as_slice()
+    );
 }
 
 #[test]

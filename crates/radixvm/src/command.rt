@@ -1,11 +1,12 @@
 //! The words of the command line, and what each does.
-ghost use Rattle.std.specs.Prelude.{◌≡◌, ◌≤◌, IfOk, IfSome, Result};
+ghost use Rattle.std.specs.Prelude.{◌≡◌, ◌≤◌, IfOk, Result};
 ghost use Rattle.std.specs.Io.KnownBytes.{Appends};
 ghost use Rattle.radixvm.specs.Help.{page_of};
 ghost use Rattle.radixvm.specs.Status.{status_of, words_status};
 ghost use Rattle.radixvm.specs.declared.help.Topic.{Topic};
 ghost use Rattle.trace.specs.Ends.{Ends, TellsFaults};
 ghost use Rattle.trace.specs.declared.fault.TraceFault.{TraceFault};
+ghost use Rattle.trace_io.specs.Source.{Reads};
 
 use crate::help;
 use crate::help::Topic;
@@ -169,8 +170,8 @@ fn act<S: Source, W: Sink, E: Write>(
     errors: &mut E,
 ) -> u8
     ensures ran { IfOk parsed (λ shown. (r : Result Unit TraceFault) × (result ≡ status_of r)
-        × IfSome (S.remaining reader.old) (λ input. Ends shown input (S.remaining reader.new)
-        (W.contents out.old) (W.contents out.new) r)
+        × Reads (S.stream reader.old) (S.stream reader.new)
+        (λ input unread. Ends shown input unread (W.contents out.old) (W.contents out.new) r)
         × TellsFaults r (S.failed reader.new) (S.reads reader.new)
         (W.failed out.old) (W.failed out.new) (W.is_flushed out.new)) }
     ensures within { result ≤ 3 }

@@ -1,8 +1,9 @@
 //! What the program does once its words are read.
-ghost use Rattle.std.specs.Prelude.{◌≡◌, ◌≤◌, IfSome, Result};
+ghost use Rattle.std.specs.Prelude.{◌≡◌, ◌≤◌, Result};
 ghost use Rattle.radixvm.specs.Status.{fault_status, status_of};
 ghost use Rattle.trace.specs.Ends.{Ends, TellsFaults};
 ghost use Rattle.trace.specs.declared.fault.TraceFault.{TraceFault};
+ghost use Rattle.trace_io.specs.Source.{Reads};
 
 use core_steps::SetupFault;
 use std::alloc::Allocator;
@@ -37,8 +38,8 @@ pub fn run<A: Allocator + Clone + Drop, S: Source, W: Sink, E: Write>(
     show: Show,
 ) -> u8
     ensures ends { (r : Result Unit TraceFault) × (result ≡ status_of r)
-        × IfSome (S.remaining reader.old) (λ input. Ends show input (S.remaining reader.new)
-        (W.contents out.old) (W.contents out.new) r)
+        × Reads (S.stream reader.old) (S.stream reader.new)
+        (λ input unread. Ends show input unread (W.contents out.old) (W.contents out.new) r)
         × TellsFaults r (S.failed reader.new) (S.reads reader.new)
         (W.failed out.old) (W.failed out.new) (W.is_flushed out.new) }
     ensures within { result ≤ 3 }

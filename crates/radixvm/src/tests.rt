@@ -129,14 +129,15 @@ fn source_of(input: &[u8], limits: Limits) -> Counted<Dripping<'_>> {
     })
 }
 
-fn sink_of(alloc: Global, limits: Limits) -> Noted<Filling> {
-    Noted::new(Filling {
+fn sink_of(alloc: Global, limits: Limits) -> Noted<Filling, Global> {
+    let filling = Filling {
         held: Vec::new(alloc),
         writes: 0,
         full_at: limits.writes,
         fails: limits.fails,
         is_closed: limits.is_closed,
-    })
+    };
+    Noted::unbuffered(alloc, filling)
 }
 
 // The whole program, but for `main` itself, which hands it the system's input and outputs.
@@ -153,7 +154,7 @@ fn run_words<A: Allocator>(
     let given = Words { words };
     let status = program(given, for_words, alloc, &mut reader, &mut out, &mut errors);
     Ran {
-        out: out.writer.held,
+        out: out.writer.into_parts().0.held,
         errors,
         status,
     }

@@ -1,12 +1,11 @@
 -- Whole runs, a line at a time.
-use Rattle.std.proofs.Common.{◌≡◌, ◌≢◌, ℕ, zero, suc, ◌+◌, ◌<◌, ◌≤◌, false, Bool, cond, List, [], ◌∷◌, ◌++◌, Option, None, Some, Result, Ok, Err, IfSome, IfErr}
+use Rattle.std.proofs.Common.{◌≡◌, ◌≢◌, ℕ, zero, suc, ◌+◌, ◌<◌, ◌≤◌, false, Bool, cond, List, [], ◌∷◌, ◌++◌, Option, Result, Ok, Err, IfErr}
 use Rattle.std.proofs.Common.{OnOk, length, take, ◌⊎◌, inl, inr, arith, refl, sym, ap, ◌∙◌, subst, eqb, append_assoc, append-nil, length-append}
 use Rattle.std.proofs.lemmas.Bool.{ne_eqb}
 use Rattle.std.proofs.KnownBytes.{Appends-nil, Appends-trans, Appends-kept}
-use Rattle.std.specs.Io.KnownBytes.{Keeps, Appends, IsAtEnd, prepend_known}
-use Rattle.trace_io.specs.Lines.{onto, lines_of, IsUnbroken, IsFirstLine, TakesLine, BeginsTooLong}
+use Rattle.std.specs.Io.KnownBytes.{Keeps, Appends}
+use Rattle.trace_io.specs.Lines.{onto, lines_of, IsUnbroken, IsFirstLine}
 use Rattle.trace_io.specs.Sink.{AppendsFront}
-use Rattle.trace_io.specs.Window.{Window, opening, left}
 use Rattle.trace.specs.declared.fault.TraceFault.{TraceFault}
 use Rattle.trace.specs.declared.fault.TraceFault.TheVariants.{TooLong, NoMemory, WriteFailed}
 use Rattle.trace.specs.Stage.{Stage, Start, LineFails, CanOpen, OpenFails, Acts}
@@ -131,14 +130,14 @@ pub record HasRun (show : Show) (input : List ℕ) (old : Option (List ℕ)) (no
   pub whole : List ℕ
   pub rest : List ℕ
   pub taken : IsTaken input whole rest done
-  pub left : now.left ≡ Some rest
+  pub left : now.left ≡ rest
   pub lines : lines_of input ≡ done ++ lines_of rest
   pub runs : Runs Start done now.stage text
   pub appends : Appends old now.written (told show text)
   pub count : number ≡ length done
 
 -- nothing has been read yet
-pub run_none : (show : Show) (input : List ℕ) (old : Option (List ℕ)) (now : Scene) → now.left ≡ Some input → now.stage ≡ Start
+pub run_none : (show : Show) (input : List ℕ) (old : Option (List ℕ)) (now : Scene) → now.left ≡ input → now.stage ≡ Start
     → now.written ≡ old → HasRun show input old now 0
 run_none show input old now e s w = record {
   done = [];
@@ -153,13 +152,6 @@ run_none show input old now e s w = record {
   count = refl;
 }
 
--- what a known reader takes as a line
-takes_known : (rest line : List ℕ) (old new : Option (List ℕ)) → old ≡ Some rest → TakesLine old new line → (ys : List ℕ) × (new ≡ Some ys)
-    × IsFirstLine rest line ys
-takes_known rest line None new e t = absurd (cc)
-takes_known rest line (Some xs) None e t = absurd t
-takes_known rest line (Some xs) (Some ys) e t = let same : xs ≡ rest = cc in (ys, refl, subst (λ x. IsFirstLine x line ys) same t)
-
 -- the next line
 next_line : (input line rest ys : List ℕ) (done : List (List ℕ)) → lines_of input ≡ done ++ lines_of rest → IsUnbroken line
     → IsFirstLine rest line ys → lines_of input ≡ done ++ line ∷ lines_of ys
@@ -168,7 +160,8 @@ next_line input line rest ys done e u f = e ∙ ap (λ l. done ++ l) (lines-firs
 pub run_more : (show : Show) (input : List ℕ) (old : Option (List ℕ)) (now next : Scene) (number : ℕ) → HasRun show input old now number
     → Advances show now next → HasRun show input old next (number + 1)
 run_more show input old now next number h a =
-    let (ys, left, first) = takes_known h.rest a.line now.left next.left h.left a.takes in
+    let ys = next.left in
+    let first : IsFirstLine h.rest a.line ys = subst (λ x. IsFirstLine x a.line ys) h.left a.takes in
     let (whole, taken) = taken_more input h.whole h.rest a.line ys h.done h.taken a.unbroken first in
     record {
       done = h.done ++ a.line ∷ [];
@@ -176,7 +169,7 @@ run_more show input old now next number h a =
       whole = whole;
       rest = ys;
       taken = taken;
-      left = left;
+      left = refl;
       lines = next_line input a.line h.rest ys h.done h.lines a.unbroken first ∙ sym (append_assoc h.done (a.line ∷ []) (lines_of ys));
       runs = runs-snoc Start now.stage next.stage h.done a.line h.text a.text h.runs a.short a.acts;
       appends = subst (Appends old next.written) (sym (told_more show h.text a.text)) (Appends-trans _ _ _ _ _ h.appends a.appends);
@@ -187,56 +180,46 @@ run_more show input old now next number h a =
 front_of : (show : Show) (input : List ℕ) (old : Option (List ℕ)) (now : Scene) (number : ℕ) → HasRun show input old now number → Front input
 front_of show input old now number h = record { done = h.done; more = lines_of h.rest; stage = now.stage; text = h.text; lines = h.lines; runs = h.runs }
 
-long_known : (rest : List ℕ) (old : Option (List ℕ)) → old ≡ Some rest → BeginsTooLong old → LongFirst 256 rest
-long_known rest None e b = absurd (cc)
-long_known rest (Some xs) e b = let same : xs ≡ rest = cc in long_first 256 rest (subst (λ x. 256 < length x) same b.0)
-    (subst (λ x. IsUnbroken (take 257 x)) same b.1)
-
 -- what is held and what is unread is what is left
-known_read : (input whole rest held : List ℕ) (done : List (List ℕ)) (left unread : Option (List ℕ)) → IsTaken input whole rest done
-    → left ≡ Some rest → length held ≤ 65536 → left ≡ prepend_known held unread → (r : AreRead input unread done) × (r.held ≡ held)
-known_read input whole rest held done left None t e few l = absurd (cc)
-known_read input whole rest held done left (Some zs) t e few l =
-    let parts : rest ≡ held ++ zs = cc in (
+known_read : (input whole rest held : List ℕ) (done : List (List ℕ)) (left unread : List ℕ) → IsTaken input whole rest done
+    → left ≡ rest → length held ≤ 65536 → left ≡ held ++ unread → (r : AreRead input unread done) × (r.held ≡ held)
+known_read input whole rest held done left unread t e few l =
+    let parts : rest ≡ held ++ unread = sym e ∙ l in (
       record {
         whole = whole;
         held = held;
-        rest = zs;
-        bytes = t.bytes ∙ ap (λ l. whole ++ l) parts ∙ sym (append_assoc whole held zs);
+        bytes = t.bytes ∙ ap (λ l. whole ++ l) parts ∙ sym (append_assoc whole held unread);
         lines = t.lines;
         few = few;
-        reader = refl;
       },
       refl,
     )
-
-kept_known : (rest : List ℕ) (old new : Option (List ℕ)) → old ≡ Some rest → Keeps old new → new ≡ Some rest
-kept_known rest None new e k = absurd (cc)
-kept_known rest (Some xs) None e k = absurd k
-kept_known rest (Some xs) (Some ys) e k = cc
 
 pub run_fails : (show : Show) (input : List ℕ) (old : Option (List ℕ)) (now next : Scene) (number : ℕ) (f : TraceFault)
     → HasRun show input old now number → Fails show now next number f → Stops show input next.unread old next.written f
 unfolding front_of
 run_fails show input old now next number f h (read_fails e held u l m k) =
-    let (r, same) = known_read input h.whole h.rest held h.done next.left next.unread h.taken (kept_known h.rest now.left next.left h.left m) l.0 l.1 in
+    let (r, same) = known_read input h.whole h.rest held h.done next.left next.unread h.taken (m ∙ h.left) l.0 l.1 in
     reading e (front_of show input old now number h) r (subst IsUnbroken (sym same) u) (Appends-kept _ _ _ _ h.appends k)
 run_fails show input old now next number f h (unsent e k) =
     writing e (front_of show input old now number h) (whole_front _ _ _ (Appends-kept _ _ _ _ h.appends k))
 run_fails show input old now next number f h (too_long e b k) =
-    let l = long_known h.rest now.left h.left b in
+    let l = long_first 256 h.rest (subst (λ x. 256 < length x) h.left b.0) (subst (λ x. IsUnbroken (take 257 x)) h.left b.1) in
     overlong (front_of show input old now number h) l.line l.others l.lines l.long (e ∙ ap (λ n. TooLong (n + 1)) h.count) (Appends-kept _ _ _ _ h.appends k)
 run_fails show input old now next number f h (no_memory e line held short u t l w k) =
-    let (ys, left, first) = takes_known h.rest line now.left next.left h.left t in
+    let ys = next.left in
+    let first : IsFirstLine h.rest line ys = subst (λ x. IsFirstLine x line ys) h.left t in
     let (whole, taken) = taken_more input h.whole h.rest line ys h.done h.taken u first in
-    let (r, same) = known_read input whole ys held (h.done ++ line ∷ []) next.left next.unread taken left l.0 l.1 in
+    let (r, same) = known_read input whole ys held (h.done ++ line ∷ []) next.left next.unread taken refl l.0 l.1 in
     wanting e (front_of show input old now number h) line (lines_of ys) (lines-first h.rest line ys u first) r w (Appends-kept _ _ _ _ h.appends k)
 run_fails show input old now next number f h (refused line short u t b k) =
-    let (ys, left, first) = takes_known h.rest line now.left next.left h.left t in
+    let ys = next.left in
+    let first : IsFirstLine h.rest line ys = subst (λ x. IsFirstLine x line ys) h.left t in
     refusing (front_of show input old now number h) line (lines_of ys) (lines-first h.rest line ys u first) short
     (subst (λ n. LineFails now.stage (n + 1) line f) h.count b) (Appends-kept _ _ _ _ h.appends k)
 run_fails show input old now next number f h (unwritten e line text short u t a w) =
-    let (ys, left, first) = takes_known h.rest line now.left next.left h.left t in
+    let ys = next.left in
+    let first : IsFirstLine h.rest line ys = subst (λ x. IsFirstLine x line ys) h.left t in
     writing e (record {
       done = h.done ++ line ∷ [];
       more = lines_of ys;
@@ -246,36 +229,13 @@ run_fails show input old now next number f h (unwritten e line text short u t a 
       runs = runs-snoc Start now.stage next.stage h.done line h.text text h.runs short a;
     }) (subst (AppendsFront old next.written) (sym (told_more show h.text text)) (front_more old now.written next.written _ _ h.appends w))
 
--- the same, where what the reader has may be unknown
-pub some_init : (show : Show) (o wo : Option (List ℕ)) (stage : Stage) (w : Window) → w ≡ opening → stage ≡ Start
-    → IfSome o (λ input. HasRun show input wo (record { left = left o w; unread = o; stage = stage; written = wo }) 0)
-some_init show None wo stage w e s = tt
-some_init show (Some input) wo stage w e s = run_none show input wo _ (ap (left (Some input)) e) s refl
-
-pub some_more : (show : Show) (o wo : Option (List ℕ)) (now next : Scene) (n : ℕ)
-    → IfSome o (λ input. HasRun show input wo now n) → Advances show now next
-    → IfSome o (λ input. HasRun show input wo next (n + 1))
-some_more show None wo now next n h a = tt
-some_more show (Some input) wo now next n h a = run_more show input wo now next n h a
-
-pub some_fails : (show : Show) (o wo : Option (List ℕ)) (now next : Scene) (n : ℕ) (f : TraceFault)
-    → IfSome o (λ input. HasRun show input wo now n)
-    → Fails show now next n f → IfSome o (λ input. Stops show input next.unread wo next.written f)
-some_fails show None wo now next n f h a = tt
-some_fails show (Some input) wo now next n f h a = run_fails show input wo now next n f h a
-
--- at the end no line is left
-over_left : (rest : List ℕ) (old : Option (List ℕ)) → old ≡ Some rest → IsAtEnd old → lines_of rest ≡ []
-over_left rest None e a = absurd (cc)
-over_left rest (Some xs) e a = let same : rest ≡ [] = cc in ap lines_of same
-
 -- and the trace is closed
-run_ends : {T : Type 0} (show : Show) (input : List ℕ) (wo wn : Option (List ℕ)) (now next : Scene) (n : ℕ) (r : Result T TraceFault)
+pub run_ends : {T : Type 0} (show : Show) (input : List ℕ) (wo wn : Option (List ℕ)) (now next : Scene) (n : ℕ) (r : Result T TraceFault)
     → HasRun show input wo now n → IsOver now next → OnOk r (Closes show next.stage next.written wn)
     → IfErr r (λ f. CloseFails show next.stage next.written wn f) → Ends show input next.unread wo wn r
 unfolding front_of
 run_ends show input wo wn now next n (Ok x) h v o e =
-    let none = over_left h.rest now.left h.left v.ended in
+    let none = ap lines_of (sym h.left ∙ v.ended) in
     let runs : Runs Start (lines_of input) now.stage h.text =
     subst (λ ls. Runs Start ls now.stage h.text) (sym (h.lines ∙ ap (λ l. h.done ++ l) none ∙ append-nil h.done)) h.runs in
     let opens : CanOpen now.stage = subst CanOpen v.stage o.opens in
@@ -291,28 +251,17 @@ run_ends show input wo wn now next n (Ok x) h v o e =
       appends = Appends-trans _ _ _ _ _ (Appends-kept _ _ _ _ h.appends v.written) o.appends;
     }
 run_ends show input wo wn now next n (Err f) h v o (inl e) =
-    unopened (front_of show input wo now n h) (over_left h.rest now.left h.left v.ended) (subst (λ s. OpenFails s f) v.stage e.0)
+    unopened (front_of show input wo now n h) (ap lines_of (sym h.left ∙ v.ended)) (subst (λ s. OpenFails s f) v.stage e.0)
     (Appends-kept _ _ _ _ (Appends-kept _ _ _ _ h.appends v.written) e.1)
 run_ends show input wo wn now next n (Err f) h v o (inr e) =
-    closing e.0 (front_of show input wo now n h) (over_left h.rest now.left h.left v.ended) (subst CanOpen v.stage e.1.opens) e.1.behind
+    closing e.0 (front_of show input wo now n h) (ap lines_of (sym h.left ∙ v.ended)) (subst CanOpen v.stage e.1.opens) e.1.behind
     (subst (λ s. IsBegunBehind show s e.1.behind) v.stage e.1.is) (front_more _ _ _ _ _ (Appends-kept _ _ _ _ h.appends v.written) e.1.appends)
-
-pub some_ends : {T : Type 0} (show : Show) (o wo wn : Option (List ℕ)) (now next : Scene) (n : ℕ) (r : Result T TraceFault)
-    → IfSome o (λ input. HasRun show input wo now n) → IsOver now next → OnOk r (Closes show next.stage next.written wn)
-    → IfErr r (λ f. CloseFails show next.stage next.written wn f) → IfSome o (λ input. Ends show input next.unread wo wn r)
-some_ends show None wo wn now next n r h v o e = tt
-some_ends show (Some input) wo wn now next n r h v o e = run_ends show input wo wn now next n r h v o e
-
--- no line was acted on
-pub none_ran : (show : Show) (o wo : Option (List ℕ)) → IfSome o (λ input. Stops show input o wo wo NoMemory)
-none_ran show None wo = tt
-none_ran show (Some input) wo = unmade refl refl (Appends-nil wo)
 
 front_kept : (a b c : Option (List ℕ)) (xs : List ℕ) → AppendsFront a b xs → Keeps b c → AppendsFront a c xs
 front_kept a b c xs p k = (p.0, p.1, Appends-kept a b c (take p.0 xs) p.2 k)
 
 -- a flush keeps what was written
-stops_kept : (show : Show) (input : List ℕ) (unread a b c : Option (List ℕ)) (f : TraceFault) → Stops show input unread a b f
+pub stops_kept : (show : Show) (input : List ℕ) (unread : List ℕ) (a b c : Option (List ℕ)) (f : TraceFault) → Stops show input unread a b f
     → Keeps b c → Stops show input unread a c f
 stops_kept show input unread a b c f (reading e p r u w) k = reading e p r u (Appends-kept _ _ _ _ w k)
 stops_kept show input unread a b c f (unmade e u w) k = unmade e u (Appends-kept _ _ _ _ w k)
@@ -323,7 +272,7 @@ stops_kept show input unread a b c f (unopened p e q w) k = unopened p e q (Appe
 stops_kept show input unread a b c f (writing e p w) k = writing e p (front_kept _ _ _ _ w k)
 stops_kept show input unread a b c f (closing e p m o behind is w) k = closing e p m o behind is (front_kept _ _ _ _ w k)
 
-ends_kept : {T : Type 0} (show : Show) (input : List ℕ) (unread a b c : Option (List ℕ)) (r : Result T TraceFault)
+pub ends_kept : {T : Type 0} (show : Show) (input : List ℕ) (unread : List ℕ) (a b c : Option (List ℕ)) (r : Result T TraceFault)
     → Ends show input unread a b r → Keeps b c
     → Ends show input unread a c r
 ends_kept show input unread a b c (Ok x) h k = record {
@@ -341,7 +290,7 @@ ends_kept show input unread a b c (Err f) h k = stops_kept show input unread a b
 nothing_run : (input : List ℕ) → Front input
 nothing_run input = record { done = []; more = lines_of input; stage = Start; text = []; lines = refl; runs = (refl, refl) }
 
-stops_lost : (show : Show) (input : List ℕ) (unread a b : Option (List ℕ)) (f : TraceFault) → Stops show input unread a b f
+stops_lost : (show : Show) (input : List ℕ) (unread : List ℕ) (a b : Option (List ℕ)) (f : TraceFault) → Stops show input unread a b f
     → Stops show input unread a b WriteFailed
 unfolding nothing_run
 stops_lost show input unread a b f (reading e p r u w) = writing refl p (whole_front _ _ _ w)
@@ -354,7 +303,7 @@ stops_lost show input unread a b f (unopened p e q w) = writing refl p (whole_fr
 stops_lost show input unread a b f (writing e p w) = writing refl p w
 stops_lost show input unread a b f (closing e p m o behind is w) = closing refl p m o behind is w
 
-ends_lost : {T : Type 0} (show : Show) (input : List ℕ) (unread a b : Option (List ℕ)) (r : Result T TraceFault)
+pub ends_lost : {T : Type 0} (show : Show) (input : List ℕ) (unread : List ℕ) (a b : Option (List ℕ)) (r : Result T TraceFault)
     → Ends show input unread a b r
     → Stops show input unread a b WriteFailed
 ends_lost show input unread a b (Ok x) h =
@@ -367,18 +316,6 @@ ends_lost show input unread a b (Ok x) h =
       runs = h.runs;
     }) refl h.opens h.behind (begun_behind show h.stage h.behind h.is) (whole_front _ _ _ h.appends)
 ends_lost show input unread a b (Err f) h = stops_lost show input unread a b f h
-
-pub some_kept : {T : Type 0} (show : Show) (o unread a b c : Option (List ℕ)) (r : Result T TraceFault)
-    → IfSome o (λ input. Ends show input unread a b r)
-    → Keeps b c → IfSome o (λ input. Ends show input unread a c r)
-some_kept show None unread a b c r h k = tt
-some_kept show (Some input) unread a b c r h k = ends_kept show input unread a b c r h k
-
-pub some_lost : {T : Type 0} (show : Show) (o unread a b c : Option (List ℕ)) (r : Result T TraceFault)
-    → IfSome o (λ input. Ends show input unread a b r)
-    → Keeps b c → IfSome o (λ input. Stops show input unread a c WriteFailed)
-some_lost show None unread a b c r h k = tt
-some_lost show (Some input) unread a b c r h k = stops_kept show input unread a b c WriteFailed (ends_lost show input unread a b r h) k
 
 -- what isn't `write failed` leaves the writer's mark as it was
 pub mark_kept : {T : Type 0} (r : Result T TraceFault) (x : T) (a b : Bool) → r ≡ Ok x → (r ≡ Err WriteFailed) ⊎ (b ≡ a) → b ≡ a

@@ -2,7 +2,7 @@
 use Rattle.std.proofs.Common.{◌≡◌, ℕ, ◌+◌, ◌≤◌, Bool, true, false, List, ◌++◌, Option, None, Some, ◌⊎◌, inl, inr, refl, sym, ap, ◌∙◌, subst, length}
 use Rattle.std.specs.Io.KnownBytes.{Keeps, Appends}
 use Rattle.trace_io.specs.Sink.{AppendsFront}
-use Rattle.trace_io.specs.Lines.{IsUnbroken, TakesLine}
+use Rattle.trace_io.specs.Lines.{IsUnbroken, IsFirstLine}
 use Rattle.trace_text.specs.Words.{words_of}
 use Rattle.trace_text.specs.Line.{are_printable, line_of}
 use Rattle.trace_text.specs.declared.line.Line.{Line}
@@ -15,7 +15,7 @@ use Rattle.trace.specs.Stage.{LateFails, BadFails, SpaceFails, FileFails, SaidFa
 use Rattle.trace.specs.declared.shown.Show.{Show}
 use Rattle.trace.specs.Shown.{keeps_log, told}
 use Rattle.trace.specs.Declarations.{Asked, asked_fault}
-use Rattle.trace.specs.Turns.{Scene, IsHeld, Fails, no_memory, refused, unwritten}
+use Rattle.trace.specs.Turns.{Scene, Advances, IsHeld, Fails, no_memory, refused, unwritten}
 
 -- neither the reader's fault nor the writer's
 pub is_own : TraceFault → Bool
@@ -108,7 +108,7 @@ end_not_write s f h e = let clash : false ≡ true = sym (ap is_own e) ∙ own_o
 -- a line that wasn't acted on fails the turn
 pub act_fails : (keeps : Bool) (show : Show) (old new : Scene) (n : ℕ) (line held seen : List ℕ) (f : TraceFault)
     → keeps ≡ keeps_log show → Keeps old.written new.written → length line ≤ 256
-    → IsUnbroken line → TakesLine old.left new.left line → IsHeld held new → seen ≡ line
+    → IsUnbroken line → IsFirstLine old.left line new.left → IsHeld held new → seen ≡ line
     → ((f ≡ NoMemory) × LineWants keeps old.stage seen) ⊎ LineFails old.stage (n + 1) seen f → Fails show old new n f
 act_fails kept show old new n line held seen f shown keeps short unbroken takes holds same (inl e) =
     no_memory e.0 line held short unbroken takes holds (subst (λ k. LineWants k old.stage line) shown (subst (LineWants kept old.stage) same e.1)) keeps
@@ -124,9 +124,24 @@ appends_after (Some x) (Some y) (Some z) xs k p = p ∙ ap (λ l. l ++ xs) k
 -- a line whose text wasn't written whole fails the turn
 pub text_lost : (show : Show) (old new : Scene) (mid : Option (List ℕ)) (n : ℕ) (line seen text : List ℕ) → length line ≤ 256
     → IsUnbroken line
-    → TakesLine old.left new.left line → seen ≡ line → Acts old.stage seen new.stage text
+    → IsFirstLine old.left line new.left → seen ≡ line → Acts old.stage seen new.stage text
     → Keeps old.written mid → AppendsFront mid new.written (told show text) → Fails show old new n WriteFailed
 text_lost show old new mid n line seen text short unbroken takes same acts keeps front =
     let from : AppendsFront old.written new.written (told show text) = (front.0, front.1, appends_after _ _ _ _ keeps front.2) in
     unwritten refl line text short unbroken takes (subst (λ l. Acts old.stage l new.stage text) same acts)
     from
+
+-- a line whose text was written
+pub line_told : (show : Show) (old new : Scene) (mid : Option (List ℕ)) (line seen text : List ℕ) → length line ≤ 256
+    → IsUnbroken line
+    → IsFirstLine old.left line new.left → seen ≡ line → Acts old.stage seen new.stage text
+    → Keeps old.written mid → Appends mid new.written (told show text) → Advances show old new
+line_told show old new mid line seen text short unbroken takes same acts keeps wrote = record {
+  line = line;
+  text = text;
+  short = short;
+  unbroken = unbroken;
+  takes = takes;
+  acts = subst (λ l. Acts old.stage l new.stage text) same acts;
+  appends = appends_after _ _ _ _ keeps wrote;
+}

@@ -1,5 +1,5 @@
 -- How a replay of a whole text ends.
-use Rattle.std.specs.Prelude.{◌≡◌, ℕ, ◌+◌, ◌<◌, ◌≤◌, ◌⊎◌, Bool, true, List, [], ◌∷◌, ◌++◌, Option, Some}
+use Rattle.std.specs.Prelude.{◌≡◌, ℕ, ◌+◌, ◌<◌, ◌≤◌, ◌⊎◌, Bool, true, List, [], ◌∷◌, ◌++◌, Option}
 use Rattle.std.specs.Prelude.{Result, Ok, Err, length}
 use Rattle.std.specs.Io.KnownBytes.{Appends}
 use Rattle.trace_io.specs.Lines.{lines_of, IsUnbroken}
@@ -37,25 +37,23 @@ pub record Front (input : List ℕ) : Type 0 where
 
 -- these lines were read, and behind them what the reader has given besides, at most a chunk of
 -- 65,536 bytes
-pub record AreRead (input : List ℕ) (unread : Option (List ℕ)) (done : List (List ℕ)) : Type 0 where
+pub record AreRead (input unread : List ℕ) (done : List (List ℕ)) : Type 0 where
   pub whole : List ℕ
   pub held : List ℕ
-  pub rest : List ℕ
-  pub bytes : input ≡ whole ++ held ++ rest
+  pub bytes : input ≡ whole ++ held ++ unread
   pub lines : lines_of whole ≡ done
   pub few : length held ≤ 65536
-  pub reader : unread ≡ Some rest
 
 -- After a fault the text of the lines before it has gone out, where it is shown, and nothing comes
 -- behind it. After a failed write a front of the text has, or, where all lines were acted on, a front
 -- of it and of what comes behind it, or of the first mappings (closing). After a failed read no
 -- newline is among what was read behind those lines. Memory may be wanting before anything is read
 -- (unmade), and where a step of the machine was refused; then no more than its line was read.
-pub data Stops (show : Show) (input : List ℕ) (unread old new : Option (List ℕ))
+pub data Stops (show : Show) (input unread : List ℕ) (old new : Option (List ℕ))
     (f : TraceFault) : Type 0 where
   reading : f ≡ ReadFailed → (p : Front input) (r : AreRead input unread p.done) → IsUnbroken r.held
       → Appends old new (told show p.text) → Stops show input unread old new f
-  unmade : f ≡ NoMemory → unread ≡ Some input → Appends old new [] → Stops show input unread old new f
+  unmade : f ≡ NoMemory → unread ≡ input → Appends old new [] → Stops show input unread old new f
   wanting : f ≡ NoMemory → (p : Front input) (line : List ℕ) (others : List (List ℕ))
       → p.more ≡ line ∷ others → AreRead input unread (p.done ++ line ∷ [])
       → LineWants (keeps_log show) p.stage line → Appends old new (told show p.text)
@@ -74,8 +72,8 @@ pub data Stops (show : Show) (input : List ℕ) (unread old new : Option (List �
       → IsBegunBehind show p.stage behind
       → AppendsFront old new (told show p.text ++ behind) → Stops show input unread old new f
 
--- what the reader has not given, and what the writer held and holds
-abbrev pub Ends : {T : Type 0} → Show → List ℕ → Option (List ℕ) → Option (List ℕ) → Option (List ℕ)
+-- the text, what of it the reader has not given, and what the writer held and holds
+abbrev pub Ends : {T : Type 0} → Show → List ℕ → List ℕ → Option (List ℕ) → Option (List ℕ)
     → Result T TraceFault → Type 0
 Ends show input unread old new (Ok x) = Completes show input old new
 Ends show input unread old new (Err f) = Stops show input unread old new f

@@ -1,8 +1,8 @@
 -- What one turn of a replay does, and how it can fail.
-use Rattle.std.specs.Prelude.{◌≡◌, ℕ, ◌+◌, ◌≤◌, List, Bool, true, false, Option, Result, Ok, Err}
+use Rattle.std.specs.Prelude.{◌≡◌, ℕ, ◌+◌, ◌≤◌, List, [], ◌++◌, Bool, true, false, Option, Result, Ok, Err}
 use Rattle.std.specs.Prelude.{length}
-use Rattle.std.specs.Io.KnownBytes.{Keeps, Appends, IsAtEnd, prepend_known}
-use Rattle.trace_io.specs.Lines.{IsUnbroken, TakesLine, BeginsTooLong}
+use Rattle.std.specs.Io.KnownBytes.{Keeps, Appends}
+use Rattle.trace_io.specs.Lines.{IsUnbroken, IsFirstLine, IsTooLong}
 use Rattle.trace_io.specs.Sink.{AppendsFront}
 use Rattle.trace.specs.declared.fault.TraceFault.{TraceFault}
 use Rattle.trace.specs.declared.fault.TraceFault.TheVariants.{TooLong, ReadFailed, NoMemory}
@@ -13,8 +13,8 @@ use Rattle.trace.specs.Shown.{keeps_log, told}
 
 -- what is still to come, what of it has not been read yet, the stage, and what the writer holds
 pub record Scene : Type 0 where
-  pub left : Option (List ℕ)
-  pub unread : Option (List ℕ)
+  pub left : List ℕ
+  pub unread : List ℕ
   pub stage : Stage
   pub written : Option (List ℕ)
 
@@ -24,36 +24,36 @@ pub record Advances (show : Show) (old new : Scene) : Type 0 where
   pub text : List ℕ
   pub short : length line ≤ 256
   pub unbroken : IsUnbroken line
-  pub takes : TakesLine old.left new.left line
+  pub takes : IsFirstLine old.left line new.left
   pub acts : Acts old.stage line new.stage text
   pub appends : Appends old.written new.written (told show text)
 
 -- nothing was left
 pub record IsOver (old new : Scene) : Type 0 where
-  pub ended : IsAtEnd old.left
+  pub ended : old.left ≡ []
   pub stage : new.stage ≡ old.stage
   pub written : Keeps old.written new.written
 
 -- so much of what is left was read and not taken yet, at most a chunk of 65,536 bytes
 abbrev pub IsHeld : List ℕ → Scene → Type 0
-IsHeld held s = (length held ≤ 65536) × (s.left ≡ prepend_known held s.unread)
+IsHeld held s = (length held ≤ 65536) × (s.left ≡ held ++ s.unread)
 
 -- line number + 1 was not acted on, for this fault
 pub data Fails (show : Show) (old new : Scene) (number : ℕ) (f : TraceFault) : Type 0 where
   read_fails : f ≡ ReadFailed → (held : List ℕ) → IsUnbroken held → IsHeld held new
-      → Keeps old.left new.left → Keeps old.written new.written → Fails show old new number f
+      → new.left ≡ old.left → Keeps old.written new.written → Fails show old new number f
   unsent : f ≡ WriteFailed → Keeps old.written new.written → Fails show old new number f
-  too_long : f ≡ TooLong (number + 1) → BeginsTooLong old.left → Keeps old.written new.written
+  too_long : f ≡ TooLong (number + 1) → IsTooLong old.left → Keeps old.written new.written
       → Fails show old new number f
   no_memory : f ≡ NoMemory → (line held : List ℕ) → length line ≤ 256 → IsUnbroken line
-      → TakesLine old.left new.left line
+      → IsFirstLine old.left line new.left
       → IsHeld held new → LineWants (keeps_log show) old.stage line → Keeps old.written new.written
       → Fails show old new number f
-  refused : (line : List ℕ) → length line ≤ 256 → IsUnbroken line → TakesLine old.left new.left line
+  refused : (line : List ℕ) → length line ≤ 256 → IsUnbroken line → IsFirstLine old.left line new.left
       → LineFails old.stage (number + 1) line f → Keeps old.written new.written
       → Fails show old new number f
   unwritten : f ≡ WriteFailed → (line text : List ℕ) → length line ≤ 256 → IsUnbroken line
-      → TakesLine old.left new.left line
+      → IsFirstLine old.left line new.left
       → Acts old.stage line new.stage text → AppendsFront old.written new.written (told show text)
       → Fails show old new number f
 

@@ -1,6 +1,6 @@
 //! The lines of a trace, acted on one by one.
-ghost use Rattle.std.specs.Prelude.{◌≡◌, ◌+◌, ◌^◌, ◌<◌, ◌⊎◌, Err, IfErr, IfOk, IfSome, OnOk, true};
-ghost use Rattle.trace_io.specs.Source.{HasStopped};
+ghost use Rattle.std.specs.Prelude.{◌≡◌, ◌+◌, ◌^◌, ◌<◌, ◌⊎◌, Err, IfErr, IfOk, OnOk, true};
+ghost use Rattle.trace_io.specs.Source.{HasStopped, Reads};
 ghost use Rattle.trace_io.specs.Window.{left, budget, opening};
 ghost use Rattle.trace.specs.declared.fault.TraceFault.TheVariants.{ReadFailed, WriteFailed};
 ghost use Rattle.trace.specs.declared.shown.Show.TheVariants.{OutcomesAndLog};
@@ -31,20 +31,20 @@ fn turn<A: Allocator, S: Source, W: Sink, R: Staged>(
 ) -> Result<bool, TraceFault>
     requires few { number + 1 < 2 ^ 64 }
     requires keeps { R.keeps ≡ keeps_log show }
-    ensures turns { Turns show
+    ensures turns { Reads (S.stream reader.old) (S.stream reader.new) (λ xs ys. Turns show
         (record {
-          left = left (S.remaining reader.old) lines.old;
-          unread = S.remaining reader.old;
+          left = left xs lines.old;
+          unread = xs;
           stage = R.stage replayer.old;
           written = W.contents writer.old;
         })
         (record {
-          left = left (S.remaining reader.new) lines.new;
-          unread = S.remaining reader.new;
+          left = left ys lines.new;
+          unread = ys;
           stage = R.stage replayer.new;
           written = W.contents writer.new;
         })
-        number result }
+        number result) }
     ensures budget { IfOk result (λ more. more ≡ true
         → budget (S.reads reader.new) lines.new < budget (S.reads reader.old) lines.old) }
     ensures read { result ≡ Err ReadFailed → HasStopped (S.failed reader.new) (S.reads reader.new) }
@@ -113,8 +113,8 @@ fn replay_lines<A: Allocator, S: Source, W: Sink, R: Staged>(
     requires fresh { lines.old ≡ opening }
     requires start { R.stage replayer.old ≡ Start }
     requires keeps { R.keeps ≡ keeps_log show }
-    ensures ends { IfSome (S.remaining reader.old) (λ input.
-        Ends show input (S.remaining reader.new) (W.contents writer.old) (W.contents writer.new) result) }
+    ensures ends { Reads (S.stream reader.old) (S.stream reader.new) (λ input unread.
+        Ends show input unread (W.contents writer.old) (W.contents writer.new) result) }
     ensures read { result ≡ Err ReadFailed → HasStopped (S.failed reader.new) (S.reads reader.new) }
     ensures write { result ≡ Err WriteFailed → W.failed writer.new ≡ true }
     ensures kept { (result ≡ Err WriteFailed) ⊎ (W.failed writer.new ≡ W.failed writer.old) }
@@ -138,8 +138,8 @@ fn replay_over<L: Opening<A> + Drop, A: Allocator + Clone + Drop, S: Source, W: 
     show: Show,
 ) -> Result<(), TraceFault>
     requires { L.keeps ≡ keeps_log show }
-    ensures ends { IfSome (S.remaining reader.old) (λ input.
-        Ends show input (S.remaining reader.new) (W.contents writer.old) (W.contents writer.new) result) }
+    ensures ends { Reads (S.stream reader.old) (S.stream reader.new) (λ input unread.
+        Ends show input unread (W.contents writer.old) (W.contents writer.new) result) }
     ensures read { result ≡ Err ReadFailed → HasStopped (S.failed reader.new) (S.reads reader.new) }
     ensures write { result ≡ Err WriteFailed → W.failed writer.new ≡ true }
     ensures kept { (result ≡ Err WriteFailed) ⊎ (W.failed writer.new ≡ W.failed writer.old) }
@@ -162,8 +162,8 @@ fn replay_text<A: Allocator + Clone + Drop, S: Source, W: Sink>(
     writer: &mut W,
     show: Show,
 ) -> Result<(), TraceFault>
-    ensures ends { IfSome (S.remaining reader.old) (λ input.
-        Ends show input (S.remaining reader.new) (W.contents writer.old) (W.contents writer.new) result) }
+    ensures ends { Reads (S.stream reader.old) (S.stream reader.new) (λ input unread.
+        Ends show input unread (W.contents writer.old) (W.contents writer.new) result) }
     ensures read { result ≡ Err ReadFailed → HasStopped (S.failed reader.new) (S.reads reader.new) }
     ensures write { result ≡ Err WriteFailed → W.failed writer.new ≡ true }
     ensures kept { (result ≡ Err WriteFailed) ⊎ (W.failed writer.new ≡ W.failed writer.old) }
@@ -188,10 +188,10 @@ pub fn replay<A: Allocator + Clone + Drop, S: Source, W: Sink>(
     writer: &mut W,
     show: Show,
 ) -> Result<(), TraceFault>
-    // What went out, that it is the plain page map's, and which fault it is, where the
-    // reader tells its bytes.
-    ensures ends { IfSome (S.remaining reader.old) (λ input.
-        Ends show input (S.remaining reader.new) (W.contents writer.old) (W.contents writer.new) result) }
+    // What was written, that it is the plain page map's, and which fault it is, by the bytes that
+    // the reader gave: a text that begins with them, whatever comes after them.
+    ensures ends { Reads (S.stream reader.old) (S.stream reader.new) (λ input unread.
+        Ends show input unread (W.contents writer.old) (W.contents writer.new) result) }
     ensures told { TellsFaults result (S.failed reader.new) (S.reads reader.new)
         (W.failed writer.old) (W.failed writer.new) (W.is_flushed writer.new) }
 {

@@ -1,6 +1,6 @@
 -- The lines of a text, and what a reader of lines takes.
-use Rattle.std.specs.Prelude.{◌≡◌, ℕ, ◌<◌, List, [], ◌∷◌, ◌++◌, ◌⊎◌, Option, None, Some, length, take}
-use Rattle.std.specs.Prelude.{⊤, slice_index, if◌then◌else◌, ◌==◌}
+use Rattle.std.specs.Prelude.{◌≡◌, ℕ, ◌<◌, List, [], ◌∷◌, ◌++◌, ◌⊎◌, length, take}
+use Rattle.std.specs.Prelude.{slice_index, if◌then◌else◌, ◌==◌}
 
 -- a byte before the first of the lines
 abbrev pub onto : ℕ → List (List ℕ) → List (List ℕ)
@@ -23,14 +23,3 @@ IsTooLong bs = (256 < length bs) × IsUnbroken (take 257 bs)
 -- xs is a line, its newline and ys, or a last line that has no newline
 abbrev pub IsFirstLine : List ℕ → List ℕ → List ℕ → Type 0
 IsFirstLine xs line ys = (xs ≡ line ++ 10 ∷ ys) ⊎ ((xs ≡ line) × (ys ≡ []) × (0 < length line))
-
--- known bytes begin with a line, and lose it
-abbrev pub TakesLine : Option (List ℕ) → Option (List ℕ) → List ℕ → Type 0
-TakesLine None new line = ⊤
-TakesLine (Some xs) None line = ⊥
-TakesLine (Some xs) (Some ys) line = IsFirstLine xs line ys
-
--- known bytes begin with a line that is too long
-abbrev pub BeginsTooLong : Option (List ℕ) → Type 0
-BeginsTooLong None = ⊤
-BeginsTooLong (Some xs) = IsTooLong xs

@@ -1,6 +1,5 @@
 -- What a reader of lines holds.
-use Rattle.std.specs.Prelude.{◌≡◌, ℕ, ◌+◌, ◌-◌, ◌*◌, ◌^◌, ◌≤◌, List, [], ◌∷◌, ◌++◌, Option, length}
-use Rattle.std.specs.Io.KnownBytes.{prepend_known}
+use Rattle.std.specs.Prelude.{◌≡◌, ℕ, ◌+◌, ◌-◌, ◌*◌, ◌^◌, ◌≤◌, List, [], ◌∷◌, ◌++◌, length}
 use Rattle.trace_io.specs.Lines.{IsUnbroken}
 
 -- the line taken last, and the bytes read and not taken yet
@@ -12,8 +11,8 @@ abbrev pub opening : Window
 opening = record { line = []; held = [] }
 
 -- what is still to come: the bytes held, and then those of the reader
-abbrev pub left : Option (List ℕ) → Window → Option (List ℕ)
-left rest w = prepend_known w.held rest
+abbrev pub left : List ℕ → Window → List ℕ
+left rest w = w.held ++ rest
 
 -- the bytes that can still come, given how often the reader was read
 abbrev pub budget : ℕ → Window → ℕ

@@ -1,9 +1,8 @@
 //! Lines of at most 256 bytes, read in chunks of fixed size: once made, a reader of lines takes no
 //! memory. Before it reads, what was written goes out.
 ghost use Rattle.std.specs.Prelude.{◌≡◌, ◌+◌, ◌-◌, ◌<◌, ◌≤◌, ◌^◌, length, take};
-ghost use Rattle.std.specs.Prelude.{slice_range, IfOk, OnOk, OnErr};
-ghost use Rattle.std.specs.Io.KnownBytes.{Keeps, Consumes, IsAtEnd};
-ghost use Rattle.trace_io.specs.Source.{HasStopped};
+ghost use Rattle.std.specs.Prelude.{drop, slice_range, IfOk, OnOk, OnErr};
+ghost use Rattle.trace_io.specs.Source.{Gives, HasEnded, HasStopped, read_bytes};
 
 use crate::sink::Sink;
 use crate::source::{ReadFailed, Source};
@@ -75,11 +74,11 @@ impl<A: Allocator> LineReader<A> {
     ghost use Rattle.std.specs.Prelude.{◌≡◌, ◌+◌, ◌<◌, ◌≤◌, ◌⊎◌, length, IfOk, OnOk};
     ghost use Rattle.std.specs.Prelude.{OnErr, Err, true, false};
     ghost use Rattle.trace_io.specs.Window.{opening, left, budget, TakesHeld};
-    ghost use Rattle.trace_io.specs.Lines.{IsUnbroken, IsTooLong, TakesLine, BeginsTooLong};
+    ghost use Rattle.trace_io.specs.Lines.{IsUnbroken};
     ghost use Rattle.trace_io.specs.Scans.{Scans};
     ghost use Rattle.trace_io.specs.Founds.{TakesLast, Finds};
-    ghost use Rattle.trace_io.specs.Source.{HasStopped};
-    ghost use Rattle.std.specs.Io.KnownBytes.{Keeps, IsAtEnd};
+    ghost use Rattle.trace_io.specs.Source.{HasEnded, HasStopped, Reads};
+    ghost use Rattle.std.specs.Io.KnownBytes.{Keeps};
 
     /// A reader of lines that has read nothing. It takes all of its memory here, 64 KiB; `Err`
     /// where there is none.
@@ -125,11 +124,11 @@ impl<A: Allocator> LineReader<A> {
     // Reads more behind the bytes held.
     fn fill<S: Source>(&mut self, reader: &mut S) -> Result<usize, ReadFailed>
         requires { length self.old.held ≤ 256 }
-        ensures kept { Keeps (left (S.remaining reader.old) self.old)
-            (left (S.remaining reader.new) self.new) }
+        ensures kept { Reads (S.stream reader.old) (S.stream reader.new)
+            (λ xs ys. left ys self.new ≡ left xs self.old) }
         ensures more { IfOk result (λ n. length self.new.held ≡ length self.old.held + n) }
         ensures same { IfOk result (λ n. n ≡ 0 → self.new.held ≡ self.old.held) }
-        ensures end { IfOk result (λ n. n ≡ 0 → IsAtEnd (S.remaining reader.new)) }
+        ensures end { IfOk result (λ n. n ≡ 0 → HasEnded (S.stream reader.new)) }
         ensures held { OnErr result (self.new.held ≡ self.old.held) }
         ensures few { OnOk result (length self.new.held ≤ 65536) }
         ensures budget { OnOk result
@@ -166,12 +165,12 @@ impl<A: Allocator> LineReader<A> {
     fn read_line<S: Source>(&mut self, reader: &mut S) -> Result<Found, ReadFailed>
         requires short { length self.old.held ≤ 256 }
         requires unbroken { IsUnbroken self.old.held }
-        ensures found { IfOk result (Finds (left (S.remaining reader.old) self.old)
-            (left (S.remaining reader.new) self.new) self.new) }
+        ensures found { IfOk result (λ f. Reads (S.stream reader.old) (S.stream reader.new)
+            (λ xs ys. Finds (left xs self.old) (left ys self.new) self.new f)) }
         ensures budget { IfOk result (λ f. f ≡ Found.Line
             → budget (S.reads reader.new) self.new < budget (S.reads reader.old) self.old) }
-        ensures kept { OnErr result (Keeps (left (S.remaining reader.old) self.old)
-            (left (S.remaining reader.new) self.new)) }
+        ensures kept { OnErr result (Reads (S.stream reader.old) (S.stream reader.new)
+            (λ xs ys. left ys self.new ≡ left xs self.old)) }
         ensures unbroken { OnErr result (IsUnbroken self.new.held) }
         ensures few { length self.new.held ≤ 65536 }
         ensures stopped { OnErr result (HasStopped (S.failed reader.new) (S.reads reader.new)) }
@@ -199,13 +198,13 @@ impl<A: Allocator> LineReader<A> {
         reader: &mut S,
         writer: &mut W,
     ) -> Result<Found, NoLine>
-        ensures found { IfOk result (Finds (left (S.remaining reader.old) self.old)
-            (left (S.remaining reader.new) self.new) self.new) }
+        ensures found { IfOk result (λ f. Reads (S.stream reader.old) (S.stream reader.new)
+            (λ xs ys. Finds (left xs self.old) (left ys self.new) self.new f)) }
         // Each line takes a byte, and the reads are limited.
         ensures budget { IfOk result (λ f. f ≡ Found.Line
             → budget (S.reads reader.new) self.new < budget (S.reads reader.old) self.old) }
-        ensures kept { OnErr result (Keeps (left (S.remaining reader.old) self.old)
-            (left (S.remaining reader.new) self.new)) }
+        ensures kept { OnErr result (Reads (S.stream reader.old) (S.stream reader.new)
+            (λ xs ys. left ys self.new ≡ left xs self.old)) }
         ensures unbroken { OnErr result (IsUnbroken self.new.held) }
         ensures few { length self.new.held ≤ 65536 }
         ensures written { Keeps (W.contents writer.old) (W.contents writer.new) }
@@ -217,7 +216,7 @@ impl<A: Allocator> LineReader<A> {
             × (W.is_flushed writer.new ≡ true) × (W.failed writer.new ≡ W.failed writer.old) }
         ensures write { result ≡ Err NoLine.WriteFailed
             → (W.failed writer.new ≡ true) × (S.reads reader.new ≡ S.reads reader.old)
-            × (S.remaining reader.new ≡ S.remaining reader.old) }
+            × (S.stream reader.new ≡ S.stream reader.old) }
     {
         match self.scan() {
             Scan::Line => return Ok(Found::Line),
@@ -254,12 +253,11 @@ fn read_behind<A: Allocator, S: Source>(
     ensures same { length chunk.new.items ≡ length chunk.old.items }
     ensures front { take end chunk.new.items ≡ take end chunk.old.items }
     ensures room { IfOk result (λ n. end + n ≤ length chunk.new.items) }
-    ensures bytes { IfOk result (λ n. Consumes (S.remaining reader.old) (S.remaining reader.new)
-        (slice_range chunk.new.items end (end + n))) }
-    ensures end { IfOk result (λ n. n ≡ 0 → IsAtEnd (S.remaining reader.new)) }
+    ensures bytes { Gives (S.stream reader.old) (S.stream reader.new)
+        (read_bytes result (drop end chunk.new.items)) }
+    ensures end { IfOk result (λ n. n ≡ 0 → HasEnded (S.stream reader.new)) }
     ensures count { OnOk result (S.reads reader.new ≡ S.reads reader.old + 1) }
     ensures limit { OnOk result (S.reads reader.old < 2 ^ 32) }
-    ensures kept { OnErr result (Keeps (S.remaining reader.old) (S.remaining reader.new)) }
     ensures stopped { OnErr result (HasStopped (S.failed reader.new) (S.reads reader.new)) }
 {
     reader.read(&mut chunk[end..])

@@ -1,36 +1,42 @@
-//! What is written to: a writer that tells what it holds, whether all of it has gone out, and
+//! What is written to: a writer that tells what it took, whether all of it has gone out, and
 //! whether a write has failed.
-ghost use Rattle.std.specs.Prelude.{◌≡◌, ◌<◌, ℕ, List, Bool, true, false, Option};
-ghost use Rattle.std.specs.Prelude.{length, IfOk, OnOk, OnErr};
+ghost use Rattle.std.specs.Prelude.{◌≡◌, ◌<◌, ◌++◌, ◌==◌, ◌&&◌, ℕ, List, [], Bool, true, false, Option};
+ghost use Rattle.std.specs.Prelude.{Some, length, IfOk, OnOk, OnErr};
+ghost use Rattle.std.specs.Io.Buffered.{writer_buffer, writer_contents, writer_inner};
 ghost use Rattle.std.specs.Io.{WritesAtMost};
 ghost use Rattle.std.specs.Io.KnownBytes.{Keeps, Appends, WriteAppends};
 ghost use Rattle.trace_io.specs.Sink.{AppendsFront};
 
-use std::io::Write;
+use history::History;
+use std::alloc::Allocator;
+use std::io::{BufWriter, Write};
+use std::snapshot::Snapshot;
 
 /// A write or a flush failed, or a write took no byte.
 #[derive(Clone, Copy, Debug, PartialEq, Eq)]
 pub struct WriteFailed;
 
-/// A writer that tells what it holds, whether all of it has gone out, and whether a write or a
+/// A writer that tells what it took, whether all of it has gone out, and whether a write or a
 /// flush has failed or a write has taken no byte.
 pub trait Sink {
-    // The bytes that the writer holds, where they are known.
+    // The bytes that the writer took, where they are known; `Noted` knows them of any writer.
     ghost contents: { Self → Option (List ℕ) };
     // Whether a write or a flush has failed, or a write taken no byte of some.
     ghost failed: { Self → Bool };
-    // Whether all that was written has gone out, so that none of it lies in a buffer.
+    // Whether a flush came after the last write, and none of what was written lies in a buffer.
     ghost is_flushed: { Self → Bool };
 
     /// Writes a front of the bytes, at least one, and answers how many (POSIX.1-2017, write). At an
-    /// `Err` the write has failed, or took no byte; what the writer holds is unchanged.
+    /// `Err` the write has failed, or took no byte; what the writer holds is unchanged. A flush is
+    /// due then, in each case.
     fn write(&mut self, bytes: &[u8]) -> Result<usize, WriteFailed>
         requires { 0 < length bytes.now }
         ensures bound { WritesAtMost result bytes.now }
         ensures some { IfOk result (λ n. 0 < n) }
         ensures bytes { WriteAppends (contents self.old) (contents self.new) result bytes.now }
         ensures ok { OnOk result (failed self.new ≡ failed self.old) }
-        ensures err { OnErr result (failed self.new ≡ true) };
+        ensures err { OnErr result (failed self.new ≡ true) }
+        ensures held { is_flushed self.new ≡ false };
 
     /// Hands on what lies in a buffer; after an `Ok` all that was written has gone out. What the
     /// writer holds is unchanged, at an `Err` too.
@@ -41,38 +47,68 @@ pub trait Sink {
         ensures err { OnErr result (failed self.new ≡ true) };
 }
 
-/// Any writer, with its failures noted, and whether it was flushed after its last write.
+/// Any writer behind a buffer, with the bytes that it took as a history, its failures noted, and
+/// whether it was flushed after its last write.
 #[derive(Drop)]
-pub struct Noted<W> {
-    pub writer: W,
+pub struct Noted<W: Write + Drop, A: Allocator> {
+    pub writer: BufWriter<W, A>,
+    /// All bytes that were taken.
+    pub taken: History<u8>,
     pub failed: bool,
     pub flushed: bool,
+    // What the writer held at first.
+    first: Snapshot<BufWriter<W, A>>,
+    // Where it tells what it holds, that is what it held at first, and then the bytes that were taken.
+    ghost handed: { (xs : List ℕ) → writer_contents W.contents first.value ≡ Some xs
+        → writer_contents W.contents writer ≡ Some (xs ++ taken.items) },
 }
 
-impl<W> Noted<W> {
+impl<W: Write + Drop, A: Allocator> Noted<W, A> {
     /// The writer, before its first write.
-    pub fn new(writer: W) -> Noted<W>
-        ensures { result ≡ record { writer = writer; failed = false; flushed = true } }
+    pub fn new(writer: BufWriter<W, A>) -> Noted<W, A>
+        ensures writer { result.writer ≡ writer }
+        ensures taken { result.taken.items ≡ [] }
+        ensures failed { result.failed ≡ false }
+        ensures flushed { result.flushed ≡ true }
     {
+        let first = Snapshot::of(&writer);
         Noted {
             writer,
+            taken: History::new(),
             failed: false,
             flushed: true,
+            first,
         }
+    }
+
+    /// A writer to which each write goes out at once, before its first write. It takes no memory.
+    pub fn unbuffered(alloc: A, writer: W) -> Noted<W, A>
+        ensures writer { writer_inner result.writer ≡ writer }
+        ensures taken { result.taken.items ≡ [] }
+        ensures failed { result.failed ≡ false }
+        ensures flushed { result.flushed ≡ true }
+    {
+        let Ok(buffer) = BufWriter::with_capacity(alloc, 0, writer) else {
+            unreachable!()
+        };
+        Noted::new(buffer)
     }
 }
 
-impl<W: Write> Sink for Noted<W> {
-    ghost contents = { λ s. W.contents s.writer };
+impl<W: Write + Drop, A: Allocator> Sink for Noted<W, A> {
+    ghost contents = { λ s. Some s.taken.items };
 
     ghost failed = { λ s. s.failed };
 
-    ghost is_flushed = { λ s. s.flushed };
+    ghost is_flushed = { λ s. s.flushed && (length (writer_buffer s.writer) == 0) };
 
     fn write(&mut self, bytes: &[u8]) -> Result<usize, WriteFailed> {
         self.flushed = false;
         match self.writer.write(bytes) {
-            Ok(n) if n > 0 => Ok(n),
+            Ok(n) if n > 0 => {
+                self.taken = self.taken.and_all(&bytes[..n]);
+                Ok(n)
+            }
             _ => {
                 self.failed = true;
                 Err(WriteFailed)

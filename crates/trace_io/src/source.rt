@@ -1,10 +1,11 @@
 //! What is read from: a reader that tells its bytes, how often it was read, and whether a read has
 //! failed.
-ghost use Rattle.std.specs.Prelude.{◌≡◌, ◌+◌, ◌^◌, ◌<◌, ℕ, List, Bool, false, Option, OnOk, OnErr};
+ghost use Rattle.std.specs.Prelude.{◌≡◌, ◌+◌, ◌^◌, ◌<◌, ℕ, [], Bool, false, length, IfOk, OnOk, OnErr};
+ghost use Rattle.std.specs.Prelude.{if◌then◌else◌, Some};
 ghost use Rattle.std.specs.Io.{ReadsAtMost};
-ghost use Rattle.std.specs.Io.KnownBytes.{ReadConsumes};
-ghost use Rattle.trace_io.specs.Source.{HasStopped};
+ghost use Rattle.trace_io.specs.Source.{Stream, Gives, HasEnded, HasStopped, read_bytes};
 
+use history::History;
 use std::io::Read;
 
 /// How many reads one input may take: 2^32.
@@ -14,50 +15,65 @@ pub const READ_LIMIT: u64 = 4_294_967_296;
 #[derive(Clone, Copy, Debug, PartialEq, Eq)]
 pub struct ReadFailed;
 
-/// A reader that tells what is left, how often it was read, and whether a read has failed.
+/// A reader that tells what it has given, how often it was read, and whether a read has failed.
 pub trait Source {
-    // The bytes that reads will give from here on, where they are known.
-    ghost remaining: { Self → Option (List ℕ) };
+    // The bytes that it has given, and those to come, where they are known.
+    ghost stream: { Self → Stream };
     // How many reads gave an answer.
     ghost reads: { Self → ℕ };
     // Whether a read has failed.
     ghost failed: { Self → Bool };
 
     /// Reads into the front of the buffer, and answers how many bytes: 0 only at the end, or for a
-    /// buffer without room (POSIX.1-2017, read). At an `Err` a read has failed, an interrupted one
-    /// too, or `READ_LIMIT` reads gave an answer before; no byte is lost.
+    /// buffer without room (POSIX.1-2017, read). After the end it gives no byte. At an `Err` a read
+    /// has failed, an interrupted one too, or `READ_LIMIT` reads gave an answer before; no byte is
+    /// lost.
     fn read(&mut self, buffer: &mut [u8]) -> Result<usize, ReadFailed>
         ensures bound { ReadsAtMost result buffer.new }
-        ensures bytes { ReadConsumes (remaining self.old) (remaining self.new) result buffer.new }
+        ensures bytes { Gives (stream self.old) (stream self.new) (read_bytes result buffer.new) }
+        ensures end { IfOk result (λ n. n ≡ 0 → 0 < length buffer.new → HasEnded (stream self.new)) }
         ensures count { OnOk result (reads self.new ≡ reads self.old + 1) }
         ensures limit { OnOk result (reads self.old < 2 ^ 32) }
         ensures ok { OnOk result (failed self.new ≡ failed self.old) }
         ensures err { OnErr result (HasStopped (failed self.new) (reads self.new)) };
 }
 
-/// Any reader, with its reads counted and a failure noted.
+/// Any reader, with the bytes that it gave as a history, its reads counted and a failure noted.
 #[derive(Drop)]
 pub struct Counted<R> {
     pub reader: R,
     pub reads: u64,
     pub failed: bool,
+    /// A read has met the end, and no other is made.
+    pub ended: bool,
+    /// All bytes that were given.
+    pub given: History<u8>,
 }
 
 impl<R> Counted<R> {
     /// The reader, before its first read.
     pub fn new(reader: R) -> Counted<R>
-        ensures { result ≡ record { reader = reader; reads = 0; failed = false } }
+        ensures reader { result.reader ≡ reader }
+        ensures reads { result.reads ≡ 0 }
+        ensures failed { result.failed ≡ false }
+        ensures ended { result.ended ≡ false }
+        ensures given { result.given.items ≡ [] }
     {
         Counted {
             reader,
             reads: 0,
             failed: false,
+            ended: false,
+            given: History::new(),
         }
     }
 }
 
 impl<R: Read> Source for Counted<R> {
-    ghost remaining = { λ s. R.remaining s.reader };
+    ghost stream = { λ s. record {
+      given = s.given.items;
+      coming = if s.ended then Some [] else R.remaining s.reader;
+    } };
 
     ghost reads = { λ s. s.reads };
 
@@ -67,9 +83,15 @@ impl<R: Read> Source for Counted<R> {
         if self.reads >= READ_LIMIT {
             return Err(ReadFailed);
         }
+        if self.ended {
+            self.reads += 1;
+            return Ok(0);
+        }
         match self.reader.read(buffer) {
             Ok(n) => {
                 self.reads += 1;
+                self.ended = n == 0 && !buffer.is_empty();
+                self.given = self.given.and_all(&buffer[..n]);
                 Ok(n)
             }
             Err(_) => {

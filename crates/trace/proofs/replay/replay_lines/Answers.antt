@@ -1,17 +1,27 @@
 use Rattle.std.proofs.Common.{arith, refl, ap, Ok, ◌∙◌}
-use Rattle.trace.proofs.RunLemmas.{some_init, some_more, some_fails, some_ends, mark_kept, mark_then, fault_kept}
+use Rattle.trace_io.proofs.LineLemmas.{reads_none, reads_then}
+use Rattle.trace_io.specs.Window.{left}
+use Rattle.trace.proofs.RunLemmas.{run_none, run_more, run_fails, run_ends, mark_kept, mark_then, fault_kept}
 use Rattle.trace.specs.Shown.{keeps_log}
 use Rattle.trace.proofs.replay.replay_lines.Goals as goal
 
 pub lines-init : goal.lines-init
-lines-init g c = record { budget = rw c.requires.fresh (omega arith); kept = refl; ran = some_init _ _ _ _ _ c.requires.fresh c.requires.start }
+lines-init g c = record {
+  budget = rw c.requires.fresh (omega arith);
+  kept = refl;
+  ran = reads_none _ _ (λ xs. run_none _ xs _ _ (ap (left xs) c.requires.fresh) c.requires.start refl);
+}
 
 pub lines-preserved : goal.lines-preserved
 lines-preserved g c =
     let turns = rw c.in-Ok-true.field-0-test at c.in-Ok-true.ensures.turns in
     let less = c.in-Ok-true.ensures.budget c.in-Ok-true.field-0-test in
     let kept = mark_kept _ _ _ _ (ap Ok c.in-Ok-true.field-0-test) c.in-Ok-true.ensures.kept ∙ c.lines.invariant.kept in
-    record { budget = omega (arith, less, c.lines.invariant.budget); kept = kept; ran = some_more _ _ _ _ _ _ c.lines.invariant.ran turns }
+    record {
+      budget = omega (arith, less, c.lines.invariant.budget);
+      kept = kept;
+      ran = reads_then _ _ _ _ _ _ c.lines.invariant.ran turns (λ xs ys zs k h a. run_more _ xs _ _ _ _ h a);
+    }
 
 pub close-requires : goal.close-requires
 close-requires g c e = c.requires.keeps ∙ ap keeps_log e
@@ -19,10 +29,11 @@ close-requires g c e = c.requires.keeps ∙ ap keeps_log e
 pub returns-in-Ok-false-clause-ends : goal.returns-in-Ok-false-clause-ends
 returns-in-Ok-false-clause-ends g c =
     let turns = rw c.in-Ok-false.field-0-test at c.in-Ok-false.ensures.turns in
-    some_ends _ _ _ _ _ _ _ _ c.lines.invariant.ran turns c.close.ensures.ok c.close.ensures.err
+    reads_then _ _ _ _ _ _ c.lines.invariant.ran turns (λ xs ys zs k h a. run_ends _ xs _ _ _ _ _ _ h a c.close.ensures.ok c.close.ensures.err)
 
 pub returns-in-Err-clause-ends : goal.returns-in-Err-clause-ends
-returns-in-Err-clause-ends g c = some_fails _ _ _ _ _ _ _ c.lines.invariant.ran c.in-Err.ensures.turns
+returns-in-Err-clause-ends g c =
+    reads_then _ _ _ _ _ _ c.lines.invariant.ran c.in-Err.ensures.turns (λ xs ys zs k h a. run_fails _ xs _ _ _ _ _ h a)
 
 pub returns-in-Ok-false-clause-kept : goal.returns-in-Ok-false-clause-kept
 returns-in-Ok-false-clause-kept g c =

@@ -1,4 +1,5 @@
-use Rattle.std.proofs.Common.{◌≡◌, ◌+◌, ◌*◌, ◌^◌, ◌≤◌, IfSome}
+use Rattle.std.proofs.Common.{◌≡◌, ◌+◌, ◌*◌, ◌^◌, ◌≤◌}
+use Rattle.trace_io.specs.Source.{Reads}
 use Rattle.trace_io.specs.Window.{left, budget}
 use Rattle.trace.proofs.RunLemmas.{HasRun}
 use Rattle.trace.proofs.replay.replay_lines.Given as goal
@@ -8,10 +9,10 @@ abbrev pub invariant-lines : goal.invariant-lines
 invariant-lines g l = record {
   budget : l.number + budget (g.S.Source.reads l.reader) l.lines ≤ 65536 * 2 ^ 32;
   kept : g.W.Sink.failed l.writer ≡ g.W.Sink.failed l.initial.writer;
-  ran : IfSome (g.S.Source.remaining l.initial.reader) (λ input. HasRun l.fn.show input (g.W.Sink.contents l.initial.writer)
+  ran : Reads (g.S.Source.stream l.initial.reader) (g.S.Source.stream l.reader) (λ input unread. HasRun l.fn.show input (g.W.Sink.contents l.initial.writer)
       (record {
-        left = left (g.S.Source.remaining l.reader) l.lines;
-        unread = g.S.Source.remaining l.reader;
+        left = left unread l.lines;
+        unread = unread;
         stage = g.R.Staged.stage l.replayer;
         written = g.W.Sink.contents l.writer;
       }) l.number);

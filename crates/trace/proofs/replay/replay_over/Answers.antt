@@ -1,8 +1,11 @@
-use Rattle.trace.proofs.RunLemmas.{none_ran}
+use Rattle.std.proofs.Common.{refl}
+use Rattle.std.proofs.KnownBytes.{Appends-nil}
+use Rattle.trace_io.proofs.LineLemmas.{reads_none}
+use Rattle.trace.specs.Ends.{unmade}
 use Rattle.trace.proofs.replay.replay_over.Goals as goal
 
 pub returns-in_default-clause-ends : goal.returns-in_default-clause-ends
-returns-in_default-clause-ends g c = none_ran _ _ _
+returns-in_default-clause-ends g c = reads_none _ _ (λ xs. unmade refl refl (Appends-nil _))
 
 pub returns-in_default-new-clause-ends : goal.returns-in_default-new-clause-ends
-returns-in_default-new-clause-ends g c = none_ran _ _ _
+returns-in_default-new-clause-ends g c = reads_none _ _ (λ xs. unmade refl refl (Appends-nil _))

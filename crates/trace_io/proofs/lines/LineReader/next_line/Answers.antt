@@ -1,11 +1,12 @@
-use Rattle.std.proofs.Common.{refl, sym, subst}
-use Rattle.std.proofs.KnownBytes.{Keeps-refl}
-use Rattle.std.specs.Io.KnownBytes.{Keeps}
-use Rattle.trace_io.proofs.LineLemmas.{BeginsTooLong-prepend}
-use Rattle.trace_io.specs.Window.{left}
+use Rattle.std.proofs.Common.{refl}
+use Rattle.trace_io.proofs.LineLemmas.{reads_none, found_line, found_long}
 use Rattle.trace_io.proofs.lines.LineReader.next_line.Goals as goal
 
+pub returns-in-Line-clause-found : goal.returns-in-Line-clause-found
+returns-in-Line-clause-found g c = reads_none _ _ (λ xs. found_line xs _ _ _ refl c.in-Line.ensures.found)
+
 pub returns-in-TooLong-clause-found : goal.returns-in-TooLong-clause-found
-returns-in-TooLong-clause-found g c =
-    let all = Keeps-refl (left (g.S.Source.remaining c.args.reader.now) c.args.self.now) in
-    (BeginsTooLong-prepend _ _ _ all c.in-TooLong.ensures.found.1, rw c.in-TooLong.ensures.found.0 all)
+returns-in-TooLong-clause-found g c = reads_none _ _ (λ xs. found_long xs _ _ _ refl c.in-TooLong.ensures.found)
+
+pub returns-in-Ok-clause-found : goal.returns-in-Ok-clause-found
+returns-in-Ok-clause-found g c = rw c.in-Nothing.ensures.found.0 at c.in-Ok.ensures.found
