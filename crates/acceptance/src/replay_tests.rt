@@ -15,7 +15,7 @@ use trace::shown::Show;
 use trace_io::sink::Noted;
 use trace_io::source::Counted;
 use trace_text::LineText;
-use vm_base::{CoreId, CoreSet, Reply};
+use vm_base::{CoreId, CoreSet, NoMemory, Reply};
 
 #[test]
 fn texts_of_outcomes(rt: HostRuntime) {
@@ -130,6 +130,37 @@ fn each_heap_that_is_too_small(rt: HostRuntime) -> Result<(), Fail> {
     assert!(rt; at_start && at_making);
     // the divisions of the first line, and the tables of the second
     assert!(rt; in_lines[0] && in_lines[1] && in_lines[4]);
+    Ok(())
+}
+
+// The text of the fault that ends a replay in a heap of 100,000 bytes, of which a chunk of lines takes
+// 65,536.
+fn fault_in_a_heap(alloc: Global, trace: &str) -> Result<String<Global>, NoMemory> {
+    let heap = LocalHeap::new(alloc, 100_000)?;
+    let mut reader = Counted::new(trace.as_bytes());
+    let mut writer = Noted::unbuffered(alloc, Vec::new(alloc));
+    match replay(&heap, &mut reader, &mut writer, Show::Outcomes) {
+        Ok(()) => Ok(String::new(alloc)),
+        Err(fault) => Ok(format!(in alloc; "{fault}")?),
+    }
+}
+
+// A trace's own lists are the bytes of its files, which are made before the machine. Where they don't
+// fit, memory is wanting for the trace, and where the machine alone doesn't, for the machine: at the
+// first line of an event, and at the end of a text that has none.
+#[test]
+fn whose_memory_is_wanting(rt: HostRuntime) -> Result<(), Fail> {
+    for (trace, text) in [
+        ("vm 1 1 1\nfile 0 r 200000 7\nc0 go\n", "out of memory"),
+        ("vm 1 65536 1\nfile 0 r 100 7\nc0 go\n", "setup S6"),
+        ("vm 1 65536 1\nfile 0 r 200000 7\nc0 go\n", "out of memory"),
+        ("vm 1 65536 1\nc0 go\n", "setup S6"),
+        ("vm 1 1 1\nfile 0 r 200000 7\n", "out of memory"),
+        ("vm 1 65536 1\nfile 0 r 100 7\n", "setup S6"),
+    ] {
+        let told = fault_in_a_heap(rt.alloc(), trace)?;
+        assert_eq!(rt; told.as_str(), text);
+    }
     Ok(())
 }
 
