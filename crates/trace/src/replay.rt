@@ -170,7 +170,9 @@ fn replay_text<A: Allocator + Clone + Drop, S: Source, W: Sink>(
 {
     match show {
         Show::OutcomesAndLog => replay_over::<Kept<A>, A, S, W>(alloc, reader, writer, show),
-        Show::Outcomes | Show::Maps => replay_over::<Forgotten, A, S, W>(alloc, reader, writer, show),
+        Show::Outcomes | Show::Maps => replay_over::<Forgotten, A, S, W>(
+            alloc, reader, writer, show,
+        ),
     }
 }
 

@@ -1,0 +1,96 @@
+-- Notes in order of their tickets as a run of the machine
+use Rattle.std.specs.Prelude.{◌≡◌, ◌≢◌, ℕ, Bool, true, false, List, [], ◌∷◌, map, length, count_by, Option, None, Some}
+use Rattle.slot_lock.specs.Slots.{Slots, IsNew}
+use Rattle.machine_model.specs.declared.event.Event.{Event}
+use Rattle.machine_model.specs.declared.event.Outcome.{Outcome}
+use Rattle.machine_model.specs.declared.event.Outcome.TheVariants.{Answered}
+use Rattle.machine_model.specs.World.{World, new_world}
+use Rattle.machine_model.specs.Step.{Run, Step}
+use Rattle.machine_laws.specs.Brackets.{IsBracketed}
+use Rattle.machine_sound.specs.Sound.{SoundRun}
+use Rattle.core_steps.specs.declared.setup.Setup.{Setup}
+use Rattle.vm_base.specs.declared.page.PageRange.{PageRange}
+use Rattle.core_steps.specs.Dividing.{DividesAsMap}
+use Rattle.core_steps.specs.Moving.{JoinsAsMap}
+use Rattle.core_steps.specs.Running.{RunsAsMap}
+use Rattle.core_steps.specs.Setups.{fault_of, made_of}
+use Rattle.seats.specs.declared.noted.Noted.{Noted}
+use Rattle.certifier.specs.declared.result.CertifyFault.{CertifyFault}
+use Rattle.certifier.specs.declared.result.CertifyFault.TheVariants as By
+use Rattle.certifier.specs.Order.{AreNumbered, IsFirstAmiss, in_order, with_ticket}
+
+abbrev pub event_of : Noted → Event
+event_of note = note.event
+
+abbrev pub outcome_of : Noted → Outcome
+outcome_of note = note.outcome
+
+abbrev pub events_of : List Noted → List Event
+events_of notes = map event_of notes
+
+abbrev pub outcomes_of : List Noted → List Outcome
+outcomes_of notes = map outcome_of notes
+
+-- the note hands out a reply
+abbrev pub is_answered : Outcome → Bool
+is_answered (Answered reply) = true
+is_answered _ = false
+
+abbrev pub answers_call : Noted → Bool
+answers_call note = is_answered note.outcome
+
+abbrev pub one_if : Bool → ℕ
+one_if true = 1
+one_if false = 0
+
+-- The notes, which stand in order, are a run of the machine with just the noted outcomes. Its folds
+-- and divisions are the map's, each of its states is sound, and in its log each reply stands once, between its call
+-- and its answer.
+pub record IsRunOfNotes (parts : PageRange → ℕ → ℕ → Bool) (CanFold : Slots → ℕ → Type 0) (Folds : Slots → Slots → ℕ → Type 0)
+    (new : World) (notes : List Noted) (answered : ℕ) : Type 0 where
+  pub end : World
+  pub run : Run new (events_of notes) (outcomes_of notes) end
+  pub as_map : RunsAsMap parts CanFold Folds new (events_of notes) (outcomes_of notes) end
+  pub brackets : IsBracketed (events_of notes) (outcomes_of notes) end.calls.requests end.calls.log
+  pub sound : SoundRun new (events_of notes) (outcomes_of notes) end
+  pub calls : answered ≡ count_by answers_call notes
+
+-- All these notes have the tickets below their number, each once, and in order of tickets they are a
+-- run of a new machine.
+pub record IsCertified {A : Type 0} (parts : PageRange → ℕ → ℕ → Bool) (CanFold : Slots → ℕ → Type 0)
+    (Folds : Slots → Slots → ℕ → Type 0) (setup : Setup A) (notes : List Noted) (answered : ℕ)
+    : Type 0 where
+  pub numbered : AreNumbered notes
+  pub slots : Slots
+  pub new : IsNew slots
+  pub run : IsRunOfNotes parts CanFold Folds (new_world (made_of setup) slots)
+      (in_order (length notes) notes) answered
+
+-- the notes with tickets below t are a run of a new machine, which comes then to another outcome
+-- than the note with ticket t
+pub record DiffersAt {A : Type 0} (parts : PageRange → ℕ → ℕ → Bool) (CanFold : Slots → ℕ → Type 0)
+    (Folds : Slots → Slots → ℕ → Type 0) (setup : Setup A) (notes : List Noted) (t : ℕ)
+    (noted expected : Outcome) : Type 0 where
+  pub slots : Slots
+  pub new : IsNew slots
+  pub note : Noted
+  pub ticket : with_ticket t notes ≡ note ∷ []
+  pub noted_so : note.outcome ≡ noted
+  pub differs : expected ≢ noted
+  pub before : World
+  pub after : World
+  pub run : RunsAsMap parts CanFold Folds (new_world (made_of setup) slots) (events_of (in_order t notes))
+      (outcomes_of (in_order t notes)) before
+  pub step : Step before note.event expected after
+  pub joins : JoinsAsMap CanFold Folds before note.event expected after
+  pub divides : DividesAsMap parts before note.event expected after
+
+-- What each fault says of the setup and all notes. Want of memory comes after a look at the setup.
+abbrev pub Fails : {A : Type 0} → (PageRange → ℕ → ℕ → Bool) → (Slots → ℕ → Type 0) → (Slots → Slots → ℕ → Type 0) → Setup A
+    → List Noted → CertifyFault → Type 0
+Fails parts CanFold Folds setup notes (By.Setup fault) = fault_of setup ≡ Some fault
+Fails parts CanFold Folds setup notes (By.Ticket t) = (fault_of setup ≡ None) × IsFirstAmiss notes t
+Fails parts CanFold Folds setup notes (By.Differs t noted expected) =
+    (fault_of setup ≡ None) × AreNumbered notes
+    × DiffersAt parts CanFold Folds setup notes t noted expected
+Fails parts CanFold Folds setup notes By.NoMemory = fault_of setup ≡ None

@@ -1,0 +1,55 @@
+//! Whether the notes of all seats are a run of the machine.
+ghost use Rattle.std.specs.Prelude.{IfOk, IfErr, map};
+ghost use Rattle.certifier.specs.Following.{IsCertified, Fails};
+ghost use Rattle.certifier.specs.Order.{all_notes};
+
+use crate::following::follow;
+use crate::order::{first_amiss, standings};
+use crate::result::{Certified, CertifyFault};
+use core_steps::{Forgotten, Setup};
+use radix_range::RadixMap;
+use seats::Noted;
+use slot_lock::SlotMap;
+use std::alloc::Allocator;
+
+/// Certifies the notes of all seats of a space: in order of their tickets, which are those below their
+/// number, each once, they are a run of the machine over the tree of slots that comes to just the
+/// noted outcomes. So what holds of all runs holds of them: their log is that of a plain page map
+/// (POSIX.1-2017, mmap, munmap and mprotect), and each reply stands in it between its call and its
+/// answer.
+///
+/// A setup that makes no machine is told first, then a ticket that doesn't stand once, then an
+/// outcome that differs. Besides the notes it takes 12 bytes a note and the machine.
+#[tactic(auto, using(crate::proofs::Notes::amiss))]
+pub fn certify<A: Allocator + Clone + Drop>(
+    alloc: A,
+    setup: Setup<A>,
+    seats: &[&[Noted]],
+) -> Result<Certified, CertifyFault>
+    ensures ok { IfOk result (λ done. IsCertified ⟦<RadixMap<A> as SlotMap>⟧.parts
+        ⟦<RadixMap<A> as SlotMap>⟧.can_fold
+        ⟦<RadixMap<A> as SlotMap>⟧.folds setup (all_notes (map (λ s. s.now) seats.now)) done.calls) }
+    ensures err { IfErr result (λ fault. Fails ⟦<RadixMap<A> as SlotMap>⟧.parts
+        ⟦<RadixMap<A> as SlotMap>⟧.can_fold
+        ⟦<RadixMap<A> as SlotMap>⟧.folds setup (all_notes (map (λ s. s.now) seats.now)) fault) }
+{
+    if let Some(fault) = setup.fault() {
+        return Err(CertifyFault::Setup(fault));
+    }
+    let Ok(for_order) = alloc.clone() else {
+        return Err(CertifyFault::NoMemory);
+    };
+    let Ok(standings) = standings(for_order, seats) else {
+        return Err(CertifyFault::NoMemory);
+    };
+    if let Some(ticket) = first_amiss(&standings) {
+        return Err(CertifyFault::Ticket(ticket));
+    }
+    let Ok(for_map) = alloc.clone() else {
+        return Err(CertifyFault::NoMemory);
+    };
+    let Ok(map) = RadixMap::new(for_map) else {
+        return Err(CertifyFault::NoMemory);
+    };
+    follow::<RadixMap<A>, A, Forgotten>(alloc, map, setup, seats, &standings)
+}

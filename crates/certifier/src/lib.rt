@@ -1,0 +1,10 @@
+//! Whether the notes of threads are a run of the machine.
+#![tactic(auto)]
+
+pub mod certifying;
+pub mod following;
+pub mod order;
+pub mod result;
+
+pub use certifying::certify;
+pub use result::{Certified, CertifyFault};

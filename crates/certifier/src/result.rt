@@ -1,0 +1,33 @@
+//! What certifying notes comes to.
+use core_steps::SetupFault;
+use machine_model::Outcome;
+use thiserror::Error;
+
+/// What notes that are a run of the machine come to.
+#[derive(Clone, Copy, Debug, PartialEq, Eq)]
+pub struct Certified {
+    /// How many calls were answered.
+    pub calls: u64,
+}
+
+/// Why notes aren't certified. The first that holds is told, in the order of the first three; memory
+/// may be wanted at any time after the setup was looked at.
+#[derive(Clone, Copy, Debug, PartialEq, Eq, Error)]
+pub enum CertifyFault {
+    /// The setup makes no machine.
+    #[error("C4 {0}")]
+    Setup(SetupFault),
+    /// Of the tickets below the number of the notes, this is the least that doesn't stand once.
+    #[error("C1 {0}")]
+    Ticket(u64),
+    /// After all earlier notes the machine comes to another outcome than the note with this ticket.
+    #[error("C2 {ticket}")]
+    Differs {
+        ticket: u64,
+        noted: Outcome,
+        expected: Outcome,
+    },
+    /// There was no memory.
+    #[error("C3")]
+    NoMemory,
+}
