@@ -31,11 +31,12 @@ fn event_of(core: CoreId, action: Action) -> Event {
 }
 
 /// The event that a line is, if it is one.
-pub fn event_of_line(line: Option<Line>) -> Option<Event> {
+pub fn event_of_line(line: Line) -> Option<Event> {
     match line {
-        Some(Line::Act(core, action)) => Some(event_of(core, action)),
-        Some(Line::Fold(page)) => Some(Event::Fold(page)),
-        _ => None,
+        Line::Act(core, action) => Some(event_of(core, action)),
+        Line::Fold(page) => Some(Event::Fold(page)),
+        Line::Blank | Line::Space { .. } | Line::File { .. } | Line::Finish(_) | Line::Now(_, _) =>
+            None,
     }
 }
 

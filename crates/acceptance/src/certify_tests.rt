@@ -1,5 +1,5 @@
 //! Notes of steps, certified and refused.
-use crate::by_hand::event_of_line;
+use crate::in_one_run::events_of;
 use crate::machines::{declared, machine_over};
 use certifier::{Certified, CertifyFault, certify};
 use core_steps::{Setup, SetupFault};
@@ -8,7 +8,6 @@ use radix_range::RadixMap;
 use seats::Noted;
 use std::alloc::Global;
 use std::test::Fail;
-use trace_text::read_line;
 use vm_base::{CoreId, NoMemory, Reply, Request, SegvCode};
 
 /// A load from page 0, which no mapping has, as one core takes its three steps.
@@ -46,20 +45,21 @@ fn with_cores(alloc: Global, cores: u64, seats: &[&[Noted]]) -> Result<Certified
 /// The notes of the load; without their second, without their last, and none at all; with another
 /// reply; with their tickets one higher; and for a machine of 65 cores.
 fn lone_loads(alloc: Global) -> [Result<Certified, CertifyFault>; 7] {
-    let notes = lone_load(Reply::Segv(SegvCode::MapErr));
-    let false_reply = lone_load(Reply::Done);
-    let mut later = notes;
-    for note in &mut later {
+    let load = lone_load(Reply::Segv(SegvCode::MapErr));
+    let false_load = lone_load(Reply::Done);
+    let mut later_load = load;
+    for note in &mut later_load {
         note.ticket = note.ticket.saturating_add(1);
     }
+    let (notes, false_notes, later) = (&load[..], &false_load[..], &later_load[..]);
     [
-        with_cores(alloc, 1, &[&notes]),
+        with_cores(alloc, 1, &[notes]),
         with_cores(alloc, 1, &[&notes[2..], &notes[..1]]),
         with_cores(alloc, 1, &[&notes[..2]]),
         with_cores(alloc, 1, &[]),
-        with_cores(alloc, 1, &[&false_reply]),
-        with_cores(alloc, 1, &[&later]),
-        with_cores(alloc, 65, &[&later]),
+        with_cores(alloc, 1, &[false_notes]),
+        with_cores(alloc, 1, &[later]),
+        with_cores(alloc, 65, &[later]),
     ]
 }
 
@@ -96,11 +96,9 @@ c1 call load 0x10003
 /// The call of each line, and behind it twenty rounds in which both cores go on and take.
 fn rounds(alloc: Global, trace: &str) -> Result<Vec<Event, Global>, NoMemory> {
     let mut events = Vec::new(alloc);
-    for line in trace.lines() {
-        if let Some(event) = event_of_line(read_line(line.as_bytes())) {
-            events.push(event)?;
-            push_rounds(&mut events)?;
-        }
+    for event in events_of(alloc, trace)?.iter() {
+        events.push(*event)?;
+        push_rounds(&mut events)?;
     }
     Ok(events)
 }

@@ -13,10 +13,12 @@ use trace_text::{LineText, read_line};
 use vm_base::{Entry, NoMemory};
 
 /// The events of a trace, of which each other line stands for none.
-fn events_of(alloc: Global, trace: &str) -> Result<Vec<Event, Global>, NoMemory> {
+pub fn events_of(alloc: Global, trace: &str) -> Result<Vec<Event, Global>, NoMemory> {
     let mut events = Vec::new(alloc);
     for line in trace.lines() {
-        if let Some(event) = event_of_line(read_line(line.as_bytes())) {
+        if let Some(line) = read_line(line.as_bytes())
+            && let Some(event) = event_of_line(line)
+        {
             events.push(event)?;
         }
     }

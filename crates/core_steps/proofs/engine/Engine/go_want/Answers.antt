@@ -17,16 +17,16 @@ reply-requires-clause-room g c = room_for _ c.args.core (Want c.args.touch c.arg
 pub returns : goal.returns
 returns g c = elim c.match-least_free.branch [
   | in-None w ↦ inl (
-        search rules,
-        (
-          refl,
-          rw w.self-is (w.reply.ensures
-              ∙ ap (λ held. after_reply c.args.core (Some held) NoFrame (world g.M.SlotRead.slots c.args.self.now)) w.page_of_touch.ensures),
-        ),
-      )
+    search rules,
+    (
+      refl,
+      rw w.self-is (w.reply.ensures
+          ∙ ap (λ held. after_reply c.args.core (Some held) NoFrame (world g.M.SlotRead.slots c.args.self.now)) w.page_of_touch.ensures),
+    ),
+  )
   | in-Some w ↦ inr (
-        w.in-Some.frame,
-        record { free = search rules; least = search rules; },
-        (refl, search rules),
-      )
+    w.in-Some.frame,
+    record { free = search rules; least = search rules },
+    (refl, search rules),
+  )
 ]
