@@ -18,6 +18,7 @@ use Rattle.core_steps.specs.Dividing.{DividesAsMap}
 use Rattle.core_steps.specs.Moving.{JoinsAsMap}
 use Rattle.core_steps.specs.Running.{RunsAsMap}
 use Rattle.core_steps.specs.Setups.{fault_of, made_of}
+use Rattle.core_steps.proofs.Runs.{as_map_more}
 use Rattle.seats.specs.declared.noted.Noted.{Noted}
 use Rattle.certifier.specs.declared.order.Place.{Place}
 use Rattle.certifier.specs.declared.order.Standing.{Standing}
@@ -88,13 +89,6 @@ next_note w notes t x m v o is same r s =
     (subst (λ (os : List Outcome). Run w (events_of (in_order t notes) ++ x.event ∷ []) os v) (sym os)
     (run_more (events_of (in_order t notes)) (outcomes_of (in_order t notes)) w m v x.event x.outcome r step))
 
-joined_more : (P : PageRange → ℕ → ℕ → Bool) (C : Slots → ℕ → Type 0) (F : Slots → Slots → ℕ → Type 0) (es : List Event) (os : List Outcome) (w m v : World) (e : Event) (o : Outcome)
-    → RunsAsMap P C F w es os m → Step m e o v → JoinsAsMap C F m e o v → DividesAsMap P m e o v → RunsAsMap P C F w (es ++ e ∷ []) (os ++ o ∷ []) v
-joined_more P C F [] [] w m v e o r s j k = (v, subst (λ w. Step w e o v) r s, subst (λ w. JoinsAsMap C F w e o v) r j, subst (λ w. DividesAsMap P w e o v) r k, refl)
-joined_more P C F [] (p ∷ os) w m v e o r s j k = absurd r
-joined_more P C F (d ∷ es) [] w m v e o r s j k = absurd r
-joined_more P C F (d ∷ es) (p ∷ os) w m v e o r s j k = (r.0, r.1, r.2, r.3, joined_more P C F es os r.0 m v e o r.4 s j k)
-
 pub next_joined : (P : PageRange → ℕ → ℕ → Bool) (C : Slots → ℕ → Type 0) (F : Slots → Slots → ℕ → Type 0) (w : World) (notes : List Noted) (t : ℕ) (x : Noted) (m v : World) (o : Outcome)
     → with_ticket t notes ≡ x ∷ [] → o ≡ x.outcome → RunsAsMap P C F w (events_of (in_order t notes)) (outcomes_of (in_order t notes)) m
     → Step m x.event o v → JoinsAsMap C F m x.event o v → DividesAsMap P m x.event o v
@@ -107,7 +101,7 @@ next_joined P C F w notes t x m v o is same r s j k =
     let parts : DividesAsMap P m x.event x.outcome v = subst (λ (p : Outcome). DividesAsMap P m x.event p v) same k in
     subst (λ (es : List Event). RunsAsMap P C F w es (outcomes_of (in_order (t + 1) notes)) v) (sym es)
     (subst (λ (os : List Outcome). RunsAsMap P C F w (events_of (in_order t notes) ++ x.event ∷ []) os v) (sym os)
-    (joined_more P C F (events_of (in_order t notes)) (outcomes_of (in_order t notes)) w m v x.event x.outcome r step join parts))
+    (as_map_more P C F (events_of (in_order t notes)) (outcomes_of (in_order t notes)) w m v x.event x.outcome r step join parts))
 
 count_more : (p : Noted → Bool) (xs ys : List Noted) → count_by p (xs ++ ys) ≡ count_by p xs + count_by p ys
 count_more p xs ys =

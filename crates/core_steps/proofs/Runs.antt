@@ -42,7 +42,7 @@ pub refused_next : (keeps : Bool) (w : World) (es : List Event) (n : ℕ) (e : E
 refused_next keeps w es n e os m h is r wants = (e, slice_get_read es (length es) n e refl h is, (os, (m, r, wants)))
 
 -- a run that divides and joins as the map does goes one event on
-as_map_more : (P : PageRange → ℕ → ℕ → Bool) (C : Slots → ℕ → Type 0) (F : Slots → Slots → ℕ → Type 0) (es : List Event) (os : List Outcome)
+pub as_map_more : (P : PageRange → ℕ → ℕ → Bool) (C : Slots → ℕ → Type 0) (F : Slots → Slots → ℕ → Type 0) (es : List Event) (os : List Outcome)
     (w m v : World) (e : Event) (o : Outcome) → RunsAsMap P C F w es os m → Step m e o v → JoinsAsMap C F m e o v → DividesAsMap P m e o v
     → RunsAsMap P C F w (es ++ e ∷ []) (os ++ o ∷ []) v
 as_map_more P C F [] [] w m v e o r s j d =
