@@ -2,7 +2,8 @@
 //! tables of `rows`, also with memory that is refused (`starved`), `random_tests` compares random
 //! traces, `log_tests` replays a log, and `stream_tests` has reads and writes that fail. `in_one_run` gives a trace's events to
 //! `run`, `run_tests` has whole lists of events and heaps that are too small, and `replay_tests` the
-//! texts of outcomes and a replay's flushes. `certify_tests` has notes of steps.
+//! texts of outcomes and a replay's flushes. `certify_tests` has notes of steps
+//! (`noting` writes them down).
 #![tactic(auto)]
 
 #[cfg(test)]
@@ -15,6 +16,8 @@ mod in_one_run;
 mod log_tests;
 #[cfg(test)]
 mod machines;
+#[cfg(test)]
+mod noting;
 #[cfg(test)]
 mod random;
 #[cfg(test)]

@@ -15,7 +15,7 @@ use trace_text::{LineText, read_line};
 use vm_base::NoMemory;
 
 /// Room for each machine of the tables.
-const AMPLE: usize = 1_500_000;
+pub const AMPLE: usize = 1_500_000;
 
 /// Whether a text tells which of its lines were refused first, or only that one was.
 #[derive(Clone, Copy, PartialEq, Eq)]
@@ -25,7 +25,29 @@ pub enum Marks {
 }
 
 /// A piece of memory that is taken, so that nobody else has it.
-type Piece<'a> = Vec<u8, &'a LocalHeap>;
+pub type Piece<'a> = Vec<u8, &'a LocalHeap>;
+
+/// Takes pieces of so many bytes, as many as there are.
+fn fill_by<'h>(
+    heap: &'h LocalHeap,
+    taken: &mut Vec<Piece<'h>>,
+    size: usize,
+) -> Result<(), NoMemory> {
+    for _piece in 0..AMPLE {
+        let Ok(piece) = Vec::with_capacity(heap, size) else {
+            return Ok(());
+        };
+        taken.push(piece)?;
+    }
+    Ok(())
+}
+
+/// Takes all memory that is free. The least pieces are the last, and are given back first.
+pub fn fill<'h>(heap: &'h LocalHeap, taken: &mut Vec<Piece<'h>>) -> Result<(), NoMemory> {
+    fill_by(heap, taken, 4096)?;
+    fill_by(heap, taken, 256)?;
+    fill_by(heap, taken, 16)
+}
 
 /// A machine in a heap that is full before each event.
 #[derive(Drop)]
@@ -43,24 +65,6 @@ struct Starved<'s, 'h, S> {
 }
 
 impl<'s, 'h, S: Moves> Starved<'s, 'h, S> {
-    /// Takes pieces of so many bytes, as many as there are.
-    fn fill_by(&mut self, size: usize) -> Result<(), NoMemory> {
-        for _piece in 0..AMPLE {
-            let Ok(piece) = Vec::with_capacity(self.heap, size) else {
-                return Ok(());
-            };
-            self.taken.push(piece)?;
-        }
-        Ok(())
-    }
-
-    /// Takes all memory that is free. The least pieces are the last, and are given back first.
-    fn fill(&mut self) -> Result<(), NoMemory> {
-        self.fill_by(4096)?;
-        self.fill_by(256)?;
-        self.fill_by(16)
-    }
-
     fn state(&self) -> Result<String<Global>, NoMemory> {
         let mut state = String::new(self.alloc);
         self.space.push_state(self.alloc, &mut state)?;
@@ -70,7 +74,7 @@ impl<'s, 'h, S: Moves> Starved<'s, 'h, S> {
 
 impl<'s, 'h, S: Moves> Moves for Starved<'s, 'h, S> {
     fn take(&mut self, event: Event) -> Result<Outcome, NoMemory> {
-        self.fill()?;
+        fill(self.heap, &mut self.taken)?;
         let before = self.state()?;
         for _piece in 0..AMPLE {
             if let Ok(outcome) = self.space.take(event) {
