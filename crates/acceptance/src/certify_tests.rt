@@ -1,5 +1,5 @@
 //! Notes of steps, certified and refused.
-use crate::by_hand::event_of_line;
+use crate::in_one_run::events_of;
 use crate::machines::{declared, machine_over};
 use crate::noting::{notes_of_lines, shuffle};
 use crate::random::{Random, STEP_LINES, WHOLE_LINES, lines_of_tables, random_trace};
@@ -12,25 +12,24 @@ use radix_range::RadixMap;
 use seats::Noted;
 use std::alloc::Global;
 use std::test::Fail;
-use trace_text::read_line;
 use vm_base::{CoreId, NoMemory, Reply, Request, SegvCode};
 
-/// A load from page 0, which no mapping has, as one core takes its three steps.
-fn lone_load(reply: Reply) -> [Noted; 3] {
+/// A load from page 0, which no mapping has, as one core takes its three steps, with these tickets.
+fn lone_load((call, try_it, answer): (u64, u64, u64), reply: Reply) -> [Noted; 3] {
     let core = CoreId::new(0);
     [
         Noted {
-            ticket: 0,
+            ticket: call,
             event: Event::Call(core, Request::Load { addr: 0 }),
             outcome: Outcome::Stepped,
         },
         Noted {
-            ticket: 1,
+            ticket: try_it,
             event: Event::Go(core),
             outcome: Outcome::Stepped,
         },
         Noted {
-            ticket: 2,
+            ticket: answer,
             event: Event::Go(core),
             outcome: Outcome::Answered(reply),
         },
@@ -47,67 +46,92 @@ fn with_cores(alloc: Global, cores: u64, seats: &[&[Noted]]) -> Result<Certified
     certify(alloc, setup, seats)
 }
 
-/// The notes of the load; without their second, without their last, and none at all; with another
-/// reply; with the second's ticket twice; with their tickets one higher; and for a machine of 65 cores.
-fn lone_loads(alloc: Global) -> [Result<Certified, CertifyFault>; 8] {
-    let load = lone_load(Reply::Segv(SegvCode::MapErr));
+/// What the notes of a load come to that has these tickets and this reply.
+fn load_told(
+    alloc: Global,
+    cores: u64,
+    tickets: (u64, u64, u64),
+    reply: Reply,
+) -> Result<Certified, CertifyFault> {
+    let load = lone_load(tickets, reply);
     let notes = &load[..];
-    let false_reply = lone_load(Reply::Done);
-    let mut twice = load;
-    twice[2].ticket = 1;
-    let mut later = load;
-    for note in &mut later {
-        note.ticket = note.ticket.saturating_add(1);
-    }
+    with_cores(alloc, cores, &[notes])
+}
+
+/// What those of the load come to without its second, without its last, and what none at all do.
+fn parts_told(alloc: Global) -> [Result<Certified, CertifyFault>; 3] {
+    let load = lone_load((0, 1, 2), Reply::Segv(SegvCode::MapErr));
+    let notes = &load[..];
     [
-        with_cores(alloc, 1, &[notes]),
         with_cores(alloc, 1, &[&notes[2..], &notes[..1]]),
         with_cores(alloc, 1, &[&notes[..2]]),
         with_cores(alloc, 1, &[]),
-        with_cores(alloc, 1, &[&false_reply]),
-        with_cores(alloc, 1, &[&twice]),
-        with_cores(alloc, 1, &[&later]),
-        with_cores(alloc, 65, &[&later]),
     ]
 }
 
 #[test]
-fn a_lone_load(rt: HostRuntime) -> Result<(), Fail> {
-    let differs = CertifyFault::Differs {
-        ticket: 2,
-        noted: Outcome::Answered(Reply::Done),
-        expected: Outcome::Answered(Reply::Segv(SegvCode::MapErr)),
-    };
+fn parts_of_a_lone_load(rt: HostRuntime) -> Result<(), Fail> {
     let told = [
-        Ok(Certified { calls: 1 }),
         Err(CertifyFault::Ticket(1)),
         Ok(Certified { calls: 0 }),
         Ok(Certified { calls: 0 }),
-        Err(differs),
+    ];
+    assert!(rt; parts_told(rt.alloc()) == told);
+    Ok(())
+}
+
+/// What the load's notes come to as they are; with a ticket twice; with tickets one higher; and for
+/// a machine of 65 cores.
+fn tickets_told(alloc: Global) -> [Result<Certified, CertifyFault>; 4] {
+    let reply = Reply::Segv(SegvCode::MapErr);
+    [
+        load_told(alloc, 1, (0, 1, 2), reply),
+        load_told(alloc, 1, (0, 1, 1), reply),
+        load_told(alloc, 1, (1, 2, 3), reply),
+        load_told(alloc, 65, (1, 2, 3), reply),
+    ]
+}
+
+#[test]
+fn tickets_of_a_lone_load(rt: HostRuntime) -> Result<(), Fail> {
+    let told = [
+        Ok(Certified { calls: 1 }),
         Err(CertifyFault::Ticket(1)),
         Err(CertifyFault::Ticket(0)),
         Err(CertifyFault::Setup(SetupFault::Cores)),
     ];
-    assert!(rt; lone_loads(rt.alloc()) == told);
+    assert!(rt; tickets_told(rt.alloc()) == told);
+    Ok(())
+}
+
+/// The load's last note says done, and a fault of the page is expected.
+fn done_told() -> CertifyFault {
+    CertifyFault::Differs {
+        ticket: 2,
+        noted: Outcome::Answered(Reply::Done),
+        expected: Outcome::Answered(Reply::Segv(SegvCode::MapErr)),
+    }
+}
+
+#[test]
+fn another_reply_than_the_load_has(rt: HostRuntime) -> Result<(), Fail> {
+    let told = load_told(rt.alloc(), 1, (0, 1, 2), Reply::Done);
+    assert!(rt; told == Err(done_told()));
+    Ok(())
+}
+
+fn push_name(alloc: Global, fault: CertifyFault, out: &mut String<Global>) -> Result<(), NoMemory> {
+    out.push_str(&format!(in alloc; "{fault}\n")?)?;
     Ok(())
 }
 
 /// What each fault is called.
 fn names(alloc: Global) -> Result<String<Global>, NoMemory> {
     let mut out = String::new(alloc);
-    let differs = CertifyFault::Differs {
-        ticket: 2,
-        noted: Outcome::Stepped,
-        expected: Outcome::Idle,
-    };
-    for fault in [
-        CertifyFault::Setup(SetupFault::Frames),
-        CertifyFault::Ticket(1),
-        differs,
-        CertifyFault::NoMemory,
-    ] {
-        out.push_str(&format!(in alloc; "{fault}\n")?)?;
-    }
+    push_name(alloc, CertifyFault::Setup(SetupFault::Frames), &mut out)?;
+    push_name(alloc, CertifyFault::Ticket(1), &mut out)?;
+    push_name(alloc, done_told(), &mut out)?;
+    push_name(alloc, CertifyFault::NoMemory, &mut out)?;
     Ok(out)
 }
 
@@ -131,11 +155,9 @@ c1 call load 0x10003
 /// The call of each line, and behind it twenty rounds in which both cores go on and take.
 fn rounds(alloc: Global, trace: &str) -> Result<Vec<Event, Global>, NoMemory> {
     let mut events = Vec::new(alloc);
-    for line in trace.lines() {
-        if let Some(event) = event_of_line(read_line(line.as_bytes())) {
-            events.push(event)?;
-            push_rounds(&mut events)?;
-        }
+    for event in events_of(alloc, trace)?.iter() {
+        events.push(*event)?;
+        push_rounds(&mut events)?;
     }
     Ok(events)
 }
@@ -185,27 +207,46 @@ enum Spoiled {
     Swapped(usize),
 }
 
-fn spoil(notes: &mut Vec<Noted, Global>, spoiled: Spoiled) -> Result<(), NoMemory> {
+/// How often the note here stands among spoiled ones.
+fn times(at: usize, spoiled: Spoiled) -> u64 {
     match spoiled {
-        Spoiled::Outcome(at) if at < notes.len() => notes[at].outcome = Outcome::Full,
-        Spoiled::Ticket(at) if at < notes.len() => {
-            notes[at].ticket = notes[at].ticket.saturating_add(1);
-        }
-        Spoiled::Missing(at) if at < notes.len() => {
-            notes.remove(at);
-        }
-        Spoiled::Doubled(at) if at < notes.len() => {
-            let note = notes[at];
-            notes.push(note)?;
-        }
-        Spoiled::Swapped(at) if at < notes.len() && at + 1 < notes.len() => {
-            let ticket = notes[at].ticket;
-            notes[at].ticket = notes[at + 1].ticket;
-            notes[at + 1].ticket = ticket;
-        }
-        _ => {}
+        Spoiled::Missing(place) if place == at => 0,
+        Spoiled::Doubled(place) if place == at => 2,
+        _ => 1,
     }
-    Ok(())
+}
+
+/// The ticket that the note here has among spoiled ones.
+fn spoiled_ticket(at: usize, spoiled: Spoiled) -> u64 {
+    let ticket = at as u64;
+    match spoiled {
+        Spoiled::Ticket(place) | Spoiled::Swapped(place) if place == at => ticket.saturating_add(1),
+        Spoiled::Swapped(place) if place < at && at - place == 1 => ticket.saturating_sub(1),
+        _ => ticket,
+    }
+}
+
+/// The outcome that the note here has among spoiled ones.
+fn spoiled_outcome(note: &Noted, at: usize, spoiled: Spoiled) -> Outcome {
+    match spoiled {
+        Spoiled::Outcome(place) if place == at => Outcome::Full,
+        _ => note.outcome,
+    }
+}
+
+/// The notes of a run that are spoiled so.
+fn spoil(alloc: Global, notes: &[Noted], spoiled: Spoiled) -> Result<Vec<Noted, Global>, NoMemory> {
+    let mut changed = Vec::new(alloc);
+    for at in 0..notes.len() {
+        for _time in 0..times(at, spoiled) {
+            changed.push(Noted {
+                ticket: spoiled_ticket(at, spoiled),
+                event: notes[at].event,
+                outcome: spoiled_outcome(&notes[at], at, spoiled),
+            })?;
+        }
+    }
+    Ok(changed)
 }
 
 /// How many calls the notes answer.
@@ -251,14 +292,14 @@ fn told(
     notes: &[Noted],
     spoiled: Spoiled,
 ) -> Result<Result<Certified, CertifyFault>, NoMemory> {
-    let mut changed = Vec::new(alloc);
-    for note in notes {
-        changed.push(*note)?;
-    }
-    spoil(&mut changed, spoiled)?;
+    let mut changed = spoil(alloc, notes, spoiled)?;
     let mut random = Random::new(changed.len() as u64);
     shuffle(&mut changed, &mut random);
-    let setup = declared(trace).setup(alloc)?;
+    let asked = declared(trace);
+    if asked.fault().is_some() {
+        return Err(NoMemory);
+    }
+    let setup = asked.setup(alloc)?;
     let third = changed.len() / 3;
     let (first, rest) = changed.split_at(third);
     let (second, last) = rest.split_at(third);
@@ -308,25 +349,21 @@ fn spoil_each(
     at: usize,
     count: &mut Refused,
 ) -> Result<(), NoMemory> {
-    for spoiled in [
-        Spoiled::Outcome(at),
-        Spoiled::Ticket(at),
-        Spoiled::Missing(at),
-        Spoiled::Doubled(at),
-    ] {
-        try_spoiled(alloc, trace, notes, spoiled, count)?;
-    }
+    try_spoiled(alloc, trace, notes, Spoiled::Outcome(at), count)?;
+    try_spoiled(alloc, trace, notes, Spoiled::Ticket(at), count)?;
+    try_spoiled(alloc, trace, notes, Spoiled::Missing(at), count)?;
+    try_spoiled(alloc, trace, notes, Spoiled::Doubled(at), count)?;
     if let Some(begun) = begun_from(notes, at) {
         try_spoiled(alloc, trace, notes, Spoiled::Swapped(begun), count)?;
     }
     Ok(())
 }
 
-/// What the notes of five calls come to, as they are, and how many spoiled ones are refused.
-fn five_calls(alloc: Global) -> Result<(Result<Certified, CertifyFault>, Refused), NoMemory> {
+/// Whether the notes of five calls are certified as they are, and how many spoiled ones are refused.
+fn five_calls(alloc: Global) -> Result<(bool, Refused), NoMemory> {
     let events = rounds(alloc, CALLS)?;
     let notes = notes_of(alloc, CALLS, &events)?;
-    let whole = told(alloc, CALLS, &notes, Spoiled::Nothing)?;
+    let is_certified = told(alloc, CALLS, &notes, Spoiled::Nothing)? == Ok(Certified { calls: 5 });
     let mut count = Refused {
         spoiled: 0,
         refused: 0,
@@ -334,13 +371,13 @@ fn five_calls(alloc: Global) -> Result<(Result<Certified, CertifyFault>, Refused
     for tenth in 0..40usize {
         spoil_each(alloc, CALLS, &notes, tenth * 10, &mut count)?;
     }
-    Ok((whole, count))
+    Ok((is_certified, count))
 }
 
 #[test]
 fn notes_of_a_run(rt: HostRuntime) -> Result<(), Fail> {
-    let (whole, count) = five_calls(rt.alloc())?;
-    assert!(rt; whole == Ok(Certified { calls: 5 }));
+    let (is_certified, count) = five_calls(rt.alloc())?;
+    assert!(rt; is_certified);
     assert!(rt; count.spoiled >= 160);
     assert_eq!(rt; count.refused, count.spoiled);
     Ok(())
@@ -417,13 +454,14 @@ fn in_heap(heap: &LocalHeap, cores: u64, notes: &[Noted]) -> Result<Certified, C
     certify(heap, setup, &[notes])
 }
 
-/// What certifying comes to in a heap that is full first, and is given back bit by bit until there is
-/// memory enough; how often there wasn't; and whether all memory is free again at the end.
+/// Whether the notes' five calls are certified in a heap that is full first, and is given back bit by
+/// bit until there is memory enough; how often there wasn't; and whether all memory is free again at
+/// the end.
 fn starved(
     alloc: Global,
     heap: &LocalHeap,
     notes: &[Noted],
-) -> Result<(Result<Certified, CertifyFault>, u64, bool), NoMemory> {
+) -> Result<(bool, u64, bool), NoMemory> {
     let mut taken = Vec::new(alloc);
     fill(heap, &mut taken)?;
     let pieces = taken.len();
@@ -431,9 +469,10 @@ fn starved(
     for _piece in 0..pieces {
         let result = in_heap(heap, 2, notes);
         if result != Err(CertifyFault::NoMemory) {
+            let is_certified = result == Ok(Certified { calls: 5 });
             taken.clear();
             fill(heap, &mut taken)?;
-            return Ok((result, refusals, taken.len() == pieces));
+            return Ok((is_certified, refusals, taken.len() == pieces));
         }
         refusals = refusals.saturating_add(1);
         taken.pop();
@@ -441,10 +480,7 @@ fn starved(
     Err(NoMemory)
 }
 
-/// The same for the five calls.
-fn five_calls_starved(
-    alloc: Global,
-) -> Result<(Result<Certified, CertifyFault>, u64, bool), NoMemory> {
+fn five_calls_starved(alloc: Global) -> Result<(bool, u64, bool), NoMemory> {
     let events = rounds(alloc, CALLS)?;
     let notes = notes_of(alloc, CALLS, &events)?;
     let heap = LocalHeap::new(alloc, AMPLE)?;
@@ -453,8 +489,8 @@ fn five_calls_starved(
 
 #[test]
 fn each_want_of_memory_is_told(rt: HostRuntime) -> Result<(), Fail> {
-    let (result, refusals, is_free) = five_calls_starved(rt.alloc())?;
-    assert!(rt; result == Ok(Certified { calls: 5 }));
+    let (is_certified, refusals, is_free) = five_calls_starved(rt.alloc())?;
+    assert!(rt; is_certified);
     assert!(rt; refusals > 20);
     assert!(rt; is_free);
     Ok(())

@@ -1,11 +1,14 @@
 //! Steps of a machine over the tree, noted as seats note them.
+ghost use Rattle.slot_lock.specs.Slots.{IsNew};
+
 use crate::by_hand::{Moves, outcome_of};
 use crate::machines::{declared, machine_over};
 use crate::random::Random;
 use machine_model::{Event, Outcome};
 use radix_range::RadixMap;
 use seats::Noted;
-use std::alloc::Global;
+use slot_lock::SlotMap;
+use std::alloc::{Allocator, Global};
 use trace_text::read_line;
 use vm_base::NoMemory;
 
@@ -18,13 +21,14 @@ struct Noting<'s, S> {
 
 impl<'s, S: Moves> Moves for Noting<'s, S> {
     fn take(&mut self, event: Event) -> Result<Outcome, NoMemory> {
-        let outcome = self.space.take(event)?;
-        let ticket = self.notes.len() as u64;
-        self.notes.push(Noted {
-            ticket,
+        let mut note = Noted {
+            ticket: self.notes.len() as u64,
             event,
-            outcome,
-        })?;
+            outcome: Outcome::Idle,
+        };
+        note.outcome = self.space.take(note.event)?;
+        let outcome = note.outcome;
+        self.notes.push(note)?;
         Ok(outcome)
     }
 
@@ -49,10 +53,22 @@ fn noted<S: Moves>(
     Ok(noting.notes)
 }
 
+/// What a new machine over this map, with this memory, notes of a trace's steps.
+fn noted_over<M: SlotMap + Drop, A: Allocator + Clone + Drop>(
+    alloc: Global,
+    memory: A,
+    map: M,
+    trace: &str,
+) -> Result<Vec<Noted, Global>, NoMemory>
+    requires { IsNew (M.slots map) }
+{
+    let mut machine = machine_over(memory, map, &declared(trace))?;
+    noted(alloc, &mut machine, trace)
+}
+
 /// What a machine over the tree notes of a trace's steps.
 pub fn notes_of_lines(alloc: Global, trace: &str) -> Result<Vec<Noted, Global>, NoMemory> {
-    let mut machine = machine_over(alloc, RadixMap::new(alloc)?, &declared(trace))?;
-    noted(alloc, &mut machine, trace)
+    noted_over(alloc, alloc, RadixMap::new(alloc)?, trace)
 }
 
 /// Puts notes in an order that looks random.
