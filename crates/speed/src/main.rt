@@ -1,6 +1,6 @@
 // How long the parts take: with one of the words below, nanoseconds a round; with no word each part
 // runs with little to do. bench/pieces.sh says what the parts are, and compares them with plain
-// Rust; bench/threads.sh compares threads with one.
+// Rust; bench/threads.sh compares threads with one, and bench/certify.sh notes with a run.
 #![tactic(auto)]
 
 ghost use Rattle.std.specs.Prelude.{◌<◌, ◌≤◌, ◌^◌};
@@ -9,6 +9,7 @@ mod bytes;
 mod clears;
 mod counts;
 mod hits;
+mod notes;
 mod ranges;
 mod room;
 mod since;
@@ -17,6 +18,7 @@ mod threads;
 mod tree;
 
 use crate::hits::Order;
+use crate::notes::Way;
 use crate::threads::Shared;
 use std::alloc::Global;
 use std::rt::Clock;
@@ -49,7 +51,7 @@ fn tell(rt: &impl Print, nanos: Option<u128>) -> io::Result<()> {
 }
 
 /// The words of the parts.
-const WORDS: [&str; 25] = [
+const WORDS: [&str; 27] = [
     "slots",
     "look",
     "tree",
@@ -75,6 +77,8 @@ const WORDS: [&str; 25] = [
     "mutex_four",
     "own",
     "own_four",
+    "run",
+    "certify",
 ];
 
 /// How many rounds the part is timed for.
@@ -90,7 +94,7 @@ fn rounds_of(word: &str) -> u64
         "hit" | "oldest" | "newest" => 50_000_000,
         "byte" | "count" => 20_000_000,
         "look" => 10_000_000,
-        "fill" | "copy" | "mutex" | "mutex_four" => 1_000_000,
+        "fill" | "copy" | "mutex" | "mutex_four" | "run" | "certify" => 1_000_000,
         "own" | "own_four" => 20_000_000,
         _ => 5_000_000,
     }
@@ -134,6 +138,8 @@ fn time<R: Threads + Wait + Clock + Sync>(
         "mutex_four" => threads::time(rt, alloc, Shared::OneMutex, 4, rounds),
         "own" => threads::time(rt, alloc, Shared::OwnMutex, 1, rounds),
         "own_four" => threads::time(rt, alloc, Shared::OwnMutex, 4, rounds),
+        "run" => notes::time(rt, alloc, Way::Run, rounds),
+        "certify" => notes::time(rt, alloc, Way::Certify, rounds),
         _ => Ok(None),
     }
 }
