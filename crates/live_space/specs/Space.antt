@@ -1,0 +1,40 @@
+-- What a clause sees of a space that threads share, and how it begins
+use Rattle.std.specs.Prelude.{◌≡◌, ℕ, ◌<◌, ◌/◌, List, [], length, get_or, None}
+use Rattle.atomic_table.specs.Seated.{TableId}
+use Rattle.backing.specs.Files.{FileParts, files_of}
+use Rattle.backing.specs.Given.{given_files}
+use Rattle.machine_model.specs.declared.event.Event.TheVariants.{Go}
+use Rattle.core_steps.specs.declared.setup.Setup.{Setup}
+use Rattle.core_steps.specs.Setups.{fault_of}
+use Rattle.seats.specs.Notes.{SeatView}
+
+-- the word from which tickets are drawn, how many cores and frames there are, the files, and how many
+-- calls each seat may begin
+pub record LiveView : Type 0 where
+  pub word : TableId
+  pub cores : ℕ
+  pub frames : ℕ
+  pub files : List FileParts
+  pub share : ℕ
+
+-- a seat of the core that has noted nothing, whose plain steps are those of the core's call
+pub record IsFresh (w : TableId) (c : ℕ) (s : SeatView) : Type 0 where
+  pub word : s.word ≡ w
+  pub core : s.core ≡ c
+  pub notes : s.notes ≡ []
+  pub begun : s.begun ≡ 0
+  pub plain : s.plain ≡ Go c
+
+-- a fresh seat for each of so many cores, in their order
+pub record AreFresh (word : TableId) (cores : ℕ) (seats : List SeatView) : Type 0 where
+  pub count : length seats ≡ cores
+  pub each : (k : ℕ) (d : SeatView) → k < cores → IsFresh word k (get_or seats k d)
+
+-- the space of a setup without a fault, with its seats: the calls are shared out evenly
+pub record IsMade {A : Type 0} (setup : Setup A) (l : LiveView) (ss : List SeatView) : Type 0 where
+  pub sound : fault_of setup ≡ None
+  pub cores : l.cores ≡ setup.cores
+  pub frames : l.frames ≡ setup.frames
+  pub file : files_of l.files ≡ given_files setup.files.items
+  pub share : l.share ≡ setup.calls / setup.cores
+  pub seats : AreFresh l.word setup.cores ss

@@ -1,0 +1,137 @@
+//! The making of a space.
+ghost use Rattle.std.specs.Prelude.{◌≡◌, ◌<◌, ◌≤◌, [], None, IfOk, IfErr, length};
+ghost use Rattle.std.specs.Arc.{arc_value};
+ghost use Rattle.tickets.specs.Tickets.{IsNew};
+ghost use Rattle.core_steps.specs.Setups.{IsFirstFault, fault_of};
+ghost use Rattle.live_space.specs.Space.{AreFresh, IsMade};
+
+use crate::pieces::{CoreState, FrameState};
+use crate::space::Live;
+use backing::Objects;
+use core_steps::{Setup, SetupFault};
+use crossbeam_utils::CachePadded;
+use frames::FrameCell;
+use live_tree::tree::SharedTree;
+use mmu::Cpu;
+use refcache::{CoreCounts, Epochs, ObjectCount};
+use seats::Seat;
+use shootdown::Inbox;
+use std::alloc::Allocator;
+use std::sync::{Arc, Mutex};
+use tickets::{Ticketer, Tickets};
+use vm_base::{CoreId, NoMemory};
+
+impl<A: Allocator + Clone> Live<A> {
+    /// A space in which nothing is mapped, and a seat for each of its cores, in their order, which
+    /// has noted nothing. The bytes of the files are moved, not copied. Of several faults the first
+    /// is told, in the order of `SetupFault`.
+    pub fn new(alloc: A, setup: Setup<A>) -> Result<(Live<A>, Vec<Seat<A>, A>), SetupFault>
+        ensures made { IfOk result (λ t. IsMade setup t.0 t.1.items) }
+        ensures first { IfErr result (λ fault. IsFirstFault setup fault) }
+    {
+        if let Some(fault) = setup.fault() {
+            return Err(fault);
+        }
+        let Ok(made) = make(alloc, setup) else {
+            return Err(SetupFault::NoMemory);
+        };
+        Ok(made)
+    }
+}
+
+// The space and its seats, where the setup has no fault.
+fn make<A: Allocator + Clone>(
+    alloc: A,
+    setup: Setup<A>,
+) -> Result<(Live<A>, Vec<Seat<A>, A>), NoMemory>
+    requires { fault_of setup ≡ None }
+    ensures { IfOk result (λ t. IsMade setup t.0 t.1.items) }
+{
+    let Setup {
+        cores,
+        frames,
+        files,
+        calls,
+    } = setup;
+    let count = cores as u8;
+    let number = frames as u32;
+    let share = calls / cores;
+    let epochs = Epochs::new(count);
+    let objects = Objects::new(alloc.clone()?, files)?;
+    let (tickets, first) = Tickets::new(alloc.clone()?)?;
+    let tickets = Arc::new(alloc.clone()?, tickets)?;
+    let seats = new_seats(&alloc, &tickets, first, count)?;
+    let states = new_cores(&alloc, count, number)?;
+    let cells = new_frames(&alloc, number)?;
+    let tree = SharedTree::new(alloc)?;
+    let live = Live {
+        tickets,
+        tree,
+        objects,
+        cores: states,
+        frames: cells,
+        epochs: CachePadded::new(Mutex::new(epochs)),
+        share,
+    };
+    Ok((live, seats))
+}
+
+// So many seats of one word, which have noted nothing, by their cores.
+fn new_seats<A: Allocator + Clone>(
+    alloc: &A,
+    tickets: &Arc<Tickets<A>, A>,
+    mut first: Ticketer,
+    count: u8,
+) -> Result<Vec<Seat<A>, A>, NoMemory>
+    requires new { IsNew (arc_value tickets.now) 63 first }
+    requires count { (1 ≤ count) × (count ≤ 64) }
+    ensures { IfOk result (λ v. AreFresh (arc_value tickets.now) count v.items) }
+{
+    let mut seats = Vec::with_capacity(alloc.clone()?, usize::from(count))?;
+    let last = count - 1;
+    'seats: for core in 0..last {
+        let own = tickets.split(&mut first);
+        let word = Arc::try_clone(tickets)?;
+        seats.push_reserved(Seat::new(alloc.clone()?, CoreId::new(core), word, own));
+    }
+    let word = Arc::try_clone(tickets)?;
+    seats.push_reserved(Seat::new(alloc.clone()?, CoreId::new(last), word, first));
+    Ok(seats)
+}
+
+// So many frames, all free.
+fn new_frames<A: Allocator + Clone>(
+    alloc: &A,
+    count: u32,
+) -> Result<Vec<Mutex<FrameState<A>>, A>, NoMemory>
+    ensures { IfOk result (λ v. length v.items ≡ count) }
+{
+    let mut frames = Vec::with_capacity(alloc.clone()?, count as usize)?;
+    'frames: for _frame in 0..count {
+        let cell = FrameCell::new(alloc.clone()?)?;
+        frames.push_reserved(Mutex::new(FrameState {
+            cell,
+            count: ObjectCount::new(),
+        }));
+    }
+    Ok(frames)
+}
+
+// So many cores without entries, messages and translations.
+fn new_cores<A: Allocator + Clone>(
+    alloc: &A,
+    count: u8,
+    frames: u32,
+) -> Result<Vec<CachePadded<Mutex<CoreState<A>>>, A>, NoMemory>
+    requires { count ≤ 64 }
+    ensures { IfOk result (λ v. length v.items ≡ count) }
+{
+    let mut cores = Vec::with_capacity(alloc.clone()?, usize::from(count))?;
+    'cores: for core in 0..count {
+        let counts = CoreCounts::new(alloc.clone()?, frames)?;
+        let inbox = Inbox::new(CoreId::new(core));
+        let cpu = Cpu::new(alloc.clone()?)?;
+        cores.push_reserved(CachePadded::new(Mutex::new(CoreState { counts, inbox, cpu })));
+    }
+    Ok(cores)
+}

@@ -1,0 +1,79 @@
+//! The space that threads share.
+ghost use Rattle.std.specs.Prelude.{◌≡◌, length, IfErr};
+ghost use Rattle.live_space.specs.Space.{LiveView};
+
+use crate::pieces::{CoreState, FrameState};
+use backing::Objects;
+use crossbeam_utils::CachePadded;
+use live_tree::histories::Histories;
+use live_tree::tree::SharedTree;
+use refcache::Epochs;
+use std::alloc::Allocator;
+use std::marker::Model;
+use std::sync::{Arc, Mutex};
+use tickets::Tickets;
+
+/// One address space that threads share: the tree of slots, and what lies under the locks of cores,
+/// frames and the epoch. Its files never change. A clause sees the word from which tickets are
+/// drawn, how many cores and frames there are, the files, and how many calls each seat may begin.
+#[derive(Drop)]
+pub struct Live<A: Allocator + Clone> {
+    pub(crate) tickets: Arc<Tickets<A>, A>,
+    pub(crate) tree: SharedTree<A>,
+    pub(crate) objects: Objects<A>,
+    pub(crate) cores: Vec<CachePadded<Mutex<CoreState<A>>>, A>,
+    pub(crate) frames: Vec<Mutex<FrameState<A>>, A>,
+    pub(crate) epochs: CachePadded<Mutex<Epochs>>,
+    pub(crate) share: u64,
+}
+
+impl<A: Allocator + Clone> Model for Live<A> {
+    ghost use Rattle.std.specs.Prelude.{length};
+    ghost use Rattle.std.specs.Arc.{arc_value};
+    ghost use Rattle.live_space.specs.Space.{LiveView};
+
+    ghost Value = { LiveView };
+
+    ghost view = { λ l. record {
+      word = arc_value l.tickets;
+      cores = length l.cores.items;
+      frames = length l.frames.items;
+      files = l.objects;
+      share = l.share;
+    } };
+}
+
+impl<A: Allocator + Clone> Live<A> {
+    /// How many cores there are.
+    pub fn cores(&self) -> usize
+        ensures { result ≡ self.now.cores }
+    {
+        self.cores.len()
+    }
+
+    /// How many frames there are.
+    pub fn frames(&self) -> usize
+        ensures { result ≡ self.now.frames }
+    {
+        self.frames.len()
+    }
+
+    /// How many calls each seat may begin.
+    pub fn share(&self) -> u64
+        ensures { result ≡ self.now.share }
+    {
+        self.share
+    }
+
+    /// Ends the space, and hands out the histories of its slots, which lie side by side and have all
+    /// valid pages. Where memory is wanting, or a slot was in a wrong place, which never comes, the
+    /// space comes back as it was.
+    pub fn close(mut self) -> Result<Histories<A>, Live<A>>
+        ensures { IfErr result (λ live. live ≡ self) }
+    {
+        match self.tree.histories() {
+            Some(histories) => Ok(histories),
+            None => Err(self),
+        }
+    }
+}
