@@ -7,3 +7,5 @@ pub mod gate;
 pub mod making;
 pub mod pieces;
 pub mod space;
+#[cfg(test)]
+mod tests;
