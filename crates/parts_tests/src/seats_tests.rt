@@ -16,7 +16,7 @@ const STORE: Request = Request::Store {
     byte: 7,
 };
 
-// The core's seat, with room for four notes.
+// The core's seat, with room for five notes.
 fn seat_of(
     alloc: Global,
     core: CoreId,
@@ -25,17 +25,17 @@ fn seat_of(
 ) -> Result<Seat<Global>, AllocError>
     requires word { arc_value word.now ≡ ticketer.word }
     requires new { ticketer.tickets ≡ [] }
-    ensures { IfOk result (λ s. 4 ≤ s.room) }
+    ensures { IfOk result (λ s. 5 ≤ s.room) }
 {
     let mut seat = Seat::new(alloc, core, Arc::try_clone(word)?, ticketer);
-    if seat.reserve(4) {
+    if seat.reserve(5) {
         return Ok(seat);
     }
     Err(AllocError)
 }
 
-// The notes of two seats of one word: core 0's call, with a step of its own and a fold, and in
-// between a flush of core 3's.
+// The notes of two seats of one word: core 0's call, with a step of its own, a fold and a step again,
+// and in between a flush of core 3's.
 fn noted_by_two(alloc: Global) -> Result<[Vec<Noted, Global>; 2], AllocError> {
     let (tickets, mut first) = Tickets::new(alloc)?;
     let second = tickets.split(&mut first);
@@ -45,7 +45,9 @@ fn noted_by_two(alloc: Global) -> Result<[Vec<Noted, Global>; 2], AllocError> {
     zero.begin(STORE);
     three.note(Event::Flush(three.core()), Outcome::Stepped);
     zero.step();
-    zero.set_plain(Event::Fold(512));
+    zero.set_plain_fold(512);
+    zero.step();
+    zero.set_plain_go();
     zero.step();
     zero.note(Event::Go(zero.core()), Outcome::Answered(Reply::Done));
     Ok([
@@ -62,7 +64,8 @@ fn two_seats_note_under_the_tickets_of_one_word(rt: HostRuntime) -> Result<(), F
         noted(0, Event::Call(zero, STORE), Outcome::Stepped),
         noted(2, Event::Go(zero), Outcome::Stepped),
         noted(3, Event::Fold(512), Outcome::Stepped),
-        noted(4, Event::Go(zero), Outcome::Answered(Reply::Done)),
+        noted(4, Event::Go(zero), Outcome::Stepped),
+        noted(5, Event::Go(zero), Outcome::Answered(Reply::Done)),
     ];
     let flush = [noted(1, Event::Flush(three), Outcome::Stepped)];
     let [by_zero, by_three] = noted_by_two(rt.alloc())?;

@@ -3,11 +3,11 @@ use Rattle.std.specs.Prelude.{◌≡◌, ℕ, ◌-◌, ◌<◌, List, [], ◌∷
 use Rattle.atomic_table.specs.Seated.{TableId}
 use Rattle.machine_model.specs.declared.event.Event.{Event}
 use Rattle.machine_model.specs.declared.event.Outcome.{Outcome}
-use Rattle.machine_model.specs.declared.event.Outcome.TheVariants.{Stepped}
 use Rattle.seats.specs.declared.noted.Noted.{Noted}
 
 -- the word that the seat draws from and the tickets that it drew, its core, its notes, how many more
--- of them take no memory, how many calls it began, and the event that a plain step notes
+-- of them take no memory, how many calls it began, the event that a plain step notes, and from which
+-- frame and page on its core looks for a free one
 pub record SeatView : Type 0 where
   pub word : TableId
   pub tickets : List ℕ
@@ -16,6 +16,8 @@ pub record SeatView : Type 0 where
   pub room : ℕ
   pub begun : ℕ
   pub plain : Event
+  pub next_frame : ℕ
+  pub next_page : ℕ
 
 abbrev pub ticket_of : Noted → ℕ
 ticket_of n = n.ticket
@@ -34,7 +36,3 @@ with_note s n = record s {
 -- one more step can be noted
 abbrev pub CanNote : SeatView → Type 0
 CanNote s = 0 < s.room
-
--- a plain step was noted under the ticket
-abbrev pub Steps : SeatView → ℕ → SeatView → Type 0
-Steps s ticket t = t ≡ with_note s (noted ticket s.plain Stepped)

@@ -2,7 +2,7 @@
 ghost use Rattle.std.specs.Prelude.{◌≡◌, ◌+◌, ◌-◌, ◌^◌, ◌<◌, ◌≤◌, ◌↔◌, [], map, length, All, IsTrue};
 ghost use Rattle.std.specs.Arc.{arc_value};
 ghost use Rattle.tickets.specs.Tickets.{Rises};
-ghost use Rattle.machine_model.specs.declared.event.Event.TheVariants.{Call, Go};
+ghost use Rattle.machine_model.specs.declared.event.Event.TheVariants.{Call, Fold, Go};
 ghost use Rattle.machine_model.specs.declared.event.Outcome.TheVariants.{Stepped};
 ghost use Rattle.seats.specs.Notes.{noted, ticket_of, with_note};
 
@@ -28,12 +28,16 @@ pub struct Seat<A: Allocator> {
     notes: Vec<Noted, A>,
     begun: u64,
     plain: Event,
+    next_frame: u32,
+    next_page: u64,
 }
 
 impl<A: Allocator> Model for Seat<A> {
-    ghost use Rattle.std.specs.Prelude.{◌≡◌, ◌-◌, ◌^◌, ◌≤◌, map, min, vec_len, vec_capacity};
+    ghost use Rattle.std.specs.Prelude.{◌≡◌, ◌-◌, ◌^◌, ◌≤◌, map, min, vec_len, vec_capacity, true};
     ghost use Rattle.std.specs.Arc.{arc_value};
     ghost use Rattle.tickets.specs.Tickets.{Rises};
+    ghost use Rattle.machine_model.specs.declared.event.Outcome.TheVariants.{Stepped};
+    ghost use Rattle.seats.specs.Growing.{is_between};
     ghost use Rattle.seats.specs.Notes.{SeatView, ticket_of};
 
     ghost Value = { SeatView };
@@ -46,11 +50,14 @@ impl<A: Allocator> Model for Seat<A> {
       room = min (vec_capacity s.notes - vec_len s.notes) (2 ^ 32 - vec_len s.notes);
       begun = s.begun;
       plain = s.plain;
+      next_frame = s.next_frame;
+      next_page = s.next_page;
     } };
 
     ghost invariant = { λ s. (arc_value s.tickets ≡ s.ticketer.word)
         × (s.ticketer.tickets ≡ map ticket_of s.notes.items)
-        × Rises (map ticket_of s.notes.items) × (s.begun ≤ vec_len s.notes) };
+        × Rises (map ticket_of s.notes.items) × (s.begun ≤ vec_len s.notes)
+        × (is_between s.plain Stepped ≡ true) };
 }
 
 impl<A: Allocator> Seat<A> {
@@ -61,6 +68,7 @@ impl<A: Allocator> Seat<A> {
         ensures word { (result.word ≡ ticketer.word) × (result.core ≡ core) }
         ensures nothing { (result.notes ≡ []) × (result.tickets ≡ []) × (result.begun ≡ 0) }
         ensures plain { result.plain ≡ Go core }
+        ensures next { (result.next_frame ≡ 0) × (result.next_page ≡ 0) }
     {
         Seat {
             core,
@@ -69,6 +77,8 @@ impl<A: Allocator> Seat<A> {
             notes: Vec::new(alloc),
             begun: 0,
             plain: Event::Go(core),
+            next_frame: 0,
+            next_page: 0,
         }
     }
 
@@ -144,16 +154,52 @@ impl<A: Allocator> Seat<A> {
         ticket
     }
 
-    /// Chooses which event a plain step notes.
-    pub fn set_plain(&mut self, event: Event)
-        ensures { self.new ≡ record self.old { plain = event } }
+    /// From now on a plain step notes that the core's call goes one step on, as from the beginning.
+    pub fn set_plain_go(&mut self)
+        ensures { self.new ≡ record self.old { plain = Go self.old.core } }
     {
-        self.plain = event;
+        self.plain = Event::Go(self.core);
+    }
+
+    /// From now on a plain step notes that slots are joined at the page.
+    pub fn set_plain_fold(&mut self, page: u64)
+        ensures { self.new ≡ record self.old { plain = Fold page } }
+    {
+        self.plain = Event::Fold(page);
+    }
+
+    /// From which frame on the core looks for a free one, as it was set last; 0 at first.
+    pub fn next_frame(&self) -> u32
+        ensures { result ≡ self.now.next_frame }
+    {
+        self.next_frame
+    }
+
+    /// The core looks for a free frame from this one on.
+    pub fn set_next_frame(&mut self, frame: u32)
+        ensures { self.new ≡ record self.old { next_frame = frame } }
+    {
+        self.next_frame = frame;
+    }
+
+    /// From which page on the core looks for a place, as it was set last; 0 at first.
+    pub fn next_page(&self) -> u64
+        ensures { result ≡ self.now.next_page }
+    {
+        self.next_page
+    }
+
+    /// The core looks for a place from this page on.
+    pub fn set_next_page(&mut self, page: u64)
+        ensures { self.new ≡ record self.old { next_page = page } }
+    {
+        self.next_page = page;
     }
 }
 
 impl<A: Allocator> Stepper for Seat<A> {
-    ghost use Rattle.seats.specs.Notes.{CanNote, Steps};
+    ghost use Rattle.seats.specs.Growing.{Steps};
+    ghost use Rattle.seats.specs.Notes.{CanNote};
 
     ghost can_step = { CanNote };
 

@@ -14,4 +14,5 @@ invariant_of-self g c =
       rises_next c.self.inside.ticketer.tickets c.self.inside.notes.items _ new c.self.invariant.1 c.self.invariant.2
           c.push_reserved.ensures.items c.draw-ticket.ensures.later,
       subst (λ (n : ℕ). c.self.inside.begun ≤ n) (sym c.push_reserved.ensures.len) (omega (arith, c.self.invariant.3)),
+      c.self.invariant.4,
     )
