@@ -38,3 +38,10 @@ pub record IsMade {A : Type 0} (setup : Setup A) (l : LiveView) (ss : List SeatV
   pub file : files_of l.files ≡ given_files setup.files.items
   pub share : l.share ≡ setup.calls / setup.cores
   pub seats : AreFresh l.word setup.cores ss
+
+-- the seat is of the space: it draws from the space's word, its core is one of the space's, and its
+-- plain steps are those of the core's call
+pub record IsOf (l : LiveView) (s : SeatView) : Type 0 where
+  pub word : s.word ≡ l.word
+  pub core : s.core < l.cores
+  pub plain : s.plain ≡ Go s.core

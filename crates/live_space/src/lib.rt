@@ -1,7 +1,9 @@
-//! One address space that threads share: its making, what ends a call before it begins, and where a
-//! test may hold one.
+//! One address space that threads share: its making, its flushes, reviews and folds, its end, what
+//! ends a call before it begins, and where a test may hold one.
 #![tactic(auto)]
 
+pub mod closing;
+pub mod counting;
 pub mod fault;
 pub mod gate;
 pub mod making;

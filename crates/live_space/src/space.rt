@@ -1,11 +1,10 @@
 //! The space that threads share.
-ghost use Rattle.std.specs.Prelude.{◌≡◌, length, IfErr};
+ghost use Rattle.std.specs.Prelude.{◌≡◌, length};
 ghost use Rattle.live_space.specs.Space.{LiveView};
 
 use crate::pieces::{CoreState, FrameState};
 use backing::Objects;
 use crossbeam_utils::CachePadded;
-use live_tree::histories::Histories;
 use live_tree::tree::SharedTree;
 use refcache::Epochs;
 use std::alloc::Allocator;
@@ -63,17 +62,5 @@ impl<A: Allocator + Clone> Live<A> {
         ensures { result ≡ self.now.share }
     {
         self.share
-    }
-
-    /// Ends the space, and hands out the histories of its slots, which lie side by side and have all
-    /// valid pages. Where memory is wanting, or a slot was in a wrong place, which never comes, the
-    /// space comes back as it was.
-    pub fn close(mut self) -> Result<Histories<A>, Live<A>>
-        ensures { IfErr result (λ live. live ≡ self) }
-    {
-        match self.tree.histories() {
-            Some(histories) => Ok(histories),
-            None => Err(self),
-        }
     }
 }

@@ -1,0 +1,141 @@
+//! One flush and one review of a seat's core: each is one step, taken while the locks of the core,
+//! of the frame and of the epoch are held.
+ghost use Rattle.std.specs.Prelude.{◌≡◌, ◌<◌, true, false, IfOk, IfErr};
+ghost use Rattle.machine_model.specs.declared.event.Event.TheVariants as EventOf;
+ghost use Rattle.seats.specs.Growing.{NotesIf};
+ghost use Rattle.seats.specs.Notes.{CanNote};
+ghost use Rattle.live_space.specs.Calls.{IsIdle, LacksRoom};
+ghost use Rattle.live_space.specs.Counting.{NotesOneIf};
+ghost use Rattle.live_space.specs.Space.{IsOf};
+
+use crate::fault::{LiveFault, reserve_notes};
+use crate::pieces::{CoreState, FrameState};
+use crate::space::Live;
+use machine_model::{Event, Outcome};
+use refcache::{Epochs, Flush, Review};
+use seats::Seat;
+use std::alloc::Allocator;
+use std::sync::{Mutex, Wait};
+
+impl<A: Allocator + Clone> Live<A> {
+    /// One flush by the seat's core, noted as a step of its own. It evicts the core's entry of the
+    /// least object; a core without entries is marked for the epoch, which ends with the last mark.
+    /// False where the core is marked already, or the last epoch would end: then nothing changes,
+    /// and nothing is noted. It waits while another thread has the core, the frame or the epoch
+    /// locked. After a fault nothing was begun.
+    pub fn flush<R: Wait>(&self, rt: &R, seat: &mut Seat<A>) -> Result<bool, LiveFault>
+        requires { IsOf self.now seat.old }
+        ensures noted { IfOk result
+            (λ is_noted. NotesOneIf (EventOf.Flush seat.old.core) seat.old is_noted seat.new) }
+        ensures fault { IfErr result (LacksRoom 1 seat.old) }
+        ensures idle { IfErr result (λ fault. IsIdle seat.old seat.new) }
+    {
+        reserve_notes(seat, 1)?;
+        let core = &self.cores[usize::from(seat.core().index())];
+        let is_noted = flush_core(rt, core, self.frames.as_slice(), &self.epochs, seat);
+        Ok(is_noted)
+    }
+
+    /// One review by the seat's core, noted as a step of its own. The object at the front of its
+    /// queue leaves it, or is queued anew; a frame that is freed may be taken again. False where
+    /// the queue is empty, or its front isn't due: then nothing changes, and nothing is noted. It
+    /// waits while another thread has the core, the frame or the epoch locked. After a fault
+    /// nothing was begun.
+    pub fn review<R: Wait>(&self, rt: &R, seat: &mut Seat<A>) -> Result<bool, LiveFault>
+        requires { IsOf self.now seat.old }
+        ensures noted { IfOk result
+            (λ is_noted. NotesOneIf (EventOf.Review seat.old.core) seat.old is_noted seat.new) }
+        ensures fault { IfErr result (LacksRoom 1 seat.old) }
+        ensures idle { IfErr result (λ fault. IsIdle seat.old seat.new) }
+    {
+        reserve_notes(seat, 1)?;
+        let core = &self.cores[usize::from(seat.core().index())];
+        let is_noted = review_core(rt, core, self.frames.as_slice(), &self.epochs, seat);
+        Ok(is_noted)
+    }
+}
+
+// Evicts the core's entry of the least object, or marks a core without entries for the epoch.
+fn flush_core<R: Wait, A: Allocator + Clone>(
+    rt: &R,
+    core: &Mutex<CoreState<A>>,
+    frames: &[Mutex<FrameState<A>>],
+    epochs: &Mutex<Epochs>,
+    seat: &mut Seat<A>,
+) -> bool
+    requires { CanNote seat.old }
+    ensures { NotesIf seat.old (EventOf.Flush seat.old.core) result seat.new }
+{
+    let mut core = core.lock(rt);
+    match core.counts.least() {
+        Some(object) => flush_entry(rt, &mut core, object, frames, epochs, seat),
+        None => mark(rt, epochs, seat),
+    }
+}
+
+// Evicts the core's entry of an object. False where it can't be, which never comes.
+fn flush_entry<R: Wait, A: Allocator + Clone>(
+    rt: &R,
+    core: &mut CoreState<A>,
+    object: u32,
+    frames: &[Mutex<FrameState<A>>],
+    epochs: &Mutex<Epochs>,
+    seat: &mut Seat<A>,
+) -> bool
+    requires { CanNote seat.old }
+    ensures { NotesIf seat.old (EventOf.Flush seat.old.core) result seat.new }
+{
+    let Some(frame) = frames.get(object as usize) else {
+        return false;
+    };
+    let mut frame = frame.lock(rt);
+    let epochs = epochs.lock(rt);
+    if !core.counts.can_evict(&frame.count, object) {
+        return false;
+    }
+    let _ticket = seat.note(Event::Flush(seat.core()), Outcome::Stepped);
+    core.counts.evict(&mut frame.count, object, epochs.number());
+    true
+}
+
+// Marks a core without entries for the epoch.
+fn mark<R: Wait, A: Allocator>(rt: &R, epochs: &Mutex<Epochs>, seat: &mut Seat<A>) -> bool
+    requires { CanNote seat.old }
+    ensures { NotesIf seat.old (EventOf.Flush seat.old.core) result seat.new }
+{
+    let mut epochs = epochs.lock(rt);
+    if epochs.mark(seat.core()) == Flush::Idle {
+        return false;
+    }
+    let _ticket = seat.note(Event::Flush(seat.core()), Outcome::Stepped);
+    true
+}
+
+// Reviews the front of the core's queue. False where there is none, or where it isn't due.
+fn review_core<R: Wait, A: Allocator + Clone>(
+    rt: &R,
+    core: &Mutex<CoreState<A>>,
+    frames: &[Mutex<FrameState<A>>],
+    epochs: &Mutex<Epochs>,
+    seat: &mut Seat<A>,
+) -> bool
+    requires { CanNote seat.old }
+    ensures { NotesIf seat.old (EventOf.Review seat.old.core) result seat.new }
+{
+    let mut core = core.lock(rt);
+    let Some(front) = core.counts.front() else {
+        return false;
+    };
+    let Some(frame) = frames.get(front.object as usize) else {
+        return false;
+    };
+    let mut frame = frame.lock(rt);
+    let epochs = epochs.lock(rt);
+    match core.counts.review(&mut frame.count, epochs.number()) {
+        Review::Idle => return false,
+        Review::Freed(_) => frame.cell.give(),
+        Review::Dropped(_) | Review::Requeued(_) => {}
+    }
+    let _ticket = seat.note(Event::Review(seat.core()), Outcome::Stepped);
+    true
+}
