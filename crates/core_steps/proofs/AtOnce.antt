@@ -78,3 +78,15 @@ not_begun (Wait b) w m c request n s = (Wait b, m, s, (refl, refl))
 not_begun Idle w m c request n s = (Idle, m, s, (refl, refl))
 not_begun (Answered reply) w m c request n s = (Answered reply, m, s, (refl, refl))
 not_begun Full w m c request n s = (Full, m, s, (refl, refl))
+
+-- ---- and one of which some steps were made at once
+
+pub begun_on : (r : Result Finished NoMemory) (w m x v : World) (c n : ℕ) (request : Request) → Step w (Call c request) Stepped m → StepsTo m c n x
+    → IfOk r (λ f. (was : World) → StepsTo was c n x → Finishes was c f v) → IfOk r (λ f. Calls w c request f v)
+begun_on (Ok f) w m x v c n request s steps h = (Stepped, m, s, h m steps)
+begun_on (Err e) w m x v c n request s steps h = tt
+
+pub begun_refused : (keeps : Bool) (r : Result Finished NoMemory) (w m x v : World) (c n : ℕ) (request : Request) → Step w (Call c request) Stepped m
+    → StepsTo m c n x → OnErr r ((was : World) → StepsTo was c n x → IsRefused keeps was c v) → OnErr r (IsCallRefused keeps w c request v)
+begun_refused keeps (Ok f) w m x v c n request s steps h = tt
+begun_refused keeps (Err e) w m x v c n request s steps h = (m, s, h m steps)

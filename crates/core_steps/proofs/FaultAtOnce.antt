@@ -460,6 +460,7 @@ module _ (w : World) (c : ℕ) (touch : Touch) (fault : IsFault (at_lock c touch
     cores = ap (λ (x : World). x.made.cores) now;
     phases = ap (λ (x : World). x.calls.phase) now;
     events = ap (λ (x : World). x.calls.events) now ∙ omega arith;
+    edges = ap (λ (x : World). x.slots.edge) now;
   }
 
   module _ (info : PageInfo) (e : w.slots.info touch.page ≡ Some info) (source : Source)
@@ -492,10 +493,14 @@ module _ (w : World) (c : ℕ) (touch : Touch) (fault : IsFault (at_lock c touch
       pub left_events : v.calls.events ≡ w.calls.events
       left_events = ap (λ (x : World). x.calls.events) taken.2 ∙ ap (λ (x : World). x.calls.events) now
 
+      left_edges : v.slots.edge ≡ w.slots.edge
+      left_edges = ap (λ (x : World). x.slots.edge) taken.2 ∙ ap (λ (x : World). x.slots.edge) now
+
       pub ends : (r : Option Reply) (x : World) (end : FaultEnd) → end ≡ fault_end (n + 1) r
           → Step (trying c touch n v) (Go c) Stepped (to c (tried_to touch r) x)
-          → x.made.cores ≡ v.made.cores → x.calls.phase ≡ v.calls.phase → x.calls.events ≡ v.calls.events + (n + 1) → Makes w c touch end x
-      ends r x end same_end step cores phases events = subst (λ z. Makes w c touch z x) (sym same_end) (go r step)
+          → x.made.cores ≡ v.made.cores → x.calls.phase ≡ v.calls.phase → x.calls.events ≡ v.calls.events + (n + 1)
+          → x.slots.edge ≡ v.slots.edge → Makes w c touch end x
+      ends r x end same_end step cores phases events edges = subst (λ z. Makes w c touch z x) (sym same_end) (go r step)
         where
           to_end : (phase : Phase) → Step (trying c touch n v) (Go c) Stepped (to c phase x) → MakesTo w c touch (n + 1) phase x
           to_end phase s = record {
@@ -504,6 +509,7 @@ module _ (w : World) (c : ℕ) (touch : Touch) (fault : IsFault (at_lock c touch
             cores = cores ∙ left_cores;
             phases = phases ∙ left_phases;
             events = events ∙ ap (λ k. k + (n + 1)) left_events;
+            edges = edges ∙ left_edges;
           }
 
           go : (r : Option Reply) → Step (trying c touch n v) (Go c) Stepped (to c (tried_to touch r) x) → Makes w c touch (fault_end (n + 1) r) x

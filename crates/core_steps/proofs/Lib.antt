@@ -19,4 +19,5 @@ pub mod AccessAtOnce
 pub mod ChangeAtOnce
 pub mod OnePage
 pub mod FaultAtOnce
+pub mod Divided
 pub mod Keeping

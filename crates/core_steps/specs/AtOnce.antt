@@ -1,5 +1,6 @@
 -- What is done of a call at once: its event, and those of its first steps
-use Rattle.std.specs.Prelude.{◌≡◌, ℕ, suc, ◌<◌, ◌+◌, ◌++◌, ◌∷◌, [], length, Ok}
+use Rattle.std.specs.Prelude.{◌≡◌, ℕ, suc, ◌<◌, ◌+◌, ◌++◌, ◌∷◌, [], length, Ok, Bool}
+use Rattle.vm_base.specs.declared.page.PageRange.{PageRange}
 use Rattle.vm_base.specs.declared.requests.Request.{Request}
 use Rattle.vm_base.specs.Functions.{put}
 use Rattle.slot_lock.specs.declared.plan.Plan.TheVariants as PlanOf
@@ -13,7 +14,8 @@ use Rattle.machine_model.specs.World.{World}
 use Rattle.machine_model.specs.Changes.{checked_by}
 use Rattle.machine_model.specs.Step.{Step, StepsTo, event_limit}
 use Rattle.machine_sound.specs.Sound.{IsReached}
-use Rattle.core_steps.specs.Finishing.{Calls, finish_limit}
+use Rattle.core_steps.specs.Dividing.{StepsAsMap}
+use Rattle.core_steps.specs.Finishing.{Calls, CallsAsMap, finish_limit}
 use Rattle.core_steps.specs.declared.machine.Finished.TheVariants.{Last}
 use Rattle.core_steps.specs.declared.starting.Started.{Started}
 use Rattle.core_steps.specs.declared.starting.Started.TheVariants.{Untouched, Begun, Ended}
@@ -37,6 +39,13 @@ Starts w core request Untouched v = v ≡ w
 Starts w core request (Begun steps) v = (steps < finish_limit)
     × ((m : World) × Step w (Call core request) Stepped m × StepsTo m core steps v)
 Starts w core request (Ended o) v = Calls w core request (Last o) v
+
+-- and its steps divide slots as the map does
+abbrev pub StartsAsMap : (PageRange → ℕ → ℕ → Bool) → World → ℕ → Request → Started → World → Type 0
+StartsAsMap parts w core request Untouched v = v ≡ w
+StartsAsMap parts w core request (Begun steps) v =
+    (m : World) × Step w (Call core request) Stepped m × StepsAsMap parts m core steps v
+StartsAsMap parts w core request (Ended o) v = CallsAsMap parts w core request (Ok (Last o)) v
 
 -- ---- an access
 

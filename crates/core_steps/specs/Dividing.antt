@@ -1,5 +1,5 @@
 -- How a step of a call divides slots, by what the slot map says of the parts
-use Rattle.std.specs.Prelude.{◌≡◌, ℕ, ◌⊎◌, Bool}
+use Rattle.std.specs.Prelude.{◌≡◌, ℕ, zero, suc, ◌⊎◌, Bool}
 use Rattle.vm_base.specs.declared.page.PageRange.{PageRange}
 use Rattle.slot_lock.specs.Plan.{goal_range}
 use Rattle.slot_lock.specs.Slots.{Slots, Crosses, DividesAs, IsCrossed, IsCut, Locks, between}
@@ -10,6 +10,7 @@ use Rattle.machine_model.specs.declared.event.Outcome.{Outcome}
 use Rattle.machine_model.specs.declared.event.Outcome.TheVariants.{Stepped}
 use Rattle.machine_model.specs.declared.phase.Phase.{Phase}
 use Rattle.machine_model.specs.declared.phase.Phase.TheVariants.{Lock, Cut}
+use Rattle.machine_model.specs.Step.{Step}
 use Rattle.machine_model.specs.World.{World}
 
 -- the cursor's slot was divided where it crosses an edge of the pages from there on, or else it was
@@ -36,3 +37,9 @@ abbrev pub DividesAsMap : (PageRange → ℕ → ℕ → Bool) → World → Eve
 DividesAsMap parts w (Go core) o v =
     GoesAsMap parts w.slots core (w.calls.phase core) o v.slots
 DividesAsMap parts w _ o v = Unit {0}
+
+-- n plain steps of the core's call lead from w to v, each of which divides slots as the map does
+abbrev pub StepsAsMap : (PageRange → ℕ → ℕ → Bool) → World → ℕ → ℕ → World → Type 0
+StepsAsMap parts w core zero v = v ≡ w
+StepsAsMap parts w core (suc n) v = (m : World) × StepsAsMap parts w core n m
+    × Step m (Go core) Stepped v × DividesAsMap parts m (Go core) Stepped v

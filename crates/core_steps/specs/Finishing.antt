@@ -1,5 +1,7 @@
 -- What finishing a call comes to: steps of a core, one after another, until one is not Stepped
-use Rattle.std.specs.Prelude.{◌≡◌, ◌≢◌, ℕ, ◌<◌, ◌^◌, Bool}
+use Rattle.std.specs.Prelude.{◌≡◌, ◌≢◌, ℕ, ◌<◌, ◌^◌, ◌⊎◌, Bool, Result, Ok, Err}
+use Rattle.vm_base.specs.declared.memory.NoMemory.{NoMemory}
+use Rattle.vm_base.specs.declared.page.PageRange.{PageRange}
 use Rattle.vm_base.specs.declared.requests.Request.{Request}
 use Rattle.core_steps.specs.declared.machine.Finished.{Finished}
 use Rattle.core_steps.specs.declared.machine.Finished.TheVariants.{Last, Stuck}
@@ -9,6 +11,7 @@ use Rattle.machine_model.specs.declared.event.Outcome.TheVariants.{Stepped}
 use Rattle.machine_model.specs.World.{World}
 use Rattle.machine_model.specs.Step.{Step, StepsTo}
 use Rattle.core_steps.specs.Moving.{MayWant}
+use Rattle.core_steps.specs.Dividing.{DividesAsMap, StepsAsMap}
 
 -- so many steps at the most
 abbrev pub finish_limit : ℕ
@@ -46,3 +49,21 @@ Calls w core request finished v =
 abbrev pub IsCallRefused : Bool → World → ℕ → Request → World → Type 0
 IsCallRefused keeps w core request v =
     (m : World) × Step w (Call core request) Stepped m × IsRefused keeps m core v
+
+-- ---- how slots are divided by the way
+
+-- each step of the core's call that was made divides slots as the map does, and so does the last
+abbrev pub FinishesAsMap : (PageRange → ℕ → ℕ → Bool) → World → ℕ → Result Finished NoMemory → World
+    → Type 0
+FinishesAsMap parts w core (Ok (Last outcome)) v =
+    (n : ℕ) × ((m : World) × StepsAsMap parts w core n m × Step m (Go core) outcome v
+    × DividesAsMap parts m (Go core) outcome v)
+FinishesAsMap parts w core (Ok Stuck) v = (n : ℕ) × StepsAsMap parts w core n v
+FinishesAsMap parts w core (Err refused) v = (n : ℕ) × StepsAsMap parts w core n v
+
+-- likewise those of a call that began; one that didn't divides none
+abbrev pub CallsAsMap : (PageRange → ℕ → ℕ → Bool) → World → ℕ → Request → Result Finished NoMemory
+    → World → Type 0
+CallsAsMap parts w core request r v =
+    ((o : Outcome) × (o ≢ Stepped) × Step w (Call core request) o v × (r ≡ Ok (Last o)))
+    ⊎ ((m : World) × Step w (Call core request) Stepped m × FinishesAsMap parts m core r v)

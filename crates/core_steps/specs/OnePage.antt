@@ -141,6 +141,7 @@ pub record MakesTo (w : World) (core : ℕ) (touch : Touch) (n : ℕ) (phase : P
   pub cores : v.made.cores ≡ w.made.cores
   pub phases : v.calls.phase ≡ w.calls.phase
   pub events : v.calls.events ≡ w.calls.events + n
+  pub edges : v.slots.edge ≡ w.slots.edge
 
 -- where so many steps end by what the try of the page came to
 abbrev pub fault_end : ℕ → Option Reply → FaultEnd

@@ -68,8 +68,9 @@ impl<M: SlotMap, H: Hardware, A: Allocator, L: Ledger> Engine<M, H, A, L> {
     /// fault leads to the lock of its page, and on from there as far as `make_fault` goes.
     pub fn access_at_once(&mut self, core: CoreId, request: Request, touch: Touch) -> Started
         requires { IsAccess (world M.slots self.old) core request touch }
-        ensures { Starts (world M.slots self.old) core request result (world M.slots self.new)
+        ensures starts { Starts (world M.slots self.old) core request result (world M.slots self.new)
             × ∥ IsReached (world M.slots self.new) ∥₁ }
+        ensures edges { (M.slots self.new.map).edge ≡ (M.slots self.old.map).edge }
     {
         self.number_call(core, request);
         self.calls.events += 3;

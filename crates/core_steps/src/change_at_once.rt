@@ -32,7 +32,8 @@ impl<M: SlotMap, H: Hardware, A: Allocator, L: Ledger> Engine<M, H, A, L> {
     fn refuse_at_once(&mut self, core: CoreId, errno: Errno)
         requires { (change : Change) × (page : FreePage)
             × IsPageChange (world M.slots self.old) core change page (DecisionOf.Refuse errno) }
-        ensures { StepsTo (world M.slots self.old) core 3 (world M.slots self.new) }
+        ensures steps { StepsTo (world M.slots self.old) core 3 (world M.slots self.new) }
+        ensures edges { (M.slots self.new.map).edge ≡ (M.slots self.old.map).edge }
     {
         self.reply_at_once(core, Reply::Refused(errno), 2);
     }
@@ -43,7 +44,8 @@ impl<M: SlotMap, H: Hardware, A: Allocator, L: Ledger> Engine<M, H, A, L> {
         requires change { IsPageChange (world M.slots self.old) core change page
             (DecisionOf.Act (range_of change) shoot) }
         requires alone { IsAlone shoot core }
-        ensures { StepsTo (world M.slots self.old) core 5 (world M.slots self.new) }
+        ensures steps { StepsTo (world M.slots self.old) core 5 (world M.slots self.new) }
+        ensures edges { (M.slots self.new.map).edge ≡ (M.slots self.old.map).edge }
     {
         self.cores.shoot_alone(core, shoot, change.range());
         count_page(&mut self.counts, core, change, page.info);
@@ -59,6 +61,7 @@ impl<M: SlotMap, H: Hardware, A: Allocator, L: Ledger> Engine<M, H, A, L> {
         requires room { self.old.calls.events + most ≤ event_limit }
         ensures few { result ≤ most }
         ensures steps { StepsTo (world M.slots self.old) core result (world M.slots self.new) }
+        ensures edges { (M.slots self.new.map).edge ≡ (M.slots self.old.map).edge }
     {
         let range = change.range();
         if range.end - range.first != 1 || most < MADE {

@@ -138,9 +138,11 @@ impl<M: SlotMap, H: Hardware, A: Allocator, L: Ledger> Engine<M, H, A, L> {
     /// nothing.
     pub fn go_next(&mut self, core: CoreId) -> Result<Outcome, NoMemory>
         requires { IsReady (world M.slots self.old) core }
-        ensures { Tries (Step (world M.slots self.old) (Event.Go core))
+        ensures step { Tries (Step (world M.slots self.old) (Event.Go core))
             (MayWant L.keeps (world M.slots self.old) (Event.Go core))
             (world M.slots self.old) result (world M.slots self.new) }
+        ensures divides { IfOk result
+            (λ outcome. DividesAsMap M.parts (world M.slots self.old) (Event.Go core) outcome (world M.slots self.new)) }
     {
         self.calls.events += 1;
         match self.go(core) {

@@ -175,6 +175,7 @@ impl<M: SlotMap, H: Hardware, A: Allocator, L: Ledger> Engine<M, H, A, L> {
             (to core (tried_to touch result) (world M.slots self.new)) }
         ensures phases { (world M.slots self.new).calls.phase ≡ (world M.slots self.old).calls.phase }
         ensures events { self.new.calls.events ≡ self.old.calls.events + (steps + 1) }
+        ensures edges { (M.slots self.new.map).edge ≡ (M.slots self.old.map).edge }
         ensures cores { length self.new.calls.phases.items ≡ length self.old.calls.phases.items }
     {
         self.calls.events += steps + 1;
@@ -243,6 +244,7 @@ impl<M: SlotMap, H: Hardware, A: Allocator, L: Ledger> Engine<M, H, A, L> {
         requires room { self.old.calls.events + most ≤ event_limit }
         ensures few { result ≤ most }
         ensures steps { StepsTo (world M.slots self.old) core result (world M.slots self.new) }
+        ensures edges { (M.slots self.new.map).edge ≡ (M.slots self.old.map).edge }
     {
         if most < MOST_STEPS {
             return 0;

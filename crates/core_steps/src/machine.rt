@@ -75,8 +75,8 @@ impl<M: SlotMap, A: Allocator + Clone, L: Ledger> Machine<M, A, L> {
     ghost use Rattle.machine_sound.specs.Sound.{IsSoundStep};
     ghost use Rattle.core_steps.specs.Changing.{may_change};
     ghost use Rattle.core_steps.specs.Moving.{JoinsAsMap, MayWant, Tries};
-    ghost use Rattle.core_steps.specs.Dividing.{DividesAsMap};
-    ghost use Rattle.core_steps.specs.Finishing.{Calls, Finishes, finish_limit};
+    ghost use Rattle.core_steps.specs.Dividing.{DividesAsMap, StepsAsMap};
+    ghost use Rattle.core_steps.specs.Finishing.{Calls, CallsAsMap, Finishes, FinishesAsMap, finish_limit};
     ghost use Rattle.core_steps.specs.Finishing.{IsCallRefused, IsRefused};
     ghost use Rattle.core_steps.specs.Machine.{state, IsLegal};
     ghost use Rattle.core_steps.specs.MapLines.{HasNoMap, IsLineStart, IsNextMap, ListsMaps};
@@ -109,6 +109,8 @@ impl<M: SlotMap, A: Allocator + Clone, L: Ledger> Machine<M, A, L> {
         ensures step { Tries (Step (state self.old) (Event.Go core))
             (MayWant L.keeps (state self.old) (Event.Go core))
             (state self.old) result (state self.new) }
+        ensures divides { IfOk result
+            (λ outcome. DividesAsMap M.parts (state self.old) (Event.Go core) outcome (state self.new)) }
         ensures legal { IsLegal (state self.new) }
     {
         if self.engine.calls.events == u64::MAX || !self.engine.is_here(Some(core)) {
@@ -125,6 +127,8 @@ impl<M: SlotMap, A: Allocator + Clone, L: Ledger> Machine<M, A, L> {
             → Finishes was core finished (state self.new)) }
         ensures err { OnErr result ((was : World) → StepsTo was core steps (state self.old)
             → IsRefused L.keeps was core (state self.new)) }
+        ensures divides { (was : World) → StepsAsMap M.parts was core steps (state self.old)
+            → FinishesAsMap M.parts was core result (state self.new) }
         ensures legal { IsLegal (state self.new) }
     {
         let mut n = steps;
@@ -143,10 +147,11 @@ impl<M: SlotMap, A: Allocator + Clone, L: Ledger> Machine<M, A, L> {
     }
 
     /// Steps of the core's call until one isn't Stepped, at most 2^40. After a refusal for memory the
-    /// steps before it stand.
+    /// steps before it stand. Slots are divided as by `step`.
     pub fn finish(&mut self, core: CoreId) -> Result<Finished, NoMemory>
         ensures ends { IfOk result (λ finished. Finishes (state self.old) core finished (state self.new)) }
         ensures err { OnErr result (IsRefused L.keeps (state self.old) core (state self.new)) }
+        ensures divides { FinishesAsMap M.parts (state self.old) core result (state self.new) }
         ensures legal { IsLegal (state self.new) }
     {
         self.go_on(core, 0)
@@ -154,10 +159,11 @@ impl<M: SlotMap, A: Allocator + Clone, L: Ledger> Machine<M, A, L> {
 
     /// A call, and if it begins its steps until one isn't Stepped, at most 2^40: what `step` with the
     /// call's event does, and then `finish`. A call that doesn't begin has told why: Idle or Full.
-    /// After a refusal for memory the steps before it stand.
+    /// After a refusal for memory the steps before it stand. Slots are divided as by `step`.
     pub fn call(&mut self, core: CoreId, request: Request) -> Result<Finished, NoMemory>
         ensures ends { IfOk result (λ finished. Calls (state self.old) core request finished (state self.new)) }
         ensures err { OnErr result (IsCallRefused L.keeps (state self.old) core request (state self.new)) }
+        ensures divides { CallsAsMap M.parts (state self.old) core request result (state self.new) }
         ensures legal { IsLegal (state self.new) }
     {
         match self.engine.start(core, request) {

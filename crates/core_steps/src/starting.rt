@@ -5,7 +5,7 @@ ghost use Rattle.machine_model.specs.declared.event.Event.{Event};
 ghost use Rattle.machine_model.specs.declared.event.Outcome.{Outcome};
 ghost use Rattle.machine_model.specs.declared.phase.Phase.{Phase};
 ghost use Rattle.machine_sound.specs.Sound.{IsReached};
-ghost use Rattle.core_steps.specs.AtOnce.{CanBegin, IsReady, Starts, TakesOne};
+ghost use Rattle.core_steps.specs.AtOnce.{CanBegin, IsReady, Starts, StartsAsMap, TakesOne};
 ghost use Rattle.core_steps.specs.State.{phase_of, world};
 
 use crate::access_at_once::access_of;
@@ -61,10 +61,11 @@ impl<M: SlotMap, H: Hardware, A: Allocator, L: Ledger> Engine<M, H, A, L> {
 
     /// The events of a call and of its first steps: it begins, and its arguments are checked. Those of
     /// an access are made at once: it tries its page too, and where the page's translation is at hand
-    /// the reply is handed out.
+    /// the reply is handed out. Steps divide slots as the map does.
     pub fn start(&mut self, core: CoreId, request: Request) -> Started
         requires { ∥ IsReached (world M.slots self.old) ∥₁ }
         ensures starts { Starts (world M.slots self.old) core request result (world M.slots self.new) }
+        ensures divides { StartsAsMap M.parts (world M.slots self.old) core request result (world M.slots self.new) }
         ensures reached { ∥ IsReached (world M.slots self.new) ∥₁ }
     {
         if self.calls.events >= u64::MAX - 11 || !self.is_here(Some(core)) {

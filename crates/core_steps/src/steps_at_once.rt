@@ -25,6 +25,7 @@ impl<M: SlotMap, H: Hardware, A: Allocator, L: Ledger> Engine<M, H, A, L> {
         requires room { self.old.calls.events + most ≤ event_limit }
         ensures few { result ≤ most }
         ensures steps { StepsTo (world M.slots self.old) core result (world M.slots self.new) }
+        ensures edges { (M.slots self.new.map).edge ≡ (M.slots self.old.map).edge }
     {
         let end = goal.range().end;
         if end - cursor == 1 {
@@ -48,6 +49,7 @@ impl<M: SlotMap, H: Hardware, A: Allocator, L: Ledger> Engine<M, H, A, L> {
         requires room { self.old.calls.events + most ≤ event_limit }
         ensures few { result ≤ most }
         ensures steps { StepsTo (world M.slots self.old) core result (world M.slots self.new) }
+        ensures edges { (M.slots self.new.map).edge ≡ (M.slots self.old.map).edge }
     {
         if held.end - held.first == 1 {
             return 0;
@@ -70,6 +72,7 @@ impl<M: SlotMap, H: Hardware, A: Allocator, L: Ledger> Engine<M, H, A, L> {
         requires room { self.old.calls.events + most ≤ event_limit }
         ensures few { result ≤ most }
         ensures steps { StepsTo (world M.slots self.old) core result (world M.slots self.new) }
+        ensures edges { (M.slots self.new.map).edge ≡ (M.slots self.old.map).edge }
     {
         match goal {
             Goal::Access(touch) => self.fault_at_once(core, touch, most),
@@ -80,11 +83,12 @@ impl<M: SlotMap, H: Hardware, A: Allocator, L: Ledger> Engine<M, H, A, L> {
     /// The events of the next steps of the core's call that can be made at once, at most so many: those
     /// that lock or unlock slots which the map finds side by side, and those of a fault, or of a change
     /// of one page, at a page that nobody holds. It answers how many they were: none where the call does
-    /// something else next, or can't go on.
+    /// something else next, or can't go on. No slot is divided by them.
     pub fn steps_at_once(&mut self, core: CoreId, most: u64) -> u64
         requires { ∥ IsReached (world M.slots self.old) ∥₁ }
         ensures few { result ≤ most }
         ensures steps { StepsTo (world M.slots self.old) core result (world M.slots self.new) }
+        ensures edges { (M.slots self.new.map).edge ≡ (M.slots self.old.map).edge }
         ensures reached { ∥ IsReached (world M.slots self.new) ∥₁ }
     {
         if !self.is_here(Some(core)) {

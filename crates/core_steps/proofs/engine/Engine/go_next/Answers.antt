@@ -7,5 +7,5 @@ use Rattle.core_steps.proofs.engine.Engine.go_next.Goals as goal
 pub go-requires-clause-fine : goal.go-requires-clause-fine
 go-requires-clause-fine g c = fine _ c.requires.reached
 
-pub returns-in-Ok : goal.returns-in-Ok
-returns-in-Ok g c = (takes_one _ _ c.args.core (Go c.args.core) _ c.requires refl c.in-Ok.ensures.row).step
+pub returns-in-Ok-clause-step : goal.returns-in-Ok-clause-step
+returns-in-Ok-clause-step g c = (takes_one _ _ c.args.core (Go c.args.core) _ c.requires refl c.in-Ok.ensures.row).step

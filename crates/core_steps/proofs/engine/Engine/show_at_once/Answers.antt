@@ -22,3 +22,4 @@ returns g c =
     (world g.M.SlotRead.slots c.show_page.new.self) (world g.M.SlotRead.slots c.take_from.new.self) c.frame-frame.result c.steps-before.result
     c.frame-frame.ensures c.steps-before.ensures c.if-not-show_page.ensures c.take_from.ensures c.try_page-tried.result _ _ c.fault_end.ensures
     c.try_page-tried.ensures.step c.try_page-tried.ensures.cores c.try_page-tried.ensures.phases c.try_page-tried.ensures.events
+    c.try_page-tried.ensures.edges
