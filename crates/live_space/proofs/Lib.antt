@@ -1,2 +1,3 @@
 pub mod Folding
 pub mod Fresh
+pub mod Places

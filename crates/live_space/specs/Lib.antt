@@ -1,3 +1,4 @@
 pub mod Calls
 pub mod Counting
+pub mod Placing
 pub mod Space

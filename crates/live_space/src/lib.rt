@@ -6,8 +6,11 @@ pub mod closing;
 pub mod counting;
 pub mod fault;
 pub mod gate;
+mod giving_up;
+mod locking;
 pub mod making;
 pub mod pieces;
+mod placing;
 pub mod space;
 #[cfg(test)]
 mod tests;

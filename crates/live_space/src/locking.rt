@@ -1,0 +1,87 @@
+//! The slots of a call: they are locked one after another from left to right, and let go so.
+ghost use Rattle.std.specs.Prelude.{◌≡◌, ◌+◌, ◌≤◌, [], length, IsTrue};
+ghost use Rattle.seats.specs.Growing.{Grew};
+
+use crate::space::Live;
+use live_levels::level::Stepper;
+use live_tree::held::{Got, Held};
+use live_tree::letting::Letting;
+use seats::Seat;
+use std::alloc::Allocator;
+use std::sync::Wait;
+use std::thread;
+
+impl<A: Allocator + Clone> Live<A> {
+    /// Locks the slots up to the end, each with room for so many changes, and waits for those that
+    /// other calls hold. False where the call is to be given up: memory, or room for its notes, is
+    /// wanting, or a slot was in a wrong place, which never comes. What is held stays held.
+    #[tactic(auto, using(seats::proofs::Growing::grew_trans, seats::proofs::Growing::grew_steps, seats::proofs::Growing::grew_room))]
+    pub(crate) fn lock_all<'a, R: Wait>(
+        &'a self,
+        rt: &R,
+        seat: &mut Seat<A>,
+        held: &mut Held<'a, A>,
+        end: u64,
+        changes: usize,
+    ) -> bool
+        requires room { 2 ≤ seat.old.room }
+        requires none { held.old.slots ≡ [] }
+        ensures grew { Grew seat.old seat.new }
+        ensures room { length held.new.slots + 2 ≤ seat.new.room }
+        ensures first { held.new.first ≡ held.old.first }
+        ensures end { IsTrue result → end ≤ held.new.end }
+    {
+        let core = seat.core();
+        'slots: for _turn in rt.forever() {
+            if held.end() >= end {
+                return true;
+            }
+            // for the step, to give up, to let the slot go, and to answer
+            if !seat.reserve(held.len() + 4) {
+                return false;
+            }
+            match held.lock_next(rt, &self.tree, seat, core, end, changes) {
+                Got::Locked | Got::Split => {}
+                Got::Owned(_) => thread::yield_now(),
+                Got::Unseen | Got::NoMemory | Got::Lost => return false,
+            }
+        }
+        unreachable!()
+    }
+}
+
+/// Makes room to let so many slots go, and for so many notes more; tells whether it could.
+#[tactic(auto, using(seats::proofs::Growing::grew_none, seats::proofs::Growing::grew_room))]
+pub(crate) fn reserve_steps<A: Allocator>(seat: &mut Seat<A>, slots: usize, more: usize) -> bool
+    ensures grew { Grew seat.old seat.new }
+    ensures room { IsTrue result → slots + more ≤ seat.new.room }
+    ensures kept { seat.old.room ≤ seat.new.room }
+{
+    match slots.checked_add(more) {
+        Some(count) => seat.reserve(count),
+        None => false,
+    }
+}
+
+/// Lets all slots go, each in a step of its own, from left to right.
+#[tactic(auto, using(seats::proofs::Growing::grew_trans, seats::proofs::Growing::grew_steps))]
+pub(crate) fn let_go<A: Allocator + Clone>(held: Held<'_, A>, seat: &mut Seat<A>)
+    requires room { length held.slots ≤ seat.old.room }
+    ensures grew { Grew seat.old seat.new }
+    ensures room { seat.old.room ≤ seat.new.room + length held.entry.slots }
+{
+    let mut letting = held.letting();
+    let_go_all(&mut letting, seat);
+}
+
+// Lets all slots go that are still locked.
+#[tactic(auto, using(seats::proofs::Growing::grew_trans, seats::proofs::Growing::grew_steps))]
+fn let_go_all<A: Allocator>(letting: &mut Letting<'_, A>, seat: &mut Seat<A>)
+    requires room { length letting.old.slots ≤ seat.old.room }
+    ensures grew { Grew seat.old seat.new }
+    ensures room { seat.old.room ≤ seat.new.room + length letting.old.slots }
+{
+    'slots: while letting.len() > 0 {
+        let _ticket = letting.unlock_first(seat);
+    }
+}
