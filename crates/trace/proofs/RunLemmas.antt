@@ -34,7 +34,7 @@ lines-last (x ∷ (y ∷ ys)) u p =
     let rest : lines_of (y ∷ ys) ≡ (y ∷ ys) ∷ [] = lines-last (y ∷ ys) (λ k lt. u (suc k) (omega arith)) (omega arith) in
     ap (λ b. cond b ([] ∷ lines_of (y ∷ ys)) (onto x (lines_of (y ∷ ys)))) letter ∙ ap (onto x) rest
 
-lines-first : (xs line ys : List ℕ) → IsUnbroken line → IsFirstLine xs line ys → lines_of xs ≡ line ∷ lines_of ys
+pub lines-first : (xs line ys : List ℕ) → IsUnbroken line → IsFirstLine xs line ys → lines_of xs ≡ line ∷ lines_of ys
 lines-first xs line ys u (inl e) = ap lines_of e ∙ lines-ended line ys u
 lines-first xs line ys u (inr h) = ap lines_of h.0 ∙ lines-last line u h.2 ∙ ap (λ l. line ∷ lines_of l) (sym h.1)
 
@@ -63,7 +63,7 @@ some_first x xs (l ∷ ls) u e =
     let letter : eqb x 10 ≡ false = ne_eqb x 10 u in
     record { line = x ∷ l; others = ls; lines = ap (λ b. cond b ([] ∷ lines_of xs) (onto x (lines_of xs))) letter ∙ ap (onto x) e; long = omega arith }
 
-long_first : (n : ℕ) (xs : List ℕ) → n < length xs → IsUnbroken (take (suc n) xs) → LongFirst n xs
+pub long_first : (n : ℕ) (xs : List ℕ) → n < length xs → IsUnbroken (take (suc n) xs) → LongFirst n xs
 long_first n [] p u = absurd (omega arith)
 long_first zero (x ∷ xs) p u = some_first x xs (lines_of xs) (u 0 (omega arith)) refl
 long_first (suc n) (x ∷ xs) p u = longer x xs n (u 0 (omega arith)) (long_first n xs (omega arith) (λ k lt. u (suc k) (omega arith)))
@@ -88,7 +88,7 @@ joins_more whole line done u j zs =
     ap lines_of (append_assoc whole (line ++ 10 ∷ []) zs ∙ ap (λ l. whole ++ l) (append_assoc line (10 ∷ []) zs))
     ∙ j (line ++ 10 ∷ zs) ∙ ap (λ ls. done ++ ls) (lines-ended line zs u) ∙ sym (append_assoc done (line ∷ []) (lines_of zs))
 
-taken_more : (input whole rest line ys : List ℕ) (done : List (List ℕ)) → IsTaken input whole rest done → IsUnbroken line → IsFirstLine rest line ys
+pub taken_more : (input whole rest line ys : List ℕ) (done : List (List ℕ)) → IsTaken input whole rest done → IsUnbroken line → IsFirstLine rest line ys
     → (more : List ℕ) × IsTaken input more ys (done ++ line ∷ [])
 taken_more input whole rest line ys done t u (inl e) = go t.joins
   where
@@ -153,7 +153,7 @@ run_none show input old now e s w = record {
 }
 
 -- the next line
-next_line : (input line rest ys : List ℕ) (done : List (List ℕ)) → lines_of input ≡ done ++ lines_of rest → IsUnbroken line
+pub next_line : (input line rest ys : List ℕ) (done : List (List ℕ)) → lines_of input ≡ done ++ lines_of rest → IsUnbroken line
     → IsFirstLine rest line ys → lines_of input ≡ done ++ line ∷ lines_of ys
 next_line input line rest ys done e u f = e ∙ ap (λ l. done ++ l) (lines-first rest line ys u f)
 
@@ -181,7 +181,7 @@ front_of : (show : Show) (input : List ℕ) (old : Option (List ℕ)) (now : Sce
 front_of show input old now number h = record { done = h.done; more = lines_of h.rest; stage = now.stage; text = h.text; lines = h.lines; runs = h.runs }
 
 -- what is held and what is unread is what is left
-known_read : (input whole rest held : List ℕ) (done : List (List ℕ)) (left unread : List ℕ) → IsTaken input whole rest done
+pub known_read : (input whole rest held : List ℕ) (done : List (List ℕ)) (left unread : List ℕ) → IsTaken input whole rest done
     → left ≡ rest → length held ≤ 65536 → left ≡ held ++ unread → (r : AreRead input unread done) × (r.held ≡ held)
 known_read input whole rest held done left unread t e few l =
     let parts : rest ≡ held ++ unread = sym e ∙ l in (

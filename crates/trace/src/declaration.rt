@@ -131,6 +131,13 @@ impl Declaration {
         }
     }
 
+    /// How many cores are asked for.
+    pub fn cores(&self) -> u64
+        ensures { result ≡ self.now.cores }
+    {
+        self.cores
+    }
+
     /// Takes in a file that has the next number, and tells whether it has. No file has
     /// the number 2^64 - 1.
     pub fn add(&mut self, number: u64, file: FileLine) -> bool

@@ -14,8 +14,8 @@ use std::alloc::Allocator;
 use trace_text::{Action, Line, LineText};
 use vm_base::{CoreId, NoMemory, Request};
 
-// The event that the core's action is.
-fn event_of(core: CoreId, action: Action) -> Event
+/// The event that the core's action is.
+pub fn event_of(core: CoreId, action: Action) -> Event
     ensures { result ≡ event_of core action }
 {
     match action {

@@ -47,7 +47,7 @@ stands [] k d c f e = absurd (cc)
 stands (x ∷ xs) k zero c f e = let same : x ≡ c = cc in ap digit_of (sym same) ∙ f.0 ∙ ap Some (omega arith)
 stands (x ∷ xs) k (suc d) c f e = stands xs (suc k) d c f.1 e ∙ ap Some (omega arith)
 
-digit_all : (base c d : ℕ) → IsDigit base c d → digit_of c ≡ Some d
+pub digit_all : (base c d : ℕ) → IsDigit base c d → digit_of c ≡ Some d
 unfolding Stand
 digit_all base c d (h, inl e) =
     stands (codes "0123456789abcdef") 0 d c
@@ -157,7 +157,7 @@ spelled_in base n word some e =
     (h, record { digits = is.digits; each = is.each; some = some; value = is.value })
 
 -- x is no decimal digit, so that 0x begins no decimal number
-no_x : (c d : ℕ) (cs ds : List ℕ) → AllZip (IsDigit 10) (c ∷ d ∷ cs) ds → (eqb c 48 && eqb d 120) ≡ false
+pub no_x : (c d : ℕ) (cs ds : List ℕ) → AllZip (IsDigit 10) (c ∷ d ∷ cs) ds → (eqb c 48 && eqb d 120) ≡ false
 no_x c d cs [] z = absurd z
 no_x c d cs (x ∷ []) z = absurd z.1
 no_x c d cs (x ∷ (y ∷ ys)) z =
@@ -222,7 +222,7 @@ some_digit : (f : ℕ → ℕ) (base n : ℕ) (ds : List ℕ) → 0 < n → numb
 some_digit f base n [] h e = absurd (omega arith)
 some_digit f base n (d ∷ ds) h e = omega arith
 
-decimal_spells : (n : ℕ) → 0 < n → n < 2 ^ 64 → SpellsIn 10 (decimal n) n
+pub decimal_spells : (n : ℕ) → 0 < n → n < 2 ^ 64 → SpellsIn 10 (decimal n) n
 decimal_spells n some h =
     let value : number_from_digits 10 (digits_of 10 n) ≡ n = number_digits_of 10 n (omega arith) in
     subst (λ w. SpellsIn 10 w n) (sym (decimal-digits_of n some h)) (record {
@@ -232,7 +232,7 @@ decimal_spells n some h =
       value = sym value;
     })
 
-hexadecimal_spells : (n : ℕ) → 0 < n → SpellsIn 16 (hexadecimal n) n
+pub hexadecimal_spells : (n : ℕ) → 0 < n → SpellsIn 16 (hexadecimal n) n
 hexadecimal_spells n some =
     let value : number_from_digits 16 (digits_of 16 n) ≡ n = number_digits_of 16 n (omega arith) in
     let test : eqb n 0 ≡ false = grind (arith, nat_tests) in

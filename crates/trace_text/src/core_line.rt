@@ -10,8 +10,8 @@ use crate::request::read_request;
 use crate::words::next_word;
 use vm_base::CoreId;
 
-// A core's number: 0 to 63 in decimal without a leading zero.
-fn read_core_number(digits: &[u8]) -> Option<CoreId>
+/// A core's number: 0 to 63 in decimal without a leading zero.
+pub fn read_core_number(digits: &[u8]) -> Option<CoreId>
     ensures { result ≡ core_number digits.now }
 {
     match digits {

@@ -17,6 +17,7 @@ pub mod words;
 pub use action::Action;
 pub use line::{
     Line, first_word_is_file, first_word_is_vm, is_printable, is_printable_line, read_line,
+    read_words,
 };
 pub use lists::{write_answer, write_detach, write_map_line};
 pub use printing::{LineText, ShortText, address_text, number_text, push_number, push_reply};

@@ -140,8 +140,9 @@ fn read_any(bytes: &[u8]) -> Option<Line>
     }
 }
 
-// Most lines are known by their first bytes, and their first word isn't looked for.
-fn read_words(bytes: &[u8]) -> Option<Line>
+/// What the words say, whether or not a `#` comes first; `None` where they say nothing that a line may.
+/// Most are known by their first bytes, and their first word isn't looked for.
+pub fn read_words(bytes: &[u8]) -> Option<Line>
     ensures { result ≡ line_of_words (words_of bytes.now) }
 {
     if let Some(begun) = front_now(bytes) {

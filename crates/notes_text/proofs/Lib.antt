@@ -1,0 +1,5 @@
+pub mod OutcomeLemmas
+pub mod SplitLemmas
+pub mod NoteLemmas
+pub mod CollectLemmas
+pub mod VerdictLemmas

@@ -1,0 +1,209 @@
+-- Notes and their grammar.
+use Rattle.std.proofs.Common.{◌≡◌, ◌≢◌, inl, inr, ℕ, suc, ◌^◌, ◌<◌, Bool, true, false, not, eqb, List, [], ◌∷◌, ◌++◌, Option, Some, None}
+use Rattle.std.proofs.Common.{codes, decimal, map, arith, refl, sym, ap, ◌∙◌, subst}
+use Rattle.std.specs.Prelude.{◌&&◌, IfSome, IfNone}
+use Rattle.std.specs.List.{list_all, AllZip}
+use Rattle.std.proofs.lemmas.Bool.Decides.{nat_tests}
+use Rattle.vm_base.specs.declared.replies.Errno.{Errno}
+use Rattle.vm_base.specs.declared.replies.Errno.TheVariants.{EINVAL, ENOMEM, EACCES, EBADF, EOVERFLOW}
+use Rattle.vm_base.specs.declared.replies.SegvCode.TheVariants.{MapErr, AccErr}
+use Rattle.vm_base.specs.declared.replies.Reply.{Reply}
+use Rattle.vm_base.specs.declared.replies.Reply.TheVariants.{Mapped, Done, Byte, Refused, Segv, Bus, NoFrame, NoMemory}
+use Rattle.machine_model.specs.declared.event.Event.{Event}
+use Rattle.machine_model.specs.declared.event.Blocker.TheVariants.{Slot, Acks}
+use Rattle.machine_model.specs.declared.event.Outcome.{Outcome}
+use Rattle.machine_model.specs.declared.event.Outcome.TheVariants.{Stepped, Wait, Idle, Answered, Full}
+use Rattle.seats.specs.declared.noted.Noted.{Noted}
+use Rattle.seats.specs.Notes.{noted}
+use Rattle.trace_text.specs.Words.{Word, words_of, begins_word}
+use Rattle.trace_text.specs.Number.{digit_of}
+use Rattle.trace_text.specs.Request.{◌>>=◌, front_number}
+use Rattle.trace_text.specs.Line.{line_of_words}
+use Rattle.trace_text.specs.Spelling.{IsDigit, SpellsNumber}
+use Rattle.trace_text.specs.declared.line.Line.{Line}
+use Rattle.trace_text.proofs.Choices.{bind_some}
+use Rattle.trace_text.proofs.LineLemmas.{said_is_read, read_is_said}
+use Rattle.trace_text.proofs.SpellingLemmas.{digit_all, number_only, reads_printed, front_all, front_only}
+use Rattle.notes_text.specs.Outcomes.{outcome_of}
+use Rattle.notes_text.specs.Grammar.{NamesReply, NamesOutcome, NamesEvent, NamesNote, Ascend, event_said}
+use Rattle.notes_text.specs.Laws.{ReadsAllOutcomes, ReadsOnlyOutcomes, NotesAreOne}
+use Rattle.notes_text.specs.Halves.{are_clear, AreHalves, event_named, note_of}
+use Rattle.notes_text.proofs.OutcomeLemmas.{outcome_all, outcome_only}
+use Rattle.notes_text.proofs.SplitLemmas.{words_join, SplitsAt, splits, bytes_clear, halves_one}
+
+-- ---- the words of an outcome have no sign
+
+digit_clear : (base c d : ℕ) → IsDigit base c d → not (eqb c 61) ≡ true
+digit_clear base c d h =
+    let digit : digit_of c ≡ Some d = digit_all base c d h in
+    let other : c ≢ 61 = (λ e. let bad : digit_of 61 ≡ Some d = ap digit_of (sym e) ∙ digit in cc) in
+    grind (arith, nat_tests, other)
+
+digits_clear : (base : ℕ) (w ds : List ℕ) → AllZip (IsDigit base) w ds → are_clear w ≡ true
+digits_clear base [] ds z = refl
+digits_clear base (c ∷ cs) [] z = absurd z
+digits_clear base (c ∷ cs) (d ∷ ds) z =
+    let one : not (eqb c 61) ≡ true = digit_clear base c d z.0 in
+    let more : are_clear cs ≡ true = digits_clear base cs ds z.1 in
+    rw (one, more) refl
+
+number_clear : (w : Word) (n : ℕ) → SpellsNumber w n → are_clear w ≡ true
+number_clear w n (h, inl s) = digits_clear 10 w s.digits s.each
+number_clear w n (h, inr (digits, e, s)) = ap are_clear e ∙ digits_clear 16 digits s.digits s.each
+
+pub spells_decimal : (n : ℕ) → n < 2 ^ 64 → SpellsNumber (decimal n) n
+spells_decimal n h = number_only (decimal n) n ((reads_printed n h).0)
+
+decimal_clear : (n : ℕ) → n < 64 → are_clear (decimal n) ≡ true
+decimal_clear n h = number_clear (decimal n) n (spells_decimal n (omega arith))
+
+cores_clear : (least : ℕ) (cores : List ℕ) → Ascend least cores → list_all are_clear (map decimal cores) ≡ true
+cores_clear least [] a = refl
+cores_clear least (c ∷ cs) (low, small, more) =
+    let one : are_clear (decimal c) ≡ true = decimal_clear c small in
+    let others : list_all are_clear (map decimal cs) ≡ true = cores_clear (suc c) cs more in
+    rw (one, others) refl
+
+reply_clear : (r : Reply) (words : List Word) → NamesReply r words → list_all are_clear words ≡ true
+reply_clear (Mapped a) words (digits, e, s, h) =
+    let one : are_clear digits ≡ true = digits_clear 16 digits s.digits s.each in rw (e, one) refl
+reply_clear Done words e = rw e refl
+reply_clear (Byte b) words (w, e, s, h) =
+    let one : are_clear w ≡ true = digits_clear 10 w s.digits s.each in rw (e, one) refl
+reply_clear (Refused EINVAL) words e = rw e refl
+reply_clear (Refused ENOMEM) words e = rw e refl
+reply_clear (Refused EACCES) words e = rw e refl
+reply_clear (Refused EBADF) words e = rw e refl
+reply_clear (Refused EOVERFLOW) words e = rw e refl
+reply_clear (Segv MapErr) words e = rw e refl
+reply_clear (Segv AccErr) words e = rw e refl
+reply_clear Bus words e = rw e refl
+reply_clear NoFrame words e = rw e refl
+reply_clear NoMemory words e = rw e refl
+
+outcome_clear : (o : Outcome) (words : List Word) → NamesOutcome o words → list_all are_clear words ≡ true
+outcome_clear Stepped words e = rw e refl
+outcome_clear (Wait (Slot core)) words (h, e) = let one : are_clear (decimal core) ≡ true = decimal_clear core h in rw (e, one) refl
+outcome_clear (Wait (Acks set)) words (first, others, e, a, s) =
+    ap (list_all are_clear) e ∙ cores_clear 0 (first ∷ others) a
+outcome_clear Idle words e = rw e refl
+outcome_clear (Answered r) words e = reply_clear r words e
+outcome_clear Full words e = rw e refl
+
+-- an outcome has words
+outcome_some : (o : Outcome) → NamesOutcome o [] → ⊥
+unfolding outcome_of
+outcome_some o h = let read : outcome_of [] ≡ Some o = outcome_all o [] h in absurd (cc)
+
+-- ---- events
+
+event_all : (e : Event) (words : List Word) → NamesEvent e words → event_named words ≡ Some e
+unfolding event_named
+event_all e words (line, said, asks) = ap (λ o. o >>= event_said) (said_is_read line words said) ∙ asks
+
+event_only : (e : Event) (words : List Word) → event_named words ≡ Some e → NamesEvent e words
+unfolding event_named
+event_only e words k =
+    let (line, read, asks) = bind_some (line_of_words words) event_said e k in
+    (line, read_is_said line words read, asks)
+
+-- ---- notes
+
+-- where a line that names a note is divided
+pub record Found (line : List ℕ) (note : Noted) : Type 0 where
+  pub front : List ℕ
+  pub behind : List ℕ
+  pub halves : AreHalves line front behind
+  pub reads : note_of (words_of front) (words_of behind) ≡ Some note
+
+behind_sign : (behind : List ℕ) → begins_word behind ≡ false → words_of behind ≢ [] → (rest : List ℕ) × (behind ≡ 32 ∷ rest) × (words_of behind ≡ words_of rest)
+behind_sign [] e some = absurd (some refl)
+behind_sign (x ∷ xs) e some =
+    let space : x ≡ 32 = flip (eqb x 32) refl e in
+    (xs, ap (λ c. c ∷ xs) space, ap (λ c. words_of (c ∷ xs)) space)
+  where
+    flip : (b : Bool) → eqb x 32 ≡ b → not b ≡ false → x ≡ 32
+    flip true e f = grind (arith, nat_tests, e)
+    flip false e f = absurd (cc)
+
+pub note_found : (line : List ℕ) (note : Noted) → NamesNote note (words_of line) → Found line note
+unfolding note_of
+note_found line note (ticket, event, outcome, e, spelled, named, came) =
+    let s = splits line (ticket ∷ event) outcome e (λ e. absurd (cc)) in
+    let (rest, is, same) = behind_sign s.behind s.edge (λ e. outcome_some note.outcome (subst (NamesOutcome note.outcome) (sym s.after ∙ e) came)) in
+    let after : words_of rest ≡ outcome = sym same ∙ s.after in
+    record {
+      front = s.front;
+      behind = rest;
+      halves = record {
+        is = s.is ∙ ap (λ l. s.front ++ 32 ∷ 61 ∷ l) is;
+        clear = bytes_clear rest (ap (list_all are_clear) after ∙ outcome_clear note.outcome outcome came);
+      };
+      reads = ap (λ l. note_of l (words_of rest)) s.before ∙ ap (λ l. note_of (ticket ∷ event) l) after
+          ∙ ap (λ o. o >>= λ t. event_named t.1 >>= λ e. outcome_of outcome >>= λ o. Some (noted t.0 e o)) (front_all ticket event note.ticket spelled)
+          ∙ ap (λ o. o >>= λ e. outcome_of outcome >>= λ o. Some (noted note.ticket e o)) (event_all note.event event named)
+          ∙ ap (λ o. o >>= λ o. Some (noted note.ticket note.event o)) (outcome_all note.outcome outcome came);
+    }
+
+pub note_only : (line front behind : List ℕ) (note : Noted) → AreHalves line front behind
+    → note_of (words_of front) (words_of behind) ≡ Some note → NamesNote note (words_of line)
+unfolding note_of
+note_only line front behind note h k =
+    let is : line ≡ front ++ 32 ∷ 61 ∷ 32 ∷ behind = h.is in
+    let words : words_of line ≡ words_of front ++ codes "=" ∷ words_of behind = ap words_of is ∙ words_join front (61 ∷ 32 ∷ behind) in
+    let (ticket, et, e1) = bind_some (front_number (words_of front)) _ note k in
+    let (event, ee, e2) = bind_some (event_named ticket.1) _ note e1 in
+    let (outcome, eo, e3) = bind_some (outcome_of (words_of behind)) (λ o. Some (noted ticket.0 event o)) note e2 in
+    let same : noted ticket.0 event outcome ≡ note = cc in
+    let (t, begins, spelled) = front_only (words_of front) ticket et in
+    subst (λ n. NamesNote n (words_of line)) same (
+      t,
+      ticket.1,
+      words_of behind,
+      words ∙ ap (λ l. l ++ codes "=" ∷ words_of behind) begins,
+      spelled,
+      event_only event ticket.1 ee,
+      outcome_only (words_of behind) outcome eo,
+    )
+
+-- a line divided so names no note
+pub not_found : (line front behind : List ℕ) (note : Noted) → AreHalves line front behind
+    → note_of (words_of front) (words_of behind) ≡ None → NamesNote note (words_of line) → ⊥
+not_found line front behind note h none names =
+    let f = note_found line note names in
+    let (p, q) = halves_one line f.front f.behind front behind f.halves h in
+    let clash : None ≡ Some note = sym none ∙ ap (λ l. note_of (words_of l) (words_of behind)) (sym p) ∙ ap (λ l. note_of (words_of f.front) (words_of l)) (sym q) ∙ f.reads in
+    absurd (cc)
+
+-- ---- the laws
+
+pub reads_all : ReadsAllOutcomes
+reads_all = outcome_all
+
+pub reads_only : ReadsOnlyOutcomes
+reads_only outcome words e = outcome_only words outcome e
+
+pub notes_one : NotesAreOne
+notes_one a b line p q =
+    let f = note_found line a p in
+    let g = note_found line b q in
+    let (front, behind) = halves_one line f.front f.behind g.front g.behind f.halves g.halves in
+    let same : Some a ≡ Some b = sym f.reads ∙ ap (λ l. note_of (words_of l) (words_of f.behind)) front
+    ∙ ap (λ l. note_of (words_of g.front) (words_of l)) behind ∙ g.reads in
+    cc
+
+-- ---- what the code reads
+
+pub if_none : {X : Type 0} (r : Option X) (P : Type 0) → P → IfNone r P
+if_none None P h = h
+if_none (Some x) P h = tt
+
+pub names_some : (r : Option Noted) (line front behind : List ℕ) → AreHalves line front behind → r ≡ note_of (words_of front) (words_of behind)
+    → IfSome r (λ note. NamesNote note (words_of line))
+names_some None line front behind h e = tt
+names_some (Some note) line front behind h e = note_only line front behind note h (sym e)
+
+pub names_none : (r : Option Noted) (line front behind : List ℕ) → AreHalves line front behind → r ≡ note_of (words_of front) (words_of behind)
+    → IfNone r ((note : Noted) → NamesNote note (words_of line) → ⊥)
+names_none None line front behind h e = λ note names. not_found line front behind note h (sym e) names
+names_none (Some note) line front behind h e = tt

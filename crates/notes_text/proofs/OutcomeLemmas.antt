@@ -1,0 +1,341 @@
+-- Outcomes and their grammar.
+use Rattle.std.proofs.Common.{◌≡◌, ◌⊎◌, inl, inr, ℕ, suc, ◌<◌, ◌≤◌, ◌^◌, Bool, true, false, cond, eqb, List, [], ◌∷◌, ◌++◌, Option, Some, None, is_some, length}
+use Rattle.std.proofs.Common.{codes, decimal, map, arith, refl, sym, ap, ◌∙◌, subst}
+use Rattle.std.proofs.lemmas.Bool.Decides.{nat_tests}
+use Rattle.std.specs.Prelude.{nat_lt, ◌&&◌, option_map}
+use Rattle.std.specs.Str.{bytes_eq}
+use Rattle.std.proofs.lemmas.Slice.Eq.{bytes_eq-Decides}
+use Rattle.vm_base.specs.Cores.{with_member}
+use Rattle.vm_base.specs.declared.replies.Errno.{Errno}
+use Rattle.vm_base.specs.declared.replies.Errno.TheVariants.{EINVAL, ENOMEM, EACCES, EBADF, EOVERFLOW}
+use Rattle.vm_base.specs.declared.replies.SegvCode.TheVariants.{MapErr, AccErr}
+use Rattle.vm_base.specs.declared.replies.Reply.{Reply}
+use Rattle.vm_base.specs.declared.replies.Reply.TheVariants.{Mapped, Done, Byte, Refused, Segv, Bus, NoFrame, NoMemory}
+use Rattle.machine_model.specs.declared.event.Blocker.TheVariants.{Slot, Acks}
+use Rattle.machine_model.specs.declared.event.Outcome.{Outcome}
+use Rattle.machine_model.specs.declared.event.Outcome.TheVariants.{Stepped, Wait, Idle, Answered, Full}
+use Rattle.trace_text.specs.Words.{Word, front_word}
+use Rattle.trace_text.specs.Number.{number_of}
+use Rattle.trace_text.specs.Request.{◌>>=◌, ended}
+use Rattle.trace_text.specs.Line.{core_number}
+use Rattle.trace_text.specs.Spelling.{SpellsIn, SpellsNumber}
+use Rattle.trace_text.proofs.Choices.{bind_some, ended_some, front_some, chosen}
+use Rattle.trace_text.proofs.CoreLemmas.{core_all, core_only}
+use Rattle.trace_text.proofs.SpellingLemmas.{number_all, number_only, no_x}
+use Rattle.notes_text.specs.Outcomes.{is_hexadecimal, value_of, single_of, alone, cores_from, acks_of, slot_of, wait_of, segv_of, named_of, valued, outcome_of}
+use Rattle.notes_text.specs.Grammar.{NamesReply, NamesOutcome, NamesAcks, Ascend, with_cores}
+
+-- ---- what is named is read
+
+is_core : (core : ℕ) → core < 64 → core_number (decimal core) ≡ Some core
+is_core core h = core_all (codes "c" ++ decimal core) core (h, refl)
+
+cores_all : (least set : ℕ) (cores : List ℕ) → Ascend least cores → cores_from least set (map decimal cores) ≡ Some (with_cores set cores)
+cores_all least set [] a = refl
+cores_all least set (c ∷ cs) (low, small, more) =
+    let k : core_number (decimal c) ≡ Some c = is_core c small in
+    let test : nat_lt c least ≡ false = grind (arith, nat_tests) in
+    rw (k, test) (cores_all (suc c) (with_member set c) cs more)
+
+-- decimal digits don't begin as an address does
+not_hexadecimal : (w : Word) (n : ℕ) → SpellsIn 10 w n → is_hexadecimal w ≡ false
+not_hexadecimal [] n s = refl
+not_hexadecimal (c ∷ []) n s = refl
+not_hexadecimal (c ∷ (d ∷ ds)) n s = no_x c d ds s.digits s.each
+
+decimal_value : (w : Word) (n : ℕ) → SpellsIn 10 w n → n ≤ 255 → value_of w ≡ Some (Byte n)
+unfolding value_of
+decimal_value w n s h =
+    let k : number_of w ≡ Some n = number_all w n (omega arith, inl s) in
+    let no : is_hexadecimal w ≡ false = not_hexadecimal w n s in
+    let test : nat_lt 255 n ≡ false = grind (arith, nat_tests) in
+    ap (λ o. o >>= λ m. cond (is_hexadecimal w) (Some (Mapped m)) (cond (nat_lt 255 m) None (Some (Byte m)))) k
+    ∙ ap (λ b. cond b (Some (Mapped n)) (cond (nat_lt 255 n) None (Some (Byte n)))) no
+    ∙ ap (λ b. cond b None (Some (Byte n))) test
+
+hexadecimal_value : (digits : Word) (n : ℕ) → SpellsIn 16 digits n → n < 2 ^ 64 → value_of (codes "0x" ++ digits) ≡ Some (Mapped n)
+unfolding value_of
+hexadecimal_value digits n s h =
+    let w = codes "0x" ++ digits in
+    let k : number_of w ≡ Some n = number_all w n (h, inr (digits, refl, s)) in
+    ap (λ o. o >>= λ m. Some (Mapped m)) k
+
+-- a word that is a value
+value_all : (w : Word) (reply : Reply) → value_of w ≡ Some reply → outcome_of (w ∷ []) ≡ Some (Answered reply)
+unfolding outcome_of
+value_all w reply k = ap (λ v. valued v w []) k
+
+reply_all : (r : Reply) (words : List Word) → NamesReply r words → outcome_of words ≡ Some (Answered r)
+unfolding outcome_of segv_of value_of
+reply_all (Mapped a) words (digits, e, s, h) = ap outcome_of e ∙ value_all (codes "0x" ++ digits) (Mapped a) (hexadecimal_value digits a s h)
+reply_all Done words e = rw e refl
+reply_all (Byte b) words (w, e, s, h) = ap outcome_of e ∙ value_all w (Byte b) (decimal_value w b s h)
+reply_all (Refused EINVAL) words e = rw e refl
+reply_all (Refused ENOMEM) words e = rw e refl
+reply_all (Refused EACCES) words e = rw e refl
+reply_all (Refused EBADF) words e = rw e refl
+reply_all (Refused EOVERFLOW) words e = rw e refl
+reply_all (Segv MapErr) words e = rw e refl
+reply_all (Segv AccErr) words e = rw e refl
+reply_all Bus words e = rw e refl
+reply_all NoFrame words e = rw e refl
+reply_all NoMemory words e = rw e refl
+
+pub outcome_all : (o : Outcome) (words : List Word) → NamesOutcome o words → outcome_of words ≡ Some o
+unfolding outcome_of wait_of slot_of value_of
+outcome_all Stepped words e = rw e refl
+outcome_all (Wait (Slot core)) words (h, e) = let k : core_number (decimal core) ≡ Some core = is_core core h in rw (e, k) refl
+outcome_all (Wait (Acks set)) words (first, others, e, a, s) =
+    let all : cores_from 0 0 (map decimal (first ∷ others)) ≡ Some (with_cores 0 (first ∷ others)) = cores_all 0 0 (first ∷ others) a in
+    ap outcome_of e ∙ ap (λ o. o >>= λ set. Some (Wait (Acks set))) (all ∙ ap (λ n. Some n) (sym s))
+outcome_all Idle words e = rw e refl
+outcome_all (Answered r) words e = reply_all r words e
+outcome_all Full words e = rw e refl
+
+-- ---- what is read is named
+
+core_named : (w : Word) (core : ℕ) → core_number w ≡ Some core → (core < 64) × (w ≡ decimal core)
+core_named w core k =
+    let (h, e) = core_only (99 ∷ w) core k in
+    (h, cc)
+
+cores_only : (least set : ℕ) (words : List Word) (all : ℕ) → cores_from least set words ≡ Some all
+    → (cores : List ℕ) × (words ≡ map decimal cores) × Ascend least cores × (all ≡ with_cores set cores)
+cores_only least set [] all e = ([], refl, tt, cc)
+cores_only least set (w ∷ ws) all e =
+    let (core, k, e1) = bind_some (core_number w) (λ core. cond (nat_lt core least) None (cores_from (suc core) (with_member set core) ws)) all e in
+    let (small, is) = core_named w core k in
+    elim (chosen (nat_lt core least) None (cores_from (suc core) (with_member set core) ws) (Some all) e1) [
+      | inl h ↦ let bad = h.1 in absurd (cc)
+      | inr h ↦
+          let (cores, same, a, s) = cores_only (suc core) (with_member set core) ws all h.1 in
+          let low : least ≤ core = grind (arith, nat_tests, h.0) in
+          (core ∷ cores, ap (λ v. v ∷ ws) is ∙ ap (λ vs. decimal core ∷ vs) same, (low, small, a), s)
+    ]
+
+acks_only : (words : List Word) (o : Outcome) → acks_of words ≡ Some o → NamesOutcome o (codes "wait" ∷ codes "acks" ∷ words)
+acks_only [] o e = absurd (cc)
+acks_only (w ∷ ws) o e =
+    let (set, k, e1) = bind_some (cores_from 0 0 (w ∷ ws)) (λ set. Some (Wait (Acks set))) o e in
+    let same : Wait (Acks set) ≡ o = cc in
+    subst (λ p. NamesOutcome p (codes "wait" ∷ codes "acks" ∷ w ∷ ws)) same (go set (cores_only 0 0 (w ∷ ws) set k))
+  where
+    go : (set : ℕ) → (cores : List ℕ) × (w ∷ ws ≡ map decimal cores) × Ascend 0 cores × (set ≡ with_cores 0 cores)
+        → NamesAcks set (codes "wait" ∷ codes "acks" ∷ w ∷ ws)
+    go set ([], same, a, s) = absurd (cc)
+    go set (core ∷ cores, same, a, s) = (core, cores, ap (λ l. codes "wait" ∷ codes "acks" ∷ l) same, a, s)
+
+slot_only : (words : List Word) (o : Outcome) → slot_of words ≡ Some o → NamesOutcome o (codes "wait" ∷ codes "slot" ∷ words)
+unfolding slot_of
+slot_only words o e =
+    let (first, ef, e1) = bind_some (front_word words) _ o e in
+    let (core, k, e2) = bind_some (core_number first.0) (λ core. ended first.1 (Wait (Slot core))) o e1 in
+    let (none, same) = ended_some first.1 (Wait (Slot core)) o e2 in
+    let (small, is) = core_named first.0 core k in
+    subst (λ p. NamesOutcome p (codes "wait" ∷ codes "slot" ∷ words)) same
+    (small, ap (λ l. codes "wait" ∷ codes "slot" ∷ l) (front_some words first ef ∙ ap (λ w. w ∷ first.1) is ∙ ap (λ l. decimal core ∷ l) none))
+
+-- a word that the test knew
+word_is : (w t : Word) → bytes_eq w t ≡ true → w ≡ t
+word_is w t b = (bytes_eq-Decides w t).0 b
+
+wait_only : (words : List Word) (o : Outcome) → wait_of words ≡ Some o → NamesOutcome o (codes "wait" ∷ words)
+unfolding wait_of
+wait_only words o e =
+    let (kind, ek, e1) = bind_some (front_word words) _ o e in
+    let is = front_some words kind ek in
+    elim (chosen (bytes_eq kind.0 (codes "slot")) (slot_of kind.1) _ (Some o) e1) [
+      | inl h ↦ subst (λ l. NamesOutcome o (codes "wait" ∷ l)) (sym (is ∙ ap (λ w. w ∷ kind.1) (word_is kind.0 (codes "slot") h.0))) (slot_only kind.1 o h.1)
+      | inr h ↦ elim (chosen (bytes_eq kind.0 (codes "acks")) (acks_of kind.1) None (Some o) h.1) [
+        | inl k ↦ subst (λ l. NamesOutcome o (codes "wait" ∷ l)) (sym (is ∙ ap (λ w. w ∷ kind.1) (word_is kind.0 (codes "acks") k.0))) (acks_only kind.1 o k.1)
+        | inr k ↦ let bad = k.1 in absurd (cc)
+      ]
+    ]
+
+segv_only : (words : List Word) (o : Outcome) → segv_of words ≡ Some o → NamesOutcome o (codes "segv" ∷ words)
+unfolding segv_of
+segv_only words o e =
+    let (code, ek, e1) = bind_some (front_word words) _ o e in
+    let is = front_some words code ek in
+    elim (chosen (bytes_eq code.0 (codes "maperr")) (ended code.1 (Answered (Segv MapErr))) _ (Some o) e1) [
+      | inl h ↦ let (none, same) = ended_some code.1 (Answered (Segv MapErr)) o h.1 in
+          subst (λ p. NamesOutcome p (codes "segv" ∷ words)) same
+          (ap (λ l. codes "segv" ∷ l) (is ∙ ap (λ w. w ∷ code.1) (word_is code.0 (codes "maperr") h.0) ∙ ap (λ l. codes "maperr" ∷ l) none))
+      | inr h ↦ elim (chosen (bytes_eq code.0 (codes "accerr")) (ended code.1 (Answered (Segv AccErr))) None (Some o) h.1) [
+        | inl k ↦ let (none, same) = ended_some code.1 (Answered (Segv AccErr)) o k.1 in
+            subst (λ p. NamesOutcome p (codes "segv" ∷ words)) same
+            (ap (λ l. codes "segv" ∷ l) (is ∙ ap (λ w. w ∷ code.1) (word_is code.0 (codes "accerr") k.0) ∙ ap (λ l. codes "accerr" ∷ l) none))
+        | inr k ↦ let bad = k.1 in absurd (cc)
+      ]
+    ]
+
+-- an outcome of one word, by its name
+Named : Word → Outcome → Type 0
+Named w o = NamesOutcome o (w ∷ [])
+
+by_name : (w t : Word) (o p : Outcome) → bytes_eq w t ≡ true → Some o ≡ Some p → Named t o → Named w p
+unfolding Named
+by_name w t o p b e n =
+    let same : o ≡ p = cc in
+    subst (λ q. NamesOutcome q (w ∷ [])) same (subst (λ v. NamesOutcome o (v ∷ [])) (sym (word_is w t b)) n)
+
+single_only : (w : Word) (o : Outcome) → single_of w ≡ Some o → Named w o
+unfolding Named
+single_only w o e = elim (chosen (bytes_eq w (codes "step")) _ _ (Some o) e) [
+  | inl h ↦ by_name w (codes "step") Stepped o h.0 h.1 refl
+  | inr h ↦ elim (chosen (bytes_eq w (codes "idle")) _ _ (Some o) h.1) [
+    | inl h ↦ by_name w (codes "idle") Idle o h.0 h.1 refl
+    | inr h ↦ elim (chosen (bytes_eq w (codes "full")) _ _ (Some o) h.1) [
+      | inl h ↦ by_name w (codes "full") Full o h.0 h.1 refl
+      | inr h ↦ elim (chosen (bytes_eq w (codes "done")) _ _ (Some o) h.1) [
+        | inl h ↦ by_name w (codes "done") (Answered Done) o h.0 h.1 refl
+        | inr h ↦ refused w o h.1
+      ]
+    ]
+  ]
+]
+  where
+    others : (w : Word) (o : Outcome) → cond (bytes_eq w (codes "bus")) (Some (Answered Bus)) (cond (bytes_eq w (codes "noframe")) (Some (Answered NoFrame))
+        (cond (bytes_eq w (codes "nomemory")) (Some (Answered NoMemory)) None)) ≡ Some o → NamesOutcome o (w ∷ [])
+    others w o e = elim (chosen (bytes_eq w (codes "bus")) _ _ (Some o) e) [
+      | inl h ↦ by_name w (codes "bus") (Answered Bus) o h.0 h.1 refl
+      | inr h ↦ elim (chosen (bytes_eq w (codes "noframe")) _ _ (Some o) h.1) [
+        | inl h ↦ by_name w (codes "noframe") (Answered NoFrame) o h.0 h.1 refl
+        | inr h ↦ elim (chosen (bytes_eq w (codes "nomemory")) _ _ (Some o) h.1) [
+          | inl h ↦ by_name w (codes "nomemory") (Answered NoMemory) o h.0 h.1 refl
+          | inr h ↦ let bad = h.1 in absurd (cc)
+        ]
+      ]
+    ]
+
+    refused : (w : Word) (o : Outcome) → cond (bytes_eq w (codes "einval")) (Some (Answered (Refused EINVAL)))
+        (cond (bytes_eq w (codes "enomem")) (Some (Answered (Refused ENOMEM))) (cond (bytes_eq w (codes "eacces")) (Some (Answered (Refused EACCES)))
+        (cond (bytes_eq w (codes "ebadf")) (Some (Answered (Refused EBADF))) (cond (bytes_eq w (codes "eoverflow")) (Some (Answered (Refused EOVERFLOW)))
+        (cond (bytes_eq w (codes "bus")) (Some (Answered Bus)) (cond (bytes_eq w (codes "noframe")) (Some (Answered NoFrame))
+        (cond (bytes_eq w (codes "nomemory")) (Some (Answered NoMemory)) None))))))) ≡ Some o → NamesOutcome o (w ∷ [])
+    refused w o e = elim (chosen (bytes_eq w (codes "einval")) _ _ (Some o) e) [
+      | inl h ↦ by_name w (codes "einval") (Answered (Refused EINVAL)) o h.0 h.1 refl
+      | inr h ↦ elim (chosen (bytes_eq w (codes "enomem")) _ _ (Some o) h.1) [
+        | inl h ↦ by_name w (codes "enomem") (Answered (Refused ENOMEM)) o h.0 h.1 refl
+        | inr h ↦ elim (chosen (bytes_eq w (codes "eacces")) _ _ (Some o) h.1) [
+          | inl h ↦ by_name w (codes "eacces") (Answered (Refused EACCES)) o h.0 h.1 refl
+          | inr h ↦ elim (chosen (bytes_eq w (codes "ebadf")) _ _ (Some o) h.1) [
+            | inl h ↦ by_name w (codes "ebadf") (Answered (Refused EBADF)) o h.0 h.1 refl
+            | inr h ↦ elim (chosen (bytes_eq w (codes "eoverflow")) _ _ (Some o) h.1) [
+              | inl h ↦ by_name w (codes "eoverflow") (Answered (Refused EOVERFLOW)) o h.0 h.1 refl
+              | inr h ↦ others w o h.1
+            ]
+          ]
+        ]
+      ]
+    ]
+
+value_only : (w : Word) (r : Reply) → value_of w ≡ Some r → NamesReply r (w ∷ [])
+unfolding value_of
+value_only w r e =
+    let (n, k, e1) = bind_some (number_of w) (λ n. cond (is_hexadecimal w) (Some (Mapped n)) (cond (nat_lt 255 n) None (Some (Byte n)))) r e in
+    let (h, spelled) = number_only w n k in
+    elim (chosen (is_hexadecimal w) (Some (Mapped n)) (cond (nat_lt 255 n) None (Some (Byte n))) (Some r) e1) [
+      | inl x ↦
+          let same : Mapped n ≡ r = (let g = x.1 in cc) in
+          subst (λ q. NamesReply q (w ∷ [])) same (address n h x.0 spelled)
+      | inr x ↦ elim (chosen (nat_lt 255 n) None (Some (Byte n)) (Some r) x.1) [
+        | inl y ↦ let bad = y.1 in absurd (cc)
+        | inr y ↦
+            let same : Byte n ≡ r = (let g = y.1 in cc) in
+            let small : n ≤ 255 = grind (arith, nat_tests, y.0) in
+            subst (λ q. NamesReply q (w ∷ [])) same (byte n small x.0 spelled)
+      ]
+    ]
+  where
+    address : (n : ℕ) → n < 2 ^ 64 → is_hexadecimal w ≡ true → SpellsIn 10 w n ⊎ ((digits : Word) × (w ≡ codes "0x" ++ digits) × SpellsIn 16 digits n)
+        → NamesReply (Mapped n) (w ∷ [])
+    address n h x (inl s) = let no : is_hexadecimal w ≡ false = not_hexadecimal w n s in absurd (cc)
+    address n h x (inr (digits, e, s)) = (digits, ap (λ v. v ∷ []) e, s, h)
+
+    byte : (n : ℕ) → n ≤ 255 → is_hexadecimal w ≡ false → SpellsIn 10 w n ⊎ ((digits : Word) × (w ≡ codes "0x" ++ digits) × SpellsIn 16 digits n)
+        → NamesReply (Byte n) (w ∷ [])
+    byte n h x (inl s) = (w, refl, s, h)
+    byte n h x (inr (digits, e, s)) = let yes : is_hexadecimal w ≡ true = ap is_hexadecimal e in absurd (cc)
+
+alone_some : (rest : List Word) (said : Option Outcome) (o : Outcome) → alone rest said ≡ Some o → (rest ≡ []) × (said ≡ Some o)
+alone_some [] said o e = (refl, e)
+alone_some (w ∷ ws) said o e = absurd (cc)
+
+pub outcome_only : (words : List Word) (o : Outcome) → outcome_of words ≡ Some o → NamesOutcome o words
+unfolding outcome_of Named
+outcome_only words o e =
+    let (name, en, e1) = bind_some (front_word words) _ o e in
+    subst (NamesOutcome o) (sym (front_some words name en)) (go name.0 name.1 (value_of name.0) refl e1)
+  where
+    go : (w : Word) (rest : List Word) (v : Option Reply) → value_of w ≡ v → valued v w rest ≡ Some o → NamesOutcome o (w ∷ rest)
+    go w rest (Some r) k e =
+        let (none, same) = ended_some rest (Answered r) o e in
+        subst (λ p. NamesOutcome p (w ∷ rest)) same (subst (λ l. NamesOutcome (Answered r) (w ∷ l)) (sym none) (value_only w r k))
+    go w rest None k e = elim (chosen (bytes_eq w (codes "wait")) (wait_of rest) _ (Some o) e) [
+      | inl h ↦ subst (λ v. NamesOutcome o (v ∷ rest)) (sym (word_is w (codes "wait") h.0)) (wait_only rest o h.1)
+      | inr h ↦ elim (chosen (bytes_eq w (codes "segv")) (segv_of rest) _ (Some o) h.1) [
+        | inl j ↦ subst (λ v. NamesOutcome o (v ∷ rest)) (sym (word_is w (codes "segv") j.0)) (segv_only rest o j.1)
+        | inr j ↦
+            let (none, is) = alone_some rest (single_of w) o j.1 in subst (λ l. NamesOutcome o (w ∷ l)) (sym none) (single_only w o is)
+      ]
+    ]
+
+-- where there is a word
+pub acks_begun : (words : List Word) → is_some (front_word words) ≡ true → acks_of words ≡ (cores_from 0 0 words >>= λ set. Some (Wait (Acks set)))
+acks_begun [] e = absurd (cc)
+acks_begun (w ∷ ws) e = refl
+
+pub begun_words : {X : Type 0} (f : X → Word × List Word) (o : Option X) (words : List Word) → is_some o ≡ true → option_map f o ≡ front_word words
+    → is_some (front_word words) ≡ true
+begun_words f None words e k = absurd (cc)
+begun_words f (Some x) words e k = ap is_some (sym k)
+
+-- a word that isn't a core's number
+pub acks_stuck : (words rest : List Word) (least set : ℕ) (w : Word) (ws : List Word) → is_some (front_word words) ≡ true
+    → cores_from 0 0 words ≡ cores_from least set rest → Some (w, ws) ≡ front_word rest → core_number w ≡ None → acks_of words ≡ None
+acks_stuck words rest least set w ws b same is none =
+    let all : cores_from 0 0 words ≡ None = same ∙ ap (cores_from least set) (front_some rest (w, ws) (sym is))
+    ∙ ap (λ o. o >>= λ core. cond (nat_lt core least) None (cores_from (suc core) (with_member set core) ws)) none in
+    acks_begun words b ∙ ap (λ o. o >>= λ set. Some (Wait (Acks set))) all
+
+-- a core that isn't above those before it
+pub acks_low : (words rest : List Word) (least set : ℕ) (w : Word) (ws : List Word) (core : ℕ) → is_some (front_word words) ≡ true
+    → cores_from 0 0 words ≡ cores_from least set rest → Some (w, ws) ≡ front_word rest → core_number w ≡ Some core → core < least
+    → acks_of words ≡ None
+acks_low words rest least set w ws core b same is some low =
+    let test : nat_lt core least ≡ true = grind (arith, nat_tests) in
+    let all : cores_from 0 0 words ≡ None = same ∙ ap (cores_from least set) (front_some rest (w, ws) (sym is))
+    ∙ ap (λ o. o >>= λ core. cond (nat_lt core least) None (cores_from (suc core) (with_member set core) ws)) some
+    ∙ ap (λ b. cond b None (cores_from (suc core) (with_member set core) ws)) test in
+    acks_begun words b ∙ ap (λ o. o >>= λ set. Some (Wait (Acks set))) all
+
+-- one core more
+pub acks_more : (words rest : List Word) (least set : ℕ) (w : Word) (ws : List Word) (core next more : ℕ)
+    → cores_from 0 0 words ≡ cores_from least set rest → Some (w, ws) ≡ front_word rest → core_number w ≡ Some core → least ≤ core
+    → next ≡ suc core → more ≡ with_member set core → cores_from 0 0 words ≡ cores_from next more ws
+acks_more words rest least set w ws core next more same is some high n m =
+    let test : nat_lt core least ≡ false = grind (arith, nat_tests) in
+    same ∙ ap (cores_from least set) (front_some rest (w, ws) (sym is))
+    ∙ ap (λ o. o >>= λ core. cond (nat_lt core least) None (cores_from (suc core) (with_member set core) ws)) some
+    ∙ ap (λ b. cond b None (cores_from (suc core) (with_member set core) ws)) test
+    ∙ ap (λ l. cores_from l (with_member set core) ws) (sym n) ∙ ap (λ s. cores_from next s ws) (sym m)
+
+-- no word more
+pub acks_done : (words rest : List Word) (least set : ℕ) → is_some (front_word words) ≡ true
+    → cores_from 0 0 words ≡ cores_from least set rest → None ≡ front_word rest → acks_of words ≡ Some (Wait (Acks set))
+acks_done words rest least set b same is =
+    let none : rest ≡ [] = nothing_left rest is in
+    acks_begun words b ∙ ap (λ o. o >>= λ set. Some (Wait (Acks set))) (same ∙ ap (cores_from least set) none)
+  where
+    nothing_left : (ws : List Word) → None ≡ front_word ws → ws ≡ []
+    nothing_left [] e = refl
+    nothing_left (w ∷ ws) e = absurd (cc)
+
+-- a word fewer is left
+pub fewer_words : (rest : List Word) (w : Word) (ws : List Word) → Some (w, ws) ≡ front_word rest → length rest ≡ suc (length ws)
+fewer_words rest w ws e = ap (λ (l : List Word). length l) (front_some rest (w, ws) (sym e))
+
+pub no_words : (rest : List Word) → None ≡ front_word rest → length rest ≡ 0
+no_words [] e = refl
+no_words (w ∷ ws) e = absurd (cc)

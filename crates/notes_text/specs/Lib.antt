@@ -1,0 +1,9 @@
+pub mod Outcomes
+pub mod Grammar
+pub mod Laws
+pub mod Halves
+pub mod Collected
+pub mod Turns
+pub mod Ends
+pub mod Verdicts
+pub mod CertifyEnds

@@ -1,0 +1,146 @@
+//! Whether the notes of a text are a run of the machine.
+ghost use Rattle.std.specs.Prelude.{◌≡◌, ◌⊎◌, Err, IfErr, IfOk, IsSomeAnd, None, true};
+ghost use Rattle.trace_io.specs.Source.{HasStopped, Reads};
+ghost use Rattle.trace.specs.Declarations.{Asked, asked_fault};
+ghost use Rattle.trace.specs.Ends.{TellsFaults};
+ghost use Rattle.trace.specs.declared.fault.TraceFault.TheVariants.{ReadFailed, WriteFailed};
+ghost use Rattle.notes_text.specs.CertifyEnds.{Certifies, FindsVerdict};
+ghost use Rattle.notes_text.specs.Verdicts.{Judges};
+
+use crate::collecting::collect;
+use crate::collector::Collector;
+use crate::verdict::{Verdict, write_verdict};
+use certifier::{CertifyFault, certify};
+use radix_range::RadixMap;
+use seats::Noted;
+use slot_lock::SlotMap;
+use std::alloc::Allocator;
+use trace::declaration::Declaration;
+use trace::fault::TraceFault;
+use trace_io::sink::Sink;
+use trace_io::source::Source;
+use vm_base::NoMemory;
+
+// What certifying the notes of a space with this declaration comes to.
+fn judge<A: Allocator + Clone + Drop>(
+    alloc: A,
+    declaration: &Declaration,
+    notes: &[Noted],
+) -> Result<Verdict, NoMemory>
+    requires { asked_fault declaration.now ≡ None }
+    ensures { IfOk result (λ verdict. Judges A ⟦<RadixMap<A> as SlotMap>⟧.parts
+        ⟦<RadixMap<A> as SlotMap>⟧.can_fold ⟦<RadixMap<A> as SlotMap>⟧.folds declaration.now notes.now verdict) }
+{
+    let Ok(for_files) = alloc.clone() else {
+        return Err(NoMemory);
+    };
+    let Ok(setup) = declaration.setup(for_files) else {
+        return Err(NoMemory);
+    };
+    match certify(alloc, setup, &[notes]) {
+        Ok(done) => Ok(Verdict::Certified(done.calls)),
+        Err(CertifyFault::Ticket(ticket)) => Ok(Verdict::Ticket(ticket)),
+        Err(
+            CertifyFault::Differs {
+                ticket,
+                noted,
+                expected,
+            },
+        ) => Ok(Verdict::Differs {
+            ticket,
+            noted,
+            expected,
+        }),
+        // (the setup has no fault)
+        Err(CertifyFault::Setup(_)) | Err(CertifyFault::NoMemory) => Err(NoMemory),
+    }
+}
+
+// What certifying the collected notes comes to.
+fn judge_collected<A: Allocator + Clone + Drop>(
+    alloc: A,
+    collected: &Collector<Noted, A>,
+) -> Result<Verdict, TraceFault>
+    requires { IsSomeAnd collected.now.asked (λ asked. asked_fault asked ≡ None) }
+    ensures ok { IfOk result (λ verdict. IsSomeAnd collected.now.asked (λ asked. Judges A
+        ⟦<RadixMap<A> as SlotMap>⟧.parts ⟦<RadixMap<A> as SlotMap>⟧.can_fold
+        ⟦<RadixMap<A> as SlotMap>⟧.folds asked collected.now.items verdict)) }
+    ensures err { IfErr result (λ f. f ≡ TraceFault.NoMemory) }
+{
+    // (there is a declaration)
+    let Some(declaration) = collected.declaration() else {
+        return Err(TraceFault::NoMemory);
+    };
+    match judge(alloc, declaration, collected.items()) {
+        Ok(verdict) => Ok(verdict),
+        Err(_) => Err(TraceFault::NoMemory),
+    }
+}
+
+// Reads the notes, and finds their verdict. Memory may be wanting once all lines were read, too.
+fn find_verdict<A: Allocator + Clone + Drop, S: Source>(
+    alloc: A,
+    reader: &mut S,
+) -> Result<Verdict, TraceFault>
+    ensures finds { Reads (S.stream reader.old) (S.stream reader.new) (λ input unread.
+        FindsVerdict A ⟦<RadixMap<A> as SlotMap>⟧.parts ⟦<RadixMap<A> as SlotMap>⟧.can_fold
+        ⟦<RadixMap<A> as SlotMap>⟧.folds input unread result) }
+    ensures read { result ≡ Err ReadFailed → HasStopped (S.failed reader.new) (S.reads reader.new) }
+{
+    let Ok(for_notes) = alloc.clone() else {
+        return Err(TraceFault::NoMemory);
+    };
+    let collected: Collector<Noted, A> = match collect(for_notes, reader) {
+        Ok(collected) => collected,
+        Err(fault) => return Err(fault),
+    };
+    let judged = judge_collected(alloc, &collected);
+    judged
+}
+
+// The same, and writes the line that tells it.
+fn certify_lines<A: Allocator + Clone + Drop, S: Source, W: Sink>(
+    alloc: A,
+    reader: &mut S,
+    writer: &mut W,
+) -> Result<bool, TraceFault>
+    ensures ends { Reads (S.stream reader.old) (S.stream reader.new) (λ input unread.
+        Certifies A ⟦<RadixMap<A> as SlotMap>⟧.parts ⟦<RadixMap<A> as SlotMap>⟧.can_fold
+        ⟦<RadixMap<A> as SlotMap>⟧.folds input unread (W.contents writer.old) (W.contents writer.new) result) }
+    ensures read { result ≡ Err ReadFailed → HasStopped (S.failed reader.new) (S.reads reader.new) }
+    ensures write { result ≡ Err WriteFailed → W.failed writer.new ≡ true }
+    ensures kept { (result ≡ Err WriteFailed) ⊎ (W.failed writer.new ≡ W.failed writer.old) }
+{
+    let verdict = match find_verdict(alloc, reader) {
+        Ok(verdict) => verdict,
+        Err(fault) => return Err(fault),
+    };
+    if let Err(_) = write_verdict(writer, verdict) {
+        return Err(TraceFault::WriteFailed);
+    }
+    Ok(verdict.is_certified())
+}
+
+/// Reads notes, in any order of their tickets, and writes one line: `certified CALLS` where in order of tickets they
+/// are a run of the machine with just the noted outcomes, with so many answered calls; `refused C1 TICKET` where a ticket
+/// below their number doesn't stand once, the least of them; or `refused C2 TICKET: noted OUTCOME, expected OUTCOME` where the
+/// machine comes to another outcome. Answers whether they are certified. What is written goes out at the end; a write or a
+/// flush that fails is told even where another fault came first. Nothing is written where a fault is told, or, where it is that
+/// of a write, a front of the line.
+pub fn certify_text<A: Allocator + Clone + Drop, S: Source, W: Sink>(
+    alloc: A,
+    reader: &mut S,
+    writer: &mut W,
+) -> Result<bool, TraceFault>
+    ensures ends { Reads (S.stream reader.old) (S.stream reader.new) (λ input unread.
+        Certifies A ⟦<RadixMap<A> as SlotMap>⟧.parts ⟦<RadixMap<A> as SlotMap>⟧.can_fold
+        ⟦<RadixMap<A> as SlotMap>⟧.folds input unread (W.contents writer.old) (W.contents writer.new) result) }
+    ensures told { TellsFaults result (S.failed reader.new) (S.reads reader.new)
+        (W.failed writer.old) (W.failed writer.new) (W.is_flushed writer.new) }
+{
+    let done = certify_lines(alloc, reader, writer);
+    match writer.flush() {
+        Ok(()) => done,
+        Err(_) => Err(TraceFault::WriteFailed),
+    }
+}

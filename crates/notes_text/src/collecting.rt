@@ -1,0 +1,125 @@
+//! The lines of a text, taken in one by one until it ends.
+ghost use Rattle.std.specs.Prelude.{◌≡◌, ◌+◌, ◌^◌, ◌<◌, Err, Some, None, IfErr, IfOk, OnOk, IsSomeAnd, true, false};
+ghost use Rattle.trace_io.specs.Source.{HasStopped, Reads};
+ghost use Rattle.trace_io.specs.Window.{left, budget, opening};
+ghost use Rattle.trace.specs.Declarations.{Asked, asked_fault};
+ghost use Rattle.trace.specs.declared.fault.TraceFault.TheVariants.{ReadFailed};
+ghost use Rattle.notes_text.specs.Collected.{nothing};
+ghost use Rattle.notes_text.specs.Ends.{Collects, Stops};
+ghost use Rattle.notes_text.specs.Turns.{Turns, Scene};
+
+use crate::collector::{Collector, LineOf};
+use std::alloc::Allocator;
+use trace::fault::TraceFault;
+use trace_io::lines::{Found, LineReader, NoLine};
+use trace_io::sink::{Sink, WriteFailed};
+use trace_io::source::Source;
+
+/// What is written to while a text is read that gives nothing: nobody writes to it, and its flush does nothing.
+#[derive(Drop)]
+struct Nowhere {
+    is_flushed: bool,
+}
+
+impl Sink for Nowhere {
+    ghost contents = { λ s. None };
+
+    ghost failed = { λ s. false };
+
+    ghost is_flushed = { λ s. s.is_flushed };
+
+    fn write(&mut self, bytes: &[u8]) -> Result<usize, WriteFailed> {
+        self.is_flushed = false;
+        Ok(bytes.len())
+    }
+
+    fn flush(&mut self) -> Result<(), WriteFailed> {
+        self.is_flushed = true;
+        Ok(())
+    }
+}
+
+// Takes in the next line, or answers false where there is none.
+fn turn<T: LineOf + Drop, A: Allocator, S: Source>(
+    lines: &mut LineReader<A>,
+    reader: &mut S,
+    nowhere: &mut Nowhere,
+    collector: &mut Collector<T, A>,
+    number: u64,
+) -> Result<bool, TraceFault>
+    requires few { number + 1 < 2 ^ 64 }
+    ensures turns { Reads (S.stream reader.old) (S.stream reader.new) (λ xs ys. Turns T.needs_calls T.names
+        (record { left = left xs lines.old; unread = xs; collected = collector.old })
+        (record { left = left ys lines.new; unread = ys; collected = collector.new })
+        number result) }
+    ensures budget { IfOk result (λ more. more ≡ true
+        → budget (S.reads reader.new) lines.new < budget (S.reads reader.old) lines.old) }
+    ensures read { result ≡ Err ReadFailed → HasStopped (S.failed reader.new) (S.reads reader.new) }
+{
+    match lines.next_line(reader, nowhere) {
+        Err(NoLine::ReadFailed) => Err(TraceFault::ReadFailed),
+        // (this never comes, since a flush of what goes nowhere doesn't fail)
+        Err(NoLine::WriteFailed) => Err(TraceFault::ReadFailed),
+        Ok(Found::End) => Ok(false),
+        Ok(Found::TooLong) => Err(TraceFault::TooLong(number + 1)),
+        Ok(Found::Line) => {
+            if let Err(fault) = collector.take(number + 1, lines.line()) {
+                return Err(fault);
+            }
+            Ok(true)
+        }
+    }
+}
+
+// Takes in the lines until the text ends.
+fn collect_lines<T: LineOf + Drop, A: Allocator, S: Source>(
+    lines: &mut LineReader<A>,
+    reader: &mut S,
+    collector: &mut Collector<T, A>,
+) -> Result<(), TraceFault>
+    requires fresh { lines.old ≡ opening }
+    requires start { collector.old ≡ nothing }
+    ensures ok { IfOk result (λ done. Reads (S.stream reader.old) (S.stream reader.new) (λ input unread. (asked : Asked)
+        × (collector.new.asked ≡ Some asked) × Collects T.needs_calls T.names input asked collector.new.items)) }
+    ensures sound { OnOk result (IsSomeAnd collector.new.asked (λ asked. asked_fault asked ≡ None)) }
+    ensures err { IfErr result (λ f. Reads (S.stream reader.old) (S.stream reader.new) (λ input unread.
+        Stops T.needs_calls T.names input unread f)) }
+    ensures read { result ≡ Err ReadFailed → HasStopped (S.failed reader.new) (S.reads reader.new) }
+{
+    let mut number = 0u64;
+    let mut nowhere = Nowhere { is_flushed: true };
+    'lines: loop {
+        match turn(lines, reader, &mut nowhere, collector, number) {
+            Ok(true) => number += 1,
+            Ok(false) => return collector.finish(),
+            Err(fault) => return Err(fault),
+        }
+    }
+}
+
+/// What the text declares and names, in order of its lines. Where it can't be read whole, the fault is the first: of a line that
+/// can't be taken, of a declaration of which no space can be made, of a read, or want of memory. 64 KiB for a chunk of
+/// lines are taken before anything is read.
+pub fn collect<T: LineOf + Drop, A: Allocator + Clone, S: Source>(
+    alloc: A,
+    reader: &mut S,
+) -> Result<Collector<T, A>, TraceFault>
+    ensures ok { IfOk result (λ collected. Reads (S.stream reader.old) (S.stream reader.new) (λ input unread. (asked : Asked)
+        × (collected.asked ≡ Some asked) × Collects T.needs_calls T.names input asked collected.items)) }
+    ensures sound { IfOk result (λ collected. IsSomeAnd collected.asked (λ asked. asked_fault asked ≡ None)) }
+    ensures err { IfErr result (λ f. Reads (S.stream reader.old) (S.stream reader.new) (λ input unread.
+        Stops T.needs_calls T.names input unread f)) }
+    ensures read { result ≡ Err ReadFailed → HasStopped (S.failed reader.new) (S.reads reader.new) }
+{
+    let Ok(for_lines) = alloc.clone() else {
+        return Err(TraceFault::NoMemory);
+    };
+    let Ok(mut lines) = LineReader::new(for_lines) else {
+        return Err(TraceFault::NoMemory);
+    };
+    let mut collector = Collector::new(alloc);
+    match collect_lines(&mut lines, reader, &mut collector) {
+        Ok(()) => Ok(collector),
+        Err(fault) => Err(fault),
+    }
+}

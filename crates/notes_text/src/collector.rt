@@ -1,0 +1,248 @@
+//! A text with a declaration in front, between two lines: what was declared, and an item of each line
+//! behind that.
+ghost use Rattle.std.specs.Prelude.{◌≡◌, ◌≢◌, ◌==◌, ◌⊎◌, ℕ, List, [], Bool, true, false, Option, None, Some, OnOk, IfErr, IfOk, length};
+ghost use Rattle.trace_text.specs.Words.{Word, words_of};
+ghost use Rattle.trace_text.specs.Line.{are_printable, line_of};
+ghost use Rattle.trace_text.specs.declared.line.Line.TheVariants.{Blank};
+ghost use Rattle.trace.specs.Declarations.{asked_fault};
+ghost use Rattle.trace.specs.Stage.{OfSpace, OfFile, OfEvents, kind_of};
+ghost use Rattle.notes_text.specs.Collected.{Collected, nothing, late, Takes, Refuses, Wants};
+
+use core_steps::SetupFault;
+use std::alloc::Allocator;
+use std::marker::Model;
+use trace::declaration::{Declaration, FileLine};
+use trace::fault::TraceFault;
+use trace_text::words::next_word;
+use trace_text::{Line, first_word_is_file, first_word_is_vm, is_printable_line, read_line};
+
+/// What a line behind the declaration names.
+pub trait LineOf: Copy {
+    ghost use Rattle.std.specs.Prelude.{◌≡◌, ℕ, List, Bool, IfSome, IfNone};
+    ghost use Rattle.trace_text.specs.Words.{Word, words_of};
+
+    /// Whether the `vm` line has to say how many calls may begin.
+    ghost needs_calls: { Bool };
+
+    /// The words of a line name this, in a space of so many cores.
+    ghost names: { ℕ → Self → List Word → Type 0 };
+
+    /// Tells whether the `vm` line has to say how many calls may begin.
+    fn needs_calls() -> bool
+        ensures { result ≡ needs_calls };
+
+    /// What the line names in a space of so many cores, `None` where it names nothing.
+    fn read(cores: u64, line: &[u8]) -> Option<Self>
+        ensures some { IfSome result (λ item. names cores item (words_of line.now)) }
+        ensures none { IfNone result ((item : Self) → names cores item (words_of line.now) → ⊥) };
+}
+
+/// What the lines so far declare, and what they name.
+#[derive(Drop)]
+pub struct Collector<T, A: Allocator> {
+    declaration: Option<Declaration>,
+    items: Vec<T, A>,
+}
+
+impl<T, A: Allocator> Model for Collector<T, A> {
+    ghost use Rattle.notes_text.specs.Collected.{Collected};
+
+    ghost Value = { Collected T };
+
+    ghost view = { λ s. record { asked = s.declaration; items = s.items.items } };
+}
+
+// Tells whether the line has four words.
+fn has_four_words(line: &[u8]) -> bool
+    ensures { result ≡ (length (words_of line.now) == 4) }
+{
+    let mut rest = line;
+    'words: for _count in 0..4u8 {
+        let Some((_, others)) = next_word(rest) else {
+            return false;
+        };
+        rest = others;
+    }
+    next_word(rest).is_none()
+}
+
+// Tells whether the `vm` line says how many calls may begin, where it has to.
+fn says_enough<T: LineOf>(line: &[u8]) -> bool
+    ensures yes { result ≡ true → T.needs_calls ≡ true → length (words_of line.now) ≡ 4 }
+    ensures no { result ≡ false → (T.needs_calls ≡ true) × (length (words_of line.now) ≢ 4) }
+{
+    if T::needs_calls() {
+        return has_four_words(line);
+    }
+    true
+}
+
+// Why no space can be made of the declaration, or else that the line with this number is bad.
+fn late_fault(declaration: &Declaration, number: u64) -> TraceFault
+    ensures { result ≡ late (asked_fault declaration.now) number }
+{
+    match declaration.fault() {
+        Some(fault) => TraceFault::Setup(fault),
+        None => TraceFault::BadLine(number),
+    }
+}
+
+impl<T: LineOf + Drop, A: Allocator> Collector<T, A> {
+    ghost use Rattle.std.specs.Prelude.{◌≡◌, ◌≢◌, ◌⊎◌, [], Some, None, OnOk, IfErr, IfOk, OnErr};
+    ghost use Rattle.trace_text.specs.Words.{words_of};
+    ghost use Rattle.trace_text.specs.Line.{are_printable, line_of};
+    ghost use Rattle.trace_text.specs.declared.line.Line.TheVariants.{Blank};
+    ghost use Rattle.trace.specs.Stage.{OfSpace, OfFile, OfEvents, kind_of};
+    ghost use Rattle.notes_text.specs.Collected.{nothing, Takes, Refuses, Wants};
+    ghost use Rattle.notes_text.specs.Ends.{CannotMake};
+    ghost use Rattle.std.specs.Prelude.{option_map, IsSomeAnd};
+    ghost use Rattle.trace.specs.Declarations.{Asked, asked_fault};
+
+    /// Nothing is declared yet. It takes no memory.
+    pub fn new(alloc: A) -> Collector<T, A>
+        ensures { result ≡ nothing }
+    {
+        Collector {
+            declaration: None,
+            items: Vec::new(alloc),
+        }
+    }
+
+    // Takes in the `vm` line.
+    fn take_space(&mut self, number: u64, line: &[u8], said: Option<Line>) -> Result<(), TraceFault>
+        requires printable { are_printable line.now ≡ true }
+        requires said { said ≡ line_of line.now }
+        requires some { said ≢ Some Blank }
+        requires kind { kind_of (words_of line.now) ≡ OfSpace }
+        ensures ok { OnOk result (Takes T.needs_calls T.names self.old line.now self.new) }
+        ensures err { IfErr result (λ f. Refuses T.needs_calls T.names self.old number line.now f) }
+    {
+        if let Some(declaration) = &self.declaration {
+            return Err(late_fault(declaration, number));
+        }
+        let Some(told) = said else {
+            return Err(TraceFault::BadLine(number));
+        };
+        let Line::Space {
+            cores,
+            frames,
+            calls,
+        } = told
+        else {
+            return Err(TraceFault::BadLine(number));
+        };
+        if says_enough::<T>(line) {
+            self.declaration = Some(Declaration::new(cores, frames, calls));
+            return Ok(());
+        }
+        Err(TraceFault::BadLine(number))
+    }
+
+    // Takes in the line of a file.
+    fn take_file(&mut self, number: u64, line: &[u8], said: Option<Line>) -> Result<(), TraceFault>
+        requires printable { are_printable line.now ≡ true }
+        requires said { said ≡ line_of line.now }
+        requires some { said ≢ Some Blank }
+        requires kind { kind_of (words_of line.now) ≡ OfFile }
+        ensures ok { OnOk result (Takes T.needs_calls T.names self.old line.now self.new) }
+        ensures err { IfErr result (λ f. Refuses T.needs_calls T.names self.old number line.now f) }
+    {
+        let is_first = self.items.as_slice().is_empty();
+        let Some(declaration) = &mut self.declaration else {
+            return Err(TraceFault::NoVmLine);
+        };
+        let Some(told) = said else {
+            return Err(TraceFault::BadLine(number));
+        };
+        let Line::File {
+            number: next,
+            mode,
+            len,
+            seed,
+        } = told
+        else {
+            return Err(TraceFault::BadLine(number));
+        };
+        if is_first && declaration.add(next, FileLine { mode, len, seed }) {
+            return Ok(());
+        }
+        Err(TraceFault::BadLine(number))
+    }
+
+    // Takes in the line of an item.
+    fn take_item(&mut self, number: u64, line: &[u8]) -> Result<(), TraceFault>
+        requires printable { are_printable line.now ≡ true }
+        requires some { line_of line.now ≢ Some Blank }
+        requires kind { kind_of (words_of line.now) ≡ OfEvents }
+        ensures ok { OnOk result (Takes T.needs_calls T.names self.old line.now self.new) }
+        ensures err { IfErr result (λ f.
+            ((f ≡ TraceFault.NoMemory) × Wants T.needs_calls T.names self.old line.now)
+            ⊎ Refuses T.needs_calls T.names self.old number line.now f) }
+    {
+        let Some(declaration) = &self.declaration else {
+            return Err(TraceFault::NoVmLine);
+        };
+        if let Some(fault) = declaration.fault() {
+            return Err(TraceFault::Setup(fault));
+        }
+        let Some(item) = T::read(declaration.cores(), line) else {
+            return Err(TraceFault::BadLine(number));
+        };
+        if self.items.push(item).is_err() {
+            return Err(TraceFault::NoMemory);
+        }
+        Ok(())
+    }
+
+    /// Takes in the line with this number. A fault that isn't want of memory says why the line can't be taken;
+    /// nothing changes then. After want of memory no other line is taken.
+    pub fn take(&mut self, number: u64, line: &[u8]) -> Result<(), TraceFault>
+        ensures ok { OnOk result (Takes T.needs_calls T.names self.old line.now self.new) }
+        ensures err { IfErr result (λ f.
+            ((f ≡ TraceFault.NoMemory) × Wants T.needs_calls T.names self.old line.now)
+            ⊎ Refuses T.needs_calls T.names self.old number line.now f) }
+    {
+        let said = read_line(line);
+        if !is_printable_line(line, &said) {
+            return Err(TraceFault::BadLine(number));
+        }
+        if let Some(Line::Blank) = said {
+            return Ok(());
+        }
+        if first_word_is_vm(line) {
+            return self.take_space(number, line, said);
+        }
+        if first_word_is_file(line) {
+            return self.take_file(number, line, said);
+        }
+        self.take_item(number, line)
+    }
+
+    /// Tells whether a space can be made of what was declared, and why not.
+    pub fn finish(&self) -> Result<(), TraceFault>
+        ensures ok { OnOk result (IsSomeAnd self.now.asked (λ asked. asked_fault asked ≡ None)) }
+        ensures err { IfErr result (λ f. CannotMake self.now.asked f) }
+    {
+        let Some(declaration) = &self.declaration else {
+            return Err(TraceFault::NoVmLine);
+        };
+        match declaration.fault() {
+            Some(fault) => Err(TraceFault::Setup(fault)),
+            None => Ok(()),
+        }
+    }
+
+    /// What was declared.
+    pub fn declaration(&self) -> Option<&Declaration>
+        ensures { option_map (λ d. d.now) result ≡ self.now.asked }
+    {
+        self.declaration.as_ref()
+    }
+
+    /// The items, in order of their lines.
+    pub fn items(&self) -> &[T]
+        ensures { result.now ≡ self.now.items }
+    {
+        self.items.as_slice()
+    }
+}

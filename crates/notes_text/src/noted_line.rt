@@ -1,0 +1,21 @@
+//! Notes as the lines behind a declaration.
+ghost use Rattle.std.specs.Prelude.{true};
+ghost use Rattle.notes_text.specs.Grammar.{NamesNote};
+
+use crate::collector::LineOf;
+use crate::note_line::read_note;
+use seats::Noted;
+
+impl LineOf for Noted {
+    ghost needs_calls = { true };
+
+    ghost names = { λ cores note words. NamesNote note words };
+
+    fn needs_calls() -> bool {
+        true
+    }
+
+    fn read(_cores: u64, line: &[u8]) -> Option<Noted> {
+        read_note(line)
+    }
+}

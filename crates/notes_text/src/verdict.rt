@@ -1,0 +1,154 @@
+//! What certifying a text of notes comes to, and the line that tells it.
+ghost use Rattle.std.specs.Prelude.{◌≡◌, ◌++◌, ◌≤◌, OnErr, OnOk, true, codes, decimal, length};
+ghost use Rattle.std.specs.Io.KnownBytes.{Appends};
+ghost use Rattle.trace_io.specs.Sink.{AppendsFront};
+ghost use Rattle.trace.specs.OutcomeText.{outcome_text};
+ghost use Rattle.notes_text.specs.Verdicts.{differs_head, differs_text, is_certified, unended, verdict_text};
+
+use machine_model::Outcome;
+use trace::outcome_text::write_outcome;
+use trace_io::sink::{Sink, WriteFailed, write_all};
+use trace_text::{LineText, push_number};
+
+/// What certifying the notes of a text comes to.
+#[derive(Clone, Copy, Debug, PartialEq, Eq)]
+pub enum Verdict {
+    /// They are certified, with so many answered calls.
+    Certified(u64),
+    /// Of the tickets below the number of the notes, this is the least that doesn't stand once.
+    Ticket(u64),
+    /// After all earlier notes the machine comes to another outcome than the note with this ticket.
+    Differs {
+        ticket: u64,
+        noted: Outcome,
+        expected: Outcome,
+    },
+}
+
+// Writes two texts, one behind the other.
+#[tactic(auto, using(crate::proofs::VerdictLemmas::both_ok, crate::proofs::VerdictLemmas::both_front, crate::proofs::VerdictLemmas::front_longer))]
+fn write_both<W: Sink>(writer: &mut W, first: &[u8], second: &[u8]) -> Result<(), WriteFailed>
+    ensures ok { OnOk result (Appends (W.contents writer.old) (W.contents writer.new) (first.now ++ second.now)) }
+    ensures kept { OnOk result (W.failed writer.new ≡ W.failed writer.old) }
+    ensures front { OnErr result
+        (AppendsFront (W.contents writer.old) (W.contents writer.new) (first.now ++ second.now)) }
+    ensures err { OnErr result (W.failed writer.new ≡ true) }
+{
+    if let Err(failed) = write_all(writer, first) {
+        return Err(failed);
+    }
+    write_all(writer, second)
+}
+
+// Replaces the text by the words before the outcome that was noted.
+fn write_differs_head(text: &mut LineText, ticket: u64)
+    ensures { text.new.bytes ≡ differs_head ticket }
+{
+    text.clear();
+    text.push_str("refused C2 ");
+    push_number(text, ticket);
+    text.push_str(": noted ");
+}
+
+// Writes the words before the outcome that was noted, and that outcome without its newline.
+fn write_noted<W: Sink>(writer: &mut W, ticket: u64, noted: Outcome) -> Result<(), WriteFailed>
+    ensures ok { OnOk result (Appends (W.contents writer.old) (W.contents writer.new)
+        (differs_head ticket ++ unended (outcome_text noted))) }
+    ensures kept { OnOk result (W.failed writer.new ≡ W.failed writer.old) }
+    ensures front { OnErr result (AppendsFront (W.contents writer.old) (W.contents writer.new)
+        (differs_head ticket ++ unended (outcome_text noted))) }
+    ensures err { OnErr result (W.failed writer.new ≡ true) }
+{
+    let mut head = LineText::new();
+    write_differs_head(&mut head, ticket);
+    let mut text = LineText::new();
+    write_outcome(&mut text, noted);
+    let line = text.as_str().as_bytes();
+    let (told, _) = line.split_at(line.len().saturating_sub(1));
+    write_both(writer, head.as_str().as_bytes(), told)
+}
+
+// Writes the words before the expected outcome, and that outcome.
+fn write_expected<W: Sink>(writer: &mut W, expected: Outcome) -> Result<(), WriteFailed>
+    ensures ok { OnOk result (Appends (W.contents writer.old) (W.contents writer.new)
+        (codes ", expected " ++ outcome_text expected)) }
+    ensures kept { OnOk result (W.failed writer.new ≡ W.failed writer.old) }
+    ensures front { OnErr result (AppendsFront (W.contents writer.old) (W.contents writer.new)
+        (codes ", expected " ++ outcome_text expected)) }
+    ensures err { OnErr result (W.failed writer.new ≡ true) }
+{
+    let mut text = LineText::new();
+    write_outcome(&mut text, expected);
+    write_both(writer, b", expected ".as_slice(), text.as_str().as_bytes())
+}
+
+// Writes the line of an outcome that differs.
+#[tactic(auto, using(crate::proofs::VerdictLemmas::both_ok, crate::proofs::VerdictLemmas::both_front, crate::proofs::VerdictLemmas::front_longer))]
+fn write_differs<W: Sink>(
+    writer: &mut W,
+    ticket: u64,
+    noted: Outcome,
+    expected: Outcome,
+) -> Result<(), WriteFailed>
+    ensures ok { OnOk result (Appends (W.contents writer.old) (W.contents writer.new)
+        (differs_text ticket noted expected)) }
+    ensures kept { OnOk result (W.failed writer.new ≡ W.failed writer.old) }
+    ensures front { OnErr result (AppendsFront (W.contents writer.old) (W.contents writer.new)
+        (differs_text ticket noted expected)) }
+    ensures err { OnErr result (W.failed writer.new ≡ true) }
+{
+    if let Err(failed) = write_noted(writer, ticket, noted) {
+        return Err(failed);
+    }
+    write_expected(writer, expected)
+}
+
+// Replaces the text by these words and the number, and a newline.
+fn write_count(text: &mut LineText, words: &str, number: u64)
+    requires { length words.now ≤ 20 }
+    ensures { text.new.bytes ≡ words.now ++ decimal number ++ codes "\n" }
+{
+    text.clear();
+    text.push_str(words);
+    push_number(text, number);
+    text.push_str("\n");
+}
+
+/// Writes the line that tells the verdict: `certified CALLS`, `refused C1 TICKET`, or
+/// `refused C2 TICKET: noted OUTCOME, expected OUTCOME`. At an `Err` a front of it was written.
+pub fn write_verdict<W: Sink>(writer: &mut W, verdict: Verdict) -> Result<(), WriteFailed>
+    ensures ok { OnOk result (Appends (W.contents writer.old) (W.contents writer.new) (verdict_text verdict)) }
+    ensures kept { OnOk result (W.failed writer.new ≡ W.failed writer.old) }
+    ensures front { OnErr result
+        (AppendsFront (W.contents writer.old) (W.contents writer.new) (verdict_text verdict)) }
+    ensures err { OnErr result (W.failed writer.new ≡ true) }
+{
+    let mut text = LineText::new();
+    match verdict {
+        Verdict::Certified(calls) => {
+            write_count(&mut text, "certified ", calls);
+            write_all(writer, text.as_str().as_bytes())
+        }
+        Verdict::Ticket(ticket) => {
+            write_count(&mut text, "refused C1 ", ticket);
+            write_all(writer, text.as_str().as_bytes())
+        }
+        Verdict::Differs {
+            ticket,
+            noted,
+            expected,
+        } => write_differs(writer, ticket, noted, expected),
+    }
+}
+
+impl Verdict {
+    /// Tells whether the notes are certified.
+    pub fn is_certified(&self) -> bool
+        ensures { result ≡ is_certified self.now }
+    {
+        match self {
+            Verdict::Certified(_) => true,
+            Verdict::Ticket(_) | Verdict::Differs { .. } => false,
+        }
+    }
+}
