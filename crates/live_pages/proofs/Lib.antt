@@ -1,1 +1,3 @@
+pub mod AllSeen
+pub mod Noting
 pub mod Targets

@@ -1,1 +1,5 @@
+pub mod Bytes
+pub mod Counts
+pub mod Frames
+pub mod Steps
 pub mod Targets

@@ -3,6 +3,13 @@
 //! space is known here, only its pieces, which are lent.
 #![tactic(auto)]
 
+pub mod beginning;
+pub mod copy;
+pub mod filling;
+pub mod frame;
 pub mod frames_held;
+pub mod installing;
 pub mod pieces;
+pub mod settling;
 pub mod telling;
+pub mod touching;

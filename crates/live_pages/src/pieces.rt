@@ -1,4 +1,6 @@
 //! What lies under the locks of a space, and how it is lent to a step.
+ghost use Rattle.std.specs.Prelude.{◌≡◌, is_some};
+
 use backing::{CachedFrame, Objects};
 use crossbeam_utils::CachePadded;
 use frames::FrameCell;
@@ -6,7 +8,7 @@ use mmu::Cpu;
 use refcache::{CoreCounts, Epochs, ObjectCount};
 use shootdown::Inbox;
 use std::alloc::Allocator;
-use std::sync::Mutex;
+use std::sync::{Mutex, MutexGuard, Wait};
 
 /// What a core has: its part of the counts, its inbox, its tables and its TLB.
 #[derive(Drop)]
@@ -38,4 +40,24 @@ pub struct Pieces<'a, A: Allocator + Clone> {
     pub frames: &'a [Mutex<FrameState<A>>],
     /// The epoch.
     pub epochs: &'a Mutex<Epochs>,
+}
+
+impl<'a, A: Allocator + Clone> Pieces<'a, A> {
+    /// Locks the epoch for a step that evicts an entry, if it evicts one.
+    pub fn epoch_for<R: Wait>(&self, rt: &R, evicted: Option<u32>) -> Option<MutexGuard<'a, Epochs>>
+        ensures { is_some result ≡ is_some evicted }
+    {
+        match evicted {
+            Some(_) => Some(self.epochs.lock(rt)),
+            None => None,
+        }
+    }
+}
+
+/// The number of an epoch that is locked; 0 where none is.
+pub fn number_of(epochs: &Option<MutexGuard<'_, Epochs>>) -> u64 {
+    match epochs {
+        Some(epochs) => epochs.number(),
+        None => 0,
+    }
 }

@@ -1,0 +1,33 @@
+-- What the steps of an access leave as it was
+use Rattle.std.proofs.Common.{◌≡◌, ℕ, suc, List, [], ◌∷◌, length, map, refl, ap, ◌∙◌}
+use Rattle.machine_model.specs.declared.event.Event.TheVariants.{Frame}
+use Rattle.machine_model.specs.declared.event.Outcome.TheVariants.{Stepped}
+use Rattle.live_levels.specs.declared.act.Act.{Act}
+use Rattle.live_levels.specs.Replay.{dated}
+use Rattle.live_levels.specs.Slots.{SlotView, changed}
+use Rattle.live_tree.specs.Held.{HeldView}
+use Rattle.seats.specs.Growing.{Grew}
+use Rattle.seats.specs.Notes.{SeatView, noted}
+use Rattle.live_pages.specs.Steps.{StepsWith, Takes}
+
+-- a frame that is taken neither begins a call nor answers one
+pub grew_takes : (s t : SeatView) (frame : ℕ) → Takes s frame t → Grew s t
+grew_takes s t frame h = record {
+  same = record {
+    word = ap (λ (v : SeatView). v.word) h.1;
+    core = ap (λ (v : SeatView). v.core) h.1;
+    plain = ap (λ (v : SeatView). v.plain) h.1;
+  };
+  begun = ap (λ (v : SeatView). v.begun) h.1;
+  more = noted h.0 (Frame s.core frame) Stepped ∷ [];
+  are = ap (λ (v : SeatView). v.notes) h.1;
+  between = refl;
+}
+
+length_map : {X Y : Type 0} (f : X → Y) (xs : List X) → length (map f xs) ≡ length xs
+length_map f [] = refl
+length_map f (x ∷ xs) = ap suc (length_map f xs)
+
+-- a change of each held slot leaves as many
+pub same_count : (act : Act) (s t : SeatView) (h k : HeldView) → StepsWith act s h t k → length k.slots ≡ length h.slots
+same_count act s t h k w = ap (λ (v : HeldView). length v.slots) w.slots ∙ length_map (λ (x : SlotView). changed x (dated w.ticket act)) h.slots
