@@ -1,2 +1,5 @@
 pub mod Standing
 pub mod Notes
+pub mod Histories
+pub mod Looked
+pub mod Walking

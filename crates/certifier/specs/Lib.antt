@@ -1,3 +1,5 @@
 pub mod Order
 pub mod Standings
+pub mod Histories
+pub mod Looks
 pub mod Following

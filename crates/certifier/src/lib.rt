@@ -3,8 +3,10 @@
 
 pub mod certifying;
 pub mod following;
+pub mod looks;
 pub mod order;
 pub mod result;
+pub mod watch;
 
 pub use certifying::certify;
 pub use result::{Certified, CertifyFault};
