@@ -1,4 +1,5 @@
 pub mod Calls
+pub mod Changing
 pub mod Counting
 pub mod Placing
 pub mod Space

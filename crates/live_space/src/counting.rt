@@ -9,8 +9,8 @@ ghost use Rattle.live_space.specs.Counting.{NotesOneIf};
 ghost use Rattle.live_space.specs.Space.{IsOf};
 
 use crate::fault::{LiveFault, reserve_notes};
-use crate::pieces::{CoreState, FrameState};
 use crate::space::Live;
+use live_pages::pieces::{CoreState, FrameState};
 use machine_model::{Event, Outcome};
 use refcache::{Epochs, Flush, Review};
 use seats::Seat;

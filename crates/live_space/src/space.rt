@@ -2,9 +2,9 @@
 ghost use Rattle.std.specs.Prelude.{◌≡◌, length};
 ghost use Rattle.live_space.specs.Space.{LiveView};
 
-use crate::pieces::{CoreState, FrameState};
 use backing::Objects;
 use crossbeam_utils::CachePadded;
+use live_pages::pieces::{CoreState, FrameState};
 use live_tree::tree::SharedTree;
 use refcache::Epochs;
 use std::alloc::Allocator;

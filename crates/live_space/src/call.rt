@@ -1,0 +1,100 @@
+//! A call of a core's thread, from its beginning to its answer.
+ghost use Rattle.std.specs.Prelude.{◌≡◌, ◌+◌, ◌≤◌, IfOk, IfErr, OnOk};
+ghost use Rattle.slot_lock.specs.Plan.{IsSound};
+ghost use Rattle.seats.specs.Growing.{Grew, OneCall};
+ghost use Rattle.live_space.specs.Calls.{IsIdle, LacksCall, MayBegin};
+ghost use Rattle.live_space.specs.Space.{IsOf};
+
+use crate::fault::{LiveFault, reserve_notes};
+use crate::gate::{Gate, Point};
+use crate::giving_up::give_up;
+use crate::space::Live;
+use live_levels::level::Stepper;
+use machine_model::{Event, Outcome};
+use seats::Seat;
+use slot_lock::Plan;
+use std::alloc::Allocator;
+use std::sync::Wait;
+use vm_base::{Reply, Request};
+use vm_calls::check;
+
+impl<A: Allocator + Clone> Live<A> {
+    /// One call of the seat's core: it begins, is run to its answer, and each of its steps is noted
+    /// while the locks are held of all that the step touches. It may wait for other calls, and where
+    /// the gate holds it.
+    ///
+    /// A fault says why it didn't begin, and then nothing was noted. A call that has begun is always
+    /// answered: where memory, or room for its notes, runs out before it has told another core
+    /// anything, it is given up, and the reply is `NoMemory`; then nothing is changed or held.
+    pub fn call<R: Wait, G: Gate>(
+        &self,
+        rt: &R,
+        seat: &mut Seat<A>,
+        request: Request,
+        gate: &G,
+    ) -> Result<Reply, LiveFault>
+        requires { IsOf self.now seat.old }
+        ensures noted { IfOk result (λ reply. OneCall seat.old request reply seat.new) }
+        ensures begun { OnOk result (seat.new.begun ≡ seat.old.begun + 1) }
+        ensures may { OnOk result (MayBegin self.now.share seat.old) }
+        ensures fault { IfErr result (λ fault. LacksCall self.now.share seat.old fault) }
+        ensures idle { IfErr result (λ fault. IsIdle seat.old seat.new) }
+    {
+        if seat.begun() >= self.share {
+            return Err(LiveFault::Calls);
+        }
+        reserve_notes(seat, 3)?;
+        let _begun = seat.begin(request);
+        let reply = self.run(rt, seat, request, gate);
+        let _answered = seat.note(Event::Go(seat.core()), Outcome::Answered(reply));
+        gate.at(rt, seat.core(), Point::Answer);
+        Ok(reply)
+    }
+
+    // All of the call but its beginning and its answer, for whose note there stays room.
+    #[tactic(auto, using(seats::proofs::Growing::grew_trans, seats::proofs::Growing::grew_steps, seats::proofs::Growing::grew_room))]
+    fn run<R: Wait, G: Gate>(&self, rt: &R, seat: &mut Seat<A>, request: Request, gate: &G) -> Reply
+        requires room { 2 ≤ seat.old.room }
+        ensures grew { Grew seat.old seat.new }
+        ensures room { 1 ≤ seat.new.room }
+    {
+        // it touches nothing that another thread changes, and may come before the note of its step
+        match check(&self.objects, seat.core(), request) {
+            Ok(plan) => self.go_on(rt, seat, plan, gate),
+            Err(reply) => {
+                let _checked = seat.step();
+                gate.at(rt, seat.core(), Point::Begun);
+                reply
+            }
+        }
+    }
+
+    // The step of the check, whose arguments it let through, and what follows.
+    fn go_on<R: Wait, G: Gate>(&self, rt: &R, seat: &mut Seat<A>, plan: Plan, gate: &G) -> Reply
+        requires sound { IsSound plan }
+        requires room { 2 ≤ seat.old.room }
+        ensures grew { Grew seat.old seat.new }
+        ensures room { 1 ≤ seat.new.room }
+    {
+        // for the step, to give up, and to answer
+        if !seat.reserve(3) {
+            return give_up(seat);
+        }
+        let _checked = seat.step();
+        gate.at(rt, seat.core(), Point::Begun);
+        self.follow(rt, seat, plan, gate)
+    }
+    // The steps of a call whose arguments are sound, up to its reply.
+    fn follow<R: Wait, G: Gate>(&self, rt: &R, seat: &mut Seat<A>, plan: Plan, gate: &G) -> Reply
+        requires sound { IsSound plan }
+        requires room { 2 ≤ seat.old.room }
+        ensures grew { Grew seat.old seat.new }
+        ensures room { 1 ≤ seat.new.room }
+    {
+        match plan {
+            Plan::Change(change) => self.change(rt, seat, change, gate),
+            Plan::Place(place) => self.place(rt, seat, place, gate),
+            Plan::Touch(touch) => self.touch(rt, seat, touch, gate),
+        }
+    }
+}
