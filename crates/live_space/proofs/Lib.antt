@@ -1,5 +1,4 @@
 mod Few
 pub mod Folding
 pub mod Fresh
-mod Own
 pub mod Places

@@ -1,9 +1,9 @@
 //! The making of a space.
-ghost use Rattle.std.specs.Prelude.{◌≡◌, ◌<◌, ◌≤◌, [], None, IfOk, IfErr, All, length};
+ghost use Rattle.std.specs.Prelude.{◌≡◌, ◌<◌, ◌≤◌, [], None, IfOk, IfErr, length};
 ghost use Rattle.std.specs.Arc.{arc_value};
 ghost use Rattle.tickets.specs.Tickets.{IsNew};
 ghost use Rattle.core_steps.specs.Setups.{IsFirstFault, fault_of};
-ghost use Rattle.live_space.specs.Space.{AreFresh, IsMade, IsOf};
+ghost use Rattle.live_space.specs.Space.{AreFresh, IsMade};
 
 use crate::space::Live;
 use backing::Objects;
@@ -25,10 +25,8 @@ impl<A: Allocator + Clone> Live<A> {
     /// A space in which nothing is mapped, and a seat for each of its cores, in their order, which
     /// has noted nothing. The bytes of the files are moved, not copied. Of several faults the first
     /// is told, in the order of `SetupFault`.
-    #[tactic(auto, using(crate::proofs::Own::made_are_of))]
     pub fn new(alloc: A, setup: Setup<A>) -> Result<(Live<A>, Vec<Seat<A>, A>), SetupFault>
         ensures made { IfOk result (λ t. IsMade setup t.0 t.1.items) }
-        ensures own { IfOk result (λ t. All (IsOf t.0) t.1.items) }
         ensures first { IfErr result (λ fault. IsFirstFault setup fault) }
     {
         if let Some(fault) = setup.fault() {
