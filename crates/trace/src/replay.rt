@@ -129,39 +129,36 @@ fn replay_lines<A: Allocator, S: Source, W: Sink, R: Staged>(
     }
 }
 
-// Acts on all lines, over a ledger of this kind. Memory for a chunk of lines is taken
-// before anything is read.
+// Acts on all lines, over a ledger of this kind.
 fn replay_over<L: Opening<A> + Drop, A: Allocator + Clone + Drop, S: Source, W: Sink>(
     alloc: A,
+    lines: &mut LineReader<A>,
     reader: &mut S,
     writer: &mut W,
     show: Show,
 ) -> Result<(), TraceFault>
-    requires { L.keeps ≡ keeps_log show }
+    requires fresh { lines.old ≡ opening }
+    requires keeps { L.keeps ≡ keeps_log show }
     ensures ends { Reads (S.stream reader.old) (S.stream reader.new) (λ input unread.
         Ends show input unread (W.contents writer.old) (W.contents writer.new) result) }
     ensures read { result ≡ Err ReadFailed → HasStopped (S.failed reader.new) (S.reads reader.new) }
     ensures write { result ≡ Err WriteFailed → W.failed writer.new ≡ true }
     ensures kept { (result ≡ Err WriteFailed) ⊎ (W.failed writer.new ≡ W.failed writer.old) }
 {
-    let Ok(for_lines) = alloc.clone() else {
-        return Err(TraceFault::NoMemory);
-    };
-    let Ok(mut lines) = LineReader::new(for_lines) else {
-        return Err(TraceFault::NoMemory);
-    };
     let mut replayer = Replayer::<A, L>::new(alloc);
     let mut text = LineText::new();
-    replay_lines(&mut lines, reader, writer, &mut replayer, show, &mut text)
+    replay_lines(lines, reader, writer, &mut replayer, show, &mut text)
 }
 
 // Acts on all lines. The log is kept only where it is to be shown.
 fn replay_text<A: Allocator + Clone + Drop, S: Source, W: Sink>(
     alloc: A,
+    lines: &mut LineReader<A>,
     reader: &mut S,
     writer: &mut W,
     show: Show,
 ) -> Result<(), TraceFault>
+    requires fresh { lines.old ≡ opening }
     ensures ends { Reads (S.stream reader.old) (S.stream reader.new) (λ input unread.
         Ends show input unread (W.contents writer.old) (W.contents writer.new) result) }
     ensures read { result ≡ Err ReadFailed → HasStopped (S.failed reader.new) (S.reads reader.new) }
@@ -169,10 +166,72 @@ fn replay_text<A: Allocator + Clone + Drop, S: Source, W: Sink>(
     ensures kept { (result ≡ Err WriteFailed) ⊎ (W.failed writer.new ≡ W.failed writer.old) }
 {
     match show {
-        Show::OutcomesAndLog => replay_over::<Kept<A>, A, S, W>(alloc, reader, writer, show),
+        Show::OutcomesAndLog => replay_over::<Kept<A>, A, S, W>(alloc, lines, reader, writer, show),
         Show::Outcomes | Show::Maps => replay_over::<Forgotten, A, S, W>(
-            alloc, reader, writer, show,
+            alloc, lines, reader, writer, show,
         ),
+    }
+}
+
+/// How a replay ended, and the lines that it read.
+#[derive(Drop)]
+pub struct Replayed<A: Allocator> {
+    pub ended: Result<(), TraceFault>,
+    /// None where no memory was there for them. After a bad line they give that line.
+    pub lines: Option<LineReader<A>>,
+}
+
+// Acts on all lines. Memory for a chunk of them is taken before anything is read.
+fn replay_read<A: Allocator + Clone + Drop, S: Source, W: Sink>(
+    alloc: A,
+    reader: &mut S,
+    writer: &mut W,
+    show: Show,
+) -> Replayed<A>
+    ensures ends { Reads (S.stream reader.old) (S.stream reader.new) (λ input unread.
+        Ends show input unread (W.contents writer.old) (W.contents writer.new) result.ended) }
+    ensures read { result.ended ≡ Err ReadFailed → HasStopped (S.failed reader.new) (S.reads reader.new) }
+    ensures write { result.ended ≡ Err WriteFailed → W.failed writer.new ≡ true }
+    ensures kept { (result.ended ≡ Err WriteFailed) ⊎ (W.failed writer.new ≡ W.failed writer.old) }
+{
+    let Ok(for_lines) = alloc.clone() else {
+        return Replayed {
+            ended: Err(TraceFault::NoMemory),
+            lines: None,
+        };
+    };
+    let Ok(mut lines) = LineReader::new(for_lines) else {
+        return Replayed {
+            ended: Err(TraceFault::NoMemory),
+            lines: None,
+        };
+    };
+    let ended = replay_text(alloc, &mut lines, reader, writer, show);
+    Replayed {
+        ended,
+        lines: Some(lines),
+    }
+}
+
+/// As `replay`, and hands out the lines that were read, of which the last tells more of a fault.
+pub fn replay_telling<A: Allocator + Clone + Drop, S: Source, W: Sink>(
+    alloc: A,
+    reader: &mut S,
+    writer: &mut W,
+    show: Show,
+) -> Replayed<A>
+    ensures ends { Reads (S.stream reader.old) (S.stream reader.new) (λ input unread.
+        Ends show input unread (W.contents writer.old) (W.contents writer.new) result.ended) }
+    ensures told { TellsFaults result.ended (S.failed reader.new) (S.reads reader.new)
+        (W.failed writer.old) (W.failed writer.new) (W.is_flushed writer.new) }
+{
+    let replayed = replay_read(alloc, reader, writer, show);
+    match writer.flush() {
+        Ok(()) => replayed,
+        Err(_) => Replayed {
+            ended: Err(TraceFault::WriteFailed),
+            lines: replayed.lines,
+        },
     }
 }
 
@@ -197,9 +256,5 @@ pub fn replay<A: Allocator + Clone + Drop, S: Source, W: Sink>(
     ensures told { TellsFaults result (S.failed reader.new) (S.reads reader.new)
         (W.failed writer.old) (W.failed writer.new) (W.is_flushed writer.new) }
 {
-    let done = replay_text(alloc, reader, writer, show);
-    match writer.flush() {
-        Ok(()) => done,
-        Err(_) => Err(TraceFault::WriteFailed),
-    }
+    replay_telling(alloc, reader, writer, show).ended
 }
