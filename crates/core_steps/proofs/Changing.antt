@@ -28,7 +28,7 @@ use Rattle.machine_model.specs.declared.phase.Phase.TheVariants.{Acks, Unlock}
 use Rattle.shootdown.specs.Inboxes.{awaited}
 use Rattle.machine_model.specs.Changes.{AwaitsNobody, Awaits}
 use Rattle.machine_model.specs.World.{World, Hardware}
-use Rattle.machine_laws.specs.Orderly.{IsChosen, LeadsTo}
+use Rattle.machine_laws.specs.Orderly.{IsChosen, IsChangeOf}
 use Rattle.machine_laws.proofs.Deciding.{acts_in, sound_range}
 use Rattle.machine_laws.proofs.Moves.{call_at, IsCallOf}
 use Rattle.core_steps.specs.Moving.{IsAt}
@@ -39,7 +39,7 @@ use Rattle.core_steps.proofs.Known.{order, goal_at, held_range}
 -- ---- a change that is to be made
 
 -- what the pages that are held let the call act on
-act_sound : (w : World) (goal : Goal) (change : Change) → IsSoundGoal goal → LeadsTo goal change → IsChosen w.made w.slots goal (range_of change)
+act_sound : (w : World) (goal : Goal) (change : Change) → IsSoundGoal goal → IsChangeOf goal change → IsChosen w.made w.slots goal (range_of change)
     → IsSoundChange change
 act_sound w (To.Place place target) change sound leads chosen =
     subst IsSoundChange (sym leads) (place-act w.slots place target (Act (range_of change) chosen.0) sound.plan sound.target chosen.1)
@@ -94,7 +94,7 @@ acts_mapped files s (Put range meta) shoot d = tt
 acts_mapped files s (Clear range) shoot d = tt
 acts_mapped files s (Protect range prot) shoot d = all_mapped files s range prot shoot d
 
-protects : (w : World) (goal : Goal) (range : PageRange) (prot : Prot) → LeadsTo goal (Protect range prot) → IsChosen w.made w.slots goal range
+protects : (w : World) (goal : Goal) (range : PageRange) (prot : Prot) → IsChangeOf goal (Protect range prot) → IsChosen w.made w.slots goal range
     → IsMappedFor w.slots (Protect range prot)
 protects w (To.Place place target) range prot leads chosen = absurd cc
 protects w (To.Change planned) range prot leads chosen =

@@ -43,7 +43,7 @@ use Rattle.shootdown.specs.declared.message.Took.TheVariants as TookOf
 use Rattle.shootdown.specs.Messages.{asked, message_of}
 use Rattle.refcache.specs.declared.reports.Review.TheVariants as review
 use Rattle.refcache.specs.Counts.{Counts, true_count}
-use Rattle.refcache.specs.Sound.{IsReached}
+use Rattle.refcache.specs.Sound.{AreReached}
 use Rattle.refcache.specs.Steps.{Takes, Reviewing, IsUnused}
 use Rattle.refcache.proofs.Reached.{reached_is_orderly}
 use Rattle.machine_model.specs.declared.phase.Phase.{Phase}
@@ -108,7 +108,7 @@ cut_at w c phase held i e some = (
 
 -- ---- what the invariant says of the hardware, the counts and the frames
 
-counts_reached : (w : World) → Fine w → IsReached w.memory.counts
+counts_reached : (w : World) → Fine w → AreReached w.memory.counts
 counts_reached w g = g.order.memory.reached
 
 counts_sized : (w : World) → Fine w → (w.memory.counts.cores ≡ w.made.cores) × (w.memory.counts.objects ≡ w.made.frames)
@@ -212,7 +212,7 @@ are_counted w t = record {
 }
 
 -- a frame that a review frees isn't free yet: it was queued
-pub freed_frame : (w v : Counts) (c f : ℕ) → IsReached w → Takes w (Reviewing c (review.Freed f)) v → (f < w.objects) × (w.queued f ≡ true)
+pub freed_frame : (w v : Counts) (c f : ℕ) → AreReached w → Takes w (Reviewing c (review.Freed f)) v → (f < w.objects) × (w.queued f ≡ true)
 freed_frame w v c f r h = (reached_is_orderly w r).fronts c f h.1.1.since h.1.0 h.1.1.front
 
 pub freed_below : (w : World) (c f : ℕ) (v : Counts) → ∥ Fine w ∥₁ → Takes w.memory.counts (Reviewing c (review.Freed f)) v → f < w.made.frames

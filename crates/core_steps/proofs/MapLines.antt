@@ -12,7 +12,8 @@ use Rattle.vm_base.specs.Pages.{IsPage}
 use Rattle.vm_base.specs.Plain.{Entry, Plain}
 use Rattle.slot_lock.specs.Slots.{IsSlotMap}
 use Rattle.map_list.specs.declared.lines.MapLine.{MapLine}
-use Rattle.map_list.specs.Lines.{GoesOn, IsMapList, IsNextLine, NoneMapped, entry_meta, plain_metas}
+use Rattle.vm_base.specs.Runs.{NoneIn}
+use Rattle.map_list.specs.Lines.{GoesOn, IsMapList, IsNextLine, entry_meta, plain_metas}
 use Rattle.map_list.specs.Walked.{info_meta, slot_metas}
 use Rattle.machine_model.specs.World.{World, Memory}
 use Rattle.machine_sound.specs.Invariant.{ShowsPage}
@@ -47,17 +48,17 @@ pub next_map : (w : World) → ∥ IsReached w ∥₁ → (from : ℕ) (result :
 next_map w r from None h = tt
 next_map w r from (Some line) h = λ t leads. subst (λ metas. IsNextLine metas from line) (same_metas w r t leads) h
 
-pub no_map : (w : World) → ∥ IsReached w ∥₁ → (from : ℕ) (result : Option MapLine) → IfNone result (NoneMapped (slot_metas w.slots) from (2 ^ 35))
+pub no_map : (w : World) → ∥ IsReached w ∥₁ → (from : ℕ) (result : Option MapLine) → IfNone result (NoneIn (slot_metas w.slots) from (2 ^ 35))
     → IfNone result (HasNoMap w from)
-no_map w r from None h = λ t leads. subst (λ metas. NoneMapped metas from (2 ^ 35)) (same_metas w r t leads) h
+no_map w r from None h = λ t leads. subst (λ metas. NoneIn metas from (2 ^ 35)) (same_metas w r t leads) h
 no_map w r from (Some line) h = tt
 
 -- and the other way
 pub some_map : {V : Type 0} (w : World) → ∥ IsReached w ∥₁ → (result : Result V NoMemory)
-    → OnErr result (¬ NoneMapped (slot_metas w.slots) 1 (2 ^ 35)) → OnErr result (¬ HasNoMap w 1)
+    → OnErr result (¬ NoneIn (slot_metas w.slots) 1 (2 ^ 35)) → OnErr result (¬ HasNoMap w 1)
 some_map w r (Ok lines) h = tt
 some_map w r (Err none) h = λ nothing. ∥∥₁_elim (legal w r).sound (hlevel props) (λ s.
-    h (subst (λ metas. NoneMapped metas 1 (2 ^ 35)) (sym (same_metas w r s.0 s.1.log)) (nothing s.0 s.1.log)))
+    h (subst (λ metas. NoneIn metas 1 (2 ^ 35)) (sym (same_metas w r s.0 s.1.log)) (nothing s.0 s.1.log)))
 
 pub line_start : (w : World) → ∥ IsReached w ∥₁ → IsSlotMap w.slots → (from : ℕ) → IsLineStart w from
     → ¬ GoesOn (slot_metas w.slots (from - 1)) (slot_metas w.slots from)

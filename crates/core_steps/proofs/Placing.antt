@@ -16,7 +16,8 @@ use Rattle.slot_lock.specs.declared.plan.Target.TheVariants.{Run, Window}
 use Rattle.slot_lock.specs.Plan.{IsSoundGoal, IsSoundPlace}
 use Rattle.slot_lock.specs.Slots.{Slots, IsFreeRun, IsHeld, OwnsAll}
 use Rattle.machine_model.specs.declared.phase.Phase.TheVariants.{Guess, Find, Back, Cut}
-use Rattle.machine_model.specs.Placing.{guess_of, has_run}
+use Rattle.vm_base.specs.Runs.{lies_in}
+use Rattle.machine_model.specs.Placing.{guess_of}
 use Rattle.machine_model.specs.World.{World}
 use Rattle.machine_laws.proofs.Deciding.{acts_in, acts_valid}
 use Rattle.machine_laws.proofs.Moves.{call_at, IsCallOf}
@@ -46,23 +47,23 @@ window_page window h p is =
 pub window_goal : (place : Place) → IsSoundPlace place → IsSoundGoal (To.Place place Window)
 window_goal place sound = record { plan = sound; target = tt }
 
-pub run_goal : (place : Place) (first : ℕ) → IsSoundPlace place → has_run place.window place.count first ≡ true
+pub run_goal : (place : Place) (first : ℕ) → IsSoundPlace place → lies_in place.window place.count first ≡ true
     → IsSoundGoal (To.Place place (Run (pages_from first place.count)))
 run_goal place first sound fits = record {
   plan = sound;
-  target = record { size = refl; low = grind (arith, nat_tests, fits); high = grind (arith, nat_tests, fits) };
+  target = record { size = refl; inside = record { low = grind (arith, nat_tests, fits); high = grind (arith, nat_tests, fits) } };
 }
 
 -- what is found free lies in the window
 pub found_high : (s : Slots) (window : PageRange) (n : ℕ) (found : Option ℕ) → IfSome found (IsFreeRun s window n)
     → IfSome found (λ first. first + n ≤ window.end)
 found_high s window n None h = tt
-found_high s window n (Some first) h = h.high
+found_high s window n (Some first) h = h.inside.high
 
 pub guess_goal : (s : Slots) (place : Place) (found : Option ℕ) → IsSoundPlace place → IfSome found (IsFreeRun s place.window place.count)
     → IsSoundGoal (To.Place place (guess_of place found))
 guess_goal s place None sound h = window_goal place sound
-guess_goal s place (Some first) sound h = record { plan = sound; target = record { size = refl; low = h.low; high = h.high } }
+guess_goal s place (Some first) sound h = record { plan = sound; target = record { size = refl; inside = h.inside } }
 
 -- ---- pages that are let go
 

@@ -60,8 +60,10 @@ pub target_if : (place : Place) (target : Target) → ∥ IsTarget place target 
 target_if place (Hint range) t = hint_is place.hint range t
 target_if place (Run range) t = record {
   size = ∥∥₁_elim t (hlevel props) (λ h. h.size);
-  low = ∥∥₁_elim t (hlevel props) (λ h. h.low);
-  high = ∥∥₁_elim t (hlevel props) (λ h. h.high);
+  inside = record {
+    low = ∥∥₁_elim t (hlevel props) (λ h. h.inside.low);
+    high = ∥∥₁_elim t (hlevel props) (λ h. h.inside.high);
+  };
 }
 target_if place Window t = tt
 

@@ -2,7 +2,8 @@
 use Rattle.std.specs.Prelude.{◌≡◌, ℕ, ◌-◌, ◌^◌, ◌⊎◌, List}
 use Rattle.vm_base.specs.Plain.{Plain}
 use Rattle.map_list.specs.declared.lines.MapLine.{MapLine}
-use Rattle.map_list.specs.Lines.{GoesOn, IsMapList, IsNextLine, NoneMapped, plain_metas}
+use Rattle.vm_base.specs.Runs.{NoneIn}
+use Rattle.map_list.specs.Lines.{GoesOn, IsMapList, IsNextLine, plain_metas}
 use Rattle.machine_model.specs.World.{World}
 use Rattle.machine_sound.specs.Log.{LeadsTo}
 
@@ -21,4 +22,4 @@ IsNextMap w from line = (t : Plain) → LeadsTo w t → IsNextLine (plain_metas 
 
 -- and no valid page from there on is mapped
 abbrev pub HasNoMap : World → ℕ → Type 0
-HasNoMap w from = (t : Plain) → LeadsTo w t → NoneMapped (plain_metas t) from (2 ^ 35)
+HasNoMap w from = (t : Plain) → LeadsTo w t → NoneIn (plain_metas t) from (2 ^ 35)

@@ -7,7 +7,8 @@ ghost use Rattle.slot_lock.specs.declared.plan.Goal.TheVariants as GoalOf;
 ghost use Rattle.slot_lock.specs.declared.plan.Target.TheVariants.{Run};
 ghost use Rattle.slot_lock.specs.Plan.{IsSoundGoal, IsSoundPlace};
 ghost use Rattle.machine_model.specs.Placing.{GuessesThisRun, TakesWindow, back_to, elsewhere};
-ghost use Rattle.machine_model.specs.Placing.{guess_of, has_run, placing, trying};
+ghost use Rattle.machine_model.specs.Placing.{guess_of, placing, trying};
+ghost use Rattle.vm_base.specs.Runs.{lies_in};
 ghost use Rattle.machine_model.specs.Step.{Goes};
 ghost use Rattle.core_steps.specs.State.{phase_of, world};
 ghost use Rattle.core_steps.specs.Moving.{IsAt, IsOf, Tries, WantsMemory};
@@ -69,7 +70,7 @@ fn guess_of(place: Place, found: Option<u64>) -> Target
 /// Tells whether the mapping's pages lie in its window, from the first on.
 fn has_run(place: Place, first: u64) -> bool
     requires { IsSoundPlace place }
-    ensures { result ≡ has_run place.window place.count first }
+    ensures { result ≡ lies_in place.window place.count first }
 {
     place.window.first <= first
         && first <= place.window.end

@@ -25,7 +25,7 @@ run_inside s range d (taken t e) = subst (IsInside range) (sym e) tt
 room_inside : (s : Slots) (place : Place) (found : Option ℕ) → IsLeastRoom (is_mapped (entries s)) place.window place.count found
     → IsInside place.window (act_at found place.count)
 room_inside s place None least = tt
-room_inside s place (Some first) least = (least.0.0, least.0.1)
+room_inside s place (Some first) least = (least.0.0.low, least.0.0.high)
 
 pub placed_inside : (s : Slots) (place : Place) (target : Target) (d : Decision) → DecidesPlace s place target d
     → IsInside (target_range place target) d

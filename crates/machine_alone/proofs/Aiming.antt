@@ -33,7 +33,7 @@ use Rattle.vm_calls.specs.Decisions.{DecidesPlace, DecidesWindow}
 use Rattle.vm_calls.proofs.Passed.{passed}
 use Rattle.vm_calls.proofs.Plainly.{counted}
 use Rattle.machine_model.specs.World.{Made}
-use Rattle.machine_laws.specs.Orderly.{IsChosen, LeadsTo}
+use Rattle.machine_laws.specs.Orderly.{IsChosen, IsChangeOf}
 use Rattle.machine_laws.proofs.Deciding.{acts_valid, run_own}
 use Rattle.vm_base.specs.Requests.{is_access}
 use Rattle.machine_alone.proofs.Using.{DropsAll, change_drops, either_plan, no_change}
@@ -148,7 +148,7 @@ placed_drops t c request place range k valid size =
 
 -- a change to which a goal leads
 pub goal_drops : (modes : ℕ → Option Mode) (made : Made) (s : Slots) (t : Plain) (c : ℕ) (request : Request) (goal : Goal) (change : Change)
-    → checked modes c request ≡ Ok (goal_plan goal) → IsSoundGoal goal → LeadsTo goal change → IsChosen made s goal (range_of change)
+    → checked modes c request ≡ Ok (goal_plan goal) → IsSoundGoal goal → IsChangeOf goal change → IsChosen made s goal (range_of change)
     → DropsAll t c request change
 goal_drops modes made s t c request (To.Place place target) change e g lead d =
     subst (DropsAll t c request) (sym lead)
@@ -177,7 +177,7 @@ change_no_access modes c request change e = go request (passed (refusal modes re
 -- nor what a goal leads to
 pub goal_no_access : (modes : ℕ → Option Mode) (c : ℕ) (request : Request) (goal : Goal) (change : Change)
     → checked modes c request ≡ Ok (goal_plan goal)
-    → LeadsTo goal change → is_access request ≡ false
+    → IsChangeOf goal change → is_access request ≡ false
 goal_no_access modes c request (To.Place place target) change e lead = ap is_access (place_asked modes c request place e).asks
 goal_no_access modes c request (To.Change planned) change e lead = change_no_access modes c request planned e
 goal_no_access modes c request (To.Access touch) change e lead = absurd lead

@@ -9,7 +9,7 @@ use Rattle.vm_base.specs.declared.replies.Reply.TheVariants.{Mapped, Done, Byte,
 use Rattle.vm_base.specs.declared.requests.Request.{Request}
 use Rattle.vm_base.specs.declared.requests.Request.TheVariants.{Mmap, Munmap, Mprotect, Load, Store, Fetch}
 use Rattle.vm_base.specs.declared.rights.Prot.{Prot}
-use Rattle.vm_base.specs.Apply.{Applies, AppliesAfter, FirstApplies, Maps, MapsAt, back_at, range_at}
+use Rattle.vm_base.specs.Apply.{Applies, AppliesAfter, FirstApplies, NewMapping, Maps, MapsAt, back_at, meta_of, range_at}
 use Rattle.vm_base.specs.Pages.{are_pages, page_count, page_of, pages_from, window_of}
 use Rattle.vm_base.specs.Places.{IsFirstPlace, IsFree, IsHint, IsLeastRoom, IsPlace}
 use Rattle.vm_base.specs.Places.IsFirstPlace.{at_hint, in_window}
@@ -65,7 +65,7 @@ least_counted : (mapped : ℕ → Bool) (c len : ℕ) (found : Option ℕ) → c
 least_counted mapped c len None few none = none-found mapped c len few none
 least_counted mapped c len (Some first) few least =
     subst (λ n. IsLeastRoom mapped (window_of c) n (Some first))
-    (counted len (few-found c first (placed_count len) few least.0.1)) least
+    (counted len (few-found c first (placed_count len) few least.0.0.high)) least
 
 -- it is the plain map's
 pub first_place : (mapped : ℕ → Bool) (c : ℕ) (request : Request) (place : Place) (found : Option ℕ) (k : IsPlaceOf c request place)
@@ -110,8 +110,10 @@ placed_first t c request place found reply k few first e u h =
     back : Back
     back = back_at k.flags k.file k.off
 
-    maps : (b : Bool) → b ≡ false → MapsAt IsPlace b t c k.addr k.len back k.prot reply u
-        → MapsAt IsFirstPlace b t c k.addr k.len back k.prot reply u
+    asked : NewMapping
+    asked = record { core = c; addr = k.addr; len = k.len; meta = meta_of k.prot k.flags k.file k.off }
+
+    maps : (b : Bool) → b ≡ false → MapsAt IsPlace b t asked reply u → MapsAt IsFirstPlace b t asked reply u
     maps true i m = absurd cc
     maps false i m =
         let same : found ≡ m.0 = reply_one found m.0 (sym e ∙ maps_reply t u m.0 (page_count k.len) back k.prot reply m.2) in (
@@ -130,15 +132,15 @@ placed_first t c request place found reply k few first e u h =
 pub named_first : (t : Plain) (c : ℕ) (request : Request) (reply : Reply) → is_placed request ≡ false → IsFirstReply t c request reply
 named_first t c request reply named u = go (refusal (λ n. mode_of (t.file n)) request) request named
   where
-    maps : (b : Bool) (addr len : ℕ) (back : Back) (prot : Prot) → not b ≡ false → MapsAt IsPlace b t c addr len back prot reply u
-        → MapsAt IsFirstPlace b t c addr len back prot reply u
-    maps true addr len back prot e m = m
-    maps false addr len back prot e m = absurd cc
+    maps : (b : Bool) (asked : NewMapping) → not b ≡ false → MapsAt IsPlace b t asked reply u → MapsAt IsFirstPlace b t asked reply u
+    maps true asked e m = m
+    maps false asked e m = absurd cc
 
     go : (o : Option Reply) (r : Request) → is_placed r ≡ false → AppliesAfter IsPlace o t c r reply u
         → AppliesAfter IsFirstPlace o t c r reply u
     go (Some y) r e h = h
-    go None (Mmap addr len prot flags file off) e h = maps flags.fixed addr len (back_at flags file off) prot e h
+    go None (Mmap addr len prot flags file off) e h =
+        maps flags.fixed (record { core = c; addr = addr; len = len; meta = meta_of prot flags file off }) e h
     go None (Munmap addr len) e h = h
     go None (Mprotect addr len prot) e h = h
     go None (Load addr) e h = h

@@ -12,7 +12,7 @@ use Rattle.vm_base.specs.Pages.{pages_from}
 use Rattle.vm_base.proofs.Functions.{by_test, put_same, put_other, put_all}
 use Rattle.refcache.specs.Counts.{Counts, true_count}
 use Rattle.refcache.specs.Laws.{change}
-use Rattle.refcache.specs.Sound.{IsReached}
+use Rattle.refcache.specs.Sound.{AreReached}
 use Rattle.refcache.specs.Steps.{Begin, Dec, Takes, IsUnused, CountStep}
 use Rattle.refcache.proofs.Moves.{true_counts_move}
 use Rattle.refcache.proofs.Reached.{steps_reach}
@@ -258,13 +258,13 @@ unfolding CountsDown
 none_down c first zero v w d = d
 none_down c first (suc m) v w d = none_down c (suc first) m d.0 w d.2 ∙ d.1
 
-unused_one : (c : ℕ) (o : Option ℕ) (v m : Counts) (f : ℕ) → CountsOne c o v m → IsReached v → IsUnused v f
-    → IsReached m × IsUnused m f
-unused_one c None v m f e r u = (subst IsReached (sym e) r, subst (λ x. IsUnused x f) (sym e) u)
+unused_one : (c : ℕ) (o : Option ℕ) (v m : Counts) (f : ℕ) → CountsOne c o v m → AreReached v → IsUnused v f
+    → AreReached m × IsUnused m f
+unused_one c None v m f e r u = (subst AreReached (sym e) r, subst (λ x. IsUnused x f) (sym e) u)
 unused_one c (Some g) v m f t r u = (steps_reach v (Dec c g) m r t, unused_stays v (Dec c g) m f r t u (λ k e. cc))
 
 -- what is unused stays so where frames are counted down
-pub unused_down : (c : ℕ) (frame : ℕ → Option ℕ) (first k : ℕ) (v w : Counts) (f : ℕ) → IsReached v
+pub unused_down : (c : ℕ) (frame : ℕ → Option ℕ) (first k : ℕ) (v w : Counts) (f : ℕ) → AreReached v
     → CountsDown c frame first k v w → IsUnused v f → IsUnused w f
 unfolding CountsDown
 unused_down c frame first zero v w f r d u = subst (λ x. IsUnused x f) (sym d) u

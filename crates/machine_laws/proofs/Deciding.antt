@@ -125,7 +125,7 @@ room_in window range first n p low high e h =
 window_in : (s : Slots) (place : Place) (range : PageRange) (shoot p : ℕ) → DecidesWindow s place (Act range shoot) → has range p ≡ true
     → has place.window p ≡ true
 window_in s place range shoot p (None, none, e) h = absurd cc
-window_in s place range shoot p (Some first, least, e) h = room_in place.window range first place.count p least.0.0 least.0.1 (cc) h
+window_in s place range shoot p (Some first, least, e) h = room_in place.window range first place.count p least.0.0.low least.0.0.high (cc) h
 
 -- a call changes pages that it holds
 pub acts_in : (files : ℕ → Option File) (s : Slots) (goal : Goal) (range : PageRange) (shoot p : ℕ) → Decides files s goal (Act range shoot)
@@ -155,7 +155,7 @@ place_free s place (Hint run) range shoot d = free_of s run range shoot d
 place_free s place (Run run) range shoot d = free_of s run range shoot d
 place_free s place Window range shoot (None, none, e) = absurd cc
 place_free s place Window range shoot (Some first, least, e) =
-    let same : pages_from first place.count ≡ range = cc in subst (IsFree (is_mapped (entries s))) same least.0.2
+    let same : pages_from first place.count ≡ range = cc in subst (IsFree (is_mapped (entries s))) same least.0.1
 
 -- a mapping is refused in its window alone, and is never sent on from it
 pub window_stays : (s : Slots) (place : Place) → DecidesWindow s place Again → ⊥

@@ -20,6 +20,7 @@ use Rattle.vm_base.specs.declared.requests.Request.{Request}
 use Rattle.vm_base.specs.Plain.{File}
 use Rattle.vm_base.specs.Pages.{IsPage, pages_from}
 use Rattle.vm_base.specs.Places.{IsLeastRoom}
+use Rattle.vm_base.specs.Runs.{LiesIn}
 use Rattle.vm_base.specs.Plain.{is_mapped}
 use Rattle.vm_base.specs.Rights.{is_allowed}
 use Rattle.mmu.specs.Tlb.{tlb_at}
@@ -364,13 +365,13 @@ lock_shape w c goal cursor (Held by) t o v lt e s h = rests (waits c goal cursor
 
 -- ---- a placed mapping
 
-run_of : (window : PageRange) (n first : ℕ) → window.first ≤ first → first + n ≤ window.end → IsRunOf window n (pages_from first n)
-run_of window n first low high = record { size = refl; low = low; high = high }
+run_of : (window : PageRange) (n first : ℕ) → LiesIn window n first → IsRunOf window n (pages_from first n)
+run_of window n first inside = record { size = refl; inside = inside }
 
 pub guess_is_target : (mapped : ℕ → Bool) (place : Place) (found : Option ℕ) → IsLeastRoom mapped place.window place.count found
     → IsTarget place (guess_of place found)
 guess_is_target mapped place None h = tt
-guess_is_target mapped place (Some first) h = run_of place.window place.count first h.0.0 h.0.1
+guess_is_target mapped place (Some first) h = run_of place.window place.count first h.0.0
 
 guess_shape : (w : World) (c : ℕ) (place : Place) (o : Outcome) (v : World) → c < w.made.cores → w.calls.phase c ≡ Guess place
     → GuessesNext w c place o v → Shape w (Go c) o v
@@ -384,8 +385,8 @@ find_shape w c place target (Act range shoot) v e d h = moves (Cut place target 
 find_shape w c place target Again v e d h = moves (Leaving place target (target_range place target)) (turns place target e refl d) h
 
 cut_shape : (w : World) (c : ℕ) (place : Place) (target : Target) (range : PageRange) (f : Fit) (t : Slots) (o : Outcome) (v : World)
-    → c < w.made.cores → w.calls.phase c ≡ Cut place target range → CutSteps w.slots t c range f → CutsTo w c place target range t f o v
-    → Shape w (Go c) o v
+    → c < w.made.cores → w.calls.phase c ≡ Cut place target range → CutSteps w.slots t c range f
+    → CutsTo w t f (after_cuts c place target range w) o v → Shape w (Go c) o v
 cut_shape w c place target range fit.Cut t o v lt e s h = step w c o v lt h.0 (cuts place target range t e s h.1)
 cut_shape w c place target range fit.Fits t o v lt e s h =
     step w c o v lt h.0 (fits place target range e s.0 h.1)
@@ -575,7 +576,7 @@ run_shape w c first (Guess place) o v lt e h = go (nat_le place.window.first fir
     go : (a b : Bool) → nat_le place.window.first first ≡ a → nat_le (first + place.count) place.window.end ≡ b
         → cond (a && b) (Becomes (after_guess c place (Run (pages_from first place.count)) w) o v) (Idles w o v) → Shape w (EventOf.Guess c first) o v
     go true true i j k = aims c place (Run (pages_from first place.count))
-        (at_run first (run_of place.window place.count first (upto _ _ i) (upto _ _ j))) k.0 lt e k.1
+        (at_run first (run_of place.window place.count first (record { low = upto _ _ i; high = upto _ _ j }))) k.0 lt e k.1
     go true false i j k = idles w (EventOf.Guess c first) o v (λ d x. cc) (λ d r x. cc) k
     go false b i j k = idles w (EventOf.Guess c first) o v (λ d x. cc) (λ d r x. cc) k
 run_shape w c first Free o v lt e h = idles w (EventOf.Guess c first) o v (λ d x. cc) (λ d r x. cc) h

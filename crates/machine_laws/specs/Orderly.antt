@@ -24,7 +24,7 @@ use Rattle.slot_lock.specs.Slots.{Slots, IsNew}
 use Rattle.vm_calls.specs.declared.decision.Decision.TheVariants.{Act}
 use Rattle.vm_calls.specs.Decisions.{Decides}
 use Rattle.vm_calls.specs.Settling.{is_private_store}
-use Rattle.refcache.specs.Sound.{IsReached}
+use Rattle.refcache.specs.Sound.{AreReached}
 use Rattle.machine_model.specs.declared.event.Event.{Event}
 use Rattle.machine_model.specs.declared.event.Outcome.{Outcome}
 use Rattle.vm_base.specs.declared.log.Entry.{Entry}
@@ -109,10 +109,10 @@ abbrev pub IsChosen : Made → Slots → Goal → PageRange → Type 0
 IsChosen made s goal range = (shoot : ℕ) × Decides made.file s goal (Act range shoot)
 
 -- what a call with this goal changes
-abbrev pub LeadsTo : Goal → Change → Type 0
-LeadsTo (To.Place place target) change = change ≡ Put (range_of change) place.meta
-LeadsTo (To.Change planned) change = change ≡ planned
-LeadsTo (To.Access touch) change = ⊥
+abbrev pub IsChangeOf : Goal → Change → Type 0
+IsChangeOf (To.Place place target) change = change ≡ Put (range_of change) place.meta
+IsChangeOf (To.Change planned) change = change ≡ planned
+IsChangeOf (To.Access touch) change = ⊥
 
 -- a mapping that can't go there looks elsewhere
 abbrev pub IsPassed : Target → Type 0
@@ -137,7 +137,7 @@ IsReady made s cached (Cut place target range) =
 IsReady made s cached (Post change shoot) =
     Decides made.file s (To.Change change) (Act (range_of change) shoot)
 IsReady made s cached (Acks goal change) =
-    HasTarget goal × LeadsTo goal change × IsChosen made s goal (range_of change)
+    HasTarget goal × IsChangeOf goal change × IsChosen made s goal (range_of change)
 IsReady made s cached (Unlock held reply) = IsPageRange held
 IsReady made s cached (Want touch old) =
     IsUsable made.file (s.info touch.page) touch.access old
@@ -167,7 +167,7 @@ pub record BelongsTo (made : Made) (page : ℕ) (info : Option PageInfo) : Type 
 pub record IsMemory (made : Made) (m : Memory) : Type 0 where
   pub free : (f : ℕ) → m.is_free f ≡ true → f < made.frames
   pub cached : (n k f : ℕ) → m.cached n k ≡ Some f → f < made.frames
-  pub reached : IsReached m.counts
+  pub reached : AreReached m.counts
   pub cores : m.counts.cores ≡ made.cores
   pub objects : m.counts.objects ≡ made.frames
 

@@ -1,11 +1,12 @@
 -- How a mapping without MAP_FIXED finds its place: its hint's pages are locked, then those of one
 -- run of its window that it guesses to be free, then its window, never two of them at once. It goes
 -- to pages that are free while it holds them.
-use Rattle.std.specs.Prelude.{◌≡◌, ℕ, ◌+◌, ◌&&◌, nat_le, Bool, Option, None, Some, cond}
+use Rattle.std.specs.Prelude.{◌≡◌, ℕ, Option, None, Some, cond}
 use Rattle.vm_base.specs.declared.page.PageRange.{PageRange}
 use Rattle.vm_base.specs.declared.replies.Reply.TheVariants.{Refused}
 use Rattle.vm_base.specs.Pages.{pages_from}
 use Rattle.vm_base.specs.Places.{IsLeastRoom}
+use Rattle.vm_base.specs.Runs.{lies_in}
 use Rattle.vm_base.specs.Plain.{is_mapped}
 use Rattle.slot_lock.specs.declared.plan.Change.TheVariants.{Put}
 use Rattle.slot_lock.specs.declared.plan.Goal.TheVariants as To
@@ -54,14 +55,10 @@ GuessesNext w c place o v =
     (found : Option ℕ) × IsLeastRoom (is_mapped (entries w.slots)) place.window place.count found
     × Becomes (after_guess c place (guess_of place found) w) o v
 
--- so many pages from the page on lie in the window
-abbrev pub has_run : PageRange → ℕ → ℕ → Bool
-has_run window count first = nat_le window.first first && nat_le (first + count) window.end
-
 -- a call that looks for a place guesses the run from this page on, if it lies in its window
 abbrev pub GuessesThisRun : World → ℕ → Phase → ℕ → Outcome → World → Type 0
 GuessesThisRun w c (Guess place) first o v =
-    cond (has_run place.window place.count first)
+    cond (lies_in place.window place.count first)
     (Becomes (after_guess c place (Run (pages_from first place.count)) w) o v)
     (Idles w o v)
 GuessesThisRun w c _ first o v = Idles w o v
@@ -110,11 +107,13 @@ GoesBack w c place target held o v =
 abbrev pub after_cuts : ℕ → Place → Target → PageRange → World → World
 after_cuts c place target range w = to c (Acks (To.Place place target) (Put range place.meta)) w
 
-abbrev pub CutsTo : World → ℕ → Place → Target → PageRange → Slots → Fit → Outcome → World → Type 0
-CutsTo w c place target range t fit.Cut o v = Becomes (record w { slots = t }) o v
-CutsTo w c place target range t fit.Fits o v = Becomes (after_cuts c place target range w) o v
+-- what a step to t comes to, where the call goes on as in `cut` once no slot crosses an edge
+abbrev pub CutsTo : World → Slots → Fit → World → Outcome → World → Type 0
+CutsTo w t fit.Cut cut o v = Becomes (record w { slots = t }) o v
+CutsTo w t fit.Fits cut o v = Becomes cut o v
 
 -- One step towards a range whose edges no slot crosses. How a slot is divided the slot map chooses.
 abbrev pub CutsNext : World → ℕ → Place → Target → PageRange → Outcome → World → Type 0
 CutsNext w c place target range o v =
-    (f : Fit) × ((t : Slots) × CutSteps w.slots t c range f × CutsTo w c place target range t f o v)
+    (f : Fit) × ((t : Slots) × CutSteps w.slots t c range f
+    × CutsTo w t f (after_cuts c place target range w) o v)

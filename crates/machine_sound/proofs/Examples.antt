@@ -57,14 +57,14 @@ legal = (
 
 -- the same mapping may as well be anywhere in its core's window
 elsewhere : (t : Plain) × Stands nothing 0 (Mmap 65536 4096 read_write (anonymous false) 0 0) (Mapped 549755813888) t
-elsewhere = (_, (Some 134217728, in_window 134217728 (omega arith, omega arith, λ p h. refl) refl, (refl, refl)))
+elsewhere = (_, (Some 134217728, in_window 134217728 (record { low = omega arith; high = omega arith }, λ p h. refl) refl, (refl, refl)))
 
 -- but it isn't refused while there is room
 no_refusal : (t : Plain) → Stands nothing 0 (Mmap 65536 4096 read_write (anonymous false) 0 0) (Refused ENOMEM) t → ⊥
 no_refusal t h = elim h.1 [
   | at_hint a e ↦ placed _ e
   | in_window s a e ↦ placed s e
-  | nowhere a e ↦ a 134217728 (omega arith, omega arith, λ p i. refl)
+  | nowhere a e ↦ a 134217728 (record { low = omega arith; high = omega arith }, λ p i. refl)
 ]
   where
     placed : (s : ℕ) → h.0 ≡ Some s → ⊥

@@ -12,7 +12,7 @@ use Rattle.vm_base.specs.declared.requests.Request.{Request}
 use Rattle.vm_base.specs.Plain.{Plain, mode_of}
 use Rattle.vm_base.specs.Refusals.{refusal}
 use Rattle.vm_base.specs.Places.{IsPlace}
-use Rattle.vm_base.specs.Apply.{Applies, AppliesAfter, Performs, Maps, MapsAt, Protects, mapped, range_at, back_at}
+use Rattle.vm_base.specs.Apply.{Applies, AppliesAfter, NewMapping, Performs, Maps, MapsAt, Protects, after_mapping, range_at, meta_of}
 use Rattle.vm_base.specs.Apply.Protects.{no_page, no_write, done}
 use Rattle.vm_base.specs.declared.log.Entry.{Entry}
 use Rattle.vm_base.specs.declared.log.Entry.TheVariants.{Answer, Detach}
@@ -29,12 +29,12 @@ maps_one t u v n (Some s) (Some r) back prot y h k =
     let e : Mapped (s * 4096) ≡ Mapped (r * 4096) = sym h.0 ∙ k.0 in
     let at : s * 4096 ≡ r * 4096 = cc in
     let same : s ≡ r = omega (arith, at) in
-    h.1 ∙ (ap (λ (p : ℕ). mapped t (pages_from p n) back prot) same ∙ sym k.1)
+    h.1 ∙ (ap (λ (p : ℕ). after_mapping t (pages_from p n) back prot) same ∙ sym k.1)
 
-maps_at_one : (fixed : Bool) (t u v : Plain) (core addr len : ℕ) (back : Back) (prot : Prot) (y : Reply)
-    → MapsAt IsPlace fixed t core addr len back prot y u → MapsAt IsPlace fixed t core addr len back prot y v → u ≡ v
-maps_at_one true t u v core addr len back prot y h k = h.1 ∙ sym k.1
-maps_at_one false t u v core addr len back prot y h k = maps_one t u v (page_count len) h.0 k.0 back prot y h.2 k.2
+maps_at_one : (fixed : Bool) (t u v : Plain) (m : NewMapping) (y : Reply)
+    → MapsAt IsPlace fixed t m y u → MapsAt IsPlace fixed t m y v → u ≡ v
+maps_at_one true t u v m y h k = h.1 ∙ sym k.1
+maps_at_one false t u v m y h k = maps_one t u v (page_count m.len) h.0 k.0 m.meta.back m.meta.prot y h.2 k.2
 
 protects_one : (t u v : Plain) (r : PageRange) (prot : Prot) (y : Reply) → Protects t r prot y u → Protects t r prot y v → u ≡ v
 protects_one t u v r prot y h k = elim h [
@@ -56,7 +56,8 @@ protects_one t u v r prot y h k = elim h [
 ]
 
 performs_one : (t u v : Plain) (core : ℕ) (request : Request) (y : Reply) → Performs IsPlace t core request y u → Performs IsPlace t core request y v → u ≡ v
-performs_one t u v core (Mmap addr len prot flags file off) y h k = maps_at_one flags.fixed t u v core addr len (back_at flags file off) prot y h k
+performs_one t u v core (Mmap addr len prot flags file off) y h k =
+    maps_at_one flags.fixed t u v (record { core = core; addr = addr; len = len; meta = meta_of prot flags file off }) y h k
 performs_one t u v core (Munmap addr len) y h k = h.1 ∙ sym k.1
 performs_one t u v core (Mprotect addr len prot) y h k = protects_one t u v _ prot y h k
 performs_one t u v core (LoadOf addr) y h k = h.1 ∙ sym k.1

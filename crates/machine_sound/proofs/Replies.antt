@@ -42,7 +42,7 @@ use Rattle.machine_model.specs.declared.event.Event.{Event}
 use Rattle.vm_base.specs.declared.log.Entry.TheVariants as EntryOf
 use Rattle.machine_model.specs.Changes.{checked_by, reply_to}
 use Rattle.machine_model.specs.World.{World, Memory}
-use Rattle.machine_laws.specs.Orderly.{IsChosen, LeadsTo}
+use Rattle.machine_laws.specs.Orderly.{IsChosen, IsChangeOf}
 use Rattle.vm_base.specs.Log.{Stands, CanAccess}
 use Rattle.machine_sound.specs.Sound.{IsDue}
 use Rattle.machine_sound.specs.Invariant.{Good, ShowsPage, ShowsFile}
@@ -192,7 +192,7 @@ abbrev pub made_of : Plain → Change → Plain
 made_of t change = left_by t (To.Change change) (range_of change)
 
 -- the change to which a goal leads is the one that its decision answers
-led_to : (t : Plain) (c : ℕ) (request : Request) (goal : Goal) (change : Change) → LeadsTo goal change
+led_to : (t : Plain) (c : ℕ) (request : Request) (goal : Goal) (change : Change) → IsChangeOf goal change
     → Applies t c request (answer_to goal (range_of change)) (left_by t goal (range_of change))
     → Applies t c request (reply_to change) (made_of t change)
 led_to t c request (To.Place place target) change e h =
@@ -202,14 +202,14 @@ led_to t c request (To.Change planned) change e h =
 led_to t c request (To.Access touch) change e h = absurd e
 
 -- a goal that leads to a change is no access
-pub led_goes : (goal : Goal) (change : Change) → LeadsTo goal change → IsNoAccess goal
+pub led_goes : (goal : Goal) (change : Change) → IsChangeOf goal change → IsNoAccess goal
 led_goes (To.Place place target) change e = tt
 led_goes (To.Change planned) change e = tt
 led_goes (To.Access touch) change e = absurd e
 
 -- a change that is made
 pub acted : (w : World) (t : Plain) (c : ℕ) (request : Request) (goal : Goal) (change : Change) → Good w t → Knows w c request goal
-    → LeadsTo goal change → IsChosen w.made w.slots goal (range_of change) → Stands t c request (reply_to change) (made_of t change)
+    → IsChangeOf goal change → IsChosen w.made w.slots goal (range_of change) → Stands t c request (reply_to change) (made_of t change)
 acted w t c request goal change g k e h =
     stands_so t (made_of t change) c request (reply_to change) (reply_is change)
     (led_to t c request goal change e (decided_plain w t c request goal (Act (range_of change) h.0) g k h.1))

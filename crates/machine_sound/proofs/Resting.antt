@@ -30,7 +30,8 @@ use Rattle.machine_model.specs.Counting.{ReportsFlush, ReportsReview}
 use Rattle.machine_model.specs.Events.{core_of}
 use Rattle.machine_model.specs.GivingUp.{GivesUp, GivesUpCopy, after_give_up}
 use Rattle.machine_model.specs.Holding.{can_give_up}
-use Rattle.machine_model.specs.Placing.{GuessesThisRun, TakesWindow, has_run, after_guess}
+use Rattle.vm_base.specs.Runs.{lies_in}
+use Rattle.machine_model.specs.Placing.{GuessesThisRun, TakesWindow, after_guess}
 use Rattle.slot_lock.specs.declared.plan.Target.TheVariants.{Run}
 use Rattle.vm_base.specs.Pages.{pages_from}
 use Rattle.machine_model.specs.Step.{Acts, Begins, Step, after_call, event_limit, is_here, with_event}
@@ -103,7 +104,7 @@ guess_idle : (w : World) (c first : ℕ) (phase : Phase) (v : World) → Guesses
 guess_idle w c first Free v h = refl
 guess_idle w c first (Check r) v h = refl
 guess_idle w c first (Lock goal cursor) v h = refl
-guess_idle w c first (Guessing place) v h = untrue (has_run place.window place.count first) (after_guess c place (Run (pages_from first place.count)) w) w v h
+guess_idle w c first (Guessing place) v h = untrue (lies_in place.window place.count first) (after_guess c place (Run (pages_from first place.count)) w) w v h
 guess_idle w c first (Find place target) v h = refl
 guess_idle w c first (Leaving place target held) v h = refl
 guess_idle w c first (Cut place target range) v h = refl

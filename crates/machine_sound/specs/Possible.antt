@@ -16,7 +16,7 @@ use Rattle.machine_model.specs.declared.phase.Phase.TheVariants.{CopyAcks}
 use Rattle.machine_model.specs.Changes.{Awaits}
 use Rattle.machine_model.specs.Events.{core_of}
 use Rattle.machine_model.specs.Holding.{can_give_up}
-use Rattle.machine_model.specs.Placing.{has_run}
+use Rattle.vm_base.specs.Runs.{lies_in}
 use Rattle.machine_model.specs.Step.{event_limit, is_here}
 use Rattle.machine_model.specs.Translating.{can_walk}
 use Rattle.machine_model.specs.World.{World, Hardware}
@@ -35,7 +35,7 @@ looks_for_place _ = false
 
 -- and has room there from the page on
 abbrev pub can_guess : Phase → ℕ → Bool
-can_guess (Guessing place) first = has_run place.window place.count first
+can_guess (Guessing place) first = lies_in place.window place.count first
 can_guess _ first = false
 
 -- the call can't be given up (any more), or it waits for other cores before it makes a copy

@@ -5,10 +5,11 @@ use Rattle.vm_base.specs.declared.info.Meta.{Meta}
 use Rattle.map_list.specs.declared.lines.MapLine.{MapLine}
 use Rattle.vm_base.specs.Pages.{IsPage}
 use Rattle.slot_lock.specs.Slots.{Slots, IsSlotMap}
-use Rattle.map_list.specs.Lines.{GoesOn, IsMapList, IsNextLine, ListsLines, NoneMapped}
+use Rattle.vm_base.specs.Runs.{NoneIn}
+use Rattle.map_list.specs.Lines.{GoesOn, IsMapList, IsNextLine, ListsLines}
 use Rattle.map_list.specs.Walked.{info_meta, slot_metas}
 
-none_then : (meta : ℕ → Option Meta) (first m end : ℕ) → NoneMapped meta first m → NoneMapped meta m end → NoneMapped meta first end
+none_then : (meta : ℕ → Option Meta) (first m end : ℕ) → NoneIn meta first m → NoneIn meta m end → NoneIn meta first end
 none_then meta first m end h g = λ p a b. ⊎_elim (λ (l : p < m). h p a l) (λ (l : m ≤ p). g p l b) (cases_lt p m)
 
 -- one more line
@@ -26,7 +27,7 @@ lists_more meta first m (x ∷ xs) y l h next = (
 )
 
 -- no more lines
-pub lists_end : (meta : ℕ → Option Meta) (first m end : ℕ) (xs : List MapLine) → m ≤ end → ListsLines meta first m xs → NoneMapped meta m end
+pub lists_end : (meta : ℕ → Option Meta) (first m end : ℕ) (xs : List MapLine) → m ≤ end → ListsLines meta first m xs → NoneIn meta m end
     → ListsLines meta first end xs
 lists_end meta first m end [] l h none = none_then meta first m end h none
 lists_end meta first m end (x ∷ xs) l h none = (h.0, (let a = h.1 in omega arith), lists_end meta x.range.end m end xs l h.2 none)
@@ -57,6 +58,6 @@ to_first s laws = record {
 }
 
 -- where no more pages are mapped, these are all
-pub lists_all : (meta : ℕ → Option Meta) (lines : List MapLine) (from : ℕ) → ListsTo meta lines from → NoneMapped meta from (2 ^ 35)
+pub lists_all : (meta : ℕ → Option Meta) (lines : List MapLine) (from : ℕ) → ListsTo meta lines from → NoneIn meta from (2 ^ 35)
     → IsMapList meta lines
 lists_all meta lines from h none = lists_end meta 1 from (2 ^ 35) lines h.high h.lists none

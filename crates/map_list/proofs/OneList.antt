@@ -6,7 +6,8 @@ use Rattle.vm_base.specs.declared.info.Back.TheVariants.{Anon, Shared, Private}
 use Rattle.vm_base.specs.declared.info.Meta.{Meta}
 use Rattle.vm_base.specs.Info.{advance, advance_back}
 use Rattle.map_list.specs.declared.lines.MapLine.{MapLine}
-use Rattle.map_list.specs.Lines.{GoesOn, IsLine, IsNextLine, ListsLines, NoneMapped, line_meta}
+use Rattle.vm_base.specs.Runs.{NoneIn}
+use Rattle.map_list.specs.Lines.{GoesOn, IsLine, IsNextLine, ListsLines, line_meta}
 use Rattle.map_list.proofs.Walks.{twice}
 
 back_zero : (b : Back) → advance_back b 0 ≡ b
@@ -23,7 +24,7 @@ first_mapped meta x is =
     ∙ (ap (λ (n : ℕ). Some (advance (line_meta x) n)) none ∙ ap (λ (b : Back). Some (record { back = b; prot = x.prot })) (back_zero x.back))
 
 -- so no line begins among unmapped pages
-never : (meta : ℕ → Option Meta) (first end : ℕ) (x : MapLine) → NoneMapped meta first end → IsLine meta x → first ≤ x.range.first → x.range.first < end
+never : (meta : ℕ → Option Meta) (first end : ℕ) (x : MapLine) → NoneIn meta first end → IsLine meta x → first ≤ x.range.first → x.range.first < end
     → ⊥
 never meta first end x none is low high =
     let unmapped = none x.range.first low high in

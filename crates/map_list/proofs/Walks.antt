@@ -14,7 +14,8 @@ use Rattle.vm_base.proofs.Functions.{has_in}
 use Rattle.slot_lock.specs.Slots.{Slots, IsSlot, IsSlotMap}
 use Rattle.slot_lock.proofs.SlotLaws.{info_on}
 use Rattle.slot_lock.proofs.Steps.{slot_by_edge}
-use Rattle.map_list.specs.Lines.{GoesOn, IsNextLine, NoneMapped}
+use Rattle.vm_base.specs.Runs.{NoneIn}
+use Rattle.map_list.specs.Lines.{GoesOn, IsNextLine}
 use Rattle.map_list.specs.Walked.{info_meta, slot_metas, IsFirstMapped, IsRun}
 
 -- ---- what the pages of a mapping are mapped to
@@ -69,12 +70,12 @@ later s laws slot page p h low high =
 
 -- ---- unmapped pages
 
-none_at_first : (meta : ℕ → Option Meta) (from : ℕ) → NoneMapped meta from from
+none_at_first : (meta : ℕ → Option Meta) (from : ℕ) → NoneIn meta from from
 none_at_first meta from = λ p a b. absurd (omega arith)
 
 -- the slot of an unmapped page is passed
 none_next : (s : Slots) → IsSlotMap s → (from page : ℕ) (slot : PageRange) → Holds s slot page → s.info page ≡ None
-    → NoneMapped (slot_metas s) from page → NoneMapped (slot_metas s) from slot.end
+    → NoneIn (slot_metas s) from page → NoneIn (slot_metas s) from slot.end
 none_next s laws from page slot h e before = λ p a b. ⊎_elim
     (λ (l : p < page). before p a l)
     (λ (l : page ≤ p). ap info_meta (later s laws slot page p h l b) ∙ unmapped_from (s.info page) (p - page) (ap info_meta e))
@@ -159,7 +160,7 @@ line_is metas from first meta end low not f run more = record {
 -- no page from a page on up to this one is mapped
 pub record NoneBelow (meta : ℕ → Option Meta) (from page : ℕ) : Type 0 where
   pub low : from ≤ page
-  pub none : NoneMapped meta from page
+  pub none : NoneIn meta from page
 
 pub below_first : (meta : ℕ → Option Meta) (from : ℕ) → NoneBelow meta from from
 below_first meta from = record { low = omega arith; none = none_at_first meta from }
@@ -175,5 +176,5 @@ pub first_is : (s : Slots) (from page : ℕ) (info : PageInfo) → NoneBelow (sl
     → IsFirstMapped (slot_metas s) from page info.meta
 first_is s from page info n high e = record { low = n.low; high = high; before = n.none; mapped = ap info_meta e }
 
-pub none_to_limit : (meta : ℕ → Option Meta) (from page : ℕ) → NoneBelow meta from page → 2 ^ 35 ≤ page → NoneMapped meta from (2 ^ 35)
+pub none_to_limit : (meta : ℕ → Option Meta) (from page : ℕ) → NoneBelow meta from page → 2 ^ 35 ≤ page → NoneIn meta from (2 ^ 35)
 none_to_limit meta from page n high = λ p a b. n.none p a (omega arith)

@@ -2,6 +2,7 @@
 -- on from the first
 use Rattle.std.specs.Prelude.{◌≡◌, ℕ, ◌-◌, ◌^◌, ◌<◌, ◌≤◌, List, [], ◌∷◌, Option, None, Some}
 use Rattle.vm_base.specs.declared.info.Meta.{Meta}
+use Rattle.vm_base.specs.Runs.{NoneIn}
 use Rattle.vm_base.specs.Info.{advance}
 use Rattle.vm_base.specs.Pages.{IsPageRange}
 use Rattle.vm_base.specs.Plain.{Entry, Plain}
@@ -14,10 +15,6 @@ entry_meta (Some e) = Some (record { back = e.back; prot = e.prot })
 
 abbrev pub plain_metas : Plain → ℕ → Option Meta
 plain_metas t p = entry_meta (t.entry p)
-
--- no page from first up to end is mapped
-abbrev pub NoneMapped : (ℕ → Option Meta) → ℕ → ℕ → Type 0
-NoneMapped meta first end = (p : ℕ) → first ≤ p → p < end → meta p ≡ None
 
 -- ---- lines
 
@@ -44,11 +41,11 @@ pub record IsLine (meta : ℕ → Option Meta) (line : MapLine) : Type 0 where
 pub record IsNextLine (meta : ℕ → Option Meta) (from : ℕ) (line : MapLine) : Type 0 where
   pub is : IsLine meta line
   pub low : from ≤ line.range.first
-  pub before : NoneMapped meta from line.range.first
+  pub before : NoneIn meta from line.range.first
 
 -- these are the lines from first up to end, in order, and no other page there is mapped
 abbrev pub ListsLines : (ℕ → Option Meta) → ℕ → ℕ → List MapLine → Type 0
-ListsLines meta first end [] = NoneMapped meta first end
+ListsLines meta first end [] = NoneIn meta first end
 ListsLines meta first end (x ∷ xs) =
     IsNextLine meta first x × (x.range.end ≤ end) × ListsLines meta x.range.end end xs
 

@@ -4,7 +4,7 @@ use Rattle.vm_base.specs.declared.info.Meta.{Meta}
 use Rattle.vm_base.specs.declared.info.PageInfo.{PageInfo}
 use Rattle.vm_base.specs.Info.{advance}
 use Rattle.slot_lock.specs.Slots.{Slots}
-use Rattle.map_list.specs.Lines.{NoneMapped}
+use Rattle.vm_base.specs.Runs.{NoneIn}
 
 -- what a page is mapped to, if it is mapped
 abbrev pub info_meta : Option PageInfo → Option Meta
@@ -18,7 +18,7 @@ slot_metas s p = info_meta (s.info p)
 pub record IsFirstMapped (meta : ℕ → Option Meta) (from first : ℕ) (its : Meta) : Type 0 where
   pub low : from ≤ first
   pub high : first < 2 ^ 35
-  pub before : NoneMapped meta from first
+  pub before : NoneIn meta from first
   pub mapped : meta first ≡ Some its
 
 -- the valid pages from first up to end are mapped one after another

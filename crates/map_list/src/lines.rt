@@ -4,7 +4,8 @@ ghost use Rattle.std.specs.Prelude.{IfOk, OnErr, Some};
 ghost use Rattle.vm_base.specs.Info.{advance};
 ghost use Rattle.vm_base.specs.Pages.{IsPage};
 ghost use Rattle.slot_lock.specs.Slots.{IsSlotMap};
-ghost use Rattle.map_list.specs.Lines.{GoesOn, IsMapList, IsNextLine, NoneMapped};
+ghost use Rattle.vm_base.specs.Runs.{NoneIn};
+ghost use Rattle.map_list.specs.Lines.{GoesOn, IsMapList, IsNextLine};
 ghost use Rattle.map_list.specs.Walked.{info_meta, slot_metas, IsFirstMapped, IsRun};
 
 use slot_lock::SlotRead;
@@ -43,7 +44,7 @@ fn first_mapped<M: SlotRead>(map: &M, from: u64) -> Option<(u64, Meta)>
     requires from { 1 ≤ from }
     ensures some { IfSome result (λ found.
         IsFirstMapped (slot_metas (M.slots map.now)) from found.0 found.1) }
-    ensures none { IfNone result (NoneMapped (slot_metas (M.slots map.now)) from (2 ^ 35)) }
+    ensures none { IfNone result (NoneIn (slot_metas (M.slots map.now)) from (2 ^ 35)) }
 {
     let mut page = from;
     'slots: while page < LIMIT {
@@ -88,7 +89,7 @@ pub fn next_line<M: SlotRead>(map: &M, from: u64) -> Option<MapLine>
     requires begins { ¬ GoesOn (slot_metas (M.slots map.now) (from - 1))
         (slot_metas (M.slots map.now) from) }
     ensures some { IfSome result (IsNextLine (slot_metas (M.slots map.now)) from) }
-    ensures none { IfNone result (NoneMapped (slot_metas (M.slots map.now)) from (2 ^ 35)) }
+    ensures none { IfNone result (NoneIn (slot_metas (M.slots map.now)) from (2 ^ 35)) }
 {
     let Some((first, meta)) = first_mapped(map, from) else {
         return None;
@@ -106,7 +107,7 @@ pub fn all_lines<M: SlotRead, A: Allocator>(map: &M, alloc: A) -> Result<Vec<Map
     requires laws { IsSlotMap (M.slots map.now) }
     requires reads { (p : ℕ) → IsPage p → M.reads map.now p }
     ensures lines { IfOk result (λ lines. IsMapList (slot_metas (M.slots map.now)) lines.items) }
-    ensures err_only { OnErr result (¬ NoneMapped (slot_metas (M.slots map.now)) 1 (2 ^ 35)) }
+    ensures err_only { OnErr result (¬ NoneIn (slot_metas (M.slots map.now)) 1 (2 ^ 35)) }
 {
     let mut lines = Vec::new(alloc);
     let mut from = 1;

@@ -8,7 +8,7 @@ use Rattle.vm_base.specs.Functions.{put}
 use Rattle.vm_base.specs.Plain.{Bytes, File, file_bytes}
 use Rattle.vm_base.specs.Apply.{with_byte}
 use Rattle.plain_map.specs.declared.file.PlainFile.{PlainFile}
-use Rattle.plain_map.specs.Files.{file_of, files_of}
+use Rattle.plain_map.specs.Files.{plain_file_of, files_of}
 use Rattle.plain_map.specs.Owned.{byte_at}
 use Rattle.plain_map.proofs.Elements.{element-get, element-past, element-set}
 
@@ -22,12 +22,12 @@ byte_there f k i b lt e = go (nat_lt k f.count) refl
 
 -- another byte in a page of a file
 pub file_set : {A : Type 0} (fs : List (PlainFile A)) (k i off b : ℕ) (x y : PlainFile A) → k < length fs → y ≡ get_or fs k y
-    → Some (file_of x) ≡ with_byte (Some (file_of y)) i off b
+    → Some (plain_file_of x) ≡ with_byte (Some (plain_file_of y)) i off b
     → files_of (set fs k x) ≡ put (files_of fs) k (with_byte (files_of fs k) i off b)
 file_set {A = A} fs k i off b x y lt is e =
-    element-set (λ (f : PlainFile A). Some (file_of f)) None fs k x lt
+    element-set (λ (f : PlainFile A). Some (plain_file_of f)) None fs k x lt
     ∙ ap (λ (o : Option File). put (files_of fs) k o) (e ∙ ap (λ (o : Option File). with_byte o i off b)
-    (sym (element-get (λ (f : PlainFile A). Some (file_of f)) None fs k y lt is)))
+    (sym (element-get (λ (f : PlainFile A). Some (plain_file_of f)) None fs k y lt is)))
 
 -- a page that a file has is one of a file that is there
 pub file_there : {A : Type 0} (fs : List (PlainFile A)) (k page : ℕ) → is_some (file_bytes (files_of fs k) page) ≡ true → k < length fs
@@ -35,7 +35,7 @@ file_there {A = A} fs k page h = by (cases_lt k (length fs))
   where
     by : (k < length fs) ⊎ (length fs ≤ k) → k < length fs
     by (inl lt) = lt
-    by (inr le) = let z = ap (λ (f : Option File). is_some (file_bytes f page)) (element-past (λ (f : PlainFile A). Some (file_of f)) None fs k le) in cc
+    by (inr le) = let z = ap (λ (f : Option File). is_some (file_bytes f page)) (element-past (λ (f : PlainFile A). Some (plain_file_of f)) None fs k le) in cc
 
 pub page_there : (f : File) (page : ℕ) → is_some (file_bytes (Some f) page) ≡ true → page < f.count
 page_there f page h = go (nat_lt page f.count) refl h

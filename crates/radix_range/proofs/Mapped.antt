@@ -104,16 +104,16 @@ on_a_side s full first end n r a low high some order free = ⊎_elim
 
 pub in_front : (s : Slots) (range : PageRange) (first n r : ℕ) → IsFreeRun s range n r → r + n ≤ first
     → IsFreeRun s (between range.first first) n r
-in_front s range first n r f h = record { low = f.low; high = h; free = f.free }
+in_front s range first n r f h = record { inside = record { low = f.inside.low; high = h }; free = f.free }
 
 pub in_rest : (s : Slots) (range : PageRange) (end n r : ℕ) → IsFreeRun s range n r → end ≤ r → IsFreeRun s (between end range.end) n r
-in_rest s range end n r f h = record { low = h; high = f.high; free = f.free }
+in_rest s range end n r f h = record { inside = record { low = h; high = f.inside.high }; free = f.free }
 
 -- the least run before them is the range's least
 pub least_in_front : (s : Slots) (range : PageRange) (first n start : ℕ) → IsFreeRun s (between range.first first) n start
     → ((r : ℕ) → r < start → ¬ IsFreeRun s (between range.first first) n r)
     → (r : ℕ) → r < start → ¬ IsFreeRun s range n r
-least_in_front s range first n start f least r l g = least r l (in_front s range first n r g (omega (arith, f.high)))
+least_in_front s range first n start f least r l g = least r l (in_front s range first n r g (omega (arith, f.inside.high)))
 
 -- with none before them, the runs of the range are those after them
 pub only_in_rest : (s : Slots) (full range : PageRange) (first end n : ℕ) → IsFull s full → full.first ≤ first → end ≤ full.end → 1 ≤ n

@@ -71,18 +71,17 @@ blocked rs range n r w run =
 pub free_run_found : (rs : List Run) (range : PageRange) (n here : ℕ) → IsFree rs 0 range.first range.end n range.first here
     → IsFreeRun (slots_of rs) range n here
 free_run_found rs range n here h = record {
-  low = h.low;
-  high = omega (arith, h.high);
+  inside = record { low = h.low; high = omega (arith, h.high) };
   free = λ p a b. ap (λ o. info_from o (cell_at rs p).offset) (h.free p (omega (arith, h.low)) (omega (arith, h.high)) (omega arith) (omega arith));
 }
 
 pub free_run_least : (rs : List Run) (range : PageRange) (n here : ℕ) → IsFree rs 0 range.first range.end n range.first here → (r : ℕ)
     → r < here → ¬ IsFreeRun (slots_of rs) range n r
-free_run_least rs range n here h r l run = blocked rs range n r (h.before r run.low l) run
+free_run_least rs range n here h r l run = blocked rs range n r (h.before r run.inside.low l) run
 
 pub free_run_none : (rs : List Run) (range : PageRange) (n here : ℕ) → IsOpen rs 0 range.first range.end n range.first here → (r : ℕ)
     → ¬ IsFreeRun (slots_of rs) range n r
 free_run_none rs range n here h r run = ⊎_elim
-    (λ (l : r < here). blocked rs range n r (h.before r run.low l) run)
-    (λ (l : here ≤ r). omega (arith, h.short, run.high))
+    (λ (l : r < here). blocked rs range n r (h.before r run.inside.low l) run)
+    (λ (l : here ≤ r). omega (arith, h.short, run.inside.high))
     (cases_lt r here)

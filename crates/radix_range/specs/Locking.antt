@@ -1,5 +1,6 @@
 -- An attempt to lock the slot of a page
-use Rattle.std.specs.Prelude.{◌≡◌, ℕ, ◌+◌, ◌<◌, ◌≤◌, false, None, Some}
+use Rattle.std.specs.Prelude.{◌≡◌, ℕ, ◌+◌, ◌<◌, false, None, Some}
+use Rattle.vm_base.specs.Runs.{NoneIn}
 use Rattle.slot_lock.specs.Slots.{Slots, IsSlot, Locks}
 use Rattle.radix_node.specs.declared.lock.Lock.{Lock}
 use Rattle.radix_node.specs.declared.lock.Lock.TheVariants.{Held, Before, Beyond, Locked}
@@ -9,7 +10,7 @@ pub record GoesPast (s : Slots) (cursor end : ℕ) : Type 0 where
   pub last : ℕ
   pub slot : IsSlot s cursor last
   pub past : end < last
-  pub free : (p : ℕ) → cursor ≤ p → p < last → s.owner p ≡ None
+  pub free : NoneIn s.owner cursor last
 
 -- what a core's attempt to lock the cursor's slot comes to, which has to begin there and to end by
 -- `end`

@@ -291,8 +291,8 @@ pending_ended e o c v clear all f = let up = f.since in record { since = omega (
             mark (inr h) = f.swept j l (inr (omega (arith, s, less), h))
 
 -- a step keeps it, or frees the object
-abbrev pub GoesOn : ℕ → ℕ → CountStep → Counts → Type 0
-GoesOn e o s w = Pending e o w ⊎ ((c : ℕ) × (s ≡ Reviewing c (review.Freed o)))
+abbrev pub StillPends : ℕ → ℕ → CountStep → Counts → Type 0
+StillPends e o s w = Pending e o w ⊎ ((c : ℕ) × (s ≡ Reviewing c (review.Freed o)))
 
 pending_room : (e o : ℕ) (v : Counts) (c p : ℕ) (by : ℤ) (m : Counts) → c < v.cores → MakesRoom v c p by m → Queues v → Pending e o v → Pending e o m
 pending_room e o v c p by m lt (inl h) q f = subst (Pending e o) (sym h.1) f
@@ -320,10 +320,10 @@ pending_flush e o v c flush.EpochEnded w lt h q f = subst (Pending e o) (sym h.4
 pending_flush e o v c flush.Idle w lt h q f = subst (Pending e o) (sym h.2) f
 
 pending_review : (e o : ℕ) (v : Counts) (c : ℕ) (r : Review) (w : Counts) → Reviews v c r w → (v.epoch ≤ e + 3) ⊎ Behind v c (e + 3)
-    → Pending e o v → GoesOn e o (Reviewing c r) w
+    → Pending e o v → StillPends e o (Reviewing c r) w
 pending_review e o v c (review.Freed p) w h time f = go (same_or_not o p)
   where
-    go : (o ≡ p) ⊎ (o ≢ p) → GoesOn e o (Reviewing c (review.Freed p)) w
+    go : (o ≡ p) ⊎ (o ≢ p) → StillPends e o (Reviewing c (review.Freed p)) w
     go (inl same) = inr (c, ap (λ z. Reviewing c (review.Freed z)) (sym same))
     go (inr ne) = inl (subst (Pending e o) (sym h.4) (pending_unqueued e o c p h.1.since h.0 v h.1.front ne f))
 pending_review e o v c (review.Requeued p) w h time f = inl (subst (Pending e o) (sym h.4) (go (same_or_not o p)))
@@ -343,7 +343,7 @@ pending_review e o v c (review.Dropped p) w h time f = inl (subst (Pending e o) 
 pending_review e o v c review.Idle w h time f = inl (subst (Pending e o) (sym h.1) f)
 
 pub pending : (e o : ℕ) (v : Counts) (s : CountStep) (w : Counts) → Takes v s w → Queues v
-    → ((c : ℕ) → c < v.cores → (v.epoch ≤ e + 3) ⊎ Behind v c (e + 3)) → Pending e o v → GoesOn e o s w
+    → ((c : ℕ) → c < v.cores → (v.epoch ≤ e + 3) ⊎ Behind v c (e + 3)) → Pending e o v → StillPends e o s w
 pending e o v (Begin p k) w h q time f = inl (subst (Pending e o) (sym h.3) (pending_begun e o p k v h.0 f))
 pending e o v (Inc c p) w h q time f = inl
     (subst (Pending e o) (sym h.1.4) (pending_added e o c p (pos 1) h.1.2 (not_counted e o p v h.1.1 f)

@@ -10,7 +10,7 @@ use Rattle.refcache.specs.Counts.{Counts, no_counts}
 use Rattle.refcache.specs.Steps.{Reviewing, Takes, Moment, IsRun, IsUnused, last, CountStep}
 use Rattle.refcache.specs.Places.{entries}
 use Rattle.refcache.specs.Parts.{Parts, counts_of, core_at, rooms, CanEvict}
-use Rattle.refcache.specs.Sound.{IsReached, IsSound}
+use Rattle.refcache.specs.Sound.{AreReached, IsSound}
 use Rattle.refcache.proofs.Lists.{Each, Once, Stands}
 use Rattle.refcache.proofs.Queues.{later}
 use Rattle.refcache.proofs.Settled.{Settled, settled, settled_open, unused}
@@ -29,7 +29,7 @@ known_run v (x ∷ xs) r k = known_run x.counts xs r.1 (record {
   counted = counted v x.step x.counts r.0 k.counted;
 })
 
-pub known : (v : Counts) → IsReached v → Known v
+pub known : (v : Counts) → AreReached v → Known v
 known v r = subst Known r.end (known_run (no_counts v.cores v.objects) r.run r.steps (record {
   settled = settled_open v.cores v.objects;
   held = open_held v.cores v.objects;
@@ -45,7 +45,7 @@ last_more : (u : Counts) (xs : List Moment) (x : Moment) → last u (xs ++ x ∷
 last_more u [] x = refl
 last_more u (y ∷ ys) x = last_more y.counts ys x
 
-pub reached_on : (v : Counts) (s : CountStep) (w : Counts) → IsReached v → Takes v s w → IsReached w
+pub reached_on : (v : Counts) (s : CountStep) (w : Counts) → AreReached v → Takes v s w → AreReached w
 reached_on v s w r t =
     let x : Moment = record { step = s; counts = w } in
     let l = later v s w t in
@@ -57,8 +57,8 @@ reached_on v s w r t =
       end = subst (λ u. last u (r.run ++ x ∷ []) ≡ w) (sym same) (last_more (no_counts v.cores v.objects) r.run x);
     }
 
-pub reached_open : (v : Counts) (n m : ℕ) → v ≡ no_counts n m → IsReached v
-reached_open v n m e = subst IsReached (sym e) (record { run = []; steps = tt; end = refl })
+pub reached_open : (v : Counts) (n m : ℕ) → v ≡ no_counts n m → AreReached v
+reached_open v n m e = subst AreReached (sym e) (record { run = []; steps = tt; end = refl })
 
 pub sound_open : (p : Parts) (n m : ℕ) → n ≤ 64 → counts_of p ≡ no_counts n m → ((c : ℕ) → c < n → rooms p c ≡ m + 1) → p.epochs.cores ≡ n → IsSound p
 sound_open p n m few e room epochs =
@@ -132,7 +132,7 @@ ready p c o f lt has =
     }
 
 -- the front of a queue is an object that there is
-pub front_below : (v : Counts) (c : ℕ) (x : Queued) (rest : List Queued) → IsReached v → v.queue c ≡ x ∷ rest → x.object < v.objects
+pub front_below : (v : Counts) (c : ℕ) (x : Queued) (rest : List Queued) → AreReached v → v.queue c ≡ x ∷ rest → x.object < v.objects
 front_below v c x rest reached front = (subst (Each (λ x. x.object < v.objects)) front ((known v reached).held.queues c)).0
 
 pub front_inside : (p : Parts) (c : ℕ) (x : Queued) (rest : List Queued) → IsSound p → (core_at p.cores c).queue ≡ x ∷ rest → x.object < length p.objects
@@ -142,5 +142,5 @@ pub freed_unused : (p q : Parts) (c o : ℕ) → IsSound p → Takes (counts_of 
 freed_unused p q c o f t = unused (counts_of p) c o (counts_of q) t.1 (known (counts_of p) f.reached).settled
 
 -- the front of a queue is marked as queued
-pub queued_front : (v : Counts) (c o since : ℕ) (rest : List Queued) → IsReached v → v.queue c ≡ record { object = o; epoch = since } ∷ rest → v.queued o ≡ true
+pub queued_front : (v : Counts) (c o since : ℕ) (rest : List Queued) → AreReached v → v.queue c ≡ record { object = o; epoch = since } ∷ rest → v.queued o ≡ true
 queued_front v c o since rest r front = (known v r).settled.single.marks o c (subst (Stands o) (sym front) (inl refl))

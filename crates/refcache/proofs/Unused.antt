@@ -10,7 +10,7 @@ use Rattle.refcache.specs.declared.reports.Review.TheVariants as review
 use Rattle.vm_base.proofs.Functions.{put_all, put_other}
 use Rattle.refcache.specs.Counts.{Counts, delta_of, true_count, enqueued, unqueued, drained, evicted, added, begun}
 use Rattle.refcache.specs.Steps.{Begin, Inc, Dec, Flushing, Reviewing, MakesRoom, HasEntry, IsUnused, Flushes, Reviews}
-use Rattle.refcache.specs.Sound.{IsReached}
+use Rattle.refcache.specs.Sound.{AreReached}
 use Rattle.refcache.specs.Laws.{UnusedStays}
 use Rattle.refcache.proofs.Sums.{same_or_not, cell_column}
 use Rattle.refcache.proofs.Queues.{by_notice}
@@ -65,7 +65,7 @@ unused_flush v c flush.Flushed w o lt h u = subst (λ z. IsUnused z o) (sym h.3)
 unused_flush v c flush.EpochEnded w o lt h u = subst (λ z. IsUnused z o) (sym h.4) (record { zero = u.zero; entries = u.entries; unqueued = u.unqueued })
 unused_flush v c flush.Idle w o lt h u = subst (λ z. IsUnused z o) (sym h.2) u
 
-unused_review : (v : Counts) (c : ℕ) (r : Review) (w : Counts) (o : ℕ) → IsReached v → Reviews v c r w → IsUnused v o → IsUnused w o
+unused_review : (v : Counts) (c : ℕ) (r : Review) (w : Counts) (o : ℕ) → AreReached v → Reviews v c r w → IsUnused v o → IsUnused w o
 unused_review v c (review.Freed p) w o reached h u = subst (λ z. IsUnused z o) (sym h.4) (unused_unqueued c p o h.0 v u)
 unused_review v c (review.Requeued p) w o reached h u =
     subst (λ z. IsUnused z o) (sym h.4)

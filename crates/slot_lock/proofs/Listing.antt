@@ -6,7 +6,8 @@ use Rattle.vm_base.specs.declared.info.PageInfo.{PageInfo}
 use Rattle.vm_base.specs.Info.{frame_of, is_leaf}
 use Rattle.slot_lock.specs.declared.framed.Framed.{Framed}
 use Rattle.slot_lock.specs.declared.run.Run.{Run}
-use Rattle.slot_lock.specs.Framed.{HasNone, ListsFrames, AddsFrames, frames_in}
+use Rattle.vm_base.specs.Runs.{NoneIn}
+use Rattle.slot_lock.specs.Framed.{ListsFrames, AddsFrames, frames_in}
 use Rattle.slot_lock.specs.Runs.{IsRuns, IsAt, get_run}
 use Rattle.slot_lock.specs.RunSlots.{slots_of}
 use Rattle.slot_lock.proofs.Walks.{IsWalk, walk_first, walk_next, info_in, frame_of-from}
@@ -14,7 +15,7 @@ use Rattle.slot_lock.proofs.Walks.{IsWalk, walk_first, walk_next, info_in, frame
 -- ---- one list after another
 
 -- pages without a frame before those of a list
-gap_before : (frame : ℕ → Option ℕ) (first m end : ℕ) (xs : List Framed) → first ≤ m → HasNone frame first m → ListsFrames frame m end xs
+gap_before : (frame : ℕ → Option ℕ) (first m end : ℕ) (xs : List Framed) → first ≤ m → NoneIn frame first m → ListsFrames frame m end xs
     → ListsFrames frame first end xs
 gap_before frame first m end [] l gap h = λ p a b. ⊎_elim (λ (c : p < m). gap p a c) (λ (c : m ≤ p). h p c b) (cases_lt p m)
 gap_before frame first m end (x ∷ xs) l gap h = (
@@ -50,7 +51,7 @@ lists_same frame other first end (x ∷ xs) same h = (
 
 -- ---- what was added
 
-pub adds_none : (frame : ℕ → Option ℕ) (first end : ℕ) (xs : List Framed) → HasNone frame first end → AddsFrames frame first end xs xs
+pub adds_none : (frame : ℕ → Option ℕ) (first end : ℕ) (xs : List Framed) → NoneIn frame first end → AddsFrames frame first end xs xs
 adds_none frame first end xs none = ([], sym (nil xs), none)
   where
     nil : (xs : List Framed) → xs ++ [] ≡ xs

@@ -213,7 +213,7 @@ free_first rs range n i some order at = record {
   by = omega arith;
   free = λ p a b. absurd (omega (arith, at.from));
   short = omega (arith, at.from);
-  least = λ r l run. omega (arith, run.low);
+  least = λ r l run. omega (arith, run.inside.low);
 }
 
 pub free_mapped : (rs : List Run) → IsRuns rs → (range : PageRange) (n start i : ℕ) → 1 ≤ n → Free rs range n start i → i + 1 < length rs
@@ -269,8 +269,7 @@ free_next rs ok range n start i f h e few = record {
 pub free_found : (rs : List Run) → IsRuns rs → (range : PageRange) (n start i : ℕ) → 1 ≤ n → Free rs range n start i → i + 1 < length rs
     → is_some (get_run rs i).info ≡ false → n ≤ min (get_run rs (i + 1)).start range.end - start → IsFreeRun (slots_of rs) range n start
 free_found rs ok range n start i some f h e enough = record {
-  low = f.low;
-  high = omega arith;
+  inside = record { low = f.low; high = omega arith };
   free = λ p a b. free_on rs ok range n start i f h e p a (omega arith);
 }
 
@@ -278,7 +277,7 @@ pub free_none : (rs : List Run) (range : PageRange) (n start i : ℕ) → Free r
     → ¬ IsFreeRun (slots_of rs) range n r
 free_none rs range n start i f l r run = ⊎_elim
     (λ (a : r < start). f.least r a run)
-    (λ (a : start ≤ r). omega (arith, f.short, run.high))
+    (λ (a : start ≤ r). omega (arith, f.short, run.inside.high))
     (cases_lt r start)
 
 -- the start is in reach

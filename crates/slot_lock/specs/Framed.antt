@@ -1,5 +1,6 @@
 -- The pages of a range that have a frame
-use Rattle.std.specs.Prelude.{◌≡◌, ℕ, ◌+◌, ◌<◌, ◌≤◌, List, [], ◌∷◌, ◌++◌, Option, None, Some}
+use Rattle.std.specs.Prelude.{◌≡◌, ℕ, ◌+◌, ◌<◌, ◌≤◌, List, [], ◌∷◌, ◌++◌, Option, Some}
+use Rattle.vm_base.specs.Runs.{NoneIn}
 use Rattle.vm_base.specs.Info.{frame_of}
 use Rattle.slot_lock.specs.declared.framed.Framed.{Framed}
 use Rattle.slot_lock.specs.Slots.{Slots}
@@ -8,15 +9,11 @@ use Rattle.slot_lock.specs.Slots.{Slots}
 abbrev pub frames_in : Slots → ℕ → Option ℕ
 frames_in s p = frame_of (s.info p)
 
--- no page from first up to end has a frame
-abbrev pub HasNone : (ℕ → Option ℕ) → ℕ → ℕ → Type 0
-HasNone frame first end = (p : ℕ) → first ≤ p → p < end → frame p ≡ None
-
 -- the pages from first up to end that have a frame are these, in order, with these frames
 abbrev pub ListsFrames : (ℕ → Option ℕ) → ℕ → ℕ → List Framed → Type 0
-ListsFrames frame first end [] = HasNone frame first end
+ListsFrames frame first end [] = NoneIn frame first end
 ListsFrames frame first end (x ∷ xs) =
-    (first ≤ x.page) × (x.page < end) × HasNone frame first x.page × (frame x.page ≡ Some x.frame)
+    (first ≤ x.page) × (x.page < end) × NoneIn frame first x.page × (frame x.page ≡ Some x.frame)
     × ListsFrames frame (x.page + 1) end xs
 
 -- they were added at the end of a list

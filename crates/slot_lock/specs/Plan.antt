@@ -4,6 +4,7 @@ use Rattle.vm_base.specs.declared.page.PageRange.{PageRange}
 use Rattle.vm_base.specs.declared.info.Meta.{Meta}
 use Rattle.vm_base.specs.Info.{file_page}
 use Rattle.vm_base.specs.Pages.{IsPage, IsPageRange, pages_from}
+use Rattle.vm_base.specs.Runs.{LiesIn}
 use Rattle.slot_lock.specs.declared.plan.Change.{Change}
 use Rattle.slot_lock.specs.declared.plan.Change.TheVariants.{Put, Clear, Protect}
 use Rattle.slot_lock.specs.declared.plan.Place.{Place}
@@ -77,8 +78,7 @@ IsSound (PlanOf.Touch touch) = IsSoundTouch touch
 -- so many pages of the window
 pub record IsRunOf (window : PageRange) (count : ℕ) (run : PageRange) : Type 0 where
   pub size : run.end ≡ run.first + count
-  pub low : window.first ≤ run.first
-  pub high : run.end ≤ window.end
+  pub inside : LiesIn window count run.first
 
 -- the target is the mapping's hint, some run of its window, or its window
 abbrev pub IsTarget : Place → Target → Type 0

@@ -7,6 +7,7 @@ use Rattle.vm_base.specs.declared.info.Meta.{Meta}
 use Rattle.vm_base.specs.declared.rights.Prot.{Prot}
 use Rattle.vm_base.specs.Functions.{put, over, across, has}
 use Rattle.vm_base.specs.Pages.{IsPage, IsPageRange}
+use Rattle.vm_base.specs.Runs.{NoneIn, LiesIn}
 use Rattle.vm_base.specs.Info.{advance, info_from, info_file_page, is_leaf, unused, frame_of}
 use Rattle.vm_base.specs.Info.{is_recorded, info_with_prot, info_without_frame}
 use Rattle.slot_lock.specs.declared.slot_map.FreePage.{FreePage}
@@ -178,7 +179,7 @@ Crosses s cursor end = (s.edge cursor ≡ false) ⊎ ((p : ℕ) → cursor < p �
 pub record Locks (s t : Slots) (core cursor end b : ℕ) : Type 0 where
   pub slot : IsSlot s cursor b
   pub by_end : b ≤ end
-  pub was_free : (p : ℕ) → cursor ≤ p → p < b → s.owner p ≡ None
+  pub was_free : NoneIn s.owner cursor b
   pub now : t ≡ with_owner s cursor b (Some core)
 
 -- a slot begins at the page and ends by another
@@ -257,7 +258,7 @@ HasMeta (Some info) meta = info.meta ≡ meta
 
 -- no page from first up to end has a frame
 pub record NoFrames (s : Slots) (first end : ℕ) : Type 0 where
-  pub none : (p : ℕ) → first ≤ p → p < end → frame_of (s.info p) ≡ None
+  pub none : NoneIn (λ p. frame_of (s.info p)) first end
 
 -- the page was the first from a page on with a frame, and lost it
 pub record LosesFrame (s t : Slots) (first end page frame : ℕ) : Type 0 where
@@ -269,9 +270,8 @@ pub record LosesFrame (s t : Slots) (first end page frame : ℕ) : Type 0 where
 
 -- n unmapped pages from start on lie in the range
 pub record IsFreeRun (s : Slots) (range : PageRange) (n start : ℕ) : Type 0 where
-  pub low : range.first ≤ start
-  pub high : start + n ≤ range.end
-  pub free : (p : ℕ) → start ≤ p → p < start + n → s.info p ≡ None
+  pub inside : LiesIn range n start
+  pub free : NoneIn s.info start (start + n)
 
 -- the core is recorded on a page of the range
 abbrev pub IsUser : Slots → PageRange → ℕ → Type 0

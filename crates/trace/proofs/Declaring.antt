@@ -12,7 +12,7 @@ use Rattle.backing.specs.declared.file_spec.FileSpec.{FileSpec}
 use Rattle.backing.specs.Given.{given_file, given_files}
 use Rattle.core_steps.specs.Setups.{first_fault, is_too_long}
 use Rattle.trace.specs.declared.declaration.FileLine.{FileLine}
-use Rattle.trace.specs.Declarations.{bytes_of, file_at, file_of}
+use Rattle.trace.specs.Declarations.{bytes_of, file_at, declared_file}
 use Rattle.trace.proofs.TextLemmas.{range_more}
 
 -- ---- the bytes of a file
@@ -46,7 +46,7 @@ given_as : {A : Type 0} (o : Option (FileSpec A)) → given_file o ≡ option_ma
 given_as None = refl
 given_as (Some s) = refl
 
-asked_as : (o : Option FileLine) → file_of o ≡ option_map (λ file. file_with file.mode (bytes_of file)) o
+asked_as : (o : Option FileLine) → declared_file o ≡ option_map (λ file. file_with file.mode (bytes_of file)) o
 asked_as None = refl
 asked_as (Some f) = refl
 

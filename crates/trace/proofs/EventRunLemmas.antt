@@ -130,12 +130,12 @@ pub record HasRun (w : World) (es : List Event) (os : List Outcome) : Type 0 whe
   pub run : Run (new_machine asked) es os w
 
 -- so many events came before the stage
-abbrev pub IsReached : Stage → List Event → List Outcome → Type 0
-IsReached Start es os = (es ≡ []) × (os ≡ [])
-IsReached (Declared s) es os = (es ≡ []) × (os ≡ [])
-IsReached (Running w) es os = HasRun w es os
+abbrev pub HasReached : Stage → List Event → List Outcome → Type 0
+HasReached Start es os = (es ≡ []) × (os ≡ [])
+HasReached (Declared s) es os = (es ≡ []) × (os ≡ [])
+HasReached (Running w) es os = HasRun w es os
 
-opened : (s : Stage) (w : World) (es : List Event) (os : List Outcome) → IsReached s es os → Opens s w → HasRun w es os
+opened : (s : Stage) (w : World) (es : List Event) (os : List Outcome) → HasReached s es os → Opens s w → HasRun w es os
 opened Start w es os r o = absurd o
 opened (Declared s) w es os r o = record {
   asked = s;
@@ -149,18 +149,18 @@ pub record IsNext (line : Line) (new : Stage) (es : List Event) (os : List Outco
   pub events : List Event
   pub outcomes : List Outcome
   pub asks : Asks line events outcomes text
-  pub reached : IsReached new (es ++ events) (os ++ outcomes)
+  pub reached : HasReached new (es ++ events) (os ++ outcomes)
 
 nothing_asked : (line : Line) (new : Stage) (es : List Event) (os : List Outcome) (text : List ℕ) → Asks line [] [] text
-    → IsReached new es os → IsNext line new es os text
+    → HasReached new es os → IsNext line new es os text
 nothing_asked line new es os text a r = record {
   events = [];
   outcomes = [];
   asks = a;
-  reached = subst (λ es. IsReached new es (os ++ [])) (sym (append-nil es)) (subst (λ os. IsReached new es os) (sym (append-nil os)) r);
+  reached = subst (λ es. HasReached new es (os ++ [])) (sym (append-nil es)) (subst (λ os. HasReached new es os) (sym (append-nil os)) r);
 }
 
-event_next : (line : Line) (old new : Stage) (es : List Event) (os : List Outcome) (text : List ℕ) → IsReached old es os
+event_next : (line : Line) (old new : Stage) (es : List Event) (os : List Outcome) (text : List ℕ) → HasReached old es os
     → EventActs old line new text → IsNext line new es os text
 event_next line old new es os text r (w, v, opens, gives, is) =
     let h : HasRun w es os = opened old w es os r opens in
@@ -169,7 +169,7 @@ event_next line old new es os text r (w, v, opens, gives, is) =
       events = m.events;
       outcomes = m.outcomes;
       asks = m.asks;
-      reached = subst (λ s. IsReached s (es ++ m.events) (os ++ m.outcomes)) (sym is)
+      reached = subst (λ s. HasReached s (es ++ m.events) (os ++ m.outcomes)) (sym is)
           (record {
             asked = h.asked;
             few = h.few;
@@ -177,16 +177,16 @@ event_next line old new es os text r (w, v, opens, gives, is) =
           });
     }
 
-space_next : (a : Asked) (old new : Stage) (es : List Event) (os : List Outcome) → IsReached old es os → old ≡ Start → new ≡ Declared a → IsReached new es os
-space_next a old new es os r e n = subst (λ x. IsReached x es os) (sym n) (subst (λ x. IsReached x es os) e r)
+space_next : (a : Asked) (old new : Stage) (es : List Event) (os : List Outcome) → HasReached old es os → old ≡ Start → new ≡ Declared a → HasReached new es os
+space_next a old new es os r e n = subst (λ x. HasReached x es os) (sym n) (subst (λ x. HasReached x es os) e r)
 
-file_next : (a b : Asked) (old new : Stage) (es : List Event) (os : List Outcome) → IsReached old es os → old ≡ Declared a
-    → new ≡ Declared b → IsReached new es os
-file_next a b old new es os r e n = subst (λ x. IsReached x es os) (sym n) (subst (λ x. IsReached x es os) e r)
+file_next : (a b : Asked) (old new : Stage) (es : List Event) (os : List Outcome) → HasReached old es os → old ≡ Declared a
+    → new ≡ Declared b → HasReached new es os
+file_next a b old new es os r e n = subst (λ x. HasReached x es os) (sym n) (subst (λ x. HasReached x es os) e r)
 
-line_next : (line : Line) (old new : Stage) (es : List Event) (os : List Outcome) (text : List ℕ) → IsReached old es os
+line_next : (line : Line) (old new : Stage) (es : List Event) (os : List Outcome) (text : List ℕ) → HasReached old es os
     → LineActs old line new text → IsNext line new es os text
-line_next Blank old new es os text r a = nothing_asked Blank new es os text (refl, refl, a.1) (subst (λ s. IsReached s es os) (sym a.0) r)
+line_next Blank old new es os text r a = nothing_asked Blank new es os text (refl, refl, a.1) (subst (λ s. HasReached s es os) (sym a.0) r)
 line_next (Space cores frames calls) old new es os text r a =
     nothing_asked (Space cores frames calls) new es os text (refl, refl, a.2) (space_next _ old new es os r a.0 a.1)
 line_next (File n mode len seed) old new es os text r a =
@@ -201,9 +201,9 @@ pub record IsTaken (line : Option Line) (new : Stage) (es : List Event) (os : Li
   pub events : List Event
   pub outcomes : List Outcome
   pub asks : IsSomeAnd line (λ said. Asks said events outcomes text)
-  pub reached : IsReached new (es ++ events) (os ++ outcomes)
+  pub reached : HasReached new (es ++ events) (os ++ outcomes)
 
-taken : (line : Option Line) (old new : Stage) (es : List Event) (os : List Outcome) (text : List ℕ) → IsReached old es os
+taken : (line : Option Line) (old new : Stage) (es : List Event) (os : List Outcome) (text : List ℕ) → HasReached old es os
     → IsSomeAnd line (λ said. LineActs old said new text) → IsTaken line new es os text
 taken None old new es os text r a = absurd a
 taken (Some line) old new es os text r a =
@@ -220,16 +220,16 @@ pub record AreTaken (lines : List (List ℕ)) (new : Stage) (es : List Event) (o
   pub events : List Event
   pub outcomes : List Outcome
   pub asks : AllAsk lines events outcomes text
-  pub reached : IsReached new (es ++ events) (os ++ outcomes)
+  pub reached : HasReached new (es ++ events) (os ++ outcomes)
 
-all_taken : (lines : List (List ℕ)) (old new : Stage) (es : List Event) (os : List Outcome) (text : List ℕ) → IsReached old es os
+all_taken : (lines : List (List ℕ)) (old new : Stage) (es : List Event) (os : List Outcome) (text : List ℕ) → HasReached old es os
     → Runs old lines new text → AreTaken lines new es os text
 all_taken [] old new es os text r h = record {
   events = [];
   outcomes = [];
   asks = (refl, refl, h.1);
-  reached = subst (λ s. IsReached s (es ++ []) (os ++ [])) (sym h.0) (subst (λ es. IsReached old es (os ++ [])) (sym (append-nil es))
-      (subst (λ os. IsReached old es os) (sym (append-nil os)) r));
+  reached = subst (λ s. HasReached s (es ++ []) (os ++ [])) (sym h.0) (subst (λ es. HasReached old es (os ++ [])) (sym (append-nil es))
+      (subst (λ os. HasReached old es os) (sym (append-nil os)) r));
 }
 all_taken (l ∷ ls) old new es os text r (mid, front, rest, short, acts, more, is) =
     let a : IsTaken (line_of l) mid es os front = taken (line_of l) old mid es os front r acts.acts in
@@ -250,8 +250,8 @@ all_taken (l ∷ ls) old new es os text r (mid, front, rest, short, acts, more, 
         came = refl;
         prints = is;
       };
-      reached = subst (λ es. IsReached new es (os ++ (a.outcomes ++ b.outcomes))) (append_assoc es a.events b.events)
-          (subst (λ os. IsReached new ((es ++ a.events) ++ b.events) os) (append_assoc os a.outcomes b.outcomes) b.reached);
+      reached = subst (λ es. HasReached new es (os ++ (a.outcomes ++ b.outcomes))) (append_assoc es a.events b.events)
+          (subst (λ os. HasReached new ((es ++ a.events) ++ b.events) os) (append_assoc os a.outcomes b.outcomes) b.reached);
     }
 
 pub traces_are_runs : (lines : List (List ℕ)) (text : List ℕ) (w : World) → Runs Start lines (Running w) text → IsRun lines text w

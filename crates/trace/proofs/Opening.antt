@@ -10,7 +10,7 @@ use Rattle.vm_base.proofs.Functions.{eq_true, put_all}
 use Rattle.core_steps.specs.declared.setup.SetupFault.{SetupFault}
 use Rattle.core_steps.specs.declared.setup.SetupFault.TheVariants.{Cores, Frames, TooManyFiles, FileTooLong, Calls}
 use Rattle.trace.specs.declared.declaration.FileLine.{FileLine}
-use Rattle.trace.specs.Declarations.{Asked, asks_for, asked_fault, bytes_of, file_at, file_of, has_long, is_next, with_file}
+use Rattle.trace.specs.Declarations.{Asked, asks_for, asked_fault, bytes_of, file_at, declared_file, has_long, is_next, with_file}
 use Rattle.trace.specs.PlainText.{Reached, nothing_reached, with_opened}
 
 -- ---- one file more
@@ -25,10 +25,10 @@ before [] file (suc j) ne = refl
 before (f ∷ fs) file zero ne = refl
 before (f ∷ fs) file (suc j) ne = before fs file j (λ e. ne (ap suc e))
 
-one_more : (files : List FileLine) (file : FileLine) (n : ℕ) → n ≡ length files → put (file_at files) n (file_of (Some file)) ≡ file_at (files ++ file ∷ [])
-one_more files file n e = fun_ext (put_all (λ j o. o ≡ file_at (files ++ file ∷ []) j) (file_at files) n (file_of (Some file))
-    (ap file_of (sym (ap (slice_get (files ++ file ∷ [])) e ∙ at_end files file)))
-    (λ j ne. ap file_of (before files file j (λ k. ne (k ∙ sym e)))))
+one_more : (files : List FileLine) (file : FileLine) (n : ℕ) → n ≡ length files → put (file_at files) n (declared_file (Some file)) ≡ file_at (files ++ file ∷ [])
+one_more files file n e = fun_ext (put_all (λ j o. o ≡ file_at (files ++ file ∷ []) j) (file_at files) n (declared_file (Some file))
+    (ap declared_file (sym (ap (slice_get (files ++ file ∷ [])) e ∙ at_end files file)))
+    (λ j ne. ap declared_file (before files file j (λ k. ne (k ∙ sym e)))))
 
 -- ---- what a declaration comes to
 

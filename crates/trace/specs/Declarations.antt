@@ -39,13 +39,13 @@ with_file asked file = record asked {
 abbrev pub bytes_of : FileLine → List ℕ
 bytes_of file = seeded file.len file.seed
 
-abbrev pub file_of : Option FileLine → Option File
-file_of None = None
-file_of (Some file) = Some (file_with file.mode (bytes_of file))
+abbrev pub declared_file : Option FileLine → Option File
+declared_file None = None
+declared_file (Some file) = Some (file_with file.mode (bytes_of file))
 
 -- the files by their numbers
 abbrev pub file_at : List FileLine → ℕ → Option File
-file_at files n = file_of (slice_get files n)
+file_at files n = declared_file (slice_get files n)
 
 -- ---- the machine
 

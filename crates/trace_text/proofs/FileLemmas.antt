@@ -9,7 +9,7 @@ use Rattle.trace_text.proofs.SpellingLemmas.{byte_all, byte_only, front_all, fro
 use Rattle.trace_text.specs.Words.{Word, front_word}
 use Rattle.trace_text.specs.Request.{ended, front_byte, front_number}
 use Rattle.trace_text.specs.Spelling.{mode_text}
-use Rattle.trace_text.specs.Line.{contents_of, file_of, mode_named}
+use Rattle.trace_text.specs.Line.{contents_of, file_line_of, mode_named}
 use Rattle.trace_text.specs.Grammar.{Says}
 use Rattle.trace_text.specs.declared.line.Line.{Line}
 use Rattle.trace_text.specs.declared.line.Line.TheVariants.{File}
@@ -20,8 +20,8 @@ mode_all W = refl
 mode_all RW = refl
 
 pub said_file : (number : ℕ) (mode : Mode) (len seed : ℕ) (args : List Word) → Says (File number mode len seed) (codes "file" ∷ args)
-    → file_of args ≡ Some (File number mode len seed)
-unfolding file_of contents_of
+    → file_line_of args ≡ Some (File number mode len seed)
+unfolding file_line_of contents_of
 said_file number mode len seed args (n, l, s, e, spelled, length, byte, small) =
     let same : args ≡ n ∷ mode_text mode ∷ l ∷ s ∷ [] = cc in
     let more : List Word = mode_text mode ∷ l ∷ s ∷ [] in
@@ -49,8 +49,8 @@ mode_only word mode e = elim (chosen (bytes_eq word (codes "r")) _ _ (Some mode)
   ]
 ]
 
-pub only_file : (args : List Word) (line : Line) → file_of args ≡ Some line → Says line (codes "file" ∷ args)
-unfolding file_of contents_of
+pub only_file : (args : List Word) (line : Line) → file_line_of args ≡ Some line → Says line (codes "file" ∷ args)
+unfolding file_line_of contents_of
 only_file args line e =
     let (number, en, f1) = bind_some (front_number args) _ line e in
     let (second, e2, f2) = bind_some (front_word number.1) _ line f1 in

@@ -16,7 +16,7 @@ use Rattle.trace_text.specs.Words.{Word, front_word, words_of}
 use Rattle.trace_text.specs.Request.{◌>>=◌, ended, front_number, request_of}
 use Rattle.trace_text.specs.Action.{action_of, page_alone}
 use Rattle.trace_text.specs.Spelling.{mode_text}
-use Rattle.trace_text.specs.Line.{calls_of, space_of, file_of, core_number, core_of, act_of, task_of, fold_of, now_of, event_of, line_of_words, line_of}
+use Rattle.trace_text.specs.Line.{limit_of, space_of, file_line_of, core_number, core_of, act_of, task_of, fold_of, now_of, event_of, line_of_words, line_of}
 use Rattle.trace_text.specs.Grammar.{Limits, Says, BytesSay, ReadsAll, ReadsOnly}
 use Rattle.trace_text.specs.declared.line.Line.{Line}
 use Rattle.trace_text.specs.declared.line.Line.TheVariants.{Blank, Space, File, Act, Fold, Finish, Now}
@@ -74,8 +74,8 @@ now_read w core rest k = elim (core_shape w core k) [
   | inr (d, f, e, h) ↦ subst (λ v. line_of_words ((v ++ codes "!") ∷ rest) ≡ now_of v rest) (sym e) refl
 ]
 
-limits_all : (cores frames calls : ℕ) (more : List Word) → Limits calls more → calls_of cores frames more ≡ Some (Space cores frames calls)
-unfolding calls_of
+limits_all : (cores frames calls : ℕ) (more : List Word) → Limits calls more → limit_of cores frames more ≡ Some (Space cores frames calls)
+unfolding limit_of
 limits_all cores frames calls more (inl (e, n)) = rw (e, n) refl
 limits_all cores frames calls more (inr (w, e, n)) = let k : front_number (w ∷ []) ≡ Some (calls, []) = front_all w [] calls n in rw (e, k) refl
 
@@ -97,9 +97,9 @@ said_is_read (Now core request) words (c, args, e, k, a) =
     ap line_of_words e ∙ now_read c core args is ∙ ap (λ o. o >>= λ b. request_of args >>= λ q. Some (Now b q)) is
     ∙ ap (λ o. o >>= λ q. Some (Now core q)) (asked_is_read request args a)
 
-calls_only : (cores frames : ℕ) (more : List Word) (line : Line) → calls_of cores frames more ≡ Some line
+calls_only : (cores frames : ℕ) (more : List Word) (line : Line) → limit_of cores frames more ≡ Some line
     → (calls : ℕ) × (Space cores frames calls ≡ line) × Limits calls more
-unfolding calls_of
+unfolding limit_of
 calls_only cores frames [] line e = (4096, cc, inl (refl, refl))
 calls_only cores frames (w ∷ ws) line e =
     let (calls, ec, e1) = bind_some (front_number (w ∷ ws)) (λ calls. ended calls.1 (Space cores frames calls.0)) line e in
@@ -111,7 +111,7 @@ only_space : (args : List Word) (line : Line) → space_of args ≡ Some line �
 unfolding space_of
 only_space args line e =
     let (cores, ec, f1) = bind_some (front_number args) _ line e in
-    let (frames, ef, f2) = bind_some (front_number cores.1) (λ frames. calls_of cores.0 frames.0 frames.1) line f1 in
+    let (frames, ef, f2) = bind_some (front_number cores.1) (λ frames. limit_of cores.0 frames.0 frames.1) line f1 in
     let (calls, same, limits) = calls_only cores.0 frames.0 frames.1 line f2 in
     let (c, is, n) = front_only args cores ec in
     let (f, next, m) = front_only cores.1 frames ef in
@@ -190,7 +190,7 @@ unfolding line_of_words
 read_is_said line [] e = let same : Blank ≡ line = cc in subst (λ l. Says l []) same refl
 read_is_said line (name ∷ args) e = elim (chosen (bytes_eq name (codes "vm")) (space_of args) _ (Some line) e) [
   | inl h ↦ subst (λ w. Says line (w ∷ args)) (sym (word_is name (codes "vm") h.0)) (only_space args line h.1)
-  | inr h ↦ elim (chosen (bytes_eq name (codes "file")) (file_of args) _ (Some line) h.1) [
+  | inr h ↦ elim (chosen (bytes_eq name (codes "file")) (file_line_of args) _ (Some line) h.1) [
     | inl k ↦ subst (λ w. Says line (w ∷ args)) (sym (word_is name (codes "file") k.0)) (only_file args line k.1)
     | inr k ↦ elim (chosen (bytes_eq name (codes "fold")) (fold_of args) (event_of name args) (Some line) k.1) [
       | inl l ↦ subst (λ w. Says line (w ∷ args)) (sym (word_is name (codes "fold") l.0)) (only_fold args line l.1)

@@ -28,9 +28,9 @@ abbrev pub begins_with_file : List Word → Bool
 begins_with_file words = begins_with (codes "file") words
 
 -- CALLS, which is 4096 where left out
-unfoldable pub calls_of : ℕ → ℕ → List Word → Option Line
-calls_of cores frames [] = Some (Space cores frames 4096)
-calls_of cores frames (w ∷ ws) = do
+unfoldable pub limit_of : ℕ → ℕ → List Word → Option Line
+limit_of cores frames [] = Some (Space cores frames 4096)
+limit_of cores frames (w ∷ ws) = do
   calls ← front_number (w ∷ ws)
   ended calls.1 (Space cores frames calls.0)
 
@@ -38,7 +38,7 @@ unfoldable pub space_of : List Word → Option Line
 space_of words = do
   cores ← front_number words
   frames ← front_number cores.1
-  calls_of cores.0 frames.0 frames.1
+  limit_of cores.0 frames.0 frames.1
 
 abbrev pub mode_named : Word → Option Mode
 mode_named word = if bytes_eq word (codes "r") then Some R
@@ -56,8 +56,8 @@ contents_of number mode words = do
 abbrev pub seeded : ℕ → ℕ → List ℕ
 seeded len seed = map (λ i. (seed + i) % 256) (range_with_len 0 len)
 
-unfoldable pub file_of : List Word → Option Line
-file_of words = do
+unfoldable pub file_line_of : List Word → Option Line
+file_line_of words = do
   number ← front_number words
   second ← front_word number.1
   mode ← mode_named second.0
@@ -119,7 +119,7 @@ fold_of words = do
 unfoldable pub line_of_words : List Word → Option Line
 line_of_words [] = Some Blank
 line_of_words (name ∷ args) = if bytes_eq name (codes "vm") then space_of args
-    else if bytes_eq name (codes "file") then file_of args
+    else if bytes_eq name (codes "file") then file_line_of args
     else if bytes_eq name (codes "fold") then fold_of args else event_of name args
 
 -- the first byte is a #

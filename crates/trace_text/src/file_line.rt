@@ -1,7 +1,7 @@
 //! The line `file N MODE LEN SEED`, which says for what a file is open and which bytes it has.
 ghost use Rattle.std.specs.Prelude.{◌≡◌, option_map};
 ghost use Rattle.trace_text.specs.Words.{words_of};
-ghost use Rattle.trace_text.specs.Line.{contents_of, file_of, mode_named};
+ghost use Rattle.trace_text.specs.Line.{contents_of, file_line_of, mode_named};
 
 use crate::line::Line;
 use crate::number::{next_byte, next_number};
@@ -43,9 +43,9 @@ fn read_contents(number: u64, mode: Mode, args: &[u8]) -> Option<Line>
 
 /// The line of these words after `file`; `None` where they are no such line. Whether its number
 /// is the next one, and whether there may be so many files and bytes, isn't tested here.
-#[tactic(auto, unfolding(crate::specs::Line::file_of))]
+#[tactic(auto, unfolding(crate::specs::Line::file_line_of))]
 pub fn read_file(args: &[u8]) -> Option<Line>
-    ensures { result ≡ file_of (words_of args.now) }
+    ensures { result ≡ file_line_of (words_of args.now) }
 {
     let (number, rest) = next_number(args)?;
     let (mode, rest) = next_word(rest)?;

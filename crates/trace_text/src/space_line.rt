@@ -1,7 +1,7 @@
 //! The line `vm CORES FRAMES` or `vm CORES FRAMES CALLS`, which says how large a space is.
 ghost use Rattle.std.specs.Prelude.{◌≡◌, option_map};
 ghost use Rattle.trace_text.specs.Words.{words_of};
-ghost use Rattle.trace_text.specs.Line.{calls_of, space_of};
+ghost use Rattle.trace_text.specs.Line.{limit_of, space_of};
 
 use crate::line::Line;
 use crate::number::next_number;
@@ -10,9 +10,9 @@ use crate::words::next_word;
 /// How many calls a space may begin where the line leaves it out.
 pub const DEFAULT_CALLS: u64 = 4096;
 
-#[tactic(auto, unfolding(crate::specs::Line::calls_of))]
+#[tactic(auto, unfolding(crate::specs::Line::limit_of))]
 fn read_calls(cores: u64, frames: u64, args: &[u8]) -> Option<Line>
-    ensures { result ≡ calls_of cores frames (words_of args.now) }
+    ensures { result ≡ limit_of cores frames (words_of args.now) }
 {
     if next_word(args).is_none() {
         return Some(Line::Space {

@@ -17,8 +17,8 @@ use Rattle.vm_base.specs.Places.{IsFree, IsHint, IsFirstPlace, IsLeastRoom, IsRo
 use Rattle.vm_base.specs.Places.IsFirstPlace.{at_hint, in_window}
 use Rattle.vm_base.specs.Plain.{Entry, Plain, mode_of, is_mapped}
 use Rattle.vm_base.specs.Refusals.{refusal}
-use Rattle.vm_base.specs.Apply.{AppliesAfter, FirstApplies, Performs, Maps, MapsAt, Protects, HasPage, Accesses, access_reply, accessed, back_at}
-use Rattle.vm_base.specs.Apply.{is_absent, is_read_only, mapped, protected, range_at, unmapped}
+use Rattle.vm_base.specs.Apply.{AppliesAfter, FirstApplies, NewMapping, Performs, Maps, MapsAt, Protects, HasPage, Accesses, access_reply, accessed, meta_of}
+use Rattle.vm_base.specs.Apply.{is_absent, is_read_only, after_mapping, after_protecting, range_at, after_unmapping}
 use Rattle.vm_base.specs.Apply.Protects.{no_page, no_write, done}
 use Rattle.vm_base.specs.Answers.{FirstAnswers, is_ready}
 use Rattle.vm_base.specs.Copies.{page_due}
@@ -83,10 +83,10 @@ room_or_not m w n s = go (cases_lt s w.first) (cases_lt w.end (s + n)) (free_or_
   where
     go : (s < w.first) ⊎ (w.first ≤ s) → (w.end < s + n) ⊎ (s + n ≤ w.end) → IsFree m (pages_from s n) ⊎ (IsFree m (pages_from s n) → ⊥)
         → IsRoom m w n s ⊎ (IsRoom m w n s → ⊥)
-    go (inl lt) y f = inr (λ room. let low = room.0 in omega (arith, low, lt))
-    go (inr le) (inl lt) f = inr (λ room. let high = room.1 in omega (arith, high, lt))
-    go (inr le) (inr ge) (inl free) = inl (le, ge, free)
-    go (inr le) (inr ge) (inr none) = inr (λ room. none room.2)
+    go (inl lt) y f = inr (λ room. let low = room.0.low in omega (arith, low, lt))
+    go (inr le) (inl lt) f = inr (λ room. let high = room.0.high in omega (arith, high, lt))
+    go (inr le) (inr ge) (inl free) = inl (record { low = le; high = ge }, free)
+    go (inr le) (inr ge) (inr none) = inr (λ room. none room.1)
 
 -- the least room below a bound, or none
 abbrev RoomBelow : (ℕ → Bool) → PageRange → ℕ → ℕ → Type 0
@@ -110,7 +110,7 @@ least_room m w n = go (room_below m w n (suc w.end))
   where
     go : RoomBelow m w n (suc w.end) → (place : Option ℕ) × IsLeastRoom m w n place
     go (inl found) = (Some found.0, found.1)
-    go (inr none) = (None, λ s room. let high : s + n ≤ w.end = room.1 in none s (omega (arith, high)) room)
+    go (inr none) = (None, λ s room. let high : s + n ≤ w.end = room.0.high in none s (omega (arith, high)) room)
 
 place : (m : ℕ → Bool) (w : PageRange) (h n : ℕ) → (at : Option ℕ) × IsFirstPlace m w h n at
 place m w h n = go (hint_or_not m h n)
@@ -126,13 +126,13 @@ Replies answers = (y : Reply) × (u : Plain) × answers y u
 
 maps : (t : Plain) (o : Option PageRange) (back : Back) (prot : Prot) → Replies (Maps t o back prot)
 maps t None back prot = (Refused ENOMEM, t, (refl, refl))
-maps t (Some r) back prot = (Mapped (r.first * 4096), mapped t r back prot, (refl, refl))
+maps t (Some r) back prot = (Mapped (r.first * 4096), after_mapping t r back prot, (refl, refl))
 
-maps_at : (fixed : Bool) (t : Plain) (core addr len : ℕ) (back : Back) (prot : Prot) → Replies (MapsAt IsFirstPlace fixed t core addr len back prot)
-maps_at true t core addr len back prot = maps t (Some (pages_of addr len)) back prot
-maps_at false t core addr len back prot =
-    let found = place (is_mapped t.entry) (window_of core) (page_of addr) (page_count len) in
-    let answer = maps t (range_at found.0 (page_count len)) back prot in
+maps_at : (fixed : Bool) (t : Plain) (m : NewMapping) → Replies (MapsAt IsFirstPlace fixed t m)
+maps_at true t m = maps t (Some (pages_of m.addr m.len)) m.meta.back m.meta.prot
+maps_at false t m =
+    let found = place (is_mapped t.entry) (window_of m.core) (page_of m.addr) (page_count m.len) in
+    let answer = maps t (range_at found.0 (page_count m.len)) m.meta.back m.meta.prot in
     (answer.0, answer.1, (found.0, found.1, answer.2))
 
 protects : (t : Plain) (r : PageRange) (prot : Prot) → Replies (Protects t r prot)
@@ -144,8 +144,8 @@ protects t r prot = go (seek_in (λ p. is_absent (t.entry p)) r) (seek_in (λ p.
     go : SeeksIn (λ p. is_absent (t.entry p)) r → SeeksIn (λ p. is_read_only t.file (t.entry p)) r → (w : Bool) → prot.write ≡ w → Replies (Protects t r prot)
     go (inl absent) s w e = (Refused ENOMEM, t, no_page absent refl refl)
     go (inr none) (inl read_only) true e = (Refused EACCES, t, no_write (lacks is_absent none) e read_only refl refl)
-    go (inr none) (inl read_only) false e = (Done, protected t r prot, done (lacks is_absent none) (λ h. absurd (not_both prot.write h e)) refl refl)
-    go (inr none) (inr writable) w e = (Done, protected t r prot, done (lacks is_absent none) (λ h. lacks (is_read_only t.file) writable) refl refl)
+    go (inr none) (inl read_only) false e = (Done, after_protecting t r prot, done (lacks is_absent none) (λ h. absurd (not_both prot.write h e)) refl refl)
+    go (inr none) (inr writable) w e = (Done, after_protecting t r prot, done (lacks is_absent none) (λ h. lacks (is_read_only t.file) writable) refl refl)
 
 accesses : (t : Plain) (addr : ℕ) (a : Access) (byte : ℕ) → is_some (access_reply t addr a) ≡ true → Replies (Accesses t addr a byte)
 accesses t addr a byte h = go (access_reply t addr a) refl h
@@ -155,8 +155,9 @@ accesses t addr a byte h = go (access_reply t addr a) refl h
     go (Some y) e some = (y, accessed t addr byte y, (e, refl))
 
 performs : (t : Plain) (core : ℕ) (request : Request) → is_ready t request ≡ true → Replies (Performs IsFirstPlace t core request)
-performs t core (Mmap addr len prot flags file off) ready = maps_at flags.fixed t core addr len (back_at flags file off) prot
-performs t core (Munmap addr len) ready = (Done, unmapped t (pages_of addr len), (refl, refl))
+performs t core (Mmap addr len prot flags file off) ready =
+    maps_at flags.fixed t (record { core = core; addr = addr; len = len; meta = meta_of prot flags file off })
+performs t core (Munmap addr len) ready = (Done, after_unmapping t (pages_of addr len), (refl, refl))
 performs t core (Mprotect addr len prot) ready = protects t (pages_of addr len) prot
 performs t core (LoadOf addr) ready = accesses t addr Load 0 (load_ready t addr)
 performs t core (StoreOf addr byte) ready = accesses t addr Store byte ready

@@ -11,7 +11,7 @@ use Rattle.vm_base.specs.Places.{IsFirstPlace, IsLeastRoom}
 use Rattle.vm_base.specs.Places.IsFirstPlace.{at_hint, in_window}
 use Rattle.vm_base.specs.Plain.{Plain, mode_of, is_mapped}
 use Rattle.vm_base.specs.Refusals.{refusal}
-use Rattle.vm_base.specs.Apply.{FirstApplies, AppliesAfter, Performs, Maps, MapsAt, Protects, Accesses, range_at, back_at, accessed}
+use Rattle.vm_base.specs.Apply.{FirstApplies, AppliesAfter, NewMapping, Performs, Maps, MapsAt, Protects, Accesses, range_at, meta_of, accessed}
 use Rattle.vm_base.specs.Apply.Protects.{no_page, no_write, done}
 
 least_one : (m : ℕ → Bool) (w : PageRange) (n : ℕ) (a b : Option ℕ) → IsLeastRoom m w n a → IsLeastRoom m w n b → a ≡ b
@@ -41,12 +41,13 @@ maps_one : (t u v : Plain) (o : Option PageRange) (back : Back) (prot : Prot) (y
 maps_one t u v None back prot y z h k = (h.0 ∙ sym k.0, h.1 ∙ sym k.1)
 maps_one t u v (Some r) back prot y z h k = (h.0 ∙ sym k.0, h.1 ∙ sym k.1)
 
-maps_at_one : (fixed : Bool) (t u v : Plain) (core addr len : ℕ) (back : Back) (prot : Prot) (y z : Reply)
-    → MapsAt IsFirstPlace fixed t core addr len back prot y u → MapsAt IsFirstPlace fixed t core addr len back prot z v → (y ≡ z) × (u ≡ v)
-maps_at_one true t u v core addr len back prot y z h k = (h.0 ∙ sym k.0, h.1 ∙ sym k.1)
-maps_at_one false t u v core addr len back prot y z h k =
-    let same : h.0 ≡ k.0 = place_one (is_mapped t.entry) (window_of core) (page_of addr) (page_count len) h.0 k.0 h.1 k.1 in
-    maps_one t u v (range_at k.0 (page_count len)) back prot y z (subst (λ (o : Option ℕ). Maps t (range_at o (page_count len)) back prot y u) same h.2) k.2
+maps_at_one : (fixed : Bool) (t u v : Plain) (m : NewMapping) (y z : Reply)
+    → MapsAt IsFirstPlace fixed t m y u → MapsAt IsFirstPlace fixed t m z v → (y ≡ z) × (u ≡ v)
+maps_at_one true t u v m y z h k = (h.0 ∙ sym k.0, h.1 ∙ sym k.1)
+maps_at_one false t u v m y z h k =
+    let same : h.0 ≡ k.0 = place_one (is_mapped t.entry) (window_of m.core) (page_of m.addr) (page_count m.len) h.0 k.0 h.1 k.1 in
+    maps_one t u v (range_at k.0 (page_count m.len)) m.meta.back m.meta.prot y z
+    (subst (λ (o : Option ℕ). Maps t (range_at o (page_count m.len)) m.meta.back m.meta.prot y u) same h.2) k.2
 
 protects_one : (t u v : Plain) (r : PageRange) (prot : Prot) (y z : Reply) → Protects t r prot y u → Protects t r prot z v → (y ≡ z) × (u ≡ v)
 protects_one t u v r prot y z h k = elim h [
@@ -74,7 +75,8 @@ accesses_one t u v addr a byte y z h k =
     (same, h.1 ∙ (ap (λ (r : Reply). accessed t addr byte r) same ∙ sym k.1))
 
 performs_one : (t u v : Plain) (core : ℕ) (request : Request) (y z : Reply) → Performs IsFirstPlace t core request y u → Performs IsFirstPlace t core request z v → (y ≡ z) × (u ≡ v)
-performs_one t u v core (Mmap addr len prot flags file off) y z h k = maps_at_one flags.fixed t u v core addr len (back_at flags file off) prot y z h k
+performs_one t u v core (Mmap addr len prot flags file off) y z h k =
+    maps_at_one flags.fixed t u v (record { core = core; addr = addr; len = len; meta = meta_of prot flags file off }) y z h k
 performs_one t u v core (Munmap addr len) y z h k = (h.0 ∙ sym k.0, h.1 ∙ sym k.1)
 performs_one t u v core (Mprotect addr len prot) y z h k = protects_one t u v _ prot y z h k
 performs_one t u v core (LoadOf addr) y z h k = accesses_one t u v addr _ _ y z h k

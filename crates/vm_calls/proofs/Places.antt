@@ -19,9 +19,8 @@ free-alike m o r same free p h = sym (same p h) ∙ free p h
 room-alike : (m o : ℕ → Bool) (window : PageRange) (n s : ℕ) → Alike m o window → IsRoom m window n s → IsRoom o window n s
 room-alike m o window n s same room = (
   room.0,
-  room.1,
   free-alike m o (pages_from s n) (λ p h. let z : (s ≤ p) × (p < s + n) = has_in (pages_from s n) p h in
-      same p (in_has window p (omega (arith, room.0, z.0)) (omega (arith, room.1, z.1)))) room.2,
+      same p (in_has window p (omega (arith, room.0.low, z.0)) (omega (arith, room.0.high, z.1)))) room.1,
 )
 
 pub least-alike : (m o : ℕ → Bool) (window : PageRange) (n : ℕ) (found : Option ℕ) → Alike m o window

@@ -26,9 +26,10 @@ use Rattle.vm_base.specs.Pages.{are_pages, page_of, page_count, pages_of, pages_
 use Rattle.vm_base.specs.Plain.{File, Entry, Plain, mode_of, is_mapped}
 use Rattle.vm_base.specs.Refusals.{refusal}
 use Rattle.vm_base.specs.Places.{IsFree, IsRoom, IsLeastRoom, IsPlace}
+use Rattle.vm_base.specs.Runs.{LiesIn}
 use Rattle.vm_base.specs.Places.IsPlace.{at_hint, in_window, nowhere}
 use Rattle.vm_base.specs.Apply.{meta_of, Applies, AppliesAfter, Performs, Protects, MapsAt, HasPage, is_absent, is_read_only}
-use Rattle.vm_base.specs.Apply.{is_read_only_back, forbids_write, mapped, unmapped, protected}
+use Rattle.vm_base.specs.Apply.{is_read_only_back, forbids_write, after_mapping, after_unmapping, after_protecting}
 use Rattle.vm_base.specs.Apply.Protects.{no_page, no_write, done}
 use Rattle.slot_lock.specs.declared.plan.Change.{Change}
 use Rattle.slot_lock.specs.declared.plan.Change.TheVariants.{Put, Clear, Protect}
@@ -118,11 +119,11 @@ protects : (t : Plain) (files : ℕ → Option File) (s : Slots) (core addr len 
 protects t files s core addr len prot d h dec ok = by d dec
   where
     acting : (d : Decision) → ActsOn s (pages_of addr len) d
-        → ((changes : PageRange) → changes ≡ pages_of addr len → Protects t (pages_of addr len) prot Done (protected t changes prot))
+        → ((changes : PageRange) → changes ≡ pages_of addr len → Protects t (pages_of addr len) prot Done (after_protecting t changes prot))
         → IsPlain t core (Mprotect addr len prot) (To.Change (Protect (pages_of addr len) prot)) d
     acting (Refuse e) a p = absurd a
     acting Again a p = absurd a
-    acting (Act changes shoot) a p = applied t core (Mprotect addr len prot) Done (protected t changes prot) ok (p changes a.0)
+    acting (Act changes shoot) a p = applied t core (Mprotect addr len prot) Done (after_protecting t changes prot) ok (p changes a.0)
 
     by : (d : Decision) → DecidesProtect files s (pages_of addr len) prot d → IsPlain t core (Mprotect addr len prot)
         (To.Change (Protect (pages_of addr len) prot)) d
@@ -135,7 +136,7 @@ protects t files s core addr len prot d h dec ok = by d dec
         (no_write (λ x. na (absent-here t files s (pages_of addr len) h x)) w (read_only-there t files s (pages_of addr len) h ro) refl refl))
     by d (acts na nr a) =
         acting d a (λ changes e. done (λ x. na (absent-here t files s (pages_of addr len) h x))
-        (λ w x. nr w (read_only-here t files s (pages_of addr len) h x)) refl (ap (λ (r : PageRange). protected t r prot) e))
+        (λ w x. nr w (read_only-here t files s (pages_of addr len) h x)) refl (ap (λ (r : PageRange). after_protecting t r prot) e))
 
 -- ---- places
 
@@ -153,7 +154,7 @@ counted n few = omega (arith, few)
 pub none-found : (m : ℕ → Bool) (core len : ℕ) → core < 64 → ((s : ℕ) → ¬ IsRoom m (window_of core) (placed_count len) s)
     → (s : ℕ) → ¬ IsRoom m (window_of core) (page_count len) s
 none-found m core len few none s room =
-    let same : placed_count len ≡ page_count len = omega (arith, few-found core s (page_count len) few room.1) in
+    let same : placed_count len ≡ page_count len = omega (arith, few-found core s (page_count len) few room.0.high) in
     none s (subst (λ (n : ℕ). IsRoom m (window_of core) n s) (sym same) room)
 
 -- a hint is given where all its pages are valid
@@ -169,8 +170,10 @@ hint-is h n range is = go (are_pages (pages_from h n)) refl is
 
 -- what an mmap answers that decided so
 abbrev Answers : Bool → Plain → ℕ → ℕ → ℕ → Meta → Goal → Decision → Type 0
-Answers b t core addr len meta goal (Refuse e) = MapsAt IsPlace b t core addr len meta.back meta.prot (Refused e) t
-Answers b t core addr len meta goal (Act range shoot) = MapsAt IsPlace b t core addr len meta.back meta.prot (answer_to goal range) (left_by t goal range)
+Answers b t core addr len meta goal (Refuse e) =
+    MapsAt IsPlace b t (record { core = core; addr = addr; len = len; meta = meta }) (Refused e) t
+Answers b t core addr len meta goal (Act range shoot) =
+    MapsAt IsPlace b t (record { core = core; addr = addr; len = len; meta = meta }) (answer_to goal range) (left_by t goal range)
 Answers b t core addr len meta goal Again = HasMapped t.entry (goal_range goal)
 
 fixed : (t : Plain) (s : Slots) (core addr len : ℕ) (meta : Meta) (d : Decision) → ActsOn s (pages_of addr len) d
@@ -180,7 +183,7 @@ fixed t s core addr len meta Again a = absurd a
 fixed t s core addr len meta (Act changes shoot) a = (
   ap (λ (r : PageRange). Mapped (r.first * 4096)) a.0,
   ap
-      (λ (r : PageRange). mapped t r meta.back meta.prot) a.0,
+      (λ (r : PageRange). after_mapping t r meta.back meta.prot) a.0,
 )
 
 mapped-there : (t : Plain) (files : ℕ → Option File) (s : Slots) (r : PageRange) → IsShown t files s r → HasMapped (entries s) r → HasMapped t.entry r
@@ -201,7 +204,7 @@ goes : (t : Plain) (core addr len : ℕ) (meta : Meta) (target : Target) (range 
 goes t core addr len meta target range first is place = (
   Some first,
   place,
-  (ap (λ (r : PageRange). Mapped (r.first * 4096)) is, ap (λ (r : PageRange). mapped t r meta.back meta.prot) is),
+  (ap (λ (r : PageRange). Mapped (r.first * 4096)) is, ap (λ (r : PageRange). after_mapping t r meta.back meta.prot) is),
 )
 
 at-run : (t : Plain) (files : ℕ → Option File) (s : Slots) (core addr len : ℕ) (meta : Meta) (target : Target) (d : Decision)
@@ -229,12 +232,12 @@ at-hint-of t core addr len meta range is f =
 at-run-of : (t : Plain) (core addr len : ℕ) (meta : Meta) (range : PageRange) → core < 64 → IsRunOf (window_of core) (placed_count len) range
     → IsFree (is_mapped t.entry) range → Answers false t core addr len meta (placing core addr len meta (Run range)) (Act range 0)
 at-run-of t core addr len meta range few run f =
-    let high : range.first + placed_count len ≤ (window_of core).end = omega (arith, run.size, run.high) in
+    let high : range.first + placed_count len ≤ (window_of core).end = run.inside.high in
     let same : placed_count len ≡ page_count len = counted len (few-found core range.first (placed_count len) few high) in
     let there : range ≡ pages_from range.first (page_count len) =
     ap (λ (end : ℕ). record { first = range.first; end = end }) (run.size ∙ ap (λ (n : ℕ). range.first + n) same) in
     goes t core addr len meta (Run range) range range.first there
-    (in_window range.first (run.low, subst (λ (n : ℕ). range.first + n ≤ (window_of core).end) same high, subst (IsFree (is_mapped t.entry)) there f) refl)
+    (in_window range.first (subst (λ (n : ℕ). LiesIn (window_of core) n range.first) same run.inside, subst (IsFree (is_mapped t.entry)) there f) refl)
 
 in-window-of : (t : Plain) (core addr len : ℕ) (meta : Meta) (d : Decision) (found : Option ℕ) → core < 64
     → IsLeastRoom (is_mapped t.entry) (window_of core) (placed_count len) found → d ≡ act_at found (placed_count len)
@@ -243,7 +246,7 @@ in-window-of t core addr len meta d None few none e =
     subst (λ (z : Decision). Answers false t core addr len meta (placing core addr len meta Window) z) (sym e)
     (None, nowhere (none-found (is_mapped t.entry) core len few none) refl, (refl, refl))
 in-window-of t core addr len meta d (Some first) few least e =
-    let same : placed_count len ≡ page_count len = counted len (few-found core first (placed_count len) few least.0.1) in
+    let same : placed_count len ≡ page_count len = counted len (few-found core first (placed_count len) few least.0.0.high) in
     subst (λ (z : Decision). Answers false t core addr len meta (placing core addr len meta Window) z) (sym e)
     (goes t core addr len meta Window (pages_from first (placed_count len)) first (ap (λ (n : ℕ). pages_from first n) same)
     (in_window first (subst (λ (n : ℕ). IsRoom (is_mapped t.entry) (window_of core) n first) same least.0) refl))
@@ -301,8 +304,8 @@ unmaps : (t : Plain) (s : Slots) (core addr len : ℕ) (d : Decision) → ActsOn
     → IsPlain t core (Munmap addr len) (To.Change (Clear (pages_of addr len))) d
 unmaps t s core addr len (Refuse e) a ok = absurd a
 unmaps t s core addr len Again a ok = absurd a
-unmaps t s core addr len (Act changes shoot) a ok = applied t core (Munmap addr len) Done (unmapped t changes) ok
-    (refl, ap (λ (r : PageRange). unmapped t r) a.0)
+unmaps t s core addr len (Act changes shoot) a ok = applied t core (Munmap addr len) Done (after_unmapping t changes) ok
+    (refl, ap (λ (r : PageRange). after_unmapping t r) a.0)
 
 -- ---- accesses
 

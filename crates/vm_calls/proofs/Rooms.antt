@@ -18,15 +18,13 @@ none-mapped (Some info) h = absurd cc
 
 pub room-run : (s : Slots) (window : PageRange) (n r : ℕ) → IsRoom (is_mapped (entries s)) window n r → IsFreeRun s window n r
 room-run s window n r h = record {
-  low = h.0;
-  high = h.1;
-  free = λ p a b. none-mapped (s.info p) (h.2 p (in_has (pages_from r n) p a b));
+  inside = h.0;
+  free = λ p a b. none-mapped (s.info p) (h.1 p (in_has (pages_from r n) p a b));
 }
 
 pub run-room : (s : Slots) (window : PageRange) (n r : ℕ) → IsFreeRun s window n r → IsRoom (is_mapped (entries s)) window n r
 run-room s window n r h = (
-  h.low,
-  h.high,
+  h.inside,
   λ p in'. let z : (r ≤ p) × (p < r + n) = has_in (pages_from r n) p in' in ap (λ (o : Option PageInfo). is_some (entry_of o)) (h.free p z.0 z.1),
 )
 
@@ -41,7 +39,7 @@ pub free-range : (s : Slots) (range : PageRange) (start : ℕ) → range.first <
     → IsFree (is_mapped (entries s)) range
 free-range s range start some h = λ p in'.
     let z : (range.first ≤ p) × (p < range.end) = has_in range p in' in
-    let free : s.info p ≡ None = h.free p (omega (arith, some, h.low, h.high, z.0)) (omega (arith, some, h.low, h.high, z.1)) in
+    let free : s.info p ≡ None = h.free p (omega (arith, some, h.inside.low, h.inside.high, z.0)) (omega (arith, some, h.inside.low, h.inside.high, z.1)) in
     ap (λ (o : Option PageInfo). is_some (entry_of o)) free
 
 -- where there is no such run some page is mapped
@@ -52,7 +50,6 @@ taken-range s range some h = by (seek is_some (entries s) range)
     by : HasMapped (entries s) range ⊎ ((p : ℕ) → has range p ≡ true → is_some (entries s p) ≡ false) → HasMapped (entries s) range
     by (inl found) = found
     by (inr none) = absurd (h range.first (record {
-      low = omega arith;
-      high = omega (arith, some);
+      inside = record { low = omega arith; high = omega (arith, some) };
       free = λ p a b. none-mapped (s.info p) (none p (in_has range p a (omega (arith, some, b))));
     }))

@@ -20,8 +20,8 @@ hint-sound place range ok is = subst (λ (hint : Option PageRange). IsSoundHint 
 run-pages : (place : Place) (range : PageRange) → IsSoundPlace place → IsRunOf place.window place.count range → IsPageRange range
 run-pages place range ok is = record {
   some = omega (arith, ok.some, is.size);
-  low = omega (arith, ok.window.low, is.low);
-  high = omega (arith, ok.window.high, is.high);
+  low = omega (arith, ok.window.low, is.inside.low);
+  high = omega (arith, ok.window.high, is.size, is.inside.high);
 }
 
 pub target-pages : (place : Place) (target : Target) → IsSoundPlace place → IsTarget place target → IsPageRange (target_range place target)
@@ -49,8 +49,8 @@ run-act s place target range d sound (taken h e) = subst (λ (z : Decision). IsS
 window-act : (s : Slots) (place : Place) (d : Decision) → IsSoundPlace place → DecidesWindow s place d → IsSoundAct (To.Place place Window) d
 window-act s place d ok (None, none, e) = subst (λ (z : Decision). IsSoundAct (To.Place place Window) z) (sym e) tt
 window-act s place d ok (Some first, least, e) =
-    let low : place.window.first ≤ first = least.0.0 in
-    let high : first + place.count ≤ place.window.end = least.0.1 in
+    let low : place.window.first ≤ first = least.0.0.low in
+    let high : first + place.count ≤ place.window.end = least.0.0.high in
     subst (λ (z : Decision). IsSoundAct (To.Place place Window) z) (sym e)
     (put-sound place (pages_from first place.count) ok (record {
       some = omega (arith, ok.some);

@@ -8,7 +8,7 @@ use Rattle.vm_base.specs.declared.replies.Reply.TheVariants.{Mapped, Done, Refus
 use Rattle.vm_base.specs.declared.rights.Mode.{Mode}
 use Rattle.vm_base.specs.Functions.{has}
 use Rattle.vm_base.specs.Plain.{File, Entry, Plain, mode_of}
-use Rattle.vm_base.specs.Apply.{Applies, mapped, unmapped, protected, entry_reply, stored_entry}
+use Rattle.vm_base.specs.Apply.{Applies, after_mapping, after_unmapping, after_protecting, entry_reply, stored_entry}
 use Rattle.slot_lock.specs.declared.plan.Change.TheVariants.{Put, Clear, Protect}
 use Rattle.slot_lock.specs.declared.plan.Touch.{Touch}
 use Rattle.slot_lock.specs.declared.plan.Plan.{Plan}
@@ -46,10 +46,10 @@ answer_to (To.Access touch) range = Done
 
 -- the plain map after the change of the range
 abbrev pub left_by : Plain → Goal → PageRange → Plain
-left_by t (To.Place place target) range = mapped t range place.meta.back place.meta.prot
-left_by t (To.Change (Put r meta)) range = mapped t range meta.back meta.prot
-left_by t (To.Change (Clear r)) range = unmapped t range
-left_by t (To.Change (Protect r prot)) range = protected t range prot
+left_by t (To.Place place target) range = after_mapping t range place.meta.back place.meta.prot
+left_by t (To.Change (Put r meta)) range = after_mapping t range meta.back meta.prot
+left_by t (To.Change (Clear r)) range = after_unmapping t range
+left_by t (To.Change (Protect r prot)) range = after_protecting t range prot
 left_by t (To.Access touch) range = t
 
 -- The decision is the plain map's answer to the request; a call that looks elsewhere has none yet,

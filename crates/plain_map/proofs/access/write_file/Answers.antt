@@ -1,7 +1,7 @@
 use Rattle.std.proofs.Common.{◌≡◌, ◌<◌, Option, Some, None, true, is_some, length, arith, subst}
 use Rattle.vm_base.specs.Plain.{File, file_bytes}
 use Rattle.plain_map.specs.declared.file.PlainFile.{PlainFile}
-use Rattle.plain_map.specs.Files.{file_of}
+use Rattle.plain_map.specs.Files.{plain_file_of}
 use Rattle.plain_map.proofs.Elements.{element-get}
 use Rattle.plain_map.proofs.FilePages.{file_there, page_there, file_set}
 use Rattle.plain_map.proofs.access.write_file.Goals as goal
@@ -13,9 +13,9 @@ index_mut-requires g c =
 
 pub set-requires-clause-page : goal.set-requires-clause-page
 set-requires-clause-page g c =
-    page_there (file_of c.index_mut.result.now) c.args.to.page
+    page_there (plain_file_of c.index_mut.result.now) c.args.to.page
     (subst (λ (o : Option File). is_some (file_bytes o c.args.to.page) ≡ true)
-    (element-get (λ (f : PlainFile g.row.A.Denot). Some (file_of f)) None c.args.files.now.items c.args.to.file c.index_mut.result.now
+    (element-get (λ (f : PlainFile g.row.A.Denot). Some (plain_file_of f)) None c.args.files.now.items c.args.to.file c.index_mut.result.now
     (file_there c.args.files.now.items c.args.to.file c.args.to.page c.requires.page) c.index_mut.ensures.value)
     c.requires.page)
 
