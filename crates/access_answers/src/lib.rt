@@ -1,18 +1,20 @@
-//! What the machine and the threads both answer of a page and of an access. Nothing here takes memory.
+//! What the machine and the threads both answer of a page, of an access and of a change. Nothing here takes memory.
 #![tactic(auto)]
 
-ghost use Rattle.std.specs.Prelude.{◌≡◌, ℕ, Option};
+ghost use Rattle.std.specs.Prelude.{◌≡◌, ◌*◌, ℕ, Option};
 ghost use Rattle.vm_base.specs.Apply.{byte_reply};
-ghost use Rattle.slot_lock.specs.Plan.{IsSoundTouch};
+ghost use Rattle.slot_lock.specs.Plan.{IsSoundChange, IsSoundTouch};
 ghost use Rattle.backing.specs.Files.{files_of};
 ghost use Rattle.machine_model.specs.Accesses.{is_past_end};
+ghost use Rattle.machine_model.specs.Changes.{reply_to};
 ghost use Rattle.machine_model.specs.Files.{back_of, file_frame, prot_installed};
 ghost use Rattle.machine_model.specs.Filling.{cores_of};
 ghost use Rattle.machine_model.specs.Holding.{page_of_touch};
 
 use backing::Objects;
-use slot_lock::Touch;
+use slot_lock::{Change, Touch};
 use std::alloc::Allocator;
+use vm_base::page::PAGE_SIZE;
 use vm_base::{Access, Back, CoreSet, PageInfo, PageRange, Prot, Reply};
 
 /// What an access answers that found this byte.
@@ -22,6 +24,17 @@ pub fn byte_reply(access: Access, byte: u8) -> Reply
     match access {
         Access::Load | Access::Fetch => Reply::Byte(byte),
         Access::Store => Reply::Done,
+    }
+}
+
+/// What a change that is made answers.
+pub fn reply_to(change: Change) -> Reply
+    requires { IsSoundChange change }
+    ensures { result ≡ reply_to change }
+{
+    match change {
+        Change::Put { range, .. } => Reply::Mapped(range.first * PAGE_SIZE),
+        Change::Clear { .. } | Change::Protect { .. } => Reply::Done,
     }
 }
 

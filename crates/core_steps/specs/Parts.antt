@@ -5,4 +5,4 @@ use Rattle.core_steps.specs.Cores.{CoreParts, parts_of}
 
 module _ {H A : Type 0} {cpu : Ghosts H} where
   abbrev pub parts : Cores H A cpu → CoreParts
-  parts it = parts_of cpu.table cpu.tlb it.cpus.items it.inboxes.value
+  parts it = parts_of cpu.table cpu.tlb it.cpus.items it.inboxes

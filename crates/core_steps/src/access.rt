@@ -1,6 +1,5 @@
 //! The access of a byte.
 ghost use Rattle.std.specs.Prelude.{◌≡◌, ◌<◌, length};
-ghost use Rattle.vm_base.specs.Apply.{byte_reply};
 ghost use Rattle.machine_model.specs.Accesses.{after_try, memory_after, reply_of};
 ghost use Rattle.machine_model.specs.Actions.{to};
 ghost use Rattle.machine_model.specs.Step.{Goes};
@@ -10,21 +9,12 @@ ghost use Rattle.core_steps.specs.Moving.{CanTry, IsAt, tried_to};
 use crate::acquire::locking;
 use crate::engine::Engine;
 use crate::ledger::Ledger;
+use access_answers::byte_reply;
 use machine_model::{Outcome, Phase};
 use mmu::{Hardware, Translated};
 use slot_lock::{Goal, SlotMap, Touch};
 use std::alloc::Allocator;
 use vm_base::{Access, CoreId, Reply};
-
-/// What an access answers that found this byte.
-fn byte_reply(access: Access, byte: u8) -> Reply
-    ensures { result ≡ byte_reply access byte }
-{
-    match access {
-        Access::Load | Access::Fetch => Reply::Byte(byte),
-        Access::Store => Reply::Done,
-    }
-}
 
 impl<M: SlotMap, H: Hardware, A: Allocator, L: Ledger> Engine<M, H, A, L> {
     /// The byte is read or written in the frame. It answers what the access does.

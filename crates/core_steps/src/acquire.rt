@@ -1,7 +1,6 @@
 //! Locking all pages of a call, slot by slot from left to right.
 ghost use Rattle.std.specs.Prelude.{◌≡◌, ◌<◌, ◌≤◌, IfOk};
-ghost use Rattle.slot_lock.specs.Plan.{IsSoundGoal, IsSoundTouch, goal_range};
-ghost use Rattle.machine_model.specs.Holding.{page_of_touch};
+ghost use Rattle.slot_lock.specs.Plan.{IsSoundGoal, goal_range};
 ghost use Rattle.machine_model.specs.Locks.{all_locked, locked_to, locking};
 ghost use Rattle.machine_model.specs.Step.{Goes};
 ghost use Rattle.core_steps.specs.State.{world};
@@ -12,20 +11,9 @@ use crate::engine::Engine;
 use crate::ledger::Ledger;
 use machine_model::{Blocker, Outcome, Phase};
 use mmu::Hardware;
-use slot_lock::{Goal, Got, SlotMap, Touch};
+use slot_lock::{Goal, Got, SlotMap};
 use std::alloc::Allocator;
-use vm_base::{CoreId, NoMemory, PageRange};
-
-/// The page of an access, which its call locks.
-pub fn page_of_touch(touch: Touch) -> PageRange
-    requires { IsSoundTouch touch }
-    ensures { result ≡ page_of_touch touch }
-{
-    PageRange {
-        first: touch.page,
-        end: touch.page + 1,
-    }
-}
+use vm_base::{CoreId, NoMemory};
 
 /// All pages of the goal are to be locked, from the first on.
 pub fn locking(goal: Goal) -> Phase

@@ -12,9 +12,10 @@ ghost use Rattle.core_steps.specs.Moving.{IsAt};
 ghost use Rattle.core_steps.specs.PageChange.{IsAlone, IsPageChange};
 ghost use Rattle.core_steps.specs.State.{world};
 
-use crate::commit::{count_page, reply_to};
+use crate::commit::count_page;
 use crate::engine::Engine;
 use crate::ledger::Ledger;
+use access_answers::reply_to;
 use mmu::Hardware;
 use slot_lock::{Change, FreePage, SlotMap};
 use std::alloc::Allocator;

@@ -16,13 +16,13 @@ ghost use Rattle.core_steps.specs.Taking.{AreCounted, AreUsed, CountsEach, IsCou
 
 use crate::engine::Engine;
 use crate::ledger::Ledger;
+use access_answers::reply_to;
 use machine_model::{Blocker, Outcome, Phase};
 use mmu::Hardware;
 use refcache::Refcache;
 use slot_lock::{Change, Framed, FramedPages, Goal, SlotMap};
 use std::alloc::Allocator;
-use vm_base::page::PAGE_SIZE;
-use vm_base::{CoreId, PageInfo, PageRange, Reply};
+use vm_base::{CoreId, PageInfo, PageRange};
 
 /// Counts the frames of the listed pages down, in order.
 fn count_list<A: Allocator>(counts: &mut Refcache<A>, core: CoreId, list: &[Framed])
@@ -114,17 +114,6 @@ fn make_change<M: SlotMap, A: Allocator>(
             map.clear_range(core, range);
         }
         Change::Protect { range, prot } => map.protect_range(core, range, prot),
-    }
-}
-
-/// What a change that is made answers.
-pub fn reply_to(change: Change) -> Reply
-    requires { IsSoundChange change }
-    ensures { result ≡ reply_to change }
-{
-    match change {
-        Change::Put { range, .. } => Reply::Mapped(range.first * PAGE_SIZE),
-        Change::Clear { .. } | Change::Protect { .. } => Reply::Done,
     }
 }
 

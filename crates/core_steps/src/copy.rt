@@ -1,30 +1,19 @@
 //! The copy of a private page that shows its file's page, for a store: no core may go on
 //! translating it by the old frame.
 ghost use Rattle.std.specs.Prelude.{◌≡◌, Some, true, OnOk, OnErr};
-ghost use Rattle.machine_model.specs.Filling.{cores_of};
 ghost use Rattle.machine_model.specs.Step.{Goes};
 ghost use Rattle.core_steps.specs.State.{world};
 ghost use Rattle.core_steps.specs.Filling.{MakesCopy};
 ghost use Rattle.core_steps.specs.Moving.{IsAt, Tries, WantsMemory};
 
-use crate::acquire::page_of_touch;
 use crate::engine::Engine;
 use crate::ledger::Ledger;
+use access_answers::{cores_of, page_of_touch};
 use machine_model::{Blocker, Outcome, Phase};
 use mmu::Hardware;
 use slot_lock::{SlotMap, Touch};
 use std::alloc::Allocator;
 use vm_base::{CoreId, CoreSet, NoMemory, PageInfo};
-
-/// The cores that are recorded on the page.
-fn cores_of(info: &Option<PageInfo>) -> CoreSet
-    ensures { result ≡ cores_of info.now }
-{
-    match info {
-        Some(info) => info.cores,
-        None => CoreSet::empty(),
-    }
-}
 
 impl<M: SlotMap, H: Hardware, A: Allocator, L: Ledger> Engine<M, H, A, L> {
     /// The core drops its own translations of the page, and the other recorded cores are

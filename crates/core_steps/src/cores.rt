@@ -14,9 +14,9 @@ use vm_base::{CoreId, CoreSet, NoMemory, PageRange, Prot};
 pub(crate) struct Cores<H: Hardware, A: Allocator> {
     /// Of each core: its tables and its TLB.
     pub cpus: Vec<H, A>,
-    /// The inboxes, which are large.
-    pub inboxes: Box<Inboxes, A>,
-    ghost whole: { HaveInboxes (parts_of H.table H.tlb cpus.items inboxes.value) },
+    /// The inboxes.
+    pub inboxes: Inboxes<A>,
+    ghost whole: { HaveInboxes (parts_of H.table H.tlb cpus.items inboxes) },
 }
 
 /// Hardware that can be made without translations.
@@ -51,7 +51,7 @@ impl<H: Bare<A>, A: Allocator + Clone> Cores<H, A> {
             let cpu = H::bare(alloc.clone()?)?;
             cpus.push_reserved(cpu);
         }
-        let inboxes = Box::new(alloc, Inboxes::new(cores))?;
+        let inboxes = Inboxes::new(alloc, cores)?;
         Ok(Cores { cpus, inboxes })
     }
 }

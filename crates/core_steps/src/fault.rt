@@ -11,10 +11,10 @@ ghost use Rattle.machine_laws.specs.Orderly.{answer_count};
 ghost use Rattle.core_steps.specs.State.{phase_of, world};
 ghost use Rattle.core_steps.specs.Moving.{IsAt, IsOf, Tries, WantsMemory};
 
-use crate::acquire::page_of_touch;
 use crate::engine::Engine;
-use crate::file_pages::{back_of, file_frame, is_past_end, prot_installed};
+use crate::file_pages::{file_frame, prot_installed};
 use crate::ledger::Ledger;
+use access_answers::{back_of, is_past_end, page_of_touch};
 use machine_model::{Outcome, Phase};
 use mmu::Hardware;
 use slot_lock::{SlotMap, Touch};

@@ -14,9 +14,9 @@ ghost use Rattle.core_steps.specs.Filling.{IsAloneAt, IsOfFile};
 ghost use Rattle.core_steps.specs.Moving.{IsAt, Tries, WantsMemory};
 
 use crate::engine::Engine;
-use crate::file_pages::back_of;
 use crate::give_up::give_back;
 use crate::ledger::Ledger;
+use access_answers::back_of;
 use machine_model::{Outcome, Phase};
 use mmu::Hardware;
 use slot_lock::{SlotMap, Touch};

@@ -9,9 +9,9 @@ ghost use Rattle.machine_model.specs.Holding.{still_held, taken_in};
 ghost use Rattle.core_steps.specs.State.{phase_of, world};
 ghost use Rattle.core_steps.specs.Moving.{AwaitsCopy, IsOf, goal_in, is_copy_due};
 
-use crate::acquire::page_of_touch;
 use crate::engine::Engine;
 use crate::ledger::Ledger;
+use access_answers::page_of_touch;
 use frames::Frames;
 use machine_model::{Outcome, Phase};
 use mmu::Hardware;

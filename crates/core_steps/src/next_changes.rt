@@ -7,9 +7,9 @@ ghost use Rattle.core_steps.specs.Changing.{changes_in};
 ghost use Rattle.core_steps.specs.Moving.{goal_in};
 ghost use Rattle.core_steps.specs.State.{world};
 
-use crate::acquire::page_of_touch;
 use crate::engine::Engine;
 use crate::ledger::Ledger;
+use access_answers::page_of_touch;
 use machine_model::Phase;
 use mmu::Hardware;
 use slot_lock::SlotMap;

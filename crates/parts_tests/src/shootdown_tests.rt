@@ -1,5 +1,7 @@
 //! `shootdown`: each public call once, on its way that succeeds.
 use shootdown::{Inbox, Inboxes, Took};
+use std::alloc::{AllocError, Global};
+use std::test::Fail;
 use vm_base::{CoreId, CoreSet, PageRange};
 
 const PAGES: PageRange = PageRange { first: 16, end: 18 };
@@ -34,9 +36,9 @@ fn an_inbox_is_acted_on_from_the_oldest_message(rt: HostRuntime) {
 
 /// For whom core 0 waits after it posted to cores 1 and 3, and after each of these took once or twice;
 /// what cores 2, 3, 3, 1, 1 and 1 take.
-fn taken_in_turn() -> ([CoreSet; 4], [Took; 6]) {
+fn taken_in_turn(alloc: Global) -> Result<([CoreSet; 4], [Took; 6]), AllocError> {
     let (sender, near, far) = (CoreId::new(0), CoreId::new(1), CoreId::new(3));
-    let mut inboxes = Inboxes::new(4);
+    let mut inboxes = Inboxes::new(alloc, 4)?;
     let targets = CoreSet::empty().with(near).with(far);
     inboxes.post(sender, targets, PAGES);
     let posted = inboxes.waiting(sender);
@@ -56,16 +58,17 @@ fn taken_in_turn() -> ([CoreSet; 4], [Took; 6]) {
         near_second,
         inboxes.take(near),
     ];
-    ([posted, cleared, acknowledged, done], takes)
+    Ok(([posted, cleared, acknowledged, done], takes))
 }
 
 #[test]
-fn a_core_waits_until_each_target_has_acknowledged(rt: HostRuntime) {
-    let (waiting, takes) = taken_in_turn();
+fn a_core_waits_until_each_target_has_acknowledged(rt: HostRuntime) -> Result<(), Fail> {
+    let (waiting, takes) = taken_in_turn(rt.alloc())?;
     let (near, far) = (CoreId::new(1), CoreId::new(3));
     let targets = CoreSet::empty().with(near).with(far);
     assert!(rt; waiting == [targets, targets, targets.without(far), CoreSet::empty()]);
     let (clear, invalidate) = (Took::Clear(PAGES), Took::Invalidate(PAGES));
     let want = [Took::Idle, clear, invalidate, clear, invalidate, Took::Idle];
     assert!(rt; takes == want);
+    Ok(())
 }

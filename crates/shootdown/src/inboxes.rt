@@ -1,6 +1,6 @@
-//! The inboxes of all cores, and who waits for whom. Nothing here takes memory or fails.
+//! The inboxes of all cores, and who waits for whom. They take all of their memory when they are made.
 ghost use Rattle.std.specs.Prelude.{◌≡◌, ◌≢◌, ℕ, ◌<◌, ◌≤◌, [], ◌∷◌, ◌++◌, None, Bool, true, false};
-ghost use Rattle.std.specs.Prelude.{length, slice_index_or};
+ghost use Rattle.std.specs.Prelude.{length, slice_index_or, IfOk};
 ghost use Rattle.vm_base.specs.Functions.{put};
 ghost use Rattle.vm_base.specs.Cores.{members};
 ghost use Rattle.shootdown.specs.Messages.{InboxOf, message_of, posted, asked, remaining, waiter};
@@ -9,7 +9,7 @@ ghost use Rattle.shootdown.specs.Inboxes.{inbox, owner, sent, awaited, acknowled
 
 use crate::inbox::Inbox;
 use crate::message::Took;
-use arrayvec::ArrayVec;
+use std::alloc::{AllocError, Allocator};
 use std::marker::Model;
 use vm_base::{CoreId, CoreSet, PageRange};
 
@@ -17,16 +17,16 @@ use vm_base::{CoreId, CoreSet, PageRange};
 pub const CORES: usize = 64;
 
 /// The inbox of each core. A clause sees them as a list, and `inbox` of it gives the messages of a
-/// core.
+/// core. An inbox is large: they stand in memory that was taken, so that no stack has to hold them.
 #[derive(Drop)]
-pub struct Inboxes {
-    inboxes: ArrayVec<Inbox, CORES>,
+pub struct Inboxes<A: Allocator> {
+    inboxes: Vec<Inbox, A>,
     /// Of each core: those that still have its message.
     awaited: [CoreSet; CORES],
 }
 
-impl Model for Inboxes {
-    ghost use Rattle.std.specs.Prelude.{List};
+impl<A: Allocator> Model for Inboxes<A> {
+    ghost use Rattle.std.specs.Prelude.{◌≤◌, List, length};
     ghost use Rattle.shootdown.specs.Messages.{InboxOf};
     ghost use Rattle.shootdown.specs.Inboxes.{AreIndexed};
 
@@ -34,24 +34,23 @@ impl Model for Inboxes {
 
     ghost view = { λ b. b.inboxes.items };
 
-    ghost invariant = { λ b. AreIndexed b.inboxes.items b.awaited };
+    ghost invariant = { λ b. AreIndexed b.inboxes.items b.awaited × (length b.inboxes.items ≤ 64) };
 }
 
-impl Inboxes {
-    /// The inboxes of cores 0 up to `cores`, without messages.
-    pub fn new(cores: u8) -> Inboxes
+impl<A: Allocator> Inboxes<A> {
+    /// The inboxes of cores 0 up to `cores`, without messages. No other call takes memory; an error is
+    /// a refusal of it.
+    pub fn new(alloc: A, cores: u8) -> Result<Inboxes<A>, AllocError>
         requires { cores ≤ 64 }
-        ensures cores { length result ≡ cores }
-        ensures empty { (d : ℕ) → inbox result d ≡ [] }
+        ensures cores { IfOk result (λ made. length made ≡ cores) }
+        ensures empty { IfOk result (λ made. (d : ℕ) → inbox made d ≡ []) }
     {
-        let mut inboxes = ArrayVec::new();
+        let mut inboxes = Vec::with_capacity(alloc, usize::from(cores))?;
         'cores: for core in 0..cores {
-            inboxes.push(Inbox::new(CoreId::new(core)));
+            inboxes.push_reserved(Inbox::new(CoreId::new(core)));
         }
-        Inboxes {
-            inboxes,
-            awaited: nobody_waits(),
-        }
+        let awaited = nobody_waits();
+        Ok(Inboxes { inboxes, awaited })
     }
 
     /// Puts a message into the inbox of each core of `to`, behind those that it has. `from` then

@@ -33,6 +33,6 @@ pub post-requires-clause-within : goal.post-requires-clause-within
 post-requires-clause-within c = λ d e. go d (one_of_two c.empty.result c.empty.ensures (members c.with.result)
     (members c.with-targets.result) c.new-near.result c.new-far.result c.with.ensures.members c.with-targets.ensures.members d e)
   where
-    go : (d : ℕ) → (d ≡ c.new-near.result) ⊎ (d ≡ c.new-far.result) → d < length c.new-inboxes.result
-    go d (inl s) = omega arith
-    go d (inr s) = omega arith
+    go : (d : ℕ) → (d ≡ c.new-near.result) ⊎ (d ≡ c.new-far.result) → d < length c.in_ok-inboxes.inboxes
+    go d (inl s) = omega (arith, c.in_ok-inboxes.ensures.cores)
+    go d (inr s) = omega (arith, c.in_ok-inboxes.ensures.cores)

@@ -14,4 +14,4 @@ cores-preserved g c = record {
 
 pub returns-clause-empty : goal.returns-clause-empty
 returns-clause-empty g c = bare_parts g.H.Hardware.table g.H.Hardware.tlb _ _ c.cores.invariant.tables c.cores.invariant.tlbs
-    (λ d. ap (λ b. inbox b d) c.in_ok-inboxes.ensures.ok ∙ c.new.ensures.empty d)
+    c.in_ok-inboxes.ensures.empty

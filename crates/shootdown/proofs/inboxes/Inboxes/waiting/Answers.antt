@@ -5,8 +5,8 @@ use Rattle.shootdown.specs.Inboxes.{inbox, awaited}
 use Rattle.shootdown.proofs.inboxes.Inboxes.waiting.Goals as goal
 
 pub returns : goal.returns
-returns c =
+returns g c =
     ap (λ i. members (get_or c.self.inside.awaited i c.index-self-place.result)) c.index-place.ensures.value
     ∙ ap members (get_or_default c.self.inside.awaited c.args.from c.index-self-place.result 0 (omega arith))
-    ∙ c.self.invariant.kept c.args.from c.index-place.ensures.in_range
+    ∙ c.self.invariant.0.kept c.args.from c.index-place.ensures.in_range
     ∙ ap (λ v. awaited (inbox v) c.args.from) c.self.view_is
