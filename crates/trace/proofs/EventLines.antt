@@ -6,6 +6,7 @@ use Rattle.machine_model.specs.declared.event.Outcome.{Outcome}
 use Rattle.machine_model.specs.declared.event.Outcome.TheVariants.{Stepped, Wait, Idle, Answered, Full}
 use Rattle.machine_model.specs.World.{World, Made, new_world}
 use Rattle.slot_lock.specs.Slots.{Slots, IsNew}
+use Rattle.radix_range.specs.Folds.{CanFold, FoldsNode}
 use Rattle.radix_range.specs.Tree.{root_edges, new_tree}
 use Rattle.radix_range.proofs.New.{is_new_tree}
 use Rattle.trace.specs.Declarations.{Asked, asked_fault, made_by}
@@ -33,9 +34,9 @@ goes_on Idle m v core f text g t = (g.0, t ∙ ap finished_text g.1)
 goes_on (Answered reply) m v core f text g t = (g.0, t ∙ ap finished_text g.1)
 goes_on Full m v core f text g t = (g.0, t ∙ ap finished_text g.1)
 
-pub called : (w v : World) (core : ℕ) (request : Request) (f : Finished) (text : List ℕ) → Calls w core request f v → text ≡ finished_text f
-    → Gives w (Now core request) v text
-called w v core request f text c t = (c.0, c.1, c.2, goes_on c.0 c.1 v core f text c.3 t)
+pub called : (CanFold : Slots → ℕ → Type 0) (Folds : Slots → Slots → ℕ → Type 0) (w v : World) (core : ℕ) (request : Request) (f : Finished) (text : List ℕ)
+    → Calls w core request f v → text ≡ finished_text f → Gives CanFold Folds w (Now core request) v text
+called CanFold Folds w v core request f text c t = (c.0, c.1, c.2, goes_on c.0 c.1 v core f text c.3 t)
 
 -- the line is this one, and what it asks for is done
 pub line_gives : {U : Type 0} (line : Option Line) (l : Line) (r : Result U NoMemory) (u : U) (P : Line → Type 0) → line ≡ Some l → r ≡ Ok u → OnOk r (P l)
@@ -56,7 +57,7 @@ can_open (Running v) w h = tt
 
 -- a line was acted on, by the machine that it found
 pub acted : {U : Type 0} (r : Result U TraceFault) (line : Option Line) (old : Stage) (w v : World) (text : List ℕ) → Opens old w
-    → OnOk r (IsSomeAnd line (λ l. Gives w l v text)) → OnOk r (IsSomeAnd line (λ l. EventActs old l (Running v) text))
+    → OnOk r (IsSomeAnd line (λ l. Gives CanFold FoldsNode w l v text)) → OnOk r (IsSomeAnd line (λ l. EventActs old l (Running v) text))
 acted (Ok u) (Some l) old w v text o h = (w, v, o, h, refl)
 acted (Ok u) None old w v text o h = h
 acted (Err f) line old w v text o h = tt

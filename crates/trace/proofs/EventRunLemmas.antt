@@ -20,6 +20,7 @@ use Rattle.trace_text.specs.declared.line.Line.{Line}
 use Rattle.trace_text.specs.declared.line.Line.TheVariants.{Blank, Space, File, Act, Fold, Finish, Now}
 use Rattle.trace.specs.Events.{event_of}
 use Rattle.trace.specs.OutcomeText.{finished_text}
+use Rattle.radix_range.specs.Folds.{CanFold, FoldsNode}
 use Rattle.trace.specs.Gives.{Gives, TellsFinish, TellsCall}
 use Rattle.trace.specs.Stage.{Stage, Start, Declared, Running, Opens, LineActs, EventActs, new_machine}
 use Rattle.trace.specs.Runs.{Runs}
@@ -112,7 +113,7 @@ called core request Full w m v text s h = record {
   run = (m, s, h.0);
 }
 
-moved : (line : Line) (w v : World) (text : List ℕ) → Gives w line v text → IsMoved line w v text
+moved : (line : Line) (w v : World) (text : List ℕ) → Gives CanFold FoldsNode w line v text → IsMoved line w v text
 moved Blank w v text h = absurd h
 moved (Space cores frames calls) w v text h = absurd h
 moved (File n mode len seed) w v text h = absurd h

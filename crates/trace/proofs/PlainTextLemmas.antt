@@ -43,6 +43,7 @@ use Rattle.trace.specs.declared.shown.Show.TheVariants.{Outcomes, OutcomesAndLog
 use Rattle.trace.specs.Declarations.{Asked, asked_fault, made_by}
 use Rattle.trace.specs.Events.{event_of}
 use Rattle.trace.specs.OutcomeText.{outcome_text, finished_text}
+use Rattle.radix_range.specs.Folds.{CanFold, FoldsNode}
 use Rattle.trace.specs.Gives.{Gives, TellsFinish, TellsCall}
 use Rattle.trace.specs.Stage.{Stage, Start, Declared, Running, CanOpen, Opens, LineActs, EventActs}
 use Rattle.trace.specs.Runs.{Runs}
@@ -305,7 +306,7 @@ goes_grows m core Idle v text h = same_events m v h.0
 goes_grows m core (Answered r) v text h = same_events m v h.0
 goes_grows m core Full v text h = same_events m v h.0
 
-gives_grows : (w : World) (line : Line) (v : World) (text : List ℕ) → Gives w line v text → w.calls.events ≤ v.calls.events
+gives_grows : (w : World) (line : Line) (v : World) (text : List ℕ) → Gives CanFold FoldsNode w line v text → w.calls.events ≤ v.calls.events
 gives_grows w Blank v text h = absurd h
 gives_grows w (Space cores frames calls) v text h = absurd h
 gives_grows w (File n mode len seed) v text h = absurd h

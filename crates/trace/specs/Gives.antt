@@ -1,5 +1,6 @@
 -- What a line of an event gives: the text of the outcome that the machine comes to.
 use Rattle.std.specs.Prelude.{◌≡◌, ◌⊎◌, ℕ, List, Bool, true, false, Option, None, Some}
+use Rattle.slot_lock.specs.Slots.{Slots}
 use Rattle.machine_model.specs.declared.event.Event.{Event}
 use Rattle.machine_model.specs.declared.event.Event.TheVariants as Ev
 use Rattle.machine_model.specs.declared.event.Outcome.{Outcome}
@@ -8,7 +9,7 @@ use Rattle.machine_model.specs.World.{World}
 use Rattle.machine_model.specs.Step.{Step}
 use Rattle.core_steps.specs.declared.machine.Finished.{Finished}
 use Rattle.core_steps.specs.Finishing.{Finishes, IsRefused}
-use Rattle.core_steps.specs.Moving.{MayWant}
+use Rattle.core_steps.specs.Moving.{MayWant, JoinsAsMap}
 use Rattle.trace_text.specs.declared.line.Line.{Line}
 use Rattle.trace_text.specs.declared.line.Line.TheVariants.{Blank, Space, File, Act, Fold, Finish, Now}
 use Rattle.trace.specs.Events.{event_of}
@@ -17,6 +18,12 @@ use Rattle.trace.specs.OutcomeText.{outcome_text, finished_text}
 -- one step, and the text of its outcome
 abbrev pub TellsStep : World → Event → World → List ℕ → Type 0
 TellsStep w event v text = (o : Outcome) × Step w event o v × (text ≡ outcome_text o)
+
+-- a fold, whose outcome is told, and which joins slots just where the slot map can, as that does
+abbrev pub TellsFold : (Slots → ℕ → Type 0) → (Slots → Slots → ℕ → Type 0) → World → ℕ → World
+    → List ℕ → Type 0
+TellsFold CanFold Folds w page v text = (o : Outcome) × Step w (Ev.Fold page) o v
+    × (text ≡ outcome_text o) × JoinsAsMap CanFold Folds w (Ev.Fold page) o v
 
 -- the steps that finish the core's call, and the text of the last outcome
 abbrev pub TellsFinish : World → ℕ → World → List ℕ → Type 0
@@ -30,15 +37,17 @@ TellsCall m core Idle v text = (v ≡ m) × (text ≡ outcome_text Idle)
 TellsCall m core (Answered reply) v text = (v ≡ m) × (text ≡ outcome_text (Answered reply))
 TellsCall m core Full v text = (v ≡ m) × (text ≡ outcome_text Full)
 
-abbrev pub Gives : World → Line → World → List ℕ → Type 0
-Gives w Blank v text = ⊥
-Gives w (Space cores frames calls) v text = ⊥
-Gives w (File n mode len seed) v text = ⊥
-Gives w (Act core action) v text = TellsStep w (event_of core action) v text
-Gives w (Fold page) v text = TellsStep w (Ev.Fold page) v text
-Gives w (Finish core) v text = TellsFinish w core v text
-Gives w (Now core request) v text = (o : Outcome) × (m : World) × Step w (Ev.Call core request) o m
-    × TellsCall m core o v text
+-- what the line gives, over a slot map that folds so
+abbrev pub Gives : (Slots → ℕ → Type 0) → (Slots → Slots → ℕ → Type 0) → World → Line → World
+    → List ℕ → Type 0
+Gives CanFold Folds w Blank v text = ⊥
+Gives CanFold Folds w (Space cores frames calls) v text = ⊥
+Gives CanFold Folds w (File n mode len seed) v text = ⊥
+Gives CanFold Folds w (Act core action) v text = TellsStep w (event_of core action) v text
+Gives CanFold Folds w (Fold page) v text = TellsFold CanFold Folds w page v text
+Gives CanFold Folds w (Finish core) v text = TellsFinish w core v text
+Gives CanFold Folds w (Now core request) v text = (o : Outcome) × (m : World)
+    × Step w (Ev.Call core request) o m × TellsCall m core o v text
 
 -- some step that finishes the core's call was refused for memory
 abbrev pub WantsFinish : Bool → World → ℕ → Type 0

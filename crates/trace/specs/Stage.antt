@@ -2,6 +2,7 @@
 use Rattle.std.specs.Prelude.{◌≡◌, ◌≢◌, ℕ, ◌⊎◌, List, [], Bool, true, false, Option, None, Some}
 use Rattle.std.specs.Prelude.{if◌then◌else◌, IsSomeAnd, ⊤}
 use Rattle.radix_range.specs.Tree.{new_tree}
+use Rattle.radix_range.specs.Folds.{CanFold, FoldsNode}
 use Rattle.machine_model.specs.World.{World, new_world}
 use Rattle.core_steps.specs.declared.setup.SetupFault.{SetupFault}
 use Rattle.core_steps.specs.declared.setup.SetupFault.TheVariants as Of
@@ -119,10 +120,10 @@ pub record LineWants (keeps : Bool) (s : Stage) (line : List ℕ) : Type 0 where
   pub printable : are_printable line ≡ true
   pub wants : IsSomeAnd (line_of line) (λ l. EventWants keeps s l)
 
--- a line that is acted on, by what it says
+-- a line that is acted on, by what it says; slots are joined as the tree joins them
 abbrev pub EventActs : Stage → Line → Stage → List ℕ → Type 0
 EventActs old line new text =
-    (w : World) × (v : World) × Opens old w × Gives w line v text × (new ≡ Running v)
+    (w : World) × (v : World) × Opens old w × Gives CanFold FoldsNode w line v text × (new ≡ Running v)
 
 abbrev pub LineActs : Stage → Line → Stage → List ℕ → Type 0
 LineActs old Blank new text = (new ≡ old) × (text ≡ [])

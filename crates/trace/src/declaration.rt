@@ -138,6 +138,27 @@ impl Declaration {
         self.cores
     }
 
+    /// How many frames are asked for.
+    pub fn frames(&self) -> u64
+        ensures { result ≡ self.now.frames }
+    {
+        self.frames
+    }
+
+    /// How many calls are asked for.
+    pub fn calls(&self) -> u64
+        ensures { result ≡ self.now.calls }
+    {
+        self.calls
+    }
+
+    /// The files that are kept, in order of their numbers.
+    pub fn files(&self) -> &[FileLine]
+        ensures { result.now ≡ self.now.files }
+    {
+        self.files.as_slice()
+    }
+
     /// Takes in a file that has the next number, and tells whether it has. No file has
     /// the number 2^64 - 1.
     pub fn add(&mut self, number: u64, file: FileLine) -> bool

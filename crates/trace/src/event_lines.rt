@@ -3,7 +3,7 @@ ghost use Rattle.std.specs.Prelude.{◌≡◌, ◌⊎◌, IfErr, OnErr, OnOk, Is
 ghost use Rattle.core_steps.specs.Machine.{state};
 ghost use Rattle.core_steps.specs.Moving.{MayWant};
 ghost use Rattle.trace.specs.Events.{event_of};
-ghost use Rattle.trace.specs.Gives.{Gives, Wants, WantsFinish, is_event, TellsFinish, TellsStep};
+ghost use Rattle.trace.specs.Gives.{Gives, Wants, WantsFinish, is_event, TellsFinish, TellsFold, TellsStep};
 
 use crate::fault::TraceFault;
 use crate::outcome_text::{write_finished, write_outcome};
@@ -54,11 +54,26 @@ fn tell_act<M: SlotMap, A: Allocator + Clone, L: Ledger>(
     action: Action,
     text: &mut LineText,
 ) -> Result<(), NoMemory>
-    ensures ok { OnOk result (Gives (state machine.old) (Line.Act core action)
+    ensures ok { OnOk result (Gives M.can_fold M.folds (state machine.old) (Line.Act core action)
         (state machine.new) text.new.bytes) }
     ensures err { OnErr result (Wants L.keeps (state machine.old) (Line.Act core action)) }
 {
     tell_step(machine, event_of(core, action), text)
+}
+
+// A fold at the page.
+fn tell_fold<M: SlotMap, A: Allocator + Clone, L: Ledger>(
+    machine: &mut Machine<M, A, L>,
+    page: u64,
+    text: &mut LineText,
+) -> Result<(), NoMemory>
+    ensures ok { OnOk result (TellsFold M.can_fold M.folds (state machine.old) page
+        (state machine.new) text.new.bytes) }
+    ensures err { OnErr result (Wants L.keeps (state machine.old) (Line.Fold page)) }
+{
+    let outcome = machine.step(Event::Fold(page))?;
+    write_outcome(text, outcome);
+    Ok(())
 }
 
 // All steps of the core's call.
@@ -82,7 +97,7 @@ fn tell_call<M: SlotMap, A: Allocator + Clone, L: Ledger>(
     request: Request,
     text: &mut LineText,
 ) -> Result<(), NoMemory>
-    ensures ok { OnOk result (Gives (state machine.old) (Line.Now core request)
+    ensures ok { OnOk result (Gives M.can_fold M.folds (state machine.old) (Line.Now core request)
         (state machine.new) text.new.bytes) }
     ensures err { OnErr result (Wants L.keeps (state machine.old) (Line.Now core request)) }
 {
@@ -101,7 +116,7 @@ pub fn run_line<M: SlotMap, A: Allocator + Clone, L: Ledger>(
     text: &mut LineText,
 ) -> Result<(), TraceFault>
     ensures ok { OnOk result
-        (IsSomeAnd line (λ l. Gives (state machine.old) l (state machine.new) text.new.bytes)) }
+        (IsSomeAnd line (λ l. Gives M.can_fold M.folds (state machine.old) l (state machine.new) text.new.bytes)) }
     ensures err { IfErr result
         (λ f. ((f ≡ TraceFault.NoMemory) × IsSomeAnd line (λ l. Wants L.keeps (state machine.old) l))
         ⊎ ((is_event line ≡ false) × (f ≡ TraceFault.BadLine number))) }
@@ -111,7 +126,7 @@ pub fn run_line<M: SlotMap, A: Allocator + Clone, L: Ledger>(
     };
     let done = match line {
         Line::Act(core, action) => tell_act(machine, core, action, text),
-        Line::Fold(page) => tell_step(machine, Event::Fold(page), text),
+        Line::Fold(page) => tell_fold(machine, page, text),
         Line::Finish(core) => tell_finish(machine, core, text),
         Line::Now(core, request) => tell_call(machine, core, request, text),
         Line::Blank | Line::Space { .. } | Line::File { .. } => return Err(TraceFault::BadLine(

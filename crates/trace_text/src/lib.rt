@@ -19,5 +19,5 @@ pub use line::{
     Line, first_word_is_file, first_word_is_vm, is_printable, is_printable_line, read_line,
     read_words,
 };
-pub use lists::{write_answer, write_detach, write_map_line};
+pub use lists::{push_rights, push_start, write_answer, write_detach, write_map_line};
 pub use printing::{LineText, ShortText, address_text, number_text, push_number, push_reply};

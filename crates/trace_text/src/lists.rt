@@ -7,9 +7,9 @@ ghost use Rattle.trace_text.specs.Spelling.{mark, rights_text};
 use crate::printing::{LineText, address_text, push_number, push_reply};
 use vm_base::{Back, PageRange, Prot, Reply};
 
-// Appends the address at which the page begins. It may lie past 2^64: three digits of 0
-// behind those of the page's number are 4096 times it.
-fn push_start(text: &mut LineText, page: u64)
+/// Appends the address at which the page begins, as `address_text` has addresses. It may lie past
+/// 2^64: three digits of 0 behind those of the page's number are 4096 times it.
+pub fn push_start(text: &mut LineText, page: u64)
     requires { length text.old.bytes + 23 ≤ 256 }
     ensures bytes { text.new.bytes ≡ text.old.bytes ++ start_of page }
     ensures short { length text.new.bytes ≤ length text.old.bytes + 23 }
@@ -34,8 +34,8 @@ fn push_right(text: &mut LineText, is_given: bool, letter: &str)
     }
 }
 
-// Appends the three rights.
-fn push_rights(text: &mut LineText, prot: Prot)
+/// Appends the three rights, each a letter or a dash, as in `rw-`.
+pub fn push_rights(text: &mut LineText, prot: Prot)
     requires { length text.old.bytes + 3 ≤ 256 }
     ensures bytes { text.new.bytes ≡ text.old.bytes ++ rights_text prot }
     ensures short { length text.new.bytes ≤ length text.old.bytes + 3 }

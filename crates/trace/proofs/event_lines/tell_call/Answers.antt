@@ -4,5 +4,5 @@ use Rattle.trace.proofs.event_lines.tell_call.Goals as goal
 
 pub returns-clause-ok : goal.returns-clause-ok
 returns-clause-ok g c =
-    called (state c.args.machine.now) (state c.call.new.self) c.args.core c.args.request c.in_ok-finished.finished
+    called g.M.SlotMap.can_fold g.M.SlotMap.folds (state c.args.machine.now) (state c.call.new.self) c.args.core c.args.request c.in_ok-finished.finished
     c.write_finished.new.text.bytes c.in_ok-finished.ensures.ends c.write_finished.ensures
