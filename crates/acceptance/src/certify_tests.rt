@@ -43,7 +43,7 @@ fn with_cores(alloc: Global, cores: u64, seats: &[&[Noted]]) -> Result<Certified
         files: Vec::new(alloc),
         calls: 4096,
     };
-    certify(alloc, setup, seats)
+    certify(alloc, setup, seats, None)
 }
 
 /// What the notes of a load come to that has these tickets and this reply.
@@ -80,14 +80,15 @@ fn parts_of_a_lone_load(rt: HostRuntime) -> Result<(), Fail> {
     Ok(())
 }
 
-/// What the load's notes come to as they are; with a ticket twice; with tickets one higher; and for
-/// a machine of 65 cores.
-fn tickets_told(alloc: Global) -> [Result<Certified, CertifyFault>; 4] {
+/// What the load's notes come to as they are; with a ticket twice; with tickets one higher; with the
+/// highest ticket that there is; and for a machine of 65 cores.
+fn tickets_told(alloc: Global) -> [Result<Certified, CertifyFault>; 5] {
     let reply = Reply::Segv(SegvCode::MapErr);
     [
         load_told(alloc, 1, (0, 1, 2), reply),
         load_told(alloc, 1, (0, 1, 1), reply),
         load_told(alloc, 1, (1, 2, 3), reply),
+        load_told(alloc, 1, (0, 1, u64::MAX), reply),
         load_told(alloc, 65, (1, 2, 3), reply),
     ]
 }
@@ -98,9 +99,33 @@ fn tickets_of_a_lone_load(rt: HostRuntime) -> Result<(), Fail> {
         Ok(Certified { calls: 1 }),
         Err(CertifyFault::Ticket(1)),
         Err(CertifyFault::Ticket(0)),
+        Err(CertifyFault::Ticket(2)),
         Err(CertifyFault::Setup(SetupFault::Cores)),
     ];
     assert!(rt; tickets_told(rt.alloc()) == told);
+    Ok(())
+}
+
+/// What a machine of one core tells of a note by which core 5 begins a load, with this outcome.
+fn core_5_told(alloc: Global, outcome: Outcome) -> Result<Certified, CertifyFault> {
+    let begun = [Noted {
+        ticket: 0,
+        event: Event::Call(CoreId::new(5), Request::Load { addr: 0 }),
+        outcome,
+    }];
+    let notes = &begun[..];
+    with_cores(alloc, 1, &[notes])
+}
+
+#[test]
+fn a_core_that_the_machine_lacks(rt: HostRuntime) -> Result<(), Fail> {
+    let stepped = Err(CertifyFault::Differs {
+        ticket: 0,
+        noted: Outcome::Stepped,
+        expected: Outcome::Idle,
+    });
+    assert!(rt; core_5_told(rt.alloc(), Outcome::Stepped) == stepped);
+    assert!(rt; core_5_told(rt.alloc(), Outcome::Idle) == Ok(Certified { calls: 0 }));
     Ok(())
 }
 
@@ -131,6 +156,7 @@ fn names(alloc: Global) -> Result<String<Global>, NoMemory> {
     push_name(alloc, CertifyFault::Setup(SetupFault::Frames), &mut out)?;
     push_name(alloc, CertifyFault::Ticket(1), &mut out)?;
     push_name(alloc, done_told(), &mut out)?;
+    push_name(alloc, CertifyFault::Slot { page: 16 }, &mut out)?;
     push_name(alloc, CertifyFault::NoMemory, &mut out)?;
     Ok(out)
 }
@@ -138,7 +164,7 @@ fn names(alloc: Global) -> Result<String<Global>, NoMemory> {
 #[test]
 fn faults_by_name(rt: HostRuntime) -> Result<(), Fail> {
     let names = names(rt.alloc())?;
-    assert_eq!(rt; names.as_str(), "C4 S2\nC1 1\nC2 2\nC3\n");
+    assert_eq!(rt; names.as_str(), "C4 S2\nC1 1\nC2 2\nC5 16\nC3\n");
     Ok(())
 }
 
@@ -303,7 +329,7 @@ fn told(
     let third = changed.len() / 3;
     let (first, rest) = changed.split_at(third);
     let (second, last) = rest.split_at(third);
-    Ok(certify(alloc, setup, &[first, second, last]))
+    Ok(certify(alloc, setup, &[first, second, last], None))
 }
 
 /// How often notes were spoiled, and how often that was refused just as it should be.
@@ -451,7 +477,7 @@ fn in_heap(heap: &LocalHeap, cores: u64, notes: &[Noted]) -> Result<Certified, C
         files: Vec::new(heap),
         calls: 8,
     };
-    certify(heap, setup, &[notes])
+    certify(heap, setup, &[notes], None)
 }
 
 /// Whether the notes' five calls are certified in a heap that is full first, and is given back bit by

@@ -3,13 +3,15 @@
 //! traces, `log_tests` replays a log, and `stream_tests` has reads and writes that fail. `in_one_run` gives a trace's events to
 //! `run`, `run_tests` has whole lists of events and heaps that are too small, and `replay_tests` the
 //! texts of outcomes and a replay's flushes. `certify_tests` has notes of steps
-//! (`noting` writes them down).
+//! (`noting` writes them down), and `history_tests` histories of slots beside them.
 #![tactic(auto)]
 
 #[cfg(test)]
 mod by_hand;
 #[cfg(test)]
 mod certify_tests;
+#[cfg(test)]
+mod history_tests;
 #[cfg(test)]
 mod in_one_run;
 #[cfg(test)]

@@ -222,8 +222,8 @@ fn heaps_that_are_too_small(rt: HostRuntime) -> Result<(), Fail> {
             listed = n;
         }
     }
-    // the inboxes alone have 64 times 63 messages of 16 bytes and more
-    assert!(rt; 2016 < made && made < listed && last == 2);
+    // the core's inbox alone has 63 messages of 16 bytes and more
+    assert!(rt; 28 < made && made < listed && last == 2);
     Ok(())
 }
 

@@ -3,3 +3,5 @@ pub mod Notes
 pub mod Histories
 pub mod Looked
 pub mod Walking
+pub mod Followed
+pub mod Chained

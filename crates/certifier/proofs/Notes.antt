@@ -5,13 +5,12 @@ use Rattle.std.proofs.Math.Numerals.{add-one}
 use Rattle.std.proofs.lemmas.List.{map-append, get_or_default, length-append}
 use Rattle.std.proofs.lemmas.List.Elements.{filter-append}
 use Rattle.std.proofs.lemmas.List.Sums.{length-filter}
-use Rattle.slot_lock.specs.Slots.{Slots, IsNew}
+use Rattle.slot_lock.specs.Slots.{Slots}
 use Rattle.machine_model.specs.declared.event.Event.{Event}
 use Rattle.machine_model.specs.declared.event.Outcome.{Outcome}
-use Rattle.machine_model.specs.World.{World, Made, new_world}
+use Rattle.machine_model.specs.World.{World, new_world}
 use Rattle.machine_model.specs.Step.{Step, Run}
-use Rattle.machine_laws.proofs.Bracketed.{bracketed}
-use Rattle.machine_sound.proofs.Kept.{run_more, runs_sound}
+use Rattle.machine_sound.proofs.Kept.{run_more}
 use Rattle.core_steps.specs.declared.setup.Setup.{Setup}
 use Rattle.vm_base.specs.declared.page.PageRange.{PageRange}
 use Rattle.core_steps.specs.Dividing.{DividesAsMap}
@@ -23,7 +22,7 @@ use Rattle.seats.specs.declared.noted.Noted.{Noted}
 use Rattle.certifier.specs.declared.order.Place.{Place}
 use Rattle.certifier.specs.declared.order.Standing.{Standing}
 use Rattle.certifier.specs.declared.order.Standing.TheVariants.{No, Once}
-use Rattle.certifier.specs.Following.{events_of, outcomes_of, event_of, outcome_of, answers_call, one_if, IsRunOfNotes, IsCertified, DiffersAt}
+use Rattle.certifier.specs.Following.{events_of, outcomes_of, event_of, outcome_of, answers_call, one_if, DiffersAt, IsNewTree}
 use Rattle.certifier.specs.Order.{AreNumbered, IsFirstAmiss, all_notes, in_order, note_at, with_ticket}
 use Rattle.certifier.specs.Standings.{AreStandings, IsPlace, Stands, is_once}
 use Rattle.certifier.proofs.Standing.{no_more, not_once, once, place_within}
@@ -125,29 +124,9 @@ counted notes t x calls is c =
 
 -- ---- what it comes to
 
--- all notes are a run
-pub certified : {A : Type 0} (P : PageRange → ℕ → ℕ → Bool) (C : Slots → ℕ → Type 0) (F : Slots → Slots → ℕ → Type 0) (setup : Setup A) (slots : Slots) (notes : List Noted) (n : ℕ)
-    (w : World) (calls : ℕ) → (made_of setup).cores ≤ 64 → IsNew slots → AreNumbered notes → n ≡ length notes
-    → Run (new_world (made_of setup) slots) (events_of (in_order n notes)) (outcomes_of (in_order n notes)) w
-    → RunsAsMap P C F (new_world (made_of setup) slots) (events_of (in_order n notes)) (outcomes_of (in_order n notes)) w
-    → calls ≡ count_by answers_call (in_order n notes) → IsCertified P C F setup notes calls
-certified P C F setup slots notes n w calls few new each e r j c = record {
-  numbered = each;
-  slots = slots;
-  new = new;
-  run = subst (λ k. IsRunOfNotes P C F (new_world (made_of setup) slots) (in_order k notes) calls) e (record {
-    end = w;
-    run = r;
-    as_map = j;
-    brackets = bracketed (made_of setup) slots (events_of (in_order n notes)) (outcomes_of (in_order n notes)) w few new r;
-    sound = runs_sound (made_of setup) slots (events_of (in_order n notes)) (outcomes_of (in_order n notes)) w few new r;
-    calls = c;
-  });
-}
-
 -- the machine comes to another outcome
 pub differs : {A : Type 0} (P : PageRange → ℕ → ℕ → Bool) (C : Slots → ℕ → Type 0) (F : Slots → Slots → ℕ → Type 0) (setup : Setup A) (slots : Slots) (notes : List Noted) (t : ℕ) (x : Noted)
-    (m v : World) (o : Outcome) → IsNew slots → with_ticket t notes ≡ x ∷ [] → o ≢ x.outcome
+    (m v : World) (o : Outcome) → IsNewTree slots → with_ticket t notes ≡ x ∷ [] → o ≢ x.outcome
     → RunsAsMap P C F (new_world (made_of setup) slots) (events_of (in_order t notes)) (outcomes_of (in_order t notes)) m
     → Step m x.event o v → JoinsAsMap C F m x.event o v → DividesAsMap P m x.event o v → DiffersAt P C F setup notes t x.outcome o
 differs P C F setup slots notes t x m v o new is other r s j k = record {

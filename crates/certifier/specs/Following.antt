@@ -1,5 +1,5 @@
 -- Notes in order of their tickets as a run of the machine
-use Rattle.std.specs.Prelude.{◌≡◌, ◌≢◌, ℕ, Bool, true, false, List, [], ◌∷◌, map, length, count_by, Option, None, Some}
+use Rattle.std.specs.Prelude.{◌≡◌, ◌≢◌, ℕ, ◌+◌, ◌<◌, Bool, true, false, List, [], ◌∷◌, map, length, count_by, Option, None, Some}
 use Rattle.slot_lock.specs.Slots.{Slots, IsNew}
 use Rattle.machine_model.specs.declared.event.Event.{Event}
 use Rattle.machine_model.specs.declared.event.Outcome.{Outcome}
@@ -17,6 +17,11 @@ use Rattle.core_steps.specs.Setups.{fault_of, made_of}
 use Rattle.seats.specs.declared.noted.Noted.{Noted}
 use Rattle.certifier.specs.declared.result.CertifyFault.{CertifyFault}
 use Rattle.certifier.specs.declared.result.CertifyFault.TheVariants as By
+use Rattle.vm_base.specs.declared.info.PageInfo.{PageInfo}
+use Rattle.live_levels.specs.declared.close.SlotHistory.{SlotHistory}
+use Rattle.live_tree.specs.declared.histories.Histories.{Histories}
+use Rattle.certifier.specs.Histories.{AllGoAlong, IsFirstAstray}
+use Rattle.radix_range.specs.Tree.{root_edges}
 use Rattle.certifier.specs.Order.{AreNumbered, IsFirstAmiss, in_order, with_ticket}
 
 abbrev pub event_of : Noted → Event
@@ -55,16 +60,70 @@ pub record IsRunOfNotes (parts : PageRange → ℕ → ℕ → Bool) (CanFold : 
   pub sound : SoundRun new (events_of notes) (outcomes_of notes) end
   pub calls : answered ≡ count_by answers_call notes
 
--- All these notes have the tickets below their number, each once, and in order of tickets they are a
--- run of a new machine.
-pub record IsCertified {A : Type 0} (parts : PageRange → ℕ → ℕ → Bool) (CanFold : Slots → ℕ → Type 0)
-    (Folds : Slots → Slots → ℕ → Type 0) (setup : Setup A) (notes : List Noted) (answered : ℕ)
+-- the event may lead from one state to the other with this outcome, as the map joins and divides slots
+pub record Leads (parts : PageRange → ℕ → ℕ → Bool) (CanFold : Slots → ℕ → Type 0)
+    (Folds : Slots → Slots → ℕ → Type 0) (before : World) (event : Event) (outcome : Outcome) (after : World)
     : Type 0 where
+  pub step : Step before event outcome after
+  pub joins : JoinsAsMap CanFold Folds before event outcome after
+  pub divides : DividesAsMap parts before event outcome after
+
+-- the note with ticket t leads from one state to the other
+pub record NoteLeads (parts : PageRange → ℕ → ℕ → Bool) (CanFold : Slots → ℕ → Type 0)
+    (Folds : Slots → Slots → ℕ → Type 0) (notes : List Noted) (t : ℕ) (before after : World) : Type 0 where
+  pub note : Noted
+  pub ticket : with_ticket t notes ≡ note ∷ []
+  pub leads : Leads parts CanFold Folds before note.event note.outcome after
+
+-- the fault says that the note, with ticket t, has another outcome than its event comes to
+abbrev pub Refuses : (PageRange → ℕ → ℕ → Bool) → (Slots → ℕ → Type 0) → (Slots → Slots → ℕ → Type 0)
+    → World → Noted → ℕ → CertifyFault → Type 0
+Refuses parts CanFold Folds before note t (By.Differs ticket noted expected) =
+    (ticket ≡ t) × (noted ≡ note.outcome) × (expected ≢ noted)
+    × ((after : World) × Leads parts CanFold Folds before note.event expected after)
+Refuses parts CanFold Folds before note t By.NoMemory = Unit {0}
+Refuses parts CanFold Folds before note t _ = ⊥
+
+-- a run's states: the first is new, and the note with ticket t leads from state t to the next
+pub record AreStates (parts : PageRange → ℕ → ℕ → Bool) (CanFold : Slots → ℕ → Type 0)
+    (Folds : Slots → Slots → ℕ → Type 0) (new : World) (notes : List Noted) (n : ℕ) (states : ℕ → World)
+    : Type 0 where
+  pub first : states 0 ≡ new
+  pub each : (t : ℕ) → t < n → NoteLeads parts CanFold Folds notes t (states t) (states (t + 1))
+
+-- what pages have after the event with ticket t
+abbrev pub maps_of : (ℕ → World) → ℕ → ℕ → Option PageInfo
+maps_of states t page = (states (t + 1)).slots.info page
+
+-- the slots of a new tree: nothing is mapped or held, and they are those of its root
+pub record IsNewTree (slots : Slots) : Type 0 where
+  pub new : IsNew slots
+  pub edges : slots.edge ≡ root_edges
+
+-- All these notes have the tickets below their number, each once, and in order of tickets they are a
+-- run of a new machine, along which each of the slots went that has valid pages.
+pub record IsCertified {A : Type 0} (parts : PageRange → ℕ → ℕ → Bool) (CanFold : Slots → ℕ → Type 0)
+    (Folds : Slots → Slots → ℕ → Type 0) (setup : Setup A) (notes : List Noted)
+    (histories : List (SlotHistory A)) (answered : ℕ) : Type 0 where
   pub numbered : AreNumbered notes
   pub slots : Slots
-  pub new : IsNew slots
+  pub new : IsNewTree slots
   pub run : IsRunOfNotes parts CanFold Folds (new_world (made_of setup) slots)
       (in_order (length notes) notes) answered
+  pub states : ℕ → World
+  pub are_states : AreStates parts CanFold Folds (new_world (made_of setup) slots) notes (length notes) states
+  pub end : states (length notes) ≡ run.end
+  pub along : AllGoAlong (length notes) (maps_of states) histories
+
+-- the notes are a run of a new machine, and the page is the first of the first slot that didn't go along
+pub record GoesAstray {A : Type 0} (parts : PageRange → ℕ → ℕ → Bool) (CanFold : Slots → ℕ → Type 0)
+    (Folds : Slots → Slots → ℕ → Type 0) (setup : Setup A) (notes : List Noted)
+    (histories : List (SlotHistory A)) (page : ℕ) : Type 0 where
+  pub slots : Slots
+  pub new : IsNewTree slots
+  pub states : ℕ → World
+  pub are_states : AreStates parts CanFold Folds (new_world (made_of setup) slots) notes (length notes) states
+  pub first : IsFirstAstray (length notes) (maps_of states) histories page
 
 -- the notes with tickets below t are a run of a new machine, which comes then to another outcome
 -- than the note with ticket t
@@ -72,7 +131,7 @@ pub record DiffersAt {A : Type 0} (parts : PageRange → ℕ → ℕ → Bool) (
     (Folds : Slots → Slots → ℕ → Type 0) (setup : Setup A) (notes : List Noted) (t : ℕ)
     (noted expected : Outcome) : Type 0 where
   pub slots : Slots
-  pub new : IsNew slots
+  pub new : IsNewTree slots
   pub note : Noted
   pub ticket : with_ticket t notes ≡ note ∷ []
   pub noted_so : note.outcome ≡ noted
@@ -85,12 +144,20 @@ pub record DiffersAt {A : Type 0} (parts : PageRange → ℕ → ℕ → Bool) (
   pub joins : JoinsAsMap CanFold Folds before note.event expected after
   pub divides : DividesAsMap parts before note.event expected after
 
--- What each fault says of the setup and all notes. Want of memory comes after a look at the setup.
+-- What each fault says of the setup, all notes and the slots' histories. Want of memory comes after a look at the setup.
 abbrev pub Fails : {A : Type 0} → (PageRange → ℕ → ℕ → Bool) → (Slots → ℕ → Type 0) → (Slots → Slots → ℕ → Type 0) → Setup A
-    → List Noted → CertifyFault → Type 0
-Fails parts CanFold Folds setup notes (By.Setup fault) = fault_of setup ≡ Some fault
-Fails parts CanFold Folds setup notes (By.Ticket t) = (fault_of setup ≡ None) × IsFirstAmiss notes t
-Fails parts CanFold Folds setup notes (By.Differs t noted expected) =
+    → List Noted → List (SlotHistory A) → CertifyFault → Type 0
+Fails parts CanFold Folds setup notes histories (By.Setup fault) = fault_of setup ≡ Some fault
+Fails parts CanFold Folds setup notes histories (By.Ticket t) = (fault_of setup ≡ None) × IsFirstAmiss notes t
+Fails parts CanFold Folds setup notes histories (By.Differs t noted expected) =
     (fault_of setup ≡ None) × AreNumbered notes
     × DiffersAt parts CanFold Folds setup notes t noted expected
-Fails parts CanFold Folds setup notes By.NoMemory = fault_of setup ≡ None
+Fails parts CanFold Folds setup notes histories (By.Slot page) =
+    (fault_of setup ≡ None) × AreNumbered notes
+    × GoesAstray parts CanFold Folds setup notes histories page
+Fails parts CanFold Folds setup notes histories By.NoMemory = fault_of setup ≡ None
+
+-- the histories of the slots, or none
+abbrev pub slots_in : {A : Type 0} → Option (Histories A) → List (SlotHistory A)
+slots_in None = []
+slots_in (Some histories) = histories.slots.items

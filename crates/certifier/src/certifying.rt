@@ -1,16 +1,30 @@
 //! Whether the notes of all seats are a run of the machine.
-ghost use Rattle.std.specs.Prelude.{IfOk, IfErr, map};
-ghost use Rattle.certifier.specs.Following.{IsCertified, Fails};
+ghost use Rattle.std.specs.Prelude.{◌≡◌, IfOk, IfErr, map, option_copied};
+ghost use Rattle.certifier.specs.Following.{IsCertified, Fails, slots_in};
+ghost use Rattle.certifier.specs.Histories.{AreInOrder};
 ghost use Rattle.certifier.specs.Order.{all_notes};
 
 use crate::following::follow;
 use crate::order::{first_amiss, standings};
 use crate::result::{Certified, CertifyFault};
 use core_steps::{Forgotten, Setup};
+use live_levels::close::SlotHistory;
+use live_tree::histories::Histories;
 use radix_range::RadixMap;
 use seats::Noted;
 use slot_lock::SlotMap;
 use std::alloc::Allocator;
+
+/// The slots whose histories are handed in.
+fn slots_of<A: Allocator>(histories: Option<&Histories<A>>) -> &[SlotHistory<A>]
+    ensures are { result.now ≡ slots_in (option_copied histories.entry) }
+    ensures order { AreInOrder result.now }
+{
+    match histories {
+        Some(histories) => histories.slots(),
+        None => &[],
+    }
+}
 
 /// Certifies the notes of all seats of a space: in order of their tickets, which are those below their
 /// number, each once, they are a run of the machine over the tree of slots that comes to just the
@@ -18,20 +32,28 @@ use std::alloc::Allocator;
 /// (POSIX.1-2017, mmap, munmap and mprotect), and each reply stands in it between its call and its
 /// answer.
 ///
+/// Where the histories of the space's slots are handed in, they went along with the run: the tickets of
+/// each slot rise, and from its first change on each of its valid pages had after each note just what
+/// its changes up to then come to. Page 0 and pages from 2^35 on aren't looked at.
+///
 /// A setup that makes no machine is told first, then a ticket that doesn't stand once, then an
-/// outcome that differs. Besides the notes it takes 12 bytes a note and the machine.
+/// outcome that differs, and then a slot. Besides the notes it takes 12 bytes a note, a look of some
+/// 80 bytes for each slot that has a history, and the machine.
 #[tactic(auto, using(crate::proofs::Notes::amiss))]
 pub fn certify<A: Allocator + Clone + Drop>(
     alloc: A,
     setup: Setup<A>,
     seats: &[&[Noted]],
+    slots: Option<&Histories<A>>,
 ) -> Result<Certified, CertifyFault>
     ensures ok { IfOk result (λ done. IsCertified ⟦<RadixMap<A> as SlotMap>⟧.parts
         ⟦<RadixMap<A> as SlotMap>⟧.can_fold
-        ⟦<RadixMap<A> as SlotMap>⟧.folds setup (all_notes (map (λ s. s.now) seats.now)) done.calls) }
+        ⟦<RadixMap<A> as SlotMap>⟧.folds setup (all_notes (map (λ s. s.now) seats.now))
+        (slots_in (option_copied slots.entry)) done.calls) }
     ensures err { IfErr result (λ fault. Fails ⟦<RadixMap<A> as SlotMap>⟧.parts
         ⟦<RadixMap<A> as SlotMap>⟧.can_fold
-        ⟦<RadixMap<A> as SlotMap>⟧.folds setup (all_notes (map (λ s. s.now) seats.now)) fault) }
+        ⟦<RadixMap<A> as SlotMap>⟧.folds setup (all_notes (map (λ s. s.now) seats.now))
+        (slots_in (option_copied slots.entry)) fault) }
 {
     if let Some(fault) = setup.fault() {
         return Err(CertifyFault::Setup(fault));
@@ -51,5 +73,6 @@ pub fn certify<A: Allocator + Clone + Drop>(
     let Ok(map) = RadixMap::new(for_map) else {
         return Err(CertifyFault::NoMemory);
     };
-    follow::<RadixMap<A>, A, Forgotten>(alloc, map, setup, seats, &standings)
+    let histories = slots_of(slots);
+    follow::<RadixMap<A>, A, Forgotten>(alloc, map, setup, seats, &standings, histories)
 }

@@ -1,15 +1,18 @@
 //! Notes in order of their tickets, given to a machine one after another.
 ghost use Rattle.std.specs.Prelude.{◌≡◌, ◌≢◌, ◌≤◌, ◌<◌, ℕ, true, false, IfOk, IfErr, None, length, map, get_or};
-ghost use Rattle.slot_lock.specs.Slots.{IsNew};
+ghost use Rattle.core_steps.specs.Machine.{state};
 ghost use Rattle.core_steps.specs.Setups.{fault_of};
 ghost use Rattle.certifier.specs.declared.order.Standing.TheVariants as StandingOf;
-ghost use Rattle.certifier.specs.Following.{IsCertified, Fails, answers_call, one_if};
+ghost use Rattle.certifier.specs.Following.{IsCertified, IsNewTree, Fails, Leads, Refuses, answers_call, one_if};
+ghost use Rattle.certifier.specs.Histories.{AreInOrder};
 ghost use Rattle.certifier.specs.Order.{all_notes};
 ghost use Rattle.certifier.specs.Standings.{AreStandings, is_once};
 
 use crate::order::{Standing, note_of};
 use crate::result::{Certified, CertifyFault};
-use core_steps::{Machine, Opening, Setup};
+use crate::watch::{first_astray, first_looks, look_before};
+use core_steps::{Ledger, Machine, Opening, Setup};
+use live_levels::close::SlotHistory;
 use machine_model::Outcome;
 use seats::Noted;
 use slot_lock::SlotMap;
@@ -34,49 +37,80 @@ fn is_same(noted: &Outcome, outcome: &Outcome) -> bool
     noted == outcome
 }
 
-/// Gives each noted event, in order of tickets, to a new machine over a new slot map. The notes are
-/// certified where each ticket stands once and each event comes to just the outcome that was noted.
+/// Gives the machine the event of the note with this ticket, and answers how many replies that hands
+/// out, where it comes to what was noted.
+fn take_note<M: SlotMap, A: Allocator + Clone, L: Ledger>(
+    machine: &mut Machine<M, A, L>,
+    note: &Noted,
+    ticket: u64,
+) -> Result<u64, CertifyFault>
+    ensures ok { IfOk result (λ calls. (calls ≡ one_if (answers_call note.now))
+        × Leads M.parts M.can_fold M.folds (state machine.old) (note.now).event (note.now).outcome (state machine.new)) }
+    ensures few { IfOk result (λ calls. calls ≤ 1) }
+    ensures err { IfErr result (Refuses M.parts M.can_fold M.folds (state machine.old) note.now ticket) }
+{
+    let outcome = match machine.step(note.event) {
+        Ok(outcome) => outcome,
+        Err(_) => return Err(CertifyFault::NoMemory),
+    };
+    if !is_same(&note.outcome, &outcome) {
+        return Err(CertifyFault::Differs {
+            ticket,
+            noted: note.outcome,
+            expected: outcome,
+        });
+    }
+    Ok(answers(note))
+}
+
+/// Gives each noted event, in order of tickets, to a new machine over a new tree of slots. The notes are
+/// certified where each ticket stands once, each event comes to just the outcome that was noted, and
+/// the slots went along.
 pub fn follow<M: SlotMap + Drop, A: Allocator + Clone + Drop, L: Opening<A> + Drop>(
     alloc: A,
     slots: M,
     setup: Setup<A>,
     seats: &[&[Noted]],
     standings: &[Standing],
+    histories: &[SlotHistory<A>],
 ) -> Result<Certified, CertifyFault>
-    requires new { IsNew (M.slots slots) }
+    requires new { IsNewTree (M.slots slots) }
     requires sound { fault_of setup ≡ None }
     requires standings { AreStandings (map (λ s. s.now) seats.now) standings.now }
     requires once { (t : ℕ) → t < length standings.now
         → is_once (get_or standings.now t StandingOf.No) ≡ true }
+    requires order { AreInOrder histories.now }
     ensures ok { IfOk result (λ done. IsCertified M.parts M.can_fold M.folds setup
-        (all_notes (map (λ s. s.now) seats.now)) done.calls) }
+        (all_notes (map (λ s. s.now) seats.now)) histories.now done.calls) }
     ensures err { IfErr result (λ fault. Fails M.parts M.can_fold M.folds setup
-        (all_notes (map (λ s. s.now) seats.now)) fault) }
+        (all_notes (map (λ s. s.now) seats.now)) histories.now fault) }
 {
+    let n = standings.len() as u64;
+    let Ok(own) = alloc.clone() else {
+        return Err(CertifyFault::NoMemory);
+    };
+    let Ok(mut looks) = first_looks(own, histories, n) else {
+        return Err(CertifyFault::NoMemory);
+    };
     let mut machine = match Machine::<M, A, L>::new(alloc, slots, setup) {
         Ok(machine) => machine,
         Err(_) => return Err(CertifyFault::NoMemory),
     };
     let mut calls = 0u64;
     'tickets: for at in 0..standings.len() {
-        let standing = standings[at];
         // (each stands once, so that this doesn't come)
-        let Standing::Once(place) = standing else {
+        let Standing::Once(place) = standings[at] else {
             return Err(CertifyFault::NoMemory);
         };
         let note = note_of(seats, place);
-        let outcome = match machine.step(note.event) {
-            Ok(outcome) => outcome,
-            Err(_) => return Err(CertifyFault::NoMemory),
+        look_before(&machine, histories, &mut looks, note.event, at as u64);
+        calls += match take_note(&mut machine, &note, at as u64) {
+            Ok(few) => few,
+            Err(fault) => return Err(fault),
         };
-        if !is_same(&note.outcome, &outcome) {
-            return Err(CertifyFault::Differs {
-                ticket: at as u64,
-                noted: note.outcome,
-                expected: outcome,
-            });
-        }
-        calls += answers(&note);
     }
-    Ok(Certified { calls })
+    match first_astray(&machine, histories, &mut looks, n) {
+        Some(page) => Err(CertifyFault::Slot { page }),
+        None => Ok(Certified { calls }),
+    }
 }

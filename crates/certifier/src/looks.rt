@@ -17,8 +17,8 @@ use slot_lock::SlotMap;
 use std::alloc::Allocator;
 use vm_base::{Back, PageInfo};
 
-// The first page number above all valid pages.
-const LIMIT: u64 = 0x8_0000_0000;
+/// The first page number above all valid pages.
+pub const LIMIT: u64 = 0x8_0000_0000;
 
 /// How far a slot was looked at.
 #[derive(Clone, Copy, Debug, PartialEq, Eq)]

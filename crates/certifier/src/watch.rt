@@ -10,16 +10,13 @@ ghost use Rattle.certifier.specs.declared.looks.Look.{Look};
 ghost use Rattle.certifier.specs.Histories.{AllGoAlong, AreInOrder, IsFirstAstray, IsFirstPageOf, IsPageOf};
 ghost use Rattle.certifier.specs.Looks.{AreLooked, IsCaughtUp, IsFirstMarked, NoneMarked};
 
-use crate::looks::{Look, are_dated, look_at};
+use crate::looks::{LIMIT, Look, are_dated, look_at};
 use core_steps::{Ledger, Machine};
 use live_levels::close::SlotHistory;
 use machine_model::Event;
 use slot_lock::SlotMap;
 use std::alloc::Allocator;
 use vm_base::{NoMemory, PageRange};
-
-// The first page number above all valid pages.
-const LIMIT: u64 = 0x8_0000_0000;
 
 /// The looks with which a run begins. Slots whose tickets don't rise or aren't all below `n` are
 /// marked at once.

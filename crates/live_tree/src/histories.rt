@@ -1,5 +1,5 @@
 //! The histories of all slots, as a tree hands them out.
-ghost use Rattle.std.specs.Prelude.{◌^◌, []};
+ghost use Rattle.std.specs.Prelude.{◌≡◌, ◌^◌, []};
 ghost use Rattle.live_levels.specs.Histories.{Chain, Grew};
 
 use live_levels::close::SlotHistory;
@@ -24,7 +24,8 @@ impl<A: Allocator> Histories<A> {
 
     /// The slots, from left to right.
     pub fn slots(&self) -> &[SlotHistory<A>]
-        ensures { ∥ Chain 0 (2 ^ 36) result.now ∥₁ }
+        ensures are { result.now ≡ self.now.slots.items }
+        ensures chain { ∥ Chain 0 (2 ^ 36) result.now ∥₁ }
     {
         self.slots.as_slice()
     }

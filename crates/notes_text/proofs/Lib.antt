@@ -3,3 +3,10 @@ pub mod SplitLemmas
 pub mod NoteLemmas
 pub mod CollectLemmas
 pub mod VerdictLemmas
+pub mod OrderLemmas
+pub mod WrittenLemmas
+pub mod OutcomeWritten
+pub mod ScriptLemmas
+pub mod NoteWritten
+pub mod PieceLemmas
+pub mod TaskLemmas

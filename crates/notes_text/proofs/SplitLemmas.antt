@@ -17,12 +17,12 @@ flip false e = refl
 at_space : (x : ℕ) (xs : List ℕ) → eqb x 32 ≡ true → words_of (x ∷ xs) ≡ words_of xs
 at_space x xs e = ap (λ b. cond b (words_of xs) (cond (begins_word xs) (onto x (words_of xs)) ((x ∷ []) ∷ words_of xs))) e
 
-at_end : (x : ℕ) (xs : List ℕ) → eqb x 32 ≡ false → begins_word xs ≡ false → words_of (x ∷ xs) ≡ (x ∷ []) ∷ words_of xs
+pub at_end : (x : ℕ) (xs : List ℕ) → eqb x 32 ≡ false → begins_word xs ≡ false → words_of (x ∷ xs) ≡ (x ∷ []) ∷ words_of xs
 at_end x xs e f =
     ap (λ b. cond b (words_of xs) (cond (begins_word xs) (onto x (words_of xs)) ((x ∷ []) ∷ words_of xs))) e
     ∙ ap (λ b. cond b (onto x (words_of xs)) ((x ∷ []) ∷ words_of xs)) f
 
-at_more : (x : ℕ) (xs : List ℕ) → eqb x 32 ≡ false → begins_word xs ≡ true → words_of (x ∷ xs) ≡ onto x (words_of xs)
+pub at_more : (x : ℕ) (xs : List ℕ) → eqb x 32 ≡ false → begins_word xs ≡ true → words_of (x ∷ xs) ≡ onto x (words_of xs)
 at_more x xs e f =
     ap (λ b. cond b (words_of xs) (cond (begins_word xs) (onto x (words_of xs)) ((x ∷ []) ∷ words_of xs))) e
     ∙ ap (λ b. cond b (onto x (words_of xs)) ((x ∷ []) ∷ words_of xs)) f

@@ -51,9 +51,9 @@ one_seat notes = append-nil notes
 
 pub judged_certified : {A : Type 0} (parts : PageRange → ℕ → ℕ → Bool) (CanFold : Slots → ℕ → Type 0) (Folds : Slots → Slots → ℕ → Type 0)
     (asked : Asked) (notes : List Noted) (setup : Setup A) (calls : ℕ) → made_of setup ≡ made_by asked
-    → IsCertified parts CanFold Folds setup (all_notes (notes ∷ [])) calls → Judges A parts CanFold Folds asked notes (Certified calls)
+    → IsCertified parts CanFold Folds setup (all_notes (notes ∷ [])) [] calls → Judges A parts CanFold Folds asked notes (Certified calls)
 judged_certified {A} parts CanFold Folds asked notes setup calls m h =
-    (record { setup = setup; made = m }, subst (λ l. IsCertified parts CanFold Folds setup l calls) (one_seat notes) h)
+    (record { setup = setup; made = m }, subst (λ l. IsCertified parts CanFold Folds setup l [] calls) (one_seat notes) h)
 
 pub judged_ticket : (notes : List Noted) (t : ℕ) → IsFirstAmiss (all_notes (notes ∷ [])) t → IsFirstAmiss notes t
 judged_ticket notes t h = subst (λ l. IsFirstAmiss l t) (one_seat notes) h

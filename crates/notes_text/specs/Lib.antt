@@ -7,3 +7,8 @@ pub mod Turns
 pub mod Ends
 pub mod Verdicts
 pub mod CertifyEnds
+pub mod Written
+pub mod WrittenLaws
+pub mod Ordered
+pub mod WriteEnds
+pub mod Scripts

@@ -1,5 +1,5 @@
 -- What certifying the notes of a text comes to, and the line that tells it
-use Rattle.std.specs.Prelude.{◌≡◌, ℕ, ◌-◌, Bool, true, false, List, ◌++◌, codes, decimal, length, take}
+use Rattle.std.specs.Prelude.{◌≡◌, ℕ, ◌-◌, Bool, true, false, List, [], ◌++◌, codes, decimal, length, take}
 use Rattle.vm_base.specs.declared.page.PageRange.{PageRange}
 use Rattle.slot_lock.specs.Slots.{Slots}
 use Rattle.machine_model.specs.declared.event.Outcome.{Outcome}
@@ -24,7 +24,7 @@ pub record Made (A : Type 0) (asked : Asked) : Type 0 where
 abbrev pub Judges : Type 0 → (PageRange → ℕ → ℕ → Bool) → (Slots → ℕ → Type 0) → (Slots → Slots → ℕ → Type 0)
     → Asked → List Noted → Verdict → Type 0
 Judges A parts CanFold Folds asked notes (Certified calls) =
-    (m : Made A asked) × IsCertified parts CanFold Folds m.setup notes calls
+    (m : Made A asked) × IsCertified parts CanFold Folds m.setup notes [] calls
 Judges A parts CanFold Folds asked notes (Ticket t) = IsFirstAmiss notes t
 Judges A parts CanFold Folds asked notes (Differs t noted expected) =
     (m : Made A asked) × AreNumbered notes × DiffersAt parts CanFold Folds m.setup notes t noted expected

@@ -1,5 +1,5 @@
 //! Whether the notes of a text are a run of the machine.
-ghost use Rattle.std.specs.Prelude.{◌≡◌, ◌⊎◌, Err, IfErr, IfOk, IsSomeAnd, None, true};
+ghost use Rattle.std.specs.Prelude.{◌≡◌, ◌⊎◌, Err, IfErr, IfOk, IsSomeAnd, None, option_copied, true};
 ghost use Rattle.trace_io.specs.Source.{HasStopped, Reads};
 ghost use Rattle.trace.specs.Declarations.{Asked, asked_fault};
 ghost use Rattle.trace.specs.Ends.{TellsFaults};
@@ -11,6 +11,7 @@ use crate::collecting::collect;
 use crate::collector::Collector;
 use crate::verdict::{Verdict, write_verdict};
 use certifier::{CertifyFault, certify};
+use live_tree::histories::Histories;
 use radix_range::RadixMap;
 use seats::Noted;
 use slot_lock::SlotMap;
@@ -20,6 +21,13 @@ use trace::fault::TraceFault;
 use trace_io::sink::Sink;
 use trace_io::source::Source;
 use vm_base::NoMemory;
+
+// A text has no histories of slots.
+fn no_histories<'a, A: Allocator>() -> Option<&'a Histories<A>>
+    ensures { option_copied result ≡ None }
+{
+    None
+}
 
 // What certifying the notes of a space with this declaration comes to.
 fn judge<A: Allocator + Clone + Drop>(
@@ -37,7 +45,7 @@ fn judge<A: Allocator + Clone + Drop>(
     let Ok(setup) = declaration.setup(for_files) else {
         return Err(NoMemory);
     };
-    match certify(alloc, setup, &[notes]) {
+    match certify(alloc, setup, &[notes], no_histories()) {
         Ok(done) => Ok(Verdict::Certified(done.calls)),
         Err(CertifyFault::Ticket(ticket)) => Ok(Verdict::Ticket(ticket)),
         Err(
@@ -51,8 +59,10 @@ fn judge<A: Allocator + Clone + Drop>(
             noted,
             expected,
         }),
-        // (the setup has no fault)
-        Err(CertifyFault::Setup(_)) | Err(CertifyFault::NoMemory) => Err(NoMemory),
+        // (the setup has no fault, and no histories are handed in)
+        Err(CertifyFault::Setup(_))
+        | Err(CertifyFault::Slot { .. })
+        | Err(CertifyFault::NoMemory) => Err(NoMemory),
     }
 }
 

@@ -239,6 +239,14 @@ impl<T: LineOf + Drop, A: Allocator> Collector<T, A> {
         self.declaration.as_ref()
     }
 
+    /// What was declared, and the items, in order of their lines.
+    pub fn into_parts(self) -> (Option<Declaration>, Vec<T, A>)
+        ensures asked { result.0 ≡ self.asked }
+        ensures items { result.1.items ≡ self.items }
+    {
+        (self.declaration, self.items)
+    }
+
     /// The items, in order of their lines.
     pub fn items(&self) -> &[T]
         ensures { result.now ≡ self.now.items }

@@ -1,5 +1,6 @@
 //! What lines of notes say, against their grammar.
 ghost use Rattle.notes_text.specs.Laws.{NotesAreOne, ReadsAllOutcomes, ReadsOnlyOutcomes};
+ghost use Rattle.notes_text.specs.WrittenLaws.{WritesWhatIsRead};
 
 /// Words that name an outcome are read as it (`all`), and those that are read as one name it (`only`). A line that names a note
 /// names no other (`one`), so that `read_note`, which answers a note that the line names and none where it names none, answers
@@ -8,4 +9,11 @@ pub fn notes_grammar()
     ensures all { ReadsAllOutcomes }
     ensures only { ReadsOnlyOutcomes }
     ensures one { NotesAreOne }
+{}
+
+/// The line that is written of a note names it, as `write_notes` writes it, and by `notes_grammar` it names no other: it is read
+/// back as that note. This holds of each note whose pages have addresses below 2^64, and which waits for the acknowledgements
+/// of some core if it waits for any.
+pub fn written_notes()
+    ensures { WritesWhatIsRead }
 {}

@@ -4,12 +4,19 @@
 pub mod certifying;
 pub mod collecting;
 pub mod collector;
+mod event_text;
 pub mod grammar;
 pub mod note_line;
 mod noted_line;
+mod ordering;
 pub mod outcome_words;
+mod request_text;
+pub mod script;
 pub mod verdict;
+pub mod writing;
 
 pub use certifying::certify_text;
 pub use note_line::read_note;
 pub use outcome_words::read_outcome;
+pub use script::{Script, ScriptLine, Task, read_script};
+pub use writing::write_notes;

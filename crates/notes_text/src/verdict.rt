@@ -27,7 +27,11 @@ pub enum Verdict {
 
 // Writes two texts, one behind the other.
 #[tactic(auto, using(crate::proofs::VerdictLemmas::both_ok, crate::proofs::VerdictLemmas::both_front, crate::proofs::VerdictLemmas::front_longer))]
-fn write_both<W: Sink>(writer: &mut W, first: &[u8], second: &[u8]) -> Result<(), WriteFailed>
+pub(crate) fn write_both<W: Sink>(
+    writer: &mut W,
+    first: &[u8],
+    second: &[u8],
+) -> Result<(), WriteFailed>
     ensures ok { OnOk result (Appends (W.contents writer.old) (W.contents writer.new) (first.now ++ second.now)) }
     ensures kept { OnOk result (W.failed writer.new ≡ W.failed writer.old) }
     ensures front { OnErr result

@@ -5,6 +5,7 @@
 
 ghost use Rattle.std.specs.Prelude.{◌<◌, ◌≤◌, ◌^◌};
 
+mod beside;
 mod bytes;
 mod clears;
 mod counts;
@@ -51,7 +52,7 @@ fn tell(rt: &impl Print, nanos: Option<u128>) -> io::Result<()> {
 }
 
 /// The words of the parts.
-const WORDS: [&str; 27] = [
+const WORDS: [&str; 28] = [
     "slots",
     "look",
     "tree",
@@ -79,6 +80,7 @@ const WORDS: [&str; 27] = [
     "own_four",
     "run",
     "certify",
+    "histories",
 ];
 
 /// How many rounds the part is timed for.
@@ -94,7 +96,7 @@ fn rounds_of(word: &str) -> u64
         "hit" | "oldest" | "newest" => 50_000_000,
         "byte" | "count" => 20_000_000,
         "look" => 10_000_000,
-        "fill" | "copy" | "mutex" | "mutex_four" | "run" | "certify" => 1_000_000,
+        "fill" | "copy" | "mutex" | "mutex_four" | "run" | "certify" | "histories" => 1_000_000,
         "own" | "own_four" => 20_000_000,
         _ => 5_000_000,
     }
@@ -140,6 +142,7 @@ fn time<R: Threads + Wait + Clock + Sync>(
         "own_four" => threads::time(rt, alloc, Shared::OwnMutex, 4, rounds),
         "run" => notes::time(rt, alloc, Way::Run, rounds),
         "certify" => notes::time(rt, alloc, Way::Certify, rounds),
+        "histories" => notes::time(rt, alloc, Way::Histories, rounds),
         _ => Ok(None),
     }
 }

@@ -1,15 +1,19 @@
-//! Notes of a machine's steps certified, and a run of the same events. Four cores share 384 pages in
-//! 24 blocks of 16, as in the trace of four cores: accesses, most of them in two blocks, walks and
-//! evictions, a call that changes some pages, messages taken, flushes and reviews.
+//! Notes of a machine's steps certified, alone and beside histories of slots, and a run of the same
+//! events. Four cores share 384 pages in 24 blocks of 16, as in the trace of four cores: accesses,
+//! most of them in two blocks, walks and evictions, a call that changes some pages, messages taken,
+//! flushes and reviews.
+use crate::beside::histories;
 use crate::since::since;
 use certifier::certify;
 use core_steps::{Forgotten, Machine, Setup, run};
+use live_tree::histories::Histories;
 use machine_model::{Event, Outcome};
 use radix_range::RadixMap;
 use seats::Noted;
 use std::alloc::Global;
 use std::io;
 use std::rt::Clock;
+use std::sync::Wait;
 use std::time::Instant;
 use vm_base::{CoreId, Flags, NoMemory, Prot, Request};
 
@@ -20,6 +24,8 @@ pub enum Way {
     Run,
     /// The notes of four seats are certified.
     Certify,
+    /// They are certified beside the histories of slots that went along.
+    Histories,
 }
 
 const READ: Prot = Prot {
@@ -297,8 +303,14 @@ fn time_run(rt: &impl Clock, alloc: Global, notes: &[Noted]) -> io::Result<Optio
     since(rt, start, done.is_ok())
 }
 
-/// The nanoseconds that it takes to certify the notes; none where they aren't certified.
-fn time_certify(rt: &impl Clock, alloc: Global, notes: &[Noted]) -> io::Result<Option<u128>> {
+/// The nanoseconds that it takes to certify the notes, beside these histories if there are some; none
+/// where they aren't certified.
+fn time_certify(
+    rt: &impl Clock,
+    alloc: Global,
+    notes: &[Noted],
+    slots: Option<&Histories<Global>>,
+) -> io::Result<Option<u128>> {
     let Ok(first) = seat_of(alloc, notes, CoreId::new(0)) else {
         return Ok(None);
     };
@@ -318,17 +330,35 @@ fn time_certify(rt: &impl Clock, alloc: Global, notes: &[Noted]) -> io::Result<O
         third.as_slice(),
         fourth.as_slice(),
     ];
-    let told = certify(alloc, setup(alloc), &seats);
+    let told = certify(alloc, setup(alloc), &seats, slots);
     since(rt, start, told.is_ok())
 }
 
+/// The nanoseconds that it takes to certify the notes beside histories that went along.
+fn time_histories<R: Wait + Clock>(
+    rt: &R,
+    alloc: Global,
+    notes: &[Noted],
+) -> io::Result<Option<u128>> {
+    let Some(slots) = histories(rt, alloc, setup(alloc), notes) else {
+        return Ok(None);
+    };
+    time_certify(rt, alloc, notes, Some(&slots))
+}
+
 /// The nanoseconds of so many notes; none where memory is refused.
-pub fn time(rt: &impl Clock, alloc: Global, way: Way, count: u64) -> io::Result<Option<u128>> {
+pub fn time<R: Wait + Clock>(
+    rt: &R,
+    alloc: Global,
+    way: Way,
+    count: u64,
+) -> io::Result<Option<u128>> {
     let Ok(notes) = noted(alloc, count) else {
         return Ok(None);
     };
     match way {
         Way::Run => time_run(rt, alloc, &notes),
-        Way::Certify => time_certify(rt, alloc, &notes),
+        Way::Certify => time_certify(rt, alloc, &notes, None),
+        Way::Histories => time_histories(rt, alloc, &notes),
     }
 }

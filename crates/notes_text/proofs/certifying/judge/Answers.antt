@@ -2,7 +2,8 @@ use Rattle.notes_text.proofs.VerdictLemmas.{judged_certified, judged_differs}
 use Rattle.notes_text.proofs.certifying.judge.Goals as goal
 
 pub returns-in-Ok-certify : goal.returns-in-Ok-certify
-returns-in-Ok-certify g c = judged_certified _ _ _ _ _ c.in-Ok-setup.setup _ c.in-Ok-setup.ensures.made c.in-Ok-certify.ensures.ok
+returns-in-Ok-certify g c = judged_certified _ _ _ _ _ c.in-Ok-setup.setup _ c.in-Ok-setup.ensures.made
+    (rw c.no_histories.ensures at c.in-Ok-certify.ensures.ok)
 
 pub returns-in-Err-Differs : goal.returns-in-Err-Differs
 returns-in-Err-Differs g c =

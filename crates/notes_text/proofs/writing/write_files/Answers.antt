@@ -1,0 +1,22 @@
+use Rattle.std.proofs.Common.{arith, refl, subst, ◌∙◌}
+use Rattle.std.specs.Io.KnownBytes.{Appends}
+use Rattle.trace_io.specs.Sink.{AppendsFront}
+use Rattle.notes_text.proofs.PieceLemmas.{files_front, files_wrote, nothing_yet}
+use Rattle.notes_text.proofs.writing.write_files.Goals as goal
+
+pub files-init : goal.files-init
+files-init g c = record { within = omega arith; written = nothing_yet _; kept = refl }
+
+pub files-preserved : goal.files-preserved
+files-preserved g c =
+    let line = c.as_bytes.ensures.value ∙ c.as_str.ensures.value ∙ c.put_file.ensures in
+    record {
+      within = omega (arith, c.files-test.true);
+      written = files_wrote _ _ _ _ _ _ _ c.files-test.true refl c.files.invariant.written (subst (Appends _ _) line c.in_default.ensures.ok);
+      kept = c.in_default.ensures.kept ∙ c.files.invariant.kept;
+    }
+
+pub returns-in-Err-clause-front : goal.returns-in-Err-clause-front
+returns-in-Err-clause-front g c =
+    let line = c.as_bytes.ensures.value ∙ c.as_str.ensures.value ∙ c.put_file.ensures in
+    files_front _ _ _ _ _ _ _ c.files-test.true refl c.files.invariant.written (subst (AppendsFront _ _) line c.in-Err.ensures.front)

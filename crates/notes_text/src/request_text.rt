@@ -1,0 +1,143 @@
+//! What a request is written as.
+ghost use Rattle.std.specs.Prelude.{◌≡◌, ◌+◌, ◌≤◌, ◌∷◌, ◌++◌, [], codes, decimal, length};
+ghost use Rattle.trace_text.specs.Printing.{address_of};
+ghost use Rattle.trace_text.specs.Spelling.{rights_text};
+ghost use Rattle.notes_text.specs.Written.{flags_text, letter, request_words, spaced};
+
+use trace_text::{LineText, address_text, number_text, push_rights};
+use vm_base::{Flags, Prot, Request};
+
+/// Appends a space and the word.
+pub fn push_word(text: &mut LineText, word: &str)
+    requires { length text.old.bytes + length word.now + 1 ≤ 256 }
+    ensures bytes { text.new.bytes ≡ text.old.bytes ++ codes " " ++ word.now }
+    ensures long { length text.new.bytes ≡ length text.old.bytes + length word.now + 1 }
+{
+    text.push_str(" ");
+    text.push_str(word);
+}
+
+// Appends a space and the address.
+fn push_address(text: &mut LineText, address: u64)
+    requires { length text.old.bytes + 21 ≤ 256 }
+    ensures bytes { text.new.bytes ≡ text.old.bytes ++ codes " " ++ address_of address }
+    ensures short { length text.new.bytes ≤ length text.old.bytes + 21 }
+{
+    push_word(text, address_text(address).as_str());
+}
+
+/// Appends a space and the number.
+pub fn push_count(text: &mut LineText, number: u64)
+    requires { length text.old.bytes + 21 ≤ 256 }
+    ensures bytes { text.new.bytes ≡ text.old.bytes ++ codes " " ++ decimal number }
+    ensures short { length text.new.bytes ≤ length text.old.bytes + 21 }
+{
+    push_word(text, number_text(number).as_str());
+}
+
+// Appends a space and the rights.
+fn push_prot(text: &mut LineText, prot: Prot)
+    requires { length text.old.bytes + 4 ≤ 256 }
+    ensures bytes { text.new.bytes ≡ text.old.bytes ++ codes " " ++ rights_text prot }
+    ensures short { length text.new.bytes ≤ length text.old.bytes + 4 }
+{
+    text.push_str(" ");
+    push_rights(text, prot);
+}
+
+// Appends a flag's letter, if it is set.
+fn push_letter(text: &mut LineText, is_set: bool, word: &str)
+    requires room { length text.old.bytes + 1 ≤ 256 }
+    requires one { length word.now ≤ 1 }
+    ensures bytes { text.new.bytes ≡ text.old.bytes ++ letter is_set word.now }
+    ensures short { length text.new.bytes ≤ length text.old.bytes + 1 }
+{
+    if is_set {
+        text.push_str(word);
+    }
+}
+
+// Appends a space and the flags.
+fn push_flags(text: &mut LineText, flags: Flags)
+    requires { length text.old.bytes + 5 ≤ 256 }
+    ensures bytes { text.new.bytes ≡ text.old.bytes ++ codes " " ++ flags_text flags }
+    ensures short { length text.new.bytes ≤ length text.old.bytes + 5 }
+{
+    text.push_str(" ");
+    if flags.private || flags.shared || flags.fixed || flags.anon {
+        push_letter(text, flags.private, "p");
+        push_letter(text, flags.shared, "s");
+        push_letter(text, flags.fixed, "f");
+        push_letter(text, flags.anon, "a");
+    } else {
+        text.push_str("-");
+    }
+}
+
+// Appends a range's address and length, each behind a space.
+fn push_range(text: &mut LineText, addr: u64, len: u64)
+    requires { length text.old.bytes + 42 ≤ 256 }
+    ensures bytes { text.new.bytes ≡ text.old.bytes ++ codes " " ++ address_of addr ++ codes " " ++ address_of len }
+    ensures short { length text.new.bytes ≤ length text.old.bytes + 42 }
+{
+    push_address(text, addr);
+    push_address(text, len);
+}
+
+// Appends what pages of a mapping may be used for, its flags, its file and its offset, each behind a space.
+fn push_backing(text: &mut LineText, prot: Prot, flags: Flags, file: u64, off: u64)
+    requires { length text.old.bytes + 51 ≤ 256 }
+    ensures bytes { text.new.bytes ≡ text.old.bytes ++ spaced (rights_text prot ∷ flags_text flags ∷ decimal file ∷ address_of off ∷ []) }
+    ensures short { length text.new.bytes ≤ length text.old.bytes + 51 }
+{
+    push_prot(text, prot);
+    push_flags(text, flags);
+    push_count(text, file);
+    push_address(text, off);
+}
+
+/// Appends the words of the request, each behind a space: addresses, lengths and offsets in hexadecimal digits
+/// behind `0x`, a file and a byte in decimal ones, the flags in the order `p`, `s`, `f`, `a`. File and offset are always
+/// there.
+pub fn push_request(text: &mut LineText, request: Request)
+    requires { length text.old.bytes + 100 ≤ 256 }
+    ensures bytes { text.new.bytes ≡ text.old.bytes ++ spaced (request_words request) }
+    ensures short { length text.new.bytes ≤ length text.old.bytes + 100 }
+{
+    match request {
+        Request::Mmap {
+            addr,
+            len,
+            prot,
+            flags,
+            file,
+            off,
+        } => {
+            push_word(text, "mmap");
+            push_range(text, addr, len);
+            push_backing(text, prot, flags, file, off);
+        }
+        Request::Munmap { addr, len } => {
+            push_word(text, "munmap");
+            push_range(text, addr, len);
+        }
+        Request::Mprotect { addr, len, prot } => {
+            push_word(text, "mprotect");
+            push_range(text, addr, len);
+            push_prot(text, prot);
+        }
+        Request::Load { addr } => {
+            push_word(text, "load");
+            push_address(text, addr);
+        }
+        Request::Store { addr, byte } => {
+            push_word(text, "store");
+            push_address(text, addr);
+            push_count(text, u64::from(byte));
+        }
+        Request::Fetch { addr } => {
+            push_word(text, "fetch");
+            push_address(text, addr);
+        }
+    }
+}

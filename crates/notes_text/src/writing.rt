@@ -1,0 +1,217 @@
+//! Notes as text: what is declared, and a line of each note, in order of tickets.
+ghost use Rattle.std.specs.Prelude.{◌≡◌, ◌+◌, ◌≤◌, ◌⊎◌, ◌∷◌, ◌++◌, [], Err, OnErr, OnOk, decimal, length, map, true};
+ghost use Rattle.std.specs.Io.KnownBytes.{Appends};
+ghost use Rattle.std.specs.List.{flat_map};
+ghost use Rattle.trace_io.specs.Sink.{AppendsFront};
+ghost use Rattle.trace_text.specs.Spelling.{mode_text};
+ghost use Rattle.certifier.specs.Order.{all_notes};
+ghost use Rattle.notes_text.specs.Written.{declared_text, file_text, files_text, note_head, note_text, notes_text, space_text, spaced};
+ghost use Rattle.notes_text.specs.WriteEnds.{Writes};
+
+use crate::event_text::push_event;
+use crate::ordering::in_order;
+use crate::request_text::{push_count, push_word};
+use crate::script::Script;
+use crate::verdict::write_both;
+use seats::Noted;
+use std::alloc::Allocator;
+use trace::declaration::{Declaration, FileLine};
+use trace::fault::TraceFault;
+use trace::outcome_text::write_outcome;
+use trace_io::sink::{Sink, WriteFailed, write_all};
+use trace_text::{LineText, push_number};
+use vm_base::Mode;
+
+// The word of what a file is open for.
+fn mode_word(mode: Mode) -> &'static str
+    ensures value { result.now ≡ mode_text mode }
+    ensures short { length result.now ≤ 2 }
+{
+    match mode {
+        Mode::R => "r",
+        Mode::W => "w",
+        Mode::RW => "rw",
+    }
+}
+
+// Replaces the text by the line of the space.
+fn put_space(text: &mut LineText, declaration: &Declaration)
+    ensures { text.new.bytes ≡ space_text declaration.now }
+{
+    text.clear();
+    text.push_str("vm");
+    push_count(text, declaration.cores());
+    push_count(text, declaration.frames());
+    push_count(text, declaration.calls());
+    text.push_str("\n");
+}
+
+// Appends what a file is open for, its length and its first byte, each behind a space.
+fn push_contents(text: &mut LineText, file: FileLine)
+    requires { length text.old.bytes + 45 ≤ 256 }
+    ensures bytes { text.new.bytes
+        ≡ text.old.bytes ++ spaced (mode_text file.mode ∷ decimal file.len ∷ decimal file.seed ∷ []) }
+    ensures short { length text.new.bytes ≤ length text.old.bytes + 45 }
+{
+    push_word(text, mode_word(file.mode));
+    push_count(text, file.len);
+    push_count(text, u64::from(file.seed));
+}
+
+// Replaces the text by the line of a file.
+fn put_file(text: &mut LineText, number: u64, file: FileLine)
+    ensures { text.new.bytes ≡ file_text number file }
+{
+    text.clear();
+    text.push_str("file");
+    push_count(text, number);
+    push_contents(text, file);
+    text.push_str("\n");
+}
+
+// Replaces the text by what stands before a note's outcome.
+fn put_head(text: &mut LineText, note: &Noted)
+    ensures { text.new.bytes ≡ note_head note.now }
+{
+    text.clear();
+    push_number(text, note.ticket);
+    push_event(text, note.event);
+    text.push_str(" = ");
+}
+
+// Writes the line of a note.
+#[tactic(auto, using(crate::proofs::VerdictLemmas::both_ok, crate::proofs::VerdictLemmas::both_front, crate::proofs::VerdictLemmas::front_longer))]
+fn write_note<W: Sink>(writer: &mut W, note: &Noted) -> Result<(), WriteFailed>
+    ensures ok { OnOk result (Appends (W.contents writer.old) (W.contents writer.new) (note_text note.now)) }
+    ensures kept { OnOk result (W.failed writer.new ≡ W.failed writer.old) }
+    ensures front { OnErr result (AppendsFront (W.contents writer.old) (W.contents writer.new) (note_text note.now)) }
+    ensures err { OnErr result (W.failed writer.new ≡ true) }
+{
+    let mut head = LineText::new();
+    put_head(&mut head, note);
+    let mut outcome = LineText::new();
+    write_outcome(&mut outcome, note.outcome);
+    write_both(
+        writer,
+        head.as_str().as_bytes(),
+        outcome.as_str().as_bytes(),
+    )
+}
+
+// Writes a line of each note.
+fn write_each<W: Sink>(writer: &mut W, notes: &[Noted]) -> Result<(), WriteFailed>
+    ensures ok { OnOk result (Appends (W.contents writer.old) (W.contents writer.new) (flat_map note_text notes.now)) }
+    ensures kept { OnOk result (W.failed writer.new ≡ W.failed writer.old) }
+    ensures front { OnErr result (AppendsFront (W.contents writer.old) (W.contents writer.new) (flat_map note_text notes.now)) }
+    ensures err { OnErr result (W.failed writer.new ≡ true) }
+{
+    let mut at = 0;
+    'notes: while at < notes.len() {
+        let note = notes[at];
+        if let Err(failed) = write_note(writer, &note) {
+            return Err(failed);
+        }
+        at += 1;
+    }
+    Ok(())
+}
+
+// Writes a line of each file.
+fn write_files<W: Sink>(writer: &mut W, files: &[FileLine]) -> Result<(), WriteFailed>
+    ensures ok { OnOk result (Appends (W.contents writer.old) (W.contents writer.new) (files_text 0 files.now)) }
+    ensures kept { OnOk result (W.failed writer.new ≡ W.failed writer.old) }
+    ensures front { OnErr result (AppendsFront (W.contents writer.old) (W.contents writer.new) (files_text 0 files.now)) }
+    ensures err { OnErr result (W.failed writer.new ≡ true) }
+{
+    let mut text = LineText::new();
+    let mut at = 0;
+    'files: while at < files.len() {
+        let file = files[at];
+        put_file(&mut text, at as u64, file);
+        if let Err(failed) = write_all(writer, text.as_str().as_bytes()) {
+            return Err(failed);
+        }
+        at += 1;
+    }
+    Ok(())
+}
+
+// Writes the lines of what is declared.
+#[tactic(auto, using(crate::proofs::VerdictLemmas::both_ok, crate::proofs::VerdictLemmas::both_front, crate::proofs::VerdictLemmas::front_longer))]
+fn write_declaration<W: Sink>(writer: &mut W, declaration: &Declaration) -> Result<(), WriteFailed>
+    ensures ok { OnOk result (Appends (W.contents writer.old) (W.contents writer.new) (declared_text declaration.now)) }
+    ensures kept { OnOk result (W.failed writer.new ≡ W.failed writer.old) }
+    ensures front { OnErr result (AppendsFront (W.contents writer.old) (W.contents writer.new) (declared_text declaration.now)) }
+    ensures err { OnErr result (W.failed writer.new ≡ true) }
+{
+    let mut text = LineText::new();
+    put_space(&mut text, declaration);
+    if let Err(failed) = write_all(writer, text.as_str().as_bytes()) {
+        return Err(failed);
+    }
+    write_files(writer, declaration.files())
+}
+
+// Writes what is declared and the notes.
+#[tactic(auto, using(crate::proofs::VerdictLemmas::both_ok, crate::proofs::VerdictLemmas::both_front, crate::proofs::VerdictLemmas::front_longer))]
+fn write_lines<W: Sink>(
+    writer: &mut W,
+    declaration: &Declaration,
+    notes: &[Noted],
+) -> Result<(), WriteFailed>
+    ensures ok { OnOk result (Appends (W.contents writer.old) (W.contents writer.new) (notes_text declaration.now notes.now)) }
+    ensures kept { OnOk result (W.failed writer.new ≡ W.failed writer.old) }
+    ensures front { OnErr result (AppendsFront (W.contents writer.old) (W.contents writer.new) (notes_text declaration.now notes.now)) }
+    ensures err { OnErr result (W.failed writer.new ≡ true) }
+{
+    if let Err(failed) = write_declaration(writer, declaration) {
+        return Err(failed);
+    }
+    write_each(writer, notes)
+}
+
+// The same, and a flush.
+#[tactic(auto, using(crate::proofs::PieceLemmas::lost))]
+fn write_out<W: Sink>(
+    writer: &mut W,
+    declaration: &Declaration,
+    notes: &[Noted],
+) -> Result<(), WriteFailed>
+    ensures ok { OnOk result (Appends (W.contents writer.old) (W.contents writer.new) (notes_text declaration.now notes.now)) }
+    ensures out { OnOk result (W.is_flushed writer.new ≡ true) }
+    ensures kept { OnOk result (W.failed writer.new ≡ W.failed writer.old) }
+    ensures front { OnErr result (AppendsFront (W.contents writer.old) (W.contents writer.new) (notes_text declaration.now notes.now)) }
+    ensures err { OnErr result (W.failed writer.new ≡ true) }
+{
+    if let Err(failed) = write_lines(writer, declaration, notes) {
+        return Err(failed);
+    }
+    writer.flush()
+}
+
+/// Writes the notes of all seats as text: the `vm` line, always with CALLS, and the `file` lines of what the script declares, and
+/// then of each note the line `TICKET EVENT = OUTCOME`. They stand in order of tickets, and notes that have one ticket in
+/// order of seats. What was written has gone out then. Memory for the order is taken from the script's allocator before anything is
+/// written; where it is refused, nothing is. At `WriteFailed` a front of the text was written.
+#[tactic(auto, using(crate::proofs::PieceLemmas::wrote_all, crate::proofs::PieceLemmas::wrote_front, crate::proofs::PieceLemmas::wrote_none))]
+pub fn write_notes<A: Allocator + Clone + Drop, W: Sink>(
+    script: &Script<A>,
+    seats: &[&[Noted]],
+    writer: &mut W,
+) -> Result<(), TraceFault>
+    ensures ends { Writes script.now.asked (all_notes (map (λ s. s.now) seats.now)) (W.contents writer.old) (W.contents writer.new) result }
+    ensures out { OnOk result (W.is_flushed writer.new ≡ true) }
+    ensures kept { (result ≡ Err TraceFault.WriteFailed) ⊎ (W.failed writer.new ≡ W.failed writer.old) }
+    ensures write { result ≡ Err TraceFault.WriteFailed → W.failed writer.new ≡ true }
+{
+    let Ok(for_order) = script.allocator().clone() else {
+        return Err(TraceFault::NoMemory);
+    };
+    let Ok(order) = in_order(for_order, seats) else {
+        return Err(TraceFault::NoMemory);
+    };
+    if let Err(_) = write_out(writer, script.declaration(), order.as_slice()) {
+        return Err(TraceFault::WriteFailed);
+    }
+    Ok(())
+}
