@@ -34,6 +34,7 @@ impl<A: Allocator + Clone> Live<A> {
         gate: &G,
     ) -> Result<Reply, LiveFault>
         requires { IsOf self.now seat.old }
+        ensures own { IsOf self.now seat.new }
         ensures noted { IfOk result (λ reply. OneCall seat.old request reply seat.new) }
         ensures begun { OnOk result (seat.new.begun ≡ seat.old.begun + 1) }
         ensures may { OnOk result (MayBegin self.now.share seat.old) }

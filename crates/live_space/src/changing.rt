@@ -2,7 +2,6 @@
 ghost use Rattle.std.specs.Prelude.{◌≡◌, ◌+◌, ◌*◌, ◌≤◌, [], length, IsTrue};
 ghost use Rattle.slot_lock.specs.Plan.{IsSoundChange, range_of};
 ghost use Rattle.live_tree.specs.Held.{Covers};
-ghost use Rattle.machine_model.specs.Changes.{reply_to};
 ghost use Rattle.seats.specs.Growing.{Grew};
 ghost use Rattle.live_pages.specs.Targets.{count_below};
 ghost use Rattle.live_space.specs.Changing.{CanEnd, CanEndIf, IsReady};
@@ -13,6 +12,7 @@ use crate::gate::{Gate, Point};
 use crate::giving_up::give_up;
 use crate::locking::{let_go, reserve_steps};
 use crate::space::Live;
+use access_answers::reply_to;
 use live_levels::level::Stepper;
 use live_pages::pieces::CoreState;
 use live_pages::telling::{TAKES, count_of, post, take_all};
@@ -21,19 +21,7 @@ use seats::Seat;
 use slot_lock::Change;
 use std::alloc::Allocator;
 use std::sync::{Mutex, Wait};
-use vm_base::page::PAGE_SIZE;
 use vm_base::{CoreId, CoreSet, Reply};
-
-/// What a change that is made answers.
-fn reply_to(change: Change) -> Reply
-    requires { IsSoundChange change }
-    ensures { result ≡ reply_to change }
-{
-    match change {
-        Change::Put { range, .. } => Reply::Mapped(range.first * PAGE_SIZE),
-        Change::Clear { .. } | Change::Protect { .. } => Reply::Done,
-    }
-}
 
 impl<A: Allocator + Clone> Live<A> {
     /// The steps of a change, after its check.

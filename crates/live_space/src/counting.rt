@@ -25,6 +25,7 @@ impl<A: Allocator + Clone> Live<A> {
     /// locked. After a fault nothing was begun.
     pub fn flush<R: Wait>(&self, rt: &R, seat: &mut Seat<A>) -> Result<bool, LiveFault>
         requires { IsOf self.now seat.old }
+        ensures own { IsOf self.now seat.new }
         ensures noted { IfOk result
             (λ is_noted. NotesOneIf (EventOf.Flush seat.old.core) seat.old is_noted seat.new) }
         ensures fault { IfErr result (LacksRoom 1 seat.old) }
@@ -43,6 +44,7 @@ impl<A: Allocator + Clone> Live<A> {
     /// nothing was begun.
     pub fn review<R: Wait>(&self, rt: &R, seat: &mut Seat<A>) -> Result<bool, LiveFault>
         requires { IsOf self.now seat.old }
+        ensures own { IsOf self.now seat.new }
         ensures noted { IfOk result
             (λ is_noted. NotesOneIf (EventOf.Review seat.old.core) seat.old is_noted seat.new) }
         ensures fault { IfErr result (LacksRoom 1 seat.old) }

@@ -68,7 +68,7 @@ pub(crate) fn reserve_steps<A: Allocator>(seat: &mut Seat<A>, slots: usize, more
 pub(crate) fn let_go<A: Allocator + Clone>(held: Held<'_, A>, seat: &mut Seat<A>)
     requires room { length held.slots ≤ seat.old.room }
     ensures grew { Grew seat.old seat.new }
-    ensures room { seat.old.room ≤ seat.new.room + length held.entry.slots }
+    ensures room { seat.new.room + length held.entry.slots ≡ seat.old.room }
 {
     let mut letting = held.letting();
     let_go_all(&mut letting, seat);
@@ -79,7 +79,7 @@ pub(crate) fn let_go<A: Allocator + Clone>(held: Held<'_, A>, seat: &mut Seat<A>
 fn let_go_all<A: Allocator>(letting: &mut Letting<'_, A>, seat: &mut Seat<A>)
     requires room { length letting.old.slots ≤ seat.old.room }
     ensures grew { Grew seat.old seat.new }
-    ensures room { seat.old.room ≤ seat.new.room + length letting.old.slots }
+    ensures room { seat.new.room + length letting.old.slots ≡ seat.old.room }
 {
     'slots: while letting.len() > 0 {
         let _ticket = letting.unlock_first(seat);

@@ -1,12 +1,13 @@
 //! The making of a space.
-ghost use Rattle.std.specs.Prelude.{◌≡◌, ◌<◌, ◌≤◌, [], None, IfOk, IfErr, length};
+ghost use Rattle.std.specs.Prelude.{◌≡◌, ◌<◌, ◌≤◌, [], None, IfOk, IfErr, length, All};
 ghost use Rattle.std.specs.Arc.{arc_value};
 ghost use Rattle.tickets.specs.Tickets.{IsNew};
+ghost use Rattle.vm_base.specs.Pages.{page_count};
 ghost use Rattle.core_steps.specs.Setups.{IsFirstFault, fault_of};
-ghost use Rattle.live_space.specs.Space.{AreFresh, IsMade};
+ghost use Rattle.live_space.specs.Space.{AreFresh, IsMade, IsOf};
 
 use crate::space::Live;
-use backing::Objects;
+use backing::{CachedFrame, FileSpec, Objects};
 use core_steps::{Setup, SetupFault};
 use crossbeam_utils::CachePadded;
 use frames::FrameCell;
@@ -19,6 +20,7 @@ use shootdown::Inbox;
 use std::alloc::Allocator;
 use std::sync::{Arc, Mutex};
 use tickets::{Ticketer, Tickets};
+use vm_base::page::PAGE_SIZE;
 use vm_base::{CoreId, NoMemory};
 
 impl<A: Allocator + Clone> Live<A> {
@@ -27,6 +29,7 @@ impl<A: Allocator + Clone> Live<A> {
     /// is told, in the order of `SetupFault`.
     pub fn new(alloc: A, setup: Setup<A>) -> Result<(Live<A>, Vec<Seat<A>, A>), SetupFault>
         ensures made { IfOk result (λ t. IsMade setup t.0 t.1.items) }
+        ensures own { IfOk result (λ t. All (IsOf t.0) t.1.items) }
         ensures first { IfErr result (λ fault. IsFirstFault setup fault) }
     {
         if let Some(fault) = setup.fault() {
@@ -45,7 +48,8 @@ fn make<A: Allocator + Clone>(
     setup: Setup<A>,
 ) -> Result<(Live<A>, Vec<Seat<A>, A>), NoMemory>
     requires { fault_of setup ≡ None }
-    ensures { IfOk result (λ t. IsMade setup t.0 t.1.items) }
+    ensures made { IfOk result (λ t. IsMade setup t.0 t.1.items) }
+    ensures own { IfOk result (λ t. All (IsOf t.0) t.1.items) }
 {
     let Setup {
         cores,
@@ -57,6 +61,7 @@ fn make<A: Allocator + Clone>(
     let number = frames as u32;
     let share = calls / cores;
     let epochs = Epochs::new(count);
+    let pages = new_pages(&alloc, &files)?;
     let objects = Objects::new(alloc.clone()?, files)?;
     let (tickets, first) = Tickets::new(alloc.clone()?)?;
     let tickets = Arc::new(alloc.clone()?, tickets)?;
@@ -68,6 +73,7 @@ fn make<A: Allocator + Clone>(
         tickets,
         tree,
         objects,
+        pages,
         cores: states,
         frames: cells,
         epochs: CachePadded::new(Mutex::new(epochs)),
@@ -97,6 +103,35 @@ fn new_seats<A: Allocator + Clone>(
     let word = Arc::try_clone(tickets)?;
     seats.push_reserved(Seat::new(alloc.clone()?, CoreId::new(last), word, first));
     Ok(seats)
+}
+
+// Of each file its pages, none of which a frame caches.
+fn new_pages<A: Allocator + Clone>(
+    alloc: &A,
+    files: &[FileSpec<A>],
+) -> Result<Vec<Vec<Mutex<CachedFrame>, A>, A>, NoMemory>
+    ensures { IfOk result (λ v. length v.items ≡ length files.now) }
+{
+    let mut pages = Vec::with_capacity(alloc.clone()?, files.len())?;
+    'files: for file in files {
+        pages.push_reserved(new_file_pages(alloc, file.bytes.len())?);
+    }
+    Ok(pages)
+}
+
+// The pages of a file of so many bytes, none of which a frame caches.
+fn new_file_pages<A: Allocator + Clone>(
+    alloc: &A,
+    bytes: usize,
+) -> Result<Vec<Mutex<CachedFrame>, A>, NoMemory>
+    ensures { IfOk result (λ v. length v.items ≡ page_count bytes) }
+{
+    let count = bytes.div_ceil(PAGE_SIZE as usize);
+    let mut pages = Vec::with_capacity(alloc.clone()?, count)?;
+    'pages: for _page in 0..count {
+        pages.push_reserved(Mutex::new(CachedFrame::none()));
+    }
+    Ok(pages)
 }
 
 // So many frames, all free.

@@ -2,9 +2,9 @@
 ghost use Rattle.std.specs.Prelude.{◌≡◌, length};
 ghost use Rattle.live_space.specs.Space.{LiveView};
 
-use backing::Objects;
+use backing::{CachedFrame, Objects};
 use crossbeam_utils::CachePadded;
-use live_pages::pieces::{CoreState, FrameState};
+use live_pages::pieces::{CoreState, FrameState, Pieces};
 use live_tree::tree::SharedTree;
 use refcache::Epochs;
 use std::alloc::Allocator;
@@ -12,14 +12,16 @@ use std::marker::Model;
 use std::sync::{Arc, Mutex};
 use tickets::Tickets;
 
-/// One address space that threads share: the tree of slots, and what lies under the locks of cores,
-/// frames and the epoch. Its files never change. A clause sees the word from which tickets are
-/// drawn, how many cores and frames there are, the files, and how many calls each seat may begin.
+/// One address space that threads share: the tree of slots, and what lies under the locks of file
+/// pages, cores, frames and the epoch. The bytes of its files never change. A clause sees the word
+/// from which tickets are drawn, how many cores and frames there are, the files, and how many calls
+/// each seat may begin.
 #[derive(Drop)]
 pub struct Live<A: Allocator + Clone> {
     pub(crate) tickets: Arc<Tickets<A>, A>,
     pub(crate) tree: SharedTree<A>,
     pub(crate) objects: Objects<A>,
+    pub(crate) pages: Vec<Vec<Mutex<CachedFrame>, A>, A>,
     pub(crate) cores: Vec<CachePadded<Mutex<CoreState<A>>>, A>,
     pub(crate) frames: Vec<Mutex<FrameState<A>>, A>,
     pub(crate) epochs: CachePadded<Mutex<Epochs>>,
@@ -55,6 +57,18 @@ impl<A: Allocator + Clone> Live<A> {
         ensures { result ≡ self.now.frames }
     {
         self.frames.len()
+    }
+
+    /// The pieces, as they are lent to a step.
+    pub(crate) fn pieces(&self) -> Pieces<'_, A> {
+        Pieces {
+            alloc: self.tree.alloc(),
+            objects: &self.objects,
+            pages: self.pages.as_slice(),
+            cores: self.cores.as_slice(),
+            frames: self.frames.as_slice(),
+            epochs: &self.epochs,
+        }
     }
 
     /// How many calls each seat may begin.

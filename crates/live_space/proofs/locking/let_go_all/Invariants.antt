@@ -6,7 +6,7 @@ abbrev pub invariant-slots : goal.invariant-slots
 invariant-slots g l = record {
   grew : Grew l.fn.seat l.seat;
   room : length l.letting.slots ≤ l.seat.room;
-  kept : l.fn.seat.room + length l.letting.slots ≤ l.seat.room + length l.fn.letting.slots;
+  kept : l.seat.room + length l.fn.letting.slots ≡ l.fn.seat.room + length l.letting.slots;
 }
 
 abbrev pub decreases-slots : goal.decreases-slots
