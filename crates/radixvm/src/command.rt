@@ -10,16 +10,26 @@ ghost use Rattle.trace_io.specs.Source.{Reads};
 
 use crate::help;
 use crate::help::Topic;
-use crate::job::run;
+use crate::input::{Files, input};
+use crate::job::{Shows, run, status_of_fault};
 use clap::error::ErrorKind;
-use clap::{Arg, ArgAction, Command, Error};
+use clap::{Arg, ArgAction, ArgMatches, Command, Error};
 use std::alloc::{AllocError, Allocator, Global};
 use std::env::Env;
-use std::io::Write;
+use std::io::{Read, Write};
 use std::{env, io};
+use trace::fault::TraceFault;
 use trace::shown::Show;
 use trace_io::sink::{Sink, write_all};
-use trace_io::source::Source;
+use trace_io::source::{Counted, Source};
+
+// A replay that is asked for.
+#[derive(Clone, Copy)]
+struct Task<'a> {
+    shows: Shows,
+    // The trace's file, where it isn't standard input.
+    file: Option<&'a str>,
+}
 
 // What is printed in place of a replay.
 #[derive(Drop)]
@@ -30,18 +40,30 @@ enum Told {
     Page(Topic),
 }
 
+// A word of the program that reads a trace.
+fn reading<'a>(
+    alloc: Global,
+    name: &'static str,
+    usage: &'static str,
+) -> Result<Command<'a>, AllocError> {
+    let explain = Arg::new(alloc, "explain")
+        .long("explain")
+        .action(ArgAction::SetTrue);
+    let file = Arg::new(alloc, "FILE");
+    Command::new(alloc, name)
+        .override_help(help::OVERVIEW)
+        .override_usage(usage)
+        .arg(explain)?
+        .arg(file)
+}
+
 // The program's words.
 fn grammar<'a>(alloc: Global) -> Result<Command<'a>, AllocError> {
     let log = Arg::new(alloc, "log")
         .long("log")
         .action(ArgAction::SetTrue);
-    let run = Command::new(alloc, "run")
-        .override_help(help::OVERVIEW)
-        .override_usage("radixvm run [--log]")
-        .arg(log)?;
-    let maps = Command::new(alloc, "maps")
-        .override_help(help::OVERVIEW)
-        .override_usage("radixvm maps");
+    let run = reading(alloc, "run", "radixvm run [--log] [--explain] [FILE]")?.arg(log)?;
+    let maps = reading(alloc, "maps", "radixvm maps [--explain] [FILE]")?;
     let topic = Arg::new(alloc, "TOPIC").value_parser(help::TOPICS);
     let help = Command::new(alloc, "help")
         .override_help(help::OVERVIEW)
@@ -72,22 +94,38 @@ fn topic_named(name: Option<&str>) -> Topic {
     }
 }
 
-// Parses the words: what a replay is to show, or the page of the help that they ask for.
-fn matched<A: Allocator>(alloc: Global, words: &[String<A>]) -> Result<Result<Show, Topic>, Error> {
-    let program = grammar(alloc)?;
-    let matches = program.try_get_matches_from(words)?;
-    match matches.subcommand() {
-        Some(("run", run)) if run.get_flag("log") => Ok(Ok(Show::OutcomesAndLog)),
-        Some(("run", _)) => Ok(Ok(Show::Outcomes)),
-        Some(("help", help)) => Ok(Err(topic_named(help.get_str("TOPIC")))),
-        _ => Ok(Ok(Show::Maps)),
+// What these words of a word that reads a trace ask for.
+fn task_of<'a>(show: Show, words: &ArgMatches<'a>) -> Task<'a>
+    ensures { result.shows.show ≡ show }
+{
+    let explains = words.get_flag("explain");
+    let file = words.get_str("FILE");
+    Task {
+        shows: Shows { show, explains },
+        file,
     }
 }
 
-// Parses the words: what a replay is to show, or what is printed in its place.
-fn parse<A: Allocator>(alloc: Global, words: &[String<A>]) -> Result<Show, Told> {
+// Parses the words: the replay, or the page of the help, that they ask for.
+fn matched<'a, A: Allocator>(
+    alloc: Global,
+    words: &'a [String<A>],
+) -> Result<Result<Task<'a>, Topic>, Error> {
+    let program = grammar(alloc)?;
+    let matches = program.try_get_matches_from(words)?;
+    match matches.subcommand() {
+        Some(("run", run)) if run.get_flag("log") => Ok(Ok(task_of(Show::OutcomesAndLog, run))),
+        Some(("run", run)) => Ok(Ok(task_of(Show::Outcomes, run))),
+        Some(("maps", maps)) => Ok(Ok(task_of(Show::Maps, maps))),
+        Some((_, help)) => Ok(Err(topic_named(help.get_str("TOPIC")))),
+        None => Ok(Err(Topic::Overview)),
+    }
+}
+
+// Parses the words: the replay that they ask for, or what is printed in its place.
+fn parse<'a, A: Allocator>(alloc: Global, words: &'a [String<A>]) -> Result<Task<'a>, Told> {
     match matched(alloc, words) {
-        Ok(Ok(show)) => Ok(show),
+        Ok(Ok(task)) => Ok(task),
         Ok(Err(topic)) => Err(Told::Page(topic)),
         Err(error) => Err(Told::Words(error)),
     }
@@ -161,49 +199,73 @@ fn tell<W: Sink, E: Write>(alloc: Global, told: &Told, out: &mut W, errors: &mut
     }
 }
 
+// The trace's file, where the words name one.
+fn file_of<'a>(parsed: &Result<Task<'a>, Told>) -> Option<&'a str> {
+    match parsed {
+        Ok(task) => task.file,
+        Err(_) => None,
+    }
+}
+
+// Tells that the trace's file can't be opened, and answers the status.
+fn refuse_file<E: Write>(errors: &mut E) -> u8
+    ensures { result ≡ 3 }
+{
+    let fault = TraceFault::ReadFailed;
+    let _ = writeln!(errors, "radixvm: {fault}");
+    status_of_fault(fault)
+}
+
 // Does what the parsed words ask for: where they ask for a replay, that replay, with its status.
 fn act<S: Source, W: Sink, E: Write>(
     alloc: Global,
-    parsed: Result<Show, Told>,
+    parsed: Result<Task<'_>, Told>,
     reader: &mut S,
     out: &mut W,
     errors: &mut E,
 ) -> u8
-    ensures ran { IfOk parsed (λ shown. (r : Result Unit TraceFault) × (result ≡ status_of r)
+    ensures ran { IfOk parsed.entry (λ task. (r : Result Unit TraceFault) × (result ≡ status_of r)
         × Reads (S.stream reader.old) (S.stream reader.new)
-        (λ input unread. Ends shown input unread (W.contents out.old) (W.contents out.new) r)
+        (λ input unread. Ends task.shows.show input unread (W.contents out.old) (W.contents out.new) r)
         × TellsFaults r (S.failed reader.new) (S.reads reader.new)
         (W.failed out.old) (W.failed out.new) (W.is_flushed out.new)) }
     ensures within { result ≤ 3 }
 {
     match parsed {
-        Ok(shown) => run(alloc, reader, out, errors, shown),
+        Ok(task) => run(alloc, reader, out, errors, task.shows),
         Err(told) => tell(alloc, &told, out, errors),
     }
 }
 
 /// Does what the words say, the program's name first, and answers the status: 0; 2 for a
 /// fault of the words or of the text; 3 where reading, writing or memory failed. A fault
-/// is printed on `errors` as `radixvm: ` and its text.
-pub fn command<A: Allocator, S: Source, W: Sink, E: Write>(
+/// is printed on `errors` as `radixvm: ` and its text. The trace is what the named file gives, or
+/// `standard` where none is named, or `-`; a file that can't be opened is a read that failed.
+pub fn command<A: Allocator, I: Read + Drop, F: Files, W: Sink, E: Write>(
     alloc: Global,
     words: &[String<A>],
-    reader: &mut S,
+    files: &F,
+    standard: I,
     out: &mut W,
     errors: &mut E,
 ) -> u8
     ensures { result ≤ 3 }
 {
     let parsed = parse(alloc, words);
-    act(alloc, parsed, reader, out, errors)
+    let Ok(input) = input(files, standard, file_of(&parsed)) else {
+        return refuse_file(errors);
+    };
+    let mut reader = Counted::new(input);
+    act(alloc, parsed, &mut reader, out, errors)
 }
 
 /// Reads the program's words, and does what they say, as `command`.
-pub fn program<V: Env + Drop, A: Allocator, S: Source, W: Sink, E: Write>(
+pub fn program<V: Env + Drop, A: Allocator, I: Read + Drop, F: Files, W: Sink, E: Write>(
     environment: V,
     for_words: &A,
     alloc: Global,
-    reader: &mut S,
+    files: &F,
+    standard: I,
     out: &mut W,
     errors: &mut E,
 ) -> u8
@@ -219,5 +281,5 @@ pub fn program<V: Env + Drop, A: Allocator, S: Source, W: Sink, E: Write>(
     let Ok(words) = arguments.collect::<Vec<String<&A>, &A>>(for_words) else {
         return refuse_words(WordsFault::NoMemory, errors);
     };
-    command(alloc, &words, reader, out, errors)
+    command(alloc, &words, files, standard, out, errors)
 }

@@ -7,8 +7,8 @@ ghost use Rattle.radixvm.specs.Help.{page_of};
 pub const VERSION: &str = "0.1.0";
 
 /// How the words go together.
-pub const USAGE: &str = "radixvm run [--log]
-       radixvm maps
+pub const USAGE: &str = "radixvm run [--log] [--explain] [FILE]
+       radixvm maps [--explain] [FILE]
        radixvm help [TOPIC]";
 
 /// What the program is for, its words, and where to read on.
@@ -16,15 +16,17 @@ pub const OVERVIEW: &str = "\
 One virtual address space with mmap, munmap and mprotect, shared by 1 to 64
 modelled cores, and replayed from a text, a trace, step by step.
 
-Usage: radixvm run [--log]
-       radixvm maps
+Usage: radixvm run [--log] [--explain] [FILE]
+       radixvm maps [--explain] [FILE]
        radixvm help [TOPIC]
 
 Words:
-  run            reads a trace on standard input, and writes a line for each
-                 line of an event: the reply of a call, or what became of a step
+  run            reads a trace, and writes a line for each line of an event: the
+                 reply of a call, or what became of a step
   run --log      writes the log behind these lines: when each call had its reply
   maps           writes the mappings at the trace's end, and nothing else
+  FILE           the file of the trace; without it, or for -, standard input
+  --explain      shows under a fault the line, the word, and what was expected
   help           writes this text
   help TOPIC     explains one of these:
     trace        what the lines of a trace are
@@ -220,9 +222,12 @@ before it gave has gone out. Lines count from 1, with those that say nothing.
   setup S4           a file has more than 1048576 bytes
   setup S5           CALLS is above 1048576
   setup S6           no memory for a space of that size
-  read failed        standard input can't be read
+  read failed        standard input or FILE can't be read, or FILE not opened
   write failed       standard output can't be written
   out of memory      a step found no memory; the steps before it stand
+
+With --explain the line comes under the fault, then a caret below the word that
+is wrong, and what was expected there.
 
 What a bad line often is: PROT of two letters (rw for rw-); 4K, 1_000 or 1,000
 for a number; a tab, a carriage return or a letter that isn't ASCII; words

@@ -5,11 +5,12 @@ ghost use Rattle.trace.specs.Ends.{Ends, TellsFaults};
 ghost use Rattle.trace.specs.declared.fault.TraceFault.{TraceFault};
 ghost use Rattle.trace_io.specs.Source.{Reads};
 
+use crate::explain::explain;
 use core_steps::SetupFault;
 use std::alloc::Allocator;
 use std::io::Write;
 use trace::fault::TraceFault;
-use trace::replay::replay;
+use trace::replay::{Replayed, replay_telling};
 use trace::shown::Show;
 use trace_io::sink::Sink;
 use trace_io::source::Source;
@@ -28,27 +29,47 @@ pub fn status_of_fault(fault: TraceFault) -> u8
     }
 }
 
+/// What a run shows of its trace.
+#[derive(Clone, Copy, Debug, PartialEq, Eq)]
+pub struct Shows {
+    /// What goes to standard output.
+    pub show: Show,
+    /// Whether more is told of a fault than its text.
+    pub explains: bool,
+}
+
+// Prints the replay's fault, and what is known of it where that is asked for, and answers the status.
+fn tell_end<A: Allocator, E: Write>(replayed: &Replayed<A>, explains: bool, errors: &mut E) -> u8
+    ensures value { result ≡ status_of replayed.now.ended }
+    ensures within { result ≤ 3 }
+{
+    let Err(fault) = replayed.ended else {
+        return 0;
+    };
+    let _ = writeln!(errors, "radixvm: {fault}");
+    if explains && let Some(lines) = &replayed.lines {
+        explain(fault, lines.line(), errors);
+    }
+    status_of_fault(fault)
+}
+
 /// Replays the trace, showing what is asked for, prints a fault as `radixvm: ` and its
-/// text, and answers the status: 0, or that of the fault.
+/// text, behind it, where that is asked for, what is known of it, and answers the status: 0,
+/// or that of the fault.
 pub fn run<A: Allocator + Clone + Drop, S: Source, W: Sink, E: Write>(
     alloc: A,
     reader: &mut S,
     out: &mut W,
     errors: &mut E,
-    show: Show,
+    shows: Shows,
 ) -> u8
     ensures ends { (r : Result Unit TraceFault) × (result ≡ status_of r)
         × Reads (S.stream reader.old) (S.stream reader.new)
-        (λ input unread. Ends show input unread (W.contents out.old) (W.contents out.new) r)
+        (λ input unread. Ends shows.show input unread (W.contents out.old) (W.contents out.new) r)
         × TellsFaults r (S.failed reader.new) (S.reads reader.new)
         (W.failed out.old) (W.failed out.new) (W.is_flushed out.new) }
     ensures within { result ≤ 3 }
 {
-    match replay(alloc, reader, out, show) {
-        Ok(()) => 0,
-        Err(fault) => {
-            let _ = writeln!(errors, "radixvm: {fault}");
-            status_of_fault(fault)
-        }
-    }
+    let replayed = replay_telling(alloc, reader, out, shows.show);
+    tell_end(&replayed, shows.explains, errors)
 }

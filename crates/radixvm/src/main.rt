@@ -1,8 +1,12 @@
-//! The program: a trace on standard input is replayed, and what it gives goes to standard output.
+//! The program: a trace is replayed, and what it gives goes to standard output.
 #![tactic(auto)]
 
 mod command;
+mod explain;
+#[cfg(test)]
+mod explain_tests;
 mod help;
+mod input;
 mod job;
 #[cfg(test)]
 mod tests;
@@ -11,7 +15,6 @@ use command::{WordsFault, program, refuse_words};
 use std::io::BufWriter;
 use std::process::ExitCode;
 use trace_io::sink::Noted;
-use trace_io::source::Counted;
 
 fn main(rt: HostRuntime) -> ExitCode {
     let alloc = rt.alloc();
@@ -19,8 +22,7 @@ fn main(rt: HostRuntime) -> ExitCode {
     let Ok(buffer) = BufWriter::new(alloc, rt.stdout()) else {
         return ExitCode::from(refuse_words(WordsFault::NoMemory, &mut errors));
     };
-    let mut reader = Counted::new(rt.stdin());
     let mut out = Noted::new(buffer);
-    let status = program(&rt, &alloc, alloc, &mut reader, &mut out, &mut errors);
+    let status = program(&rt, &alloc, alloc, &rt, rt.stdin(), &mut out, &mut errors);
     ExitCode::from(status)
 }

@@ -1,5 +1,9 @@
 //! Traces whose output, fault and status the format's description and POSIX fix, and the words of the command line.
+ghost use Rattle.std.specs.Prelude.{⊤};
+
 use crate::command::program;
+use crate::input::Files;
+use crate::job::Shows;
 use crate::{help, job};
 use linked_list_allocator::LocalHeap;
 use std::alloc::{Allocator, Global};
@@ -98,6 +102,26 @@ impl Env for Words<'_> {
     }
 }
 
+// One file, of this name and these bytes.
+#[derive(Drop)]
+struct Shelf<'a> {
+    name: &'a str,
+    bytes: &'a [u8],
+}
+
+impl<'a> Files for Shelf<'a> {
+    type Open = Dripping<'a>;
+
+    ghost opens = { λ files path file. ⊤ };
+
+    fn open(&self, path: &str) -> io::Result<Dripping<'a>> {
+        if path != self.name {
+            return Err(io::Error::from(ErrorKind::NotFound));
+        }
+        Ok(dripping_of(self.bytes, AMPLE))
+    }
+}
+
 // What the program wrote on both outputs, and its status.
 #[derive(Drop)]
 struct Ran {
@@ -121,12 +145,12 @@ const AMPLE: Limits = Limits {
     is_closed: false,
 };
 
-fn source_of(input: &[u8], limits: Limits) -> Counted<Dripping<'_>> {
-    Counted::new(Dripping {
+fn dripping_of(input: &[u8], limits: Limits) -> Dripping<'_> {
+    Dripping {
         bytes: input,
         reads: 0,
         fails_at: limits.reads,
-    })
+    }
 }
 
 fn sink_of(alloc: Global, limits: Limits) -> Noted<Filling, Global> {
@@ -148,11 +172,23 @@ fn run_words<A: Allocator>(
     input: &[u8],
     limits: Limits,
 ) -> Ran {
-    let mut reader = source_of(input, limits);
     let mut out = sink_of(alloc, limits);
     let mut errors = Vec::new(alloc);
     let given = Words { words };
-    let status = program(given, for_words, alloc, &mut reader, &mut out, &mut errors);
+    let files = Shelf {
+        name: "stored.trace",
+        bytes: STORED,
+    };
+    let standard = dripping_of(input, limits);
+    let status = program(
+        given,
+        for_words,
+        alloc,
+        &files,
+        standard,
+        &mut out,
+        &mut errors,
+    );
     Ran {
         out: out.writer.into_parts().0.held,
         errors,
@@ -426,7 +462,7 @@ fn bad_words(rt: HostRuntime) {
     assert!(rt; are_refused(rt.alloc(), &[b"radixvm"]));
     assert!(rt; are_refused(rt.alloc(), &[b"radixvm", b"frob"]));
     assert!(rt; are_refused(rt.alloc(), &[b"radixvm", b"--frob"]));
-    assert!(rt; are_refused(rt.alloc(), &[b"radixvm", b"run", b"now"]));
+    assert!(rt; are_refused(rt.alloc(), &[b"radixvm", b"run", b"now", b"then"]));
     assert!(rt; are_refused(rt.alloc(), &[b"radixvm", b"maps", b"--log"]));
     assert!(rt; are_refused(rt.alloc(), &[b"radixvm", b"--log", b"run"]));
     assert!(rt; are_refused(rt.alloc(), &[b"radixvm", b"run", b"\xff"]));
@@ -446,10 +482,14 @@ fn no_memory_for_the_words(rt: HostRuntime) -> Result<(), Fail> {
 
 // Whether a replay in this heap ends with this fault.
 fn ends_in(alloc: Global, heap: &LocalHeap, fault: &[u8]) -> bool {
-    let mut reader = source_of(STORED, AMPLE);
+    let mut reader = Counted::new(dripping_of(STORED, AMPLE));
     let mut out = sink_of(alloc, AMPLE);
     let mut errors = Vec::new(alloc);
-    let status = job::run(heap, &mut reader, &mut out, &mut errors, Show::Outcomes);
+    let shows = Shows {
+        show: Show::Outcomes,
+        explains: false,
+    };
+    let status = job::run(heap, &mut reader, &mut out, &mut errors, shows);
     errors.as_slice() == fault && status == 3
 }
 
@@ -474,4 +514,64 @@ fn log_and_mappings(rt: HostRuntime) {
     assert!(rt; comes_to(rt.alloc(), LOGGED, STORED, AMPLE, (log, b"", 0)));
     let maps = b"0x10000-0x11000 rw- anon\n".as_slice();
     assert!(rt; comes_to(rt.alloc(), MAPPED, STORED, AMPLE, (maps, b"", 0)));
+}
+
+// A trace is read from the file that is named, or from standard input.
+#[test]
+fn traces_in_files(rt: HostRuntime) {
+    let output = b"0x10000\ndone\n41\n0\n".as_slice();
+    for word in [b"-".as_slice(), b"stored.trace".as_slice()] {
+        let words = [b"radixvm".as_slice(), b"run".as_slice(), word];
+        assert!(rt; comes_to(rt.alloc(), &words, STORED, AMPLE, (output, b"", 0)));
+    }
+    let words = [
+        b"radixvm".as_slice(),
+        b"maps".as_slice(),
+        b"stored.trace".as_slice(),
+    ];
+    let maps = b"0x10000-0x11000 rw- anon\n".as_slice();
+    assert!(rt; comes_to(rt.alloc(), &words, b"", AMPLE, (maps, b"", 0)));
+    let words = [b"radixvm".as_slice(), b"run".as_slice(), b"lost".as_slice()];
+    let fault = b"radixvm: read failed\n".as_slice();
+    assert!(rt; comes_to(rt.alloc(), &words, STORED, AMPLE, (b"", fault, 3)));
+}
+
+const EXPLAINED: &[&[u8]] = &[b"radixvm", b"run", b"--explain"];
+
+// A fault is told as ever, and behind it comes what is known of it, where that is asked for.
+#[test]
+fn faults_explained(rt: HostRuntime) {
+    for (input, fault) in [
+        (
+            b"vm 1 4\nc0! load 4K\n".as_slice(),
+            b"radixvm: line 2: bad line\n  c0! load 4K\n           ^\n  expected ADDR: a number below 2^64, decimal, or hexadecimal after 0x\n".as_slice(),
+        ),
+        (
+            b"# a trace\nc0! load 0\n",
+            b"radixvm: no vm line first\n  c0! load 0\n  ^\n  expected vm CORES FRAMES, or vm CORES FRAMES CALLS, as the first line with words\n",
+        ),
+        (
+            b"",
+            b"radixvm: no vm line first\n  expected vm CORES FRAMES, or vm CORES FRAMES CALLS, as the first line with words\n",
+        ),
+        (
+            b"vm 65 4\nc0! load 0\n",
+            b"radixvm: setup S1\n  expected CORES of the vm line from 1 to 64\n",
+        ),
+    ] {
+        assert!(rt; comes_to(rt.alloc(), EXPLAINED, input, AMPLE, (b"", fault, 2)));
+    }
+    let output = b"0x10000\ndone\n41\n0\n".as_slice();
+    assert!(rt; comes_to(rt.alloc(), EXPLAINED, STORED, AMPLE, (output, b"", 0)));
+    // A core that isn't there is no fault.
+    let idle = b"idle\n".as_slice();
+    assert!(rt;
+        comes_to(
+            rt.alloc(),
+            EXPLAINED,
+            b"vm 2 4\nc2 go\n",
+            AMPLE,
+            (idle, b"", 0)
+        )
+    );
 }
