@@ -1,4 +1,4 @@
-/* The built program behind two pipes: a line in, its reply out. Run it at the repository's root:
+/* The built program behind two pipes: a line in, its reply out, and many lines at once. Run it at the repository's root:
    cc -o /tmp/pipe examples/pipe.c && /tmp/pipe */
 #include <stdio.h>
 #include <stdlib.h>
@@ -7,13 +7,16 @@
 
 static FILE *to, *from;
 
-/* The reply to one line of an event, with its newline. To ask faster, write up to a thousand lines, flush once, and then read. */
-static char *ask(const char *line) {
-    static char reply[512];
-    fprintf(to, "%s\n", line);
+/* Prints the replies to some lines of events: all of them are written, and flushed once, before the first reply is read. A pipe holds only so
+   much: ask for a thousand at once, not for a million. */
+static void ask(int count, const char *const lines[]) {
+    char reply[512];
+    for (int i = 0; i < count; i++) fprintf(to, "%s\n", lines[i]);
     fflush(to);
-    if (!fgets(reply, sizeof reply, from)) exit(1);
-    return reply;
+    for (int i = 0; i < count; i++) {
+        if (!fgets(reply, sizeof reply, from)) exit(1);
+        fputs(reply, stdout);
+    }
 }
 
 int main(void) {
@@ -32,9 +35,8 @@ int main(void) {
     to = fdopen(in[1], "w");
     from = fdopen(out[0], "r");
     fprintf(to, "vm 1 4\n"); /* no event, so no reply */
-    fputs(ask("c0! mmap 0x10000 4096 rw- pfa"), stdout);
-    fputs(ask("c0! store 0x10004 41"), stdout);
-    fputs(ask("c0! load 0x10004"), stdout);
+    ask(1, (const char *[]){"c0! mmap 0x10000 4096 rw- pfa"});
+    ask(3, (const char *[]){"c0! store 0x10004 41", "c0! load 0x10004", "c0! load 0x10005"});
     fclose(to);
     waitpid(child, &status, 0);
     return WEXITSTATUS(status);
