@@ -1,3 +1,5 @@
 pub mod AllSeen
+pub mod HeldFrames
 pub mod Noting
 pub mod Targets
+pub mod Wanted

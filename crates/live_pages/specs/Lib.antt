@@ -1,5 +1,6 @@
 pub mod Bytes
 pub mod Counts
 pub mod Frames
+pub mod HeldFrames
 pub mod Steps
 pub mod Targets

@@ -36,7 +36,7 @@ pub fn copy_page<R: Wait, A: Allocator + Clone>(
     };
     let mut core = place.lock(rt);
     let evicted = core.counts.in_the_way(shown, -1);
-    let Some(mut frames) = lock_these(rt, pieces, [Some(shown), Some(own), evicted]) else {
+    let Some(mut frames) = lock_these(rt, pieces, &[Some(shown), Some(own), evicted]) else {
         return false;
     };
     if !frames.can_evict(&core, evicted) || !held.can_take(Act::Copy(own)) {
@@ -45,7 +45,7 @@ pub fn copy_page<R: Wait, A: Allocator + Clone>(
     let epochs = pieces.epoch_for(rt, evicted);
     let ticket = seat.step();
     let _is_copied = frames.copy(shown, own);
-    frames.count(&mut core, shown, -1, number_of(&epochs));
+    let _is_counted = frames.count(&mut core, shown, -1, number_of(&epochs));
     held.change_each(ticket, Act::Copy(own));
     true
 }

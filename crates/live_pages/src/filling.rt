@@ -1,8 +1,11 @@
 //! How a page gets its frame: a new one of zeros, the one that caches its file page, or a new one
 //! with the bytes of its file page.
-ghost use Rattle.std.specs.Prelude.{◌≡◌, ◌≤◌, ◌^◌, None, IfSome};
+ghost use Rattle.std.specs.Prelude.{◌≡◌, ◌≤◌, ◌^◌, None, Some, IfSome};
 ghost use Rattle.live_levels.specs.declared.act.Act.TheVariants.{Frame};
 ghost use Rattle.seats.specs.Notes.{CanNote};
+ghost use Rattle.machine_model.specs.Files.{back_of};
+ghost use Rattle.live_tree.specs.Shown.{shown};
+ghost use Rattle.live_pages.specs.Frames.{MayGet};
 ghost use Rattle.live_pages.specs.Steps.{Stays, StepsWith};
 
 use crate::beginning::{begin_bytes, begin_zeros};
@@ -34,6 +37,7 @@ pub fn fill<R: Wait, A: Allocator + Clone>(
 ) -> Option<u32>
     requires { CanNote seat.old }
     ensures some { IfSome result (λ f. StepsWith (Frame f) seat.old held.old seat.new held.new) }
+    ensures own { IfSome result (MayGet own (back_of ((shown held.old.slots).info touch.page)) touch.access) }
     ensures none { result ≡ None → Stays seat.old held.old seat.new held.new }
 {
     let back = back_of(&held.page(touch.page));
@@ -57,6 +61,7 @@ fn fill_zeros<R: Wait, A: Allocator + Clone>(
 ) -> Option<u32>
     requires { CanNote seat.old }
     ensures some { IfSome result (λ f. StepsWith (Frame f) seat.old held.old seat.new held.new) }
+    ensures own { IfSome result (λ f. own ≡ Some f) }
     ensures none { result ≡ None → Stays seat.old held.old seat.new held.new }
 {
     let Some(number) = own else {
@@ -120,6 +125,7 @@ fn fill_copy<R: Wait, A: Allocator + Clone>(
 ) -> Option<u32>
     requires { CanNote seat.old }
     ensures some { IfSome result (λ f. StepsWith (Frame f) seat.old held.old seat.new held.new) }
+    ensures own { IfSome result (λ f. own ≡ Some f) }
     ensures none { result ≡ None → Stays seat.old held.old seat.new held.new }
 {
     let Some(place) = place_of(pieces, back) else {
@@ -147,6 +153,7 @@ fn fill_bytes<R: Wait, A: Allocator + Clone>(
     requires step { CanNote seat.old }
     requires count { count ≤ 2 ^ 40 }
     ensures some { IfSome result (λ f. StepsWith (Frame f) seat.old held.old seat.new held.new) }
+    ensures own { IfSome result (λ f. own ≡ Some f) }
     ensures none { result ≡ None → Stays seat.old held.old seat.new held.new }
 {
     let Some(number) = own else {
@@ -178,6 +185,7 @@ fn copy_shown<R: Wait, A: Allocator + Clone>(
 ) -> Option<u32>
     requires { CanNote seat.old }
     ensures some { IfSome result (λ f. StepsWith (Frame f) seat.old held.old seat.new held.new) }
+    ensures own { IfSome result (λ f. own ≡ Some f) }
     ensures none { result ≡ None → Stays seat.old held.old seat.new held.new }
 {
     let Some(number) = own else {
@@ -186,7 +194,7 @@ fn copy_shown<R: Wait, A: Allocator + Clone>(
     if !held.can_take(Act::Frame(number)) {
         return None;
     }
-    let Some(mut frames) = lock_these(rt, pieces, [own, Some(shown), None]) else {
+    let Some(mut frames) = lock_these(rt, pieces, &[own, Some(shown)]) else {
         return None;
     };
     let ticket = seat.step();
@@ -214,7 +222,7 @@ fn share<R: Wait, A: Allocator + Clone>(
     };
     let mut core = place.lock(rt);
     let evicted = core.counts.in_the_way(shown, 1);
-    let Some(mut frames) = lock_these(rt, pieces, [own, evicted, None]) else {
+    let Some(mut frames) = lock_these(rt, pieces, &[own, evicted]) else {
         return None;
     };
     if !frames.can_evict(&core, evicted) || !held.can_take(Act::Frame(shown)) {
@@ -222,9 +230,9 @@ fn share<R: Wait, A: Allocator + Clone>(
     }
     let epochs = pieces.epoch_for(rt, evicted);
     let ticket = seat.step();
-    frames.count(&mut core, shown, 1, number_of(&epochs));
+    let _is_counted = frames.count(&mut core, shown, 1, number_of(&epochs));
     if let Some(number) = own {
-        frames.give(number);
+        let _is_given = frames.give(number);
     }
     held.change_each(ticket, Act::Frame(shown));
     Some(shown)

@@ -1,5 +1,6 @@
 //! What lies under the locks of a space, and how it is lent to a step.
 ghost use Rattle.std.specs.Prelude.{◌≡◌, is_some};
+ghost use Rattle.live_pages.specs.Frames.{epoch_of};
 
 use backing::{CachedFrame, Objects};
 use crossbeam_utils::CachePadded;
@@ -55,7 +56,9 @@ impl<'a, A: Allocator + Clone> Pieces<'a, A> {
 }
 
 /// The number of an epoch that is locked; 0 where none is.
-pub fn number_of(epochs: &Option<MutexGuard<'_, Epochs>>) -> u64 {
+pub fn number_of(epochs: &Option<MutexGuard<'_, Epochs>>) -> u64
+    ensures { result ≡ epoch_of epochs.now }
+{
     match epochs {
         Some(epochs) => epochs.number(),
         None => 0,
