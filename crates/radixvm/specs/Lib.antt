@@ -1,3 +1,4 @@
+pub mod Echo
 pub mod Help
 pub mod Input
 pub mod Status

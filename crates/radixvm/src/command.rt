@@ -1,9 +1,11 @@
 //! The words of the command line, and what each does.
-ghost use Rattle.std.specs.Prelude.{◌≡◌, ◌≤◌, IfOk, Result};
+ghost use Rattle.std.specs.Prelude.{◌≡◌, ◌≤◌, Bool, IfOk, Result};
 ghost use Rattle.std.specs.Io.KnownBytes.{Appends};
+ghost use Rattle.radixvm.specs.Echo.{EchoEnds};
 ghost use Rattle.radixvm.specs.Help.{page_of};
 ghost use Rattle.radixvm.specs.Status.{status_of, words_status};
 ghost use Rattle.radixvm.specs.declared.help.Topic.{Topic};
+ghost use Rattle.radixvm.specs.declared.job.Shows.{Shows};
 ghost use Rattle.trace.specs.Ends.{Ends, TellsFaults};
 ghost use Rattle.trace.specs.declared.fault.TraceFault.{TraceFault};
 ghost use Rattle.trace_io.specs.Source.{Reads};
@@ -11,7 +13,7 @@ ghost use Rattle.trace_io.specs.Source.{Reads};
 use crate::help;
 use crate::help::Topic;
 use crate::input::{Files, input};
-use crate::job::{Shows, run, status_of_fault};
+use crate::job::{Shows, run, run_echoing, status_of_fault};
 use clap::error::ErrorKind;
 use clap::{Arg, ArgAction, ArgMatches, Command, Error};
 use std::alloc::{AllocError, Allocator, Global};
@@ -23,10 +25,19 @@ use trace::shown::Show;
 use trace_io::sink::{Sink, write_all};
 use trace_io::source::{Counted, Source};
 
-// A replay that is asked for.
+// What is to be done with a text.
+#[derive(Clone, Copy)]
+enum Work {
+    // A replay, which shows this.
+    Replay(Shows),
+    // A replay that shows each line beside its outcome.
+    Echo { explains: bool },
+}
+
+// What is asked for.
 #[derive(Clone, Copy)]
 struct Task<'a> {
-    shows: Shows,
+    work: Work,
     // The trace's file, where it isn't standard input.
     file: Option<&'a str>,
 }
@@ -40,29 +51,32 @@ enum Told {
     Page(Topic),
 }
 
+// A word that may stand or not.
+fn flag<'a>(alloc: Global, name: &'static str) -> Arg<'a> {
+    Arg::new(alloc, name).long(name).action(ArgAction::SetTrue)
+}
+
 // A word of the program that reads a trace.
 fn reading<'a>(
     alloc: Global,
     name: &'static str,
     usage: &'static str,
 ) -> Result<Command<'a>, AllocError> {
-    let explain = Arg::new(alloc, "explain")
-        .long("explain")
-        .action(ArgAction::SetTrue);
-    let file = Arg::new(alloc, "FILE");
     Command::new(alloc, name)
         .override_help(help::OVERVIEW)
         .override_usage(usage)
-        .arg(explain)?
-        .arg(file)
+        .arg(flag(alloc, "explain"))?
+        .arg(Arg::new(alloc, "FILE"))
 }
+
+const RUN_USAGE: &str = "radixvm run [--log | --echo] [--explain] [FILE]";
 
 // The program's words.
 fn grammar<'a>(alloc: Global) -> Result<Command<'a>, AllocError> {
-    let log = Arg::new(alloc, "log")
-        .long("log")
-        .action(ArgAction::SetTrue);
-    let run = reading(alloc, "run", "radixvm run [--log] [--explain] [FILE]")?.arg(log)?;
+    let echo = flag(alloc, "echo").conflicts_with("log")?;
+    let run = reading(alloc, "run", RUN_USAGE)?
+        .arg(flag(alloc, "log"))?
+        .arg(echo)?;
     let maps = reading(alloc, "maps", "radixvm maps [--explain] [FILE]")?;
     let topic = Arg::new(alloc, "TOPIC").value_parser(help::TOPICS);
     let help = Command::new(alloc, "help")
@@ -95,18 +109,30 @@ fn topic_named(name: Option<&str>) -> Topic {
 }
 
 // What these words of a word that reads a trace ask for.
-fn task_of<'a>(show: Show, words: &ArgMatches<'a>) -> Task<'a>
-    ensures { result.shows.show ≡ show }
+fn replaying<'a>(show: Show, words: &ArgMatches<'a>) -> Task<'a>
+    ensures { (shows : Shows) × (result.work ≡ Work.Replay shows) × (shows.show ≡ show) }
 {
     let explains = words.get_flag("explain");
     let file = words.get_str("FILE");
     Task {
-        shows: Shows { show, explains },
+        work: Work::Replay(Shows { show, explains }),
         file,
     }
 }
 
-// Parses the words: the replay, or the page of the help, that they ask for.
+// A replay that shows lines beside their outcomes.
+fn echoing<'a>(words: &ArgMatches<'a>) -> Task<'a>
+    ensures { (explains : Bool) × (result.work ≡ Work.Echo explains) }
+{
+    let explains = words.get_flag("explain");
+    let file = words.get_str("FILE");
+    Task {
+        work: Work::Echo { explains },
+        file,
+    }
+}
+
+// Parses the words: what they ask for, or the page of the help.
 fn matched<'a, A: Allocator>(
     alloc: Global,
     words: &'a [String<A>],
@@ -114,9 +140,10 @@ fn matched<'a, A: Allocator>(
     let program = grammar(alloc)?;
     let matches = program.try_get_matches_from(words)?;
     match matches.subcommand() {
-        Some(("run", run)) if run.get_flag("log") => Ok(Ok(task_of(Show::OutcomesAndLog, run))),
-        Some(("run", run)) => Ok(Ok(task_of(Show::Outcomes, run))),
-        Some(("maps", maps)) => Ok(Ok(task_of(Show::Maps, maps))),
+        Some(("run", run)) if run.get_flag("log") => Ok(Ok(replaying(Show::OutcomesAndLog, run))),
+        Some(("run", run)) if run.get_flag("echo") => Ok(Ok(echoing(run))),
+        Some(("run", run)) => Ok(Ok(replaying(Show::Outcomes, run))),
+        Some(("maps", maps)) => Ok(Ok(replaying(Show::Maps, maps))),
         Some((_, help)) => Ok(Err(topic_named(help.get_str("TOPIC")))),
         None => Ok(Err(Topic::Overview)),
     }
@@ -216,7 +243,7 @@ fn refuse_file<E: Write>(errors: &mut E) -> u8
     status_of_fault(fault)
 }
 
-// Does what the parsed words ask for: where they ask for a replay, that replay, with its status.
+// Does what the parsed words ask for, a replay, or one that shows its lines, with its status.
 fn act<S: Source, W: Sink, E: Write>(
     alloc: Global,
     parsed: Result<Task<'_>, Told>,
@@ -224,15 +251,25 @@ fn act<S: Source, W: Sink, E: Write>(
     out: &mut W,
     errors: &mut E,
 ) -> u8
-    ensures ran { IfOk parsed.entry (λ task. (r : Result Unit TraceFault) × (result ≡ status_of r)
+    ensures ran { IfOk parsed.entry (λ task. (shows : Shows) → task.work ≡ Work.Replay shows
+        → (r : Result Unit TraceFault) × (result ≡ status_of r)
         × Reads (S.stream reader.old) (S.stream reader.new)
-        (λ input unread. Ends task.shows.show input unread (W.contents out.old) (W.contents out.new) r)
+        (λ input unread. Ends shows.show input unread (W.contents out.old) (W.contents out.new) r)
+        × TellsFaults r (S.failed reader.new) (S.reads reader.new)
+        (W.failed out.old) (W.failed out.new) (W.is_flushed out.new)) }
+    ensures echoed { IfOk parsed.entry (λ task. (explains : Bool) → task.work ≡ Work.Echo explains
+        → (r : Result Unit TraceFault) × (result ≡ status_of r)
+        × Reads (S.stream reader.old) (S.stream reader.new)
+        (λ input unread. EchoEnds input (W.contents out.old) (W.contents out.new) r)
         × TellsFaults r (S.failed reader.new) (S.reads reader.new)
         (W.failed out.old) (W.failed out.new) (W.is_flushed out.new)) }
     ensures within { result ≤ 3 }
 {
     match parsed {
-        Ok(task) => run(alloc, reader, out, errors, task.shows),
+        Ok(task) => match task.work {
+            Work::Replay(shows) => run(alloc, reader, out, errors, shows),
+            Work::Echo { explains } => run_echoing(alloc, reader, out, errors, explains),
+        },
         Err(told) => tell(alloc, &told, out, errors),
     }
 }

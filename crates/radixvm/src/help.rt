@@ -7,7 +7,7 @@ ghost use Rattle.radixvm.specs.Help.{page_of};
 pub const VERSION: &str = "0.1.0";
 
 /// How the words go together.
-pub const USAGE: &str = "radixvm run [--log] [--explain] [FILE]
+pub const USAGE: &str = "radixvm run [--log | --echo] [--explain] [FILE]
        radixvm maps [--explain] [FILE]
        radixvm help [TOPIC]";
 
@@ -16,7 +16,7 @@ pub const OVERVIEW: &str = "\
 One virtual address space with mmap, munmap and mprotect, shared by 1 to 64
 modelled cores, and replayed from a text, a trace, step by step.
 
-Usage: radixvm run [--log] [--explain] [FILE]
+Usage: radixvm run [--log | --echo] [--explain] [FILE]
        radixvm maps [--explain] [FILE]
        radixvm help [TOPIC]
 
@@ -24,6 +24,8 @@ Words:
   run            reads a trace, and writes a line for each line of an event: the
                  reply of a call, or what became of a step
   run --log      writes the log behind these lines: when each call had its reply
+  run --echo     writes LINE = OUTCOME for a line of an event, and copies vm and
+                 file lines
   maps           writes the mappings at the trace's end, and nothing else
   FILE           the file of the trace; without it, or for -, standard input
   --explain      shows under a fault the line, the word, and what was expected
@@ -83,7 +85,7 @@ An event is one of these, on core C: c0, c1 and so on up to one below CORES.
 REQ is one of these.
 
   mmap ADDR LEN PROT FLAGS [FILE OFF]
-  munmap ADDR LEN
+  munmap ADDR LEN          also of pages that aren't mapped
   mprotect ADDR LEN PROT
   load ADDR                reads a byte
   store ADDR BYTE          writes it
@@ -93,7 +95,7 @@ PROT is rwx, with - in place of each right that isn't given: rw-, r--, ---.
 FLAGS is - or these letters, each at most once, in any order:
   p  private and s shared: mmap needs just one of the two
   f  fixed: the mapping is at ADDR, and takes the place of others there
-  a  anonymous: bytes of zero, and no file
+  a  anonymous: bytes of zero, and no file; p and s are alike there
 FILE is the number of a file, OFF where the mapping begins in it. They may be
 left out where FLAGS has a, which doesn't look at them.
 

@@ -1,10 +1,12 @@
 //! What the program does once its words are read.
 ghost use Rattle.std.specs.Prelude.{◌≡◌, ◌≤◌, Result};
+ghost use Rattle.radixvm.specs.Echo.{EchoEnds};
 ghost use Rattle.radixvm.specs.Status.{fault_status, status_of};
 ghost use Rattle.trace.specs.Ends.{Ends, TellsFaults};
 ghost use Rattle.trace.specs.declared.fault.TraceFault.{TraceFault};
 ghost use Rattle.trace_io.specs.Source.{Reads};
 
+use crate::echo::replay_echoing;
 use crate::explain::explain;
 use core_steps::SetupFault;
 use std::alloc::Allocator;
@@ -72,4 +74,24 @@ pub fn run<A: Allocator + Clone + Drop, S: Source, W: Sink, E: Write>(
 {
     let replayed = replay_telling(alloc, reader, out, shows.show);
     tell_end(&replayed, shows.explains, errors)
+}
+
+/// As `run`, of outcomes, and shows each line of an event beside its outcome, with the `vm` and
+/// `file` lines.
+pub fn run_echoing<A: Allocator + Clone + Drop, S: Source, W: Sink, E: Write>(
+    alloc: A,
+    reader: &mut S,
+    out: &mut W,
+    errors: &mut E,
+    explains: bool,
+) -> u8
+    ensures ends { (r : Result Unit TraceFault) × (result ≡ status_of r)
+        × Reads (S.stream reader.old) (S.stream reader.new)
+        (λ input unread. EchoEnds input (W.contents out.old) (W.contents out.new) r)
+        × TellsFaults r (S.failed reader.new) (S.reads reader.new)
+        (W.failed out.old) (W.failed out.new) (W.is_flushed out.new) }
+    ensures within { result ≤ 3 }
+{
+    let replayed = replay_echoing(alloc, reader, out);
+    tell_end(&replayed, explains, errors)
 }

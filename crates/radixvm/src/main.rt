@@ -2,6 +2,7 @@
 #![tactic(auto)]
 
 mod command;
+mod echo;
 mod explain;
 #[cfg(test)]
 mod explain_tests;

@@ -464,6 +464,7 @@ fn bad_words(rt: HostRuntime) {
     assert!(rt; are_refused(rt.alloc(), &[b"radixvm", b"--frob"]));
     assert!(rt; are_refused(rt.alloc(), &[b"radixvm", b"run", b"now", b"then"]));
     assert!(rt; are_refused(rt.alloc(), &[b"radixvm", b"maps", b"--log"]));
+    assert!(rt; are_refused(rt.alloc(), &[b"radixvm", b"run", b"--log", b"--echo"]));
     assert!(rt; are_refused(rt.alloc(), &[b"radixvm", b"--log", b"run"]));
     assert!(rt; are_refused(rt.alloc(), &[b"radixvm", b"run", b"\xff"]));
     let words = [b"radixvm".as_slice(), b"\xff".as_slice()];
@@ -573,5 +574,74 @@ fn faults_explained(rt: HostRuntime) {
             AMPLE,
             (idle, b"", 0)
         )
+    );
+}
+
+const ECHOED: &[&[u8]] = &[b"radixvm", b"run", b"--echo"];
+
+// A line of an event stands beside its outcome; lines of a space and of files are copied, and lines that say nothing aren't shown.
+#[test]
+fn lines_beside_their_outcomes(rt: HostRuntime) {
+    for (input, output) in [
+        (
+            STORED,
+            b"vm 1 4\nc0! mmap 0x10000 4096 rw- pfa = 0x10000\nc0! store 0x10004 41 = done\nc0! load 0x10004 = 41\nc0! load 0x10005 = 0\n".as_slice(),
+        ),
+        (
+            b"# of one file\n\n vm  1 4\nfile 0 r 10 7\n#\nc0  call load 0x0\nc0 go\nfold 0\nc0 finish\n".as_slice(),
+            b" vm  1 4\nfile 0 r 10 7\nc0  call load 0x0 = step\nc0 go = step\nfold 0 = idle\nc0 finish = segv maperr\n".as_slice(),
+        ),
+        (b"vm 1 0".as_slice(), b"vm 1 0\n".as_slice()),
+    ] {
+        assert!(rt; comes_to(rt.alloc(), ECHOED, input, AMPLE, (output, b"", 0)));
+    }
+}
+
+// What was shown before a fault has gone out; the fault is told as ever.
+#[test]
+fn faults_of_shown_lines(rt: HostRuntime) {
+    for (input, output, fault, status) in [
+        (
+            b"".as_slice(),
+            b"".as_slice(),
+            b"radixvm: no vm line first\n".as_slice(),
+            2,
+        ),
+        (b"vm 0 4\n", b"vm 0 4\n", b"radixvm: setup S1\n", 2),
+        (
+            b"vm 1 4\nc0! load 0\nc0! frob\n",
+            b"vm 1 4\nc0! load 0 = segv maperr\n",
+            b"radixvm: line 3: bad line\n",
+            2,
+        ),
+    ] {
+        assert!(rt; comes_to(rt.alloc(), ECHOED, input, AMPLE, (output, fault, status)));
+    }
+    let reads = Limits { reads: 50, ..AMPLE };
+    let shown = b"vm 1 4\nc0! mmap 0x10000 4096 rw- pfa = 0x10000\n".as_slice();
+    let unread = (shown, b"radixvm: read failed\n".as_slice(), 3);
+    assert!(rt; comes_to(rt.alloc(), ECHOED, STORED, reads, unread));
+    let writes = Limits { writes: 2, ..AMPLE };
+    let unwritten = (shown, b"radixvm: write failed\n".as_slice(), 3);
+    assert!(rt; comes_to(rt.alloc(), ECHOED, STORED, writes, unwritten));
+    let closed = Limits {
+        is_closed: true,
+        ..AMPLE
+    };
+    let unsent = (b"".as_slice(), b"radixvm: write failed\n".as_slice(), 3);
+    assert!(rt; comes_to(rt.alloc(), ECHOED, b"vm 1 4\n", closed, unsent));
+}
+
+// A line of 256 bytes is shown with its outcome behind it.
+#[test]
+fn a_long_line_is_shown(rt: HostRuntime) {
+    let mut input = Vec::new(rt.alloc());
+    assert!(rt; input.extend_from_slice(b"vm 1 4\nc0 go").is_ok());
+    for _space in 0..251 {
+        assert!(rt; input.push(b' ').is_ok());
+    }
+    let ran = run_words(rt.alloc(), &rt.alloc(), ECHOED, &input, AMPLE);
+    assert!(rt;
+        ran.out.starts_with(&input) && ran.out.ends_with(b"  = idle\n") && ran.out.len() == 271
     );
 }
