@@ -24,6 +24,7 @@ impl<A: Allocator + Clone> Live<A> {
     /// waits for nobody. After a fault nothing was begun.
     pub fn trim<R>(&mut self, _rt: &R, seat: &mut Seat<A>, page: u64) -> Result<bool, LiveFault>
         requires { IsOf self.old seat.old }
+        ensures own { IsOf self.new seat.new }
         ensures noted { IfOk result
             (λ is_noted. NotesOneIf (EventOf.Fold page) seat.old is_noted seat.new) }
         ensures fault { IfErr result (LacksRoom 1 seat.old) }
