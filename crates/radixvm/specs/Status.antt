@@ -1,5 +1,5 @@
 -- The status that the program ends with.
-use Rattle.std.specs.Prelude.{ℕ, Result, Ok, Err}
+use Rattle.std.specs.Prelude.{ℕ, Bool, true, false, Result, Ok, Err}
 use Rattle.core_steps.specs.declared.setup.SetupFault.TheVariants as Of
 use Rattle.radixvm.specs.declared.command.WordsFault.{WordsFault}
 use Rattle.radixvm.specs.declared.command.WordsFault.TheVariants as OutOf
@@ -26,6 +26,12 @@ fault_status WriteFailed = 3
 abbrev pub status_of : {T : Type 0} → Result T TraceFault → ℕ
 status_of (Ok x) = 0
 status_of (Err f) = fault_status f
+
+-- of notes: 0 where they are certified, 1 where they are refused
+abbrev pub certified_status : Result Bool TraceFault → ℕ
+certified_status (Ok true) = 0
+certified_status (Ok false) = 1
+certified_status (Err f) = fault_status f
 
 -- the same of words that can't be read
 abbrev pub words_status : WordsFault → ℕ

@@ -1,21 +1,25 @@
 //! The words of the command line, and what each does.
 ghost use Rattle.std.specs.Prelude.{◌≡◌, ◌≤◌, Bool, IfOk, Result};
 ghost use Rattle.std.specs.Io.KnownBytes.{Appends};
+ghost use Rattle.notes_text.specs.CertifyEnds.{Certifies};
 ghost use Rattle.radixvm.specs.Echo.{EchoEnds};
 ghost use Rattle.radixvm.specs.Help.{page_of};
-ghost use Rattle.radixvm.specs.Status.{status_of, words_status};
+ghost use Rattle.radixvm.specs.Status.{certified_status, status_of, words_status};
 ghost use Rattle.radixvm.specs.declared.help.Topic.{Topic};
 ghost use Rattle.radixvm.specs.declared.job.Shows.{Shows};
 ghost use Rattle.trace.specs.Ends.{Ends, TellsFaults};
 ghost use Rattle.trace.specs.declared.fault.TraceFault.{TraceFault};
 ghost use Rattle.trace_io.specs.Source.{Reads};
 
+use crate::certifying::certify;
 use crate::help;
 use crate::help::Topic;
 use crate::input::{Files, input};
 use crate::job::{Shows, run, run_echoing, status_of_fault};
 use clap::error::ErrorKind;
 use clap::{Arg, ArgAction, ArgMatches, Command, Error};
+use radix_range::RadixMap;
+use slot_lock::SlotMap;
 use std::alloc::{AllocError, Allocator, Global};
 use std::env::Env;
 use std::io::{Read, Write};
@@ -32,17 +36,19 @@ enum Work {
     Replay(Shows),
     // A replay that shows each line beside its outcome.
     Echo { explains: bool },
+    // The certificate of notes.
+    Certify,
 }
 
 // What is asked for.
 #[derive(Clone, Copy)]
 struct Task<'a> {
     work: Work,
-    // The trace's file, where it isn't standard input.
+    // The text's file, where it isn't standard input.
     file: Option<&'a str>,
 }
 
-// What is printed in place of a replay.
+// What is printed in its place.
 #[derive(Drop)]
 enum Told {
     // Why the words are wrong, or what they ask for of the parser's own texts.
@@ -56,7 +62,7 @@ fn flag<'a>(alloc: Global, name: &'static str) -> Arg<'a> {
     Arg::new(alloc, name).long(name).action(ArgAction::SetTrue)
 }
 
-// A word of the program that reads a trace.
+// A word of the program that reads a text.
 fn reading<'a>(
     alloc: Global,
     name: &'static str,
@@ -65,7 +71,6 @@ fn reading<'a>(
     Command::new(alloc, name)
         .override_help(help::OVERVIEW)
         .override_usage(usage)
-        .arg(flag(alloc, "explain"))?
         .arg(Arg::new(alloc, "FILE"))
 }
 
@@ -76,8 +81,11 @@ fn grammar<'a>(alloc: Global) -> Result<Command<'a>, AllocError> {
     let echo = flag(alloc, "echo").conflicts_with("log")?;
     let run = reading(alloc, "run", RUN_USAGE)?
         .arg(flag(alloc, "log"))?
-        .arg(echo)?;
-    let maps = reading(alloc, "maps", "radixvm maps [--explain] [FILE]")?;
+        .arg(echo)?
+        .arg(flag(alloc, "explain"))?;
+    let explain = flag(alloc, "explain");
+    let maps = reading(alloc, "maps", "radixvm maps [--explain] [FILE]")?.arg(explain)?;
+    let certify = reading(alloc, "certify", "radixvm certify [FILE]")?;
     let topic = Arg::new(alloc, "TOPIC").value_parser(help::TOPICS);
     let help = Command::new(alloc, "help")
         .override_help(help::OVERVIEW)
@@ -91,6 +99,7 @@ fn grammar<'a>(alloc: Global) -> Result<Command<'a>, AllocError> {
         .subcommand_required(true)
         .subcommand(run)?
         .subcommand(maps)?
+        .subcommand(certify)?
         .subcommand(help)?;
     Ok(program)
 }
@@ -104,6 +113,7 @@ fn topic_named(name: Option<&str>) -> Topic {
         Some("maps") => Topic::Maps,
         Some("faults") => Topic::Faults,
         Some("cores") => Topic::Cores,
+        Some("notes") => Topic::Notes,
         _ => Topic::Overview,
     }
 }
@@ -132,6 +142,16 @@ fn echoing<'a>(words: &ArgMatches<'a>) -> Task<'a>
     }
 }
 
+// A certificate.
+fn certifying<'a>(words: &ArgMatches<'a>) -> Task<'a>
+    ensures { result.work ≡ Work.Certify }
+{
+    Task {
+        work: Work::Certify,
+        file: words.get_str("FILE"),
+    }
+}
+
 // Parses the words: what they ask for, or the page of the help.
 fn matched<'a, A: Allocator>(
     alloc: Global,
@@ -144,12 +164,13 @@ fn matched<'a, A: Allocator>(
         Some(("run", run)) if run.get_flag("echo") => Ok(Ok(echoing(run))),
         Some(("run", run)) => Ok(Ok(replaying(Show::Outcomes, run))),
         Some(("maps", maps)) => Ok(Ok(replaying(Show::Maps, maps))),
+        Some(("certify", certify)) => Ok(Ok(certifying(certify))),
         Some((_, help)) => Ok(Err(topic_named(help.get_str("TOPIC")))),
         None => Ok(Err(Topic::Overview)),
     }
 }
 
-// Parses the words: the replay that they ask for, or what is printed in its place.
+// Parses the words: what they ask for, or what is printed in its place.
 fn parse<'a, A: Allocator>(alloc: Global, words: &'a [String<A>]) -> Result<Task<'a>, Told> {
     match matched(alloc, words) {
         Ok(Ok(task)) => Ok(task),
@@ -214,7 +235,7 @@ fn tell_words<W: Sink, E: Write>(alloc: Global, error: &Error, out: &mut W, erro
     }
 }
 
-// Prints what is told in place of a replay, and answers the status.
+// Prints what is told in place of what is asked for, and answers the status.
 fn tell<W: Sink, E: Write>(alloc: Global, told: &Told, out: &mut W, errors: &mut E) -> u8
     ensures page { (topic : Topic) → told.now ≡ Told.Page topic → result ≡ 0
         → Appends (W.contents out.old) (W.contents out.new) (page_of topic) }
@@ -226,7 +247,7 @@ fn tell<W: Sink, E: Write>(alloc: Global, told: &Told, out: &mut W, errors: &mut
     }
 }
 
-// The trace's file, where the words name one.
+// The text's file, where the words name one.
 fn file_of<'a>(parsed: &Result<Task<'a>, Told>) -> Option<&'a str> {
     match parsed {
         Ok(task) => task.file,
@@ -234,7 +255,7 @@ fn file_of<'a>(parsed: &Result<Task<'a>, Told>) -> Option<&'a str> {
     }
 }
 
-// Tells that the trace's file can't be opened, and answers the status.
+// Tells that the text's file can't be opened, and answers the status.
 fn refuse_file<E: Write>(errors: &mut E) -> u8
     ensures { result ≡ 3 }
 {
@@ -243,7 +264,7 @@ fn refuse_file<E: Write>(errors: &mut E) -> u8
     status_of_fault(fault)
 }
 
-// Does what the parsed words ask for, a replay, or one that shows its lines, with its status.
+// Does what the parsed words ask for, a replay, one with its lines, or a certificate, with its status.
 fn act<S: Source, W: Sink, E: Write>(
     alloc: Global,
     parsed: Result<Task<'_>, Told>,
@@ -263,21 +284,30 @@ fn act<S: Source, W: Sink, E: Write>(
         (λ input unread. EchoEnds input (W.contents out.old) (W.contents out.new) r)
         × TellsFaults r (S.failed reader.new) (S.reads reader.new)
         (W.failed out.old) (W.failed out.new) (W.is_flushed out.new)) }
+    ensures certified { IfOk parsed.entry (λ task. task.work ≡ Work.Certify
+        → (r : Result Bool TraceFault) × (result ≡ certified_status r)
+        × Reads (S.stream reader.old) (S.stream reader.new) (λ input unread. Certifies Global
+        ⟦<RadixMap<Global> as SlotMap>⟧.parts ⟦<RadixMap<Global> as SlotMap>⟧.can_fold
+        ⟦<RadixMap<Global> as SlotMap>⟧.folds input unread (W.contents out.old) (W.contents out.new) r)
+        × TellsFaults r (S.failed reader.new) (S.reads reader.new)
+        (W.failed out.old) (W.failed out.new) (W.is_flushed out.new)) }
     ensures within { result ≤ 3 }
 {
     match parsed {
         Ok(task) => match task.work {
             Work::Replay(shows) => run(alloc, reader, out, errors, shows),
             Work::Echo { explains } => run_echoing(alloc, reader, out, errors, explains),
+            Work::Certify => certify(alloc, reader, out, errors),
         },
         Err(told) => tell(alloc, &told, out, errors),
     }
 }
 
-/// Does what the words say, the program's name first, and answers the status: 0; 2 for a
-/// fault of the words or of the text; 3 where reading, writing or memory failed. A fault
-/// is printed on `errors` as `radixvm: ` and its text. The trace is what the named file gives, or
-/// `standard` where none is named, or `-`; a file that can't be opened is a read that failed.
+/// Does what the words say, the program's name first, and answers the status: 0; 1 for notes
+/// that are refused; 2 for a fault of the words or of the text; 3 where reading, writing or memory
+/// failed. A fault is printed on `errors` as `radixvm: ` and its text. The text is what the named
+/// file gives, or `standard` where none is named, or `-`; a file that can't be opened is a read
+/// that failed.
 pub fn command<A: Allocator, I: Read + Drop, F: Files, W: Sink, E: Write>(
     alloc: Global,
     words: &[String<A>],

@@ -9,6 +9,7 @@ pub const VERSION: &str = "0.1.0";
 /// How the words go together.
 pub const USAGE: &str = "radixvm run [--log | --echo] [--explain] [FILE]
        radixvm maps [--explain] [FILE]
+       radixvm certify [FILE]
        radixvm help [TOPIC]";
 
 /// What the program is for, its words, and where to read on.
@@ -18,6 +19,7 @@ modelled cores, and replayed from a text, a trace, step by step.
 
 Usage: radixvm run [--log | --echo] [--explain] [FILE]
        radixvm maps [--explain] [FILE]
+       radixvm certify [FILE]
        radixvm help [TOPIC]
 
 Words:
@@ -27,7 +29,9 @@ Words:
   run --echo     writes LINE = OUTCOME for a line of an event, and copies vm and
                  file lines
   maps           writes the mappings at the trace's end, and nothing else
-  FILE           the file of the trace; without it, or for -, standard input
+  certify        reads notes, steps with what each came to, and says whether
+                 they are a run of the machine
+  FILE           the file that is read; without it, or for -, standard input
   --explain      shows under a fault the line, the word, and what was expected
   help           writes this text
   help TOPIC     explains one of these:
@@ -38,6 +42,7 @@ Words:
     maps         the lines of maps
     faults       what ends a replay early, and the program's status
     cores        tables, TLBs, locks, shootdown, and how frames come back
+    notes        the lines that certify reads, and the line that it writes
   -h, --help     writes this text
   -V, --version  writes the version
 
@@ -239,7 +244,8 @@ or c64 for a core; a second vm line. A core that the vm line doesn't give is
 no bad line: it reads idle.
 
 Status: 0; 2 for a bad text or bad words; 3 where reading, writing or memory
-failed, setup S6 included.
+failed, setup S6 included. certify has these faults, too, and status 1 for notes
+that it refuses.
 ";
 
 /// What a newcomer to the model needs of cores.
@@ -280,6 +286,36 @@ another core maps there meanwhile sends it back, once, to lock all of its
 window.
 ";
 
+/// What `certify` reads and writes.
+pub const NOTES: &str = "\
+Notes say which steps were made, in which order, and what each came to: those of
+several cores may have been noted side by side. They begin as a trace does, with
+a vm line, here always with CALLS, and a line for each file. Each note is
+
+  TICKET EVENT = OUTCOME
+
+TICKET is the step's place in the order of all steps, from 0 on. EVENT is an
+event of help trace of one step: not cC!, and not cC finish. OUTCOME is what
+help outcomes says, but not stuck. Notes may stand in any order.
+
+certify gives the events to the machine in order of tickets, and writes a line:
+
+  certified CALLS    they are a run of it with just these outcomes, in which so
+                     many calls were answered; what holds of all runs holds here
+  refused C1 TICKET  of the tickets below the number of notes, this is the least
+                     that doesn't stand once
+  refused C2 TICKET: noted OUTCOME, expected OUTCOME
+                     the first step that comes to something else
+
+Example, a call and its two steps:
+  printf '%s\\n' 'vm 1 1 4' '0 c0 call load 0x0 = step' '1 c0 go = step' \\
+    '2 c0 go = segv maperr' | radixvm certify
+writes certified 1.
+
+Status: 0 where they are certified, 1 where they are refused. A fault is told as
+help faults says, and then nothing is written.
+";
+
 /// What help may explain.
 #[derive(Clone, Copy, Debug, PartialEq, Eq)]
 pub enum Topic {
@@ -297,10 +333,14 @@ pub enum Topic {
     Faults,
     /// Tables, TLBs, locks, shootdown, and how frames come back.
     Cores,
+    /// What `certify` reads and writes.
+    Notes,
 }
 
 /// The names of the topics, as the program's words have them.
-pub const TOPICS: &[&str] = &["trace", "outcomes", "log", "maps", "faults", "cores"];
+pub const TOPICS: &[&str] = &[
+    "trace", "outcomes", "log", "maps", "faults", "cores", "notes",
+];
 
 /// The topic's text.
 pub fn page(topic: Topic) -> &'static str
@@ -314,5 +354,6 @@ pub fn page(topic: Topic) -> &'static str
         Topic::Maps => MAPS,
         Topic::Faults => FAULTS,
         Topic::Cores => CORES,
+        Topic::Notes => NOTES,
     }
 }

@@ -1,6 +1,9 @@
-//! The program: a trace is replayed, and what it gives goes to standard output.
+//! The program: a trace is replayed, or notes are certified, and what that gives goes to standard output.
 #![tactic(auto)]
 
+#[cfg(test)]
+mod certify_tests;
+mod certifying;
 mod command;
 mod echo;
 mod explain;

@@ -15,9 +15,9 @@ use trace::shown::Show;
 use trace_io::sink::Noted;
 use trace_io::source::Counted;
 
-// Gives one byte a read, and fails at a read.
+/// Gives one byte a read, and fails at a read.
 #[derive(Drop)]
-struct Dripping<'a> {
+pub struct Dripping<'a> {
     bytes: &'a [u8],
     reads: u64,
     fails_at: u64,
@@ -41,10 +41,10 @@ impl Read for Dripping<'_> {
     }
 }
 
-// Holds what it was given, and from a write on fails or takes no byte. A flush may fail too.
+/// Holds what it was given, and from a write on fails or takes no byte. A flush may fail too.
 #[derive(Drop)]
-struct Filling {
-    held: Vec<u8>,
+pub struct Filling {
+    pub held: Vec<u8>,
     writes: u64,
     full_at: u64,
     fails: bool,
@@ -122,30 +122,37 @@ impl<'a> Files for Shelf<'a> {
     }
 }
 
-// What the program wrote on both outputs, and its status.
+/// What the program wrote on both outputs, and its status.
 #[derive(Drop)]
-struct Ran {
-    out: Vec<u8>,
-    errors: Vec<u8>,
-    status: u8,
+pub struct Ran {
+    pub out: Vec<u8>,
+    pub errors: Vec<u8>,
+    pub status: u8,
 }
 
+/// At which read and write the streams fail.
 #[derive(Clone, Copy)]
-struct Limits {
-    reads: u64,
-    writes: u64,
-    fails: bool,
-    is_closed: bool,
+pub struct Limits {
+    /// So many reads give a byte each, or the end.
+    pub reads: u64,
+    /// So many writes are taken.
+    pub writes: u64,
+    /// The write behind them fails; else it takes no byte.
+    pub fails: bool,
+    /// A flush fails.
+    pub is_closed: bool,
 }
 
-const AMPLE: Limits = Limits {
+/// Streams that don't fail.
+pub const AMPLE: Limits = Limits {
     reads: 1_000_000,
     writes: 1_000_000,
     fails: true,
     is_closed: false,
 };
 
-fn dripping_of(input: &[u8], limits: Limits) -> Dripping<'_> {
+/// A reader of these bytes.
+pub fn dripping_of(input: &[u8], limits: Limits) -> Dripping<'_> {
     Dripping {
         bytes: input,
         reads: 0,
@@ -153,7 +160,8 @@ fn dripping_of(input: &[u8], limits: Limits) -> Dripping<'_> {
     }
 }
 
-fn sink_of(alloc: Global, limits: Limits) -> Noted<Filling, Global> {
+/// A writer without a buffer, which holds what it took.
+pub fn sink_of(alloc: Global, limits: Limits) -> Noted<Filling, Global> {
     let filling = Filling {
         held: Vec::new(alloc),
         writes: 0,
@@ -164,8 +172,8 @@ fn sink_of(alloc: Global, limits: Limits) -> Noted<Filling, Global> {
     Noted::unbuffered(alloc, filling)
 }
 
-// The whole program, but for `main` itself, which hands it the system's input and outputs.
-fn run_words<A: Allocator>(
+/// The whole program, but for `main` itself, which hands it the system's input and outputs.
+pub fn run_words<A: Allocator>(
     alloc: Global,
     for_words: &A,
     words: &[&[u8]],
@@ -196,11 +204,11 @@ fn run_words<A: Allocator>(
     }
 }
 
-// What the program came to, in the order of `Ran`.
-type Came<'a> = (&'a [u8], &'a [u8], u8);
+/// What the program came to, in the order of `Ran`.
+pub type Came<'a> = (&'a [u8], &'a [u8], u8);
 
-// Whether the program with these words comes to this.
-fn comes_to(
+/// Whether the program with these words comes to this.
+pub fn comes_to(
     alloc: Global,
     words: &[&[u8]],
     input: &[u8],
@@ -319,6 +327,7 @@ fn tells_of_flush(alloc: Global, word: &[u8]) -> bool {
 fn a_failing_flush_is_a_fault(rt: HostRuntime) {
     for word in [
         b"run".as_slice(),
+        b"certify".as_slice(),
         b"--help".as_slice(),
         b"--version".as_slice(),
     ] {
@@ -371,6 +380,11 @@ const PAGES: &[(&str, &str, &[&str])] = &[
     ("maps", help::MAPS, &["START-END PROT BACK"]),
     ("faults", help::FAULTS, &["line N: too long", "setup S5"]),
     ("cores", help::CORES, &["TLB of 64", "epoch"]),
+    (
+        "notes",
+        help::NOTES,
+        &["TICKET EVENT = OUTCOME", "refused C1"],
+    ),
 ];
 
 fn has_all(page: &str, parts: &[&str]) -> bool {
@@ -411,6 +425,7 @@ fn help_fits_into_eighty_columns(rt: HostRuntime) {
         help::MAPS,
         help::FAULTS,
         help::CORES,
+        help::NOTES,
     ] {
         assert!(rt; is_narrow(page));
     }
@@ -442,7 +457,7 @@ fn wrong_words_are_told_the_right_ones(rt: HostRuntime) {
         is_told(
             rt.alloc(),
             &topic,
-            "trace, outcomes, log, maps, faults, cores"
+            "trace, outcomes, log, maps, faults, cores, notes"
         )
     );
 }
@@ -465,6 +480,7 @@ fn bad_words(rt: HostRuntime) {
     assert!(rt; are_refused(rt.alloc(), &[b"radixvm", b"run", b"now", b"then"]));
     assert!(rt; are_refused(rt.alloc(), &[b"radixvm", b"maps", b"--log"]));
     assert!(rt; are_refused(rt.alloc(), &[b"radixvm", b"run", b"--log", b"--echo"]));
+    assert!(rt; are_refused(rt.alloc(), &[b"radixvm", b"certify", b"--explain"]));
     assert!(rt; are_refused(rt.alloc(), &[b"radixvm", b"--log", b"run"]));
     assert!(rt; are_refused(rt.alloc(), &[b"radixvm", b"run", b"\xff"]));
     let words = [b"radixvm".as_slice(), b"\xff".as_slice()];
