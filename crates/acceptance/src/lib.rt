@@ -3,7 +3,7 @@
 //! traces, `log_tests` replays a log, and `stream_tests` has reads and writes that fail. `in_one_run` gives a trace's events to
 //! `run`, `run_tests` has whole lists of events and heaps that are too small, and `replay_tests` the
 //! texts of outcomes and a replay's flushes. `certify_tests` has notes of steps
-//! (`noting` writes them down), and `history_tests` histories of slots beside them.
+//! (`noting` writes them down), `history_tests` histories of slots beside them, and `notes_text_tests` scripts and notes as text.
 #![tactic(auto)]
 
 #[cfg(test)]
@@ -18,6 +18,8 @@ mod in_one_run;
 mod log_tests;
 #[cfg(test)]
 mod machines;
+#[cfg(test)]
+mod notes_text_tests;
 #[cfg(test)]
 mod noting;
 #[cfg(test)]
