@@ -227,6 +227,37 @@ fn notes_of_many_bytes(rt: HostRuntime) {
     assert!(rt; wide_note_comes_to(rt.alloc(), 257, long));
 }
 
+// Notes that are cut off: from so many bytes up to so many, and what comes of them.
+const CUTS: &[(usize, usize, &[u8], &[u8], u8)] = &[
+    (0, 1, b"", b"radixvm: no vm line first\n", 2),
+    (2, 7, b"", b"radixvm: line 1: bad line\n", 2),
+    (8, 12, b"certified 0\n", b"", 0),
+    (13, 36, b"", b"radixvm: line 2: bad line\n", 2),
+    (37, 38, b"certified 0\n", b"", 0),
+    (39, 51, b"", b"radixvm: line 3: bad line\n", 2),
+    (52, 53, b"certified 0\n", b"", 0),
+    (54, 73, b"", b"radixvm: line 4: bad line\n", 2),
+    (74, 75, b"certified 1\n", b"", 0),
+];
+
+// Whether so many bytes of the notes come to this.
+fn cut_comes_to(alloc: Global, cut: usize, came: (&[u8], &[u8], u8)) -> bool {
+    match NOTES.get(..cut) {
+        Some(notes) => comes_to(alloc, CERTIFY, notes, AMPLE, came),
+        None => false,
+    }
+}
+
+#[test]
+fn notes_cut_at_every_byte(rt: HostRuntime) {
+    assert!(rt; NOTES.len() == 75);
+    for (first, last, out, errors, status) in CUTS {
+        for cut in *first..=*last {
+            assert!(rt; cut_comes_to(rt.alloc(), cut, (out, errors, *status)));
+        }
+    }
+}
+
 // Each read that fails is told, and nothing is written.
 #[test]
 fn notes_unread(rt: HostRuntime) {
