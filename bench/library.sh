@@ -1,0 +1,15 @@
+#!/usr/bin/env bash
+# Measures calls through the library for C beside the plain machine of bench/baseline.rs, called as a function: nanoseconds a call,
+# medians of five runs in turn, the making of the machine included; the replies have to be the same.
+#   hit      a load of a page that the TLB has
+#   fault    the first load of each of 65,000 pages
+#   change   a page mapped, and unmapped, in turn
+# Usage: bench/library.sh; RADIXVM_LIBRARY names the folder of a libradixvm.a that was built already.
+set -eu
+cd "$(dirname "$0")/.."
+work=$(mktemp -d)
+trap 'rm -rf "$work"' EXIT
+library=${RADIXVM_LIBRARY:-crates/radixvm_c/out}
+[ -n "${RADIXVM_LIBRARY:-}" ] || ./radixvm --build-library
+rustc --edition 2021 -C opt-level=3 -L "native=$library" -l static=radixvm -o "$work/library" bench/library.rs
+"$work/library"

@@ -1,0 +1,202 @@
+//! The structs and codes of `include/radixvm.h`.
+use crate::{Ask, Errno, Error, Event, Flags, Mode, Outcome, Prot, Reply, Request, Setup, Stopped};
+
+#[repr(C)]
+struct RawSetup {
+    cores: u64,
+    frames: u64,
+    calls: u64,
+}
+
+#[repr(C)]
+struct RawFile {
+    mode: u32,
+    start: u64,
+    len: u64,
+}
+
+#[repr(C)]
+#[derive(Clone, Copy, Default)]
+pub struct RawEvent {
+    kind: u32,
+    core: u32,
+    at: u64,
+    len: u64,
+    file: u64,
+    off: u64,
+    prot: u32,
+    flags: u32,
+    byte: u32,
+}
+
+#[repr(C)]
+#[derive(Clone, Copy, Default)]
+struct RawOutcome {
+    kind: u32,
+    value: u64,
+}
+
+#[repr(C)]
+struct RawDone {
+    status: u32,
+    count: u64,
+}
+
+type Batch = unsafe extern "C" fn(
+    *const RawSetup, *const RawFile, usize, *const u8, usize, *const RawEvent, usize, *mut RawOutcome, usize,
+) -> RawDone;
+
+extern "C" {
+    fn radixvm_version() -> u32;
+    fn radixvm_run_batch(
+        setup: *const RawSetup, files: *const RawFile, file_count: usize, bytes: *const u8, byte_count: usize,
+        events: *const RawEvent, event_count: usize, outcomes: *mut RawOutcome, room: usize,
+    ) -> RawDone;
+    fn radixvm_calls_batch(
+        setup: *const RawSetup, files: *const RawFile, file_count: usize, bytes: *const u8, byte_count: usize,
+        events: *const RawEvent, event_count: usize, outcomes: *mut RawOutcome, room: usize,
+    ) -> RawDone;
+}
+
+/// What is added to a kind that is one step in a batch of calls.
+const BEGIN: u32 = 64;
+
+/// As what a batch is taken.
+pub enum Way {
+    Events,
+    Calls,
+}
+
+pub fn version() -> u32 {
+    // SAFETY: it reads nothing.
+    unsafe { radixvm_version() }
+}
+
+fn of_prot(prot: Prot) -> u32 {
+    u32::from(prot.read) | u32::from(prot.write) << 1 | u32::from(prot.exec) << 2
+}
+
+fn of_flags(flags: Flags) -> u32 {
+    u32::from(flags.shared) | u32::from(flags.private) << 1 | u32::from(flags.fixed) << 4 | u32::from(flags.anonymous) << 5
+}
+
+fn of_request(core: u32, request: &Request) -> RawEvent {
+    let none = RawEvent { core, ..RawEvent::default() };
+    match *request {
+        Request::Mmap { addr, len, prot, flags, file, off } => {
+            RawEvent { kind: 1, at: addr, len, file, off, prot: of_prot(prot), flags: of_flags(flags), ..none }
+        }
+        Request::Munmap { addr, len } => RawEvent { kind: 2, at: addr, len, ..none },
+        Request::Mprotect { addr, len, prot } => RawEvent { kind: 3, at: addr, len, prot: of_prot(prot), ..none },
+        Request::Load { addr } => RawEvent { kind: 4, at: addr, ..none },
+        Request::Store { addr, byte } => RawEvent { kind: 5, at: addr, byte: u32::from(byte), ..none },
+        Request::Fetch { addr } => RawEvent { kind: 6, at: addr, ..none },
+    }
+}
+
+pub fn of_event(event: &Event) -> RawEvent {
+    let of = |kind, core, at| RawEvent { kind, core, at, ..RawEvent::default() };
+    match *event {
+        Event::Call(core, ref request) => of_request(core, request),
+        Event::Go(core) => of(7, core, 0),
+        Event::Frame(core, frame) => of(8, core, frame),
+        Event::Guess(core, page) => of(9, core, page),
+        Event::Whole(core) => of(10, core, 0),
+        Event::Take(core) => of(11, core, 0),
+        Event::Walk(core, page) => of(12, core, page),
+        Event::Evict(core, page) => of(13, core, page),
+        Event::Flush(core) => of(14, core, 0),
+        Event::Review(core) => of(15, core, 0),
+        Event::Fold(page) => of(16, 0, page),
+        Event::GiveUp(core) => of(17, core, 0),
+    }
+}
+
+pub fn of_ask(ask: &Ask) -> RawEvent {
+    match *ask {
+        Ask::Call(core, ref request) => of_request(core, request),
+        Ask::Finish(core) => RawEvent { kind: 18, core, ..RawEvent::default() },
+        Ask::Step(ref event) => {
+            let raw = of_event(event);
+            RawEvent { kind: raw.kind + BEGIN, ..raw }
+        }
+    }
+}
+
+fn errno_of(value: u64) -> Option<Errno> {
+    Some(match value {
+        9 => Errno::Ebadf,
+        12 => Errno::Enomem,
+        13 => Errno::Eacces,
+        22 => Errno::Einval,
+        75 => Errno::Eoverflow,
+        _ => return None,
+    })
+}
+
+fn outcome_of(raw: &RawOutcome) -> Option<Outcome> {
+    Some(match raw.kind {
+        1 => Outcome::Stepped,
+        2 => Outcome::WaitsForSlot(raw.value as u32),
+        3 => Outcome::WaitsForAcks(raw.value),
+        4 => Outcome::Idle,
+        5 => Outcome::Full,
+        6 => Outcome::Replied(Reply::Mapped(raw.value)),
+        7 => Outcome::Replied(Reply::Done),
+        8 => Outcome::Replied(Reply::Byte(raw.value as u8)),
+        9 => Outcome::Replied(Reply::Refused(errno_of(raw.value)?)),
+        10 => Outcome::Replied(Reply::MapErr),
+        11 => Outcome::Replied(Reply::AccErr),
+        12 => Outcome::Replied(Reply::Bus),
+        13 => Outcome::Replied(Reply::NoFrame),
+        14 => Outcome::Replied(Reply::NoMemory),
+        15 => Outcome::Stuck,
+        _ => return None,
+    })
+}
+
+fn error_of(status: u32, at: usize) -> Error {
+    match status {
+        1 => Error::BadEvent { at },
+        2 => Error::OutOfMemory { at },
+        4 => Error::TooLong,
+        11 => Error::BadCores,
+        12 => Error::BadFrames,
+        13 => Error::TooManyFiles,
+        14 => Error::FileTooLong,
+        15 => Error::BadCalls,
+        16 => Error::NoMachine,
+        code => Error::UnknownCode(code),
+    }
+}
+
+pub fn batch(setup: &Setup, raws: &[RawEvent], way: Way) -> Result<Vec<Outcome>, Stopped> {
+    let mut bytes = Vec::new();
+    let mut files = Vec::new();
+    for file in &setup.files {
+        let mode = match file.mode {
+            Mode::Read => 1,
+            Mode::Write => 2,
+            Mode::ReadWrite => 3,
+        };
+        files.push(RawFile { mode, start: bytes.len() as u64, len: file.bytes.len() as u64 });
+        bytes.extend_from_slice(&file.bytes);
+    }
+    let raw_setup = RawSetup { cores: setup.cores, frames: setup.frames, calls: setup.calls };
+    let mut told = vec![RawOutcome::default(); raws.len()];
+    let run: Batch = match way {
+        Way::Events => radixvm_run_batch,
+        Way::Calls => radixvm_calls_batch,
+    };
+    // SAFETY: each pointer is a slice's with its length, so it isn't null, and what is written overlaps nothing else.
+    let done = unsafe {
+        run(&raw_setup, files.as_ptr(), files.len(), bytes.as_ptr(), bytes.len(), raws.as_ptr(), raws.len(), told.as_mut_ptr(), told.len())
+    };
+    let count = if done.status <= 2 { done.count as usize } else { 0 };
+    let outcomes: Option<Vec<_>> = told[..count].iter().map(outcome_of).collect();
+    match (done.status, outcomes) {
+        (0, Some(outcomes)) => Ok(outcomes),
+        (status, Some(outcomes)) => Err(Stopped { outcomes, error: error_of(status, done.count as usize) }),
+        (_, None) => Err(Stopped { outcomes: Vec::new(), error: Error::UnknownCode(u32::MAX) }),
+    }
+}

@@ -1,0 +1,76 @@
+#!/usr/bin/env bash
+# Compiles the header and the examples of bindings/ over libradixvm.a (`./radixvm --build-library`), the C side with the
+# sanitizers of addresses and of undefined behaviour, and runs them: a page-table walker beside the library, a shadow checker
+# with and without a bug, what is out of range and memory that is refused, the worked rows of crates/acceptance, random traces
+# beside the program where it is built, and the Rust crate's tests where there is cargo.
+# Usage: bindings/test.sh [--skip-without-compiler] [SEEDS]
+set -euo pipefail
+top=$(cd "$(dirname "$0")/.." && pwd)
+library=${RADIXVM_LIBRARY:-$top/crates/radixvm_c/out}
+program=${RADIXVM_PROGRAM:-$top/crates/radixvm/out/radixvm}
+skip=
+if [ "${1:-}" = --skip-without-compiler ]; then
+    skip=yes
+    shift
+fi
+seeds=${1:-20}
+if ! command -v "${CC:-cc}" > /dev/null; then
+    echo "bindings/test.sh: no C compiler (${CC:-cc}) is here" >&2
+    [ "$skip" ] && exit 0
+    exit 1
+fi
+if [ ! -f "$library/libradixvm.a" ]; then
+    echo "bindings/test.sh: there is no $library/libradixvm.a; ./radixvm --build-library makes it" >&2
+    exit 1
+fi
+work=$(mktemp -d)
+trap 'rm -rf "$work"' EXIT
+warnings="-Wall -Wextra -Wpedantic -Wconversion -Wshadow -Werror"
+
+# the header by itself, in both languages
+printf '#include "radixvm.h"\nint main(void) { return radixvm_version() != RADIXVM_VERSION; }\n' > "$work/header.c"
+cp "$work/header.c" "$work/header.cpp"
+for compiler in gcc clang; do
+    command -v $compiler > /dev/null || continue
+    $compiler -std=c11 $warnings -I "$top/include" "$work/header.c" "$library/libradixvm.a" -o "$work/header" && "$work/header"
+    echo "header, C11: $compiler"
+done
+for compiler in g++ clang++; do
+    command -v $compiler > /dev/null || continue
+    $compiler -std=c++17 $warnings -I "$top/include" "$work/header.cpp" "$library/libradixvm.a" -o "$work/header" && "$work/header"
+    echo "header, C++17: $compiler"
+done
+
+compile() { # NAME OUT FLAGS..
+    local name=$1 out=$2
+    shift 2
+    "${CC:-cc}" -std=c11 -O1 -g -fsanitize=address,undefined -fno-sanitize-recover=all $warnings "$@" -I "$top/include" \
+        "$top/bindings/c/$name.c" "$library/libradixvm.a" -o "$work/$out"
+}
+for name in walker shadow bad trace; do compile $name $name; done
+compile bad refused -DREFUSE -Wno-pedantic -Wl,--wrap=malloc,--wrap=realloc
+
+for seed in $(seq "$seeds"); do "$work/walker" "$seed" > "$work/out" || { cat "$work/out"; exit 1; }; done
+echo "walker: $seeds seeds, $(cat "$work/out") in each"
+"$work/shadow"
+if "$work/shadow" bug > "$work/out"; then
+    echo "bindings/test.sh: the shadow checker didn't find the bug" >&2
+    exit 1
+fi
+diff "$top/bindings/c/shadow_bug.out" "$work/out"
+echo "shadow: the bug was found, with the pages around it"
+echo "out of range: $("$work/bad")"
+"$work/refused"
+python3 "$top/bindings/rows.py" "$work/trace"
+if [ -x "$program" ]; then
+    python3 "$top/bindings/lists.py" "$seeds" "$program" "$work/trace"
+    python3 "$top/bindings/lists.py" "$seeds" "$program" "$work/trace" steps
+else
+    echo "random traces: not compared, since the program isn't built ($program)"
+fi
+if command -v cargo > /dev/null; then
+    (cd "$top/bindings/rust" && RADIXVM_LIBRARY=$library CARGO_TARGET_DIR=$work/rust cargo test --offline -q)
+    echo "Rust: the crate's tests and those of its documentation passed"
+else
+    echo "Rust: no cargo is here, so its tests were not run"
+fi

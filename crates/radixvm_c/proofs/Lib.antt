@@ -1,0 +1,4 @@
+pub mod Codings
+pub mod Openings
+pub mod Batching
+pub mod Coded

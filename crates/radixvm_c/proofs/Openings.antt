@@ -1,0 +1,97 @@
+-- Files that are opened one by one, and the machine that has them
+use Rattle.std.proofs.Common.{◌≡◌, ℕ, zero, suc, Bool, ◌+◌, ◌-◌, ◌≤◌, List, [], ◌∷◌, ◌++◌, refl, sym, ap, ◌∙◌, take, drop, length, arith, inl, inr}
+use Rattle.std.specs.Prelude.{None, slice_get, ◌||◌}
+use Rattle.std.specs.List.{list_any}
+use Rattle.std.proofs.lemmas.List.{length-take-le, length-drop}
+use Rattle.backing.specs.declared.file_spec.FileSpec.{FileSpec}
+use Rattle.backing.specs.Given.{given_files}
+use Rattle.slot_lock.specs.Slots.{Slots, IsNew}
+use Rattle.machine_model.specs.World.{World, new_world}
+use Rattle.core_steps.specs.declared.setup.Setup.{Setup}
+use Rattle.core_steps.specs.declared.setup.SetupFault.{SetupFault}
+use Rattle.core_steps.specs.Setups.{is_too_long, has_long, made_of, first_fault, IsFirstFault}
+use Rattle.core_steps.specs.Setups.{fault_of as fault_of_setup}
+use Rattle.core_steps.proofs.Reached.{few_cores}
+use Rattle.radixvm_c.specs.declared.opening.RawSetup.{RawSetup}
+use Rattle.radixvm_c.specs.declared.opening.Refusal.TheVariants as By
+use Rattle.radixvm_c.specs.declared.opening.RawFile.{RawFile}
+use Rattle.radixvm_c.specs.Opening.{AreFiles, IsFile, IsGiven, OpensAs, Refuses, fault_of}
+
+pub files_more : {A : Type 0} (buffer : List ℕ) (rs : List RawFile) (ss : List (FileSpec A)) (r : RawFile) (s : FileSpec A) → AreFiles buffer rs ss
+    → IsFile buffer r s.mode s.bytes.items → AreFiles buffer (rs ++ r ∷ []) (ss ++ s ∷ [])
+files_more buffer [] [] r s are is = (is, tt)
+files_more buffer [] (u ∷ ss) r s are is = absurd are
+files_more buffer (q ∷ rs) [] r s are is = absurd are
+files_more buffer (q ∷ rs) (u ∷ ss) r s are is = (are.0, files_more buffer rs ss r s are.1 is)
+
+pub as_many : {A : Type 0} (buffer : List ℕ) (rs : List RawFile) (ss : List (FileSpec A)) → AreFiles buffer rs ss → length ss ≡ length rs
+as_many buffer [] [] are = refl
+as_many buffer [] (u ∷ ss) are = absurd are
+as_many buffer (q ∷ rs) [] are = absurd are
+as_many buffer (q ∷ rs) (u ∷ ss) are = ap suc (as_many buffer rs ss are.1)
+
+-- a file has as many bytes as it is said to have
+whole : (buffer bytes : List ℕ) (start len : ℕ) → start + len ≤ length buffer → bytes ≡ take len (drop start buffer) → length bytes ≡ len
+whole buffer bytes start len within is =
+    let left : length (drop start buffer) ≡ length buffer - start = length-drop start buffer in
+    let fits : len ≤ length (drop start buffer) = omega (arith, left, within) in
+    ap length is ∙ length-take-le len (drop start buffer) fits
+
+pub as_long : {A : Type 0} (buffer : List ℕ) (rs : List RawFile) (ss : List (FileSpec A)) → AreFiles buffer rs ss
+    → has_long ss ≡ list_any (λ (r : RawFile). is_too_long r.len) rs
+as_long buffer [] [] are = refl
+as_long buffer [] (u ∷ ss) are = absurd are
+as_long buffer (q ∷ rs) [] are = absurd are
+as_long buffer (q ∷ rs) (u ∷ ss) are =
+    let len : length u.bytes.items ≡ q.len = whole buffer u.bytes.items q.start q.len are.0.within are.0.bytes in
+    ap (λ n. is_too_long n || has_long ss) len ∙ ap (λ b. is_too_long q.len || b) (as_long buffer rs ss are.1)
+
+pub given : {A : Type 0} (buffer : List ℕ) (rs : List RawFile) (ss : List (FileSpec A)) (n : ℕ) → AreFiles buffer rs ss
+    → IsGiven buffer (slice_get rs n) (given_files ss n)
+given buffer [] [] n are = refl
+given buffer [] (u ∷ ss) n are = absurd are
+given buffer (q ∷ rs) [] n are = absurd are
+given buffer (q ∷ rs) (u ∷ ss) zero are = (u.mode, u.bytes.items, are.0, refl)
+given buffer (q ∷ rs) (u ∷ ss) (suc n) are = given buffer rs ss n are.1
+
+-- ---- the machine
+
+-- the setup of the machine is that which was asked for
+pub record IsAsked {A : Type 0} (setup : RawSetup) (files : List RawFile) (buffer : List ℕ) (s : Setup A) : Type 0 where
+  pub cores : s.cores ≡ setup.cores
+  pub frames : s.frames ≡ setup.frames
+  pub calls : s.calls ≡ setup.calls
+  pub are : AreFiles buffer files s.files.items
+
+pub opens_as : {A : Type 0} (setup : RawSetup) (files : List RawFile) (buffer : List ℕ) (s : Setup A) (slots : Slots) (w : World) → IsAsked setup files buffer s
+    → fault_of_setup s ≡ None → IsNew slots → w ≡ new_world (made_of s) slots → OpensAs setup files buffer w
+opens_as setup files buffer s slots w asked fine new is = (
+  made_of s,
+  slots,
+  record {
+    cores = asked.cores;
+    few = few_cores s fine;
+    frames = asked.frames;
+    calls = asked.calls;
+    file = λ n. given buffer files s.files.items n asked.are;
+  },
+  new,
+  is,
+)
+
+same : (c d f g l m : ℕ) (b e : Bool) (k n : ℕ) → c ≡ d → f ≡ g → l ≡ m → b ≡ e → k ≡ n → first_fault c f l b k ≡ first_fault d g m e n
+same c d f g l m b e k n p q r s t =
+    ap (λ x. first_fault x f l b k) p ∙ ap (λ x. first_fault d x l b k) q ∙ ap (λ x. first_fault d g x b k) r ∙ ap (λ x. first_fault d g m x k) s
+    ∙ ap (λ x. first_fault d g m e x) t
+
+same_fault : {A : Type 0} (setup : RawSetup) (files : List RawFile) (buffer : List ℕ) (s : Setup A) → IsAsked setup files buffer s
+    → fault_of_setup s ≡ fault_of setup files
+same_fault setup files buffer s asked =
+    same s.cores setup.cores s.frames setup.frames (length s.files.items) (length files) (has_long s.files.items)
+    (list_any (λ (r : RawFile). is_too_long r.len) files) s.calls setup.calls asked.cores asked.frames
+    (as_many buffer files s.files.items asked.are) (as_long buffer files s.files.items asked.are) asked.calls
+
+pub refuses_as : {A : Type 0} (setup : RawSetup) (files : List RawFile) (buffer : List ℕ) (s : Setup A) (fault : SetupFault) → IsAsked setup files buffer s
+    → IsFirstFault s fault → Refuses setup files buffer (By.Setup fault)
+refuses_as setup files buffer s fault asked (inl e) = inl (sym (same_fault setup files buffer s asked) ∙ e)
+refuses_as setup files buffer s fault asked (inr h) = inr (sym (same_fault setup files buffer s asked) ∙ h.0, h.1)

@@ -1,0 +1,17 @@
+use Rattle.std.proofs.Common.{◌++◌, ◌∷◌, [], rules, subst, sym}
+use Rattle.std.proofs.lemmas.List.{take_more}
+use Rattle.radixvm_c.specs.Opening.{AreFiles}
+use Rattle.radixvm_c.proofs.Openings.{files_more}
+use Rattle.radixvm_c.proofs.opening.files_of.Goals as goal
+
+pub files-init : goal.files-init
+files-init c = record { are = rw c.in-Ok.ensures.items tt; room = search rules; count = search rules }
+
+pub files-preserved : goal.files-preserved
+files-preserved c = record {
+  are = rw c.push_reserved.ensures.items (subst (λ rs. AreFiles c.args.bytes.now rs (c.files.all.items ++ c.in-Ok-file_of.file ∷ []))
+      (sym (take_more c.args.files.now c.files.at _ c.files-test.true))
+      (files_more c.args.bytes.now _ c.files.all.items _ c.in-Ok-file_of.file c.files.invariant.are c.in-Ok-file_of.ensures.ok));
+  room = search rules;
+  count = search rules;
+}

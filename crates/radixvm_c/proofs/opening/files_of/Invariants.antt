@@ -1,0 +1,12 @@
+use Rattle.std.proofs.Common.{◌≡◌, ◌≤◌, take, length}
+use Rattle.std.specs.Prelude.{vec_len, vec_capacity}
+use Rattle.radixvm_c.specs.Opening.{AreFiles}
+use Rattle.radixvm_c.proofs.opening.files_of.Given as goal
+
+-- the files so far, and room for those to come
+abbrev pub invariant-files : goal.invariant-files
+invariant-files l = record {
+  are : AreFiles l.bytes (take l.at l.files) l.all.items;
+  room : length l.files ≤ vec_capacity l.all;
+  count : vec_len l.all ≡ l.at;
+}
