@@ -2,7 +2,7 @@
 # Compiles the header and the examples of bindings/ over libradixvm.a (`./radixvm --build-library`), the C side with the
 # sanitizers of addresses and of undefined behaviour, and runs them: a page-table walker beside the library, a shadow checker
 # with and without a bug, what is out of range and memory that is refused, the worked rows of crates/acceptance, random traces
-# beside the program where it is built, and the Rust crate's tests where there is cargo.
+# beside the program where it is built, and the Rust crate's tests and its walker where there is cargo.
 # Usage: bindings/test.sh [--skip-without-compiler] [SEEDS]
 set -euo pipefail
 top=$(cd "$(dirname "$0")/.." && pwd)
@@ -69,8 +69,13 @@ else
     echo "random traces: not compared, since the program isn't built ($program)"
 fi
 if command -v cargo > /dev/null; then
-    (cd "$top/bindings/rust" && RADIXVM_LIBRARY=$library CARGO_TARGET_DIR=$work/rust cargo test --offline -q)
-    echo "Rust: the crate's tests and those of its documentation passed"
+    (
+        cd "$top/bindings/rust"
+        export RADIXVM_LIBRARY=$library CARGO_TARGET_DIR=$work/rust
+        cargo test --offline -q
+        for seed in $(seq "$seeds"); do cargo run --offline -q --example walker "$seed" > "$work/out" || { cat "$work/out"; exit 1; }; done
+    )
+    echo "Rust: the crate's tests and those of its documentation passed; walker: $seeds seeds, $(cat "$work/out") in each"
 else
     echo "Rust: no cargo is here, so its tests were not run"
 fi

@@ -78,6 +78,7 @@ pub fn run_events<M: SlotMap, A: Allocator + Clone, L: Ledger>(
 }
 
 // What an item does.
+#[inline(always)]
 fn make<M: SlotMap, A: Allocator + Clone, L: Ledger>(
     machine: &mut Machine<M, A, L>,
     item: Item,
@@ -92,6 +93,7 @@ fn make<M: SlotMap, A: Allocator + Clone, L: Ledger>(
     }
 }
 
+#[inline(always)]
 fn step<M: SlotMap, A: Allocator + Clone, L: Ledger>(
     machine: &mut Machine<M, A, L>,
     event: Event,
@@ -106,6 +108,7 @@ fn step<M: SlotMap, A: Allocator + Clone, L: Ledger>(
 }
 
 // One item. Where it isn't made, what is told stays as it was.
+#[inline(always)]
 fn take_item<M: SlotMap, A: Allocator + Clone, L: Ledger>(
     machine: &mut Machine<M, A, L>,
     raw: &RawEvent,

@@ -119,6 +119,7 @@ pub enum Item {
 }
 
 /// The kind that has the code.
+#[inline(always)]
 pub fn kind_of(code: u32) -> Option<Kind>
     ensures { result ≡ kind_of code }
 {
@@ -129,6 +130,7 @@ pub fn kind_of(code: u32) -> Option<Kind>
 }
 
 /// The core of this number, if it is below 64.
+#[inline(always)]
 pub fn core_of(number: u32) -> Option<CoreId>
     ensures { result ≡ core_of number }
 {
@@ -177,6 +179,7 @@ fn store_of(raw: &RawEvent) -> Option<Request>
 }
 
 /// The request of an event of this kind, if it is a call whose bits and byte are in range.
+#[inline(always)]
 pub fn request_at(kind: Kind, raw: &RawEvent) -> Option<Request>
     ensures { result ≡ request_at kind raw.now }
 {
@@ -195,6 +198,7 @@ pub fn request_at(kind: Kind, raw: &RawEvent) -> Option<Request>
 }
 
 /// The event of this kind that the core is to take.
+#[inline(always)]
 pub fn event_at(kind: Kind, core: CoreId, raw: &RawEvent) -> Option<Event>
     ensures { result ≡ event_at kind core raw.now }
 {
@@ -216,6 +220,7 @@ pub fn event_at(kind: Kind, core: CoreId, raw: &RawEvent) -> Option<Event>
 }
 
 // The event with this code of a kind.
+#[inline(always)]
 fn event_with(code: u32, raw: &RawEvent) -> Option<Event>
     ensures { result ≡ event_with raw.now (kind_of code) (core_of raw.now.core) }
 {
@@ -234,6 +239,7 @@ pub fn event_of(raw: &RawEvent) -> Option<Event>
 /// What is added to the code of an event that a batch of calls is to take as one of events does.
 const BEGIN: u32 = 64;
 
+#[inline(always)]
 fn item_of_event(event: Event) -> Item
     ensures { result ≡ item_of_event event }
 {
@@ -243,6 +249,7 @@ fn item_of_event(event: Event) -> Item
     }
 }
 
+#[inline(always)]
 fn item_at(kind: Kind, core: CoreId, raw: &RawEvent) -> Option<Item>
     ensures { result ≡ item_at kind core raw.now }
 {
@@ -253,6 +260,7 @@ fn item_at(kind: Kind, core: CoreId, raw: &RawEvent) -> Option<Item>
     Some(item_of_event(event))
 }
 
+#[inline(always)]
 fn whole_item(raw: &RawEvent) -> Option<Item>
     ensures { result ≡ item_with raw.now (kind_of raw.now.kind) (core_of raw.now.core) }
 {
@@ -262,6 +270,7 @@ fn whole_item(raw: &RawEvent) -> Option<Item>
 }
 
 /// What the event that C wrote asks for in a batch of calls, if it is one.
+#[inline(always)]
 pub fn item_of(raw: &RawEvent) -> Option<Item>
     ensures { result ≡ item_of raw.now }
 {
@@ -284,6 +293,7 @@ fn errno_code(errno: Errno) -> u64
     }
 }
 
+#[inline(always)]
 fn reply_code(reply: Reply) -> RawOutcome
     ensures { result ≡ reply_code reply }
 {
@@ -322,6 +332,7 @@ fn wait_code(blocker: Blocker) -> RawOutcome
 }
 
 /// What C reads for the outcome.
+#[inline(always)]
 pub fn outcome_code(outcome: Outcome) -> RawOutcome
     ensures { result ≡ outcome_code outcome }
 {
@@ -335,6 +346,7 @@ pub fn outcome_code(outcome: Outcome) -> RawOutcome
 }
 
 /// What C reads for what a whole call came to.
+#[inline(always)]
 pub fn finished_code(finished: Finished) -> RawOutcome
     ensures { result ≡ finished_code finished }
 {
