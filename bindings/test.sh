@@ -1,7 +1,7 @@
 #!/usr/bin/env bash
 # Compiles the header and the examples of bindings/ over libradixvm.a (`./radixvm --build-library`), the C side with the
 # sanitizers of addresses and of undefined behaviour, and runs them: a page-table walker beside the library, a shadow checker
-# with and without a bug, what is out of range and memory that is refused, the worked rows of crates/acceptance, random traces
+# with and without a bug, what is out of range and memory that is refused, the worked rows of crates/acceptance, examples/, random traces
 # beside the program where it is built, and the Rust crate's tests and its walker where there is cargo.
 # Usage: bindings/test.sh [--skip-without-compiler] [SEEDS]
 set -euo pipefail
@@ -62,6 +62,12 @@ echo "shadow: the bug was found, with the pages around it"
 echo "out of range: $("$work/bad")"
 "$work/refused"
 python3 "$top/bindings/rows.py" "$work/trace"
+examples="copy files first place race reuse rights shootdown steps"
+for name in $examples; do
+    "$work/trace" < "$top/examples/$name.trace" > "$work/out"
+    diff "$top/examples/$name.out" "$work/out"
+done
+echo "examples: the same text as in examples/ for $examples"
 if [ -x "$program" ]; then
     python3 "$top/bindings/lists.py" "$seeds" "$program" "$work/trace"
     python3 "$top/bindings/lists.py" "$seeds" "$program" "$work/trace" steps
