@@ -1,10 +1,10 @@
 //! Slots that are joined by whoever owns the space, and spaces that end.
-use crate::alone::Alone;
-use crate::ending::certified_beside;
-use crate::heaps::{AMPLE, fill};
-use crate::script::{request_of, setup_of};
 use certifier::{Certified, CertifyFault};
 use linked_list_allocator::LocalHeap;
+use live_lanes::alone::Alone;
+use live_lanes::ending::certified_beside;
+use live_lanes::heaps::{AMPLE, fill};
+use live_lanes::script::{request_of, setup_of};
 use live_space::fault::LiveFault;
 use live_tree::histories::Histories;
 use seats::Seat;

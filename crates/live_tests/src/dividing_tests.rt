@@ -2,10 +2,10 @@
 //! takes steps for it alone.
 ghost use Rattle.slot_lock.specs.Slots.{IsNew};
 
-use crate::alone::Alone;
 use crate::rows::CHANGES;
-use crate::script::{request_of, setup_of};
 use core_steps::{Kept, Machine};
+use live_lanes::alone::Alone;
+use live_lanes::script::{request_of, setup_of};
 use machine_model::{Event, Outcome};
 use radix_range::RadixMap;
 use slot_lock::SlotMap;

@@ -1,10 +1,10 @@
 //! Spaces that are made, and that end, where memory is full and given back bit by bit.
 use crate::closing_tests::{alone_in, are_answered};
-use crate::heaps::{AMPLE, Piece, fill};
-use crate::script::setup_of;
 use crate::starved_tests::Came;
 use core_steps::SetupFault;
 use linked_list_allocator::LocalHeap;
+use live_lanes::heaps::{AMPLE, Piece, fill};
+use live_lanes::script::setup_of;
 use live_space::space::Live;
 use std::alloc::Global;
 use std::sync::Wait;

@@ -1,9 +1,9 @@
 //! Two calls on the same pages: one is held at each point of its way until the other has begun.
-use crate::ending::certified;
-use crate::gates::{Marks, Releasing, Until};
-use crate::lane::{Lane, lanes_of, seats_of};
-use crate::script::{request_of, setup_of};
 use certifier::{Certified, CertifyFault};
+use live_lanes::ending::certified;
+use live_lanes::gates::{Marks, Releasing, Until};
+use live_lanes::lane::{Lane, lanes_of, seats_of};
+use live_lanes::script::{request_of, setup_of};
 use live_space::gate::{Gate, Point};
 use live_space::space::Live;
 use std::alloc::Global;

@@ -1,5 +1,4 @@
-//! Tables of scripts and of what they give, three lines a row: a name, the script, and what each of its
-//! lines comes to, with how many notes all seats have at the end and what certifying them comes to.
+//! Tables of scripts of changes, and of what they give, in the form of `live_lanes::tables`.
 
 /// Rows of changes alone. On a new tree a page is divided from the rest in three steps.
 pub const CHANGES: &str = "\

@@ -1,9 +1,9 @@
 //! Calls of spaces whose memory is full, and given back bit by bit.
-use crate::ending::certified;
-use crate::heaps::{AMPLE, fill};
-use crate::lane::{Lane, lanes_of, seats_of};
-use crate::script::{request_of, setup_of};
 use linked_list_allocator::LocalHeap;
+use live_lanes::ending::certified;
+use live_lanes::heaps::{AMPLE, fill};
+use live_lanes::lane::{Lane, lanes_of, seats_of};
+use live_lanes::script::{request_of, setup_of};
 use live_space::fault::LiveFault;
 use live_space::gate::Open;
 use live_space::space::Live;

@@ -1,160 +1,40 @@
 //! Threads of changes that look random, on the same pages.
-use crate::asking::{Ask, Random, next_ask, wild};
-use crate::ending::certified;
-use crate::lane::{Lane, lanes_of, seats_of};
-use crate::script::setup_of;
-use certifier::{Certified, CertifyFault};
+use certifier::Certified;
+use live_lanes::asking::{Random, wild};
+use live_lanes::ending::certified;
+use live_lanes::lane::{lanes_of, seats_of};
+use live_lanes::mixing::Mix;
+use live_lanes::script::setup_of;
+use live_lanes::threads::{Asked, is_certified};
 use live_space::gate::Open;
 use live_space::space::Live;
 use std::alloc::Global;
 use std::sync::Wait;
-use std::sync::atomic::{AtomicU64, Ordering};
 use std::test::Fail;
-use std::thread::{self, Threads};
-use vm_base::{NoMemory, Reply};
+use vm_base::NoMemory;
 
 /// How many seeds each test has threads of; `bench/stress.sh` runs more.
 const SEEDS: u64 = 10;
 
-/// What threads came to: how many calls were answered, how many of them by want of memory, how
-/// many faults came, and what certifying the notes comes to.
-#[derive(Clone, Copy, Debug, PartialEq, Eq)]
-struct Outcomes {
-    answered: u64,
-    given_up: u64,
-    faults: u64,
-    certified: Result<Certified, CertifyFault>,
-}
-
-/// What threads count.
-#[derive(Drop)]
-struct Counts {
-    answered: AtomicU64,
-    given_up: AtomicU64,
-    faults: AtomicU64,
-}
-
-impl Counts {
-    fn new() -> Counts {
-        Counts {
-            answered: AtomicU64::new(0),
-            given_up: AtomicU64::new(0),
-            faults: AtomicU64::new(0),
-        }
-    }
-
-    fn count(&self, of: &AtomicU64) {
-        of.fetch_add(1, Ordering::SeqCst);
-    }
-
-    fn reply(&self, reply: Reply) {
-        self.count(&self.answered);
-        if reply == Reply::NoMemory {
-            self.count(&self.given_up);
-        }
-    }
-}
-
-/// One of a thread's requests.
-fn take<R: Wait>(rt: &R, lane: &mut Lane<'_, Global>, asked: Ask, counts: &Counts) {
-    match asked {
-        Ask::Call(request) => match lane.call(rt, request, &Open) {
-            Ok(reply) => counts.reply(reply),
-            Err(_) => counts.count(&counts.faults),
-        },
-        Ask::Flush => {
-            if lane.flush(rt).is_err() {
-                counts.count(&counts.faults);
-            }
-        }
-        Ask::Review => {
-            if lane.review(rt).is_err() {
-                counts.count(&counts.faults);
-            }
-        }
-    }
-}
-
-/// So many requests of each lane, in a thread of its own.
-fn run_all<R: Threads + Wait + Sync>(
-    rt: &R,
-    lanes: &mut [Lane<'_, Global>],
-    seed: u64,
-    asks: u64,
-    counts: &Counts,
-) {
-    let run = |at: usize, lane: &mut Lane<'_, Global>| {
-        let mut random = Random::new(seed.wrapping_mul(64).wrapping_add(at as u64));
-        let core = lane.core();
-        for _ask in 0..asks {
-            let asked = next_ask(&mut random, core);
-            take(rt, lane, asked, counts);
-        }
-    };
-    let count = lanes.len();
-    if count == 0 {
-        return;
-    }
-    thread::for_each_mut(rt, lanes, count, &run);
-}
-
-/// What the threads of a script's space come to.
-fn told<R: Threads + Wait + Sync>(
-    rt: &R,
-    alloc: Global,
-    script: &str,
-    seed: u64,
-    asks: u64,
-) -> Result<Outcomes, NoMemory> {
-    let Ok((live, seats)) = Live::new(alloc, setup_of(alloc, script)?) else {
-        return Err(NoMemory);
-    };
-    let mut lanes = lanes_of(alloc, &live, seats)?;
-    let counts = Counts::new();
-    run_all(rt, lanes.as_mut_slice(), seed, asks, &counts);
-    let seats = seats_of(alloc, lanes)?;
-    let certified = certified(alloc, setup_of(alloc, script)?, live, &seats);
-    Ok(Outcomes {
-        answered: counts.answered.load(Ordering::SeqCst),
-        given_up: counts.given_up.load(Ordering::SeqCst),
-        faults: counts.faults.load(Ordering::SeqCst),
-        certified,
-    })
-}
-
-/// Whether the notes of some seeds' threads are certified with as many calls as were answered, none of
-/// them given up.
-fn is_certified<R: Threads + Wait + Sync>(
-    rt: &R,
-    alloc: Global,
-    script: &str,
-    seeds: u64,
-) -> Result<bool, NoMemory> {
-    for seed in 0..seeds {
-        let told = told(rt, alloc, script, seed, 200)?;
-        let calls = told.answered;
-        let wanted = Outcomes {
-            answered: calls,
-            given_up: 0,
-            faults: 0,
-            certified: Ok(Certified { calls }),
-        };
-        if told != wanted || calls == 0 {
-            return Ok(false);
-        }
-    }
-    Ok(true)
-}
-
 #[test]
 fn two_threads_of_changes(rt: HostRuntime) -> Result<(), Fail> {
-    assert!(rt; is_certified(&rt, rt.alloc(), "vm 2 4", SEEDS)?);
+    let asked = Asked {
+        script: "vm 2 4",
+        mix: Mix::Changes,
+        asks: 200,
+    };
+    assert!(rt; is_certified(&rt, rt.alloc(), asked, SEEDS)?);
     Ok(())
 }
 
 #[test]
 fn four_threads_of_changes(rt: HostRuntime) -> Result<(), Fail> {
-    assert!(rt; is_certified(&rt, rt.alloc(), "vm 4 4", SEEDS)?);
+    let asked = Asked {
+        script: "vm 4 4",
+        mix: Mix::Changes,
+        asks: 200,
+    };
+    assert!(rt; is_certified(&rt, rt.alloc(), asked, SEEDS)?);
     Ok(())
 }
 
@@ -166,10 +46,9 @@ fn is_wild_certified<R: Wait>(rt: &R, alloc: Global) -> Result<bool, NoMemory> {
     };
     let mut lanes = lanes_of(alloc, &live, seats)?;
     let mut random = Random::new(1);
-    let counts = Counts::new();
     for lane in lanes.as_mut_slice() {
         for _request in 0..200u64 {
-            take(rt, lane, Ask::Call(wild(&mut random)), &counts);
+            let _told = lane.call(rt, wild(&mut random), &Open);
         }
     }
     let seats = seats_of(alloc, lanes)?;

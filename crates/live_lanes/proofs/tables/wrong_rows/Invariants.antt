@@ -1,6 +1,6 @@
 use denote.Text.{Utf8}
 use denote.Shadow.{shadow}
-use Rattle.live_tests.proofs.row_tests.wrong_rows.Given as goal
+use Rattle.live_lanes.proofs.tables.wrong_rows.Given as goal
 
 -- each `&str` that the loop changes is text
 abbrev pub invariant-loop-at : goal.invariant-loop-at

@@ -1,7 +1,7 @@
 use Rattle.std.proofs.Common.{length}
 use Rattle.std.specs.Prelude.{All}
 use Rattle.live_space.specs.Space.{IsOf}
-use Rattle.live_tests.proofs.lane.lanes_of.Given as goal
+use Rattle.live_lanes.proofs.lane.lanes_of.Given as goal
 
 abbrev pub invariant-seats : goal.invariant-seats
 invariant-seats g l = record {

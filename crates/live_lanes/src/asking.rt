@@ -35,8 +35,8 @@ pub enum Ask {
     Review,
 }
 
-// Any of three protections.
-fn prot_of(number: u64) -> Prot {
+/// Any of three protections.
+pub fn prot_of(number: u64) -> Prot {
     Prot {
         read: number != 1,
         write: number == 0,
@@ -44,8 +44,8 @@ fn prot_of(number: u64) -> Prot {
     }
 }
 
-// A mapping without a file.
-fn mmap(addr: u64, len: u64, prot: Prot, fixed: bool) -> Request {
+/// A mapping without a file.
+pub fn mmap(addr: u64, len: u64, prot: Prot, fixed: bool) -> Request {
     Request::Mmap {
         addr,
         len,
