@@ -1,0 +1,5 @@
+mod CertifyLemmas
+mod FaultLemmas
+mod LaneLemmas
+mod TaskLemmas
+mod TurnLemmas

@@ -1,0 +1,8 @@
+use Rattle.std.proofs.Common.{sym, ◌∙◌}
+use Rattle.live_script.proofs.LaneLemmas.{begun_lanes}
+use Rattle.live_script.proofs.running.begin.Goals as goal
+
+pub returns-clause-begun : goal.returns-clause-begun
+returns-clause-begun g c =
+    begun_lanes _ _ c.in-Ok-setup.setup _ _ _ c.declaration-declaration.ensures (sym c.fault.ensures ∙ c.in_default.is) c.in-Ok-setup.ensures.made
+    c.in-Ok-new.ensures.made c.in-Ok-lanes_of.ensures

@@ -1,0 +1,32 @@
+-- What certifying a script's notes comes to
+use Rattle.std.specs.Prelude.{◌≡◌, ℕ, Bool, List, map, None, Some}
+use Rattle.vm_base.specs.declared.page.PageRange.{PageRange}
+use Rattle.slot_lock.specs.Slots.{Slots}
+use Rattle.live_levels.specs.declared.close.SlotHistory.{SlotHistory}
+use Rattle.seats.specs.Notes.{SeatView}
+use Rattle.seats.specs.declared.noted.Noted.{Noted}
+use Rattle.certifier.specs.declared.result.CertifyFault.{CertifyFault}
+use Rattle.certifier.specs.declared.result.CertifyFault.TheVariants.{NoMemory, Setup}
+use Rattle.certifier.specs.Following.{IsCertified, Fails}
+use Rattle.certifier.specs.Order.{all_notes}
+use Rattle.trace.specs.Declarations.{Asked, asked_fault}
+use Rattle.notes_text.specs.Verdicts.{Made}
+
+-- all that the seats noted
+abbrev pub notes_in : List SeatView → List Noted
+notes_in seats = all_notes (map (λ s. s.notes) seats)
+
+-- the notes are certified beside the histories of slots
+pub record IsCertifiedRun (A : Type 0) (parts : PageRange → ℕ → ℕ → Bool) (CanFold : Slots → ℕ → Type 0)
+    (Folds : Slots → Slots → ℕ → Type 0) (asked : Asked) (seats : List SeatView) (calls : ℕ) : Type 0 where
+  pub made : Made A asked
+  pub slots : List (SlotHistory A)
+  pub certified : IsCertified parts CanFold Folds made.setup (notes_in seats) slots calls
+
+-- Why they aren't: the declaration is at fault, or memory is wanting, or as certifying says beside histories of slots.
+abbrev pub FailsRun : Type 0 → (PageRange → ℕ → ℕ → Bool) → (Slots → ℕ → Type 0) → (Slots → Slots → ℕ → Type 0)
+    → Asked → List SeatView → CertifyFault → Type 0
+FailsRun A parts CanFold Folds asked seats (Setup fault) = asked_fault asked ≡ Some fault
+FailsRun A parts CanFold Folds asked seats NoMemory = asked_fault asked ≡ None
+FailsRun A parts CanFold Folds asked seats fault = (made : Made A asked) × (slots : List (SlotHistory A))
+    × Fails parts CanFold Folds made.setup (notes_in seats) slots fault

@@ -1,0 +1,18 @@
+//! Why a script wasn't run to its end.
+use core_steps::SetupFault;
+use live_space::fault::LiveFault;
+use thiserror::Error;
+
+/// Why a script wasn't run, or not to its end.
+#[derive(Clone, Copy, Debug, PartialEq, Eq, Error)]
+pub enum RunFault {
+    /// What the script declares makes no space.
+    #[error("setup {0}")]
+    Setup(SetupFault),
+    /// A task of a core couldn't begin. Of several cores it is the least one's fault.
+    #[error("live {0}")]
+    Live(LiveFault),
+    /// The allocator refused.
+    #[error("out of memory")]
+    NoMemory,
+}

@@ -1,0 +1,22 @@
+//! Scripts that are run: each core's tasks on a thread of its own, all in one space, and what they come to.
+#![tactic(auto)]
+
+pub mod certifying;
+pub mod fault;
+pub mod lane;
+pub mod ran;
+#[cfg(test)]
+mod random_tests;
+pub mod running;
+#[cfg(test)]
+mod starved_tests;
+mod tasks;
+#[cfg(test)]
+mod telling;
+#[cfg(test)]
+mod tests;
+
+pub use certifying::certify_ran;
+pub use fault::RunFault;
+pub use ran::Ran;
+pub use running::{run_in_turn, run_script};

@@ -1,0 +1,191 @@
+//! Scripts whose memory is refused: all of it is taken, and given back bit by bit until they are run.
+use crate::certifying::certify_ran;
+use crate::fault::RunFault;
+use crate::ran::Ran;
+use crate::running::{begin, finish_in_turn, run_in_turn};
+use crate::telling::script_of;
+use certifier::CertifyFault;
+use core_steps::SetupFault;
+use linked_list_allocator::LocalHeap;
+use live_space::fault::LiveFault;
+use notes_text::Script;
+use std::alloc::Global;
+use std::sync::Wait;
+use std::test::Fail;
+use vm_base::NoMemory;
+
+/// Room for each run of these tests.
+const AMPLE: usize = 1_500_000;
+
+/// A piece of memory that is taken, so that nobody else has it.
+type Piece<'h> = Vec<u8, &'h LocalHeap>;
+
+/// Takes pieces of so many bytes, as many as there are.
+fn fill_by<'h>(
+    heap: &'h LocalHeap,
+    taken: &mut Vec<Piece<'h>>,
+    size: usize,
+) -> Result<(), NoMemory> {
+    for _piece in 0..AMPLE {
+        let Ok(piece) = Vec::with_capacity(heap, size) else {
+            return Ok(());
+        };
+        taken.push(piece)?;
+    }
+    Ok(())
+}
+
+/// Takes all memory that is free. The least pieces are the last, and are given back first.
+fn fill<'h>(heap: &'h LocalHeap, taken: &mut Vec<Piece<'h>>) -> Result<(), NoMemory> {
+    fill_by(heap, taken, 4096)?;
+    fill_by(heap, taken, 256)?;
+    fill_by(heap, taken, 16)
+}
+
+/// How often memory was refused, and when.
+#[derive(Clone, Copy, Debug, Default, PartialEq, Eq)]
+struct Refusals {
+    /// While the space was made.
+    made: u64,
+    /// Before a task began.
+    begun: u64,
+    /// While what was noted was certified.
+    certified: u64,
+}
+
+/// Counts why a run was refused; whether that was for want of memory.
+fn is_counted(refusals: &mut Refusals, fault: RunFault) -> bool {
+    let count = match fault {
+        RunFault::Setup(SetupFault::NoMemory) | RunFault::NoMemory => &mut refusals.made,
+        RunFault::Live(LiveFault::NoMemory) => &mut refusals.begun,
+        RunFault::Setup(_) | RunFault::Live(_) => return false,
+    };
+    *count = count.saturating_add(1);
+    true
+}
+
+/// Certifies what was run in what is free of the heap; whether it was certified, or that was refused for want of memory.
+fn is_certified<'h>(
+    heap: &'h LocalHeap,
+    script: &Script<&'h LocalHeap>,
+    run: Result<Ran<&'h LocalHeap>, RunFault>,
+    refusals: &mut Refusals,
+) -> Option<bool> {
+    match run {
+        Ok(ran) => match certify_ran(heap, script, ran) {
+            Ok(_) => Some(true),
+            Err(CertifyFault::NoMemory) => {
+                refusals.certified = refusals.certified.saturating_add(1);
+                Some(false)
+            }
+            Err(_) => None,
+        },
+        Err(fault) => is_counted(refusals, fault).then_some(false),
+    }
+}
+
+/// The run of the script, in a heap that was full before, where so many pieces were given back.
+fn run_in_pieces<'h, R: Wait>(
+    rt: &R,
+    alloc: Global,
+    heap: &'h LocalHeap,
+    script: &Script<&'h LocalHeap>,
+    given: usize,
+    refusals: &mut Refusals,
+) -> Result<Option<bool>, NoMemory> {
+    let mut taken = Vec::new(alloc);
+    fill(heap, &mut taken)?;
+    for _piece in 0..given {
+        taken.pop();
+    }
+    let run = run_in_turn(rt, heap, script);
+    Ok(is_certified(heap, script, run, refusals))
+}
+
+/// The same, where the space was made before the heap was full.
+fn go_on_in_pieces<'h, R: Wait>(
+    rt: &R,
+    alloc: Global,
+    heap: &'h LocalHeap,
+    script: &Script<&'h LocalHeap>,
+    given: usize,
+    refusals: &mut Refusals,
+) -> Result<Option<bool>, NoMemory> {
+    let Ok(begun) = begin(heap, script) else {
+        return Err(NoMemory);
+    };
+    let mut taken = Vec::new(alloc);
+    fill(heap, &mut taken)?;
+    for _piece in 0..given {
+        taken.pop();
+    }
+    let run = finish_in_turn(rt, script, begun);
+    Ok(is_certified(heap, script, run, refusals))
+}
+
+/// Gives one piece more back after each refusal until the script is run and certified; how often each was refused.
+fn refusals_of<R: Wait>(
+    rt: &R,
+    alloc: Global,
+    is_made: bool,
+) -> Result<Option<Refusals>, NoMemory> {
+    let heap = LocalHeap::new(alloc, AMPLE)?;
+    let script = script_of(&heap, STARVED)?;
+    let mut refusals = Refusals::default();
+    for given in 0..AMPLE {
+        let came = if is_made {
+            go_on_in_pieces(rt, alloc, &heap, &script, given, &mut refusals)?
+        } else {
+            run_in_pieces(rt, alloc, &heap, &script, given, &mut refusals)?
+        };
+        match came {
+            Some(true) => return Ok(Some(refusals)),
+            Some(false) => {}
+            None => return Ok(None),
+        }
+    }
+    Ok(None)
+}
+
+const STARVED: &str = "\
+vm 2 2
+file 0 rw 5000 7
+c0! mmap 0x10000 8192 rw- pfa
+c1! store 0x10000 1
+c0 flush
+c1 review
+c1! munmap 0x10000 4096
+";
+
+#[test]
+fn a_space_isnt_made_without_memory(rt: HostRuntime) -> Result<(), Fail> {
+    let refusals = refusals_of(&rt, rt.alloc(), false)?;
+    assert!(rt; refusals.is_some_and(|r| r.made > 10));
+    Ok(())
+}
+
+#[test]
+fn no_task_begins_without_memory(rt: HostRuntime) -> Result<(), Fail> {
+    let refusals = refusals_of(&rt, rt.alloc(), true)?;
+    assert!(rt; refusals.is_some_and(|r| r.made == 0 && r.begun > 0 && r.certified > 0));
+    Ok(())
+}
+
+/// Whether the list of what each seat noted is refused where memory is full.
+fn is_list_refused(alloc: Global) -> Result<bool, NoMemory> {
+    let heap = LocalHeap::new(alloc, AMPLE)?;
+    let script = script_of(&heap, "vm 2 2")?;
+    let Ok(ran) = begin(&heap, &script) else {
+        return Err(NoMemory);
+    };
+    let mut taken = Vec::new(alloc);
+    fill(&heap, &mut taken)?;
+    let is_refused = ran.notes(&heap).is_err();
+    Ok(is_refused)
+}
+
+#[test]
+fn a_list_of_notes_is_refused(rt: HostRuntime) -> Result<(), Fail> {
+    assert!(rt; is_list_refused(rt.alloc())?);
+    Ok(())
+}
