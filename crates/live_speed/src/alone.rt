@@ -2,7 +2,7 @@
 ghost use Rattle.std.specs.Prelude.{◌≡◌, ◌≤◌};
 ghost use Rattle.live_space.specs.Space.{IsOf};
 
-use crate::rounds::{Caller, setup, time_rounds};
+use crate::rounds::{Caller, Job, is_served, setup, time_rounds};
 use live_space::gate::Open;
 use live_space::space::Live;
 use seats::Seat;
@@ -11,7 +11,7 @@ use std::io;
 use std::rt::Clock;
 use std::sync::Wait;
 use std::thread::{self, Threads};
-use vm_base::{CoreId, Reply, Request};
+use vm_base::{CoreId, Request};
 
 /// A space of one core with its seat, and how long its rounds took, where each call was answered.
 #[derive(Drop)]
@@ -24,8 +24,8 @@ struct Alone {
 
 impl Alone {
     /// A new space of one core; none where memory is refused.
-    fn new(alloc: Global) -> Option<Alone> {
-        let Ok((live, mut seats)) = Live::new(alloc, setup(alloc, 1)) else {
+    fn new(alloc: Global, job: Job) -> Option<Alone> {
+        let Ok((live, mut seats)) = Live::new(alloc, setup(alloc, 1, job)) else {
             return None;
         };
         if seats.len() != 1 {
@@ -47,7 +47,7 @@ impl Caller for Alone {
 
     fn call<R: Wait>(&mut self, rt: &R, request: Request) -> bool {
         match self.live.call(rt, &mut self.seat, request, &Open) {
-            Ok(reply) => reply != Reply::NoMemory,
+            Ok(reply) => is_served(reply),
             Err(_) => false,
         }
     }
@@ -62,26 +62,25 @@ fn slowest(all: &[Alone]) -> Option<u128> {
     Some(most)
 }
 
-/// The nanoseconds of the slowest of so many threads, each of which maps and unmaps so many pages in a
-/// space of its own, so often; none where memory is refused.
+/// The nanoseconds of the slowest of so many threads, each of which does the job in a space of its own;
+/// none where memory is refused.
 pub fn time<R: Threads + Wait + Clock + Sync>(
     rt: &R,
     alloc: Global,
     threads: u8,
-    pages: u16,
-    rounds: u64,
+    job: Job,
 ) -> io::Result<Option<u128>>
     requires { 1 ≤ threads }
 {
     let mut all = Vec::new(alloc);
     for _thread in 0..threads {
-        let Some(alone) = Alone::new(alloc) else {
+        let Some(alone) = Alone::new(alloc, job) else {
             return Ok(None);
         };
         all.push(alone)?;
     }
     let run = |_at: usize, alone: &mut Alone| {
-        alone.nanos = time_rounds(rt, alone, pages, rounds);
+        alone.nanos = time_rounds(rt, alone, job);
     };
     thread::for_each_mut(rt, all.as_mut_slice(), usize::from(threads), &run);
     Ok(slowest(all.as_slice()))

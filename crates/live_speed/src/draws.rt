@@ -1,6 +1,7 @@
 //! The tickets of the same calls alone: threads draw from one word, and do nothing else.
 ghost use Rattle.std.specs.Prelude.{◌≡◌, ◌≤◌, ◌+◌, ◌*◌, [], length, All};
 
+use crate::rounds::Job;
 use std::alloc::Global;
 use std::io;
 use std::marker::Model;
@@ -89,18 +90,17 @@ fn slowest(drawers: &[Drawer<'_>]) -> Option<u128> {
 }
 
 /// The nanoseconds of the slowest of so many threads, each of which draws as many tickets from one word
-/// as so many rounds of two calls on so many slots: of each call two for a slot, and six more.
+/// as the job's rounds make steps.
 pub fn time<R: Threads + Clock + Sync>(
     rt: &R,
     alloc: Global,
     threads: u8,
-    pages: u16,
-    rounds: u64,
+    job: Job,
 ) -> io::Result<Option<u128>>
     requires threads { (1 ≤ threads) × (threads ≤ 16) }
-    requires rounds { rounds ≤ 20_000 }
+    requires rounds { job.rounds ≤ 200_000 }
 {
-    let count = rounds * 2 * (2 * u64::from(pages) + 6);
+    let count = job.rounds * job.work.steps(job.pages);
     let (tickets, first) = Tickets::new(alloc)?;
     let all = ticketers(alloc, &tickets, first, threads)?;
     let mut drawers = drawers_of(alloc, &tickets, all)?;

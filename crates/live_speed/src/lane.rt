@@ -2,7 +2,7 @@
 ghost use Rattle.std.specs.Prelude.{◌≡◌, ◌≤◌, All};
 ghost use Rattle.live_space.specs.Space.{IsOf};
 
-use crate::rounds::{Caller, setup, time_rounds};
+use crate::rounds::{Caller, Job, is_served, setup, time_rounds};
 use live_space::gate::Open;
 use live_space::space::Live;
 use seats::Seat;
@@ -11,7 +11,7 @@ use std::io;
 use std::rt::Clock;
 use std::sync::Wait;
 use std::thread::{self, Threads};
-use vm_base::{CoreId, Reply, Request};
+use vm_base::{CoreId, Request};
 
 /// A seat with its space, and how long its rounds took, where each call was answered.
 #[derive(Drop)]
@@ -42,7 +42,7 @@ impl<'a> Caller for Lane<'a> {
 
     fn call<R: Wait>(&mut self, rt: &R, request: Request) -> bool {
         match self.live.call(rt, &mut self.seat, request, &Open) {
-            Ok(reply) => reply != Reply::NoMemory,
+            Ok(reply) => is_served(reply),
             Err(_) => false,
         }
     }
@@ -73,23 +73,22 @@ fn slowest(lanes: &[Lane<'_>]) -> Option<u128> {
     Some(most)
 }
 
-/// The nanoseconds of the slowest of so many threads, each of which maps and unmaps so many pages of its
-/// own window in one space, so often; none where memory is refused.
+/// The nanoseconds of the slowest of so many threads, each of which does the job on pages of its own
+/// window in one space; none where memory is refused.
 pub fn time<R: Threads + Wait + Clock + Sync>(
     rt: &R,
     alloc: Global,
     threads: u8,
-    pages: u16,
-    rounds: u64,
+    job: Job,
 ) -> io::Result<Option<u128>>
     requires { 1 ≤ threads }
 {
-    let Ok((live, seats)) = Live::new(alloc, setup(alloc, threads)) else {
+    let Ok((live, seats)) = Live::new(alloc, setup(alloc, threads, job)) else {
         return Ok(None);
     };
     let mut lanes = lanes_of(alloc, &live, seats)?;
     let run = |_at: usize, lane: &mut Lane<'_>| {
-        lane.nanos = time_rounds(rt, lane, pages, rounds);
+        lane.nanos = time_rounds(rt, lane, job);
     };
     thread::for_each_mut(rt, lanes.as_mut_slice(), usize::from(threads), &run);
     Ok(slowest(lanes.as_slice()))
