@@ -1,7 +1,8 @@
 //! The plain Rust program that the traces are measured against: the same texts in and out, for lines of whole calls (`cC!`,
 //! `call`, `finish`; mappings with MAP_FIXED), takes, walks, evictions, flushes and reviews. Each core has page tables and a
 //! TLB; the slots of pages stand in a radix tree. It keeps no log. With the word `maps` it writes the list of mappings in place
-//! of the replies.
+//! of the replies. With the word `certify` it reads notes of steps, of such lines and `go`, and says whether a new machine comes
+//! to the same outcomes.
 //! Standard library alone. Build: `rustc --edition 2021 -C opt-level=3 bench/baseline.rs`.
 mod baseline {
     pub mod counts;
@@ -10,6 +11,7 @@ mod baseline {
     pub mod frames;
     pub mod machine;
     pub mod maps;
+    pub mod notes;
     pub mod request;
     pub mod slots;
 }
@@ -17,6 +19,7 @@ mod baseline {
 use baseline::files::File;
 use baseline::machine::{Machine, Outcome};
 use baseline::maps::{Backing, Mapping};
+use baseline::notes::{certify, read_note, Note, Verdict};
 use baseline::request::{read_line, Line};
 use std::io::{self, BufRead, BufReader, BufWriter, Write};
 use std::process::ExitCode;
@@ -106,28 +109,44 @@ fn obey(machine: &mut Option<Machine>, line: Line) -> Result<Option<Outcome>, ()
     Ok(None)
 }
 
-fn main() -> io::Result<ExitCode> {
-    let shows_maps = std::env::args().nth(1).as_deref() == Some("maps");
+/// Reads a text line by line, and ends with the number of the first line that is bad.
+fn each_line(mut take: impl FnMut(&[u8]) -> io::Result<bool>) -> io::Result<Option<u64>> {
     let mut input = BufReader::with_capacity(1 << 16, io::stdin().lock());
-    let mut out = BufWriter::with_capacity(1 << 16, io::stdout().lock());
-    let mut machine = None;
     let mut line = Vec::new();
     let mut count = 0u64;
     while input.read_until(b'\n', &mut line)? > 0 {
         count += 1;
-        let obeyed = read_line(line.trim_ascii_end())
+        if !take(line.trim_ascii_end())? {
+            return Ok(Some(count));
+        }
+        line.clear();
+    }
+    Ok(None)
+}
+
+fn bad_line(count: u64) -> ExitCode {
+    eprintln!("line {count}: bad line");
+    ExitCode::from(2)
+}
+
+/// Replays the trace of standard input, and writes its replies, or the mappings at its end.
+fn replay(shows_maps: bool) -> io::Result<ExitCode> {
+    let mut out = BufWriter::with_capacity(1 << 16, io::stdout().lock());
+    let mut machine = None;
+    let bad = each_line(|line| {
+        let obeyed = read_line(line)
             .ok_or(())
             .and_then(|line| obey(&mut machine, line));
         match obeyed {
             Ok(Some(outcome)) if !shows_maps => write_outcome(&mut out, outcome)?,
             Ok(_) => {}
-            Err(()) => {
-                out.flush()?;
-                eprintln!("line {count}: bad line");
-                return Ok(ExitCode::from(2));
-            }
+            Err(()) => return Ok(false),
         }
-        line.clear();
+        Ok(true)
+    })?;
+    if let Some(count) = bad {
+        out.flush()?;
+        return Ok(bad_line(count));
     }
     if let (true, Some(machine)) = (shows_maps, &machine) {
         for mapping in machine.maps() {
@@ -136,4 +155,53 @@ fn main() -> io::Result<ExitCode> {
     }
     out.flush()?;
     Ok(ExitCode::SUCCESS)
+}
+
+/// Reads the notes of standard input, and says whether a new machine comes to the same outcomes.
+fn certify_notes() -> io::Result<ExitCode> {
+    let mut machine = None;
+    let mut notes: Vec<Note> = Vec::new();
+    let bad = each_line(|line| {
+        if line.first().is_some_and(u8::is_ascii_digit) {
+            let Some(note) = read_note(line) else {
+                return Ok(false);
+            };
+            notes.push(note);
+            return Ok(true);
+        }
+        Ok(read_line(line)
+            .ok_or(())
+            .and_then(|line| obey(&mut machine, line))
+            .is_ok())
+    })?;
+    if let Some(count) = bad {
+        return Ok(bad_line(count));
+    }
+    let Some(mut machine) = machine else {
+        eprintln!("no vm line first");
+        return Ok(ExitCode::from(2));
+    };
+    match certify(&mut machine, notes) {
+        Verdict::Certified(calls) => println!("certified {calls}"),
+        Verdict::Misnumbered(ticket) => {
+            println!("refused C1 {ticket}");
+            return Ok(ExitCode::from(1));
+        }
+        Verdict::Differs {
+            ticket,
+            noted,
+            expected,
+        } => {
+            println!("refused C2 {ticket}: noted {noted:?}, expected {expected:?}");
+            return Ok(ExitCode::from(1));
+        }
+    }
+    Ok(ExitCode::SUCCESS)
+}
+
+fn main() -> io::Result<ExitCode> {
+    match std::env::args().nth(1).as_deref() {
+        Some("certify") => certify_notes(),
+        word => replay(word == Some("maps")),
+    }
 }

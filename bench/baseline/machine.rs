@@ -11,6 +11,7 @@ use std::collections::VecDeque;
 const PAGE_SIZE: u64 = 4096;
 const PAGE_END: u64 = 1 << 35;
 
+#[derive(Clone, Copy, Debug, PartialEq, Eq)]
 pub enum Outcome {
     Step,
     Idle,
@@ -151,6 +152,11 @@ impl Machine {
         }
     }
 
+    /// Whether the core has a call that isn't answered.
+    pub fn has_call(&self, core: usize) -> bool {
+        self.cores.get(core).is_some_and(|core| core.call.is_some())
+    }
+
     /// Opens a file, whose number is the next one.
     pub fn open(&mut self, file: File) {
         self.files.push(file);
@@ -163,7 +169,7 @@ impl Machine {
         let did = match action {
             Action::Now(request) => return self.now(core, request),
             Action::Call(request) => return self.call(core, request),
-            Action::Finish => return self.finish(core),
+            Action::Go | Action::Finish => return self.finish(core),
             Action::Take => self.take(core),
             Action::Walk { addr } => {
                 let page = addr / PAGE_SIZE;

@@ -50,6 +50,7 @@ pub enum Request {
 pub enum Action {
     Now(Request),
     Call(Request),
+    Go,
     Finish,
     Take,
     Flush,
@@ -77,7 +78,7 @@ pub enum Line {
     },
 }
 
-fn number(word: &[u8]) -> Option<u64> {
+pub fn number(word: &[u8]) -> Option<u64> {
     let (digits, radix) = match word {
         [b'0', b'x', digits @ ..] => (digits, 16),
         _ => (word, 10),
@@ -174,6 +175,7 @@ fn request<'a>(name: &[u8], words: &mut impl Iterator<Item = &'a [u8]>) -> Optio
 fn action<'a>(words: &mut impl Iterator<Item = &'a [u8]>) -> Option<Action> {
     Some(match words.next()? {
         b"take" => Action::Take,
+        b"go" => Action::Go,
         b"finish" => Action::Finish,
         b"flush" => Action::Flush,
         b"review" => Action::Review,
@@ -184,6 +186,21 @@ fn action<'a>(words: &mut impl Iterator<Item = &'a [u8]>) -> Option<Action> {
             addr: number(words.next()?)?,
         },
         b"call" => Action::Call(request(words.next()?, words)?),
+        _ => return None,
+    })
+}
+
+/// A core's number and what it does, of a line that begins with it.
+pub fn core_action<'a>(
+    first: &[u8],
+    words: &mut impl Iterator<Item = &'a [u8]>,
+) -> Option<(usize, Action)> {
+    Some(match first {
+        [b'c', core @ .., b'!'] => (
+            number(core)? as usize,
+            Action::Now(request(words.next()?, words)?),
+        ),
+        [b'c', core @ ..] => (number(core)? as usize, action(words)?),
         _ => return None,
     })
 }
@@ -220,18 +237,10 @@ pub fn read_line(line: &[u8]) -> Option<Line> {
             calls: words.next().map_or(Some(4096), number)?,
         },
         Some(b"file") => file(&mut words)?,
-        Some([b'c', core @ .., b'!']) => {
-            let core = number(core)? as usize;
-            Line::Core {
-                core,
-                action: Action::Now(request(words.next()?, &mut words)?),
-            }
+        Some(first) => {
+            let (core, action) = core_action(first, &mut words)?;
+            Line::Core { core, action }
         }
-        Some([b'c', core @ ..]) => Line::Core {
-            core: number(core)? as usize,
-            action: action(&mut words)?,
-        },
-        Some(_) => return None,
     };
     words.next().is_none().then_some(line)
 }

@@ -1,5 +1,5 @@
 //! What a thread asks for, again and again, of pages of its core's window.
-ghost use Rattle.std.specs.Prelude.{◌<◌, ◌≤◌};
+ghost use Rattle.std.specs.Prelude.{◌<◌, ◌≤◌, ◌^◌};
 
 use core_steps::Setup;
 use std::alloc::Global;
@@ -91,8 +91,10 @@ pub fn is_served(reply: Reply) -> bool {
     !matches!(reply, Reply::NoMemory | Reply::NoFrame)
 }
 
-/// The address of the first page of the core.
-fn address_of(core: CoreId) -> u64 {
+/// The address of the first page of the core, which is below the end of the space.
+fn address_of(core: CoreId) -> u64
+    ensures { result < 2 ^ 47 }
+{
     (window(core).first + FROM) * 4096
 }
 
