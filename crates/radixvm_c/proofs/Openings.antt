@@ -1,8 +1,9 @@
 -- Files that are opened one by one, and the machine that has them
 use Rattle.std.proofs.Common.{◌≡◌, ℕ, zero, suc, Bool, ◌+◌, ◌-◌, ◌≤◌, List, [], ◌∷◌, ◌++◌, refl, sym, ap, ◌∙◌, take, drop, length, arith, inl, inr}
-use Rattle.std.specs.Prelude.{None, slice_get, ◌||◌}
+use Rattle.std.specs.Prelude.{◌<◌, get_or, None, slice_get, ◌||◌}
 use Rattle.std.specs.List.{list_any}
 use Rattle.std.proofs.lemmas.List.{length-take-le, length-drop}
+use Rattle.std.proofs.lemmas.Option.{slice_get-get_or}
 use Rattle.backing.specs.declared.file_spec.FileSpec.{FileSpec}
 use Rattle.backing.specs.Given.{given_files}
 use Rattle.slot_lock.specs.Slots.{Slots, IsNew}
@@ -15,7 +16,7 @@ use Rattle.core_steps.proofs.Reached.{few_cores}
 use Rattle.radixvm_c.specs.declared.opening.RawSetup.{RawSetup}
 use Rattle.radixvm_c.specs.declared.opening.Refusal.TheVariants as By
 use Rattle.radixvm_c.specs.declared.opening.RawFile.{RawFile}
-use Rattle.radixvm_c.specs.Opening.{AreFiles, IsFile, IsGiven, OpensAs, Refuses, fault_of}
+use Rattle.radixvm_c.specs.Opening.{AreFiles, AreThere, IsFile, IsNoFile, RefusesFiles, IsGiven, OpensAs, Refuses, fault_of}
 
 pub files_more : {A : Type 0} (buffer : List ℕ) (rs : List RawFile) (ss : List (FileSpec A)) (r : RawFile) (s : FileSpec A) → AreFiles buffer rs ss
     → IsFile buffer r s.mode s.bytes.items → AreFiles buffer (rs ++ r ∷ []) (ss ++ s ∷ [])
@@ -23,6 +24,19 @@ files_more buffer [] [] r s are is = (is, tt)
 files_more buffer [] (u ∷ ss) r s are is = absurd are
 files_more buffer (q ∷ rs) [] r s are is = absurd are
 files_more buffer (q ∷ rs) (u ∷ ss) r s are is = (are.0, files_more buffer rs ss r s are.1 is)
+
+-- files that are opened are there
+pub are_there : {A : Type 0} (buffer : List ℕ) (rs : List RawFile) (ss : List (FileSpec A)) → AreFiles buffer rs ss → AreThere buffer rs
+are_there buffer [] [] are = tt
+are_there buffer [] (u ∷ ss) are = absurd are
+are_there buffer (q ∷ rs) [] are = absurd are
+are_there buffer (q ∷ rs) (u ∷ ss) are = ((u.mode, u.bytes.items, are.0), are_there buffer rs ss are.1)
+
+-- the first of the files that isn't there
+pub first_missing : {A : Type 0} (buffer : List ℕ) (files : List RawFile) (ss : List (FileSpec A)) (n : ℕ) (d : RawFile) → n < length files
+    → IsNoFile (length buffer) (get_or files n d) → AreFiles buffer (take n files) ss → RefusesFiles buffer files (By.BadFile n)
+first_missing buffer files ss n d low missing are =
+    (get_or files n d, slice_get-get_or files n d low, missing, are_there buffer (take n files) ss are)
 
 pub as_many : {A : Type 0} (buffer : List ℕ) (rs : List RawFile) (ss : List (FileSpec A)) → AreFiles buffer rs ss → length ss ≡ length rs
 as_many buffer [] [] are = refl

@@ -50,10 +50,17 @@ IsGiven buffer None file = file ≡ None
 IsGiven buffer (Some r) file = (mode : Mode) × (bytes : List ℕ) × IsFile buffer r mode bytes
     × (file ≡ Some (file_with mode bytes))
 
+-- each of these files can be opened
+abbrev pub AreThere : List ℕ → List RawFile → Type 0
+AreThere buffer [] = Unit {0}
+AreThere buffer (r ∷ rs) =
+    ((mode : Mode) × (bytes : List ℕ) × IsFile buffer r mode bytes) × AreThere buffer rs
+
 -- the first file that isn't there, or there was no memory
 abbrev pub RefusesFiles : List ℕ → List RawFile → Refusal → Type 0
 RefusesFiles buffer files (By.BadFile at) =
     (r : RawFile) × (slice_get files at ≡ Some r) × IsNoFile (length buffer) r
+    × AreThere buffer (take at files)
 RefusesFiles buffer files (By.Setup fault) = fault ≡ Fault.NoMemory
 RefusesFiles buffer files By.TooLong = ⊥
 RefusesFiles buffer files By.NoRoom = ⊥

@@ -1,7 +1,7 @@
 use Rattle.std.proofs.Common.{◌++◌, ◌∷◌, [], rules, subst, sym}
 use Rattle.std.proofs.lemmas.List.{take_more}
 use Rattle.radixvm_c.specs.Opening.{AreFiles}
-use Rattle.radixvm_c.proofs.Openings.{files_more}
+use Rattle.radixvm_c.proofs.Openings.{files_more, first_missing}
 use Rattle.radixvm_c.proofs.opening.files_of.Goals as goal
 
 pub files-init : goal.files-init
@@ -15,3 +15,8 @@ files-preserved c = record {
   room = search rules;
   count = search rules;
 }
+
+pub returns-in-Err-NotThere-clause-err : goal.returns-in-Err-NotThere-clause-err
+returns-in-Err-NotThere-clause-err c =
+    first_missing c.args.bytes.now c.args.files.now c.files.all.items c.files.at _ c.files-test.true (c.in-Err-NotThere.ensures.err c.in-Err-NotThere.field-0-is)
+    c.files.invariant.are
