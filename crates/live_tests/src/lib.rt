@@ -2,13 +2,15 @@
 //! tables of scripts and what they give (`rows`), and `dividing_tests` their numbers of notes with a
 //! machine's steps. `closing_tests` joins slots and ends spaces, `starved_tests` and `growth_tests` refuse
 //! memory, `gate_tests` holds a call while another runs, and `overlap_tests` until another on the same
-//! pages has begun. `thread_tests` has threads of calls that look random.
+//! pages has begun. `thread_tests` has threads of calls that look random, `flush_tests` some that only flush.
 #![tactic(auto)]
 
 #[cfg(test)]
 mod closing_tests;
 #[cfg(test)]
 mod dividing_tests;
+#[cfg(test)]
+mod flush_tests;
 #[cfg(test)]
 mod gate_tests;
 #[cfg(test)]

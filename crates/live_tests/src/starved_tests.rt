@@ -156,6 +156,20 @@ fn each_growth_of_an_unmapping_is_refused(rt: HostRuntime) -> Result<(), Fail> {
     Ok(())
 }
 
+// Memory runs out with some slots locked, and with all.
+#[test]
+fn each_growth_of_an_unmapping_of_many_slots_is_refused(rt: HostRuntime) -> Result<(), Fail> {
+    let calls = Calls {
+        before: "c0! mmap 0x10000 0x14000 rw- pfa",
+        starved: "c0! munmap 0x10000 0x14000",
+        other: "c1! mmap 0 4096 rw- pa",
+        same: "c1! munmap 0x10000 0x14000",
+    };
+    let count = refusals(&rt, rt.alloc(), calls)?;
+    assert!(rt; count.is_some_and(|n| n > 10));
+    Ok(())
+}
+
 #[test]
 fn each_growth_of_a_change_of_protection_is_refused(rt: HostRuntime) -> Result<(), Fail> {
     let calls = Calls {
