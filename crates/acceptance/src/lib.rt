@@ -3,7 +3,8 @@
 //! traces, `log_tests` replays a log, and `stream_tests` has reads and writes that fail. `in_one_run` gives a trace's events to
 //! `run`, `run_tests` has whole lists of events and heaps that are too small, and `replay_tests` the
 //! texts of outcomes and a replay's flushes. `certify_tests` has notes of steps
-//! (`noting` writes them down), `history_tests` histories of slots beside them, and `notes_text_tests` scripts and notes as text.
+//! (`noting` writes them down), `history_tests` histories of slots beside them, `notes_text_tests` scripts and notes as text, and
+//! `starved_text_tests` refuses memory to these.
 #![tactic(auto)]
 
 #[cfg(test)]
@@ -36,6 +37,8 @@ mod rows;
 mod run_tests;
 #[cfg(test)]
 mod starved;
+#[cfg(test)]
+mod starved_text_tests;
 #[cfg(test)]
 mod stream_tests;
 #[cfg(test)]
