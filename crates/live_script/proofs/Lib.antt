@@ -2,4 +2,5 @@ mod CertifyLemmas
 mod FaultLemmas
 mod LaneLemmas
 mod TaskLemmas
+mod TextLemmas
 mod TurnLemmas

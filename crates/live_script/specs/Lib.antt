@@ -1,3 +1,4 @@
 pub mod Certified
 pub mod Runs
 pub mod Tasks
+pub mod Texts

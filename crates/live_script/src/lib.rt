@@ -7,6 +7,7 @@ pub mod lane;
 pub mod ran;
 #[cfg(test)]
 mod random_tests;
+pub mod runner;
 pub mod running;
 #[cfg(test)]
 mod starved_tests;
@@ -15,8 +16,10 @@ mod tasks;
 mod telling;
 #[cfg(test)]
 mod tests;
+pub mod texts;
 
 pub use certifying::certify_ran;
 pub use fault::RunFault;
 pub use ran::Ran;
+pub use runner::{InTurn, OnThreads, Runner};
 pub use running::{run_in_turn, run_script};

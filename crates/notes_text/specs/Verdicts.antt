@@ -11,7 +11,7 @@ use Rattle.certifier.specs.Following.{IsCertified, DiffersAt}
 use Rattle.trace.specs.Declarations.{Asked, made_by}
 use Rattle.trace.specs.OutcomeText.{outcome_text}
 use Rattle.notes_text.specs.declared.verdict.Verdict.{Verdict}
-use Rattle.notes_text.specs.declared.verdict.Verdict.TheVariants.{Certified, Ticket, Differs}
+use Rattle.notes_text.specs.declared.verdict.Verdict.TheVariants.{Certified, Ticket, Differs, Slot}
 
 -- ---- what it comes to
 
@@ -20,7 +20,8 @@ pub record Made (A : Type 0) (asked : Asked) : Type 0 where
   pub setup : Setup A
   pub made : made_of setup ≡ made_by asked
 
--- the notes are certified, one ticket doesn't stand once, or one outcome differs, as certifying says
+-- The notes are certified, one ticket doesn't stand once, or one outcome differs, as certifying says. Beside no histories no
+-- slot is found.
 abbrev pub Judges : Type 0 → (PageRange → ℕ → ℕ → Bool) → (Slots → ℕ → Type 0) → (Slots → Slots → ℕ → Type 0)
     → Asked → List Noted → Verdict → Type 0
 Judges A parts CanFold Folds asked notes (Certified calls) =
@@ -28,6 +29,7 @@ Judges A parts CanFold Folds asked notes (Certified calls) =
 Judges A parts CanFold Folds asked notes (Ticket t) = IsFirstAmiss notes t
 Judges A parts CanFold Folds asked notes (Differs t noted expected) =
     (m : Made A asked) × AreNumbered notes × DiffersAt parts CanFold Folds m.setup notes t noted expected
+Judges A parts CanFold Folds asked notes (Slot page) = ⊥
 
 -- ---- its line
 
@@ -46,8 +48,10 @@ abbrev pub verdict_text : Verdict → List ℕ
 verdict_text (Certified calls) = codes "certified " ++ decimal calls ++ codes "\n"
 verdict_text (Ticket ticket) = codes "refused C1 " ++ decimal ticket ++ codes "\n"
 verdict_text (Differs ticket noted expected) = differs_text ticket noted expected
+verdict_text (Slot page) = codes "refused C5 " ++ decimal page ++ codes "\n"
 
 abbrev pub is_certified : Verdict → Bool
 is_certified (Certified calls) = true
 is_certified (Ticket t) = false
 is_certified (Differs t noted expected) = false
+is_certified (Slot page) = false

@@ -23,6 +23,9 @@ pub enum Verdict {
         noted: Outcome,
         expected: Outcome,
     },
+    /// The histories of slots don't all go along with the run: this is the first valid page of the first slot that
+    /// doesn't. Of a text's notes alone this isn't found, since it has no histories.
+    Slot(u64),
 }
 
 // Writes two texts, one behind the other.
@@ -118,8 +121,8 @@ fn write_count(text: &mut LineText, words: &str, number: u64)
     text.push_str("\n");
 }
 
-/// Writes the line that tells the verdict: `certified CALLS`, `refused C1 TICKET`, or
-/// `refused C2 TICKET: noted OUTCOME, expected OUTCOME`. At an `Err` a front of it was written.
+/// Writes the line that tells the verdict: `certified CALLS`, `refused C1 TICKET`,
+/// `refused C2 TICKET: noted OUTCOME, expected OUTCOME`, or `refused C5 PAGE`. At an `Err` a front of it was written.
 pub fn write_verdict<W: Sink>(writer: &mut W, verdict: Verdict) -> Result<(), WriteFailed>
     ensures ok { OnOk result (Appends (W.contents writer.old) (W.contents writer.new) (verdict_text verdict)) }
     ensures kept { OnOk result (W.failed writer.new ≡ W.failed writer.old) }
@@ -142,6 +145,10 @@ pub fn write_verdict<W: Sink>(writer: &mut W, verdict: Verdict) -> Result<(), Wr
             noted,
             expected,
         } => write_differs(writer, ticket, noted, expected),
+        Verdict::Slot(page) => {
+            write_count(&mut text, "refused C5 ", page);
+            write_all(writer, text.as_str().as_bytes())
+        }
     }
 }
 
@@ -152,7 +159,7 @@ impl Verdict {
     {
         match self {
             Verdict::Certified(_) => true,
-            Verdict::Ticket(_) | Verdict::Differs { .. } => false,
+            Verdict::Ticket(_) | Verdict::Differs { .. } | Verdict::Slot(_) => false,
         }
     }
 }

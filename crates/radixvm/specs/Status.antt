@@ -1,6 +1,8 @@
 -- The status that the program ends with.
 use Rattle.std.specs.Prelude.{ℕ, Bool, true, false, Result, Ok, Err}
 use Rattle.core_steps.specs.declared.setup.SetupFault.TheVariants as Of
+use Rattle.live_script.specs.declared.texts.TextFault.{TextFault}
+use Rattle.live_script.specs.declared.texts.TextFault.TheVariants.{Text, Live}
 use Rattle.radixvm.specs.declared.command.WordsFault.{WordsFault}
 use Rattle.radixvm.specs.declared.command.WordsFault.TheVariants as OutOf
 use Rattle.radixvm.specs.declared.command.WordsFault.TheVariants.{NotUtf8}
@@ -33,7 +35,23 @@ certified_status (Ok true) = 0
 certified_status (Ok false) = 1
 certified_status (Err f) = fault_status f
 
--- the same of words that can't be read
+-- of a script: 3 where a task of a core couldn't begin
+abbrev pub script_status : TextFault → ℕ
+script_status (Text f) = fault_status f
+script_status (Live f) = 3
+
+-- of notes that were written
+abbrev pub live_status : {T : Type 0} → Result T TextFault → ℕ
+live_status (Ok x) = 0
+live_status (Err f) = script_status f
+
+-- of notes that were certified or refused
+abbrev pub certified_live_status : Result Bool TextFault → ℕ
+certified_live_status (Ok true) = 0
+certified_live_status (Ok false) = 1
+certified_live_status (Err f) = script_status f
+
+-- of words that can't be read
 abbrev pub words_status : WordsFault → ℕ
 words_status NotUtf8 = 2
 words_status OutOf.NoMemory = 3

@@ -3,6 +3,8 @@ use crate::certifying::certify;
 use crate::tests::{AMPLE, Limits, comes_to, dripping_of, run_words, sink_of};
 use linked_list_allocator::LocalHeap;
 use std::alloc::Global;
+use std::sync::Wait;
+use std::thread::Threads;
 use trace_io::source::Counted;
 
 const CERTIFY: &[&[u8]] = &[b"radixvm", b"certify"];
@@ -168,32 +170,38 @@ fn status_of(line: &str) -> u8 {
 }
 
 // Whether the notes of the row give its line.
-fn gives_line(alloc: Global, row: &str) -> bool {
+fn gives_line<T: Threads + Wait + Sync>((alloc, rt): (Global, &T), row: &str) -> bool {
     let Some((notes, line)) = row.split_once('\n') else {
         return false;
     };
     let (Some(notes), Some(text)) = (text_of(alloc, notes), text_of(alloc, line)) else {
         return false;
     };
-    comes_to(alloc, CERTIFY, &notes, AMPLE, (&text, b"", status_of(line)))
+    comes_to(
+        (alloc, rt),
+        CERTIFY,
+        &notes,
+        AMPLE,
+        (&text, b"", status_of(line)),
+    )
 }
 
 // Whether of the text of the row just its fault is told.
-fn tells_fault(alloc: Global, row: &str) -> bool {
+fn tells_fault<T: Threads + Wait + Sync>((alloc, rt): (Global, &T), row: &str) -> bool {
     let Some((notes, line)) = row.split_once('\n') else {
         return false;
     };
     let (Some(notes), Some(text)) = (text_of(alloc, notes), text_of(alloc, line)) else {
         return false;
     };
-    comes_to(alloc, CERTIFY, &notes, AMPLE, (b"", &text, 2))
+    comes_to((alloc, rt), CERTIFY, &notes, AMPLE, (b"", &text, 2))
 }
 
 // Notes that are a run of the machine, whatever the order of their lines, and notes that aren't.
 #[test]
 fn certificates(rt: HostRuntime) {
     for row in CERTIFICATES.split("\n\n") {
-        assert!(rt; gives_line(rt.alloc(), row));
+        assert!(rt; gives_line((rt.alloc(), &rt), row));
     }
 }
 
@@ -201,12 +209,16 @@ fn certificates(rt: HostRuntime) {
 #[test]
 fn faults_of_notes(rt: HostRuntime) {
     for row in FAULTS.split("\n\n") {
-        assert!(rt; tells_fault(rt.alloc(), row));
+        assert!(rt; tells_fault((rt.alloc(), &rt), row));
     }
 }
 
 // Whether a note of so many bytes, most of them spaces, comes to this.
-fn wide_note_comes_to(alloc: Global, len: usize, came: (&[u8], &[u8], u8)) -> bool {
+fn wide_note_comes_to<T: Threads + Wait + Sync>(
+    (alloc, rt): (Global, &T),
+    len: usize,
+    came: (&[u8], &[u8], u8),
+) -> bool {
     let mut text = Vec::new(alloc);
     if text.extend_from_slice(b"vm 1 1 4\n0 c0 go =").is_err() {
         return false;
@@ -216,15 +228,15 @@ fn wide_note_comes_to(alloc: Global, len: usize, came: (&[u8], &[u8], u8)) -> bo
             return false;
         }
     }
-    text.extend_from_slice(b"idle\n").is_ok() && comes_to(alloc, CERTIFY, &text, AMPLE, came)
+    text.extend_from_slice(b"idle\n").is_ok() && comes_to((alloc, rt), CERTIFY, &text, AMPLE, came)
 }
 
 #[test]
 fn notes_of_many_bytes(rt: HostRuntime) {
     let certified = (b"certified 0\n".as_slice(), b"".as_slice(), 0);
-    assert!(rt; wide_note_comes_to(rt.alloc(), 256, certified));
+    assert!(rt; wide_note_comes_to((rt.alloc(), &rt), 256, certified));
     let long = (b"".as_slice(), b"radixvm: line 2: too long\n".as_slice(), 2);
-    assert!(rt; wide_note_comes_to(rt.alloc(), 257, long));
+    assert!(rt; wide_note_comes_to((rt.alloc(), &rt), 257, long));
 }
 
 // Notes that are cut off: from so many bytes up to so many, and what comes of them.
@@ -241,9 +253,13 @@ const CUTS: &[(usize, usize, &[u8], &[u8], u8)] = &[
 ];
 
 // Whether so many bytes of the notes come to this.
-fn cut_comes_to(alloc: Global, cut: usize, came: (&[u8], &[u8], u8)) -> bool {
+fn cut_comes_to<T: Threads + Wait + Sync>(
+    (alloc, rt): (Global, &T),
+    cut: usize,
+    came: (&[u8], &[u8], u8),
+) -> bool {
     match NOTES.get(..cut) {
-        Some(notes) => comes_to(alloc, CERTIFY, notes, AMPLE, came),
+        Some(notes) => comes_to((alloc, rt), CERTIFY, notes, AMPLE, came),
         None => false,
     }
 }
@@ -253,7 +269,7 @@ fn notes_cut_at_every_byte(rt: HostRuntime) {
     assert!(rt; NOTES.len() == 75);
     for (first, last, out, errors, status) in CUTS {
         for cut in *first..=*last {
-            assert!(rt; cut_comes_to(rt.alloc(), cut, (out, errors, *status)));
+            assert!(rt; cut_comes_to((rt.alloc(), &rt), cut, (out, errors, *status)));
         }
     }
 }
@@ -264,7 +280,7 @@ fn notes_unread(rt: HostRuntime) {
     for reads in 0..=NOTES.len() as u64 {
         let limits = Limits { reads, ..AMPLE };
         let unread = (b"".as_slice(), b"radixvm: read failed\n".as_slice(), 3);
-        assert!(rt; comes_to(rt.alloc(), CERTIFY, NOTES, limits, unread));
+        assert!(rt; comes_to((rt.alloc(), &rt), CERTIFY, NOTES, limits, unread));
     }
 }
 
@@ -274,8 +290,8 @@ const OTHERS: &[u8] = b"vm 1 1 4096\n0 c0 call load 0x0 = step\n1 c0 go = step\n
 const REFUSAL: &[u8] = b"refused C2 2: noted done, expected segv maperr\n";
 
 // Whether a write that fails is told, and what went out before is a front of the line.
-fn tells_of_write(alloc: Global, limits: Limits) -> bool {
-    let ran = run_words(alloc, &alloc, CERTIFY, OTHERS, limits);
+fn tells_of_write<T: Threads + Wait + Sync>((alloc, rt): (Global, &T), limits: Limits) -> bool {
+    let ran = run_words((alloc, rt), &alloc, CERTIFY, OTHERS, limits);
     ran.errors.as_slice() == b"radixvm: write failed\n".as_slice()
         && REFUSAL.starts_with(&ran.out)
         && ran.out.len() < REFUSAL.len()
@@ -292,10 +308,10 @@ fn certificates_unwritten(rt: HostRuntime) {
                 fails,
                 ..AMPLE
             };
-            assert!(rt; tells_of_write(rt.alloc(), limits));
+            assert!(rt; tells_of_write((rt.alloc(), &rt), limits));
         }
     }
-    assert!(rt; comes_to(rt.alloc(), CERTIFY, OTHERS, AMPLE, (REFUSAL, b"", 1)));
+    assert!(rt; comes_to((rt.alloc(), &rt), CERTIFY, OTHERS, AMPLE, (REFUSAL, b"", 1)));
 }
 
 // Whether the notes are certified in a heap of this size. Where they aren't, it has to be told that memory was wanting.
@@ -347,19 +363,19 @@ fn notes_in_files(rt: HostRuntime) {
         b"-".as_slice(),
     ];
     let certified = (b"certified 1\n".as_slice(), b"".as_slice(), 0);
-    assert!(rt; comes_to(rt.alloc(), &words, NOTES, AMPLE, certified));
+    assert!(rt; comes_to((rt.alloc(), &rt), &words, NOTES, AMPLE, certified));
     let words = [
         b"radixvm".as_slice(),
         b"certify".as_slice(),
         b"stored.trace".as_slice(),
     ];
     let bad = (b"".as_slice(), b"radixvm: line 1: bad line\n".as_slice(), 2);
-    assert!(rt; comes_to(rt.alloc(), &words, NOTES, AMPLE, bad));
+    assert!(rt; comes_to((rt.alloc(), &rt), &words, NOTES, AMPLE, bad));
     let words = [
         b"radixvm".as_slice(),
         b"certify".as_slice(),
         b"lost".as_slice(),
     ];
     let unread = (b"".as_slice(), b"radixvm: read failed\n".as_slice(), 3);
-    assert!(rt; comes_to(rt.alloc(), &words, NOTES, AMPLE, unread));
+    assert!(rt; comes_to((rt.alloc(), &rt), &words, NOTES, AMPLE, unread));
 }

@@ -2,9 +2,11 @@
 ghost use Rattle.std.specs.Prelude.{◌≡◌, ◌≤◌, Bool, IfOk, Result};
 ghost use Rattle.std.specs.Io.KnownBytes.{Appends};
 ghost use Rattle.notes_text.specs.CertifyEnds.{Certifies};
+ghost use Rattle.live_script.specs.Texts.{EndsText, IsNotesText, IsVerdictText, TellsText};
+ghost use Rattle.live_script.specs.declared.texts.TextFault.{TextFault};
 ghost use Rattle.radixvm.specs.Echo.{EchoEnds};
 ghost use Rattle.radixvm.specs.Help.{page_of};
-ghost use Rattle.radixvm.specs.Status.{certified_status, status_of, words_status};
+ghost use Rattle.radixvm.specs.Status.{certified_live_status, certified_status, live_status, status_of, words_status};
 ghost use Rattle.radixvm.specs.declared.help.Topic.{Topic};
 ghost use Rattle.radixvm.specs.declared.job.Shows.{Shows};
 ghost use Rattle.trace.specs.Ends.{Ends, TellsFaults};
@@ -16,13 +18,17 @@ use crate::help;
 use crate::help::Topic;
 use crate::input::{Files, input};
 use crate::job::{Shows, run, run_echoing, status_of_fault};
+use crate::live::{certify_live, live};
 use clap::error::ErrorKind;
 use clap::{Arg, ArgAction, ArgMatches, Command, Error};
+use live_script::Runner;
 use radix_range::RadixMap;
 use slot_lock::SlotMap;
 use std::alloc::{AllocError, Allocator, Global};
 use std::env::Env;
 use std::io::{Read, Write};
+use std::sync::Wait;
+use std::thread::Threads;
 use std::{env, io};
 use trace::fault::TraceFault;
 use trace::shown::Show;
@@ -38,6 +44,10 @@ enum Work {
     Echo { explains: bool },
     // The certificate of notes.
     Certify,
+    // A run of a script on threads, whose notes are written.
+    Live,
+    // The certificate of such a run.
+    CertifyLive,
 }
 
 // What is asked for.
@@ -86,6 +96,8 @@ fn grammar<'a>(alloc: Global) -> Result<Command<'a>, AllocError> {
     let explain = flag(alloc, "explain");
     let maps = reading(alloc, "maps", "radixvm maps [--explain] [FILE]")?.arg(explain)?;
     let certify = reading(alloc, "certify", "radixvm certify [FILE]")?;
+    let certifies = flag(alloc, "certify");
+    let live = reading(alloc, "live", "radixvm live [--certify] [FILE]")?.arg(certifies)?;
     let topic = Arg::new(alloc, "TOPIC").value_parser(help::TOPICS);
     let help = Command::new(alloc, "help")
         .override_help(help::OVERVIEW)
@@ -100,6 +112,7 @@ fn grammar<'a>(alloc: Global) -> Result<Command<'a>, AllocError> {
         .subcommand(run)?
         .subcommand(maps)?
         .subcommand(certify)?
+        .subcommand(live)?
         .subcommand(help)?;
     Ok(program)
 }
@@ -114,6 +127,7 @@ fn topic_named(name: Option<&str>) -> Topic {
         Some("faults") => Topic::Faults,
         Some("cores") => Topic::Cores,
         Some("notes") => Topic::Notes,
+        Some("threads") => Topic::Threads,
         _ => Topic::Overview,
     }
 }
@@ -142,12 +156,12 @@ fn echoing<'a>(words: &ArgMatches<'a>) -> Task<'a>
     }
 }
 
-// A certificate.
-fn certifying<'a>(words: &ArgMatches<'a>) -> Task<'a>
-    ensures { result.work ≡ Work.Certify }
+// This work with the text that the words name.
+fn working<'a>(work: Work, words: &ArgMatches<'a>) -> Task<'a>
+    ensures { result.work ≡ work }
 {
     Task {
-        work: Work::Certify,
+        work,
         file: words.get_str("FILE"),
     }
 }
@@ -164,7 +178,11 @@ fn matched<'a, A: Allocator>(
         Some(("run", run)) if run.get_flag("echo") => Ok(Ok(echoing(run))),
         Some(("run", run)) => Ok(Ok(replaying(Show::Outcomes, run))),
         Some(("maps", maps)) => Ok(Ok(replaying(Show::Maps, maps))),
-        Some(("certify", certify)) => Ok(Ok(certifying(certify))),
+        Some(("certify", certify)) => Ok(Ok(working(Work::Certify, certify))),
+        Some(("live", live)) if live.get_flag("certify") => {
+            Ok(Ok(working(Work::CertifyLive, live)))
+        }
+        Some(("live", live)) => Ok(Ok(working(Work::Live, live))),
         Some((_, help)) => Ok(Err(topic_named(help.get_str("TOPIC")))),
         None => Ok(Err(Topic::Overview)),
     }
@@ -264,8 +282,10 @@ fn refuse_file<E: Write>(errors: &mut E) -> u8
     status_of_fault(fault)
 }
 
-// Does what the parsed words ask for, a replay, one with its lines, or a certificate, with its status.
-fn act<S: Source, W: Sink, E: Write>(
+// Does what the parsed words ask for, a replay, one with its lines, a certificate, or a run on threads, with its status.
+fn act<T: Threads + Wait + Sync, R: Runner<Global>, S: Source, W: Sink, E: Write>(
+    rt: &T,
+    runner: &R,
     alloc: Global,
     parsed: Result<Task<'_>, Told>,
     reader: &mut S,
@@ -291,6 +311,20 @@ fn act<S: Source, W: Sink, E: Write>(
         ⟦<RadixMap<Global> as SlotMap>⟧.folds input unread (W.contents out.old) (W.contents out.new) r)
         × TellsFaults r (S.failed reader.new) (S.reads reader.new)
         (W.failed out.old) (W.failed out.new) (W.is_flushed out.new)) }
+    ensures lived { IfOk parsed.entry (λ task. task.work ≡ Work.Live
+        → (r : Result Unit TextFault) × (result ≡ live_status r)
+        × Reads (S.stream reader.old) (S.stream reader.new) (λ input unread. EndsText
+        (λ script done text. IsNotesText script text) input unread (W.contents out.old) (W.contents out.new) r)
+        × TellsText r (S.failed reader.new) (S.reads reader.new)
+        (W.failed out.old) (W.failed out.new) (W.is_flushed out.new)) }
+    ensures certified_live { IfOk parsed.entry (λ task. task.work ≡ Work.CertifyLive
+        → (r : Result Bool TextFault) × (result ≡ certified_live_status r)
+        × Reads (S.stream reader.old) (S.stream reader.new) (λ input unread. EndsText
+        (λ script told text. IsVerdictText Global ⟦<RadixMap<Global> as SlotMap>⟧.parts
+        ⟦<RadixMap<Global> as SlotMap>⟧.can_fold ⟦<RadixMap<Global> as SlotMap>⟧.folds script told text)
+        input unread (W.contents out.old) (W.contents out.new) r)
+        × TellsText r (S.failed reader.new) (S.reads reader.new)
+        (W.failed out.old) (W.failed out.new) (W.is_flushed out.new)) }
     ensures within { result ≤ 3 }
 {
     match parsed {
@@ -298,6 +332,8 @@ fn act<S: Source, W: Sink, E: Write>(
             Work::Replay(shows) => run(alloc, reader, out, errors, shows),
             Work::Echo { explains } => run_echoing(alloc, reader, out, errors, explains),
             Work::Certify => certify(alloc, reader, out, errors),
+            Work::Live => live(rt, runner, alloc, reader, out, errors),
+            Work::CertifyLive => certify_live(rt, runner, alloc, reader, out, errors),
         },
         Err(told) => tell(alloc, &told, out, errors),
     }
@@ -305,33 +341,52 @@ fn act<S: Source, W: Sink, E: Write>(
 
 /// Does what the words say, the program's name first, and answers the status: 0; 1 for notes
 /// that are refused; 2 for a fault of the words or of the text; 3 where reading, writing or memory
-/// failed. A fault is printed on `errors` as `radixvm: ` and its text. The text is what the named
-/// file gives, or `standard` where none is named, or `-`; a file that can't be opened is a read
-/// that failed.
-pub fn command<A: Allocator, I: Read + Drop, F: Files, W: Sink, E: Write>(
+/// failed, or a core of a script couldn't begin a task. A fault is printed on `errors` as
+/// `radixvm: ` and its text. The text is what the named file gives, or `standard` where none is
+/// named, or `-`; a file that can't be opened is a read that failed. The host is where files are
+/// opened, what has threads, and how scripts are run.
+pub fn command<
+    A: Allocator,
+    I: Read + Drop,
+    F: Files,
+    T: Threads + Wait + Sync,
+    R: Runner<Global>,
+    W: Sink,
+    E: Write,
+>(
     alloc: Global,
     words: &[String<A>],
-    files: &F,
+    host: (&F, &T, &R),
     standard: I,
     out: &mut W,
     errors: &mut E,
 ) -> u8
     ensures { result ≤ 3 }
 {
+    let (files, rt, runner) = host;
     let parsed = parse(alloc, words);
     let Ok(input) = input(files, standard, file_of(&parsed)) else {
         return refuse_file(errors);
     };
     let mut reader = Counted::new(input);
-    act(alloc, parsed, &mut reader, out, errors)
+    act(rt, runner, alloc, parsed, &mut reader, out, errors)
 }
 
 /// Reads the program's words, and does what they say, as `command`.
-pub fn program<V: Env + Drop, A: Allocator, I: Read + Drop, F: Files, W: Sink, E: Write>(
+pub fn program<
+    V: Env + Drop,
+    A: Allocator,
+    I: Read + Drop,
+    F: Files,
+    T: Threads + Wait + Sync,
+    R: Runner<Global>,
+    W: Sink,
+    E: Write,
+>(
     environment: V,
     for_words: &A,
     alloc: Global,
-    files: &F,
+    host: (&F, &T, &R),
     standard: I,
     out: &mut W,
     errors: &mut E,
@@ -348,5 +403,5 @@ pub fn program<V: Env + Drop, A: Allocator, I: Read + Drop, F: Files, W: Sink, E
     let Ok(words) = arguments.collect::<Vec<String<&A>, &A>>(for_words) else {
         return refuse_words(WordsFault::NoMemory, errors);
     };
-    command(alloc, &words, files, standard, out, errors)
+    command(alloc, &words, host, standard, out, errors)
 }

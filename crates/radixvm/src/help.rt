@@ -10,6 +10,7 @@ pub const VERSION: &str = "0.1.0";
 pub const USAGE: &str = "radixvm run [--log | --echo] [--explain] [FILE]
        radixvm maps [--explain] [FILE]
        radixvm certify [FILE]
+       radixvm live [--certify] [FILE]
        radixvm help [TOPIC]";
 
 /// What the program is for, its words, and where to read on.
@@ -20,6 +21,7 @@ modelled cores, and replayed from a text, a trace, step by step.
 Usage: radixvm run [--log | --echo] [--explain] [FILE]
        radixvm maps [--explain] [FILE]
        radixvm certify [FILE]
+       radixvm live [--certify] [FILE]
        radixvm help [TOPIC]
 
 Words:
@@ -31,6 +33,8 @@ Words:
   maps           writes the mappings at the trace's end, and nothing else
   certify        reads notes, steps with what each came to, and says whether
                  they are a run of the machine
+  live           runs a script, each core on a thread, and writes their notes
+  live --certify says in their place whether they are a run of the machine
   FILE           the file that is read; without it, or for -, standard input
   --explain      shows under a fault the line, the word, and what was expected
   help           writes this text
@@ -43,6 +47,7 @@ Words:
     faults       what ends a replay early, and the program's status
     cores        tables, TLBs, locks, shootdown, and how frames come back
     notes        the lines that certify reads, and the line that it writes
+    threads      scripts, and what live writes
   -h, --help     writes this text
   -V, --version  writes the version
 
@@ -316,6 +321,41 @@ Status: 0 where they are certified, 1 where they are refused. A fault is told as
 help faults says, and then nothing is written.
 ";
 
+/// What `live` reads and writes.
+pub const THREADS: &str = "\
+live reads a script, and runs each core's lines, in their order, on a thread of
+the core's own, or one core after another where no thread can be made. A script
+has the vm and file lines of help trace, and of other lines these:
+
+  cC! REQ     core C makes a call
+  cC flush    core C flushes one count
+  cC review   core C reviews the first frame of its queue
+
+It is read whole before anything runs. Each core may begin CALLS divided by
+CORES calls, rounded down.
+
+What comes out are notes, as help notes says: a line for each step that a thread
+made, in the order of all steps. Which step comes first where cores meet is up
+to the threads, so two runs of one script may write other notes.
+
+  radixvm live FILE | radixvm certify
+
+says whether they are a run of the machine. live --certify writes no notes, but
+that line, and looks besides at how each slot of the space went along:
+
+  refused C5 PAGE   the slot of this page, a number, went another way
+
+A core that can't begin a task stops, and its fault is told, that of the least
+core of several, with nothing on standard output:
+
+  live V1   it has begun its share of calls
+  live V2   it has noted 2^32 steps
+  live V3   no memory to begin
+
+Status: 0; 1 where notes are refused; 2 for a bad script or bad words; 3 where
+reading, writing or memory failed, or a core stopped.
+";
+
 /// What help may explain.
 #[derive(Clone, Copy, Debug, PartialEq, Eq)]
 pub enum Topic {
@@ -335,11 +375,13 @@ pub enum Topic {
     Cores,
     /// What `certify` reads and writes.
     Notes,
+    /// What `live` reads and writes.
+    Threads,
 }
 
 /// The names of the topics, as the program's words have them.
 pub const TOPICS: &[&str] = &[
-    "trace", "outcomes", "log", "maps", "faults", "cores", "notes",
+    "trace", "outcomes", "log", "maps", "faults", "cores", "notes", "threads",
 ];
 
 /// The topic's text.
@@ -355,5 +397,6 @@ pub fn page(topic: Topic) -> &'static str
         Topic::Faults => FAULTS,
         Topic::Cores => CORES,
         Topic::Notes => NOTES,
+        Topic::Threads => THREADS,
     }
 }

@@ -1,4 +1,4 @@
-//! The program: a trace is replayed, or notes are certified, and what that gives goes to standard output.
+//! The program: a trace is replayed, notes are certified, or a script is run on threads, and what that gives goes to standard output.
 #![tactic(auto)]
 
 #[cfg(test)]
@@ -12,10 +12,14 @@ mod explain_tests;
 mod help;
 mod input;
 mod job;
+mod live;
+#[cfg(test)]
+mod live_tests;
 #[cfg(test)]
 mod tests;
 
 use command::{WordsFault, program, refuse_words};
+use live_script::OnThreads;
 use std::io::BufWriter;
 use std::process::ExitCode;
 use trace_io::sink::Noted;
@@ -27,6 +31,14 @@ fn main(rt: HostRuntime) -> ExitCode {
         return ExitCode::from(refuse_words(WordsFault::NoMemory, &mut errors));
     };
     let mut out = Noted::new(buffer);
-    let status = program(&rt, &alloc, alloc, &rt, rt.stdin(), &mut out, &mut errors);
+    let status = program(
+        &rt,
+        &alloc,
+        alloc,
+        (&rt, &rt, &OnThreads),
+        rt.stdin(),
+        &mut out,
+        &mut errors,
+    );
     ExitCode::from(status)
 }

@@ -6,11 +6,15 @@ use crate::input::Files;
 use crate::job::Shows;
 use crate::{help, job};
 use linked_list_allocator::LocalHeap;
+use live_script::{Ran as RanScript, RunFault, Runner};
+use notes_text::Script;
 use std::alloc::{Allocator, Global};
 use std::env::{Env, FillError};
 use std::io;
 use std::io::{ErrorKind, Read, Write};
+use std::sync::Wait;
 use std::test::Fail;
+use std::thread::Threads;
 use trace::shown::Show;
 use trace_io::sink::Noted;
 use trace_io::source::Counted;
@@ -122,6 +126,24 @@ impl<'a> Files for Shelf<'a> {
     }
 }
 
+/// Runs no script: there is no memory for it.
+#[derive(Drop)]
+pub struct NoRunner;
+
+impl Runner<Global> for NoRunner {
+    fn run<T: Threads + Wait + Sync>(
+        &self,
+        _rt: &T,
+        _alloc: Global,
+        script: &Script<Global>,
+    ) -> Result<RanScript<Global>, RunFault> {
+        match script.declaration().fault() {
+            Some(fault) => Err(RunFault::Setup(fault)),
+            None => Err(RunFault::NoMemory),
+        }
+    }
+}
+
 /// What the program wrote on both outputs, and its status.
 #[derive(Drop)]
 pub struct Ran {
@@ -172,9 +194,9 @@ pub fn sink_of(alloc: Global, limits: Limits) -> Noted<Filling, Global> {
     Noted::unbuffered(alloc, filling)
 }
 
-/// The whole program, but for `main` itself, which hands it the system's input and outputs.
-pub fn run_words<A: Allocator>(
-    alloc: Global,
+/// The whole program, but for `main` itself, which hands it the system's input, outputs and threads.
+pub fn run_host<A: Allocator, T: Threads + Wait + Sync, R: Runner<Global>>(
+    (alloc, rt, runner): (Global, &T, &R),
     for_words: &A,
     words: &[&[u8]],
     input: &[u8],
@@ -192,7 +214,7 @@ pub fn run_words<A: Allocator>(
         given,
         for_words,
         alloc,
-        &files,
+        (&files, rt, runner),
         standard,
         &mut out,
         &mut errors,
@@ -204,18 +226,29 @@ pub fn run_words<A: Allocator>(
     }
 }
 
+/// The same where no script can be run.
+pub fn run_words<A: Allocator, T: Threads + Wait + Sync>(
+    (alloc, rt): (Global, &T),
+    for_words: &A,
+    words: &[&[u8]],
+    input: &[u8],
+    limits: Limits,
+) -> Ran {
+    run_host((alloc, rt, &NoRunner), for_words, words, input, limits)
+}
+
 /// What the program came to, in the order of `Ran`.
 pub type Came<'a> = (&'a [u8], &'a [u8], u8);
 
 /// Whether the program with these words comes to this.
-pub fn comes_to(
-    alloc: Global,
+pub fn comes_to<T: Threads + Wait + Sync>(
+    (alloc, rt): (Global, &T),
     words: &[&[u8]],
     input: &[u8],
     limits: Limits,
     (out, errors, status): Came<'_>,
 ) -> bool {
-    let ran = run_words(alloc, &alloc, words, input, limits);
+    let ran = run_words((alloc, rt), &alloc, words, input, limits);
     ran.out.as_slice() == out && ran.errors.as_slice() == errors && ran.status == status
 }
 
@@ -238,7 +271,7 @@ fn replies(rt: HostRuntime) {
             b"segv maperr\n".as_slice(),
         ),
     ] {
-        assert!(rt; comes_to(rt.alloc(), RUN, input, AMPLE, (output, b"", 0)));
+        assert!(rt; comes_to((rt.alloc(), &rt), RUN, input, AMPLE, (output, b"", 0)));
     }
 }
 
@@ -250,7 +283,7 @@ const MAPPED: &[&[u8]] = &[b"radixvm", b"maps"];
 #[test]
 fn no_event(rt: HostRuntime) {
     for words in [RUN, LOGGED, MAPPED] {
-        assert!(rt; comes_to(rt.alloc(), words, b"vm 1 0\n", AMPLE, (b"", b"", 0)));
+        assert!(rt; comes_to((rt.alloc(), &rt), words, b"vm 1 0\n", AMPLE, (b"", b"", 0)));
     }
 }
 
@@ -259,7 +292,7 @@ fn no_event(rt: HostRuntime) {
 fn log_of_refused_calls(rt: HostRuntime) {
     let input = b"vm 1 1 2\nc0! mmap 0x10000 0 rw- pfa\nc0! load 0\nc0! load 0\n";
     let output = b"einval\nsegv maperr\nfull\nlog 2 call 1 einval\nlog 5 call 2 segv maperr\n";
-    assert!(rt; comes_to(rt.alloc(), LOGGED, input, AMPLE, (output, b"", 0)));
+    assert!(rt; comes_to((rt.alloc(), &rt), LOGGED, input, AMPLE, (output, b"", 0)));
 }
 
 // Neighbouring pages that go on in their file are one mapping, whichever call mapped them.
@@ -269,7 +302,7 @@ fn mappings_of_a_file(rt: HostRuntime) {
         b"vm 1 4\nfile 0 rw 5000 7\nc0! mmap 0x10000 12288 rw- sf 0 0\nc0! mmap 0x11000 4096 r-- pfa\nc0! mmap 0x13000 1 rw- sf 0 0x3000\n";
     let output =
         b"0x10000-0x11000 rw- shared 0 0x0\n0x11000-0x12000 r-- anon\n0x12000-0x14000 rw- shared 0 0x2000\n";
-    assert!(rt; comes_to(rt.alloc(), MAPPED, input, AMPLE, (output, b"", 0)));
+    assert!(rt; comes_to((rt.alloc(), &rt), MAPPED, input, AMPLE, (output, b"", 0)));
 }
 
 #[test]
@@ -289,7 +322,7 @@ fn faults_of_the_text(rt: HostRuntime) {
         (b"vm 0 4\nvm 1 4", b"radixvm: setup S1\n"),
         (b"vm 0 4\n#\x01", b"radixvm: line 2: bad line\n"),
     ] {
-        assert!(rt; comes_to(rt.alloc(), RUN, input, AMPLE, (b"", fault, 2)));
+        assert!(rt; comes_to((rt.alloc(), &rt), RUN, input, AMPLE, (b"", fault, 2)));
     }
 }
 
@@ -299,7 +332,7 @@ fn reads_and_writes_that_fail(rt: HostRuntime) {
     let first = b"0x10000\n".as_slice();
     let reads = Limits { reads: 50, ..AMPLE };
     let unread = (first, b"radixvm: read failed\n".as_slice(), 3);
-    assert!(rt; comes_to(rt.alloc(), RUN, STORED, reads, unread));
+    assert!(rt; comes_to((rt.alloc(), &rt), RUN, STORED, reads, unread));
     for fails in [false, true] {
         let limits = Limits {
             writes: 1,
@@ -307,18 +340,18 @@ fn reads_and_writes_that_fail(rt: HostRuntime) {
             ..AMPLE
         };
         let unwritten = (first, b"radixvm: write failed\n".as_slice(), 3);
-        assert!(rt; comes_to(rt.alloc(), RUN, STORED, limits, unwritten));
+        assert!(rt; comes_to((rt.alloc(), &rt), RUN, STORED, limits, unwritten));
     }
 }
 
 // Whether a failing flush is told, where the program has this word.
-fn tells_of_flush(alloc: Global, word: &[u8]) -> bool {
+fn tells_of_flush<T: Threads + Wait + Sync>((alloc, rt): (Global, &T), word: &[u8]) -> bool {
     let limits = Limits {
         is_closed: true,
         ..AMPLE
     };
     let words = [b"radixvm".as_slice(), word];
-    let ran = run_words(alloc, &alloc, &words, STORED, limits);
+    let ran = run_words((alloc, rt), &alloc, &words, STORED, limits);
     ran.errors.as_slice() == b"radixvm: write failed\n".as_slice() && ran.status == 3
 }
 
@@ -331,13 +364,17 @@ fn a_failing_flush_is_a_fault(rt: HostRuntime) {
         b"--help".as_slice(),
         b"--version".as_slice(),
     ] {
-        assert!(rt; tells_of_flush(rt.alloc(), word));
+        assert!(rt; tells_of_flush((rt.alloc(), &rt), word));
     }
 }
 
 // Whether the program with these words prints this page of its help, and nothing else.
-fn prints(alloc: Global, words: &[&[u8]], page: &str) -> bool {
-    comes_to(alloc, words, b"", AMPLE, (page.as_bytes(), b"", 0))
+fn prints<T: Threads + Wait + Sync>(
+    (alloc, rt): (Global, &T),
+    words: &[&[u8]],
+    page: &str,
+) -> bool {
+    comes_to((alloc, rt), words, b"", AMPLE, (page.as_bytes(), b"", 0))
 }
 
 // The script at the repository's root prints these texts from help.rt where nothing is built.
@@ -356,11 +393,11 @@ fn help_and_version(rt: HostRuntime) {
         [b"radixvm".as_slice(), b"maps".as_slice(), b"-h".as_slice()].as_slice(),
         [b"radixvm".as_slice(), b"help".as_slice(), b"-h".as_slice()].as_slice(),
     ] {
-        assert!(rt; prints(rt.alloc(), words, help::OVERVIEW));
+        assert!(rt; prints((rt.alloc(), &rt), words, help::OVERVIEW));
     }
     let words = [b"radixvm".as_slice(), b"--version".as_slice()];
     let version = (b"radixvm 0.1.0\n".as_slice(), b"".as_slice(), 0);
-    assert!(rt; comes_to(rt.alloc(), &words, b"", AMPLE, version));
+    assert!(rt; comes_to((rt.alloc(), &rt), &words, b"", AMPLE, version));
     assert!(rt; help::VERSION == "0.1.0");
 }
 
@@ -385,6 +422,11 @@ const PAGES: &[(&str, &str, &[&str])] = &[
         help::NOTES,
         &["TICKET EVENT = OUTCOME", "refused C1"],
     ),
+    (
+        "threads",
+        help::THREADS,
+        &["cC! REQ", "refused C5 PAGE", "live V3"],
+    ),
 ];
 
 fn has_all(page: &str, parts: &[&str]) -> bool {
@@ -400,7 +442,7 @@ fn has_all(page: &str, parts: &[&str]) -> bool {
 fn topics(rt: HostRuntime) {
     for (name, page, parts) in PAGES {
         let words = [b"radixvm".as_slice(), b"help".as_slice(), name.as_bytes()];
-        assert!(rt; prints(rt.alloc(), &words, page));
+        assert!(rt; prints((rt.alloc(), &rt), &words, page));
         assert!(rt; has_all(page, parts));
         assert!(rt; help::OVERVIEW.contains(name));
     }
@@ -426,14 +468,19 @@ fn help_fits_into_eighty_columns(rt: HostRuntime) {
         help::FAULTS,
         help::CORES,
         help::NOTES,
+        help::THREADS,
     ] {
         assert!(rt; is_narrow(page));
     }
 }
 
 // Whether these words are refused with this in what is told.
-fn is_told(alloc: Global, words: &[&[u8]], part: &str) -> bool {
-    let ran = run_words(alloc, &alloc, words, b"", AMPLE);
+fn is_told<T: Threads + Wait + Sync>(
+    (alloc, rt): (Global, &T),
+    words: &[&[u8]],
+    part: &str,
+) -> bool {
+    let ran = run_words((alloc, rt), &alloc, words, b"", AMPLE);
     match str::from_utf8(&ran.errors) {
         Ok(text) => ran.status == 2 && text.contains(part),
         Err(_) => false,
@@ -443,28 +490,34 @@ fn is_told(alloc: Global, words: &[&[u8]], part: &str) -> bool {
 #[test]
 fn wrong_words_are_told_the_right_ones(rt: HostRuntime) {
     let rum = [b"radixvm".as_slice(), b"rum".as_slice()];
-    assert!(rt; is_told(rt.alloc(), &rum, "'run'"));
-    assert!(rt; is_told(rt.alloc(), &rum, help::USAGE));
-    assert!(rt; is_told(rt.alloc(), &[b"radixvm"], help::USAGE));
-    assert!(rt; is_told(rt.alloc(), &[b"radixvm", b"run", b"--lag"], "'--log'"));
+    assert!(rt; is_told((rt.alloc(), &rt), &rum, "'run'"));
+    assert!(rt; is_told((rt.alloc(), &rt), &rum, help::USAGE));
+    assert!(rt; is_told((rt.alloc(), &rt), &[b"radixvm"], help::USAGE));
+    assert!(rt;
+        is_told(
+            (rt.alloc(), &rt),
+            &[b"radixvm", b"run", b"--lag"],
+            "'--log'"
+        )
+    );
     let topic = [
         b"radixvm".as_slice(),
         b"help".as_slice(),
         b"traces".as_slice(),
     ];
-    assert!(rt; is_told(rt.alloc(), &topic, "'trace'"));
+    assert!(rt; is_told((rt.alloc(), &rt), &topic, "'trace'"));
     assert!(rt;
         is_told(
-            rt.alloc(),
+            (rt.alloc(), &rt),
             &topic,
-            "trace, outcomes, log, maps, faults, cores, notes"
+            "trace, outcomes, log, maps, faults, cores, notes, threads"
         )
     );
 }
 
 // Whether the words are refused, with one prefix.
-fn are_refused(alloc: Global, words: &[&[u8]]) -> bool {
-    let ran = run_words(alloc, &alloc, words, STORED, AMPLE);
+fn are_refused<T: Threads + Wait + Sync>((alloc, rt): (Global, &T), words: &[&[u8]]) -> bool {
+    let ran = run_words((alloc, rt), &alloc, words, STORED, AMPLE);
     ran.errors.starts_with(b"radixvm: ")
         && !ran.errors.starts_with(b"radixvm: error")
         && ran.out.is_empty()
@@ -473,26 +526,32 @@ fn are_refused(alloc: Global, words: &[&[u8]]) -> bool {
 
 #[test]
 fn bad_words(rt: HostRuntime) {
-    assert!(rt; are_refused(rt.alloc(), &[]));
-    assert!(rt; are_refused(rt.alloc(), &[b"radixvm"]));
-    assert!(rt; are_refused(rt.alloc(), &[b"radixvm", b"frob"]));
-    assert!(rt; are_refused(rt.alloc(), &[b"radixvm", b"--frob"]));
-    assert!(rt; are_refused(rt.alloc(), &[b"radixvm", b"run", b"now", b"then"]));
-    assert!(rt; are_refused(rt.alloc(), &[b"radixvm", b"maps", b"--log"]));
-    assert!(rt; are_refused(rt.alloc(), &[b"radixvm", b"run", b"--log", b"--echo"]));
-    assert!(rt; are_refused(rt.alloc(), &[b"radixvm", b"certify", b"--explain"]));
-    assert!(rt; are_refused(rt.alloc(), &[b"radixvm", b"--log", b"run"]));
-    assert!(rt; are_refused(rt.alloc(), &[b"radixvm", b"run", b"\xff"]));
+    assert!(rt; are_refused((rt.alloc(), &rt), &[]));
+    assert!(rt; are_refused((rt.alloc(), &rt), &[b"radixvm"]));
+    assert!(rt; are_refused((rt.alloc(), &rt), &[b"radixvm", b"frob"]));
+    assert!(rt; are_refused((rt.alloc(), &rt), &[b"radixvm", b"--frob"]));
+    assert!(rt; are_refused((rt.alloc(), &rt), &[b"radixvm", b"run", b"now", b"then"]));
+    assert!(rt; are_refused((rt.alloc(), &rt), &[b"radixvm", b"maps", b"--log"]));
+    assert!(rt;
+        are_refused(
+            (rt.alloc(), &rt),
+            &[b"radixvm", b"run", b"--log", b"--echo"]
+        )
+    );
+    assert!(rt; are_refused((rt.alloc(), &rt), &[b"radixvm", b"certify", b"--explain"]));
+    assert!(rt; are_refused((rt.alloc(), &rt), &[b"radixvm", b"live", b"--explain"]));
+    assert!(rt; are_refused((rt.alloc(), &rt), &[b"radixvm", b"--log", b"run"]));
+    assert!(rt; are_refused((rt.alloc(), &rt), &[b"radixvm", b"run", b"\xff"]));
     let words = [b"radixvm".as_slice(), b"\xff".as_slice()];
     let fault = b"radixvm: the words are not UTF-8\n".as_slice();
-    assert!(rt; comes_to(rt.alloc(), &words, STORED, AMPLE, (b"", fault, 2)));
+    assert!(rt; comes_to((rt.alloc(), &rt), &words, STORED, AMPLE, (b"", fault, 2)));
 }
 
 #[test]
 fn no_memory_for_the_words(rt: HostRuntime) -> Result<(), Fail> {
     let heap = LocalHeap::new(rt.alloc(), 64)?;
     let words = [[b'r'; 256].as_slice(), b"run".as_slice()];
-    let ran = run_words(rt.alloc(), &heap, &words, STORED, AMPLE);
+    let ran = run_words((rt.alloc(), &rt), &heap, &words, STORED, AMPLE);
     assert!(rt; ran.errors.as_slice() == b"radixvm: out of memory\n".as_slice() && ran.status == 3);
     Ok(())
 }
@@ -528,9 +587,9 @@ fn no_memory_for_the_replay(rt: HostRuntime) -> Result<(), Fail> {
 fn log_and_mappings(rt: HostRuntime) {
     let log =
         b"0x10000\ndone\n41\n0\nlog 9 call 1 0x10000\nlog 21 call 2 done\nlog 25 call 3 41\nlog 29 call 4 0\n".as_slice();
-    assert!(rt; comes_to(rt.alloc(), LOGGED, STORED, AMPLE, (log, b"", 0)));
+    assert!(rt; comes_to((rt.alloc(), &rt), LOGGED, STORED, AMPLE, (log, b"", 0)));
     let maps = b"0x10000-0x11000 rw- anon\n".as_slice();
-    assert!(rt; comes_to(rt.alloc(), MAPPED, STORED, AMPLE, (maps, b"", 0)));
+    assert!(rt; comes_to((rt.alloc(), &rt), MAPPED, STORED, AMPLE, (maps, b"", 0)));
 }
 
 // A trace is read from the file that is named, or from standard input.
@@ -539,7 +598,7 @@ fn traces_in_files(rt: HostRuntime) {
     let output = b"0x10000\ndone\n41\n0\n".as_slice();
     for word in [b"-".as_slice(), b"stored.trace".as_slice()] {
         let words = [b"radixvm".as_slice(), b"run".as_slice(), word];
-        assert!(rt; comes_to(rt.alloc(), &words, STORED, AMPLE, (output, b"", 0)));
+        assert!(rt; comes_to((rt.alloc(), &rt), &words, STORED, AMPLE, (output, b"", 0)));
     }
     let words = [
         b"radixvm".as_slice(),
@@ -547,10 +606,10 @@ fn traces_in_files(rt: HostRuntime) {
         b"stored.trace".as_slice(),
     ];
     let maps = b"0x10000-0x11000 rw- anon\n".as_slice();
-    assert!(rt; comes_to(rt.alloc(), &words, b"", AMPLE, (maps, b"", 0)));
+    assert!(rt; comes_to((rt.alloc(), &rt), &words, b"", AMPLE, (maps, b"", 0)));
     let words = [b"radixvm".as_slice(), b"run".as_slice(), b"lost".as_slice()];
     let fault = b"radixvm: read failed\n".as_slice();
-    assert!(rt; comes_to(rt.alloc(), &words, STORED, AMPLE, (b"", fault, 3)));
+    assert!(rt; comes_to((rt.alloc(), &rt), &words, STORED, AMPLE, (b"", fault, 3)));
 }
 
 const EXPLAINED: &[&[u8]] = &[b"radixvm", b"run", b"--explain"];
@@ -576,15 +635,23 @@ fn faults_explained(rt: HostRuntime) {
             b"radixvm: setup S1\n  expected CORES of the vm line from 1 to 64\n",
         ),
     ] {
-        assert!(rt; comes_to(rt.alloc(), EXPLAINED, input, AMPLE, (b"", fault, 2)));
+        assert!(rt; comes_to((rt.alloc(), &rt), EXPLAINED, input, AMPLE, (b"", fault, 2)));
     }
     let output = b"0x10000\ndone\n41\n0\n".as_slice();
-    assert!(rt; comes_to(rt.alloc(), EXPLAINED, STORED, AMPLE, (output, b"", 0)));
+    assert!(rt;
+        comes_to(
+            (rt.alloc(), &rt),
+            EXPLAINED,
+            STORED,
+            AMPLE,
+            (output, b"", 0)
+        )
+    );
     // A core that isn't there is no fault.
     let idle = b"idle\n".as_slice();
     assert!(rt;
         comes_to(
-            rt.alloc(),
+            (rt.alloc(), &rt),
             EXPLAINED,
             b"vm 2 4\nc2 go\n",
             AMPLE,
@@ -609,7 +676,7 @@ fn lines_beside_their_outcomes(rt: HostRuntime) {
         ),
         (b"vm 1 0".as_slice(), b"vm 1 0\n".as_slice()),
     ] {
-        assert!(rt; comes_to(rt.alloc(), ECHOED, input, AMPLE, (output, b"", 0)));
+        assert!(rt; comes_to((rt.alloc(), &rt), ECHOED, input, AMPLE, (output, b"", 0)));
     }
 }
 
@@ -631,21 +698,29 @@ fn faults_of_shown_lines(rt: HostRuntime) {
             2,
         ),
     ] {
-        assert!(rt; comes_to(rt.alloc(), ECHOED, input, AMPLE, (output, fault, status)));
+        assert!(rt;
+            comes_to(
+                (rt.alloc(), &rt),
+                ECHOED,
+                input,
+                AMPLE,
+                (output, fault, status)
+            )
+        );
     }
     let reads = Limits { reads: 50, ..AMPLE };
     let shown = b"vm 1 4\nc0! mmap 0x10000 4096 rw- pfa = 0x10000\n".as_slice();
     let unread = (shown, b"radixvm: read failed\n".as_slice(), 3);
-    assert!(rt; comes_to(rt.alloc(), ECHOED, STORED, reads, unread));
+    assert!(rt; comes_to((rt.alloc(), &rt), ECHOED, STORED, reads, unread));
     let writes = Limits { writes: 2, ..AMPLE };
     let unwritten = (shown, b"radixvm: write failed\n".as_slice(), 3);
-    assert!(rt; comes_to(rt.alloc(), ECHOED, STORED, writes, unwritten));
+    assert!(rt; comes_to((rt.alloc(), &rt), ECHOED, STORED, writes, unwritten));
     let closed = Limits {
         is_closed: true,
         ..AMPLE
     };
     let unsent = (b"".as_slice(), b"radixvm: write failed\n".as_slice(), 3);
-    assert!(rt; comes_to(rt.alloc(), ECHOED, b"vm 1 4\n", closed, unsent));
+    assert!(rt; comes_to((rt.alloc(), &rt), ECHOED, b"vm 1 4\n", closed, unsent));
 }
 
 // A line of 256 bytes is shown with its outcome behind it.
@@ -656,7 +731,7 @@ fn a_long_line_is_shown(rt: HostRuntime) {
     for _space in 0..251 {
         assert!(rt; input.push(b' ').is_ok());
     }
-    let ran = run_words(rt.alloc(), &rt.alloc(), ECHOED, &input, AMPLE);
+    let ran = run_words((rt.alloc(), &rt), &rt.alloc(), ECHOED, &input, AMPLE);
     assert!(rt;
         ran.out.starts_with(&input) && ran.out.ends_with(b"  = idle\n") && ran.out.len() == 271
     );

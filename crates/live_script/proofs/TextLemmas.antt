@@ -1,0 +1,99 @@
+-- What is written of a script's text
+use Rattle.std.proofs.Common.{◌≡◌, ◌⊎◌, inl, inr, ℕ, Bool, List, Option, Some, None, Result, Ok, Err, refl, sym, ap, ◌∙◌, subst, map, Bor}
+use Rattle.std.specs.Io.KnownBytes.{Keeps, Appends}
+use Rattle.trace_io.specs.Sink.{AppendsFront}
+use Rattle.vm_base.specs.declared.page.PageRange.{PageRange}
+use Rattle.slot_lock.specs.Slots.{Slots}
+use Rattle.seats.specs.Notes.{SeatView}
+use Rattle.seats.specs.declared.noted.Noted.{Noted}
+use Rattle.certifier.specs.Order.{all_notes}
+use Rattle.live_space.specs.Space.{LiveView}
+use Rattle.trace.specs.Declarations.{Asked, asked_fault}
+use Rattle.trace.specs.declared.fault.TraceFault.{TraceFault}
+use Rattle.trace.specs.declared.fault.TraceFault.TheVariants as Of
+use Rattle.notes_text.specs.Ordered.{AreInOrder}
+use Rattle.notes_text.specs.Scripts.{ReadWhole, Scripted, Unread, unread_text, unmade, wanting}
+use Rattle.notes_text.specs.Verdicts.{is_certified, verdict_text}
+use Rattle.notes_text.specs.WriteEnds.{Writes}
+use Rattle.notes_text.specs.Written.{notes_text}
+use Rattle.notes_text.specs.declared.verdict.Verdict.{Verdict}
+use Rattle.notes_text.proofs.CollectLemmas.{stops_own}
+use Rattle.live_script.specs.Certified.{notes_in}
+use Rattle.live_script.specs.Runs.{Fails, RunsAll}
+use Rattle.live_script.specs.Texts.{Ceases, unrun, unwritten, EndsText, IsNotesText, IsVerdictText, JudgedRun, Yields, fault_of_run}
+use Rattle.live_script.specs.declared.fault.RunFault.{RunFault}
+use Rattle.live_script.specs.declared.fault.RunFault.TheVariants.{Setup, Live, NoMemory}
+use Rattle.live_script.specs.declared.texts.TextFault.{TextFault}
+use Rattle.live_script.specs.declared.texts.TextFault.TheVariants.{Text}
+
+-- ---- faults
+
+-- no fault of reading a script is one of writing
+pub unread_own : {X : Type 0} (input unread : List ℕ) (f : TraceFault) → Unread input unread f → f ≡ Of.WriteFailed → X
+unread_own input unread f (unread_text s) w = stops_own _ _ input unread f s w
+unread_own input unread f (unmade e u) w = let clash : Of.NoMemory ≡ Of.WriteFailed = sym e ∙ w in absurd (cc)
+unread_own input unread f (wanting e a n c) w = let clash : Of.NoMemory ≡ Of.WriteFailed = sym e ∙ w in absurd (cc)
+
+-- what is written of a script that was read is so of its text
+module _ {T : Type 0} (Gives : Scripted → T → List ℕ → Type 0) (script : Scripted) (old new : Option (List ℕ)) where
+  pub ends_as_yields : (input unread : List ℕ) (r : Result T TextFault) → ReadWhole input script → Yields Gives script old new r
+      → EndsText Gives input unread old new r
+  ends_as_yields input unread (Ok x) whole y = (script, whole, y)
+  ends_as_yields input unread (Err f) whole y = inr (script, whole, y)
+
+-- ---- notes
+
+-- what is lent of them is what the seats noted
+pub same_notes : (lent all : List (Bor (List Noted))) (seats : List SeatView) → lent ≡ all → map (λ s. s.now) all ≡ map (λ s. s.notes) seats
+    → map (λ s. s.now) lent ≡ map (λ s. s.notes) seats
+same_notes lent all seats is same = subst (λ (l : List (Bor (List Noted))). map (λ s. s.now) l ≡ map (λ s. s.notes) seats) (sym is) same
+
+-- what was written of the notes is their text
+pub notes_written : {U : Type 0} (script : Scripted) (live : LiveView) (seats : List SeatView) (slices : List (List Noted)) (old new : Option (List ℕ))
+    (x : U) → RunsAll script live seats → slices ≡ map (λ s. s.notes) seats
+    → (order : List Noted) × AreInOrder (all_notes slices) order × Appends old new (notes_text script.asked order)
+    → Yields (λ script (done : U) text. IsNotesText script text) script old new (Ok x)
+notes_written script live seats slices old new x runs same (order, are, app) = (
+  notes_text script.asked order,
+  record {
+    live = live;
+    seats = seats;
+    runs = runs;
+    order = order;
+    in_order = subst (λ l. AreInOrder (all_notes l) order) same are;
+    says = refl;
+  },
+  app,
+)
+
+-- notes that weren't written whole
+pub notes_unwritten : {U : Type 0} (script : Scripted) (live : LiveView) (seats : List SeatView) (slices : List (List Noted)) (old new : Option (List ℕ))
+    (x : U) (f : TraceFault) → RunsAll script live seats → slices ≡ map (λ s. s.notes) seats
+    → ((f ≡ Of.NoMemory) × Keeps old new)
+    ⊎ ((f ≡ Of.WriteFailed) × ((order : List Noted) × AreInOrder (all_notes slices) order × AppendsFront old new (notes_text script.asked order)))
+    → Ceases (λ script (done : U) text. IsNotesText script text) script old new (Text f)
+notes_unwritten script live seats slices old new x f runs same (inl (is, keeps)) = unrun NoMemory runs.declared.sound (ap Text is) keeps
+notes_unwritten script live seats slices old new x f runs same (inr (is, (order, are, front))) =
+    let (text, given, app) = given_text in unwritten (ap Text is) x text given app
+  where
+    given_text : (text : List ℕ) × IsNotesText script text × AppendsFront old new text
+    given_text = (
+      notes_text script.asked order,
+      record {
+        live = live;
+        seats = seats;
+        runs = runs;
+        order = order;
+        in_order = subst (λ l. AreInOrder (all_notes l) order) same are;
+        says = refl;
+      },
+      front,
+    )
+
+-- ---- verdicts
+
+-- the line of a verdict
+pub verdict_given : {A : Type 0} (parts : PageRange → ℕ → ℕ → Bool) (CanFold : Slots → ℕ → Type 0) (Folds : Slots → Slots → ℕ → Type 0)
+    (script : Scripted) (verdict : Verdict) → JudgedRun A parts CanFold Folds script verdict
+    → IsVerdictText A parts CanFold Folds script (is_certified verdict) (verdict_text verdict)
+verdict_given parts CanFold Folds script verdict judged = record { verdict = verdict; judged = judged; certified = refl; says = refl }

@@ -1,0 +1,102 @@
+-- What is written of the text of a script
+use Rattle.std.specs.Prelude.{◌≡◌, ℕ, ◌⊎◌, Bool, true, List, ⊤, Option, Result, Ok, Err, OnOk}
+use Rattle.std.specs.Io.KnownBytes.{Keeps, Appends}
+use Rattle.vm_base.specs.declared.page.PageRange.{PageRange}
+use Rattle.slot_lock.specs.Slots.{Slots}
+use Rattle.seats.specs.Notes.{SeatView}
+use Rattle.seats.specs.declared.noted.Noted.{Noted}
+use Rattle.certifier.specs.declared.result.CertifyFault.TheVariants as By
+use Rattle.live_space.specs.Space.{LiveView}
+use Rattle.trace_io.specs.Sink.{AppendsFront}
+use Rattle.trace_io.specs.Source.{HasStopped}
+use Rattle.trace.specs.Declarations.{Asked}
+use Rattle.trace.specs.declared.fault.TraceFault.{TraceFault}
+use Rattle.trace.specs.declared.fault.TraceFault.TheVariants as Of
+use Rattle.notes_text.specs.Ordered.{AreInOrder}
+use Rattle.notes_text.specs.Scripts.{ReadWhole, Scripted, Unread}
+use Rattle.notes_text.specs.Verdicts.{is_certified, verdict_text}
+use Rattle.notes_text.specs.Written.{notes_text}
+use Rattle.notes_text.specs.declared.verdict.Verdict.{Verdict}
+use Rattle.notes_text.specs.declared.verdict.Verdict.TheVariants.{Certified, Ticket, Differs, Slot}
+use Rattle.live_script.specs.Certified.{FailsRun, IsCertifiedRun, notes_in}
+use Rattle.live_script.specs.Runs.{Fails, RunsAll}
+use Rattle.live_script.specs.declared.fault.RunFault.{RunFault}
+use Rattle.live_script.specs.declared.fault.RunFault.TheVariants.{Setup, Live, NoMemory}
+use Rattle.live_script.specs.declared.texts.TextFault.{TextFault}
+use Rattle.live_script.specs.declared.texts.TextFault.TheVariants as Told
+use Rattle.live_script.specs.declared.texts.TextFault.TheVariants.{Text}
+
+-- ---- what may be written of a script
+
+-- it was run, and this is the text of what its seats noted, in order of tickets
+pub record IsNotesText (script : Scripted) (text : List ℕ) : Type 0 where
+  pub live : LiveView
+  pub seats : List SeatView
+  pub runs : RunsAll script live seats
+  pub order : List Noted
+  pub in_order : AreInOrder (notes_in seats) order
+  pub says : text ≡ notes_text script.asked order
+
+-- what certifying the seats' notes beside histories of slots comes to
+abbrev pub JudgesRun : Type 0 → (PageRange → ℕ → ℕ → Bool) → (Slots → ℕ → Type 0) → (Slots → Slots → ℕ → Type 0)
+    → Asked → List SeatView → Verdict → Type 0
+JudgesRun A parts CanFold Folds asked seats (Certified calls) = IsCertifiedRun A parts CanFold Folds asked seats calls
+JudgesRun A parts CanFold Folds asked seats (Ticket t) = FailsRun A parts CanFold Folds asked seats (By.Ticket t)
+JudgesRun A parts CanFold Folds asked seats (Differs t noted expected) =
+    FailsRun A parts CanFold Folds asked seats (By.Differs t noted expected)
+JudgesRun A parts CanFold Folds asked seats (Slot page) = FailsRun A parts CanFold Folds asked seats (By.Slot page)
+
+-- the script was run, and this is what certifying what its seats noted comes to
+pub record JudgedRun (A : Type 0) (parts : PageRange → ℕ → ℕ → Bool) (CanFold : Slots → ℕ → Type 0)
+    (Folds : Slots → Slots → ℕ → Type 0) (script : Scripted) (verdict : Verdict) : Type 0 where
+  pub live : LiveView
+  pub seats : List SeatView
+  pub runs : RunsAll script live seats
+  pub judges : JudgesRun A parts CanFold Folds script.asked seats verdict
+
+-- this is the line that tells it, of notes that are certified or not
+pub record IsVerdictText (A : Type 0) (parts : PageRange → ℕ → ℕ → Bool) (CanFold : Slots → ℕ → Type 0)
+    (Folds : Slots → Slots → ℕ → Type 0) (script : Scripted) (told : Bool) (text : List ℕ) : Type 0 where
+  pub verdict : Verdict
+  pub judged : JudgedRun A parts CanFold Folds script verdict
+  pub certified : told ≡ is_certified verdict
+  pub says : text ≡ verdict_text verdict
+
+-- ---- how it ends
+
+-- as what a fault of running is told
+abbrev pub fault_of_run : RunFault → TextFault
+fault_of_run (Setup fault) = Text (Of.Setup fault)
+fault_of_run (Live fault) = Told.Live fault
+fault_of_run NoMemory = Text Of.NoMemory
+
+-- Why what was to be written of a script wasn't: a task couldn't begin, there was no space or no memory, and then nothing was
+-- written; or a write or a flush failed, and a front of it was.
+pub data Ceases {T : Type 0} (Gives : Scripted → T → List ℕ → Type 0) (script : Scripted) (old new : Option (List ℕ))
+    (f : TextFault) : Type 0 where
+  unrun : (fault : RunFault) → Fails script fault → f ≡ fault_of_run fault → Keeps old new → Ceases Gives script old new f
+  unwritten : f ≡ Text Of.WriteFailed → (x : T) (text : List ℕ) → Gives script x text → AppendsFront old new text
+      → Ceases Gives script old new f
+
+-- a text that may come of the script was written, or not
+abbrev pub Yields : {T : Type 0} → (Scripted → T → List ℕ → Type 0) → Scripted → Option (List ℕ) → Option (List ℕ)
+    → Result T TextFault → Type 0
+Yields Gives script old new (Ok x) = (text : List ℕ) × Gives script x text × Appends old new text
+Yields Gives script old new (Err f) = Ceases Gives script old new f
+
+-- the same of a script that is to be read, of which nothing is written before all lines were read
+abbrev pub EndsText : {T : Type 0} → (Scripted → T → List ℕ → Type 0) → List ℕ → List ℕ → Option (List ℕ) → Option (List ℕ)
+    → Result T TextFault → Type 0
+EndsText Gives input unread old new (Ok x) = (script : Scripted) × ReadWhole input script × Yields Gives script old new (Ok x)
+EndsText Gives input unread old new (Err f) =
+    ((fault : TraceFault) × (f ≡ Text fault) × Unread input unread fault × Keeps old new)
+    ⊎ ((script : Scripted) × ReadWhole input script × Ceases Gives script old new f)
+
+-- `read failed` is told only of a read that failed or was one too many, and `write failed` only where a write or a flush
+-- failed; where it isn't told, none failed, and where nothing is, all that was written has gone out.
+pub record TellsText {T : Type 0} (r : Result T TextFault) (read_failed : Bool) (reads : ℕ)
+    (before failed is_flushed : Bool) : Type 0 where
+  pub read : r ≡ Err (Text Of.ReadFailed) → HasStopped read_failed reads
+  pub write : r ≡ Err (Text Of.WriteFailed) → failed ≡ true
+  pub kept : (r ≡ Err (Text Of.WriteFailed)) ⊎ (failed ≡ before)
+  pub out : OnOk r (is_flushed ≡ true)

@@ -1,0 +1,217 @@
+//! A script's text that is run, and what is written of it: the notes of its seats, or what certifying them comes to.
+ghost use Rattle.std.specs.Prelude.{◌≡◌, ◌⊎◌, Err, IfErr, IfOk, None, OnErr, OnOk, true};
+ghost use Rattle.std.specs.Io.KnownBytes.{Appends};
+ghost use Rattle.trace_io.specs.Sink.{AppendsFront};
+ghost use Rattle.trace_io.specs.Source.{HasStopped, Reads};
+ghost use Rattle.trace.specs.Declarations.{asked_fault};
+ghost use Rattle.notes_text.specs.Scripts.{ReadsScript, Unread, ReadWhole};
+ghost use Rattle.notes_text.specs.Verdicts.{verdict_text};
+ghost use Rattle.live_script.specs.Runs.{Fails};
+ghost use Rattle.live_script.specs.Texts.{EndsText, IsNotesText, IsVerdictText, JudgedRun, TellsText, Yields, fault_of_run};
+
+use crate::certifying::certify_ran;
+use crate::fault::RunFault;
+use crate::runner::Runner;
+use certifier::CertifyFault;
+use live_space::fault::LiveFault;
+use notes_text::verdict::{Verdict, write_verdict};
+use notes_text::{Script, read_script, write_notes};
+use radix_range::RadixMap;
+use slot_lock::SlotMap;
+use std::alloc::Allocator;
+use std::sync::Wait;
+use std::thread::Threads;
+use thiserror::Error;
+use trace::fault::TraceFault;
+use trace_io::sink::{Sink, WriteFailed};
+use trace_io::source::Source;
+
+/// Why a script's text wasn't run, or what came of it wasn't written.
+#[derive(Clone, Copy, Debug, PartialEq, Eq, Error)]
+pub enum TextFault {
+    /// The text can't be read, it makes no space, memory is wanting, or a write failed.
+    #[error("{0}")]
+    Text(TraceFault),
+    /// A task of a core couldn't begin. Of several cores it is the least one's fault.
+    #[error("live {0}")]
+    Live(LiveFault),
+}
+
+// As what a fault of running is told.
+fn fault_of_run(fault: RunFault) -> TextFault
+    ensures { result ≡ fault_of_run fault }
+{
+    match fault {
+        RunFault::Setup(fault) => TextFault::Text(TraceFault::Setup(fault)),
+        RunFault::Live(fault) => TextFault::Live(fault),
+        RunFault::NoMemory => TextFault::Text(TraceFault::NoMemory),
+    }
+}
+
+// ---- notes
+
+// Runs the script, and writes what its seats noted.
+fn write_run<A: Allocator + Clone + Drop, T: Threads + Wait + Sync, R: Runner<A>, W: Sink>(
+    rt: &T,
+    runner: &R,
+    alloc: A,
+    script: &Script<A>,
+    writer: &mut W,
+) -> Result<(), TextFault>
+    requires { asked_fault script.now.asked ≡ None }
+    ensures ends { Yields (λ script done text. IsNotesText script text) script.now (W.contents writer.old) (W.contents writer.new) result }
+    ensures write { result ≡ Err (TextFault.Text TraceFault.WriteFailed) → W.failed writer.new ≡ true }
+    ensures kept { (result ≡ Err (TextFault.Text TraceFault.WriteFailed)) ⊎ (W.failed writer.new ≡ W.failed writer.old) }
+    ensures out { OnOk result (W.is_flushed writer.new ≡ true) }
+{
+    let Ok(for_run) = alloc.clone() else {
+        return Err(TextFault::Text(TraceFault::NoMemory));
+    };
+    let ran = match runner.run(rt, for_run, script) {
+        Ok(ran) => ran,
+        Err(fault) => return Err(fault_of_run(fault)),
+    };
+    let Ok(notes) = ran.notes(alloc) else {
+        return Err(TextFault::Text(TraceFault::NoMemory));
+    };
+    match write_notes(script, notes.as_slice(), writer) {
+        Ok(()) => Ok(()),
+        Err(fault) => Err(TextFault::Text(fault)),
+    }
+}
+
+/// Reads a script, runs it, and writes the notes of all seats, in order of tickets. Faults come in this order: of the text, of
+/// the making of the space, of a core's task, and of writing; nothing is written before the last. Memory may be wanting at any
+/// time.
+pub fn run_text<
+    A: Allocator + Clone + Drop,
+    T: Threads + Wait + Sync,
+    R: Runner<A>,
+    S: Source,
+    W: Sink,
+>(rt: &T, runner: &R, alloc: A, reader: &mut S, writer: &mut W) -> Result<(), TextFault>
+    ensures ends { Reads (S.stream reader.old) (S.stream reader.new) (λ input unread. EndsText
+        (λ script done text. IsNotesText script text) input unread (W.contents writer.old) (W.contents writer.new) result) }
+    ensures told { TellsText result (S.failed reader.new) (S.reads reader.new)
+        (W.failed writer.old) (W.failed writer.new) (W.is_flushed writer.new) }
+{
+    let Ok(for_script) = alloc.clone() else {
+        return Err(TextFault::Text(TraceFault::NoMemory));
+    };
+    let script = match read_script(for_script, reader) {
+        Ok(script) => script,
+        Err(fault) => return Err(TextFault::Text(fault)),
+    };
+    write_run(rt, runner, alloc, &script, writer)
+}
+
+// ---- certificates
+
+// Runs the script, and certifies what its seats noted.
+fn judge_run<A: Allocator + Clone + Drop, T: Threads + Wait + Sync, R: Runner<A>>(
+    rt: &T,
+    runner: &R,
+    alloc: A,
+    script: &Script<A>,
+) -> Result<Verdict, TextFault>
+    requires { asked_fault script.now.asked ≡ None }
+    ensures judged { IfOk result (λ verdict. JudgedRun A ⟦<RadixMap<A> as SlotMap>⟧.parts
+        ⟦<RadixMap<A> as SlotMap>⟧.can_fold ⟦<RadixMap<A> as SlotMap>⟧.folds script.now verdict) }
+    ensures fault { IfErr result (λ f. (fault : RunFault) × Fails script.now fault × (f ≡ fault_of_run fault)) }
+{
+    let Ok(for_run) = alloc.clone() else {
+        return Err(TextFault::Text(TraceFault::NoMemory));
+    };
+    let ran = match runner.run(rt, for_run, script) {
+        Ok(ran) => ran,
+        Err(fault) => return Err(fault_of_run(fault)),
+    };
+    match certify_ran(alloc, script, ran) {
+        Ok(done) => Ok(Verdict::Certified(done.calls)),
+        Err(CertifyFault::Ticket(ticket)) => Ok(Verdict::Ticket(ticket)),
+        Err(
+            CertifyFault::Differs {
+                ticket,
+                noted,
+                expected,
+            },
+        ) => Ok(Verdict::Differs {
+            ticket,
+            noted,
+            expected,
+        }),
+        Err(CertifyFault::Slot { page }) => Ok(Verdict::Slot(page)),
+        // (the declaration has no fault)
+        Err(CertifyFault::Setup(_)) | Err(CertifyFault::NoMemory) => {
+            Err(TextFault::Text(TraceFault::NoMemory))
+        }
+    }
+}
+
+// Writes the line that tells the verdict, and hands it on.
+fn send_verdict<W: Sink>(writer: &mut W, verdict: Verdict) -> Result<(), WriteFailed>
+    ensures ok { OnOk result (Appends (W.contents writer.old) (W.contents writer.new) (verdict_text verdict)) }
+    ensures out { OnOk result (W.is_flushed writer.new ≡ true) }
+    ensures kept { OnOk result (W.failed writer.new ≡ W.failed writer.old) }
+    ensures front { OnErr result
+        (AppendsFront (W.contents writer.old) (W.contents writer.new) (verdict_text verdict)) }
+    ensures err { OnErr result (W.failed writer.new ≡ true) }
+{
+    if let Err(failed) = write_verdict(writer, verdict) {
+        return Err(failed);
+    }
+    writer.flush()
+}
+
+// Runs the script, and writes what certifying its notes comes to.
+fn certify_read<A: Allocator + Clone + Drop, T: Threads + Wait + Sync, R: Runner<A>, W: Sink>(
+    rt: &T,
+    runner: &R,
+    alloc: A,
+    script: &Script<A>,
+    writer: &mut W,
+) -> Result<bool, TextFault>
+    requires { asked_fault script.now.asked ≡ None }
+    ensures ends { Yields (λ script told text. IsVerdictText A ⟦<RadixMap<A> as SlotMap>⟧.parts
+        ⟦<RadixMap<A> as SlotMap>⟧.can_fold ⟦<RadixMap<A> as SlotMap>⟧.folds script told text)
+        script.now (W.contents writer.old) (W.contents writer.new) result }
+    ensures write { result ≡ Err (TextFault.Text TraceFault.WriteFailed) → W.failed writer.new ≡ true }
+    ensures kept { (result ≡ Err (TextFault.Text TraceFault.WriteFailed)) ⊎ (W.failed writer.new ≡ W.failed writer.old) }
+    ensures out { OnOk result (W.is_flushed writer.new ≡ true) }
+{
+    let verdict = match judge_run(rt, runner, alloc, script) {
+        Ok(verdict) => verdict,
+        Err(fault) => return Err(fault),
+    };
+    match send_verdict(writer, verdict) {
+        Ok(()) => Ok(verdict.is_certified()),
+        Err(_) => Err(TextFault::Text(TraceFault::WriteFailed)),
+    }
+}
+
+/// Reads a script, runs it, and writes what certifying its notes beside the histories of the space's slots comes to: a line as of
+/// `write_verdict`. Answers whether they are certified. Faults come as those of `run_text`; also where the space couldn't be
+/// ended, memory was wanting.
+pub fn certify_run<
+    A: Allocator + Clone + Drop,
+    T: Threads + Wait + Sync,
+    R: Runner<A>,
+    S: Source,
+    W: Sink,
+>(rt: &T, runner: &R, alloc: A, reader: &mut S, writer: &mut W) -> Result<bool, TextFault>
+    ensures ends { Reads (S.stream reader.old) (S.stream reader.new) (λ input unread. EndsText
+        (λ script told text. IsVerdictText A ⟦<RadixMap<A> as SlotMap>⟧.parts ⟦<RadixMap<A> as SlotMap>⟧.can_fold
+        ⟦<RadixMap<A> as SlotMap>⟧.folds script told text)
+        input unread (W.contents writer.old) (W.contents writer.new) result) }
+    ensures told { TellsText result (S.failed reader.new) (S.reads reader.new)
+        (W.failed writer.old) (W.failed writer.new) (W.is_flushed writer.new) }
+{
+    let Ok(for_script) = alloc.clone() else {
+        return Err(TextFault::Text(TraceFault::NoMemory));
+    };
+    let script = match read_script(for_script, reader) {
+        Ok(script) => script,
+        Err(fault) => return Err(TextFault::Text(fault)),
+    };
+    certify_read(rt, runner, alloc, &script, writer)
+}
