@@ -1,4 +1,5 @@
 pub mod AllSeen
+pub mod Ending
 pub mod HeldFrames
 pub mod Noting
 pub mod Targets

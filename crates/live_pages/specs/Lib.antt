@@ -1,7 +1,9 @@
 pub mod Bytes
 pub mod Counts
+pub mod Ending
 pub mod Frames
 pub mod HeldFrames
 pub mod Locking
+pub mod Posting
 pub mod Steps
 pub mod Targets

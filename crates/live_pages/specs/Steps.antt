@@ -10,6 +10,8 @@ use Rattle.seats.specs.Growing.{Steps}
 use Rattle.seats.specs.Notes.{SeatView, noted, with_note}
 use Rattle.slot_lock.specs.declared.plan.Touch.{Touch}
 use Rattle.vm_base.specs.Apply.{byte_reply}
+use Rattle.vm_base.specs.declared.replies.Reply.{Reply}
+use Rattle.live_pages.specs.Ending.{Answers}
 use Rattle.live_pages.specs.declared.frame.Wanted.{Wanted}
 use Rattle.live_pages.specs.declared.frame.Wanted.TheVariants.{Taken, NoFrame, NoMemory}
 use Rattle.live_pages.specs.declared.touching.Tried.{Tried}
@@ -29,9 +31,15 @@ pub record StepsWith (act : Act) (s : SeatView) (h : HeldView) (t : SeatView) (k
 abbrev pub Stays : SeatView → HeldView → SeatView → HeldView → Type 0
 Stays s h t k = (t ≡ s) × (k ≡ h)
 
+-- a plain step was noted, and right after it the answer of the core's call
+pub record StepsAndAnswers (s : SeatView) (reply : Reply) (t : SeatView) : Type 0 where
+  pub between : SeatView
+  pub steps : StepsOnce s between
+  pub answers : Answers between reply t
+
 -- The byte was read or written, which is answered, or there was a fault: either is a plain step
 abbrev pub Tries : Touch → SeatView → SeatView → Tried → Type 0
-Tries touch s t (Served reply) = StepsOnce s t × ((byte : ℕ) × (reply ≡ byte_reply touch.access byte))
+Tries touch s t (Served reply) = StepsAndAnswers s reply t × ((byte : ℕ) × (reply ≡ byte_reply touch.access byte))
 Tries touch s t Fault = StepsOnce s t
 Tries touch s t Lost = t ≡ s
 

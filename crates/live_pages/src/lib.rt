@@ -3,6 +3,7 @@
 //! space is known here, only its pieces, which are lent.
 #![tactic(auto)]
 
+pub mod answering;
 pub mod beginning;
 pub mod copy;
 pub mod filling;

@@ -1,7 +1,8 @@
 //! Cores that are told to drop their translations of a range, and their takes.
-ghost use Rattle.std.specs.Prelude.{◌≡◌, ◌+◌, ◌*◌, ◌≤◌, cond, None, IfSome};
+ghost use Rattle.std.specs.Prelude.{◌≡◌, ◌+◌, ◌*◌, ◌≤◌, cond, IfSome};
 ghost use Rattle.vm_base.specs.Cores.{members};
 ghost use Rattle.live_pages.specs.Targets.{count_below};
+ghost use Rattle.live_pages.specs.Posting.{telling_view};
 ghost use Rattle.seats.specs.Growing.{Grew, Steps};
 ghost use Rattle.seats.specs.Notes.{CanNote};
 
@@ -14,6 +15,7 @@ use seats::Seat;
 use shootdown::Took;
 use smallvec::SmallVec;
 use std::alloc::Allocator;
+use std::marker::Model;
 use std::sync::{Mutex, MutexGuard, Wait};
 use vm_base::{CoreId, CoreSet, PageRange};
 
@@ -27,34 +29,67 @@ const CORES: u8 = 64;
 // The cores that one step holds, ascending.
 type CoreGuards<'a, A> = SmallVec<Option<MutexGuard<'a, CoreState<A>>>, 8, &'a A>;
 
-/// The core drops its own translations of the range, and each other core of the set is told to drop
-/// its own: one step under the locks of all of them. None where one can't be told, and then nothing
-/// was noted and nobody is told.
-pub fn post<'a, R: Wait, A: Allocator + Clone>(
-    rt: &R,
-    alloc: &'a A,
-    cores: &'a [CachePadded<Mutex<CoreState<A>>>],
-    seat: &mut Seat<A>,
-    set: CoreSet,
+/// Cores that are locked, ascending, to be told by one of them to drop their translations of a range. Each is there, and
+/// none has a message of that one, so that all of them can be told.
+#[derive(Drop)]
+pub struct Telling<'a, A: Allocator + Clone> {
+    guards: CoreGuards<'a, A>,
+    core: CoreId,
     range: PageRange,
-) -> Option<u64>
-    requires { CanNote seat.old }
-    ensures noted { IfSome result (λ ticket. Steps seat.old ticket seat.new) }
-    ensures same { result ≡ None → seat.new ≡ seat.old }
-{
-    let core = seat.core();
-    let mut guards: CoreGuards<'a, A> = SmallVec::new(alloc);
-    if !lock_set(rt, cores, &mut guards, set.with(core)) {
-        return None;
+}
+
+impl<'a, A: Allocator + Clone> Model for Telling<'a, A> {
+    ghost use Rattle.live_pages.specs.Posting.{TellingView, telling_view};
+
+    ghost Value = { TellingView };
+
+    ghost view = { λ t. telling_view t.core t.range };
+}
+
+impl<'a, A: Allocator + Clone> Telling<'a, A> {
+    /// Locks the core and each other one of the set. None where one isn't there or can't be told, or
+    /// memory is wanting; then nobody is told.
+    pub fn of<R: Wait>(
+        rt: &R,
+        alloc: &'a A,
+        cores: &'a [CachePadded<Mutex<CoreState<A>>>],
+        core: CoreId,
+        set: CoreSet,
+        range: PageRange,
+    ) -> Option<Telling<'a, A>>
+        ensures { IfSome result (λ telling. telling ≡ telling_view core range) }
+    {
+        let mut guards: CoreGuards<'a, A> = SmallVec::new(alloc);
+        if !lock_set(rt, cores, &mut guards, set.with(core)) {
+            return None;
+        }
+        if !range.is_valid() || !can_tell_all(&guards, core) {
+            return None;
+        }
+        Some(Telling {
+            guards,
+            core,
+            range,
+        })
     }
-    if !range.is_valid() || !can_tell_all(&guards, core) {
-        return None;
+
+    /// The core drops its own translations of the range, and each other one is told to drop its own:
+    /// one step, under the locks of all of them. Answers its ticket.
+    pub fn post(self, seat: &mut Seat<A>) -> u64
+        requires { CanNote seat.old }
+        ensures { Steps seat.old result seat.new }
+    {
+        let Telling {
+            mut guards,
+            core,
+            range,
+        } = self;
+        let ticket = seat.step();
+        'cores: for guard in guards.as_mut_slice().iter_mut() {
+            tell(guard, core, range);
+        }
+        ticket
     }
-    let ticket = seat.step();
-    'cores: for guard in guards.as_mut_slice().iter_mut() {
-        tell(guard, core, range);
-    }
-    Some(ticket)
 }
 
 // Locks the cores of the set, ascending, and tells whether all of them are there.

@@ -1,5 +1,5 @@
 //! The access of a byte, by the translations of a core.
-ghost use Rattle.std.specs.Prelude.{◌≡◌, ◌<◌};
+ghost use Rattle.std.specs.Prelude.{◌≡◌, ◌<◌, ◌≤◌};
 ghost use Rattle.vm_base.specs.Apply.{byte_reply};
 ghost use Rattle.slot_lock.specs.Plan.{IsSoundTouch};
 ghost use Rattle.frames.specs.Parts.{cell_bytes};
@@ -7,6 +7,7 @@ ghost use Rattle.seats.specs.Notes.{CanNote};
 ghost use Rattle.live_pages.specs.Bytes.{after_access};
 ghost use Rattle.live_pages.specs.Steps.{Tries};
 
+use crate::answering::answer;
 use crate::pieces::Pieces;
 use access_answers::byte_reply;
 use frames::FrameCell;
@@ -21,7 +22,7 @@ use vm_base::{Access, Reply};
 /// What the try of an access came to.
 #[derive(Clone, Copy, Debug, PartialEq, Eq)]
 pub enum Tried {
-    /// The byte was read or written, and this is the answer.
+    /// The byte was read or written, and this is the answer, which is noted too.
     Served(Reply),
     /// There was a fault.
     Fault,
@@ -30,13 +31,15 @@ pub enum Tried {
 }
 
 /// Translates the page by the core's TLB and tables, and reads or writes the byte in its frame: one
-/// step under the locks of the core and of the frame. At a fault no frame is locked.
+/// step under the locks of the core and of the frame, under which the answer is noted right after it.
+/// At a fault no frame is locked.
 pub fn try_touch<R: Wait, A: Allocator + Clone>(
     rt: &R,
     pieces: &Pieces<'_, A>,
     seat: &mut Seat<A>,
     touch: Touch,
 ) -> Tried
+    requires room { 2 ≤ seat.old.room }
     requires step { CanNote seat.old }
     requires touch { IsSoundTouch touch }
     ensures { Tries touch seat.old seat.new result }
@@ -64,6 +67,7 @@ fn touch_frame<R: Wait, A: Allocator + Clone>(
     touch: Touch,
     number: u32,
 ) -> Tried
+    requires room { 2 ≤ seat.old.room }
     requires step { CanNote seat.old }
     requires touch { IsSoundTouch touch }
     ensures { Tries touch seat.old seat.new result }
@@ -73,7 +77,9 @@ fn touch_frame<R: Wait, A: Allocator + Clone>(
     };
     let mut frame = place.lock(rt);
     let _ticket = seat.step();
-    Tried::Served(touch_byte(&mut frame.cell, touch))
+    let reply = touch_byte(&mut frame.cell, touch);
+    answer(seat, reply);
+    Tried::Served(reply)
 }
 
 /// Reads or writes the byte, and tells what the access answers.

@@ -1,3 +1,4 @@
+pub mod Ended
 mod Few
 pub mod Folding
 pub mod Fresh

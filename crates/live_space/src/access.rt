@@ -1,12 +1,14 @@
 //! A load, a store or a fetch: it is tried, and after a fault its page is held while it gets a frame
 //! and an entry in the core's tables; then it is tried again.
-ghost use Rattle.std.specs.Prelude.{◌≡◌, ◌+◌, ◌*◌, ◌<◌, ◌≤◌, [], None, length};
+ghost use Rattle.std.specs.Prelude.{◌≡◌, ◌+◌, ◌*◌, ◌<◌, ◌≤◌, [], IfNone, IfSome, None, length};
+ghost use Rattle.live_pages.specs.Ending.{Ends};
 ghost use Rattle.live_pages.specs.Targets.{count_below};
 ghost use Rattle.slot_lock.specs.Plan.{IsSoundTouch};
 ghost use Rattle.seats.specs.Growing.{Grew};
+ghost use Rattle.live_space.specs.Changing.{CanEnd};
 
 use crate::gate::{Gate, Point};
-use crate::giving_up::give_up;
+use crate::giving_up::{end_given_up, give_up};
 use crate::locking::{let_go, reserve_steps};
 use crate::space::Live;
 use access_answers::{cores_of, page_of_touch};
@@ -15,7 +17,7 @@ use live_pages::filling::fill;
 use live_pages::frame::{Wanted, give_up_with, want};
 use live_pages::installing::install;
 use live_pages::settling::settle_page;
-use live_pages::telling::{TAKES, count_of, post, take_all};
+use live_pages::telling::{TAKES, Telling, count_of, take_all};
 use live_pages::touching::{Tried, try_touch};
 use live_tree::held::Held;
 use seats::Seat;
@@ -36,7 +38,7 @@ struct Copying {
 
 impl<A: Allocator + Clone> Live<A> {
     /// The steps of an access, after its check.
-    #[tactic(auto, using(seats::proofs::Growing::grew_trans, seats::proofs::Growing::grew_none))]
+    #[tactic(auto, using(live_pages::proofs::Ending::ends_after, seats::proofs::Growing::grew_trans, seats::proofs::Growing::grew_none))]
     pub(crate) fn touch<R: Wait, G: Gate>(
         &self,
         rt: &R,
@@ -46,8 +48,7 @@ impl<A: Allocator + Clone> Live<A> {
     ) -> Reply
         requires sound { IsSoundTouch touch }
         requires room { 2 ≤ seat.old.room }
-        ensures grew { Grew seat.old seat.new }
-        ensures room { 1 ≤ seat.new.room }
+        ensures { Ends seat.old result seat.new }
     {
         'tries: for _turn in rt.forever() {
             match self.try_once(rt, seat, touch, gate) {
@@ -59,8 +60,8 @@ impl<A: Allocator + Clone> Live<A> {
     }
 
     // One try, and after a fault the steps after which the next one may be served. None where it is
-    // to be tried again.
-    #[tactic(auto, using(seats::proofs::Growing::grew_trans, crate::proofs::Noted::grew_once, crate::proofs::Noted::room_once))]
+    // to be tried again, and else it is answered.
+    #[tactic(auto, using(live_pages::proofs::Ending::ends_after, live_pages::proofs::Ending::ends_next, seats::proofs::Growing::grew_trans, crate::proofs::Noted::grew_once, crate::proofs::Noted::room_once))]
     fn try_once<R: Wait, G: Gate>(
         &self,
         rt: &R,
@@ -70,23 +71,22 @@ impl<A: Allocator + Clone> Live<A> {
     ) -> Option<Reply>
         requires sound { IsSoundTouch touch }
         requires room { 2 ≤ seat.old.room }
-        ensures grew { Grew seat.old seat.new }
-        ensures room { 1 ≤ seat.new.room }
-        ensures again { result ≡ None → 2 ≤ seat.new.room }
+        ensures ends { IfSome result (λ reply. Ends seat.old reply seat.new) }
+        ensures again { IfNone result ((Grew seat.old seat.new) × (2 ≤ seat.new.room)) }
     {
         // for the step, to give up, and to answer
         if !reserve_steps(seat, 0, 3) {
-            return Some(give_up(seat));
+            return Some(end_given_up(seat));
         }
         match try_touch(rt, &self.pieces(), seat, touch) {
             Tried::Served(reply) => Some(reply),
             Tried::Fault => self.fault(rt, seat, touch, gate),
-            Tried::Lost => Some(give_up(seat)),
+            Tried::Lost => Some(end_given_up(seat)),
         }
     }
 
     // The page is held until it has its frame and its entry, or the access its answer.
-    #[tactic(auto, using(seats::proofs::Growing::grew_trans))]
+    #[tactic(auto, using(live_pages::proofs::Ending::ends_after, seats::proofs::Growing::grew_trans))]
     fn fault<R: Wait, G: Gate>(
         &self,
         rt: &R,
@@ -96,13 +96,12 @@ impl<A: Allocator + Clone> Live<A> {
     ) -> Option<Reply>
         requires sound { IsSoundTouch touch }
         requires room { 2 ≤ seat.old.room }
-        ensures grew { Grew seat.old seat.new }
-        ensures room { 1 ≤ seat.new.room }
-        ensures again { result ≡ None → 2 ≤ seat.new.room }
+        ensures ends { IfSome result (λ reply. Ends seat.old reply seat.new) }
+        ensures again { IfNone result ((Grew seat.old seat.new) × (2 ≤ seat.new.room)) }
     {
         let mut held = Held::new(self.tree.alloc(), touch.page);
         let reply = self.lock_page(rt, seat, &mut held, touch, gate);
-        let_go(held, seat);
+        let_go(held, seat, reply);
         reply
     }
 
@@ -120,8 +119,7 @@ impl<A: Allocator + Clone> Live<A> {
         requires room { 2 ≤ seat.old.room }
         requires none { held.old.slots ≡ [] }
         ensures grew { Grew seat.old seat.new }
-        ensures room { length held.new.slots + 1 ≤ seat.new.room }
-        ensures again { result ≡ None → length held.new.slots + 2 ≤ seat.new.room }
+        ensures room { CanEnd result held.new seat.new }
     {
         if !self.lock_all(rt, seat, held, touch.page + 1, 2) {
             return Some(give_up(seat));
@@ -143,8 +141,7 @@ impl<A: Allocator + Clone> Live<A> {
         requires sound { IsSoundTouch touch }
         requires room { length held.old.slots + 2 ≤ seat.old.room }
         ensures grew { Grew seat.old seat.new }
-        ensures room { length held.new.slots + 1 ≤ seat.new.room }
-        ensures again { result ≡ None → length held.new.slots + 2 ≤ seat.new.room }
+        ensures room { CanEnd result held.new seat.new }
     {
         if !reserve_steps(seat, held.len(), 3) {
             return Some(give_up(seat));
@@ -168,8 +165,7 @@ impl<A: Allocator + Clone> Live<A> {
         requires sound { IsSoundTouch touch }
         requires room { length held.old.slots + 2 ≤ seat.old.room }
         ensures grew { Grew seat.old seat.new }
-        ensures room { length held.new.slots + 1 ≤ seat.new.room }
-        ensures again { result ≡ None → length held.new.slots + 2 ≤ seat.new.room }
+        ensures room { CanEnd result held.new seat.new }
     {
         match settled {
             Settled::MapErr => Some(Reply::Segv(SegvCode::MapErr)),
@@ -196,8 +192,7 @@ impl<A: Allocator + Clone> Live<A> {
         requires sound { IsSoundTouch touch }
         requires room { length held.old.slots + 2 ≤ seat.old.room }
         ensures grew { Grew seat.old seat.new }
-        ensures room { length held.new.slots + 1 ≤ seat.new.room }
-        ensures again { result ≡ None → length held.new.slots + 2 ≤ seat.new.room }
+        ensures room { CanEnd result held.new seat.new }
     {
         if !reserve_steps(seat, held.len(), 3) {
             return Some(give_up(seat));
@@ -223,8 +218,7 @@ impl<A: Allocator + Clone> Live<A> {
         requires sound { IsSoundTouch touch }
         requires room { length held.old.slots + 2 ≤ seat.old.room }
         ensures grew { Grew seat.old seat.new }
-        ensures room { length held.new.slots + 1 ≤ seat.new.room }
-        ensures again { result ≡ None → length held.new.slots + 2 ≤ seat.new.room }
+        ensures room { CanEnd result held.new seat.new }
     {
         match shown {
             Some(shown) => self.copy(rt, seat, held, touch, Copying { shown, own }, gate),
@@ -246,8 +240,7 @@ impl<A: Allocator + Clone> Live<A> {
         requires sound { IsSoundTouch touch }
         requires room { length held.old.slots + 2 ≤ seat.old.room }
         ensures grew { Grew seat.old seat.new }
-        ensures room { length held.new.slots + 1 ≤ seat.new.room }
-        ensures again { result ≡ None → length held.new.slots + 2 ≤ seat.new.room }
+        ensures room { CanEnd result held.new seat.new }
     {
         if !reserve_steps(seat, held.len(), 3) {
             return Some(self.give_up_own(rt, seat, own));
@@ -272,8 +265,7 @@ impl<A: Allocator + Clone> Live<A> {
         requires sound { IsSoundTouch touch }
         requires room { length held.old.slots + 2 ≤ seat.old.room }
         ensures grew { Grew seat.old seat.new }
-        ensures room { length held.new.slots + 1 ≤ seat.new.room }
-        ensures again { result ≡ None → length held.new.slots + 2 ≤ seat.new.room }
+        ensures room { CanEnd result held.new seat.new }
     {
         let targets = cores_of(&held.page(touch.page)).without(seat.core());
         // the takes of all that are told, the steps before and after them, to let the slot go, and to
@@ -283,8 +275,18 @@ impl<A: Allocator + Clone> Live<A> {
             return Some(self.give_up_own(rt, seat, Some(frames.own)));
         }
         let range = page_of_touch(touch);
-        match post(rt, self.tree.alloc(), &self.cores, seat, targets, range) {
-            Some(_) => self.copy_told(rt, seat, held, touch, frames, targets, gate),
+        match Telling::of(
+            rt,
+            self.tree.alloc(),
+            &self.cores,
+            seat.core(),
+            targets,
+            range,
+        ) {
+            Some(telling) => {
+                let _posted = telling.post(seat);
+                self.copy_told(rt, seat, held, touch, frames, targets, gate)
+            }
             None => Some(self.give_up_own(rt, seat, Some(frames.own))),
         }
     }
@@ -304,8 +306,7 @@ impl<A: Allocator + Clone> Live<A> {
         requires sound { IsSoundTouch touch }
         requires room { length held.old.slots + 3 + 126 * count_below targets 64 ≤ seat.old.room }
         ensures grew { Grew seat.old seat.new }
-        ensures room { length held.new.slots + 1 ≤ seat.new.room }
-        ensures again { result ≡ None → length held.new.slots + 2 ≤ seat.new.room }
+        ensures room { CanEnd result held.new seat.new }
     {
         take_all(rt, &self.cores, seat, targets);
         self.make_copy(rt, seat, held, touch, frames, gate)
@@ -325,8 +326,7 @@ impl<A: Allocator + Clone> Live<A> {
         requires sound { IsSoundTouch touch }
         requires room { length held.old.slots + 3 ≤ seat.old.room }
         ensures grew { Grew seat.old seat.new }
-        ensures room { length held.new.slots + 1 ≤ seat.new.room }
-        ensures again { result ≡ None → length held.new.slots + 2 ≤ seat.new.room }
+        ensures room { CanEnd result held.new seat.new }
     {
         if copy_page(rt, &self.pieces(), seat, held, frames.shown, frames.own) {
             self.install(rt, seat, held, touch, gate)
@@ -348,8 +348,7 @@ impl<A: Allocator + Clone> Live<A> {
         requires sound { IsSoundTouch touch }
         requires room { length held.old.slots + 2 ≤ seat.old.room }
         ensures grew { Grew seat.old seat.new }
-        ensures room { length held.new.slots + 1 ≤ seat.new.room }
-        ensures again { result ≡ None → length held.new.slots + 2 ≤ seat.new.room }
+        ensures room { CanEnd result held.new seat.new }
     {
         gate.at(rt, seat.core(), Point::Filled);
         if self.has_entry(rt, seat, held, touch) {

@@ -1,16 +1,17 @@
 //! A call of a core's thread, from its beginning to its answer.
 ghost use Rattle.std.specs.Prelude.{◌≡◌, ◌+◌, ◌≤◌, IfOk, IfErr, OnOk};
 ghost use Rattle.slot_lock.specs.Plan.{IsSound};
-ghost use Rattle.seats.specs.Growing.{Grew, OneCall};
+ghost use Rattle.seats.specs.Growing.{OneCall};
+ghost use Rattle.live_pages.specs.Ending.{Ends};
 ghost use Rattle.live_space.specs.Calls.{IsIdle, LacksCall, MayBegin};
 ghost use Rattle.live_space.specs.Space.{IsOf};
 
 use crate::fault::{LiveFault, reserve_notes};
 use crate::gate::{Gate, Point};
-use crate::giving_up::give_up;
+use crate::giving_up::end_given_up;
 use crate::space::Live;
 use live_levels::level::Stepper;
-use machine_model::{Event, Outcome};
+use live_pages::answering::answer;
 use seats::Seat;
 use slot_lock::Plan;
 use std::alloc::Allocator;
@@ -47,17 +48,15 @@ impl<A: Allocator + Clone> Live<A> {
         reserve_notes(seat, 3)?;
         let _begun = seat.begin(request);
         let reply = self.run(rt, seat, request, gate);
-        let _answered = seat.note(Event::Go(seat.core()), Outcome::Answered(reply));
         gate.at(rt, seat.core(), Point::Answer);
         Ok(reply)
     }
 
-    // All of the call but its beginning and its answer, for whose note there stays room.
-    #[tactic(auto, using(seats::proofs::Growing::grew_trans, seats::proofs::Growing::grew_steps, seats::proofs::Growing::grew_room))]
+    // All of the call but its beginning.
+    #[tactic(auto, using(live_pages::proofs::Ending::ends_after, seats::proofs::Growing::grew_steps))]
     fn run<R: Wait, G: Gate>(&self, rt: &R, seat: &mut Seat<A>, request: Request, gate: &G) -> Reply
         requires room { 2 ≤ seat.old.room }
-        ensures grew { Grew seat.old seat.new }
-        ensures room { 1 ≤ seat.new.room }
+        ensures { Ends seat.old result seat.new }
     {
         // it touches nothing that another thread changes, and may come before the note of its step
         match check(&self.objects, seat.core(), request) {
@@ -65,32 +64,33 @@ impl<A: Allocator + Clone> Live<A> {
             Err(reply) => {
                 let _checked = seat.step();
                 gate.at(rt, seat.core(), Point::Begun);
+                answer(seat, reply);
                 reply
             }
         }
     }
 
     // The step of the check, whose arguments it let through, and what follows.
+    #[tactic(auto, using(live_pages::proofs::Ending::ends_after, seats::proofs::Growing::grew_trans, seats::proofs::Growing::grew_steps, seats::proofs::Growing::grew_room))]
     fn go_on<R: Wait, G: Gate>(&self, rt: &R, seat: &mut Seat<A>, plan: Plan, gate: &G) -> Reply
         requires sound { IsSound plan }
         requires room { 2 ≤ seat.old.room }
-        ensures grew { Grew seat.old seat.new }
-        ensures room { 1 ≤ seat.new.room }
+        ensures { Ends seat.old result seat.new }
     {
         // for the step, to give up, and to answer
         if !seat.reserve(3) {
-            return give_up(seat);
+            return end_given_up(seat);
         }
         let _checked = seat.step();
         gate.at(rt, seat.core(), Point::Begun);
         self.follow(rt, seat, plan, gate)
     }
-    // The steps of a call whose arguments are sound, up to its reply.
+
+    // The steps of a call whose arguments are sound, up to its answer.
     fn follow<R: Wait, G: Gate>(&self, rt: &R, seat: &mut Seat<A>, plan: Plan, gate: &G) -> Reply
         requires sound { IsSound plan }
         requires room { 2 ≤ seat.old.room }
-        ensures grew { Grew seat.old seat.new }
-        ensures room { 1 ≤ seat.new.room }
+        ensures { Ends seat.old result seat.new }
     {
         match plan {
             Plan::Change(change) => self.change(rt, seat, change, gate),

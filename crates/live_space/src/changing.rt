@@ -3,6 +3,7 @@ ghost use Rattle.std.specs.Prelude.{◌≡◌, ◌+◌, ◌*◌, ◌≤◌, [], 
 ghost use Rattle.slot_lock.specs.Plan.{IsSoundChange, range_of};
 ghost use Rattle.live_tree.specs.Held.{Covers};
 ghost use Rattle.seats.specs.Growing.{Grew};
+ghost use Rattle.live_pages.specs.Ending.{Ends};
 ghost use Rattle.live_pages.specs.Targets.{count_below};
 ghost use Rattle.live_space.specs.Changing.{CanEnd, CanEndIf, IsReady};
 
@@ -15,7 +16,7 @@ use crate::space::Live;
 use access_answers::reply_to;
 use live_levels::level::Stepper;
 use live_pages::pieces::CoreState;
-use live_pages::telling::{TAKES, count_of, post, take_all};
+use live_pages::telling::{TAKES, Telling, count_of, take_all};
 use live_tree::held::Held;
 use seats::Seat;
 use slot_lock::Change;
@@ -25,7 +26,7 @@ use vm_base::{CoreId, CoreSet, Reply};
 
 impl<A: Allocator + Clone> Live<A> {
     /// The steps of a change, after its check.
-    #[tactic(auto, using(seats::proofs::Growing::grew_trans, seats::proofs::Growing::grew_steps, seats::proofs::Growing::grew_room, seats::proofs::Growing::grew_none))]
+    #[tactic(auto, using(live_pages::proofs::Ending::ends_after))]
     pub(crate) fn change<R: Wait, G: Gate>(
         &self,
         rt: &R,
@@ -35,12 +36,11 @@ impl<A: Allocator + Clone> Live<A> {
     ) -> Reply
         requires sound { IsSoundChange change }
         requires room { 2 ≤ seat.old.room }
-        ensures grew { Grew seat.old seat.new }
-        ensures room { 1 ≤ seat.new.room }
+        ensures { Ends seat.old result seat.new }
     {
         let mut held = Held::new(self.tree.alloc(), change.range().first);
         let reply = self.change_or_give_up(rt, seat, &mut held, change, gate);
-        let_go(held, seat);
+        let_go(held, seat, Some(reply));
         reply
     }
 
@@ -198,8 +198,8 @@ impl<A: Allocator + Clone> Live<A> {
     }
 
     // Makes a change of pages that these other cores may have translations of: they are told to drop
-    // them, and take what they were told, and then the pages change. From the post on nothing takes
-    // memory.
+    // them, and take what they were told, and then the pages change. It is decided and posted under the
+    // same locks, and from then on nothing takes memory.
     #[tactic(auto, using(seats::proofs::Growing::grew_trans, seats::proofs::Growing::grew_steps, seats::proofs::Growing::grew_room, seats::proofs::Growing::grew_none, crate::proofs::Few::few_targets))]
     fn make_told<'a, R: Wait, G: Gate>(
         &'a self,
@@ -224,8 +224,15 @@ impl<A: Allocator + Clone> Live<A> {
         let Some(counting) = self.counting(rt, seat.core(), lost) else {
             return false;
         };
-        let _decided = seat.step();
-        self.post_and_commit(rt, seat, held, change, targets, counting, gate)
+        let alloc = self.tree.alloc();
+        match Telling::of(rt, alloc, &self.cores, seat.core(), targets, change.range()) {
+            Some(telling) => {
+                decide_and_post(telling, seat);
+                self.take_and_commit(rt, seat, held, change, targets, counting, gate);
+                true
+            }
+            None => false,
+        }
     }
 
     // What the core counts down. None where memory is wanting.
@@ -240,33 +247,6 @@ impl<A: Allocator + Clone> Live<A> {
         }
         let state = self.core(core)?.lock(rt);
         Counting::by(&state, self.tree.alloc(), lost)
-    }
-
-    // Tells the other cores, and makes the change. False where they can't be told.
-    #[tactic(auto, using(seats::proofs::Growing::grew_trans, seats::proofs::Growing::grew_steps, seats::proofs::Growing::grew_room, seats::proofs::Growing::grew_none))]
-    fn post_and_commit<'a, R: Wait, G: Gate>(
-        &'a self,
-        rt: &R,
-        seat: &mut Seat<A>,
-        held: &mut Held<'a, A>,
-        change: Change,
-        targets: CoreSet,
-        counting: Counting<'a, A>,
-        gate: &G,
-    ) -> bool
-        requires ready { IsReady held.old change }
-        requires room { length held.old.slots + 3 + 126 * count_below targets 64 ≤ seat.old.room }
-        ensures grew { Grew seat.old seat.new }
-        ensures room { CanEndIf result held.new seat.new }
-    {
-        let range = change.range();
-        match post(rt, self.tree.alloc(), &self.cores, seat, targets, range) {
-            Some(_) => {
-                self.take_and_commit(rt, seat, held, change, targets, counting, gate);
-                true
-            }
-            None => false,
-        }
     }
 
     // The takes of the other cores, and the change.
@@ -322,6 +302,17 @@ impl<A: Allocator + Clone> Live<A> {
         let place = self.cores.get(core.index() as usize)?;
         Some(place)
     }
+}
+
+// The decision, and the post to the cores that are locked: two steps under the same locks.
+#[tactic(auto, using(seats::proofs::Growing::grew_trans, seats::proofs::Growing::grew_steps))]
+fn decide_and_post<A: Allocator + Clone>(telling: Telling<'_, A>, seat: &mut Seat<A>)
+    requires room { 2 ≤ seat.old.room }
+    ensures grew { Grew seat.old seat.new }
+    ensures room { seat.new.room + 2 ≡ seat.old.room }
+{
+    let _decided = seat.step();
+    let _posted = telling.post(seat);
 }
 
 // Makes room for the change in the histories of its slots, and tells whether it can be made in them.

@@ -1,15 +1,19 @@
 //! The slots of a call: they are locked one after another from left to right, and let go so.
-ghost use Rattle.std.specs.Prelude.{◌≡◌, ◌+◌, ◌≤◌, [], length, IsTrue};
+ghost use Rattle.std.specs.Prelude.{◌≡◌, ◌+◌, ◌≤◌, [], IfNone, IfSome, length, IsTrue};
 ghost use Rattle.seats.specs.Growing.{Grew};
+ghost use Rattle.live_pages.specs.Ending.{Ends};
+ghost use Rattle.live_space.specs.Changing.{CanEnd};
 
 use crate::space::Live;
 use live_levels::level::Stepper;
+use live_pages::answering::answer;
 use live_tree::held::{Got, Held};
 use live_tree::letting::Letting;
 use seats::Seat;
 use std::alloc::Allocator;
 use std::sync::Wait;
 use std::thread;
+use vm_base::Reply;
 
 impl<A: Allocator + Clone> Live<A> {
     /// Locks the slots up to the end, each with room for so many changes, and waits for those that
@@ -63,25 +67,34 @@ pub(crate) fn reserve_steps<A: Allocator>(seat: &mut Seat<A>, slots: usize, more
     }
 }
 
-/// Lets all slots go, each in a step of its own, from left to right.
-#[tactic(auto, using(seats::proofs::Growing::grew_trans, seats::proofs::Growing::grew_steps))]
-pub(crate) fn let_go<A: Allocator + Clone>(held: Held<'_, A>, seat: &mut Seat<A>)
-    requires room { length held.slots ≤ seat.old.room }
-    ensures grew { Grew seat.old seat.new }
-    ensures room { seat.new.room + length held.entry.slots ≡ seat.old.room }
+/// Lets all slots go, each in a step of its own, from left to right. Where there is a reply, the call
+/// is answered right after the last of these steps, before its slot is unlocked.
+#[tactic(auto, using(live_pages::proofs::Ending::ends_after))]
+pub(crate) fn let_go<A: Allocator + Clone>(
+    held: Held<'_, A>,
+    seat: &mut Seat<A>,
+    reply: Option<Reply>,
+)
+    requires room { CanEnd reply held seat.old }
+    ensures answered { IfSome reply (λ reply. Ends seat.old reply seat.new) }
+    ensures open { IfNone reply ((Grew seat.old seat.new) × (2 ≤ seat.new.room)) }
 {
     let mut letting = held.letting();
-    let_go_all(&mut letting, seat);
+    note_all(&mut letting, seat);
+    if let Some(reply) = reply {
+        answer(seat, reply);
+    }
+    letting.unlock_noted();
 }
 
-// Lets all slots go that are still locked.
+// Notes of each slot that it is let go. The last one is still locked then.
 #[tactic(auto, using(seats::proofs::Growing::grew_trans, seats::proofs::Growing::grew_steps))]
-fn let_go_all<A: Allocator>(letting: &mut Letting<'_, A>, seat: &mut Seat<A>)
+fn note_all<A: Allocator>(letting: &mut Letting<'_, A>, seat: &mut Seat<A>)
     requires room { length letting.old.slots ≤ seat.old.room }
     ensures grew { Grew seat.old seat.new }
     ensures room { seat.new.room + length letting.old.slots ≡ seat.old.room }
 {
     'slots: while letting.len() > 0 {
-        let _ticket = letting.unlock_first(seat);
+        let _ticket = letting.note_first(seat);
     }
 }

@@ -4,13 +4,15 @@
 ghost use Rattle.std.specs.Prelude.{◌≡◌, ◌+◌, ◌<◌, ◌≤◌, [], IfNone, IfSome, IsTrue, length, All};
 ghost use Rattle.live_tree.specs.Held.{Covers, CrossesNoEdge, HasRoom};
 ghost use Rattle.seats.specs.Growing.{Grew};
+ghost use Rattle.live_pages.specs.Ending.{Ends};
 ghost use Rattle.slot_lock.specs.declared.plan.Goal.TheVariants as GoalOf;
 ghost use Rattle.slot_lock.specs.Plan.{IsSoundGoal, IsSoundPlace, IsSoundPut, IsTarget, target_range};
 ghost use Rattle.vm_calls.specs.Decisions.{IsSoundAct};
+ghost use Rattle.live_space.specs.Changing.{CanEnd};
 ghost use Rattle.live_space.specs.Placing.{IsInside, IsInWindow};
 
 use crate::gate::{Gate, Point};
-use crate::giving_up::give_up;
+use crate::giving_up::{end_given_up, give_up};
 use crate::locking::let_go;
 use crate::space::Live;
 use backing::Objects;
@@ -27,8 +29,8 @@ use vm_base::{CoreId, Meta, PageRange, Reply};
 use vm_calls::{Decision, decide};
 
 impl<A: Allocator + Clone> Live<A> {
-    // A placed mapping that passed the check of its arguments, up to its last unlock.
-    #[tactic(auto, using(seats::proofs::Growing::grew_trans))]
+    // A placed mapping that passed the check of its arguments, up to its answer.
+    #[tactic(auto, using(live_pages::proofs::Ending::ends_after))]
     pub(crate) fn place<R: Wait, G: Gate>(
         &self,
         rt: &R,
@@ -38,8 +40,7 @@ impl<A: Allocator + Clone> Live<A> {
     ) -> Reply
         requires sound { IsSoundPlace place }
         requires room { 2 ≤ seat.old.room }
-        ensures grew { Grew seat.old seat.new }
-        ensures room { 1 ≤ seat.new.room }
+        ensures { Ends seat.old result seat.new }
     {
         let Some(hint) = place.hint else {
             return self.place_at_guess(rt, seat, place, gate);
@@ -51,7 +52,7 @@ impl<A: Allocator + Clone> Live<A> {
     }
 
     // It goes to a run of its window that it guesses to be free, or else to any room there.
-    #[tactic(auto, using(seats::proofs::Growing::grew_trans, seats::proofs::Growing::grew_room))]
+    #[tactic(auto, using(live_pages::proofs::Ending::ends_after, seats::proofs::Growing::grew_trans, seats::proofs::Growing::grew_room))]
     fn place_at_guess<R: Wait, G: Gate>(
         &self,
         rt: &R,
@@ -61,19 +62,18 @@ impl<A: Allocator + Clone> Live<A> {
     ) -> Reply
         requires sound { IsSoundPlace place }
         requires room { 2 ≤ seat.old.room }
-        ensures grew { Grew seat.old seat.new }
-        ensures room { 1 ≤ seat.new.room }
+        ensures { Ends seat.old result seat.new }
     {
         // for the guess, to give up, and to answer
         if !seat.reserve(3) {
-            return give_up(seat);
+            return end_given_up(seat);
         }
         let target = self.guess(rt, seat, place);
         self.place_at(rt, seat, place, target, gate)
     }
 
     // It goes to its target, or else to any room of its window.
-    #[tactic(auto, using(seats::proofs::Growing::grew_trans))]
+    #[tactic(auto, using(live_pages::proofs::Ending::ends_after))]
     fn place_at<R: Wait, G: Gate>(
         &self,
         rt: &R,
@@ -84,8 +84,7 @@ impl<A: Allocator + Clone> Live<A> {
     ) -> Reply
         requires sound { IsSoundGoal (GoalOf.Place place target) }
         requires room { 2 ≤ seat.old.room }
-        ensures grew { Grew seat.old seat.new }
-        ensures room { 1 ≤ seat.new.room }
+        ensures { Ends seat.old result seat.new }
     {
         match self.try_target(rt, seat, place, target, gate) {
             Some(reply) => reply,
@@ -94,7 +93,7 @@ impl<A: Allocator + Clone> Live<A> {
     }
 
     // It goes to any room of its window, all of which it holds, or is refused where there is none.
-    #[tactic(auto, using(seats::proofs::Growing::grew_trans))]
+    #[tactic(auto, using(live_pages::proofs::Ending::ends_after))]
     fn place_in_window<R: Wait, G: Gate>(
         &self,
         rt: &R,
@@ -104,13 +103,12 @@ impl<A: Allocator + Clone> Live<A> {
     ) -> Reply
         requires sound { IsSoundPlace place }
         requires room { 2 ≤ seat.old.room }
-        ensures grew { Grew seat.old seat.new }
-        ensures room { 1 ≤ seat.new.room }
+        ensures { Ends seat.old result seat.new }
     {
         match self.try_target(rt, seat, place, Target::Window, gate) {
             Some(reply) => reply,
             // (who holds the window never looks elsewhere)
-            None => give_up(seat),
+            None => end_given_up(seat),
         }
     }
 
@@ -156,9 +154,9 @@ impl<A: Allocator + Clone> Live<A> {
             .find_room(rt, window.first, window.end, place.count)
     }
 
-    // The mapping locks the pages of its target, goes to a place there if it may, and lets them go.
-    // None where it looks elsewhere.
-    #[tactic(auto, using(seats::proofs::Growing::grew_trans))]
+    // The mapping locks the pages of its target, goes to a place there if it may, lets them go, and is
+    // answered. None where it looks elsewhere.
+    #[tactic(auto, using(live_pages::proofs::Ending::ends_after, seats::proofs::Growing::grew_trans))]
     fn try_target<R: Wait, G: Gate>(
         &self,
         rt: &R,
@@ -169,13 +167,12 @@ impl<A: Allocator + Clone> Live<A> {
     ) -> Option<Reply>
         requires sound { IsSoundGoal (GoalOf.Place place target) }
         requires room { 2 ≤ seat.old.room }
-        ensures grew { Grew seat.old seat.new }
-        ensures room { 1 ≤ seat.new.room }
-        ensures again { IfNone result (2 ≤ seat.new.room) }
+        ensures ends { IfSome result (λ reply. Ends seat.old reply seat.new) }
+        ensures again { IfNone result ((Grew seat.old seat.new) × (2 ≤ seat.new.room)) }
     {
         let mut held = Held::new(self.tree.alloc(), target.range(place).first);
         let reply = self.try_locked(rt, seat, &mut held, place, target, gate);
-        let_go(held, seat);
+        let_go(held, seat, reply);
         reply
     }
 
@@ -195,8 +192,7 @@ impl<A: Allocator + Clone> Live<A> {
         requires first { held.old.first ≡ (target_range place target).first }
         requires room { 2 ≤ seat.old.room }
         ensures grew { Grew seat.old seat.new }
-        ensures room { length held.new.slots + 1 ≤ seat.new.room }
-        ensures again { IfNone result (length held.new.slots + 2 ≤ seat.new.room) }
+        ensures room { CanEnd result held.new seat.new }
     {
         if !self.lock_all(rt, seat, held, target.range(place).end, 0) {
             return Some(give_up(seat));
@@ -221,8 +217,7 @@ impl<A: Allocator + Clone> Live<A> {
         requires covers { Covers held.old (target_range place target) }
         requires room { length held.old.slots + 2 ≤ seat.old.room }
         ensures grew { Grew seat.old seat.new }
-        ensures room { length held.new.slots + 1 ≤ seat.new.room }
-        ensures again { IfNone result (length held.new.slots + 2 ≤ seat.new.room) }
+        ensures room { CanEnd result held.new seat.new }
     {
         let Some(decision) = self.decide_place(held, seat.core(), place, target) else {
             return Some(give_up(seat));

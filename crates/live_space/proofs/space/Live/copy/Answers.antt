@@ -1,10 +1,10 @@
-use Rattle.std.proofs.Common.{rules, arith}
-use Rattle.live_space.proofs.Noted.{room_once}
+use Rattle.std.proofs.Common.{rules, arith, ap}
+use Rattle.seats.specs.Notes.{SeatView}
 use Rattle.live_space.proofs.space.Live.copy.Goals as goal
 
 pub copy_told-requires : goal.copy_told-requires
 copy_told-requires g c =
-    let room = room_once _ _ (c.in-Some.field-0, c.in-Some.ensures.noted) in (
+    let room = ap (λ (s : SeatView). s.room) c.post-posted.ensures.0 in (
       omega arith,
       (
         c.requires.sound,
