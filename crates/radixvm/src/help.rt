@@ -60,14 +60,15 @@ writes 0x10000, done and 41, each on a line of its own.
 /// What a trace may hold.
 pub const TRACE: &str = "\
 A trace is text. Its first line says how large the space is, then comes a line
-for each file, then a line for each event.
+for each file, then a line for each event. The run ends where the text does:
+behind a pipe when it is closed, at a terminal by Ctrl-D.
 
   vm CORES FRAMES [CALLS]  first, once: 1 to 64 cores, 0 to 65536 frames of 4096
                            bytes, and how many calls may begin: 4096 where it
                            is left out, at most 1048576
-  file N MODE LEN SEED     N is 0, 1, 2 and so on up to 15, MODE is r, w or rw,
-                           and of the LEN bytes (at most 1048576) byte I is
-                           (SEED + I) modulo 256
+  file N MODE LEN SEED     a file of the trace's own: N is 0, 1, 2 and so on up
+                           to 15, MODE is r, w or rw, and of the LEN bytes (at
+                           most 1048576) byte I is (SEED + I) modulo 256
 
 An event is one of these, on core C: c0, c1 and so on up to one below CORES.
 
@@ -89,8 +90,13 @@ An event is one of these, on core C: c0, c1 and so on up to one below CORES.
                            there is room from ADDR's page on
   cC whole                 core C's call, which looks for a place, locks all of
                            its window
-  cC giveup                core C's call is given up, as for want of memory
+  cC giveup                core C's call is given up, as for want of memory, and
+                           its finish gives nomemory; idle once its change is
+                           sure, or its reply
   fold ADDR                slots are joined at ADDR's page; no content changes
+
+frame, guess and whole fit one moment of a call: begin it by cC call, and try
+them behind each cC go, until one of them isn't idle.
 
 REQ is one of these.
 
@@ -147,13 +153,13 @@ whole line is left to read.
                 load any of r, w and x
   bus           the page lies past the end of its file
   noframe       no frame is free
-  nomemory      the call was given up for want of memory
+  nomemory      the call was given up: by giveup, or by live for want of memory
   step          a step was made, which answered no call
   wait slot C   core C holds a page that the call needs
   wait acks C.. the call waits for messages to be taken by these cores
   idle          nothing was done: the core has no call to go on with, or has one
                 already, or isn't there; or there is nothing to take, flush,
-                review, walk, evict, fold, give up, or no such free frame
+                review, walk, evict, fold, guess, give up, or no such free frame
   full          nothing was done: as many calls as the vm line allows have begun
   stuck         2^40 steps of one finish gave the call no reply
 
@@ -166,12 +172,15 @@ What to do where core 0 reads one of these:
                   c1 take
                   c1 take
                   c0 finish
+                Where core 1 has older messages, it takes until it reads idle.
   wait slot 1   let core 1's call end, which lets go of its pages:
                   c1 finish
                   c0 finish
-  noframe       unmap an anonymous page that has a frame. The frame comes back
-                once two epochs have ended and it was reviewed; with one core,
-                which has no other count to flush:
+                Where core 1 waits, too, do first what its own wait asks for.
+  noframe       write more FRAMES on the vm line; or unmap an anonymous page
+                that has a frame, which comes back once two epochs have ended
+                and it was reviewed. With one core, which has no other count to
+                flush:
                   c0 flush
                   c0 flush
                   c0 flush
@@ -242,15 +251,15 @@ With --explain the line comes under the fault, then a caret below the word that
 is wrong, and what was expected there.
 
 What a bad line often is: PROT of two letters (rw for rw-); 4K, 1_000 or 1,000
-for a number; a tab, a carriage return or a letter that isn't ASCII; words
-behind the last one, as a comment; FILE and OFF left out without a in FLAGS; a
-file line behind the first event, or whose N isn't the next number; c0: or c00
-or c64 for a core; a second vm line. A core that the vm line doesn't give is
-no bad line: it reads idle.
+for a number; a tab, a letter that isn't ASCII, or a carriage return, which ends
+the lines of Windows (tr -d '\\r' drops it); words behind the last one, as a
+comment; FILE and OFF left out without a in FLAGS; a file line behind the first
+event, or whose N isn't the next number; c0: or c00 or c64 for a core; a second
+vm line. A core that the vm line doesn't give is no bad line: it reads idle.
 
-Status: 0; 2 for a bad text or bad words; 3 where reading, writing or memory
-failed, setup S6 included. certify has these faults, too, and status 1 for notes
-that it refuses.
+Status: 0 where the text was replayed to its end, whatever its calls came to; 2
+for a bad text or bad words; 3 where reading, writing or memory failed, setup S6
+included. certify has these faults, too, and status 1 for notes that it refuses.
 ";
 
 /// What a newcomer to the model needs of cores.
@@ -265,7 +274,9 @@ TLB entries as a processor may by itself.
 Locks. Pages lie in slots, runs of neighbours that are locked together. A call
 that changes pages locks its slots from left to right, and lets go of them at
 its end. A call that meets a slot of another core's call reads wait slot C.
-Slots are cut at a call's edges, and fold joins them again.
+A slot that crosses an edge of what a call asks for is cut into 512; fold joins
+these again, where no call holds one, none has a frame or a core that uses it,
+and all are unmapped or go on from one another.
 
 Shootdown. munmap, mprotect and an mmap over pages that are used clear them in
 the core's own tables and TLB, and send a message to the other cores that are
@@ -306,7 +317,8 @@ help outcomes says, but not stuck. Notes may stand in any order.
 certify gives the events to the machine in order of tickets, and writes a line:
 
   certified CALLS    they are a run of it with just these outcomes, in which so
-                     many calls were answered; what holds of all runs holds here
+                     many calls were answered; what holds of all runs holds of
+                     it: a plain page map can give these replies (help log)
   refused C1 TICKET  of the tickets below the number of notes, this is the least
                      that doesn't stand once
   refused C2 TICKET: noted OUTCOME, expected OUTCOME
@@ -324,8 +336,9 @@ help faults says, and then nothing is written.
 /// What `live` reads and writes.
 pub const THREADS: &str = "\
 live reads a script, and runs each core's lines, in their order, on a thread of
-the core's own, or one core after another where no thread can be made. A script
-has the vm and file lines of help trace, and of other lines these:
+the core's own, or one core after another where no thread can be made. All other
+words have one thread. A script has the vm and file lines of help trace, and of
+other lines these:
 
   cC! REQ     core C makes a call
   cC flush    core C flushes one count
