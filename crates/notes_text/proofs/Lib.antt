@@ -10,3 +10,6 @@ pub mod ScriptLemmas
 pub mod NoteWritten
 pub mod PieceLemmas
 pub mod TaskLemmas
+pub mod PrintableLemmas
+pub mod TextOnce
+pub mod TextWritten

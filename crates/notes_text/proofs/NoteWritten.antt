@@ -1,26 +1,27 @@
 -- The line that is written of a note names it.
-use Rattle.std.proofs.Common.{◌≡◌, ℕ, suc, ◌+◌, ◌-◌, ◌*◌, ◌/◌, ◌^◌, ◌<◌, ◌≤◌, List, [], ◌∷◌, ◌++◌, length, take, Some}
+use Rattle.std.proofs.Common.{◌≡◌, ℕ, ◌-◌, ◌*◌, ◌^◌, ◌<◌, List, [], ◌∷◌, ◌++◌, length, take, true}
 use Rattle.std.proofs.Common.{codes, decimal, arith, refl, sym, ap, ◌∙◌, append_assoc, length-append}
 use Rattle.machine_model.specs.declared.event.Event.{Event}
 use Rattle.machine_model.specs.declared.event.Event.TheVariants as Ev
 use Rattle.machine_model.specs.declared.event.Blocker.TheVariants.{Slot, Acks}
 use Rattle.machine_model.specs.declared.event.Outcome.{Outcome}
 use Rattle.machine_model.specs.declared.event.Outcome.TheVariants.{Stepped, Wait, Idle, Answered, Full}
-use Rattle.seats.specs.declared.noted.Noted.{Noted}
 use Rattle.trace.specs.OutcomeText.{outcome_text}
 use Rattle.trace_text.specs.Words.{Word, words_of}
+use Rattle.trace_text.specs.Line.{are_printable}
 use Rattle.trace_text.specs.Lists.{start_of}
 use Rattle.trace_text.specs.Printing.{cores_text, text_of}
 use Rattle.trace_text.specs.Spelling.{SpellsPage}
-use Rattle.trace_text.specs.Grammar.{Does, Says}
+use Rattle.trace_text.specs.Grammar.{Does}
 use Rattle.trace_text.specs.declared.action.Action.{Action}
 use Rattle.trace_text.specs.declared.action.Action.TheVariants as Do
 use Rattle.trace_text.specs.declared.line.Line.TheVariants.{Act, Fold}
 use Rattle.trace.specs.Events.{event_of}
-use Rattle.notes_text.specs.Grammar.{NamesEvent, NamesNote, NamesOutcome}
+use Rattle.notes_text.specs.Grammar.{NamesEvent, NamesOutcome}
 use Rattle.notes_text.specs.Verdicts.{unended}
 use Rattle.notes_text.specs.Written.{core_word, event_words, note_head, note_text, request_words, spaced}
-use Rattle.notes_text.specs.WrittenLaws.{FitsEvent, FitsNote, FitsOutcome, WritesWhatIsRead}
+use Rattle.notes_text.specs.WrittenLaws.{FitsEvent, FitsOutcome, WritesWhatIsRead}
+use Rattle.notes_text.proofs.PrintableLemmas.{cores_printable, decimal_printable, reply_printable}
 use Rattle.notes_text.proofs.SplitLemmas.{words_join}
 use Rattle.notes_text.proofs.WrittenLemmas.{AreWords, IsWord, address_spells, address_word, decimal_spells, decimal_word, number_clear, one_word}
 use Rattle.notes_text.proofs.WrittenLemmas.{request_are_words, request_asked, word_before, words_spaced}
@@ -38,15 +39,15 @@ page_is : (page : ℕ) → page < 2 ^ 52 → IsWord (start_of page)
 page_is page h = address_word (page * 4096) (omega (arith, h))
 
 -- what is written of an event names it, in words
-record IsWritten (event : Event) : Type 0 where
-  named : NamesEvent event (event_words event)
-  words : AreWords (event_words event)
+pub record IsWritten (event : Event) : Type 0 where
+  pub named : NamesEvent event (event_words event)
+  pub words : AreWords (event_words event)
 
 -- a core does this
 acts : (core : ℕ) (action : Action) (args : List Word) → core < 64 → Does action args → NamesEvent (event_of core action) (core_word core ∷ args)
 acts core action args h does = (Act core action, (core_word core, args, refl, (h, refl), does), refl)
 
-event_written : (event : Event) → FitsEvent event → IsWritten event
+pub event_written : (event : Event) → FitsEvent event → IsWritten event
 event_written (Ev.Call core request) (h, f) = record {
   named = acts core (Do.Call request) (codes "call" ∷ request_words request) h (request_words request, refl, request_asked request f);
   words = (core_is core h, (refl, request_are_words request f));
@@ -81,30 +82,33 @@ event_written (Ev.GiveUp core) h = record { named = acts core Do.GiveUp (codes "
 -- ---- outcomes
 
 -- the line of an outcome, which names it
-record IsLine (outcome : Outcome) : Type 0 where
-  line : List ℕ
-  text : outcome_text outcome ≡ line ++ 10 ∷ []
-  named : NamesOutcome outcome (words_of line)
+pub record IsLine (outcome : Outcome) : Type 0 where
+  pub line : List ℕ
+  pub text : outcome_text outcome ≡ line ++ 10 ∷ []
+  pub named : NamesOutcome outcome (words_of line)
+  pub printable : are_printable line ≡ true
 
-outcome_line : (outcome : Outcome) → FitsOutcome outcome → IsLine outcome
-outcome_line Stepped h = record { line = codes "step"; text = refl; named = refl }
+pub outcome_line : (outcome : Outcome) → FitsOutcome outcome → IsLine outcome
+outcome_line Stepped h = record { line = codes "step"; text = refl; named = refl; printable = refl }
 outcome_line (Wait (Slot core)) h = record {
   line = codes "wait slot" ++ 32 ∷ decimal core;
   text = sym (append_assoc (codes "wait slot ") (decimal core) (10 ∷ []));
   named = (h, words_join (codes "wait slot") (decimal core) ∙ ap (λ ws. codes "wait" ∷ codes "slot" ∷ ws) (decimal_word core (omega (arith, h))));
+  printable = decimal_printable core (omega (arith, h));
 }
 outcome_line (Wait (Acks set)) (some, small) = record {
   line = codes "wait acks" ++ cores_text set;
   text = sym (append_assoc (codes "wait acks") (cores_text set) (10 ∷ []));
   named = acks_written set some small;
+  printable = cores_printable set;
 }
-outcome_line Idle h = record { line = codes "idle"; text = refl; named = refl }
-outcome_line (Answered reply) h = record { line = text_of reply; text = refl; named = replies_written reply h }
-outcome_line Full h = record { line = codes "full"; text = refl; named = refl }
+outcome_line Idle h = record { line = codes "idle"; text = refl; named = refl; printable = refl }
+outcome_line (Answered reply) h = record { line = text_of reply; text = refl; named = replies_written reply h; printable = reply_printable reply h }
+outcome_line Full h = record { line = codes "full"; text = refl; named = refl; printable = refl }
 
 -- ---- notes
 
-line_words : (d : Word) (event : List Word) (l : List ℕ) → IsWord d → AreWords event
+pub line_words : (d : Word) (event : List Word) (l : List ℕ) → IsWord d → AreWords event
     → words_of ((d ++ spaced event ++ codes " = ") ++ l) ≡ d ∷ (event ++ codes "=" ∷ words_of l)
 line_words d event l dw ew =
     ap words_of (append_assoc (d ++ spaced event) (codes " = ") l) ∙ words_join (d ++ spaced event) (61 ∷ 32 ∷ l)

@@ -12,3 +12,4 @@ pub mod WrittenLaws
 pub mod Ordered
 pub mod WriteEnds
 pub mod Scripts
+pub mod TextLaws

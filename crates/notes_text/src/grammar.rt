@@ -1,5 +1,6 @@
 //! What lines of notes say, against their grammar.
 ghost use Rattle.notes_text.specs.Laws.{NotesAreOne, ReadsAllOutcomes, ReadsOnlyOutcomes};
+ghost use Rattle.notes_text.specs.TextLaws.{SaidIsNotRefused, SaysOne, WrittenIsSaid};
 ghost use Rattle.notes_text.specs.WrittenLaws.{WritesWhatIsRead};
 
 /// Words that name an outcome are read as it (`all`), and those that are read as one name it (`only`). A line that names a note
@@ -16,4 +17,13 @@ pub fn notes_grammar()
 /// of some core if it waits for any.
 pub fn written_notes()
     ensures { WritesWhatIsRead }
+{}
+
+/// The text that `write_notes` writes says what is declared and the notes, in the order in which they are written, each with its
+/// ticket, event and outcome (`written`), and no text says other notes beside those that it says, or declares otherwise (`one`). So
+/// whoever reads it is given those, or is told that a read failed or memory was wanting (`read`).
+pub fn written_texts()
+    ensures written { WrittenIsSaid }
+    ensures one { SaysOne }
+    ensures read { SaidIsNotRefused }
 {}

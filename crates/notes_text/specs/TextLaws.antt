@@ -1,0 +1,45 @@
+-- What is written of notes is read as them, all of the text, and it says nothing else.
+use Rattle.std.specs.Prelude.{◌≡◌, ℕ, ◌≤◌, ◌⊎◌, true, List, None, length}
+use Rattle.std.specs.List.{AllByRecursion}
+use Rattle.seats.specs.declared.noted.Noted.{Noted}
+use Rattle.trace.specs.declared.fault.TraceFault.{TraceFault}
+use Rattle.trace.specs.declared.fault.TraceFault.TheVariants.{NoMemory, ReadFailed}
+use Rattle.trace.specs.Declarations.{Asked, asked_fault}
+use Rattle.notes_text.specs.Grammar.{NamesNote}
+use Rattle.notes_text.specs.Ends.{Collects, Stops}
+use Rattle.notes_text.specs.Written.{note_text, notes_text}
+use Rattle.notes_text.specs.WrittenLaws.{FitsNote}
+
+-- the lines of the text declare this, and name these notes, in their order
+abbrev pub SaysNotes : List ℕ → Asked → List Noted → Type 0
+SaysNotes text asked notes = Collects true (λ cores note words. NamesNote note words) text asked notes
+
+-- ---- what can be written
+
+-- A space can be made of what is declared. All its files are there, and the first byte of each is a byte.
+pub record IsDeclared (asked : Asked) : Type 0 where
+  pub sound : asked_fault asked ≡ None
+  pub files : asked.next ≡ length asked.files
+  pub bytes : AllByRecursion (λ file. file.seed ≤ 255) asked.files
+
+-- the note's line is no longer than a line may be, its newline besides
+pub record FitsLine (note : Noted) : Type 0 where
+  pub fits : FitsNote note
+  pub short : length (note_text note) ≤ 257
+
+-- ---- the laws
+
+-- What is written of notes says what was declared, and each of them.
+abbrev pub WrittenIsSaid : Type 0
+WrittenIsSaid = (asked : Asked) (notes : List Noted) → IsDeclared asked → AllByRecursion FitsLine notes
+    → SaysNotes (notes_text asked notes) asked notes
+
+-- No text says two declarations, or two lists of notes.
+abbrev pub SaysOne : Type 0
+SaysOne = (text : List ℕ) (asked other : Asked) (notes others : List Noted) → SaysNotes text asked notes → SaysNotes text other others
+    → (asked ≡ other) × (notes ≡ others)
+
+-- Reading a text that says notes fails at no line: a read fails, or memory is wanting.
+abbrev pub SaidIsNotRefused : Type 0
+SaidIsNotRefused = (text unread : List ℕ) (asked : Asked) (notes : List Noted) (f : TraceFault) → SaysNotes text asked notes
+    → Stops true (λ (cores : ℕ) (note : Noted) words. NamesNote note words) text unread f → (f ≡ ReadFailed) ⊎ (f ≡ NoMemory)
