@@ -13,3 +13,5 @@ pub mod TaskLemmas
 pub mod PrintableLemmas
 pub mod TextOnce
 pub mod TextWritten
+pub mod FitsLemmas
+pub mod ShortLines

@@ -70,20 +70,20 @@ ascending set (suc n) from least low high = go (λ l h. ascending set n (from + 
 Below : ℕ → ℕ → ℕ → Type 0
 Below set s from = (k : ℕ) → members s k ≡ ltb k from && members set k
 
-power_same : (k : ℕ) → members (2 ^ k) k ≡ true
+pub power_same : (k : ℕ) → members (2 ^ k) k ≡ true
 power_same k = ap (λ n. eqb n 1) (bit_at-pow_same k)
 
 power_other : (k i : ℕ) → i ≢ k → members (2 ^ k) i ≡ false
 power_other k i h = ap (λ n. eqb n 1) (bit_at-pow_other k i h)
 
-with_one : (s c k : ℕ) → members (with_member s c) k ≡ members s k || members (2 ^ c) k
+pub with_one : (s c k : ℕ) → members (with_member s c) k ≡ members s k || members (2 ^ c) k
 with_one s c k = ap (λ f. f k) (members-or s (2 ^ c))
 
 false_or : (a b : Bool) → b ≡ false → a || b ≡ a
 false_or true b e = refl
 false_or false b e = e
 
-true_or : (a b : Bool) → b ≡ true → a || b ≡ true
+pub true_or : (a b : Bool) → b ≡ true → a || b ≡ true
 true_or true b e = refl
 true_or false b e = e
 

@@ -56,10 +56,10 @@ line_taken old mid new line rest short t all =
 -- ---- what is declared
 
 -- each word has at most 20 bytes
-abbrev AreShort : List Word → Type 0
+abbrev pub AreShort : List Word → Type 0
 AreShort ws = AllByRecursion (λ w. length w ≤ 20) ws
 
-spaced_short : (ws : List Word) → AreShort ws → length (spaced ws) ≤ 21 * length ws
+pub spaced_short : (ws : List Word) → AreShort ws → length (spaced ws) ≤ 21 * length ws
 spaced_short [] h = omega arith
 spaced_short (w ∷ ws) h =
     let more : length (spaced ws) ≤ 21 * length ws = spaced_short ws h.1 in
@@ -68,7 +68,7 @@ spaced_short (w ∷ ws) h =
     length-append (codes " " ++ w) (spaced ws) ∙ ap (λ n. n + length (spaced ws)) (length-append (codes " ") w) in
     omega (arith, more, one, size)
 
-decimal_short : (n : ℕ) → n < 2 ^ 64 → length (decimal n) ≤ 20
+pub decimal_short : (n : ℕ) → n < 2 ^ 64 → length (decimal n) ≤ 20
 decimal_short n h = length-decimal-le 20 n (omega arith) (omega (arith, h)) h
 
 mode_short : (mode : Mode) → length (mode_text mode) ≤ 20
@@ -296,7 +296,7 @@ notes_taken asked before (note ∷ notes) sound (fits, more) =
 -- ---- what fits
 
 -- no fault is found
-none_found : (a b c d e : Bool)
+pub none_found : (a b c d e : Bool)
     → cond a (Some Cores) (cond b (Some Frames) (cond c (Some TooManyFiles) (cond d (Some FileTooLong) (cond e (Some Calls) None)))) ≡ None
     → (a ≡ false) × (b ≡ false) × (c ≡ false) × (d ≡ false) × (e ≡ false)
 none_found true b c d e h = absurd (cc)

@@ -1,12 +1,18 @@
 -- What is written of notes is read as them, all of the text, and it says nothing else.
-use Rattle.std.specs.Prelude.{◌≡◌, ℕ, ◌≤◌, ◌⊎◌, true, List, None, length}
+use Rattle.std.specs.Prelude.{◌≡◌, ℕ, ◌≤◌, ◌⊎◌, true, false, List, None, length}
 use Rattle.std.specs.List.{AllByRecursion}
+use Rattle.machine_model.specs.declared.event.Blocker.{Blocker}
+use Rattle.machine_model.specs.declared.event.Event.TheVariants.{Go}
+use Rattle.machine_model.specs.declared.event.Outcome.TheVariants.{Wait}
 use Rattle.seats.specs.declared.noted.Noted.{Noted}
+use Rattle.trace_text.specs.Words.{Word}
 use Rattle.trace.specs.declared.fault.TraceFault.{TraceFault}
 use Rattle.trace.specs.declared.fault.TraceFault.TheVariants.{NoMemory, ReadFailed}
 use Rattle.trace.specs.Declarations.{Asked, asked_fault}
 use Rattle.notes_text.specs.Grammar.{NamesNote}
 use Rattle.notes_text.specs.Ends.{Collects, Stops}
+use Rattle.notes_text.specs.Scripts.{NamesTask}
+use Rattle.notes_text.specs.declared.script.ScriptLine.{ScriptLine}
 use Rattle.notes_text.specs.Written.{note_text, notes_text}
 use Rattle.notes_text.specs.WrittenLaws.{FitsNote}
 
@@ -43,3 +49,24 @@ SaysOne = (text : List ℕ) (asked other : Asked) (notes others : List Noted) �
 abbrev pub SaidIsNotRefused : Type 0
 SaidIsNotRefused = (text unread : List ℕ) (asked : Asked) (notes : List Noted) (f : TraceFault) → SaysNotes text asked notes
     → Stops true (λ (cores : ℕ) (note : Noted) words. NamesNote note words) text unread f → (f ≡ ReadFailed) ⊎ (f ≡ NoMemory)
+
+-- ---- what fits
+
+-- What a line names fits, so that it can be written.
+abbrev pub NamedFits : Type 0
+NamedFits = (note : Noted) (words : List Word) → NamesNote note words → FitsNote note
+
+-- So does what the lines of notes or of a script declare.
+abbrev pub NotesDeclare : Type 0
+NotesDeclare = (text : List ℕ) (asked : Asked) (notes : List Noted) → SaysNotes text asked notes → IsDeclared asked
+
+abbrev pub ScriptsDeclare : Type 0
+ScriptsDeclare = (text : List ℕ) (asked : Asked) (lines : List ScriptLine) → Collects false NamesTask text asked lines → IsDeclared asked
+
+-- only an event that goes on with a call has waited
+abbrev pub WaitsGoing : Noted → Type 0
+WaitsGoing note = (blocker : Blocker) → note.outcome ≡ Wait blocker → (core : ℕ) × (note.event ≡ Go core)
+
+-- Then the line that is written is short enough to be read.
+abbrev pub LinesAreShort : Type 0
+LinesAreShort = (note : Noted) → FitsNote note → WaitsGoing note → FitsLine note

@@ -1,6 +1,6 @@
 //! What lines of notes say, against their grammar.
 ghost use Rattle.notes_text.specs.Laws.{NotesAreOne, ReadsAllOutcomes, ReadsOnlyOutcomes};
-ghost use Rattle.notes_text.specs.TextLaws.{SaidIsNotRefused, SaysOne, WrittenIsSaid};
+ghost use Rattle.notes_text.specs.TextLaws.{LinesAreShort, NamedFits, NotesDeclare, SaidIsNotRefused, SaysOne, ScriptsDeclare, WrittenIsSaid};
 ghost use Rattle.notes_text.specs.WrittenLaws.{WritesWhatIsRead};
 
 /// Words that name an outcome are read as it (`all`), and those that are read as one name it (`only`). A line that names a note
@@ -26,4 +26,14 @@ pub fn written_texts()
     ensures written { WrittenIsSaid }
     ensures one { SaysOne }
     ensures read { SaidIsNotRefused }
+{}
+
+/// What is read can be written: a note that a line names fits (`named`), and so does what notes (`declared`) or a script
+/// (`script`) declare. The line that is written of a note is short enough to be read, if it waits only where it goes on with a
+/// call (`short`).
+pub fn texts_fit()
+    ensures named { NamedFits }
+    ensures declared { NotesDeclare }
+    ensures script { ScriptsDeclare }
+    ensures short { LinesAreShort }
 {}
