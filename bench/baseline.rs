@@ -2,7 +2,7 @@
 //! `call`, `finish`; mappings with MAP_FIXED), takes, walks, evictions, flushes and reviews. Each core has page tables and a
 //! TLB; the slots of pages stand in a radix tree. It keeps no log. With the word `maps` it writes the list of mappings in place
 //! of the replies. With the word `certify` it reads notes of steps, of such lines and `go`, and says whether a new machine comes
-//! to the same outcomes.
+//! to the same outcomes; with the word `rewrite` it reads them and writes them in order of their tickets.
 //! Standard library alone. Build: `rustc --edition 2021 -C opt-level=3 bench/baseline.rs`.
 mod baseline {
     pub mod counts;
@@ -14,6 +14,7 @@ mod baseline {
     pub mod notes;
     pub mod request;
     pub mod slots;
+    pub mod writing;
 }
 
 use baseline::files::File;
@@ -21,6 +22,7 @@ use baseline::machine::{Machine, Outcome};
 use baseline::maps::{Backing, Mapping};
 use baseline::notes::{certify, read_note, Note, Verdict};
 use baseline::request::{read_line, Line};
+use baseline::writing::write_notes;
 use std::io::{self, BufRead, BufReader, BufWriter, Write};
 use std::process::ExitCode;
 
@@ -199,9 +201,49 @@ fn certify_notes() -> io::Result<ExitCode> {
     Ok(ExitCode::SUCCESS)
 }
 
+/// Reads the notes of standard input, of a space without files, and writes them in order of their tickets.
+fn rewrite_notes() -> io::Result<ExitCode> {
+    let mut space = None;
+    let mut notes: Vec<Note> = Vec::new();
+    let bad = each_line(|line| {
+        if line.first().is_some_and(u8::is_ascii_digit) {
+            let Some(note) = read_note(line) else {
+                return Ok(false);
+            };
+            notes.push(note);
+            return Ok(true);
+        }
+        match (read_line(line), space) {
+            (
+                Some(Line::Space {
+                    cores,
+                    frames,
+                    calls,
+                }),
+                None,
+            ) => space = Some((cores, frames, calls)),
+            (Some(Line::Blank), _) => {}
+            _ => return Ok(false),
+        }
+        Ok(true)
+    })?;
+    if let Some(count) = bad {
+        return Ok(bad_line(count));
+    }
+    let Some(space) = space else {
+        eprintln!("no vm line first");
+        return Ok(ExitCode::from(2));
+    };
+    let mut out = BufWriter::with_capacity(1 << 16, io::stdout().lock());
+    write_notes(&mut out, space, notes)?;
+    out.flush()?;
+    Ok(ExitCode::SUCCESS)
+}
+
 fn main() -> io::Result<ExitCode> {
     match std::env::args().nth(1).as_deref() {
         Some("certify") => certify_notes(),
+        Some("rewrite") => rewrite_notes(),
         word => replay(word == Some("maps")),
     }
 }

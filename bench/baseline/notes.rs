@@ -4,10 +4,10 @@ use crate::baseline::request::{core_action, number, Action};
 
 /// A step that a core made, its place in the order of all steps, and what it came to.
 pub struct Note {
-    ticket: u64,
-    core: usize,
-    action: Action,
-    outcome: Outcome,
+    pub ticket: u64,
+    pub core: usize,
+    pub action: Action,
+    pub outcome: Outcome,
 }
 
 /// What becomes of notes.

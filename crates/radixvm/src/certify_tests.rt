@@ -1,6 +1,6 @@
 //! Notes that are certified, refused, or no notes, and what the word `certify` says of them.
 use crate::certifying::certify;
-use crate::tests::{AMPLE, Limits, comes_to, dripping_of, run_words, sink_of};
+use crate::tests::{AMPLE, Limits, comes_to, dripping_of, run_words, sink_of, text_of};
 use linked_list_allocator::LocalHeap;
 use std::alloc::Global;
 use std::sync::Wait;
@@ -147,22 +147,19 @@ radixvm: setup S1
 vm 64 65537 4; 0 c0 go = idle
 radixvm: setup S2
 
+vm 1 1 4; file 1 r 1 0; 0 c0 go = idle
+radixvm: line 2: bad line
+
+vm 1 1 4; file 0 r 1 0; file 1 r 1 0; file 2 r 1 0; file 3 r 1 0; file 4 r 1 0; file 5 r 1 0; \
+    file 6 r 1 0; file 7 r 1 0; file 8 r 1 0; file 9 r 1 0; file 10 r 1 0; file 11 r 1 0; \
+    file 12 r 1 0; file 13 r 1 0; file 14 r 1 0; file 15 r 1 0; file 16 r 1 0; 0 c0 go = idle
+radixvm: setup S3
+
 vm 1 1 4; file 0 r 1048577 0; 0 c0 go = idle
 radixvm: setup S4
 
 vm 1 1 1048577
 radixvm: setup S5";
-
-// The row's lines, each with its newline.
-fn text_of(alloc: Global, row: &str) -> Option<Vec<u8>> {
-    let mut text = Vec::new(alloc);
-    for line in row.split("; ") {
-        if text.extend_from_slice(line.as_bytes()).is_err() || text.push(b'\n').is_err() {
-            return None;
-        }
-    }
-    Some(text)
-}
 
 // The status that a certificate or a refusal ends the program with.
 fn status_of(line: &str) -> u8 {
@@ -298,9 +295,12 @@ fn tells_of_write<T: Threads + Wait + Sync>((alloc, rt): (Global, &T), limits: L
         && ran.status == 3
 }
 
-// The line of a refusal is written in four parts.
+// The line of a refusal is written in four parts, and that of a certificate in one.
 #[test]
 fn certificates_unwritten(rt: HostRuntime) {
+    let none = Limits { writes: 0, ..AMPLE };
+    let unwritten = (b"".as_slice(), b"radixvm: write failed\n".as_slice(), 3);
+    assert!(rt; comes_to((rt.alloc(), &rt), CERTIFY, NOTES, none, unwritten));
     for writes in 0..4 {
         for fails in [false, true] {
             let limits = Limits {

@@ -1,6 +1,6 @@
 //! Scripts that are run on the system's threads, or one core after another, and what the word `live` says of them.
-use crate::live::certify_live;
-use crate::tests::{AMPLE, Came, Limits, Ran, dripping_of, run_host, sink_of};
+use crate::live::{certify_live, live};
+use crate::tests::{AMPLE, Came, Limits, Ran, dripping_of, run_host, sink_of, text_of};
 use linked_list_allocator::LocalHeap;
 use live_script::{InTurn, OnThreads, Runner};
 use notes_text::verdict::{Verdict, write_verdict};
@@ -110,17 +110,6 @@ radixvm: live V1
 vm 3 1 3; c0! load 0; c1! load 0; c1! load 0; c2! load 0; c2! load 0
 radixvm: live V1";
 
-// The row's lines, each with its newline.
-fn text_of(alloc: Global, row: &str) -> Option<Vec<u8>> {
-    let mut text = Vec::new(alloc);
-    for line in row.split("; ") {
-        if text.extend_from_slice(line.as_bytes()).is_err() || text.push(b'\n').is_err() {
-            return None;
-        }
-    }
-    Some(text)
-}
-
 // The status that a fault ends the program with: of a core that stops, or of the text.
 fn status_of(line: &str) -> u8 {
     if line.starts_with("radixvm: live ") {
@@ -179,11 +168,14 @@ fn tells_of_write<T: Threads + Wait + Sync, R: Runner<Global>>(
         && ran.status == 3
 }
 
-// A write that fails or takes no byte, the first and those behind it, and a flush that fails.
+// The vm line is written at once, and each of the three notes in two parts. Each of these writes fails, or takes no byte; and
+// so does the flush.
 #[test]
 fn notes_unwritten(rt: HostRuntime) {
     let host = (rt.alloc(), &rt, &InTurn);
-    for writes in 0..4 {
+    let all = Limits { writes: 7, ..AMPLE };
+    assert!(rt; comes_to(host, LIVE, LOAD, all, (NOTES, b"", 0)));
+    for writes in 0..7 {
         for fails in [false, true] {
             let limits = Limits {
                 writes,
@@ -203,20 +195,38 @@ fn notes_unwritten(rt: HostRuntime) {
     assert!(rt; tells_of_write(host, CERTIFIED, b"certified 1\n", closed));
 }
 
-// Whether the script is certified in a heap of this size. Where it isn't, it has to be told that memory was wanting.
-fn is_certified_in<T: Threads + Wait + Sync>(rt: &T, alloc: Global, size: usize) -> Option<bool> {
+// What the word `live` comes to in a heap of this size, with its option and without.
+fn ran_in<T: Threads + Wait + Sync>(
+    rt: &T,
+    alloc: Global,
+    certifies: bool,
+    size: usize,
+) -> Option<Ran> {
     let Ok(heap) = LocalHeap::new(alloc, size) else {
         return None;
     };
     let mut reader = Counted::new(dripping_of(LOAD, AMPLE));
     let mut out = sink_of(alloc, AMPLE);
     let mut errors = Vec::new(alloc);
-    let status = certify_live(rt, &InTurn, &heap, &mut reader, &mut out, &mut errors);
-    let out = out.writer.into_parts().0.held;
-    if status == 0 && out.as_slice() == b"certified 1\n".as_slice() && errors.is_empty() {
+    let status = if certifies {
+        certify_live(rt, &InTurn, &heap, &mut reader, &mut out, &mut errors)
+    } else {
+        live(rt, &InTurn, &heap, &mut reader, &mut out, &mut errors)
+    };
+    Some(Ran {
+        out: out.writer.into_parts().0.held,
+        errors,
+        status,
+    })
+}
+
+// Whether this is what is written where memory suffices. Where it isn't, nothing is, and it has to be told that memory was
+// wanting.
+fn suffices(ran: &Ran, text: &[u8]) -> Option<bool> {
+    if ran.status == 0 && ran.out.as_slice() == text && ran.errors.is_empty() {
         return Some(true);
     }
-    if out.is_empty() && status == 3 && tells_of_memory(&errors) {
+    if ran.out.is_empty() && ran.status == 3 && tells_of_memory(&ran.errors) {
         return Some(false);
     }
     None
@@ -236,14 +246,18 @@ fn tells_of_memory(errors: &[u8]) -> bool {
     false
 }
 
-// How many of the heaps of 4 KiB, 8 KiB and so on are too small, where the script is certified in all larger ones.
-fn too_small<T: Threads + Wait + Sync>(rt: &T, alloc: Global) -> Option<usize> {
+// How many of the heaps of 4 KiB, 8 KiB and so on are too small, where this is written in all larger ones.
+fn too_small<T: Threads + Wait + Sync>(
+    rt: &T,
+    alloc: Global,
+    certifies: bool,
+    text: &[u8],
+) -> Option<usize> {
     let mut count = 0;
     for pages in 1..=256 {
-        match is_certified_in(rt, alloc, pages * 4096) {
-            Some(true) => {}
-            Some(false) => count = pages,
-            None => return None,
+        let ran = ran_in(rt, alloc, certifies, pages * 4096)?;
+        if !suffices(&ran, text)? {
+            count = pages;
         }
     }
     Some(count)
@@ -251,8 +265,10 @@ fn too_small<T: Threads + Wait + Sync>(rt: &T, alloc: Global) -> Option<usize> {
 
 #[test]
 fn no_memory_for_a_script(rt: HostRuntime) {
-    let count = too_small(&rt, rt.alloc()).unwrap_or(0);
-    assert!(rt; count >= 16 && count < 256);
+    let noted = too_small(&rt, rt.alloc(), false, NOTES).unwrap_or(0);
+    assert!(rt; noted >= 16 && noted < 256);
+    let certified = too_small(&rt, rt.alloc(), true, b"certified 1\n").unwrap_or(0);
+    assert!(rt; certified >= noted && certified < 256);
 }
 
 // What is written of a slot that went astray.

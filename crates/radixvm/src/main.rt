@@ -9,6 +9,8 @@ mod echo;
 mod explain;
 #[cfg(test)]
 mod explain_tests;
+#[cfg(test)]
+mod fault_tests;
 mod help;
 mod input;
 mod job;

@@ -252,6 +252,17 @@ pub fn comes_to<T: Threads + Wait + Sync>(
     ran.out.as_slice() == out && ran.errors.as_slice() == errors && ran.status == status
 }
 
+/// The row's lines, which stand with `; ` between them, each with its newline.
+pub fn text_of(alloc: Global, row: &str) -> Option<Vec<u8>> {
+    let mut text = Vec::new(alloc);
+    for line in row.split("; ") {
+        if text.extend_from_slice(line.as_bytes()).is_err() || text.push(b'\n').is_err() {
+            return None;
+        }
+    }
+    Some(text)
+}
+
 const RUN: &[&[u8]] = &[b"radixvm", b"run"];
 
 const STORED: &[u8] =

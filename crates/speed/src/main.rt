@@ -1,6 +1,7 @@
 // How long the parts take: with one of the words below, nanoseconds a round; with no word each part
 // runs with little to do. bench/pieces.sh says what the parts are, and compares them with plain
-// Rust; bench/threads.sh compares threads with one, and bench/certify.sh notes with a run.
+// Rust; bench/threads.sh compares threads with one, and bench/certify.sh notes with a run. With the word
+// `rewrite` notes are read and written in order of their tickets, which bench/notes.sh times.
 #![tactic(auto)]
 
 ghost use Rattle.std.specs.Prelude.{◌<◌, ◌≤◌, ◌^◌};
@@ -12,6 +13,7 @@ mod counts;
 mod hits;
 mod notes;
 mod ranges;
+mod rewriting;
 mod room;
 mod since;
 mod slots;
@@ -147,12 +149,21 @@ fn time<R: Threads + Wait + Clock + Sync>(
     }
 }
 
+/// Notes that are rewritten where each part has little to do.
+const NOTES: &str = "\
+vm 1 1 1
+2 c0 go = segv maperr
+0 c0 call load 0x0 = step
+1 c0 go = step
+";
+
 /// Each part with little to do.
 fn try_each<R: Print + Threads + Wait + Clock + Sync>(rt: &R, alloc: Global) -> io::Result<()> {
     'words: for i in 0..WORDS.len() {
         tell(rt, time(rt, alloc, WORDS[i], 5_000, 2)?)?;
     }
-    Ok(())
+    let is_rewritten = rewriting::rewrite(alloc, NOTES.as_bytes(), Vec::new(alloc));
+    tell(rt, is_rewritten.then_some(0))
 }
 
 fn main(rt: HostRuntime) -> io::Result<()> {
@@ -160,6 +171,12 @@ fn main(rt: HostRuntime) -> io::Result<()> {
     let words: Vec<String> = env::args(&rt)?.collect(alloc)?;
     match words.get(1) {
         None => try_each(&rt, alloc),
+        Some(word) if word.as_str() == "rewrite" => {
+            if rewriting::rewrite(alloc, rt.stdin(), rt.stdout()) {
+                return Ok(());
+            }
+            println!(rt; "no notes")
+        }
         Some(word) => {
             let rounds = rounds_of(word.as_str());
             let nanos = time(&rt, alloc, word.as_str(), 50_000, rounds)?;

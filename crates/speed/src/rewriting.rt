@@ -1,0 +1,42 @@
+//! Notes that are read, and written in order of their tickets, as those of threads are.
+use notes_text::collecting::collect;
+use notes_text::collector::Collector;
+use notes_text::{Script, read_script, write_notes};
+use seats::Noted;
+use std::alloc::Global;
+use std::io::{BufWriter, Read, Write};
+use trace::declaration::Declaration;
+use trace::fault::TraceFault;
+use trace_io::sink;
+use trace_io::source::Counted;
+
+/// A script that declares the same space, without files, and gives no core a task.
+fn script_of(alloc: Global, declared: &Declaration) -> Option<Script<Global>> {
+    let (cores, frames, calls) = (declared.cores(), declared.frames(), declared.calls());
+    let Ok(text) = format!(in alloc; "vm {cores} {frames} {calls}\n") else {
+        return None;
+    };
+    let mut reader = Counted::new(text.as_bytes());
+    read_script(alloc, &mut reader).ok()
+}
+
+/// Reads notes of a space without files, and writes them. Tells whether that went well.
+pub fn rewrite<R: Read, W: Write>(alloc: Global, input: R, output: W) -> bool {
+    let mut reader = Counted::new(input);
+    let read: Result<Collector<Noted, Global>, TraceFault> = collect(alloc, &mut reader);
+    let Ok(collected) = read else {
+        return false;
+    };
+    let Some(declared) = collected.declaration() else {
+        return false;
+    };
+    let Some(script) = script_of(alloc, declared) else {
+        return false;
+    };
+    let Ok(buffer) = BufWriter::new(alloc, output) else {
+        return false;
+    };
+    let mut writer = sink::Noted::new(buffer);
+    let notes = collected.items();
+    write_notes(&script, &[notes], &mut writer).is_ok()
+}
