@@ -102,7 +102,8 @@ some_printable set (suc n) from h = go (some_printable set n (from + 1) (omega (
     core = decimal_printable from (omega (arith, h))
 
     go : are_printable (flat_map core_text (filter (members set) (range_with_len (from + 1) n))) ≡ true → (b : Bool)
-        → are_printable (flat_map core_text (cond b (from ∷ filter (members set) (range_with_len (from + 1) n)) (filter (members set) (range_with_len (from + 1) n)))) ≡ true
+        → are_printable (flat_map core_text (cond b (from ∷ filter (members set) (range_with_len (from + 1) n))
+        (filter (members set) (range_with_len (from + 1) n)))) ≡ true
     go more true = printable_append (core_text from) _ core more
     go more false = more
 

@@ -143,7 +143,12 @@ event_length event h = omega (arith, spaced_short (event_words event) (event_sho
 
 go_length : (core : ℕ) → core < 64 → length (spaced (event_words (Ev.Go core))) ≤ 7
 go_length core h =
-    omega (arith, core_word_short core h, length-append (codes " " ++ (codes "c" ++ decimal core)) (spaced (codes "go" ∷ [])), length-append (codes " ") (codes "c" ++ decimal core))
+    omega (
+      arith,
+      core_word_short core h,
+      length-append (codes " " ++ (codes "c" ++ decimal core)) (spaced (codes "go" ∷ [])),
+      length-append (codes " ") (codes "c" ++ decimal core),
+    )
 
 -- ---- outcomes
 
@@ -174,7 +179,8 @@ some_length set (suc n) from h = go (some_length set n (from + 1) (omega (arith,
     rest = flat_map core_text (filter (members set) (range_with_len (from + 1) n))
 
     go : length (flat_map core_text (filter (members set) (range_with_len (from + 1) n))) ≤ 3 * n → (b : Bool)
-        → length (flat_map core_text (cond b (from ∷ filter (members set) (range_with_len (from + 1) n)) (filter (members set) (range_with_len (from + 1) n)))) ≤ 3 * suc n
+        → length (flat_map core_text (cond b (from ∷ filter (members set) (range_with_len (from + 1) n))
+        (filter (members set) (range_with_len (from + 1) n)))) ≤ 3 * suc n
     go more true = omega (arith, more, core, length-append (core_text from) (flat_map core_text (filter (members set) (range_with_len (from + 1) n))))
     go more false = omega (arith, more)
 

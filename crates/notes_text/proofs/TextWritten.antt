@@ -100,8 +100,15 @@ space_line_taken : (cores frames calls : ℕ) → cores < 2 ^ 64 → frames < 2 
 space_line_taken cores frames calls c f l =
     let words = decimal cores ∷ decimal frames ∷ decimal calls ∷ [] in
     let s : IsSaid (codes "vm" ++ spaced words) (codes "vm") words (Space cores frames calls) =
-    said_line (codes "vm") words (Space cores frames calls) refl (decimal_word cores c, (decimal_word frames f, (decimal_word calls l, tt)))
-    (decimal cores, decimal frames, decimal calls ∷ [], refl, decimal_spells cores c, decimal_spells frames f, inr (decimal calls, refl, decimal_spells calls l)) in
+    said_line (codes "vm") words (Space cores frames calls) refl (decimal_word cores c, (decimal_word frames f, (decimal_word calls l, tt))) (
+      decimal cores,
+      decimal frames,
+      decimal calls ∷ [],
+      refl,
+      decimal_spells cores c,
+      decimal_spells frames f,
+      inr (decimal calls, refl, decimal_spells calls l),
+    ) in
     space_taken true Names nothing _ (codes "vm" ++ spaced words) cores frames calls s.printable (ap kind_of s.words_are) refl s.read
     (λ e. ap length s.words_are) refl
 
@@ -128,8 +135,16 @@ file_line_taken asked file n l s =
     let words = decimal asked.next ∷ mode_text file.mode ∷ decimal file.len ∷ decimal file.seed ∷ [] in
     let said : IsSaid (codes "file" ++ spaced words) (codes "file") words (File asked.next file.mode file.len file.seed) =
     said_line (codes "file") words (File asked.next file.mode file.len file.seed) refl
-    (decimal_word asked.next low, (mode_word file.mode, (decimal_word file.len l, (decimal_word file.seed seed, tt))))
-    (decimal asked.next, decimal file.len, decimal file.seed, refl, decimal_spells asked.next low, decimal_spells file.len l, decimal_spells file.seed seed, s) in
+    (decimal_word asked.next low, (mode_word file.mode, (decimal_word file.len l, (decimal_word file.seed seed, tt)))) (
+      decimal asked.next,
+      decimal file.len,
+      decimal file.seed,
+      refl,
+      decimal_spells asked.next low,
+      decimal_spells file.len l,
+      decimal_spells file.seed seed,
+      s,
+    ) in
     let next : is_next asked asked.next ≡ true = grind (arith, nat_tests, n) in
     file_taken true Names (record { asked = Some asked; items = [] }) _ (codes "file" ++ spaced words) asked asked.next file.mode file.len file.seed
     said.printable (ap kind_of said.words_are) refl refl said.read next refl
@@ -187,7 +202,8 @@ files_taken asked (file ∷ files) rest new few (fit, fits) all =
     (files_taken (with_file asked file) files rest new (omega (arith, few)) fits all))
   where
     go : TakesAll true Names (record { asked = Some (with_file asked file); items = [] }) (lines_of (files_text (suc asked.next) files ++ rest)) new
-        → TakesAll true Names (record { asked = Some asked; items = [] }) (lines_of (file_text asked.next file ++ (files_text (suc asked.next) files ++ rest))) new
+        → TakesAll true Names (record { asked = Some asked; items = [] })
+        (lines_of (file_text asked.next file ++ (files_text (suc asked.next) files ++ rest))) new
     go more =
         line_taken (record { asked = Some asked; items = [] }) (after asked file) new (codes "file" ++ spaced (file_words asked.next file))
         (files_text (suc asked.next) files ++ rest) (file_short asked.next file (omega (arith, few)) fit.0 fit.1)
@@ -262,7 +278,8 @@ has_line note h =
       text = ap (λ t. note_head note ++ t) o.text ∙ sym (append_assoc (note_head note) o.line (10 ∷ []));
       printable = printable_append (note_head note) o.line
           (printable_append (decimal note.ticket ++ spaced (event_words note.event)) (codes " = ")
-          (printable_append (decimal note.ticket) (spaced (event_words note.event)) (decimal_printable note.ticket h.ticket) (event_printable note h)) refl) o.printable;
+          (printable_append (decimal note.ticket) (spaced (event_words note.event)) (decimal_printable note.ticket h.ticket) (event_printable note h))
+          refl) o.printable;
       some = subst (λ l. line_of l ≢ Some Blank) (sym shape)
           (not_blank (decimal note.ticket) note.ticket behind (event_words note.event ++ codes "=" ∷ words_of o.line) t (ap words_of (sym shape) ∙ words));
       kind = ap kind_of words ∙ note_kind note.ticket (event_words note.event ++ codes "=" ∷ words_of o.line) h.ticket;
@@ -349,7 +366,8 @@ written_taken asked notes d h =
     let first = asks_for asked.cores asked.frames asked.calls in
     let end : TakesAll true Names (record { asked = Some (with_all first asked.files); items = [] }) (lines_of (flat_map note_text notes))
     (record { asked = Some asked; items = notes }) =
-    subst (λ a. TakesAll true Names (record { asked = Some a; items = [] }) (lines_of (flat_map note_text notes)) (record { asked = Some asked; items = notes }))
+    subst (λ a. TakesAll true Names (record { asked = Some a; items = [] }) (lines_of (flat_map note_text notes))
+    (record { asked = Some asked; items = notes }))
     (sym (declared_is asked d l)) (notes_taken asked [] notes d.sound h) in
     subst (λ t. TakesAll true Names nothing (lines_of t) (record { asked = Some asked; items = notes }))
     (sym (append_assoc (space_text asked) (files_text 0 asked.files) (flat_map note_text notes)))
