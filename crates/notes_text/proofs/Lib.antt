@@ -15,3 +15,4 @@ pub mod TextOnce
 pub mod TextWritten
 pub mod FitsLemmas
 pub mod ShortLines
+mod Examples
