@@ -1,7 +1,7 @@
 //! Whole lists of events, and why they may fail.
 use crate::machines::{declared, machine_over, push_outcomes};
 use backing::FileSpec;
-use core_steps::{Forgotten, Kept, RunFault, Setup, SetupFault, run};
+use core_steps::{CallLimit, Finished, Forgotten, Kept, Machine, RunFault, Setup, SetupFault, run};
 use linked_list_allocator::LocalHeap;
 use machine_model::{Event, Outcome};
 use slot_lock::RunList;
@@ -166,6 +166,80 @@ fn the_first_fault_is_told(rt: HostRuntime) -> Result<(), Fail> {
         };
         assert!(rt; fault(rt.alloc(), rt.alloc(), setup)? == told);
     }
+    Ok(())
+}
+
+// Why no machine that keeps nothing is made with so many calls within this limit, if none is.
+fn fault_within(
+    alloc: Global,
+    limit: CallLimit,
+    calls: u64,
+) -> Result<Option<SetupFault>, NoMemory> {
+    let map = RunList::new(alloc.clone()?)?;
+    let setup = Setup {
+        cores: 1,
+        frames: 0,
+        files: Vec::new(alloc.clone()?),
+        calls,
+    };
+    match Machine::<RunList<Global>, Global, Forgotten>::new_within(limit, alloc, map, setup) {
+        Ok(_) => Ok(None),
+        Err(fault) => Ok(Some(fault)),
+    }
+}
+
+// More than 1,048,576 calls may be asked for only within the longer limit, and no more than 2^40.
+#[test]
+fn a_longer_limit_is_asked_for(rt: HostRuntime) -> Result<(), Fail> {
+    let many = Some(SetupFault::Calls);
+    for (limit, calls, told) in [
+        (CallLimit::Usual, 1_048_576, None),
+        (CallLimit::Usual, 1_048_577, many),
+        (CallLimit::Usual, 1_099_511_627_776, many),
+        (CallLimit::Long, 0, None),
+        (CallLimit::Long, 1_048_577, None),
+        (CallLimit::Long, 1_099_511_627_776, None),
+        (CallLimit::Long, 1_099_511_627_777, many),
+        (CallLimit::Long, u64::MAX, many),
+    ] {
+        assert!(rt; fault_within(rt.alloc(), limit, calls)? == told);
+    }
+    Ok(())
+}
+
+// How many of so many loads of an unmapped page are answered by a machine that may begin this many calls.
+fn answered(alloc: Global, calls: u64, loads: u64) -> Result<u64, NoMemory> {
+    let map = RunList::new(alloc.clone()?)?;
+    let setup = Setup {
+        cores: 1,
+        frames: 0,
+        files: Vec::new(alloc.clone()?),
+        calls,
+    };
+    let made = Machine::<RunList<Global>, Global, Forgotten>::new_within(
+        CallLimit::Long,
+        alloc,
+        map,
+        setup,
+    );
+    let Ok(mut machine) = made else {
+        return Ok(0);
+    };
+    let mut count = 0u64;
+    for _load in 0..loads {
+        if let Finished::Last(Outcome::Answered(_)) = machine.call(
+            CoreId::new(0),
+            Request::Load { addr: 0 },
+        )? {
+            count = count.saturating_add(1);
+        }
+    }
+    Ok(count)
+}
+
+#[test]
+fn more_than_a_million_calls(rt: HostRuntime) -> Result<(), Fail> {
+    assert_eq!(rt; answered(rt.alloc(), 1_048_578, 1_048_580)?, 1_048_578);
     Ok(())
 }
 

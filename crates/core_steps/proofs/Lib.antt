@@ -3,6 +3,7 @@ pub mod Each
 pub mod Rows
 pub mod Lost
 pub mod Opened
+pub mod Setups
 pub mod Sounding
 pub mod Known
 pub mod Placing

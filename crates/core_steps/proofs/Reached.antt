@@ -1,9 +1,8 @@
 -- What a machine knows of the state that it has: some run leads to it
-use Rattle.std.proofs.Common.{◌≡◌, ℕ, zero, suc, ◌<◌, ◌≤◌, ◌+◌, ◌||◌, Bool, true, false, nat_lt, Option, None, Some, refl, sym, subst, arith, Result, Ok, Err}
+use Rattle.std.proofs.Common.{◌≡◌, ℕ, zero, suc, ◌<◌, ◌≤◌, ◌+◌, Bool, None, refl, sym, subst, arith, Result, Ok, Err}
 use Rattle.std.proofs.Math.Numerals.{add-one}
-use Rattle.std.specs.Prelude.{IfOk, OnErr, ◌≢◌, if◌then◌else◌}
+use Rattle.std.specs.Prelude.{IfOk, OnErr, ◌≢◌}
 use Rattle.std.proofs.Math.Logic.{∥∥₁_map}
-use Rattle.std.proofs.lemmas.Bool.Decides.{nat_tests}
 use Rattle.vm_base.specs.declared.memory.NoMemory.{NoMemory}
 use Rattle.slot_lock.specs.Slots.{Slots, IsNew}
 use Rattle.machine_model.specs.declared.event.Event.{Event}
@@ -21,9 +20,10 @@ use Rattle.core_steps.specs.declared.setup.Setup.{Setup}
 use Rattle.core_steps.specs.Finishing.{Finishes, IsRefused, finish_limit}
 use Rattle.core_steps.specs.Machine.{IsLegal}
 use Rattle.core_steps.specs.Moving.{MayWant, Tries}
-use Rattle.core_steps.specs.declared.setup.SetupFault.{SetupFault}
-use Rattle.core_steps.specs.declared.setup.SetupFault.TheVariants.{Cores}
-use Rattle.core_steps.specs.Setups.{fault_of, made_of}
+use Rattle.core_steps.specs.declared.setup.CallLimit.{CallLimit}
+use Rattle.core_steps.specs.declared.setup.CallLimit.TheVariants.{Usual}
+use Rattle.core_steps.specs.Setups.{fault_of, fault_within, made_of}
+use Rattle.core_steps.proofs.Setups.{few_cores_within}
 
 pub fine : (w : World) → ∥ IsReached w ∥₁ → ∥ Fine w ∥₁
 fine w t = ∥∥₁_map t (reached_fine w)
@@ -33,17 +33,12 @@ legal w t = record { reached = t; sound = ∥∥₁_map t (reached_sound w) }
 
 -- a setup without fault has at most 64 cores
 pub few_cores : {A : Type 0} (s : Setup A) → fault_of s ≡ None → s.cores ≤ 64
-few_cores s e =
-    let not_many : (nat_lt s.cores 1 || nat_lt 64 s.cores) ≡ false = first (nat_lt s.cores 1 || nat_lt 64 s.cores) _ e in
-    grind (arith, nat_tests, not_many)
-  where
-    first : (b : Bool) (rest : Option SetupFault) → (if b then Some Cores else rest) ≡ None → b ≡ false
-    first true rest h = absurd cc
-    first false rest h = refl
+few_cores s e = few_cores_within Usual s e
 
-pub new_reached : {A : Type 0} (w : World) (s : Setup A) (slots : Slots) → fault_of s ≡ None → IsNew slots → w ≡ new_world (made_of s) slots
-    → ∥ IsReached w ∥₁
-new_reached w s slots fine_setup n e = subst (λ u. ∥ IsReached u ∥₁) (sym e) ∣ reached_opening (made_of s) slots (few_cores s fine_setup) n ∣₁
+pub new_reached : {A : Type 0} (w : World) (limit : CallLimit) (s : Setup A) (slots : Slots) → fault_within limit s ≡ None → IsNew slots
+    → w ≡ new_world (made_of s) slots → ∥ IsReached w ∥₁
+new_reached w limit s slots fine_setup n e =
+    subst (λ u. ∥ IsReached u ∥₁) (sym e) ∣ reached_opening (made_of s) slots (few_cores_within limit s fine_setup) n ∣₁
 
 -- a step was made, or refused
 pub kept_by : (keeps : Bool) (r : Result Outcome NoMemory) (w v : World) (e : Event) → Tries (Step w e) (MayWant keeps w e) w r v → ∥ IsReached w ∥₁ → ∥ IsReached v ∥₁

@@ -1,7 +1,9 @@
 //! The table of the calls as it is made.
-ghost use Rattle.std.specs.Prelude.{◌≡◌, ◌≤◌, length, IfOk};
+ghost use Rattle.std.specs.Prelude.{◌≡◌, ◌≤◌, length, IfOk, true};
 ghost use Rattle.machine_model.specs.World.{no_calls};
+ghost use Rattle.core_steps.specs.Setups.{most_calls};
 ghost use Rattle.core_steps.specs.State.{calls_in};
+ghost use Rattle.core_steps.specs.declared.setup.CallLimit.TheVariants.{Long, Usual};
 
 use crate::calls::CallTable;
 use crate::ledger::Opening;
@@ -16,7 +18,8 @@ pub fn new_call_table<A: Allocator + Clone, L: Opening<A>>(
     limit: u64,
 ) -> Result<CallTable<A, L>, NoMemory>
     requires cores { cores ≤ 64 }
-    requires limit { limit ≤ 1048576 }
+    requires few { limit ≤ most_calls Long }
+    requires kept { L.keeps ≡ true → limit ≤ most_calls Usual }
     ensures calls { IfOk result (λ table. calls_in table ≡ no_calls) }
     ensures cores { IfOk result (λ table. length table.phases.items ≡ cores) }
     ensures limit { IfOk result (λ table. table.limit ≡ limit) }

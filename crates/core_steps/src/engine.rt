@@ -62,16 +62,18 @@ impl<M: SlotMap + Drop, H: Bare<A>, A: Allocator + Clone + Drop, L: Opening<A> +
     A,
     L,
 > {
-    ghost use Rattle.std.specs.Prelude.{◌≡◌, IfOk, None};
+    ghost use Rattle.std.specs.Prelude.{◌≡◌, ◌≤◌, IfOk, None, true};
     ghost use Rattle.slot_lock.specs.Slots.{IsNew};
     ghost use Rattle.machine_model.specs.World.{new_world};
-    ghost use Rattle.core_steps.specs.Setups.{fault_of, made_of};
+    ghost use Rattle.core_steps.specs.Setups.{fault_within, made_of, most_calls};
     ghost use Rattle.core_steps.specs.State.{world};
+    ghost use Rattle.core_steps.specs.declared.setup.CallLimit.TheVariants.{Long, Usual};
 
     /// An engine over a new slot map. The bytes of the files are moved, not copied.
     pub fn new(alloc: A, map: M, setup: Setup<A>) -> Result<Engine<M, H, A, L>, NoMemory>
         requires new { IsNew (M.slots map) }
-        requires sound { fault_of setup ≡ None }
+        requires sound { fault_within Long setup ≡ None }
+        requires kept { L.keeps ≡ true → setup.calls ≤ most_calls Usual }
         ensures { IfOk result (λ engine. world M.slots engine ≡ new_world (made_of setup) (M.slots map)) }
     {
         let Setup {

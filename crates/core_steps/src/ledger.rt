@@ -3,6 +3,8 @@ ghost use Rattle.std.specs.Prelude.{◌≡◌, ◌+◌, ◌<◌, ◌≤◌, ◌+
 ghost use Rattle.std.specs.Prelude.{false, true, IfOk, IfNone, IfSome, OnOk, OnErr};
 ghost use Rattle.vm_base.specs.declared.log.Entry.{Entry as EntryOf};
 ghost use Rattle.vm_base.specs.declared.requests.Request.{Request as RequestOf};
+ghost use Rattle.core_steps.specs.Setups.{most_calls};
+ghost use Rattle.core_steps.specs.declared.setup.CallLimit.TheVariants.{Long, Usual};
 
 use std::alloc::AllocError;
 use vm_base::{Entry, Request};
@@ -61,11 +63,13 @@ pub trait Ledger {
 
 /// A ledger that can be made.
 pub trait Opening<A>: Ledger {
-    /// An empty one, with room for so many requests and as many entries.
+    /// An empty one, with room for so many requests and as many entries: up to 2^40, or 1,048,576
+    /// where both are kept.
     fn open(alloc: A, limit: u64) -> Result<Self, AllocError>
     where
         Self: Sized,
-        requires { limit ≤ 1048576 }
+        requires few { limit ≤ most_calls Long }
+        requires kept { Self.keeps ≡ true → limit ≤ most_calls Usual }
         ensures requests { IfOk result (λ ledger. Self.requests ledger ≡ []) }
         ensures calls { IfOk result (λ ledger. Self.calls ledger ≡ limit) }
         ensures items { IfOk result (λ ledger. Self.entries ledger ≡ []) }

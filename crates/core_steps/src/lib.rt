@@ -42,4 +42,4 @@ pub use ledger::{Ledger, Opening};
 pub use machine::{Finished, Machine};
 pub use run_result::{Run, RunFault};
 pub use running::run;
-pub use setup::{Setup, SetupFault, first_fault};
+pub use setup::{CallLimit, Setup, SetupFault, first_fault, first_fault_within};

@@ -5,7 +5,7 @@ ghost use Rattle.core_steps.specs.State.{world};
 use crate::engine::Engine;
 use crate::kept::Kept;
 use crate::ledger::{Ledger, Opening};
-use crate::setup::{Setup, SetupFault};
+use crate::setup::{CallLimit, Setup, SetupFault};
 use crate::starting::Started;
 use machine_model::{Event, Outcome};
 use map_list::{MapLine, all_lines, next_line};
@@ -41,19 +41,37 @@ impl<M: SlotMap + Drop, A: Allocator + Clone + Drop, L: Opening<A> + Drop> Machi
     ghost use Rattle.std.specs.Prelude.{◌≡◌, IfOk, IfErr, OnErr, None};
     ghost use Rattle.slot_lock.specs.Slots.{IsNew};
     ghost use Rattle.machine_model.specs.World.{new_world};
-    ghost use Rattle.core_steps.specs.Setups.{fault_of, IsFirstFault, made_of};
+    ghost use Rattle.core_steps.specs.Setups.{fault_of, fault_within, made_of};
+    ghost use Rattle.core_steps.specs.Setups.{IsFirstFault, IsFirstWithin, Fits};
     ghost use Rattle.core_steps.specs.Machine.{state};
 
-    /// A machine over a new slot map. Its ledger has room for the reply of each call, so that logging
-    /// one takes no memory. The bytes of the files are moved, not copied. Of several faults the first
-    /// is told, in the order of `SetupFault`.
+    /// A machine over a new slot map, of a setup that may ask for 1,048,576 calls. Its ledger has room
+    /// for the reply of each call, so that logging one takes no memory. The bytes of the files are
+    /// moved, not copied. Of several faults the first is told, in the order of `SetupFault`.
     pub fn new(alloc: A, map: M, setup: Setup<A>) -> Result<Machine<M, A, L>, SetupFault>
         requires { IsNew (M.slots map) }
         ensures opening { IfOk result (λ machine. state machine ≡ new_world (made_of setup) (M.slots map)) }
         ensures sound { IfOk result (λ machine. fault_of setup ≡ None) }
         ensures first { IfErr result (λ fault. IsFirstFault setup fault) }
     {
-        if let Some(fault) = setup.fault() {
+        Machine::new_within(CallLimit::Usual, alloc, map, setup)
+    }
+
+    /// A machine as `new` makes it, of a setup that may ask for as many calls as this limit says. The
+    /// longer one, of 2^40, is only for a ledger that keeps nothing, such as `Forgotten`.
+    pub fn new_within(
+        limit: CallLimit,
+        alloc: A,
+        map: M,
+        setup: Setup<A>,
+    ) -> Result<Machine<M, A, L>, SetupFault>
+        requires new { IsNew (M.slots map) }
+        requires fits { Fits L.keeps limit }
+        ensures opening { IfOk result (λ machine. state machine ≡ new_world (made_of setup) (M.slots map)) }
+        ensures sound { IfOk result (λ machine. fault_within limit setup ≡ None) }
+        ensures first { IfErr result (λ fault. IsFirstWithin limit setup fault) }
+    {
+        if let Some(fault) = setup.fault_within(limit) {
             return Err(fault);
         }
         let Ok(engine) = Engine::new(alloc, map, setup) else {

@@ -1,6 +1,6 @@
 //! What a machine is made with.
 ghost use Rattle.std.specs.Prelude.{◌≡◌, Option};
-ghost use Rattle.core_steps.specs.Setups.{first_fault};
+ghost use Rattle.core_steps.specs.Setups.{first_fault, first_fault_within, most_calls};
 
 use backing::FileSpec;
 use std::alloc::Allocator;
@@ -8,6 +8,27 @@ use std::fmt;
 
 /// How many bytes a file may have at the most.
 const FILE_LIMIT: usize = 1_048_576;
+
+/// How many calls a setup may ask for at the most.
+#[derive(Clone, Copy, Debug, PartialEq, Eq)]
+pub enum CallLimit {
+    /// 1,048,576.
+    Usual,
+    /// 2^40, for a machine whose ledger keeps nothing.
+    Long,
+}
+
+impl CallLimit {
+    /// So many calls.
+    pub fn calls(self) -> u64
+        ensures { result ≡ most_calls self }
+    {
+        match self {
+            CallLimit::Usual => 1_048_576,
+            CallLimit::Long => 1 << 40,
+        }
+    }
+}
 
 /// What a machine is made with.
 #[derive(Drop)]
@@ -33,7 +54,7 @@ pub enum SetupFault {
     TooManyFiles,
     /// A file has more than 1,048,576 bytes.
     FileTooLong,
-    /// More than 1,048,576 calls are asked for.
+    /// More calls are asked for than the limit: 1,048,576, unless the longer one is asked for.
     Calls,
     /// There was no memory.
     NoMemory,
@@ -52,9 +73,9 @@ impl fmt::Display for SetupFault {
     }
 }
 
-/// The first fault of so many cores, frames, files and calls, if they have one;
-/// `has_long` tells whether one of the files has more bytes than a file may have. No
-/// memory is looked at, so that a setup can be tested before its files are there.
+/// The first fault of so many cores, frames, files and calls, at most 1,048,576 of these,
+/// if they have one; `has_long` tells whether one of the files has more bytes than a file may
+/// have. No memory is looked at, so that a setup can be tested before its files are there.
 pub fn first_fault(
     cores: u64,
     frames: u64,
@@ -64,6 +85,21 @@ pub fn first_fault(
 ) -> Option<SetupFault>
     ensures { result ≡ first_fault cores frames files has_long calls }
 {
+    first_fault_within(CallLimit::Usual, cores, frames, files, has_long, calls)
+}
+
+/// The first fault of so many cores, frames, files and calls, as `first_fault` tells it, where
+/// this limit is asked for.
+pub fn first_fault_within(
+    limit: CallLimit,
+    cores: u64,
+    frames: u64,
+    files: u64,
+    has_long: bool,
+    calls: u64,
+) -> Option<SetupFault>
+    ensures { result ≡ first_fault_within limit cores frames files has_long calls }
+{
     if cores < 1 || 64 < cores {
         Some(SetupFault::Cores)
     } else if frames > 65_536 {
@@ -72,7 +108,7 @@ pub fn first_fault(
         Some(SetupFault::TooManyFiles)
     } else if has_long {
         Some(SetupFault::FileTooLong)
-    } else if calls > 1_048_576 {
+    } else if calls > limit.calls() {
         Some(SetupFault::Calls)
     } else {
         None
@@ -81,7 +117,7 @@ pub fn first_fault(
 
 impl<A: Allocator> Setup<A> {
     ghost use Rattle.std.specs.Prelude.{◌≡◌};
-    ghost use Rattle.core_steps.specs.Setups.{fault_of, has_long};
+    ghost use Rattle.core_steps.specs.Setups.{fault_of, fault_within, has_long};
 
     // Tells whether one of the files has more bytes than a file may have.
     fn has_long(&self) -> bool
@@ -90,11 +126,25 @@ impl<A: Allocator> Setup<A> {
         self.files.iter().any(|file| file.bytes.len() > FILE_LIMIT)
     }
 
-    /// The first fault of the setup itself, if it has one.
+    /// The first fault of the setup itself, if it has one. It may ask for 1,048,576 calls.
     pub fn fault(&self) -> Option<SetupFault>
         ensures { result ≡ fault_of self.now }
     {
+        self.fault_within(CallLimit::Usual)
+    }
+
+    /// The first fault of the setup itself, if it has one, where this limit is asked for.
+    pub fn fault_within(&self, limit: CallLimit) -> Option<SetupFault>
+        ensures { result ≡ fault_within limit self.now }
+    {
         let files = self.files.len() as u64;
-        first_fault(self.cores, self.frames, files, self.has_long(), self.calls)
+        first_fault_within(
+            limit,
+            self.cores,
+            self.frames,
+            files,
+            self.has_long(),
+            self.calls,
+        )
     }
 }

@@ -6,6 +6,7 @@ use Rattle.trace_io.specs.Sink.{AppendsFront}
 use Rattle.trace_text.specs.Line.{line_of}
 use Rattle.trace_text.specs.declared.line.Line.{Line}
 use Rattle.trace_text.specs.declared.line.Line.TheVariants.{Blank, Space, File, Act, Fold, Finish, Now}
+use Rattle.core_steps.specs.declared.setup.CallLimit.{CallLimit}
 use Rattle.trace.specs.declared.fault.TraceFault.{TraceFault}
 use Rattle.trace.specs.declared.fault.TraceFault.TheVariants.{TooLong, ReadFailed, NoMemory, WriteFailed}
 use Rattle.trace.specs.Stage.{Stage, Start, LineFails, LineWants, CanOpen, OpenFails, Acts}
@@ -68,40 +69,40 @@ EchoTurns old new number (Err f) = Misses old new number f
 -- ---- the end
 
 -- all lines were acted on, a machine could be made, and all that they show was written
-pub record EchoesAll (input : List ℕ) (old new : Option (List ℕ)) : Type 0 where
+pub record EchoesAll (limit : CallLimit) (input : List ℕ) (old new : Option (List ℕ)) : Type 0 where
   pub stage : Stage
   pub shown : List ℕ
-  pub echoes : Echoes Start (lines_of input) stage shown
+  pub echoes : Echoes (Start limit) (lines_of input) stage shown
   pub opens : CanOpen stage
   pub appends : Appends old new shown
 
 -- the first lines, and what they show
-pub record EchoFront (input : List ℕ) : Type 0 where
+pub record EchoFront (limit : CallLimit) (input : List ℕ) : Type 0 where
   pub done : List (List ℕ)
   pub more : List (List ℕ)
   pub stage : Stage
   pub shown : List ℕ
   pub lines : lines_of input ≡ done ++ more
-  pub echoes : Echoes Start done stage shown
+  pub echoes : Echoes (Start limit) done stage shown
 
 -- After a fault just what the lines before it show has gone out; after a failed write a front of it.
-pub data EchoStops (input : List ℕ) (old new : Option (List ℕ)) (f : TraceFault) : Type 0 where
-  reading : f ≡ ReadFailed → (p : EchoFront input) → Appends old new p.shown → EchoStops input old new f
-  unmade : f ≡ NoMemory → Appends old new [] → EchoStops input old new f
-  wanting : f ≡ NoMemory → (p : EchoFront input) (line : List ℕ) (others : List (List ℕ))
+pub data EchoStops (limit : CallLimit) (input : List ℕ) (old new : Option (List ℕ)) (f : TraceFault) : Type 0 where
+  reading : f ≡ ReadFailed → (p : EchoFront limit input) → Appends old new p.shown → EchoStops limit input old new f
+  unmade : f ≡ NoMemory → Appends old new [] → EchoStops limit input old new f
+  wanting : f ≡ NoMemory → (p : EchoFront limit input) (line : List ℕ) (others : List (List ℕ))
       → p.more ≡ line ∷ others → LineWants false p.stage line → Appends old new p.shown
-      → EchoStops input old new f
-  overlong : (p : EchoFront input) (line : List ℕ) (others : List (List ℕ)) → p.more ≡ line ∷ others
+      → EchoStops limit input old new f
+  overlong : (p : EchoFront limit input) (line : List ℕ) (others : List (List ℕ)) → p.more ≡ line ∷ others
       → 256 < length line → f ≡ TooLong (length p.done + 1) → Appends old new p.shown
-      → EchoStops input old new f
-  refusing : (p : EchoFront input) (line : List ℕ) (others : List (List ℕ)) → p.more ≡ line ∷ others
+      → EchoStops limit input old new f
+  refusing : (p : EchoFront limit input) (line : List ℕ) (others : List (List ℕ)) → p.more ≡ line ∷ others
       → LineFails p.stage (length p.done + 1) line f → Appends old new p.shown
-      → EchoStops input old new f
-  unopened : (p : EchoFront input) → p.more ≡ [] → OpenFails p.stage f → Appends old new p.shown
-      → EchoStops input old new f
-  writing : f ≡ WriteFailed → (p : EchoFront input) → AppendsFront old new p.shown
-      → EchoStops input old new f
+      → EchoStops limit input old new f
+  unopened : (p : EchoFront limit input) → p.more ≡ [] → OpenFails p.stage f → Appends old new p.shown
+      → EchoStops limit input old new f
+  writing : f ≡ WriteFailed → (p : EchoFront limit input) → AppendsFront old new p.shown
+      → EchoStops limit input old new f
 
-abbrev pub EchoEnds : {T : Type 0} → List ℕ → Option (List ℕ) → Option (List ℕ) → Result T TraceFault → Type 0
-EchoEnds input old new (Ok x) = EchoesAll input old new
-EchoEnds input old new (Err f) = EchoStops input old new f
+abbrev pub EchoEnds : {T : Type 0} → CallLimit → List ℕ → Option (List ℕ) → Option (List ℕ) → Result T TraceFault → Type 0
+EchoEnds limit input old new (Ok x) = EchoesAll limit input old new
+EchoEnds limit input old new (Err f) = EchoStops limit input old new f

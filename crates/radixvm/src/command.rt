@@ -2,6 +2,7 @@
 ghost use Rattle.std.specs.Prelude.{◌≡◌, ◌≤◌, Bool, IfOk, Result};
 ghost use Rattle.std.specs.Io.KnownBytes.{Appends};
 ghost use Rattle.notes_text.specs.CertifyEnds.{Certifies};
+ghost use Rattle.core_steps.specs.declared.setup.CallLimit.{CallLimit};
 ghost use Rattle.live_script.specs.Texts.{EndsText, IsNotesText, IsVerdictText, TellsText};
 ghost use Rattle.live_script.specs.declared.texts.TextFault.{TextFault};
 ghost use Rattle.radixvm.specs.Echo.{EchoEnds};
@@ -10,6 +11,7 @@ ghost use Rattle.radixvm.specs.Status.{certified_live_status, certified_status, 
 ghost use Rattle.radixvm.specs.declared.help.Topic.{Topic};
 ghost use Rattle.radixvm.specs.declared.job.Shows.{Shows};
 ghost use Rattle.trace.specs.Ends.{Ends, TellsFaults};
+ghost use Rattle.trace.specs.Shown.{limit_for};
 ghost use Rattle.trace.specs.declared.fault.TraceFault.{TraceFault};
 ghost use Rattle.trace_io.specs.Source.{Reads};
 
@@ -21,6 +23,7 @@ use crate::job::{Shows, run, run_echoing, status_of_fault};
 use crate::live::{certify_live, live};
 use clap::error::ErrorKind;
 use clap::{Arg, ArgAction, ArgMatches, Command, Error};
+use core_steps::CallLimit;
 use live_script::Runner;
 use radix_range::RadixMap;
 use slot_lock::SlotMap;
@@ -41,7 +44,7 @@ enum Work {
     // A replay, which shows this.
     Replay(Shows),
     // A replay that shows each line beside its outcome.
-    Echo { explains: bool },
+    Echo { limit: CallLimit, explains: bool },
     // The certificate of notes.
     Certify,
     // A run of a script on threads, whose notes are written.
@@ -84,17 +87,22 @@ fn reading<'a>(
         .arg(Arg::new(alloc, "FILE"))
 }
 
-const RUN_USAGE: &str = "radixvm run [--log | --echo] [--explain] [FILE]";
+const RUN_USAGE: &str = "radixvm run [--log | --echo] [--long] [--explain] [FILE]";
+
+const MAPS_USAGE: &str = "radixvm maps [--long] [--explain] [FILE]";
 
 // The program's words.
 fn grammar<'a>(alloc: Global) -> Result<Command<'a>, AllocError> {
     let echo = flag(alloc, "echo").conflicts_with("log")?;
+    let long = flag(alloc, "long").conflicts_with("log")?;
     let run = reading(alloc, "run", RUN_USAGE)?
         .arg(flag(alloc, "log"))?
         .arg(echo)?
+        .arg(long)?
         .arg(flag(alloc, "explain"))?;
-    let explain = flag(alloc, "explain");
-    let maps = reading(alloc, "maps", "radixvm maps [--explain] [FILE]")?.arg(explain)?;
+    let maps = reading(alloc, "maps", MAPS_USAGE)?
+        .arg(flag(alloc, "long"))?
+        .arg(flag(alloc, "explain"))?;
     let certify = reading(alloc, "certify", "radixvm certify [FILE]")?;
     let certifies = flag(alloc, "certify");
     let live = reading(alloc, "live", "radixvm live [--certify] [FILE]")?.arg(certifies)?;
@@ -132,6 +140,15 @@ fn topic_named(name: Option<&str>) -> Topic {
     }
 }
 
+// How many calls these words let a trace ask for.
+fn limit_of<'a>(words: &ArgMatches<'a>) -> CallLimit {
+    if words.get_flag("long") {
+        CallLimit::Long
+    } else {
+        CallLimit::Usual
+    }
+}
+
 // What these words of a word that reads a trace ask for.
 fn replaying<'a>(show: Show, words: &ArgMatches<'a>) -> Task<'a>
     ensures { (shows : Shows) × (result.work ≡ Work.Replay shows) × (shows.show ≡ show) }
@@ -139,19 +156,24 @@ fn replaying<'a>(show: Show, words: &ArgMatches<'a>) -> Task<'a>
     let explains = words.get_flag("explain");
     let file = words.get_str("FILE");
     Task {
-        work: Work::Replay(Shows { show, explains }),
+        work: Work::Replay(Shows {
+            show,
+            limit: limit_of(words),
+            explains,
+        }),
         file,
     }
 }
 
 // A replay that shows lines beside their outcomes.
 fn echoing<'a>(words: &ArgMatches<'a>) -> Task<'a>
-    ensures { (explains : Bool) × (result.work ≡ Work.Echo explains) }
+    ensures { (limit : CallLimit) × (explains : Bool) × (result.work ≡ Work.Echo limit explains) }
 {
+    let limit = limit_of(words);
     let explains = words.get_flag("explain");
     let file = words.get_str("FILE");
     Task {
-        work: Work::Echo { explains },
+        work: Work::Echo { limit, explains },
         file,
     }
 }
@@ -295,13 +317,14 @@ fn act<T: Threads + Wait + Sync, R: Runner<Global>, S: Source, W: Sink, E: Write
     ensures ran { IfOk parsed.entry (λ task. (shows : Shows) → task.work ≡ Work.Replay shows
         → (r : Result Unit TraceFault) × (result ≡ status_of r)
         × Reads (S.stream reader.old) (S.stream reader.new)
-        (λ input unread. Ends shows.show input unread (W.contents out.old) (W.contents out.new) r)
+        (λ input unread. Ends (limit_for shows.show shows.limit) shows.show input unread (W.contents out.old) (W.contents out.new) r)
         × TellsFaults r (S.failed reader.new) (S.reads reader.new)
         (W.failed out.old) (W.failed out.new) (W.is_flushed out.new)) }
-    ensures echoed { IfOk parsed.entry (λ task. (explains : Bool) → task.work ≡ Work.Echo explains
+    ensures echoed { IfOk parsed.entry (λ task. (limit : CallLimit) (explains : Bool)
+        → task.work ≡ Work.Echo limit explains
         → (r : Result Unit TraceFault) × (result ≡ status_of r)
         × Reads (S.stream reader.old) (S.stream reader.new)
-        (λ input unread. EchoEnds input (W.contents out.old) (W.contents out.new) r)
+        (λ input unread. EchoEnds limit input (W.contents out.old) (W.contents out.new) r)
         × TellsFaults r (S.failed reader.new) (S.reads reader.new)
         (W.failed out.old) (W.failed out.new) (W.is_flushed out.new)) }
     ensures certified { IfOk parsed.entry (λ task. task.work ≡ Work.Certify
@@ -330,7 +353,9 @@ fn act<T: Threads + Wait + Sync, R: Runner<Global>, S: Source, W: Sink, E: Write
     match parsed {
         Ok(task) => match task.work {
             Work::Replay(shows) => run(alloc, reader, out, errors, shows),
-            Work::Echo { explains } => run_echoing(alloc, reader, out, errors, explains),
+            Work::Echo { limit, explains } => run_echoing(
+                alloc, reader, out, errors, limit, explains,
+            ),
             Work::Certify => certify(alloc, reader, out, errors),
             Work::Live => live(rt, runner, alloc, reader, out, errors),
             Work::CertifyLive => certify_live(rt, runner, alloc, reader, out, errors),

@@ -4,6 +4,7 @@ ghost use Rattle.std.specs.Io.KnownBytes.{Appends};
 ghost use Rattle.trace_io.specs.Sink.{AppendsFront};
 ghost use Rattle.trace_io.specs.Source.{HasStopped, Reads};
 ghost use Rattle.trace_io.specs.Window.{left, budget, opening};
+ghost use Rattle.core_steps.specs.declared.setup.CallLimit.{CallLimit};
 ghost use Rattle.trace.specs.declared.fault.TraceFault.TheVariants as Of;
 ghost use Rattle.trace.specs.Ends.{TellsFaults};
 ghost use Rattle.trace.specs.Stage.{Start};
@@ -11,7 +12,7 @@ ghost use Rattle.trace.specs.Turns.{Scene};
 ghost use Rattle.radixvm.specs.Echo.{EchoEnds, EchoTurns, echo};
 
 use arrayvec::ArrayVec;
-use core_steps::Forgotten;
+use core_steps::{CallLimit, Forgotten};
 use std::alloc::Allocator;
 use trace::fault::TraceFault;
 use trace::replay::Replayed;
@@ -120,10 +121,10 @@ fn echo_lines<A: Allocator, S: Source, W: Sink, R: Staged>(
     text: &mut LineText,
 ) -> Result<(), TraceFault>
     requires fresh { lines.old ≡ opening }
-    requires start { R.stage replayer.old ≡ Start }
     requires keeps { R.keeps ≡ false }
-    ensures ends { Reads (S.stream reader.old) (S.stream reader.new) (λ input unread.
-        EchoEnds input (W.contents writer.old) (W.contents writer.new) result) }
+    ensures ends { (limit : CallLimit) → R.stage replayer.old ≡ Start limit
+        → Reads (S.stream reader.old) (S.stream reader.new) (λ input unread.
+        EchoEnds limit input (W.contents writer.old) (W.contents writer.new) result) }
     ensures read { result ≡ Err Of.ReadFailed → HasStopped (S.failed reader.new) (S.reads reader.new) }
     ensures write { result ≡ Err Of.WriteFailed → W.failed writer.new ≡ true }
     ensures kept { (result ≡ Err Of.WriteFailed) ⊎ (W.failed writer.new ≡ W.failed writer.old) }
@@ -143,9 +144,10 @@ fn echo_read<A: Allocator + Clone + Drop, S: Source, W: Sink>(
     alloc: A,
     reader: &mut S,
     writer: &mut W,
+    limit: CallLimit,
 ) -> Replayed<A>
     ensures ends { Reads (S.stream reader.old) (S.stream reader.new) (λ input unread.
-        EchoEnds input (W.contents writer.old) (W.contents writer.new) result.ended) }
+        EchoEnds limit input (W.contents writer.old) (W.contents writer.new) result.ended) }
     ensures read { result.ended ≡ Err Of.ReadFailed → HasStopped (S.failed reader.new) (S.reads reader.new) }
     ensures write { result.ended ≡ Err Of.WriteFailed → W.failed writer.new ≡ true }
     ensures kept { (result.ended ≡ Err Of.WriteFailed) ⊎ (W.failed writer.new ≡ W.failed writer.old) }
@@ -162,7 +164,7 @@ fn echo_read<A: Allocator + Clone + Drop, S: Source, W: Sink>(
             lines: None,
         };
     };
-    let mut replayer = Replayer::<A, Forgotten>::new(alloc);
+    let mut replayer = Replayer::<A, Forgotten>::within(limit, alloc);
     let mut text = LineText::new();
     let ended = echo_lines(&mut lines, reader, writer, &mut replayer, &mut text);
     Replayed {
@@ -171,20 +173,21 @@ fn echo_read<A: Allocator + Clone + Drop, S: Source, W: Sink>(
     }
 }
 
-/// Replays the trace as `trace::replay` does, and writes each line of an event with its outcome
+/// Replays a trace that may ask for as many calls as this limit says, as `trace::replay` does, and writes each line of an event with its outcome
 /// behind ` = `, and each `vm` or `file` line as it is. Hands out the lines that were read, of
 /// which the last tells more of a fault.
 pub fn replay_echoing<A: Allocator + Clone + Drop, S: Source, W: Sink>(
     alloc: A,
     reader: &mut S,
     writer: &mut W,
+    limit: CallLimit,
 ) -> Replayed<A>
     ensures ends { Reads (S.stream reader.old) (S.stream reader.new) (λ input unread.
-        EchoEnds input (W.contents writer.old) (W.contents writer.new) result.ended) }
+        EchoEnds limit input (W.contents writer.old) (W.contents writer.new) result.ended) }
     ensures told { TellsFaults result.ended (S.failed reader.new) (S.reads reader.new)
         (W.failed writer.old) (W.failed writer.new) (W.is_flushed writer.new) }
 {
-    let replayed = echo_read(alloc, reader, writer);
+    let replayed = echo_read(alloc, reader, writer, limit);
     match writer.flush() {
         Ok(()) => replayed,
         Err(_) => Replayed {

@@ -6,7 +6,7 @@ ghost use Rattle.std.specs.Io.KnownBytes.{Keeps};
 ghost use Rattle.trace.specs.declared.fault.TraceFault.TheVariants as Of;
 
 use arrayvec::ArrayVec;
-use core_steps::SetupFault;
+use core_steps::{CallLimit, SetupFault};
 use std::io::Write;
 use trace::fault::TraceFault;
 use trace_text::words::next_word;
@@ -306,20 +306,23 @@ fn explain_first<E: Write>(line: &[u8], errors: &mut E) {
 }
 
 // What the vm line and the lines of files may ask for.
-fn setup_rule(fault: SetupFault) -> &'static str {
+fn setup_rule(fault: SetupFault, limit: CallLimit) -> &'static str {
     match fault {
         SetupFault::Cores => "CORES of the vm line from 1 to 64",
         SetupFault::Frames => "FRAMES of the vm line up to 65536",
         SetupFault::TooManyFiles => "at most 16 files",
         SetupFault::FileTooLong => "LEN of a file up to 1048576",
-        SetupFault::Calls => "CALLS of the vm line up to 1048576",
+        SetupFault::Calls => match limit {
+            CallLimit::Usual => "CALLS of the vm line up to 1048576",
+            CallLimit::Long => "CALLS of the vm line up to 1099511627776",
+        },
         SetupFault::NoMemory => "memory for the cores, frames and calls of the vm line",
     }
 }
 
 /// Writes what is known of a fault beside its text: the line that was read last, a caret below the
-/// place where it goes wrong, and what was expected. Nothing for a read, a write or memory that failed.
-pub fn explain<E: Write>(fault: TraceFault, line: &[u8], errors: &mut E)
+/// place where it goes wrong, and what was expected, within this limit of calls. Nothing for a read, a write or memory that failed.
+pub fn explain<E: Write>(fault: TraceFault, limit: CallLimit, line: &[u8], errors: &mut E)
     ensures quiet { (fault ≡ Of.ReadFailed) ⊎ (fault ≡ Of.NoMemory) ⊎ (fault ≡ Of.WriteFailed)
         → Keeps (E.contents errors.old) (E.contents errors.new) }
 {
@@ -327,7 +330,7 @@ pub fn explain<E: Write>(fault: TraceFault, line: &[u8], errors: &mut E)
         TraceFault::BadLine(_) => explain_bad(line, errors),
         TraceFault::NoVmLine => explain_first(line, errors),
         TraceFault::TooLong(_) => expect("at most 256 bytes in a line", errors),
-        TraceFault::Setup(fault) => expect(setup_rule(fault), errors),
+        TraceFault::Setup(fault) => expect(setup_rule(fault, limit), errors),
         TraceFault::ReadFailed | TraceFault::NoMemory | TraceFault::WriteFailed => {}
     }
 }

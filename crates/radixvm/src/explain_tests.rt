@@ -1,5 +1,6 @@
 //! First mistakes of newcomers, and what is told of each.
 use crate::explain::explain;
+use core_steps::CallLimit;
 use std::alloc::Global;
 use trace::fault::TraceFault;
 
@@ -111,7 +112,7 @@ const MISTAKES: &str = "  c0! mmap 0x10000 4096 rw pfa
 // Whether this is told of the line, where it is bad.
 fn is_told(alloc: Global, line: &[u8], told: &[u8]) -> bool {
     let mut errors = Vec::new(alloc);
-    explain(TraceFault::BadLine(7), line, &mut errors);
+    explain(TraceFault::BadLine(7), CallLimit::Usual, line, &mut errors);
     errors.as_slice() == told
 }
 

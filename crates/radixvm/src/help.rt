@@ -7,8 +7,8 @@ ghost use Rattle.radixvm.specs.Help.{page_of};
 pub const VERSION: &str = "0.1.0";
 
 /// How the words go together.
-pub const USAGE: &str = "radixvm run [--log | --echo] [--explain] [FILE]
-       radixvm maps [--explain] [FILE]
+pub const USAGE: &str = "radixvm run [--log | --echo] [--long] [--explain] [FILE]
+       radixvm maps [--long] [--explain] [FILE]
        radixvm certify [FILE]
        radixvm live [--certify] [FILE]
        radixvm help [TOPIC]";
@@ -18,8 +18,8 @@ pub const OVERVIEW: &str = "\
 One virtual address space with mmap, munmap and mprotect, shared by 1 to 64
 modelled cores, and replayed from a text, a trace, step by step.
 
-Usage: radixvm run [--log | --echo] [--explain] [FILE]
-       radixvm maps [--explain] [FILE]
+Usage: radixvm run [--log | --echo] [--long] [--explain] [FILE]
+       radixvm maps [--long] [--explain] [FILE]
        radixvm certify [FILE]
        radixvm live [--certify] [FILE]
        radixvm help [TOPIC]
@@ -36,6 +36,7 @@ Words:
   live           runs a script, each core on a thread, and writes their notes
   live --certify says in their place whether they are a run of the machine
   FILE           the file that is read; without it, or for -, standard input
+  --long         lets the trace ask for more calls, but not beside --log
   --explain      shows under a fault the line, the word, and what was expected
   help           writes this text
   help TOPIC     explains one of these:
@@ -65,7 +66,7 @@ behind a pipe when it is closed, at a terminal by Ctrl-D.
 
   vm CORES FRAMES [CALLS]  first, once: 1 to 64 cores, 0 to 65536 frames of 4096
                            bytes, and how many calls may begin: 4096 where it
-                           is left out, at most 1048576
+                           is left out, at most 1048576, or with --long 2^40
   file N MODE LEN SEED     a file of the trace's own: N is 0, 1, 2 and so on up
                            to 15, MODE is r, w or rw, and of the LEN bytes (at
                            most 1048576) byte I is (SEED + I) modulo 256
@@ -241,7 +242,7 @@ before it gave has gone out. Lines count from 1, with those that say nothing.
   setup S2           FRAMES is above 65536
   setup S3           there are more than 16 files
   setup S4           a file has more than 1048576 bytes
-  setup S5           CALLS is above 1048576
+  setup S5           CALLS is above 1048576, or with --long above 2^40
   setup S6           no memory for a space of that size
   read failed        standard input or FILE can't be read, or FILE not opened
   write failed       standard output can't be written

@@ -3,12 +3,13 @@ ghost use Rattle.std.specs.Prelude.{◌≡◌, ◌≤◌, Result};
 ghost use Rattle.radixvm.specs.Echo.{EchoEnds};
 ghost use Rattle.radixvm.specs.Status.{fault_status, status_of};
 ghost use Rattle.trace.specs.Ends.{Ends, TellsFaults};
+ghost use Rattle.trace.specs.Shown.{limit_for};
 ghost use Rattle.trace.specs.declared.fault.TraceFault.{TraceFault};
 ghost use Rattle.trace_io.specs.Source.{Reads};
 
 use crate::echo::replay_echoing;
 use crate::explain::explain;
-use core_steps::SetupFault;
+use core_steps::{CallLimit, SetupFault};
 use std::alloc::Allocator;
 use std::io::Write;
 use trace::fault::TraceFault;
@@ -31,17 +32,24 @@ pub fn status_of_fault(fault: TraceFault) -> u8
     }
 }
 
-/// What a run shows of its trace.
+/// What a run shows of its trace, and how many calls it lets the trace ask for.
 #[derive(Clone, Copy, Debug, PartialEq, Eq)]
 pub struct Shows {
     /// What goes to standard output.
     pub show: Show,
+    /// How many calls the trace may ask for, where its log isn't shown.
+    pub limit: CallLimit,
     /// Whether more is told of a fault than its text.
     pub explains: bool,
 }
 
 // Prints the replay's fault, and what is known of it where that is asked for, and answers the status.
-fn tell_end<A: Allocator, E: Write>(replayed: &Replayed<A>, explains: bool, errors: &mut E) -> u8
+fn tell_end<A: Allocator, E: Write>(
+    replayed: &Replayed<A>,
+    limit: CallLimit,
+    explains: bool,
+    errors: &mut E,
+) -> u8
     ensures value { result ≡ status_of replayed.now.ended }
     ensures within { result ≤ 3 }
 {
@@ -50,7 +58,7 @@ fn tell_end<A: Allocator, E: Write>(replayed: &Replayed<A>, explains: bool, erro
     };
     let _ = writeln!(errors, "radixvm: {fault}");
     if explains && let Some(lines) = &replayed.lines {
-        explain(fault, lines.line(), errors);
+        explain(fault, limit, lines.line(), errors);
     }
     status_of_fault(fault)
 }
@@ -67,13 +75,13 @@ pub fn run<A: Allocator + Clone + Drop, S: Source, W: Sink, E: Write>(
 ) -> u8
     ensures ends { (r : Result Unit TraceFault) × (result ≡ status_of r)
         × Reads (S.stream reader.old) (S.stream reader.new)
-        (λ input unread. Ends shows.show input unread (W.contents out.old) (W.contents out.new) r)
+        (λ input unread. Ends (limit_for shows.show shows.limit) shows.show input unread (W.contents out.old) (W.contents out.new) r)
         × TellsFaults r (S.failed reader.new) (S.reads reader.new)
         (W.failed out.old) (W.failed out.new) (W.is_flushed out.new) }
     ensures within { result ≤ 3 }
 {
-    let replayed = replay_telling(alloc, reader, out, shows.show);
-    tell_end(&replayed, shows.explains, errors)
+    let replayed = replay_telling(alloc, reader, out, shows.show, shows.limit);
+    tell_end(&replayed, shows.limit, shows.explains, errors)
 }
 
 /// As `run`, of outcomes, and shows each line of an event beside its outcome, with the `vm` and
@@ -83,15 +91,16 @@ pub fn run_echoing<A: Allocator + Clone + Drop, S: Source, W: Sink, E: Write>(
     reader: &mut S,
     out: &mut W,
     errors: &mut E,
+    limit: CallLimit,
     explains: bool,
 ) -> u8
     ensures ends { (r : Result Unit TraceFault) × (result ≡ status_of r)
         × Reads (S.stream reader.old) (S.stream reader.new)
-        (λ input unread. EchoEnds input (W.contents out.old) (W.contents out.new) r)
+        (λ input unread. EchoEnds limit input (W.contents out.old) (W.contents out.new) r)
         × TellsFaults r (S.failed reader.new) (S.reads reader.new)
         (W.failed out.old) (W.failed out.new) (W.is_flushed out.new) }
     ensures within { result ≤ 3 }
 {
-    let replayed = replay_echoing(alloc, reader, out);
-    tell_end(&replayed, explains, errors)
+    let replayed = replay_echoing(alloc, reader, out, limit);
+    tell_end(&replayed, limit, explains, errors)
 }

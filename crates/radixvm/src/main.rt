@@ -18,6 +18,8 @@ mod live;
 #[cfg(test)]
 mod live_tests;
 #[cfg(test)]
+mod long_tests;
+#[cfg(test)]
 mod tests;
 
 use command::{WordsFault, program, refuse_words};

@@ -5,6 +5,7 @@ use crate::command::program;
 use crate::input::Files;
 use crate::job::Shows;
 use crate::{help, job};
+use core_steps::CallLimit;
 use linked_list_allocator::LocalHeap;
 use live_script::{Ran as RanScript, RunFault, Runner};
 use notes_text::Script;
@@ -574,6 +575,7 @@ fn ends_in(alloc: Global, heap: &LocalHeap, fault: &[u8]) -> bool {
     let mut errors = Vec::new(alloc);
     let shows = Shows {
         show: Show::Outcomes,
+        limit: CallLimit::Usual,
         explains: false,
     };
     let status = job::run(heap, &mut reader, &mut out, &mut errors, shows);

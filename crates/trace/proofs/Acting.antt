@@ -8,6 +8,7 @@ use Rattle.trace_text.specs.Words.{Word, words_of}
 use Rattle.trace_text.specs.Line.{are_printable, begins_with_file, begins_with_vm, line_of}
 use Rattle.trace_text.specs.declared.line.Line.{Line}
 use Rattle.trace_text.specs.declared.line.Line.TheVariants.{Blank, Space, File, Act, Fold, Finish, Now}
+use Rattle.core_steps.specs.declared.setup.CallLimit.{CallLimit}
 use Rattle.trace.specs.declared.fault.TraceFault.{TraceFault}
 use Rattle.trace.specs.declared.fault.TraceFault.TheVariants.{BadLine, NoMemory, NoVmLine}
 use Rattle.trace.specs.Declarations.{Asked, asks_for}
@@ -17,32 +18,32 @@ use Rattle.trace.specs.Stage.{BytesFail, EventFails, EventWants, LineActs, LineF
 
 -- ---- at which a machine is to be made
 
-pub late_ok : (d : Option Asked) (w : World) (n : ℕ) → Opens (stage_of d None) w → IfSome d (λ a. LateFails a n (BadLine n))
-late_ok None w n o = tt
-late_ok (Some a) w n o = inr (o.0, refl)
+pub late_ok : (limit : CallLimit) (d : Option Asked) (w : World) (n : ℕ) → Opens (stage_of limit d None) w → IfSome d (λ a. LateFails limit a n (BadLine n))
+late_ok limit None w n o = tt
+late_ok limit (Some a) w n o = inr (o.0, refl)
 
-pub late_err : (d : Option Asked) (n : ℕ) (f : TraceFault) → OpenFails (stage_of d None) f → IfSome d (λ a. LateFails a n f)
-late_err None n f h = tt
-late_err (Some a) n f h = inl h
+pub late_err : (limit : CallLimit) (d : Option Asked) (n : ℕ) (f : TraceFault) → OpenFails (stage_of limit d None) f → IfSome d (λ a. LateFails limit a n f)
+late_err limit None n f h = tt
+late_err limit (Some a) n f h = inl h
 
 -- ---- the vm line
 
-pub space_running : {X : Type 0} (g : X → World) (d : Option Asked) (m : Option X) (n : ℕ) → is_some m ≡ true
-    → SpaceFails (stage_of d (option_map g m)) n (BadLine n)
-space_running g d None n e = absurd cc
-space_running g d (Some x) n e = refl
+pub space_running : {X : Type 0} (g : X → World) (limit : CallLimit) (d : Option Asked) (m : Option X) (n : ℕ) → is_some m ≡ true
+    → SpaceFails (stage_of limit d (option_map g m)) n (BadLine n)
+space_running g limit d None n e = absurd cc
+space_running g limit d (Some x) n e = refl
 
-pub space_late : {X : Type 0} (g : X → World) (d : Option Asked) (m : Option X) (n : ℕ) (f : TraceFault) → is_some m ≡ false → is_some d ≡ true
-    → IfSome d (λ a. LateFails a n f) → SpaceFails (stage_of d (option_map g m)) n f
-space_late g d (Some x) n f e i h = absurd cc
-space_late g None None n f e i h = absurd cc
-space_late g (Some a) None n f e i h = h
+pub space_late : {X : Type 0} (g : X → World) (limit : CallLimit) (d : Option Asked) (m : Option X) (n : ℕ) (f : TraceFault) → is_some m ≡ false → is_some d ≡ true
+    → IfSome d (λ a. LateFails limit a n f) → SpaceFails (stage_of limit d (option_map g m)) n f
+space_late g limit d (Some x) n f e i h = absurd cc
+space_late g limit None None n f e i h = absurd cc
+space_late g limit (Some a) None n f e i h = h
 
-pub space_taken : {X : Type 0} (g : X → World) (d : Option Asked) (m : Option X) (cores frames calls : ℕ) → is_some m ≡ false → is_some d ≡ false
-    → LineActs (stage_of d (option_map g m)) (Space cores frames calls) (stage_of (Some (asks_for cores frames calls)) (option_map g m)) []
-space_taken g d (Some x) cores frames calls e i = absurd cc
-space_taken g (Some a) None cores frames calls e i = absurd cc
-space_taken g None None cores frames calls e i = (refl, refl, refl)
+pub space_taken : {X : Type 0} (g : X → World) (limit : CallLimit) (d : Option Asked) (m : Option X) (cores frames calls : ℕ) → is_some m ≡ false → is_some d ≡ false
+    → LineActs (stage_of limit d (option_map g m)) (Space cores frames calls) (stage_of limit (Some (asks_for cores frames calls)) (option_map g m)) []
+space_taken g limit d (Some x) cores frames calls e i = absurd cc
+space_taken g limit (Some a) None cores frames calls e i = absurd cc
+space_taken g limit None None cores frames calls e i = (limit, refl, refl, refl)
 
 -- ---- a bad line
 
@@ -53,49 +54,49 @@ no_both (name ∷ args) h =
     let same : name ≡ codes "file" = (bytes_eq-Decides name (codes "file")).0 h in
     ap (λ w. bytes_eq w (codes "vm")) same
 
-pub bad_running : {X : Type 0} (g : X → World) (d : Option Asked) (m : Option X) (n : ℕ) (k : Kind) → is_some m ≡ true
-    → BadFails (stage_of d (option_map g m)) n k (BadLine n)
-bad_running g d None n k e = absurd cc
-bad_running g d (Some x) n k e = refl
+pub bad_running : {X : Type 0} (g : X → World) (limit : CallLimit) (d : Option Asked) (m : Option X) (n : ℕ) (k : Kind) → is_some m ≡ true
+    → BadFails (stage_of limit d (option_map g m)) n k (BadLine n)
+bad_running g limit d None n k e = absurd cc
+bad_running g limit d (Some x) n k e = refl
 
-pub bad_space : {X : Type 0} (g : X → World) (d : Option Asked) (m : Option X) (n : ℕ) (words : List Word) → is_some m ≡ false → is_none d ≡ true
-    → begins_with_vm words ≡ true → BadFails (stage_of d (option_map g m)) n (kind_of words) (BadLine n)
-bad_space g d (Some x) n words e i h = absurd cc
-bad_space g (Some a) None n words e i h = absurd cc
-bad_space g None None n words e i h =
-    subst (λ b. BadFails (stage_of None None) n (if b then OfSpace else if begins_with_file words then OfFile else OfEvents) (BadLine n)) (sym h) refl
+pub bad_space : {X : Type 0} (g : X → World) (limit : CallLimit) (d : Option Asked) (m : Option X) (n : ℕ) (words : List Word) → is_some m ≡ false → is_none d ≡ true
+    → begins_with_vm words ≡ true → BadFails (stage_of limit d (option_map g m)) n (kind_of words) (BadLine n)
+bad_space g limit d (Some x) n words e i h = absurd cc
+bad_space g limit (Some a) None n words e i h = absurd cc
+bad_space g limit None None n words e i h =
+    subst (λ b. BadFails (stage_of limit None None) n (if b then OfSpace else if begins_with_file words then OfFile else OfEvents) (BadLine n)) (sym h) refl
 
-pub bad_other : {X : Type 0} (g : X → World) (d : Option Asked) (m : Option X) (n : ℕ) (words : List Word) → is_some m ≡ false → is_none d ≡ true
-    → begins_with_vm words ≡ false → BadFails (stage_of d (option_map g m)) n (kind_of words) NoVmLine
-bad_other g d (Some x) n words e i h = absurd cc
-bad_other g (Some a) None n words e i h = absurd cc
-bad_other g None None n words e i h =
-    subst (λ b. BadFails (stage_of None None) n (if b then OfSpace else if begins_with_file words then OfFile else OfEvents) NoVmLine) (sym h)
+pub bad_other : {X : Type 0} (g : X → World) (limit : CallLimit) (d : Option Asked) (m : Option X) (n : ℕ) (words : List Word) → is_some m ≡ false → is_none d ≡ true
+    → begins_with_vm words ≡ false → BadFails (stage_of limit d (option_map g m)) n (kind_of words) NoVmLine
+bad_other g limit d (Some x) n words e i h = absurd cc
+bad_other g limit (Some a) None n words e i h = absurd cc
+bad_other g limit None None n words e i h =
+    subst (λ b. BadFails (stage_of limit None None) n (if b then OfSpace else if begins_with_file words then OfFile else OfEvents) NoVmLine) (sym h)
     (go (begins_with_file words))
   where
-    go : (b : Bool) → BadFails (stage_of None None) n (if b then OfFile else OfEvents) NoVmLine
+    go : (b : Bool) → BadFails (stage_of limit None None) n (if b then OfFile else OfEvents) NoVmLine
     go true = refl
     go false = refl
 
-pub bad_file : {X : Type 0} (g : X → World) (d : Option Asked) (m : Option X) (n : ℕ) (words : List Word) → is_some m ≡ false → is_none d ≡ false
-    → begins_with_file words ≡ true → BadFails (stage_of d (option_map g m)) n (kind_of words) (BadLine n)
-bad_file g d (Some x) n words e i h = absurd cc
-bad_file g None None n words e i h = absurd cc
-bad_file g (Some a) None n words e i h =
-    subst (λ b. BadFails (stage_of (Some a) None) n (if b then OfSpace else if begins_with_file words then OfFile else OfEvents) (BadLine n))
+pub bad_file : {X : Type 0} (g : X → World) (limit : CallLimit) (d : Option Asked) (m : Option X) (n : ℕ) (words : List Word) → is_some m ≡ false → is_none d ≡ false
+    → begins_with_file words ≡ true → BadFails (stage_of limit d (option_map g m)) n (kind_of words) (BadLine n)
+bad_file g limit d (Some x) n words e i h = absurd cc
+bad_file g limit None None n words e i h = absurd cc
+bad_file g limit (Some a) None n words e i h =
+    subst (λ b. BadFails (stage_of limit (Some a) None) n (if b then OfSpace else if begins_with_file words then OfFile else OfEvents) (BadLine n))
     (sym (no_both words h))
-    (subst (λ b. BadFails (stage_of (Some a) None) n (if b then OfFile else OfEvents) (BadLine n)) (sym h) refl)
+    (subst (λ b. BadFails (stage_of limit (Some a) None) n (if b then OfFile else OfEvents) (BadLine n)) (sym h) refl)
 
-pub bad_late : {X : Type 0} (g : X → World) (d : Option Asked) (m : Option X) (n : ℕ) (words : List Word) (f : TraceFault) → is_some m ≡ false
-    → is_none d ≡ false → begins_with_file words ≡ false → IfSome d (λ a. LateFails a n f)
-    → BadFails (stage_of d (option_map g m)) n (kind_of words) f
-bad_late g d (Some x) n words f e i h l = absurd cc
-bad_late g None None n words f e i h l = absurd cc
-bad_late g (Some a) None n words f e i h l = go (begins_with_vm words)
+pub bad_late : {X : Type 0} (g : X → World) (limit : CallLimit) (d : Option Asked) (m : Option X) (n : ℕ) (words : List Word) (f : TraceFault) → is_some m ≡ false
+    → is_none d ≡ false → begins_with_file words ≡ false → IfSome d (λ a. LateFails limit a n f)
+    → BadFails (stage_of limit d (option_map g m)) n (kind_of words) f
+bad_late g limit d (Some x) n words f e i h l = absurd cc
+bad_late g limit None None n words f e i h l = absurd cc
+bad_late g limit (Some a) None n words f e i h l = go (begins_with_vm words)
   where
-    go : (b : Bool) → BadFails (stage_of (Some a) None) n (if b then OfSpace else if begins_with_file words then OfFile else OfEvents) f
+    go : (b : Bool) → BadFails (stage_of limit (Some a) None) n (if b then OfSpace else if begins_with_file words then OfFile else OfEvents) f
     go true = l
-    go false = subst (λ b. BadFails (stage_of (Some a) None) n (if b then OfFile else OfEvents) f) (sym h) l
+    go false = subst (λ b. BadFails (stage_of limit (Some a) None) n (if b then OfFile else OfEvents) f) (sym h) l
 
 -- ---- the line of an event
 

@@ -10,7 +10,8 @@ use Rattle.std.proofs.Math.Path.{fun_ext}
 use Rattle.vm_base.specs.Plain.{file_with}
 use Rattle.backing.specs.declared.file_spec.FileSpec.{FileSpec}
 use Rattle.backing.specs.Given.{given_file, given_files}
-use Rattle.core_steps.specs.Setups.{first_fault, is_too_long}
+use Rattle.core_steps.specs.declared.setup.CallLimit.{CallLimit}
+use Rattle.core_steps.specs.Setups.{first_fault_within, is_too_long}
 use Rattle.trace.specs.declared.declaration.FileLine.{FileLine}
 use Rattle.trace.specs.Declarations.{bytes_of, file_at, declared_file}
 use Rattle.trace.proofs.TextLemmas.{range_more}
@@ -69,15 +70,15 @@ any_of_map f p [] = refl
 any_of_map f p (x ∷ xs) = ap (λ b. p (f x) || b) (any_of_map f p xs)
 
 -- files of these lengths have the faults that were asked for
-pub same_fault : {A : Type 0} (cores frames calls : ℕ) (specs : List (FileSpec A)) (files own : List FileLine) → files ≡ own
+pub same_fault : {A : Type 0} (limit : CallLimit) (cores frames calls : ℕ) (specs : List (FileSpec A)) (files own : List FileLine) → files ≡ own
     → map (λ spec. length spec.bytes.items) specs ≡ map (λ file. file.len) files
-    → first_fault cores frames (length specs) (list_any (λ file. is_too_long (length file.bytes.items)) specs) calls
-    ≡ first_fault cores frames (length own) (list_any (λ file. is_too_long file.len) own) calls
-same_fault cores frames calls specs files own same e =
+    → first_fault_within limit cores frames (length specs) (list_any (λ file. is_too_long (length file.bytes.items)) specs) calls
+    ≡ first_fault_within limit cores frames (length own) (list_any (λ file. is_too_long file.len) own) calls
+same_fault limit cores frames calls specs files own same e =
     let count : length specs ≡ length files =
     sym (length-map specs (λ spec. length spec.bytes.items)) ∙ ap length e ∙ length-map files (λ file. file.len) in
     let long : list_any (λ file. is_too_long (length file.bytes.items)) specs ≡ list_any (λ file. is_too_long file.len) files =
     any_of_map (λ spec. length spec.bytes.items) is_too_long specs ∙ ap (list_any is_too_long) e ∙ sym (any_of_map (λ file. file.len) is_too_long files) in
-    ap (λ n. first_fault cores frames n (list_any (λ file. is_too_long (length file.bytes.items)) specs) calls) count
-    ∙ ap (λ b. first_fault cores frames (length files) b calls) long
-    ∙ ap (λ fs. first_fault cores frames (length fs) (list_any (λ file. is_too_long file.len) fs) calls) same
+    ap (λ n. first_fault_within limit cores frames n (list_any (λ file. is_too_long (length file.bytes.items)) specs) calls) count
+    ∙ ap (λ b. first_fault_within limit cores frames (length files) b calls) long
+    ∙ ap (λ fs. first_fault_within limit cores frames (length fs) (list_any (λ file. is_too_long file.len) fs) calls) same

@@ -9,7 +9,8 @@ use Rattle.slot_lock.specs.Slots.{Slots, IsNew}
 use Rattle.radix_range.specs.Folds.{CanFold, FoldsNode}
 use Rattle.radix_range.specs.Tree.{root_edges, new_tree}
 use Rattle.radix_range.proofs.New.{is_new_tree}
-use Rattle.trace.specs.Declarations.{Asked, asked_fault, made_by}
+use Rattle.core_steps.specs.declared.setup.CallLimit.{CallLimit}
+use Rattle.trace.specs.Declarations.{Asked, asked_fault_within, made_by}
 use Rattle.trace.specs.declared.fault.TraceFault.{TraceFault}
 use Rattle.trace.specs.declared.fault.TraceFault.TheVariants as By
 use Rattle.trace.specs.Stage.{Stage, Start, Declared, Running, CanOpen, EventActs, EventFails, EventWants, Opens, stage_of}
@@ -44,15 +45,16 @@ pub line_gives : {U : Type 0} (line : Option Line) (l : Line) (r : Result U NoMe
 line_gives line l r u P e k h = subst (λ o. IsSomeAnd o P) (sym e) (subst (λ r. OnOk r (P l)) k h)
 
 -- a machine is made of what is asked for
-pub opened : (asked : Option Asked) (a : Asked) (made : Made) (slots : Slots) (w : World) → asked ≡ Some a → asked_fault a ≡ None → IsNew slots
-    → slots.edge ≡ root_edges → made ≡ made_by a → w ≡ new_world made slots → Opens (stage_of asked None) w
-opened asked a made slots w e none new edges same is =
+pub opened : (limit : CallLimit) (asked : Option Asked) (a : Asked) (made : Made) (slots : Slots) (w : World) → asked ≡ Some a
+    → asked_fault_within limit a ≡ None → IsNew slots
+    → slots.edge ≡ root_edges → made ≡ made_by a → w ≡ new_world made slots → Opens (stage_of limit asked None) w
+opened limit asked a made slots w e none new edges same is =
     let here : slots ≡ new_tree = is_new_tree slots new edges in
-    subst (λ o. Opens (stage_of o None) w) (sym e) (none, is ∙ ap (λ m. new_world m slots) same ∙ ap (new_world (made_by a)) here)
+    subst (λ o. Opens (stage_of limit o None) w) (sym e) (none, is ∙ ap (λ m. new_world m slots) same ∙ ap (new_world (made_by a)) here)
 
 pub can_open : (s : Stage) (w : World) → Opens s w → CanOpen s
-can_open Start w h = h
-can_open (Declared s) w h = h.0
+can_open (Start limit) w h = h
+can_open (Declared limit s) w h = h.0
 can_open (Running v) w h = tt
 
 -- a line was acted on, by the machine that it found

@@ -14,6 +14,7 @@ use Rattle.machine_sound.proofs.Kept.{runs_sound}
 use Rattle.core_steps.specs.declared.machine.Finished.{Finished}
 use Rattle.core_steps.specs.declared.machine.Finished.TheVariants.{Last, Stuck}
 use Rattle.core_steps.specs.Finishing.{EndsIn}
+use Rattle.core_steps.specs.declared.setup.CallLimit.{CallLimit}
 use Rattle.trace.specs.Declarations.{Asked, made_by}
 use Rattle.trace_text.specs.Line.{line_of}
 use Rattle.trace_text.specs.declared.line.Line.{Line}
@@ -132,15 +133,15 @@ pub record HasRun (w : World) (es : List Event) (os : List Outcome) : Type 0 whe
 
 -- so many events came before the stage
 abbrev pub HasReached : Stage → List Event → List Outcome → Type 0
-HasReached Start es os = (es ≡ []) × (os ≡ [])
-HasReached (Declared s) es os = (es ≡ []) × (os ≡ [])
+HasReached (Start limit) es os = (es ≡ []) × (os ≡ [])
+HasReached (Declared limit s) es os = (es ≡ []) × (os ≡ [])
 HasReached (Running w) es os = HasRun w es os
 
 opened : (s : Stage) (w : World) (es : List Event) (os : List Outcome) → HasReached s es os → Opens s w → HasRun w es os
-opened Start w es os r o = absurd o
-opened (Declared s) w es os r o = record {
+opened (Start limit) w es os r o = absurd o
+opened (Declared limit s) w es os r o = record {
   asked = s;
-  few = few_cores s o.0;
+  few = few_cores limit s o.0;
   run = subst (λ es. Run (new_machine s) es os w) (sym r.0) (subst (λ os. Run (new_machine s) [] os w) (sym r.1) o.1);
 }
 opened (Running m) w es os r o = subst (λ x. HasRun x es os) (sym o) r
@@ -178,20 +179,21 @@ event_next line old new es os text r (w, v, opens, gives, is) =
           });
     }
 
-space_next : (a : Asked) (old new : Stage) (es : List Event) (os : List Outcome) → HasReached old es os → old ≡ Start → new ≡ Declared a → HasReached new es os
-space_next a old new es os r e n = subst (λ x. HasReached x es os) (sym n) (subst (λ x. HasReached x es os) e r)
+space_next : (limit : CallLimit) (a : Asked) (old new : Stage) (es : List Event) (os : List Outcome) → HasReached old es os → old ≡ Start limit
+    → new ≡ Declared limit a → HasReached new es os
+space_next limit a old new es os r e n = subst (λ x. HasReached x es os) (sym n) (subst (λ x. HasReached x es os) e r)
 
-file_next : (a b : Asked) (old new : Stage) (es : List Event) (os : List Outcome) → HasReached old es os → old ≡ Declared a
-    → new ≡ Declared b → HasReached new es os
-file_next a b old new es os r e n = subst (λ x. HasReached x es os) (sym n) (subst (λ x. HasReached x es os) e r)
+file_next : (limit : CallLimit) (a b : Asked) (old new : Stage) (es : List Event) (os : List Outcome) → HasReached old es os → old ≡ Declared limit a
+    → new ≡ Declared limit b → HasReached new es os
+file_next limit a b old new es os r e n = subst (λ x. HasReached x es os) (sym n) (subst (λ x. HasReached x es os) e r)
 
 line_next : (line : Line) (old new : Stage) (es : List Event) (os : List Outcome) (text : List ℕ) → HasReached old es os
     → LineActs old line new text → IsNext line new es os text
 line_next Blank old new es os text r a = nothing_asked Blank new es os text (refl, refl, a.1) (subst (λ s. HasReached s es os) (sym a.0) r)
 line_next (Space cores frames calls) old new es os text r a =
-    nothing_asked (Space cores frames calls) new es os text (refl, refl, a.2) (space_next _ old new es os r a.0 a.1)
+    nothing_asked (Space cores frames calls) new es os text (refl, refl, a.3) (space_next a.0 _ old new es os r a.1 a.2)
 line_next (File n mode len seed) old new es os text r a =
-    nothing_asked (File n mode len seed) new es os text (refl, refl, a.4) (file_next a.0 _ old new es os r a.1 a.3)
+    nothing_asked (File n mode len seed) new es os text (refl, refl, a.5) (file_next a.0 a.1 _ old new es os r a.2 a.4)
 line_next (Act core action) old new es os text r a = event_next (Act core action) old new es os text r a
 line_next (Fold page) old new es os text r a = event_next (Fold page) old new es os text r a
 line_next (Finish core) old new es os text r a = event_next (Finish core) old new es os text r a
@@ -255,9 +257,10 @@ all_taken (l ∷ ls) old new es os text r (mid, front, rest, short, acts, more, 
           (subst (λ os. HasReached new ((es ++ a.events) ++ b.events) os) (append_assoc os a.outcomes b.outcomes) b.reached);
     }
 
-pub traces_are_runs : (lines : List (List ℕ)) (text : List ℕ) (w : World) → Runs Start lines (Running w) text → IsRun lines text w
-traces_are_runs lines text w r =
-    let a : AreTaken lines (Running w) [] [] text = all_taken lines Start (Running w) [] [] text (refl, refl) r in
+pub traces_are_runs : (limit : CallLimit) (lines : List (List ℕ)) (text : List ℕ) (w : World) → Runs (Start limit) lines (Running w) text
+    → IsRun lines text w
+traces_are_runs limit lines text w r =
+    let a : AreTaken lines (Running w) [] [] text = all_taken lines (Start limit) (Running w) [] [] text (refl, refl) r in
     let h : HasRun w a.events a.outcomes = a.reached in
     record {
       asked = h.asked;

@@ -54,13 +54,13 @@ listed_none s a = record {
 }
   where
     begins : (s : Stage) → IsStartAt s 1
-    begins Start = tt
-    begins (Declared a) = tt
+    begins (Start limit) = tt
+    begins (Declared limit a) = tt
     begins (Running w) = inl refl
 
     lists : (s : Stage) → ListsUpTo s 1 []
-    lists Start = refl
-    lists (Declared a) = refl
+    lists (Start limit) = refl
+    lists (Declared limit a) = refl
     lists (Running w) = λ t leads p low high. absurd (omega (arith, low, high))
 
 maps_more : (lines : List MapLine) (line : MapLine) → maps_text (lines ++ line ∷ []) ≡ maps_text lines ++ mapping_text line
@@ -71,20 +71,20 @@ maps_more lines line =
 -- one more
 more_lists : (s : Stage) (from : ℕ) (lines : List MapLine) (line : MapLine) → 1 ≤ from → ListsUpTo s from lines → IsNextAt s from line
     → ListsUpTo s line.range.end (lines ++ line ∷ [])
-more_lists Start from lines line low lists next = absurd next
-more_lists (Declared a) from lines line low lists next = absurd next
+more_lists (Start limit) from lines line low lists next = absurd next
+more_lists (Declared limit a) from lines line low lists next = absurd next
 more_lists (Running w) from lines line low lists next =
     λ t leads. lists_more (plain_metas t) 1 from lines line low (lists t leads) (next.0 t leads)
 
 more_begins : (s : Stage) (from : ℕ) (line : MapLine) → IsNextAt s from line → IsStartAt s line.range.end
-more_begins Start from line next = absurd next
-more_begins (Declared a) from line next = absurd next
+more_begins (Start limit) from line next = absurd next
+more_begins (Declared limit a) from line next = absurd next
 more_begins (Running w) from line next = inr (λ t leads. (next.0 t leads).is.ends)
 
 -- each mapping ends behind the page from which it was looked for
 pub goes_up : (s : Stage) (from : ℕ) (line : MapLine) → IsNextAt s from line → (from < line.range.end) × (line.range.end ≤ 2 ^ 35)
-goes_up Start from line next = absurd next
-goes_up (Declared a) from line next = absurd next
+goes_up (Start limit) from line next = absurd next
+goes_up (Declared limit a) from line next = absurd next
 goes_up (Running w) from line next = (next.1, next.2)
 
 pub listed_more : (s : Stage) (from : ℕ) (line : MapLine) (a b c : Option (List ℕ)) → HasListed s from a b → IsNextAt s from line
@@ -115,6 +115,6 @@ pub listed_all : (s : Stage) (from : ℕ) (a b : Option (List ℕ)) → HasListe
 listed_all s from a b h none = (maps_text h.lines, (h.lines, lists s from h.lines h.high h.lists none, refl), h.appends)
   where
     lists : (s : Stage) (from : ℕ) (lines : List MapLine) → from ≤ 2 ^ 35 → ListsUpTo s from lines → HasNoneAt s from → ListsUpTo s (2 ^ 35) lines
-    lists Start from lines high so none = so
-    lists (Declared a) from lines high so none = so
+    lists (Start limit) from lines high so none = so
+    lists (Declared limit a) from lines high so none = so
     lists (Running w) from lines high so none = λ t leads. lists_end (plain_metas t) 1 from (2 ^ 35) lines high (so t leads) (none t leads)

@@ -7,10 +7,12 @@ use Rattle.std.proofs.lemmas.Bool.Decides.{nat_tests}
 use Rattle.vm_base.specs.Functions.{put}
 use Rattle.vm_base.specs.Plain.{file_with, nothing_mapped}
 use Rattle.vm_base.proofs.Functions.{eq_true, put_all}
+use Rattle.core_steps.specs.declared.setup.CallLimit.{CallLimit}
 use Rattle.core_steps.specs.declared.setup.SetupFault.{SetupFault}
 use Rattle.core_steps.specs.declared.setup.SetupFault.TheVariants.{Cores, Frames, TooManyFiles, FileTooLong, Calls}
+use Rattle.core_steps.specs.Setups.{most_calls}
 use Rattle.trace.specs.declared.declaration.FileLine.{FileLine}
-use Rattle.trace.specs.Declarations.{Asked, asks_for, asked_fault, bytes_of, file_at, declared_file, has_long, is_next, with_file}
+use Rattle.trace.specs.Declarations.{Asked, asks_for, asked_fault_within, bytes_of, file_at, declared_file, has_long, is_next, with_file}
 use Rattle.trace.specs.PlainText.{Reached, nothing_reached, with_opened}
 
 -- ---- one file more
@@ -81,21 +83,33 @@ declares_file a n file s next d = go (nat_lt (length a.files) 17) refl
     go false many l = absurd (let few : nat_lt (length a.files) 17 ≡ true = grind (arith, nat_tests) in cc)
 
 -- where a machine is made, there aren't too many
-pub few_files : (a : Asked) → asked_fault a ≡ None → length a.files < 17
-few_files a none = go (nat_lt a.cores 1 || nat_lt 64 a.cores) (nat_lt 65536 a.frames) (nat_lt 16 (length a.files)) refl none
+pub few_files : (limit : CallLimit) (a : Asked) → asked_fault_within limit a ≡ None → length a.files < 17
+few_files limit a none = go (nat_lt a.cores 1 || nat_lt 64 a.cores) (nat_lt 65536 a.frames) (nat_lt 16 (length a.files)) refl none
   where
     go : (x y z : Bool) → nat_lt 16 (length a.files) ≡ z
         → (if x then Some Cores else if y then Some Frames else if z then Some TooManyFiles
-        else if has_long a.files then Some FileTooLong else if nat_lt 1048576 a.calls then Some Calls else None) ≡ None
+        else if has_long a.files then Some FileTooLong else if nat_lt (most_calls limit) a.calls then Some Calls else None) ≡ None
         → length a.files < 17
     go true y z e h = absurd cc
     go false true z e h = absurd cc
     go false false true e h = absurd cc
     go false false false e h = grind (arith, nat_tests)
 
+-- nor one that is too long
+pub none_long : (limit : CallLimit) (a : Asked) → asked_fault_within limit a ≡ None → has_long a.files ≡ false
+none_long limit a none = go (nat_lt a.cores 1 || nat_lt 64 a.cores) (nat_lt 65536 a.frames) (nat_lt 16 (length a.files)) (has_long a.files) none
+  where
+    go : (x y z b : Bool) → (if x then Some Cores else if y then Some Frames else if z then Some TooManyFiles
+        else if b then Some FileTooLong else if nat_lt (most_calls limit) a.calls then Some Calls else None) ≡ None → b ≡ false
+    go true y z b h = absurd cc
+    go false true z b h = absurd cc
+    go false false true b h = absurd cc
+    go false false false true h = absurd cc
+    go false false false false h = refl
+
 -- nor too many cores
-pub few_cores : (a : Asked) → asked_fault a ≡ None → a.cores ≤ 64
-few_cores a none = grind (arith, nat_tests, not_many (nat_lt a.cores 1 || nat_lt 64 a.cores) _ none)
+pub few_cores : (limit : CallLimit) (a : Asked) → asked_fault_within limit a ≡ None → a.cores ≤ 64
+few_cores limit a none = grind (arith, nat_tests, not_many (nat_lt a.cores 1 || nat_lt 64 a.cores) _ none)
   where
     not_many : (b : Bool) (rest : Option SetupFault) → (if b then Some Cores else rest) ≡ None → b ≡ false
     not_many true rest h = absurd cc

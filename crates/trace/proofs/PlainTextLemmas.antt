@@ -40,7 +40,8 @@ use Rattle.trace_text.specs.declared.line.Line.TheVariants.{Blank, Space, File, 
 use Rattle.trace.specs.declared.declaration.FileLine.{FileLine}
 use Rattle.trace.specs.declared.shown.Show.{Show}
 use Rattle.trace.specs.declared.shown.Show.TheVariants.{Outcomes, OutcomesAndLog, Maps}
-use Rattle.trace.specs.Declarations.{Asked, asked_fault, made_by}
+use Rattle.core_steps.specs.declared.setup.CallLimit.{CallLimit}
+use Rattle.trace.specs.Declarations.{Asked, asked_fault_within, made_by}
 use Rattle.trace.specs.Events.{event_of}
 use Rattle.trace.specs.OutcomeText.{outcome_text, finished_text}
 use Rattle.radix_range.specs.Folds.{CanFold, FoldsNode}
@@ -317,8 +318,8 @@ gives_grows w (Now core request) v text h =
     let a = step_grows w (Ev.Call core request) h.0 h.1 h.2 in let b = goes_grows h.1 core h.0 v text h.3 in omega (arith, a, b)
 
 opens_grows : (s : Stage) (w : World) → Opens s w → events_at s ≤ w.calls.events
-opens_grows Start w o = absurd o
-opens_grows (Declared s) w o = omega arith
+opens_grows (Start limit) w o = absurd o
+opens_grows (Declared limit s) w o = omega arith
 opens_grows (Running m) w o = let h : w.calls.events ≡ m.calls.events = ap (λ (w : World). w.calls.events) o in omega (arith, h)
 
 event_grows : (line : Line) (old new : Stage) (text : List ℕ) → EventActs old line new text → events_at old ≤ events_at new
@@ -330,8 +331,8 @@ event_grows line old new text (w, v, opens, gives, is) =
 
 line_grows : (line : Line) (old new : Stage) (text : List ℕ) → LineActs old line new text → events_at old ≤ events_at new
 line_grows Blank old new text a = let h : events_at new ≡ events_at old = ap events_at a.0 in omega (arith, h)
-line_grows (Space cores frames calls) old new text a = let h : events_at old ≡ 0 = ap events_at a.0 in omega (arith, h)
-line_grows (File n mode len seed) old new text a = let h : events_at old ≡ 0 = ap events_at a.1 in omega (arith, h)
+line_grows (Space cores frames calls) old new text a = let h : events_at old ≡ 0 = ap events_at a.1 in omega (arith, h)
+line_grows (File n mode len seed) old new text a = let h : events_at old ≡ 0 = ap events_at a.2 in omega (arith, h)
 line_grows (Act core action) old new text a = event_grows (Act core action) old new text a
 line_grows (Fold page) old new text a = event_grows (Fold page) old new text a
 line_grows (Finish core) old new text a = event_grows (Finish core) old new text a
@@ -349,8 +350,8 @@ lines_grow (l ∷ ls) old new text (mid, front, rest, short, acts, more, is) =
 -- ---- stages
 
 abbrev pub ReachedAt : Stage → Reached → Type 0
-ReachedAt Start s = s ≡ nothing_reached
-ReachedAt (Declared a) s = IsDeclared a s
+ReachedAt (Start limit) s = s ≡ nothing_reached
+ReachedAt (Declared limit a) s = IsDeclared a s
 ReachedAt (Running w) s = Meets w s
 
 meets_opening : (a : Asked) (slots : Slots) (s : Reached) → a.cores ≤ 64 → IsNew slots → s ≡ declared_so a → Meets (new_world (made_by a) slots) s
@@ -369,8 +370,8 @@ meets_opening a slots s few new e = subst (Meets (new_world (made_by a) slots)) 
 })
 
 opened : (old : Stage) (w : World) (s : Reached) → ReachedAt old s → Opens old w → Meets w s
-opened Start w s r o = absurd o
-opened (Declared a) w s r o = subst (λ w. Meets w s) (sym o.1) (meets_opening a new_tree s (few_cores a o.0) new_tree_new (r (few_files a o.0)).1)
+opened (Start limit) w s r o = absurd o
+opened (Declared limit a) w s r o = subst (λ w. Meets w s) (sym o.1) (meets_opening a new_tree s (few_cores limit a o.0) new_tree_new (r (few_files limit a o.0)).1)
 opened (Running m) w s r o = subst (λ w. Meets w s) (sym o) r
 
 -- ---- a line
@@ -391,14 +392,14 @@ line_plain : (line : Line) (old new : Stage) (s : Reached) (text : List ℕ) →
     → LineActs old line new text → Disturbs s.waiting line ⊎ IsPlain line new s text
 line_plain Blank old new s text below r a = inr (record { next = s; answers = (refl, a.1); reached = subst (λ x. ReachedAt x s) (sym a.0) r })
 line_plain (Space cores frames calls) old new s text below r a =
-    let first : s ≡ nothing_reached = subst (λ x. ReachedAt x s) a.0 r in
+    let first : s ≡ nothing_reached = subst (λ x. ReachedAt x s) a.1 r in
     inr (record {
       next = record s { cores = cores; frames = frames; calls = calls };
-      answers = (refl, a.2);
-      reached = subst (λ x. ReachedAt x (record s { cores = cores; frames = frames; calls = calls })) (sym a.1)
+      answers = (refl, a.3);
+      reached = subst (λ x. ReachedAt x (record s { cores = cores; frames = frames; calls = calls })) (sym a.2)
           (declares_space cores frames calls s first);
     })
-line_plain (File n mode len seed) old new s text below r (a, is, next, now, t) =
+line_plain (File n mode len seed) old new s text below r (limit, a, is, next, now, t) =
     let file : FileLine = record { mode = mode; len = len; seed = seed } in
     inr (record {
       next = with_opened s n (file_with mode (seeded len seed));
@@ -455,12 +456,12 @@ all_plain End (l ∷ ls) old new s text below ends r (mid, front, rest, short, a
 
 -- ---- behind the lines
 
-declared_at : (a : Asked) (r : Reached) → asked_fault a ≡ None → IsDeclared a r → r ≡ declared_so a
-declared_at a r none at = (at (few_files a none)).1
+declared_at : (limit : CallLimit) (a : Asked) (r : Reached) → asked_fault_within limit a ≡ None → IsDeclared a r → r ≡ declared_so a
+declared_at limit a r none at = (at (few_files limit a none)).1
 
 log_of : (stage : Stage) (r : Reached) → CanOpen stage → ReachedAt stage r → IsLogOf r (log_at stage)
-log_of Start r o at = absurd o
-log_of (Declared a) r o at = subst (λ r. IsLogOf r []) (sym (declared_at a r o at)) (record { replies = refl; legal = refl })
+log_of (Start limit) r o at = absurd o
+log_of (Declared limit a) r o at = subst (λ r. IsLogOf r []) (sym (declared_at limit a r o at)) (record { replies = refl; legal = refl })
 log_of (Running w) r o m = record {
   replies = m.replies;
   legal = subst (λ qs. Replays qs (nothing_mapped r.files) w.calls.log r.plain) (sym m.requests)
@@ -469,9 +470,9 @@ log_of (Running w) r o m = record {
 
 maps_of : (stage : Stage) (r : Reached) (lines : List MapLine) → CanOpen stage → ReachedAt stage r → ListsUpTo stage (2 ^ 35) lines
     → IsMapList (plain_metas r.plain) lines
-maps_of Start r lines o at k = absurd o
-maps_of (Declared a) r lines o at k = subst (λ ls. IsMapList (plain_metas r.plain) ls) (sym k)
-    (subst (λ (r : Reached). IsMapList (plain_metas r.plain) []) (sym (declared_at a r o at)) (λ p low high. refl))
+maps_of (Start limit) r lines o at k = absurd o
+maps_of (Declared limit a) r lines o at k = subst (λ ls. IsMapList (plain_metas r.plain) ls) (sym k)
+    (subst (λ (r : Reached). IsMapList (plain_metas r.plain) []) (sym (declared_at limit a r o at)) (λ p low high. refl))
 maps_of (Running w) r lines o m k = k r.plain m.log
 
 plain_behind : (show : Show) (stage : Stage) (behind : List ℕ) (r : Reached) → CanOpen stage → IsBehind show stage behind → ReachedAt stage r
@@ -480,8 +481,9 @@ plain_behind Outcomes stage behind r o is at = is
 plain_behind OutcomesAndLog stage behind r o is at = (is, log_of stage r o at)
 plain_behind Maps stage behind r o is at = (is.0, maps_of stage r is.0 o at is.1, is.2)
 
-pub traces_plain : (show : Show) (lines : List (List ℕ)) (stage : Stage) (text behind : List ℕ) → Runs Start lines stage text → CanOpen stage
+pub traces_plain : (limit : CallLimit) (show : Show) (lines : List (List ℕ)) (stage : Stage) (text behind : List ℕ)
+    → Runs (Start limit) lines stage text → CanOpen stage
     → IsBehind show stage behind → GivesPlainText show lines stage text behind
-traces_plain show lines stage text behind runs opens is below =
-    all_plain (IsPlainBehind show (log_at stage) behind) lines Start stage nothing_reached text below
+traces_plain limit show lines stage text behind runs opens is below =
+    all_plain (IsPlainBehind show (log_at stage) behind) lines (Start limit) stage nothing_reached text below
     (λ r at. plain_behind show stage behind r opens is at) refl runs

@@ -6,6 +6,7 @@ use Rattle.std.proofs.KnownBytes.{Appends-nil, Appends-trans, Appends-kept}
 use Rattle.std.specs.Io.KnownBytes.{Keeps, Appends}
 use Rattle.trace_io.specs.Lines.{onto, lines_of, IsUnbroken, IsFirstLine}
 use Rattle.trace_io.specs.Sink.{AppendsFront}
+use Rattle.core_steps.specs.declared.setup.CallLimit.{CallLimit}
 use Rattle.trace.specs.declared.fault.TraceFault.{TraceFault}
 use Rattle.trace.specs.declared.fault.TraceFault.TheVariants.{TooLong, WriteFailed}
 use Rattle.trace.specs.Stage.{Stage, Start, LineFails, CanOpen, OpenFails, Acts}
@@ -124,7 +125,7 @@ taken_more input whole rest line ys done t u (inr h) = go t.joins
     )
 
 -- the lines so far were acted on, and what is left has the others
-pub record HasRun (show : Show) (input : List ℕ) (old : Option (List ℕ)) (now : Scene) (number : ℕ) : Type 0 where
+pub record HasRun (limit : CallLimit) (show : Show) (input : List ℕ) (old : Option (List ℕ)) (now : Scene) (number : ℕ) : Type 0 where
   pub done : List (List ℕ)
   pub text : List ℕ
   pub whole : List ℕ
@@ -132,14 +133,14 @@ pub record HasRun (show : Show) (input : List ℕ) (old : Option (List ℕ)) (no
   pub taken : IsTaken input whole rest done
   pub left : now.left ≡ rest
   pub lines : lines_of input ≡ done ++ lines_of rest
-  pub runs : Runs Start done now.stage text
+  pub runs : Runs (Start limit) done now.stage text
   pub appends : Appends old now.written (told show text)
   pub count : number ≡ length done
 
 -- nothing has been read yet
-pub run_none : (show : Show) (input : List ℕ) (old : Option (List ℕ)) (now : Scene) → now.left ≡ input → now.stage ≡ Start
-    → now.written ≡ old → HasRun show input old now 0
-run_none show input old now e s w = record {
+pub run_none : (limit : CallLimit) (show : Show) (input : List ℕ) (old : Option (List ℕ)) (now : Scene) → now.left ≡ input → now.stage ≡ Start limit
+    → now.written ≡ old → HasRun limit show input old now 0
+run_none limit show input old now e s w = record {
   done = [];
   text = [];
   whole = [];
@@ -157,9 +158,9 @@ pub next_line : (input line rest ys : List ℕ) (done : List (List ℕ)) → lin
     → IsFirstLine rest line ys → lines_of input ≡ done ++ line ∷ lines_of ys
 next_line input line rest ys done e u f = e ∙ ap (λ l. done ++ l) (lines-first rest line ys u f)
 
-pub run_more : (show : Show) (input : List ℕ) (old : Option (List ℕ)) (now next : Scene) (number : ℕ) → HasRun show input old now number
-    → Advances show now next → HasRun show input old next (number + 1)
-run_more show input old now next number h a =
+pub run_more : (limit : CallLimit) (show : Show) (input : List ℕ) (old : Option (List ℕ)) (now next : Scene) (number : ℕ) → HasRun limit show input old now number
+    → Advances show now next → HasRun limit show input old next (number + 1)
+run_more limit show input old now next number h a =
     let ys = next.left in
     let first : IsFirstLine h.rest a.line ys = subst (λ x. IsFirstLine x a.line ys) h.left a.takes in
     let (whole, taken) = taken_more input h.whole h.rest a.line ys h.done h.taken a.unbroken first in
@@ -171,14 +172,14 @@ run_more show input old now next number h a =
       taken = taken;
       left = refl;
       lines = next_line input a.line h.rest ys h.done h.lines a.unbroken first ∙ sym (append_assoc h.done (a.line ∷ []) (lines_of ys));
-      runs = runs-snoc Start now.stage next.stage h.done a.line h.text a.text h.runs a.short a.acts;
+      runs = runs-snoc (Start limit) now.stage next.stage h.done a.line h.text a.text h.runs a.short a.acts;
       appends = subst (Appends old next.written) (sym (told_more show h.text a.text)) (Appends-trans _ _ _ _ _ h.appends a.appends);
       count = let c = h.count in omega (arith, length-append h.done (a.line ∷ []));
     }
 
 -- what was acted on so far
-front_of : (show : Show) (input : List ℕ) (old : Option (List ℕ)) (now : Scene) (number : ℕ) → HasRun show input old now number → Front input
-front_of show input old now number h = record { done = h.done; more = lines_of h.rest; stage = now.stage; text = h.text; lines = h.lines; runs = h.runs }
+front_of : (limit : CallLimit) (show : Show) (input : List ℕ) (old : Option (List ℕ)) (now : Scene) (number : ℕ) → HasRun limit show input old now number → Front limit input
+front_of limit show input old now number h = record { done = h.done; more = lines_of h.rest; stage = now.stage; text = h.text; lines = h.lines; runs = h.runs }
 
 -- what is held and what is unread is what is left
 pub known_read : (input whole rest held : List ℕ) (done : List (List ℕ)) (left unread : List ℕ) → IsTaken input whole rest done
@@ -195,29 +196,29 @@ known_read input whole rest held done left unread t e few l =
       refl,
     )
 
-pub run_fails : (show : Show) (input : List ℕ) (old : Option (List ℕ)) (now next : Scene) (number : ℕ) (f : TraceFault)
-    → HasRun show input old now number → Fails show now next number f → Stops show input next.unread old next.written f
+pub run_fails : (limit : CallLimit) (show : Show) (input : List ℕ) (old : Option (List ℕ)) (now next : Scene) (number : ℕ) (f : TraceFault)
+    → HasRun limit show input old now number → Fails show now next number f → Stops limit show input next.unread old next.written f
 unfolding front_of
-run_fails show input old now next number f h (read_fails e held u l m k) =
+run_fails limit show input old now next number f h (read_fails e held u l m k) =
     let (r, same) = known_read input h.whole h.rest held h.done next.left next.unread h.taken (m ∙ h.left) l.0 l.1 in
-    reading e (front_of show input old now number h) r (subst IsUnbroken (sym same) u) (Appends-kept _ _ _ _ h.appends k)
-run_fails show input old now next number f h (unsent e k) =
-    writing e (front_of show input old now number h) (whole_front _ _ _ (Appends-kept _ _ _ _ h.appends k))
-run_fails show input old now next number f h (too_long e b k) =
+    reading e (front_of limit show input old now number h) r (subst IsUnbroken (sym same) u) (Appends-kept _ _ _ _ h.appends k)
+run_fails limit show input old now next number f h (unsent e k) =
+    writing e (front_of limit show input old now number h) (whole_front _ _ _ (Appends-kept _ _ _ _ h.appends k))
+run_fails limit show input old now next number f h (too_long e b k) =
     let l = long_first 256 h.rest (subst (λ x. 256 < length x) h.left b.0) (subst (λ x. IsUnbroken (take 257 x)) h.left b.1) in
-    overlong (front_of show input old now number h) l.line l.others l.lines l.long (e ∙ ap (λ n. TooLong (n + 1)) h.count) (Appends-kept _ _ _ _ h.appends k)
-run_fails show input old now next number f h (no_memory e line held short u t l w k) =
+    overlong (front_of limit show input old now number h) l.line l.others l.lines l.long (e ∙ ap (λ n. TooLong (n + 1)) h.count) (Appends-kept _ _ _ _ h.appends k)
+run_fails limit show input old now next number f h (no_memory e line held short u t l w k) =
     let ys = next.left in
     let first : IsFirstLine h.rest line ys = subst (λ x. IsFirstLine x line ys) h.left t in
     let (whole, taken) = taken_more input h.whole h.rest line ys h.done h.taken u first in
     let (r, same) = known_read input whole ys held (h.done ++ line ∷ []) next.left next.unread taken refl l.0 l.1 in
-    wanting e (front_of show input old now number h) line (lines_of ys) (lines-first h.rest line ys u first) r w (Appends-kept _ _ _ _ h.appends k)
-run_fails show input old now next number f h (refused line short u t b k) =
+    wanting e (front_of limit show input old now number h) line (lines_of ys) (lines-first h.rest line ys u first) r w (Appends-kept _ _ _ _ h.appends k)
+run_fails limit show input old now next number f h (refused line short u t b k) =
     let ys = next.left in
     let first : IsFirstLine h.rest line ys = subst (λ x. IsFirstLine x line ys) h.left t in
-    refusing (front_of show input old now number h) line (lines_of ys) (lines-first h.rest line ys u first) short
+    refusing (front_of limit show input old now number h) line (lines_of ys) (lines-first h.rest line ys u first) short
     (subst (λ n. LineFails now.stage (n + 1) line f) h.count b) (Appends-kept _ _ _ _ h.appends k)
-run_fails show input old now next number f h (unwritten e line text short u t a w) =
+run_fails limit show input old now next number f h (unwritten e line text short u t a w) =
     let ys = next.left in
     let first : IsFirstLine h.rest line ys = subst (λ x. IsFirstLine x line ys) h.left t in
     writing e (record {
@@ -226,18 +227,18 @@ run_fails show input old now next number f h (unwritten e line text short u t a 
       stage = next.stage;
       text = h.text ++ text;
       lines = next_line input line h.rest ys h.done h.lines u first ∙ sym (append_assoc h.done (line ∷ []) (lines_of ys));
-      runs = runs-snoc Start now.stage next.stage h.done line h.text text h.runs short a;
+      runs = runs-snoc (Start limit) now.stage next.stage h.done line h.text text h.runs short a;
     }) (subst (AppendsFront old next.written) (sym (told_more show h.text text)) (front_more old now.written next.written _ _ h.appends w))
 
 -- and the trace is closed
-pub run_ends : {T : Type 0} (show : Show) (input : List ℕ) (wo wn : Option (List ℕ)) (now next : Scene) (n : ℕ) (r : Result T TraceFault)
-    → HasRun show input wo now n → IsOver now next → OnOk r (Closes show next.stage next.written wn)
-    → IfErr r (λ f. CloseFails show next.stage next.written wn f) → Ends show input next.unread wo wn r
+pub run_ends : {T : Type 0} (limit : CallLimit) (show : Show) (input : List ℕ) (wo wn : Option (List ℕ)) (now next : Scene) (n : ℕ) (r : Result T TraceFault)
+    → HasRun limit show input wo now n → IsOver now next → OnOk r (Closes show next.stage next.written wn)
+    → IfErr r (λ f. CloseFails show next.stage next.written wn f) → Ends limit show input next.unread wo wn r
 unfolding front_of
-run_ends show input wo wn now next n (Ok x) h v o e =
+run_ends limit show input wo wn now next n (Ok x) h v o e =
     let none = ap lines_of (sym h.left ∙ v.ended) in
-    let runs : Runs Start (lines_of input) now.stage h.text =
-    subst (λ ls. Runs Start ls now.stage h.text) (sym (h.lines ∙ ap (λ l. h.done ++ l) none ∙ append-nil h.done)) h.runs in
+    let runs : Runs (Start limit) (lines_of input) now.stage h.text =
+    subst (λ ls. Runs (Start limit) ls now.stage h.text) (sym (h.lines ∙ ap (λ l. h.done ++ l) none ∙ append-nil h.done)) h.runs in
     let opens : CanOpen now.stage = subst CanOpen v.stage o.opens in
     let is : IsBehind show now.stage o.behind = subst (λ s. IsBehind show s o.behind) v.stage o.is in
     record {
@@ -247,35 +248,35 @@ run_ends show input wo wn now next n (Ok x) h v o e =
       runs = runs;
       opens = opens;
       is = is;
-      plain = traces_plain show (lines_of input) now.stage h.text o.behind runs opens is;
+      plain = traces_plain limit show (lines_of input) now.stage h.text o.behind runs opens is;
       appends = Appends-trans _ _ _ _ _ (Appends-kept _ _ _ _ h.appends v.written) o.appends;
     }
-run_ends show input wo wn now next n (Err f) h v o (inl e) =
-    unopened (front_of show input wo now n h) (ap lines_of (sym h.left ∙ v.ended)) (subst (λ s. OpenFails s f) v.stage e.0)
+run_ends limit show input wo wn now next n (Err f) h v o (inl e) =
+    unopened (front_of limit show input wo now n h) (ap lines_of (sym h.left ∙ v.ended)) (subst (λ s. OpenFails s f) v.stage e.0)
     (Appends-kept _ _ _ _ (Appends-kept _ _ _ _ h.appends v.written) e.1)
-run_ends show input wo wn now next n (Err f) h v o (inr e) =
-    closing e.0 (front_of show input wo now n h) (ap lines_of (sym h.left ∙ v.ended)) (subst CanOpen v.stage e.1.opens) e.1.behind
+run_ends limit show input wo wn now next n (Err f) h v o (inr e) =
+    closing e.0 (front_of limit show input wo now n h) (ap lines_of (sym h.left ∙ v.ended)) (subst CanOpen v.stage e.1.opens) e.1.behind
     (subst (λ s. IsBegunBehind show s e.1.behind) v.stage e.1.is) (front_more _ _ _ _ _ (Appends-kept _ _ _ _ h.appends v.written) e.1.appends)
 
 front_kept : (a b c : Option (List ℕ)) (xs : List ℕ) → AppendsFront a b xs → Keeps b c → AppendsFront a c xs
 front_kept a b c xs p k = (p.0, p.1, Appends-kept a b c (take p.0 xs) p.2 k)
 
 -- a flush keeps what was written
-pub stops_kept : (show : Show) (input : List ℕ) (unread : List ℕ) (a b c : Option (List ℕ)) (f : TraceFault) → Stops show input unread a b f
-    → Keeps b c → Stops show input unread a c f
-stops_kept show input unread a b c f (reading e p r u w) k = reading e p r u (Appends-kept _ _ _ _ w k)
-stops_kept show input unread a b c f (unmade e u w) k = unmade e u (Appends-kept _ _ _ _ w k)
-stops_kept show input unread a b c f (wanting e p line others m r n w) k = wanting e p line others m r n (Appends-kept _ _ _ _ w k)
-stops_kept show input unread a b c f (overlong p line others e l q w) k = overlong p line others e l q (Appends-kept _ _ _ _ w k)
-stops_kept show input unread a b c f (refusing p line others e q l w) k = refusing p line others e q l (Appends-kept _ _ _ _ w k)
-stops_kept show input unread a b c f (unopened p e q w) k = unopened p e q (Appends-kept _ _ _ _ w k)
-stops_kept show input unread a b c f (writing e p w) k = writing e p (front_kept _ _ _ _ w k)
-stops_kept show input unread a b c f (closing e p m o behind is w) k = closing e p m o behind is (front_kept _ _ _ _ w k)
+pub stops_kept : (limit : CallLimit) (show : Show) (input : List ℕ) (unread : List ℕ) (a b c : Option (List ℕ)) (f : TraceFault) → Stops limit show input unread a b f
+    → Keeps b c → Stops limit show input unread a c f
+stops_kept limit show input unread a b c f (reading e p r u w) k = reading e p r u (Appends-kept _ _ _ _ w k)
+stops_kept limit show input unread a b c f (unmade e u w) k = unmade e u (Appends-kept _ _ _ _ w k)
+stops_kept limit show input unread a b c f (wanting e p line others m r n w) k = wanting e p line others m r n (Appends-kept _ _ _ _ w k)
+stops_kept limit show input unread a b c f (overlong p line others e l q w) k = overlong p line others e l q (Appends-kept _ _ _ _ w k)
+stops_kept limit show input unread a b c f (refusing p line others e q l w) k = refusing p line others e q l (Appends-kept _ _ _ _ w k)
+stops_kept limit show input unread a b c f (unopened p e q w) k = unopened p e q (Appends-kept _ _ _ _ w k)
+stops_kept limit show input unread a b c f (writing e p w) k = writing e p (front_kept _ _ _ _ w k)
+stops_kept limit show input unread a b c f (closing e p m o behind is w) k = closing e p m o behind is (front_kept _ _ _ _ w k)
 
-pub ends_kept : {T : Type 0} (show : Show) (input : List ℕ) (unread : List ℕ) (a b c : Option (List ℕ)) (r : Result T TraceFault)
-    → Ends show input unread a b r → Keeps b c
-    → Ends show input unread a c r
-ends_kept show input unread a b c (Ok x) h k = record {
+pub ends_kept : {T : Type 0} (limit : CallLimit) (show : Show) (input : List ℕ) (unread : List ℕ) (a b c : Option (List ℕ)) (r : Result T TraceFault)
+    → Ends limit show input unread a b r → Keeps b c
+    → Ends limit show input unread a c r
+ends_kept limit show input unread a b c (Ok x) h k = record {
   stage = h.stage;
   text = h.text;
   behind = h.behind;
@@ -285,28 +286,28 @@ ends_kept show input unread a b c (Ok x) h k = record {
   plain = h.plain;
   appends = Appends-kept _ _ _ _ h.appends k;
 }
-ends_kept show input unread a b c (Err f) h k = stops_kept show input unread a b c f h k
+ends_kept limit show input unread a b c (Err f) h k = stops_kept limit show input unread a b c f h k
 
-nothing_run : (input : List ℕ) → Front input
-nothing_run input = record { done = []; more = lines_of input; stage = Start; text = []; lines = refl; runs = (refl, refl) }
+nothing_run : (limit : CallLimit) (input : List ℕ) → Front limit input
+nothing_run limit input = record { done = []; more = lines_of input; stage = Start limit; text = []; lines = refl; runs = (refl, refl) }
 
-stops_lost : (show : Show) (input : List ℕ) (unread : List ℕ) (a b : Option (List ℕ)) (f : TraceFault) → Stops show input unread a b f
-    → Stops show input unread a b WriteFailed
+stops_lost : (limit : CallLimit) (show : Show) (input : List ℕ) (unread : List ℕ) (a b : Option (List ℕ)) (f : TraceFault) → Stops limit show input unread a b f
+    → Stops limit show input unread a b WriteFailed
 unfolding nothing_run
-stops_lost show input unread a b f (reading e p r u w) = writing refl p (whole_front _ _ _ w)
-stops_lost show input unread a b f (unmade e u w) =
-    writing refl (nothing_run input) (subst (AppendsFront a b) (sym (told_none show)) (whole_front _ _ _ w))
-stops_lost show input unread a b f (wanting e p line others m r n w) = writing refl p (whole_front _ _ _ w)
-stops_lost show input unread a b f (overlong p line others e l q w) = writing refl p (whole_front _ _ _ w)
-stops_lost show input unread a b f (refusing p line others e q l w) = writing refl p (whole_front _ _ _ w)
-stops_lost show input unread a b f (unopened p e q w) = writing refl p (whole_front _ _ _ w)
-stops_lost show input unread a b f (writing e p w) = writing refl p w
-stops_lost show input unread a b f (closing e p m o behind is w) = closing refl p m o behind is w
+stops_lost limit show input unread a b f (reading e p r u w) = writing refl p (whole_front _ _ _ w)
+stops_lost limit show input unread a b f (unmade e u w) =
+    writing refl (nothing_run limit input) (subst (AppendsFront a b) (sym (told_none show)) (whole_front _ _ _ w))
+stops_lost limit show input unread a b f (wanting e p line others m r n w) = writing refl p (whole_front _ _ _ w)
+stops_lost limit show input unread a b f (overlong p line others e l q w) = writing refl p (whole_front _ _ _ w)
+stops_lost limit show input unread a b f (refusing p line others e q l w) = writing refl p (whole_front _ _ _ w)
+stops_lost limit show input unread a b f (unopened p e q w) = writing refl p (whole_front _ _ _ w)
+stops_lost limit show input unread a b f (writing e p w) = writing refl p w
+stops_lost limit show input unread a b f (closing e p m o behind is w) = closing refl p m o behind is w
 
-pub ends_lost : {T : Type 0} (show : Show) (input : List ℕ) (unread : List ℕ) (a b : Option (List ℕ)) (r : Result T TraceFault)
-    → Ends show input unread a b r
-    → Stops show input unread a b WriteFailed
-ends_lost show input unread a b (Ok x) h =
+pub ends_lost : {T : Type 0} (limit : CallLimit) (show : Show) (input : List ℕ) (unread : List ℕ) (a b : Option (List ℕ)) (r : Result T TraceFault)
+    → Ends limit show input unread a b r
+    → Stops limit show input unread a b WriteFailed
+ends_lost limit show input unread a b (Ok x) h =
     closing refl (record {
       done = lines_of input;
       more = [];
@@ -315,7 +316,7 @@ ends_lost show input unread a b (Ok x) h =
       lines = sym (append-nil (lines_of input));
       runs = h.runs;
     }) refl h.opens h.behind (begun_behind show h.stage h.behind h.is) (whole_front _ _ _ h.appends)
-ends_lost show input unread a b (Err f) h = stops_lost show input unread a b f h
+ends_lost limit show input unread a b (Err f) h = stops_lost limit show input unread a b f h
 
 -- what isn't `write failed` leaves the writer's mark as it was
 pub mark_kept : {T : Type 0} (r : Result T TraceFault) (x : T) (a b : Bool) → r ≡ Ok x → (r ≡ Err WriteFailed) ⊎ (b ≡ a) → b ≡ a

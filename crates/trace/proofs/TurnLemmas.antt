@@ -14,7 +14,8 @@ use Rattle.trace.specs.Stage.{Stage, Start, Declared, Running, SetupFails, OpenF
 use Rattle.trace.specs.Stage.{LateFails, BadFails, SpaceFails, FileFails, SaidFails, BytesFail, LineFails, Acts}
 use Rattle.trace.specs.declared.shown.Show.{Show}
 use Rattle.trace.specs.Shown.{keeps_log, told}
-use Rattle.trace.specs.Declarations.{Asked, asked_fault}
+use Rattle.core_steps.specs.declared.setup.CallLimit.{CallLimit}
+use Rattle.trace.specs.Declarations.{Asked, asked_fault_within}
 use Rattle.trace.specs.Turns.{Scene, Advances, IsHeld, Fails, no_memory, refused, unwritten}
 
 -- neither the reader's fault nor the writer's
@@ -35,35 +36,35 @@ own_setup a (Some s) f e = ap is_own e
 
 pub own_open : (s : Stage) (f : TraceFault) → OpenFails s f → is_own f ≡ true
 unfolding is_own
-own_open Start f e = ap is_own e
-own_open (Declared a) f e = own_setup a (asked_fault a) f e
+own_open (Start limit) f e = ap is_own e
+own_open (Declared limit a) f e = own_setup a (asked_fault_within limit a) f e
 own_open (Running w) f e = absurd e
 
-own_late : (a : Asked) (n : ℕ) (f : TraceFault) → LateFails a n f → is_own f ≡ true
+own_late : (limit : CallLimit) (a : Asked) (n : ℕ) (f : TraceFault) → LateFails limit a n f → is_own f ≡ true
 unfolding is_own
-own_late a n f (inl e) = own_setup a (asked_fault a) f e
-own_late a n f (inr e) = ap is_own e.1
+own_late limit a n f (inl e) = own_setup a (asked_fault_within limit a) f e
+own_late limit a n f (inr e) = ap is_own e.1
 
 own_bad : (s : Stage) (n : ℕ) (k : Kind) (f : TraceFault) → BadFails s n k f → is_own f ≡ true
 unfolding is_own
-own_bad Start n OfSpace f e = ap is_own e
-own_bad Start n OfFile f e = ap is_own e
-own_bad Start n OfEvents f e = ap is_own e
-own_bad (Declared a) n OfSpace f e = own_late a n f e
-own_bad (Declared a) n OfFile f e = ap is_own e
-own_bad (Declared a) n OfEvents f e = own_late a n f e
+own_bad (Start limit) n OfSpace f e = ap is_own e
+own_bad (Start limit) n OfFile f e = ap is_own e
+own_bad (Start limit) n OfEvents f e = ap is_own e
+own_bad (Declared limit a) n OfSpace f e = own_late limit a n f e
+own_bad (Declared limit a) n OfFile f e = ap is_own e
+own_bad (Declared limit a) n OfEvents f e = own_late limit a n f e
 own_bad (Running w) n k f e = ap is_own e
 
 own_space : (s : Stage) (n : ℕ) (f : TraceFault) → SpaceFails s n f → is_own f ≡ true
 unfolding is_own
-own_space Start n f e = absurd e
-own_space (Declared a) n f e = own_late a n f e
+own_space (Start limit) n f e = absurd e
+own_space (Declared limit a) n f e = own_late limit a n f e
 own_space (Running w) n f e = ap is_own e
 
 own_file : (s : Stage) (n next : ℕ) (f : TraceFault) → FileFails s n next f → is_own f ≡ true
 unfolding is_own
-own_file Start n next f e = ap is_own e
-own_file (Declared a) n next f e = ap is_own e.1
+own_file (Start limit) n next f e = ap is_own e
+own_file (Declared limit a) n next f e = ap is_own e.1
 own_file (Running w) n next f e = ap is_own e
 
 own_said : (s : Stage) (n : ℕ) (k : Kind) (l : Option Line) (f : TraceFault) → SaidFails s n k l f → is_own f ≡ true

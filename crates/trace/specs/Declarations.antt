@@ -4,8 +4,10 @@ use Rattle.std.specs.Prelude.{◌∷◌, ◌++◌, length, slice_get, Option, No
 use Rattle.std.specs.List.{list_any}
 use Rattle.vm_base.specs.Plain.{File, file_with}
 use Rattle.machine_model.specs.World.{Made}
+use Rattle.core_steps.specs.declared.setup.CallLimit.{CallLimit}
+use Rattle.core_steps.specs.declared.setup.CallLimit.TheVariants.{Usual}
 use Rattle.core_steps.specs.declared.setup.SetupFault.{SetupFault}
-use Rattle.core_steps.specs.Setups.{first_fault, is_too_long}
+use Rattle.core_steps.specs.Setups.{first_fault_within, is_too_long}
 use Rattle.trace_text.specs.Line.{seeded}
 use Rattle.trace.specs.declared.declaration.FileLine.{FileLine}
 
@@ -53,10 +55,14 @@ file_at files n = declared_file (slice_get files n)
 abbrev pub has_long : List FileLine → Bool
 has_long files = list_any (λ file. is_too_long file.len) files
 
--- what is wrong with it first, but for want of memory
+-- what is wrong with it first, but for want of memory, where this limit of calls holds
+abbrev pub asked_fault_within : CallLimit → Asked → Option SetupFault
+asked_fault_within limit asked = first_fault_within limit asked.cores asked.frames
+    (length asked.files) (has_long asked.files) asked.calls
+
+-- where no longer limit is asked for
 abbrev pub asked_fault : Asked → Option SetupFault
-asked_fault asked =
-    first_fault asked.cores asked.frames (length asked.files) (has_long asked.files) asked.calls
+asked_fault asked = asked_fault_within Usual asked
 
 -- what a machine is made with
 abbrev pub made_by : Asked → Made

@@ -13,6 +13,7 @@ use Rattle.machine_sound.specs.Sound.{SoundRun}
 use Rattle.core_steps.specs.declared.machine.Finished.{Finished}
 use Rattle.core_steps.specs.declared.machine.Finished.TheVariants.{Last, Stuck}
 use Rattle.core_steps.specs.Finishing.{finish_limit}
+use Rattle.core_steps.specs.declared.setup.CallLimit.{CallLimit}
 use Rattle.trace_text.specs.Line.{line_of}
 use Rattle.trace_text.specs.declared.line.Line.{Line}
 use Rattle.trace_text.specs.declared.line.Line.TheVariants.{Blank, Space, File, Act, Fold, Finish, Now}
@@ -95,8 +96,8 @@ pub record IsRun (lines : List (List ℕ)) (text : List ℕ) (w : World) : Type 
   pub sound : SoundRun (new_machine asked) events outcomes w
   pub brackets : IsBracketed events outcomes w.calls.requests w.calls.log
 
--- lines that are acted on from the start, up to a machine
+-- lines that are acted on from the start, within each limit of calls, up to a machine
 abbrev pub AllTracesAreRuns : Type 0
 AllTracesAreRuns =
-    (lines : List (List ℕ)) (text : List ℕ) (w : World) → Runs Start lines (Running w) text
-    → IsRun lines text w
+    (limit : CallLimit) (lines : List (List ℕ)) (text : List ℕ) (w : World)
+    → Runs (Start limit) lines (Running w) text → IsRun lines text w

@@ -1,6 +1,7 @@
 -- Traces give the text of the plain page map while the machine can count their events
 use Rattle.std.specs.Prelude.{ℕ, ◌<◌, List}
 use Rattle.machine_model.specs.Step.{event_limit}
+use Rattle.core_steps.specs.declared.setup.CallLimit.{CallLimit}
 use Rattle.trace.specs.declared.shown.Show.{Show}
 use Rattle.trace.specs.PlainText.{AllAnswer, IsPlainBehind, nothing_reached}
 use Rattle.trace.specs.Runs.{Runs}
@@ -9,8 +10,8 @@ use Rattle.trace.specs.Stage.{Stage, Start, Declared, Running, CanOpen}
 
 -- how many events were counted: none before there is a machine
 abbrev pub events_at : Stage → ℕ
-events_at Start = 0
-events_at (Declared a) = 0
+events_at (Start limit) = 0
+events_at (Declared limit a) = 0
 events_at (Running w) = w.calls.events
 
 -- While the machine can count its events, the text of the lines is that of the plain page map and
@@ -20,9 +21,9 @@ GivesPlainText show lines stage text behind =
     events_at stage < event_limit
     → AllAnswer (IsPlainBehind show (log_at stage) behind) nothing_reached lines text
 
--- so it is for all lines that are acted on, where the trace can end there
+-- so it is for all lines that are acted on, within each limit, where the trace can end there
 abbrev pub AllTracesArePlain : Type 0
 AllTracesArePlain =
-    (show : Show) (lines : List (List ℕ)) (stage : Stage) (text behind : List ℕ)
-    → Runs Start lines stage text → CanOpen stage → IsBehind show stage behind
+    (limit : CallLimit) (show : Show) (lines : List (List ℕ)) (stage : Stage)
+    (text behind : List ℕ) → Runs (Start limit) lines stage text → CanOpen stage → IsBehind show stage behind
     → GivesPlainText show lines stage text behind

@@ -7,6 +7,8 @@ use Rattle.vm_base.specs.Plain.{Plain}
 use Rattle.map_list.specs.declared.lines.MapLine.{MapLine}
 use Rattle.map_list.specs.Lines.{ListsLines, plain_metas}
 use Rattle.core_steps.specs.MapLines.{HasNoMap, IsLineStart, IsNextMap}
+use Rattle.core_steps.specs.declared.setup.CallLimit.{CallLimit}
+use Rattle.core_steps.specs.declared.setup.CallLimit.TheVariants.{Usual}
 use Rattle.machine_sound.specs.Log.{LeadsTo}
 use Rattle.trace_text.specs.Lists.{log_text}
 use Rattle.trace.specs.Listing.{maps_text}
@@ -28,36 +30,42 @@ keeps_log Outcomes = false
 keeps_log OutcomesAndLog = true
 keeps_log Maps = false
 
+-- which limit of calls holds of the one that is asked for: where the log is kept, the usual one
+abbrev pub limit_for : Show → CallLimit → CallLimit
+limit_for Outcomes limit = limit
+limit_for OutcomesAndLog limit = Usual
+limit_for Maps limit = limit
+
 -- the log of the machine; up to the first event it is empty
 abbrev pub log_at : Stage → List Entry
-log_at Start = []
-log_at (Declared a) = []
+log_at (Start limit) = []
+log_at (Declared limit a) = []
 log_at (Running w) = w.calls.log
 
 -- Of the plain page map to which the log leads: these are its mappings from page 1 up to this one,
 -- in order. Up to the first event it has none.
 abbrev pub ListsUpTo : Stage → ℕ → List MapLine → Type 0
-ListsUpTo Start end lines = lines ≡ []
-ListsUpTo (Declared a) end lines = lines ≡ []
+ListsUpTo (Start limit) end lines = lines ≡ []
+ListsUpTo (Declared limit a) end lines = lines ≡ []
 ListsUpTo (Running w) end lines = (t : Plain) → LeadsTo w t → ListsLines (plain_metas t) 1 end lines
 
 -- no mapping goes across the page
 abbrev pub IsStartAt : Stage → ℕ → Type 0
-IsStartAt Start from = Unit {0}
-IsStartAt (Declared a) from = Unit {0}
+IsStartAt (Start limit) from = Unit {0}
+IsStartAt (Declared limit a) from = Unit {0}
 IsStartAt (Running w) from = IsLineStart w from
 
 -- this is the first mapping that begins there or above
 abbrev pub IsNextAt : Stage → ℕ → MapLine → Type 0
-IsNextAt Start from line = ⊥
-IsNextAt (Declared a) from line = ⊥
+IsNextAt (Start limit) from line = ⊥
+IsNextAt (Declared limit a) from line = ⊥
 IsNextAt (Running w) from line =
     IsNextMap w from line × (from < line.range.end) × (line.range.end ≤ 2 ^ 35)
 
 -- there is none
 abbrev pub HasNoneAt : Stage → ℕ → Type 0
-HasNoneAt Start from = Unit {0}
-HasNoneAt (Declared a) from = Unit {0}
+HasNoneAt (Start limit) from = Unit {0}
+HasNoneAt (Declared limit a) from = Unit {0}
 HasNoneAt (Running w) from = HasNoMap w from
 
 -- what comes behind the outcomes, where the trace ends at this stage

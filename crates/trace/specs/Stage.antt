@@ -4,6 +4,7 @@ use Rattle.std.specs.Prelude.{if◌then◌else◌, IsSomeAnd, ⊤}
 use Rattle.radix_range.specs.Tree.{new_tree}
 use Rattle.radix_range.specs.Folds.{CanFold, FoldsNode}
 use Rattle.machine_model.specs.World.{World, new_world}
+use Rattle.core_steps.specs.declared.setup.CallLimit.{CallLimit}
 use Rattle.core_steps.specs.declared.setup.SetupFault.{SetupFault}
 use Rattle.core_steps.specs.declared.setup.SetupFault.TheVariants as Of
 use Rattle.trace_text.specs.Words.{Word, words_of}
@@ -12,20 +13,22 @@ use Rattle.trace_text.specs.declared.line.Line.{Line}
 use Rattle.trace_text.specs.declared.line.Line.TheVariants.{Blank, Space, File, Act, Fold, Finish, Now}
 use Rattle.trace.specs.declared.fault.TraceFault.{TraceFault}
 use Rattle.trace.specs.declared.fault.TraceFault.TheVariants as By
-use Rattle.trace.specs.Declarations.{Asked, asks_for, is_next, with_file, asked_fault, made_by}
+use Rattle.trace.specs.Declarations.{Asked, asks_for, is_next, with_file, made_by}
+use Rattle.trace.specs.Declarations.{asked_fault_within}
 use Rattle.trace.specs.Gives.{Gives, Wants, is_event}
 
--- no line with words yet; the vm line, and the file lines behind it; a machine
+-- No line with words yet; the vm line, and the file lines behind it; a machine. Up to the machine
+-- there is a limit of the calls that may be asked for.
 pub data Stage : Type 0 where
-  Start : Stage
-  Declared : Asked → Stage
+  Start : CallLimit → Stage
+  Declared : CallLimit → Asked → Stage
   Running : World → Stage
 
 -- how far a replay has come, from its parts
-abbrev pub stage_of : Option Asked → Option World → Stage
-stage_of asked (Some w) = Running w
-stage_of (Some a) None = Declared a
-stage_of None None = Start
+abbrev pub stage_of : CallLimit → Option Asked → Option World → Stage
+stage_of limit asked (Some w) = Running w
+stage_of limit (Some a) None = Declared limit a
+stage_of limit None None = Start limit
 
 -- the machine that is asked for, over a new tree of slots
 abbrev pub new_machine : Asked → World
@@ -33,14 +36,14 @@ new_machine a = new_world (made_by a) new_tree
 
 -- the machine that an event's line finds: a new one, if there was none before
 abbrev pub Opens : Stage → World → Type 0
-Opens Start w = ⊥
-Opens (Declared a) w = (asked_fault a ≡ None) × (w ≡ new_machine a)
+Opens (Start limit) w = ⊥
+Opens (Declared limit a) w = (asked_fault_within limit a ≡ None) × (w ≡ new_machine a)
 Opens (Running v) w = w ≡ v
 
 -- a machine can be made, or is there
 abbrev pub CanOpen : Stage → Type 0
-CanOpen Start = ⊥
-CanOpen (Declared a) = asked_fault a ≡ None
+CanOpen (Start limit) = ⊥
+CanOpen (Declared limit a) = asked_fault_within limit a ≡ None
 CanOpen (Running w) = ⊤
 
 -- Why no machine was made of what is asked for: its own first fault, or want of memory, for the
@@ -50,8 +53,8 @@ SetupFails a (Some own) f = f ≡ By.Setup own
 SetupFails a None f = ((a.files ≢ []) × (f ≡ By.NoMemory)) ⊎ (f ≡ By.Setup Of.NoMemory)
 
 abbrev pub OpenFails : Stage → TraceFault → Type 0
-OpenFails Start f = f ≡ By.NoVmLine
-OpenFails (Declared a) f = SetupFails a (asked_fault a) f
+OpenFails (Start limit) f = f ≡ By.NoVmLine
+OpenFails (Declared limit a) f = SetupFails a (asked_fault_within limit a) f
 OpenFails (Running w) f = ⊥
 
 -- the first word of a line is `vm`, it is `file`, or the line is of events
@@ -65,30 +68,30 @@ kind_of words =
     if begins_with_vm words then OfSpace else if begins_with_file words then OfFile else OfEvents
 
 -- The setup's fault comes before that of a line at which a machine is to be made.
-abbrev pub LateFails : Asked → ℕ → TraceFault → Type 0
-LateFails a number f =
-    SetupFails a (asked_fault a) f ⊎ ((asked_fault a ≡ None) × (f ≡ By.BadLine number))
+abbrev pub LateFails : CallLimit → Asked → ℕ → TraceFault → Type 0
+LateFails limit a number f = SetupFails a (asked_fault_within limit a) f
+    ⊎ ((asked_fault_within limit a ≡ None) × (f ≡ By.BadLine number))
 
 -- why a bad line isn't acted on: at the line of a file no machine is made
 abbrev pub BadFails : Stage → ℕ → Kind → TraceFault → Type 0
-BadFails Start number OfSpace f = f ≡ By.BadLine number
-BadFails Start number OfFile f = f ≡ By.NoVmLine
-BadFails Start number OfEvents f = f ≡ By.NoVmLine
-BadFails (Declared a) number OfSpace f = LateFails a number f
-BadFails (Declared a) number OfFile f = f ≡ By.BadLine number
-BadFails (Declared a) number OfEvents f = LateFails a number f
+BadFails (Start limit) number OfSpace f = f ≡ By.BadLine number
+BadFails (Start limit) number OfFile f = f ≡ By.NoVmLine
+BadFails (Start limit) number OfEvents f = f ≡ By.NoVmLine
+BadFails (Declared limit a) number OfSpace f = LateFails limit a number f
+BadFails (Declared limit a) number OfFile f = f ≡ By.BadLine number
+BadFails (Declared limit a) number OfEvents f = LateFails limit a number f
 BadFails (Running w) number kind f = f ≡ By.BadLine number
 
 -- the vm line is bad where it isn't the first line with words
 abbrev pub SpaceFails : Stage → ℕ → TraceFault → Type 0
-SpaceFails Start number f = ⊥
-SpaceFails (Declared a) number f = LateFails a number f
+SpaceFails (Start limit) number f = ⊥
+SpaceFails (Declared limit a) number f = LateFails limit a number f
 SpaceFails (Running w) number f = f ≡ By.BadLine number
 
 -- the line of a file is bad where another number comes next, or a machine is there
 abbrev pub FileFails : Stage → ℕ → ℕ → TraceFault → Type 0
-FileFails Start number n f = f ≡ By.NoVmLine
-FileFails (Declared a) number n f = (is_next a n ≡ false) × (f ≡ By.BadLine number)
+FileFails (Start limit) number n f = f ≡ By.NoVmLine
+FileFails (Declared limit a) number n f = (is_next a n ≡ false) × (f ≡ By.BadLine number)
 FileFails (Running w) number n f = f ≡ By.BadLine number
 
 -- why a line of printable bytes that says this isn't acted on
@@ -127,10 +130,12 @@ EventActs old line new text =
 
 abbrev pub LineActs : Stage → Line → Stage → List ℕ → Type 0
 LineActs old Blank new text = (new ≡ old) × (text ≡ [])
-LineActs old (Space cores frames calls) new text =
-    (old ≡ Start) × (new ≡ Declared (asks_for cores frames calls)) × (text ≡ [])
-LineActs old (File n mode len seed) new text = (a : Asked) × (old ≡ Declared a) × (is_next a n ≡ true)
-    × (new ≡ Declared (with_file a (record { mode = mode; len = len; seed = seed }))) × (text ≡ [])
+LineActs old (Space cores frames calls) new text = (limit : CallLimit) × (old ≡ Start limit)
+    × (new ≡ Declared limit (asks_for cores frames calls)) × (text ≡ [])
+LineActs old (File n mode len seed) new text =
+    (limit : CallLimit) × (a : Asked) × (old ≡ Declared limit a) × (is_next a n ≡ true)
+    × (new ≡ Declared limit (with_file a (record { mode = mode; len = len; seed = seed })))
+    × (text ≡ [])
 LineActs old (Act core action) new text = EventActs old (Act core action) new text
 LineActs old (Fold page) new text = EventActs old (Fold page) new text
 LineActs old (Finish core) new text = EventActs old (Finish core) new text

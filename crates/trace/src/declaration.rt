@@ -5,7 +5,7 @@ ghost use Rattle.trace.specs.Declarations.{bytes_of, file_at, has_long};
 
 use arrayvec::ArrayVec;
 use backing::FileSpec;
-use core_steps::{Setup, SetupFault, first_fault};
+use core_steps::{CallLimit, Setup, SetupFault, first_fault_within};
 use std::alloc::{AllocError, Allocator};
 use std::marker::Model;
 use vm_base::Mode;
@@ -115,8 +115,10 @@ fn specs_of<A: Allocator + Clone>(
 
 impl Declaration {
     ghost use Rattle.std.specs.Prelude.{◌≡◌, ◌≢◌, [], true, false, None, IfOk, IfErr};
-    ghost use Rattle.core_steps.specs.Setups.{fault_of, made_of};
-    ghost use Rattle.trace.specs.Declarations.{asks_for, is_next, with_file, asked_fault, made_by};
+    ghost use Rattle.core_steps.specs.Setups.{fault_of, fault_within, made_of};
+    ghost use Rattle.core_steps.specs.declared.setup.CallLimit.{CallLimit};
+    ghost use Rattle.trace.specs.Declarations.{asks_for, has_long, is_next, with_file, made_by};
+    ghost use Rattle.trace.specs.Declarations.{asked_fault, asked_fault_within};
 
     /// What a `vm` line asks for. No file is asked for yet.
     pub fn new(cores: u64, frames: u64, calls: u64) -> Declaration
@@ -179,12 +181,20 @@ impl Declaration {
         true
     }
 
-    /// The first fault of what is asked for, but for want of memory.
+    /// The first fault of what is asked for, but for want of memory. At most 1,048,576 calls may be.
     pub fn fault(&self) -> Option<SetupFault>
         ensures { result ≡ asked_fault self.now }
     {
+        self.fault_within(CallLimit::Usual)
+    }
+
+    /// The first fault of what is asked for, but for want of memory, where this limit of calls holds.
+    pub fn fault_within(&self, limit: CallLimit) -> Option<SetupFault>
+        ensures { result ≡ asked_fault_within limit self.now }
+    {
         let files = self.files.len() as u64;
-        first_fault(
+        first_fault_within(
+            limit,
             self.cores,
             self.frames,
             files,
@@ -199,6 +209,18 @@ impl Declaration {
         requires { asked_fault self.now ≡ None }
         ensures asked { IfErr result (λ refused. self.now.files ≢ []) }
         ensures sound { IfOk result (λ setup. fault_of setup ≡ None) }
+        ensures made { IfOk result (λ setup. made_of setup ≡ made_by self.now) }
+    {
+        let setup = self.setup_as_asked(alloc)?;
+        Ok(setup)
+    }
+
+    /// As `setup`, where no file is too long: the setup has the faults of what is asked for.
+    pub fn setup_as_asked<A: Allocator + Clone>(&self, alloc: A) -> Result<Setup<A>, AllocError>
+        requires { has_long self.now.files ≡ false }
+        ensures asked { IfErr result (λ refused. self.now.files ≢ []) }
+        ensures faults { IfOk result (λ setup. (limit : CallLimit)
+            → fault_within limit setup ≡ asked_fault_within limit self.now) }
         ensures made { IfOk result (λ setup. made_of setup ≡ made_by self.now) }
     {
         let files = specs_of(alloc, self.files.as_slice())?;

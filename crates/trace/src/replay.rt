@@ -7,12 +7,15 @@ ghost use Rattle.trace.specs.declared.shown.Show.TheVariants.{OutcomesAndLog};
 ghost use Rattle.trace.specs.Turns.{Turns, Scene};
 ghost use Rattle.trace.specs.Stage.{Start};
 ghost use Rattle.trace.specs.Ends.{Ends, TellsFaults};
-ghost use Rattle.trace.specs.Shown.{Closes, CloseFails, keeps_log};
+ghost use Rattle.trace.specs.Shown.{Closes, CloseFails, keeps_log, limit_for};
+ghost use Rattle.core_steps.specs.Setups.{Fits};
+ghost use Rattle.core_steps.specs.declared.setup.CallLimit.{CallLimit};
+ghost use Rattle.core_steps.specs.declared.setup.CallLimit.TheVariants.{Usual};
 
 use crate::fault::TraceFault;
 use crate::replayer::{Replayer, Staged};
 use crate::shown::{Show, write_log, write_maps, write_told};
-use core_steps::{Forgotten, Kept, Opening};
+use core_steps::{CallLimit, Forgotten, Kept, Opening};
 use std::alloc::Allocator;
 use trace_io::lines::{Found, LineReader, NoLine};
 use trace_io::sink::Sink;
@@ -111,10 +114,10 @@ fn replay_lines<A: Allocator, S: Source, W: Sink, R: Staged>(
     text: &mut LineText,
 ) -> Result<(), TraceFault>
     requires fresh { lines.old ≡ opening }
-    requires start { R.stage replayer.old ≡ Start }
     requires keeps { R.keeps ≡ keeps_log show }
-    ensures ends { Reads (S.stream reader.old) (S.stream reader.new) (λ input unread.
-        Ends show input unread (W.contents writer.old) (W.contents writer.new) result) }
+    ensures ends { (limit : CallLimit) → R.stage replayer.old ≡ Start limit
+        → Reads (S.stream reader.old) (S.stream reader.new) (λ input unread.
+        Ends limit show input unread (W.contents writer.old) (W.contents writer.new) result) }
     ensures read { result ≡ Err ReadFailed → HasStopped (S.failed reader.new) (S.reads reader.new) }
     ensures write { result ≡ Err WriteFailed → W.failed writer.new ≡ true }
     ensures kept { (result ≡ Err WriteFailed) ⊎ (W.failed writer.new ≡ W.failed writer.old) }
@@ -136,39 +139,50 @@ fn replay_over<L: Opening<A> + Drop, A: Allocator + Clone + Drop, S: Source, W: 
     reader: &mut S,
     writer: &mut W,
     show: Show,
+    limit: CallLimit,
 ) -> Result<(), TraceFault>
     requires fresh { lines.old ≡ opening }
     requires keeps { L.keeps ≡ keeps_log show }
+    requires fits { Fits L.keeps limit }
     ensures ends { Reads (S.stream reader.old) (S.stream reader.new) (λ input unread.
-        Ends show input unread (W.contents writer.old) (W.contents writer.new) result) }
+        Ends limit show input unread (W.contents writer.old) (W.contents writer.new) result) }
     ensures read { result ≡ Err ReadFailed → HasStopped (S.failed reader.new) (S.reads reader.new) }
     ensures write { result ≡ Err WriteFailed → W.failed writer.new ≡ true }
     ensures kept { (result ≡ Err WriteFailed) ⊎ (W.failed writer.new ≡ W.failed writer.old) }
 {
-    let mut replayer = Replayer::<A, L>::new(alloc);
+    let mut replayer = Replayer::<A, L>::within(limit, alloc);
     let mut text = LineText::new();
     replay_lines(lines, reader, writer, &mut replayer, show, &mut text)
 }
 
-// Acts on all lines. The log is kept only where it is to be shown.
+// Acts on all lines. The log is kept only where it is to be shown, and then the usual limit of calls
+// holds.
 fn replay_text<A: Allocator + Clone + Drop, S: Source, W: Sink>(
     alloc: A,
     lines: &mut LineReader<A>,
     reader: &mut S,
     writer: &mut W,
     show: Show,
+    limit: CallLimit,
 ) -> Result<(), TraceFault>
     requires fresh { lines.old ≡ opening }
     ensures ends { Reads (S.stream reader.old) (S.stream reader.new) (λ input unread.
-        Ends show input unread (W.contents writer.old) (W.contents writer.new) result) }
+        Ends (limit_for show limit) show input unread (W.contents writer.old) (W.contents writer.new) result) }
     ensures read { result ≡ Err ReadFailed → HasStopped (S.failed reader.new) (S.reads reader.new) }
     ensures write { result ≡ Err WriteFailed → W.failed writer.new ≡ true }
     ensures kept { (result ≡ Err WriteFailed) ⊎ (W.failed writer.new ≡ W.failed writer.old) }
 {
     match show {
-        Show::OutcomesAndLog => replay_over::<Kept<A>, A, S, W>(alloc, lines, reader, writer, show),
+        Show::OutcomesAndLog => replay_over::<Kept<A>, A, S, W>(
+            alloc,
+            lines,
+            reader,
+            writer,
+            show,
+            CallLimit::Usual,
+        ),
         Show::Outcomes | Show::Maps => replay_over::<Forgotten, A, S, W>(
-            alloc, lines, reader, writer, show,
+            alloc, lines, reader, writer, show, limit,
         ),
     }
 }
@@ -187,9 +201,10 @@ fn replay_read<A: Allocator + Clone + Drop, S: Source, W: Sink>(
     reader: &mut S,
     writer: &mut W,
     show: Show,
+    limit: CallLimit,
 ) -> Replayed<A>
     ensures ends { Reads (S.stream reader.old) (S.stream reader.new) (λ input unread.
-        Ends show input unread (W.contents writer.old) (W.contents writer.new) result.ended) }
+        Ends (limit_for show limit) show input unread (W.contents writer.old) (W.contents writer.new) result.ended) }
     ensures read { result.ended ≡ Err ReadFailed → HasStopped (S.failed reader.new) (S.reads reader.new) }
     ensures write { result.ended ≡ Err WriteFailed → W.failed writer.new ≡ true }
     ensures kept { (result.ended ≡ Err WriteFailed) ⊎ (W.failed writer.new ≡ W.failed writer.old) }
@@ -206,26 +221,28 @@ fn replay_read<A: Allocator + Clone + Drop, S: Source, W: Sink>(
             lines: None,
         };
     };
-    let ended = replay_text(alloc, &mut lines, reader, writer, show);
+    let ended = replay_text(alloc, &mut lines, reader, writer, show, limit);
     Replayed {
         ended,
         lines: Some(lines),
     }
 }
 
-/// As `replay`, and hands out the lines that were read, of which the last tells more of a fault.
+/// As `replay`, of a trace that may ask for as many calls as this limit says; where the log is shown,
+/// the usual one holds. Hands out the lines that were read, of which the last tells more of a fault.
 pub fn replay_telling<A: Allocator + Clone + Drop, S: Source, W: Sink>(
     alloc: A,
     reader: &mut S,
     writer: &mut W,
     show: Show,
+    limit: CallLimit,
 ) -> Replayed<A>
     ensures ends { Reads (S.stream reader.old) (S.stream reader.new) (λ input unread.
-        Ends show input unread (W.contents writer.old) (W.contents writer.new) result.ended) }
+        Ends (limit_for show limit) show input unread (W.contents writer.old) (W.contents writer.new) result.ended) }
     ensures told { TellsFaults result.ended (S.failed reader.new) (S.reads reader.new)
         (W.failed writer.old) (W.failed writer.new) (W.is_flushed writer.new) }
 {
-    let replayed = replay_read(alloc, reader, writer, show);
+    let replayed = replay_read(alloc, reader, writer, show, limit);
     match writer.flush() {
         Ok(()) => replayed,
         Err(_) => Replayed {
@@ -252,9 +269,9 @@ pub fn replay<A: Allocator + Clone + Drop, S: Source, W: Sink>(
     // What was written, that it is the plain page map's, and which fault it is, by the bytes that
     // the reader gave: a text that begins with them, whatever comes after them.
     ensures ends { Reads (S.stream reader.old) (S.stream reader.new) (λ input unread.
-        Ends show input unread (W.contents writer.old) (W.contents writer.new) result) }
+        Ends Usual show input unread (W.contents writer.old) (W.contents writer.new) result) }
     ensures told { TellsFaults result (S.failed reader.new) (S.reads reader.new)
         (W.failed writer.old) (W.failed writer.new) (W.is_flushed writer.new) }
 {
-    replay_telling(alloc, reader, writer, show).ended
+    replay_telling(alloc, reader, writer, show, CallLimit::Usual).ended
 }

@@ -1,7 +1,9 @@
 //! A replay between two lines, and what one line does to it.
 ghost use Rattle.std.specs.Prelude.{◌≡◌, ◌≤◌, ◌⊎◌, [], Bool, false, option_map, None, IfOk};
+ghost use Rattle.core_steps.specs.Setups.{Fits};
 ghost use Rattle.std.specs.Prelude.{IfErr, IfNone, IfSome, OnOk, IsSomeAnd};
 ghost use Rattle.core_steps.specs.Machine.{state};
+ghost use Rattle.core_steps.specs.declared.setup.CallLimit.TheVariants.{Usual};
 ghost use Rattle.trace_text.specs.Words.{words_of};
 ghost use Rattle.trace.specs.Stage.{Stage, Start, Declared, stage_of, Opens, OpenFails, CanOpen, Acts};
 ghost use Rattle.trace.specs.Stage.{BadFails, EventActs, EventFails, EventWants, FileFails, LateFails};
@@ -11,7 +13,7 @@ ghost use Rattle.trace.specs.Shown.{HasNoneAt, IsNextAt, IsStartAt, log_at};
 use crate::declaration::{Declaration, FileLine};
 use crate::event_lines::run_line;
 use crate::fault::TraceFault;
-use core_steps::{Ledger, Machine, Opening, SetupFault};
+use core_steps::{CallLimit, Ledger, Machine, Opening, SetupFault};
 use map_list::MapLine;
 use mmu::{Cpu, Hardware};
 use radix_range::RadixMap;
@@ -65,29 +67,34 @@ where
     Cpu<A>: Hardware,
 {
     alloc: A,
+    /// How many calls the `vm` line may ask for.
+    limit: CallLimit,
     declaration: Option<Declaration>,
     machine: Option<Machine<RadixMap<A>, A, L>>,
+    ghost fits: { Fits L.keeps limit },
 }
 
-// The machine that is asked for. Its own faults come before want of memory for the bytes
-// of files, and that before want of memory for the machine.
+// The machine that is asked for, within the limit of calls. Its own faults come before want of
+// memory for the bytes of files, and that before want of memory for the machine.
 fn made<A: Allocator + Clone + Drop, L: Opening<A> + Drop>(
     alloc: &A,
+    limit: CallLimit,
     declaration: &Option<Declaration>,
 ) -> Result<Machine<RadixMap<A>, A, L>, TraceFault>
-    ensures ok { IfOk result (λ m. Opens (stage_of declaration.now None) (state m)) }
-    ensures err { IfErr result (λ f. OpenFails (stage_of declaration.now None) f) }
+    requires { Fits L.keeps limit }
+    ensures ok { IfOk result (λ m. Opens (stage_of limit declaration.now None) (state m)) }
+    ensures err { IfErr result (λ f. OpenFails (stage_of limit declaration.now None) f) }
 {
     let Some(declaration) = declaration else {
         return Err(TraceFault::NoVmLine);
     };
-    if let Some(fault) = declaration.fault() {
+    if let Some(fault) = declaration.fault_within(limit) {
         return Err(TraceFault::Setup(fault));
     }
     let Ok(for_files) = alloc.clone() else {
         return Err(TraceFault::Setup(SetupFault::NoMemory));
     };
-    let Ok(setup) = declaration.setup(for_files) else {
+    let Ok(setup) = declaration.setup_as_asked(for_files) else {
         return Err(TraceFault::NoMemory);
     };
     let Ok(for_map) = alloc.clone() else {
@@ -99,7 +106,7 @@ fn made<A: Allocator + Clone + Drop, L: Opening<A> + Drop>(
     let Ok(for_machine) = alloc.clone() else {
         return Err(TraceFault::Setup(SetupFault::NoMemory));
     };
-    match Machine::new(for_machine, map, setup) {
+    match Machine::new_within(limit, for_machine, map, setup) {
         Ok(machine) => Ok(machine),
         Err(fault) => Err(TraceFault::Setup(fault)),
     }
@@ -110,12 +117,14 @@ fn made<A: Allocator + Clone + Drop, L: Opening<A> + Drop>(
 #[tactic(auto, using(crate::proofs::Acting::late_err, crate::proofs::Acting::late_ok))]
 fn late_fault<A: Allocator + Clone + Drop, L: Opening<A> + Drop>(
     alloc: &A,
+    limit: CallLimit,
     declaration: &Option<Declaration>,
     number: u64,
 ) -> TraceFault
-    ensures { IfSome declaration.now (λ a. LateFails a number result) }
+    requires { Fits L.keeps limit }
+    ensures { IfSome declaration.now (λ a. LateFails limit a number result) }
 {
-    match made::<A, L>(alloc, declaration) {
+    match made::<A, L>(alloc, limit, declaration) {
         Ok(_) => TraceFault::BadLine(number),
         Err(fault) => fault,
     }
@@ -124,10 +133,19 @@ fn late_fault<A: Allocator + Clone + Drop, L: Opening<A> + Drop>(
 impl<A: Allocator + Clone + Drop, L: Opening<A> + Drop> Replayer<A, L> {
     /// A replay before the first line.
     pub fn new(alloc: A) -> Replayer<A, L>
-        ensures { ⟦<Self as Staged>⟧.stage result ≡ Start }
+        ensures { ⟦<Self as Staged>⟧.stage result ≡ Start Usual }
+    {
+        Replayer::within(CallLimit::Usual, alloc)
+    }
+
+    /// A replay before the first line, of a trace that may ask for as many calls as this limit says.
+    pub fn within(limit: CallLimit, alloc: A) -> Replayer<A, L>
+        requires { Fits L.keeps limit }
+        ensures { ⟦<Self as Staged>⟧.stage result ≡ Start limit }
     {
         Replayer {
             alloc,
+            limit,
             declaration: None,
             machine: None,
         }
@@ -151,7 +169,7 @@ impl<A: Allocator + Clone + Drop, L: Opening<A> + Drop> Replayer<A, L> {
             return Err(TraceFault::BadLine(number));
         }
         if self.declaration.is_some() {
-            return Err(late_fault::<A, L>(&self.alloc, &self.declaration, number));
+            return Err(late_fault::<A, L>(&self.alloc, self.limit, &self.declaration, number));
         }
         self.declaration = Some(Declaration::new(cores, frames, calls));
         text.clear();
@@ -175,7 +193,7 @@ impl<A: Allocator + Clone + Drop, L: Opening<A> + Drop> Replayer<A, L> {
         if first_word_is_file(line) {
             return TraceFault::BadLine(number);
         }
-        late_fault::<A, L>(&self.alloc, &self.declaration, number)
+        late_fault::<A, L>(&self.alloc, self.limit, &self.declaration, number)
     }
 
     // Takes in the line of a file.
@@ -222,7 +240,7 @@ impl<A: Allocator + Clone + Drop, L: Opening<A> + Drop> Replayer<A, L> {
             × IsSomeAnd line (λ l. EventWants L.keeps (⟦<Self as Staged>⟧.stage self.old) l))
             ⊎ EventFails (⟦<Self as Staged>⟧.stage self.old) number line f) }
     {
-        let mut machine = match made(&self.alloc, &self.declaration) {
+        let mut machine = match made(&self.alloc, self.limit, &self.declaration) {
             Ok(machine) => machine,
             Err(fault) => return Err(fault),
         };
@@ -254,7 +272,7 @@ impl<A: Allocator + Clone + Drop, L: Opening<A> + Drop> Replayer<A, L> {
 }
 
 impl<A: Allocator + Clone + Drop, L: Opening<A> + Drop> Staged for Replayer<A, L> {
-    ghost stage = { λ r. stage_of r.declaration (option_map state r.machine) };
+    ghost stage = { λ r. stage_of r.limit r.declaration (option_map state r.machine) };
 
     ghost keeps = { L.keeps };
 
@@ -292,7 +310,7 @@ impl<A: Allocator + Clone + Drop, L: Opening<A> + Drop> Staged for Replayer<A, L
     fn finish(&self) -> Result<(), TraceFault> {
         match &self.machine {
             Some(_) => Ok(()),
-            None => match made::<A, L>(&self.alloc, &self.declaration) {
+            None => match made::<A, L>(&self.alloc, self.limit, &self.declaration) {
                 Ok(_) => Ok(()),
                 Err(fault) => Err(fault),
             },

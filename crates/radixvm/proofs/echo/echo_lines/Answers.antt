@@ -9,7 +9,7 @@ pub lines-init : goal.lines-init
 lines-init g c = record {
   budget = rw c.requires.fresh (omega arith);
   kept = refl;
-  ran = reads_none _ _ (λ xs. echoed_none xs _ _ (ap (left xs) c.requires.fresh) c.requires.start refl);
+  ran = λ limit start. reads_none _ _ (λ xs. echoed_none limit xs _ _ (ap (left xs) c.requires.fresh) start refl);
 }
 
 pub lines-preserved : goal.lines-preserved
@@ -20,13 +20,13 @@ lines-preserved g c =
     record {
       budget = omega (arith, less, c.lines.invariant.budget);
       kept = kept;
-      ran = reads_then _ _ _ _ _ _ c.lines.invariant.ran turns (λ xs ys zs k h a. echoed_more xs _ _ _ _ h a);
+      ran = λ limit start. reads_then _ _ _ _ _ _ (c.lines.invariant.ran limit start) turns (λ xs ys zs k h a. echoed_more limit xs _ _ _ _ h a);
     }
 
 pub returns-in-Ok-false-clause-ends : goal.returns-in-Ok-false-clause-ends
 returns-in-Ok-false-clause-ends g c =
     let turns = rw c.in-Ok-false.field-0-test at c.in-Ok-false.ensures.turns in
-    reads_then _ _ _ _ _ _ c.lines.invariant.ran turns (λ xs ys zs k h a. echoed_ends xs _ _ _ _ _ h a c.finish.ensures.ok c.finish.ensures.err)
+    λ limit start. reads_then _ _ _ _ _ _ (c.lines.invariant.ran limit start) turns (λ xs ys zs k h a. echoed_ends limit xs _ _ _ _ _ h a c.finish.ensures.ok c.finish.ensures.err)
 
 pub returns-in-Ok-false-clause-read : goal.returns-in-Ok-false-clause-read
 returns-in-Ok-false-clause-read g c e =
@@ -42,8 +42,8 @@ pub returns-in-Ok-false-clause-kept : goal.returns-in-Ok-false-clause-kept
 returns-in-Ok-false-clause-kept g c = inr (mark_kept _ _ _ _ refl c.in-Ok-false.ensures.kept ∙ c.lines.invariant.kept)
 
 pub returns-in-Err-clause-ends : goal.returns-in-Err-clause-ends
-returns-in-Err-clause-ends g c =
-    reads_then _ _ _ _ _ _ c.lines.invariant.ran c.in-Err.ensures.turns (λ xs ys zs k h a. echoed_fails xs _ _ _ _ _ h a)
+returns-in-Err-clause-ends g c = λ limit start.
+    reads_then _ _ _ _ _ _ (c.lines.invariant.ran limit start) c.in-Err.ensures.turns (λ xs ys zs k h a. echoed_fails limit xs _ _ _ _ _ h a)
 
 pub returns-in-Err-clause-kept : goal.returns-in-Err-clause-kept
 returns-in-Err-clause-kept g c = fault_kept _ _ _ _ _ _ refl refl c.in-Err.ensures.kept c.lines.invariant.kept

@@ -1,6 +1,8 @@
 use Rattle.std.proofs.Common.{◌≡◌, ◌+◌, ◌*◌, ◌^◌, ◌≤◌}
 use Rattle.trace_io.specs.Source.{Reads}
 use Rattle.trace_io.specs.Window.{left, budget}
+use Rattle.core_steps.specs.declared.setup.CallLimit.{CallLimit}
+use Rattle.trace.specs.Stage.{Start}
 use Rattle.radixvm.proofs.EchoLemmas.{HasEchoed}
 use Rattle.radixvm.proofs.echo.echo_lines.Given as goal
 
@@ -9,7 +11,8 @@ abbrev pub invariant-lines : goal.invariant-lines
 invariant-lines g l = record {
   budget : l.number + budget (g.S.Source.reads l.reader) l.lines ≤ 65536 * 2 ^ 32;
   kept : g.W.Sink.failed l.writer ≡ g.W.Sink.failed l.initial.writer;
-  ran : Reads (g.S.Source.stream l.initial.reader) (g.S.Source.stream l.reader) (λ input unread. HasEchoed input (g.W.Sink.contents l.initial.writer)
+  ran : (limit : CallLimit) → g.R.Staged.stage l.initial.replayer ≡ Start limit → Reads (g.S.Source.stream l.initial.reader) (g.S.Source.stream l.reader)
+      (λ input unread. HasEchoed limit input (g.W.Sink.contents l.initial.writer)
       (record {
         left = left unread l.lines;
         unread = unread;

@@ -9,7 +9,7 @@ pub lines-init : goal.lines-init
 lines-init g c = record {
   budget = rw c.requires.fresh (omega arith);
   kept = refl;
-  ran = reads_none _ _ (λ xs. run_none _ xs _ _ (ap (left xs) c.requires.fresh) c.requires.start refl);
+  ran = λ limit start. reads_none _ _ (λ xs. run_none limit _ xs _ _ (ap (left xs) c.requires.fresh) start refl);
 }
 
 pub lines-preserved : goal.lines-preserved
@@ -20,7 +20,7 @@ lines-preserved g c =
     record {
       budget = omega (arith, less, c.lines.invariant.budget);
       kept = kept;
-      ran = reads_then _ _ _ _ _ _ c.lines.invariant.ran turns (λ xs ys zs k h a. run_more _ xs _ _ _ _ h a);
+      ran = λ limit start. reads_then _ _ _ _ _ _ (c.lines.invariant.ran limit start) turns (λ xs ys zs k h a. run_more limit _ xs _ _ _ _ h a);
     }
 
 pub close-requires : goal.close-requires
@@ -29,11 +29,11 @@ close-requires g c e = c.requires.keeps ∙ ap keeps_log e
 pub returns-in-Ok-false-clause-ends : goal.returns-in-Ok-false-clause-ends
 returns-in-Ok-false-clause-ends g c =
     let turns = rw c.in-Ok-false.field-0-test at c.in-Ok-false.ensures.turns in
-    reads_then _ _ _ _ _ _ c.lines.invariant.ran turns (λ xs ys zs k h a. run_ends _ xs _ _ _ _ _ _ h a c.close.ensures.ok c.close.ensures.err)
+    λ limit start. reads_then _ _ _ _ _ _ (c.lines.invariant.ran limit start) turns (λ xs ys zs k h a. run_ends limit _ xs _ _ _ _ _ _ h a c.close.ensures.ok c.close.ensures.err)
 
 pub returns-in-Err-clause-ends : goal.returns-in-Err-clause-ends
-returns-in-Err-clause-ends g c =
-    reads_then _ _ _ _ _ _ c.lines.invariant.ran c.in-Err.ensures.turns (λ xs ys zs k h a. run_fails _ xs _ _ _ _ _ h a)
+returns-in-Err-clause-ends g c = λ limit start.
+    reads_then _ _ _ _ _ _ (c.lines.invariant.ran limit start) c.in-Err.ensures.turns (λ xs ys zs k h a. run_fails limit _ xs _ _ _ _ _ h a)
 
 pub returns-in-Ok-false-clause-kept : goal.returns-in-Ok-false-clause-kept
 returns-in-Ok-false-clause-kept g c =

@@ -3,8 +3,8 @@ use Rattle.trace.proofs.RunLemmas.{ends_kept, ends_lost, stops_kept}
 use Rattle.trace.proofs.replay.replay_telling.Goals as goal
 
 pub returns-in-Ok-clause-ends : goal.returns-in-Ok-clause-ends
-returns-in-Ok-clause-ends g c = reads_map _ _ _ _ c.replay_read-replayed.ensures.ends (λ xs ys k h. ends_kept _ xs ys _ _ _ _ h c.flush.ensures.bytes)
+returns-in-Ok-clause-ends g c = reads_map _ _ _ _ c.replay_read-replayed.ensures.ends (λ xs ys k h. ends_kept _ _ xs ys _ _ _ _ h c.flush.ensures.bytes)
 
 pub returns-in-Err-clause-ends : goal.returns-in-Err-clause-ends
 returns-in-Err-clause-ends g c =
-    reads_map _ _ _ _ c.replay_read-replayed.ensures.ends (λ xs ys k h. stops_kept _ xs ys _ _ _ _ (ends_lost _ xs ys _ _ _ h) c.flush.ensures.bytes)
+    reads_map _ _ _ _ c.replay_read-replayed.ensures.ends (λ xs ys k h. stops_kept _ _ xs ys _ _ _ _ (ends_lost _ _ xs ys _ _ _ h) c.flush.ensures.bytes)

@@ -1,9 +1,5 @@
-use Rattle.std.proofs.Common.{◌≡◌, None, rules}
-use Rattle.core_steps.specs.Setups.{fault_of}
-use Rattle.core_steps.proofs.Reached.{new_reached}
+use Rattle.core_steps.proofs.Setups.{fits_usual}
 use Rattle.core_steps.proofs.machine.Machine.new.Goals as goal
 
-pub invariant_of-result : goal.invariant_of-result
-invariant_of-result g c =
-    let none : fault_of c.args.setup ≡ None = search rules in
-    record { reached = new_reached _ c.args.setup _ none c.requires c.in-Ok.ensures }
+pub new_within-requires-clause-fits : goal.new_within-requires-clause-fits
+new_within-requires-clause-fits g c = fits_usual g.L.Ledger.keeps

@@ -7,6 +7,6 @@ use Rattle.trace.proofs.replayer.ReplayerStaged.next_map_line.Goals as goal
 
 pub returns-in-Some-clause-some : goal.returns-in-Some-clause-some
 returns-in-Some-clause-some g c =
-    subst (λ m. IfSome c.next_map_line.result (IsNextAt (stage_of c.args.self.now.declaration (option_map state m)) c.args.from))
+    subst (λ m. IfSome c.next_map_line.result (IsNextAt (stage_of c.args.self.now.limit c.args.self.now.declaration (option_map state m)) c.args.from))
     (sym c.in-Some.is)
     (next_at _ c.next_map_line.ensures.legal c.args.from c.next_map_line.result c.next_map_line.ensures.some)
