@@ -58,7 +58,8 @@ echoed_none limit input old now e s w = record {
   count = refl;
 }
 
-pub echoed_more : (limit : CallLimit) (input : List ℕ) (old : Option (List ℕ)) (now next : Scene) (number : ℕ) → HasEchoed limit input old now number → ShowsLine now next
+pub echoed_more : (limit : CallLimit) (input : List ℕ) (old : Option (List ℕ)) (now next : Scene) (number : ℕ) → HasEchoed limit input old now number
+    → ShowsLine now next
     → HasEchoed limit input old next (number + 1)
 echoed_more limit input old now next number h a =
     let ys = next.left in
@@ -75,10 +76,12 @@ echoed_more limit input old now next number h a =
     }
 
 -- what was acted on so far
-front_of : (limit : CallLimit) (input : List ℕ) (old : Option (List ℕ)) (now : Scene) (number : ℕ) → HasEchoed limit input old now number → EchoFront limit input
+front_of : (limit : CallLimit) (input : List ℕ) (old : Option (List ℕ)) (now : Scene) (number : ℕ) → HasEchoed limit input old now number
+    → EchoFront limit input
 front_of limit input old now number h = record { done = h.done; more = lines_of h.rest; stage = now.stage; shown = h.shown; lines = h.lines; echoes = h.echoes }
 
-pub echoed_fails : (limit : CallLimit) (input : List ℕ) (old : Option (List ℕ)) (now next : Scene) (number : ℕ) (f : TraceFault) → HasEchoed limit input old now number
+pub echoed_fails : (limit : CallLimit) (input : List ℕ) (old : Option (List ℕ)) (now next : Scene) (number : ℕ) (f : TraceFault)
+    → HasEchoed limit input old now number
     → Misses now next number f → EchoStops limit input old next.written f
 unfolding front_of
 echoed_fails limit input old now next number f h (unread e k) = reading e (front_of limit input old now number h) (Appends-kept _ _ _ _ h.appends k)
@@ -181,7 +184,8 @@ front_kept : (a b c : Option (List ℕ)) (xs : List ℕ) → AppendsFront a b xs
 front_kept a b c xs p k = (p.0, p.1, Appends-kept a b c (take p.0 xs) p.2 k)
 
 -- a flush keeps what was written
-pub stops_kept : (limit : CallLimit) (input : List ℕ) (a b c : Option (List ℕ)) (f : TraceFault) → EchoStops limit input a b f → Keeps b c → EchoStops limit input a c f
+pub stops_kept : (limit : CallLimit) (input : List ℕ) (a b c : Option (List ℕ)) (f : TraceFault) → EchoStops limit input a b f → Keeps b c
+    → EchoStops limit input a c f
 stops_kept limit input a b c f (reading e p w) k = reading e p (Appends-kept _ _ _ _ w k)
 stops_kept limit input a b c f (unmade e w) k = unmade e (Appends-kept _ _ _ _ w k)
 stops_kept limit input a b c f (wanting e p line others m n w) k = wanting e p line others m n (Appends-kept _ _ _ _ w k)

@@ -103,6 +103,7 @@ pub data EchoStops (limit : CallLimit) (input : List ℕ) (old new : Option (Lis
   writing : f ≡ WriteFailed → (p : EchoFront limit input) → AppendsFront old new p.shown
       → EchoStops limit input old new f
 
-abbrev pub EchoEnds : {T : Type 0} → CallLimit → List ℕ → Option (List ℕ) → Option (List ℕ) → Result T TraceFault → Type 0
+abbrev pub EchoEnds : {T : Type 0} → CallLimit → List ℕ → Option (List ℕ) → Option (List ℕ) → Result T TraceFault
+    → Type 0
 EchoEnds limit input old new (Ok x) = EchoesAll limit input old new
 EchoEnds limit input old new (Err f) = EchoStops limit input old new f

@@ -87,7 +87,7 @@ fn reading<'a>(
         .arg(Arg::new(alloc, "FILE"))
 }
 
-const RUN_USAGE: &str = "radixvm run [--log | --echo] [--long] [--explain] [FILE]";
+const RUN_USAGE: &str = "radixvm run [--log | [--echo] [--long]] [--explain] [FILE]";
 
 const MAPS_USAGE: &str = "radixvm maps [--long] [--explain] [FILE]";
 
@@ -317,7 +317,8 @@ fn act<T: Threads + Wait + Sync, R: Runner<Global>, S: Source, W: Sink, E: Write
     ensures ran { IfOk parsed.entry (λ task. (shows : Shows) → task.work ≡ Work.Replay shows
         → (r : Result Unit TraceFault) × (result ≡ status_of r)
         × Reads (S.stream reader.old) (S.stream reader.new)
-        (λ input unread. Ends (limit_for shows.show shows.limit) shows.show input unread (W.contents out.old) (W.contents out.new) r)
+        (λ input unread. Ends (limit_for shows.show shows.limit) shows.show input unread
+        (W.contents out.old) (W.contents out.new) r)
         × TellsFaults r (S.failed reader.new) (S.reads reader.new)
         (W.failed out.old) (W.failed out.new) (W.is_flushed out.new)) }
     ensures echoed { IfOk parsed.entry (λ task. (limit : CallLimit) (explains : Bool)

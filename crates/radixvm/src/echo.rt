@@ -173,9 +173,9 @@ fn echo_read<A: Allocator + Clone + Drop, S: Source, W: Sink>(
     }
 }
 
-/// Replays a trace that may ask for as many calls as this limit says, as `trace::replay` does, and writes each line of an event with its outcome
-/// behind ` = `, and each `vm` or `file` line as it is. Hands out the lines that were read, of
-/// which the last tells more of a fault.
+/// Replays a trace that may ask for as many calls as this limit says, as `trace::replay` does, and
+/// writes each line of an event with its outcome behind ` = `, and each `vm` or `file` line as it
+/// is. Hands out the lines that were read, of which the last tells more of a fault.
 pub fn replay_echoing<A: Allocator + Clone + Drop, S: Source, W: Sink>(
     alloc: A,
     reader: &mut S,

@@ -321,7 +321,8 @@ fn setup_rule(fault: SetupFault, limit: CallLimit) -> &'static str {
 }
 
 /// Writes what is known of a fault beside its text: the line that was read last, a caret below the
-/// place where it goes wrong, and what was expected, within this limit of calls. Nothing for a read, a write or memory that failed.
+/// place where it goes wrong, and what was expected, of calls within this limit. Nothing for a
+/// read, a write or memory that failed.
 pub fn explain<E: Write>(fault: TraceFault, limit: CallLimit, line: &[u8], errors: &mut E)
     ensures quiet { (fault ≡ Of.ReadFailed) ⊎ (fault ≡ Of.NoMemory) ⊎ (fault ≡ Of.WriteFailed)
         → Keeps (E.contents errors.old) (E.contents errors.new) }

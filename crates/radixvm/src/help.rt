@@ -7,7 +7,7 @@ ghost use Rattle.radixvm.specs.Help.{page_of};
 pub const VERSION: &str = "0.1.0";
 
 /// How the words go together.
-pub const USAGE: &str = "radixvm run [--log | --echo] [--long] [--explain] [FILE]
+pub const USAGE: &str = "radixvm run [--log | [--echo] [--long]] [--explain] [FILE]
        radixvm maps [--long] [--explain] [FILE]
        radixvm certify [FILE]
        radixvm live [--certify] [FILE]
@@ -18,7 +18,7 @@ pub const OVERVIEW: &str = "\
 One virtual address space with mmap, munmap and mprotect, shared by 1 to 64
 modelled cores, and replayed from a text, a trace, step by step.
 
-Usage: radixvm run [--log | --echo] [--long] [--explain] [FILE]
+Usage: radixvm run [--log | [--echo] [--long]] [--explain] [FILE]
        radixvm maps [--long] [--explain] [FILE]
        radixvm certify [FILE]
        radixvm live [--certify] [FILE]

@@ -75,7 +75,8 @@ pub fn run<A: Allocator + Clone + Drop, S: Source, W: Sink, E: Write>(
 ) -> u8
     ensures ends { (r : Result Unit TraceFault) × (result ≡ status_of r)
         × Reads (S.stream reader.old) (S.stream reader.new)
-        (λ input unread. Ends (limit_for shows.show shows.limit) shows.show input unread (W.contents out.old) (W.contents out.new) r)
+        (λ input unread. Ends (limit_for shows.show shows.limit) shows.show input unread
+        (W.contents out.old) (W.contents out.new) r)
         × TellsFaults r (S.failed reader.new) (S.reads reader.new)
         (W.failed out.old) (W.failed out.new) (W.is_flushed out.new) }
     ensures within { result ≤ 3 }

@@ -26,7 +26,8 @@ lines-preserved g c =
 pub returns-in-Ok-false-clause-ends : goal.returns-in-Ok-false-clause-ends
 returns-in-Ok-false-clause-ends g c =
     let turns = rw c.in-Ok-false.field-0-test at c.in-Ok-false.ensures.turns in
-    λ limit start. reads_then _ _ _ _ _ _ (c.lines.invariant.ran limit start) turns (λ xs ys zs k h a. echoed_ends limit xs _ _ _ _ _ h a c.finish.ensures.ok c.finish.ensures.err)
+    λ limit start. reads_then _ _ _ _ _ _ (c.lines.invariant.ran limit start) turns
+    (λ xs ys zs k h a. echoed_ends limit xs _ _ _ _ _ h a c.finish.ensures.ok c.finish.ensures.err)
 
 pub returns-in-Ok-false-clause-read : goal.returns-in-Ok-false-clause-read
 returns-in-Ok-false-clause-read g c e =
