@@ -1,24 +1,28 @@
 /* RadixVM, verified: one virtual address space that 1 to 64 modelled cores share, as a library.
  *
  * A batch makes a new machine, gives it events or whole calls one after another, and writes what each
- * came to. What is proved is that the outcomes are a run of the abstract machine whose log is that of
- * a plain page map (POSIX.1-2017 mmap, munmap, mprotect): the contracts of crates/radixvm_c/src/lib.rt.
+ * came to; a machine that is kept takes them as they come. What is proved is that the outcomes are a run
+ * of the abstract machine whose log is that of a plain page map (POSIX.1-2017 mmap, munmap, mprotect):
+ * the contracts of crates/radixvm_c/src/lib.rt.
  *
  * Units: addresses, lengths and offsets are bytes; a page or frame is 4096 bytes, and is named by its
  * number (page = address / 4096). Buffers are the caller's, each with its number of items; the library
- * keeps none of them, and frees what it takes from malloc before it returns. It has no static state,
- * so threads may call it side by side, each with buffers of its own.
+ * keeps none of them, and frees what it takes from malloc before it returns, but for the machines that
+ * are kept. It has no static state, so threads may call it side by side, each with buffers and machines
+ * of its own: a machine is one thread's, the one that made it.
  *
  * Pointers: null is taken where its length is 0, and is told (RADIXVM_NULL) where it isn't. The buffers
  * must be as long as said, aligned, and not overlap; `outcomes` must be initialised memory. None of that
- * can be checked, but that a length above 2^32 is told (RADIXVM_TOO_LONG) before any memory is read.
+ * can be checked, but that a length above 2^32 is told (RADIXVM_TOO_LONG) before any memory is read. Nor
+ * can it be told that a radixvm_machine was not begun as {0}, was copied and freed by the copy, or was
+ * written by others: use one place for each machine, and give it to the functions below alone.
  * Don't call from a signal handler, nor in the forked child of a process with threads. */
 #ifndef RADIXVM_H
 #define RADIXVM_H
 #include <stddef.h>
 #include <stdint.h>
 
-#define RADIXVM_VERSION 1 /* what radixvm_version() answers where it is the library of this header */
+#define RADIXVM_VERSION 2 /* what radixvm_version() answers where it is the library of this header */
 
 /* What a machine has. */
 typedef struct {
@@ -88,6 +92,21 @@ enum { /* kinds of outcomes; from RADIXVM_MAPPED to RADIXVM_NO_MEMORY they are r
 };
 enum { RADIXVM_EBADF = 9, RADIXVM_ENOMEM = 12, RADIXVM_EACCES = 13, RADIXVM_EINVAL = 22, RADIXVM_EOVERFLOW = 75 };
 
+/* A machine that is kept until it is freed, or none: begin with {0}. The pointer is the library's, and is
+ * read and written by it alone; it is null where there is none. */
+typedef struct {
+    uint8_t *at;
+} radixvm_machine;
+
+/* Neighbouring pages with the same protection, whose backing goes on from page to page. */
+typedef struct {
+    uint64_t first, end; /* pages; `end` is the one behind the last */
+    uint64_t page;       /* of the file: what backs the first; 0 where no file does */
+    uint32_t file, back; /* its number, else 0; RADIXVM_BACK_.. */
+    uint32_t prot;       /* RADIXVM_PROT_.. */
+} radixvm_line;
+enum { RADIXVM_BACK_ZEROS = 0, RADIXVM_BACK_SHARED, RADIXVM_BACK_PRIVATE };
+
 /* How a batch ended. The first `count` events were taken, and outcomes[0] to outcomes[count - 1] tell
  * what each came to; all others are as they were. From RADIXVM_NO_ROOM on no event was taken. */
 typedef struct {
@@ -102,6 +121,9 @@ enum {
     RADIXVM_TOO_LONG,      /* a length is above 2^32 */
     RADIXVM_BAD_FILE,      /* files[count]: no such mode, or its bytes don't lie in `bytes` */
     RADIXVM_NULL,          /* a null pointer whose length isn't 0 */
+    RADIXVM_EMPTY,         /* there is no machine in its place */
+    RADIXVM_IN_USE,        /* there is one already */
+    RADIXVM_ABSENT,        /* the machine has no such core, or no page has this number */
     RADIXVM_BAD_CORES = 11, RADIXVM_BAD_FRAMES, RADIXVM_TOO_MANY_FILES, RADIXVM_FILE_TOO_LONG, RADIXVM_BAD_CALLS,
     RADIXVM_NO_MACHINE     /* malloc refused memory to the new machine */
 };
@@ -148,6 +170,102 @@ static inline radixvm_done radixvm_calls(const radixvm_setup *setup, const radix
     }
     return radixvm_calls_batch(setup, files ? files : &no_file, file_count, bytes ? bytes : &no_byte, byte_count,
         events ? events : &no_event, event_count, outcomes ? outcomes : &no_outcome, room);
+}
+
+/* ---- A machine that is kept. Each function changes nothing where its status isn't RADIXVM_OK, but for the
+ * steps that a call made before RADIXVM_OUT_OF_MEMORY, and for the first `count` events of a batch. */
+
+/* As those below, but that no pointer may be null, not even where its length is 0. */
+radixvm_done radixvm_new_held(const radixvm_setup *setup, const radixvm_file *files, size_t file_count,
+    const uint8_t *bytes, size_t byte_count, radixvm_machine *machine);
+void radixvm_free_held(radixvm_machine *machine);
+uint32_t radixvm_step_held(radixvm_machine *machine, const radixvm_event *event, radixvm_outcome *outcome);
+uint32_t radixvm_call_held(radixvm_machine *machine, const radixvm_event *event, radixvm_outcome *outcome);
+radixvm_done radixvm_run_held(radixvm_machine *machine, const radixvm_event *events, size_t event_count,
+    radixvm_outcome *outcomes, size_t room);
+radixvm_done radixvm_calls_held(radixvm_machine *machine, const radixvm_event *events, size_t event_count,
+    radixvm_outcome *outcomes, size_t room);
+uint64_t radixvm_cores_held(radixvm_machine *machine);
+uint32_t radixvm_entry_held(radixvm_machine *machine, uint32_t core, uint64_t page, uint64_t *word);
+radixvm_done radixvm_maps_held(radixvm_machine *machine, radixvm_line *lines, size_t room);
+
+/* Makes a machine, where there is none yet. The files' bytes are copied. */
+static inline radixvm_done radixvm_new(const radixvm_setup *setup, const radixvm_file *files, size_t file_count,
+    const uint8_t *bytes, size_t byte_count, radixvm_machine *machine) {
+    const radixvm_file no_file = {0, 0, 0};
+    const uint8_t no_byte = 0;
+    if (!setup || (!files && file_count) || (!bytes && byte_count) || !machine) {
+        const radixvm_done null = {RADIXVM_NULL, 0};
+        return null;
+    }
+    return radixvm_new_held(setup, files ? files : &no_file, file_count, bytes ? bytes : &no_byte, byte_count, machine);
+}
+/* Frees it, if there is one. There is none then. */
+static inline void radixvm_free(radixvm_machine *machine) {
+    if (machine) radixvm_free_held(machine);
+}
+/* One event, as in radixvm_run. The answer is a status: RADIXVM_OK where `outcome` was written. */
+static inline uint32_t radixvm_step(radixvm_machine *machine, const radixvm_event *event, radixvm_outcome *outcome) {
+    if (!machine || !event || !outcome) return RADIXVM_NULL;
+    return radixvm_step_held(machine, event, outcome);
+}
+/* One item, as in radixvm_calls: a whole call, a FINISH, or one event. */
+static inline uint32_t radixvm_call(radixvm_machine *machine, const radixvm_event *event, radixvm_outcome *outcome) {
+    if (!machine || !event || !outcome) return RADIXVM_NULL;
+    return radixvm_call_held(machine, event, outcome);
+}
+/* A call is begun, and no step of it made; radixvm_step with RADIXVM_GO, or radixvm_finish, goes on. */
+static inline uint32_t radixvm_begin(radixvm_machine *machine, const radixvm_event *event, radixvm_outcome *outcome) {
+    if (event && event->kind > RADIXVM_FETCH) return RADIXVM_BAD_EVENT;
+    return radixvm_step(machine, event, outcome);
+}
+/* The core's call goes on to its end, or until it waits. */
+static inline uint32_t radixvm_finish(radixvm_machine *machine, uint32_t core, radixvm_outcome *outcome) {
+    radixvm_event event = {RADIXVM_FINISH, 0, 0, 0, 0, 0, 0, 0, 0};
+    event.core = core;
+    return radixvm_call(machine, &event, outcome);
+}
+/* As radixvm_run and radixvm_calls, from where the machine is. */
+static inline radixvm_done radixvm_run_on(radixvm_machine *machine, const radixvm_event *events, size_t event_count,
+    radixvm_outcome *outcomes, size_t room) {
+    const radixvm_event no_event = {0, 0, 0, 0, 0, 0, 0, 0, 0};
+    radixvm_outcome no_outcome = {0, 0};
+    if (!machine || (!events && event_count) || (!outcomes && room)) {
+        const radixvm_done null = {RADIXVM_NULL, 0};
+        return null;
+    }
+    return radixvm_run_held(machine, events ? events : &no_event, event_count, outcomes ? outcomes : &no_outcome, room);
+}
+static inline radixvm_done radixvm_calls_on(radixvm_machine *machine, const radixvm_event *events, size_t event_count,
+    radixvm_outcome *outcomes, size_t room) {
+    const radixvm_event no_event = {0, 0, 0, 0, 0, 0, 0, 0, 0};
+    radixvm_outcome no_outcome = {0, 0};
+    if (!machine || (!events && event_count) || (!outcomes && room)) {
+        const radixvm_done null = {RADIXVM_NULL, 0};
+        return null;
+    }
+    return radixvm_calls_held(machine, events ? events : &no_event, event_count, outcomes ? outcomes : &no_outcome,
+        room);
+}
+/* How many cores it has; 0 where there is no machine. */
+static inline uint64_t radixvm_cores(radixvm_machine *machine) {
+    return machine ? radixvm_cores_held(machine) : 0;
+}
+/* The entry that the core's page tables have for the page, as x86-64's hardware would read it (Intel SDM
+ * volume 3A, 4-level paging, the entry of a 4 KiB page); 0 where they have none. A page is 1 to 2^35 - 1. */
+static inline uint32_t radixvm_entry(radixvm_machine *machine, uint32_t core, uint64_t page, uint64_t *word) {
+    if (!machine || !word) return RADIXVM_NULL;
+    return radixvm_entry_held(machine, core, page, word);
+}
+/* All mappings, in order of pages, as far as there is room: `count` is how many there are. The list takes
+ * memory for a moment. */
+static inline radixvm_done radixvm_maps(radixvm_machine *machine, radixvm_line *lines, size_t room) {
+    radixvm_line no_line = {0, 0, 0, 0, 0, 0};
+    if (!machine || (!lines && room)) {
+        const radixvm_done null = {RADIXVM_NULL, 0};
+        return null;
+    }
+    return radixvm_maps_held(machine, lines ? lines : &no_line, room);
 }
 #ifdef __cplusplus
 }

@@ -24,7 +24,7 @@ use Rattle.radixvm_c.specs.Codes.{event_of, item_of, outcome_code, finished_code
 use Rattle.radixvm_c.specs.Batches.{RunsFirst, Takes, TakesItem, MakesFirst, Makes, MakesAll, MakesUntil, StopsAt, RanOnNew, MadeOnNew}
 
 -- what is told of one more
-told_more : {X : Type 0} (f : X → RawOutcome) (xs : List X) (x : X) (n : ℕ) (was told : List RawOutcome) → length xs ≡ n → n < length was
+pub told_more : {X Y : Type 0} (f : X → Y) (xs : List X) (x : X) (n : ℕ) (was told : List Y) → length xs ≡ n → n < length was
     → told ≡ map f xs ++ drop n was → set told n (f x) ≡ map f (xs ++ x ∷ []) ++ drop (n + 1) was
 told_more f xs x n was told many low e =
     let d = f x in

@@ -177,6 +177,8 @@ end_in d =
     else if d.status == 3 then Err No.NoRoom
     else if d.status == 4 then Err No.TooLong
     else if d.status == 5 then Err (No.BadFile d.count)
+    else if d.status == 7 then Err No.Empty
+    else if d.status == 8 then Err No.InUse
     else if d.status == 11 then Err (No.Setup Fault.Cores)
     else if d.status == 12 then Err (No.Setup Fault.Frames)
     else if d.status == 13 then Err (No.Setup Fault.TooManyFiles)
@@ -194,6 +196,8 @@ end_read (Ok ended) = ended_read ended.stop ended.count
 end_read (Err No.NoRoom) = refl
 end_read (Err No.TooLong) = refl
 end_read (Err (No.BadFile at)) = refl
+end_read (Err No.Empty) = refl
+end_read (Err No.InUse) = refl
 end_read (Err (No.Setup Fault.Cores)) = refl
 end_read (Err (No.Setup Fault.Frames)) = refl
 end_read (Err (No.Setup Fault.TooManyFiles)) = refl

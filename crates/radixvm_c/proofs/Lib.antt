@@ -1,4 +1,7 @@
+pub mod Values
 pub mod Codings
 pub mod Openings
 pub mod Batching
+pub mod Holdings
+pub mod Listing
 pub mod Coded

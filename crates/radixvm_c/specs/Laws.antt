@@ -11,6 +11,8 @@ use Rattle.radixvm_c.specs.declared.codes.Item.{Item}
 use Rattle.radixvm_c.specs.declared.codes.Item.TheVariants as To
 use Rattle.radixvm_c.specs.declared.batch.Ended.{Ended}
 use Rattle.radixvm_c.specs.declared.opening.Refusal.{Refusal}
+use Rattle.radixvm_c.specs.declared.held.Held.{Held}
+use Rattle.core_steps.specs.Machine.{state, IsLegal}
 use Rattle.radixvm_c.specs.Bits.{bits_of_prot, bits_of_flags}
 use Rattle.radixvm_c.specs.Codes.{begin, event_of, item_of, finished_code}
 use Rattle.radixvm_c.specs.Batches.{done_of}
@@ -110,3 +112,8 @@ AllOutcomesDiffer = (f g : Finished) → finished_code f ≡ finished_code g →
 -- the number of taken events is told beside the code of each end
 abbrev pub AllEndsDiffer : Type 0
 AllEndsDiffer = (r s : Result Ended Refusal) → done_of r ≡ done_of s → r ≡ s
+
+-- ---- what a handle has
+
+abbrev pub AllHeldAreLegal : Type 0
+AllHeldAreLegal = (held : Held) → IsLegal (state held.machine)

@@ -2,4 +2,8 @@ pub mod Bits
 pub mod Codes
 pub mod Opening
 pub mod Batches
+pub mod Behind
+pub mod Handles
+pub mod Holding
+pub mod Maps
 pub mod Laws

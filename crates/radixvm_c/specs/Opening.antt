@@ -64,6 +64,8 @@ RefusesFiles buffer files (By.BadFile at) =
 RefusesFiles buffer files (By.Setup fault) = fault ≡ Fault.NoMemory
 RefusesFiles buffer files By.TooLong = ⊥
 RefusesFiles buffer files By.NoRoom = ⊥
+RefusesFiles buffer files By.Empty = ⊥
+RefusesFiles buffer files By.InUse = ⊥
 
 -- ---- the machine
 
@@ -95,3 +97,5 @@ Refuses setup files buffer (By.BadFile at) =
     (fault_of setup files ≡ None) × RefusesFiles buffer files (By.BadFile at)
 Refuses setup files buffer By.TooLong = ⊥
 Refuses setup files buffer By.NoRoom = ⊥
+Refuses setup files buffer By.Empty = ⊥
+Refuses setup files buffer By.InUse = ⊥

@@ -30,8 +30,8 @@ pub struct Ended {
     pub count: usize,
 }
 
-// One event. Where it isn't taken, nothing changes.
-fn take_event<M: SlotMap, A: Allocator + Clone, L: Ledger>(
+/// One event. Where it isn't taken, nothing changes.
+pub fn take_event<M: SlotMap, A: Allocator + Clone, L: Ledger>(
     machine: &mut Machine<M, A, L>,
     raw: &RawEvent,
     told: &mut RawOutcome,
@@ -107,9 +107,9 @@ fn step<M: SlotMap, A: Allocator + Clone, L: Ledger>(
     }
 }
 
-// One item. Where it isn't made, what is told stays as it was.
+/// One item. Where it isn't made, what is told stays as it was.
 #[inline(always)]
-fn take_item<M: SlotMap, A: Allocator + Clone, L: Ledger>(
+pub fn take_item<M: SlotMap, A: Allocator + Clone, L: Ledger>(
     machine: &mut Machine<M, A, L>,
     raw: &RawEvent,
     told: &mut RawOutcome,
@@ -157,10 +157,11 @@ pub fn make_items<M: SlotMap, A: Allocator + Clone, L: Ledger>(
 }
 
 /// How many items a buffer may be said to have.
-const LENGTH_LIMIT: u64 = 1 << 32;
+pub const LENGTH_LIMIT: u64 = 1 << 32;
 
-// Whether one of the buffers is said to have more items than any may have, or there is too little room.
-fn refusal_of(files: usize, bytes: usize, raws: usize, room: usize) -> Option<Refusal>
+/// Whether one of the buffers is said to have more items than any may have, or there is too little
+/// room.
+pub fn refusal_of(files: usize, bytes: usize, raws: usize, room: usize) -> Option<Refusal>
     ensures { result ≡ refusal_of files bytes raws room }
 {
     let limit = LENGTH_LIMIT;
@@ -232,7 +233,8 @@ fn fault_code(fault: SetupFault) -> u32
     }
 }
 
-fn stop_code(stop: Option<Stop>) -> u32
+/// The code of why a batch stopped: 0 where it didn't.
+pub fn stop_code(stop: Option<Stop>) -> u32
     ensures { result ≡ stop_code stop }
 {
     match stop {
@@ -242,7 +244,8 @@ fn stop_code(stop: Option<Stop>) -> u32
     }
 }
 
-fn refusal_done(refusal: Refusal) -> Done
+/// What C reads of a refusal.
+pub fn refusal_done(refusal: Refusal) -> Done
     ensures { result ≡ refusal_done refusal }
 {
     match refusal {
@@ -257,6 +260,14 @@ fn refusal_done(refusal: Refusal) -> Done
         Refusal::BadFile { at } => Done {
             status: 5,
             count: at as u64,
+        },
+        Refusal::Empty => Done {
+            status: 7,
+            count: 0,
+        },
+        Refusal::InUse => Done {
+            status: 8,
+            count: 0,
         },
         Refusal::Setup(fault) => Done {
             status: fault_code(fault),

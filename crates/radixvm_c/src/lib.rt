@@ -1,27 +1,44 @@
-//! The machine for C: a batch of events, or of whole calls, on a new machine.
+//! The machine for C: a batch of events, or of whole calls, on a new machine or on one that C holds.
 #![tactic(auto)]
 
-ghost use Rattle.std.specs.Prelude.{◌≡◌};
+ghost use Rattle.std.specs.Prelude.{◌≡◌, None};
 ghost use Rattle.radixvm_c.specs.Batches.{TellsRun, TellsCalls};
+ghost use Rattle.radixvm_c.specs.Holding.{world_in, TellsNew, TellsStep, TellsCall, TellsRunOn, TellsCallsOn};
+ghost use Rattle.radixvm_c.specs.Holding.{cores_of, TellsEntry};
+ghost use Rattle.radixvm_c.specs.Maps.{TellsMaps};
 
 pub mod batch;
 mod bits;
 pub mod codes;
+pub mod handle;
+pub mod held;
+pub mod holding;
 pub mod laws;
+pub mod loose;
+pub mod maps;
 pub mod opening;
 
-use crate::batch::{Done, calls_batch, done_of, run_batch};
+use crate::batch::{Done, calls_batch, done_of, refusal_done, run_batch, take_event, take_item};
 use crate::codes::{RawEvent, RawOutcome};
-use crate::opening::{RawFile, RawSetup};
+use crate::handle::Handle;
+use crate::holding::{calls_on, entry_of, open_in, run_on, taken_code};
+use crate::maps::{RawLine, list_maps};
+use crate::opening::{RawFile, RawSetup, Refusal};
 use std::alloc::Global;
 
 /// The version that include/radixvm.h has.
-const VERSION: u32 = 1;
+const VERSION: u32 = 2;
+
+/// The code of an empty handle, where no `Done` is told.
+const EMPTY: u32 = 7;
+
+/// The code of a core or a page that isn't there.
+const ABSENT: u32 = 9;
 
 /// The version of the codes and structs of `include/radixvm.h`.
 #[unsafe(no_mangle)]
 pub extern "C" fn radixvm_version() -> u32
-    ensures { result ≡ 1 }
+    ensures { result ≡ 2 }
 {
     VERSION
 }
@@ -56,4 +73,157 @@ pub extern "C" fn radixvm_calls_batch(
     ensures { TellsCalls setup.now files.now bytes.now raws.now told.old result told.new }
 {
     done_of(calls_batch(alloc, setup, files, bytes, raws, told))
+}
+
+/// Makes a machine in an empty handle. At an error the handle is as it was.
+#[unsafe(no_mangle)]
+pub extern "C" fn radixvm_new_held(
+    alloc: Global,
+    setup: &RawSetup,
+    files: &[RawFile],
+    bytes: &[u8],
+    handle: &mut Handle,
+) -> Done
+    ensures { TellsNew setup.now files.now bytes.now (world_in handle.old.value) result
+        (world_in handle.new.value) }
+{
+    match open_in(alloc, setup, files, bytes, handle) {
+        Ok(()) => Done {
+            status: 0,
+            count: 0,
+        },
+        Err(refusal) => refusal_done(refusal),
+    }
+}
+
+/// Lets the machine go, with all its memory, and leaves the handle empty.
+#[unsafe(no_mangle)]
+pub extern "C" fn radixvm_free_held(alloc: Global, handle: &mut Handle)
+    ensures { handle.new.value ≡ None }
+{
+    if handle.is_open() {
+        let _held = handle.take(alloc);
+    }
+}
+
+/// Takes one event on the machine.
+#[unsafe(no_mangle)]
+pub extern "C" fn radixvm_step_held(
+    handle: &mut Handle,
+    raw: &RawEvent,
+    told: &mut RawOutcome,
+) -> u32
+    ensures { TellsStep (world_in handle.old.value) raw.now told.old result told.new
+        (world_in handle.new.value) }
+{
+    if !handle.is_open() {
+        return EMPTY;
+    }
+    let held = handle.get_mut();
+    taken_code(take_event(&mut held.machine, raw, told))
+}
+
+/// Makes one call on the machine, to its end or until it waits, or takes what else a batch of calls
+/// may ask for.
+#[unsafe(no_mangle)]
+pub extern "C" fn radixvm_call_held(
+    handle: &mut Handle,
+    raw: &RawEvent,
+    told: &mut RawOutcome,
+) -> u32
+    ensures { TellsCall (world_in handle.old.value) raw.now told.old result told.new
+        (world_in handle.new.value) }
+{
+    if !handle.is_open() {
+        return EMPTY;
+    }
+    let held = handle.get_mut();
+    taken_code(take_item(&mut held.machine, raw, told))
+}
+
+/// Takes more events on the machine, as far as they can be taken.
+#[unsafe(no_mangle)]
+pub extern "C" fn radixvm_run_held(
+    handle: &mut Handle,
+    raws: &[RawEvent],
+    told: &mut [RawOutcome],
+) -> Done
+    ensures { TellsRunOn (world_in handle.old.value) raws.now told.old result told.new
+        (world_in handle.new.value) }
+{
+    if !handle.is_open() {
+        return refusal_done(Refusal::Empty);
+    }
+    let held = handle.get_mut();
+    done_of(run_on(&mut held.machine, raws, told))
+}
+
+/// Makes more calls on the machine, as far as they can be made.
+#[unsafe(no_mangle)]
+pub extern "C" fn radixvm_calls_held(
+    handle: &mut Handle,
+    raws: &[RawEvent],
+    told: &mut [RawOutcome],
+) -> Done
+    ensures { TellsCallsOn (world_in handle.old.value) raws.now told.old result told.new
+        (world_in handle.new.value) }
+{
+    if !handle.is_open() {
+        return refusal_done(Refusal::Empty);
+    }
+    let held = handle.get_mut();
+    done_of(calls_on(&mut held.machine, raws, told))
+}
+
+/// How many cores the machine has; 0 where there is none.
+#[unsafe(no_mangle)]
+pub extern "C" fn radixvm_cores_held(handle: &mut Handle) -> u64
+    ensures cores { result ≡ cores_of (world_in handle.old.value) }
+    ensures same { handle.new.value ≡ handle.old.value }
+{
+    if !handle.is_open() {
+        return 0;
+    }
+    holding::cores_of(&handle.get_mut().machine)
+}
+
+/// Tells the word that the core's tables have for the page, 0 where they have none.
+#[unsafe(no_mangle)]
+pub extern "C" fn radixvm_entry_held(
+    handle: &mut Handle,
+    core: u32,
+    page: u64,
+    told: &mut u64,
+) -> u32
+    ensures tells { TellsEntry (world_in handle.old.value) core page told.old result told.new }
+    ensures same { handle.new.value ≡ handle.old.value }
+{
+    if !handle.is_open() {
+        return EMPTY;
+    }
+    let held = handle.get_mut();
+    match entry_of(&held.machine, core, page) {
+        Some(word) => {
+            *told = word;
+            0
+        }
+        None => ABSENT,
+    }
+}
+
+/// Tells all mappings, as far as there is room, and how many there are.
+#[unsafe(no_mangle)]
+pub extern "C" fn radixvm_maps_held(
+    alloc: Global,
+    handle: &mut Handle,
+    told: &mut [RawLine],
+) -> Done
+    ensures tells { TellsMaps (world_in handle.old.value) told.old result told.new }
+    ensures same { handle.new.value ≡ handle.old.value }
+{
+    if !handle.is_open() {
+        return refusal_done(Refusal::Empty);
+    }
+    let held = handle.get_mut();
+    done_of(list_maps(alloc, &held.machine, told))
 }

@@ -1,9 +1,10 @@
 //! What C asks a machine to be made with.
-ghost use Rattle.std.specs.Prelude.{◌≡◌, IfOk, IfErr, length};
+ghost use Rattle.std.specs.Prelude.{◌≡◌, None, IfOk, IfErr, length};
 ghost use Rattle.std.specs.List.{list_any};
 ghost use Rattle.core_steps.specs.Machine.{state};
 ghost use Rattle.core_steps.specs.Setups.{is_too_long};
-ghost use Rattle.radixvm_c.specs.Opening.{mode_of, AreFiles, IsFile, IsNoFile, RefusesFiles, OpensAs, Refuses};
+ghost use Rattle.radixvm_c.specs.Opening.{mode_of, AreFiles, IsFile, IsNoFile, RefusesFiles, OpensAs};
+ghost use Rattle.radixvm_c.specs.Opening.{Refuses, fault_of};
 ghost use Rattle.radixvm_c.specs.declared.opening.FileFault.TheVariants as Why;
 ghost use Rattle.radixvm_c.specs.declared.opening.RawFile.{RawFile as RawFileOf};
 
@@ -49,6 +50,10 @@ pub enum Refusal {
     Setup(SetupFault),
     /// The mode of the file with this index is none, or its bytes don't lie in the buffer.
     BadFile { at: usize },
+    /// The handle has no machine.
+    Empty,
+    /// The handle has a machine already.
+    InUse,
 }
 
 /// Why a file isn't opened.
@@ -138,6 +143,7 @@ pub fn open(
     bytes: &[u8],
 ) -> Result<Space, Refusal>
     ensures ok { IfOk result (λ machine. OpensAs setup.now files.now bytes.now (state machine)) }
+    ensures fine { IfOk result (λ machine. fault_of setup.now files.now ≡ None) }
     ensures err { IfErr result (λ refusal. Refuses setup.now files.now bytes.now refusal) }
 {
     let long = has_long(files);

@@ -1,0 +1,10 @@
+use Rattle.std.proofs.Common.{◌≡◌, length}
+use Rattle.radixvm_c.proofs.Listing.{TellsLines}
+use Rattle.radixvm_c.proofs.maps.tell_lines.Given as goal
+
+-- the lines so far
+abbrev pub invariant-lines : goal.invariant-lines
+invariant-lines l = record {
+  told : TellsLines l.lines l.at l.initial.told l.told;
+  room : length l.told ≡ length l.initial.told;
+}

@@ -1,0 +1,14 @@
+-- What a handle owns
+use Rattle.std.specs.Prelude.{Option, None, Some}
+use base.Fml.{Fml, feq}
+use denote.RawPtr.{Ptr, null_ptr}
+use Rattle.std.specs.Box.Ownership.{box_owns}
+use Rattle.std.specs.declared.alloc.Global.{Global}
+use Rattle.std.specs.contracts.impls.GlobalAllocator.TheImpl.{ghosts}
+use Rattle.radixvm_c.specs.declared.held.Held.{Held}
+use Rattle.radixvm_c.specs.contracts.held.Held.{the_row}
+
+-- the pointer is null, or the machine lies there, in a block that may be freed
+abbrev pub held_at : Global → Ptr → Option Held → Fml
+held_at alloc p None = feq Ptr p null_ptr
+held_at alloc p (Some x) = box_owns (ghosts.dealloc_token alloc) the_row p x

@@ -1,0 +1,15 @@
+-- What a handle lends
+use Rattle.std.specs.Prelude.{Some}
+use Rattle.std.specs.Borrow.{Lends, MutBor, Fml}
+use Rattle.radixvm_c.specs.declared.held.Held.{Held}
+use Rattle.radixvm_c.specs.declared.handle.Handle.{Handle}
+use Rattle.radixvm_c.specs.contracts.held.Held.{the_row as held_row}
+use Rattle.radixvm_c.specs.contracts.handle.Handle.{the_row}
+
+-- the handle with another machine at the same place
+abbrev pub with_value : Handle → Held → Handle
+with_value h x = record h { value = Some x }
+
+-- once the borrow ends, the handle has the last machine behind r
+abbrev pub LendsHeld : MutBor Handle → MutBor Held → Fml
+LendsHeld h r = Lends the_row held_row h r (with_value h.now)

@@ -1,0 +1,94 @@
+//! What C holds between two calls.
+ghost use Rattle.std.specs.Prelude.{Option};
+ghost use Rattle.radixvm_c.specs.declared.held.Held.{Held};
+ghost use Rattle.radixvm_c.specs.Behind.{held_at};
+
+use crate::held::Held;
+use crate::loose::Loose;
+use std::alloc::Global;
+use std::marker::Model;
+use std::mem::replace;
+use std::ptr::null_mut;
+
+/// A machine, or none, as C holds it: a pointer that the library wrote, or null.
+#[repr(C)]
+#[derive(Drop)]
+pub struct Handle {
+    at: *mut u8,
+    alloc: Global,
+    pub ghost value: { Option Held },
+}
+
+impl Model for Handle {
+    ghost also_owns = { λ h. held_at h.alloc h.at h.value };
+}
+
+impl Handle {
+    ghost use Rattle.std.specs.Prelude.{◌≡◌, IsSome, None, Some, is_some};
+    ghost use Rattle.std.specs.Borrow.{sem};
+    ghost use Rattle.radixvm_c.specs.Handles.{LendsHeld};
+
+    /// Whether there is one.
+    pub fn is_open(&mut self) -> bool
+        ensures value { result ≡ is_some self.old.value }
+        ensures same { self.new.value ≡ self.old.value }
+    {
+        !self.at.is_null()
+    }
+
+    /// The machine, lent with the handle.
+    pub fn get_mut(&mut self) -> &mut Held
+        requires { IsSome self.old.value }
+        ensures* writes_back { sem 𝓛 (LendsHeld self.entry result) }
+        ensures value { self.old.value ≡ Some result.now }
+    {
+        unsafe { &mut *(self.at as *mut Held) }
+    }
+
+    fn empty(alloc: Global) -> Handle
+        ensures { result.value ≡ None }
+    {
+        Handle {
+            at: null_mut(),
+            alloc,
+        }
+    }
+
+    fn of(loose: Loose<Held, Global>) -> Handle
+        ensures { result.value ≡ Some loose.value }
+    {
+        let Loose { at, alloc } = loose;
+        Handle {
+            at: at as *mut u8,
+            alloc,
+        }
+    }
+
+    fn into_loose(self) -> Loose<Held, Global>
+        requires { IsSome self.value }
+        ensures { self.value ≡ Some result.value }
+    {
+        let Handle { at, alloc } = self;
+        Loose {
+            at: at as *mut Held,
+            alloc,
+        }
+    }
+
+    /// Puts a machine into an empty handle.
+    pub fn put(&mut self, held: Box<Held, Global>)
+        requires { self.old.value ≡ None }
+        ensures { self.new.value ≡ Some held.value }
+    {
+        *self = Handle::of(Loose::of(held));
+    }
+
+    /// Takes the machine, and leaves the handle empty.
+    pub fn take(&mut self, alloc: Global) -> Box<Held, Global>
+        requires { IsSome self.old.value }
+        ensures taken { self.old.value ≡ Some result.value }
+        ensures left { self.new.value ≡ None }
+    {
+        replace(self, Handle::empty(alloc)).into_loose().into_box()
+    }
+}
