@@ -6,7 +6,7 @@ import subprocess
 import sys
 
 rounds, program, command = int(sys.argv[1]), sys.argv[2], sys.argv[3:]
-by_steps = command[-1] == "steps"
+by_steps = "steps" in command
 
 
 def request(rng):

@@ -1,8 +1,9 @@
 #!/usr/bin/env bash
 # Compiles the header and the examples of bindings/ over libradixvm.a (`./radixvm --build-library`), the C side with the
-# sanitizers of addresses and of undefined behaviour, and runs them: a page-table walker beside the library, a shadow checker
-# with and without a bug, what is out of range and memory that is refused, the worked rows of crates/acceptance, examples/, random traces
-# beside the program where it is built, and the Rust crate's tests and its walker where there is cargo.
+# sanitizers of addresses and of undefined behaviour, by gcc and by clang, and runs them: a page-table walker beside batches and beside a
+# machine that is kept, kept machines beside batches, a shadow checker with and without a bug, what is out of range and memory that is
+# refused, the worked rows of crates/acceptance, examples/, random traces beside the program where it is built, and the Rust crate's tests
+# and its walkers where there is cargo. SEEDS, 20 where it isn't given, is how many walks, and how many random traces of each kind, are made.
 # Usage: bindings/test.sh [--skip-without-compiler] [SEEDS]
 set -euo pipefail
 top=$(cd "$(dirname "$0")/.." && pwd)
@@ -41,36 +42,51 @@ for compiler in g++ clang++; do
     echo "header, C++17: $compiler"
 done
 
-compile() { # NAME OUT FLAGS..
-    local name=$1 out=$2
-    shift 2
-    "${CC:-cc}" -std=c11 -O1 -g -fsanitize=address,undefined -fno-sanitize-recover=all $warnings "$@" -I "$top/include" \
+compile() { # COMPILER NAME OUT FLAGS..
+    local compiler=$1 name=$2 out=$3
+    shift 3
+    $compiler -std=c11 -O1 -g -fsanitize=address,undefined -fno-sanitize-recover=all $warnings "$@" -I "$top/include" \
         "$top/bindings/c/$name.c" "$library/libradixvm.a" -o "$work/$out"
 }
-for name in walker shadow bad trace; do compile $name $name; done
-compile bad refused -DREFUSE -Wno-pedantic -Wl,--wrap=malloc,--wrap=realloc
 
-for seed in $(seq "$seeds"); do "$work/walker" "$seed" > "$work/out" || { cat "$work/out"; exit 1; }; done
-echo "walker: $seeds seeds, $(cat "$work/out") in each"
-"$work/shadow"
-if "$work/shadow" bug > "$work/out"; then
-    echo "bindings/test.sh: the shadow checker didn't find the bug" >&2
-    exit 1
-fi
-diff "$top/bindings/c/shadow_bug.out" "$work/out"
-echo "shadow: the bug was found, with the pages around it"
-echo "out of range: $("$work/bad")"
-"$work/refused"
-python3 "$top/bindings/rows.py" "$work/trace"
+# Runs the program NAME with each seed.
+walk() { # NAME
+    for seed in $(seq "$seeds"); do "$work/$1" "$seed" > "$work/out" || { cat "$work/out"; exit 1; }; done
+    echo "$1: $seeds seeds, $(cat "$work/out") in each"
+}
+
+try_with() { # COMPILER
+    echo "-- C programs by $1"
+    for name in walker beside kept shadow bad trace; do compile "$1" $name $name; done
+    compile "$1" bad refused -DREFUSE -Wno-pedantic -Wl,--wrap=malloc,--wrap=realloc
+    walk walker
+    walk beside
+    walk kept
+    "$work/shadow"
+    if "$work/shadow" bug > "$work/out"; then
+        echo "bindings/test.sh: the shadow checker didn't find the bug" >&2
+        exit 1
+    fi
+    diff "$top/bindings/c/shadow_bug.out" "$work/out"
+    echo "shadow: the bug was found, with the mappings around it"
+    echo "out of range: $("$work/bad")"
+    "$work/refused"
+}
+compilers=${CC:-$(for compiler in clang gcc; do command -v $compiler > /dev/null && echo $compiler; done)}
+for compiler in ${compilers:-cc}; do try_with $compiler; done
+for way in "" kept; do
+    python3 "$top/bindings/rows.py" "$work/trace" $way
+done
 examples="copy files first place race reuse rights shootdown steps"
 for name in $examples; do
-    "$work/trace" < "$top/examples/$name.trace" > "$work/out"
-    diff "$top/examples/$name.out" "$work/out"
+    for way in "" kept; do
+        "$work/trace" $way < "$top/examples/$name.trace" > "$work/out"
+        diff "$top/examples/$name.out" "$work/out"
+    done
 done
 echo "examples: the same text as in examples/ for $examples"
 if [ -x "$program" ]; then
-    python3 "$top/bindings/lists.py" "$seeds" "$program" "$work/trace"
-    python3 "$top/bindings/lists.py" "$seeds" "$program" "$work/trace" steps
+    for way in "" steps kept "kept steps"; do python3 "$top/bindings/lists.py" "$seeds" "$program" "$work/trace" $way; done
 else
     echo "random traces: not compared, since the program isn't built ($program)"
 fi
@@ -79,9 +95,12 @@ if command -v cargo > /dev/null; then
         cd "$top/bindings/rust"
         export RADIXVM_LIBRARY=$library CARGO_TARGET_DIR=$work/rust
         cargo test --offline -q
-        for seed in $(seq "$seeds"); do cargo run --offline -q --example walker "$seed" > "$work/out" || { cat "$work/out"; exit 1; }; done
+        for name in walker beside; do
+            for seed in $(seq "$seeds"); do cargo run --offline -q --example $name "$seed" > "$work/out" || { cat "$work/out"; exit 1; }; done
+            echo "Rust, $name: $seeds seeds, $(cat "$work/out") in each"
+        done
     )
-    echo "Rust: the crate's tests and those of its documentation passed; walker: $seeds seeds, $(cat "$work/out") in each"
+    echo "Rust: the crate's tests and those of its documentation passed"
 else
     echo "Rust: no cargo is here, so its tests were not run"
 fi

@@ -1,5 +1,6 @@
-/* What isn't in range, null pointers, lengths of 0 and of 2^63, and malloc that refuses the n-th block: each is told
- * by its code, and what was told before it stays. With the sanitizers nothing leaks or is touched past its end. */
+/* What isn't in range, null pointers, lengths of 0 and of 2^63, machines that aren't there, and malloc that refuses the
+ * n-th block: each is told by its code, what was told before it stays, and a machine that is kept loses nothing. With the
+ * sanitizers nothing leaks or is touched past its end. */
 #include "radixvm.h"
 #include <stdio.h>
 #include <stdlib.h>
@@ -22,6 +23,100 @@ static radixvm_event load(uint32_t kind, uint32_t core) {
 
 typedef radixvm_done batch(const radixvm_setup *, const radixvm_file *, size_t, const uint8_t *, size_t,
     const radixvm_event *, size_t, radixvm_outcome *, size_t);
+
+/* A batch on a machine that is kept for it alone. */
+static radixvm_done on_kept(int whole, const radixvm_setup *setup, const radixvm_file *files, size_t file_count, const uint8_t *bytes,
+    size_t byte_count, const radixvm_event *events, size_t event_count, radixvm_outcome *outcomes, size_t room) {
+    radixvm_machine machine = {0};
+    radixvm_done done = radixvm_new(setup, files, file_count, bytes, byte_count, &machine);
+    if (done.status == RADIXVM_OK)
+        done = whole ? radixvm_calls_on(&machine, events, event_count, outcomes, room)
+            : radixvm_run_on(&machine, events, event_count, outcomes, room);
+    radixvm_free(&machine);
+    return done;
+}
+
+static radixvm_done run_kept(const radixvm_setup *setup, const radixvm_file *files, size_t file_count, const uint8_t *bytes,
+    size_t byte_count, const radixvm_event *events, size_t event_count, radixvm_outcome *outcomes, size_t room) {
+    return on_kept(0, setup, files, file_count, bytes, byte_count, events, event_count, outcomes, room);
+}
+
+static radixvm_done calls_kept(const radixvm_setup *setup, const radixvm_file *files, size_t file_count, const uint8_t *bytes,
+    size_t byte_count, const radixvm_event *events, size_t event_count, radixvm_outcome *outcomes, size_t room) {
+    return on_kept(1, setup, files, file_count, bytes, byte_count, events, event_count, outcomes, room);
+}
+
+static void expect_status(const char *what, uint32_t is, uint32_t status) {
+    expect(what, (radixvm_done){is, 0}, status, 0);
+}
+
+/* What each function says of this place, in which there is no machine, or that is null. */
+static void try_none(radixvm_machine *place, uint32_t status) {
+    const radixvm_event event = load(RADIXVM_LOAD, 0);
+    radixvm_outcome told = {77, 77};
+    radixvm_line line = {77, 77, 77, 77, 77, 77};
+    uint64_t word = 77;
+    expect_status("step on none", radixvm_step(place, &event, &told), status);
+    expect_status("call on none", radixvm_call(place, &event, &told), status);
+    expect_status("begin on none", radixvm_begin(place, &event, &told), status);
+    expect_status("finish on none", radixvm_finish(place, 0, &told), status);
+    expect("run on none", radixvm_run_on(place, &event, 1, &told, 1), status, 0);
+    expect("calls on none", radixvm_calls_on(place, &event, 1, &told, 1), status, 0);
+    expect("maps of none", radixvm_maps(place, &line, 1), status, 0);
+    expect_status("entry of none", radixvm_entry(place, 0, 16, &word), status);
+    expect_status("cores of none", (uint32_t)radixvm_cores(place), 0);
+    radixvm_free(place);
+    tried++;
+    if (told.kind != 77 || told.value != 77 || line.first != 77 || word != 77) wrong++, printf("something was told of none\n");
+}
+
+/* A machine that is kept: made once, looked at, and freed. */
+static void keep_one(void) {
+    const radixvm_setup setup = {2, 4, 100}, bad = {65, 4, 100};
+    const uint32_t fixed = RADIXVM_MAP_PRIVATE | RADIXVM_MAP_FIXED | RADIXVM_MAP_ANONYMOUS;
+    const radixvm_event map = {RADIXVM_MMAP, 1, 0x10000, 0x2000, 0, 0, 3, fixed, 0}, store = {RADIXVM_STORE, 1, 0x10000, 0, 0, 0, 0, 0, 7};
+    radixvm_machine place = {0};
+    radixvm_outcome told = {0, 0};
+    radixvm_line lines[2] = {{77, 77, 77, 77, 77, 77}, {77, 77, 77, 77, 77, 77}};
+    uint64_t word = 77;
+    try_none(NULL, RADIXVM_NULL);
+    try_none(&place, RADIXVM_EMPTY);
+    expect("a bad setup", radixvm_new(&bad, NULL, 0, NULL, 0, &place), RADIXVM_BAD_CORES, 0);
+    try_none(&place, RADIXVM_EMPTY);
+    expect("no place", radixvm_new(&setup, NULL, 0, NULL, 0, NULL), RADIXVM_NULL, 0);
+    expect("a machine", radixvm_new(&setup, NULL, 0, NULL, 0, &place), RADIXVM_OK, 0);
+    expect("another", radixvm_new(&setup, NULL, 0, NULL, 0, &place), RADIXVM_IN_USE, 0);
+    expect_status("cores", (uint32_t)radixvm_cores(&place), 2);
+    expect_status("no event", radixvm_call(&place, NULL, &told), RADIXVM_NULL);
+    expect_status("no outcome", radixvm_step(&place, &map, NULL), RADIXVM_NULL);
+    expect_status("no word", radixvm_entry(&place, 0, 16, NULL), RADIXVM_NULL);
+    const radixvm_event go = load(RADIXVM_GO, 1);
+    expect_status("no call is begun by a step", radixvm_begin(&place, &go, &told), RADIXVM_BAD_EVENT);
+    expect_status("begun", radixvm_begin(&place, &map, &told), RADIXVM_OK);
+    expect_status("the outcome of a begin", told.kind, RADIXVM_STEPPED);
+    expect_status("finished", radixvm_finish(&place, 1, &told), RADIXVM_OK);
+    expect("the reply", (radixvm_done){told.kind, told.value}, RADIXVM_MAPPED, 0x10000);
+    expect_status("an entry before an access", radixvm_entry(&place, 1, 16, &word), RADIXVM_OK);
+    expect("it is none", (radixvm_done){0, word}, 0, 0);
+    expect_status("stored", radixvm_call(&place, &store, &told), RADIXVM_OK);
+    expect_status("an entry", radixvm_entry(&place, 1, 16, &word), RADIXVM_OK);
+    expect_status("present, writable", (uint32_t)word & 3, 3);
+    word = 77;
+    expect_status("a core that isn't there", radixvm_entry(&place, 2, 16, &word), RADIXVM_ABSENT);
+    expect_status("core 64", radixvm_entry(&place, 64, 16, &word), RADIXVM_ABSENT);
+    expect_status("page 0", radixvm_entry(&place, 1, 0, &word), RADIXVM_ABSENT);
+    expect_status("page 2^35", radixvm_entry(&place, 1, (uint64_t)1 << 35, &word), RADIXVM_ABSENT);
+    expect("nothing is told", (radixvm_done){0, word}, 0, 77);
+    expect("maps, no room", radixvm_maps(&place, NULL, 0), RADIXVM_OK, 1);
+    expect("maps, null", radixvm_maps(&place, NULL, 1), RADIXVM_NULL, 0);
+    expect("maps, room for 2^63", radixvm_maps(&place, lines, (size_t)1 << 63), RADIXVM_TOO_LONG, 0);
+    expect("maps", radixvm_maps(&place, lines, 2), RADIXVM_OK, 1);
+    expect("its pages", (radixvm_done){(uint32_t)lines[0].first, lines[0].end}, 16, 18);
+    expect("its rights", (radixvm_done){lines[0].prot, lines[0].back}, 3, RADIXVM_BACK_ZEROS);
+    expect("no other", (radixvm_done){(uint32_t)lines[1].first, lines[1].end}, 77, 77);
+    radixvm_free(&place);
+    try_none(&place, RADIXVM_EMPTY);
+}
 
 static void try_all(batch *run, int whole) {
     const radixvm_setup good = {2, 4, 100};
@@ -161,15 +256,70 @@ static void refuse_each(void) {
     tried++;
     wrong += machines == 0 || stopped == 0;
 }
+
+/* The same calls on a machine that is kept: where one finds no memory it is finished once there is some, and each reply is
+ * as where memory is ample. The list of mappings is told, or refused, likewise. */
+static void refuse_kept(void) {
+    const radixvm_setup setup = {2, 4, 100};
+    const uint32_t fixed = RADIXVM_MAP_PRIVATE | RADIXVM_MAP_FIXED | RADIXVM_MAP_ANONYMOUS;
+    const radixvm_event events[] = {
+        {RADIXVM_MMAP, 0, 0x10000, 0x4000, 0, 0, 3, fixed, 0}, {RADIXVM_STORE, 0, 0x10000, 0, 0, 0, 0, 0, 7},
+        {RADIXVM_LOAD, 0, 0x10000, 0, 0, 0, 0, 0, 0}, {RADIXVM_MMAP, 1, 0x40000000, 0x1000, 0, 0, 3, fixed, 0},
+        {RADIXVM_STORE, 1, 0x40000000, 0, 0, 0, 0, 0, 8}, {RADIXVM_LOAD, 1, 0x40000000, 0, 0, 0, 0, 0, 0},
+    };
+    const radixvm_outcome right[] = {{RADIXVM_MAPPED, 0x10000}, {RADIXVM_DONE, 0}, {RADIXVM_BYTE, 7}, {RADIXVM_MAPPED, 0x40000000},
+        {RADIXVM_DONE, 0}, {RADIXVM_BYTE, 8}};
+    long n = 0, machines = 0, stopped = 0, lists = 0;
+    for (int refused = 1; refused && n < 100000; n++) {
+        radixvm_machine machine = {0};
+        radixvm_line lines[3];
+        refused = 0;
+        left = n;
+        radixvm_done done = radixvm_new(&setup, NULL, 0, NULL, 0, &machine);
+        if (done.status == RADIXVM_NO_MACHINE) {
+            refused = 1, machines++, left = -1;
+            expect("nothing was made", radixvm_run_on(&machine, NULL, 0, NULL, 0), RADIXVM_EMPTY, 0);
+            done = radixvm_new(&setup, NULL, 0, NULL, 0, &machine);
+        }
+        expect("a machine", done, RADIXVM_OK, 0);
+        for (int i = 0; i < 6; i++) {
+            radixvm_outcome told = {77, 77};
+            uint32_t status = radixvm_call(&machine, &events[i], &told);
+            if (status == RADIXVM_OUT_OF_MEMORY) {
+                refused = 1, stopped++, left = -1;
+                expect_status("nothing is told", told.kind, 77);
+                status = radixvm_finish(&machine, events[i].core, &told);
+            }
+            expect_status("a call", status, RADIXVM_OK);
+            expect("its reply", (radixvm_done){told.kind, told.value}, right[i].kind, right[i].value);
+        }
+        done = radixvm_maps(&machine, lines, 3);
+        if (done.status == RADIXVM_OUT_OF_MEMORY) {
+            refused = 1, lists++, left = -1;
+            done = radixvm_maps(&machine, lines, 3);
+        }
+        expect("the mappings", done, RADIXVM_OK, 2);
+        left = -1;
+        radixvm_free(&machine);
+    }
+    printf("of a kept machine %ld: none was made at %ld, a call was finished later at %ld, the list was asked for again at %ld\n", n - 1,
+        machines, stopped, lists);
+    tried++;
+    wrong += machines == 0 || stopped == 0 || lists == 0;
+}
 #endif
 
 int main(void) {
     expect("version", (radixvm_done){radixvm_version(), 0}, RADIXVM_VERSION, 0);
     try_all(radixvm_run, 0);
     try_all(radixvm_calls, 1);
+    try_all(run_kept, 0);
+    try_all(calls_kept, 1);
+    keep_one();
     long_calls();
 #ifdef REFUSE
     refuse_each();
+    refuse_kept();
 #endif
     printf("%d of %d\n", tried - wrong, tried);
     return wrong != 0;

@@ -1,5 +1,5 @@
-/* A checker beside an implementation of one's own: it compares one's replies with the library's, call by
- * call, and tells the first difference with the pages around it, as the library has them there. */
+/* A checker beside an implementation of one's own: it compares one's replies with the library's, call by call on a machine
+ * that is kept, and tells the first difference with the mappings around it, as the library has them before that call. */
 #ifndef SHADOW_H
 #define SHADOW_H
 #include "radixvm.h"
@@ -7,54 +7,60 @@
 #include <stdlib.h>
 #include <string.h>
 
-/* The outcome of each call, and what the probes behind the first `calls` calls came to. */
-static void shadow_probe(const radixvm_setup *setup, const radixvm_event *events, size_t calls, uint64_t page,
-    radixvm_outcome probes[3]) {
-    radixvm_event *all = (radixvm_event *)calloc(calls + 3, sizeof *all);
-    radixvm_outcome *told = (radixvm_outcome *)calloc(calls + 3, sizeof *told);
-    radixvm_setup wider = *setup;
-    if (!all || !told) abort();
-    if (calls) memcpy(all, events, calls * sizeof *all);
-    for (uint32_t i = 0; i < 3; i++) {
-        all[calls + i].kind = RADIXVM_LOAD + i; /* a load, a store, a fetch */
-        all[calls + i].at = page * 4096;
+static void shadow_tell_line(const radixvm_line *line, FILE *out) {
+    static const char *backs[] = {"zeros", "shared", "private"};
+    fprintf(out, "  before it 0x%llx-0x%llx %s%s%s %s", (unsigned long long)line->first * 4096, (unsigned long long)line->end * 4096,
+        line->prot & RADIXVM_PROT_READ ? "r" : "-", line->prot & RADIXVM_PROT_WRITE ? "w" : "-",
+        line->prot & RADIXVM_PROT_EXEC ? "x" : "-", line->back <= RADIXVM_BACK_PRIVATE ? backs[line->back] : "?");
+    if (line->back != RADIXVM_BACK_ZEROS) fprintf(out, " file %u page %llu", line->file, (unsigned long long)line->page);
+    fprintf(out, "\n");
+}
+
+/* The mappings that have one of these pages, and the next one on either side. */
+static void shadow_tell_maps(radixvm_machine *machine, uint64_t first, uint64_t last, FILE *out) {
+    uint64_t count = radixvm_maps(machine, NULL, 0).count;
+    radixvm_line *lines = (radixvm_line *)calloc(count ? count : 1, sizeof *lines);
+    if (!lines || radixvm_maps(machine, lines, count).status != RADIXVM_OK) abort();
+    for (uint64_t i = 0; i < count; i++) {
+        int far_below = i + 1 < count && lines[i].end <= first && lines[i + 1].end <= first;
+        int far_above = i > 0 && lines[i].first > last && lines[i - 1].first > last;
+        if (!far_below && !far_above) shadow_tell_line(&lines[i], out);
     }
-    if (wider.calls <= 1048576 - 3) wider.calls += 3;
-    radixvm_calls(&wider, NULL, 0, NULL, 0, all, calls + 3, told, calls + 3);
-    memcpy(probes, told + calls, 3 * sizeof *probes);
-    free(all);
+    if (!count) fprintf(out, "  before it nothing is mapped\n");
+    free(lines);
+}
+
+/* The machine as it is before the call of this place. */
+static void shadow_before(const radixvm_setup *setup, const radixvm_event *events, size_t at, radixvm_machine *machine) {
+    radixvm_outcome *told = (radixvm_outcome *)calloc(at ? at : 1, sizeof *told);
+    if (!told || radixvm_new(setup, NULL, 0, NULL, 0, machine).status != RADIXVM_OK) abort();
+    radixvm_calls_on(machine, events, at, told, at);
     free(told);
 }
 
-/* The place of the first call whose reply isn't one's own, or `count` where all are; the difference is written
- * to `out`. It is for setups of one core without files: probes are accesses of core 0, behind the calls. */
+/* The place of the first call whose reply isn't one's own, or that isn't made, or `count` where there is none; the
+ * difference is written to `out`. It is for setups without files. */
 static size_t shadow_check(const radixvm_setup *setup, const radixvm_event *events, const radixvm_outcome *own,
     size_t count, FILE *out) {
-    radixvm_outcome *told = (radixvm_outcome *)calloc(count ? count : 1, sizeof *told);
+    radixvm_machine machine = {0};
+    radixvm_outcome told = {0, 0};
+    uint32_t status = radixvm_new(setup, NULL, 0, NULL, 0, &machine).status;
     size_t at = 0;
-    if (!told) abort();
-    radixvm_done done = radixvm_calls(setup, NULL, 0, NULL, 0, events, count, told, count);
-    while (at < done.count && own[at].kind == told[at].kind && own[at].value == told[at].value) at++;
-    if (at == done.count && done.status != RADIXVM_OK)
-        fprintf(out, "call %zu wasn't made: status %u\n", at, done.status);
+    for (; at < count && status == RADIXVM_OK; at++) {
+        status = radixvm_call(&machine, &events[at], &told);
+        if (status != RADIXVM_OK || own[at].kind != told.kind || own[at].value != told.value) break;
+    }
+    radixvm_free(&machine);
+    if (status != RADIXVM_OK) fprintf(out, "call %zu wasn't made: status %u\n", at, status);
     else if (at < count) {
-        uint64_t page = events[at].at / 4096, last = (events[at].at + (events[at].len ? events[at].len - 1 : 0)) / 4096;
+        uint64_t first = events[at].at / 4096, last = (events[at].at + (events[at].len ? events[at].len - 1 : 0)) / 4096;
         fprintf(out, "call %zu (kind %u, 0x%llx, %llu bytes): own %u %llu, expected %u %llu\n", at, events[at].kind,
             (unsigned long long)events[at].at, (unsigned long long)events[at].len, own[at].kind,
-            (unsigned long long)own[at].value, told[at].kind, (unsigned long long)told[at].value);
-        if (last > page + 6) last = page + 6;
-        for (uint64_t p = page > 1 ? page - 1 : 1; p <= last + 1; p++) {
-            radixvm_outcome probe[3];
-            shadow_probe(setup, events, at, p, probe);
-            if (probe[0].kind == RADIXVM_SEGV_MAPERR)
-                fprintf(out, "  0x%llx not mapped before it\n", (unsigned long long)p * 4096);
-            else
-                fprintf(out, "  0x%llx %s%s%s before it, first byte %llu\n", (unsigned long long)p * 4096,
-                    probe[0].kind == RADIXVM_BYTE ? "r" : "-", probe[1].kind == RADIXVM_DONE ? "w" : "-",
-                    probe[2].kind == RADIXVM_BYTE ? "x" : "-", (unsigned long long)probe[0].value);
-        }
+            (unsigned long long)own[at].value, told.kind, (unsigned long long)told.value);
+        shadow_before(setup, events, at, &machine);
+        shadow_tell_maps(&machine, first, last, out);
+        radixvm_free(&machine);
     }
-    free(told);
     return at;
 }
 #endif

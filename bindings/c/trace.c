@@ -1,5 +1,6 @@
 /* Runs a trace, as `./radixvm run` does, through the library: one batch of all lines.
- * Usage: trace < TRACE; with the word `steps`, by radixvm_run, where each event is one line. */
+ * Usage: trace [kept] [steps] < TRACE; with `steps` each event is one line (radixvm_run), with `kept` each line is given
+ * by itself to a machine that is kept. */
 #include "radixvm.h"
 #include <stdio.h>
 #include <stdlib.h>
@@ -108,8 +109,22 @@ static void tell(radixvm_outcome o) {
     }
 }
 
+/* The events one by one, on a machine that is kept. */
+static radixvm_done run_kept(int by_steps, const radixvm_setup *setup, const radixvm_file *files, size_t file_count,
+    const uint8_t *bytes, size_t byte_count, const radixvm_event *events, size_t count, radixvm_outcome *outcomes) {
+    radixvm_machine machine = {0};
+    radixvm_done done = radixvm_new(setup, files, file_count, bytes, byte_count, &machine);
+    while (done.status == RADIXVM_OK && done.count < count) {
+        done.status = by_steps ? radixvm_step(&machine, &events[done.count], &outcomes[done.count])
+            : radixvm_call(&machine, &events[done.count], &outcomes[done.count]);
+        done.count += done.status == RADIXVM_OK;
+    }
+    radixvm_free(&machine);
+    return done;
+}
+
 int main(int argc, char **argv) {
-    int by_steps = argc > 1 && !strcmp(argv[1], "steps");
+    int by_steps = argc > 1 && !strcmp(argv[argc - 1], "steps"), kept = argc > 1 && !strcmp(argv[1], "kept");
     radixvm_setup setup = {1, 0, 4096};
     static radixvm_file files[16];
     static uint8_t bytes[16 * 1048576];
@@ -142,8 +157,8 @@ int main(int argc, char **argv) {
             events[count++] = e;
         }
     }
-    radixvm_done done = by_steps
-        ? radixvm_run(&setup, files, file_count, bytes, byte_count, events, count, outcomes, count)
+    radixvm_done done = kept ? run_kept(by_steps, &setup, files, file_count, bytes, byte_count, events, count, outcomes)
+        : by_steps ? radixvm_run(&setup, files, file_count, bytes, byte_count, events, count, outcomes, count)
         : radixvm_calls(&setup, files, file_count, bytes, byte_count, events, count, outcomes, count);
     for (uint64_t i = 0; i < done.count && done.status <= RADIXVM_OUT_OF_MEMORY; i++) tell(outcomes[i]);
     free(events);

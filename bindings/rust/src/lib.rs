@@ -1,7 +1,8 @@
 //! One virtual address space that 1 to 64 modelled cores share, from `libradixvm.a`, whose contracts are proved
 //! (`crates/radixvm_c`). This crate isn't: it turns its own types into the structs of `include/radixvm.h`, and back.
 //!
-//! A batch makes a new machine, gives it what is asked for, and hands back what each came to.
+//! A batch makes a new machine, gives it what is asked for, and hands back what each came to. A [`Machine`] is kept, and takes
+//! events and calls as they come.
 //!
 //! ```
 //! use radixvm::{calls, Ask, Flags, Outcome, Prot, Reply, Request, Setup};
@@ -18,8 +19,12 @@
 //! # Ok::<(), radixvm::Stopped>(())
 //! ```
 use std::fmt;
+use std::ops::Range;
 
+mod machine;
 mod raw;
+
+pub use machine::Machine;
 
 /// For what a file is open.
 #[derive(Clone, Copy, Debug, PartialEq, Eq)]
@@ -165,13 +170,34 @@ pub enum Outcome {
     Stuck,
 }
 
-/// Why a batch ended before its end.
+/// What backs neighbouring pages. A file's pages are counted from 0, and `page` is the one behind the first of them.
+#[derive(Clone, Copy, Debug, PartialEq, Eq)]
+pub enum Back {
+    /// Zero bytes.
+    Zeros,
+    /// The file's own pages.
+    Shared { file: u32, page: u64 },
+    /// Copies of the file's pages.
+    Private { file: u32, page: u64 },
+}
+
+/// Neighbouring pages with the same protection, whose backing goes on from page to page.
+#[derive(Clone, Debug, PartialEq, Eq)]
+pub struct Line {
+    pub pages: Range<u64>,
+    pub prot: Prot,
+    pub back: Back,
+}
+
+/// Why a batch ended before its end, or one event wasn't taken, whose `at` is 0.
 #[derive(Clone, Copy, Debug, PartialEq, Eq)]
 pub enum Error {
     /// This event has a core above 63.
     BadEvent { at: usize },
     /// Memory was refused to this event.
     OutOfMemory { at: usize },
+    /// The machine has no such core, or no page has this number.
+    Absent,
     /// There are more than 2^32 events, or bytes of files.
     TooLong,
     /// There is no core, or there are more than 64.
@@ -195,6 +221,7 @@ impl fmt::Display for Error {
         match self {
             Error::BadEvent { at } => write!(f, "event {at} has a core above 63"),
             Error::OutOfMemory { at } => write!(f, "memory was refused to event {at}"),
+            Error::Absent => write!(f, "no such core, or no such page"),
             Error::TooLong => write!(f, "more than 2^32 events, or bytes of files"),
             Error::BadCores => write!(f, "not 1 to 64 cores"),
             Error::BadFrames => write!(f, "more than 65536 frames"),
@@ -206,6 +233,8 @@ impl fmt::Display for Error {
         }
     }
 }
+
+impl std::error::Error for Error {}
 
 /// A batch that ended early: what the events before came to, and why.
 #[derive(Clone, Debug, PartialEq, Eq)]

@@ -1,5 +1,6 @@
 //! The structs and codes of `include/radixvm.h`.
-use crate::{Ask, Errno, Error, Event, Flags, Mode, Outcome, Prot, Reply, Request, Setup, Stopped};
+use crate::{Ask, Back, Errno, Error, Event, Flags, Line, Mode, Outcome, Prot, Reply, Request, Setup, Stopped};
+use std::ptr;
 
 #[repr(C)]
 struct RawSetup {
@@ -42,6 +43,23 @@ struct RawDone {
     count: u64,
 }
 
+/// A machine that is kept, as C holds it: the library's pointer, null where there is none.
+#[repr(C)]
+pub struct Place {
+    at: *mut u8,
+}
+
+#[repr(C)]
+#[derive(Clone, Copy, Default)]
+struct RawLine {
+    first: u64,
+    end: u64,
+    page: u64,
+    file: u32,
+    back: u32,
+    prot: u32,
+}
+
 type Batch = unsafe extern "C" fn(
     *const RawSetup, *const RawFile, usize, *const u8, usize, *const RawEvent, usize, *mut RawOutcome, usize,
 ) -> RawDone;
@@ -56,6 +74,21 @@ extern "C" {
         setup: *const RawSetup, files: *const RawFile, file_count: usize, bytes: *const u8, byte_count: usize,
         events: *const RawEvent, event_count: usize, outcomes: *mut RawOutcome, room: usize,
     ) -> RawDone;
+    fn radixvm_new_held(
+        setup: *const RawSetup, files: *const RawFile, file_count: usize, bytes: *const u8, byte_count: usize, machine: *mut Place,
+    ) -> RawDone;
+    fn radixvm_free_held(machine: *mut Place);
+    fn radixvm_step_held(machine: *mut Place, event: *const RawEvent, outcome: *mut RawOutcome) -> u32;
+    fn radixvm_call_held(machine: *mut Place, event: *const RawEvent, outcome: *mut RawOutcome) -> u32;
+    fn radixvm_run_held(
+        machine: *mut Place, events: *const RawEvent, event_count: usize, outcomes: *mut RawOutcome, room: usize,
+    ) -> RawDone;
+    fn radixvm_calls_held(
+        machine: *mut Place, events: *const RawEvent, event_count: usize, outcomes: *mut RawOutcome, room: usize,
+    ) -> RawDone;
+    fn radixvm_cores_held(machine: *mut Place) -> u64;
+    fn radixvm_entry_held(machine: *mut Place, core: u32, page: u64, word: *mut u64) -> u32;
+    fn radixvm_maps_held(machine: *mut Place, lines: *mut RawLine, room: usize) -> RawDone;
 }
 
 /// What is added to a kind that is one step in a batch of calls.
@@ -160,6 +193,7 @@ fn error_of(status: u32, at: usize) -> Error {
         1 => Error::BadEvent { at },
         2 => Error::OutOfMemory { at },
         4 => Error::TooLong,
+        9 => Error::Absent,
         11 => Error::BadCores,
         12 => Error::BadFrames,
         13 => Error::TooManyFiles,
@@ -170,7 +204,8 @@ fn error_of(status: u32, at: usize) -> Error {
     }
 }
 
-pub fn batch(setup: &Setup, raws: &[RawEvent], way: Way) -> Result<Vec<Outcome>, Stopped> {
+/// The setup, its files, and their bytes.
+fn of_setup(setup: &Setup) -> (RawSetup, Vec<RawFile>, Vec<u8>) {
     let mut bytes = Vec::new();
     let mut files = Vec::new();
     for file in &setup.files {
@@ -182,16 +217,11 @@ pub fn batch(setup: &Setup, raws: &[RawEvent], way: Way) -> Result<Vec<Outcome>,
         files.push(RawFile { mode, start: bytes.len() as u64, len: file.bytes.len() as u64 });
         bytes.extend_from_slice(&file.bytes);
     }
-    let raw_setup = RawSetup { cores: setup.cores, frames: setup.frames, calls: setup.calls };
-    let mut told = vec![RawOutcome::default(); raws.len()];
-    let run: Batch = match way {
-        Way::Events => radixvm_run_batch,
-        Way::Calls => radixvm_calls_batch,
-    };
-    // SAFETY: each pointer is a slice's with its length, so it isn't null, and what is written overlaps nothing else.
-    let done = unsafe {
-        run(&raw_setup, files.as_ptr(), files.len(), bytes.as_ptr(), bytes.len(), raws.as_ptr(), raws.len(), told.as_mut_ptr(), told.len())
-    };
+    (RawSetup { cores: setup.cores, frames: setup.frames, calls: setup.calls }, files, bytes)
+}
+
+/// What a batch came to that told these outcomes.
+fn ended(done: &RawDone, told: &[RawOutcome]) -> Result<Vec<Outcome>, Stopped> {
     let count = if done.status <= 2 { done.count as usize } else { 0 };
     let outcomes: Option<Vec<_>> = told[..count].iter().map(outcome_of).collect();
     match (done.status, outcomes) {
@@ -199,4 +229,108 @@ pub fn batch(setup: &Setup, raws: &[RawEvent], way: Way) -> Result<Vec<Outcome>,
         (status, Some(outcomes)) => Err(Stopped { outcomes, error: error_of(status, done.count as usize) }),
         (_, None) => Err(Stopped { outcomes: Vec::new(), error: Error::UnknownCode(u32::MAX) }),
     }
+}
+
+pub fn batch(setup: &Setup, raws: &[RawEvent], way: Way) -> Result<Vec<Outcome>, Stopped> {
+    let (raw_setup, files, bytes) = of_setup(setup);
+    let mut told = vec![RawOutcome::default(); raws.len()];
+    let run: Batch = match way {
+        Way::Events => radixvm_run_batch,
+        Way::Calls => radixvm_calls_batch,
+    };
+    // SAFETY: each pointer is a slice's with its length, so it isn't null, and what is written overlaps nothing else.
+    let done = unsafe {
+        run(
+            &raw_setup, files.as_ptr(), files.len(), bytes.as_ptr(), bytes.len(), raws.as_ptr(), raws.len(), told.as_mut_ptr(), told.len(),
+        )
+    };
+    ended(&done, &told)
+}
+
+impl Place {
+    pub fn new(setup: &Setup) -> Result<Place, Error> {
+        let (raw_setup, files, bytes) = of_setup(setup);
+        let mut place = Place { at: ptr::null_mut() };
+        // SAFETY: as above; the place has no machine.
+        let done = unsafe { radixvm_new_held(&raw_setup, files.as_ptr(), files.len(), bytes.as_ptr(), bytes.len(), &mut place) };
+        if done.status == 0 {
+            Ok(place)
+        } else {
+            Err(error_of(done.status, done.count as usize))
+        }
+    }
+
+    pub fn one(&mut self, raw: &RawEvent, way: Way) -> Result<Outcome, Error> {
+        let mut told = RawOutcome::default();
+        // SAFETY: the place is the library's own, and all three are references.
+        let status = unsafe {
+            match way {
+                Way::Events => radixvm_step_held(self, raw, &mut told),
+                Way::Calls => radixvm_call_held(self, raw, &mut told),
+            }
+        };
+        match status {
+            0 => outcome_of(&told).ok_or(Error::UnknownCode(told.kind)),
+            status => Err(error_of(status, 0)),
+        }
+    }
+
+    pub fn many(&mut self, raws: &[RawEvent], way: Way) -> Result<Vec<Outcome>, Stopped> {
+        let mut told = vec![RawOutcome::default(); raws.len()];
+        // SAFETY: as above; each pointer is a slice's with its length.
+        let done = unsafe {
+            match way {
+                Way::Events => radixvm_run_held(self, raws.as_ptr(), raws.len(), told.as_mut_ptr(), told.len()),
+                Way::Calls => radixvm_calls_held(self, raws.as_ptr(), raws.len(), told.as_mut_ptr(), told.len()),
+            }
+        };
+        ended(&done, &told)
+    }
+
+    pub fn cores(&mut self) -> u64 {
+        // SAFETY: the place is the library's own.
+        unsafe { radixvm_cores_held(self) }
+    }
+
+    pub fn entry(&mut self, core: u32, page: u64) -> Result<u64, Error> {
+        let mut word = 0;
+        // SAFETY: as above.
+        match unsafe { radixvm_entry_held(self, core, page, &mut word) } {
+            0 => Ok(word),
+            status => Err(error_of(status, 0)),
+        }
+    }
+
+    pub fn maps(&mut self) -> Result<Vec<Line>, Error> {
+        let mut told = vec![RawLine::default(); 64];
+        loop {
+            // SAFETY: as above; the pointer is a slice's with its length.
+            let done = unsafe { radixvm_maps_held(self, told.as_mut_ptr(), told.len()) };
+            let count = done.count as usize;
+            match done.status {
+                0 if count <= told.len() => return told[..count].iter().map(line_of).collect(),
+                0 => told = vec![RawLine::default(); count],
+                status => return Err(error_of(status, 0)),
+            }
+        }
+    }
+}
+
+impl Drop for Place {
+    fn drop(&mut self) {
+        // SAFETY: as above; nothing has a copy of it.
+        unsafe { radixvm_free_held(self) }
+    }
+}
+
+fn line_of(raw: &RawLine) -> Result<Line, Error> {
+    let (file, page) = (raw.file, raw.page);
+    let back = match raw.back {
+        0 => Back::Zeros,
+        1 => Back::Shared { file, page },
+        2 => Back::Private { file, page },
+        code => return Err(Error::UnknownCode(code)),
+    };
+    let prot = Prot { read: raw.prot & 1 != 0, write: raw.prot & 2 != 0, exec: raw.prot & 4 != 0 };
+    Ok(Line { pages: raw.first..raw.end, prot, back })
 }

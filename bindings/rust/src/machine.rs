@@ -1,0 +1,141 @@
+//! A machine that is kept.
+use crate::raw::{of_ask, of_event, Place, Way};
+use crate::{Ask, Error, Event, Line, Outcome, Request, Setup, Stopped};
+
+/// A machine that takes events and calls as they come, and is freed when it is dropped. It is its thread's alone: it is
+/// neither `Send` nor `Sync`.
+///
+/// ```
+/// use radixvm::{Flags, Machine, Outcome, Prot, Reply, Request, Setup};
+///
+/// let mut machine = Machine::new(&Setup { cores: 1, frames: 4, calls: 100, files: vec![] })?;
+/// let flags = Flags { private: true, fixed: true, anonymous: true, ..Flags::default() };
+/// let prot = Prot { read: true, write: true, exec: false };
+/// machine.call(0, Request::Mmap { addr: 0x10000, len: 4096, prot, flags, file: 0, off: 0 })?;
+/// machine.call(0, Request::Store { addr: 0x10004, byte: 41 })?;
+/// assert_eq!(machine.call(0, Request::Load { addr: 0x10004 })?, Outcome::Replied(Reply::Byte(41)));
+/// # Ok::<(), radixvm::Error>(())
+/// ```
+///
+/// ```compile_fail
+/// fn is_send<T: Send>() {}
+/// is_send::<radixvm::Machine>();
+/// ```
+pub struct Machine {
+    place: Place,
+}
+
+impl Machine {
+    /// A new machine.
+    ///
+    /// ```
+    /// use radixvm::{Error, Machine, Setup};
+    ///
+    /// let setup = Setup { cores: 65, frames: 4, calls: 100, files: vec![] };
+    /// assert_eq!(Machine::new(&setup).err(), Some(Error::BadCores));
+    /// ```
+    pub fn new(setup: &Setup) -> Result<Machine, Error> {
+        Ok(Machine { place: Place::new(setup)? })
+    }
+
+    /// Takes one event. At an error nothing changes.
+    ///
+    /// ```
+    /// use radixvm::{Error, Event, Machine, Outcome, Setup};
+    ///
+    /// let mut machine = Machine::new(&Setup { cores: 1, frames: 4, calls: 100, files: vec![] })?;
+    /// assert_eq!(machine.step(&Event::Go(0))?, Outcome::Idle);
+    /// assert_eq!(machine.step(&Event::Go(64)), Err(Error::BadEvent { at: 0 }));
+    /// # Ok::<(), radixvm::Error>(())
+    /// ```
+    pub fn step(&mut self, event: &Event) -> Result<Outcome, Error> {
+        self.place.one(&of_event(event), Way::Events)
+    }
+
+    /// Begins a call of the core, and makes no step of it.
+    pub fn begin(&mut self, core: u32, request: Request) -> Result<Outcome, Error> {
+        self.step(&Event::Call(core, request))
+    }
+
+    /// Makes a call of the core, to its end or until it waits for another core. Where memory is refused some of its steps may
+    /// have been made, and [`Machine::finish`] goes on.
+    pub fn call(&mut self, core: u32, request: Request) -> Result<Outcome, Error> {
+        self.place.one(&of_ask(&Ask::Call(core, request)), Way::Calls)
+    }
+
+    /// Makes the rest of the core's call, after a wait, a begin, or a want of memory.
+    ///
+    /// ```
+    /// use radixvm::{Machine, Outcome, Reply, Request, Setup};
+    ///
+    /// let mut machine = Machine::new(&Setup { cores: 2, frames: 4, calls: 100, files: vec![] })?;
+    /// assert_eq!(machine.begin(1, Request::Munmap { addr: 0x10000, len: 4096 })?, Outcome::Stepped);
+    /// assert_eq!(machine.call(0, Request::Load { addr: 0x10000 })?, Outcome::Replied(Reply::MapErr));
+    /// assert_eq!(machine.finish(1)?, Outcome::Replied(Reply::Done));
+    /// # Ok::<(), radixvm::Error>(())
+    /// ```
+    pub fn finish(&mut self, core: u32) -> Result<Outcome, Error> {
+        self.place.one(&of_ask(&Ask::Finish(core)), Way::Calls)
+    }
+
+    /// Takes the events, as [`run`](crate::run) does, from where the machine is.
+    pub fn run(&mut self, events: &[Event]) -> Result<Vec<Outcome>, Stopped> {
+        let raws: Vec<_> = events.iter().map(of_event).collect();
+        self.place.many(&raws, Way::Events)
+    }
+
+    /// Makes the calls, as [`calls`](crate::calls) does, from where the machine is.
+    ///
+    /// ```
+    /// use radixvm::{Ask, Event, Machine, Outcome, Reply, Request, Setup};
+    ///
+    /// let mut machine = Machine::new(&Setup { cores: 1, frames: 4, calls: 100, files: vec![] })?;
+    /// let load = Request::Load { addr: 0x10000 };
+    /// assert_eq!(machine.run(&[Event::Call(0, load)]).unwrap(), [Outcome::Stepped]);
+    /// let told = machine.calls(&[Ask::Finish(0), Ask::Call(0, load)]).unwrap();
+    /// assert_eq!(told, [Outcome::Replied(Reply::MapErr), Outcome::Replied(Reply::MapErr)]);
+    /// # Ok::<(), radixvm::Error>(())
+    /// ```
+    pub fn calls(&mut self, asks: &[Ask]) -> Result<Vec<Outcome>, Stopped> {
+        let raws: Vec<_> = asks.iter().map(of_ask).collect();
+        self.place.many(&raws, Way::Calls)
+    }
+
+    /// How many cores it has.
+    pub fn cores(&mut self) -> u64 {
+        self.place.cores()
+    }
+
+    /// The entry that the core's page tables have for the page, as the hardware reads it; 0 where they have none.
+    ///
+    /// ```
+    /// use radixvm::{Error, Machine, Setup};
+    ///
+    /// let mut machine = Machine::new(&Setup { cores: 2, frames: 4, calls: 100, files: vec![] })?;
+    /// assert_eq!(machine.entry(1, 16)?, 0);
+    /// assert_eq!(machine.cores(), 2);
+    /// assert_eq!(machine.entry(2, 16), Err(Error::Absent));
+    /// assert_eq!(machine.entry(0, 0), Err(Error::Absent));
+    /// # Ok::<(), radixvm::Error>(())
+    /// ```
+    pub fn entry(&mut self, core: u32, page: u64) -> Result<u64, Error> {
+        self.place.entry(core, page)
+    }
+
+    /// All mappings, in order of pages.
+    ///
+    /// ```
+    /// use radixvm::{Back, File, Flags, Line, Machine, Mode, Prot, Request, Setup};
+    ///
+    /// let file = File { mode: Mode::ReadWrite, bytes: vec![7; 8192] };
+    /// let mut machine = Machine::new(&Setup { cores: 1, frames: 4, calls: 100, files: vec![file] })?;
+    /// let flags = Flags { shared: true, fixed: true, ..Flags::default() };
+    /// let prot = Prot { read: true, ..Prot::default() };
+    /// machine.call(0, Request::Mmap { addr: 0x10000, len: 4096, prot, flags, file: 0, off: 4096 })?;
+    /// assert_eq!(machine.maps()?, [Line { pages: 16..17, prot, back: Back::Shared { file: 0, page: 1 } }]);
+    /// # Ok::<(), radixvm::Error>(())
+    /// ```
+    pub fn maps(&mut self) -> Result<Vec<Line>, Error> {
+        self.place.maps()
+    }
+}
