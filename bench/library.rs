@@ -1,5 +1,6 @@
-//! Times calls through libradixvm.a beside the plain machine of bench/baseline.rs, called as a function: the same list, made by
-//! each from a new machine on, five times in turn. bench/library.sh builds and runs it.
+//! Times calls through libradixvm.a, in one batch and one by one on a machine that is kept, beside the plain machine of
+//! bench/baseline.rs, called as a function: the same list, made by each from a new machine on, five times in turn. bench/library.sh
+//! builds and runs it.
 mod baseline {
     #![allow(dead_code)]
     pub mod counts;
@@ -55,6 +56,17 @@ extern "C" {
         setup: *const Setup, files: *const u8, file_count: usize, bytes: *const u8, byte_count: usize, events: *const Event,
         event_count: usize, told: *mut Told, room: usize,
     ) -> Done;
+    fn radixvm_new_held(
+        setup: *const Setup, files: *const u8, file_count: usize, bytes: *const u8, byte_count: usize, machine: *mut Held,
+    ) -> Done;
+    fn radixvm_call_held(machine: *mut Held, event: *const Event, told: *mut Told) -> u32;
+    fn radixvm_free_held(machine: *mut Held);
+}
+
+/// A machine that is kept.
+#[repr(C)]
+struct Held {
+    at: *mut u8,
 }
 
 const CALLS: u64 = 1_000_000;
@@ -92,8 +104,22 @@ fn coded(outcome: &Outcome) -> (u32, u64) {
     }
 }
 
-/// Nanoseconds a call, of both.
-fn time(calls: &[(Event, Request)]) -> (f64, f64) {
+/// The calls one by one on a machine that is kept.
+fn one_by_one(setup: &Setup, events: &[Event], told: &mut [Told]) {
+    let mut held = Held { at: std::ptr::null_mut() };
+    let bytes = [0u8; 32];
+    // SAFETY: as in `time`; the place of the machine is null before it is made, and nothing else writes it.
+    unsafe {
+        assert!(radixvm_new_held(setup, events.as_ptr().cast(), 0, bytes.as_ptr(), 0, &mut held).status == 0);
+        for (event, told) in events.iter().zip(told) {
+            assert!(radixvm_call_held(&mut held, event, told) == 0);
+        }
+        radixvm_free_held(&mut held);
+    }
+}
+
+/// Nanoseconds a call: of a batch, one by one, and of the plain machine.
+fn time(calls: &[(Event, Request)]) -> (f64, f64, f64) {
     let events: Vec<_> = calls.iter().map(|call| call.0).collect();
     let mut told = vec![Told::default(); calls.len()];
     let setup = Setup { cores: 1, frames: FRAMES, calls: CALLS };
@@ -104,6 +130,11 @@ fn time(calls: &[(Event, Request)]) -> (f64, f64) {
     };
     let ours = start.elapsed();
     assert!(done.status == 0 && done.count == calls.len() as u64);
+    let mut told_each = vec![Told::default(); calls.len()];
+    let start = Instant::now();
+    one_by_one(&setup, &events, &mut told_each);
+    let each_by_itself = start.elapsed();
+    assert!(told.iter().zip(&told_each).all(|(told, each)| (told.kind, told.value) == (each.kind, each.value)));
     let mut outcomes = vec![(0, 0); calls.len()];
     let start = Instant::now();
     let mut machine = Machine::new(1, FRAMES as usize, CALLS);
@@ -113,18 +144,22 @@ fn time(calls: &[(Event, Request)]) -> (f64, f64) {
     let plain = start.elapsed();
     assert!(told.iter().zip(&outcomes).all(|(told, outcome)| (told.kind, told.value) == *outcome));
     let each = 1e9 / calls.len() as f64;
-    (ours.as_secs_f64() * each, plain.as_secs_f64() * each)
+    (ours.as_secs_f64() * each, each_by_itself.as_secs_f64() * each, plain.as_secs_f64() * each)
 }
 
 fn main() {
     for kind in ["hit", "fault", "change"] {
         let calls = calls_of(kind);
         let mut runs: Vec<_> = (0..5).map(|_| time(&calls)).collect();
-        let mut median = |of: fn(&(f64, f64)) -> f64| {
+        let mut median = |of: fn(&(f64, f64, f64)) -> f64| {
             runs.sort_by(|a, b| of(a).total_cmp(&of(b)));
             of(&runs[2])
         };
-        let (ours, plain) = (median(|run| run.0), median(|run| run.1));
-        println!("{kind}: library {ours:.1} ns, plain {plain:.1} ns, ratio {:.2}", ours / plain);
+        let (ours, each, plain) = (median(|run| run.0), median(|run| run.1), median(|run| run.2));
+        println!(
+            "{kind}: a batch {ours:.1} ns, one by one {each:.1} ns, plain {plain:.1} ns, ratios {:.2}, {:.2}",
+            ours / plain,
+            each / plain
+        );
     }
 }

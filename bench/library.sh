@@ -1,6 +1,7 @@
 #!/usr/bin/env bash
-# Measures calls through the library for C beside the plain machine of bench/baseline.rs, called as a function: nanoseconds a call,
-# medians of five runs in turn, the making of the machine included; the replies have to be the same.
+# Measures calls through the library for C, in one batch and one by one on a machine that is kept, beside the plain machine of
+# bench/baseline.rs, called as a function: nanoseconds a call, medians of five runs in turn, the making of the machine included; the replies
+# have to be the same.
 #   hit      a load of a page that the TLB has
 #   fault    the first load of each of 65,000 pages
 #   change   a page mapped, and unmapped, in turn
