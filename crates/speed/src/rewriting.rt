@@ -21,7 +21,7 @@ fn script_of(alloc: Global, declared: &Declaration) -> Option<Script<Global>> {
 }
 
 /// Reads notes of a space without files, and writes them. Tells whether that went well.
-pub fn rewrite<R: Read, W: Write + Drop>(alloc: Global, input: R, output: W) -> bool {
+pub fn rewrite<R: Read + Drop, W: Write + Drop>(alloc: Global, input: R, output: W) -> bool {
     let mut reader = Counted::new(input);
     let read: Result<Collector<Noted, Global>, TraceFault> = collect(alloc, &mut reader);
     let Ok(collected) = read else {
