@@ -1,7 +1,9 @@
 //! Tests of what a request is to be answered, a module for each crate that is tested: `vm_base`,
-//! `plain_map` and `vm_calls`. The last two walk the same rows.
+//! `plain_map`, `vm_calls` and `audit`. The last three walk the same rows.
 #![tactic(auto)]
 
+#[cfg(test)]
+mod audit_tests;
 #[cfg(test)]
 mod plain_map_tests;
 #[cfg(test)]

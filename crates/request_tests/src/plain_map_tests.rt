@@ -35,7 +35,7 @@ fn first_wrong(map: PlainMap<Global>, rows: &[(Ask, Reply)]) -> Result<Option<us
 }
 
 /// A map with the file of a table, or with none.
-fn map_of(alloc: Global, file: Option<File>) -> Result<PlainMap<Global>, NoMemory> {
+pub fn map_of(alloc: Global, file: Option<File>) -> Result<PlainMap<Global>, NoMemory> {
     match file {
         Some((mode, len, seed)) => with_file(alloc, mode, len, seed),
         None => PlainMap::new(alloc, Vec::new(alloc)),

@@ -1,0 +1,134 @@
+-- Slots that are held one after another, and let go so
+use Rattle.std.proofs.Common.{◌≡◌, ℕ, zero, suc, ◌-◌, ◌^◌, ◌<◌, ◌≤◌, ◌⊎◌, inl, inr, ⊎_elim, Bool, true, Option, Some, None}
+use Rattle.std.proofs.Common.{refl, sym, ◌∙◌, ap, subst, arith}
+use Rattle.std.specs.Prelude.{if◌then◌else◌}
+use Rattle.std.proofs.lemmas.Bool.{cases_lt}
+use Rattle.vm_base.specs.Functions.{has}
+use Rattle.vm_base.specs.Pages.{IsPageRange}
+use Rattle.vm_base.proofs.Functions.{by_test, has_in, in_has}
+use Rattle.slot_lock.specs.Edges.{edges_below}
+use Rattle.slot_lock.specs.Slots.{Slots, IsSlotBy, IsHeld, Locks, Unlocks, Splits, Divides, between, with_owner}
+use Rattle.slot_lock.proofs.Divisions.{slot_by}
+use Rattle.slot_lock.proofs.EdgeCounts.{edges_below-Divides, edges_below-most}
+use Rattle.audit.specs.Keeping.{HeldFrom, NobodyHolds}
+
+-- ---- divisions that are left
+
+-- at how many valid pages no slot begins
+pub missing : Slots → ℕ
+missing s = 2 ^ 35 - edges_below s (2 ^ 35)
+
+-- 1 where a slot begins
+abbrev one : Bool → ℕ
+one b = if b then 1 else 0
+
+same_edges : (s t : Slots) → t.edge ≡ s.edge → (n : ℕ) → edges_below t n ≡ edges_below s n
+unfolding edges_below
+same_edges s t e zero = refl
+same_edges s t e (suc n) =
+    let a : one (t.edge n) ≡ one (s.edge n) = ap (λ f. one (f n)) e in
+    let b = same_edges s t e n in
+    omega (arith, a, b)
+
+pub missing_same : (s t : Slots) → t.edge ≡ s.edge → missing t ≡ missing s
+unfolding missing
+missing_same s t e = ap (λ n. 2 ^ 35 - n) (same_edges s t e (2 ^ 35))
+
+-- a division leaves fewer
+missing_less : (s t : Slots) (owner : Option ℕ) (at : ℕ) → at < 2 ^ 35 → Divides s t owner at → missing t < missing s
+unfolding missing
+missing_less s t owner at l h =
+    let a = edges_below-Divides s t owner at (2 ^ 35) h l in
+    let b = edges_below-most t (2 ^ 35) in
+    omega (arith, a, b)
+
+pub missing_split : (s t : Slots) (cursor end : ℕ) → Splits s t cursor end → missing t < missing s
+missing_split s t cursor end h = missing_less s t None h.divides.0 (h.divides.1).1 h.divides.2
+
+-- ---- owners
+
+-- the owner of a page, once the pages from a up to b have this one
+inside : (s : Slots) (a b : ℕ) (o : Option ℕ) (p : ℕ) → a ≤ p → p < b → (with_owner s a b o).owner p ≡ o
+inside s a b o p low high =
+    by_test (λ x. x ≡ o) (has (between a b) p) o (s.owner p) (λ e. refl) (λ e. let h = in_has (between a b) p low high in absurd cc)
+
+outside : (s : Slots) (a b : ℕ) (o : Option ℕ) (p : ℕ) → (p < a) ⊎ (b ≤ p) → (with_owner s a b o).owner p ≡ s.owner p
+outside s a b o p out =
+    by_test (λ x. x ≡ s.owner p) (has (between a b) p) o (s.owner p) (λ e. let h = has_in (between a b) p e in absurd (omega (arith, h, out))) (λ e. refl)
+
+-- ---- letting go
+
+pub slot_held : (s : Slots) (cursor end : ℕ) → HeldFrom s cursor end → cursor < end → IsSlotBy s cursor end
+slot_held s cursor end h l = slot_by s cursor end l (h.cut l).0 (h.cut l).1
+
+pub first_held : (s : Slots) (cursor end : ℕ) → HeldFrom s cursor end → cursor < end → s.owner cursor ≡ Some 0
+first_held s cursor end h l = h.held cursor (omega arith) l
+
+pub let_go_one : (s t : Slots) (cursor end b : ℕ) → HeldFrom s cursor end → cursor < end → Unlocks s t 0 cursor end b → HeldFrom t b end
+let_go_one s t cursor end b h l u = subst (λ x. HeldFrom x b end) (sym u.now) (record {
+  held = λ p low high. outside s cursor b None p (inr low) ∙ h.held p (let o = u.slot.ordered in omega (arith, low, o)) high;
+  others = λ p out. by p (cases_lt p cursor) (cases_lt p b) out;
+  cut = λ some. (u.slot.ends, (h.cut l).1);
+})
+  where
+    by : (p : ℕ) → (p < cursor) ⊎ (cursor ≤ p) → (p < b) ⊎ (b ≤ p) → (p < b) ⊎ (end ≤ p) → (with_owner s cursor b None).owner p ≡ None
+    by p (inl below) y out = outside s cursor b None p (inl below) ∙ h.others p (inl below)
+    by p (inr low) (inl high) out = inside s cursor b None p low high
+    by p (inr low) (inr above) (inl high) = absurd (omega (arith, above, high))
+    by p (inr low) (inr above) (inr past) = outside s cursor b None p (inr above) ∙ h.others p (inr past)
+
+pub all_let_go : (s : Slots) (cursor end : ℕ) → HeldFrom s cursor end → end ≤ cursor → NobodyHolds s
+all_let_go s cursor end h l p = ⊎_elim
+    (λ (a : p < cursor). h.others p (inl a))
+    (λ (a : cursor ≤ p). h.others p (inr (omega (arith, a, l))))
+    (cases_lt p cursor)
+
+-- ---- holding
+
+pub none_held : (s : Slots) (first : ℕ) → NobodyHolds s → HeldFrom s first first
+none_held s first free = record {
+  held = λ p low high. absurd (omega (arith, low, high));
+  others = λ p out. free p;
+  cut = λ some. absurd (omega (arith, some));
+}
+
+pub held_split : (s t : Slots) (first cursor end : ℕ) → HeldFrom s first cursor → Splits s t cursor end → HeldFrom t first cursor
+held_split s t first cursor end h x =
+    let d = x.divides.2 in
+    record {
+      held = λ p low high. ap (λ f. f p) d.owners ∙ h.held p low high;
+      others = λ p out. ap (λ f. f p) d.owners ∙ h.others p out;
+      cut = λ some. (d.kept first (h.cut some).0, d.kept cursor (h.cut some).1);
+    }
+
+pub info_split : (s t : Slots) (cursor end : ℕ) → Splits s t cursor end → t.info ≡ s.info
+info_split s t cursor end x = (x.divides.2).info
+
+pub held_locked : (s t : Slots) (first cursor end b : ℕ) → HeldFrom s first cursor → first ≤ cursor → Locks s t 0 cursor end b → HeldFrom t first b
+held_locked s t first cursor end b h low x = subst (λ y. HeldFrom y first b) (sym x.now) (record {
+  held = λ p a c. ⊎_elim
+      (λ (l : p < cursor). outside s cursor b (Some 0) p (inl l) ∙ h.held p a l)
+      (λ (l : cursor ≤ p). inside s cursor b (Some 0) p l c)
+      (cases_lt p cursor);
+  others = λ p out. by p out;
+  cut = λ some. (begins (cases_lt first cursor), x.slot.ends);
+})
+  where
+    begins : (first < cursor) ⊎ (cursor ≤ first) → s.edge first ≡ true
+    begins (inl l) = (h.cut l).0
+    begins (inr l) = let same : cursor ≡ first = omega (arith, l, low) in subst (λ n. s.edge n ≡ true) same x.slot.begins
+
+    by : (p : ℕ) → (p < first) ⊎ (b ≤ p) → (with_owner s cursor b (Some 0)).owner p ≡ None
+    by p (inl l) = outside s cursor b (Some 0) p (inl (omega (arith, l, low))) ∙ h.others p (inl l)
+    by p (inr l) = let o = x.slot.ordered in outside s cursor b (Some 0) p (inr l) ∙ h.others p (inr (omega (arith, l, o)))
+
+pub free_next : (s : Slots) (first cursor : ℕ) → HeldFrom s first cursor → s.owner cursor ≡ None
+free_next s first cursor h = h.others cursor (inr (omega arith))
+
+-- what a call holds that has locked its range
+pub held_range : (s : Slots) (range : _) → IsPageRange range → HeldFrom s range.first range.end → IsHeld s 0 range
+held_range s range r h = record {
+  pages = r;
+  cut = let e = h.cut r.some in record { begins = e.0; ends = e.1 };
+  held = h.held;
+}

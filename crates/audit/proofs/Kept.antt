@@ -1,0 +1,164 @@
+-- Which frames pages, and pages of files, have, once some were given back or taken
+use Rattle.std.proofs.Common.{◌≡◌, ◌≢◌, ℕ, ◌-◌, ◌<◌, ◌≤◌, ◌⊎◌, inl, inr, Bool, true, false, Option, Some, None, refl, sym, ◌∙◌, ap, subst, arith}
+use Rattle.std.specs.Prelude.{◌==◌}
+use Rattle.vm_base.specs.declared.info.PageInfo.{PageInfo}
+use Rattle.vm_base.specs.declared.rights.Prot.{Prot}
+use Rattle.vm_base.specs.declared.page.PageRange.{PageRange}
+use Rattle.vm_base.specs.Functions.{put, has}
+use Rattle.vm_base.specs.Info.{advance, frame_of, info_with_prot, info_without_frame, unused}
+use Rattle.vm_base.proofs.Functions.{by_test, eq_false, in_has, put_other, over_all, across_all}
+use Rattle.slot_lock.specs.declared.plan.Change.{Change}
+use Rattle.slot_lock.specs.declared.plan.Change.TheVariants.{Put, Clear, Protect}
+use Rattle.slot_lock.specs.Changes.{changed}
+use Rattle.slot_lock.specs.Framed.{frames_in}
+use Rattle.slot_lock.specs.Slots.{Slots, LosesFrame, with_info}
+use Rattle.frames.specs.Parts.{FrameParts, frame_bytes, free_frames}
+use Rattle.audit.specs.Keeping.{IsKept, Keeps, Forgets, frame_at, none_cached}
+
+-- ---- fewer frames
+
+kept_fewer : (frame other : Option ℕ → ℕ → Option ℕ) (f : FrameParts) → ((o : Option ℕ) (p x : ℕ) → other o p ≡ Some x → frame o p ≡ Some x)
+    → IsKept frame f → IsKept other f
+kept_fewer frame other f fewer k = record {
+  taken = λ o p x e. k.taken o p x (fewer o p x e);
+  one = λ o a p q x e h. k.one o a p q x (fewer o p x e) (fewer a q x h);
+}
+
+pub kept_pages : (s t : Slots) (cached : ℕ → ℕ → Option ℕ) (f : FrameParts)
+    → ((p x : ℕ) → frame_of (t.info p) ≡ Some x → frame_of (s.info p) ≡ Some x) → Keeps s cached f → Keeps t cached f
+kept_pages s t cached f fewer k = kept_fewer (frame_at (frames_in s) cached) (frame_at (frames_in t) cached) f by k
+  where
+    by : (o : Option ℕ) (p x : ℕ) → frame_at (frames_in t) cached o p ≡ Some x → frame_at (frames_in s) cached o p ≡ Some x
+    by None p x e = fewer p x e
+    by (Some n) p x e = e
+
+pub kept_same : (s t : Slots) (cached : ℕ → ℕ → Option ℕ) (f : FrameParts) → t.info ≡ s.info → Keeps s cached f → Keeps t cached f
+kept_same s t cached f e = kept_pages s t cached f (λ p x h. ap (λ (i : ℕ → Option PageInfo). frame_of (i p)) (sym e) ∙ h)
+
+-- the pages' frames alone
+pub kept_none : (s : Slots) (cached : ℕ → ℕ → Option ℕ) (f : FrameParts) → Keeps s cached f → Keeps s none_cached f
+kept_none s cached f k = kept_fewer (frame_at (frames_in s) cached) (frame_at (frames_in s) none_cached) f by k
+  where
+    by : (o : Option ℕ) (p x : ℕ) → frame_at (frames_in s) none_cached o p ≡ Some x → frame_at (frames_in s) cached o p ≡ Some x
+    by None p x e = e
+    by (Some n) p x e = absurd cc
+
+same_frame : (prot : Prot) (o : Option PageInfo) → frame_of (info_with_prot prot o) ≡ frame_of o
+same_frame prot None = refl
+same_frame prot (Some info) = refl
+
+never : {X : Type 0} (x : ℕ) → ◌≡◌ {A = Option ℕ} None (Some x) → X
+never x h = absurd cc
+
+changed_fewer : (s : Slots) (c : Change) (p x : ℕ) → frame_of ((changed s c).info p) ≡ Some x → frame_of (s.info p) ≡ Some x
+changed_fewer s (Put range meta) p x =
+    across_all (λ j (o : Option PageInfo). frame_of o ≡ Some x → frame_of (s.info j) ≡ Some x) s.info (has range)
+    (λ j. Some (unused (advance meta (j - range.first)))) (λ j e h. never x h) (λ j e h. h) p
+changed_fewer s (Clear range) p x =
+    over_all (λ j (o : Option PageInfo). frame_of o ≡ Some x → frame_of (s.info j) ≡ Some x) s.info (has range) None (λ j e h. never x h) (λ j e h. h) p
+changed_fewer s (Protect range prot) p x =
+    across_all (λ j (o : Option PageInfo). frame_of o ≡ Some x → frame_of (s.info j) ≡ Some x) s.info (has range)
+    (λ j. info_with_prot prot (s.info j)) (λ j e h. sym (same_frame prot (s.info j)) ∙ h) (λ j e h. h) p
+
+pub kept_changed : (s t : Slots) (c : Change) (cached : ℕ → ℕ → Option ℕ) (f : FrameParts) → t.info ≡ (changed s c).info → Keeps s cached f → Keeps t cached f
+kept_changed s t c cached f e =
+    kept_pages s t cached f (λ p x h. changed_fewer s c p x (ap (λ (i : ℕ → Option PageInfo). frame_of (i p)) (sym e) ∙ h))
+
+-- ---- a page's frame that is given back
+
+no_frame : (o : Option PageInfo) → frame_of (info_without_frame o) ≡ None
+no_frame None = refl
+no_frame (Some info) = refl
+
+abbrev without : Slots → ℕ → Slots
+without s page = with_info s page (info_without_frame (s.info page))
+
+given : (s : Slots) (cached : ℕ → ℕ → Option ℕ) (f g : FrameParts) (page x : ℕ) → frame_of (s.info page) ≡ Some x
+    → free_frames g ≡ put (free_frames f) x true → g.count ≡ f.count → Keeps s cached f → Keeps (without s page) cached g
+given s cached f g page x at free count k = record {
+  taken = λ o p y e.
+      let before = had o p y e in
+      let was = k.taken o p y before.0 in (
+        subst (λ n. y < n) (sym count) was.0,
+        ap (λ (h : ℕ → Bool). h y) free ∙ (put_other (free_frames f) x true y (other o p y before.0 before.1) ∙ was.1),
+      );
+  one = λ o a p q y e h. k.one o a p q y (had o p y e).0 (had a q y h).0;
+}
+  where
+    had : (o : Option ℕ) (p y : ℕ) → frame_at (frames_in (without s page)) cached o p ≡ Some y
+        → (frame_at (frames_in s) cached o p ≡ Some y) × (o ≡ None → p ≢ page)
+    had None p y =
+        by_test (λ (i : Option PageInfo). frame_of i ≡ Some y → (frame_of (s.info p) ≡ Some y) × (◌≡◌ {A = Option ℕ} None None → p ≢ page)) (p == page)
+        (info_without_frame (s.info page)) (s.info p)
+        (λ e h. let none : frame_of (info_without_frame (s.info page)) ≡ None = no_frame (s.info page) in absurd cc)
+        (λ e h. (h, λ same. eq_false p page e))
+    had (Some n) p y = λ h. (h, λ same. absurd cc)
+
+    other : (o : Option ℕ) (p y : ℕ) → frame_at (frames_in s) cached o p ≡ Some y → (o ≡ None → p ≢ page) → y ≢ x
+    other o p y e apart same =
+        let both = k.one o None p page y e (at ∙ ap Some (sym same)) in
+        apart both.0 both.1
+
+pub kept_given : (s t : Slots) (cached : ℕ → ℕ → Option ℕ) (f g : FrameParts) (from end page x : ℕ) → LosesFrame s t from end page x
+    → free_frames g ≡ put (free_frames f) x true → g.count ≡ f.count → Keeps s cached f → Keeps t cached g
+kept_given s t cached f g from end page x l free count k =
+    subst (λ u. Keeps u cached g) (sym l.now) (given s cached f g page x l.had free count k)
+
+-- the frame is taken before
+pub was_taken : (s t : Slots) (cached : ℕ → ℕ → Option ℕ) (f : FrameParts) (from end page x : ℕ) → LosesFrame s t from end page x → Keeps s cached f
+    → (x < f.count) × (free_frames f x ≡ false)
+was_taken s t cached f from end page x l k = k.taken None page x l.had
+
+pub forgets_none : (s : Slots) (f : FrameParts) (range : PageRange) → Forgets s s f f range
+forgets_none s f range = record { owners = refl; edges = refl; outside = λ p e. refl; bytes = refl; kept = λ cached k. k }
+
+pub forgets_more : (r s t : Slots) (e f g : FrameParts) (range : PageRange) (from page x : ℕ) → range.first ≤ from → LosesFrame s t from range.end page x
+    → free_frames g ≡ put (free_frames f) x true → frame_bytes g ≡ frame_bytes f → g.count ≡ f.count → Forgets r s e f range → Forgets r t e g range
+forgets_more r s t e f g range from page x low l free bytes count h = record {
+  owners = ap (λ u. u.owner) l.now ∙ h.owners;
+  edges = ap (λ u. u.edge) l.now ∙ h.edges;
+  outside = λ p out. ap (λ u. u.info p) l.now ∙ (put_other s.info page (info_without_frame (s.info page)) p (apart p out) ∙ h.outside p out);
+  bytes = bytes ∙ h.bytes;
+  kept = λ cached k. kept_given s t cached f g from range.end page x l free count (h.kept cached k);
+}
+  where
+    apart : (p : ℕ) → has range p ≡ false → p ≢ page
+    apart p out same =
+        let a = l.low in
+        let b = l.high in
+        let in' : has range p ≡ true = in_has range p (omega (arith, same, a, low)) (omega (arith, same, b)) in
+        absurd cc
+
+-- ---- a frame that is taken
+
+put_false : (free : ℕ → Bool) (x y : ℕ) → free y ≡ false → put free x false y ≡ false
+put_false free x y e = by_test (λ b. b ≡ false) (y == x) false (free y) (λ h. refl) (λ h. e)
+
+put_here : (free : ℕ → Bool) (x : ℕ) → put free x false x ≡ false
+put_here free x = by_test (λ b. b ≡ false) (x == x) false (free x) (λ h. refl) (λ h. absurd (eq_false x x h refl))
+
+pub kept_gained : (frame other : Option ℕ → ℕ → Option ℕ) (f g : FrameParts) (a : Option ℕ) (q x : ℕ) → free_frames f x ≡ true → x < f.count
+    → free_frames g ≡ put (free_frames f) x false → g.count ≡ f.count
+    → ((o : Option ℕ) (p y : ℕ) → other o p ≡ Some y → (frame o p ≡ Some y) ⊎ ((o ≡ a) × (p ≡ q) × (y ≡ x)))
+    → IsKept frame f → IsKept other g
+kept_gained frame other f g a q x was within free count gains k = record {
+  taken = λ o p y e. taken o p y (gains o p y e);
+  one = λ o b p r y e h. one o b p r y (gains o p y e) (gains b r y h);
+}
+  where
+    taken : (o : Option ℕ) (p y : ℕ) → (frame o p ≡ Some y) ⊎ ((o ≡ a) × (p ≡ q) × (y ≡ x)) → (y < g.count) × (free_frames g y ≡ false)
+    taken o p y (inl e) =
+        let t = k.taken o p y e in
+        (subst (λ n. y < n) (sym count) t.0, ap (λ (h : ℕ → Bool). h y) free ∙ put_false (free_frames f) x y t.1)
+    taken o p y (inr e) = subst (λ z. (z < g.count) × (free_frames g z ≡ false)) (sym e.2)
+        (subst (λ n. x < n) (sym count) within, ap (λ (h : ℕ → Bool). h x) free ∙ put_here (free_frames f) x)
+
+    clash : (o : Option ℕ) (p y : ℕ) → frame o p ≡ Some y → y ≡ x → ⊥
+    clash o p y e same = let t = (k.taken o p y e).1 in let z : free_frames f y ≡ true = ap (free_frames f) same ∙ was in absurd cc
+
+    one : (o b : Option ℕ) (p r y : ℕ) → (frame o p ≡ Some y) ⊎ ((o ≡ a) × (p ≡ q) × (y ≡ x))
+        → (frame b r ≡ Some y) ⊎ ((b ≡ a) × (r ≡ q) × (y ≡ x)) → (o ≡ b) × (p ≡ r)
+    one o b p r y (inl e) (inl h) = k.one o b p r y e h
+    one o b p r y (inl e) (inr h) = absurd (clash o p y e h.2)
+    one o b p r y (inr e) (inl h) = absurd (clash b r y h e.2)
+    one o b p r y (inr e) (inr h) = (e.0 ∙ sym h.0, e.1 ∙ sym h.1)

@@ -1,0 +1,22 @@
+use Rattle.std.proofs.Common.{◌∙◌, Bool, subst}
+use Rattle.audit.specs.declared.judging.Verdict.{Verdict}
+use Rattle.audit.specs.Auditor.{plain_of}
+use Rattle.audit.specs.Judging.{Answers, Judges}
+use Rattle.audit.specs.Placing.{rule_of}
+use Rattle.audit.proofs.Sequences.{replies_more}
+use Rattle.audit.proofs.auditor.Auditor.judge_all.Goals as goal
+
+pub loop-at-preserved : goal.loop-at-preserved
+loop-at-preserved g c =
+    let call = c.index-calls-at.result in
+    let m = plain_of c.loop-at.self in
+    let u = plain_of c.judge.new.self in
+    let first = c.loop-at.invariant.any_place in
+    let judged = subst (λ (v : Verdict). Judges (rule_of c.loop-at.self.any_place) m call.core call.request call.reply v u) c.in-Legal.is
+    c.in_ok-judge.ensures.judged in
+    let legal = subst (λ (b : Bool). Answers (rule_of b) m call.core call.request call.reply u) first judged in
+    record {
+      any_place = c.in_ok-judge.ensures.any_place ∙ first;
+      legal = replies_more (rule_of c.args.self.now.any_place) (plain_of c.args.self.now) m u c.args.calls.now c.loop-at.at call c.loop-at-test.true
+          c.index-calls-at.is c.loop-at.invariant.legal legal;
+    }

@@ -1,0 +1,6 @@
+pub mod Keeping
+pub mod Storing
+pub mod Placing
+pub mod Judging
+pub mod Auditor
+pub mod Laws

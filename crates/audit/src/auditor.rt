@@ -1,0 +1,147 @@
+//! An audit: the replies of an implementation, one after another, beside a plain page map.
+ghost use Rattle.frames.specs.Parts.{FrameParts};
+ghost use Rattle.backing.specs.Files.{cached_in};
+ghost use Rattle.audit.specs.Keeping.{Keeps, NobodyHolds};
+
+use crate::judging::{Verdict, compared, judge_plan};
+use backing::{FileSpec, Objects};
+use frames::Frames;
+use slot_lock::SlotMap;
+use std::alloc::Allocator;
+use vm_base::{CoreId, NoMemory, Reply, Request};
+use vm_calls::check;
+
+/// A request of a core, and what it was answered.
+#[derive(Clone, Copy, Debug, PartialEq, Eq)]
+pub struct Call {
+    /// Who asked.
+    pub core: CoreId,
+    /// For what.
+    pub request: Request,
+    /// What it was answered.
+    pub reply: Reply,
+}
+
+/// The first call whose reply no plain page map gives.
+#[derive(Clone, Copy, Debug, PartialEq, Eq)]
+pub struct Wrong {
+    /// How many calls come before it, all of whose replies are legal.
+    pub at: usize,
+    /// What the first plain page map would give.
+    pub due: Reply,
+}
+
+/// How many frames an audit has: at most so many pages have own bytes, or are pages of files that
+/// stores have changed.
+const FRAMES: u32 = 65_536;
+
+/// A plain page map, which the replies of an implementation are compared with, one after another.
+#[derive(Drop)]
+pub struct Auditor<M: SlotMap, A: Allocator> {
+    map: M,
+    objects: Objects<A>,
+    frames: Frames<A>,
+    any_place: bool,
+    ghost kept: { Keeps (M.slots map) (cached_in objects) frames },
+    ghost free: { NobodyHolds (M.slots map) },
+}
+
+impl<M: SlotMap + Drop, A: Allocator + Clone + Drop> Auditor<M, A> {
+    ghost use Rattle.std.specs.Prelude.{◌≡◌, ◌≤◌, IfOk, length};
+    ghost use Rattle.vm_base.specs.Plain.{nothing_mapped};
+    ghost use Rattle.slot_lock.specs.Slots.{IsNew};
+    ghost use Rattle.backing.specs.Given.{given_files};
+    ghost use Rattle.audit.specs.Auditor.{plain_of};
+
+    /// Begins with nothing mapped and these files, whose bytes are moved, not copied. A mapping without
+    /// `MAP_FIXED` may be at any free run of valid pages if `any_place` says so, and else only at the
+    /// first place. It keeps the bytes of at most 65,536 pages, whose memory is reserved here.
+    pub fn new(
+        alloc: A,
+        map: M,
+        files: Vec<FileSpec<A>, A>,
+        any_place: bool,
+    ) -> Result<Auditor<M, A>, NoMemory>
+        requires new { IsNew (M.slots map) }
+        requires files { length files.items ≤ 16 }
+        ensures plain { IfOk result (λ it. plain_of it ≡ nothing_mapped (given_files files.items)) }
+        ensures any_place { IfOk result (λ it. it.any_place ≡ any_place) }
+    {
+        let objects = Objects::new(alloc.clone()?, files)?;
+        let frames = Frames::new(alloc, FRAMES)?;
+        Ok(Auditor {
+            map,
+            objects,
+            frames,
+            any_place,
+        })
+    }
+}
+
+impl<M: SlotMap, A: Allocator> Auditor<M, A> {
+    ghost use Rattle.std.specs.Prelude.{◌≡◌, IfOk, OnErr};
+    ghost use Rattle.audit.specs.Auditor.{plain_of};
+    ghost use Rattle.audit.specs.Judging.{Judges};
+    ghost use Rattle.audit.specs.Placing.{rule_of};
+
+    /// Judges the reply to a request of the core, which comes after those judged before. A legal one is
+    /// the plain page map's, which goes on from there; after another one the map is as it was. Each
+    /// request has a legal reply (POSIX.1-2017, mmap, munmap and mprotect; loads, stores and fetches of
+    /// one byte with the bytes of pages and of files). A private page that shows its file's gets a copy
+    /// before a store that is done. Where memory is wanting, or bytes of more than 65,536 pages would be
+    /// kept, nothing changes.
+    pub fn judge(
+        &mut self,
+        core: CoreId,
+        request: Request,
+        reply: Reply,
+    ) -> Result<Verdict, NoMemory>
+        ensures judged { IfOk result (λ verdict. Judges (rule_of self.old.any_place)
+            (plain_of self.old) core request reply verdict (plain_of self.new)) }
+        ensures err { OnErr result (plain_of self.new ≡ plain_of self.old) }
+        ensures any_place { self.new.any_place ≡ self.old.any_place }
+    {
+        // this says that the core is one of 64
+        let _index = core.index();
+        match check(&self.objects, core, request) {
+            Err(due) => Ok(compared(reply, due)),
+            Ok(plan) => judge_plan(
+                &mut self.map,
+                &mut self.objects,
+                &mut self.frames,
+                self.any_place,
+                plan,
+                reply,
+            ),
+        }
+    }
+}
+
+impl<M: SlotMap, A: Allocator> Auditor<M, A> {
+    ghost use Rattle.std.specs.Prelude.{◌≡◌, ℕ, take, IfOk, IfNone, IfSome, OnErr};
+    ghost use Rattle.audit.specs.Auditor.{plain_of};
+    ghost use Rattle.audit.specs.Judging.{AreReplies, IsFirstWrong};
+    ghost use Rattle.audit.specs.Placing.{rule_of};
+
+    /// Judges the replies of calls, which come one after another behind those judged before: none is
+    /// wrong exactly where they are the plain page map's, and else the first one is told, before which
+    /// it has stopped. Where memory is wanting it has stopped somewhere, at a legal reply.
+    pub fn judge_all(&mut self, calls: &[Call]) -> Result<Option<Wrong>, NoMemory>
+        ensures legal { IfOk result (λ found. IfNone found (AreReplies (rule_of self.old.any_place)
+            (plain_of self.old) calls.now (plain_of self.new))) }
+        ensures wrong { IfOk result (λ found. IfSome found (λ wrong. IsFirstWrong
+            (rule_of self.old.any_place) (plain_of self.old) calls.now wrong (plain_of self.new))) }
+        ensures err { OnErr result ((n : ℕ) × AreReplies (rule_of self.old.any_place) (plain_of self.old)
+            (take n calls.now) (plain_of self.new)) }
+        ensures any_place { self.new.any_place ≡ self.old.any_place }
+    {
+        for at in 0..calls.len() {
+            let call = calls[at];
+            match self.judge(call.core, call.request, call.reply)? {
+                Verdict::Legal => {}
+                Verdict::Illegal(due) => return Ok(Some(Wrong { at, due })),
+            }
+        }
+        Ok(None)
+    }
+}

@@ -1,0 +1,78 @@
+//! Changes of ranges of pages.
+ghost use Rattle.std.specs.Prelude.{◌≡◌, ℕ, Option, OnOk, OnErr};
+ghost use Rattle.slot_lock.specs.Plan.{IsSoundChange, range_of};
+ghost use Rattle.slot_lock.specs.Changes.{IsMappedFor, changed};
+ghost use Rattle.slot_lock.specs.Slots.{IsHeld};
+ghost use Rattle.frames.specs.Parts.{frame_bytes};
+ghost use Rattle.audit.specs.Keeping.{NobodyHolds, Keeps, Forgets, none_cached};
+
+use crate::holding::{hold, let_go, only_core};
+use frames::Frames;
+use slot_lock::{Change, SlotMap};
+use std::alloc::Allocator;
+use vm_base::{NoMemory, PageRange};
+
+/// Gives the frames of all pages of the range back. What these pages show is left open: they are about
+/// to be mapped anew, or unmapped.
+fn forget_bytes<M: SlotMap, A: Allocator>(map: &mut M, frames: &mut Frames<A>, range: PageRange)
+    requires held { IsHeld (M.slots map.old) 0 range }
+    requires kept { Keeps (M.slots map.old) none_cached frames.old }
+    ensures { Forgets (M.slots map.old) (M.slots map.new) frames.old frames.new range }
+{
+    let mut from = range.first;
+    'pages: while let Some((page, frame)) = map.take_frame(only_core(), from, range.end) {
+        frames.give(frame);
+        from = page + 1;
+    }
+}
+
+/// Makes the change of pages that are held.
+fn change_held<M: SlotMap, A: Allocator>(map: &mut M, frames: &mut Frames<A>, change: Change)
+    requires sound { IsSoundChange change }
+    requires held { IsHeld (M.slots map.old) 0 (range_of change) }
+    requires mapped { IsMappedFor (M.slots map.old) change }
+    requires kept { Keeps (M.slots map.old) none_cached frames.old }
+    ensures info { (M.slots map.new).info ≡ (changed (M.slots map.old) change).info }
+    ensures owners { (M.slots map.new).owner ≡ (M.slots map.old).owner }
+    ensures edges { (M.slots map.new).edge ≡ (M.slots map.old).edge }
+    ensures bytes { frame_bytes frames.new ≡ frame_bytes frames.old }
+    ensures kept { (cached : ℕ → ℕ → Option ℕ) → Keeps (M.slots map.old) cached frames.old
+        → Keeps (M.slots map.new) cached frames.new }
+{
+    match change {
+        Change::Put { range, meta } => {
+            forget_bytes(map, frames, range);
+            map.set_range(only_core(), range, meta);
+        }
+        Change::Clear { range } => {
+            forget_bytes(map, frames, range);
+            map.clear_range(only_core(), range);
+        }
+        Change::Protect { range, prot } => map.protect_range(only_core(), range, prot),
+    }
+}
+
+/// Makes the change, and gives frames of pages that are mapped anew or unmapped back. Where memory is
+/// refused no page changes.
+pub fn make_change<M: SlotMap, A: Allocator>(
+    map: &mut M,
+    frames: &mut Frames<A>,
+    change: Change,
+) -> Result<(), NoMemory>
+    requires sound { IsSoundChange change }
+    requires mapped { IsMappedFor (M.slots map.old) change }
+    requires free { NobodyHolds (M.slots map.old) }
+    requires kept { Keeps (M.slots map.old) none_cached frames.old }
+    ensures ok { OnOk result ((M.slots map.new).info ≡ (changed (M.slots map.old) change).info) }
+    ensures err { OnErr result ((M.slots map.new).info ≡ (M.slots map.old).info) }
+    ensures bytes { frame_bytes frames.new ≡ frame_bytes frames.old }
+    ensures kept { (cached : ℕ → ℕ → Option ℕ) → Keeps (M.slots map.old) cached frames.old
+        → Keeps (M.slots map.new) cached frames.new }
+    ensures free { NobodyHolds (M.slots map.new) }
+{
+    let range = change.range();
+    hold(map, range)?;
+    change_held(map, frames, change);
+    let_go(map, range.first, range.end);
+    Ok(())
+}

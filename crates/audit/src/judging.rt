@@ -1,0 +1,199 @@
+//! What is judged of one reply.
+ghost use Rattle.std.specs.Prelude.{◌≡◌, ◌↔◌, IsTrue, IfOk, OnErr, Bool};
+ghost use Rattle.slot_lock.specs.Plan.{IsSound, IsSoundChange, IsSoundPlace, IsSoundTouch};
+ghost use Rattle.slot_lock.specs.declared.plan.Plan.TheVariants as PlanOf;
+ghost use Rattle.slot_lock.specs.declared.plan.Goal.TheVariants as GoalOf;
+ghost use Rattle.vm_calls.specs.Plainly.{answer_to};
+ghost use Rattle.slot_lock.specs.Plan.{range_of};
+ghost use Rattle.backing.specs.Files.{cached_in};
+ghost use Rattle.audit.specs.Keeping.{Keeps, NobodyHolds, plain_kept};
+ghost use Rattle.audit.specs.Judging.{Compares, JudgesPlan};
+
+use crate::bytes::access_reply;
+use crate::changing::make_change;
+use crate::placing::{first_place, is_allowed, place_said, reply_at};
+use crate::storing::store;
+use backing::Objects;
+use frames::Frames;
+use slot_lock::{Change, Goal, Place, Plan, SlotMap, Touch};
+use std::alloc::Allocator;
+use vm_base::page::PAGE_SIZE;
+use vm_base::{NoMemory, PageRange, Reply, SegvCode};
+use vm_calls::{Decision, decide};
+
+/// What is judged of a reply.
+#[derive(Clone, Copy, Debug, PartialEq, Eq)]
+pub enum Verdict {
+    /// It is the plain page map's.
+    Legal,
+    /// No plain page map gives it. The first one would give this.
+    Illegal(Reply),
+}
+
+/// Tells whether two replies are the same.
+fn is_same(reply: Reply, other: Reply) -> bool
+    ensures { IsTrue result ↔ (reply ≡ other) }
+{
+    reply == other
+}
+
+/// Judges a reply where this one is due.
+pub fn compared(reply: Reply, due: Reply) -> Verdict
+    ensures { Compares reply due result }
+{
+    if is_same(reply, due) {
+        Verdict::Legal
+    } else {
+        Verdict::Illegal(due)
+    }
+}
+
+/// Tells whether a request was done.
+fn is_done(reply: Reply) -> bool
+    ensures { IsTrue result ↔ (reply ≡ Reply.Done) }
+{
+    matches!(reply, Reply::Done)
+}
+
+/// The reply to a change that is made.
+fn change_reply(change: Change) -> Reply
+    requires { IsSoundChange change }
+    ensures { result ≡ answer_to (GoalOf.Change change) (range_of change) }
+{
+    match change {
+        Change::Put { range, .. } => Reply::Mapped(range.first * PAGE_SIZE),
+        Change::Clear { .. } | Change::Protect { .. } => Reply::Done,
+    }
+}
+
+/// Makes a change whose reply is legal.
+fn judge_change<M: SlotMap, A: Allocator>(
+    map: &mut M,
+    objects: &Objects<A>,
+    frames: &mut Frames<A>,
+    change: Change,
+    reply: Reply,
+) -> Result<Verdict, NoMemory>
+    requires sound { IsSoundChange change }
+    requires free { NobodyHolds (M.slots map.old) }
+    requires kept { Keeps (M.slots map.old) (cached_in objects.now) frames.old }
+    ensures judged { IfOk result (λ verdict. (any_place : Bool) → JudgesPlan any_place
+        (plain_kept (M.slots map.old) objects.now frames.old) (PlanOf.Change change) reply verdict
+        (plain_kept (M.slots map.new) objects.now frames.new)) }
+    ensures err { OnErr result (plain_kept (M.slots map.new) objects.now frames.new
+        ≡ plain_kept (M.slots map.old) objects.now frames.old) }
+    ensures free { NobodyHolds (M.slots map.new) }
+    ensures kept { Keeps (M.slots map.new) (cached_in objects.now) frames.new }
+{
+    match decide(map, objects, Goal::Change(change)) {
+        Decision::Refuse(errno) => Ok(compared(reply, Reply::Refused(errno))),
+        Decision::Act { .. } => {
+            let due = change_reply(change);
+            if !is_same(reply, due) {
+                return Ok(Verdict::Illegal(due));
+            }
+            make_change(map, frames, change)?;
+            Ok(Verdict::Legal)
+        }
+        Decision::Again => unreachable!(),
+    }
+}
+
+/// Does an access whose reply is legal.
+fn judge_touch<M: SlotMap, A: Allocator>(
+    map: &mut M,
+    objects: &mut Objects<A>,
+    frames: &mut Frames<A>,
+    touch: Touch,
+    reply: Reply,
+) -> Result<Verdict, NoMemory>
+    requires sound { IsSoundTouch touch }
+    requires free { NobodyHolds (M.slots map.old) }
+    requires kept { Keeps (M.slots map.old) (cached_in objects.old) frames.old }
+    ensures judged { IfOk result (λ verdict. (any_place : Bool) → JudgesPlan any_place
+        (plain_kept (M.slots map.old) objects.old frames.old) (PlanOf.Touch touch) reply verdict
+        (plain_kept (M.slots map.new) objects.new frames.new)) }
+    ensures err { OnErr result (plain_kept (M.slots map.new) objects.new frames.new
+        ≡ plain_kept (M.slots map.old) objects.old frames.old) }
+    ensures free { NobodyHolds (M.slots map.new) }
+    ensures kept { Keeps (M.slots map.new) (cached_in objects.new) frames.new }
+{
+    let Some(info) = map.page(touch.page) else {
+        return Ok(compared(reply, Reply::Segv(SegvCode::MapErr)));
+    };
+    let due = access_reply(objects, frames, &info, touch);
+    if !is_same(reply, due) {
+        return Ok(Verdict::Illegal(due));
+    }
+    if !is_done(due) {
+        return Ok(Verdict::Legal);
+    }
+    store(map, objects, frames, info, touch)?;
+    Ok(Verdict::Legal)
+}
+
+/// Makes a mapping that was answered with this place, if it may be there.
+fn judge_place<M: SlotMap, A: Allocator>(
+    map: &mut M,
+    objects: &Objects<A>,
+    frames: &mut Frames<A>,
+    any_place: bool,
+    place: Place,
+    reply: Reply,
+) -> Result<Verdict, NoMemory>
+    requires sound { IsSoundPlace place }
+    requires free { NobodyHolds (M.slots map.old) }
+    requires kept { Keeps (M.slots map.old) (cached_in objects.now) frames.old }
+    ensures judged { IfOk result (λ verdict. JudgesPlan any_place
+        (plain_kept (M.slots map.old) objects.now frames.old) (PlanOf.Place place) reply verdict
+        (plain_kept (M.slots map.new) objects.now frames.new)) }
+    ensures err { OnErr result (plain_kept (M.slots map.new) objects.now frames.new
+        ≡ plain_kept (M.slots map.old) objects.now frames.old) }
+    ensures free { NobodyHolds (M.slots map.new) }
+    ensures kept { Keeps (M.slots map.new) (cached_in objects.now) frames.new }
+{
+    let said = place_said(reply);
+    let Some(found) = said else {
+        return Ok(Verdict::Illegal(reply_at(first_place(map, place))));
+    };
+    if !is_allowed(map, any_place, place, found) {
+        return Ok(Verdict::Illegal(reply_at(first_place(map, place))));
+    }
+    let Some(first) = found else {
+        return Ok(Verdict::Legal);
+    };
+    let range = PageRange {
+        first,
+        end: first + place.count,
+    };
+    let meta = place.meta;
+    make_change(map, frames, Change::Put { range, meta })?;
+    Ok(Verdict::Legal)
+}
+
+/// Does what a request is to do, where its reply is legal.
+pub fn judge_plan<M: SlotMap, A: Allocator>(
+    map: &mut M,
+    objects: &mut Objects<A>,
+    frames: &mut Frames<A>,
+    any_place: bool,
+    plan: Plan,
+    reply: Reply,
+) -> Result<Verdict, NoMemory>
+    requires sound { IsSound plan }
+    requires free { NobodyHolds (M.slots map.old) }
+    requires kept { Keeps (M.slots map.old) (cached_in objects.old) frames.old }
+    ensures judged { IfOk result (λ verdict. JudgesPlan any_place
+        (plain_kept (M.slots map.old) objects.old frames.old) plan reply verdict
+        (plain_kept (M.slots map.new) objects.new frames.new)) }
+    ensures err { OnErr result (plain_kept (M.slots map.new) objects.new frames.new
+        ≡ plain_kept (M.slots map.old) objects.old frames.old) }
+    ensures free { NobodyHolds (M.slots map.new) }
+    ensures kept { Keeps (M.slots map.new) (cached_in objects.new) frames.new }
+{
+    match plan {
+        Plan::Place(place) => judge_place(map, objects, frames, any_place, place, reply),
+        Plan::Change(change) => judge_change(map, objects, frames, change, reply),
+        Plan::Touch(touch) => judge_touch(map, objects, frames, touch, reply),
+    }
+}
