@@ -1,8 +1,8 @@
 //! Tests of the whole, over the tree of slots and over the list of runs: `row_tests` compares the
 //! tables of `rows`, also with memory that is refused (`starved`), `random_tests` compares random
 //! traces, `log_tests` replays a log, and `stream_tests` has reads and writes that fail. `in_one_run` gives a trace's events to
-//! `run`, `run_tests` has whole lists of events and heaps that are too small, and `replay_tests` the
-//! texts of outcomes and a replay's flushes. `certify_tests` has notes of steps
+//! `run`, `run_tests` has whole lists of events and heaps that are too small, `reading_tests` what a machine tells of its state, and
+//! `replay_tests` the texts of outcomes and a replay's flushes. `certify_tests` has notes of steps
 //! (`noting` writes them down), `history_tests` histories of slots beside them, `notes_text_tests` scripts and notes as text, and
 //! `starved_text_tests` refuses memory to these.
 #![tactic(auto)]
@@ -27,6 +27,8 @@ mod noting;
 mod random;
 #[cfg(test)]
 mod random_tests;
+#[cfg(test)]
+mod reading_tests;
 #[cfg(test)]
 mod replay_tests;
 #[cfg(test)]

@@ -7,12 +7,12 @@ use crate::kept::Kept;
 use crate::ledger::{Ledger, Opening};
 use crate::setup::{CallLimit, Setup, SetupFault};
 use crate::starting::Started;
-use machine_model::{Event, Outcome};
+use machine_model::{Event, Outcome, Phase};
 use map_list::{MapLine, all_lines, next_line};
 use mmu::{Cpu, Hardware};
 use slot_lock::SlotMap;
 use std::alloc::Allocator;
-use vm_base::{CoreId, Entry, NoMemory, PageInfo, PageRange, Request};
+use vm_base::{CoreId, CoreSet, Entry, NoMemory, PageInfo, PageRange, Request};
 
 /// How many steps finish a call at the most.
 const FINISH_LIMIT: u64 = 1 << 40;
@@ -83,6 +83,9 @@ impl<M: SlotMap + Drop, A: Allocator + Clone + Drop, L: Opening<A> + Drop> Machi
 
 impl<M: SlotMap, A: Allocator + Clone, L: Ledger> Machine<M, A, L> {
     ghost use Rattle.std.specs.Prelude.{◌≡◌, ◌≤◌, ◌<◌, false, true, IfOk, OnErr, IfSome, IfNone};
+    ghost use Rattle.frames.specs.Bits.{count_below};
+    ghost use Rattle.shootdown.specs.Inboxes.{awaited};
+    ghost use Rattle.vm_base.specs.Cores.{members};
     ghost use Rattle.vm_base.specs.Functions.{has};
     ghost use Rattle.vm_base.specs.Pages.{is_page};
     ghost use Rattle.slot_lock.specs.Slots.{IsSlot};
@@ -231,6 +234,42 @@ impl<M: SlotMap, A: Allocator + Clone, L: Ledger> Machine<M, A, L> {
         ensures { result ≡ (state self.now).made.cores }
     {
         self.engine.calls.phases.len()
+    }
+
+    /// Where the core's call stands.
+    pub fn phase(&self, core: CoreId) -> Phase
+        requires { core < (state self.now).made.cores }
+        ensures { result ≡ (state self.now).calls.phase core }
+    {
+        self.engine.phase_of(core)
+    }
+
+    /// The other cores that have not acknowledged the core's message yet.
+    pub fn awaited(&self, core: CoreId) -> CoreSet
+        ensures { members result ≡ awaited (state self.now).hardware.inbox core }
+    {
+        self.engine.cores.waiting(core)
+    }
+
+    /// How many frames the machine has.
+    pub fn frames(&self) -> u32
+        ensures { result ≡ (state self.now).made.frames }
+    {
+        self.engine.frames.count()
+    }
+
+    /// How many frames are free.
+    pub fn free_frames(&self) -> u32
+        ensures { result ≡ count_below (state self.now).memory.is_free (state self.now).made.frames }
+    {
+        self.engine.frames.free_count()
+    }
+
+    /// The present epoch.
+    pub fn epoch(&self) -> u64
+        ensures { result ≡ (state self.now).memory.counts.epoch }
+    {
+        self.engine.counts.epoch()
     }
 
     /// The 64 bits of the entry that the core's tables have of the page (Intel SDM volume 3A, 4-level
