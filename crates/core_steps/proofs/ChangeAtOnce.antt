@@ -1,5 +1,5 @@
 -- The steps of a change of one page, made at once: the states that they pass, and the one that is left
-use Rattle.std.proofs.Common.{◌≡◌, ℕ, suc, ◌+◌, ◌-◌, ◌<◌, ◌≤◌, [], ◌∷◌, ◌++◌, true, false, Bool, List, Option, Some, None, inl, refl, sym}
+use Rattle.std.proofs.Common.{◌≡◌, ℕ, ◌+◌, ◌-◌, ◌<◌, ◌≤◌, [], ◌∷◌, true, false, Bool, List, Option, Some, None, inl, refl, sym}
 use Rattle.std.proofs.Common.{subst, ap, ◌∙◌, arith}
 use Rattle.std.specs.Prelude.{IfSome}
 use Rattle.std.proofs.Math.Logic.{∥∥₁_elim}
@@ -27,12 +27,12 @@ use Rattle.mmu.specs.declared.entry.Translation.{Translation}
 use Rattle.mmu.specs.declared.tlb.TlbEntry.{TlbEntry}
 use Rattle.machine_model.specs.declared.event.Event.TheVariants.{Go}
 use Rattle.machine_model.specs.declared.event.Outcome.TheVariants.{Stepped}
-use Rattle.vm_base.specs.declared.log.Entry.TheVariants as EntryOf
-use Rattle.machine_model.specs.declared.phase.Phase.TheVariants.{Acks, Answer, Decide, Lock, Post, Unlock}
+use Rattle.machine_model.specs.declared.phase.Phase.TheVariants.{Acks, Decide, Lock, Post}
 use Rattle.machine_model.specs.World.{Hardware, World}
+use Rattle.machine_model.specs.Actions.{after_reply}
 use Rattle.machine_model.specs.Changes.{AwaitsNobody, CountsLost, reply_to, slots_after}
 use Rattle.machine_model.specs.Counting.{CountsDown, frame_lost}
-use Rattle.machine_model.specs.Step.{Step, StepsTo, event_limit}
+use Rattle.machine_model.specs.Step.{Step, StepsTo, event_limit, with_event}
 use Rattle.machine_model.specs.Translating.{after_shot, with_hardware}
 use Rattle.machine_coherence.specs.Coherent.{Every, HasDropped, IsSoundEntry}
 use Rattle.machine_laws.specs.Orderly.{answer_count}
@@ -45,7 +45,7 @@ use Rattle.core_steps.specs.PageChange.{IsAlone, IsPageChange}
 use Rattle.core_steps.specs.Taking.{IsCounted}
 use Rattle.core_steps.proofs.Each.{own_dropped}
 use Rattle.core_steps.proofs.Known.{are_counted, change_pages, goal_sound, nobody_awaited, order, pages_counted, room_for, shot_just}
-use Rattle.core_steps.proofs.OnePage.{after, held, holding, locked, moved, unlocked}
+use Rattle.core_steps.proofs.OnePage.{answered, held, holding, locked, moved}
 
 -- ---- slots of one page that is changed
 
@@ -84,49 +84,18 @@ module _ (w : World) (c : ℕ) (change : Change) (page : FreePage) (d : Decision
 -- ---- a change that is refused
 
 module _ (w : World) (c : ℕ) (change : Change) (page : FreePage) (errno : Errno) (i : IsPageChange w c change page (Refuse errno)) where
-  abbrev reply : Reply
-  reply = Refused errno
-
-  -- the reply is logged with the number of this event
-  abbrev refused_at : ℕ → World
-  refused_at n = record w { calls = record w.calls { log = w.calls.log ++ EntryOf.Answer n (w.calls.number c) c reply ∷ [] } }
-
-  -- and the call holds this range after the decision
-  abbrev decided_at : ℕ → PageRange → World
-  decided_at n range =
-      let v = refused_at n in
-      let phases = put w.calls.phase c (Decide change) in record v {
-        slots = held w.slots c (range_of change).first;
-        calls = record v.calls { phase = put phases c (Unlock range reply); events = suc (w.calls.events + 1) };
-      }
-
-  refuses : Step (holding c (range_of change).first (Decide change) 1 w) (Go c) Stepped
-      (holding c (range_of change).first (Unlock (between (range_of change).first ((range_of change).first + 1)) reply) 2 (refused_at (w.calls.events + 2)))
-  refuses =
-      let first = (range_of change).first in
-      let room = i.room in
-      let sum : w.calls.events + 2 ≡ suc (w.calls.events + 1) = omega arith in
-      moved w (refused_at (w.calls.events + 2)) c first (Decide change) (Unlock (between first (first + 1)) reply) 1 (omega (arith, room)) i.at.here refl refl (
-        Refuse errno,
-        decides w c change page (Refuse errno) i,
-        (
-          refl,
-          ap (λ n. decided_at n (between first (first + 1))) sum ∙ ap (decided_at (suc (w.calls.events + 1))) (one_page w c change page (Refuse errno) i),
-        ),
-      )
-
-  pub refuses_at_once : (v : World) → v ≡ replied c reply 2 w → StepsTo w c 3 v
+  pub refuses_at_once : (v : World) → v ≡ replied c (Refused errno) 2 w → StepsTo w c 3 v
   refuses_at_once v left =
       let first = (range_of change).first in
+      let d = Refuse errno in
       let room = i.room in
-      let sum : w.calls.events + 2 + 1 ≡ w.calls.events + 3 = omega arith in
-      let logged = refused_at (w.calls.events + 2) in
-      subst (StepsTo w c 3)
-      (sym (left ∙ ap (λ n. record logged { calls = record logged.calls { phase = put w.calls.phase c (Answer reply); events = n } }) sum)) (
-        _,
-        (_, (w, refl, locks w c change page (Refuse errno) i), refuses),
-        unlocked logged c first reply 2 (omega (arith, room)) i.at.here i.found.alone.slot i.found.alone.free,
-      )
+      subst (StepsTo w c 3) (sym left)
+      (answered w w w.slots w.memory c first (Decide change) (Refused errno) 1 (w, refl, locks w c change page d i) (omega (arith, room)) i.at.here
+      i.found.alone.slot i.found.alone.free (
+        d,
+        decides w c change page d i,
+        (refl, ap (λ range. after_reply c (Some range) (Refused errno) (with_event (holding c first (Decide change) 1 w))) (one_page w c change page d i)),
+      ))
 
 -- ---- one that is made
 
@@ -151,21 +120,6 @@ module _ (w : World) (c : ℕ) (change : Change) (page : FreePage) (shoot : ℕ)
   nobody : AwaitsNobody (after_shot w.hardware c shoot (range_of change)) c
   nobody = subst (λ h. AwaitsNobody h c) (sym (own_dropped w.hardware c shoot (range_of change) alone)) (nobody_awaited w c _ i.at refl)
 
-  -- with these slots, and the reply logged with this event's number
-  abbrev made_at : Counts → ℕ → Slots → World
-  made_at counts n slots = record told {
-    slots = slots;
-    memory = record w.memory { counts = counts };
-    calls = record w.calls { log = w.calls.log ++ EntryOf.Answer n (w.calls.number c) c (reply_to change) ∷ [] };
-  }
-
-  -- and the call holds this range after the change
-  abbrev committed_at : Counts → ℕ → Slots → PageRange → World
-  committed_at counts n slots range =
-      let v = made_at counts n slots in
-      let phases = put w.calls.phase c (Acks (To.Change change) change) in
-      record v { calls = record v.calls { phase = put phases c (Unlock range (reply_to change)); events = suc (w.calls.events + 3) } }
-
   module _ (counts : Counts)
       (lost : CountsDown c (frame_lost change w.slots.info) (range_of change).first 1 w.memory.counts counts) where
     lost_all : CountsLost c change w counts
@@ -174,57 +128,42 @@ module _ (w : World) (c : ℕ) (change : Change) (page : FreePage) (shoot : ℕ)
         let size : 1 ≡ (range_of change).end - (range_of change).first = omega (arith, one) in
         subst (λ n. CountsDown c (frame_lost change w.slots.info) (range_of change).first n w.memory.counts counts) size lost
 
-    abbrev made : World
-    made = made_at counts (w.calls.events + 4) (slots_after change w.slots)
+    -- what is left, but for the reply
+    abbrev made : Hardware → Slots → World
+    made h slots = record w { slots = slots; hardware = h; memory = record w.memory { counts = counts } }
 
-    commits : Step (holding c (range_of change).first (Acks (To.Change change) change) 3 told) (Go c) Stepped
-        (holding c (range_of change).first (Unlock (between (range_of change).first ((range_of change).first + 1)) (reply_to change)) 4 made)
-    commits =
+    all_steps : StepsTo w c 5 (replied c (reply_to change) 4 (made (after_shot w.hardware c shoot (range_of change)) (slots_after change w.slots)))
+    all_steps =
         let first = (range_of change).first in
+        let d = Act (range_of change) shoot in
+        let phase = Acks (To.Change change) change in
         let room = i.room in
-        let sum : w.calls.events + 4 ≡ suc (w.calls.events + 3) = omega arith in
-        moved told made c first (Acks (To.Change change) change) (Unlock (between first (first + 1)) (reply_to change)) 3 (omega (arith, room)) i.at.here
-        refl refl (inl (
+        let m = with_event (holding c first phase 3 told) in
+        answered w told (slots_after change w.slots) (record w.memory { counts = counts }) c first phase (reply_to change) 3
+        (_, (_, (w, refl, locks w c change page d i), posts), tells) (omega (arith, room)) i.at.here
+        (change_slot change w.slots _ _ i.found.alone.slot) (change_owner change w.slots _ i.found.alone.free) (inl (
           nobody,
           (
             counts,
             lost_all,
             (
               refl,
-              ap (λ n. committed_at counts n (held (slots_after change w.slots) c first) (between first (first + 1))) sum
-                  ∙ (ap (λ s. committed_at counts (suc (w.calls.events + 3)) s (between first (first + 1))) (change_held change w.slots c first)
-                  ∙ ap (committed_at counts (suc (w.calls.events + 3)) (slots_after change (held w.slots c first)))
-                  (one_page w c change page (Act (range_of change) shoot) i)),
+              ap (λ s. after_reply c (Some (between first (first + 1))) (reply_to change) (record m { slots = s; memory = record w.memory { counts = counts } }))
+                  (change_held change w.slots c first)
+                  ∙ ap (λ range. after_reply c (Some range) (reply_to change)
+                  (record m { slots = slots_after change (held w.slots c first); memory = record w.memory { counts = counts } }))
+                  (one_page w c change page d i),
             ),
           ),
         ))
 
-    unlocks : Step
-        (holding c (range_of change).first (Unlock (between (range_of change).first ((range_of change).first + 1)) (reply_to change)) 4 made)
-        (Go c) Stepped (after c (Answer (reply_to change)) 5 made)
-    unlocks =
-        let room = i.room in
-        unlocked made c (range_of change).first (reply_to change) 4 (omega (arith, room)) i.at.here (change_slot change w.slots _ _ i.found.alone.slot)
-        (change_owner change w.slots _ i.found.alone.free)
-
-    all_steps : StepsTo w c 5 (after c (Answer (reply_to change)) 5 made)
-    all_steps = (_, (_, (_, (_, (w, refl, locks w c change page (Act (range_of change) shoot) i), posts), tells), commits), unlocks)
-
-    -- with this hardware and these slots
-    abbrev with_parts : Hardware → Slots → World
-    with_parts h slots = record w { slots = slots; hardware = h; memory = record w.memory { counts = counts } }
-
     pub makes_at_once : (h : Hardware) (range : PageRange) (slots : Slots) (reply : Reply) (v : World) → range ≡ range_of change
         → h ≡ after_shot w.hardware c shoot range → slots ≡ slots_after change w.slots → reply ≡ reply_to change
-        → v ≡ replied c reply 4 (with_parts h slots) → StepsTo w c 5 v
-    makes_at_once h range slots reply v same shot changed replies left =
-        let sum : w.calls.events + 4 + 1 ≡ w.calls.events + 5 = omega arith in
-        let x = with_parts (after_shot w.hardware c shoot (range_of change)) (slots_after change w.slots) in
-        let y = replied c (reply_to change) 4 x in
-        subst (StepsTo w c 5) (sym (left ∙ (ap (λ r. replied c r 4 (with_parts h slots)) replies
-        ∙ (ap (λ s. replied c (reply_to change) 4 (with_parts h s)) changed
-        ∙ (ap (λ z. replied c (reply_to change) 4 (with_parts z (slots_after change w.slots))) (shot ∙ ap (after_shot w.hardware c shoot) same)
-        ∙ ap (λ n. record y { calls = record y.calls { events = n } }) sum))))) all_steps
+        → v ≡ replied c reply 4 (made h slots) → StepsTo w c 5 v
+    makes_at_once h range slots reply v same shot changed replies now =
+        subst (StepsTo w c 5) (sym (now ∙ (ap (λ r. replied c r 4 (made h slots)) replies
+        ∙ (ap (λ s. replied c (reply_to change) 4 (made h s)) changed
+        ∙ ap (λ z. replied c (reply_to change) 4 (made z (slots_after change w.slots))) (shot ∙ ap (after_shot w.hardware c shoot) same))))) all_steps
 
 -- ---- what the code is to know of such a change
 

@@ -1,12 +1,11 @@
 -- Steps of a call after which slots begin where they began divide none, and so they divide as any map does
-use Rattle.std.proofs.Common.{◌≡◌, ℕ, zero, suc, ◌+◌, ◌<◌, Bool, true, false, nat_lt, cond, refl, sym, subst, ap, ◌∙◌, arith, ◌⊎◌, inl, inr, Ok, Result, Option, None, Some}
+use Rattle.std.proofs.Common.{◌≡◌, ℕ, zero, suc, ◌+◌, Bool, true, false, nat_lt, cond, refl, sym, subst, ap, ◌∙◌, arith, ◌⊎◌, inl, inr, Ok, Some}
 use Rattle.std.specs.Prelude.{◌≢◌}
 use Rattle.std.proofs.Math.Path.{fun_ext}
 use Rattle.std.proofs.Math.Numerals.{add-one}
 use Rattle.vm_base.specs.declared.page.PageRange.{PageRange}
 use Rattle.vm_base.specs.declared.requests.Request.{Request}
 use Rattle.slot_lock.specs.declared.plan.Change.{Change}
-use Rattle.slot_lock.specs.declared.plan.Touch.{Touch}
 use Rattle.slot_lock.specs.declared.plan.Change.TheVariants.{Put, Clear, Protect}
 use Rattle.slot_lock.specs.declared.slot_map.Got.TheVariants.{Split, Locked, Held}
 use Rattle.slot_lock.specs.declared.slot_map.Fit.TheVariants as fit
@@ -21,23 +20,19 @@ use Rattle.machine_model.specs.declared.event.Outcome.{Outcome}
 use Rattle.machine_model.specs.declared.event.Outcome.TheVariants.{Answered, Full, Idle, Stepped, Wait}
 use Rattle.machine_model.specs.declared.phase.Phase.{Phase}
 use Rattle.machine_model.specs.declared.phase.Phase.TheVariants as At
-use Rattle.machine_model.specs.Accesses.{after_translation, after_try}
-use Rattle.machine_model.specs.Actions.{Idles, to}
-use Rattle.machine_model.specs.Translating.{after_translating, frame_reached, translated_by, with_hardware}
+use Rattle.machine_model.specs.Actions.{Idles}
 use Rattle.machine_model.specs.World.{World}
 use Rattle.machine_model.specs.Step.{Goes, Step, StepsTo, event_limit, is_here, with_event}
 use Rattle.machine_laws.proofs.Shapes.{Shape, rests, begins, ends, goes, aims, gives_up, works, joins, Comes, stopped, acts, comes}
 use Rattle.machine_laws.proofs.Shapes.{GoesBy, moves, divides, cuts, fits, owns, lets_go, answers, posts, commits, takes, zeroes, first_copies}
 use Rattle.machine_laws.proofs.Shapes.{caches, shares, posts_copy, copies, installs, accesses, faults}
 use Rattle.machine_laws.proofs.Shapes.{Works, clears, invalidates, walks, evicts, flushes, reviews, frees}
-use Rattle.core_steps.specs.declared.machine.Finished.{Finished}
 use Rattle.core_steps.specs.declared.machine.Finished.TheVariants.{Last}
-use Rattle.vm_base.specs.declared.memory.NoMemory.{NoMemory}
 use Rattle.core_steps.specs.declared.starting.Started.{Started}
-use Rattle.core_steps.specs.declared.starting.Started.TheVariants.{Untouched, Begun, Ended}
+use Rattle.core_steps.specs.declared.starting.Started.TheVariants.{Begun, Ended}
 use Rattle.core_steps.specs.AtOnce.{Starts, StartsAsMap}
 use Rattle.core_steps.specs.Dividing.{DividesAsMap, GoesAsMap, StepsAsMap}
-use Rattle.core_steps.specs.Finishing.{CallsAsMap, FinishesAfter, FinishesAsMap}
+use Rattle.core_steps.specs.Finishing.{CallsAsMap, FinishesAfter}
 
 -- ---- where slots begin before a step and after it
 
@@ -52,16 +47,6 @@ pub changed_edges : (s : Slots) (change : Change) → (changed s change).edge �
 changed_edges s (Put range meta) = refl
 changed_edges s (Clear range) = refl
 changed_edges s (Protect range prot) = refl
-
--- the try of an access, so many events later, whatever it comes to
-pub tried_edges : (w v : World) (c : ℕ) (touch : Touch) (n : ℕ) (phase : Phase) → to c phase v ≡ after_try c touch (record w { calls = record w.calls { events = w.calls.events + (n + 1) } })
-    → v.slots.edge ≡ w.slots.edge
-tried_edges w v c touch n phase h = ap (λ (x : World). x.slots.edge) h ∙ go (frame_reached (translated_by w.hardware c touch))
-  where
-    go : (o : Option ℕ) → (after_translation c touch o (with_hardware (after_translating w.hardware c touch)
-        (record w { calls = record w.calls { events = w.calls.events + (n + 1) } }))).slots.edge ≡ w.slots.edge
-    go None = refl
-    go (Some f) = refl
 
 gone : (w : World) (c : ℕ) (v : World) → GoesBy w c v → Grows w.slots v.slots
 gone w c v (moves new m h) = inl (ap (λ (x : World). x.slots.edge) h)
@@ -224,20 +209,8 @@ module _ (parts : PageRange → ℕ → ℕ → Bool) where
   ended w m v c request (Answered reply) o s h same = not_stepped w m v c request (Answered reply) o (λ e. cc) s h
   ended w m v c request Full o s h same = not_stepped w m v c request Full o (λ e. cc) s h
 
-  -- it began, and what was made from there on divides as the map does
-  pub went_on : (r : Result Finished NoMemory) (o : Outcome) (w m v : World) (c : ℕ) (request : Request) → o ≡ Stepped → Step w (Call c request) o m
-      → ((was : World) → StepsAsMap parts was c 0 m → FinishesAsMap parts was c r v) → CallsAsMap parts w c request r v
-  went_on r o w m v c request e s h = inr (m, subst (λ p. Step w (Call c request) p m) e s, h m refl)
-
-  -- its arguments were checked
-  pub one_checked : (w m v : World) (c : ℕ) (request checked : Request) → Step w (Call c request) Stepped m → m.calls.phase c ≡ At.Check checked
-      → Step m (Go c) Stepped v → StartsAsMap parts w c request (Begun 1) v
-  one_checked w m v c request checked s at step =
-      (m, s, (m, refl, step, subst (λ phase. GoesAsMap parts m.slots c phase Stepped v.slots) (sym at) tt))
-
   pub starts_undivided : (w v : World) (c : ℕ) (request : Request) (started : Started) → Starts w c request started v → v.slots.edge ≡ w.slots.edge
       → StartsAsMap parts w c request started v
-  starts_undivided w v c request Untouched s same = s
   starts_undivided w v c request (Begun n) (few, (m, begun, steps)) same =
       let half : m.slots.edge ≡ w.slots.edge = between w.slots m.slots v.slots (stays_begun w m c request Stepped begun) (rising m v c n steps) same in
       (m, begun, none_divided m v c n steps (same ∙ sym half))

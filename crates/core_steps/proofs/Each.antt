@@ -6,7 +6,7 @@ use Rattle.std.proofs.lemmas.List.{map-set, length-map, get_or-map}
 use Rattle.vm_base.specs.declared.page.PageRange.{PageRange}
 use Rattle.vm_base.specs.Cores.{members}
 use Rattle.vm_base.specs.Functions.{has, over, put}
-use Rattle.vm_base.proofs.Functions.{over_all, put_all}
+use Rattle.vm_base.proofs.Functions.{over_all, put_all, put_both, put_other}
 use Rattle.mmu.specs.declared.entry.Translation.{Translation}
 use Rattle.mmu.specs.declared.tlb.TlbEntry.{TlbEntry}
 use Rattle.mmu.specs.Tlb.{tlb_without, is_at}
@@ -21,6 +21,10 @@ use Rattle.core_steps.specs.PageChange.{IsAlone}
 use Rattle.core_steps.proofs.Lists.{set_is_put}
 
 -- ---- one function
+
+-- of two changes at one place the later stays
+pub put_twice : {V : Type 0} (f : ℕ → V) (k : ℕ) (a b : V) → put f k b ≡ put (put f k a) k b
+put_twice f k a b = fun_ext (put_both (λ j x y. x ≡ y) f (put f k a) k b b refl (λ j other. sym (put_other f k a j other)))
 
 -- what is there already
 pub put_id : {V : Type 0} (f : ℕ → V) (k : ℕ) (v : V) → v ≡ f k → put f k v ≡ f

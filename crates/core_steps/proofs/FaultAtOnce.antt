@@ -34,36 +34,34 @@ use Rattle.machine_model.specs.declared.event.Event.TheVariants.{Go}
 use Rattle.machine_model.specs.declared.event.Outcome.TheVariants.{Stepped}
 use Rattle.vm_base.specs.declared.log.Entry.TheVariants as EntryOf
 use Rattle.machine_model.specs.declared.phase.Phase.{Phase}
-use Rattle.machine_model.specs.declared.phase.Phase.TheVariants.{Answer, Fill, Install, Lock, Release, Settle, Try, Unlock, Want}
+use Rattle.machine_model.specs.declared.phase.Phase.TheVariants.{Answer, Fill, Install, Lock, Release, Settle, Try, Want}
 use Rattle.machine_model.specs.World.{Hardware, Memory, World}
 use Rattle.machine_model.specs.Accesses.{IsLeastFree, after_finding, after_translation, after_try, found_at, is_past_end}
 use Rattle.machine_model.specs.Accesses.{memory_after, reply_of}
 use Rattle.machine_model.specs.Actions.{after_reply, answer_entry, to, with_entry}
 use Rattle.machine_model.specs.Files.{back_of, file_frame, is_private, prot_installed, shows_some}
 use Rattle.machine_model.specs.Filling.{FillsBacked, FillsFrame, FillsFromFile}
-use Rattle.machine_model.specs.Holding.{page_of_touch}
 use Rattle.machine_model.specs.Locks.{locking}
 use Rattle.machine_model.specs.Step.{Goes, Step, StepsTo, event_limit, with_event}
-use Rattle.machine_model.specs.Translating.{after_translating, entry_of_page, frame_reached, translated_by, with_hardware, with_table}
+use Rattle.machine_model.specs.Translating.{after_translating, frame_reached, translated_by, with_hardware}
 use Rattle.machine_laws.specs.Orderly.{answer_count}
 use Rattle.machine_laws.proofs.Moves.{call_at}
 use Rattle.machine_sound.specs.Invariant.{Fine}
 use Rattle.machine_sound.specs.Sound.{IsReached}
 use Rattle.core_steps.specs.declared.fault_at_once.FaultEnd.{FaultEnd}
-use Rattle.core_steps.specs.declared.fault_at_once.FaultEnd.TheVariants as End
 use Rattle.core_steps.specs.declared.fault_at_once.Source.{Source}
 use Rattle.core_steps.specs.declared.fault_at_once.Source.TheVariants.{Own, Cached, Free}
 use Rattle.core_steps.specs.Moving.{CanTry, IsAt, tried_to}
-use Rattle.core_steps.specs.OnePage.{CanTake, IsFailure, IsFault, IsSource, Makes, MakesTo, TakesFrom, at_lock, fault_end, frame_from}
+use Rattle.core_steps.specs.OnePage.{CanTake, IsFailure, IsFault, IsSource, Makes, TakesFrom, Tried, at_lock, frame_from}
 use Rattle.core_steps.specs.OnePage.{logged_later, replied, steps_from, trying, with_translation}
 use Rattle.core_steps.proofs.AtOnce.{counted_step}
 use Rattle.core_steps.proofs.Framing.{counted_few, fills_zeros, shown_here, shown_used, zeroed}
 use Rattle.core_steps.proofs.Known.{core_counted, frame_below, frame_counted, free_below, free_unused, goal_sound, is_left, order}
 use Rattle.core_steps.proofs.Known.{right_allowed, right_shown, room_for, sound_at}
-use Rattle.core_steps.proofs.OnePage.{after, holding, locked, moved, released, unlocked}
-use Rattle.core_steps.proofs.Each.{put_id}
+use Rattle.core_steps.proofs.OnePage.{answered, holding, locked, moved, released}
+use Rattle.core_steps.proofs.Each.{put_id, put_twice}
 use Rattle.core_steps.proofs.Reached.{fine, steps_reached}
-use Rattle.core_steps.proofs.SlotRuns.{put_twice}
+use Rattle.core_steps.proofs.Rows.{installed}
 
 -- ---- the try of an access
 
@@ -186,33 +184,19 @@ installs : (x : World) (c : ℕ) (touch : Touch) (info : PageInfo) (n : ℕ) →
     → x.slots.info touch.page ≡ Some info
     → Step (holding c touch.page (Install touch) n x) (Go c) Stepped (holding c touch.page (Release touch) (n + 1) (with_translation c touch.page info x))
 installs x c touch info n room here e =
-    let m = with_event (holding c touch.page (Install touch) n x) in
-    moved x (with_translation c touch.page info x) c touch.page (Install touch) (Release touch) n room here refl refl (
-      refl,
-      ap (λ o. to c (Release touch) (record m {
-        slots = with_info m.slots touch.page (info_with_core c o);
-        hardware = with_table m.hardware c (put (m.hardware.table c) touch.page (entry_of_page m.memory.cached o));
-      })) (sym e),
-    )
+    moved x (with_translation c touch.page info x) c touch.page (Install touch) (Release touch) n room here refl refl
+    (refl, installed (with_event (holding c touch.page (Install touch) n x)) c touch info e)
 
 -- and the page is let go
 shows : (x : World) (c : ℕ) (touch : Touch) (info : PageInfo) (n : ℕ) (w : World) → StepsTo w c n (holding c touch.page (Install touch) n x)
     → x.calls.events + (n + 1) < event_limit → c < x.made.cores → IsFreeSlot x.slots touch.page → x.slots.info touch.page ≡ Some info
-    → StepsTo w c (n + 2) (trying c touch (n + 2) (with_translation c touch.page info x))
+    → StepsTo w c (suc (suc n)) (trying c touch (n + 1 + 1) (with_translation c touch.page info x))
 shows x c touch info n w before room here alone e =
-    let shown = with_translation c touch.page info x in
-    let one : n + 1 ≡ suc n = omega arith in
-    let two : n + 2 ≡ suc (n + 1) = omega arith in
-    let again : n + 1 + 1 ≡ n + 2 = omega arith in
-    let installed : StepsTo w c (n + 1) (holding c touch.page (Release touch) (n + 1) shown) =
-    subst (λ k. StepsTo w c k (holding c touch.page (Release touch) (n + 1) shown)) (sym one)
-    (holding c touch.page (Install touch) n x, before, installs x c touch info n (omega (arith, room)) here e) in
-    subst (λ k. StepsTo w c k (trying c touch (n + 2) shown)) (sym two) (
+    let shown = with_translation c touch.page info x in (
       holding c touch.page (Release touch) (n + 1) shown,
-      installed,
-      subst (λ k. Step (holding c touch.page (Release touch) (n + 1) shown) (Go c) Stepped (trying c touch k shown)) again
-          (released shown c touch (n + 1) room here
-          (record { ordered = alone.slot.ordered; begins = alone.slot.begins; ends = alone.slot.ends; inside = alone.slot.inside }) alone.free),
+      (holding c touch.page (Install touch) n x, before, installs x c touch info n (omega (arith, room)) here e),
+      released shown c touch (n + 1) room here
+          (record { ordered = alone.slot.ordered; begins = alone.slot.begins; ends = alone.slot.ends; inside = alone.slot.inside }) alone.free,
     )
 
 -- a page of a file shows the frame that caches its file page
@@ -273,27 +257,13 @@ module _ (w : World) (c : ℕ) (touch : Touch) (fault : IsFault w c touch) where
 
   -- ---- the access fails
 
-  -- the reply is logged with the number of this event
-  abbrev told : Reply → ℕ → World
-  told reply n = record w { calls = record w.calls { log = w.calls.log ++ EntryOf.Answer n (w.calls.number c) c reply ∷ [] } }
-
   pub fails : (v : World) (reply : Reply) → IsFailure (found_at w touch) reply
       → v ≡ replied c reply 2 w → StepsTo w c 3 v
   fails v reply failure left =
       let limit = fault.room in
-      let x = told reply (suc (w.calls.events + 1)) in
-      let m = with_event (holding c touch.page (Settle touch) 1 w) in
-      let two : suc (w.calls.events + 1) ≡ w.calls.events + 2 = omega arith in
-      let three : w.calls.events + 3 ≡ w.calls.events + 2 + 1 = omega arith in
-      let settled_so : Step (holding c touch.page (Settle touch) 1 w) (Go c) Stepped (holding c touch.page (Unlock (page_of_touch touch) reply) 2 x) =
-      moved w x c touch.page (Settle touch) (Unlock (page_of_touch touch) reply) 1 (omega (arith, limit)) fault.here refl refl
-      (refl, sym (failure c touch m)) in
-      let let_go : Step (holding c touch.page (Unlock (page_of_touch touch) reply) 2 x) (Go c) Stepped (after c (Answer reply) 3 x) =
-      unlocked x c touch.page reply 2 (omega (arith, limit)) fault.here fault.alone.slot fault.alone.free in
-      subst (StepsTo w c 3)
-      (sym (left ∙ (ap (λ n. to c (Answer reply) (record (told reply n) { calls = record (told reply n).calls { events = w.calls.events + 2 + 1 } })) (sym two)
-      ∙ ap (λ n. to c (Answer reply) (record x { calls = record x.calls { events = n } })) (sym three))))
-      (holding c touch.page (Unlock (page_of_touch touch) reply) 2 x, (holding c touch.page (Settle touch) 1 w, (w, refl, locks), settled_so), let_go)
+      subst (StepsTo w c 3) (sym left)
+      (answered w w w.slots w.memory c touch.page (Settle touch) reply 1 (w, refl, locks) (omega (arith, limit)) fault.here fault.alone.slot fault.alone.free
+      (refl, sym (failure c touch (with_event (holding c touch.page (Settle touch) 1 w)))))
 
   -- ---- the page gets a frame
 
@@ -316,12 +286,12 @@ module _ (w : World) (c : ℕ) (touch : Touch) (fault : IsFault w c touch) where
 
     shows_filled : (f : ℕ) (bytes : ℕ → Bytes) (free : ℕ → Bool) (counts : Counts) (n : ℕ) → w.calls.events + (n + 1) < event_limit
         → StepsTo w c n (holding c touch.page (Install touch) n (filled f bytes free counts))
-        → StepsTo w c (n + 2) (trying c touch (n + 2) (left f bytes free counts))
+        → StepsTo w c (suc (suc n)) (trying c touch (n + 1 + 1) (left f bytes free counts))
     shows_filled f bytes free counts n limit before =
         let x = filled f bytes free counts in
         let was = info_with_frame f (w.slots.info touch.page) in
         let now = info_with_core c (Some (shown f)) in
-        subst (λ g. StepsTo w c (n + 2) (trying c touch (n + 2) (record (left f bytes free counts) { slots = record w.slots { info = g } })))
+        subst (λ g. StepsTo w c (suc (suc n)) (trying c touch (n + 1 + 1) (record (left f bytes free counts) { slots = record w.slots { info = g } })))
         (sym (put_twice w.slots.info touch.page was now))
         (shows x c touch (shown f) n w before limit fault.here
         (record { slot = record { ordered = fault.alone.slot.ordered; begins = fault.alone.slot.begins; ends = fault.alone.slot.ends; inside = fault.alone.slot.inside }; free = fault.alone.free })
@@ -414,11 +384,15 @@ module _ (w : World) (c : ℕ) (touch : Touch) (fault : IsFault w c touch) where
     few_steps (Cached f) = omega arith
     few_steps (Free f) = omega arith
 
-    pub gets_page : (v : World) (from : Source) (memory : Memory) → Comes from → TakesFrom w.memory c from memory
-        → v ≡ record (with_translation c touch.page (shown (frame_from from)) w) { memory = memory }
-        → StepsTo w c (steps_from from) (trying c touch (steps_from from) v)
-    gets_page v from memory comes takes now =
-        subst (λ x. StepsTo w c (steps_from from) (trying c touch (steps_from from) x)) (sym now) (go from comes takes)
+    -- the page is shown in a, and its frame taken in v
+    pub gets_there : (a v : World) (from : Source) (f n : ℕ) → f ≡ frame_from from → n ≡ steps_from from → Comes from
+        → a ≡ with_translation c touch.page (shown f) w
+        → ((memory : Memory) × TakesFrom a.memory c from memory × (v ≡ record a { memory = memory })) → StepsTo w c n (trying c touch n v)
+    gets_there a v from f n same many comes now (memory, takes, is_left) =
+        let left_so = is_left ∙ ap {A = World} (λ x. record x { memory = memory }) (now ∙ ap (λ f. with_translation c touch.page (shown f) w) same) in
+        subst (λ k. StepsTo w c k (trying c touch k v)) (sym many)
+        (subst (λ x. StepsTo w c (steps_from from) (trying c touch (steps_from from) x)) (sym left_so)
+        (go from comes (subst (λ x. TakesFrom x.memory c from memory) now takes)))
       where
         made : Source → Memory → World
         made from m = record (with_translation c touch.page (shown (frame_from from)) w) { memory = m }
@@ -434,15 +408,6 @@ module _ (w : World) (c : ℕ) (touch : Touch) (fault : IsFault w c touch) where
             subst (λ m. StepsTo w c 5 (trying c touch 5 (made (Cached f) m))) (sym t.2) (shared f t.0 h said.1.1 said.1.0 t.1)
         go (Free f) h t = subst (λ m. StepsTo w c 6 (trying c touch 6 (made (Free f) m))) (sym t.2) (zeroes f t.0 h.0 h.1 h.2 t.1)
 
-    -- and so by the states that the code leaves: the page is shown in a, and its frame taken in v
-    pub gets_there : (a v : World) (from : Source) (f n : ℕ) → f ≡ frame_from from → n ≡ steps_from from → Comes from
-        → a ≡ with_translation c touch.page (shown f) w
-        → ((memory : Memory) × TakesFrom a.memory c from memory × (v ≡ record a { memory = memory })) → StepsTo w c n (trying c touch n v)
-    gets_there a v from f n same many comes now (memory, takes, is_left) =
-        subst (λ k. StepsTo w c k (trying c touch k v)) (sym many)
-        (gets_page v from memory comes (subst (λ x. TakesFrom x.memory c from memory) now takes)
-        (is_left ∙ ap {A = World} (λ x. record x { memory = memory }) (now ∙ ap (λ f. with_translation c touch.page (shown f) w) same)))
-
 -- ---- by the states that the code leaves, in which the core's phase isn't written
 
 -- what the phase was before is forgotten
@@ -450,9 +415,20 @@ unwritten : (v : World) (c : ℕ) (touch : Touch) (phase : Phase) → to c phase
 unwritten v c touch phase =
     ap (λ f. record v { calls = record v.calls { phase = f } }) (put_twice v.calls.phase c (locking (To.Access touch)) phase)
 
+-- no step is made
+pub stays : (w v : World) (c : ℕ) (touch : Touch) (end : FaultEnd) → v ≡ w → end.steps ≡ 0 → end.reply ≡ None → Makes w c touch end v
+stays w v c touch end same steps reply = subst (Makes w c touch end) (sym same) (record {
+  few = omega (arith, steps);
+  steps = subst (λ n. StepsTo (at_lock c touch w) c n (to c (tried_to touch end.reply) w)) (sym steps) (ap (λ r. to c (tried_to touch r) w) reply);
+  cores = refl;
+  phases = refl;
+  events = omega (arith, steps);
+  edges = refl;
+})
+
 module _ (w : World) (c : ℕ) (touch : Touch) (fault : IsFault (at_lock c touch w) c touch) where
   pub failed : (v : World) (reply : Reply) → IsFailure (found_at w touch) reply
-      → v ≡ logged_later c reply 2 w → Makes w c touch (End.Replied 3 reply) v
+      → v ≡ logged_later c reply 2 w → Makes w c touch (record { steps = 3; reply = Some reply }) v
   failed v reply failure now = record {
     few = omega arith;
     steps = fails (at_lock c touch w) c touch fault (to c (Answer reply) v) reply failure
@@ -484,37 +460,21 @@ module _ (w : World) (c : ℕ) (touch : Touch) (fault : IsFault (at_lock c touch
       pub few_before : n ≤ 6
       few_before = subst (λ k. k ≤ 6) (sym many) (few_steps (at_lock c touch w) c touch fault info e source)
 
-      left_cores : v.made.cores ≡ w.made.cores
-      left_cores = ap (λ (x : World). x.made.cores) taken.2 ∙ ap (λ (x : World). x.made.cores) now
-
-      left_phases : v.calls.phase ≡ w.calls.phase
-      left_phases = ap (λ (x : World). x.calls.phase) taken.2 ∙ ap (λ (x : World). x.calls.phase) now
+      shown_then : v ≡ record (with_translation c touch.page (record info { frame = Some f }) w) { memory = taken.0 }
+      shown_then = taken.2 ∙ ap {A = World} (λ x. record x { memory = taken.0 }) now
 
       pub left_events : v.calls.events ≡ w.calls.events
-      left_events = ap (λ (x : World). x.calls.events) taken.2 ∙ ap (λ (x : World). x.calls.events) now
+      left_events = ap (λ (x : World). x.calls.events) shown_then
 
-      left_edges : v.slots.edge ≡ w.slots.edge
-      left_edges = ap (λ (x : World). x.slots.edge) taken.2 ∙ ap (λ (x : World). x.slots.edge) now
-
-      pub ends : (r : Option Reply) (x : World) (end : FaultEnd) → end ≡ fault_end (n + 1) r
-          → Step (trying c touch n v) (Go c) Stepped (to c (tried_to touch r) x)
-          → x.made.cores ≡ v.made.cores → x.calls.phase ≡ v.calls.phase → x.calls.events ≡ v.calls.events + (n + 1)
-          → x.slots.edge ≡ v.slots.edge → Makes w c touch end x
-      ends r x end same_end step cores phases events edges = subst (λ z. Makes w c touch z x) (sym same_end) (go r step)
-        where
-          to_end : (phase : Phase) → Step (trying c touch n v) (Go c) Stepped (to c phase x) → MakesTo w c touch (n + 1) phase x
-          to_end phase s = record {
-            few = let few = few_before in omega (arith, few);
-            steps = subst (λ k. StepsTo (at_lock c touch w) c k (to c phase x)) (sym (add-one n)) (trying c touch n v, gets, s);
-            cores = cores ∙ left_cores;
-            phases = phases ∙ left_phases;
-            events = events ∙ ap (λ k. k + (n + 1)) left_events;
-            edges = edges ∙ left_edges;
-          }
-
-          go : (r : Option Reply) → Step (trying c touch n v) (Go c) Stepped (to c (tried_to touch r) x) → Makes w c touch (fault_end (n + 1) r) x
-          go (Some reply) s = to_end (Answer reply) s
-          go None s = to_end (locking (To.Access touch)) s
+      pub ends : (r : Option Reply) (x : World) → Tried v c touch n r x → Makes w c touch (record { steps = n + 1; reply = r }) x
+      ends r x tried = record {
+        few = let few = few_before in omega (arith, few);
+        steps = subst (λ k. StepsTo (at_lock c touch w) c k (to c (tried_to touch r) x)) (sym (add-one n)) (trying c touch n v, gets, tried.step);
+        cores = tried.cores ∙ ap (λ (x : World). x.made.cores) shown_then;
+        phases = tried.phases ∙ ap (λ (x : World). x.calls.phase) shown_then;
+        events = tried.events ∙ ap (λ k. k + (n + 1)) left_events;
+        edges = tried.edges ∙ ap (λ (x : World). x.slots.edge) shown_then;
+      }
 
 -- and where the core's call is to lock its page
 pub locked_already : (w : World) (c : ℕ) (touch : Touch) → w.calls.phase c ≡ locking (To.Access touch) → at_lock c touch w ≡ w

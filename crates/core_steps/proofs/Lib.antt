@@ -16,7 +16,7 @@ pub mod MapLines
 pub mod Limits
 pub mod AtOnce
 pub mod SlotRuns
-pub mod AccessAtOnce
+pub mod FirstEvents
 pub mod ChangeAtOnce
 pub mod OnePage
 pub mod FaultAtOnce

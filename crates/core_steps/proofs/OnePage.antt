@@ -1,9 +1,10 @@
 -- A page that is a slot of its own and that nobody holds: a call that locks it, does its steps there and lets it go leaves the
 -- owners as they were. So the states that it passes are told by the state that is left, with the page held.
-use Rattle.std.proofs.Common.{◌≡◌, ℕ, suc, ◌+◌, ◌<◌, ◌≤◌, ◌==◌, nat_le, Bool, true, false, Some, None, refl, sym, subst, ap, ◌∙◌, arith}
+use Rattle.std.proofs.Common.{◌≡◌, ℕ, suc, ◌+◌, ◌<◌, ◌≤◌, ◌==◌, nat_le, Bool, true, false, Some, None, [], ◌∷◌, ◌++◌, refl, sym, subst, ap, ◌∙◌, arith}
 use Rattle.std.specs.Prelude.{if◌then◌else◌}
 use Rattle.std.proofs.Math.Path.{fun_ext}
 use Rattle.std.proofs.lemmas.Bool.Decides.{nat_tests}
+use Rattle.vm_base.specs.declared.log.Entry.TheVariants as EntryOf
 use Rattle.vm_base.specs.declared.replies.Reply.{Reply}
 use Rattle.vm_base.specs.Functions.{has, over, put}
 use Rattle.vm_base.proofs.Functions.{has_in, put_same}
@@ -16,12 +17,13 @@ use Rattle.machine_model.specs.declared.event.Event.TheVariants.{Go}
 use Rattle.machine_model.specs.declared.event.Outcome.TheVariants.{Stepped}
 use Rattle.machine_model.specs.declared.phase.Phase.{Phase}
 use Rattle.machine_model.specs.declared.phase.Phase.TheVariants.{Answer, Lock, Release, Try, Unlock}
-use Rattle.machine_model.specs.World.{World}
-use Rattle.machine_model.specs.Actions.{let_go, to}
+use Rattle.machine_model.specs.World.{Memory, World}
+use Rattle.machine_model.specs.Actions.{after_reply, let_go, to}
 use Rattle.machine_model.specs.Locks.{all_locked, held_after, locked_to}
-use Rattle.machine_model.specs.Step.{Goes, Step, event_limit, with_event}
+use Rattle.machine_model.specs.Step.{Goes, Step, StepsTo, event_limit, with_event}
+use Rattle.core_steps.specs.OnePage.{replied}
 use Rattle.core_steps.proofs.AtOnce.{counted_step}
-use Rattle.core_steps.proofs.SlotRuns.{put_twice}
+use Rattle.core_steps.proofs.Each.{put_twice}
 
 -- ---- owners
 
@@ -82,7 +84,7 @@ holding core page phase n w = record (after core phase n w) { slots = held w.slo
 -- ---- the steps between them
 
 -- a step of the call in this phase, to a state with these slots in which all but the phase and the number of events is as in v
-step_to : (m v : World) (core : ℕ) (a b : Phase) (n : ℕ) (s : Slots) → m.calls.events < event_limit → core < m.made.cores → m.calls.phase core ≡ a
+pub step_to : (m v : World) (core : ℕ) (a b : Phase) (n : ℕ) (s : Slots) → m.calls.events < event_limit → core < m.made.cores → m.calls.phase core ≡ a
     → (f : ℕ → Phase) → put f core b ≡ put v.calls.phase core b → m.calls.events ≡ v.calls.events + n
     → Goes (with_event m) core a Stepped
     (record v { slots = s; calls = record v.calls { phase = put f core b; events = suc m.calls.events } })
@@ -155,6 +157,34 @@ unlocked w core page reply n room here slot free =
         by : (b : Bool) → (page + 1 == page + 1) ≡ b → let_go (if b then None else Some (between (page + 1) (page + 1))) reply ≡ Answer reply
         by true e = refl
         by false e = absurd (grind (arith, nat_tests, e))
+
+-- The call's reply is logged by the next step, which leaves these slots and this memory, and its page let go by the one after it.
+pub answered : (from w : World) (s : Slots) (memory : Memory) (core page : ℕ) (a : Phase) (reply : Reply) (n : ℕ) → StepsTo from core n (holding core page a n w)
+    → w.calls.events + (n + 1) < event_limit → core < w.made.cores → IsSlot s page (page + 1) → s.owner page ≡ None
+    → Goes (with_event (holding core page a n w)) core a Stepped
+    (after_reply core (Some (between page (page + 1))) reply (record (with_event (holding core page a n w)) { slots = held s core page; memory = memory }))
+    → StepsTo from core (suc (suc n)) (replied core reply (n + 1) (record w { slots = s; memory = memory }))
+answered from w s memory core page a reply n before room here slot free goes =
+    let x = logged (suc (w.calls.events + n)) in
+    let told = moved w x core page a (Unlock (between page (page + 1)) reply) n (omega (arith, room)) here refl refl goes in
+    let one : suc (w.calls.events + n) ≡ w.calls.events + (n + 1) = omega arith in
+    let two : w.calls.events + (n + 1 + 1) ≡ w.calls.events + (n + 1) + 1 = omega arith in
+    subst (StepsTo from core (suc (suc n))) (ap (λ k. left k (w.calls.events + (n + 1 + 1))) one ∙ ap (left (w.calls.events + (n + 1))) two) (
+      holding core page (Unlock (between page (page + 1)) reply) (n + 1) x,
+      (holding core page a n w, before, told),
+      unlocked x core page reply (n + 1) room here slot free,
+    )
+  where
+    -- the reply is logged with the number of this event
+    logged : ℕ → World
+    logged step = record w {
+      slots = s;
+      memory = memory;
+      calls = record w.calls { log = w.calls.log ++ EntryOf.Answer step (w.calls.number core) core reply ∷ [] };
+    }
+
+    left : ℕ → ℕ → World
+    left step events = let v = logged step in record v { calls = record v.calls { phase = put w.calls.phase core (Answer reply); events = events } }
 
 -- or the access tried
 pub released : (w : World) (core : ℕ) (touch : Touch) (n : ℕ) → w.calls.events + n < event_limit → core < w.made.cores

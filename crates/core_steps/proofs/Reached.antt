@@ -1,7 +1,7 @@
 -- What a machine knows of the state that it has: some run leads to it
-use Rattle.std.proofs.Common.{◌≡◌, ℕ, zero, suc, ◌<◌, ◌≤◌, ◌+◌, Bool, None, refl, sym, subst, arith, Result, Ok, Err}
+use Rattle.std.proofs.Common.{◌≡◌, ℕ, zero, suc, ◌<◌, ◌≤◌, ◌+◌, Bool, None, sym, subst, arith, Result, Ok, Err}
 use Rattle.std.proofs.Math.Numerals.{add-one}
-use Rattle.std.specs.Prelude.{IfOk, OnErr, ◌≢◌}
+use Rattle.std.specs.Prelude.{IfOk, ◌≢◌}
 use Rattle.std.proofs.Math.Logic.{∥∥₁_map}
 use Rattle.vm_base.specs.declared.memory.NoMemory.{NoMemory}
 use Rattle.slot_lock.specs.Slots.{Slots, IsNew}
@@ -9,7 +9,6 @@ use Rattle.machine_model.specs.declared.event.Event.{Event}
 use Rattle.machine_model.specs.declared.event.Event.TheVariants.{Go}
 use Rattle.machine_model.specs.declared.event.Outcome.{Outcome}
 use Rattle.machine_model.specs.declared.event.Outcome.TheVariants.{Stepped}
-use Rattle.core_steps.specs.declared.machine.Finished.{Finished}
 use Rattle.core_steps.specs.declared.machine.Finished.TheVariants.{Last}
 use Rattle.machine_model.specs.World.{World, new_world}
 use Rattle.machine_model.specs.Step.{Step, StepsTo}
@@ -77,14 +76,3 @@ steps_reached w v c (suc n) (m, before, step) t = ∥∥₁_map (steps_reached w
 pub steps_end : (was now new : World) (c n : ℕ) (o : Outcome) → n < finish_limit → o ≢ Stepped → StepsTo was c n now → Step now (Go c) o new
     → Finishes was c (Last o) new
 steps_end was now new c n o h other s step = (n, (h, other, (now, s, step)))
-
--- none was made before
-pub finished_from : (r : Result Finished NoMemory) (w v : World) (c : ℕ) → IfOk r (λ f. (was : World) → StepsTo was c 0 w → Finishes was c f v)
-    → IfOk r (λ f. Finishes w c f v)
-finished_from (Ok f) w v c h = h w refl
-finished_from (Err x) w v c h = tt
-
-pub refused_from : (keeps : Bool) (r : Result Finished NoMemory) (w v : World) (c : ℕ) → OnErr r ((was : World) → StepsTo was c 0 w → IsRefused keeps was c v)
-    → OnErr r (IsRefused keeps w c v)
-refused_from keeps (Ok f) w v c h = tt
-refused_from keeps (Err x) w v c h = h w refl

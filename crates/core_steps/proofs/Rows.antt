@@ -1,6 +1,6 @@
 -- Rows of the model that turn on one test
 use Rattle.std.proofs.Common.{◌≡◌, ℕ, Bool, true, false, not, ◌&&◌, List, [], ◌∷◌, Option, None, Some}
-use Rattle.std.proofs.Common.{Result, is_some, cond, inl, inr, refl, sym, ap, subst, ◌∙◌}
+use Rattle.std.proofs.Common.{Result, is_some, cond, inl, inr, refl, sym, ap, subst}
 use Rattle.std.proofs.Math.Numerals.{add-one}
 use Rattle.std.specs.Prelude.{if◌then◌else◌, ◌+◌}
 use Rattle.vm_base.specs.Functions.{put}
@@ -21,11 +21,7 @@ use Rattle.machine_model.specs.declared.phase.Phase.TheVariants.{Free, Check, Lo
 use Rattle.machine_model.specs.declared.phase.Phase.TheVariants.{Settle, Want, Fill, CopyPost, CopyAcks, Install, Release}
 use Rattle.machine_model.specs.World.{World, Hardware}
 use Rattle.vm_base.specs.declared.info.PageInfo.{PageInfo}
-use Rattle.vm_base.specs.Cores.{with_member}
-use Rattle.vm_base.specs.declared.rights.Prot.{Prot}
-use Rattle.machine_model.specs.Files.{prot_installed}
 use Rattle.slot_lock.specs.Slots.{with_info}
-use Rattle.mmu.specs.Entry.{translation_of}
 use Rattle.machine_model.specs.Accesses.{TakesThisFrame, after_frame, after_install}
 use Rattle.vm_base.specs.Info.{info_with_core}
 use Rattle.machine_model.specs.Actions.{to}
@@ -36,9 +32,10 @@ use Rattle.machine_model.specs.Changes.{after_check, after_plan, checked_by}
 use Rattle.machine_model.specs.GivingUp.{GivesUp, after_give_up}
 use Rattle.machine_model.specs.Holding.{can_give_up}
 use Rattle.core_steps.specs.Moving.{AwaitsCopy}
+use Rattle.core_steps.specs.OnePage.{with_translation}
 use Rattle.vm_base.specs.declared.page.PageRange.{PageRange}
 use Rattle.machine_model.specs.Translating.{Evicts, TakesMessage, Walks, after_eviction, after_walk, can_walk, tables_cleared}
-use Rattle.machine_model.specs.Translating.{tlb_invalidated, with_hardware, with_inbox, with_table, entry_for, entry_of_page}
+use Rattle.machine_model.specs.Translating.{tlb_invalidated, with_hardware, with_inbox, with_table, entry_of_page}
 use Rattle.core_steps.proofs.Each.{put_id}
 
 pub if_true : (b : Bool) (x y : Type 0) → b ≡ true → x → cond b x y
@@ -193,24 +190,13 @@ planned w v c request r e h = subst (λ r. v ≡ after_plan c r w) e h
 
 -- ---- a page's translation is installed
 
-pub installed : (w v : World) (c : ℕ) (touch : Touch) (info : PageInfo) (f : ℕ) (prot : Prot) → w.slots.info touch.page ≡ Some info → info.frame ≡ Some f
-    → prot ≡ prot_installed w.memory.cached info → v ≡ to c (Release touch) (record w {
-      slots = with_info w.slots touch.page (Some (record info { cores = with_member info.cores c }));
-      hardware = with_table w.hardware c (put (w.hardware.table c) touch.page (Some (translation_of f prot)));
-    })
-    → v ≡ after_install c touch w
-installed w v c touch info f prot e k p h =
-    h ∙ subst (λ o. now recorded (Some (translation_of f prot)) ≡ now (info_with_core c o) (entry_of_page w.memory.cached o)) (sym e)
-    (ap (λ x. now recorded (Some (translation_of f x))) p ∙ ap (λ x. now recorded (entry_for (prot_installed w.memory.cached info) x)) (sym k))
-  where
-    recorded : Option PageInfo
-    recorded = Some (record info { cores = with_member info.cores c })
-
-    now : Option PageInfo → Option Translation → World
-    now page entry = to c (Release touch) (record w {
-      slots = with_info w.slots touch.page page;
-      hardware = with_table w.hardware c (put (w.hardware.table c) touch.page entry);
-    })
+pub installed : (w : World) (c : ℕ) (touch : Touch) (info : PageInfo) → w.slots.info touch.page ≡ Some info
+    → to c (Release touch) (with_translation c touch.page info w) ≡ after_install c touch w
+installed w c touch info e =
+    ap (λ o. to c (Release touch) (record w {
+      slots = with_info w.slots touch.page (info_with_core c o);
+      hardware = with_table w.hardware c (put (w.hardware.table c) touch.page (entry_of_page w.memory.cached o));
+    })) (sym e)
 
 -- ---- an event is counted
 

@@ -1,12 +1,11 @@
 -- Slots of a call that were locked, or unlocked, at once: each is a plain step
-use Rattle.std.proofs.Common.{◌≡◌, ℕ, zero, suc, ◌+◌, ◌<◌, ◌≤◌, ◌==◌, nat_le, Bool, true, false, Some, refl, sym, subst, ap, ◌∙◌, arith, Option, None}
+use Rattle.std.proofs.Common.{◌≡◌, ℕ, zero, suc, ◌+◌, ◌<◌, ◌≤◌, ◌==◌, nat_le, Bool, true, false, Some, refl, sym, subst, ap, ◌∙◌, arith, Option, None, add-one}
 use Rattle.std.specs.Prelude.{if◌then◌else◌}
-use Rattle.std.proofs.Math.Path.{fun_ext}
 use Rattle.std.proofs.lemmas.Bool.Decides.{nat_tests}
 use Rattle.vm_base.specs.declared.page.PageRange.{PageRange}
 use Rattle.vm_base.specs.declared.replies.Reply.{Reply}
 use Rattle.vm_base.specs.Functions.{put}
-use Rattle.vm_base.proofs.Functions.{put_same, put_other, put_both}
+use Rattle.vm_base.proofs.Functions.{put_same}
 use Rattle.slot_lock.specs.declared.plan.Goal.{Goal}
 use Rattle.slot_lock.specs.declared.slot_map.Got.TheVariants.{Locked}
 use Rattle.slot_lock.specs.Plan.{goal_range}
@@ -21,22 +20,14 @@ use Rattle.machine_model.specs.Actions.{to, let_go}
 use Rattle.machine_model.specs.Locks.{all_locked, held_after, locked_to}
 use Rattle.machine_model.specs.Step.{Goes, Step, StepsTo, event_limit, with_event}
 use Rattle.core_steps.specs.Moving.{IsAt}
-use Rattle.core_steps.proofs.AtOnce.{counted_step}
-use Rattle.core_steps.proofs.Each.{put_id}
+use Rattle.core_steps.proofs.Each.{put_id, put_twice}
 use Rattle.core_steps.proofs.Known.{is_left}
 use Rattle.core_steps.proofs.Changing.{unlock_range}
-
--- of two changes at one place the later stays
-pub put_twice : {V : Type 0} (f : ℕ → V) (k : ℕ) (a b : V) → put f k b ≡ put (put f k a) k b
-put_twice f k a b = fun_ext (put_both (λ j x y. x ≡ y) f (put f k a) k b b refl (λ j other. sym (put_other f k a j other)))
-
--- with these phases and slots, and so many events
-abbrev having : World → (ℕ → Phase) → Slots → ℕ → World
-having w phases t events = record w { slots = t; calls = record w.calls { phase = phases; events = events } }
+use Rattle.core_steps.proofs.OnePage.{after, step_to}
 
 -- after n events, with these slots, and with the core's call in this phase
-abbrev after : ℕ → Phase → Slots → ℕ → World → World
-after c phase t n w = having w (put w.calls.phase c phase) t (n + w.calls.events)
+abbrev passed : ℕ → Phase → Slots → ℕ → World → World
+passed c phase t n w = record (after c phase n w) { slots = t }
 
 -- a change of slots that is a plain step, from the phase at a page to the phase at another
 abbrev IsStep : ℕ → (ℕ → Phase) → (Slots → Slots → ℕ → ℕ → Type 0) → Type 0
@@ -44,36 +35,31 @@ IsStep c at changes = (v : World) (t : Slots) (a b : ℕ) → changes v.slots t 
 
 -- one change more
 next : (w : World) (c : ℕ) (at : ℕ → Phase) (changes : Slots → Slots → ℕ → ℕ → Type 0) → IsStep c at changes → c < w.made.cores
-    → (n : ℕ) (m t : Slots) (a b : ℕ) → n + w.calls.events < event_limit → changes m t a b
-    → Step (after c (at a) m n w) (Go c) Stepped (after c (at b) t (suc n) w)
+    → (n : ℕ) (m t : Slots) (a b : ℕ) → w.calls.events + n < event_limit → changes m t a b
+    → Step (passed c (at a) m n w) (Go c) Stepped (passed c (at b) t (n + 1) w)
 next w c at changes one here n m t a b room change =
-    let before = after c (at a) m n w in
-    counted_step before _ c (Go c) Stepped room refl here
-    (subst (λ x. Goes (with_event before) c x Stepped (after c (at b) t (suc n) w)) (sym (put_same w.calls.phase c (at a)))
-    (subst (Goes (with_event before) c (at a) Stepped) same (one (with_event before) t a b change)))
-  where
-    same : having w (put (put w.calls.phase c (at a)) c (at b)) t (suc (n + w.calls.events)) ≡ after c (at b) t (suc n) w
-    same =
-        let sum : suc (n + w.calls.events) ≡ suc n + w.calls.events = omega arith in
-        ap (λ f. having w f t (suc (n + w.calls.events))) (sym (put_twice w.calls.phase c (at a) (at b)))
-        ∙ ap (having w (put w.calls.phase c (at b)) t) sum
+    let before = passed c (at a) m n w in
+    step_to before w c (at a) (at b) n t room here (put_same w.calls.phase c (at a)) (put w.calls.phase c (at a))
+    (sym (put_twice w.calls.phase c (at a) (at b))) refl (one (with_event before) t a b change)
 
 -- before the first
-none : (w : World) (c : ℕ) (phase : Phase) → w.calls.phase c ≡ phase → after c phase w.slots 0 w ≡ w
+none : (w : World) (c : ℕ) (phase : Phase) → w.calls.phase c ≡ phase → passed c phase w.slots 0 w ≡ w
 none w c phase e =
-    let sum : 0 + w.calls.events ≡ w.calls.events = omega arith in
-    ap (λ f. having w f w.slots (0 + w.calls.events)) (put_id w.calls.phase c phase (sym e)) ∙ ap (having w w.calls.phase w.slots) sum
+    let sum : w.calls.events + 0 ≡ w.calls.events = omega arith in
+    ap (λ n. record w { calls = record w.calls { phase = put w.calls.phase c phase; events = n } }) sum
+    ∙ ap (λ f. record w { calls = record w.calls { phase = f } }) (put_id w.calls.phase c phase (sym e))
 
 -- all of them
 steps : (w : World) (c : ℕ) (at : ℕ → Phase) (changes : Slots → Slots → ℕ → ℕ → Type 0) → IsStep c at changes → c < w.made.cores
-    → (first : ℕ) → w.calls.phase c ≡ at first → (n : ℕ) (t : Slots) (upto : ℕ) → n + w.calls.events ≤ event_limit
-    → OneByOne changes w.slots t first n upto → StepsTo w c n (after c (at upto) t n w)
+    → (first : ℕ) → w.calls.phase c ≡ at first → (n : ℕ) (t : Slots) (upto : ℕ) → w.calls.events + n ≤ event_limit
+    → OneByOne changes w.slots t first n upto → StepsTo w c n (passed c (at upto) t n w)
 steps w c at changes one here first e zero t upto room (same, start) =
-    ap (λ x. after c (at x) t 0 w) start ∙ (ap (λ s. after c (at first) s 0 w) same ∙ none w c (at first) e)
+    ap (λ x. passed c (at x) t 0 w) start ∙ (ap (λ s. passed c (at first) s 0 w) same ∙ none w c (at first) e)
 steps w c at changes one here first e (suc n) t upto room (m, (b, before, change)) = (
-  after c (at b) m n w,
+  passed c (at b) m n w,
   steps w c at changes one here first e n m b (omega (arith, room)) before,
-  next w c at changes one here n m t b upto (omega (arith, room)) change,
+  subst (λ k. Step (passed c (at b) m n w) (Go c) Stepped (passed c (at upto) t k w)) (add-one n)
+      (next w c at changes one here n m t b upto (omega (arith, room)) change),
 )
 
 -- and so the state that the code leaves
@@ -82,10 +68,7 @@ steps_left : (w v : World) (c : ℕ) (at : ℕ → Phase) (changes : Slots → S
     → OneByOne changes w.slots t first n upto → (phase : Phase) → phase ≡ at upto
     → v ≡ to c phase (record w { slots = t; calls = record w.calls { events = w.calls.events + n } }) → StepsTo w c n v
 steps_left w v c at changes one here first e n t upto most few room run phase k left =
-    let swap : w.calls.events + n ≡ n + w.calls.events = omega arith in
-    subst (StepsTo w c n)
-    (sym (left ∙ ap (λ x. having w (put w.calls.phase c x) t (w.calls.events + n)) k ∙ ap (having w (put w.calls.phase c (at upto)) t) swap))
-    (steps w c at changes one here first e n t upto (omega (arith, few, room)) run)
+    subst (StepsTo w c n) (sym (left ∙ ap (λ x. passed c x t n w) k)) (steps w c at changes one here first e n t upto (omega (arith, few, room)) run)
 
 -- ---- slots that are locked
 

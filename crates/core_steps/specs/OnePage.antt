@@ -1,7 +1,7 @@
 -- A fault whose page is a slot of its own that nobody holds: what it finds there, where the page's
 -- frame comes from, and what is left, there and after a change of such a page
 use Rattle.std.specs.Prelude.{◌≡◌, ℕ, ◌+◌, ◌<◌, ◌≤◌, ◌^◌, [], ◌∷◌, ◌++◌, Bool, true, false, Option}
-use Rattle.std.specs.Prelude.{None, Some, pos, ◌<ℤ◌}
+use Rattle.std.specs.Prelude.{Some, pos, ◌<ℤ◌}
 use Rattle.vm_base.specs.declared.info.Back.{Back}
 use Rattle.vm_base.specs.declared.info.Back.TheVariants.{Anon}
 use Rattle.vm_base.specs.declared.info.PageInfo.{PageInfo}
@@ -16,19 +16,20 @@ use Rattle.vm_calls.specs.declared.fault.Settled.TheVariants as Found
 use Rattle.refcache.specs.Counts.{Counts, true_count}
 use Rattle.refcache.specs.Steps.{Takes, Begin, Inc, IsUnused}
 use Rattle.vm_base.specs.declared.log.Entry.TheVariants as EntryOf
-use Rattle.machine_model.specs.declared.phase.Phase.{Phase}
+use Rattle.machine_model.specs.declared.event.Event.TheVariants.{Go}
+use Rattle.machine_model.specs.declared.event.Outcome.TheVariants.{Stepped}
 use Rattle.machine_model.specs.declared.phase.Phase.TheVariants.{Answer, Try}
 use Rattle.machine_model.specs.Accesses.{IsLeastFree, after_finding}
 use Rattle.vm_base.specs.Info.{info_with_core}
 use Rattle.machine_model.specs.Actions.{after_reply, to}
 use Rattle.machine_model.specs.Holding.{page_of_touch}
 use Rattle.machine_model.specs.Locks.{locking}
-use Rattle.machine_model.specs.Step.{StepsTo, event_limit}
+use Rattle.machine_model.specs.Step.{Step, StepsTo, event_limit}
 use Rattle.machine_model.specs.Translating.{entry_of_page, with_table}
 use Rattle.machine_model.specs.World.{Memory, World}
 use Rattle.machine_sound.specs.Sound.{IsReached}
+use Rattle.core_steps.specs.Moving.{tried_to}
 use Rattle.core_steps.specs.declared.fault_at_once.FaultEnd.{FaultEnd}
-use Rattle.core_steps.specs.declared.fault_at_once.FaultEnd.TheVariants.{Untouched, Again, Replied}
 use Rattle.core_steps.specs.declared.fault_at_once.Source.{Source}
 use Rattle.core_steps.specs.declared.fault_at_once.Source.TheVariants.{Own, Cached, Free}
 
@@ -118,6 +119,15 @@ abbrev pub trying : ℕ → Touch → ℕ → World → World
 trying core touch n w =
     to core (Try touch) (record w { calls = record w.calls { events = w.calls.events + n } })
 
+-- and it is tried, comes to this, and leaves v, but for the core's phase, which isn't written
+pub record Tried (w : World) (core : ℕ) (touch : Touch) (n : ℕ) (reply : Option Reply) (v : World)
+    : Type 0 where
+  pub step : Step (trying core touch n w) (Go core) Stepped (to core (tried_to touch reply) v)
+  pub cores : v.made.cores ≡ w.made.cores
+  pub phases : v.calls.phase ≡ w.calls.phase
+  pub events : v.calls.events ≡ w.calls.events + (n + 1)
+  pub edges : v.slots.edge ≡ w.slots.edge
+
 -- the core's call has this reply, which was logged at the event so many later, and at the next one
 -- the call let its page go: but for the core's phase,
 abbrev pub logged_later : ℕ → Reply → ℕ → World → World
@@ -132,24 +142,12 @@ logged_later core reply n w = record w {
 abbrev pub replied : ℕ → Reply → ℕ → World → World
 replied core reply n w = to core (Answer reply) (logged_later core reply n w)
 
--- from the lock of the page n steps lead to v, but for the core's phase, which would be this one and
--- isn't written
-pub record MakesTo (w : World) (core : ℕ) (touch : Touch) (n : ℕ) (phase : Phase) (v : World)
-    : Type 0 where
-  pub few : n ≤ 7
-  pub steps : StepsTo (at_lock core touch w) core n (to core phase v)
+-- from the lock of the page the steps of the fault lead there, and leave v, but for the core's phase,
+-- which isn't written
+pub record Makes (w : World) (core : ℕ) (touch : Touch) (end : FaultEnd) (v : World) : Type 0 where
+  pub few : end.steps ≤ 7
+  pub steps : StepsTo (at_lock core touch w) core end.steps (to core (tried_to touch end.reply) v)
   pub cores : v.made.cores ≡ w.made.cores
   pub phases : v.calls.phase ≡ w.calls.phase
-  pub events : v.calls.events ≡ w.calls.events + n
+  pub events : v.calls.events ≡ w.calls.events + end.steps
   pub edges : v.slots.edge ≡ w.slots.edge
-
--- where so many steps end by what the try of the page came to
-abbrev pub fault_end : ℕ → Option Reply → FaultEnd
-fault_end steps (Some reply) = Replied steps reply
-fault_end steps None = Again steps
-
--- the steps of the fault end so
-abbrev pub Makes : World → ℕ → Touch → FaultEnd → World → Type 0
-Makes w core touch Untouched v = v ≡ w
-Makes w core touch (Again steps) v = MakesTo w core touch steps (locking (To.Access touch)) v
-Makes w core touch (Replied steps reply) v = MakesTo w core touch steps (Answer reply) v

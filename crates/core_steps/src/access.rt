@@ -1,10 +1,14 @@
 //! The access of a byte.
-ghost use Rattle.std.specs.Prelude.{◌≡◌, ◌<◌, length};
+ghost use Rattle.std.specs.Prelude.{◌≡◌, ◌+◌, ◌<◌, length};
+ghost use Rattle.slot_lock.specs.declared.plan.Goal.TheVariants as To;
+ghost use Rattle.slot_lock.specs.Plan.{IsSoundGoal};
 ghost use Rattle.machine_model.specs.Accesses.{after_try, memory_after, reply_of};
 ghost use Rattle.machine_model.specs.Actions.{to};
-ghost use Rattle.machine_model.specs.Step.{Goes};
+ghost use Rattle.machine_model.specs.Step.{Goes, event_limit};
+ghost use Rattle.machine_sound.specs.Sound.{IsReached};
 ghost use Rattle.core_steps.specs.State.{world};
 ghost use Rattle.core_steps.specs.Moving.{CanTry, IsAt, tried_to};
+ghost use Rattle.core_steps.specs.OnePage.{Tried, trying};
 
 use crate::acquire::locking;
 use crate::engine::Engine;
@@ -15,6 +19,17 @@ use mmu::{Hardware, Translated};
 use slot_lock::{Goal, SlotMap, Touch};
 use std::alloc::Allocator;
 use vm_base::{Access, CoreId, Reply};
+
+/// Where the call goes on that has tried its access: it was answered this, or faulted.
+pub fn tried_to(touch: Touch, reply: Option<Reply>) -> Phase
+    requires { IsSoundGoal (To.Access touch) }
+    ensures { result ≡ tried_to touch reply }
+{
+    match reply {
+        Some(reply) => Phase::Answer(reply),
+        None => locking(Goal::Access(touch)),
+    }
+}
 
 impl<M: SlotMap, H: Hardware, A: Allocator, L: Ledger> Engine<M, H, A, L> {
     /// The byte is read or written in the frame. It answers what the access does.
@@ -36,10 +51,12 @@ impl<M: SlotMap, H: Hardware, A: Allocator, L: Ledger> Engine<M, H, A, L> {
 
     /// The page is translated: the byte is read or written and the reply logged, or there is a fault
     /// (Intel SDM volume 3A, page-fault exceptions). The core's phase isn't written.
+    #[inline(always)]
     pub fn try_touch(&mut self, core: CoreId, touch: Touch) -> Option<Reply>
         requires { CanTry (world M.slots self.old) core touch }
         ensures tried { to core (tried_to touch result) (world M.slots self.new)
             ≡ after_try core touch (world M.slots self.old) }
+        ensures slots { M.slots self.new.map ≡ M.slots self.old.map }
         ensures phases { (world M.slots self.new).calls.phase ≡ (world M.slots self.old).calls.phase }
         ensures events { self.new.calls.events ≡ self.old.calls.events }
         ensures cores { length self.new.calls.phases.items ≡ length self.old.calls.phases.items }
@@ -54,15 +71,25 @@ impl<M: SlotMap, H: Hardware, A: Allocator, L: Ledger> Engine<M, H, A, L> {
         }
     }
 
+    /// The access is tried, so many steps later than those that are counted. The core's phase isn't written.
+    #[inline(always)]
+    pub fn try_page(&mut self, core: CoreId, touch: Touch, steps: u64) -> Option<Reply>
+        requires here { core < length self.old.calls.phases.items }
+        requires room { self.old.calls.events + steps < event_limit }
+        requires reached { ∥ IsReached (trying core touch steps (world M.slots self.old)) ∥₁ }
+        ensures { Tried (world M.slots self.old) core touch steps result (world M.slots self.new) }
+    {
+        self.calls.events += steps + 1;
+        self.try_touch(core, touch)
+    }
+
     /// The access is tried.
     pub fn go_try(&mut self, core: CoreId, touch: Touch) -> Outcome
         requires { IsAt (world M.slots self.old) core (Phase.Try touch) }
         ensures { Goes (world M.slots self.old) core (Phase.Try touch) result (world M.slots self.new) }
     {
-        match self.try_touch(core, touch) {
-            Some(reply) => self.go_to(core, Phase::Answer(reply)),
-            None => self.go_to(core, locking(Goal::Access(touch))),
-        }
+        let reply = self.try_touch(core, touch);
+        self.go_to(core, tried_to(touch, reply));
         Outcome::Stepped
     }
 }

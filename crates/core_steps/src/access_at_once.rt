@@ -10,11 +10,10 @@ ghost use Rattle.core_steps.specs.State.{world};
 
 use crate::acquire::locking;
 use crate::engine::Engine;
-use crate::fault_at_once::FaultEnd;
 use crate::ledger::Ledger;
 use crate::starting::Started;
 use machine_model::Outcome;
-use mmu::{Hardware, Translated};
+use mmu::Hardware;
 use slot_lock::{Goal, SlotMap, Touch};
 use std::alloc::Allocator;
 use vm_base::{Access, CoreId, Request, is_valid, offset_of, page_of};
@@ -73,28 +72,22 @@ impl<M: SlotMap, H: Hardware, A: Allocator, L: Ledger> Engine<M, H, A, L> {
         ensures edges { (M.slots self.new.map).edge ≡ (M.slots self.old.map).edge }
     {
         self.number_call(core, request);
-        self.calls.events += 3;
-        match self.cores.translate(core, touch) {
-            Translated::Hit(frame) | Translated::Fill(frame) => {
-                let reply = self.touch_byte(touch, frame);
-                self.log_reply(core, reply);
+        if let Some(reply) = self.try_page(core, touch, 2) {
+            self.calls.events += 1;
+            return Started::Ended(Outcome::Answered(reply));
+        }
+        let end = self.make_fault(core, touch);
+        match end.reply {
+            Some(reply) => {
                 self.calls.events += 1;
                 Started::Ended(Outcome::Answered(reply))
             }
-            Translated::Fault => match self.make_fault(core, touch) {
-                FaultEnd::Untouched => {
-                    self.go_to(core, locking(Goal::Access(touch)));
-                    Started::Begun { steps: 2 }
+            None => {
+                self.go_to(core, locking(Goal::Access(touch)));
+                Started::Begun {
+                    steps: 2 + end.steps,
                 }
-                FaultEnd::Again { steps } => {
-                    self.go_to(core, locking(Goal::Access(touch)));
-                    Started::Begun { steps: 2 + steps }
-                }
-                FaultEnd::Replied { reply, .. } => {
-                    self.calls.events += 1;
-                    Started::Ended(Outcome::Answered(reply))
-                }
-            },
+            }
         }
     }
 }

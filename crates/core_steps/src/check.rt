@@ -1,8 +1,8 @@
 //! The check of a request's arguments.
-ghost use Rattle.std.specs.Prelude.{◌≡◌};
+ghost use Rattle.std.specs.Prelude.{◌<◌, length};
 ghost use Rattle.machine_model.specs.Step.{Goes};
+ghost use Rattle.machine_laws.specs.Orderly.{answer_count};
 ghost use Rattle.core_steps.specs.State.{world};
-ghost use Rattle.core_steps.specs.Moving.{IsAt};
 
 use crate::acquire::locking;
 use crate::engine::Engine;
@@ -16,10 +16,11 @@ use vm_base::{CoreId, Request};
 use vm_calls::check;
 
 impl<M: SlotMap, H: Hardware, A: Allocator, L: Ledger> Engine<M, H, A, L> {
-    /// The arguments are checked: the call goes on, or has its reply. A mapping without
-    /// `MAP_FIXED` begins with its hint, if all pages of it are valid.
+    /// The arguments are checked: the call goes on, or has its reply. A mapping without `MAP_FIXED`
+    /// begins with its hint, if all pages of it are valid. What the core's phase was isn't read.
     pub fn go_check(&mut self, core: CoreId, request: Request) -> Outcome
-        requires { IsAt (world M.slots self.old) core (Phase.Check request) }
+        requires here { core < length self.old.calls.phases.items }
+        requires room { answer_count (L.entries self.old.calls.ledger) < self.old.calls.limit }
         ensures { Goes (world M.slots self.old) core (Phase.Check request) result (world M.slots self.new) }
     {
         match check(&self.objects, core, request) {

@@ -81,6 +81,7 @@ impl<M: SlotMap, H: Hardware, A: Allocator, L: Ledger> Engine<M, H, A, L> {
     }
 
     /// What the event does, its core being one of the machine's. A refusal for memory changes nothing.
+    #[inline(always)]
     fn act(&mut self, event: Event) -> Result<Outcome, NoMemory>
         requires here { is_here (world M.slots self.old).made (core_of event) ≡ true }
         requires fine { ∥ Fine (world M.slots self.old) ∥₁ }
@@ -110,6 +111,7 @@ impl<M: SlotMap, H: Hardware, A: Allocator, L: Ledger> Engine<M, H, A, L> {
     }
 
     /// What the event does, counted as one event more. A refusal for memory changes nothing.
+    #[inline(always)]
     fn act_counted(&mut self, event: Event) -> Result<Outcome, NoMemory>
         requires here { is_here (world M.slots self.old).made (core_of event) ≡ true }
         requires room { self.old.calls.events + 1 < 2 ^ 64 }
@@ -144,14 +146,7 @@ impl<M: SlotMap, H: Hardware, A: Allocator, L: Ledger> Engine<M, H, A, L> {
         ensures divides { IfOk result
             (λ outcome. DividesAsMap M.parts (world M.slots self.old) (Event.Go core) outcome (world M.slots self.new)) }
     {
-        self.calls.events += 1;
-        match self.go(core) {
-            Ok(outcome) => Ok(outcome),
-            Err(NoMemory) => {
-                self.calls.events -= 1;
-                Err(NoMemory)
-            }
-        }
+        self.act_counted(Event::Go(core))
     }
 
     /// Tells whether the core is the machine's, if an event has one.

@@ -1,15 +1,22 @@
 //! A fault of an access whose page is held: what the page's slot says is read, a frame is
 //! taken, the page's translation is installed, and the core is recorded. `filling` and
 //! `copy` say how the page gets the frame.
-ghost use Rattle.std.specs.Prelude.{◌≡◌, ℕ, ◌<◌, true, false, length, IfNone, IfSome};
+ghost use Rattle.std.specs.Prelude.{◌≡◌, ℕ, ◌+◌, ◌<◌, ◌⊎◌, true, false, None, Some, length};
+ghost use Rattle.std.specs.Prelude.{IfNone, IfSome, OnErr, OnOk};
+ghost use Rattle.vm_base.specs.Pages.{IsPage};
+ghost use Rattle.mmu.specs.Entry.{has_right};
+ghost use Rattle.mmu.specs.Tables.{IsEmptyBeside};
+ghost use Rattle.slot_lock.specs.Slots.{HasMeta, IsSlot};
 ghost use Rattle.slot_lock.specs.Plan.{IsSoundTouch};
 ghost use Rattle.vm_calls.specs.declared.fault.Settled.{Settled};
 ghost use Rattle.frames.specs.Parts.{free_frames};
 ghost use Rattle.machine_model.specs.Accesses.{TakesThisFrame, after_finding, found_at, taken_for};
+ghost use Rattle.machine_model.specs.Files.{prot_installed};
 ghost use Rattle.machine_model.specs.Step.{Goes};
 ghost use Rattle.machine_laws.specs.Orderly.{answer_count};
 ghost use Rattle.core_steps.specs.State.{phase_of, world};
 ghost use Rattle.core_steps.specs.Moving.{IsAt, IsOf, Tries, WantsMemory};
+ghost use Rattle.core_steps.specs.OnePage.{with_translation};
 
 use crate::engine::Engine;
 use crate::file_pages::{file_frame, prot_installed};
@@ -133,6 +140,35 @@ impl<M: SlotMap, H: Hardware, A: Allocator, L: Ledger> Engine<M, H, A, L> {
         }
     }
 
+    /// The core's tables get the entry of the page, which has this from here on, with the core recorded.
+    /// The core holds the page, or nobody. A refusal for memory changes nothing. The core's phase isn't
+    /// written.
+    pub fn show_page(
+        &mut self,
+        core: CoreId,
+        page: u64,
+        info: PageInfo,
+        frame: u32,
+    ) -> Result<(), NoMemory>
+        requires here { core < length self.old.calls.phases.items }
+        requires page { IsPage page }
+        requires held { ((M.slots self.old.map).owner page ≡ Some core)
+            ⊎ ((M.slots self.old.map).owner page ≡ None) }
+        requires alone { IsSlot (M.slots self.old.map) page (page + 1) }
+        requires meta { HasMeta ((M.slots self.old.map).info page) info.meta }
+        requires frame { info.frame ≡ Some frame }
+        requires right { has_right (prot_installed (world M.slots self.old).memory.cached info) ≡ true }
+        ensures ok { OnOk result (world M.slots self.new ≡ with_translation core page info (world M.slots self.old)) }
+        ensures err { OnErr result (world M.slots self.new ≡ world M.slots self.old) }
+        ensures err_last { OnErr result (IsEmptyBeside ((world M.slots self.old).hardware.table core) page) }
+    {
+        let prot = prot_installed(&self.objects, &info);
+        self.cores.install(core, page, frame, prot)?;
+        let cores = info.cores.with(core);
+        self.map.set_leaf(core, page, PageInfo { cores, ..info });
+        Ok(())
+    }
+
     /// The core's tables get the page's entry, and the core is recorded on the page. A
     /// refusal for memory changes nothing.
     pub fn go_install(&mut self, core: CoreId, touch: Touch) -> Result<Outcome, NoMemory>
@@ -144,11 +180,7 @@ impl<M: SlotMap, H: Hardware, A: Allocator, L: Ledger> Engine<M, H, A, L> {
         if let Some(info) = self.map.page(touch.page)
             && let Some(frame) = info.frame
         {
-            let prot = prot_installed(&self.objects, &info);
-            self.cores.install(core, touch.page, frame, prot)?;
-            let cores = info.cores.with(core);
-            self.map
-                .set_leaf(core, touch.page, PageInfo { cores, ..info });
+            self.show_page(core, touch.page, info, frame)?;
         }
         self.go_to(core, Phase::Release(touch));
         Ok(Outcome::Stepped)

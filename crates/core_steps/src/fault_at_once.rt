@@ -1,34 +1,23 @@
 //! A fault of an access, made at once: its page is found once and set once. No other core can act in
 //! between, so that the page, which nobody holds, need not be locked, nor the core's phase written.
-ghost use Rattle.std.specs.Prelude.{◌≡◌, ◌+◌, ◌<◌, ◌≤◌, ℕ, None, Some, IfSome, if◌then◌else◌, true};
+ghost use Rattle.std.specs.Prelude.{◌≡◌, ◌+◌, ◌<◌, ◌≤◌, None, Some, IfSome};
 ghost use Rattle.std.specs.Prelude.{length};
-ghost use Rattle.vm_base.specs.Pages.{IsPage};
 ghost use Rattle.slot_lock.specs.declared.plan.Goal.TheVariants as To;
-ghost use Rattle.slot_lock.specs.Slots.{HasMeta, IsFreeSlot};
-ghost use Rattle.mmu.specs.Entry.{has_right};
 ghost use Rattle.frames.specs.Parts.{free_frames};
-ghost use Rattle.machine_model.specs.declared.event.Event.{Event};
-ghost use Rattle.machine_model.specs.declared.event.Outcome.{Outcome};
 ghost use Rattle.machine_model.specs.Accesses.{found_at};
-ghost use Rattle.machine_model.specs.Actions.{to};
-ghost use Rattle.machine_model.specs.Files.{prot_installed};
 ghost use Rattle.machine_model.specs.Locks.{locking};
-ghost use Rattle.machine_model.specs.Step.{Step, StepsTo, event_limit};
+ghost use Rattle.machine_model.specs.Step.{StepsTo, event_limit};
 ghost use Rattle.machine_model.specs.World.{Memory};
 ghost use Rattle.machine_sound.specs.Sound.{IsReached};
 ghost use Rattle.core_steps.specs.OnePage.{CanTake, IsFailure, IsFault, IsSource, Makes, TakesFrom};
-ghost use Rattle.core_steps.specs.OnePage.{at_lock, fault_end, frame_from, steps_from, trying};
-ghost use Rattle.core_steps.specs.OnePage.{with_translation};
-ghost use Rattle.core_steps.specs.Moving.{tried_to};
+ghost use Rattle.core_steps.specs.OnePage.{at_lock, frame_from, steps_from};
 ghost use Rattle.core_steps.specs.State.{world};
 
-use crate::acquire::locking;
+use crate::access::tried_to;
 use crate::engine::Engine;
-use crate::file_pages::prot_installed;
 use crate::ledger::Ledger;
-use machine_model::Phase;
 use mmu::Hardware;
-use slot_lock::{Goal, SlotMap, Touch};
+use slot_lock::{SlotMap, Touch};
 use std::alloc::Allocator;
 use vm_base::{Back, CoreId, PageInfo, Reply, SegvCode};
 use vm_calls::Settled;
@@ -71,23 +60,11 @@ impl Source {
 
 /// Where a fault's steps end that are made at once.
 #[derive(Clone, Copy, Debug, PartialEq, Eq)]
-pub(crate) enum FaultEnd {
-    /// No step was made.
-    Untouched,
-    /// So many were made, and the access faulted again.
-    Again { steps: u64 },
-    /// So many were made, and the access has this reply, which is logged.
-    Replied { steps: u64, reply: Reply },
-}
-
-// What the try of the page came to is where so many steps end.
-fn fault_end(steps: u64, tried: Option<Reply>) -> FaultEnd
-    ensures { result ≡ fault_end steps tried }
-{
-    match tried {
-        Some(reply) => FaultEnd::Replied { steps, reply },
-        None => FaultEnd::Again { steps },
-    }
+pub(crate) struct FaultEnd {
+    /// How many were made: none, where a plain one has to be.
+    pub steps: u64,
+    /// The access's reply, which is logged; without one the call is to lock its page.
+    pub reply: Option<Reply>,
 }
 
 /// What an access that fails is answered.
@@ -102,6 +79,17 @@ fn failure(settled: Settled) -> Option<Reply>
     }
 }
 
+// No step is made.
+fn no_steps() -> FaultEnd
+    ensures steps { result.steps ≡ 0 }
+    ensures reply { result.reply ≡ None }
+{
+    FaultEnd {
+        steps: 0,
+        reply: None,
+    }
+}
+
 impl<M: SlotMap, H: Hardware, A: Allocator, L: Ledger> Engine<M, H, A, L> {
     // The access fails at its page, and this is its reply.
     fn fail_at_once(&mut self, core: CoreId, touch: Touch, reply: Reply) -> FaultEnd
@@ -110,7 +98,10 @@ impl<M: SlotMap, H: Hardware, A: Allocator, L: Ledger> Engine<M, H, A, L> {
         ensures { Makes (world M.slots self.old) core touch result (world M.slots self.new) }
     {
         self.log_at_once(core, reply, 2);
-        FaultEnd::Replied { steps: 3, reply }
+        FaultEnd {
+            steps: 3,
+            reply: Some(reply),
+        }
     }
 
     // Where the page's frame comes from, if neither a message is to be sent nor a file to be read.
@@ -128,27 +119,6 @@ impl<M: SlotMap, H: Hardware, A: Allocator, L: Ledger> Engine<M, H, A, L> {
         }
     }
 
-    // The core's tables get the entry of the page, which has this from here on, with the core recorded.
-    // Without memory for the entry nothing changes. Tells whether there was.
-    fn show_page(&mut self, core: CoreId, page: u64, info: PageInfo, frame: u32) -> bool
-        requires here { core < length self.old.calls.phases.items }
-        requires page { IsPage page }
-        requires free { IsFreeSlot (M.slots self.old.map) page }
-        requires meta { HasMeta ((M.slots self.old.map).info page) info.meta }
-        requires frame { info.frame ≡ Some frame }
-        requires right { has_right (prot_installed (world M.slots self.old).memory.cached info) ≡ true }
-        ensures { world M.slots self.new ≡ (if result then with_translation core page info
-            (world M.slots self.old) else (world M.slots self.old)) }
-    {
-        let prot = prot_installed(&self.objects, &info);
-        let Ok(()) = self.cores.install(core, page, frame, prot) else {
-            return false;
-        };
-        let cores = info.cores.with(core);
-        self.map.set_leaf(core, page, PageInfo { cores, ..info });
-        true
-    }
-
     // The page's frame is taken, filled and counted, as far as it has to be.
     fn take_from(&mut self, core: CoreId, source: Source)
         requires { CanTake (world M.slots self.old) core source }
@@ -164,22 +134,6 @@ impl<M: SlotMap, H: Hardware, A: Allocator, L: Ledger> Engine<M, H, A, L> {
                 self.counts.begin(frame, 1);
             }
         }
-    }
-
-    // The access is tried again, so many steps later than those that are counted.
-    fn try_page(&mut self, core: CoreId, touch: Touch, steps: u64) -> Option<Reply>
-        requires here { core < length self.old.calls.phases.items }
-        requires room { self.old.calls.events + steps < event_limit }
-        requires reached { ∥ IsReached (trying core touch steps (world M.slots self.old)) ∥₁ }
-        ensures step { Step (trying core touch steps (world M.slots self.old)) (Event.Go core) Outcome.Stepped
-            (to core (tried_to touch result) (world M.slots self.new)) }
-        ensures phases { (world M.slots self.new).calls.phase ≡ (world M.slots self.old).calls.phase }
-        ensures events { self.new.calls.events ≡ self.old.calls.events + (steps + 1) }
-        ensures edges { (M.slots self.new.map).edge ≡ (M.slots self.old.map).edge }
-        ensures cores { length self.new.calls.phases.items ≡ length self.old.calls.phases.items }
-    {
-        self.calls.events += steps + 1;
-        self.try_touch(core, touch)
     }
 
     // The page, which has this, gets its frame from there, and the access is tried again.
@@ -201,13 +155,16 @@ impl<M: SlotMap, H: Hardware, A: Allocator, L: Ledger> Engine<M, H, A, L> {
             frame: Some(frame),
             ..info
         };
-        if !self.show_page(core, touch.page, shown, frame) {
-            return FaultEnd::Untouched;
-        }
+        let Ok(()) = self.show_page(core, touch.page, shown, frame) else {
+            return no_steps();
+        };
         self.take_from(core, source);
         let before = source.steps();
-        let tried = self.try_page(core, touch, before);
-        fault_end(before + 1, tried)
+        let reply = self.try_page(core, touch, before);
+        FaultEnd {
+            steps: before + 1,
+            reply,
+        }
     }
 
     /// The steps of an access whose page is to be locked, where that is a slot of its own that nobody
@@ -221,7 +178,7 @@ impl<M: SlotMap, H: Hardware, A: Allocator, L: Ledger> Engine<M, H, A, L> {
         ensures { Makes (world M.slots self.old) core touch result (world M.slots self.new) }
     {
         let Some(page) = self.map.free_page(touch.page) else {
-            return FaultEnd::Untouched;
+            return no_steps();
         };
         let settled = self.find(touch, &page.info);
         if let Some(reply) = failure(settled) {
@@ -232,7 +189,7 @@ impl<M: SlotMap, H: Hardware, A: Allocator, L: Ledger> Engine<M, H, A, L> {
         {
             return self.show_at_once(core, touch, info, source);
         }
-        FaultEnd::Untouched
+        no_steps()
     }
 
     /// The events of a fault's steps, as `make_fault` makes them, where the core's call is to lock its
@@ -249,16 +206,8 @@ impl<M: SlotMap, H: Hardware, A: Allocator, L: Ledger> Engine<M, H, A, L> {
         if most < MOST_STEPS {
             return 0;
         }
-        match self.make_fault(core, touch) {
-            FaultEnd::Untouched => 0,
-            FaultEnd::Again { steps } => {
-                self.go_to(core, locking(Goal::Access(touch)));
-                steps
-            }
-            FaultEnd::Replied { steps, reply } => {
-                self.go_to(core, Phase::Answer(reply));
-                steps
-            }
-        }
+        let end = self.make_fault(core, touch);
+        self.go_to(core, tried_to(touch, end.reply));
+        end.steps
     }
 }

@@ -190,10 +190,6 @@ impl<M: SlotMap, A: Allocator + Clone, L: Ledger> Machine<M, A, L> {
         match self.engine.start(core, request) {
             Started::Ended(outcome) => Ok(Finished::Last(outcome)),
             Started::Begun { steps } => self.go_on(core, steps),
-            Started::Untouched => match self.step(Event::Call(core, request))? {
-                Outcome::Stepped => self.go_on(core, 0),
-                outcome => Ok(Finished::Last(outcome)),
-            },
         }
     }
 

@@ -1,6 +1,16 @@
+use Rattle.std.proofs.Common.{refl}
+use Rattle.machine_model.specs.declared.phase.Phase.TheVariants.{Check}
 use Rattle.core_steps.specs.State.{world}
 use Rattle.core_steps.proofs.Framing.{goes_at, read_at}
+use Rattle.core_steps.proofs.Known.{room_for}
 use Rattle.core_steps.proofs.engine.Engine.go.Goals as goal
+
+pub go_check-requires-clause-room : goal.go_check-requires-clause-room
+go_check-requires-clause-room g c =
+    let phases = c.args.self.now.calls.phases.items in
+    let at = read_at phases c.args.core c.index.result _ _ c.requires.here c.index.ensures.value c.index-2.ensures c.in-Check.is in
+    room_for (world g.M.SlotRead.slots c.args.self.now) c.args.core (Check c.in-Check.request)
+    (record { here = c.requires.here; phase = at; fine = c.requires.fine }) refl
 
 pub returns-in-Fill-clause-row : goal.returns-in-Fill-clause-row
 returns-in-Fill-clause-row g c =

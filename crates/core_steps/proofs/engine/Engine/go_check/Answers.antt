@@ -1,15 +1,10 @@
 use Rattle.std.proofs.Common.{◌≡◌, Ok, refl, rules, sym, ap, ◌∙◌}
 use Rattle.slot_lock.specs.declared.plan.Plan.TheVariants as PlanOf
-use Rattle.machine_model.specs.declared.phase.Phase.TheVariants.{Check}
 use Rattle.machine_model.specs.Actions.{to}
 use Rattle.core_steps.specs.State.{world}
-use Rattle.core_steps.proofs.Known.{room_for}
 use Rattle.core_steps.proofs.Rows.{planned}
 use Rattle.core_steps.proofs.engine.Engine.go_check.Goals as goal
 use Rattle.core_steps.proofs.engine.Engine.go_check.Goals.{in-Ok-Change, in-Ok-Touch, in-Ok-Place, in-Err}
-
-pub reply-requires-clause-room : goal.reply-requires-clause-room
-reply-requires-clause-room g c = room_for _ c.args.core (Check c.args.request) c.requires refl
 
 pub returns : goal.returns
 returns g c = elim c.match-check.branch [

@@ -8,18 +8,16 @@ show_page-requires-clause-page g c = is_valid _ c.args.core c.args.touch c.requi
 pub take_from-requires : goal.take_from-requires
 take_from-requires g c =
     takes_it (world g.M.SlotRead.slots c.args.self.now) c.args.core c.args.touch c.requires.fault c.args.info c.requires.info c.args.source c.requires.source
-    (world g.M.SlotRead.slots c.show_page.new.self) _ c.if-not-show_page.ensures
+    (world g.M.SlotRead.slots c.show_page.new.self) _ c.in-Ok.ensures.ok
 
-pub try_page-tried-requires-clause-reached : goal.try_page-tried-requires-clause-reached
-try_page-tried-requires-clause-reached g c =
+pub try_page-reply-requires-clause-reached : goal.try_page-reply-requires-clause-reached
+try_page-reply-requires-clause-reached g c =
     gets_reached (world g.M.SlotRead.slots c.args.self.now) c.args.core c.args.touch c.requires.fault c.args.info c.requires.info c.args.source c.requires.source
     (world g.M.SlotRead.slots c.show_page.new.self) (world g.M.SlotRead.slots c.take_from.new.self) c.frame-frame.result c.steps-before.result
-    c.frame-frame.ensures c.steps-before.ensures c.if-not-show_page.ensures c.take_from.ensures
+    c.frame-frame.ensures c.steps-before.ensures c.in-Ok.ensures.ok c.take_from.ensures
 
 pub returns : goal.returns
 returns g c =
     ends (world g.M.SlotRead.slots c.args.self.now) c.args.core c.args.touch c.requires.fault c.args.info c.requires.info c.args.source c.requires.source
     (world g.M.SlotRead.slots c.show_page.new.self) (world g.M.SlotRead.slots c.take_from.new.self) c.frame-frame.result c.steps-before.result
-    c.frame-frame.ensures c.steps-before.ensures c.if-not-show_page.ensures c.take_from.ensures c.try_page-tried.result _ _ c.fault_end.ensures
-    c.try_page-tried.ensures.step c.try_page-tried.ensures.cores c.try_page-tried.ensures.phases c.try_page-tried.ensures.events
-    c.try_page-tried.ensures.edges
+    c.frame-frame.ensures c.steps-before.ensures c.in-Ok.ensures.ok c.take_from.ensures c.try_page-reply.result _ c.try_page-reply.ensures

@@ -1,24 +1,34 @@
-use Rattle.std.proofs.Common.{◌≡◌, rules, subst}
-use Rattle.machine_model.specs.declared.event.Event.TheVariants.{Call}
-use Rattle.machine_model.specs.declared.event.Outcome.TheVariants.{Stepped}
-use Rattle.machine_model.specs.Step.{Step}
+use Rattle.std.proofs.Common.{arith}
 use Rattle.core_steps.specs.State.{world}
-use Rattle.core_steps.proofs.Divided.{one_checked, starts_undivided}
-use Rattle.core_steps.proofs.Framing.{read_at}
+use Rattle.core_steps.proofs.Divided.{starts_undivided}
+use Rattle.core_steps.proofs.FirstEvents.{begins_as_map, begins_plainly, begins_reached, can_start, reply_room}
 use Rattle.core_steps.proofs.engine.Engine.start.Goals as goal
 
-pub returns-clause-divides : goal.returns-clause-divides
-returns-clause-divides g c =
+pub returns-in-Some-clause-divides : goal.returns-in-Some-clause-divides
+returns-in-Some-clause-divides g c =
     starts_undivided g.M.SlotMap.parts (world g.M.SlotRead.slots c.args.self.now) _ c.args.core c.args.request _ c.access_at_once.ensures.starts.0
     c.access_at_once.ensures.edges
 
-pub returns-2-clause-divides : goal.returns-2-clause-divides
-returns-2-clause-divides g c =
-    let phases = c.begin-outcome.new.self.calls.phases.items in
-    let plain : c.begin-outcome.result ≡ Stepped = search rules in
-    one_checked g.M.SlotMap.parts (world g.M.SlotRead.slots c.args.self.now) (world g.M.SlotRead.slots c.begin-outcome.new.self) _ c.args.core
-    c.args.request c.in-Check.request
-    (subst (λ o. Step (world g.M.SlotRead.slots c.args.self.now) (Call c.args.core c.args.request) o
-    (world g.M.SlotRead.slots c.begin-outcome.new.self)) plain c.begin-outcome.ensures.step)
-    (read_at phases c.args.core c.index.result _ _ (search rules) c.index.ensures.value c.index-2.ensures c.in-Check.is)
-    c.check_next.ensures.step
+pub go_check-requires-clause-room : goal.go_check-requires-clause-room
+go_check-requires-clause-room g c =
+    reply_room (world g.M.SlotRead.slots c.args.self.now) c.args.core c.args.request
+    (can_start _ _ _ c.requires (omega (arith, c.if-self.false)) c.is_here.ensures c.if-not-is_here.false (c.can_begin.ensures c.if-not-can_begin.false))
+    _ c.number_call.ensures
+
+pub returns-clause-starts : goal.returns-clause-starts
+returns-clause-starts g c =
+    begins_plainly (world g.M.SlotRead.slots c.args.self.now) c.args.core c.args.request
+    (can_start _ _ _ c.requires (omega (arith, c.if-self.false)) c.is_here.ensures c.if-not-is_here.false (c.can_begin.ensures c.if-not-can_begin.false))
+    _ c.number_call.ensures _ c.go_check.ensures.1
+
+pub returns-clause-divides : goal.returns-clause-divides
+returns-clause-divides g c =
+    begins_as_map (world g.M.SlotRead.slots c.args.self.now) c.args.core c.args.request
+    (can_start _ _ _ c.requires (omega (arith, c.if-self.false)) c.is_here.ensures c.if-not-is_here.false (c.can_begin.ensures c.if-not-can_begin.false))
+    _ c.number_call.ensures _ c.go_check.ensures.1 g.M.SlotMap.parts
+
+pub returns-clause-reached : goal.returns-clause-reached
+returns-clause-reached g c =
+    begins_reached (world g.M.SlotRead.slots c.args.self.now) c.args.core c.args.request
+    (can_start _ _ _ c.requires (omega (arith, c.if-self.false)) c.is_here.ensures c.if-not-is_here.false (c.can_begin.ensures c.if-not-can_begin.false))
+    _ c.number_call.ensures _ c.go_check.ensures.1

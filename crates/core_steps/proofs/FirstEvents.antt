@@ -1,0 +1,221 @@
+-- The first events of a call, made at once: the states that it passes, and the one that is left
+use Rattle.std.proofs.Common.{◌≡◌, ℕ, suc, ◌+◌, ◌<◌, ◌≤◌, Bool, true, not, length, Option, Some, None, Result, Ok, Err, refl, sym, subst, ap, ◌∙◌, arith}
+use Rattle.std.proofs.Math.Logic.{∥∥₁_map}
+use Rattle.std.proofs.lemmas.Bool.Decides.{nat_tests}
+use Rattle.vm_base.specs.declared.page.PageRange.{PageRange}
+use Rattle.vm_base.specs.declared.replies.Reply.{Reply}
+use Rattle.vm_base.specs.declared.requests.Request.{Request}
+use Rattle.vm_base.specs.Functions.{put}
+use Rattle.vm_base.proofs.Functions.{put_same}
+use Rattle.slot_lock.specs.declared.plan.Goal.TheVariants as To
+use Rattle.slot_lock.specs.declared.plan.Plan.{Plan}
+use Rattle.slot_lock.specs.declared.plan.Plan.TheVariants as PlanOf
+use Rattle.slot_lock.specs.declared.plan.Touch.{Touch}
+use Rattle.slot_lock.specs.Plan.{IsSoundGoal}
+use Rattle.machine_model.specs.declared.event.Event.TheVariants.{Call, Go}
+use Rattle.machine_model.specs.declared.event.Outcome.TheVariants.{Answered, Stepped}
+use Rattle.machine_model.specs.declared.phase.Phase.{Phase}
+use Rattle.machine_model.specs.declared.phase.Phase.TheVariants.{Answer, Check, Free, Try}
+use Rattle.machine_model.specs.World.{World}
+use Rattle.machine_model.specs.Actions.{answer_entry, to, with_entry}
+use Rattle.machine_model.specs.Changes.{after_check, after_plan, checked_by}
+use Rattle.machine_model.specs.Locks.{locking}
+use Rattle.machine_model.specs.Placing.{placing}
+use Rattle.machine_model.specs.Step.{Goes, Step, StepsTo, after_call, event_limit, is_here, with_event}
+use Rattle.machine_laws.specs.Orderly.{answer_count}
+use Rattle.machine_sound.specs.Sound.{IsReached}
+use Rattle.machine_sound.proofs.Kept.{reached_step}
+use Rattle.core_steps.specs.declared.fault_at_once.FaultEnd.{FaultEnd}
+use Rattle.core_steps.specs.declared.starting.Started.TheVariants as Started
+use Rattle.core_steps.specs.AtOnce.{CanBegin, CanStart, IsAccess, Starts, StartsAsMap, with_call}
+use Rattle.core_steps.specs.Dividing.{GoesAsMap}
+use Rattle.core_steps.specs.Moving.{tried_to}
+use Rattle.core_steps.specs.OnePage.{Makes, Tried, at_lock, trying}
+use Rattle.core_steps.proofs.AtOnce.{counted_step, less}
+use Rattle.core_steps.proofs.Calling.{begun as begins_so}
+use Rattle.core_steps.proofs.Each.{put_id, put_twice}
+use Rattle.core_steps.proofs.FaultAtOnce.{can_lock}
+use Rattle.core_steps.proofs.Known.{room_for}
+use Rattle.core_steps.proofs.Reached.{fine, steps_join, steps_reached}
+
+-- one event more was counted
+abbrev counted : World → World
+counted w = record w { calls = record w.calls { events = w.calls.events + 1 } }
+
+-- the reply is handed out, and the core has no call again
+answers : (v : World) (c : ℕ) (reply : Reply) → v.calls.events < event_limit → c < v.made.cores → v.calls.phase c ≡ Free
+    → Step (to c (Answer reply) v) (Go c) (Answered reply) (counted v)
+answers v c reply room here free =
+    let m = to c (Answer reply) v in
+    counted_step m (counted v) c (Go c) (Answered reply) room refl here
+    (subst (λ p. Goes (with_event m) c p (Answered reply) (counted v)) (sym (put_same v.calls.phase c (Answer reply))) (
+      refl,
+      ap (λ f. record v { calls = record v.calls { phase = f; events = v.calls.events + 1 } })
+          (sym (put_id v.calls.phase c Free (sym free)) ∙ put_twice v.calls.phase c (Answer reply) Free)
+          ∙ ap (λ k. record v { calls = record v.calls { phase = put (put v.calls.phase c (Answer reply)) c Free; events = k } }) more,
+    ))
+  where
+    more : v.calls.events + 1 ≡ suc v.calls.events
+    more = omega arith
+
+-- what the code finds of a call that can begin
+pub can_start : (w : World) (c : ℕ) (here : Bool) → ∥ IsReached w ∥₁ → w.calls.events + 11 < event_limit → here ≡ is_here w.made (Some c) → here ≡ true
+    → CanBegin w c → CanStart w c
+can_start w c here reached below is found begins =
+    let e = sym is ∙ found in record { reached = reached; below = below; here = grind (arith, nat_tests, e); begins = begins }
+
+-- ---- the call has its number in a, and its arguments are checked two events after w
+
+module _ (w : World) (c : ℕ) (request : Request) (i : CanStart w c) (a : World) (kept : a ≡ with_call c request w) where
+  abbrev begun : World
+  begun = after_call c request (with_event w)
+
+  begins : Step w (Call c request) Stepped begun
+  begins =
+      let room = i.begins.room in
+      let below = i.below in
+      counted_step w begun c (Call c request) Stepped (omega (arith, below)) refl i.here
+      (begins_so (with_event w) begun c request (w.calls.phase c) i.begins.free
+      (sym (ap not (less (length w.calls.requests) w.made.calls room))) refl)
+
+  begun_reached : ∥ IsReached begun ∥₁
+  begun_reached = ∥∥₁_map i.reached (λ h. reached_step w begun (Call c request) Stepped h begins)
+
+  pub call_here : c < a.made.cores
+  call_here = subst (λ (x : World). c < x.made.cores) (sym kept) i.here
+
+  pub call_room : a.calls.events + 11 < event_limit
+  call_room = subst (λ (x : World). x.calls.events + 11 < event_limit) (sym kept) i.below
+
+  pub reply_room : answer_count a.calls.log < a.made.calls
+  reply_room =
+      subst (λ (x : World). answer_count x.calls.log < x.made.calls) (sym kept)
+      (room_for begun c (Check request) (record { here = i.here; phase = put_same w.calls.phase c (Check request); fine = fine begun begun_reached }) refl)
+
+  -- with these phases, and so many events
+  abbrev having : (ℕ → Phase) → ℕ → World
+  having phases events = let v = with_call c request w in record v { calls = record v.calls { phase = phases; events = events } }
+
+  -- that the call was at its check is forgotten
+  forgotten : (x : World) (phase : Phase) → to c phase (record x { calls = record x.calls { phase = put w.calls.phase c (Check request) } })
+      ≡ to c phase (record x { calls = record x.calls { phase = w.calls.phase } })
+  forgotten x phase = ap (λ f. record x { calls = record x.calls { phase = f } }) (sym (put_twice w.calls.phase c (Check request) phase))
+
+  planned : (r : Result Plan Reply) (n : ℕ) → after_plan c r (having (put w.calls.phase c (Check request)) n) ≡ after_plan c r (having w.calls.phase n)
+  planned (Err reply) n = let x = having w.calls.phase n in forgotten (with_entry (answer_entry x c reply) x) (Answer reply)
+  planned (Ok (PlanOf.Place place)) n = forgotten (having w.calls.phase n) (placing place place.hint)
+  planned (Ok (PlanOf.Change change)) n = forgotten (having w.calls.phase n) (locking (To.Change change))
+  planned (Ok (PlanOf.Touch touch)) n = forgotten (having w.calls.phase n) (Try touch)
+
+  abbrev later : World → World
+  later x = record x { calls = record x.calls { events = x.calls.events + 2 } }
+
+  checks : Step begun (Go c) Stepped (after_check c request (later a))
+  checks =
+      let below = i.below in
+      let sum : w.calls.events + 2 ≡ suc (suc w.calls.events) = omega arith in
+      let same : after_check c request (later a) ≡ after_check c request (with_event begun) =
+      ap (λ x. after_check c request (later x)) kept ∙ (sym (planned (checked_by w.made c request) (w.calls.events + 2))
+      ∙ ap (λ n. after_check c request (having (put w.calls.phase c (Check request)) n)) sum) in
+      counted_step begun _ c (Go c) Stepped (omega (arith, below)) refl i.here
+      (subst (λ x. Goes (with_event begun) c x Stepped (after_check c request (later a))) (sym (put_same w.calls.phase c (Check request))) (refl, same))
+
+  checked_reached : ∥ IsReached (after_check c request (later a)) ∥₁
+  checked_reached = ∥∥₁_map begun_reached (λ h. reached_step begun _ (Go c) Stepped h checks)
+
+  -- and no more is made
+  module _ (v : World) (left : v ≡ after_check c request (later a)) where
+    checks_so : Step begun (Go c) Stepped v
+    checks_so = subst (Step begun (Go c) Stepped) (sym left) checks
+
+    pub begins_plainly : Starts w c request (Started.Begun 1) v
+    begins_plainly = (omega arith, (begun, begins, (begun, refl, checks_so)))
+
+    pub begins_as_map : (parts : PageRange → ℕ → ℕ → Bool) → StartsAsMap parts w c request (Started.Begun 1) v
+    begins_as_map parts =
+        (begun, begins, (begun, refl, checks_so, subst (λ phase. GoesAsMap parts begun.slots c phase Stepped v.slots) (sym (put_same w.calls.phase c (Check request))) tt))
+
+    pub begins_reached : ∥ IsReached v ∥₁
+    begins_reached = subst (λ x. ∥ IsReached x ∥₁) (sym left) checked_reached
+
+-- ---- it is an access
+
+module _ (w : World) (c : ℕ) (request : Request) (touch : Touch) (i : IsAccess w c request touch) (a : World) (kept : a ≡ with_call c request w) where
+  abbrev called : World
+  called = begun w c request i.start a kept
+
+  tries : Step called (Go c) Stepped (trying c touch 2 a)
+  tries =
+      subst (λ r. Step called (Go c) Stepped (after_plan c r (later w c request i.start a kept a)))
+      (ap (λ (x : World). checked_by x.made c request) kept ∙ i.plan) (checks w c request i.start a kept)
+
+  pub try_reached : ∥ IsReached (trying c touch 2 a) ∥₁
+  try_reached =
+      subst (λ r. ∥ IsReached (after_plan c r (later w c request i.start a kept a)) ∥₁)
+      (ap (λ (x : World). checked_by x.made c request) kept ∙ i.plan) (checked_reached w c request i.start a kept)
+
+  pub try_here : c < a.made.cores
+  try_here = call_here w c request i.start a kept
+
+  pub try_room : a.calls.events + 11 < event_limit
+  try_room = call_room w c request i.start a kept
+
+  -- the last of n steps from there on gives the reply, which is handed out; the core's phase isn't written
+  ends : (v : World) (n : ℕ) (reply : Reply) → n ≤ 8 → StepsTo (trying c touch 2 a) c n (to c (Answer reply) v) → v.made.cores ≡ a.made.cores
+      → v.calls.phase ≡ a.calls.phase → v.calls.events ≡ a.calls.events + (2 + n)
+      → Starts w c request (Started.Ended (Answered reply)) (counted v) × ∥ IsReached (counted v) ∥₁
+  ends v n reply few steps cores phases events =
+      let m = to c (Answer reply) v in
+      let room = try_room in
+      let free = ap (λ f. f c) phases ∙ (ap (λ (x : World). x.calls.phase c) kept ∙ i.start.begins.free) in
+      let last = answers v c reply (omega (arith, few, events, room)) (subst (λ k. c < k) (sym cores) try_here) free in
+      let made : StepsTo called c (1 + n) m = steps_join called (trying c touch 2 a) m c 1 n (called, refl, tries) steps in (
+        (Stepped, called, begins w c request i.start a kept, (1 + n, (omega (arith, few), (λ e. cc), (m, made, last)))),
+        ∥∥₁_map (steps_reached _ m c n steps try_reached) (λ h. reached_step m (counted v) (Go c) (Answered reply) h last),
+      )
+
+  -- what the try comes to, in x
+  module _ (x : World) (r : Option Reply) (tried : Tried a c touch 2 r x) where
+    pub hits : (reply : Reply) → r ≡ Some reply → Starts w c request (Started.Ended (Answered reply)) (counted x) × ∥ IsReached (counted x) ∥₁
+    hits reply e =
+        ends x 1 reply (omega arith) (trying c touch 2 a, refl, subst (λ o. Step (trying c touch 2 a) (Go c) Stepped (to c (tried_to touch o) x)) e tried.step) tried.cores tried.phases tried.events
+
+    module _ (none : r ≡ None) where
+      locks : Step (trying c touch 2 a) (Go c) Stepped (at_lock c touch x)
+      locks = subst (λ o. Step (trying c touch 2 a) (Go c) Stepped (to c (tried_to touch o) x)) none tried.step
+
+      pub fault_reached : ∥ IsReached (at_lock c touch x) ∥₁
+      fault_reached = ∥∥₁_map try_reached (λ h. reached_step _ _ (Go c) Stepped h locks)
+
+      pub fault_here : c < x.made.cores
+      fault_here = subst (λ k. c < k) (sym tried.cores) try_here
+
+      pub fault_goal : IsSoundGoal (To.Access touch)
+      fault_goal = can_lock x c touch fault_here fault_reached
+
+      pub fault_room : x.calls.events + 7 ≤ event_limit
+      fault_room = let room = try_room in let events = tried.events in omega (arith, events, room)
+
+      -- the steps of the fault, and those before it
+      module _ (v : World) (end : FaultEnd) (makes : Makes x c touch end v) where
+        fault_steps : StepsTo (trying c touch 2 a) c (1 + end.steps) (to c (tried_to touch end.reply) v)
+        fault_steps = steps_join _ (at_lock c touch x) (to c (tried_to touch end.reply) v) c 1 end.steps (trying c touch 2 a, refl, locks) makes.steps
+
+        pub faults_again : (u : World) (phase : Phase) → end.reply ≡ None → phase ≡ locking (To.Access touch)
+            → u ≡ to c phase v → Starts w c request (Started.Begun (2 + end.steps)) u × ∥ IsReached u ∥₁
+        faults_again u phase again locks_so left =
+            let few = makes.few in
+            let sum : 1 + (1 + end.steps) ≡ 2 + end.steps = omega arith in
+            let same : u ≡ to c (tried_to touch end.reply) v = left ∙ (ap (λ p. to c p v) locks_so ∙ ap (λ r. to c (tried_to touch r) v) (sym again)) in
+            let steps = subst (StepsTo (trying c touch 2 a) c (1 + end.steps)) (sym same) fault_steps in
+            let all = subst (λ k. StepsTo called c k u) sum (steps_join called (trying c touch 2 a) u c 1 (1 + end.steps) (called, refl, tries) steps) in
+            ((omega (arith, few), (called, begins w c request i.start a kept, all)), steps_reached _ u c (1 + end.steps) steps try_reached)
+
+        pub fault_replied : (reply : Reply) → end.reply ≡ Some reply → Starts w c request (Started.Ended (Answered reply)) (counted v) × ∥ IsReached (counted v) ∥₁
+        fault_replied reply e =
+            let few = makes.few in
+            let more = makes.events in
+            let events = tried.events in
+            ends v (1 + end.steps) reply (omega (arith, few))
+            (subst (λ r. StepsTo (trying c touch 2 a) c (1 + end.steps) (to c (tried_to touch r) v)) e fault_steps)
+            (makes.cores ∙ tried.cores) (makes.phases ∙ tried.phases) (omega (arith, more, events))
