@@ -1,0 +1,43 @@
+-- How an import ends.
+use Rattle.std.proofs.Common.{◌≡◌, ℕ, List, Option, Some, None, length, refl, ap, ◌∙◌, subst}
+use Rattle.std.specs.Io.KnownBytes.{Keeps, Appends}
+use Rattle.trace_io.specs.Lines.{lines_of}
+use Rattle.trace_io.specs.Sink.{AppendsFront}
+use Rattle.trace_io.specs.Source.{Stream, Reads}
+use Rattle.trace_io.proofs.LineLemmas.{reads_map}
+use Rattle.import_text.specs.Counts.{total}
+use Rattle.import_text.specs.Ends.{ImportsAll, ImportStops}
+use Rattle.import_text.specs.Imported.{import_of}
+use Rattle.import_text.specs.Taking.{SoFar}
+use Rattle.import_text.specs.Texts.{imported_text}
+use Rattle.import_text.specs.declared.counts.Counts.{Counts}
+use Rattle.import_text.specs.declared.log.ImportFault.{ImportFault}
+use Rattle.import_text.specs.declared.log.ImportFault.TheVariants.{ReadFailed, NoMemory, WriteFailed}
+
+pub keeps_same : (o : Option (List ℕ)) → Keeps o o
+keeps_same None = tt
+keeps_same (Some x) = refl
+
+pub imports_all : (thread : Option ℕ) (input text : List ℕ) (old new : Option (List ℕ)) (counts : Counts) (s : SoFar)
+    → (s, counts) ≡ import_of thread input → total counts ≡ length (lines_of input) → text ≡ imported_text s → Appends old new text
+    → ImportsAll thread input old new counts
+imports_all thread input text old new counts s h t e w = record {
+  written = subst (Appends old new) (e ∙ ap (λ (p : SoFar × Counts). imported_text p.0) h) w;
+  told = ap (λ (p : SoFar × Counts). p.1) h;
+  all = t;
+}
+
+pub imports_front : (thread : Option ℕ) (input text : List ℕ) (old new : Option (List ℕ)) (counts : Counts) (s : SoFar)
+    → (s, counts) ≡ import_of thread input → text ≡ imported_text s → AppendsFront old new text
+    → AppendsFront old new (imported_text (import_of thread input).0)
+imports_front thread input text old new counts s h e w =
+    subst (AppendsFront old new) (e ∙ ap (λ (p : SoFar × Counts). imported_text p.0) h) w
+
+stops_here : (thread : Option ℕ) (input : List ℕ) (o : Option (List ℕ)) (f : ImportFault) → (f ≡ WriteFailed → ⊥) → ImportStops thread input o o f
+stops_here thread input o ReadFailed n = keeps_same o
+stops_here thread input o NoMemory n = keeps_same o
+stops_here thread input o WriteFailed n = absurd (n refl)
+
+pub stopped : (a b : Stream) (thread : Option ℕ) (o : Option (List ℕ)) (f : ImportFault) → (f ≡ WriteFailed → ⊥) → Reads a b (λ xs ys. xs ≡ xs)
+    → Reads a b (λ input unread. ImportStops thread input o o f)
+stopped a b thread o f n r = reads_map a b _ _ r (λ xs ys k e. stops_here thread xs o f n)

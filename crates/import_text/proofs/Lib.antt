@@ -1,0 +1,7 @@
+mod TokenLemmas
+mod SpeechLemmas
+mod JoinLemmas
+mod LogLemmas
+mod EndLemmas
+mod TakingLemmas
+mod SaidLemmas

@@ -1,0 +1,16 @@
+use Rattle.std.proofs.Common.{◌≡◌, ◌≤◌, ◌-◌, map, length}
+use Rattle.import_text.specs.Counts.{total}
+use Rattle.import_text.specs.Imported.{imported}
+use Rattle.import_text.specs.Speech.{spoken}
+use Rattle.import_text.specs.Taking.{so_far}
+use Rattle.import_text.proofs.import.take_lines.Given as goal
+
+abbrev pub invariant-lines : goal.invariant-lines
+invariant-lines l = record {
+  within : l.at ≤ length l.speeches;
+  value : (so_far l.taken, l.counts) ≡ imported (map spoken l.speeches) l.made l.process l.at;
+  total : total l.counts ≡ l.at;
+}
+
+abbrev pub decreases-lines : goal.decreases-lines
+decreases-lines l = length l.speeches - l.at

@@ -1,0 +1,13 @@
+use Rattle.std.proofs.Common.{Err, ap, sym, subst, ◌∙◌}
+use Rattle.trace_io.proofs.LineLemmas.{reads_map}
+use Rattle.import_text.specs.Ends.{ImportEnds}
+use Rattle.import_text.proofs.EndLemmas.{stopped}
+use Rattle.import_text.proofs.log.import_log.Goals as goal
+
+pub returns-in-Ok-clause-ends : goal.returns-in-Ok-clause-ends
+returns-in-Ok-clause-ends g c =
+    reads_map _ _ _ _ c.in-Ok.ensures.log
+    (λ xs ys k e. subst (λ i. ImportEnds c.args.thread i (g.W.Sink.contents c.args.writer.now) (g.W.Sink.contents c.write_import.new.writer) c.write_import.result) (c.as_slice.ensures.value ∙ sym e) c.write_import.ensures.ends)
+
+pub returns-in-Err-clause-ends : goal.returns-in-Err-clause-ends
+returns-in-Err-clause-ends g c = stopped _ _ c.args.thread (g.W.Sink.contents c.args.writer.now) c.in-Err.fault (λ e. c.in-Err.ensures.write (ap Err e)) c.in-Err.ensures.kept

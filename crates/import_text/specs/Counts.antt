@@ -1,0 +1,63 @@
+-- How many lines became what.
+use Rattle.std.specs.Prelude.{ℕ, ◌+◌}
+use Rattle.import_text.specs.declared.counts.Counts.{Counts}
+use Rattle.import_text.specs.declared.taking.Change.TheVariants.{Heap, Move, File}
+use Rattle.import_text.specs.declared.taking.Reason.TheVariants as For
+use Rattle.import_text.specs.declared.taking.Fate.{Fate}
+use Rattle.import_text.specs.declared.taking.Fate.TheVariants.{Kept, Changed, Left}
+
+abbrev pub no_counts : Counts
+no_counts = record {
+  kept = 0;
+  heap = 0;
+  moves = 0;
+  files = 0;
+  half = 0;
+  failed = 0;
+  elsewhere = 0;
+  before = 0;
+  unread = 0;
+  still = 0;
+  other = 0;
+}
+
+-- how many lines were changed, and how many left out
+abbrev pub changed_lines : Counts → ℕ
+changed_lines c = c.heap + c.moves + c.files
+
+abbrev pub left_lines : Counts → ℕ
+left_lines c = c.half + c.failed + c.elsewhere + c.before + c.unread + c.still + c.other
+
+-- kept, changed and left out
+abbrev pub total : Counts → ℕ
+total c = c.kept + changed_lines c + left_lines c
+
+-- the lines that were kept or changed are left out after all, as a program begins
+abbrev pub begun_anew : Counts → Counts
+begun_anew c = record {
+  kept = 0;
+  heap = 0;
+  moves = 0;
+  files = 0;
+  half = c.half;
+  failed = c.failed;
+  elsewhere = c.elsewhere;
+  before = c.before + c.kept + c.heap + c.moves + c.files;
+  unread = c.unread;
+  still = c.still;
+  other = c.other + 1;
+}
+
+-- one line more, with this fate
+abbrev pub counted : Counts → Fate → Counts
+counted c Kept = record c { kept = c.kept + 1 }
+counted c (Changed Heap) = record c { heap = c.heap + 1 }
+counted c (Changed Move) = record c { moves = c.moves + 1 }
+counted c (Changed File) = record c { files = c.files + 1 }
+counted c (Left For.Half) = record c { half = c.half + 1 }
+counted c (Left For.Failed) = record c { failed = c.failed + 1 }
+counted c (Left For.Elsewhere) = record c { elsewhere = c.elsewhere + 1 }
+counted c (Left For.Unread) = record c { unread = c.unread + 1 }
+counted c (Left For.Still) = record c { still = c.still + 1 }
+counted c (Left For.Other) = record c { other = c.other + 1 }
+counted c (Left For.Begins) = begun_anew c

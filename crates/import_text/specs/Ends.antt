@@ -1,0 +1,27 @@
+-- How an import ends.
+use Rattle.std.specs.Prelude.{◌≡◌, ℕ, List, Option, Result, Ok, Err, length}
+use Rattle.std.specs.Io.KnownBytes.{Keeps, Appends}
+use Rattle.trace_io.specs.Lines.{lines_of}
+use Rattle.trace_io.specs.Sink.{AppendsFront}
+use Rattle.import_text.specs.Counts.{total}
+use Rattle.import_text.specs.Imported.{import_of}
+use Rattle.import_text.specs.Texts.{imported_text}
+use Rattle.import_text.specs.declared.counts.Counts.{Counts}
+use Rattle.import_text.specs.declared.log.ImportFault.{ImportFault}
+use Rattle.import_text.specs.declared.log.ImportFault.TheVariants.{ReadFailed, NoMemory, WriteFailed}
+
+-- the trace of what is taken of the log was written, and each line is counted
+pub record ImportsAll (thread : Option ℕ) (input : List ℕ) (old new : Option (List ℕ)) (counts : Counts) : Type 0 where
+  pub written : Appends old new (imported_text (import_of thread input).0)
+  pub told : counts ≡ (import_of thread input).1
+  pub all : total counts ≡ length (lines_of input)
+
+-- after a failed write a front of the trace was written, after another fault nothing
+abbrev pub ImportStops : Option ℕ → List ℕ → Option (List ℕ) → Option (List ℕ) → ImportFault → Type 0
+ImportStops thread input old new ReadFailed = Keeps old new
+ImportStops thread input old new NoMemory = Keeps old new
+ImportStops thread input old new WriteFailed = AppendsFront old new (imported_text (import_of thread input).0)
+
+abbrev pub ImportEnds : Option ℕ → List ℕ → Option (List ℕ) → Option (List ℕ) → Result Counts ImportFault → Type 0
+ImportEnds thread input old new (Ok counts) = ImportsAll thread input old new counts
+ImportEnds thread input old new (Err f) = ImportStops thread input old new f

@@ -1,0 +1,10 @@
+pub mod Tokens
+pub mod Speech
+pub mod Said
+pub mod Joining
+pub mod Made
+pub mod Taking
+pub mod Counts
+pub mod Imported
+pub mod Texts
+pub mod Ends

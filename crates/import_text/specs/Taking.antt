@@ -1,0 +1,158 @@
+-- What a call becomes: requests of a trace, a change, or a reason for which it is left out.
+use Rattle.std.specs.Prelude.{ℕ, ◌+◌, ◌-◌, ◌*◌, ◌^◌, ◌/◌, ◌%◌, Bool, true, false, ◌||◌, List, [], ◌∷◌, ◌++◌, Option, None, Some, if◌then◌else◌, ◌==◌, nat_lt, nat_le, length, map, max, slice_index_or, slice_set}
+use Rattle.std.specs.Str.{bytes_eq}
+use Rattle.vm_base.specs.declared.rights.Prot.{Prot}
+use Rattle.vm_base.specs.declared.requests.Flags.{Flags}
+use Rattle.vm_base.specs.declared.requests.Request.{Request}
+use Rattle.vm_base.specs.declared.requests.Request.TheVariants.{Mmap, Munmap, Mprotect, Load, Store, Fetch}
+use Rattle.import_text.specs.Said.{file_named}
+use Rattle.import_text.specs.declared.said.Said.{Said}
+use Rattle.import_text.specs.declared.said.Said.TheVariants as Says
+use Rattle.import_text.specs.declared.taking.Step.{Step}
+use Rattle.import_text.specs.declared.taking.FileUse.{FileUse}
+use Rattle.import_text.specs.declared.taking.Taken.{Taken}
+use Rattle.import_text.specs.declared.taking.Change.TheVariants.{Heap, Move, File}
+use Rattle.import_text.specs.declared.taking.Reason.TheVariants as For
+use Rattle.import_text.specs.declared.taking.Fate.{Fate}
+use Rattle.import_text.specs.declared.taking.Fate.TheVariants.{Kept, Changed, Left}
+
+-- a file's name, and how many of its bytes mappings reach
+abbrev pub use_of : FileUse → List ℕ × ℕ
+use_of f = (f.name.items, f.len)
+
+-- what was taken so far: threads in the order of their first request, files by their numbers, the heap's end once known,
+-- and the requests
+pub record SoFar : Type 0 where
+  pub threads : List ℕ
+  pub files : List (List ℕ × ℕ)
+  pub heap_end : Option ℕ
+  pub steps : List Step
+
+abbrev pub so_far : Taken → SoFar
+so_far t = record { threads = t.threads.items; files = map use_of t.files.items; heap_end = t.heap_end; steps = t.steps.items }
+
+abbrev pub nothing_taken : SoFar
+nothing_taken = record { threads = []; files = []; heap_end = None; steps = [] }
+
+-- where the thread stands, or would stand behind all
+abbrev pub place_of : ℕ → List ℕ → ℕ
+place_of thread [] = 0
+place_of thread (t ∷ ts) = if t == thread then 0 else place_of thread ts + 1
+
+-- where the file of this name stands, or would stand behind all
+abbrev pub place_named : List ℕ → List (List ℕ × ℕ) → ℕ
+place_named name [] = 0
+place_named name (f ∷ fs) = if bytes_eq f.0 name then 0 else place_named name fs + 1
+
+-- the thread's request, on a core of its own; the 65th thread shares the first one's
+abbrev pub asked_by : SoFar → ℕ → Request → SoFar
+asked_by s thread request = record {
+  threads = if place_of thread s.threads == length s.threads then s.threads ++ thread ∷ [] else s.threads;
+  files = s.files;
+  heap_end = s.heap_end;
+  steps = s.steps ++ record { core = place_of thread s.threads % 64; request = request } ∷ [];
+}
+
+-- ---- mappings
+
+-- the number of the file of this name: the first 16 have one
+abbrev pub file_place : List (List ℕ × ℕ) → List ℕ → Option ℕ
+file_place files name = if nat_lt (place_named name files) 16 then Some (place_named name files) else None
+
+-- the file reaches so far at least
+abbrev pub widened : List ℕ × ℕ → ℕ → List ℕ × ℕ
+widened f reach = (f.0, max f.1 reach)
+
+-- the file of this name reaches so far at least; one more where it is new and not the 17th
+abbrev pub files_with : List (List ℕ × ℕ) → List ℕ → ℕ → List (List ℕ × ℕ)
+files_with files name reach =
+    let place = place_named name files in
+    if nat_le 16 place then files
+    else if place == length files then files ++ (name, reach) ∷ []
+    else slice_set files place (widened (slice_index_or files place (name, 0)) reach)
+
+-- the mapping ends within the bytes that a file of a trace may have
+abbrev pub reaches : ℕ → ℕ → Bool
+reaches off len = nat_le (off + len) (2 ^ 20)
+
+abbrev pub anonymous : Flags → Flags
+anonymous flags = record { private = flags.private; shared = flags.shared; fixed = flags.fixed; anon = true }
+
+-- a mapping of the file with this number, or of anonymous pages where it has none
+abbrev pub mapped_from : SoFar → ℕ → ℕ → ℕ → Prot → Flags → ℕ → Option ℕ → SoFar × Fate
+mapped_from s thread addr len prot flags off (Some file) = (asked_by s thread (Mmap addr len prot flags file off), Kept)
+mapped_from s thread addr len prot flags off None = (asked_by s thread (Mmap addr len prot (anonymous flags) 0 0), Changed File)
+
+abbrev pub after_file : SoFar → ℕ → List ℕ → ℕ → ℕ → Prot → Flags → ℕ → SoFar × Fate
+after_file s thread name addr len prot flags off = if reaches off len
+    then mapped_from (record { threads = s.threads; files = files_with s.files name (off + len); heap_end = s.heap_end; steps = s.steps })
+    thread addr len prot flags off (file_place s.files name)
+    else mapped_from s thread addr len prot flags off None
+
+abbrev pub after_mapping : SoFar → ℕ → List ℕ → ℕ → ℕ → Prot → Flags → ℕ → SoFar × Fate
+after_mapping s thread text addr len prot flags off = if flags.anon
+    then (asked_by s thread (Mmap addr len prot flags 0 off), Kept)
+    else after_file s thread (file_named text) addr len prot flags off
+
+-- ---- the heap, and what is moved
+
+abbrev pub rounded : ℕ → ℕ
+rounded n = (n + 4095) / 4096 * 4096
+
+-- new pages, which are anonymous, and may be read and written
+abbrev pub in_place : ℕ → ℕ → Request
+in_place addr len = Mmap addr len (record { read = true; write = true; exec = false })
+    (record { private = true; shared = false; fixed = true; anon = true }) 0 0
+
+abbrev pub with_heap_end : SoFar → ℕ → SoFar
+with_heap_end s end = record { threads = s.threads; files = s.files; heap_end = Some end; steps = s.steps }
+
+-- the heap ended at one address, in whole pages, and ends at another
+abbrev pub heap_moved : SoFar → ℕ → ℕ → ℕ → SoFar × Fate
+heap_moved s thread old new = if nat_lt old new then (asked_by s thread (in_place old (new - old)), Changed Heap)
+    else if nat_lt new old then (asked_by s thread (Munmap new (old - new)), Changed Heap)
+    else (s, Left For.Still)
+
+abbrev pub heap_after : SoFar → ℕ → Option ℕ → ℕ → SoFar × Fate
+heap_after s thread None new = (with_heap_end s new, Left For.Still)
+heap_after s thread (Some old) new = heap_moved (with_heap_end s new) thread old new
+
+abbrev pub after_break : SoFar → ℕ → ℕ → SoFar × Fate
+after_break s thread to = if nat_lt (2 ^ 47) to then (s, Left For.Unread) else heap_after s thread s.heap_end (rounded to)
+
+-- a mapping at this address had so many bytes, in whole pages, and has others
+abbrev pub resized : SoFar → ℕ → ℕ → ℕ → ℕ → SoFar × Fate
+resized s thread addr old new = if nat_lt old new then (asked_by s thread (in_place (addr + old) (new - old)), Changed Move)
+    else if nat_lt new old then (asked_by s thread (Munmap (addr + new) (old - new)), Changed Move)
+    else (s, Left For.Still)
+
+-- it stays at its place, or goes to another
+abbrev pub moved : SoFar → ℕ → ℕ → ℕ → ℕ → ℕ → SoFar × Fate
+moved s thread from old to new = if from == to then resized s thread from old new
+    else (asked_by (asked_by s thread (Munmap from old)) thread (in_place to new), Changed Move)
+
+abbrev pub after_move : SoFar → ℕ → ℕ → ℕ → ℕ → ℕ → SoFar × Fate
+after_move s thread from old to new =
+    if nat_lt (2 ^ 47) from || nat_lt (2 ^ 47) old || nat_lt (2 ^ 47) to || nat_lt (2 ^ 47) new then (s, Left For.Unread)
+    else moved s thread from (rounded old) to (rounded new)
+
+-- ---- all calls
+
+abbrev pub after_request : SoFar → ℕ → List ℕ → Request → SoFar × Fate
+after_request s thread text (Mmap addr len prot flags file off) = after_mapping s thread text addr len prot flags off
+after_request s thread text (Munmap addr len) = (asked_by s thread (Munmap addr len), Kept)
+after_request s thread text (Mprotect addr len prot) = (asked_by s thread (Mprotect addr len prot), Kept)
+after_request s thread text (Load addr) = (asked_by s thread (Load addr), Kept)
+after_request s thread text (Store addr value) = (asked_by s thread (Store addr value), Kept)
+after_request s thread text (Fetch addr) = (asked_by s thread (Fetch addr), Kept)
+
+-- what was taken after a call, and what became of its line
+abbrev pub after_said : SoFar → ℕ → List ℕ → Said → SoFar × Fate
+after_said s thread text (Says.Asks request) = after_request s thread text request
+after_said s thread text (Says.Breaks to) = after_break s thread to
+after_said s thread text (Says.Moves from old to new) = after_move s thread from old to new
+after_said s thread text (Says.Makes child shares) = (s, Left For.Other)
+after_said s thread text Says.Begins = (nothing_taken, Left For.Begins)
+after_said s thread text Says.Fails = (s, Left For.Failed)
+after_said s thread text Says.Unread = (s, Left For.Unread)
+after_said s thread text Says.Other = (s, Left For.Other)

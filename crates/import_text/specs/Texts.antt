@@ -1,0 +1,57 @@
+-- The text of the trace that was made.
+use Rattle.std.specs.Prelude.{ℕ, ◌+◌, Bool, true, false, List, [], ◌∷◌, ◌++◌, if◌then◌else◌, codes, decimal, length, max, min}
+use Rattle.std.specs.List.{flat_map}
+use Rattle.vm_base.specs.declared.requests.Flags.{Flags}
+use Rattle.vm_base.specs.declared.requests.Request.{Request}
+use Rattle.vm_base.specs.declared.requests.Request.TheVariants.{Mmap, Munmap, Mprotect, Load, Store, Fetch}
+use Rattle.trace_text.specs.Printing.{address_of}
+use Rattle.trace_text.specs.Spelling.{rights_text}
+use Rattle.import_text.specs.Taking.{SoFar}
+use Rattle.import_text.specs.declared.taking.Step.{Step}
+
+abbrev pub range_text : ℕ → ℕ → List ℕ
+range_text addr len = codes " " ++ address_of addr ++ codes " " ++ decimal len
+
+abbrev pub mark_text : Bool → List ℕ → List ℕ
+mark_text true letter = letter
+mark_text false letter = []
+
+abbrev pub kind_text : Flags → List ℕ
+kind_text flags = codes " " ++ mark_text flags.private (codes "p") ++ mark_text flags.shared (codes "s")
+    ++ mark_text flags.fixed (codes "f") ++ mark_text flags.anon (codes "a")
+
+-- a file's number and an offset, which an anonymous mapping leaves out
+abbrev pub backing_text : Flags → ℕ → ℕ → List ℕ
+backing_text flags file off = if flags.anon then [] else codes " " ++ decimal file ++ codes " " ++ address_of off
+
+-- a request as a trace has it: lengths in decimal digits, as the log has them
+abbrev pub asked_text : Request → List ℕ
+asked_text (Mmap addr len prot flags file off) =
+    codes "mmap" ++ range_text addr len ++ codes " " ++ rights_text prot ++ kind_text flags ++ backing_text flags file off
+asked_text (Munmap addr len) = codes "munmap" ++ range_text addr len
+asked_text (Mprotect addr len prot) = codes "mprotect" ++ range_text addr len ++ codes " " ++ rights_text prot
+asked_text (Load addr) = codes "load" ++ codes " " ++ address_of addr
+asked_text (Store addr value) = codes "store" ++ codes " " ++ address_of addr ++ codes " " ++ decimal value
+asked_text (Fetch addr) = codes "fetch" ++ codes " " ++ address_of addr
+
+-- `cC! REQ`
+abbrev pub step_line : Step → List ℕ
+step_line step = codes "c" ++ decimal step.core ++ codes "! " ++ asked_text step.request ++ codes "\n"
+
+-- a file that may be read and written, as long as its mappings reach; its first byte is its number
+abbrev pub use_line : ℕ → ℕ → List ℕ
+use_line number len = codes "file" ++ codes " " ++ decimal number ++ codes " rw" ++ codes " " ++ decimal len
+    ++ codes " " ++ decimal number ++ codes "\n"
+
+abbrev pub use_lines : ℕ → List (List ℕ × ℕ) → List ℕ
+use_lines number [] = []
+use_lines number (f ∷ fs) = use_line number f.1 ++ use_lines (number + 1) fs
+
+-- a core for each thread, up to 64; 256 frames; a call for each request, and 4096 at least
+abbrev pub first_line : ℕ → ℕ → List ℕ
+first_line threads steps = codes "vm" ++ codes " " ++ decimal (min (max threads 1) 64) ++ codes " " ++ decimal 256
+    ++ codes " " ++ decimal (max steps 4096) ++ codes "\n"
+
+-- the whole trace
+abbrev pub imported_text : SoFar → List ℕ
+imported_text s = first_line (length s.threads) (length s.steps) ++ use_lines 0 s.files ++ flat_map step_line s.steps

@@ -1,0 +1,13 @@
+//! What a real program asked of its address space, as `strace` tells it, made into a trace.
+#![tactic(auto)]
+
+pub mod counts;
+pub mod import;
+pub mod joining;
+pub mod log;
+pub mod made;
+pub mod said;
+pub mod speech;
+pub mod taking;
+pub mod tokens;
+pub mod writing;

@@ -1,0 +1,108 @@
+//! Which thread a line of strace is about, and what it says of it.
+ghost use Rattle.std.specs.Prelude.{◌≡◌, ◌<◌, ◌∷◌, IfOk, length, map, option_map};
+ghost use Rattle.trace_io.specs.Lines.{lines_of};
+ghost use Rattle.import_text.specs.Speech.{begun_of, numbered, returned_of, spoken, speech_of};
+
+use crate::tokens::{next_count, next_token};
+use memchr::memchr;
+use std::alloc::{AllocError, Global};
+
+/// What a line says, and of which thread.
+#[derive(Clone, Copy, Debug)]
+pub struct Speech<'a> {
+    /// The thread's number, 0 where the line names none.
+    pub thread: u64,
+    /// What stands behind the number.
+    pub text: &'a [u8],
+}
+
+// The thread that the line names, `PID` or `[pid PID]`, and what stands behind it.
+#[tactic(auto, unfolding(crate::specs::Speech::numbered))]
+fn numbered(line: &[u8]) -> Option<(u64, &[u8])>
+    ensures { option_map (λ f. (f.0, f.1.now)) result ≡ numbered line.now }
+{
+    let (first, rest) = next_token(line)?;
+    if first == b"pid".as_slice() {
+        next_count(rest)
+    } else {
+        next_count(line)
+    }
+}
+
+/// Which thread the line is about, and what it says of it.
+pub fn read_speech(line: &[u8]) -> Speech<'_>
+    ensures { spoken result ≡ speech_of line.now }
+{
+    match numbered(line) {
+        Some((thread, text)) => Speech { thread, text },
+        None => Speech {
+            thread: 0,
+            text: line,
+        },
+    }
+}
+
+// What follows all of the bytes: nothing.
+fn nothing_after(log: &[u8]) -> &[u8]
+    ensures { length result.now ≡ 0 }
+{
+    let (_, rest) = log.split_at(log.len());
+    rest
+}
+
+// The first line, without its newline, and what follows it.
+fn front_line(log: &[u8]) -> (&[u8], &[u8])
+    requires { 0 < length log.now }
+    ensures lines { lines_of log.now ≡ result.0.now ∷ lines_of result.1.now }
+    ensures less { length result.1.now < length log.now }
+{
+    match memchr(b'\n', log) {
+        Some(end) => {
+            let (line, _) = log.split_at(end);
+            let (_, rest) = log.split_at(end + 1);
+            (line, rest)
+        }
+        None => (log, nothing_after(log)),
+    }
+}
+
+/// What each line of the log says, in order.
+pub fn read_speeches<'a>(alloc: Global, log: &'a [u8]) -> Result<Vec<Speech<'a>>, AllocError>
+    ensures { IfOk result (λ all. map spoken all.items ≡ map speech_of (lines_of log.now)) }
+{
+    let mut all: Vec<Speech<'a>> = Vec::new(alloc);
+    let mut rest = log;
+    'lines: while !rest.is_empty() {
+        let (line, more) = front_line(rest);
+        all.push(read_speech(line))?;
+        rest = more;
+    }
+    Ok(all)
+}
+
+/// What stands before `<unfinished ...>`, where a text ends with it.
+pub fn begun(text: &[u8]) -> Option<&[u8]>
+    ensures { option_map (λ f. f.now) result ≡ begun_of text.now }
+{
+    let (front, back) = text.split_at(text.len().saturating_sub(16));
+    if back == b"<unfinished ...>".as_slice() {
+        Some(front)
+    } else {
+        None
+    }
+}
+
+/// The name of a call that returns, `<... NAME resumed>`, and what stands behind that.
+#[tactic(auto, unfolding(crate::specs::Speech::returned_of))]
+pub fn returned(text: &[u8]) -> Option<(&[u8], &[u8])>
+    ensures { option_map (λ f. (f.0.now, f.1.now)) result ≡ returned_of text.now }
+{
+    let (first, rest) = next_token(text)?;
+    let (name, rest) = next_token(rest)?;
+    let (mark, rest) = next_token(rest)?;
+    if first == b"<...".as_slice() && mark == b"resumed>".as_slice() {
+        Some((name, rest))
+    } else {
+        None
+    }
+}

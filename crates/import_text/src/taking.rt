@@ -1,0 +1,504 @@
+//! What a call becomes: requests of a trace, a change, or a reason for which it is left out.
+ghost use Rattle.std.specs.Prelude.{◌≡◌, ◌≤◌, ◌^◌, IfOk, OnOk, length, map};
+ghost use Rattle.std.specs.Str.{bytes_eq};
+ghost use Rattle.import_text.specs.Taking.{after_break, after_file, after_mapping, after_move, after_request, after_said, anonymous, asked_by};
+ghost use Rattle.import_text.specs.Taking.{file_place, files_with, heap_moved, in_place, nothing_taken, place_named, place_of, reaches, resized, rounded, so_far, use_of, widened};
+
+use crate::said::{Said, read_file_name};
+use std::alloc::{AllocError, Global};
+use vm_base::{CoreId, Flags, Prot, Request};
+
+/// The first address that no program has: 2^47.
+pub const ADDRESS_END: u64 = 140_737_488_355_328;
+
+/// How many bytes a file of a trace may have.
+pub const FILE_END: u64 = 1_048_576;
+
+/// How many files a trace may have.
+pub const FILE_COUNT: usize = 16;
+
+/// A request of a trace, and the core whose it is.
+#[derive(Clone, Copy, Debug, PartialEq, Eq)]
+pub struct Step {
+    /// The core that makes it.
+    pub core: CoreId,
+    /// What it asks for.
+    pub request: Request,
+}
+
+/// A file that mappings name.
+#[derive(Debug, Drop)]
+pub struct FileUse {
+    /// Its path, or its descriptor.
+    pub name: Vec<u8>,
+    /// How many of its bytes mappings reach.
+    pub len: u64,
+}
+
+/// What was taken of the lines so far.
+#[derive(Debug, Drop)]
+pub struct Taken {
+    /// The threads that made a request, in the order of their first.
+    pub threads: Vec<u64>,
+    /// The files, by their numbers.
+    pub files: Vec<FileUse>,
+    /// Where the heap ends, once a line has said so.
+    pub heap_end: Option<u64>,
+    /// The requests.
+    pub steps: Vec<Step>,
+}
+
+// A mapping that a line asks for, where the kernel placed it.
+#[derive(Clone, Copy, Debug, PartialEq, Eq)]
+struct Mapping {
+    addr: u64,
+    len: u64,
+    prot: Prot,
+    flags: Flags,
+    off: u64,
+}
+
+/// How a line is changed.
+#[derive(Clone, Copy, Debug, PartialEq, Eq)]
+pub enum Change {
+    /// `brk`, as `mmap` or `munmap` of the pages between.
+    Heap,
+    /// `mremap`, as `munmap` and `mmap` of anonymous pages: their bytes are lost.
+    Move,
+    /// A mapping of a file, as one of anonymous pages: the file is the 17th or a later one, or the mapping reaches past its
+    /// first 1,048,576 bytes.
+    File,
+}
+
+/// Why a line is left out.
+#[derive(Clone, Copy, Debug, PartialEq, Eq)]
+pub enum Reason {
+    /// The other half of a call: it acts in another line.
+    Half,
+    /// A call that failed.
+    Failed,
+    /// It is of another process, which has an address space of its own.
+    Elsewhere,
+    /// A call in a form that isn't read.
+    Unread,
+    /// `brk` or `mremap` by which no page comes or goes.
+    Still,
+    /// Any other call, an event, or nothing.
+    Other,
+    /// A program begins: what stands before it is left out too.
+    Begins,
+}
+
+/// What becomes of a line.
+#[derive(Clone, Copy, Debug, PartialEq, Eq)]
+pub enum Fate {
+    /// It is a request, with its numbers.
+    Kept,
+    /// It is changed.
+    Changed(Change),
+    /// It is left out.
+    Left(Reason),
+}
+
+const READ_WRITE: Prot = Prot {
+    read: true,
+    write: true,
+    exec: false,
+};
+
+const ANONYMOUS: Flags = Flags {
+    private: true,
+    shared: false,
+    fixed: true,
+    anon: true,
+};
+
+// The number rounded up to whole pages.
+fn rounded(number: u64) -> u64
+    requires { number ≤ 2 ^ 47 }
+    ensures value { result ≡ rounded number }
+    ensures small { result ≤ 2 ^ 47 }
+{
+    (number + 4095) / 4096 * 4096
+}
+
+// Where the thread stands among these, or would stand behind them.
+fn place_of(threads: &[u64], thread: u64) -> usize
+    ensures value { result ≡ place_of thread threads.now }
+    ensures within { result ≤ length threads.now }
+{
+    let mut at = 0;
+    'threads: while at < threads.len() && threads[at] != thread {
+        at += 1;
+    }
+    at
+}
+
+// Tells whether the file has this name.
+fn is_named(file: &FileUse, name: &[u8]) -> bool
+    ensures { result ≡ bytes_eq (use_of file.now).0 name.now }
+{
+    file.name.as_slice() == name
+}
+
+// Where the file of this name stands among these, or would stand behind them.
+fn place_named(files: &[FileUse], name: &[u8]) -> usize
+    ensures value { result ≡ place_named name.now (map use_of files.now) }
+    ensures within { result ≤ length files.now }
+{
+    let mut at = 0;
+    'files: while at < files.len() {
+        if is_named(&files[at], name) {
+            return at;
+        }
+        at += 1;
+    }
+    at
+}
+
+// Adds a request of this thread.
+fn ask(taken: &mut Taken, thread: u64, request: Request) -> Result<(), AllocError>
+    ensures { OnOk result (so_far taken.new ≡ asked_by (so_far taken.old) thread request) }
+{
+    let place = place_of(taken.threads.as_slice(), thread);
+    if place == taken.threads.len() {
+        taken.threads.push(thread)?;
+    }
+    let core = CoreId::new((place % 64) as u8);
+    taken.steps.push(Step { core, request })?;
+    Ok(())
+}
+
+// A mapping of the file reaches so many bytes.
+fn widen(file: &mut FileUse, reach: u64)
+    ensures { use_of file.new ≡ widened (use_of file.old) reach }
+{
+    if file.len < reach {
+        file.len = reach;
+    }
+}
+
+// The number of the file of this name, of which a mapping reaches so many bytes; `None` where it would be the 17th.
+fn use_file(
+    alloc: Global,
+    files: &mut Vec<FileUse>,
+    name: &[u8],
+    reach: u64,
+) -> Result<Option<u64>, AllocError>
+    ensures number { IfOk result (λ n. n ≡ file_place (map use_of files.old.items) name.now) }
+    ensures files { OnOk result (map use_of files.new.items ≡ files_with (map use_of files.old.items) name.now reach) }
+{
+    let place = place_named(files.as_slice(), name);
+    if place >= FILE_COUNT {
+        return Ok(None);
+    }
+    if place == files.len() {
+        let name = Vec::from_slice(alloc, name)?;
+        files.push(FileUse { name, len: reach })?;
+        return Ok(Some(place as u64));
+    }
+    widen(&mut files[place], reach);
+    Ok(Some(place as u64))
+}
+
+// Tells whether the mapping ends within the bytes that a file of a trace may have.
+fn reaches(off: u64, len: u64) -> bool
+    ensures { result ≡ reaches off len }
+{
+    off <= FILE_END && len <= FILE_END - off
+}
+
+// These flags, but of anonymous pages.
+fn anonymous(flags: Flags) -> Flags
+    ensures { result ≡ anonymous flags }
+{
+    Flags {
+        private: flags.private,
+        shared: flags.shared,
+        fixed: flags.fixed,
+        anon: true,
+    }
+}
+
+// Adds a mapping of a file, or of anonymous pages where the trace hasn't it.
+fn take_file(
+    alloc: Global,
+    taken: &mut Taken,
+    thread: u64,
+    name: &[u8],
+    mapping: Mapping,
+) -> Result<Fate, AllocError>
+    ensures { IfOk result (λ fate. (so_far taken.new, fate) ≡ after_file (so_far taken.old) thread name.now
+        mapping.addr mapping.len mapping.prot mapping.flags mapping.off) }
+{
+    let Mapping {
+        addr,
+        len,
+        prot,
+        flags,
+        off,
+    } = mapping;
+    if reaches(off, len) {
+        if let Some(file) = use_file(alloc, &mut taken.files, name, off + len)? {
+            ask(
+                taken,
+                thread,
+                Request::Mmap {
+                    addr,
+                    len,
+                    prot,
+                    flags,
+                    file,
+                    off,
+                },
+            )?;
+            return Ok(Fate::Kept);
+        }
+    }
+    let flags = anonymous(flags);
+    ask(
+        taken,
+        thread,
+        Request::Mmap {
+            addr,
+            len,
+            prot,
+            flags,
+            file: 0,
+            off: 0,
+        },
+    )?;
+    Ok(Fate::Changed(Change::File))
+}
+
+// Adds a mapping.
+fn take_mapping(
+    alloc: Global,
+    taken: &mut Taken,
+    thread: u64,
+    text: &[u8],
+    mapping: Mapping,
+) -> Result<Fate, AllocError>
+    ensures { IfOk result (λ fate. (so_far taken.new, fate) ≡ after_mapping (so_far taken.old) thread text.now
+        mapping.addr mapping.len mapping.prot mapping.flags mapping.off) }
+{
+    let Mapping {
+        addr,
+        len,
+        prot,
+        flags,
+        off,
+    } = mapping;
+    if flags.anon {
+        ask(
+            taken,
+            thread,
+            Request::Mmap {
+                addr,
+                len,
+                prot,
+                flags,
+                file: 0,
+                off,
+            },
+        )?;
+        return Ok(Fate::Kept);
+    }
+    take_file(alloc, taken, thread, read_file_name(text), mapping)
+}
+
+// Adds pages, which are anonymous, and may be read and written.
+fn ask_pages(taken: &mut Taken, thread: u64, addr: u64, len: u64) -> Result<(), AllocError>
+    ensures { OnOk result (so_far taken.new ≡ asked_by (so_far taken.old) thread (in_place addr len)) }
+{
+    let request = Request::Mmap {
+        addr,
+        len,
+        prot: READ_WRITE,
+        flags: ANONYMOUS,
+        file: 0,
+        off: 0,
+    };
+    ask(taken, thread, request)
+}
+
+// Adds what became of the heap, whose end was at one address and is at another, in whole pages.
+fn take_heap(taken: &mut Taken, thread: u64, old: u64, new: u64) -> Result<Fate, AllocError>
+    ensures { IfOk result (λ fate. (so_far taken.new, fate) ≡ heap_moved (so_far taken.old) thread old new) }
+{
+    if old < new {
+        ask_pages(taken, thread, old, new - old)?;
+        return Ok(Fate::Changed(Change::Heap));
+    }
+    if new < old {
+        ask(
+            taken,
+            thread,
+            Request::Munmap {
+                addr: new,
+                len: old - new,
+            },
+        )?;
+        return Ok(Fate::Changed(Change::Heap));
+    }
+    Ok(Fate::Left(Reason::Still))
+}
+
+// Adds what became of the heap, which ends at this address now.
+fn take_break(taken: &mut Taken, thread: u64, to: u64) -> Result<Fate, AllocError>
+    ensures { IfOk result (λ fate. (so_far taken.new, fate) ≡ after_break (so_far taken.old) thread to) }
+{
+    if to > ADDRESS_END {
+        return Ok(Fate::Left(Reason::Unread));
+    }
+    let end = rounded(to);
+    let was = taken.heap_end;
+    taken.heap_end = Some(end);
+    match was {
+        Some(old) => take_heap(taken, thread, old, end),
+        None => Ok(Fate::Left(Reason::Still)),
+    }
+}
+
+// Adds what became of pages that grew or shrank where they are.
+fn take_resized(
+    taken: &mut Taken,
+    thread: u64,
+    from: u64,
+    old: u64,
+    new: u64,
+) -> Result<Fate, AllocError>
+    requires place { from ≤ 2 ^ 47 }
+    requires old { old ≤ 2 ^ 47 }
+    requires new { new ≤ 2 ^ 47 }
+    ensures { IfOk result (λ fate. (so_far taken.new, fate) ≡ resized (so_far taken.old) thread from old new) }
+{
+    if old < new {
+        ask_pages(taken, thread, from + old, new - old)?;
+        return Ok(Fate::Changed(Change::Move));
+    }
+    if new < old {
+        ask(
+            taken,
+            thread,
+            Request::Munmap {
+                addr: from + new,
+                len: old - new,
+            },
+        )?;
+        return Ok(Fate::Changed(Change::Move));
+    }
+    Ok(Fate::Left(Reason::Still))
+}
+
+// Adds what became of pages that were moved, or grew or shrank.
+fn take_move(
+    taken: &mut Taken,
+    thread: u64,
+    from: u64,
+    old: u64,
+    to: u64,
+    new: u64,
+) -> Result<Fate, AllocError>
+    ensures { IfOk result (λ fate. (so_far taken.new, fate) ≡ after_move (so_far taken.old) thread from old to new) }
+{
+    if from > ADDRESS_END || old > ADDRESS_END || to > ADDRESS_END || new > ADDRESS_END {
+        return Ok(Fate::Left(Reason::Unread));
+    }
+    let old = rounded(old);
+    let new = rounded(new);
+    if from == to {
+        return take_resized(taken, thread, from, old, new);
+    }
+    ask(
+        taken,
+        thread,
+        Request::Munmap {
+            addr: from,
+            len: old,
+        },
+    )?;
+    ask_pages(taken, thread, to, new)?;
+    Ok(Fate::Changed(Change::Move))
+}
+
+// Adds a request as it stands, but for a mapping's file.
+fn take_request(
+    alloc: Global,
+    taken: &mut Taken,
+    thread: u64,
+    text: &[u8],
+    request: Request,
+) -> Result<Fate, AllocError>
+    ensures { IfOk result (λ fate. (so_far taken.new, fate) ≡ after_request (so_far taken.old) thread text.now request) }
+{
+    if let Request::Mmap {
+        addr,
+        len,
+        prot,
+        flags,
+        file: _,
+        off,
+    } = request
+    {
+        let mapping = Mapping {
+            addr,
+            len,
+            prot,
+            flags,
+            off,
+        };
+        return take_mapping(alloc, taken, thread, text, mapping);
+    }
+    ask(taken, thread, request)?;
+    Ok(Fate::Kept)
+}
+
+// Forgets all that was taken.
+fn forget(taken: &mut Taken)
+    ensures { so_far taken.new ≡ nothing_taken }
+{
+    taken.threads.clear();
+    taken.files.clear();
+    taken.heap_end = None;
+    taken.steps.clear();
+}
+
+/// Takes what the thread's call says, and answers what becomes of its line. A program that begins has a new address space,
+/// so what was taken before is forgotten.
+pub fn take(
+    alloc: Global,
+    taken: &mut Taken,
+    thread: u64,
+    text: &[u8],
+    said: Said,
+) -> Result<Fate, AllocError>
+    ensures { IfOk result (λ fate. (so_far taken.new, fate) ≡ after_said (so_far taken.old) thread text.now said) }
+{
+    match said {
+        Said::Asks(request) => take_request(alloc, taken, thread, text, request),
+        Said::Breaks(to) => take_break(taken, thread, to),
+        Said::Moves { from, old, to, new } => take_move(taken, thread, from, old, to, new),
+        Said::Begins => {
+            forget(taken);
+            Ok(Fate::Left(Reason::Begins))
+        }
+        Said::Makes { .. } | Said::Other => Ok(Fate::Left(Reason::Other)),
+        Said::Fails => Ok(Fate::Left(Reason::Failed)),
+        Said::Unread => Ok(Fate::Left(Reason::Unread)),
+    }
+}
+
+impl Taken {
+    /// Nothing yet.
+    pub fn new(alloc: Global) -> Taken
+        ensures { so_far result ≡ nothing_taken }
+    {
+        Taken {
+            threads: Vec::new(alloc),
+            files: Vec::new(alloc),
+            heap_end: None,
+            steps: Vec::new(alloc),
+        }
+    }
+}

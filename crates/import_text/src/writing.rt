@@ -1,0 +1,212 @@
+//! The text of the trace that was made.
+ghost use Rattle.std.specs.Prelude.{◌≡◌, ◌+◌, ◌++◌, ◌≤◌, IfOk, OnOk, codes, decimal, length, map};
+ghost use Rattle.std.specs.List.{flat_map};
+ghost use Rattle.trace_text.specs.Printing.{address_of};
+ghost use Rattle.trace_text.specs.Spelling.{rights_text};
+ghost use Rattle.import_text.specs.Taking.{so_far, use_of};
+ghost use Rattle.import_text.specs.Texts.{asked_text, backing_text, first_line, imported_text, kind_text, mark_text, range_text, step_line, use_line, use_lines};
+
+use crate::taking::{FileUse, Step, Taken};
+use std::alloc::{AllocError, Global};
+use trace_text::{LineText, address_text, push_number, push_rights};
+use vm_base::{Flags, Request};
+
+/// How many frames the space of an imported trace has: a log has no accesses, and lines that are added by hand may need some.
+pub const FRAMES: u64 = 256;
+
+/// How many calls an imported trace may ask for at least.
+pub const CALLS: u64 = 4096;
+
+// Appends a space and the address.
+fn push_address(text: &mut LineText, address: u64)
+    requires { length text.old.bytes + 21 ≤ 256 }
+    ensures bytes { text.new.bytes ≡ text.old.bytes ++ codes " " ++ address_of address }
+    ensures short { length text.new.bytes ≤ length text.old.bytes + 21 }
+{
+    text.push_str(" ");
+    text.push_str(address_text(address).as_str());
+}
+
+// Appends a space and the number.
+fn push_count(text: &mut LineText, number: u64)
+    requires { length text.old.bytes + 21 ≤ 256 }
+    ensures bytes { text.new.bytes ≡ text.old.bytes ++ codes " " ++ decimal number }
+    ensures short { length text.new.bytes ≤ length text.old.bytes + 21 }
+{
+    text.push_str(" ");
+    push_number(text, number);
+}
+
+// Appends a range's address and length, each behind a space.
+fn push_range(text: &mut LineText, addr: u64, len: u64)
+    requires { length text.old.bytes + 42 ≤ 256 }
+    ensures bytes { text.new.bytes ≡ text.old.bytes ++ range_text addr len }
+    ensures short { length text.new.bytes ≤ length text.old.bytes + 42 }
+{
+    push_address(text, addr);
+    push_count(text, len);
+}
+
+// Appends a flag's letter, if it is set.
+fn push_mark(text: &mut LineText, is_set: bool, letter: &str)
+    requires room { length text.old.bytes + 1 ≤ 256 }
+    requires one { length letter.now ≤ 1 }
+    ensures bytes { text.new.bytes ≡ text.old.bytes ++ mark_text is_set letter.now }
+    ensures short { length text.new.bytes ≤ length text.old.bytes + 1 }
+{
+    if is_set {
+        text.push_str(letter);
+    }
+}
+
+// Appends a space and the flags' letters.
+fn push_kind(text: &mut LineText, flags: Flags)
+    requires { length text.old.bytes + 5 ≤ 256 }
+    ensures bytes { text.new.bytes ≡ text.old.bytes ++ kind_text flags }
+    ensures short { length text.new.bytes ≤ length text.old.bytes + 5 }
+{
+    text.push_str(" ");
+    push_mark(text, flags.private, "p");
+    push_mark(text, flags.shared, "s");
+    push_mark(text, flags.fixed, "f");
+    push_mark(text, flags.anon, "a");
+}
+
+// Appends the file and the offset, where the mapping isn't anonymous.
+fn push_backing(text: &mut LineText, flags: Flags, file: u64, off: u64)
+    requires { length text.old.bytes + 42 ≤ 256 }
+    ensures bytes { text.new.bytes ≡ text.old.bytes ++ backing_text flags file off }
+    ensures short { length text.new.bytes ≤ length text.old.bytes + 42 }
+{
+    if !flags.anon {
+        push_count(text, file);
+        push_address(text, off);
+    }
+}
+
+// Appends the request.
+fn push_asked(text: &mut LineText, request: Request)
+    requires { length text.old.bytes + 110 ≤ 256 }
+    ensures bytes { text.new.bytes ≡ text.old.bytes ++ asked_text request }
+    ensures short { length text.new.bytes ≤ length text.old.bytes + 110 }
+{
+    match request {
+        Request::Mmap {
+            addr,
+            len,
+            prot,
+            flags,
+            file,
+            off,
+        } => {
+            text.push_str("mmap");
+            push_range(text, addr, len);
+            text.push_str(" ");
+            push_rights(text, prot);
+            push_kind(text, flags);
+            push_backing(text, flags, file, off);
+        }
+        Request::Munmap { addr, len } => {
+            text.push_str("munmap");
+            push_range(text, addr, len);
+        }
+        Request::Mprotect { addr, len, prot } => {
+            text.push_str("mprotect");
+            push_range(text, addr, len);
+            text.push_str(" ");
+            push_rights(text, prot);
+        }
+        Request::Load { addr } => {
+            text.push_str("load");
+            push_address(text, addr);
+        }
+        Request::Store { addr, byte } => {
+            text.push_str("store");
+            push_address(text, addr);
+            push_count(text, u64::from(byte));
+        }
+        Request::Fetch { addr } => {
+            text.push_str("fetch");
+            push_address(text, addr);
+        }
+    }
+}
+
+// Replaces the text by the line of a step.
+fn put_step(text: &mut LineText, step: Step)
+    ensures { text.new.bytes ≡ step_line step }
+{
+    text.clear();
+    text.push_str("c");
+    push_number(text, u64::from(step.core.index()));
+    text.push_str("! ");
+    push_asked(text, step.request);
+    text.push_str("\n");
+}
+
+// Replaces the text by the line of a file. Its first byte is its number.
+fn put_use(text: &mut LineText, number: u64, len: u64)
+    ensures { text.new.bytes ≡ use_line number len }
+{
+    text.clear();
+    text.push_str("file");
+    push_count(text, number);
+    text.push_str(" rw");
+    push_count(text, len);
+    push_count(text, number);
+    text.push_str("\n");
+}
+
+// Replaces the text by the first line, of so many threads and requests.
+fn put_first(text: &mut LineText, threads: usize, steps: usize)
+    ensures { text.new.bytes ≡ first_line threads steps }
+{
+    text.clear();
+    text.push_str("vm");
+    push_count(text, threads.max(1).min(64) as u64);
+    push_count(text, FRAMES);
+    push_count(text, (steps as u64).max(CALLS));
+    text.push_str("\n");
+}
+
+// Appends the lines of the files.
+fn push_uses(all: &mut Vec<u8>, files: &[FileUse]) -> Result<(), AllocError>
+    ensures { OnOk result (all.new.items ≡ all.old.items ++ use_lines 0 (map use_of files.now)) }
+{
+    let mut text = LineText::new();
+    let mut at = 0;
+    'files: while at < files.len() {
+        put_use(&mut text, at as u64, files[at].len);
+        all.extend_from_slice(text.as_str().as_bytes())?;
+        at += 1;
+    }
+    Ok(())
+}
+
+// Appends the lines of the requests.
+fn push_steps(all: &mut Vec<u8>, steps: &[Step]) -> Result<(), AllocError>
+    ensures { OnOk result (all.new.items ≡ all.old.items ++ flat_map step_line steps.now) }
+{
+    let mut text = LineText::new();
+    let mut at = 0;
+    'steps: while at < steps.len() {
+        let step = steps[at];
+        put_step(&mut text, step);
+        all.extend_from_slice(text.as_str().as_bytes())?;
+        at += 1;
+    }
+    Ok(())
+}
+
+/// The trace of what was taken: a `vm` line, a line for each file, and a line for each request, in order.
+pub fn write_taken(alloc: Global, taken: &Taken) -> Result<Vec<u8>, AllocError>
+    ensures { IfOk result (λ all. all.items ≡ imported_text (so_far taken.now)) }
+{
+    let mut all: Vec<u8> = Vec::new(alloc);
+    let mut text = LineText::new();
+    put_first(&mut text, taken.threads.len(), taken.steps.len());
+    all.extend_from_slice(text.as_str().as_bytes())?;
+    push_uses(&mut all, taken.files.as_slice())?;
+    push_steps(&mut all, taken.steps.as_slice())?;
+    Ok(all)
+}
