@@ -1,6 +1,6 @@
 //! Tests of the parts of a machine and of its text, a module for each crate that is tested: `history`,
 //! `frames`, `refcache`, `backing`, `shootdown`, `mmu`, `tickets`, `seats`, `trace_io`
-//! (`io_tests`) and `trace_text` (`text_tests`).
+//! (`io_tests`), `trace_text` (`text_tests`) and `import_text`.
 #![tactic(auto)]
 
 #[cfg(test)]
@@ -9,6 +9,8 @@ mod backing_tests;
 mod frames_tests;
 #[cfg(test)]
 mod history_tests;
+#[cfg(test)]
+mod import_tests;
 #[cfg(test)]
 mod io_tests;
 #[cfg(test)]
