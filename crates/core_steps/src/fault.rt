@@ -143,6 +143,7 @@ impl<M: SlotMap, H: Hardware, A: Allocator, L: Ledger> Engine<M, H, A, L> {
     /// The core's tables get the entry of the page, which has this from here on, with the core recorded.
     /// The core holds the page, or nobody. A refusal for memory changes nothing. The core's phase isn't
     /// written.
+    #[inline(always)]
     pub fn show_page(
         &mut self,
         core: CoreId,
