@@ -6,12 +6,12 @@ ghost use Rattle.trace.specs.Ends.{TellsFaults};
 ghost use Rattle.trace.specs.declared.fault.TraceFault.{TraceFault};
 ghost use Rattle.trace_io.specs.Source.{Reads};
 
-use crate::job::status_of_fault;
 use notes_text::certify_text;
 use radix_range::RadixMap;
 use slot_lock::SlotMap;
 use std::alloc::Allocator;
 use std::io::Write;
+use trace::fault::status_of_fault;
 use trace_io::sink::Sink;
 use trace_io::source::Source;
 

@@ -1,36 +1,21 @@
 //! What the program does once its words are read.
 ghost use Rattle.std.specs.Prelude.{◌≡◌, ◌≤◌, Result};
 ghost use Rattle.radixvm.specs.Echo.{EchoEnds};
-ghost use Rattle.radixvm.specs.Status.{fault_status, status_of};
 ghost use Rattle.trace.specs.Ends.{Ends, TellsFaults};
 ghost use Rattle.trace.specs.Shown.{limit_for};
+ghost use Rattle.trace.specs.Status.{status_of};
 ghost use Rattle.trace.specs.declared.fault.TraceFault.{TraceFault};
 ghost use Rattle.trace_io.specs.Source.{Reads};
 
 use crate::echo::replay_echoing;
 use crate::explain::explain;
-use core_steps::{CallLimit, SetupFault};
+use core_steps::CallLimit;
 use std::alloc::Allocator;
 use std::io::Write;
-use trace::fault::TraceFault;
 use trace::replay::{Replayed, replay_telling};
 use trace::shown::Show;
 use trace_io::sink::Sink;
 use trace_io::source::Source;
-
-/// The status that a fault ends the program with: 2 where the text is at fault, 3 where
-/// its surroundings are.
-pub fn status_of_fault(fault: TraceFault) -> u8
-    ensures value { result ≡ fault_status fault }
-    ensures within { result ≤ 3 }
-{
-    match fault {
-        TraceFault::BadLine(_) | TraceFault::TooLong(_) | TraceFault::NoVmLine => 2,
-        TraceFault::Setup(SetupFault::NoMemory) => 3,
-        TraceFault::Setup(_) => 2,
-        TraceFault::ReadFailed | TraceFault::NoMemory | TraceFault::WriteFailed => 3,
-    }
-}
 
 /// What a run shows of its trace, and how many calls it lets the trace ask for.
 #[derive(Clone, Copy, Debug, PartialEq, Eq)]
@@ -53,14 +38,14 @@ fn tell_end<A: Allocator, E: Write>(
     ensures value { result ≡ status_of replayed.now.ended }
     ensures within { result ≤ 3 }
 {
-    let Err(fault) = replayed.ended else {
-        return 0;
-    };
-    let _ = writeln!(errors, "radixvm: {fault}");
-    if explains && let Some(lines) = &replayed.lines {
+    let status = replayed.tell(errors);
+    if explains
+        && let Err(fault) = replayed.ended
+        && let Some(lines) = &replayed.lines
+    {
         explain(fault, limit, lines.line(), errors);
     }
-    status_of_fault(fault)
+    status
 }
 
 /// Replays the trace, showing what is asked for, prints a fault as `radixvm: ` and its

@@ -5,7 +5,6 @@ ghost use Rattle.live_script.specs.declared.texts.TextFault.{TextFault};
 ghost use Rattle.radixvm.specs.Status.{certified_live_status, live_status, script_status};
 ghost use Rattle.trace_io.specs.Source.{Reads};
 
-use crate::job::status_of_fault;
 use live_script::Runner;
 use live_script::texts::{TextFault, certify_run, run_text};
 use radix_range::RadixMap;
@@ -14,6 +13,7 @@ use std::alloc::Allocator;
 use std::io::Write;
 use std::sync::Wait;
 use std::thread::Threads;
+use trace::fault::status_of_fault;
 use trace_io::sink::Sink;
 use trace_io::source::Source;
 

@@ -11,3 +11,4 @@ pub mod PlainText
 pub mod PlainLaw
 pub mod Listing
 pub mod Shown
+pub mod Status

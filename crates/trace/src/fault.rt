@@ -1,4 +1,7 @@
 //! What ends a replay early.
+ghost use Rattle.std.specs.Prelude.{◌≡◌, ◌≤◌};
+ghost use Rattle.trace.specs.Status.{fault_status};
+
 use core_steps::SetupFault;
 use thiserror::Error;
 
@@ -26,4 +29,17 @@ pub enum TraceFault {
     /// A write failed, or took no byte.
     #[error("write failed")]
     WriteFailed,
+}
+
+/// The status that a fault ends a program with: 2 where the text is at fault, 3 where its surroundings are.
+pub fn status_of_fault(fault: TraceFault) -> u8
+    ensures value { result ≡ fault_status fault }
+    ensures within { result ≤ 3 }
+{
+    match fault {
+        TraceFault::BadLine(_) | TraceFault::TooLong(_) | TraceFault::NoVmLine => 2,
+        TraceFault::Setup(SetupFault::NoMemory) => 3,
+        TraceFault::Setup(_) => 2,
+        TraceFault::ReadFailed | TraceFault::NoMemory | TraceFault::WriteFailed => 3,
+    }
 }

@@ -12,11 +12,12 @@ ghost use Rattle.core_steps.specs.Setups.{Fits};
 ghost use Rattle.core_steps.specs.declared.setup.CallLimit.{CallLimit};
 ghost use Rattle.core_steps.specs.declared.setup.CallLimit.TheVariants.{Usual};
 
-use crate::fault::TraceFault;
+use crate::fault::{TraceFault, status_of_fault};
 use crate::replayer::{Replayer, Staged};
 use crate::shown::{Show, write_log, write_maps, write_told};
 use core_steps::{CallLimit, Forgotten, Kept, Opening};
 use std::alloc::Allocator;
+use std::io::Write;
 use trace_io::lines::{Found, LineReader, NoLine};
 use trace_io::sink::Sink;
 use trace_io::source::Source;
@@ -193,6 +194,24 @@ pub struct Replayed<A: Allocator> {
     pub ended: Result<(), TraceFault>,
     /// None where no memory was there for them. After a bad line they give that line.
     pub lines: Option<LineReader<A>>,
+}
+
+impl<A: Allocator> Replayed<A> {
+    ghost use Rattle.std.specs.Prelude.{◌≡◌, ◌≤◌};
+    ghost use Rattle.trace.specs.Status.{status_of};
+
+    /// Prints the fault that ended the replay, if one did, as `radixvm: ` and its text, and answers the status: 0, or that of
+    /// the fault.
+    pub fn tell<E: Write>(&self, errors: &mut E) -> u8
+        ensures value { result ≡ status_of self.now.ended }
+        ensures within { result ≤ 3 }
+    {
+        let Err(fault) = self.ended else {
+            return 0;
+        };
+        let _ = writeln!(errors, "radixvm: {fault}");
+        status_of_fault(fault)
+    }
 }
 
 // Acts on all lines. Memory for a chunk of them is taken before anything is read.

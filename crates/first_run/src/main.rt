@@ -1,0 +1,73 @@
+//! A trace replayed from standard input, for the first runs on a clone where the whole program isn't built: what its words `run` and `maps` do without a
+//! flag. Few crates are below it, so that it is compiled soon.
+#![tactic(auto)]
+
+ghost use Rattle.std.specs.Prelude.{◌≡◌, ◌≤◌, Result};
+ghost use Rattle.core_steps.specs.declared.setup.CallLimit.TheVariants.{Usual};
+ghost use Rattle.trace.specs.Ends.{Ends, TellsFaults};
+ghost use Rattle.trace.specs.Status.{fault_status, status_of};
+ghost use Rattle.trace.specs.declared.fault.TraceFault.{TraceFault};
+ghost use Rattle.trace_io.specs.Source.{Reads};
+
+use core_steps::CallLimit;
+use std::alloc::Allocator;
+use std::env;
+use std::io::{BufWriter, Write};
+use std::process::ExitCode;
+use trace::fault::{TraceFault, status_of_fault};
+use trace::replay::replay_telling;
+use trace::shown::Show;
+use trace_io::sink::{Noted, Sink};
+use trace_io::source::{Counted, Source};
+
+// What the word behind the program's name shows: the mappings at the end where it is `maps`, else the outcomes.
+fn shown_by(word: Option<&str>) -> Show {
+    match word {
+        Some("maps") => Show::Maps,
+        _ => Show::Outcomes,
+    }
+}
+
+// Replays the trace, prints a fault as `radixvm: ` and its text, and answers the status: 0, or that of the fault.
+fn run<A: Allocator + Clone + Drop, S: Source, W: Sink, E: Write>(
+    alloc: A,
+    reader: &mut S,
+    out: &mut W,
+    errors: &mut E,
+    show: Show,
+) -> u8
+    ensures ends { (r : Result Unit TraceFault) × (result ≡ status_of r)
+        × Reads (S.stream reader.old) (S.stream reader.new)
+        (λ input unread. Ends Usual show input unread (W.contents out.old) (W.contents out.new) r)
+        × TellsFaults r (S.failed reader.new) (S.reads reader.new)
+        (W.failed out.old) (W.failed out.new) (W.is_flushed out.new) }
+    ensures within { result ≤ 3 }
+{
+    replay_telling(alloc, reader, out, show, CallLimit::Usual).tell(errors)
+}
+
+// Prints a fault that came before the trace was read, and answers its status.
+fn refuse<E: Write>(fault: TraceFault, errors: &mut E) -> u8
+    ensures { result ≡ fault_status fault }
+{
+    let _ = writeln!(errors, "radixvm: {fault}");
+    status_of_fault(fault)
+}
+
+fn main(rt: HostRuntime) -> ExitCode {
+    let alloc = rt.alloc();
+    let mut errors = rt.stderr();
+    let Ok(mut words) = env::args(&rt) else {
+        return ExitCode::from(refuse(TraceFault::NoMemory, &mut errors));
+    };
+    let Ok(buffer) = BufWriter::new(alloc, rt.stdout()) else {
+        return ExitCode::from(refuse(TraceFault::NoMemory, &mut errors));
+    };
+    let show = match words.nth(1) {
+        Some(word) => shown_by(Some(word.as_str())),
+        None => Show::Outcomes,
+    };
+    let mut reader = Counted::new(rt.stdin());
+    let mut out = Noted::new(buffer);
+    ExitCode::from(run(alloc, &mut reader, &mut out, &mut errors, show))
+}
