@@ -1,0 +1,10 @@
+use Rattle.std.proofs.Common.{◌≡◌, ◌≤◌}
+use Rattle.vm_base.specs.Cores.{members}
+use Rattle.frames.specs.Bits.{count_below}
+use Rattle.watched.proofs.look.core_count.Given as goal
+
+abbrev pub invariant-cores : goal.invariant-cores
+invariant-cores l = record {
+  count : l.count ≡ count_below (members l.set) l.index;
+  few : l.count ≤ l.index;
+}

@@ -1,0 +1,62 @@
+//! The ways in which a machine is moved, with one who may watch each step.
+ghost use Rattle.std.specs.Prelude.{◌≡◌, IfOk, OnErr};
+ghost use Rattle.core_steps.specs.Finishing.{Calls, Finishes, IsCallRefused, IsRefused};
+ghost use Rattle.core_steps.specs.Machine.{state};
+ghost use Rattle.core_steps.specs.Moving.{JoinsAsMap, MayWant, Tries};
+ghost use Rattle.machine_model.specs.Step.{Step};
+ghost use Rattle.machine_model.specs.World.{World as WorldOf};
+ghost use Rattle.machine_model.specs.declared.event.Event.{Event as EventOf};
+ghost use Rattle.machine_model.specs.declared.event.Outcome.{Outcome as OutcomeOf};
+ghost use Rattle.watched.specs.Watching.{WatchesCall, WatchesFinish};
+
+use core_steps::{Finished, Ledger, Machine};
+use machine_model::{Event, Outcome};
+use slot_lock::SlotMap;
+use std::alloc::Allocator;
+use vm_base::{CoreId, NoMemory, Request};
+
+/// One who moves a machine, each time as the machine itself would be moved, and may watch its steps.
+pub trait Watch {
+    // What it is after a step: from the one state by this event to this outcome and the other state.
+    ghost after: { Self → WorldOf → EventOf → OutcomeOf → WorldOf → Self };
+
+    /// One event, as by `Machine::step`. A refusal for memory changes nothing.
+    fn step<M: SlotMap, A: Allocator + Clone, L: Ledger>(
+        &mut self,
+        machine: &mut Machine<M, A, L>,
+        event: Event,
+    ) -> Result<Outcome, NoMemory>
+        ensures step { Tries (Step (state machine.old) event)
+            (MayWant L.keeps (state machine.old) event)
+            (state machine.old) result (state machine.new) }
+        ensures joins { IfOk result
+            (λ outcome. JoinsAsMap M.can_fold M.folds (state machine.old) event outcome (state machine.new)) }
+        ensures watched { IfOk result
+            (λ outcome. self.new ≡ after self.old (state machine.old) event outcome (state machine.new)) };
+
+    /// Steps of the core's call until one isn't Stepped, at most 2^40, as by `Machine::finish`. After
+    /// a refusal for memory the steps before it stand.
+    fn finish<M: SlotMap, A: Allocator + Clone, L: Ledger>(
+        &mut self,
+        machine: &mut Machine<M, A, L>,
+        core: CoreId,
+    ) -> Result<Finished, NoMemory>
+        ensures ends { IfOk result (λ finished. Finishes (state machine.old) core finished (state machine.new)) }
+        ensures err { OnErr result (IsRefused L.keeps (state machine.old) core (state machine.new)) }
+        ensures watched { IfOk result (λ finished.
+            WatchesFinish after self.old (state machine.old) core finished (state machine.new) self.new) };
+
+    /// A call, and if it begins its steps until one isn't Stepped, at most 2^40, as by `Machine::call`.
+    /// After a refusal for memory the steps before it stand.
+    fn call<M: SlotMap, A: Allocator + Clone, L: Ledger>(
+        &mut self,
+        machine: &mut Machine<M, A, L>,
+        core: CoreId,
+        request: Request,
+    ) -> Result<Finished, NoMemory>
+        ensures ends { IfOk result (λ finished. Calls (state machine.old) core request finished (state machine.new)) }
+        ensures err { OnErr result
+            (IsCallRefused L.keeps (state machine.old) core request (state machine.new)) }
+        ensures watched { IfOk result (λ finished.
+            WatchesCall after self.old (state machine.old) core request finished (state machine.new) self.new) };
+}
