@@ -1,12 +1,12 @@
 -- How an import ends.
-use Rattle.std.proofs.Common.{◌≡◌, ℕ, List, Option, Some, None, length, refl, ap, ◌∙◌, subst}
+use Rattle.std.proofs.Common.{◌≡◌, ℕ, Bool, List, Option, Some, None, Result, Ok, Err, inr, length, refl, ap, ◌∙◌, subst}
 use Rattle.std.specs.Io.KnownBytes.{Keeps, Appends}
 use Rattle.trace_io.specs.Lines.{lines_of}
 use Rattle.trace_io.specs.Sink.{AppendsFront}
-use Rattle.trace_io.specs.Source.{Stream, Reads}
+use Rattle.trace_io.specs.Source.{Stream, Reads, HasStopped}
 use Rattle.trace_io.proofs.LineLemmas.{reads_map}
 use Rattle.import_text.specs.Counts.{total}
-use Rattle.import_text.specs.Ends.{ImportsAll, ImportStops}
+use Rattle.import_text.specs.Ends.{ImportsAll, ImportStops, TellsImport}
 use Rattle.import_text.specs.Imported.{import_of}
 use Rattle.import_text.specs.Taking.{SoFar}
 use Rattle.import_text.specs.Texts.{imported_text}
@@ -41,3 +41,21 @@ stops_here thread input o WriteFailed n = absurd (n refl)
 pub stopped : (a b : Stream) (thread : Option ℕ) (o : Option (List ℕ)) (f : ImportFault) → (f ≡ WriteFailed → ⊥) → Reads a b (λ xs ys. xs ≡ xs)
     → Reads a b (λ input unread. ImportStops thread input o o f)
 stopped a b thread o f n r = reads_map a b _ _ r (λ xs ys k e. stops_here thread xs o f n)
+
+abbrev fault_in : {T : Type 0} → Result T ImportFault → ImportFault
+fault_in (Ok x) = NoMemory
+fault_in (Err f) = f
+
+abbrev failed_with : (T : Type 0) → ImportFault → Result T ImportFault
+failed_with T f = Err f
+
+-- a fault of reading, before anything was written
+pub tells_unread : {T U : Type 0} (f : ImportFault) (read_failed : Bool) (reads : ℕ) (failed is_flushed : Bool)
+    → (failed_with T f ≡ failed_with T ReadFailed → HasStopped read_failed reads) → (failed_with T f ≡ failed_with T WriteFailed → ⊥)
+    → TellsImport (failed_with U f) read_failed reads failed failed is_flushed
+tells_unread f read_failed reads failed is_flushed r w = record {
+  read = λ e. r (ap Err (ap fault_in e));
+  write = λ e. absurd (w (ap Err (ap fault_in e)));
+  kept = inr refl;
+  out = tt;
+}

@@ -1,8 +1,9 @@
 -- How an import ends.
-use Rattle.std.specs.Prelude.{◌≡◌, ℕ, List, Option, Result, Ok, Err, length}
+use Rattle.std.specs.Prelude.{◌≡◌, ◌⊎◌, ℕ, Bool, true, List, Option, OnOk, Result, Ok, Err, length}
 use Rattle.std.specs.Io.KnownBytes.{Keeps, Appends}
 use Rattle.trace_io.specs.Lines.{lines_of}
 use Rattle.trace_io.specs.Sink.{AppendsFront}
+use Rattle.trace_io.specs.Source.{HasStopped}
 use Rattle.import_text.specs.Counts.{total}
 use Rattle.import_text.specs.Imported.{import_of}
 use Rattle.import_text.specs.Texts.{imported_text}
@@ -25,3 +26,11 @@ ImportStops thread input old new WriteFailed = AppendsFront old new (imported_te
 abbrev pub ImportEnds : Option ℕ → List ℕ → Option (List ℕ) → Option (List ℕ) → Result Counts ImportFault → Type 0
 ImportEnds thread input old new (Ok counts) = ImportsAll thread input old new counts
 ImportEnds thread input old new (Err f) = ImportStops thread input old new f
+
+-- `read failed` is told only of a read that failed or was one too many, and `write failed` only where a write or a flush failed; where
+-- it isn't told, none failed; where the trace was written, it has gone out
+pub record TellsImport {T : Type 0} (r : Result T ImportFault) (read_failed : Bool) (reads : ℕ) (before failed is_flushed : Bool) : Type 0 where
+  pub read : r ≡ Err ReadFailed → HasStopped read_failed reads
+  pub write : r ≡ Err WriteFailed → failed ≡ true
+  pub kept : (r ≡ Err WriteFailed) ⊎ (failed ≡ before)
+  pub out : OnOk r (is_flushed ≡ true)

@@ -1,5 +1,5 @@
 //! A log of strace, line by line, to what is taken of it.
-ghost use Rattle.std.specs.Prelude.{◌≡◌, ◌<◌, IfOk, length, map};
+ghost use Rattle.std.specs.Prelude.{◌≡◌, ◌<◌, ◌^◌, IfOk, length, map};
 ghost use Rattle.trace_io.specs.Lines.{lines_of};
 ghost use Rattle.import_text.specs.Counts.{total};
 ghost use Rattle.import_text.specs.Imported.{chosen, import_of, imported, line_taken};
@@ -59,6 +59,7 @@ fn take_lines<'a>(
     ensures value { IfOk result (λ i. (so_far i.taken, i.counts)
         ≡ imported (map spoken speeches.now) made.now process (length speeches.now)) }
     ensures total { IfOk result (λ i. total i.counts ≡ length speeches.now) }
+    ensures few { IfOk result (λ i. total i.counts < 2 ^ 64) }
 {
     let mut taken = Taken::new(alloc);
     let mut counts = Counts::new();
@@ -92,6 +93,7 @@ fn chosen<'a>(thread: Option<u64>, speeches: &[Speech<'a>]) -> u64
 pub fn import_lines(alloc: Global, log: &[u8], thread: Option<u64>) -> Result<Imported, AllocError>
     ensures value { IfOk result (λ i. (so_far i.taken, i.counts) ≡ import_of thread log.now) }
     ensures total { IfOk result (λ i. total i.counts ≡ length (lines_of log.now)) }
+    ensures few { IfOk result (λ i. total i.counts < 2 ^ 64) }
 {
     let speeches = read_speeches(alloc, log)?;
     let mut text: Vec<u8> = Vec::new(alloc);

@@ -2,7 +2,8 @@
 ghost use Rattle.std.specs.Prelude.{◌≡◌, ◌⊎◌, ◌+◌, ◌<◌, ◌≤◌, ◌^◌, Err, IfErr, IfOk, OnErr, OnOk, drop, length, true};
 ghost use Rattle.std.specs.Io.KnownBytes.{Appends};
 ghost use Rattle.trace_io.specs.Sink.{AppendsFront};
-ghost use Rattle.import_text.specs.Ends.{ImportEnds};
+ghost use Rattle.import_text.specs.Counts.{total};
+ghost use Rattle.import_text.specs.Ends.{ImportEnds, TellsImport};
 ghost use Rattle.trace_io.specs.Source.{Gives, HasEnded, HasStopped, Reads, read_bytes};
 
 use crate::counts::Counts;
@@ -104,6 +105,7 @@ fn write_import<W: Sink>(
     thread: Option<u64>,
 ) -> Result<Counts, ImportFault>
     ensures ends { ImportEnds thread log.now (W.contents writer.old) (W.contents writer.new) result }
+    ensures few { IfOk result (λ counts. total counts < 2 ^ 64) }
     ensures out { OnOk result (W.is_flushed writer.new ≡ true) }
     ensures read { result ≡ Err ImportFault.ReadFailed → ⊥ }
     ensures write { result ≡ Err ImportFault.WriteFailed → W.failed writer.new ≡ true }
@@ -132,10 +134,9 @@ pub fn import_log<S: Source, W: Sink>(
 ) -> Result<Counts, ImportFault>
     ensures ends { Reads (S.stream reader.old) (S.stream reader.new) (λ input unread.
         ImportEnds thread input (W.contents writer.old) (W.contents writer.new) result) }
-    ensures out { OnOk result (W.is_flushed writer.new ≡ true) }
-    ensures read { result ≡ Err ImportFault.ReadFailed → HasStopped (S.failed reader.new) (S.reads reader.new) }
-    ensures write { result ≡ Err ImportFault.WriteFailed → W.failed writer.new ≡ true }
-    ensures kept { (result ≡ Err ImportFault.WriteFailed) ⊎ (W.failed writer.new ≡ W.failed writer.old) }
+    ensures few { IfOk result (λ counts. total counts < 2 ^ 64) }
+    ensures told { TellsImport result (S.failed reader.new) (S.reads reader.new)
+        (W.failed writer.old) (W.failed writer.new) (W.is_flushed writer.new) }
 {
     match read_log(alloc, reader) {
         Ok(log) => write_import(alloc, log.as_slice(), writer, thread),

@@ -1,5 +1,7 @@
 -- The status that the program ends with.
 use Rattle.std.specs.Prelude.{ℕ, Bool, true, false, Result, Ok, Err}
+use Rattle.import_text.specs.declared.counts.Counts.{Counts}
+use Rattle.import_text.specs.declared.log.ImportFault.{ImportFault}
 use Rattle.live_script.specs.declared.texts.TextFault.{TextFault}
 use Rattle.live_script.specs.declared.texts.TextFault.TheVariants.{Text, Live}
 use Rattle.radixvm.specs.declared.command.WordsFault.{WordsFault}
@@ -34,3 +36,8 @@ certified_live_status (Err f) = script_status f
 abbrev pub words_status : WordsFault → ℕ
 words_status NotUtf8 = 2
 words_status OutOf.NoMemory = 3
+
+-- of a log: 0 where its trace was written
+abbrev pub import_status : Result Counts ImportFault → ℕ
+import_status (Ok counts) = 0
+import_status (Err f) = 3

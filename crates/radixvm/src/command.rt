@@ -1,13 +1,16 @@
 //! The words of the command line, and what each does.
-ghost use Rattle.std.specs.Prelude.{◌≡◌, ◌≤◌, Bool, IfOk, Result};
+ghost use Rattle.std.specs.Prelude.{◌≡◌, ◌≤◌, ℕ, Bool, IfOk, Option, Result};
 ghost use Rattle.std.specs.Io.KnownBytes.{Appends};
 ghost use Rattle.notes_text.specs.CertifyEnds.{Certifies};
 ghost use Rattle.core_steps.specs.declared.setup.CallLimit.{CallLimit};
+ghost use Rattle.import_text.specs.Ends.{ImportEnds, TellsImport};
+ghost use Rattle.import_text.specs.declared.counts.Counts.{Counts};
+ghost use Rattle.import_text.specs.declared.log.ImportFault.{ImportFault};
 ghost use Rattle.live_script.specs.Texts.{EndsText, IsNotesText, IsVerdictText, TellsText};
 ghost use Rattle.live_script.specs.declared.texts.TextFault.{TextFault};
 ghost use Rattle.radixvm.specs.Echo.{EchoEnds};
 ghost use Rattle.radixvm.specs.Help.{page_of};
-ghost use Rattle.radixvm.specs.Status.{certified_live_status, certified_status, live_status, words_status};
+ghost use Rattle.radixvm.specs.Status.{certified_live_status, certified_status, import_status, live_status, words_status};
 ghost use Rattle.radixvm.specs.declared.help.Topic.{Topic};
 ghost use Rattle.radixvm.specs.declared.job.Shows.{Shows};
 ghost use Rattle.trace.specs.Ends.{Ends, TellsFaults};
@@ -19,11 +22,12 @@ ghost use Rattle.trace_io.specs.Source.{Reads};
 use crate::certifying::certify;
 use crate::help;
 use crate::help::Topic;
+use crate::importing::import;
 use crate::input::{Files, input};
 use crate::job::{Shows, run, run_echoing};
 use crate::live::{certify_live, live};
 use clap::error::ErrorKind;
-use clap::{Arg, ArgAction, ArgMatches, Command, Error};
+use clap::{Arg, ArgAction, ArgMatches, Command, Error, value_parser};
 use core_steps::CallLimit;
 use live_script::Runner;
 use radix_range::RadixMap;
@@ -52,6 +56,8 @@ enum Work {
     Live,
     // The certificate of such a run.
     CertifyLive,
+    // The trace of a log of strace, of the process of this thread or of the first line's.
+    Import(Option<u64>),
 }
 
 // What is asked for.
@@ -107,6 +113,10 @@ fn grammar<'a>(alloc: Global) -> Result<Command<'a>, AllocError> {
     let certify = reading(alloc, "certify", "radixvm certify [FILE]")?;
     let certifies = flag(alloc, "certify");
     let live = reading(alloc, "live", "radixvm live [--certify] [FILE]")?.arg(certifies)?;
+    let pid = Arg::new(alloc, "pid")
+        .long("pid")
+        .value_parser(value_parser!(u64));
+    let import = reading(alloc, "import", "radixvm import [--pid N] [FILE]")?.arg(pid)?;
     let topic = Arg::new(alloc, "TOPIC").value_parser(help::TOPICS);
     let help = Command::new(alloc, "help")
         .override_help(help::OVERVIEW)
@@ -122,6 +132,7 @@ fn grammar<'a>(alloc: Global) -> Result<Command<'a>, AllocError> {
         .subcommand(maps)?
         .subcommand(certify)?
         .subcommand(live)?
+        .subcommand(import)?
         .subcommand(help)?;
     Ok(program)
 }
@@ -137,6 +148,7 @@ fn topic_named(name: Option<&str>) -> Topic {
         Some("cores") => Topic::Cores,
         Some("notes") => Topic::Notes,
         Some("threads") => Topic::Threads,
+        Some("import") => Topic::Import,
         _ => Topic::Overview,
     }
 }
@@ -206,6 +218,7 @@ fn matched<'a, A: Allocator>(
             Ok(Ok(working(Work::CertifyLive, live)))
         }
         Some(("live", live)) => Ok(Ok(working(Work::Live, live))),
+        Some(("import", import)) => Ok(Ok(working(Work::Import(import.get_one("pid")), import))),
         Some((_, help)) => Ok(Err(topic_named(help.get_str("TOPIC")))),
         None => Ok(Err(Topic::Overview)),
     }
@@ -350,6 +363,12 @@ fn act<T: Threads + Wait + Sync, R: Runner<Global>, S: Source, W: Sink, E: Write
         input unread (W.contents out.old) (W.contents out.new) r)
         × TellsText r (S.failed reader.new) (S.reads reader.new)
         (W.failed out.old) (W.failed out.new) (W.is_flushed out.new)) }
+    ensures imported { IfOk parsed.entry (λ task. (thread : Option ℕ) → task.work ≡ Work.Import thread
+        → (r : Result Counts ImportFault) × (result ≡ import_status r)
+        × Reads (S.stream reader.old) (S.stream reader.new)
+        (λ input unread. ImportEnds thread input (W.contents out.old) (W.contents out.new) r)
+        × TellsImport r (S.failed reader.new) (S.reads reader.new)
+        (W.failed out.old) (W.failed out.new) (W.is_flushed out.new)) }
     ensures within { result ≤ 3 }
 {
     match parsed {
@@ -361,6 +380,7 @@ fn act<T: Threads + Wait + Sync, R: Runner<Global>, S: Source, W: Sink, E: Write
             Work::Certify => certify(alloc, reader, out, errors),
             Work::Live => live(rt, runner, alloc, reader, out, errors),
             Work::CertifyLive => certify_live(rt, runner, alloc, reader, out, errors),
+            Work::Import(thread) => import(alloc, reader, out, errors, thread),
         },
         Err(told) => tell(alloc, &told, out, errors),
     }

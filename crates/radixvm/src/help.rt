@@ -11,6 +11,7 @@ pub const USAGE: &str = "radixvm run [--log | [--echo] [--long]] [--explain] [FI
        radixvm maps [--long] [--explain] [FILE]
        radixvm certify [FILE]
        radixvm live [--certify] [FILE]
+       radixvm import [--pid N] [FILE]
        radixvm help [TOPIC]";
 
 /// What the program is for, its words, and where to read on.
@@ -22,6 +23,7 @@ Usage: radixvm run [--log | [--echo] [--long]] [--explain] [FILE]
        radixvm maps [--long] [--explain] [FILE]
        radixvm certify [FILE]
        radixvm live [--certify] [FILE]
+       radixvm import [--pid N] [FILE]
        radixvm help [TOPIC]
 
 Words:
@@ -35,6 +37,7 @@ Words:
                  they are a run of the machine
   live           runs a script, each core on a thread, and writes their notes
   live --certify says in their place whether they are a run of the machine
+  import         reads a log of strace, and writes a trace of what a program did
   FILE           the file that is read; without it, or for -, standard input
   --long         lets the trace ask for more calls, but not beside --log
   --explain      shows under a fault the line, the word, and what was expected
@@ -49,6 +52,7 @@ Words:
     cores        tables, TLBs, locks, shootdown, and how frames come back
     notes        the lines that certify reads, and the line that it writes
     threads      scripts, and what live writes
+    import       what becomes of the lines of a log of strace
   -h, --help     writes this text
   -V, --version  writes the version
 
@@ -370,6 +374,55 @@ Status: 0; 1 where notes are refused; 2 for a bad script or bad words; 3 where
 reading, writing or memory failed, or a core stopped.
 ";
 
+/// What `import` reads and writes.
+pub const IMPORT: &str = "\
+import reads a log that strace wrote of a program, and writes a trace of what
+the program asked of its address space:
+
+  strace -f -y -o LOG -e trace=memory,process PROGRAM
+  radixvm import LOG | radixvm run
+
+Give strace -o FILE: at a terminal it breaks lines where a thread begins.
+
+  --pid N        the process of thread N, where the log has several; else the
+                 process of the first line
+
+A line of mmap, munmap or mprotect is kept with its numbers. A mapping stands
+where the kernel placed it, so it has the flag f, and its address is the one
+that the kernel answered. Each thread is a core, in the order of their first
+requests; the 65th shares core 0 with the first.
+
+A call that stands in two lines, <unfinished ...> and resumed, acts where it
+returns, but munmap where it begins: its pages are gone before it returns, and
+others may be mapped there before its second line.
+
+Changed, since a trace has no such lines:
+  brk            mmap or munmap of the pages between the heap's old end and new;
+                 the first brk only tells where the heap ends
+  mremap         munmap and mmap, or one of them where it stays in place: the
+                 new pages may be read and written, and their bytes are zero
+  a file         the first 16 files are files of the trace, by their paths, or
+                 without -y by their descriptors. A mapping of another file, or
+                 past a file's first 1048576 bytes, is one of zero bytes. What
+                 files hold isn't in a log: each can be read and written, is as
+                 long as its mappings reach, and begins with its number
+
+Left out: calls that failed, other calls and events, other processes (fork, and
+clone without CLONE_THREAD), what a process did before execve, huge pages and
+MAP_GROWSDOWN, and all else that isn't read. How many lines became what is told
+on standard error, and each line is counted once.
+
+What was mapped before the log begins isn't known: an mprotect of such pages is
+kept, and run answers enomem. Pages of the program's own file, its first stack
+and vdso are such pages, which execve maps.
+
+The trace has 256 frames, for lines with accesses that you may add. One of more
+than 1048576 requests wants run --long.
+
+Status: 0; 2 for bad words; 3 where reading, writing or memory failed. The log,
+what is taken of it and the trace are held in memory.
+";
+
 /// What help may explain.
 #[derive(Clone, Copy, Debug, PartialEq, Eq)]
 pub enum Topic {
@@ -391,11 +444,13 @@ pub enum Topic {
     Notes,
     /// What `live` reads and writes.
     Threads,
+    /// What `import` reads and writes.
+    Import,
 }
 
 /// The names of the topics, as the program's words have them.
 pub const TOPICS: &[&str] = &[
-    "trace", "outcomes", "log", "maps", "faults", "cores", "notes", "threads",
+    "trace", "outcomes", "log", "maps", "faults", "cores", "notes", "threads", "import",
 ];
 
 /// The topic's text.
@@ -412,5 +467,6 @@ pub fn page(topic: Topic) -> &'static str
         Topic::Cores => CORES,
         Topic::Notes => NOTES,
         Topic::Threads => THREADS,
+        Topic::Import => IMPORT,
     }
 }

@@ -12,6 +12,9 @@ mod explain_tests;
 #[cfg(test)]
 mod fault_tests;
 mod help;
+#[cfg(test)]
+mod import_tests;
+mod importing;
 mod input;
 mod job;
 mod live;

@@ -439,6 +439,16 @@ const PAGES: &[(&str, &str, &[&str])] = &[
         help::THREADS,
         &["cC! REQ", "refused C5 PAGE", "live V3"],
     ),
+    (
+        "import",
+        help::IMPORT,
+        &[
+            "strace -f -y",
+            "--pid N",
+            "<unfinished ...>",
+            "1048576 bytes",
+        ],
+    ),
 ];
 
 fn has_all(page: &str, parts: &[&str]) -> bool {
@@ -522,7 +532,7 @@ fn wrong_words_are_told_the_right_ones(rt: HostRuntime) {
         is_told(
             (rt.alloc(), &rt),
             &topic,
-            "trace, outcomes, log, maps, faults, cores, notes, threads"
+            "trace, outcomes, log, maps, faults, cores, notes, threads, import"
         )
     );
 }
