@@ -22,13 +22,14 @@
 #include <stddef.h>
 #include <stdint.h>
 
-#define RADIXVM_VERSION 2 /* what radixvm_version() answers where it is the library of this header */
+#define RADIXVM_VERSION 3 /* what radixvm_version() answers where it is the library of this header */
 
 /* What a machine has. */
 typedef struct {
     uint64_t cores;  /* 1 to 64 */
     uint64_t frames; /* of 4096 bytes, at most 65536 */
-    uint64_t calls;  /* that may begin, at most 1048576 */
+    uint64_t calls;  /* that may begin, at most 2^40, or 1048576 with a log */
+    uint32_t log;    /* 0: no log is kept; else radixvm_log tells it of a machine that is kept */
 } radixvm_setup;
 
 /* A file that is open from the start, named by its place in the list; its bytes lie in `bytes`. */
@@ -107,6 +108,18 @@ typedef struct {
 } radixvm_line;
 enum { RADIXVM_BACK_ZEROS = 0, RADIXVM_BACK_SHARED, RADIXVM_BACK_PRIVATE };
 
+/* An entry of the log: a reply was given to a call, or a private page that showed its file got a copy of its
+ * own, for a store. Events and calls that began are numbered from 1. */
+typedef struct {
+    uint32_t kind;         /* RADIXVM_ENTRY_.. */
+    uint32_t core;         /* of a reply: the core whose call it is; else 0 */
+    uint64_t step, call;   /* the event that made the entry; the call that it is of */
+    uint64_t page;         /* of a copy: the page that got it; else 0 */
+    radixvm_event asked;   /* of a reply: the call as it was asked for, what its kind doesn't name being 0; else 0 */
+    radixvm_outcome reply; /* of a reply: RADIXVM_MAPPED to RADIXVM_NO_MEMORY; else 0 */
+} radixvm_log_entry;
+enum { RADIXVM_ENTRY_REPLY = 1, RADIXVM_ENTRY_COPY };
+
 /* How a batch ended. The first `count` events were taken, and outcomes[0] to outcomes[count - 1] tell
  * what each came to; all others are as they were. From RADIXVM_NO_ROOM on no event was taken. */
 typedef struct {
@@ -124,7 +137,8 @@ enum {
     RADIXVM_EMPTY,         /* there is no machine in its place */
     RADIXVM_IN_USE,        /* there is one already */
     RADIXVM_ABSENT,        /* the machine has no such core, or no page has this number */
-    RADIXVM_BAD_CORES = 11, RADIXVM_BAD_FRAMES, RADIXVM_TOO_MANY_FILES, RADIXVM_FILE_TOO_LONG, RADIXVM_BAD_CALLS,
+    RADIXVM_NO_LOG,        /* the machine keeps no log */
+    RADIXVM_BAD_CORES, RADIXVM_BAD_FRAMES, RADIXVM_TOO_MANY_FILES, RADIXVM_FILE_TOO_LONG, RADIXVM_BAD_CALLS,
     RADIXVM_NO_MACHINE     /* malloc refused memory to the new machine */
 };
 
@@ -188,8 +202,10 @@ radixvm_done radixvm_calls_held(radixvm_machine *machine, const radixvm_event *e
 uint64_t radixvm_cores_held(radixvm_machine *machine);
 uint32_t radixvm_entry_held(radixvm_machine *machine, uint32_t core, uint64_t page, uint64_t *word);
 radixvm_done radixvm_maps_held(radixvm_machine *machine, radixvm_line *lines, size_t room);
+radixvm_done radixvm_log_held(radixvm_machine *machine, radixvm_log_entry *entries, size_t room);
 
-/* Makes a machine, where there is none yet. The files' bytes are copied. */
+/* Makes a machine, where there is none yet. The files' bytes are copied. With a log, memory is taken for all of
+ * it at once: about 100 bytes for each call that may begin. */
 static inline radixvm_done radixvm_new(const radixvm_setup *setup, const radixvm_file *files, size_t file_count,
     const uint8_t *bytes, size_t byte_count, radixvm_machine *machine) {
     const radixvm_file no_file = {0, 0, 0};
@@ -266,6 +282,16 @@ static inline radixvm_done radixvm_maps(radixvm_machine *machine, radixvm_line *
         return null;
     }
     return radixvm_maps_held(machine, lines ? lines : &no_line, room);
+}
+/* The log of a machine that keeps it, from its first entry on, as far as there is room: `count` is how many
+ * entries it has. Each call's reply stands in it once, in the order in which a plain page map would answer. */
+static inline radixvm_done radixvm_log(radixvm_machine *machine, radixvm_log_entry *entries, size_t room) {
+    radixvm_log_entry no_entry = {0, 0, 0, 0, 0, {0, 0, 0, 0, 0, 0, 0, 0, 0}, {0, 0}};
+    if (!machine || (!entries && room)) {
+        const radixvm_done null = {RADIXVM_NULL, 0};
+        return null;
+    }
+    return radixvm_log_held(machine, entries ? entries : &no_entry, room);
 }
 #ifdef __cplusplus
 }

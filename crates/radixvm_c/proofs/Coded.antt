@@ -1,13 +1,17 @@
 -- What is written for an event is read as it was meant, and what is told tells outcomes apart
-use Rattle.std.proofs.Common.{◌≡◌, ℕ, ◌+◌, ◌<◌, Bool, true, false, cond, refl, sym, ap, ◌∙◌, ◌==◌, arith}
+use Rattle.std.proofs.Common.{◌≡◌, ℕ, List, ◌+◌, ◌<◌, Bool, true, false, cond, refl, sym, ap, ◌∙◌, ◌==◌, arith}
 use Rattle.std.specs.Prelude.{Option, None, Some, nat_lt, if◌then◌else◌, Result, Ok, Err}
 use Rattle.std.proofs.lemmas.Bool.Decides.{nat_tests}
 use Rattle.vm_base.specs.declared.rights.Prot.{Prot}
 use Rattle.vm_base.specs.declared.requests.Flags.{Flags}
+use Rattle.vm_base.specs.declared.requests.Request.{Request}
 use Rattle.vm_base.specs.declared.requests.Request.TheVariants as Asks
+use Rattle.vm_base.specs.declared.log.Entry.{Entry}
+use Rattle.vm_base.specs.declared.log.Entry.TheVariants as In
 use Rattle.vm_base.specs.declared.replies.Errno.{Errno}
 use Rattle.vm_base.specs.declared.replies.Errno.TheVariants.{EINVAL, ENOMEM, EACCES, EBADF, EOVERFLOW}
 use Rattle.vm_base.specs.declared.replies.SegvCode.TheVariants.{MapErr, AccErr}
+use Rattle.vm_base.specs.declared.replies.Reply.{Reply}
 use Rattle.vm_base.specs.declared.replies.Reply.TheVariants as By
 use Rattle.machine_model.specs.declared.event.Event.{Event}
 use Rattle.machine_model.specs.declared.event.Event.TheVariants as Ev
@@ -20,6 +24,7 @@ use Rattle.core_steps.specs.declared.setup.SetupFault.TheVariants as Fault
 use Rattle.radixvm_c.specs.declared.codes.RawOutcome.{RawOutcome}
 use Rattle.radixvm_c.specs.declared.codes.Item.{Item}
 use Rattle.radixvm_c.specs.declared.codes.Item.TheVariants as To
+use Rattle.radixvm_c.specs.declared.logs.RawEntry.{RawEntry}
 use Rattle.radixvm_c.specs.declared.batch.Ended.{Ended}
 use Rattle.radixvm_c.specs.declared.batch.Done.{Done}
 use Rattle.radixvm_c.specs.declared.batch.Stop.{Stop}
@@ -29,6 +34,7 @@ use Rattle.radixvm_c.specs.declared.opening.Refusal.TheVariants as No
 use Rattle.radixvm_c.specs.Bits.{prot_of, flags_of, bits_of_prot, bits_of_flags}
 use Rattle.radixvm_c.specs.Codes.{core_of, event_of, item_of, finished_code}
 use Rattle.radixvm_c.specs.Batches.{done_of}
+use Rattle.radixvm_c.specs.Logs.{entry_code}
 use Rattle.radixvm_c.specs.Laws.{event_code, item_code, IsCore, HasByte, IsSound}
 
 -- ---- rights and flags
@@ -167,6 +173,22 @@ outcome_read Stuck = refl
 pub outcomes_apart : (f g : Finished) → finished_code f ≡ finished_code g → f ≡ g
 outcomes_apart f g e = sym (outcome_read f) ∙ ap outcome_in e ∙ outcome_read g
 
+-- ---- entries
+
+abbrev reply_of : Finished → Reply
+reply_of (Last (Answered reply)) = reply
+reply_of _ = By.NoFrame
+
+abbrev entry_in : RawEntry → Entry
+entry_in r = if r.kind == 1 then In.Answer r.step r.call r.core (reply_of (outcome_in r.reply)) else In.Detach r.step r.call r.page
+
+entry_read : (requests : List Request) (e : Entry) → entry_in (entry_code requests e) ≡ e
+entry_read requests (In.Answer step call core reply) = ap (λ f. In.Answer step call core (reply_of f)) (outcome_read (Last (Answered reply)))
+entry_read requests (In.Detach step call page) = refl
+
+pub entries_apart : (requests : List Request) (d e : Entry) → entry_code requests d ≡ entry_code requests e → d ≡ e
+entries_apart requests d e same = sym (entry_read requests d) ∙ ap entry_in same ∙ entry_read requests e
+
 -- ---- ends
 
 abbrev end_in : Done → Result Ended Refusal
@@ -179,6 +201,7 @@ end_in d =
     else if d.status == 5 then Err (No.BadFile d.count)
     else if d.status == 7 then Err No.Empty
     else if d.status == 8 then Err No.InUse
+    else if d.status == 10 then Err No.NoLog
     else if d.status == 11 then Err (No.Setup Fault.Cores)
     else if d.status == 12 then Err (No.Setup Fault.Frames)
     else if d.status == 13 then Err (No.Setup Fault.TooManyFiles)
@@ -198,6 +221,7 @@ end_read (Err No.TooLong) = refl
 end_read (Err (No.BadFile at)) = refl
 end_read (Err No.Empty) = refl
 end_read (Err No.InUse) = refl
+end_read (Err No.NoLog) = refl
 end_read (Err (No.Setup Fault.Cores)) = refl
 end_read (Err (No.Setup Fault.Frames)) = refl
 end_read (Err (No.Setup Fault.TooManyFiles)) = refl

@@ -5,3 +5,4 @@ pub mod Batching
 pub mod Holdings
 pub mod Listing
 pub mod Coded
+pub mod Logged

@@ -1,10 +1,7 @@
--- Lines that are told one by one
+-- What is told one by one
 use Rattle.std.proofs.Common.{◌≡◌, ℕ, ◌+◌, ◌<◌, ◌≤◌, List, ◌++◌, sym, subst, ap, ◌∙◌, take, drop, map, length, get_or, set, min, arith}
 use native.Mathlib.Nat.{min_comm, min-le_left}
-use Rattle.std.proofs.lemmas.List.{take_more, take_min, drop_min, length-take-le}
-use Rattle.map_list.specs.declared.lines.MapLine.{MapLine}
-use Rattle.radixvm_c.specs.declared.maps.RawLine.{RawLine}
-use Rattle.radixvm_c.specs.Maps.{line_code, told_lines}
+use Rattle.std.proofs.lemmas.List.{take_more, length-take-le}
 use Rattle.radixvm_c.proofs.Batching.{told_more}
 
 -- what is below the lesser of two is below both
@@ -15,22 +12,19 @@ below_both n a b k e h =
     let second : min a b ≤ b = subst (λ m. m ≤ b) (min_comm b a) turned in
     (omega (arith, first, e, h), omega (arith, second, e, h))
 
--- the first lines are told
-abbrev pub TellsLines : List MapLine → ℕ → List RawLine → List RawLine → Type 0
-TellsLines lines n was told = told ≡ map line_code (take n lines) ++ drop n was
+-- the first n are told
+abbrev pub TellsFirst : {X Y : Type 0} → (X → Y) → List X → ℕ → List Y → List Y → Type 0
+TellsFirst f xs n was told = told ≡ map f (take n xs) ++ drop n was
 
-pub line_more : (lines : List MapLine) (n : ℕ) (d : MapLine) (was told : List RawLine) → n < length lines → n < length was
-    → TellsLines lines n was told → TellsLines lines (n + 1) was (set told n (line_code (get_or lines n d)))
-line_more lines n d was told low room h =
-    let many : length (take n lines) ≡ n = length-take-le n lines (omega (arith, low)) in
-    let one = told_more line_code (take n lines) (get_or lines n d) n was told many room h in
-    one ∙ ap (λ xs. map line_code xs ++ drop (n + 1) was) (sym (take_more lines n d low))
+pub one_more : {X Y : Type 0} (f : X → Y) (xs : List X) (n : ℕ) (d : X) (was told : List Y) → n < length xs → n < length was
+    → TellsFirst f xs n was told → TellsFirst f xs (n + 1) was (set told n (f (get_or xs n d)))
+one_more f xs n d was told low room h =
+    let many : length (take n xs) ≡ n = length-take-le n xs (omega (arith, low)) in
+    let one = told_more f (take n xs) (get_or xs n d) n was told many room h in
+    one ∙ ap (λ ys. map f ys ++ drop (n + 1) was) (sym (take_more xs n d low))
 
-pub lines_told : (lines : List MapLine) (n : ℕ) (was told : List RawLine) → n ≡ min (length lines) (length was)
-    → TellsLines lines n was told → told ≡ told_lines lines was
-lines_told lines n was told e h =
-    let front : take (min (length lines) (length was)) lines ≡ take (length was) lines =
-    ap (λ k. take k lines) (min_comm (length lines) (length was)) ∙ take_min (length was) lines in
-    subst (λ k. TellsLines lines k was told) e h
-    ∙ ap (λ xs. map line_code xs ++ drop (min (length lines) (length was)) was) front
-    ∙ ap (λ ys. map line_code (take (length was) lines) ++ ys) (drop_min (length lines) was)
+-- the same of an element that goes by another name
+pub one_more_of : {X Y : Type 0} (f : X → Y) (xs : List X) (n : ℕ) (x : X) (was told : List Y) → n < length xs → n < length was → x ≡ get_or xs n x
+    → TellsFirst f xs n was told → TellsFirst f xs (n + 1) was (set told n (f x))
+one_more_of f xs n x was told low room e h =
+    subst (λ y. TellsFirst f xs (n + 1) was (set told n (f y))) (sym e) (one_more f xs n x was told low room h)

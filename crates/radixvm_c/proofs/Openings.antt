@@ -9,14 +9,14 @@ use Rattle.backing.specs.Given.{given_files}
 use Rattle.slot_lock.specs.Slots.{Slots, IsNew}
 use Rattle.machine_model.specs.World.{World, new_world}
 use Rattle.core_steps.specs.declared.setup.Setup.{Setup}
+use Rattle.core_steps.specs.declared.setup.CallLimit.{CallLimit}
 use Rattle.core_steps.specs.declared.setup.SetupFault.{SetupFault}
-use Rattle.core_steps.specs.Setups.{is_too_long, has_long, made_of, first_fault, IsFirstFault}
-use Rattle.core_steps.specs.Setups.{fault_of as fault_of_setup}
-use Rattle.core_steps.proofs.Reached.{few_cores}
+use Rattle.core_steps.specs.Setups.{is_too_long, has_long, made_of, first_fault_within, fault_within, IsFirstWithin}
+use Rattle.core_steps.proofs.Setups.{few_cores_within}
 use Rattle.radixvm_c.specs.declared.opening.RawSetup.{RawSetup}
 use Rattle.radixvm_c.specs.declared.opening.Refusal.TheVariants as By
 use Rattle.radixvm_c.specs.declared.opening.RawFile.{RawFile}
-use Rattle.radixvm_c.specs.Opening.{AreFiles, AreThere, IsFile, IsNoFile, RefusesFiles, IsGiven, OpensAs, Refuses, fault_of}
+use Rattle.radixvm_c.specs.Opening.{AreFiles, AreThere, IsFile, IsNoFile, RefusesFiles, IsGiven, OpensAs, Refuses, fault_of, limit_of}
 
 pub files_more : {A : Type 0} (buffer : List ℕ) (rs : List RawFile) (ss : List (FileSpec A)) (r : RawFile) (s : FileSpec A) → AreFiles buffer rs ss
     → IsFile buffer r s.mode s.bytes.items → AreFiles buffer (rs ++ r ∷ []) (ss ++ s ∷ [])
@@ -77,14 +77,14 @@ pub record IsAsked {A : Type 0} (setup : RawSetup) (files : List RawFile) (buffe
   pub calls : s.calls ≡ setup.calls
   pub are : AreFiles buffer files s.files.items
 
-pub opens_as : {A : Type 0} (setup : RawSetup) (files : List RawFile) (buffer : List ℕ) (s : Setup A) (slots : Slots) (w : World) → IsAsked setup files buffer s
-    → fault_of_setup s ≡ None → IsNew slots → w ≡ new_world (made_of s) slots → OpensAs setup files buffer w
-opens_as setup files buffer s slots w asked fine new is = (
+pub opens_as : {A : Type 0} (setup : RawSetup) (files : List RawFile) (buffer : List ℕ) (s : Setup A) (limit : CallLimit) (slots : Slots) (w : World)
+    → IsAsked setup files buffer s → fault_within limit s ≡ None → IsNew slots → w ≡ new_world (made_of s) slots → OpensAs setup files buffer w
+opens_as setup files buffer s limit slots w asked fine new is = (
   made_of s,
   slots,
   record {
     cores = asked.cores;
-    few = few_cores s fine;
+    few = few_cores_within limit s fine;
     frames = asked.frames;
     calls = asked.calls;
     file = λ n. given buffer files s.files.items n asked.are;
@@ -93,19 +93,26 @@ opens_as setup files buffer s slots w asked fine new is = (
   is,
 )
 
-same : (c d f g l m : ℕ) (b e : Bool) (k n : ℕ) → c ≡ d → f ≡ g → l ≡ m → b ≡ e → k ≡ n → first_fault c f l b k ≡ first_fault d g m e n
-same c d f g l m b e k n p q r s t =
-    ap (λ x. first_fault x f l b k) p ∙ ap (λ x. first_fault d x l b k) q ∙ ap (λ x. first_fault d g x b k) r ∙ ap (λ x. first_fault d g m x k) s
-    ∙ ap (λ x. first_fault d g m e x) t
+same : (i : CallLimit) (c d f g l m : ℕ) (b e : Bool) (k n : ℕ) → c ≡ d → f ≡ g → l ≡ m → b ≡ e → k ≡ n
+    → first_fault_within i c f l b k ≡ first_fault_within i d g m e n
+same i c d f g l m b e k n p q r s t =
+    ap (λ x. first_fault_within i x f l b k) p ∙ ap (λ x. first_fault_within i d x l b k) q ∙ ap (λ x. first_fault_within i d g x b k) r
+    ∙ ap (λ x. first_fault_within i d g m x k) s ∙ ap (λ x. first_fault_within i d g m e x) t
 
 same_fault : {A : Type 0} (setup : RawSetup) (files : List RawFile) (buffer : List ℕ) (s : Setup A) → IsAsked setup files buffer s
-    → fault_of_setup s ≡ fault_of setup files
+    → fault_within (limit_of setup) s ≡ fault_of setup files
 same_fault setup files buffer s asked =
-    same s.cores setup.cores s.frames setup.frames (length s.files.items) (length files) (has_long s.files.items)
+    same (limit_of setup) s.cores setup.cores s.frames setup.frames (length s.files.items) (length files) (has_long s.files.items)
     (list_any (λ (r : RawFile). is_too_long r.len) files) s.calls setup.calls asked.cores asked.frames
     (as_many buffer files s.files.items asked.are) (as_long buffer files s.files.items asked.are) asked.calls
 
-pub refuses_as : {A : Type 0} (setup : RawSetup) (files : List RawFile) (buffer : List ℕ) (s : Setup A) (fault : SetupFault) → IsAsked setup files buffer s
-    → IsFirstFault s fault → Refuses setup files buffer (By.Setup fault)
-refuses_as setup files buffer s fault asked (inl e) = inl (sym (same_fault setup files buffer s asked) ∙ e)
-refuses_as setup files buffer s fault asked (inr h) = inr (sym (same_fault setup files buffer s asked) ∙ h.0, h.1)
+pub refuses_as : {A : Type 0} (setup : RawSetup) (files : List RawFile) (buffer : List ℕ) (s : Setup A) (limit : CallLimit) (fault : SetupFault)
+    → IsAsked setup files buffer s → limit ≡ limit_of setup → IsFirstWithin limit s fault → Refuses setup files buffer (By.Setup fault)
+refuses_as setup files buffer s limit fault asked e first = by_case first
+  where
+    found : fault_of setup files ≡ fault_within limit s
+    found = sym (same_fault setup files buffer s asked) ∙ ap (λ i. fault_within i s) (sym e)
+
+    by_case : IsFirstWithin limit s fault → Refuses setup files buffer (By.Setup fault)
+    by_case (inl h) = inl (found ∙ h)
+    by_case (inr h) = inr (found ∙ h.0, h.1)

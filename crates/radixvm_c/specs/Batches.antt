@@ -207,6 +207,7 @@ refusal_done By.TooLong = record { status = 4; count = 0 }
 refusal_done (By.BadFile at) = record { status = 5; count = at }
 refusal_done By.Empty = record { status = 7; count = 0 }
 refusal_done By.InUse = record { status = 8; count = 0 }
+refusal_done By.NoLog = record { status = 10; count = 0 }
 refusal_done (By.Setup fault) = record { status = fault_code fault; count = 0 }
 
 abbrev pub done_of : Result Ended Refusal → Done

@@ -22,7 +22,7 @@ use Rattle.radixvm_c.specs.declared.codes.RawEvent.{RawEvent}
 use Rattle.radixvm_c.specs.declared.codes.RawOutcome.{RawOutcome}
 use Rattle.radixvm_c.specs.declared.codes.Item.{Item}
 use Rattle.radixvm_c.specs.declared.codes.Item.TheVariants as To
-use Rattle.radixvm_c.specs.Bits.{prot_of, flags_of}
+use Rattle.radixvm_c.specs.Bits.{prot_of, flags_of, bits_of_prot, bits_of_flags}
 
 -- ---- what C writes
 
@@ -118,6 +118,46 @@ abbrev pub item_of : RawEvent → Option Item
 item_of r =
     if nat_lt r.kind begin then item_with r (kind_of r.kind) (core_of r.core)
     else step_from (event_with r (kind_of (r.kind - begin)) (core_of r.core))
+
+-- ---- what is written for a call
+
+abbrev pub nothing : RawEvent
+nothing = record {
+  kind = 0;
+  core = 0;
+  at = 0;
+  len = 0;
+  file = 0;
+  off = 0;
+  prot = 0;
+  flags = 0;
+  byte = 0;
+}
+
+abbrev pub of_core : ℕ → ℕ → RawEvent
+of_core kind core = record nothing { kind = kind; core = core }
+
+abbrev pub of_place : ℕ → ℕ → ℕ → RawEvent
+of_place kind core at = record nothing { kind = kind; core = core; at = at }
+
+abbrev pub call_code : ℕ → Request → RawEvent
+call_code core (Asks.Mmap addr len prot flags file off) = record {
+  kind = 1;
+  core = core;
+  at = addr;
+  len = len;
+  file = file;
+  off = off;
+  prot = bits_of_prot prot;
+  flags = bits_of_flags flags;
+  byte = 0;
+}
+call_code core (Asks.Munmap addr len) = record (of_place 2 core addr) { len = len }
+call_code core (Asks.Mprotect addr len prot) =
+    record (of_place 3 core addr) { len = len; prot = bits_of_prot prot }
+call_code core (Asks.Load addr) = of_place 4 core addr
+call_code core (Asks.Store addr byte) = record (of_place 5 core addr) { byte = byte }
+call_code core (Asks.Fetch addr) = of_place 6 core addr
 
 -- ---- what C reads
 

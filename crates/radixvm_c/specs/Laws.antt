@@ -1,7 +1,12 @@
 -- Codes, in both directions
-use Rattle.std.specs.Prelude.{◌≡◌, ℕ, ◌+◌, ◌<◌, Option, None, Some, Result}
+use Rattle.std.specs.Prelude.{◌≡◌, ℕ, ◌+◌, ◌<◌, true, List, Option, None, Some, is_some, Result}
 use Rattle.vm_base.specs.declared.requests.Request.{Request}
 use Rattle.vm_base.specs.declared.requests.Request.TheVariants as Asks
+use Rattle.vm_base.specs.declared.replies.Reply.{Reply}
+use Rattle.vm_base.specs.declared.log.Entry.{Entry}
+use Rattle.vm_base.specs.Log.{nth}
+use Rattle.machine_model.specs.World.{World}
+use Rattle.machine_laws.specs.Brackets.{IsAnswer}
 use Rattle.machine_model.specs.declared.event.Event.{Event}
 use Rattle.machine_model.specs.declared.event.Event.TheVariants as Ev
 use Rattle.machine_model.specs.Events.{core_of as core_that_takes}
@@ -12,50 +17,13 @@ use Rattle.radixvm_c.specs.declared.codes.Item.TheVariants as To
 use Rattle.radixvm_c.specs.declared.batch.Ended.{Ended}
 use Rattle.radixvm_c.specs.declared.opening.Refusal.{Refusal}
 use Rattle.radixvm_c.specs.declared.held.Held.{Held}
-use Rattle.core_steps.specs.Machine.{state, IsLegal}
-use Rattle.radixvm_c.specs.Bits.{bits_of_prot, bits_of_flags}
-use Rattle.radixvm_c.specs.Codes.{begin, event_of, item_of, finished_code}
+use Rattle.core_steps.specs.Machine.{IsLegal}
+use Rattle.radixvm_c.specs.Codes.{of_core, of_place, call_code, begin, event_of, item_of, finished_code}
+use Rattle.radixvm_c.specs.Holding.{held_state}
+use Rattle.radixvm_c.specs.Logs.{entry_code}
 use Rattle.radixvm_c.specs.Batches.{done_of}
 
 -- ---- what C writes for an event
-
-abbrev pub nothing : RawEvent
-nothing = record {
-  kind = 0;
-  core = 0;
-  at = 0;
-  len = 0;
-  file = 0;
-  off = 0;
-  prot = 0;
-  flags = 0;
-  byte = 0;
-}
-
-abbrev pub of_core : ℕ → ℕ → RawEvent
-of_core kind core = record nothing { kind = kind; core = core }
-
-abbrev pub of_place : ℕ → ℕ → ℕ → RawEvent
-of_place kind core at = record nothing { kind = kind; core = core; at = at }
-
-abbrev pub call_code : ℕ → Request → RawEvent
-call_code core (Asks.Mmap addr len prot flags file off) = record {
-  kind = 1;
-  core = core;
-  at = addr;
-  len = len;
-  file = file;
-  off = off;
-  prot = bits_of_prot prot;
-  flags = bits_of_flags flags;
-  byte = 0;
-}
-call_code core (Asks.Munmap addr len) = record (of_place 2 core addr) { len = len }
-call_code core (Asks.Mprotect addr len prot) =
-    record (of_place 3 core addr) { len = len; prot = bits_of_prot prot }
-call_code core (Asks.Load addr) = of_place 4 core addr
-call_code core (Asks.Store addr byte) = record (of_place 5 core addr) { byte = byte }
-call_code core (Asks.Fetch addr) = of_place 6 core addr
 
 abbrev pub event_code : Event → RawEvent
 event_code (Ev.Call core request) = call_code core request
@@ -109,6 +77,11 @@ AllItemsHaveCodes = (i : Item) → IsSound i → item_of (item_code i) ≡ Some 
 abbrev pub AllOutcomesDiffer : Type 0
 AllOutcomesDiffer = (f g : Finished) → finished_code f ≡ finished_code g → f ≡ g
 
+-- entries of one log
+abbrev pub AllEntriesDiffer : Type 0
+AllEntriesDiffer =
+    (requests : List Request) (d e : Entry) → entry_code requests d ≡ entry_code requests e → d ≡ e
+
 -- the number of taken events is told beside the code of each end
 abbrev pub AllEndsDiffer : Type 0
 AllEndsDiffer = (r s : Result Ended Refusal) → done_of r ≡ done_of s → r ≡ s
@@ -116,4 +89,9 @@ AllEndsDiffer = (r s : Result Ended Refusal) → done_of r ≡ done_of s → r �
 -- ---- what a handle has
 
 abbrev pub AllHeldAreLegal : Type 0
-AllHeldAreLegal = (held : Held) → IsLegal (state held.machine)
+AllHeldAreLegal = (held : Held) → IsLegal (held_state held).world
+
+-- each answer of its log is of a call whose request is known, so that it is told
+abbrev pub AllAnswersHaveRequests : Type 0
+AllAnswersHaveRequests = (w : World) → IsLegal w → (place step call core : ℕ) (reply : Reply)
+    → IsAnswer w.calls.log place step call core reply → is_some (nth w.calls.requests call) ≡ true

@@ -6,4 +6,5 @@ pub mod Behind
 pub mod Handles
 pub mod Holding
 pub mod Maps
+pub mod Logs
 pub mod Laws

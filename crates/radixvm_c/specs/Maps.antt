@@ -14,7 +14,7 @@ use Rattle.radixvm_c.specs.declared.batch.Done.{Done}
 use Rattle.radixvm_c.specs.declared.maps.RawLine.{RawLine}
 use Rattle.radixvm_c.specs.Bits.{bits_of_prot}
 use Rattle.radixvm_c.specs.Batches.{is_past, done_of}
-use Rattle.radixvm_c.specs.Holding.{empty_done}
+use Rattle.radixvm_c.specs.Holding.{HeldState, empty_done}
 
 -- a line of which no file is told
 abbrev pub plain_code : MapLine → RawLine
@@ -51,7 +51,7 @@ ListsOn w was (Ok ended) told =
 ListsOn w was (Err refusal) told =
     (refusal ≡ By.TooLong) × (is_past (length was) ≡ true) × (told ≡ was)
 
-abbrev pub TellsMaps : Option World → List RawLine → Done → List RawLine → Type 0
+abbrev pub TellsMaps : Option HeldState → List RawLine → Done → List RawLine → Type 0
 TellsMaps None was done told = (done ≡ empty_done) × (told ≡ was)
-TellsMaps (Some w) was done told =
-    (r : Result Ended Refusal) × (done ≡ done_of r) × ListsOn w was r told
+TellsMaps (Some h) was done told =
+    (r : Result Ended Refusal) × (done ≡ done_of r) × ListsOn h.world was r told

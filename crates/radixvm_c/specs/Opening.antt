@@ -1,15 +1,17 @@
 -- What C asks a machine to be made with
 use Rattle.std.specs.Prelude.{◌≡◌, ℕ, zero, suc, ◌+◌, ◌≤◌, ◌<◌, ◌⊎◌, List, [], ◌∷◌, length, take, drop}
-use Rattle.std.specs.Prelude.{Option, None, Some, slice_get}
+use Rattle.std.specs.Prelude.{Option, None, Some, slice_get, Bool, not, ◌==◌, if◌then◌else◌}
 use Rattle.std.specs.List.{list_any}
 use Rattle.vm_base.specs.declared.rights.Mode.{Mode}
 use Rattle.vm_base.specs.declared.rights.Mode.TheVariants.{R, W, RW}
 use Rattle.vm_base.specs.Plain.{File, file_with}
 use Rattle.backing.specs.declared.file_spec.FileSpec.{FileSpec}
 use Rattle.slot_lock.specs.Slots.{Slots, IsNew}
+use Rattle.core_steps.specs.declared.setup.CallLimit.{CallLimit}
+use Rattle.core_steps.specs.declared.setup.CallLimit.TheVariants.{Usual, Long}
 use Rattle.core_steps.specs.declared.setup.SetupFault.{SetupFault}
 use Rattle.core_steps.specs.declared.setup.SetupFault.TheVariants as Fault
-use Rattle.core_steps.specs.Setups.{first_fault, is_too_long}
+use Rattle.core_steps.specs.Setups.{first_fault_within, is_too_long}
 use Rattle.machine_model.specs.World.{World, Made, new_world}
 use Rattle.radixvm_c.specs.declared.opening.RawSetup.{RawSetup}
 use Rattle.radixvm_c.specs.declared.opening.RawFile.{RawFile}
@@ -66,6 +68,7 @@ RefusesFiles buffer files By.TooLong = ⊥
 RefusesFiles buffer files By.NoRoom = ⊥
 RefusesFiles buffer files By.Empty = ⊥
 RefusesFiles buffer files By.InUse = ⊥
+RefusesFiles buffer files By.NoLog = ⊥
 
 -- ---- the machine
 
@@ -83,10 +86,20 @@ abbrev pub OpensAs : RawSetup → List RawFile → List ℕ → World → Type 0
 OpensAs setup files buffer w = (made : Made) × (slots : Slots) × IsMade setup files buffer made
     × IsNew slots × (w ≡ new_world made slots)
 
--- the first fault of what was asked for
+-- ---- what was asked for
+
+-- whether a log is to be kept
+abbrev pub wants_log : RawSetup → Bool
+wants_log setup = not (setup.log == 0)
+
+-- how many calls it may ask for: 1,048,576 with a log, else 2^40
+abbrev pub limit_of : RawSetup → CallLimit
+limit_of setup = if setup.log == 0 then Long else Usual
+
+-- its first fault
 abbrev pub fault_of : RawSetup → List RawFile → Option SetupFault
 fault_of setup files =
-    first_fault setup.cores setup.frames (length files)
+    first_fault_within (limit_of setup) setup.cores setup.frames (length files)
     (list_any (λ (r : RawFile). is_too_long r.len) files) setup.calls
 
 -- the setup has this fault first, or has none, and then a file isn't there, or there was no memory
@@ -99,3 +112,4 @@ Refuses setup files buffer By.TooLong = ⊥
 Refuses setup files buffer By.NoRoom = ⊥
 Refuses setup files buffer By.Empty = ⊥
 Refuses setup files buffer By.InUse = ⊥
+Refuses setup files buffer By.NoLog = ⊥

@@ -5,7 +5,7 @@ ghost use Rattle.radixvm_c.specs.Batches.{Takes, MakesOne, TakesItem, RunsFirst,
 ghost use Rattle.radixvm_c.specs.Batches.{RunsBatch, CallsBatch, refusal_of, fault_code, stop_code, refusal_done, done_of};
 
 use crate::codes::{Item, RawEvent, RawOutcome, event_of, finished_code, item_of, outcome_code};
-use crate::opening::{RawFile, RawSetup, Refusal, open};
+use crate::opening::{RawFile, RawSetup, Refusal, Space, open};
 use core_steps::{Finished, Ledger, Machine, SetupFault};
 use machine_model::Event;
 use slot_lock::SlotMap;
@@ -188,7 +188,7 @@ pub fn run_batch(
     if let Some(refusal) = refusal_of(files.len(), bytes.len(), raws.len(), told.len()) {
         return Err(refusal);
     }
-    let mut machine = open(alloc, setup, files, bytes)?;
+    let mut machine: Space = open(alloc, setup, files, bytes)?;
     Ok(run_events(&mut machine, raws, told))
 }
 
@@ -206,7 +206,7 @@ pub fn calls_batch(
     if let Some(refusal) = refusal_of(files.len(), bytes.len(), raws.len(), told.len()) {
         return Err(refusal);
     }
-    let mut machine = open(alloc, setup, files, bytes)?;
+    let mut machine: Space = open(alloc, setup, files, bytes)?;
     Ok(make_items(&mut machine, raws, told))
 }
 
@@ -267,6 +267,10 @@ pub fn refusal_done(refusal: Refusal) -> Done
         },
         Refusal::InUse => Done {
             status: 8,
+            count: 0,
+        },
+        Refusal::NoLog => Done {
+            status: 10,
             count: 0,
         },
         Refusal::Setup(fault) => Done {

@@ -1,7 +1,7 @@
 //! Rights, flags and sets of cores as numbers whose bits C sets and reads.
-ghost use Rattle.std.specs.Prelude.{◌≡◌, ◌<◌, ◌==◌, ◌*◌, ◌^◌};
+ghost use Rattle.std.specs.Prelude.{◌≡◌, ◌<◌, ◌==◌, ◌*◌, ◌^◌, cond};
 ghost use Rattle.std.specs.Int.{bit_at};
-ghost use Rattle.radixvm_c.specs.Bits.{prot_of, flags_of};
+ghost use Rattle.radixvm_c.specs.Bits.{prot_of, flags_of, bits_of_prot, bits_of_flags};
 
 use vm_base::{CoreId, CoreSet, Flags, Prot};
 
@@ -39,6 +39,26 @@ pub fn flags_of(bits: u32) -> Option<Flags>
         fixed: has_bit(bits, 4),
         anon: has_bit(bits, 5),
     })
+}
+
+fn bit(is: bool, value: u32) -> u32
+    ensures { result ≡ cond is value 0 }
+{
+    if is { value } else { 0 }
+}
+
+/// The bits of these rights.
+pub fn bits_of_prot(prot: Prot) -> u32
+    ensures { result ≡ bits_of_prot prot }
+{
+    bit(prot.read, 1) | bit(prot.write, 2) | bit(prot.exec, 4)
+}
+
+/// The bits of these flags.
+pub fn bits_of_flags(flags: Flags) -> u32
+    ensures { result ≡ bits_of_flags flags }
+{
+    bit(flags.shared, 1) | bit(flags.private, 2) | bit(flags.fixed, 16) | bit(flags.anon, 32)
 }
 
 // The core's bit where it is a member, else 0.

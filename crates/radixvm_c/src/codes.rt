@@ -2,9 +2,9 @@
 ghost use Rattle.std.specs.Prelude.{◌≡◌, ◌<◌};
 ghost use Rattle.radixvm_c.specs.Codes.{kind_of, core_of, request_at, event_at, event_with, event_of};
 ghost use Rattle.radixvm_c.specs.Codes.{item_of_event, item_at, item_with, item_of};
-ghost use Rattle.radixvm_c.specs.Codes.{errno_code, reply_code, outcome_code, finished_code};
+ghost use Rattle.radixvm_c.specs.Codes.{call_code, nothing, errno_code, reply_code, outcome_code, finished_code};
 
-use crate::bits::{bits_of, flags_of, prot_of};
+use crate::bits::{bits_of, bits_of_flags, bits_of_prot, flags_of, prot_of};
 use core_steps::Finished;
 use machine_model::{Blocker, Event, Outcome};
 use vm_base::{CoreId, Errno, Reply, Request, SegvCode};
@@ -74,7 +74,7 @@ const KINDS: [Kind; 18] = [
 
 /// An event, as C writes it.
 #[repr(C)]
-#[derive(Clone, Copy)]
+#[derive(Clone, Copy, Drop)]
 pub struct RawEvent {
     /// The code of its kind.
     pub kind: u32,
@@ -281,6 +281,81 @@ pub fn item_of(raw: &RawEvent) -> Option<Item>
     whole_item(raw)
 }
 
+/// What C writes for no event.
+pub fn nothing() -> RawEvent
+    ensures { result ≡ nothing }
+{
+    RawEvent {
+        kind: 0,
+        core: 0,
+        at: 0,
+        len: 0,
+        file: 0,
+        off: 0,
+        prot: 0,
+        flags: 0,
+        byte: 0,
+    }
+}
+
+/// What C writes for a call of the core.
+pub fn call_code(core: CoreId, request: Request) -> RawEvent
+    ensures { result ≡ call_code core request }
+{
+    let none = RawEvent {
+        core: u32::from(core.index()),
+        ..nothing()
+    };
+    match request {
+        Request::Mmap {
+            addr,
+            len,
+            prot,
+            flags,
+            file,
+            off,
+        } => RawEvent {
+            kind: 1,
+            at: addr,
+            len,
+            file,
+            off,
+            prot: bits_of_prot(prot),
+            flags: bits_of_flags(flags),
+            ..none
+        },
+        Request::Munmap { addr, len } => RawEvent {
+            kind: 2,
+            at: addr,
+            len,
+            ..none
+        },
+        Request::Mprotect { addr, len, prot } => RawEvent {
+            kind: 3,
+            at: addr,
+            len,
+            prot: bits_of_prot(prot),
+            ..none
+        },
+        Request::Load { addr } => RawEvent {
+            kind: 4,
+            at: addr,
+            ..none
+        },
+        Request::Store { addr, byte } => RawEvent {
+            kind: 5,
+            at: addr,
+            byte: u32::from(byte),
+            ..none
+        },
+        Request::Fetch { addr } => RawEvent {
+            kind: 6,
+            at: addr,
+            ..none
+        },
+    }
+}
+
 fn errno_code(errno: Errno) -> u64
     ensures { result ≡ errno_code errno }
 {
@@ -293,8 +368,9 @@ fn errno_code(errno: Errno) -> u64
     }
 }
 
+/// What C reads for the reply.
 #[inline(always)]
-fn reply_code(reply: Reply) -> RawOutcome
+pub fn reply_code(reply: Reply) -> RawOutcome
     ensures { result ≡ reply_code reply }
 {
     match reply {

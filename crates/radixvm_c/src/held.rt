@@ -1,15 +1,20 @@
 //! What lies behind a handle.
-use crate::opening::Space;
+use crate::opening::{LoggedSpace, Space};
 
 /// A machine that lives until C lets it go.
-pub struct Held {
-    /// The machine.
-    pub machine: Space,
+pub enum Held {
+    /// One without a log.
+    Plain(Space),
+    /// One that keeps its log.
+    Logged(LoggedSpace),
 }
 
-// A derived `Drop` of a struct that has a machine isn't covered.
+// A derived `Drop` of what has a machine isn't covered.
 impl Drop for Held {
     fn drop(self) {
-        let Held { machine: _machine } = self;
+        match self {
+            Held::Plain(_machine) => {}
+            Held::Logged(_machine) => {}
+        }
     }
 }

@@ -3,9 +3,10 @@
 
 ghost use Rattle.std.specs.Prelude.{◌≡◌, None};
 ghost use Rattle.radixvm_c.specs.Batches.{TellsRun, TellsCalls};
-ghost use Rattle.radixvm_c.specs.Holding.{world_in, TellsNew, TellsStep, TellsCall, TellsRunOn, TellsCallsOn};
+ghost use Rattle.radixvm_c.specs.Holding.{state_in, TellsNew, TellsStep, TellsCall, TellsRunOn, TellsCallsOn};
 ghost use Rattle.radixvm_c.specs.Holding.{cores_of, TellsEntry};
 ghost use Rattle.radixvm_c.specs.Maps.{TellsMaps};
+ghost use Rattle.radixvm_c.specs.Logs.{TellsLog};
 
 pub mod batch;
 mod bits;
@@ -14,20 +15,24 @@ pub mod handle;
 pub mod held;
 pub mod holding;
 pub mod laws;
+pub mod logs;
 pub mod loose;
 pub mod maps;
 pub mod opening;
 
-use crate::batch::{Done, calls_batch, done_of, refusal_done, run_batch, take_event, take_item};
+use crate::batch::{Done, calls_batch, done_of, refusal_done, run_batch};
 use crate::codes::{RawEvent, RawOutcome};
 use crate::handle::Handle;
-use crate::holding::{calls_on, entry_of, open_in, run_on, taken_code};
-use crate::maps::{RawLine, list_maps};
+use crate::holding::{
+    calls_on, entry_of, maps_of, open_in, run_on, take_event_on, take_item_on, taken_code,
+};
+use crate::logs::{RawEntry, show_log};
+use crate::maps::RawLine;
 use crate::opening::{RawFile, RawSetup, Refusal};
 use std::alloc::Global;
 
 /// The version that include/radixvm.h has.
-const VERSION: u32 = 2;
+const VERSION: u32 = 3;
 
 /// The code of an empty handle, where no `Done` is told.
 const EMPTY: u32 = 7;
@@ -38,7 +43,7 @@ const ABSENT: u32 = 9;
 /// The version of the codes and structs of `include/radixvm.h`.
 #[unsafe(no_mangle)]
 pub extern "C" fn radixvm_version() -> u32
-    ensures { result ≡ 2 }
+    ensures { result ≡ 3 }
 {
     VERSION
 }
@@ -84,8 +89,8 @@ pub extern "C" fn radixvm_new_held(
     bytes: &[u8],
     handle: &mut Handle,
 ) -> Done
-    ensures { TellsNew setup.now files.now bytes.now (world_in handle.old.value) result
-        (world_in handle.new.value) }
+    ensures { TellsNew setup.now files.now bytes.now (state_in handle.old.value) result
+        (state_in handle.new.value) }
 {
     match open_in(alloc, setup, files, bytes, handle) {
         Ok(()) => Done {
@@ -113,14 +118,13 @@ pub extern "C" fn radixvm_step_held(
     raw: &RawEvent,
     told: &mut RawOutcome,
 ) -> u32
-    ensures { TellsStep (world_in handle.old.value) raw.now told.old result told.new
-        (world_in handle.new.value) }
+    ensures { TellsStep (state_in handle.old.value) raw.now told.old result told.new
+        (state_in handle.new.value) }
 {
     if !handle.is_open() {
         return EMPTY;
     }
-    let held = handle.get_mut();
-    taken_code(take_event(&mut held.machine, raw, told))
+    taken_code(take_event_on(handle.get_mut(), raw, told))
 }
 
 /// Makes one call on the machine, to its end or until it waits, or takes what else a batch of calls
@@ -131,14 +135,13 @@ pub extern "C" fn radixvm_call_held(
     raw: &RawEvent,
     told: &mut RawOutcome,
 ) -> u32
-    ensures { TellsCall (world_in handle.old.value) raw.now told.old result told.new
-        (world_in handle.new.value) }
+    ensures { TellsCall (state_in handle.old.value) raw.now told.old result told.new
+        (state_in handle.new.value) }
 {
     if !handle.is_open() {
         return EMPTY;
     }
-    let held = handle.get_mut();
-    taken_code(take_item(&mut held.machine, raw, told))
+    taken_code(take_item_on(handle.get_mut(), raw, told))
 }
 
 /// Takes more events on the machine, as far as they can be taken.
@@ -148,14 +151,13 @@ pub extern "C" fn radixvm_run_held(
     raws: &[RawEvent],
     told: &mut [RawOutcome],
 ) -> Done
-    ensures { TellsRunOn (world_in handle.old.value) raws.now told.old result told.new
-        (world_in handle.new.value) }
+    ensures { TellsRunOn (state_in handle.old.value) raws.now told.old result told.new
+        (state_in handle.new.value) }
 {
     if !handle.is_open() {
         return refusal_done(Refusal::Empty);
     }
-    let held = handle.get_mut();
-    done_of(run_on(&mut held.machine, raws, told))
+    done_of(run_on(handle.get_mut(), raws, told))
 }
 
 /// Makes more calls on the machine, as far as they can be made.
@@ -165,26 +167,25 @@ pub extern "C" fn radixvm_calls_held(
     raws: &[RawEvent],
     told: &mut [RawOutcome],
 ) -> Done
-    ensures { TellsCallsOn (world_in handle.old.value) raws.now told.old result told.new
-        (world_in handle.new.value) }
+    ensures { TellsCallsOn (state_in handle.old.value) raws.now told.old result told.new
+        (state_in handle.new.value) }
 {
     if !handle.is_open() {
         return refusal_done(Refusal::Empty);
     }
-    let held = handle.get_mut();
-    done_of(calls_on(&mut held.machine, raws, told))
+    done_of(calls_on(handle.get_mut(), raws, told))
 }
 
 /// How many cores the machine has; 0 where there is none.
 #[unsafe(no_mangle)]
 pub extern "C" fn radixvm_cores_held(handle: &mut Handle) -> u64
-    ensures cores { result ≡ cores_of (world_in handle.old.value) }
+    ensures cores { result ≡ cores_of (state_in handle.old.value) }
     ensures same { handle.new.value ≡ handle.old.value }
 {
     if !handle.is_open() {
         return 0;
     }
-    holding::cores_of(&handle.get_mut().machine)
+    holding::cores_of(handle.get_mut())
 }
 
 /// Tells the word that the core's tables have for the page, 0 where they have none.
@@ -195,14 +196,13 @@ pub extern "C" fn radixvm_entry_held(
     page: u64,
     told: &mut u64,
 ) -> u32
-    ensures tells { TellsEntry (world_in handle.old.value) core page told.old result told.new }
+    ensures tells { TellsEntry (state_in handle.old.value) core page told.old result told.new }
     ensures same { handle.new.value ≡ handle.old.value }
 {
     if !handle.is_open() {
         return EMPTY;
     }
-    let held = handle.get_mut();
-    match entry_of(&held.machine, core, page) {
+    match entry_of(handle.get_mut(), core, page) {
         Some(word) => {
             *told = word;
             0
@@ -218,12 +218,23 @@ pub extern "C" fn radixvm_maps_held(
     handle: &mut Handle,
     told: &mut [RawLine],
 ) -> Done
-    ensures tells { TellsMaps (world_in handle.old.value) told.old result told.new }
+    ensures tells { TellsMaps (state_in handle.old.value) told.old result told.new }
     ensures same { handle.new.value ≡ handle.old.value }
 {
     if !handle.is_open() {
         return refusal_done(Refusal::Empty);
     }
-    let held = handle.get_mut();
-    done_of(list_maps(alloc, &held.machine, told))
+    done_of(maps_of(alloc, handle.get_mut(), told))
+}
+
+/// Tells the log, as far as there is room, and how many entries it has.
+#[unsafe(no_mangle)]
+pub extern "C" fn radixvm_log_held(handle: &mut Handle, told: &mut [RawEntry]) -> Done
+    ensures tells { TellsLog (state_in handle.old.value) told.old result told.new }
+    ensures same { handle.new.value ≡ handle.old.value }
+{
+    if !handle.is_open() {
+        return refusal_done(Refusal::Empty);
+    }
+    done_of(show_log(handle.get_mut(), told))
 }

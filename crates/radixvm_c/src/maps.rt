@@ -1,14 +1,16 @@
 //! The list of mappings, as C reads it.
-ghost use Rattle.std.specs.Prelude.{◌≡◌, ◌++◌, cond, length, take, drop, map};
+ghost use Rattle.std.specs.Prelude.{◌≡◌};
 ghost use Rattle.core_steps.specs.Machine.{state};
-ghost use Rattle.radixvm_c.specs.Bits.{bits_of_prot};
-ghost use Rattle.radixvm_c.specs.Maps.{line_code, ListsOn};
+ghost use Rattle.radixvm_c.specs.Maps.{line_code, told_lines, ListsOn};
 
 use crate::batch::{Ended, LENGTH_LIMIT, Stop};
-use crate::opening::{Refusal, Space};
+use crate::bits::bits_of_prot;
+use crate::opening::Refusal;
+use core_steps::{Ledger, Machine};
 use map_list::MapLine;
-use std::alloc::Global;
-use vm_base::{Back, Prot};
+use slot_lock::SlotMap;
+use std::alloc::{Allocator, Global};
+use vm_base::Back;
 
 /// Neighbouring pages with the same protection, whose backing goes on from page to page, as C reads
 /// them.
@@ -27,19 +29,6 @@ pub struct RawLine {
     pub back: u32,
     /// Rights, by bits.
     pub prot: u32,
-}
-
-fn bit(is: bool, value: u32) -> u32
-    ensures { result ≡ cond is value 0 }
-{
-    if is { value } else { 0 }
-}
-
-/// The bits of these rights.
-pub fn bits_of_prot(prot: Prot) -> u32
-    ensures { result ≡ bits_of_prot prot }
-{
-    bit(prot.read, 1) | bit(prot.write, 2) | bit(prot.exec, 4)
 }
 
 /// What C reads of a line.
@@ -73,8 +62,7 @@ pub fn line_code(line: &MapLine) -> RawLine
 
 // The lines, as far as there is room. Places without a line stay as they were.
 fn tell_lines(lines: &[MapLine], told: &mut [RawLine])
-    ensures { told.new ≡ map line_code (take (length told.old) lines.now)
-        ++ drop (length lines.now) told.old }
+    ensures { told.new ≡ told_lines lines.now told.old }
 {
     'lines: for at in 0..lines.len().min(told.len()) {
         told[at] = line_code(&lines[at]);
@@ -83,7 +71,11 @@ fn tell_lines(lines: &[MapLine], told: &mut [RawLine])
 
 /// All mappings, as far as there is room; the count tells how many there are. Where memory is refused,
 /// or the buffer is said to be too long, nothing is told.
-pub fn list_maps(alloc: Global, machine: &Space, told: &mut [RawLine]) -> Result<Ended, Refusal>
+pub fn list_maps<M: SlotMap, A: Allocator + Clone, L: Ledger>(
+    alloc: Global,
+    machine: &Machine<M, A, L>,
+    told: &mut [RawLine],
+) -> Result<Ended, Refusal>
     ensures { ListsOn (state machine.now) told.old result told.new }
 {
     if told.len() as u64 > LENGTH_LIMIT {

@@ -2,14 +2,16 @@
 ghost use Rattle.std.specs.Prelude.{◌≡◌, None, IfOk, IfErr, length};
 ghost use Rattle.std.specs.List.{list_any};
 ghost use Rattle.core_steps.specs.Machine.{state};
-ghost use Rattle.core_steps.specs.Setups.{is_too_long};
+ghost use Rattle.core_steps.specs.Setups.{is_too_long, Fits};
 ghost use Rattle.radixvm_c.specs.Opening.{mode_of, AreFiles, IsFile, IsNoFile, RefusesFiles, OpensAs};
-ghost use Rattle.radixvm_c.specs.Opening.{Refuses, fault_of};
+ghost use Rattle.radixvm_c.specs.Opening.{Refuses, fault_of, limit_of};
 ghost use Rattle.radixvm_c.specs.declared.opening.FileFault.TheVariants as Why;
 ghost use Rattle.radixvm_c.specs.declared.opening.RawFile.{RawFile as RawFileOf};
 
 use backing::FileSpec;
-use core_steps::{Forgotten, Machine, Setup, SetupFault, first_fault};
+use core_steps::{
+    CallLimit, Forgotten, Kept, Machine, Opening, Setup, SetupFault, first_fault_within,
+};
 use radix_range::RadixMap;
 use std::alloc::Global;
 use vm_base::Mode;
@@ -24,6 +26,8 @@ pub struct RawSetup {
     pub frames: u64,
     /// How many calls may begin.
     pub calls: u64,
+    /// 0 where a machine that C holds is to keep no log.
+    pub log: u32,
 }
 
 /// A file that is open from the start, as C writes it. Its bytes lie in one buffer with those of the
@@ -54,6 +58,8 @@ pub enum Refusal {
     Empty,
     /// The handle has a machine already.
     InUse,
+    /// The machine keeps no log.
+    NoLog,
 }
 
 /// Why a file isn't opened.
@@ -65,8 +71,14 @@ pub enum FileFault {
     NoMemory,
 }
 
-/// A machine over a tree of slots, without a log.
-pub type Space = Machine<RadixMap<Global>, Global, Forgotten>;
+/// A machine over a tree of slots, with this ledger.
+pub type Over<L> = Machine<RadixMap<Global>, Global, L>;
+
+/// A machine without a log.
+pub type Space = Over<Forgotten>;
+
+/// A machine that keeps its log.
+pub type LoggedSpace = Over<Kept<Global>>;
 
 /// All modes, in the order of their codes.
 const MODES: [Mode; 3] = [Mode::R, Mode::W, Mode::RW];
@@ -134,20 +146,36 @@ fn has_long(files: &[RawFile]) -> bool
     files.iter().any(|file| file.len > 1_048_576)
 }
 
-/// A new machine with what C asked for. At an error nothing is made: it tells the first fault of the
-/// setup, or else the first file that isn't there, or else that memory was refused.
-pub fn open(
+// How many calls the setup may ask for at the most: fewer where the log is kept, since there is room
+// for all of it from the start.
+fn limit_of(setup: &RawSetup) -> CallLimit
+    ensures { result ≡ limit_of setup.now }
+{
+    if setup.log == 0 {
+        CallLimit::Long
+    } else {
+        CallLimit::Usual
+    }
+}
+
+/// A new machine with what C asked for, but for the log, which is its ledger's. At an error nothing is
+/// made: it tells the first fault of the setup, or else the first file that isn't there, or else that
+/// memory was refused.
+pub fn open<L: Opening<Global> + Drop>(
     alloc: Global,
     setup: &RawSetup,
     files: &[RawFile],
     bytes: &[u8],
-) -> Result<Space, Refusal>
+) -> Result<Over<L>, Refusal>
+    requires { Fits L.keeps (limit_of setup.now) }
     ensures ok { IfOk result (λ machine. OpensAs setup.now files.now bytes.now (state machine)) }
     ensures fine { IfOk result (λ machine. fault_of setup.now files.now ≡ None) }
     ensures err { IfErr result (λ refusal. Refuses setup.now files.now bytes.now refusal) }
 {
+    let limit = limit_of(setup);
     let long = has_long(files);
-    if let Some(fault) = first_fault(
+    if let Some(fault) = first_fault_within(
+        limit,
         setup.cores,
         setup.frames,
         files.len() as u64,
@@ -166,7 +194,7 @@ pub fn open(
         files: given,
         calls: setup.calls,
     };
-    match Machine::new(alloc, map, wanted) {
+    match Machine::new_within(limit, alloc, map, wanted) {
         Ok(machine) => Ok(machine),
         Err(fault) => Err(Refusal::Setup(fault)),
     }

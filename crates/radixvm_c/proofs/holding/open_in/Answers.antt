@@ -1,10 +1,10 @@
 use Rattle.std.proofs.Common.{Some, sym, ap, ◌∙◌}
-use Rattle.radixvm_c.specs.Holding.{world_in}
+use Rattle.radixvm_c.specs.Holding.{state_in}
 use Rattle.radixvm_c.proofs.Holdings.{is_none_in}
 use Rattle.radixvm_c.proofs.holding.open_in.Goals as goal
 
 pub returns : goal.returns
 returns c = (
-  ap world_in (is_none_in _ (sym c.if-is_open.ensures.value)),
-  (_, c.in_ok-machine.ensures.ok, ap world_in (c.put.ensures ∙ ap Some c.in-Ok.ensures.ok)),
+  ap state_in (is_none_in _ (sym c.if-is_open.ensures.value)),
+  (_, c.in_ok-held.ensures.ok, ap state_in (c.put.ensures ∙ ap Some c.in-Ok.ensures.ok)),
 )

@@ -1,7 +1,8 @@
 use Rattle.std.proofs.Common.{ap, ◌∙◌}
 use Rattle.std.specs.Prelude.{slice_set}
 use Rattle.std.proofs.lemmas.List.{length-set}
-use Rattle.radixvm_c.proofs.Listing.{line_more, below_both}
+use Rattle.radixvm_c.specs.Maps.{line_code}
+use Rattle.radixvm_c.proofs.Listing.{one_more, below_both}
 use Rattle.radixvm_c.proofs.maps.tell_lines.Goals as goal
 
 pub lines-preserved : goal.lines-preserved
@@ -9,6 +10,6 @@ lines-preserved c =
     let low = below_both c.lines.at _ _ _ c.min-at-end.ensures c.lines-test.true in
     record {
       told = ap (λ x. slice_set c.lines.told c.lines.at x) c.line_code.ensures
-          ∙ line_more c.args.lines.now c.lines.at _ c.args.told.now c.lines.told low.0 low.1 c.lines.invariant.told;
+          ∙ one_more line_code c.args.lines.now c.lines.at _ c.args.told.now c.lines.told low.0 low.1 c.lines.invariant.told;
       room = length-set c.lines.told c.lines.at _ ∙ c.lines.invariant.room;
     }
