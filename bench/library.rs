@@ -22,6 +22,7 @@ struct Setup {
     cores: u64,
     frames: u64,
     calls: u64,
+    log: u32,
 }
 
 #[repr(C)]
@@ -122,7 +123,7 @@ fn one_by_one(setup: &Setup, events: &[Event], told: &mut [Told]) {
 fn time(calls: &[(Event, Request)]) -> (f64, f64, f64) {
     let events: Vec<_> = calls.iter().map(|call| call.0).collect();
     let mut told = vec![Told::default(); calls.len()];
-    let setup = Setup { cores: 1, frames: FRAMES, calls: CALLS };
+    let setup = Setup { cores: 1, frames: FRAMES, calls: CALLS, log: 0 };
     let (bytes, start) = ([0u8; 32], Instant::now());
     // SAFETY: each pointer is a slice's with its length, or one of length 0 that is aligned and not null.
     let done = unsafe {

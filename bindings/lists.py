@@ -1,12 +1,13 @@
 #!/usr/bin/env python3
 """Random traces, given to a command and to ./radixvm run, which must write the same.
-Usage: lists.py ROUNDS PROGRAM COMMAND WORD..; with `steps` last only lines that are one event."""
+Usage: lists.py ROUNDS PROGRAM COMMAND WORD..; with `steps` last only lines that are one event, with `log` beside run --log."""
 import random
 import subprocess
 import sys
 
 rounds, program, command = int(sys.argv[1]), sys.argv[2], sys.argv[3:]
 by_steps = "steps" in command
+words = ["run", "--log"] if "log" in command else ["run"]
 
 
 def request(rng):
@@ -44,8 +45,8 @@ for seed in range(rounds):
     # a core past the last is bad to the program's reader where it is above 63 alone
     trace = "\n".join(lines) + "\n"
     ours = subprocess.run(command, input=trace, capture_output=True, text=True, timeout=60)
-    theirs = subprocess.run([program, "run"], input=trace, capture_output=True, text=True, timeout=120)
-    if (ours.stdout, ours.returncode) != (theirs.stdout, theirs.returncode) or len(ours.stdout.splitlines()) != 400:
+    theirs = subprocess.run([program, *words], input=trace, capture_output=True, text=True, timeout=120)
+    if (ours.stdout, ours.returncode) != (theirs.stdout, theirs.returncode) or ours.stdout.count("\n") - ours.stdout.count("log ") != 400:
         print(f"seed {seed}: {ours.returncode} {ours.stderr!r}, {theirs.returncode} {theirs.stderr!r}")
         for number, (a, b, said) in enumerate(zip(ours.stdout.splitlines(), theirs.stdout.splitlines(), lines[3:])):
             if a != b:

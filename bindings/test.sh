@@ -1,7 +1,7 @@
 #!/usr/bin/env bash
 # Compiles the header and the examples of bindings/ over libradixvm.a (`./radixvm --build-library`), the C side with the
 # sanitizers of addresses and of undefined behaviour, by gcc and by clang, and runs them: a page-table walker beside batches and beside a
-# machine that is kept, kept machines beside batches, a shadow checker with and without a bug, what is out of range and memory that is
+# machine that is kept, kept machines beside batches, logs beside what was told, a shadow checker with and without a bug, what is out of range and memory that is
 # refused, the worked rows of crates/acceptance, examples/, random traces beside the program where it is built, and the Rust crate's tests
 # and its walkers where there is cargo. SEEDS, 20 where it isn't given, is how many walks, and how many random traces of each kind, are made.
 # Usage: bindings/test.sh [--skip-without-compiler] [SEEDS]
@@ -57,11 +57,12 @@ walk() { # NAME
 
 try_with() { # COMPILER
     echo "-- C programs by $1"
-    for name in walker beside kept shadow bad trace; do compile "$1" $name $name; done
+    for name in walker beside kept log shadow bad trace; do compile "$1" $name $name; done
     compile "$1" bad refused -DREFUSE -Wno-pedantic -Wl,--wrap=malloc,--wrap=realloc
     walk walker
     walk beside
     walk kept
+    walk log
     "$work/shadow"
     if "$work/shadow" bug > "$work/out"; then
         echo "bindings/test.sh: the shadow checker didn't find the bug" >&2
@@ -86,7 +87,7 @@ for name in $examples; do
 done
 echo "examples: the same text as in examples/ for $examples"
 if [ -x "$program" ]; then
-    for way in "" steps kept "kept steps"; do python3 "$top/bindings/lists.py" "$seeds" "$program" "$work/trace" $way; done
+    for way in "" steps kept "kept steps" log "log steps"; do python3 "$top/bindings/lists.py" "$seeds" "$program" "$work/trace" $way; done
 else
     echo "random traces: not compared, since the program isn't built ($program)"
 fi

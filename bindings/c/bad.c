@@ -55,7 +55,10 @@ static void try_none(radixvm_machine *place, uint32_t status) {
     const radixvm_event event = load(RADIXVM_LOAD, 0);
     radixvm_outcome told = {77, 77};
     radixvm_line line = {77, 77, 77, 77, 77, 77};
+    radixvm_log_entry entry;
     uint64_t word = 77;
+    memset(&entry, 77, sizeof entry);
+    expect("log of none", radixvm_log(place, &entry, 1), status, 0);
     expect_status("step on none", radixvm_step(place, &event, &told), status);
     expect_status("call on none", radixvm_call(place, &event, &told), status);
     expect_status("begin on none", radixvm_begin(place, &event, &told), status);
@@ -67,12 +70,12 @@ static void try_none(radixvm_machine *place, uint32_t status) {
     expect_status("cores of none", (uint32_t)radixvm_cores(place), 0);
     radixvm_free(place);
     tried++;
-    if (told.kind != 77 || told.value != 77 || line.first != 77 || word != 77) wrong++, printf("something was told of none\n");
+    if (told.kind != 77 || told.value != 77 || line.first != 77 || word != 77 || (uint8_t)entry.kind != 77) wrong++, printf("something was told of none\n");
 }
 
 /* A machine that is kept: made once, looked at, and freed. */
 static void keep_one(void) {
-    const radixvm_setup setup = {2, 4, 100}, bad = {65, 4, 100};
+    const radixvm_setup setup = {2, 4, 100, 0}, bad = {65, 4, 100, 0};
     const uint32_t fixed = RADIXVM_MAP_PRIVATE | RADIXVM_MAP_FIXED | RADIXVM_MAP_ANONYMOUS;
     const radixvm_event map = {RADIXVM_MMAP, 1, 0x10000, 0x2000, 0, 0, 3, fixed, 0}, store = {RADIXVM_STORE, 1, 0x10000, 0, 0, 0, 0, 0, 7};
     radixvm_machine place = {0};
@@ -114,12 +117,53 @@ static void keep_one(void) {
     expect("its pages", (radixvm_done){(uint32_t)lines[0].first, lines[0].end}, 16, 18);
     expect("its rights", (radixvm_done){lines[0].prot, lines[0].back}, 3, RADIXVM_BACK_ZEROS);
     expect("no other", (radixvm_done){(uint32_t)lines[1].first, lines[1].end}, 77, 77);
+    expect("no log", radixvm_log(&place, NULL, 0), RADIXVM_NO_LOG, 0);
+    radixvm_free(&place);
+    try_none(&place, RADIXVM_EMPTY);
+}
+
+/* A machine that keeps its log: a store to a private page of a file gets it a copy, and its reply. */
+static void keep_logged(void) {
+    const radixvm_setup setup = {2, 4, 100, 1}, most = {2, 4, 1048576, 1}, past = {2, 4, 1048577, 1};
+    const radixvm_event map = {RADIXVM_MMAP, 1, 0x10000, 0x1000, 0, 0, 3, RADIXVM_MAP_PRIVATE | RADIXVM_MAP_FIXED, 0};
+    const radixvm_event load_it = load(RADIXVM_LOAD, 1), store = {RADIXVM_STORE, 1, 0x10001, 77, 77, 77, 77, 77, 7};
+    const radixvm_file file = {RADIXVM_O_RDONLY, 0, 4};
+    const uint8_t bytes[4] = {1, 2, 3, 4};
+    radixvm_machine place = {0};
+    radixvm_outcome told = {0, 0};
+    radixvm_log_entry log[5];
+    memset(log, 77, sizeof log);
+    expect("a log of 1048577 calls", radixvm_new(&past, &file, 1, bytes, 4, &place), RADIXVM_BAD_CALLS, 0);
+    expect("a log of 1048576 calls", radixvm_new(&most, &file, 1, bytes, 4, &place), RADIXVM_OK, 0);
+    radixvm_free(&place);
+    expect("a machine with a log", radixvm_new(&setup, &file, 1, bytes, 4, &place), RADIXVM_OK, 0);
+    expect("an empty log", radixvm_log(&place, NULL, 0), RADIXVM_OK, 0);
+    expect_status("mapped", radixvm_call(&place, &map, &told), RADIXVM_OK);
+    expect_status("loaded", radixvm_call(&place, &load_it, &told), RADIXVM_OK);
+    expect_status("stored", radixvm_call(&place, &store, &told), RADIXVM_OK);
+    expect("log, null", radixvm_log(&place, NULL, 1), RADIXVM_NULL, 0);
+    expect("log, room for 2^63", radixvm_log(&place, log, (size_t)1 << 63), RADIXVM_TOO_LONG, 0);
+    expect("log, no room", radixvm_log(&place, NULL, 0), RADIXVM_OK, 4);
+    expect("log, room for one", radixvm_log(&place, log, 1), RADIXVM_OK, 4);
+    expect("one is told", (radixvm_done){log[0].kind, log[1].kind}, RADIXVM_ENTRY_REPLY, 0x4d4d4d4d);
+    expect("log", radixvm_log(&place, log, 5), RADIXVM_OK, 4);
+    expect("no other entry", (radixvm_done){log[4].kind, log[4].page}, 0x4d4d4d4d, 0x4d4d4d4d4d4d4d4d);
+    expect("its first call", (radixvm_done){log[0].asked.kind, log[0].asked.at}, RADIXVM_MMAP, 0x10000);
+    expect("with its length and flags", (radixvm_done){log[0].asked.flags, log[0].asked.len}, map.flags, 0x1000);
+    expect("its reply", (radixvm_done){log[0].reply.kind, log[0].reply.value}, RADIXVM_MAPPED, 0x10000);
+    expect("the byte of the file", (radixvm_done){log[1].reply.kind, log[1].reply.value}, RADIXVM_BYTE, 1);
+    expect("a copy", (radixvm_done){log[2].kind, log[2].page}, RADIXVM_ENTRY_COPY, 16);
+    expect("for the third call", (radixvm_done){log[2].asked.kind, log[2].call}, 0, 3);
+    expect("the store", (radixvm_done){log[3].core, log[3].call}, 1, 3);
+    expect("as it was asked for", (radixvm_done){log[3].asked.byte, log[3].asked.at}, 7, 0x10001);
+    expect("and nothing besides", (radixvm_done){log[3].asked.prot, log[3].asked.len}, 0, 0);
+    expect("it is answered", (radixvm_done){log[3].reply.kind, log[3].page}, RADIXVM_DONE, 0);
     radixvm_free(&place);
     try_none(&place, RADIXVM_EMPTY);
 }
 
 static void try_all(batch *run, int whole) {
-    const radixvm_setup good = {2, 4, 100};
+    const radixvm_setup good = {2, 4, 100, 0};
     radixvm_outcome told[4];
     radixvm_event events[4];
     memset(told, 0, sizeof told);
@@ -134,7 +178,7 @@ static void try_all(batch *run, int whole) {
     expect("room for 2^63", run(&good, NULL, 0, NULL, 0, events, 1, told, (size_t)1 << 63), RADIXVM_TOO_LONG, 0);
     expect("2^63 bytes", run(&good, NULL, 0, (const uint8_t *)told, (size_t)1 << 63, events, 1, told, 4), RADIXVM_TOO_LONG, 0);
     expect("no room", run(&good, NULL, 0, NULL, 0, events, 2, told, 1), RADIXVM_NO_ROOM, 0);
-    radixvm_setup bad = {0, 4, 100};
+    radixvm_setup bad = {0, 4, 100, 0};
     expect("no core", run(&bad, NULL, 0, NULL, 0, events, 1, told, 4), RADIXVM_BAD_CORES, 0);
     bad.cores = 65;
     expect("65 cores", run(&bad, NULL, 0, NULL, 0, events, 1, told, 4), RADIXVM_BAD_CORES, 0);
@@ -142,8 +186,15 @@ static void try_all(batch *run, int whole) {
     bad.frames = 65537;
     expect("65537 frames", run(&bad, NULL, 0, NULL, 0, events, 1, told, 4), RADIXVM_BAD_FRAMES, 0);
     bad.frames = 0;
+    bad.calls = ((uint64_t)1 << 40) + 1;
+    expect("2^40 + 1 calls", run(&bad, NULL, 0, NULL, 0, events, 1, told, 4), RADIXVM_BAD_CALLS, 0);
+    bad.calls--;
+    expect("2^40 calls", run(&bad, NULL, 0, NULL, 0, events, 0, told, 4), RADIXVM_OK, 0);
+    bad.log = 2;
     bad.calls = 1048577;
-    expect("1048577 calls", run(&bad, NULL, 0, NULL, 0, events, 1, told, 4), RADIXVM_BAD_CALLS, 0);
+    expect("1048577 calls with a log", run(&bad, NULL, 0, NULL, 0, events, 1, told, 4), RADIXVM_BAD_CALLS, 0);
+    bad.calls--;
+    expect("1048576 calls with a log", run(&bad, NULL, 0, NULL, 0, events, 0, told, 4), RADIXVM_OK, 0);
     radixvm_file files[17];
     const uint8_t bytes[4] = {1, 2, 3, 4};
     memset(files, 0, sizeof files);
@@ -193,7 +244,7 @@ static void try_all(batch *run, int whole) {
 
 /* Lengths of 2^63 of a call are answered as POSIX says. */
 static void long_calls(void) {
-    const radixvm_setup setup = {1, 4, 100};
+    const radixvm_setup setup = {1, 4, 100, 0};
     const uint32_t fixed = RADIXVM_MAP_PRIVATE | RADIXVM_MAP_FIXED | RADIXVM_MAP_ANONYMOUS;
     const uint64_t long_one = (uint64_t)1 << 63;
     const radixvm_event events[] = {
@@ -224,7 +275,7 @@ void *__wrap_realloc(void *at, size_t size) { return is_refused() ? NULL : __rea
 /* From the n-th block on each is refused, for each n until all goes well: what is told is a beginning of what is told
  * where memory is ample, and the batch ends by the code of the machine, or of the event that found none. */
 static void refuse_each(void) {
-    const radixvm_setup setup = {2, 4, 100};
+    const radixvm_setup setup = {2, 4, 100, 0};
     const uint32_t fixed = RADIXVM_MAP_PRIVATE | RADIXVM_MAP_FIXED | RADIXVM_MAP_ANONYMOUS;
     const radixvm_event events[] = {
         {RADIXVM_MMAP, 0, 0x10000, 0x4000, 0, 0, 3, fixed, 0}, {RADIXVM_STORE, 0, 0x10000, 0, 0, 0, 0, 0, 7},
@@ -260,7 +311,7 @@ static void refuse_each(void) {
 /* The same calls on a machine that is kept: where one finds no memory it is finished once there is some, and each reply is
  * as where memory is ample. The list of mappings is told, or refused, likewise. */
 static void refuse_kept(void) {
-    const radixvm_setup setup = {2, 4, 100};
+    const radixvm_setup setup = {2, 4, 100, 0};
     const uint32_t fixed = RADIXVM_MAP_PRIVATE | RADIXVM_MAP_FIXED | RADIXVM_MAP_ANONYMOUS;
     const radixvm_event events[] = {
         {RADIXVM_MMAP, 0, 0x10000, 0x4000, 0, 0, 3, fixed, 0}, {RADIXVM_STORE, 0, 0x10000, 0, 0, 0, 0, 0, 7},
@@ -316,6 +367,7 @@ int main(void) {
     try_all(run_kept, 0);
     try_all(calls_kept, 1);
     keep_one();
+    keep_logged();
     long_calls();
 #ifdef REFUSE
     refuse_each();

@@ -33,7 +33,7 @@ static int lists_agree(radixvm_machine *machine) {
 }
 
 int main(int argc, char **argv) {
-    const radixvm_setup setup = {1, CALLS, CALLS};
+    const radixvm_setup setup = {1, CALLS, CALLS, 0};
     radixvm_machine machine = {0};
     if (argc > 1) seed = strtoull(argv[1], NULL, 0);
     radixvm_done made = radixvm_new(&setup, NULL, 0, NULL, 0, &machine);

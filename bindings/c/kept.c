@@ -6,7 +6,7 @@
 #include <string.h>
 
 enum { EVENTS = 5000, CALLS = 3000 };
-static const radixvm_setup SETUP = {2, 24, CALLS};
+static const radixvm_setup SETUP = {2, 24, CALLS, 0};
 static uint64_t seed = 1;
 
 static uint64_t random_below(uint64_t n) {

@@ -39,7 +39,7 @@ int main(int argc, char **argv) {
         {RADIXVM_LOAD, 0, 0x13000, 0, 0, 0, 0, 0, 0},
     };
     enum { COUNT = sizeof calls / sizeof *calls };
-    const radixvm_setup setup = {1, 64, 4096};
+    const radixvm_setup setup = {1, 64, 4096, 0};
     radixvm_outcome own[COUNT];
     for (size_t i = 0; i < COUNT; i++) own[i] = own_reply(&calls[i], argc > 1 && !strcmp(argv[1], "bug"));
     size_t at = shadow_check(&setup, calls, own, COUNT, stdout);

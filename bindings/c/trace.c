@@ -1,6 +1,6 @@
 /* Runs a trace, as `./radixvm run` does, through the library: one batch of all lines.
- * Usage: trace [kept] [steps] < TRACE; with `steps` each event is one line (radixvm_run), with `kept` each line is given
- * by itself to a machine that is kept. */
+ * Usage: trace [kept | log] [steps] < TRACE; with `steps` each event is one line (radixvm_run), with `kept` each line is
+ * given by itself to a machine that is kept, and with `log` its log comes behind, as `./radixvm run --log` writes it. */
 #include "radixvm.h"
 #include <stdio.h>
 #include <stdlib.h>
@@ -109,7 +109,25 @@ static void tell(radixvm_outcome o) {
     }
 }
 
-/* The events one by one, on a machine that is kept. */
+static void tell_log(radixvm_machine *machine) {
+    const radixvm_done all = radixvm_log(machine, NULL, 0);
+    radixvm_log_entry *entries = calloc(all.count + 1, sizeof *entries);
+    if (!entries || all.status != RADIXVM_OK) die("no log", 0);
+    const radixvm_done done = radixvm_log(machine, entries, all.count);
+    if (done.status != RADIXVM_OK || done.count != all.count) die("another log", 0);
+    for (uint64_t i = 0; i < done.count; i++) {
+        printf("log %llu ", (unsigned long long)entries[i].step);
+        if (entries[i].kind == RADIXVM_ENTRY_COPY) {
+            printf("detach 0x%llx\n", (unsigned long long)entries[i].page * 4096);
+        } else {
+            printf("call %llu ", (unsigned long long)entries[i].call);
+            tell(entries[i].reply);
+        }
+    }
+    free(entries);
+}
+
+/* The events one by one, on a machine that is kept; at the end its log, if it has one. */
 static radixvm_done run_kept(int by_steps, const radixvm_setup *setup, const radixvm_file *files, size_t file_count,
     const uint8_t *bytes, size_t byte_count, const radixvm_event *events, size_t count, radixvm_outcome *outcomes) {
     radixvm_machine machine = {0};
@@ -117,15 +135,17 @@ static radixvm_done run_kept(int by_steps, const radixvm_setup *setup, const rad
     while (done.status == RADIXVM_OK && done.count < count) {
         done.status = by_steps ? radixvm_step(&machine, &events[done.count], &outcomes[done.count])
             : radixvm_call(&machine, &events[done.count], &outcomes[done.count]);
-        done.count += done.status == RADIXVM_OK;
+        if (done.status == RADIXVM_OK) tell(outcomes[done.count++]);
     }
+    if (done.status == RADIXVM_OK && setup->log) tell_log(&machine);
     radixvm_free(&machine);
     return done;
 }
 
 int main(int argc, char **argv) {
-    int by_steps = argc > 1 && !strcmp(argv[argc - 1], "steps"), kept = argc > 1 && !strcmp(argv[1], "kept");
-    radixvm_setup setup = {1, 0, 4096};
+    int by_steps = argc > 1 && !strcmp(argv[argc - 1], "steps"), logged = argc > 1 && !strcmp(argv[1], "log");
+    int kept = logged || (argc > 1 && !strcmp(argv[1], "kept"));
+    radixvm_setup setup = {1, 0, 4096, (uint32_t)logged};
     static radixvm_file files[16];
     static uint8_t bytes[16 * 1048576];
     size_t file_count = 0, byte_count = 0, count = 0, line = 0;
@@ -160,7 +180,7 @@ int main(int argc, char **argv) {
     radixvm_done done = kept ? run_kept(by_steps, &setup, files, file_count, bytes, byte_count, events, count, outcomes)
         : by_steps ? radixvm_run(&setup, files, file_count, bytes, byte_count, events, count, outcomes, count)
         : radixvm_calls(&setup, files, file_count, bytes, byte_count, events, count, outcomes, count);
-    for (uint64_t i = 0; i < done.count && done.status <= RADIXVM_OUT_OF_MEMORY; i++) tell(outcomes[i]);
+    for (uint64_t i = 0; i < done.count && !kept && done.status <= RADIXVM_OUT_OF_MEMORY; i++) tell(outcomes[i]);
     free(events);
     free(outcomes);
     if (done.status != RADIXVM_OK) {

@@ -5,7 +5,7 @@
 int main(int argc, char **argv) {
     static radixvm_event calls[CALLS];
     static radixvm_outcome replies[CALLS];
-    const radixvm_setup setup = {1, CALLS, CALLS};
+    const radixvm_setup setup = {1, CALLS, CALLS, 0};
     if (argc > 1) seed = strtoull(argv[1], NULL, 0);
     for (int i = 0; i < CALLS; i++) calls[i] = random_call();
     radixvm_done done = radixvm_calls(&setup, NULL, 0, NULL, 0, calls, CALLS, replies, CALLS);

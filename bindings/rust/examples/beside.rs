@@ -50,7 +50,7 @@ fn main() -> Result<ExitCode, Box<dyn Error>> {
     let seed = std::env::args().nth(1).map_or(Ok(1), |word| word.parse())?;
     let mut random = Random(seed);
     let mut root = new_table();
-    let mut machine = Machine::new(&Setup { cores: 1, frames: CALLS as u64, calls: CALLS as u64, files: vec![] })?;
+    let mut machine = Machine::new(&Setup::new(1, CALLS as u64, CALLS as u64))?;
     for number in 0..CALLS {
         let request = random.call();
         let (own, outcome) = (answer(&mut root, request), machine.call(0, request)?);

@@ -12,7 +12,7 @@ fn main() -> Result<ExitCode, Box<dyn Error>> {
     let seed = std::env::args().nth(1).map_or(Ok(1), |word| word.parse())?;
     let mut random = Random(seed);
     let requests: Vec<_> = (0..CALLS).map(|_| random.call()).collect();
-    let setup = Setup { cores: 1, frames: CALLS as u64, calls: CALLS as u64, files: vec![] };
+    let setup = Setup::new(1, CALLS as u64, CALLS as u64);
     let asks: Vec<_> = requests.iter().map(|request| Ask::Call(0, *request)).collect();
     let outcomes = calls(&setup, &asks)?;
     let mut root = new_table();

@@ -7,7 +7,7 @@
 //! ```
 //! use radixvm::{calls, Ask, Flags, Outcome, Prot, Reply, Request, Setup};
 //!
-//! let setup = Setup { cores: 1, frames: 4, calls: 100, files: vec![] };
+//! let setup = Setup::new(1, 4, 100);
 //! let flags = Flags { private: true, fixed: true, anonymous: true, ..Flags::default() };
 //! let prot = Prot { read: true, write: true, exec: false };
 //! let told = calls(&setup, &[
@@ -41,13 +41,41 @@ pub struct File {
     pub bytes: Vec<u8>,
 }
 
-/// What a machine has: 1 to 64 cores, at most 65,536 frames of 4,096 bytes, 1,048,576 calls and 16 files.
+/// What a machine has: 1 to 64 cores, at most 65,536 frames of 4,096 bytes and 16 files, and 2^40 calls, or 1,048,576 where its
+/// log is kept.
 #[derive(Clone, Debug, PartialEq, Eq)]
 pub struct Setup {
     pub cores: u64,
     pub frames: u64,
     pub calls: u64,
     pub files: Vec<File>,
+    /// Whether a [`Machine`] keeps its log, so that [`Machine::log`] tells it.
+    pub log: bool,
+}
+
+impl Setup {
+    /// So many cores, frames and calls, no files and no log.
+    pub fn new(cores: u64, frames: u64, calls: u64) -> Setup {
+        Setup { cores, frames, calls, files: Vec::new(), log: false }
+    }
+
+    /// The same with one more file, whose number is how many there were.
+    ///
+    /// ```
+    /// use radixvm::{Mode, Setup};
+    ///
+    /// let setup = Setup::new(1, 4, 100).with_file(Mode::Read, vec![7]).with_log();
+    /// assert_eq!((setup.files.len(), setup.log), (1, true));
+    /// ```
+    pub fn with_file(mut self, mode: Mode, bytes: Vec<u8>) -> Setup {
+        self.files.push(File { mode, bytes });
+        self
+    }
+
+    /// The same with a log.
+    pub fn with_log(self) -> Setup {
+        Setup { log: true, ..self }
+    }
 }
 
 /// What may be done with a page; none of them is `PROT_NONE`.
@@ -189,6 +217,15 @@ pub struct Line {
     pub back: Back,
 }
 
+/// An entry of the log. Events and calls that began are numbered from 1; `step` is the event that made the entry.
+#[derive(Clone, Copy, Debug, PartialEq, Eq)]
+pub enum Entry {
+    /// The core's call was given this reply.
+    Replied { step: u64, call: u64, core: u32, request: Request, reply: Reply },
+    /// The private page, which showed its file until then, got a copy of its own, for the store that the call is.
+    Copied { step: u64, call: u64, page: u64 },
+}
+
 /// Why a batch ended before its end, or one event wasn't taken, whose `at` is 0.
 #[derive(Clone, Copy, Debug, PartialEq, Eq)]
 pub enum Error {
@@ -198,6 +235,8 @@ pub enum Error {
     OutOfMemory { at: usize },
     /// The machine has no such core, or no page has this number.
     Absent,
+    /// The machine keeps no log.
+    NoLog,
     /// There are more than 2^32 events, or bytes of files.
     TooLong,
     /// There is no core, or there are more than 64.
@@ -208,7 +247,7 @@ pub enum Error {
     TooManyFiles,
     /// A file has more than 1,048,576 bytes.
     FileTooLong,
-    /// More than 1,048,576 calls are asked for.
+    /// More than 2^40 calls are asked for, or than 1,048,576 with a log.
     BadCalls,
     /// Memory was refused to the new machine.
     NoMachine,
@@ -222,12 +261,13 @@ impl fmt::Display for Error {
             Error::BadEvent { at } => write!(f, "event {at} has a core above 63"),
             Error::OutOfMemory { at } => write!(f, "memory was refused to event {at}"),
             Error::Absent => write!(f, "no such core, or no such page"),
+            Error::NoLog => write!(f, "the machine keeps no log"),
             Error::TooLong => write!(f, "more than 2^32 events, or bytes of files"),
             Error::BadCores => write!(f, "not 1 to 64 cores"),
             Error::BadFrames => write!(f, "more than 65536 frames"),
             Error::TooManyFiles => write!(f, "more than 16 files"),
             Error::FileTooLong => write!(f, "a file of more than 1048576 bytes"),
-            Error::BadCalls => write!(f, "more than 1048576 calls"),
+            Error::BadCalls => write!(f, "more than 2^40 calls, or than 1048576 with a log"),
             Error::NoMachine => write!(f, "memory was refused to the new machine"),
             Error::UnknownCode(code) => write!(f, "the library answered {code}, which its header doesn't have"),
         }
@@ -261,7 +301,7 @@ pub fn version() -> u32 {
 /// ```
 /// use radixvm::{run, Event, Outcome, Reply, Request, Setup};
 ///
-/// let setup = Setup { cores: 1, frames: 0, calls: 1, files: vec![] };
+/// let setup = Setup::new(1, 0, 1);
 /// let events = [Event::Call(0, Request::Load { addr: 0 }), Event::Go(0), Event::Go(0), Event::Go(0)];
 /// assert_eq!(run(&setup, &events)?, [Outcome::Stepped, Outcome::Stepped, Outcome::Replied(Reply::MapErr), Outcome::Idle]);
 /// # Ok::<(), radixvm::Stopped>(())
@@ -276,7 +316,7 @@ pub fn run(setup: &Setup, events: &[Event]) -> Result<Vec<Outcome>, Stopped> {
 /// ```
 /// use radixvm::{calls, Ask, Error, Outcome, Reply, Request, Setup};
 ///
-/// let setup = Setup { cores: 1, frames: 0, calls: 1, files: vec![] };
+/// let setup = Setup::new(1, 0, 1);
 /// let stopped = calls(&setup, &[Ask::Call(0, Request::Load { addr: 0 }), Ask::Finish(64)]).unwrap_err();
 /// assert_eq!(stopped.outcomes, [Outcome::Replied(Reply::MapErr)]);
 /// assert_eq!(stopped.error, Error::BadEvent { at: 1 });

@@ -1,6 +1,6 @@
 //! A machine that is kept.
 use crate::raw::{of_ask, of_event, Place, Way};
-use crate::{Ask, Error, Event, Line, Outcome, Request, Setup, Stopped};
+use crate::{Ask, Entry, Error, Event, Line, Outcome, Request, Setup, Stopped};
 
 /// A machine that takes events and calls as they come, and is freed when it is dropped. It is its thread's alone: it is
 /// neither `Send` nor `Sync`.
@@ -8,7 +8,7 @@ use crate::{Ask, Error, Event, Line, Outcome, Request, Setup, Stopped};
 /// ```
 /// use radixvm::{Flags, Machine, Outcome, Prot, Reply, Request, Setup};
 ///
-/// let mut machine = Machine::new(&Setup { cores: 1, frames: 4, calls: 100, files: vec![] })?;
+/// let mut machine = Machine::new(&Setup::new(1, 4, 100))?;
 /// let flags = Flags { private: true, fixed: true, anonymous: true, ..Flags::default() };
 /// let prot = Prot { read: true, write: true, exec: false };
 /// machine.call(0, Request::Mmap { addr: 0x10000, len: 4096, prot, flags, file: 0, off: 0 })?;
@@ -31,7 +31,7 @@ impl Machine {
     /// ```
     /// use radixvm::{Error, Machine, Setup};
     ///
-    /// let setup = Setup { cores: 65, frames: 4, calls: 100, files: vec![] };
+    /// let setup = Setup::new(65, 4, 100);
     /// assert_eq!(Machine::new(&setup).err(), Some(Error::BadCores));
     /// ```
     pub fn new(setup: &Setup) -> Result<Machine, Error> {
@@ -43,7 +43,7 @@ impl Machine {
     /// ```
     /// use radixvm::{Error, Event, Machine, Outcome, Setup};
     ///
-    /// let mut machine = Machine::new(&Setup { cores: 1, frames: 4, calls: 100, files: vec![] })?;
+    /// let mut machine = Machine::new(&Setup::new(1, 4, 100))?;
     /// assert_eq!(machine.step(&Event::Go(0))?, Outcome::Idle);
     /// assert_eq!(machine.step(&Event::Go(64)), Err(Error::BadEvent { at: 0 }));
     /// # Ok::<(), radixvm::Error>(())
@@ -68,7 +68,7 @@ impl Machine {
     /// ```
     /// use radixvm::{Machine, Outcome, Reply, Request, Setup};
     ///
-    /// let mut machine = Machine::new(&Setup { cores: 2, frames: 4, calls: 100, files: vec![] })?;
+    /// let mut machine = Machine::new(&Setup::new(2, 4, 100))?;
     /// assert_eq!(machine.begin(1, Request::Munmap { addr: 0x10000, len: 4096 })?, Outcome::Stepped);
     /// assert_eq!(machine.call(0, Request::Load { addr: 0x10000 })?, Outcome::Replied(Reply::MapErr));
     /// assert_eq!(machine.finish(1)?, Outcome::Replied(Reply::Done));
@@ -89,7 +89,7 @@ impl Machine {
     /// ```
     /// use radixvm::{Ask, Event, Machine, Outcome, Reply, Request, Setup};
     ///
-    /// let mut machine = Machine::new(&Setup { cores: 1, frames: 4, calls: 100, files: vec![] })?;
+    /// let mut machine = Machine::new(&Setup::new(1, 4, 100))?;
     /// let load = Request::Load { addr: 0x10000 };
     /// assert_eq!(machine.run(&[Event::Call(0, load)]).unwrap(), [Outcome::Stepped]);
     /// let told = machine.calls(&[Ask::Finish(0), Ask::Call(0, load)]).unwrap();
@@ -111,7 +111,7 @@ impl Machine {
     /// ```
     /// use radixvm::{Error, Machine, Setup};
     ///
-    /// let mut machine = Machine::new(&Setup { cores: 2, frames: 4, calls: 100, files: vec![] })?;
+    /// let mut machine = Machine::new(&Setup::new(2, 4, 100))?;
     /// assert_eq!(machine.entry(1, 16)?, 0);
     /// assert_eq!(machine.cores(), 2);
     /// assert_eq!(machine.entry(2, 16), Err(Error::Absent));
@@ -125,10 +125,9 @@ impl Machine {
     /// All mappings, in order of pages.
     ///
     /// ```
-    /// use radixvm::{Back, File, Flags, Line, Machine, Mode, Prot, Request, Setup};
+    /// use radixvm::{Back, Flags, Line, Machine, Mode, Prot, Request, Setup};
     ///
-    /// let file = File { mode: Mode::ReadWrite, bytes: vec![7; 8192] };
-    /// let mut machine = Machine::new(&Setup { cores: 1, frames: 4, calls: 100, files: vec![file] })?;
+    /// let mut machine = Machine::new(&Setup::new(1, 4, 100).with_file(Mode::ReadWrite, vec![7; 8192]))?;
     /// let flags = Flags { shared: true, fixed: true, ..Flags::default() };
     /// let prot = Prot { read: true, ..Prot::default() };
     /// machine.call(0, Request::Mmap { addr: 0x10000, len: 4096, prot, flags, file: 0, off: 4096 })?;
@@ -137,5 +136,21 @@ impl Machine {
     /// ```
     pub fn maps(&mut self) -> Result<Vec<Line>, Error> {
         self.place.maps()
+    }
+
+    /// The log, from its first entry on: each call's reply, in the order in which a plain page map would answer.
+    ///
+    /// ```
+    /// use radixvm::{Entry, Error, Machine, Reply, Request, Setup};
+    ///
+    /// let mut machine = Machine::new(&Setup::new(2, 4, 100).with_log())?;
+    /// let request = Request::Load { addr: 0x10000 };
+    /// machine.call(1, request)?;
+    /// assert_eq!(machine.log()?, [Entry::Replied { step: 3, call: 1, core: 1, request, reply: Reply::MapErr }]);
+    /// assert_eq!(Machine::new(&Setup::new(2, 4, 100))?.log(), Err(Error::NoLog));
+    /// # Ok::<(), radixvm::Error>(())
+    /// ```
+    pub fn log(&mut self) -> Result<Vec<Entry>, Error> {
+        self.place.log()
     }
 }

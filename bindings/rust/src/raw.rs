@@ -1,5 +1,5 @@
 //! The structs and codes of `include/radixvm.h`.
-use crate::{Ask, Back, Errno, Error, Event, Flags, Line, Mode, Outcome, Prot, Reply, Request, Setup, Stopped};
+use crate::{Ask, Back, Entry, Errno, Error, Event, Flags, Line, Mode, Outcome, Prot, Reply, Request, Setup, Stopped};
 use std::ptr;
 
 #[repr(C)]
@@ -7,6 +7,7 @@ struct RawSetup {
     cores: u64,
     frames: u64,
     calls: u64,
+    log: u32,
 }
 
 #[repr(C)]
@@ -60,6 +61,18 @@ struct RawLine {
     prot: u32,
 }
 
+#[repr(C)]
+#[derive(Clone, Copy, Default)]
+struct RawEntry {
+    kind: u32,
+    core: u32,
+    step: u64,
+    call: u64,
+    page: u64,
+    asked: RawEvent,
+    reply: RawOutcome,
+}
+
 type Batch = unsafe extern "C" fn(
     *const RawSetup, *const RawFile, usize, *const u8, usize, *const RawEvent, usize, *mut RawOutcome, usize,
 ) -> RawDone;
@@ -89,6 +102,7 @@ extern "C" {
     fn radixvm_cores_held(machine: *mut Place) -> u64;
     fn radixvm_entry_held(machine: *mut Place, core: u32, page: u64, word: *mut u64) -> u32;
     fn radixvm_maps_held(machine: *mut Place, lines: *mut RawLine, room: usize) -> RawDone;
+    fn radixvm_log_held(machine: *mut Place, entries: *mut RawEntry, room: usize) -> RawDone;
 }
 
 /// What is added to a kind that is one step in a batch of calls.
@@ -156,6 +170,28 @@ pub fn of_ask(ask: &Ask) -> RawEvent {
     }
 }
 
+fn prot_of(bits: u32) -> Prot {
+    Prot { read: bits & 1 != 0, write: bits & 2 != 0, exec: bits & 4 != 0 }
+}
+
+fn flags_of(bits: u32) -> Flags {
+    Flags { shared: bits & 1 != 0, private: bits & 2 != 0, fixed: bits & 16 != 0, anonymous: bits & 32 != 0 }
+}
+
+fn request_of(raw: &RawEvent) -> Option<Request> {
+    let RawEvent { at: addr, len, .. } = *raw;
+    let prot = prot_of(raw.prot);
+    Some(match raw.kind {
+        1 => Request::Mmap { addr, len, prot, flags: flags_of(raw.flags), file: raw.file, off: raw.off },
+        2 => Request::Munmap { addr, len },
+        3 => Request::Mprotect { addr, len, prot },
+        4 => Request::Load { addr },
+        5 => Request::Store { addr, byte: raw.byte as u8 },
+        6 => Request::Fetch { addr },
+        _ => return None,
+    })
+}
+
 fn errno_of(value: u64) -> Option<Errno> {
     Some(match value {
         9 => Errno::Ebadf,
@@ -194,6 +230,7 @@ fn error_of(status: u32, at: usize) -> Error {
         2 => Error::OutOfMemory { at },
         4 => Error::TooLong,
         9 => Error::Absent,
+        10 => Error::NoLog,
         11 => Error::BadCores,
         12 => Error::BadFrames,
         13 => Error::TooManyFiles,
@@ -217,7 +254,7 @@ fn of_setup(setup: &Setup) -> (RawSetup, Vec<RawFile>, Vec<u8>) {
         files.push(RawFile { mode, start: bytes.len() as u64, len: file.bytes.len() as u64 });
         bytes.extend_from_slice(&file.bytes);
     }
-    (RawSetup { cores: setup.cores, frames: setup.frames, calls: setup.calls }, files, bytes)
+    (RawSetup { cores: setup.cores, frames: setup.frames, calls: setup.calls, log: u32::from(setup.log) }, files, bytes)
 }
 
 /// What a batch came to that told these outcomes.
@@ -316,6 +353,22 @@ impl Place {
     }
 }
 
+impl Place {
+    pub fn log(&mut self) -> Result<Vec<Entry>, Error> {
+        let mut told = Vec::new();
+        loop {
+            // SAFETY: as above; the pointer is a slice's with its length.
+            let done = unsafe { radixvm_log_held(self, told.as_mut_ptr(), told.len()) };
+            let count = done.count as usize;
+            match done.status {
+                0 if count <= told.len() => return told[..count].iter().map(entry_of).collect(),
+                0 => told = vec![RawEntry::default(); count],
+                status => return Err(error_of(status, 0)),
+            }
+        }
+    }
+}
+
 impl Drop for Place {
     fn drop(&mut self) {
         // SAFETY: as above; nothing has a copy of it.
@@ -331,6 +384,14 @@ fn line_of(raw: &RawLine) -> Result<Line, Error> {
         2 => Back::Private { file, page },
         code => return Err(Error::UnknownCode(code)),
     };
-    let prot = Prot { read: raw.prot & 1 != 0, write: raw.prot & 2 != 0, exec: raw.prot & 4 != 0 };
-    Ok(Line { pages: raw.first..raw.end, prot, back })
+    Ok(Line { pages: raw.first..raw.end, prot: prot_of(raw.prot), back })
+}
+
+fn entry_of(raw: &RawEntry) -> Result<Entry, Error> {
+    let RawEntry { step, call, core, page, .. } = *raw;
+    match (raw.kind, request_of(&raw.asked), outcome_of(&raw.reply)) {
+        (1, Some(request), Some(Outcome::Replied(reply))) => Ok(Entry::Replied { step, call, core, request, reply }),
+        (2, _, _) => Ok(Entry::Copied { step, call, page }),
+        (code, _, _) => Err(Error::UnknownCode(code)),
+    }
 }
