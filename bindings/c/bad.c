@@ -242,6 +242,30 @@ static void try_all(batch *run, int whole) {
     }
 }
 
+/* How many of so many loads are answered by a machine of these calls. */
+static uint64_t answered(uint64_t calls, uint32_t log, uint64_t loads) {
+    const radixvm_setup setup = {1, 0, calls, log};
+    const radixvm_event event = load(RADIXVM_LOAD, 0);
+    radixvm_machine machine = {0};
+    uint64_t n = 0;
+    expect("a machine of many calls", radixvm_new(&setup, NULL, 0, NULL, 0, &machine), RADIXVM_OK, 0);
+    while (loads--) {
+        radixvm_outcome told = {0, 0};
+        if (radixvm_call(&machine, &event, &told) == RADIXVM_OK) n += told.kind == RADIXVM_SEGV_MAPERR;
+    }
+    if (log) expect("all of them are logged", radixvm_log(&machine, NULL, 0), RADIXVM_OK, n);
+    radixvm_free(&machine);
+    return n;
+}
+
+/* Without a log more calls begin than with one. */
+static void many_calls(void) {
+    const uint64_t usual = 1048576;
+    expect("2^40 calls", (radixvm_done){0, answered((uint64_t)1 << 40, 0, usual + 2)}, 0, usual + 2);
+    expect("one call more than fit", (radixvm_done){0, answered(usual + 1, 0, usual + 2)}, 0, usual + 1);
+    expect("with a log", (radixvm_done){0, answered(usual, 1, usual + 2)}, 0, usual);
+}
+
 /* Lengths of 2^63 of a call are answered as POSIX says. */
 static void long_calls(void) {
     const radixvm_setup setup = {1, 4, 100, 0};
@@ -309,9 +333,9 @@ static void refuse_each(void) {
 }
 
 /* The same calls on a machine that is kept: where one finds no memory it is finished once there is some, and each reply is
- * as where memory is ample. The list of mappings is told, or refused, likewise. */
-static void refuse_kept(void) {
-    const radixvm_setup setup = {2, 4, 100, 0};
+ * as where memory is ample. The list of mappings is told, or refused, likewise; a log has all replies. */
+static void refuse_kept(uint32_t log) {
+    const radixvm_setup setup = {2, 4, 100, log};
     const uint32_t fixed = RADIXVM_MAP_PRIVATE | RADIXVM_MAP_FIXED | RADIXVM_MAP_ANONYMOUS;
     const radixvm_event events[] = {
         {RADIXVM_MMAP, 0, 0x10000, 0x4000, 0, 0, 3, fixed, 0}, {RADIXVM_STORE, 0, 0x10000, 0, 0, 0, 0, 0, 7},
@@ -351,6 +375,7 @@ static void refuse_kept(void) {
         }
         expect("the mappings", done, RADIXVM_OK, 2);
         left = -1;
+        expect("the log", radixvm_log(&machine, NULL, 0), log ? RADIXVM_OK : RADIXVM_NO_LOG, log ? 6 : 0);
         radixvm_free(&machine);
     }
     printf("of a kept machine %ld: none was made at %ld, a call was finished later at %ld, the list was asked for again at %ld\n", n - 1,
@@ -368,10 +393,12 @@ int main(void) {
     try_all(calls_kept, 1);
     keep_one();
     keep_logged();
+    many_calls();
     long_calls();
 #ifdef REFUSE
     refuse_each();
-    refuse_kept();
+    refuse_kept(0);
+    refuse_kept(1);
 #endif
     printf("%d of %d\n", tried - wrong, tried);
     return wrong != 0;

@@ -20,11 +20,11 @@ static uint64_t random_below(uint64_t n) {
 static radixvm_event random_call(uint32_t core) {
     radixvm_event e = {1 + (uint32_t)random_below(6), core, 4096 * (510 + random_below(6)), 0, 0, 0, 0, 0, 0};
     if (e.kind <= RADIXVM_MPROTECT) e.len = 4096 * (1 + random_below(3));
-    if (e.kind == RADIXVM_MMAP || e.kind == RADIXVM_MPROTECT) e.prot = (uint32_t)random_below(8);
+    if (e.kind == RADIXVM_MMAP || e.kind == RADIXVM_MPROTECT) e.prot = random_below(3) ? 3u : (uint32_t)random_below(8);
     if (e.kind == RADIXVM_STORE) e.byte = (uint32_t)random_below(256);
     if (e.kind == RADIXVM_MMAP) {
-        e.flags = (random_below(4) ? RADIXVM_MAP_PRIVATE : RADIXVM_MAP_SHARED) | (random_below(4) ? RADIXVM_MAP_FIXED : 0u)
-            | (random_below(3) ? 0u : RADIXVM_MAP_ANONYMOUS);
+        e.flags = (random_below(6) ? RADIXVM_MAP_PRIVATE : RADIXVM_MAP_SHARED) | (random_below(4) ? RADIXVM_MAP_FIXED : 0u)
+            | (random_below(6) ? 0u : RADIXVM_MAP_ANONYMOUS);
         e.off = 4096 * random_below(4);
     }
     return e;
@@ -34,6 +34,10 @@ static radixvm_event random_event(int whole) {
     static const uint32_t steps[] = {RADIXVM_GO, RADIXVM_GO, RADIXVM_GO, RADIXVM_TAKE, RADIXVM_TAKE, RADIXVM_FLUSH, RADIXVM_REVIEW,
         RADIXVM_WALK, RADIXVM_EVICT, RADIXVM_FOLD, RADIXVM_FRAME, RADIXVM_GUESS, RADIXVM_WHOLE, RADIXVM_GIVE_UP};
     radixvm_event e = {0, (uint32_t)random_below(2), 0, 0, 0, 0, 0, 0, 0};
+    if (!whole && random_below(4)) {
+        e.kind = RADIXVM_GO;
+        return e;
+    }
     if (random_below(3)) return random_call(e.core);
     e.kind = whole && random_below(2) ? (uint32_t)RADIXVM_FINISH : steps[random_below(sizeof steps / sizeof *steps)];
     e.at = e.kind == RADIXVM_FRAME ? random_below(24) : 510 + random_below(6);
@@ -107,7 +111,7 @@ int main(int argc, char **argv) {
     for (int whole = 0; whole < 2; whole++) {
         const int copies = compare(whole);
         if (copies < 0) { printf("the log isn't what was told\n"); return 1; }
-        if (copies == 0) { printf("no page got a copy\n"); return 1; }
+        if (whole && copies == 0) { printf("no page got a copy\n"); return 1; }
     }
     printf("%d events and %d items, their log as they were answered\n", EVENTS, EVENTS);
     return 0;

@@ -146,7 +146,7 @@ impl Machine {
     /// let mut machine = Machine::new(&Setup::new(2, 4, 100).with_log())?;
     /// let request = Request::Load { addr: 0x10000 };
     /// machine.call(1, request)?;
-    /// assert_eq!(machine.log()?, [Entry::Replied { step: 3, call: 1, core: 1, request, reply: Reply::MapErr }]);
+    /// assert_eq!(machine.log()?, [Entry::Replied { step: 8, call: 1, core: 1, request, reply: Reply::MapErr }]);
     /// assert_eq!(Machine::new(&Setup::new(2, 4, 100))?.log(), Err(Error::NoLog));
     /// # Ok::<(), radixvm::Error>(())
     /// ```
