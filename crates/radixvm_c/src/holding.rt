@@ -3,8 +3,8 @@ ghost use Rattle.std.specs.Prelude.{◌≡◌, None, IfOk, IfErr};
 ghost use Rattle.core_steps.specs.Machine.{state};
 ghost use Rattle.radixvm_c.specs.Opening.{Refuses, fault_of};
 ghost use Rattle.radixvm_c.specs.Maps.{ListsOn};
-ghost use Rattle.radixvm_c.specs.Holding.{held_state, state_in, OpensIn, OpensHeld, TakesOn, TakesItemOn, RunsOn, CallsOn};
-ghost use Rattle.radixvm_c.specs.Holding.{taken_code, entry_of};
+ghost use Rattle.radixvm_c.specs.Holding.{held_state, state_in, OpensIn, OpensHeld, TakesOn, TakesItemOn};
+ghost use Rattle.radixvm_c.specs.Holding.{RunsOn, CallsOn, taken_code, entry_of};
 
 use crate::batch::{
     Ended, Stop, make_items, refusal_of, run_events, stop_code, take_event, take_item,
