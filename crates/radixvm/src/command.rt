@@ -94,19 +94,29 @@ fn reading<'a>(
         .arg(Arg::new(alloc, "FILE"))
 }
 
-const RUN_USAGE: &str = "radixvm run [--log | [--echo] [--long]] [--explain] [FILE]";
+const RUN_USAGE: &str = "radixvm run [--log | [--echo | --summary] [--long]] [--explain] [FILE]";
 
 const MAPS_USAGE: &str = "radixvm maps [--long] [--explain] [FILE]";
 
-// The program's words.
-fn grammar<'a>(alloc: Global) -> Result<Command<'a>, AllocError> {
+// The word `run` with what may stand behind it.
+fn running<'a>(alloc: Global) -> Result<Command<'a>, AllocError> {
     let echo = flag(alloc, "echo").conflicts_with("log")?;
     let long = flag(alloc, "long").conflicts_with("log")?;
-    let run = reading(alloc, "run", RUN_USAGE)?
+    let summary = flag(alloc, "summary")
+        .conflicts_with("log")?
+        .conflicts_with("echo")?;
+    let command = reading(alloc, "run", RUN_USAGE)?
         .arg(flag(alloc, "log"))?
         .arg(echo)?
+        .arg(summary)?
         .arg(long)?
         .arg(flag(alloc, "explain"))?;
+    Ok(command)
+}
+
+// The program's words.
+fn grammar<'a>(alloc: Global) -> Result<Command<'a>, AllocError> {
+    let run = running(alloc)?;
     let maps = reading(alloc, "maps", MAPS_USAGE)?
         .arg(flag(alloc, "long"))?
         .arg(flag(alloc, "explain"))?;
@@ -163,8 +173,8 @@ fn limit_of<'a>(words: &ArgMatches<'a>) -> CallLimit {
 }
 
 // What these words of a word that reads a trace ask for.
-fn replaying<'a>(show: Show, words: &ArgMatches<'a>) -> Task<'a>
-    ensures { (shows : Shows) × (result.work ≡ Work.Replay shows) × (shows.show ≡ show) }
+fn replaying<'a>(show: Show, sums: bool, words: &ArgMatches<'a>) -> Task<'a>
+    ensures { (shows : Shows) × (result.work ≡ Work.Replay shows) × (shows.show ≡ show) × (shows.sums ≡ sums) }
 {
     let explains = words.get_flag("explain");
     let file = words.get_str("FILE");
@@ -173,6 +183,7 @@ fn replaying<'a>(show: Show, words: &ArgMatches<'a>) -> Task<'a>
             show,
             limit: limit_of(words),
             explains,
+            sums,
         }),
         file,
     }
@@ -209,10 +220,15 @@ fn matched<'a, A: Allocator>(
     let program = grammar(alloc)?;
     let matches = program.try_get_matches_from(words)?;
     match matches.subcommand() {
-        Some(("run", run)) if run.get_flag("log") => Ok(Ok(replaying(Show::OutcomesAndLog, run))),
+        Some(("run", run)) if run.get_flag("log") => {
+            Ok(Ok(replaying(Show::OutcomesAndLog, false, run)))
+        },
         Some(("run", run)) if run.get_flag("echo") => Ok(Ok(echoing(run))),
-        Some(("run", run)) => Ok(Ok(replaying(Show::Outcomes, run))),
-        Some(("maps", maps)) => Ok(Ok(replaying(Show::Maps, maps))),
+        Some(("run", run)) => {
+            let sums = run.get_flag("summary");
+            Ok(Ok(replaying(Show::Outcomes, sums, run)))
+        }
+        Some(("maps", maps)) => Ok(Ok(replaying(Show::Maps, false, maps))),
         Some(("certify", certify)) => Ok(Ok(working(Work::Certify, certify))),
         Some(("live", live)) if live.get_flag("certify") => {
             Ok(Ok(working(Work::CertifyLive, live)))

@@ -21,6 +21,7 @@ use trace_io::lines::{Found, LineReader, NoLine};
 use trace_io::sink::{Sink, WriteFailed, write_all};
 use trace_io::source::Source;
 use trace_text::{Line, LineText, read_line};
+use watched::Unwatched;
 
 // Room for a line of a trace, the sign behind it, and a line of output.
 type EchoText = ArrayVec<u8, 520>;
@@ -164,7 +165,7 @@ fn echo_read<A: Allocator + Clone + Drop, S: Source, W: Sink>(
             lines: None,
         };
     };
-    let mut replayer = Replayer::<A, Forgotten>::within(limit, alloc);
+    let mut replayer = Replayer::<A, Forgotten, Unwatched>::within(limit, alloc, Unwatched);
     let mut text = LineText::new();
     let ended = echo_lines(&mut lines, reader, writer, &mut replayer, &mut text);
     Replayed {

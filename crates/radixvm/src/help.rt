@@ -7,7 +7,7 @@ ghost use Rattle.radixvm.specs.Help.{page_of};
 pub const VERSION: &str = "0.1.0";
 
 /// How the words go together.
-pub const USAGE: &str = "radixvm run [--log | [--echo] [--long]] [--explain] [FILE]
+pub const USAGE: &str = "radixvm run [--log | [--echo | --summary] [--long]] [--explain] [FILE]
        radixvm maps [--long] [--explain] [FILE]
        radixvm certify [FILE]
        radixvm live [--certify] [FILE]
@@ -19,7 +19,7 @@ pub const OVERVIEW: &str = "\
 One virtual address space with mmap, munmap and mprotect, shared by 1 to 64
 modelled cores, and replayed from a text, a trace, step by step.
 
-Usage: radixvm run [--log | [--echo] [--long]] [--explain] [FILE]
+Usage: radixvm run [--log | [--echo | --summary] [--long]] [--explain] [FILE]
        radixvm maps [--long] [--explain] [FILE]
        radixvm certify [FILE]
        radixvm live [--certify] [FILE]
@@ -32,6 +32,8 @@ Words:
   run --log      writes the log behind these lines: when each call had its reply
   run --echo     writes LINE = OUTCOME for a line of an event, and copies vm and
                  file lines
+  run --summary  counts calls, faults, fills, shootdowns, frames and epochs, and
+                 writes the numbers on standard error (help cores)
   maps           writes the mappings at the trace's end, and nothing else
   certify        reads notes, steps with what each came to, and says whether
                  they are a run of the machine
@@ -305,6 +307,17 @@ Places. A call of mmap without f that looks for a place takes the first room
 of its window at the next go or finish; guess and whole choose for it. What
 another core maps there meanwhile sends it back, once, to lock all of its
 window.
+
+Numbers. run --summary writes these behind a run that no fault ended, each with
+its number on a line of standard error, and makes each step by itself:
+  calls REPLY    answered calls: mapped (an address), done, byte, refused
+                 (einval to eacces), segv, bus, noframe and nomemory
+  faults         accesses that neither the core's TLB nor its tables allowed
+  fills          pages that got a frame: of zeros, of their file, or a copy
+  shootdowns     messages to other cores; told N of M: how many cores they
+                 told, of all that there were beside their own
+  frames         the most that were in use at once
+  epochs         those that have ended
 ";
 
 /// What `certify` reads and writes.

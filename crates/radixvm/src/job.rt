@@ -9,13 +9,15 @@ ghost use Rattle.trace_io.specs.Source.{Reads};
 
 use crate::echo::replay_echoing;
 use crate::explain::explain;
+use crate::summing::tell_summary;
 use core_steps::CallLimit;
 use std::alloc::Allocator;
 use std::io::Write;
-use trace::replay::{Replayed, replay_telling};
+use trace::replay::{Replayed, replay_summing, replay_telling};
 use trace::shown::Show;
 use trace_io::sink::Sink;
 use trace_io::source::Source;
+use watched::Summary;
 
 /// What a run shows of its trace, and how many calls it lets the trace ask for.
 #[derive(Clone, Copy, Debug, PartialEq, Eq)]
@@ -26,6 +28,8 @@ pub struct Shows {
     pub limit: CallLimit,
     /// Whether more is told of a fault than its text.
     pub explains: bool,
+    /// Whether the numbers of the run are told, where no fault ended it.
+    pub sums: bool,
 }
 
 // Prints the replay's fault, and what is known of it where that is asked for, and answers the status.
@@ -48,9 +52,34 @@ fn tell_end<A: Allocator, E: Write>(
     status
 }
 
+// As `run`, step by step, and prints the numbers of the run behind it.
+fn run_summing<A: Allocator + Clone + Drop, S: Source, W: Sink, E: Write>(
+    alloc: A,
+    reader: &mut S,
+    out: &mut W,
+    errors: &mut E,
+    shows: Shows,
+) -> u8
+    ensures ends { (r : Result Unit TraceFault) × (result ≡ status_of r)
+        × Reads (S.stream reader.old) (S.stream reader.new)
+        (λ input unread. Ends (limit_for shows.show shows.limit) shows.show input unread
+        (W.contents out.old) (W.contents out.new) r)
+        × TellsFaults r (S.failed reader.new) (S.reads reader.new)
+        (W.failed out.old) (W.failed out.new) (W.is_flushed out.new) }
+    ensures within { result ≤ 3 }
+{
+    let mut summary = Summary::new();
+    let replayed = replay_summing(alloc, reader, out, shows.show, shows.limit, &mut summary);
+    let status = tell_end(&replayed, shows.limit, shows.explains, errors);
+    if status == 0 {
+        tell_summary(&summary, errors);
+    }
+    status
+}
+
 /// Replays the trace, showing what is asked for, prints a fault as `radixvm: ` and its
 /// text, behind it, where that is asked for, what is known of it, and answers the status: 0,
-/// or that of the fault.
+/// or that of the fault. Where that is asked for, the numbers of a run without fault come behind it.
 pub fn run<A: Allocator + Clone + Drop, S: Source, W: Sink, E: Write>(
     alloc: A,
     reader: &mut S,
@@ -66,6 +95,9 @@ pub fn run<A: Allocator + Clone + Drop, S: Source, W: Sink, E: Write>(
         (W.failed out.old) (W.failed out.new) (W.is_flushed out.new) }
     ensures within { result ≤ 3 }
 {
+    if shows.sums {
+        return run_summing(alloc, reader, out, errors, shows);
+    }
     let replayed = replay_telling(alloc, reader, out, shows.show, shows.limit);
     tell_end(&replayed, shows.limit, shows.explains, errors)
 }

@@ -23,6 +23,9 @@ mod live_tests;
 #[cfg(test)]
 mod long_tests;
 #[cfg(test)]
+mod summary_tests;
+mod summing;
+#[cfg(test)]
 mod tests;
 
 use command::{WordsFault, program, refuse_words};

@@ -587,6 +587,7 @@ fn ends_in(alloc: Global, heap: &LocalHeap, fault: &[u8]) -> bool {
         show: Show::Outcomes,
         limit: CallLimit::Usual,
         explains: false,
+        sums: false,
     };
     let status = job::run(heap, &mut reader, &mut out, &mut errors, shows);
     errors.as_slice() == fault && status == 3

@@ -13,7 +13,7 @@ use Rattle.trace.specs.declared.fault.TraceFault.{TraceFault}
 use Rattle.trace.specs.declared.fault.TraceFault.TheVariants.{BadLine, NoMemory, NoVmLine}
 use Rattle.trace.specs.Declarations.{Asked, asks_for}
 use Rattle.trace.specs.Gives.{is_event}
-use Rattle.trace.specs.Stage.{Stage, stage_of, Opens, OpenFails, Kind, OfSpace, OfFile, OfEvents, kind_of, LateFails, BadFails}
+use Rattle.trace.specs.Stage.{Stage, stage_of, Acts, EventActs, Opens, OpenFails, Kind, OfSpace, OfFile, OfEvents, kind_of, LateFails, BadFails}
 use Rattle.trace.specs.Stage.{BytesFail, EventFails, EventWants, LineActs, LineFails, LineWants, SaidFails, SpaceFails}
 
 -- ---- at which a machine is to be made
@@ -126,3 +126,19 @@ event_failed keeps (Err f) s n bytes line p e i (inr h) = inr (record {
   because = subst (λ b. BytesFail b s n bytes f) (sym p)
       (subst (λ o. SaidFails s n (kind_of (words_of bytes)) o f) e (said_failed s n (kind_of (words_of bytes)) line f i h));
 })
+
+said_acts : (line : Option Line) (old new : Stage) (text : List ℕ) → is_event line ≡ true → IsSomeAnd line (λ l. EventActs old l new text)
+    → IsSomeAnd line (λ l. LineActs old l new text)
+said_acts None old new text i h = h
+said_acts (Some Blank) old new text i h = absurd cc
+said_acts (Some (Space cores frames calls)) old new text i h = absurd cc
+said_acts (Some (File n mode len seed)) old new text i h = absurd cc
+said_acts (Some (Act core action)) old new text i h = h
+said_acts (Some (Fold page)) old new text i h = h
+said_acts (Some (Finish core)) old new text i h = h
+said_acts (Some (Now core request)) old new text i h = h
+
+pub event_acts : (old new : Stage) (bytes text : List ℕ) (line : Option Line) → are_printable bytes ≡ true → line ≡ line_of bytes → is_event line ≡ true
+    → IsSomeAnd line (λ l. EventActs old l new text) → Acts old bytes new text
+event_acts old new bytes text line p e i h =
+    record { printable = p; acts = subst (λ o. IsSomeAnd o (λ l. LineActs old l new text)) e (said_acts line old new text i h) }

@@ -15,6 +15,7 @@ use Rattle.core_steps.specs.declared.machine.Finished.{Finished}
 use Rattle.core_steps.specs.declared.machine.Finished.TheVariants.{Last, Stuck}
 use Rattle.core_steps.specs.Finishing.{EndsIn}
 use Rattle.core_steps.specs.declared.setup.CallLimit.{CallLimit}
+use Rattle.watched.proofs.Watched.{replicate_more}
 use Rattle.trace.specs.Declarations.{Asked, made_by}
 use Rattle.trace_text.specs.Line.{line_of}
 use Rattle.trace_text.specs.declared.line.Line.{Line}
@@ -36,15 +37,11 @@ run_then [] fs (o ∷ os) ps w m v r s = absurd r
 run_then (e ∷ es) fs [] ps w m v r s = absurd r
 run_then (e ∷ es) fs (o ∷ os) ps w m v r s = (r.0, r.1, run_then es fs os ps r.0 m v r.2 s)
 
-one_more : {A : Type 0} (n : ℕ) (x : A) → replicate n x ++ x ∷ [] ≡ replicate (suc n) x
-one_more zero x = refl
-one_more (suc n) x = ap (λ xs. x ∷ xs) (one_more n x)
-
 steps_run : (n core : ℕ) (w v : World) → StepsTo w core n v → Run w (replicate n (Ev.Go core)) (replicate n Stepped) v
 steps_run zero core w v s = s
 steps_run (suc n) core w v s =
-    subst (λ es. Run w es (replicate (suc n) Stepped) v) (one_more n (Ev.Go core))
-    (subst (λ os. Run w (replicate n (Ev.Go core) ++ Ev.Go core ∷ []) os v) (one_more n Stepped)
+    subst (λ es. Run w es (replicate (suc n) Stepped) v) (replicate_more n (Ev.Go core))
+    (subst (λ os. Run w (replicate n (Ev.Go core) ++ Ev.Go core ∷ []) os v) (replicate_more n Stepped)
     (run_then (replicate n (Ev.Go core)) (Ev.Go core ∷ []) (replicate n Stepped) (Stepped ∷ []) w s.0 v (steps_run n core w s.0 s.1) (v, s.2, refl)))
 
 -- ---- what a line asks for

@@ -13,3 +13,4 @@ pub mod Disturbing
 pub mod PlainTextLemmas
 pub mod Declaring
 mod Examples
+pub mod Seeing

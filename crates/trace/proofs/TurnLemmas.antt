@@ -116,7 +116,7 @@ act_fails kept show old new n line held seen f shown keeps short unbroken takes 
 act_fails kept show old new n line held seen f shown keeps short unbroken takes holds same (inr h) =
     refused line short unbroken takes (subst (λ l. LineFails old.stage (n + 1) l f) same h) keeps
 
-appends_after : (a b c : Option (List ℕ)) (xs : List ℕ) → Keeps a b → Appends b c xs → Appends a c xs
+pub appends_after : (a b c : Option (List ℕ)) (xs : List ℕ) → Keeps a b → Appends b c xs → Appends a c xs
 appends_after None b c xs k p = tt
 appends_after (Some x) None c xs k p = absurd k
 appends_after (Some x) (Some y) None xs k p = absurd p
@@ -133,7 +133,7 @@ text_lost show old new mid n line seen text short unbroken takes same acts keeps
     from
 
 -- a line whose text was written
-pub line_told : (show : Show) (old new : Scene) (mid : Option (List ℕ)) (line seen text : List ℕ) → length line ≤ 256
+unfoldable pub line_told : (show : Show) (old new : Scene) (mid : Option (List ℕ)) (line seen text : List ℕ) → length line ≤ 256
     → IsUnbroken line
     → IsFirstLine old.left line new.left → seen ≡ line → Acts old.stage seen new.stage text
     → Keeps old.written mid → Appends mid new.written (told show text) → Advances show old new

@@ -1,6 +1,6 @@
 -- The run that the lines of a trace make: which events they ask for, and which of the outcomes they
 -- print
-use Rattle.std.specs.Prelude.{◌≡◌, ◌≢◌, ℕ, ◌<◌, List, [], ◌∷◌, ◌++◌, replicate, IsSomeAnd}
+use Rattle.std.specs.Prelude.{◌≡◌, ℕ, List, [], ◌∷◌, ◌++◌, IsSomeAnd}
 use Rattle.vm_base.specs.declared.requests.Request.{Request}
 use Rattle.machine_model.specs.declared.event.Event.{Event}
 use Rattle.machine_model.specs.declared.event.Event.TheVariants as Ev
@@ -11,8 +11,7 @@ use Rattle.machine_model.specs.Step.{Run}
 use Rattle.machine_laws.specs.Brackets.{IsBracketed}
 use Rattle.machine_sound.specs.Sound.{SoundRun}
 use Rattle.core_steps.specs.declared.machine.Finished.{Finished}
-use Rattle.core_steps.specs.declared.machine.Finished.TheVariants.{Last, Stuck}
-use Rattle.core_steps.specs.Finishing.{finish_limit}
+use Rattle.watched.specs.Watching.{GoesUntil}
 use Rattle.core_steps.specs.declared.setup.CallLimit.{CallLimit}
 use Rattle.trace_text.specs.Line.{line_of}
 use Rattle.trace_text.specs.declared.line.Line.{Line}
@@ -28,14 +27,6 @@ use Rattle.trace.specs.Runs.{Runs}
 -- one event, whose outcome is printed
 abbrev pub AsksOne : Event → List Event → List Outcome → List ℕ → Type 0
 AsksOne e es os text = (o : Outcome) × (es ≡ e ∷ []) × (os ≡ o ∷ []) × (text ≡ outcome_text o)
-
--- the core's call goes on until an outcome that isn't Stepped, or for as many steps as finish makes
-abbrev pub GoesUntil : ℕ → ℕ → Finished → List Event → List Outcome → Type 0
-GoesUntil core n (Last o) es os =
-    (n < finish_limit) × (o ≢ Stepped) × (es ≡ replicate n (Ev.Go core) ++ Ev.Go core ∷ [])
-    × (os ≡ replicate n Stepped ++ o ∷ [])
-GoesUntil core n Stuck es os =
-    (n ≡ finish_limit) × (es ≡ replicate n (Ev.Go core)) × (os ≡ replicate n Stepped)
 
 -- the last of these outcomes is printed
 abbrev pub AsksFinish : ℕ → List Event → List Outcome → List ℕ → Type 0

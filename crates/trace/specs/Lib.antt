@@ -12,3 +12,4 @@ pub mod PlainLaw
 pub mod Listing
 pub mod Shown
 pub mod Status
+pub mod Seen

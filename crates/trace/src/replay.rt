@@ -1,5 +1,5 @@
 //! The lines of a trace, acted on one by one.
-ghost use Rattle.std.specs.Prelude.{◌≡◌, ◌+◌, ◌^◌, ◌<◌, ◌⊎◌, Err, IfErr, IfOk, OnOk, true};
+ghost use Rattle.std.specs.Prelude.{◌≡◌, ◌+◌, ◌^◌, ◌<◌, ◌⊎◌, Err, IfErr, IfOk, OnOk, [], false, true};
 ghost use Rattle.trace_io.specs.Source.{HasStopped, Reads};
 ghost use Rattle.trace_io.specs.Window.{left, budget, opening};
 ghost use Rattle.trace.specs.declared.fault.TraceFault.TheVariants.{ReadFailed, WriteFailed};
@@ -7,6 +7,8 @@ ghost use Rattle.trace.specs.declared.shown.Show.TheVariants.{OutcomesAndLog};
 ghost use Rattle.trace.specs.Turns.{Turns, Scene};
 ghost use Rattle.trace.specs.Stage.{Start};
 ghost use Rattle.trace.specs.Ends.{Ends, TellsFaults};
+ghost use Rattle.trace.specs.Seen.{AdvancesSeen, IsSeen, Writes};
+ghost use Rattle.watched.specs.Sums.{nothing_counted, summed};
 ghost use Rattle.trace.specs.Shown.{Closes, CloseFails, keeps_log, limit_for};
 ghost use Rattle.core_steps.specs.Setups.{Fits};
 ghost use Rattle.core_steps.specs.declared.setup.CallLimit.{CallLimit};
@@ -22,6 +24,7 @@ use trace_io::lines::{Found, LineReader, NoLine};
 use trace_io::sink::Sink;
 use trace_io::source::Source;
 use trace_text::LineText;
+use watched::{Summary, Unwatched, Watch};
 
 // Acts on the next line and writes its text, where that is shown, or answers false where there is none.
 fn turn<A: Allocator, S: Source, W: Sink, R: Staged>(
@@ -49,6 +52,21 @@ fn turn<A: Allocator, S: Source, W: Sink, R: Staged>(
           written = W.contents writer.new;
         })
         number result) }
+    ensures seen { IfOk result (λ more. more ≡ true
+        → Reads (S.stream reader.old) (S.stream reader.new) (λ xs ys. AdvancesSeen R.saw show replayer.old replayer.new
+        (record {
+          left = left xs lines.old;
+          unread = xs;
+          stage = R.stage replayer.old;
+          written = W.contents writer.old;
+        })
+        (record {
+          left = left ys lines.new;
+          unread = ys;
+          stage = R.stage replayer.new;
+          written = W.contents writer.new;
+        }))) }
+    ensures over { IfOk result (λ more. more ≡ false → replayer.new ≡ replayer.old) }
     ensures budget { IfOk result (λ more. more ≡ true
         → budget (S.reads reader.new) lines.new < budget (S.reads reader.old) lines.old) }
     ensures read { result ≡ Err ReadFailed → HasStopped (S.failed reader.new) (S.reads reader.new) }
@@ -116,9 +134,13 @@ fn replay_lines<A: Allocator, S: Source, W: Sink, R: Staged>(
 ) -> Result<(), TraceFault>
     requires fresh { lines.old ≡ opening }
     requires keeps { R.keeps ≡ keeps_log show }
+    requires begins { R.saw replayer.old replayer.old [] [] }
     ensures ends { (limit : CallLimit) → R.stage replayer.old ≡ Start limit
         → Reads (S.stream reader.old) (S.stream reader.new) (λ input unread.
         Ends limit show input unread (W.contents writer.old) (W.contents writer.new) result) }
+    ensures seen { IfOk result (λ u. Reads (S.stream reader.old) (S.stream reader.new) (λ input unread.
+        Writes (R.saw replayer.old replayer.new) (R.stage replayer.new) show input
+        (W.contents writer.old) (W.contents writer.new))) }
     ensures read { result ≡ Err ReadFailed → HasStopped (S.failed reader.new) (S.reads reader.new) }
     ensures write { result ≡ Err WriteFailed → W.failed writer.new ≡ true }
     ensures kept { (result ≡ Err WriteFailed) ⊎ (W.failed writer.new ≡ W.failed writer.old) }
@@ -134,56 +156,71 @@ fn replay_lines<A: Allocator, S: Source, W: Sink, R: Staged>(
 }
 
 // Acts on all lines, over a ledger of this kind.
-fn replay_over<L: Opening<A> + Drop, A: Allocator + Clone + Drop, S: Source, W: Sink>(
+fn replay_over<
+    L: Opening<A> + Drop,
+    A: Allocator + Clone + Drop,
+    S: Source,
+    W: Sink,
+    X: Watch + Copy,
+>(
     alloc: A,
     lines: &mut LineReader<A>,
     reader: &mut S,
     writer: &mut W,
     show: Show,
     limit: CallLimit,
+    watch: &mut X,
 ) -> Result<(), TraceFault>
     requires fresh { lines.old ≡ opening }
     requires keeps { L.keeps ≡ keeps_log show }
     requires fits { Fits L.keeps limit }
     ensures ends { Reads (S.stream reader.old) (S.stream reader.new) (λ input unread.
         Ends limit show input unread (W.contents writer.old) (W.contents writer.new) result) }
+    ensures seen { IfOk result (λ u. Reads (S.stream reader.old) (S.stream reader.new) (λ input unread.
+        IsSeen X.after watch.old watch.new show input (W.contents writer.old) (W.contents writer.new))) }
     ensures read { result ≡ Err ReadFailed → HasStopped (S.failed reader.new) (S.reads reader.new) }
     ensures write { result ≡ Err WriteFailed → W.failed writer.new ≡ true }
     ensures kept { (result ≡ Err WriteFailed) ⊎ (W.failed writer.new ≡ W.failed writer.old) }
 {
-    let mut replayer = Replayer::<A, L>::within(limit, alloc);
+    let mut replayer = Replayer::<A, L, X>::within(limit, alloc, *watch);
     let mut text = LineText::new();
-    replay_lines(lines, reader, writer, &mut replayer, show, &mut text)
+    let ended = replay_lines(lines, reader, writer, &mut replayer, show, &mut text);
+    *watch = replayer.watch();
+    ended
 }
 
 // Acts on all lines. The log is kept only where it is to be shown, and then the usual limit of calls
 // holds.
-fn replay_text<A: Allocator + Clone + Drop, S: Source, W: Sink>(
+fn replay_text<A: Allocator + Clone + Drop, S: Source, W: Sink, X: Watch + Copy>(
     alloc: A,
     lines: &mut LineReader<A>,
     reader: &mut S,
     writer: &mut W,
     show: Show,
     limit: CallLimit,
+    watch: &mut X,
 ) -> Result<(), TraceFault>
     requires fresh { lines.old ≡ opening }
     ensures ends { Reads (S.stream reader.old) (S.stream reader.new) (λ input unread.
         Ends (limit_for show limit) show input unread (W.contents writer.old) (W.contents writer.new) result) }
+    ensures seen { IfOk result (λ u. Reads (S.stream reader.old) (S.stream reader.new) (λ input unread.
+        IsSeen X.after watch.old watch.new show input (W.contents writer.old) (W.contents writer.new))) }
     ensures read { result ≡ Err ReadFailed → HasStopped (S.failed reader.new) (S.reads reader.new) }
     ensures write { result ≡ Err WriteFailed → W.failed writer.new ≡ true }
     ensures kept { (result ≡ Err WriteFailed) ⊎ (W.failed writer.new ≡ W.failed writer.old) }
 {
     match show {
-        Show::OutcomesAndLog => replay_over::<Kept<A>, A, S, W>(
+        Show::OutcomesAndLog => replay_over::<Kept<A>, A, S, W, X>(
             alloc,
             lines,
             reader,
             writer,
             show,
             CallLimit::Usual,
+            watch,
         ),
-        Show::Outcomes | Show::Maps => replay_over::<Forgotten, A, S, W>(
-            alloc, lines, reader, writer, show, limit,
+        Show::Outcomes | Show::Maps => replay_over::<Forgotten, A, S, W, X>(
+            alloc, lines, reader, writer, show, limit, watch,
         ),
     }
 }
@@ -215,15 +252,18 @@ impl<A: Allocator> Replayed<A> {
 }
 
 // Acts on all lines. Memory for a chunk of them is taken before anything is read.
-fn replay_read<A: Allocator + Clone + Drop, S: Source, W: Sink>(
+fn replay_read<A: Allocator + Clone + Drop, S: Source, W: Sink, X: Watch + Copy>(
     alloc: A,
     reader: &mut S,
     writer: &mut W,
     show: Show,
     limit: CallLimit,
+    watch: &mut X,
 ) -> Replayed<A>
     ensures ends { Reads (S.stream reader.old) (S.stream reader.new) (λ input unread.
         Ends (limit_for show limit) show input unread (W.contents writer.old) (W.contents writer.new) result.ended) }
+    ensures seen { IfOk result.ended (λ u. Reads (S.stream reader.old) (S.stream reader.new) (λ input unread.
+        IsSeen X.after watch.old watch.new show input (W.contents writer.old) (W.contents writer.new))) }
     ensures read { result.ended ≡ Err ReadFailed → HasStopped (S.failed reader.new) (S.reads reader.new) }
     ensures write { result.ended ≡ Err WriteFailed → W.failed writer.new ≡ true }
     ensures kept { (result.ended ≡ Err WriteFailed) ⊎ (W.failed writer.new ≡ W.failed writer.old) }
@@ -240,10 +280,36 @@ fn replay_read<A: Allocator + Clone + Drop, S: Source, W: Sink>(
             lines: None,
         };
     };
-    let ended = replay_text(alloc, &mut lines, reader, writer, show, limit);
+    let ended = replay_text(alloc, &mut lines, reader, writer, show, limit, watch);
     Replayed {
         ended,
         lines: Some(lines),
+    }
+}
+
+// Acts on all lines beside one who watches the steps, and sends out what was written.
+fn replay_watched<A: Allocator + Clone + Drop, S: Source, W: Sink, X: Watch + Copy>(
+    alloc: A,
+    reader: &mut S,
+    writer: &mut W,
+    show: Show,
+    limit: CallLimit,
+    watch: &mut X,
+) -> Replayed<A>
+    ensures ends { Reads (S.stream reader.old) (S.stream reader.new) (λ input unread.
+        Ends (limit_for show limit) show input unread (W.contents writer.old) (W.contents writer.new) result.ended) }
+    ensures seen { IfOk result.ended (λ u. Reads (S.stream reader.old) (S.stream reader.new) (λ input unread.
+        IsSeen X.after watch.old watch.new show input (W.contents writer.old) (W.contents writer.new))) }
+    ensures told { TellsFaults result.ended (S.failed reader.new) (S.reads reader.new)
+        (W.failed writer.old) (W.failed writer.new) (W.is_flushed writer.new) }
+{
+    let replayed = replay_read(alloc, reader, writer, show, limit, watch);
+    match writer.flush() {
+        Ok(()) => replayed,
+        Err(_) => Replayed {
+            ended: Err(TraceFault::WriteFailed),
+            lines: replayed.lines,
+        },
     }
 }
 
@@ -261,14 +327,29 @@ pub fn replay_telling<A: Allocator + Clone + Drop, S: Source, W: Sink>(
     ensures told { TellsFaults result.ended (S.failed reader.new) (S.reads reader.new)
         (W.failed writer.old) (W.failed writer.new) (W.is_flushed writer.new) }
 {
-    let replayed = replay_read(alloc, reader, writer, show, limit);
-    match writer.flush() {
-        Ok(()) => replayed,
-        Err(_) => Replayed {
-            ended: Err(TraceFault::WriteFailed),
-            lines: replayed.lines,
-        },
-    }
+    let mut nobody = Unwatched;
+    replay_watched(alloc, reader, writer, show, limit, &mut nobody)
+}
+
+/// As `replay_telling`, step by step, and puts the summary of all steps in place of what it was. After a
+/// fault the numbers are those of no whole trace, and no clause speaks of them.
+pub fn replay_summing<A: Allocator + Clone + Drop, S: Source, W: Sink>(
+    alloc: A,
+    reader: &mut S,
+    writer: &mut W,
+    show: Show,
+    limit: CallLimit,
+    summary: &mut Summary,
+) -> Replayed<A>
+    ensures ends { Reads (S.stream reader.old) (S.stream reader.new) (λ input unread.
+        Ends (limit_for show limit) show input unread (W.contents writer.old) (W.contents writer.new) result.ended) }
+    ensures sums { IfOk result.ended (λ u. Reads (S.stream reader.old) (S.stream reader.new) (λ input unread.
+        IsSeen summed nothing_counted summary.new show input (W.contents writer.old) (W.contents writer.new))) }
+    ensures told { TellsFaults result.ended (S.failed reader.new) (S.reads reader.new)
+        (W.failed writer.old) (W.failed writer.new) (W.is_flushed writer.new) }
+{
+    *summary = Summary::new();
+    replay_watched(alloc, reader, writer, show, limit, summary)
 }
 
 /// Acts on each line as it is read, and writes its text before the next line is acted on;

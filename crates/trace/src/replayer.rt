@@ -1,5 +1,5 @@
 //! A replay between two lines, and what one line does to it.
-ghost use Rattle.std.specs.Prelude.{◌≡◌, ◌≤◌, ◌⊎◌, [], Bool, false, option_map, None, IfOk};
+ghost use Rattle.std.specs.Prelude.{◌≡◌, ◌≤◌, ◌⊎◌, ℕ, List, [], Bool, false, option_map, None, IfOk};
 ghost use Rattle.core_steps.specs.Setups.{Fits};
 ghost use Rattle.std.specs.Prelude.{IfErr, IfNone, IfSome, OnOk, IsSomeAnd};
 ghost use Rattle.core_steps.specs.Machine.{state};
@@ -8,10 +8,11 @@ ghost use Rattle.trace_text.specs.Words.{words_of};
 ghost use Rattle.trace.specs.Stage.{Stage, Start, Declared, stage_of, Opens, OpenFails, CanOpen, Acts};
 ghost use Rattle.trace.specs.Stage.{BadFails, EventActs, EventFails, EventWants, FileFails, LateFails};
 ghost use Rattle.trace.specs.Stage.{LineActs, LineFails, LineWants, SpaceFails, kind_of};
+ghost use Rattle.trace.specs.Seen.{Grows, SeesAll, SeesEvent};
 ghost use Rattle.trace.specs.Shown.{HasNoneAt, IsNextAt, IsStartAt, log_at};
 
 use crate::declaration::{Declaration, FileLine};
-use crate::event_lines::run_line;
+use crate::event_lines::watch_line;
 use crate::fault::TraceFault;
 use core_steps::{CallLimit, Ledger, Machine, Opening, SetupFault};
 use map_list::MapLine;
@@ -23,6 +24,7 @@ use trace_text::{
     Line, LineText, first_word_is_file, first_word_is_vm, is_printable_line, read_line,
 };
 use vm_base::Entry;
+use watched::Watch;
 
 /// What acts on the lines of a trace, one at a time.
 pub trait Staged {
@@ -30,11 +32,14 @@ pub trait Staged {
     ghost stage: { Self → Stage };
     // Whether its log can be read.
     ghost keeps: { Bool };
+    // What was seen of these lines, which gave this text, from the one state on to the other.
+    ghost saw: { Self → Self → List (List ℕ) → List ℕ → Type 0 };
 
     /// Acts on the line with this number, and replaces the text by what it gives. A fault that
     /// isn't want of memory is the line's first. After a fault no other line is acted on.
     fn act(&mut self, number: u64, line: &[u8], text: &mut LineText) -> Result<(), TraceFault>
         ensures ok { OnOk result (Acts (stage self.old) line.now (stage self.new) text.new.bytes) }
+        ensures seen { OnOk result (Grows saw self.old line.now self.new text.new.bytes) }
         ensures err { IfErr result (λ f.
             ((f ≡ TraceFault.NoMemory) × LineWants keeps (stage self.old) line.now)
             ⊎ LineFails (stage self.old) number line.now f) };
@@ -59,9 +64,10 @@ pub trait Staged {
 }
 
 /// A replay between two lines. Up to the `vm` line it has neither a declaration nor a machine, then
-/// a declaration, and from the first line of an event on a machine, whose log goes to the ledger.
+/// a declaration, and from the first line of an event on a machine, whose log goes to the ledger, and
+/// whose steps may be watched.
 #[derive(Drop)]
-pub struct Replayer<A: Allocator + Clone, L: Ledger>
+pub struct Replayer<A: Allocator + Clone, L: Ledger, X: Watch>
 where
     RadixMap<A>: SlotMap,
     Cpu<A>: Hardware,
@@ -71,6 +77,7 @@ where
     limit: CallLimit,
     declaration: Option<Declaration>,
     machine: Option<Machine<RadixMap<A>, A, L>>,
+    watch: X,
     ghost fits: { Fits L.keeps limit },
 }
 
@@ -130,25 +137,35 @@ fn late_fault<A: Allocator + Clone + Drop, L: Opening<A> + Drop>(
     }
 }
 
-impl<A: Allocator + Clone + Drop, L: Opening<A> + Drop> Replayer<A, L> {
-    /// A replay before the first line.
-    pub fn new(alloc: A) -> Replayer<A, L>
-        ensures { ⟦<Self as Staged>⟧.stage result ≡ Start Usual }
+impl<A: Allocator + Clone + Drop, L: Opening<A> + Drop, X: Watch + Copy> Replayer<A, L, X> {
+    /// A replay before the first line, whose steps this one watches.
+    pub fn new(alloc: A, watch: X) -> Replayer<A, L, X>
+        ensures stage { ⟦<Self as Staged>⟧.stage result ≡ Start Usual }
+        ensures watch { result.watch ≡ watch }
     {
-        Replayer::within(CallLimit::Usual, alloc)
+        Replayer::within(CallLimit::Usual, alloc, watch)
     }
 
     /// A replay before the first line, of a trace that may ask for as many calls as this limit says.
-    pub fn within(limit: CallLimit, alloc: A) -> Replayer<A, L>
+    pub fn within(limit: CallLimit, alloc: A, watch: X) -> Replayer<A, L, X>
         requires { Fits L.keeps limit }
-        ensures { ⟦<Self as Staged>⟧.stage result ≡ Start limit }
+        ensures stage { ⟦<Self as Staged>⟧.stage result ≡ Start limit }
+        ensures watch { result.watch ≡ watch }
     {
         Replayer {
             alloc,
             limit,
             declaration: None,
             machine: None,
+            watch,
         }
+    }
+
+    /// Who watches the steps.
+    pub fn watch(&self) -> X
+        ensures { result ≡ self.now.watch }
+    {
+        self.watch
     }
 
     // Takes in the `vm` line.
@@ -163,6 +180,7 @@ impl<A: Allocator + Clone + Drop, L: Opening<A> + Drop> Replayer<A, L> {
     ) -> Result<(), TraceFault>
         ensures ok { OnOk result (LineActs (⟦<Self as Staged>⟧.stage self.old)
             (Line.Space cores frames calls) (⟦<Self as Staged>⟧.stage self.new) text.new.bytes) }
+        ensures watch { self.new.watch ≡ self.old.watch }
         ensures err { IfErr result (λ f. SpaceFails (⟦<Self as Staged>⟧.stage self.old) number f) }
     {
         if self.machine.is_some() {
@@ -206,6 +224,7 @@ impl<A: Allocator + Clone + Drop, L: Opening<A> + Drop> Replayer<A, L> {
     ) -> Result<(), TraceFault>
         ensures ok { OnOk result (LineActs (⟦<Self as Staged>⟧.stage self.old)
             (Line.File next file.mode file.len file.seed) (⟦<Self as Staged>⟧.stage self.new) text.new.bytes) }
+        ensures watch { self.new.watch ≡ self.old.watch }
         ensures err { IfErr result (λ f. FileFails (⟦<Self as Staged>⟧.stage self.old) number next f) }
     {
         if self.machine.is_some() {
@@ -235,6 +254,8 @@ impl<A: Allocator + Clone + Drop, L: Opening<A> + Drop> Replayer<A, L> {
         ensures ok { OnOk result
             (IsSomeAnd line (λ l. EventActs (⟦<Self as Staged>⟧.stage self.old) l
             (⟦<Self as Staged>⟧.stage self.new) text.new.bytes)) }
+        ensures seen { OnOk result (IsSomeAnd line (λ l. SeesEvent X.after (⟦<Self as Staged>⟧.stage self.old)
+            self.old.watch l (⟦<Self as Staged>⟧.stage self.new) self.new.watch text.new.bytes)) }
         ensures err { IfErr result
             (λ f. ((f ≡ TraceFault.NoMemory)
             × IsSomeAnd line (λ l. EventWants L.keeps (⟦<Self as Staged>⟧.stage self.old) l))
@@ -244,7 +265,7 @@ impl<A: Allocator + Clone + Drop, L: Opening<A> + Drop> Replayer<A, L> {
             Ok(machine) => machine,
             Err(fault) => return Err(fault),
         };
-        let done = run_line(&mut machine, line, number, text);
+        let done = watch_line(&mut machine, &mut self.watch, line, number, text);
         self.machine = Some(machine);
         done
     }
@@ -259,24 +280,29 @@ impl<A: Allocator + Clone + Drop, L: Opening<A> + Drop> Replayer<A, L> {
         ensures ok { OnOk result
             (IsSomeAnd line (λ l. EventActs (⟦<Self as Staged>⟧.stage self.old) l
             (⟦<Self as Staged>⟧.stage self.new) text.new.bytes)) }
+        ensures seen { OnOk result (IsSomeAnd line (λ l. SeesEvent X.after (⟦<Self as Staged>⟧.stage self.old)
+            self.old.watch l (⟦<Self as Staged>⟧.stage self.new) self.new.watch text.new.bytes)) }
         ensures err { IfErr result
             (λ f. ((f ≡ TraceFault.NoMemory)
             × IsSomeAnd line (λ l. EventWants L.keeps (⟦<Self as Staged>⟧.stage self.old) l))
             ⊎ EventFails (⟦<Self as Staged>⟧.stage self.old) number line f) }
     {
         match &mut self.machine {
-            Some(machine) => run_line(machine, line, number, text),
+            Some(machine) => watch_line(machine, &mut self.watch, line, number, text),
             None => self.act_on_first_event(number, line, text),
         }
     }
 }
 
-impl<A: Allocator + Clone + Drop, L: Opening<A> + Drop> Staged for Replayer<A, L> {
+impl<A: Allocator + Clone + Drop, L: Opening<A> + Drop, X: Watch + Copy> Staged
+    for Replayer<A, L, X> {
     ghost stage = { λ r. stage_of r.limit r.declaration (option_map state r.machine) };
 
     ghost keeps = { L.keeps };
 
-    #[tactic(auto, using(crate::proofs::Acting::event_failed))]
+    ghost saw = { λ first now lines text. SeesAll X.after first.watch
+        (stage_of now.limit now.declaration (option_map state now.machine)) lines text now.watch };
+
     fn act(&mut self, number: u64, line: &[u8], text: &mut LineText) -> Result<(), TraceFault> {
         let said = read_line(line);
         if !is_printable_line(line, &said) {

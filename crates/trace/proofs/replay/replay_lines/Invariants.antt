@@ -4,9 +4,10 @@ use Rattle.trace_io.specs.Window.{left, budget}
 use Rattle.core_steps.specs.declared.setup.CallLimit.{CallLimit}
 use Rattle.trace.specs.Stage.{Start}
 use Rattle.trace.proofs.RunLemmas.{HasRun}
+use Rattle.trace.proofs.Seeing.{HasSeen}
 use Rattle.trace.proofs.replay.replay_lines.Given as goal
 
--- each line took a byte, the lines so far were acted on, and no write failed
+-- each line took a byte, the lines so far were acted on and seen, and no write failed
 abbrev pub invariant-lines : goal.invariant-lines
 invariant-lines g l = record {
   budget : l.number + budget (g.S.Source.reads l.reader) l.lines ≤ 65536 * 2 ^ 32;
@@ -19,6 +20,14 @@ invariant-lines g l = record {
         stage = g.R.Staged.stage l.replayer;
         written = g.W.Sink.contents l.writer;
       }) l.number);
+  seen : Reads (g.S.Source.stream l.initial.reader) (g.S.Source.stream l.reader)
+      (λ input unread. HasSeen (g.R.Staged.saw l.initial.replayer l.replayer) l.fn.show input (g.W.Sink.contents l.initial.writer)
+      (record {
+        left = left unread l.lines;
+        unread = unread;
+        stage = g.R.Staged.stage l.replayer;
+        written = g.W.Sink.contents l.writer;
+      }));
 }
 
 abbrev pub decreases-lines : goal.decreases-lines

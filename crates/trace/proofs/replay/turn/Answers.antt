@@ -2,6 +2,7 @@ use Rattle.std.proofs.Common.{refl}
 use Rattle.trace_io.proofs.LineLemmas.{reads_map}
 use Rattle.trace.specs.Turns.{read_fails, unsent, too_long}
 use Rattle.trace.proofs.TurnLemmas.{not_read, not_write, act_fails, text_lost, line_told}
+use Rattle.trace.proofs.Seeing.{line_seen}
 use Rattle.trace.proofs.replay.turn.Goals as goal
 
 pub returns-in-Err-ReadFailed-clause-turns : goal.returns-in-Err-ReadFailed-clause-turns
@@ -48,3 +49,9 @@ returns-in_default-write_told-clause-turns g c =
     let found = rw c.in-Ok-Line.field-0-is at c.in-Ok-Line.ensures.found in
     reads_map _ _ _ _ found (λ xs ys k p. line_told _ _ _ _ _ _ _ p.0 p.1 p.2 c.line.ensures c.in_default.ensures.ok c.in-Ok-Line.ensures.written
     c.in_default-write_told.ensures.ok)
+
+pub returns-in_default-write_told-clause-seen : goal.returns-in_default-write_told-clause-seen
+returns-in_default-write_told-clause-seen g c =
+    let found = rw c.in-Ok-Line.field-0-is at c.in-Ok-Line.ensures.found in
+    λ e. reads_map _ _ _ _ found (λ xs ys k p. line_seen g.R.Staged.saw c.args.show c.args.replayer.now c.act.new.self _ _ _ _ _ _ p.0 p.1 p.2 c.line.ensures
+    c.in_default.ensures.ok c.in-Ok-Line.ensures.written c.in_default-write_told.ensures.ok c.in_default.ensures.seen)

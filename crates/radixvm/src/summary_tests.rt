@@ -1,0 +1,45 @@
+//! What `run --summary` tells of runs whose numbers are counted by hand.
+use crate::tests::{AMPLE, comes_to};
+
+const SUMMED: &[&[u8]] = &[b"radixvm", b"run", b"--summary"];
+
+// Two cores use a page, which one of them unmaps: both fault, the first fill is for both, and the other core is told.
+const SHOT: &[u8] =
+    b"vm 2 4\nc0! mmap 0x10000 4096 rw- pfa\nc0! store 0x10004 41\nc1! load 0x10004\nc0! munmap 0x10000 4096\nc1 take\nc1 take\nc0 finish\nc0! load 0x10000\nc0! munmap 0 0\n";
+
+const SHOT_OUT: &[u8] = b"0x10000\ndone\n41\nwait acks 1\nstep\nstep\ndone\nsegv maperr\neinval\n";
+
+const SHOT_NUMBERS: &[u8] =
+    b"calls mapped 1\ncalls done 2\ncalls byte 1\ncalls refused 1\ncalls segv 1\ncalls bus 0\ncalls noframe 0\ncalls nomemory 0\nfaults 3\nfills 1\nshootdowns 1\ntold 1 of 1\nframes 1\nepochs 0\n";
+
+// A private page of a file: its first load caches the file's page, its first store gives it a copy; one epoch ends.
+const COPIED: &[u8] =
+    b"vm 1 4\nfile 0 r 5000 7\nc0! mmap 0x10000 4096 rw- pf 0 0\nc0! load 0x10001\nc0! store 0x10001 1\nc0! load 0x12000\nc0 flush\nc0 flush\nc0 flush\nc0 flush\n";
+
+#[test]
+fn numbers_of_a_shootdown(rt: HostRuntime) {
+    assert!(rt;
+        comes_to(
+            (rt.alloc(), &rt),
+            SUMMED,
+            SHOT,
+            AMPLE,
+            (SHOT_OUT, SHOT_NUMBERS, 0)
+        )
+    );
+}
+
+// After a fault there are no numbers, and beside other words there is no summary.
+#[test]
+fn no_numbers(rt: HostRuntime) {
+    let bad = b"vm 1 4\nc0! load 0\nfrob\n";
+    assert!(rt;
+        comes_to(
+            (rt.alloc(), &rt),
+            SUMMED,
+            bad,
+            AMPLE,
+            (b"segv maperr\n", b"radixvm: line 3: bad line\n", 2)
+        )
+    );
+}

@@ -1,0 +1,12 @@
+use Rattle.std.proofs.Common.{subst}
+use Rattle.std.specs.Prelude.{IfOk}
+use Rattle.trace_io.specs.Source.{Reads}
+use Rattle.watched.specs.Sums.{summed}
+use Rattle.trace.specs.Seen.{IsSeen}
+use Rattle.trace.proofs.replay.replay_summing.Goals as goal
+
+pub returns-clause-sums : goal.returns-clause-sums
+returns-clause-sums g c =
+    subst (λ one. IfOk c.replay_watched.result.ended (λ u. Reads (g.S.Source.stream c.args.reader.now) (g.S.Source.stream c.replay_watched.new.reader)
+    (λ input unread. IsSeen summed one c.replay_watched.new.watch c.args.show input (g.W.Sink.contents c.args.writer.now) (g.W.Sink.contents c.replay_watched.new.writer))))
+    c.new.ensures c.replay_watched.ensures.seen
