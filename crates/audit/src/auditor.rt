@@ -84,6 +84,13 @@ impl<M: SlotMap, A: Allocator> Auditor<M, A> {
     ghost use Rattle.audit.specs.Judging.{Judges};
     ghost use Rattle.audit.specs.Placing.{rule_of};
 
+    /// The slots that say what each page is mapped to.
+    pub fn map(&self) -> &M
+        ensures { result.now ≡ self.now.map }
+    {
+        &self.map
+    }
+
     /// Judges the reply to a request of the core, which comes after those judged before. A legal one is
     /// the plain page map's, which goes on from there; after another one the map is as it was. Each
     /// request has a legal reply (POSIX.1-2017, mmap, munmap and mprotect; loads, stores and fetches of

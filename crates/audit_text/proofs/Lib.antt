@@ -1,0 +1,9 @@
+pub mod SplitLemmas
+pub mod ReplyLemmas
+pub mod SaidLemmas
+pub mod TextLemmas
+pub mod FileLemmas
+pub mod PlaceLemmas
+pub mod HeardLemmas
+pub mod AroundLemmas
+pub mod EndLemmas

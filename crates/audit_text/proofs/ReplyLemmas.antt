@@ -1,0 +1,160 @@
+-- Replies and their texts.
+use Rattle.std.proofs.Common.{◌≡◌, inl, inr, ℕ, zero, suc, ◌<◌, ◌≤◌, ◌^◌, Bool, true, false, cond, eqb, List, [], ◌∷◌, Option, Some, None}
+use Rattle.std.proofs.Common.{codes, decimal, arith, refl, sym, ap, ◌∙◌, subst}
+use Rattle.std.proofs.lemmas.Bool.Decides.{nat_tests}
+use Rattle.std.proofs.lemmas.Fmt.{decimal_digit}
+use Rattle.std.proofs.lemmas.Slice.Eq.{bytes_eq-Decides}
+use Rattle.std.specs.Prelude.{nat_lt, IfSome}
+use Rattle.std.specs.Str.{bytes_eq}
+use Rattle.vm_base.specs.declared.replies.Errno.TheVariants.{EINVAL, ENOMEM, EACCES, EBADF, EOVERFLOW}
+use Rattle.vm_base.specs.declared.replies.SegvCode.TheVariants.{MapErr, AccErr}
+use Rattle.vm_base.specs.declared.replies.Reply.{Reply}
+use Rattle.vm_base.specs.declared.replies.Reply.TheVariants.{Mapped, Done, Byte, Refused, Segv, Bus, NoFrame, NoMemory}
+use Rattle.trace_text.specs.Number.{number_of}
+use Rattle.trace_text.specs.Printing.{address_of, text_of}
+use Rattle.trace_text.specs.Request.{◌>>=◌}
+use Rattle.trace_text.specs.Spelling.{SpellsIn}
+use Rattle.trace_text.proofs.Choices.{bind_some, chosen}
+use Rattle.trace_text.proofs.SpellingLemmas.{decimal_spells, no_x, number_only, reads_printed}
+use Rattle.audit_text.specs.Replies.{IsReply, NamesReply, is_hexadecimal, is_wait, named_of, or_word, reply_of, value_of, word_reply}
+
+-- ---- what is written is read
+
+not_hexadecimal : (w : List ℕ) (n : ℕ) → SpellsIn 10 w n → is_hexadecimal w ≡ false
+not_hexadecimal [] n s = refl
+not_hexadecimal (c ∷ []) n s = refl
+not_hexadecimal (c ∷ (d ∷ ds)) n s = no_x c d ds s.digits s.each
+
+decimal_plain : (n : ℕ) → n < 2 ^ 64 → is_hexadecimal (decimal n) ≡ false
+decimal_plain zero h = ap is_hexadecimal (decimal_digit 0 (omega arith))
+decimal_plain (suc n) h = not_hexadecimal (decimal (suc n)) (suc n) (decimal_spells (suc n) (omega arith) h)
+
+value_byte : (b : ℕ) → b ≤ 255 → value_of (decimal b) ≡ Some (Byte b)
+unfolding value_of
+value_byte b h =
+    let k : number_of (decimal b) ≡ Some b = (reads_printed b (omega (arith, h))).0 in
+    let no : is_hexadecimal (decimal b) ≡ false = decimal_plain b (omega (arith, h)) in
+    let test : nat_lt 255 b ≡ false = grind (arith, nat_tests) in
+    ap (λ o. o >>= λ m. cond (is_hexadecimal (decimal b)) (Some (Mapped m)) (cond (nat_lt 255 m) None (Some (Byte m)))) k
+    ∙ ap (λ x. cond x (Some (Mapped b)) (cond (nat_lt 255 b) None (Some (Byte b)))) no
+    ∙ ap (λ x. cond x None (Some (Byte b))) test
+
+value_address : (a : ℕ) → a < 2 ^ 64 → value_of (address_of a) ≡ Some (Mapped a)
+unfolding value_of
+value_address a h =
+    let k : number_of (address_of a) ≡ Some a = (reads_printed a h).1 in
+    ap (λ o. o >>= λ m. cond (is_hexadecimal (address_of a)) (Some (Mapped m)) (cond (nat_lt 255 m) None (Some (Byte m)))) k
+
+named : (r : Reply) → IsReply r → named_of (text_of r) ≡ Some r
+unfolding value_of
+named (Mapped a) h = ap (λ o. or_word o (address_of a)) (value_address a h)
+named Done h = refl
+named (Byte b) h = ap (λ o. or_word o (decimal b)) (value_byte b h)
+named (Refused EINVAL) h = refl
+named (Refused ENOMEM) h = refl
+named (Refused EACCES) h = refl
+named (Refused EBADF) h = refl
+named (Refused EOVERFLOW) h = refl
+named (Segv MapErr) h = refl
+named (Segv AccErr) h = refl
+named Bus h = refl
+named NoFrame h = refl
+named NoMemory h = refl
+
+pub reply_read : (r : Reply) (text : List ℕ) → NamesReply r text → reply_of text ≡ Some r
+unfolding reply_of
+reply_read r text (is, h) =
+    ap reply_of is ∙ ap (λ o. o >>= λ q. cond (bytes_eq (text_of q) (text_of r)) (Some q) None) (named r h)
+    ∙ ap (λ b. cond b (Some r) None) ((bytes_eq-Decides (text_of r) (text_of r)).1 refl)
+
+-- ---- what is read is written so
+
+if_cond : {A : Type 0} (P : A → Type 0) (b : Bool) (o p : Option A) → IfSome o P → IfSome p P → IfSome (cond b o p) P
+if_cond P true o p h k = h
+if_cond P false o p h k = k
+
+word_fits : (text : List ℕ) → IfSome (word_reply text) IsReply
+word_fits text =
+    if_cond IsReply (bytes_eq text (codes "done")) (Some Done) _ tt (if_cond IsReply (bytes_eq text (codes "segv maperr")) (Some (Segv MapErr)) _ tt
+    (if_cond IsReply (bytes_eq text (codes "segv accerr")) (Some (Segv AccErr)) _ tt (if_cond IsReply (bytes_eq text (codes "einval")) (Some (Refused EINVAL)) _ tt
+    (if_cond IsReply (bytes_eq text (codes "enomem")) (Some (Refused ENOMEM)) _ tt (if_cond IsReply (bytes_eq text (codes "eacces")) (Some (Refused EACCES)) _ tt
+    (if_cond IsReply (bytes_eq text (codes "ebadf")) (Some (Refused EBADF)) _ tt (if_cond IsReply (bytes_eq text (codes "eoverflow")) (Some (Refused EOVERFLOW)) _ tt
+    (if_cond IsReply (bytes_eq text (codes "bus")) (Some Bus) _ tt (if_cond IsReply (bytes_eq text (codes "noframe")) (Some NoFrame) _ tt
+    (if_cond IsReply (bytes_eq text (codes "nomemory")) (Some NoMemory) None tt tt))))))))))
+
+value_fits : (text : List ℕ) → IfSome (value_of text) IsReply
+unfolding value_of
+value_fits text = go (number_of text) refl
+  where
+    small : (n : ℕ) (b : Bool) → nat_lt 255 n ≡ b → IfSome (cond b None (Some (Byte n))) IsReply
+    small n true e = tt
+    small n false e = let low : n ≤ 255 = grind (arith, nat_tests) in low
+
+    go : (o : Option ℕ) → number_of text ≡ o
+        → IfSome (o >>= λ n. cond (is_hexadecimal text) (Some (Mapped n)) (cond (nat_lt 255 n) None (Some (Byte n)))) IsReply
+    go None e = tt
+    go (Some n) e = if_cond IsReply (is_hexadecimal text) (Some (Mapped n)) _ (number_only text n e).0 (small n (nat_lt 255 n) refl)
+
+named_fits : (text : List ℕ) → IfSome (named_of text) IsReply
+named_fits text = go (value_of text) (value_fits text)
+  where
+    go : (o : Option Reply) → IfSome o IsReply → IfSome (or_word o text) IsReply
+    go None h = word_fits text
+    go (Some r) h = h
+
+pub reply_only : (text : List ℕ) (r : Reply) → reply_of text ≡ Some r → NamesReply r text
+unfolding reply_of
+reply_only text r e =
+    let (q, named, e1) = bind_some (named_of text) (λ q. cond (bytes_eq (text_of q) text) (Some q) None) r e in
+    elim (chosen (bytes_eq (text_of q) text) (Some q) None (Some r) e1) [
+      | inl h ↦
+          let same : q ≡ r = (let g = h.1 in cc) in
+          let fits : IsReply q = subst (λ o. IfSome o IsReply) named (named_fits text) in
+          subst (λ x. NamesReply x text) same (sym ((bytes_eq-Decides (text_of q) text).0 h.0), fits)
+      | inr h ↦ let bad = h.1 in absurd (cc)
+    ]
+
+-- ---- a wait is no reply
+
+no_w : (c : ℕ) (cs : List ℕ) → eqb c 119 ≡ true → number_of (c ∷ cs) ≡ None
+no_w c [] e = let is : c ≡ 119 = grind (arith, nat_tests, e) in ap (λ x. number_of (x ∷ [])) is
+no_w c (d ∷ ds) e = let is : c ≡ 119 = grind (arith, nat_tests, e) in ap (λ x. number_of (x ∷ d ∷ ds)) is
+
+begins_so : (text : List ℕ) → is_wait text ≡ true → value_of text ≡ None
+unfolding value_of
+begins_so [] e = absurd (cc)
+begins_so (a ∷ []) e = absurd (cc)
+begins_so (a ∷ (b ∷ [])) e = absurd (cc)
+begins_so (a ∷ (b ∷ (c ∷ []))) e = absurd (cc)
+begins_so (a ∷ (b ∷ (c ∷ (d ∷ [])))) e = absurd (cc)
+begins_so (a ∷ (b ∷ (c ∷ (d ∷ (x ∷ rest))))) e =
+    let text = a ∷ b ∷ c ∷ d ∷ x ∷ rest in
+    let all : a ∷ b ∷ c ∷ d ∷ x ∷ [] ≡ codes "wait " = (bytes_eq-Decides (a ∷ b ∷ c ∷ d ∷ x ∷ []) (codes "wait ")).0 e in
+    let first : a ≡ 119 = cc in
+    let yes : eqb a 119 ≡ true = grind (arith, nat_tests) in
+    ap (λ o. o >>= λ m. cond (is_hexadecimal text) (Some (Mapped m)) (cond (nat_lt 255 m) None (Some (Byte m)))) (no_w a (b ∷ c ∷ d ∷ x ∷ rest) yes)
+
+not_valued : (text : List ℕ) (r : Reply) → value_of text ≡ Some r → is_wait text ≡ false
+not_valued text r e = go (is_wait text) refl
+  where
+    go : (b : Bool) → is_wait text ≡ b → b ≡ false
+    go false h = refl
+    go true h = let none = begins_so text h in absurd (cc)
+
+waits_not : (r : Reply) → IsReply r → is_wait (text_of r) ≡ false
+waits_not (Mapped a) h = not_valued (address_of a) (Mapped a) (value_address a h)
+waits_not Done h = refl
+waits_not (Byte b) h = not_valued (decimal b) (Byte b) (value_byte b h)
+waits_not (Refused EINVAL) h = refl
+waits_not (Refused ENOMEM) h = refl
+waits_not (Refused EACCES) h = refl
+waits_not (Refused EBADF) h = refl
+waits_not (Refused EOVERFLOW) h = refl
+waits_not (Segv MapErr) h = refl
+waits_not (Segv AccErr) h = refl
+waits_not Bus h = refl
+waits_not NoFrame h = refl
+waits_not NoMemory h = refl
+
+pub reply_waits_not : (r : Reply) (text : List ℕ) → NamesReply r text → is_wait text ≡ false
+reply_waits_not r text (is, h) = ap is_wait is ∙ waits_not r h

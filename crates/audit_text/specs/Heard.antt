@@ -1,0 +1,96 @@
+-- What the lines of a text say, one after another.
+use Rattle.std.specs.Prelude.{◌≡◌, ℕ, suc, ◌≤◌, ◌==◌, ◌&&◌, nat_le, nat_lt, not, Bool, true, false, List, [], ◌∷◌, ◌++◌, length, get_or, set}
+use Rattle.std.specs.Prelude.{replicate, Option, None, Some, is_some, option_map, if◌then◌else◌}
+use Rattle.vm_base.specs.declared.requests.Request.{Request}
+use Rattle.vm_base.specs.declared.replies.Reply.{Reply}
+use Rattle.vm_base.specs.Plain.{File as PlainFile, file_with}
+use Rattle.trace_text.specs.Line.{seeded}
+use Rattle.audit.specs.declared.auditor.Call.{Call}
+use Rattle.audit_text.specs.Grammar.{Tells}
+use Rattle.audit_text.specs.declared.reading.Said.{Said}
+use Rattle.audit_text.specs.declared.reading.Said.TheVariants.{Blank, Space, File, Answered, Waits, Ends, StillWaits, Passes}
+
+-- ---- the lines in front
+
+-- whether a space is declared, and its files by their numbers
+pub record Declared : Type 0 where
+  pub has_space : Bool
+  pub files : List PlainFile
+
+abbrev pub undeclared : Declared
+undeclared = record { has_space = false; files = [] }
+
+-- a space of 1 to 64 cores, once
+abbrev pub with_space : Declared → ℕ → Option Declared
+with_space d cores = if not d.has_space && nat_le 1 cores && nat_le cores 64 then Some (record d { has_space = true }) else None
+
+-- the next file: at most 16, of at most 1,048,576 bytes each
+abbrev pub with_file : Declared → ℕ → PlainFile → ℕ → Option Declared
+with_file d number file len = if d.has_space && (number == length d.files) && nat_lt number 16 && nat_le len 1048576
+    then Some (record d { files = d.files ++ file ∷ [] }) else None
+
+-- ---- the calls
+
+-- what the call of each core asks for that waits, the calls that were answered, in order of their replies, and how
+-- many lines were passed over
+pub record Heard : Type 0 where
+  pub waiting : List (Option Request)
+  pub calls : List Call
+  pub passed : ℕ
+
+abbrev pub nothing : Heard
+nothing = record { waiting = replicate 64 None; calls = []; passed = 0 }
+
+abbrev pub waits : Heard → ℕ → Option Request
+waits h core = get_or h.waiting core None
+
+abbrev pub call_to : ℕ → Reply → Request → Call
+call_to core reply request = record { core = core; request = request; reply = reply }
+
+-- the call whose reply a line tells: it is in the line, unless a call of its core waits, or it is the one that waits
+abbrev pub call_told : Heard → Said → Option Call
+call_told h (Answered call) = if is_some (waits h call.core) then None else Some call
+call_told h (Ends core reply) = option_map (call_to core reply) (waits h core)
+call_told h _ = None
+
+-- with the call that this line tells, which doesn't wait any more
+abbrev pub with_call : Heard → Said → Call → Heard
+with_call h (Ends core reply) call = record h { waiting = set h.waiting core None; calls = h.calls ++ call ∷ [] }
+with_call h said call = record h { calls = h.calls ++ call ∷ [] }
+
+abbrev pub one_passed : Heard → Heard
+one_passed h = record h { passed = suc h.passed }
+
+-- after a line of this; none, where it may not stand here
+abbrev pub heard_after : Heard → Said → Option Heard
+heard_after h Blank = Some h
+heard_after h (Answered call) = option_map (with_call h (Answered call)) (call_told h (Answered call))
+heard_after h (Ends core reply) = option_map (with_call h (Ends core reply)) (call_told h (Ends core reply))
+heard_after h (Waits core request) =
+    if is_some (waits h core) then None else Some (record h { waiting = set h.waiting core (Some request) })
+heard_after h (StillWaits core) = if is_some (waits h core) then Some (one_passed h) else None
+heard_after h Passes = Some (one_passed h)
+heard_after h _ = None
+
+-- ---- both
+
+-- the declaration goes on, or it has ended and the calls go on
+pub data Stage : Type 0 where
+  Front : Declared → Stage
+  Behind : Declared → Heard → Stage
+
+abbrev pub behind : Declared → Option Heard → Option Stage
+behind d h = option_map (Behind d) h
+
+abbrev pub stage_after : Stage → Said → Option Stage
+stage_after (Front d) Blank = Some (Front d)
+stage_after (Front d) (Space cores frames calls) = option_map Front (with_space d cores)
+stage_after (Front d) (File number mode len seed) = option_map Front (with_file d number (file_with mode (seeded len seed)) len)
+stage_after (Front d) said = if d.has_space then behind d (heard_after nothing said) else None
+stage_after (Behind d h) said = behind d (heard_after h said)
+
+-- the lines, none longer than 512 bytes, lead from one stage to the other
+abbrev pub Leads : Stage → List (List ℕ) → Stage → Type 0
+Leads a [] b = b ≡ a
+Leads a (l ∷ ls) b =
+    (said : Said) × (m : Stage) × (length l ≤ 512) × Tells said l × (stage_after a said ≡ Some m) × Leads m ls b

@@ -1,0 +1,132 @@
+-- What a legal text is, and what stands in the way of it first.
+use Rattle.std.specs.Prelude.{◌≡◌, ℕ, suc, ◌<◌, ◌≤◌, ◌⊎◌, Bool, true, false, List, [], ◌∷◌, ◌++◌, length, slice_get, Option, None, Some, if◌then◌else◌}
+use Rattle.vm_base.specs.declared.requests.Request.{Request}
+use Rattle.vm_base.specs.declared.requests.Request.TheVariants.{Mmap, Munmap, Mprotect, Load, Store, Fetch}
+use Rattle.vm_base.specs.declared.replies.Reply.{Reply}
+use Rattle.vm_base.specs.Answers.{FirstAnswers}
+use Rattle.vm_base.specs.Pages.{page_of}
+use Rattle.vm_base.specs.Plain.{Plain, nothing_mapped}
+use Rattle.map_list.specs.Lines.{plain_metas}
+use Rattle.map_list.specs.declared.lines.MapLine.{MapLine}
+use Rattle.audit.specs.Judging.{Answers, AreReplies}
+use Rattle.audit.specs.Placing.{rule_of}
+use Rattle.audit.specs.declared.auditor.Call.{Call}
+use Rattle.audit_text.specs.Around.{IsAround}
+use Rattle.audit_text.specs.Grammar.{Tells}
+use Rattle.audit_text.specs.Heard.{Declared, Heard, Stage, Front, Behind, Leads, call_told, nothing, stage_after, undeclared}
+use Rattle.audit_text.specs.declared.reading.Said.{Said}
+
+abbrev pub declared_in : Stage → Declared
+declared_in (Front d) = d
+declared_in (Behind d h) = d
+
+abbrev pub heard_in : Stage → Heard
+heard_in (Front d) = nothing
+heard_in (Behind d h) = h
+
+-- the plain page map at first: nothing is mapped, and the files are as declared
+abbrev pub first_map : Declared → Plain
+first_map d = nothing_mapped (λ n. slice_get d.files n)
+
+-- the replies told so far, one after another, are the plain page map's, and lead to u
+abbrev pub Follows : Bool → Stage → Plain → Type 0
+Follows any s u = AreReplies (rule_of any) (first_map (declared_in s)) (heard_in s).calls u
+
+-- A text is legal, with so many calls: its lines may stand where they are, a space is declared, and the replies that
+-- they tell, one after another, are the plain page map's.
+pub record IsLegal (any : Bool) (lines : List (List ℕ)) (calls passed : ℕ) : Type 0 where
+  pub stage : Stage
+  pub plain : Plain
+  pub leads : Leads (Front undeclared) lines stage
+  pub space : (declared_in stage).has_space ≡ true
+  pub replies : Follows any stage plain
+  pub calls_are : calls ≡ length (heard_in stage).calls
+  pub passed_are : passed ≡ (heard_in stage).passed
+
+-- ---- the first line that isn't
+
+-- so many lines lead to a stage, and these are left
+pub record IsPlace (lines : List (List ℕ)) (number : ℕ) (more : List (List ℕ)) (s : Stage) : Type 0 where
+  pub done : List (List ℕ)
+  pub is : lines ≡ done ++ more
+  pub count : length done ≡ number
+  pub leads : Leads (Front undeclared) done s
+
+-- the call whose reply a line tells at a stage
+abbrev pub told_at : Stage → Said → Option Call
+told_at (Front d) said = if d.has_space then call_told nothing said else None
+told_at (Behind d h) said = call_told h said
+
+abbrev pub page_asked : Request → ℕ
+page_asked (Mmap addr len prot flags file off) = page_of addr
+page_asked (Munmap addr len) = page_of addr
+page_asked (Mprotect addr len prot) = page_of addr
+page_asked (Load addr) = page_of addr
+page_asked (Store addr b) = page_of addr
+page_asked (Fetch addr) = page_of addr
+
+-- The lines before this one are legal, and lead to this map. It tells a reply that no plain page map gives, and the first
+-- one gives another.
+pub record IsWrong (any : Bool) (lines : List (List ℕ)) (number : ℕ) (call : Call) (due : Reply) (plain : Plain) : Type 0 where
+  pub stage : Stage
+  pub line : List ℕ
+  pub more : List (List ℕ)
+  pub said : Said
+  pub before : ℕ
+  pub number_is : number ≡ suc before
+  pub place : IsPlace lines before (line ∷ more) stage
+  pub replies : Follows any stage plain
+  pub short : length line ≤ 512
+  pub tells : Tells said line
+  pub told : told_at stage said ≡ Some call
+  pub none : (v : Plain) → ¬ Answers (rule_of any) plain call.core call.request call.reply v
+  pub other : (v : Plain) × FirstAnswers plain call.core call.request due v
+
+-- and these mappings are around its request
+pub record IsIllegal (any : Bool) (lines : List (List ℕ)) (number : ℕ) (call : Call) (due : Reply) (around : List MapLine)
+    : Type 0 where
+  pub plain : Plain
+  pub wrong : IsWrong any lines number call due plain
+  pub shown : IsAround (plain_metas plain) (page_asked call.request) around
+
+-- the line says nothing, or what it says may not stand here
+abbrev pub IsMisplaced : Stage → List ℕ → Type 0
+IsMisplaced s line = ((said : Said) → Tells said line → ⊥) ⊎ ((said : Said) × Tells said line × (stage_after s said ≡ None))
+
+-- The lines before this one are legal, and it is misplaced.
+pub record IsBad (any : Bool) (lines : List (List ℕ)) (number : ℕ) : Type 0 where
+  pub stage : Stage
+  pub plain : Plain
+  pub line : List ℕ
+  pub more : List (List ℕ)
+  pub before : ℕ
+  pub number_is : number ≡ suc before
+  pub place : IsPlace lines before (line ∷ more) stage
+  pub replies : Follows any stage plain
+  pub misplaced : IsMisplaced stage line
+
+-- they are, and it is too long
+pub record IsOverlong (any : Bool) (lines : List (List ℕ)) (number : ℕ) : Type 0 where
+  pub stage : Stage
+  pub plain : Plain
+  pub line : List ℕ
+  pub more : List (List ℕ)
+  pub before : ℕ
+  pub number_is : number ≡ suc before
+  pub place : IsPlace lines before (line ∷ more) stage
+  pub replies : Follows any stage plain
+  pub long : 512 < length line
+
+-- the next line, if there is one, may not stand here
+abbrev pub IsStuck : Stage → List (List ℕ) → Type 0
+IsStuck s [] = s ≡ s
+IsStuck s (line ∷ more) = (said : Said) × Tells said line × (stage_after s said ≡ None)
+
+-- no space is declared so far, and one would have to be
+pub record LacksSpace (lines : List (List ℕ)) : Type 0 where
+  pub stage : Stage
+  pub number : ℕ
+  pub more : List (List ℕ)
+  pub place : IsPlace lines number more stage
+  pub no_space : (declared_in stage).has_space ≡ false
+  pub stuck : IsStuck stage more

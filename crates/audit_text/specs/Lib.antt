@@ -1,0 +1,9 @@
+pub mod Replies
+pub mod Grammar
+pub mod Reading
+pub mod Faults
+pub mod Heard
+pub mod Around
+pub mod Legal
+pub mod Steps
+pub mod Ends

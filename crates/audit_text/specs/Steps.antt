@@ -1,0 +1,128 @@
+-- What the parts of an audit come to.
+use Rattle.std.specs.Prelude.{◌≡◌, ℕ, suc, ◌≤◌, ⊤, Bool, true, false, List, [], ◌∷◌, ◌++◌, length, map, Option, None, Some, Result, Ok, Err, if◌then◌else◌}
+use Rattle.slot_lock.specs.declared.slot_map.SlotMap.{Ghosts as MapGhosts}
+use Rattle.slot_lock.specs.declared.slot_map.SlotRead.{Ghosts as ReadGhosts}
+use Rattle.backing.specs.declared.file_spec.FileSpec.{FileSpec}
+use Rattle.vm_base.specs.Answers.{FirstAnswers}
+use Rattle.vm_base.specs.Plain.{File, Plain, file_with}
+use Rattle.audit.specs.Judging.{Answers, AreReplies}
+use Rattle.audit.specs.Placing.{rule_of}
+use Rattle.audit_text.specs.Grammar.{Tells}
+use Rattle.audit_text.specs.Heard.{Declared, Heard, Stage, Front, behind, call_told, heard_after, nothing, one_passed, stage_after}
+use Rattle.audit_text.specs.Legal.{Follows, IsLegal, IsPlace, IsWrong, declared_in, heard_in, page_asked, told_at}
+use Rattle.audit_text.specs.Around.{IsAround}
+use Rattle.map_list.specs.declared.lines.MapLine.{MapLine}
+use Rattle.vm_base.specs.declared.info.Meta.{Meta}
+use Rattle.audit_text.specs.declared.declaring.Declaration.{Declaration}
+use Rattle.audit_text.specs.declared.declaring.Declares.{Declares}
+use Rattle.audit_text.specs.declared.declaring.Declares.TheVariants as Is
+use Rattle.audit.specs.declared.auditor.Call.{Call}
+use Rattle.audit_text.specs.declared.hearing.Hearing.{Hearing}
+use Rattle.audit_text.specs.declared.hearing.Turn.{Turn}
+use Rattle.audit_text.specs.declared.hearing.Turn.TheVariants.{Legal, Bad, Illegal}
+use Rattle.audit_text.specs.declared.input.AuditFault.{AuditFault}
+use Rattle.audit_text.specs.declared.input.AuditFault.TheVariants.{BadLine, NoMemory}
+use Rattle.audit_text.specs.declared.judging.Verdict.{Verdict}
+use Rattle.audit_text.specs.declared.judging.Verdict.TheVariants as Of
+use Rattle.audit_text.specs.declared.reading.Said.{Said}
+
+-- ---- a declaration
+
+abbrev pub file_of : {A : Type 0} → FileSpec A → File
+file_of spec = file_with spec.mode spec.bytes.items
+
+abbrev pub declared_of : {A : Type 0} → Declaration A → Declared
+declared_of it = record { has_space = it.has_space; files = map file_of it.files.items }
+
+-- the declaration has ended: what follows is a call's line, or may not stand here
+abbrev pub HasEnded : Declared → Said → Type 0
+HasEnded d said = stage_after (Front d) said ≡ (if d.has_space then behind d (heard_after nothing said) else None)
+
+abbrev pub Adds : Declared → Said → Declares → Declared → Type 0
+Adds d said Is.Part e = stage_after (Front d) said ≡ Some (Front e)
+Adds d said Is.Bad e = stage_after (Front d) said ≡ None
+Adds d said Is.Ended e = (e ≡ d) × HasEnded d said
+
+-- ---- a line that is heard
+
+abbrev pub heard_of : {M A : Type 0} {map : MapGhosts M} {read : ReadGhosts M} → Hearing M A map read → Heard
+heard_of it = record { waiting = it.waiting.items; calls = it.calls.items; passed = it.passed }
+
+-- each core has a place, and the calls are counted
+pub record IsCounted {M A : Type 0} {map : MapGhosts M} {read : ReadGhosts M} (it : Hearing M A map read) : Type 0 where
+  pub places : length it.waiting.items ≡ 64
+  pub judged : it.judged ≡ length it.calls.items
+
+-- no plain page map gives this reply
+abbrev pub IsRefused : Bool → Plain → Turn → Type 0
+IsRefused any t (Illegal call due) = ((v : Plain) → ¬ Answers (rule_of any) t call.core call.request call.reply v)
+    × ((v : Plain) × FirstAnswers t call.core call.request due v)
+IsRefused any t _ = ⊤
+
+abbrev pub Hears : Bool → Heard → Plain → Said → Turn → Heard → Plain → Type 0
+Hears any h t said Legal k u = (heard_after h said ≡ Some k)
+    × ((first : Plain) → AreReplies (rule_of any) first h.calls t → AreReplies (rule_of any) first k.calls u)
+Hears any h t said Bad k u = heard_after h said ≡ None
+Hears any h t said (Illegal call due) k u = (call_told h said ≡ Some call) × (u ≡ t) × IsRefused any t (Illegal call due)
+
+-- the same of one call, whoever tells it
+abbrev pub with_answer : Heard → Call → Heard
+with_answer h call = record h { calls = h.calls ++ call ∷ [] }
+
+abbrev pub JudgesCall : Bool → Heard → Plain → Call → Turn → Heard → Plain → Type 0
+JudgesCall any h t call Legal k u = (k ≡ with_answer h call) × Answers (rule_of any) t call.core call.request call.reply u
+JudgesCall any h t call Bad k u = ⊥
+JudgesCall any h t call (Illegal c due) k u = (c ≡ call) × (u ≡ t) × IsRefused any t (Illegal c due)
+
+-- a line is passed over, if it may be
+abbrev pub Passes : Bool → Heard → Turn → Heard → Type 0
+Passes may h Legal k = (may ≡ true) × (k ≡ one_passed h)
+Passes may h Bad k = (may ≡ false) × (k ≡ h)
+Passes may h (Illegal c due) k = ⊥
+
+-- ---- a place in a text
+
+-- the line with this number says this, at this stage, and these follow it
+pub record IsAtLine (lines : List (List ℕ)) (number : ℕ) (said : Said) (more : List (List ℕ)) (s : Stage) : Type 0 where
+  pub line : List ℕ
+  pub before : ℕ
+  pub number_is : number ≡ suc before
+  pub place : IsPlace lines before (line ∷ more) s
+  pub short : length line ≤ 512
+  pub tells : Tells said line
+
+-- the declaration is d, and the text ends, or this line is no part of it
+abbrev pub EndsFront : List (List ℕ) → Declared → Option Said → ℕ → List (List ℕ) → Type 0
+EndsFront lines d None number more = IsPlace lines number [] (Front d)
+EndsFront lines d (Some said) number more = IsAtLine lines number said more (Front d) × HasEnded d said
+
+-- at this line the calls of d's space begin or go on, and the replies before it are legal
+pub record IsCall (any : Bool) (lines : List (List ℕ)) (d : Declared) (h : Heard) (t : Plain) (said : Said) (number : ℕ)
+    (more : List (List ℕ)) : Type 0 where
+  pub stage : Stage
+  pub at : IsAtLine lines number said more stage
+  pub space : d.has_space ≡ true
+  pub after : stage_after stage said ≡ behind d (heard_after h said)
+  pub told : told_at stage said ≡ call_told h said
+  pub declared : declared_in stage ≡ d
+  pub heard : heard_in stage ≡ h
+  pub follows : Follows any stage t
+
+-- what the line with this number comes to
+abbrev pub TurnsOut : Bool → Heard → Plain → Said → ℕ → Result (Option Verdict) AuditFault → Heard → Plain → Type 0
+TurnsOut any h t said line (Ok None) k u = Hears any h t said Legal k u
+TurnsOut any h t said line (Ok (Some (Of.Legal calls passed))) k u = ⊥
+TurnsOut any h t said line (Ok (Some (Of.Illegal n call due))) k u = (n ≡ line) × Hears any h t said (Illegal call due) k u
+TurnsOut any h t said line (Err (BadLine n)) k u = (n ≡ line) × (heard_after h said ≡ None)
+TurnsOut any h t said line (Err NoMemory) k u = ⊤
+TurnsOut any h t said line (Err _) k u = ⊥
+
+-- the verdict, without the mappings around
+abbrev pub IsFound : Bool → List (List ℕ) → Verdict → Plain → Type 0
+IsFound any lines (Of.Legal calls passed) u = IsLegal any lines calls passed
+IsFound any lines (Of.Illegal line call due) u = IsWrong any lines line call due u
+
+-- the mappings around the verdict's request, if it has one
+abbrev pub ShowsAround : (ℕ → Option Meta) → Verdict → List MapLine → Type 0
+ShowsAround meta (Of.Legal calls passed) around = around ≡ []
+ShowsAround meta (Of.Illegal line call due) around = IsAround meta (page_asked call.request) around

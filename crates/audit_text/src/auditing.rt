@@ -1,0 +1,237 @@
+//! A text is read whole, its replies are judged, and the verdict is written.
+ghost use Rattle.std.specs.Prelude.{◌≡◌, ◌⊎◌, ◌+◌, ◌<◌, ◌≤◌, ◌^◌, [], Bool, Err, IfErr, IfOk, OnErr, OnOk, List, ℕ, Some, length, true};
+ghost use Rattle.trace_io.specs.Lines.{lines_of};
+ghost use Rattle.std.specs.Io.KnownBytes.{Appends};
+ghost use Rattle.trace_io.specs.Sink.{AppendsFront};
+ghost use Rattle.trace_io.specs.Source.{HasStopped, Reads};
+ghost use Rattle.slot_lock.specs.Slots.{IsNew};
+ghost use Rattle.map_list.specs.Walked.{slot_metas};
+ghost use Rattle.audit_text.specs.Ends.{AuditEnds, IsAtFault, IsVerdict};
+ghost use Rattle.audit_text.specs.Legal.{IsPlace, LacksSpace};
+ghost use Rattle.audit_text.specs.Heard.{Front};
+ghost use Rattle.audit_text.specs.Steps.{EndsFront, IsFound, ShowsAround, declared_of};
+
+use crate::around::{mappings_around, page_asked};
+use crate::declaring::{Declaration, declare};
+use crate::hearing::Hearing;
+use crate::input::{AuditFault, read_text};
+use crate::judging::{Verdict, hear_lines};
+use crate::reading::Said;
+use crate::telling::verdict_text;
+use map_list::MapLine;
+use slot_lock::SlotMap;
+use std::alloc::Allocator;
+use trace_io::sink::{Sink, write_all};
+use trace_io::source::Source;
+
+/// A verdict, and the mappings around the request of the reply that is illegal.
+#[derive(Debug, Drop)]
+pub struct Judged<A: Allocator> {
+    pub verdict: Verdict,
+    pub around: Vec<MapLine, A>,
+}
+
+// The mappings around the verdict's request, if it has one.
+fn around_verdict<M: SlotMap, A: Allocator>(
+    alloc: A,
+    map: &M,
+    verdict: &Verdict,
+) -> Result<Vec<MapLine, A>, AuditFault>
+    ensures ok { IfOk result (λ around. ShowsAround (slot_metas (M.slots map.now)) verdict.now around.items) }
+    ensures err { IfErr result (λ f. f ≡ AuditFault.NoMemory) }
+{
+    let Verdict::Illegal { call, .. } = verdict else {
+        return Ok(Vec::new(alloc));
+    };
+    match mappings_around(map, alloc, page_asked(call.request)) {
+        Ok(around) => Ok(around),
+        Err(_) => Err(AuditFault::NoMemory),
+    }
+}
+
+// Judges the calls of a text with this declaration in front.
+fn judge_calls<M: SlotMap + Drop, A: Allocator + Clone + Drop>(
+    alloc: A,
+    map: M,
+    declaration: Declaration<A>,
+    first: Said,
+    number: u64,
+    rest: &[u8],
+    any_place: bool,
+) -> Result<Judged<A>, AuditFault>
+    requires new { IsNew (M.slots map) }
+    requires few { length declaration.files.items ≤ 16 }
+    requires room { number + length rest.now < 2 ^ 64 }
+    ensures ok { IfOk result (λ j. (lines : List (List ℕ)) → EndsFront lines (declared_of declaration) (Some first) number (lines_of rest.now)
+        → IsVerdict any_place lines j.verdict j.around.items) }
+    ensures err { IfErr result (λ f. (lines : List (List ℕ)) → EndsFront lines (declared_of declaration) (Some first) number (lines_of rest.now)
+        → IsAtFault any_place lines f) }
+{
+    if !declaration.has_space {
+        return Err(AuditFault::NoVmLine);
+    }
+    // (this never comes, since lines are numbered from 1)
+    if number == 0 {
+        return Err(AuditFault::NoMemory);
+    }
+    let Ok(for_around) = alloc.clone() else {
+        return Err(AuditFault::NoMemory);
+    };
+    let Ok(mut hearing) = Hearing::new(alloc, map, declaration.files, any_place) else {
+        return Err(AuditFault::NoMemory);
+    };
+    let verdict = hear_lines(&mut hearing, first, number, rest)?;
+    let around = around_verdict(for_around, hearing.auditor.map(), &verdict)?;
+    Ok(Judged { verdict, around })
+}
+
+// The verdict on a text without calls.
+fn judge_none<A: Allocator>(alloc: A, declaration: Declaration<A>) -> Result<Judged<A>, AuditFault>
+    ensures ok { IfOk result (λ j. (any : Bool) (lines : List (List ℕ)) (number : ℕ) → IsPlace lines number [] (Front (declared_of declaration))
+        → IsVerdict any lines j.verdict j.around.items) }
+    ensures err { IfErr result (λ f. (any : Bool) (lines : List (List ℕ)) (number : ℕ) → IsPlace lines number [] (Front (declared_of declaration))
+        → IsAtFault any lines f) }
+{
+    if !declaration.has_space {
+        return Err(AuditFault::NoVmLine);
+    }
+    Ok(Judged {
+        verdict: Verdict::Legal {
+            calls: 0,
+            passed: 0,
+        },
+        around: Vec::new(alloc),
+    })
+}
+
+// Judges what follows a declaration.
+fn judge_behind<M: SlotMap + Drop, A: Allocator + Clone + Drop>(
+    alloc: A,
+    map: M,
+    declaration: Declaration<A>,
+    first: Option<Said>,
+    number: u64,
+    rest: &[u8],
+    any_place: bool,
+) -> Result<Judged<A>, AuditFault>
+    requires new { IsNew (M.slots map) }
+    requires few { length declaration.files.items ≤ 16 }
+    requires room { number + length rest.now < 2 ^ 64 }
+    ensures ok { IfOk result (λ j. (lines : List (List ℕ)) → EndsFront lines (declared_of declaration) first number
+        (lines_of rest.now) → IsVerdict any_place lines j.verdict j.around.items) }
+    ensures err { IfErr result (λ f. (lines : List (List ℕ)) → EndsFront lines (declared_of declaration) first number
+        (lines_of rest.now) → IsAtFault any_place lines f) }
+{
+    match first {
+        Some(said) => judge_calls(alloc, map, declaration, said, number, rest, any_place),
+        None => judge_none(alloc, declaration),
+    }
+}
+
+/// Judges the replies of a text.
+pub fn judge_text<M: SlotMap + Drop, A: Allocator + Clone + Drop>(
+    alloc: A,
+    map: M,
+    text: &[u8],
+    any_place: bool,
+) -> Result<Judged<A>, AuditFault>
+    requires new { IsNew (M.slots map) }
+    ensures ok { IfOk result (λ j. IsVerdict any_place (lines_of text.now) j.verdict j.around.items) }
+    ensures err { IfErr result (λ f. IsAtFault any_place (lines_of text.now) f) }
+{
+    let Ok(for_files) = alloc.clone() else {
+        return Err(AuditFault::NoMemory);
+    };
+    // this says that lines are fewer than 2^64
+    let _most = text.len();
+    let mut declaration = Declaration::new(for_files);
+    match declare(&mut declaration, &alloc, text) {
+        Ok(behind) => judge_behind(
+            alloc,
+            map,
+            declaration,
+            behind.said,
+            behind.number,
+            behind.rest,
+            any_place,
+        ),
+        Err(fault) => Err(fault),
+    }
+}
+
+// Writes all of the bytes, which have gone out then.
+fn write_out<W: Sink>(writer: &mut W, bytes: &[u8]) -> Result<(), AuditFault>
+    ensures ok { OnOk result (Appends (W.contents writer.old) (W.contents writer.new) bytes.now) }
+    ensures out { OnOk result (W.is_flushed writer.new ≡ true) }
+    ensures kept { OnOk result (W.failed writer.new ≡ W.failed writer.old) }
+    ensures front { OnErr result (AppendsFront (W.contents writer.old) (W.contents writer.new) bytes.now) }
+    ensures err { OnErr result (W.failed writer.new ≡ true) }
+    ensures fault { IfErr result (λ f. f ≡ AuditFault.WriteFailed) }
+{
+    if let Err(_) = write_all(writer, bytes) {
+        return Err(AuditFault::WriteFailed);
+    }
+    if let Err(_) = writer.flush() {
+        return Err(AuditFault::WriteFailed);
+    }
+    Ok(())
+}
+
+// Judges a text, and writes the verdict.
+#[tactic(auto, using(crate::proofs::EndLemmas::judges_all, crate::proofs::EndLemmas::breaks_off, crate::proofs::EndLemmas::fails_so, crate::proofs::EndLemmas::keeps_same))]
+fn judge_out<M: SlotMap + Drop, A: Allocator + Clone + Drop, W: Sink>(
+    alloc: A,
+    map: M,
+    text: &[u8],
+    writer: &mut W,
+    any_place: bool,
+) -> Result<Verdict, AuditFault>
+    requires new { IsNew (M.slots map) }
+    ensures ends { AuditEnds any_place text.now (W.contents writer.old) (W.contents writer.new) result }
+    ensures out { OnOk result (W.is_flushed writer.new ≡ true) }
+    ensures read { result ≡ Err AuditFault.ReadFailed → ⊥ }
+    ensures write { result ≡ Err AuditFault.WriteFailed → W.failed writer.new ≡ true }
+    ensures kept { (result ≡ Err AuditFault.WriteFailed) ⊎ (W.failed writer.new ≡ W.failed writer.old) }
+{
+    let Ok(for_judging) = alloc.clone() else {
+        return Err(AuditFault::NoMemory);
+    };
+    let judged = match judge_text(for_judging, map, text, any_place) {
+        Ok(judged) => judged,
+        Err(fault) => return Err(fault),
+    };
+    let Ok(told) = verdict_text(alloc, &judged.verdict, judged.around.as_slice()) else {
+        return Err(AuditFault::NoMemory);
+    };
+    match write_out(writer, told.as_slice()) {
+        Ok(()) => Ok(judged.verdict),
+        Err(fault) => Err(fault),
+    }
+}
+
+/// Reads a text to its end, and writes whether its replies, one after another, are those of the plain page map that
+/// begins with nothing mapped: `legal CALLS`, or the first that isn't, what would be due, and the mappings around it.
+/// A mapping without `MAP_FIXED` may be at any free run of valid pages if `any_place` says so. The map has nothing mapped.
+pub fn audit_text<M: SlotMap + Drop, A: Allocator + Clone + Drop, S: Source, W: Sink>(
+    alloc: A,
+    map: M,
+    reader: &mut S,
+    writer: &mut W,
+    any_place: bool,
+) -> Result<Verdict, AuditFault>
+    requires new { IsNew (M.slots map) }
+    ensures ends { Reads (S.stream reader.old) (S.stream reader.new) (λ input unread.
+        AuditEnds any_place input (W.contents writer.old) (W.contents writer.new) result) }
+    ensures out { OnOk result (W.is_flushed writer.new ≡ true) }
+    ensures read { result ≡ Err AuditFault.ReadFailed → HasStopped (S.failed reader.new) (S.reads reader.new) }
+    ensures write { result ≡ Err AuditFault.WriteFailed → W.failed writer.new ≡ true }
+    ensures kept { (result ≡ Err AuditFault.WriteFailed) ⊎ (W.failed writer.new ≡ W.failed writer.old) }
+{
+    let Ok(for_text) = alloc.clone() else {
+        return Err(AuditFault::NoMemory);
+    };
+    match read_text(for_text, reader) {
+        Ok(text) => judge_out(alloc, map, text.as_slice(), writer, any_place),
+        Err(fault) => Err(fault),
+    }
+}

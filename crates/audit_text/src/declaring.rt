@@ -1,0 +1,187 @@
+//! What the lines in front of the calls declare.
+ghost use Rattle.std.specs.Prelude.{◌≡◌, ◌+◌, ◌≤◌, Bool, IfErr, IfOk, OnOk, length};
+ghost use Rattle.trace_io.specs.Lines.{lines_of};
+ghost use Rattle.trace_text.specs.Line.{seeded};
+ghost use Rattle.audit_text.specs.Ends.{IsAtFault};
+ghost use Rattle.audit_text.specs.Heard.{undeclared};
+ghost use Rattle.audit_text.specs.Steps.{EndsFront, declared_of};
+
+use crate::input::{AuditFault, front_line, said_at};
+use crate::reading::Said;
+use backing::FileSpec;
+use std::alloc::{AllocError, Allocator};
+use vm_base::{Mode, NoMemory};
+
+/// How many files a space may have.
+const FILES: u64 = 16;
+
+/// How many bytes a file may have.
+const FILE_LIMIT: u64 = 1_048_576;
+
+/// What the lines so far declare.
+#[derive(Drop)]
+pub struct Declaration<A: Allocator> {
+    /// Whether a space is declared.
+    pub has_space: bool,
+    /// Its files, by their numbers.
+    pub files: Vec<FileSpec<A>, A>,
+}
+
+/// What a line is to a declaration.
+#[derive(Clone, Copy, Debug, PartialEq, Eq)]
+pub enum Declares {
+    /// It says a part of it, or nothing.
+    Part,
+    /// It may not stand here.
+    Bad,
+    /// It is no part of one: the declaration has ended.
+    Ended,
+}
+
+/// What follows a declaration.
+#[derive(Clone, Copy, Debug)]
+pub struct Behind<'a> {
+    /// What the first line says that is no part of it, if there is one.
+    pub said: Option<Said>,
+    /// That line's number, or how many lines there are.
+    pub number: u64,
+    /// The lines behind that one.
+    pub rest: &'a [u8],
+}
+
+// The bytes of a file: each is one more than the one before it, modulo 256.
+fn bytes_of<A: Allocator>(alloc: A, len: u64, seed: u8) -> Result<Vec<u8, A>, AllocError>
+    requires { len ≤ 1048576 }
+    ensures { IfOk result (λ bytes. bytes.items ≡ seeded len seed) }
+{
+    let mut bytes = Vec::with_capacity(alloc, len as usize)?;
+    let mut byte = seed;
+    'bytes: for _at in 0..len {
+        bytes.push_reserved(byte);
+        byte = byte.wrapping_add(1);
+    }
+    Ok(bytes)
+}
+
+impl<A: Allocator + Clone> Declaration<A> {
+    ghost use Rattle.std.specs.Prelude.{◌≡◌, ◌≤◌, IfOk, OnOk, None, Some, false, length};
+    ghost use Rattle.vm_base.specs.Plain.{file_with};
+    ghost use Rattle.trace_text.specs.Line.{seeded};
+    ghost use Rattle.audit_text.specs.Heard.{undeclared, with_file, with_space};
+    ghost use Rattle.audit_text.specs.Steps.{Adds, declared_of};
+    ghost use Rattle.audit_text.specs.declared.declaring.Declares.TheVariants as Is;
+
+    /// Nothing is declared yet. It takes no memory.
+    pub fn new(alloc: A) -> Declaration<A>
+        ensures declared { declared_of result ≡ undeclared }
+        ensures few { length result.files.items ≤ 16 }
+    {
+        Declaration {
+            has_space: false,
+            files: Vec::new(alloc),
+        }
+    }
+
+    // Takes in the line of a space.
+    fn add_space(&mut self, cores: u64) -> Declares
+        ensures part { result ≡ Is.Part → with_space (declared_of self.old) cores ≡ Some (declared_of self.new) }
+        ensures bad { result ≡ Is.Bad → with_space (declared_of self.old) cores ≡ None }
+        ensures ended { result ≡ Is.Ended → ⊥ }
+        ensures same { self.new.files ≡ self.old.files }
+    {
+        if self.has_space || cores == 0 || cores > 64 {
+            return Declares::Bad;
+        }
+        self.has_space = true;
+        Declares::Part
+    }
+
+    // Takes in the line of a file.
+    fn add_file(
+        &mut self,
+        alloc: A,
+        number: u64,
+        mode: Mode,
+        len: u64,
+        seed: u8,
+    ) -> Result<Declares, NoMemory>
+        requires few { length self.old.files.items ≤ 16 }
+        ensures part { IfOk result (λ r. r ≡ Is.Part
+            → with_file (declared_of self.old) number (file_with mode (seeded len seed)) len ≡ Some (declared_of self.new)) }
+        ensures bad { IfOk result (λ r. r ≡ Is.Bad
+            → with_file (declared_of self.old) number (file_with mode (seeded len seed)) len ≡ None) }
+        ensures ended { IfOk result (λ r. r ≡ Is.Ended
+            → (self.old.has_space ≡ false) × (declared_of self.new ≡ declared_of self.old)) }
+        ensures few { OnOk result (length self.new.files.items ≤ 16) }
+    {
+        let next = self.files.len() as u64;
+        if !self.has_space {
+            return Ok(Declares::Ended);
+        }
+        if number != next || next >= FILES || len > FILE_LIMIT {
+            return Ok(Declares::Bad);
+        }
+        let bytes = bytes_of(alloc, len, seed)?;
+        self.files.push(FileSpec { mode, bytes })?;
+        Ok(Declares::Part)
+    }
+
+    // Takes in what a line says.
+    fn add(&mut self, alloc: &A, said: &Said) -> Result<Declares, NoMemory>
+        requires few { length self.old.files.items ≤ 16 }
+        ensures adds { IfOk result (λ r. Adds (declared_of self.old) said.now r (declared_of self.new)) }
+        ensures few { OnOk result (length self.new.files.items ≤ 16) }
+    {
+        match said {
+            Said::Blank => Ok(Declares::Part),
+            Said::Space { cores, .. } => Ok(self.add_space(*cores)),
+            Said::File {
+                number,
+                mode,
+                len,
+                seed,
+            } => self.add_file(alloc.clone()?, *number, *mode, *len, *seed),
+            _ => Ok(Declares::Ended),
+        }
+    }
+}
+
+/// Takes in the lines up to the first that is no part of a declaration.
+pub fn declare<'a, A: Allocator + Clone>(
+    declaration: &mut Declaration<A>,
+    alloc: &A,
+    text: &'a [u8],
+) -> Result<Behind<'a>, AuditFault>
+    requires fresh { declared_of declaration.old ≡ undeclared }
+    requires few { length declaration.old.files.items ≤ 16 }
+    ensures ok { IfOk result (λ b. EndsFront (lines_of text.now) (declared_of declaration.new) b.said b.number (lines_of b.rest.now)) }
+    ensures room { IfOk result (λ b. b.number + length b.rest.now ≤ length text.now) }
+    ensures few { OnOk result (length declaration.new.files.items ≤ 16) }
+    ensures err { IfErr result (λ f. (any : Bool) → IsAtFault any (lines_of text.now) f) }
+{
+    // this says that lines are fewer than 2^64
+    let _most = text.len();
+    let mut rest = text;
+    let mut number = 0u64;
+    'lines: while !rest.is_empty() {
+        number += 1;
+        let (line, more) = front_line(rest);
+        let said = said_at(line, number)?;
+        rest = more;
+        match declaration.add(alloc, &said) {
+            Ok(Declares::Part) => {}
+            Ok(Declares::Bad) => return Err(AuditFault::BadLine(number)),
+            Ok(Declares::Ended) => return Ok(Behind {
+                said: Some(said),
+                number,
+                rest,
+            }),
+            Err(_) => return Err(AuditFault::NoMemory),
+        }
+    }
+    Ok(Behind {
+        said: None,
+        number,
+        rest,
+    })
+}

@@ -1,0 +1,95 @@
+//! The lines of a text, heard one after another, up to the first reply that no plain page map gives.
+ghost use Rattle.std.specs.Prelude.{◌≡◌, ◌+◌, ◌≤◌, ◌<◌, ◌^◌, List, ℕ, IfErr, IfOk, OnOk, length};
+ghost use Rattle.trace_io.specs.Lines.{lines_of};
+ghost use Rattle.audit.specs.Auditor.{plain_of};
+ghost use Rattle.audit_text.specs.Ends.{IsAtFault};
+ghost use Rattle.audit_text.specs.Heard.{Declared};
+ghost use Rattle.audit_text.specs.Steps.{IsCall, IsCounted, IsFound, TurnsOut, heard_of};
+
+use crate::hearing::{Hearing, Turn};
+use crate::input::{AuditFault, front_line, said_at};
+use crate::reading::Said;
+use audit::Call;
+use slot_lock::SlotMap;
+use std::alloc::Allocator;
+use vm_base::Reply;
+
+/// What judging the replies of a text comes to.
+#[derive(Clone, Copy, Debug, PartialEq, Eq)]
+pub enum Verdict {
+    /// They are the plain page map's.
+    Legal {
+        /// How many calls were judged.
+        calls: u64,
+        /// How many lines were passed over.
+        passed: u64,
+    },
+    /// The first that isn't.
+    Illegal {
+        /// The number of its line, from 1.
+        line: u64,
+        /// Whose it is, and what the text says that it was answered.
+        call: Call,
+        /// What the first plain page map would give.
+        due: Reply,
+    },
+}
+
+// Hears what the line with this number says. A verdict is that its reply is none.
+fn turn<M: SlotMap + Drop, A: Allocator + Drop>(
+    hearing: &mut Hearing<M, A>,
+    said: Said,
+    line: u64,
+) -> Result<Option<Verdict>, AuditFault>
+    requires counted { IsCounted hearing.old }
+    requires room { hearing.old.judged + hearing.old.passed + 1 < 2 ^ 64 }
+    ensures turns { TurnsOut hearing.old.auditor.any_place (heard_of hearing.old) (plain_of hearing.old.auditor) said line result
+        (heard_of hearing.new) (plain_of hearing.new.auditor) }
+    ensures any_place { hearing.new.auditor.any_place ≡ hearing.old.auditor.any_place }
+    ensures counted { OnOk result (IsCounted hearing.new) }
+    ensures few { OnOk result (hearing.new.judged + hearing.new.passed ≤ hearing.old.judged + hearing.old.passed + 1) }
+{
+    match hearing.hear(said) {
+        Ok(Turn::Legal) => Ok(None),
+        Ok(Turn::Bad) => Err(AuditFault::BadLine(line)),
+        Ok(Turn::Illegal(call, due)) => Ok(Some(Verdict::Illegal { line, call, due })),
+        Err(_) => Err(AuditFault::NoMemory),
+    }
+}
+
+/// Hears what the line with this number says, and then the lines behind it.
+pub fn hear_lines<M: SlotMap + Drop, A: Allocator + Drop>(
+    hearing: &mut Hearing<M, A>,
+    first: Said,
+    number: u64,
+    text: &[u8],
+) -> Result<Verdict, AuditFault>
+    requires counted { IsCounted hearing.old }
+    requires few { hearing.old.judged + hearing.old.passed + 1 ≤ number }
+    requires room { number + length text.now < 2 ^ 64 }
+    ensures ok { IfOk result (λ verdict. (lines : List (List ℕ)) (d : Declared)
+        → IsCall hearing.old.auditor.any_place lines d (heard_of hearing.old) (plain_of hearing.old.auditor) first number (lines_of text.now)
+        → IsFound hearing.old.auditor.any_place lines verdict (plain_of hearing.new.auditor)) }
+    ensures err { IfErr result (λ f. (lines : List (List ℕ)) (d : Declared)
+        → IsCall hearing.old.auditor.any_place lines d (heard_of hearing.old) (plain_of hearing.old.auditor) first number (lines_of text.now)
+        → IsAtFault hearing.old.auditor.any_place lines f) }
+{
+    let mut said = first;
+    let mut line = number;
+    let mut rest = text;
+    'lines: loop {
+        if let Some(verdict) = turn(hearing, said, line)? {
+            return Ok(verdict);
+        }
+        if rest.is_empty() {
+            return Ok(Verdict::Legal {
+                calls: hearing.judged,
+                passed: hearing.passed,
+            });
+        }
+        line += 1;
+        let (front, more) = front_line(rest);
+        said = said_at(front, line)?;
+        rest = more;
+    }
+}

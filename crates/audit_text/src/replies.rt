@@ -1,0 +1,114 @@
+//! What a call came to, as text: a reply, or a wait.
+ghost use Rattle.std.specs.Prelude.{◌≡◌};
+ghost use Rattle.std.specs.Str.{bytes_eq};
+ghost use Rattle.trace_text.specs.Printing.{text_of};
+ghost use Rattle.audit_text.specs.Replies.{is_hexadecimal, is_step, is_wait, named_of, reply_of, value_of, word_reply};
+
+use trace_text::number::read_number;
+use trace_text::{LineText, push_reply};
+use vm_base::{Errno, Reply, SegvCode};
+
+// Tells whether the text begins as an address does.
+fn is_hexadecimal(text: &[u8]) -> bool
+    ensures { result ≡ is_hexadecimal text.now }
+{
+    match text {
+        [b'0', b'x', ..] => true,
+        _ => false,
+    }
+}
+
+// The reply that is a number: an address in hexadecimal digits, a byte in decimal ones.
+#[tactic(auto, unfolding(crate::specs::Replies::value_of))]
+fn read_value(text: &[u8]) -> Option<Reply>
+    ensures { result ≡ value_of text.now }
+{
+    let number = read_number(text)?;
+    if is_hexadecimal(text) {
+        return Some(Reply::Mapped(number));
+    }
+    if number > 255 {
+        return None;
+    }
+    Some(Reply::Byte(number as u8))
+}
+
+// The reply that is no number.
+fn read_word(text: &[u8]) -> Option<Reply>
+    ensures { result ≡ word_reply text.now }
+{
+    if text == b"done".as_slice() {
+        Some(Reply::Done)
+    } else if text == b"segv maperr".as_slice() {
+        Some(Reply::Segv(SegvCode::MapErr))
+    } else if text == b"segv accerr".as_slice() {
+        Some(Reply::Segv(SegvCode::AccErr))
+    } else if text == b"einval".as_slice() {
+        Some(Reply::Refused(Errno::EINVAL))
+    } else if text == b"enomem".as_slice() {
+        Some(Reply::Refused(Errno::ENOMEM))
+    } else if text == b"eacces".as_slice() {
+        Some(Reply::Refused(Errno::EACCES))
+    } else if text == b"ebadf".as_slice() {
+        Some(Reply::Refused(Errno::EBADF))
+    } else if text == b"eoverflow".as_slice() {
+        Some(Reply::Refused(Errno::EOVERFLOW))
+    } else if text == b"bus".as_slice() {
+        Some(Reply::Bus)
+    } else if text == b"noframe".as_slice() {
+        Some(Reply::NoFrame)
+    } else if text == b"nomemory".as_slice() {
+        Some(Reply::NoMemory)
+    } else {
+        None
+    }
+}
+
+// The reply that the text may be of, which may be written otherwise.
+fn read_named(text: &[u8]) -> Option<Reply>
+    ensures { result ≡ named_of text.now }
+{
+    if let Some(reply) = read_value(text) {
+        return Some(reply);
+    }
+    read_word(text)
+}
+
+// Tells whether the reply is written so.
+fn is_written_so(reply: Reply, text: &[u8]) -> bool
+    ensures { result ≡ bytes_eq (text_of reply) text.now }
+{
+    let mut written = LineText::new();
+    push_reply(&mut written, reply);
+    written.as_str().as_bytes() == text
+}
+
+/// The reply that is written so; `None` where none is.
+#[tactic(auto, unfolding(crate::specs::Replies::reply_of))]
+pub fn read_reply(text: &[u8]) -> Option<Reply>
+    ensures { result ≡ reply_of text.now }
+{
+    let reply = read_named(text)?;
+    if is_written_so(reply, text) {
+        Some(reply)
+    } else {
+        None
+    }
+}
+
+/// Tells whether a call waits that came to this.
+pub fn is_wait(text: &[u8]) -> bool
+    ensures { result ≡ is_wait text.now }
+{
+    match text {
+        [b'w', b'a', b'i', b't', b' ', ..] => true,
+        _ => false,
+    }
+}
+
+/// Tells whether an event that is no call came to this: a step, or nothing.
+pub fn is_step(text: &[u8]) -> bool
+    ensures { result ≡ is_step text.now }
+{
+    text == b"step".as_slice() || text == b"idle".as_slice()
+}
