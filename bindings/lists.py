@@ -53,4 +53,4 @@ for seed in range(rounds):
                 print(f"line {number + 4}, {said}: {a}, expected {b}")
                 break
         sys.exit(1)
-print(f"{rounds} random traces of 400 events, the same text")
+print(f"{rounds} random traces of 400 events, the same text: {' '.join(command[1:]) or 'one batch'}")
