@@ -12,24 +12,27 @@ const SHOT_OUT: &[u8] = b"0x10000\ndone\n41\nwait acks 1\nstep\nstep\ndone\nsegv
 const SHOT_NUMBERS: &[u8] =
     b"calls mapped 1\ncalls done 2\ncalls byte 1\ncalls refused 1\ncalls segv 1\ncalls bus 0\ncalls noframe 0\ncalls nomemory 0\nfaults 3\nfills 1\nshootdowns 1\ntold 1 of 1\nframes 1\nepochs 0\n";
 
-// A private page of a file: its first load caches the file's page, its first store gives it a copy; one epoch ends.
+// A private page of a file: its first load caches the file's page, its first store gives it a copy. The first flush hands
+// on a count, each other one ends an epoch.
 const COPIED: &[u8] =
     b"vm 1 4\nfile 0 r 5000 7\nc0! mmap 0x10000 4096 rw- pf 0 0\nc0! load 0x10001\nc0! store 0x10001 1\nc0! load 0x12000\nc0 flush\nc0 flush\nc0 flush\nc0 flush\n";
 
+const COPIED_OUT: &[u8] = b"0x10000\n8\ndone\nsegv maperr\nstep\nstep\nstep\nstep\n";
+
+const COPIED_NUMBERS: &[u8] =
+    b"calls mapped 1\ncalls done 1\ncalls byte 1\ncalls refused 0\ncalls segv 1\ncalls bus 0\ncalls noframe 0\ncalls nomemory 0\nfaults 3\nfills 2\nshootdowns 0\ntold 0 of 0\nframes 2\nepochs 3\n";
+
 #[test]
-fn numbers_of_a_shootdown(rt: HostRuntime) {
-    assert!(rt;
-        comes_to(
-            (rt.alloc(), &rt),
-            SUMMED,
-            SHOT,
-            AMPLE,
-            (SHOT_OUT, SHOT_NUMBERS, 0)
-        )
-    );
+fn numbers(rt: HostRuntime) {
+    for (input, out, numbers) in [
+        (SHOT, SHOT_OUT, SHOT_NUMBERS),
+        (COPIED, COPIED_OUT, COPIED_NUMBERS),
+    ] {
+        assert!(rt; comes_to((rt.alloc(), &rt), SUMMED, input, AMPLE, (out, numbers, 0)));
+    }
 }
 
-// After a fault there are no numbers, and beside other words there is no summary.
+// After a fault there are no numbers.
 #[test]
 fn no_numbers(rt: HostRuntime) {
     let bad = b"vm 1 4\nc0! load 0\nfrob\n";
