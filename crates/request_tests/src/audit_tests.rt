@@ -28,7 +28,7 @@ fn files_of(alloc: Global, file: Option<File>) -> Result<Vec<FileSpec<Global>, G
 }
 
 /// Another reply than this one.
-fn other(reply: Reply) -> Reply {
+pub fn other(reply: Reply) -> Reply {
     match reply {
         Reply::Mapped(at) if at > 4096 => Reply::Mapped(at - 4096),
         Reply::Mapped(_) => EINVAL,
@@ -164,7 +164,7 @@ fn any_free_run_is_a_place(rt: HostRuntime) {
 }
 
 /// The next of numbers below a limit that look random (the generator of MMIX, Knuth).
-fn next(seed: &mut u64, limit: u64) -> u64
+pub fn next(seed: &mut u64, limit: u64) -> u64
     requires { 1 ≤ limit }
     ensures { result < limit }
 {
@@ -205,7 +205,7 @@ fn random_mapping(seed: &mut u64, addr: u64, len: u64) -> Request {
 }
 
 /// A request of some of twelve pages.
-fn random_request(seed: &mut u64) -> Request {
+pub fn random_request(seed: &mut u64) -> Request {
     let page = 0x10000 + next(seed, 12) * 4096;
     let len = next(seed, 4) * 4096 + next(seed, 2);
     let at = page + next(seed, 3) * 2047;
