@@ -1,14 +1,14 @@
 -- How an audit begins and ends.
-use Rattle.std.proofs.Common.{◌≡◌, ℕ, Bool, true, cond, List, Option, Some, None, Result, Ok, Err, refl, sym, ap, ◌∙◌, subst}
-use Rattle.std.specs.Prelude.{IfOk, IfErr}
+use Rattle.std.proofs.Common.{◌≡◌, ℕ, Bool, true, cond, List, Option, Some, None, Result, Ok, Err, inr, refl, sym, ap, ◌∙◌, subst}
+use Rattle.std.specs.Prelude.{⊤, IfOk, IfErr}
 use Rattle.std.specs.Io.KnownBytes.{Keeps, Appends}
 use Rattle.trace_io.specs.Lines.{lines_of}
 use Rattle.trace_io.specs.Sink.{AppendsFront}
-use Rattle.trace_io.specs.Source.{Stream, Reads}
+use Rattle.trace_io.specs.Source.{Stream, Reads, HasStopped}
 use Rattle.trace_io.proofs.LineLemmas.{reads_map, reads_none}
 use Rattle.vm_base.specs.Plain.{Plain}
 use Rattle.map_list.specs.declared.lines.MapLine.{MapLine}
-use Rattle.audit_text.specs.Ends.{AuditEnds, IsAtFault, IsVerdict, verdict_text}
+use Rattle.audit_text.specs.Ends.{AuditEnds, IsAtFault, IsVerdict, TellsAudit, verdict_text}
 use Rattle.audit_text.specs.Heard.{Declared, Front, Heard, behind, call_told, heard_after, nothing}
 use Rattle.audit_text.specs.Faults.{IsReadFault}
 use Rattle.audit_text.specs.Legal.{first_map}
@@ -92,3 +92,37 @@ unmade a any o = reads_none a _ (λ xs. (tt, keeps_same o))
 
 pub no_write : (f : AuditFault) → IsReadFault f → f ≡ WriteFailed → ⊥
 no_write f h e = subst IsReadFault e h
+
+-- ---- what is told of reads and writes
+
+abbrev fault_in : {T : Type 0} → Result T AuditFault → AuditFault
+fault_in (Ok x) = NoMemory
+fault_in (Err f) = f
+
+abbrev failed_with : (T : Type 0) → AuditFault → Result T AuditFault
+failed_with T f = Err f
+
+-- a fault of reading, before anything was written
+pub tells_unread : {T U : Type 0} (f : AuditFault) (read_failed : Bool) (reads : ℕ) (failed is_flushed : Bool)
+    → (failed_with T f ≡ failed_with T ReadFailed → HasStopped read_failed reads) → IsReadFault f
+    → TellsAudit (failed_with U f) read_failed reads failed failed is_flushed
+tells_unread f read_failed reads failed is_flushed r h = record {
+  read = λ e. r (ap Err (ap fault_in e));
+  write = λ e. absurd (no_write f h (ap fault_in e));
+  kept = inr refl;
+  out = tt;
+}
+
+abbrev IsWanting : AuditFault → Type 0
+IsWanting NoMemory = ⊤
+IsWanting _ = ⊥
+
+-- want of memory
+pub tells_want : {U : Type 0} (read_failed : Bool) (reads : ℕ) (failed is_flushed : Bool)
+    → TellsAudit (failed_with U NoMemory) read_failed reads failed failed is_flushed
+tells_want read_failed reads failed is_flushed = record {
+  read = λ e. absurd (subst IsWanting (ap fault_in e) tt);
+  write = λ e. absurd (subst IsWanting (ap fault_in e) tt);
+  kept = inr refl;
+  out = tt;
+}

@@ -1,9 +1,10 @@
 -- How an audit ends, and what it writes.
-use Rattle.std.specs.Prelude.{◌≡◌, ℕ, ⊤, Bool, List, [], ◌++◌, Option, Result, Ok, Err, codes, decimal}
+use Rattle.std.specs.Prelude.{◌≡◌, ◌⊎◌, ℕ, ⊤, Bool, true, OnOk, List, [], ◌++◌, Option, Result, Ok, Err, codes, decimal}
 use Rattle.std.specs.List.{flat_map}
 use Rattle.std.specs.Io.KnownBytes.{Keeps, Appends}
 use Rattle.trace_io.specs.Lines.{lines_of}
 use Rattle.trace_io.specs.Sink.{AppendsFront}
+use Rattle.trace_io.specs.Source.{HasStopped}
 use Rattle.trace_text.specs.Lists.{map_line}
 use Rattle.trace_text.specs.Printing.{text_of}
 use Rattle.map_list.specs.declared.lines.MapLine.{MapLine}
@@ -65,3 +66,11 @@ Fails any input old new f = IsAtFault any (lines_of input) f × Keeps old new
 abbrev pub AuditEnds : Bool → List ℕ → Option (List ℕ) → Option (List ℕ) → Result Verdict AuditFault → Type 0
 AuditEnds any input old new (Ok verdict) = Judges any input old new verdict
 AuditEnds any input old new (Err f) = Fails any input old new f
+
+-- `read failed` is told only of a read that failed or was one too many, and `write failed` only where a write or a flush failed; where
+-- it isn't told, none failed; a verdict has gone out
+pub record TellsAudit {T : Type 0} (r : Result T AuditFault) (read_failed : Bool) (reads : ℕ) (before failed is_flushed : Bool) : Type 0 where
+  pub read : r ≡ Err ReadFailed → HasStopped read_failed reads
+  pub write : r ≡ Err WriteFailed → failed ≡ true
+  pub kept : (r ≡ Err WriteFailed) ⊎ (failed ≡ before)
+  pub out : OnOk r (is_flushed ≡ true)

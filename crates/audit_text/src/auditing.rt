@@ -6,7 +6,7 @@ ghost use Rattle.trace_io.specs.Sink.{AppendsFront};
 ghost use Rattle.trace_io.specs.Source.{HasStopped, Reads};
 ghost use Rattle.slot_lock.specs.Slots.{IsNew};
 ghost use Rattle.map_list.specs.Walked.{slot_metas};
-ghost use Rattle.audit_text.specs.Ends.{AuditEnds, IsAtFault, IsVerdict};
+ghost use Rattle.audit_text.specs.Ends.{AuditEnds, IsAtFault, IsVerdict, TellsAudit};
 ghost use Rattle.audit_text.specs.Legal.{IsPlace, LacksSpace};
 ghost use Rattle.audit_text.specs.Heard.{Front};
 ghost use Rattle.audit_text.specs.Steps.{EndsFront, IsFound, ShowsAround, declared_of};
@@ -222,10 +222,8 @@ pub fn audit_text<M: SlotMap + Drop, A: Allocator + Clone + Drop, S: Source, W: 
     requires new { IsNew (M.slots map) }
     ensures ends { Reads (S.stream reader.old) (S.stream reader.new) (λ input unread.
         AuditEnds any_place input (W.contents writer.old) (W.contents writer.new) result) }
-    ensures out { OnOk result (W.is_flushed writer.new ≡ true) }
-    ensures read { result ≡ Err AuditFault.ReadFailed → HasStopped (S.failed reader.new) (S.reads reader.new) }
-    ensures write { result ≡ Err AuditFault.WriteFailed → W.failed writer.new ≡ true }
-    ensures kept { (result ≡ Err AuditFault.WriteFailed) ⊎ (W.failed writer.new ≡ W.failed writer.old) }
+    ensures told { TellsAudit result (S.failed reader.new) (S.reads reader.new)
+        (W.failed writer.old) (W.failed writer.new) (W.is_flushed writer.new) }
 {
     let Ok(for_text) = alloc.clone() else {
         return Err(AuditFault::NoMemory);
