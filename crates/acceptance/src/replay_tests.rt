@@ -16,6 +16,7 @@ use trace_io::sink::Noted;
 use trace_io::source::Counted;
 use trace_text::LineText;
 use vm_base::{CoreId, CoreSet, NoMemory, Reply};
+use watched::Unwatched;
 
 #[test]
 fn texts_of_outcomes(rt: HostRuntime) {
@@ -60,7 +61,7 @@ fn the_longest_text_has_its_room(rt: HostRuntime) {
 
 #[test]
 fn lines_one_by_one(rt: HostRuntime) {
-    let mut replayer = Replayer::<Global, Kept<Global>>::new(rt.alloc());
+    let mut replayer = Replayer::<Global, Kept<Global>, Unwatched>::new(rt.alloc(), Unwatched);
     let mut text = LineText::new();
     assert_eq!(rt; replayer.finish(), Err(TraceFault::NoVmLine));
     for (line, shown) in [
