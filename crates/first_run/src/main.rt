@@ -71,3 +71,13 @@ fn main(rt: HostRuntime) -> ExitCode {
     let mut out = Noted::new(buffer);
     ExitCode::from(run(alloc, &mut reader, &mut out, &mut errors, show))
 }
+
+// `maps` alone shows the mappings; the program's own run in the gate is of `run`.
+#[test]
+fn words_and_what_they_show(rt: HostRuntime) {
+    assert_eq!(rt; shown_by(Some("maps")), Show::Maps);
+    for word in ["run", "map", "maps ", "Maps", ""] {
+        assert_eq!(rt; shown_by(Some(word)), Show::Outcomes);
+    }
+    assert_eq!(rt; shown_by(None), Show::Outcomes);
+}
