@@ -1,6 +1,6 @@
 //! Tests of the parts of a machine and of its text, a module for each crate that is tested: `history`,
 //! `frames`, `refcache`, `backing`, `shootdown`, `mmu`, `tickets`, `seats`, `trace_io`
-//! (`io_tests`), `trace_text` (`text_tests`) and `import_text`.
+//! (`io_tests`), `trace_text` (`text_tests`), `import_text` and `picture`.
 #![tactic(auto)]
 
 #[cfg(test)]
@@ -15,6 +15,8 @@ mod import_tests;
 mod io_tests;
 #[cfg(test)]
 mod mmu_tests;
+#[cfg(test)]
+mod picture_tests;
 #[cfg(test)]
 mod refcache_tests;
 #[cfg(test)]
