@@ -15,7 +15,11 @@ use slot_lock::SlotMap;
 use std::alloc::Allocator;
 use vm_base::{CoreId, NoMemory, Request};
 
+/// How many steps finish a call at the most.
+const FINISH_LIMIT: u64 = 1 << 40;
+
 /// One who moves a machine, each time as the machine itself would be moved, and may watch its steps.
+/// Who has only `step` watches each step of a call; who doesn't watch hands calls on whole.
 pub trait Watch {
     // What it is after a step: from the one state by this event to this outcome and the other state.
     ghost after: { Self → WorldOf → EventOf → OutcomeOf → WorldOf → Self };
@@ -44,7 +48,21 @@ pub trait Watch {
         ensures ends { IfOk result (λ finished. Finishes (state machine.old) core finished (state machine.new)) }
         ensures err { OnErr result (IsRefused L.keeps (state machine.old) core (state machine.new)) }
         ensures watched { IfOk result (λ finished.
-            WatchesFinish after self.old (state machine.old) core finished (state machine.new) self.new) };
+            WatchesFinish after self.old (state machine.old) core finished (state machine.new) self.new) }
+    {
+        let mut n = 0u64;
+        'steps: while n < FINISH_LIMIT {
+            let outcome = match self.step(machine, Event::Go(core)) {
+                Ok(outcome) => outcome,
+                Err(refused) => return Err(refused),
+            };
+            if outcome != Outcome::Stepped {
+                return Ok(Finished::Last(outcome));
+            }
+            n += 1;
+        }
+        Ok(Finished::Stuck)
+    }
 
     /// A call, and if it begins its steps until one isn't Stepped, at most 2^40, as by `Machine::call`.
     /// After a refusal for memory the steps before it stand.
@@ -58,5 +76,15 @@ pub trait Watch {
         ensures err { OnErr result
             (IsCallRefused L.keeps (state machine.old) core request (state machine.new)) }
         ensures watched { IfOk result (λ finished.
-            WatchesCall after self.old (state machine.old) core request finished (state machine.new) self.new) };
+            WatchesCall after self.old (state machine.old) core request finished (state machine.new) self.new) }
+    {
+        let outcome = match self.step(machine, Event::Call(core, request)) {
+            Ok(outcome) => outcome,
+            Err(refused) => return Err(refused),
+        };
+        if outcome != Outcome::Stepped {
+            return Ok(Finished::Last(outcome));
+        }
+        self.finish(machine, core)
+    }
 }

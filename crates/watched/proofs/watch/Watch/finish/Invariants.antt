@@ -1,16 +1,15 @@
 use Rattle.std.proofs.Common.{◌-◌, ◌≤◌, ◌^◌}
 use Rattle.machine_model.specs.Step.{StepsTo}
 use Rattle.core_steps.specs.Machine.{state}
-use Rattle.watched.specs.Sums.{summed}
 use Rattle.watched.proofs.Watched.{WatchesSteps}
-use Rattle.watched.proofs.summing.SummaryWatch.finish.Given as goal
+use Rattle.watched.proofs.watch.Watch.finish.Given as goal
 
 -- the steps so far
 abbrev pub invariant-steps : goal.invariant-steps
 invariant-steps g l = record {
   few : l.n ≤ 2 ^ 40;
   made : StepsTo (state l.initial.machine) l.core l.n (state l.machine);
-  watched : WatchesSteps summed l.initial.self (state l.initial.machine) l.core l.n (state l.machine) l.self;
+  watched : WatchesSteps g.Self.Watch.after l.initial.self (state l.initial.machine) l.core l.n (state l.machine) l.self;
 }
 
 abbrev pub decreases-steps : goal.decreases-steps

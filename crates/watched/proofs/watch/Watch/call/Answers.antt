@@ -3,9 +3,8 @@ use Rattle.std.proofs.lemmas.Result.{IfOk-weaker, on_err_weaker}
 use Rattle.std.specs.Prelude.{◌≢◌}
 use Rattle.machine_model.specs.declared.event.Outcome.TheVariants.{Stepped}
 use Rattle.core_steps.specs.Machine.{state}
-use Rattle.watched.specs.Sums.{summed}
 use Rattle.watched.proofs.Watched.{call_finished, call_not_begun, call_refused, call_watched, call_watched_end}
-use Rattle.watched.proofs.summing.SummaryWatch.call.Goals as goal
+use Rattle.watched.proofs.watch.Watch.call.Goals as goal
 
 pub returns-then-ne-clause-ends : goal.returns-then-ne-clause-ends
 returns-then-ne-clause-ends g c =
@@ -15,7 +14,7 @@ returns-then-ne-clause-ends g c =
 pub returns-then-ne-clause-watched : goal.returns-then-ne-clause-watched
 returns-then-ne-clause-watched g c =
     let other : c.in-Ok.outcome ≢ Stepped = search rules in
-    call_watched_end summed c.args.core c.args.request c.in-Ok.outcome c.args.self.now c.step.new.self (state c.args.machine.now) (state c.step.new.machine) other
+    call_watched_end g.Self.Watch.after c.args.core c.args.request c.in-Ok.outcome c.args.self.now c.step.new.self (state c.args.machine.now) (state c.step.new.machine) other
     c.in-Ok.ensures.step c.in-Ok.ensures.watched
 
 pub returns-clause-ends : goal.returns-clause-ends
@@ -33,5 +32,5 @@ returns-clause-err g c =
 pub returns-clause-watched : goal.returns-clause-watched
 returns-clause-watched g c =
     let plain : c.in-Ok.outcome ≡ Stepped = search rules in
-    IfOk-weaker c.finish.result _ _ (λ f h. call_watched summed c.args.core c.args.request c.in-Ok.outcome f c.args.self.now c.step.new.self c.finish.new.self
+    IfOk-weaker c.finish.result _ _ (λ f h. call_watched g.Self.Watch.after c.args.core c.args.request c.in-Ok.outcome f c.args.self.now c.step.new.self c.finish.new.self
     (state c.args.machine.now) (state c.step.new.machine) (state c.finish.new.machine) plain c.in-Ok.ensures.step c.in-Ok.ensures.watched h) c.finish.ensures.watched

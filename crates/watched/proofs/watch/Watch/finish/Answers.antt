@@ -2,9 +2,8 @@ use Rattle.std.proofs.Common.{◌≡◌, ◌^◌, arith, refl, rules}
 use Rattle.std.specs.Prelude.{◌≢◌}
 use Rattle.machine_model.specs.declared.event.Outcome.TheVariants.{Stepped}
 use Rattle.core_steps.proofs.Reached.{refused_at, steps_end, steps_more}
-use Rattle.watched.specs.Sums.{summed}
 use Rattle.watched.proofs.Watched.{steps_watched_end, steps_watched_more, steps_watched_stuck}
-use Rattle.watched.proofs.summing.SummaryWatch.finish.Goals as goal
+use Rattle.watched.proofs.watch.Watch.finish.Goals as goal
 
 pub steps-init : goal.steps-init
 steps-init g c = record { few = omega arith; made = refl; watched = (refl, refl) }
@@ -21,7 +20,7 @@ returns-then-ne-clause-ends g c =
 pub returns-then-ne-clause-watched : goal.returns-then-ne-clause-watched
 returns-then-ne-clause-watched g c =
     let other : c.in-Ok.outcome ≢ Stepped = search rules in
-    steps_watched_end summed c.args.core c.steps.n _ _ _ _ _ _ _ c.steps-test.true other c.steps.invariant.watched c.in-Ok.ensures.step
+    steps_watched_end g.Self.Watch.after c.args.core c.steps.n _ _ _ _ _ _ _ c.steps-test.true other c.steps.invariant.watched c.in-Ok.ensures.step
     c.in-Ok.ensures.watched
 
 pub steps-preserved : goal.steps-preserved
@@ -30,7 +29,7 @@ steps-preserved g c =
     record {
       few = omega (arith, c.steps-test.true);
       made = steps_more _ _ _ c.args.core c.steps.n _ plain c.steps.invariant.made c.in-Ok.ensures.step;
-      watched = steps_watched_more summed c.args.core c.steps.n _ _ _ _ _ _ _ plain c.steps.invariant.watched c.in-Ok.ensures.step c.in-Ok.ensures.watched;
+      watched = steps_watched_more g.Self.Watch.after c.args.core c.steps.n _ _ _ _ _ _ _ plain c.steps.invariant.watched c.in-Ok.ensures.step c.in-Ok.ensures.watched;
     }
 
 pub returns-clause-ends : goal.returns-clause-ends
@@ -42,4 +41,4 @@ pub returns-clause-watched : goal.returns-clause-watched
 returns-clause-watched g c =
     let few = c.steps.invariant.few in
     let all : c.steps.n ≡ 2 ^ 40 = omega (arith, c.steps-test.false, few) in
-    steps_watched_stuck summed c.args.core c.steps.n _ _ _ _ all c.steps.invariant.watched
+    steps_watched_stuck g.Self.Watch.after c.args.core c.steps.n _ _ _ _ all c.steps.invariant.watched
