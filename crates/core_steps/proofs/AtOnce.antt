@@ -1,17 +1,21 @@
 -- An event that can be counted, and what a call comes to by its steps
-use Rattle.std.proofs.Common.{◌≡◌, ℕ, ◌<◌, true, nat_lt, Some, refl, sym, subst, arith}
+use Rattle.std.proofs.Common.{◌≡◌, ℕ, ◌<◌, ◌+◌, ◌∙◌, true, nat_lt, Some, refl, sym, subst, arith}
 use Rattle.std.specs.Prelude.{◌≢◌}
 use Rattle.std.proofs.lemmas.Bool.Decides.{nat_tests}
 use Rattle.vm_base.specs.declared.requests.Request.{Request}
 use Rattle.machine_model.specs.declared.event.Event.{Event}
 use Rattle.machine_model.specs.declared.event.Event.TheVariants.{Call}
-use Rattle.machine_model.specs.declared.event.Outcome.TheVariants.{Answered, Full, Idle, Stepped, Wait}
+use Rattle.machine_model.specs.declared.event.Outcome.TheVariants.{Stepped}
 use Rattle.core_steps.specs.declared.machine.Finished.TheVariants.{Last}
 use Rattle.core_steps.specs.Finishing.{Calls}
 use Rattle.machine_model.specs.declared.event.Outcome.{Outcome}
 use Rattle.machine_model.specs.Events.{core_of}
+use Rattle.machine_model.specs.declared.phase.Phase.{Phase}
+use Rattle.machine_model.specs.Actions.{to}
 use Rattle.machine_model.specs.World.{World}
 use Rattle.machine_model.specs.Step.{Acts, Step, event_limit, is_here, with_event}
+use Rattle.core_steps.specs.OnePage.{Passes}
+use Rattle.core_steps.proofs.Reached.{steps_join}
 use Rattle.core_steps.proofs.Rows.{if_true}
 
 pub less : (n m : ℕ) → n < m → nat_lt n m ≡ true
@@ -28,7 +32,19 @@ counted_step w v c e o below k here a =
 
 pub not_begun : (o : Outcome) (w m : World) (c : ℕ) (request : Request) → o ≢ Stepped → Step w (Call c request) o m → Calls w c request (Last o) m
 not_begun Stepped w m c request n s = absurd (n refl)
-not_begun (Wait b) w m c request n s = (Wait b, m, s, (refl, refl))
-not_begun Idle w m c request n s = (Idle, m, s, (refl, refl))
-not_begun (Answered reply) w m c request n s = (Answered reply, m, s, (refl, refl))
-not_begun Full w m c request n s = (Full, m, s, (refl, refl))
+not_begun o w m c request n s = (o, m, s, (refl, refl))
+
+-- ---- steps after which the core's phase isn't written
+
+pub passes_join : (w m v : World) (c : ℕ) (a b d : Phase) (n k : ℕ) → Passes w c a n b m → Passes m c b k d v → Passes w c a (n + k) d v
+passes_join w m v c a b d n k p q = record {
+  steps = steps_join (to c a w) (to c b m) (to c d v) c n k p.steps q.steps;
+  cores = q.cores ∙ p.cores;
+  phases = q.phases ∙ p.phases;
+  events = let first = p.events in let more = q.events in omega (arith, first, more);
+  edges = q.edges ∙ p.edges;
+}
+
+-- so many events more are counted
+abbrev pub later : ℕ → World → World
+later n w = record w { calls = record w.calls { events = w.calls.events + n } }

@@ -148,7 +148,8 @@ module _ (w : World) (c : ℕ) (change : Change) (page : FreePage) (shoot : ℕ)
             lost_all,
             (
               refl,
-              ap (λ s. after_reply c (Some (between first (first + 1))) (reply_to change) (record m { slots = s; memory = record w.memory { counts = counts } }))
+              ap (λ s. after_reply c (Some (between first (first + 1))) (reply_to change)
+                  (record m { slots = s; memory = record w.memory { counts = counts } }))
                   (change_held change w.slots c first)
                   ∙ ap (λ range. after_reply c (Some range) (reply_to change)
                   (record m { slots = slots_after change (held w.slots c first); memory = record w.memory { counts = counts } }))

@@ -5,109 +5,32 @@ use Rattle.std.proofs.Math.Path.{fun_ext}
 use Rattle.std.proofs.Math.Numerals.{add-one}
 use Rattle.vm_base.specs.declared.page.PageRange.{PageRange}
 use Rattle.vm_base.specs.declared.requests.Request.{Request}
-use Rattle.slot_lock.specs.declared.plan.Change.{Change}
-use Rattle.slot_lock.specs.declared.plan.Change.TheVariants.{Put, Clear, Protect}
 use Rattle.slot_lock.specs.declared.slot_map.Got.TheVariants.{Split, Locked, Held}
 use Rattle.slot_lock.specs.declared.slot_map.Fit.TheVariants as fit
-use Rattle.slot_lock.specs.Changes.{changed}
 use Rattle.slot_lock.specs.Plan.{goal_range}
 use Rattle.slot_lock.specs.SlotRuns.{OneByOne}
 use Rattle.slot_lock.specs.Slots.{Slots, Divides, Locks, Unlocks}
-use Rattle.machine_model.specs.declared.event.Event.{Event}
-use Rattle.machine_model.specs.declared.event.Event.TheVariants as EventOf
 use Rattle.machine_model.specs.declared.event.Event.TheVariants.{Call, Go}
 use Rattle.machine_model.specs.declared.event.Outcome.{Outcome}
-use Rattle.machine_model.specs.declared.event.Outcome.TheVariants.{Answered, Full, Idle, Stepped, Wait}
+use Rattle.machine_model.specs.declared.event.Outcome.TheVariants.{Full, Stepped}
 use Rattle.machine_model.specs.declared.phase.Phase.{Phase}
 use Rattle.machine_model.specs.declared.phase.Phase.TheVariants as At
 use Rattle.machine_model.specs.Actions.{Idles}
 use Rattle.machine_model.specs.World.{World}
 use Rattle.machine_model.specs.Step.{Goes, Step, StepsTo, event_limit, is_here, with_event}
-use Rattle.machine_laws.proofs.Shapes.{Shape, rests, begins, ends, goes, aims, gives_up, works, joins, Comes, stopped, acts, comes}
-use Rattle.machine_laws.proofs.Shapes.{GoesBy, moves, divides, cuts, fits, owns, lets_go, answers, posts, commits, takes, zeroes, first_copies}
-use Rattle.machine_laws.proofs.Shapes.{caches, shares, posts_copy, copies, installs, accesses, faults}
-use Rattle.machine_laws.proofs.Shapes.{Works, clears, invalidates, walks, evicts, flushes, reviews, frees}
 use Rattle.core_steps.specs.declared.machine.Finished.TheVariants.{Last}
 use Rattle.core_steps.specs.declared.starting.Started.{Started}
 use Rattle.core_steps.specs.declared.starting.Started.TheVariants.{Begun, Ended}
 use Rattle.core_steps.specs.AtOnce.{Starts, StartsAsMap}
 use Rattle.core_steps.specs.Dividing.{DividesAsMap, GoesAsMap, StepsAsMap}
 use Rattle.core_steps.specs.Finishing.{CallsAsMap, FinishesAfter}
+use Rattle.core_steps.proofs.Keeping.{stays}
 
 -- ---- where slots begin before a step and after it
 
--- at the same pages, or at one page more at least
-abbrev Grows : Slots → Slots → Type 0
-Grows s t = (t.edge ≡ s.edge) ⊎ (((p : ℕ) → s.edge p ≡ true → t.edge p ≡ true) × ((p : ℕ) × (s.edge p ≡ false) × (t.edge p ≡ true)))
-
-new_edge : (s t : Slots) (owner : _) (at : ℕ) → Divides s t owner at → Grows s t
-new_edge s t owner at d = inr (d.kept, (at, d.was_inside, d.begins))
-
-pub changed_edges : (s : Slots) (change : Change) → (changed s change).edge ≡ s.edge
-changed_edges s (Put range meta) = refl
-changed_edges s (Clear range) = refl
-changed_edges s (Protect range prot) = refl
-
-gone : (w : World) (c : ℕ) (v : World) → GoesBy w c v → Grows w.slots v.slots
-gone w c v (moves new m h) = inl (ap (λ (x : World). x.slots.edge) h)
-gone w c v (divides goal cursor t e s h) = subst (λ (x : World). Grows w.slots x.slots) (sym h) (new_edge w.slots t _ s.divides.0 s.divides.2)
-gone w c v (cuts place target range t e s h) = subst (λ (x : World). Grows w.slots x.slots) (sym h) (new_edge w.slots t _ s.divides.0 s.divides.2)
-gone w c v (fits place target range e i h) = inl (ap (λ (x : World). x.slots.edge) h)
-gone w c v (owns goal cursor b t e l h) = inl (ap (λ (x : World). x.slots.edge) h ∙ ap (λ (s : Slots). s.edge) l.now)
-gone w c v (lets_go held b t new l u h) = inl (ap (λ (x : World). x.slots.edge) h ∙ ap (λ (s : Slots). s.edge) u.now)
-gone w c v (answers held reply r h) = inl (ap (λ (x : World). x.slots.edge) h)
-gone w c v (posts change shoot e h) = inl (ap (λ (x : World). x.slots.edge) h)
-gone w c v (commits goal change counts e n l h) = inl (ap (λ (x : World). x.slots.edge) h ∙ changed_edges w.slots change)
-gone w c v (takes touch old f e free h) = inl (ap (λ (x : World). x.slots.edge) h)
-gone w c v (zeroes touch f counts e b k h) = inl (ap (λ (x : World). x.slots.edge) h)
-gone w c v (first_copies touch f counts e b k h) = inl (ap (λ (x : World). x.slots.edge) h)
-gone w c v (caches touch f counts e b g k h) = inl (ap (λ (x : World). x.slots.edge) h)
-gone w c v (shares touch own g counts e b i k h) = inl (ap (λ (x : World). x.slots.edge) h)
-gone w c v (posts_copy touch f e h) = inl (ap (λ (x : World). x.slots.edge) h)
-gone w c v (copies touch f g counts e n i k h) = inl (ap (λ (x : World). x.slots.edge) h)
-gone w c v (installs touch e h) = inl (ap (λ (x : World). x.slots.edge) h)
-gone w c v (accesses touch f e i h) = inl (ap (λ (x : World). x.slots.edge) h)
-gone w c v (faults touch e i h) = inl (ap (λ (x : World). x.slots.edge) h)
-
-worked : (w : World) (c : ℕ) (e : Event) (v : World) → Works w c e v → Grows w.slots v.slots
-worked w c e v (clears i range a h) = inl (ap (λ (x : World). x.slots.edge) h)
-worked w c e v (invalidates i range a h) = inl (ap (λ (x : World). x.slots.edge) h)
-worked w c e v (walks p i a h) = inl (ap (λ (x : World). x.slots.edge) h)
-worked w c e v (evicts p i a h) = inl (ap (λ (x : World). x.slots.edge) h)
-worked w c e v (flushes i report counts a h) = inl (ap (λ (x : World). x.slots.edge) h)
-worked w c e v (reviews i report counts a h) = inl (ap (λ (x : World). x.slots.edge) h)
-worked w c e v (frees i f counts a h) = inl (ap (λ (x : World). x.slots.edge) h)
-
-shaped : (w : World) (e : Event) (o : Outcome) (v : World) → ((d : ℕ) → e ≢ EventOf.GiveUp d) → ((p : ℕ) → e ≢ EventOf.Fold p)
-    → Shape w e o v → Grows w.slots v.slots
-shaped w e o v no_end no_fold (rests r h) = inl (ap (λ (x : World). x.slots.edge) h)
-shaped w e o v no_end no_fold (begins c request i k lt f room h) = inl (ap (λ (x : World). x.slots.edge) h)
-shaped w e o v no_end no_fold (ends c reply i k lt a h) = inl (ap (λ (x : World). x.slots.edge) h)
-shaped w e o v no_end no_fold (goes c i k lt by) = gone w c v by
-shaped w e o v no_end no_fold (aims c place target i k lt g h) = inl (ap (λ (x : World). x.slots.edge) h)
-shaped w e o v no_end no_fold (gives_up c i k lt can un h) = absurd (no_end c i)
-shaped w e o v no_end no_fold (works c k lt by) = worked w c e v by
-shaped w e o v no_end no_fold (joins p t i k page j m h) = absurd (no_fold p i)
-
-came : (w : World) (e : Event) (o : Outcome) (v : World) → ((d : ℕ) → e ≢ EventOf.GiveUp d) → ((p : ℕ) → e ≢ EventOf.Fold p)
-    → Comes w e o v → Grows w.slots v.slots
-came w e o v no_end no_fold (stopped n i h) = inl (ap (λ (x : World). x.slots.edge) h)
-came w e o v no_end no_fold (acts n s) = shaped (with_event w) e o v no_end no_fold s
-
--- slots that began go on beginning there
-grown : (s t : Slots) → Grows s t → (p : ℕ) → s.edge p ≡ true → t.edge p ≡ true
-grown s t (inl e) p h = ap (λ f. f p) e ∙ h
-grown s t (inr g) p h = g.0 p h
-
-pub stays_on : (w v : World) (c : ℕ) (o : Outcome) → Step w (Go c) o v → (p : ℕ) → w.slots.edge p ≡ true → v.slots.edge p ≡ true
-stays_on w v c o s = grown w.slots v.slots (came w (Go c) o v (λ d x. cc) (λ p x. cc) (comes w (Go c) o v s))
-
-stays_begun : (w v : World) (c : ℕ) (request : Request) (o : Outcome) → Step w (Call c request) o v → (p : ℕ) → w.slots.edge p ≡ true → v.slots.edge p ≡ true
-stays_begun w v c request o s = grown w.slots v.slots (came w (Call c request) o v (λ d x. cc) (λ p x. cc) (comes w (Call c request) o v s))
-
 rising : (w v : World) (c n : ℕ) → StepsTo w c n v → (p : ℕ) → w.slots.edge p ≡ true → v.slots.edge p ≡ true
 rising w v c zero same p h = ap (λ (x : World). x.slots.edge p) same ∙ h
-rising w v c (suc n) (m, before, s) p h = stays_on m v c Stepped s p (rising w m c n before p h)
+rising w v c (suc n) (m, before, s) p h = stays m (Go c) Stepped v (λ p e. cc) s p (rising w m c n before p h)
 
 -- what is the same at the end was the same between
 between : (s t u : Slots) → ((p : ℕ) → s.edge p ≡ true → t.edge p ≡ true) → ((p : ℕ) → t.edge p ≡ true → u.edge p ≡ true)
@@ -137,24 +60,7 @@ module _ (parts : PageRange → ℕ → ℕ → Bool) where
   exact w v c o (At.Cut place target range) (inr (fit.Cut, (t, s, h))) same =
       λ e. absurd (not_new w.slots t _ s.divides.0 s.divides.2 (sym (ap (λ (x : World). x.slots.edge) h.1) ∙ same))
   exact w v c o (At.Cut place target range) (inr (fit.Fits, (t, s, h))) same = λ e. inr (s.0, ap (λ (x : World). x.slots) h.1)
-  exact w v c o At.Free h same = tt
-  exact w v c o (At.Check request) h same = tt
-  exact w v c o (At.Guess place) h same = tt
-  exact w v c o (At.Find place target) h same = tt
-  exact w v c o (At.Back place target held) h same = tt
-  exact w v c o (At.Decide change) h same = tt
-  exact w v c o (At.Post change shoot) h same = tt
-  exact w v c o (At.Acks goal change) h same = tt
-  exact w v c o (At.Unlock held reply) h same = tt
-  exact w v c o (At.Answer reply) h same = tt
-  exact w v c o (At.Try touch) h same = tt
-  exact w v c o (At.Settle touch) h same = tt
-  exact w v c o (At.Want touch old) h same = tt
-  exact w v c o (At.Fill touch frame) h same = tt
-  exact w v c o (At.CopyPost touch frame) h same = tt
-  exact w v c o (At.CopyAcks touch frame) h same = tt
-  exact w v c o (At.Install touch) h same = tt
-  exact w v c o (At.Release touch) h same = tt
+  exact w v c o phase h same = tt
 
   undivided : (w v : World) (c : ℕ) (o : Outcome) → Step w (Go c) o v → v.slots.edge ≡ w.slots.edge → DividesAsMap parts w (Go c) o v
   undivided w v c o s same = go (nat_lt w.calls.events event_limit) (is_here w.made (Some c)) s
@@ -168,7 +74,7 @@ module _ (parts : PageRange → ℕ → ℕ → Bool) where
   pub none_divided : (w v : World) (c n : ℕ) → StepsTo w c n v → v.slots.edge ≡ w.slots.edge → StepsAsMap parts w c n v
   none_divided w v c zero steps same = steps
   none_divided w v c (suc n) (m, before, s) same =
-      let half : m.slots.edge ≡ w.slots.edge = between w.slots m.slots v.slots (rising w m c n before) (stays_on m v c Stepped s) same in
+      let half : m.slots.edge ≡ w.slots.edge = between w.slots m.slots v.slots (rising w m c n before) (stays m (Go c) Stepped v (λ p e. cc) s) same in
       (m, none_divided w m c n before half, s, undivided m v c Stepped s (same ∙ sym half))
 
   -- ---- one after another
@@ -199,20 +105,18 @@ module _ (parts : PageRange → ℕ → ℕ → Bool) where
   ended : (w m v : World) (c : ℕ) (request : Request) (p o : Outcome) → Step w (Call c request) p m → FinishesAfter m c p (Last o) v
       → v.slots.edge ≡ w.slots.edge → CallsAsMap parts w c request (Ok (Last o)) v
   ended w m v c request Stepped o s (n, (few, other, (x, steps, last))) same =
-      let on : (p : ℕ) → m.slots.edge p ≡ true → v.slots.edge p ≡ true = λ p h. stays_on x v c o last p (rising m x c n steps p h) in
-      let first : m.slots.edge ≡ w.slots.edge = between w.slots m.slots v.slots (stays_begun w m c request Stepped s) on same in
+      let on : (p : ℕ) → m.slots.edge p ≡ true → v.slots.edge p ≡ true = λ p h. stays x (Go c) o v (λ p e. cc) last p (rising m x c n steps p h) in
+      let first : m.slots.edge ≡ w.slots.edge = between w.slots m.slots v.slots (stays w (Call c request) Stepped m (λ p e. cc) s) on same in
       let left : v.slots.edge ≡ m.slots.edge = same ∙ sym first in
-      let half : x.slots.edge ≡ m.slots.edge = between m.slots x.slots v.slots (rising m x c n steps) (stays_on x v c o last) left in
+      let half : x.slots.edge ≡ m.slots.edge = between m.slots x.slots v.slots (rising m x c n steps) (stays x (Go c) o v (λ p e. cc) last) left in
       inr (m, s, (n, (x, none_divided m x c n steps half, last, undivided x v c o last (left ∙ sym half))))
-  ended w m v c request (Wait b) o s h same = not_stepped w m v c request (Wait b) o (λ e. cc) s h
-  ended w m v c request Idle o s h same = not_stepped w m v c request Idle o (λ e. cc) s h
-  ended w m v c request (Answered reply) o s h same = not_stepped w m v c request (Answered reply) o (λ e. cc) s h
-  ended w m v c request Full o s h same = not_stepped w m v c request Full o (λ e. cc) s h
+  ended w m v c request p o s h same = not_stepped w m v c request p o (λ e. cc) s h
 
   pub starts_undivided : (w v : World) (c : ℕ) (request : Request) (started : Started) → Starts w c request started v → v.slots.edge ≡ w.slots.edge
       → StartsAsMap parts w c request started v
   starts_undivided w v c request (Begun n) (few, (m, begun, steps)) same =
-      let half : m.slots.edge ≡ w.slots.edge = between w.slots m.slots v.slots (stays_begun w m c request Stepped begun) (rising m v c n steps) same in
+      let half : m.slots.edge ≡ w.slots.edge =
+      between w.slots m.slots v.slots (stays w (Call c request) Stepped m (λ p e. cc) begun) (rising m v c n steps) same in
       (m, begun, none_divided m v c n steps (same ∙ sym half))
   starts_undivided w v c request (Ended o) (p, m, s, h) same = ended w m v c request p o s h same
 

@@ -1,5 +1,5 @@
 -- A fault whose page is a slot of its own that nobody holds, made at once: the states that it passes, and the one that is left
-use Rattle.std.proofs.Common.{◌≡◌, ℕ, suc, ◌+◌, ◌<◌, ◌≤◌, ◌&&◌, ◌||◌, Bool, true, false, [], ◌∷◌, ◌++◌, Option, Some, None, refl, sym}
+use Rattle.std.proofs.Common.{◌≡◌, ℕ, suc, ◌+◌, ◌<◌, ◌≤◌, ◌&&◌, ◌||◌, Bool, true, false, [], ◌∷◌, ◌++◌, Option, Some, None, Err, refl, sym}
 use Rattle.std.proofs.Common.{subst, ap, ◌∙◌, arith, inl, inr, add-one, ◌⊎◌}
 use Rattle.std.specs.Prelude.{if◌then◌else◌}
 use Rattle.std.proofs.Math.Logic.{∥∥₁_elim}
@@ -40,7 +40,7 @@ use Rattle.machine_model.specs.Accesses.{IsLeastFree, after_finding, after_trans
 use Rattle.machine_model.specs.Accesses.{memory_after, reply_of}
 use Rattle.machine_model.specs.Actions.{after_reply, answer_entry, to, with_entry}
 use Rattle.machine_model.specs.Files.{back_of, file_frame, is_private, prot_installed, shows_some}
-use Rattle.machine_model.specs.Filling.{FillsBacked, FillsFrame, FillsFromFile}
+use Rattle.machine_model.specs.Filling.{FillsFrame, FillsFromFile}
 use Rattle.machine_model.specs.Locks.{locking}
 use Rattle.machine_model.specs.Step.{Goes, Step, StepsTo, event_limit, with_event}
 use Rattle.machine_model.specs.Translating.{after_translating, frame_reached, translated_by, with_hardware}
@@ -52,10 +52,10 @@ use Rattle.core_steps.specs.declared.fault_at_once.FaultEnd.{FaultEnd}
 use Rattle.core_steps.specs.declared.fault_at_once.Source.{Source}
 use Rattle.core_steps.specs.declared.fault_at_once.Source.TheVariants.{Own, Cached, Free}
 use Rattle.core_steps.specs.Moving.{CanTry, IsAt, tried_to}
-use Rattle.core_steps.specs.OnePage.{CanTake, IsFailure, IsFault, IsSource, Makes, TakesFrom, Tried, at_lock, frame_from}
-use Rattle.core_steps.specs.OnePage.{logged_later, replied, steps_from, trying, with_translation}
-use Rattle.core_steps.proofs.AtOnce.{counted_step}
-use Rattle.core_steps.proofs.Framing.{counted_few, fills_zeros, shown_here, shown_used, zeroed}
+use Rattle.core_steps.specs.OnePage.{CanTake, IsFault, IsSource, Makes, Passes, TakesFrom, after_settling, at_lock, frame_from}
+use Rattle.core_steps.specs.OnePage.{logged_later, replied, steps_from, with_translation}
+use Rattle.core_steps.proofs.AtOnce.{counted_step, later, passes_join}
+use Rattle.core_steps.proofs.Framing.{counted_few, fills_private, fills_shared, fills_zeros, shown_here, shown_used, zeroed}
 use Rattle.core_steps.proofs.Known.{core_counted, frame_below, frame_counted, free_below, free_unused, goal_sound, is_left, order}
 use Rattle.core_steps.proofs.Known.{right_allowed, right_shown, room_for, sound_at}
 use Rattle.core_steps.proofs.OnePage.{answered, holding, locked, moved, released}
@@ -74,18 +74,17 @@ can_try w c touch i = record {
 }
 
 -- it turns neither on the phase nor on the number of events
-pub can_try_later : (w : World) (c : ℕ) (touch : Touch) (n events : ℕ) → c < w.made.cores → ∥ IsReached (trying c touch n w) ∥₁
+pub can_try_later : (w : World) (c : ℕ) (touch : Touch) (events : ℕ) → c < w.made.cores → ∥ IsReached (to c (Try touch) w) ∥₁
     → CanTry (record w { calls = record w.calls { events = events } }) c touch
-can_try_later w c touch n events here reached =
-    let can = can_try (trying c touch n w) c touch
-    (record { here = here; phase = put_same w.calls.phase c (Try touch); fine = fine (trying c touch n w) reached }) in
+can_try_later w c touch events here reached =
+    let can = can_try (to c (Try touch) w) c touch
+    (record { here = here; phase = put_same w.calls.phase c (Try touch); fine = fine (to c (Try touch) w) reached }) in
     record { here = can.here; sound = can.sound; room = can.room; frame = can.frame }
 
-pub tries : (w v : World) (c : ℕ) (touch : Touch) (n : ℕ) → w.calls.events + n < event_limit → c < w.made.cores
-    → v ≡ after_try c touch (record w { calls = record w.calls { events = w.calls.events + (n + 1) } })
-    → Step (trying c touch n w) (Go c) Stepped v
-tries w v c touch n room here left =
-    let m = trying c touch n w in
+pub tries : (w v : World) (c : ℕ) (touch : Touch) → w.calls.events < event_limit → c < w.made.cores → v ≡ after_try c touch (later 1 w)
+    → Step (to c (Try touch) w) (Go c) Stepped v
+tries w v c touch room here left =
+    let m = to c (Try touch) w in
     counted_step m v c (Go c) Stepped room refl here
     (subst (λ x. Goes (with_event m) c x Stepped v) (sym (put_same w.calls.phase c (Try touch)))
     (refl, left ∙ same (frame_reached (translated_by w.hardware c touch))))
@@ -104,19 +103,16 @@ tries w v c touch n room here left =
       };
     }
 
-    sum : w.calls.events + (n + 1) ≡ suc (w.calls.events + n)
-    sum = omega arith
-
-    same : (o : Option ℕ) → after_translation c touch o (having w.calls.phase (w.calls.events + (n + 1)))
-        ≡ after_translation c touch o (having (put w.calls.phase c (Try touch)) (suc (w.calls.events + n)))
+    same : (o : Option ℕ) → after_translation c touch o (having w.calls.phase (w.calls.events + 1))
+        ≡ after_translation c touch o (having (put w.calls.phase c (Try touch)) (suc w.calls.events))
     same None =
         let lock = locking (To.Access touch) in
-        ap (λ p. having p (w.calls.events + (n + 1))) (put_twice w.calls.phase c (Try touch) lock)
-        ∙ ap (having (put (put w.calls.phase c (Try touch)) c lock)) sum
+        ap (λ p. having p (w.calls.events + 1)) (put_twice w.calls.phase c (Try touch) lock)
+        ∙ ap (having (put (put w.calls.phase c (Try touch)) c lock)) (add-one w.calls.events)
     same (Some f) =
         let answer = Answer (reply_of touch f w.memory) in
-        ap (λ p. answered f p (w.calls.events + (n + 1))) (put_twice w.calls.phase c (Try touch) answer)
-        ∙ ap (answered f (put (put w.calls.phase c (Try touch)) c answer)) sum
+        ap (λ p. answered f p (w.calls.events + 1)) (put_twice w.calls.phase c (Try touch) answer)
+        ∙ ap (answered f (put (put w.calls.phase c (Try touch)) c answer)) (add-one w.calls.events)
 
 -- what a translation reaches
 pub reached_by : (by t : Translated) (f : ℕ) → t ≡ by → (t ≡ By.Hit f) ⊎ (t ≡ By.Fill f) → frame_reached by ≡ Some f
@@ -179,6 +175,10 @@ allowed info access past shown s e ok = go (is_allowed info.meta.prot access) pa
 
 -- ---- steps at the page
 
+-- so many events later the call is to try its access
+abbrev trying : ℕ → Touch → ℕ → World → World
+trying c touch n w = to c (Try touch) (later n w)
+
 -- the core's tables get the page's entry, and it is recorded,
 installs : (x : World) (c : ℕ) (touch : Touch) (info : PageInfo) (n : ℕ) → x.calls.events + n < event_limit → c < x.made.cores
     → x.slots.info touch.page ≡ Some info
@@ -203,20 +203,18 @@ shows x c touch info n w before room here alone e =
 shares : (m v : World) (c : ℕ) (touch : Touch) (g : ℕ) (back : Back) (access : Access) → back_of (m.slots.info touch.page) ≡ back → touch.access ≡ access
     → file_frame m.memory.cached back ≡ Some g → is_private_store back access ≡ false → FillsFromFile m c touch None (Some g) Stepped v
     → FillsFrame m c touch None Stepped v
-shares m v c touch g back access b a shown no_store h =
-    subst (λ x. FillsBacked m c touch None x touch.access Stepped v) (sym b)
-    (subst (λ x. FillsBacked m c touch None back x Stepped v) (sym a) (go back access shown no_store))
+shares m v c touch g back access b a shown no_store h = go back access b a shown no_store
   where
     cached : (n k : ℕ) → m.memory.cached n k ≡ Some g → FillsFromFile m c touch None (m.memory.cached n k) Stepped v
     cached n k e = subst (λ o. FillsFromFile m c touch None o Stepped v) (sym e) h
 
-    go : (back : Back) (access : Access) → file_frame m.memory.cached back ≡ Some g → is_private_store back access ≡ false
-        → FillsBacked m c touch None back access Stepped v
-    go Anon access e load = absurd cc
-    go (Shared n k) access e load = cached n k e
-    go (Private n k) Store e load = absurd cc
-    go (Private n k) Load e load = cached n k e
-    go (Private n k) Fetch e load = cached n k e
+    go : (back : Back) (access : Access) → back_of (m.slots.info touch.page) ≡ back → touch.access ≡ access → file_frame m.memory.cached back ≡ Some g
+        → is_private_store back access ≡ false → FillsFrame m c touch None Stepped v
+    go Anon access b a e load = absurd cc
+    go (Shared n k) access b a e load = fills_shared m v c touch None n k Stepped b (cached n k e)
+    go (Private n k) Store b a e load = absurd cc
+    go (Private n k) Load b a e load = fills_private m v c touch None n k Stepped b (inl a) (cached n k e)
+    go (Private n k) Fetch b a e load = fills_private m v c touch None n k Stepped b (inr a) (cached n k e)
 
 -- the call has locked no page of the one that it is to lock
 pub at_first : (w : World) (c : ℕ) (touch : Touch) (cursor : ℕ) → IsAt w c (Lock (To.Access touch) cursor) → w.calls.phase c ≡ locking (To.Access touch)
@@ -257,13 +255,13 @@ module _ (w : World) (c : ℕ) (touch : Touch) (fault : IsFault w c touch) where
 
   -- ---- the access fails
 
-  pub fails : (v : World) (reply : Reply) → IsFailure (found_at w touch) reply
+  pub fails : (v : World) (reply : Reply) → ((m : World) → after_finding c touch (found_at w touch) m ≡ after_settling c touch (Err reply) m)
       → v ≡ replied c reply 2 w → StepsTo w c 3 v
   fails v reply failure left =
       let limit = fault.room in
       subst (StepsTo w c 3) (sym left)
       (answered w w w.slots w.memory c touch.page (Settle touch) reply 1 (w, refl, locks) (omega (arith, limit)) fault.here fault.alone.slot fault.alone.free
-      (refl, sym (failure c touch (with_event (holding c touch.page (Settle touch) 1 w)))))
+      (refl, sym (failure (with_event (holding c touch.page (Settle touch) 1 w)))))
 
   -- ---- the page gets a frame
 
@@ -294,7 +292,10 @@ module _ (w : World) (c : ℕ) (touch : Touch) (fault : IsFault w c touch) where
         subst (λ g. StepsTo w c (suc (suc n)) (trying c touch (n + 1 + 1) (record (left f bytes free counts) { slots = record w.slots { info = g } })))
         (sym (put_twice w.slots.info touch.page was now))
         (shows x c touch (shown f) n w before limit fault.here
-        (record { slot = record { ordered = fault.alone.slot.ordered; begins = fault.alone.slot.begins; ends = fault.alone.slot.ends; inside = fault.alone.slot.inside }; free = fault.alone.free })
+        (record {
+          slot = record { ordered = fault.alone.slot.ordered; begins = fault.alone.slot.begins; ends = fault.alone.slot.ends; inside = fault.alone.slot.inside };
+          free = fault.alone.free;
+        })
         (put_same w.slots.info touch.page was ∙ ap (info_with_frame f) e))
 
     -- it has it,
@@ -419,24 +420,28 @@ unwritten v c touch phase =
 pub stays : (w v : World) (c : ℕ) (touch : Touch) (end : FaultEnd) → v ≡ w → end.steps ≡ 0 → end.reply ≡ None → Makes w c touch end v
 stays w v c touch end same steps reply = subst (Makes w c touch end) (sym same) (record {
   few = omega (arith, steps);
-  steps = subst (λ n. StepsTo (at_lock c touch w) c n (to c (tried_to touch end.reply) w)) (sym steps) (ap (λ r. to c (tried_to touch r) w) reply);
-  cores = refl;
-  phases = refl;
-  events = omega (arith, steps);
-  edges = refl;
+  passes = record {
+    steps = subst (λ n. StepsTo (at_lock c touch w) c n (to c (tried_to touch end.reply) w)) (sym steps) (ap (λ r. to c (tried_to touch r) w) reply);
+    cores = refl;
+    phases = refl;
+    events = omega (arith, steps);
+    edges = refl;
+  };
 })
 
 module _ (w : World) (c : ℕ) (touch : Touch) (fault : IsFault (at_lock c touch w) c touch) where
-  pub failed : (v : World) (reply : Reply) → IsFailure (found_at w touch) reply
+  pub failed : (v : World) (reply : Reply) → ((m : World) → after_finding c touch (found_at w touch) m ≡ after_settling c touch (Err reply) m)
       → v ≡ logged_later c reply 2 w → Makes w c touch (record { steps = 3; reply = Some reply }) v
   failed v reply failure now = record {
     few = omega arith;
-    steps = fails (at_lock c touch w) c touch fault (to c (Answer reply) v) reply failure
-        (unwritten v c touch (Answer reply) ∙ ap (λ x. to c (Answer reply) (at_lock c touch x)) now);
-    cores = ap (λ (x : World). x.made.cores) now;
-    phases = ap (λ (x : World). x.calls.phase) now;
-    events = ap (λ (x : World). x.calls.events) now ∙ omega arith;
-    edges = ap (λ (x : World). x.slots.edge) now;
+    passes = record {
+      steps = fails (at_lock c touch w) c touch fault (to c (Answer reply) v) reply failure
+          (unwritten v c touch (Answer reply) ∙ ap (λ x. to c (Answer reply) (at_lock c touch x)) now);
+      cores = ap (λ (x : World). x.made.cores) now;
+      phases = ap (λ (x : World). x.calls.phase) now;
+      events = ap (λ (x : World). x.calls.events) now ∙ omega arith;
+      edges = ap (λ (x : World). x.slots.edge) now;
+    };
   }
 
   module _ (info : PageInfo) (e : w.slots.info touch.page ≡ Some info) (source : Source)
@@ -448,32 +453,34 @@ module _ (w : World) (c : ℕ) (touch : Touch) (fault : IsFault (at_lock c touch
     module _ (a v : World) (f n : ℕ) (same : f ≡ frame_from source) (many : n ≡ steps_from source)
         (now : a ≡ with_translation c touch.page (record info { frame = Some f }) w)
         (taken : (memory : Memory) × TakesFrom a.memory c source memory × (v ≡ record a { memory = memory })) where
-      gets : StepsTo (at_lock c touch w) c n (trying c touch n v)
-      gets =
-          subst (StepsTo (at_lock c touch w) c n) (sym (unwritten (record v { calls = record v.calls { events = v.calls.events + n } }) c touch (Try touch)))
-          (gets_there (at_lock c touch w) c touch fault info e (at_lock c touch a) (at_lock c touch v) source f n same many comes
-          (ap (at_lock c touch) now) (taken.0, taken.1, ap (at_lock c touch) taken.2))
-
-      pub gets_reached : ∥ IsReached (trying c touch n v) ∥₁
-      gets_reached = steps_reached (at_lock c touch w) _ c n gets fault.reached
-
-      pub few_before : n ≤ 6
-      few_before = subst (λ k. k ≤ 6) (sym many) (few_steps (at_lock c touch w) c touch fault info e source)
-
       shown_then : v ≡ record (with_translation c touch.page (record info { frame = Some f }) w) { memory = taken.0 }
       shown_then = taken.2 ∙ ap {A = World} (λ x. record x { memory = taken.0 }) now
 
-      pub left_events : v.calls.events ≡ w.calls.events
-      left_events = ap (λ (x : World). x.calls.events) shown_then
+      gets : Passes w c (locking (To.Access touch)) n (Try touch) (later n v)
+      gets = record {
+        steps = subst (StepsTo (at_lock c touch w) c n) (sym (unwritten (later n v) c touch (Try touch)))
+            (gets_there (at_lock c touch w) c touch fault info e (at_lock c touch a) (at_lock c touch v) source f n same many comes
+            (ap (at_lock c touch) now) (taken.0, taken.1, ap (at_lock c touch) taken.2));
+        cores = ap (λ (x : World). x.made.cores) shown_then;
+        phases = ap (λ (x : World). x.calls.phase) shown_then;
+        events = ap (λ (x : World). x.calls.events + n) shown_then;
+        edges = ap (λ (x : World). x.slots.edge) shown_then;
+      }
 
-      pub ends : (r : Option Reply) (x : World) → Tried v c touch n r x → Makes w c touch (record { steps = n + 1; reply = r }) x
+      pub gets_reached : ∥ IsReached (to c (Try touch) (later n v)) ∥₁
+      gets_reached = steps_reached (at_lock c touch w) _ c n gets.steps fault.reached
+
+      few_before : n ≤ 6
+      few_before = subst (λ k. k ≤ 6) (sym many) (few_steps (at_lock c touch w) c touch fault info e source)
+
+      pub room_then : v.calls.events + n < event_limit
+      room_then = let few = few_before in let room = fault.room in let events = gets.events in omega (arith, few, room, events)
+
+      pub ends : (r : Option Reply) (x : World) → Passes (later n v) c (Try touch) 1 (tried_to touch r) x
+          → Makes w c touch (record { steps = n + 1; reply = r }) x
       ends r x tried = record {
         few = let few = few_before in omega (arith, few);
-        steps = subst (λ k. StepsTo (at_lock c touch w) c k (to c (tried_to touch r) x)) (sym (add-one n)) (trying c touch n v, gets, tried.step);
-        cores = tried.cores ∙ ap (λ (x : World). x.made.cores) shown_then;
-        phases = tried.phases ∙ ap (λ (x : World). x.calls.phase) shown_then;
-        events = tried.events ∙ ap (λ k. k + (n + 1)) left_events;
-        edges = tried.edges ∙ ap (λ (x : World). x.slots.edge) shown_then;
+        passes = passes_join w (later n v) x c (locking (To.Access touch)) (Try touch) (tried_to touch r) n 1 gets tried;
       }
 
 -- and where the core's call is to lock its page

@@ -30,25 +30,21 @@ use Rattle.core_steps.specs.declared.starting.Started.TheVariants as Started
 use Rattle.core_steps.specs.AtOnce.{CanBegin, CanStart, IsAccess, Starts, StartsAsMap, with_call}
 use Rattle.core_steps.specs.Dividing.{GoesAsMap}
 use Rattle.core_steps.specs.Moving.{tried_to}
-use Rattle.core_steps.specs.OnePage.{Makes, Tried, at_lock, trying}
-use Rattle.core_steps.proofs.AtOnce.{counted_step, less}
+use Rattle.core_steps.specs.OnePage.{Makes, Passes, at_lock}
+use Rattle.core_steps.proofs.AtOnce.{counted_step, later, less, passes_join}
 use Rattle.core_steps.proofs.Calling.{begun as begins_so}
 use Rattle.core_steps.proofs.Each.{put_id, put_twice}
 use Rattle.core_steps.proofs.FaultAtOnce.{can_lock}
 use Rattle.core_steps.proofs.Known.{room_for}
 use Rattle.core_steps.proofs.Reached.{fine, steps_join, steps_reached}
 
--- one event more was counted
-abbrev counted : World → World
-counted w = record w { calls = record w.calls { events = w.calls.events + 1 } }
-
 -- the reply is handed out, and the core has no call again
 answers : (v : World) (c : ℕ) (reply : Reply) → v.calls.events < event_limit → c < v.made.cores → v.calls.phase c ≡ Free
-    → Step (to c (Answer reply) v) (Go c) (Answered reply) (counted v)
+    → Step (to c (Answer reply) v) (Go c) (Answered reply) (later 1 v)
 answers v c reply room here free =
     let m = to c (Answer reply) v in
-    counted_step m (counted v) c (Go c) (Answered reply) room refl here
-    (subst (λ p. Goes (with_event m) c p (Answered reply) (counted v)) (sym (put_same v.calls.phase c (Answer reply))) (
+    counted_step m (later 1 v) c (Go c) (Answered reply) room refl here
+    (subst (λ p. Goes (with_event m) c p (Answered reply) (later 1 v)) (sym (put_same v.calls.phase c (Answer reply))) (
       refl,
       ap (λ f. record v { calls = record v.calls { phase = f; events = v.calls.events + 1 } })
           (sym (put_id v.calls.phase c Free (sym free)) ∙ put_twice v.calls.phase c (Answer reply) Free)
@@ -107,36 +103,34 @@ module _ (w : World) (c : ℕ) (request : Request) (i : CanStart w c) (a : World
   planned (Ok (PlanOf.Change change)) n = forgotten (having w.calls.phase n) (locking (To.Change change))
   planned (Ok (PlanOf.Touch touch)) n = forgotten (having w.calls.phase n) (Try touch)
 
-  abbrev later : World → World
-  later x = record x { calls = record x.calls { events = x.calls.events + 2 } }
-
-  checks : Step begun (Go c) Stepped (after_check c request (later a))
+  checks : Step begun (Go c) Stepped (after_check c request (later 2 a))
   checks =
       let below = i.below in
       let sum : w.calls.events + 2 ≡ suc (suc w.calls.events) = omega arith in
-      let same : after_check c request (later a) ≡ after_check c request (with_event begun) =
-      ap (λ x. after_check c request (later x)) kept ∙ (sym (planned (checked_by w.made c request) (w.calls.events + 2))
+      let same : after_check c request (later 2 a) ≡ after_check c request (with_event begun) =
+      ap (λ x. after_check c request (later 2 x)) kept ∙ (sym (planned (checked_by w.made c request) (w.calls.events + 2))
       ∙ ap (λ n. after_check c request (having (put w.calls.phase c (Check request)) n)) sum) in
       counted_step begun _ c (Go c) Stepped (omega (arith, below)) refl i.here
-      (subst (λ x. Goes (with_event begun) c x Stepped (after_check c request (later a))) (sym (put_same w.calls.phase c (Check request))) (refl, same))
+      (subst (λ x. Goes (with_event begun) c x Stepped (after_check c request (later 2 a))) (sym (put_same w.calls.phase c (Check request))) (refl, same))
 
-  checked_reached : ∥ IsReached (after_check c request (later a)) ∥₁
+  checked_reached : ∥ IsReached (after_check c request (later 2 a)) ∥₁
   checked_reached = ∥∥₁_map begun_reached (λ h. reached_step begun _ (Go c) Stepped h checks)
 
   -- and no more is made
-  module _ (v : World) (left : v ≡ after_check c request (later a)) where
+  module _ (v : World) (left : v ≡ after_check c request (later 2 a)) where
     checks_so : Step begun (Go c) Stepped v
     checks_so = subst (Step begun (Go c) Stepped) (sym left) checks
 
-    pub begins_plainly : Starts w c request (Started.Begun 1) v
-    begins_plainly = (omega arith, (begun, begins, (begun, refl, checks_so)))
+    as_map : (parts : PageRange → ℕ → ℕ → Bool) → GoesAsMap parts begun.slots c (begun.calls.phase c) Stepped v.slots
+    as_map parts = subst (λ phase. GoesAsMap parts begun.slots c phase Stepped v.slots) (sym (put_same w.calls.phase c (Check request))) tt
 
-    pub begins_as_map : (parts : PageRange → ℕ → ℕ → Bool) → StartsAsMap parts w c request (Started.Begun 1) v
-    begins_as_map parts =
-        (begun, begins, (begun, refl, checks_so, subst (λ phase. GoesAsMap parts begun.slots c phase Stepped v.slots) (sym (put_same w.calls.phase c (Check request))) tt))
-
-    pub begins_reached : ∥ IsReached v ∥₁
-    begins_reached = subst (λ x. ∥ IsReached x ∥₁) (sym left) checked_reached
+    pub begins_plainly : (parts : PageRange → ℕ → ℕ → Bool)
+        → Starts w c request (Started.Begun 1) v × StartsAsMap parts w c request (Started.Begun 1) v × ∥ IsReached v ∥₁
+    begins_plainly parts = (
+      (omega arith, (begun, begins, (begun, refl, checks_so))),
+      (begun, begins, (begun, refl, checks_so, as_map parts)),
+      subst (λ x. ∥ IsReached x ∥₁) (sym left) checked_reached,
+    )
 
 -- ---- it is an access
 
@@ -144,15 +138,14 @@ module _ (w : World) (c : ℕ) (request : Request) (touch : Touch) (i : IsAccess
   abbrev called : World
   called = begun w c request i.start a kept
 
-  tries : Step called (Go c) Stepped (trying c touch 2 a)
-  tries =
-      subst (λ r. Step called (Go c) Stepped (after_plan c r (later w c request i.start a kept a)))
-      (ap (λ (x : World). checked_by x.made c request) kept ∙ i.plan) (checks w c request i.start a kept)
+  finds : after_check c request (later 2 a) ≡ to c (Try touch) (later 2 a)
+  finds = ap (λ r. after_plan c r (later 2 a)) (ap (λ (x : World). checked_by x.made c request) kept ∙ i.plan)
 
-  pub try_reached : ∥ IsReached (trying c touch 2 a) ∥₁
-  try_reached =
-      subst (λ r. ∥ IsReached (after_plan c r (later w c request i.start a kept a)) ∥₁)
-      (ap (λ (x : World). checked_by x.made c request) kept ∙ i.plan) (checked_reached w c request i.start a kept)
+  tries : Step called (Go c) Stepped (to c (Try touch) (later 2 a))
+  tries = subst (Step called (Go c) Stepped) finds (checks w c request i.start a kept)
+
+  pub try_reached : ∥ IsReached (to c (Try touch) (later 2 a)) ∥₁
+  try_reached = subst (λ x. ∥ IsReached x ∥₁) finds (checked_reached w c request i.start a kept)
 
   pub try_here : c < a.made.cores
   try_here = call_here w c request i.start a kept
@@ -160,32 +153,45 @@ module _ (w : World) (c : ℕ) (request : Request) (touch : Touch) (i : IsAccess
   pub try_room : a.calls.events + 11 < event_limit
   try_room = call_room w c request i.start a kept
 
-  -- the last of n steps from there on gives the reply, which is handed out; the core's phase isn't written
-  ends : (v : World) (n : ℕ) (reply : Reply) → n ≤ 8 → StepsTo (trying c touch 2 a) c n (to c (Answer reply) v) → v.made.cores ≡ a.made.cores
-      → v.calls.phase ≡ a.calls.phase → v.calls.events ≡ a.calls.events + (2 + n)
-      → Starts w c request (Started.Ended (Answered reply)) (counted v) × ∥ IsReached (counted v) ∥₁
-  ends v n reply few steps cores phases events =
-      let m = to c (Answer reply) v in
-      let room = try_room in
-      let free = ap (λ f. f c) phases ∙ (ap (λ (x : World). x.calls.phase c) kept ∙ i.start.begins.free) in
-      let last = answers v c reply (omega (arith, few, events, room)) (subst (λ k. c < k) (sym cores) try_here) free in
-      let made : StepsTo called c (1 + n) m = steps_join called (trying c touch 2 a) m c 1 n (called, refl, tries) steps in (
-        (Stepped, called, begins w c request i.start a kept, (1 + n, (omega (arith, few), (λ e. cc), (m, made, last)))),
-        ∥∥₁_map (steps_reached _ m c n steps try_reached) (λ h. reached_step m (counted v) (Go c) (Answered reply) h last),
-      )
+  -- n steps from there on lead to this phase in x, where the core's phase isn't written
+  module _ (x : World) (n : ℕ) (upto : Phase) (few : n ≤ 8) (passes : Passes (later 2 a) c (Try touch) n upto x) where
+    steps : StepsTo called c (1 + n) (to c upto x)
+    steps = steps_join called (to c (Try touch) (later 2 a)) (to c upto x) c 1 n (called, refl, tries) passes.steps
+
+    reached : ∥ IsReached (to c upto x) ∥₁
+    reached = steps_reached _ (to c upto x) c n passes.steps try_reached
+
+    -- it is, and the call goes on
+    goes_on : (u : World) → u ≡ to c upto x → Starts w c request (Started.Begun (1 + n)) u × ∥ IsReached u ∥₁
+    goes_on u left =
+        subst (λ y. Starts w c request (Started.Begun (1 + n)) y × ∥ IsReached y ∥₁) (sym left)
+        ((omega (arith, few), (called, begins w c request i.start a kept, steps)), reached)
+
+    -- or the reply is handed out
+    ends : (reply : Reply) → upto ≡ Answer reply → Starts w c request (Started.Ended (Answered reply)) (later 1 x) × ∥ IsReached (later 1 x) ∥₁
+    ends reply e =
+        let room = try_room in
+        let events = passes.events in
+        let m = to c (Answer reply) x in
+        let free = ap (λ f. f c) passes.phases ∙ (ap (λ (y : World). y.calls.phase c) kept ∙ i.start.begins.free) in
+        let last = answers x c reply (omega (arith, few, events, room)) (subst (λ k. c < k) (sym passes.cores) try_here) free in (
+          (
+            Stepped,
+            called,
+            begins w c request i.start a kept,
+            (1 + n, (omega (arith, few), (λ e. cc), (m, subst (λ p. StepsTo called c (1 + n) (to c p x)) e steps, last))),
+          ),
+          ∥∥₁_map (subst (λ p. ∥ IsReached (to c p x) ∥₁) e reached) (λ h. reached_step m (later 1 x) (Go c) (Answered reply) h last),
+        )
 
   -- what the try comes to, in x
-  module _ (x : World) (r : Option Reply) (tried : Tried a c touch 2 r x) where
-    pub hits : (reply : Reply) → r ≡ Some reply → Starts w c request (Started.Ended (Answered reply)) (counted x) × ∥ IsReached (counted x) ∥₁
-    hits reply e =
-        ends x 1 reply (omega arith) (trying c touch 2 a, refl, subst (λ o. Step (trying c touch 2 a) (Go c) Stepped (to c (tried_to touch o) x)) e tried.step) tried.cores tried.phases tried.events
+  module _ (x : World) (r : Option Reply) (tried : Passes (later 2 a) c (Try touch) 1 (tried_to touch r) x) where
+    pub hits : (reply : Reply) → r ≡ Some reply → Starts w c request (Started.Ended (Answered reply)) (later 1 x) × ∥ IsReached (later 1 x) ∥₁
+    hits reply e = ends x 1 (tried_to touch r) (omega arith) tried reply (ap (tried_to touch) e)
 
     module _ (none : r ≡ None) where
-      locks : Step (trying c touch 2 a) (Go c) Stepped (at_lock c touch x)
-      locks = subst (λ o. Step (trying c touch 2 a) (Go c) Stepped (to c (tried_to touch o) x)) none tried.step
-
       pub fault_reached : ∥ IsReached (at_lock c touch x) ∥₁
-      fault_reached = ∥∥₁_map try_reached (λ h. reached_step _ _ (Go c) Stepped h locks)
+      fault_reached = subst (λ o. ∥ IsReached (to c (tried_to touch o) x) ∥₁) none (steps_reached _ _ c 1 tried.steps try_reached)
 
       pub fault_here : c < x.made.cores
       fault_here = subst (λ k. c < k) (sym tried.cores) try_here
@@ -198,24 +204,21 @@ module _ (w : World) (c : ℕ) (request : Request) (touch : Touch) (i : IsAccess
 
       -- the steps of the fault, and those before it
       module _ (v : World) (end : FaultEnd) (makes : Makes x c touch end v) where
-        fault_steps : StepsTo (trying c touch 2 a) c (1 + end.steps) (to c (tried_to touch end.reply) v)
-        fault_steps = steps_join _ (at_lock c touch x) (to c (tried_to touch end.reply) v) c 1 end.steps (trying c touch 2 a, refl, locks) makes.steps
+        made : Passes (later 2 a) c (Try touch) (1 + end.steps) (tried_to touch end.reply) v
+        made =
+            passes_join (later 2 a) x v c (Try touch) (locking (To.Access touch)) (tried_to touch end.reply) 1 end.steps
+            (subst (λ o. Passes (later 2 a) c (Try touch) 1 (tried_to touch o) x) none tried) makes.passes
+
+        few : 1 + end.steps ≤ 8
+        few = let few = makes.few in omega (arith, few)
 
         pub faults_again : (u : World) (phase : Phase) → end.reply ≡ None → phase ≡ locking (To.Access touch)
             → u ≡ to c phase v → Starts w c request (Started.Begun (2 + end.steps)) u × ∥ IsReached u ∥₁
-        faults_again u phase again locks_so left =
-            let few = makes.few in
+        faults_again u phase again locks left =
             let sum : 1 + (1 + end.steps) ≡ 2 + end.steps = omega arith in
-            let same : u ≡ to c (tried_to touch end.reply) v = left ∙ (ap (λ p. to c p v) locks_so ∙ ap (λ r. to c (tried_to touch r) v) (sym again)) in
-            let steps = subst (StepsTo (trying c touch 2 a) c (1 + end.steps)) (sym same) fault_steps in
-            let all = subst (λ k. StepsTo called c k u) sum (steps_join called (trying c touch 2 a) u c 1 (1 + end.steps) (called, refl, tries) steps) in
-            ((omega (arith, few), (called, begins w c request i.start a kept, all)), steps_reached _ u c (1 + end.steps) steps try_reached)
+            subst (λ k. Starts w c request (Started.Begun k) u × ∥ IsReached u ∥₁) sum
+            (goes_on v (1 + end.steps) (tried_to touch end.reply) few made u (left ∙ ap (λ p. to c p v) (locks ∙ ap (tried_to touch) (sym again))))
 
-        pub fault_replied : (reply : Reply) → end.reply ≡ Some reply → Starts w c request (Started.Ended (Answered reply)) (counted v) × ∥ IsReached (counted v) ∥₁
-        fault_replied reply e =
-            let few = makes.few in
-            let more = makes.events in
-            let events = tried.events in
-            ends v (1 + end.steps) reply (omega (arith, few))
-            (subst (λ r. StepsTo (trying c touch 2 a) c (1 + end.steps) (to c (tried_to touch r) v)) e fault_steps)
-            (makes.cores ∙ tried.cores) (makes.phases ∙ tried.phases) (omega (arith, more, events))
+        pub fault_replied : (reply : Reply) → end.reply ≡ Some reply
+            → Starts w c request (Started.Ended (Answered reply)) (later 1 v) × ∥ IsReached (later 1 v) ∥₁
+        fault_replied reply e = ends v (1 + end.steps) (tried_to touch end.reply) few made reply (ap (tried_to touch) e)

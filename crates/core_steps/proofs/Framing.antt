@@ -55,13 +55,12 @@ use Rattle.core_steps.proofs.Known.{one_slot, order, owns, page_is, sound_at, ta
 within : (file : ℕ → Option File) (access : Access) (frame : Option ℕ) (n k : ℕ) (o : Option PageInfo) → IsUsable file o access frame → IsOfFile (back_of o) n k
     → is_some (file_bytes (file n) k) ≡ true
 within file access frame n k None u b = absurd u
-within file access frame n k (Some info) u (inl e) = yes _ (sym (ap (lies_past_end file) e) ∙ u.1)
+within file access frame n k (Some info) u b = yes _ (sym (past b) ∙ u.1)
   where
-    yes : (b : Bool) → not b ≡ false → b ≡ true
-    yes true h = refl
-    yes false h = absurd cc
-within file access frame n k (Some info) u (inr e) = yes _ (sym (ap (lies_past_end file) e) ∙ u.1)
-  where
+    past : IsOfFile info.meta.back n k → lies_past_end file info.meta.back ≡ not (is_some (file_bytes (file n) k))
+    past (inl e) = ap (lies_past_end file) e
+    past (inr e) = ap (lies_past_end file) e
+
     yes : (b : Bool) → not b ≡ false → b ≡ true
     yes true h = refl
     yes false h = absurd cc

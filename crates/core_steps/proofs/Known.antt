@@ -47,7 +47,7 @@ use Rattle.refcache.specs.Sound.{AreReached}
 use Rattle.refcache.specs.Steps.{Takes, Reviewing, IsUnused}
 use Rattle.refcache.proofs.Reached.{reached_is_orderly}
 use Rattle.machine_model.specs.declared.phase.Phase.{Phase}
-use Rattle.machine_model.specs.declared.phase.Phase.TheVariants.{Free, Check, Lock, Guess, Find, Back, Cut, Decide, Post, Acks, Unlock, Answer, Try}
+use Rattle.machine_model.specs.declared.phase.Phase.TheVariants.{Free, Lock, Find, Cut, Decide, Post, Acks, Unlock, Answer}
 use Rattle.machine_model.specs.declared.phase.Phase.TheVariants.{Settle, Want, Fill, CopyPost, CopyAcks, Install, Release}
 use Rattle.machine_model.specs.World.{World}
 use Rattle.machine_model.specs.Changes.{AwaitsNobody}
@@ -362,7 +362,8 @@ shot_just files s (Protect range prot) shoot (acts a r k) d = k.1 d
 
 pub shot_here : (w : World) (c : ℕ) (change : Change) (shoot : ℕ) → IsAt w c (Post change shoot) → (d : ℕ) → members shoot d ≡ true → d < w.made.cores
 shot_here w c change shoot i d m =
-    ∥∥₁_elim (order i) (hlevel props) (λ g. user_here w (range_of change) d g ((shot_just w.made.file w.slots change shoot (call_at w c (Post change shoot) i.phase g).ready d).0 m))
+    ∥∥₁_elim (order i) (hlevel props) (λ g.
+    user_here w (range_of change) d g ((shot_just w.made.file w.slots change shoot (call_at w c (Post change shoot) i.phase g).ready d).0 m))
 
 pub valid_range : (range : PageRange) → IsPageRange range → are_pages range ≡ true
 valid_range range h = let low = h.low in let high = h.high in grind (arith, nat_tests, low, high)
@@ -390,24 +391,7 @@ awaited_pages w c range (CopyAcks touch frame) g e here h =
     let call = call_at w c (CopyAcks touch frame) e g in
     let same : page_of_touch touch ≡ range = cc in
     subst (λ r. are_pages r ≡ true) same (valid_range (page_of_touch touch) (touch_range touch (served w c (PlanOf.Touch touch) g here call.asked)))
-awaited_pages w c range Free g e here h = absurd cc
-awaited_pages w c range (Check request) g e here h = absurd cc
-awaited_pages w c range (Lock goal cursor) g e here h = absurd cc
-awaited_pages w c range (Guess place) g e here h = absurd cc
-awaited_pages w c range (Find place target) g e here h = absurd cc
-awaited_pages w c range (Back place target held) g e here h = absurd cc
-awaited_pages w c range (Cut place target changes) g e here h = absurd cc
-awaited_pages w c range (Decide change) g e here h = absurd cc
-awaited_pages w c range (Post change shoot) g e here h = absurd cc
-awaited_pages w c range (Unlock held reply) g e here h = absurd cc
-awaited_pages w c range (Answer reply) g e here h = absurd cc
-awaited_pages w c range (Try touch) g e here h = absurd cc
-awaited_pages w c range (Settle touch) g e here h = absurd cc
-awaited_pages w c range (Want touch old) g e here h = absurd cc
-awaited_pages w c range (Fill touch frame) g e here h = absurd cc
-awaited_pages w c range (CopyPost touch frame) g e here h = absurd cc
-awaited_pages w c range (Install touch) g e here h = absurd cc
-awaited_pages w c range (Release touch) g e here h = absurd cc
+awaited_pages w c range phase g e here h = absurd cc
 
 -- a call that awaits pages is of one of the machine's cores
 awaits_here : (w : World) (c : ℕ) (range : PageRange) → IsOrderly w → awaits_in (w.calls.phase c) ≡ Some range → c < w.made.cores
@@ -494,19 +478,12 @@ install_mapped w c touch i e =
 -- ---- the goal of a call that holds pages for one, whatever its phase
 
 pub goal_in_sound : (w : World) (c : ℕ) (phase : Phase) → IsAt w c phase → IfSome (goal_in phase) IsSoundGoal
-goal_in_sound w c Free i = tt
-goal_in_sound w c (Check request) i = tt
 goal_in_sound w c (Lock goal cursor) i = goal_sound w c goal cursor i
-goal_in_sound w c (Guess place) i = tt
 goal_in_sound w c (Find place target) i = goal_at w c (Find place target) (To.Place place target) i (λ h. h) (λ call. call.ready)
-goal_in_sound w c (Back place target held) i = tt
 goal_in_sound w c (Cut place target range) i = goal_at w c (Cut place target range) (To.Place place target) i (λ h. h) (λ call. call.ready.0)
 goal_in_sound w c (Decide change) i = goal_at w c (Decide change) (To.Change change) i (λ h. h) (λ call. tt)
 goal_in_sound w c (Post change shoot) i = goal_at w c (Post change shoot) (To.Change change) i (λ h. h) (λ call. tt)
 goal_in_sound w c (Acks goal change) i = goal_at w c (Acks goal change) goal i (λ h. h) (λ call. call.ready.0)
-goal_in_sound w c (Unlock held reply) i = tt
-goal_in_sound w c (Answer reply) i = tt
-goal_in_sound w c (Try touch) i = tt
 goal_in_sound w c (Settle touch) i = goal_at w c (Settle touch) (To.Access touch) i (λ h. h) (λ call. tt)
 goal_in_sound w c (Want touch old) i = goal_at w c (Want touch old) (To.Access touch) i (λ h. h) (λ call. tt)
 goal_in_sound w c (Fill touch frame) i = goal_at w c (Fill touch frame) (To.Access touch) i (λ h. h) (λ call. tt)
@@ -514,26 +491,12 @@ goal_in_sound w c (CopyPost touch frame) i = goal_at w c (CopyPost touch frame) 
 goal_in_sound w c (CopyAcks touch frame) i = goal_at w c (CopyAcks touch frame) (To.Access touch) i (λ h. h) (λ call. tt)
 goal_in_sound w c (Install touch) i = goal_at w c (Install touch) (To.Access touch) i (λ h. h) (λ call. tt)
 goal_in_sound w c (Release touch) i = goal_at w c (Release touch) (To.Access touch) i (λ h. h) (λ call. tt)
+goal_in_sound w c phase i = tt
 
 -- a call that may be given up has no reply yet
 pub opened : (phase : Phase) → can_give_up phase ≡ true → is_open phase ≡ true
-opened (Check request) e = refl
-opened (Lock goal cursor) e = refl
-opened (Guess place) e = refl
-opened (Find place target) e = refl
-opened (Back place target held) e = refl
-opened (Cut place target range) e = refl
-opened (Decide change) e = refl
-opened (Post change shoot) e = refl
-opened (Try touch) e = refl
-opened (Settle touch) e = refl
-opened (Want touch old) e = refl
-opened (Fill touch frame) e = refl
-opened (CopyPost touch frame) e = refl
-opened (CopyAcks touch frame) e = refl
-opened (Install touch) e = refl
-opened (Release touch) e = refl
 opened Free e = absurd cc
 opened (Acks goal change) e = absurd cc
 opened (Unlock held reply) e = absurd cc
 opened (Answer reply) e = absurd cc
+opened phase e = refl

@@ -11,9 +11,9 @@ pub mod Changing
 pub mod Framing
 pub mod Calling
 pub mod Reached
+pub mod Keeping
 pub mod Runs
 pub mod MapLines
-pub mod Limits
 pub mod AtOnce
 pub mod SlotRuns
 pub mod FirstEvents
@@ -21,4 +21,3 @@ pub mod ChangeAtOnce
 pub mod OnePage
 pub mod FaultAtOnce
 pub mod Divided
-pub mod Keeping

@@ -159,8 +159,8 @@ unlocked w core page reply n room here slot free =
         by false e = absurd (grind (arith, nat_tests, e))
 
 -- The call's reply is logged by the next step, which leaves these slots and this memory, and its page let go by the one after it.
-pub answered : (from w : World) (s : Slots) (memory : Memory) (core page : ℕ) (a : Phase) (reply : Reply) (n : ℕ) → StepsTo from core n (holding core page a n w)
-    → w.calls.events + (n + 1) < event_limit → core < w.made.cores → IsSlot s page (page + 1) → s.owner page ≡ None
+pub answered : (from w : World) (s : Slots) (memory : Memory) (core page : ℕ) (a : Phase) (reply : Reply) (n : ℕ)
+    → StepsTo from core n (holding core page a n w) → w.calls.events + (n + 1) < event_limit → core < w.made.cores → IsSlot s page (page + 1) → s.owner page ≡ None
     → Goes (with_event (holding core page a n w)) core a Stepped
     (after_reply core (Some (between page (page + 1))) reply (record (with_event (holding core page a n w)) { slots = held s core page; memory = memory }))
     → StepsTo from core (suc (suc n)) (replied core reply (n + 1) (record w { slots = s; memory = memory }))

@@ -40,7 +40,8 @@ new_reached w limit s slots fine_setup n e =
     subst (λ u. ∥ IsReached u ∥₁) (sym e) ∣ reached_opening (made_of s) slots (few_cores_within limit s fine_setup) n ∣₁
 
 -- a step was made, or refused
-pub kept_by : (keeps : Bool) (r : Result Outcome NoMemory) (w v : World) (e : Event) → Tries (Step w e) (MayWant keeps w e) w r v → ∥ IsReached w ∥₁ → ∥ IsReached v ∥₁
+pub kept_by : (keeps : Bool) (r : Result Outcome NoMemory) (w v : World) (e : Event) → Tries (Step w e) (MayWant keeps w e) w r v → ∥ IsReached w ∥₁
+    → ∥ IsReached v ∥₁
 kept_by keeps (Ok o) w v e s t = ∥∥₁_map t (λ h. reached_step w v e o h s)
 kept_by keeps (Err x) w v e s t = subst (λ u. ∥ IsReached u ∥₁) (sym s.0) t
 
@@ -50,7 +51,8 @@ sound_by keeps (Ok o) w v e s t = ∥∥₁_map t (λ h. steps_sound w v e o h s
 sound_by keeps (Err x) w v e s t = tt
 
 -- after some steps the next was refused, and nothing changed
-pub refused_at : (keeps : Bool) (was now new : World) (c n : ℕ) → n < finish_limit → StepsTo was c n now → (new ≡ now) × MayWant keeps now (Go c) → IsRefused keeps was c new
+pub refused_at : (keeps : Bool) (was now new : World) (c n : ℕ) → n < finish_limit → StepsTo was c n now
+    → (new ≡ now) × MayWant keeps now (Go c) → IsRefused keeps was c new
 refused_at keeps was now new c n h s r = subst (IsRefused keeps was c) (sym r.0) (n, h, r.1, s)
 
 -- after some steps one is plain

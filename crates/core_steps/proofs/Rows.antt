@@ -17,8 +17,8 @@ use Rattle.machine_model.specs.declared.event.Outcome.{Outcome}
 use Rattle.machine_model.specs.declared.event.Outcome.TheVariants.{Stepped, Idle}
 use Rattle.machine_model.specs.Step.{Acts, with_event}
 use Rattle.machine_model.specs.declared.phase.Phase.{Phase}
-use Rattle.machine_model.specs.declared.phase.Phase.TheVariants.{Free, Check, Lock, Guess, Find, Back, Cut, Decide, Post, Acks, Unlock, Answer, Try}
-use Rattle.machine_model.specs.declared.phase.Phase.TheVariants.{Settle, Want, Fill, CopyPost, CopyAcks, Install, Release}
+use Rattle.machine_model.specs.declared.phase.Phase.TheVariants.{Free, Acks, Unlock, Answer}
+use Rattle.machine_model.specs.declared.phase.Phase.TheVariants.{Want, CopyAcks, Release}
 use Rattle.machine_model.specs.World.{World, Hardware}
 use Rattle.vm_base.specs.declared.info.PageInfo.{PageInfo}
 use Rattle.slot_lock.specs.Slots.{with_info}
@@ -118,69 +118,22 @@ pub given_up : (w v : World) (c : ℕ) (phase : Phase) → can_give_up phase ≡
     → v ≡ after_give_up c phase w → GivesUp w c phase Stepped v
 given_up w v c (CopyAcks touch frame) e nobody h = inl (nobody refl, (refl, h))
 given_up w v c Free e nobody h = absurd cc
-given_up w v c (Check request) e nobody h = (refl, h)
-given_up w v c (Lock goal cursor) e nobody h = (refl, h)
-given_up w v c (Guess place) e nobody h = (refl, h)
-given_up w v c (Find place target) e nobody h = (refl, h)
-given_up w v c (Back place target held) e nobody h = (refl, h)
-given_up w v c (Cut place target range) e nobody h = (refl, h)
-given_up w v c (Decide change) e nobody h = (refl, h)
-given_up w v c (Post change shoot) e nobody h = (refl, h)
 given_up w v c (Acks goal change) e nobody h = absurd cc
 given_up w v c (Unlock held reply) e nobody h = absurd cc
 given_up w v c (Answer reply) e nobody h = absurd cc
-given_up w v c (Try touch) e nobody h = (refl, h)
-given_up w v c (Settle touch) e nobody h = (refl, h)
-given_up w v c (Want touch old) e nobody h = (refl, h)
-given_up w v c (Fill touch frame) e nobody h = (refl, h)
-given_up w v c (CopyPost touch frame) e nobody h = (refl, h)
-given_up w v c (Install touch) e nobody h = (refl, h)
-given_up w v c (Release touch) e nobody h = (refl, h)
+given_up w v c phase e nobody h = (refl, h)
 
 pub not_given_up : (w v : World) (c : ℕ) (phase : Phase) → can_give_up phase ≡ false → v ≡ w → GivesUp w c phase Idle v
-not_given_up w v c (CopyAcks touch frame) e h = absurd cc
 not_given_up w v c Free e h = (refl, h)
-not_given_up w v c (Check request) e h = absurd cc
-not_given_up w v c (Lock goal cursor) e h = absurd cc
-not_given_up w v c (Guess place) e h = absurd cc
-not_given_up w v c (Find place target) e h = absurd cc
-not_given_up w v c (Back place target held) e h = absurd cc
-not_given_up w v c (Cut place target range) e h = absurd cc
-not_given_up w v c (Decide change) e h = absurd cc
-not_given_up w v c (Post change shoot) e h = absurd cc
 not_given_up w v c (Acks goal change) e h = (refl, h)
 not_given_up w v c (Unlock held reply) e h = (refl, h)
 not_given_up w v c (Answer reply) e h = (refl, h)
-not_given_up w v c (Try touch) e h = absurd cc
-not_given_up w v c (Settle touch) e h = absurd cc
-not_given_up w v c (Want touch old) e h = absurd cc
-not_given_up w v c (Fill touch frame) e h = absurd cc
-not_given_up w v c (CopyPost touch frame) e h = absurd cc
-not_given_up w v c (Install touch) e h = absurd cc
-not_given_up w v c (Release touch) e h = absurd cc
+not_given_up w v c phase e h = absurd cc
 
 -- a copy for which others are awaited isn't
 pub copy_awaited : (w v : World) (c : ℕ) (phase : Phase) → AwaitsCopy w.hardware c phase true → v ≡ w → GivesUp w c phase Idle v
 copy_awaited w v c (CopyAcks touch frame) a h = inr (a.1, (refl, h))
-copy_awaited w v c Free a h = let due = a.0 in absurd cc
-copy_awaited w v c (Check request) a h = let due = a.0 in absurd cc
-copy_awaited w v c (Lock goal cursor) a h = let due = a.0 in absurd cc
-copy_awaited w v c (Guess place) a h = let due = a.0 in absurd cc
-copy_awaited w v c (Find place target) a h = let due = a.0 in absurd cc
-copy_awaited w v c (Back place target held) a h = let due = a.0 in absurd cc
-copy_awaited w v c (Cut place target range) a h = let due = a.0 in absurd cc
-copy_awaited w v c (Decide change) a h = let due = a.0 in absurd cc
-copy_awaited w v c (Post change shoot) a h = let due = a.0 in absurd cc
-copy_awaited w v c (Acks goal change) a h = let due = a.0 in absurd cc
-copy_awaited w v c (Unlock held reply) a h = let due = a.0 in absurd cc
-copy_awaited w v c (Answer reply) a h = let due = a.0 in absurd cc
-copy_awaited w v c (Try touch) a h = let due = a.0 in absurd cc
-copy_awaited w v c (Settle touch) a h = let due = a.0 in absurd cc
-copy_awaited w v c (Want touch old) a h = let due = a.0 in absurd cc
-copy_awaited w v c (Fill touch frame) a h = let due = a.0 in absurd cc
-copy_awaited w v c (CopyPost touch frame) a h = let due = a.0 in absurd cc
-copy_awaited w v c (Install touch) a h = let due = a.0 in absurd cc
-copy_awaited w v c (Release touch) a h = let due = a.0 in absurd cc
+copy_awaited w v c phase a h = let due = a.0 in absurd cc
 
 -- ---- the arguments of a request
 

@@ -15,7 +15,7 @@ use Rattle.machine_sound.proofs.Kept.{run_more, runs_sound}
 use Rattle.core_steps.specs.Moving.{MayWant, JoinsAsMap}
 use Rattle.core_steps.specs.Dividing.{DividesAsMap}
 use Rattle.core_steps.specs.Running.{IsRefusedAt, LogsPlainly, RunsAsMap}
-use Rattle.core_steps.proofs.Limits.{step_made}
+use Rattle.core_steps.proofs.Keeping.{step_made}
 use Rattle.vm_base.specs.Plain.{nothing_mapped}
 use Rattle.vm_base.specs.Log.{Replays}
 use Rattle.machine_sound.specs.Sound.{IsReached}

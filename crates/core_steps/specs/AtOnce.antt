@@ -18,12 +18,6 @@ use Rattle.core_steps.specs.declared.machine.Finished.TheVariants.{Last}
 use Rattle.core_steps.specs.declared.starting.Started.{Started}
 use Rattle.core_steps.specs.declared.starting.Started.TheVariants.{Begun, Ended}
 
--- one event more can be counted, and the core is the machine's
-pub record IsReady (w : World) (core : ℕ) : Type 0 where
-  pub reached : ∥ IsReached w ∥₁
-  pub below : w.calls.events < event_limit
-  pub here : core < w.made.cores
-
 -- how far a call has come that was begun with its first steps
 abbrev pub Starts : World → ℕ → Request → Started → World → Type 0
 Starts w core request (Begun steps) v = (steps < finish_limit)

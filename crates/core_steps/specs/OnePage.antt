@@ -1,7 +1,7 @@
 -- A fault whose page is a slot of its own that nobody holds: what it finds there, where the page's
 -- frame comes from, and what is left, there and after a change of such a page
-use Rattle.std.specs.Prelude.{◌≡◌, ℕ, ◌+◌, ◌<◌, ◌≤◌, ◌^◌, [], ◌∷◌, ◌++◌, Bool, true, false, Option}
-use Rattle.std.specs.Prelude.{Some, pos, ◌<ℤ◌}
+use Rattle.std.specs.Prelude.{◌≡◌, ℕ, ◌+◌, ◌<◌, ◌≤◌, ◌^◌, [], ◌∷◌, ◌++◌, Bool, true, false}
+use Rattle.std.specs.Prelude.{Some, pos, ◌<ℤ◌, Result, Ok, Err}
 use Rattle.vm_base.specs.declared.info.Back.{Back}
 use Rattle.vm_base.specs.declared.info.Back.TheVariants.{Anon}
 use Rattle.vm_base.specs.declared.info.PageInfo.{PageInfo}
@@ -16,15 +16,14 @@ use Rattle.vm_calls.specs.declared.fault.Settled.TheVariants as Found
 use Rattle.refcache.specs.Counts.{Counts, true_count}
 use Rattle.refcache.specs.Steps.{Takes, Begin, Inc, IsUnused}
 use Rattle.vm_base.specs.declared.log.Entry.TheVariants as EntryOf
-use Rattle.machine_model.specs.declared.event.Event.TheVariants.{Go}
-use Rattle.machine_model.specs.declared.event.Outcome.TheVariants.{Stepped}
-use Rattle.machine_model.specs.declared.phase.Phase.TheVariants.{Answer, Try}
-use Rattle.machine_model.specs.Accesses.{IsLeastFree, after_finding}
+use Rattle.machine_model.specs.declared.phase.Phase.{Phase}
+use Rattle.machine_model.specs.declared.phase.Phase.TheVariants.{Answer}
+use Rattle.machine_model.specs.Accesses.{IsLeastFree}
 use Rattle.vm_base.specs.Info.{info_with_core}
 use Rattle.machine_model.specs.Actions.{after_reply, to}
 use Rattle.machine_model.specs.Holding.{page_of_touch}
 use Rattle.machine_model.specs.Locks.{locking}
-use Rattle.machine_model.specs.Step.{Step, StepsTo, event_limit}
+use Rattle.machine_model.specs.Step.{StepsTo, event_limit}
 use Rattle.machine_model.specs.Translating.{entry_of_page, with_table}
 use Rattle.machine_model.specs.World.{Memory, World}
 use Rattle.machine_sound.specs.Sound.{IsReached}
@@ -42,10 +41,10 @@ pub record IsFault (w : World) (core : ℕ) (touch : Touch) : Type 0 where
   pub alone : IsFreeSlot w.slots touch.page
   pub room : w.calls.events + 7 ≤ event_limit
 
--- an access that finds this at its page is answered so
-abbrev pub IsFailure : Settled → Reply → Type 0
-IsFailure settled reply = (core : ℕ) (touch : Touch) (w : World)
-    → after_finding core touch settled w ≡ after_reply core (Some (page_of_touch touch)) reply w
+-- the access goes on in a phase by what it found at its page, or is answered
+abbrev pub after_settling : ℕ → Touch → Result Phase Reply → World → World
+after_settling core touch (Ok phase) w = to core phase w
+after_settling core touch (Err reply) w = after_reply core (Some (page_of_touch touch)) reply w
 
 -- ---- where the page's frame comes from
 
@@ -114,18 +113,14 @@ with_translation core page info w = record w {
       (put (w.hardware.table core) page (entry_of_page w.memory.cached (Some info)));
 }
 
--- so many events later the core's call is to try its access
-abbrev pub trying : ℕ → Touch → ℕ → World → World
-trying core touch n w =
-    to core (Try touch) (record w { calls = record w.calls { events = w.calls.events + n } })
-
--- and it is tried, comes to this, and leaves v, but for the core's phase, which isn't written
-pub record Tried (w : World) (core : ℕ) (touch : Touch) (n : ℕ) (reply : Option Reply) (v : World)
+-- n steps of the core's call lead from this phase of it in w to that one in v, where its phase isn't
+-- written
+pub record Passes (w : World) (core : ℕ) (from : Phase) (n : ℕ) (upto : Phase) (v : World)
     : Type 0 where
-  pub step : Step (trying core touch n w) (Go core) Stepped (to core (tried_to touch reply) v)
+  pub steps : StepsTo (to core from w) core n (to core upto v)
   pub cores : v.made.cores ≡ w.made.cores
   pub phases : v.calls.phase ≡ w.calls.phase
-  pub events : v.calls.events ≡ w.calls.events + (n + 1)
+  pub events : v.calls.events ≡ w.calls.events + n
   pub edges : v.slots.edge ≡ w.slots.edge
 
 -- the core's call has this reply, which was logged at the event so many later, and at the next one
@@ -142,12 +137,7 @@ logged_later core reply n w = record w {
 abbrev pub replied : ℕ → Reply → ℕ → World → World
 replied core reply n w = to core (Answer reply) (logged_later core reply n w)
 
--- from the lock of the page the steps of the fault lead there, and leave v, but for the core's phase,
--- which isn't written
+-- the steps of the fault lead there from the lock of its page
 pub record Makes (w : World) (core : ℕ) (touch : Touch) (end : FaultEnd) (v : World) : Type 0 where
   pub few : end.steps ≤ 7
-  pub steps : StepsTo (at_lock core touch w) core end.steps (to core (tried_to touch end.reply) v)
-  pub cores : v.made.cores ≡ w.made.cores
-  pub phases : v.calls.phase ≡ w.calls.phase
-  pub events : v.calls.events ≡ w.calls.events + end.steps
-  pub edges : v.slots.edge ≡ w.slots.edge
+  pub passes : Passes w core (locking (To.Access touch)) end.steps (tried_to touch end.reply) v

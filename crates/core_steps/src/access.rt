@@ -1,5 +1,5 @@
 //! The access of a byte.
-ghost use Rattle.std.specs.Prelude.{◌≡◌, ◌+◌, ◌<◌, length};
+ghost use Rattle.std.specs.Prelude.{◌≡◌, ◌<◌, length};
 ghost use Rattle.slot_lock.specs.declared.plan.Goal.TheVariants as To;
 ghost use Rattle.slot_lock.specs.Plan.{IsSoundGoal};
 ghost use Rattle.machine_model.specs.Accesses.{after_try, memory_after, reply_of};
@@ -8,7 +8,7 @@ ghost use Rattle.machine_model.specs.Step.{Goes, event_limit};
 ghost use Rattle.machine_sound.specs.Sound.{IsReached};
 ghost use Rattle.core_steps.specs.State.{world};
 ghost use Rattle.core_steps.specs.Moving.{CanTry, IsAt, tried_to};
-ghost use Rattle.core_steps.specs.OnePage.{Tried, trying};
+ghost use Rattle.core_steps.specs.OnePage.{Passes};
 
 use crate::acquire::locking;
 use crate::engine::Engine;
@@ -71,15 +71,16 @@ impl<M: SlotMap, H: Hardware, A: Allocator, L: Ledger> Engine<M, H, A, L> {
         }
     }
 
-    /// The access is tried, so many steps later than those that are counted. The core's phase isn't written.
+    /// The event of a call that is to try its access. The core's phase isn't written.
     #[inline(always)]
-    pub fn try_page(&mut self, core: CoreId, touch: Touch, steps: u64) -> Option<Reply>
+    pub fn try_page(&mut self, core: CoreId, touch: Touch) -> Option<Reply>
         requires here { core < length self.old.calls.phases.items }
-        requires room { self.old.calls.events + steps < event_limit }
-        requires reached { ∥ IsReached (trying core touch steps (world M.slots self.old)) ∥₁ }
-        ensures { Tried (world M.slots self.old) core touch steps result (world M.slots self.new) }
+        requires room { self.old.calls.events < event_limit }
+        requires reached { ∥ IsReached (to core (Phase.Try touch) (world M.slots self.old)) ∥₁ }
+        ensures { Passes (world M.slots self.old) core (Phase.Try touch) 1 (tried_to touch result)
+            (world M.slots self.new) }
     {
-        self.calls.events += steps + 1;
+        self.calls.events += 1;
         self.try_touch(core, touch)
     }
 

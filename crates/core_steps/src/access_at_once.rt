@@ -72,7 +72,8 @@ impl<M: SlotMap, H: Hardware, A: Allocator, L: Ledger> Engine<M, H, A, L> {
         ensures edges { (M.slots self.new.map).edge ≡ (M.slots self.old.map).edge }
     {
         self.number_call(core, request);
-        if let Some(reply) = self.try_page(core, touch, 2) {
+        self.calls.events += 2;
+        if let Some(reply) = self.try_page(core, touch) {
             self.calls.events += 1;
             return Started::Ended(Outcome::Answered(reply));
         }

@@ -2,9 +2,8 @@
 ghost use Rattle.std.specs.Prelude.{◌≡◌, ◌+◌, ◌^◌, ◌<◌, length, true, IfOk};
 ghost use Rattle.machine_model.specs.declared.event.Event.{Event};
 ghost use Rattle.machine_model.specs.Events.{core_of};
-ghost use Rattle.machine_model.specs.Step.{Acts, Begins, Goes, Step, with_event, is_here};
+ghost use Rattle.machine_model.specs.Step.{Acts, Begins, Goes, Step, is_here};
 ghost use Rattle.machine_sound.specs.Invariant.{Fine};
-ghost use Rattle.core_steps.specs.AtOnce.{IsReady};
 ghost use Rattle.core_steps.specs.State.{phase_of, world};
 ghost use Rattle.core_steps.specs.Moving.{JoinsAsMap, MayWant, Tries, WantsMemory};
 ghost use Rattle.core_steps.specs.Dividing.{DividesAsMap, GoesAsMap};
@@ -110,45 +109,6 @@ impl<M: SlotMap, H: Hardware, A: Allocator, L: Ledger> Engine<M, H, A, L> {
         }
     }
 
-    /// What the event does, counted as one event more. A refusal for memory changes nothing.
-    #[inline(always)]
-    fn act_counted(&mut self, event: Event) -> Result<Outcome, NoMemory>
-        requires here { is_here (world M.slots self.old).made (core_of event) ≡ true }
-        requires room { self.old.calls.events + 1 < 2 ^ 64 }
-        requires fine { ∥ Fine (world M.slots self.old) ∥₁ }
-        ensures row { Tries (Acts (with_event (world M.slots self.old)) event)
-            (MayWant L.keeps (world M.slots self.old) event)
-            (world M.slots self.old) result (world M.slots self.new) }
-        ensures joins { IfOk result
-            (λ outcome. JoinsAsMap M.can_fold M.folds (world M.slots self.old) event outcome
-            (world M.slots self.new)) }
-        ensures divides { IfOk result
-            (λ outcome. DividesAsMap M.parts (world M.slots self.old) event outcome (world M.slots self.new)) }
-    {
-        self.calls.events += 1;
-        match self.act(event) {
-            Ok(outcome) => Ok(outcome),
-            Err(NoMemory) => {
-                self.calls.events -= 1;
-                Err(NoMemory)
-            }
-        }
-    }
-
-    /// The event of the next step of the core's call: what `step` makes of it where one event more can
-    /// be counted and the core is the machine's, without a look at either. A refusal for memory changes
-    /// nothing.
-    pub fn go_next(&mut self, core: CoreId) -> Result<Outcome, NoMemory>
-        requires { IsReady (world M.slots self.old) core }
-        ensures step { Tries (Step (world M.slots self.old) (Event.Go core))
-            (MayWant L.keeps (world M.slots self.old) (Event.Go core))
-            (world M.slots self.old) result (world M.slots self.new) }
-        ensures divides { IfOk result
-            (λ outcome. DividesAsMap M.parts (world M.slots self.old) (Event.Go core) outcome (world M.slots self.new)) }
-    {
-        self.act_counted(Event::Go(core))
-    }
-
     /// Tells whether the core is the machine's, if an event has one.
     pub fn is_here(&self, core: Option<CoreId>) -> bool
         ensures { result ≡ is_here (world M.slots self.now).made core }
@@ -160,6 +120,7 @@ impl<M: SlotMap, H: Hardware, A: Allocator, L: Ledger> Engine<M, H, A, L> {
     }
 
     /// One event, which is counted unless memory is refused; then nothing changes.
+    #[inline(always)]
     pub fn step(&mut self, event: Event) -> Result<Outcome, NoMemory>
         requires { ∥ Fine (world M.slots self.old) ∥₁ }
         ensures step { Tries (Step (world M.slots self.old) event)
@@ -174,10 +135,16 @@ impl<M: SlotMap, H: Hardware, A: Allocator, L: Ledger> Engine<M, H, A, L> {
         if self.calls.events == u64::MAX {
             return Ok(Outcome::Full);
         }
+        self.calls.events += 1;
         if !self.is_here(event.core()) {
-            self.calls.events += 1;
             return Ok(Outcome::Idle);
         }
-        self.act_counted(event)
+        match self.act(event) {
+            Ok(outcome) => Ok(outcome),
+            Err(NoMemory) => {
+                self.calls.events -= 1;
+                Err(NoMemory)
+            }
+        }
     }
 }

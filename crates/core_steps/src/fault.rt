@@ -7,16 +7,14 @@ ghost use Rattle.vm_base.specs.Pages.{IsPage};
 ghost use Rattle.mmu.specs.Entry.{has_right};
 ghost use Rattle.mmu.specs.Tables.{IsEmptyBeside};
 ghost use Rattle.slot_lock.specs.Slots.{HasMeta, IsSlot};
-ghost use Rattle.slot_lock.specs.Plan.{IsSoundTouch};
-ghost use Rattle.vm_calls.specs.declared.fault.Settled.{Settled};
 ghost use Rattle.frames.specs.Parts.{free_frames};
 ghost use Rattle.machine_model.specs.Accesses.{TakesThisFrame, after_finding, found_at, taken_for};
 ghost use Rattle.machine_model.specs.Files.{prot_installed};
 ghost use Rattle.machine_model.specs.Step.{Goes};
-ghost use Rattle.machine_laws.specs.Orderly.{answer_count};
+ghost use Rattle.machine_model.specs.World.{World};
 ghost use Rattle.core_steps.specs.State.{phase_of, world};
 ghost use Rattle.core_steps.specs.Moving.{IsAt, IsOf, Tries, WantsMemory};
-ghost use Rattle.core_steps.specs.OnePage.{with_translation};
+ghost use Rattle.core_steps.specs.OnePage.{after_settling, with_translation};
 
 use crate::engine::Engine;
 use crate::file_pages::{file_frame, prot_installed};
@@ -43,30 +41,27 @@ fn taken_for(touch: Touch, old: Option<u32>, frame: u32) -> Phase
     }
 }
 
-impl<M: SlotMap, H: Hardware, A: Allocator, L: Ledger> Engine<M, H, A, L> {
-    /// The access goes on by what it found at its page: it is answered, or the page has a
-    /// frame, or wants one.
-    fn settled_to(&mut self, core: CoreId, touch: Touch, settled: Settled)
-        requires here { core < length self.old.calls.phases.items }
-        requires room { answer_count (L.entries self.old.calls.ledger) < self.old.calls.limit }
-        requires touch { IsSoundTouch touch }
-        ensures { world M.slots self.new ≡ after_finding core touch settled (world M.slots self.old) }
-    {
-        let held = Some(page_of_touch(touch));
-        match settled {
-            Settled::MapErr => self.reply(core, held, Reply::Segv(SegvCode::MapErr)),
-            Settled::AccErr => self.reply(core, held, Reply::Segv(SegvCode::AccErr)),
-            Settled::Bus => self.reply(core, held, Reply::Bus),
-            Settled::Has(_) => self.go_to(core, Phase::Install(touch)),
-            Settled::Copies(frame) => {
-                let old = Some(frame);
-                self.go_to(core, Phase::Want { touch, old });
-            }
-            Settled::Cached(_) => self.go_to(core, Phase::Fill { touch, frame: None }),
-            Settled::Wants => self.go_to(core, Phase::Want { touch, old: None }),
+/// Where the access goes on by what it found at its page, which has a frame or wants one, or what it
+/// is answered.
+#[inline(always)]
+pub fn settled_to(touch: Touch, settled: Settled) -> Result<Phase, Reply>
+    ensures { (core : ℕ) (w : World) → after_finding core touch settled w ≡ after_settling core touch result w }
+{
+    match settled {
+        Settled::MapErr => Err(Reply::Segv(SegvCode::MapErr)),
+        Settled::AccErr => Err(Reply::Segv(SegvCode::AccErr)),
+        Settled::Bus => Err(Reply::Bus),
+        Settled::Has(_) => Ok(Phase::Install(touch)),
+        Settled::Copies(frame) => {
+            let old = Some(frame);
+            Ok(Phase::Want { touch, old })
         }
+        Settled::Cached(_) => Ok(Phase::Fill { touch, frame: None }),
+        Settled::Wants => Ok(Phase::Want { touch, old: None }),
     }
+}
 
+impl<M: SlotMap, H: Hardware, A: Allocator, L: Ledger> Engine<M, H, A, L> {
     /// What the access finds at its page, which has this.
     pub fn find(&self, touch: Touch, info: &Option<PageInfo>) -> Settled
         requires { info.now ≡ (M.slots self.now.map).info touch.page }
@@ -84,8 +79,10 @@ impl<M: SlotMap, H: Hardware, A: Allocator, L: Ledger> Engine<M, H, A, L> {
         ensures { Goes (world M.slots self.old) core (Phase.Settle touch) result (world M.slots self.new) }
     {
         let info = self.map.page(touch.page);
-        let settled = self.find(touch, &info);
-        self.settled_to(core, touch, settled);
+        match settled_to(touch, self.find(touch, &info)) {
+            Ok(phase) => self.go_to(core, phase),
+            Err(reply) => self.reply(core, Some(page_of_touch(touch)), reply),
+        }
         Outcome::Stepped
     }
 

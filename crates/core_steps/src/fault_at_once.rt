@@ -1,25 +1,26 @@
 //! A fault of an access, made at once: its page is found once and set once. No other core can act in
 //! between, so that the page, which nobody holds, need not be locked, nor the core's phase written.
-ghost use Rattle.std.specs.Prelude.{◌≡◌, ◌+◌, ◌<◌, ◌≤◌, None, Some, IfSome};
+ghost use Rattle.std.specs.Prelude.{◌≡◌, ◌+◌, ◌<◌, ◌≤◌, None, Some, IfSome, Err};
 ghost use Rattle.std.specs.Prelude.{length};
 ghost use Rattle.slot_lock.specs.declared.plan.Goal.TheVariants as To;
 ghost use Rattle.frames.specs.Parts.{free_frames};
-ghost use Rattle.machine_model.specs.Accesses.{found_at};
+ghost use Rattle.machine_model.specs.Accesses.{after_finding, found_at};
 ghost use Rattle.machine_model.specs.Locks.{locking};
 ghost use Rattle.machine_model.specs.Step.{StepsTo, event_limit};
-ghost use Rattle.machine_model.specs.World.{Memory};
+ghost use Rattle.machine_model.specs.World.{Memory, World};
 ghost use Rattle.machine_sound.specs.Sound.{IsReached};
-ghost use Rattle.core_steps.specs.OnePage.{CanTake, IsFailure, IsFault, IsSource, Makes, TakesFrom};
+ghost use Rattle.core_steps.specs.OnePage.{CanTake, IsFault, IsSource, Makes, TakesFrom, after_settling};
 ghost use Rattle.core_steps.specs.OnePage.{at_lock, frame_from, steps_from};
 ghost use Rattle.core_steps.specs.State.{world};
 
 use crate::access::tried_to;
 use crate::engine::Engine;
+use crate::fault::settled_to;
 use crate::ledger::Ledger;
 use mmu::Hardware;
 use slot_lock::{SlotMap, Touch};
 use std::alloc::Allocator;
-use vm_base::{Back, CoreId, PageInfo, Reply, SegvCode};
+use vm_base::{Back, CoreId, PageInfo, Reply};
 use vm_calls::Settled;
 
 /// The most steps that a fault makes at once.
@@ -67,18 +68,6 @@ pub(crate) struct FaultEnd {
     pub reply: Option<Reply>,
 }
 
-/// What an access that fails is answered.
-fn failure(settled: Settled) -> Option<Reply>
-    ensures { IfSome result (IsFailure settled) }
-{
-    match settled {
-        Settled::MapErr => Some(Reply::Segv(SegvCode::MapErr)),
-        Settled::AccErr => Some(Reply::Segv(SegvCode::AccErr)),
-        Settled::Bus => Some(Reply::Bus),
-        _ => None,
-    }
-}
-
 // No step is made.
 fn no_steps() -> FaultEnd
     ensures steps { result.steps ≡ 0 }
@@ -94,7 +83,8 @@ impl<M: SlotMap, H: Hardware, A: Allocator, L: Ledger> Engine<M, H, A, L> {
     // The access fails at its page, and this is its reply.
     fn fail_at_once(&mut self, core: CoreId, touch: Touch, reply: Reply) -> FaultEnd
         requires fault { IsFault (at_lock core touch (world M.slots self.old)) core touch }
-        requires fails { IsFailure (found_at (world M.slots self.old) touch) reply }
+        requires fails { (m : World) → after_finding core touch (found_at (world M.slots self.old) touch) m
+            ≡ after_settling core touch (Err reply) m }
         ensures { Makes (world M.slots self.old) core touch result (world M.slots self.new) }
     {
         self.log_at_once(core, reply, 2);
@@ -160,7 +150,8 @@ impl<M: SlotMap, H: Hardware, A: Allocator, L: Ledger> Engine<M, H, A, L> {
         };
         self.take_from(core, source);
         let before = source.steps();
-        let reply = self.try_page(core, touch, before);
+        self.calls.events += before;
+        let reply = self.try_page(core, touch);
         FaultEnd {
             steps: before + 1,
             reply,
@@ -181,7 +172,7 @@ impl<M: SlotMap, H: Hardware, A: Allocator, L: Ledger> Engine<M, H, A, L> {
             return no_steps();
         };
         let settled = self.find(touch, &page.info);
-        if let Some(reply) = failure(settled) {
+        if let Err(reply) = settled_to(touch, settled) {
             return self.fail_at_once(core, touch, reply);
         }
         if let Some(info) = page.info

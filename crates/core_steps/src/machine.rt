@@ -110,6 +110,7 @@ impl<M: SlotMap, A: Allocator + Clone, L: Ledger> Machine<M, A, L> {
     /// mmap, munmap and mprotect). The step's log entry, if it made one, was due, a frame became free
     /// only by a review or by the call that had taken it and gave it to no page, and what is waited for
     /// is there.
+    #[inline(always)]
     pub fn step(&mut self, event: Event) -> Result<Outcome, NoMemory>
         ensures step { Tries (Step (state self.old) event)
             (MayWant L.keeps (state self.old) event)
@@ -123,21 +124,6 @@ impl<M: SlotMap, A: Allocator + Clone, L: Ledger> Machine<M, A, L> {
         ensures legal { IsLegal (state self.new) }
     {
         self.engine.step(event)
-    }
-
-    // The next step of the core's call, as `step` makes it: without a look at what event it is.
-    fn next(&mut self, core: CoreId) -> Result<Outcome, NoMemory>
-        ensures step { Tries (Step (state self.old) (Event.Go core))
-            (MayWant L.keeps (state self.old) (Event.Go core))
-            (state self.old) result (state self.new) }
-        ensures divides { IfOk result
-            (λ outcome. DividesAsMap M.parts (state self.old) (Event.Go core) outcome (state self.new)) }
-        ensures legal { IsLegal (state self.new) }
-    {
-        if self.engine.calls.events == u64::MAX || !self.engine.is_here(Some(core)) {
-            return self.step(Event::Go(core));
-        }
-        self.engine.go_next(core)
     }
 
     // Steps of the core's call until one isn't Stepped, where so many plain ones were made before, at
@@ -155,7 +141,7 @@ impl<M: SlotMap, A: Allocator + Clone, L: Ledger> Machine<M, A, L> {
         let mut n = steps;
         'steps: while n < FINISH_LIMIT {
             n += self.engine.steps_at_once(core, FINISH_LIMIT - 1 - n);
-            let outcome = match self.next(core) {
+            let outcome = match self.step(Event::Go(core)) {
                 Ok(outcome) => outcome,
                 Err(refused) => return Err(refused),
             };

@@ -54,7 +54,7 @@ use Rattle.trace.specs.PlainText.{Idles, TakeAnswers, ActAnswers, MayStep, CoreM
 use Rattle.trace.specs.PlainText.{IsPlainBehind, with_opened}
 use Rattle.trace.specs.PlainLaw.{events_at, GivesPlainText}
 use Rattle.trace.proofs.Disturbing.{gives_up}
-use Rattle.core_steps.proofs.Limits.{step_grows}
+use Rattle.core_steps.proofs.Keeping.{step_grows}
 use Rattle.trace.proofs.Opening.{IsDeclared, declared_so, declares_file, declares_space, few_cores, few_files}
 use Rattle.trace.proofs.PlainCalls.{Meets, MeetsOpen, IsNext, beside, calm_left, call_ends, finish_free}
 use Rattle.trace.proofs.PlainCalls.{meets_beside, meets_event, meets_taken, open_ends, steps_kept}

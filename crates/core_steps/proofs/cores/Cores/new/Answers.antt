@@ -1,5 +1,4 @@
-use Rattle.std.proofs.Common.{None, [], rules, ap, ◌∙◌}
-use Rattle.shootdown.specs.Inboxes.{inbox}
+use Rattle.std.proofs.Common.{None, [], rules}
 use Rattle.std.proofs.Math.Path.{fun_ext}
 use Rattle.core_steps.proofs.Each.{bare_parts, one_more}
 use Rattle.core_steps.proofs.cores.Cores.new.Goals as goal

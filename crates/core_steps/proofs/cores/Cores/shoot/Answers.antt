@@ -1,7 +1,7 @@
 use Rattle.std.proofs.Common.{◌≡◌, ◌<◌, true, false, ap, sym, subst, ◌∙◌}
 use Rattle.vm_base.specs.Cores.{members}
 use Rattle.vm_base.proofs.Functions.{put_all, put_same}
-use Rattle.shootdown.specs.Inboxes.{awaited, inbox}
+use Rattle.shootdown.specs.Inboxes.{awaited}
 use Rattle.core_steps.specs.Parts.{parts}
 use Rattle.core_steps.proofs.Each.{shot_set}
 use Rattle.core_steps.proofs.cores.Cores.shoot.Goals as goal

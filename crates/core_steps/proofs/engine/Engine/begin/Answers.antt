@@ -13,7 +13,8 @@ returns-in-Stepped-clause-reached g c = kept_by g.L.Ledger.keeps c.step.result _
 
 pub returns-in_default-outcome : goal.returns-in_default-outcome
 returns-in_default-outcome g c = record {
-  starts = not_begun c.in-Ok.outcome (world g.M.SlotRead.slots c.args.self.now) (world g.M.SlotRead.slots c.step.new.self) c.args.core c.args.request c.in_default-outcome.not-Stepped c.in-Ok.ensures.step;
+  starts = not_begun c.in-Ok.outcome (world g.M.SlotRead.slots c.args.self.now) (world g.M.SlotRead.slots c.step.new.self) c.args.core c.args.request
+      c.in_default-outcome.not-Stepped c.in-Ok.ensures.step;
   divides = inl (c.in-Ok.outcome, c.in_default-outcome.not-Stepped, c.in-Ok.ensures.step, refl);
   reached = kept_by g.L.Ledger.keeps c.step.result _ _ (Call c.args.core c.args.request) c.step.ensures.step c.requires;
 }

@@ -17,7 +17,7 @@ tried_to-requires g c =
     (subst (λ x. ∥ IsReached x ∥₁) (sym (locked_already w c.args.core c.args.touch c.requires.at)) c.requires.reached)
 
 pub go_to-requires : goal.go_to-requires
-go_to-requires g c = subst (λ n. c.args.core < n) (sym c.make_fault-end.ensures.cores) c.requires.here
+go_to-requires g c = subst (λ n. c.args.core < n) (sym c.make_fault-end.ensures.passes.cores) c.requires.here
 
 pub returns-clause-edges : goal.returns-clause-edges
-returns-clause-edges g c = ap (λ (w : World). w.slots.edge) c.go_to.ensures ∙ c.make_fault-end.ensures.edges
+returns-clause-edges g c = ap (λ (w : World). w.slots.edge) c.go_to.ensures ∙ c.make_fault-end.ensures.passes.edges

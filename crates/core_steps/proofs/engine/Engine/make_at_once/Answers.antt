@@ -6,7 +6,7 @@ use Rattle.core_steps.proofs.Changing.{acts_mapped}
 use Rattle.core_steps.proofs.Known.{core_counted}
 use Rattle.machine_model.specs.World.{World}
 use Rattle.slot_lock.specs.Slots.{Slots}
-use Rattle.core_steps.proofs.Divided.{changed_edges}
+use Rattle.core_steps.proofs.Keeping.{changed_edges}
 use Rattle.core_steps.proofs.engine.Engine.make_at_once.Goals as goal
 
 pub shoot_alone-requires-clause-pages : goal.shoot_alone-requires-clause-pages

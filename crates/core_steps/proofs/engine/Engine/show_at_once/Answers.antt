@@ -12,7 +12,8 @@ take_from-requires g c =
 
 pub try_page-reply-requires-clause-reached : goal.try_page-reply-requires-clause-reached
 try_page-reply-requires-clause-reached g c =
-    gets_reached (world g.M.SlotRead.slots c.args.self.now) c.args.core c.args.touch c.requires.fault c.args.info c.requires.info c.args.source c.requires.source
+    gets_reached (world g.M.SlotRead.slots c.args.self.now) c.args.core c.args.touch c.requires.fault c.args.info c.requires.info c.args.source
+    c.requires.source
     (world g.M.SlotRead.slots c.show_page.new.self) (world g.M.SlotRead.slots c.take_from.new.self) c.frame-frame.result c.steps-before.result
     c.frame-frame.ensures c.steps-before.ensures c.in-Ok.ensures.ok c.take_from.ensures
 

@@ -1,18 +1,19 @@
-use Rattle.std.proofs.Common.{ap}
+use Rattle.std.proofs.Common.{ap, refl}
 use Rattle.slot_lock.specs.Slots.{Slots}
 use Rattle.core_steps.specs.State.{world}
 use Rattle.core_steps.proofs.FaultAtOnce.{can_try_later, tries}
 use Rattle.core_steps.proofs.engine.Engine.try_page.Goals as goal
 
 pub try_touch-requires : goal.try_touch-requires
-try_touch-requires g c =
-    can_try_later (world g.M.SlotRead.slots c.args.self.now) c.args.core c.args.touch c.args.steps _ c.requires.here c.requires.reached
+try_touch-requires g c = can_try_later (world g.M.SlotRead.slots c.args.self.now) c.args.core c.args.touch _ c.requires.here c.requires.reached
 
 pub returns : goal.returns
-returns g c = record {
-  step = tries (world g.M.SlotRead.slots c.args.self.now) _ c.args.core c.args.touch c.args.steps c.requires.room c.requires.here c.try_touch.ensures.tried;
-  cores = c.try_touch.ensures.cores;
-  phases = c.try_touch.ensures.phases;
-  events = c.try_touch.ensures.events;
-  edges = ap (λ (s : Slots). s.edge) c.try_touch.ensures.slots;
-}
+returns g c =
+    let w = world g.M.SlotRead.slots c.args.self.now in
+    record {
+      steps = (_, refl, tries w _ c.args.core c.args.touch c.requires.room c.requires.here c.try_touch.ensures.tried);
+      cores = c.try_touch.ensures.cores;
+      phases = c.try_touch.ensures.phases;
+      events = c.try_touch.ensures.events;
+      edges = ap (λ (s : Slots). s.edge) c.try_touch.ensures.slots;
+    }

@@ -4,7 +4,8 @@ use Rattle.core_steps.proofs.FaultAtOnce.{reached_by, touched}
 use Rattle.core_steps.proofs.engine.Engine.try_touch.Goals as goal
 
 pub touch_byte-reply-requires-clause-frame : goal.touch_byte-reply-requires-clause-frame
-touch_byte-reply-requires-clause-frame g c = c.requires.frame c.in-Hit.frame (reached_by _ c.translate.result c.in-Hit.frame c.translate.ensures.value c.in-Hit.is)
+touch_byte-reply-requires-clause-frame g c =
+    c.requires.frame c.in-Hit.frame (reached_by _ c.translate.result c.in-Hit.frame c.translate.ensures.value c.in-Hit.is)
 
 pub returns-in-Hit-clause-tried : goal.returns-in-Hit-clause-tried
 returns-in-Hit-clause-tried g c =
