@@ -155,13 +155,20 @@ fn replay_lines<A: Allocator, S: Source, W: Sink, R: Staged>(
     }
 }
 
+// How a replay ended, and who watched it.
+#[derive(Drop)]
+struct WatchEnd<X> {
+    ended: Result<(), TraceFault>,
+    watch: X,
+}
+
 // Acts on all lines, over a ledger of this kind.
 fn replay_over<
     L: Opening<A> + Drop,
     A: Allocator + Clone + Drop,
     S: Source,
     W: Sink,
-    X: Watch + Copy,
+    X: Watch + Drop,
 >(
     alloc: A,
     lines: &mut LineReader<A>,
@@ -169,45 +176,47 @@ fn replay_over<
     writer: &mut W,
     show: Show,
     limit: CallLimit,
-    watch: &mut X,
-) -> Result<(), TraceFault>
+    watch: X,
+) -> WatchEnd<X>
     requires fresh { lines.old ≡ opening }
     requires keeps { L.keeps ≡ keeps_log show }
     requires fits { Fits L.keeps limit }
     ensures ends { Reads (S.stream reader.old) (S.stream reader.new) (λ input unread.
-        Ends limit show input unread (W.contents writer.old) (W.contents writer.new) result) }
-    ensures seen { IfOk result (λ u. Reads (S.stream reader.old) (S.stream reader.new) (λ input unread.
-        IsSeen X.after watch.old watch.new show input (W.contents writer.old) (W.contents writer.new))) }
-    ensures read { result ≡ Err ReadFailed → HasStopped (S.failed reader.new) (S.reads reader.new) }
-    ensures write { result ≡ Err WriteFailed → W.failed writer.new ≡ true }
-    ensures kept { (result ≡ Err WriteFailed) ⊎ (W.failed writer.new ≡ W.failed writer.old) }
+        Ends limit show input unread (W.contents writer.old) (W.contents writer.new) result.ended) }
+    ensures seen { IfOk result.ended (λ u. Reads (S.stream reader.old) (S.stream reader.new) (λ input unread.
+        IsSeen X.after watch result.watch show input (W.contents writer.old) (W.contents writer.new))) }
+    ensures read { result.ended ≡ Err ReadFailed → HasStopped (S.failed reader.new) (S.reads reader.new) }
+    ensures write { result.ended ≡ Err WriteFailed → W.failed writer.new ≡ true }
+    ensures kept { (result.ended ≡ Err WriteFailed) ⊎ (W.failed writer.new ≡ W.failed writer.old) }
 {
-    let mut replayer = Replayer::<A, L, X>::within(limit, alloc, *watch);
+    let mut replayer = Replayer::<A, L, X>::within(limit, alloc, watch);
     let mut text = LineText::new();
     let ended = replay_lines(lines, reader, writer, &mut replayer, show, &mut text);
-    *watch = replayer.watch();
-    ended
+    WatchEnd {
+        ended,
+        watch: replayer.into_watch(),
+    }
 }
 
 // Acts on all lines. The log is kept only where it is to be shown, and then the usual limit of calls
 // holds.
-fn replay_text<A: Allocator + Clone + Drop, S: Source, W: Sink, X: Watch + Copy>(
+fn replay_text<A: Allocator + Clone + Drop, S: Source, W: Sink, X: Watch + Drop>(
     alloc: A,
     lines: &mut LineReader<A>,
     reader: &mut S,
     writer: &mut W,
     show: Show,
     limit: CallLimit,
-    watch: &mut X,
-) -> Result<(), TraceFault>
+    watch: X,
+) -> WatchEnd<X>
     requires fresh { lines.old ≡ opening }
     ensures ends { Reads (S.stream reader.old) (S.stream reader.new) (λ input unread.
-        Ends (limit_for show limit) show input unread (W.contents writer.old) (W.contents writer.new) result) }
-    ensures seen { IfOk result (λ u. Reads (S.stream reader.old) (S.stream reader.new) (λ input unread.
-        IsSeen X.after watch.old watch.new show input (W.contents writer.old) (W.contents writer.new))) }
-    ensures read { result ≡ Err ReadFailed → HasStopped (S.failed reader.new) (S.reads reader.new) }
-    ensures write { result ≡ Err WriteFailed → W.failed writer.new ≡ true }
-    ensures kept { (result ≡ Err WriteFailed) ⊎ (W.failed writer.new ≡ W.failed writer.old) }
+        Ends (limit_for show limit) show input unread (W.contents writer.old) (W.contents writer.new) result.ended) }
+    ensures seen { IfOk result.ended (λ u. Reads (S.stream reader.old) (S.stream reader.new) (λ input unread.
+        IsSeen X.after watch result.watch show input (W.contents writer.old) (W.contents writer.new))) }
+    ensures read { result.ended ≡ Err ReadFailed → HasStopped (S.failed reader.new) (S.reads reader.new) }
+    ensures write { result.ended ≡ Err WriteFailed → W.failed writer.new ≡ true }
+    ensures kept { (result.ended ≡ Err WriteFailed) ⊎ (W.failed writer.new ≡ W.failed writer.old) }
 {
     match show {
         Show::OutcomesAndLog => replay_over::<Kept<A>, A, S, W, X>(
@@ -251,64 +260,86 @@ impl<A: Allocator> Replayed<A> {
     }
 }
 
+/// A replay, and who watched its steps.
+#[derive(Drop)]
+pub struct Beside<A: Allocator, X> {
+    /// How it ended, and its lines.
+    pub replayed: Replayed<A>,
+    /// Who watched it.
+    pub watch: X,
+}
+
 // Acts on all lines. Memory for a chunk of them is taken before anything is read.
-fn replay_read<A: Allocator + Clone + Drop, S: Source, W: Sink, X: Watch + Copy>(
+fn replay_read<A: Allocator + Clone + Drop, S: Source, W: Sink, X: Watch + Drop>(
     alloc: A,
     reader: &mut S,
     writer: &mut W,
     show: Show,
     limit: CallLimit,
-    watch: &mut X,
-) -> Replayed<A>
+    watch: X,
+) -> Beside<A, X>
     ensures ends { Reads (S.stream reader.old) (S.stream reader.new) (λ input unread.
-        Ends (limit_for show limit) show input unread (W.contents writer.old) (W.contents writer.new) result.ended) }
-    ensures seen { IfOk result.ended (λ u. Reads (S.stream reader.old) (S.stream reader.new) (λ input unread.
-        IsSeen X.after watch.old watch.new show input (W.contents writer.old) (W.contents writer.new))) }
-    ensures read { result.ended ≡ Err ReadFailed → HasStopped (S.failed reader.new) (S.reads reader.new) }
-    ensures write { result.ended ≡ Err WriteFailed → W.failed writer.new ≡ true }
-    ensures kept { (result.ended ≡ Err WriteFailed) ⊎ (W.failed writer.new ≡ W.failed writer.old) }
+        Ends (limit_for show limit) show input unread (W.contents writer.old) (W.contents writer.new) result.replayed.ended) }
+    ensures seen { IfOk result.replayed.ended (λ u. Reads (S.stream reader.old) (S.stream reader.new) (λ input unread.
+        IsSeen X.after watch result.watch show input (W.contents writer.old) (W.contents writer.new))) }
+    ensures read { result.replayed.ended ≡ Err ReadFailed → HasStopped (S.failed reader.new) (S.reads reader.new) }
+    ensures write { result.replayed.ended ≡ Err WriteFailed → W.failed writer.new ≡ true }
+    ensures kept { (result.replayed.ended ≡ Err WriteFailed) ⊎ (W.failed writer.new ≡ W.failed writer.old) }
 {
     let Ok(for_lines) = alloc.clone() else {
-        return Replayed {
-            ended: Err(TraceFault::NoMemory),
-            lines: None,
+        return Beside {
+            replayed: Replayed {
+                ended: Err(TraceFault::NoMemory),
+                lines: None,
+            },
+            watch,
         };
     };
     let Ok(mut lines) = LineReader::new(for_lines) else {
-        return Replayed {
-            ended: Err(TraceFault::NoMemory),
-            lines: None,
+        return Beside {
+            replayed: Replayed {
+                ended: Err(TraceFault::NoMemory),
+                lines: None,
+            },
+            watch,
         };
     };
-    let ended = replay_text(alloc, &mut lines, reader, writer, show, limit, watch);
-    Replayed {
-        ended,
-        lines: Some(lines),
+    let end = replay_text(alloc, &mut lines, reader, writer, show, limit, watch);
+    Beside {
+        replayed: Replayed {
+            ended: end.ended,
+            lines: Some(lines),
+        },
+        watch: end.watch,
     }
 }
 
-// Acts on all lines beside one who watches the steps, and sends out what was written.
-fn replay_watched<A: Allocator + Clone + Drop, S: Source, W: Sink, X: Watch + Copy>(
+/// As `replay_telling`, step by step where one watches who sees each step, and hands out who watched: at the end of a
+/// trace without fault what the steps, one after another, made of it.
+pub fn replay_watched<A: Allocator + Clone + Drop, S: Source, W: Sink, X: Watch + Drop>(
     alloc: A,
     reader: &mut S,
     writer: &mut W,
     show: Show,
     limit: CallLimit,
-    watch: &mut X,
-) -> Replayed<A>
+    watch: X,
+) -> Beside<A, X>
     ensures ends { Reads (S.stream reader.old) (S.stream reader.new) (λ input unread.
-        Ends (limit_for show limit) show input unread (W.contents writer.old) (W.contents writer.new) result.ended) }
-    ensures seen { IfOk result.ended (λ u. Reads (S.stream reader.old) (S.stream reader.new) (λ input unread.
-        IsSeen X.after watch.old watch.new show input (W.contents writer.old) (W.contents writer.new))) }
-    ensures told { TellsFaults result.ended (S.failed reader.new) (S.reads reader.new)
+        Ends (limit_for show limit) show input unread (W.contents writer.old) (W.contents writer.new) result.replayed.ended) }
+    ensures seen { IfOk result.replayed.ended (λ u. Reads (S.stream reader.old) (S.stream reader.new) (λ input unread.
+        IsSeen X.after watch result.watch show input (W.contents writer.old) (W.contents writer.new))) }
+    ensures told { TellsFaults result.replayed.ended (S.failed reader.new) (S.reads reader.new)
         (W.failed writer.old) (W.failed writer.new) (W.is_flushed writer.new) }
 {
-    let replayed = replay_read(alloc, reader, writer, show, limit, watch);
+    let beside = replay_read(alloc, reader, writer, show, limit, watch);
     match writer.flush() {
-        Ok(()) => replayed,
-        Err(_) => Replayed {
-            ended: Err(TraceFault::WriteFailed),
-            lines: replayed.lines,
+        Ok(()) => beside,
+        Err(_) => Beside {
+            replayed: Replayed {
+                ended: Err(TraceFault::WriteFailed),
+                lines: beside.replayed.lines,
+            },
+            watch: beside.watch,
         },
     }
 }
@@ -327,8 +358,7 @@ pub fn replay_telling<A: Allocator + Clone + Drop, S: Source, W: Sink>(
     ensures told { TellsFaults result.ended (S.failed reader.new) (S.reads reader.new)
         (W.failed writer.old) (W.failed writer.new) (W.is_flushed writer.new) }
 {
-    let mut nobody = Unwatched;
-    replay_watched(alloc, reader, writer, show, limit, &mut nobody)
+    replay_watched(alloc, reader, writer, show, limit, Unwatched).replayed
 }
 
 /// As `replay_telling`, step by step, and puts the summary of all steps in place of what it was. After a
@@ -348,8 +378,9 @@ pub fn replay_summing<A: Allocator + Clone + Drop, S: Source, W: Sink>(
     ensures told { TellsFaults result.ended (S.failed reader.new) (S.reads reader.new)
         (W.failed writer.old) (W.failed writer.new) (W.is_flushed writer.new) }
 {
-    *summary = Summary::new();
-    replay_watched(alloc, reader, writer, show, limit, summary)
+    let beside = replay_watched(alloc, reader, writer, show, limit, Summary::new());
+    *summary = beside.watch;
+    beside.replayed
 }
 
 /// Acts on each line as it is read, and writes its text before the next line is acted on;

@@ -137,7 +137,7 @@ fn late_fault<A: Allocator + Clone + Drop, L: Opening<A> + Drop>(
     }
 }
 
-impl<A: Allocator + Clone + Drop, L: Opening<A> + Drop, X: Watch + Copy> Replayer<A, L, X> {
+impl<A: Allocator + Clone + Drop, L: Opening<A> + Drop, X: Watch + Drop> Replayer<A, L, X> {
     /// A replay before the first line, whose steps this one watches.
     pub fn new(alloc: A, watch: X) -> Replayer<A, L, X>
         ensures stage { ⟦<Self as Staged>⟧.stage result ≡ Start Usual }
@@ -161,9 +161,9 @@ impl<A: Allocator + Clone + Drop, L: Opening<A> + Drop, X: Watch + Copy> Replaye
         }
     }
 
-    /// Who watches the steps.
-    pub fn watch(&self) -> X
-        ensures { result ≡ self.now.watch }
+    /// Who watched the steps.
+    pub fn into_watch(self) -> X
+        ensures { result ≡ self.watch }
     {
         self.watch
     }
@@ -294,7 +294,7 @@ impl<A: Allocator + Clone + Drop, L: Opening<A> + Drop, X: Watch + Copy> Replaye
     }
 }
 
-impl<A: Allocator + Clone + Drop, L: Opening<A> + Drop, X: Watch + Copy> Staged
+impl<A: Allocator + Clone + Drop, L: Opening<A> + Drop, X: Watch + Drop> Staged
     for Replayer<A, L, X> {
     ghost stage = { λ r. stage_of r.limit r.declaration (option_map state r.machine) };
 
