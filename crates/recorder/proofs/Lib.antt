@@ -1,0 +1,4 @@
+pub mod CoresBelow
+pub mod Pending
+pub mod Steps
+pub mod Tellers
