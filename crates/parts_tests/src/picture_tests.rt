@@ -2,6 +2,7 @@
 ghost use Rattle.std.specs.Prelude.{◌≤◌};
 
 use picture::canvas::draw;
+use picture::lives::draw_lives;
 use picture::moments::{Deed, Moment, Pass, Recorded};
 use picture::places::view_of;
 use std::alloc::{AllocError, Global};
@@ -163,10 +164,10 @@ fn a_view_has_2000_columns_at_most(rt: HostRuntime) {
     assert_eq!(rt; view_of(2, 5, 4).steps, 1);
 }
 
-// 300 pages that are mapped one by one, none beside another.
-fn scattered(alloc: Global) -> Result<Vec<u8>, AllocError> {
+// Pages that are mapped one by one, none beside another.
+fn scattered(alloc: Global, pages: u64) -> Result<Vec<Recorded>, AllocError> {
     let mut all: Vec<Recorded> = Vec::new(alloc);
-    for page in 0..300u64 {
+    for page in 0..pages.min(10_000) {
         let first = 16 + 2 * page;
         let pages = PageRange {
             first,
@@ -174,7 +175,19 @@ fn scattered(alloc: Global) -> Result<Vec<u8>, AllocError> {
         };
         add(&mut all, 1, Moment::Mapped { pages, prot: RW })?;
     }
+    Ok(all)
+}
+
+// The picture of 300 such pages.
+fn three_hundred(alloc: Global) -> Result<Vec<u8>, AllocError> {
+    let all = scattered(alloc, 300)?;
     draw(alloc, view_of(1, 1, 1), all.as_slice())
+}
+
+// The lives of so many.
+fn scattered_lives(alloc: Global, pages: u64) -> Result<Vec<u8>, AllocError> {
+    let all = scattered(alloc, pages)?;
+    draw_lives(alloc, 8, all.as_slice())
 }
 
 // How often words stand in a text.
@@ -191,7 +204,7 @@ fn count(text: &[u8], words: &str) -> usize {
 
 #[test]
 fn of_300_rows_256_are_shown(rt: HostRuntime) -> Result<(), Fail> {
-    let text = scattered(rt.alloc())?;
+    let text = three_hundred(rt.alloc())?;
     assert_eq!(rt;
         count(text.as_slice(), ">pages: the first 256 rows of 300</text>"),
         1
@@ -370,5 +383,57 @@ fn texts_of_sixty_events_are_apart(rt: HostRuntime) -> Result<(), Fail> {
     let picture = sixty(alloc)?;
     let found = texts(alloc, picture.as_slice())?;
     assert_eq!(rt; found, (60 + 2 + 20 + 20 + 36 + 36 + 24 + 3, true));
+    Ok(())
+}
+
+// The lives of the pages of the shootdown.
+fn shootdown_lives(alloc: Global) -> Result<Vec<u8>, AllocError> {
+    let mut all: Vec<Recorded> = Vec::new(alloc);
+    add_shootdown(&mut all)?;
+    draw_lives(alloc, 6, all.as_slice())
+}
+
+// The drawing of them: the page that is unmapped in step 6, and the one that stays.
+const LIVES: &str = "\
+<svg x=\"104\" y=\"48\" width=\"1200\" height=\"48\" viewBox=\"1 0 6 2\" preserveAspectRatio=\"none\">
+<rect class=\"write\" x=\"1\" y=\"0\" width=\"5\" height=\"1\"><title>0x10000-0x11000 rw-, steps 1 to 6</title></rect>
+<rect class=\"write\" x=\"1\" y=\"1\" width=\"6\" height=\"1\"><title>0x11000-0x12000 rw-, from step 1</title></rect>
+</svg>
+</svg>
+";
+
+#[test]
+fn lives_of_a_shootdown_are_drawn(rt: HostRuntime) -> Result<(), Fail> {
+    let text = shootdown_lives(rt.alloc())?;
+    assert!(rt; text.as_slice().ends_with(LIVES.as_bytes()));
+    assert_eq!(rt;
+        count(text.as_slice(), ">2 lives of mappings, over 6 steps</text>"),
+        1
+    );
+    Ok(())
+}
+
+// How many lives a picture shows, and whether it says that there are more.
+fn shown(text: &[u8]) -> (usize, usize) {
+    let more = ">the first 2000 lives of mappings, by address, of more, over 8 steps</text>";
+    (count(text, "<rect class=\"write\""), count(text, more))
+}
+
+#[test]
+fn of_2001_lives_2000_are_shown(rt: HostRuntime) -> Result<(), Fail> {
+    let alloc = rt.alloc();
+    let all = scattered_lives(alloc, 2000)?;
+    assert_eq!(rt; shown(all.as_slice()), (2000, 0));
+    let more = scattered_lives(alloc, 2001)?;
+    assert_eq!(rt; shown(more.as_slice()), (2000, 1));
+    Ok(())
+}
+
+#[test]
+fn texts_of_2000_lives_are_apart(rt: HostRuntime) -> Result<(), Fail> {
+    let alloc = rt.alloc();
+    let all = scattered_lives(alloc, 2000)?;
+    let found = texts(alloc, all.as_slice())?;
+    assert_eq!(rt; found, (1 + 5 + 9 + 63, true));
     Ok(())
 }

@@ -30,8 +30,8 @@ fn height(view: View, rows: usize) -> u64
     rows_y(view) + 24 * rows.min(256) as u64 + 52
 }
 
-// Appends the beginning of the text: size, colours, and heads of arrows.
-fn put_front(out: &mut Vec<u8>, width: u64, height: u64) -> Result<(), AllocError>
+/// Appends the beginning of the text: size, colours, and heads of arrows.
+pub fn put_front(out: &mut Vec<u8>, width: u64, height: u64) -> Result<(), AllocError>
     ensures { OnOk result (out.new.items ≡ out.old.items ++ front_text width height) }
 {
     put_all(
