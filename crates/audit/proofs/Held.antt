@@ -4,10 +4,11 @@ use Rattle.std.proofs.Common.{refl, sym, ◌∙◌, ap, subst, arith}
 use Rattle.std.specs.Prelude.{if◌then◌else◌}
 use Rattle.std.proofs.lemmas.Bool.{cases_lt}
 use Rattle.vm_base.specs.Functions.{has}
-use Rattle.vm_base.specs.Pages.{IsPageRange}
+use Rattle.vm_base.specs.Pages.{IsPage, IsPageRange}
 use Rattle.vm_base.proofs.Functions.{by_test, has_in, in_has}
 use Rattle.slot_lock.specs.Edges.{edges_below}
-use Rattle.slot_lock.specs.Slots.{Slots, IsSlotBy, IsHeld, Locks, Unlocks, Splits, Divides, between, with_owner}
+use Rattle.slot_lock.specs.Slots.{Slots, IsSlotBy, IsSlotMap, IsHeld, Locks, Unlocks, Splits, Divides, between, with_owner}
+use Rattle.slot_lock.specs.SlotRuns.{OneByOne}
 use Rattle.slot_lock.proofs.Divisions.{slot_by}
 use Rattle.slot_lock.proofs.EdgeCounts.{edges_below-Divides, edges_below-most}
 use Rattle.audit.specs.Keeping.{HeldFrom, NobodyHolds}
@@ -83,6 +84,44 @@ all_let_go s cursor end h l p = ⊎_elim
     (λ (a : cursor ≤ p). h.others p (inr (omega (arith, a, l))))
     (cases_lt p cursor)
 
+-- slots were let go one after another
+pub run_let_go : (s t : Slots) (cursor end n upto : ℕ) → HeldFrom s cursor end → cursor ≤ end
+    → OneByOne (λ x y a b. Unlocks x y 0 a end b) s t cursor n upto
+    → HeldFrom t upto end × (t.info ≡ s.info) × (t.edge ≡ s.edge) × (cursor ≤ upto) × (upto ≤ end)
+run_let_go s t cursor end zero upto h l (same, at) = (
+  subst (λ x. HeldFrom x upto end) (sym same) (subst (λ n. HeldFrom s n end) (sym at) h),
+  ap (λ x. x.info) same,
+  ap (λ x. x.edge) same,
+  omega (arith, at),
+  omega (arith, at, l),
+)
+run_let_go s t cursor end (suc n) upto h l (m, (b, before, u)) =
+    let (held, info, edge, low, high) = run_let_go s m cursor end n b h l before in
+    let o = u.slot.ordered in
+    let e = u.by_end in (
+      let_go_one m t b end upto held (omega (arith, o, e)) u,
+      ap (λ x. x.info) u.now ∙ info,
+      ap (λ x. x.edge) u.now ∙ edge,
+      omega (arith, low, o),
+      e,
+    )
+
+-- what is held is a page
+held_page : (s : Slots) → IsSlotMap s → (p : ℕ) → s.owner p ≡ Some 0 → IsPage p
+held_page s m p h = by (cases_lt 0 p) (cases_lt p (2 ^ 35))
+  where
+    by : (0 < p) ⊎ (p ≤ 0) → (p < 2 ^ 35) ⊎ (2 ^ 35 ≤ p) → IsPage p
+    by (inl a) (inl b) = (omega (arith, a), b)
+    by (inr a) y = let none = m.free p (λ i. let one = i.0 in absurd (omega (arith, a, one))) in absurd cc
+    by (inl a) (inr b) = let none = m.free p (λ i. let below = i.1 in absurd (omega (arith, b, below))) in absurd cc
+
+pub valid_held : (s : Slots) → IsSlotMap s → (cursor end : ℕ) → HeldFrom s cursor end → cursor < end → (1 ≤ cursor) × (end ≤ 2 ^ 35)
+valid_held s m cursor end h l =
+    let first = held_page s m cursor (first_held s cursor end h l) in
+    let last = held_page s m (end - 1) (h.held (end - 1) (omega (arith, l)) (omega (arith, l))) in
+    let below = last.1 in
+    (first.0, omega (arith, below, l))
+
 -- ---- holding
 
 pub none_held : (s : Slots) (first : ℕ) → NobodyHolds s → HeldFrom s first first
@@ -121,6 +160,27 @@ held_locked s t first cursor end b h low x = subst (λ y. HeldFrom y first b) (s
     by : (p : ℕ) → (p < first) ⊎ (b ≤ p) → (with_owner s cursor b (Some 0)).owner p ≡ None
     by p (inl l) = outside s cursor b (Some 0) p (inl (omega (arith, l, low))) ∙ h.others p (inl l)
     by p (inr l) = let o = x.slot.ordered in outside s cursor b (Some 0) p (inr l) ∙ h.others p (inr (omega (arith, l, o)))
+
+-- slots were locked one after another
+pub run_held : (s t : Slots) (first cursor end n upto : ℕ) → HeldFrom s first cursor → first ≤ cursor → cursor ≤ end
+    → OneByOne (λ x y a b. Locks x y 0 a end b) s t cursor n upto
+    → HeldFrom t first upto × (t.info ≡ s.info) × (t.edge ≡ s.edge) × (cursor ≤ upto) × (upto ≤ end)
+run_held s t first cursor end zero upto h f l (same, at) = (
+  subst (λ x. HeldFrom x first upto) (sym same) (subst (λ n. HeldFrom s first n) (sym at) h),
+  ap (λ x. x.info) same,
+  ap (λ x. x.edge) same,
+  omega (arith, at),
+  omega (arith, at, l),
+)
+run_held s t first cursor end (suc n) upto h f l (m, (b, before, x)) =
+    let (held, info, edge, low, high) = run_held s m first cursor end n b h f l before in
+    let o = x.slot.ordered in (
+      held_locked m t first b end upto held (omega (arith, f, low)) x,
+      ap (λ y. y.info) x.now ∙ info,
+      ap (λ y. y.edge) x.now ∙ edge,
+      omega (arith, low, o),
+      x.by_end,
+    )
 
 pub free_next : (s : Slots) (first cursor : ℕ) → HeldFrom s first cursor → s.owner cursor ≡ None
 free_next s first cursor h = h.others cursor (inr (omega arith))
