@@ -3,6 +3,7 @@
 ghost use Rattle.std.specs.Prelude.{◌<◌, ◌≤◌};
 
 use crate::audit_tests::{next, other, random_request};
+use crate::linux_replies::LINUX;
 use crate::plain_map_tests::map_of;
 use audit_text::AuditFault;
 use audit_text::auditing::judge_text;
@@ -152,6 +153,57 @@ fn any_place_is_legal_where_it_may_be(rt: HostRuntime) {
             "illegal 2: replied 0x70000000, due 0x8000000000\n"
         )
     );
+}
+
+// A load of these lines, of a private page of a file, and another byte in its place.
+const LOADED: &str = "c2! load 0x80000043e7 = 175\n";
+
+const OTHER_BYTE: &str = "c2! load 0x80000043e7 = 176\n";
+
+const OTHER_BYTE_TOLD: &str = "\
+illegal 182: replied 176, due 175
+0x8000002000-0x8000003000 r-- anon
+0x8000003000-0x8000007000 r-x private 1 0x1000
+0x8000008000-0x800000a000 rw- anon
+0x800000a000-0x800000c000 -wx anon
+";
+
+// The kernel places a mapping elsewhere than in its core's window.
+const PLACE_TOLD: &str = "\
+illegal 72: replied 0x7f095fed4000, due 0x10000000000
+0x8000000000-0x8000001000 r-x private 0 0x0
+0x8000001000-0x8000003000 rwx anon
+0x8000003000-0x8000007000 r-- anon
+0x8000007000-0x800000a000 rw- private 1 0x1000
+";
+
+/// The text with other lines in place of these.
+fn text_with(alloc: Global, text: &str, lines: &str, others: &str) -> Result<Vec<u8>, NoMemory> {
+    let mut changed = Vec::new(alloc);
+    if let Some((front, behind)) = text.split_once(lines) {
+        changed.extend_from_slice(front.as_bytes())?;
+        changed.extend_from_slice(others.as_bytes())?;
+        changed.extend_from_slice(behind.as_bytes())?;
+    }
+    Ok(changed)
+}
+
+/// Tells whether this is told of Linux's lines with others in place of these.
+fn tells_changed(alloc: Global, lines: &str, others: &str, want: &str) -> bool {
+    let Ok(text) = text_with(alloc, LINUX, lines, others) else {
+        return false;
+    };
+    match told(alloc, text.as_slice(), true) {
+        Ok(line) => line.as_slice() == want.as_bytes(),
+        Err(_) => false,
+    }
+}
+
+#[test]
+fn replies_of_linux_are_legal(rt: HostRuntime) {
+    assert!(rt; tells(rt.alloc(), LINUX, true, "legal 220\n"));
+    assert!(rt; tells(rt.alloc(), LINUX, false, PLACE_TOLD));
+    assert!(rt; tells_changed(rt.alloc(), LOADED, OTHER_BYTE, OTHER_BYTE_TOLD));
 }
 
 /// Appends an address behind a space.

@@ -7,6 +7,8 @@ mod audit_tests;
 #[cfg(test)]
 mod audit_text_tests;
 #[cfg(test)]
+mod linux_replies;
+#[cfg(test)]
 mod plain_map_tests;
 #[cfg(test)]
 mod rows;
