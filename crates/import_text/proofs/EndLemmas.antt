@@ -18,29 +18,29 @@ pub keeps_same : (o : Option (List ℕ)) → Keeps o o
 keeps_same None = tt
 keeps_same (Some x) = refl
 
-pub imports_all : (thread : Option ℕ) (input text : List ℕ) (old new : Option (List ℕ)) (counts : Counts) (s : SoFar)
-    → (s, counts) ≡ import_of thread input → total counts ≡ length (lines_of input) → text ≡ imported_text s → Appends old new text
-    → ImportsAll thread input old new counts
-imports_all thread input text old new counts s h t e w = record {
-  written = subst (Appends old new) (e ∙ ap (λ (p : SoFar × Counts). imported_text p.0) h) w;
+pub imports_all : (start : SoFar) (thread : Option ℕ) (input text : List ℕ) (old new : Option (List ℕ)) (counts : Counts) (s : SoFar)
+    → (s, counts) ≡ import_of start thread input → total counts ≡ length (lines_of input) → text ≡ imported_text 256 s → Appends old new text
+    → ImportsAll start thread input old new counts
+imports_all start thread input text old new counts s h t e w = record {
+  written = subst (Appends old new) (e ∙ ap (λ (p : SoFar × Counts). imported_text 256 p.0) h) w;
   told = ap (λ (p : SoFar × Counts). p.1) h;
   all = t;
 }
 
-pub imports_front : (thread : Option ℕ) (input text : List ℕ) (old new : Option (List ℕ)) (counts : Counts) (s : SoFar)
-    → (s, counts) ≡ import_of thread input → text ≡ imported_text s → AppendsFront old new text
-    → AppendsFront old new (imported_text (import_of thread input).0)
-imports_front thread input text old new counts s h e w =
-    subst (AppendsFront old new) (e ∙ ap (λ (p : SoFar × Counts). imported_text p.0) h) w
+pub imports_front : (start : SoFar) (thread : Option ℕ) (input text : List ℕ) (old new : Option (List ℕ)) (counts : Counts) (s : SoFar)
+    → (s, counts) ≡ import_of start thread input → text ≡ imported_text 256 s → AppendsFront old new text
+    → AppendsFront old new (imported_text 256 (import_of start thread input).0)
+imports_front start thread input text old new counts s h e w =
+    subst (AppendsFront old new) (e ∙ ap (λ (p : SoFar × Counts). imported_text 256 p.0) h) w
 
-stops_here : (thread : Option ℕ) (input : List ℕ) (o : Option (List ℕ)) (f : ImportFault) → (f ≡ WriteFailed → ⊥) → ImportStops thread input o o f
-stops_here thread input o ReadFailed n = keeps_same o
-stops_here thread input o NoMemory n = keeps_same o
-stops_here thread input o WriteFailed n = absurd (n refl)
+pub stops_here : (start : SoFar) (thread : Option ℕ) (input : List ℕ) (o : Option (List ℕ)) (f : ImportFault) → (f ≡ WriteFailed → ⊥) → ImportStops start thread input o o f
+stops_here start thread input o ReadFailed n = keeps_same o
+stops_here start thread input o NoMemory n = keeps_same o
+stops_here start thread input o WriteFailed n = absurd (n refl)
 
-pub stopped : (a b : Stream) (thread : Option ℕ) (o : Option (List ℕ)) (f : ImportFault) → (f ≡ WriteFailed → ⊥) → Reads a b (λ xs ys. xs ≡ xs)
-    → Reads a b (λ input unread. ImportStops thread input o o f)
-stopped a b thread o f n r = reads_map a b _ _ r (λ xs ys k e. stops_here thread xs o f n)
+pub stopped : (a b : Stream) (start : SoFar) (thread : Option ℕ) (o : Option (List ℕ)) (f : ImportFault) → (f ≡ WriteFailed → ⊥) → Reads a b (λ xs ys. xs ≡ xs)
+    → Reads a b (λ input unread. ImportStops start thread input o o f)
+stopped a b start thread o f n r = reads_map a b _ _ r (λ xs ys k e. stops_here start thread xs o f n)
 
 abbrev fault_in : {T : Type 0} → Result T ImportFault → ImportFault
 fault_in (Ok x) = NoMemory

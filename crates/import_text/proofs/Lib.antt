@@ -1,7 +1,7 @@
 mod TokenLemmas
-mod SpeechLemmas
+pub mod SpeechLemmas
 mod JoinLemmas
 mod LogLemmas
-mod EndLemmas
+pub mod EndLemmas
 mod TakingLemmas
 mod SaidLemmas

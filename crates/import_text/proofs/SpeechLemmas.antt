@@ -1,5 +1,5 @@
 -- The lines of a log, and what they say.
-use Rattle.std.proofs.Common.{◌≡◌, ℕ, zero, suc, ◌+◌, ◌<◌, List, [], ◌∷◌, ◌++◌, length, take, drop, get_or, map, arith, refl, sym, ap, ◌∙◌}
+use Rattle.std.proofs.Common.{◌≡◌, ℕ, zero, suc, ◌+◌, ◌<◌, ◌≤◌, List, [], ◌∷◌, ◌++◌, length, take, drop, get_or, map, arith, refl, sym, ap, ◌∙◌}
 use Rattle.std.proofs.Common.{true, false, Bool, eqb, append_assoc}
 use Rattle.std.specs.Prelude.{cond}
 use Rattle.trace_io.specs.Lines.{lines_of, onto}
@@ -46,3 +46,15 @@ one_more f xs x log rest line more l s h =
     ∙ append_assoc (map f xs) (f x ∷ []) (map speech_of (lines_of more))
     ∙ ap (λ y. map f xs ++ y ∷ map speech_of (lines_of more)) s
     ∙ ap (λ ls. map f xs ++ map speech_of ls) (sym l) ∙ h
+
+-- there are no more lines than bytes
+onto_length : (x : ℕ) (ls : List (List ℕ)) → length (onto x ls) ≤ length ls + 1
+onto_length x [] = omega arith
+onto_length x (l ∷ ls) = omega arith
+
+lines_fewer : (x : ℕ) (xs : List ℕ) → length (lines_of xs) ≤ length xs → length (lines_of (x ∷ xs)) ≤ length (x ∷ xs)
+lines_fewer x xs h = let o = onto_length x (lines_of xs) in grind (arith, o, h)
+
+pub few_lines : (xs : List ℕ) → length (lines_of xs) ≤ length xs
+few_lines [] = omega arith
+few_lines (x ∷ xs) = lines_fewer x xs (few_lines xs)

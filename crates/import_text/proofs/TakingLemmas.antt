@@ -23,6 +23,16 @@ pub map-size : {X Y : Type 0} (f : X → Y) (xs : List X) → length (map f xs) 
 map-size f [] = refl
 map-size f (x ∷ xs) = let h = map-size f xs in omega (arith, h)
 
+map-push : {X Y : Type 0} (f : X → Y) (xs : List X) (x : X) → map f (xs ++ x ∷ []) ≡ map f xs ++ f x ∷ []
+map-push f [] x = refl
+map-push f (y ∷ ys) x = ap (λ l. f y ∷ l) (map-push f ys x)
+
+-- one more file was copied
+pub copied_more : (copies : List FileUse) (f : FileUse) (us : List (List ℕ × ℕ)) (n : ℕ) → n < length us → map use_of copies ≡ take n us
+    → use_of f ≡ get_or us n ([], 0) → map use_of (copies ++ f ∷ []) ≡ take (n + 1) us
+copied_more copies f us n p h e =
+    map-push use_of copies f ∙ (ap (λ l. l ++ use_of f ∷ []) h ∙ (ap (λ u. take n us ++ u ∷ []) e ∙ sym (take_more us n ([], 0) p)))
+
 -- another file stands here
 pub named_more : (name : List ℕ) (us : List (List ℕ × ℕ)) (n all : ℕ) → n < length us → bytes_eq (get_or us n ([], 0)).0 name ≡ false
     → n + place_named name (drop n us) ≡ all → n + 1 + place_named name (drop (n + 1) us) ≡ all
@@ -37,13 +47,13 @@ named_here name us n all p e h =
     omega (arith, h, one)
 
 -- one more line was taken
-pub taken_more : (all : List Spoken) (made : List Making) (process n : ℕ) (s t : SoFar) (c d : Counts) (fate : Fate)
-    → (s, c) ≡ imported all made process n → (t, fate) ≡ line_taken s all made process n → d ≡ counted c fate
-    → (t, d) ≡ imported all made process (n + 1)
-taken_more all made process n s t c d fate e h w =
+pub taken_more : (start : SoFar) (all : List Spoken) (made : List Making) (process n : ℕ) (s t : SoFar) (c d : Counts) (fate : Fate)
+    → (s, c) ≡ imported start all made process n → (t, fate) ≡ line_taken start s all made process n → d ≡ counted c fate
+    → (t, d) ≡ imported start all made process (n + 1)
+taken_more start all made process n s t c d fate e h w =
     let one : n + 1 ≡ suc n = omega arith in
     rw one (ap (λ x. (t, x)) w ∙ ap (λ (a : SoFar × Fate). (a.0, counted c a.1)) h
-    ∙ ap (λ (b : SoFar × Counts). counted_with b.1 (line_taken b.0 all made process n)) e)
+    ∙ ap (λ (b : SoFar × Counts). counted_with b.1 (line_taken start b.0 all made process n)) e)
 
 -- the lines of one more file
 uses-append : (n : ℕ) (us vs : List (List ℕ × ℕ)) → use_lines n (us ++ vs) ≡ use_lines n us ++ use_lines (n + length us) vs

@@ -1,6 +1,7 @@
 -- Tokens, from the gaps before them and after them.
 use Rattle.std.proofs.Common.{◌≡◌, ℕ, zero, suc, ◌+◌, ◌<◌, List, [], ◌∷◌, length, take, drop, get_or, arith, refl, sym, ap, ◌∙◌, subst}
-use Rattle.std.proofs.Common.{true, false, eqb, Some, None}
+use Rattle.std.proofs.Common.{true, false, Bool, not, eqb, Some, None}
+use Rattle.std.proofs.lemmas.Bool.Decides.{nat_tests}
 use Rattle.std.proofs.lemmas.List.{drop_more}
 use Rattle.import_text.specs.Tokens.{is_gap, from_token, up_to_gap, from_gap, cut_token, split_at_last, divided_at, begins_by, occurs}
 
@@ -59,3 +60,19 @@ occurs_more name bs n p e = ap (occurs name) (drop_more bs n 0 p) ∙ rw (subst 
 
 pub occurs_here : (name bs : List ℕ) (n : ℕ) → n < length bs → begins_by name (drop n bs) ≡ true → occurs name (drop n bs) ≡ true
 occurs_here name bs n p e = ap (occurs name) (drop_more bs n 0 p) ∙ rw (subst (λ l. begins_by name l ≡ true) (drop_more bs n 0 p) e) refl
+
+-- another byte stands where the name would begin
+pub begins_other : (name bs : List ℕ) (n : ℕ) → 0 < length name → n < length bs → eqb (get_or bs n 0) (get_or name 0 0) ≡ false
+    → begins_by name (drop n bs) ≡ false
+begins_other [] bs n q p e = absurd (omega arith)
+begins_other (x ∷ xs) bs n q p e = ap (begins_by (x ∷ xs)) (drop_more bs n 0 p) ∙ rw e refl
+
+-- no bytes at all stand wherever there is a byte
+pub nothing_occurs : (name bs : List ℕ) (a b : Bool) → a ≡ eqb (length name) 0 → a ≡ true → b ≡ eqb (length bs) 0 → not b ≡ occurs name bs
+nothing_occurs [] [] a b e t h = ap not h
+nothing_occurs [] (x ∷ xs) a b e t h =
+    let some : eqb (length (x ∷ xs)) 0 ≡ false = grind (arith, nat_tests) in
+    ap not (h ∙ some)
+nothing_occurs (y ∷ ys) bs a b e t h =
+    let none : length (y ∷ ys) ≡ 0 = grind (arith, nat_tests, e, t) in
+    absurd (omega (arith, none))

@@ -6,26 +6,27 @@ use Rattle.trace_io.specs.Sink.{AppendsFront}
 use Rattle.trace_io.specs.Source.{HasStopped}
 use Rattle.import_text.specs.Counts.{total}
 use Rattle.import_text.specs.Imported.{import_of}
+use Rattle.import_text.specs.Taking.{SoFar}
 use Rattle.import_text.specs.Texts.{imported_text}
 use Rattle.import_text.specs.declared.counts.Counts.{Counts}
 use Rattle.import_text.specs.declared.log.ImportFault.{ImportFault}
 use Rattle.import_text.specs.declared.log.ImportFault.TheVariants.{ReadFailed, NoMemory, WriteFailed}
 
--- the trace of what is taken of the log was written, and each line is counted
-pub record ImportsAll (thread : Option ℕ) (input : List ℕ) (old new : Option (List ℕ)) (counts : Counts) : Type 0 where
-  pub written : Appends old new (imported_text (import_of thread input).0)
-  pub told : counts ≡ (import_of thread input).1
+-- the trace of what is there at the start and of what is taken of the log was written, and each line is counted
+pub record ImportsAll (start : SoFar) (thread : Option ℕ) (input : List ℕ) (old new : Option (List ℕ)) (counts : Counts) : Type 0 where
+  pub written : Appends old new (imported_text 256 (import_of start thread input).0)
+  pub told : counts ≡ (import_of start thread input).1
   pub all : total counts ≡ length (lines_of input)
 
 -- after a failed write a front of the trace was written, after another fault nothing
-abbrev pub ImportStops : Option ℕ → List ℕ → Option (List ℕ) → Option (List ℕ) → ImportFault → Type 0
-ImportStops thread input old new ReadFailed = Keeps old new
-ImportStops thread input old new NoMemory = Keeps old new
-ImportStops thread input old new WriteFailed = AppendsFront old new (imported_text (import_of thread input).0)
+abbrev pub ImportStops : SoFar → Option ℕ → List ℕ → Option (List ℕ) → Option (List ℕ) → ImportFault → Type 0
+ImportStops start thread input old new ReadFailed = Keeps old new
+ImportStops start thread input old new NoMemory = Keeps old new
+ImportStops start thread input old new WriteFailed = AppendsFront old new (imported_text 256 (import_of start thread input).0)
 
-abbrev pub ImportEnds : Option ℕ → List ℕ → Option (List ℕ) → Option (List ℕ) → Result Counts ImportFault → Type 0
-ImportEnds thread input old new (Ok counts) = ImportsAll thread input old new counts
-ImportEnds thread input old new (Err f) = ImportStops thread input old new f
+abbrev pub ImportEnds : SoFar → Option ℕ → List ℕ → Option (List ℕ) → Option (List ℕ) → Result Counts ImportFault → Type 0
+ImportEnds start thread input old new (Ok counts) = ImportsAll start thread input old new counts
+ImportEnds start thread input old new (Err f) = ImportStops start thread input old new f
 
 -- `read failed` is told only of a read that failed or was one too many, and `write failed` only where a write or a flush failed; where
 -- it isn't told, none failed; where the trace was written, it has gone out

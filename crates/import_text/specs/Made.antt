@@ -1,6 +1,5 @@
 -- Which threads were made, and by whom.
 use Rattle.std.specs.Prelude.{ℕ, zero, suc, List, [], ◌∷◌, ◌++◌, Option, None, Some, if◌then◌else◌, ◌==◌, length, option_map}
-use Rattle.std.specs.Option.{option_to_list}
 use Rattle.import_text.specs.Joining.{call_at, speech_at}
 use Rattle.import_text.specs.Said.{said_of}
 use Rattle.import_text.specs.Speech.{Spoken}
@@ -24,15 +23,24 @@ making_of parent (Some Says.Fails) = None
 making_of parent (Some Says.Unread) = None
 making_of parent (Some Says.Other) = None
 
--- those that the first n lines say were made
-abbrev pub makings : List Spoken → ℕ → List Making
-makings all zero = []
-makings all (suc n) = makings all n ++ option_to_list (making_of (speech_at all n).0 (said_at all n))
-
--- who made a thread, in the first line that says so
+-- who made a thread, where the list says so
 abbrev pub maker_of : List Making → ℕ → Option Making
 maker_of [] thread = None
 maker_of (m ∷ made) thread = if m.child == thread then Some m else maker_of made thread
+
+-- with what a line says; of a thread the first line counts that says who made it
+abbrev pub first_made : List Making → Making → Option Making → List Making
+first_made made m None = made ++ m ∷ []
+first_made made m (Some earlier) = made
+
+abbrev pub with_making : List Making → Option Making → List Making
+with_making made None = made
+with_making made (Some m) = first_made made m (maker_of made m.child)
+
+-- those that the first n lines say were made, each once
+abbrev pub makings : List Spoken → ℕ → List Making
+makings all zero = []
+makings all (suc n) = with_making (makings all n) (making_of (speech_at all n).0 (said_at all n))
 
 -- the process of a thread that was made so: its own, or that of its maker
 abbrev pub process_by : (ℕ → ℕ) → ℕ → Option Making → ℕ

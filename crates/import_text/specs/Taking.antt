@@ -146,13 +146,13 @@ after_request s thread text (Load addr) = (asked_by s thread (Load addr), Kept)
 after_request s thread text (Store addr value) = (asked_by s thread (Store addr value), Kept)
 after_request s thread text (Fetch addr) = (asked_by s thread (Fetch addr), Kept)
 
--- what was taken after a call, and what became of its line
-abbrev pub after_said : SoFar → ℕ → List ℕ → Said → SoFar × Fate
-after_said s thread text (Says.Asks request) = after_request s thread text request
-after_said s thread text (Says.Breaks to) = after_break s thread to
-after_said s thread text (Says.Moves from old to new) = after_move s thread from old to new
-after_said s thread text (Says.Makes child shares) = (s, Left For.Other)
-after_said s thread text Says.Begins = (nothing_taken, Left For.Begins)
-after_said s thread text Says.Fails = (s, Left For.Failed)
-after_said s thread text Says.Unread = (s, Left For.Unread)
-after_said s thread text Says.Other = (s, Left For.Other)
+-- what was taken after a call, and what became of its line; a program that begins has what is there at the start
+abbrev pub after_said : SoFar → SoFar → ℕ → List ℕ → Said → SoFar × Fate
+after_said start s thread text (Says.Asks request) = after_request s thread text request
+after_said start s thread text (Says.Breaks to) = after_break s thread to
+after_said start s thread text (Says.Moves from old to new) = after_move s thread from old to new
+after_said start s thread text (Says.Makes child shares) = (s, Left For.Other)
+after_said start s thread text Says.Begins = (start, Left For.Begins)
+after_said start s thread text Says.Fails = (s, Left For.Failed)
+after_said start s thread text Says.Unread = (s, Left For.Unread)
+after_said start s thread text Says.Other = (s, Left For.Other)

@@ -47,11 +47,11 @@ abbrev pub use_lines : ℕ → List (List ℕ × ℕ) → List ℕ
 use_lines number [] = []
 use_lines number (f ∷ fs) = use_line number f.1 ++ use_lines (number + 1) fs
 
--- a core for each thread, up to 64; 256 frames; a call for each request, and 4096 at least
-abbrev pub first_line : ℕ → ℕ → List ℕ
-first_line threads steps = codes "vm" ++ codes " " ++ decimal (min (max threads 1) 64) ++ codes " " ++ decimal 256
+-- a core for each thread, up to 64; the frames; a call for each request, and 4096 at least
+abbrev pub first_line : ℕ → ℕ → ℕ → List ℕ
+first_line frames threads steps = codes "vm" ++ codes " " ++ decimal (min (max threads 1) 64) ++ codes " " ++ decimal frames
     ++ codes " " ++ decimal (max steps 4096) ++ codes "\n"
 
--- the whole trace
-abbrev pub imported_text : SoFar → List ℕ
-imported_text s = first_line (length s.threads) (length s.steps) ++ use_lines 0 s.files ++ flat_map step_line s.steps
+-- the whole trace, of a space of so many frames
+abbrev pub imported_text : ℕ → SoFar → List ℕ
+imported_text frames s = first_line frames (length s.threads) (length s.steps) ++ use_lines 0 s.files ++ flat_map step_line s.steps

@@ -1,7 +1,7 @@
 -- The tokens of a line of strace: its bytes up to gaps.
 use Rattle.std.specs.Prelude.{ℕ, Bool, false, ◌||◌, List, [], ◌∷◌, Option, None, Some, if◌then◌else◌, ◌==◌, codes, length, take}
 use Rattle.std.specs.Str.{bytes_eq}
-use Rattle.trace_text.specs.Number.{number_of}
+use Rattle.trace_text.specs.Number.{below_word, number_of, value_from}
 use Rattle.trace_text.specs.Request.{◌>>=◌}
 use Rattle.trace_text.specs.Words.{byte}
 
@@ -55,6 +55,10 @@ unfoldable pub only_count : List ℕ → Option ℕ
 only_count bytes = do
   first ← front_count bytes
   at_end (from_token first.1) first.0
+
+-- the number below 2^64 that hexadecimal digits spell
+abbrev pub hexadecimal : List ℕ → Option ℕ
+hexadecimal digits = below_word (value_from 16 0 digits)
 
 -- with one byte more in front, or divided at that byte where nothing was
 abbrev pub divided_at : ℕ → ℕ → List ℕ → Option (List ℕ × List ℕ) → Option (List ℕ × List ℕ)

@@ -4,11 +4,13 @@ ghost use Rattle.std.specs.Io.KnownBytes.{Appends};
 ghost use Rattle.trace_io.specs.Sink.{AppendsFront};
 ghost use Rattle.import_text.specs.Counts.{total};
 ghost use Rattle.import_text.specs.Ends.{ImportEnds, TellsImport};
+ghost use Rattle.import_text.specs.Taking.{so_far};
 ghost use Rattle.trace_io.specs.Source.{Gives, HasEnded, HasStopped, Reads, read_bytes};
 
 use crate::counts::Counts;
 use crate::import::import_lines;
-use crate::writing::write_taken;
+use crate::taking::Taken;
+use crate::writing::{FRAMES, write_taken};
 use std::alloc::{AllocError, Global};
 use thiserror::Error;
 use trace_io::sink::{Sink, write_all};
@@ -53,8 +55,8 @@ fn read_chunk<S: Source>(chunk: &mut Vec<u8>, reader: &mut S) -> Result<usize, R
     reader.read(&mut chunk[0..])
 }
 
-// Reads until the input ends.
-fn read_log<S: Source>(alloc: Global, reader: &mut S) -> Result<Vec<u8>, ImportFault>
+/// Reads until the input ends. Where a read fails, or there is no memory, some of it was read.
+pub fn read_log<S: Source>(alloc: Global, reader: &mut S) -> Result<Vec<u8>, ImportFault>
     ensures log { IfOk result (λ log. Reads (S.stream reader.old) (S.stream reader.new) (λ input unread. input ≡ log.items)) }
     ensures kept { OnErr result (Reads (S.stream reader.old) (S.stream reader.new) (λ input unread. input ≡ input)) }
     ensures read { result ≡ Err ImportFault.ReadFailed → HasStopped (S.failed reader.new) (S.reads reader.new) }
@@ -78,8 +80,8 @@ fn read_log<S: Source>(alloc: Global, reader: &mut S) -> Result<Vec<u8>, ImportF
     }
 }
 
-// Writes all of the bytes, which have gone out then.
-fn write_out<W: Sink>(writer: &mut W, bytes: &[u8]) -> Result<(), ImportFault>
+/// Writes all of the bytes, which have gone out then. At an `Err` a front of them was written.
+pub fn write_out<W: Sink>(writer: &mut W, bytes: &[u8]) -> Result<(), ImportFault>
     ensures ok { OnOk result (Appends (W.contents writer.old) (W.contents writer.new) bytes.now) }
     ensures out { OnOk result (W.is_flushed writer.new ≡ true) }
     ensures kept { OnOk result (W.failed writer.new ≡ W.failed writer.old) }
@@ -100,21 +102,22 @@ fn write_out<W: Sink>(writer: &mut W, bytes: &[u8]) -> Result<(), ImportFault>
 #[tactic(auto, using(crate::proofs::EndLemmas::imports_all, crate::proofs::EndLemmas::imports_front, crate::proofs::EndLemmas::keeps_same))]
 fn write_import<W: Sink>(
     alloc: Global,
+    start: &Taken,
     log: &[u8],
     writer: &mut W,
     thread: Option<u64>,
 ) -> Result<Counts, ImportFault>
-    ensures ends { ImportEnds thread log.now (W.contents writer.old) (W.contents writer.new) result }
+    ensures ends { ImportEnds (so_far start.now) thread log.now (W.contents writer.old) (W.contents writer.new) result }
     ensures few { IfOk result (λ counts. total counts < 2 ^ 64) }
     ensures out { OnOk result (W.is_flushed writer.new ≡ true) }
     ensures read { result ≡ Err ImportFault.ReadFailed → ⊥ }
     ensures write { result ≡ Err ImportFault.WriteFailed → W.failed writer.new ≡ true }
     ensures kept { (result ≡ Err ImportFault.WriteFailed) ⊎ (W.failed writer.new ≡ W.failed writer.old) }
 {
-    let Ok(imported) = import_lines(alloc, log, thread) else {
+    let Ok(imported) = import_lines(alloc, start, log, thread) else {
         return Err(ImportFault::NoMemory);
     };
-    let Ok(text) = write_taken(alloc, &imported.taken) else {
+    let Ok(text) = write_taken(alloc, &imported.taken, FRAMES) else {
         return Err(ImportFault::NoMemory);
     };
     match write_out(writer, text.as_slice()) {
@@ -123,23 +126,24 @@ fn write_import<W: Sink>(
     }
 }
 
-/// Reads a log of strace to its end, and writes its trace: what the process of this thread asked of its address space, or
-/// that of the thread of the first line. Answers how many lines were kept, changed and left out. Nothing is written before
-/// all is read and found its memory.
+/// Reads a log of strace to its end, and writes its trace: what is there at the start, and what the process of this thread
+/// asked of its address space, or that of the thread of the first line. Answers how many lines were kept, changed and left
+/// out. Nothing is written before all is read and found its memory.
 pub fn import_log<S: Source, W: Sink>(
     alloc: Global,
+    start: &Taken,
     reader: &mut S,
     writer: &mut W,
     thread: Option<u64>,
 ) -> Result<Counts, ImportFault>
     ensures ends { Reads (S.stream reader.old) (S.stream reader.new) (λ input unread.
-        ImportEnds thread input (W.contents writer.old) (W.contents writer.new) result) }
+        ImportEnds (so_far start.now) thread input (W.contents writer.old) (W.contents writer.new) result) }
     ensures few { IfOk result (λ counts. total counts < 2 ^ 64) }
     ensures told { TellsImport result (S.failed reader.new) (S.reads reader.new)
         (W.failed writer.old) (W.failed writer.new) (W.is_flushed writer.new) }
 {
     match read_log(alloc, reader) {
-        Ok(log) => write_import(alloc, log.as_slice(), writer, thread),
+        Ok(log) => write_import(alloc, start, log.as_slice(), writer, thread),
         Err(fault) => Err(fault),
     }
 }

@@ -1,7 +1,7 @@
 //! Which threads were made, and by whom: of which process a thread is.
-ghost use Rattle.std.specs.Prelude.{◌≡◌, ◌<◌, IfOk, Some, length, map, option_map};
+ghost use Rattle.std.specs.Prelude.{◌≡◌, ◌<◌, IfOk, OnOk, Some, length, map, option_map};
 ghost use Rattle.import_text.specs.Joining.{acting_text};
-ghost use Rattle.import_text.specs.Made.{maker_of, makings, making_of, process_of};
+ghost use Rattle.import_text.specs.Made.{maker_of, makings, making_of, process_of, with_making};
 ghost use Rattle.import_text.specs.Said.{said_of};
 ghost use Rattle.import_text.specs.Speech.{spoken};
 
@@ -41,7 +41,20 @@ fn making_of(parent: u64, said: Said) -> Option<Making>
     }
 }
 
-/// All threads that the lines say were made, in order.
+// Adds a thread, if the list doesn't say yet who made it.
+fn add_making(made: &mut Vec<Making>, making: Making) -> Result<(), AllocError>
+    ensures { OnOk result (made.new.items ≡ with_making made.old.items (Some making)) }
+{
+    match maker_of(made.as_slice(), making.child) {
+        Some(_) => Ok(()),
+        None => {
+            made.push(making)?;
+            Ok(())
+        }
+    }
+}
+
+/// All threads that the lines say were made, each once, in the order of the first lines that say so.
 pub fn read_makings<'a>(
     alloc: Global,
     speeches: &[Speech<'a>],
@@ -55,7 +68,7 @@ pub fn read_makings<'a>(
         if put_call(speeches, at, text)? {
             let said = read_call(text.as_slice());
             if let Some(making) = making_of(speeches[at].thread, said) {
-                made.push(making)?;
+                add_making(&mut made, making)?;
             }
         }
         at += 1;
@@ -63,7 +76,7 @@ pub fn read_makings<'a>(
     Ok(made)
 }
 
-// Who made this thread, in the first line that says so.
+// Who made this thread, where the list says so.
 fn maker_of(made: &[Making], thread: u64) -> Option<Making>
     ensures { result ≡ maker_of made.now thread }
 {

@@ -158,8 +158,8 @@ fn is_thread(before: &[u8]) -> bool
     has(before, b"CLONE_THREAD".as_slice())
 }
 
-// Tells whether a mapping is private or shared, and not both.
-fn has_kind(flags: Flags) -> bool
+/// Tells whether a mapping is private or shared, and not both.
+pub fn has_kind(flags: Flags) -> bool
     ensures { result ≡ has_kind flags }
 {
     if flags.private {
@@ -183,8 +183,9 @@ fn is_growing(token: &[u8]) -> bool
     has(token, b"MAP_GROWSDOWN".as_slice())
 }
 
-// Tells whether the pages are of the usual size, and the mapping doesn't grow by itself.
-fn is_plain(token: &[u8]) -> bool
+// Tells whether the pages are of the usual size, and the mapping doesn't grow by itself. The token names these flags.
+fn is_plain(token: &[u8], flags: Flags) -> bool
+    requires { flags ≡ flags_named token.now }
     ensures { result ≡ is_plain token.now }
 {
     if is_huge(token) {
@@ -193,7 +194,7 @@ fn is_plain(token: &[u8]) -> bool
     if is_growing(token) {
         return false;
     }
-    has_kind(flags_named(token))
+    has_kind(flags)
 }
 
 // `HINT, LEN, PROT, FLAGS, DESCRIPTOR, OFF`, placed at this address.
@@ -206,15 +207,16 @@ fn read_mmap(before: &[u8], addr: u64) -> Option<Request>
     let (_, rest) = next_token(front)?;
     let (len, rest) = next_count(rest)?;
     let (prot, rest) = next_token(rest)?;
-    let (flags, _) = next_token(rest)?;
-    if !is_plain(flags) {
+    let (names, _) = next_token(rest)?;
+    let flags = flags_named(names);
+    if !is_plain(names, flags) {
         return None;
     }
     Some(Request::Mmap {
         addr,
         len,
         prot: prot_named(prot),
-        flags: flags_named(flags),
+        flags,
         file: 0,
         off,
     })
@@ -279,8 +281,8 @@ fn read_mremap(before: &[u8], to: u64) -> Option<Said>
     Some(Said::Moves { from, old, to, new })
 }
 
-// A request, where one was read.
-fn asked(request: Option<Request>) -> Said
+/// A request, where one was read.
+pub fn asked(request: Option<Request>) -> Said
     ensures { result ≡ asked request }
 {
     match request {

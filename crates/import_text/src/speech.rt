@@ -50,8 +50,8 @@ fn nothing_after(log: &[u8]) -> &[u8]
     rest
 }
 
-// The first line, without its newline, and what follows it.
-fn front_line(log: &[u8]) -> (&[u8], &[u8])
+/// The first line, without its newline, and what follows it.
+pub fn front_line(log: &[u8]) -> (&[u8], &[u8])
     requires { 0 < length log.now }
     ensures lines { lines_of log.now ≡ result.0.now ∷ lines_of result.1.now }
     ensures less { length result.1.now < length log.now }

@@ -48,14 +48,19 @@ pub struct Taken {
     pub steps: Vec<Step>,
 }
 
-// A mapping that a line asks for, where the kernel placed it.
+/// A mapping that a line asks for, where the kernel placed it.
 #[derive(Clone, Copy, Debug, PartialEq, Eq)]
-struct Mapping {
-    addr: u64,
-    len: u64,
-    prot: Prot,
-    flags: Flags,
-    off: u64,
+pub struct Mapping {
+    /// Its first address.
+    pub addr: u64,
+    /// How many bytes it has.
+    pub len: u64,
+    /// Its rights.
+    pub prot: Prot,
+    /// Its flags.
+    pub flags: Flags,
+    /// Where it begins in its file, in bytes.
+    pub off: u64,
 }
 
 /// How a line is changed.
@@ -156,8 +161,8 @@ fn place_named(files: &[FileUse], name: &[u8]) -> usize
     at
 }
 
-// Adds a request of this thread.
-fn ask(taken: &mut Taken, thread: u64, request: Request) -> Result<(), AllocError>
+/// Adds a request of this thread.
+pub fn ask(taken: &mut Taken, thread: u64, request: Request) -> Result<(), AllocError>
     ensures { OnOk result (so_far taken.new ≡ asked_by (so_far taken.old) thread request) }
 {
     let place = place_of(taken.threads.as_slice(), thread);
@@ -169,6 +174,31 @@ fn ask(taken: &mut Taken, thread: u64, request: Request) -> Result<(), AllocErro
     Ok(())
 }
 
+// The same files once more.
+fn copy_files(alloc: Global, files: &[FileUse]) -> Result<Vec<FileUse>, AllocError>
+    ensures { IfOk result (λ copies. map use_of copies.items ≡ map use_of files.now) }
+{
+    let mut copies: Vec<FileUse> = Vec::new(alloc);
+    let mut at = 0;
+    'files: while at < files.len() {
+        let file = copy_file(alloc, &files[at])?;
+        copies.push(file)?;
+        at += 1;
+    }
+    Ok(copies)
+}
+
+// The same file once more.
+fn copy_file(alloc: Global, file: &FileUse) -> Result<FileUse, AllocError>
+    ensures { IfOk result (λ copy. use_of copy ≡ use_of file.now) }
+{
+    let name = Vec::from_slice(alloc, file.name.as_slice())?;
+    Ok(FileUse {
+        name,
+        len: file.len,
+    })
+}
+
 // A mapping of the file reaches so many bytes.
 fn widen(file: &mut FileUse, reach: u64)
     ensures { use_of file.new ≡ widened (use_of file.old) reach }
@@ -178,8 +208,9 @@ fn widen(file: &mut FileUse, reach: u64)
     }
 }
 
-// The number of the file of this name, of which a mapping reaches so many bytes; `None` where it would be the 17th.
-fn use_file(
+/// The number of the file of this name, of which a mapping reaches so many bytes; `None` where it would be the 17th. Where
+/// there is no memory the files stay as they are.
+pub fn use_file(
     alloc: Global,
     files: &mut Vec<FileUse>,
     name: &[u8],
@@ -201,8 +232,8 @@ fn use_file(
     Ok(Some(place as u64))
 }
 
-// Tells whether the mapping ends within the bytes that a file of a trace may have.
-fn reaches(off: u64, len: u64) -> bool
+/// Tells whether the mapping ends within the bytes that a file of a trace may have.
+pub fn reaches(off: u64, len: u64) -> bool
     ensures { result ≡ reaches off len }
 {
     off <= FILE_END && len <= FILE_END - off
@@ -220,8 +251,8 @@ fn anonymous(flags: Flags) -> Flags
     }
 }
 
-// Adds a mapping of a file, or of anonymous pages where the trace hasn't it.
-fn take_file(
+/// Adds a mapping of the file of this name, or of anonymous pages where the trace hasn't it.
+pub fn take_file(
     alloc: Global,
     taken: &mut Taken,
     thread: u64,
@@ -454,33 +485,25 @@ fn take_request(
     Ok(Fate::Kept)
 }
 
-// Forgets all that was taken.
-fn forget(taken: &mut Taken)
-    ensures { so_far taken.new ≡ nothing_taken }
-{
-    taken.threads.clear();
-    taken.files.clear();
-    taken.heap_end = None;
-    taken.steps.clear();
-}
-
 /// Takes what the thread's call says, and answers what becomes of its line. A program that begins has a new address space,
-/// so what was taken before is forgotten.
+/// so what was taken before is forgotten, but for what is there at the start.
 pub fn take(
     alloc: Global,
+    start: &Taken,
     taken: &mut Taken,
     thread: u64,
     text: &[u8],
     said: Said,
 ) -> Result<Fate, AllocError>
-    ensures { IfOk result (λ fate. (so_far taken.new, fate) ≡ after_said (so_far taken.old) thread text.now said) }
+    ensures { IfOk result (λ fate. (so_far taken.new, fate)
+        ≡ after_said (so_far start.now) (so_far taken.old) thread text.now said) }
 {
     match said {
         Said::Asks(request) => take_request(alloc, taken, thread, text, request),
         Said::Breaks(to) => take_break(taken, thread, to),
         Said::Moves { from, old, to, new } => take_move(taken, thread, from, old, to, new),
         Said::Begins => {
-            forget(taken);
+            *taken = start.copy(alloc)?;
             Ok(Fate::Left(Reason::Begins))
         }
         Said::Makes { .. } | Said::Other => Ok(Fate::Left(Reason::Other)),
@@ -500,5 +523,20 @@ impl Taken {
             heap_end: None,
             steps: Vec::new(alloc),
         }
+    }
+
+    /// The same once more.
+    pub fn copy(&self, alloc: Global) -> Result<Taken, AllocError>
+        ensures { IfOk result (λ copy. so_far copy ≡ so_far self.now) }
+    {
+        let threads = Vec::from_slice(alloc, self.threads.as_slice())?;
+        let files = copy_files(alloc, self.files.as_slice())?;
+        let steps = Vec::from_slice(alloc, self.steps.as_slice())?;
+        Ok(Taken {
+            threads,
+            files,
+            heap_end: self.heap_end,
+            steps,
+        })
     }
 }

@@ -1,6 +1,7 @@
 //! The tokens of a line of strace: its bytes up to gaps.
-ghost use Rattle.std.specs.Prelude.{◌≡◌, ◌≤◌, drop, length, option_map, take};
-ghost use Rattle.import_text.specs.Tokens.{begins_by, front_count, front_token, from_gap, from_token, is_gap, occurs};
+ghost use Rattle.std.specs.Prelude.{◌≡◌, ◌<◌, ◌≤◌, IfSome, drop, length, option_map, take};
+ghost use Rattle.trace_text.specs.Number.{digit_of};
+ghost use Rattle.import_text.specs.Tokens.{begins_by, front_count, front_token, from_gap, from_token, hexadecimal, is_gap, occurs};
 ghost use Rattle.import_text.specs.Tokens.{only_count, split_at_last, up_to_gap};
 
 use trace_text::number::read_number;
@@ -71,6 +72,34 @@ pub fn read_only(bytes: &[u8]) -> Option<u64>
     Some(number)
 }
 
+// What a hexadecimal digit stands for.
+fn digit(byte: u8) -> Option<u64>
+    ensures value { result ≡ digit_of byte }
+    ensures small { IfSome result (λ d. d < 16) }
+{
+    if byte >= b'0' && byte <= b'9' {
+        Some(u64::from(byte - b'0'))
+    } else if byte >= b'a' && byte <= b'f' {
+        Some(u64::from(byte - b'a' + 10))
+    } else if byte >= b'A' && byte <= b'F' {
+        Some(u64::from(byte - b'A' + 10))
+    } else {
+        None
+    }
+}
+
+/// The number below 2^64 that hexadecimal digits spell, without `0x`; 0 where there are none.
+pub fn read_hexadecimal(digits: &[u8]) -> Option<u64>
+    ensures { result ≡ hexadecimal digits.now }
+{
+    let mut number = 0u64;
+    for byte in digits {
+        let value = digit(*byte)?;
+        number = number.checked_mul(16)?.checked_add(value)?;
+    }
+    Some(number)
+}
+
 /// What stands before the last of these bytes, and behind it.
 pub fn split_last(bytes: &[u8], mark: u8) -> Option<(&[u8], &[u8])>
     ensures { option_map (λ f. (f.0.now, f.1.now)) result ≡ split_at_last mark bytes.now }
@@ -98,14 +127,26 @@ pub fn begins(bytes: &[u8], name: &[u8]) -> bool
     front == name
 }
 
+// Tells whether the name stands at this place in the bytes.
+fn stands_at(bytes: &[u8], at: usize, name: &[u8]) -> bool
+    requires { at ≤ length bytes.now }
+    ensures { result ≡ begins_by name.now (drop at bytes.now) }
+{
+    let (_, rest) = bytes.split_at(at);
+    begins(rest, name)
+}
+
 /// Tells whether the name stands somewhere in the bytes.
 pub fn has(bytes: &[u8], name: &[u8]) -> bool
     ensures { result ≡ occurs name.now bytes.now }
 {
+    if name.is_empty() {
+        return !bytes.is_empty();
+    }
+    let first = name[0];
     let mut at = 0;
     'places: while at < bytes.len() {
-        let (_, rest) = bytes.split_at(at);
-        if begins(rest, name) {
+        if bytes[at] == first && stands_at(bytes, at, name) {
             return true;
         }
         at += 1;

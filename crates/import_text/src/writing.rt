@@ -11,7 +11,7 @@ use std::alloc::{AllocError, Global};
 use trace_text::{LineText, address_text, push_number, push_rights};
 use vm_base::{Flags, Request};
 
-/// How many frames the space of an imported trace has: a log has no accesses, and lines that are added by hand may need some.
+/// How many frames the space of a trace without accesses has: lines that are added by hand may need some.
 pub const FRAMES: u64 = 256;
 
 /// How many calls an imported trace may ask for at least.
@@ -157,14 +157,14 @@ fn put_use(text: &mut LineText, number: u64, len: u64)
     text.push_str("\n");
 }
 
-// Replaces the text by the first line, of so many threads and requests.
-fn put_first(text: &mut LineText, threads: usize, steps: usize)
-    ensures { text.new.bytes ≡ first_line threads steps }
+// Replaces the text by the first line, of so many frames, threads and requests.
+fn put_first(text: &mut LineText, frames: u64, threads: usize, steps: usize)
+    ensures { text.new.bytes ≡ first_line frames threads steps }
 {
     text.clear();
     text.push_str("vm");
     push_count(text, threads.max(1).min(64) as u64);
-    push_count(text, FRAMES);
+    push_count(text, frames);
     push_count(text, (steps as u64).max(CALLS));
     text.push_str("\n");
 }
@@ -199,12 +199,12 @@ fn push_steps(all: &mut Vec<u8>, steps: &[Step]) -> Result<(), AllocError>
 }
 
 /// The trace of what was taken: a `vm` line, a line for each file, and a line for each request, in order.
-pub fn write_taken(alloc: Global, taken: &Taken) -> Result<Vec<u8>, AllocError>
-    ensures { IfOk result (λ all. all.items ≡ imported_text (so_far taken.now)) }
+pub fn write_taken(alloc: Global, taken: &Taken, frames: u64) -> Result<Vec<u8>, AllocError>
+    ensures { IfOk result (λ all. all.items ≡ imported_text frames (so_far taken.now)) }
 {
     let mut all: Vec<u8> = Vec::new(alloc);
     let mut text = LineText::new();
-    put_first(&mut text, taken.threads.len(), taken.steps.len());
+    put_first(&mut text, frames, taken.threads.len(), taken.steps.len());
     all.extend_from_slice(text.as_str().as_bytes())?;
     push_uses(&mut all, taken.files.as_slice())?;
     push_steps(&mut all, taken.steps.as_slice())?;

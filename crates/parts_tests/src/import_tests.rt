@@ -1,14 +1,15 @@
 //! Logs as strace(1) prints them, and the traces that they become.
 use import_text::counts::Counts;
 use import_text::import::import_lines;
-use import_text::writing::write_taken;
+use import_text::taking::Taken;
+use import_text::writing::{FRAMES, write_taken};
 use std::alloc::{AllocError, Global};
 use std::test::Fail;
 
 // What a log becomes, and how many of its lines became what.
 fn made(alloc: Global, log: &str, thread: Option<u64>) -> Result<(Vec<u8>, Counts), AllocError> {
-    let imported = import_lines(alloc, log.as_bytes(), thread)?;
-    let text = write_taken(alloc, &imported.taken)?;
+    let imported = import_lines(alloc, &Taken::new(alloc), log.as_bytes(), thread)?;
+    let text = write_taken(alloc, &imported.taken, FRAMES)?;
     Ok((text, imported.counts))
 }
 

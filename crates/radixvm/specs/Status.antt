@@ -1,6 +1,5 @@
 -- The status that the program ends with.
 use Rattle.std.specs.Prelude.{ℕ, Bool, true, false, Result, Ok, Err}
-use Rattle.import_text.specs.declared.counts.Counts.{Counts}
 use Rattle.import_text.specs.declared.log.ImportFault.{ImportFault}
 use Rattle.live_script.specs.declared.texts.TextFault.{TextFault}
 use Rattle.live_script.specs.declared.texts.TextFault.TheVariants.{Text, Live}
@@ -38,6 +37,6 @@ words_status NotUtf8 = 2
 words_status OutOf.NoMemory = 3
 
 -- of a log: 0 where its trace was written
-abbrev pub import_status : Result Counts ImportFault → ℕ
-import_status (Ok counts) = 0
+abbrev pub import_status : {T : Type 0} → Result T ImportFault → ℕ
+import_status (Ok told) = 0
 import_status (Err f) = 3

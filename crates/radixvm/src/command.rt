@@ -3,8 +3,8 @@ ghost use Rattle.std.specs.Prelude.{◌≡◌, ◌≤◌, ℕ, Bool, IfOk, Optio
 ghost use Rattle.std.specs.Io.KnownBytes.{Appends};
 ghost use Rattle.notes_text.specs.CertifyEnds.{Certifies};
 ghost use Rattle.core_steps.specs.declared.setup.CallLimit.{CallLimit};
-ghost use Rattle.import_text.specs.Ends.{ImportEnds, TellsImport};
-ghost use Rattle.import_text.specs.declared.counts.Counts.{Counts};
+ghost use Rattle.import_maps.specs.Mapped.{MapsEnds, TellsMaps};
+ghost use Rattle.import_maps.specs.declared.mapped.Told.{Told as ImportTold};
 ghost use Rattle.import_text.specs.declared.log.ImportFault.{ImportFault};
 ghost use Rattle.live_script.specs.Texts.{EndsText, IsNotesText, IsVerdictText, TellsText};
 ghost use Rattle.live_script.specs.declared.texts.TextFault.{TextFault};
@@ -23,7 +23,7 @@ use crate::certifying::certify;
 use crate::help;
 use crate::help::Topic;
 use crate::importing::import;
-use crate::input::{Files, input};
+use crate::input::{Files, input, list};
 use crate::job::{Shows, run, run_echoing};
 use crate::live::{certify_live, live};
 use clap::error::ErrorKind;
@@ -66,6 +66,8 @@ struct Task<'a> {
     work: Work,
     // The text's file, where it isn't standard input.
     file: Option<&'a str>,
+    // The file of the list of mappings that an import begins with.
+    maps: Option<&'a str>,
 }
 
 // What is printed in its place.
@@ -98,6 +100,8 @@ const RUN_USAGE: &str = "radixvm run [--log | [--echo | --summary] [--long]] [--
 
 const MAPS_USAGE: &str = "radixvm maps [--long] [--explain] [FILE]";
 
+const IMPORT_USAGE: &str = "radixvm import [--pid N] [--maps FILE] [FILE]";
+
 // The word `run` with what may stand behind it.
 fn running<'a>(alloc: Global) -> Result<Command<'a>, AllocError> {
     let echo = flag(alloc, "echo").conflicts_with("log")?;
@@ -126,7 +130,8 @@ fn grammar<'a>(alloc: Global) -> Result<Command<'a>, AllocError> {
     let pid = Arg::new(alloc, "pid")
         .long("pid")
         .value_parser(value_parser!(u64));
-    let import = reading(alloc, "import", "radixvm import [--pid N] [FILE]")?.arg(pid)?;
+    let list = Arg::new(alloc, "maps").long("maps");
+    let import = reading(alloc, "import", IMPORT_USAGE)?.arg(pid)?.arg(list)?;
     let topic = Arg::new(alloc, "TOPIC").value_parser(help::TOPICS);
     let help = Command::new(alloc, "help")
         .override_help(help::OVERVIEW)
@@ -186,6 +191,7 @@ fn replaying<'a>(show: Show, sums: bool, words: &ArgMatches<'a>) -> Task<'a>
             sums,
         }),
         file,
+        maps: None,
     }
 }
 
@@ -199,6 +205,7 @@ fn echoing<'a>(words: &ArgMatches<'a>) -> Task<'a>
     Task {
         work: Work::Echo { limit, explains },
         file,
+        maps: None,
     }
 }
 
@@ -209,6 +216,18 @@ fn working<'a>(work: Work, words: &ArgMatches<'a>) -> Task<'a>
     Task {
         work,
         file: words.get_str("FILE"),
+        maps: None,
+    }
+}
+
+// An import, with the list of mappings that the words name.
+fn importing<'a>(words: &ArgMatches<'a>) -> Task<'a>
+    ensures { (thread : Option ℕ) × (result.work ≡ Work.Import thread) }
+{
+    Task {
+        work: Work::Import(words.get_one("pid")),
+        file: words.get_str("FILE"),
+        maps: words.get_str("maps"),
     }
 }
 
@@ -234,7 +253,7 @@ fn matched<'a, A: Allocator>(
             Ok(Ok(working(Work::CertifyLive, live)))
         }
         Some(("live", live)) => Ok(Ok(working(Work::Live, live))),
-        Some(("import", import)) => Ok(Ok(working(Work::Import(import.get_one("pid")), import))),
+        Some(("import", import)) => Ok(Ok(importing(import))),
         Some((_, help)) => Ok(Err(topic_named(help.get_str("TOPIC")))),
         None => Ok(Err(Topic::Overview)),
     }
@@ -325,6 +344,14 @@ fn file_of<'a>(parsed: &Result<Task<'a>, Told>) -> Option<&'a str> {
     }
 }
 
+// The file of the list of mappings, where the words name one.
+fn list_of<'a>(parsed: &Result<Task<'a>, Told>) -> Option<&'a str> {
+    match parsed {
+        Ok(task) => task.maps,
+        Err(_) => None,
+    }
+}
+
 // Tells that the text's file can't be opened, and answers the status.
 fn refuse_file<E: Write>(errors: &mut E) -> u8
     ensures { result ≡ 3 }
@@ -335,11 +362,12 @@ fn refuse_file<E: Write>(errors: &mut E) -> u8
 }
 
 // Does what the parsed words ask for, a replay, one with its lines, a certificate, or a run on threads, with its status.
-fn act<T: Threads + Wait + Sync, R: Runner<Global>, S: Source, W: Sink, E: Write>(
+fn act<T: Threads + Wait + Sync, R: Runner<Global>, L: Source, S: Source, W: Sink, E: Write>(
     rt: &T,
     runner: &R,
     alloc: Global,
     parsed: Result<Task<'_>, Told>,
+    list: &mut L,
     reader: &mut S,
     out: &mut W,
     errors: &mut E,
@@ -380,10 +408,11 @@ fn act<T: Threads + Wait + Sync, R: Runner<Global>, S: Source, W: Sink, E: Write
         × TellsText r (S.failed reader.new) (S.reads reader.new)
         (W.failed out.old) (W.failed out.new) (W.is_flushed out.new)) }
     ensures imported { IfOk parsed.entry (λ task. (thread : Option ℕ) → task.work ≡ Work.Import thread
-        → (r : Result Counts ImportFault) × (result ≡ import_status r)
-        × Reads (S.stream reader.old) (S.stream reader.new)
-        (λ input unread. ImportEnds thread input (W.contents out.old) (W.contents out.new) r)
-        × TellsImport r (S.failed reader.new) (S.reads reader.new)
+        → (r : Result ImportTold ImportFault) × (result ≡ import_status r)
+        × Reads (L.stream list.old) (L.stream list.new) (λ listed left.
+        Reads (S.stream reader.old) (S.stream reader.new)
+        (λ input unread. MapsEnds listed thread input (W.contents out.old) (W.contents out.new) r))
+        × TellsMaps r (L.failed list.new) (L.reads list.new) (S.failed reader.new) (S.reads reader.new)
         (W.failed out.old) (W.failed out.new) (W.is_flushed out.new)) }
     ensures within { result ≤ 3 }
 {
@@ -396,7 +425,7 @@ fn act<T: Threads + Wait + Sync, R: Runner<Global>, S: Source, W: Sink, E: Write
             Work::Certify => certify(alloc, reader, out, errors),
             Work::Live => live(rt, runner, alloc, reader, out, errors),
             Work::CertifyLive => certify_live(rt, runner, alloc, reader, out, errors),
-            Work::Import(thread) => import(alloc, reader, out, errors, thread),
+            Work::Import(thread) => import(alloc, list, reader, out, errors, thread),
         },
         Err(told) => tell(alloc, &told, out, errors),
     }
@@ -431,8 +460,21 @@ pub fn command<
     let Ok(input) = input(files, standard, file_of(&parsed)) else {
         return refuse_file(errors);
     };
+    let Ok(list) = list(files, list_of(&parsed)) else {
+        return refuse_file(errors);
+    };
+    let mut list = Counted::new(list);
     let mut reader = Counted::new(input);
-    act(rt, runner, alloc, parsed, &mut reader, out, errors)
+    act(
+        rt,
+        runner,
+        alloc,
+        parsed,
+        &mut list,
+        &mut reader,
+        out,
+        errors,
+    )
 }
 
 /// Reads the program's words, and does what they say, as `command`.

@@ -11,7 +11,7 @@ pub const USAGE: &str = "radixvm run [--log | [--echo | --summary] [--long]] [--
        radixvm maps [--long] [--explain] [FILE]
        radixvm certify [FILE]
        radixvm live [--certify] [FILE]
-       radixvm import [--pid N] [FILE]
+       radixvm import [--pid N] [--maps FILE] [FILE]
        radixvm help [TOPIC]";
 
 /// What the program is for, its words, and where to read on.
@@ -23,7 +23,7 @@ Usage: radixvm run [--log | [--echo | --summary] [--long]] [--explain] [FILE]
        radixvm maps [--long] [--explain] [FILE]
        radixvm certify [FILE]
        radixvm live [--certify] [FILE]
-       radixvm import [--pid N] [FILE]
+       radixvm import [--pid N] [--maps FILE] [FILE]
        radixvm help [TOPIC]
 
 Words:
@@ -399,6 +399,9 @@ Give strace -o FILE: at a terminal it breaks lines where a thread begins.
 
   --pid N        the process of thread N, where the log has several; else the
                  process of the first line
+  --maps FILE    a copy of /proc/PID/maps, as it was where the trace begins: at
+                 the log's first line, or, where the log has an execve of the
+                 process, right behind it
 
 A line of mmap, munmap or mprotect is kept with its numbers. A mapping stands
 where the kernel placed it, so it has the flag f, and its address is the one
@@ -425,9 +428,14 @@ clone without CLONE_THREAD), what a process did before execve, huge pages and
 MAP_GROWSDOWN, and all else that isn't read. How many lines became what is told
 on standard error, and each line is counted once.
 
-What was mapped before the log begins isn't known: an mprotect of such pages is
-kept, and run answers enomem. Pages of the program's own file, its first stack
-and vdso are such pages, which execve maps.
+What was mapped before the log begins isn't known without --maps: an mprotect of
+such pages is kept, and run answers enomem. Pages of the program's own file, its
+first stack and vdso are such pages, which execve maps. With --maps each line of
+the list is a mapping of core 0 before the log's first, with its numbers: of the
+file, if its path is as strace -y shows it the log's file too, or of zero bytes
+where there is no path ([heap], [stack]). Left out: the kernel's own pages
+([vvar], [vdso]), and what isn't from 4096 up to 2^47 ([vsyscall]). [heap] tells
+where the heap ends.
 
 The trace has 256 frames, for lines with accesses that you may add. One of more
 than 1048576 requests wants run --long.

@@ -116,3 +116,39 @@ fn threads_that_are_none(rt: HostRuntime) {
         assert!(rt; ran.out.is_empty() && ran.status == 2);
     }
 }
+
+// The words of an import that begins with the list of this file.
+fn behind<'a>(file: &'a [u8]) -> [&'a [u8]; 4] {
+    [b"radixvm", b"import", b"--maps", file]
+}
+
+// A list of mappings comes before the log, and says where the heap ends.
+#[test]
+fn a_log_behind_a_list(rt: HostRuntime) {
+    let log = b"5  brk(0x13000) = 0x13000\n".as_slice();
+    let trace =
+        b"vm 1 256 4096\nc0! mmap 0x10000 8192 rw- pfa\nc0! mmap 0x12000 4096 rw- pfa\n".as_slice();
+    let counts =
+        b"maps: 1 lines kept, 0 changed, 2 left out\n  1 left out: the kernel's own pages\n  \
+        1 left out: in a form that isn't read\nimport: 0 lines kept, 1 changed, 0 left out\n  \
+        1 changed: brk, as mmap or munmap\n"
+            .as_slice();
+    assert!(rt;
+        comes_to(
+            (rt.alloc(), &rt),
+            &behind(b"stored.maps"),
+            log,
+            AMPLE,
+            (trace, counts, 0)
+        )
+    );
+}
+
+// Where the list's file can't be opened, nothing is read, and none is standard input.
+#[test]
+fn a_list_unread(rt: HostRuntime) {
+    let unread = (b"".as_slice(), b"radixvm: read failed\n".as_slice(), 3);
+    for file in [b"no such file".as_slice(), b"-"] {
+        assert!(rt; imports((rt.alloc(), &rt), &behind(file), AMPLE, unread));
+    }
+}

@@ -1,14 +1,16 @@
 //! What the word `import` does.
-ghost use Rattle.std.specs.Prelude.{◌≡◌, ◌<◌, ◌≤◌, ◌^◌, ℕ, Option, Result};
+ghost use Rattle.std.specs.Prelude.{◌≡◌, ◌<◌, ◌≤◌, ◌^◌, Result};
+ghost use Rattle.import_maps.specs.Entries.{total as entries_total};
+ghost use Rattle.import_maps.specs.Mapped.{MapsEnds, TellsMaps};
+ghost use Rattle.import_maps.specs.declared.mapped.Told.{Told};
 ghost use Rattle.import_text.specs.Counts.{total};
-ghost use Rattle.import_text.specs.Ends.{ImportEnds, TellsImport};
-ghost use Rattle.import_text.specs.declared.counts.Counts.{Counts};
 ghost use Rattle.import_text.specs.declared.log.ImportFault.{ImportFault};
 ghost use Rattle.radixvm.specs.Status.{import_status};
 ghost use Rattle.trace_io.specs.Source.{Reads};
 
+use import_maps::entries::Entries;
+use import_maps::mapped::import_mapped;
 use import_text::counts::Counts;
-use import_text::log::import_log;
 use std::alloc::Global;
 use std::io::Write;
 use trace_io::sink::Sink;
@@ -55,6 +57,38 @@ fn tell_left<E: Write>(counts: &Counts, errors: &mut E) {
     tell_count(counts.unread, "left out: in a form that isn't read", errors);
 }
 
+// Prints how many lines of a list were kept, changed and left out, and why, if there were any.
+fn tell_entries<E: Write>(entries: &Entries, errors: &mut E)
+    requires { entries_total entries.now < 2 ^ 64 }
+{
+    let kept = entries.kept;
+    let changed = entries.changed;
+    let left = entries.left();
+    if kept == 0 && changed == 0 && left == 0 {
+        return;
+    }
+    let _ = writeln!(
+        errors,
+        "maps: {kept} lines kept, {changed} changed, {left} left out"
+    );
+    tell_count(
+        changed,
+        "changed: a mapping of a file, as one of zero bytes",
+        errors,
+    );
+    tell_count(entries.kernel, "left out: the kernel's own pages", errors);
+    tell_count(
+        entries.outside,
+        "left out: outside the addresses of a trace",
+        errors,
+    );
+    tell_count(
+        entries.unread,
+        "left out: in a form that isn't read",
+        errors,
+    );
+}
+
 // Prints how many lines were kept, changed and left out, and why.
 fn tell_counts<E: Write>(counts: &Counts, errors: &mut E)
     requires { total counts.now < 2 ^ 64 }
@@ -70,25 +104,28 @@ fn tell_counts<E: Write>(counts: &Counts, errors: &mut E)
     tell_left(counts, errors);
 }
 
-/// Makes a trace of a log of strace, of the process of this thread or of the first line's, prints how many lines became what
-/// on `errors`, or a fault as `radixvm: ` and its text, and answers the status: 0, or 3 for a fault.
-pub fn import<S: Source, W: Sink, E: Write>(
+/// Makes a trace of a list of mappings and of a log of strace, of the process of this thread or of the first line's, prints how
+/// many lines of both became what on `errors`, or a fault as `radixvm: ` and its text, and answers the status: 0, or 3 for a
+/// fault.
+pub fn import<L: Source, S: Source, W: Sink, E: Write>(
     alloc: Global,
+    list: &mut L,
     reader: &mut S,
     out: &mut W,
     errors: &mut E,
     thread: Option<u64>,
 ) -> u8
-    ensures ends { (r : Result Counts ImportFault) × (result ≡ import_status r)
-        × Reads (S.stream reader.old) (S.stream reader.new)
-        (λ input unread. ImportEnds thread input (W.contents out.old) (W.contents out.new) r)
-        × TellsImport r (S.failed reader.new) (S.reads reader.new)
+    ensures ends { (r : Result Told ImportFault) × (result ≡ import_status r)
+        × Reads (L.stream list.old) (L.stream list.new) (λ listed left. Reads (S.stream reader.old) (S.stream reader.new)
+        (λ input unread. MapsEnds listed thread input (W.contents out.old) (W.contents out.new) r))
+        × TellsMaps r (L.failed list.new) (L.reads list.new) (S.failed reader.new) (S.reads reader.new)
         (W.failed out.old) (W.failed out.new) (W.is_flushed out.new) }
     ensures within { result ≤ 3 }
 {
-    match import_log(alloc, reader, out, thread) {
-        Ok(counts) => {
-            tell_counts(&counts, errors);
+    match import_mapped(alloc, list, reader, out, thread) {
+        Ok(told) => {
+            tell_entries(&told.entries, errors);
+            tell_counts(&told.counts, errors);
             0
         }
         Err(fault) => {

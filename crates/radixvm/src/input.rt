@@ -6,7 +6,7 @@ ghost use Rattle.radixvm.specs.Input.{NamesStandard};
 use either::Either;
 use std::fs::File;
 use std::io;
-use std::io::Read;
+use std::io::{Empty, Read};
 
 /// Where files are opened.
 pub trait Files {
@@ -48,6 +48,21 @@ pub fn input<I: Read + Drop, F: Files>(
         Some(path) => {
             let file = files.open(path)?;
             Ok(Either::Right(file))
+        }
+    }
+}
+
+/// The list of mappings that is named, or an empty one where none is. An `Err` is the file's: it can't be opened.
+pub fn list<F: Files>(files: &F, name: Option<&str>) -> io::Result<Either<Empty, F::Open>>
+    ensures none { name.entry ≡ None → IfOk result (λ i. (empty : Empty) × (i ≡ Either.Left empty)) }
+    ensures file { (path : List ℕ) → option_map (λ n. n.now) name.entry ≡ Some path
+        → IfOk result (λ i. (file : F.Open) × (i ≡ Either.Right file) × F.opens files.now path file) }
+{
+    match name {
+        None => Ok(Either::Left(io::empty())),
+        Some(path) => {
+            let list = files.open(path)?;
+            Ok(Either::Right(list))
         }
     }
 }

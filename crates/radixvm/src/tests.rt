@@ -107,11 +107,10 @@ impl Env for Words<'_> {
     }
 }
 
-// One file, of this name and these bytes.
+// Files, each of a name and its bytes.
 #[derive(Drop)]
 struct Shelf<'a> {
-    name: &'a str,
-    bytes: &'a [u8],
+    files: &'a [(&'a str, &'a [u8])],
 }
 
 impl<'a> Files for Shelf<'a> {
@@ -120,10 +119,12 @@ impl<'a> Files for Shelf<'a> {
     ghost opens = { λ files path file. ⊤ };
 
     fn open(&self, path: &str) -> io::Result<Dripping<'a>> {
-        if path != self.name {
-            return Err(io::Error::from(ErrorKind::NotFound));
+        for (name, bytes) in self.files {
+            if path == *name {
+                return Ok(dripping_of(bytes, AMPLE));
+            }
         }
-        Ok(dripping_of(self.bytes, AMPLE))
+        Err(io::Error::from(ErrorKind::NotFound))
     }
 }
 
@@ -206,10 +207,8 @@ pub fn run_host<A: Allocator, T: Threads + Wait + Sync, R: Runner<Global>>(
     let mut out = sink_of(alloc, limits);
     let mut errors = Vec::new(alloc);
     let given = Words { words };
-    let files = Shelf {
-        name: "stored.trace",
-        bytes: STORED,
-    };
+    let stored = [("stored.trace", STORED), ("stored.maps", LISTED)];
+    let files = Shelf { files: &stored };
     let standard = dripping_of(input, limits);
     let status = program(
         given,
@@ -268,6 +267,9 @@ const RUN: &[&[u8]] = &[b"radixvm", b"run"];
 
 const STORED: &[u8] =
     b"vm 1 4\nc0! mmap 0x10000 4096 rw- pfa\nc0! store 0x10004 41\nc0! load 0x10004\nc0! load 0x10005\n";
+
+const LISTED: &[u8] = b"00010000-00012000 rw-p 00000000 00:00 0    [heap]\n\
+    7f0000000000-7f0000001000 r-xp 00000000 00:00 0    [vdso]\nx\n";
 
 #[test]
 fn replies(rt: HostRuntime) {

@@ -1,0 +1,4 @@
+pub mod Listed
+pub mod Entries
+pub mod Starting
+pub mod Mapped
