@@ -1,7 +1,9 @@
 #!/usr/bin/env bash
 # Records programs with strace, imports each log, and compares the pages that `radixvm maps` shows at the end of its trace with
 # those that the kernel lists in /proc/PID/maps, which the program itself reads at its end. Pages that the kernel maps before the
-# program's first call (its own file, the stack, vdso) aren't in a log, and are left out where the log never names them.
+# program's first call (its own file, the stack, vdso) aren't in a log, and are left out where the log never names them. Then each
+# log is imported behind the list of what is mapped where its program begins (--maps), and all pages are compared but the kernel's
+# own, vvar, vdso and vsyscall; the stack, which grows by itself, as far as it was when the program began.
 # It needs strace, and leave to trace (ptrace). Status 0 where no page differs.
 # Usage: bench/import_pages.sh
 set -euo pipefail
@@ -55,35 +57,74 @@ int main(void)
     return write(1, list, held) != held;
 }
 C
+cat > "$work/at_exec.c" <<'C'
+#include <signal.h>
+#include <stdio.h>
+#include <sys/personality.h>
+#include <sys/ptrace.h>
+#include <sys/wait.h>
+#include <unistd.h>
+/* Prints what is mapped where a program begins, at the addresses that it has without randomization, and ends it. */
+int main(int count, char **words)
+{
+    pid_t pid = fork();
+    if (count < 2 || pid == 0) {
+        personality(ADDR_NO_RANDOMIZE);
+        ptrace(PTRACE_TRACEME, 0, 0, 0);
+        execvp(words[1], words + 1);
+        _exit(127);
+    }
+    char path[64], part[4096];
+    waitpid(pid, NULL, 0);
+    snprintf(path, sizeof path, "/proc/%d/maps", pid);
+    FILE *list = fopen(path, "r");
+    for (size_t read; list && (read = fread(part, 1, sizeof part, list)) > 0;) fwrite(part, 1, read, stdout);
+    kill(pid, SIGKILL);
+    return list == NULL;
+}
+C
 cc -O1 -w -o "$work/heap" "$work/heap.c"
+cc -O1 -w -o "$work/at_exec" "$work/at_exec.c"
 status=0
-compare() {
-    local name=$1
-    shift
-    strace -f -y -o "$work/log" -e trace=memory,process,write "$@" > "$work/listed" 2> /dev/null
-    awk '/THE-END/ { exit } { print }' "$work/log" | grep -v ' write(' > "$work/log.part" || true
-    "$program" import "$work/log.part" > "$work/trace" 2> "$work/told"
+# The pages of the kernel's list and of the trace's end that differ: those that the trace names, or all but the kernel's own.
+differ() {
     "$program" run --long "$work/trace" > "$work/replies"
     "$program" maps --long "$work/trace" > "$work/shown"
-    echo "$name: $(head -n 1 "$work/told"); refused: $(grep -c 'e[a-z]*$' "$work/replies" | tr -d '\n' || true) replies that are no address"
-    python3 - "$work/listed" "$work/shown" "$work/trace" <<'PY' || status=1
+    echo "$1: $(grep -h " kept, " "$work/told" | paste -sd ";"); $(grep -cvE '^(0x[0-9a-f]+|done)$' "$work/replies" || true) requests refused"
+    python3 - "$2" "$work/listed" "$work/shown" "$work/trace" "$work/start" <<'PY' || status=1
 import re, sys
-def pages(path):
-    found = set()
+def lists(path):
     for line in open(path):
-        match = re.match(r"(?:0x)?([0-9a-f]+)-(?:0x)?([0-9a-f]+) ", line)
-        if match:
-            found.update(range(int(match[1], 16) >> 12, int(match[2], 16) >> 12))
-    return found
+        match = re.match(r"(?:0x)?([0-9a-f]+)-(?:0x)?([0-9a-f]+) .*?(\S*)$", line)
+        if match and not re.match(r"\[v", match[3]):
+            yield match[3], range(int(match[1], 16) >> 12, int(match[2], 16) >> 12)
+def pages(path, but=None):
+    return {page for name, run in lists(path) if name != but for page in run}
 named = set()
-for line in open(sys.argv[3]):
+for line in open(sys.argv[4]):
     match = re.match(r"c\d+! m(?:un)?map (0x[0-9a-f]+) (\d+)", line)
     if match:
         named.update(range(int(match[1], 16) >> 12, (int(match[1], 16) + int(match[2]) + 4095) >> 12))
-listed, shown = pages(sys.argv[1]) & named, pages(sys.argv[2])
+listed, shown = pages(sys.argv[2]), pages(sys.argv[3])
+if sys.argv[1] == "named":
+    listed &= named
+else:
+    stack = {page for name, run in lists(sys.argv[5]) if name == "[stack]" for page in run}
+    listed = pages(sys.argv[2], but="[stack]") | stack
 print("  pages: %d in the kernel's list, %d at the trace's end, %d differ" % (len(listed), len(shown), len(listed ^ shown)))
 sys.exit(1 if listed ^ shown else 0)
 PY
+}
+compare() {
+    local name=$1
+    shift
+    "$work/at_exec" "$@" > "$work/start" 2> /dev/null
+    setarch -R strace -f -y -o "$work/log" -e trace=memory,process,write "$@" > "$work/listed" 2> /dev/null
+    awk '/THE-END/ { exit } { print }' "$work/log" | grep -v ' write(' > "$work/log.part" || true
+    "$program" import "$work/log.part" > "$work/trace" 2> "$work/told"
+    differ "$name" named
+    "$program" import --maps "$work/start" "$work/log.part" > "$work/trace" 2> "$work/told"
+    differ "$name, behind its list" all
 }
 compare "C with brk and mremap" "$work/heap"
 compare "python with one thread" python3 "$work/maps.py" 1
