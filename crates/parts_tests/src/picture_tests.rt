@@ -1,8 +1,8 @@
 //! Pictures of runs: a shootdown of two cores, shape by shape; and sixty events, whose texts are apart.
 ghost use Rattle.std.specs.Prelude.{◌≤◌};
 
+use lives::drawing::draw_lives;
 use picture::canvas::draw;
-use picture::lives::draw_lives;
 use picture::moments::{Deed, Moment, Pass, Recorded};
 use picture::places::view_of;
 use std::alloc::{AllocError, Global};

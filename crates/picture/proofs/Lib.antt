@@ -1,2 +1,1 @@
-mod Joined
-mod Lived
+pub mod Joined

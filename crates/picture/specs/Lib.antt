@@ -1,7 +1,6 @@
 pub mod Canvas
 pub mod Drawing
 pub mod Elements
-pub mod Lives
 pub mod Moments
 pub mod Parts
 pub mod Places

@@ -4,7 +4,6 @@
 pub mod canvas;
 pub mod drawing;
 pub mod elements;
-pub mod lives;
 pub mod moments;
 pub mod parts;
 pub mod places;

@@ -1,0 +1,107 @@
+-- The lives of mappings over a whole run.
+use Rattle.std.specs.Prelude.{ℕ, zero, suc, ◌+◌, ◌-◌, ◌*◌, ◌/◌, ◌^◌, Bool, List, [], ◌∷◌, ◌++◌, Option, None, Some, if◌then◌else◌, codes, decimal, length, min, nat_lt, slice_get, take}
+use Rattle.std.specs.List.{concat, flat_map}
+use Rattle.vm_base.specs.declared.page.PageRange.{PageRange}
+use Rattle.trace_text.specs.Lists.{start_of}
+use Rattle.trace_text.specs.Spelling.{rights_text}
+use Rattle.picture.specs.Canvas.{front_text}
+use Rattle.picture.specs.Drawing.{prot_class}
+use Rattle.picture.specs.Elements.{line_text, text_front}
+use Rattle.picture.specs.Parts.{span_text}
+use Rattle.picture.specs.Rows.{edges_of, first_stretches, rows_of}
+use Rattle.picture.specs.declared.elements.Way.{Way}
+use Rattle.lives.specs.declared.drawing.Chart.{Chart}
+use Rattle.lives.specs.declared.drawing.TheConstants as Text
+use Rattle.picture.specs.declared.moments.Recorded.{Recorded}
+use Rattle.picture.specs.declared.shapes.Stretch.{Stretch}
+
+-- a life is a stretch of a row: from a step in which its pages are mapped to the first that changes them
+abbrev pub lives_of : List Recorded → List PageRange → List Stretch
+lives_of all rows = first_stretches all rows (min (length rows) 2001)
+
+abbrev pub are_more : List Stretch → Bool
+are_more lives = nat_lt 2000 (length lives)
+
+-- the first 2,000, from the lowest pages on
+abbrev pub shown : List Stretch → List Stretch
+shown lives = take 2000 lives
+
+abbrev pub row_of : Option Stretch → ℕ
+row_of (Some life) = life.row + 1
+row_of None = 0
+
+-- the rows down to that of the last life
+abbrev pub chart_of : ℕ → List Stretch → Chart
+chart_of steps lives = record { steps = steps; rows = row_of (slice_get lives (length lives - 1)) }
+
+abbrev pub plot_height : Chart → ℕ
+plot_height chart = min (24 * chart.rows) 760
+
+-- behind the last step
+abbrev pub end_of : ℕ → ℕ
+end_of steps = min (steps + 1) (2 ^ 64 - 1)
+
+-- ---- text
+
+abbrev pub count_words : Bool → ℕ → List ℕ
+count_words more n = if more then codes "the first 2000 lives of mappings, by address, of more" else decimal n ++ codes " lives of mappings"
+
+unfoldable pub head_text : Chart → Bool → ℕ → List ℕ
+head_text chart more n = text_front (codes "head") 8 18 ++ count_words more n ++ concat (codes ", over " ∷ decimal chart.steps ∷ codes " steps</text>\n" ∷ [])
+
+-- after an eighth of the steps, or several
+abbrev pub tick_way : Chart → ℕ → Way
+tick_way chart at = record { x1 = 104 + 150 * at; y1 = 44; x2 = 104 + 150 * at; y2 = plot_height chart + 48 }
+
+unfoldable pub tick_text : Chart → ℕ → List ℕ
+tick_text chart at = concat (line_text (codes "grid") (tick_way chart at) ∷ text_front (codes "step") (104 + 150 * at) 38
+    ∷ decimal (min (chart.steps * at) (2 ^ 64 - 1) / 8) ∷ codes "</text>\n" ∷ [])
+
+abbrev pub ticks_text : Chart → ℕ → List ℕ
+ticks_text chart zero = []
+ticks_text chart (suc n) = ticks_text chart n ++ tick_text chart n
+
+-- the address of a row, for one row or for some: as many as have room
+abbrev pub count_of : Chart → ℕ
+count_of chart = min chart.rows 63
+
+abbrev pub first_of : Option PageRange → ℕ
+first_of (Some pages) = pages.first
+first_of None = 0
+
+unfoldable pub page_text : Chart → List PageRange → ℕ → List ℕ
+page_text chart rows at = concat (text_front (codes "page") 8 (plot_height chart * at / count_of chart + 58)
+    ∷ start_of (first_of (slice_get rows (chart.rows * at / count_of chart))) ∷ codes "</text>\n" ∷ [])
+
+abbrev pub pages_text : Chart → List PageRange → ℕ → List ℕ
+pages_text chart rows zero = []
+pages_text chart rows (suc n) = pages_text chart rows n ++ page_text chart rows n
+
+-- a drawing of its own in the picture, whose units are a step and a row; step 1 lies at its left edge
+unfoldable pub frame_text : Chart → List ℕ
+frame_text chart = concat (codes "<svg x=\"104\" y=\"48\" width=\"1200\" height=\"" ∷ decimal (plot_height chart)
+    ∷ codes "\" viewBox=\"1 0 " ∷ decimal chart.steps ∷ codes " " ∷ decimal chart.rows ∷ codes "\" preserveAspectRatio=\"none\">\n" ∷ [])
+
+-- where a life ends
+abbrev pub life_end : Chart → Option ℕ → ℕ
+life_end chart (Some step) = step
+life_end chart None = end_of chart.steps
+
+unfoldable pub life_text : Chart → Stretch → List ℕ
+life_text chart life = concat (codes "<rect class=\"" ∷ prot_class life.prot ∷ codes "\" x=\"" ∷ decimal life.begin ∷ codes "\" y=\"" ∷ decimal life.row
+    ∷ codes "\" width=\"" ∷ decimal (life_end chart life.end - life.begin) ∷ codes "\" height=\"1\"><title>" ∷ start_of life.pages.first ∷ codes "-"
+    ∷ start_of life.pages.end ∷ codes " " ∷ rights_text life.prot ∷ span_text life.begin life.end ∷ codes "</title></rect>\n" ∷ [])
+
+unfoldable pub chart_text : Chart → List PageRange → Bool → List Stretch → List ℕ
+chart_text chart rows more lives = front_text 1360 (plot_height chart + 64) ++ Text.LIVES_STYLE.now ++ head_text chart more (length lives)
+    ++ ticks_text chart 9 ++ pages_text chart rows (count_of chart) ++ frame_text chart ++ flat_map (life_text chart) lives ++ codes "</svg>\n</svg>\n"
+
+abbrev pub drawn_of : ℕ → List PageRange → List Stretch → List ℕ
+drawn_of steps rows lives = chart_text (chart_of steps (shown lives)) rows (are_more lives) (shown lives)
+
+abbrev pub text_of : ℕ → List PageRange → List Recorded → List ℕ
+text_of steps rows all = drawn_of steps rows (lives_of all rows)
+
+-- the lives of what is mapped over so many steps
+abbrev pub lives_text : ℕ → List Recorded → List ℕ
+lives_text steps all = text_of steps (rows_of all (edges_of [] all)) all

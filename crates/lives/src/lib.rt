@@ -1,0 +1,4 @@
+//! The lives of mappings over a whole run, as one SVG text.
+#![tactic(auto)]
+
+pub mod drawing;
