@@ -1,7 +1,7 @@
 //! Tests of the parts of a machine and of its text, a module for each crate that is tested: `history`,
 //! `frames`, `refcache`, `backing`, `shootdown`, `mmu`, `tickets`, `seats`, `trace_io`
 //! (`io_tests`), `trace_text` (`text_tests`), `import_text`, `import_maps`
-//! (`maps_tests`), and `picture` with `lives` (`picture_tests`).
+//! (`maps_tests`), `import_lackey` (`lackey_tests`), and `picture` with `lives` (`picture_tests`).
 #![tactic(auto)]
 
 #[cfg(test)]
@@ -14,6 +14,8 @@ mod history_tests;
 mod import_tests;
 #[cfg(test)]
 mod io_tests;
+#[cfg(test)]
+mod lackey_tests;
 #[cfg(test)]
 mod maps_tests;
 #[cfg(test)]
