@@ -2,7 +2,7 @@
 use Rattle.std.specs.Prelude.{ℕ, List}
 use Rattle.radixvm.specs.declared.help.TheConstants as Text
 use Rattle.radixvm.specs.declared.help.Topic.{Topic}
-use Rattle.radixvm.specs.declared.help.Topic.TheVariants.{Overview, Trace, Outcomes, Log, Maps, Faults, Cores, Notes, Threads, Import}
+use Rattle.radixvm.specs.declared.help.Topic.TheVariants.{Overview, Trace, Outcomes, Log, Maps, Faults, Cores, Notes, Threads, Import, Audit}
 
 abbrev pub page_of : Topic → List ℕ
 page_of Overview = Text.OVERVIEW.now
@@ -15,3 +15,4 @@ page_of Cores = Text.CORES.now
 page_of Notes = Text.NOTES.now
 page_of Threads = Text.THREADS.now
 page_of Import = Text.IMPORT.now
+page_of Audit = Text.AUDIT.now

@@ -1,5 +1,9 @@
 -- The status that the program ends with.
 use Rattle.std.specs.Prelude.{ℕ, Bool, true, false, Result, Ok, Err}
+use Rattle.audit_text.specs.declared.input.AuditFault.{AuditFault}
+use Rattle.audit_text.specs.declared.input.AuditFault.TheVariants as For
+use Rattle.audit_text.specs.declared.judging.Verdict.{Verdict}
+use Rattle.audit_text.specs.declared.judging.Verdict.TheVariants.{Legal, Illegal}
 use Rattle.import_text.specs.declared.log.ImportFault.{ImportFault}
 use Rattle.live_script.specs.declared.texts.TextFault.{TextFault}
 use Rattle.live_script.specs.declared.texts.TextFault.TheVariants.{Text, Live}
@@ -40,3 +44,17 @@ words_status OutOf.NoMemory = 3
 abbrev pub import_status : {T : Type 0} → Result T ImportFault → ℕ
 import_status (Ok told) = 0
 import_status (Err f) = 3
+
+-- of replies that are judged: 0 where they are legal, 1 where one isn't
+abbrev pub audit_fault_status : AuditFault → ℕ
+audit_fault_status (For.BadLine number) = 2
+audit_fault_status (For.TooLong number) = 2
+audit_fault_status For.NoVmLine = 2
+audit_fault_status For.ReadFailed = 3
+audit_fault_status For.NoMemory = 3
+audit_fault_status For.WriteFailed = 3
+
+abbrev pub audit_status : Result Verdict AuditFault → ℕ
+audit_status (Ok (Legal calls passed)) = 0
+audit_status (Ok (Illegal line call due)) = 1
+audit_status (Err f) = audit_fault_status f

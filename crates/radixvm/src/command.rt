@@ -3,6 +3,9 @@ ghost use Rattle.std.specs.Prelude.{◌≡◌, ◌≤◌, ℕ, Bool, IfOk, Optio
 ghost use Rattle.std.specs.Io.KnownBytes.{Appends};
 ghost use Rattle.notes_text.specs.CertifyEnds.{Certifies};
 ghost use Rattle.core_steps.specs.declared.setup.CallLimit.{CallLimit};
+ghost use Rattle.audit_text.specs.Ends.{AuditEnds, TellsAudit};
+ghost use Rattle.audit_text.specs.declared.input.AuditFault.{AuditFault};
+ghost use Rattle.audit_text.specs.declared.judging.Verdict.{Verdict};
 ghost use Rattle.import_maps.specs.Mapped.{MapsEnds, TellsMaps};
 ghost use Rattle.import_maps.specs.declared.mapped.Told.{Told as ImportTold};
 ghost use Rattle.import_text.specs.declared.log.ImportFault.{ImportFault};
@@ -10,7 +13,7 @@ ghost use Rattle.live_script.specs.Texts.{EndsText, IsNotesText, IsVerdictText, 
 ghost use Rattle.live_script.specs.declared.texts.TextFault.{TextFault};
 ghost use Rattle.radixvm.specs.Echo.{EchoEnds};
 ghost use Rattle.radixvm.specs.Help.{page_of};
-ghost use Rattle.radixvm.specs.Status.{certified_live_status, certified_status, import_status, live_status, words_status};
+ghost use Rattle.radixvm.specs.Status.{audit_status, certified_live_status, certified_status, import_status, live_status, words_status};
 ghost use Rattle.radixvm.specs.declared.help.Topic.{Topic};
 ghost use Rattle.radixvm.specs.declared.job.Shows.{Shows};
 ghost use Rattle.trace.specs.Ends.{Ends, TellsFaults};
@@ -19,6 +22,7 @@ ghost use Rattle.trace.specs.Status.{status_of};
 ghost use Rattle.trace.specs.declared.fault.TraceFault.{TraceFault};
 ghost use Rattle.trace_io.specs.Source.{Reads};
 
+use crate::auditing::audit;
 use crate::certifying::certify;
 use crate::help;
 use crate::help::Topic;
@@ -58,6 +62,8 @@ enum Work {
     CertifyLive,
     // The trace of a log of strace, of the process of this thread or of the first line's.
     Import(Option<u64>),
+    // The judgement of replies, at any place or at the first ones.
+    Audit(bool),
 }
 
 // What is asked for.
@@ -132,6 +138,8 @@ fn grammar<'a>(alloc: Global) -> Result<Command<'a>, AllocError> {
         .value_parser(value_parser!(u64));
     let list = Arg::new(alloc, "maps").long("maps");
     let import = reading(alloc, "import", IMPORT_USAGE)?.arg(pid)?.arg(list)?;
+    let any_place = flag(alloc, "any-place");
+    let audit = reading(alloc, "audit", "radixvm audit [--any-place] [FILE]")?.arg(any_place)?;
     let topic = Arg::new(alloc, "TOPIC").value_parser(help::TOPICS);
     let help = Command::new(alloc, "help")
         .override_help(help::OVERVIEW)
@@ -148,6 +156,7 @@ fn grammar<'a>(alloc: Global) -> Result<Command<'a>, AllocError> {
         .subcommand(certify)?
         .subcommand(live)?
         .subcommand(import)?
+        .subcommand(audit)?
         .subcommand(help)?;
     Ok(program)
 }
@@ -164,6 +173,7 @@ fn topic_named(name: Option<&str>) -> Topic {
         Some("notes") => Topic::Notes,
         Some("threads") => Topic::Threads,
         Some("import") => Topic::Import,
+        Some("audit") => Topic::Audit,
         _ => Topic::Overview,
     }
 }
@@ -254,6 +264,7 @@ fn matched<'a, A: Allocator>(
         }
         Some(("live", live)) => Ok(Ok(working(Work::Live, live))),
         Some(("import", import)) => Ok(Ok(importing(import))),
+        Some(("audit", audit)) => Ok(Ok(working(Work::Audit(audit.get_flag("any-place")), audit))),
         Some((_, help)) => Ok(Err(topic_named(help.get_str("TOPIC")))),
         None => Ok(Err(Topic::Overview)),
     }
@@ -414,6 +425,12 @@ fn act<T: Threads + Wait + Sync, R: Runner<Global>, L: Source, S: Source, W: Sin
         (λ input unread. MapsEnds listed thread input (W.contents out.old) (W.contents out.new) r))
         × TellsMaps r (L.failed list.new) (L.reads list.new) (S.failed reader.new) (S.reads reader.new)
         (W.failed out.old) (W.failed out.new) (W.is_flushed out.new)) }
+    ensures audited { IfOk parsed.entry (λ task. (any : Bool) → task.work ≡ Work.Audit any
+        → (r : Result Verdict AuditFault) × (result ≡ audit_status r)
+        × Reads (S.stream reader.old) (S.stream reader.new)
+        (λ input unread. AuditEnds any input (W.contents out.old) (W.contents out.new) r)
+        × TellsAudit r (S.failed reader.new) (S.reads reader.new)
+        (W.failed out.old) (W.failed out.new) (W.is_flushed out.new)) }
     ensures within { result ≤ 3 }
 {
     match parsed {
@@ -426,6 +443,7 @@ fn act<T: Threads + Wait + Sync, R: Runner<Global>, L: Source, S: Source, W: Sin
             Work::Live => live(rt, runner, alloc, reader, out, errors),
             Work::CertifyLive => certify_live(rt, runner, alloc, reader, out, errors),
             Work::Import(thread) => import(alloc, list, reader, out, errors, thread),
+            Work::Audit(any_place) => audit(alloc, reader, out, errors, any_place),
         },
         Err(told) => tell(alloc, &told, out, errors),
     }

@@ -12,6 +12,7 @@ pub const USAGE: &str = "radixvm run [--log | [--echo | --summary] [--long]] [--
        radixvm certify [FILE]
        radixvm live [--certify] [FILE]
        radixvm import [--pid N] [--maps FILE] [FILE]
+       radixvm audit [--any-place] [FILE]
        radixvm help [TOPIC]";
 
 /// What the program is for, its words, and where to read on.
@@ -24,6 +25,7 @@ Usage: radixvm run [--log | [--echo | --summary] [--long]] [--explain] [FILE]
        radixvm certify [FILE]
        radixvm live [--certify] [FILE]
        radixvm import [--pid N] [--maps FILE] [FILE]
+       radixvm audit [--any-place] [FILE]
        radixvm help [TOPIC]
 
 Words:
@@ -40,6 +42,8 @@ Words:
   live           runs a script, each core on a thread, and writes their notes
   live --certify says in their place whether they are a run of the machine
   import         reads a log of strace, and writes a trace of what a program did
+  audit          reads calls with the replies that another address space gave,
+                 and says whether they are those of a plain page map
   FILE           the file that is read; without it, or for -, standard input
   --long         lets the trace ask for more calls, but not beside --log
   --explain      shows under a fault the line, the word, and what was expected
@@ -55,6 +59,7 @@ Words:
     notes        the lines that certify reads, and the line that it writes
     threads      scripts, and what live writes
     import       what becomes of the lines of a log of strace
+    audit        the lines that audit reads, and what it says of them
   -h, --help     writes this text
   -V, --version  writes the version
 
@@ -444,6 +449,45 @@ Status: 0; 2 for bad words; 3 where reading, writing or memory failed. The log,
 what is taken of it and the trace are held in memory.
 ";
 
+/// What `audit` reads and writes.
+pub const AUDIT: &str = "\
+audit reads calls with the replies that somebody's address space gave, a
+kernel's or a simulator's, in the order in which they happened, and says
+whether a plain page map gives them. It begins with a vm line and file lines,
+as a trace does (help trace). Then each line is
+
+  cC! REQ = REPLY      core C made this call, and had this reply
+  cC! REQ = wait ..    it didn't have it yet
+  cC finish = REPLY    core C's call that waited has it
+
+REQ is as in help trace, REPLY as in help outcomes. Lines of take, flush,
+review, walk, evict and fold, with = step or = idle behind them, and a finish
+that still waits, are passed over: just what run --echo writes. A line has at
+most 512 bytes. Calls take effect in the order of their replies: they may not
+have happened at the same time.
+
+It writes one of these, and behind the second the mappings around the request,
+as help maps says, at most four:
+
+  legal CALLS          so many calls, and each reply is the plain page map's
+  illegal N: replied REPLY, due REPLY
+                       line N's reply isn't, and what it would give; the lines
+                       before it are legal, and none behind it is read
+
+A mmap without f is due its hint, if its pages are free, or else the first room
+in the core's window. With --any-place it may have any place where all pages
+are valid and free, as POSIX leaves it to an implementation. CORES, FRAMES and
+CALLS of the vm line bound nothing but the cores' numbers, which are 0 to 63.
+
+Example:
+  printf '%s\\n' 'vm 1 4' 'c0! mmap 0x10000 4096 rw- pfa = 0x10000' \\
+    'c0! store 0x10004 41 = done' 'c0! load 0x10004 = 40' | radixvm audit
+writes illegal 4: replied 40, due 41, and 0x10000-0x11000 rw- anon.
+
+Status: 0 where all replies are legal, 1 where one isn't. A fault is told as
+help faults says, and then nothing is written. The text is held in memory.
+";
+
 /// What help may explain.
 #[derive(Clone, Copy, Debug, PartialEq, Eq)]
 pub enum Topic {
@@ -467,11 +511,13 @@ pub enum Topic {
     Threads,
     /// What `import` reads and writes.
     Import,
+    /// What `audit` reads and writes.
+    Audit,
 }
 
 /// The names of the topics, as the program's words have them.
 pub const TOPICS: &[&str] = &[
-    "trace", "outcomes", "log", "maps", "faults", "cores", "notes", "threads", "import",
+    "trace", "outcomes", "log", "maps", "faults", "cores", "notes", "threads", "import", "audit",
 ];
 
 /// The topic's text.
@@ -489,5 +535,6 @@ pub fn page(topic: Topic) -> &'static str
         Topic::Notes => NOTES,
         Topic::Threads => THREADS,
         Topic::Import => IMPORT,
+        Topic::Audit => AUDIT,
     }
 }

@@ -2,6 +2,9 @@
 #![tactic(auto)]
 
 #[cfg(test)]
+mod audit_tests;
+mod auditing;
+#[cfg(test)]
 mod certify_tests;
 mod certifying;
 mod command;

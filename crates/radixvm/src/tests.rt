@@ -451,6 +451,16 @@ const PAGES: &[(&str, &str, &[&str])] = &[
             "1048576 bytes",
         ],
     ),
+    (
+        "audit",
+        help::AUDIT,
+        &[
+            "cC finish = REPLY",
+            "--any-place",
+            "at\nmost 512 bytes",
+            "legal CALLS",
+        ],
+    ),
 ];
 
 fn has_all(page: &str, parts: &[&str]) -> bool {
@@ -493,6 +503,8 @@ fn help_fits_into_eighty_columns(rt: HostRuntime) {
         help::CORES,
         help::NOTES,
         help::THREADS,
+        help::IMPORT,
+        help::AUDIT,
     ] {
         assert!(rt; is_narrow(page));
     }
@@ -534,7 +546,7 @@ fn wrong_words_are_told_the_right_ones(rt: HostRuntime) {
         is_told(
             (rt.alloc(), &rt),
             &topic,
-            "trace, outcomes, log, maps, faults, cores, notes, threads, import"
+            "trace, outcomes, log, maps, faults, cores, notes, threads, import, audit"
         )
     );
 }
