@@ -1,1 +1,2 @@
 mod EchoLemmas
+mod PictureLemmas

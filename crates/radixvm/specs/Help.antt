@@ -2,7 +2,7 @@
 use Rattle.std.specs.Prelude.{ℕ, List}
 use Rattle.radixvm.specs.declared.help.TheConstants as Text
 use Rattle.radixvm.specs.declared.help.Topic.{Topic}
-use Rattle.radixvm.specs.declared.help.Topic.TheVariants.{Overview, Trace, Outcomes, Log, Maps, Faults, Cores, Notes, Threads, Import, Audit}
+use Rattle.radixvm.specs.declared.help.Topic.TheVariants.{Overview, Trace, Outcomes, Log, Maps, Faults, Cores, Notes, Threads, Import, Audit, Picture}
 
 abbrev pub page_of : Topic → List ℕ
 page_of Overview = Text.OVERVIEW.now
@@ -16,3 +16,4 @@ page_of Notes = Text.NOTES.now
 page_of Threads = Text.THREADS.now
 page_of Import = Text.IMPORT.now
 page_of Audit = Text.AUDIT.now
+page_of Picture = Text.PICTURE.now

@@ -1,4 +1,5 @@
 pub mod Echo
 pub mod Help
 pub mod Input
+pub mod Picture
 pub mod Status

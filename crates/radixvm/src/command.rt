@@ -13,9 +13,11 @@ ghost use Rattle.live_script.specs.Texts.{EndsText, IsNotesText, IsVerdictText, 
 ghost use Rattle.live_script.specs.declared.texts.TextFault.{TextFault};
 ghost use Rattle.radixvm.specs.Echo.{EchoEnds};
 ghost use Rattle.radixvm.specs.Help.{page_of};
+ghost use Rattle.radixvm.specs.Picture.{PictureEnds};
 ghost use Rattle.radixvm.specs.Status.{audit_status, certified_live_status, certified_status, import_status, live_status, words_status};
 ghost use Rattle.radixvm.specs.declared.help.Topic.{Topic};
 ghost use Rattle.radixvm.specs.declared.job.Shows.{Shows};
+ghost use Rattle.radixvm.specs.declared.picturing.Steps.{Steps};
 ghost use Rattle.trace.specs.Ends.{Ends, TellsFaults};
 ghost use Rattle.trace.specs.Shown.{limit_for};
 ghost use Rattle.trace.specs.Status.{status_of};
@@ -30,6 +32,7 @@ use crate::importing::import;
 use crate::input::{Files, input, list};
 use crate::job::{Shows, run, run_echoing};
 use crate::live::{certify_live, live};
+use crate::picturing::{Steps, picture};
 use clap::error::ErrorKind;
 use clap::{Arg, ArgAction, ArgMatches, Command, Error, value_parser};
 use core_steps::CallLimit;
@@ -64,6 +67,8 @@ enum Work {
     Import(Option<u64>),
     // The judgement of replies, at any place or at the first ones.
     Audit(bool),
+    // A picture of these steps of a trace.
+    Picture(Steps),
 }
 
 // What is asked for.
@@ -108,6 +113,8 @@ const MAPS_USAGE: &str = "radixvm maps [--long] [--explain] [FILE]";
 
 const IMPORT_USAGE: &str = "radixvm import [--pid N] [--maps FILE] [FILE]";
 
+const PICTURE_USAGE: &str = "radixvm picture [--from N] [--to N] [FILE]";
+
 // The word `run` with what may stand behind it.
 fn running<'a>(alloc: Global) -> Result<Command<'a>, AllocError> {
     let echo = flag(alloc, "echo").conflicts_with("log")?;
@@ -124,6 +131,21 @@ fn running<'a>(alloc: Global) -> Result<Command<'a>, AllocError> {
     Ok(command)
 }
 
+// A word behind which a number stands.
+fn number<'a>(alloc: Global, name: &'static str) -> Arg<'a> {
+    Arg::new(alloc, name)
+        .long(name)
+        .value_parser(value_parser!(u64))
+}
+
+// The word `picture` with what may stand behind it.
+fn picturing<'a>(alloc: Global) -> Result<Command<'a>, AllocError> {
+    let command = reading(alloc, "picture", PICTURE_USAGE)?
+        .arg(number(alloc, "from"))?
+        .arg(number(alloc, "to"))?;
+    Ok(command)
+}
+
 // The program's words.
 fn grammar<'a>(alloc: Global) -> Result<Command<'a>, AllocError> {
     let run = running(alloc)?;
@@ -133,13 +155,12 @@ fn grammar<'a>(alloc: Global) -> Result<Command<'a>, AllocError> {
     let certify = reading(alloc, "certify", "radixvm certify [FILE]")?;
     let certifies = flag(alloc, "certify");
     let live = reading(alloc, "live", "radixvm live [--certify] [FILE]")?.arg(certifies)?;
-    let pid = Arg::new(alloc, "pid")
-        .long("pid")
-        .value_parser(value_parser!(u64));
+    let pid = number(alloc, "pid");
     let list = Arg::new(alloc, "maps").long("maps");
     let import = reading(alloc, "import", IMPORT_USAGE)?.arg(pid)?.arg(list)?;
     let any_place = flag(alloc, "any-place");
     let audit = reading(alloc, "audit", "radixvm audit [--any-place] [FILE]")?.arg(any_place)?;
+    let picture = picturing(alloc)?;
     let topic = Arg::new(alloc, "TOPIC").value_parser(help::TOPICS);
     let help = Command::new(alloc, "help")
         .override_help(help::OVERVIEW)
@@ -157,6 +178,7 @@ fn grammar<'a>(alloc: Global) -> Result<Command<'a>, AllocError> {
         .subcommand(live)?
         .subcommand(import)?
         .subcommand(audit)?
+        .subcommand(picture)?
         .subcommand(help)?;
     Ok(program)
 }
@@ -174,6 +196,7 @@ fn topic_named(name: Option<&str>) -> Topic {
         Some("threads") => Topic::Threads,
         Some("import") => Topic::Import,
         Some("audit") => Topic::Audit,
+        Some("picture") => Topic::Picture,
         _ => Topic::Overview,
     }
 }
@@ -216,6 +239,14 @@ fn echoing<'a>(words: &ArgMatches<'a>) -> Task<'a>
         work: Work::Echo { limit, explains },
         file,
         maps: None,
+    }
+}
+
+// The steps that these words of the word `picture` ask for: from 1 on, and to the end, where none are named.
+fn steps_of<'a>(words: &ArgMatches<'a>) -> Steps {
+    Steps {
+        first: words.get_one("from").unwrap_or(1).max(1),
+        last: words.get_one("to").unwrap_or(u64::MAX),
     }
 }
 
@@ -265,6 +296,7 @@ fn matched<'a, A: Allocator>(
         Some(("live", live)) => Ok(Ok(working(Work::Live, live))),
         Some(("import", import)) => Ok(Ok(importing(import))),
         Some(("audit", audit)) => Ok(Ok(working(Work::Audit(audit.get_flag("any-place")), audit))),
+        Some(("picture", picture)) => Ok(Ok(working(Work::Picture(steps_of(picture)), picture))),
         Some((_, help)) => Ok(Err(topic_named(help.get_str("TOPIC")))),
         None => Ok(Err(Topic::Overview)),
     }
@@ -431,6 +463,12 @@ fn act<T: Threads + Wait + Sync, R: Runner<Global>, L: Source, S: Source, W: Sin
         (λ input unread. AuditEnds any input (W.contents out.old) (W.contents out.new) r)
         × TellsAudit r (S.failed reader.new) (S.reads reader.new)
         (W.failed out.old) (W.failed out.new) (W.is_flushed out.new)) }
+    ensures pictured { IfOk parsed.entry (λ task. (steps : Steps) → task.work ≡ Work.Picture steps
+        → (r : Result Unit TraceFault) × (result ≡ status_of r)
+        × Reads (S.stream reader.old) (S.stream reader.new)
+        (λ input unread. PictureEnds steps.first steps.last input unread (W.contents out.old) (W.contents out.new) r)
+        × TellsFaults r (S.failed reader.new) (S.reads reader.new)
+        (W.failed out.old) (W.failed out.new) (W.is_flushed out.new)) }
     ensures within { result ≤ 3 }
 {
     match parsed {
@@ -444,6 +482,7 @@ fn act<T: Threads + Wait + Sync, R: Runner<Global>, L: Source, S: Source, W: Sin
             Work::CertifyLive => certify_live(rt, runner, alloc, reader, out, errors),
             Work::Import(thread) => import(alloc, list, reader, out, errors, thread),
             Work::Audit(any_place) => audit(alloc, reader, out, errors, any_place),
+            Work::Picture(steps) => picture(alloc, reader, out, errors, steps),
         },
         Err(told) => tell(alloc, &told, out, errors),
     }

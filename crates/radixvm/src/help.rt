@@ -13,6 +13,7 @@ pub const USAGE: &str = "radixvm run [--log | [--echo | --summary] [--long]] [--
        radixvm live [--certify] [FILE]
        radixvm import [--pid N] [--maps FILE] [FILE]
        radixvm audit [--any-place] [FILE]
+       radixvm picture [--from N] [--to N] [FILE]
        radixvm help [TOPIC]";
 
 /// What the program is for, its words, and where to read on.
@@ -26,6 +27,7 @@ Usage: radixvm run [--log | [--echo | --summary] [--long]] [--explain] [FILE]
        radixvm live [--certify] [FILE]
        radixvm import [--pid N] [--maps FILE] [FILE]
        radixvm audit [--any-place] [FILE]
+       radixvm picture [--from N] [--to N] [FILE]
        radixvm help [TOPIC]
 
 Words:
@@ -44,6 +46,7 @@ Words:
   import         reads a log of strace, and writes a trace of what a program did
   audit          reads calls with the replies that another address space gave,
                  and says whether they are those of a plain page map
+  picture        reads a trace, and writes a picture of what happened, as SVG
   FILE           the file that is read; without it, or for -, standard input
   --long         lets the trace ask for more calls, but not beside --log
   --explain      shows under a fault the line, the word, and what was expected
@@ -60,6 +63,7 @@ Words:
     threads      scripts, and what live writes
     import       what becomes of the lines of a log of strace
     audit        the lines that audit reads, and what it says of them
+    picture      what a picture shows
   -h, --help     writes this text
   -V, --version  writes the version
 
@@ -488,6 +492,35 @@ Status: 0 where all replies are legal, 1 where one isn't. A fault is told as
 help faults says, and then nothing is written. The text is held in memory.
 ";
 
+/// What `picture` shows.
+pub const PICTURE: &str = "\
+picture reads a trace, and writes a picture of what happened as one SVG text:
+
+  radixvm picture TRACE > trace.svg
+
+Each step has a column; of a call that goes on by itself (cC! REQ) each of its
+steps has one. Each core has a lane. In it lie
+
+  bars     a call each, from its begin to its answer, with the reply. A call
+           that isn't answered goes on to the last column, and one that began
+           before the first column begins there
+  arrows   from a call that tells other cores to drop their translations to
+           each core's first take, and back from its second, which acknowledges
+  marks    takes, walks, evictions, flushes, reviews, a call that waits, and a
+           core that looked for a message and had none
+
+Below, each row is of pages that are mapped and unmapped together, coloured by
+what may be done with them, from the step in which the change is made. What was
+mapped before the first column isn't shown. Point at a bar, a mark or a stretch
+to read what it is.
+
+  --from N  the first step that is shown: 1 where it is left out
+  --to N    the last one. 2000 steps are shown at most, which is then said on
+            standard error
+
+Status: as for run. After a fault there is no picture.
+";
+
 /// What help may explain.
 #[derive(Clone, Copy, Debug, PartialEq, Eq)]
 pub enum Topic {
@@ -513,11 +546,14 @@ pub enum Topic {
     Import,
     /// What `audit` reads and writes.
     Audit,
+    /// What `picture` shows.
+    Picture,
 }
 
 /// The names of the topics, as the program's words have them.
 pub const TOPICS: &[&str] = &[
     "trace", "outcomes", "log", "maps", "faults", "cores", "notes", "threads", "import", "audit",
+    "picture",
 ];
 
 /// The topic's text.
@@ -536,5 +572,6 @@ pub fn page(topic: Topic) -> &'static str
         Topic::Threads => THREADS,
         Topic::Import => IMPORT,
         Topic::Audit => AUDIT,
+        Topic::Picture => PICTURE,
     }
 }

@@ -26,6 +26,9 @@ mod live_tests;
 #[cfg(test)]
 mod long_tests;
 #[cfg(test)]
+mod picture_tests;
+mod picturing;
+#[cfg(test)]
 mod summary_tests;
 mod summing;
 #[cfg(test)]

@@ -461,6 +461,7 @@ const PAGES: &[(&str, &str, &[&str])] = &[
             "legal CALLS",
         ],
     ),
+    ("picture", help::PICTURE, &["--from N", "2000 steps"]),
 ];
 
 fn has_all(page: &str, parts: &[&str]) -> bool {
@@ -546,7 +547,7 @@ fn wrong_words_are_told_the_right_ones(rt: HostRuntime) {
         is_told(
             (rt.alloc(), &rt),
             &topic,
-            "trace, outcomes, log, maps, faults, cores, notes, threads, import, audit"
+            "trace, outcomes, log, maps, faults, cores, notes, threads, import, audit, picture"
         )
     );
 }
