@@ -1,0 +1,110 @@
+#!/usr/bin/env python3
+"""Counts, out of the logs and lists in crates/import_trial/data, what an import makes of each of their lines, by regular expressions and sets of
+addresses, and prints it as that program does. It shares no code with it. Usage: bench/import_counts.py > crates/import_trial/stdout"""
+import collections
+import re
+
+DATA = "crates/import_trial/data/"
+MIB = 1 << 20
+
+
+def list_counts(lines, files):
+    counts = collections.Counter()
+    for line in lines:
+        start, end, rights, offset, name = re.match(r"(\w+)-(\w+) (\S+) (\w+) \S+ \d+ *(.*)$", line).groups()
+        start, end, offset = int(start, 16), int(end, 16), int(offset, 16)
+        if start < 4096 or end > 1 << 47:
+            counts["outside"] += 1
+        elif name in ("[vvar]", "[vvar_vclock]", "[vdso]"):
+            counts["kernel"] += 1
+        elif name.startswith("/") and not within(files, name, offset + end - start):
+            counts["changed"] += 1
+        else:
+            counts["kept"] += 1
+    return counts
+
+
+def within(files, name, reach):
+    """Whether a mapping of the file ends within its first MiB, and it is one of the first 16 of which one does."""
+    if reach > MIB or (name not in files and len(files) == 16):
+        return False
+    files.add(name)
+    return True
+
+
+def log_counts(lines, files):
+    counts = collections.Counter()
+    addresses = done = 0
+    process = lines[0].split()[0]
+    threads, waiting, heap = {process}, {}, None
+    for number, line in enumerate(lines):
+        thread, text = line.split(None, 1)
+        if thread not in threads:
+            counts["elsewhere"] += 1
+            continue
+        unfinished = text.endswith("<unfinished ...>")
+        if unfinished and not text.startswith("munmap"):
+            waiting[thread] = text[:-16]
+            counts["half"] += 1
+            continue
+        if unfinished:
+            # munmap acts here; how it ended stands in its thread's next line
+            later = next(l for l in lines[number + 1:] if l.split()[0] == thread)
+            text = text[:-16] + later.split("resumed>")[1]
+        elif text.startswith("<... munmap resumed>"):
+            counts["half"] += 1
+            continue
+        elif text.startswith("<..."):
+            text = waiting.pop(thread) + text.split("resumed>")[1]
+        call = re.match(r"\w*", text)[0]
+        gave = text.rsplit("= ", 1)[-1]
+        if call in ("clone", "clone3", "fork", "vfork"):
+            counts["other"] += 1
+            if "CLONE_THREAD" in text:
+                threads.add(gave.split()[0])
+        elif call not in ("mmap", "munmap", "mprotect", "brk", "mremap"):
+            counts["other"] += 1
+        elif gave.startswith("-1"):
+            counts["failed"] += 1
+        elif call == "mmap":
+            addresses += 1
+            path = re.search(r", \d+<(.*)>, (\w+)\)", text)
+            length = int(re.match(r"mmap\(\w+, (\d+)", text)[1])
+            kept = path is None or within(files, path[1], int(path[2], 0) + length)
+            counts["kept" if kept else "files"] += 1
+        elif call in ("munmap", "mprotect"):
+            done += 1
+            counts["kept"] += 1
+        elif call == "brk":
+            end = (int(gave, 0) + 4095) // 4096 * 4096
+            if heap is None or heap == end:
+                counts["still"] += 1
+            else:
+                counts["heap"] += 1
+                addresses, done = (addresses + 1, done) if end > heap else (addresses, done + 1)
+            heap = end
+        else:
+            start, old, new = (int(n, 0) for n in re.match(r"mremap\((\w+), (\w+), (\w+)", text).groups())
+            counts["moves"] += 1
+            if start != int(gave, 0):
+                addresses, done = addresses + 1, done + 1
+            elif new > old:
+                addresses += 1
+            else:
+                done += 1
+    return counts, addresses, done
+
+
+def main():
+    for name in ("heap", "ls", "python", "node", "gcc"):
+        files = set()
+        start = list_counts(open(DATA + name + ".maps").read().splitlines(), files)
+        counts, addresses, done = log_counts(open(DATA + name + ".log").read().splitlines(), files)
+        told = lambda counter, keys: ", ".join("%s %d" % (key, counter[key]) for key in keys.split())
+        print("%s maps: %s" % (name, told(start, "kept changed kernel outside unread")))
+        print("%s log: %s" % (name, told(counts, "kept heap moves files half failed elsewhere")))
+        print("%s log: %s" % (name, told(counts, "before unread still other")))
+        print("%s replies: addresses %d, done %d, refused 0" % (name, addresses + start["kept"] + start["changed"], done))
+
+
+main()
