@@ -1,2 +1,3 @@
+mod ActLemmas
 mod EchoLemmas
 mod PictureLemmas

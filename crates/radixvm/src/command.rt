@@ -146,40 +146,55 @@ fn picturing<'a>(alloc: Global) -> Result<Command<'a>, AllocError> {
     Ok(command)
 }
 
-// The program's words.
-fn grammar<'a>(alloc: Global) -> Result<Command<'a>, AllocError> {
-    let run = running(alloc)?;
+// The word `import` with what may stand behind it.
+fn import_word<'a>(alloc: Global) -> Result<Command<'a>, AllocError> {
+    let list = Arg::new(alloc, "maps").long("maps");
+    let command = reading(alloc, "import", IMPORT_USAGE)?
+        .arg(number(alloc, "pid"))?
+        .arg(list)?;
+    Ok(command)
+}
+
+// The word `help` with what may stand behind it.
+fn help_word<'a>(alloc: Global) -> Result<Command<'a>, AllocError> {
+    let topic = Arg::new(alloc, "TOPIC").value_parser(help::TOPICS);
+    let command = Command::new(alloc, "help")
+        .override_help(help::OVERVIEW)
+        .override_usage("radixvm help [TOPIC]")
+        .arg(topic)?;
+    Ok(command)
+}
+
+// The program with its words that make a machine.
+fn machine_words<'a>(alloc: Global) -> Result<Command<'a>, AllocError> {
     let maps = reading(alloc, "maps", MAPS_USAGE)?
         .arg(flag(alloc, "long"))?
         .arg(flag(alloc, "explain"))?;
     let certify = reading(alloc, "certify", "radixvm certify [FILE]")?;
     let certifies = flag(alloc, "certify");
     let live = reading(alloc, "live", "radixvm live [--certify] [FILE]")?.arg(certifies)?;
-    let pid = number(alloc, "pid");
-    let list = Arg::new(alloc, "maps").long("maps");
-    let import = reading(alloc, "import", IMPORT_USAGE)?.arg(pid)?.arg(list)?;
-    let any_place = flag(alloc, "any-place");
-    let audit = reading(alloc, "audit", "radixvm audit [--any-place] [FILE]")?.arg(any_place)?;
-    let picture = picturing(alloc)?;
-    let topic = Arg::new(alloc, "TOPIC").value_parser(help::TOPICS);
-    let help = Command::new(alloc, "help")
-        .override_help(help::OVERVIEW)
-        .override_usage("radixvm help [TOPIC]")
-        .arg(topic)?;
     let program = Command::new(alloc, "radixvm")
         .override_help(help::OVERVIEW)
         .override_usage(help::USAGE)
         .version(help::VERSION)
         .disable_help_subcommand(true)
         .subcommand_required(true)
-        .subcommand(run)?
+        .subcommand(running(alloc)?)?
         .subcommand(maps)?
         .subcommand(certify)?
-        .subcommand(live)?
-        .subcommand(import)?
+        .subcommand(live)?;
+    Ok(program)
+}
+
+// The program's words.
+fn grammar<'a>(alloc: Global) -> Result<Command<'a>, AllocError> {
+    let any_place = flag(alloc, "any-place");
+    let audit = reading(alloc, "audit", "radixvm audit [--any-place] [FILE]")?.arg(any_place)?;
+    let program = machine_words(alloc)?
+        .subcommand(import_word(alloc)?)?
         .subcommand(audit)?
-        .subcommand(picture)?
-        .subcommand(help)?;
+        .subcommand(picturing(alloc)?)?
+        .subcommand(help_word(alloc)?)?;
     Ok(program)
 }
 
