@@ -18,12 +18,10 @@ const TWICE: &[u8] =
 
 // Where the part stands in the text from a place on, if it does.
 fn place_of(text: &[u8], part: &str, from: usize) -> Option<usize> {
-    let mut at = from;
-    while at < text.len() {
+    for at in from..text.len() {
         if text[at..].starts_with(part.as_bytes()) {
             return Some(at);
         }
-        at += 1;
     }
     None
 }
@@ -31,12 +29,10 @@ fn place_of(text: &[u8], part: &str, from: usize) -> Option<usize> {
 // How often the part stands in the text.
 fn count(text: &[u8], part: &str) -> u64 {
     let mut count = 0u64;
-    let mut at = 0usize;
-    while at < text.len() {
+    for at in 0..text.len() {
         if text[at..].starts_with(part.as_bytes()) {
             count = count.saturating_add(1);
         }
-        at += 1;
     }
     count
 }
