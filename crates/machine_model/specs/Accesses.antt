@@ -33,6 +33,7 @@ use Rattle.machine_model.specs.Translating.{entry_of_page, with_table, with_hard
 
 -- ---- Try
 
+-- the bytes of all frames after the access: a store changes one
 abbrev pub bytes_after : Access → ℕ → ℕ → ℕ → (ℕ → Bytes) → ℕ → Bytes
 bytes_after Load frame i byte bytes = bytes
 bytes_after Store frame i byte bytes = put bytes frame (put (bytes frame) i byte)
@@ -57,6 +58,7 @@ abbrev pub after_translation : ℕ → Touch → Option ℕ → World → World
 after_translation c touch (Some f) w = after_access c touch f w
 after_translation c touch None w = to c (locking (To.Access touch)) w
 
+-- the core translates the page, and the access is served, or its page is to be locked
 abbrev pub after_try : ℕ → Touch → World → World
 after_try c touch w =
     after_translation c touch (frame_reached (translated_by w.hardware c touch))
@@ -70,6 +72,7 @@ lies_past_end file Anon = false
 lies_past_end file (Shared n k) = not (is_some (file_bytes (file n) k))
 lies_past_end file (Private n k) = not (is_some (file_bytes (file n) k))
 
+-- whether the page lies behind the end of its file
 abbrev pub is_past_end : (ℕ → Option File) → Option PageInfo → Bool
 is_past_end file None = false
 is_past_end file (Some info) = lies_past_end file info.meta.back
@@ -94,6 +97,7 @@ after_finding c touch (Copies f) w = to c (Want touch (Some f)) w
 after_finding c touch (Cached f) w = to c (Fill touch None) w
 after_finding c touch Wants w = to c (Want touch None) w
 
+-- the locked page is looked at: the access fails, its frame is to be installed, or to be found first
 abbrev pub after_settle : ℕ → Touch → World → World
 after_settle c touch w = after_finding c touch (found_at w touch) w
 
@@ -105,6 +109,7 @@ abbrev pub taken_for : Touch → Option ℕ → ℕ → Phase
 taken_for touch None f = Fill touch (Some f)
 taken_for touch (Some old) f = CopyPost touch f
 
+-- this free frame is taken for the page
 abbrev pub after_frame : ℕ → Touch → Option ℕ → ℕ → World → World
 after_frame c touch old f w =
     to c (taken_for touch old f)
@@ -118,6 +123,7 @@ pub record IsLeastFree (is_free : ℕ → Bool) (f : ℕ) : Type 0 where
 abbrev pub NoneFree : (ℕ → Bool) → Type 0
 NoneFree is_free = (f : ℕ) → is_free f ≡ false
 
+-- the least free frame is taken, or the reply says that there is none
 abbrev pub TakesFrame : World → ℕ → Touch → Option ℕ → Outcome → World → Type 0
 TakesFrame w c touch old o v =
     (NoneFree w.memory.is_free
@@ -132,6 +138,7 @@ TakesThisFrame w c _ f o v = Idles w o v
 
 -- ---- Install: the core is recorded on the page, and its tables get the page's entry
 
+-- the page's translation is in the core's tables, and the core is recorded on it
 abbrev pub after_install : ℕ → Touch → World → World
 after_install c touch w =
     let info = w.slots.info touch.page in

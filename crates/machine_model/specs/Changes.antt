@@ -45,6 +45,7 @@ after_plan c (Ok (PlanOf.Place place)) w = to c (placing place place.hint) w
 after_plan c (Ok (PlanOf.Change change)) w = to c (locking (To.Change change)) w
 after_plan c (Ok (PlanOf.Touch touch)) w = to c (Try touch) w
 
+-- the arguments are checked, and the call goes on as they say
 abbrev pub after_check : ℕ → Request → World → World
 after_check c request w = after_plan c (checked_by w.made c request) w
 
@@ -56,6 +57,7 @@ after_decision c change (Refuse e) w = after_reply c (Some (range_of change)) (R
 after_decision c change (Act range shoot) w = to c (Post change shoot) w
 after_decision c change Again w = w
 
+-- with its pages locked a change is decided
 abbrev pub DecidesNext : World → ℕ → Change → Outcome → World → Type 0
 DecidesNext w c change o v =
     (d : Decision) × Decides w.made.file w.slots (To.Change change) d

@@ -43,6 +43,7 @@ with_counts counts w = record w { memory = record w.memory { counts = counts } }
 abbrev pub with_free : ℕ → World → World
 with_free f w = record w { memory = record w.memory { is_free = put w.memory.is_free f true } }
 
+-- what a flush came to is the step's outcome
 abbrev pub ReportsFlush : World → Flush → Counts → Outcome → World → Type 0
 ReportsFlush w flush.Idle counts o v = Idles w o v
 ReportsFlush w report counts o v = Becomes (with_counts counts w) o v
@@ -53,6 +54,7 @@ FlushesOnce w c o v =
     (report : Flush) × ((counts : Counts) × Takes w.memory.counts (Flushing c report) counts
     × ReportsFlush w report counts o v)
 
+-- what a review came to is the step's outcome; an object that nothing counts is free again
 abbrev pub ReportsReview : World → Review → Counts → Outcome → World → Type 0
 ReportsReview w review.Idle counts o v = Idles w o v
 ReportsReview w (review.Freed f) counts o v = Becomes (with_free f (with_counts counts w)) o v

@@ -91,6 +91,7 @@ FillsBacked w c touch frame (Private n k) Store o v =
 FillsBacked w c touch frame (Private n k) _ o v =
     FillsFromFile w c touch frame (w.memory.cached n k) o v
 
+-- the page gets its frame as its backing asks
 abbrev pub FillsFrame : World → ℕ → Touch → Option ℕ → Outcome → World → Type 0
 FillsFrame w c touch frame o v =
     FillsBacked w c touch frame (back_of (w.slots.info touch.page)) touch.access o v
@@ -102,6 +103,7 @@ abbrev pub cores_of : Option PageInfo → ℕ
 cores_of None = 0
 cores_of (Some info) = info.cores
 
+-- the recorded cores are told to drop the page before its copy shows
 abbrev pub after_copy_post : ℕ → Touch → ℕ → World → World
 after_copy_post c touch f w =
     to c (CopyAcks touch f)

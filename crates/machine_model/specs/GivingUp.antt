@@ -27,6 +27,7 @@ GivesUpCopy w c phase o v =
     (AwaitsNobody w.hardware c × Becomes (after_give_up c phase w) o v)
     ⊎ (((set : ℕ) × Awaits w.hardware c set) × Idles w o v)
 
+-- a call that may be given up in this phase is; any other goes on
 abbrev pub GivesUp : World → ℕ → Phase → Outcome → World → Type 0
 GivesUp w c (CopyAcks touch frame) o v = GivesUpCopy w c (CopyAcks touch frame) o v
 GivesUp w c phase o v = cond (can_give_up phase) (Becomes (after_give_up c phase w) o v) (Idles w o v)

@@ -34,6 +34,7 @@ all_locked (To.Access touch) = Settle touch
 abbrev pub locked_to : Goal → ℕ → Phase
 locked_to goal b = if nat_le (goal_range goal).end b then all_locked goal else Lock goal b
 
+-- what locking the next slot came to: it was divided first, it is held now, or another core holds it
 abbrev pub LocksTo : World → ℕ → Goal → Slots → Got → Outcome → World → Type 0
 LocksTo w c goal t Split o v = Becomes (record w { slots = t }) o v
 LocksTo w c goal t (Locked b) o v = Becomes (to c (locked_to goal b) (record w { slots = t })) o v
@@ -52,6 +53,7 @@ LocksNext w c goal cursor o v =
 abbrev pub held_after : PageRange → ℕ → Option PageRange
 held_after held b = if b == held.end then None else Some (between b held.end)
 
+-- the next slot is unlocked; with the last one the reply is given
 abbrev pub UnlocksNext : World → ℕ → PageRange → Reply → Outcome → World → Type 0
 UnlocksNext w c held reply o v =
     (b : ℕ) × ((t : Slots) × Unlocks w.slots t c held.first held.end b

@@ -70,12 +70,14 @@ TakesWindow w c _ o v = Idles w o v
 
 -- ---- Find: all pages of the target are held
 
+-- the place is found, or the range is let go and another is looked for
 abbrev pub after_finding_place : ℕ → Place → Target → Decision → World → World
 after_finding_place c place target (Refuse e) w =
     after_reply c (Some (target_range place target)) (Refused e) w
 after_finding_place c place target (Act range shoot) w = to c (Cut place target range) w
 after_finding_place c place target Again w = to c (Back place target (target_range place target)) w
 
+-- a place for a mapping is looked for
 abbrev pub FindsNext : World → ℕ → Place → Target → Outcome → World → Type 0
 FindsNext w c place target o v =
     (d : Decision) × Decides w.made.file w.slots (To.Place place target) d
@@ -95,6 +97,7 @@ abbrev pub back_to : Place → Target → Option PageRange → Phase
 back_to place target None = elsewhere place target
 back_to place target (Some held) = Back place target held
 
+-- the next slot of a place that wasn't free is unlocked
 abbrev pub GoesBack : World → ℕ → Place → Target → PageRange → Outcome → World → Type 0
 GoesBack w c place target held o v =
     (b : ℕ) × ((t : Slots) × Unlocks w.slots t c held.first held.end b

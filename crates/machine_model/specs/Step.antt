@@ -48,6 +48,7 @@ Begins w c request _ o v = Idles w o v
 
 -- ---- Go: a step of the call of core c, which is in this phase
 
+-- a core's call makes its next step, by its phase
 abbrev pub Goes : World → ℕ → Phase → Outcome → World → Type 0
 Goes w c At.Free o v = Idles w o v
 Goes w c (At.Check request) o v = Becomes (after_check c request w) o v

@@ -65,6 +65,7 @@ abbrev pub entry_for : Prot → Option ℕ → Option Translation
 entry_for prot None = None
 entry_for prot (Some f) = Some (translation_of f prot)
 
+-- what the tables get for a mapped page, if it has a frame
 abbrev pub entry_of_page : (ℕ → ℕ → Option ℕ) → Option PageInfo → Option Translation
 entry_of_page cached None = None
 entry_of_page cached (Some info) = entry_for (prot_installed cached info) info.frame
@@ -110,6 +111,7 @@ can_walk h c p = not (is_some (tlb_at (h.tlb c) p)) && is_some (h.table c p)
 abbrev pub after_walk : Hardware → ℕ → ℕ → Hardware
 after_walk h c p = with_tlb h c (tlb_walked (tlb_at (h.tlb c) p) (h.table c p) p (h.tlb c))
 
+-- the core's TLB gets the translation that its tables have, or the core is idle
 abbrev pub Walks : World → ℕ → ℕ → Outcome → World → Type 0
 Walks w c p o v =
     cond (can_walk w.hardware c p) (Becomes (with_hardware (after_walk w.hardware c p) w) o v)
@@ -118,6 +120,7 @@ Walks w c p o v =
 abbrev pub after_eviction : Hardware → ℕ → ℕ → Hardware
 after_eviction h c p = with_tlb h c (tlb_without (is_at p) (h.tlb c))
 
+-- the core's TLB drops the page, or the core is idle
 abbrev pub Evicts : World → ℕ → ℕ → Outcome → World → Type 0
 Evicts w c p o v =
     cond (is_some (tlb_at (w.hardware.tlb c) p))

@@ -42,6 +42,7 @@ pub record Calls : Type 0 where
   pub log : List Entry
   pub events : ℕ
 
+-- all that the machine is made of
 pub record World : Type 0 where
   pub made : Made
   pub slots : Slots

@@ -10,6 +10,7 @@ pub record Epoch : Type 0 where
   pub number : ℕ
   pub flushed : ℕ
 
+-- each core has a mark
 abbrev pub AllMarked : ℕ → (ℕ → Bool) → Type 0
 AllMarked n marks = (d : ℕ) → d < n → marks d ≡ true
 

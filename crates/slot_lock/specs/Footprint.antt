@@ -42,6 +42,7 @@ second_has (Some r) p = has r p
 abbrev pub covers : Footprint → ℕ → Bool
 covers fp p = has fp.first p || second_has fp.second p
 
+-- of the second range, or this where there is none
 abbrev pub second_or : Option PageRange → ℕ → (PageRange → ℕ) → ℕ
 second_or None n f = n
 second_or (Some r) n f = f r
@@ -76,6 +77,7 @@ cursor_after fp cursor (Held by) = cursor
 
 -- ---- what is held of a footprint
 
+-- what of the second range lies below the cursor
 abbrev pub second_below : Option PageRange → ℕ → Option PageRange
 second_below None cursor = None
 second_below (Some r) cursor = if nat_le cursor r.first then None else Some (between r.first cursor)

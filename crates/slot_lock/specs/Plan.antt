@@ -45,25 +45,30 @@ FitsFile meta count = file_page meta.back + count ≤ 2 ^ 35
 
 -- ---- what the tests of a request's arguments leave: ranges of valid pages, with some page
 
+-- what is put there is so long as its range
 pub record IsSoundPut (range : PageRange) (meta : Meta) : Type 0 where
   pub pages : IsPageRange range
   pub fits : FitsFile meta (range.end - range.first)
 
+-- its pages can be mapped
 abbrev pub IsSoundChange : Change → Type 0
 IsSoundChange (Put range meta) = IsSoundPut range meta
 IsSoundChange (Clear range) = IsPageRange range
 IsSoundChange (Protect range prot) = IsPageRange range
 
+-- a hint is as long as the mapping
 abbrev pub IsSoundHint : Option PageRange → ℕ → Type 0
 IsSoundHint None count = Unit {0}
 IsSoundHint (Some hint) count = IsPageRange hint × (hint.end ≡ hint.first + count)
 
+-- some pages are to be placed in a window, and the backing has as many
 pub record IsSoundPlace (place : Place) : Type 0 where
   pub some : 1 ≤ place.count
   pub hint : IsSoundHint place.hint place.count
   pub window : IsPageRange place.window
   pub fits : FitsFile place.meta place.count
 
+-- the address is one that can be mapped
 pub record IsSoundTouch (touch : Touch) : Type 0 where
   pub page : IsPage touch.page
   pub offset : touch.offset < 4096
@@ -86,6 +91,7 @@ IsTarget place (Hint range) = place.hint ≡ Some range
 IsTarget place (Run range) = IsRunOf place.window place.count range
 IsTarget place Window = Unit {0}
 
+-- a place is looked for where its target says
 abbrev pub HasTarget : Goal → Type 0
 HasTarget (To.Place place target) = IsTarget place target
 HasTarget (To.Change change) = Unit {0}

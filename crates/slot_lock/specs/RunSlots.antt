@@ -6,6 +6,7 @@ use Rattle.slot_lock.specs.declared.run.Run.{Run}
 use Rattle.slot_lock.specs.Runs.{run_at}
 use Rattle.slot_lock.specs.Slots.{Slots}
 
+-- the slots that a list of runs stands for
 abbrev pub slots_of : List Run → Slots
 slots_of rs = record {
   info = λ p. info_from (run_at rs p).info (p - (run_at rs p).start);

@@ -32,6 +32,7 @@ pub record IsAt (rs : List Run) (p i : ℕ) : Type 0 where
   pub from : (get_run rs i).start ≤ p
   pub until : i + 1 < length rs → p < (get_run rs (i + 1)).start
 
+-- the list begins with pages 0 and 1, rises, and covers all pages
 pub record IsRuns (rs : List Run) : Type 0 where
   pub some : 2 < length rs
   pub rising : (k : ℕ) → k + 1 < length rs → (get_run rs k).start < (get_run rs (k + 1)).start

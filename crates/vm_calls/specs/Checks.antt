@@ -34,6 +34,7 @@ placed_count len = min (page_count len) (2 ^ 35)
 abbrev pub hint_at : ℕ → ℕ → Option PageRange
 hint_at h n = if are_pages (pages_from h n) then Some (pages_from h n) else None
 
+-- where a mapping without a fixed address is looked for: by its hint, then in its core's window
 abbrev pub place_of : ℕ → ℕ → ℕ → Meta → Place
 place_of core addr len meta = record {
   hint = hint_at (page_of addr) (placed_count len);
@@ -67,6 +68,7 @@ plan_of core (LoadOf addr) = touched addr Load 0
 plan_of core (StoreOf addr byte) = touched addr Store byte
 plan_of core (FetchOf addr) = touched addr Fetch 0
 
+-- the plan, but for a reason to refuse it
 abbrev pub unless_refused : Option Reply → Result Plan Reply → Result Plan Reply
 unless_refused (Some reply) plan = Err reply
 unless_refused None plan = plan

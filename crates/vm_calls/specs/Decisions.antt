@@ -90,6 +90,7 @@ DecidesWindow s place d =
     (found : Option ℕ) × IsLeastRoom (is_mapped (entries s)) place.window place.count found
     × (d ≡ act_at found place.count)
 
+-- the hinted or guessed run if it is free, else the first in the window
 abbrev pub DecidesPlace : Slots → Place → Target → Decision → Type 0
 DecidesPlace s place (Hint range) d = DecidesRun s range d
 DecidesPlace s place (Run range) d = DecidesRun s range d
@@ -107,6 +108,7 @@ pub data DecidesProtect (files : ℕ → Option File) (s : Slots) (range : PageR
       → (prot.write ≡ true → ¬ HasPage (is_read_only files) (entries s) range) → ActsOn s range d
       → DecidesProtect files s range prot d
 
+-- mmap and munmap change their pages; mprotect first looks whether it may
 abbrev pub DecidesChange : (ℕ → Option File) → Slots → Change → Decision → Type 0
 DecidesChange files s (Put range meta) d = ActsOn s range d
 DecidesChange files s (Clear range) d = ActsOn s range d

@@ -38,6 +38,7 @@ source back None access (Some g) =
     if is_private_store back access || is_anonymous back then Wants else Cached g
 source back None access None = Wants
 
+-- what an access of a locked page comes to: why it fails, or where its frame is from
 abbrev pub settled : Option PageInfo → Access → Bool → Option ℕ → Settled
 settled None access past_end cached = MapErr
 settled (Some info) access past_end cached =
@@ -80,6 +81,7 @@ abbrev pub IsWanted : Bool → Access → Option Reply → Type 0
 IsWanted true a y = IsDue y
 IsWanted false a y = Reaches a y
 
+-- whether this stores to a private page
 abbrev pub stores_privately : Option PageInfo → Access → Bool
 stores_privately None a = false
 stores_privately (Some info) a = is_private_store info.meta.back a
