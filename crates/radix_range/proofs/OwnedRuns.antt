@@ -3,8 +3,9 @@ use Rattle.std.proofs.Common.{◌≡◌, ℕ, zero, suc, ◌+◌, ◌-◌, ◌*�
 use Rattle.std.proofs.lemmas.Bool.{cases_lt}
 use Rattle.vm_base.specs.Pages.{IsPage}
 use Rattle.vm_base.specs.Info.{info_from}
-use Rattle.slot_lock.specs.Slots.{Slots, IsSlot, Locks, Unlocks, with_owner}
-use Rattle.slot_lock.specs.SlotRuns.{OneByOne}
+use Rattle.slot_lock.specs.declared.slot_map.SlotRun.{SlotRun}
+use Rattle.slot_lock.specs.Slots.{Slots, IsSlot, with_owner}
+use Rattle.slot_lock.specs.SlotRuns.{OneByOne, LocksRun, UnlocksRun}
 use Rattle.radix_node.specs.declared.own_run.Handover.{Handover}
 use Rattle.radix_node.specs.OwnedRuns.{GetsOwner, GetOwner}
 use Rattle.radix_node.specs.State.{State}
@@ -13,15 +14,14 @@ use Rattle.radix_node.specs.Node.{Parts, runs}
 use Rattle.radix_node.proofs.OwnedRuns.{wide_cell, get-total}
 use Rattle.radix_range.specs.Tree.{slots_of, tree_slots, IsRadix}
 use Rattle.radix_range.specs.Cells.{start_of}
+use Rattle.radix_range.specs.Locking.{HandsSlot, HandsRun}
 use Rattle.radix_range.specs.TreeLaws.{is_slot, cell_of, pages_are}
 use Rattle.radix_range.proofs.Sets.{IsSet, is_set, set_slots}
 use Rattle.radix_range.proofs.Changes.{restated_owner}
 
 -- the slot of these pages had one owner and has another
 pub record Hands (rs ts : List Run) (page end : ℕ) (owners : Handover) : Type 0 where
-  pub slot : IsSlot (slots_of rs) page end
-  pub had : (p : ℕ) → page ≤ p → p < end → (slots_of rs).owner p ≡ owners.from
-  pub now : slots_of ts ≡ with_owner (slots_of rs) page end owners.to
+  pub slot : (last : ℕ) → end ≤ last → HandsSlot (slots_of rs) (slots_of ts) owners page last end
   pub outside : (p : ℕ) → (p < page) ⊎ (end ≤ p) → cell_at ts p ≡ cell_at rs p
 
 pub hands : (rs ts : List Run) (page w : ℕ) (owners : Handover) → page < total rs → GetsOwner rs ts page w owners
@@ -36,12 +36,15 @@ hands rs ts page w owners l h =
     subst (λ qs. IsSet rs qs page (page + w) new) (sym (h.set ∙ ap (λ s. with_run (in_state s) rs page) h.change.now))
     (is_set rs page (page + w) new l slot) in
     record {
-      slot = slot;
-      had = λ p a b. ap (λ (c : Cell). c.state.owner) (cell_of rs page p (omega (arith, a)) (omega (arith, b, last))) ∙ h.change.owner;
-      now = set_slots rs ts page (page + w) new set
-          ∙ restated_owner (slots_of rs) page (page + w) (cell_at rs page).state owners.to
-          (λ p a b. ap (λ (c : Cell). info_from c.state.info c.offset) (cell_of rs page p (omega (arith, a)) (omega (arith, b, last)))
-          ∙ ap (λ n. info_from (cell_at rs page).state.info (p - n)) start);
+      slot = λ end le. record {
+        slot = slot;
+        by_end = le;
+        had = λ p a b. ap (λ (c : Cell). c.state.owner) (cell_of rs page p (omega (arith, a)) (omega (arith, b, last))) ∙ h.change.owner;
+        now = set_slots rs ts page (page + w) new set
+            ∙ restated_owner (slots_of rs) page (page + w) (cell_at rs page).state owners.to
+            (λ p a b. ap (λ (c : Cell). info_from c.state.info c.offset) (cell_of rs page p (omega (arith, a)) (omega (arith, b, last)))
+            ∙ ap (λ n. info_from (cell_at rs page).state.info (p - n)) start);
+      };
       outside = set.outside;
     }
 
@@ -59,19 +62,17 @@ last_hands rs ms ts page w owners n l before last =
 fewer : (page w n : ℕ) → page + n * w ≤ page + suc n * w
 fewer page w n = omega arith
 
-pub one_by_one : (changes : Slots → Slots → ℕ → ℕ → Type 0) (rs ts : List Run) (page w end : ℕ) (owners : Handover)
-    → ((s t : List Run) (a b : ℕ) → Hands s t a b owners → b ≤ end → changes (slots_of s) (slots_of t) a b)
-    → (n : ℕ) → page + n * w ≤ end → end ≤ total rs → GetOwner rs ts page w owners n
-    → OneByOne changes (slots_of rs) (slots_of ts) page n (page + n * w)
-one_by_one changes rs ts page w end owners step zero l most h = (ap slots_of h, omega arith)
-one_by_one changes rs ts page w end owners step (suc n) l most (ms, before, last) =
+one_by_one : (rs ts : List Run) (page w end : ℕ) (owners : Handover) (n : ℕ) → page + n * w ≤ end → end ≤ total rs
+    → GetOwner rs ts page w owners n
+    → HandsRun (slots_of rs) (slots_of ts) owners page end (record { slots = n; upto = page + n * w })
+one_by_one rs ts page w end owners zero l most h = (ap slots_of h, omega arith)
+one_by_one rs ts page w end owners (suc n) l most (ms, before, last) =
     let less = fewer page w n in (
       slots_of ms,
       (
         page + n * w,
-        one_by_one changes rs ms page w end owners step n (omega (arith, l, less)) most before,
-        step ms ts (page + n * w) (page + suc n * w)
-            (last_hands rs ms ts page w owners n (omega (arith, l, most)) before last) l,
+        one_by_one rs ms page w end owners n (omega (arith, l, less)) most before,
+        (last_hands rs ms ts page w owners n (omega (arith, l, most)) before last).slot end l,
       ),
     )
 
@@ -90,7 +91,7 @@ pub run_info : (rs ts : List Run) (page w : ℕ) (owners : Handover) (n : ℕ) �
 run_info rs ts page w owners zero l h = ap (λ qs. (slots_of qs).info) h
 run_info rs ts page w owners (suc n) l (ms, before, last) =
     let less = fewer page w n in
-    ap (λ (s : Slots). s.info) (last_hands rs ms ts page w owners n l before last).now
+    ap (λ (s : Slots). s.info) ((last_hands rs ms ts page w owners n l before last).slot (page + suc n * w) (omega arith)).now
     ∙ run_info rs ms page w owners n (omega (arith, l, less)) before
 
 -- ---- slots of a tree
@@ -133,18 +134,26 @@ owned_info v u page w end owners n h =
     let e = by_end v end h.radix h.high in
     run_info (runs v) (runs u) page w owners n (omega (arith, h.ends, e)) h.owned
 
--- the core locks these slots
-pub locked_run : (v u : Parts) (core page w end n : ℕ) → IsOwnedRun v u page w end (record { from = None; to = Some core }) n
-    → OneByOne (λ x y a b. Locks x y core a end b) (tree_slots v) (tree_slots u) page n (page + n * w)
-locked_run v u core page w end n h =
-    one_by_one (λ x y a b. Locks x y core a end b) (runs v) (runs u) page w end _
-    (λ s t a b one l. record { slot = one.slot; by_end = l; was_free = one.had; now = one.now })
-    n h.ends (by_end v end h.radix h.high) h.owned
+pub handed_slots : (v u : Parts) (page w end : ℕ) (owners : Handover) (n : ℕ) → IsOwnedRun v u page w end owners n
+    → HandsRun (tree_slots v) (tree_slots u) owners page end (record { slots = n; upto = page + n * w })
+handed_slots v u page w end owners n h =
+    one_by_one (runs v) (runs u) page w end owners n h.ends (by_end v end h.radix h.high) h.owned
 
--- the core unlocks them
-pub unlocked_run : (v u : Parts) (core page w end n : ℕ) → IsOwnedRun v u page w end (record { from = Some core; to = None }) n
-    → OneByOne (λ x y a b. Unlocks x y core a end b) (tree_slots v) (tree_slots u) page n (page + n * w)
-unlocked_run v u core page w end n h =
-    one_by_one (λ x y a b. Unlocks x y core a end b) (runs v) (runs u) page w end _
-    (λ s t a b one l. record { slot = one.slot; by_end = l; was_held = one.had; now = one.now })
-    n h.ends (by_end v end h.radix h.high) h.owned
+-- ---- what that is to a core
+
+each_so : (a b : Slots → Slots → ℕ → ℕ → Type 0) → ((s t : Slots) (first end : ℕ) → a s t first end → b s t first end)
+    → (s t : Slots) (first n upto : ℕ) → OneByOne a s t first n upto → OneByOne b s t first n upto
+each_so a b so s t first zero upto h = h
+each_so a b so s t first (suc n) upto (m, (end, before, last)) = (m, (end, each_so a b so s m first n end before, so m t end upto last))
+
+-- it locks free slots
+pub locks : (s t : Slots) (core cursor end : ℕ) (run : SlotRun)
+    → HandsRun s t (record { from = None; to = Some core }) cursor end run → LocksRun s t core cursor end run
+locks s t core cursor end run = each_so _ _ (λ x y a b h. record { slot = h.slot; by_end = h.by_end; was_free = h.had; now = h.now })
+    s t cursor run.slots run.upto
+
+-- it unlocks its own
+pub unlocks : (s t : Slots) (core cursor end : ℕ) (run : SlotRun)
+    → HandsRun s t (record { from = Some core; to = None }) cursor end run → UnlocksRun s t core cursor end run
+unlocks s t core cursor end run = each_so _ _ (λ x y a b h. record { slot = h.slot; by_end = h.by_end; was_held = h.had; now = h.now })
+    s t cursor run.slots run.upto

@@ -6,13 +6,12 @@ ghost use Rattle.vm_base.specs.Info.{info_without_frame};
 ghost use Rattle.slot_lock.specs.Plan.{IsSoundChange, range_of};
 ghost use Rattle.slot_lock.specs.Slots.{Divides, DividesAs, HasMeta, IsCut, IsSlot, Joins, Slots};
 ghost use Rattle.slot_lock.specs.Slots.{between, with_owner, with_info};
-ghost use Rattle.slot_lock.specs.SlotRuns.{LocksRun, UnlocksRun};
 ghost use Rattle.slot_lock.specs.Changes.{changed};
 ghost use Rattle.radix_node.specs.Edit.{CanEdit};
 ghost use Rattle.radix_range.specs.Tree.{IsRadix, tree_slots};
 ghost use Rattle.radix_range.specs.Folds.{CanFold, FoldsNode};
 ghost use Rattle.radix_range.specs.Found.{in_512, edited_to};
-ghost use Rattle.radix_range.specs.Locking.{Tries};
+ghost use Rattle.radix_range.specs.Locking.{Tries, HandsRun};
 
 use radix_node::place::slot_pages;
 use radix_node::{Edit, Handover, Lock, Node};
@@ -47,56 +46,25 @@ pub fn lock<A: Allocator>(root: &mut Node<A>, core: CoreId, cursor: u64, end: u6
     root.lock_at(cursor, end - cursor, core)
 }
 
-/// Locks free slots for the core, in one walk: neighbours of one node, from the one that begins at
-/// the cursor on. They end by `end`, and are at most `most`.
-pub fn lock_run<A: Allocator>(
+/// Gives slots another owner, in one walk: neighbours of one node, from the one that begins at the
+/// cursor on, as long as their owner is the one given. They end by `end`, and are at most `most`.
+#[inline(always)]
+pub fn own_run<A: Allocator>(
     root: &mut Node<A>,
-    core: CoreId,
     cursor: u64,
     end: u64,
     most: u64,
+    owners: &Handover,
 ) -> SlotRun
     requires tree { IsRadix root.old }
     requires ordered { cursor < end }
     requires valid { (1 ≤ cursor) × (end ≤ 2 ^ 35) }
     ensures tree { IsRadix root.new }
     ensures few { result.slots ≤ most }
-    ensures locks { LocksRun (tree_slots root.old) (tree_slots root.new) core cursor end result }
+    ensures owners { HandsRun (tree_slots root.old) (tree_slots root.new) owners.now cursor end result }
     ensures info { (tree_slots root.new).info ≡ (tree_slots root.old).info }
 {
-    let owners = Handover {
-        from: None,
-        to: Some(core),
-    };
-    let run = root.own_run(cursor, end - cursor, most, &owners);
-    SlotRun {
-        slots: run.slots,
-        upto: cursor + run.slots * run.width,
-    }
-}
-
-/// Unlocks slots of the core, in one walk: neighbours of one node, from the one that begins at the
-/// cursor on. They end by `end`, and are at most `most`.
-pub fn unlock_run<A: Allocator>(
-    root: &mut Node<A>,
-    core: CoreId,
-    cursor: u64,
-    end: u64,
-    most: u64,
-) -> SlotRun
-    requires tree { IsRadix root.old }
-    requires ordered { cursor < end }
-    requires valid { (1 ≤ cursor) × (end ≤ 2 ^ 35) }
-    ensures tree { IsRadix root.new }
-    ensures few { result.slots ≤ most }
-    ensures unlocks { UnlocksRun (tree_slots root.old) (tree_slots root.new) core cursor end result }
-    ensures info { (tree_slots root.new).info ≡ (tree_slots root.old).info }
-{
-    let owners = Handover {
-        from: Some(core),
-        to: None,
-    };
-    let run = root.own_run(cursor, end - cursor, most, &owners);
+    let run = root.own_run(cursor, end - cursor, most, owners);
     SlotRun {
         slots: run.slots,
         upto: cursor + run.slots * run.width,

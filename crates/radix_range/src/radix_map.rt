@@ -6,7 +6,7 @@ ghost use Rattle.radix_range.specs.Tree.{IsRadix, tree_slots};
 
 use crate::slot::slot_at;
 use crate::{change, full, walk};
-use radix_node::{Lock, Node};
+use radix_node::{Handover, Lock, Node};
 use slot_lock::{Change, Fit, FramedPages, FreePage, Got, SlotMap, SlotRead, SlotRun};
 use std::alloc::Allocator;
 use vm_base::info::info_from;
@@ -141,11 +141,19 @@ impl<A: Allocator + Clone> SlotMap for RadixMap<A> {
     }
 
     fn lock_run(&mut self, core: CoreId, cursor: u64, end: u64, most: u64) -> SlotRun {
-        change::lock_run(&mut self.root, core, cursor, end, most)
+        let owners = Handover {
+            from: None,
+            to: Some(core),
+        };
+        change::own_run(&mut self.root, cursor, end, most, &owners)
     }
 
     fn unlock_run(&mut self, core: CoreId, cursor: u64, end: u64, most: u64) -> SlotRun {
-        change::unlock_run(&mut self.root, core, cursor, end, most)
+        let owners = Handover {
+            from: Some(core),
+            to: None,
+        };
+        change::own_run(&mut self.root, cursor, end, most, &owners)
     }
 
     fn set_range(&mut self, core: CoreId, range: PageRange, meta: Meta) {
@@ -174,6 +182,7 @@ impl<A: Allocator + Clone> SlotMap for RadixMap<A> {
         walk::list_frames(&self.root, from, end, list)
     }
 
+    #[inline(always)]
     fn change_free(&mut self, change: Change) {
         change::change_one(&mut self.root, change);
         self.full = full::with_change(self.full, change);
