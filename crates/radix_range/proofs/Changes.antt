@@ -24,7 +24,7 @@ use Rattle.radix_node.specs.State.{State}
 use Rattle.radix_node.specs.Run.{IsSound}
 use Rattle.radix_node.specs.Node.{Parts}
 use Rattle.radix_range.specs.Tree.{tree_slots, IsRadix}
-use Rattle.radix_range.specs.Found.{IsFound, restated}
+use Rattle.radix_range.specs.Found.{IsSlotOf, restated}
 use Rattle.radix_range.specs.TreeLaws.{tree-is_slot_map}
 
 two : (b : Bool) → b ≡ false → b ≡ true → ⊥
@@ -32,7 +32,7 @@ two b e f = cc
 
 -- ---- the slot that begins at a page
 
-pub first_is : (s : Slots) (page first end : ℕ) (state : State) → IsFound s page first end state → s.edge page ≡ true → first ≡ page
+pub first_is : (s : Slots) (page first end : ℕ) (state : State) → IsSlotOf s page first end state → s.edge page ≡ true → first ≡ page
 first_is s page first end state f edge = ⊎_elim
     (λ (l : first < page). absurd (two _ (f.slot.inside page l f.high) edge))
     (λ (l : page ≤ first). let low = f.low in omega arith)
@@ -45,7 +45,7 @@ pub record Here (s : Slots) (page end : ℕ) (state : State) : Type 0 where
   pub owner : (p : ℕ) → page ≤ p → p < end → s.owner p ≡ state.owner
   pub sound : IsSound (end - page) state
 
-pub here : (s : Slots) (page first end : ℕ) (state : State) → IsFound s page first end state → s.edge page ≡ true → Here s page end state
+pub here : (s : Slots) (page first end : ℕ) (state : State) → IsSlotOf s page first end state → s.edge page ≡ true → Here s page end state
 here s page first end state f edge =
     let e = first_is s page first end state f edge in
     record {

@@ -22,7 +22,7 @@ use Rattle.radix_node.specs.Edit.{CanEdit, edited_info, edited_cell}
 use Rattle.radix_node.specs.Run.{Run, Cell, cell_at, width_of, IsWhole}
 use Rattle.radix_node.specs.Node.{Parts, runs}
 use Rattle.radix_node.proofs.Runs.{moved}
-use Rattle.radix_range.specs.Tree.{slots_of, tree_slots, IsRadix}
+use Rattle.radix_range.specs.Tree.{run_slots, tree_slots, IsRadix}
 use Rattle.radix_range.specs.TreeLaws.{tree-is_slot_map, cell_ok}
 use Rattle.radix_range.specs.Found.{edited_to}
 use Rattle.radix_range.specs.Cells.{cell_earlier}
@@ -59,9 +59,9 @@ edited_from (Protect prot) n offset o l = prot_from prot o offset
 edited_from DropFrame n offset o l = frame_from o offset
 
 pub edited_slots : (rs qs : List Run) (range : PageRange) (edit : Edit) → IsEdited rs qs range edit → (cell_at rs range.first).offset ≡ 0
-    → slots_of qs ≡ edited_to (slots_of rs) range edit
+    → run_slots qs ≡ edited_to (run_slots rs) range edit
 edited_slots rs qs range edit h begins = same_slots _ _
-    (λ p. by_test (λ x. (slots_of qs).info p ≡ x) (has range p) _ _
+    (λ p. by_test (λ x. (run_slots qs).info p ≡ x) (has range p) _ _
     (λ e. let b = has_in range p e in
     ap (λ (c : Cell). info_from c.state.info c.offset) (h.inside p b.0 b.1)
     ∙ edited_from edit (p - range.first) (cell_at rs p).offset (cell_at rs p).state.info (starts_in rs range.first p begins b.0))

@@ -21,9 +21,9 @@ use Rattle.radix_node.proofs.Flat.{place_index, width-below, width_pos}
 use Rattle.radix_node.proofs.Joined.{cell_at-divided, total-divided}
 use Rattle.radix_node.proofs.Divided.{part_ends}
 use Rattle.radix_node.proofs.Folds.{in_parts-is, large_level}
-use Rattle.radix_range.specs.Tree.{slots_of, tree_slots, IsRadix}
+use Rattle.radix_range.specs.Tree.{run_slots, tree_slots, IsRadix}
 use Rattle.radix_range.specs.Found.{in_512}
-use Rattle.radix_range.specs.Cells.{cell_in, run_of, start_of, changed_inside, changed_outside}
+use Rattle.radix_range.specs.Cells.{cell_in, run_of, slot_start, changed_inside, changed_outside}
 use Rattle.radix_range.specs.TreeLaws.{pages_are, cell_ok, is_slot, cell_of, tree-is_slot_map}
 
 -- the page's slot became 512 slots of so many pages
@@ -33,16 +33,16 @@ pub record IsExpanded (rs qs : List Run) (page : ℕ) : Type 0 where
   pub part : ℕ
   pub part_is : part ≡ width_of level
   pub before : ℕ
-  pub start_is : start_of rs page ≡ before * width_of (level + 1)
+  pub start_is : slot_start rs page ≡ before * width_of (level + 1)
   pub some : 0 < part
   pub width : (cell_at rs page).width ≡ 512 * part
   pub inside : (k o : ℕ) → k < 512 → o < part
-      → cell_at qs (start_of rs page + (k * part + o)) ≡ record {
+      → cell_at qs (slot_start rs page + (k * part + o)) ≡ record {
         state = state_from (cell_at rs page).state (k * part);
         offset = o;
         width = part;
       }
-  pub outside : (p : ℕ) → (p < start_of rs page) ⊎ (start_of rs page + (cell_at rs page).width ≤ p) → cell_at qs p ≡ cell_at rs p
+  pub outside : (p : ℕ) → (p < slot_start rs page) ⊎ (slot_start rs page + (cell_at rs page).width ≤ p) → cell_at qs p ≡ cell_at rs p
 
 pub expanded : (rs : List Run) (level page : ℕ) → level ≤ 3 → page < total rs → IsCell level page (cell_at rs page)
     → 1 < (cell_at rs page).width → IsExpanded rs (with_run in_parts rs page) page
@@ -63,7 +63,7 @@ expanded rs level page top h c large =
       part = width_of (l - 1);
       part_is = refl;
       before = page / (cell_at rs page).width;
-      start_is = (let e : start_of rs page ≡ page / (cell_at rs page).width * (cell_at rs page).width = omega arith in e)
+      start_is = (let e : slot_start rs page ≡ page / (cell_at rs page).width * (cell_at rs page).width = omega arith in e)
           ∙ ap (λ n. page / (cell_at rs page).width * n) (sym whole);
       some = width_pos (l - 1);
       width = sym w;
@@ -83,56 +83,56 @@ pub record IsPart (rs : List Run) (page part p : ℕ) : Type 0 where
   pub o : ℕ
   pub k_in : k < 512
   pub o_in : o < part
-  pub is : p ≡ start_of rs page + (k * part + o)
+  pub is : p ≡ slot_start rs page + (k * part + o)
 
-pub part_of : (rs qs : List Run) (page p : ℕ) (e : IsExpanded rs qs page) → start_of rs page ≤ p
-    → p < start_of rs page + (cell_at rs page).width → IsPart rs page e.part p
+pub part_of : (rs qs : List Run) (page p : ℕ) (e : IsExpanded rs qs page) → slot_start rs page ≤ p
+    → p < slot_start rs page + (cell_at rs page).width → IsPart rs page e.part p
 part_of rs qs page p e a b =
     let w = e.width in
-    let at = place_index e.part (p - start_of rs page) e.some (omega arith) in
-    record { k = at.0; o = p - start_of rs page - at.0 * e.part; k_in = at.1; o_in = omega (arith, at.2, at.3); is = omega (arith, at.2) }
+    let at = place_index e.part (p - slot_start rs page) e.some (omega arith) in
+    record { k = at.0; o = p - slot_start rs page - at.0 * e.part; k_in = at.1; o_in = omega (arith, at.2, at.3); is = omega (arith, at.2) }
 
 -- a page is in the slot or outside it
-in_or_out : (rs : List Run) (page p : ℕ) → ((start_of rs page ≤ p) × (p < start_of rs page + (cell_at rs page).width))
-    ⊎ ((p < start_of rs page) ⊎ (start_of rs page + (cell_at rs page).width ≤ p))
+in_or_out : (rs : List Run) (page p : ℕ) → ((slot_start rs page ≤ p) × (p < slot_start rs page + (cell_at rs page).width))
+    ⊎ ((p < slot_start rs page) ⊎ (slot_start rs page + (cell_at rs page).width ≤ p))
 in_or_out rs page p = ⊎_elim
-    (λ (l : p < start_of rs page). inr (inl l))
-    (λ (l : start_of rs page ≤ p). ⊎_elim (λ (m : p < start_of rs page + (cell_at rs page).width). inl (l, m)) (λ m. inr (inr m))
-    (cases_lt p (start_of rs page + (cell_at rs page).width)))
-    (cases_lt p (start_of rs page))
+    (λ (l : p < slot_start rs page). inr (inl l))
+    (λ (l : slot_start rs page ≤ p). ⊎_elim (λ (m : p < slot_start rs page + (cell_at rs page).width). inl (l, m)) (λ m. inr (inr m))
+    (cases_lt p (slot_start rs page + (cell_at rs page).width)))
+    (cases_lt p (slot_start rs page))
 
-pub info_kept : (rs qs : List Run) (page : ℕ) → IsExpanded rs qs page → (p : ℕ) → (slots_of qs).info p ≡ (slots_of rs).info p
+pub info_kept : (rs qs : List Run) (page : ℕ) → IsExpanded rs qs page → (p : ℕ) → (run_slots qs).info p ≡ (run_slots rs).info p
 info_kept rs qs page e p = ⊎_elim (λ b. here b.0 b.1) (λ o. ap (λ (c : Cell). info_from c.state.info c.offset) (e.outside p o)) (in_or_out rs page p)
   where
-    here : start_of rs page ≤ p → p < start_of rs page + (cell_at rs page).width → (slots_of qs).info p ≡ (slots_of rs).info p
+    here : slot_start rs page ≤ p → p < slot_start rs page + (cell_at rs page).width → (run_slots qs).info p ≡ (run_slots rs).info p
     here a b =
         let at = part_of rs qs page p e a b in
-        let n : at.k * e.part + at.o ≡ p - start_of rs page = omega (arith, at.is) in
+        let n : at.k * e.part + at.o ≡ p - slot_start rs page = omega (arith, at.is) in
         ap (λ (c : Cell). info_from c.state.info c.offset) (ap (cell_at qs) at.is ∙ e.inside at.k at.o at.k_in at.o_in)
         ∙ info_from_twice (cell_at rs page).state.info (at.k * e.part) at.o
         ∙ ap (info_from (cell_at rs page).state.info) n
         ∙ ap (λ (c : Cell). info_from c.state.info c.offset) (sym (cell_of rs page p a b))
 
-pub owner_kept : (rs qs : List Run) (page : ℕ) → IsExpanded rs qs page → (p : ℕ) → (slots_of qs).owner p ≡ (slots_of rs).owner p
+pub owner_kept : (rs qs : List Run) (page : ℕ) → IsExpanded rs qs page → (p : ℕ) → (run_slots qs).owner p ≡ (run_slots rs).owner p
 owner_kept rs qs page e p = ⊎_elim (λ b. here b.0 b.1) (λ o. ap (λ (c : Cell). c.state.owner) (e.outside p o)) (in_or_out rs page p)
   where
-    here : start_of rs page ≤ p → p < start_of rs page + (cell_at rs page).width → (slots_of qs).owner p ≡ (slots_of rs).owner p
+    here : slot_start rs page ≤ p → p < slot_start rs page + (cell_at rs page).width → (run_slots qs).owner p ≡ (run_slots rs).owner p
     here a b =
         let at = part_of rs qs page p e a b in
         ap (λ (c : Cell). c.state.owner) (ap (cell_at qs) at.is ∙ e.inside at.k at.o at.k_in at.o_in)
         ∙ ap (λ (c : Cell). c.state.owner) (sym (cell_of rs page p a b))
 
-edges_kept : (rs qs : List Run) (page : ℕ) → IsExpanded rs qs page → (p : ℕ) → (slots_of rs).edge p ≡ true → (slots_of qs).edge p ≡ true
+edges_kept : (rs qs : List Run) (page : ℕ) → IsExpanded rs qs page → (p : ℕ) → (run_slots rs).edge p ≡ true → (run_slots qs).edge p ≡ true
 edges_kept rs qs page e p h = ⊎_elim (λ b. here b.0 b.1) (λ o. ap (λ (c : Cell). c.offset == 0) (e.outside p o) ∙ h) (in_or_out rs page p)
   where
-    here : start_of rs page ≤ p → p < start_of rs page + (cell_at rs page).width → (slots_of qs).edge p ≡ true
+    here : slot_start rs page ≤ p → p < slot_start rs page + (cell_at rs page).width → (run_slots qs).edge p ≡ true
     here a b =
-        let zero : p - start_of rs page ≡ 0 = sym (ap (λ (c : Cell). c.offset) (cell_of rs page p a b)) ∙ from_test _ _ h in
-        let first : p ≡ start_of rs page + (0 * e.part + 0) = omega arith in
+        let zero : p - slot_start rs page ≡ 0 = sym (ap (λ (c : Cell). c.offset) (cell_of rs page p a b)) ∙ from_test _ _ h in
+        let first : p ≡ slot_start rs page + (0 * e.part + 0) = omega arith in
         same_test _ _ (ap (λ (c : Cell). c.offset) (ap (cell_at qs) first ∙ e.inside 0 0 (omega arith) e.some))
 
-pub divides : (rs qs : List Run) (page : ℕ) (e : IsExpanded rs qs page) → Divides (slots_of rs) (slots_of qs) (cell_at rs page).state.owner
-    (start_of rs page + e.part)
+pub divides : (rs qs : List Run) (page : ℕ) (e : IsExpanded rs qs page) → Divides (run_slots rs) (run_slots qs) (cell_at rs page).state.owner
+    (slot_start rs page + e.part)
 divides rs qs page e = record {
   info = λ j p. info_kept rs qs page e p j;
   owners = λ j p. owner_kept rs qs page e p j;
@@ -140,10 +140,10 @@ divides rs qs page e = record {
   was_inside =
       let w = e.width in
       let some = e.some in
-      let cell = cell_of rs page (start_of rs page + e.part) (omega arith) (omega arith) in
+      let cell = cell_of rs page (slot_start rs page + e.part) (omega arith) (omega arith) in
       other_test _ _ (λ zero. let off = sym (ap (λ (c : Cell). c.offset) cell) ∙ zero in absurd (omega arith));
   begins =
-      let at : start_of rs page + e.part ≡ start_of rs page + (1 * e.part + 0) = omega arith in
+      let at : slot_start rs page + e.part ≡ slot_start rs page + (1 * e.part + 0) = omega arith in
       same_test _ _ (ap (λ (c : Cell). c.offset) (ap (cell_at qs) at ∙ e.inside 1 0 (omega arith) e.some));
   elsewhere = λ p other. ⊎_elim
       (λ b. absurd (other (ap (λ (c : Cell). c.state.owner) (cell_of rs page p b.0 b.1))))
@@ -159,7 +159,7 @@ no_state_from n = refl
 state_kept : (rs qs : List Run) (page : ℕ) → IsExpanded rs qs page → (p : ℕ) → (cell_at rs p).state ≡ no_state → (cell_at qs p).state ≡ no_state
 state_kept rs qs page e p h = ⊎_elim (λ b. here b.0 b.1) (λ o. ap (λ (c : Cell). c.state) (e.outside p o) ∙ h) (in_or_out rs page p)
   where
-    here : start_of rs page ≤ p → p < start_of rs page + (cell_at rs page).width → (cell_at qs p).state ≡ no_state
+    here : slot_start rs page ≤ p → p < slot_start rs page + (cell_at rs page).width → (cell_at qs p).state ≡ no_state
     here a b =
         let at = part_of rs qs page p e a b in
         let none : (cell_at rs page).state ≡ no_state = ap (λ (c : Cell). c.state) (sym (cell_of rs page p a b)) ∙ h in
@@ -182,11 +182,11 @@ expanded-IsRadix v u ok page e same whole = record {
 }
 
 -- a valid page's slot ends by the limit
-ends_by_limit : (v : Parts) → IsRadix v → (page : ℕ) → page < 2 ^ 35 → start_of (runs v) page + (cell_at (runs v) page).width ≤ 2 ^ 35
+ends_by_limit : (v : Parts) → IsRadix v → (page : ℕ) → page < 2 ^ 35 → slot_start (runs v) page + (cell_at (runs v) page).width ≤ 2 ^ 35
 ends_by_limit v ok page l =
     let rs = runs v in
     let c = cell_in rs page in
-    slot_by_edge (tree_slots v) (start_of rs page) (start_of rs page + (cell_at rs page).width) (2 ^ 35) (is_slot rs page)
+    slot_by_edge (tree_slots v) (slot_start rs page) (slot_start rs page + (cell_at rs page).width) (2 ^ 35) (is_slot rs page)
     (tree-is_slot_map v ok).limit (omega arith)
 
 pub divides_at : (v u : Parts) → IsRadix v → (page : ℕ) → IsPage page → IsExpanded (runs v) (runs u) page → (at : ℕ) × IsPage at
@@ -197,21 +197,21 @@ divides_at v u ok page valid e =
     let w = e.width in
     let some = e.some in
     let limit = ends_by_limit v ok page valid.1 in
-    (start_of rs page + e.part, (omega arith, omega arith), divides rs (runs u) page e)
+    (slot_start rs page + e.part, (omega arith, omega arith), divides rs (runs u) page e)
 
 -- the edges outside the slot stay, and so does its first
-pub outer_edge : (rs qs : List Run) (page : ℕ) → IsExpanded rs qs page → (p : ℕ) → (p < start_of rs page + 1)
-    ⊎ (start_of rs page + (cell_at rs page).width ≤ p) → (slots_of qs).edge p ≡ (slots_of rs).edge p
+pub outer_edge : (rs qs : List Run) (page : ℕ) → IsExpanded rs qs page → (p : ℕ) → (p < slot_start rs page + 1)
+    ⊎ (slot_start rs page + (cell_at rs page).width ≤ p) → (run_slots qs).edge p ≡ (run_slots rs).edge p
 outer_edge rs qs page e p (inr l) = ap (λ (c : Cell). c.offset == 0) (e.outside p (inr l))
 outer_edge rs qs page e p (inl l) = ⊎_elim
-    (λ (m : p < start_of rs page). ap (λ (c : Cell). c.offset == 0) (e.outside p (inl m)))
-    (λ (m : start_of rs page ≤ p).
-    let same : p ≡ start_of rs page = omega arith in
+    (λ (m : p < slot_start rs page). ap (λ (c : Cell). c.offset == 0) (e.outside p (inl m)))
+    (λ (m : slot_start rs page ≤ p).
+    let same : p ≡ slot_start rs page = omega arith in
     let old = (is_slot rs page).begins in
-    rw same (edges_kept rs qs page e (start_of rs page) old ∙ sym old))
-    (cases_lt p (start_of rs page))
+    rw same (edges_kept rs qs page e (slot_start rs page) old ∙ sym old))
+    (cases_lt p (slot_start rs page))
 
-pub divides_as : (rs qs : List Run) (page : ℕ) → (slots_of rs).edge page ≡ false → IsExpanded rs qs page → DividesAs in_512 (slots_of rs) (slots_of qs) page
+pub divides_as : (rs qs : List Run) (page : ℕ) → (run_slots rs).edge page ≡ false → IsExpanded rs qs page → DividesAs in_512 (run_slots rs) (run_slots qs) page
 divides_as rs qs page crossed e =
     let c = cell_in rs page in
     let inside = from_other_test _ _ crossed in
@@ -221,15 +221,15 @@ divides_as rs qs page crossed e =
       above = omega (arith, c.low);
       below = omega (arith, c.low, c.high);
       now = same_slots _ _ (info_kept rs qs page e) (owner_kept rs qs page e)
-          (λ p. by_test (λ x. (slots_of qs).edge p ≡ x) (has (between (slot.first + 1) slot.end) p) _ _
+          (λ p. by_test (λ x. (run_slots qs).edge p ≡ x) (has (between (slot.first + 1) slot.end) p) _ _
           (λ t. let b = has_in (between (slot.first + 1) slot.end) p t in inner p (omega (arith, b.0)) b.1)
           (λ t. outer_edge rs qs page e p (has_not (between (slot.first + 1) slot.end) p t)));
     }
   where
     slot : PageRange
-    slot = between (start_of rs page) (start_of rs page + (cell_at rs page).width)
+    slot = between (slot_start rs page) (slot_start rs page + (cell_at rs page).width)
 
-    inner : (p : ℕ) → start_of rs page ≤ p → p < start_of rs page + (cell_at rs page).width → (slots_of qs).edge p ≡ in_512 slot page p
+    inner : (p : ℕ) → slot_start rs page ≤ p → p < slot_start rs page + (cell_at rs page).width → (run_slots qs).edge p ≡ in_512 slot page p
     inner p a b =
         let at = part_of rs qs page p e a b in
         let w = e.width in
@@ -288,7 +288,7 @@ folded-IsRadix v u ok page e same whole = record {
   outside = λ p h. ⊎_elim (λ b. here p h b.0 b.1) (λ o. ap (λ (c : Cell). c.state) (sym (e.outside p o)) ∙ ok.outside p h) (in_or_out (runs u) page p);
 }
   where
-    here : (p : ℕ) → ¬ IsPage p → start_of (runs u) page ≤ p → p < start_of (runs u) page + (cell_at (runs u) page).width
+    here : (p : ℕ) → ¬ IsPage p → slot_start (runs u) page ≤ p → p < slot_start (runs u) page + (cell_at (runs u) page).width
         → (cell_at (runs u) p).state ≡ no_state
     here p h a b =
         let at = part_of (runs u) (runs v) page p e a b in
@@ -298,8 +298,8 @@ folded-IsRadix v u ok page e same whole = record {
 pub folded-Joins : (v u : Parts) → IsRadix u → (page : ℕ) → page < 2 ^ 35 → IsPlain (cell_at (runs u) page).state
     → IsExpanded (runs u) (runs v) page → Joins (tree_slots v) (tree_slots u)
 folded-Joins v u ok page l plain e =
-    joins_back (tree_slots v) (tree_slots u) (start_of (runs u) page + e.part)
-    (subst (λ o. Divides (tree_slots u) (tree_slots v) o (start_of (runs u) page + e.part)) plain.free
+    joins_back (tree_slots v) (tree_slots u) (slot_start (runs u) page + e.part)
+    (subst (λ o. Divides (tree_slots u) (tree_slots v) o (slot_start (runs u) page + e.part)) plain.free
     (divides (runs u) (runs v) page e)) could
   where
     rs : List Run
@@ -309,22 +309,22 @@ folded-Joins v u ok page l plain e =
     state = (cell_at rs page).state
 
     -- what the pages of the slot have
-    info : (p : ℕ) → start_of rs page ≤ p → p < start_of rs page + (cell_at rs page).width → (tree_slots v).info p ≡ info_from state.info (p - start_of rs page)
+    info : (p : ℕ) → slot_start rs page ≤ p → p < slot_start rs page + (cell_at rs page).width → (tree_slots v).info p ≡ info_from state.info (p - slot_start rs page)
     info p a b = info_kept rs (runs v) page e p ∙ ap (λ (c : Cell). info_from c.state.info c.offset) (cell_of rs page p a b)
 
-    owner : (p : ℕ) → start_of rs page ≤ p → p < start_of rs page + (cell_at rs page).width → (tree_slots v).owner p ≡ None
+    owner : (p : ℕ) → slot_start rs page ≤ p → p < slot_start rs page + (cell_at rs page).width → (tree_slots v).owner p ≡ None
     owner p a b = owner_kept rs (runs v) page e p ∙ (ap (λ (c : Cell). c.state.owner) (cell_of rs page p a b) ∙ plain.free)
 
-    leaf : (p : ℕ) → start_of rs page ≤ p → p < start_of rs page + (cell_at rs page).width → is_leaf ((tree_slots v).info p) ≡ false
+    leaf : (p : ℕ) → slot_start rs page ≤ p → p < slot_start rs page + (cell_at rs page).width → is_leaf ((tree_slots v).info p) ≡ false
     leaf p a b = ap is_leaf (info p a b) ∙ (is_leaf-info_from state.info _ ∙ plain.no_leaf)
 
     two : (b : Bool) → b ≡ false → b ≡ true → ⊥
     two b e f = cc
 
-    inside : (p : ℕ) → start_of rs page + 1 ≤ p → p < start_of rs page + (cell_at rs page).width → CanBeOne (tree_slots v) p
+    inside : (p : ℕ) → slot_start rs page + 1 ≤ p → p < slot_start rs page + (cell_at rs page).width → CanBeOne (tree_slots v) p
     inside p a b =
         let limit = ends_by_limit u ok page l in
-        let next : p - 1 - start_of rs page + 1 ≡ p - start_of rs page = omega arith in
+        let next : p - 1 - slot_start rs page + 1 ≡ p - slot_start rs page = omega arith in
         record {
           page = (omega arith, omega arith);
           free = owner (p - 1) (omega arith) (omega arith);
@@ -332,23 +332,23 @@ folded-Joins v u ok page l plain e =
           no_leaf = leaf (p - 1) (omega arith) (omega arith);
           next_no_leaf = leaf p (omega arith) b;
           goes_on = info p (omega arith) b
-              ∙ (ap (info_from state.info) (sym next) ∙ (sym (info_from_twice state.info (p - 1 - start_of rs page) 1)
+              ∙ (ap (info_from state.info) (sym next) ∙ (sym (info_from_twice state.info (p - 1 - slot_start rs page) 1)
               ∙ ap (λ o. info_from o 1) (sym (info (p - 1) (omega arith) (omega arith)))));
         }
 
     could : (p : ℕ) → (tree_slots v).edge p ≡ true → (tree_slots u).edge p ≡ false → CanBeOne (tree_slots v) p
     could p h f = ⊎_elim
-        (λ (a : p < start_of rs page + 1). absurd (two _ (outer_edge rs (runs v) page e p (inl a) ∙ f) h))
-        (λ (a : start_of rs page + 1 ≤ p). ⊎_elim
-        (λ (b : p < start_of rs page + (cell_at rs page).width). inside p a b)
-        (λ (b : start_of rs page + (cell_at rs page).width ≤ p). absurd (two _ (outer_edge rs (runs v) page e p (inr b) ∙ f) h))
-        (cases_lt p (start_of rs page + (cell_at rs page).width)))
-        (cases_lt p (start_of rs page + 1))
+        (λ (a : p < slot_start rs page + 1). absurd (two _ (outer_edge rs (runs v) page e p (inl a) ∙ f) h))
+        (λ (a : slot_start rs page + 1 ≤ p). ⊎_elim
+        (λ (b : p < slot_start rs page + (cell_at rs page).width). inside p a b)
+        (λ (b : slot_start rs page + (cell_at rs page).width ≤ p). absurd (two _ (outer_edge rs (runs v) page e p (inr b) ∙ f) h))
+        (cases_lt p (slot_start rs page + (cell_at rs page).width)))
+        (cases_lt p (slot_start rs page + 1))
 
 pub same_or_expanded : {X E : Type 0} {P Q R : Type 0} (r : Result X E) → (P → R) → (Q → R) → OnOk r P → OnErr r Q → R
 same_or_expanded (Ok x) f g h k = f h
 same_or_expanded (Err e) f g h k = g k
 
 -- a slot that begins before the page has several pages
-pub several : (rs : List Run) (page : ℕ) → (slots_of rs).edge page ≡ false → 1 < (cell_at rs page).width
+pub several : (rs : List Run) (page : ℕ) → (run_slots rs).edge page ≡ false → 1 < (cell_at rs page).width
 several rs page h = let c = cell_in rs page in let inside = from_other_test _ _ h in omega (arith, c.high)

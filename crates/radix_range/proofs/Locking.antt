@@ -9,10 +9,10 @@ use Rattle.radix_node.specs.Run.{Run, Cell, cell_at, width_of, with_run, in_stat
 use Rattle.radix_node.specs.Node.{Parts, runs}
 use Rattle.radix_node.specs.Lock.{Meets, after_lock}
 use Rattle.radix_node.proofs.Runs.{with_run-same}
-use Rattle.radix_range.specs.Tree.{slots_of, tree_slots, IsRadix}
+use Rattle.radix_range.specs.Tree.{run_slots, tree_slots, IsRadix}
 use Rattle.radix_range.specs.TreeLaws.{is_found}
-use Rattle.radix_range.specs.Cells.{cell_in, start_of}
-use Rattle.radix_range.specs.Locking.{GoesPast, Tries}
+use Rattle.radix_range.specs.Cells.{cell_in, slot_start}
+use Rattle.radix_range.specs.Locking.{GoesPast, TriesLock}
 use Rattle.radix_range.proofs.Sets.{IsSet, tree_set, set_slots, set_radix}
 use Rattle.radix_range.proofs.Changes.{Here, here, first_is, by_limit, restated_owner}
 
@@ -25,7 +25,7 @@ pub found_here : (v : Parts) → IsRadix v → (page end : ℕ) → page < 2 ^ 3
 found_here v ok page end l edge e =
     let f = is_found v ok page (omega arith) in
     let first = first_is _ _ _ _ _ f edge in
-    let same : start_of (runs v) page + (cell_at (runs v) page).width ≡ end =
+    let same : slot_start (runs v) page + (cell_at (runs v) page).width ≡ end =
     ap (λ n. n + (cell_at (runs v) page).width) first ∙ e in
     subst (λ n. Here (tree_slots v) page n (cell_at (runs v) page).state) same
     (here _ _ _ _ _ f edge)
@@ -77,16 +77,16 @@ pub tries : (v u : Parts) → IsRadix v → (core cursor end : ℕ) (l : Lock) �
     → end ≤ 2 ^ 35
     → Meets (cell_at (runs v) cursor) (end - cursor) l
     → runs u ≡ with_run (in_state (after_lock l core (cell_at (runs v) cursor).state)) (runs v) cursor
-    → Tries (tree_slots v) (tree_slots u) core cursor end l
+    → TriesLock (tree_slots v) (tree_slots u) core cursor end l
 tries v u ok core cursor end (Held by) some high m e =
     let f = is_found v ok cursor (omega arith) in
-    (f.owner cursor f.low f.high ∙ m, ap slots_of (e ∙ with_run-same (runs v) cursor))
+    (f.owner cursor f.low f.high ∙ m, ap run_slots (e ∙ with_run-same (runs v) cursor))
 tries v u ok core cursor end Before some high m e =
     let f = is_found v ok cursor (omega arith) in
     let c = cell_in (runs v) cursor in (
       f.owner cursor f.low f.high ∙ m.0,
       f.slot.inside cursor (omega (arith, m.1, c.low)) f.high,
-      ap slots_of (e ∙ with_run-same (runs v) cursor),
+      ap run_slots (e ∙ with_run-same (runs v) cursor),
     )
 tries v u ok core cursor end Beyond some high m e =
     let h = found_here v ok cursor _ (omega arith) (edge_here v cursor m.1) refl in (
@@ -96,7 +96,7 @@ tries v u ok core cursor end Beyond some high m e =
         past = omega (arith, m.2);
         free = λ p a b. h.owner p a b ∙ m.0;
       },
-      ap slots_of (e ∙ with_run-same (runs v) cursor),
+      ap run_slots (e ∙ with_run-same (runs v) cursor),
     )
 tries v u ok core cursor end (Locked width) some high m e =
     let h =

@@ -15,35 +15,35 @@ use Rattle.slot_lock.specs.Slots.{Slots, Divides, IsFreeRun, Joins, between, cle
 use Rattle.slot_lock.proofs.Adding.{no_some}
 use Rattle.radix_node.specs.Node.{Parts}
 use Rattle.radix_range.specs.Tree.{tree_slots}
-use Rattle.radix_range.specs.Mapped.{IsFull}
+use Rattle.radix_range.specs.Mapped.{IsMappedRun}
 
 two : (b : Bool) → b ≡ false → b ≡ true → ⊥
 two b e f = cc
 
 -- ---- what keeps pages mapped
 
-pub same_info : (s t : Slots) (full : PageRange) → IsFull s full → t.info ≡ s.info → IsFull t full
+pub same_info : (s t : Slots) (full : PageRange) → IsMappedRun s full → t.info ≡ s.info → IsMappedRun t full
 same_info s t full a e = record { mapped = λ p h. ap (λ (f : ℕ → Option PageInfo). is_some (f p)) e ∙ a.mapped p h }
 
-pub same_slots : (s t : Slots) (full : PageRange) → IsFull s full → t ≡ s → IsFull t full
+pub same_slots : (s t : Slots) (full : PageRange) → IsMappedRun s full → t ≡ s → IsMappedRun t full
 same_slots s t full a e = same_info s t full a (ap (λ (u : Slots). u.info) e)
 
 -- an expansion, or its refusal
 pub expanded : {T E : Type 0} (r : Result T E) (v w : Parts) (owner : Option ℕ) (full : PageRange)
     → OnOk r ((at : ℕ) × IsPage at × Divides (tree_slots v) (tree_slots w) owner at) → OnErr r (w ≡ v)
-    → IsFull (tree_slots v) full → IsFull (tree_slots w) full
+    → IsMappedRun (tree_slots v) full → IsMappedRun (tree_slots w) full
 expanded (Ok x) v w owner full (at, valid, d) err a = same_info (tree_slots v) (tree_slots w) full a d.info
 expanded (Err e) v w owner full ok err a = same_slots (tree_slots v) (tree_slots w) full a (ap tree_slots err)
 
 -- a fold, or none
 pub folded : (b : Bool) (v w : Parts) (full : PageRange) → (IsTrue b → Joins (tree_slots v) (tree_slots w)) → (¬ IsTrue b → w ≡ v)
-    → IsFull (tree_slots v) full → IsFull (tree_slots w) full
+    → IsMappedRun (tree_slots v) full → IsMappedRun (tree_slots w) full
 folded true v w full joins same a = same_info (tree_slots v) (tree_slots w) full a (joins refl).info
 folded false v w full joins same a = same_slots (tree_slots v) (tree_slots w) full a (ap tree_slots (same (λ x. two false refl x)))
 
 -- one page that stays mapped
 pub one_info : (s : Slots) (page : ℕ) (info : Option PageInfo) (full : PageRange)
-    → (is_some (s.info page) ≡ true → is_some info ≡ true) → IsFull s full → IsFull (with_info s page info) full
+    → (is_some (s.info page) ≡ true → is_some info ≡ true) → IsMappedRun s full → IsMappedRun (with_info s page info) full
 one_info s page info full stays a = record {
   mapped = λ p h. by_test (λ (o : Option PageInfo). is_some o ≡ true) (p == page) info (s.info p)
       (λ e. stays (ap (λ q. is_some (s.info q)) (sym (is_page p e)) ∙ a.mapped p h)) (λ _. a.mapped p h);
@@ -60,23 +60,23 @@ some_with : (prot : Prot) (o : Option PageInfo) → is_some o ≡ true → is_so
 some_with prot None e = cc
 some_with prot (Some info) e = refl
 
-pub all_protected : (s : Slots) (range : PageRange) (prot : Prot) (full : PageRange) → IsFull s full → IsFull (protected s range prot) full
+pub all_protected : (s : Slots) (range : PageRange) (prot : Prot) (full : PageRange) → IsMappedRun s full → IsMappedRun (protected s range prot) full
 all_protected s range prot full a = record {
   mapped = λ p h. by_test (λ (o : Option PageInfo). is_some o ≡ true) (has range p) (info_with_prot prot (s.info p)) (s.info p)
       (λ _. some_with prot (s.info p) (a.mapped p h)) (λ _. a.mapped p h);
 }
 
 -- pages of the run or of the range that is mapped
-pub all_put : (s : Slots) (range : PageRange) (meta : Meta) (full more : PageRange) → IsFull s full
-    → ((p : ℕ) → has more p ≡ true → (has full p ≡ true) ⊎ (has range p ≡ true)) → IsFull (mapped s range meta) more
+pub all_put : (s : Slots) (range : PageRange) (meta : Meta) (full more : PageRange) → IsMappedRun s full
+    → ((p : ℕ) → has more p ≡ true → (has full p ≡ true) ⊎ (has range p ≡ true)) → IsMappedRun (mapped s range meta) more
 all_put s range meta full more a of = record {
   mapped = λ p h. by_test (λ (o : Option PageInfo). is_some o ≡ true) (has range p) _ (s.info p)
       (λ _. refl) (λ e. ⊎_elim (λ x. a.mapped p x) (λ y. absurd (two _ e y)) (of p h));
 }
 
 -- pages of the run that aren't in the range that is unmapped
-pub all_cleared : (s : Slots) (range full less : PageRange) → IsFull s full
-    → ((p : ℕ) → has less p ≡ true → (has full p ≡ true) × (has range p ≡ false)) → IsFull (cleared s range) less
+pub all_cleared : (s : Slots) (range full less : PageRange) → IsMappedRun s full
+    → ((p : ℕ) → has less p ≡ true → (has full p ≡ true) × (has range p ≡ false)) → IsMappedRun (cleared s range) less
 all_cleared s range full less a of = record {
   mapped = λ p h. by_test (λ (o : Option PageInfo). is_some o ≡ true) (has range p) None (s.info p)
       (λ e. absurd (two _ (of p h).1 e)) (λ _. a.mapped p (of p h).0);
@@ -85,7 +85,7 @@ all_cleared s range full less a of = record {
 -- ---- room where such pages, from first up to end, lie in a range
 
 -- a free run of the range lies before them or after them
-pub on_a_side : (s : Slots) (full : PageRange) (first end n r : ℕ) → IsFull s full → full.first ≤ first
+pub on_a_side : (s : Slots) (full : PageRange) (first end n r : ℕ) → IsMappedRun s full → full.first ≤ first
     → end ≤ full.end → 1 ≤ n → first < end
     → ((p : ℕ) → r ≤ p → p < r + n → s.info p ≡ None) → (r + n ≤ first) ⊎ (end ≤ r)
 on_a_side s full first end n r a low high some order free = ⊎_elim
@@ -116,7 +116,7 @@ pub least_in_front : (s : Slots) (range : PageRange) (first n start : ℕ) → I
 least_in_front s range first n start f least r l g = least r l (in_front s range first n r g (omega (arith, f.inside.high)))
 
 -- with none before them, the runs of the range are those after them
-pub only_in_rest : (s : Slots) (full range : PageRange) (first end n : ℕ) → IsFull s full → full.first ≤ first → end ≤ full.end → 1 ≤ n
+pub only_in_rest : (s : Slots) (full range : PageRange) (first end n : ℕ) → IsMappedRun s full → full.first ≤ first → end ≤ full.end → 1 ≤ n
     → first < end → ((r : ℕ) → ¬ IsFreeRun s (between range.first first) n r)
     → (r : ℕ) → IsFreeRun s range n r → IsFreeRun s (between end range.end) n r
 only_in_rest s full range first end n a low high some order none r f = ⊎_elim

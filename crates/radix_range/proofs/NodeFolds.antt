@@ -14,8 +14,8 @@ use Rattle.radix_node.specs.Run.{Run, Cell, cell_at, width_of, CanJoin}
 use Rattle.radix_node.specs.Node.{Parts, runs}
 use Rattle.radix_node.proofs.Flat.{width-below, width_pos}
 use Rattle.radix_node.proofs.Divided.{part_ends}
-use Rattle.radix_range.specs.Tree.{slots_of, tree_slots, IsRadix}
-use Rattle.radix_range.specs.Cells.{IsIn, cell_in, start_of}
+use Rattle.radix_range.specs.Tree.{run_slots, tree_slots, IsRadix}
+use Rattle.radix_range.specs.Cells.{IsIn, cell_in, slot_start}
 use Rattle.radix_range.specs.TreeLaws.{is_slot, cell_of}
 use Rattle.radix_range.specs.Folds.{CanFold, joined, FoldsNode}
 use Rattle.radix_range.proofs.Expansions.{IsExpanded, info_kept, owner_kept, outer_edge}
@@ -28,13 +28,13 @@ cell_is : (c : Cell) (i : Option PageInfo) (w : ℕ) → c.state.info ≡ i → 
 cell_is c i w info owner zero width = λ j. record { state = record { info = info j; owner = owner j }; offset = zero j; width = width j }
 
 -- the slot that begins at a page
-slot_cell : (rs : List Run) (a w : ℕ) → IsSlot (slots_of rs) a (a + w) → ((cell_at rs a).offset ≡ 0) × ((cell_at rs a).width ≡ w)
+slot_cell : (rs : List Run) (a w : ℕ) → IsSlot (run_slots rs) a (a + w) → ((cell_at rs a).offset ≡ 0) × ((cell_at rs a).width ≡ w)
 slot_cell rs a w slot =
     let b = begins rs a (a + w) slot in
     let width = b.width in
     (from_test _ _ slot.begins, omega arith)
 
-info_first : (rs : List Run) (a : ℕ) → (cell_at rs a).offset ≡ 0 → (cell_at rs a).state.info ≡ (slots_of rs).info a
+info_first : (rs : List Run) (a : ℕ) → (cell_at rs a).offset ≡ 0 → (cell_at rs a).state.info ≡ (run_slots rs).info a
 info_first rs a zero = sym (info_from_zero (cell_at rs a).state.info) ∙ ap (info_from (cell_at rs a).state.info) (sym zero)
 
 pub can_join : (v : Parts) → IsRadix v → (page : ℕ) → CanFold (tree_slots v) page → CanJoin v.level (runs v) page
@@ -60,26 +60,26 @@ can_join v ok page can =
 -- ---- a folded node
 
 part_first : (rs qs : List Run) (page : ℕ) (e : IsExpanded rs qs page) (k : ℕ) → k < 512
-    → cell_at qs (start_of rs page + k * e.part) ≡ record {
+    → cell_at qs (slot_start rs page + k * e.part) ≡ record {
       state = state_from (cell_at rs page).state (k * e.part);
       offset = 0;
       width = e.part;
     }
 part_first rs qs page e k l =
-    let at : start_of rs page + k * e.part ≡ start_of rs page + (k * e.part + 0) = omega arith in
+    let at : slot_start rs page + k * e.part ≡ slot_start rs page + (k * e.part + 0) = omega arith in
     ap (cell_at qs) at ∙ e.inside k 0 l e.some
 
 part_slot : (rs qs : List Run) (page : ℕ) (e : IsExpanded rs qs page) (k : ℕ) → k < 512
-    → IsSlot (slots_of qs) (start_of rs page + k * e.part) (start_of rs page + k * e.part + e.part)
+    → IsSlot (run_slots qs) (slot_start rs page + k * e.part) (slot_start rs page + k * e.part + e.part)
 part_slot rs qs page e k l =
-    let p : ℕ = start_of rs page + k * e.part in
+    let p : ℕ = slot_start rs page + k * e.part in
     let c = part_first rs qs page e k l in
     let zero : (cell_at qs p).offset ≡ 0 = ap (λ (c : Cell). c.offset) c in
-    let start : start_of qs p ≡ p = omega arith in
+    let start : slot_start qs p ≡ p = omega arith in
     let width : (cell_at qs p).width ≡ e.part = ap (λ (c : Cell). c.width) c in
-    subst (λ n. IsSlot (slots_of qs) p (p + n)) width (subst (λ n. IsSlot (slots_of qs) n (n + (cell_at qs p).width)) start (is_slot qs p))
+    subst (λ n. IsSlot (run_slots qs) p (p + n)) width (subst (λ n. IsSlot (run_slots qs) n (n + (cell_at qs p).width)) start (is_slot qs p))
 
-pub could_fold : (rs qs : List Run) (page : ℕ) → IsPlain (cell_at rs page).state → IsExpanded rs qs page → CanFold (slots_of qs) page
+pub could_fold : (rs qs : List Run) (page : ℕ) → IsPlain (cell_at rs page).state → IsExpanded rs qs page → CanFold (run_slots qs) page
 could_fold rs qs page plain e =
     let c = cell_in rs page in
     let width = e.width in
@@ -87,9 +87,9 @@ could_fold rs qs page plain e =
     let start = e.start_is in
     let some = e.some in
     let full : 512 * e.part ≡ width_of (e.level + 1) = ap (λ n. 512 * n) w ∙ width-below e.level (e.level + 1) refl in
-    let first : (slots_of qs).info (start_of rs page) ≡ (cell_at rs page).state.info = info_kept rs qs page e (start_of rs page)
-    ∙ own (start_of rs page) 0 (omega arith) (omega arith) ∙ info_from_zero (cell_at rs page).state.info in
-    let place : (k : ℕ) → start_of rs page + k * e.part ≡ e.before * width_of (e.level + 1) + k * width_of e.level = λ k.
+    let first : (run_slots qs).info (slot_start rs page) ≡ (cell_at rs page).state.info = info_kept rs qs page e (slot_start rs page)
+    ∙ own (slot_start rs page) 0 (omega arith) (omega arith) ∙ info_from_zero (cell_at rs page).state.info in
+    let place : (k : ℕ) → slot_start rs page + k * e.part ≡ e.before * width_of (e.level + 1) + k * width_of e.level = λ k.
     ap (λ n. n + k * e.part) start ∙ ap (λ n. e.before * width_of (e.level + 1) + k * n) w in
     record {
       level = e.level;
@@ -97,37 +97,37 @@ could_fold rs qs page plain e =
       before = e.before;
       from = omega (arith, c.low);
       until = omega (arith, c.low, c.high);
-      slots = λ k l. subst (λ n. IsSlot (slots_of qs) n (n + width_of e.level)) (place k)
-          (subst (λ n. IsSlot (slots_of qs) (start_of rs page + k * e.part) (start_of rs page + k * e.part + n)) w
+      slots = λ k l. subst (λ n. IsSlot (run_slots qs) n (n + width_of e.level)) (place k)
+          (subst (λ n. IsSlot (run_slots qs) (slot_start rs page + k * e.part) (slot_start rs page + k * e.part + n)) w
           (part_slot rs qs page e k l));
       free = λ k l. ap (λ p. (cell_at qs p).state.owner) (sym (place k)) ∙ ap (λ (c : Cell). c.state.owner) (part_first rs qs page e k l) ∙ plain.free;
-      no_leaf = ap (λ p. is_leaf ((slots_of qs).info p)) (sym start) ∙ ap is_leaf first ∙ plain.no_leaf;
+      no_leaf = ap (λ p. is_leaf ((run_slots qs).info p)) (sym start) ∙ ap is_leaf first ∙ plain.no_leaf;
       goes_on = λ k l.
           let ends = part_ends e.part k l in
-          ap (λ p. (slots_of qs).info p) (sym (place k)) ∙ info_kept rs qs page e (start_of rs page + k * e.part)
-          ∙ own (start_of rs page + k * e.part) (k * e.part) (omega arith) (omega arith)
-          ∙ ap (λ o. info_from o (k * e.part)) (sym first) ∙ ap (λ p. info_from ((slots_of qs).info p) (k * e.part)) start
-          ∙ ap (λ n. info_from ((slots_of qs).info (e.before * width_of (e.level + 1))) (k * n)) w;
+          ap (λ p. (run_slots qs).info p) (sym (place k)) ∙ info_kept rs qs page e (slot_start rs page + k * e.part)
+          ∙ own (slot_start rs page + k * e.part) (k * e.part) (omega arith) (omega arith)
+          ∙ ap (λ o. info_from o (k * e.part)) (sym first) ∙ ap (λ p. info_from ((run_slots qs).info p) (k * e.part)) start
+          ∙ ap (λ n. info_from ((run_slots qs).info (e.before * width_of (e.level + 1))) (k * n)) w;
     }
   where
-    own : (p n : ℕ) → p ≡ start_of rs page + n → n < (cell_at rs page).width → (slots_of rs).info p ≡ info_from (cell_at rs page).state.info n
+    own : (p n : ℕ) → p ≡ slot_start rs page + n → n < (cell_at rs page).width → (run_slots rs).info p ≡ info_from (cell_at rs page).state.info n
     own p n at l =
-        let back : p - start_of rs page ≡ n = omega arith in
+        let back : p - slot_start rs page ≡ n = omega arith in
         ap (λ (c : Cell). info_from c.state.info c.offset) (cell_of rs page p (omega arith) (omega arith)) ∙ ap (info_from (cell_at rs page).state.info) back
 
-edges_joined : (rs qs : List Run) (page first end : ℕ) → IsExpanded rs qs page → first ≡ start_of rs page
-    → end ≡ start_of rs page + (cell_at rs page).width → slots_of rs ≡ joined (slots_of qs) first end
+edges_joined : (rs qs : List Run) (page first end : ℕ) → IsExpanded rs qs page → first ≡ slot_start rs page
+    → end ≡ slot_start rs page + (cell_at rs page).width → run_slots rs ≡ joined (run_slots qs) first end
 edges_joined rs qs page first end e is ends = same_slots _ _
     (λ p. sym (info_kept rs qs page e p))
     (λ p. sym (owner_kept rs qs page e p))
-    (λ p. by_test (λ x. (slots_of rs).edge p ≡ x) (has (between (first + 1) end) p) _ _
+    (λ p. by_test (λ x. (run_slots rs).edge p ≡ x) (has (between (first + 1) end) p) _ _
     (λ t. let b = has_in (between (first + 1) end) p t in inner p (omega arith) (omega arith))
     (λ t. sym (outer_edge rs qs page e p (away p (has_not (between (first + 1) end) p t)))))
   where
-    inner : (p : ℕ) → start_of rs page < p → p < start_of rs page + (cell_at rs page).width → (slots_of rs).edge p ≡ false
+    inner : (p : ℕ) → slot_start rs page < p → p < slot_start rs page + (cell_at rs page).width → (run_slots rs).edge p ≡ false
     inner p a b = other_test _ _ (λ zero. let o = sym (ap (λ (c : Cell). c.offset) (cell_of rs page p (omega arith) b)) ∙ zero in absurd (omega arith))
 
-    away : (p : ℕ) → (p < first + 1) ⊎ (end ≤ p) → (p < start_of rs page + 1) ⊎ (start_of rs page + (cell_at rs page).width ≤ p)
+    away : (p : ℕ) → (p < first + 1) ⊎ (end ≤ p) → (p < slot_start rs page + 1) ⊎ (slot_start rs page + (cell_at rs page).width ≤ p)
     away p (inl l) = inl (omega arith)
     away p (inr l) = inr (omega arith)
 

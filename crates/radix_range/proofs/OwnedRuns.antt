@@ -12,8 +12,8 @@ use Rattle.radix_node.specs.State.{State}
 use Rattle.radix_node.specs.Run.{Run, Cell, total, cell_at, with_run, in_state, width_of, IsWhole}
 use Rattle.radix_node.specs.Node.{Parts, runs}
 use Rattle.radix_node.proofs.OwnedRuns.{wide_cell, get-total}
-use Rattle.radix_range.specs.Tree.{slots_of, tree_slots, IsRadix}
-use Rattle.radix_range.specs.Cells.{start_of}
+use Rattle.radix_range.specs.Tree.{run_slots, tree_slots, IsRadix}
+use Rattle.radix_range.specs.Cells.{slot_start}
 use Rattle.radix_range.specs.Locking.{HandsSlot, HandsRun}
 use Rattle.radix_range.specs.TreeLaws.{is_slot, cell_of, pages_are}
 use Rattle.radix_range.proofs.Sets.{IsSet, is_set, set_slots}
@@ -21,16 +21,16 @@ use Rattle.radix_range.proofs.Changes.{restated_owner}
 
 -- the slot of these pages had one owner and has another
 pub record Hands (rs ts : List Run) (page end : ℕ) (owners : Handover) : Type 0 where
-  pub slot : (last : ℕ) → end ≤ last → HandsSlot (slots_of rs) (slots_of ts) owners page last end
+  pub slot : (last : ℕ) → end ≤ last → HandsSlot (run_slots rs) (run_slots ts) owners page last end
   pub outside : (p : ℕ) → (p < page) ⊎ (end ≤ p) → cell_at ts p ≡ cell_at rs p
 
 pub hands : (rs ts : List Run) (page w : ℕ) (owners : Handover) → page < total rs → GetsOwner rs ts page w owners
     → Hands rs ts page (page + w) owners
 hands rs ts page w owners l h =
-    let start : start_of rs page ≡ page = omega (arith, h.begins) in
-    let last : start_of rs page + (cell_at rs page).width ≡ page + w = omega (arith, h.begins, h.wide) in
-    let slot = subst (λ a. IsSlot (slots_of rs) a (page + w)) start
-    (subst (λ b. IsSlot (slots_of rs) (start_of rs page) b) last (is_slot rs page)) in
+    let start : slot_start rs page ≡ page = omega (arith, h.begins) in
+    let last : slot_start rs page + (cell_at rs page).width ≡ page + w = omega (arith, h.begins, h.wide) in
+    let slot = subst (λ a. IsSlot (run_slots rs) a (page + w)) start
+    (subst (λ b. IsSlot (run_slots rs) (slot_start rs page) b) last (is_slot rs page)) in
     let new : State = record { info = (cell_at rs page).state.info; owner = owners.to } in
     let set : IsSet rs ts page (page + w) new =
     subst (λ qs. IsSet rs qs page (page + w) new) (sym (h.set ∙ ap (λ s. with_run (in_state s) rs page) h.change.now))
@@ -41,7 +41,7 @@ hands rs ts page w owners l h =
         by_end = le;
         had = λ p a b. ap (λ (c : Cell). c.state.owner) (cell_of rs page p (omega (arith, a)) (omega (arith, b, last))) ∙ h.change.owner;
         now = set_slots rs ts page (page + w) new set
-            ∙ restated_owner (slots_of rs) page (page + w) (cell_at rs page).state owners.to
+            ∙ restated_owner (run_slots rs) page (page + w) (cell_at rs page).state owners.to
             (λ p a b. ap (λ (c : Cell). info_from c.state.info c.offset) (cell_of rs page p (omega (arith, a)) (omega (arith, b, last)))
             ∙ ap (λ n. info_from (cell_at rs page).state.info (p - n)) start);
       };
@@ -64,11 +64,11 @@ fewer page w n = omega arith
 
 one_by_one : (rs ts : List Run) (page w end : ℕ) (owners : Handover) (n : ℕ) → page + n * w ≤ end → end ≤ total rs
     → GetOwner rs ts page w owners n
-    → HandsRun (slots_of rs) (slots_of ts) owners page end (record { slots = n; upto = page + n * w })
-one_by_one rs ts page w end owners zero l most h = (ap slots_of h, omega arith)
+    → HandsRun (run_slots rs) (run_slots ts) owners page end (record { slots = n; upto = page + n * w })
+one_by_one rs ts page w end owners zero l most h = (ap run_slots h, omega arith)
 one_by_one rs ts page w end owners (suc n) l most (ms, before, last) =
     let less = fewer page w n in (
-      slots_of ms,
+      run_slots ms,
       (
         page + n * w,
         one_by_one rs ms page w end owners n (omega (arith, l, less)) most before,
@@ -87,8 +87,8 @@ run_outside rs ts page w owners (suc n) l (ms, before, last) p o =
     (⊎_elim (λ (a : p < page). inl a) (λ (b : page + suc n * w ≤ p). inr (omega (arith, b, less))) o)
 
 pub run_info : (rs ts : List Run) (page w : ℕ) (owners : Handover) (n : ℕ) → page + n * w ≤ total rs → GetOwner rs ts page w owners n
-    → (slots_of ts).info ≡ (slots_of rs).info
-run_info rs ts page w owners zero l h = ap (λ qs. (slots_of qs).info) h
+    → (run_slots ts).info ≡ (run_slots rs).info
+run_info rs ts page w owners zero l h = ap (λ qs. (run_slots qs).info) h
 run_info rs ts page w owners (suc n) l (ms, before, last) =
     let less = fewer page w n in
     ap (λ (s : Slots). s.info) ((last_hands rs ms ts page w owners n l before last).slot (page + suc n * w) (omega arith)).now

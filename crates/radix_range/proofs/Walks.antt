@@ -16,33 +16,33 @@ use Rattle.slot_lock.proofs.Walks.{is_some-from, frame_of-from, is_recorded-from
 use Rattle.radix_node.specs.Run.{Run, cell_at, width_of}
 use Rattle.radix_node.specs.Node.{Parts}
 use Rattle.radix_node.specs.Walk.{OnAll, IsMapped, HasNoFrame, IsFirstFramed, HasUser, Blocked, IsFree, IsOpen, frames_from}
-use Rattle.radix_range.specs.Tree.{slots_of, tree_slots, IsRadix}
+use Rattle.radix_range.specs.Tree.{run_slots, tree_slots, IsRadix}
 use Rattle.radix_range.specs.TreeLaws.{pages_are}
-use Rattle.radix_range.specs.Found.{IsFirstFrame}
+use Rattle.radix_range.specs.Found.{IsFirstFramedPage}
 
 -- the pages that are asked for are the root's
 pub of_root : (v : Parts) → IsRadix v → (end : ℕ) → end ≤ 2 ^ 36 → end ≤ 512 * width_of v.level
 of_root v ok end h = let n = pages_are v ok in omega arith
 
-pub users_are : (rs : List Run) (range : PageRange) (core : ℕ) (b : Bool) → (b ≡ true) ↔ HasUser rs range.first range.end core → (b ≡ true) ↔ IsUser (slots_of rs) range core
+pub users_are : (rs : List Run) (range : PageRange) (core : ℕ) (b : Bool) → (b ≡ true) ↔ HasUser rs range.first range.end core → (b ≡ true) ↔ IsUser (run_slots rs) range core
 users_are rs range core b h = (
   λ is. let w = h.0 is in (w.0, in_has range w.0 w.1 w.2, is_recorded-from (cell_at rs w.0).state.info (cell_at rs w.0).offset core ∙ w.3),
   λ u. let m = has_in range u.0 u.1 in h.1 (u.0, m.0, m.1, sym (is_recorded-from (cell_at rs u.0).state.info (cell_at rs u.0).offset core) ∙ u.2),
 )
 
-pub mapped_are : (rs : List Run) (range : PageRange) → OnAll IsMapped rs range.first range.end ↔ AllMapped (slots_of rs) range
+pub mapped_are : (rs : List Run) (range : PageRange) → OnAll IsMapped rs range.first range.end ↔ AllMapped (run_slots rs) range
 mapped_are rs range = (
   λ all p h. let m = has_in range p h in is_some-from (cell_at rs p).state.info (cell_at rs p).offset ∙ all p m.0 m.1,
   λ all p a b. sym (is_some-from (cell_at rs p).state.info (cell_at rs p).offset) ∙ all p (in_has range p a b),
 )
 
-pub no_frames : (rs : List Run) (first end : ℕ) → OnAll HasNoFrame rs first end → NoFrames (slots_of rs) first end
+pub no_frames : (rs : List Run) (first end : ℕ) → OnAll HasNoFrame rs first end → NoFrames (run_slots rs) first end
 no_frames rs first end h = record { none = λ p a b. frame_of-from (cell_at rs p).state.info (cell_at rs p).offset ∙ h p a b }
 
-pub nowhere : (rs : List Run) (first end : ℕ) → end ≤ first → NoFrames (slots_of rs) first end
+pub nowhere : (rs : List Run) (first end : ℕ) → end ≤ first → NoFrames (run_slots rs) first end
 nowhere rs first end l = record { none = λ p a b. absurd (omega arith) }
 
-pub first_framed : (rs : List Run) (first end page frame : ℕ) → IsFirstFramed rs first end page frame → IsFirstFrame (slots_of rs) first end page frame
+pub first_framed : (rs : List Run) (first end page frame : ℕ) → IsFirstFramed rs first end page frame → IsFirstFramedPage (run_slots rs) first end page frame
 first_framed rs first end page frame h = record {
   low = h.low;
   high = h.high;
@@ -51,36 +51,36 @@ first_framed rs first end page frame h = record {
 }
 
 pub frames_are : (rs : List Run) (first end : ℕ) (old new : List Framed) → AddsFrames (frames_from 0 rs) (0 + first) end old new
-    → AddsFrames (frames_in (slots_of rs)) first end old new
+    → AddsFrames (frames_in (run_slots rs)) first end old new
 frames_are rs first end old new h =
     let at : 0 + first ≡ first = omega arith in
     adds_same _ _ first end old new (λ p a b. same p) (subst (λ n. AddsFrames (frames_from 0 rs) n end old new) at h)
   where
-    same : (p : ℕ) → frames_from 0 rs p ≡ frames_in (slots_of rs) p
+    same : (p : ℕ) → frames_from 0 rs p ≡ frames_in (run_slots rs) p
     same p = let k : p - 0 ≡ p = omega arith in ap (λ n. frame_of (cell_at rs n).state.info) k
         ∙ sym (frame_of-from (cell_at rs p).state.info (cell_at rs p).offset)
 
 clash : (o : Option PageInfo) → is_some o ≡ true → o ≡ None → ⊥
 clash o e f = cc
 
-blocked : (rs : List Run) (range : PageRange) (n r : ℕ) → Blocked rs 0 range.first range.end n r → ¬ IsFreeRun (slots_of rs) range n r
+blocked : (rs : List Run) (range : PageRange) (n r : ℕ) → Blocked rs 0 range.first range.end n r → ¬ IsFreeRun (run_slots rs) range n r
 blocked rs range n r w run =
     clash (info_from (cell_at rs w.0).state.info (cell_at rs w.0).offset) (is_some-from (cell_at rs w.0).state.info (cell_at rs w.0).offset
     ∙ w.5) (run.free w.0 (omega (arith, w.3)) (omega (arith, w.4)))
 
 pub free_run_found : (rs : List Run) (range : PageRange) (n here : ℕ) → IsFree rs 0 range.first range.end n range.first here
-    → IsFreeRun (slots_of rs) range n here
+    → IsFreeRun (run_slots rs) range n here
 free_run_found rs range n here h = record {
   inside = record { low = h.low; high = omega (arith, h.high) };
   free = λ p a b. ap (λ o. info_from o (cell_at rs p).offset) (h.free p (omega (arith, h.low)) (omega (arith, h.high)) (omega arith) (omega arith));
 }
 
 pub free_run_least : (rs : List Run) (range : PageRange) (n here : ℕ) → IsFree rs 0 range.first range.end n range.first here → (r : ℕ)
-    → r < here → ¬ IsFreeRun (slots_of rs) range n r
+    → r < here → ¬ IsFreeRun (run_slots rs) range n r
 free_run_least rs range n here h r l run = blocked rs range n r (h.before r run.inside.low l) run
 
 pub free_run_none : (rs : List Run) (range : PageRange) (n here : ℕ) → IsOpen rs 0 range.first range.end n range.first here → (r : ℕ)
-    → ¬ IsFreeRun (slots_of rs) range n r
+    → ¬ IsFreeRun (run_slots rs) range n r
 free_run_none rs range n here h r run = ⊎_elim
     (λ (l : r < here). blocked rs range n r (h.before r run.inside.low l) run)
     (λ (l : here ≤ r). omega (arith, h.short, run.inside.high))

@@ -96,12 +96,12 @@ abbrev pub run_of : Cell → Run
 run_of c = record { width = c.width; state = c.state }
 
 -- where the slot of a page begins
-abbrev pub start_of : List Run → ℕ → ℕ
-start_of rs page = page - (cell_at rs page).offset
+abbrev pub slot_start : List Run → ℕ → ℕ
+slot_start rs page = page - (cell_at rs page).offset
 
 pub changed_inside : (f : Run → List Run) (rs : List Run) (page n : ℕ) → page < total rs
     → total (f (run_of (cell_at rs page))) ≡ (cell_at rs page).width → n < (cell_at rs page).width
-    → cell_at (with_run f rs page) (start_of rs page + n) ≡ cell_at (f (run_of (cell_at rs page))) n
+    → cell_at (with_run f rs page) (slot_start rs page + n) ≡ cell_at (f (run_of (cell_at rs page))) n
 changed_inside f [] page n h t l = absurd (omega arith)
 changed_inside f (r ∷ rs) page n h t l =
     ⊎_elim (λ (m : page < r.width). here m t l)
@@ -128,7 +128,7 @@ changed_inside f (r ∷ rs) page n h t l =
     there : (page - r.width < total rs
         → total (f (run_of (cell_at rs (page - r.width)))) ≡ (cell_at rs (page - r.width)).width
         → n < (cell_at rs (page - r.width)).width
-        → cell_at (with_run f rs (page - r.width)) (start_of rs (page - r.width) + n) ≡ cell_at
+        → cell_at (with_run f rs (page - r.width)) (slot_start rs (page - r.width) + n) ≡ cell_at
         (f (run_of (cell_at rs (page - r.width)))) n)
         → r.width ≤ page
         → total (f (run_of (cell_at (r ∷ rs) page))) ≡ (cell_at (r ∷ rs) page).width
@@ -150,7 +150,7 @@ changed_inside f (r ∷ rs) page n h t l =
 
 pub changed_outside : (f : Run → List Run) (rs : List Run) (page p : ℕ) → page < total rs
     → total (f (run_of (cell_at rs page))) ≡ (cell_at rs page).width
-    → (p < start_of rs page) ⊎ (start_of rs page + (cell_at rs page).width ≤ p)
+    → (p < slot_start rs page) ⊎ (slot_start rs page + (cell_at rs page).width ≤ p)
     → cell_at (with_run f rs page) p ≡ cell_at rs p
 changed_outside f [] page p h t o = absurd (omega arith)
 changed_outside f (r ∷ rs) page p h t o =
@@ -177,8 +177,8 @@ changed_outside f (r ∷ rs) page p h t o =
 
     there : (page - r.width < total rs
         → total (f (run_of (cell_at rs (page - r.width)))) ≡ (cell_at rs (page - r.width)).width
-        → (p - r.width < start_of rs (page - r.width))
-        ⊎ (start_of rs (page - r.width) + (cell_at rs (page - r.width)).width ≤ p - r.width)
+        → (p - r.width < slot_start rs (page - r.width))
+        ⊎ (slot_start rs (page - r.width) + (cell_at rs (page - r.width)).width ≤ p - r.width)
         → cell_at (with_run f rs (page - r.width)) (p - r.width) ≡ cell_at rs (p - r.width))
         → r.width ≤ page
         → total (f (run_of (cell_at (r ∷ rs) page))) ≡ (cell_at (r ∷ rs) page).width
@@ -198,7 +198,7 @@ changed_outside f (r ∷ rs) page p h t o =
         (cases_lt p r.width)
       where
         beyond : r.width ≤ page → r.width ≤ p → Out (cell_at rs (page - r.width))
-            → (p - r.width < start_of rs (page - r.width))
-            ⊎ (start_of rs (page - r.width) + (cell_at rs (page - r.width)).width ≤ p - r.width)
+            → (p - r.width < slot_start rs (page - r.width))
+            ⊎ (slot_start rs (page - r.width) + (cell_at rs (page - r.width)).width ≤ p - r.width)
         beyond m b (inl a) = inl (omega arith)
         beyond m b (inr a) = let c = cell_in rs (page - r.width) in inr (omega (arith, c.low))

@@ -10,7 +10,7 @@ use Rattle.radix_node.specs.State.{State}
 use Rattle.radix_node.specs.Run.{IsSound}
 
 -- the pages from first up to end are one slot in this state, which has the page
-pub record IsFound (s : Slots) (page first end : ℕ) (state : State) : Type 0 where
+pub record IsSlotOf (s : Slots) (page first end : ℕ) (state : State) : Type 0 where
   pub slot : IsSlot s first end
   pub low : first ≤ page
   pub high : page < end
@@ -35,7 +35,7 @@ edited_to s range edit =
     record s { info = across s.info (has range) (λ p. edited_info edit (p - range.first) (s.info p)) }
 
 -- the page is the first from a page on with a frame
-pub record IsFirstFrame (s : Slots) (from end page frame : ℕ) : Type 0 where
+pub record IsFirstFramedPage (s : Slots) (from end page frame : ℕ) : Type 0 where
   pub low : from ≤ page
   pub high : page < end
   pub before : NoFrames s from page

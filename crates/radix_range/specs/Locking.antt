@@ -17,11 +17,11 @@ pub record GoesPast (s : Slots) (cursor end : ℕ) : Type 0 where
 
 -- what a core's attempt to lock the cursor's slot comes to, which has to begin there and to end by
 -- `end`
-abbrev pub Tries : Slots → Slots → ℕ → ℕ → ℕ → Lock → Type 0
-Tries s t core cursor end (Held by) = (s.owner cursor ≡ Some by) × (t ≡ s)
-Tries s t core cursor end Before = (s.owner cursor ≡ None) × (s.edge cursor ≡ false) × (t ≡ s)
-Tries s t core cursor end Beyond = GoesPast s cursor end × (t ≡ s)
-Tries s t core cursor end (Locked width) = Locks s t core cursor end (cursor + width)
+abbrev pub TriesLock : Slots → Slots → ℕ → ℕ → ℕ → Lock → Type 0
+TriesLock s t core cursor end (Held by) = (s.owner cursor ≡ Some by) × (t ≡ s)
+TriesLock s t core cursor end Before = (s.owner cursor ≡ None) × (s.edge cursor ≡ false) × (t ≡ s)
+TriesLock s t core cursor end Beyond = GoesPast s cursor end × (t ≡ s)
+TriesLock s t core cursor end (Locked width) = Locks s t core cursor end (cursor + width)
 
 -- the slot from the cursor up to b had the one owner, and has the other now
 pub record HandsSlot (s t : Slots) (owners : Handover) (cursor end b : ℕ) : Type 0 where

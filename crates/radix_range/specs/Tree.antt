@@ -7,8 +7,8 @@ use Rattle.radix_node.specs.State.{no_state}
 use Rattle.radix_node.specs.Run.{Run, cell_at, width_of, IsWhole}
 use Rattle.radix_node.specs.Node.{Parts, runs}
 
-abbrev pub slots_of : List Run → Slots
-slots_of rs = record {
+abbrev pub run_slots : List Run → Slots
+run_slots rs = record {
   info = λ p. info_from (cell_at rs p).state.info (cell_at rs p).offset;
   owner = λ p. (cell_at rs p).state.owner;
   edge = λ p. (cell_at rs p).offset == 0;
@@ -16,7 +16,7 @@ slots_of rs = record {
 
 -- what the tree below a root says
 abbrev pub tree_slots : Parts → Slots
-tree_slots v = slots_of (runs v)
+tree_slots v = run_slots (runs v)
 
 -- where the slots of a root begin that has no child: each has 2^27 pages, and above them each number
 -- stands alone

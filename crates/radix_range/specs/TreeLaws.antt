@@ -14,9 +14,9 @@ use Rattle.radix_node.specs.State.{State, no_state}
 use Rattle.radix_node.specs.Run.{Run, Cell, cell_at, width_of, level_of, IsCell, IsSound}
 use Rattle.radix_node.specs.Node.{Parts, runs}
 use Rattle.radix_node.proofs.Runs.{moved, cell_later, cell_at-past}
-use Rattle.radix_range.specs.Tree.{slots_of, tree_slots, IsRadix}
-use Rattle.radix_range.specs.Found.{IsFound}
-use Rattle.radix_range.specs.Cells.{cell_in, cell_earlier, cell_after, start_of}
+use Rattle.radix_range.specs.Tree.{run_slots, tree_slots, IsRadix}
+use Rattle.radix_range.specs.Found.{IsSlotOf}
+use Rattle.radix_range.specs.Cells.{cell_in, cell_earlier, cell_after, slot_start}
 
 -- ---- sizes
 
@@ -36,24 +36,24 @@ edge_zero : (c : Cell) → c.offset ≡ 0 → (c.offset == 0) ≡ true
 edge_zero c h = same_test _ _ h
 
 pub is_slot : (rs : List Run) (page : ℕ)
-    → IsSlot (slots_of rs) (start_of rs page) (start_of rs page + (cell_at rs page).width)
+    → IsSlot (run_slots rs) (slot_start rs page) (slot_start rs page + (cell_at rs page).width)
 is_slot rs page =
     let c = cell_in rs page in
     let first = cell_earlier rs page (cell_at rs page).offset (omega arith) in
-    let zero : (cell_at rs (start_of rs page)).offset ≡ 0 =
+    let zero : (cell_at rs (slot_start rs page)).offset ≡ 0 =
     ap (λ (c : Cell). c.offset) first ∙ none (cell_at rs page).offset in
-    let wide : (cell_at rs (start_of rs page)).width ≡ (cell_at rs page).width =
+    let wide : (cell_at rs (slot_start rs page)).width ≡ (cell_at rs page).width =
     ap (λ (c : Cell). c.width) first in
     record {
       ordered = omega (arith, c.high);
       begins = same_test _ _ zero;
       ends = same_test _ _ (cell_after rs page);
       inside = λ p a b.
-          let n : start_of rs page + (p - start_of rs page) ≡ p = omega arith in
+          let n : slot_start rs page + (p - slot_start rs page) ≡ p = omega arith in
           let later =
-          cell_later rs (start_of rs page) (p - start_of rs page) (omega (arith, zero, wide)) in
+          cell_later rs (slot_start rs page) (p - slot_start rs page) (omega (arith, zero, wide)) in
           let is : (cell_at rs p).offset
-          ≡ (cell_at rs (start_of rs page)).offset + (p - start_of rs page) =
+          ≡ (cell_at rs (slot_start rs page)).offset + (p - slot_start rs page) =
           ap (λ m. (cell_at rs m).offset) (sym n) ∙ ap (λ (c : Cell). c.offset) later in
           other_test _ _ (omega (arith, zero));
     }
@@ -62,23 +62,23 @@ is_slot rs page =
     none n = omega arith
 
 -- a page of the slot
-pub cell_of : (rs : List Run) (page p : ℕ) → start_of rs page ≤ p
-    → p < start_of rs page + (cell_at rs page).width
-    → cell_at rs p ≡ moved (cell_at rs page) (p - start_of rs page)
+pub cell_of : (rs : List Run) (page p : ℕ) → slot_start rs page ≤ p
+    → p < slot_start rs page + (cell_at rs page).width
+    → cell_at rs p ≡ moved (cell_at rs page) (p - slot_start rs page)
 cell_of rs page p a b =
     let c = cell_in rs page in
     let first = cell_earlier rs page (cell_at rs page).offset (omega arith) in
-    let n : start_of rs page + (p - start_of rs page) ≡ p = omega arith in
-    let zero : (cell_at rs (start_of rs page)).offset ≡ 0 =
+    let n : slot_start rs page + (p - slot_start rs page) ≡ p = omega arith in
+    let zero : (cell_at rs (slot_start rs page)).offset ≡ 0 =
     ap (λ (c : Cell). c.offset) first ∙ none (cell_at rs page).offset in
-    let wide : (cell_at rs (start_of rs page)).width ≡ (cell_at rs page).width =
+    let wide : (cell_at rs (slot_start rs page)).width ≡ (cell_at rs page).width =
     ap (λ (c : Cell). c.width) first in
     let later =
-    cell_later rs (start_of rs page) (p - start_of rs page) (omega (arith, zero, wide)) in
-    let sum : (cell_at rs (start_of rs page)).offset + (p - start_of rs page) ≡ p - start_of rs page =
+    cell_later rs (slot_start rs page) (p - slot_start rs page) (omega (arith, zero, wide)) in
+    let sum : (cell_at rs (slot_start rs page)).offset + (p - slot_start rs page) ≡ p - slot_start rs page =
     omega (arith, zero) in
     ap (cell_at rs) (sym n) ∙ later
-    ∙ ap (λ (c : Cell). moved c ((cell_at rs (start_of rs page)).offset + (p - start_of rs page)))
+    ∙ ap (λ (c : Cell). moved c ((cell_at rs (slot_start rs page)).offset + (p - slot_start rs page)))
     first
     ∙ ap (moved (cell_at rs page)) sum
   where
@@ -86,12 +86,12 @@ cell_of rs page p a b =
     none n = omega arith
 
 pub is_found : (v : Parts) → IsRadix v → (page : ℕ) → page < 2 ^ 36
-    → IsFound (tree_slots v) page (start_of (runs v) page)
-    (start_of (runs v) page + (cell_at (runs v) page).width) (cell_at (runs v) page).state
+    → IsSlotOf (tree_slots v) page (slot_start (runs v) page)
+    (slot_start (runs v) page + (cell_at (runs v) page).width) (cell_at (runs v) page).state
 is_found v ok page h =
     let rs = runs v in
     let c = cell_in rs page in
-    let n : start_of rs page + (cell_at rs page).width - start_of rs page ≡ (cell_at rs page).width =
+    let n : slot_start rs page + (cell_at rs page).width - slot_start rs page ≡ (cell_at rs page).width =
     omega arith in
     record {
       slot = is_slot rs page;
@@ -105,7 +105,7 @@ is_found v ok page h =
 -- ---- the laws
 
 -- the page before one that begins no slot is in the same slot
-before_is : (rs : List Run) (p : ℕ) → (slots_of rs).edge (p + 1) ≡ false
+before_is : (rs : List Run) (p : ℕ) → (run_slots rs).edge (p + 1) ≡ false
     → cell_at rs p ≡ moved (cell_at rs (p + 1)) ((cell_at rs (p + 1)).offset - 1)
 before_is rs p h =
     let o = from_other_test _ _ h in

@@ -1,6 +1,6 @@
 //! Changes of a tree's slots.
 ghost use Rattle.std.specs.Prelude.{◌≡◌, ℕ, ◌+◌, ◌-◌, ◌^◌, ◌<◌, ◌≤◌, ◌↔◌, OnOk, OnErr, IsTrue, true};
-ghost use Rattle.std.specs.Prelude.{false, Option, Some};
+ghost use Rattle.std.specs.Prelude.{false, Option, Some, None};
 ghost use Rattle.vm_base.specs.Pages.{IsPage, IsPageRange};
 ghost use Rattle.vm_base.specs.Info.{info_without_frame};
 ghost use Rattle.slot_lock.specs.Plan.{IsSoundChange, range_of};
@@ -11,7 +11,7 @@ ghost use Rattle.radix_node.specs.Edit.{CanEdit};
 ghost use Rattle.radix_range.specs.Tree.{IsRadix, tree_slots};
 ghost use Rattle.radix_range.specs.Folds.{CanFold, FoldsNode};
 ghost use Rattle.radix_range.specs.Found.{in_512, edited_to};
-ghost use Rattle.radix_range.specs.Locking.{Tries, HandsRun};
+ghost use Rattle.radix_range.specs.Locking.{TriesLock, HandsRun};
 
 use radix_node::place::slot_pages;
 use radix_node::{Edit, Handover, Lock, Node};
@@ -41,7 +41,7 @@ pub fn lock<A: Allocator>(root: &mut Node<A>, core: CoreId, cursor: u64, end: u6
     requires ordered { cursor < end }
     requires valid { (1 ≤ cursor) × (end ≤ 2 ^ 35) }
     ensures tree { IsRadix root.new }
-    ensures tries { Tries (tree_slots root.old) (tree_slots root.new) core cursor end result }
+    ensures tries { TriesLock (tree_slots root.old) (tree_slots root.new) core cursor end result }
 {
     root.lock_at(cursor, end - cursor, core)
 }
@@ -71,8 +71,8 @@ pub fn own_run<A: Allocator>(
     }
 }
 
-/// Gives the slot that begins at the page another owner, and answers its end.
-pub fn set_owner<A: Allocator>(root: &mut Node<A>, page: u64, owner: Option<CoreId>) -> u64
+/// Unlocks the slot that begins at the page, and answers its end.
+pub fn unlock<A: Allocator>(root: &mut Node<A>, page: u64) -> u64
     requires tree { IsRadix root.old }
     requires page { IsPage page }
     requires begins { (tree_slots root.old).edge page ≡ true }
@@ -80,9 +80,9 @@ pub fn set_owner<A: Allocator>(root: &mut Node<A>, page: u64, owner: Option<Core
     ensures slot { IsSlot (tree_slots root.old) page result }
     ensures one_owner { (p : ℕ) → page ≤ p → p < result
         → (tree_slots root.old).owner p ≡ (tree_slots root.old).owner page }
-    ensures slots { tree_slots root.new ≡ with_owner (tree_slots root.old) page result owner }
+    ensures slots { tree_slots root.new ≡ with_owner (tree_slots root.old) page result None }
 {
-    let level = root.own_at(page, owner);
+    let level = root.own_at(page, None);
     page + slot_pages(level)
 }
 

@@ -3,7 +3,7 @@ ghost use Rattle.std.specs.Prelude.{◌≡◌, ℕ, ◌⊎◌, true, false};
 ghost use Rattle.vm_base.specs.Functions.{has};
 ghost use Rattle.slot_lock.specs.Slots.{Slots};
 ghost use Rattle.slot_lock.specs.Changes.{changed};
-ghost use Rattle.radix_range.specs.Mapped.{IsFull};
+ghost use Rattle.radix_range.specs.Mapped.{IsMappedRun};
 
 use slot_lock::Change;
 use vm_base::PageRange;
@@ -11,7 +11,7 @@ use vm_base::PageRange;
 /// What is known after a change of pages.
 #[inline(always)]
 pub fn with_change(full: PageRange, change: Change) -> PageRange
-    ensures { (s : Slots) → IsFull s full → IsFull (changed s change) result }
+    ensures { (s : Slots) → IsMappedRun s full → IsMappedRun (changed s change) result }
 {
     match change {
         Change::Put { range, .. } => with_range(full, range),

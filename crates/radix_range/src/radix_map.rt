@@ -1,7 +1,7 @@
 //! The second slot map: a radix tree.
 ghost use Rattle.std.specs.Prelude.{◌≡◌, ◌≢◌, ℕ, ◌+◌, ◌-◌, ◌^◌, ◌<◌, ◌≤◌, IfOk, OnErr, Option, Some};
 ghost use Rattle.std.specs.Prelude.{Bool};
-ghost use Rattle.radix_range.specs.Mapped.{IsFull};
+ghost use Rattle.radix_range.specs.Mapped.{IsMappedRun};
 ghost use Rattle.radix_range.specs.Tree.{IsRadix, tree_slots};
 
 use crate::slot::slot_at;
@@ -24,7 +24,7 @@ pub struct RadixMap<A: Allocator> {
     // pages that are all mapped, among which no room is looked for
     full: PageRange,
     ghost ok: { IsRadix root },
-    ghost all_full: { IsFull (tree_slots root) full },
+    ghost all_full: { IsMappedRun (tree_slots root) full },
 }
 
 impl<A: Allocator + Clone> RadixMap<A> {
@@ -137,7 +137,7 @@ impl<A: Allocator + Clone> SlotMap for RadixMap<A> {
     }
 
     fn unlock_next(&mut self, core: CoreId, cursor: u64, end: u64) -> u64 {
-        change::set_owner(&mut self.root, cursor, None)
+        change::unlock(&mut self.root, cursor)
     }
 
     fn lock_run(&mut self, core: CoreId, cursor: u64, end: u64, most: u64) -> SlotRun {

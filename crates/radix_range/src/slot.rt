@@ -2,7 +2,7 @@
 ghost use Rattle.std.specs.Prelude.{◌≡◌, ◌<◌, ◌^◌};
 ghost use Rattle.radix_node.specs.State.{state_of};
 ghost use Rattle.radix_range.specs.Tree.{IsRadix, tree_slots};
-ghost use Rattle.radix_range.specs.Found.{IsFound};
+ghost use Rattle.radix_range.specs.Found.{IsSlotOf};
 
 use radix_node::{Node, SlotState};
 use std::alloc::Allocator;
@@ -22,7 +22,7 @@ pub struct SlotRef<'a> {
 pub fn slot_at<A: Allocator>(root: &Node<A>, page: u64) -> SlotRef<'_>
     requires tree { IsRadix root.now }
     requires page { page < 2 ^ 36 }
-    ensures { IsFound (tree_slots root.now) page result.first result.end (state_of result.state.now) }
+    ensures { IsSlotOf (tree_slots root.now) page result.first result.end (state_of result.state.now) }
 {
     let found = root.descend(page);
     let first = page - found.offset;

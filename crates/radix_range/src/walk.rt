@@ -7,8 +7,8 @@ ghost use Rattle.arrayvec.specs.ArrayVec.{array_vec_len};
 ghost use Rattle.slot_lock.specs.Framed.{AddsFrames, frames_in};
 ghost use Rattle.slot_lock.specs.Slots.{IsFreeRun, IsUser, AllMapped, NoFrames};
 ghost use Rattle.radix_range.specs.Tree.{IsRadix, tree_slots};
-ghost use Rattle.radix_range.specs.Found.{IsFirstFrame};
-ghost use Rattle.radix_range.specs.Mapped.{IsFull};
+ghost use Rattle.radix_range.specs.Found.{IsFirstFramedPage};
+ghost use Rattle.radix_range.specs.Mapped.{IsMappedRun};
 
 use radix_node::{FreeRun, Node};
 use slot_lock::FramedPages;
@@ -43,7 +43,7 @@ pub fn first_free_run<A: Allocator>(
 ) -> Option<u64>
     requires some { 1 ≤ n }
     requires tree { IsRadix root.now }
-    requires full { IsFull (tree_slots root.now) full }
+    requires full { IsMappedRun (tree_slots root.now) full }
     requires range { IsPageRange range }
     ensures found { IfSome result (IsFreeRun (tree_slots root.now) range n) }
     ensures least { IfSome result (λ s. (r : ℕ) → r < s → ¬ IsFreeRun (tree_slots root.now) range n r) }
@@ -93,7 +93,7 @@ pub fn first_frame<A: Allocator>(root: &Node<A>, from: u64, end: u64) -> Option<
     requires tree { IsRadix root.now }
     requires end { end ≤ 2 ^ 35 }
     ensures some { IfSome result (λ taken.
-        IsFirstFrame (tree_slots root.now) from end taken.0 taken.1) }
+        IsFirstFramedPage (tree_slots root.now) from end taken.0 taken.1) }
     ensures none { IfNone result (NoFrames (tree_slots root.now) from end) }
 {
     if from >= end {

@@ -7,15 +7,15 @@ use Rattle.radix_range.proofs.Mapped.{same_info}
 use Rattle.slot_lock.specs.Slots.{Slots}
 use Rattle.radix_range.proofs.radix_map.RadixMapSlotMap.unlock_next.Goals as goal
 
-pub set_owner-requires-clause-page : goal.set_owner-requires-clause-page
-set_owner-requires-clause-page g c = held_page (tree_slots c.args.self.now.root) (tree-is_slot_map c.args.self.now.root c.args.self.now.ok)
+pub unlock-requires-clause-page : goal.unlock-requires-clause-page
+unlock-requires-clause-page g c = held_page (tree_slots c.args.self.now.root) (tree-is_slot_map c.args.self.now.root c.args.self.now.ok)
     c.args.cursor c.args.core c.requires.held
 
 pub returns : goal.returns
 returns g c =
-    let e = c.set_owner.ensures in
+    let e = c.unlock.ensures in
     let by = c.requires.slot in
-    let most = slot_by_edge (tree_slots c.args.self.now.root) c.args.cursor c.set_owner.result by.0 e.slot by.1.ends by.1.ordered in
+    let most = slot_by_edge (tree_slots c.args.self.now.root) c.args.cursor c.unlock.result by.0 e.slot by.1.ends by.1.ordered in
     record {
       slot = e.slot;
       by_end = omega (arith, by.2);
@@ -25,5 +25,5 @@ returns g c =
 
 pub invariant_of-self-clause-all_full : goal.invariant_of-self-clause-all_full
 invariant_of-self-clause-all_full g c =
-    same_info (tree_slots c.args.self.now.root) (tree_slots c.set_owner.new.root) c.args.self.now.full c.args.self.now.all_full
-    (ap (λ (s : Slots). s.info) c.set_owner.ensures.slots)
+    same_info (tree_slots c.args.self.now.root) (tree_slots c.unlock.new.root) c.args.self.now.full c.args.self.now.all_full
+    (ap (λ (s : Slots). s.info) c.unlock.ensures.slots)

@@ -1,12 +1,12 @@
-use Rattle.std.proofs.Common.{◌≡◌, ◌+◌, sym, ap, ◌∙◌, arith}
+use Rattle.std.proofs.Common.{◌≡◌, ◌+◌, None, sym, ap, ◌∙◌, arith}
 use Rattle.radix_range.proofs.Locking.{found_here, owned_radix, owned_slots}
-use Rattle.radix_range.proofs.change.set_owner.Goals as goal
+use Rattle.radix_range.proofs.change.unlock.Goals as goal
 
 pub returns-clause-tree : goal.returns-clause-tree
 returns-clause-tree g c =
     let h = found_here c.args.root.now c.requires.tree c.args.page _ c.requires.page.1 c.requires.begins
     (ap (λ n. c.args.page + n) (sym (c.slot_pages.ensures ∙ c.own_at-level.ensures.width))) in
-    owned_radix c.args.root.now c.own_at-level.new.self c.requires.tree c.args.page _ c.args.owner c.requires.page.0 c.requires.page.1 h
+    owned_radix c.args.root.now c.own_at-level.new.self c.requires.tree c.args.page _ None c.requires.page.0 c.requires.page.1 h
     c.own_at-level.ensures.set c.own_at-level.ensures.level c.own_at-level.ensures.whole
 
 pub returns-clause-slot : goal.returns-clause-slot
@@ -18,7 +18,7 @@ pub returns-clause-slots : goal.returns-clause-slots
 returns-clause-slots g c =
     let h = found_here c.args.root.now c.requires.tree c.args.page _ c.requires.page.1 c.requires.begins
     (ap (λ n. c.args.page + n) (sym (c.slot_pages.ensures ∙ c.own_at-level.ensures.width))) in
-    owned_slots c.args.root.now c.own_at-level.new.self c.requires.tree c.args.page _ c.args.owner c.requires.page.1 h c.own_at-level.ensures.set
+    owned_slots c.args.root.now c.own_at-level.new.self c.requires.tree c.args.page _ None c.requires.page.1 h c.own_at-level.ensures.set
 
 pub returns-clause-one_owner : goal.returns-clause-one_owner
 returns-clause-one_owner g c = λ p a b.
