@@ -1,23 +1,6 @@
-pub mod Lists
-pub mod Each
-pub mod Rows
-pub mod Lost
-pub mod Opened
+-- what is known of a machine and of runs; lemmas of a room are named in its file beside this one
 pub mod Setups
-pub mod Sounding
-pub mod Known
-pub mod Placing
-pub mod Changing
-pub mod Framing
-pub mod Calling
 pub mod Reached
 pub mod Keeping
 pub mod Runs
 pub mod MapLines
-pub mod AtOnce
-pub mod SlotRuns
-pub mod FirstEvents
-pub mod ChangeAtOnce
-pub mod OnePage
-pub mod FaultAtOnce
-pub mod Divided

@@ -15,8 +15,8 @@ use Rattle.machine_sound.specs.Sound.{IsReached}
 use Rattle.core_steps.specs.Dividing.{StepsAsMap}
 use Rattle.core_steps.specs.Finishing.{Calls, CallsAsMap, finish_limit}
 use Rattle.core_steps.specs.declared.machine.Finished.TheVariants.{Last}
-use Rattle.core_steps.specs.declared.starting.Started.{Started}
-use Rattle.core_steps.specs.declared.starting.Started.TheVariants.{Begun, Ended}
+use Rattle.core_steps.specs.declared.at_once.starting.Started.{Started}
+use Rattle.core_steps.specs.declared.at_once.starting.Started.TheVariants.{Begun, Ended}
 
 -- how far a call has come that was begun with its first steps
 abbrev pub Starts : World → ℕ → Request → Started → World → Type 0

@@ -1,7 +1,7 @@
 -- A fault whose page is a slot of its own that nobody holds: what it finds there, where the page's
 -- frame comes from, and what is left, there and after a change of such a page
 use Rattle.std.specs.Prelude.{◌≡◌, ℕ, ◌+◌, ◌<◌, ◌≤◌, ◌^◌, [], ◌∷◌, ◌++◌, Bool, true, false}
-use Rattle.std.specs.Prelude.{Some, pos, ◌<ℤ◌, Result, Ok, Err}
+use Rattle.std.specs.Prelude.{Option, Some, pos, ◌<ℤ◌, Result, Ok, Err}
 use Rattle.vm_base.specs.declared.info.Back.{Back}
 use Rattle.vm_base.specs.declared.info.Back.TheVariants.{Anon}
 use Rattle.vm_base.specs.declared.info.PageInfo.{PageInfo}
@@ -28,9 +28,8 @@ use Rattle.machine_model.specs.Translating.{entry_of_page, with_table}
 use Rattle.machine_model.specs.World.{Memory, World}
 use Rattle.machine_sound.specs.Sound.{IsReached}
 use Rattle.core_steps.specs.Moving.{tried_to}
-use Rattle.core_steps.specs.declared.fault_at_once.FaultEnd.{FaultEnd}
-use Rattle.core_steps.specs.declared.fault_at_once.Source.{Source}
-use Rattle.core_steps.specs.declared.fault_at_once.Source.TheVariants.{Own, Cached, Free}
+use Rattle.core_steps.specs.declared.at_once.fault.Source.{Source}
+use Rattle.core_steps.specs.declared.at_once.fault.Source.TheVariants.{Own, Cached, Free}
 
 -- the core's call is to lock the page of its access, which is a slot of its own that nobody holds,
 -- and all events of the fault can be counted
@@ -53,11 +52,11 @@ frame_from (Own f) = f
 frame_from (Cached f) = f
 frame_from (Free f) = f
 
--- how many steps there are from the lock of the page up to the next try
+-- in how many steps the page gets it
 abbrev pub steps_from : Source → ℕ
-steps_from (Own f) = 4
-steps_from (Cached f) = 5
-steps_from (Free f) = 6
+steps_from (Own f) = 0
+steps_from (Cached f) = 1
+steps_from (Free f) = 2
 
 -- the state in which the core's call is to lock the page of its access
 abbrev pub at_lock : ℕ → Touch → World → World
@@ -123,6 +122,10 @@ pub record Passes (w : World) (core : ℕ) (from : Phase) (n : ℕ) (upto : Phas
   pub events : v.calls.events ≡ w.calls.events + n
   pub edges : v.slots.edge ≡ w.slots.edge
 
+-- so many events more are counted
+abbrev pub later : ℕ → World → World
+later n w = record w { calls = record w.calls { events = w.calls.events + n } }
+
 -- the core's call has this reply, which was logged at the event so many later, and at the next one
 -- the call let its page go: but for the core's phase,
 abbrev pub logged_later : ℕ → Reply → ℕ → World → World
@@ -138,6 +141,7 @@ abbrev pub replied : ℕ → Reply → ℕ → World → World
 replied core reply n w = to core (Answer reply) (logged_later core reply n w)
 
 -- the steps of the fault lead there from the lock of its page
-pub record Makes (w : World) (core : ℕ) (touch : Touch) (end : FaultEnd) (v : World) : Type 0 where
-  pub few : end.steps ≤ 7
-  pub passes : Passes w core (locking (To.Access touch)) end.steps (tried_to touch end.reply) v
+pub record Makes (w : World) (core : ℕ) (touch : Touch) (reply : Option Reply) (v : World) : Type 0 where
+  pub steps : ℕ
+  pub few : steps ≤ 7
+  pub passes : Passes w core (locking (To.Access touch)) steps (tried_to touch reply) v

@@ -1,6 +1,6 @@
 -- What the cores of a machine have
 use Rattle.mmu.specs.declared.cpu.Hardware.{Ghosts}
-use Rattle.core_steps.specs.declared.cores.Cores.{Cores}
+use Rattle.core_steps.specs.declared.engine.cores.Cores.{Cores}
 use Rattle.core_steps.specs.Cores.{CoreParts, parts_of}
 
 module _ {H A : Type 0} {cpu : Ghosts H} where

@@ -8,7 +8,7 @@ use Rattle.refcache.specs.Parts.{counts_of}
 use Rattle.machine_model.specs.declared.phase.Phase.{Phase}
 use Rattle.machine_model.specs.declared.phase.Phase.TheVariants.{Free}
 use Rattle.machine_model.specs.World.{World, Hardware, Calls}
-use Rattle.core_steps.specs.declared.calls.CallTable.{CallTable}
+use Rattle.core_steps.specs.declared.engine.calls.CallTable.{CallTable}
 use Rattle.core_steps.specs.declared.engine.Engine.{Engine}
 use Rattle.core_steps.specs.declared.ledger.Ledger.{Ghosts as LedgerGhosts}
 use Rattle.core_steps.specs.Parts.{parts}

@@ -1,43 +1,29 @@
 //! The machine: one address space, which its cores' events move step by step as the
 //! abstract machine says.
+//!
+//! Its face stands here: `machine`, `running` and `run_result`, `setup`, and what is said of steps in
+//! `laws`. Behind it are five rooms, each over those below it:
+//!
+//! - `at_once`: a call's steps one after another;
+//! - `events`: one event, and what an event does that is no step of a call;
+//! - `rows`: the steps of a call, each once;
+//! - `engine`: the machine's parts, and what each of them has;
+//! - `ledger`: what becomes of requests and of the log's entries.
 #![tactic(auto)]
 
-mod access;
-mod access_at_once;
-mod acquire;
-mod answer;
-mod call_table;
-mod calls;
-mod change_at_once;
-mod check;
-mod commit;
-mod copy;
-mod core_events;
-mod cores;
-mod counting;
-mod decide;
+mod at_once;
 mod engine;
 mod events;
-mod fault;
-mod fault_at_once;
-mod file_pages;
-mod filling;
-pub mod forgotten;
-mod give_up;
-pub mod kept;
 pub mod laws;
 pub mod ledger;
 pub mod machine;
-mod next_changes;
-mod place;
+mod rows;
 pub mod run_result;
 pub mod running;
 pub mod setup;
-mod starting;
-mod steps_at_once;
 
-pub use forgotten::Forgotten;
-pub use kept::Kept;
+pub use ledger::forgotten::Forgotten;
+pub use ledger::kept::Kept;
 pub use ledger::{Ledger, Opening};
 pub use machine::{Finished, Machine};
 pub use run_result::{Run, RunFault};

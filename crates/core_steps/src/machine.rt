@@ -2,11 +2,11 @@
 ghost use Rattle.machine_sound.specs.Sound.{IsReached};
 ghost use Rattle.core_steps.specs.State.{world};
 
+use crate::at_once::starting::Started;
 use crate::engine::Engine;
-use crate::kept::Kept;
+use crate::ledger::kept::Kept;
 use crate::ledger::{Ledger, Opening};
 use crate::setup::{CallLimit, Setup, SetupFault};
-use crate::starting::Started;
 use machine_model::{Event, Outcome, Phase};
 use map_list::{MapLine, all_lines, next_line};
 use mmu::{Cpu, Hardware};

@@ -1,6 +1,6 @@
 use Rattle.std.proofs.Common.{sym, ◌∙◌}
 use Rattle.core_steps.specs.State.{world}
-use Rattle.core_steps.proofs.Framing.{copy_awaits, copy_not_due}
+use Rattle.core_steps.proofs.rows.Framing.{copy_awaits, copy_not_due}
 use Rattle.core_steps.proofs.engine.Engine.awaits_copy.Goals as goal
 
 pub returns-then-not-is_copy_due : goal.returns-then-not-is_copy_due

@@ -1,7 +1,7 @@
 use Rattle.std.proofs.Common.{inl, refl}
 use Rattle.machine_model.specs.declared.event.Event.TheVariants.{Call}
 use Rattle.core_steps.specs.State.{world}
-use Rattle.core_steps.proofs.AtOnce.{not_begun}
+use Rattle.core_steps.proofs.at_once.AtOnce.{not_begun}
 use Rattle.core_steps.proofs.Reached.{fine, kept_by}
 use Rattle.core_steps.proofs.engine.Engine.begin.Goals as goal
 

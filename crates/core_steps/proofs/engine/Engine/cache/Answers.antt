@@ -2,8 +2,8 @@ use Rattle.std.proofs.Common.{refl, ap, ◌∙◌}
 use Rattle.machine_model.specs.declared.phase.Phase.TheVariants.{Install}
 use Rattle.machine_model.specs.Actions.{to}
 use Rattle.core_steps.specs.State.{world}
-use Rattle.core_steps.proofs.Framing.{cached_anew, cached_below, fill_alone, fill_within, filled_bytes}
-use Rattle.core_steps.proofs.Known.{frame_counted, taken_below, taken_unused}
+use Rattle.core_steps.proofs.rows.Framing.{cached_anew, cached_below, fill_alone, fill_within, filled_bytes}
+use Rattle.core_steps.proofs.rows.Known.{frame_counted, taken_below, taken_unused}
 use Rattle.core_steps.proofs.engine.Engine.cache.Goals as goal
 
 pub fill-requires-clause-page : goal.fill-requires-clause-page

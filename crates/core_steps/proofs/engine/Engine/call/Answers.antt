@@ -2,7 +2,7 @@ use Rattle.std.proofs.Common.{◌≡◌, sym, ap, ◌∙◌, rules}
 use Rattle.machine_model.specs.declared.phase.Phase.TheVariants.{Check, Free}
 use Rattle.machine_model.specs.Actions.{to}
 use Rattle.core_steps.specs.State.{phase_at}
-use Rattle.core_steps.proofs.Calling.{begun}
+use Rattle.core_steps.proofs.events.Calling.{begun}
 use Rattle.core_steps.proofs.engine.Engine.call.Goals as goal
 
 pub returns-else-is_full : goal.returns-else-is_full

@@ -1,5 +1,5 @@
 use Rattle.std.proofs.Common.{arith}
-use Rattle.core_steps.proofs.ChangeAtOnce.{alone_by, first_page, page_change}
+use Rattle.core_steps.proofs.at_once.ChangeAtOnce.{alone_by, first_page, page_change}
 use Rattle.core_steps.proofs.engine.Engine.change_at_once.Goals as goal
 
 pub free_page-requires : goal.free_page-requires

@@ -1,5 +1,5 @@
 use Rattle.core_steps.specs.State.{world}
-use Rattle.core_steps.proofs.FaultAtOnce.{failed, room}
+use Rattle.core_steps.proofs.at_once.FaultAtOnce.{failed, room}
 use Rattle.core_steps.proofs.engine.Engine.fail_at_once.Goals as goal
 
 pub log_at_once-requires-clause-room : goal.log_at_once-requires-clause-room

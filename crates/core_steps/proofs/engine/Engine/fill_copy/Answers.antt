@@ -6,8 +6,8 @@ use Rattle.machine_model.specs.Filling.{FillsOwn, after_first_copy}
 use Rattle.machine_model.specs.declared.phase.Phase.TheVariants.{Fill, Install}
 use Rattle.machine_model.specs.Actions.{to}
 use Rattle.core_steps.specs.State.{world}
-use Rattle.core_steps.proofs.Framing.{cached_below, fill_alone, fill_at, fill_stores, fill_within, first_copied, filled_bytes}
-use Rattle.core_steps.proofs.Known.{frame_counted, taken_below, taken_unused}
+use Rattle.core_steps.proofs.rows.Framing.{cached_below, fill_alone, fill_at, fill_stores, fill_within, first_copied, filled_bytes}
+use Rattle.core_steps.proofs.rows.Known.{frame_counted, taken_below, taken_unused}
 use Rattle.core_steps.proofs.engine.Engine.fill_copy.Goals as goal
 
 pub fill-requires-clause-page : goal.fill-requires-clause-page

@@ -5,8 +5,8 @@ use Rattle.machine_model.specs.Filling.{FillsOwn, after_zeros}
 use Rattle.machine_model.specs.declared.phase.Phase.TheVariants.{Fill, Install}
 use Rattle.machine_model.specs.Actions.{to}
 use Rattle.core_steps.specs.State.{world}
-use Rattle.core_steps.proofs.Framing.{fill_alone, fill_at, fill_shown, zeroed}
-use Rattle.core_steps.proofs.Known.{frame_counted, taken_below, taken_unused}
+use Rattle.core_steps.proofs.rows.Framing.{fill_alone, fill_at, fill_shown, zeroed}
+use Rattle.core_steps.proofs.rows.Known.{frame_counted, taken_below, taken_unused}
 use Rattle.core_steps.proofs.engine.Engine.fill_zeros.Goals as goal
 
 pub fill_zero-requires : goal.fill_zero-requires

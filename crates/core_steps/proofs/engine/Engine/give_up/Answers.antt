@@ -2,9 +2,9 @@ use Rattle.std.proofs.Common.{◌≡◌, refl, sym, subst, ◌∙◌, rules, tru
 use Rattle.machine_model.specs.Holding.{can_give_up}
 use Rattle.core_steps.specs.Moving.{AwaitsCopy}
 use Rattle.core_steps.specs.State.{world}
-use Rattle.core_steps.proofs.Known.{goal_in_sound, opened, room_for}
-use Rattle.core_steps.proofs.Framing.{taken_here}
-use Rattle.core_steps.proofs.Rows.{copy_awaited, given_up, not_given_up}
+use Rattle.core_steps.proofs.rows.Known.{goal_in_sound, opened, room_for}
+use Rattle.core_steps.proofs.rows.Framing.{taken_here}
+use Rattle.core_steps.proofs.rows.Rows.{copy_awaited, given_up, not_given_up}
 use Rattle.core_steps.proofs.engine.Engine.give_up.Goals as goal
 
 pub range_held-requires : goal.range_held-requires

@@ -1,8 +1,8 @@
 use Rattle.std.proofs.Common.{refl}
 use Rattle.machine_model.specs.declared.phase.Phase.TheVariants.{Check}
 use Rattle.core_steps.specs.State.{world}
-use Rattle.core_steps.proofs.Framing.{goes_at, read_at}
-use Rattle.core_steps.proofs.Known.{room_for}
+use Rattle.core_steps.proofs.rows.Framing.{goes_at, read_at}
+use Rattle.core_steps.proofs.rows.Known.{room_for}
 use Rattle.core_steps.proofs.engine.Engine.go.Goals as goal
 
 pub go_check-requires-clause-room : goal.go_check-requires-clause-room

@@ -1,7 +1,7 @@
 use Rattle.std.proofs.Common.{inl, refl}
 use Rattle.core_steps.specs.State.{world}
-use Rattle.core_steps.proofs.Known.{are_counted, core_counted, room_for}
-use Rattle.core_steps.proofs.Changing.{acks_goal, acks_held, acks_sound, acks_mapped}
+use Rattle.core_steps.proofs.rows.Known.{are_counted, core_counted, room_for}
+use Rattle.core_steps.proofs.rows.Changing.{acks_goal, acks_held, acks_sound, acks_mapped}
 use Rattle.core_steps.proofs.engine.Engine.go_acks.Goals as goal
 
 pub make_change-requires-clause-sound : goal.make_change-requires-clause-sound

@@ -1,6 +1,6 @@
 use Rattle.std.proofs.Common.{arith}
 use Rattle.slot_lock.proofs.Divisions.{slot_by}
-use Rattle.core_steps.proofs.Placing.{back_held, back_place}
+use Rattle.core_steps.proofs.rows.Placing.{back_held, back_place}
 use Rattle.core_steps.proofs.engine.Engine.go_back.Goals as goal
 
 pub unlock_next-unlocked_to-requires-clause-held :

@@ -2,7 +2,7 @@ use Rattle.std.proofs.Common.{◌≡◌, Ok, refl, rules, sym, ap, ◌∙◌}
 use Rattle.slot_lock.specs.declared.plan.Plan.TheVariants as PlanOf
 use Rattle.machine_model.specs.Actions.{to}
 use Rattle.core_steps.specs.State.{world}
-use Rattle.core_steps.proofs.Rows.{planned}
+use Rattle.core_steps.proofs.rows.Rows.{planned}
 use Rattle.core_steps.proofs.engine.Engine.go_check.Goals as goal
 use Rattle.core_steps.proofs.engine.Engine.go_check.Goals.{in-Ok-Change, in-Ok-Touch, in-Ok-Place, in-Err}
 

@@ -5,8 +5,8 @@ use Rattle.machine_model.specs.declared.phase.Phase.TheVariants.{CopyPost}
 use Rattle.machine_model.specs.Filling.{cores_of}
 use Rattle.machine_model.specs.Holding.{page_of_touch}
 use Rattle.core_steps.specs.State.{world}
-use Rattle.core_steps.proofs.Framing.{told_here}
-use Rattle.core_steps.proofs.Known.{nobody_awaited, sound_at, touch_range, valid_range}
+use Rattle.core_steps.proofs.rows.Framing.{told_here}
+use Rattle.core_steps.proofs.rows.Known.{nobody_awaited, sound_at, touch_range, valid_range}
 use Rattle.core_steps.proofs.engine.Engine.go_copy_post.Goals as goal
 
 pub page-requires : goal.page-requires

@@ -1,4 +1,4 @@
-use Rattle.core_steps.proofs.Placing.{cut_owned, cut_pages}
+use Rattle.core_steps.proofs.rows.Placing.{cut_owned, cut_pages}
 use Rattle.core_steps.proofs.engine.Engine.go_cut.Goals as goal
 
 pub cut_next-requires-clause-range : goal.cut_next-requires-clause-range

@@ -2,7 +2,7 @@ use Rattle.std.proofs.Common.{refl}
 use Rattle.slot_lock.specs.declared.plan.Goal.TheVariants as To
 use Rattle.vm_calls.proofs.Readable.{readable}
 use Rattle.machine_model.specs.declared.phase.Phase.TheVariants.{Decide}
-use Rattle.core_steps.proofs.Known.{goal_at, room_for}
+use Rattle.core_steps.proofs.rows.Known.{goal_at, room_for}
 use Rattle.core_steps.proofs.engine.Engine.go_decide.Goals as goal
 
 pub decide-requires-clause-sound : goal.decide-requires-clause-sound

@@ -3,8 +3,8 @@ use Rattle.slot_lock.specs.declared.plan.Plan.TheVariants as PlanOf
 use Rattle.machine_model.specs.declared.phase.Phase.TheVariants.{Fill}
 use Rattle.machine_model.specs.Files.{back_of}
 use Rattle.core_steps.specs.State.{world}
-use Rattle.core_steps.proofs.Framing.{fills_shared, fills_zeros}
-use Rattle.core_steps.proofs.Known.{sound_at}
+use Rattle.core_steps.proofs.rows.Framing.{fills_shared, fills_zeros}
+use Rattle.core_steps.proofs.rows.Known.{sound_at}
 use Rattle.core_steps.proofs.engine.Engine.go_fill.Goals as goal
 
 pub page-info-requires : goal.page-info-requires

@@ -2,8 +2,8 @@ use Rattle.std.proofs.Common.{refl}
 use Rattle.slot_lock.specs.declared.plan.Goal.TheVariants as To
 use Rattle.vm_calls.proofs.Readable.{readable}
 use Rattle.machine_model.specs.declared.phase.Phase.TheVariants.{Find}
-use Rattle.core_steps.proofs.Known.{room_for}
-use Rattle.core_steps.proofs.Placing.{find_goal}
+use Rattle.core_steps.proofs.rows.Known.{room_for}
+use Rattle.core_steps.proofs.rows.Placing.{find_goal}
 use Rattle.core_steps.proofs.engine.Engine.go_find.Goals as goal
 
 pub decide-requires-clause-sound : goal.decide-requires-clause-sound

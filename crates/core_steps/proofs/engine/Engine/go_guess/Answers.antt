@@ -1,6 +1,6 @@
 use Rattle.std.proofs.Common.{refl}
 use Rattle.vm_calls.proofs.Rooms.{least-room}
-use Rattle.core_steps.proofs.Placing.{found_high, guess_goal, guess_place, window_page}
+use Rattle.core_steps.proofs.rows.Placing.{found_high, guess_goal, guess_place, window_page}
 use Rattle.core_steps.proofs.engine.Engine.go_guess.Goals as goal
 
 pub first_free_run-found-requires-clause-some : goal.first_free_run-found-requires-clause-some

@@ -4,8 +4,8 @@ use Rattle.core_steps.specs.State.{world}
 use Rattle.slot_lock.specs.declared.plan.Plan.TheVariants.{Touch}
 use Rattle.machine_model.specs.declared.phase.Phase.TheVariants.{Install, Release}
 use Rattle.machine_model.specs.Actions.{to}
-use Rattle.core_steps.proofs.Rows.{installed}
-use Rattle.core_steps.proofs.Known.{install_frame, install_mapped, install_right, one_slot, owns, page_is, sound_at}
+use Rattle.core_steps.proofs.rows.Rows.{installed}
+use Rattle.core_steps.proofs.rows.Known.{install_frame, install_mapped, install_right, one_slot, owns, page_is, sound_at}
 use Rattle.core_steps.proofs.engine.Engine.go_install.Goals as goal
 use Rattle.core_steps.proofs.engine.Engine.go_install.Goals.{in-Some+in-Some-frame+in_ok-show_page, in_default}
 use Rattle.core_steps.proofs.engine.Engine.go_install.Goals.{in_default-via-in-None-1, in_default-via-in-Some+in-None-1}

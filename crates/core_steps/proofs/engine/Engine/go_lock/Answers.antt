@@ -1,4 +1,4 @@
-use Rattle.core_steps.proofs.Known.{goal_sound, not_ahead, range_ends, is_left}
+use Rattle.core_steps.proofs.rows.Known.{goal_sound, not_ahead, range_ends, is_left}
 use Rattle.core_steps.proofs.engine.Engine.go_lock.Goals as goal
 
 pub range-end-requires : goal.range-end-requires

@@ -1,6 +1,6 @@
 use Rattle.std.proofs.Common.{refl}
 use Rattle.machine_model.specs.declared.phase.Phase.TheVariants.{Post}
-use Rattle.core_steps.proofs.Known.{change_pages, nobody_awaited, shot_here}
+use Rattle.core_steps.proofs.rows.Known.{change_pages, nobody_awaited, shot_here}
 use Rattle.core_steps.proofs.engine.Engine.go_post.Goals as goal
 
 pub shoot-requires-clause-pages : goal.shoot-requires-clause-pages

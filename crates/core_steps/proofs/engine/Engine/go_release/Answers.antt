@@ -2,7 +2,7 @@ use Rattle.std.proofs.Common.{◌+◌, arith, refl}
 use Rattle.slot_lock.proofs.Divisions.{slot_by}
 use Rattle.slot_lock.specs.declared.plan.Plan.TheVariants.{Touch}
 use Rattle.machine_model.specs.declared.phase.Phase.TheVariants.{Release}
-use Rattle.core_steps.proofs.Known.{owns, page_cut, page_is, sound_at}
+use Rattle.core_steps.proofs.rows.Known.{owns, page_cut, page_is, sound_at}
 use Rattle.core_steps.proofs.engine.Engine.go_release.Goals as goal
 
 pub unlock_next-requires-clause-held : goal.unlock_next-requires-clause-held

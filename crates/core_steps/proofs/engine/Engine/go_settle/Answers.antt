@@ -5,7 +5,7 @@ use Rattle.machine_model.specs.Accesses.{after_finding}
 use Rattle.machine_model.specs.Actions.{after_reply}
 use Rattle.core_steps.specs.OnePage.{after_settling}
 use Rattle.core_steps.specs.State.{world}
-use Rattle.core_steps.proofs.Known.{room_for, sound_at}
+use Rattle.core_steps.proofs.rows.Known.{room_for, sound_at}
 use Rattle.core_steps.proofs.engine.Engine.go_settle.Goals as goal
 use Rattle.core_steps.proofs.engine.Engine.go_settle.Goals.{in-Ok, in-Err}
 

@@ -1,7 +1,7 @@
 use Rattle.slot_lock.specs.declared.plan.Plan.TheVariants.{Touch}
 use Rattle.machine_model.specs.declared.phase.Phase.TheVariants.{Try}
-use Rattle.core_steps.proofs.FaultAtOnce.{can_try}
-use Rattle.core_steps.proofs.Known.{sound_at}
+use Rattle.core_steps.proofs.at_once.FaultAtOnce.{can_try}
+use Rattle.core_steps.proofs.rows.Known.{sound_at}
 use Rattle.core_steps.proofs.engine.Engine.go_try.Goals as goal
 
 pub try_touch-reply-requires : goal.try_touch-reply-requires

@@ -1,6 +1,6 @@
 use Rattle.std.proofs.Common.{arith}
 use Rattle.slot_lock.proofs.Divisions.{slot_by}
-use Rattle.core_steps.proofs.Changing.{unlock_held}
+use Rattle.core_steps.proofs.rows.Changing.{unlock_held}
 use Rattle.core_steps.proofs.engine.Engine.go_unlock.Goals as goal
 
 pub unlock_next-unlocked_to-requires-clause-held : goal.unlock_next-unlocked_to-requires-clause-held

@@ -4,7 +4,7 @@ use Rattle.machine_model.specs.declared.phase.Phase.TheVariants.{Want}
 use Rattle.machine_model.specs.Actions.{after_reply}
 use Rattle.vm_base.specs.declared.replies.Reply.TheVariants.{NoFrame}
 use Rattle.core_steps.specs.State.{world}
-use Rattle.core_steps.proofs.Known.{room_for, sound_at}
+use Rattle.core_steps.proofs.rows.Known.{room_for, sound_at}
 use Rattle.core_steps.proofs.engine.Engine.go_want.Goals as goal
 use Rattle.core_steps.proofs.engine.Engine.go_want.Goals.{in-None, in-Some}
 

@@ -1,7 +1,7 @@
 use Rattle.std.proofs.Common.{sym, ◌∙◌}
 use Rattle.slot_lock.specs.Plan.{IsSoundPlace}
 use Rattle.core_steps.specs.State.{world}
-use Rattle.core_steps.proofs.Placing.{guess_place, run_goal}
+use Rattle.core_steps.proofs.rows.Placing.{guess_place, run_goal}
 use Rattle.core_steps.proofs.engine.Engine.guess.Goals as goal
 
 pub has_run-requires : goal.has_run-requires

@@ -2,7 +2,7 @@ use Rattle.std.proofs.Common.{subst}
 use Rattle.machine_model.specs.declared.phase.Phase.TheVariants.{Lock}
 use Rattle.core_steps.specs.Moving.{IsAt}
 use Rattle.core_steps.specs.State.{world}
-use Rattle.core_steps.proofs.FaultAtOnce.{at_first}
+use Rattle.core_steps.proofs.at_once.FaultAtOnce.{at_first}
 use Rattle.core_steps.proofs.engine.Engine.lock_at_once.Goals as goal
 
 pub fault_at_once-requires-clause-at : goal.fault_at_once-requires-clause-at

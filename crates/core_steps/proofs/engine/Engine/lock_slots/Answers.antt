@@ -1,9 +1,9 @@
 use Rattle.std.proofs.Common.{refl, arith, ap, ◌∙◌}
-use Rattle.core_steps.proofs.Known.{goal_sound, range_ends, is_left}
-use Rattle.core_steps.proofs.SlotRuns.{locks}
+use Rattle.core_steps.proofs.rows.Known.{goal_sound, range_ends, is_left}
+use Rattle.core_steps.proofs.at_once.SlotRuns.{locks}
 use Rattle.machine_model.specs.World.{World}
 use Rattle.slot_lock.specs.Slots.{Locks}
-use Rattle.core_steps.proofs.Divided.{locked_edges, run_edges}
+use Rattle.core_steps.proofs.at_once.Divided.{locked_edges, run_edges}
 use Rattle.core_steps.proofs.engine.Engine.lock_slots.Goals as goal
 
 pub range-end-requires : goal.range-end-requires

@@ -1,5 +1,5 @@
 use Rattle.std.proofs.Common.{◌+◌, ap, ◌∙◌}
-use Rattle.core_steps.proofs.Lists.{room_kept}
+use Rattle.core_steps.proofs.engine.Lists.{room_kept}
 use Rattle.core_steps.proofs.engine.Engine.log_reply.Goals as goal
 
 pub invariant_of-self : goal.invariant_of-self

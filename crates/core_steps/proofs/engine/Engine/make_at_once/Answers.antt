@@ -1,9 +1,9 @@
 use Rattle.std.proofs.Common.{sym, ap, ◌∙◌}
 use Rattle.core_steps.specs.Parts.{parts}
 use Rattle.core_steps.specs.State.{world}
-use Rattle.core_steps.proofs.ChangeAtOnce.{are_valid, is_counted, is_sound, makes_at_once, nothing_left, room_to_log}
-use Rattle.core_steps.proofs.Changing.{acts_mapped}
-use Rattle.core_steps.proofs.Known.{core_counted}
+use Rattle.core_steps.proofs.at_once.ChangeAtOnce.{are_valid, is_counted, is_sound, makes_at_once, nothing_left, room_to_log}
+use Rattle.core_steps.proofs.rows.Changing.{acts_mapped}
+use Rattle.core_steps.proofs.rows.Known.{core_counted}
 use Rattle.machine_model.specs.World.{World}
 use Rattle.slot_lock.specs.Slots.{Slots}
 use Rattle.core_steps.proofs.Keeping.{changed_edges}

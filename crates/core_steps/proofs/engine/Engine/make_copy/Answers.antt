@@ -4,8 +4,8 @@ use Rattle.slot_lock.specs.Slots.{HasMeta}
 use Rattle.machine_model.specs.declared.phase.Phase.TheVariants.{Install}
 use Rattle.machine_model.specs.Actions.{to}
 use Rattle.core_steps.specs.State.{world}
-use Rattle.core_steps.proofs.Framing.{copied_page, copy_alone, page_frame_here, page_frame_used}
-use Rattle.core_steps.proofs.Known.{core_counted, frame_counted, taken_below, taken_unused}
+use Rattle.core_steps.proofs.rows.Framing.{copied_page, copy_alone, page_frame_here, page_frame_used}
+use Rattle.core_steps.proofs.rows.Known.{core_counted, frame_counted, taken_below, taken_unused}
 use Rattle.core_steps.proofs.engine.Engine.make_copy.Goals as goal
 
 pub copy-requires-clause-from : goal.copy-requires-clause-from

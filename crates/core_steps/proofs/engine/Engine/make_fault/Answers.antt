@@ -2,7 +2,7 @@ use Rattle.std.proofs.Common.{sym, ap, ◌∙◌}
 use Rattle.machine_model.specs.Accesses.{after_finding}
 use Rattle.core_steps.specs.OnePage.{after_settling}
 use Rattle.core_steps.specs.State.{world}
-use Rattle.core_steps.proofs.FaultAtOnce.{can_lock}
+use Rattle.core_steps.proofs.at_once.FaultAtOnce.{can_lock}
 use Rattle.core_steps.proofs.engine.Engine.make_fault.Goals as goal
 
 pub free_page-requires : goal.free_page-requires

@@ -1,4 +1,4 @@
-use Rattle.core_steps.proofs.Opened.{opened}
+use Rattle.core_steps.proofs.engine.Opened.{opened}
 use Rattle.core_steps.proofs.engine.Engine.new.Goals as goal
 
 pub returns : goal.returns

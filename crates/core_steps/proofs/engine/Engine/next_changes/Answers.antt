@@ -1,6 +1,6 @@
 use Rattle.std.proofs.Common.{sym, rules}
 use Rattle.core_steps.specs.State.{world}
-use Rattle.core_steps.proofs.Known.{goal_in_sound}
+use Rattle.core_steps.proofs.rows.Known.{goal_in_sound}
 use Rattle.core_steps.proofs.engine.Engine.next_changes.Goals as goal
 
 pub changes_in-requires : goal.changes_in-requires

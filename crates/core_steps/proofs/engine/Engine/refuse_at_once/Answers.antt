@@ -1,4 +1,4 @@
-use Rattle.core_steps.proofs.ChangeAtOnce.{refuses_at_once, room_to_log}
+use Rattle.core_steps.proofs.at_once.ChangeAtOnce.{refuses_at_once, room_to_log}
 use Rattle.std.proofs.Common.{ap}
 use Rattle.machine_model.specs.World.{World}
 use Rattle.core_steps.proofs.engine.Engine.refuse_at_once.Goals as goal

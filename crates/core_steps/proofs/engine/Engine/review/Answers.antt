@@ -1,5 +1,5 @@
 use Rattle.core_steps.specs.State.{world}
-use Rattle.core_steps.proofs.Known.{freed_below, freed_busy}
+use Rattle.core_steps.proofs.rows.Known.{freed_below, freed_busy}
 use Rattle.core_steps.proofs.engine.Engine.review.Goals as goal
 
 pub give-requires-clause-taken : goal.give-requires-clause-taken

@@ -2,8 +2,8 @@ use Rattle.std.proofs.Common.{refl, ap, ◌∙◌}
 use Rattle.machine_model.specs.declared.phase.Phase.TheVariants.{Fill, Install}
 use Rattle.machine_model.specs.Actions.{to}
 use Rattle.core_steps.specs.State.{world}
-use Rattle.core_steps.proofs.Framing.{counted_few, fill_alone, shown_here, shown_used, taken_here}
-use Rattle.core_steps.proofs.Known.{core_counted, frame_counted}
+use Rattle.core_steps.proofs.rows.Framing.{counted_few, fill_alone, shown_here, shown_used, taken_here}
+use Rattle.core_steps.proofs.rows.Known.{core_counted, frame_counted}
 use Rattle.core_steps.proofs.engine.Engine.share.Goals as goal
 
 pub give_back-requires : goal.give_back-requires

@@ -1,6 +1,6 @@
 use Rattle.std.proofs.Common.{sym, ◌∙◌}
 use Rattle.core_steps.specs.State.{world}
-use Rattle.core_steps.proofs.Framing.{fill_at, fill_shown, of_file_frame, shown_by_cached, shown_by_own}
+use Rattle.core_steps.proofs.rows.Framing.{fill_at, fill_shown, of_file_frame, shown_by_cached, shown_by_own}
 use Rattle.core_steps.proofs.engine.Engine.show_file.Goals as goal
 
 pub share-requires-clause-cached : goal.share-requires-clause-cached

@@ -1,7 +1,7 @@
 use Rattle.std.proofs.Common.{arith}
 use Rattle.core_steps.specs.State.{world}
-use Rattle.core_steps.proofs.Divided.{starts_undivided}
-use Rattle.core_steps.proofs.FirstEvents.{begins_plainly, can_start, reply_room}
+use Rattle.core_steps.proofs.at_once.Divided.{starts_undivided}
+use Rattle.core_steps.proofs.at_once.FirstEvents.{begins_plainly, can_start, reply_room}
 use Rattle.core_steps.proofs.engine.Engine.start.Goals as goal
 
 pub returns-in-Some-clause-divides : goal.returns-in-Some-clause-divides

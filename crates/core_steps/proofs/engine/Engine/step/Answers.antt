@@ -2,8 +2,8 @@ use Rattle.std.proofs.Common.{◌≡◌, ◌+◌, ◌<◌, ◌^◌, true, nat_lt
 use Rattle.machine_model.specs.Events.{core_of}
 use Rattle.machine_model.specs.Step.{event_limit, is_here}
 use Rattle.core_steps.specs.State.{world}
-use Rattle.core_steps.proofs.AtOnce.{less}
-use Rattle.core_steps.proofs.Rows.{counted, if_true}
+use Rattle.core_steps.proofs.at_once.AtOnce.{less}
+use Rattle.core_steps.proofs.rows.Rows.{counted, if_true}
 use Rattle.core_steps.proofs.engine.Engine.step.Goals as goal
 
 pub returns-in-Ok-clause-step : goal.returns-in-Ok-clause-step

@@ -1,5 +1,5 @@
 use Rattle.std.proofs.Common.{rules}
-use Rattle.core_steps.proofs.Framing.{read_at}
+use Rattle.core_steps.proofs.rows.Framing.{read_at}
 use Rattle.core_steps.proofs.Reached.{fine, steps_reached}
 use Rattle.core_steps.proofs.engine.Engine.steps_at_once.Goals as goal
 

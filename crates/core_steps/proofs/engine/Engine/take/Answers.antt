@@ -1,8 +1,8 @@
 use Rattle.std.proofs.Common.{refl, sym, ap, ◌∙◌}
 use Rattle.machine_model.specs.Translating.{tables_cleared, tlb_invalidated}
 use Rattle.core_steps.specs.State.{world}
-use Rattle.core_steps.proofs.Known.{message_pages}
-use Rattle.core_steps.proofs.Rows.{cleared, invalidated, none_left, nothing_taken}
+use Rattle.core_steps.proofs.rows.Known.{message_pages}
+use Rattle.core_steps.proofs.rows.Rows.{cleared, invalidated, none_left, nothing_taken}
 use Rattle.core_steps.proofs.engine.Engine.take.Goals as goal
 
 pub clear_tables-requires-clause-pages : goal.clear_tables-requires-clause-pages

@@ -1,6 +1,12 @@
-use Rattle.std.proofs.Common.{refl}
+use Rattle.std.proofs.Common.{◌≡◌, ◌+◌, ap, arith, refl}
 use Rattle.core_steps.specs.State.{world}
 use Rattle.core_steps.proofs.engine.Engine.take_from.Goals as goal
+
+pub returns-in-Own : goal.returns-in-Own
+returns-in-Own g c =
+    let w = world g.M.SlotRead.slots c.args.self.now in
+    let none : w.calls.events ≡ w.calls.events + 0 = omega arith in
+    rw c.in-Own.is (_, refl, ap (λ n. record w { calls = record w.calls { events = n } }) none)
 
 pub returns-in-Cached : goal.returns-in-Cached
 returns-in-Cached g c =

@@ -1,6 +1,6 @@
 use Rattle.std.proofs.Common.{sym, ◌∙◌}
 use Rattle.core_steps.specs.State.{world}
-use Rattle.core_steps.proofs.Placing.{guess_place, window_goal}
+use Rattle.core_steps.proofs.rows.Placing.{guess_place, window_goal}
 use Rattle.core_steps.proofs.engine.Engine.take_window.Goals as goal
 
 pub trying-requires : goal.trying-requires

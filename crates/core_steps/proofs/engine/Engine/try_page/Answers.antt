@@ -1,7 +1,7 @@
 use Rattle.std.proofs.Common.{ap, refl}
 use Rattle.slot_lock.specs.Slots.{Slots}
 use Rattle.core_steps.specs.State.{world}
-use Rattle.core_steps.proofs.FaultAtOnce.{can_try_later, tries}
+use Rattle.core_steps.proofs.at_once.FaultAtOnce.{can_try_later, tries}
 use Rattle.core_steps.proofs.engine.Engine.try_page.Goals as goal
 
 pub try_touch-requires : goal.try_touch-requires

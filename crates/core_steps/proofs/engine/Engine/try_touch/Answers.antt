@@ -1,6 +1,6 @@
 use Rattle.core_steps.specs.Parts.{parts}
 use Rattle.core_steps.specs.State.{world}
-use Rattle.core_steps.proofs.FaultAtOnce.{reached_by, touched}
+use Rattle.core_steps.proofs.at_once.FaultAtOnce.{reached_by, touched}
 use Rattle.core_steps.proofs.engine.Engine.try_touch.Goals as goal
 
 pub touch_byte-reply-requires-clause-frame : goal.touch_byte-reply-requires-clause-frame

@@ -1,8 +1,8 @@
-use Rattle.core_steps.proofs.SlotRuns.{unlocks}
+use Rattle.core_steps.proofs.at_once.SlotRuns.{unlocks}
 use Rattle.std.proofs.Common.{ap, ◌∙◌}
 use Rattle.machine_model.specs.World.{World}
 use Rattle.slot_lock.specs.Slots.{Unlocks}
-use Rattle.core_steps.proofs.Divided.{run_edges, unlocked_edges}
+use Rattle.core_steps.proofs.at_once.Divided.{run_edges, unlocked_edges}
 use Rattle.core_steps.proofs.engine.Engine.unlock_slots.Goals as goal
 
 pub returns-clause-steps : goal.returns-clause-steps

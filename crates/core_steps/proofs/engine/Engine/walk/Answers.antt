@@ -1,7 +1,7 @@
 use Rattle.std.proofs.Common.{refl, sym, ◌∙◌}
 use Rattle.core_steps.specs.State.{world}
-use Rattle.core_steps.proofs.Known.{no_page_entry}
-use Rattle.core_steps.proofs.Rows.{no_entry, not_walked, walk_none}
+use Rattle.core_steps.proofs.rows.Known.{no_page_entry}
+use Rattle.core_steps.proofs.rows.Rows.{no_entry, not_walked, walk_none}
 use Rattle.core_steps.proofs.engine.Engine.walk.Goals as goal
 use Rattle.core_steps.proofs.engine.Engine.walk.Goals.{else-is_valid-via-then-is_valid+else-walk, else-is_valid-via-else-is_valid}
 

@@ -2,7 +2,7 @@ use Rattle.std.proofs.Common.{◌≡◌, ◌<◌, ◌+◌, ◌^◌, arith, rules
 use Rattle.std.specs.Prelude.{◌≢◌}
 use Rattle.machine_model.specs.declared.event.Outcome.TheVariants.{Stepped}
 use Rattle.core_steps.proofs.Reached.{legal, refused_at, steps_end, steps_join, steps_more}
-use Rattle.core_steps.proofs.Divided.{as_map_join, as_map_more, none_divided}
+use Rattle.core_steps.proofs.at_once.Divided.{as_map_join, as_map_more, none_divided}
 use Rattle.core_steps.specs.Dividing.{StepsAsMap}
 use Rattle.core_steps.proofs.machine.Machine.go_on.Goals as goal
 

@@ -1,0 +1,4 @@
+-- the engine's parts, and lists of them
+pub mod Lists
+pub mod Each
+pub mod Opened

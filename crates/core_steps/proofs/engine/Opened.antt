@@ -1,0 +1,23 @@
+-- A new engine has the state of a new machine
+use Rattle.std.proofs.Common.{◌≡◌, List, length, nat_lt, None, refl}
+use Rattle.vm_base.specs.Plain.{zeros}
+use Rattle.slot_lock.specs.Slots.{Slots}
+use Rattle.backing.specs.Files.{FileParts, files_of, cached_in}
+use Rattle.backing.specs.Given.{given_files}
+use Rattle.frames.specs.Parts.{FrameParts, frame_bytes, free_frames}
+use Rattle.refcache.specs.Counts.{Counts, no_counts}
+use Rattle.machine_model.specs.World.{Hardware, new_world, no_calls, no_translations}
+use Rattle.core_steps.specs.declared.engine.calls.CallTable.{CallTable}
+use Rattle.core_steps.specs.declared.ledger.Ledger.{Ghosts as LedgerGhosts}
+use Rattle.core_steps.specs.declared.setup.Setup.{Setup}
+use Rattle.core_steps.specs.Setups.{made_of}
+use Rattle.core_steps.specs.State.{world_of, calls_in}
+
+pub opened : {A L : Type 0} {ledger : LedgerGhosts L} (slots : Slots) (hardware : Hardware) (frames : FrameParts) (counts : Counts) (files : List FileParts)
+    (calls : CallTable A L ledger) (s : Setup A)
+    → hardware ≡ no_translations → frames.count ≡ s.frames → frame_bytes frames ≡ (λ f. zeros) → free_frames frames ≡ (λ f. nat_lt f s.frames)
+    → counts ≡ no_counts s.cores s.frames → files_of files ≡ given_files s.files.items → cached_in files ≡ (λ n k. None) → calls_in calls ≡ no_calls
+    → length calls.phases.items ≡ s.cores → calls.limit ≡ s.calls
+    → world_of slots hardware frames counts files calls ≡ new_world (made_of s) slots
+opened slots hardware frames counts files calls s bare count bytes free uncounted file cached started cores limit =
+    rw (bare, count, bytes, free, uncounted, file, cached, started, cores, limit) refl

@@ -1,0 +1,6 @@
+use Rattle.std.proofs.Common.{ap, ◌∙◌}
+use Rattle.machine_model.specs.Translating.{tlb_invalidated}
+use Rattle.core_steps.proofs.engine.cores.Cores.drop_own.Goals as goal
+
+pub returns-clause-after : goal.returns-clause-after
+returns-clause-after g c = c.invalidate.ensures.after ∙ ap (λ h. tlb_invalidated h c.args.core c.args.range) c.clear_tables.ensures.after

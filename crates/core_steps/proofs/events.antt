@@ -1,0 +1,2 @@
+-- an event that isn't a step of a call
+pub mod Calling

@@ -1,0 +1,8 @@
+-- what a step knows of the state that it begins in, and what it leaves
+pub mod Sounding
+pub mod Known
+pub mod Rows
+pub mod Placing
+pub mod Changing
+pub mod Lost
+pub mod Framing

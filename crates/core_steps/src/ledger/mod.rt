@@ -1,0 +1,81 @@
+//! What becomes of the requests of the calls begun, and of the entries of the log: the trait, and a file
+//! for each ledger. Nothing here knows of the machine.
+ghost use Rattle.std.specs.Prelude.{◌≡◌, ◌+◌, ◌<◌, ◌≤◌, ◌++◌, ◌∷◌, [], ℕ, List, length, Bool};
+ghost use Rattle.std.specs.Prelude.{false, true, IfOk, IfNone, IfSome, OnOk, OnErr};
+ghost use Rattle.vm_base.specs.declared.log.Entry.{Entry as EntryOf};
+ghost use Rattle.vm_base.specs.declared.requests.Request.{Request as RequestOf};
+ghost use Rattle.core_steps.specs.Setups.{most_calls};
+ghost use Rattle.core_steps.specs.declared.setup.CallLimit.TheVariants.{Long, Usual};
+
+pub mod forgotten;
+pub mod kept;
+
+use std::alloc::AllocError;
+use vm_base::{Entry, Request};
+
+/// The requests of the calls begun, and a log of at most `limit` entries. For all of both there is
+/// room. Only an entry beyond them may take memory.
+pub trait Ledger {
+    // The requests so far.
+    ghost requests: { Self → List RequestOf };
+    // How many there may be at the most.
+    ghost calls: { Self → ℕ };
+    // The entries so far.
+    ghost entries: { Self → List EntryOf };
+    // How many there may be at the most.
+    ghost limit: { Self → ℕ };
+    // Whether both can be read again.
+    ghost keeps: { Bool };
+
+    /// How many calls began.
+    fn begun(&self) -> u64
+        ensures { result ≡ length (requests self.now) };
+
+    /// A call begins: one request more, for which there is room. It answers how many they are now.
+    fn begin(&mut self, request: Request) -> u64
+        requires { length (requests self.old) < calls self.old }
+        ensures count { result ≡ length (requests self.new) }
+        ensures requests { requests self.new ≡ requests self.old ++ request ∷ [] }
+        ensures calls { calls self.new ≡ calls self.old }
+        ensures items { entries self.new ≡ entries self.old }
+        ensures limit { limit self.new ≡ limit self.old };
+
+    /// One entry more, for which there is room.
+    fn push(&mut self, entry: Entry)
+        requires { length (entries self.old) < limit self.old }
+        ensures items { entries self.new ≡ entries self.old ++ entry ∷ [] }
+        ensures limit { limit self.new ≡ limit self.old }
+        ensures requests { requests self.new ≡ requests self.old }
+        ensures calls { calls self.new ≡ calls self.old };
+
+    /// One entry more, for which memory may be taken: the room that was left stays. A refusal
+    /// changes nothing, and comes only where the entries are kept.
+    fn push_beyond(&mut self, entry: Entry) -> Result<(), AllocError>
+        ensures items { OnOk result (entries self.new ≡ entries self.old ++ entry ∷ []) }
+        ensures limit { OnOk result (limit self.new ≡ limit self.old + 1) }
+        ensures same_items { OnErr result (entries self.new ≡ entries self.old) }
+        ensures same_limit { OnErr result (limit self.new ≡ limit self.old) }
+        ensures err_only { OnErr result (keeps ≡ true) }
+        ensures requests { requests self.new ≡ requests self.old }
+        ensures calls { calls self.new ≡ calls self.old };
+
+    /// The entries so far, in order, where they are kept.
+    fn kept(&self) -> Option<&[Entry]>
+        ensures some { IfSome result (λ log. log.now ≡ entries self.now) }
+        ensures none { IfNone result (keeps ≡ false) };
+}
+
+/// A ledger that can be made.
+pub trait Opening<A>: Ledger {
+    /// An empty one, with room for so many requests and as many entries: up to 2^40, or 1,048,576
+    /// where both are kept.
+    fn open(alloc: A, limit: u64) -> Result<Self, AllocError>
+    where
+        Self: Sized,
+        requires few { limit ≤ most_calls Long }
+        requires kept { Self.keeps ≡ true → limit ≤ most_calls Usual }
+        ensures requests { IfOk result (λ ledger. Self.requests ledger ≡ []) }
+        ensures calls { IfOk result (λ ledger. Self.calls ledger ≡ limit) }
+        ensures items { IfOk result (λ ledger. Self.entries ledger ≡ []) }
+        ensures limit { IfOk result (λ ledger. Self.limit ledger ≡ limit) };
+}
