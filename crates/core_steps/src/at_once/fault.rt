@@ -24,7 +24,7 @@ use vm_base::{Back, CoreId, PageInfo, Reply};
 use vm_calls::Settled;
 
 /// The most steps that a fault makes at once.
-const MOST_STEPS: u64 = 7;
+pub const MOST_STEPS: u64 = 7;
 
 /// Where the frame of a page comes from that is shown at once.
 #[derive(Clone, Copy, Debug, PartialEq, Eq)]

@@ -6,6 +6,7 @@ ghost use Rattle.core_steps.specs.AtOnce.{CanBegin, Starts, StartsAsMap};
 ghost use Rattle.core_steps.specs.State.{world};
 
 use crate::at_once::access::access_of;
+use crate::at_once::fault::MOST_STEPS;
 use crate::engine::Engine;
 use crate::ledger::Ledger;
 use machine_model::{Event, Outcome, Phase};
@@ -13,6 +14,10 @@ use mmu::Hardware;
 use slot_lock::SlotMap;
 use std::alloc::Allocator;
 use vm_base::{CoreId, Request};
+
+/// The most events of a call that are made at once: it begins, its arguments are checked, its page is
+/// tried, a fault's steps, and the reply is handed out.
+const MOST_EVENTS: u64 = 3 + MOST_STEPS + 1;
 
 /// How far a call has come that was begun.
 #[derive(Clone, Copy, Debug, PartialEq, Eq)]
@@ -61,7 +66,7 @@ impl<M: SlotMap, H: Hardware, A: Allocator, L: Ledger> Engine<M, H, A, L> {
         ensures divides { StartsAsMap M.parts (world M.slots self.old) core request result (world M.slots self.new) }
         ensures reached { ∥ IsReached (world M.slots self.new) ∥₁ }
     {
-        if self.calls.events >= u64::MAX - 11 || !self.is_here(Some(core)) {
+        if self.calls.events >= u64::MAX - MOST_EVENTS || !self.is_here(Some(core)) {
             return self.begin(core, request);
         }
         if !self.can_begin(core) {
