@@ -1,19 +1,20 @@
 -- Which frames pages, and pages of files, have, once some were given back or taken
-use Rattle.std.proofs.Common.{◌≡◌, ◌≢◌, ℕ, ◌-◌, ◌<◌, ◌≤◌, ◌⊎◌, inl, inr, Bool, true, false, Option, Some, None, refl, sym, ◌∙◌, ap, subst, arith}
+use Rattle.std.proofs.Common.{◌≡◌, ◌≢◌, ℕ, ◌+◌, ◌-◌, ◌<◌, ◌≤◌, ◌⊎◌, inl, inr, Bool, true, false, Option, Some, None, refl, sym, ◌∙◌, ap, subst, arith}
 use Rattle.std.specs.Prelude.{◌==◌}
 use Rattle.vm_base.specs.declared.info.PageInfo.{PageInfo}
 use Rattle.vm_base.specs.declared.rights.Prot.{Prot}
 use Rattle.vm_base.specs.declared.page.PageRange.{PageRange}
 use Rattle.vm_base.specs.Functions.{put, has}
 use Rattle.vm_base.specs.Info.{advance, frame_of, info_with_prot, info_without_frame, unused}
-use Rattle.vm_base.proofs.Functions.{by_test, eq_false, in_has, put_other, over_all, across_all}
+use Rattle.vm_base.proofs.Functions.{by_test, eq_false, eq_true, in_has, put_other, over_all, across_all}
 use Rattle.slot_lock.specs.declared.plan.Change.{Change}
 use Rattle.slot_lock.specs.declared.plan.Change.TheVariants.{Put, Clear, Protect}
+use Rattle.slot_lock.specs.Plan.{range_of}
 use Rattle.slot_lock.specs.Changes.{changed}
 use Rattle.slot_lock.specs.Framed.{frames_in}
 use Rattle.slot_lock.specs.Slots.{Slots, LosesFrame, with_info}
 use Rattle.frames.specs.Parts.{FrameParts, frame_bytes, free_frames}
-use Rattle.audit.specs.Keeping.{IsKept, Keeps, Forgets, frame_at, none_cached}
+use Rattle.audit.specs.Keeping.{IsKept, Keeps, Forgets, frame_at, frame_lost, none_cached}
 
 -- ---- fewer frames
 
@@ -55,12 +56,14 @@ changed_fewer s (Put range meta) p x =
     across_all (λ j (o : Option PageInfo). frame_of o ≡ Some x → frame_of (s.info j) ≡ Some x) s.info (has range)
     (λ j. Some (unused (advance meta (j - range.first)))) (λ j e h. never x h) (λ j e h. h) p
 changed_fewer s (Clear range) p x =
-    over_all (λ j (o : Option PageInfo). frame_of o ≡ Some x → frame_of (s.info j) ≡ Some x) s.info (has range) None (λ j e h. never x h) (λ j e h. h) p
+    over_all (λ j (o : Option PageInfo). frame_of o ≡ Some x → frame_of (s.info j) ≡ Some x) s.info (has range) None (λ j e h. never x h)
+    (λ j e h. h) p
 changed_fewer s (Protect range prot) p x =
     across_all (λ j (o : Option PageInfo). frame_of o ≡ Some x → frame_of (s.info j) ≡ Some x) s.info (has range)
     (λ j. info_with_prot prot (s.info j)) (λ j e h. sym (same_frame prot (s.info j)) ∙ h) (λ j e h. h) p
 
-pub kept_changed : (s t : Slots) (c : Change) (cached : ℕ → ℕ → Option ℕ) (f : FrameParts) → t.info ≡ (changed s c).info → Keeps s cached f → Keeps t cached f
+pub kept_changed : (s t : Slots) (c : Change) (cached : ℕ → ℕ → Option ℕ) (f : FrameParts) → t.info ≡ (changed s c).info → Keeps s cached f
+    → Keeps t cached f
 kept_changed s t c cached f e =
     kept_pages s t cached f (λ p x h. changed_fewer s c p x (ap (λ (i : ℕ → Option PageInfo). frame_of (i p)) (sym e) ∙ h))
 
@@ -88,7 +91,8 @@ given s cached f g page x at free count k = record {
     had : (o : Option ℕ) (p y : ℕ) → frame_at (frames_in (without s page)) cached o p ≡ Some y
         → (frame_at (frames_in s) cached o p ≡ Some y) × (o ≡ None → p ≢ page)
     had None p y =
-        by_test (λ (i : Option PageInfo). frame_of i ≡ Some y → (frame_of (s.info p) ≡ Some y) × (◌≡◌ {A = Option ℕ} None None → p ≢ page)) (p == page)
+        by_test (λ (i : Option PageInfo). frame_of i ≡ Some y → (frame_of (s.info p) ≡ Some y) × (◌≡◌ {A = Option ℕ} None None → p ≢ page))
+        (p == page)
         (info_without_frame (s.info page)) (s.info p)
         (λ e h. let none : frame_of (info_without_frame (s.info page)) ≡ None = no_frame (s.info page) in absurd cc)
         (λ e h. (h, λ same. eq_false p page e))
@@ -109,10 +113,55 @@ pub was_taken : (s t : Slots) (cached : ℕ → ℕ → Option ℕ) (f : FramePa
     → (x < f.count) × (free_frames f x ≡ false)
 was_taken s t cached f from end page x l k = k.taken None page x l.had
 
+-- ---- a page that is changed alone
+
+frame_had : (s : Slots) (c : Change) (info : Option PageInfo) (x : ℕ) → info ≡ s.info (range_of c).first → Some x ≡ frame_lost c info
+    → frame_of (s.info (range_of c).first) ≡ Some x
+frame_had s (Put range meta) info x same lost = ap frame_of (sym same) ∙ sym lost
+frame_had s (Clear range) info x same lost = ap frame_of (sym same) ∙ sym lost
+frame_had s (Protect range prot) info x same lost = absurd cc
+
+-- the frame that it loses was taken before,
+pub lost_taken : (s : Slots) (c : Change) (info : Option PageInfo) (cached : ℕ → ℕ → Option ℕ) (f : FrameParts) (x : ℕ)
+    → info ≡ s.info (range_of c).first → Some x ≡ frame_lost c info → Keeps s cached f → (x < f.count) × (free_frames f x ≡ false)
+lost_taken s c info cached f x same lost k = k.taken None (range_of c).first x (frame_had s c info x same lost)
+
+gone : (s : Slots) (c : Change) (info : Option PageInfo) (x : ℕ) → (range_of c).end ≡ (range_of c).first + 1 → Some x ≡ frame_lost c info
+    → frame_of ((changed s c).info (range_of c).first) ≡ None
+gone s (Put range meta) info x one lost =
+    across_all (λ j (o : Option PageInfo). j ≡ range.first → frame_of o ≡ None) s.info (has range)
+    (λ j. Some (unused (advance meta (j - range.first)))) (λ j e same. refl)
+    (λ j e same. let in' : has range j ≡ true = in_has range j (omega (arith, same)) (omega (arith, same, one)) in absurd cc) range.first refl
+gone s (Clear range) info x one lost =
+    over_all (λ j (o : Option PageInfo). j ≡ range.first → frame_of o ≡ None) s.info (has range) None (λ j e same. refl)
+    (λ j e same. let in' : has range j ≡ true = in_has range j (omega (arith, same)) (omega (arith, same, one)) in absurd cc) range.first refl
+gone s (Protect range prot) info x one lost = absurd cc
+
+-- and no page has it behind the change
+pub kept_alone : (s t : Slots) (c : Change) (info : Option PageInfo) (cached : ℕ → ℕ → Option ℕ) (f g : FrameParts) (x : ℕ)
+    → (range_of c).end ≡ (range_of c).first + 1 → info ≡ s.info (range_of c).first → Some x ≡ frame_lost c info
+    → free_frames g ≡ put (free_frames f) x true → g.count ≡ f.count → t ≡ changed s c → Keeps s cached f → Keeps t cached g
+kept_alone s t c info cached f g x one same lost free count now k =
+    kept_pages (without s page) t cached g fewer (given s cached f g page x (frame_had s c info x same lost) free count k)
+  where
+    page : ℕ
+    page = (range_of c).first
+
+    there : (p : ℕ) → (p == page) ≡ true → frame_of ((changed s c).info p) ≡ None
+    there p at = ap (λ q. frame_of ((changed s c).info q)) (eq_true p page at) ∙ gone s c info x one lost
+
+    fewer : (p y : ℕ) → frame_of (t.info p) ≡ Some y → frame_of ((without s page).info p) ≡ Some y
+    fewer p y e =
+        let was : frame_of ((changed s c).info p) ≡ Some y = ap (λ (u : Slots). frame_of (u.info p)) (sym now) ∙ e in
+        by_test (λ (i : Option PageInfo). frame_of i ≡ Some y) (p == page) (info_without_frame (s.info page)) (s.info p)
+        (λ at. let none : frame_of ((changed s c).info p) ≡ None = there p at in absurd cc)
+        (λ apart. changed_fewer s c p y was)
+
 pub forgets_none : (s : Slots) (f : FrameParts) (range : PageRange) → Forgets s s f f range
 forgets_none s f range = record { owners = refl; edges = refl; outside = λ p e. refl; bytes = refl; kept = λ cached k. k }
 
-pub forgets_more : (r s t : Slots) (e f g : FrameParts) (range : PageRange) (from page x : ℕ) → range.first ≤ from → LosesFrame s t from range.end page x
+pub forgets_more : (r s t : Slots) (e f g : FrameParts) (range : PageRange) (from page x : ℕ) → range.first ≤ from
+    → LosesFrame s t from range.end page x
     → free_frames g ≡ put (free_frames f) x true → frame_bytes g ≡ frame_bytes f → g.count ≡ f.count → Forgets r s e f range → Forgets r t e g range
 forgets_more r s t e f g range from page x low l free bytes count h = record {
   owners = ap (λ u. u.owner) l.now ∙ h.owners;

@@ -7,6 +7,9 @@ use Rattle.vm_base.specs.declared.info.PageInfo.{PageInfo}
 use Rattle.vm_base.specs.declared.page.PageRange.{PageRange}
 use Rattle.vm_base.specs.Functions.{put, has}
 use Rattle.vm_base.specs.Plain.{Bytes, File, Entry, Plain, zeros, bytes_in}
+use Rattle.vm_base.specs.Info.{frame_of}
+use Rattle.slot_lock.specs.declared.plan.Change.{Change}
+use Rattle.slot_lock.specs.declared.plan.Change.TheVariants.{Put, Clear, Protect}
 use Rattle.slot_lock.specs.Slots.{Slots}
 use Rattle.slot_lock.specs.Framed.{frames_in}
 use Rattle.frames.specs.Parts.{FrameParts, frame_bytes, free_frames}
@@ -73,6 +76,12 @@ Keeps s cached frames = IsKept (frame_at (frames_in s) cached) frames
 -- there are the frames of pages of files
 abbrev pub AreFrames : (ℕ → ℕ → Option ℕ) → FrameParts → Type 0
 AreFrames cached frames = (n k f : ℕ) → cached n k ≡ Some f → f < frames.count
+
+-- the frame that a page which has this loses by a change of it
+abbrev pub frame_lost : Change → Option PageInfo → Option ℕ
+frame_lost (Put range meta) info = frame_of info
+frame_lost (Clear range) info = frame_of info
+frame_lost (Protect range prot) info = None
 
 -- no page of a file has a frame
 abbrev pub none_cached : ℕ → ℕ → Option ℕ

@@ -1,16 +1,16 @@
 //! Changes of ranges of pages.
-ghost use Rattle.std.specs.Prelude.{◌≡◌, ℕ, Option, OnOk, OnErr};
+ghost use Rattle.std.specs.Prelude.{◌≡◌, ℕ, ◌+◌, Option, OnOk, OnErr, IfNone, IfSome};
 ghost use Rattle.slot_lock.specs.Plan.{IsSoundChange, range_of};
 ghost use Rattle.slot_lock.specs.Changes.{IsMappedFor, changed};
-ghost use Rattle.slot_lock.specs.Slots.{IsHeld};
+ghost use Rattle.slot_lock.specs.Slots.{IsFreePage, IsFreeSlot, IsHeld};
 ghost use Rattle.frames.specs.Parts.{frame_bytes};
-ghost use Rattle.audit.specs.Keeping.{NobodyHolds, Keeps, Forgets, none_cached};
+ghost use Rattle.audit.specs.Keeping.{NobodyHolds, Keeps, Forgets, frame_lost, none_cached};
 
 use crate::holding::{hold, let_go, only_core};
 use frames::Frames;
-use slot_lock::{Change, SlotMap};
+use slot_lock::{Change, FreePage, SlotMap};
 use std::alloc::Allocator;
-use vm_base::{NoMemory, PageRange};
+use vm_base::{NoMemory, PageInfo, PageRange};
 
 /// Gives the frames of all pages of the range back. What these pages show is left open: they are about
 /// to be mapped anew, or unmapped.
@@ -75,4 +75,53 @@ pub fn make_change<M: SlotMap, A: Allocator>(
     change_held(map, frames, change);
     let_go(map, range.first, range.end);
     Ok(())
+}
+
+/// What the only page of a change has, where it is a slot of its own that nobody holds.
+pub fn free_alone<M: SlotMap>(map: &M, change: Change) -> Option<FreePage>
+    requires { IsSoundChange change }
+    ensures one { IfSome result (λ page. (range_of change).end ≡ (range_of change).first + 1) }
+    ensures page { IfSome result (IsFreePage (M.slots map.now) (range_of change).first) }
+    ensures none { IfNone result ((range_of change).end ≡ (range_of change).first + 1
+        → ¬ IsFreeSlot (M.slots map.now) (range_of change).first) }
+{
+    let range = change.range();
+    if range.end - range.first != 1 {
+        return None;
+    }
+    map.free_page(range.first)
+}
+
+/// The frame that a page which has this loses by a change of it, if it does.
+fn frame_lost(change: Change, info: Option<PageInfo>) -> Option<u32>
+    ensures { result ≡ frame_lost change info }
+{
+    match change {
+        Change::Put { .. } | Change::Clear { .. } => info?.frame,
+        Change::Protect { .. } => None,
+    }
+}
+
+/// Makes a change of one page that is a slot of its own, which has this, and gives its frame back where
+/// it is mapped anew or unmapped. The page is not held for it.
+pub fn change_alone<M: SlotMap, A: Allocator>(
+    map: &mut M,
+    frames: &mut Frames<A>,
+    change: Change,
+    page: FreePage,
+)
+    requires sound { IsSoundChange change }
+    requires one { (range_of change).end ≡ (range_of change).first + 1 }
+    requires page { IsFreePage (M.slots map.old) (range_of change).first page }
+    requires mapped { IsMappedFor (M.slots map.old) change }
+    requires kept { Keeps (M.slots map.old) none_cached frames.old }
+    ensures slots { M.slots map.new ≡ changed (M.slots map.old) change }
+    ensures bytes { frame_bytes frames.new ≡ frame_bytes frames.old }
+    ensures kept { (cached : ℕ → ℕ → Option ℕ) → Keeps (M.slots map.old) cached frames.old
+        → Keeps (M.slots map.new) cached frames.new }
+{
+    if let Some(frame) = frame_lost(change, page.info) {
+        frames.give(frame);
+    }
+    map.change_free(change);
 }

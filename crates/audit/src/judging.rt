@@ -1,25 +1,26 @@
 //! What is judged of one reply.
-ghost use Rattle.std.specs.Prelude.{◌≡◌, ◌↔◌, IsTrue, IfOk, OnErr, Bool};
+ghost use Rattle.std.specs.Prelude.{◌≡◌, ◌+◌, ◌↔◌, IsTrue, IfOk, OnErr, Bool};
 ghost use Rattle.slot_lock.specs.Plan.{IsSound, IsSoundChange, IsSoundPlace, IsSoundTouch};
 ghost use Rattle.slot_lock.specs.declared.plan.Plan.TheVariants as PlanOf;
 ghost use Rattle.slot_lock.specs.declared.plan.Goal.TheVariants as GoalOf;
 ghost use Rattle.vm_calls.specs.Plainly.{answer_to};
 ghost use Rattle.slot_lock.specs.Plan.{range_of};
+ghost use Rattle.slot_lock.specs.Slots.{IsFreePage};
 ghost use Rattle.backing.specs.Files.{cached_in};
 ghost use Rattle.audit.specs.Keeping.{Keeps, NobodyHolds, plain_kept};
 ghost use Rattle.audit.specs.Judging.{Compares, JudgesPlan};
 
 use crate::bytes::access_reply;
-use crate::changing::make_change;
+use crate::changing::{change_alone, free_alone, make_change};
 use crate::placing::{first_place, is_allowed, place_said, reply_at};
 use crate::storing::store;
 use backing::Objects;
 use frames::Frames;
-use slot_lock::{Change, Goal, Place, Plan, SlotMap, Touch};
+use slot_lock::{Change, FreePage, Goal, Place, Plan, SlotMap, Touch};
 use std::alloc::Allocator;
 use vm_base::page::PAGE_SIZE;
 use vm_base::{NoMemory, PageRange, Reply, SegvCode};
-use vm_calls::{Decision, decide};
+use vm_calls::{Decision, decide, decide_page};
 
 /// What is judged of a reply.
 #[derive(Clone, Copy, Debug, PartialEq, Eq)]
@@ -66,8 +67,39 @@ fn change_reply(change: Change) -> Reply
     }
 }
 
-/// Makes a change whose reply is legal.
-fn judge_change<M: SlotMap, A: Allocator>(
+/// Makes a change of one page that is a slot of its own, which has this, where its reply is legal.
+fn judge_alone<M: SlotMap, A: Allocator>(
+    map: &mut M,
+    objects: &Objects<A>,
+    frames: &mut Frames<A>,
+    change: Change,
+    page: FreePage,
+    reply: Reply,
+) -> Verdict
+    requires sound { IsSoundChange change }
+    requires one { (range_of change).end ≡ (range_of change).first + 1 }
+    requires page { IsFreePage (M.slots map.old) (range_of change).first page }
+    requires free { NobodyHolds (M.slots map.old) }
+    requires kept { Keeps (M.slots map.old) (cached_in objects.now) frames.old }
+    ensures judged { (any_place : Bool) → JudgesPlan any_place
+        (plain_kept (M.slots map.old) objects.now frames.old) (PlanOf.Change change) reply result
+        (plain_kept (M.slots map.new) objects.now frames.new) }
+    ensures free { NobodyHolds (M.slots map.new) }
+    ensures kept { Keeps (M.slots map.new) (cached_in objects.now) frames.new }
+{
+    if let Err(errno) = decide_page(objects, change, page.info) {
+        return compared(reply, Reply::Refused(errno));
+    }
+    let due = change_reply(change);
+    if !is_same(reply, due) {
+        return Verdict::Illegal(due);
+    }
+    change_alone(map, frames, change, page);
+    Verdict::Legal
+}
+
+/// Makes a change whose reply is legal, of pages that are held for it.
+fn judge_held<M: SlotMap, A: Allocator>(
     map: &mut M,
     objects: &Objects<A>,
     frames: &mut Frames<A>,
@@ -97,6 +129,31 @@ fn judge_change<M: SlotMap, A: Allocator>(
         }
         Decision::Again => unreachable!(),
     }
+}
+
+/// Makes a change whose reply is legal.
+fn judge_change<M: SlotMap, A: Allocator>(
+    map: &mut M,
+    objects: &Objects<A>,
+    frames: &mut Frames<A>,
+    change: Change,
+    reply: Reply,
+) -> Result<Verdict, NoMemory>
+    requires sound { IsSoundChange change }
+    requires free { NobodyHolds (M.slots map.old) }
+    requires kept { Keeps (M.slots map.old) (cached_in objects.now) frames.old }
+    ensures judged { IfOk result (λ verdict. (any_place : Bool) → JudgesPlan any_place
+        (plain_kept (M.slots map.old) objects.now frames.old) (PlanOf.Change change) reply verdict
+        (plain_kept (M.slots map.new) objects.now frames.new)) }
+    ensures err { OnErr result (plain_kept (M.slots map.new) objects.now frames.new
+        ≡ plain_kept (M.slots map.old) objects.now frames.old) }
+    ensures free { NobodyHolds (M.slots map.new) }
+    ensures kept { Keeps (M.slots map.new) (cached_in objects.now) frames.new }
+{
+    if let Some(page) = free_alone(map, change) {
+        return Ok(judge_alone(map, objects, frames, change, page, reply));
+    }
+    judge_held(map, objects, frames, change, reply)
 }
 
 /// Does an access whose reply is legal.
