@@ -31,8 +31,8 @@ meta_kept bytes (Some info) = refl
 pub metas_kept : (s : Slots) (objects : List FileParts) (frames : FrameParts) → slot_metas s ≡ plain_metas (plain_kept s objects frames)
 metas_kept s objects frames = fun_ext (λ p. meta_kept (frame_bytes frames) (s.info p))
 
-pub verdict_shown : (any : Bool) (lines : List (List ℕ)) (verdict : Verdict) (u : Plain) (meta : ℕ → Option Meta) (around : List MapLine) → meta ≡ plain_metas u
-    → IsFound any lines verdict u → ShowsAround meta verdict around → IsVerdict any lines verdict around
+pub verdict_shown : (any : Bool) (lines : List (List ℕ)) (verdict : Verdict) (u : Plain) (meta : ℕ → Option Meta) (around : List MapLine)
+    → meta ≡ plain_metas u → IsFound any lines verdict u → ShowsAround meta verdict around → IsVerdict any lines verdict around
 verdict_shown any lines (Of.Legal calls passed) u meta around e found shown = (found, shown)
 verdict_shown any lines (Of.Illegal line call due) u meta around e found shown = record {
   plain = u;

@@ -20,10 +20,11 @@ use Rattle.audit_text.specs.declared.reading.Said.{Said}
 
 -- ---- the first call
 
-pub call_begins : (any : Bool) (lines more : List (List ℕ)) (d : Declared) (h : Heard) (t : Plain) (said : Said) (n : ℕ) → EndsFront lines d (Some said) n more
-    → d.has_space ≡ true → h ≡ nothing → t ≡ first_map d → IsCall any lines d h t said n more
+pub call_begins : (any : Bool) (lines more : List (List ℕ)) (d : Declared) (h : Heard) (t : Plain) (said : Said) (n : ℕ)
+    → EndsFront lines d (Some said) n more → d.has_space ≡ true → h ≡ nothing → t ≡ first_map d → IsCall any lines d h t said n more
 call_begins any lines more d h t said n ends space new first =
-    subst (λ (x : Heard). IsCall any lines d x t said n more) (sym new) (subst (λ (x : Plain). IsCall any lines d nothing x said n more) (sym first) (record {
+    subst (λ (x : Heard). IsCall any lines d x t said n more) (sym new)
+    (subst (λ (x : Plain). IsCall any lines d nothing x said n more) (sym first) (record {
       stage = Front d;
       at = ends.0;
       space = space;
@@ -51,7 +52,8 @@ keeps_same None = tt
 keeps_same (Some x) = refl
 
 pub judges_all : (any : Bool) (input text : List ℕ) (old new : Option (List ℕ)) (verdict : Verdict) (around : List MapLine)
-    → IsVerdict any (lines_of input) verdict around → text ≡ verdict_text verdict around → Appends old new text → AuditEnds any input old new (Ok verdict)
+    → IsVerdict any (lines_of input) verdict around → text ≡ verdict_text verdict around → Appends old new text
+    → AuditEnds any input old new (Ok verdict)
 judges_all any input text old new verdict around v e w = record { around = around; is = v; written = subst (Appends old new) e w }
 
 pub breaks_off : (any : Bool) (input text : List ℕ) (old new : Option (List ℕ)) (verdict : Verdict) (around : List MapLine) (f : AuditFault)
@@ -61,7 +63,8 @@ breaks_off any input text old new verdict around f is v e w =
     subst (λ x. AuditEnds any input old new (Err x)) (sym is)
     (record { verdict = verdict; around = around; is = v; written = subst (AppendsFront old new) e w })
 
-pub fails_so : (any : Bool) (input : List ℕ) (o : Option (List ℕ)) (f : AuditFault) → IsAtFault any (lines_of input) f → AuditEnds any input o o (Err f)
+pub fails_so : (any : Bool) (input : List ℕ) (o : Option (List ℕ)) (f : AuditFault) → IsAtFault any (lines_of input) f
+    → AuditEnds any input o o (Err f)
 fails_so any input o (BadLine n) h = (h, keeps_same o)
 fails_so any input o (TooLong n) h = (h, keeps_same o)
 fails_so any input o NoVmLine h = (h, keeps_same o)

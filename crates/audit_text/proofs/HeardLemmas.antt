@@ -1,5 +1,6 @@
 -- What hearing a line comes to.
-use Rattle.std.proofs.Common.{◌≡◌, ℕ, zero, suc, ◌+◌, arith, Bool, true, false, cond, List, [], ◌∷◌, ◌++◌, Option, Some, None, is_some, refl, sym, ap, ◌∙◌, subst}
+use Rattle.std.proofs.Common.{◌≡◌, ℕ, zero, suc, ◌+◌, arith, Bool, true, false, cond, List, [], ◌∷◌, ◌++◌, Option, Some, None, is_some}
+use Rattle.std.proofs.Common.{refl, sym, ap, ◌∙◌, subst}
 use Rattle.std.specs.Prelude.{option_map, replicate, set}
 use Rattle.vm_base.specs.Plain.{Plain}
 use Rattle.vm_base.specs.declared.replies.Reply.{Reply}
@@ -21,7 +22,8 @@ none_more x zero = refl
 none_more x (suc n) = let sum : suc n + 1 ≡ suc (n + 1) = omega arith in ap (λ l. x ∷ l) (none_more x n) ∙ ap (λ m. replicate m x) (sym sum)
 
 -- one more place
-pub one_waiting : {X : Type 0} (n next : ℕ) (old new : List (Option X)) → next ≡ n + 1 → new ≡ old ++ None ∷ [] → old ≡ replicate n None → new ≡ replicate next None
+pub one_waiting : {X : Type 0} (n next : ℕ) (old new : List (Option X)) → next ≡ n + 1 → new ≡ old ++ None ∷ [] → old ≡ replicate n None
+    → new ≡ replicate next None
 one_waiting n next old new up is was = is ∙ ap (λ l. l ++ None ∷ []) was ∙ none_more None n ∙ ap (λ m. replicate m None) (sym up)
 
 grown : (w : List (Option Request)) (cs ds : List Call) (p : ℕ) (call : Call) → ds ≡ cs ++ call ∷ []
@@ -40,14 +42,15 @@ pub judged_illegal : (any : Bool) (h k : Heard) (t u : Plain) (call : Call) (v :
 judged_illegal any h k t u call v due j is =
     let w = subst (λ (x : Verdict). Judges (rule_of any) t call.core call.request call.reply x u) is j in (refl, w.2, (w.0, w.1))
 
-extends_by : (any : Bool) (h k : Heard) (t u : Plain) (call : Call) → k ≡ with_answer h call → Answers (rule_of any) t call.core call.request call.reply u
+extends_by : (any : Bool) (h k : Heard) (t u : Plain) (call : Call) → k ≡ with_answer h call
+    → Answers (rule_of any) t call.core call.request call.reply u
     → (first : Plain) → AreReplies (rule_of any) first h.calls t → AreReplies (rule_of any) first k.calls u
 extends_by any h k t u call is answers first r =
     subst (λ (e : Heard). AreReplies (rule_of any) first e.calls u) (sym is) (replies_push (rule_of any) first t u h.calls call r answers)
 
 -- a call that is answered at once
-pub answered_hears : (any : Bool) (h k : Heard) (t u : Plain) (call : Call) (turn : Turn) → is_some (waits h call.core) ≡ false → JudgesCall any h t call turn k u
-    → Hears any h t (Of.Answered call) turn k u
+pub answered_hears : (any : Bool) (h k : Heard) (t u : Plain) (call : Call) (turn : Turn) → is_some (waits h call.core) ≡ false
+    → JudgesCall any h t call turn k u → Hears any h t (Of.Answered call) turn k u
 answered_hears any h k t u call Legal idle (is, answers) =
     let told : call_told h (Of.Answered call) ≡ Some call = ap (λ b. cond b None (Some call)) idle in
     (ap (option_map (with_call h (Of.Answered call))) told ∙ ap Some (sym is), extends_by any h k t u call is answers)
@@ -56,12 +59,13 @@ answered_hears any h k t u call (Illegal c due) idle (is, same, refused) =
     (ap (λ b. cond b None (Some call)) idle ∙ ap Some (sym is), same, refused)
 
 -- one that isn't, since another of its core waits
-pub answered_bad : (any : Bool) (h k : Heard) (t u : Plain) (call : Call) → is_some (waits h call.core) ≡ true → Hears any h t (Of.Answered call) Bad k u
+pub answered_bad : (any : Bool) (h k : Heard) (t u : Plain) (call : Call) → is_some (waits h call.core) ≡ true
+    → Hears any h t (Of.Answered call) Bad k u
 answered_bad any h k t u call busy = ap (λ b. option_map (with_call h (Of.Answered call)) (cond b None (Some call))) busy
 
 -- one that waited
-pub ended_hears : (any : Bool) (h g k : Heard) (t u : Plain) (core : ℕ) (reply : Reply) (request : Request) (turn : Turn) → waits h core ≡ Some request
-    → g ≡ record h { waiting = set h.waiting core None } → JudgesCall any g t (call_to core reply request) turn k u
+pub ended_hears : (any : Bool) (h g k : Heard) (t u : Plain) (core : ℕ) (reply : Reply) (request : Request) (turn : Turn)
+    → waits h core ≡ Some request → g ≡ record h { waiting = set h.waiting core None } → JudgesCall any g t (call_to core reply request) turn k u
     → Hears any h t (Of.Ends core reply) turn k u
 ended_hears any h g k t u core reply request Legal waited after (is, answers) =
     let call = call_to core reply request in (

@@ -7,3 +7,5 @@ pub mod PlaceLemmas
 pub mod HeardLemmas
 pub mod AroundLemmas
 pub mod EndLemmas
+pub mod OneReading
+pub mod EchoLemmas

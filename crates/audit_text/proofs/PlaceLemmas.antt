@@ -55,8 +55,8 @@ at_next lines more n s t said a after =
     subst (λ k. IsPlace lines k more t) up (place_more lines (a.line ∷ more) more a.before s t a.line said a.place refl (a.short, a.tells) after)
 
 -- the declaration ends at this line
-pub ended_front : (lines rest more : List (List ℕ)) (n : ℕ) (d e : Declared) (line : List ℕ) (said : Said) → IsPlace lines n rest (Front d) → rest ≡ line ∷ more
-    → (length line ≤ 512) × Tells said line → (e ≡ d) × HasEnded d said → EndsFront lines e (Some said) (n + 1) more
+pub ended_front : (lines rest more : List (List ℕ)) (n : ℕ) (d e : Declared) (line : List ℕ) (said : Said) → IsPlace lines n rest (Front d)
+    → rest ≡ line ∷ more → (length line ≤ 512) × Tells said line → (e ≡ d) × HasEnded d said → EndsFront lines e (Some said) (n + 1) more
 ended_front lines rest more n d e line said p is says (same, ended) =
     subst (λ (x : Declared). EndsFront lines x (Some said) (n + 1) more) (sym same) (at_line lines rest more n (Front d) line said p is says, ended)
 
@@ -65,8 +65,8 @@ ended_last lines rest n d p e = subst (λ l. IsPlace lines n l (Front d)) e p
 
 -- ---- faults
 
-pub fault_here : (any : Bool) (lines rest more : List (List ℕ)) (n : ℕ) (s : Stage) (t : Plain) (line : List ℕ) (f : AuditFault) → IsPlace lines n rest s
-    → Follows any s t → rest ≡ line ∷ more → SaysNothing line (n + 1) f → IsAtFault any lines f
+pub fault_here : (any : Bool) (lines rest more : List (List ℕ)) (n : ℕ) (s : Stage) (t : Plain) (line : List ℕ) (f : AuditFault)
+    → IsPlace lines n rest s → Follows any s t → rest ≡ line ∷ more → SaysNothing line (n + 1) f → IsAtFault any lines f
 fault_here any lines rest more n s t line (BadLine k) p h e (is, says) = record {
   stage = s;
   plain = t;
@@ -110,7 +110,8 @@ bad_at any lines more n s t said a h none = record {
 
 -- ---- calls
 
-after_legal : (any : Bool) (lines more : List (List ℕ)) (d : Declared) (h k : Heard) (t u : Plain) (said : Said) (n : ℕ) → IsCall any lines d h t said n more
+after_legal : (any : Bool) (lines more : List (List ℕ)) (d : Declared) (h k : Heard) (t u : Plain) (said : Said) (n : ℕ)
+    → IsCall any lines d h t said n more
     → Hears any h t said Legal k u → IsPlace lines n more (Behind d k) × AreReplies (rule_of any) (first_map d) k.calls u
 after_legal any lines more d h k t u said n c (is, extends) =
     let next : stage_after c.stage said ≡ Some (Behind d k) = c.after ∙ ap (behind d) is in
@@ -120,7 +121,8 @@ after_legal any lines more d h k t u said n c (is, extends) =
     subst (λ (e : Heard). AreReplies (rule_of any) (first_map d) e.calls t) c.heard same in
     (at_next lines more n c.stage (Behind d k) said c.at next, extends (first_map d) told)
 
-pub call_next : (any : Bool) (lines rest more : List (List ℕ)) (d : Declared) (h k : Heard) (t u : Plain) (said other : Said) (n m : ℕ) (line : List ℕ)
+pub call_next : (any : Bool) (lines rest more : List (List ℕ)) (d : Declared) (h k : Heard) (t u : Plain) (said other : Said) (n m : ℕ)
+    (line : List ℕ)
     → IsCall any lines d h t said n rest → Hears any h t said Legal k u → rest ≡ line ∷ more → (length line ≤ 512) × Tells other line → m ≡ n + 1
     → IsCall any lines d k u other m more
 call_next any lines rest more d h k t u said other n m line c hears e says up =
@@ -151,8 +153,10 @@ call_last any lines rest d h k t u said n judged c hears e counted =
       passed_are = refl;
     }
 
-pub call_fault : (any : Bool) (lines rest more : List (List ℕ)) (d : Declared) (h k : Heard) (t u : Plain) (said : Said) (n m : ℕ) (line : List ℕ) (f : AuditFault)
-    → IsCall any lines d h t said n rest → Hears any h t said Legal k u → rest ≡ line ∷ more → m ≡ n + 1 → SaysNothing line m f → IsAtFault any lines f
+pub call_fault : (any : Bool) (lines rest more : List (List ℕ)) (d : Declared) (h k : Heard) (t u : Plain) (said : Said) (n m : ℕ) (line : List ℕ)
+    (f : AuditFault)
+    → IsCall any lines d h t said n rest → Hears any h t said Legal k u → rest ≡ line ∷ more → m ≡ n + 1 → SaysNothing line m f
+    → IsAtFault any lines f
 call_fault any lines rest more d h k t u said n m line f c hears e up says =
     let (place, follows) = after_legal any lines rest d h k t u said n c hears in
     fault_here any lines rest more n (Behind d k) u line f place follows e (subst (λ i. SaysNothing line i f) up says)
@@ -194,18 +198,20 @@ turn_fault any lines more d h k t u said n WriteFailed c turns = absurd turns
 
 -- ---- the same of a turn whose rule is known by an equation
 
-pub turn_fault_by : (b any : Bool) → b ≡ any → (lines more : List (List ℕ)) (d : Declared) (h k : Heard) (t u : Plain) (said : Said) (n : ℕ) (f : AuditFault)
-    → IsCall any lines d h t said n more → TurnsOut b h t said n (Err f) k u → IsAtFault any lines f
+pub turn_fault_by : (b any : Bool) → b ≡ any → (lines more : List (List ℕ)) (d : Declared) (h k : Heard) (t u : Plain) (said : Said) (n : ℕ)
+    (f : AuditFault) → IsCall any lines d h t said n more → TurnsOut b h t said n (Err f) k u → IsAtFault any lines f
 turn_fault_by b any e lines more d h k t u said n f c turns =
     turn_fault any lines more d h k t u said n f c (subst (λ (x : Bool). TurnsOut x h t said n (Err f) k u) e turns)
 
-pub turn_verdict_by : (b any : Bool) → b ≡ any → (lines more : List (List ℕ)) (d : Declared) (h k : Heard) (t u : Plain) (said : Said) (n : ℕ) (o : Option Verdict)
+pub turn_verdict_by : (b any : Bool) → b ≡ any → (lines more : List (List ℕ)) (d : Declared) (h k : Heard) (t u : Plain) (said : Said) (n : ℕ)
+    (o : Option Verdict)
     (verdict : Verdict) → IsCall any lines d h t said n more → TurnsOut b h t said n (Ok o) k u → o ≡ Some verdict → IsFound any lines verdict u
 turn_verdict_by b any e lines more d h k t u said n o verdict c turns is =
     turn_verdict any lines more d h k t u said n verdict c
-    (subst (λ (x : Bool). TurnsOut x h t said n (Ok (Some verdict)) k u) e (subst (λ (x : Option Verdict). TurnsOut b h t said n (Ok x) k u) is turns))
+    (subst (λ (x : Bool). TurnsOut x h t said n (Ok (Some verdict)) k u) e
+    (subst (λ (x : Option Verdict). TurnsOut b h t said n (Ok x) k u) is turns))
 
-pub hears_by : (b any : Bool) → b ≡ any → (h k : Heard) (t u : Plain) (said : Said) (n : ℕ) (o : Option Verdict) → TurnsOut b h t said n (Ok o) k u → o ≡ None
-    → Hears any h t said Legal k u
+pub hears_by : (b any : Bool) → b ≡ any → (h k : Heard) (t u : Plain) (said : Said) (n : ℕ) (o : Option Verdict) → TurnsOut b h t said n (Ok o) k u
+    → o ≡ None → Hears any h t said Legal k u
 hears_by b any e h k t u said n o turns none =
     subst (λ (x : Bool). Hears x h t said Legal k u) e (subst (λ (x : Option Verdict). TurnsOut b h t said n (Ok x) k u) none turns)

@@ -76,9 +76,12 @@ if_cond P false o p h k = k
 word_fits : (text : List ℕ) → IfSome (word_reply text) IsReply
 word_fits text =
     if_cond IsReply (bytes_eq text (codes "done")) (Some Done) _ tt (if_cond IsReply (bytes_eq text (codes "segv maperr")) (Some (Segv MapErr)) _ tt
-    (if_cond IsReply (bytes_eq text (codes "segv accerr")) (Some (Segv AccErr)) _ tt (if_cond IsReply (bytes_eq text (codes "einval")) (Some (Refused EINVAL)) _ tt
-    (if_cond IsReply (bytes_eq text (codes "enomem")) (Some (Refused ENOMEM)) _ tt (if_cond IsReply (bytes_eq text (codes "eacces")) (Some (Refused EACCES)) _ tt
-    (if_cond IsReply (bytes_eq text (codes "ebadf")) (Some (Refused EBADF)) _ tt (if_cond IsReply (bytes_eq text (codes "eoverflow")) (Some (Refused EOVERFLOW)) _ tt
+    (if_cond IsReply (bytes_eq text (codes "segv accerr")) (Some (Segv AccErr)) _ tt
+    (if_cond IsReply (bytes_eq text (codes "einval")) (Some (Refused EINVAL)) _ tt
+    (if_cond IsReply (bytes_eq text (codes "enomem")) (Some (Refused ENOMEM)) _ tt
+    (if_cond IsReply (bytes_eq text (codes "eacces")) (Some (Refused EACCES)) _ tt
+    (if_cond IsReply (bytes_eq text (codes "ebadf")) (Some (Refused EBADF)) _ tt
+    (if_cond IsReply (bytes_eq text (codes "eoverflow")) (Some (Refused EOVERFLOW)) _ tt
     (if_cond IsReply (bytes_eq text (codes "bus")) (Some Bus) _ tt (if_cond IsReply (bytes_eq text (codes "noframe")) (Some NoFrame) _ tt
     (if_cond IsReply (bytes_eq text (codes "nomemory")) (Some NoMemory) None tt tt))))))))))
 
@@ -113,6 +116,39 @@ reply_only text r e =
           subst (λ x. NamesReply x text) same (sym ((bytes_eq-Decides (text_of q) text).0 h.0), fits)
       | inr h ↦ let bad = h.1 in absurd (cc)
     ]
+
+-- ---- a word is written so
+
+abbrev if_written : List ℕ → Reply → Option Reply
+if_written text r = cond (bytes_eq (text_of r) text) (Some r) None
+
+word_kept : (text w : List ℕ) (r : Reply) (rest : Option Reply) → text_of r ≡ w → rest ≡ (rest >>= if_written text)
+    → cond (bytes_eq text w) (Some r) rest ≡ (cond (bytes_eq text w) (Some r) rest >>= if_written text)
+word_kept text w r rest is more = go (bytes_eq text w) refl
+  where
+    go : (b : Bool) → bytes_eq text w ≡ b → cond b (Some r) rest ≡ (cond b (Some r) rest >>= if_written text)
+    go true e =
+        let same : bytes_eq (text_of r) text ≡ true = (bytes_eq-Decides (text_of r) text).1 (is ∙ sym ((bytes_eq-Decides text w).0 e)) in
+        sym (ap (λ b. cond b (Some r) None) same)
+    go false e = more
+
+word_written : (text : List ℕ) → word_reply text ≡ (word_reply text >>= if_written text)
+word_written text =
+    word_kept text (codes "done") Done _ refl (word_kept text (codes "segv maperr") (Segv MapErr) _ refl
+    (word_kept text (codes "segv accerr") (Segv AccErr) _ refl (word_kept text (codes "einval") (Refused EINVAL) _ refl
+    (word_kept text (codes "enomem") (Refused ENOMEM) _ refl (word_kept text (codes "eacces") (Refused EACCES) _ refl
+    (word_kept text (codes "ebadf") (Refused EBADF) _ refl (word_kept text (codes "eoverflow") (Refused EOVERFLOW) _ refl
+    (word_kept text (codes "bus") Bus _ refl (word_kept text (codes "noframe") NoFrame _ refl
+    (word_kept text (codes "nomemory") NoMemory None refl refl))))))))))
+
+pub reply_word : (text : List ℕ) (r : Option Reply) → value_of text ≡ None → r ≡ word_reply text → r ≡ reply_of text
+unfolding reply_of
+reply_word text r none is = is ∙ (word_written text ∙ ap (λ o. or_word o text >>= if_written text) (sym none))
+
+pub reply_value : (text : List ℕ) (r : Reply) (b : Bool) → value_of text ≡ Some r → b ≡ bytes_eq (text_of r) text
+    → cond b (Some r) None ≡ reply_of text
+unfolding reply_of
+reply_value text r b some is = ap (λ b. cond b (Some r) None) is ∙ ap (λ o. or_word o text >>= if_written text) (sym some)
 
 -- ---- a wait is no reply
 

@@ -1,5 +1,5 @@
 -- What a line says, and how it is read.
-use Rattle.std.proofs.Common.{◌≡◌, inl, inr, ℕ, Bool, true, false, cond, eqb, List, [], ◌∷◌, Option, Some, None, refl, sym, ap, ◌∙◌, subst}
+use Rattle.std.proofs.Common.{◌≡◌, ◌⊎◌, inl, inr, ℕ, Bool, true, false, cond, eqb, List, [], ◌∷◌, Option, Some, None, refl, sym, ap, ◌∙◌, subst}
 use Rattle.std.specs.Prelude.{◌&&◌, IfSome, IfNone}
 use Rattle.vm_base.specs.declared.requests.Request.{Request}
 use Rattle.trace_text.specs.Grammar.{BytesSay, Says}
@@ -31,7 +31,8 @@ both_true a b e f = rw (e, f) refl
 
 -- ---- events
 
-comes_call : (core : ℕ) (request : Request) (text : List ℕ) (said : Said) → call_said core request text ≡ Some said → Comes said (Of.Now core request) text
+comes_call : (core : ℕ) (request : Request) (text : List ℕ) (said : Said) → call_said core request text ≡ Some said
+    → Comes said (Of.Now core request) text
 unfolding call_said
 comes_call core request text said e = elim (chosen (is_wait text) (Some (Waits core request)) _ (Some said) e) [
   | inl h ↦ let same : Waits core request ≡ said = (let g = h.1 in cc) in subst (λ s. Comes s (Of.Now core request) text) same (refl, h.0)
@@ -75,19 +76,21 @@ passes_read (Of.Fold page) text e f = ap (λ b. cond b (Some Passes) None) f
 passes_read (Of.Finish core) text e f = absurd (cc)
 passes_read (Of.Now core request) text e f = absurd (cc)
 
-comes_read : (said : Said) (line : Line) (text : List ℕ) → Comes said line text → event_said line text ≡ Some said
+pub comes_read : (said : Said) (line : Line) (text : List ℕ) → Comes said line text → event_said line text ≡ Some said
 unfolding call_said end_said
 comes_read Blank line text h = absurd h
 comes_read (Space cores frames calls) line text h = absurd h
 comes_read (File number mode len seed) line text h = absurd h
 comes_read (Answered call) line text (is, names) =
     ap (λ l. event_said l text) is
-    ∙ ap (λ b. cond b (Some (Waits call.core call.request)) (reply_of text >>= λ r. Some (Answered (record { core = call.core; request = call.request; reply = r }))))
+    ∙ ap (λ b. cond b (Some (Waits call.core call.request)) (reply_of text >>= λ r. Some
+    (Answered (record { core = call.core; request = call.request; reply = r }))))
     (reply_waits_not call.reply text names)
     ∙ ap (λ o. o >>= λ r. Some (Answered (record { core = call.core; request = call.request; reply = r }))) (reply_read call.reply text names)
 comes_read (Waits core request) line text (is, waits) =
     ap (λ l. event_said l text) is
-    ∙ ap (λ b. cond b (Some (Waits core request)) (reply_of text >>= λ r. Some (Answered (record { core = core; request = request; reply = r })))) waits
+    ∙ ap (λ b. cond b (Some (Waits core request)) (reply_of text >>= λ r. Some (Answered (record { core = core; request = request; reply = r }))))
+    waits
 comes_read (Ends core reply) line text (is, names) =
     ap (λ l. event_said l text) is
     ∙ ap (λ b. cond b (Some (StillWaits core)) (reply_of text >>= λ r. Some (Ends core r))) (reply_waits_not reply text names)
@@ -98,18 +101,28 @@ comes_read Passes line text (e, f) = passes_read line text e f
 
 -- ---- an event's line
 
-event_only : (bytes front text : List ℕ) (said : Said) → AreHalves bytes front text → said_of (words_of front) text ≡ Some said → TellsEvent said bytes
+event_only : (bytes front text : List ℕ) (said : Said) → AreHalves bytes front text → said_of (words_of front) text ≡ Some said
+    → TellsEvent said bytes
 unfolding said_of
 event_only bytes front text said halves e =
     let (line, words, is) = bind_some (line_of_words (words_of front)) (λ l. event_said l text) said e in
-    record { front = front; text = text; line = line; halves = halves; says = read_is_said line (words_of front) words; comes = comes_only line text said is }
+    record {
+      front = front;
+      text = text;
+      line = line;
+      halves = halves;
+      says = read_is_said line
+          (words_of front) words;
+      comes = comes_only line text said is;
+    }
 
 pub event_some : (r : Option Said) (bytes front text : List ℕ) → AreHalves bytes front text → r ≡ said_of (words_of front) text
     → IfSome r (λ said. TellsEvent said bytes)
 event_some None bytes front text halves e = tt
 event_some (Some said) bytes front text halves e = event_only bytes front text said halves (sym e)
 
-event_read : (bytes front text : List ℕ) (said : Said) → AreHalves bytes front text → TellsEvent said bytes → said_of (words_of front) text ≡ Some said
+pub event_read : (bytes front text : List ℕ) (said : Said) → AreHalves bytes front text → TellsEvent said bytes
+    → said_of (words_of front) text ≡ Some said
 unfolding said_of
 event_read bytes front text said halves t =
     let (f, b) = halves_one bytes front text t.front t.text halves t.halves in
@@ -133,6 +146,23 @@ event_means (Ends core reply) bytes t = t
 event_means (StillWaits core) bytes t = t
 event_means Passes bytes t = t
 
+-- an event's line, if it is printable
+pub shown_some : (r : Option Said) (bytes : List ℕ) (said : Said) → TellsEvent said bytes → r ≡ cond (are_printable bytes) (Some said) None
+    → IfSome r (λ s. Tells s bytes)
+shown_some r bytes said t e = subst (λ o. IfSome o (λ s. Tells s bytes)) (sym e) (go (are_printable bytes) refl)
+  where
+    go : (b : Bool) → are_printable bytes ≡ b → IfSome (cond b (Some said) None) (λ s. Tells s bytes)
+    go true p = (p, event_means said bytes t)
+    go false p = tt
+
+pub shown_none : (r : Option Said) (bytes : List ℕ) (said : Said) → r ≡ cond (are_printable bytes) (Some said) None
+    → IfNone r ((s : Said) → Tells s bytes → ⊥)
+shown_none r bytes said e = subst (λ o. IfNone o ((s : Said) → Tells s bytes → ⊥)) (sym e) (go (are_printable bytes) refl)
+  where
+    go : (b : Bool) → are_printable bytes ≡ b → IfNone (cond b (Some said) None) ((s : Said) → Tells s bytes → ⊥)
+    go true p = tt
+    go false p = λ s t. let yes = t.0 in absurd (cc)
+
 -- ---- a line
 
 declared_only : (bytes : List ℕ) (line : Line) (said : Said) → BytesSay line bytes → declared_said line ≡ Some said → Means said bytes
@@ -149,20 +179,28 @@ bytes_read : (bytes : List ℕ) (line : Line) → BytesSay line bytes → line_o
 bytes_read [] line h = said_is_read line [] h
 bytes_read (b ∷ bs) line h = go (eqb b 35) h
   where
-    go : (c : Bool) → cond c (line ≡ Of.Blank) (Says line (words_of (b ∷ bs))) → cond c (Some Of.Blank) (line_of_words (words_of (b ∷ bs))) ≡ Some line
+    go : (c : Bool) → cond c (line ≡ Of.Blank) (Says line (words_of (b ∷ bs)))
+        → cond c (Some Of.Blank) (line_of_words (words_of (b ∷ bs))) ≡ Some line
     go true k = ap Some (sym k)
     go false k = said_is_read line (words_of (b ∷ bs)) k
 
-declared_read : (bytes : List ℕ) (said : Said) → (TellsEvent said bytes → ⊥) → Means said bytes → declaration_of bytes ≡ Some said
+-- what a line says is an event's, or is declared
+pub means_either : (said : Said) (bytes : List ℕ) → Means said bytes → TellsEvent said bytes ⊎ (declaration_of bytes ≡ Some said)
 unfolding declaration_of
-declared_read bytes Blank never h = ap (λ o. o >>= declared_said) (bytes_read bytes Of.Blank h)
-declared_read bytes (Space cores frames calls) never h = ap (λ o. o >>= declared_said) (bytes_read bytes (Of.Space cores frames calls) h)
-declared_read bytes (File number mode len seed) never h = ap (λ o. o >>= declared_said) (bytes_read bytes (Of.File number mode len seed) h)
-declared_read bytes (Answered call) never h = absurd (never h)
-declared_read bytes (Waits core request) never h = absurd (never h)
-declared_read bytes (Ends core reply) never h = absurd (never h)
-declared_read bytes (StillWaits core) never h = absurd (never h)
-declared_read bytes Passes never h = absurd (never h)
+means_either Blank bytes h = inr (ap (λ o. o >>= declared_said) (bytes_read bytes Of.Blank h))
+means_either (Space cores frames calls) bytes h = inr (ap (λ o. o >>= declared_said) (bytes_read bytes (Of.Space cores frames calls) h))
+means_either (File number mode len seed) bytes h = inr (ap (λ o. o >>= declared_said) (bytes_read bytes (Of.File number mode len seed) h))
+means_either (Answered call) bytes h = inl h
+means_either (Waits core request) bytes h = inl h
+means_either (Ends core reply) bytes h = inl h
+means_either (StillWaits core) bytes h = inl h
+means_either Passes bytes h = inl h
+
+declared_read : (bytes : List ℕ) (said : Said) → (TellsEvent said bytes → ⊥) → Means said bytes → declaration_of bytes ≡ Some said
+declared_read bytes said never h = elim (means_either said bytes h) [
+  | inl t ↦ absurd (never t)
+  | inr e ↦ e
+]
 
 pub line_some : (r : Option Said) (bytes : List ℕ) → are_printable bytes ≡ true → r ≡ declaration_of bytes → IfSome r (λ said. Tells said bytes)
 unfolding declaration_of

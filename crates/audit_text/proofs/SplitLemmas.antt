@@ -1,5 +1,6 @@
 -- Where the sign of a line stands.
-use Rattle.std.proofs.Common.{◌≡◌, ℕ, Bool, true, false, cond, not, eqb, List, [], ◌∷◌, ◌++◌, arith, refl, sym, ap, ◌∙◌, subst, Option, Some, None, append_assoc, zero, suc, ◌<◌, length, take, drop, get_or}
+use Rattle.std.proofs.Common.{◌≡◌, ℕ, Bool, true, false, cond, not, eqb, List, [], ◌∷◌, ◌++◌, arith, refl, sym, ap, ◌∙◌, subst, Option}
+use Rattle.std.proofs.Common.{Some, None, append_assoc, zero, suc, ◌<◌, length, take, drop, get_or}
 use Rattle.std.proofs.lemmas.List.{take-append-drop}
 use Rattle.std.specs.Prelude.{◌&&◌}
 use Rattle.audit_text.specs.Grammar.{are_clear, AreHalves}
@@ -89,8 +90,11 @@ drop_first (z ∷ zs) (suc n) x ys e = drop_first zs n x ys e
 cut_found : (bytes before rest behind : List ℕ) (at : ℕ) → before ≡ take at bytes → rest ≡ drop at bytes → rest ≡ 61 ∷ behind
     → are_clear (drop (suc at) bytes) ≡ true → (bytes ≡ before ++ 61 ∷ behind) × (are_clear behind ≡ true)
 cut_found bytes before rest behind at b r i h =
-    let behind_is : drop (suc at) bytes ≡ behind = drop_first bytes at 61 behind (sym i ∙ r) in
-    (sym (take-append-drop at bytes) ∙ ap (λ l. l ++ drop at bytes) (sym b) ∙ ap (λ l. before ++ l) (sym r ∙ i), subst (λ l. are_clear l ≡ true) behind_is h)
+    let behind_is : drop (suc at) bytes ≡ behind = drop_first bytes at 61 behind (sym i ∙ r) in (
+      sym (take-append-drop at bytes) ∙ ap (λ l. l ++ drop at bytes) (sym b)
+          ∙ ap (λ l. before ++ l) (sym r ∙ i),
+      subst (λ l. are_clear l ≡ true) behind_is h,
+    )
 
 pub halves_some : (bytes before rest front behind : List ℕ) (at : ℕ) → before ≡ take at bytes → rest ≡ drop at bytes → before ≡ front ++ 32 ∷ []
     → rest ≡ 61 ∷ 32 ∷ behind → are_clear (drop (suc at) bytes) ≡ true → AreHalves bytes front behind
@@ -114,7 +118,8 @@ found_cut bytes at h s c =
 pub halves_at : (bytes front behind : List ℕ) (at : ℕ) → at < length bytes → get_or bytes at 0 ≡ 61 → are_clear (drop (suc at) bytes) ≡ true
     → AreHalves bytes front behind → (take at bytes ≡ front ++ 32 ∷ []) × (drop at bytes ≡ 61 ∷ 32 ∷ behind)
 halves_at bytes front behind at h s c k =
-    let (before, rest) = same_cut (take at bytes) (drop (suc at) bytes) (front ++ 32 ∷ []) (32 ∷ behind) (sym (found_cut bytes at h s c) ∙ halves_cut bytes front behind k) in
+    let (before, rest) = same_cut (take at bytes) (drop (suc at) bytes) (front ++ 32 ∷ []) (32 ∷ behind)
+    (sym (found_cut bytes at h s c) ∙ halves_cut bytes front behind k) in
     (before, drop_at bytes at h ∙ ap (λ x. x ∷ drop (suc at) bytes) s ∙ ap (λ l. 61 ∷ l) rest)
 
 pub halves_none : (bytes front behind : List ℕ) → are_clear bytes ≡ true → AreHalves bytes front behind → ⊥

@@ -7,3 +7,4 @@ pub mod Around
 pub mod Legal
 pub mod Steps
 pub mod Ends
+pub mod Laws

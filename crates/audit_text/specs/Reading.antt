@@ -1,5 +1,5 @@
 -- How a line is read.
-use Rattle.std.specs.Prelude.{ℕ, ◌&&◌, List, Option, None, Some, if◌then◌else◌}
+use Rattle.std.specs.Prelude.{ℕ, ◌&&◌, Bool, true, false, List, Option, None, Some, if◌then◌else◌}
 use Rattle.vm_base.specs.declared.requests.Request.{Request}
 use Rattle.trace_text.specs.Line.{line_of, line_of_words}
 use Rattle.trace_text.specs.Request.{◌>>=◌}
@@ -43,3 +43,9 @@ unfoldable pub declaration_of : List ℕ → Option Said
 declaration_of bytes = do
   line ← line_of bytes
   declared_said line
+
+-- a reply stands behind the line's sign
+abbrev pub has_reply : Said → Bool
+has_reply (Answered call) = true
+has_reply (Ends core reply) = true
+has_reply _ = false

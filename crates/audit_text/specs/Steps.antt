@@ -1,5 +1,6 @@
 -- What the parts of an audit come to.
-use Rattle.std.specs.Prelude.{◌≡◌, ℕ, suc, ◌≤◌, ⊤, Bool, true, false, List, [], ◌∷◌, ◌++◌, length, map, Option, None, Some, Result, Ok, Err, if◌then◌else◌}
+use Rattle.std.specs.Prelude.{◌≡◌, ℕ, suc, ◌≤◌, ⊤, Bool, true, false, List, [], ◌∷◌, ◌++◌, length, map, Option, None, Some, Result, Ok, Err}
+use Rattle.std.specs.Prelude.{if◌then◌else◌}
 use Rattle.slot_lock.specs.declared.slot_map.SlotMap.{Ghosts as MapGhosts}
 use Rattle.slot_lock.specs.declared.slot_map.SlotRead.{Ghosts as ReadGhosts}
 use Rattle.backing.specs.declared.file_spec.FileSpec.{FileSpec}

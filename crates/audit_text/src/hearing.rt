@@ -93,6 +93,7 @@ impl<M: SlotMap + Drop, A: Allocator + Drop> Hearing<M, A> {
     ghost use Rattle.audit_text.specs.declared.reading.Said.TheVariants as Of;
 
     // Judges a call.
+    #[inline(always)]
     fn judge(&mut self, call: Call) -> Result<Turn, NoMemory>
         requires counted { IsCounted self.old }
         requires room { self.old.judged + self.old.passed + 1 < 2 ^ 64 }

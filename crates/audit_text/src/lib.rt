@@ -5,6 +5,7 @@
 pub mod around;
 pub mod auditing;
 pub mod declaring;
+pub mod grammar;
 pub mod hearing;
 pub mod input;
 pub mod judging;

@@ -1,9 +1,9 @@
 //! What a line of an audited text says.
-ghost use Rattle.std.specs.Prelude.{◌≡◌, ◌∷◌, ◌++◌, [], ◌<◌, ℕ, suc, List, true, IfSome, IfNone, length, get_or, drop};
-ghost use Rattle.trace_text.specs.Line.{line_of};
+ghost use Rattle.std.specs.Prelude.{◌≡◌, ◌∷◌, ◌++◌, [], ◌<◌, ℕ, suc, List, Option, Some, None, if◌then◌else◌, true, IfSome, IfNone, length, get_or, drop};
+ghost use Rattle.trace_text.specs.Line.{are_printable, line_of};
 ghost use Rattle.trace_text.specs.Words.{words_of};
 ghost use Rattle.audit_text.specs.Grammar.{AreHalves, Tells, TellsEvent, are_clear, is_passed};
-ghost use Rattle.audit_text.specs.Reading.{call_said, declaration_of, declared_said, end_said, event_said, passed_said, said_of};
+ghost use Rattle.audit_text.specs.Reading.{call_said, declaration_of, declared_said, end_said, event_said, has_reply, passed_said, said_of};
 
 use crate::replies::{is_step, is_wait, read_reply};
 use audit::Call;
@@ -214,16 +214,38 @@ fn read_halves(bytes: &[u8]) -> Option<Said>
     read_event(front, text)
 }
 
+// Tells whether a line that says this has a reply behind its sign: then it is read to its last byte, and has none but printable ones.
+fn has_reply(said: &Said) -> bool
+    ensures { result ≡ has_reply said.now }
+{
+    matches!(said, Said::Answered(_) | Said::Ends(..))
+}
+
+// What an event's line says, if all of it is printable. A line with a reply is.
+#[tactic(auto, using(crate::proofs::EchoLemmas::reply_shown))]
+fn if_printable(said: Said, line: &[u8]) -> Option<Said>
+    requires { TellsEvent said line.now }
+    ensures { result ≡ (if are_printable line.now then Some said else None) }
+{
+    if has_reply(&said) {
+        return Some(said);
+    }
+    if is_printable(line) {
+        return Some(said);
+    }
+    None
+}
+
 /// What the line says; `None` where it says nothing that an audited text may have at any place.
 pub fn read_said(line: &[u8]) -> Option<Said>
     ensures some { IfSome result (λ said. Tells said line.now) }
     ensures none { IfNone result ((said : Said) → Tells said line.now → ⊥) }
 {
+    if let Some(said) = read_halves(line) {
+        return if_printable(said, line);
+    }
     if !is_printable(line) {
         return None;
-    }
-    if let Some(said) = read_halves(line) {
-        return Some(said);
     }
     read_declared(line)
 }

@@ -2,10 +2,10 @@
 ghost use Rattle.std.specs.Prelude.{◌≡◌};
 ghost use Rattle.std.specs.Str.{bytes_eq};
 ghost use Rattle.trace_text.specs.Printing.{text_of};
-ghost use Rattle.audit_text.specs.Replies.{is_hexadecimal, is_step, is_wait, named_of, reply_of, value_of, word_reply};
+ghost use Rattle.audit_text.specs.Replies.{is_hexadecimal, is_step, is_wait, reply_of, value_of, word_reply};
 
 use trace_text::number::read_number;
-use trace_text::{LineText, push_reply};
+use trace_text::{LineText, address_text, number_text, push_reply};
 use vm_base::{Errno, Reply, SegvCode};
 
 // Tells whether the text begins as an address does.
@@ -64,18 +64,8 @@ fn read_word(text: &[u8]) -> Option<Reply>
     }
 }
 
-// The reply that the text may be of, which may be written otherwise.
-fn read_named(text: &[u8]) -> Option<Reply>
-    ensures { result ≡ named_of text.now }
-{
-    if let Some(reply) = read_value(text) {
-        return Some(reply);
-    }
-    read_word(text)
-}
-
-// Tells whether the reply is written so.
-fn is_written_so(reply: Reply, text: &[u8]) -> bool
+// Tells whether the reply is written so, by its whole text.
+fn is_text_of(reply: Reply, text: &[u8]) -> bool
     ensures { result ≡ bytes_eq (text_of reply) text.now }
 {
     let mut written = LineText::new();
@@ -83,12 +73,25 @@ fn is_written_so(reply: Reply, text: &[u8]) -> bool
     written.as_str().as_bytes() == text
 }
 
+// Tells whether the reply is written so. A number is written in a text of its own, which is shorter than a line's.
+fn is_written_so(reply: Reply, text: &[u8]) -> bool
+    ensures { result ≡ bytes_eq (text_of reply) text.now }
+{
+    match reply {
+        Reply::Mapped(address) => address_text(address).as_str().as_bytes() == text,
+        Reply::Byte(byte) => number_text(u64::from(byte)).as_str().as_bytes() == text,
+        _ => is_text_of(reply, text),
+    }
+}
+
 /// The reply that is written so; `None` where none is.
 #[tactic(auto, unfolding(crate::specs::Replies::reply_of))]
 pub fn read_reply(text: &[u8]) -> Option<Reply>
     ensures { result ≡ reply_of text.now }
 {
-    let reply = read_named(text)?;
+    let Some(reply) = read_value(text) else {
+        return read_word(text);
+    };
     if is_written_so(reply, text) {
         Some(reply)
     } else {

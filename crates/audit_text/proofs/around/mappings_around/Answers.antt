@@ -26,7 +26,9 @@ lines-preserved g c =
       high = next.is.pages.high;
       near = c.lines.invariant.near;
       few = longer _ _ c.in-Some.line (c.in_ok-push.ensures {u = tt}).items (omega (arith, c.lines-test.true, c.len.ensures));
-      lists = subst (ListsLines (slot_metas (g.M.SlotRead.slots c.args.map.now)) c.start_before-first.result c.in-Some.line.range.end) (sym (c.in_ok-push.ensures {u = tt}).items)
-          (lists_more _ c.start_before-first.result c.lines.from c.lines.shown.items c.in-Some.line c.lines.invariant.low.1 c.lines.invariant.lists next);
+      lists = subst (ListsLines (slot_metas (g.M.SlotRead.slots c.args.map.now)) c.start_before-first.result c.in-Some.line.range.end)
+          (sym (c.in_ok-push.ensures {u = tt}).items)
+          (lists_more _ c.start_before-first.result c.lines.from c.lines.shown.items c.in-Some.line c.lines.invariant.low.1 c.lines.invariant.lists
+          next);
       begins = next.is.ends;
     }

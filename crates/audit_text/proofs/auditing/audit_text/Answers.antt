@@ -12,7 +12,8 @@ returns-in-Ok-read_text-clause-ends g c =
     (λ xs ys k e. subst (λ i. AuditEnds c.args.any_place i old new c.judge_out.result) (c.as_slice.ensures.value ∙ sym e) c.judge_out.ensures.ends)
 
 pub returns-in-Err-clause-ends : goal.returns-in-Err-clause-ends
-returns-in-Err-clause-ends g c = stopped _ _ c.args.any_place (g.W.Sink.contents c.args.writer.now) c.in-Err.fault c.in-Err.ensures.only c.in-Err.ensures.kept
+returns-in-Err-clause-ends g c = stopped _ _ c.args.any_place
+    (g.W.Sink.contents c.args.writer.now) c.in-Err.fault c.in-Err.ensures.only c.in-Err.ensures.kept
 
 pub returns-in_default-clause-ends : goal.returns-in_default-clause-ends
 returns-in_default-clause-ends g c = unmade _ c.args.any_place _

@@ -19,10 +19,13 @@ returns-in_err-verdict-clause-err g c =
 
 pub returns-clause-ok : goal.returns-clause-ok
 returns-clause-ok g c = λ lines e.
-    let begins = call_begins c.in-Ok-new.hearing.auditor.any_place lines _ (declared_of c.args.declaration) _ _ c.args.first c.args.number e (search rules)
+    let begins = call_begins c.in-Ok-new.hearing.auditor.any_place lines _ (declared_of c.args.declaration) _ _ c.args.first c.args.number e
+    (search rules)
     c.in-Ok-new.ensures.heard (c.in-Ok-new.ensures.plain ∙ ap nothing_mapped (same_files _)) in
     let u = plain_of c.hear_lines.new.hearing.auditor in
     let found = subst (λ x. IsFound x lines c.in_ok-verdict.verdict u) c.in-Ok-new.ensures.any_place
     (c.in_ok-verdict.ensures.ok lines (declared_of c.args.declaration) begins) in
     verdict_shown c.args.any_place lines c.in_ok-verdict.verdict u (slot_metas (g.M.SlotRead.slots c.map.result.now)) c.in_ok-around.around.items
-    (ap (λ m. slot_metas (g.M.SlotRead.slots m)) c.map.ensures ∙ metas_kept (g.M.SlotRead.slots c.hear_lines.new.hearing.auditor.map) c.hear_lines.new.hearing.auditor.objects c.hear_lines.new.hearing.auditor.frames) found c.in_ok-around.ensures.ok
+    (ap (λ m. slot_metas (g.M.SlotRead.slots m)) c.map.ensures
+    ∙ metas_kept (g.M.SlotRead.slots c.hear_lines.new.hearing.auditor.map) c.hear_lines.new.hearing.auditor.objects
+    c.hear_lines.new.hearing.auditor.frames) found c.in_ok-around.ensures.ok

@@ -26,7 +26,8 @@ returns-in-Ok-Bad-clause-err g c =
     let d = declared_of c.lines.declaration in
     let bad = rw c.in-Ok-Bad.field-0-is at c.in-Ok-Bad.ensures.adds in
     λ any. bad_at any _ _ (c.lines.number + 1) (Front d) (first_map d) c.in_ok-said.said
-    (at_line _ _ _ c.lines.number (Front d) c.front_line.result.0.now c.in_ok-said.said c.lines.invariant.place c.front_line.ensures.lines c.in_ok-said.ensures.ok)
+    (at_line _ _ _ c.lines.number (Front d) c.front_line.result.0.now c.in_ok-said.said c.lines.invariant.place c.front_line.ensures.lines
+    c.in_ok-said.ensures.ok)
     refl bad
 
 pub returns-in-Ok-Ended-clause-ok : goal.returns-in-Ok-Ended-clause-ok
@@ -39,7 +40,8 @@ pub lines-preserved : goal.lines-preserved
 lines-preserved g c =
     let part = rw c.in-Ok-Part.field-0-is at c.in-Ok-Part.ensures.adds in
     record {
-      place = place_more _ _ _ _ _ _ c.front_line.result.0.now c.in_ok-said.said c.lines.invariant.place c.front_line.ensures.lines c.in_ok-said.ensures.ok part;
+      place = place_more _ _ _ _ _ _ c.front_line.result.0.now c.in_ok-said.said c.lines.invariant.place c.front_line.ensures.lines
+          c.in_ok-said.ensures.ok part;
       few = c.in-Ok-Part.ensures.few;
       most = c.lines.invariant.most;
       room = omega (arith, c.front_line.ensures.less, c.lines.invariant.room);

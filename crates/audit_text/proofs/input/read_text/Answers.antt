@@ -14,7 +14,8 @@ returns-in-Err-clause-kept g c = any_read _ _ _ _ _ c.reads.invariant.read c.rea
 
 pub returns-then-count-eq0-clause-text : goal.returns-then-count-eq0-clause-text
 returns-then-count-eq0-clause-text g c =
-    all_read _ _ _ _ _ c.reads.invariant.read c.in-Ok-read_chunk.ensures.bytes (ap (λ n. take n (drop 0 c.read_chunk.new.chunk.items)) c.if-count-eq0.true)
+    all_read _ _ _ _ _ c.reads.invariant.read c.in-Ok-read_chunk.ensures.bytes
+    (ap (λ n. take n (drop 0 c.read_chunk.new.chunk.items)) c.if-count-eq0.true)
     (c.in-Ok-read_chunk.ensures.end c.if-count-eq0.true)
 
 pub returns-in-Err-extend_from_slice-clause-kept : goal.returns-in-Err-extend_from_slice-clause-kept

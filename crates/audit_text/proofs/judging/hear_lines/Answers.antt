@@ -24,20 +24,26 @@ turn-requires-clause-room g c = omega (arith, c.lines.invariant.few, c.lines.inv
 pub returns-in_err-verdict-clause-err : goal.returns-in_err-verdict-clause-err
 returns-in_err-verdict-clause-err g c =
     let p = err_from_is_err_and c.from_residual.result c.from_residual.ensures.1 in
-    rw p.1 (rw p.2 (λ lines d k. turn_fault_by c.lines.hearing.auditor.any_place c.args.hearing.now.auditor.any_place c.lines.invariant.any_place lines _ d
-    (heard_of c.lines.hearing) (heard_of c.turn.new.hearing) (plain_of c.lines.hearing.auditor) (plain_of c.turn.new.hearing.auditor) c.lines.said c.lines.line
+    rw p.1 (rw p.2 (λ lines d k. turn_fault_by c.lines.hearing.auditor.any_place c.args.hearing.now.auditor.any_place c.lines.invariant.any_place
+    lines _ d
+    (heard_of c.lines.hearing) (heard_of c.turn.new.hearing) (plain_of c.lines.hearing.auditor)
+    (plain_of c.turn.new.hearing.auditor) c.lines.said c.lines.line
     c.in_err-verdict.field-0.0 (c.lines.invariant.call lines d k) c.in_err-verdict.ensures.turns))
 
 pub returns-in-Some-clause-ok : goal.returns-in-Some-clause-ok
-returns-in-Some-clause-ok g c = λ lines d k. turn_verdict_by c.lines.hearing.auditor.any_place c.args.hearing.now.auditor.any_place c.lines.invariant.any_place
-    lines _ d (heard_of c.lines.hearing) (heard_of c.turn.new.hearing) (plain_of c.lines.hearing.auditor) (plain_of c.turn.new.hearing.auditor) c.lines.said
+returns-in-Some-clause-ok g c = λ lines d k. turn_verdict_by c.lines.hearing.auditor.any_place c.args.hearing.now.auditor.any_place
+    c.lines.invariant.any_place
+    lines _ d (heard_of c.lines.hearing) (heard_of c.turn.new.hearing) (plain_of c.lines.hearing.auditor)
+    (plain_of c.turn.new.hearing.auditor) c.lines.said
     c.lines.line c.in_ok-verdict.field-0 c.in-Some.verdict (c.lines.invariant.call lines d k) c.in_ok-verdict.ensures.turns c.in-Some.is
 
 pub returns-then-is_empty-clause-ok : goal.returns-then-is_empty-clause-ok
 returns-then-is_empty-clause-ok g c = λ lines d k. call_last c.args.hearing.now.auditor.any_place lines _ d (heard_of c.lines.hearing)
     (heard_of c.turn.new.hearing) (plain_of c.lines.hearing.auditor) (plain_of c.turn.new.hearing.auditor) c.lines.said c.lines.line _
     (c.lines.invariant.call lines d k)
-    (hears_by c.lines.hearing.auditor.any_place c.args.hearing.now.auditor.any_place c.lines.invariant.any_place (heard_of c.lines.hearing) (heard_of c.turn.new.hearing) (plain_of c.lines.hearing.auditor) (plain_of c.turn.new.hearing.auditor) c.lines.said c.lines.line c.in_ok-verdict.field-0 c.in_ok-verdict.ensures.turns c.in_default.is)
+    (hears_by c.lines.hearing.auditor.any_place c.args.hearing.now.auditor.any_place c.lines.invariant.any_place (heard_of c.lines.hearing)
+    (heard_of c.turn.new.hearing) (plain_of c.lines.hearing.auditor)
+    (plain_of c.turn.new.hearing.auditor) c.lines.said c.lines.line c.in_ok-verdict.field-0 c.in_ok-verdict.ensures.turns c.in_default.is)
     (lines_empty _ _ c.is_empty.ensures c.if-is_empty.true) c.in_ok-verdict.ensures.counted.judged
 
 pub overflow_add-line : goal.overflow_add-line
@@ -49,7 +55,9 @@ returns-in_err-said-clause-err g c =
     rw p.1 (rw p.2 (λ lines d k. call_fault c.args.hearing.now.auditor.any_place lines _ _ d (heard_of c.lines.hearing) (heard_of c.turn.new.hearing)
     (plain_of c.lines.hearing.auditor) (plain_of c.turn.new.hearing.auditor) c.lines.said c.lines.line (c.lines.line + 1) c.front_line.result.0.now
     c.in_err-said.field-0.0 (c.lines.invariant.call lines d k)
-    (hears_by c.lines.hearing.auditor.any_place c.args.hearing.now.auditor.any_place c.lines.invariant.any_place (heard_of c.lines.hearing) (heard_of c.turn.new.hearing) (plain_of c.lines.hearing.auditor) (plain_of c.turn.new.hearing.auditor) c.lines.said c.lines.line c.in_ok-verdict.field-0 c.in_ok-verdict.ensures.turns c.in_default.is)
+    (hears_by c.lines.hearing.auditor.any_place c.args.hearing.now.auditor.any_place c.lines.invariant.any_place (heard_of c.lines.hearing)
+    (heard_of c.turn.new.hearing) (plain_of c.lines.hearing.auditor)
+    (plain_of c.turn.new.hearing.auditor) c.lines.said c.lines.line c.in_ok-verdict.field-0 c.in_ok-verdict.ensures.turns c.in_default.is)
     c.front_line.ensures.lines refl c.in_err-said.ensures.err))
 
 pub lines-preserved : goal.lines-preserved
@@ -61,6 +69,8 @@ lines-preserved g c = record {
   call = λ lines d k. call_next c.args.hearing.now.auditor.any_place lines _ _ d (heard_of c.lines.hearing) (heard_of c.turn.new.hearing)
       (plain_of c.lines.hearing.auditor) (plain_of c.turn.new.hearing.auditor) c.lines.said c.in_ok-said.said c.lines.line (c.lines.line + 1)
       c.front_line.result.0.now (c.lines.invariant.call lines d k)
-      (hears_by c.lines.hearing.auditor.any_place c.args.hearing.now.auditor.any_place c.lines.invariant.any_place (heard_of c.lines.hearing) (heard_of c.turn.new.hearing) (plain_of c.lines.hearing.auditor) (plain_of c.turn.new.hearing.auditor) c.lines.said c.lines.line c.in_ok-verdict.field-0 c.in_ok-verdict.ensures.turns c.in_default.is)
+      (hears_by c.lines.hearing.auditor.any_place c.args.hearing.now.auditor.any_place c.lines.invariant.any_place (heard_of c.lines.hearing)
+      (heard_of c.turn.new.hearing) (plain_of c.lines.hearing.auditor)
+      (plain_of c.turn.new.hearing.auditor) c.lines.said c.lines.line c.in_ok-verdict.field-0 c.in_ok-verdict.ensures.turns c.in_default.is)
       c.front_line.ensures.lines c.in_ok-said.ensures.ok refl;
 }

@@ -13,7 +13,8 @@ invariant-lines g l = record {
   room : l.line + length l.rest < 2 ^ 64;
   any_place : l.hearing.auditor.any_place ≡ l.fn.hearing.auditor.any_place;
   call : (lines : List (List ℕ)) (d : Declared)
-      → IsCall l.fn.hearing.auditor.any_place lines d (heard_of l.fn.hearing) (plain_of l.fn.hearing.auditor) l.fn.first l.fn.number (lines_of l.fn.text)
+      → IsCall l.fn.hearing.auditor.any_place lines d (heard_of l.fn.hearing) (plain_of l.fn.hearing.auditor) l.fn.first l.fn.number
+      (lines_of l.fn.text)
       → IsCall l.fn.hearing.auditor.any_place lines d (heard_of l.hearing) (plain_of l.hearing.auditor) l.said l.line (lines_of l.rest);
 }
 

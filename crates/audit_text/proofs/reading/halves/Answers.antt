@@ -20,4 +20,5 @@ returns-in_err-behind-clause-none c =
 
 pub returns-clause-some : goal.returns-clause-some
 returns-clause-some c =
-    halves_some _ _ _ _ _ _ c.split_at.ensures.front c.split_at.ensures.back c.in_ok-front.ensures.some c.in_ok-behind.ensures.some c.in_ok-at.ensures.clear
+    halves_some _ _ _ _ _ _ c.split_at.ensures.front c.split_at.ensures.back c.in_ok-front.ensures.some c.in_ok-behind.ensures.some
+    c.in_ok-at.ensures.clear

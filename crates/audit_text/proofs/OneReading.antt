@@ -1,0 +1,166 @@
+-- A line says one thing: the words of an event begin with its core or with `fold`, and no declaration's words do.
+use Rattle.std.proofs.Common.{◌≡◌, ◌⊎◌, inl, inr, ℕ, Bool, true, false, cond, not, eqb, List, [], ◌∷◌, ◌++◌, Some}
+use Rattle.std.proofs.Common.{codes, arith, refl, sym, ap, ◌∙◌, subst}
+use Rattle.std.proofs.lemmas.Bool.Decides.{nat_tests}
+use Rattle.trace_io.specs.Lines.{onto}
+use Rattle.trace_text.specs.Grammar.{Says}
+use Rattle.trace_text.specs.Line.{line_of, line_of_words}
+use Rattle.trace_text.specs.Words.{Word, begins_word, byte, words_of}
+use Rattle.trace_text.specs.declared.line.Line.{Line}
+use Rattle.trace_text.specs.declared.line.Line.TheVariants as Of
+use Rattle.trace_text.proofs.Choices.{bind_some}
+use Rattle.trace_text.proofs.LineLemmas.{read_is_said}
+use Rattle.audit_text.specs.Grammar.{TellsEvent}
+use Rattle.audit_text.specs.Laws.{LinesSayOne}
+use Rattle.audit_text.specs.Reading.{declaration_of, declared_said, event_said}
+use Rattle.audit_text.specs.declared.reading.Said.{Said}
+use Rattle.audit_text.proofs.SaidLemmas.{comes_read, event_read, means_either}
+
+-- ---- the words before a space
+
+begins_kept : (xs rest : List ℕ) → begins_word (xs ++ 32 ∷ rest) ≡ begins_word xs
+begins_kept [] rest = refl
+begins_kept (y ∷ ys) rest = refl
+
+onto_some : (y : ℕ) (ws : List Word) → (v : Word) × (vs : List Word) × (onto y ws ≡ v ∷ vs)
+onto_some y [] = (y ∷ [], [], refl)
+onto_some y (w ∷ ws) = (y ∷ w, ws, refl)
+
+-- a byte of a word begins some word
+begun : (xs : List ℕ) → begins_word xs ≡ true → (v : Word) × (vs : List Word) × (words_of xs ≡ v ∷ vs)
+begun [] e = absurd (cc)
+begun (y ∷ ys) e = go (eqb y 32) (begins_word ys) e
+  where
+    go : (s b : Bool) → not s ≡ true
+        → (v : Word) × (vs : List Word) × (cond s (words_of ys) (cond b (onto y (words_of ys)) ((y ∷ []) ∷ words_of ys)) ≡ v ∷ vs)
+    go true b e = absurd (cc)
+    go false true e = onto_some y (words_of ys)
+    go false false e = (y ∷ [], words_of ys, refl)
+
+-- a space parts words
+words_split : (front rest : List ℕ) → words_of (front ++ 32 ∷ rest) ≡ words_of front ++ words_of rest
+words_split [] rest = refl
+words_split (x ∷ xs) rest = go (eqb x 32) (begins_word xs) refl (words_split xs rest)
+  where
+    behind : List Word
+    behind = words_of (xs ++ 32 ∷ rest)
+
+    go : (s b : Bool) → begins_word xs ≡ b → behind ≡ words_of xs ++ words_of rest
+        → cond s behind (cond (begins_word (xs ++ 32 ∷ rest)) (onto x behind) ((x ∷ []) ∷ behind))
+        ≡ cond s (words_of xs) (cond b (onto x (words_of xs)) ((x ∷ []) ∷ words_of xs)) ++ words_of rest
+    go true b e more = more
+    go false true e more =
+        let (v, vs, is) = begun xs e in
+        ap (λ c. cond c (onto x behind) ((x ∷ []) ∷ behind)) (begins_kept xs rest ∙ e)
+        ∙ (ap (onto x) (more ∙ ap (λ l. l ++ words_of rest) is) ∙ ap (λ l. onto x l ++ words_of rest) (sym is))
+    go false false e more = ap (λ c. cond c (onto x behind) ((x ∷ []) ∷ behind)) (begins_kept xs rest ∙ e) ∙ ap (λ l. (x ∷ []) ∷ l) more
+
+-- the first word of a line whose first byte is a #
+comment_word : (xs : List ℕ) (w : Word) (more : List Word) → words_of (35 ∷ xs) ≡ w ∷ more → byte w ≡ 35
+comment_word xs w more e = go (begins_word xs) (words_of xs) e
+  where
+    go : (b : Bool) (ws : List Word) → cond b (onto 35 ws) ((35 ∷ []) ∷ ws) ≡ w ∷ more → byte w ≡ 35
+    go true [] e = let same : 35 ∷ [] ≡ w = cc in sym (ap byte same)
+    go true (l ∷ ls) e = let same : 35 ∷ l ≡ w = cc in sym (ap byte same)
+    go false ws e = let same : 35 ∷ [] ≡ w = cc in sym (ap byte same)
+
+-- ---- the first word of an event, and of a declaration
+
+no_words : (line : Line) (text : List ℕ) (said : Said) → event_said line text ≡ Some said → Says line [] → ⊥
+no_words Of.Blank text said e s = absurd (cc)
+no_words (Of.Space cores frames calls) text said e s = absurd (cc)
+no_words (Of.File number mode len seed) text said e s = absurd (cc)
+no_words (Of.Act core action) text said e (c, args, is, k, d) = absurd (cc)
+no_words (Of.Fold page) text said e (a, is, s) = absurd (cc)
+no_words (Of.Finish core) text said e (c, is, k) = absurd (cc)
+no_words (Of.Now core request) text said e (c, args, is, k, a) = absurd (cc)
+
+event_word : (line : Line) (text : List ℕ) (said : Said) (w : Word) (more : List Word) → event_said line text ≡ Some said → Says line (w ∷ more)
+    → (byte w ≡ 99) ⊎ (w ≡ codes "fold")
+event_word Of.Blank text said w more e s = absurd (cc)
+event_word (Of.Space cores frames calls) text said w more e s = absurd (cc)
+event_word (Of.File number mode len seed) text said w more e s = absurd (cc)
+event_word (Of.Act core action) text said w more e (c, args, is, k, d) = let same : w ≡ c = cc in inl (ap byte (same ∙ k.1))
+event_word (Of.Fold page) text said w more e (a, is, s) = inr (cc)
+event_word (Of.Finish core) text said w more e (c, is, k) = let same : w ≡ c = cc in inl (ap byte (same ∙ k.1))
+event_word (Of.Now core request) text said w more e (c, args, is, k, a) =
+    let same : w ≡ c ++ codes "!" = cc in inl (ap byte (same ∙ ap (λ l. l ++ codes "!") k.1))
+
+declared_word : (line : Line) (said : Said) (w : Word) (more : List Word) → declared_said line ≡ Some said → Says line (w ∷ more)
+    → (w ≡ codes "vm") ⊎ (w ≡ codes "file")
+declared_word Of.Blank said w more e s = absurd (cc)
+declared_word (Of.Space cores frames calls) said w more e (c, f, rest, is, i, j, l) = inl (cc)
+declared_word (Of.File number mode len seed) said w more e (n, l, s, is, i, j, k, small) = inr (cc)
+declared_word (Of.Act core action) said w more e s = absurd (cc)
+declared_word (Of.Fold page) said w more e s = absurd (cc)
+declared_word (Of.Finish core) said w more e s = absurd (cc)
+declared_word (Of.Now core request) said w more e s = absurd (cc)
+
+-- the second byte
+abbrev second : Word → ℕ
+second [] = 0
+second (a ∷ []) = 0
+second (a ∷ b ∷ bs) = b
+
+no_comment : (w : Word) → (byte w ≡ 99) ⊎ (w ≡ codes "fold") → byte w ≡ 35 → ⊥
+no_comment w (inl e) c = absurd (omega (arith, e, c))
+no_comment w (inr e) c = let f : byte w ≡ 102 = ap byte e in absurd (omega (arith, f, c))
+
+no_both : (w : Word) → (byte w ≡ 99) ⊎ (w ≡ codes "fold") → (w ≡ codes "vm") ⊎ (w ≡ codes "file") → ⊥
+no_both w (inl e) (inl d) = let f : byte w ≡ 118 = ap byte d in absurd (omega (arith, e, f))
+no_both w (inl e) (inr d) = let f : byte w ≡ 102 = ap byte d in absurd (omega (arith, e, f))
+no_both w (inr e) (inl d) = let f : byte w ≡ 118 = ap byte d in let g : byte w ≡ 102 = ap byte e in absurd (omega (arith, f, g))
+no_both w (inr e) (inr d) = let f : 111 ≡ 105 = ap second (sym e ∙ d) in absurd (omega (arith, f))
+
+-- ---- no line is an event's and a declaration
+
+apart_at : (front rest text : List ℕ) (line other : Line) (said declared : Said) (w : Word) (more : List Word) → words_of front ≡ w ∷ more
+    → event_said line text ≡ Some said → Says line (w ∷ more) → line_of (front ++ 32 ∷ rest) ≡ Some other → declared_said other ≡ Some declared → ⊥
+apart_at [] rest text line other said declared w more words e s read d = absurd (cc)
+apart_at (x ∷ xs) rest text line other said declared w more words e s read d = go (eqb x 35) refl read
+  where
+    split : words_of (x ∷ (xs ++ 32 ∷ rest)) ≡ w ∷ (more ++ words_of rest)
+    split = words_split (x ∷ xs) rest ∙ ap (λ l. l ++ words_of rest) words
+
+    go : (b : Bool) → eqb x 35 ≡ b → cond b (Some Of.Blank) (line_of_words (words_of (x ∷ (xs ++ 32 ∷ rest)))) ≡ Some other → ⊥
+    go true is k =
+        let sign : x ≡ 35 = grind (arith, nat_tests, is) in
+        no_comment w (event_word line text said w more e s) (comment_word xs w more (subst (λ y. words_of (y ∷ xs) ≡ w ∷ more) sign words))
+    go false is k =
+        no_both w (event_word line text said w more e s)
+        (declared_word other declared w (more ++ words_of rest) d
+        (read_is_said other (w ∷ (more ++ words_of rest)) (sym (ap line_of_words split) ∙ k)))
+
+apart : (bytes : List ℕ) (said other : Said) → TellsEvent said bytes → declaration_of bytes ≡ Some other → ⊥
+unfolding declaration_of
+apart bytes said other t e =
+    let (line, read, is) = bind_some (line_of bytes) declared_said other e in
+    go (words_of t.front) refl line (sym (ap line_of t.halves.is) ∙ read) is
+  where
+    happened : event_said t.line t.text ≡ Some said
+    happened = comes_read said t.line t.text t.comes
+
+    go : (ws : List Word) → words_of t.front ≡ ws → (line : Line) → line_of (t.front ++ 32 ∷ 61 ∷ 32 ∷ t.text) ≡ Some line
+        → declared_said line ≡ Some other → ⊥
+    go [] words line read is = no_words t.line t.text said happened (subst (Says t.line) words t.says)
+    go (w ∷ more) words line read is =
+        apart_at t.front (61 ∷ 32 ∷ t.text) t.text t.line line said other w more words happened (subst (Says t.line) words t.says) read is
+
+-- ---- the law
+
+events_one : (bytes : List ℕ) (said other : Said) → TellsEvent said bytes → TellsEvent other bytes → said ≡ other
+events_one bytes said other t u =
+    let a = event_read bytes t.front t.text said t.halves t in
+    let b = event_read bytes t.front t.text other t.halves u in
+    let same : Some said ≡ Some other = sym a ∙ b in
+    cc
+
+means_one : (bytes : List ℕ) (said other : Said) → TellsEvent said bytes ⊎ (declaration_of bytes ≡ Some said)
+    → TellsEvent other bytes ⊎ (declaration_of bytes ≡ Some other) → said ≡ other
+means_one bytes said other (inl t) (inl u) = events_one bytes said other t u
+means_one bytes said other (inl t) (inr e) = absurd (apart bytes said other t e)
+means_one bytes said other (inr d) (inl u) = absurd (apart bytes other said u d)
+means_one bytes said other (inr d) (inr e) = let same : Some said ≡ Some other = sym d ∙ e in cc
+
+pub lines_say_one : LinesSayOne
+lines_say_one line said other a b = means_one line said other (means_either said line a.1) (means_either other line b.1)
