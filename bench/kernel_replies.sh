@@ -18,7 +18,7 @@ expect() { # WHAT TEXT WORD
 }
 expect "Linux $(uname -r), seed $seed" "$work/replies" "legal $requests"
 # a load in the last tenth, where much is mapped
-changed=$(grep -n 'load .* = [0-9]*$' "$work/replies" | awk -F: -v from=$((requests * 9 / 10)) '$1 > from { print $1; exit }')
+changed=$(grep -n 'load .* = [0-9]*$' "$work/replies" | awk -F: -v from=$((requests * 9 / 10)) '$1 > from && !found { print $1; found = 1 }')
 due=$(sed -n "${changed}s/.* = //p" "$work/replies")
 other=$(((due + 1) % 256))
 sed "${changed}s/ = .*/ = $other/" "$work/replies" > "$work/changed"
