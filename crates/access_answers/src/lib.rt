@@ -8,14 +8,13 @@ ghost use Rattle.backing.specs.Files.{files_of};
 ghost use Rattle.machine_model.specs.Accesses.{is_past_end};
 ghost use Rattle.machine_model.specs.Changes.{reply_to};
 ghost use Rattle.machine_model.specs.Files.{back_of, file_frame, prot_installed};
-ghost use Rattle.machine_model.specs.Filling.{cores_of};
 ghost use Rattle.machine_model.specs.Holding.{page_of_touch};
 
 use backing::Objects;
 use slot_lock::{Change, Touch};
 use std::alloc::Allocator;
 use vm_base::page::PAGE_SIZE;
-use vm_base::{Access, Back, CoreSet, PageInfo, PageRange, Prot, Reply};
+use vm_base::{Access, Back, PageInfo, PageRange, Prot, Reply};
 
 /// What an access answers that found this byte.
 pub fn byte_reply(access: Access, byte: u8) -> Reply
@@ -56,16 +55,6 @@ pub fn back_of(info: &Option<PageInfo>) -> Back
     match info {
         Some(info) => info.meta.back,
         None => Back::Anon,
-    }
-}
-
-/// The cores that are recorded on the page.
-pub fn cores_of(info: &Option<PageInfo>) -> CoreSet
-    ensures { result ≡ cores_of info.now }
-{
-    match info {
-        Some(info) => info.cores,
-        None => CoreSet::empty(),
     }
 }
 

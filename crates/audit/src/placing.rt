@@ -8,13 +8,13 @@ ghost use Rattle.vm_calls.specs.Decisions.{entries};
 ghost use Rattle.audit.specs.Placing.{IsAllowed, IsAnyPlace, IsFirst, all_pages, place_said, reply_at};
 
 use slot_lock::{Place, SlotMap};
-use vm_base::page::{PAGE_SIZE, is_page_start};
+use vm_base::page::{PAGE_LIMIT, PAGE_SIZE, is_page_start};
 use vm_base::{Errno, PageRange, Reply, page_of};
 
 /// All valid pages.
 const ALL_PAGES: PageRange = PageRange {
     first: 1,
-    end: 0x8_0000_0000,
+    end: PAGE_LIMIT,
 };
 
 /// Tells whether no page of the range is mapped.

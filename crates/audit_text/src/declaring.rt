@@ -10,13 +10,8 @@ use crate::input::{AuditFault, front_line, said_at};
 use crate::reading::Said;
 use backing::FileSpec;
 use std::alloc::{AllocError, Allocator};
+use vm_base::limits::{FILE_BYTES, FILE_COUNT};
 use vm_base::{Mode, NoMemory};
-
-/// How many files a space may have.
-const FILES: u64 = 16;
-
-/// How many bytes a file may have.
-const FILE_LIMIT: u64 = 1_048_576;
 
 /// What the lines so far declare.
 #[derive(Drop)]
@@ -118,7 +113,7 @@ impl<A: Allocator + Clone> Declaration<A> {
         if !self.has_space {
             return Ok(Declares::Ended);
         }
-        if number != next || next >= FILES || len > FILE_LIMIT {
+        if number != next || next >= FILE_COUNT || len > FILE_BYTES {
             return Ok(Declares::Bad);
         }
         let bytes = bytes_of(alloc, len, seed)?;

@@ -9,6 +9,7 @@ pub record FileParts : Type 0 where
   pub bytes : List ℕ
   pub cached : List (Option ℕ)
 
+-- the file that its parts make: no parts, no file
 abbrev pub file_of : Option FileParts → Option File
 file_of None = None
 file_of (Some f) = Some (file_with f.mode f.bytes)

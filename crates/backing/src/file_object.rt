@@ -75,7 +75,7 @@ impl<A: Allocator> FileObject<A> {
     }
 
     /// The file's own bytes of a page that it has, without the zeros after its length.
-    pub fn own_part(&self, page: u64) -> &[u8]
+    pub fn first_part(&self, page: u64) -> &[u8]
         requires { page < page_count (length self.now.bytes) }
         ensures short { length result.now ≤ 4096 }
         ensures bytes { page_bytes result.now 0 ≡ page_bytes self.now.bytes page }
@@ -92,7 +92,7 @@ impl<A: Allocator> FileObject<A> {
         requires offset { offset < 4096 }
         ensures { result ≡ page_bytes self.now.bytes page offset }
     {
-        let part = self.own_part(page);
+        let part = self.first_part(page);
         if offset < part.len() { part[offset] } else { 0 }
     }
 

@@ -136,13 +136,13 @@ impl<A: Allocator> Objects<A> {
 
     /// A file's own bytes of a page that it has, up to the file's length: at most 4,096, after
     /// which the page has zeros.
-    pub fn own_bytes(&self, file: u32, page: u64) -> &[u8]
+    pub fn first_bytes(&self, file: u32, page: u64) -> &[u8]
         requires { is_some (file_bytes (files_of self.now file) page) ≡ true }
         ensures short { length result.now ≤ 4096 }
         ensures bytes { IfSome (file_bytes (files_of self.now file) page)
             (λ own. page_bytes result.now 0 ≡ own) }
     {
-        self.files[file as usize].own_part(page)
+        self.files[file as usize].first_part(page)
     }
 
     /// The frame that caches a page of a file, if one does. There may be no such page.
@@ -182,7 +182,7 @@ impl<A: Allocator> Objects<A> {
     {
         match self.cached(file, page) {
             Some(cached) => frames.copy(cached, frame),
-            None => frames.fill(frame, self.own_bytes(file, page)),
+            None => frames.fill(frame, self.first_bytes(file, page)),
         }
     }
 }

@@ -41,9 +41,11 @@ abbrev pub is_answered : Outcome → Bool
 is_answered (Answered reply) = true
 is_answered _ = false
 
+-- a call ends by this note
 abbrev pub answers_call : Noted → Bool
 answers_call note = is_answered note.outcome
 
+-- 1 where it holds, so that sums count
 abbrev pub one_if : Bool → ℕ
 one_if true = 1
 one_if false = 0

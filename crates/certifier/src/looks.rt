@@ -15,10 +15,8 @@ use live_levels::act::{SlotChange, after};
 use live_levels::close::SlotHistory;
 use slot_lock::SlotMap;
 use std::alloc::Allocator;
+use vm_base::page::PAGE_LIMIT;
 use vm_base::{Back, PageInfo};
-
-/// The first page number above all valid pages.
-pub const LIMIT: u64 = 0x8_0000_0000;
 
 /// How far a slot was looked at.
 #[derive(Clone, Copy, Debug, PartialEq, Eq)]
@@ -98,7 +96,7 @@ pub fn differs<M: SlotMap, A: Allocator + Clone, L: Ledger>(
         × ((state machine.now).slots.info page ≢ info_from content.now (page - slot.now.first)) }
     ensures no { result ≡ false → HasContent slot.now (state machine.now).slots.info content.now }
 {
-    let end = slot.first.saturating_add(slot.count).min(LIMIT);
+    let end = slot.first.saturating_add(slot.count).min(PAGE_LIMIT);
     let mut page = slot.first.max(1);
     'slots: while page < end {
         let info = machine.page(page);

@@ -10,12 +10,13 @@ ghost use Rattle.certifier.specs.declared.looks.Look.{Look};
 ghost use Rattle.certifier.specs.Histories.{AllGoAlong, AreInOrder, IsFirstAstray, IsFirstPageOf, IsPageOf};
 ghost use Rattle.certifier.specs.Looks.{AreLooked, IsCaughtUp, IsFirstMarked, NoneMarked};
 
-use crate::looks::{LIMIT, Look, are_dated, look_at};
+use crate::looks::{Look, are_dated, look_at};
 use core_steps::{Ledger, Machine};
 use live_levels::close::SlotHistory;
 use machine_model::Event;
 use slot_lock::SlotMap;
 use std::alloc::Allocator;
+use vm_base::page::PAGE_LIMIT;
 use vm_base::{NoMemory, PageRange};
 
 /// The looks with which a run begins. Slots whose tickets don't rise or aren't all below `n` are
@@ -123,7 +124,7 @@ fn first_page<A: Allocator>(slot: &SlotHistory<A>) -> Option<u64>
     ensures none { IfNone result ((page : ℕ) → ¬ IsPageOf slot.now page) }
 {
     let first = slot.first.max(1);
-    if first < LIMIT && first - slot.first < slot.count {
+    if first < PAGE_LIMIT && first - slot.first < slot.count {
         Some(first)
     } else {
         None
@@ -164,7 +165,7 @@ pub fn first_astray<M: SlotMap, A: Allocator + Clone, L: Ledger>(
 {
     let all = PageRange {
         first: 0,
-        end: LIMIT,
+        end: PAGE_LIMIT,
     };
     look_in(machine, slots, looks, all, n);
     first_marked(slots, looks.as_slice())

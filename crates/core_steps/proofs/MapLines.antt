@@ -21,7 +21,7 @@ use Rattle.machine_sound.specs.Sound.{IsReached}
 use Rattle.machine_sound.proofs.OneMap.{log_leads_to_one}
 use Rattle.core_steps.specs.MapLines.{HasNoMap, IsLineStart, IsNextMap, ListsMaps}
 use Rattle.machine_sound.specs.Log.{LeadsTo}
-use Rattle.core_steps.proofs.Reached.{fine, legal}
+use Rattle.core_steps.proofs.Reached.{well, legal}
 
 -- a page of the slots and the page of the plain page map that they show
 meta_shown : (m : Memory) (o : Option PageInfo) (e : Option Entry) → ShowsPage m o e → info_meta o ≡ entry_meta e
@@ -33,7 +33,7 @@ meta_shown m (Some info) None h = absurd h
 
 -- all pages
 same_metas : (w : World) → ∥ IsReached w ∥₁ → (t : Plain) → LeadsTo w t → slot_metas w.slots ≡ plain_metas t
-same_metas w r t leads = fun_ext (λ p. ∥∥₁_elim (fine w r) (hlevel props) (λ g.
+same_metas w r t leads = fun_ext (λ p. ∥∥₁_elim (well w r) (hlevel props) (λ g.
     let same : g.plain ≡ t = log_leads_to_one w.calls.requests w.calls.log _ g.plain t g.log leads in
     meta_shown w.memory (w.slots.info p) (t.entry p) (subst (λ (u : Plain). ShowsPage w.memory (w.slots.info p) (u.entry p)) same (g.good.pages p))))
 

@@ -12,7 +12,7 @@ use Rattle.machine_model.specs.declared.event.Outcome.TheVariants.{Stepped}
 use Rattle.core_steps.specs.declared.machine.Finished.TheVariants.{Last}
 use Rattle.machine_model.specs.World.{World, new_world}
 use Rattle.machine_model.specs.Step.{Step, StepsTo}
-use Rattle.machine_sound.specs.Invariant.{Fine}
+use Rattle.machine_sound.specs.Invariant.{IsWellFormed}
 use Rattle.machine_sound.specs.Sound.{IsReached, IsSoundStep}
 use Rattle.machine_sound.proofs.Kept.{reached_fine, reached_opening, reached_sound, reached_step, steps_sound}
 use Rattle.core_steps.specs.declared.setup.Setup.{Setup}
@@ -24,8 +24,8 @@ use Rattle.core_steps.specs.declared.setup.CallLimit.TheVariants.{Usual}
 use Rattle.core_steps.specs.Setups.{fault_of, fault_within, made_of}
 use Rattle.core_steps.proofs.Setups.{few_cores_within}
 
-pub fine : (w : World) → ∥ IsReached w ∥₁ → ∥ Fine w ∥₁
-fine w t = ∥∥₁_map t (reached_fine w)
+pub well : (w : World) → ∥ IsReached w ∥₁ → ∥ IsWellFormed w ∥₁
+well w t = ∥∥₁_map t (reached_fine w)
 
 pub legal : (w : World) → ∥ IsReached w ∥₁ → IsLegal w
 legal w t = record { reached = t; sound = ∥∥₁_map t (reached_sound w) }

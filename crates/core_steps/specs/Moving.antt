@@ -25,7 +25,7 @@ use Rattle.machine_model.specs.Locks.{locking}
 use Rattle.machine_model.specs.Translating.{frame_reached, translated_by}
 use Rattle.machine_model.specs.World.{World, Hardware}
 use Rattle.machine_laws.specs.Orderly.{answer_count}
-use Rattle.machine_sound.specs.Invariant.{Fine}
+use Rattle.machine_sound.specs.Invariant.{IsWellFormed}
 
 -- ---- want of memory
 
@@ -107,13 +107,13 @@ JoinsAsMap CanFold Folds w _ o v = Unit {0}
 -- the core is the machine's, and the state is one that runs reach
 pub record IsOf (w : World) (core : ℕ) : Type 0 where
   pub here : core < w.made.cores
-  pub fine : ∥ Fine w ∥₁
+  pub well : ∥ IsWellFormed w ∥₁
 
 -- and its call is in this phase
 pub record IsAt (w : World) (core : ℕ) (at : Phase) : Type 0 where
   pub here : core < w.made.cores
   pub phase : w.calls.phase core ≡ at
-  pub fine : ∥ Fine w ∥₁
+  pub well : ∥ IsWellFormed w ∥₁
 
 -- ---- an access
 

@@ -5,9 +5,7 @@ ghost use Rattle.core_steps.specs.Setups.{first_fault, first_fault_within, most_
 use backing::FileSpec;
 use std::alloc::Allocator;
 use std::fmt;
-
-/// How many bytes a file may have at the most.
-const FILE_LIMIT: usize = 1_048_576;
+use vm_base::limits::{FILE_BYTES, FILE_COUNT};
 
 /// How many calls a setup may ask for at the most.
 #[derive(Clone, Copy, Debug, PartialEq, Eq)]
@@ -104,7 +102,7 @@ pub fn first_fault_within(
         Some(SetupFault::Cores)
     } else if frames > 65_536 {
         Some(SetupFault::Frames)
-    } else if files > 16 {
+    } else if files > FILE_COUNT {
         Some(SetupFault::TooManyFiles)
     } else if has_long {
         Some(SetupFault::FileTooLong)
@@ -123,7 +121,9 @@ impl<A: Allocator> Setup<A> {
     fn has_long(&self) -> bool
         ensures { result ≡ has_long self.now.files.items }
     {
-        self.files.iter().any(|file| file.bytes.len() > FILE_LIMIT)
+        self.files
+            .iter()
+            .any(|file| file.bytes.len() as u64 > FILE_BYTES)
     }
 
     /// The first fault of the setup itself, if it has one. It may ask for 1,048,576 calls.

@@ -7,6 +7,7 @@ use Rattle.import_maps.specs.declared.entries.Entered.TheVariants.{Kept, Changed
 abbrev pub no_entries : Entries
 no_entries = record { kept = 0; changed = 0; kernel = 0; outside = 0; unread = 0 }
 
+-- how many lines of the list are left out, whatever the reason
 abbrev pub left_entries : Entries → ℕ
 left_entries e = e.kernel + e.outside + e.unread
 

@@ -18,6 +18,7 @@ pub record Entry : Type 0 where
   pub off : ℕ
   pub name : List ℕ
 
+-- what the code keeps of a line, as a value of bytes
 abbrev pub entry_of : Listed → Entry
 entry_of l = record { start = l.start; end = l.end; prot = l.prot; shared = l.shared; off = l.off; name = l.name.now }
 

@@ -18,6 +18,7 @@ pub record StartsAll (start : SoFar × Entries) (lines : ℕ) (thread : Option �
   pub entries : told.entries ≡ start.1
   pub all : total told.entries ≡ lines
 
+-- how an import ends that begins with what a list has told: all told, or stopped at a fault
 abbrev pub StartedEnds : SoFar × Entries → ℕ → Option ℕ → List ℕ → Option (List ℕ) → Option (List ℕ) → Result Told ImportFault → Type 0
 StartedEnds start lines thread input old new (Ok told) = StartsAll start lines thread input old new told
 StartedEnds start lines thread input old new (Err f) = ImportStops start.0 thread input old new f

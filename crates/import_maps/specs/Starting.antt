@@ -23,6 +23,7 @@ with_request s request = record {
   steps = s.steps ++ record { core = 0; request = request } ∷ [];
 }
 
+-- a line's mapping as a fixed one
 abbrev pub flags_of : Bool → Bool → Flags
 flags_of shared anon = record { private = not shared; shared = shared; fixed = true; anon = anon }
 
@@ -44,12 +45,14 @@ abbrev pub with_file : SoFar → Entry → Option ℕ → SoFar × Entered
 with_file s e (Some file) = (with_request s (Mmap e.start (e.end - e.start) e.prot (flags_of e.shared false) file e.off), Is.Kept)
 with_file s e None = (without_file s e, Is.Changed)
 
+-- a file is mapped if its pages lie within what a file may have, and else anonymous pages in its place
 abbrev pub file_listed : SoFar → Entry → SoFar × Entered
 file_listed s e = if reaches e.off (e.end - e.start)
     then with_file (record { threads = s.threads; files = files_with s.files (shown_name e.name) (e.off + (e.end - e.start)); heap_end = s.heap_end; steps = s.steps })
     e (file_place s.files (shown_name e.name))
     else with_file s e None
 
+-- the pages of a line by what its name says that they are
 abbrev pub kind_listed : SoFar → Entry → Kind → SoFar × Entered
 kind_listed s e Kernel = (s, Is.Kernel)
 kind_listed s e Anonymous = (without_file s e, Is.Kept)
@@ -59,6 +62,7 @@ kind_listed s e File = file_listed s e
 abbrev pub is_inside : Entry → Bool
 is_inside e = if nat_lt e.start 4096 then false else nat_le e.end (2 ^ 47)
 
+-- what a line of the list becomes: a mapping where it has pages below the end of addresses
 abbrev pub entry_listed : SoFar → Entry → SoFar × Entered
 entry_listed s e = if nat_le e.end e.start then (s, Is.Unread)
     else if is_inside e then kind_listed s e (kind_named e.name)
@@ -69,6 +73,7 @@ abbrev pub line_listed : SoFar → Option Entry → SoFar × Entered
 line_listed s None = (s, Is.Unread)
 line_listed s (Some e) = entry_listed s e
 
+-- a line that became something, counted
 abbrev pub counted_with : Entries → SoFar × Entered → SoFar × Entries
 counted_with entries after = (after.0, counted entries after.1)
 

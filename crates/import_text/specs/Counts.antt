@@ -25,6 +25,7 @@ no_counts = record {
 abbrev pub changed_lines : Counts → ℕ
 changed_lines c = c.heap + c.moves + c.files
 
+-- how many lines are left out, whatever the reason
 abbrev pub left_lines : Counts → ℕ
 left_lines c = c.half + c.failed + c.elsewhere + c.before + c.unread + c.still + c.other
 

@@ -24,6 +24,7 @@ ImportStops start thread input old new ReadFailed = Keeps old new
 ImportStops start thread input old new NoMemory = Keeps old new
 ImportStops start thread input old new WriteFailed = AppendsFront old new (imported_text 256 (import_of start thread input).0)
 
+-- how an import ends: all lines told, or stopped at a fault
 abbrev pub ImportEnds : SoFar → Option ℕ → List ℕ → Option (List ℕ) → Option (List ℕ) → Result Counts ImportFault → Type 0
 ImportEnds start thread input old new (Ok counts) = ImportsAll start thread input old new counts
 ImportEnds start thread input old new (Err f) = ImportStops start thread input old new f

@@ -31,6 +31,7 @@ taken_if false start s all k = (s, Left Elsewhere)
 abbrev pub line_taken : SoFar → SoFar → List Spoken → List Making → ℕ → ℕ → SoFar × Fate
 line_taken start s all made process k = taken_if (is_of process made (speech_at all k).0) start s all k
 
+-- a line that met its fate, counted
 abbrev pub counted_with : Counts → SoFar × Fate → SoFar × Counts
 counted_with counts after = (after.0, counted counts after.1)
 
@@ -46,6 +47,7 @@ abbrev pub chosen : Option ℕ → List Spoken → ℕ
 chosen (Some thread) all = thread
 chosen None all = (speech_at all 0).0
 
+-- all lines, for the chosen thread's process: only its threads are imported
 abbrev pub import_all : SoFar → Option ℕ → List Spoken → SoFar × Counts
 import_all start thread all =
     let made = makings all (length all) in

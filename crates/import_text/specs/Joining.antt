@@ -18,6 +18,7 @@ abbrev pub next_of : ℕ → List Spoken → List ℕ
 next_of thread [] = []
 next_of thread (s ∷ later) = if s.0 == thread then s.1 else next_of thread later
 
+-- a text that begins with this token
 abbrev pub has_name : Token → Option (Token × List ℕ) → Bool
 has_name name None = false
 has_name name (Some first) = bytes_eq first.0 name
@@ -48,6 +49,7 @@ call_begun front later = if is_named (codes "munmap") front then with_return fro
 abbrev pub call_returned : Token × List ℕ → List ℕ → Option (List ℕ)
 call_returned r earlier = if bytes_eq r.0 (codes "munmap") then None else Some (joined (front_for r.0 (begun_of earlier)) r.1)
 
+-- the whole text of a call: of one line, or of the two lines in which it was begun and resumed
 abbrev pub call_of : List ℕ → List ℕ → List ℕ → Option (List ℕ) → Option (Token × List ℕ) → Option (List ℕ)
 call_of text later earlier (Some front) r = call_begun front later
 call_of text later earlier None (Some r) = call_returned r earlier

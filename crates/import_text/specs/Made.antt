@@ -33,6 +33,7 @@ abbrev pub first_made : List Making → Making → Option Making → List Making
 first_made made m None = made ++ m ∷ []
 first_made made m (Some earlier) = made
 
+-- with what a line says, if it says that a thread was made
 abbrev pub with_making : List Making → Option Making → List Making
 with_making made None = made
 with_making made (Some m) = first_made made m (maker_of made m.child)
@@ -52,5 +53,6 @@ abbrev pub process_within : List Making → ℕ → ℕ → ℕ
 process_within made zero thread = 0
 process_within made (suc n) thread = process_by (process_within made n) thread (maker_of made thread)
 
+-- the first thread of a thread's process
 abbrev pub process_of : List Making → ℕ → ℕ
 process_of made thread = process_within made (length made) thread

@@ -15,6 +15,7 @@ use Rattle.import_text.specs.declared.said.Outcome.TheVariants.{Gives, Fails, Un
 use Rattle.import_text.specs.declared.said.Said.{Said}
 use Rattle.import_text.specs.declared.said.Said.TheVariants as Says
 
+-- the calls that change what is mapped
 abbrev pub call_named : Token → Option Call
 call_named name = if bytes_eq name (codes "mmap") then Some Of.Mmap
     else if bytes_eq name (codes "munmap") then Some Of.Munmap
@@ -31,6 +32,7 @@ abbrev pub outcome_from : List ℕ → Option ℕ → Outcome
 outcome_from after (Some number) = Gives number
 outcome_from after None = if begins_by (codes "-1") (from_token after) then Fails else Unclear
 
+-- what stands behind the equals sign
 abbrev pub outcome_of : List ℕ → Outcome
 outcome_of after = outcome_from after (only_count after)
 
@@ -96,6 +98,7 @@ mremap_said before to = do
   if old.0 == 0 then None else if occurs (codes "MREMAP_DONTUNMAP") flags.0 then None
       else Some (Says.Moves from.0 old.0 to new.0)
 
+-- a request, or a line that cannot be read
 abbrev pub asked : Option Request → Said
 asked (Some request) = Says.Asks request
 asked None = Says.Unread
@@ -110,6 +113,7 @@ done_said Of.Mremap before gave = unwrap_or (mremap_said before gave) Says.Unrea
 done_said Of.Make before gave = Says.Makes gave (occurs (codes "CLONE_THREAD") before)
 done_said Of.Begin before gave = Says.Begins
 
+-- what a call says that came to this: a request only where it succeeded
 abbrev pub ended_said : Call → List ℕ → Outcome → Said
 ended_said call before (Gives gave) = done_said call before gave
 ended_said call before Fails = Says.Fails
@@ -148,6 +152,7 @@ file_said text = do
   flags ← front_token prot.1
   Some (from_token flags.1)
 
+-- the name that strace shows behind a descriptor, and else the descriptor itself
 abbrev pub named_file : List ℕ → Option (List ℕ) → List ℕ
 named_file text None = text
 named_file text (Some descriptor) = from_sign descriptor descriptor

@@ -9,6 +9,7 @@ use Rattle.import_text.specs.declared.speech.Speech.{Speech}
 abbrev pub Spoken : Type 0
 Spoken = ℕ × List ℕ
 
+-- what the code keeps of a line, as a value of bytes
 abbrev pub spoken : Speech → Spoken
 spoken s = (s.thread, s.text.now)
 

@@ -28,9 +28,11 @@ pub record SoFar : Type 0 where
   pub heap_end : Option ℕ
   pub steps : List Step
 
+-- what the code keeps, as a value
 abbrev pub so_far : Taken → SoFar
 so_far t = record { threads = t.threads.items; files = map use_of t.files.items; heap_end = t.heap_end; steps = t.steps.items }
 
+-- before the first line
 abbrev pub nothing_taken : SoFar
 nothing_taken = record { threads = []; files = []; heap_end = None; steps = [] }
 
@@ -75,6 +77,7 @@ files_with files name reach =
 abbrev pub reaches : ℕ → ℕ → Bool
 reaches off len = nat_le (off + len) (2 ^ 20)
 
+-- the same flags, of anonymous pages
 abbrev pub anonymous : Flags → Flags
 anonymous flags = record { private = flags.private; shared = flags.shared; fixed = flags.fixed; anon = true }
 
@@ -83,12 +86,14 @@ abbrev pub mapped_from : SoFar → ℕ → ℕ → ℕ → Prot → Flags → �
 mapped_from s thread addr len prot flags off (Some file) = (asked_by s thread (Mmap addr len prot flags file off), Kept)
 mapped_from s thread addr len prot flags off None = (asked_by s thread (Mmap addr len prot (anonymous flags) 0 0), Changed File)
 
+-- a mapped file is kept within the bytes that a file may have, and else becomes anonymous pages
 abbrev pub after_file : SoFar → ℕ → List ℕ → ℕ → ℕ → Prot → Flags → ℕ → SoFar × Fate
 after_file s thread name addr len prot flags off = if reaches off len
     then mapped_from (record { threads = s.threads; files = files_with s.files name (off + len); heap_end = s.heap_end; steps = s.steps })
     thread addr len prot flags off (file_place s.files name)
     else mapped_from s thread addr len prot flags off None
 
+-- a mapping is of anonymous pages, or of the file that its line names
 abbrev pub after_mapping : SoFar → ℕ → List ℕ → ℕ → ℕ → Prot → Flags → ℕ → SoFar × Fate
 after_mapping s thread text addr len prot flags off = if flags.anon
     then (asked_by s thread (Mmap addr len prot flags 0 off), Kept)
@@ -96,6 +101,7 @@ after_mapping s thread text addr len prot flags off = if flags.anon
 
 -- ---- the heap, and what is moved
 
+-- an address, or the next one at which a page begins
 abbrev pub rounded : ℕ → ℕ
 rounded n = (n + 4095) / 4096 * 4096
 
@@ -104,6 +110,7 @@ abbrev pub in_place : ℕ → ℕ → Request
 in_place addr len = Mmap addr len (record { read = true; write = true; exec = false })
     (record { private = true; shared = false; fixed = true; anon = true }) 0 0
 
+-- the heap ends here now
 abbrev pub with_heap_end : SoFar → ℕ → SoFar
 with_heap_end s end = record { threads = s.threads; files = s.files; heap_end = Some end; steps = s.steps }
 
@@ -113,10 +120,12 @@ heap_moved s thread old new = if nat_lt old new then (asked_by s thread (in_plac
     else if nat_lt new old then (asked_by s thread (Munmap new (old - new)), Changed Heap)
     else (s, Left For.Still)
 
+-- a heap's first end is only noted, and each later one maps or unmaps what lies between
 abbrev pub heap_after : SoFar → ℕ → Option ℕ → ℕ → SoFar × Fate
 heap_after s thread None new = (with_heap_end s new, Left For.Still)
 heap_after s thread (Some old) new = heap_moved (with_heap_end s new) thread old new
 
+-- brk moves the end of the heap to the next page
 abbrev pub after_break : SoFar → ℕ → ℕ → SoFar × Fate
 after_break s thread to = if nat_lt (2 ^ 47) to then (s, Left For.Unread) else heap_after s thread s.heap_end (rounded to)
 
@@ -131,6 +140,7 @@ abbrev pub moved : SoFar → ℕ → ℕ → ℕ → ℕ → ℕ → SoFar × Fa
 moved s thread from old to new = if from == to then resized s thread from old new
     else (asked_by (asked_by s thread (Munmap from old)) thread (in_place to new), Changed Move)
 
+-- mremap is an unmapping and a mapping
 abbrev pub after_move : SoFar → ℕ → ℕ → ℕ → ℕ → ℕ → SoFar × Fate
 after_move s thread from old to new =
     if nat_lt (2 ^ 47) from || nat_lt (2 ^ 47) old || nat_lt (2 ^ 47) to || nat_lt (2 ^ 47) new then (s, Left For.Unread)
@@ -138,6 +148,7 @@ after_move s thread from old to new =
 
 -- ---- all calls
 
+-- what a request of the program becomes in the trace
 abbrev pub after_request : SoFar → ℕ → List ℕ → Request → SoFar × Fate
 after_request s thread text (Mmap addr len prot flags file off) = after_mapping s thread text addr len prot flags off
 after_request s thread text (Munmap addr len) = (asked_by s thread (Munmap addr len), Kept)

@@ -9,13 +9,16 @@ use Rattle.trace_text.specs.Spelling.{rights_text}
 use Rattle.import_text.specs.Taking.{SoFar}
 use Rattle.import_text.specs.declared.taking.Step.{Step}
 
+-- an address and a length in bytes, each behind a space
 abbrev pub range_text : ℕ → ℕ → List ℕ
 range_text addr len = codes " " ++ address_of addr ++ codes " " ++ decimal len
 
+-- a letter that stands there or not
 abbrev pub mark_text : Bool → List ℕ → List ℕ
 mark_text true letter = letter
 mark_text false letter = []
 
+-- the kind of a mapping in letters
 abbrev pub kind_text : Flags → List ℕ
 kind_text flags = codes " " ++ mark_text flags.private (codes "p") ++ mark_text flags.shared (codes "s")
     ++ mark_text flags.fixed (codes "f") ++ mark_text flags.anon (codes "a")
@@ -43,6 +46,7 @@ abbrev pub use_line : ℕ → ℕ → List ℕ
 use_line number len = codes "file" ++ codes " " ++ decimal number ++ codes " rw" ++ codes " " ++ decimal len
     ++ codes " " ++ decimal number ++ codes "\n"
 
+-- a line for each file, numbered from this number on
 abbrev pub use_lines : ℕ → List (List ℕ × ℕ) → List ℕ
 use_lines number [] = []
 use_lines number (f ∷ fs) = use_line number f.1 ++ use_lines (number + 1) fs

@@ -6,16 +6,11 @@ ghost use Rattle.import_text.specs.Taking.{file_place, files_with, heap_moved, i
 
 use crate::said::{Said, read_file_name};
 use std::alloc::{AllocError, Global};
+use vm_base::limits::{FILE_BYTES, FILE_COUNT};
 use vm_base::{CoreId, Flags, Prot, Request};
 
 /// The first address that no program has: 2^47.
 pub const ADDRESS_END: u64 = 140_737_488_355_328;
-
-/// How many bytes a file of a trace may have.
-pub const FILE_END: u64 = 1_048_576;
-
-/// How many files a trace may have.
-pub const FILE_COUNT: usize = 16;
 
 /// A request of a trace, and the core whose it is.
 #[derive(Clone, Copy, Debug, PartialEq, Eq)]
@@ -220,7 +215,7 @@ pub fn use_file(
     ensures files { OnOk result (map use_of files.new.items ≡ files_with (map use_of files.old.items) name.now reach) }
 {
     let place = place_named(files.as_slice(), name);
-    if place >= FILE_COUNT {
+    if place as u64 >= FILE_COUNT {
         return Ok(None);
     }
     if place == files.len() {
@@ -236,7 +231,7 @@ pub fn use_file(
 pub fn reaches(off: u64, len: u64) -> bool
     ensures { result ≡ reaches off len }
 {
-    off <= FILE_END && len <= FILE_END - off
+    off <= FILE_BYTES && len <= FILE_BYTES - off
 }
 
 // These flags, but of anonymous pages.

@@ -19,6 +19,7 @@ after info (Record core) = info_with_core core info
 abbrev pub replay : List SlotChange → Option PageInfo
 replay changes = fold (λ info change. after info change.act) None changes
 
+-- a change with the ticket of its step
 abbrev pub dated : ℕ → Act → SlotChange
 dated ticket act = record { ticket = ticket; act = act }
 

@@ -11,7 +11,7 @@ use crate::gate::{Gate, Point};
 use crate::giving_up::{end_given_up, give_up};
 use crate::locking::{let_go, reserve_steps};
 use crate::space::Live;
-use access_answers::{cores_of, page_of_touch};
+use access_answers::page_of_touch;
 use live_pages::copy::copy_page;
 use live_pages::filling::fill;
 use live_pages::frame::{Wanted, give_up_with, want};
@@ -24,6 +24,7 @@ use seats::Seat;
 use slot_lock::Touch;
 use std::alloc::Allocator;
 use std::sync::Wait;
+use vm_base::info::recorded_cores;
 use vm_base::{CoreSet, Reply, SegvCode};
 use vm_calls::Settled;
 
@@ -267,7 +268,7 @@ impl<A: Allocator + Clone> Live<A> {
         ensures grew { Grew seat.old seat.new }
         ensures room { CanEnd result held.new seat.new }
     {
-        let targets = cores_of(&held.page(touch.page)).without(seat.core());
+        let targets = recorded_cores(&held.page(touch.page)).without(seat.core());
         // the takes of all that are told, the steps before and after them, to let the slot go, and to
         // answer
         let most = TAKES * count_of(targets);

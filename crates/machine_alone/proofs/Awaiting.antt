@@ -33,7 +33,7 @@ use Rattle.vm_base.specs.Log.{nth, CanAccess, Stands}
 use Rattle.machine_laws.specs.Orderly.{IsUsable}
 use Rattle.machine_laws.proofs.Going.{call_sound, has_core}
 use Rattle.machine_laws.proofs.Moves.{IsCallOf, call_at}
-use Rattle.machine_sound.specs.Invariant.{Fine}
+use Rattle.machine_sound.specs.Invariant.{IsWellFormed}
 use Rattle.machine_sound.proofs.Fills.{IsUncopied, as_store, its_copy, private_only, shown_uncopied}
 use Rattle.machine_sound.proofs.Pages.{framed}
 use Rattle.machine_sound.proofs.Replies.{acted, led_goes, made_of, touched_stands}
@@ -62,7 +62,7 @@ no_store : (b : Bool) (x y : Users) → b ≡ false → Same y (if b then x else
 no_store true x y e p c = absurd cc
 no_store false x y e p c = refl
 
-pub change_answers : (w : World) (t : Plain) (c : ℕ) (request : Request) (goal : Goal) (change : Change) (f : Fine w) → f.plain ≡ t
+pub change_answers : (w : World) (t : Plain) (c : ℕ) (request : Request) (goal : Goal) (change : Change) (f : IsWellFormed w) → f.plain ≡ t
     → nth w.calls.requests (w.calls.number c) ≡ Some request → w.calls.phase c ≡ Acks goal change
     → WillAnswer t c request (range_of change) × (is_access request ≡ false)
 change_answers w t c request goal change f from number p =
@@ -129,7 +129,7 @@ its_frame : (file : ℕ → Option File) (access : Access) (o : Option PageInfo)
 its_frame file access None g u = absurd u
 its_frame file access (Some info) g u = u.2
 
-pub copy_answers : (w : World) (t : Plain) (c : ℕ) (request : Request) (touch : Touch) (frame : ℕ) (f : Fine w) → f.plain ≡ t
+pub copy_answers : (w : World) (t : Plain) (c : ℕ) (request : Request) (touch : Touch) (frame : ℕ) (f : IsWellFormed w) → f.plain ≡ t
     → nth w.calls.requests (w.calls.number c) ≡ Some request → w.calls.phase c ≡ CopyAcks touch frame
     → WillAnswer t c request (page_of_touch touch)
 copy_answers w t c request touch frame f from number p = record {
@@ -191,7 +191,7 @@ change_frames first free request n same access =
     let b : frames_for request ≡ 0 = ap (λ (b : Bool). if b then 1 else 0) access in
     omega (arith, a, b)
 
-pub copy_frames : (w : World) (c : ℕ) (request : Request) (touch : Touch) (frame : ℕ) (first : ℕ → Bool) (f : Fine w)
+pub copy_frames : (w : World) (c : ℕ) (request : Request) (touch : Touch) (frame : ℕ) (first : ℕ → Bool) (f : IsWellFormed w)
     → nth w.calls.requests (w.calls.number c) ≡ Some request → w.calls.phase c ≡ CopyAcks touch frame → HasTaken first w.memory.is_free (Some frame)
     → (taken_below w.memory.is_free w.made.frames ≡ suc (taken_below first w.made.frames)) × (frames_for request ≡ 1)
 copy_frames w c request touch frame first f number p h =

@@ -36,7 +36,7 @@ use Rattle.machine_laws.proofs.Shapes.{refuses, no_place, declines, fails, no_fr
 use Rattle.machine_laws.proofs.Shapes.{divides, cuts, fits, owns, lets_go, answers, posts, commits, takes, zeroes, first_copies, caches}
 use Rattle.machine_laws.proofs.Shapes.{shares, posts_copy, copies, installs, accesses, faults, comes}
 use Rattle.vm_base.specs.Log.{Stands}
-use Rattle.machine_sound.specs.Invariant.{Fine}
+use Rattle.machine_sound.specs.Invariant.{IsWellFormed}
 use Rattle.machine_sound.proofs.Kept.{reached_fine, reached_step}
 use Rattle.machine_alone.specs.Alone.{IsAnsweredAtLast, IsWaiting, IsServedAtLast, IsAwaitingStill, takes_left}
 use Rattle.vm_base.specs.Copies.{page_copied, with_copy}
@@ -225,7 +225,7 @@ was_free free f h =
 at_last : (w : World) (t : Plain) (c : ℕ) (request : Request) → IsWaiting w t c request → IsAtLast w t c request
 at_last w t c request k = go (waits_at (w.calls.phase c) k.range k.at_wait)
   where
-    f : Fine w
+    f : IsWellFormed w
     f = reached_fine w k.reached
 
     go : Waits (w.calls.phase c) k.range → IsAtLast w t c request

@@ -22,7 +22,7 @@ use Rattle.machine_laws.proofs.Moves.{IsCallOf, call_at}
 use Rattle.machine_laws.proofs.Shapes.{GoesBy, moves, divides, cuts, fits, owns, lets_go, answers, posts, commits, takes, zeroes, first_copies, caches, shares}
 use Rattle.machine_laws.proofs.Shapes.{posts_copy, copies, installs, accesses, faults, Works, clears, invalidates, walks, evicts, flushes, reviews, frees}
 use Rattle.machine_laws.proofs.Shapes.{Shape, rests, begins, ends, goes, aims, gives_up, works, joins, Comes, stopped, acts as happens, comes}
-use Rattle.machine_sound.specs.Invariant.{Fine}
+use Rattle.machine_sound.specs.Invariant.{IsWellFormed}
 use Rattle.machine_sound.specs.Sound.{IsReached}
 use Rattle.machine_sound.proofs.Kept.{fine_step}
 use Rattle.machine_sound.proofs.Opening.{fine_opening}
@@ -62,7 +62,7 @@ put_framed info page new h k = put_all (λ p o. IsFramedFor o) info page new k (
 left_framed : (info : ℕ → Option PageInfo) (v : World) → v.slots.info ≡ info → AreFramed info → AreFramed v.slots.info
 left_framed info v e h = subst AreFramed (sym e) h
 
-goes_framed : (w : World) (c : ℕ) (v : World) → Fine w → AreFramed w.slots.info → GoesBy w c v → AreFramed v.slots.info
+goes_framed : (w : World) (c : ℕ) (v : World) → IsWellFormed w → AreFramed w.slots.info → GoesBy w c v → AreFramed v.slots.info
 goes_framed w c v f k (moves new m h) = left_framed _ v (ap (λ (v : World). v.slots.info) h) k
 goes_framed w c v f k (divides goal cursor t e s h) = left_framed _ v (ap (λ (v : World). v.slots.info) h ∙ s.divides.2.info) k
 goes_framed w c v f k (cuts place target range t e s h) = left_framed _ v (ap (λ (v : World). v.slots.info) h ∙ s.divides.2.info) k
@@ -103,7 +103,7 @@ works_framed w c e v k (flushes i report counts t h) = left_framed _ v (ap (λ (
 works_framed w c e v k (reviews i report counts t h) = left_framed _ v (ap (λ (v : World). v.slots.info) h) k
 works_framed w c e v k (frees i x counts t h) = left_framed _ v (ap (λ (v : World). v.slots.info) h) k
 
-shape_framed : (w : World) (e : Event) (o : Outcome) (v : World) → Fine w → AreFramed w.slots.info → Shape w e o v → AreFramed v.slots.info
+shape_framed : (w : World) (e : Event) (o : Outcome) (v : World) → IsWellFormed w → AreFramed w.slots.info → Shape w e o v → AreFramed v.slots.info
 shape_framed w e o v f k (rests i h) = left_framed _ v (ap (λ (v : World). v.slots.info) h) k
 shape_framed w e o v f k (begins c request i s lt p below h) = left_framed _ v (ap (λ (v : World). v.slots.info) h) k
 shape_framed w e o v f k (ends c reply i s lt p h) = left_framed _ v (ap (λ (v : World). v.slots.info) h) k
@@ -113,13 +113,13 @@ shape_framed w e o v f k (gives_up c i s lt can u h) = left_framed _ v (ap (λ (
 shape_framed w e o v f k (works c s lt g) = works_framed w c e v k g
 shape_framed w e o v f k (joins p t i s page j m h) = left_framed _ v (ap (λ (v : World). v.slots.info) h ∙ j.info) k
 
-step_framed : (w : World) (e : Event) (o : Outcome) (v : World) → Fine w → AreFramed w.slots.info → Comes w e o v → AreFramed v.slots.info
+step_framed : (w : World) (e : Event) (o : Outcome) (v : World) → IsWellFormed w → AreFramed w.slots.info → Comes w e o v → AreFramed v.slots.info
 step_framed w e o v f k (stopped n i h) = left_framed _ v (ap (λ (v : World). v.slots.info) h) k
 step_framed w e o v f k (happens n h) = shape_framed (with_event w) e o v f k h
 
 -- ---- runs
 
-run_framed : (w : World) (es : List Event) (os : List Outcome) (v : World) → Fine w → AreFramed w.slots.info → Run w es os v → AreFramed v.slots.info
+run_framed : (w : World) (es : List Event) (os : List Outcome) (v : World) → IsWellFormed w → AreFramed w.slots.info → Run w es os v → AreFramed v.slots.info
 run_framed w [] [] v f k r = left_framed _ v (ap (λ (v : World). v.slots.info) r) k
 run_framed w (e ∷ es) (o ∷ os) v f k r =
     run_framed r.0 es os v (fine_step w r.0 e o f r.1).0 (step_framed w e o r.0 f k (comes w e o r.0 r.1)) r.2

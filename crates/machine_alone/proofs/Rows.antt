@@ -59,7 +59,7 @@ use Rattle.machine_laws.proofs.Shapes.{Replies, refuses, no_place, declines, fai
 use Rattle.machine_laws.proofs.Shapes.{moves, divides, cuts, fits, owns, lets_go, answers, posts, commits, takes, zeroes, first_copies}
 use Rattle.machine_laws.proofs.Shapes.{caches, shares, posts_copy, copies, installs, accesses, faults}
 use Rattle.machine_sound.specs.Sound.{IsDue}
-use Rattle.machine_sound.specs.Invariant.{Fine}
+use Rattle.machine_sound.specs.Invariant.{IsWellFormed}
 use Rattle.machine_sound.proofs.Reaching.{at_page}
 use Rattle.machine_sound.proofs.Replies.{IsReply, due_so, refused, reply_is}
 use Rattle.machine_alone.proofs.Rank.{missing, missing_same, missing_less, missing_most, reach_of, hits, rank, rank_of, lock_less}
@@ -128,13 +128,13 @@ tried_most m reach touch l = go (hits reach touch)
     go false = omega (arith, l)
 
 -- what the check of the arguments lets through is sound
-place_sound : (w : World) (c : ℕ) (request : Request) (place : Place) (goal : Goal) → Fine w → w.calls.phase c ≡ Check request
+place_sound : (w : World) (c : ℕ) (request : Request) (place : Place) (goal : Goal) → IsWellFormed w → w.calls.phase c ≡ Check request
     → checked_by w.made c request ≡ Ok (goal_plan goal) → HasTarget goal → IsSoundGoal goal
 place_sound w c request place goal f e passed aim =
     call_sound w c goal f.order (has_core w c f.order (λ k. let a = sym e ∙ k in cc))
     (record { request = request; number = (call_at w c (Check request) e f.order).asked; passed = passed }) aim
 
-moves_near : (first : ℕ → Bool) (w : World) (c : ℕ) (new : Phase) (v : World) → Fine w → IsSureOf first c w → Moves w c new → v ≡ to c new w
+moves_near : (first : ℕ → Bool) (w : World) (c : ℕ) (new : Phase) (v : World) → IsWellFormed w → IsSureOf first c w → Moves w c new → v ≡ to c new w
     → Nears first w c v
 moves_near first w c new v f sure (locks request change e n passed) h =
     let range = sound_range change (change_sound (λ k. mode_of (w.made.file k)) c request change passed) in
@@ -207,7 +207,7 @@ tells_near first w c old held reply t h m v e k less due =
     logged : Nears first w c (to c (let_go held reply) (record w { slots = t; hardware = h; memory = m })) → Nears first w c v
     logged n = subst (Nears first w c) (sym k) (record { made = n.made; less = n.less; sure = n.sure })
 
-replies_near : (first : ℕ → Bool) (w : World) (c : ℕ) (held : Option PageRange) (reply : Reply) (v : World) → Fine w → IsSureOf first c w
+replies_near : (first : ℕ → Bool) (w : World) (c : ℕ) (held : Option PageRange) (reply : Reply) (v : World) → IsWellFormed w → IsSureOf first c w
     → Replies w c held reply → v ≡ after_reply c held reply w → Nears first w c v
 replies_near first w c held reply v f sure (refuses request e h j) k =
     tells_near first w c (Check request) held reply w.slots w.hardware w.memory v e k
@@ -324,7 +324,7 @@ usable_entry file cached access (Some info) f c u own =
     )
 
 -- once the page's entry is installed, the access reaches it
-installed_hits : (w : World) (c : ℕ) (touch : Touch) → IsCallOf w c (Install touch) → Fine (after_install c touch w)
+installed_hits : (w : World) (c : ℕ) (touch : Touch) → IsCallOf w c (Install touch) → IsWellFormed (after_install c touch w)
     → shows_for w.memory.cached (w.slots.info touch.page) touch.access ≡ false → hits (reach_of (after_install c touch w).hardware c) touch ≡ true
 installed_hits w c touch k after own =
     let z = usable_entry w.made.file w.memory.cached touch.access (w.slots.info touch.page) k.ready.0 c k.ready.1 own in
@@ -365,7 +365,7 @@ copied_near first w c old touch t m v e k less =
 
 -- ---- every plain step
 
-pub goes_near : (first : ℕ → Bool) (w : World) (c : ℕ) (v : World) → Fine w → Fine v → IsSureOf first c w → IsStorableOf c w → GoesBy w c v
+pub goes_near : (first : ℕ → Bool) (w : World) (c : ℕ) (v : World) → IsWellFormed w → IsWellFormed v → IsSureOf first c w → IsStorableOf c w → GoesBy w c v
     → Nears first w c v
 goes_near first w c v f after sure own (moves new m h) = moves_near first w c new v f sure m h
 goes_near first w c v f after sure own (divides goal cursor t e s h) =
@@ -417,7 +417,7 @@ goes_near first w c v f after sure own (copies touch x g counts e n a t h) =
     (omega arith)
 goes_near first w c v f after sure own (installs touch e h) =
     nears first w c (Install touch) (Release touch) (after_install c touch w).slots (after_install c touch w).hardware w.memory v e (rw h refl) (omega arith)
-    (installed_hits w c touch (call_at w c (Install touch) e f.order) (subst Fine h after) (subst (IsStorable w.memory.cached w.slots.info) e own))
+    (installed_hits w c touch (call_at w c (Install touch) e f.order) (subst IsWellFormed h after) (subst (IsStorable w.memory.cached w.slots.info) e own))
 goes_near first w c v f after sure own (accesses touch x e i h) =
     tells_near first w c (Try touch) None (reply_of touch x w.memory) w.slots (after_translating w.hardware c touch) (memory_after touch x w.memory) v e h
     (let a : rank_of w.slots (reach_of w.hardware c) (Try touch) ≡ 2 = ap (λ (o : Option ℕ). cond (is_some o) 2 (missing w.slots + 14)) i in omega (arith, a))

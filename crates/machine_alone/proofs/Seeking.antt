@@ -50,7 +50,7 @@ use Rattle.machine_laws.proofs.Moves.{IsCallOf, call_at}
 use Rattle.machine_laws.proofs.Shapes.{Moves, locks, tries, hints, seeks, guesses, turns, chooses, acts, finds, lacks, shows, Replies, refuses, no_place}
 use Rattle.machine_laws.proofs.Shapes.{declines, fails, no_frame, LetsGo, unlocks, returns, releases, GoesBy, moves, divides, cuts, fits, owns, lets_go}
 use Rattle.machine_laws.proofs.Shapes.{answers, posts, commits, takes, zeroes, first_copies, caches, shares, posts_copy, copies, installs, accesses, faults}
-use Rattle.machine_sound.specs.Invariant.{Fine, Good, ShowsPage}
+use Rattle.machine_sound.specs.Invariant.{IsWellFormed, ShowsPlain, ShowsPage}
 use Rattle.machine_sound.proofs.Replies.{has_modes}
 use Rattle.vm_base.specs.Requests.{is_placed}
 use Rattle.vm_base.specs.Users.{Users}
@@ -101,11 +101,11 @@ mapped_same m None (Some page) h = absurd h
 mapped_same m (Some info) None h = absurd h
 
 -- the same pages are mapped
-shown_mapped : (w : World) (t : Plain) → Good w t → is_mapped (entries w.slots) ≡ is_mapped t.entry
+shown_mapped : (w : World) (t : Plain) → ShowsPlain w t → is_mapped (entries w.slots) ≡ is_mapped t.entry
 shown_mapped w t g = fun_ext (λ p. mapped_same w.memory (w.slots.info p) (t.entry p) (g.pages p))
 
 -- and the files are open for the same
-shown_modes : (w : World) (t : Plain) → Good w t → ◌≡◌ {A = ℕ → Option Mode} (λ n. mode_of (t.file n)) (λ n. mode_of (w.made.file n))
+shown_modes : (w : World) (t : Plain) → ShowsPlain w t → ◌≡◌ {A = ℕ → Option Mode} (λ n. mode_of (t.file n)) (λ n. mode_of (w.made.file n))
 shown_modes w t g = fun_ext (has_modes w t g)
 
 -- ---- requests that don't leave their place open
@@ -161,7 +161,7 @@ unplanned c (Load addr) reply e = refl
 unplanned c (Store addr byte) reply e = refl
 unplanned c (Fetch addr) reply e = refl
 
-check_first : (w : World) (t : Plain) (c : ℕ) (request : Request) (reply : Reply) → Good w t → checked_by w.made c request ≡ Err reply
+check_first : (w : World) (t : Plain) (c : ℕ) (request : Request) (reply : Reply) → ShowsPlain w t → checked_by w.made c request ≡ Err reply
     → IsFirstReply t c request reply
 check_first w t c request reply g = go (refusal (λ n. mode_of (w.made.file n)) request) refl
   where
@@ -226,7 +226,7 @@ guessed mapped place (Some first) k least = (k, least)
 
 -- until the call has its reply, or its page a copy, the slots show the map in which it began
 abbrev pub IsBefore : Plain → ℕ → Option ℕ → World → Type 0
-IsBefore t c copy w = (status (w.calls.phase c) ≡ Asked) × (copy ≡ None) → Good w t
+IsBefore t c copy w = (status (w.calls.phase c) ≡ Asked) × (copy ≡ None) → ShowsPlain w t
 
 seeks_at : (t : Plain) (c : ℕ) (request : Request) (w : World) (old : Phase) → w.calls.phase c ≡ old → IsSeeking t c request w
     → Seeks t c request old
@@ -269,7 +269,7 @@ finding : (t : Plain) (users : Users) (c : ℕ) (request : Request) (copy : Opti
 finding t users c request copy w place target e good u =
     shown_mapped w t (good (ap status e, (used_at t users c request copy w (Find place target) e u).0))
 
-moves_seek : (t : Plain) (users : Users) (c : ℕ) (request : Request) (copy : Option ℕ) (w : World) (new : Phase) (v : World) (f : Fine w)
+moves_seek : (t : Plain) (users : Users) (c : ℕ) (request : Request) (copy : Option ℕ) (w : World) (new : Phase) (v : World) (f : IsWellFormed w)
     → IsBefore t c copy w → IsUsed t users c request copy w → Goes w c (w.calls.phase c) Stepped v → IsSeeking t c request w
     → Moves w c new → v ≡ to c new w
     → Seeks t c request new
@@ -299,7 +299,7 @@ moves_seek t users c request copy w new v f good u g k (lacks touch old e n i j)
 moves_seek t users c request copy w new v f good u g k (shows touch e n i j) h = subst (Seeks t c request) (sym n) tt
 
 replies_seek : (t : Plain) (users : Users) (c : ℕ) (request : Request) (copy : Option ℕ) (w : World) (held : Option PageRange) (reply : Reply)
-    (f : Fine w) → c < 64
+    (f : IsWellFormed w) → c < 64
     → nth w.calls.requests (w.calls.number c) ≡ Some request → IsBefore t c copy w → IsUsed t users c request copy w
     → IsSeeking t c request w
     → Replies w c held reply → IsFirstReply t c request reply
@@ -320,7 +320,7 @@ replies_seek t users c request copy w held reply f few number good u k (no_frame
     named_first t c request reply (touch_is_named w c touch request number (call_at w c (Want touch old) e f.order).asked)
 
 -- a change that is made
-commits_seek : (t : Plain) (c : ℕ) (request : Request) (w : World) (goal : Goal) (change : Change) (f : Fine w) → c < 64
+commits_seek : (t : Plain) (c : ℕ) (request : Request) (w : World) (goal : Goal) (change : Change) (f : IsWellFormed w) → c < 64
     → nth w.calls.requests (w.calls.number c) ≡ Some request → w.calls.phase c ≡ Acks goal change → IsSeeking t c request w
     → IsFirstReply t c request (reply_to change)
 commits_seek t c request w (To.Place place target) change f few number e k =
@@ -364,7 +364,7 @@ at_phase c new x v h = ap (λ (v : World). v.calls.phase c) h ∙ put_same x.cal
 
 -- ---- every plain step
 
-pub seeks_on : (t : Plain) (users : Users) (c : ℕ) (request : Request) (copy : Option ℕ) (w v : World) (f : Fine w) → c < 64
+pub seeks_on : (t : Plain) (users : Users) (c : ℕ) (request : Request) (copy : Option ℕ) (w v : World) (f : IsWellFormed w) → c < 64
     → nth w.calls.requests (w.calls.number c) ≡ Some request → IsBefore t c copy w → IsUsed t users c request copy w
     → Goes w c (w.calls.phase c) Stepped v → IsSeeking t c request w → GoesBy w c v
     → IsSeeking t c request v

@@ -35,7 +35,7 @@ use Rattle.machine_laws.proofs.Numbered.{at_new}
 use Rattle.machine_laws.proofs.Shapes.{Rests, absent, busy, full, free as callless, cannot, waits, awaits, GoesBy, Works, clears, invalidates}
 use Rattle.machine_laws.proofs.Shapes.{walks, evicts, flushes, reviews, frees, IsGoing, going, picking, Shape, rests, begins, ends, goes, aims}
 use Rattle.machine_laws.proofs.Shapes.{gives_up, works, joins, Comes, stopped, acts as happens, comes}
-use Rattle.machine_sound.specs.Invariant.{Fine, Good}
+use Rattle.machine_sound.specs.Invariant.{IsWellFormed, ShowsPlain}
 use Rattle.machine_laws.proofs.Deciding.{place_free}
 use Rattle.machine_laws.proofs.Moves.{IsCallOf, call_at}
 use Rattle.machine_sound.specs.Sound.{IsReached}
@@ -123,7 +123,7 @@ never first w t c request x o v h (waits d goal cursor by e p ne own i) k =
     absurd (cc (held, none))
 
 pub row_of : (free : ℕ → Bool) (w : World) (t : Plain) (c : ℕ) (request : Request) (x : World) (o : Outcome) (v : World) → IsServing free w t c request x
-    → Fine v
+    → IsWellFormed v
     → Shape (with_event x) (Go c) o v → Row free (with_event x) c o v
 row_of first w t c request x o v h after (rests r e) = never first w t c request x o v h r e
 row_of first w t c request x o v h after (begins d r e s lt p below k) = absurd cc
@@ -226,7 +226,7 @@ goes_of x c v s = go (nat_lt x.calls.events event_limit) (nat_lt c x.made.cores)
     go false b k = absurd (let e = k.0 in cc)
 
 -- while the call has no reply, the map in which it goes on is that of its beginning, but for its copy
-goes_from : (free : ℕ → Bool) (w : World) (t : Plain) (c : ℕ) (request : Request) (x : World) (h : IsServing free w t c request x) (f : Fine x)
+goes_from : (free : ℕ → Bool) (w : World) (t : Plain) (c : ℕ) (request : Request) (x : World) (h : IsServing free w t c request x) (f : IsWellFormed x)
     → status (x.calls.phase c) ≡ Asked → IsFrom t h.copy f.plain
 goes_from free w t c request x h f a =
     from_log x.calls.requests w.calls.log x.calls.log (nothing_mapped x.made.file) t f.plain (x.calls.number c) h.copy
@@ -237,7 +237,7 @@ serves_step : (free : ℕ → Bool) (w : World) (t : Plain) (c : ℕ) (request :
     → IsServing free w t c request v × (left_of v c < left_of x c)
 serves_step free w t c request x v h s =
     let shape : Shape (with_event x) (Go c) Stepped v = before_limit x c v (comes x (Go c) Stepped v s) s in
-    let f : Fine x = reached_fine x h.reached in
+    let f : IsWellFormed x = reached_fine x h.reached in
     elim (row_of free w t c request x Stepped v h (reached_fine v (reached_step x v (Go c) Stepped h.reached s)) shape) [
       | nears _ g k ↦ (
         serves_on free w t c request (copy_after g h.copy) x v h s (effect_of (with_event x) (Go c) Stepped v f.order shape) k.made k.sure
@@ -353,7 +353,7 @@ pub returned : (free : ℕ → Bool) (w : World) (t : Plain) (c : ℕ) (request 
     → IsServed w t c request o v
 returned free w t c request x v o reply h s at answered e due most =
     let reached : IsReached v = reached_step x v (Go c) o h.reached s in
-    let after : Fine v = reached_fine v reached in
+    let after : IsWellFormed v = reached_fine v reached in
     let noted : IsNoted w.calls.log h.copy (x.calls.number c) c reply x.calls.log =
     subst (λ phase. IsLogged w.calls.log x.calls.log (x.calls.number c) c h.copy (status phase)) at h.logged in
     let led : Replays x.calls.requests (nothing_mapped x.made.file) x.calls.log after.plain =
@@ -399,7 +399,7 @@ waiting_leads free w t c request x h a none =
     subst (λ log. Replays x.calls.requests (nothing_mapped x.made.file) log t) (sym same) h.first
 
 -- what it will be answered, and the frame that it has taken
-will_answer : (w : World) (t : Plain) (c : ℕ) (request : Request) (x : World) (range : PageRange) → IsServing w.memory.is_free w t c request x → (f : Fine x)
+will_answer : (w : World) (t : Plain) (c : ℕ) (request : Request) (x : World) (range : PageRange) → IsServing w.memory.is_free w t c request x → (f : IsWellFormed x)
     → f.plain ≡ t → Waits (x.calls.phase c) range
     → WillAnswer t c request range × (taken_below x.memory.is_free x.made.frames ≡ taken_below w.memory.is_free x.made.frames + frames_for request)
 will_answer w t c request x range h f from (for_change goal change p i) =
@@ -414,7 +414,7 @@ will_answer w t c request x range h f from (for_copy touch frame p i) =
     )
 
 -- a request that leaves its place open waits for nobody: it goes to pages that no core uses
-acks_named : (x : World) (c : ℕ) (request : Request) (goal : Goal) (change : Change) (d : ℕ) → Fine x
+acks_named : (x : World) (c : ℕ) (request : Request) (goal : Goal) (change : Change) (d : ℕ) → IsWellFormed x
     → nth x.calls.requests (x.calls.number c) ≡ Some request → x.calls.phase c ≡ Acks goal change → IsUser x.slots (range_of change) d
     → is_placed request ≡ false
 acks_named x c request (To.Place place target) change d f number p u =
@@ -426,7 +426,7 @@ acks_named x c request (To.Change planned) change d f number p u =
 acks_named x c request (To.Access touch) change d f number p u =
     touch_is_named x c touch request number (call_at x c (Acks (To.Access touch) change) p f.order).asked
 
-waits_named : (x : World) (c : ℕ) (request : Request) (range : PageRange) (d : ℕ) → Fine x
+waits_named : (x : World) (c : ℕ) (request : Request) (range : PageRange) (d : ℕ) → IsWellFormed x
     → nth x.calls.requests (x.calls.number c) ≡ Some request
     → Waits (x.calls.phase c) range → IsUser x.slots range d → is_placed request ≡ false
 waits_named x c request range d f number (for_change goal change p i) u =
@@ -439,7 +439,7 @@ awaited_by : (w : World) (t : Plain) (c : ℕ) (request : Request) (x : World) (
     → o ≡ Wait (WaitsFor.Acks set) → Awaits x.hardware c set → v ≡ with_event x → IsAwaiting w x t c request o v
 awaited_by w t c request x o v range set h was_told p e a k =
     let told : IsToldOf x.slots x.hardware c (Some range) = subst (IsToldOf x.slots x.hardware c) p was_told in
-    let f : Fine x = reached_fine x h.reached in
+    let f : IsWellFormed x = reached_fine x h.reached in
     let waits : Waits (x.calls.phase c) range = waits_at (x.calls.phase c) range p in
     let kept = waits_unchanged t (recorded w.slots) (recorded x.slots) (reach_of x.hardware c) c request h.copy (x.calls.phase c) range waits h.used in
     let leads : LeadsTo x t = waiting_leads w.memory.is_free w t c request x h kept.0 kept.1 in
@@ -478,7 +478,7 @@ awaited_by w t c request x o v range set h was_told p e a k =
 
 -- ---- the whole call
 
-few_cores : (x : World) (c : ℕ) → nat_lt c x.made.cores ≡ true → Fine x → c < 64
+few_cores : (x : World) (c : ℕ) → nat_lt c x.made.cores ≡ true → IsWellFormed x → c < 64
 few_cores x c inside f = let few = f.order.few in let l = below c x.made.cores inside in omega (arith, few, l)
   where
     below : (a b : ℕ) → nat_lt a b ≡ true → a < b
@@ -530,11 +530,11 @@ seeking_along : (w : World) (t : Plain) (c : ℕ) (request : Request) (m : World
 seeking_along w t c request m h k zero x s = subst (IsSeeking t c request) (sym s) k
 seeking_along w t c request m h k (suc n) x s =
     let z = (along w.memory.is_free w t c request m h n s.0 s.1).0 in
-    let f : Fine s.0 = reached_fine s.0 z.reached in
+    let f : IsWellFormed s.0 = reached_fine s.0 z.reached in
     let shape : Shape (with_event s.0) (Go c) Stepped x = before_limit s.0 c x (comes s.0 (Go c) Stepped x s.2) s.2 in
     elim (row_of w.memory.is_free w t c request s.0 Stepped x z (reached_fine x (reached_step s.0 x (Go c) Stepped z.reached s.2)) shape) [
       | nears _ g _ ↦ seeks_on t (recorded w.slots) c request z.copy (with_event s.0) x f (few_cores s.0 c z.inside f) z.number
-          (λ b. subst (Good s.0) (subst (λ o. IsFrom t o f.plain) b.1 (goes_from w.memory.is_free w t c request s.0 z f b.0)) f.good)
+          (λ b. subst (ShowsPlain s.0) (subst (λ o. IsFrom t o f.plain) b.1 (goes_from w.memory.is_free w t c request s.0 z f b.0)) f.good)
           z.used (goes_of s.0 c x s.2) (seeking_along w t c request m h k n s.0 s.1) g
       | returns _ _ e _ ↦ absurd cc
       | awaits_acks _ _ _ e _ _ ↦ absurd cc

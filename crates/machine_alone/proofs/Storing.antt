@@ -31,7 +31,7 @@ use Rattle.machine_model.specs.Step.{Goes}
 use Rattle.machine_laws.proofs.Shapes.{Moves, locks, tries, hints, seeks, guesses, turns, chooses, acts, finds, lacks, shows, LetsGo, unlocks}
 use Rattle.machine_laws.proofs.Shapes.{returns, releases, GoesBy, moves, divides, cuts, fits, owns, lets_go, answers, posts, commits, takes, zeroes}
 use Rattle.machine_laws.proofs.Shapes.{first_copies, caches, shares, posts_copy, copies, installs, accesses, faults}
-use Rattle.machine_sound.specs.Invariant.{Fine}
+use Rattle.machine_sound.specs.Invariant.{IsWellFormed}
 use Rattle.machine_alone.proofs.Rank.{back_all}
 use Rattle.machine_sound.proofs.Fills.{uncached, unshown}
 
@@ -173,7 +173,7 @@ taken_storable : (cached : ℕ → ℕ → Option ℕ) (info : ℕ → Option Pa
 taken_storable cached info touch None f = tt
 taken_storable cached info touch (Some g) f = tt
 
-pub storable_on : (w : World) (c : ℕ) (v : World) → Fine w → Goes w c (w.calls.phase c) Stepped v → GoesBy w c v → IsStorableOf c v
+pub storable_on : (w : World) (c : ℕ) (v : World) → IsWellFormed w → Goes w c (w.calls.phase c) Stepped v → GoesBy w c v → IsStorableOf c v
 storable_on w c v f g (moves new m h) = moves_storable w c new v g m h
 storable_on w c v f g (divides goal cursor t e s h) =
     subst (IsStorableOf c) (sym h) (subst (IsStorable w.memory.cached t.info) (sym e) tt)

@@ -21,7 +21,7 @@ use Rattle.machine_laws.specs.Orderly.{Serves}
 use Rattle.machine_laws.proofs.Moves.{IsCallOf, call_at}
 use Rattle.machine_laws.proofs.Shapes.{GoesBy, moves, divides, cuts, fits, owns, lets_go, answers, posts, commits, takes, zeroes}
 use Rattle.machine_laws.proofs.Shapes.{first_copies, caches, shares, posts_copy, copies, installs, accesses, faults}
-use Rattle.machine_sound.specs.Invariant.{Fine}
+use Rattle.machine_sound.specs.Invariant.{IsWellFormed}
 use Rattle.machine_alone.specs.Taken.{one_if_taken, taken_below, frames_for}
 use Rattle.vm_base.specs.Requests.{is_access}
 use Rattle.machine_alone.proofs.Rows.{HasTaken, IsSureOf, sure_at}
@@ -144,7 +144,7 @@ free_same : (first : ℕ → Bool) (request : Request) (v : World) (free : ℕ �
     → TakesOne first v.memory.is_free request
 free_same first request v free e k = subst (λ f. TakesOne first f request) (sym e) k
 
-pub taken_on : (first : ℕ → Bool) (c : ℕ) (request : Request) (w v : World) → Fine w → nth w.calls.requests (w.calls.number c) ≡ Some request
+pub taken_on : (first : ℕ → Bool) (c : ℕ) (request : Request) (w v : World) → IsWellFormed w → nth w.calls.requests (w.calls.number c) ≡ Some request
     → IsSureOf first c w → TakesOne first w.memory.is_free request → GoesBy w c v → TakesOne first v.memory.is_free request
 taken_on first c request w v f number sure k (moves new m h) = free_same first request v _ (ap (λ (v : World). v.memory.is_free) h) k
 taken_on first c request w v f number sure k (divides goal cursor t e s h) = free_same first request v _ (ap (λ (v : World). v.memory.is_free) h) k

@@ -6,7 +6,7 @@ use Rattle.vm_base.specs.declared.info.PageInfo.{PageInfo}
 use Rattle.vm_base.specs.declared.page.PageRange.{PageRange}
 use Rattle.vm_base.specs.declared.replies.Reply.{Reply}
 use Rattle.vm_base.specs.Cores.{members}
-use Rattle.vm_base.specs.Info.{is_recorded}
+use Rattle.vm_base.specs.Info.{is_recorded, recorded_cores}
 use Rattle.vm_base.proofs.CoreSets.{members-empty}
 use Rattle.vm_base.specs.Functions.{put}
 use Rattle.vm_base.proofs.Functions.{has_in, put_all, put_same, put_other, eq_true, eq_false}
@@ -28,7 +28,7 @@ use Rattle.slot_lock.specs.declared.plan.Goal.{Goal}
 use Rattle.slot_lock.specs.declared.plan.Goal.TheVariants as To
 use Rattle.machine_model.specs.Accesses.{taken_for, after_frame, after_install, reply_of, memory_after}
 use Rattle.machine_model.specs.Actions.{to, let_go, after_reply, with_entry, detach_entry}
-use Rattle.machine_model.specs.Filling.{cores_of, after_zeros, after_first_copy, after_caching, after_sharing, after_copy}
+use Rattle.machine_model.specs.Filling.{after_zeros, after_first_copy, after_caching, after_sharing, after_copy}
 use Rattle.machine_model.specs.Changes.{slots_after, reply_to}
 use Rattle.machine_model.specs.Counting.{with_counts}
 use Rattle.machine_model.specs.Holding.{awaits_in, page_of_touch}
@@ -43,7 +43,7 @@ use Rattle.machine_laws.proofs.Shapes.{first_copies, caches, shares, posts_copy,
 use Rattle.machine_laws.proofs.Effects.{moves_quiet, locked_quiet, let_go_still, lets_go_still, taken_asked}
 use Rattle.machine_coherence.specs.Coherent.{AreAsked}
 use Rattle.machine_coherence.proofs.Steps.{users}
-use Rattle.machine_sound.specs.Invariant.{Fine}
+use Rattle.machine_sound.specs.Invariant.{IsWellFormed}
 use Rattle.machine_alone.specs.Alone.{takes_left}
 
 -- The cores that have core c's message, if it asks for these pages, are the others that are recorded on them, and have taken nothing of it.
@@ -131,7 +131,7 @@ left_is_awaited phase d (m ∷ ms) c only h = go (m.from == c) refl
     go false e = absurd (let a = only m.from (eq_false m.from c e) in let b = h.1 in cc)
 
 -- the cores that are to be told are those that are recorded on the page that is to get a copy
-copy_users : (s : Slots) (touch : Touch) (core : ℕ) → (members (cores_of (s.info touch.page)) core ≡ true) ↔ IsUser s (page_of_touch touch) core
+copy_users : (s : Slots) (touch : Touch) (core : ℕ) → (members (recorded_cores (s.info touch.page)) core ≡ true) ↔ IsUser s (page_of_touch touch) core
 copy_users s touch core = (
   λ m. (touch.page, page_is touch, here (s.info touch.page) m),
   λ u.
@@ -140,11 +140,11 @@ copy_users s touch core = (
       there (s.info touch.page) (subst (λ p. is_recorded (s.info p) core ≡ true) same u.2),
 )
   where
-    here : (o : Option PageInfo) → members (cores_of o) core ≡ true → is_recorded o core ≡ true
+    here : (o : Option PageInfo) → members (recorded_cores o) core ≡ true → is_recorded o core ≡ true
     here None m = absurd (let a = members-empty core in cc (a, m))
     here (Some info) m = m
 
-    there : (o : Option PageInfo) → is_recorded o core ≡ true → members (cores_of o) core ≡ true
+    there : (o : Option PageInfo) → is_recorded o core ≡ true → members (recorded_cores o) core ≡ true
     there None m = absurd cc
     there (Some info) m = m
 
@@ -158,7 +158,7 @@ nobody_awaits w c others e b = this (b == c) refl
     this false i = ap awaits_in (others b (eq_false b c i))
 
 -- just after the messages were sent to the cores that are recorded on these pages
-posts_tell : (w : World) (c shoot : ℕ) (range : PageRange) → Fine w → ((b : ℕ) → b ≢ c → w.calls.phase b ≡ Free) → awaits_in (w.calls.phase c) ≡ None
+posts_tell : (w : World) (c shoot : ℕ) (range : PageRange) → IsWellFormed w → ((b : ℕ) → b ≢ c → w.calls.phase b ≡ Free) → awaits_in (w.calls.phase c) ≡ None
     → ((d : ℕ) → (members shoot d ≡ true) ↔ IsUser w.slots range d)
     → (d : ℕ) → ((awaited (inboxes_after c shoot range w.hardware.inbox) c d ≡ true) ↔ ((d ≢ c) × IsUser w.slots range d))
     × (takes_left (inboxes_after c shoot range w.hardware.inbox d)
@@ -215,7 +215,7 @@ replied_untold c held reply x v h =
     ∙ (let_go_still held reply).awaits))
 
 -- with the messages sent
-posted_told : (w : World) (c : ℕ) (new : Phase) (shoot : ℕ) (range : PageRange) (v : World) → Fine w → ((b : ℕ) → b ≢ c → w.calls.phase b ≡ Free)
+posted_told : (w : World) (c : ℕ) (new : Phase) (shoot : ℕ) (range : PageRange) (v : World) → IsWellFormed w → ((b : ℕ) → b ≢ c → w.calls.phase b ≡ Free)
     → v ≡ to c new (with_hardware (after_shot w.hardware c shoot range) w) → awaits_in (w.calls.phase c) ≡ None → awaits_in new ≡ Some range
     → ((d : ℕ) → (members shoot d ≡ true) ↔ IsUser w.slots range d) → IsTold v.slots v.hardware c (v.calls.phase c)
 posted_told w c new shoot range v f others h none asks all =
@@ -229,7 +229,7 @@ unmapped_unused None d free r = cc
 unmapped_unused (Some info) d free r = cc
 
 -- pages that no core uses, while nobody awaits
-quiet_told : (w : World) (c : ℕ) (range : PageRange) → Fine w → ((b : ℕ) → b ≢ c → w.calls.phase b ≡ Free)
+quiet_told : (w : World) (c : ℕ) (range : PageRange) → IsWellFormed w → ((b : ℕ) → b ≢ c → w.calls.phase b ≡ Free)
     → awaits_in (w.calls.phase c) ≡ None
     → ((d : ℕ) → IsUser w.slots range d → ⊥) → IsToldOf w.slots w.hardware c (Some range)
 quiet_told w c range f others e unused d =
@@ -241,7 +241,7 @@ quiet_told w c range f others e unused d =
     )
 
 -- a mapping goes to pages that no core uses
-fits_told : (w : World) (c : ℕ) (place : Place) (target : Target) (range : PageRange) (v : World) → Fine w
+fits_told : (w : World) (c : ℕ) (place : Place) (target : Target) (range : PageRange) (v : World) → IsWellFormed w
     → ((b : ℕ) → b ≢ c → w.calls.phase b ≡ Free)
     → w.calls.phase c ≡ Cut place target range → v ≡ after_cuts c place target range w → IsTold v.slots v.hardware c (v.calls.phase c)
 fits_told w c place target range v f others e h =
@@ -251,7 +251,7 @@ fits_told w c place target range v f others e h =
     (subst (IsTold w.slots w.hardware c) (sym (put_same w.calls.phase c (Acks (To.Place place target) (Put range place.meta))))
     (quiet_told w c range f others (ap awaits_in e) (λ d u. unmapped_unused (w.slots.info u.0) d (free u.0 u.1) u.2)))
 
-pub told_on : (w : World) (c : ℕ) (v : World) → Fine w → ((b : ℕ) → b ≢ c → w.calls.phase b ≡ Free) → GoesBy w c v
+pub told_on : (w : World) (c : ℕ) (v : World) → IsWellFormed w → ((b : ℕ) → b ≢ c → w.calls.phase b ≡ Free) → GoesBy w c v
     → IsTold v.slots v.hardware c (v.calls.phase c)
 told_on w c v f others (moves new m h) = to_untold c new w v h (moves_quiet w c new m).1.still.awaits
 told_on w c v f others (divides goal cursor t e s h) =
@@ -285,7 +285,7 @@ told_on w c v f others (shares touch own x counts e k n t h) =
           (after_sharing c touch own x counts w).memory;
     }) v h refl
 told_on w c v f others (posts_copy touch x e h) =
-    posted_told w c (CopyAcks touch x) (cores_of (w.slots.info touch.page)) (page_of_touch touch) v f others h (ap awaits_in e) refl (copy_users w.slots touch)
+    posted_told w c (CopyAcks touch x) (recorded_cores (w.slots.info touch.page)) (page_of_touch touch) v f others h (ap awaits_in e) refl (copy_users w.slots touch)
 told_on w c v f others (copies touch x g counts e n a t h) =
     let made : World = after_copy c touch x g counts w in
     to_untold c (Install touch) (with_entry (detach_entry w c touch.page) (record w { slots = made.slots; memory = made.memory })) v h refl

@@ -48,7 +48,7 @@ use Rattle.machine_laws.proofs.Shapes.{Replies, refuses, no_place, declines, fai
 use Rattle.machine_laws.proofs.Shapes.{moves, divides, cuts, fits, owns, lets_go, answers, posts, commits, takes, zeroes, first_copies}
 use Rattle.machine_laws.proofs.Shapes.{caches, shares, posts_copy, copies, installs, accesses, faults}
 use Rattle.machine_laws.proofs.Effects.{Asked, status}
-use Rattle.machine_sound.specs.Invariant.{Fine}
+use Rattle.machine_sound.specs.Invariant.{IsWellFormed}
 use Rattle.machine_sound.proofs.Fills.{private_only}
 use Rattle.machine_sound.proofs.Pages.{IsFramed, framed, is_copied}
 use Rattle.machine_sound.proofs.Reaching.{ReachesFrame, at_page, reaches}
@@ -202,7 +202,7 @@ pub same_request : (w : World) (c : ℕ) (r request : Request) → nth w.calls.r
     → r ≡ request
 same_request w c r request e k = cc
 
-replies_keep : (t : Plain) (c : ℕ) (request : Request) (w : World) (held : Option PageRange) (reply : Reply) → Fine w
+replies_keep : (t : Plain) (c : ℕ) (request : Request) (w : World) (held : Option PageRange) (reply : Reply) → IsWellFormed w
     → nth w.calls.requests (w.calls.number c) ≡ Some request → Replies w c held reply → Keeps t c request reply
 replies_keep t c request w held reply f number (refuses r e h j) =
     let is : r ≡ request = same_request w c r request (call_at w c (Check r) e f.order).asked number in
@@ -224,7 +224,7 @@ unchanged t first c request copy w held reply u (no_frame touch old e h i none) 
 
 -- ---- a change that is made
 
-change_used : (t : Plain) (first : Users) (c : ℕ) (request : Request) (copy : Option ℕ) (w : World) (goal : Goal) (change : Change) → Fine w
+change_used : (t : Plain) (first : Users) (c : ℕ) (request : Request) (copy : Option ℕ) (w : World) (goal : Goal) (change : Change) → IsWellFormed w
     → nth w.calls.requests (w.calls.number c) ≡ Some request → w.calls.phase c ≡ Acks goal change → IsUsed t first c request copy w
     → (page_copied t request (reply_to change) ≡ copy) × Same (recorded (slots_after change w.slots)) (users_after t c request (reply_to change) first)
 change_used t first c request copy w goal change f number e u =
@@ -254,7 +254,7 @@ its_touch w c touch request number z =
     (touch_asked (λ n. mode_of (w.made.file n)) c z.request touch z.passed)
 
 -- the page that has got a copy is that of the store
-pub asks_on : (request : Request) (copy : Option ℕ) (w : World) (c : ℕ) (v : World) → Fine w → nth w.calls.requests (w.calls.number c) ≡ Some request
+pub asks_on : (request : Request) (copy : Option ℕ) (w : World) (c : ℕ) (v : World) → IsWellFormed w → nth w.calls.requests (w.calls.number c) ≡ Some request
     → IsStoreFor request copy → (g : GoesBy w c v) → IsStoreFor request (copy_after g copy)
 asks_on request copy w c v f number a (moves new m h) = a
 asks_on request copy w c v f number a (divides goal cursor t e s h) = a
@@ -292,7 +292,7 @@ usable_info : (file : ℕ → Option File) (o : Option PageInfo) (access : Acces
 usable_info file None access frame u = absurd u
 usable_info file (Some info) access frame u = (info, refl)
 
-install_used : (t : Plain) (first : Users) (c : ℕ) (request : Request) (copy : Option ℕ) (w : World) (touch : Touch) → Fine w → w.calls.phase c ≡ Install touch
+install_used : (t : Plain) (first : Users) (c : ℕ) (request : Request) (copy : Option ℕ) (w : World) (touch : Touch) → IsWellFormed w → w.calls.phase c ≡ Install touch
     → IsUsed t first c request copy w → Same (recorded (after_install c touch w).slots) (with_user touch.page c (users_left copy first))
 install_used t first c request copy w touch f e u =
     let k : IsCallOf w c (Install touch) = call_at w c (Install touch) e f.order in
@@ -314,7 +314,7 @@ reaches_recorded shown info phase h c touch f k e = go (tlb_at (h.tlb c) touch.p
     go None None i j r = absurd cc
 
 -- a store that the core's translation permits needs no copy any more
-none_due : (w : World) (c : ℕ) (touch : Touch) (x : ℕ) (f : Fine w) → frame_reached (translated_by w.hardware c touch) ≡ Some x → touch.access ≡ Store
+none_due : (w : World) (c : ℕ) (touch : Touch) (x : ℕ) (f : IsWellFormed w) → frame_reached (translated_by w.hardware c touch) ≡ Some x → touch.access ≡ Store
     → detached f.plain touch.page ≡ None
 none_due w c touch x f e s =
     let r : ReachesFrame w.memory.cached
@@ -327,7 +327,7 @@ none_due w c touch x f e s =
     ap (detached_entry f.plain touch.page) i.at_page
     ∙ ap (λ b. copied f.plain touch.page i.entry b (bytes_of f.plain.file i.entry.back i.entry.own)) own
 
-access_used : (t : Plain) (first : Users) (c : ℕ) (request : Request) (copy : Option ℕ) (w : World) (touch : Touch) (x : ℕ) (f : Fine w)
+access_used : (t : Plain) (first : Users) (c : ℕ) (request : Request) (copy : Option ℕ) (w : World) (touch : Touch) (x : ℕ) (f : IsWellFormed w)
     → nth w.calls.requests (w.calls.number c) ≡ Some request → w.calls.phase c ≡ Try touch → frame_reached (translated_by w.hardware c touch) ≡ Some x
     → IsFrom t copy f.plain → IsStoreFor request copy → IsUsed t first c request copy w
     → (page_copied t request (reply_of touch x w.memory) ≡ copy) × Same (recorded w.slots) (users_after t c request (reply_of touch x w.memory) first)
@@ -367,7 +367,7 @@ unused_page file (Some info) access u framed d = go (is_recorded (Some info) d) 
     go true e = absurd (let a : is_some info.frame ≡ true = framed d e in let b : is_some info.frame ≡ false = ap is_some u.2 in cc)
 
 -- its first frame is a copy
-first_used : (t : Plain) (first : Users) (c : ℕ) (request : Request) (copy : Option ℕ) (w : World) (touch : Touch) (x : ℕ) → Fine w → AreFramed w.slots.info
+first_used : (t : Plain) (first : Users) (c : ℕ) (request : Request) (copy : Option ℕ) (w : World) (touch : Touch) (x : ℕ) → IsWellFormed w → AreFramed w.slots.info
     → w.calls.phase c ≡ Fill touch (Some x) → IsUsed t first c request copy w → Same (recorded w.slots) (users_left (Some touch.page) first)
 first_used t first c request copy w touch x f framed e u =
     let k : IsCallOf w c (Fill touch (Some x)) = call_at w c (Fill touch (Some x)) e f.order in
@@ -378,7 +378,7 @@ first_used t first c request copy w touch x f framed e u =
 
 -- ---- every plain step
 
-pub used_on : (free : ℕ → Bool) (t : Plain) (first : Users) (c : ℕ) (request : Request) (copy : Option ℕ) (w v : World) (f : Fine w) → AreFramed w.slots.info
+pub used_on : (free : ℕ → Bool) (t : Plain) (first : Users) (c : ℕ) (request : Request) (copy : Option ℕ) (w v : World) (f : IsWellFormed w) → AreFramed w.slots.info
     → nth w.calls.requests (w.calls.number c) ≡ Some request → IsSureOf free c w → (status (w.calls.phase c) ≡ Asked → IsFrom t copy f.plain)
     → IsStoreFor request copy → IsUsed t first c request copy w → (g : GoesBy w c v) → IsUsed t first c request (copy_after g copy) v
 used_on free m first c request copy w v f framed number sure from asks u (moves new k h) =
@@ -496,7 +496,7 @@ filled_users : (first : Users) (c : ℕ) (w v : World) (touch : Touch) (x : ℕ)
 filled_users first c w v touch x e k =
     left_users first c v _ e (still_users first (recorded w.slots) _ c (filled_same w.slots touch.page x) k)
 
-pub unwaited_on : (first : Users) (c : ℕ) (w v : World) → Fine w → IsTold w.slots w.hardware c (w.calls.phase c) → KeepsUsers first c (recorded w.slots)
+pub unwaited_on : (first : Users) (c : ℕ) (w v : World) → IsWellFormed w → IsTold w.slots w.hardware c (w.calls.phase c) → KeepsUsers first c (recorded w.slots)
     → GoesBy w c v
     → KeepsUsers first c (recorded v.slots)
 unwaited_on first c w v f t k (moves new m h) = left_users first c v w.slots (ap (λ (v : World). v.slots) h) k

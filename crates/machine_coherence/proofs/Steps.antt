@@ -12,7 +12,7 @@ use Rattle.vm_base.specs.declared.rights.Access.TheVariants.{Load, Store, Fetch}
 use Rattle.vm_base.specs.declared.rights.Prot.{Prot}
 use Rattle.vm_base.specs.Cores.{members}
 use Rattle.vm_base.specs.Functions.{put, over, has}
-use Rattle.vm_base.specs.Info.{frame_of, is_recorded, info_with_frame, info_with_core, info_with_copy}
+use Rattle.vm_base.specs.Info.{frame_of, is_recorded, info_with_frame, info_with_core, info_with_copy, recorded_cores}
 use Rattle.vm_base.specs.Places.{IsFree}
 use Rattle.vm_base.specs.Plain.{File, is_mapped}
 use Rattle.vm_base.specs.Rights.{is_allowed}
@@ -39,7 +39,7 @@ use Rattle.machine_model.specs.declared.phase.Phase.{Phase}
 use Rattle.machine_model.specs.declared.phase.Phase.TheVariants.{Cut, Post, Acks, Fill, CopyPost, CopyAcks, Install, Release}
 use Rattle.machine_model.specs.Accesses.{after_install}
 use Rattle.machine_model.specs.Files.{back_of, file_frame, shows_file, shows_some, with_cached, is_private, prot_shown, prot_installed}
-use Rattle.machine_model.specs.Filling.{after_caching, after_copy_post, after_copy, cores_of}
+use Rattle.machine_model.specs.Filling.{after_caching, after_copy_post, after_copy}
 use Rattle.machine_model.specs.Actions.{let_go}
 use Rattle.machine_model.specs.Changes.{slots_after, reply_to, after_post, after_commit, AwaitsNobody}
 use Rattle.machine_model.specs.Holding.{awaits_in, some_has, holds, taken_in, page_of_touch}
@@ -304,14 +304,14 @@ caches_kept w c touch f counts g new e none k =
 -- ---- a copy in place of the file's page
 
 -- the cores that are recorded on the page are told
-recorded_there : (o : Option PageInfo) (d : ℕ) → is_recorded o d ≡ true → members (cores_of o) d ≡ true
+recorded_there : (o : Option PageInfo) (d : ℕ) → is_recorded o d ≡ true → members (recorded_cores o) d ≡ true
 recorded_there None d h = absurd cc
 recorded_there (Some info) d h = h
 
 pub posts_copy_kept : (w : World) (c : ℕ) (touch : Touch) (f : ℕ) → w.calls.phase c ≡ CopyPost touch f → IsCoherentState w
     → IsCoherentState (after_copy_post c touch f w)
 posts_copy_kept w c touch f e k =
-    posts w.memory.cached w.slots w.calls.phase w.hardware c (cores_of (w.slots.info touch.page)) (page_of_touch touch) (CopyAcks touch f)
+    posts w.memory.cached w.slots w.calls.phase w.hardware c (recorded_cores (w.slots.info touch.page)) (page_of_touch touch) (CopyAcks touch f)
     (ap awaits_in e) refl
     (λ d u. recorded_there (w.slots.info touch.page) d (subst (λ p. is_recorded (w.slots.info p) d ≡ true) (its touch u.0 u.1) u.2)) k
   where

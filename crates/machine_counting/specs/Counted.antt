@@ -14,6 +14,7 @@ use Rattle.machine_model.specs.World.{World, Made, Memory, new_world}
 use Rattle.machine_model.specs.Step.{Step}
 use Rattle.machine_laws.specs.Orderly.{IsOrderly}
 
+-- just this frame
 abbrev pub is_frame : Option ℕ → ℕ → Bool
 is_frame None f = false
 is_frame (Some g) f = g == f

@@ -36,6 +36,7 @@ abbrev pub calls_from : ℕ → List Event → List Outcome → List Begun
 calls_from n (e ∷ es) (o ∷ os) = begun_by n e o ++ calls_from (suc n) es os
 calls_from n _ _ = []
 
+-- the calls that begin in a run, numbered from 1 on, with their requests
 abbrev pub calls_of : List Event → List Outcome → List Begun
 calls_of es os = calls_from 1 es os
 

@@ -50,6 +50,7 @@ pub record Serves (made : Made) (requests : List Request) (core call : ℕ) (pla
   pub number : nth requests call ≡ Some request
   pub passed : checked_by made core request ≡ Ok plan
 
+-- the same of a phase that may have no plan
 abbrev pub ServesSome : Made → List Request → ℕ → ℕ → Option Plan → Type 0
 ServesSome made requests core call None = Unit {0}
 ServesSome made requests core call (Some plan) = Serves made requests core call plan
@@ -61,6 +62,7 @@ IsAsked made requests core call phase = ServesSome made requests core call (plan
 
 -- ---- edges
 
+-- slots begin at both ends of the range
 abbrev pub IsCutRange : (ℕ → Bool) → PageRange → Type 0
 IsCutRange edge range = (edge range.first ≡ true) × (edge range.end ≡ true)
 
@@ -99,6 +101,7 @@ IsFillable cached info access None =
     (is_private_store (back_of info) access ≡ false)
     × ((g : ℕ) × (file_frame cached (back_of info) ≡ Some g))
 
+-- a copy is due, since the frame is the file's
 abbrev pub IsCopying : Made → Slots → (ℕ → ℕ → Option ℕ) → Touch → Type 0
 IsCopying made s cached touch =
     (g : ℕ) × IsUsable made.file (s.info touch.page) touch.access (Some g)
@@ -126,6 +129,7 @@ pub record IsRest (target held : PageRange) : Type 0 where
   pub low : target.first ≤ held.first
   pub same_end : held.end ≡ target.end
 
+-- what a phase has done so far: how far it locked, what it decided, which frame it has
 abbrev pub IsReady : Made → Slots → (ℕ → ℕ → Option ℕ) → Phase → Type 0
 IsReady made s cached (Lock goal cursor) =
     ((goal_range goal).first ≤ cursor) × (cursor < (goal_range goal).end) × HasTarget goal
@@ -211,6 +215,7 @@ pub record Order (made : Made) (s : Slots) (m : Memory) (phase : ℕ → Phase) 
   pub room : answer_count log + open_calls phase made.cores ≤ length requests
   pub limit : length requests ≤ made.calls
 
+-- the whole state has its order
 abbrev pub IsOrderly : World → Type 0
 IsOrderly w = Order w.made w.slots w.memory w.calls.phase w.calls.number w.calls.requests w.calls.log
 

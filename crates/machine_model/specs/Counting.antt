@@ -40,6 +40,7 @@ CountsDown c frame first (suc n) v w = (m : Counts) × CountsOne c (frame first)
 abbrev pub with_counts : Counts → World → World
 with_counts counts w = record w { memory = record w.memory { counts = counts } }
 
+-- this frame is free again
 abbrev pub with_free : ℕ → World → World
 with_free f w = record w { memory = record w.memory { is_free = put w.memory.is_free f true } }
 

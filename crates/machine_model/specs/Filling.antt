@@ -6,7 +6,7 @@ use Rattle.vm_base.specs.declared.info.PageInfo.{PageInfo}
 use Rattle.vm_base.specs.declared.rights.Access.{Access}
 use Rattle.vm_base.specs.declared.rights.Access.TheVariants.{Store}
 use Rattle.vm_base.specs.Functions.{put}
-use Rattle.vm_base.specs.Info.{frame_of, info_with_copy, info_with_frame}
+use Rattle.vm_base.specs.Info.{frame_of, info_with_copy, info_with_frame, recorded_cores}
 use Rattle.slot_lock.specs.declared.plan.Touch.{Touch}
 use Rattle.slot_lock.specs.Slots.{with_info}
 use Rattle.refcache.specs.Counts.{Counts}
@@ -99,16 +99,12 @@ FillsFrame w c touch frame o v =
 -- ---- CopyPost: a private page that shows its file's page is to get a copy, so no core may go on
 -- translating it
 
-abbrev pub cores_of : Option PageInfo → ℕ
-cores_of None = 0
-cores_of (Some info) = info.cores
-
 -- the recorded cores are told to drop the page before its copy shows
 abbrev pub after_copy_post : ℕ → Touch → ℕ → World → World
 after_copy_post c touch f w =
     to c (CopyAcks touch f)
     (with_hardware
-    (after_shot w.hardware c (cores_of (w.slots.info touch.page)) (page_of_touch touch)) w)
+    (after_shot w.hardware c (recorded_cores (w.slots.info touch.page)) (page_of_touch touch)) w)
 
 -- ---- CopyAcks
 

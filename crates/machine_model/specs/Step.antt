@@ -88,6 +88,7 @@ Acts w (Review c) o v = ReviewsOnce w c o v
 Acts w (Fold p) o v = FoldsAt w p o v
 Acts w (GiveUp c) o v = GivesUp w c (w.calls.phase c) o v
 
+-- a core of this machine, or none at all
 abbrev pub is_here : Made → Option ℕ → Bool
 is_here made None = true
 is_here made (Some c) = nat_lt c made.cores

@@ -108,6 +108,7 @@ TakesMessage w c Idle o v = Idles w o v
 abbrev pub can_walk : Hardware → ℕ → ℕ → Bool
 can_walk h c p = not (is_some (tlb_at (h.tlb c) p)) && is_some (h.table c p)
 
+-- a core's TLB takes in what its tables have for a page
 abbrev pub after_walk : Hardware → ℕ → ℕ → Hardware
 after_walk h c p = with_tlb h c (tlb_walked (tlb_at (h.tlb c) p) (h.table c p) p (h.tlb c))
 
@@ -117,6 +118,7 @@ Walks w c p o v =
     cond (can_walk w.hardware c p) (Becomes (with_hardware (after_walk w.hardware c p) w) o v)
     (Idles w o v)
 
+-- an entry leaves a core's TLB, and its tables stay
 abbrev pub after_eviction : Hardware → ℕ → ℕ → Hardware
 after_eviction h c p = with_tlb h c (tlb_without (is_at p) (h.tlb c))
 

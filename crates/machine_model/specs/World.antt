@@ -50,9 +50,11 @@ pub record World : Type 0 where
   pub memory : Memory
   pub calls : Calls
 
+-- tables, TLBs and inboxes of a machine at its start
 abbrev pub no_translations : Hardware
 no_translations = record { table = λ c p. None; tlb = λ c. []; inbox = λ c. [] }
 
+-- frames of zeros, all free, and nothing cached
 abbrev pub new_memory : Made → Memory
 new_memory made = record {
   bytes = λ f. zeros;
@@ -61,6 +63,7 @@ new_memory made = record {
   cached = λ n k. None;
 }
 
+-- no call was made yet
 abbrev pub no_calls : Calls
 no_calls = record { phase = λ c. Free; number = λ c. 0; requests = []; log = []; events = 0 }
 

@@ -31,7 +31,7 @@ use Rattle.machine_counting.specs.Counted.{IsCountedState}
 use Rattle.machine_laws.proofs.Moves.{IsCallOf, call_at}
 use Rattle.machine_laws.proofs.Shapes.{IsFault}
 use Rattle.machine_counting.proofs.Kept.{same_with_core}
-use Rattle.machine_sound.specs.Invariant.{Fine, Good, Shows, ShowsPage, own_frame}
+use Rattle.machine_sound.specs.Invariant.{IsWellFormed, ShowsPlain, Shows, ShowsPage, own_frame}
 use Rattle.machine_sound.proofs.Moves.{Leaves, shows_less, goes_on, tells, answers}
 use Rattle.machine_sound.proofs.Reaching.{ReachesFrame, reaches}
 use Rattle.machine_sound.proofs.Pages.{IsFramed, framed, framed_reply, unmapped_reply, forbidden_reply, past_reply, can_access}
@@ -45,7 +45,7 @@ byte_is_reply Load byte = tt
 byte_is_reply Store byte = tt
 byte_is_reply Fetch byte = tt
 
-access_shows : (w : World) (t : Plain) (touch : Touch) (f byte : ℕ) (access : Access) (k : IsFramed w t touch.page f) → Good w t → IsCountedState w
+access_shows : (w : World) (t : Plain) (touch : Touch) (f byte : ℕ) (access : Access) (k : IsFramed w t touch.page f) → ShowsPlain w t → IsCountedState w
     → (access ≡ Store → (is_private k.info.meta.back && shows_file w.memory.cached k.info.meta.back f) ≡ false)
     → Shows w.made.file w.slots.info (record w.memory { bytes = bytes_after access f touch.offset touch.byte w.memory.bytes })
     (touched_by t touch (byte_reply access byte))
@@ -54,26 +54,26 @@ access_shows w t touch f byte Fetch k g n writes = g
 access_shows w t touch f byte Store k g n writes = stored_shows w t touch.page f touch.offset touch.byte k g n (writes refl)
 
 pub access_made : (w : World) (event : Event) (c : ℕ) (touch : Touch) (f : ℕ) → w.calls.phase c ≡ Try touch
-    → frame_reached (translated_by w.hardware c touch) ≡ Some f → Fine w
+    → frame_reached (translated_by w.hardware c touch) ≡ Some f → IsWellFormed w
     → Leaves w event (after_access c touch f (with_hardware (after_translating w.hardware c touch) w))
-access_made w event c touch f e h fine =
+access_made w event c touch f e h well =
     let reply : Reply = reply_of touch f w.memory in
     let r : ReachesFrame w.memory.cached (w.slots.info touch.page) touch.access f =
-    reaches w.memory.cached w.slots.info w.calls.phase w.hardware c touch f fine.coherent h in
-    let i : IsFramed w fine.plain touch.page f = framed w fine.plain touch.page f fine.good (ap frame_of r.mapped ∙ r.frame) in
+    reaches w.memory.cached w.slots.info w.calls.phase w.hardware c touch f well.coherent h in
+    let i : IsFramed w well.plain touch.page f = framed w well.plain touch.page f well.good (ap frame_of r.mapped ∙ r.frame) in
     let same : r.page ≡ i.info = let a = r.mapped in let b = i.at_slot in cc in
     let allowed : is_allowed i.info.meta.prot touch.access ≡ true = subst (λ (x : PageInfo). is_allowed x.meta.prot touch.access ≡ true) same r.allowed in
     let writes = subst (λ (x : PageInfo). touch.access ≡ Store → (is_private x.meta.back && shows_file w.memory.cached x.meta.back f) ≡ false) same r.writes in
     let is_reply : IsReply reply = byte_is_reply touch.access (w.memory.bytes f touch.offset) in
-    tells w event c None reply w.slots (after_translating w.hardware c touch) (memory_after touch f w.memory) fine (touched_by fine.plain touch reply)
+    tells w event c None reply w.slots (after_translating w.hardware c touch) (memory_after touch f w.memory) well (touched_by well.plain touch reply)
     k.asked.request k.asked.number
-    (touched_stands w fine.plain (touched_by fine.plain touch reply) c k.asked.request touch reply is_reply k.asked.passed
-    (framed_reply w fine.plain touch.page f touch.access touch.offset i allowed writes, refl))
+    (touched_stands w well.plain (touched_by well.plain touch reply) c k.asked.request touch reply is_reply k.asked.passed
+    (framed_reply w well.plain touch.page f touch.access touch.offset i allowed writes, refl))
     (due_so event w.memory.is_free w.calls.events (w.calls.number c) c reply is_reply)
-    (access_shows w fine.plain touch f (w.memory.bytes f touch.offset) touch.access i fine.good fine.counted writes)
+    (access_shows w well.plain touch f (w.memory.bytes f touch.offset) touch.access i well.good well.counted writes)
   where
     k : IsCallOf w c (Try touch)
-    k = call_at w c (Try touch) e fine.order
+    k = call_at w c (Try touch) e well.order
 
 -- ---- Settle
 
@@ -107,7 +107,7 @@ no_fault (Cached g) reply n f = f
 no_fault Wants reply n f = f
 
 -- the fault is the plain page map's answer
-fault_reply : (w : World) (t : Plain) (touch : Touch) (reply : Reply) → Good w t → IsFault (found_at w touch) reply
+fault_reply : (w : World) (t : Plain) (touch : Touch) (reply : Reply) → ShowsPlain w t → IsFault (found_at w touch) reply
     → IsReply reply × (entry_reply t.file (t.entry touch.page) touch.access touch.offset ≡ Some reply) × (t ≡ touched_by t touch reply)
 fault_reply w t touch reply g h = go (w.slots.info touch.page) refl h
   where
@@ -131,7 +131,7 @@ fault_reply w t touch reply g h = go (w.slots.info touch.page) refl h
     go (Some info) e f = has info e (is_allowed info.meta.prot touch.access) (is_past_end w.made.file (Some info)) refl refl f
 
 pub fault_told : (w : World) (event : Event) (c : ℕ) (touch : Touch) (held : Option PageRange) (reply : Reply)
-    → w.calls.phase c ≡ Settle touch → IsFault (found_at w touch) reply → Fine w
+    → w.calls.phase c ≡ Settle touch → IsFault (found_at w touch) reply → IsWellFormed w
     → Leaves w event (after_reply c held reply w)
 fault_told w event c touch held reply e h f =
     let z = fault_reply w f.plain touch reply f.good h in
@@ -145,7 +145,7 @@ fault_told w event c touch held reply e h f =
 -- ---- Want
 
 pub no_frame_told : (w : World) (event : Event) (c : ℕ) (touch : Touch) (old : Option ℕ) (held : Option PageRange) → w.calls.phase c ≡ Want touch old
-    → NoneFree w.memory.is_free → Fine w
+    → NoneFree w.memory.is_free → IsWellFormed w
     → Leaves w event (after_reply c held NoFrame w)
 no_frame_told w event c touch old held e none f =
     answers w event c held NoFrame f k.asked.request k.asked.number
@@ -170,7 +170,7 @@ recorded_shown m c None (Some entry) s = s
 recorded_shown m c (Some info) None s = s
 recorded_shown m c (Some info) (Some entry) s = s
 
-pub core_installed : (w : World) (event : Event) (c : ℕ) (touch : Touch) → Fine w → Leaves w event (after_install c touch w)
+pub core_installed : (w : World) (event : Event) (c : ℕ) (touch : Touch) → IsWellFormed w → Leaves w event (after_install c touch w)
 core_installed w event c touch f =
     let new : Option PageInfo = info_with_core c (w.slots.info touch.page) in
     let cached : ℕ → ℕ → Option ℕ = w.memory.cached in

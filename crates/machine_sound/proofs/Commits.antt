@@ -22,7 +22,7 @@ use Rattle.machine_model.specs.World.{World, Memory}
 use Rattle.machine_laws.proofs.Changed.{changed_all}
 use Rattle.machine_laws.proofs.Moves.{IsCallOf, call_at}
 use Rattle.machine_counting.proofs.Kept.{same_with_prot}
-use Rattle.machine_sound.specs.Invariant.{Fine, ShowsPage, ShowsFile, own_frame}
+use Rattle.machine_sound.specs.Invariant.{IsWellFormed, ShowsPage, ShowsFile, own_frame}
 use Rattle.machine_sound.proofs.Moves.{Leaves, shows_less, with_counts_shown, tells}
 use Rattle.machine_sound.proofs.Replies.{reply_is, due_so, made_of, acted, led_goes}
 
@@ -82,7 +82,7 @@ whole_still file s change h p f =
 -- ---- Acks
 
 pub change_committed : (w : World) (event : Event) (c : ℕ) (goal : Goal) (change : Change) (counts : Counts) → c < 64
-    → w.calls.phase c ≡ Acks goal change → Fine w → Leaves w event (after_commit c change (goal_range goal) counts w)
+    → w.calls.phase c ≡ Acks goal change → IsWellFormed w → Leaves w event (after_commit c change (goal_range goal) counts w)
 change_committed w event c goal change counts few e f =
     tells w event c (Some (goal_range goal)) (reply_to change) (slots_after change w.slots) w.hardware (with_counts counts w).memory f
     (made_of f.plain change) k.asked.request k.asked.number

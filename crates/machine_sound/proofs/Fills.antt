@@ -28,7 +28,7 @@ use Rattle.machine_laws.proofs.Shapes.{IsShowing}
 use Rattle.machine_coherence.proofs.Steps.{same_shown}
 use Rattle.machine_counting.proofs.Kept.{unused_no_page, cached_positive}
 use Rattle.vm_base.specs.Log.{CanAccess}
-use Rattle.machine_sound.specs.Invariant.{Fine, Good, Shows, ShowsPage, ShowsFile, Owns, MayOwn, own_frame, own_frame_of}
+use Rattle.machine_sound.specs.Invariant.{IsWellFormed, ShowsPlain, Shows, ShowsPage, ShowsFile, Owns, MayOwn, own_frame, own_frame_of}
 use Rattle.machine_sound.proofs.Moves.{Leaves, goes_on, copies_on, with_counts_shown}
 use Rattle.machine_sound.proofs.Pages.{with_bytes, IsFramed, framed, can_access, page_kept, file_kept, own_is_frame, own_none, shown_now, is_it}
 use Rattle.machine_sound.proofs.Stores.{with_own}
@@ -36,13 +36,13 @@ use Rattle.machine_sound.proofs.Stores.{with_own}
 -- ---- a frame that a call has taken
 
 -- it is no page's
-nobodys : (w : World) (f : ℕ) → Fine w → (c : ℕ) → taken_in (w.calls.phase c) ≡ Some f → (p : ℕ) → frame_of (w.slots.info p) ≢ Some f
-nobodys w f fine c mine p = unused_no_page w fine.order fine.counted f p (fine.counted.taken c f mine)
+nobodys : (w : World) (f : ℕ) → IsWellFormed w → (c : ℕ) → taken_in (w.calls.phase c) ≡ Some f → (p : ℕ) → frame_of (w.slots.info p) ≢ Some f
+nobodys w f well c mine p = unused_no_page w well.order well.counted f p (well.counted.taken c f mine)
 
 -- and caches no file page
-pub uncached : (w : World) (f : ℕ) → Fine w → (c : ℕ) → taken_in (w.calls.phase c) ≡ Some f → (n k : ℕ) → w.memory.cached n k ≢ Some f
-uncached w f fine c mine n k h =
-    let a = cached_positive w fine.counted n k f h in let b = (fine.counted.taken c f mine).zero in omega (arith, ints, a, b)
+pub uncached : (w : World) (f : ℕ) → IsWellFormed w → (c : ℕ) → taken_in (w.calls.phase c) ≡ Some f → (n k : ℕ) → w.memory.cached n k ≢ Some f
+uncached w f well c mine n k h =
+    let a = cached_positive w well.counted n k f h in let b = (well.counted.taken c f mine).zero in omega (arith, ints, a, b)
 
 pub unshown : (cached : ℕ → ℕ → Option ℕ) (back : Back) (f : ℕ) → ((n k : ℕ) → cached n k ≢ Some f) → shows_file cached back f ≡ false
 unshown cached back f none = go (shows_file cached back f) refl
@@ -79,16 +79,16 @@ usable_past file None access frame u = absurd u
 usable_past file (Some info) access frame u = u.1
 
 -- The page has this now, with a frame that nothing has had, which has these bytes; every other page has in u what it had.
-owned_shown : (w : World) (c f page : ℕ) (x : Bytes) (new : Option PageInfo) (u : Plain) (fine : Fine w) → taken_in (w.calls.phase c) ≡ Some f
+owned_shown : (w : World) (c f page : ℕ) (x : Bytes) (new : Option PageInfo) (u : Plain) (well : IsWellFormed w) → taken_in (w.calls.phase c) ≡ Some f
     → ((y : ℕ) → frame_of new ≡ Some y → f ≡ y) → is_past_end w.made.file new ≡ false
-    → ShowsPage (with_bytes w.memory f x) new (u.entry page) → ((p : ℕ) → p ≢ page → u.entry p ≡ fine.plain.entry p) → u.file ≡ fine.plain.file
+    → ShowsPage (with_bytes w.memory f x) new (u.entry page) → ((p : ℕ) → p ≢ page → u.entry p ≡ well.plain.entry p) → u.file ≡ well.plain.file
     → Shows w.made.file (put w.slots.info page new) (with_bytes w.memory f x) u
-owned_shown w c f page x new u fine mine its within target others files = record {
+owned_shown w c f page x new u well mine its within target others files = record {
   pages = put_all (λ p o. ShowsPage (with_bytes w.memory f x) o (u.entry p)) w.slots.info page new target
       (λ p ne. subst (λ z. ShowsPage (with_bytes w.memory f x) (w.slots.info p) z) (sym (others p ne))
       (page_kept w.memory f x (w.slots.info p) (t.entry p) (λ h. free p (own_is_frame w.memory.cached (w.slots.info p) f h)) (g.pages p)));
   files = λ n. subst (λ file. ShowsFile (put w.memory.bytes f x) (w.memory.cached n) (w.made.file n) (file n)) (sym files)
-      (file_kept w.memory.bytes f x (w.memory.cached n) (w.made.file n) (t.file n) (λ l. uncached w f fine c mine n l) (g.files n));
+      (file_kept w.memory.bytes f x (w.memory.cached n) (w.made.file n) (t.file n) (λ l. uncached w f well c mine n l) (g.files n));
   apart = λ p q y. put_all (λ p o. own_frame w.memory.cached o ≡ Some y → frame_of (now q) ≡ Some y → p ≡ q) w.slots.info page new
       (λ h. put_all (λ q o. frame_of o ≡ Some y → page ≡ q) w.slots.info page new (λ _. refl)
       (λ q ne z. absurd (free q (z ∙ ap Some (sym (its y (own_is_frame w.memory.cached new y h)))))) q)
@@ -96,23 +96,23 @@ owned_shown w c f page x new u fine mine its within target others files = record
       (λ z. absurd (free p (own_is_frame w.memory.cached (w.slots.info p) y h ∙ ap Some (sym (its y z))))) (λ q _ z. g.apart p q y h z) q)
       p;
   unfiled = λ p n k y. put_all (λ p o. own_frame w.memory.cached o ≡ Some y → w.memory.cached n k ≢ Some y) w.slots.info page new
-      (λ h i. uncached w f fine c mine n k (i ∙ ap Some (sym (its y (own_is_frame w.memory.cached new y h)))))
+      (λ h i. uncached w f well c mine n k (i ∙ ap Some (sym (its y (own_is_frame w.memory.cached new y h)))))
       (λ p ne h. g.unfiled p n k y h) p;
   whole = λ p y. put_all (λ p o. frame_of o ≡ Some y → is_past_end w.made.file o ≡ false) w.slots.info page new
       (λ _. within) (λ p ne h. g.whole p y h) p;
 }
   where
     t : Plain
-    t = fine.plain
+    t = well.plain
 
-    g : Good w t
-    g = fine.good
+    g : ShowsPlain w t
+    g = well.good
 
     now : ℕ → Option PageInfo
     now = put w.slots.info page new
 
     free : (p : ℕ) → frame_of (w.slots.info p) ≢ Some f
-    free = nobodys w f fine c mine
+    free = nobodys w f well c mine
 
 -- ---- zeros
 
@@ -131,20 +131,20 @@ zeros_shown m f (Some info) (Some entry) a none s =
     (s.0, s.1, subst (λ back. Owns (with_bytes m f zeros) back (Some f) entry.own) (sym a) (tt, own ∙ ap Some (sym (put_same m.bytes f zeros))))
 
 pub page_zeroed : (w : World) (event : Event) (c : ℕ) (touch : Touch) (f : ℕ) (counts : Counts) → w.calls.phase c ≡ Fill touch (Some f)
-    → back_of (w.slots.info touch.page) ≡ Anon → Fine w → Leaves w event (after_zeros c touch f counts w)
-page_zeroed w event c touch f counts e anon fine =
-    goes_on w event c (Install touch) (after_zeros c touch f counts w).slots w.hardware (after_zeros c touch f counts w).memory fine
-    (with_counts_shown w.made.file _ (with_bytes w.memory f shown) counts fine.plain
-    (owned_shown w c f touch.page shown (info_with_frame f (w.slots.info touch.page)) fine.plain fine (ap taken_in e)
+    → back_of (w.slots.info touch.page) ≡ Anon → IsWellFormed w → Leaves w event (after_zeros c touch f counts w)
+page_zeroed w event c touch f counts e anon well =
+    goes_on w event c (Install touch) (after_zeros c touch f counts w).slots w.hardware (after_zeros c touch f counts w).memory well
+    (with_counts_shown w.made.file _ (with_bytes w.memory f shown) counts well.plain
+    (owned_shown w c f touch.page shown (info_with_frame f (w.slots.info touch.page)) well.plain well (ap taken_in e)
     (new_frame f (w.slots.info touch.page))
     (filled_past w.made.file f (w.slots.info touch.page) ∙ usable_past w.made.file (w.slots.info touch.page) touch.access None k.ready.0)
-    (subst (λ x. ShowsPage (with_bytes w.memory f x) (info_with_frame f (w.slots.info touch.page)) (fine.plain.entry touch.page)) (sym are_zeros)
-    (zeros_shown w.memory f (w.slots.info touch.page) (fine.plain.entry touch.page) anon
-    (no_frame_yet w.made.file touch.access (w.slots.info touch.page) k.ready.0) (fine.good.pages touch.page)))
+    (subst (λ x. ShowsPage (with_bytes w.memory f x) (info_with_frame f (w.slots.info touch.page)) (well.plain.entry touch.page)) (sym are_zeros)
+    (zeros_shown w.memory f (w.slots.info touch.page) (well.plain.entry touch.page) anon
+    (no_frame_yet w.made.file touch.access (w.slots.info touch.page) k.ready.0) (well.good.pages touch.page)))
     (λ p ne. refl) refl))
   where
     k : IsCallOf w c (Fill touch (Some f))
-    k = call_at w c (Fill touch (Some f)) e fine.order
+    k = call_at w c (Fill touch (Some f)) e well.order
 
     shown : Bytes
     shown = bytes_shown w.made.file w.memory (back_of (w.slots.info touch.page))
@@ -195,7 +195,7 @@ private_only (Shared n k) access h = absurd cc
 private_only Anon access h = absurd cc
 
 -- a page without a frame
-first_uncopied : (w : World) (t : Plain) (page : ℕ) (access : Access) → Good w t → IsUsable w.made.file (w.slots.info page) access None
+first_uncopied : (w : World) (t : Plain) (page : ℕ) (access : Access) → ShowsPlain w t → IsUsable w.made.file (w.slots.info page) access None
     → is_private_store (back_of (w.slots.info page)) access ≡ true
     → IsUncopied w t page (bytes_shown w.made.file w.memory (back_of (w.slots.info page)))
 first_uncopied w t page access g u store = go (w.slots.info page) (t.entry page) refl refl (g.pages page) u store
@@ -220,33 +220,33 @@ first_uncopied w t page access g u store = go (w.slots.info page) (t.entry page)
           bytes = ap (bytes_of t.file entry.back) own ∙ (ap (back_bytes t.file) (sym s.0) ∙ shown_now w t info.meta.back g.files p.3 u.1);
         }
 
-pub as_store : (w : World) (t : Plain) (page : ℕ) (access : Access) (frame : Option ℕ) → Good w t → IsUsable w.made.file (w.slots.info page) access frame
+pub as_store : (w : World) (t : Plain) (page : ℕ) (access : Access) (frame : Option ℕ) → ShowsPlain w t → IsUsable w.made.file (w.slots.info page) access frame
     → access ≡ Store → CanAccess t.file (t.entry page) Store
 as_store w t page access frame g u e = subst (CanAccess t.file (t.entry page)) e (can_access w t page access frame g u)
 
 pub page_first_copied : (w : World) (event : Event) (c : ℕ) (touch : Touch) (f : ℕ) (counts : Counts) → w.calls.phase c ≡ Fill touch (Some f)
-    → is_private_store (back_of (w.slots.info touch.page)) touch.access ≡ true → Fine w → Leaves w event (after_first_copy c touch f counts w)
-page_first_copied w event c touch f counts e store fine =
-    copies_on w event c touch.page (Install touch) (after_first_copy c touch f counts w).slots w.hardware (after_first_copy c touch f counts w).memory fine
-    (with_own fine.plain touch.page z.entry x)
-    (as_store w fine.plain touch.page touch.access None fine.good k.ready.0 (private_only (back_of (w.slots.info touch.page)) touch.access store).0)
-    (its_copy w fine.plain touch.page x z)
-    (with_counts_shown w.made.file _ (with_bytes w.memory f x) counts (with_own fine.plain touch.page z.entry x)
-    (owned_shown w c f touch.page x (info_with_frame f (w.slots.info touch.page)) (with_own fine.plain touch.page z.entry x) fine (ap taken_in e)
+    → is_private_store (back_of (w.slots.info touch.page)) touch.access ≡ true → IsWellFormed w → Leaves w event (after_first_copy c touch f counts w)
+page_first_copied w event c touch f counts e store well =
+    copies_on w event c touch.page (Install touch) (after_first_copy c touch f counts w).slots w.hardware (after_first_copy c touch f counts w).memory well
+    (with_own well.plain touch.page z.entry x)
+    (as_store w well.plain touch.page touch.access None well.good k.ready.0 (private_only (back_of (w.slots.info touch.page)) touch.access store).0)
+    (its_copy w well.plain touch.page x z)
+    (with_counts_shown w.made.file _ (with_bytes w.memory f x) counts (with_own well.plain touch.page z.entry x)
+    (owned_shown w c f touch.page x (info_with_frame f (w.slots.info touch.page)) (with_own well.plain touch.page z.entry x) well (ap taken_in e)
     (new_frame f (w.slots.info touch.page))
     (filled_past w.made.file f (w.slots.info touch.page) ∙ usable_past w.made.file (w.slots.info touch.page) touch.access None k.ready.0)
-    (subst (λ o. ShowsPage (with_bytes w.memory f x) (info_with_frame f o) ((with_own fine.plain touch.page z.entry x).entry touch.page)) (sym z.at_slot)
-    (copy_shown w fine.plain touch.page f x z (record z.info { frame = Some f }) refl refl (uncached w f fine c (ap taken_in e))))
-    (λ p ne. put_other fine.plain.entry touch.page (Some (record z.entry { own = Some x })) p ne) refl))
+    (subst (λ o. ShowsPage (with_bytes w.memory f x) (info_with_frame f o) ((with_own well.plain touch.page z.entry x).entry touch.page)) (sym z.at_slot)
+    (copy_shown w well.plain touch.page f x z (record z.info { frame = Some f }) refl refl (uncached w f well c (ap taken_in e))))
+    (λ p ne. put_other well.plain.entry touch.page (Some (record z.entry { own = Some x })) p ne) refl))
   where
     k : IsCallOf w c (Fill touch (Some f))
-    k = call_at w c (Fill touch (Some f)) e fine.order
+    k = call_at w c (Fill touch (Some f)) e well.order
 
     x : Bytes
     x = bytes_shown w.made.file w.memory (back_of (w.slots.info touch.page))
 
-    z : IsUncopied w fine.plain touch.page x
-    z = first_uncopied w fine.plain touch.page touch.access fine.good k.ready.0 store
+    z : IsUncopied w well.plain touch.page x
+    z = first_uncopied w well.plain touch.page touch.access well.good k.ready.0 store
 
 -- a page whose frame shows its file's page
 pub shown_uncopied : (w : World) (t : Plain) (page g : ℕ) (access : Access) (k : IsFramed w t page g)
@@ -269,23 +269,23 @@ shown_uncopied w t page g access k store shown =
     }
 
 pub page_copied : (w : World) (event : Event) (c : ℕ) (touch : Touch) (f g : ℕ) (counts : Counts) → w.calls.phase c ≡ CopyAcks touch f
-    → frame_of (w.slots.info touch.page) ≡ Some g → Fine w → Leaves w event (after_copy c touch f g counts w)
-page_copied w event c touch f g counts e at fine =
-    copies_on w event c touch.page (Install touch) (after_copy c touch f g counts w).slots w.hardware (after_copy c touch f g counts w).memory fine
-    (with_own fine.plain touch.page z.entry x)
-    (as_store w fine.plain touch.page touch.access (Some k.ready.0) fine.good k.ready.1
+    → frame_of (w.slots.info touch.page) ≡ Some g → IsWellFormed w → Leaves w event (after_copy c touch f g counts w)
+page_copied w event c touch f g counts e at well =
+    copies_on w event c touch.page (Install touch) (after_copy c touch f g counts w).slots w.hardware (after_copy c touch f g counts w).memory well
+    (with_own well.plain touch.page z.entry x)
+    (as_store w well.plain touch.page touch.access (Some k.ready.0) well.good k.ready.1
     (private_only (back_of (w.slots.info touch.page)) touch.access k.ready.2.store).0)
-    (its_copy w fine.plain touch.page x z)
-    (with_counts_shown w.made.file _ (with_bytes w.memory f x) counts (with_own fine.plain touch.page z.entry x)
-    (owned_shown w c f touch.page x (info_with_copy f (w.slots.info touch.page)) (with_own fine.plain touch.page z.entry x) fine (ap taken_in e)
+    (its_copy w well.plain touch.page x z)
+    (with_counts_shown w.made.file _ (with_bytes w.memory f x) counts (with_own well.plain touch.page z.entry x)
+    (owned_shown w c f touch.page x (info_with_copy f (w.slots.info touch.page)) (with_own well.plain touch.page z.entry x) well (ap taken_in e)
     (copied_frame f (w.slots.info touch.page))
     (copied_past w.made.file f (w.slots.info touch.page) ∙ usable_past w.made.file (w.slots.info touch.page) touch.access (Some k.ready.0) k.ready.1)
-    (subst (λ o. ShowsPage (with_bytes w.memory f x) (info_with_copy f o) ((with_own fine.plain touch.page z.entry x).entry touch.page)) (sym z.at_slot)
-    (copy_shown w fine.plain touch.page f x z (record z.info { frame = Some f; cores = 0 }) refl refl (uncached w f fine c (ap taken_in e))))
-    (λ p ne. put_other fine.plain.entry touch.page (Some (record z.entry { own = Some x })) p ne) refl))
+    (subst (λ o. ShowsPage (with_bytes w.memory f x) (info_with_copy f o) ((with_own well.plain touch.page z.entry x).entry touch.page)) (sym z.at_slot)
+    (copy_shown w well.plain touch.page f x z (record z.info { frame = Some f; cores = 0 }) refl refl (uncached w f well c (ap taken_in e))))
+    (λ p ne. put_other well.plain.entry touch.page (Some (record z.entry { own = Some x })) p ne) refl))
   where
     k : IsCallOf w c (CopyAcks touch f)
-    k = call_at w c (CopyAcks touch f) e fine.order
+    k = call_at w c (CopyAcks touch f) e well.order
 
     x : Bytes
     x = w.memory.bytes g
@@ -298,8 +298,8 @@ page_copied w event c touch f g counts e at fine =
     same : k.ready.0 ≡ g
     same = let a = framed_by (w.slots.info touch.page) k.ready.0 k.ready.1 in let b = sym a ∙ at in cc
 
-    z : IsUncopied w fine.plain touch.page x
-    z = shown_uncopied w fine.plain touch.page g touch.access (framed w fine.plain touch.page g fine.good at) k.ready.2.store
+    z : IsUncopied w well.plain touch.page x
+    z = shown_uncopied w well.plain touch.page g touch.access (framed w well.plain touch.page g well.good at) k.ready.2.store
         (subst (λ h. shows_file w.memory.cached (back_of (w.slots.info touch.page)) h ≡ true) same k.ready.2.shown)
 
 -- ---- the frame that caches the file's page
@@ -342,29 +342,29 @@ shows_cached : (cached : ℕ → ℕ → Option ℕ) (back : Back) (g : ℕ) →
 shows_cached cached back g h = ap (λ o. is_cached o g) h ∙ is_itself g
 
 pub page_shared : (w : World) (event : Event) (c : ℕ) (touch : Touch) (own : Option ℕ) (g : ℕ) (counts : Counts) → w.calls.phase c ≡ Fill touch own
-    → IsShowing (w.slots.info touch.page) touch.access → file_frame w.memory.cached (back_of (w.slots.info touch.page)) ≡ Some g → Fine w
+    → IsShowing (w.slots.info touch.page) touch.access → file_frame w.memory.cached (back_of (w.slots.info touch.page)) ≡ Some g → IsWellFormed w
     → Leaves w event (after_sharing c touch own g counts w)
-page_shared w event c touch own g counts e shows at fine =
-    goes_on w event c (Install touch) (after_sharing c touch own g counts w).slots w.hardware (after_sharing c touch own g counts w).memory fine (record {
-      pages = put_all (λ p o. ShowsPage w.memory o (fine.plain.entry p)) w.slots.info touch.page new
-          (file_shown w.memory g (w.slots.info touch.page) (fine.plain.entry touch.page) shows.of_file
-          (no_frame_yet w.made.file touch.access (w.slots.info touch.page) k.ready.0) shown w.memory (fine.good.pages touch.page))
-          (λ p ne. fine.good.pages p);
-      files = fine.good.files;
+page_shared w event c touch own g counts e shows at well =
+    goes_on w event c (Install touch) (after_sharing c touch own g counts w).slots w.hardware (after_sharing c touch own g counts w).memory well (record {
+      pages = put_all (λ p o. ShowsPage w.memory o (well.plain.entry p)) w.slots.info touch.page new
+          (file_shown w.memory g (w.slots.info touch.page) (well.plain.entry touch.page) shows.of_file
+          (no_frame_yet w.made.file touch.access (w.slots.info touch.page) k.ready.0) shown w.memory (well.good.pages touch.page))
+          (λ p ne. well.good.pages p);
+      files = well.good.files;
       apart = λ p q y. put_all (λ p o. own_frame w.memory.cached o ≡ Some y → frame_of (now q) ≡ Some y → p ≡ q) w.slots.info touch.page new
           (λ h. absurd (let a = none in cc))
           (λ p ne h. put_all (λ q o. frame_of o ≡ Some y → p ≡ q) w.slots.info touch.page new
-          (λ z. absurd (filed p y h (new_frame g (w.slots.info touch.page) y z))) (λ q _ z. fine.good.apart p q y h z) q)
+          (λ z. absurd (filed p y h (new_frame g (w.slots.info touch.page) y z))) (λ q _ z. well.good.apart p q y h z) q)
           p;
       unfiled = λ p n l y. put_all (λ p o. own_frame w.memory.cached o ≡ Some y → w.memory.cached n l ≢ Some y) w.slots.info touch.page new
-          (λ h. absurd (let a = none in cc)) (λ p ne h. fine.good.unfiled p n l y h) p;
+          (λ h. absurd (let a = none in cc)) (λ p ne h. well.good.unfiled p n l y h) p;
       whole = λ p y. put_all (λ p o. frame_of o ≡ Some y → is_past_end w.made.file o ≡ false) w.slots.info touch.page new
           (λ _. filled_past w.made.file g (w.slots.info touch.page) ∙ usable_past w.made.file (w.slots.info touch.page) touch.access None k.ready.0)
-          (λ p ne h. fine.good.whole p y h) p;
+          (λ p ne h. well.good.whole p y h) p;
     })
   where
     k : IsCallOf w c (Fill touch own)
-    k = call_at w c (Fill touch own) e fine.order
+    k = call_at w c (Fill touch own) e well.order
 
     new : Option PageInfo
     new = info_with_frame g (w.slots.info touch.page)
@@ -384,8 +384,8 @@ page_shared w event c touch own g counts e shows at fine =
       where
         by : (back : Back) → file_frame w.memory.cached back ≡ Some g → ⊥
         by Anon a = cc
-        by (Shared n l) a = fine.good.unfiled p n l y h (a ∙ ap Some same)
-        by (Private n l) a = fine.good.unfiled p n l y h (a ∙ ap Some same)
+        by (Shared n l) a = well.good.unfiled p n l y h (a ∙ ap Some same)
+        by (Private n l) a = well.good.unfiled p n l y h (a ∙ ap Some same)
 
 -- ---- a file's page is cached
 
@@ -466,36 +466,36 @@ more_cached cached (Shared m l) f y n k ne old = cached_at cached m l f y n k ne
 more_cached cached (Private m l) f y n k ne old = cached_at cached m l f y n k ne old
 
 pub page_cached : (w : World) (event : Event) (c : ℕ) (touch : Touch) (f : ℕ) (counts : Counts) → w.calls.phase c ≡ Fill touch (Some f)
-    → IsShowing (w.slots.info touch.page) touch.access → file_frame w.memory.cached (back_of (w.slots.info touch.page)) ≡ None → Fine w
+    → IsShowing (w.slots.info touch.page) touch.access → file_frame w.memory.cached (back_of (w.slots.info touch.page)) ≡ None → IsWellFormed w
     → Leaves w event (after_caching c touch f counts w)
-page_cached w event c touch f counts e shows none fine =
-    goes_on w event c (Install touch) (after_caching c touch f counts w).slots w.hardware (after_caching c touch f counts w).memory fine
-    (with_counts_shown w.made.file now m counts fine.plain (record {
-      pages = put_all (λ p o. ShowsPage m o (fine.plain.entry p)) w.slots.info touch.page new
-          (file_shown m f (w.slots.info touch.page) (fine.plain.entry touch.page) shows.of_file
-          (no_frame_yet w.made.file touch.access (w.slots.info touch.page) k.ready.0) shown w.memory (fine.good.pages touch.page))
-          (λ p ne. page_uncached w.memory back f x (w.slots.info p) (fine.plain.entry p) none (free p)
-          (page_kept w.memory f x (w.slots.info p) (fine.plain.entry p) (λ h. free p (own_is_frame w.memory.cached (w.slots.info p) f h)) (fine.good.pages p)));
-      files = files_cached w fine.plain f back unfiled none fine.good.files (not_anon back shows.of_file);
+page_cached w event c touch f counts e shows none well =
+    goes_on w event c (Install touch) (after_caching c touch f counts w).slots w.hardware (after_caching c touch f counts w).memory well
+    (with_counts_shown w.made.file now m counts well.plain (record {
+      pages = put_all (λ p o. ShowsPage m o (well.plain.entry p)) w.slots.info touch.page new
+          (file_shown m f (w.slots.info touch.page) (well.plain.entry touch.page) shows.of_file
+          (no_frame_yet w.made.file touch.access (w.slots.info touch.page) k.ready.0) shown w.memory (well.good.pages touch.page))
+          (λ p ne. page_uncached w.memory back f x (w.slots.info p) (well.plain.entry p) none (free p)
+          (page_kept w.memory f x (w.slots.info p) (well.plain.entry p) (λ h. free p (own_is_frame w.memory.cached (w.slots.info p) f h)) (well.good.pages p)));
+      files = files_cached w well.plain f back unfiled none well.good.files (not_anon back shows.of_file);
       apart = λ p q y. put_all (λ p o. own_frame cached o ≡ Some y → frame_of (now q) ≡ Some y → p ≡ q) w.slots.info touch.page new
           (λ h. absurd (let a = unowned in cc))
           (λ p ne h. let h2 = sym (own_uncached w.memory.cached back f (w.slots.info p) none (free p)) ∙ h in
           put_all (λ q o. frame_of o ≡ Some y → p ≡ q) w.slots.info touch.page new
           (λ z. absurd (free p (own_is_frame w.memory.cached (w.slots.info p) y h2 ∙ ap Some (sym (new_frame f (w.slots.info touch.page) y z)))))
-          (λ q _ z. fine.good.apart p q y h2 z) q)
+          (λ q _ z. well.good.apart p q y h2 z) q)
           p;
       unfiled = λ p n l y. put_all (λ p o. own_frame cached o ≡ Some y → cached n l ≢ Some y) w.slots.info touch.page new
           (λ h. absurd (let a = unowned in cc))
           (λ p ne h. let h2 = sym (own_uncached w.memory.cached back f (w.slots.info p) none (free p)) ∙ h in
           more_cached w.memory.cached back f y n l (λ same. free p (own_is_frame w.memory.cached (w.slots.info p) y h2 ∙ ap Some (sym same)))
-          (fine.good.unfiled p n l y h2)) p;
+          (well.good.unfiled p n l y h2)) p;
       whole = λ p y. put_all (λ p o. frame_of o ≡ Some y → is_past_end w.made.file o ≡ false) w.slots.info touch.page new
           (λ _. filled_past w.made.file f (w.slots.info touch.page) ∙ usable_past w.made.file (w.slots.info touch.page) touch.access None k.ready.0)
-          (λ p ne h. fine.good.whole p y h) p;
+          (λ p ne h. well.good.whole p y h) p;
     }))
   where
     k : IsCallOf w c (Fill touch (Some f))
-    k = call_at w c (Fill touch (Some f)) e fine.order
+    k = call_at w c (Fill touch (Some f)) e well.order
 
     back : Back
     back = back_of (w.slots.info touch.page)
@@ -516,10 +516,10 @@ page_cached w event c touch f counts e shows none fine =
     now = put w.slots.info touch.page new
 
     free : (p : ℕ) → frame_of (w.slots.info p) ≢ Some f
-    free = nobodys w f fine c (ap taken_in e)
+    free = nobodys w f well c (ap taken_in e)
 
     unfiled : (n l : ℕ) → w.memory.cached n l ≢ Some f
-    unfiled = uncached w f fine c (ap taken_in e)
+    unfiled = uncached w f well c (ap taken_in e)
 
     shown : shows_file cached back f ≡ true
     shown = shows_cached cached back f (now_cached_by w.memory.cached back f (not_anon back shows.of_file))

@@ -1,4 +1,4 @@
--- Each step from a fine state leaves a fine one, and so each reached state is fine.
+-- Each step from a well state leaves a well one, and so each reached state is well.
 use Rattle.std.proofs.Common.{◌≡◌, ℕ, ◌<◌, ◌≤◌, arith, true, refl, sym, ap, subst, Some, Option, List, [], ◌∷◌, ◌++◌, inl}
 use Rattle.vm_base.specs.declared.page.PageRange.{PageRange}
 use Rattle.vm_base.specs.declared.replies.Reply.{Reply}
@@ -37,7 +37,7 @@ use Rattle.machine_laws.proofs.Shapes.{aims, gives_up, works, joins, Comes, stop
 use Rattle.machine_coherence.proofs.Kept.{kept as translations_kept}
 use Rattle.machine_counting.proofs.Kept.{kept as counts_kept}
 use Rattle.machine_sound.specs.Sound.{IsReached, IsSoundState, IsSoundStep, Notes, SoundRun}
-use Rattle.machine_sound.specs.Invariant.{Fine}
+use Rattle.machine_sound.specs.Invariant.{IsWellFormed}
 use Rattle.machine_counting.proofs.Kept.{unused_no_page}
 use Rattle.machine_sound.proofs.Accesses.{access_made, fault_told, no_frame_told, core_installed}
 use Rattle.machine_sound.proofs.Fills.{page_zeroed, page_first_copied, page_cached, page_shared, page_copied}
@@ -53,7 +53,7 @@ use Rattle.machine_sound.proofs.Sound.{fine_sound}
 
 -- ---- the shapes
 
-replies_left : (w : World) (event : Event) (c : ℕ) (held : Option PageRange) (reply : Reply) → c < 64 → Fine w → Replies w c held reply
+replies_left : (w : World) (event : Event) (c : ℕ) (held : Option PageRange) (reply : Reply) → c < 64 → IsWellFormed w → Replies w c held reply
     → Leaves w event (after_reply c held reply w)
 replies_left w event c held reply few f (refuses request e h k) =
     let number = (call_at w c (Check request) e f.order).asked in
@@ -75,7 +75,7 @@ replies_left w event c held reply few f (fails touch e h x) = fault_told w event
 replies_left w event c held reply few f (no_frame touch old e h r none) =
     subst (λ y. Leaves w event (after_reply c held y w)) (sym r) (no_frame_told w event c touch old held e none f)
 
-goes_left : (w : World) (event : Event) (c : ℕ) (v : World) → c < 64 → Fine w → GoesBy w c v → Leaves w event v
+goes_left : (w : World) (event : Event) (c : ℕ) (v : World) → c < 64 → IsWellFormed w → GoesBy w c v → Leaves w event v
 goes_left w event c v few f (moves new m h) = subst (Leaves w event) (sym h) (goes_on w event c new w.slots w.hardware w.memory f f.good)
 goes_left w event c v few f (divides goal cursor t e s h) =
     subst (Leaves w event) (sym h) (beside w event t w.hardware w.memory f (shows_same w f.plain t.info s.divides.2.info f.good))
@@ -112,7 +112,7 @@ goes_left w event c v few f (faults touch e i h) =
     subst (Leaves w event) (sym h)
     (goes_on w event c (locking (To.Access touch)) w.slots (after_translating w.hardware c touch) w.memory f f.good)
 
-works_left : (w : World) (event : Event) (c : ℕ) (v : World) → Fine w → Works w c event v → Leaves w event v
+works_left : (w : World) (event : Event) (c : ℕ) (v : World) → IsWellFormed w → Works w c event v → Leaves w event v
 works_left w event c v f (clears i range k h) = subst (Leaves w event) (sym h) (beside w event w.slots _ w.memory f f.good)
 works_left w event c v f (invalidates i range k h) = subst (Leaves w event) (sym h) (beside w event w.slots _ w.memory f f.good)
 works_left w event c v f (walks p i k h) = subst (Leaves w event) (sym h) (beside w event w.slots _ w.memory f f.good)
@@ -126,7 +126,7 @@ works_left w event c v f (frees i x counts t h) =
     (beside w event w.slots w.hardware (with_free x (with_counts counts w)).memory f (with_memory w f.plain f.good))
 
 -- a call begins
-begun : (w : World) (event : Event) (c : ℕ) (request : Request) → Fine w → Leaves w event (after_call c request w)
+begun : (w : World) (event : Event) (c : ℕ) (request : Request) → IsWellFormed w → Leaves w event (after_call c request w)
 begun w event c request f = record {
   plain = f.plain;
   log = replays_requests w.calls.requests request w.calls.log (nothing_mapped w.made.file) f.plain f.log;
@@ -158,13 +158,13 @@ its_request made requests c call (Acks goal change) can h = absurd cc
 its_request made requests c call (Unlock held reply) can h = absurd cc
 its_request made requests c call (Answer reply) can h = absurd cc
 
-given_up : (w : World) (c : ℕ) → Fine w → can_give_up (w.calls.phase c) ≡ true → Leaves w (GiveUp c) (after_give_up c (w.calls.phase c) w)
+given_up : (w : World) (c : ℕ) → IsWellFormed w → can_give_up (w.calls.phase c) ≡ true → Leaves w (GiveUp c) (after_give_up c (w.calls.phase c) w)
 given_up w c f can =
     let r = its_request w.made w.calls.requests c (w.calls.number c) (w.calls.phase c) can (f.order.asked c) in
     left.tells w (GiveUp c) c (still_held (w.calls.phase c)) NoMemory w.slots w.hardware
     (record w.memory { is_free = given_back (taken_in (w.calls.phase c)) w.memory.is_free }) f f.plain r.0 r.1 refl refl (with_memory w f.plain f.good)
 
-shape_left : (w : World) (e : Event) (o : Outcome) (v : World) → Fine w → Shape w e o v → Leaves w e v
+shape_left : (w : World) (e : Event) (o : Outcome) (v : World) → IsWellFormed w → Shape w e o v → Leaves w e v
 shape_left w e o v f (rests i h) = subst (Leaves w e) (sym h) (stays w e f)
 shape_left w e o v f (begins c request i s lt p below h) = subst (Leaves w e) (sym h) (begun w e c request f)
 shape_left w e o v f (ends c reply i s lt p h) = subst (Leaves w e) (sym h) (goes_on w e c Free w.slots w.hardware w.memory f f.good)
@@ -179,12 +179,12 @@ shape_left w e o v f (joins p t i s page j m h) =
 
 -- ---- a step
 
--- Each step from a fine state leaves a fine one, and its entry, if it makes one, has its number and was due. (Nothing of this looks at
+-- Each step from a well state leaves a well one, and its entry, if it makes one, has its number and was due. (Nothing of this looks at
 -- the number of events.)
-pub fine_step : (w v : World) (e : Event) (o : Outcome) → Fine w → Step w e o v → Fine v × Notes w e v
+pub fine_step : (w v : World) (e : Event) (o : Outcome) → IsWellFormed w → Step w e o v → IsWellFormed v × Notes w e v
 fine_step w v e o f s = go (comes w e o v s)
   where
-    whole : Leaves w e v → Fine v × Notes w e v
+    whole : Leaves w e v → IsWellFormed v × Notes w e v
     whole l = (
       record {
         order = order_kept w v e o f.order s;
@@ -200,12 +200,12 @@ fine_step w v e o f s = go (comes w e o v s)
     uncounted : Leaves (with_event w) e v → Leaves w e v
     uncounted l = record { plain = l.plain; log = l.log; good = l.good; notes = l.notes }
 
-    go : Comes w e o v → Fine v × Notes w e v
+    go : Comes w e o v → IsWellFormed v × Notes w e v
     go (stopped n i h) = whole (subst (Leaves w e) (sym h) (stays w e f))
     go (happens n h) = whole (uncounted (shape_left (with_event w) e o v f h))
 
 -- the step is sound
-pub sound_step : (w v : World) (e : Event) (o : Outcome) → Fine w → Step w e o v → IsSoundStep w e o v
+pub sound_step : (w v : World) (e : Event) (o : Outcome) → IsWellFormed w → Step w e o v → IsSoundStep w e o v
 sound_step w v e o f s = record {
   notes = (fine_step w v e o f s).1;
   frees = frees_only w v e o s;
@@ -217,13 +217,13 @@ sound_step w v e o f s = record {
 
 -- ---- runs
 
-fine_run : (w : World) (es : List Event) (os : List Outcome) (v : World) → Fine w → Run w es os v → Fine v
-fine_run w [] [] v f r = subst Fine (sym r) f
+fine_run : (w : World) (es : List Event) (os : List Outcome) (v : World) → IsWellFormed w → Run w es os v → IsWellFormed v
+fine_run w [] [] v f r = subst IsWellFormed (sym r) f
 fine_run w (e ∷ es) (o ∷ os) v f r = fine_run r.0 es os v (fine_step w r.0 e o f r.1).0 r.2
 fine_run w [] (o ∷ os) v f r = absurd r
 fine_run w (e ∷ es) [] v f r = absurd r
 
-pub reached_fine : (w : World) → IsReached w → Fine w
+pub reached_fine : (w : World) → IsReached w → IsWellFormed w
 reached_fine w h = fine_run (new_world h.made h.slots) h.events h.outcomes w (fine_opening h.made h.slots h.few h.new) h.run
 
 pub reached_sound : (w : World) → IsReached w → IsSoundState w
@@ -255,7 +255,7 @@ reached_step w v e o h s = record {
 pub reached_opening : (made : Made) (slots : Slots) → made.cores ≤ 64 → IsNew slots → IsReached (new_world made slots)
 reached_opening made slots few new = record { made = made; few = few; slots = slots; events = []; outcomes = []; new = new; run = refl }
 
-sound_run : (w : World) (es : List Event) (os : List Outcome) (v : World) → Fine w → Run w es os v → SoundRun w es os v
+sound_run : (w : World) (es : List Event) (os : List Outcome) (v : World) → IsWellFormed w → Run w es os v → SoundRun w es os v
 sound_run w [] [] v f r = (fine_sound w f, r)
 sound_run w (e ∷ es) (o ∷ os) v f r =
     (fine_sound w f, (r.0, r.1, sound_step w r.0 e o f r.1, sound_run r.0 es os v (fine_step w r.0 e o f r.1).0 r.2))

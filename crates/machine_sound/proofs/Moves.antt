@@ -18,23 +18,23 @@ use Rattle.vm_base.specs.Log.{nth, CanAccess, Replays, Stands}
 use Rattle.vm_base.specs.declared.rights.Access.TheVariants.{Store}
 use Rattle.vm_base.specs.Apply.{detached}
 use Rattle.machine_sound.specs.Sound.{IsDue, Notes}
-use Rattle.machine_sound.specs.Invariant.{Fine, Shows, Good, ShowsPage, ShowsFile, own_frame}
+use Rattle.machine_sound.specs.Invariant.{IsWellFormed, Shows, ShowsPlain, ShowsPage, ShowsFile, own_frame}
 use Rattle.machine_sound.proofs.Logs.{replays_more}
 
 -- the state v after a step from w by this event, but for its order, its translations and its counts
 pub record Leaves (w : World) (event : Event) (v : World) : Type 0 where
   pub plain : Plain
   pub log : Replays v.calls.requests (nothing_mapped v.made.file) v.calls.log plain
-  pub good : Good v plain
+  pub good : ShowsPlain v plain
   pub notes : Notes w event v
 
-pub stays : (w : World) (event : Event) → Fine w → Leaves w event w
+pub stays : (w : World) (event : Event) → IsWellFormed w → Leaves w event w
 stays w event f = record { plain = f.plain; log = f.log; good = f.good; notes = inl refl }
 
 -- ---- the map that is shown where no frame comes in
 
 -- new contents of slots and frames that have no frame more
-pub shows_less : (w : World) (t u : Plain) (info : ℕ → Option PageInfo) (bytes : ℕ → Bytes) → Good w t
+pub shows_less : (w : World) (t u : Plain) (info : ℕ → Option PageInfo) (bytes : ℕ → Bytes) → ShowsPlain w t
     → ((p : ℕ) → ShowsPage (record w.memory { bytes = bytes }) (info p) (u.entry p))
     → ((n : ℕ) → ShowsFile bytes (w.memory.cached n) (w.made.file n) (u.file n))
     → ((p f : ℕ) → frame_of (info p) ≡ Some f → frame_of (w.slots.info p) ≡ Some f)
@@ -50,11 +50,11 @@ shows_less w t u info bytes g pages files fewer own whole = record {
 }
 
 -- pages that have the same
-pub shows_same : (w : World) (t : Plain) (info : ℕ → Option PageInfo) → info ≡ w.slots.info → Good w t → Shows w.made.file info w.memory t
+pub shows_same : (w : World) (t : Plain) (info : ℕ → Option PageInfo) → info ≡ w.slots.info → ShowsPlain w t → Shows w.made.file info w.memory t
 shows_same w t info same g = subst (λ info. Shows w.made.file info w.memory t) (sym same) g
 
 -- free frames and counts aren't shown
-pub with_memory : (w : World) (t : Plain) {is_free : ℕ → Bool} {counts : Counts} → Good w t
+pub with_memory : (w : World) (t : Plain) {is_free : ℕ → Bool} {counts : Counts} → ShowsPlain w t
     → Shows w.made.file w.slots.info (record w.memory { is_free = is_free; counts = counts }) t
 with_memory w t g = record { pages = g.pages; files = g.files; apart = g.apart; unfiled = g.unfiled; whole = g.whole }
 
@@ -64,18 +64,18 @@ with_counts_shown file info m counts t g = record { pages = g.pages; files = g.f
 
 -- ---- the call of core c goes on
 
-pub goes_on : (w : World) (event : Event) (c : ℕ) (phase : Phase) (s : Slots) (h : Hardware) (m : Memory) (f : Fine w)
+pub goes_on : (w : World) (event : Event) (c : ℕ) (phase : Phase) (s : Slots) (h : Hardware) (m : Memory) (f : IsWellFormed w)
     → Shows w.made.file s.info m f.plain → Leaves w event (to c phase (record w { slots = s; hardware = h; memory = m }))
 goes_on w event c phase s h m f good = record { plain = f.plain; log = f.log; good = good; notes = inl refl }
 
 -- and no call does
-pub beside : (w : World) (event : Event) (s : Slots) (h : Hardware) (m : Memory) (f : Fine w)
+pub beside : (w : World) (event : Event) (s : Slots) (h : Hardware) (m : Memory) (f : IsWellFormed w)
     → Shows w.made.file s.info m f.plain → Leaves w event (record w { slots = s; hardware = h; memory = m })
 beside w event s h m f good = record { plain = f.plain; log = f.log; good = good; notes = inl refl }
 
 -- ---- the call of core c goes on, and its page has a copy
 
-pub copies_on : (w : World) (event : Event) (c page : ℕ) (phase : Phase) (s : Slots) (h : Hardware) (m : Memory) (f : Fine w) (u : Plain)
+pub copies_on : (w : World) (event : Event) (c page : ℕ) (phase : Phase) (s : Slots) (h : Hardware) (m : Memory) (f : IsWellFormed w) (u : Plain)
     → CanAccess f.plain.file (f.plain.entry page) Store → detached f.plain page ≡ Some u → Shows w.made.file s.info m u
     → Leaves w event (to c phase (with_entry (detach_entry w c page) (record w { slots = s; hardware = h; memory = m })))
 copies_on w event c page phase s h m f u can is good =
@@ -89,7 +89,7 @@ copies_on w event c page phase s h m f u can is good =
 
 -- ---- the call of core c has its reply
 
-pub tells : (w : World) (event : Event) (c : ℕ) (held : Option PageRange) (reply : Reply) (s : Slots) (h : Hardware) (m : Memory) (f : Fine w) (u : Plain)
+pub tells : (w : World) (event : Event) (c : ℕ) (held : Option PageRange) (reply : Reply) (s : Slots) (h : Hardware) (m : Memory) (f : IsWellFormed w) (u : Plain)
     (request : Request) → nth w.calls.requests (w.calls.number c) ≡ Some request → Stands f.plain c request reply u
     → IsDue event w.memory.is_free (answer_entry w c reply) → Shows w.made.file s.info m u
     → Leaves w event (after_reply c held reply (record w { slots = s; hardware = h; memory = m }))
@@ -103,7 +103,7 @@ tells w event c held reply s h m f u request number stands due good =
     }
 
 -- and nothing else changes
-pub answers : (w : World) (event : Event) (c : ℕ) (held : Option PageRange) (reply : Reply) (f : Fine w) (request : Request)
+pub answers : (w : World) (event : Event) (c : ℕ) (held : Option PageRange) (reply : Reply) (f : IsWellFormed w) (request : Request)
     → nth w.calls.requests (w.calls.number c) ≡ Some request → Stands f.plain c request reply f.plain → IsDue event w.memory.is_free (answer_entry w c reply)
     → Leaves w event (after_reply c held reply w)
 answers w event c held reply f request number stands due =

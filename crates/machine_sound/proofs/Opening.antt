@@ -7,13 +7,13 @@ use Rattle.machine_model.specs.World.{Made, new_memory, new_world}
 use Rattle.machine_laws.proofs.Opening.{opening_is_orderly}
 use Rattle.machine_coherence.proofs.Kept.{opening as opening_is_coherent}
 use Rattle.machine_counting.proofs.Kept.{opening_is_counted}
-use Rattle.machine_sound.specs.Invariant.{Fine, ShowsPage, ShowsFile}
+use Rattle.machine_sound.specs.Invariant.{IsWellFormed, ShowsPage, ShowsFile}
 
 shows_itself : (o : Option File) → ShowsFile (λ f. zeros) (λ k. None) o o
 shows_itself None = tt
 shows_itself (Some f) = (refl, refl, λ k. refl)
 
-pub fine_opening : (made : Made) (slots : Slots) → made.cores ≤ 64 → IsNew slots → Fine (new_world made slots)
+pub fine_opening : (made : Made) (slots : Slots) → made.cores ≤ 64 → IsNew slots → IsWellFormed (new_world made slots)
 fine_opening made slots few new = record {
   order = opening_is_orderly made slots few new;
   coherent = opening_is_coherent made slots;

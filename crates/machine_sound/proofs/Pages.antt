@@ -24,7 +24,7 @@ use Rattle.mmu.specs.declared.entry.Translation.{Translation}
 use Rattle.mmu.specs.Entry.{permits}
 use Rattle.vm_base.specs.Log.{CanAccess}
 use Rattle.machine_sound.specs.Translations.{Agrees, AgreesWith, HasBytes}
-use Rattle.machine_sound.specs.Invariant.{Good, ShowsPage, ShowsFile, Owns, MayOwn, own_frame, own_frame_of}
+use Rattle.machine_sound.specs.Invariant.{ShowsPlain, ShowsPage, ShowsFile, Owns, MayOwn, own_frame, own_frame_of}
 
 -- the memory with other bytes of a frame
 abbrev pub with_bytes : Memory → ℕ → Bytes → Memory
@@ -103,7 +103,7 @@ pub record IsFramed (w : World) (t : Plain) (p f : ℕ) : Type 0 where
   -- its bytes are the frame's
   pub bytes : bytes_of t.file entry.back entry.own ≡ Some (w.memory.bytes f)
 
-pub framed : (w : World) (t : Plain) (p f : ℕ) → Good w t → frame_of (w.slots.info p) ≡ Some f → IsFramed w t p f
+pub framed : (w : World) (t : Plain) (p f : ℕ) → ShowsPlain w t → frame_of (w.slots.info p) ≡ Some f → IsFramed w t p f
 framed w t p f g h = go (w.slots.info p) (t.entry p) refl refl (g.pages p) (g.whole p f h) h
   where
     bytes : (info : PageInfo) (entry : Entry) → info.meta.back ≡ entry.back → lies_past_end w.made.file info.meta.back ≡ false → (b : Bool)
@@ -178,7 +178,7 @@ has_frame_bytes w t p e k allowed =
 
 -- ---- replies that need no frame
 
-pub unmapped_reply : (w : World) (t : Plain) (p : ℕ) (access : Access) (i : ℕ) → Good w t → w.slots.info p ≡ None
+pub unmapped_reply : (w : World) (t : Plain) (p : ℕ) (access : Access) (i : ℕ) → ShowsPlain w t → w.slots.info p ≡ None
     → entry_reply t.file (t.entry p) access i ≡ Some (Segv MapErr)
 unmapped_reply w t p access i g h = go (t.entry p) (subst (λ o. ShowsPage w.memory o (t.entry p)) h (g.pages p))
   where
@@ -186,7 +186,7 @@ unmapped_reply w t p access i g h = go (t.entry p) (subst (λ o. ShowsPage w.mem
     go None s = refl
     go (Some entry) s = absurd s
 
-pub forbidden_reply : (w : World) (t : Plain) (p : ℕ) (access : Access) (i : ℕ) (info : PageInfo) → Good w t → w.slots.info p ≡ Some info
+pub forbidden_reply : (w : World) (t : Plain) (p : ℕ) (access : Access) (i : ℕ) (info : PageInfo) → ShowsPlain w t → w.slots.info p ≡ Some info
     → is_allowed info.meta.prot access ≡ false
     → entry_reply t.file (t.entry p) access i ≡ Some (Segv AccErr)
 forbidden_reply w t p access i info g h forbidden = go (t.entry p) (subst (λ o. ShowsPage w.memory o (t.entry p)) h (g.pages p))
@@ -213,7 +213,7 @@ none_owned w t (Private n k) files = there_still w.memory.bytes (w.memory.cached
     twice false = refl
 
 -- a mapped page has bytes unless its file page lies past its file's end
-pub has_bytes : (w : World) (t : Plain) (p : ℕ) (info : PageInfo) (entry : Entry) → Good w t → w.slots.info p ≡ Some info → t.entry p ≡ Some entry
+pub has_bytes : (w : World) (t : Plain) (p : ℕ) (info : PageInfo) (entry : Entry) → ShowsPlain w t → w.slots.info p ≡ Some info → t.entry p ≡ Some entry
     → is_some (bytes_of t.file entry.back entry.own) ≡ not (is_past_end w.made.file (Some info))
 has_bytes w t p info entry g a b = go info.frame refl
   where
@@ -233,7 +233,7 @@ has_bytes w t p info entry g a b = go info.frame refl
         ap (λ (x : Entry). is_some (bytes_of t.file x.back x.own)) (sym same) ∙ (ap is_some k.bytes ∙ sym (ap not within))
 
 -- an access to a page past the end of its file
-pub past_reply : (w : World) (t : Plain) (p : ℕ) (access : Access) (i : ℕ) (info : PageInfo) → Good w t → w.slots.info p ≡ Some info
+pub past_reply : (w : World) (t : Plain) (p : ℕ) (access : Access) (i : ℕ) (info : PageInfo) → ShowsPlain w t → w.slots.info p ≡ Some info
     → is_allowed info.meta.prot access ≡ true → is_past_end w.made.file (Some info) ≡ true → entry_reply t.file (t.entry p) access i ≡ Some Bus
 past_reply w t p access i info g h allowed past = go (t.entry p) refl (subst (λ o. ShowsPage w.memory o (t.entry p)) h (g.pages p))
   where
@@ -247,7 +247,7 @@ past_reply w t p access i info g h allowed past = go (t.entry p) refl (subst (λ
         ap (λ b. answer_of t.file access i b entry.back entry.own) (sym (ap (λ prot. is_allowed prot access) s.1) ∙ allowed)
         ∙ bus (needs_copy access entry.back entry.own) (bytes_of t.file entry.back entry.own) (has_bytes w t p info entry g h e ∙ ap not past)
 
-pub can_access : (w : World) (t : Plain) (p : ℕ) (access : Access) (frame : Option ℕ) → Good w t → IsUsable w.made.file (w.slots.info p) access frame
+pub can_access : (w : World) (t : Plain) (p : ℕ) (access : Access) (frame : Option ℕ) → ShowsPlain w t → IsUsable w.made.file (w.slots.info p) access frame
     → CanAccess t.file (t.entry p) access
 can_access w t p access frame g u = go (w.slots.info p) (t.entry p) refl refl (g.pages p) u
   where

@@ -45,7 +45,7 @@ use Rattle.machine_model.specs.World.{World, Memory}
 use Rattle.machine_laws.specs.Orderly.{IsChosen, IsChangeOf}
 use Rattle.vm_base.specs.Log.{Stands, CanAccess}
 use Rattle.machine_sound.specs.Sound.{IsDue}
-use Rattle.machine_sound.specs.Invariant.{Good, ShowsPage, ShowsFile}
+use Rattle.machine_sound.specs.Invariant.{ShowsPlain, ShowsPage, ShowsFile}
 
 -- ---- the tests of arguments and decisions see the plain page map's files and pages
 
@@ -55,7 +55,7 @@ mode_same bytes cached (Some f) (Some g) h = ap Some (sym h.0)
 mode_same bytes cached None (Some g) h = absurd h
 mode_same bytes cached (Some f) None h = absurd h
 
-pub has_modes : (w : World) (t : Plain) → Good w t → HasModes t w.made.file
+pub has_modes : (w : World) (t : Plain) → ShowsPlain w t → HasModes t w.made.file
 has_modes w t g n = mode_same w.memory.bytes (w.memory.cached n) (w.made.file n) (t.file n) (g.files n)
 
 page_shown : (m : Memory) (o : Option PageInfo) (z : Option Entry) → ShowsPage m o z → plainly.ShowsPage z o
@@ -64,7 +64,7 @@ page_shown m (Some info) (Some page) h = (sym h.0, sym h.1)
 page_shown m None (Some page) h = absurd h
 page_shown m (Some info) None h = absurd h
 
-is_shown : (w : World) (t : Plain) (r : PageRange) → Good w t → IsShown t w.made.file w.slots r
+is_shown : (w : World) (t : Plain) (r : PageRange) → ShowsPlain w t → IsShown t w.made.file w.slots r
 is_shown w t r g = record { pages = λ p i. page_shown w.memory (w.slots.info p) (t.entry p) (g.pages p); modes = has_modes w t g }
 
 -- ---- replies that are the plain page map's
@@ -147,7 +147,7 @@ unplanned core (Store addr byte) reply h = missed addr byte By.Store reply h
 unplanned core (Fetch addr) reply h = missed addr 0 By.Fetch reply h
 
 -- what the check answers at once
-pub refused : (w : World) (t : Plain) (c : ℕ) (request : Request) (reply : Reply) → Good w t → checked_by w.made c request ≡ Err reply
+pub refused : (w : World) (t : Plain) (c : ℕ) (request : Request) (reply : Reply) → ShowsPlain w t → checked_by w.made c request ≡ Err reply
     → IsReply reply × Stands t c request reply t
 refused w t c request reply g h = (is_reply, stands_so t t c request reply is_reply (refusal_answered t w.made.file c request reply (has_modes w t g) h))
   where
@@ -172,13 +172,13 @@ pub record Knows (w : World) (c : ℕ) (request : Request) (goal : Goal) : Type 
   pub target : HasTarget goal
   pub none : IsNoAccess goal
 
-decided_plain : (w : World) (t : Plain) (c : ℕ) (request : Request) (goal : Goal) (d : Decision) → Good w t → Knows w c request goal
+decided_plain : (w : World) (t : Plain) (c : ℕ) (request : Request) (goal : Goal) (d : Decision) → ShowsPlain w t → Knows w c request goal
     → Decides w.made.file w.slots goal d → IsPlain t c request goal d
 decided_plain w t c request goal d g k h =
     plain t w.made.file w.slots c request goal d k.few (is_shown w t (goal_range goal) g) k.passed k.target k.none h
 
 -- a refusal of the decision: of a placed mapping, where its whole window is held and has no room
-pub declined : (w : World) (t : Plain) (c : ℕ) (request : Request) (goal : Goal) (errno : Errno) → Good w t → Knows w c request goal
+pub declined : (w : World) (t : Plain) (c : ℕ) (request : Request) (goal : Goal) (errno : Errno) → ShowsPlain w t → Knows w c request goal
     → Decides w.made.file w.slots goal (Refuse errno) → Stands t c request (Refused errno) t
 declined w t c request goal errno g k h = decided_plain w t c request goal (Refuse errno) g k h
 
@@ -208,7 +208,7 @@ led_goes (To.Change planned) change e = tt
 led_goes (To.Access touch) change e = absurd e
 
 -- a change that is made
-pub acted : (w : World) (t : Plain) (c : ℕ) (request : Request) (goal : Goal) (change : Change) → Good w t → Knows w c request goal
+pub acted : (w : World) (t : Plain) (c : ℕ) (request : Request) (goal : Goal) (change : Change) → ShowsPlain w t → Knows w c request goal
     → IsChangeOf goal change → IsChosen w.made w.slots goal (range_of change) → Stands t c request (reply_to change) (made_of t change)
 acted w t c request goal change g k e h =
     stands_so t (made_of t change) c request (reply_to change) (reply_is change)

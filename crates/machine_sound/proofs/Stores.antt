@@ -10,7 +10,7 @@ use Rattle.vm_base.proofs.Functions.{put_all, put_same, put_other}
 use Rattle.machine_model.specs.Files.{shows_file, is_private}
 use Rattle.machine_model.specs.World.{World, Memory}
 use Rattle.machine_counting.specs.Counted.{FilePage, IsCountedState}
-use Rattle.machine_sound.specs.Invariant.{Good, Shows, ShowsPage, ShowsFile, Owns, MayOwn, own_frame, own_frame_of}
+use Rattle.machine_sound.specs.Invariant.{ShowsPlain, Shows, ShowsPage, ShowsFile, Owns, MayOwn, own_frame, own_frame_of}
 use Rattle.machine_sound.proofs.Pages.{with_bytes, IsFramed, page_kept, file_kept, own_is_frame, own_so, is_it}
 use Rattle.machine_sound.proofs.Moves.{shows_less}
 
@@ -30,7 +30,7 @@ framed_own w t p f k h =
     ap (own_frame w.memory.cached) k.at_slot
     ∙ (ap (own_frame_of w.memory.cached k.info.meta.back) k.frame ∙ own_so w.memory.cached k.info.meta.back f h)
 
-own_stored : (w : World) (t : Plain) (p f : ℕ) (x : Bytes) (k : IsFramed w t p f) → Good w t → shows_file w.memory.cached k.info.meta.back f ≡ false
+own_stored : (w : World) (t : Plain) (p f : ℕ) (x : Bytes) (k : IsFramed w t p f) → ShowsPlain w t → shows_file w.memory.cached k.info.meta.back f ≡ false
     → MayOwn k.info.meta.back → Shows w.made.file w.slots.info (with_bytes w.memory f x) (with_own t p k.entry x)
 own_stored w t p f x k g h may =
     shows_less w t (with_own t p k.entry x) w.slots.info (put w.memory.bytes f x) g
@@ -90,7 +90,7 @@ only_one w c n k m l f a b =
     other : FilePage
     other = record { file = m; page = l }
 
-file_stored : (w : World) (t : Plain) (p f n k i byte : ℕ) (z : IsFramed w t p f) → Good w t → IsCountedState w
+file_stored : (w : World) (t : Plain) (p f n k i byte : ℕ) (z : IsFramed w t p f) → ShowsPlain w t → IsCountedState w
     → z.entry.back ≡ Shared n k → w.memory.cached n k ≡ Some f
     → Shows w.made.file w.slots.info (with_bytes w.memory f (put (w.memory.bytes f) i byte)) (stored_back t (Shared n k) i byte)
 file_stored w t p f n k i byte z g c back at =
@@ -107,7 +107,7 @@ file_stored w t p f n k i byte z g c back at =
 -- ---- either of them
 
 -- where the page isn't a private one that shows its file's page
-pub stored_shows : (w : World) (t : Plain) (p f i byte : ℕ) (k : IsFramed w t p f) → Good w t → IsCountedState w
+pub stored_shows : (w : World) (t : Plain) (p f i byte : ℕ) (k : IsFramed w t p f) → ShowsPlain w t → IsCountedState w
     → (is_private k.info.meta.back && shows_file w.memory.cached k.info.meta.back f) ≡ false
     → Shows w.made.file w.slots.info (with_bytes w.memory f (put (w.memory.bytes f) i byte)) (stored_entry t p (t.entry p) i byte)
 stored_shows w t p f i byte k g c writes = go (shows_file w.memory.cached k.info.meta.back f) refl writes k.owns

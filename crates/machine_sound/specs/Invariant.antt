@@ -26,6 +26,7 @@ abbrev pub own_frame_of : (ℕ → ℕ → Option ℕ) → Back → Option ℕ �
 own_frame_of cached back None = None
 own_frame_of cached back (Some f) = if shows_file cached back f then None else Some f
 
+-- the same of a page that may be unmapped
 abbrev pub own_frame : (ℕ → ℕ → Option ℕ) → Option PageInfo → Option ℕ
 own_frame cached None = None
 own_frame cached (Some info) = own_frame_of cached info.meta.back info.frame
@@ -54,6 +55,7 @@ Owns m back None own = own ≡ first_own back
 Owns m back (Some f) own =
     cond (shows_file m.cached back f) (own ≡ None) (MayOwn back × (own ≡ Some (m.bytes f)))
 
+-- slots show a page as the plain page map has it, and no others
 abbrev pub ShowsPage : Memory → Option PageInfo → Option PageEntry → Type 0
 ShowsPage m None None = Unit {0}
 ShowsPage m (Some info) (Some page) =
@@ -81,14 +83,15 @@ pub record Shows (file : ℕ → Option File) (info : ℕ → Option PageInfo) (
   -- a page with a frame doesn't lie past the end of its file
   pub whole : (p f : ℕ) → frame_of (info p) ≡ Some f → is_past_end file (info p) ≡ false
 
-abbrev pub Good : World → Plain → Type 0
-Good w t = Shows w.made.file w.slots.info w.memory t
+-- a state that shows the plain page map
+abbrev pub ShowsPlain : World → Plain → Type 0
+ShowsPlain w t = Shows w.made.file w.slots.info w.memory t
 
 -- ---- the invariant
 
 -- of these parts of a state: they are orderly, translations keep up with slots, frames are counted,
 -- and the log leads to a plain page map that slots and memory show
-pub record Fit (made : Made) (s : Slots) (h : Hardware) (m : Memory) (phase : ℕ → Phase)
+pub record AreWellFormed (made : Made) (s : Slots) (h : Hardware) (m : Memory) (phase : ℕ → Phase)
     (number : ℕ → ℕ) (requests : List Request) (entries : List Entry) : Type 0 where
   pub order : Order made s m phase number requests entries
   pub coherent : IsCoherent m.cached s.info phase h
@@ -97,6 +100,7 @@ pub record Fit (made : Made) (s : Slots) (h : Hardware) (m : Memory) (phase : �
   pub log : Replays requests (nothing_mapped made.file) entries plain
   pub good : Shows made.file s.info m plain
 
-abbrev pub Fine : World → Type 0
-Fine w =
-    Fit w.made w.slots w.hardware w.memory w.calls.phase w.calls.number w.calls.requests w.calls.log
+-- the invariant of every reached state: what its parts have in common
+abbrev pub IsWellFormed : World → Type 0
+IsWellFormed w =
+    AreWellFormed w.made w.slots w.hardware w.memory w.calls.phase w.calls.number w.calls.requests w.calls.log

@@ -75,10 +75,12 @@ IsFull w event = (event_limit ≤ w.calls.events) ⊎ IsPastCalls w event
 
 -- ---- what is said of one outcome alone
 
+-- said only of a step that was idle
 abbrev pub OnIdle : Outcome → Type 0 → Type 0
 OnIdle Idle said = said
 OnIdle _ said = Unit {0}
 
+-- said only of a step that was full
 abbrev pub OnFull : Outcome → Type 0 → Type 0
 OnFull Full said = said
 OnFull _ said = Unit {0}

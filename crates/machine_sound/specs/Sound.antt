@@ -53,6 +53,7 @@ pub record IsSound (w : World) (t : Plain) : Type 0 where
   pub cached : (n k f : ℕ) → w.memory.cached n k ≡ Some f
       → true_count w.memory.counts f ≡ pos (suc (users_of w.slots.info f))
 
+-- some plain page map makes the state sound
 abbrev pub IsSoundState : World → Type 0
 IsSoundState w = (t : Plain) × IsSound w t
 

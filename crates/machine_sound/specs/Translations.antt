@@ -29,6 +29,7 @@ AgreesWith bytes e files (Some page) =
     ((access : Access) → permits e access ≡ true → is_allowed page.prot access ≡ true)
     × HasBytes (bytes e.frame) (bytes_of files page.back page.own)
 
+-- a page's translation leads to the bytes that the plain page map has there, and allows no more
 abbrev pub Agrees : World → Plain → ℕ → Translation → Type 0
 Agrees w t p e = AgreesWith w.memory.bytes e t.file (t.entry p)
 

@@ -11,10 +11,8 @@ ghost use Rattle.map_list.specs.Walked.{info_meta, slot_metas, IsFirstMapped, Is
 use slot_lock::SlotRead;
 use std::alloc::Allocator;
 use vm_base::info::is_same;
+use vm_base::page::PAGE_LIMIT;
 use vm_base::{Back, Meta, NoMemory, PageInfo, PageRange, Prot};
-
-// The first page number above all valid pages.
-const LIMIT: u64 = 0x8_0000_0000;
 
 /// Neighbouring pages with the same protection, whose backing goes on from page to page.
 #[derive(Clone, Copy, Debug, PartialEq, Eq)]
@@ -47,7 +45,7 @@ fn first_mapped<M: SlotRead>(map: &M, from: u64) -> Option<(u64, Meta)>
     ensures none { IfNone result (NoneIn (slot_metas (M.slots map.now)) from (2 ^ 35)) }
 {
     let mut page = from;
-    'slots: while page < LIMIT {
+    'slots: while page < PAGE_LIMIT {
         if let Some(info) = map.page(page) {
             return Some((page, info.meta));
         }
@@ -69,7 +67,7 @@ fn run_end<M: SlotRead>(map: &M, first: u64, meta: Meta) -> u64
 {
     let slot = map.slot(first);
     let mut end = slot.end;
-    'slots: while end < LIMIT {
+    'slots: while end < PAGE_LIMIT {
         let next = map.page(end);
         if !is_mapped_to(&next, meta.advanced(end - first)) {
             return end;

@@ -31,6 +31,7 @@ IsEmptyBeside table p = (q : ℕ) → q / 512 ≡ p / 512 → table q ≡ None
 abbrev pub hit : Translation → Access → Translated
 hit t access = if permits t access then Hit t.frame else Fault
 
+-- a walk of the tables: a translation that permits the access, or a fault
 abbrev pub fill : Option Translation → Access → Translated
 fill None access = Fault
 fill (Some t) access = if permits t access then Fill t.frame else Fault

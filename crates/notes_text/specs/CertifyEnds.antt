@@ -30,6 +30,7 @@ pub data Unjudged (input unread : List ℕ) (f : TraceFault) : Type 0 where
   wanting : f ≡ NoMemory → (asked : Asked) (notes : List Noted)
       → Collects true (λ cores note words. NamesNote note words) input asked notes → Unjudged input unread f
 
+-- how the judging of a text ends: a verdict, or a fault of the text
 abbrev pub FindsVerdict : Type 0 → (PageRange → ℕ → ℕ → Bool) → (Slots → ℕ → Type 0)
     → (Slots → Slots → ℕ → Type 0) → List ℕ → List ℕ → Result Verdict TraceFault → Type 0
 FindsVerdict A parts CanFold Folds input unread (Ok verdict) = Judged A parts CanFold Folds input verdict

@@ -16,6 +16,7 @@ pub record Collected (T : Type 0) : Type 0 where
   pub asked : Option Asked
   pub items : List T
 
+-- before the first line
 abbrev pub nothing : {T : Type 0} → Collected T
 nothing = record { asked = None; items = [] }
 
@@ -38,6 +39,7 @@ pub data Says {T : Type 0} (needs_calls : Bool) (Names : ℕ → T → List Word
       → kind_of (words_of line) ≡ OfEvents → (x : T) → Names asked.cores x (words_of line)
       → new ≡ record old { items = old.items ++ x ∷ [] } → Says needs_calls Names old line new
 
+-- one line more is collected
 pub record Takes {T : Type 0} (needs_calls : Bool) (Names : ℕ → T → List Word → Type 0) (old : Collected T)
     (line : List ℕ) (new : Collected T) : Type 0 where
   pub printable : are_printable line ≡ true

@@ -51,6 +51,7 @@ NamesAcks set words = (first : ℕ) × (others : List ℕ)
     × (words ≡ codes "wait" ∷ codes "acks" ∷ map decimal (first ∷ others)) × Ascend 0 (first ∷ others)
     × (set ≡ with_cores 0 (first ∷ others))
 
+-- the words by which an outcome is written, and no others
 abbrev pub NamesOutcome : Outcome → List Word → Type 0
 NamesOutcome Stepped words = words ≡ codes "step" ∷ []
 NamesOutcome (Wait (Slot core)) words =
@@ -72,6 +73,7 @@ event_said (Fold page) = Some (Ev.Fold page)
 event_said (Finish core) = None
 event_said (Now core request) = None
 
+-- words that say an event, as a line of a trace does
 abbrev pub NamesEvent : Event → List Word → Type 0
 NamesEvent event words = (line : Line) × Says line words × (event_said line ≡ Some event)
 

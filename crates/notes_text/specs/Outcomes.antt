@@ -54,6 +54,7 @@ cores_from least set [] = Some set
 cores_from least set (w ∷ ws) = core_number w >>= λ core.
     if nat_lt core least then None else cores_from (suc core) (with_member set core) ws
 
+-- a wait for the cores that are listed in rising order, one at least
 abbrev pub acks_of : List Word → Option Outcome
 acks_of [] = None
 acks_of (w ∷ ws) = cores_from 0 0 (w ∷ ws) >>= λ set. Some (Wait (Acks set))
@@ -82,6 +83,7 @@ named_of name rest = if bytes_eq name (codes "wait") then wait_of rest
     else if bytes_eq name (codes "segv") then segv_of rest
     else alone rest (single_of name)
 
+-- a reply, or one of the outcomes that have no value
 abbrev pub valued : Option Reply → Word → List Word → Option Outcome
 valued (Some reply) name rest = ended rest (Answered reply)
 valued None name rest = named_of name rest

@@ -50,6 +50,7 @@ abbrev pub given_to : ℕ → ℕ → Option Task → Option ScriptLine
 given_to cores core None = None
 given_to cores core (Some task) = if nat_lt core cores then Some (record { core = core; task = task }) else None
 
+-- what a line of a script gives to one core to do
 abbrev pub task_said : ℕ → Line → Option ScriptLine
 task_said cores Blank = None
 task_said cores (Space all frames calls) = None
@@ -92,6 +93,7 @@ pub data Unread (input unread : List ℕ) (f : TraceFault) : Type 0 where
   wanting : f ≡ NoMemory → (asked : Asked) (lines : List ScriptLine) → Collects false NamesTask input asked lines
       → Unread input unread f
 
+-- how the reading of a script ends: all read, or a fault of the text
 abbrev pub ReadsScript : List ℕ → List ℕ → Result Scripted TraceFault → Type 0
 ReadsScript input unread (Ok script) = ReadWhole input script
 ReadsScript input unread (Err f) = Unread input unread f

@@ -41,6 +41,7 @@ pub data Fails {T : Type 0} (needs_calls : Bool) (Names : ℕ → T → List Wor
   refused : (line : List ℕ) → length line ≤ 256 → IsUnbroken line → IsFirstLine old.left line new.left
       → Refuses needs_calls Names old.collected (number + 1) line f → Fails needs_calls Names old new number f
 
+-- one line is taken in, or the text is over, or a fault ends it
 abbrev pub Turns : {T : Type 0} → Bool → (ℕ → T → List Word → Type 0) → Scene T → Scene T → ℕ → Result Bool TraceFault → Type 0
 Turns needs_calls Names old new number (Ok true) = Advances needs_calls Names old new
 Turns needs_calls Names old new number (Ok false) = IsOver old new

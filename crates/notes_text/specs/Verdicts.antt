@@ -50,6 +50,7 @@ verdict_text (Ticket ticket) = codes "refused C1 " ++ decimal ticket ++ codes "\
 verdict_text (Differs ticket noted expected) = differs_text ticket noted expected
 verdict_text (Slot page) = codes "refused C5 " ++ decimal page ++ codes "\n"
 
+-- the notes are a run of the machine
 abbrev pub is_certified : Verdict → Bool
 is_certified (Certified calls) = true
 is_certified (Ticket t) = false

@@ -41,6 +41,7 @@ FitsEvent (Ev.Review core) = core < 64
 FitsEvent (Ev.Fold page) = page < 2 ^ 52
 FitsEvent (Ev.GiveUp core) = core < 64
 
+-- a reply whose numbers a line can have
 abbrev pub FitsReply : Reply → Type 0
 FitsReply (Re.Mapped address) = address < 2 ^ 64
 FitsReply Re.Done = ⊤
@@ -60,6 +61,7 @@ FitsOutcome Idle = ⊤
 FitsOutcome (Answered reply) = FitsReply reply
 FitsOutcome Full = ⊤
 
+-- a note that a line can have
 pub record FitsNote (note : Noted) : Type 0 where
   pub ticket : note.ticket < 2 ^ 64
   pub event : FitsEvent note.event

@@ -118,7 +118,7 @@ fn own_length<A: Allocator>(objects: &Objects<A>, file: u32, page: u64) -> Optio
     if objects.is_past_end(file, page) {
         return None;
     }
-    Some(objects.own_bytes(file, page).len())
+    Some(objects.first_bytes(file, page).len())
 }
 
 /// The same of both pages of file 0, and of the first of file 1.

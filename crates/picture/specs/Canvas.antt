@@ -17,9 +17,11 @@ use Rattle.picture.specs.declared.shapes.Bar.{Bar}
 use Rattle.picture.specs.declared.shapes.Mark.{Mark}
 use Rattle.picture.specs.declared.shapes.Stretch.{Stretch}
 
+-- 52 units a step behind 160 for the names, and never less than the legend wants
 abbrev pub width : View → ℕ
 width view = max (160 + 52 * view.steps) 640
 
+-- lanes above, 24 units a row, at most 256 rows, and the legend below
 abbrev pub height : View → ℕ → ℕ
 height view rows = rows_y view + 24 * min rows 256 + 52
 
@@ -36,6 +38,7 @@ unfoldable pub column_text : View → ℕ → ℕ → List ℕ
 column_text view bottom at = concat (line_text (codes "grid") (column_way bottom at) ∷ text_front (codes "step") (104 + 52 * at + 26) 30
     ∷ decimal (min (view.first + at) (2 ^ 64 - 1)) ∷ codes "</text>\n" ∷ [])
 
+-- the lines between the steps
 abbrev pub columns_text : View → ℕ → ℕ → List ℕ
 columns_text view bottom zero = []
 columns_text view bottom (suc n) = columns_text view bottom n ++ column_text view bottom n
@@ -56,6 +59,7 @@ lanes_text view (suc n) = lanes_text view n ++ lane_text view n
 unfoldable pub row_text : View → ℕ → PageRange → List ℕ
 row_text view row pages = concat (text_front (codes "page") 8 (row_y view row + 15) ∷ start_of pages.first ∷ codes "</text>\n" ∷ [])
 
+-- the first n rows
 abbrev pub first_rows : View → List PageRange → ℕ → List ℕ
 first_rows view rows zero = []
 first_rows view rows (suc n) = first_rows view rows n ++ row_text view n (row_at rows n)
@@ -89,6 +93,7 @@ unfoldable pub drawn : View → List PageRange → List Stretch → List Bar →
 drawn view rows stretches bars arrows marks = canvas_text view rows ++ flat_map (stretch_text view) stretches
     ++ flat_map (bar_text view) bars ++ flat_map (arrow_text view) arrows ++ flat_map (mark_text view) marks ++ codes "</svg>\n"
 
+-- all shapes of a picture: pages first, calls over them, then arrows and marks
 abbrev pub drawn_of : View → List PageRange → List Recorded → List ℕ
 drawn_of view rows all = drawn view rows (all_stretches all rows) (bars_of all all) (arrows_of all all) (marks_of all)
 

@@ -79,6 +79,7 @@ mark_text view mark = concat (codes "<g><title>core " ∷ decimal mark.core ∷ 
 
 -- ---- stretches of pages
 
+-- the colour of a row, by what its pages allow
 abbrev pub prot_class : Prot → List ℕ
 prot_class prot = if prot.write && prot.exec then codes "both" else if prot.write then codes "write"
     else if prot.exec then codes "exec" else if prot.read then codes "read" else codes "none"

@@ -17,9 +17,11 @@ reply_in step call (Did core deed) = None
 reply_in step call (Mapped pages prot) = None
 reply_in step call (Unmapped pages) = None
 
+-- the answer that this step gives to the call, if it does
 abbrev pub answer_in : Recorded → ℕ → Option Answer
 answer_in r call = reply_in r.step call r.moment
 
+-- the first of two answers that is there
 abbrev pub answer_or : Option Answer → Option Answer → Option Answer
 answer_or None later = later
 answer_or (Some a) later = Some a

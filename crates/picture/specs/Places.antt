@@ -18,12 +18,15 @@ view_of cores first last = record { cores = cores; first = first; steps = min (l
 abbrev pub column : View → ℕ → ℕ
 column view step = 104 + 52 * min (step - view.first) view.steps
 
+-- the top of a core's lane
 abbrev pub lane : ℕ → ℕ
 lane core = 40 + 66 * core
 
+-- the top of the first row
 abbrev pub rows_y : View → ℕ
 rows_y view = 80 + 66 * view.cores
 
+-- the top of a row
 abbrev pub row_y : View → ℕ → ℕ
 row_y view row = rows_y view + 24 * row
 
@@ -32,9 +35,11 @@ abbrev pub answered_or : View → Option Answer → ℕ
 answered_or view (Some answer) = answer.step
 answered_or view None = min (view.first + view.steps) (2 ^ 64 - 1) - 1
 
+-- a bar's last step: that of its answer, or the picture's last
 abbrev pub last_step : View → Bar → ℕ
 last_step view bar = answered_or view bar.answer
 
+-- a bar reaches from the begin of its first step to the end of its last
 abbrev pub bar_place : View → Bar → Place
 bar_place view bar = record {
   x = column view bar.begin + 2;
@@ -66,6 +71,7 @@ way_of view a Acknowledgement = record {
   y2 = leaving a.to a.from;
 }
 
+-- from the lane of who tells to the lane of who is told, and back
 abbrev pub arrow_way : View → Arrow → Way
 arrow_way view a = way_of view a a.course
 
@@ -74,6 +80,7 @@ abbrev pub right_of : View → Option ℕ → ℕ
 right_of view (Some step) = column view step + 24
 right_of view None = 104 + 52 * view.steps
 
+-- from the step that maps the pages to the one that unmaps them
 abbrev pub stretch_place : View → Stretch → Place
 stretch_place view s = record {
   x = column view s.begin + 26;

@@ -27,6 +27,7 @@ bar_in all step (Did core deed) = None
 bar_in all step (Mapped pages prot) = None
 bar_in all step (Unmapped pages) = None
 
+-- the bar of the call that begins in this step
 abbrev pub bar_of : List Recorded → Recorded → Option Bar
 bar_of all r = bar_in all r.step r.moment
 
@@ -49,6 +50,7 @@ arrow_in all step (Did core deed) = None
 arrow_in all step (Mapped pages prot) = None
 arrow_in all step (Unmapped pages) = None
 
+-- the arrow that ends in this step
 abbrev pub arrow_of : List Recorded → Recorded → Option Arrow
 arrow_of all r = arrow_in all r.step r.moment
 
@@ -65,6 +67,7 @@ mark_in step (Told core cores) = None
 mark_in step (Mapped pages prot) = None
 mark_in step (Unmapped pages) = None
 
+-- the mark of this step's deed
 abbrev pub mark_of : Recorded → Option Mark
 mark_of r = mark_in r.step r.moment
 
@@ -84,6 +87,7 @@ stretch_in all row pages step (Took core sender pass) = None
 stretch_in all row pages step (Did core deed) = None
 stretch_in all row pages step (Unmapped range) = None
 
+-- the stretch of a row that begins in this step
 abbrev pub stretch_of : List Recorded → ℕ → PageRange → Recorded → Option Stretch
 stretch_of all row pages r = stretch_in all row pages r.step r.moment
 

@@ -16,6 +16,7 @@ own_shown Anon (Some own) = Some own
 own_shown (Shared file page) own = None
 own_shown (Private file page) own = own
 
+-- what the plain page map has at a page
 abbrev pub entry_of : Option Bytes → Option Meta → Option Entry
 entry_of own None = None
 entry_of own (Some m) = Some (record { back = m.back; prot = m.prot; own = own_shown m.back own })
@@ -30,6 +31,7 @@ abbrev pub back_shared : Back → Option FilePage
 back_shared (Shared file page) = Some (record { file = file; page = page })
 back_shared _ = None
 
+-- the page of a file that all see, if it is one
 abbrev pub shared_of : Option Meta → Option FilePage
 shared_of None = None
 shared_of (Some m) = back_shared m.back

@@ -25,6 +25,7 @@ echo_of (Some (Fold page)) line text = line ++ codes " = " ++ text
 echo_of (Some (Finish core)) line text = line ++ codes " = " ++ text
 echo_of (Some (Now core request)) line text = line ++ codes " = " ++ text
 
+-- a line beside its outcome, or a line without an outcome by itself
 abbrev pub echo : List ℕ → List ℕ → List ℕ
 echo line text = echo_of (line_of line) line text
 
@@ -61,6 +62,7 @@ pub data Misses (old new : Scene) (number : ℕ) (f : TraceFault) : Type 0 where
       → Acts old.stage line new.stage text → AppendsFront old.written new.written (echo line text)
       → Misses old new number f
 
+-- one line is echoed, or the text is over, or a fault ends it
 abbrev pub EchoTurns : Scene → Scene → ℕ → Result Bool TraceFault → Type 0
 EchoTurns old new number (Ok true) = ShowsLine old new
 EchoTurns old new number (Ok false) = IsOver old new
@@ -103,6 +105,7 @@ pub data EchoStops (limit : CallLimit) (input : List ℕ) (old new : Option (Lis
   writing : f ≡ WriteFailed → (p : EchoFront limit input) → AppendsFront old new p.shown
       → EchoStops limit input old new f
 
+-- how an echoing replay ends
 abbrev pub EchoEnds : {T : Type 0} → CallLimit → List ℕ → Option (List ℕ) → Option (List ℕ) → Result T TraceFault
     → Type 0
 EchoEnds limit input old new (Ok x) = EchoesAll limit input old new

@@ -79,12 +79,12 @@ pub record IsAsked {A : Type 0} (setup : RawSetup) (files : List RawFile) (buffe
 
 pub opens_as : {A : Type 0} (setup : RawSetup) (files : List RawFile) (buffer : List ℕ) (s : Setup A) (limit : CallLimit) (slots : Slots) (w : World)
     → IsAsked setup files buffer s → fault_within limit s ≡ None → IsNew slots → w ≡ new_world (made_of s) slots → OpensAs setup files buffer w
-opens_as setup files buffer s limit slots w asked fine new is = (
+opens_as setup files buffer s limit slots w asked well new is = (
   made_of s,
   slots,
   record {
     cores = asked.cores;
-    few = few_cores_within limit s fine;
+    few = few_cores_within limit s well;
     frames = asked.frames;
     calls = asked.calls;
     file = λ n. given buffer files s.files.items n asked.are;

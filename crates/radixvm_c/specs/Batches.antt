@@ -56,10 +56,12 @@ IsItemRefused keeps w (To.Call core request) v = IsCallRefused keeps w core requ
 IsItemRefused keeps w (To.Finish core) v = IsRefused keeps w core v
 IsItemRefused keeps w (To.Step event) v = (v ≡ w) × MayWant keeps w event
 
+-- an item is made, or is refused for want of memory and changes nothing
 abbrev pub MakesOne : Bool → World → Item → Result Finished MemoryFault → World → Type 0
 MakesOne keeps w item (Ok finished) v = Makes w item finished v
 MakesOne keeps w item (Err _) v = IsItemRefused keeps w item v
 
+-- what C wrote is read and made, or stops the batch
 abbrev pub TakesItem : Bool → World → RawEvent → RawOutcome → Result Unit Stop → RawOutcome
     → World → Type 0
 TakesItem keeps w raw was (Ok _) told v = (i : Item) × (f : Finished) × (item_of raw ≡ Some i)
@@ -88,6 +90,7 @@ pub record RunsFirst (w : World) (raws : List RawEvent) (n : ℕ) (was now : Lis
   pub count : length outcomes ≡ n
   pub told : now ≡ map outcome_code outcomes ++ drop n was
 
+-- the first n items are made one after another, and each is told
 pub record MakesFirst (w : World) (raws : List RawEvent) (n : ℕ) (was now : List RawOutcome)
     (v : World) : Type 0 where
   pub items : List Item
@@ -106,6 +109,7 @@ StopsAt keeps raws (Some NoMemory) n v =
     (raw : RawEvent) × (slice_get raws n ≡ Some raw)
     × ((e : Event) × (event_of raw ≡ Some e) × MayWant keeps v e)
 
+-- where and why a batch stops: at its end, at what is no item, or for want of memory
 abbrev pub ItemStopsAt : Bool → List RawEvent → Option Stop → ℕ → World → World → Type 0
 ItemStopsAt keeps raws None n m v = (n ≡ length raws) × (v ≡ m)
 ItemStopsAt keeps raws (Some BadEvent) n m v =
@@ -127,9 +131,11 @@ MakesUntil keeps w raws ended was told v =
 abbrev pub length_limit : ℕ
 length_limit = 2 ^ 32
 
+-- more than a batch may have
 abbrev pub is_past : ℕ → Bool
 is_past n = nat_lt length_limit n
 
+-- why a batch is refused before its first item
 abbrev pub refusal_of : ℕ → ℕ → ℕ → ℕ → Option Refusal
 refusal_of files bytes raws room =
     if is_past files || is_past bytes || is_past raws || is_past room then Some By.TooLong
@@ -160,6 +166,7 @@ pub record RanOnNew (setup : RawSetup) (files : List RawFile) (bytes : List ℕ)
   pub brackets : IsBracketed runs.events runs.outcomes last.calls.requests last.calls.log
   pub sound : SoundRun (new_world made slots) runs.events runs.outcomes last
 
+-- a batch of events on a new machine
 abbrev pub RunsBatch : RawSetup → List RawFile → List ℕ → List RawEvent → List RawOutcome
     → Result Ended Refusal → List RawOutcome → Type 0
 RunsBatch setup files bytes raws was (Ok ended) told =
@@ -179,6 +186,7 @@ pub record MadeOnNew (setup : RawSetup) (files : List RawFile) (bytes : List ℕ
   pub makes : MakesUntil false (new_world made slots) raws ended was told last
   pub legal : IsLegal last
 
+-- a batch of items on a new machine
 abbrev pub CallsBatch : RawSetup → List RawFile → List ℕ → List RawEvent → List RawOutcome
     → Result Ended Refusal → List RawOutcome → Type 0
 CallsBatch setup files bytes raws was (Ok ended) told =
@@ -210,6 +218,7 @@ refusal_done By.InUse = record { status = 8; count = 0 }
 refusal_done By.NoLog = record { status = 10; count = 0 }
 refusal_done (By.Setup fault) = record { status = fault_code fault; count = 0 }
 
+-- the status and the count that C reads
 abbrev pub done_of : Result Ended Refusal → Done
 done_of (Ok ended) = record { status = stop_code ended.stop; count = ended.count }
 done_of (Err refusal) = refusal_done refusal
@@ -220,6 +229,7 @@ abbrev pub TellsRun : RawSetup → List RawFile → List ℕ → List RawEvent �
 TellsRun setup files bytes raws was done told = (r : Result Ended Refusal)
     × (done ≡ done_of r) × RunsBatch setup files bytes raws was r told
 
+-- what C reads of a batch of items
 abbrev pub TellsCalls : RawSetup → List RawFile → List ℕ → List RawEvent → List RawOutcome → Done
     → List RawOutcome → Type 0
 TellsCalls setup files bytes raws was done told = (r : Result Ended Refusal)

@@ -78,6 +78,7 @@ event_at Is.GiveUp core r = Some (Ev.GiveUp core)
 event_at Is.Finish core r = None
 event_at kind core r = call_of core (request_at kind r)
 
+-- an event of this kind by this core, if both are there
 abbrev pub event_with : RawEvent → Option Kind → Option ℕ → Option Event
 event_with r (Some kind) (Some core) = event_at kind core r
 event_with r (Some kind) None = None
@@ -96,6 +97,7 @@ abbrev pub item_from : Option Event → Option Item
 item_from (Some event) = Some (item_of_event event)
 item_from None = None
 
+-- the item of a kind: the rest of a call, or what its event asks for
 abbrev pub item_at : Kind → ℕ → RawEvent → Option Item
 item_at Is.Finish core r = Some (To.Finish core)
 item_at kind core r = item_from (event_at kind core r)
@@ -134,9 +136,11 @@ nothing = record {
   byte = 0;
 }
 
+-- an event that names its core alone
 abbrev pub of_core : ℕ → ℕ → RawEvent
 of_core kind core = record nothing { kind = kind; core = core }
 
+-- an event that names its core and a place
 abbrev pub of_place : ℕ → ℕ → ℕ → RawEvent
 of_place kind core at = record nothing { kind = kind; core = core; at = at }
 
@@ -169,6 +173,7 @@ errno_code EACCES = 13
 errno_code EINVAL = 22
 errno_code EOVERFLOW = 75
 
+-- an outcome of this kind with this value
 abbrev pub coded : ℕ → ℕ → RawOutcome
 coded kind value = record { kind = kind; value = value }
 

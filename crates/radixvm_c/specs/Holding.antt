@@ -26,6 +26,7 @@ pub record HeldState : Type 0 where
   pub world : World
   pub keeps : Bool
 
+-- the state of a held machine, and whether its log is kept
 abbrev pub held_state : Held → HeldState
 held_state (Plain machine) = record { world = state machine; keeps = false }
 held_state (Logged machine) = record { world = state machine; keeps = true }
@@ -63,6 +64,7 @@ abbrev pub made_code : Result Unit Refusal → Done
 made_code (Ok _) = record { status = 0; count = 0 }
 made_code (Err refusal) = refusal_done refusal
 
+-- what C reads of a making
 abbrev pub TellsNew : RawSetup → List RawFile → List ℕ → Option HeldState → Done → Option HeldState
     → Type 0
 TellsNew setup files bytes was done now =
@@ -70,10 +72,12 @@ TellsNew setup files bytes was done now =
 
 -- ---- one event, or one item
 
+-- the status of one item
 abbrev pub taken_code : Result Unit Stop → ℕ
 taken_code (Ok _) = 0
 taken_code (Err stop) = stop_code (Some stop)
 
+-- the handle has no machine
 abbrev pub empty_code : ℕ
 empty_code = 7
 
@@ -130,12 +134,14 @@ CallsOn h raws was (Err refusal) told k = RefusesOn h raws was refusal told k
 abbrev pub empty_done : Done
 empty_done = refusal_done By.Empty
 
+-- what C reads of a list of events on a held machine
 abbrev pub TellsRunOn : Option HeldState → List RawEvent → List RawOutcome → Done
     → List RawOutcome → Option HeldState → Type 0
 TellsRunOn None raws was done told now = (done ≡ empty_done) × (told ≡ was) × (now ≡ None)
 TellsRunOn (Some h) raws was done told now = (r : Result Ended Refusal) × (k : HeldState)
     × (done ≡ done_of r) × (now ≡ Some k) × RunsOn h raws was r told k
 
+-- what C reads of a list of items on a held machine
 abbrev pub TellsCallsOn : Option HeldState → List RawEvent → List RawOutcome → Done
     → List RawOutcome → Option HeldState → Type 0
 TellsCallsOn None raws was done told now = (done ≡ empty_done) × (told ≡ was) × (now ≡ None)
@@ -155,6 +161,7 @@ entry_of w core page =
     if nat_lt core w.made.cores && is_page page
     then Some (unwrap_or (word_of (w.hardware.table core page)) 0) else None
 
+-- there is no such entry
 abbrev pub absent_code : ℕ
 absent_code = 9
 
@@ -163,6 +170,7 @@ abbrev pub TellsWord : Option ℕ → ℕ → ℕ → ℕ → Type 0
 TellsWord None was status told = (status ≡ absent_code) × (told ≡ was)
 TellsWord (Some word) was status told = (status ≡ 0) × (told ≡ word)
 
+-- what C reads of an entry of a core's tables
 abbrev pub TellsEntry : Option HeldState → ℕ → ℕ → ℕ → ℕ → ℕ → Type 0
 TellsEntry None core page was status told = (status ≡ empty_code) × (told ≡ was)
 TellsEntry (Some h) core page was status told =

@@ -59,6 +59,7 @@ abbrev pub HasByte : Event → Type 0
 HasByte (Ev.Call core request) = IsByte request
 HasByte _ = Unit {0}
 
+-- an item that C can write: of 64 cores and bytes below 256
 abbrev pub IsSound : Item → Type 0
 IsSound (To.Call core request) = (core < 64) × IsByte request
 IsSound (To.Finish core) = core < 64

@@ -62,6 +62,7 @@ ShowsLog h was (Err By.NoLog) told =
     (is_past (length was) ≡ false) × (h.keeps ≡ false) × (told ≡ was)
 ShowsLog h was (Err _) told = ⊥
 
+-- what C reads of the log
 abbrev pub TellsLog : Option HeldState → List RawEntry → Done → List RawEntry → Type 0
 TellsLog None was done told = (done ≡ empty_done) × (told ≡ was)
 TellsLog (Some h) was done told =

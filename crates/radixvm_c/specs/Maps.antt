@@ -27,6 +27,7 @@ plain_code line = record {
   prot = bits_of_prot line.prot;
 }
 
+-- a line with what backs its pages
 abbrev pub code_with : MapLine → Back → RawLine
 code_with line Anon = plain_code line
 code_with line (Shared file page) =
@@ -51,6 +52,7 @@ ListsOn w was (Ok ended) told =
 ListsOn w was (Err refusal) told =
     (refusal ≡ By.TooLong) × (is_past (length was) ≡ true) × (told ≡ was)
 
+-- what C reads of the list of mappings
 abbrev pub TellsMaps : Option HeldState → List RawLine → Done → List RawLine → Type 0
 TellsMaps None was done told = (done ≡ empty_done) × (told ≡ was)
 TellsMaps (Some h) was done told =

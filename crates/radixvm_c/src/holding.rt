@@ -27,7 +27,7 @@ fn open_held(
     bytes: &[u8],
 ) -> Result<Held, Refusal>
     ensures ok { IfOk result (λ held. OpensHeld setup.now files.now bytes.now (held_state held)) }
-    ensures fine { IfOk result (λ held. fault_of setup.now files.now ≡ None) }
+    ensures well { IfOk result (λ held. fault_of setup.now files.now ≡ None) }
     ensures err { IfErr result (λ refusal. Refuses setup.now files.now bytes.now refusal) }
 {
     if setup.log == 0 {

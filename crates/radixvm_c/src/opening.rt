@@ -15,6 +15,7 @@ use core_steps::{
 use radix_range::RadixMap;
 use std::alloc::Global;
 use vm_base::Mode;
+use vm_base::limits::FILE_BYTES;
 
 /// What a machine is made with, as C writes it.
 #[repr(C)]
@@ -143,7 +144,7 @@ pub fn files_of(
 fn has_long(files: &[RawFile]) -> bool
     ensures { result ≡ list_any (λ (raw : RawFileOf). is_too_long raw.len) files.now }
 {
-    files.iter().any(|file| file.len > 1_048_576)
+    files.iter().any(|file| file.len > FILE_BYTES)
 }
 
 // How many calls the setup may ask for at the most: fewer where the log is kept, since there is room
@@ -169,7 +170,7 @@ pub fn open<L: Opening<Global> + Drop>(
 ) -> Result<Over<L>, Refusal>
     requires { Fits L.keeps (limit_of setup.now) }
     ensures ok { IfOk result (λ machine. OpensAs setup.now files.now bytes.now (state machine)) }
-    ensures fine { IfOk result (λ machine. fault_of setup.now files.now ≡ None) }
+    ensures well { IfOk result (λ machine. fault_of setup.now files.now ≡ None) }
     ensures err { IfErr result (λ refusal. Refuses setup.now files.now bytes.now refusal) }
 {
     let limit = limit_of(setup);

@@ -22,6 +22,7 @@ is_between (Call core request) outcome = false
 is_between event (Answered reply) = false
 is_between event outcome = true
 
+-- notes that neither begin a call nor answer one
 abbrev pub are_between : List Noted → Bool
 are_between notes = list_all (λ n. is_between n.event n.outcome) notes
 

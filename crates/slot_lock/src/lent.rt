@@ -9,10 +9,8 @@ ghost use Rattle.slot_lock.specs.Adding.{IsRest, IsSoundSlot, CanAdd, with_edge,
 
 use crate::run::{self, Run};
 use std::alloc::Allocator;
+use vm_base::page::PAGE_LIMIT;
 use vm_base::{Back, CoreId, NoMemory, PageInfo, is_leaf};
-
-// The first page number above all valid pages.
-const LIMIT: u64 = 0x8_0000_0000;
 
 fn file_page(info: &Option<PageInfo>) -> u64
     ensures { result ≡ info_file_page info.now }
@@ -30,14 +28,14 @@ fn file_page(info: &Option<PageInfo>) -> u64
 fn is_sound(first: u64, end: u64, info: &Option<PageInfo>) -> bool
     ensures { IsTrue result ↔ IsSoundSlot first end info.now }
 {
-    if end <= first || LIMIT < end {
+    if end <= first || PAGE_LIMIT < end {
         return false;
     }
     let size = end - first;
     if is_leaf(*info) && size != 1 {
         return false;
     }
-    file_page(info) <= LIMIT - size
+    file_page(info) <= PAGE_LIMIT - size
 }
 
 // Where the pages after the last slot begin, if nobody holds them and nothing is mapped there.
@@ -105,7 +103,7 @@ fn end_at<A: Allocator>(runs: &mut Vec<Run, A>, i: usize, end: u64)
     ensures start { (get_run runs.new.items i).start ≡ (get_run runs.old.items i).start }
     ensures end { (get_run runs.new.items (i + 1)).start ≡ end }
 {
-    if end < LIMIT {
+    if end < PAGE_LIMIT {
         if let Err(_) = run::cut(runs, i, end) {
             unreachable!();
         }

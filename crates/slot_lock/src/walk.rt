@@ -1,7 +1,7 @@
 //! Walks over the runs of a range, from left to right.
 ghost use Rattle.std.specs.Prelude.{◌≡◌, ℕ, ◌+◌, ◌^◌, ◌<◌, ◌≤◌, ◌↔◌, IfSome, IfNone, IsTrue, true};
 ghost use Rattle.vm_base.specs.Cores.{members};
-ghost use Rattle.vm_base.specs.Info.{frame_of, is_recorded};
+ghost use Rattle.vm_base.specs.Info.{frame_of};
 ghost use Rattle.vm_base.specs.Pages.{IsPageRange};
 ghost use Rattle.slot_lock.specs.Runs.{IsRuns};
 ghost use Rattle.arrayvec.specs.ArrayVec.{array_vec_len};
@@ -12,6 +12,7 @@ ghost use Rattle.slot_lock.specs.Walks.{IsFirstFrame};
 
 use crate::framed::{Framed, FramedPages};
 use crate::run::{Run, place};
+use vm_base::info::recorded_cores;
 use vm_base::{CoreSet, PageInfo, PageRange};
 
 /// The place of a run of one page with a frame, and what it has.
@@ -46,16 +47,6 @@ pub fn first_free_run(runs: &[Run], range: PageRange, n: u64) -> Option<u64>
     None
 }
 
-// The cores that are recorded on a page.
-fn cores_of(info: Option<PageInfo>) -> CoreSet
-    ensures { members result ≡ is_recorded info }
-{
-    match info {
-        None => CoreSet::empty(),
-        Some(info) => info.cores,
-    }
-}
-
 /// The cores that are recorded on some page of the range.
 pub fn recorded(runs: &[Run], range: PageRange) -> CoreSet
     requires runs { IsRuns runs.now }
@@ -65,7 +56,7 @@ pub fn recorded(runs: &[Run], range: PageRange) -> CoreSet
     let mut i = place(runs, range.first);
     let mut cores = CoreSet::empty();
     'runs: while runs[i].start < range.end {
-        cores = cores.union(cores_of(runs[i].info));
+        cores = cores.union(recorded_cores(&runs[i].info));
         i += 1;
     }
     cores

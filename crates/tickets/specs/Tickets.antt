@@ -26,6 +26,7 @@ Rises (x ∷ y ∷ ys) = (x < y) × Rises (y ∷ ys)
 abbrev pub middle : ℕ
 middle = 8
 
+-- the word in the middle, and 8 words of 8 bytes on each side
 abbrev pub row_length : ℕ
 row_length = 17
 

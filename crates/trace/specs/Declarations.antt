@@ -41,6 +41,7 @@ with_file asked file = record asked {
 abbrev pub bytes_of : FileLine → List ℕ
 bytes_of file = seeded file.len file.seed
 
+-- the file that a line asks for, with its seeded bytes
 abbrev pub declared_file : Option FileLine → Option File
 declared_file None = None
 declared_file (Some file) = Some (file_with file.mode (bytes_of file))

@@ -52,6 +52,7 @@ abbrev pub SetupFails : Asked → Option SetupFault → TraceFault → Type 0
 SetupFails a (Some own) f = f ≡ By.Setup own
 SetupFails a None f = ((a.files ≢ []) × (f ≡ By.NoMemory)) ⊎ (f ≡ By.Setup Of.NoMemory)
 
+-- why no machine can be made of the lines so far
 abbrev pub OpenFails : Stage → TraceFault → Type 0
 OpenFails (Start limit) f = f ≡ By.NoVmLine
 OpenFails (Declared limit a) f = SetupFails a (asked_fault_within limit a) f
@@ -63,6 +64,7 @@ pub data Kind : Type 0 where
   OfFile : Kind
   OfEvents : Kind
 
+-- a line declares a space, or a file, or says an event
 abbrev pub kind_of : List Word → Kind
 kind_of words =
     if begins_with_vm words then OfSpace else if begins_with_file words then OfFile else OfEvents
@@ -128,6 +130,7 @@ abbrev pub EventActs : Stage → Line → Stage → List ℕ → Type 0
 EventActs old line new text =
     (w : World) × (v : World) × Opens old w × Gives CanFold FoldsNode w line v text × (new ≡ Running v)
 
+-- what a line does at its stage, and the text that answers it
 abbrev pub LineActs : Stage → Line → Stage → List ℕ → Type 0
 LineActs old Blank new text = (new ≡ old) × (text ≡ [])
 LineActs old (Space cores frames calls) new text = (limit : CallLimit) × (old ≡ Start limit)

@@ -57,6 +57,7 @@ pub data Fails (show : Show) (old new : Scene) (number : ℕ) (f : TraceFault) :
       → Acts old.stage line new.stage text → AppendsFront old.written new.written (told show text)
       → Fails show old new number f
 
+-- one line is replayed, or the text is over, or a fault ends it
 abbrev pub Turns : Show → Scene → Scene → ℕ → Result Bool TraceFault → Type 0
 Turns show old new number (Ok true) = Advances show old new
 Turns show old new number (Ok false) = IsOver old new

@@ -9,12 +9,10 @@ use core_steps::{CallLimit, Setup, SetupFault, first_fault_within};
 use std::alloc::{AllocError, Allocator};
 use std::marker::Model;
 use vm_base::Mode;
+use vm_base::limits::FILE_BYTES;
 
 /// How many files are kept: one more than a space may have, so that too many are seen.
 const KEPT: usize = 17;
-
-/// How many bytes a file may have at the most.
-const FILE_LIMIT: u64 = 1_048_576;
 
 /// A file as its line asks for it.
 #[derive(Clone, Copy, Debug, PartialEq, Eq)]
@@ -71,7 +69,7 @@ impl Model for Declaration {
 fn has_long(files: &[FileLine]) -> bool
     ensures { result ≡ has_long files.now }
 {
-    files.iter().any(|file| file.len > FILE_LIMIT)
+    files.iter().any(|file| file.len > FILE_BYTES)
 }
 
 // The bytes of a file.

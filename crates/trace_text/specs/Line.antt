@@ -69,6 +69,7 @@ one_digit d =
     if nat_le (byte (codes "0")) d && nat_le d (byte (codes "9")) then Some (d - byte (codes "0"))
     else None
 
+-- 10 up to 63, with no zero in front
 abbrev pub two_digits : ℕ → ℕ → Option ℕ
 two_digits d e =
     let n = 10 * (d - byte (codes "0")) + (e - byte (codes "0")) in
@@ -76,6 +77,7 @@ two_digits d e =
     && nat_le e (byte (codes "9"))
     then (if nat_lt 63 n then None else Some n) else None
 
+-- one digit, or two
 abbrev pub core_number : List ℕ → Option ℕ
 core_number [] = None
 core_number (d ∷ []) = one_digit d

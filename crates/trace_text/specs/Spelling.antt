@@ -51,6 +51,7 @@ abbrev pub occurrences : ℕ → Word → ℕ
 occurrences letter [] = 0
 occurrences letter (c ∷ cs) = (if c == letter then 1 else 0) + occurrences letter cs
 
+-- 1 where it holds, so that sums count
 abbrev pub times : Bool → ℕ
 times true = 1
 times false = 0

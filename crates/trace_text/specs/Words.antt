@@ -17,6 +17,7 @@ abbrev pub begins_word : List ℕ → Bool
 begins_word [] = false
 begins_word (x ∷ xs) = not (x == byte (codes " "))
 
+-- the bytes between spaces, as words; a line of spaces has none
 abbrev pub words_of : List ℕ → List Word
 words_of [] = []
 words_of (x ∷ xs) = if x == byte (codes " ") then words_of xs

@@ -98,7 +98,7 @@ fn read_evict(args: &[u8]) -> Option<Action>
 }
 
 // The action that one word says.
-fn read_bare(name: &[u8]) -> Option<Action>
+fn read_single_word(name: &[u8]) -> Option<Action>
     ensures { result ≡ bare_of name.now }
 {
     if name == b"go".as_slice() {
@@ -135,7 +135,7 @@ pub fn read_action(name: &[u8], args: &[u8]) -> Option<Action>
     } else if name == b"evict".as_slice() {
         read_evict(args)
     } else {
-        let action = read_bare(name)?;
+        let action = read_single_word(name)?;
         if next_word(args).is_some() {
             return None;
         }

@@ -123,7 +123,7 @@ fn front_now(bytes: &[u8]) -> Option<(CoreId, &[u8])>
 }
 
 #[tactic(auto, unfolding(crate::specs::Line::line_of_words))]
-fn read_any(bytes: &[u8]) -> Option<Line>
+fn read_by_first_word(bytes: &[u8]) -> Option<Line>
     ensures { result ≡ line_of_words (words_of bytes.now) }
 {
     let Some((name, args)) = next_word(bytes) else {
@@ -149,7 +149,7 @@ pub fn read_words(bytes: &[u8]) -> Option<Line>
         let request = read_request(begun.1)?;
         return Some(Line::Now(begun.0, request));
     }
-    read_any(bytes)
+    read_by_first_word(bytes)
 }
 
 /// What a line of printable bytes says, without its newline; `None` where it is a bad

@@ -270,10 +270,11 @@ fn behind_mprotect(bytes: &[u8]) -> Option<&[u8]>
     }
 }
 
-// The request that the words say, whichever it is.
+// The request that the words say, whichever it is. Behind `read_request`'s tests by bytes it finds none,
+// since a name with nothing behind it isn't a request; that this is so is said by this function alone.
 #[inline(never)]
 #[tactic(auto, unfolding(crate::specs::Request::request_of))]
-fn read_any(words: &[u8]) -> Option<Request>
+fn read_by_name(words: &[u8]) -> Option<Request>
     ensures { result ≡ request_of (words_of words.now) }
 {
     let (name, args) = next_word(words)?;
@@ -320,5 +321,5 @@ pub fn read_request(words: &[u8]) -> Option<Request>
     if let Some(args) = behind_mprotect(bytes) {
         return read_mprotect(args);
     }
-    read_any(bytes)
+    read_by_name(bytes)
 }

@@ -43,6 +43,11 @@ abbrev pub frame_of : Option PageInfo → Option ℕ
 frame_of None = None
 frame_of (Some info) = info.frame
 
+-- the cores that are recorded on the page
+abbrev pub recorded_cores : Option PageInfo → ℕ
+recorded_cores None = 0
+recorded_cores (Some info) = info.cores
+
 -- the core may have a translation of the page
 abbrev pub is_recorded : Option PageInfo → ℕ → Bool
 is_recorded None core = false

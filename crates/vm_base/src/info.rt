@@ -1,7 +1,8 @@
 //! What a page has.
-ghost use Rattle.std.specs.Prelude.{◌≡◌, ◌+◌, ◌<◌, ◌^◌, ◌↔◌, IsTrue, false};
+ghost use Rattle.std.specs.Prelude.{◌≡◌, ℕ, ◌+◌, ◌<◌, ◌^◌, ◌↔◌, IsTrue, false};
 ghost use Rattle.vm_base.specs.Info.{advance, file_page, info_file_page, info_from, unused};
-ghost use Rattle.vm_base.specs.Info.{is_leaf, info_with_prot};
+ghost use Rattle.vm_base.specs.Cores.{members};
+ghost use Rattle.vm_base.specs.Info.{is_leaf, info_with_prot, recorded_cores, is_recorded};
 
 use crate::cores::CoreSet;
 use crate::rights::Prot;
@@ -132,6 +133,17 @@ pub fn goes_on(info: Option<PageInfo>, next: Option<PageInfo>, by: u64) -> bool
         (None, None) => true,
         (Some(info), Some(next)) => is_same(info.meta.advanced(by), next.meta),
         _ => false,
+    }
+}
+
+/// The cores that are recorded on a page that has this, which may have a translation of it.
+pub fn recorded_cores(info: &Option<PageInfo>) -> CoreSet
+    ensures value { result ≡ recorded_cores info.now }
+    ensures recorded { (core : ℕ) → members result core ≡ is_recorded info.now core }
+{
+    match info {
+        Some(info) => info.cores,
+        None => CoreSet::empty(),
     }
 }
 

@@ -45,6 +45,7 @@ abbrev pub entry_of : Option PageInfo → Option Entry
 entry_of None = None
 entry_of (Some info) = Some (record { back = info.meta.back; prot = info.meta.prot; own = None })
 
+-- what the slots have at each page
 abbrev pub entries : Slots → ℕ → Option Entry
 entries s p = entry_of (s.info p)
 
@@ -80,6 +81,7 @@ pub data DecidesRun (s : Slots) (range : PageRange) (d : Decision) : Type 0 wher
   free : IsFree (is_mapped (entries s)) range → d ≡ Act range 0 → DecidesRun s range d
   taken : HasMapped (entries s) range → d ≡ Again → DecidesRun s range d
 
+-- the pages of the room that was found, or the refusal where there is none
 abbrev pub act_at : Option ℕ → ℕ → Decision
 act_at None n = Refuse ENOMEM
 act_at (Some first) n = Act (pages_from first n) 0
@@ -114,6 +116,7 @@ DecidesChange files s (Put range meta) d = ActsOn s range d
 DecidesChange files s (Clear range) d = ActsOn s range d
 DecidesChange files s (Protect range prot) d = DecidesProtect files s range prot d
 
+-- what is decided for a goal, whose pages the call holds
 abbrev pub Decides : (ℕ → Option File) → Slots → Goal → Decision → Type 0
 Decides files s (To.Place place target) d = DecidesPlace s place target d
 Decides files s (To.Change change) d = DecidesChange files s change d

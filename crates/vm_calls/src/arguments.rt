@@ -11,13 +11,11 @@ ghost use Rattle.vm_calls.specs.Checks.{checked, HasModes, placed_count, hint_at
 use backing::Objects;
 use slot_lock::{Change, Place, Plan, Touch};
 use std::alloc::Allocator;
+use vm_base::page::PAGE_LIMIT;
 use vm_base::{
     Access, Back, CoreId, Flags, Meta, PageRange, Prot, Reply, Request, SegvCode, is_valid,
     offset_of, page_count, page_of, pages, refusal, window,
 };
-
-/// More pages than there are, from which on no mapping finds a place.
-const TOO_MANY_PAGES: u64 = 0x8_0000_0000;
 
 /// The answer of the first test of the arguments that holds.
 fn refused<A: Allocator>(objects: &Objects<A>, request: Request) -> Option<Reply>
@@ -40,11 +38,12 @@ fn back_at<A: Allocator>(objects: &Objects<A>, flags: Flags, file: u64, off: u64
     flags.back(file, off)
 }
 
-/// How many pages are to be placed for so many bytes.
+/// How many pages are to be placed for so many bytes. So many as `PAGE_LIMIT` are more than there are,
+/// and find no place.
 fn placed_count(len: u64) -> u64
     ensures { result ≡ placed_count len }
 {
-    page_count(len).min(TOO_MANY_PAGES)
+    page_count(len).min(PAGE_LIMIT)
 }
 
 /// The pages of a hint, if all are valid.

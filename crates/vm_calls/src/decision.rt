@@ -3,8 +3,6 @@ ghost use Rattle.std.specs.Prelude.{◌≡◌, ℕ, ◌+◌, ◌^◌, ◌<◌, �
 ghost use Rattle.vm_base.specs.Functions.{has};
 ghost use Rattle.vm_base.specs.Pages.{IsPageRange};
 ghost use Rattle.vm_base.specs.Apply.{HasPage, is_read_only};
-ghost use Rattle.vm_base.specs.Info.{is_recorded};
-ghost use Rattle.vm_base.specs.Cores.{members};
 ghost use Rattle.slot_lock.specs.declared.plan.Goal.TheVariants as GoalOf;
 ghost use Rattle.slot_lock.specs.Plan.{IsSoundGoal, IsSoundPlace, goal_range, range_of, target_range};
 ghost use Rattle.backing.specs.Files.{files_of};
@@ -16,6 +14,7 @@ ghost use Rattle.vm_calls.specs.Decisions.{ActsOn, IsSoundAct, entries, entry_of
 use backing::Objects;
 use slot_lock::{Change, Goal, Place, SlotRead, Target};
 use std::alloc::Allocator;
+use vm_base::info::recorded_cores;
 use vm_base::{Back, CoreSet, Errno, PageInfo, PageRange, Prot};
 
 /// What a call does, once it holds its pages.
@@ -36,7 +35,7 @@ pub enum Decision {
 }
 
 /// The call changes the range.
-fn act<M: SlotRead>(map: &M, range: PageRange) -> Decision
+fn decide_range<M: SlotRead>(map: &M, range: PageRange) -> Decision
     requires range { IsPageRange range }
     requires reads { (p : ℕ) → has range p ≡ true → M.reads map.now p }
     ensures { ActsOn (M.slots map.now) range result }
@@ -149,7 +148,7 @@ fn decide_protect<M: SlotRead, A: Allocator>(
     if prot.write && has_read_only(map, objects, range) {
         return Decision::Refuse(Errno::EACCES);
     }
-    act(map, range)
+    decide_range(map, range)
 }
 
 /// What a call does that holds the pages that it locks for this goal, which isn't an access and
@@ -168,22 +167,12 @@ pub fn decide<M: SlotRead, A: Allocator>(map: &M, objects: &Objects<A>, goal: Go
 {
     match goal {
         Goal::Place { place, target } => decide_place(map, place, target),
-        Goal::Change(Change::Put { range, .. }) => act(map, range),
-        Goal::Change(Change::Clear { range }) => act(map, range),
+        Goal::Change(Change::Put { range, .. }) => decide_range(map, range),
+        Goal::Change(Change::Clear { range }) => decide_range(map, range),
         Goal::Change(Change::Protect { range, prot }) => {
             decide_protect(map, objects, range, prot)
         }
         Goal::Access(_) => unreachable!(),
-    }
-}
-
-/// The cores that are recorded on a page that has this.
-fn recorded_on(info: Option<PageInfo>) -> CoreSet
-    ensures { (core : ℕ) → members result core ≡ is_recorded info core }
-{
-    match info {
-        Some(info) => info.cores,
-        None => CoreSet::empty(),
     }
 }
 
@@ -208,5 +197,5 @@ pub fn decide_page<A: Allocator>(
             return Err(Errno::EACCES);
         }
     }
-    Ok(recorded_on(info))
+    Ok(recorded_cores(&info))
 }

@@ -42,6 +42,7 @@ awaited_by w core = count_below (awaited w.hardware.inbox core) 64
 abbrev pub in_use : World → ℕ
 in_use w = w.made.frames - count_below w.memory.is_free w.made.frames
 
+-- what is counted of a state
 abbrev pub looked_at : World → Stand → ℕ → Sight
 looked_at w stand awaited = record {
   stand = stand;

@@ -37,7 +37,7 @@ use Rattle.machine_model.specs.Translating.{after_shot, with_hardware}
 use Rattle.machine_coherence.specs.Coherent.{Every, HasDropped, IsSoundEntry}
 use Rattle.machine_laws.specs.Orderly.{answer_count}
 use Rattle.machine_laws.proofs.Deciding.{sound_range}
-use Rattle.machine_sound.specs.Invariant.{Fine}
+use Rattle.machine_sound.specs.Invariant.{IsWellFormed}
 use Rattle.core_steps.specs.Moving.{IsAt}
 use Rattle.core_steps.specs.OnePage.{replied}
 use Rattle.core_steps.specs.PageChange.{IsAlone, IsPageChange}
@@ -186,8 +186,8 @@ module _ (w : World) (c : ℕ) (change : Change) (page : FreePage) (d : Decision
       go (Some f) e =
           let had : frame_of (w.slots.info (range_of change).first) ≡ Some f = ap frame_of (sym i.found.info) ∙ e in
           record {
-            object = (are_counted w i.at.fine).object (range_of change).first f had;
-            used = ∥∥₁_elim i.at.fine (hlevel props) (λ g. pages_counted w g (range_of change).first f had);
+            object = (are_counted w i.at.well).object (range_of change).first f had;
+            used = ∥∥₁_elim i.at.well (hlevel props) (λ g. pages_counted w g (range_of change).first f had);
           }
 
 -- ---- what it is to know
@@ -236,17 +236,17 @@ nothing_left w c change page shoot i out = (
     no_entry : (p : ℕ) → has (range_of change) p ≡ true → (o : Option Translation) → w.hardware.table c p ≡ o → o ≡ None
     no_entry p h None e = refl
     no_entry p h (Some t) e =
-        ∥∥₁_elim i.at.fine (hlevel props) (λ g. absurd (unrecorded w c change shoot p decided out h (g.coherent.tables c p t e).recorded))
+        ∥∥₁_elim i.at.well (hlevel props) (λ g. absurd (unrecorded w c change shoot p decided out h (g.coherent.tables c p t e).recorded))
 
     outside : (p : ℕ) (b : Bool) → has (range_of change) p ≡ b → is_recorded (w.slots.info p) c ≡ true → b ≡ false
     outside p false h r = refl
     outside p true h r = absurd (unrecorded w c change shoot p decided out h r)
 
     no_tlb : (es : List TlbEntry)
-        → (Fine w → Every (IsSoundEntry w.memory.cached w.slots.info c (w.hardware.table c) (w.hardware.inbox c)) es)
+        → (IsWellFormed w → Every (IsSoundEntry w.memory.cached w.slots.info c (w.hardware.table c) (w.hardware.inbox c)) es)
         → Every (λ (e : TlbEntry). has (range_of change) e.page ≡ false) es
     no_tlb [] sound = tt
     no_tlb (e ∷ es) sound = (
-      ∥∥₁_elim i.at.fine (hlevel props) (λ g. outside e.page (has (range_of change) e.page) refl (sound g).0.0.recorded),
+      ∥∥₁_elim i.at.well (hlevel props) (λ g. outside e.page (has (range_of change) e.page) refl (sound g).0.0.recorded),
       no_tlb es (λ g. (sound g).1),
     )

@@ -42,7 +42,7 @@ use Rattle.machine_model.specs.Locks.{locking}
 use Rattle.machine_model.specs.Step.{Goes, Step, StepsTo, event_limit, with_event}
 use Rattle.machine_model.specs.Translating.{after_translating, frame_reached, translated_by, with_hardware}
 use Rattle.machine_laws.specs.Orderly.{answer_count}
-use Rattle.machine_sound.specs.Invariant.{Fine}
+use Rattle.machine_sound.specs.Invariant.{IsWellFormed}
 use Rattle.machine_sound.specs.Sound.{IsReached}
 use Rattle.core_steps.specs.declared.at_once.fault.Source.{Source}
 use Rattle.core_steps.specs.declared.at_once.fault.Source.TheVariants.{Own, Cached, Free}
@@ -55,7 +55,7 @@ use Rattle.core_steps.proofs.rows.Known.{core_counted, frame_below, frame_counte
 use Rattle.core_steps.proofs.rows.Known.{only_page, right_allowed, right_shown, room_for, sound_at}
 use Rattle.core_steps.proofs.at_once.OnePage.{answered, holding, locked, moved, released}
 use Rattle.core_steps.proofs.engine.Each.{put_twice}
-use Rattle.core_steps.proofs.Reached.{fine, steps_reached}
+use Rattle.core_steps.proofs.Reached.{well, steps_reached}
 use Rattle.core_steps.proofs.rows.Rows.{installed}
 
 -- ---- the try of an access
@@ -65,7 +65,7 @@ can_try w c touch i = record {
   here = i.here;
   sound = sound_at w c (Try touch) (PlanOf.Touch touch) i (λ h. h);
   room = room_for w c (Try touch) i refl;
-  frame = λ f e. frame_below w c touch f i.fine e;
+  frame = λ f e. frame_below w c touch f i.well e;
 }
 
 -- it turns neither on the phase nor on the number of events
@@ -73,7 +73,7 @@ pub can_try_later : (w : World) (c : ℕ) (touch : Touch) (events : ℕ) → c <
     → CanTry (record w { calls = record w.calls { events = events } }) c touch
 can_try_later w c touch events here reached =
     let can = can_try (to c (Try touch) w) c touch
-    (record { here = here; phase = put_same w.calls.phase c (Try touch); fine = fine (to c (Try touch) w) reached }) in
+    (record { here = here; phase = put_same w.calls.phase c (Try touch); well = well (to c (Try touch) w) reached }) in
     record { here = can.here; sound = can.sound; room = can.room; frame = can.frame }
 
 pub tries : (w v : World) (c : ℕ) (touch : Touch) → w.calls.events < event_limit → c < w.made.cores → v ≡ after_try c touch (later 1 w)
@@ -203,14 +203,14 @@ at_first w c touch cursor i = i.phase ∙ ap (Lock (To.Access touch)) (only_page
 -- the page is a valid one
 pub is_valid : (w : World) (c : ℕ) (touch : Touch) → c < w.made.cores → w.calls.phase c ≡ locking (To.Access touch) → ∥ IsReached w ∥₁ → IsPage touch.page
 is_valid w c touch here phase reached =
-    (goal_sound w c (To.Access touch) touch.page (record { here = here; phase = phase; fine = fine w reached })).plan.page
+    (goal_sound w c (To.Access touch) touch.page (record { here = here; phase = phase; well = well w reached })).plan.page
 
 module _ (w : World) (c : ℕ) (touch : Touch) (fault : IsFault w c touch) where
-  fine_now : ∥ Fine w ∥₁
-  fine_now = fine w fault.reached
+  fine_now : ∥ IsWellFormed w ∥₁
+  fine_now = well w fault.reached
 
   pub room : answer_count w.calls.log < w.made.calls
-  room = room_for w c (locking (To.Access touch)) (record { here = fault.here; phase = fault.phase; fine = fine_now }) refl
+  room = room_for w c (locking (To.Access touch)) (record { here = fault.here; phase = fault.phase; well = fine_now }) refl
 
   locks : Step w (Go c) Stepped (holding c touch.page (Settle touch) 1 w)
   locks =
@@ -465,7 +465,7 @@ module _ (w : World) (c : ℕ) (touch : Touch) (fault : IsFault (at_lock c touch
 pub can_lock : (w : World) (c : ℕ) (touch : Touch) → c < w.made.cores → ∥ IsReached (at_lock c touch w) ∥₁ → IsSoundGoal (To.Access touch)
 can_lock w c touch here reached =
     goal_sound (at_lock c touch w) c (To.Access touch) touch.page
-    (record { here = here; phase = put_same w.calls.phase c (locking (To.Access touch)); fine = fine (at_lock c touch w) reached })
+    (record { here = here; phase = put_same w.calls.phase c (locking (To.Access touch)); well = well (at_lock c touch w) reached })
 
 -- the steps that were made, by the number of events
 pub made_steps : (w m v : World) (c : ℕ) (touch : Touch) (r : Option Reply) → w.calls.phase c ≡ locking (To.Access touch) → Makes w c touch r m

@@ -14,7 +14,7 @@ use Rattle.vm_base.specs.declared.rights.Access.{Access}
 use Rattle.vm_base.specs.declared.rights.Access.TheVariants.{Load, Store, Fetch}
 use Rattle.vm_base.specs.Cores.{members}
 use Rattle.vm_base.specs.Functions.{put}
-use Rattle.vm_base.specs.Info.{frame_of, info_with_frame, is_recorded, info_with_copy}
+use Rattle.vm_base.specs.Info.{frame_of, info_with_frame, is_recorded, info_with_copy, recorded_cores}
 use Rattle.vm_base.specs.Plain.{Bytes, File, bytes_in, file_bytes, zeros}
 use Rattle.vm_base.proofs.CoreSets.{members-empty}
 use Rattle.slot_lock.specs.declared.plan.Plan.TheVariants as PlanOf
@@ -34,7 +34,7 @@ use Rattle.machine_model.specs.Accesses.{lies_past_end}
 use Rattle.machine_model.specs.Actions.{to, with_entry, detach_entry}
 use Rattle.machine_model.specs.Files.{back_of, bytes_shown, file_frame, page_now, with_cached}
 use Rattle.machine_model.specs.Filling.{CopiesNext, FillsBacked, FillsFrame, FillsFromFile, FillsOwn, after_copy}
-use Rattle.machine_model.specs.Filling.{after_first_copy, after_zeros, cores_of}
+use Rattle.machine_model.specs.Filling.{after_first_copy, after_zeros}
 use Rattle.machine_model.specs.Holding.{page_of_touch, range_held, some_has, taken_in}
 use Rattle.machine_model.specs.Step.{Goes}
 use Rattle.machine_model.specs.Changes.{AwaitsNobody, Awaits}
@@ -43,7 +43,7 @@ use Rattle.machine_counting.specs.Counted.{FilePage, is_frame, one_if, pages_wit
 use Rattle.machine_counting.proofs.Kept.{cached_positive, counted_positive}
 use Rattle.machine_laws.specs.Orderly.{IsUsable, IsCopying}
 use Rattle.machine_laws.proofs.Moves.{call_at}
-use Rattle.machine_sound.specs.Invariant.{Fine}
+use Rattle.machine_sound.specs.Invariant.{IsWellFormed}
 use Rattle.core_steps.specs.Moving.{AwaitsCopy, IsAt, Tries, WantsMemory, is_copy_due}
 use Rattle.core_steps.specs.State.{phase_at}
 use Rattle.core_steps.specs.Filling.{IsAloneAt, IsOfFile, MakesCopy}
@@ -89,7 +89,7 @@ filled_bytes m n k f (Some file) new h b = go (nat_lt k file.count) h b
 
 -- ---- frames that cache pages of files
 
-pub cached_below : (w : World) → ∥ Fine w ∥₁ → (n k : ℕ) → IfSome (w.memory.cached n k) (λ g. g < w.made.frames)
+pub cached_below : (w : World) → ∥ IsWellFormed w ∥₁ → (n k : ℕ) → IfSome (w.memory.cached n k) (λ g. g < w.made.frames)
 cached_below w t n k = go (w.memory.cached n k) refl
   where
     go : (o : Option ℕ) → w.memory.cached n k ≡ o → IfSome o (λ g. g < w.made.frames)
@@ -101,10 +101,10 @@ caches_it cached Anon f h = absurd cc
 caches_it cached (Shared n k) f h = (n, k, h)
 caches_it cached (Private n k) f h = (n, k, h)
 
-pub shown_here : (w : World) (back : Back) (f : ℕ) → ∥ Fine w ∥₁ → file_frame w.memory.cached back ≡ Some f → f < w.made.frames
+pub shown_here : (w : World) (back : Back) (f : ℕ) → ∥ IsWellFormed w ∥₁ → file_frame w.memory.cached back ≡ Some f → f < w.made.frames
 shown_here w back f t h = let at = caches_it w.memory.cached back f h in ∥∥₁_elim t (hlevel props) (λ g. g.order.memory.cached at.0 at.1 f at.2)
 
-pub shown_used : (w : World) (back : Back) (f : ℕ) → ∥ Fine w ∥₁ → file_frame w.memory.cached back ≡ Some f → pos 0 <ℤ true_count w.memory.counts f
+pub shown_used : (w : World) (back : Back) (f : ℕ) → ∥ IsWellFormed w ∥₁ → file_frame w.memory.cached back ≡ Some f → pos 0 <ℤ true_count w.memory.counts f
 shown_used w back f t h = let at = caches_it w.memory.cached back f h in ∥∥₁_elim t (hlevel props) (λ g. cached_positive w g.counted at.0 at.1 f at.2)
 
 -- no more pages have a frame than there are
@@ -121,7 +121,7 @@ few_files : (o : Option FilePage) → one_if o ≤ 1
 few_files None = omega arith
 few_files (Some x) = omega arith
 
-pub counted_few : (w : World) (f : ℕ) → ∥ Fine w ∥₁ → true_count w.memory.counts f <ℤ pos (2 ^ 40)
+pub counted_few : (w : World) (f : ℕ) → ∥ IsWellFormed w ∥₁ → true_count w.memory.counts f <ℤ pos (2 ^ 40)
 counted_few w f t = ∥∥₁_elim t (hlevel props) (λ g.
     let a = g.counted.users f in let b = few_pages w.slots.info f (2 ^ 35) in let c = few_files (g.counted.page_in f) in
     omega (arith, ints, a, b, c))
@@ -139,11 +139,11 @@ fill_stores w c touch i store =
 -- ---- a copy
 
 -- the cores that are told are the machine's
-recorded : (o : Option PageInfo) (d : ℕ) → members (cores_of o) d ≡ true → is_recorded o d ≡ true
+recorded : (o : Option PageInfo) (d : ℕ) → members (recorded_cores o) d ≡ true → is_recorded o d ≡ true
 recorded None d h = absurd (let none = members-empty d in cc)
 recorded (Some info) d h = h
 
-pub told_here : (w : World) (p d : ℕ) → ∥ Fine w ∥₁ → members (cores_of (w.slots.info p)) d ≡ true → d < w.made.cores
+pub told_here : (w : World) (p d : ℕ) → ∥ IsWellFormed w ∥₁ → members (recorded_cores (w.slots.info p)) d ≡ true → d < w.made.cores
 told_here w p d t h = ∥∥₁_elim t (hlevel props) (λ g. (g.order.pages p).cores d (recorded (w.slots.info p) d h))
 
 -- the page is mapped, and has a frame
@@ -158,11 +158,11 @@ copy_framed w c touch f o i e none =
     ∥∥₁_elim (order i) (hlevel props) (λ g. copying w c touch f o (call_at w c (CopyAcks touch f) i.phase g).ready e none)
 
 -- a page's frame is the machine's, and is counted
-pub page_frame_here : (w : World) (p f : ℕ) → ∥ Fine w ∥₁ → frame_of (w.slots.info p) ≡ Some f → f < w.made.frames
+pub page_frame_here : (w : World) (p f : ℕ) → ∥ IsWellFormed w ∥₁ → frame_of (w.slots.info p) ≡ Some f → f < w.made.frames
 page_frame_here w p f t h = ∥∥₁_elim t (hlevel props) (λ g. (g.order.pages p).frame f h)
 
 -- and still is where another frame's count begins
-pub page_frame_used : (w : World) (p f g : ℕ) (m : Counts) → ∥ Fine w ∥₁ → frame_of (w.slots.info p) ≡ Some g → Takes w.memory.counts (Begin f 1) m
+pub page_frame_used : (w : World) (p f g : ℕ) (m : Counts) → ∥ IsWellFormed w ∥₁ → frame_of (w.slots.info p) ≡ Some g → Takes w.memory.counts (Begin f 1) m
     → pos 0 <ℤ true_count m g
 page_frame_used w p f g m t h step =
     ∥∥₁_elim t (hlevel props) (λ k.

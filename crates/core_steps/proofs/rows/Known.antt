@@ -60,7 +60,7 @@ use Rattle.machine_laws.proofs.Deciding.{acts_valid, goal_valid, sound_range}
 use Rattle.machine_laws.proofs.Moves.{call_at, IsCallOf}
 use Rattle.machine_laws.proofs.OpenCalls.{one, open_put}
 use Rattle.machine_coherence.specs.Coherent.{Every, IsSoundEntry, AreAsked}
-use Rattle.machine_sound.specs.Invariant.{Fine}
+use Rattle.machine_sound.specs.Invariant.{IsWellFormed}
 use Rattle.core_steps.specs.Moving.{IsAt, goal_in}
 use Rattle.core_steps.specs.Taking.{AreCounted}
 use Rattle.core_steps.proofs.rows.Sounding.{goal_if, sound_if}
@@ -68,7 +68,7 @@ use Rattle.core_steps.proofs.rows.Sounding.{goal_if, sound_if}
 -- ---- the order
 
 pub order : {w : World} {c : ℕ} {phase : Phase} → IsAt w c phase → ∥ IsOrderly w ∥₁
-order i = ∥∥₁_map i.fine (λ g. g.order)
+order i = ∥∥₁_map i.well (λ g. g.order)
 
 -- ---- room for a reply
 
@@ -107,7 +107,7 @@ cut_at w c phase held i e some = (
 
 -- ---- what the invariant says of the hardware, the counts and the frames
 
-pub pages_counted : (w : World) → Fine w → (p f : ℕ) → frame_of (w.slots.info p) ≡ Some f → pos 0 <ℤ true_count w.memory.counts f
+pub pages_counted : (w : World) → IsWellFormed w → (p f : ℕ) → frame_of (w.slots.info p) ≡ Some f → pos 0 <ℤ true_count w.memory.counts f
 pages_counted w g p f h = counted_positive w g.order g.counted f p h
 
 -- what backs a translation: a mapped page of the machine's, which has a frame of the machine's
@@ -122,11 +122,11 @@ backed_here w p core e g (Some info) same h =
     framed None k = absurd cc
     framed (Some f) k = let same_entry : translation_of f (prot_installed w.memory.cached info) ≡ e = cc in ap (λ x. Some x.frame) same_entry
 
-table_here : (w : World) → Fine w → (c p : ℕ) (e : Translation) → w.hardware.table c p ≡ Some e → IsPage p × (e.frame < w.made.frames)
+table_here : (w : World) → IsWellFormed w → (c p : ℕ) (e : Translation) → w.hardware.table c p ≡ Some e → IsPage p × (e.frame < w.made.frames)
 table_here w g c p e h = backed_here w p c e g.order (w.slots.info p) refl (g.coherent.tables c p e h).entry
 
 -- the first translation of the page is one that the slot backs
-first_here : (w : World) → Fine w → (c p : ℕ) (e : Translation) (es : List TlbEntry)
+first_here : (w : World) → IsWellFormed w → (c p : ℕ) (e : Translation) (es : List TlbEntry)
     → Every (IsSoundEntry w.memory.cached w.slots.info c (w.hardware.table c) (w.hardware.inbox c)) es → tlb_at es p ≡ Some e → e.frame < w.made.frames
 first_here w g c p e [] k h = absurd cc
 first_here w g c p e (x ∷ es) k h = by (x.page == p) (first_here w g c p e es k.1) h
@@ -138,7 +138,7 @@ first_here w g c p e (x ∷ es) k h = by (x.page == p) (first_here w g c p e es 
         (backed_here w x.page c x.translation g.order (w.slots.info x.page) refl k.0.0.entry).1
     by false rest j = rest j
 
-tlb_here : (w : World) → Fine w → (c p : ℕ) (e : Translation) → tlb_at (w.hardware.tlb c) p ≡ Some e → e.frame < w.made.frames
+tlb_here : (w : World) → IsWellFormed w → (c p : ℕ) (e : Translation) → tlb_at (w.hardware.tlb c) p ≡ Some e → e.frame < w.made.frames
 tlb_here w g c p e h = first_here w g c p e (w.hardware.tlb c) (g.coherent.tlbs c) h
 
 -- a message is of a core that waits for its pages
@@ -156,22 +156,22 @@ asked_by phase d c (x ∷ ms) m k h = go (x.from == c) (asked_by phase d c ms m 
 
 -- ---- cores and frames
 
-pub core_counted : (w : World) (c : ℕ) → ∥ Fine w ∥₁ → c < w.made.cores → c < w.memory.counts.cores
+pub core_counted : (w : World) (c : ℕ) → ∥ IsWellFormed w ∥₁ → c < w.made.cores → c < w.memory.counts.cores
 core_counted w c t h = ∥∥₁_elim t (hlevel props) (λ g. subst (λ n. c < n) (sym g.order.memory.cores) h)
 
-pub frame_counted : (w : World) (f : ℕ) → ∥ Fine w ∥₁ → f < w.made.frames → f < w.memory.counts.objects
+pub frame_counted : (w : World) (f : ℕ) → ∥ IsWellFormed w ∥₁ → f < w.made.frames → f < w.memory.counts.objects
 frame_counted w f t h = ∥∥₁_elim t (hlevel props) (λ g. subst (λ n. f < n) (sym g.order.memory.objects) h)
 
-pub free_below : (w : World) → ∥ Fine w ∥₁ → (f : ℕ) → w.memory.is_free f ≡ true → f < w.made.frames
+pub free_below : (w : World) → ∥ IsWellFormed w ∥₁ → (f : ℕ) → w.memory.is_free f ≡ true → f < w.made.frames
 free_below w t f e = ∥∥₁_elim t (hlevel props) (λ g. g.order.memory.free f e)
 
 pub taken_below : (w : World) (c : ℕ) (phase : Phase) → IsAt w c phase → (f : ℕ) → taken_in phase ≡ Some f → f < w.made.frames
 taken_below w c phase i f h = ∥∥₁_elim (order i) (hlevel props) (λ g. (call_at w c phase i.phase g).taken f h)
 
 pub taken_busy : (w : World) (c : ℕ) (phase : Phase) → IsAt w c phase → (f : ℕ) → taken_in phase ≡ Some f → w.memory.is_free f ≡ false
-taken_busy w c phase i f h = ∥∥₁_elim i.fine (hlevel props) (λ g. g.counted.busy c f (ap taken_in i.phase ∙ h))
+taken_busy w c phase i f h = ∥∥₁_elim i.well (hlevel props) (λ g. g.counted.busy c f (ap taken_in i.phase ∙ h))
 
-unused_by : (w : World) (f : ℕ) → ∥ Fine w ∥₁ → (Fine w → IsUnused w.memory.counts f) → IsUnused w.memory.counts f
+unused_by : (w : World) (f : ℕ) → ∥ IsWellFormed w ∥₁ → (IsWellFormed w → IsUnused w.memory.counts f) → IsUnused w.memory.counts f
 unused_by w f t is = record {
   zero = ∥∥₁_elim t (hlevel props) (λ g. (is g).zero);
   entries = λ d lt. ∥∥₁_elim t (hlevel props) (λ g. (is g).entries d lt);
@@ -179,12 +179,12 @@ unused_by w f t is = record {
 }
 
 pub taken_unused : (w : World) (c : ℕ) (phase : Phase) → IsAt w c phase → (f : ℕ) → taken_in phase ≡ Some f → IsUnused w.memory.counts f
-taken_unused w c phase i f h = unused_by w f i.fine (λ g. g.counted.taken c f (ap taken_in i.phase ∙ h))
+taken_unused w c phase i f h = unused_by w f i.well (λ g. g.counted.taken c f (ap taken_in i.phase ∙ h))
 
-pub free_unused : (w : World) (f : ℕ) → ∥ Fine w ∥₁ → w.memory.is_free f ≡ true → IsUnused w.memory.counts f
+pub free_unused : (w : World) (f : ℕ) → ∥ IsWellFormed w ∥₁ → w.memory.is_free f ≡ true → IsUnused w.memory.counts f
 free_unused w f t h = unused_by w f t (λ g. g.counted.free f h)
 
-pub are_counted : (w : World) → ∥ Fine w ∥₁ → AreCounted w.slots.info w.memory.counts
+pub are_counted : (w : World) → ∥ IsWellFormed w ∥₁ → AreCounted w.slots.info w.memory.counts
 are_counted w t = record {
   page = λ p f h. ∥∥₁_elim t (hlevel props) (λ g. framed_page w g.order f p h);
   object = λ p f h. frame_counted w f t (∥∥₁_elim t (hlevel props) (λ g. (g.order.pages p).frame f h));
@@ -195,11 +195,11 @@ are_counted w t = record {
 pub freed_frame : (w v : Counts) (c f : ℕ) → AreReached w → Takes w (Reviewing c (review.Freed f)) v → (f < w.objects) × (w.queued f ≡ true)
 freed_frame w v c f r h = (reached_is_orderly w r).fronts c f h.1.1.since h.1.0 h.1.1.front
 
-pub freed_below : (w : World) (c f : ℕ) (v : Counts) → ∥ Fine w ∥₁ → Takes w.memory.counts (Reviewing c (review.Freed f)) v → f < w.made.frames
+pub freed_below : (w : World) (c f : ℕ) (v : Counts) → ∥ IsWellFormed w ∥₁ → Takes w.memory.counts (Reviewing c (review.Freed f)) v → f < w.made.frames
 freed_below w c f v t h =
     ∥∥₁_elim t (hlevel props) (λ g. subst (λ n. f < n) g.order.memory.objects (freed_frame w.memory.counts v c f g.order.memory.reached h).0)
 
-pub freed_busy : (w : World) (c f : ℕ) (v : Counts) → ∥ Fine w ∥₁ → Takes w.memory.counts (Reviewing c (review.Freed f)) v → w.memory.is_free f ≡ false
+pub freed_busy : (w : World) (c f : ℕ) (v : Counts) → ∥ IsWellFormed w ∥₁ → Takes w.memory.counts (Reviewing c (review.Freed f)) v → w.memory.is_free f ≡ false
 freed_busy w c f v t h = go (w.memory.is_free f) refl
   where
     go : (b : Bool) → w.memory.is_free f ≡ b → b ≡ false
@@ -213,13 +213,13 @@ freed_busy w c f v t h = go (w.memory.is_free f) refl
 -- ---- translations
 
 -- the tables have entries of valid pages alone
-pub entry_page : (w : World) (c p : ℕ) (e : Translation) → ∥ Fine w ∥₁ → w.hardware.table c p ≡ Some e → IsPage p
+pub entry_page : (w : World) (c p : ℕ) (e : Translation) → ∥ IsWellFormed w ∥₁ → w.hardware.table c p ≡ Some e → IsPage p
 entry_page w c p e t h = (
   ∥∥₁_elim t (hlevel props) (λ g. (table_here w g c p e h).0.0),
   ∥∥₁_elim t (hlevel props) (λ g. (table_here w g c p e h).0.1),
 )
 
-pub frame_below : (w : World) (c : ℕ) (touch : Touch) (f : ℕ) → ∥ Fine w ∥₁ → frame_reached (translated_by w.hardware c touch) ≡ Some f → f < w.made.frames
+pub frame_below : (w : World) (c : ℕ) (touch : Touch) (f : ℕ) → ∥ IsWellFormed w ∥₁ → frame_reached (translated_by w.hardware c touch) ≡ Some f → f < w.made.frames
 frame_below w c touch f t h = go (tlb_at (w.hardware.tlb c) touch.page) (w.hardware.table c touch.page) refl refl h
   where
     hits : (e : Translation) (b : Bool) → frame_reached (if b then By.Hit e.frame else By.Fault) ≡ Some f → e.frame ≡ f
@@ -330,7 +330,7 @@ nobody_awaited w c phase i idle d = go (message_of (w.hardware.inbox d) c) refl
     go : (m : Option Message) → message_of (w.hardware.inbox d) c ≡ m → is_some m ≡ false
     go None e = refl
     go (Some m) e =
-        ∥∥₁_elim i.fine (hlevel props) (λ g.
+        ∥∥₁_elim i.well (hlevel props) (λ g.
         let awaited_one = asked_by w.calls.phase d c (w.hardware.inbox d) m (g.coherent.asked d) e in
         let none : awaits_in (w.calls.phase c) ≡ None = ap awaits_in i.phase ∙ idle in
         absurd cc)
@@ -389,7 +389,7 @@ awaits_here w c range g h = go (nat_lt c w.made.cores) refl
     go true e = grind (arith, nat_tests)
     go false e = let outside : w.calls.phase c ≡ Free = g.outside c (grind (arith, nat_tests, e)) in absurd cc
 
-pub message_pages : (w : World) (d : ℕ) → ∥ Fine w ∥₁ → (took : Took) → took ≡ asked (w.hardware.inbox d) → IsValidAsked took
+pub message_pages : (w : World) (d : ℕ) → ∥ IsWellFormed w ∥₁ → (took : Took) → took ≡ asked (w.hardware.inbox d) → IsValidAsked took
 message_pages w d t took e = subst IsValidAsked (sym e) (go (w.hardware.inbox d) refl)
   where
     by : (m : Message) (b : Bool) → are_pages m.range ≡ true → IsValidAsked (if b then TookOf.Invalidate m.range else TookOf.Clear m.range)
@@ -407,7 +407,7 @@ pub valid_page : (p : ℕ) → IsPage p → is_page p ≡ true
 valid_page p h = let low = h.0 in let high = h.1 in grind (arith, nat_tests, low, high)
 
 -- what is no page has no entry
-pub no_page_entry : (w : World) (c p : ℕ) → ∥ Fine w ∥₁ → is_page p ≡ false → w.hardware.table c p ≡ None
+pub no_page_entry : (w : World) (c p : ℕ) → ∥ IsWellFormed w ∥₁ → is_page p ≡ false → w.hardware.table c p ≡ None
 no_page_entry w c p t not_page = go (w.hardware.table c p) refl
   where
     go : (o : Option Translation) → w.hardware.table c p ≡ o → o ≡ None

@@ -4,7 +4,7 @@ ghost use Rattle.std.specs.Prelude.{◌≡◌, ◌+◌, ◌^◌, ◌<◌, length
 ghost use Rattle.machine_model.specs.declared.event.Event.{Event};
 ghost use Rattle.machine_model.specs.Events.{core_of};
 ghost use Rattle.machine_model.specs.Step.{Acts, Begins, Goes, Step, is_here};
-ghost use Rattle.machine_sound.specs.Invariant.{Fine};
+ghost use Rattle.machine_sound.specs.Invariant.{IsWellFormed};
 ghost use Rattle.core_steps.specs.State.{phase_of, world};
 ghost use Rattle.core_steps.specs.Moving.{JoinsAsMap, MayWant, Tries, WantsMemory};
 ghost use Rattle.core_steps.specs.Dividing.{DividesAsMap, GoesAsMap};
@@ -45,7 +45,7 @@ impl<M: SlotMap, H: Hardware, A: Allocator, L: Ledger> Engine<M, H, A, L> {
     /// The core's call goes one step on. A refusal for memory changes nothing.
     fn go(&mut self, core: CoreId) -> Result<Outcome, NoMemory>
         requires here { core < length self.old.calls.phases.items }
-        requires fine { ∥ Fine (world M.slots self.old) ∥₁ }
+        requires well { ∥ IsWellFormed (world M.slots self.old) ∥₁ }
         ensures row { Tries (Goes (world M.slots self.old) core (phase_of self.old core))
             (WantsMemory L.keeps (world M.slots self.old) core (phase_of self.old core))
             (world M.slots self.old) result (world M.slots self.new) }
@@ -89,7 +89,7 @@ impl<M: SlotMap, H: Hardware, A: Allocator, L: Ledger> Engine<M, H, A, L> {
     #[inline(always)]
     fn act(&mut self, event: Event) -> Result<Outcome, NoMemory>
         requires here { is_here (world M.slots self.old).made (core_of event) ≡ true }
-        requires fine { ∥ Fine (world M.slots self.old) ∥₁ }
+        requires well { ∥ IsWellFormed (world M.slots self.old) ∥₁ }
         ensures row { Tries (Acts (world M.slots self.old) event)
             (MayWant L.keeps (world M.slots self.old) event)
             (world M.slots self.old) result (world M.slots self.new) }
@@ -128,7 +128,7 @@ impl<M: SlotMap, H: Hardware, A: Allocator, L: Ledger> Engine<M, H, A, L> {
     /// One event, which is counted unless memory is refused; then nothing changes.
     #[inline(always)]
     pub fn step(&mut self, event: Event) -> Result<Outcome, NoMemory>
-        requires { ∥ Fine (world M.slots self.old) ∥₁ }
+        requires { ∥ IsWellFormed (world M.slots self.old) ∥₁ }
         ensures step { Tries (Step (world M.slots self.old) event)
             (MayWant L.keeps (world M.slots self.old) event)
             (world M.slots self.old) result (world M.slots self.new) }

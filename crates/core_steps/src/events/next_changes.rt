@@ -2,7 +2,7 @@
 ghost use Rattle.std.specs.Prelude.{◌≡◌, IfSome};
 ghost use Rattle.slot_lock.specs.Plan.{IsSoundGoal};
 ghost use Rattle.machine_model.specs.Holding.{page_of_touch};
-ghost use Rattle.machine_sound.specs.Invariant.{Fine};
+ghost use Rattle.machine_sound.specs.Invariant.{IsWellFormed};
 ghost use Rattle.core_steps.specs.Changing.{changes_in};
 ghost use Rattle.core_steps.specs.Moving.{goal_in};
 ghost use Rattle.core_steps.specs.State.{world};
@@ -33,7 +33,7 @@ fn changes_in(phase: &Phase) -> Option<PageRange>
 impl<M: SlotMap, H: Hardware, A: Allocator, L: Ledger> Engine<M, H, A, L> {
     /// The pages that the next step of the core's call may change, if there is such a core.
     pub fn next_changes(&self, core: CoreId) -> Option<PageRange>
-        requires { ∥ Fine (world M.slots self.now) ∥₁ }
+        requires { ∥ IsWellFormed (world M.slots self.now) ∥₁ }
         ensures { result ≡ changes_in ((world M.slots self.now).calls.phase core) }
     {
         if !self.is_here(Some(core)) {

@@ -8,11 +8,12 @@ ghost use Rattle.core_steps.specs.Moving.{IsAt, Tries, WantsMemory};
 
 use crate::engine::Engine;
 use crate::ledger::Ledger;
-use access_answers::{cores_of, page_of_touch};
+use access_answers::page_of_touch;
 use machine_model::{Blocker, Outcome, Phase};
 use mmu::Hardware;
 use slot_lock::{SlotMap, Touch};
 use std::alloc::Allocator;
+use vm_base::info::recorded_cores;
 use vm_base::{CoreId, CoreSet, NoMemory, PageInfo};
 
 impl<M: SlotMap, H: Hardware, A: Allocator, L: Ledger> Engine<M, H, A, L> {
@@ -22,7 +23,7 @@ impl<M: SlotMap, H: Hardware, A: Allocator, L: Ledger> Engine<M, H, A, L> {
         requires { IsAt (world M.slots self.old) core (Phase.CopyPost touch frame) }
         ensures { Goes (world M.slots self.old) core (Phase.CopyPost touch frame) result (world M.slots self.new) }
     {
-        let shoot = cores_of(&self.map.page(touch.page));
+        let shoot = recorded_cores(&self.map.page(touch.page));
         self.cores.shoot(core, shoot, page_of_touch(touch));
         self.go_to(core, Phase::CopyAcks { touch, frame });
         Outcome::Stepped

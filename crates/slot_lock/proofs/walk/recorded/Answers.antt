@@ -15,5 +15,5 @@ runs-preserved c =
     let below = rw here at c.runs-test.true in
     let more = walk_more _ c.requires.runs _ _ _ walk below c.requires.range.high in
     users_next _ c.requires.runs c.args.range _ _ _ c.requires.range.some c.runs.invariant more below
-    (λ core. ap (λ f. f core) c.union-cores.ensures ∙ (ap (λ f. members c.runs.cores core || f core) c.cores_of.ensures
+    (λ core. ap (λ f. f core) c.union-cores.ensures ∙ (ap (λ b. members c.runs.cores core || b) (c.recorded_cores.ensures.recorded core)
     ∙ ap (λ (r : Run). members c.runs.cores core || is_recorded r.info core) here_too))

@@ -16,7 +16,7 @@ returns-then-is_read_only-clause-refused g c =
 
 pub returns-clause-made : goal.returns-clause-made
 returns-clause-made g c =
-    decides_made _ c.args.change c.args.info c.recorded_on.result c.requires.one c.recorded_on.ensures (elim c.match-change.branch [
+    decides_made _ c.args.change c.args.info c.recorded_cores.result c.requires.one c.recorded_cores.ensures.recorded (elim c.match-change.branch [
       | in-Protect+else-is_none+else-prot w ↦
           may_protect _ c.args.info c.args.change _ w.in-Protect.prot w.in-Protect.is
           (absent_by c.args.info w.is_none.result w.is_none.ensures ∙ w.if-is_none.false) (elim w.else-prot.branch [

@@ -4,9 +4,9 @@ use Rattle.backing.proofs.Cached.{page-first, page-none}
 use Rattle.backing.proofs.file_object.FileObject.byte.Goals as goal
 
 pub returns-then-offset-part : goal.returns-then-offset-part
-returns-then-offset-part g c = sym (page-first c.own_part-part.result.now c.args.offset c.requires.offset)
-    ∙ ap (λ (b : Bytes). b c.args.offset) c.own_part-part.ensures.bytes
+returns-then-offset-part g c = sym (page-first c.first_part-part.result.now c.args.offset c.requires.offset)
+    ∙ ap (λ (b : Bytes). b c.args.offset) c.first_part-part.ensures.bytes
 
 pub returns-else-offset-part : goal.returns-else-offset-part
-returns-else-offset-part g c = sym (page-none c.own_part-part.result.now c.args.offset c.requires.offset
-    (omega (arith, c.if-offset-part.false))) ∙ ap (λ (b : Bytes). b c.args.offset) c.own_part-part.ensures.bytes
+returns-else-offset-part g c = sym (page-none c.first_part-part.result.now c.args.offset c.requires.offset
+    (omega (arith, c.if-offset-part.false))) ∙ ap (λ (b : Bytes). b c.args.offset) c.first_part-part.ensures.bytes

@@ -2,11 +2,11 @@ use Rattle.std.proofs.Common.{inl, refl}
 use Rattle.machine_model.specs.declared.event.Event.TheVariants.{Call}
 use Rattle.core_steps.specs.State.{world}
 use Rattle.core_steps.proofs.at_once.AtOnce.{not_begun}
-use Rattle.core_steps.proofs.Reached.{fine, kept_by}
+use Rattle.core_steps.proofs.Reached.{well, kept_by}
 use Rattle.core_steps.proofs.engine.Engine.begin.Goals as goal
 
 pub step-requires : goal.step-requires
-step-requires g c = fine _ c.requires
+step-requires g c = well _ c.requires
 
 pub returns-in-Stepped-clause-reached : goal.returns-in-Stepped-clause-reached
 returns-in-Stepped-clause-reached g c = kept_by g.L.Ledger.keeps c.step.result _ _ (Call c.args.core c.args.request) c.step.ensures.step c.requires

@@ -14,7 +14,7 @@ pub fill-requires-clause-frame : goal.fill-requires-clause-frame
 fill-requires-clause-frame g c = taken_below (world g.M.SlotRead.slots c.args.self.now) c.args.core _ c.requires.at c.args.frame refl
 
 pub fill-requires-clause-cached : goal.fill-requires-clause-cached
-fill-requires-clause-cached g c = cached_below (world g.M.SlotRead.slots c.args.self.now) c.requires.at.fine c.args.file c.args.page
+fill-requires-clause-cached g c = cached_below (world g.M.SlotRead.slots c.args.self.now) c.requires.at.well c.args.file c.args.page
 
 pub set_cached-requires-clause-page : goal.set_cached-requires-clause-page
 set_cached-requires-clause-page g c =
@@ -22,7 +22,7 @@ set_cached-requires-clause-page g c =
 
 pub begin-requires-clause-object : goal.begin-requires-clause-object
 begin-requires-clause-object g c =
-    frame_counted (world g.M.SlotRead.slots c.args.self.now) c.args.frame c.requires.at.fine
+    frame_counted (world g.M.SlotRead.slots c.args.self.now) c.args.frame c.requires.at.well
     (taken_below (world g.M.SlotRead.slots c.args.self.now) c.args.core _ c.requires.at c.args.frame refl)
 
 pub begin-requires-clause-unused : goal.begin-requires-clause-unused

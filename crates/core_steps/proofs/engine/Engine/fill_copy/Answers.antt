@@ -19,11 +19,11 @@ fill-requires-clause-frame g c =
     taken_below (world g.M.SlotRead.slots c.args.self.now) c.args.core (Fill c.args.touch c.args.frame) c.requires.at c.in-Some.frame c.in-Some.is
 
 pub fill-requires-clause-cached : goal.fill-requires-clause-cached
-fill-requires-clause-cached g c = cached_below (world g.M.SlotRead.slots c.args.self.now) c.requires.at.fine c.args.file c.args.page
+fill-requires-clause-cached g c = cached_below (world g.M.SlotRead.slots c.args.self.now) c.requires.at.well c.args.file c.args.page
 
 pub begin-requires-clause-object : goal.begin-requires-clause-object
 begin-requires-clause-object g c =
-    frame_counted (world g.M.SlotRead.slots c.args.self.now) c.in-Some.frame c.requires.at.fine
+    frame_counted (world g.M.SlotRead.slots c.args.self.now) c.in-Some.frame c.requires.at.well
     (taken_below _ c.args.core (Fill c.args.touch c.args.frame) c.requires.at c.in-Some.frame c.in-Some.is)
 
 pub begin-requires-clause-unused : goal.begin-requires-clause-unused

@@ -14,7 +14,7 @@ fill_zero-requires g c = taken_below _ c.args.core (Fill c.args.touch c.args.fra
 
 pub begin-requires-clause-object : goal.begin-requires-clause-object
 begin-requires-clause-object g c =
-    frame_counted (world g.M.SlotRead.slots c.args.self.now) c.in-Some.frame c.requires.at.fine
+    frame_counted (world g.M.SlotRead.slots c.args.self.now) c.in-Some.frame c.requires.at.well
     (taken_below _ c.args.core (Fill c.args.touch c.args.frame) c.requires.at c.in-Some.frame c.in-Some.is)
 
 pub begin-requires-clause-unused : goal.begin-requires-clause-unused

@@ -10,18 +10,18 @@ use Rattle.core_steps.proofs.engine.Engine.give_up.Goals as goal
 pub range_held-requires : goal.range_held-requires
 range_held-requires g c =
     goal_in_sound (world g.M.SlotRead.slots c.args.self.now) c.args.core c.phase_of-phase.result
-    (record { here = c.requires.here; phase = sym c.phase_of-phase.ensures; fine = c.requires.fine })
+    (record { here = c.requires.here; phase = sym c.phase_of-phase.ensures; well = c.requires.well })
 
 pub reply-requires-clause-room : goal.reply-requires-clause-room
 reply-requires-clause-room g c =
     let can : can_give_up c.phase_of-phase.result ≡ true = search rules in
     room_for (world g.M.SlotRead.slots c.args.self.now) c.args.core c.phase_of-phase.result
-    (record { here = c.requires.here; phase = sym c.phase_of-phase.ensures; fine = c.requires.fine }) (opened c.phase_of-phase.result can)
+    (record { here = c.requires.here; phase = sym c.phase_of-phase.ensures; well = c.requires.well }) (opened c.phase_of-phase.result can)
 
 pub give_back-requires : goal.give_back-requires
 give_back-requires g c =
     rw c.taken_in.ensures (taken_here (world g.M.SlotRead.slots c.args.self.now) c.args.core c.phase_of-phase.result
-    (record { here = c.requires.here; phase = sym c.phase_of-phase.ensures; fine = c.requires.fine }))
+    (record { here = c.requires.here; phase = sym c.phase_of-phase.ensures; well = c.requires.well }))
 
 pub returns-then-not-can_give_up : goal.returns-then-not-can_give_up
 returns-then-not-can_give_up g c =

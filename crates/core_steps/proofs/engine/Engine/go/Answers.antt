@@ -10,7 +10,7 @@ go_check-requires-clause-room g c =
     let phases = c.args.self.now.calls.phases.items in
     let at = read_at phases c.args.core c.index.result _ _ c.requires.here c.index.ensures.value c.index-2.ensures c.in-Check.is in
     room_for (world g.M.SlotRead.slots c.args.self.now) c.args.core (Check c.in-Check.request)
-    (record { here = c.requires.here; phase = at; fine = c.requires.fine }) refl
+    (record { here = c.requires.here; phase = at; well = c.requires.well }) refl
 
 pub returns-in-Fill-clause-row : goal.returns-in-Fill-clause-row
 returns-in-Fill-clause-row g c =

@@ -14,10 +14,10 @@ pub make_change-requires-clause-mapped : goal.make_change-requires-clause-mapped
 make_change-requires-clause-mapped g c = acks_mapped _ c.args.core _ _ c.requires
 
 pub make_change-requires-clause-here : goal.make_change-requires-clause-here
-make_change-requires-clause-here g c = core_counted (world g.M.SlotRead.slots c.args.self.now) c.args.core c.requires.fine c.requires.here
+make_change-requires-clause-here g c = core_counted (world g.M.SlotRead.slots c.args.self.now) c.args.core c.requires.well c.requires.here
 
 pub make_change-requires-clause-counted : goal.make_change-requires-clause-counted
-make_change-requires-clause-counted g c = are_counted (world g.M.SlotRead.slots c.args.self.now) c.requires.fine
+make_change-requires-clause-counted g c = are_counted (world g.M.SlotRead.slots c.args.self.now) c.requires.well
 
 pub range-requires : goal.range-requires
 range-requires g c = acks_goal _ c.args.core _ _ c.requires

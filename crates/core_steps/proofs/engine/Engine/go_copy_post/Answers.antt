@@ -2,7 +2,7 @@ use Rattle.std.proofs.Common.{refl, sym, ap, ◌∙◌}
 use Rattle.vm_base.specs.Cores.{members}
 use Rattle.slot_lock.specs.declared.plan.Plan.TheVariants as PlanOf
 use Rattle.machine_model.specs.declared.phase.Phase.TheVariants.{CopyPost}
-use Rattle.machine_model.specs.Filling.{cores_of}
+use Rattle.vm_base.specs.Info.{recorded_cores}
 use Rattle.machine_model.specs.Holding.{page_of_touch}
 use Rattle.core_steps.specs.State.{world}
 use Rattle.core_steps.proofs.rows.Framing.{told_here}
@@ -28,5 +28,5 @@ shoot-requires-clause-idle g c =
 
 pub shoot-requires-clause-within : goal.shoot-requires-clause-within
 shoot-requires-clause-within g c = λ d h.
-    rw c.args.self.now.same_cores (told_here (world g.M.SlotRead.slots c.args.self.now) c.args.touch.page d c.requires.fine
-    (sym (ap (λ s. members s d) (c.cores_of-shoot.ensures ∙ ap cores_of c.page.ensures)) ∙ h))
+    rw c.args.self.now.same_cores (told_here (world g.M.SlotRead.slots c.args.self.now) c.args.touch.page d c.requires.well
+    (sym (ap (λ s. members s d) (c.recorded_cores-shoot.ensures.value ∙ ap recorded_cores c.page.ensures)) ∙ h))

@@ -18,7 +18,7 @@ shoot_alone-requires-clause-dropped g c = λ out.
 
 pub count_page-requires-clause-here : goal.count_page-requires-clause-here
 count_page-requires-clause-here g c =
-    core_counted (world g.M.SlotRead.slots c.args.self.now) c.args.core c.requires.change.at.fine c.requires.change.at.here
+    core_counted (world g.M.SlotRead.slots c.args.self.now) c.args.core c.requires.change.at.well c.requires.change.at.here
 
 pub count_page-requires-clause-counted : goal.count_page-requires-clause-counted
 count_page-requires-clause-counted g c = is_counted _ c.args.core c.args.change c.args.page _ c.requires.change

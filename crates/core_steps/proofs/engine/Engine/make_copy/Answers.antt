@@ -10,7 +10,7 @@ use Rattle.core_steps.proofs.engine.Engine.make_copy.Goals as goal
 
 pub copy-requires-clause-from : goal.copy-requires-clause-from
 copy-requires-clause-from g c =
-    page_frame_here (world g.M.SlotRead.slots c.args.self.now) c.args.touch.page c.args.shown c.requires.at.fine
+    page_frame_here (world g.M.SlotRead.slots c.args.self.now) c.args.touch.page c.args.shown c.requires.at.well
     (ap frame_of c.requires.page ∙ c.requires.shown)
 
 pub copy-requires-clause-to : goal.copy-requires-clause-to
@@ -18,7 +18,7 @@ copy-requires-clause-to g c = taken_below (world g.M.SlotRead.slots c.args.self.
 
 pub begin-requires-clause-object : goal.begin-requires-clause-object
 begin-requires-clause-object g c =
-    frame_counted (world g.M.SlotRead.slots c.args.self.now) c.args.frame c.requires.at.fine
+    frame_counted (world g.M.SlotRead.slots c.args.self.now) c.args.frame c.requires.at.well
     (taken_below (world g.M.SlotRead.slots c.args.self.now) c.args.core _ c.requires.at c.args.frame refl)
 
 pub begin-requires-clause-unused : goal.begin-requires-clause-unused
@@ -27,18 +27,18 @@ begin-requires-clause-unused g c = taken_unused (world g.M.SlotRead.slots c.args
 pub dec-requires-clause-core : goal.dec-requires-clause-core
 dec-requires-clause-core g c =
     subst (λ n. c.args.core < n) (sym c.begin.ensures.size.0)
-    (core_counted (world g.M.SlotRead.slots c.args.self.now) c.args.core c.requires.at.fine c.requires.at.here)
+    (core_counted (world g.M.SlotRead.slots c.args.self.now) c.args.core c.requires.at.well c.requires.at.here)
 
 pub dec-requires-clause-object : goal.dec-requires-clause-object
 dec-requires-clause-object g c =
     let w = world g.M.SlotRead.slots c.args.self.now in
     let had = ap frame_of c.requires.page ∙ c.requires.shown in
     subst (λ n. c.args.shown < n) (sym c.begin.ensures.size.1)
-    (frame_counted w c.args.shown c.requires.at.fine (page_frame_here w c.args.touch.page c.args.shown c.requires.at.fine had))
+    (frame_counted w c.args.shown c.requires.at.well (page_frame_here w c.args.touch.page c.args.shown c.requires.at.well had))
 
 pub dec-requires-clause-used : goal.dec-requires-clause-used
 dec-requires-clause-used g c =
-    page_frame_used (world g.M.SlotRead.slots c.args.self.now) c.args.touch.page c.args.frame c.args.shown _ c.requires.at.fine
+    page_frame_used (world g.M.SlotRead.slots c.args.self.now) c.args.touch.page c.args.frame c.args.shown _ c.requires.at.well
     (ap frame_of c.requires.page ∙ c.requires.shown) c.begin.ensures.step
 
 pub set_leaf-requires-clause-valid : goal.set_leaf-requires-clause-valid

@@ -10,18 +10,18 @@ pub give_back-requires : goal.give_back-requires
 give_back-requires g c = taken_here (world g.M.SlotRead.slots c.args.self.now) c.args.core (Fill c.args.touch c.args.own) c.requires.at
 
 pub inc-requires-clause-core : goal.inc-requires-clause-core
-inc-requires-clause-core g c = core_counted (world g.M.SlotRead.slots c.args.self.now) c.args.core c.requires.at.fine c.requires.at.here
+inc-requires-clause-core g c = core_counted (world g.M.SlotRead.slots c.args.self.now) c.args.core c.requires.at.well c.requires.at.here
 
 pub inc-requires-clause-object : goal.inc-requires-clause-object
 inc-requires-clause-object g c =
-    frame_counted (world g.M.SlotRead.slots c.args.self.now) c.args.cached c.requires.at.fine
-    (shown_here (world g.M.SlotRead.slots c.args.self.now) _ c.args.cached c.requires.at.fine c.requires.cached)
+    frame_counted (world g.M.SlotRead.slots c.args.self.now) c.args.cached c.requires.at.well
+    (shown_here (world g.M.SlotRead.slots c.args.self.now) _ c.args.cached c.requires.at.well c.requires.cached)
 
 pub inc-requires-clause-used : goal.inc-requires-clause-used
-inc-requires-clause-used g c = shown_used (world g.M.SlotRead.slots c.args.self.now) _ c.args.cached c.requires.at.fine c.requires.cached
+inc-requires-clause-used g c = shown_used (world g.M.SlotRead.slots c.args.self.now) _ c.args.cached c.requires.at.well c.requires.cached
 
 pub inc-requires-clause-few : goal.inc-requires-clause-few
-inc-requires-clause-few g c = counted_few (world g.M.SlotRead.slots c.args.self.now) c.args.cached c.requires.at.fine
+inc-requires-clause-few g c = counted_few (world g.M.SlotRead.slots c.args.self.now) c.args.cached c.requires.at.well
 
 pub set_frame-requires : goal.set_frame-requires
 set_frame-requires g c = fill_alone (world g.M.SlotRead.slots c.args.self.now) c.args.core c.args.touch c.args.own c.requires.at

@@ -1,6 +1,6 @@
 use Rattle.std.proofs.Common.{rules}
 use Rattle.core_steps.proofs.rows.Framing.{read_at}
-use Rattle.core_steps.proofs.Reached.{fine, steps_reached}
+use Rattle.core_steps.proofs.Reached.{well, steps_reached}
 use Rattle.core_steps.proofs.engine.Engine.steps_at_once.Goals as goal
 
 pub lock_at_once-requires-clause-at : goal.lock_at_once-requires-clause-at
@@ -9,7 +9,7 @@ lock_at_once-requires-clause-at g c =
     record {
       here = search rules;
       phase = read_at phases c.args.core c.index.result _ _ (search rules) c.index.ensures.value c.index-2.ensures c.in-Lock.is;
-      fine = fine _ c.requires;
+      well = well _ c.requires;
     }
 
 pub unlock_slots-requires-clause-at : goal.unlock_slots-requires-clause-at
@@ -18,7 +18,7 @@ unlock_slots-requires-clause-at g c =
     record {
       here = search rules;
       phase = read_at phases c.args.core c.index.result _ _ (search rules) c.index.ensures.value c.index-2.ensures c.in-Unlock.is;
-      fine = fine _ c.requires;
+      well = well _ c.requires;
     }
 
 pub returns-in-Lock-clause-reached : goal.returns-in-Lock-clause-reached

@@ -6,7 +6,7 @@ use Rattle.core_steps.proofs.rows.Rows.{cleared, invalidated, none_left, nothing
 use Rattle.core_steps.proofs.engine.Engine.take.Goals as goal
 
 pub clear_tables-requires-clause-pages : goal.clear_tables-requires-clause-pages
-clear_tables-requires-clause-pages g c = message_pages (world g.M.SlotRead.slots c.args.self.now) c.args.core c.requires.fine _ c.in-Clear.ensures.took
+clear_tables-requires-clause-pages g c = message_pages (world g.M.SlotRead.slots c.args.self.now) c.args.core c.requires.well _ c.in-Clear.ensures.took
 
 pub returns-in-Clear : goal.returns-in-Clear
 returns-in-Clear g c =

@@ -14,6 +14,6 @@ returns g c = elim c.else-is_valid.branch [
   | else-is_valid-via-else-is_valid w ↦
       not_walked (world g.M.SlotRead.slots c.args.self.now) _ c.args.core c.args.page
       (no_entry (world g.M.SlotRead.slots c.args.self.now).hardware c.args.core c.args.page
-      (no_page_entry (world g.M.SlotRead.slots c.args.self.now) c.args.core c.args.page c.requires.fine (sym c.is_valid.ensures ∙ w.if-is_valid.false)))
+      (no_page_entry (world g.M.SlotRead.slots c.args.self.now) c.args.core c.args.page c.requires.well (sym c.is_valid.ensures ∙ w.if-is_valid.false)))
       (rw w.self-is refl)
 ]

@@ -2,7 +2,7 @@ use Rattle.std.proofs.Common.{◌≡◌, ◌∙◌, List, ℕ, ap, length, rules
 use Rattle.vm_base.specs.Plain.{page_bytes}
 use Rattle.backing.specs.Files.{FileParts}
 use Rattle.backing.proofs.Cached.{part-cut}
-use Rattle.backing.proofs.file_object.FileObject.own_part.Goals as goal
+use Rattle.backing.proofs.file_object.FileObject.first_part.Goals as goal
 
 pub returns-clause-bytes : goal.returns-clause-bytes
 returns-clause-bytes g c =
