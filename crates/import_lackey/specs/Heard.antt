@@ -1,6 +1,7 @@
 -- What a line of lackey says.
 use Rattle.std.specs.Prelude.{ℕ, ◌^◌, ◌/◌, ◌%◌, Bool, true, false, List, Option, None, Some, if◌then◌else◌, ◌==◌, nat_lt, codes, unwrap_or}
 use Rattle.std.specs.Str.{bytes_eq}
+use Rattle.trace_text.specs.Number.{number_of}
 use Rattle.trace_text.specs.Request.{◌>>=◌}
 use Rattle.trace_text.specs.Words.{byte}
 use Rattle.vm_base.specs.declared.rights.Prot.{Prot}
@@ -71,6 +72,10 @@ flags_heard bits = record { private = bits / 2 % 2 == 1; shared = bits % 2 == 1;
 abbrev pub is_plain : ℕ → Bool
 is_plain bits = if bits / 2 ^ 18 % 2 == 1 then false else if bits / 256 % 2 == 1 then false else has_kind (flags_heard bits)
 
+-- the descriptor that a token spells; where there is no file it says nothing, and may be -1
+abbrev pub descriptor_heard : Bool → Token → Option ℕ
+descriptor_heard anon token = if anon then Some 0 else number_of token
+
 -- `HINT, LEN, PROT, FLAGS, DESCRIPTOR, OFF`: a mapping at the address that the kernel gave
 unfoldable pub mmap_heard : List ℕ → ℕ → Option Request
 mmap_heard args addr = do
@@ -78,9 +83,10 @@ mmap_heard args addr = do
   len ← front_count hint.1
   prot ← front_count len.1
   bits ← front_count prot.1
-  file ← front_count bits.1
-  off ← front_count file.1
-  if is_plain bits.0 then Some (Mmap addr len.0 (rights_heard prot.0) (flags_heard bits.0) file.0 off.0) else None
+  token ← front_token bits.1
+  file ← descriptor_heard (flags_heard bits.0).anon token.0
+  off ← front_count token.1
+  if is_plain bits.0 then Some (Mmap addr len.0 (rights_heard prot.0) (flags_heard bits.0) file off.0) else None
 
 -- `ADDR, LEN`
 unfoldable pub munmap_heard : List ℕ → Option Request

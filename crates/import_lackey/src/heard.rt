@@ -1,10 +1,11 @@
 //! What a line of lackey says: an access, or a call of the system.
 ghost use Rattle.std.specs.Prelude.{◌≡◌, option_map};
-ghost use Rattle.import_lackey.specs.Heard.{access_named, call_heard, call_named, done_heard, flags_heard, heard_of, is_plain, known_heard};
+ghost use Rattle.import_lackey.specs.Heard.{access_named, call_heard, call_named, descriptor_heard, done_heard, flags_heard, heard_of, is_plain, known_heard};
 ghost use Rattle.import_lackey.specs.Heard.{mmap_heard, mprotect_heard, mremap_heard, munmap_heard, outcome_heard, outcome_of, rights_heard, touch_heard};
 
 use import_text::said::{Said, asked, has_kind};
 use import_text::tokens::{next_count, next_token, read_hexadecimal, read_only, split_last};
+use trace_text::number::read_number;
 use vm_base::{Flags, Prot, Request};
 
 /// How memory is accessed.
@@ -167,6 +168,16 @@ fn is_plain(bits: u64) -> bool
     has_kind(read_flags(bits))
 }
 
+// The descriptor that a token spells. Where there is no file it says nothing: some libraries pass -1 in 64 bits.
+fn read_descriptor(token: &[u8], anon: bool) -> Option<u64>
+    ensures { result ≡ descriptor_heard anon token.now }
+{
+    if anon {
+        return Some(0);
+    }
+    read_number(token)
+}
+
 // `HINT, LEN, PROT, FLAGS, DESCRIPTOR, OFF`, placed at this address.
 #[tactic(auto, unfolding(crate::specs::Heard::mmap_heard))]
 fn read_mmap(args: &[u8], addr: u64) -> Option<Request>
@@ -176,7 +187,9 @@ fn read_mmap(args: &[u8], addr: u64) -> Option<Request>
     let (len, rest) = next_count(rest)?;
     let (prot, rest) = next_count(rest)?;
     let (bits, rest) = next_count(rest)?;
-    let (file, rest) = next_count(rest)?;
+    let (token, rest) = next_token(rest)?;
+    let flags = read_flags(bits);
+    let file = read_descriptor(token, flags.anon)?;
     let (off, _) = next_count(rest)?;
     if !is_plain(bits) {
         return None;
@@ -185,7 +198,7 @@ fn read_mmap(args: &[u8], addr: u64) -> Option<Request>
         addr,
         len,
         prot: read_rights(prot),
-        flags: read_flags(bits),
+        flags,
         file,
         off,
     })

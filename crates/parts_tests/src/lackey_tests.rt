@@ -14,6 +14,8 @@ SYSCALL[14808,1](9) sys_mmap ( 0x0, 8192, 3, 34, 4294967295, 0 ) --> [pre-succes
  L 04835008,8
  M 04836000,4
 SYSCALL[14808,1](9) sys_mmap ( 0x0, 16400, 1, 2050, 3, 0 ) --> [pre-success] Success(0x4837000) 
+SYSCALL[14808,1](9) sys_mmap ( 0x0, 4096, 5, 33, -1, 0 ) --> [pre-success] Success(0x6000000) 
+SYSCALL[14808,1](9) sys_mmap ( 0x0, 4096, 5, 2, -1, 0 ) --> [pre-success] Success(0x7000000) 
 SYSCALL[14808,1](12) sys_brk ( 0x0 ) --> [pre-success] Success(0x4035000) 
 SYSCALL[14808,1](12) sys_brk ( 0x403a000 ) --> [pre-success] Success(0x403a000) 
  S 04035010,1
@@ -38,6 +40,7 @@ c0! load 0x4835008
 c0! load 0x4836000
 c0! store 0x4836000 0
 c0! mmap 0x4837000 16400 r-- pf 0 0x0
+c0! mmap 0x6000000 4096 r-x sfa
 c0! mmap 0x4035000 20480 rw- pfa
 c0! store 0x4035010 0
 c0! munmap 0x4835000 8192
@@ -57,10 +60,11 @@ fn made(alloc: Global, log: &str) -> Result<(Vec<u8>, Counts), AllocError> {
 fn accesses_become_a_trace(rt: HostRuntime) -> Result<(), Fail> {
     let (text, counts) = made(rt.alloc(), LOG)?;
     let wanted = Counts {
-        kept: 9,
+        kept: 10,
         heap: 1,
         moves: 1,
         failed: 1,
+        unread: 1,
         still: 1,
         other: 2,
         ..Counts::new()
