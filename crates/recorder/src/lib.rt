@@ -1,8 +1,10 @@
-//! Who watches a run and records what happened in a range of its steps, for a picture.
+//! Who watches a run for a picture: of what happened in a range of its steps, or of all changes of mappings.
 #![tactic(auto)]
 
+pub mod changes;
 pub mod looking;
 pub mod recorder;
 pub mod recording;
 
+pub use changes::ChangeRecorder;
 pub use recorder::Recorder;

@@ -97,8 +97,8 @@ fn first_teller<M: SlotMap, A: Allocator + Clone, L: Ledger>(
     first
 }
 
-// Where the core's call stands; a core that isn't there has none.
-fn phase_in<M: SlotMap, A: Allocator + Clone, L: Ledger>(
+/// Where the core's call stands; a core that isn't there has none.
+pub fn phase_in<M: SlotMap, A: Allocator + Clone, L: Ledger>(
     machine: &Machine<M, A, L>,
     core: CoreId,
 ) -> Phase

@@ -1,6 +1,6 @@
 //! A recorder, and what it keeps of each step.
 ghost use Rattle.std.specs.Prelude.{◌≡◌, ◌≤◌, IfOk, vec_capacity, vec_len};
-ghost use Rattle.recorder.specs.Recording.{Recording};
+ghost use Rattle.recorder.specs.Recording.{Recording, made};
 
 use picture::moments::{Deed, Moment, Pass, Recorded};
 use slot_lock::Change;
@@ -23,6 +23,23 @@ pub struct Pending {
     pub core: CoreId,
     /// What it asks for.
     pub request: Request,
+}
+
+/// What a change makes of its pages.
+pub fn moment_of(change: &Change) -> Moment
+    ensures { result ≡ made change.now }
+{
+    match change {
+        Change::Put { range, meta } => Moment::Mapped {
+            pages: *range,
+            prot: meta.prot,
+        },
+        Change::Clear { range } => Moment::Unmapped { pages: *range },
+        Change::Protect { range, prot } => Moment::Mapped {
+            pages: *range,
+            prot: *prot,
+        },
+    }
 }
 
 /// Records what happens in the steps of a range, 2,000 at most. Its memory is taken when it is made. A clause sees it as
@@ -228,17 +245,7 @@ impl<A: Allocator> Recorder<A> {
     pub fn make(&mut self, change: &Change)
         ensures { self.new ≡ change_made self.old change.now }
     {
-        self.note(match change {
-            Change::Put { range, meta } => Moment::Mapped {
-                pages: *range,
-                prot: meta.prot,
-            },
-            Change::Clear { range } => Moment::Unmapped { pages: *range },
-            Change::Protect { range, prot } => Moment::Mapped {
-                pages: *range,
-                prot: *prot,
-            },
-        });
+        self.note(moment_of(change));
     }
 
     /// The core made this take of the sender's message.
