@@ -17,7 +17,7 @@ ghost use Rattle.radixvm.specs.Picture.{PictureEnds};
 ghost use Rattle.radixvm.specs.Status.{audit_status, certified_live_status, certified_status, import_status, live_status, words_status};
 ghost use Rattle.radixvm.specs.declared.help.Topic.{Topic};
 ghost use Rattle.radixvm.specs.declared.job.Shows.{Shows};
-ghost use Rattle.radixvm.specs.declared.picturing.Steps.{Steps};
+ghost use Rattle.radixvm.specs.declared.picturing.Drawing.{Drawing};
 ghost use Rattle.trace.specs.Ends.{Ends, TellsFaults};
 ghost use Rattle.trace.specs.Shown.{limit_for};
 ghost use Rattle.trace.specs.Status.{status_of};
@@ -32,7 +32,7 @@ use crate::importing::import;
 use crate::input::{Files, input, list};
 use crate::job::{Shows, run, run_echoing};
 use crate::live::{certify_live, live};
-use crate::picturing::{Steps, picture};
+use crate::picturing::{Drawing, Steps, picture};
 use clap::error::ErrorKind;
 use clap::{Arg, ArgAction, ArgMatches, Command, Error, value_parser};
 use core_steps::CallLimit;
@@ -67,8 +67,8 @@ enum Work {
     Import(Option<u64>),
     // The judgement of replies, at any place or at the first ones.
     Audit(bool),
-    // A picture of these steps of a trace.
-    Picture(Steps),
+    // A picture of a trace, of its steps or of lives.
+    Picture(Drawing),
 }
 
 // What is asked for.
@@ -113,7 +113,7 @@ const MAPS_USAGE: &str = "radixvm maps [--long] [--explain] [FILE]";
 
 const IMPORT_USAGE: &str = "radixvm import [--pid N] [--maps FILE] [FILE]";
 
-const PICTURE_USAGE: &str = "radixvm picture [--from N] [--to N] [FILE]";
+const PICTURE_USAGE: &str = "radixvm picture [--lives | [--from N] [--to N]] [FILE]";
 
 // The word `run` with what may stand behind it.
 fn running<'a>(alloc: Global) -> Result<Command<'a>, AllocError> {
@@ -140,9 +140,13 @@ fn number<'a>(alloc: Global, name: &'static str) -> Arg<'a> {
 
 // The word `picture` with what may stand behind it.
 fn picturing<'a>(alloc: Global) -> Result<Command<'a>, AllocError> {
+    let lives = flag(alloc, "lives")
+        .conflicts_with("from")?
+        .conflicts_with("to")?;
     let command = reading(alloc, "picture", PICTURE_USAGE)?
         .arg(number(alloc, "from"))?
-        .arg(number(alloc, "to"))?;
+        .arg(number(alloc, "to"))?
+        .arg(lives)?;
     Ok(command)
 }
 
@@ -257,12 +261,15 @@ fn echoing<'a>(words: &ArgMatches<'a>) -> Task<'a>
     }
 }
 
-// The steps that these words of the word `picture` ask for: from 1 on, and to the end, where none are named.
-fn steps_of<'a>(words: &ArgMatches<'a>) -> Steps {
-    Steps {
+// What these words of the word `picture` ask for: lives, or steps, from 1 on, and to the end, where none are named.
+fn drawing_of<'a>(words: &ArgMatches<'a>) -> Drawing {
+    if words.get_flag("lives") {
+        return Drawing::Lives;
+    }
+    Drawing::Steps(Steps {
         first: words.get_one("from").unwrap_or(1).max(1),
         last: words.get_one("to").unwrap_or(u64::MAX),
-    }
+    })
 }
 
 // This work with the text that the words name.
@@ -311,7 +318,7 @@ fn matched<'a, A: Allocator>(
         Some(("live", live)) => Ok(Ok(working(Work::Live, live))),
         Some(("import", import)) => Ok(Ok(importing(import))),
         Some(("audit", audit)) => Ok(Ok(working(Work::Audit(audit.get_flag("any-place")), audit))),
-        Some(("picture", picture)) => Ok(Ok(working(Work::Picture(steps_of(picture)), picture))),
+        Some(("picture", picture)) => Ok(Ok(working(Work::Picture(drawing_of(picture)), picture))),
         Some((_, help)) => Ok(Err(topic_named(help.get_str("TOPIC")))),
         None => Ok(Err(Topic::Overview)),
     }
@@ -478,10 +485,10 @@ fn act<T: Threads + Wait + Sync, R: Runner<Global>, L: Source, S: Source, W: Sin
         (λ input unread. AuditEnds any input (W.contents out.old) (W.contents out.new) r)
         × TellsAudit r (S.failed reader.new) (S.reads reader.new)
         (W.failed out.old) (W.failed out.new) (W.is_flushed out.new)) }
-    ensures pictured { IfOk parsed.entry (λ task. (steps : Steps) → task.work ≡ Work.Picture steps
+    ensures pictured { IfOk parsed.entry (λ task. (drawing : Drawing) → task.work ≡ Work.Picture drawing
         → (r : Result Unit TraceFault) × (result ≡ status_of r)
         × Reads (S.stream reader.old) (S.stream reader.new)
-        (λ input unread. PictureEnds steps.first steps.last input unread (W.contents out.old) (W.contents out.new) r)
+        (λ input unread. PictureEnds drawing input unread (W.contents out.old) (W.contents out.new) r)
         × TellsFaults r (S.failed reader.new) (S.reads reader.new)
         (W.failed out.old) (W.failed out.new) (W.is_flushed out.new)) }
     ensures within { result ≤ 3 }
@@ -497,7 +504,7 @@ fn act<T: Threads + Wait + Sync, R: Runner<Global>, L: Source, S: Source, W: Sin
             Work::CertifyLive => certify_live(rt, runner, alloc, reader, out, errors),
             Work::Import(thread) => import(alloc, list, reader, out, errors, thread),
             Work::Audit(any_place) => audit(alloc, reader, out, errors, any_place),
-            Work::Picture(steps) => picture(alloc, reader, out, errors, steps),
+            Work::Picture(drawing) => picture(alloc, reader, out, errors, drawing),
         },
         Err(told) => tell(alloc, &told, out, errors),
     }

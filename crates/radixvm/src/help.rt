@@ -13,7 +13,7 @@ pub const USAGE: &str = "radixvm run [--log | [--echo | --summary] [--long]] [--
        radixvm live [--certify] [FILE]
        radixvm import [--pid N] [--maps FILE] [FILE]
        radixvm audit [--any-place] [FILE]
-       radixvm picture [--from N] [--to N] [FILE]
+       radixvm picture [--lives | [--from N] [--to N]] [FILE]
        radixvm help [TOPIC]";
 
 /// What the program is for, its words, and where to read on.
@@ -27,7 +27,7 @@ Usage: radixvm run [--log | [--echo | --summary] [--long]] [--explain] [FILE]
        radixvm live [--certify] [FILE]
        radixvm import [--pid N] [--maps FILE] [FILE]
        radixvm audit [--any-place] [FILE]
-       radixvm picture [--from N] [--to N] [FILE]
+       radixvm picture [--lives | [--from N] [--to N]] [FILE]
        radixvm help [TOPIC]
 
 Words:
@@ -46,7 +46,8 @@ Words:
   import         reads a log of strace, and writes a trace of what a program did
   audit          reads calls with the replies that another address space gave,
                  and says whether they are those of a plain page map
-  picture        reads a trace, and writes a picture of what happened, as SVG
+  picture        reads a trace, and writes a picture of what happened, as SVG;
+                 with --lives of the lives of mappings over the whole trace
   FILE           the file that is read; without it, or for -, standard input
   --long         lets the trace ask for more calls, but not beside --log
   --explain      shows under a fault the line, the word, and what was expected
@@ -517,6 +518,11 @@ to read what it is.
   --from N  the first step that is shown: 1 where it is left out
   --to N    the last one. 2000 steps are shown at most, which is then said on
             standard error
+  --lives   in place of that the lives of mappings over the whole trace, however
+            long it is. A row is as above, and in it lies a rectangle from each
+            step in which its pages are mapped, or get other rights, to the
+            first that changes them. 2000 are shown at most, from the lowest
+            pages on, and the picture says so. Not beside --from or --to
 
 Status: as for run. After a fault there is no picture.
 ";

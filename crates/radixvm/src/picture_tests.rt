@@ -6,6 +6,8 @@ use std::thread::Threads;
 
 const PICTURE: &[&[u8]] = &[b"radixvm", b"picture"];
 
+const LIVES: &[&[u8]] = &[b"radixvm", b"picture", b"--lives"];
+
 const FROM_9: &[&[u8]] = &[b"radixvm", b"picture", b"--from", b"9"];
 
 // Two cores use a page, which one of them unmaps: the other core is told, and takes the message twice.
@@ -147,6 +149,58 @@ fn no_steps(rt: HostRuntime) {
     assert!(rt; ran.out.starts_with(b"<svg ") && count(&ran.out, "core 0") == 0);
 }
 
+// What stands between the titles' begin and end, behind a place, and where that ends.
+fn title_from(text: &[u8], from: usize) -> Option<(&[u8], usize)> {
+    let begin = place_of(text, "<title>0x", from)?;
+    let end = place_of(text, "</title>", begin)?;
+    Some((text.get(begin..end)?, end))
+}
+
+// How many titles of pages the one text has, and whether each of them stands in the other.
+fn shared_titles(one: &[u8], other: &[u8]) -> (u64, bool) {
+    let mut at = 0;
+    let mut count = 0u64;
+    for _title in 0..one.len() {
+        let Some((title, end)) = title_from(one, at) else {
+            return (count, true);
+        };
+        let Ok(title) = str::from_utf8(title) else {
+            return (count, false);
+        };
+        if place_of(other, title, 0).is_none() {
+            return (count, false);
+        }
+        count = count.saturating_add(1);
+        at = end;
+    }
+    (count, true)
+}
+
+// In the picture of lives pages have the titles that they have in that of all steps.
+#[test]
+fn lives_of_a_short_trace(rt: HostRuntime) {
+    for (input, lives) in [(SHOT, 1), (TWICE, 2)] {
+        let steps = drawn((rt.alloc(), &rt), PICTURE, input);
+        let text = drawn((rt.alloc(), &rt), LIVES, input);
+        assert!(rt; shared_titles(&steps, &text) == (lives, true));
+        assert!(rt; shared_titles(&text, &steps) == (lives, true));
+        assert!(rt; count(&text, "<rect class=\"munmap\"") == 0);
+    }
+}
+
+// A mapping behind step 2000, which the picture of steps doesn't reach, and one that goes again.
+#[test]
+fn lives_of_a_long_trace(rt: HostRuntime) {
+    let mut text = loads(rt.alloc(), 1100);
+    let _ = text.extend_from_slice(b"c0! mmap 0x10000 8192 rw- pfa\nc0! munmap 0x11000 4096\n");
+    let ran = run_words((rt.alloc(), &rt), &rt.alloc(), PICTURE, &text, AMPLE);
+    assert!(rt; count(&ran.out, "<title>0x10000-") == 0);
+    let lives = drawn((rt.alloc(), &rt), LIVES, &text);
+    assert!(rt; count(&lives, ">2 lives of mappings, over ") == 1);
+    assert!(rt; count(&lives, "<title>0x10000-0x11000 rw-, from step ") == 1);
+    assert!(rt; count(&lives, "<title>0x11000-0x12000 rw-, steps ") == 1);
+}
+
 // After a fault of the trace there is no picture.
 #[test]
 fn faults(rt: HostRuntime) {
@@ -160,11 +214,13 @@ fn faults(rt: HostRuntime) {
     ] {
         let text = text_of(rt.alloc(), input);
         let came = (b"".as_slice(), told.as_bytes(), status);
-        let comes = match text {
-            Some(text) => comes_to((rt.alloc(), &rt), PICTURE, &text, AMPLE, came),
-            None => false,
-        };
-        assert!(rt; comes);
+        for words in [PICTURE, LIVES] {
+            let comes = match &text {
+                Some(text) => comes_to((rt.alloc(), &rt), words, text, AMPLE, came),
+                None => false,
+            };
+            assert!(rt; comes);
+        }
     }
     let unread = (b"".as_slice(), b"radixvm: read failed\n".as_slice(), 3);
     let limits = Limits { reads: 5, ..AMPLE };
@@ -183,5 +239,21 @@ fn steps_that_are_none(rt: HostRuntime) {
             let ran = run_words((rt.alloc(), &rt), &rt.alloc(), &words, b"", AMPLE);
             assert!(rt; ran.out.is_empty() && ran.status == 2);
         }
+    }
+}
+
+// Lives are those of all steps.
+#[test]
+fn lives_of_some_steps(rt: HostRuntime) {
+    for name in [b"--from".as_slice(), b"--to"] {
+        let words = [
+            b"radixvm".as_slice(),
+            b"picture".as_slice(),
+            b"--lives".as_slice(),
+            name,
+            b"2".as_slice(),
+        ];
+        let ran = run_words((rt.alloc(), &rt), &rt.alloc(), &words, SHOT, AMPLE);
+        assert!(rt; ran.out.is_empty() && ran.status == 2);
     }
 }
