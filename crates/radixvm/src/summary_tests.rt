@@ -1,5 +1,8 @@
 //! What `run --summary` tells of runs whose numbers are counted by hand.
-use crate::tests::{AMPLE, comes_to};
+use crate::tests::{AMPLE, comes_to, run_words};
+use std::alloc::Global;
+use std::sync::Wait;
+use std::thread::Threads;
 
 const SUMMED: &[&[u8]] = &[b"radixvm", b"run", b"--summary"];
 
@@ -45,4 +48,25 @@ fn no_numbers(rt: HostRuntime) {
             (b"segv maperr\n", b"radixvm: line 3: bad line\n", 2)
         )
     );
+}
+
+// Whether `run` with these two words is refused, and it is told that they don't go together.
+fn is_refused<T: Threads + Wait + Sync>(
+    (alloc, rt): (Global, &T),
+    words: [&[u8]; 2],
+    fault: &[u8],
+) -> bool {
+    let all = [b"radixvm".as_slice(), b"run", words[0], words[1]];
+    let ran = run_words((alloc, rt), &alloc, &all, SHOT, AMPLE);
+    ran.out.is_empty() && ran.errors.starts_with(fault) && ran.status == 2
+}
+
+// Numbers go beside neither the log nor lines that are shown.
+#[test]
+fn numbers_beside_others(rt: HostRuntime) {
+    let with_log = b"radixvm: the argument '--summary' cannot be used with '--log'\n".as_slice();
+    let with_echo = b"radixvm: the argument '--summary' cannot be used with '--echo'\n".as_slice();
+    for (other, fault) in [(b"--log".as_slice(), with_log), (b"--echo", with_echo)] {
+        assert!(rt; is_refused((rt.alloc(), &rt), [b"--summary", other], fault));
+    }
 }
