@@ -1,6 +1,7 @@
 #!/usr/bin/env bash
 # Measures how fast `radixvm import` reads a log of strace: the log of examples/real/heap.log again and again, each time with other
-# threads, 20,000,000 bytes or as many as are asked for. Five runs (or RUNS, if set), the median of the real time. Aim: 20 MB a second.
+# threads, 20,000,000 bytes or as many as are asked for; and a log of valgrind's lackey (--lackey), of all accesses of examples/real/heap.c,
+# again and again, as long. Five runs each (or RUNS, if set), the median of the real time. Aim: 20 MB a second. It needs valgrind.
 # Usage: bench/import.sh [BYTES]
 set -euo pipefail
 cd "$(dirname "$0")/.."
@@ -19,13 +20,27 @@ while size < wanted:
         size += len(text)
     turn = (turn + 1) % 30
 ' "$wanted" > "$work/log"
-for _ in $(seq "$runs"); do
-    /usr/bin/time -f "%e %M" -o "$work/time" "$program" import "$work/log" > "$work/trace" 2> "$work/told"
-    cat "$work/time"
-done | sort -n > "$work/times"
-head -n 1 "$work/told"
-awk -v bytes="$(wc -c < "$work/log")" -v lines="$(wc -l < "$work/log")" '{ time[NR] = $1; memory = $2 } END {
-    middle = time[int((NR + 1) / 2)]
-    printf "%d bytes in %d lines: %.2f s, %.1f MB a second, at most %d KiB\n", bytes, lines, middle, bytes / middle / 1e6, memory
-}' "$work/times"
+cc -pthread -o "$work/heap" examples/real/heap.c
+valgrind --tool=lackey --trace-mem=yes --trace-syscalls=yes --log-file="$work/once" "$work/heap" > /dev/null
+size=0
+while [ "$size" -lt "$wanted" ]; do
+    cat "$work/once"
+    size=$((size + $(wc -c < "$work/once")))
+done > "$work/accesses"
+# How fast this log is read, with these words.
+measure() {
+    local log=$1
+    shift
+    for _ in $(seq "$runs"); do
+        /usr/bin/time -f "%e %M" -o "$work/time" "$program" import "$@" "$log" > "$work/trace" 2> "$work/told"
+        cat "$work/time"
+    done | sort -n > "$work/times"
+    head -n 1 "$work/told"
+    awk -v bytes="$(wc -c < "$log")" -v lines="$(wc -l < "$log")" '{ time[NR] = $1; memory = $2 } END {
+        middle = time[int((NR + 1) / 2)]
+        printf "%d bytes in %d lines: %.2f s, %.1f MB a second, at most %d KiB\n", bytes, lines, middle, bytes / middle / 1e6, memory
+    }' "$work/times"
+}
+measure "$work/log"
+measure "$work/accesses" --lackey
 describe_machine

@@ -1,6 +1,6 @@
 #!/usr/bin/env python3
 """Counts, out of the logs and lists in crates/import_trial/data, what an import makes of each of their lines, by regular expressions and sets of
-addresses, and prints it as that program does. It shares no code with it. Usage: bench/import_counts.py > crates/import_trial/stdout"""
+pages, and prints it as that program does. It shares no code with it. Usage: bench/import_counts.py > crates/import_trial/stdout"""
 import collections
 import re
 
@@ -95,16 +95,70 @@ def log_counts(lines, files):
     return counts, addresses, done
 
 
+def access_counts(lines):
+    """Of a log of lackey. A page is there once it was mapped or accessed."""
+    counts, replies = collections.Counter(), collections.Counter()
+    there, files, heap = set(), set(), None
+    whole = lambda start, end: range(start >> 12, (end + 4095) >> 12)
+    for line in lines:
+        access = re.match(r" ?([ILSM]) +([0-9a-f]+),(\d+)$", line)
+        call = re.match(r"SYSCALL\S+ sys_(mmap|munmap|mprotect|brk|mremap) \( (.*) \).*--> .*(Success|Failure)\((0x\w+)\)", line)
+        if access:
+            start = int(access[2], 16)
+            touched = whole(start >> 12 << 12, start + int(access[3]))
+            counts["kept"] += 1
+            replies["addresses"] += len(set(touched) - there)
+            replies["bytes"] += len(touched) * (access[1] in "ILM")
+            replies["done"] += len(touched) * (access[1] in "SM")
+            there.update(touched)
+            continue
+        if call is None or call[3] == "Failure":
+            counts["failed" if call else "other"] += 1
+            continue
+        numbers, gave = [int(number, 0) for number in call[2].split(", ")], int(call[4], 16)
+        if call[1] == "mmap":
+            _, length, _, flags, descriptor, offset = numbers
+            if flags & 256:
+                counts["unread"] += 1
+                continue
+            counts["kept" if flags & 32 or within(files, descriptor, offset + length) else "files"] += 1
+            replies["addresses"] += 1
+            there.update(whole(gave, gave + length))
+        elif call[1] == "brk":
+            counts["still" if heap in (None, gave) else "heap"] += 1
+            if heap not in (None, gave):
+                replies["addresses" if heap < gave else "done"] += 1
+                there.update(whole(heap, gave))
+            heap = gave
+        elif call[1] == "mremap":
+            counts["moves"] += 1
+            replies["done"] += 1
+            replies["addresses"] += 1
+            there.update(whole(gave, gave + numbers[2]))
+        else:
+            counts["kept"] += 1
+            replies["done"] += 1
+    return counts, replies
+
+
+def told(counts, keys):
+    return ", ".join("%s %d" % (key, counts[key]) for key in keys.split())
+
+
+def tell_log(name, counts, replies):
+    print("%s log: %s" % (name, told(counts, "kept heap moves files half failed elsewhere")))
+    print("%s log: %s" % (name, told(counts, "before unread still other")))
+    print("%s replies: %s" % (name, told(replies, "addresses done bytes refused")))
+
+
 def main():
     for name in ("heap", "ls", "python", "node", "gcc"):
         files = set()
         start = list_counts(open(DATA + name + ".maps").read().splitlines(), files)
         counts, addresses, done = log_counts(open(DATA + name + ".log").read().splitlines(), files)
-        told = lambda counter, keys: ", ".join("%s %d" % (key, counter[key]) for key in keys.split())
         print("%s maps: %s" % (name, told(start, "kept changed kernel outside unread")))
-        print("%s log: %s" % (name, told(counts, "kept heap moves files half failed elsewhere")))
-        print("%s log: %s" % (name, told(counts, "before unread still other")))
-        print("%s replies: addresses %d, done %d, refused 0" % (name, addresses + start["kept"] + start["changed"], done))
+        tell_log(name, counts, collections.Counter(addresses=addresses + start["kept"] + start["changed"], done=done))
+    tell_log("touch", *access_counts(open(DATA + "touch.log").read().splitlines()))
 
 
 main()

@@ -4,7 +4,9 @@
 # program's first call (its own file, the stack, vdso) aren't in a log, and are left out where the log never names them. Then each
 # log is imported behind the list of what is mapped where its program begins (--maps), and all pages are compared but the kernel's
 # own, vvar, vdso and vsyscall; the stack, which grows by itself, as far as it was when the program began.
-# It needs strace, and leave to trace (ptrace). Status 0 where no page differs.
+# Last, valgrind's lackey records each access of two programs, one of them without a C library, and of each such log the pages that its
+# trace names are compared. Valgrind keeps the pages that brk gives back: those are left out where the trace has unmapped them.
+# It needs strace, leave to trace (ptrace), and valgrind. Status 0 where no page differs.
 # Usage: bench/import_pages.sh
 set -euo pipefail
 cd "$(dirname "$0")/.."
@@ -35,13 +37,13 @@ cat > "$work/heap.c" <<'C'
 #include <sys/mman.h>
 #include <unistd.h>
 static char list[1 << 20];
-int main(void)
+int main(int words, char **word)
 {
     char *parts[200] = {0};
-    size_t lengths[200] = {0}, seed = 1;
-    for (int i = 0; i < 4000; i++) {
+    size_t lengths[200] = {0}, seed = 1, rounds = words > 1 ? atoi(word[1]) : 4000, largest = words > 2 ? atoi(word[2]) : 3000000;
+    for (size_t i = 0; i < rounds; i++) {
         seed = seed * 6364136223846793005u + 1442695040888963407u;
-        size_t which = (seed >> 33) % 200, length = (seed >> 40) % 3000000;
+        size_t which = (seed >> 33) % 200, length = (seed >> 40) % largest;
         if (seed >> 62 == 0) {
             free(parts[which]);
             parts[which] = NULL;
@@ -85,13 +87,14 @@ int main(int count, char **words)
 C
 cc -O1 -w -o "$work/heap" "$work/heap.c"
 cc -O1 -w -o "$work/at_exec" "$work/at_exec.c"
+cc -O1 -w -nostdlib -static -fno-stack-protector -o "$work/touch" crates/import_trial/data/touch.c
 status=0
 # The pages of the kernel's list and of the trace's end that differ: those that the trace names, or all but the kernel's own.
 differ() {
     "$program" run --long "$work/trace" > "$work/replies"
     "$program" maps --long "$work/trace" > "$work/shown"
-    echo "$1: $(grep -h " kept, " "$work/told" | paste -sd ";"); $(grep -cvE '^(0x[0-9a-f]+|done)$' "$work/replies" || true) requests refused"
-    python3 - "$2" "$work/listed" "$work/shown" "$work/trace" "$work/start" <<'PY' || status=1
+    echo "$1: $(grep -h " kept, " "$work/told" | paste -sd ";"); $(grep -cvE '^(0x[0-9a-f]+|done|[0-9]+)$' "$work/replies" || true) of $(wc -l < "$work/replies") requests refused"
+    python3 - "$2" "$work/listed" "$work/shown" "$work/trace" "$work/start" "$work/log" <<'PY' || status=1
 import re, sys
 def lists(path):
     for line in open(path):
@@ -108,6 +111,10 @@ for line in open(sys.argv[4]):
 listed, shown = pages(sys.argv[2]), pages(sys.argv[3])
 if sys.argv[1] == "named":
     listed &= named
+elif sys.argv[1] == "accessed":
+    ends = [int(end, 16) >> 12 for end in re.findall(r"sys_brk .*Success\((0x\w+)\)", open(sys.argv[6]).read())]
+    given_back = {page for end in ends for page in range(end, max(ends))}
+    listed = listed & named - (given_back - shown)
 else:
     stack = {page for name, run in lists(sys.argv[5]) if name == "[stack]" for page in run}
     listed = pages(sys.argv[2], but="[stack]") | stack
@@ -126,7 +133,16 @@ compare() {
     "$program" import --maps "$work/start" "$work/log.part" > "$work/trace" 2> "$work/told"
     differ "$name, behind its list" all
 }
+compare_accesses() {
+    local name=$1
+    shift
+    valgrind --tool=lackey --trace-mem=yes --trace-syscalls=yes --log-file="$work/log" "$@" > "$work/listed" 2> /dev/null
+    "$program" import --lackey "$work/log" > "$work/trace" 2> "$work/told"
+    differ "$name, its accesses" accessed
+}
 compare "C with brk and mremap" "$work/heap"
 compare "python with one thread" python3 "$work/maps.py" 1
 compare "python with nine threads" python3 "$work/maps.py" 9
+compare_accesses "no C library" "$work/touch"
+compare_accesses "C with brk and mremap" "$work/heap" 300 300000
 exit $status

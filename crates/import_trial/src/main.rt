@@ -1,8 +1,9 @@
-//! Logs of real programs (data/), each imported behind the list of mappings that its program began with, and replayed: how many lines of
-//! both became what, and how many replies were an address, done, or anything else, which is a request that was refused. The numbers in
-//! the file stdout are counted out of the logs by `bench/import_counts.py`, which shares nothing with the program.
+//! Logs of real programs (data/), imported and replayed: five of strace, each behind the list of mappings that its program began with, and one of
+//! lackey, of touch.c. Told are how many lines became what, and how many replies were an address, done, a byte, or anything else, which is a request
+//! that was refused. The numbers in the file stdout are counted out of the logs by `bench/import_counts.py`, which shares nothing with the program.
 #![tactic(auto)]
 
+use import_lackey::traced::trace_log;
 use import_maps::entries::Entries;
 use import_maps::mapped::{Told, import_mapped};
 use import_text::counts::Counts;
@@ -16,11 +17,12 @@ use trace::shown::Show;
 use trace_io::sink::Noted;
 use trace_io::source::Counted;
 
-// How many lines of a text begin with an address, are `done`, and are anything else.
+// How many lines of a text begin with an address, are `done`, are a byte, and are anything else.
 #[derive(Clone, Copy)]
 struct Replies {
     addresses: u64,
     done: u64,
+    bytes: u64,
     refused: u64,
 }
 
@@ -47,6 +49,16 @@ fn imported(alloc: Global, list: &[u8], log: &[u8]) -> Option<(Vec<u8>, Told)> {
     }
 }
 
+// What a log of accesses becomes, and what becomes of its lines.
+fn traced(alloc: Global, log: &[u8]) -> Option<(Vec<u8>, Counts)> {
+    let mut log = Counted::new(log);
+    let mut out = Noted::unbuffered(alloc, Vec::new(alloc));
+    match trace_log(alloc, &mut log, &mut out) {
+        Ok(counts) => Some((out.writer.into_parts().0, counts)),
+        Err(_) => None,
+    }
+}
+
 // The replies of the trace's requests, if it is replayed to its end.
 fn replied(alloc: Global, trace: &[u8]) -> Option<Vec<u8>> {
     let mut trace = Counted::new(trace);
@@ -57,11 +69,20 @@ fn replied(alloc: Global, trace: &[u8]) -> Option<Vec<u8>> {
     }
 }
 
+// Whether the line is a number.
+fn is_byte(line: &[u8]) -> bool {
+    match line.first() {
+        Some(byte) => *byte >= b'0' && *byte <= b'9',
+        None => false,
+    }
+}
+
 // Counts the lines of replies.
 fn count(replies: &[u8]) -> Replies {
     let mut counts = Replies {
         addresses: 0,
         done: 0,
+        bytes: 0,
         refused: 0,
     };
     for line in replies.split(|byte| *byte == b'\n') {
@@ -69,6 +90,8 @@ fn count(replies: &[u8]) -> Replies {
             counts.addresses = counts.addresses.saturating_add(1);
         } else if line == b"done".as_slice() {
             counts.done = counts.done.saturating_add(1);
+        } else if is_byte(line) {
+            counts.bytes = counts.bytes.saturating_add(1);
         } else if !line.is_empty() {
             counts.refused = counts.refused.saturating_add(1);
         }
@@ -111,11 +134,12 @@ fn tell_replies<W: Write>(out: &mut W, name: &str, replies: Replies) {
     let Replies {
         addresses,
         done,
+        bytes,
         refused,
     } = replies;
     let _ = writeln!(
         out,
-        "{name} replies: addresses {addresses}, done {done}, refused {refused}"
+        "{name} replies: addresses {addresses}, done {done}, bytes {bytes}, refused {refused}"
     );
 }
 
@@ -136,6 +160,21 @@ fn try_log<W: Write>(
     Some(())
 }
 
+// Traces and replays this log of accesses, and prints what comes of it; `None` where it can't be read, traced or replayed.
+fn try_accesses<W: Write>(
+    rt: &HostRuntime,
+    alloc: Global,
+    out: &mut W,
+    (name, log): (&str, &str),
+) -> Option<()> {
+    let log = bytes_of(rt, alloc, log)?;
+    let (trace, counts) = traced(alloc, log.as_slice())?;
+    let replies = replied(alloc, trace.as_slice())?;
+    tell_counts(out, name, &counts);
+    tell_replies(out, name, count(replies.as_slice()));
+    Some(())
+}
+
 const PROGRAMS: [(&str, &str, &str); 5] = [
     ("heap", "heap.maps", "heap.log"),
     ("ls", "ls.maps", "ls.log"),
@@ -151,6 +190,9 @@ fn main(rt: HostRuntime) -> ExitCode {
         if try_log(&rt, alloc, &mut out, program).is_none() {
             return ExitCode::FAILURE;
         }
+    }
+    if try_accesses(&rt, alloc, &mut out, ("touch", "touch.log")).is_none() {
+        return ExitCode::FAILURE;
     }
     ExitCode::SUCCESS
 }

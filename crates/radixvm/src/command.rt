@@ -6,8 +6,11 @@ ghost use Rattle.core_steps.specs.declared.setup.CallLimit.{CallLimit};
 ghost use Rattle.audit_text.specs.Ends.{AuditEnds, TellsAudit};
 ghost use Rattle.audit_text.specs.declared.input.AuditFault.{AuditFault};
 ghost use Rattle.audit_text.specs.declared.judging.Verdict.{Verdict};
+ghost use Rattle.import_lackey.specs.Traced.{TraceEnds};
 ghost use Rattle.import_maps.specs.Mapped.{MapsEnds, TellsMaps};
 ghost use Rattle.import_maps.specs.declared.mapped.Told.{Told as ImportTold};
+ghost use Rattle.import_text.specs.Ends.{TellsImport};
+ghost use Rattle.import_text.specs.declared.counts.Counts.{Counts};
 ghost use Rattle.import_text.specs.declared.log.ImportFault.{ImportFault};
 ghost use Rattle.live_script.specs.Texts.{EndsText, IsNotesText, IsVerdictText, TellsText};
 ghost use Rattle.live_script.specs.declared.texts.TextFault.{TextFault};
@@ -28,7 +31,7 @@ use crate::auditing::audit;
 use crate::certifying::certify;
 use crate::help;
 use crate::help::Topic;
-use crate::importing::import;
+use crate::importing::{import, import_accesses};
 use crate::input::{Files, input, list};
 use crate::job::{Shows, run, run_echoing};
 use crate::live::{certify_live, live};
@@ -65,6 +68,8 @@ enum Work {
     CertifyLive,
     // The trace of a log of strace, of the process of this thread or of the first line's.
     Import(Option<u64>),
+    // The trace of a log of lackey.
+    ImportAccesses,
     // The judgement of replies, at any place or at the first ones.
     Audit(bool),
     // A picture of a trace, of its steps or of lives.
@@ -111,7 +116,7 @@ const RUN_USAGE: &str = "radixvm run [--log | [--echo | --summary] [--long]] [--
 
 const MAPS_USAGE: &str = "radixvm maps [--long] [--explain] [FILE]";
 
-const IMPORT_USAGE: &str = "radixvm import [--pid N] [--maps FILE] [FILE]";
+const IMPORT_USAGE: &str = "radixvm import [--lackey | [--pid N] [--maps FILE]] [FILE]";
 
 const PICTURE_USAGE: &str = "radixvm picture [--lives | [--from N] [--to N]] [FILE]";
 
@@ -153,9 +158,13 @@ fn picturing<'a>(alloc: Global) -> Result<Command<'a>, AllocError> {
 // The word `import` with what may stand behind it.
 fn import_word<'a>(alloc: Global) -> Result<Command<'a>, AllocError> {
     let list = Arg::new(alloc, "maps").long("maps");
+    let lackey = flag(alloc, "lackey")
+        .conflicts_with("pid")?
+        .conflicts_with("maps")?;
     let command = reading(alloc, "import", IMPORT_USAGE)?
         .arg(number(alloc, "pid"))?
-        .arg(list)?;
+        .arg(list)?
+        .arg(lackey)?;
     Ok(command)
 }
 
@@ -316,6 +325,9 @@ fn matched<'a, A: Allocator>(
             Ok(Ok(working(Work::CertifyLive, live)))
         }
         Some(("live", live)) => Ok(Ok(working(Work::Live, live))),
+        Some(("import", import)) if import.get_flag("lackey") => {
+            Ok(Ok(working(Work::ImportAccesses, import)))
+        }
         Some(("import", import)) => Ok(Ok(importing(import))),
         Some(("audit", audit)) => Ok(Ok(working(Work::Audit(audit.get_flag("any-place")), audit))),
         Some(("picture", picture)) => Ok(Ok(working(Work::Picture(drawing_of(picture)), picture))),
@@ -491,6 +503,12 @@ fn act<T: Threads + Wait + Sync, R: Runner<Global>, L: Source, S: Source, W: Sin
         (λ input unread. PictureEnds drawing input unread (W.contents out.old) (W.contents out.new) r)
         × TellsFaults r (S.failed reader.new) (S.reads reader.new)
         (W.failed out.old) (W.failed out.new) (W.is_flushed out.new)) }
+    ensures traced { IfOk parsed.entry (λ task. task.work ≡ Work.ImportAccesses
+        → (r : Result Counts ImportFault) × (result ≡ import_status r)
+        × Reads (S.stream reader.old) (S.stream reader.new)
+        (λ input unread. TraceEnds input (W.contents out.old) (W.contents out.new) r)
+        × TellsImport r (S.failed reader.new) (S.reads reader.new)
+        (W.failed out.old) (W.failed out.new) (W.is_flushed out.new)) }
     ensures within { result ≤ 3 }
 {
     match parsed {
@@ -503,6 +521,7 @@ fn act<T: Threads + Wait + Sync, R: Runner<Global>, L: Source, S: Source, W: Sin
             Work::Live => live(rt, runner, alloc, reader, out, errors),
             Work::CertifyLive => certify_live(rt, runner, alloc, reader, out, errors),
             Work::Import(thread) => import(alloc, list, reader, out, errors, thread),
+            Work::ImportAccesses => import_accesses(alloc, reader, out, errors),
             Work::Audit(any_place) => audit(alloc, reader, out, errors, any_place),
             Work::Picture(drawing) => picture(alloc, reader, out, errors, drawing),
         },

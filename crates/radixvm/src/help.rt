@@ -11,7 +11,7 @@ pub const USAGE: &str = "radixvm run [--log | [--echo | --summary] [--long]] [--
        radixvm maps [--long] [--explain] [FILE]
        radixvm certify [FILE]
        radixvm live [--certify] [FILE]
-       radixvm import [--pid N] [--maps FILE] [FILE]
+       radixvm import [--lackey | [--pid N] [--maps FILE]] [FILE]
        radixvm audit [--any-place] [FILE]
        radixvm picture [--lives | [--from N] [--to N]] [FILE]
        radixvm help [TOPIC]";
@@ -25,7 +25,7 @@ Usage: radixvm run [--log | [--echo | --summary] [--long]] [--explain] [FILE]
        radixvm maps [--long] [--explain] [FILE]
        radixvm certify [FILE]
        radixvm live [--certify] [FILE]
-       radixvm import [--pid N] [--maps FILE] [FILE]
+       radixvm import [--lackey | [--pid N] [--maps FILE]] [FILE]
        radixvm audit [--any-place] [FILE]
        radixvm picture [--lives | [--from N] [--to N]] [FILE]
        radixvm help [TOPIC]
@@ -43,7 +43,8 @@ Words:
                  they are a run of the machine
   live           runs a script, each core on a thread, and writes their notes
   live --certify says in their place whether they are a run of the machine
-  import         reads a log of strace, and writes a trace of what a program did
+  import         reads a log of strace, or with --lackey one of valgrind's, and
+                 writes a trace of what a program did
   audit          reads calls with the replies that another address space gave,
                  and says whether they are those of a plain page map
   picture        reads a trace, and writes a picture of what happened, as SVG;
@@ -413,6 +414,9 @@ Give strace -o FILE: at a terminal it breaks lines where a thread begins.
                  the log's first line, or, where the log has an execve of the
                  process, right behind it
 
+  --lackey       LOG is one of valgrind's lackey, with all accesses of memory
+                 (below); it goes beside neither --pid nor --maps
+
 A line of mmap, munmap or mprotect is kept with its numbers. A mapping stands
 where the kernel placed it, so it has the flag f, and its address is the one
 that the kernel answered. Each thread is a core, in the order of their first
@@ -449,6 +453,19 @@ where the heap ends.
 
 The trace has 256 frames, for lines with accesses that you may add. One of more
 than 1048576 requests wants run --long.
+
+A log with accesses is made and read so:
+
+  valgrind --tool=lackey --trace-mem=yes --trace-syscalls=yes --log-file=LOG \\
+    PROGRAM
+  radixvm import --lackey LOG | radixvm run --long --summary
+
+An access is a call of its first byte, I a fetch, L a load, S a store of 0, and
+M a load and a store; and one of the next page's first byte where it goes on
+there. Calls are kept, changed or left out as those of strace, and files known
+by descriptors. A page that is accessed and that no line has mapped was there
+before the log, and is mapped, rwx, right before that access. All is core 0's,
+since an access names neither thread nor process, and there are 65536 frames.
 
 Status: 0; 2 for bad words; 3 where reading, writing or memory failed. The log,
 what is taken of it and the trace are held in memory.

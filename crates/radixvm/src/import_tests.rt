@@ -1,10 +1,12 @@
-//! Logs of strace that the word `import` makes traces of, and what is told of their lines.
+//! Logs of strace and of lackey that the word `import` makes traces of, and what is told of their lines.
 use crate::tests::{AMPLE, Limits, comes_to, run_words, text_of};
 use std::alloc::Global;
 use std::sync::Wait;
 use std::thread::Threads;
 
 const IMPORT: &[&[u8]] = &[b"radixvm", b"import"];
+
+const LACKEY: &[&[u8]] = &[b"radixvm", b"import", b"--lackey"];
 
 // A mapping, half of which goes again; where the heap ends, a call that failed, and a fork with a call of the process that it made.
 const LOG: &str = "\
@@ -85,6 +87,7 @@ fn a_log_unread(rt: HostRuntime) {
     for reads in [0, 1, 100] {
         let limits = Limits { reads, ..AMPLE };
         assert!(rt; imports((rt.alloc(), &rt), IMPORT, limits, unread));
+        assert!(rt; imports((rt.alloc(), &rt), LACKEY, limits, unread));
     }
 }
 
@@ -99,6 +102,7 @@ fn a_trace_unwritten(rt: HostRuntime) {
             ..AMPLE
         };
         assert!(rt; imports((rt.alloc(), &rt), IMPORT, limits, unwritten));
+        assert!(rt; imports((rt.alloc(), &rt), LACKEY, limits, unwritten));
     }
 }
 
@@ -150,5 +154,44 @@ fn a_list_unread(rt: HostRuntime) {
     let unread = (b"".as_slice(), b"radixvm: read failed\n".as_slice(), 3);
     for file in [b"no such file".as_slice(), b"-"] {
         assert!(rt; imports((rt.alloc(), &rt), &behind(file), AMPLE, unread));
+    }
+}
+
+// Accesses of a page that was there, and of one that the log maps, and a line that says nothing.
+const ACCESSES: &[u8] = b"==7== Lackey\nI  00401000,3\n\
+    SYSCALL[7,1](9) sys_mmap ( 0x0, 4096, 3, 34, -1, 0 ) --> [pre-success] Success(0x500000) \n M 00500010,8\n";
+
+const ACCESSED: &[u8] = b"vm 1 65536 4096\nc0! mmap 0x401000 4096 rwx pfa\nc0! fetch 0x401000\n\
+    c0! mmap 0x500000 4096 rw- pfa\nc0! load 0x500010\nc0! store 0x500010 0\n";
+
+#[test]
+fn a_log_of_accesses(rt: HostRuntime) {
+    let counts =
+        b"import: 3 lines kept, 0 changed, 1 left out\n  1 left out: other calls, and events\n".as_slice();
+    assert!(rt;
+        comes_to(
+            (rt.alloc(), &rt),
+            LACKEY,
+            ACCESSES,
+            AMPLE,
+            (ACCESSED, counts, 0)
+        )
+    );
+}
+
+// A process can't be chosen of such a log, nor does it begin with a list.
+#[test]
+fn accesses_beside_other_words(rt: HostRuntime) {
+    for (word, value) in [
+        (b"--pid".as_slice(), b"7".as_slice()),
+        (b"--maps", b"stored.maps"),
+    ] {
+        let words = [b"radixvm".as_slice(), b"import", b"--lackey", word, value];
+        let ran = run_words((rt.alloc(), &rt), &rt.alloc(), &words, ACCESSES, AMPLE);
+        assert!(rt; ran.out.is_empty() && ran.status == 2);
+        assert!(rt;
+            ran.errors
+                .starts_with(b"radixvm: the argument '--lackey' cannot be used with ")
+        );
     }
 }

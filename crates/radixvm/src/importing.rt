@@ -1,16 +1,21 @@
 //! What the word `import` does.
 ghost use Rattle.std.specs.Prelude.{◌≡◌, ◌<◌, ◌≤◌, ◌^◌, Result};
+ghost use Rattle.import_lackey.specs.Traced.{TraceEnds};
 ghost use Rattle.import_maps.specs.Entries.{total as entries_total};
 ghost use Rattle.import_maps.specs.Mapped.{MapsEnds, TellsMaps};
 ghost use Rattle.import_maps.specs.declared.mapped.Told.{Told};
 ghost use Rattle.import_text.specs.Counts.{total};
+ghost use Rattle.import_text.specs.Ends.{TellsImport};
+ghost use Rattle.import_text.specs.declared.counts.Counts.{Counts};
 ghost use Rattle.import_text.specs.declared.log.ImportFault.{ImportFault};
 ghost use Rattle.radixvm.specs.Status.{import_status};
 ghost use Rattle.trace_io.specs.Source.{Reads};
 
+use import_lackey::traced::trace_log;
 use import_maps::entries::Entries;
 use import_maps::mapped::import_mapped;
 use import_text::counts::Counts;
+use import_text::log::ImportFault;
 use std::alloc::Global;
 use std::io::Write;
 use trace_io::sink::Sink;
@@ -104,6 +109,14 @@ fn tell_counts<E: Write>(counts: &Counts, errors: &mut E)
     tell_left(counts, errors);
 }
 
+// Prints the fault as `radixvm: ` and its text, and answers the status.
+fn tell_fault<E: Write>(fault: ImportFault, errors: &mut E) -> u8
+    ensures { result ≡ 3 }
+{
+    let _ = writeln!(errors, "radixvm: {fault}");
+    3
+}
+
 /// Makes a trace of a list of mappings and of a log of strace, of the process of this thread or of the first line's, prints how
 /// many lines of both became what on `errors`, or a fault as `radixvm: ` and its text, and answers the status: 0, or 3 for a
 /// fault.
@@ -128,9 +141,30 @@ pub fn import<L: Source, S: Source, W: Sink, E: Write>(
             tell_counts(&told.counts, errors);
             0
         }
-        Err(fault) => {
-            let _ = writeln!(errors, "radixvm: {fault}");
-            3
+        Err(fault) => tell_fault(fault, errors),
+    }
+}
+
+/// Makes a trace of a log of lackey, prints how many of its lines became what on `errors`, or a fault as `radixvm: ` and its
+/// text, and answers the status: 0, or 3 for a fault.
+pub fn import_accesses<S: Source, W: Sink, E: Write>(
+    alloc: Global,
+    reader: &mut S,
+    out: &mut W,
+    errors: &mut E,
+) -> u8
+    ensures ends { (r : Result Counts ImportFault) × (result ≡ import_status r)
+        × Reads (S.stream reader.old) (S.stream reader.new)
+        (λ input unread. TraceEnds input (W.contents out.old) (W.contents out.new) r)
+        × TellsImport r (S.failed reader.new) (S.reads reader.new)
+        (W.failed out.old) (W.failed out.new) (W.is_flushed out.new) }
+    ensures within { result ≤ 3 }
+{
+    match trace_log(alloc, reader, out) {
+        Ok(counts) => {
+            tell_counts(&counts, errors);
+            0
         }
+        Err(fault) => tell_fault(fault, errors),
     }
 }
