@@ -165,7 +165,7 @@ fn fill_bytes<R: Wait, A: Allocator + Clone>(
     let Some(place) = pieces.frames.get(number as usize) else {
         return None;
     };
-    let bytes = pieces.objects.own_bytes(file, page);
+    let bytes = pieces.objects.first_bytes(file, page);
     let mut frame = place.lock(rt);
     let ticket = seat.step();
     begin_bytes(&mut frame, bytes, count);
