@@ -441,6 +441,10 @@ const PAGES: &[(&str, &str, &[&str])] = &[
         help::THREADS,
         &["cC! REQ", "refused C5 PAGE", "live V3"],
     ),
+];
+
+// The same of the words that read what others wrote, and of pictures.
+const WORD_PAGES: &[(&str, &str, &[&str])] = &[
     (
         "import",
         help::IMPORT,
@@ -476,6 +480,16 @@ fn has_all(page: &str, parts: &[&str]) -> bool {
 #[test]
 fn topics(rt: HostRuntime) {
     for (name, page, parts) in PAGES {
+        let words = [b"radixvm".as_slice(), b"help".as_slice(), name.as_bytes()];
+        assert!(rt; prints((rt.alloc(), &rt), &words, page));
+        assert!(rt; has_all(page, parts));
+        assert!(rt; help::OVERVIEW.contains(name));
+    }
+}
+
+#[test]
+fn topics_of_words(rt: HostRuntime) {
+    for (name, page, parts) in WORD_PAGES {
         let words = [b"radixvm".as_slice(), b"help".as_slice(), name.as_bytes()];
         assert!(rt; prints((rt.alloc(), &rt), &words, page));
         assert!(rt; has_all(page, parts));
