@@ -1,6 +1,8 @@
-//! Logs of real programs (data/), imported and replayed: five of strace, each behind the list of mappings that its program began with, and one of
-//! lackey, of touch.c. Told are how many lines became what, and how many replies were an address, done, a byte, or anything else, which is a request
-//! that was refused. The numbers in the file stdout are counted out of the logs by `bench/import_counts.py`, which shares nothing with the program.
+//! Logs of real programs (data/), imported and replayed: five of strace, each behind the list of
+//! mappings that its program began with, and one of lackey, of touch.c. Told are how many lines
+//! became what, and how many replies were an address, done, a byte, or anything else, which is a
+//! request that was refused. The numbers in the file stdout are counted out of the logs by
+//! `bench/import_counts.py`, which shares nothing with the program.
 #![tactic(auto)]
 
 use import_lackey::traced::trace_log;
@@ -143,7 +145,8 @@ fn tell_replies<W: Write>(out: &mut W, name: &str, replies: Replies) {
     );
 }
 
-// Imports and replays the log of this program, and prints what comes of it; `None` where it can't be read, imported or replayed.
+// Imports and replays the log of this program, and prints what comes of it; `None` where it can't
+// be read, imported or replayed.
 fn try_log<W: Write>(
     rt: &HostRuntime,
     alloc: Global,
@@ -160,7 +163,8 @@ fn try_log<W: Write>(
     Some(())
 }
 
-// Traces and replays this log of accesses, and prints what comes of it; `None` where it can't be read, traced or replayed.
+// Traces and replays this log of accesses, and prints what comes of it; `None` where it can't be
+// read, traced or replayed.
 fn try_accesses<W: Write>(
     rt: &HostRuntime,
     alloc: Global,

@@ -1,5 +1,6 @@
 -- A picture of a trace, written and flushed
-use Rattle.std.proofs.Common.{◌≡◌, ℕ, ◌⊎◌, inl, inr, true, false, Bool, List, Option, None, Some, Result, Ok, Err, OnOk, IfOk, IfErr, refl, sym, ap, ◌∙◌, subst, length, take}
+use Rattle.std.proofs.Common.{◌≡◌, ℕ, ◌⊎◌, inl, inr, true, false, Bool, List, Option, None, Some, Result, Ok, Err}
+use Rattle.std.proofs.Common.{OnOk, IfOk, IfErr, refl, sym, ap, ◌∙◌, subst, length, take}
 use Rattle.std.proofs.KnownBytes.{Appends-kept, Keeps-refl, Keeps-trans}
 use Rattle.std.specs.Io.KnownBytes.{Keeps, Appends}
 use Rattle.trace_io.proofs.LineLemmas.{reads_map}

@@ -117,9 +117,9 @@ fn tell_fault<E: Write>(fault: ImportFault, errors: &mut E) -> u8
     3
 }
 
-/// Makes a trace of a list of mappings and of a log of strace, of the process of this thread or of the first line's, prints how
-/// many lines of both became what on `errors`, or a fault as `radixvm: ` and its text, and answers the status: 0, or 3 for a
-/// fault.
+/// Makes a trace of a list of mappings and of a log of strace, of the process of this thread or of
+/// the first line's, prints how many lines of both became what on `errors`, or a fault as
+/// `radixvm: ` and its text, and answers the status: 0, or 3 for a fault.
 pub fn import<L: Source, S: Source, W: Sink, E: Write>(
     alloc: Global,
     list: &mut L,
@@ -129,7 +129,8 @@ pub fn import<L: Source, S: Source, W: Sink, E: Write>(
     thread: Option<u64>,
 ) -> u8
     ensures ends { (r : Result Told ImportFault) × (result ≡ import_status r)
-        × Reads (L.stream list.old) (L.stream list.new) (λ listed left. Reads (S.stream reader.old) (S.stream reader.new)
+        × Reads (L.stream list.old) (L.stream list.new) (λ listed left.
+        Reads (S.stream reader.old) (S.stream reader.new)
         (λ input unread. MapsEnds listed thread input (W.contents out.old) (W.contents out.new) r))
         × TellsMaps r (L.failed list.new) (L.reads list.new) (S.failed reader.new) (S.reads reader.new)
         (W.failed out.old) (W.failed out.new) (W.is_flushed out.new) }
@@ -145,8 +146,8 @@ pub fn import<L: Source, S: Source, W: Sink, E: Write>(
     }
 }
 
-/// Makes a trace of a log of lackey, prints how many of its lines became what on `errors`, or a fault as `radixvm: ` and its
-/// text, and answers the status: 0, or 3 for a fault.
+/// Makes a trace of a log of lackey, prints how many of its lines became what on `errors`, or a fault
+/// as `radixvm: ` and its text, and answers the status: 0, or 3 for a fault.
 pub fn import_accesses<S: Source, W: Sink, E: Write>(
     alloc: Global,
     reader: &mut S,

@@ -120,7 +120,8 @@ fn write_picture<W: Sink>(
     Ok(())
 }
 
-// Says which steps are shown, where that isn't all of those that are asked for, or how many there are, where it is none.
+// Says which steps are shown, where that isn't all of those that are asked for, or how many there
+// are, where it is none.
 fn tell_steps<E: Write>(recorder: &Recorder<Global>, steps: Steps, errors: &mut E) {
     let all = recorder.steps();
     let first = steps.first;
@@ -233,9 +234,10 @@ fn tell_end<E: Write>(ended: Result<(), TraceFault>, errors: &mut E) -> u8
     replayed.tell(errors)
 }
 
-/// Replays the trace, and writes a picture of it: of what happened in these steps, or in the first 2,000 of them, which is then
-/// said on `errors`; or of the lives of mappings over all steps. Prints a fault, of which there is no picture, as `radixvm: `
-/// and its text, and answers the status: 0, or that of the fault.
+/// Replays the trace, and writes a picture of it: of what happened in these steps, or in the first
+/// 2,000 of them, which is then said on `errors`; or of the lives of mappings over all steps. Prints
+/// a fault, of which there is no picture, as `radixvm: ` and its text, and answers the status: 0, or
+/// that of the fault.
 pub fn picture<S: Source, W: Sink, E: Write>(
     alloc: Global,
     reader: &mut S,
