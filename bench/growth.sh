@@ -56,11 +56,11 @@ rest() {
     "$program" run --log < "$trace" > "$work/logged"
     cmp -n "$(wc -c < "$work/replies")" "$work/logged" "$work/replies"
     read -r logged shown <<< "$(bench/measure.py --own-texts "$runs" "$trace" "$program" run --log -- "$program" run)"
-    row 'run --log of the four-core trace, beside run' ms "$logged" "$shown" 1.3
+    row 'run --log of the four-core trace, beside run' ms "$logged" "$shown" 1.2
 
     bench/make_growth.sh map 100000 > "$trace"
     read -r ours theirs <<< "$(bench/measure.py "$runs" "$trace" "$program" maps -- "$plain" maps)"
-    row 'maps of 100,000 slots, beside plain Rust' ms "$ours" "$theirs" 1.0
+    row 'maps of 100,000 slots, beside plain Rust' ms "$ours" "$theirs" 0.8
     read -r ours theirs <<< "$(bench/measure.py "$runs" "$trace" "$program" run -- "$plain")"
     row 'run of the same trace, beside plain Rust' ms "$ours" "$theirs" ''
 }

@@ -35,8 +35,7 @@ def marked(ratio, aim):
     return f"**{ratio}**" if aim and float(ratio) > float(aim) else ratio
 
 
-def aim_of(shape):
-    return "1.0" if shape == "four-cores" else "1.2"
+AIM = "0.8"  # of every shape
 
 
 def shapes_table(rows, counted):
@@ -49,8 +48,8 @@ def shapes_table(rows, counted):
                 f"{int(row['lines']):,}",
                 row["ours_ms"],
                 row["plain_ms"],
-                marked(row["ratio"], aim_of(row["shape"])),
-                aim_of(row["shape"]),
+                marked(row["ratio"], AIM),
+                AIM,
                 *counted.get(row["shape"], ("", "")),
             ]
             for row in rows
