@@ -2,11 +2,13 @@
 
 ghost use Rattle.std.specs.Prelude.{◌≡◌, ℕ, ◌≤◌, None, IfSome, IfNone, unwrap_or, pos, ◌+ℤ◌, ◌≤ℤ◌};
 ghost use Rattle.std.specs.Prelude.{neg_ℤ, MatchBool};
-ghost use Rattle.refcache.specs.Places.{entries};
+ghost use Rattle.vm_base.specs.Cores.{members};
+ghost use Rattle.refcache.specs.Places.{entries, in_use};
 ghost use Rattle.refcache.specs.Pieces.{ArePlaces, IsLeast, lesser_object};
 ghost use Rattle.refcache.specs.Steps.{IsInTheWay, IsDelta};
 
 use crate::object_count::ObjectCount;
+use crate::place_set::PlaceSet;
 use crate::places::{
     Entry, PLACES, count_entry, delta_of, drop_entry, has_entry, in_the_way, no_entries,
 };
@@ -16,15 +18,21 @@ use std::alloc::{AllocError, Allocator};
 use std::collections::VecDeque;
 use std::marker::Model;
 
-/// The least object that has an entry.
-fn least(places: &[Option<Entry>]) -> Option<u32>
-    requires { ArePlaces places.now }
+/// The least object that has an entry, where these are the places in use.
+fn least(places: &[Option<Entry>], used: PlaceSet) -> Option<u32>
+    requires places { ArePlaces places.now }
+    requires used { members used ≡ in_use places.now }
     ensures some { IfSome result (λ o. IsLeast (entries places.now) o) }
     ensures none { IfNone result ((o : ℕ) → entries places.now o ≡ None) }
 {
     let mut least = None;
-    'all: for i in 0..PLACES {
-        least = lesser(least, places[i]);
+    let mut rest = used;
+    'all: for _turn in 0..PLACES {
+        let Some(place) = rest.first() else {
+            return least;
+        };
+        least = lesser(least, places[place]);
+        rest = rest.without(place);
     }
     least
 }
@@ -44,15 +52,18 @@ fn lesser(least: Option<u32>, entry: Option<Entry>) -> Option<u32>
     }
 }
 
-/// A core's delta entries and its review queue.
+/// A core's delta entries, the places that have them, and its review queue.
 #[derive(Drop)]
 pub struct CoreCounts<A: Allocator> {
     places: [Option<Entry>; PLACES],
+    used: PlaceSet,
     queue: VecDeque<Queued, A>,
 }
 
 impl<A: Allocator> Model for CoreCounts<A> {
-    ghost use Rattle.std.specs.Prelude.{length, ◌≤◌};
+    ghost use Rattle.std.specs.Prelude.{◌≡◌, length, ◌≤◌};
+    ghost use Rattle.vm_base.specs.Cores.{members};
+    ghost use Rattle.refcache.specs.Places.{in_use};
     ghost use Rattle.refcache.specs.Pieces.{Core, ArePlaces};
     ghost use Rattle.std.specs.VecDeque.{deque_capacity};
 
@@ -64,7 +75,8 @@ impl<A: Allocator> Model for CoreCounts<A> {
       room = deque_capacity c.queue;
     } };
 
-    ghost invariant = { λ c. ArePlaces c.places × (length c.queue.items ≤ deque_capacity c.queue) };
+    ghost invariant = { λ c. ArePlaces c.places × (members c.used ≡ in_use c.places)
+        × (length c.queue.items ≤ deque_capacity c.queue) };
 }
 
 impl<A: Allocator> CoreCounts<A> {
@@ -86,6 +98,7 @@ impl<A: Allocator> CoreCounts<A> {
         let queue = VecDeque::with_capacity(alloc, objects as usize + 1)?;
         Ok(CoreCounts {
             places: no_entries(),
+            used: PlaceSet::empty(),
             queue,
         })
     }
@@ -95,7 +108,7 @@ impl<A: Allocator> CoreCounts<A> {
         ensures some { IfSome result (λ o. IsLeast (entries self.now.places) o) }
         ensures none { IfNone result ((o : ℕ) → entries self.now.places o ≡ None) }
     {
-        least(&self.places)
+        least(&self.places, self.used)
     }
 
     /// The object whose entry must be evicted before the delta of `object` may change by `by`, 1 or
@@ -148,6 +161,7 @@ impl<A: Allocator> CoreCounts<A> {
     {
         let delta = delta_of(&self.places, object);
         drop_entry(&mut self.places, object);
+        self.used = self.used.without(object as usize % PLACES);
         if count.add(delta) {
             self.queue.push_back_reserved(Queued { object, epoch });
         }
@@ -163,6 +177,7 @@ impl<A: Allocator> CoreCounts<A> {
         ensures room { self.new.room ≡ self.old.room }
     {
         count_entry(&mut self.places, object, by);
+        self.used = self.used.with(object as usize % PLACES);
     }
 
     /// The front of the queue, where it was queued two epochs ago or more.

@@ -1,9 +1,9 @@
 //! The places of a core for its delta entries: an object may stand in one of them alone.
 
 ghost use Rattle.std.specs.Prelude.{◌≡◌, ℕ, None, Some, IfSome, IfNone, MatchBool, is_some, length};
-ghost use Rattle.std.specs.Prelude.{replicate, unwrap_or, pos, ◌+ℤ◌, ◌≤ℤ◌, neg_ℤ};
+ghost use Rattle.std.specs.Prelude.{replicate, unwrap_or, pos, ◌+ℤ◌, ◌≤ℤ◌, neg_ℤ, ◌%◌, true, false};
 ghost use Rattle.vm_base.specs.Functions.{put};
-ghost use Rattle.refcache.specs.Places.{entries, IsFreeFor};
+ghost use Rattle.refcache.specs.Places.{entries, in_use, IsFreeFor};
 ghost use Rattle.refcache.specs.Pieces.{ArePlaces};
 ghost use Rattle.refcache.specs.Steps.{IsDelta, IsInTheWay};
 
@@ -49,24 +49,26 @@ pub(crate) fn has_entry(places: &[Option<Entry>], object: u32) -> bool
 }
 
 /// Gives an object this delta.
-#[tactic(auto, using(crate::proofs::Way::places_set))]
+#[tactic(auto, using(crate::proofs::Way::places_set, crate::proofs::Way::in_use_set))]
 fn put_entry(places: &mut [Option<Entry>], object: u32, delta: i64)
     requires places { ArePlaces places.old }
     requires free { IsFreeFor places.old object }
     requires small { IsDelta delta }
     ensures places { ArePlaces places.new }
     ensures entries { entries places.new ≡ put (entries places.old) object (Some delta) }
+    ensures used { in_use places.new ≡ put (in_use places.old) (object % 64) true }
 {
     places[object as usize % PLACES] = Some(Entry { object, delta });
 }
 
 /// Drops the entry of an object.
-#[tactic(auto, using(crate::proofs::Way::places_dropped))]
+#[tactic(auto, using(crate::proofs::Way::places_dropped, crate::proofs::Way::in_use_set))]
 pub(crate) fn drop_entry(places: &mut [Option<Entry>], object: u32)
     requires places { ArePlaces places.old }
     requires free { IsFreeFor places.old object }
     ensures places { ArePlaces places.new }
     ensures entries { entries places.new ≡ put (entries places.old) object None }
+    ensures used { in_use places.new ≡ put (in_use places.old) (object % 64) false }
 {
     places[object as usize % PLACES] = None;
 }
@@ -120,6 +122,7 @@ pub(crate) fn count_entry(places: &mut [Option<Entry>], object: u32, by: i64)
     ensures places { ArePlaces places.new }
     ensures entries { entries places.new ≡ put (entries places.old) object
         (Some (unwrap_or (entries places.old object) (pos 0) +ℤ by)) }
+    ensures used { in_use places.new ≡ put (in_use places.old) (object % 64) true }
 {
     let delta = counted_on(places, object, by);
     put_entry(places, object, delta);
