@@ -21,6 +21,8 @@ faults 500000 accesses that fault on pages that have a frame, after mprotect
 files-sixteen 100000 loads through 16 files of 1 MiB, which one core maps shared and another privately
 files-shared 500000 two cores store and load through four files of 1 MiB
 files-private 200000 two cores read private pages of a file, and one stores: shootdown and copy
+files-stored 500000 64 cores store, and one line in four loads, through 16 files of 1 MiB that are mapped shared
+shootdowns 200000 a page mapped, loaded by 64 cores, and unmapped, which 63 of them have to acknowledge
 sparse 30001 10,000 pages 1,000 apart mapped, stored to, and loaded from'
 
 [ $# -gt 0 ] || { echo "$shapes"; exit; }
@@ -125,6 +127,24 @@ function private_files(    round) {
     emit("file 0 rw 1048576 3")
     for (round = 0; count < lines; round++) { private_round(round); if (round % 16 == 15) give_back() }
 }
+function stored_files(    file) {
+    emit("vm 64 8192 1048576")
+    for (file = 0; file < 16; file++) emit("file " file " rw 1048576 " file * 7)
+    for (file = 0; file < 16; file++) emit("c0! mmap " at(file * 256, 0) " 1048576 rw- sf " file " 0")
+    while (count < lines) if (count % 4) store(draw(64), draw(4096)); else load(draw(64), draw(4096))
+}
+# Each round takes a frame anew, which none gives back.
+function shootdowns(    page, core) {
+    emit("vm 64 4096 1048576")
+    while (count < lines) {
+        page = draw(64)
+        map(page, 1, "rw-")
+        for (core = 0; core < 64; core++) load(core, page)
+        unmap(page, 1)
+        for (core = 1; core < 64; core++) { emit("c" core " take"); emit("c" core " take") }
+        emit("c0 finish")
+    }
+}
 function sparse(pages,    i) {
     emit("vm 1 65536 1048576")
     for (i = 0; i < pages; i++) map(i * 1000, 1, "rw-")
@@ -145,5 +165,7 @@ BEGIN {
     if (shape == "faults") faults()
     if (shape == "files-shared") shared_files()
     if (shape == "files-private") private_files()
+    if (shape == "files-stored") stored_files()
+    if (shape == "shootdowns") shootdowns()
     if (shape == "sparse") sparse(10000)
 }'
