@@ -1,20 +1,23 @@
 -- Which frames pages, and pages of files, have, once some were given back or taken
-use Rattle.std.proofs.Common.{◌≡◌, ◌≢◌, ℕ, ◌+◌, ◌-◌, ◌<◌, ◌≤◌, ◌⊎◌, inl, inr, Bool, true, false, Option, Some, None, refl, sym, ◌∙◌, ap, subst, arith}
+use Rattle.std.proofs.Common.{◌≡◌, ◌≢◌, ℕ, ◌+◌, ◌-◌, ◌<◌, ◌≤◌, ◌⊎◌, inl, inr, ⊎_elim, Bool, true, false, cond, List, [], ◌∷◌, Option, Some, None, refl, sym, ◌∙◌, ap, subst, arith}
+use Rattle.std.proofs.lemmas.Bool.{cases_lt}
 use Rattle.std.specs.Prelude.{◌==◌}
+use Rattle.vm_base.specs.declared.info.Meta.{Meta}
 use Rattle.vm_base.specs.declared.info.PageInfo.{PageInfo}
 use Rattle.vm_base.specs.declared.rights.Prot.{Prot}
 use Rattle.vm_base.specs.declared.page.PageRange.{PageRange}
 use Rattle.vm_base.specs.Functions.{put, has}
 use Rattle.vm_base.specs.Info.{advance, frame_of, info_with_prot, info_without_frame, unused}
-use Rattle.vm_base.proofs.Functions.{by_test, eq_false, eq_true, in_has, put_other, over_all, across_all}
+use Rattle.vm_base.proofs.Functions.{by_test, eq_false, eq_true, has_in, in_has, put_other, over_all, across_all}
 use Rattle.slot_lock.specs.declared.plan.Change.{Change}
 use Rattle.slot_lock.specs.declared.plan.Change.TheVariants.{Put, Clear, Protect}
 use Rattle.slot_lock.specs.Plan.{range_of}
 use Rattle.slot_lock.specs.Changes.{changed}
-use Rattle.slot_lock.specs.Framed.{frames_in}
-use Rattle.slot_lock.specs.Slots.{Slots, LosesFrame, with_info}
+use Rattle.slot_lock.specs.declared.framed.Framed.{Framed}
+use Rattle.slot_lock.specs.Framed.{ListsFrames, frames_in}
+use Rattle.slot_lock.specs.Slots.{Slots, cleared, with_info}
 use Rattle.frames.specs.Parts.{FrameParts, frame_bytes, free_frames}
-use Rattle.audit.specs.Keeping.{IsKept, Keeps, Forgets, frame_at, frame_lost, none_cached}
+use Rattle.audit.specs.Keeping.{IsKept, Keeps, AreTaken, freed, frame_at, frame_lost, none_cached}
 
 -- ---- fewer frames
 
@@ -103,16 +106,6 @@ given s cached f g page x at free count k = record {
         let both = k.one o None p page y e (at ∙ ap Some (sym same)) in
         apart both.0 both.1
 
-pub kept_given : (s t : Slots) (cached : ℕ → ℕ → Option ℕ) (f g : FrameParts) (from end page x : ℕ) → LosesFrame s t from end page x
-    → free_frames g ≡ put (free_frames f) x true → g.count ≡ f.count → Keeps s cached f → Keeps t cached g
-kept_given s t cached f g from end page x l free count k =
-    subst (λ u. Keeps u cached g) (sym l.now) (given s cached f g page x l.had free count k)
-
--- the frame is taken before
-pub was_taken : (s t : Slots) (cached : ℕ → ℕ → Option ℕ) (f : FrameParts) (from end page x : ℕ) → LosesFrame s t from end page x → Keeps s cached f
-    → (x < f.count) × (free_frames f x ≡ false)
-was_taken s t cached f from end page x l k = k.taken None page x l.had
-
 -- ---- a page that is changed alone
 
 frame_had : (s : Slots) (c : Change) (info : Option PageInfo) (x : ℕ) → info ≡ s.info (range_of c).first → Some x ≡ frame_lost c info
@@ -157,26 +150,119 @@ kept_alone s t c info cached f g x one same lost free count now k =
         (λ at. let none : frame_of ((changed s c).info p) ≡ None = there p at in absurd cc)
         (λ apart. changed_fewer s c p y was)
 
-pub forgets_none : (s : Slots) (f : FrameParts) (range : PageRange) → Forgets s s f f range
-forgets_none s f range = record { owners = refl; edges = refl; outside = λ p e. refl; bytes = refl; kept = λ cached k. k }
+-- ---- frames of a list that are given back
 
-pub forgets_more : (r s t : Slots) (e f g : FrameParts) (range : PageRange) (from page x : ℕ) → range.first ≤ from
-    → LosesFrame s t from range.end page x
-    → free_frames g ≡ put (free_frames f) x true → frame_bytes g ≡ frame_bytes f → g.count ≡ f.count → Forgets r s e f range → Forgets r t e g range
-forgets_more r s t e f g range from page x low l free bytes count h = record {
-  owners = ap (λ u. u.owner) l.now ∙ h.owners;
-  edges = ap (λ u. u.edge) l.now ∙ h.edges;
-  outside = λ p out. ap (λ u. u.info p) l.now ∙ (put_other s.info page (info_without_frame (s.info page)) p (apart p out) ∙ h.outside p out);
-  bytes = bytes ∙ h.bytes;
-  kept = λ cached k. kept_given s t cached f g from range.end page x l free count (h.kept cached k);
+-- a frame that no page of a range has is free afterwards just where it was before
+still_free : (frame : ℕ → Option ℕ) (first end : ℕ) (xs : List Framed) (free : ℕ → Bool) (y : ℕ) → ListsFrames frame first end xs
+    → ((p : ℕ) → first ≤ p → p < end → frame p ≢ Some y) → freed xs free y ≡ free y
+still_free frame first end [] free y lists none = refl
+still_free frame first end (x ∷ xs) free y lists none =
+    still_free frame (x.page + 1) end xs (put free x.frame true) y lists.4 (λ p a b. none p (omega (arith, a, lists.0)) b)
+    ∙ put_other free x.frame true y (λ same. none x.page lists.0 lists.1 (lists.3 ∙ ap Some (sym same)))
+
+-- frames of pages are taken, each once, where pages from the first on have just taken ones, and no two the same
+taken_each : (frame : ℕ → Option ℕ) (first end : ℕ) (xs : List Framed) (count : ℕ) (free : ℕ → Bool)
+    → ((p y : ℕ) → first ≤ p → frame p ≡ Some y → (y < count) × (free y ≡ false))
+    → ((p q y : ℕ) → first ≤ p → first ≤ q → frame p ≡ Some y → frame q ≡ Some y → p ≡ q)
+    → ListsFrames frame first end xs → AreTaken xs count free
+taken_each frame first end [] count free taken one lists = tt
+taken_each frame first end (x ∷ xs) count free taken one lists =
+    let here = taken x.page x.frame lists.0 lists.3 in (
+      here.0,
+      here.1,
+      taken_each frame (x.page + 1) end xs count (put free x.frame true)
+          (λ p y a e.
+          let low : first ≤ p = omega (arith, a, lists.0) in
+          let was = taken p y low e in
+          let apart : y ≢ x.frame = λ same.
+          let clash : p ≡ x.page = one p x.page y low lists.0 e (lists.3 ∙ ap Some (sym same)) in absurd (omega (arith, a, clash)) in
+          (was.0, put_other free x.frame true y apart ∙ was.1))
+          (λ p q y a b e h. one p q y (omega (arith, a, lists.0)) (omega (arith, b, lists.0)) e h) lists.4,
+    )
+
+-- the pages of a range before one
+abbrev pub upto : PageRange → ℕ → PageRange
+upto range end = record { first = range.first; end = end }
+
+-- what a page behind the range has
+behind : (s : Slots) (range : PageRange) (from p : ℕ) → from ≤ p → (cleared s (upto range from)).info p ≡ s.info p
+behind s range from p low = by_test (λ o. o ≡ s.info p) (has (upto range from) p) None (s.info p)
+    (λ e. let in' = has_in (upto range from) p e in absurd (omega (arith, in'.1, low))) (λ e. refl)
+
+-- the frames that are listed next are taken
+pub listed_taken : (s : Slots) (range : PageRange) (from end : ℕ) (xs : List Framed) (f : FrameParts)
+    → Keeps (cleared s (upto range from)) none_cached f → ListsFrames (frames_in s) from end xs → AreTaken xs f.count (free_frames f)
+listed_taken s range from end xs f k lists =
+    taken_each (frames_in s) from end xs f.count (free_frames f) (λ p y a e. k.taken None p y (had p y a e))
+    (λ p q y a b e h. (k.one None None p q y (had p y a e) (had q y b h)).1) lists
+  where
+    had : (p y : ℕ) → from ≤ p → frame_of (s.info p) ≡ Some y → frame_of ((cleared s (upto range from)).info p) ≡ Some y
+    had p y a e = ap frame_of (behind s range from p a) ∙ e
+
+-- and what is left is kept once they are given back
+pub kept_listed : (s : Slots) (range : PageRange) (cached : ℕ → ℕ → Option ℕ) (from end : ℕ) (xs : List Framed) (f g : FrameParts)
+    → range.first ≤ from → from ≤ end → ListsFrames (frames_in s) from end xs → free_frames g ≡ freed xs (free_frames f) → g.count ≡ f.count
+    → Keeps (cleared s (upto range from)) cached f → Keeps (cleared s (upto range end)) cached g
+kept_listed s range cached from end xs f g low high lists free count k = record {
+  taken = λ o p y e.
+      let was = k.taken o p y (had o p y e) in (
+        subst (λ n. y < n) (sym count) was.0,
+        ap (λ (h : ℕ → Bool). h y) free
+            ∙ (still_free (frames_in s) from end xs (free_frames f) y lists (λ q a b h. other o p y e q a b h) ∙ was.1),
+      );
+  one = λ o a p q y e h. k.one o a p q y (had o p y e) (had a q y h);
 }
   where
-    apart : (p : ℕ) → has range p ≡ false → p ≢ page
-    apart p out same =
-        let a = l.low in
-        let b = l.high in
-        let in' : has range p ≡ true = in_has range p (omega (arith, same, a, low)) (omega (arith, same, b)) in
-        absurd cc
+    apart : (p : ℕ) → has (upto range end) p ≡ false → (p < range.first) ⊎ (end ≤ p)
+    apart p e = ⊎_elim (λ (l : p < range.first). inl l)
+        (λ (l : range.first ≤ p). ⊎_elim
+        (λ (m : p < end). let both : has (upto range end) p ≡ true = in_has (upto range end) p l m in absurd cc)
+        (λ (m : end ≤ p). inr m) (cases_lt p end))
+        (cases_lt p range.first)
+
+    fewer : (p y : ℕ) → frame_of ((cleared s (upto range end)).info p) ≡ Some y
+        → (frame_of ((cleared s (upto range from)).info p) ≡ Some y) × ((p < range.first) ⊎ (end ≤ p))
+    fewer p y = by_test
+        (λ (i : Option PageInfo). frame_of i ≡ Some y
+        → (frame_of ((cleared s (upto range from)).info p) ≡ Some y) × ((p < range.first) ⊎ (end ≤ p)))
+        (has (upto range end) p) None (s.info p) (λ e h. never y h)
+        (λ e h. (
+          by_test (λ (i : Option PageInfo). frame_of i ≡ Some y) (has (upto range from) p) None (s.info p)
+              (λ a. let in' = has_in (upto range from) p a in
+              let both : has (upto range end) p ≡ true = in_has (upto range end) p in'.0 (omega (arith, in'.1, high)) in absurd cc)
+              (λ a. h),
+          apart p e,
+        ))
+
+    had : (o : Option ℕ) (p y : ℕ) → frame_at (frames_in (cleared s (upto range end))) cached o p ≡ Some y
+        → frame_at (frames_in (cleared s (upto range from))) cached o p ≡ Some y
+    had None p y e = (fewer p y e).0
+    had (Some n) p y e = e
+
+    other : (o : Option ℕ) (p y : ℕ) → frame_at (frames_in (cleared s (upto range end))) cached o p ≡ Some y → (q : ℕ) → from ≤ q → q < end
+        → frame_of (s.info q) ≢ Some y
+    other None p y e q a b h =
+        let same : p ≡ q = (k.one None None p q y (had None p y e) (ap frame_of (behind s range from q a) ∙ h)).1 in
+        ⊎_elim (λ (l : p < range.first). absurd (omega (arith, l, same, low, a))) (λ (l : end ≤ p). absurd (omega (arith, l, same, b)))
+        (fewer p y e).1
+    other (Some n) p y e q a b h =
+        let same : Some n ≡ None = (k.one (Some n) None p q y e (ap frame_of (behind s range from q a) ∙ h)).0 in absurd cc
+
+-- unmapped pages have none
+pub kept_cleared : (s : Slots) (range : PageRange) (cached : ℕ → ℕ → Option ℕ) (f : FrameParts) → Keeps s cached f
+    → Keeps (cleared s range) cached f
+kept_cleared s range cached f = kept_changed s (cleared s range) (Clear range) cached f refl
+
+-- pages that are mapped anew have no frame either
+pub kept_put : (s t : Slots) (range : PageRange) (meta : Meta) (cached : ℕ → ℕ → Option ℕ) (f : FrameParts)
+    → t.info ≡ (changed s (Put range meta)).info → Keeps (cleared s range) cached f → Keeps t cached f
+kept_put s t range meta cached f same = kept_pages (cleared s range) t cached f
+    (λ p x e. fewer p x (has range p) (ap (λ (i : ℕ → Option PageInfo). frame_of (i p)) (sym same) ∙ e))
+  where
+    fewer : (p x : ℕ) (b : Bool) → frame_of (cond b (Some (unused (advance meta (p - range.first)))) (s.info p)) ≡ Some x
+        → frame_of (cond b None (s.info p)) ≡ Some x
+    fewer p x true e = never x e
+    fewer p x false e = e
 
 -- ---- a frame that is taken
 

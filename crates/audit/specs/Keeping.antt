@@ -1,16 +1,17 @@
 -- How a plain page map is kept: slots say what backs each page, and a frame has a page's own bytes, or
 -- those of a page of a file, once a store has changed them
-use Rattle.std.specs.Prelude.{◌≡◌, ℕ, ◌<◌, ◌≤◌, ◌⊎◌, true, false, List, Option, None, Some}
+use Rattle.std.specs.Prelude.{◌≡◌, ℕ, ◌<◌, ◌≤◌, ◌⊎◌, Bool, true, false, List, [], ◌∷◌, Option, None, Some}
 use Rattle.vm_base.specs.declared.info.Back.{Back}
 use Rattle.vm_base.specs.declared.info.Back.TheVariants.{Anon, Shared, Private}
 use Rattle.vm_base.specs.declared.info.PageInfo.{PageInfo}
 use Rattle.vm_base.specs.declared.page.PageRange.{PageRange}
-use Rattle.vm_base.specs.Functions.{put, has}
+use Rattle.vm_base.specs.Functions.{put}
 use Rattle.vm_base.specs.Plain.{Bytes, File, Entry, Plain, zeros, bytes_in}
 use Rattle.vm_base.specs.Info.{frame_of}
 use Rattle.slot_lock.specs.declared.plan.Change.{Change}
 use Rattle.slot_lock.specs.declared.plan.Change.TheVariants.{Put, Clear, Protect}
-use Rattle.slot_lock.specs.Slots.{Slots}
+use Rattle.slot_lock.specs.declared.framed.Framed.{Framed}
+use Rattle.slot_lock.specs.Slots.{Slots, cleared}
 use Rattle.slot_lock.specs.Framed.{frames_in}
 use Rattle.frames.specs.Parts.{FrameParts, frame_bytes, free_frames}
 use Rattle.backing.specs.Files.{FileParts, files_of, cached_in}
@@ -107,10 +108,20 @@ pub record HeldFrom (s : Slots) (first end : ℕ) : Type 0 where
   pub others : (p : ℕ) → (p < first) ⊎ (end ≤ p) → s.owner p ≡ None
   pub cut : first < end → (s.edge first ≡ true) × (s.edge end ≡ true)
 
--- Frames of pages of the range were given back, and nothing else changed.
-pub record Forgets (s t : Slots) (old new : FrameParts) (range : PageRange) : Type 0 where
-  pub owners : t.owner ≡ s.owner
-  pub edges : t.edge ≡ s.edge
-  pub outside : (p : ℕ) → has range p ≡ false → t.info p ≡ s.info p
+-- ---- which frames are given back
+
+-- the listed frames are taken, each once
+abbrev pub AreTaken : List Framed → ℕ → (ℕ → Bool) → Type 0
+AreTaken [] count free = Unit {0}
+AreTaken (x ∷ xs) count free =
+    (x.frame < count) × (free x.frame ≡ false) × AreTaken xs count (put free x.frame true)
+
+-- they were given back
+abbrev pub freed : List Framed → (ℕ → Bool) → ℕ → Bool
+freed [] free = free
+freed (x ∷ xs) free = freed xs (put free x.frame true)
+
+-- The frames of the pages of a range were given back: what is left is kept as though these were unmapped.
+pub record Forgets (s : Slots) (old new : FrameParts) (range : PageRange) : Type 0 where
   pub bytes : frame_bytes new ≡ frame_bytes old
-  pub kept : (cached : ℕ → ℕ → Option ℕ) → Keeps s cached old → Keeps t cached new
+  pub kept : (cached : ℕ → ℕ → Option ℕ) → Keeps s cached old → Keeps (cleared s range) cached new

@@ -3,26 +3,41 @@ ghost use Rattle.std.specs.Prelude.{◌≡◌, ℕ, ◌+◌, Option, OnOk, OnErr
 ghost use Rattle.slot_lock.specs.Plan.{IsSoundChange, range_of};
 ghost use Rattle.slot_lock.specs.Changes.{IsMappedFor, changed};
 ghost use Rattle.slot_lock.specs.Slots.{IsFreePage, IsFreeSlot, IsHeld};
-ghost use Rattle.frames.specs.Parts.{frame_bytes};
-ghost use Rattle.audit.specs.Keeping.{NobodyHolds, Keeps, Forgets, frame_lost, none_cached};
+ghost use Rattle.vm_base.specs.Pages.{IsPageRange};
+ghost use Rattle.frames.specs.Parts.{frame_bytes, free_frames};
+ghost use Rattle.audit.specs.Keeping.{NobodyHolds, Keeps, AreTaken, freed, Forgets, frame_lost, none_cached};
 
 use crate::holding::{hold, let_go, only_core};
 use frames::Frames;
-use slot_lock::{Change, FreePage, SlotMap};
+use slot_lock::{Change, Framed, FramedPages, FreePage, SlotMap};
 use std::alloc::Allocator;
 use vm_base::{NoMemory, PageInfo, PageRange};
 
-/// Gives the frames of all pages of the range back. What these pages show is left open: they are about
-/// to be mapped anew, or unmapped.
-fn forget_bytes<M: SlotMap, A: Allocator>(map: &mut M, frames: &mut Frames<A>, range: PageRange)
-    requires held { IsHeld (M.slots map.old) 0 range }
-    requires kept { Keeps (M.slots map.old) none_cached frames.old }
-    ensures { Forgets (M.slots map.old) (M.slots map.new) frames.old frames.new range }
+/// Gives the frames of the listed pages back.
+fn give_list<A: Allocator>(frames: &mut Frames<A>, list: &[Framed])
+    requires taken { AreTaken list.now frames.old.count (free_frames frames.old) }
+    ensures free { free_frames frames.new ≡ freed list.now (free_frames frames.old) }
+    ensures bytes { frame_bytes frames.new ≡ frame_bytes frames.old }
+    ensures count { frames.new.count ≡ frames.old.count }
 {
+    'pages: for k in 0..list.len() {
+        frames.give(list[k].frame);
+    }
+}
+
+/// Gives the frames of all pages of the range back, a list of them at a time. The pages still name
+/// them, and are about to be mapped anew, or unmapped.
+fn forget_bytes<M: SlotMap, A: Allocator>(map: &M, frames: &mut Frames<A>, range: PageRange)
+    requires pages { IsPageRange range }
+    requires kept { Keeps (M.slots map.now) none_cached frames.old }
+    ensures { Forgets (M.slots map.now) frames.old frames.new range }
+{
+    let mut list = FramedPages::new();
     let mut from = range.first;
-    'pages: while let Some((page, frame)) = map.take_frame(only_core(), from, range.end) {
-        frames.give(frame);
-        from = page + 1;
+    'lists: while from < range.end {
+        list.clear();
+        from = map.list_frames(from, range.end, &mut list);
+        give_list(frames, &list);
     }
 }
 
@@ -40,15 +55,15 @@ fn change_held<M: SlotMap, A: Allocator>(map: &mut M, frames: &mut Frames<A>, ch
         → Keeps (M.slots map.new) cached frames.new }
 {
     match change {
-        Change::Put { range, meta } => {
+        Change::Put { range, .. } => {
             forget_bytes(map, frames, range);
-            map.set_range(only_core(), range, meta);
+            map.change(only_core(), change);
         }
         Change::Clear { range } => {
             forget_bytes(map, frames, range);
-            map.clear_range(only_core(), range);
+            map.change(only_core(), change);
         }
-        Change::Protect { range, prot } => map.protect_range(only_core(), range, prot),
+        Change::Protect { .. } => map.change(only_core(), change),
     }
 }
 

@@ -63,13 +63,21 @@ fn put<A: Allocator>(node: &mut Node<A>, first: u64, end: u64, info: Option<Page
     node.edit(first, end, &Edit::Put(info), 0);
 }
 
-fn own<A: Allocator>(node: &mut Node<A>, page: u64, core: u8) -> Option<u8>
+fn lock<A: Allocator>(node: &mut Node<A>, page: u64, core: u8) -> Option<Lock>
     requires { core < 64 }
 {
     if node.level() != 1 || page >= 262_144 {
         return None;
     }
-    Some(node.own_at(page, Some(CoreId::new(core))))
+    Some(node.lock_at(page, 512, CoreId::new(core)))
+}
+
+// The level of the slot.
+fn unlock<A: Allocator>(node: &mut Node<A>, page: u64) -> Option<u8> {
+    if node.level() != 1 || page >= 262_144 {
+        return None;
+    }
+    Some(node.unlock_at(page))
 }
 
 fn expand<A: Allocator + Clone>(node: &mut Node<A>, slot: usize) -> Result<bool, NoMemory>
@@ -102,7 +110,7 @@ fn fold_at<A: Allocator>(node: &mut Node<A>, page: u64) -> bool {
 #[derive(Clone, Copy)]
 struct Expansion {
     before: [Option<Seen>; 2],
-    level: Option<u8>,
+    locked: Option<Lock>,
     after: [Option<Seen>; 5],
     expanded: [bool; 2],
     folded: bool,
@@ -111,7 +119,7 @@ struct Expansion {
 fn an_expansion<A: Allocator + Clone>(node: &mut Node<A>) -> Result<Expansion, NoMemory> {
     let empty = look(node, 1030);
     put(node, 1024, 1536, Some(PageInfo::unused(FILE)));
-    let level = own(node, 1030, 7);
+    let locked = lock(node, 1024, 7);
     let mapped = look(node, 1030);
     let first = expand(node, 2)?;
     let second = expand(node, 2)?;
@@ -124,7 +132,7 @@ fn an_expansion<A: Allocator + Clone>(node: &mut Node<A>) -> Result<Expansion, N
     ];
     Ok(Expansion {
         before: [empty, mapped],
-        level,
+        locked,
         after,
         expanded: [first, second],
         folded: node.fold(2),
@@ -143,7 +151,7 @@ fn an_expansion_carries_on(rt: HostRuntime) -> Result<(), Fail> {
     let told = expansion_of_new(rt.alloc())?;
     assert_eq!(rt; told.before[0], Some((None, None, 6, 512)));
     assert_eq!(rt; told.before[1], Some((Some(5), Some(7), 6, 512)));
-    assert_eq!(rt; told.level, Some(1));
+    assert_eq!(rt; told.locked, Some(Lock::Locked(512)));
     assert_eq!(rt; told.expanded, [true, false]);
     // the slot's first page is 1024, with file page 5
     assert_eq!(rt; told.after[0], Some((Some(5), Some(7), 0, 1)));
@@ -260,15 +268,14 @@ fn a_slot_says_what_it_was_given(rt: HostRuntime) -> Result<(), Fail> {
 }
 
 // What walks over the pages round a used one find: its core, whether it is listed alone with its
-// frame, whether pages are mapped, and free pages.
-type Walked = (bool, bool, [bool; 2], u64);
+// frame, and free pages.
+type Walked = (bool, bool, u64);
 
 fn walked<A: Allocator>(node: &mut Node<A>) -> Option<Walked> {
     if node.level() != 1 || node.descend(1030).offset != 0 || node.descend(1031).offset != 0 {
         return None;
     }
     node.edit(1030, 1031, &Edit::Put(Some(used())), 0);
-    let mapped = [node.all_mapped(1030, 1031), node.all_mapped(1030, 1032)];
     let free = match node.free_run(0, 1000, 1100, 50, 1000) {
         FreeRun::Found(page) => page,
         FreeRun::Open(_) => 0,
@@ -283,7 +290,6 @@ fn walked<A: Allocator>(node: &mut Node<A>) -> Option<Walked> {
     Some((
         node.recorded(1000, 2000).contains(CoreId::new(2)),
         upto == 6096 && list.as_slice() == [framed].as_slice(),
-        mapped,
         free,
     ))
 }
@@ -304,7 +310,7 @@ fn walked_of_new<A: Allocator + Clone>(alloc: A) -> Result<Option<Walked>, NoMem
 fn walks_find_a_used_page(rt: HostRuntime) -> Result<(), Fail> {
     let told = walked_of_new(rt.alloc())?;
     // pages 1000 to 1029 are too few, and page 1030 is mapped
-    assert!(rt; told == Some((true, true, [true, false], 1031)));
+    assert!(rt; told == Some((true, true, 1031)));
     Ok(())
 }
 

@@ -6,9 +6,9 @@ use Rattle.std.proofs.Math.ListN.{set, length-set}
 use Rattle.std.proofs.lemmas.List.{get_or-set_same, get_or-set_other}
 use Rattle.vm_base.specs.declared.info.PageInfo.{PageInfo}
 use Rattle.vm_base.specs.declared.rights.Prot.{Prot}
-use Rattle.vm_base.specs.Info.{info_from, info_file_page, info_with_prot, info_without_frame, is_leaf}
+use Rattle.vm_base.specs.Info.{info_from, info_file_page, info_with_prot, is_leaf}
 use Rattle.radix_node.specs.declared.edit.Edit.{Edit}
-use Rattle.radix_node.specs.declared.edit.Edit.TheVariants.{Put, Protect, DropFrame}
+use Rattle.radix_node.specs.declared.edit.Edit.TheVariants.{Put, Protect}
 use Rattle.radix_node.specs.declared.node.Node.{Node}
 use Rattle.radix_node.specs.declared.node.Slot.{Slot}
 use Rattle.radix_node.specs.declared.node.Slot.TheVariants.{Own as OwnSlot, Child}
@@ -36,22 +36,10 @@ some_frame : (a b : Bool) → a || false ≡ true → a || b ≡ true
 some_frame true b h = refl
 some_frame false b h = cc
 
-no_frame : (a b : Bool) → false || b ≡ true → a || b ≡ true
-no_frame true b h = refl
-no_frame false b h = h
-
 prot_leaf : (prot : Prot) (o : Option PageInfo) → is_leaf (info_with_prot prot o) ≡ true
     → is_leaf o ≡ true
 prot_leaf prot None h = h
 prot_leaf prot (Some info) h = some_frame (is_some info.frame) _ h
-
-frame_fits : (o : Option PageInfo) → info_file_page (info_without_frame o) ≡ info_file_page o
-frame_fits None = refl
-frame_fits (Some info) = refl
-
-frame_leaf : (o : Option PageInfo) → is_leaf (info_without_frame o) ≡ true → is_leaf o ≡ true
-frame_leaf None h = h
-frame_leaf (Some info) h = no_frame (is_some info.frame) _ h
 
 pub edited_sound : (edit : Edit) (n by width : ℕ) (s : State) → CanEdit edit n → by + width ≤ n
     → 0 < width → IsSound width s → IsSound width (edited edit by s)
@@ -63,10 +51,6 @@ edited_sound (Protect prot) n by width s can l pos h = record {
   fits = rw (prot_fits prot s.info) h.fits;
   alone = λ leaf. h.alone (prot_leaf prot s.info leaf);
 }
-edited_sound DropFrame n by width s can l pos h = record {
-  fits = rw (frame_fits s.info) h.fits;
-  alone = λ leaf. h.alone (frame_leaf s.info leaf);
-}
 
 -- a change can be made of fewer pages
 pub can_fewer : (edit : Edit) (n m : ℕ) → CanEdit edit n → m ≤ n → 0 < m → CanEdit edit m
@@ -75,7 +59,6 @@ can_fewer (Put info) n m can l pos = record {
   alone = λ leaf. let one = can.alone leaf in omega arith;
 }
 can_fewer (Protect prot) n m can l pos = tt
-can_fewer DropFrame n m can l pos = tt
 
 -- ---- a written slot
 
@@ -375,11 +358,11 @@ pub child_uncrossed : {A : Type 0} {level first end i rest : ℕ} {ss : List (Sl
     → Uncrossed (runs v) rest (rest + (end - first))
 child_uncrossed {level = level} {first = first} {end = end} {rest = rest} {ss = ss} d b v n h is same begins ends =
     let rs = flatten (width_of level) (parts_of ss) in
-    let none = none_yet rs 0 DropFrame h in
+    let none = none_yet rs 0 (Put None) h in
     let order : rest < rest + (end - first) = omega (arith, h.some) in
     record {
-      begins = child_begins d b v rs first end rest (rest + (end - first)) 0 DropFrame n h.place.slot_in is same (part_of_slot h) order begins none;
-      ends = child_ends d b v rs first end rest (rest + (end - first)) 0 DropFrame n h.place.slot_in is same (part_of_slot h) order ends none;
+      begins = child_begins d b v rs first end rest (rest + (end - first)) 0 (Put None) n h.place.slot_in is same (part_of_slot h) order begins none;
+      ends = child_ends d b v rs first end rest (rest + (end - first)) 0 (Put None) n h.place.slot_in is same (part_of_slot h) order ends none;
     }
 
 pub child_narrow : {A : Type 0} {level first end i rest : ℕ} {ss : List (Slot A)} (d : Slot A) (b c : Box (Node A) A) (v : Parts) (by : ℕ) (edit : Edit)

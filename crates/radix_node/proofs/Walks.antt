@@ -14,7 +14,7 @@ use Rattle.radix_node.specs.State.{State, state_of}
 use Rattle.radix_node.specs.Run.{Run, Cell, cell_at, width_of}
 use Rattle.radix_node.specs.Node.{Parts, runs, flatten}
 use Rattle.radix_node.specs.Slots.{parts_of, IsNode}
-use Rattle.radix_node.specs.Walk.{OnAll, IsMapped, HasNoFrame, IsFirstFramed, HasUser, Blocked, IsOpen, IsFree, Finds}
+use Rattle.radix_node.specs.Walk.{HasUser, Blocked, IsOpen, IsFree, Finds}
 use Rattle.radix_node.proofs.Flat.{IsPlace, cell_at-Own, cell_at-Child, child_level, child_pages, width_pos}
 
 -- ---- the pages of one slot
@@ -122,57 +122,6 @@ along_down d b v l h n is same most =
 
 -- ---- what each page has
 
--- it holds of the slots of the range's pages up to this one
-pub record Seen (rs : List Run) (Q : Option PageInfo → Type 0) (first end upto : ℕ) : Type 0 where
-  pub seen : (p : ℕ) → first ≤ p → p < end → p < upto → Q (cell_at rs p).state.info
-
-pub seen_own : {A : Type 0} {level i : ℕ} {ss : List (Slot A)} (Q : Option PageInfo → Type 0) (d : Slot A) (s : SlotState) (first end : ℕ)
-    → IsNode level ss → i < 512 → OwnSlot s ≡ get_or ss i d
-    → Q (state_of s).info
-    → Seen (flatten (width_of level) (parts_of ss)) Q first end (i * width_of level)
-    → Seen (flatten (width_of level) (parts_of ss)) Q first end ((i + 1) * width_of level)
-seen_own {level = level} {i = i} Q d s first end n l is q h = record {
-  seen = λ p a b c. ⊎_elim
-      (λ (m : p < i * width_of level). h.seen p a b m)
-      (λ (m : i * width_of level ≤ p). subst (λ (c : Cell). Q c.state.info) (sym (own_page d s n l is p (record { low = m; high = omega arith }))) q)
-      (cases_lt p (i * width_of level));
-}
-
-pub seen_child : {A : Type 0} {level i : ℕ} {ss : List (Slot A)} (Q : Option PageInfo → Type 0) (d : Slot A) (b : Box (Node A) A)
-    (v : Parts) (first end lo hi : ℕ)
-    → IsNode level ss → i < 512 → Child b ≡ get_or ss i d
-    → v ≡ b.value → IsPart first end (i * width_of level) (width_of level) lo hi
-    → OnAll Q (runs v) lo hi
-    → Seen (flatten (width_of level) (parts_of ss)) Q first end (i * width_of level)
-    → Seen (flatten (width_of level) (parts_of ss)) Q first end ((i + 1) * width_of level)
-seen_child {level = level} {i = i} Q d b v first end lo hi n l is same part q h = record {
-  seen = λ p a e c. ⊎_elim
-      (λ (m : p < i * width_of level). h.seen p a e m)
-      (λ (m : i * width_of level ≤ p). subst (λ (c : Cell). Q c.state.info)
-      (ap (λ v. cell_at (runs v) (p - i * width_of level)) same ∙ sym
-      (child_page d b n l is p (record { low = m; high = omega arith })))
-      (q (p - i * width_of level) (omega (arith, part.first_is)) (omega (arith, part.end_is))))
-      (cases_lt p (i * width_of level));
-}
-
-pub seen_none : (rs : List Run) (Q : Option PageInfo → Type 0) (first end upto : ℕ) → upto ≤ first
-    → Seen rs Q first end upto
-seen_none rs Q first end upto l = record { seen = λ p a b c. absurd (omega arith) }
-
-pub seen_all : (rs : List Run) (Q : Option PageInfo → Type 0) (first end upto : ℕ)
-    → Seen rs Q first end upto → end ≤ upto → OnAll Q rs first end
-seen_all rs Q first end upto h l = λ p a b. h.seen p a b (omega arith)
-
--- the first page of the range that a slot has
-pub own_first : {A : Type 0} {level i : ℕ} {ss : List (Slot A)} (d : Slot A) (s : SlotState) (first : ℕ)
-    → IsNode level ss → i < 512 → OwnSlot s ≡ get_or ss i d
-    → first < i * width_of level + width_of level
-    → (cell_at (flatten (width_of level) (parts_of ss)) (max first (i * width_of level))).state ≡ state_of s
-own_first {level = level} {i = i} d s first n l is past = let pos = width_pos level in
-    ap (λ (c : Cell). c.state)
-    (own_page d s n l is (max first (i * width_of level))
-    (record { low = omega arith; high = omega arith }))
-
 -- a page of a child that is a page of the range
 pub record Lower (first end start lo hi q : ℕ) : Type 0 where
   pub low : first ≤ start + q
@@ -192,67 +141,6 @@ child_cell {level = level} {i = i} {q = q} d b v n l is same part h =
     (record { low = omega arith; high = omega (arith, part.end_is) })
     ∙ ap (λ v. cell_at (runs v) (i * width_of level + q - i * width_of level)) (sym same)
     ∙ ap (cell_at (runs v)) k
-
-none_some : (b : Bool) → b ≡ false → b ≡ true → ⊥
-none_some b e f = cc
-
-pub own_unmapped : {A : Type 0} {level i : ℕ} {ss : List (Slot A)} (d : Slot A) (s : SlotState) (first end : ℕ)
-    → IsNode level ss → i < 512 → OwnSlot s ≡ get_or ss i d
-    → first < end → i * width_of level < end → first < i * width_of level + width_of level
-    → is_some (state_of s).info ≡ false
-    → ¬ OnAll IsMapped (flatten (width_of level) (parts_of ss)) first end
-own_unmapped {level = level} {i = i} d s first end n l is some low past none all =
-    none_some _ (ap (λ (s : State). is_some s.info) (own_first d s first n l is past) ∙ none)
-    (all (max first (i * width_of level)) (omega arith) (omega arith))
-
-pub child_unmapped : {A : Type 0} {level i : ℕ} {ss : List (Slot A)} (d : Slot A) (b : Box (Node A) A) (v : Parts) (first end lo hi : ℕ)
-    → IsNode level ss → i < 512 → Child b ≡ get_or ss i d
-    → v ≡ b.value → IsPart first end (i * width_of level) (width_of level) lo hi
-    → ¬ OnAll IsMapped (runs v) lo hi
-    → ¬ OnAll IsMapped (flatten (width_of level) (parts_of ss)) first end
-child_unmapped {level = level} {i = i} d b v first end lo hi n l is same part none all =
-    none (λ q x y.
-    let m = lower part x y in
-    subst (λ (c : Cell). IsMapped c.state.info) (child_cell d b v n l is same part y)
-    (all (i * width_of level + q) m.low m.high))
-
-pub own_framed : {A : Type 0} {level i frame : ℕ} {ss : List (Slot A)} (d : Slot A) (s : SlotState) (first end : ℕ)
-    → IsNode level ss → i < 512 → OwnSlot s ≡ get_or ss i d
-    → first < end → i * width_of level < end → first < i * width_of level + width_of level
-    → frame_of (state_of s).info ≡ Some frame
-    → Seen (flatten (width_of level) (parts_of ss)) HasNoFrame first end (i * width_of level)
-    → IsFirstFramed (flatten (width_of level) (parts_of ss)) first end (max first (i * width_of level)) frame
-own_framed {level = level} {i = i} d s first end n l is some low past had h = record {
-  low = omega arith;
-  high = omega arith;
-  before = λ p a b. h.seen p a (omega arith) (omega arith);
-  had = ap (λ (s : State). frame_of s.info) (own_first d s first n l is past) ∙ had;
-}
-
-pub child_framed : {A : Type 0} {level i q frame : ℕ} {ss : List (Slot A)} (d : Slot A) (b : Box (Node A) A) (v : Parts) (first end lo hi : ℕ)
-    → IsNode level ss → i < 512 → Child b ≡ get_or ss i d
-    → v ≡ b.value → IsPart first end (i * width_of level) (width_of level) lo hi
-    → IsFirstFramed (runs v) lo hi q frame
-    → Seen (flatten (width_of level) (parts_of ss)) HasNoFrame first end (i * width_of level)
-    → IsFirstFramed (flatten (width_of level) (parts_of ss)) first end (i * width_of level + q) frame
-child_framed {level = level} {i = i} {q = q} {ss = ss} d b v first end lo hi n l is same part f h =
-    let m = lower part f.low f.high in
-    record {
-      low = m.low;
-      high = m.high;
-      before = λ p a e. ⊎_elim
-          (λ (x : p < i * width_of level). h.seen p a (omega (arith, m.high)) x)
-          (λ (x : i * width_of level ≤ p).
-          let k : i * width_of level + (p - i * width_of level) ≡ p = omega arith in
-          subst (λ (c : Cell). HasNoFrame c.state.info)
-          (sym
-          (child_cell {q = p - i * width_of level} d b v n l is same part (omega (arith, f.high))) ∙
-          ap (cell_at (flatten (width_of level) (parts_of ss))) k)
-          (f.before (p - i * width_of level) (omega (arith, part.first_is)) (omega arith)))
-          (cases_lt p (i * width_of level));
-      had = ap (λ (c : Cell). frame_of c.state.info) (child_cell d b v n l is same part f.high)
-          ∙ f.had;
-    }
 
 -- ---- the cores of the pages
 

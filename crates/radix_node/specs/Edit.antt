@@ -1,9 +1,9 @@
 -- What a change makes of a slot
 use Rattle.std.specs.Prelude.{◌≡◌, ℕ, ◌+◌, ◌-◌, ◌*◌, ◌<◌, ◌≤◌, ◌⊎◌, Option, None}
 use Rattle.vm_base.specs.declared.info.PageInfo.{PageInfo}
-use Rattle.vm_base.specs.Info.{info_from, info_with_prot, info_without_frame}
+use Rattle.vm_base.specs.Info.{info_from, info_with_prot}
 use Rattle.radix_node.specs.declared.edit.Edit.{Edit}
-use Rattle.radix_node.specs.declared.edit.Edit.TheVariants.{Put, Protect, DropFrame}
+use Rattle.radix_node.specs.declared.edit.Edit.TheVariants.{Put, Protect}
 use Rattle.radix_node.specs.State.{State}
 use Rattle.radix_node.specs.Run.{Cell, cell_at, width_of, IsSound, IsWhole}
 use Rattle.radix_node.specs.Node.{Parts, runs}
@@ -12,7 +12,6 @@ use Rattle.radix_node.specs.Node.{Parts, runs}
 abbrev pub edited_info : Edit → ℕ → Option PageInfo → Option PageInfo
 edited_info (Put first) n info = info_from first n
 edited_info (Protect prot) n info = info_with_prot prot info
-edited_info DropFrame n info = info_without_frame info
 
 -- a slot after a change of a range that begins so many pages before it
 abbrev pub edited : Edit → ℕ → State → State
@@ -27,7 +26,6 @@ edited_cell edit n c =
 abbrev pub CanEdit : Edit → ℕ → Type 0
 CanEdit (Put info) n = IsSound n (record { info = info; owner = None })
 CanEdit (Protect prot) n = Unit {0}
-CanEdit DropFrame n = Unit {0}
 
 -- a node's pages from one up to another are changed, as those of a range that begins `by` pages
 -- before them, and the others are not

@@ -1,27 +1,9 @@
 -- What is found on the pages of a range
 use Rattle.std.specs.Prelude.{◌≡◌, ℕ, ◌+◌, ◌-◌, ◌<◌, ◌≤◌, true, is_some, Option, None, Some, List}
-use Rattle.vm_base.specs.declared.info.PageInfo.{PageInfo}
 use Rattle.vm_base.specs.Info.{frame_of, is_recorded}
 use Rattle.radix_node.specs.declared.walk.FreeRun.{FreeRun}
 use Rattle.radix_node.specs.declared.walk.FreeRun.TheVariants.{Found, Open}
 use Rattle.radix_node.specs.Run.{Run, cell_at}
-
--- it holds of what the slot of each page from first up to end says
-abbrev pub OnAll : (Option PageInfo → Type 0) → List Run → ℕ → ℕ → Type 0
-OnAll Q rs first end = (p : ℕ) → first ≤ p → p < end → Q (cell_at rs p).state.info
-
-abbrev pub IsMapped : Option PageInfo → Type 0
-IsMapped info = is_some info ≡ true
-
-abbrev pub HasNoFrame : Option PageInfo → Type 0
-HasNoFrame info = frame_of info ≡ None
-
--- the page is the first from a page on with a frame
-pub record IsFirstFramed (rs : List Run) (first end page frame : ℕ) : Type 0 where
-  pub low : first ≤ page
-  pub high : page < end
-  pub before : OnAll HasNoFrame rs first page
-  pub had : frame_of (cell_at rs page).state.info ≡ Some frame
 
 -- the frame of each page, if it has one, where the node's pages are counted from the base on
 abbrev pub frames_from : ℕ → List Run → ℕ → Option ℕ

@@ -2,7 +2,7 @@
 ghost use Rattle.std.specs.Prelude.{◌≡◌, ℕ, Some, None, ◌+◌, ◌*◌, ◌-◌, ◌<◌, ◌≤◌, ◌^◌, ◌⊎◌};
 ghost use Rattle.radix_node.specs.Run.{width_of, cell_at, IsWhole};
 ghost use Rattle.radix_node.specs.Node.{runs};
-ghost use Rattle.radix_node.specs.declared.edit.Edit.TheVariants.{Put, Protect, DropFrame};
+ghost use Rattle.radix_node.specs.declared.edit.Edit.TheVariants.{Put, Protect};
 ghost use Rattle.radix_node.specs.Edit.{CanEdit, EditsNode, edited_cell};
 
 use crate::node::{Node, Slot};
@@ -18,8 +18,6 @@ pub enum Edit {
     Put(Option<PageInfo>),
     /// Each page has this protection, and no recorded core.
     Protect(Prot),
-    /// No page has a frame.
-    DropFrame,
 }
 
 impl<A: Allocator> Node<A> {
@@ -75,22 +73,6 @@ impl<A: Allocator> Node<A> {
         }
     }
 
-    // Takes the frames from pages, in a node whose slots have one page each.
-    fn drop_frames(&mut self, first: usize, end: usize)
-        requires level { self.old.level ≡ 0 }
-        requires some { first < end }
-        requires within { end ≤ 512 }
-        ensures { EditsNode self.old self.new first end 0 DropFrame }
-    {
-        let slots = self.slots.as_mut_slice();
-        'pages: for k in first..end {
-            match &mut slots[k] {
-                Slot::Own(state) => state.drop_frame(),
-                Slot::Child(_) => unreachable!(),
-            }
-        }
-    }
-
     // Changes pages as `edit` does, in a node whose slots have one page each. The kind of change is
     // matched once, and not for each slot.
     fn edit_pages(&mut self, first: usize, end: usize, edit: &Edit, by: u64)
@@ -111,7 +93,6 @@ impl<A: Allocator> Node<A> {
             Edit::Put(None) => self.clear_pages(first, end),
             Edit::Put(Some(info)) => self.put_pages(first, end, info, by),
             Edit::Protect(prot) => self.protect_pages(first, end, *prot),
-            Edit::DropFrame => self.drop_frames(first, end),
         }
     }
 

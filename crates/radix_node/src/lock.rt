@@ -1,5 +1,5 @@
-//! An attempt to lock a slot, in one walk.
-ghost use Rattle.std.specs.Prelude.{◌≡◌, ◌*◌, ◌<◌};
+//! An attempt to lock a slot, and the unlocking of one, each in one walk.
+ghost use Rattle.std.specs.Prelude.{◌≡◌, ◌*◌, ◌<◌, ◌≤◌, None};
 ghost use Rattle.radix_node.specs.State.{state_of};
 ghost use Rattle.radix_node.specs.Run.{width_of, cell_at, with_run, in_state, IsWhole};
 ghost use Rattle.radix_node.specs.Node.{runs};
@@ -67,6 +67,28 @@ impl<A: Allocator> Node<A> {
                 return own.lock(place.rest, width, room, core);
             }
             Slot::Child(node) => node.lock_at(place.rest, room, core),
+        }
+    }
+
+    /// Unlocks the slot that has the page, whoever holds it, and answers the slot's level.
+    pub fn unlock_at(&mut self, page: u64) -> u8
+        requires { page < 512 * width_of self.old.level }
+        ensures level { self.new.level ≡ self.old.level }
+        ensures whole { IsWhole self.new.level (512 * width_of self.new.level) (runs self.new) }
+        ensures set { runs self.new ≡ with_run
+            (in_state (record { info = (cell_at (runs self.old) page).state.info; owner = None }))
+            (runs self.old) page }
+        ensures low { result ≤ 3 }
+        ensures width { width_of result ≡ (cell_at (runs self.old) page).width }
+    {
+        let level = self.level;
+        let place = place_of(level, page);
+        match &mut self.slots[place.slot] {
+            Slot::Own(own) => {
+                own.set_owner(None);
+                return level;
+            }
+            Slot::Child(node) => node.unlock_at(place.rest),
         }
     }
 }

@@ -13,7 +13,7 @@ use crate::place::{SLOTS, place_of, slot_pages};
 use crate::state::SlotState;
 use std::alloc::Allocator;
 use std::marker::Model;
-use vm_base::{CoreId, NoMemory};
+use vm_base::NoMemory;
 
 /// A slot of a node.
 #[cycle(node)]
@@ -104,28 +104,6 @@ impl<A: Allocator> Node<A> {
                     rest = place.rest;
                 }
             }
-        }
-    }
-
-    /// Gives the slot that has the page another owner, and answers the slot's level.
-    pub fn own_at(&mut self, page: u64, owner: Option<CoreId>) -> u8
-        requires { page < 512 * width_of self.old.level }
-        ensures level { self.new.level ≡ self.old.level }
-        ensures whole { IsWhole self.new.level (512 * width_of self.new.level) (runs self.new) }
-        ensures set { runs self.new ≡ with_run
-            (in_state (record { info = (cell_at (runs self.old) page).state.info; owner = owner }))
-            (runs self.old) page }
-        ensures low { result ≤ 3 }
-        ensures width { width_of result ≡ (cell_at (runs self.old) page).width }
-    {
-        let level = self.level;
-        let place = place_of(level, page);
-        match &mut self.slots[place.slot] {
-            Slot::Own(own) => {
-                own.set_owner(owner);
-                return level;
-            }
-            Slot::Child(node) => node.own_at(place.rest, owner),
         }
     }
 

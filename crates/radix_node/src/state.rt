@@ -3,7 +3,7 @@ ghost use Rattle.std.specs.Prelude.{◌≡◌, ◌+◌, ◌<◌, ◌^◌, ◌↔
 ghost use Rattle.std.specs.Prelude.{false};
 ghost use Rattle.vm_base.specs.Cores.{members};
 ghost use Rattle.vm_base.specs.Info.{file_page, info_file_page, info_from, info_with_prot};
-ghost use Rattle.vm_base.specs.Info.{info_without_frame, is_leaf, frame_of, is_recorded};
+ghost use Rattle.vm_base.specs.Info.{is_leaf, frame_of, is_recorded};
 ghost use Rattle.radix_node.specs.Edit.{CanEdit, edited};
 ghost use Rattle.radix_node.specs.State.{back_of, frame_in, state_of, state_from, IsPlain};
 
@@ -192,16 +192,6 @@ impl SlotState {
         self.cores = CoreSet::empty();
     }
 
-    // Takes the frame from the slot's pages.
-    pub(crate) fn drop_frame(&mut self)
-        ensures { state_of self.new ≡ record {
-          info = info_without_frame (state_of self.old).info;
-          owner = (state_of self.old).owner;
-        } }
-    {
-        self.has_frame = false;
-    }
-
     /// Changes the slot as one of a range that begins `by` pages before it.
     pub fn edit(&mut self, edit: &Edit, by: u64)
         requires { CanEdit edit.now (by + 1) }
@@ -211,7 +201,6 @@ impl SlotState {
             Edit::Put(None) => self.clear(),
             Edit::Put(Some(info)) => self.follow(&SlotState::mapped(*info, None), by),
             Edit::Protect(prot) => self.protect(*prot),
-            Edit::DropFrame => self.drop_frame(),
         }
     }
 

@@ -1,14 +1,12 @@
 //! Walks over the slots of a range of a node's pages, from left to right: each slot, and each node
 //! below, is visited once.
-ghost use Rattle.std.specs.Prelude.{◌≡◌, ℕ, ◌+◌, ◌*◌, ◌<◌, ◌≤◌, ◌^◌, ◌↔◌, IfSome, IfNone, IsTrue, min};
-ghost use Rattle.std.specs.Prelude.{max, true};
+ghost use Rattle.std.specs.Prelude.{◌≡◌, ℕ, ◌+◌, ◌*◌, ◌<◌, ◌≤◌, ◌^◌, ◌↔◌, true};
 ghost use Rattle.vm_base.specs.Cores.{members};
 ghost use Rattle.arrayvec.specs.ArrayVec.{array_vec_len};
 ghost use Rattle.slot_lock.specs.Framed.{AddsFrames};
 ghost use Rattle.radix_node.specs.Run.{width_of};
 ghost use Rattle.radix_node.specs.Node.{runs};
-ghost use Rattle.radix_node.specs.Walk.{OnAll, IsMapped, HasNoFrame, IsFirstFramed, HasUser, Finds};
-ghost use Rattle.radix_node.specs.Walk.{frames_from};
+ghost use Rattle.radix_node.specs.Walk.{HasUser, Finds, frames_from};
 
 use crate::node::{Node, Slot};
 use crate::place::{part_in, slot_pages, slots_of};
@@ -45,61 +43,6 @@ impl<A: Allocator> Node<A> {
             }
         }
         cores
-    }
-
-    /// Tells whether all of the node's pages from `first` up to `end` are mapped.
-    pub fn all_mapped(&self, first: u64, end: u64) -> bool
-        requires some { first < end }
-        requires within { end ≤ 512 * width_of self.now.level }
-        ensures { IsTrue result ↔ OnAll IsMapped (runs self.now) first end }
-    {
-        let width = slot_pages(self.level);
-        let slots = slots_of(self.level, first, end);
-        'slots: for k in slots.from..slots.to {
-            match &self.slots[k] {
-                Slot::Own(state) => {
-                    if !state.is_mapped() {
-                        return false;
-                    }
-                }
-                Slot::Child(node) => {
-                    let part = part_in(first, end, k as u64 * width, width);
-                    if !node.all_mapped(part.first, part.end) {
-                        return false;
-                    }
-                }
-            }
-        }
-        true
-    }
-
-    /// The first of the node's pages from `first` up to `end` that has a frame, and the frame.
-    pub fn first_frame(&self, first: u64, end: u64) -> Option<(u64, u32)>
-        requires some { first < end }
-        requires within { end ≤ 512 * width_of self.now.level }
-        ensures some { IfSome result (λ taken.
-            IsFirstFramed (runs self.now) first end taken.0 taken.1) }
-        ensures none { IfNone result (OnAll HasNoFrame (runs self.now) first end) }
-    {
-        let width = slot_pages(self.level);
-        let slots = slots_of(self.level, first, end);
-        'slots: for k in slots.from..slots.to {
-            let start = k as u64 * width;
-            match &self.slots[k] {
-                Slot::Own(state) => {
-                    if let Some(frame) = state.frame() {
-                        return Some((first.max(start), frame));
-                    }
-                }
-                Slot::Child(node) => {
-                    let part = part_in(first, end, start, width);
-                    if let Some((page, frame)) = node.first_frame(part.first, part.end) {
-                        return Some((start + page, frame));
-                    }
-                }
-            }
-        }
-        None
     }
 
     /// Adds the node's pages from `first` up to `end` that have a frame, and their frames, to the

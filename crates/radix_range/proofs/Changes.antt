@@ -72,17 +72,3 @@ restated_owner s page end state owner info = same_slots _ _
     (λ e. refl))
     (λ p. refl)
     (λ p. refl)
-
--- a page with a frame is a slot of its own
-pub framed_alone : (v : Parts) → IsRadix v → (p frame : ℕ) → frame_of ((tree_slots v).info p) ≡ Some frame → IsSlot (tree_slots v) p (p + 1)
-framed_alone v ok p frame h =
-    let both = (tree-is_slot_map v ok).alone p (leaf ((tree_slots v).info p) h) in
-    record { ordered = omega arith; begins = both.0; ends = both.1; inside = λ q a b. absurd (omega arith) }
-  where
-    some_frame_leaf : (f : Option ℕ) (b : Bool) → f ≡ Some frame → is_some f || b ≡ true
-    some_frame_leaf None b e = cc
-    some_frame_leaf (Some x) b e = refl
-
-    leaf : (o : Option PageInfo) → frame_of o ≡ Some frame → is_leaf o ≡ true
-    leaf None e = cc
-    leaf (Some info) e = some_frame_leaf info.frame _ e

@@ -17,7 +17,7 @@ use Rattle.slot_lock.specs.Slots.{Slots, IsCut, HasMeta, between, with_info}
 use Rattle.slot_lock.specs.RunLaws.{info_from_twice, info_from_zero, from_test}
 use Rattle.slot_lock.proofs.Edits.{has_not, has_one, same_slots}
 use Rattle.radix_node.specs.declared.edit.Edit.{Edit}
-use Rattle.radix_node.specs.declared.edit.Edit.TheVariants.{Put, Protect, DropFrame}
+use Rattle.radix_node.specs.declared.edit.Edit.TheVariants.{Put, Protect}
 use Rattle.radix_node.specs.Edit.{CanEdit, edited_info, edited_cell}
 use Rattle.radix_node.specs.Run.{Run, Cell, cell_at, width_of, IsWhole}
 use Rattle.radix_node.specs.Node.{Parts, runs}
@@ -46,17 +46,12 @@ prot_from : (prot : Prot) (o : Option PageInfo) (n : ℕ) → info_from (info_wi
 prot_from prot None n = refl
 prot_from prot (Some info) n = refl
 
-frame_from : (o : Option PageInfo) (n : ℕ) → info_from (info_without_frame o) n ≡ info_without_frame (info_from o n)
-frame_from None n = refl
-frame_from (Some info) n = refl
-
 -- a page of a slot that was changed
 edited_from : (edit : Edit) (n offset : ℕ) (o : Option PageInfo) → offset ≤ n
     → info_from (edited_info edit (0 + n - offset) o) offset ≡ edited_info edit n (info_from o offset)
 edited_from (Put first) n offset o l = let k : 0 + n - offset + offset ≡ n = omega arith in info_from_twice first (0 + n - offset) offset
     ∙ ap (info_from first) k
 edited_from (Protect prot) n offset o l = prot_from prot o offset
-edited_from DropFrame n offset o l = frame_from o offset
 
 pub edited_slots : (rs qs : List Run) (range : PageRange) (edit : Edit) → IsEdited rs qs range edit → (cell_at rs range.first).offset ≡ 0
     → run_slots qs ≡ edited_to (run_slots rs) range edit

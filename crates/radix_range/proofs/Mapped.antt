@@ -8,10 +8,10 @@ use Rattle.vm_base.specs.declared.info.PageInfo.{PageInfo}
 use Rattle.vm_base.specs.declared.info.Meta.{Meta}
 use Rattle.vm_base.specs.declared.rights.Prot.{Prot}
 use Rattle.vm_base.specs.Functions.{has}
-use Rattle.vm_base.specs.Info.{info_with_prot, info_without_frame}
+use Rattle.vm_base.specs.Info.{info_with_prot}
 use Rattle.vm_base.specs.Pages.{IsPage}
 use Rattle.vm_base.proofs.Functions.{by_test, in_has}
-use Rattle.slot_lock.specs.Slots.{Slots, Divides, IsFreeRun, Joins, between, cleared, mapped, protected, with_info}
+use Rattle.slot_lock.specs.Slots.{Slots, Divides, IsFreeRun, Joins, between, with_info}
 use Rattle.slot_lock.proofs.Adding.{no_some}
 use Rattle.radix_node.specs.Node.{Parts}
 use Rattle.radix_range.specs.Tree.{tree_slots}
@@ -51,36 +51,6 @@ one_info s page info full stays a = record {
   where
     is_page : (p : ℕ) → (p == page) ≡ true → p ≡ page
     is_page p e = grind (arith, nat_tests)
-
-pub some_without : (o : Option PageInfo) → is_some o ≡ true → is_some (info_without_frame o) ≡ true
-some_without None e = cc
-some_without (Some info) e = refl
-
-some_with : (prot : Prot) (o : Option PageInfo) → is_some o ≡ true → is_some (info_with_prot prot o) ≡ true
-some_with prot None e = cc
-some_with prot (Some info) e = refl
-
-pub all_protected : (s : Slots) (range : PageRange) (prot : Prot) (full : PageRange) → IsMappedRun s full → IsMappedRun (protected s range prot) full
-all_protected s range prot full a = record {
-  mapped = λ p h. by_test (λ (o : Option PageInfo). is_some o ≡ true) (has range p) (info_with_prot prot (s.info p)) (s.info p)
-      (λ _. some_with prot (s.info p) (a.mapped p h)) (λ _. a.mapped p h);
-}
-
--- pages of the run or of the range that is mapped
-pub all_put : (s : Slots) (range : PageRange) (meta : Meta) (full more : PageRange) → IsMappedRun s full
-    → ((p : ℕ) → has more p ≡ true → (has full p ≡ true) ⊎ (has range p ≡ true)) → IsMappedRun (mapped s range meta) more
-all_put s range meta full more a of = record {
-  mapped = λ p h. by_test (λ (o : Option PageInfo). is_some o ≡ true) (has range p) _ (s.info p)
-      (λ _. refl) (λ e. ⊎_elim (λ x. a.mapped p x) (λ y. absurd (two _ e y)) (of p h));
-}
-
--- pages of the run that aren't in the range that is unmapped
-pub all_cleared : (s : Slots) (range full less : PageRange) → IsMappedRun s full
-    → ((p : ℕ) → has less p ≡ true → (has full p ≡ true) × (has range p ≡ false)) → IsMappedRun (cleared s range) less
-all_cleared s range full less a of = record {
-  mapped = λ p h. by_test (λ (o : Option PageInfo). is_some o ≡ true) (has range p) None (s.info p)
-      (λ e. absurd (two _ (of p h).1 e)) (λ _. a.mapped p (of p h).0);
-}
 
 -- ---- room where such pages, from first up to end, lie in a range
 

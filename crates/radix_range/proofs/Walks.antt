@@ -10,15 +10,14 @@ use Rattle.vm_base.specs.Info.{info_from, frame_of, is_recorded}
 use Rattle.vm_base.proofs.Functions.{has_in, in_has}
 use Rattle.slot_lock.specs.declared.framed.Framed.{Framed}
 use Rattle.slot_lock.specs.Framed.{AddsFrames, frames_in}
-use Rattle.slot_lock.specs.Slots.{IsUser, AllMapped, IsFreeRun, NoFrames}
+use Rattle.slot_lock.specs.Slots.{IsUser, IsFreeRun}
 use Rattle.slot_lock.proofs.Listing.{adds_same}
 use Rattle.slot_lock.proofs.Walks.{is_some-from, frame_of-from, is_recorded-from}
 use Rattle.radix_node.specs.Run.{Run, cell_at, width_of}
 use Rattle.radix_node.specs.Node.{Parts}
-use Rattle.radix_node.specs.Walk.{OnAll, IsMapped, HasNoFrame, IsFirstFramed, HasUser, Blocked, IsFree, IsOpen, frames_from}
+use Rattle.radix_node.specs.Walk.{HasUser, Blocked, IsFree, IsOpen, frames_from}
 use Rattle.radix_range.specs.Tree.{run_slots, tree_slots, IsRadix}
 use Rattle.radix_range.specs.TreeLaws.{pages_are}
-use Rattle.radix_range.specs.Found.{IsFirstFramedPage}
 
 -- the pages that are asked for are the root's
 pub of_root : (v : Parts) → IsRadix v → (end : ℕ) → end ≤ 2 ^ 36 → end ≤ 512 * width_of v.level
@@ -29,26 +28,6 @@ users_are rs range core b h = (
   λ is. let w = h.0 is in (w.0, in_has range w.0 w.1 w.2, is_recorded-from (cell_at rs w.0).state.info (cell_at rs w.0).offset core ∙ w.3),
   λ u. let m = has_in range u.0 u.1 in h.1 (u.0, m.0, m.1, sym (is_recorded-from (cell_at rs u.0).state.info (cell_at rs u.0).offset core) ∙ u.2),
 )
-
-pub mapped_are : (rs : List Run) (range : PageRange) → OnAll IsMapped rs range.first range.end ↔ AllMapped (run_slots rs) range
-mapped_are rs range = (
-  λ all p h. let m = has_in range p h in is_some-from (cell_at rs p).state.info (cell_at rs p).offset ∙ all p m.0 m.1,
-  λ all p a b. sym (is_some-from (cell_at rs p).state.info (cell_at rs p).offset) ∙ all p (in_has range p a b),
-)
-
-pub no_frames : (rs : List Run) (first end : ℕ) → OnAll HasNoFrame rs first end → NoFrames (run_slots rs) first end
-no_frames rs first end h = record { none = λ p a b. frame_of-from (cell_at rs p).state.info (cell_at rs p).offset ∙ h p a b }
-
-pub nowhere : (rs : List Run) (first end : ℕ) → end ≤ first → NoFrames (run_slots rs) first end
-nowhere rs first end l = record { none = λ p a b. absurd (omega arith) }
-
-pub first_framed : (rs : List Run) (first end page frame : ℕ) → IsFirstFramed rs first end page frame → IsFirstFramedPage (run_slots rs) first end page frame
-first_framed rs first end page frame h = record {
-  low = h.low;
-  high = h.high;
-  before = no_frames rs first page h.before;
-  had = frame_of-from (cell_at rs page).state.info (cell_at rs page).offset ∙ h.had;
-}
 
 pub frames_are : (rs : List Run) (first end : ℕ) (old new : List Framed) → AddsFrames (frames_from 0 rs) (0 + first) end old new
     → AddsFrames (frames_in (run_slots rs)) first end old new

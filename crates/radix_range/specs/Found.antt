@@ -2,8 +2,8 @@
 use Rattle.std.specs.Prelude.{◌≡◌, ℕ, ◌-◌, ◌/◌, ◌%◌, ◌<◌, ◌≤◌, ◌==◌, Bool, Option, None, Some}
 use Rattle.vm_base.specs.declared.page.PageRange.{PageRange}
 use Rattle.vm_base.specs.Functions.{has, across, over}
-use Rattle.vm_base.specs.Info.{frame_of, info_from}
-use Rattle.slot_lock.specs.Slots.{Slots, IsSlot, NoFrames, between}
+use Rattle.vm_base.specs.Info.{info_from}
+use Rattle.slot_lock.specs.Slots.{Slots, IsSlot, between}
 use Rattle.radix_node.specs.declared.edit.Edit.{Edit}
 use Rattle.radix_node.specs.Edit.{edited_info}
 use Rattle.radix_node.specs.State.{State}
@@ -33,10 +33,3 @@ in_512 slot at p = (p - slot.first) % ((slot.end - slot.first) / 512) == 0
 abbrev pub edited_to : Slots → PageRange → Edit → Slots
 edited_to s range edit =
     record s { info = across s.info (has range) (λ p. edited_info edit (p - range.first) (s.info p)) }
-
--- the page is the first from a page on with a frame
-pub record IsFirstFramedPage (s : Slots) (from end page frame : ℕ) : Type 0 where
-  pub low : from ≤ page
-  pub high : page < end
-  pub before : NoFrames s from page
-  pub had : frame_of (s.info page) ≡ Some frame

@@ -2,7 +2,6 @@
 ghost use Rattle.std.specs.Prelude.{◌≡◌, ℕ, ◌+◌, ◌-◌, ◌^◌, ◌<◌, ◌≤◌, ◌↔◌, OnOk, OnErr, IsTrue, true};
 ghost use Rattle.std.specs.Prelude.{false, Option, Some, None};
 ghost use Rattle.vm_base.specs.Pages.{IsPage, IsPageRange};
-ghost use Rattle.vm_base.specs.Info.{info_without_frame};
 ghost use Rattle.slot_lock.specs.Plan.{IsSoundChange, range_of};
 ghost use Rattle.slot_lock.specs.Slots.{Divides, DividesAs, HasMeta, IsCut, IsSlot, Joins, Slots};
 ghost use Rattle.slot_lock.specs.Slots.{between, with_owner, with_info};
@@ -82,7 +81,7 @@ pub fn unlock<A: Allocator>(root: &mut Node<A>, page: u64) -> u64
         → (tree_slots root.old).owner p ≡ (tree_slots root.old).owner page }
     ensures slots { tree_slots root.new ≡ with_owner (tree_slots root.old) page result None }
 {
-    let level = root.own_at(page, None);
+    let level = root.unlock_at(page);
     page + slot_pages(level)
 }
 
@@ -121,18 +120,6 @@ pub fn set_info<A: Allocator>(root: &mut Node<A>, page: u64, info: PageInfo)
     ensures slots { tree_slots root.new ≡ with_info (tree_slots root.old) page (Some info) }
 {
     edit_one(root, page, &Edit::Put(Some(info)));
-}
-
-/// Takes its frame from a page that is a slot of its own.
-pub fn clear_frame<A: Allocator>(root: &mut Node<A>, page: u64)
-    requires tree { IsRadix root.old }
-    requires page { IsPage page }
-    requires alone { IsSlot (tree_slots root.old) page (page + 1) }
-    ensures tree { IsRadix root.new }
-    ensures slots { tree_slots root.new ≡ with_info (tree_slots root.old) page
-        (info_without_frame ((tree_slots root.old).info page)) }
-{
-    edit_one(root, page, &Edit::DropFrame);
 }
 
 // What a change makes of its pages, each of which goes on from the first.

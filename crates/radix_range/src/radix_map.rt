@@ -10,7 +10,7 @@ use radix_node::{Handover, Lock, Node};
 use slot_lock::{Change, Fit, FramedPages, FreePage, Got, SlotMap, SlotRead, SlotRun};
 use std::alloc::Allocator;
 use vm_base::info::info_from;
-use vm_base::{CoreId, CoreSet, Meta, NoMemory, PageInfo, PageRange, Prot};
+use vm_base::{CoreId, CoreSet, NoMemory, PageInfo, PageRange};
 
 /// A map of slots as a tree of four levels. A slot of the root has 2^27 pages, of the next levels
 /// 2^18, 2^9 and 1. The pages are those of the lower half of the addresses and as many above them,
@@ -73,10 +73,6 @@ impl<A: Allocator> SlotRead for RadixMap<A> {
 
     fn recorded(&self, range: PageRange) -> CoreSet {
         walk::recorded(&self.root, range)
-    }
-
-    fn all_mapped(&self, range: PageRange) -> bool {
-        walk::all_mapped(&self.root, range)
     }
 }
 
@@ -156,26 +152,9 @@ impl<A: Allocator + Clone> SlotMap for RadixMap<A> {
         change::own_run(&mut self.root, cursor, end, most, &owners)
     }
 
-    fn set_range(&mut self, core: CoreId, range: PageRange, meta: Meta) {
-        change::change(&mut self.root, Change::Put { range, meta });
-        self.full = full::with_range(self.full, range);
-    }
-
-    fn clear_range(&mut self, core: CoreId, range: PageRange) {
-        self.full = full::without_range(self.full, range);
-        change::change(&mut self.root, Change::Clear { range });
-    }
-
-    fn protect_range(&mut self, core: CoreId, range: PageRange, prot: Prot) {
-        change::change(&mut self.root, Change::Protect { range, prot });
-    }
-
-    fn take_frame(&mut self, core: CoreId, from: u64, end: u64) -> Option<(u64, u32)> {
-        let Some(taken) = walk::first_frame(&self.root, from, end) else {
-            return None;
-        };
-        change::clear_frame(&mut self.root, taken.0);
-        Some(taken)
+    fn change(&mut self, core: CoreId, change: Change) {
+        change::change(&mut self.root, change);
+        self.full = full::with_change(self.full, change);
     }
 
     fn list_frames(&self, from: u64, end: u64, list: &mut FramedPages) -> u64 {

@@ -1,13 +1,12 @@
 //! What is found on the pages of a range: each slot, and each node that has some of them, is
 //! visited once.
-ghost use Rattle.std.specs.Prelude.{◌≡◌, ℕ, ◌+◌, ◌^◌, ◌<◌, ◌≤◌, ◌↔◌, IfSome, IfNone, IsTrue, true};
+ghost use Rattle.std.specs.Prelude.{◌≡◌, ℕ, ◌+◌, ◌^◌, ◌<◌, ◌≤◌, ◌↔◌, IfSome, IfNone, true};
 ghost use Rattle.vm_base.specs.Cores.{members};
 ghost use Rattle.vm_base.specs.Pages.{IsPageRange};
 ghost use Rattle.arrayvec.specs.ArrayVec.{array_vec_len};
 ghost use Rattle.slot_lock.specs.Framed.{AddsFrames, frames_in};
-ghost use Rattle.slot_lock.specs.Slots.{IsFreeRun, IsUser, AllMapped, NoFrames};
+ghost use Rattle.slot_lock.specs.Slots.{IsFreeRun, IsUser};
 ghost use Rattle.radix_range.specs.Tree.{IsRadix, tree_slots};
-ghost use Rattle.radix_range.specs.Found.{IsFirstFramedPage};
 ghost use Rattle.radix_range.specs.Mapped.{IsMappedRun};
 
 use radix_node::{FreeRun, Node};
@@ -77,29 +76,6 @@ pub fn recorded<A: Allocator>(root: &Node<A>, range: PageRange) -> CoreSet
     ensures { (core : ℕ) → (members result core ≡ true) ↔ IsUser (tree_slots root.now) range core }
 {
     root.recorded(range.first, range.end)
-}
-
-/// Tells whether all pages of the range are mapped.
-pub fn all_mapped<A: Allocator>(root: &Node<A>, range: PageRange) -> bool
-    requires tree { IsRadix root.now }
-    requires range { IsPageRange range }
-    ensures { IsTrue result ↔ AllMapped (tree_slots root.now) range }
-{
-    root.all_mapped(range.first, range.end)
-}
-
-/// The first page with a frame from a page up to another, and the frame.
-pub fn first_frame<A: Allocator>(root: &Node<A>, from: u64, end: u64) -> Option<(u64, u32)>
-    requires tree { IsRadix root.now }
-    requires end { end ≤ 2 ^ 35 }
-    ensures some { IfSome result (λ taken.
-        IsFirstFramedPage (tree_slots root.now) from end taken.0 taken.1) }
-    ensures none { IfNone result (NoFrames (tree_slots root.now) from end) }
-{
-    if from >= end {
-        return None;
-    }
-    root.first_frame(from, end)
 }
 
 /// Adds the pages from `from` up to `end` that have a frame, and their frames, to the list, in

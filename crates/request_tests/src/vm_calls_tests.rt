@@ -149,16 +149,12 @@ fn make<A: Allocator>(map: &mut RunList<A>, core: CoreId, change: Change) -> Res
     if !holds(map, core, range) {
         return Ok(false);
     }
-    match change {
-        Change::Put { range, meta } => map.set_range(core, range, meta),
-        Change::Clear { range } => map.clear_range(core, range),
-        Change::Protect { range, prot } => {
-            if !map.all_mapped(range) {
-                return Ok(false);
-            }
-            map.protect_range(core, range, prot);
-        }
+    if let Change::Protect { range, .. } = change
+        && !map.all_mapped(range)
+    {
+        return Ok(false);
     }
+    map.change(core, change);
     Ok(true)
 }
 

@@ -155,3 +155,15 @@ pub list_all : (rs : List Run) (first end i : ℕ) (old new : List Framed) → f
     → end ≤ (get_run rs i).start → AddsFrames (frames_in (slots_of rs)) first end old new
 list_all rs first end i old new l h past = let to : reach first end (get_run rs i).start ≡ end = omega arith in
     subst (λ n. AddsFrames (frames_in (slots_of rs)) first n old new) to h.adds
+
+-- ---- lists that were empty
+
+-- what was added to a list that was empty
+pub list_whole : (frame : ℕ → Option ℕ) (first end : ℕ) (old new : List Framed) → old ≡ [] → AddsFrames frame first end old new
+    → ListsFrames frame first end new
+list_whole frame first end old new e h = subst (ListsFrames frame first end) (sym (h.1 ∙ ap (λ (xs : List Framed). xs ++ h.0) e)) h.2
+
+-- a list that is full has a page
+pub list_moves : (frame : ℕ → Option ℕ) (from upto : ℕ) (xs : List Framed) → 0 < length xs → ListsFrames frame from upto xs → from < upto
+list_moves frame from upto [] l h = absurd (omega (arith, l))
+list_moves frame from upto (x ∷ xs) l h = omega (arith, h.0, h.1)

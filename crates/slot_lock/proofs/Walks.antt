@@ -16,10 +16,6 @@ use Rattle.slot_lock.specs.Slots.{Slots, IsUser, AllMapped, IsFreeRun, NoFrames}
 use Rattle.slot_lock.specs.RunSlots.{slots_of}
 use Rattle.slot_lock.proofs.Steps.{before_limit}
 
--- what an index at the walk's place reads
-pub read_info : (rs : List Run) (i : ℕ) (r : Run) (o : Option PageInfo) → i < length rs → (get_or rs i r).info ≡ o → (get_run rs i).info ≡ o
-read_info rs i r o h e = sym (ap (λ (r : Run). r.info) (get_or_default rs i r nobody h)) ∙ e
-
 pub is_some-from : (o : Option PageInfo) (n : ℕ) → is_some (info_from o n) ≡ is_some o
 is_some-from None n = refl
 is_some-from (Some info) n = refl
@@ -75,51 +71,6 @@ page_in rs ok first i w h = ⊎_elim
     })
     (λ (l : (get_run rs i).start ≤ first). record { page = first; low = omega arith; from = l; until = w.after h; least = inl refl })
     (cases_lt first (get_run rs i).start)
-
--- ---- all pages have it
-
--- all pages from the first up to the run at i have it
-pub record Seen (rs : List Run) (Q : Option PageInfo → Type 0) (first i : ℕ) : Type 0 where
-  pub walk : IsWalk rs first i
-  pub seen : (p : ℕ) → first ≤ p → p < (get_run rs i).start → Q ((slots_of rs).info p)
-
-pub seen_first : (rs : List Run) (Q : Option PageInfo → Type 0) (first i : ℕ) → IsAt rs first i → Seen rs Q first i
-seen_first rs Q first i at = record { walk = walk_first rs first i at; seen = λ p a b. absurd (omega (arith, at.from)) }
-
-pub seen_next : (rs : List Run) → IsRuns rs → (Q : Option PageInfo → Type 0) (first i : ℕ) → Seen rs Q first i → i + 1 < length rs
-    → ((n : ℕ) → Q (info_from (get_run rs i).info n)) → Seen rs Q first (i + 1)
-seen_next rs ok Q first i s h q = record {
-  walk = walk_next rs ok first i s.walk h;
-  seen = λ p a b. ⊎_elim
-      (λ (l : p < (get_run rs i).start). s.seen p a l)
-      (λ (l : (get_run rs i).start ≤ p). rw (info_in rs ok i p h l b) (q (p - (get_run rs i).start)))
-      (cases_lt p (get_run rs i).start);
-}
-
-abbrev pub IsMapped : Option PageInfo → Type 0
-IsMapped o = is_some o ≡ true
-
-abbrev pub HasNoFrame : Option PageInfo → Type 0
-HasNoFrame o = frame_of o ≡ None
-
-pub all_seen : (rs : List Run) (range : PageRange) (i : ℕ) → Seen rs IsMapped range.first i → range.end ≤ (get_run rs i).start → AllMapped (slots_of rs) range
-all_seen rs range i s l p h = let b = has_in range p h in s.seen p b.0 (omega (arith, b.1))
-
-pub none_seen : (rs : List Run) (from end i : ℕ) → Seen rs HasNoFrame from i → end ≤ (get_run rs i).start → NoFrames (slots_of rs) from end
-none_seen rs from end i s l = record { none = λ p a b. s.seen p a (omega arith) }
-
-pub some_unmapped : (rs : List Run) → IsRuns rs → (range : PageRange) (i : ℕ) → IsWalk rs range.first i → i + 1 < length rs
-    → range.first < range.end → (get_run rs i).start < range.end → is_some (get_run rs i).info ≡ false → ¬ AllMapped (slots_of rs) range
-some_unmapped rs ok range i w h some l none all = go (page_in rs ok range.first i w h)
-  where
-    two : (b : Bool) → b ≡ false → b ≡ true → ⊥
-    two b e f = cc
-
-    go : PageIn rs range.first i → ⊥
-    go q =
-        let below : q.page < range.end = ⊎_elim (λ (e : q.page ≡ range.first). omega arith) (λ (e : q.page ≡ (get_run rs i).start). omega arith) q.least in
-        two _ (ap is_some (info_in rs ok i q.page h q.from q.until) ∙ (is_some-from (get_run rs i).info _ ∙ none))
-        (all q.page (in_has range q.page q.low below))
 
 -- ---- the cores of the pages
 

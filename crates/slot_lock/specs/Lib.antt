@@ -10,5 +10,4 @@ pub mod RunSlots
 pub mod Places
 pub mod RunLaws
 pub mod Adding
-pub mod Walks
 pub mod Edges

@@ -10,7 +10,7 @@ use crate::slot_map::{Fit, FreePage, Got, SlotMap, SlotRead, SlotRun};
 use crate::{lent, walk};
 use std::alloc::Allocator;
 use vm_base::info::info_from;
-use vm_base::{CoreId, CoreSet, Meta, NoMemory, PageInfo, PageRange, Prot};
+use vm_base::{CoreId, CoreSet, NoMemory, PageInfo, PageRange};
 
 /// A map of slots as the list of them, in order. A division makes two slots. A fold joins a page's
 /// slot with the next one to its right, where nobody holds them, they have no frame and no recorded
@@ -117,10 +117,6 @@ impl<A: Allocator> SlotRead for RunList<A> {
     fn recorded(&self, range: PageRange) -> CoreSet {
         walk::recorded(&self.runs, range)
     }
-
-    fn all_mapped(&self, range: PageRange) -> bool {
-        walk::all_mapped(&self.runs, range)
-    }
 }
 
 impl<A: Allocator> SlotMap for RunList<A> {
@@ -207,29 +203,8 @@ impl<A: Allocator> SlotMap for RunList<A> {
         }
     }
 
-    fn set_range(&mut self, core: CoreId, range: PageRange, meta: Meta) {
-        run::change(&mut self.runs, Change::Put { range, meta });
-    }
-
-    fn clear_range(&mut self, core: CoreId, range: PageRange) {
-        run::change(&mut self.runs, Change::Clear { range });
-    }
-
-    fn protect_range(&mut self, core: CoreId, range: PageRange, prot: Prot) {
-        run::change(&mut self.runs, Change::Protect { range, prot });
-    }
-
-    fn take_frame(&mut self, core: CoreId, from: u64, end: u64) -> Option<(u64, u32)> {
-        let Some(first) = walk::first_frame(&self.runs, from, end) else {
-            return None;
-        };
-        let page = self.runs[first.place].start;
-        let info = PageInfo {
-            frame: None,
-            ..first.info
-        };
-        run::set_info(&mut self.runs, first.place, info);
-        Some((page, first.frame))
+    fn change(&mut self, core: CoreId, change: Change) {
+        run::change(&mut self.runs, change);
     }
 
     fn list_frames(&self, from: u64, end: u64, list: &mut FramedPages) -> u64 {

@@ -98,7 +98,10 @@ pub trait SlotRead {
     fn all_mapped(&self, range: PageRange) -> bool
         requires range { IsPageRange range }
         requires reads { (p : ℕ) → has range p ≡ true → reads self.now p }
-        ensures { IsTrue result ↔ AllMapped (slots self.now) range };
+        ensures { IsTrue result ↔ AllMapped (slots self.now) range }
+    {
+        self.first_free_run(range, 1).is_none()
+    }
 }
 
 /// A map of slots. Only `lock_next` and `cut_next` take memory; a refusal leaves the map unchanged.
@@ -176,23 +179,39 @@ pub trait SlotMap: SlotRead {
         ensures few { result.slots ≤ most }
         ensures unlocks { UnlocksRun (Self.slots self.old) (Self.slots self.new) core cursor end result };
 
+    /// Makes a change of pages that the core holds. Frames that the pages lose are dropped.
+    fn change(&mut self, core: CoreId, change: Change)
+        requires sound { IsSoundChange change }
+        requires held { IsHeld (Self.slots self.old) core (range_of change) }
+        requires mapped { IsMappedFor (Self.slots self.old) change }
+        ensures { Self.slots self.new ≡ changed (Self.slots self.old) change };
+
     /// Maps the pages of the range anew, each later one to the next file page.
     fn set_range(&mut self, core: CoreId, range: PageRange, meta: Meta)
         requires held { IsHeld (Self.slots self.old) core range }
         requires fits { FitsFile meta (range.end - range.first) }
-        ensures { Self.slots self.new ≡ mapped (Self.slots self.old) range meta };
+        ensures { Self.slots self.new ≡ mapped (Self.slots self.old) range meta }
+    {
+        self.change(core, Change::Put { range, meta });
+    }
 
     /// Unmaps the pages of the range.
     fn clear_range(&mut self, core: CoreId, range: PageRange)
         requires held { IsHeld (Self.slots self.old) core range }
-        ensures { Self.slots self.new ≡ cleared (Self.slots self.old) range };
+        ensures { Self.slots self.new ≡ cleared (Self.slots self.old) range }
+    {
+        self.change(core, Change::Clear { range });
+    }
 
     /// Changes the protection of the pages of the range, and forgets which cores are recorded
     /// there. Frames stay.
     fn protect_range(&mut self, core: CoreId, range: PageRange, prot: Prot)
         requires held { IsHeld (Self.slots self.old) core range }
         requires mapped { AllMapped (Self.slots self.old) range }
-        ensures { Self.slots self.new ≡ protected (Self.slots self.old) range prot };
+        ensures { Self.slots self.new ≡ protected (Self.slots self.old) range prot }
+    {
+        self.change(core, Change::Protect { range, prot });
+    }
 
     /// Takes the frame of the first page from `from` up to `end` that has one, and answers both.
     fn take_frame(&mut self, core: CoreId, from: u64, end: u64) -> Option<(u64, u32)>
@@ -201,7 +220,19 @@ pub trait SlotMap: SlotRead {
         ensures some { IfSome result
             (λ taken. LosesFrame (Self.slots self.old) (Self.slots self.new) from end taken.0 taken.1) }
         ensures none { IfNone result (NoFrames (Self.slots self.old) from end
-            × (Self.slots self.new ≡ Self.slots self.old)) };
+            × (Self.slots self.new ≡ Self.slots self.old)) }
+    {
+        let mut list = FramedPages::new();
+        self.list_frames(from, end, &mut list);
+        let first = list.first().copied()?;
+        let info = self.page(first.page)?;
+        let bare = PageInfo {
+            frame: None,
+            ..info
+        };
+        self.set_leaf(core, first.page, bare);
+        Some((first.page, first.frame))
+    }
 
     /// Adds the pages from `from` up to `end` that have a frame, and their frames, to the list, in
     /// order of pages, until it is full. Answers the page up to which none is left out.

@@ -1,27 +1,18 @@
 //! Walks over the runs of a range, from left to right.
-ghost use Rattle.std.specs.Prelude.{◌≡◌, ℕ, ◌+◌, ◌^◌, ◌<◌, ◌≤◌, ◌↔◌, IfSome, IfNone, IsTrue, true};
+ghost use Rattle.std.specs.Prelude.{◌≡◌, ℕ, ◌+◌, ◌^◌, ◌<◌, ◌≤◌, ◌↔◌, IfSome, IfNone, true};
 ghost use Rattle.vm_base.specs.Cores.{members};
 ghost use Rattle.vm_base.specs.Info.{frame_of};
 ghost use Rattle.vm_base.specs.Pages.{IsPageRange};
 ghost use Rattle.slot_lock.specs.Runs.{IsRuns};
 ghost use Rattle.arrayvec.specs.ArrayVec.{array_vec_len};
 ghost use Rattle.slot_lock.specs.Framed.{AddsFrames, frames_in};
-ghost use Rattle.slot_lock.specs.Slots.{IsFreeRun, IsUser, AllMapped, NoFrames};
+ghost use Rattle.slot_lock.specs.Slots.{IsFreeRun, IsUser};
 ghost use Rattle.slot_lock.specs.RunSlots.{slots_of};
-ghost use Rattle.slot_lock.specs.Walks.{IsFirstFrame};
 
 use crate::framed::{Framed, FramedPages};
 use crate::run::{Run, place};
 use vm_base::info::recorded_cores;
 use vm_base::{CoreSet, PageInfo, PageRange};
-
-/// The place of a run of one page with a frame, and what it has.
-#[derive(Clone, Copy, Debug)]
-pub struct FramedRun {
-    pub place: usize,
-    pub info: PageInfo,
-    pub frame: u32,
-}
 
 /// The least start of `n` unmapped pages in the range, if there is one.
 pub fn first_free_run(runs: &[Run], range: PageRange, n: u64) -> Option<u64>
@@ -60,45 +51,6 @@ pub fn recorded(runs: &[Run], range: PageRange) -> CoreSet
         i += 1;
     }
     cores
-}
-
-/// Tells whether all pages of the range are mapped.
-pub fn all_mapped(runs: &[Run], range: PageRange) -> bool
-    requires runs { IsRuns runs.now }
-    requires range { IsPageRange range }
-    ensures { IsTrue result ↔ AllMapped (slots_of runs.now) range }
-{
-    let mut i = place(runs, range.first);
-    'runs: while runs[i].start < range.end {
-        if runs[i].info.is_none() {
-            return false;
-        }
-        i += 1;
-    }
-    true
-}
-
-/// The first run with a frame that begins from a page up to another.
-pub fn first_frame(runs: &[Run], from: u64, end: u64) -> Option<FramedRun>
-    requires runs { IsRuns runs.now }
-    requires end { end ≤ 2 ^ 35 }
-    ensures some { IfSome result (IsFirstFrame runs.now from end) }
-    ensures none { IfNone result (NoFrames (slots_of runs.now) from end) }
-{
-    let mut i = place(runs, from);
-    'runs: while runs[i].start < end {
-        if let Some(info) = runs[i].info {
-            if let Some(frame) = info.frame {
-                return Some(FramedRun {
-                    place: i,
-                    info,
-                    frame,
-                });
-            }
-        }
-        i += 1;
-    }
-    None
 }
 
 // The frame of a page, if it has one.

@@ -1,5 +1,5 @@
 -- Frames that are counted down, page by page
-use Rattle.std.proofs.Common.{◌≡◌, ℕ, zero, suc, ◌+◌, ◌-◌, ◌^◌, ◌<◌, ◌≤◌, List, [], ◌∷◌, ◌++◌, length, Bool, true, false, Option}
+use Rattle.std.proofs.Common.{◌≡◌, ℕ, zero, suc, ◌+◌, ◌-◌, ◌^◌, ◌<◌, ◌≤◌, List, [], ◌∷◌, Bool, true, false, Option}
 use Rattle.std.proofs.Common.{None, Some, refl, sym, ap, subst, arith, ◌∙◌, cond, ◌==◌, pos, negsuc, ◌+ℤ◌, ◌≤ℤ◌}
 use Rattle.std.specs.Prelude.{IfSome, if◌then◌else◌}
 use Rattle.std.specs.List.{AllByRecursion}
@@ -12,7 +12,7 @@ use Rattle.vm_base.proofs.Functions.{put_all, put_other}
 use Rattle.slot_lock.specs.declared.framed.Framed.{Framed}
 use Rattle.slot_lock.specs.declared.plan.Change.{Change}
 use Rattle.slot_lock.specs.declared.plan.Change.TheVariants.{Put, Clear, Protect}
-use Rattle.slot_lock.specs.Framed.{AddsFrames, ListsFrames}
+use Rattle.slot_lock.specs.Framed.{ListsFrames}
 use Rattle.refcache.specs.Counts.{Counts, true_count}
 use Rattle.refcache.specs.Steps.{Takes, Dec}
 use Rattle.refcache.proofs.Moves.{true_counts_move}
@@ -206,13 +206,3 @@ lost_list c frame first from upto xs v m w low high h lists e =
     subst (λ n. CountsDown c frame first n v w) count
     (lost_then c frame first (from - first) (upto - from) v m w h
     (subst (λ q. CountsDown c frame q (upto - from) m w) here (each_down c frame from upto xs m w high lists e)))
-
--- what was added to a list that was empty
-pub list_whole : (frame : ℕ → Option ℕ) (first end : ℕ) (old new : List Framed) → old ≡ [] → AddsFrames frame first end old new
-    → ListsFrames frame first end new
-list_whole frame first end old new e h = subst (ListsFrames frame first end) (sym (h.1 ∙ ap (λ (xs : List Framed). xs ++ h.0) e)) h.2
-
--- a list that is full has a page
-pub list_moves : (frame : ℕ → Option ℕ) (from upto : ℕ) (xs : List Framed) → 0 < length xs → ListsFrames frame from upto xs → from < upto
-list_moves frame from upto [] l h = absurd (omega (arith, l))
-list_moves frame from upto (x ∷ xs) l h = omega (arith, h.0, h.1)

@@ -86,8 +86,30 @@ pub fn count_page<A: Allocator>(
     }
 }
 
-/// Makes the change of pages that the core holds. The frames of replaced and unmapped
-/// pages are counted down first.
+/// Counts down the frames that pages lose by the change: those of pages that are replaced or
+/// unmapped.
+fn count_lost<M: SlotMap, A: Allocator>(
+    map: &M,
+    counts: &mut Refcache<A>,
+    core: CoreId,
+    change: Change,
+)
+    requires sound { IsSoundChange change }
+    requires here { core < (counts_of counts.old).cores }
+    requires counted { AreCounted (M.slots map.now).info (counts_of counts.old) }
+    ensures { CountsDown core (frame_lost change (M.slots map.now).info)
+        (range_of change).first ((range_of change).end - (range_of change).first)
+        (counts_of counts.old) (counts_of counts.new) }
+{
+    match change {
+        Change::Put { range, .. } | Change::Clear { range } => {
+            count_frames(map, counts, core, range);
+        }
+        Change::Protect { .. } => {}
+    }
+}
+
+/// Makes the change of pages that the core holds. The frames that they lose are counted down first.
 fn make_change<M: SlotMap, A: Allocator>(
     map: &mut M,
     counts: &mut Refcache<A>,
@@ -104,17 +126,8 @@ fn make_change<M: SlotMap, A: Allocator>(
         (range_of change).first ((range_of change).end - (range_of change).first)
         (counts_of counts.old) (counts_of counts.new) }
 {
-    match change {
-        Change::Put { range, meta } => {
-            count_frames(map, counts, core, range);
-            map.set_range(core, range, meta);
-        }
-        Change::Clear { range } => {
-            count_frames(map, counts, core, range);
-            map.clear_range(core, range);
-        }
-        Change::Protect { range, prot } => map.protect_range(core, range, prot),
-    }
+    count_lost(map, counts, core, change);
+    map.change(core, change);
 }
 
 impl<M: SlotMap, H: Hardware, A: Allocator, L: Ledger> Engine<M, H, A, L> {

@@ -3,7 +3,7 @@ use Rattle.vm_base.specs.Cores.{members}
 use Rattle.radix_node.specs.Run.{width_of}
 use Rattle.radix_node.specs.Node.{runs}
 use Rattle.radix_node.specs.Walk.{Finds}
-use Rattle.radix_range.proofs.Walks.{of_root, users_are, mapped_are, no_frames, nowhere, first_framed, free_run_found, free_run_least, free_run_none}
+use Rattle.radix_range.proofs.Walks.{of_root, users_are, free_run_found, free_run_least, free_run_none}
 use Rattle.radix_range.proofs.walk.recorded.Goals as goal
 
 pub recorded-requires-clause-within : goal.recorded-requires-clause-within

@@ -3,7 +3,8 @@ use Rattle.std.proofs.lemmas.Bool.{cases_lt}
 use Rattle.refcache.specs.Parts.{counts_of}
 use Rattle.core_steps.specs.Taking.{AreUsed, CountsEach}
 use Rattle.slot_lock.specs.Framed.{frames_in}
-use Rattle.core_steps.proofs.rows.Lost.{each_cores, each_still, list_moves, list_whole, listed_used, lost_list, lost_none}
+use Rattle.slot_lock.proofs.Listing.{list_moves, list_whole}
+use Rattle.core_steps.proofs.rows.Lost.{each_cores, each_still, listed_used, lost_list, lost_none}
 use Rattle.core_steps.proofs.rows.commit.count_frames.Goals as goal
 
 pub lists-init : goal.lists-init
