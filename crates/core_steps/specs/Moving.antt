@@ -1,31 +1,36 @@
 -- What a step of an engine does, and which steps may be refused for memory: those at which a slot
 -- is to be divided or cut, those that install the first entry of a table of the last level, and,
 -- where the log keeps its entries, those that make a copy of a private page, which the log is to have
-use Rattle.std.specs.Prelude.{◌≡◌, ℕ, ◌<◌, ◌⊎◌, Bool, true, false, Option, None, Some, Result, Ok, Err}
+use Rattle.std.specs.Prelude.{◌≡◌, ℕ, ◌<◌, ◌⊎◌, Bool, true, false, Option, None, Some, IfSome, Result, Ok, Err}
 use Rattle.vm_base.specs.declared.replies.Reply.{Reply}
 use Rattle.vm_base.specs.Pages.{IsPage}
 use Rattle.mmu.specs.Tables.{IsEmptyBeside}
 use Rattle.slot_lock.specs.declared.plan.Goal.{Goal}
 use Rattle.slot_lock.specs.declared.plan.Goal.TheVariants as To
 use Rattle.slot_lock.specs.declared.plan.Touch.{Touch}
-use Rattle.slot_lock.specs.Plan.{IsSoundTouch, goal_range}
+use Rattle.slot_lock.specs.declared.plan.Plan.{Plan}
+use Rattle.slot_lock.specs.declared.plan.Plan.TheVariants as PlanOf
+use Rattle.slot_lock.specs.Plan.{IsSound, IsSoundGoal, IsSoundTouch, goal_range}
 use Rattle.slot_lock.specs.Slots.{Slots, Crosses, IsCrossed}
+use Rattle.refcache.specs.Steps.{IsUnused}
 use Rattle.vm_calls.specs.Settling.{is_private_store}
 use Rattle.machine_model.specs.declared.event.Event.{Event}
 use Rattle.machine_model.specs.declared.event.Event.TheVariants.{Go, Fold}
 use Rattle.machine_model.specs.declared.event.Outcome.{Outcome}
 use Rattle.machine_model.specs.declared.event.Outcome.TheVariants.{Stepped, Idle, Full}
 use Rattle.machine_model.specs.declared.phase.Phase.{Phase}
-use Rattle.machine_model.specs.declared.phase.Phase.TheVariants.{Lock, Find, Cut, Decide, Post, Acks}
-use Rattle.machine_model.specs.declared.phase.Phase.TheVariants.{Answer, Settle, Want, Fill, CopyPost}
+use Rattle.machine_model.specs.declared.phase.Phase.TheVariants.{Lock, Guess, Find, Back, Cut, Decide, Post, Acks}
+use Rattle.machine_model.specs.declared.phase.Phase.TheVariants.{Answer, Try, Settle, Want, Fill, CopyPost}
 use Rattle.machine_model.specs.declared.phase.Phase.TheVariants.{CopyAcks, Install, Release}
 use Rattle.machine_model.specs.Changes.{AwaitsNobody, Awaits}
 use Rattle.machine_model.specs.Files.{back_of}
+use Rattle.machine_model.specs.Holding.{awaits_in, is_open, taken_in}
 use Rattle.machine_model.specs.Locks.{locking}
 use Rattle.machine_model.specs.Translating.{frame_reached, translated_by}
 use Rattle.machine_model.specs.World.{World, Hardware}
 use Rattle.machine_laws.specs.Orderly.{answer_count}
 use Rattle.machine_sound.specs.Invariant.{IsWellFormed}
+use Rattle.core_steps.specs.Filling.{IsAloneAt}
 
 -- ---- want of memory
 
@@ -109,11 +114,44 @@ pub record IsOf (w : World) (core : ℕ) : Type 0 where
   pub here : core < w.made.cores
   pub well : ∥ IsWellFormed w ∥₁
 
--- and its call is in this phase
+-- what the call is to do, where it neither has locked pages nor is to lock some next
+abbrev pub plan_in : Phase → Option Plan
+plan_in (Guess place) = Some (PlanOf.Place place)
+plan_in (Back place target held) = Some (PlanOf.Place place)
+plan_in (Try touch) = Some (PlanOf.Touch touch)
+plan_in _ = None
+
+-- the page of an access that the call has locked
+abbrev pub page_in : Phase → Option ℕ
+page_in (Settle touch) = Some touch.page
+page_in (Want touch old) = Some touch.page
+page_in (Fill touch frame) = Some touch.page
+page_in (CopyPost touch frame) = Some touch.page
+page_in (CopyAcks touch frame) = Some touch.page
+page_in (Install touch) = Some touch.page
+page_in (Release touch) = Some touch.page
+page_in _ = None
+
+-- the frame is one that a call has taken
+pub record IsTaken (w : World) (f : ℕ) : Type 0 where
+  pub here : f < w.made.frames
+  pub busy : w.memory.is_free f ≡ false
+  pub object : f < w.memory.counts.objects
+  pub unused : IsUnused w.memory.counts f
+
+-- and its call is in this phase. What follows from that is named here once, for all steps.
 pub record IsAt (w : World) (core : ℕ) (at : Phase) : Type 0 where
   pub here : core < w.made.cores
   pub phase : w.calls.phase core ≡ at
   pub well : ∥ IsWellFormed w ∥₁
+  pub room : is_open at ≡ true → answer_count w.calls.log < w.made.calls
+  pub goal : IfSome (goal_in at) IsSoundGoal
+  pub plan : IfSome (plan_in at) IsSound
+  pub page : IfSome (page_in at) (IsAloneAt w.slots core)
+  pub taken : IfSome (taken_in at) (IsTaken w)
+  pub counted : core < w.memory.counts.cores
+  pub objects : (f : ℕ) → f < w.made.frames → f < w.memory.counts.objects
+  pub idle : awaits_in at ≡ None → AwaitsNobody w.hardware core
 
 -- ---- an access
 

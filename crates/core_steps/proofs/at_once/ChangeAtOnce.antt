@@ -43,7 +43,7 @@ use Rattle.core_steps.specs.OnePage.{replied}
 use Rattle.core_steps.specs.PageChange.{IsAlone, IsPageChange}
 use Rattle.core_steps.specs.Taking.{IsCounted}
 use Rattle.core_steps.proofs.engine.Each.{own_dropped}
-use Rattle.core_steps.proofs.rows.Known.{are_counted, change_pages, goal_sound, nobody_awaited, only_page, pages_counted, room_for, shot_just}
+use Rattle.core_steps.proofs.rows.Known.{are_counted, change_pages, only_page, pages_counted, shot_just}
 use Rattle.core_steps.proofs.at_once.OnePage.{answered, held, holding, locked, moved}
 
 -- ---- slots of one page that is changed
@@ -117,7 +117,7 @@ module _ (w : World) (c : ℕ) (change : Change) (page : FreePage) (shoot : ℕ)
 
   -- the call awaits nobody, as before
   nobody : AwaitsNobody (after_shot w.hardware c shoot (range_of change)) c
-  nobody = subst (λ h. AwaitsNobody h c) (sym (own_dropped w.hardware c shoot (range_of change) alone)) (nobody_awaited w c _ i.at refl)
+  nobody = subst (λ h. AwaitsNobody h c) (sym (own_dropped w.hardware c shoot (range_of change) alone)) (i.at.idle refl)
 
   module _ (counts : Counts)
       (lost : CountsDown c (frame_lost change w.slots.info) (range_of change).first 1 w.memory.counts counts) where
@@ -169,13 +169,13 @@ module _ (w : World) (c : ℕ) (change : Change) (page : FreePage) (shoot : ℕ)
 
 module _ (w : World) (c : ℕ) (change : Change) (page : FreePage) (d : Decision) (i : IsPageChange w c change page d) where
   pub is_sound : IsSoundChange change
-  is_sound = (goal_sound w c (To.Change change) (range_of change).first i.at).plan
+  is_sound = i.at.goal.plan
 
   pub are_valid : are_pages (range_of change) ≡ true
-  are_valid = change_pages w c _ change i.at (λ h. h)
+  are_valid = change_pages change i.at.goal
 
   pub room_to_log : answer_count w.calls.log < w.made.calls
-  room_to_log = room_for w c _ i.at refl
+  room_to_log = i.at.room refl
 
   -- its frame is one of the machine's that some page has
   pub is_counted : IfSome (frame_of page.info) (IsCounted w.memory.counts)
@@ -212,7 +212,7 @@ page_change w c change cursor range page d most i same size found decides room e
     }
 
 pub first_page : (w : World) (c : ℕ) (change : Change) (cursor : ℕ) → IsAt w c (Lock (To.Change change) cursor) → IsPageRange (range_of change)
-first_page w c change cursor i = sound_range change (goal_sound w c (To.Change change) cursor i).plan
+first_page w c change cursor i = sound_range change i.goal.plan
 
 -- it is none of the others' where the others are nobody
 pub alone_by : (core set others : ℕ) → members others ≡ put (members set) core false → others ≡ 0 → IsAlone set core

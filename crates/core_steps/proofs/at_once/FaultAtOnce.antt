@@ -16,7 +16,6 @@ use Rattle.vm_base.specs.Plain.{Bytes, zeros}
 use Rattle.vm_base.specs.Rights.{is_allowed}
 use Rattle.vm_base.proofs.Functions.{put_same}
 use Rattle.slot_lock.specs.declared.plan.Goal.TheVariants as To
-use Rattle.slot_lock.specs.declared.plan.Plan.TheVariants as PlanOf
 use Rattle.slot_lock.specs.declared.plan.Touch.{Touch}
 use Rattle.slot_lock.specs.Plan.{IsSoundGoal}
 use Rattle.slot_lock.specs.Slots.{IsFreeSlot, with_info}
@@ -51,8 +50,8 @@ use Rattle.core_steps.specs.OnePage.{CanTake, IsFault, IsSource, Makes, Passes, 
 use Rattle.core_steps.specs.OnePage.{later, logged_later, replied, steps_from, with_translation}
 use Rattle.core_steps.proofs.at_once.AtOnce.{counted_step, one_later, passes_join, to_same, to_twice}
 use Rattle.core_steps.proofs.rows.Framing.{counted_few, fills_private, fills_shared, fills_zeros, shown_here, shown_used, zeroed}
-use Rattle.core_steps.proofs.rows.Known.{core_counted, frame_below, frame_counted, free_below, free_unused, goal_sound, is_left}
-use Rattle.core_steps.proofs.rows.Known.{only_page, right_allowed, right_shown, room_for, sound_at}
+use Rattle.core_steps.proofs.rows.Known.{core_counted, frame_below, frame_counted, free_below, free_unused, is_at}
+use Rattle.core_steps.proofs.rows.Known.{only_page, right_allowed, right_shown}
 use Rattle.core_steps.proofs.at_once.OnePage.{answered, holding, locked, moved, released}
 use Rattle.core_steps.proofs.engine.Each.{put_twice}
 use Rattle.core_steps.proofs.Reached.{well, steps_reached}
@@ -63,8 +62,8 @@ use Rattle.core_steps.proofs.rows.Rows.{installed}
 pub can_try : (w : World) (c : ℕ) (touch : Touch) → IsAt w c (Try touch) → CanTry w c touch
 can_try w c touch i = record {
   here = i.here;
-  sound = sound_at w c (Try touch) (PlanOf.Touch touch) i (λ h. h);
-  room = room_for w c (Try touch) i refl;
+  sound = i.plan;
+  room = i.room refl;
   frame = λ f e. frame_below w c touch f i.well e;
 }
 
@@ -72,8 +71,8 @@ can_try w c touch i = record {
 pub can_try_later : (w : World) (c : ℕ) (touch : Touch) (events : ℕ) → c < w.made.cores → ∥ IsReached (to c (Try touch) w) ∥₁
     → CanTry (record w { calls = record w.calls { events = events } }) c touch
 can_try_later w c touch events here reached =
-    let can = can_try (to c (Try touch) w) c touch
-    (record { here = here; phase = put_same w.calls.phase c (Try touch); well = well (to c (Try touch) w) reached }) in
+    let m = to c (Try touch) w in
+    let can = can_try m c touch (is_at m c here (well m reached) (Try touch) (put_same w.calls.phase c (Try touch))) in
     record { here = can.here; sound = can.sound; room = can.room; frame = can.frame }
 
 pub tries : (w v : World) (c : ℕ) (touch : Touch) → w.calls.events < event_limit → c < w.made.cores → v ≡ after_try c touch (later 1 w)
@@ -203,14 +202,14 @@ at_first w c touch cursor i = i.phase ∙ ap (Lock (To.Access touch)) (only_page
 -- the page is a valid one
 pub is_valid : (w : World) (c : ℕ) (touch : Touch) → c < w.made.cores → w.calls.phase c ≡ locking (To.Access touch) → ∥ IsReached w ∥₁ → IsPage touch.page
 is_valid w c touch here phase reached =
-    (goal_sound w c (To.Access touch) touch.page (record { here = here; phase = phase; well = well w reached })).plan.page
+    (is_at w c here (well w reached) (locking (To.Access touch)) phase).goal.plan.page
 
 module _ (w : World) (c : ℕ) (touch : Touch) (fault : IsFault w c touch) where
   fine_now : ∥ IsWellFormed w ∥₁
   fine_now = well w fault.reached
 
   pub room : answer_count w.calls.log < w.made.calls
-  room = room_for w c (locking (To.Access touch)) (record { here = fault.here; phase = fault.phase; well = fine_now }) refl
+  room = (is_at w c fault.here fine_now (locking (To.Access touch)) fault.phase).room refl
 
   locks : Step w (Go c) Stepped (holding c touch.page (Settle touch) 1 w)
   locks =
@@ -464,8 +463,8 @@ module _ (w : World) (c : ℕ) (touch : Touch) (fault : IsFault (at_lock c touch
 -- the call can lock its page
 pub can_lock : (w : World) (c : ℕ) (touch : Touch) → c < w.made.cores → ∥ IsReached (at_lock c touch w) ∥₁ → IsSoundGoal (To.Access touch)
 can_lock w c touch here reached =
-    goal_sound (at_lock c touch w) c (To.Access touch) touch.page
-    (record { here = here; phase = put_same w.calls.phase c (locking (To.Access touch)); well = well (at_lock c touch w) reached })
+    let m = at_lock c touch w in
+    (is_at m c here (well m reached) (locking (To.Access touch)) (put_same w.calls.phase c (locking (To.Access touch)))).goal
 
 -- the steps that were made, by the number of events
 pub made_steps : (w m v : World) (c : ℕ) (touch : Touch) (r : Option Reply) → w.calls.phase c ≡ locking (To.Access touch) → Makes w c touch r m

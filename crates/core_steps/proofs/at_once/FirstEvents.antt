@@ -32,7 +32,7 @@ use Rattle.core_steps.specs.OnePage.{Makes, Passes, at_lock, later}
 use Rattle.core_steps.proofs.at_once.AtOnce.{counted_step, less, one_later, passes_join, to_same, to_twice}
 use Rattle.core_steps.proofs.events.Calling.{begun as begins_so}
 use Rattle.core_steps.proofs.at_once.FaultAtOnce.{can_lock}
-use Rattle.core_steps.proofs.rows.Known.{room_for}
+use Rattle.core_steps.proofs.rows.Known.{is_at}
 use Rattle.core_steps.proofs.Reached.{well, steps_join, steps_reached}
 
 -- the reply is handed out, and the core has no call again
@@ -76,7 +76,7 @@ module _ (w : World) (c : ℕ) (request : Request) (i : CanStart w c) (a : World
   pub reply_room : answer_count a.calls.log < a.made.calls
   reply_room =
       subst (λ (x : World). answer_count x.calls.log < x.made.calls) (sym kept)
-      (room_for begun c (Check request) (record { here = i.here; phase = put_same w.calls.phase c (Check request); well = well begun begun_reached }) refl)
+      ((is_at begun c i.here (well begun begun_reached) (Check request) (put_same w.calls.phase c (Check request))).room refl)
 
   -- that the call was at its check is forgotten
   planned : (r : Result Plan Reply) (x : World) → after_plan c r (to c (Check request) x) ≡ after_plan c r x

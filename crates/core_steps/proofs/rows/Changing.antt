@@ -8,7 +8,6 @@ use Rattle.vm_base.specs.declared.page.PageRange.{PageRange}
 use Rattle.vm_base.specs.declared.replies.Reply.{Reply}
 use Rattle.vm_base.specs.declared.rights.Prot.{Prot}
 use Rattle.vm_base.specs.Cores.{members}
-use Rattle.vm_base.specs.Functions.{has}
 use Rattle.vm_base.specs.Pages.{IsPageRange}
 use Rattle.vm_base.specs.Plain.{File}
 use Rattle.vm_base.proofs.CoreSets.{members-empty}
@@ -30,11 +29,11 @@ use Rattle.machine_model.specs.Changes.{AwaitsNobody, Awaits}
 use Rattle.machine_model.specs.World.{World, Hardware}
 use Rattle.machine_laws.specs.Orderly.{IsChosen, IsChangeOf}
 use Rattle.machine_laws.proofs.Deciding.{acts_in, sound_range}
-use Rattle.machine_laws.proofs.Moves.{call_at, IsCallOf}
+use Rattle.machine_laws.proofs.Moves.{call_at}
 use Rattle.core_steps.specs.Moving.{IsAt}
 use Rattle.slot_lock.specs.Changes.{IsMappedFor}
 use Rattle.core_steps.proofs.rows.Sounding.{sound_if}
-use Rattle.core_steps.proofs.rows.Known.{order, goal_at, held_range}
+use Rattle.core_steps.proofs.rows.Known.{order, held_range}
 
 -- ---- a change that is to be made
 
@@ -46,34 +45,24 @@ act_sound w (To.Place place target) change sound leads chosen =
 act_sound w (To.Change planned) change sound leads chosen = subst IsSoundChange (sym leads) sound.plan
 act_sound w (To.Access touch) change sound leads chosen = absurd leads
 
-pub acks_goal : (w : World) (c : ℕ) (goal : Goal) (change : Change) → IsAt w c (Acks goal change) → IsSoundGoal goal
-acks_goal w c goal change i = goal_at w c (Acks goal change) goal i (λ h. h) (λ call. call.ready.0)
-
 pub acks_sound : (w : World) (c : ℕ) (goal : Goal) (change : Change) → IsAt w c (Acks goal change) → IsSoundChange change
 acks_sound w c goal change i =
     sound_if (PlanOf.Change change) (∥∥₁_map (order i) (λ g.
     let ready = (call_at w c (Acks goal change) i.phase g).ready in
-    act_sound w goal change (acks_goal w c goal change i) ready.1 ready.2))
+    act_sound w goal change i.goal ready.1 ready.2))
 
 -- the call holds the pages that it changes
-owns_change : (w : World) (c : ℕ) (goal : Goal) (change : Change) → IsCallOf w c (Acks goal change) → (p : ℕ) → has (range_of change) p ≡ true
-    → w.slots.owner p ≡ Some c
-owns_change w c goal change call p h =
-    let chosen = call.ready.2 in
-    call.owned p (acts_in w.made.file w.slots goal (range_of change) chosen.0 p chosen.1 h)
-
 pub acks_held : (w : World) (c : ℕ) (goal : Goal) (change : Change) → IsAt w c (Acks goal change) → IsHeld w.slots c (range_of change)
 acks_held w c goal change i =
     let pages = sound_range change (acks_sound w c goal change i) in
     record {
       pages = pages;
-      cut = record {
-        begins = ∥∥₁_elim (order i) (hlevel props) (λ g. ((call_at w c (Acks goal change) i.phase g).cut_out pages.some).0);
-        ends = ∥∥₁_elim (order i) (hlevel props) (λ g. ((call_at w c (Acks goal change) i.phase g).cut_out pages.some).1);
-      };
+      cut = ∥∥₁_elim (order i) (hlevel props) (λ g.
+          let cut = (call_at w c (Acks goal change) i.phase g).cut_out pages.some in record { begins = cut.0; ends = cut.1 });
       held = λ p a b.
           ∥∥₁_elim (order i) (hlevel props) (λ g.
-          owns_change w c goal change (call_at w c (Acks goal change) i.phase g) p (in_has (range_of change) p a b));
+          let call = call_at w c (Acks goal change) i.phase g in
+          call.owned p (acts_in w.made.file w.slots goal (range_of change) call.ready.2.0 p call.ready.2.1 (in_has (range_of change) p a b)));
     }
 
 -- a protection is changed only where all pages are mapped
@@ -112,11 +101,7 @@ acks_mapped w c goal (Protect range prot) i = λ p h.
 -- ---- pages that are to be let go
 
 pub unlock_range : (w : World) (c : ℕ) (held : PageRange) (reply : Reply) → IsAt w c (Unlock held reply) → IsPageRange held
-unlock_range w c held reply i = record {
-  some = ∥∥₁_elim (order i) (hlevel props) (λ g. (call_at w c (Unlock held reply) i.phase g).ready.some);
-  low = ∥∥₁_elim (order i) (hlevel props) (λ g. (call_at w c (Unlock held reply) i.phase g).ready.low);
-  high = ∥∥₁_elim (order i) (hlevel props) (λ g. (call_at w c (Unlock held reply) i.phase g).ready.high);
-}
+unlock_range w c held reply i = ∥∥₁_elim (order i) (hlevel props) (λ g. (call_at w c (Unlock held reply) i.phase g).ready)
 
 pub unlock_held : (w : World) (c : ℕ) (held : PageRange) (reply : Reply) → IsAt w c (Unlock held reply) → IsHeld w.slots c held
 unlock_held w c held reply i = held_range w c (Unlock held reply) held i refl (unlock_range w c held reply i)

@@ -17,9 +17,7 @@ use Rattle.vm_base.specs.Functions.{put}
 use Rattle.vm_base.specs.Info.{frame_of, info_with_frame, is_recorded, info_with_copy, recorded_cores}
 use Rattle.vm_base.specs.Plain.{Bytes, File, bytes_in, file_bytes, zeros}
 use Rattle.vm_base.proofs.CoreSets.{members-empty}
-use Rattle.slot_lock.specs.declared.plan.Plan.TheVariants as PlanOf
 use Rattle.slot_lock.specs.declared.plan.Touch.{Touch}
-use Rattle.slot_lock.specs.Plan.{IsSoundTouch}
 use Rattle.slot_lock.specs.Slots.{with_info}
 use Rattle.backing.specs.Files.{bytes_now}
 use Rattle.vm_calls.specs.Settling.{is_private_store}
@@ -35,7 +33,6 @@ use Rattle.machine_model.specs.Actions.{to, with_entry, detach_entry}
 use Rattle.machine_model.specs.Files.{back_of, bytes_shown, file_frame, page_now, with_cached}
 use Rattle.machine_model.specs.Filling.{CopiesNext, FillsBacked, FillsFrame, FillsFromFile, FillsOwn, after_copy}
 use Rattle.machine_model.specs.Filling.{after_first_copy, after_zeros}
-use Rattle.machine_model.specs.Holding.{page_of_touch, range_held, some_has, taken_in}
 use Rattle.machine_model.specs.Step.{Goes}
 use Rattle.machine_model.specs.Changes.{AwaitsNobody, Awaits}
 use Rattle.machine_model.specs.World.{World, Hardware, Memory}
@@ -44,10 +41,10 @@ use Rattle.machine_counting.proofs.Kept.{cached_positive, counted_positive}
 use Rattle.machine_laws.specs.Orderly.{IsUsable, IsCopying}
 use Rattle.machine_laws.proofs.Moves.{call_at}
 use Rattle.machine_sound.specs.Invariant.{IsWellFormed}
-use Rattle.core_steps.specs.Moving.{AwaitsCopy, IsAt, Tries, WantsMemory, is_copy_due}
+use Rattle.core_steps.specs.Moving.{AwaitsCopy, IsAt, IsTaken, Tries, WantsMemory, is_copy_due}
 use Rattle.core_steps.specs.State.{phase_at}
-use Rattle.core_steps.specs.Filling.{IsAloneAt, IsOfFile, MakesCopy}
-use Rattle.core_steps.proofs.rows.Known.{one_slot, order, owns, page_is, sound_at, taken_below, taken_busy}
+use Rattle.core_steps.specs.Filling.{IsOfFile, MakesCopy}
+use Rattle.core_steps.proofs.rows.Known.{is_at, order}
 
 -- ---- pages of files
 
@@ -172,28 +169,9 @@ page_frame_used w p f g m t h step =
     go true a e = omega (arith, ints, a, e)
     go false a e = omega (arith, ints, a, e)
 
--- ---- the page is a slot of its own
-
-alone_at : (w : World) (c : ℕ) (phase : Phase) (touch : Touch) → IsAt w c phase → range_held phase ≡ Some (page_of_touch touch) → IsSoundTouch touch
-    → IsAloneAt w.slots c touch.page
-alone_at w c phase touch i e s = record {
-  valid = s.page;
-  held = owns w c phase i touch.page (ap (λ r. some_has r touch.page) e ∙ page_is touch);
-  alone = one_slot w c phase touch i e;
-}
-
-pub fill_alone : (w : World) (c : ℕ) (touch : Touch) (frame : Option ℕ) → IsAt w c (Fill touch frame) → IsAloneAt w.slots c touch.page
-fill_alone w c touch frame i = alone_at w c (Fill touch frame) touch i refl (sound_at w c (Fill touch frame) (PlanOf.Touch touch) i (λ h. h))
-
-pub copy_alone : (w : World) (c : ℕ) (touch : Touch) (f : ℕ) → IsAt w c (CopyAcks touch f) → IsAloneAt w.slots c touch.page
-copy_alone w c touch f i = alone_at w c (CopyAcks touch f) touch i refl (sound_at w c (CopyAcks touch f) (PlanOf.Touch touch) i (λ h. h))
-
-pub taken_here : (w : World) (c : ℕ) (phase : Phase) → IsAt w c phase → IfSome (taken_in phase) (λ f. (f < w.made.frames) × (w.memory.is_free f ≡ false))
-taken_here w c phase i = go (taken_in phase) refl
-  where
-    go : (o : Option ℕ) → taken_in phase ≡ o → IfSome o (λ f. (f < w.made.frames) × (w.memory.is_free f ≡ false))
-    go None e = tt
-    go (Some f) e = (taken_below w c phase i f e, taken_busy w c phase i f e)
+pub taken_here : (w : World) (o : Option ℕ) → IfSome o (IsTaken w) → IfSome o (λ f. (f < w.made.frames) × (w.memory.is_free f ≡ false))
+taken_here w None t = tt
+taken_here w (Some f) t = (t.here, t.busy)
 
 -- ---- rows
 
@@ -321,6 +299,10 @@ copy_not_due h c phase e due = absurd cc
 -- what was read of the phases is the phase of the core's call
 pub read_at : (phases : List Phase) (c i : ℕ) (x phase : Phase) → c < length phases → i ≡ c → x ≡ get_or phases i x → x ≡ phase → phase_at phases c ≡ phase
 read_at phases c i x phase h e r is = sym (get_or_read phases c x h (r ∙ ap (λ k. get_or phases k x) e) Free) ∙ is
+
+pub at_read : {w : World} {c i : ℕ} {x phase : Phase} (phases : List Phase) → (phase_at phases c ≡ phase → w.calls.phase c ≡ phase) → c < length phases
+    → c < w.made.cores → ∥ IsWellFormed w ∥₁ → i ≡ c → x ≡ get_or phases i x → x ≡ phase → IsAt w c phase
+at_read {w} {c} {i} {x} {phase} phases same below here fine k r e = is_at w c here fine phase (same (read_at phases c i x phase below k r e))
 
 pub goes_at : (keeps : Bool) (w v : World) (c : ℕ) (r : Result Outcome NoMemory) (read phase : Phase) → read ≡ phase
     → Tries (Goes w c phase) (WantsMemory keeps w c phase) w r v → Tries (Goes w c read) (WantsMemory keeps w c read) w r v

@@ -26,7 +26,7 @@ use Rattle.slot_lock.specs.declared.plan.Touch.{Touch}
 use Rattle.slot_lock.specs.declared.plan.Goal.{Goal}
 use Rattle.slot_lock.specs.declared.plan.Goal.TheVariants as To
 use Rattle.slot_lock.specs.Plan.{goal_plan, goal_range, range_of, HasTarget, IsSound, IsSoundGoal, IsSoundTouch}
-use Rattle.slot_lock.specs.Slots.{Slots, IsSlot, IsHeld, IsUser}
+use Rattle.slot_lock.specs.Slots.{Slots, IsHeld, IsUser}
 use Rattle.vm_calls.specs.declared.decision.Decision.TheVariants.{Act}
 use Rattle.vm_calls.specs.Decisions.{DecidesChange}
 use Rattle.vm_calls.specs.Decisions.DecidesProtect.{no_page, no_write, acts}
@@ -47,7 +47,7 @@ use Rattle.refcache.specs.Sound.{AreReached}
 use Rattle.refcache.specs.Steps.{Takes, Reviewing, IsUnused}
 use Rattle.refcache.proofs.Reached.{reached_is_orderly}
 use Rattle.machine_model.specs.declared.phase.Phase.{Phase}
-use Rattle.machine_model.specs.declared.phase.Phase.TheVariants.{Free, Lock, Find, Cut, Decide, Post, Acks, Unlock, Answer}
+use Rattle.machine_model.specs.declared.phase.Phase.TheVariants.{Free, Check, Lock, Guess, Find, Back, Cut, Post, Acks, Unlock, Answer, Try}
 use Rattle.machine_model.specs.declared.phase.Phase.TheVariants.{Settle, Want, Fill, CopyPost, CopyAcks, Install, Release}
 use Rattle.machine_model.specs.World.{World}
 use Rattle.machine_model.specs.Changes.{AwaitsNobody}
@@ -61,28 +61,151 @@ use Rattle.machine_laws.proofs.Moves.{call_at, IsCallOf}
 use Rattle.machine_laws.proofs.OpenCalls.{one, open_put}
 use Rattle.machine_coherence.specs.Coherent.{Every, IsSoundEntry, AreAsked}
 use Rattle.machine_sound.specs.Invariant.{IsWellFormed}
-use Rattle.core_steps.specs.Moving.{IsAt, goal_in}
+use Rattle.core_steps.specs.Filling.{IsAloneAt}
+use Rattle.core_steps.specs.Moving.{IsAt, IsTaken, goal_in, page_in, plan_in}
 use Rattle.core_steps.specs.Taking.{AreCounted}
 use Rattle.core_steps.proofs.rows.Sounding.{goal_if, sound_if}
+
+-- ---- what is known of a call in its phase
+
+-- a call's plan passed the check of the arguments, and so is sound
+served : (w : World) (c : ℕ) (plan : Plan) → IsOrderly w → c < w.made.cores
+    → Serves w.made w.calls.requests c (w.calls.number c) plan → IsSound plan
+served w c plan g here s = let few = g.few in checked_is_sound _ c s.request plan (omega (arith, few, here)) s.passed
+
+pub core_counted : (w : World) (c : ℕ) → ∥ IsWellFormed w ∥₁ → c < w.made.cores → c < w.memory.counts.cores
+core_counted w c t h = ∥∥₁_elim t (hlevel props) (λ g. subst (λ n. c < n) (sym g.order.memory.cores) h)
+
+pub frame_counted : (w : World) (f : ℕ) → ∥ IsWellFormed w ∥₁ → f < w.made.frames → f < w.memory.counts.objects
+frame_counted w f t h = ∥∥₁_elim t (hlevel props) (λ g. subst (λ n. f < n) (sym g.order.memory.objects) h)
+
+pub free_below : (w : World) → ∥ IsWellFormed w ∥₁ → (f : ℕ) → w.memory.is_free f ≡ true → f < w.made.frames
+free_below w t f e = ∥∥₁_elim t (hlevel props) (λ g. g.order.memory.free f e)
+
+-- a message is of a core that waits for its pages
+asked_by : (phase : ℕ → Phase) (d c : ℕ) (ms : List Message) (m : Message) → AreAsked phase d ms → message_of ms c ≡ Some m → awaits_in (phase c) ≡ Some m.range
+asked_by phase d c [] m k h = absurd cc
+asked_by phase d c (x ∷ ms) m k h = go (x.from == c) (asked_by phase d c ms m k.3) refl h
+  where
+    go : (b : Bool) → (message_of ms c ≡ Some m → awaits_in (phase c) ≡ Some m.range) → (x.from == c) ≡ b
+        → (if b then Some x else message_of ms c) ≡ Some m → awaits_in (phase c) ≡ Some m.range
+    go true rest e i =
+        let from : x.from ≡ c = eq_true x.from c e in
+        let same : x ≡ m = cc in
+        ap (λ n. awaits_in (phase n)) (sym from) ∙ (k.1 ∙ ap (λ y. Some y.range) same)
+    go false rest e i = rest i
+
+pub touch_range : (touch : Touch) → IsSoundTouch touch → IsPageRange (page_of_touch touch)
+touch_range touch h = record { some = omega arith; low = h.page.0; high = let last = h.page.1 in omega (arith, last) }
+
+pub page_is : (touch : Touch) → has (page_of_touch touch) touch.page ≡ true
+page_is touch = in_has (page_of_touch touch) touch.page (omega arith) (omega arith)
+
+module _ (w : World) (c : ℕ) (here : c < w.made.cores) (fine : ∥ IsWellFormed w ∥₁) where
+  -- room for a reply
+  room : (phase : Phase) → w.calls.phase c ≡ phase → is_open phase ≡ true → answer_count w.calls.log < w.made.calls
+  room phase e o =
+      ∥∥₁_elim fine (hlevel props) (λ g.
+      let was : one (w.calls.phase c) ≡ 1 = ap one e ∙ ap (λ b. cond b 1 0) o in
+      let put = open_put w.calls.phase c Free w.made.cores here in
+      let room = g.order.room in let limit = g.order.limit in omega (arith, was, put, room, limit))
+
+  sound : (phase : Phase) (plan : Plan) → w.calls.phase c ≡ phase
+      → (IsAsked w.made w.calls.requests c (w.calls.number c) phase → Serves w.made w.calls.requests c (w.calls.number c) plan) → IsSound plan
+  sound phase plan e serves = sound_if plan (∥∥₁_map fine (λ g. served w c plan g.order here (serves (call_at w c phase e g.order).asked)))
+
+  -- and so is its goal, where its target is of its mapping
+  reaches : (phase : Phase) (goal : Goal) → w.calls.phase c ≡ phase
+      → (IsAsked w.made w.calls.requests c (w.calls.number c) phase → Serves w.made w.calls.requests c (w.calls.number c) (goal_plan goal))
+      → (IsCallOf w c phase → HasTarget goal) → IsSoundGoal goal
+  reaches phase goal e serves has_target =
+      goal_if goal (∥∥₁_map fine (λ g.
+      let call = call_at w c phase e g.order in
+      record { plan = served w c (goal_plan goal) g.order here (serves call.asked); target = has_target call }))
+
+  goals : (phase : Phase) → w.calls.phase c ≡ phase → IfSome (goal_in phase) IsSoundGoal
+  goals (Lock goal cursor) e = reaches (Lock goal cursor) goal e (λ h. h) (λ call. call.ready.2)
+  goals (Find place target) e = reaches (Find place target) _ e (λ h. h) (λ call. call.ready)
+  goals (Cut place target range) e = reaches (Cut place target range) _ e (λ h. h) (λ call. call.ready.0)
+  goals (Acks goal change) e = reaches (Acks goal change) goal e (λ h. h) (λ call. call.ready.0)
+  goals Free e = tt
+  goals (Check request) e = tt
+  goals (Guess place) e = tt
+  goals (Back place target held) e = tt
+  goals (Unlock held reply) e = tt
+  goals (Answer reply) e = tt
+  goals (Try touch) e = tt
+  goals phase e = reaches phase _ e (λ h. h) (λ call. tt)
+
+  plans : (phase : Phase) → w.calls.phase c ≡ phase → IfSome (plan_in phase) IsSound
+  plans (Guess place) e = sound (Guess place) _ e (λ h. h)
+  plans (Back place target held) e = sound (Back place target held) _ e (λ h. h)
+  plans (Try touch) e = sound (Try touch) _ e (λ h. h)
+  plans phase e = tt
+
+  -- the page of an access is a slot of its own
+  alone : (phase : Phase) (touch : Touch) → w.calls.phase c ≡ phase → range_held phase ≡ Some (page_of_touch touch) → IsSoundTouch touch
+      → IsAloneAt w.slots c touch.page
+  alone phase touch e held s =
+      ∥∥₁_elim fine (hlevel props) (λ g.
+      let call = call_at w c phase e g.order in
+      let cut = subst (IsCutFor w.slots.edge) held call.cut (omega arith) in
+      record {
+        valid = s.page;
+        held = call.owned touch.page (ap (λ r. some_has r touch.page) held ∙ page_is touch);
+        alone = record { ordered = omega arith; begins = cut.0; ends = cut.1; inside = λ p a b. absurd (omega (arith, a, b)) };
+      })
+
+  pages : (phase : Phase) → w.calls.phase c ≡ phase → IfSome (page_in phase) (IsAloneAt w.slots c)
+  pages (Settle touch) e = alone (Settle touch) touch e refl (goals (Settle touch) e).plan
+  pages (Want touch old) e = alone (Want touch old) touch e refl (goals (Want touch old) e).plan
+  pages (Fill touch frame) e = alone (Fill touch frame) touch e refl (goals (Fill touch frame) e).plan
+  pages (CopyPost touch frame) e = alone (CopyPost touch frame) touch e refl (goals (CopyPost touch frame) e).plan
+  pages (CopyAcks touch frame) e = alone (CopyAcks touch frame) touch e refl (goals (CopyAcks touch frame) e).plan
+  pages (Install touch) e = alone (Install touch) touch e refl (goals (Install touch) e).plan
+  pages (Release touch) e = alone (Release touch) touch e refl (goals (Release touch) e).plan
+  pages phase e = tt
+
+  takes : (phase : Phase) → w.calls.phase c ≡ phase → (o : Option ℕ) → taken_in phase ≡ o → IfSome o (IsTaken w)
+  takes phase e None t = tt
+  takes phase e (Some f) t =
+      ∥∥₁_elim fine (hlevel props) (λ g.
+      let below = (call_at w c phase e g.order).taken f t in
+      record {
+        here = below;
+        busy = g.counted.busy c f (ap taken_in e ∙ t);
+        object = frame_counted w f fine below;
+        unused = g.counted.taken c f (ap taken_in e ∙ t);
+      })
+
+  -- a call that awaits no pages awaits nobody
+  idle : awaits_in (w.calls.phase c) ≡ None → AwaitsNobody w.hardware c
+  idle none d = go (message_of (w.hardware.inbox d) c) refl
+    where
+      go : (m : Option Message) → message_of (w.hardware.inbox d) c ≡ m → is_some m ≡ false
+      go None e = refl
+      go (Some m) e =
+          ∥∥₁_elim fine (hlevel props) (λ g. let asked = asked_by w.calls.phase d c (w.hardware.inbox d) m (g.coherent.asked d) e in absurd cc)
+
+  pub is_at : (phase : Phase) → w.calls.phase c ≡ phase → IsAt w c phase
+  is_at phase e = record {
+    here = here;
+    phase = e;
+    well = fine;
+    room = room phase e;
+    goal = goals phase e;
+    plan = plans phase e;
+    page = pages phase e;
+    taken = takes phase e (taken_in phase) refl;
+    counted = core_counted w c fine here;
+    objects = λ f. frame_counted w f fine;
+    idle = λ none. idle (ap awaits_in e ∙ none);
+  }
 
 -- ---- the order
 
 pub order : {w : World} {c : ℕ} {phase : Phase} → IsAt w c phase → ∥ IsOrderly w ∥₁
 order i = ∥∥₁_map i.well (λ g. g.order)
-
--- ---- room for a reply
-
-opens : (w : World) (c : ℕ) (phase : Phase) → w.calls.phase c ≡ phase → is_open phase ≡ true → c < w.made.cores → IsOrderly w
-    → answer_count w.calls.log < w.made.calls
-opens w c phase e o h g =
-    let was : one (w.calls.phase c) ≡ 1 = ap one e ∙ ap (λ b. cond b 1 0) o in
-    let put = open_put w.calls.phase c Free w.made.cores h in
-    let room = g.room in
-    let limit = g.limit in
-    omega (arith, was, put, room, limit)
-
-pub room_for : (w : World) (c : ℕ) (phase : Phase) → IsAt w c phase → is_open phase ≡ true → answer_count w.calls.log < w.made.calls
-room_for w c phase i o = ∥∥₁_elim (order i) (hlevel props) (opens w c phase i.phase o i.here)
 
 -- ---- what a call owns
 
@@ -94,16 +217,10 @@ owns_not w c phase i p h =
     ∥∥₁_elim (order i) (hlevel props) (λ g o. let clash = (call_at w c phase i.phase g).only p o in absurd (cc))
 
 -- a slot begins at each end of what it holds
-begins : (w : World) (c : ℕ) (phase : Phase) (held : PageRange) → range_held phase ≡ Some held → held.first < held.end → IsCallOf w c phase
-    → IsCutRange w.slots.edge held
-begins w c phase held e some k = subst (IsCutFor w.slots.edge) e k.cut some
-
 pub cut_at : (w : World) (c : ℕ) (phase : Phase) (held : PageRange) → IsAt w c phase → range_held phase ≡ Some held → held.first < held.end
     → IsCutRange w.slots.edge held
-cut_at w c phase held i e some = (
-  ∥∥₁_elim (order i) (hlevel props) (λ g. (begins w c phase held e some (call_at w c phase i.phase g)).0),
-  ∥∥₁_elim (order i) (hlevel props) (λ g. (begins w c phase held e some (call_at w c phase i.phase g)).1),
-)
+cut_at w c phase held i e some =
+    ∥∥₁_elim (order i) (hlevel props) (λ g. subst (IsCutFor w.slots.edge) e (call_at w c phase i.phase g).cut some)
 
 -- ---- what the invariant says of the hardware, the counts and the frames
 
@@ -141,48 +258,10 @@ first_here w g c p e (x ∷ es) k h = by (x.page == p) (first_here w g c p e es 
 tlb_here : (w : World) → IsWellFormed w → (c p : ℕ) (e : Translation) → tlb_at (w.hardware.tlb c) p ≡ Some e → e.frame < w.made.frames
 tlb_here w g c p e h = first_here w g c p e (w.hardware.tlb c) (g.coherent.tlbs c) h
 
--- a message is of a core that waits for its pages
-asked_by : (phase : ℕ → Phase) (d c : ℕ) (ms : List Message) (m : Message) → AreAsked phase d ms → message_of ms c ≡ Some m → awaits_in (phase c) ≡ Some m.range
-asked_by phase d c [] m k h = absurd cc
-asked_by phase d c (x ∷ ms) m k h = go (x.from == c) (asked_by phase d c ms m k.3) refl h
-  where
-    go : (b : Bool) → (message_of ms c ≡ Some m → awaits_in (phase c) ≡ Some m.range) → (x.from == c) ≡ b
-        → (if b then Some x else message_of ms c) ≡ Some m → awaits_in (phase c) ≡ Some m.range
-    go true rest e i =
-        let from : x.from ≡ c = eq_true x.from c e in
-        let same : x ≡ m = cc in
-        ap (λ n. awaits_in (phase n)) (sym from) ∙ (k.1 ∙ ap (λ y. Some y.range) same)
-    go false rest e i = rest i
-
 -- ---- cores and frames
 
-pub core_counted : (w : World) (c : ℕ) → ∥ IsWellFormed w ∥₁ → c < w.made.cores → c < w.memory.counts.cores
-core_counted w c t h = ∥∥₁_elim t (hlevel props) (λ g. subst (λ n. c < n) (sym g.order.memory.cores) h)
-
-pub frame_counted : (w : World) (f : ℕ) → ∥ IsWellFormed w ∥₁ → f < w.made.frames → f < w.memory.counts.objects
-frame_counted w f t h = ∥∥₁_elim t (hlevel props) (λ g. subst (λ n. f < n) (sym g.order.memory.objects) h)
-
-pub free_below : (w : World) → ∥ IsWellFormed w ∥₁ → (f : ℕ) → w.memory.is_free f ≡ true → f < w.made.frames
-free_below w t f e = ∥∥₁_elim t (hlevel props) (λ g. g.order.memory.free f e)
-
-pub taken_below : (w : World) (c : ℕ) (phase : Phase) → IsAt w c phase → (f : ℕ) → taken_in phase ≡ Some f → f < w.made.frames
-taken_below w c phase i f h = ∥∥₁_elim (order i) (hlevel props) (λ g. (call_at w c phase i.phase g).taken f h)
-
-pub taken_busy : (w : World) (c : ℕ) (phase : Phase) → IsAt w c phase → (f : ℕ) → taken_in phase ≡ Some f → w.memory.is_free f ≡ false
-taken_busy w c phase i f h = ∥∥₁_elim i.well (hlevel props) (λ g. g.counted.busy c f (ap taken_in i.phase ∙ h))
-
-unused_by : (w : World) (f : ℕ) → ∥ IsWellFormed w ∥₁ → (IsWellFormed w → IsUnused w.memory.counts f) → IsUnused w.memory.counts f
-unused_by w f t is = record {
-  zero = ∥∥₁_elim t (hlevel props) (λ g. (is g).zero);
-  entries = λ d lt. ∥∥₁_elim t (hlevel props) (λ g. (is g).entries d lt);
-  unqueued = ∥∥₁_elim t (hlevel props) (λ g. (is g).unqueued);
-}
-
-pub taken_unused : (w : World) (c : ℕ) (phase : Phase) → IsAt w c phase → (f : ℕ) → taken_in phase ≡ Some f → IsUnused w.memory.counts f
-taken_unused w c phase i f h = unused_by w f i.well (λ g. g.counted.taken c f (ap taken_in i.phase ∙ h))
-
 pub free_unused : (w : World) (f : ℕ) → ∥ IsWellFormed w ∥₁ → w.memory.is_free f ≡ true → IsUnused w.memory.counts f
-free_unused w f t h = unused_by w f t (λ g. g.counted.free f h)
+free_unused w f t h = ∥∥₁_elim t (hlevel props) (λ g. g.counted.free f h)
 
 pub are_counted : (w : World) → ∥ IsWellFormed w ∥₁ → AreCounted w.slots.info w.memory.counts
 are_counted w t = record {
@@ -214,10 +293,7 @@ freed_busy w c f v t h = go (w.memory.is_free f) refl
 
 -- the tables have entries of valid pages alone
 pub entry_page : (w : World) (c p : ℕ) (e : Translation) → ∥ IsWellFormed w ∥₁ → w.hardware.table c p ≡ Some e → IsPage p
-entry_page w c p e t h = (
-  ∥∥₁_elim t (hlevel props) (λ g. (table_here w g c p e h).0.0),
-  ∥∥₁_elim t (hlevel props) (λ g. (table_here w g c p e h).0.1),
-)
+entry_page w c p e t h = ∥∥₁_elim t (hlevel props) (λ g. (table_here w g c p e h).0)
 
 pub frame_below : (w : World) (c : ℕ) (touch : Touch) (f : ℕ) → ∥ IsWellFormed w ∥₁ → frame_reached (translated_by w.hardware c touch) ≡ Some f → f < w.made.frames
 frame_below w c touch f t h = go (tlb_at (w.hardware.tlb c) touch.page) (w.hardware.table c touch.page) refl refl h
@@ -238,41 +314,11 @@ frame_below w c touch f t h = go (tlb_at (w.hardware.tlb c) touch.page) (w.hardw
         subst (λ n. n < w.made.frames) (fills e (permits e touch.access) k) (∥∥₁_elim t (hlevel props) (λ g. (table_here w g c touch.page e b).1))
     go None None a b k = absurd cc
 
--- ---- its plan passed the check of the arguments, and so is sound
-
--- the core is one of at most 64
-few_here : (w : World) (c : ℕ) → IsOrderly w → c < w.made.cores → c < 64
-few_here w c g here = let few = g.few in omega (arith, few, here)
-
-served : (w : World) (c : ℕ) (plan : Plan) → IsOrderly w → c < w.made.cores
-    → Serves w.made w.calls.requests c (w.calls.number c) plan → IsSound plan
-served w c plan g here s = checked_is_sound _ c s.request plan (few_here w c g here) s.passed
-
-pub sound_at : (w : World) (c : ℕ) (phase : Phase) (plan : Plan) → IsAt w c phase
-    → (IsAsked w.made w.calls.requests c (w.calls.number c) phase → Serves w.made w.calls.requests c (w.calls.number c) plan) → IsSound plan
-sound_at w c phase plan i serves =
-    sound_if plan (∥∥₁_map (order i) (λ g. served w c plan g i.here (serves (call_at w c phase i.phase g).asked)))
-
--- and so is its goal, where its target is of its mapping
-pub goal_at : (w : World) (c : ℕ) (phase : Phase) (goal : Goal) → IsAt w c phase
-    → (IsAsked w.made w.calls.requests c (w.calls.number c) phase → Serves w.made w.calls.requests c (w.calls.number c) (goal_plan goal))
-    → (IsCallOf w c phase → HasTarget goal) → IsSoundGoal goal
-goal_at w c phase goal i serves has_target =
-    goal_if goal (∥∥₁_map (order i) (λ g.
-    let call = call_at w c phase i.phase g in
-    record { plan = served w c (goal_plan goal) g i.here (serves call.asked); target = has_target call }))
-
-pub goal_sound : (w : World) (c : ℕ) (goal : Goal) (cursor : ℕ) → IsAt w c (Lock goal cursor) → IsSoundGoal goal
-goal_sound w c goal cursor i = goal_at w c (Lock goal cursor) goal i (λ h. h) (λ call. call.ready.2)
-
 -- ---- the pages that are to be locked
-
-pub touch_range : (touch : Touch) → IsSoundTouch touch → IsPageRange (page_of_touch touch)
-touch_range touch h = record { some = omega arith; low = h.page.0; high = let last = h.page.1 in omega (arith, last) }
 
 pub range_ends : (w : World) (c : ℕ) (goal : Goal) (cursor : ℕ) → IsAt w c (Lock goal cursor) → (1 ≤ cursor) × ((goal_range goal).end ≤ 2 ^ 35)
 range_ends w c goal cursor i =
-    let pages = goal_valid goal (goal_sound w c goal cursor i) in
+    let pages = goal_valid goal (i.goal) in
     let low = pages.low in
     (∥∥₁_elim (order i) (hlevel props) (λ g. let from = (call_at w c (Lock goal cursor) i.phase g).ready.0 in omega (arith, low, from)), pages.high)
 
@@ -294,21 +340,6 @@ not_ahead w c goal cursor i = owns_not w c (Lock goal cursor) i cursor (past (go
     past : (a n : ℕ) → has (record { first = a; end = n }) n ≡ false
     past a n = grind (arith, nat_tests)
 
--- ---- the page of an access, which is a slot of its own
-
-pub page_is : (touch : Touch) → has (page_of_touch touch) touch.page ≡ true
-page_is touch = in_has (page_of_touch touch) touch.page (omega arith) (omega arith)
-
-pub page_cut : (w : World) (c : ℕ) (phase : Phase) (touch : Touch) → IsAt w c phase → range_held phase ≡ Some (page_of_touch touch)
-    → IsCutRange w.slots.edge (page_of_touch touch)
-page_cut w c phase touch i e = cut_at w c phase (page_of_touch touch) i e (omega arith)
-
-pub one_slot : (w : World) (c : ℕ) (phase : Phase) (touch : Touch) → IsAt w c phase → range_held phase ≡ Some (page_of_touch touch)
-    → IsSlot w.slots touch.page (touch.page + 1)
-one_slot w c phase touch i e =
-    let cut = page_cut w c phase touch i e in
-    record { ordered = omega arith; begins = cut.0; ends = cut.1; inside = λ p a b. absurd (omega (arith, a, b)) }
-
 -- ---- a range that is held whole
 
 pub held_range : (w : World) (c : ℕ) (phase : Phase) (range : PageRange) → IsAt w c phase → range_held phase ≡ Some range → IsPageRange range
@@ -323,22 +354,6 @@ held_range w c phase range i e pages =
 
 -- ---- shootdowns
 
--- a call that awaits no pages awaits nobody
-pub nobody_awaited : (w : World) (c : ℕ) (phase : Phase) → IsAt w c phase → awaits_in phase ≡ None → AwaitsNobody w.hardware c
-nobody_awaited w c phase i idle d = go (message_of (w.hardware.inbox d) c) refl
-  where
-    go : (m : Option Message) → message_of (w.hardware.inbox d) c ≡ m → is_some m ≡ false
-    go None e = refl
-    go (Some m) e =
-        ∥∥₁_elim i.well (hlevel props) (λ g.
-        let awaited_one = asked_by w.calls.phase d c (w.hardware.inbox d) m (g.coherent.asked d) e in
-        let none : awaits_in (w.calls.phase c) ≡ None = ap awaits_in i.phase ∙ idle in
-        absurd cc)
-
--- the cores that are told are the machine's
-user_here : (w : World) (range : PageRange) (d : ℕ) → IsOrderly w → IsUser w.slots range d → d < w.made.cores
-user_here w range d g u = (g.pages u.0).cores d u.2
-
 -- a change shoots just the cores that are recorded on a page of its range
 pub shot_just : (files : ℕ → Option File) (s : Slots) (change : Change) (shoot : ℕ) → DecidesChange files s change (Act (range_of change) shoot)
     → (d : ℕ) → (members shoot d ≡ true) ↔ IsUser s (range_of change) d
@@ -348,18 +363,17 @@ shot_just files s (Protect range prot) shoot (no_page a e) d = absurd cc
 shot_just files s (Protect range prot) shoot (no_write a x r e) d = absurd cc
 shot_just files s (Protect range prot) shoot (acts a r k) d = k.1 d
 
+-- the cores that are told are the machine's
 pub shot_here : (w : World) (c : ℕ) (change : Change) (shoot : ℕ) → IsAt w c (Post change shoot) → (d : ℕ) → members shoot d ≡ true → d < w.made.cores
 shot_here w c change shoot i d m =
     ∥∥₁_elim (order i) (hlevel props) (λ g.
-    user_here w (range_of change) d g ((shot_just w.made.file w.slots change shoot (call_at w c (Post change shoot) i.phase g).ready d).0 m))
+    let user = (shot_just w.made.file w.slots change shoot (call_at w c (Post change shoot) i.phase g).ready d).0 m in (g.pages user.0).cores d user.2)
 
 pub valid_range : (range : PageRange) → IsPageRange range → are_pages range ≡ true
 valid_range range h = let low = h.low in let high = h.high in grind (arith, nat_tests, low, high)
 
-pub change_pages : (w : World) (c : ℕ) (phase : Phase) (change : Change) → IsAt w c phase
-    → (IsAsked w.made w.calls.requests c (w.calls.number c) phase → Serves w.made w.calls.requests c (w.calls.number c) (PlanOf.Change change))
-    → are_pages (range_of change) ≡ true
-change_pages w c phase change i serves = valid_range (range_of change) (sound_range change (sound_at w c phase (PlanOf.Change change) i serves))
+pub change_pages : (change : Change) → IsSoundGoal (To.Change change) → are_pages (range_of change) ≡ true
+change_pages change sound = valid_range (range_of change) (sound_range change sound.plan)
 
 -- the oldest message is of valid pages
 abbrev pub IsValidAsked : Took → Type 0
@@ -437,15 +451,11 @@ right_shown true prot h = refl
 right_shown false prot h = h
 
 -- the page of an access that is to install it is mapped, allows some access, and has a frame
-install_page : (w : World) (c : ℕ) (touch : Touch) → IsCallOf w c (Install touch) → (f : ℕ)
-    × IsUsable w.made.file (w.slots.info touch.page) touch.access (Some f)
-install_page w c touch k = k.ready
-
 pub install_right : (w : World) (c : ℕ) (touch : Touch) (info : PageInfo) → IsAt w c (Install touch) → w.slots.info touch.page ≡ Some info
     → has_right (prot_installed w.memory.cached info) ≡ true
 install_right w c touch info i e =
     ∥∥₁_elim (order i) (hlevel props) (λ g.
-    let usable = install_page w c touch (call_at w c (Install touch) i.phase g) in
+    let usable = (call_at w c (Install touch) i.phase g).ready in
     right_shown (is_private info.meta.back && shows_some w.memory.cached info.meta.back info.frame) info.meta.prot
     (right_allowed info.meta.prot touch.access (subst (λ o. IsUsable w.made.file o touch.access (Some usable.0)) e usable.1).0))
 
@@ -453,33 +463,15 @@ pub install_frame : (w : World) (c : ℕ) (touch : Touch) (info : PageInfo) → 
     → info.frame ≡ None → ⊥
 install_frame w c touch info i e none =
     ∥∥₁_elim (order i) (hlevel props) (λ g.
-    let usable = install_page w c touch (call_at w c (Install touch) i.phase g) in
+    let usable = (call_at w c (Install touch) i.phase g).ready in
     let frame = (subst (λ o. IsUsable w.made.file o touch.access (Some usable.0)) e usable.1).2 in
     absurd cc)
 
 pub install_mapped : (w : World) (c : ℕ) (touch : Touch) → IsAt w c (Install touch) → w.slots.info touch.page ≡ None → ⊥
 install_mapped w c touch i e =
     ∥∥₁_elim (order i) (hlevel props) (λ g.
-    let usable = install_page w c touch (call_at w c (Install touch) i.phase g) in
+    let usable = (call_at w c (Install touch) i.phase g).ready in
     subst (λ o. IsUsable w.made.file o touch.access (Some usable.0)) e usable.1)
-
--- ---- the goal of a call that holds pages for one, whatever its phase
-
-pub goal_in_sound : (w : World) (c : ℕ) (phase : Phase) → IsAt w c phase → IfSome (goal_in phase) IsSoundGoal
-goal_in_sound w c (Lock goal cursor) i = goal_sound w c goal cursor i
-goal_in_sound w c (Find place target) i = goal_at w c (Find place target) (To.Place place target) i (λ h. h) (λ call. call.ready)
-goal_in_sound w c (Cut place target range) i = goal_at w c (Cut place target range) (To.Place place target) i (λ h. h) (λ call. call.ready.0)
-goal_in_sound w c (Decide change) i = goal_at w c (Decide change) (To.Change change) i (λ h. h) (λ call. tt)
-goal_in_sound w c (Post change shoot) i = goal_at w c (Post change shoot) (To.Change change) i (λ h. h) (λ call. tt)
-goal_in_sound w c (Acks goal change) i = goal_at w c (Acks goal change) goal i (λ h. h) (λ call. call.ready.0)
-goal_in_sound w c (Settle touch) i = goal_at w c (Settle touch) (To.Access touch) i (λ h. h) (λ call. tt)
-goal_in_sound w c (Want touch old) i = goal_at w c (Want touch old) (To.Access touch) i (λ h. h) (λ call. tt)
-goal_in_sound w c (Fill touch frame) i = goal_at w c (Fill touch frame) (To.Access touch) i (λ h. h) (λ call. tt)
-goal_in_sound w c (CopyPost touch frame) i = goal_at w c (CopyPost touch frame) (To.Access touch) i (λ h. h) (λ call. tt)
-goal_in_sound w c (CopyAcks touch frame) i = goal_at w c (CopyAcks touch frame) (To.Access touch) i (λ h. h) (λ call. tt)
-goal_in_sound w c (Install touch) i = goal_at w c (Install touch) (To.Access touch) i (λ h. h) (λ call. tt)
-goal_in_sound w c (Release touch) i = goal_at w c (Release touch) (To.Access touch) i (λ h. h) (λ call. tt)
-goal_in_sound w c phase i = tt
 
 -- a call that may be given up has no reply yet
 pub opened : (phase : Phase) → can_give_up phase ≡ true → is_open phase ≡ true

@@ -1,7 +1,7 @@
 -- What the code learns of a mapping that looks for its place
 use Rattle.std.proofs.Common.{◌≡◌, ℕ, ◌+◌, ◌≤◌, true, Option, None, Some, refl, arith}
 use Rattle.std.specs.Prelude.{IfSome}
-use Rattle.std.proofs.Math.Logic.{∥∥₁_elim, ∥∥₁_map}
+use Rattle.std.proofs.Math.Logic.{∥∥₁_elim}
 use Rattle.std.proofs.Props.{props}
 use Rattle.std.proofs.lemmas.Bool.Decides.{nat_tests}
 use Rattle.vm_base.specs.declared.page.PageRange.{PageRange}
@@ -10,31 +10,18 @@ use Rattle.vm_base.specs.Pages.{IsPage, IsPageRange, pages_from}
 use Rattle.vm_base.proofs.Functions.{has_in, in_has}
 use Rattle.slot_lock.specs.declared.plan.Goal.TheVariants as To
 use Rattle.slot_lock.specs.declared.plan.Place.{Place}
-use Rattle.slot_lock.specs.declared.plan.Plan.TheVariants as PlanOf
 use Rattle.slot_lock.specs.declared.plan.Target.{Target}
 use Rattle.slot_lock.specs.declared.plan.Target.TheVariants.{Run, Window}
 use Rattle.slot_lock.specs.Plan.{IsSoundGoal, IsSoundPlace}
 use Rattle.slot_lock.specs.Slots.{Slots, IsFreeRun, IsHeld, OwnsAll}
-use Rattle.machine_model.specs.declared.phase.Phase.TheVariants.{Guess, Find, Back, Cut}
+use Rattle.machine_model.specs.declared.phase.Phase.TheVariants.{Back, Cut}
 use Rattle.vm_base.specs.Runs.{lies_in}
 use Rattle.machine_model.specs.Placing.{guess_of}
 use Rattle.machine_model.specs.World.{World}
 use Rattle.machine_laws.proofs.Deciding.{acts_in, acts_valid}
-use Rattle.machine_laws.proofs.Moves.{call_at, IsCallOf}
+use Rattle.machine_laws.proofs.Moves.{call_at}
 use Rattle.core_steps.specs.Moving.{IsAt}
-use Rattle.core_steps.proofs.rows.Known.{order, goal_at, held_range, sound_at}
-use Rattle.core_steps.proofs.rows.Sounding.{range_if}
-
--- ---- a place that is looked for
-
-pub guess_place : (w : World) (c : ℕ) (place : Place) → IsAt w c (Guess place) → IsSoundPlace place
-guess_place w c place i = sound_at w c (Guess place) (PlanOf.Place place) i (λ h. h)
-
-pub back_place : (w : World) (c : ℕ) (place : Place) (target : Target) (held : PageRange) → IsAt w c (Back place target held) → IsSoundPlace place
-back_place w c place target held i = sound_at w c (Back place target held) (PlanOf.Place place) i (λ h. h)
-
-pub find_goal : (w : World) (c : ℕ) (place : Place) (target : Target) → IsAt w c (Find place target) → IsSoundGoal (To.Place place target)
-find_goal w c place target i = goal_at w c (Find place target) (To.Place place target) i (λ h. h) (λ call. call.ready)
+use Rattle.core_steps.proofs.rows.Known.{order, held_range}
 
 -- all pages of a window are valid
 pub window_page : (window : PageRange) → IsPageRange window → (p : ℕ) → has window p ≡ true → IsPage p
@@ -70,27 +57,21 @@ guess_goal s place (Some first) sound h = record { plan = sound; target = record
 pub back_held : (w : World) (c : ℕ) (place : Place) (target : Target) (held : PageRange) → IsAt w c (Back place target held) → IsHeld w.slots c held
 back_held w c place target held i =
     held_range w c (Back place target held) held i refl
-    (range_if held (∥∥₁_map (order i) (λ g. (call_at w c (Back place target held) i.phase g).ready.1.pages)))
+    (∥∥₁_elim (order i) (hlevel props) (λ g. (call_at w c (Back place target held) i.phase g).ready.1.pages))
 
 -- ---- pages where slots are cut
 
 pub cut_pages : (w : World) (c : ℕ) (place : Place) (target : Target) (range : PageRange) → IsAt w c (Cut place target range) → IsPageRange range
 cut_pages w c place target range i =
-    let sound = goal_at w c (Cut place target range) (To.Place place target) i (λ h. h) (λ call. call.ready.0) in
-    range_if range (∥∥₁_map (order i) (λ g.
+    ∥∥₁_elim (order i) (hlevel props) (λ g.
     let chosen = (call_at w c (Cut place target range) i.phase g).ready.1 in
-    acts_valid w.made.file w.slots (To.Place place target) range chosen.0 sound chosen.1))
-
-owns_cut : (w : World) (c : ℕ) (place : Place) (target : Target) (range : PageRange) → IsCallOf w c (Cut place target range)
-    → (p : ℕ) → has range p ≡ true → w.slots.owner p ≡ Some c
-owns_cut w c place target range call p h =
-    let chosen = call.ready.1 in
-    call.owned p (acts_in w.made.file w.slots (To.Place place target) range chosen.0 p chosen.1 h)
+    acts_valid w.made.file w.slots (To.Place place target) range chosen.0 i.goal chosen.1)
 
 pub cut_owned : (w : World) (c : ℕ) (place : Place) (target : Target) (range : PageRange) → IsAt w c (Cut place target range)
     → OwnsAll w.slots c range.first range.end
 cut_owned w c place target range i = record {
   held = λ p a b.
       ∥∥₁_elim (order i) (hlevel props) (λ g.
-      owns_cut w c place target range (call_at w c (Cut place target range) i.phase g) p (in_has range p a b));
+      let call = call_at w c (Cut place target range) i.phase g in
+      call.owned p (acts_in w.made.file w.slots (To.Place place target) range call.ready.1.0 p call.ready.1.1 (in_has range p a b)));
 }

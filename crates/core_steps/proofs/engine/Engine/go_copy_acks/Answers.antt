@@ -1,18 +1,10 @@
 use Rattle.std.proofs.Common.{◌≡◌, None, Some, refl, sym, ap, ◌∙◌}
 use Rattle.vm_base.specs.Info.{frame_of}
-use Rattle.slot_lock.specs.declared.plan.Plan.TheVariants as PlanOf
-use Rattle.machine_model.specs.declared.phase.Phase.TheVariants.{CopyAcks}
 use Rattle.core_steps.specs.State.{world}
 use Rattle.core_steps.proofs.rows.Framing.{copies, copy_framed}
-use Rattle.core_steps.proofs.rows.Known.{sound_at}
 use Rattle.core_steps.proofs.engine.Engine.go_copy_acks.Goals as goal
 use Rattle.core_steps.proofs.engine.Engine.go_copy_acks.Goals.{in-Some-page+in-Some-frame+in_ok-make_copy, in_default-2}
 use Rattle.core_steps.proofs.engine.Engine.go_copy_acks.Goals.{in_default-2-via-in-None-1, in_default-2-via-in-Some-page+in-None-1}
-
-pub page-requires : goal.page-requires
-page-requires g c =
-    g.met.M.SlotMap.reads_all c.args.self.now.map c.args.touch.page
-    (sound_at _ c.args.core (CopyAcks c.args.touch c.args.frame) (PlanOf.Touch c.args.touch) c.requires (λ h. h)).page
 
 pub returns : goal.returns
 returns g c = elim c.match-page.branch [

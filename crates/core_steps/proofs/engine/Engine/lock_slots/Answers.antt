@@ -1,25 +1,9 @@
-use Rattle.std.proofs.Common.{refl, arith, ap, ◌∙◌}
-use Rattle.core_steps.proofs.rows.Known.{goal_sound, range_ends, is_left}
+use Rattle.std.proofs.Common.{refl, ap, ◌∙◌}
 use Rattle.core_steps.proofs.at_once.SlotRuns.{locks}
 use Rattle.machine_model.specs.World.{World}
 use Rattle.slot_lock.specs.Slots.{Locks}
 use Rattle.core_steps.proofs.at_once.Divided.{locked_edges, run_edges}
 use Rattle.core_steps.proofs.engine.Engine.lock_slots.Goals as goal
-
-pub range-end-requires : goal.range-end-requires
-range-end-requires g c = goal_sound _ c.args.core _ _ c.requires.at
-
-pub overflow_sub-end : goal.overflow_sub-end
-overflow_sub-end g c = let left = is_left _ c.args.core _ _ c.requires.at in rw c.range-end.ensures.value (omega (arith, left))
-
-pub lock_run-run-requires-clause-ordered : goal.lock_run-run-requires-clause-ordered
-lock_run-run-requires-clause-ordered g c = rw c.range-end.ensures.value (is_left _ c.args.core _ _ c.requires.at)
-
-pub lock_run-run-requires-clause-valid : goal.lock_run-run-requires-clause-valid
-lock_run-run-requires-clause-valid g c = rw c.range-end.ensures.value (range_ends _ c.args.core _ _ c.requires.at)
-
-pub locked_to-requires : goal.locked_to-requires
-locked_to-requires g c = goal_sound _ c.args.core _ _ c.requires.at
 
 pub returns-clause-steps : goal.returns-clause-steps
 returns-clause-steps g c =
