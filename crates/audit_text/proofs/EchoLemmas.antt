@@ -21,7 +21,8 @@ use Rattle.trace_text.proofs.Choices.{chosen}
 use Rattle.trace_text.proofs.LineLemmas.{said_is_read}
 use Rattle.trace_text.proofs.PrintableLemmas.{read_is_printable}
 use Rattle.trace_text.proofs.SpellingLemmas.{decimal_spells, digit_all, hexadecimal_spells}
-use Rattle.audit_text.specs.Grammar.{Comes, TellsEvent, are_clear}
+use Rattle.trace_text.specs.Halves.{are_clear}
+use Rattle.audit_text.specs.Grammar.{Comes, TellsEvent}
 use Rattle.audit_text.specs.Laws.{AnswersAreSaid, EndsAreSaid, with_reply}
 use Rattle.audit_text.specs.Reading.{has_reply}
 use Rattle.audit_text.specs.Replies.{IsReply, NamesReply}

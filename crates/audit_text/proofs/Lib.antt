@@ -1,4 +1,3 @@
-pub mod SplitLemmas
 pub mod ReplyLemmas
 pub mod SaidLemmas
 pub mod TextLemmas

@@ -10,17 +10,14 @@ use Rattle.trace_text.specs.declared.line.Line.{Line}
 use Rattle.trace_text.specs.declared.line.Line.TheVariants as Of
 use Rattle.trace_text.proofs.Choices.{bind_some, chosen}
 use Rattle.trace_text.proofs.LineLemmas.{line_is_said, read_is_said, said_is_read}
-use Rattle.audit_text.specs.Grammar.{AreHalves, Comes, Means, Tells, TellsEvent, is_passed}
+use Rattle.audit_text.specs.Grammar.{Comes, Means, Tells, TellsEvent, is_passed}
 use Rattle.audit_text.specs.Reading.{call_said, declaration_of, declared_said, end_said, event_said, passed_said, said_of}
 use Rattle.audit_text.specs.Replies.{is_step, is_wait, reply_of}
 use Rattle.audit_text.specs.declared.reading.Said.{Said}
 use Rattle.audit_text.specs.declared.reading.Said.TheVariants.{Blank, Space, File, Answered, Waits, Ends, StillWaits, Passes}
 use Rattle.audit_text.proofs.ReplyLemmas.{reply_only, reply_read, reply_waits_not}
-use Rattle.audit_text.proofs.SplitLemmas.{halves_one}
-
-pub if_none : {X : Type 0} (r : Option X) (P : Type 0) → P → IfNone r P
-if_none None P h = h
-if_none (Some x) P h = tt
+use Rattle.trace_text.specs.Halves.{AreHalves}
+use Rattle.trace_text.proofs.HalvesLemmas.{halves_one}
 
 both : (a b : Bool) → a && b ≡ true → (a ≡ true) × (b ≡ true)
 both true b e = (refl, e)

@@ -1,9 +1,9 @@
 -- The grammar of an audited text, by what a line of it says: `LINE = WHAT IT CAME TO`, where `LINE` is a trace's.
-use Rattle.std.specs.Prelude.{◌≡◌, ℕ, Bool, true, false, not, List, ◌++◌, ◌==◌, codes}
-use Rattle.std.specs.List.{list_all}
+use Rattle.std.specs.Prelude.{◌≡◌, ℕ, Bool, true, false, List}
 use Rattle.trace_text.specs.Grammar.{BytesSay, Says}
+use Rattle.trace_text.specs.Halves.{AreHalves}
 use Rattle.trace_text.specs.Line.{are_printable}
-use Rattle.trace_text.specs.Words.{byte, words_of}
+use Rattle.trace_text.specs.Words.{words_of}
 use Rattle.trace_text.specs.declared.action.Action.{Action}
 use Rattle.trace_text.specs.declared.action.Action.TheVariants.{Take, Flush, Review, Walk, Evict}
 use Rattle.trace_text.specs.declared.line.Line.{Line}
@@ -11,15 +11,6 @@ use Rattle.trace_text.specs.declared.line.Line.TheVariants as Of
 use Rattle.audit_text.specs.Replies.{NamesReply, is_step, is_wait}
 use Rattle.audit_text.specs.declared.reading.Said.{Said}
 use Rattle.audit_text.specs.declared.reading.Said.TheVariants.{Blank, Space, File, Answered, Waits, Ends, StillWaits, Passes}
-
--- no sign is among the bytes
-abbrev pub are_clear : List ℕ → Bool
-are_clear bytes = list_all (λ b. not (b == byte (codes "="))) bytes
-
--- the bytes have a sign between spaces, and none behind it
-pub record AreHalves (bytes front behind : List ℕ) : Type 0 where
-  pub is : bytes ≡ front ++ (codes " = " ++ behind)
-  pub clear : are_clear behind ≡ true
 
 -- the line asks for an event that changes nothing a user sees
 abbrev pub is_passed_action : Action → Bool

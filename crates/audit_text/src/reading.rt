@@ -1,12 +1,13 @@
 //! What a line of an audited text says.
-ghost use Rattle.std.specs.Prelude.{◌≡◌, ◌∷◌, ◌++◌, [], ◌<◌, ℕ, suc, List, Option, Some, None, if◌then◌else◌, true, IfSome, IfNone, length, get_or, drop};
-ghost use Rattle.trace_text.specs.Line.{are_printable, line_of};
+ghost use Rattle.std.specs.Prelude.{◌≡◌, ◌<◌, Option, Some, None, if◌then◌else◌, true, IfSome, IfNone};
+ghost use Rattle.trace_text.specs.Line.{are_printable};
 ghost use Rattle.trace_text.specs.Words.{words_of};
-ghost use Rattle.audit_text.specs.Grammar.{AreHalves, Tells, TellsEvent, are_clear, is_passed};
+ghost use Rattle.audit_text.specs.Grammar.{Tells, TellsEvent, is_passed};
 ghost use Rattle.audit_text.specs.Reading.{call_said, declaration_of, declared_said, end_said, event_said, has_reply, passed_said, said_of};
 
 use crate::replies::{is_step, is_wait, read_reply};
 use audit::Call;
+use trace_text::sign::halves;
 use trace_text::{Action, Line, is_printable, read_line, read_words};
 use vm_base::{CoreId, Mode, Reply, Request};
 
@@ -39,58 +40,6 @@ pub enum Said {
     StillWaits(CoreId),
     /// A take, walk, eviction, flush, review or fold, which no user sees.
     Passes,
-}
-
-// Where the last `=` stands.
-fn last_sign(bytes: &[u8]) -> Option<usize>
-    ensures within { IfSome result (λ at. at < length bytes.now) }
-    ensures sign { IfSome result (λ at. get_or bytes.now at 0 ≡ 61) }
-    ensures clear { IfSome result (λ at. are_clear (drop (suc at) bytes.now) ≡ true) }
-    ensures none { IfNone result (are_clear bytes.now ≡ true) }
-{
-    let mut at = bytes.len();
-    'bytes: while at > 0 {
-        at -= 1;
-        if bytes[at] == b'=' {
-            return Some(at);
-        }
-    }
-    None
-}
-
-// The bytes before a space that is the last.
-fn before_space(bytes: &[u8]) -> Option<&[u8]>
-    ensures some { IfSome result (λ front. bytes.now ≡ front.now ++ 32 ∷ []) }
-    ensures none { IfNone result ((front : List ℕ) → bytes.now ≡ front ++ 32 ∷ [] → ⊥) }
-{
-    match bytes {
-        [front @ .., b' '] => Some(front),
-        _ => None,
-    }
-}
-
-// The bytes behind a `=` and a space that are the first.
-fn behind_sign(bytes: &[u8]) -> Option<&[u8]>
-    ensures some { IfSome result (λ behind. bytes.now ≡ 61 ∷ 32 ∷ behind.now) }
-    ensures none { IfNone result ((behind : List ℕ) → bytes.now ≡ 61 ∷ 32 ∷ behind → ⊥) }
-{
-    match bytes {
-        [b'=', b' ', behind @ ..] => Some(behind),
-        _ => None,
-    }
-}
-
-// What stands before the last `=` and behind it, where a space stands on each side of it.
-fn halves(bytes: &[u8]) -> Option<(&[u8], &[u8])>
-    ensures some { IfSome result (λ h. AreHalves bytes.now h.0.now h.1.now) }
-    ensures none { IfNone result ((front : List ℕ) (behind : List ℕ)
-        → AreHalves bytes.now front behind → ⊥) }
-{
-    let at = last_sign(bytes)?;
-    let (before, rest) = bytes.split_at(at);
-    let front = before_space(before)?;
-    let behind = behind_sign(rest)?;
-    Some((front, behind))
 }
 
 // Tells whether no user sees the event of this line.

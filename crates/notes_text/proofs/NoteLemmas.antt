@@ -27,9 +27,11 @@ use Rattle.trace_text.proofs.SpellingLemmas.{digit_all, number_only, reads_print
 use Rattle.notes_text.specs.Outcomes.{outcome_of}
 use Rattle.notes_text.specs.Grammar.{NamesReply, NamesOutcome, NamesEvent, NamesNote, Ascend, event_said}
 use Rattle.notes_text.specs.Laws.{ReadsAllOutcomes, ReadsOnlyOutcomes, NotesAreOne}
-use Rattle.notes_text.specs.Halves.{are_clear, AreHalves, event_named, note_of}
+use Rattle.trace_text.specs.Halves.{are_clear, AreHalves}
+use Rattle.notes_text.specs.Halves.{event_named, note_of}
 use Rattle.notes_text.proofs.OutcomeLemmas.{outcome_all, outcome_only}
-use Rattle.notes_text.proofs.SplitLemmas.{words_join, SplitsAt, splits, bytes_clear, halves_one}
+use Rattle.notes_text.proofs.SplitLemmas.{words_join, SplitsAt, splits, bytes_clear}
+use Rattle.trace_text.proofs.HalvesLemmas.{halves_one}
 
 -- ---- the words of an outcome have no sign
 
@@ -193,10 +195,6 @@ notes_one a b line p q =
     cc
 
 -- ---- what the code reads
-
-pub if_none : {X : Type 0} (r : Option X) (P : Type 0) → P → IfNone r P
-if_none None P h = h
-if_none (Some x) P h = tt
 
 pub names_some : (r : Option Noted) (line front behind : List ℕ) → AreHalves line front behind → r ≡ note_of (words_of front) (words_of behind)
     → IfSome r (λ note. NamesNote note (words_of line))

@@ -1,23 +1,13 @@
--- What stands before a sign and behind it.
-use Rattle.std.specs.Prelude.{◌≡◌, ℕ, Bool, true, not, List, ◌++◌, Option, Some, ◌==◌, codes}
-use Rattle.std.specs.List.{list_all}
+-- What a line of notes says: what stands before its sign, and behind it.
+use Rattle.std.specs.Prelude.{List, Option, Some}
 use Rattle.machine_model.specs.declared.event.Event.{Event}
 use Rattle.seats.specs.Notes.{noted}
 use Rattle.seats.specs.declared.noted.Noted.{Noted}
-use Rattle.trace_text.specs.Words.{Word, byte}
+use Rattle.trace_text.specs.Words.{Word}
 use Rattle.trace_text.specs.Request.{◌>>=◌, front_number}
 use Rattle.trace_text.specs.Line.{line_of_words}
 use Rattle.notes_text.specs.Grammar.{event_said}
 use Rattle.notes_text.specs.Outcomes.{outcome_of}
-
--- no sign is among the bytes
-abbrev pub are_clear : List ℕ → Bool
-are_clear bytes = list_all (λ b. not (b == byte (codes "="))) bytes
-
--- the bytes have a sign between spaces, and none behind it
-pub record AreHalves (bytes front behind : List ℕ) : Type 0 where
-  pub is : bytes ≡ front ++ (codes " = " ++ behind)
-  pub clear : are_clear behind ≡ true
 
 -- the one event that the words ask for
 unfoldable pub event_named : List Word → Option Event

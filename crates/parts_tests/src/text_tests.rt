@@ -7,6 +7,7 @@ use trace_text::line::{
 };
 use trace_text::lists::{write_answer, write_detach, write_map_line};
 use trace_text::printing::{LineText, address_text, number_text, push_number, push_reply};
+use trace_text::sign::halves;
 use vm_base::{Back, Errno, PageRange, Prot, Reply, SegvCode};
 
 /// Sizes of a space. Each row of a table is a line and what it says, as `Debug` shows that.
@@ -219,6 +220,22 @@ const READ_WRITE: Prot = Prot {
     write: true,
     exec: false,
 };
+
+// Tells whether these are the line's halves.
+fn are_halves(line: &str, front: &str, behind: &str) -> bool {
+    halves(line.as_bytes()) == Some((front.as_bytes(), behind.as_bytes()))
+}
+
+/// The last sign counts, and it stands between two spaces.
+#[test]
+fn halves_of_lines(rt: HostRuntime) {
+    assert!(rt; are_halves("c0! load 4 = 7", "c0! load 4", "7"));
+    assert!(rt; are_halves("a = b =  c", "a = b", " c"));
+    assert!(rt; are_halves(" = ", "", ""));
+    for line in ["c0! load 4", "a =b", "a= b", "=", "a = b=c", " ="] {
+        assert!(rt; halves(line.as_bytes()).is_none());
+    }
+}
 
 /// Whether the reply is printed so.
 fn is_reply(reply: Reply, text: &str) -> bool {

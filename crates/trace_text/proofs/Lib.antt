@@ -12,3 +12,4 @@ pub mod NumberLemmas
 pub mod FrontLemmas
 pub mod WordLemmas
 pub mod DigitTable
+pub mod HalvesLemmas

@@ -8,3 +8,4 @@ pub mod Printing
 pub mod Spelling
 pub mod Lists
 pub mod Grammar
+pub mod Halves

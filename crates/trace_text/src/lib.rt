@@ -11,6 +11,7 @@ pub mod lists;
 pub mod number;
 pub mod printing;
 pub mod request;
+pub mod sign;
 pub mod space_line;
 pub mod words;
 

@@ -1,7 +1,8 @@
 use Rattle.seats.specs.declared.noted.Noted.{Noted}
 use Rattle.trace_text.specs.Words.{words_of}
 use Rattle.notes_text.specs.Grammar.{NamesNote}
-use Rattle.notes_text.proofs.NoteLemmas.{if_none, note_found, names_some, names_none}
+use Rattle.trace_text.proofs.HalvesLemmas.{if_none}
+use Rattle.notes_text.proofs.NoteLemmas.{note_found, names_some, names_none}
 use Rattle.notes_text.proofs.note_line.read_note.Goals as goal
 
 pub returns-in_err-front-clause-none : goal.returns-in_err-front-clause-none

@@ -2,8 +2,8 @@
 use Rattle.std.proofs.Common.{◌≡◌, ℕ, Bool, true, false, cond, not, eqb, List, [], ◌∷◌, ◌++◌, arith, refl, sym, ap, ◌∙◌, subst, Option}
 use Rattle.std.proofs.Common.{Some, None, append_assoc, zero, suc, ◌<◌, length, take, drop, get_or}
 use Rattle.std.proofs.lemmas.List.{take-append-drop}
-use Rattle.std.specs.Prelude.{◌&&◌}
-use Rattle.audit_text.specs.Grammar.{are_clear, AreHalves}
+use Rattle.std.specs.Prelude.{◌&&◌, IfNone}
+use Rattle.trace_text.specs.Halves.{are_clear, AreHalves}
 
 flip : (b : Bool) → not b ≡ true → b ≡ false
 flip true e = absurd (cc)
@@ -125,3 +125,7 @@ halves_at bytes front behind at h s c k =
 pub halves_none : (bytes front behind : List ℕ) → are_clear bytes ≡ true → AreHalves bytes front behind → ⊥
 halves_none bytes front behind h k =
     no_cut (at_sign (front ++ 32 ∷ []) (32 ∷ behind)) (sym (cut_none bytes h) ∙ halves_cut bytes front behind k)
+
+pub if_none : {X : Type 0} (r : Option X) (P : Type 0) → P → IfNone r P
+if_none None P h = h
+if_none (Some x) P h = tt

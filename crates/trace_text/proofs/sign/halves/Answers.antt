@@ -1,8 +1,7 @@
-use Rattle.std.proofs.Common.{List, ℕ, sym, ◌∙◌}
-use Rattle.notes_text.specs.Halves.{AreHalves}
-use Rattle.notes_text.proofs.SplitLemmas.{halves_at, halves_some}
-use Rattle.notes_text.proofs.NoteLemmas.{if_none}
-use Rattle.notes_text.proofs.note_line.halves.Goals as goal
+use Rattle.std.proofs.Common.{List, ℕ, ◌∙◌}
+use Rattle.trace_text.specs.Halves.{AreHalves}
+use Rattle.trace_text.proofs.HalvesLemmas.{halves_at, halves_some, if_none}
+use Rattle.trace_text.proofs.sign.halves.Goals as goal
 
 pub returns-in_err-front-clause-none : goal.returns-in_err-front-clause-none
 returns-in_err-front-clause-none c =
@@ -20,4 +19,5 @@ returns-in_err-behind-clause-none c =
 
 pub returns-clause-some : goal.returns-clause-some
 returns-clause-some c =
-    halves_some _ _ _ _ _ _ c.split_at.ensures.front c.split_at.ensures.back c.in_ok-front.ensures.some c.in_ok-behind.ensures.some c.in_ok-at.ensures.clear
+    halves_some _ _ _ _ _ _ c.split_at.ensures.front c.split_at.ensures.back c.in_ok-front.ensures.some c.in_ok-behind.ensures.some
+    c.in_ok-at.ensures.clear

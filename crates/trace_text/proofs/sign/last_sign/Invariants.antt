@@ -1,6 +1,6 @@
 use Rattle.std.proofs.Common.{◌≡◌, ◌≤◌, true, length, drop}
-use Rattle.notes_text.specs.Halves.{are_clear}
-use Rattle.notes_text.proofs.note_line.last_sign.Given as goal
+use Rattle.trace_text.specs.Halves.{are_clear}
+use Rattle.trace_text.proofs.sign.last_sign.Given as goal
 
 -- no sign is among the bytes from here on
 abbrev pub invariant-bytes : goal.invariant-bytes
