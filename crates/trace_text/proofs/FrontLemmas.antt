@@ -4,18 +4,20 @@ use Rattle.std.proofs.Common.{length, take, drop, get_or, Option, Some, None, ar
 use Rattle.std.proofs.Math.Nat.{mul-le-mul_left, pow-suc}
 use Rattle.std.proofs.lemmas.List.{get_or-take, take_more}
 use Rattle.std.proofs.lemmas.Bool.Decides.{nat_tests}
-use Rattle.std.specs.Prelude.{option_and_then, option_map, IfSome, is_some, ◌&&◌, codes}
+use Rattle.std.specs.Prelude.{option_and_then, option_map, IfSome, is_some, ◌&&◌, ◌==◌, codes, nat_lt, if◌then◌else◌}
 use Rattle.trace_text.specs.Words.{Word, words_of}
 use Rattle.trace_text.specs.Number.{digit_of, value_from, below_word, number_of}
-use Rattle.trace_text.specs.Request.{◌>>=◌, front_number, load_of, store_of, fetch_of, mmap_of, munmap_of, mprotect_of, request_of}
+use Rattle.trace_text.specs.Request.{◌>>=◌, ended, front_byte, front_number, load_of, store_of, fetch_of, mmap_of, munmap_of, mprotect_of, request_of}
 use Rattle.trace_text.specs.Front.{BeginsNow, EndsValue}
-use Rattle.trace_text.specs.Line.{line_of_words, now_of}
+use Rattle.trace_text.specs.Line.{are_printable, is_comment, line_of, line_of_words, now_of}
 use Rattle.trace_text.specs.declared.line.Line.TheVariants.{Now}
 use Rattle.trace_text.proofs.CoreLemmas.{one}
 use Rattle.trace_text.proofs.LineLemmas.{now_read}
+use Rattle.trace_text.proofs.PrintableLemmas.{line_printable}
 use Rattle.trace_text.proofs.Choices.{chosen}
 use Rattle.trace_text.proofs.WordLemmas.{words-front}
 use Rattle.vm_base.specs.declared.requests.Request.{Request}
+use Rattle.vm_base.specs.declared.requests.Request.TheVariants.{Load, Store}
 
 -- ---- values, digit by digit
 
@@ -133,17 +135,46 @@ hexadecimal_ends digits others n s =
     ∙ behind_is digits s.count n s.some s.within (unspaced_front 16 digits s.count n s.within s.value) s.ends
     (hexadecimal_number (take s.count digits) n (omega arith) s.value s.fits)
 
-pub decimal_front : {R : Type 0} (now : R → List ℕ) (o : Option (ℕ × R)) (word bytes : List ℕ) → is_some o ≡ true
-    → IfSome o (λ f. EndsValue 10 word f.0 (now f.1)) → words_of word ≡ words_of bytes
-    → option_map (λ f. (f.0, words_of (now f.1))) o ≡ front_number (words_of bytes)
-decimal_front now None word bytes e s is = absurd (cc)
-decimal_front now (Some f) word bytes e s is = decimal_ends word (now f.1) f.0 s ∙ ap front_number is
+pub decimal_front : {R : Type 0} (now : R → List ℕ) (o : Option (ℕ × R)) (bytes : List ℕ) → IfSome o (λ f. EndsValue 10 bytes f.0 (now f.1))
+    → IfSome o (λ f. Some (f.0, words_of (now f.1)) ≡ front_number (words_of bytes))
+decimal_front now None bytes s = tt
+decimal_front now (Some f) bytes s = decimal_ends bytes (now f.1) f.0 s
 
-pub hexadecimal_front : {R : Type 0} (now : R → List ℕ) (o : Option (ℕ × R)) (digits bytes : List ℕ) → is_some o ≡ true
-    → IfSome o (λ f. EndsValue 16 digits f.0 (now f.1)) → words_of (48 ∷ 120 ∷ digits) ≡ words_of bytes
+pub hexadecimal_front : {R : Type 0} (now : R → List ℕ) (o : Option (ℕ × R)) (digits bytes : List ℕ) → bytes ≡ 48 ∷ 120 ∷ digits
+    → IfSome o (λ f. EndsValue 16 digits f.0 (now f.1)) → IfSome o (λ f. Some (f.0, words_of (now f.1)) ≡ front_number (words_of bytes))
+hexadecimal_front now None digits bytes is s = tt
+hexadecimal_front now (Some f) digits bytes is s = hexadecimal_ends digits (now f.1) f.0 s ∙ ap (λ b. front_number (words_of b)) (sym is)
+
+pub short_front : {R : Type 0} (now : R → List ℕ) (o : Option (ℕ × R)) (word bytes : List ℕ) → is_some o ≡ true
+    → IfSome o (λ f. Some (f.0, words_of (now f.1)) ≡ front_number (words_of word)) → words_of word ≡ words_of bytes
     → option_map (λ f. (f.0, words_of (now f.1))) o ≡ front_number (words_of bytes)
-hexadecimal_front now None digits bytes e s is = absurd (cc)
-hexadecimal_front now (Some f) digits bytes e s is = hexadecimal_ends digits (now f.1) f.0 s ∙ ap front_number is
+short_front now None word bytes e s is = absurd (cc)
+short_front now (Some f) word bytes e s is = s ∙ ap front_number is
+
+-- ---- an access of which nothing is left
+
+nothing : (rest : List ℕ) → true ≡ (length rest == 0) → words_of rest ≡ []
+nothing [] e = refl
+nothing (x ∷ xs) e =
+    let none : length (x ∷ xs) ≡ 0 = grind (arith, nat_tests, sym e) in
+    absurd (omega arith)
+
+pub load_ends : (args rest : List ℕ) (addr : ℕ) → Some (addr, words_of rest) ≡ front_number (words_of args) → true ≡ (length rest == 0)
+    → Some (Load addr) ≡ load_of (words_of args)
+unfolding load_of
+load_ends args rest addr is none =
+    ap (λ ws. ended ws (Load addr)) (sym (nothing rest none)) ∙ ap (λ o. o >>= λ n. ended n.1 (Load n.0)) is
+
+pub store_ends : (args rest digits last : List ℕ) (addr byte : ℕ) → Some (addr, words_of rest) ≡ front_number (words_of args) → words_of digits ≡ words_of rest
+    → Some (byte, words_of last) ≡ front_number (words_of digits) → byte ≤ 255 → true ≡ (length last == 0) → Some (Store addr byte) ≡ store_of (words_of args)
+unfolding store_of front_byte
+store_ends args rest digits last addr byte is same digit small none =
+    let fits : nat_lt 255 byte ≡ false = grind (arith, nat_tests) in
+    let value : Some (byte, words_of last) ≡ front_byte (words_of rest) =
+        ap (λ b. if b then None else Some (byte, words_of last)) (sym fits) ∙ ap (λ o. o >>= λ n. if nat_lt 255 n.0 then None else Some n) (digit ∙ ap front_number same) in
+    ap (λ ws. ended ws (Store addr byte)) (sym (nothing last none))
+    ∙ ap (λ o. o >>= λ v. ended v.1 (Store addr v.0)) value
+    ∙ ap (λ o. o >>= λ n. front_byte n.1 >>= λ v. ended v.1 (Store n.0 v.0)) is
 
 -- ---- a request that is known by the bytes that it begins with
 
@@ -204,3 +235,16 @@ now_some bytes args core request begins e = ap (λ o. o >>= λ q. Some (Now core
 pub now_none : (bytes args : List ℕ) (core : ℕ) → BeginsNow bytes core args → None ≡ request_of (words_of args)
     → None ≡ line_of_words (words_of bytes)
 now_none bytes args core begins e = ap (λ o. o >>= λ q. Some (Now core q)) e ∙ sym (now_named bytes args core begins)
+
+-- such a line is no comment
+pub now_said : (bytes words : List ℕ) (core : ℕ) (request : Request) → BeginsNow bytes core words → Some request ≡ request_of (words_of words)
+    → Some (Now core request) ≡ line_of bytes
+now_said bytes words core request begins e =
+    let same : line_of_words (words_of bytes) ≡ line_of bytes =
+        subst (λ b. line_of_words (words_of b) ≡ line_of b) (sym begins.is) refl in
+    now_some bytes words core request begins e ∙ same
+
+pub now_printable : (bytes words : List ℕ) (core : ℕ) (request : Request) → BeginsNow bytes core words → Some request ≡ request_of (words_of words)
+    → are_printable bytes ≡ true
+now_printable bytes words core request begins e =
+    line_printable bytes (Some (Now core request)) (ap is_comment begins.is) refl (now_said bytes words core request begins e)

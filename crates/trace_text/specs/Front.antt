@@ -1,8 +1,11 @@
 -- What bytes begin with.
 use Rattle.std.specs.Prelude.{◌≡◌, ℕ, ◌^◌, ◌+◌, ◌<◌, ◌≤◌, List, ◌∷◌, ◌++◌, Some, length, take, drop}
-use Rattle.std.specs.Prelude.{slice_index, codes}
+use Rattle.std.specs.Prelude.{slice_index, codes, if◌then◌else◌}
+use Rattle.vm_base.specs.declared.requests.Request.{Request}
+use Rattle.vm_base.specs.declared.requests.Request.TheVariants.{Load, Store}
 use Rattle.trace_text.specs.Words.{byte}
 use Rattle.trace_text.specs.Number.{value_from}
+use Rattle.trace_text.specs.declared.access_line.AskedAccess.{AskedAccess}
 
 -- the value of the digits before the first space, which are some, and the bytes from there on
 pub record EndsValue (base : ℕ) (digits : List ℕ) (number : ℕ) (others : List ℕ) : Type 0 where
@@ -18,3 +21,7 @@ pub record EndsValue (base : ℕ) (digits : List ℕ) (number : ℕ) (others : L
 pub record BeginsNow (bytes : List ℕ) (core : ℕ) (args : List ℕ) : Type 0 where
   pub low : core < 10
   pub is : bytes ≡ codes "c" ++ (byte (codes "0") + core) ∷ codes "! " ++ args
+
+-- the request for such an access
+abbrev pub access_asked : AskedAccess → Request
+access_asked access = if access.is_store then Store access.addr access.byte else Load access.addr

@@ -2,6 +2,7 @@
 //! mappings are written as.
 #![tactic(auto)]
 
+pub mod access_line;
 pub mod action;
 pub mod core_line;
 pub mod file_line;
@@ -15,6 +16,7 @@ pub mod sign;
 pub mod space_line;
 pub mod words;
 
+pub use access_line::{AskedAccess, read_access};
 pub use action::Action;
 pub use line::{
     Line, first_word_is_file, first_word_is_vm, is_printable, is_printable_line, read_line,

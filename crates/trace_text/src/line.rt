@@ -109,9 +109,9 @@ fn read_fold(args: &[u8]) -> Option<Line>
     Some(Line::Fold(page))
 }
 
-// A core of one digit that makes a call and finishes it, and the bytes of the call.
+/// A core of one digit that makes a call and finishes it, and the bytes of the call.
 #[inline(always)]
-fn front_now(bytes: &[u8]) -> Option<(CoreId, &[u8])>
+pub(crate) fn front_now(bytes: &[u8]) -> Option<(CoreId, &[u8])>
     ensures { IfSome result (λ f. BeginsNow bytes.now f.0 f.1.now) }
 {
     match bytes {

@@ -129,6 +129,18 @@ fn next_long_number(bytes: &[u8]) -> Option<(u64, &[u8])>
     Some((number, rest))
 }
 
+/// The number at the front, of at most 16 digits, and the bytes after it; `None` where the bytes begin with anything else, a
+/// space too, or with a longer number.
+#[inline(always)]
+pub fn short_number(bytes: &[u8]) -> Option<(u64, &[u8])>
+    ensures { IfSome result (λ f. Some (f.0, words_of f.1.now) ≡ front_number (words_of bytes.now)) }
+{
+    match hexadecimal_digits(bytes) {
+        Some(digits) => ended_value(digits, 16),
+        None => ended_value(bytes, 10),
+    }
+}
+
 /// The number that the first word spells, and the bytes after it. Up to 16 digits are
 /// read once, from left to right.
 #[inline(always)]
@@ -136,10 +148,7 @@ pub fn next_number(bytes: &[u8]) -> Option<(u64, &[u8])>
     ensures { option_map (λ f. (f.0, words_of f.1.now)) result ≡ front_number (words_of bytes.now) }
 {
     let word = trimmed(bytes);
-    let short = match hexadecimal_digits(word) {
-        Some(digits) => ended_value(digits, 16),
-        None => ended_value(word, 10),
-    };
+    let short = short_number(word);
     if short.is_some() {
         return short;
     }

@@ -193,9 +193,9 @@ fn read_fetch(args: &[u8]) -> Option<Request>
     Some(Request::Fetch { addr })
 }
 
-// What stands behind `load` and a space.
+/// What stands behind `load` and a space.
 #[inline(always)]
-fn behind_load(bytes: &[u8]) -> Option<&[u8]>
+pub(crate) fn behind_load(bytes: &[u8]) -> Option<&[u8]>
     ensures { IfSome result (λ args. bytes.now ≡ codes "load " ++ args.now) }
 {
     match bytes {
@@ -204,9 +204,9 @@ fn behind_load(bytes: &[u8]) -> Option<&[u8]>
     }
 }
 
-// What stands behind `store` and a space.
+/// What stands behind `store` and a space.
 #[inline(always)]
-fn behind_store(bytes: &[u8]) -> Option<&[u8]>
+pub(crate) fn behind_store(bytes: &[u8]) -> Option<&[u8]>
     ensures { IfSome result (λ args. bytes.now ≡ codes "store " ++ args.now) }
 {
     match bytes {
