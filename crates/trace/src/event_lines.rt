@@ -106,6 +106,7 @@ fn tell_finish<M: SlotMap, A: Allocator + Clone, L: Ledger, X: Watch>(
 }
 
 // A call, which is finished if it could begin.
+#[inline(never)]
 fn tell_call<M: SlotMap, A: Allocator + Clone, L: Ledger, X: Watch>(
     machine: &mut Machine<M, A, L>,
     watch: &mut X,
@@ -127,6 +128,7 @@ fn tell_call<M: SlotMap, A: Allocator + Clone, L: Ledger, X: Watch>(
 /// Moves the machine as the line says, beside one who watches its steps, and replaces the text by what it gives. A line
 /// that is bad, or the line of a space or of a file, is a bad line here, and nothing
 /// changes. At `NoMemory` the steps before the refused one stand.
+#[inline(always)]
 pub fn watch_line<M: SlotMap, A: Allocator + Clone, L: Ledger, X: Watch>(
     machine: &mut Machine<M, A, L>,
     watch: &mut X,

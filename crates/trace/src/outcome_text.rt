@@ -58,6 +58,7 @@ fn write_wait(text: &mut LineText, blocker: Blocker)
     text.push_str("\n");
 }
 
+#[inline(always)]
 fn write_reply(text: &mut LineText, reply: Reply)
     ensures { text.new.bytes ≡ outcome_text (Outcome.Answered reply) }
 {
@@ -80,10 +81,12 @@ pub fn write_outcome(text: &mut LineText, outcome: Outcome)
 }
 
 /// Replaces the text by that of a finished call, with its newline: its last outcome, or `stuck`.
+#[inline(always)]
 pub fn write_finished(text: &mut LineText, finished: Finished)
     ensures { text.new.bytes ≡ finished_text finished }
 {
     match finished {
+        Finished::Last(Outcome::Answered(reply)) => write_reply(text, reply),
         Finished::Last(outcome) => write_outcome(text, outcome),
         Finished::Stuck => write_word(text, "stuck"),
     }

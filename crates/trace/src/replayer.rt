@@ -21,7 +21,7 @@ use radix_range::RadixMap;
 use slot_lock::SlotMap;
 use std::alloc::Allocator;
 use trace_text::{
-    Line, LineText, first_word_is_file, first_word_is_vm, is_printable_line, read_line,
+    Line, LineText, first_word_is_file, first_word_is_vm, is_printable_line, read_access, read_line,
 };
 use vm_base::Entry;
 use watched::Watch;
@@ -271,6 +271,7 @@ impl<A: Allocator + Clone + Drop, L: Opening<A> + Drop, X: Watch + Drop> Replaye
     }
 
     // Acts on a line that isn't the `vm` line or one of a file, and has words.
+    #[inline(always)]
     fn act_on_event(
         &mut self,
         number: u64,
@@ -304,6 +305,10 @@ impl<A: Allocator + Clone + Drop, L: Opening<A> + Drop, X: Watch + Drop> Staged
         (stage_of now.limit now.declaration (option_map state now.machine)) lines text now.watch };
 
     fn act(&mut self, number: u64, line: &[u8], text: &mut LineText) -> Result<(), TraceFault> {
+        if let Some(begun) = read_access(line) {
+            let request = begun.1.request();
+            return self.act_on_event(number, Some(Line::Now(begun.0, request)), text);
+        }
         let said = read_line(line);
         if !is_printable_line(line, &said) {
             return Err(TraceFault::BadLine(number));

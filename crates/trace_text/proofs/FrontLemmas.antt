@@ -171,7 +171,7 @@ unfolding store_of front_byte
 store_ends args rest digits last addr byte is same digit small none =
     let fits : nat_lt 255 byte ≡ false = grind (arith, nat_tests) in
     let value : Some (byte, words_of last) ≡ front_byte (words_of rest) =
-        ap (λ b. if b then None else Some (byte, words_of last)) (sym fits) ∙ ap (λ o. o >>= λ n. if nat_lt 255 n.0 then None else Some n) (digit ∙ ap front_number same) in
+    ap (λ b. if b then None else Some (byte, words_of last)) (sym fits) ∙ ap (λ o. o >>= λ n. if nat_lt 255 n.0 then None else Some n) (digit ∙ ap front_number same) in
     ap (λ ws. ended ws (Store addr byte)) (sym (nothing last none))
     ∙ ap (λ o. o >>= λ v. ended v.1 (Store addr v.0)) value
     ∙ ap (λ o. o >>= λ n. front_byte n.1 >>= λ v. ended v.1 (Store n.0 v.0)) is
@@ -241,7 +241,7 @@ pub now_said : (bytes words : List ℕ) (core : ℕ) (request : Request) → Beg
     → Some (Now core request) ≡ line_of bytes
 now_said bytes words core request begins e =
     let same : line_of_words (words_of bytes) ≡ line_of bytes =
-        subst (λ b. line_of_words (words_of b) ≡ line_of b) (sym begins.is) refl in
+    subst (λ b. line_of_words (words_of b) ≡ line_of b) (sym begins.is) refl in
     now_some bytes words core request begins e ∙ same
 
 pub now_printable : (bytes words : List ℕ) (core : ℕ) (request : Request) → BeginsNow bytes core words → Some request ≡ request_of (words_of words)

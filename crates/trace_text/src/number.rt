@@ -132,7 +132,7 @@ fn next_long_number(bytes: &[u8]) -> Option<(u64, &[u8])>
 /// The number at the front, of at most 16 digits, and the bytes after it; `None` where the bytes begin with anything else, a
 /// space too, or with a longer number.
 #[inline(always)]
-pub fn short_number(bytes: &[u8]) -> Option<(u64, &[u8])>
+pub(crate) fn short_number(bytes: &[u8]) -> Option<(u64, &[u8])>
     ensures { IfSome result (λ f. Some (f.0, words_of f.1.now) ≡ front_number (words_of bytes.now)) }
 {
     match hexadecimal_digits(bytes) {
