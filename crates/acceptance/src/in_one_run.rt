@@ -6,7 +6,7 @@ use crate::machines::{Over, declared, push_log};
 use core_steps::{Kept, Setup, run};
 use machine_model::{Event, Outcome};
 use radix_range::RadixMap;
-use slot_lock::{RunList, SlotMap};
+use slot_lock::{SlotList, SlotMap};
 use std::alloc::Global;
 use trace::outcome_text::write_outcome;
 use trace_text::{LineText, read_line};
@@ -65,7 +65,7 @@ pub fn text_in_one_run(alloc: Global, over: Over, trace: &str) -> Result<String<
             push_run_over(alloc, RadixMap::new(alloc)?, setup, &events, &mut out)?;
         }
         Over::List | Over::ListByHand => {
-            push_run_over(alloc, RunList::new(alloc)?, setup, &events, &mut out)?;
+            push_run_over(alloc, SlotList::new(alloc)?, setup, &events, &mut out)?;
         }
     }
     Ok(out)

@@ -1,4 +1,4 @@
-//! Tests of the whole, over the tree of slots and over the list of runs: `row_tests` compares the
+//! Tests of the whole, over the tree of slots and over the list of slots: `row_tests` compares the
 //! tables of `rows`, also with memory that is refused (`starved`), `random_tests` compares random
 //! traces, `log_tests` replays a log, and `stream_tests` has reads and writes that fail. `in_one_run` gives a trace's events to
 //! `run`, `run_tests` has whole lists of events and heaps that are too small, `reading_tests` what a machine tells of its state, and

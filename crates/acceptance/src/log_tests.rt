@@ -4,7 +4,7 @@ use crate::random_tests::plain_map;
 use core_steps::Finished;
 use machine_model::Outcome;
 use plain_map::PlainMap;
-use slot_lock::RunList;
+use slot_lock::SlotList;
 use std::alloc::Global;
 use std::test::Fail;
 use vm_base::{CoreId, Entry, NoMemory, Request};
@@ -91,7 +91,7 @@ fn replay(
 
 /// Tells whether a byte of each page that the trace uses is loaded as from the plain page map.
 fn has_pages_of(
-    machine: &mut Space<RunList<Global>, Global>,
+    machine: &mut Space<SlotList<Global>, Global>,
     plain: &mut PlainMap<Global>,
 ) -> Result<bool, NoMemory> {
     let core = CoreId::new(1);
@@ -120,7 +120,7 @@ struct Replayed {
 }
 
 fn compare(
-    machine: &mut Space<RunList<Global>, Global>,
+    machine: &mut Space<SlotList<Global>, Global>,
     plain: &mut PlainMap<Global>,
 ) -> Result<Replayed, NoMemory> {
     let requests = machine.requests().len();
@@ -135,8 +135,8 @@ fn compare(
     })
 }
 
-fn moved(alloc: Global, trace: &str) -> Result<Space<RunList<Global>, Global>, NoMemory> {
-    let mut machine = machine_over(alloc, RunList::new(alloc)?, &declared(trace))?;
+fn moved(alloc: Global, trace: &str) -> Result<Space<SlotList<Global>, Global>, NoMemory> {
+    let mut machine = machine_over(alloc, SlotList::new(alloc)?, &declared(trace))?;
     let mut text = String::new(alloc);
     push_outcomes(&mut machine, trace, &mut text)?;
     Ok(machine)

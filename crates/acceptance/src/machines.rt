@@ -8,7 +8,7 @@ use core_steps::{Kept, Machine};
 use machine_model::{Event, Outcome};
 use map_list::MapLine;
 use radix_range::RadixMap;
-use slot_lock::{RunList, SlotMap};
+use slot_lock::{SlotList, SlotMap};
 use std::alloc::{Allocator, Global};
 use trace::declaration::{Declaration, FileLine};
 use trace::event_lines::run_line;
@@ -191,11 +191,11 @@ impl<M: SlotMap, A: Allocator + Clone> Moves for Space<M, A> {
 pub enum Over {
     /// Over the tree, by the program's replay.
     Tree,
-    /// Over the list of runs, line by line.
+    /// Over the list of slots, line by line.
     List,
     /// Over the tree, event by event.
     TreeByHand,
-    /// Over the list of runs, event by event.
+    /// Over the list of slots, event by event.
     ListByHand,
 }
 
@@ -290,9 +290,9 @@ pub fn text_over(
 ) -> Result<String<Global>, NoMemory> {
     match over {
         Over::Tree => text_of_replay(alloc, trace, show),
-        Over::List => told_with(alloc, RunList::new(alloc)?, trace, Told::Shown(show)),
+        Over::List => told_with(alloc, SlotList::new(alloc)?, trace, Told::Shown(show)),
         Over::TreeByHand => told_with(alloc, RadixMap::new(alloc)?, trace, Told::ByHand(show)),
-        Over::ListByHand => told_with(alloc, RunList::new(alloc)?, trace, Told::ByHand(show)),
+        Over::ListByHand => told_with(alloc, SlotList::new(alloc)?, trace, Told::ByHand(show)),
     }
 }
 
@@ -305,6 +305,6 @@ pub fn told_over(
 ) -> Result<String<Global>, NoMemory> {
     match over {
         Over::Tree | Over::TreeByHand => told_with(alloc, RadixMap::new(alloc)?, trace, told),
-        Over::List | Over::ListByHand => told_with(alloc, RunList::new(alloc)?, trace, told),
+        Over::List | Over::ListByHand => told_with(alloc, SlotList::new(alloc)?, trace, told),
     }
 }

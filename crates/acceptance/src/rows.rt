@@ -5,7 +5,7 @@
 //! the program's status for it is tested with the program. What is expected comes from
 //! POSIX.1-2017, the Intel SDM and the rules of docs/DECISIONS.md, worked out by hand.
 
-/// What each line gives, over the tree and over the list of runs.
+/// What each line gives, over the tree and over the list of slots.
 pub const ROWS: &str = "\
 a byte is stored and loaded, and the next one is zero
 vm 1 4; c0! mmap 0x10000 4096 rw- pfa; c0! store 0x10004 41; c0! load 0x10004; c0! load 0x10005
@@ -312,7 +312,7 @@ step x10; 0x10000; idle; idle; 0
 
 ";
 
-/// What holds of the list of runs alone.
+/// What holds of the list of slots alone.
 pub const LIST_ROWS: &str = "\
 an unmapped page is joined with the slot to its right, and then with that to its left
 vm 1 4; c0! mmap 0x10000 4096 rw- pfa; fold 0x1000; c0! munmap 0x10000 4096; fold 0x1000 x3
@@ -367,7 +367,7 @@ vm 1 4; c0! mmap 0x1ff000 8192 rw- pfa
 
 ";
 
-/// The same over the list of runs alone.
+/// The same over the list of slots alone.
 pub const LIST_LOGS: &str = "\
 a mapping of one page, for which the slots are divided twice
 vm 1 4; c0! mmap 0x10000 0 rw- pfa; c0! mmap 0x10000 4096 rw- pfa; c0 call load 0x10000
@@ -397,7 +397,7 @@ step x13; 0x1ff000; idle; step x9; done; step; idle; step x3; idle; log 11 call 
 
 ";
 
-/// The same over the list of runs.
+/// The same over the list of slots.
 pub const LIST_RUNS: &str = "\
 two pages are mapped and unmapped: then a fold joins the page's slot with the next one
 vm 1 4; c0 call mmap 0x1ff000 8192 rw- pfa; c0 go x9; fold 0x1000; \

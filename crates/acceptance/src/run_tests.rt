@@ -4,7 +4,7 @@ use backing::FileSpec;
 use core_steps::{CallLimit, Finished, Forgotten, Kept, Machine, RunFault, Setup, SetupFault, run};
 use linked_list_allocator::LocalHeap;
 use machine_model::{Event, Outcome};
-use slot_lock::RunList;
+use slot_lock::SlotList;
 use std::alloc::{Allocator, Global};
 use std::test::Fail;
 use vm_base::{CoreId, Entry, Errno, Flags, Mode, NoMemory, Prot, Reply, Request};
@@ -44,14 +44,14 @@ fn comes_to(
     outcomes: &[Outcome],
     log: &[Entry],
 ) -> Result<bool, NoMemory> {
-    let map = RunList::new(alloc.clone()?)?;
+    let map = SlotList::new(alloc.clone()?)?;
     let setup = Setup {
         cores: 1,
         frames: 1,
         files: Vec::new(alloc.clone()?),
         calls: 2,
     };
-    match run::<RunList<Global>, Global, Kept<Global>>(alloc, map, setup, events) {
+    match run::<SlotList<Global>, Global, Kept<Global>>(alloc, map, setup, events) {
         Ok(done) => Ok(done.outcomes.as_slice() == outcomes && done.machine.log() == log),
         Err(_) => Ok(false),
     }
@@ -63,14 +63,14 @@ fn comes_to_counted(
     events: &[Event],
     outcomes: &[Outcome],
 ) -> Result<bool, NoMemory> {
-    let map = RunList::new(alloc.clone()?)?;
+    let map = SlotList::new(alloc.clone()?)?;
     let setup = Setup {
         cores: 1,
         frames: 1,
         files: Vec::new(alloc.clone()?),
         calls: 2,
     };
-    match run::<RunList<Global>, Global, Forgotten>(alloc, map, setup, events) {
+    match run::<SlotList<Global>, Global, Forgotten>(alloc, map, setup, events) {
         Ok(done) => Ok(done.outcomes.as_slice() == outcomes),
         Err(_) => Ok(false),
     }
@@ -82,9 +82,9 @@ fn fault<A: Allocator + Clone + Drop, B: Allocator + Clone + Drop>(
     slots: B,
     setup: Setup<A>,
 ) -> Result<Option<RunFault>, NoMemory> {
-    let map = RunList::new(slots)?;
+    let map = SlotList::new(slots)?;
     let events = mmap_and_go(4096);
-    match run::<RunList<B>, A, Kept<A>>(alloc, map, setup, events.as_slice()) {
+    match run::<SlotList<B>, A, Kept<A>>(alloc, map, setup, events.as_slice()) {
         Ok(_) => Ok(None),
         Err(fault) => Ok(Some(fault)),
     }
@@ -175,14 +175,14 @@ fn fault_within(
     limit: CallLimit,
     calls: u64,
 ) -> Result<Option<SetupFault>, NoMemory> {
-    let map = RunList::new(alloc.clone()?)?;
+    let map = SlotList::new(alloc.clone()?)?;
     let setup = Setup {
         cores: 1,
         frames: 0,
         files: Vec::new(alloc.clone()?),
         calls,
     };
-    match Machine::<RunList<Global>, Global, Forgotten>::new_within(limit, alloc, map, setup) {
+    match Machine::<SlotList<Global>, Global, Forgotten>::new_within(limit, alloc, map, setup) {
         Ok(_) => Ok(None),
         Err(fault) => Ok(Some(fault)),
     }
@@ -209,14 +209,14 @@ fn a_longer_limit_is_asked_for(rt: HostRuntime) -> Result<(), Fail> {
 
 // How many of so many loads of an unmapped page are answered by a machine that may begin this many calls.
 fn answered(alloc: Global, calls: u64, loads: u64) -> Result<u64, NoMemory> {
-    let map = RunList::new(alloc.clone()?)?;
+    let map = SlotList::new(alloc.clone()?)?;
     let setup = Setup {
         cores: 1,
         frames: 0,
         files: Vec::new(alloc.clone()?),
         calls,
     };
-    let made = Machine::<RunList<Global>, Global, Forgotten>::new_within(
+    let made = Machine::<SlotList<Global>, Global, Forgotten>::new_within(
         CallLimit::Long,
         alloc,
         map,
@@ -301,7 +301,7 @@ fn heaps_that_are_too_small(rt: HostRuntime) -> Result<(), Fail> {
     Ok(())
 }
 
-// In the smallest heap that has a list of runs the first division is refused: that of the third event.
+// In the smallest heap that has a list of slots the first division is refused: that of the third event.
 #[test]
 fn a_division_is_refused(rt: HostRuntime) -> Result<(), Fail> {
     let mut told = None;
@@ -340,7 +340,7 @@ c0! mmap 0x20000 4096 rw- pfa
 /// that isn't, if these are the lines that it has elsewhere.
 fn lists_in_heaps(alloc: Global) -> Result<Option<(u64, usize)>, NoMemory> {
     let mut text = String::new(alloc);
-    let mut machine = machine_over(alloc, RunList::new(alloc)?, &declared(NINE))?;
+    let mut machine = machine_over(alloc, SlotList::new(alloc)?, &declared(NINE))?;
     push_outcomes(&mut machine, NINE, &mut text)?;
     let whole = machine.plain_maps(alloc)?;
     for n in 0..1000u64 {

@@ -7,7 +7,7 @@ use crate::machines::{Over, Told, declared, machine_over, told_over, told_with};
 use linked_list_allocator::LocalHeap;
 use machine_model::{Event, Outcome};
 use radix_range::RadixMap;
-use slot_lock::{RunList, SlotMap};
+use slot_lock::{SlotList, SlotMap};
 use std::alloc::{Allocator, Global};
 use trace::outcome_text::write_outcome;
 use trace::shown::Show;
@@ -177,7 +177,7 @@ pub fn text_of_starved(
             starved_text(alloc, &heap, &heap, RadixMap::new(&heap)?, trace, marks)?
         }
         Over::List | Over::ListByHand => {
-            starved_text(alloc, &heap, &heap, RunList::new(&heap)?, trace, marks)?
+            starved_text(alloc, &heap, &heap, SlotList::new(&heap)?, trace, marks)?
         }
     };
     if state.as_str() != told_over(alloc, over, trace, Told::State)?.as_str() {

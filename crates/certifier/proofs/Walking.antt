@@ -6,7 +6,7 @@ use Rattle.vm_base.specs.declared.page.PageRange.{PageRange}
 use Rattle.vm_base.specs.Functions.{has}
 use Rattle.vm_base.specs.Info.{info_from}
 use Rattle.vm_base.proofs.Functions.{has_in}
-use Rattle.slot_lock.specs.RunLaws.{info_from_twice}
+use Rattle.slot_lock.specs.ListLaws.{info_from_twice}
 use Rattle.slot_lock.specs.Slots.{Slots, IsSlot, IsSlotMap}
 use Rattle.slot_lock.proofs.SlotLaws.{info_on}
 use Rattle.slot_lock.proofs.Steps.{slot_by_edge}

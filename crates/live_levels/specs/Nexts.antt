@@ -8,8 +8,8 @@ use Rattle.live_levels.specs.declared.ask.Asked.{Asked}
 use Rattle.live_levels.specs.declared.ask.Asked.TheVariants as AskedOf
 use Rattle.live_levels.specs.declared.level.Next.{Next}
 use Rattle.live_levels.specs.declared.level.Next.TheVariants as NextOf
-use Rattle.live_levels.specs.declared.level.Fit.{Fit}
-use Rattle.live_levels.specs.declared.level.Fit.TheVariants.{Cut, Unseen, NoMemory, Lost}
+use Rattle.live_levels.specs.declared.level.SlotCut.{SlotCut}
+use Rattle.live_levels.specs.declared.level.SlotCut.TheVariants.{Cut, Unseen, NoMemory, Lost}
 
 -- no other core is to lock the slot first
 abbrev pub IsFreeFor : ℕ → Option ℕ → Type 0
@@ -55,7 +55,7 @@ module _ {S : Type 0} (stepped : S → ℕ → S → Type 0) (before now : S) wh
 
   -- a step was noted exactly where the slot was divided for the owner, under the ticket that is
   -- told, whether or not threads reach its parts
-  abbrev pub Cuts : Option ℕ → SlotView → Fit → Type 0
+  abbrev pub Cuts : Option ℕ → SlotView → SlotCut → Type 0
   Cuts owner s (Cut d) = stepped before d.divided.ticket now × Divides s owner d.divided
   Cuts owner s (Unseen d) = stepped before d.ticket now × Divides s owner d
   Cuts owner s NoMemory = now ≡ before

@@ -9,7 +9,7 @@ use crate::ask::{Asked, ask, with_page};
 use crate::close::SlotHistory;
 use crate::fold::{begin_joint, join_next};
 use crate::joint::Joint;
-use crate::level::{Fit, Level, Next, Stepper, index_of, put};
+use crate::level::{Level, Next, SlotCut, Stepper, index_of, put};
 use crate::parts::SLOTS;
 use crate::place::{Place, Reached, Unshared};
 use crate::slot::SlotState;
@@ -72,10 +72,10 @@ impl<C: Level<A>, A: Allocator + Clone> Level<A> for Inner<C, A> {
             Asked::Lost => return Next::Lost,
         };
         match place.split(alloc, stepper, &larger) {
-            Fit::Cut(_) => Next::Split,
-            Fit::Unseen(_) => Next::Unseen,
-            Fit::NoMemory => Next::NoMemory,
-            Fit::Lost => Next::Lost,
+            SlotCut::Cut(_) => Next::Split,
+            SlotCut::Unseen(_) => Next::Unseen,
+            SlotCut::NoMemory => Next::NoMemory,
+            SlotCut::Lost => Next::Lost,
         }
     }
 
@@ -94,12 +94,12 @@ impl<C: Level<A>, A: Allocator + Clone> Level<A> for Inner<C, A> {
         stepper: &mut S,
         core: CoreId,
         slot: &SlotState<A>,
-    ) -> Fit {
+    ) -> SlotCut {
         let Some(index) = index_of(self.first, self.pages, slot.first()) else {
-            return Fit::Lost;
+            return SlotCut::Lost;
         };
         let Some(place) = self.places.get(index) else {
-            return Fit::Lost;
+            return SlotCut::Lost;
         };
         place.cut(alloc, stepper, core, slot, self.pages)
     }

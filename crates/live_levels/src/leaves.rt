@@ -9,7 +9,7 @@ use crate::ask::{Asked, ask, with_page};
 use crate::close::{SlotHistory, gather_slot};
 use crate::fold::{begin_joint, join_next};
 use crate::joint::Joint;
-use crate::level::{Fit, Level, Next, Stepper, index_of, put};
+use crate::level::{Level, Next, SlotCut, Stepper, index_of, put};
 use crate::parts::SLOTS;
 use crate::slot::SlotState;
 use std::alloc::Allocator;
@@ -72,8 +72,8 @@ impl<A: Allocator + Clone> Level<A> for Leaves<A> {
         _stepper: &mut S,
         _core: CoreId,
         _slot: &SlotState<A>,
-    ) -> Fit {
-        Fit::Lost
+    ) -> SlotCut {
+        SlotCut::Lost
     }
 
     #[tactic(auto, using(crate::proofs::Chains::grew_trans))]

@@ -51,7 +51,7 @@ pub enum Next<'a, A: Allocator> {
 
 /// What a try to cut a slot came to.
 #[derive(Clone, Copy, Debug)]
-pub enum Fit {
+pub enum SlotCut {
     /// The slot was divided, which was noted: threads reach its parts in its place.
     Cut(Division),
     /// The division was noted, but the slot's place had a level before. It never comes; the call
@@ -93,7 +93,13 @@ pub trait Level<A: Allocator + Clone>: Drop {
         ensures { IfSome result (λ guard. HasPage (mutex_guard_value guard) page) };
 
     /// Divides a slot that the caller holds and lends. The core is to lock the new slots first.
-    fn cut<S: Stepper>(&self, alloc: &A, stepper: &mut S, core: CoreId, slot: &SlotState<A>) -> Fit
+    fn cut<S: Stepper>(
+        &self,
+        alloc: &A,
+        stepper: &mut S,
+        core: CoreId,
+        slot: &SlotState<A>,
+    ) -> SlotCut
         requires { S.can_step stepper.old }
         ensures { Cuts S.stepped stepper.old stepper.new (Some core) slot.now result };
 

@@ -6,7 +6,7 @@ ghost use Rattle.live_levels.specs.Parts.{AreParts};
 
 use crate::close::{SlotHistory, gather_slot};
 use crate::fold::replace;
-use crate::level::{Fit, Level, Stepper, boxed};
+use crate::level::{Level, SlotCut, Stepper, boxed};
 use crate::parts::{Divided, SLOTS, carry_on, side_by_side};
 use crate::slot::SlotState;
 use std::alloc::Allocator;
@@ -83,7 +83,12 @@ impl<C: Level<A>, A: Allocator + Clone> Place<C, A> {
     }
 
     /// Divides the place's slot, which the caller has locked, and which stays its owner's.
-    pub(crate) fn split<S: Stepper>(&self, alloc: &A, stepper: &mut S, slot: &SlotState<A>) -> Fit
+    pub(crate) fn split<S: Stepper>(
+        &self,
+        alloc: &A,
+        stepper: &mut S,
+        slot: &SlotState<A>,
+    ) -> SlotCut
         requires { S.can_step stepper.old }
         ensures { Cuts S.stepped stepper.old stepper.new slot.now.owner slot.now result }
     {
@@ -99,7 +104,7 @@ impl<C: Level<A>, A: Allocator + Clone> Place<C, A> {
         core: CoreId,
         slot: &SlotState<A>,
         pages: u64,
-    ) -> Fit
+    ) -> SlotCut
         requires { S.can_step stepper.old }
         ensures { Cuts S.stepped stepper.old stepper.new (Some core) slot.now result }
     {
@@ -107,7 +112,7 @@ impl<C: Level<A>, A: Allocator + Clone> Place<C, A> {
             return below.cut(alloc, stepper, core, slot);
         }
         if slot.count() != pages {
-            return Fit::Lost;
+            return SlotCut::Lost;
         }
         self.divide(alloc, stepper, slot, Some(core))
     }
@@ -121,20 +126,20 @@ impl<C: Level<A>, A: Allocator + Clone> Place<C, A> {
         stepper: &mut S,
         slot: &SlotState<A>,
         owner: Option<CoreId>,
-    ) -> Fit
+    ) -> SlotCut
         requires { S.can_step stepper.old }
         ensures { Cuts S.stepped stepper.old stepper.new owner slot.now result }
     {
         let first = slot.first();
         let pages = slot.count() / SLOTS as u64;
         if pages == 0 || slot.count() != pages * SLOTS as u64 {
-            return Fit::Lost;
+            return SlotCut::Lost;
         }
         let Ok(mut parts) = side_by_side(alloc, first, pages) else {
-            return Fit::NoMemory;
+            return SlotCut::NoMemory;
         };
         let Ok(level) = boxed::<C, A>(alloc, first, pages) else {
-            return Fit::NoMemory;
+            return SlotCut::NoMemory;
         };
         let divided = Divided {
             first,
@@ -144,8 +149,8 @@ impl<C: Level<A>, A: Allocator + Clone> Place<C, A> {
         };
         carry_on(&mut parts, &divided, pages);
         match self.publish(level, &mut parts, &divided, slot, pages) {
-            Some(division) => Fit::Cut(division),
-            None => Fit::Unseen(divided),
+            Some(division) => SlotCut::Cut(division),
+            None => SlotCut::Unseen(divided),
         }
     }
 

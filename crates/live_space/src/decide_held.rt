@@ -7,7 +7,7 @@ ghost use Rattle.vm_calls.specs.Decisions.{Decides, IsNoAccess, IsSoundAct};
 
 use backing::Objects;
 use live_tree::held::Held;
-use slot_lock::{Change, Framed, FramedPages, Goal, RunList, SlotMap};
+use slot_lock::{Change, Framed, FramedPages, Goal, SlotList, SlotMap};
 use smallvec::SmallVec;
 use std::alloc::Allocator;
 use vm_base::{CoreId, CoreSet, Errno, PageInfo, PageRange};

@@ -12,7 +12,7 @@ use Rattle.slot_lock.specs.declared.plan.Change.{Change}
 use Rattle.slot_lock.specs.declared.plan.Change.TheVariants.{Put, Clear, Protect}
 use Rattle.slot_lock.specs.Plan.{range_of}
 use Rattle.slot_lock.specs.Changes.{changed}
-use Rattle.slot_lock.specs.RunLaws.{info_from_twice}
+use Rattle.slot_lock.specs.ListLaws.{info_from_twice}
 use Rattle.live_levels.specs.Slots.{SlotView, content_at}
 use Rattle.live_levels.specs.Replay.{after, dated}
 use Rattle.live_tree.specs.Held.{SideBySide, CrossesNoEdge, committed, is_inside, act_on}

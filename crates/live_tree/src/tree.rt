@@ -10,7 +10,7 @@ ghost use Rattle.live_tree.specs.Shown.{shown};
 use crate::histories::Histories;
 use live_levels::inner::Inner;
 use live_levels::leaves::Leaves;
-use live_levels::level::{Fit, Level, Next, Stepper};
+use live_levels::level::{Level, Next, SlotCut, Stepper};
 use live_levels::parts::side_by_side;
 use live_levels::slot::SlotState;
 use std::alloc::Allocator;
@@ -104,7 +104,7 @@ impl<A: Allocator + Clone> SharedTree<A> {
     /// Divides a slot that the core holds, and lends, into 512, which is noted. The core is to lock
     /// them first: others that come before it let go again. The slot itself has no meaning from
     /// then on. Want of memory changes nothing.
-    pub fn cut<S: Stepper>(&self, stepper: &mut S, core: CoreId, slot: &SlotState<A>) -> Fit
+    pub fn cut<S: Stepper>(&self, stepper: &mut S, core: CoreId, slot: &SlotState<A>) -> SlotCut
         requires { S.can_step stepper.old }
         ensures { Cuts S.stepped stepper.old stepper.new (Some core) slot.now result }
     {

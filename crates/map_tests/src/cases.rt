@@ -3,7 +3,7 @@
 use crate::slot_calls::Counts;
 use crate::{free_tests, lock_tests, page_tests};
 use radix_range::RadixMap;
-use slot_lock::{FreePage, RunList, SlotMap};
+use slot_lock::{FreePage, SlotList, SlotMap};
 use std::alloc::Global;
 use vm_base::{NoMemory, PageRange};
 
@@ -59,7 +59,7 @@ fn holds<M: SlotMap>(map: &mut M, case: Case) -> Result<bool, NoMemory> {
 }
 
 pub fn on_list(alloc: Global, case: Case) -> Result<bool, NoMemory> {
-    match RunList::new(alloc) {
+    match SlotList::new(alloc) {
         Ok(mut list) => holds(&mut list, case),
         Err(_) => Err(NoMemory),
     }
@@ -72,7 +72,7 @@ pub fn on_tree(alloc: Global, case: Case) -> Result<bool, NoMemory> {
     }
 }
 
-// Whether the list of runs answers as it should, and the tree.
+// Whether the list of slots answers as it should, and the tree.
 pub fn on_both(alloc: Global, list: Case, tree: Case) -> Result<[bool; 2], NoMemory> {
     Ok([on_list(alloc, list)?, on_tree(alloc, tree)?])
 }

@@ -1,6 +1,6 @@
 //! `map_list`: lists of mappings over slots that are given one by one.
 use map_list::{MapLine, all_lines};
-use slot_lock::{RunList, SlotMap};
+use slot_lock::{SlotList, SlotMap};
 use std::alloc::Global;
 use std::test::Fail;
 use vm_base::{Back, CoreId, CoreSet, Meta, NoMemory, PageInfo, PageRange, Prot};
@@ -76,7 +76,7 @@ fn lines_of<M: SlotMap>(map: &M, alloc: Global) -> Result<Vec<MapLine, Global>, 
 
 // Tells whether slots are listed so.
 fn is_listed(alloc: Global, given: &[Given], want: &[MapLine]) -> Result<bool, NoMemory> {
-    let mut map = RunList::lent(alloc.clone()?)?;
+    let mut map = SlotList::new(alloc.clone()?)?;
     for i in 0..given.len() {
         let slot = given[i];
         if !map.add_slot(slot.first, slot.end, None, slot.info)? {

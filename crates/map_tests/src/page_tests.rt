@@ -11,7 +11,7 @@ use crate::slot_calls::{
 };
 use linked_list_allocator::LocalHeap;
 use radix_range::RadixMap;
-use slot_lock::{Fit, Framed, FramedPages, RunList, SlotMap};
+use slot_lock::{Fit, Framed, FramedPages, SlotList, SlotMap};
 use std::test::Fail;
 use vm_base::{CoreId, CoreSet, Meta, NoMemory, PageInfo, PageRange};
 
@@ -389,8 +389,8 @@ fn refuses_unchanged<M: SlotMap>(map: &mut M, locked: PageRange) -> Result<bool,
 // Whether neither map is made without memory, and a list with room for its first three runs and no
 // more refuses so.
 fn refuses_lists(none: &LocalHeap, small: &LocalHeap) -> Result<bool, NoMemory> {
-    let none_made = RunList::new(none).is_err() && RadixMap::new(none).is_err();
-    Ok(none_made && refuses_unchanged(&mut RunList::new(small)?, ALL)?)
+    let none_made = SlotList::new(none).is_err() && RadixMap::new(none).is_err();
+    Ok(none_made && refuses_unchanged(&mut SlotList::new(small)?, ALL)?)
 }
 
 // Whether a tree refuses so, where the heap has room for one.

@@ -1,8 +1,8 @@
-//! `slot_lock`: footprints, goals and lent slots. What a list of runs does as a slot map is tested
+//! `slot_lock`: footprints, goals and lent slots. What a list of slots does as a slot map is tested
 //! beside the tree, by the same calls.
 use crate::slot_calls::{FILE, one_page};
 use linked_list_allocator::LocalHeap;
-use slot_lock::{Change, Footprint, Goal, Place, RunList, SlotMap, SlotRead, Target, Touch};
+use slot_lock::{Change, Footprint, Goal, Place, SlotList, SlotMap, SlotRead, Target, Touch};
 use std::test::Fail;
 use vm_base::{Access, Back, CoreId, CoreSet, Meta, PageInfo, PageRange};
 
@@ -78,7 +78,7 @@ fn lent_slots_are_a_map(rt: HostRuntime) -> Result<(), Fail> {
         page: 0x7_ffff_ffff,
     };
     let last = Some(PageInfo::unused(Meta { back, ..FILE }));
-    let mut map = RunList::lent(rt.alloc())?;
+    let mut map = SlotList::new(rt.alloc())?;
     assert!(rt; map.add_slot(16, 20, own, None)?);
     assert!(rt; map.add_slot(20, 21, own, used)?);
     // a gap, an overlap, several pages of one frame, no page, pages past the last valid one, file
@@ -108,7 +108,7 @@ fn lent_slots_are_a_map(rt: HostRuntime) -> Result<(), Fail> {
 fn lending_is_refused_unchanged(rt: HostRuntime) -> Result<(), Fail> {
     // room for the first three runs and no more
     let heap = LocalHeap::new(rt.alloc(), 400)?;
-    let mut map = RunList::lent(&heap)?;
+    let mut map = SlotList::new(&heap)?;
     assert!(rt; map.add_slot(16, 17, Some(CoreId::new(1)), None).is_err());
     let all = PageRange {
         first: 1,

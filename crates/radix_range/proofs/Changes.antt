@@ -17,7 +17,7 @@ use Rattle.slot_lock.specs.declared.plan.Change.TheVariants.{Put, Clear, Protect
 use Rattle.slot_lock.specs.Plan.{IsSoundChange, range_of}
 use Rattle.slot_lock.specs.Slots.{Slots, IsSlot, IsCut, HasMeta, between, with_owner, with_info}
 use Rattle.slot_lock.specs.Changes.{changed}
-use Rattle.slot_lock.specs.RunLaws.{info_from_twice, info_from_zero}
+use Rattle.slot_lock.specs.ListLaws.{info_from_twice, info_from_zero}
 use Rattle.slot_lock.proofs.Edits.{has_not, has_below, has_above, has_or, has_one, same_slots}
 use Rattle.slot_lock.proofs.Steps.{slot_by_edge}
 use Rattle.radix_node.specs.State.{State}

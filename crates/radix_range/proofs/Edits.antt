@@ -14,7 +14,7 @@ use Rattle.slot_lock.specs.declared.plan.Change.{Change}
 use Rattle.slot_lock.specs.declared.plan.Change.TheVariants as ChangeOf
 use Rattle.slot_lock.specs.Plan.{IsSoundChange, range_of, FitsFile}
 use Rattle.slot_lock.specs.Slots.{Slots, IsCut, HasMeta, between, with_info}
-use Rattle.slot_lock.specs.RunLaws.{info_from_twice, info_from_zero, from_test}
+use Rattle.slot_lock.specs.ListLaws.{info_from_twice, info_from_zero, from_test}
 use Rattle.slot_lock.proofs.Edits.{has_not, has_one, same_slots}
 use Rattle.radix_node.specs.declared.edit.Edit.{Edit}
 use Rattle.radix_node.specs.declared.edit.Edit.TheVariants.{Put, Protect}

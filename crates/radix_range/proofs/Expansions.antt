@@ -11,7 +11,7 @@ use Rattle.vm_base.specs.Functions.{has}
 use Rattle.vm_base.specs.Info.{info_from, is_leaf}
 use Rattle.vm_base.proofs.Functions.{by_test, has_in}
 use Rattle.slot_lock.specs.Slots.{Slots, Divides, DividesAs, Joins, CanBeOne, between}
-use Rattle.slot_lock.specs.RunLaws.{info_from_twice, is_leaf-info_from, same_test, other_test, from_test, from_other_test}
+use Rattle.slot_lock.specs.ListLaws.{info_from_twice, is_leaf-info_from, same_test, other_test, from_test, from_other_test}
 use Rattle.slot_lock.proofs.Edits.{has_not, same_slots}
 use Rattle.slot_lock.proofs.Steps.{slot_by_edge}
 use Rattle.radix_node.specs.State.{State, no_state, state_from, IsPlain}

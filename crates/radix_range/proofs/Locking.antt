@@ -1,7 +1,7 @@
 -- An attempt to lock the slot of a page
 use Rattle.std.proofs.Common.{◌≡◌, ℕ, ◌+◌, ◌-◌, ◌*◌, ◌^◌, ◌<◌, ◌≤◌, true, Option, None, Some, refl, sym, ◌∙◌, ap, subst, arith}
 use Rattle.slot_lock.specs.Slots.{IsSlot, Locks, with_owner}
-use Rattle.slot_lock.specs.RunLaws.{same_test}
+use Rattle.slot_lock.specs.ListLaws.{same_test}
 use Rattle.radix_node.specs.declared.lock.Lock.{Lock}
 use Rattle.radix_node.specs.declared.lock.Lock.TheVariants.{Held, Before, Beyond, Locked}
 use Rattle.radix_node.specs.State.{State}

@@ -7,7 +7,7 @@ use Rattle.vm_base.specs.Functions.{has}
 use Rattle.vm_base.specs.Info.{info_from, is_leaf}
 use Rattle.vm_base.proofs.Functions.{by_test, has_in}
 use Rattle.slot_lock.specs.Slots.{Slots, IsSlot, between}
-use Rattle.slot_lock.specs.RunLaws.{info_from_zero, is_leaf-info_from, same_test, other_test, from_test}
+use Rattle.slot_lock.specs.ListLaws.{info_from_zero, is_leaf-info_from, same_test, other_test, from_test}
 use Rattle.slot_lock.proofs.Edits.{has_not, same_slots}
 use Rattle.radix_node.specs.State.{State, state_from, IsPlain}
 use Rattle.radix_node.specs.Run.{Run, Cell, cell_at, width_of, CanJoin}

@@ -6,7 +6,7 @@ use Rattle.vm_base.specs.Pages.{IsPage}
 use Rattle.vm_base.specs.Info.{info_from}
 use Rattle.vm_base.proofs.Functions.{by_test, has_in}
 use Rattle.slot_lock.specs.Slots.{Slots, IsSlot, between}
-use Rattle.slot_lock.specs.RunLaws.{from_test}
+use Rattle.slot_lock.specs.ListLaws.{from_test}
 use Rattle.slot_lock.proofs.Edits.{has_not, same_slots}
 use Rattle.slot_lock.proofs.Steps.{slot_by_edge}
 use Rattle.radix_node.specs.State.{State, no_state}

@@ -8,8 +8,8 @@ use Rattle.vm_base.specs.declared.info.Back.{Back}
 use Rattle.vm_base.specs.declared.info.Back.TheVariants.{Anon, Shared, Private}
 use Rattle.vm_base.specs.Info.{advance_back, file_page, info_from, info_file_page, is_leaf}
 use Rattle.slot_lock.specs.Slots.{IsSlotMap, IsSlot}
-use Rattle.slot_lock.specs.RunLaws.{info_from_twice, is_leaf-info_from, same_test, other_test}
-use Rattle.slot_lock.specs.RunLaws.{from_other_test}
+use Rattle.slot_lock.specs.ListLaws.{info_from_twice, is_leaf-info_from, same_test, other_test}
+use Rattle.slot_lock.specs.ListLaws.{from_other_test}
 use Rattle.radix_node.specs.State.{State, no_state}
 use Rattle.radix_node.specs.Run.{Run, Cell, cell_at, width_of, level_of, IsCell, IsSound}
 use Rattle.radix_node.specs.Node.{Parts, runs}

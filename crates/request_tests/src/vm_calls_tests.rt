@@ -1,4 +1,4 @@
-//! `vm_calls`: the rows over a list of runs, each test of the arguments on both sides of its edge,
+//! `vm_calls`: the rows over a list of slots, each test of the arguments on both sides of its edge,
 //! and what an access finds.
 ghost use Rattle.std.specs.Prelude.{◌≡◌, IsTrue, IfOk, true};
 ghost use Rattle.vm_base.specs.Functions.{has};
@@ -14,7 +14,7 @@ use crate::rows::{
     NO_FLAGS, NONE, PRIVATE, PRIVATE_FIXED, R, RW, SHARED, TABLES, W, request_of,
 };
 use backing::{FileSpec, Objects};
-use slot_lock::{Change, Goal, Place, Plan, RunList, SlotMap, SlotRead, Target, Touch};
+use slot_lock::{Change, Goal, Place, Plan, SlotList, SlotMap, SlotRead, Target, Touch};
 use std::alloc::{AllocError, Allocator, Global};
 use std::test::Fail;
 use vm_base::{
@@ -68,12 +68,12 @@ fn decided<M: SlotMap, A: Allocator>(map: &M, objects: &Objects<A>, goal: Goal) 
 /// Slots that a call lends, as a list: only their pages may be asked for.
 #[derive(Drop)]
 struct Lent<A: Allocator> {
-    list: RunList<A>,
+    list: SlotList<A>,
     pages: PageRange,
 }
 
 impl<A: Allocator> SlotRead for Lent<A> {
-    ghost slots = { λ l. ⟦<RunList<A> as SlotRead>⟧.slots l.list };
+    ghost slots = { λ l. ⟦<SlotList<A> as SlotRead>⟧.slots l.list };
 
     ghost reads = { λ l p. IsPage p × (has l.pages p ≡ true) };
 
@@ -114,7 +114,7 @@ fn decided_lent<A: Allocator>(
 }
 
 /// Locks the pages of a range that lie in one slot.
-fn lock<A: Allocator>(map: &mut RunList<A>, core: CoreId, range: PageRange) -> Result<(), NoMemory>
+fn lock<A: Allocator>(map: &mut SlotList<A>, core: CoreId, range: PageRange) -> Result<(), NoMemory>
     requires { IsPageRange range }
 {
     for _ in 0..3 {
@@ -126,9 +126,9 @@ fn lock<A: Allocator>(map: &mut RunList<A>, core: CoreId, range: PageRange) -> R
 }
 
 /// Tells whether the core holds the pages, which are one slot.
-fn holds<A: Allocator>(map: &RunList<A>, core: CoreId, range: PageRange) -> bool
+fn holds<A: Allocator>(map: &SlotList<A>, core: CoreId, range: PageRange) -> bool
     requires { IsPageRange range }
-    ensures { IsTrue result → IsHeld (⟦<RunList<A> as SlotRead>⟧.slots map.now) core range }
+    ensures { IsTrue result → IsHeld (⟦<SlotList<A> as SlotRead>⟧.slots map.now) core range }
 {
     let slot = map.slot(range.first);
     if slot.first != range.first || slot.end != range.end {
@@ -141,7 +141,7 @@ fn holds<A: Allocator>(map: &RunList<A>, core: CoreId, range: PageRange) -> bool
 }
 
 /// Makes a change of the pages of one slot, which the core goes on holding: whether it could.
-fn make<A: Allocator>(map: &mut RunList<A>, core: CoreId, change: Change) -> Result<bool, NoMemory>
+fn make<A: Allocator>(map: &mut SlotList<A>, core: CoreId, change: Change) -> Result<bool, NoMemory>
     requires { IsSoundChange change }
 {
     let range = change.range();
@@ -160,7 +160,7 @@ fn make<A: Allocator>(map: &mut RunList<A>, core: CoreId, change: Change) -> Res
 
 /// The change, if it isn't refused.
 fn allowed<A: Allocator>(
-    map: &RunList<A>,
+    map: &SlotList<A>,
     objects: &Objects<A>,
     change: Change,
 ) -> Result<Change, Came>
@@ -176,7 +176,7 @@ fn allowed<A: Allocator>(
 
 /// The decision over a mapping that looks for a place: under its hint, if it has one, and else with
 /// its window held.
-fn looked_for<A: Allocator>(map: &RunList<A>, objects: &Objects<A>, place: Place) -> Decision
+fn looked_for<A: Allocator>(map: &SlotList<A>, objects: &Objects<A>, place: Place) -> Decision
     requires { IsSoundPlace place }
     ensures { IsSoundAct (GoalOf.Place place TargetOf.Window) result }
 {
@@ -193,7 +193,7 @@ fn looked_for<A: Allocator>(map: &RunList<A>, objects: &Objects<A>, place: Place
 
 /// The mapping at its place, if it finds one.
 fn placed<A: Allocator>(
-    map: &RunList<A>,
+    map: &SlotList<A>,
     objects: &Objects<A>,
     place: Place,
 ) -> Result<Change, Came>
@@ -209,7 +209,7 @@ fn placed<A: Allocator>(
 }
 
 /// What an access finds.
-fn found<A: Allocator>(map: &RunList<A>, objects: &Objects<A>, touch: Touch) -> Settled
+fn found<A: Allocator>(map: &SlotList<A>, objects: &Objects<A>, touch: Touch) -> Settled
     requires { IsPage touch.page }
 {
     let Some(info) = map.page(touch.page) else {
@@ -237,7 +237,7 @@ fn came_of_found(found: Settled) -> Came {
 
 /// What comes of a request of core 0, whose change is made.
 fn run<A: Allocator>(
-    map: &mut RunList<A>,
+    map: &mut SlotList<A>,
     objects: &Objects<A>,
     request: Request,
 ) -> Result<Came, NoMemory> {
@@ -272,7 +272,7 @@ fn first_wrong<A: Allocator + Clone>(
     rows: &[(Ask, Reply)],
 ) -> Result<Option<usize>, NoMemory> {
     let objects = one_file(alloc.clone()?, mode, len)?;
-    let mut map = RunList::new(alloc)?;
+    let mut map = SlotList::new(alloc)?;
     for i in 0..rows.len() {
         let (ask, reply) = rows[i];
         if run(&mut map, &objects, request_of(ask))? != came_of(ask, reply) {
@@ -503,7 +503,7 @@ fn a_private_page_shows_its_file_until_a_store(rt: HostRuntime) -> Result<(), Fa
 
 /// Maps and marks the page of an address as used by core 3, and gives the decision of a request then.
 fn decided_after_use<A: Allocator>(
-    map: &mut RunList<A>,
+    map: &mut SlotList<A>,
     objects: &Objects<A>,
     request: Request,
 ) -> Result<Option<Decision>, NoMemory> {
@@ -525,7 +525,7 @@ fn decided_after_use<A: Allocator>(
 #[test]
 fn recorded_cores_are_shot(rt: HostRuntime) -> Result<(), Fail> {
     let objects = one_file(rt.alloc(), Mode::RW, 0)?;
-    let mut map = RunList::new(rt.alloc())?;
+    let mut map = SlotList::new(rt.alloc())?;
     let mapping = request_of(Ask::Map(0x10000, 4096, RW, ANON_FIXED));
     let mapped = Came::Reply(Reply::Mapped(0x10000));
     assert!(rt; run(&mut map, &objects, mapping)? == mapped);
@@ -541,7 +541,7 @@ fn recorded_cores_are_shot(rt: HostRuntime) -> Result<(), Fail> {
 fn two_slots<A: Allocator>(alloc: A, objects: &Objects<A>) -> Result<Lent<A>, NoMemory>
     ensures { IfOk result (λ lent. IsPageRange lent.pages) }
 {
-    let mut list = RunList::new(alloc)?;
+    let mut list = SlotList::new(alloc)?;
     run(
         &mut list,
         objects,
@@ -571,7 +571,11 @@ fn two_lent_slots_read_as_a_map(rt: HostRuntime) -> Result<(), Fail> {
 }
 
 /// The decision over a mapping of two pages with page 16 as its hint, or over a run of core 0's window.
-fn aimed<A: Allocator>(map: &RunList<A>, objects: &Objects<A>, target: Target) -> Option<Decision> {
+fn aimed<A: Allocator>(
+    map: &SlotList<A>,
+    objects: &Objects<A>,
+    target: Target,
+) -> Option<Decision> {
     let request = request_of(Ask::Map(0x10000, 8192, RW, ANON));
     let Ok(Plan::Place(place)) = check(objects, CoreId::new(0), request) else {
         return None;
@@ -601,7 +605,7 @@ fn is_target(place: Place, target: Target) -> bool
 #[test]
 fn a_mapping_looks_elsewhere_where_a_page_is_mapped(rt: HostRuntime) -> Result<(), Fail> {
     let objects = one_file(rt.alloc(), Mode::RW, 0)?;
-    let mut map = RunList::new(rt.alloc())?;
+    let mut map = SlotList::new(rt.alloc())?;
     let hint = Target::Hint(PageRange { first: 16, end: 18 });
     let first = 0x800_0000;
     let least = PageRange {

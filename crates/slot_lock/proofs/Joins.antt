@@ -1,4 +1,4 @@
--- Two runs joined
+-- Two slots joined
 use Rattle.std.proofs.Common.{◌≡◌, ◌≢◌, ℕ, ◌+◌, ◌-◌, ◌^◌, ◌<◌, ◌≤◌, ◌⊎◌, inl, inr, ⊎_elim, Bool, true, false, List, length, Option, is_some}
 use Rattle.std.proofs.Common.{refl, sym, ◌∙◌, ap, arith}
 use Rattle.std.specs.List.{remove}
@@ -9,58 +9,58 @@ use Rattle.vm_base.specs.declared.info.PageInfo.{PageInfo}
 use Rattle.vm_base.specs.Functions.{put}
 use Rattle.vm_base.specs.Info.{info_from, info_file_page, is_leaf}
 use Rattle.vm_base.proofs.Functions.{put_same, put_other}
-use Rattle.slot_lock.specs.declared.run.Run.{Run}
-use Rattle.slot_lock.specs.Runs.{IsRuns, IsAt, IsInside, IsJoint, get_run, nobody, tail_from, cut_runs}
-use Rattle.slot_lock.specs.Places.{run_at_is, before_last, start_most}
+use Rattle.slot_lock.specs.declared.slot.Slot.{Slot}
+use Rattle.slot_lock.specs.SlotList.{IsSlotList, IsAt, IsInside, IsJoint, get_slot, nobody, tail_from, cut_list}
+use Rattle.slot_lock.specs.Places.{slot_at_is, before_last, start_most}
 use Rattle.slot_lock.specs.Slots.{Slots, IsSlotMap, Divides, Joins, CanBeOne, CanJoin, Folds, without_edge}
-use Rattle.slot_lock.specs.RunSlots.{slots_of}
-use Rattle.slot_lock.specs.RunLaws.{info_from_twice, fits_before, info_from_zero, is_leaf-info_from, edge_at, is_slot}
-use Rattle.slot_lock.proofs.Cuts.{below, here, above, longer, cut_runs-Divides, cut_edge}
+use Rattle.slot_lock.specs.ListedSlots.{slots_of}
+use Rattle.slot_lock.specs.ListLaws.{info_from_twice, fits_before, info_from_zero, is_leaf-info_from, edge_at, is_slot}
+use Rattle.slot_lock.proofs.Cuts.{below, here, above, longer, cut_list-Divides, cut_edge}
 use Rattle.slot_lock.proofs.Edits.{same_slots}
 use Rattle.slot_lock.proofs.SlotLaws.{owner_on, info_on}
 use Rattle.slot_lock.proofs.Steps.{before_limit, owner_at, slot_by_edge}
 
--- ---- the list without the second of two runs
+-- ---- the list without the second of two slots
 
--- the run at i, which is not page 0's, is joined with the next
-pub record CanGo (rs : List Run) (i : ℕ) : Type 0 where
+-- the slot at i, which is not page 0's, is joined with the next
+pub record CanGo (rs : List Slot) (i : ℕ) : Type 0 where
   pub after_first : 1 ≤ i
   pub joint : IsJoint rs i
 
-abbrev pub joined_runs : List Run → ℕ → List Run
-joined_runs rs i = remove rs (i + 1)
+abbrev pub joined_list : List Slot → ℕ → List Slot
+joined_list rs i = remove rs (i + 1)
 
-shorter : (rs : List Run) (i : ℕ) → CanGo rs i → length (joined_runs rs i) + 1 ≡ length rs
+shorter : (rs : List Slot) (i : ℕ) → CanGo rs i → length (joined_list rs i) + 1 ≡ length rs
 shorter rs i h = length-remove rs (i + 1) (omega (arith, h.joint.next))
 
-low : (rs : List Run) (i : ℕ) → CanGo rs i → (k : ℕ) → k ≤ i → get_run (joined_runs rs i) k ≡ get_run rs k
+low : (rs : List Slot) (i : ℕ) → CanGo rs i → (k : ℕ) → k ≤ i → get_slot (joined_list rs i) k ≡ get_slot rs k
 low rs i h k l = get_or-remove_below rs (i + 1) nobody k (omega arith) (omega (arith, h.joint.next))
 
-high : (rs : List Run) (i : ℕ) → CanGo rs i → (k : ℕ) → i < k → get_run (joined_runs rs i) k ≡ get_run rs (k + 1)
+high : (rs : List Slot) (i : ℕ) → CanGo rs i → (k : ℕ) → i < k → get_slot (joined_list rs i) k ≡ get_slot rs (k + 1)
 high rs i h k l = get_or-remove_above rs (i + 1) nobody k (omega arith) (omega (arith, h.joint.next))
 
-pub joined-IsRuns : (rs : List Run) → IsRuns rs → (i : ℕ) → CanGo rs i → IsRuns (joined_runs rs i)
-joined-IsRuns rs ok i h =
+pub joined-IsSlotList : (rs : List Slot) → IsSlotList rs → (i : ℕ) → CanGo rs i → IsSlotList (joined_list rs i)
+joined-IsSlotList rs ok i h =
     let n = shorter rs i h in
     let zero_is = low rs i h 0 (omega arith) in
-    let back : length (joined_runs rs i) - 1 + 1 ≡ length rs - 1 = omega (arith, h.joint.next) in
-    let last_is : get_run (joined_runs rs i) (length (joined_runs rs i) - 1) ≡ get_run rs (length rs - 1) = high rs i h
-    (length (joined_runs rs i) - 1) (omega (arith, h.joint.next)) ∙ ap (get_run rs) back in
+    let back : length (joined_list rs i) - 1 + 1 ≡ length rs - 1 = omega (arith, h.joint.next) in
+    let last_is : get_slot (joined_list rs i) (length (joined_list rs i) - 1) ≡ get_slot rs (length rs - 1) = high rs i h
+    (length (joined_list rs i) - 1) (omega (arith, h.joint.next)) ∙ ap (get_slot rs) back in
     record {
       some = omega (arith, h.after_first, h.joint.next);
       rising = λ k l. rising k (omega arith);
-      zero_first = ap (λ (r : Run). r.start) zero_is ∙ ok.zero_first;
-      one_second = ap (λ (r : Run). r.start) (low rs i h 1 h.after_first) ∙ ok.one_second;
-      zero_unmapped = ap (λ (r : Run). is_some r.info) zero_is ∙ ok.zero_unmapped;
-      zero_free = ap (λ (r : Run). is_some r.owner) zero_is ∙ ok.zero_free;
-      limit_last = ap (λ (r : Run). r.start) last_is ∙ ok.limit_last;
-      limit_unmapped = ap (λ (r : Run). is_some r.info) last_is ∙ ok.limit_unmapped;
-      limit_free = ap (λ (r : Run). is_some r.owner) last_is ∙ ok.limit_free;
+      zero_first = ap (λ (r : Slot). r.start) zero_is ∙ ok.zero_first;
+      one_second = ap (λ (r : Slot). r.start) (low rs i h 1 h.after_first) ∙ ok.one_second;
+      zero_unmapped = ap (λ (r : Slot). is_some r.info) zero_is ∙ ok.zero_unmapped;
+      zero_free = ap (λ (r : Slot). is_some r.owner) zero_is ∙ ok.zero_free;
+      limit_last = ap (λ (r : Slot). r.start) last_is ∙ ok.limit_last;
+      limit_unmapped = ap (λ (r : Slot). is_some r.info) last_is ∙ ok.limit_unmapped;
+      limit_free = ap (λ (r : Slot). is_some r.owner) last_is ∙ ok.limit_free;
       fits = λ k l. fits k (omega arith);
       alone = λ k l leaf. alone k (omega arith) leaf;
     }
   where
-    rising : (k : ℕ) → k + 2 < length rs → (get_run (joined_runs rs i) k).start < (get_run (joined_runs rs i) (k + 1)).start
+    rising : (k : ℕ) → k + 2 < length rs → (get_slot (joined_list rs i) k).start < (get_slot (joined_list rs i) (k + 1)).start
     rising k l =
         let a = ok.rising k (omega arith) in
         let b = ok.rising (k + 1) (omega arith) in
@@ -74,7 +74,7 @@ joined-IsRuns rs ok i h =
 
     fits : (k : ℕ) → k + 2 < length rs
         → info_file_page
-        (get_run (joined_runs rs i) k).info + ((get_run (joined_runs rs i) (k + 1)).start - (get_run (joined_runs rs i) k).start) ≤ 2 ^ 35
+        (get_slot (joined_list rs i) k).info + ((get_slot (joined_list rs i) (k + 1)).start - (get_slot (joined_list rs i) k).start) ≤ 2 ^ 35
     fits k l = ⊎_elim
         (λ (m : k < i). rw (low rs i h k (omega arith), low rs i h (k + 1) (omega arith)) (ok.fits k (omega arith)))
         (λ (m : i ≤ k). ⊎_elim
@@ -83,65 +83,65 @@ joined-IsRuns rs ok i h =
         (cases_eq k i))
         (cases_lt k i)
       where
-        both : info_file_page (get_run rs i).info + ((get_run rs (i + 1 + 1)).start - (get_run rs i).start) ≤ 2 ^ 35
+        both : info_file_page (get_slot rs i).info + ((get_slot rs (i + 1 + 1)).start - (get_slot rs i).start) ≤ 2 ^ 35
         both =
             let a = ok.rising i (omega (arith, h.joint.next)) in
             let b = ok.rising (i + 1) (omega (arith, h.joint.next)) in
             let most = start_most rs ok (i + 1 + 1) (omega (arith, h.joint.next)) in
             let next = ok.fits (i + 1) (omega (arith, h.joint.next)) in
             let same = ap info_file_page h.joint.one.goes_on in
-            fits_before (get_run rs i).info ((get_run rs (i + 1)).start - (get_run rs i).start)
-            ((get_run rs (i + 1 + 1)).start - (get_run rs i).start) (omega arith) (omega arith) (omega arith)
+            fits_before (get_slot rs i).info ((get_slot rs (i + 1)).start - (get_slot rs i).start)
+            ((get_slot rs (i + 1 + 1)).start - (get_slot rs i).start) (omega arith) (omega arith) (omega arith)
 
-    alone : (k : ℕ) → k + 2 < length rs → is_leaf (get_run (joined_runs rs i) k).info ≡ true
-        → (get_run (joined_runs rs i) (k + 1)).start ≡ (get_run (joined_runs rs i) k).start + 1
+    alone : (k : ℕ) → k + 2 < length rs → is_leaf (get_slot (joined_list rs i) k).info ≡ true
+        → (get_slot (joined_list rs i) (k + 1)).start ≡ (get_slot (joined_list rs i) k).start + 1
     alone k l leaf = ⊎_elim
         (λ (m : k < i). rw (low rs i h k (omega arith), low rs i h (k + 1) (omega arith))
-        (ok.alone k (omega arith) (sym (ap (λ (r : Run). is_leaf r.info) (low rs i h k (omega arith))) ∙ leaf)))
+        (ok.alone k (omega arith) (sym (ap (λ (r : Slot). is_leaf r.info) (low rs i h k (omega arith))) ∙ leaf)))
         (λ (m : i ≤ k). ⊎_elim
-        (λ (e : k ≡ i). absurd (clash (sym (ap (λ (r : Run). is_leaf r.info) (low rs i h k (omega arith) ∙ ap (get_run rs) e)) ∙ leaf)))
+        (λ (e : k ≡ i). absurd (clash (sym (ap (λ (r : Slot). is_leaf r.info) (low rs i h k (omega arith) ∙ ap (get_slot rs) e)) ∙ leaf)))
         (λ (ne : k ≢ i). rw (high rs i h k (omega arith), high rs i h (k + 1) (omega arith))
-        (ok.alone (k + 1) (omega arith) (sym (ap (λ (r : Run). is_leaf r.info) (high rs i h k (omega arith))) ∙ leaf)))
+        (ok.alone (k + 1) (omega arith) (sym (ap (λ (r : Slot). is_leaf r.info) (high rs i h k (omega arith))) ∙ leaf)))
         (cases_eq k i))
         (cases_lt k i)
       where
-        clash : is_leaf (get_run rs i).info ≡ true → ⊥
+        clash : is_leaf (get_slot rs i).info ≡ true → ⊥
         clash e = let f = h.joint.one.no_leaf in cc
 
-joined-IsInside : (rs : List Run) → IsRuns rs → (i : ℕ) → CanGo rs i → IsInside (joined_runs rs i) i (get_run rs (i + 1)).start
+joined-IsInside : (rs : List Slot) → IsSlotList rs → (i : ℕ) → CanGo rs i → IsInside (joined_list rs i) i (get_slot rs (i + 1)).start
 joined-IsInside rs ok i h = record {
   inner = record { after_first = h.after_first; before_last = let n = shorter rs i h in omega (arith, h.joint.next) };
   above = rw (low rs i h i (omega arith)) (ok.rising i (omega (arith, h.joint.next)));
   below = rw (high rs i h (i + 1) (omega arith)) (ok.rising (i + 1) (omega (arith, h.joint.next)));
 }
 
-same_run : (r : Run) (start : ℕ) (owner : Option ℕ) (info : Option PageInfo) → start ≡ r.start → owner ≡ r.owner → info ≡ r.info
+same_slot : (r : Slot) (start : ℕ) (owner : Option ℕ) (info : Option PageInfo) → start ≡ r.start → owner ≡ r.owner → info ≡ r.info
     → record { start = start; owner = owner; info = info } ≡ r
-same_run r start owner info a b c = λ j. record { start = a j; owner = b j; info = c j }
+same_slot r start owner info a b c = λ j. record { start = a j; owner = b j; info = c j }
 
--- a cut where they were joined gives the two runs back
-cut_again : (rs : List Run) → IsRuns rs → (i : ℕ) → CanGo rs i → cut_runs (joined_runs rs i) i (get_run rs (i + 1)).start ≡ rs
+-- a cut where they were joined gives the two slots back
+cut_again : (rs : List Slot) → IsSlotList rs → (i : ℕ) → CanGo rs i → cut_list (joined_list rs i) i (get_slot rs (i + 1)).start ≡ rs
 cut_again rs ok i h = ext_get_or nobody _ rs lengths (λ k l. each k)
   where
-    inside : IsInside (joined_runs rs i) i (get_run rs (i + 1)).start
+    inside : IsInside (joined_list rs i) i (get_slot rs (i + 1)).start
     inside = joined-IsInside rs ok i h
 
-    lengths : length (cut_runs (joined_runs rs i) i (get_run rs (i + 1)).start) ≡ length rs
+    lengths : length (cut_list (joined_list rs i) i (get_slot rs (i + 1)).start) ≡ length rs
     lengths = longer _ i _ inside ∙ shorter rs i h
 
-    tail : tail_from (get_run (joined_runs rs i) i) (get_run rs (i + 1)).start ≡ get_run rs (i + 1)
-    tail = ap (λ r. tail_from r (get_run rs (i + 1)).start) (low rs i h i (omega arith))
-        ∙ same_run (get_run rs (i + 1)) _ _ _ refl (h.joint.one.free ∙ sym h.joint.one.next_free) (sym h.joint.one.goes_on)
+    tail : tail_from (get_slot (joined_list rs i) i) (get_slot rs (i + 1)).start ≡ get_slot rs (i + 1)
+    tail = ap (λ r. tail_from r (get_slot rs (i + 1)).start) (low rs i h i (omega arith))
+        ∙ same_slot (get_slot rs (i + 1)) _ _ _ refl (h.joint.one.free ∙ sym h.joint.one.next_free) (sym h.joint.one.goes_on)
 
-    each : (k : ℕ) → get_run (cut_runs (joined_runs rs i) i (get_run rs (i + 1)).start) k ≡ get_run rs k
+    each : (k : ℕ) → get_slot (cut_list (joined_list rs i) i (get_slot rs (i + 1)).start) k ≡ get_slot rs k
     each k = ⊎_elim
         (λ (m : k ≤ i). below _ i _ inside k m ∙ low rs i h k m)
         (λ (m : i < k). ⊎_elim
-        (λ (e : k ≡ i + 1). ap (get_run (cut_runs (joined_runs rs i) i (get_run rs (i + 1)).start)) e ∙ (here _ i _ inside ∙ (tail ∙ ap (get_run rs) (sym e))))
+        (λ (e : k ≡ i + 1). ap (get_slot (cut_list (joined_list rs i) i (get_slot rs (i + 1)).start)) e ∙ (here _ i _ inside ∙ (tail ∙ ap (get_slot rs) (sym e))))
         (λ (ne : k ≢ i + 1).
         let back : k - 1 + 1 ≡ k = omega arith in
-        ap (get_run (cut_runs (joined_runs rs i) i (get_run rs (i + 1)).start)) (sym back)
-        ∙ (above _ i _ inside (k - 1) (omega arith) ∙ (high rs i h (k - 1) (omega arith) ∙ ap (get_run rs) back)))
+        ap (get_slot (cut_list (joined_list rs i) i (get_slot rs (i + 1)).start)) (sym back)
+        ∙ (above _ i _ inside (k - 1) (omega arith) ∙ (high rs i h (k - 1) (omega arith) ∙ ap (get_slot rs) back)))
         (cases_eq k (i + 1)))
         (flip (cases_lt i k))
       where
@@ -150,48 +150,48 @@ cut_again rs ok i h = ext_get_or nobody _ rs lengths (λ k l. each k)
         flip (inr a) = inl a
 
 -- one edge fewer
-pub slots_of-joined : (rs : List Run) → IsRuns rs → (i : ℕ) → CanGo rs i → slots_of (joined_runs rs i) ≡ without_edge (slots_of rs) (get_run rs (i + 1)).start
+pub slots_of-joined : (rs : List Slot) → IsSlotList rs → (i : ℕ) → CanGo rs i → slots_of (joined_list rs i) ≡ without_edge (slots_of rs) (get_slot rs (i + 1)).start
 slots_of-joined rs ok i h = same_slots _ _ (λ p. sym (ap (λ f. f p) divided.info)) (λ p. sym (ap (λ f. f p) divided.owners)) edge
   where
-    qs_ok : IsRuns (joined_runs rs i)
-    qs_ok = joined-IsRuns rs ok i h
+    qs_ok : IsSlotList (joined_list rs i)
+    qs_ok = joined-IsSlotList rs ok i h
 
-    divided : Divides (slots_of (joined_runs rs i)) (slots_of rs) (get_run (joined_runs rs i) i).owner (get_run rs (i + 1)).start
-    divided = rw (cut_again rs ok i h) at (cut_runs-Divides _ qs_ok i _ (joined-IsInside rs ok i h))
+    divided : Divides (slots_of (joined_list rs i)) (slots_of rs) (get_slot (joined_list rs i) i).owner (get_slot rs (i + 1)).start
+    divided = rw (cut_again rs ok i h) at (cut_list-Divides _ qs_ok i _ (joined-IsInside rs ok i h))
 
-    edge : (p : ℕ) → (slots_of (joined_runs rs i)).edge p ≡ put (slots_of rs).edge (get_run rs (i + 1)).start false p
+    edge : (p : ℕ) → (slots_of (joined_list rs i)).edge p ≡ put (slots_of rs).edge (get_slot rs (i + 1)).start false p
     edge p = ⊎_elim
-        (λ (e : p ≡ (get_run rs (i + 1)).start). rw e (divided.was_inside ∙ sym (put_same (slots_of rs).edge (get_run rs (i + 1)).start false)))
-        (λ (ne : p ≢ (get_run rs (i + 1)).start). sym (cut_edge _ qs_ok i _ (joined-IsInside rs ok i h) p ne)
+        (λ (e : p ≡ (get_slot rs (i + 1)).start). rw e (divided.was_inside ∙ sym (put_same (slots_of rs).edge (get_slot rs (i + 1)).start false)))
+        (λ (ne : p ≢ (get_slot rs (i + 1)).start). sym (cut_edge _ qs_ok i _ (joined-IsInside rs ok i h) p ne)
         ∙ (ap (λ qs. (slots_of qs).edge p) (cut_again rs ok i h)
-        ∙ sym (put_other (slots_of rs).edge (get_run rs (i + 1)).start false p ne)))
-        (cases_eq p (get_run rs (i + 1)).start)
+        ∙ sym (put_other (slots_of rs).edge (get_slot rs (i + 1)).start false p ne)))
+        (cases_eq p (get_slot rs (i + 1)).start)
 
 -- ---- which slots can be joined
 
-pub next_info : (rs : List Run) → IsRuns rs → (k : ℕ) → k + 1 < length rs → (slots_of rs).info (get_run rs k).start ≡ (get_run rs k).info
+pub next_info : (rs : List Slot) → IsSlotList rs → (k : ℕ) → k + 1 < length rs → (slots_of rs).info (get_slot rs k).start ≡ (get_slot rs k).info
 next_info rs ok k h =
-    let run = run_at_is rs ok (get_run rs k).start k (record { within = omega arith; from = omega arith; until = λ l. ok.rising k l }) in
-    let none : (get_run rs k).start - (get_run rs k).start ≡ 0 = omega arith in
-    ap (λ (r : Run). info_from r.info ((get_run rs k).start - r.start)) run ∙ (ap (info_from (get_run rs k).info) none ∙ info_from_zero (get_run rs k).info)
+    let slot = slot_at_is rs ok (get_slot rs k).start k (record { within = omega arith; from = omega arith; until = λ l. ok.rising k l }) in
+    let none : (get_slot rs k).start - (get_slot rs k).start ≡ 0 = omega arith in
+    ap (λ (r : Slot). info_from r.info ((get_slot rs k).start - r.start)) slot ∙ (ap (info_from (get_slot rs k).info) none ∙ info_from_zero (get_slot rs k).info)
 
-page_info : (rs : List Run) → IsRuns rs → (page i : ℕ) → IsAt rs page i → (slots_of rs).info page ≡ info_from (get_run rs i).info (page - (get_run rs i).start)
-page_info rs ok page i at = ap (λ (r : Run). info_from r.info (page - r.start)) (run_at_is rs ok page i at)
+page_info : (rs : List Slot) → IsSlotList rs → (page i : ℕ) → IsAt rs page i → (slots_of rs).info page ≡ info_from (get_slot rs i).info (page - (get_slot rs i).start)
+page_info rs ok page i at = ap (λ (r : Slot). info_from r.info (page - r.start)) (slot_at_is rs ok page i at)
 
-on_info : (rs : List Run) → IsRuns rs → (page i end : ℕ) → IsAt rs page i → page ≤ end
-    → info_from ((slots_of rs).info page) (end - page) ≡ info_from (get_run rs i).info (end - (get_run rs i).start)
+on_info : (rs : List Slot) → IsSlotList rs → (page i end : ℕ) → IsAt rs page i → page ≤ end
+    → info_from ((slots_of rs).info page) (end - page) ≡ info_from (get_slot rs i).info (end - (get_slot rs i).start)
 on_info rs ok page i end at l =
-    let n : page - (get_run rs i).start + (end - page) ≡ end - (get_run rs i).start = omega (arith, at.from) in
+    let n : page - (get_slot rs i).start + (end - page) ≡ end - (get_slot rs i).start = omega (arith, at.from) in
     ap (λ o. info_from o (end - page)) (page_info rs ok page i at)
-    ∙ (info_from_twice (get_run rs i).info (page - (get_run rs i).start) (end - page) ∙ ap (info_from (get_run rs i).info) n)
+    ∙ (info_from_twice (get_slot rs i).info (page - (get_slot rs i).start) (end - page) ∙ ap (info_from (get_slot rs i).info) n)
 
-pub joint-CanJoin : (rs : List Run) → IsRuns rs → (page i : ℕ) → IsAt rs page i → IsJoint rs i → CanJoin (slots_of rs) page (get_run rs (i + 1)).start
+pub joint-CanJoin : (rs : List Slot) → IsSlotList rs → (page i : ℕ) → IsAt rs page i → IsJoint rs i → CanJoin (slots_of rs) page (get_slot rs (i + 1)).start
 joint-CanJoin rs ok page i at h =
     let within : i + 1 < length rs = omega (arith, h.next) in
     let rise = ok.rising (i + 1) (omega (arith, h.next)) in
     let most = start_most rs ok (i + 1 + 1) (omega (arith, h.next)) in
     let until = at.until within in
-    let next_at : IsAt rs (get_run rs (i + 1)).start (i + 1) = record { within = within; from = omega arith; until = λ _. rise } in
+    let next_at : IsAt rs (get_slot rs (i + 1)).start (i + 1) = record { within = within; from = omega arith; until = λ _. rise } in
     record {
       above = until;
       next = λ p a b. (is_slot rs ok i within).inside p (omega (arith, at.from)) b;
@@ -199,35 +199,35 @@ joint-CanJoin rs ok page i at h =
       below_limit = omega arith;
       free = owner_at rs ok page i at ∙ h.one.free;
       next_free = owner_at rs ok _ (i + 1) next_at ∙ h.one.next_free;
-      no_leaf = ap is_leaf (page_info rs ok page i at) ∙ (is_leaf-info_from (get_run rs i).info _ ∙ h.one.no_leaf);
+      no_leaf = ap is_leaf (page_info rs ok page i at) ∙ (is_leaf-info_from (get_slot rs i).info _ ∙ h.one.no_leaf);
       next_no_leaf = ap is_leaf (next_info rs ok (i + 1) (omega (arith, h.next))) ∙ h.one.next_no_leaf;
       goes_on = next_info rs ok (i + 1) (omega (arith, h.next)) ∙ (h.one.goes_on ∙ sym (on_info rs ok page i _ at (omega arith)));
     }
 
-pub CanJoin-joint : (rs : List Run) → IsRuns rs → (page i end : ℕ) → page < 2 ^ 35 → IsAt rs page i → CanJoin (slots_of rs) page end → IsJoint rs i
+pub CanJoin-joint : (rs : List Slot) → IsSlotList rs → (page i end : ℕ) → page < 2 ^ 35 → IsAt rs page i → CanJoin (slots_of rs) page end → IsJoint rs i
 CanJoin-joint rs ok page i end valid at h =
     let within = before_last rs ok page i at valid in
     let until = at.until within in
-    let by : (get_run rs (i + 1)).start ≤ end = slot_by_edge (slots_of rs) _ _ end (is_slot rs ok i within) h.edge (omega (arith, at.from, h.above)) in
-    let same : end ≡ (get_run rs (i + 1)).start = ⊎_elim
-    (λ (l : (get_run rs (i + 1)).start < end). absurd (two _ (h.next _ until l) (edge_at rs ok (i + 1) within)))
-    (λ (l : end ≤ (get_run rs (i + 1)).start). omega arith)
-    (cases_lt (get_run rs (i + 1)).start end) in
+    let by : (get_slot rs (i + 1)).start ≤ end = slot_by_edge (slots_of rs) _ _ end (is_slot rs ok i within) h.edge (omega (arith, at.from, h.above)) in
+    let same : end ≡ (get_slot rs (i + 1)).start = ⊎_elim
+    (λ (l : (get_slot rs (i + 1)).start < end). absurd (two _ (h.next _ until l) (edge_at rs ok (i + 1) within)))
+    (λ (l : end ≤ (get_slot rs (i + 1)).start). omega arith)
+    (cases_lt (get_slot rs (i + 1)).start end) in
     let more = before_limit rs ok (i + 1) within (omega (arith, h.below_limit)) in
     let rise = ok.rising (i + 1) more in
-    let next_at : IsAt rs (get_run rs (i + 1)).start (i + 1) = record { within = within; from = omega arith; until = λ _. rise } in
+    let next_at : IsAt rs (get_slot rs (i + 1)).start (i + 1) = record { within = within; from = omega arith; until = λ _. rise } in
     let info = next_info rs ok (i + 1) more in
     record {
       next = omega arith;
       one = record {
         free = sym (owner_at rs ok page i at) ∙ h.free;
         next_free = sym (owner_at rs ok _ (i + 1) next_at) ∙ (ap (slots_of rs).owner (sym same) ∙ h.next_free);
-        no_leaf = sym (is_leaf-info_from (get_run rs i).info _) ∙ (sym (ap is_leaf (page_info rs ok page i at)) ∙ h.no_leaf);
+        no_leaf = sym (is_leaf-info_from (get_slot rs i).info _) ∙ (sym (ap is_leaf (page_info rs ok page i at)) ∙ h.no_leaf);
         next_no_leaf = sym (ap is_leaf info) ∙ (ap (λ p. is_leaf ((slots_of rs).info p)) (sym same) ∙ h.next_no_leaf);
         goes_on = sym info
             ∙ (ap (slots_of rs).info (sym same)
             ∙ (h.goes_on ∙ (on_info rs ok page i end at (omega (arith, h.above))
-            ∙ ap (λ n. info_from (get_run rs i).info (n - (get_run rs i).start)) same)));
+            ∙ ap (λ n. info_from (get_slot rs i).info (n - (get_slot rs i).start)) same)));
       };
     }
   where

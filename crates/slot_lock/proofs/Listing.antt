@@ -5,11 +5,11 @@ use Rattle.std.proofs.lemmas.Bool.{cases_lt}
 use Rattle.vm_base.specs.declared.info.PageInfo.{PageInfo}
 use Rattle.vm_base.specs.Info.{frame_of, is_leaf}
 use Rattle.slot_lock.specs.declared.framed.Framed.{Framed}
-use Rattle.slot_lock.specs.declared.run.Run.{Run}
+use Rattle.slot_lock.specs.declared.slot.Slot.{Slot}
 use Rattle.vm_base.specs.Runs.{NoneIn}
 use Rattle.slot_lock.specs.Framed.{ListsFrames, AddsFrames, frames_in}
-use Rattle.slot_lock.specs.Runs.{IsRuns, IsAt, get_run}
-use Rattle.slot_lock.specs.RunSlots.{slots_of}
+use Rattle.slot_lock.specs.SlotList.{IsSlotList, IsAt, get_slot}
+use Rattle.slot_lock.specs.ListedSlots.{slots_of}
 use Rattle.slot_lock.proofs.Walks.{IsWalk, walk_first, walk_next, info_in, frame_of-from}
 
 -- ---- one list after another
@@ -82,7 +82,7 @@ pub adds_same : (frame other : ℕ → Option ℕ) (first end : ℕ) (xs ys : Li
     → AddsFrames frame first end xs ys → AddsFrames other first end xs ys
 adds_same frame other first end xs ys same h = (h.0, h.1, lists_same frame other first end h.0 same h.2)
 
--- ---- the runs of a range
+-- ---- the slots of a range
 
 pub framed_leaf : (o : Option PageInfo) (f : ℕ) → frame_of o ≡ Some f → is_leaf o ≡ true
 framed_leaf None f e = absurd cc
@@ -92,68 +92,68 @@ framed_leaf (Some info) f e = rw e refl
 abbrev pub reach : ℕ → ℕ → ℕ → ℕ
 reach first end p = min end (max first p)
 
--- the pages of the range with a frame up to the run at i were added
-pub record ListsTo (rs : List Run) (first end i : ℕ) (old new : List Framed) : Type 0 where
+-- the pages of the range with a frame up to the slot at i were added
+pub record ListsTo (rs : List Slot) (first end i : ℕ) (old new : List Framed) : Type 0 where
   pub walk : IsWalk rs first i
-  pub adds : AddsFrames (frames_in (slots_of rs)) first (reach first end (get_run rs i).start) old new
+  pub adds : AddsFrames (frames_in (slots_of rs)) first (reach first end (get_slot rs i).start) old new
 
-pub list_first : (rs : List Run) (first end i : ℕ) (old : List Framed) → first ≤ end → IsAt rs first i → ListsTo rs first end i old old
+pub list_first : (rs : List Slot) (first end i : ℕ) (old : List Framed) → first ≤ end → IsAt rs first i → ListsTo rs first end i old old
 list_first rs first end i old l at = record {
   walk = walk_first rs first i at;
   adds = adds_none _ _ _ old (λ p a b. absurd (omega (arith, a, b, at.from)));
 }
 
-pub list_none : (rs : List Run) → IsRuns rs → (first end i : ℕ) (old new : List Framed) → first ≤ end → ListsTo rs first end i old new
-    → i + 1 < length rs → frame_of (get_run rs i).info ≡ None → ListsTo rs first end (i + 1) old new
+pub list_none : (rs : List Slot) → IsSlotList rs → (first end i : ℕ) (old new : List Framed) → first ≤ end → ListsTo rs first end i old new
+    → i + 1 < length rs → frame_of (get_slot rs i).info ≡ None → ListsTo rs first end (i + 1) old new
 list_none rs ok first end i old new l h more none =
     let up = ok.rising i more in
     let after = h.walk.after more in
     record {
       walk = walk_next rs ok first i h.walk more;
-      adds = adds_then _ first (reach first end (get_run rs i).start) (reach first end (get_run rs (i + 1)).start) old new new
+      adds = adds_then _ first (reach first end (get_slot rs i).start) (reach first end (get_slot rs (i + 1)).start) old new new
           (omega arith) (omega arith) h.adds
           (adds_none _ _ _ new (λ p a b. ap frame_of (info_in rs ok i p more (omega arith) (omega arith))
-          ∙ (frame_of-from (get_run rs i).info (p - (get_run rs i).start) ∙ none)));
+          ∙ (frame_of-from (get_slot rs i).info (p - (get_slot rs i).start) ∙ none)));
     }
 
--- a run with a frame is one page of the range
-pub record IsOne (rs : List Run) (first end i f : ℕ) : Type 0 where
-  pub low : first ≤ (get_run rs i).start
-  pub reached : reach first end (get_run rs i).start ≡ (get_run rs i).start
-  pub next : (get_run rs (i + 1)).start ≡ (get_run rs i).start + 1
-  pub had : frames_in (slots_of rs) (get_run rs i).start ≡ Some f
+-- a slot with a frame is one page of the range
+pub record IsOne (rs : List Slot) (first end i f : ℕ) : Type 0 where
+  pub low : first ≤ (get_slot rs i).start
+  pub reached : reach first end (get_slot rs i).start ≡ (get_slot rs i).start
+  pub next : (get_slot rs (i + 1)).start ≡ (get_slot rs i).start + 1
+  pub had : frames_in (slots_of rs) (get_slot rs i).start ≡ Some f
 
-pub is_one : (rs : List Run) → IsRuns rs → (first end i f : ℕ) → IsWalk rs first i → i + 1 < length rs → (get_run rs i).start < end
-    → frame_of (get_run rs i).info ≡ Some f → IsOne rs first end i f
+pub is_one : (rs : List Slot) → IsSlotList rs → (first end i f : ℕ) → IsWalk rs first i → i + 1 < length rs → (get_slot rs i).start < end
+    → frame_of (get_slot rs i).info ≡ Some f → IsOne rs first end i f
 is_one rs ok first end i f walk more high had =
-    let next = ok.alone i more (framed_leaf (get_run rs i).info f had) in
+    let next = ok.alone i more (framed_leaf (get_slot rs i).info f had) in
     let after = walk.after more in
-    let low : first ≤ (get_run rs i).start = omega arith in
+    let low : first ≤ (get_slot rs i).start = omega arith in
     record {
       low = low;
       reached = omega arith;
       next = next;
-      had = ap frame_of (info_in rs ok i (get_run rs i).start more (omega arith) (omega arith)) ∙ (frame_of-from (get_run rs i).info _ ∙ had);
+      had = ap frame_of (info_in rs ok i (get_slot rs i).start more (omega arith) (omega arith)) ∙ (frame_of-from (get_slot rs i).info _ ∙ had);
     }
 
-pub list_one : (rs : List Run) → IsRuns rs → (first end i f : ℕ) (old new : List Framed) → ListsTo rs first end i old new
-    → i + 1 < length rs → (get_run rs i).start < end → IsOne rs first end i f
-    → ListsTo rs first end (i + 1) old (new ++ (record { page = (get_run rs i).start; frame = f }) ∷ [])
+pub list_one : (rs : List Slot) → IsSlotList rs → (first end i f : ℕ) (old new : List Framed) → ListsTo rs first end i old new
+    → i + 1 < length rs → (get_slot rs i).start < end → IsOne rs first end i f
+    → ListsTo rs first end (i + 1) old (new ++ (record { page = (get_slot rs i).start; frame = f }) ∷ [])
 list_one rs ok first end i f old new h more high one =
     let low = one.low in
     let next = one.next in
-    let to : (get_run rs i).start + 1 ≡ reach first end (get_run rs (i + 1)).start = omega arith in
+    let to : (get_slot rs i).start + 1 ≡ reach first end (get_slot rs (i + 1)).start = omega arith in
     record {
       walk = walk_next rs ok first i h.walk more;
-      adds = subst (λ n. AddsFrames (frames_in (slots_of rs)) first n old (new ++ (record { page = (get_run rs i).start; frame = f }) ∷ [])) to
-          (adds_then _ first (get_run rs i).start ((get_run rs i).start + 1) old new _ low (omega arith)
+      adds = subst (λ n. AddsFrames (frames_in (slots_of rs)) first n old (new ++ (record { page = (get_slot rs i).start; frame = f }) ∷ [])) to
+          (adds_then _ first (get_slot rs i).start ((get_slot rs i).start + 1) old new _ low (omega arith)
           (subst (λ n. AddsFrames (frames_in (slots_of rs)) first n old new) one.reached h.adds)
-          (adds_one _ (get_run rs i).start f new one.had));
+          (adds_one _ (get_slot rs i).start f new one.had));
     }
 
-pub list_all : (rs : List Run) (first end i : ℕ) (old new : List Framed) → first ≤ end → ListsTo rs first end i old new
-    → end ≤ (get_run rs i).start → AddsFrames (frames_in (slots_of rs)) first end old new
-list_all rs first end i old new l h past = let to : reach first end (get_run rs i).start ≡ end = omega arith in
+pub list_all : (rs : List Slot) (first end i : ℕ) (old new : List Framed) → first ≤ end → ListsTo rs first end i old new
+    → end ≤ (get_slot rs i).start → AddsFrames (frames_in (slots_of rs)) first end old new
+list_all rs first end i old new l h past = let to : reach first end (get_slot rs i).start ≡ end = omega arith in
     subst (λ n. AddsFrames (frames_in (slots_of rs)) first n old new) to h.adds
 
 -- ---- lists that were empty

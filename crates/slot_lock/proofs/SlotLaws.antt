@@ -5,7 +5,7 @@ use Rattle.std.proofs.lemmas.Bool.{cases_lt}
 use Rattle.vm_base.specs.Pages.{IsPage, IsPageRange}
 use Rattle.vm_base.specs.Info.{frame_of, info_from}
 use Rattle.slot_lock.specs.Slots.{Slots, IsSlot, IsSlotMap, IsHeld, NoFrames}
-use Rattle.slot_lock.specs.RunLaws.{info_from_zero, info_from_twice}
+use Rattle.slot_lock.specs.ListLaws.{info_from_zero, info_from_twice}
 use Rattle.slot_lock.proofs.Walks.{frame_of-from}
 
 -- pages among which no slot begins after the first have one owner

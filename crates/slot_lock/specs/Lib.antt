@@ -5,9 +5,9 @@ pub mod SlotRuns
 pub mod Framed
 pub mod Footprint
 pub mod Acquire
-pub mod Runs
-pub mod RunSlots
+pub mod SlotList
+pub mod ListedSlots
 pub mod Places
-pub mod RunLaws
+pub mod ListLaws
 pub mod Adding
 pub mod Edges

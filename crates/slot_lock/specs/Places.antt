@@ -1,4 +1,4 @@
--- Which run has a page
+-- Which slot has a page
 use Rattle.std.proofs.Common.{◌≡◌, ℕ, suc, zero, ◌+◌, ◌-◌, ◌^◌, ◌<◌, ◌≤◌, true, false, nat_le, List, []}
 use Rattle.std.proofs.Common.{◌∷◌, length, get_or, add-zero, refl, ◌∙◌, ap, arith}
 use Rattle.std.proofs.Common.{⊎_elim}
@@ -8,23 +8,23 @@ use Rattle.std.specs.List.{prefix_len}
 use Rattle.std.proofs.lemmas.List.Sums.{prefix_len-le-length, prefix_len_is, prefix_len_passes}
 use Rattle.std.proofs.lemmas.List.Sums.{prefix_len_stops}
 use Rattle.std.proofs.lemmas.Bool.Decides.{nat_tests}
-use Rattle.slot_lock.specs.declared.run.Run.{Run}
-use Rattle.slot_lock.specs.Runs.{nobody, get_run, begins_by, place_of, run_at, IsAt, IsRuns}
+use Rattle.slot_lock.specs.declared.slot.Slot.{Slot}
+use Rattle.slot_lock.specs.SlotList.{nobody, get_slot, begins_by, place_of, slot_at, IsAt, IsSlotList}
 
 -- starts rise
-pub starts_rise : (rs : List Run) → IsRuns rs → (i k : ℕ) → i + k < length rs
-    → (get_run rs i).start ≤ (get_run rs (i + k)).start
+pub starts_rise : (rs : List Slot) → IsSlotList rs → (i k : ℕ) → i + k < length rs
+    → (get_slot rs i).start ≤ (get_slot rs (i + k)).start
 starts_rise rs ok i zero h = rw add-zero (omega arith)
 starts_rise rs ok i (suc k) h =
-    let before : (get_run rs i).start ≤ (get_run rs (i + k)).start =
+    let before : (get_slot rs i).start ≤ (get_slot rs (i + k)).start =
     starts_rise rs ok i k (omega arith) in
-    let step : (get_run rs (i + k)).start < (get_run rs (i + k + 1)).start =
+    let step : (get_slot rs (i + k)).start < (get_slot rs (i + k + 1)).start =
     ok.rising (i + k) (omega arith) in
     let same : i + suc k ≡ i + k + 1 = omega arith in
     rw same (omega arith)
 
-pub starts_rise_to : (rs : List Run) → IsRuns rs → (i j : ℕ) → i ≤ j → j < length rs
-    → (get_run rs i).start ≤ (get_run rs j).start
+pub starts_rise_to : (rs : List Slot) → IsSlotList rs → (i j : ℕ) → i ≤ j → j < length rs
+    → (get_slot rs i).start ≤ (get_slot rs j).start
 starts_rise_to rs ok i j h l =
     let same : i + (j - i) ≡ j = omega arith in
     rw same at (starts_rise rs ok i (j - i) (omega arith))
@@ -41,73 +41,73 @@ passed p s h = grind (arith, nat_tests)
 stopped : (p s : ℕ) → nat_le s p ≡ false → p < s
 stopped p s h = grind (arith, nat_tests)
 
--- starts alone say which run has a page
-pub place_by_starts : (rs : List Run) (p i : ℕ) → i < length rs
-    → ((k : ℕ) → k ≤ i → (get_run rs k).start ≤ p)
-    → (i + 1 < length rs → p < (get_run rs (i + 1)).start) → place_of rs p ≡ i
+-- starts alone say which slot has a page
+pub place_by_starts : (rs : List Slot) (p i : ℕ) → i < length rs
+    → ((k : ℕ) → k ≤ i → (get_slot rs k).start ≤ p)
+    → (i + 1 < length rs → p < (get_slot rs (i + 1)).start) → place_of rs p ≡ i
 unfolding place_of
 place_by_starts rs p i h below above =
     let n : prefix_len (begins_by p) rs ≡ i + 1 =
     prefix_len_is (begins_by p) rs (i + 1) nobody (omega arith)
-    (λ k l. passes p (get_run rs k).start (below k (omega arith)))
-    (λ l. stops p (get_run rs (i + 1)).start (above l)) in
+    (λ k l. passes p (get_slot rs k).start (below k (omega arith)))
+    (λ l. stops p (get_slot rs (i + 1)).start (above l)) in
     omega arith
 
--- the run of a page is at its place
-pub place_is : (rs : List Run) → IsRuns rs → (p i : ℕ) → IsAt rs p i → place_of rs p ≡ i
+-- the slot of a page is at its place
+pub place_is : (rs : List Slot) → IsSlotList rs → (p i : ℕ) → IsAt rs p i → place_of rs p ≡ i
 place_is rs ok p i h = place_by_starts rs p i h.within
     (λ k l.
-    let a : (get_run rs k).start ≤ (get_run rs i).start = starts_rise_to rs ok k i l h.within in
+    let a : (get_slot rs k).start ≤ (get_slot rs i).start = starts_rise_to rs ok k i l h.within in
     omega (arith, h.from))
     h.until
 
-first_passes : (rs : List Run) → IsRuns rs → (p : ℕ) → 0 < prefix_len (begins_by p) rs
+first_passes : (rs : List Slot) → IsSlotList rs → (p : ℕ) → 0 < prefix_len (begins_by p) rs
 first_passes [] ok p = absurd (omega (arith, ok.some))
 first_passes (r ∷ rs) ok p =
     let first : r.start ≡ 0 = ok.zero_first in
     rw (passes p r.start (omega arith)) (omega arith)
 
-at_prefix : (rs : List Run) (p n : ℕ) → prefix_len (begins_by p) rs ≡ n → 0 < n → IsAt rs p (n - 1)
+at_prefix : (rs : List Slot) (p n : ℕ) → prefix_len (begins_by p) rs ≡ n → 0 < n → IsAt rs p (n - 1)
 at_prefix rs p n e some =
     let most : prefix_len (begins_by p) rs ≤ length rs = prefix_len-le-length (begins_by p) rs in
     record {
       within = omega arith;
-      from = passed p (get_run rs (n - 1)).start
+      from = passed p (get_slot rs (n - 1)).start
           (prefix_len_passes (begins_by p) rs (n - 1) nobody (omega arith));
       until = λ h.
           let same : n - 1 + 1 ≡ prefix_len (begins_by p) rs = omega arith in
-          rw same (stopped p (get_run rs (prefix_len (begins_by p) rs)).start
+          rw same (stopped p (get_slot rs (prefix_len (begins_by p) rs)).start
           (prefix_len_stops (begins_by p) rs nobody (omega arith)));
     }
 
-pub place_at : (rs : List Run) → IsRuns rs → (p : ℕ) → IsAt rs p (place_of rs p)
+pub place_at : (rs : List Slot) → IsSlotList rs → (p : ℕ) → IsAt rs p (place_of rs p)
 unfolding place_of
 place_at rs ok p = at_prefix rs p (prefix_len (begins_by p) rs) refl (first_passes rs ok p)
 
-pub run_at_place : (rs : List Run) (p : ℕ) → run_at rs p ≡ get_run rs (place_of rs p)
-unfolding run_at
-run_at_place rs p = refl
+pub slot_at_place : (rs : List Slot) (p : ℕ) → slot_at rs p ≡ get_slot rs (place_of rs p)
+unfolding slot_at
+slot_at_place rs p = refl
 
-pub run_at_is : (rs : List Run) → IsRuns rs → (p i : ℕ) → IsAt rs p i → run_at rs p ≡ get_run rs i
-run_at_is rs ok p i h = run_at_place rs p ∙ ap (get_run rs) (place_is rs ok p i h)
+pub slot_at_is : (rs : List Slot) → IsSlotList rs → (p i : ℕ) → IsAt rs p i → slot_at rs p ≡ get_slot rs i
+slot_at_is rs ok p i h = slot_at_place rs p ∙ ap (get_slot rs) (place_is rs ok p i h)
 
--- the run that has a page, as a place with what is known there
-pub record Found (rs : List Run) (p : ℕ) : Type 0 where
+-- the slot that has a page, as a place with what is known there
+pub record Found (rs : List Slot) (p : ℕ) : Type 0 where
   pub at : ℕ
   pub is : IsAt rs p at
-  pub run : run_at rs p ≡ get_run rs at
+  pub slot : slot_at rs p ≡ get_slot rs at
 
-pub found : (rs : List Run) → IsRuns rs → (p : ℕ) → Found rs p
-found rs ok p = record { at = place_of rs p; is = place_at rs ok p; run = run_at_place rs p }
+pub found : (rs : List Slot) → IsSlotList rs → (p : ℕ) → Found rs p
+found rs ok p = record { at = place_of rs p; is = place_at rs ok p; slot = slot_at_place rs p }
 
--- a valid page's run is neither the first nor the last
-pub after_first : (rs : List Run) → IsRuns rs → (p i : ℕ) → IsAt rs p i → 1 ≤ p → 1 ≤ i
+-- a valid page's slot is neither the first nor the last
+pub after_first : (rs : List Slot) → IsSlotList rs → (p i : ℕ) → IsAt rs p i → 1 ≤ p → 1 ≤ i
 after_first rs ok p zero h v =
-    let next : p < (get_run rs 1).start = h.until (omega (arith, ok.some)) in
+    let next : p < (get_slot rs 1).start = h.until (omega (arith, ok.some)) in
     absurd (omega (arith, ok.one_second))
 after_first rs ok p (suc i) h v = omega arith
 
-pub before_last : (rs : List Run) → IsRuns rs → (p i : ℕ) → IsAt rs p i → p < 2 ^ 35
+pub before_last : (rs : List Slot) → IsSlotList rs → (p i : ℕ) → IsAt rs p i → p < 2 ^ 35
     → i + 1 < length rs
 before_last rs ok p i h v = ⊎_elim (λ l. l) (λ l. last l) (cases_lt (i + 1) (length rs))
   where
@@ -117,11 +117,11 @@ before_last rs ok p i h v = ⊎_elim (λ l. l) (λ l. last l) (cases_lt (i + 1) 
         let limit = rw same at ok.limit_last in
         absurd (omega (arith, h.from, limit))
 
-pub start_most : (rs : List Run) → IsRuns rs → (i : ℕ) → i < length rs → (get_run rs i).start ≤ 2 ^ 35
+pub start_most : (rs : List Slot) → IsSlotList rs → (i : ℕ) → i < length rs → (get_slot rs i).start ≤ 2 ^ 35
 start_most rs ok i h = let l = starts_rise_to rs ok i (length rs - 1) (omega arith) (omega arith) in
     omega (arith, l, ok.limit_last)
 
 -- what an index reads
-pub read_run : (rs : List Run) (i : ℕ) (r : Run) → i < length rs → r ≡ get_or rs i r
-    → r ≡ get_run rs i
-read_run rs i r h e = e ∙ get_or_default rs i r nobody h
+pub read_slot : (rs : List Slot) (i : ℕ) (r : Slot) → i < length rs → r ≡ get_or rs i r
+    → r ≡ get_slot rs i
+read_slot rs i r h e = e ∙ get_or_default rs i r nobody h

@@ -1,13 +1,13 @@
-//! Slots that are added to a list of runs from left to right.
+//! Slots that are added to a list of slots from left to right.
 ghost use Rattle.std.specs.Prelude.{◌≡◌, ◌≢◌, ℕ, ◌+◌, ◌-◌, ◌^◌, ◌<◌, ◌≤◌, OnOk, OnErr, IsTrue, IfSome};
 ghost use Rattle.std.specs.Prelude.{IfNone, ◌↔◌, None, length};
 ghost use Rattle.std.specs.Vec.{vec_len, vec_capacity};
 ghost use Rattle.vm_base.specs.Info.{info_file_page};
-ghost use Rattle.slot_lock.specs.Runs.{IsRuns, IsInner, get_run};
-ghost use Rattle.slot_lock.specs.RunSlots.{slots_of};
+ghost use Rattle.slot_lock.specs.SlotList.{IsSlotList, IsInner, get_slot};
+ghost use Rattle.slot_lock.specs.ListedSlots.{slots_of};
 ghost use Rattle.slot_lock.specs.Adding.{IsRest, IsSoundSlot, CanAdd, with_edge, filled, with_slot};
 
-use crate::run::{self, Run};
+use crate::slot::{self, Slot};
 use std::alloc::Allocator;
 use vm_base::page::PAGE_LIMIT;
 use vm_base::{Back, CoreId, NoMemory, PageInfo, is_leaf};
@@ -39,12 +39,12 @@ fn is_sound(first: u64, end: u64, info: &Option<PageInfo>) -> bool
 }
 
 // Where the pages after the last slot begin, if nobody holds them and nothing is mapped there.
-fn rest_of(runs: &[Run]) -> Option<u64>
-    requires { IsRuns runs.now }
-    ensures some { IfSome result (IsRest (slots_of runs.now)) }
-    ensures none { IfNone result ((start : ℕ) → ¬ IsRest (slots_of runs.now) start) }
+fn rest_of(slots: &[Slot]) -> Option<u64>
+    requires { IsSlotList slots.now }
+    ensures some { IfSome result (IsRest (slots_of slots.now)) }
+    ensures none { IfNone result ((start : ℕ) → ¬ IsRest (slots_of slots.now) start) }
 {
-    let rest = runs[runs.len() - 2];
+    let rest = slots[slots.len() - 2];
     if rest.owner.is_some() {
         return None;
     }
@@ -55,11 +55,11 @@ fn rest_of(runs: &[Run]) -> Option<u64>
 }
 
 /// Tells whether a slot of these pages, whose first has this, follows on from the last one.
-pub fn can_add(runs: &[Run], first: u64, end: u64, info: &Option<PageInfo>) -> bool
-    requires { IsRuns runs.now }
-    ensures { IsTrue result ↔ CanAdd (slots_of runs.now) first end info.now }
+pub fn can_add(slots: &[Slot], first: u64, end: u64, info: &Option<PageInfo>) -> bool
+    requires { IsSlotList slots.now }
+    ensures { IsTrue result ↔ CanAdd (slots_of slots.now) first end info.now }
 {
-    let Some(rest) = rest_of(runs) else {
+    let Some(rest) = rest_of(slots) else {
         return false;
     };
     let is_next = first == rest;
@@ -67,66 +67,66 @@ pub fn can_add(runs: &[Run], first: u64, end: u64, info: &Option<PageInfo>) -> b
     (is_next || is_first) && is_sound(first, end, info)
 }
 
-// Begins a run at a page of the last one, in room that there is, and answers its place.
-fn begin<A: Allocator>(runs: &mut Vec<Run, A>, last: usize, first: u64) -> usize
-    requires runs { IsRuns runs.old.items }
-    requires last { last + 2 ≡ length runs.old.items }
-    requires low { (get_run runs.old.items last).start ≤ first }
+// Begins a slot at a page of the last one, in room that there is, and answers its place.
+fn begin<A: Allocator>(slots: &mut Vec<Slot, A>, last: usize, first: u64) -> usize
+    requires list { IsSlotList slots.old.items }
+    requires last { last + 2 ≡ length slots.old.items }
+    requires low { (get_slot slots.old.items last).start ≤ first }
     requires high { first < 2 ^ 35 }
-    requires room { vec_len runs.old < vec_capacity runs.old }
-    ensures runs { IsRuns runs.new.items }
-    ensures slots { slots_of runs.new.items ≡ with_edge (slots_of runs.old.items) first }
-    ensures place { result + 2 ≡ length runs.new.items }
-    ensures start { (get_run runs.new.items result).start ≡ first }
-    ensures len { vec_len runs.new ≤ vec_len runs.old + 1 }
-    ensures capacity { vec_capacity runs.old ≤ vec_capacity runs.new }
+    requires room { vec_len slots.old < vec_capacity slots.old }
+    ensures list { IsSlotList slots.new.items }
+    ensures slots { slots_of slots.new.items ≡ with_edge (slots_of slots.old.items) first }
+    ensures place { result + 2 ≡ length slots.new.items }
+    ensures start { (get_slot slots.new.items result).start ≡ first }
+    ensures len { vec_len slots.new ≤ vec_len slots.old + 1 }
+    ensures capacity { vec_capacity slots.old ≤ vec_capacity slots.new }
 {
-    if first <= runs[last].start {
+    if first <= slots[last].start {
         return last;
     }
-    if let Err(_) = run::cut(runs, last, first) {
+    if let Err(_) = slot::cut(slots, last, first) {
         unreachable!();
     }
     last + 1
 }
 
-// Ends the last run at a page, in room that there is.
-fn end_at<A: Allocator>(runs: &mut Vec<Run, A>, i: usize, end: u64)
-    requires runs { IsRuns runs.old.items }
-    requires place { i + 2 ≡ length runs.old.items }
-    requires above { (get_run runs.old.items i).start < end }
+// Ends the last slot at a page, in room that there is.
+fn end_at<A: Allocator>(slots: &mut Vec<Slot, A>, i: usize, end: u64)
+    requires list { IsSlotList slots.old.items }
+    requires place { i + 2 ≡ length slots.old.items }
+    requires above { (get_slot slots.old.items i).start < end }
     requires high { end ≤ 2 ^ 35 }
-    requires room { vec_len runs.old < vec_capacity runs.old }
-    ensures runs { IsRuns runs.new.items }
-    ensures slots { slots_of runs.new.items ≡ with_edge (slots_of runs.old.items) end }
-    ensures within { i + 1 < length runs.new.items }
-    ensures start { (get_run runs.new.items i).start ≡ (get_run runs.old.items i).start }
-    ensures end { (get_run runs.new.items (i + 1)).start ≡ end }
+    requires room { vec_len slots.old < vec_capacity slots.old }
+    ensures list { IsSlotList slots.new.items }
+    ensures slots { slots_of slots.new.items ≡ with_edge (slots_of slots.old.items) end }
+    ensures within { i + 1 < length slots.new.items }
+    ensures start { (get_slot slots.new.items i).start ≡ (get_slot slots.old.items i).start }
+    ensures end { (get_slot slots.new.items (i + 1)).start ≡ end }
 {
     if end < PAGE_LIMIT {
-        if let Err(_) = run::cut(runs, i, end) {
+        if let Err(_) = slot::cut(slots, i, end) {
             unreachable!();
         }
     }
 }
 
-// Gives the run at a place this owner and this content.
+// Gives the slot at a place this owner and this content.
 fn fill<A: Allocator>(
-    runs: &mut Vec<Run, A>,
+    slots: &mut Vec<Slot, A>,
     i: usize,
     owner: Option<CoreId>,
     info: &Option<PageInfo>,
 )
-    requires runs { IsRuns runs.old.items }
-    requires inner { IsInner runs.old.items i }
-    requires sound { IsSoundSlot (get_run runs.old.items i).start
-        (get_run runs.old.items (i + 1)).start info.now }
-    ensures runs { IsRuns runs.new.items }
-    ensures slots { slots_of runs.new.items ≡ filled (slots_of runs.old.items)
-        (get_run runs.old.items i).start (get_run runs.old.items (i + 1)).start owner info.now }
+    requires list { IsSlotList slots.old.items }
+    requires inner { IsInner slots.old.items i }
+    requires sound { IsSoundSlot (get_slot slots.old.items i).start
+        (get_slot slots.old.items (i + 1)).start info.now }
+    ensures list { IsSlotList slots.new.items }
+    ensures slots { slots_of slots.new.items ≡ filled (slots_of slots.old.items)
+        (get_slot slots.old.items i).start (get_slot slots.old.items (i + 1)).start owner info.now }
 {
-    let start = runs[i].start;
-    runs[i] = Run {
+    let start = slots[i].start;
+    slots[i] = Slot {
         start,
         owner,
         info: *info,
@@ -135,23 +135,23 @@ fn fill<A: Allocator>(
 
 /// Adds a slot that follows on. A refusal for memory changes nothing.
 pub fn add<A: Allocator>(
-    runs: &mut Vec<Run, A>,
+    slots: &mut Vec<Slot, A>,
     first: u64,
     end: u64,
     owner: Option<CoreId>,
     info: &Option<PageInfo>,
 ) -> Result<(), NoMemory>
-    requires runs { IsRuns runs.old.items }
-    requires can { CanAdd (slots_of runs.old.items) first end info.now }
-    ensures runs { IsRuns runs.new.items }
+    requires list { IsSlotList slots.old.items }
+    requires can { CanAdd (slots_of slots.old.items) first end info.now }
+    ensures list { IsSlotList slots.new.items }
     ensures ok { OnOk result
-        (slots_of runs.new.items ≡ with_slot (slots_of runs.old.items) first end owner info.now) }
-    ensures err { OnErr result (runs.new.items ≡ runs.old.items) }
+        (slots_of slots.new.items ≡ with_slot (slots_of slots.old.items) first end owner info.now) }
+    ensures err { OnErr result (slots.new.items ≡ slots.old.items) }
 {
-    runs.reserve(2)?;
-    let last = runs.len() - 2;
-    let i = begin(runs, last, first);
-    end_at(runs, i, end);
-    fill(runs, i, owner, info);
+    slots.reserve(2)?;
+    let last = slots.len() - 2;
+    let i = begin(slots, last, first);
+    end_at(slots, i, end);
+    fill(slots, i, owner, info);
     Ok(())
 }

@@ -8,8 +8,8 @@ pub mod framed;
 pub mod laws;
 pub mod lent;
 pub mod plan;
-pub mod run;
-pub mod run_list;
+pub mod slot;
+pub mod slot_list;
 pub mod slot_map;
 pub mod walk;
 
@@ -17,5 +17,5 @@ pub use acquire::Acquire;
 pub use footprint::Footprint;
 pub use framed::{Framed, FramedPages};
 pub use plan::{Change, Goal, Place, Plan, Target, Touch};
-pub use run_list::RunList;
+pub use slot_list::SlotList;
 pub use slot_map::{Fit, FreePage, Got, SlotMap, SlotRead, SlotRun};

@@ -1,34 +1,34 @@
-//! Walks over the runs of a range, from left to right.
+//! Walks over the slots of a range, from left to right.
 ghost use Rattle.std.specs.Prelude.{◌≡◌, ℕ, ◌+◌, ◌^◌, ◌<◌, ◌≤◌, ◌↔◌, IfSome, IfNone, true};
 ghost use Rattle.vm_base.specs.Cores.{members};
 ghost use Rattle.vm_base.specs.Info.{frame_of};
 ghost use Rattle.vm_base.specs.Pages.{IsPageRange};
-ghost use Rattle.slot_lock.specs.Runs.{IsRuns};
+ghost use Rattle.slot_lock.specs.SlotList.{IsSlotList};
 ghost use Rattle.arrayvec.specs.ArrayVec.{array_vec_len};
 ghost use Rattle.slot_lock.specs.Framed.{AddsFrames, frames_in};
 ghost use Rattle.slot_lock.specs.Slots.{IsFreeRun, IsUser};
-ghost use Rattle.slot_lock.specs.RunSlots.{slots_of};
+ghost use Rattle.slot_lock.specs.ListedSlots.{slots_of};
 
 use crate::framed::{Framed, FramedPages};
-use crate::run::{Run, place};
+use crate::slot::{Slot, place};
 use vm_base::info::recorded_cores;
 use vm_base::{CoreSet, PageInfo, PageRange};
 
 /// The least start of `n` unmapped pages in the range, if there is one.
-pub fn first_free_run(runs: &[Run], range: PageRange, n: u64) -> Option<u64>
+pub fn first_free_run(slots: &[Slot], range: PageRange, n: u64) -> Option<u64>
     requires some { 1 ≤ n }
-    requires runs { IsRuns runs.now }
+    requires list { IsSlotList slots.now }
     requires range { IsPageRange range }
-    ensures found { IfSome result (IsFreeRun (slots_of runs.now) range n) }
-    ensures least { IfSome result (λ s. (r : ℕ) → r < s → ¬ IsFreeRun (slots_of runs.now) range n r) }
-    ensures none { IfNone result ((r : ℕ) → ¬ IsFreeRun (slots_of runs.now) range n r) }
+    ensures found { IfSome result (IsFreeRun (slots_of slots.now) range n) }
+    ensures least { IfSome result (λ s. (r : ℕ) → r < s → ¬ IsFreeRun (slots_of slots.now) range n r) }
+    ensures none { IfNone result ((r : ℕ) → ¬ IsFreeRun (slots_of slots.now) range n r) }
 {
-    let mut i = place(runs, range.first);
-    // the pages from here up to the run at i are unmapped, and too few
+    let mut i = place(slots, range.first);
+    // the pages from here up to the slot at i are unmapped, and too few
     let mut start = range.first;
-    'runs: while runs[i].start < range.end {
-        let next = runs[i + 1].start;
-        if runs[i].info.is_some() {
+    'slots: while slots[i].start < range.end {
+        let next = slots[i + 1].start;
+        if slots[i].info.is_some() {
             start = next;
         } else if n <= next.min(range.end) - start {
             return Some(start);
@@ -39,15 +39,15 @@ pub fn first_free_run(runs: &[Run], range: PageRange, n: u64) -> Option<u64>
 }
 
 /// The cores that are recorded on some page of the range.
-pub fn recorded(runs: &[Run], range: PageRange) -> CoreSet
-    requires runs { IsRuns runs.now }
+pub fn recorded(slots: &[Slot], range: PageRange) -> CoreSet
+    requires list { IsSlotList slots.now }
     requires range { IsPageRange range }
-    ensures { (core : ℕ) → (members result core ≡ true) ↔ IsUser (slots_of runs.now) range core }
+    ensures { (core : ℕ) → (members result core ≡ true) ↔ IsUser (slots_of slots.now) range core }
 {
-    let mut i = place(runs, range.first);
+    let mut i = place(slots, range.first);
     let mut cores = CoreSet::empty();
-    'runs: while runs[i].start < range.end {
-        cores = cores.union(recorded_cores(&runs[i].info));
+    'slots: while slots[i].start < range.end {
+        cores = cores.union(recorded_cores(&slots[i].info));
         i += 1;
     }
     cores
@@ -65,20 +65,20 @@ fn frame_of(info: Option<PageInfo>) -> Option<u32>
 
 /// Adds the pages from `from` up to `end` that have a frame, and their frames, to the list, in
 /// order of pages, until it is full. Answers the page up to which none is left out.
-pub fn list_frames(runs: &[Run], from: u64, end: u64, list: &mut FramedPages) -> u64
-    requires runs { IsRuns runs.now }
+pub fn list_frames(slots: &[Slot], from: u64, end: u64, list: &mut FramedPages) -> u64
+    requires list { IsSlotList slots.now }
     requires ordered { from ≤ end }
     requires end { end ≤ 2 ^ 35 }
     ensures low { from ≤ result }
     ensures high { result ≤ end }
-    ensures added { AddsFrames (frames_in (slots_of runs.now)) from result
+    ensures added { AddsFrames (frames_in (slots_of slots.now)) from result
         list.old.items list.new.items }
     ensures full { result < end → array_vec_len list.new ≡ 32 }
 {
-    let mut i = place(runs, from);
-    'runs: while runs[i].start < end {
-        if let Some(frame) = frame_of(runs[i].info) {
-            let page = runs[i].start;
+    let mut i = place(slots, from);
+    'slots: while slots[i].start < end {
+        if let Some(frame) = frame_of(slots[i].info) {
+            let page = slots[i].start;
             if list.is_full() {
                 return page;
             }

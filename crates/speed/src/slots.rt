@@ -4,7 +4,7 @@ ghost use Rattle.vm_base.specs.Pages.{IsPage};
 ghost use Rattle.speed.specs.Free.{IsFree, IsHeldAlone};
 
 use crate::since::since;
-use slot_lock::{Got, RunList, SlotMap, SlotRead};
+use slot_lock::{Got, SlotList, SlotMap, SlotRead};
 use std::alloc::Global;
 use std::io;
 use std::rt::Clock;
@@ -111,11 +111,11 @@ pub fn fill<M: SlotMap>(map: &mut M, core: CoreId, pages: u64)
 }
 
 /// A map of so many mapped pages, each a slot of its own, as each page between two of them is.
-pub fn filled(alloc: Global, core: CoreId, pages: u64) -> Result<RunList<Global>, NoMemory>
+pub fn filled(alloc: Global, core: CoreId, pages: u64) -> Result<SlotList<Global>, NoMemory>
     requires { pages ≤ 2 ^ 20 }
-    ensures { IfOk result (λ map. IsFree (⟦<RunList<Global> as SlotRead>⟧.slots map)) }
+    ensures { IfOk result (λ map. IsFree (⟦<SlotList<Global> as SlotRead>⟧.slots map)) }
 {
-    let mut map = RunList::new(alloc)?;
+    let mut map = SlotList::new(alloc)?;
     fill(&mut map, core, pages);
     Ok(map)
 }

@@ -11,7 +11,7 @@ ghost use Rattle.live_tree.specs.Held.{CrossesNoEdge};
 
 use crate::held::{Guards, Held};
 use crate::tree::SharedTree;
-use live_levels::level::{Fit, Stepper};
+use live_levels::level::{SlotCut, Stepper};
 use live_levels::parts::SLOTS;
 use live_levels::slot::SlotState;
 use std::alloc::Allocator;
@@ -72,10 +72,10 @@ impl<'a, A: Allocator + Clone> Held<'a, A> {
         let first = slot.first();
         let end = first + slot.count();
         match tree.cut(stepper, core, slot) {
-            Fit::Cut(_) => {}
-            Fit::Unseen(_) => return Cutting::Unseen,
-            Fit::NoMemory => return Cutting::NoMemory,
-            Fit::Lost => return Cutting::Lost,
+            SlotCut::Cut(_) => {}
+            SlotCut::Unseen(_) => return Cutting::Unseen,
+            SlotCut::NoMemory => return Cutting::NoMemory,
+            SlotCut::Lost => return Cutting::Lost,
         }
         let len = self.guards.len();
         if !lock_parts(rt, tree, &mut self.guards, core, first, end) {

@@ -1,5 +1,5 @@
 use Rattle.std.proofs.Common.{Some, sym, ◌∙◌, ap}
-use Rattle.slot_lock.specs.RunLaws.{from_test}
+use Rattle.slot_lock.specs.ListLaws.{from_test}
 use Rattle.slot_lock.proofs.SlotLaws.{slot-IsHeld}
 use Rattle.map_tests.proofs.slot_calls.is_held.Goals as goal
 

@@ -5,7 +5,7 @@ use Rattle.vm_base.specs.Pages.{IsPage}
 use Rattle.vm_base.proofs.Functions.{has_in, in_has}
 use Rattle.slot_lock.specs.declared.plan.Goal.TheVariants as To
 use Rattle.slot_lock.specs.Plan.{range_of}
-use Rattle.slot_lock.specs.RunLaws.{slots_of-is_slot_map}
+use Rattle.slot_lock.specs.ListLaws.{slots_of-is_slot_map}
 use Rattle.vm_calls.proofs.Readable.{goal-valid}
 use Rattle.request_tests.proofs.vm_calls_tests.decided_lent.Goals as goal
 

@@ -1,5 +1,5 @@
 use Rattle.std.proofs.Common.{Some, sym, ◌∙◌, ap}
-use Rattle.slot_lock.specs.RunLaws.{slots_of-is_slot_map, from_test}
+use Rattle.slot_lock.specs.ListLaws.{slots_of-is_slot_map, from_test}
 use Rattle.slot_lock.proofs.SlotLaws.{slot-IsHeld}
 use Rattle.request_tests.proofs.vm_calls_tests.holds.Goals as goal
 

@@ -4,5 +4,5 @@ use Rattle.slot_lock.proofs.lent.add.Goals as goal
 
 pub begin-i-requires-clause-low : goal.begin-i-requires-clause-low
 begin-i-requires-clause-low g c =
-    let last : c.len-last.result - 2 + 2 ≡ length c.args.runs.now.items = search rules in
-    rw c.reserve.ensures.items (first_in_rest _ c.requires.runs _ _ _ _ last c.requires.can)
+    let last : c.len-last.result - 2 + 2 ≡ length c.args.slots.now.items = search rules in
+    rw c.reserve.ensures.items (first_in_rest _ c.requires.list _ _ _ _ last c.requires.can)

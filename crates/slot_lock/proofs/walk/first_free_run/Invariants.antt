@@ -2,8 +2,8 @@ use Rattle.std.proofs.Common.{length, ◌-◌}
 use Rattle.slot_lock.proofs.Walks.{Free}
 use Rattle.slot_lock.proofs.walk.first_free_run.Given as goal
 
-abbrev pub invariant-runs : goal.invariant-runs
-invariant-runs l = Free l.runs l.range l.n l.start l.i
+abbrev pub invariant-slots : goal.invariant-slots
+invariant-slots l = Free l.slots l.range l.n l.start l.i
 
-abbrev pub decreases-runs : goal.decreases-runs
-decreases-runs l = length l.runs - l.i
+abbrev pub decreases-slots : goal.decreases-slots
+decreases-slots l = length l.slots - l.i

@@ -2,8 +2,8 @@ use Rattle.std.proofs.Common.{length, ◌-◌}
 use Rattle.slot_lock.proofs.Walks.{Users}
 use Rattle.slot_lock.proofs.walk.recorded.Given as goal
 
-abbrev pub invariant-runs : goal.invariant-runs
-invariant-runs l = Users l.runs l.range l.cores l.i
+abbrev pub invariant-slots : goal.invariant-slots
+invariant-slots l = Users l.slots l.range l.cores l.i
 
-abbrev pub decreases-runs : goal.decreases-runs
-decreases-runs l = length l.runs - l.i
+abbrev pub decreases-slots : goal.decreases-slots
+decreases-slots l = length l.slots - l.i

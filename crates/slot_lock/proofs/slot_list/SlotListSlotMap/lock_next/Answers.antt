@@ -1,0 +1,101 @@
+use Rattle.std.proofs.Common.{◌≡◌, inl, ◌<◌, ◌+◌, ◌^◌, Some, sym, ◌∙◌, ap, refl, arith}
+use Rattle.slot_lock.specs.declared.slot.Slot.{Slot}
+use Rattle.slot_lock.specs.SlotList.{get_slot}
+use Rattle.slot_lock.specs.Places.{read_slot, before_last, start_most}
+use Rattle.slot_lock.specs.ListedSlots.{two_parts}
+use Rattle.slot_lock.specs.Slots.{between}
+use Rattle.slot_lock.proofs.Divisions.{splits, at_first, at_end}
+use Rattle.slot_lock.proofs.Steps.{read_at, edge_of, no_edge, locks, crosses_end, crosses_start, on_err_both}
+use Rattle.slot_lock.proofs.slot_list.SlotListSlotMap.lock_next.Goals as goal
+
+pub returns-in-Some-clause-step : goal.returns-in-Some-clause-step
+returns-in-Some-clause-step g c =
+    let at = rw c.deref.ensures.value at c.place-i.ensures in
+    let owner = sym
+    (ap (λ (r : Slot). r.owner)
+    (read_at c.args.self.now.slots.items c.args.self.now.ok c.args.cursor c.place-i.result c.index-slot.result.now at
+    c.index-slot.ensures)) ∙ c.in-Some.is in
+    (λ same. c.requires.not_held (owner ∙ ap Some same), owner, refl)
+
+pub returns-then-end-slot_end-clause-step : goal.returns-then-end-slot_end-clause-step
+returns-then-end-slot_end-clause-step g c =
+    let at = rw c.deref.ensures.value at c.place-i.ensures in
+    let below : c.args.cursor < 2 ^ 35 = omega (arith, c.requires.ordered, c.requires.valid.1) in
+    let last = before_last _ c.args.self.now.ok _ _ at below in
+    let slot = read_slot c.args.self.now.slots.items c.place-i.result c.index-slot.result.now at.within c.index-slot.ensures in
+    let next = read_slot c.args.self.now.slots.items (c.place-i.result + 1) c.index.result.now last c.index.ensures in
+    let begins : (get_slot c.args.self.now.slots.items c.place-i.result).start ≡ c.args.cursor = omega (arith, at.from, rw slot at c.if-slot-cursor.false) in
+    let free = rw slot at c.in_default.is in
+    let above = start_most _ c.args.self.now.ok _ last in
+    let past = rw next at c.if-end-slot_end.true in
+    splits two_parts _ _ c.args.cursor c.args.end c.args.end c.requires.ordered
+    (sym (ap (λ (r : Slot). r.owner)
+    (read_at c.args.self.now.slots.items c.args.self.now.ok c.args.cursor c.place-i.result c.index-slot.result.now at
+    c.index-slot.ensures)) ∙ c.in_default.is)
+    (crosses_end _ c.args.self.now.ok c.place-i.result c.args.cursor c.args.end last begins past)
+    (omega (arith, c.requires.ordered), omega arith)
+    (rw free at c.in_ok-cut-2.ensures.ok)
+    (at_end two_parts _ _ (between c.args.cursor c.args.end) (edge_of _ c.args.self.now.ok _ _ at (omega arith)) c.in_ok-cut-2.ensures.exact)
+
+pub returns-then-end-slot_end-clause-exact : goal.returns-then-end-slot_end-clause-exact
+returns-then-end-slot_end-clause-exact g c =
+    let at = rw c.deref.ensures.value at c.place-i.ensures in
+    let slot = read_slot c.args.self.now.slots.items c.place-i.result c.index-slot.result.now at.within c.index-slot.ensures in
+    at_end two_parts _ _ (between c.args.cursor c.args.end) (edge_of _ c.args.self.now.ok _ _ at (rw slot at c.if-slot-cursor.false)) c.in_ok-cut-2.ensures.exact
+
+pub returns-then-slot-cursor-clause-step : goal.returns-then-slot-cursor-clause-step
+returns-then-slot-cursor-clause-step g c =
+    let at = rw c.deref.ensures.value at c.place-i.ensures in
+    let slot = read_slot c.args.self.now.slots.items c.place-i.result c.index-slot.result.now at.within c.index-slot.ensures in
+    let crossed = no_edge _ c.args.self.now.ok _ _ at (rw slot at c.if-slot-cursor.true) in
+    splits two_parts _ _ c.args.cursor c.args.end c.args.cursor c.requires.ordered
+    (sym (ap (λ (r : Slot). r.owner)
+    (read_at c.args.self.now.slots.items c.args.self.now.ok c.args.cursor c.place-i.result c.index-slot.result.now at
+    c.index-slot.ensures)) ∙ c.in_default.is)
+    (inl crossed)
+    (c.requires.valid.0, omega (arith, c.requires.ordered, c.requires.valid.1))
+    (rw (rw slot at c.in_default.is) at c.in_ok-cut.ensures.ok)
+    (at_first two_parts _ _ (between c.args.cursor c.args.end) crossed c.in_ok-cut.ensures.exact)
+
+pub returns-then-slot-cursor-clause-exact : goal.returns-then-slot-cursor-clause-exact
+returns-then-slot-cursor-clause-exact g c =
+    let at = rw c.deref.ensures.value at c.place-i.ensures in
+    let slot = read_slot c.args.self.now.slots.items c.place-i.result c.index-slot.result.now at.within c.index-slot.ensures in
+    at_first two_parts _ _ (between c.args.cursor c.args.end) (no_edge _ c.args.self.now.ok _ _ at (rw slot at c.if-slot-cursor.true)) c.in_ok-cut.ensures.exact
+
+pub returns-clause-step : goal.returns-clause-step
+returns-clause-step g c =
+    let at = rw c.deref.ensures.value at c.place-i.ensures in
+    let below : c.args.cursor < 2 ^ 35 = omega (arith, c.requires.ordered, c.requires.valid.1) in
+    let last = before_last _ c.args.self.now.ok _ _ at below in
+    let slot = read_slot c.args.self.now.slots.items c.place-i.result c.index-slot.result.now at.within c.index-slot.ensures in
+    let next = read_slot c.args.self.now.slots.items (c.place-i.result + 1) c.index.result.now last c.index.ensures in
+    let begins : (get_slot c.args.self.now.slots.items c.place-i.result).start ≡ c.args.cursor = omega (arith, at.from, rw slot at c.if-slot-cursor.false) in
+    let free = rw slot at c.in_default.is in
+    rw next (locks _ _ c.args.self.now.ok c.place-i.result c.args.core c.args.cursor c.args.end last begins free
+    (rw next at c.if-end-slot_end.false) c.set_owner.ensures.slots)
+
+pub returns-in_err-cut-clause-err_only : goal.returns-in_err-cut-clause-err_only
+returns-in_err-cut-clause-err_only g c =
+    let at = rw c.deref.ensures.value at c.place-i.ensures in
+    let slot = read_slot c.args.self.now.slots.items c.place-i.result c.index-slot.result.now at.within c.index-slot.ensures in
+    on_err_both _
+    (sym (ap (λ (r : Slot). r.owner)
+    (read_at c.args.self.now.slots.items c.args.self.now.ok c.args.cursor c.place-i.result c.index-slot.result.now at
+    c.index-slot.ensures)) ∙ c.in_default.is) (crosses_start _ c.args.self.now.ok c.place-i.result c.args.cursor c.args.end at
+    (rw slot at c.if-slot-cursor.true))
+
+pub returns-in_err-cut-2-clause-err_only : goal.returns-in_err-cut-2-clause-err_only
+returns-in_err-cut-2-clause-err_only g c =
+    let at = rw c.deref.ensures.value at c.place-i.ensures in
+    let below : c.args.cursor < 2 ^ 35 = omega (arith, c.requires.ordered, c.requires.valid.1) in
+    let last = before_last _ c.args.self.now.ok _ _ at below in
+    let slot = read_slot c.args.self.now.slots.items c.place-i.result c.index-slot.result.now at.within c.index-slot.ensures in
+    let next = read_slot c.args.self.now.slots.items (c.place-i.result + 1) c.index.result.now last c.index.ensures in
+    let begins : (get_slot c.args.self.now.slots.items c.place-i.result).start ≡ c.args.cursor = omega (arith, at.from, rw slot at c.if-slot-cursor.false) in
+    let past = rw next at c.if-end-slot_end.true in
+    on_err_both _
+    (sym (ap (λ (r : Slot). r.owner)
+    (read_at c.args.self.now.slots.items c.args.self.now.ok c.args.cursor c.place-i.result c.index-slot.result.now at
+    c.index-slot.ensures)) ∙ c.in_default.is)
+    (crosses_end _ c.args.self.now.ok c.place-i.result c.args.cursor c.args.end last begins past)
