@@ -3,7 +3,7 @@ ghost use Rattle.std.specs.Prelude.{◌≡◌, ◌+◌, ◌<◌, ◌≤◌, ◌^
 
 use live_levels::act::Act;
 use live_levels::close::SlotHistory;
-use live_levels::level::{Fit, Next, Stepper};
+use live_levels::level::{Next, SlotCut, Stepper};
 use live_tree::held::cut::Cutting;
 use live_tree::held::{Got, Held};
 use live_tree::tree::SharedTree;
@@ -242,8 +242,8 @@ fn is_cut<R: Wait>(rt: &R, tree: &SharedTree<Global>, core: CoreId, first: u64, 
         Next::Split | Next::Unseen | Next::NoMemory | Next::Lost => return false,
     };
     match tree.cut(&mut counter, core, &slot) {
-        Fit::Cut(_) => true,
-        Fit::Unseen(_) | Fit::NoMemory | Fit::Lost => false,
+        SlotCut::Cut(_) => true,
+        SlotCut::Unseen(_) | SlotCut::NoMemory | SlotCut::Lost => false,
     }
 }
 
