@@ -8,14 +8,17 @@ use Rattle.std.specs.Prelude.{option_and_then, option_map, IfSome, is_some, ◌&
 use Rattle.trace_text.specs.Words.{Word, words_of}
 use Rattle.trace_text.specs.Number.{digit_of, value_from, below_word, number_of}
 use Rattle.trace_text.specs.Request.{◌>>=◌, ended, front_byte, front_number, load_of, store_of, fetch_of, mmap_of, munmap_of, mprotect_of, request_of}
-use Rattle.trace_text.specs.Front.{BeginsNow, EndsValue}
-use Rattle.trace_text.specs.Line.{are_printable, is_comment, line_of, line_of_words, now_of}
-use Rattle.trace_text.specs.declared.line.Line.TheVariants.{Now}
+use Rattle.trace_text.specs.Front.{BeginsCore, BeginsNow, EndsValue}
+use Rattle.trace_text.specs.Line.{act_of, are_printable, is_comment, line_of, line_of_words, now_of, task_of}
+use Rattle.trace_text.specs.declared.line.Line.TheVariants.{Act, Now}
 use Rattle.trace_text.proofs.CoreLemmas.{one}
-use Rattle.trace_text.proofs.LineLemmas.{now_read}
+use Rattle.trace_text.proofs.LineLemmas.{acts, now_read}
 use Rattle.trace_text.proofs.PrintableLemmas.{line_printable}
 use Rattle.trace_text.proofs.Choices.{chosen}
 use Rattle.trace_text.proofs.WordLemmas.{words-front}
+use Rattle.trace_text.specs.Action.{action_of, evict_of, walk_of}
+use Rattle.trace_text.specs.declared.action.Action.{Action}
+use Rattle.trace_text.specs.declared.action.Action.TheVariants.{Flush, Review}
 use Rattle.vm_base.specs.declared.requests.Request.{Request}
 use Rattle.vm_base.specs.declared.requests.Request.TheVariants.{Load, Store}
 
@@ -248,3 +251,36 @@ pub now_printable : (bytes words : List ℕ) (core : ℕ) (request : Request) �
     → are_printable bytes ≡ true
 now_printable bytes words core request begins e =
     line_printable bytes (Some (Now core request)) (ap is_comment begins.is) refl (now_said bytes words core request begins e)
+
+-- ---- an action that is known by the bytes that it begins with
+
+-- a core of one digit that is told it
+core_words : (x : ℕ) (args : List ℕ) → eqb x 32 ≡ false → words_of (99 ∷ x ∷ 32 ∷ args) ≡ (99 ∷ x ∷ []) ∷ words_of args
+core_words x args e = rw e refl
+
+pub told_some : (bytes args : List ℕ) (core : ℕ) (action : Action) → BeginsCore bytes core args → Some (Act core action) ≡ task_of core (words_of args)
+    → Some (Act core action) ≡ line_of_words (words_of bytes)
+told_some bytes args core action begins e =
+    let letter : eqb (48 + core) 32 ≡ false = (let low = begins.low in grind (arith, nat_tests)) in
+    e ∙ sym (ap (λ b. line_of_words (words_of b)) begins.is ∙ ap line_of_words (core_words (48 + core) args letter)
+    ∙ acts (99 ∷ (48 + core) ∷ []) core (words_of args) (one core begins.low))
+
+pub walk_told : (bytes args : List ℕ) (o : Option Action) → bytes ≡ codes "walk " ++ args → o ≡ walk_of (words_of args)
+    → IfSome o (λ action. (core : ℕ) → Some (Act core action) ≡ task_of core (words_of bytes))
+unfolding task_of act_of action_of
+walk_told bytes args None is e = tt
+walk_told bytes args (Some action) is e = λ core. ap (λ o. o >>= λ a. Some (Act core a)) e ∙ ap (λ b. task_of core (words_of b)) (sym is)
+
+pub evict_told : (bytes args : List ℕ) (o : Option Action) → bytes ≡ codes "evict " ++ args → o ≡ evict_of (words_of args)
+    → IfSome o (λ action. (core : ℕ) → Some (Act core action) ≡ task_of core (words_of bytes))
+unfolding task_of act_of action_of
+evict_told bytes args None is e = tt
+evict_told bytes args (Some action) is e = λ core. ap (λ o. o >>= λ a. Some (Act core a)) e ∙ ap (λ b. task_of core (words_of b)) (sym is)
+
+pub flush_told : (bytes : List ℕ) (core : ℕ) → bytes ≡ codes "flush" → Some (Act core Flush) ≡ task_of core (words_of bytes)
+unfolding task_of act_of action_of
+flush_told bytes core is = ap (λ b. task_of core (words_of b)) (sym is)
+
+pub review_told : (bytes : List ℕ) (core : ℕ) → bytes ≡ codes "review" → Some (Act core Review) ≡ task_of core (words_of bytes)
+unfolding task_of act_of action_of
+review_told bytes core is = ap (λ b. task_of core (words_of b)) (sym is)

@@ -56,7 +56,7 @@ no_bang : (d : ℕ) → 48 ≤ d → eqb d 33 ≡ false
 no_bang d h = grind (arith, nat_tests)
 
 -- a line whose first word names a core says what the core is told
-acts : (w : Word) (core : ℕ) (rest : List Word) → core_of w ≡ Some core → line_of_words (w ∷ rest) ≡ task_of core rest
+pub acts : (w : Word) (core : ℕ) (rest : List Word) → core_of w ≡ Some core → line_of_words (w ∷ rest) ≡ task_of core rest
 unfolding line_of_words event_of
 acts w core rest k = elim (core_shape w core k) [
   | inl (d, e, h) ↦ subst (λ v. line_of_words (v ∷ rest) ≡ task_of core rest) (sym e)

@@ -22,6 +22,11 @@ pub record BeginsNow (bytes : List ℕ) (core : ℕ) (args : List ℕ) : Type 0 
   pub low : core < 10
   pub is : bytes ≡ codes "c" ++ (byte (codes "0") + core) ∷ codes "! " ++ args
 
+-- the bytes begin with the name of a core of one digit that is told one thing
+pub record BeginsCore (bytes : List ℕ) (core : ℕ) (args : List ℕ) : Type 0 where
+  pub low : core < 10
+  pub is : bytes ≡ codes "c" ++ (byte (codes "0") + core) ∷ codes " " ++ args
+
 -- the request for such an access
 abbrev pub access_asked : AskedAccess → Request
 access_asked access = if access.is_store then Store access.addr access.byte else Load access.addr

@@ -1,6 +1,8 @@
 //! What a core is to do, as words: `call REQ`, `go`, `frame F`, `walk ADDR` and the like.
-ghost use Rattle.std.specs.Prelude.{◌≡◌};
+ghost use Rattle.std.specs.Prelude.{◌≡◌, ◌++◌, ℕ, IfSome, Some, codes, true};
 ghost use Rattle.trace_text.specs.Words.{words_of};
+ghost use Rattle.trace_text.specs.Line.{task_of};
+ghost use Rattle.trace_text.specs.declared.line.Line.TheVariants.{Act};
 ghost use Rattle.trace_text.specs.Action.{action_of, bare_of, call_of, evict_of, frame_of, guess_of};
 ghost use Rattle.trace_text.specs.Action.{number_alone, page_alone, walk_of};
 
@@ -116,6 +118,70 @@ fn read_single_word(name: &[u8]) -> Option<Action>
     } else {
         None
     }
+}
+
+// What stands behind `walk` and a space.
+#[inline(always)]
+fn behind_walk(bytes: &[u8]) -> Option<&[u8]>
+    ensures { IfSome result (λ args. bytes.now ≡ codes "walk " ++ args.now) }
+{
+    match bytes {
+        [b'w', b'a', b'l', b'k', b' ', args @ ..] => Some(args),
+        _ => None,
+    }
+}
+
+// What stands behind `evict` and a space.
+#[inline(always)]
+fn behind_evict(bytes: &[u8]) -> Option<&[u8]>
+    ensures { IfSome result (λ args. bytes.now ≡ codes "evict " ++ args.now) }
+{
+    match bytes {
+        [b'e', b'v', b'i', b'c', b't', b' ', args @ ..] => Some(args),
+        _ => None,
+    }
+}
+
+// Tells whether these bytes are `flush`.
+#[inline(always)]
+fn is_flush(bytes: &[u8]) -> bool
+    ensures { result ≡ true → bytes.now ≡ codes "flush" }
+{
+    match bytes {
+        [b'f', b'l', b'u', b's', b'h'] => true,
+        _ => false,
+    }
+}
+
+// Tells whether these bytes are `review`.
+#[inline(always)]
+fn is_review(bytes: &[u8]) -> bool
+    ensures { result ≡ true → bytes.now ≡ codes "review" }
+{
+    match bytes {
+        [b'r', b'e', b'v', b'i', b'e', b'w'] => true,
+        _ => false,
+    }
+}
+
+/// The action of these bytes, where it is one of the commonest and they begin with its name; `None` where
+/// they don't, or say no such action.
+pub(crate) fn front_action(bytes: &[u8]) -> Option<Action>
+    ensures { IfSome result (λ action. (core : ℕ) → Some (Act core action) ≡ task_of core (words_of bytes.now)) }
+{
+    if let Some(args) = behind_walk(bytes) {
+        return read_walk(args);
+    }
+    if let Some(args) = behind_evict(bytes) {
+        return read_evict(args);
+    }
+    if is_flush(bytes) {
+        return Some(Action::Flush);
+    }
+    if is_review(bytes) {
+        return Some(Action::Review);
+    }
+    None
 }
 
 /// The action with this name, whose other words are in `args`; `None` where they say none.

@@ -1,11 +1,11 @@
 //! What a line of a trace says.
 ghost use Rattle.std.specs.Prelude.{◌≡◌, IfSome, option_map};
-ghost use Rattle.trace_text.specs.Front.{BeginsNow};
+ghost use Rattle.trace_text.specs.Front.{BeginsCore, BeginsNow};
 ghost use Rattle.trace_text.specs.Words.{words_of};
 ghost use Rattle.trace_text.specs.Line.{are_printable, begins_with, begins_with_file, begins_with_vm};
 ghost use Rattle.trace_text.specs.Line.{fold_of, is_comment, line_of, line_of_words};
 
-use crate::action::{Action, read_page_alone};
+use crate::action::{Action, front_action, read_page_alone};
 use crate::core_line::read_core_line;
 use crate::file_line::read_file;
 use crate::request::read_request;
@@ -122,6 +122,19 @@ pub(crate) fn front_now(bytes: &[u8]) -> Option<(CoreId, &[u8])>
     }
 }
 
+// A core of one digit that is told one thing, and the bytes of that.
+#[inline(always)]
+fn front_core(bytes: &[u8]) -> Option<(CoreId, &[u8])>
+    ensures { IfSome result (λ f. BeginsCore bytes.now f.0 f.1.now) }
+{
+    match bytes {
+        [b'c', digit, b' ', args @ ..] if *digit >= b'0' && *digit <= b'9' => {
+            Some((CoreId::new(*digit - b'0'), args))
+        }
+        _ => None,
+    }
+}
+
 #[tactic(auto, unfolding(crate::specs::Line::line_of_words))]
 fn read_by_first_word(bytes: &[u8]) -> Option<Line>
     ensures { result ≡ line_of_words (words_of bytes.now) }
@@ -148,6 +161,11 @@ pub fn read_words(bytes: &[u8]) -> Option<Line>
     if let Some(begun) = front_now(bytes) {
         let request = read_request(begun.1)?;
         return Some(Line::Now(begun.0, request));
+    }
+    if let Some(begun) = front_core(bytes)
+        && let Some(action) = front_action(begun.1)
+    {
+        return Some(Line::Act(begun.0, action));
     }
     read_by_first_word(bytes)
 }
