@@ -21,7 +21,6 @@ use Rattle.slot_lock.specs.Plan.{IsSoundGoal}
 use Rattle.slot_lock.specs.Slots.{IsFreeSlot, with_info}
 use Rattle.mmu.specs.declared.translated.Translated.{Translated}
 use Rattle.mmu.specs.declared.translated.Translated.TheVariants as By
-use Rattle.mmu.specs.Entry.{has_right}
 use Rattle.refcache.specs.Counts.{Counts}
 use Rattle.refcache.specs.Steps.{Takes, Begin, Inc}
 use Rattle.vm_calls.specs.declared.fault.Settled.{Settled}
@@ -35,7 +34,7 @@ use Rattle.machine_model.specs.World.{Hardware, Memory, World}
 use Rattle.machine_model.specs.Accesses.{IsLeastFree, after_finding, after_translation, after_try, found_at, is_past_end}
 use Rattle.machine_model.specs.Accesses.{memory_after, reply_of}
 use Rattle.machine_model.specs.Actions.{after_reply, answer_entry, to, with_entry}
-use Rattle.machine_model.specs.Files.{back_of, file_frame, is_private, prot_installed, shows_some}
+use Rattle.machine_model.specs.Files.{back_of, file_frame}
 use Rattle.machine_model.specs.Filling.{FillsFrame, FillsFromFile}
 use Rattle.machine_model.specs.Locks.{locking}
 use Rattle.machine_model.specs.Step.{Goes, Step, StepsTo, event_limit, with_event}
@@ -51,7 +50,7 @@ use Rattle.core_steps.specs.OnePage.{later, logged_later, replied, steps_from, w
 use Rattle.core_steps.proofs.at_once.AtOnce.{counted_step, one_later, passes_join, to_same, to_twice}
 use Rattle.core_steps.proofs.rows.Framing.{counted_few, fills_private, fills_shared, fills_zeros, shown_here, shown_used, zeroed}
 use Rattle.core_steps.proofs.rows.Known.{core_counted, frame_below, frame_counted, free_below, free_unused, is_at}
-use Rattle.core_steps.proofs.rows.Known.{only_page, right_allowed, right_shown}
+use Rattle.core_steps.proofs.rows.Known.{only_page}
 use Rattle.core_steps.proofs.at_once.OnePage.{answered, holding, locked, moved, released}
 use Rattle.core_steps.proofs.engine.Each.{put_twice}
 use Rattle.core_steps.proofs.Reached.{well, steps_reached}
@@ -331,16 +330,6 @@ module _ (w : World) (c : ℕ) (touch : Touch) (fault : IsFault w c touch) where
     abbrev Comes : Source → Type 0
     Comes = IsSource (found_at w touch) info.meta.back w.memory.is_free
 
-    pub entry_right : (from : Source) → Comes from → has_right (prot_installed w.memory.cached (shown (frame_from from))) ≡ true
-    entry_right from comes =
-        right_shown (is_private info.meta.back && shows_some w.memory.cached info.meta.back (Some (frame_from from))) info.meta.prot
-        (right_allowed info.meta.prot touch.access (right from comes))
-      where
-        right : (from : Source) → Comes from → is_allowed info.meta.prot touch.access ≡ true
-        right (Own f) h = (finds (Found.Has f) h (λ x. x)).0
-        right (Cached f) h = (finds (Found.Cached f) h (λ x. x)).0
-        right (Free f) h = (finds Found.Wants h.0 (λ x. x)).0
-
     pub can_take : (from : Source) → Comes from → CanTake w c from
     can_take (Own f) h = tt
     can_take (Cached f) h =
@@ -447,11 +436,6 @@ module _ (w : World) (c : ℕ) (touch : Touch) (fault : IsFault (at_lock c touch
 
       pub gets_reached : ∥ IsReached (to c (Try touch) (later 4 v)) ∥₁
       gets_reached = steps_reached (at_lock c touch w) _ c (steps_from source + 4) gets.steps fault.reached
-
-      pub room_then : v.calls.events + 4 < event_limit
-      room_then =
-          let few = few_steps (at_lock c touch w) c touch fault info e source in
-          let room = fault.room in let events = gets.events in omega (arith, few, room, events)
 
       pub ends : (r : Option Reply) (x : World) → Passes (later 4 v) c (Try touch) 1 (tried_to touch r) x → Makes w c touch r x
       ends r x tried = record {

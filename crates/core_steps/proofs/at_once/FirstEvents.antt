@@ -182,9 +182,6 @@ module _ (w : World) (c : ℕ) (request : Request) (touch : Touch) (i : IsAccess
       pub fault_goal : IsSoundGoal (To.Access touch)
       fault_goal = can_lock x c touch fault_here fault_reached
 
-      pub fault_room : x.calls.events + 7 ≤ event_limit
-      fault_room = let room = try_room in let events = tried.events in omega (arith, events, room)
-
       -- the steps of the fault, and those before it
       module _ (v : World) (told : Option Reply) (makes : Makes x c touch told v) where
         made : Passes (later 2 a) c (Try touch) (1 + makes.steps) (tried_to touch told) v

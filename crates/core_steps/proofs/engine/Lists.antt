@@ -1,18 +1,15 @@
 -- Lists that are changed at one place, seen as functions, and the state of which they are a part
-use Rattle.std.proofs.Common.{◌≡◌, ℕ, zero, suc, ◌+◌, ◌<◌, List, [], ◌∷◌, ◌++◌, length, length-append}
-use Rattle.std.proofs.Common.{get_or, OnOk, OnErr, Result, Ok, Err, refl, ap, arith, ◌∙◌}
+use Rattle.std.proofs.Common.{◌≡◌, ℕ, ◌+◌, ◌<◌, List, [], ◌∷◌, ◌++◌, length, length-append}
+use Rattle.std.proofs.Common.{get_or, OnOk, OnErr, Result, Ok, Err, ap, arith, ◌∙◌}
 use Rattle.std.specs.Prelude.{slice_set}
-use Rattle.std.proofs.Math.ListN.{replicate}
 use Rattle.std.proofs.Math.Path.{fun_ext}
 use Rattle.std.proofs.lemmas.List.{get_or-set_same, get_or-set_other}
 use Rattle.vm_base.specs.Functions.{put}
 use Rattle.vm_base.proofs.Functions.{put_all}
-use Rattle.machine_model.specs.declared.phase.Phase.{Phase}
-use Rattle.machine_model.specs.declared.phase.Phase.TheVariants.{Free}
 use Rattle.vm_base.specs.declared.log.Entry.{Entry}
 use Rattle.machine_laws.specs.Orderly.{answer_count}
 use Rattle.machine_laws.proofs.Moves.{answers_more}
-use Rattle.core_steps.specs.State.{phase_at, number_at}
+use Rattle.core_steps.specs.State.{number_at}
 
 pub set_is_put : {A : Type 0} (xs : List A) (d : A) (k : ℕ) (x : A) → k < length xs
     → (λ j. get_or (slice_set xs k x) j d) ≡ put (λ j. get_or xs j d) k x
@@ -20,22 +17,9 @@ set_is_put xs d k x h =
     fun_ext (put_all (λ j v. get_or (slice_set xs k x) j d ≡ v) (λ j. get_or xs j d) k x (get_or-set_same xs k x d h)
     (λ j ne. get_or-set_other xs k j x d ne))
 
-pub phase_set : (phases : List Phase) (c : ℕ) (phase : Phase) → c < length phases
-    → phase_at (slice_set phases c phase) ≡ put (phase_at phases) c phase
-phase_set phases c phase h = set_is_put phases Free c phase h
-
 pub number_set : (numbers : List ℕ) (c n : ℕ) → c < length numbers
     → number_at (slice_set numbers c n) ≡ put (number_at numbers) c n
 number_set numbers c n h = set_is_put numbers 0 c n h
-
--- all elements are the same
-pub replicate_same : {A : Type 0} (n : ℕ) (x : A) → ◌≡◌ {A = ℕ → A} (λ j. get_or (replicate n x) j x) (λ j. x)
-replicate_same n x = fun_ext (go n x)
-  where
-    go : {A : Type 0} (n : ℕ) (x : A) (j : ℕ) → get_or (replicate n x) j x ≡ x
-    go zero x j = refl
-    go (suc n) x zero = refl
-    go (suc n) x (suc j) = go n x j
 
 -- a log grows by an entry, and its limit by one for a copy: the room for the other replies stays
 pub room_kept : (log more : List Entry) (entry : Entry) (limit now calls : ℕ) → limit + answer_count log ≡ calls + length log → more ≡ log ++ entry ∷ []

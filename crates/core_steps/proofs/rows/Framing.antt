@@ -1,6 +1,6 @@
 -- What the code learns of a page that is to get a frame
-use Rattle.std.proofs.Common.{◌≡◌, ℕ, zero, suc, ◌<◌, ◌≤◌, ◌^◌, Bool, true, false, not, List, length, get_or, Option, None, Some, Result, Ok}
-use Rattle.std.proofs.Common.{Err, is_some, inl, inr, refl, sym, ap, subst, arith, ◌∙◌, cond, pos, ◌+ℤ◌, ◌<ℤ◌, ◌⊎◌, ◌==◌}
+use Rattle.std.proofs.Common.{◌≡◌, ℕ, zero, suc, ◌<◌, ◌≤◌, ◌^◌, Bool, true, false, not, List, length, get_or, Option, None, Some, Result}
+use Rattle.std.proofs.Common.{is_some, inl, inr, refl, sym, ap, subst, arith, ◌∙◌, cond, pos, ◌+ℤ◌, ◌<ℤ◌, ◌⊎◌, ◌==◌}
 use Rattle.std.specs.Prelude.{IfNone, IfSome, if◌then◌else◌, nat_lt}
 use Rattle.std.proofs.Math.Logic.{∥∥₁_elim}
 use Rattle.std.proofs.Props.{props}
@@ -9,9 +9,9 @@ use Rattle.std.proofs.lemmas.List.{get_or_read}
 use Rattle.vm_base.specs.declared.info.Back.{Back}
 use Rattle.vm_base.specs.declared.info.Back.TheVariants.{Anon, Shared, Private}
 use Rattle.vm_base.specs.declared.info.PageInfo.{PageInfo}
-use Rattle.vm_base.specs.declared.memory.NoMemory.{NoMemory}
 use Rattle.vm_base.specs.declared.rights.Access.{Access}
-use Rattle.vm_base.specs.declared.rights.Access.TheVariants.{Load, Store, Fetch}
+use Rattle.vm_base.specs.declared.rights.Access.TheVariants.{Load, Fetch}
+use Rattle.vm_base.specs.declared.memory.NoMemory.{NoMemory}
 use Rattle.vm_base.specs.Cores.{members}
 use Rattle.vm_base.specs.Functions.{put}
 use Rattle.vm_base.specs.Info.{frame_of, info_with_frame, is_recorded, info_with_copy, recorded_cores}
@@ -20,7 +20,6 @@ use Rattle.vm_base.proofs.CoreSets.{members-empty}
 use Rattle.slot_lock.specs.declared.plan.Touch.{Touch}
 use Rattle.slot_lock.specs.Slots.{with_info}
 use Rattle.backing.specs.Files.{bytes_now}
-use Rattle.vm_calls.specs.Settling.{is_private_store}
 use Rattle.refcache.specs.Counts.{Counts, true_count}
 use Rattle.refcache.specs.Steps.{Takes, Begin}
 use Rattle.refcache.proofs.Moves.{true_counts_move}
@@ -41,7 +40,7 @@ use Rattle.machine_counting.proofs.Kept.{cached_positive, counted_positive}
 use Rattle.machine_laws.specs.Orderly.{IsUsable, IsCopying}
 use Rattle.machine_laws.proofs.Moves.{call_at}
 use Rattle.machine_sound.specs.Invariant.{IsWellFormed}
-use Rattle.core_steps.specs.Moving.{AwaitsCopy, IsAt, IsTaken, Tries, WantsMemory, is_copy_due}
+use Rattle.core_steps.specs.Moving.{AwaitsCopy, IsAt, Tries, WantsMemory, is_copy_due}
 use Rattle.core_steps.specs.State.{phase_at}
 use Rattle.core_steps.specs.Filling.{IsOfFile, MakesCopy}
 use Rattle.core_steps.proofs.rows.Known.{is_at, order}
@@ -128,20 +127,12 @@ pub fill_shown : (w : World) (c : ℕ) (touch : Touch) → IsAt w c (Fill touch 
 fill_shown w c touch i none =
     ∥∥₁_elim (order i) (hlevel props) (λ g. let ready = (call_at w c (Fill touch None) i.phase g).ready.1 in let some = ready.1.1 in absurd cc)
 
-pub fill_stores : (w : World) (c : ℕ) (touch : Touch) → IsAt w c (Fill touch None)
-    → is_private_store (back_of (w.slots.info touch.page)) touch.access ≡ true → ⊥
-fill_stores w c touch i store =
-    ∥∥₁_elim (order i) (hlevel props) (λ g. let ready = (call_at w c (Fill touch None) i.phase g).ready.1 in let no_store = ready.0 in absurd cc)
-
 -- ---- a copy
 
 -- the cores that are told are the machine's
 recorded : (o : Option PageInfo) (d : ℕ) → members (recorded_cores o) d ≡ true → is_recorded o d ≡ true
 recorded None d h = absurd (let none = members-empty d in cc)
 recorded (Some info) d h = h
-
-pub told_here : (w : World) (p d : ℕ) → ∥ IsWellFormed w ∥₁ → members (recorded_cores (w.slots.info p)) d ≡ true → d < w.made.cores
-told_here w p d t h = ∥∥₁_elim t (hlevel props) (λ g. (g.order.pages p).cores d (recorded (w.slots.info p) d h))
 
 -- the page is mapped, and has a frame
 copying : (w : World) (c : ℕ) (touch : Touch) (f : ℕ) (o : Option PageInfo) → IsCopying w.made w.slots w.memory.cached touch → w.slots.info touch.page ≡ o
@@ -154,10 +145,6 @@ pub copy_framed : (w : World) (c : ℕ) (touch : Touch) (f : ℕ) (o : Option Pa
 copy_framed w c touch f o i e none =
     ∥∥₁_elim (order i) (hlevel props) (λ g. copying w c touch f o (call_at w c (CopyAcks touch f) i.phase g).ready e none)
 
--- a page's frame is the machine's, and is counted
-pub page_frame_here : (w : World) (p f : ℕ) → ∥ IsWellFormed w ∥₁ → frame_of (w.slots.info p) ≡ Some f → f < w.made.frames
-page_frame_here w p f t h = ∥∥₁_elim t (hlevel props) (λ g. (g.order.pages p).frame f h)
-
 -- and still is where another frame's count begins
 pub page_frame_used : (w : World) (p f g : ℕ) (m : Counts) → ∥ IsWellFormed w ∥₁ → frame_of (w.slots.info p) ≡ Some g → Takes w.memory.counts (Begin f 1) m
     → pos 0 <ℤ true_count m g
@@ -168,10 +155,6 @@ page_frame_used w p f g m t h step =
     go : (b : Bool) → pos 0 <ℤ true_count w.memory.counts g → true_count m g ≡ true_count w.memory.counts g +ℤ cond b (pos 1) (pos 0) → pos 0 <ℤ true_count m g
     go true a e = omega (arith, ints, a, e)
     go false a e = omega (arith, ints, a, e)
-
-pub taken_here : (w : World) (o : Option ℕ) → IfSome o (IsTaken w) → IfSome o (λ f. (f < w.made.frames) × (w.memory.is_free f ≡ false))
-taken_here w None t = tt
-taken_here w (Some f) t = (t.here, t.busy)
 
 -- ---- rows
 
@@ -243,15 +226,6 @@ fills_private w v c touch frame n k o e (inl a) h =
     subst (λ back. FillsBacked w c touch frame back touch.access o v) (sym e) (subst (λ access. FillsBacked w c touch frame (Private n k) access o v) (sym a) h)
 fills_private w v c touch frame n k o e (inr a) h =
     subst (λ back. FillsBacked w c touch frame back touch.access o v) (sym e) (subst (λ access. FillsBacked w c touch frame (Private n k) access o v) (sym a) h)
-
-pub fills_copy : (keeps : Bool) (r : Result Outcome NoMemory) (w v : World) (c : ℕ) (touch : Touch) (frame : Option ℕ) (n k : ℕ)
-    → back_of (w.slots.info touch.page) ≡ Private n k → touch.access ≡ Store
-    → Tries (FillsOwn w (λ f counts. after_first_copy c touch f counts w) frame) (keeps ≡ true) w r v
-    → Tries (Goes w c (Fill touch frame)) (WantsMemory keeps w c (Fill touch frame)) w r v
-fills_copy keeps (Ok o) w v c touch frame n k e a h =
-    subst (λ back. FillsBacked w c touch frame back touch.access o v) (sym e) (subst (λ access. FillsBacked w c touch frame (Private n k) access o v) (sym a) h)
-fills_copy keeps (Err x) w v c touch frame n k e a h =
-    (h.0, (ap (λ back. is_private_store back touch.access) e ∙ ap (is_private_store (Private n k)) a, h.1))
 
 -- ---- a copy in place of the frame
 

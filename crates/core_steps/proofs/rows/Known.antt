@@ -1,5 +1,5 @@
 -- What the code learns of the core that is to make a step: it knows only that the state is one that runs reach
-use Rattle.std.proofs.Common.{◌≡◌, ◌≢◌, ℕ, ◌+◌, ◌<◌, ◌≤◌, ◌^◌, ◌==◌, ◌||◌, Bool, true, false, List, [], ◌∷◌, Option, Some, None}
+use Rattle.std.proofs.Common.{◌≡◌, ◌≢◌, ℕ, ◌+◌, ◌<◌, ◌==◌, ◌||◌, Bool, true, false, List, [], ◌∷◌, Option, Some, None}
 use Rattle.std.proofs.Common.{is_some, refl, sym, subst, ap, arith, cond, ◌∙◌, pos, ◌<ℤ◌, ◌&&◌, nat_lt}
 use Rattle.std.specs.Prelude.{if◌then◌else◌, IfSome, ◌↔◌}
 use Rattle.std.proofs.Math.Logic.{∥∥₁_elim, ∥∥₁_map}
@@ -47,7 +47,7 @@ use Rattle.refcache.specs.Sound.{AreReached}
 use Rattle.refcache.specs.Steps.{Takes, Reviewing, IsUnused}
 use Rattle.refcache.proofs.Reached.{reached_is_orderly}
 use Rattle.machine_model.specs.declared.phase.Phase.{Phase}
-use Rattle.machine_model.specs.declared.phase.Phase.TheVariants.{Free, Check, Lock, Guess, Find, Back, Cut, Post, Acks, Unlock, Answer, Try}
+use Rattle.machine_model.specs.declared.phase.Phase.TheVariants.{Free, Check, Lock, Guess, Find, Back, Cut, Acks, Unlock, Answer, Try}
 use Rattle.machine_model.specs.declared.phase.Phase.TheVariants.{Settle, Want, Fill, CopyPost, CopyAcks, Install, Release}
 use Rattle.machine_model.specs.World.{World}
 use Rattle.machine_model.specs.Changes.{AwaitsNobody}
@@ -56,7 +56,7 @@ use Rattle.machine_model.specs.Holding.{can_give_up, awaits_in, holds, is_open, 
 use Rattle.machine_model.specs.Translating.{entry_for, entry_of_page, translated_by, frame_reached}
 use Rattle.machine_counting.proofs.Kept.{counted_positive, framed_page}
 use Rattle.machine_laws.specs.Orderly.{IsOrderly, IsAsked, IsCutFor, IsCutRange, IsUsable, Serves, answer_count}
-use Rattle.machine_laws.proofs.Deciding.{acts_valid, goal_valid, sound_range}
+use Rattle.machine_laws.proofs.Deciding.{acts_valid, sound_range}
 use Rattle.machine_laws.proofs.Moves.{call_at, IsCallOf}
 use Rattle.machine_laws.proofs.OpenCalls.{one, open_put}
 use Rattle.machine_coherence.specs.Coherent.{Every, IsSoundEntry, AreAsked}
@@ -316,12 +316,6 @@ frame_below w c touch f t h = go (tlb_at (w.hardware.tlb c) touch.page) (w.hardw
 
 -- ---- the pages that are to be locked
 
-pub range_ends : (w : World) (c : ℕ) (goal : Goal) (cursor : ℕ) → IsAt w c (Lock goal cursor) → (1 ≤ cursor) × ((goal_range goal).end ≤ 2 ^ 35)
-range_ends w c goal cursor i =
-    let pages = goal_valid goal (i.goal) in
-    let low = pages.low in
-    (∥∥₁_elim (order i) (hlevel props) (λ g. let from = (call_at w c (Lock goal cursor) i.phase g).ready.0 in omega (arith, low, from)), pages.high)
-
 pub is_left : (w : World) (c : ℕ) (goal : Goal) (cursor : ℕ) → IsAt w c (Lock goal cursor) → cursor < (goal_range goal).end
 is_left w c goal cursor i = ∥∥₁_elim (order i) (hlevel props) (λ g. (call_at w c (Lock goal cursor) i.phase g).ready.1)
 
@@ -362,12 +356,6 @@ shot_just files s (Clear range) shoot h d = h.1 d
 shot_just files s (Protect range prot) shoot (no_page a e) d = absurd cc
 shot_just files s (Protect range prot) shoot (no_write a x r e) d = absurd cc
 shot_just files s (Protect range prot) shoot (acts a r k) d = k.1 d
-
--- the cores that are told are the machine's
-pub shot_here : (w : World) (c : ℕ) (change : Change) (shoot : ℕ) → IsAt w c (Post change shoot) → (d : ℕ) → members shoot d ≡ true → d < w.made.cores
-shot_here w c change shoot i d m =
-    ∥∥₁_elim (order i) (hlevel props) (λ g.
-    let user = (shot_just w.made.file w.slots change shoot (call_at w c (Post change shoot) i.phase g).ready d).0 m in (g.pages user.0).cores d user.2)
 
 pub valid_range : (range : PageRange) → IsPageRange range → are_pages range ≡ true
 valid_range range h = let low = h.low in let high = h.high in grind (arith, nat_tests, low, high)

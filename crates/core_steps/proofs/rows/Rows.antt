@@ -1,6 +1,6 @@
 -- Rows of the model that turn on one test
 use Rattle.std.proofs.Common.{◌≡◌, ℕ, Bool, true, false, not, ◌&&◌, List, [], ◌∷◌, Option, None, Some}
-use Rattle.std.proofs.Common.{Result, is_some, cond, inl, inr, refl, sym, ap, subst}
+use Rattle.std.proofs.Common.{Result, is_some, cond, refl, sym, ap, subst}
 use Rattle.std.proofs.Math.Numerals.{add-one}
 use Rattle.std.specs.Prelude.{if◌then◌else◌, ◌+◌}
 use Rattle.vm_base.specs.Functions.{put}
@@ -16,25 +16,20 @@ use Rattle.machine_model.specs.declared.event.Event.{Event}
 use Rattle.machine_model.specs.declared.event.Outcome.{Outcome}
 use Rattle.machine_model.specs.declared.event.Outcome.TheVariants.{Stepped, Idle}
 use Rattle.machine_model.specs.Step.{Acts, with_event}
-use Rattle.machine_model.specs.declared.phase.Phase.{Phase}
-use Rattle.machine_model.specs.declared.phase.Phase.TheVariants.{Free, Acks, Unlock, Answer}
-use Rattle.machine_model.specs.declared.phase.Phase.TheVariants.{Want, CopyAcks, Release}
+use Rattle.machine_model.specs.declared.phase.Phase.TheVariants.{Release}
 use Rattle.machine_model.specs.World.{World, Hardware}
 use Rattle.vm_base.specs.declared.info.PageInfo.{PageInfo}
 use Rattle.slot_lock.specs.Slots.{with_info}
-use Rattle.machine_model.specs.Accesses.{TakesThisFrame, after_frame, after_install}
+use Rattle.machine_model.specs.Accesses.{after_install}
 use Rattle.vm_base.specs.Info.{info_with_core}
 use Rattle.machine_model.specs.Actions.{to}
 use Rattle.vm_base.specs.declared.replies.Reply.{Reply}
 use Rattle.vm_base.specs.declared.requests.Request.{Request}
 use Rattle.slot_lock.specs.declared.plan.Plan.{Plan}
 use Rattle.machine_model.specs.Changes.{after_check, after_plan, checked_by}
-use Rattle.machine_model.specs.GivingUp.{GivesUp, after_give_up}
-use Rattle.machine_model.specs.Holding.{can_give_up}
-use Rattle.core_steps.specs.Moving.{AwaitsCopy}
 use Rattle.core_steps.specs.OnePage.{with_translation}
 use Rattle.vm_base.specs.declared.page.PageRange.{PageRange}
-use Rattle.machine_model.specs.Translating.{Evicts, TakesMessage, Walks, after_eviction, after_walk, can_walk, tables_cleared}
+use Rattle.machine_model.specs.Translating.{TakesMessage, Walks, after_walk, can_walk, tables_cleared}
 use Rattle.machine_model.specs.Translating.{tlb_invalidated, with_hardware, with_inbox, with_table, entry_of_page}
 use Rattle.core_steps.proofs.engine.Each.{put_id}
 
@@ -47,9 +42,6 @@ if_false true x y e h = absurd (cc)
 if_false false x y e h = h
 
 -- ---- a TLB
-
-pub walked : (w v : World) (c p : ℕ) → can_walk w.hardware c p ≡ true → v ≡ with_hardware (after_walk w.hardware c p) w → Walks w c p Stepped v
-walked w v c p e h = if_true (can_walk w.hardware c p) _ _ e (refl, h)
 
 pub not_walked : (w v : World) (c p : ℕ) → can_walk w.hardware c p ≡ false → v ≡ w → Walks w c p Idle v
 not_walked w v c p e h = if_false (can_walk w.hardware c p) _ _ e (refl, h)
@@ -70,13 +62,6 @@ no_entry h c p e = subst (λ o. (not (is_some (tlb_at (h.tlb c) p)) && is_some o
     never : (b : Bool) → (b && false) ≡ false
     never true = refl
     never false = refl
-
-pub evicted : (w v : World) (c p : ℕ) → is_some (tlb_at (w.hardware.tlb c) p) ≡ true → v ≡ with_hardware (after_eviction w.hardware c p) w
-    → Evicts w c p Stepped v
-evicted w v c p e h = if_true (is_some (tlb_at (w.hardware.tlb c) p)) _ _ e (refl, h)
-
-pub not_evicted : (w v : World) (c p : ℕ) → is_some (tlb_at (w.hardware.tlb c) p) ≡ false → v ≡ w → Evicts w c p Idle v
-not_evicted w v c p e h = if_false (is_some (tlb_at (w.hardware.tlb c) p)) _ _ e (refl, h)
 
 -- ---- a message
 
@@ -105,35 +90,6 @@ none_left h c e = ap (λ f. record h { inbox = f }) (put_id h.inbox c _ (same (h
     same (m ∷ ms) i = absurd (acts m m.is_cleared i)
 
 -- ---- a frame that is asked for, and a call that is given up
-
-pub taken_frame : (w v : World) (c f : ℕ) (touch : Touch) (old : Option ℕ) → w.memory.is_free f ≡ true → v ≡ after_frame c touch old f w
-    → TakesThisFrame w c (Want touch old) f Stepped v
-taken_frame w v c f touch old e h = if_true (w.memory.is_free f) _ _ e (refl, h)
-
-pub no_such_frame : (w v : World) (c f : ℕ) (touch : Touch) (old : Option ℕ) → w.memory.is_free f ≡ false → v ≡ w → TakesThisFrame w c (Want touch old) f Idle v
-no_such_frame w v c f touch old e h = if_false (w.memory.is_free f) _ _ e (refl, h)
-
--- a call that can be given up is, where it doesn't await others for a copy
-pub given_up : (w v : World) (c : ℕ) (phase : Phase) → can_give_up phase ≡ true → AwaitsCopy w.hardware c phase false
-    → v ≡ after_give_up c phase w → GivesUp w c phase Stepped v
-given_up w v c (CopyAcks touch frame) e nobody h = inl (nobody refl, (refl, h))
-given_up w v c Free e nobody h = absurd cc
-given_up w v c (Acks goal change) e nobody h = absurd cc
-given_up w v c (Unlock held reply) e nobody h = absurd cc
-given_up w v c (Answer reply) e nobody h = absurd cc
-given_up w v c phase e nobody h = (refl, h)
-
-pub not_given_up : (w v : World) (c : ℕ) (phase : Phase) → can_give_up phase ≡ false → v ≡ w → GivesUp w c phase Idle v
-not_given_up w v c Free e h = (refl, h)
-not_given_up w v c (Acks goal change) e h = (refl, h)
-not_given_up w v c (Unlock held reply) e h = (refl, h)
-not_given_up w v c (Answer reply) e h = (refl, h)
-not_given_up w v c phase e h = absurd cc
-
--- a copy for which others are awaited isn't
-pub copy_awaited : (w v : World) (c : ℕ) (phase : Phase) → AwaitsCopy w.hardware c phase true → v ≡ w → GivesUp w c phase Idle v
-copy_awaited w v c (CopyAcks touch frame) a h = inr (a.1, (refl, h))
-copy_awaited w v c phase a h = let due = a.0 in absurd cc
 
 -- ---- the arguments of a request
 

@@ -42,6 +42,7 @@ pub(crate) struct Engine<M: SlotMap, H: Hardware, A: Allocator, L: Ledger> {
 impl<M: SlotMap, H: Hardware, A: Allocator, L: Ledger> Engine<M, H, A, L> {
     ghost use Rattle.std.specs.Prelude.{◌≡◌, ◌<◌, length};
     ghost use Rattle.machine_model.specs.Actions.{to};
+    ghost use Rattle.core_steps.specs.Moving.{IsAt, IsOf};
     ghost use Rattle.core_steps.specs.State.{phase_of, world};
 
     /// Where the call of a core stands.
@@ -50,6 +51,15 @@ impl<M: SlotMap, H: Hardware, A: Allocator, L: Ledger> Engine<M, H, A, L> {
         ensures { result ≡ phase_of self.now core }
     {
         self.calls.phases[core.index() as usize]
+    }
+
+    /// The same of a core whose call is to make a step, with what is known of it there.
+    #[inline(always)]
+    pub fn stands(&self, core: CoreId) -> Phase
+        requires { IsOf (world M.slots self.now) core }
+        ensures { IsAt (world M.slots self.now) core result }
+    {
+        self.phase_of(core)
     }
 
     /// The call of a core goes on in a phase.

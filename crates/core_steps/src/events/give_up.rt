@@ -104,7 +104,7 @@ impl<M: SlotMap, H: Hardware, A: Allocator, L: Ledger> Engine<M, H, A, L> {
         ensures { GivesUp (world M.slots self.old) core (phase_of self.old core) result
             (world M.slots self.new) }
     {
-        let phase = self.phase_of(core);
+        let phase = self.stands(core);
         if !can_give_up(&phase) {
             return Outcome::Idle;
         }
