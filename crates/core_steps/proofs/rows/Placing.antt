@@ -1,4 +1,4 @@
--- What the code learns of a mapping that looks for its place
+-- What the code learns of a mapping whose pages are let go, or cut
 use Rattle.std.proofs.Common.{ℕ, refl}
 use Rattle.std.proofs.Math.Logic.{∥∥₁_elim}
 use Rattle.std.proofs.Props.{props}
@@ -8,8 +8,6 @@ use Rattle.vm_base.proofs.Functions.{in_has}
 use Rattle.slot_lock.specs.declared.plan.Goal.TheVariants as To
 use Rattle.slot_lock.specs.declared.plan.Place.{Place}
 use Rattle.slot_lock.specs.declared.plan.Target.{Target}
-use Rattle.slot_lock.specs.declared.plan.Target.TheVariants.{Window}
-use Rattle.slot_lock.specs.Plan.{IsSoundGoal, IsSoundPlace}
 use Rattle.slot_lock.specs.Slots.{IsHeld, OwnsAll}
 use Rattle.machine_model.specs.declared.phase.Phase.TheVariants.{Back, Cut}
 use Rattle.machine_model.specs.World.{World}
@@ -17,11 +15,6 @@ use Rattle.machine_laws.proofs.Deciding.{acts_in, acts_valid}
 use Rattle.machine_laws.proofs.Moves.{call_at}
 use Rattle.core_steps.specs.Moving.{IsAt}
 use Rattle.core_steps.proofs.rows.Known.{order, held_range}
-
--- ---- targets
-
-pub window_goal : (place : Place) → IsSoundPlace place → IsSoundGoal (To.Place place Window)
-window_goal place sound = record { plan = sound; target = tt }
 
 -- ---- pages that are let go
 
