@@ -61,10 +61,10 @@ impl<A: Allocator> Node<A> {
         let width = slot_pages(self.level);
         let slots = slots_of(self.level, first, end);
         'slots: for k in slots.from..slots.to {
-            let slot = base + k as u64 * width;
             match &self.slots[k] {
                 Slot::Own(state) => {
                     if let Some(frame) = state.frame() {
+                        let slot = base + k as u64 * width;
                         if list.is_full() {
                             return slot;
                         }
@@ -72,6 +72,7 @@ impl<A: Allocator> Node<A> {
                     }
                 }
                 Slot::Child(node) => {
+                    let slot = base + k as u64 * width;
                     let part = part_in(first, end, k as u64 * width, width);
                     let upto = node.list_frames(slot, part.first, part.end, list);
                     if upto < slot + part.end {
