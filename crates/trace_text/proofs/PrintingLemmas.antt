@@ -1,7 +1,8 @@
 -- Digits of a number before its last one.
 use Rattle.std.proofs.Common.{◌≡◌, ℕ, ◌+◌, ◌^◌, ◌*◌, ◌/◌, ◌%◌, ◌<◌, ◌≤◌, List, [], ◌∷◌, ◌++◌, length, map, arith}
-use Rattle.std.proofs.Common.{append_assoc, false, codes, refl, sym, ap, ◌∙◌, cond, eqb}
+use Rattle.std.proofs.Common.{append_assoc, decimal, false, codes, refl, sym, ap, ◌∙◌, cond, eqb}
 use Rattle.std.proofs.lemmas.Bool.{ne_eqb}
+use Rattle.std.proofs.lemmas.Fmt.{decimal_digit, decimal_step}
 use Rattle.std.proofs.lemmas.Int.Digits.{digits_of_step, length-digits_of_step, length-digits_of-le}
 use Rattle.std.proofs.lemmas.List.{map-append, length-append, length-map}
 use Rattle.std.specs.Fmt.{digit_glyph}
@@ -58,3 +59,30 @@ start_printed n text number new h e f =
     let more = long ∙ ap (map (digit_glyph false)) (digits_of_start n h) ∙ shifted ∙ ap (λ ds. ds ++ codes "000") (sym short) in
     f ∙ ap (λ t. t ++ codes "000") e ∙ append_assoc text (address_of n) (codes "000")
     ∙ ap (λ ds. text ++ (codes "0x" ++ ds)) (sym more)
+
+-- ---- a byte, digit by digit
+
+tens : (b : ℕ) → 10 ≤ b → b < 100 → decimal b ≡ (48 + b / 10) ∷ (48 + b % 10) ∷ []
+tens b low high = decimal_step b low (omega arith) ∙ ap (λ l. l ++ (48 + b % 10) ∷ []) (decimal_digit (b / 10) (omega arith))
+
+hundreds : (b : ℕ) → 100 ≤ b → b < 256 → decimal b ≡ (48 + b / 100) ∷ (48 + b / 10 % 10) ∷ (48 + b % 10) ∷ []
+hundreds b low high =
+    let first : b / 10 / 10 ≡ b / 100 = omega arith in
+    decimal_step b (omega arith) (omega arith) ∙ ap (λ l. l ++ (48 + b % 10) ∷ []) (tens (b / 10) (omega arith) (omega arith))
+    ∙ ap (λ k. (48 + k) ∷ (48 + b / 10 % 10) ∷ (48 + b % 10) ∷ []) first
+
+pub one_put : (old new : List ℕ) (b x : ℕ) → b < 10 → x ≡ 48 + b → new ≡ old ++ x ∷ [] → new ≡ old ++ decimal b
+one_put old new b x low is e = e ∙ ap (λ c. old ++ c ∷ []) is ∙ ap (λ l. old ++ l) (sym (decimal_digit b low))
+
+pub two_put : (old mid new : List ℕ) (b x y : ℕ) → 10 ≤ b → b < 100 → x ≡ 48 + b / 10 → y ≡ 48 + b % 10 → mid ≡ old ++ x ∷ [] → new ≡ mid ++ y ∷ []
+    → new ≡ old ++ decimal b
+two_put old mid new b x y low high is same e f =
+    f ∙ ap (λ l. l ++ y ∷ []) e ∙ append_assoc old (x ∷ []) (y ∷ []) ∙ ap (λ c. old ++ c ∷ y ∷ []) is ∙ ap (λ c. old ++ (48 + b / 10) ∷ c ∷ []) same
+    ∙ ap (λ l. old ++ l) (sym (tens b low high))
+
+pub three_put : (old one two new : List ℕ) (b x y z : ℕ) → 100 ≤ b → b < 256 → x ≡ 48 + b / 100 → y ≡ 48 + b / 10 % 10 → z ≡ 48 + b % 10
+    → one ≡ old ++ x ∷ [] → two ≡ one ++ y ∷ [] → new ≡ two ++ z ∷ [] → new ≡ old ++ decimal b
+three_put old one two new b x y z low high is same last e f g =
+    g ∙ ap (λ l. l ++ z ∷ []) (f ∙ ap (λ l. l ++ y ∷ []) e ∙ append_assoc old (x ∷ []) (y ∷ [])) ∙ append_assoc old (x ∷ y ∷ []) (z ∷ [])
+    ∙ ap (λ c. old ++ c ∷ y ∷ z ∷ []) is ∙ ap (λ c. old ++ (48 + b / 100) ∷ c ∷ z ∷ []) same
+    ∙ ap (λ c. old ++ (48 + b / 100) ∷ (48 + b / 10 % 10) ∷ c ∷ []) last ∙ ap (λ l. old ++ l) (sym (hundreds b low high))

@@ -75,6 +75,35 @@ pub fn push_number(text: &mut LineText, number: u64)
     text.push_str(digits);
 }
 
+// The character of a decimal digit.
+#[inline(always)]
+fn decimal_character(digit: u8) -> char
+    requires { digit < 10 }
+    ensures value { result ≡ 48 + digit }
+    ensures ascii { result < 128 }
+{
+    (b'0' + digit) as char
+}
+
+// Appends the byte, as `number_text` has it, digit by digit.
+#[inline(always)]
+fn push_byte(text: &mut LineText, byte: u8)
+    requires { length text.old.bytes + 20 ≤ 256 }
+    ensures bytes { text.new.bytes ≡ text.old.bytes ++ decimal byte }
+    ensures short { length text.new.bytes ≤ length text.old.bytes + 20 }
+{
+    if byte >= 100 {
+        text.push(decimal_character(byte / 100));
+        text.push(decimal_character(byte / 10 % 10));
+        text.push(decimal_character(byte % 10));
+    } else if byte >= 10 {
+        text.push(decimal_character(byte / 10));
+        text.push(decimal_character(byte % 10));
+    } else {
+        text.push(decimal_character(byte));
+    }
+}
+
 fn refusal_word(errno: Errno) -> &'static str
     ensures value { result.now ≡ refusal_of errno }
     ensures short { length result.now ≤ 20 }
@@ -99,7 +128,7 @@ pub fn push_reply(text: &mut LineText, reply: Reply)
     match reply {
         Reply::Mapped(address) => text.push_str(address_text(address).as_str()),
         Reply::Done => text.push_str("done"),
-        Reply::Byte(byte) => push_number(text, u64::from(byte)),
+        Reply::Byte(byte) => push_byte(text, byte),
         Reply::Refused(errno) => text.push_str(refusal_word(errno)),
         Reply::Segv(SegvCode::MapErr) => text.push_str("segv maperr"),
         Reply::Segv(SegvCode::AccErr) => text.push_str("segv accerr"),
