@@ -1,19 +1,20 @@
 //! Plain Rust programs that the parts are measured against: one page locked and unlocked among many slots; of a radix tree,
 //! a page looked up, a page changed, ranges looked through, and ranges changed; room found in a map of runs; translations
-//! that the TLB has, anywhere and at each of its ends, and ones that it fills; the table entries of a large range dropped;
-//! bytes of frames, filled frames and copied ones; and references counted, flushed and reviewed. Standard library alone.
+//! that the TLB has, anywhere, at each of its ends and where they share its sets, and ones that it fills; the table entries of
+//! a large range dropped; bytes of frames, filled frames and copied ones; and references counted, flushed and reviewed. Tables
+//! and TLB are those of the plain machine, bench/baseline.rs. Standard library alone.
 //! Build: `rustc --edition 2021 -C opt-level=3 bench/pieces.rs`.
+#[allow(dead_code)]
+mod baseline {
+    pub mod cpu;
+    pub mod request;
+}
+
+use baseline::cpu::Cpu;
+use baseline::request::{Access, Prot};
 use std::collections::{BTreeMap, VecDeque};
 use std::hint::black_box;
 use std::time::{Duration, Instant};
-
-#[derive(Clone, Copy)]
-#[allow(dead_code)]
-struct Prot {
-    read: bool,
-    write: bool,
-    exec: bool,
-}
 
 const READ_WRITE: Prot = Prot { read: true, write: true, exec: false };
 
@@ -457,238 +458,61 @@ fn gaps(pages: u64, rounds: u64) -> Duration {
 
 // ---- tables and TLB
 
-#[derive(Clone, Copy, PartialEq)]
-#[allow(dead_code)]
-enum Access {
-    Load,
-    Store,
-    Fetch,
-}
-
-#[derive(Clone, Copy, Default)]
-struct Translation {
-    frame: u32,
-    write: bool,
-    exec: bool,
-}
-
-impl Translation {
-    fn permits(self, access: Access) -> bool {
-        match access {
-            Access::Load => true,
-            Access::Store => self.write,
-            Access::Fetch => self.exec,
-        }
-    }
-
-    fn word(self) -> u64 {
-        u64::from(self.frame) << 12 | 5 | u64::from(self.write) << 1 | u64::from(!self.exec) << 63
-    }
-
-    fn of_word(word: u64) -> Option<Translation> {
-        (word & 1 == 1).then_some(Translation {
-            frame: (word >> 12) as u32,
-            write: word & 2 != 0,
-            exec: word >> 63 == 0,
-        })
-    }
-}
-
-#[derive(Clone, Copy, Default)]
-struct TlbEntry {
-    page: u64,
-    translation: Translation,
-}
-
-#[derive(Clone, Copy, Debug, PartialEq)]
-enum Translated {
-    Hit(u32),
-    Fill(u32),
-    Fault,
-}
-
-struct Leaf([u64; 512]);
-struct Inner<C>([Option<Box<C>>; 512]);
-
-/// A table and those below it. The pages that it covers have numbers from 0 on.
-trait Table {
-    const PAGES: u64;
-    fn new() -> Box<Self>;
-    fn get(&self, page: u64) -> Option<Translation>;
-    fn set(&mut self, page: u64, translation: Translation);
-    fn clear(&mut self, first: u64, end: u64);
-}
-
-impl Table for Leaf {
-    const PAGES: u64 = 512;
-
-    fn new() -> Box<Self> {
-        Box::new(Leaf([0; 512]))
-    }
-
-    fn get(&self, page: u64) -> Option<Translation> {
-        Translation::of_word(self.0[page as usize])
-    }
-
-    fn set(&mut self, page: u64, translation: Translation) {
-        self.0[page as usize] = translation.word();
-    }
-
-    fn clear(&mut self, first: u64, end: u64) {
-        self.0[first as usize..end as usize].fill(0);
-    }
-}
-
-impl<C: Table> Table for Inner<C> {
-    const PAGES: u64 = 512 * C::PAGES;
-
-    fn new() -> Box<Self> {
-        Box::new(Inner([const { None }; 512]))
-    }
-
-    fn get(&self, page: u64) -> Option<Translation> {
-        self.0[(page / C::PAGES) as usize].as_ref()?.get(page % C::PAGES)
-    }
-
-    fn set(&mut self, page: u64, translation: Translation) {
-        self.0[(page / C::PAGES) as usize].get_or_insert_with(C::new).set(page % C::PAGES, translation);
-    }
-
-    fn clear(&mut self, first: u64, end: u64) {
-        let from = first / C::PAGES;
-        let to = end.div_ceil(C::PAGES);
-        for (i, table) in (from..to).zip(&mut self.0[from as usize..to as usize]) {
-            if let Some(table) = table {
-                let start = i * C::PAGES;
-                table.clear(first.saturating_sub(start), (end - start).min(C::PAGES));
-            }
-        }
-    }
-}
-
-/// One core's tables and TLB; the oldest filled goes where there is no room. A table by a hash of the page's number says where
-/// its translation was seen last, and is tested before the others are looked through.
-struct Cpu {
-    root: Box<Inner<Inner<Inner<Leaf>>>>,
-    tlb: [TlbEntry; 64],
-    len: usize,
-    places: [u8; 256],
-    gone: u8,
-}
-
-fn hash(page: u64) -> usize {
-    ((page ^ page >> 8 ^ page >> 16 ^ page >> 24) % 256) as usize
-}
-
-impl Cpu {
-    fn new() -> Cpu {
-        Cpu { root: Inner::new(), tlb: [TlbEntry::default(); 64], len: 0, places: [0; 256], gone: 0 }
-    }
-
-    fn install(&mut self, page: u64, frame: u32, prot: Prot) {
-        self.root.set(page, Translation { frame, write: prot.write, exec: prot.exec });
-    }
-
-    fn note(&mut self, page: u64, place: usize) {
-        self.places[hash(page)] = (place as u8).wrapping_add(self.gone);
-    }
-
-    fn place_of(&mut self, page: u64) -> Option<usize> {
-        let noted = usize::from(self.places[hash(page)].wrapping_sub(self.gone));
-        if noted < self.len && self.tlb[noted].page == page {
-            return Some(noted);
-        }
-        let place = self.tlb[..self.len].iter().position(|entry| entry.page == page)?;
-        self.note(page, place);
-        Some(place)
-    }
-
-    fn translate(&mut self, page: u64, access: Access) -> Translated {
-        if let Some(place) = self.place_of(page) {
-            let cached = self.tlb[place].translation;
-            if cached.permits(access) {
-                return Translated::Hit(cached.frame);
-            }
-        } else if let Some(translation) = self.root.get(page) {
-            if translation.permits(access) {
-                self.fill(page, translation);
-                return Translated::Fill(translation.frame);
-            }
-        }
-        self.drop_page(page);
-        Translated::Fault
-    }
-
-    fn fill(&mut self, page: u64, translation: Translation) {
-        if self.len == 64 {
-            self.tlb.copy_within(1.., 0);
-            self.len = 63;
-            self.gone = self.gone.wrapping_add(1);
-        }
-        self.note(page, self.len);
-        self.tlb[self.len] = TlbEntry { page, translation };
-        self.len += 1;
-    }
-
-    fn drop_page(&mut self, page: u64) {
-        if let Some(i) = self.tlb[..self.len].iter().position(|entry| entry.page == page) {
-            self.tlb.copy_within(i + 1..self.len, i);
-            self.len -= 1;
-        }
-    }
-
-    fn clear_tables(&mut self, first: u64, end: u64) {
-        self.root.clear(first, end);
-    }
-}
-
-/// The page of a place among 65.
-fn page_at(place: u64) -> u64 {
+/// 64 pages by their places, no two of which share a set of the TLB: the translations of one hash, which are looked through one
+/// after another.
+fn apart(place: u64) -> u64 {
     4096 + 8 * place
 }
 
-/// A core that has a table entry of each of the 65 pages, and a cached translation of the first 64.
-fn loaded() -> Cpu {
-    let mut cpu = Cpu::new();
-    for place in 0..65 {
-        cpu.install(page_at(place), place as u32, READ_WRITE);
-    }
-    for place in 0..64 {
-        cpu.translate(page_at(place), Access::Load);
-    }
-    cpu
+/// 64 pages of which eight share a set.
+fn in_eight_sets(place: u64) -> u64 {
+    4096 + place % 8 + (place / 8) * (1 << 32)
 }
 
-/// Loads from the first place on, each so many places after the last one, modulo their number; each hits the TLB.
-fn hits(rounds: u64, first: u64, stride: u64) -> Duration {
-    let mut cpu = loaded();
+/// 64 pages that share a set.
+fn in_one_set(place: u64) -> u64 {
+    4096 + (place % 8) * ((1 << 29) + (1 << 21)) + (place / 8) * (1 << 32)
+}
+
+/// Loads of 64 pages, which the TLB has, from the first place on, each so many places after the last one, modulo their number.
+fn hits(rounds: u64, page: impl Fn(u64) -> u64, first: u64, stride: u64) -> Duration {
+    let mut cpu = Cpu::new();
+    for place in 0..64 {
+        cpu.install(page(place), place as u32 + 1, READ_WRITE);
+        cpu.translate(page(place), Access::Load);
+    }
     let (mut place, stride) = black_box((first, stride));
     let mut hits = 0u64;
     let mut sum = 0u64;
     let start = Instant::now();
     for _ in 0..rounds {
         place = (place + stride) % 64;
-        if let Translated::Hit(frame) = cpu.translate(page_at(place), Access::Load) {
+        if let Some(frame) = cpu.translate(page(place), Access::Load) {
             hits += 1;
             sum = sum.wrapping_add(u64::from(frame));
         }
     }
     let took = start.elapsed();
     assert_eq!(hits, rounds);
+    assert!((0..64).all(|place| cpu.evict(page(place))));
     black_box(sum);
     took
 }
 
-/// Loads of 65 pages in turn, so that each page went from the TLB before it is loaded again.
-fn misses(rounds: u64) -> Duration {
-    let mut cpu = loaded();
-    let mut place = 63;
+/// Loads of so many pages in turn, more than the TLB has, so that each went from it before it is loaded again.
+fn misses(rounds: u64, pages: u64) -> Duration {
+    let pages = black_box(pages);
+    let mut cpu = Cpu::new();
+    for place in 0..pages {
+        cpu.install(apart(place), place as u32 + 1, READ_WRITE);
+    }
+    let mut place = 0;
     let mut fills = 0u64;
     let mut sum = 0u64;
     let start = Instant::now();
     for _ in 0..rounds {
-        place = (place + 1) % 65;
-        if let Translated::Fill(frame) = cpu.translate(page_at(place), Access::Load) {
+        place = if place + 1 < pages { place + 1 } else { 0 };
+        if let Some(frame) = cpu.translate(apart(place), Access::Load) {
             fills += 1;
             sum = sum.wrapping_add(u64::from(frame));
         }
@@ -711,7 +535,7 @@ fn clears(rounds: u64) -> Duration {
         cpu.clear_tables(first, end);
         took += start.elapsed();
     }
-    assert_eq!(cpu.translate(first, Access::Load), Translated::Fault);
+    assert_eq!(cpu.translate(first, Access::Load), None);
     took
 }
 
@@ -965,10 +789,13 @@ fn main() {
         Some("edit") => (edits(50_000, 2_000), 2_000),
         Some("room") => (room(50_000, 1_000_000), 1_000_000),
         Some("gaps") => (gaps(50_000, 1_000), 1_000),
-        Some("hit") => (hits(50_000_000, 0, 37), 50_000_000),
-        Some("oldest") => (hits(50_000_000, 0, 0), 50_000_000),
-        Some("newest") => (hits(50_000_000, 63, 0), 50_000_000),
-        Some("miss") => (misses(5_000_000), 5_000_000),
+        Some("hit") => (hits(50_000_000, apart, 0, 37), 50_000_000),
+        Some("oldest") => (hits(50_000_000, apart, 0, 0), 50_000_000),
+        Some("newest") => (hits(50_000_000, apart, 63, 0), 50_000_000),
+        Some("shared") => (hits(20_000_000, in_eight_sets, 0, 37), 20_000_000),
+        Some("one_set") => (hits(5_000_000, in_one_set, 0, 37), 5_000_000),
+        Some("miss") => (misses(5_000_000, 65), 5_000_000),
+        Some("thousand") => (misses(5_000_000, 1_000), 5_000_000),
         Some("clear") => (clears(20_000), 20_000),
         Some("byte") => (bytes(20_000_000), 20_000_000),
         Some("fill") => (fills(1_000_000), 1_000_000),

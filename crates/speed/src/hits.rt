@@ -1,5 +1,5 @@
 //! Accesses that the TLB translates, and ones that fill it.
-ghost use Rattle.std.specs.Prelude.{◌≡◌, ◌<◌, true};
+ghost use Rattle.std.specs.Prelude.{◌≡◌, ◌<◌, ◌≤◌, true};
 ghost use Rattle.vm_base.specs.Pages.{is_page};
 
 use crate::since::since;
@@ -16,23 +16,68 @@ const READ_WRITE: Prot = Prot {
     exec: false,
 };
 
-/// The page of a place among 65.
+/// Where 64 pages stand, which the TLB has all at once.
+pub trait Places {
+    /// The page of a place.
+    fn page(&self, place: u64) -> u64
+        requires { place < 64 }
+        ensures { is_page result ≡ true };
+}
+
+/// Eight pages from one to the next, so that no two share a set of the TLB: the translations of one
+/// hash, which are looked through one after another.
+pub struct Apart;
+
+impl Places for Apart {
+    fn page(&self, place: u64) -> u64 {
+        page_at(place)
+    }
+}
+
+/// Eight share a set.
+pub struct EightSets;
+
+impl Places for EightSets {
+    fn page(&self, place: u64) -> u64 {
+        4096 + place % 8 + place / 8 * (1 << 32)
+    }
+}
+
+/// All share a set.
+pub struct OneSet;
+
+impl Places for OneSet {
+    fn page(&self, place: u64) -> u64 {
+        4096 + place % 8 * ((1 << 29) + (1 << 21)) + place / 8 * (1 << 32)
+    }
+}
+
+/// The page of a place among 1,000, eight pages from one to the next.
 fn page_at(place: u64) -> u64
-    requires { place < 65 }
+    requires { place < 1000 }
     ensures { is_page result ≡ true }
 {
     4096 + 8 * place
 }
 
-/// A core that has a table entry of each of the 65 pages, and a cached translation of the first 64.
-fn loaded(alloc: Global) -> Result<Cpu<Global>, NoMemory> {
+/// A core that has a table entry of each of so many pages, and a cached translation of none.
+fn installed(alloc: Global, pages: u64) -> Result<Cpu<Global>, NoMemory>
+    requires { pages ≤ 1000 }
+{
     let mut cpu = Cpu::new(alloc)?;
-    'pages: for place in 0..65u64 {
-        let page = page_at(place);
+    'pages: for place in 0..pages {
+        cpu.install(page_at(place), place as u32 + 1, READ_WRITE)?;
+    }
+    Ok(cpu)
+}
+
+/// A core that has a table entry and a cached translation of each of the 64 pages.
+fn loaded(alloc: Global, places: &impl Places) -> Result<Cpu<Global>, NoMemory> {
+    let mut cpu = Cpu::new(alloc)?;
+    'pages: for place in 0..64u64 {
+        let page = places.page(place);
         cpu.install(page, place as u32 + 1, READ_WRITE)?;
-        if place < 64 {
-            cpu.translate(page, Access::Load);
-        }
+        cpu.translate(page, Access::Load);
     }
     Ok(cpu)
 }
@@ -60,14 +105,14 @@ fn steps(order: Order) -> (u64, u64)
 }
 
 /// Many loads; how many of them hit the TLB, and the sum of their frames.
-fn loads(cpu: &mut Cpu<Global>, order: Order, rounds: u64) -> (u64, u64) {
+fn loads(cpu: &mut Cpu<Global>, places: &impl Places, order: Order, rounds: u64) -> (u64, u64) {
     let (first, stride) = steps(order);
     let mut place = first;
     let mut hits = 0u64;
     let mut sum = 0u64;
     'rounds: for _ in 0..rounds {
         place = (place + stride) % 64;
-        if let Translated::Hit(frame) = cpu.translate(page_at(place), Access::Load) {
+        if let Translated::Hit(frame) = cpu.translate(places.page(place), Access::Load) {
             hits = hits.wrapping_add(1);
             sum = sum.wrapping_add(u64::from(frame));
         }
@@ -75,14 +120,15 @@ fn loads(cpu: &mut Cpu<Global>, order: Order, rounds: u64) -> (u64, u64) {
     (hits, sum)
 }
 
-/// Many loads of 65 pages in turn, so that each page went from the TLB before it is loaded again;
-/// how many of them filled the TLB, and the sum of their frames.
-fn misses(cpu: &mut Cpu<Global>, rounds: u64) -> (u64, u64) {
-    let mut place = 63;
+/// Many loads of so many pages in turn; how many of them filled the TLB, and the sum of their frames.
+fn misses(cpu: &mut Cpu<Global>, pages: u64, rounds: u64) -> (u64, u64)
+    requires { pages ≤ 1000 }
+{
+    let mut place = 0;
     let mut fills = 0u64;
     let mut sum = 0u64;
     'rounds: for _ in 0..rounds {
-        place = (place + 1) % 65;
+        place = if place + 1 < pages { place + 1 } else { 0 };
         if let Translated::Fill(frame) = cpu.translate(page_at(place), Access::Load) {
             fills = fills.wrapping_add(1);
             sum = sum.wrapping_add(u64::from(frame));
@@ -92,23 +138,38 @@ fn misses(cpu: &mut Cpu<Global>, rounds: u64) -> (u64, u64) {
 }
 
 /// The nanoseconds of so many loads; none where memory is refused or one of them didn't hit the TLB.
-pub fn time(rt: &impl Clock, alloc: Global, order: Order, rounds: u64) -> io::Result<Option<u128>> {
-    let mut cpu = match loaded(alloc) {
+pub fn time(
+    rt: &impl Clock,
+    alloc: Global,
+    places: &impl Places,
+    order: Order,
+    rounds: u64,
+) -> io::Result<Option<u128>> {
+    let mut cpu = match loaded(alloc, places) {
         Err(_) => return Ok(None),
         Ok(cpu) => cpu,
     };
     let start = Instant::now(rt)?;
-    let (hits, sum) = loads(&mut cpu, order, rounds);
+    let (hits, sum) = loads(&mut cpu, places, order, rounds);
     since(rt, start, hits == rounds && sum > 0)
 }
 
-/// The nanoseconds of so many loads; none where memory is refused or one of them didn't fill the TLB.
-pub fn time_misses(rt: &impl Clock, alloc: Global, rounds: u64) -> io::Result<Option<u128>> {
-    let mut cpu = match loaded(alloc) {
+/// The nanoseconds of so many loads of so many pages in turn, more than the TLB has, so that each
+/// went from it before it is loaded again; none where memory is refused or one of them didn't fill
+/// the TLB.
+pub fn time_misses(
+    rt: &impl Clock,
+    alloc: Global,
+    pages: u64,
+    rounds: u64,
+) -> io::Result<Option<u128>>
+    requires { pages ≤ 1000 }
+{
+    let mut cpu = match installed(alloc, pages) {
         Err(_) => return Ok(None),
         Ok(cpu) => cpu,
     };
     let start = Instant::now(rt)?;
-    let (fills, sum) = misses(&mut cpu, rounds);
+    let (fills, sum) = misses(&mut cpu, pages, rounds);
     since(rt, start, fills == rounds && sum > 0)
 }

@@ -20,7 +20,7 @@ mod slots;
 mod threads;
 mod tree;
 
-use crate::hits::Order;
+use crate::hits::{Apart, EightSets, OneSet, Order};
 use crate::notes::Way;
 use crate::threads::Shared;
 use std::alloc::Global;
@@ -54,7 +54,7 @@ fn tell(rt: &impl Print, nanos: Option<u128>) -> io::Result<()> {
 }
 
 /// The words of the parts.
-const WORDS: [&str; 28] = [
+const WORDS: [&str; 31] = [
     "slots",
     "look",
     "tree",
@@ -65,7 +65,10 @@ const WORDS: [&str; 28] = [
     "hit",
     "oldest",
     "newest",
+    "shared",
+    "one_set",
     "miss",
+    "thousand",
     "clear",
     "byte",
     "fill",
@@ -96,7 +99,7 @@ fn rounds_of(word: &str) -> u64
         "room" => 1_000_000,
         "gaps" => 1_000,
         "hit" | "oldest" | "newest" => 50_000_000,
-        "byte" | "count" => 20_000_000,
+        "byte" | "count" | "shared" => 20_000_000,
         "look" => 10_000_000,
         "fill" | "copy" | "mutex" | "mutex_four" | "run" | "certify" | "histories" => 1_000_000,
         "own" | "own_four" => 20_000_000,
@@ -124,10 +127,13 @@ fn time<R: Threads + Wait + Clock + Sync>(
         "edit" => ranges::time_edits(rt, alloc, pages, rounds),
         "room" => room::time_mapping(rt, alloc, pages, rounds),
         "gaps" => room::time_gaps(rt, alloc, pages, rounds),
-        "hit" => hits::time(rt, alloc, Order::Anywhere, rounds),
-        "oldest" => hits::time(rt, alloc, Order::Oldest, rounds),
-        "newest" => hits::time(rt, alloc, Order::Newest, rounds),
-        "miss" => hits::time_misses(rt, alloc, rounds),
+        "hit" => hits::time(rt, alloc, &Apart, Order::Anywhere, rounds),
+        "oldest" => hits::time(rt, alloc, &Apart, Order::Oldest, rounds),
+        "newest" => hits::time(rt, alloc, &Apart, Order::Newest, rounds),
+        "shared" => hits::time(rt, alloc, &EightSets, Order::Anywhere, rounds),
+        "one_set" => hits::time(rt, alloc, &OneSet, Order::Anywhere, rounds),
+        "miss" => hits::time_misses(rt, alloc, 65, rounds),
+        "thousand" => hits::time_misses(rt, alloc, 1_000, rounds),
         "clear" => clears::time(rt, alloc, rounds),
         "byte" => bytes::time_bytes(rt, alloc, rounds),
         "fill" => bytes::time_fills(rt, alloc, rounds),
