@@ -2,13 +2,14 @@
 //! lists' lines.
 use std::alloc::{AllocError, Global};
 use std::test::Fail;
+use trace_text::access_line::{AskedAccess, read_access};
 use trace_text::line::{
     first_word_is_file, first_word_is_vm, is_printable, is_printable_line, read_line,
 };
 use trace_text::lists::{write_answer, write_detach, write_map_line};
 use trace_text::printing::{LineText, address_text, number_text, push_number, push_reply};
 use trace_text::sign::halves;
-use vm_base::{Back, Errno, PageRange, Prot, Reply, SegvCode};
+use vm_base::{Back, Errno, PageRange, Prot, Reply, Request, SegvCode};
 
 /// Sizes of a space. Each row of a table is a line and what it says, as `Debug` shows that.
 const SPACES: &str = "\
@@ -220,6 +221,68 @@ const READ_WRITE: Prot = Prot {
     write: true,
     exec: false,
 };
+
+// Tells whether the line is read as this access of the core.
+fn is_access(line: &str, core: usize, access: AskedAccess) -> bool {
+    match read_access(line.as_bytes()) {
+        Some(read) => read.0.index() as usize == core && read.1 == access,
+        None => false,
+    }
+}
+
+// A load of this address.
+fn load_of(addr: u64) -> AskedAccess {
+    AskedAccess {
+        is_store: false,
+        addr,
+        byte: 0,
+    }
+}
+
+// A store of this byte to this address.
+fn store_of(addr: u64, byte: u8) -> AskedAccess {
+    AskedAccess {
+        is_store: true,
+        addr,
+        byte,
+    }
+}
+
+/// Loads and stores in the usual form are read at once, and their requests are those that the lines say.
+#[test]
+fn usual_accesses(rt: HostRuntime) {
+    assert!(rt; is_access("c0! load 0x10004", 0, load_of(65540)));
+    assert!(rt;
+        is_access(
+            "c9! load 0xffffffffffffffff",
+            9,
+            load_of(18446744073709551615)
+        )
+    );
+    assert!(rt; is_access("c3! store 4096 255", 3, store_of(4096, 255)));
+    assert!(rt; load_of(7).request() == Request::Load { addr: 7 });
+    assert!(rt; store_of(7, 41).request() == Request::Store { addr: 7, byte: 41 });
+}
+
+/// Any other line is left to `read_line`.
+#[test]
+fn other_lines_than_usual_accesses(rt: HostRuntime) {
+    for line in [
+        "c10! load 1",
+        "c0! fetch 1",
+        "c0!  load 1",
+        "c0! load 1 ",
+        "c0! load 00000000000000001",
+        "c0! store 1 256",
+        "c0! store 1",
+        "c0! load 1 2",
+        "c0 load 1",
+        "c0! load x",
+        "",
+    ] {
+        assert!(rt; read_access(line.as_bytes()).is_none());
+    }
+}
 
 // Tells whether these are the line's halves.
 fn are_halves(line: &str, front: &str, behind: &str) -> bool {
