@@ -128,8 +128,8 @@ fn front_core(bytes: &[u8]) -> Option<(CoreId, &[u8])>
     ensures { IfSome result (λ f. BeginsCore bytes.now f.0 f.1.now) }
 {
     match bytes {
-        [b'c', digit, b' ', args @ ..] if *digit >= b'0' && *digit <= b'9' => {
-            Some((CoreId::new(*digit - b'0'), args))
+        [b'c', digit, b' ', action @ ..] if *digit >= b'0' && *digit <= b'9' => {
+            Some((CoreId::new(*digit - b'0'), action))
         }
         _ => None,
     }
