@@ -260,6 +260,8 @@ fn usual_accesses(rt: HostRuntime) {
         )
     );
     assert!(rt; is_access("c3! store 4096 255", 3, store_of(4096, 255)));
+    assert!(rt; is_access("c10! load 1", 10, load_of(1)));
+    assert!(rt; is_access("c63! store 0 0", 63, store_of(0, 0)));
     assert!(rt; load_of(7).request() == Request::Load { addr: 7 });
     assert!(rt; store_of(7, 41).request() == Request::Store { addr: 7, byte: 41 });
 }
@@ -268,7 +270,11 @@ fn usual_accesses(rt: HostRuntime) {
 #[test]
 fn other_lines_than_usual_accesses(rt: HostRuntime) {
     for line in [
-        "c10! load 1",
+        "c64! load 1",
+        "c01! load 1",
+        "c7a! load 1",
+        "c100! load 1",
+        " c1! load 1",
         "c0! fetch 1",
         "c0!  load 1",
         "c0! load 1 ",

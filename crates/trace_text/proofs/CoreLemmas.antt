@@ -23,7 +23,7 @@ two c low h =
     ap (λ b. cond b (cond (nat_lt 63 (10 * (48 + c / 10 - 48) + (48 + c % 10 - 48))) None (Some (10 * (48 + c / 10 - 48) + (48 + c % 10 - 48)))) None) test
     ∙ ap (λ n. cond (nat_lt 63 n) None (Some n)) whole ∙ ap (λ b. cond b None (Some c)) fits
 
-two_digits : (c : ℕ) → 10 ≤ c → c < 64 → decimal c ≡ (48 + c / 10) ∷ (48 + c % 10) ∷ []
+pub two_digits : (c : ℕ) → 10 ≤ c → c < 64 → decimal c ≡ (48 + c / 10) ∷ (48 + c % 10) ∷ []
 two_digits c high h = decimal_step c high (omega arith) ∙ ap (λ l. l ++ (48 + c % 10) ∷ []) (decimal_digit (c / 10) (omega arith))
 
 names_core : (core : ℕ) → core < 64 → core_number (decimal core) ≡ Some core

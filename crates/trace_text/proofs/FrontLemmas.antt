@@ -3,15 +3,18 @@ use Rattle.std.proofs.Common.{inl, inr, ◌≡◌, ◌≢◌, ℕ, zero, suc, �
 use Rattle.std.proofs.Common.{length, take, drop, get_or, Option, Some, None, arith, refl, sym, ap, ◌∙◌, subst, length-take-le}
 use Rattle.std.proofs.Math.Nat.{mul-le-mul_left, pow-suc}
 use Rattle.std.proofs.lemmas.List.{get_or-take, take_more}
+use Rattle.std.proofs.Common.{decimal, ◌/◌, ◌%◌, ◌-◌}
+use Rattle.std.proofs.lemmas.Bool.{cases_lt}
+use Rattle.std.proofs.lemmas.Fmt.{decimal_digit}
 use Rattle.std.proofs.lemmas.Bool.Decides.{nat_tests}
 use Rattle.std.specs.Prelude.{option_and_then, option_map, IfSome, is_some, ◌&&◌, ◌==◌, codes, nat_lt, if◌then◌else◌}
 use Rattle.trace_text.specs.Words.{Word, words_of}
 use Rattle.trace_text.specs.Number.{digit_of, value_from, below_word, number_of}
 use Rattle.trace_text.specs.Request.{◌>>=◌, ended, front_byte, front_number, load_of, store_of, fetch_of, mmap_of, munmap_of, mprotect_of, request_of}
-use Rattle.trace_text.specs.Front.{BeginsCore, BeginsNow, EndsValue}
-use Rattle.trace_text.specs.Line.{act_of, are_printable, is_comment, line_of, line_of_words, now_of, task_of}
+use Rattle.trace_text.specs.Front.{BeginsCore, BeginsNow, EndsValue, NamesByOne, NamesByTwo}
+use Rattle.trace_text.specs.Line.{act_of, are_printable, core_of, is_comment, line_of, line_of_words, now_of, task_of}
 use Rattle.trace_text.specs.declared.line.Line.TheVariants.{Act, Now}
-use Rattle.trace_text.proofs.CoreLemmas.{one}
+use Rattle.trace_text.proofs.CoreLemmas.{core_all, two_digits}
 use Rattle.trace_text.proofs.LineLemmas.{acts, now_read}
 use Rattle.trace_text.proofs.PrintableLemmas.{line_printable}
 use Rattle.trace_text.proofs.Choices.{chosen}
@@ -214,18 +217,36 @@ pub mprotect_named : (words bytes args : List ℕ) → words_of bytes ≡ words_
 unfolding request_of
 mprotect_named words bytes args same e = named words bytes (codes "mprotect " ++ args) same e
 
--- a call of a core of one digit
+-- a call of a core
 now_words : (x : ℕ) (args : List ℕ) → eqb x 32 ≡ false → words_of (99 ∷ x ∷ 33 ∷ 32 ∷ args) ≡ (99 ∷ x ∷ 33 ∷ []) ∷ words_of args
 now_words x args e = rw e refl
 
-now_is : (core : ℕ) (args : List ℕ) → core < 10
-    → line_of_words (words_of (99 ∷ (48 + core) ∷ 33 ∷ 32 ∷ args)) ≡ (request_of (words_of args) >>= λ q. Some (Now core q))
+now_words_of_two : (x y : ℕ) (args : List ℕ) → eqb x 32 ≡ false → eqb y 32 ≡ false
+    → words_of (99 ∷ x ∷ y ∷ 33 ∷ 32 ∷ args) ≡ (99 ∷ x ∷ y ∷ 33 ∷ []) ∷ words_of args
+now_words_of_two x y args e f = rw (e, f) refl
+
+named_words : (core : ℕ) (args : List ℕ) → core < 64
+    → words_of (99 ∷ (decimal core ++ 33 ∷ 32 ∷ args)) ≡ (99 ∷ (decimal core ++ 33 ∷ [])) ∷ words_of args
+named_words core args small = elim (cases_lt core 10) [
+  | inl low ↦
+      let letter : eqb (48 + core) 32 ≡ false = grind (arith, nat_tests) in
+      let is : decimal core ≡ (48 + core) ∷ [] = decimal_digit core low in
+      rw is (now_words (48 + core) args letter)
+  | inr high ↦
+      let tens : eqb (48 + core / 10) 32 ≡ false = grind (arith, nat_tests) in
+      let ones : eqb (48 + core % 10) 32 ≡ false = grind (arith, nat_tests) in
+      let is : decimal core ≡ (48 + core / 10) ∷ (48 + core % 10) ∷ [] = two_digits core high small in
+      rw is (now_words_of_two (48 + core / 10) (48 + core % 10) args tens ones)
+]
+
+now_is : (core : ℕ) (args : List ℕ) → core < 64
+    → line_of_words (words_of (99 ∷ (decimal core ++ 33 ∷ 32 ∷ args))) ≡ (request_of (words_of args) >>= λ q. Some (Now core q))
 unfolding now_of
-now_is core args low =
-    let letter : eqb (48 + core) 32 ≡ false = grind (arith, nat_tests) in
-    ap line_of_words (now_words (48 + core) args letter)
-    ∙ now_read (99 ∷ (48 + core) ∷ []) core (words_of args) (one core low)
-    ∙ ap (λ o. o >>= λ c. request_of (words_of args) >>= λ q. Some (Now c q)) (one core low)
+now_is core args small =
+    let named : core_of (99 ∷ decimal core) ≡ Some core = core_all (99 ∷ decimal core) core (small, refl) in
+    ap line_of_words (named_words core args small)
+    ∙ now_read (99 ∷ decimal core) core (words_of args) named
+    ∙ ap (λ o. o >>= λ c. request_of (words_of args) >>= λ q. Some (Now c q)) named
 
 now_named : (bytes args : List ℕ) (core : ℕ) → BeginsNow bytes core args
     → line_of_words (words_of bytes) ≡ (request_of (words_of args) >>= λ q. Some (Now core q))
@@ -254,16 +275,44 @@ now_printable bytes words core request begins e =
 
 -- ---- an action that is known by the bytes that it begins with
 
--- a core of one digit that is told it
+-- a core that is told it
 core_words : (x : ℕ) (args : List ℕ) → eqb x 32 ≡ false → words_of (99 ∷ x ∷ 32 ∷ args) ≡ (99 ∷ x ∷ []) ∷ words_of args
 core_words x args e = rw e refl
+
+core_words_of_two : (x y : ℕ) (args : List ℕ) → eqb x 32 ≡ false → eqb y 32 ≡ false
+    → words_of (99 ∷ x ∷ y ∷ 32 ∷ args) ≡ (99 ∷ x ∷ y ∷ []) ∷ words_of args
+core_words_of_two x y args e f = rw (e, f) refl
+
+told_words : (core : ℕ) (args : List ℕ) → core < 64 → words_of (99 ∷ (decimal core ++ 32 ∷ args)) ≡ (99 ∷ decimal core) ∷ words_of args
+told_words core args small = elim (cases_lt core 10) [
+  | inl low ↦
+      let letter : eqb (48 + core) 32 ≡ false = grind (arith, nat_tests) in
+      let is : decimal core ≡ (48 + core) ∷ [] = decimal_digit core low in
+      rw is (core_words (48 + core) args letter)
+  | inr high ↦
+      let tens : eqb (48 + core / 10) 32 ≡ false = grind (arith, nat_tests) in
+      let ones : eqb (48 + core % 10) 32 ≡ false = grind (arith, nat_tests) in
+      let is : decimal core ≡ (48 + core / 10) ∷ (48 + core % 10) ∷ [] = two_digits core high small in
+      rw is (core_words_of_two (48 + core / 10) (48 + core % 10) args tens ones)
+]
 
 pub told_some : (bytes args : List ℕ) (core : ℕ) (action : Action) → BeginsCore bytes core args → Some (Act core action) ≡ task_of core (words_of args)
     → Some (Act core action) ≡ line_of_words (words_of bytes)
 told_some bytes args core action begins e =
-    let letter : eqb (48 + core) 32 ≡ false = (let low = begins.low in grind (arith, nat_tests)) in
-    e ∙ sym (ap (λ b. line_of_words (words_of b)) begins.is ∙ ap line_of_words (core_words (48 + core) args letter)
-    ∙ acts (99 ∷ (48 + core) ∷ []) core (words_of args) (one core begins.low))
+    e ∙ sym (ap (λ b. line_of_words (words_of b)) begins.is ∙ ap line_of_words (told_words core args begins.low)
+    ∙ acts (99 ∷ decimal core) core (words_of args) (core_all (99 ∷ decimal core) core (begins.low, refl)))
+
+-- one digit names a core, and two do
+pub one_named : (digit : ℕ) → 48 ≤ digit → digit ≤ 57 → NamesByOne digit (digit - 48)
+one_named digit low high = (omega arith, decimal_digit (digit - 48) (omega arith) ∙ ap (λ x. x ∷ []) (omega arith))
+
+pub two_named : (tens ones : ℕ) → 49 ≤ tens → tens ≤ 54 → 48 ≤ ones → ones ≤ 57 → (tens - 48) * 10 + (ones - 48) < 64
+    → NamesByTwo tens ones ((tens - 48) * 10 + (ones - 48))
+two_named tens ones low high small most fits =
+    let core : ℕ = (tens - 48) * 10 + (ones - 48) in
+    let first : 48 + core / 10 ≡ tens = omega arith in
+    let last : 48 + core % 10 ≡ ones = omega arith in
+    (fits, two_digits core (omega arith) fits ∙ ap (λ x. x ∷ (48 + core % 10) ∷ []) first ∙ ap (λ x. tens ∷ x ∷ []) last)
 
 pub walk_told : (bytes args : List ℕ) (o : Option Action) → bytes ≡ codes "walk " ++ args → o ≡ walk_of (words_of args)
     → IfSome o (λ action. (core : ℕ) → Some (Act core action) ≡ task_of core (words_of bytes))

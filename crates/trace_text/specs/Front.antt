@@ -1,6 +1,6 @@
 -- What bytes begin with.
 use Rattle.std.specs.Prelude.{◌≡◌, ℕ, ◌^◌, ◌+◌, ◌<◌, ◌≤◌, List, ◌∷◌, ◌++◌, Some, length, take, drop}
-use Rattle.std.specs.Prelude.{slice_index, codes, if◌then◌else◌}
+use Rattle.std.specs.Prelude.{slice_index, codes, decimal, if◌then◌else◌, []}
 use Rattle.vm_base.specs.declared.requests.Request.{Request}
 use Rattle.vm_base.specs.declared.requests.Request.TheVariants.{Load, Store}
 use Rattle.trace_text.specs.Words.{byte}
@@ -17,15 +17,23 @@ pub record EndsValue (base : ℕ) (digits : List ℕ) (number : ℕ) (others : L
   pub rest : others ≡ drop count digits
   pub ends : count < length digits → slice_index digits count ≡ byte (codes " ")
 
--- the bytes begin with the name of a core of one digit, and the sign that its call is finished
+-- the bytes begin with the name of a core, and the sign that its call is finished
 pub record BeginsNow (bytes : List ℕ) (core : ℕ) (args : List ℕ) : Type 0 where
-  pub low : core < 10
-  pub is : bytes ≡ codes "c" ++ (byte (codes "0") + core) ∷ codes "! " ++ args
+  pub low : core < 64
+  pub is : bytes ≡ codes "c" ++ (decimal core ++ (codes "! " ++ args))
 
--- the bytes begin with the name of a core of one digit that is told one thing
+-- the bytes begin with the name of a core that is told one thing
 pub record BeginsCore (bytes : List ℕ) (core : ℕ) (args : List ℕ) : Type 0 where
-  pub low : core < 10
-  pub is : bytes ≡ codes "c" ++ (byte (codes "0") + core) ∷ codes " " ++ args
+  pub low : core < 64
+  pub is : bytes ≡ codes "c" ++ (decimal core ++ (codes " " ++ args))
+
+-- this is the one digit of the core's name
+abbrev pub NamesByOne : ℕ → ℕ → Type 0
+NamesByOne digit core = (core < 64) × (decimal core ≡ digit ∷ [])
+
+-- these are the two digits of the core's name
+abbrev pub NamesByTwo : ℕ → ℕ → ℕ → Type 0
+NamesByTwo tens ones core = (core < 64) × (decimal core ≡ tens ∷ ones ∷ [])
 
 -- the request for such an access
 abbrev pub access_asked : AskedAccess → Request

@@ -101,8 +101,8 @@ fn asked(words: &[u8]) -> Option<AskedAccess>
     None
 }
 
-/// The load or store of the line, and the core that is to make and finish it, where it is written in the usual form: a core
-/// of one digit, one space between words, and numbers of at most 16 digits; `None` where it is any other line, which
+/// The load or store of the line, and the core that is to make and finish it, where it is written in the usual form: nothing
+/// before the core, one space between words, and numbers of at most 16 digits; `None` where it is any other line, which
 /// `read_line` reads.
 #[inline(always)]
 pub fn read_access(bytes: &[u8]) -> Option<(CoreId, AskedAccess)>

@@ -1,6 +1,6 @@
 //! What a line of a trace says.
 ghost use Rattle.std.specs.Prelude.{◌≡◌, IfSome, option_map};
-ghost use Rattle.trace_text.specs.Front.{BeginsCore, BeginsNow};
+ghost use Rattle.trace_text.specs.Front.{BeginsCore, BeginsNow, NamesByOne, NamesByTwo};
 ghost use Rattle.trace_text.specs.Words.{words_of};
 ghost use Rattle.trace_text.specs.Line.{are_printable, begins_with, begins_with_file, begins_with_vm};
 ghost use Rattle.trace_text.specs.Line.{fold_of, is_comment, line_of, line_of_words};
@@ -109,30 +109,110 @@ fn read_fold(args: &[u8]) -> Option<Line>
     Some(Line::Fold(page))
 }
 
-/// A core of one digit that makes a call and finishes it, and the bytes of the call.
+// The core that is named by this digit.
 #[inline(always)]
-pub(crate) fn front_now(bytes: &[u8]) -> Option<(CoreId, &[u8])>
+#[tactic(auto, using(crate::proofs::FrontLemmas::one_named))]
+fn core_of_one(digit: u8) -> Option<CoreId>
+    ensures { IfSome result (λ core. NamesByOne digit core) }
+{
+    if digit < b'0' || digit > b'9' {
+        return None;
+    }
+    Some(CoreId::new(digit - b'0'))
+}
+
+// The core that is named by these two digits.
+#[inline(always)]
+#[tactic(auto, using(crate::proofs::FrontLemmas::two_named))]
+fn core_of_two(tens: u8, ones: u8) -> Option<CoreId>
+    ensures { IfSome result (λ core. NamesByTwo tens ones core) }
+{
+    if tens < b'1' || tens > b'6' || ones < b'0' || ones > b'9' {
+        return None;
+    }
+    let number = (tens - b'0') * 10 + (ones - b'0');
+    if number >= 64 {
+        return None;
+    }
+    Some(CoreId::new(number))
+}
+
+// A core of one digit that makes a call and finishes it, and the bytes of the call.
+#[inline(always)]
+fn one_digit_now(bytes: &[u8]) -> Option<(CoreId, &[u8])>
     ensures { IfSome result (λ f. BeginsNow bytes.now f.0 f.1.now) }
 {
     match bytes {
-        [b'c', digit, b'!', b' ', args @ ..] if *digit >= b'0' && *digit <= b'9' => {
-            Some((CoreId::new(*digit - b'0'), args))
+        [b'c', digit, b'!', b' ', args @ ..] => {
+            let core = core_of_one(*digit)?;
+            Some((core, args))
         }
         _ => None,
     }
 }
 
+// A core of two digits that makes a call and finishes it, and the bytes of the call.
+#[inline(always)]
+fn two_digits_now(bytes: &[u8]) -> Option<(CoreId, &[u8])>
+    ensures { IfSome result (λ f. BeginsNow bytes.now f.0 f.1.now) }
+{
+    match bytes {
+        [b'c', tens, ones, b'!', b' ', args @ ..] => {
+            let core = core_of_two(*tens, *ones)?;
+            Some((core, args))
+        }
+        _ => None,
+    }
+}
+
+/// A core that makes a call and finishes it, and the bytes of the call.
+#[inline(always)]
+pub(crate) fn front_now(bytes: &[u8]) -> Option<(CoreId, &[u8])>
+    ensures { IfSome result (λ f. BeginsNow bytes.now f.0 f.1.now) }
+{
+    if let Some(begun) = one_digit_now(bytes) {
+        return Some(begun);
+    }
+    two_digits_now(bytes)
+}
+
 // A core of one digit that is told one thing, and the bytes of that.
+#[inline(always)]
+fn one_digit_core(bytes: &[u8]) -> Option<(CoreId, &[u8])>
+    ensures { IfSome result (λ f. BeginsCore bytes.now f.0 f.1.now) }
+{
+    match bytes {
+        [b'c', digit, b' ', action @ ..] => {
+            let core = core_of_one(*digit)?;
+            Some((core, action))
+        }
+        _ => None,
+    }
+}
+
+// A core of two digits that is told one thing, and the bytes of that.
+#[inline(always)]
+fn two_digits_core(bytes: &[u8]) -> Option<(CoreId, &[u8])>
+    ensures { IfSome result (λ f. BeginsCore bytes.now f.0 f.1.now) }
+{
+    match bytes {
+        [b'c', tens, ones, b' ', action @ ..] => {
+            let core = core_of_two(*tens, *ones)?;
+            Some((core, action))
+        }
+        _ => None,
+    }
+}
+
+// A core that is told one thing, and the bytes of that.
 #[inline(always)]
 fn front_core(bytes: &[u8]) -> Option<(CoreId, &[u8])>
     ensures { IfSome result (λ f. BeginsCore bytes.now f.0 f.1.now) }
 {
-    match bytes {
-        [b'c', digit, b' ', action @ ..] if *digit >= b'0' && *digit <= b'9' => {
-            Some((CoreId::new(*digit - b'0'), action))
-        }
-        _ => None,
+    if let Some(begun) = one_digit_core(bytes) {
+        return Some(begun);
     }
+    two_digits_core(bytes)
 }
 
 #[tactic(auto, unfolding(crate::specs::Line::line_of_words))]
