@@ -1,7 +1,8 @@
 //! Lines of at most 256 bytes, read in chunks of fixed size: once made, a reader of lines takes no
 //! memory. Before it reads, what was written goes out.
-ghost use Rattle.std.specs.Prelude.{◌≡◌, ◌+◌, ◌-◌, ◌<◌, ◌≤◌, ◌^◌, length, take};
+ghost use Rattle.std.specs.Prelude.{◌≡◌, ◌+◌, ◌-◌, ◌<◌, ◌≤◌, ◌^◌, ◌∷◌, length, take};
 ghost use Rattle.std.specs.Prelude.{drop, slice_range, IfOk, OnOk, OnErr};
+ghost use Rattle.trace_io.specs.Lines.{lines_of};
 ghost use Rattle.trace_io.specs.Source.{Gives, HasEnded, HasStopped, read_bytes};
 
 use crate::sink::Sink;
@@ -261,4 +262,28 @@ fn read_behind<A: Allocator, S: Source>(
     ensures stopped { OnErr result (HasStopped (S.failed reader.new) (S.reads reader.new)) }
 {
     reader.read(&mut chunk[end..])
+}
+
+// What follows all of the bytes: nothing.
+fn nothing_after(text: &[u8]) -> &[u8]
+    ensures { length result.now ≡ 0 }
+{
+    let (_, rest) = text.split_at(text.len());
+    rest
+}
+
+/// The first line of a text, of any length, without its newline, and what follows it.
+pub fn front_line(text: &[u8]) -> (&[u8], &[u8])
+    requires { 0 < length text.now }
+    ensures lines { lines_of text.now ≡ result.0.now ∷ lines_of result.1.now }
+    ensures less { length result.1.now < length text.now }
+{
+    match memchr(b'\n', text) {
+        Some(end) => {
+            let (line, _) = text.split_at(end);
+            let (_, rest) = text.split_at(end + 1);
+            (line, rest)
+        }
+        None => (text, nothing_after(text)),
+    }
 }

@@ -140,3 +140,21 @@ pub fn write_all<W: Sink>(writer: &mut W, bytes: &[u8]) -> Result<(), WriteFaile
     }
     Ok(())
 }
+
+/// Writes all of the bytes, which have gone out then. At an `Err` a front of them was written.
+pub fn write_out<W: Sink>(writer: &mut W, bytes: &[u8]) -> Result<(), WriteFailed>
+    ensures ok { OnOk result (Appends (W.contents writer.old) (W.contents writer.new) bytes.now) }
+    ensures out { OnOk result (W.is_flushed writer.new ≡ true) }
+    ensures kept { OnOk result (W.failed writer.new ≡ W.failed writer.old) }
+    ensures front { OnErr result
+        (AppendsFront (W.contents writer.old) (W.contents writer.new) bytes.now) }
+    ensures err { OnErr result (W.failed writer.new ≡ true) }
+{
+    if let Err(_) = write_all(writer, bytes) {
+        return Err(WriteFailed);
+    }
+    if let Err(_) = writer.flush() {
+        return Err(WriteFailed);
+    }
+    Ok(())
+}

@@ -1,12 +1,16 @@
 //! What is read from: a reader that tells its bytes, how often it was read, and whether a read has
 //! failed.
 ghost use Rattle.std.specs.Prelude.{◌≡◌, ◌+◌, ◌^◌, ◌<◌, ℕ, [], Bool, false, length, IfOk, OnOk, OnErr};
-ghost use Rattle.std.specs.Prelude.{if◌then◌else◌, Some};
+ghost use Rattle.std.specs.Prelude.{if◌then◌else◌, ◌≤◌, Some, Err, drop};
 ghost use Rattle.std.specs.Io.{ReadsAtMost};
-ghost use Rattle.trace_io.specs.Source.{Stream, Gives, HasEnded, HasStopped, read_bytes};
+ghost use Rattle.trace_io.specs.Source.{Stream, Gives, HasEnded, HasStopped, Reads, read_bytes};
 
 use history::History;
+use std::alloc::{AllocError, Allocator};
 use std::io::Read;
+
+/// How many bytes are read at once where all are read.
+const CHUNK: usize = 65_536;
 
 /// How many reads one input may take: 2^32.
 pub const READ_LIMIT: u64 = 4_294_967_296;
@@ -98,6 +102,74 @@ impl<R: Read> Source for Counted<R> {
                 self.failed = true;
                 Err(ReadFailed)
             }
+        }
+    }
+}
+
+/// Why an input wasn't read to its end.
+#[derive(Clone, Copy, Debug, PartialEq, Eq)]
+pub enum Unread {
+    /// A read failed, or one more than `READ_LIMIT` was due.
+    ReadFailed,
+    /// What was read found no memory.
+    NoMemory,
+}
+
+// Room for what one read gives.
+fn new_chunk<A: Allocator>(alloc: A) -> Result<Vec<u8, A>, AllocError>
+    ensures { IfOk result (λ chunk. length chunk.items ≡ 65536) }
+{
+    let chunk = vec![in alloc; 0u8; CHUNK]?;
+    Ok(chunk)
+}
+
+// Reads into the chunk.
+fn read_chunk<A: Allocator, S: Source>(
+    chunk: &mut Vec<u8, A>,
+    reader: &mut S,
+) -> Result<usize, ReadFailed>
+    requires { 0 < length chunk.old.items }
+    ensures same { length chunk.new.items ≡ length chunk.old.items }
+    ensures room { IfOk result (λ n. n ≤ length chunk.new.items) }
+    ensures bytes { Gives (S.stream reader.old) (S.stream reader.new)
+        (read_bytes result (drop 0 chunk.new.items)) }
+    ensures end { IfOk result (λ n. n ≡ 0 → HasEnded (S.stream reader.new)) }
+    ensures count { OnOk result (S.reads reader.new ≡ S.reads reader.old + 1) }
+    ensures limit { OnOk result (S.reads reader.old < 2 ^ 32) }
+    ensures stopped { OnErr result (HasStopped (S.failed reader.new) (S.reads reader.new)) }
+{
+    reader.read(&mut chunk[0..])
+}
+
+/// Reads until the input ends. Where a read fails, or there is no memory, some of it was read.
+pub fn read_all<A: Allocator + Clone, S: Source>(
+    alloc: A,
+    reader: &mut S,
+) -> Result<Vec<u8, A>, Unread>
+    ensures text { IfOk result (λ text.
+        Reads (S.stream reader.old) (S.stream reader.new) (λ input unread. input ≡ text.items)) }
+    ensures kept { OnErr result
+        (Reads (S.stream reader.old) (S.stream reader.new) (λ input unread. input ≡ input)) }
+    ensures read { result ≡ Err Unread.ReadFailed →
+        HasStopped (S.failed reader.new) (S.reads reader.new) }
+{
+    let Ok(for_text) = alloc.clone() else {
+        return Err(Unread::NoMemory);
+    };
+    let Ok(mut chunk) = new_chunk(alloc) else {
+        return Err(Unread::NoMemory);
+    };
+    let mut text: Vec<u8, A> = Vec::new(for_text);
+    'reads: loop {
+        let count = match read_chunk(&mut chunk, reader) {
+            Ok(count) => count,
+            Err(_) => return Err(Unread::ReadFailed),
+        };
+        if count == 0 {
+            return Ok(text);
+        }
+        if let Err(_) = text.extend_from_slice(&chunk[..count]) {
+            return Err(Unread::NoMemory);
         }
     }
 }
