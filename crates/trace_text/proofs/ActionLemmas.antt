@@ -1,9 +1,7 @@
 -- Actions and their grammar.
-use Rattle.std.proofs.Common.{◌≡◌, inl, inr, ℕ, true, List, [], ◌∷◌, Some, codes, refl, sym, ap, ◌∙◌, subst}
-use Rattle.std.specs.Str.{bytes_eq}
-use Rattle.std.proofs.lemmas.Slice.Eq.{bytes_eq-Decides}
+use Rattle.std.proofs.Common.{◌≡◌, ℕ, List, [], ◌∷◌, Option, Some, codes, refl, sym, ap, ◌∙◌, subst}
 use Rattle.vm_base.specs.Pages.{page_of}
-use Rattle.trace_text.proofs.Choices.{bind_some, ended_some, chosen}
+use Rattle.trace_text.proofs.Choices.{bind_some, by_name, by_word, ended_some}
 use Rattle.trace_text.proofs.RequestLemmas.{asked_is_read, read_is_asked}
 use Rattle.trace_text.proofs.SpellingLemmas.{front_all, front_only}
 use Rattle.trace_text.specs.Words.{Word}
@@ -30,20 +28,15 @@ pub act_is_read : (core : ℕ) (a : Action) (words : List Word) → Does a words
 unfolding task_of act_of action_of call_of frame_of guess_of walk_of evict_of
 act_is_read core (Call request) words (args, e, k) =
     ap (task_of core) e ∙ ap (λ o. (o >>= λ q. Some (Call q)) >>= λ a. Some (Act core a)) (asked_is_read request args k)
-act_is_read core Go words e = ap (task_of core) e
-act_is_read core Take words e = ap (task_of core) e
-act_is_read core Flush words e = ap (task_of core) e
-act_is_read core Review words e = ap (task_of core) e
-act_is_read core GiveUp words e = ap (task_of core) e
 act_is_read core (Frame frame) words (w, e, s) =
     ap (task_of core) e ∙ ap (λ o. (o >>= λ f. Some (Frame f)) >>= λ a. Some (Act core a)) (alone_all w frame s)
 act_is_read core (Guess page) words (w, e, s) =
     ap (task_of core) e ∙ ap (λ o. (o >>= λ p. Some (Guess p)) >>= λ a. Some (Act core a)) (page_all w page s)
-act_is_read core Whole words e = ap (task_of core) e
 act_is_read core (Walk page) words (w, e, s) =
     ap (task_of core) e ∙ ap (λ o. (o >>= λ p. Some (Walk p)) >>= λ a. Some (Act core a)) (page_all w page s)
 act_is_read core (Evict page) words (w, e, s) =
     ap (task_of core) e ∙ ap (λ o. (o >>= λ p. Some (Evict p)) >>= λ a. Some (Act core a)) (page_all w page s)
+act_is_read core a words e = ap (task_of core) e
 
 -- ---- what is read is said
 
@@ -70,68 +63,31 @@ only_call args a e =
     let same : Call request ≡ a = cc in
     subst (λ x. Does x (codes "call" ∷ args)) same (args, refl, read_is_asked request args q)
 
-only_frame : (args : List Word) (a : Action) → frame_of args ≡ Some a → Does a (codes "frame" ∷ args)
-unfolding frame_of
-only_frame args a e =
-    let (frame, k, e1) = bind_some (number_alone args) (λ f. Some (Frame f)) a e in
-    let same : Frame frame ≡ a = cc in
-    let (w, is, s) = alone_only args frame k in
-    subst (λ x. Does x (codes "frame" ∷ args)) same (w, ap (λ ws. codes "frame" ∷ ws) is, s)
+-- what a name and one word say, whose number is read
+pub with_word : {X : Type 0} (read : List Word → Option ℕ) (Spells : Word → ℕ → Type 0)
+    → ((ws : List Word) (n : ℕ) → read ws ≡ Some n → (w : Word) × (ws ≡ w ∷ []) × Spells w n)
+    → (make : ℕ → X) (P : X → List Word → Type 0) (name : Word) → ((n : ℕ) (w : Word) → Spells w n → P (make n) (name ∷ w ∷ []))
+    → (args : List Word) (x : X) → (read args >>= λ n. Some (make n)) ≡ Some x → P x (name ∷ args)
+with_word read Spells only make P name says args x e =
+    let (n, k, e1) = bind_some (read args) (λ n. Some (make n)) x e in
+    let same : make n ≡ x = cc in
+    let (w, is, s) = only args n k in
+    subst (λ y. P y (name ∷ args)) same (subst (λ ws. P (make n) (name ∷ ws)) (sym is) (says n w s))
 
-only_guess : (args : List Word) (a : Action) → guess_of args ≡ Some a → Does a (codes "guess" ∷ args)
-unfolding guess_of
-only_guess args a e =
-    let (page, k, e1) = bind_some (page_alone args) (λ p. Some (Guess p)) a e in
-    let same : Guess page ≡ a = cc in
-    let (w, is, s) = page_only args page k in
-    subst (λ x. Does x (codes "guess" ∷ args)) same (w, ap (λ ws. codes "guess" ∷ ws) is, s)
+-- an action on the page of an address
+only_page : (make : ℕ → Action) (name : Word) → ((page : ℕ) (w : Word) → SpellsPage w page → Does (make page) (name ∷ w ∷ []))
+    → (args : List Word) (a : Action) → (page_alone args >>= λ page. Some (make page)) ≡ Some a → Does a (name ∷ args)
+only_page make name does args a e = with_word page_alone SpellsPage page_only make Does name does args a e
 
-only_walk : (args : List Word) (a : Action) → walk_of args ≡ Some a → Does a (codes "walk" ∷ args)
-unfolding walk_of
-only_walk args a e =
-    let (page, k, e1) = bind_some (page_alone args) (λ p. Some (Walk p)) a e in
-    let same : Walk page ≡ a = cc in
-    let (w, is, s) = page_only args page k in
-    subst (λ x. Does x (codes "walk" ∷ args)) same (w, ap (λ ws. codes "walk" ∷ ws) is, s)
+-- a name that says all of the action
+abbrev Bare : Word → Action → Type 0
+Bare name a = Does a (name ∷ [])
 
-only_evict : (args : List Word) (a : Action) → evict_of args ≡ Some a → Does a (codes "evict" ∷ args)
-unfolding evict_of
-only_evict args a e =
-    let (page, k, e1) = bind_some (page_alone args) (λ p. Some (Evict p)) a e in
-    let same : Evict page ≡ a = cc in
-    let (w, is, s) = page_only args page k in
-    subst (λ x. Does x (codes "evict" ∷ args)) same (w, ap (λ ws. codes "evict" ∷ ws) is, s)
-
--- a name that the test knew
-named : (a : Action) (name t : Word) (args : List Word) → bytes_eq name t ≡ true → Does a (t ∷ args) → Does a (name ∷ args)
-named a name t args b d = subst (λ w. Does a (w ∷ args)) (sym ((bytes_eq-Decides name t).0 b)) d
-
--- the same of an action that one word says
-told : (a known : Action) (name t : Word) → bytes_eq name t ≡ true → Some known ≡ Some a → Does known (t ∷ []) → Does a (name ∷ [])
-told a known name t b e d =
-    let same : known ≡ a = cc in
-    named a name t [] b (subst (λ x. Does x (t ∷ [])) same d)
-
-only_bare : (name : Word) (a : Action) → bare_of name ≡ Some a → Does a (name ∷ [])
-only_bare name a e = elim (chosen (bytes_eq name (codes "go")) _ _ (Some a) e) [
-  | inl h ↦ told a Go name (codes "go") h.0 h.1 refl
-  | inr h ↦ elim (chosen (bytes_eq name (codes "take")) _ _ (Some a) h.1) [
-    | inl k ↦ told a Take name (codes "take") k.0 k.1 refl
-    | inr k ↦ elim (chosen (bytes_eq name (codes "flush")) _ _ (Some a) k.1) [
-      | inl l ↦ told a Flush name (codes "flush") l.0 l.1 refl
-      | inr l ↦ elim (chosen (bytes_eq name (codes "review")) _ _ (Some a) l.1) [
-        | inl m ↦ told a Review name (codes "review") m.0 m.1 refl
-        | inr m ↦ elim (chosen (bytes_eq name (codes "giveup")) _ _ (Some a) m.1) [
-          | inl n ↦ told a GiveUp name (codes "giveup") n.0 n.1 refl
-          | inr n ↦ elim (chosen (bytes_eq name (codes "whole")) _ _ (Some a) n.1) [
-            | inl o ↦ told a Whole name (codes "whole") o.0 o.1 refl
-            | inr o ↦ let bad = o.1 in absurd (cc)
-          ]
-        ]
-      ]
-    ]
-  ]
-]
+only_bare : (name : Word) (a : Action) → bare_of name ≡ Some a → Bare name a
+only_bare name a e =
+    by_name Bare name (codes "go") Go _ a e refl (λ e. by_name Bare name (codes "take") Take _ a e refl (λ e.
+    by_name Bare name (codes "flush") Flush _ a e refl (λ e. by_name Bare name (codes "review") Review _ a e refl (λ e.
+    by_name Bare name (codes "giveup") GiveUp _ a e refl (λ e. by_name Bare name (codes "whole") Whole _ a e refl (λ e. absurd (cc)))))))
 
 -- behind which no word is left
 only_ended : (name : Word) (args : List Word) (a : Action) → (bare_of name >>= λ b. ended args b) ≡ Some a → Does a (name ∷ args)
@@ -141,20 +97,12 @@ only_ended name args a e =
     subst (λ ws. Does a (name ∷ ws)) (sym none) (only_bare name a (k ∙ ap Some same))
 
 pub only_action : (name : Word) (args : List Word) (a : Action) → action_of name args ≡ Some a → Does a (name ∷ args)
-unfolding action_of
-only_action name args a e = elim (chosen (bytes_eq name (codes "call")) _ _ (Some a) e) [
-  | inl h ↦ named a name (codes "call") args h.0 (only_call args a h.1)
-  | inr h ↦ elim (chosen (bytes_eq name (codes "frame")) _ _ (Some a) h.1) [
-    | inl k ↦ named a name (codes "frame") args k.0 (only_frame args a k.1)
-    | inr k ↦ elim (chosen (bytes_eq name (codes "guess")) _ _ (Some a) k.1) [
-      | inl l ↦ named a name (codes "guess") args l.0 (only_guess args a l.1)
-      | inr l ↦ elim (chosen (bytes_eq name (codes "walk")) _ _ (Some a) l.1) [
-        | inl m ↦ named a name (codes "walk") args m.0 (only_walk args a m.1)
-        | inr m ↦ elim (chosen (bytes_eq name (codes "evict")) _ _ (Some a) m.1) [
-          | inl n ↦ named a name (codes "evict") args n.0 (only_evict args a n.1)
-          | inr n ↦ only_ended name args a n.1
-        ]
-      ]
-    ]
-  ]
-]
+unfolding action_of frame_of guess_of walk_of evict_of
+only_action name args a e =
+    let does : Word → Type 0 = (λ w. Does a (w ∷ args)) in
+    by_word does name (codes "call") _ _ a e (only_call args a) (λ e.
+    by_word does name (codes "frame") _ _ a e
+    (with_word number_alone SpellsNumber alone_only Frame Does (codes "frame") (λ frame w s. (w, refl, s)) args a) (λ e.
+    by_word does name (codes "guess") _ _ a e (only_page Guess (codes "guess") (λ page w s. (w, refl, s)) args a) (λ e.
+    by_word does name (codes "walk") _ _ a e (only_page Walk (codes "walk") (λ page w s. (w, refl, s)) args a) (λ e.
+    by_word does name (codes "evict") _ _ a e (only_page Evict (codes "evict") (λ page w s. (w, refl, s)) args a) (only_ended name args a)))))

@@ -1,10 +1,10 @@
 -- The line of a file and its grammar.
-use Rattle.std.proofs.Common.{◌≡◌, inl, inr, ℕ, true, List, [], ◌∷◌, Some, codes, refl, ap, ◌∙◌, subst}
-use Rattle.std.specs.Str.{bytes_eq}
-use Rattle.std.proofs.lemmas.Slice.Eq.{bytes_eq-Decides}
+use Rattle.std.proofs.Common.{◌≡◌, ℕ, ◌+◌, ◌%◌, List, [], ◌∷◌, ◌++◌, Some, codes, map, arith, refl, sym, ap, ◌∙◌, subst}
+use Rattle.std.specs.List.{range_with_len}
+use Rattle.std.proofs.lemmas.List.FromFn.{map-range_with_len_more}
 use Rattle.vm_base.specs.declared.rights.Mode.{Mode}
 use Rattle.vm_base.specs.declared.rights.Mode.TheVariants.{R, W, RW}
-use Rattle.trace_text.proofs.Choices.{bind_some, ended_some, front_some, chosen}
+use Rattle.trace_text.proofs.Choices.{bind_some, by_name, ended_some, front_some}
 use Rattle.trace_text.proofs.SpellingLemmas.{byte_all, byte_only, front_all, front_only}
 use Rattle.trace_text.specs.Words.{Word, front_word}
 use Rattle.trace_text.specs.Request.{ended, front_byte, front_number}
@@ -31,23 +31,13 @@ said_file number mode len seed args (n, l, s, e, spelled, length, byte, small) =
     let b : front_byte (s ∷ []) ≡ Some (seed, []) = byte_all s [] seed byte small in
     rw (same, k, m, i, b) refl
 
--- a mode that the test knew
-told : (word t : Word) (known mode : Mode) → bytes_eq word t ≡ true → Some known ≡ Some mode → t ≡ mode_text known → word ≡ mode_text mode
-told word t known mode b e is =
-    let same : known ≡ mode = cc in
-    (bytes_eq-Decides word t).0 b ∙ is ∙ ap mode_text same
+abbrev Names : Word → Mode → Type 0
+Names word mode = word ≡ mode_text mode
 
-mode_only : (word : Word) (mode : Mode) → mode_named word ≡ Some mode → word ≡ mode_text mode
-mode_only word mode e = elim (chosen (bytes_eq word (codes "r")) _ _ (Some mode) e) [
-  | inl h ↦ told word (codes "r") R mode h.0 h.1 refl
-  | inr h ↦ elim (chosen (bytes_eq word (codes "w")) _ _ (Some mode) h.1) [
-    | inl k ↦ told word (codes "w") W mode k.0 k.1 refl
-    | inr k ↦ elim (chosen (bytes_eq word (codes "rw")) _ _ (Some mode) k.1) [
-      | inl l ↦ told word (codes "rw") RW mode l.0 l.1 refl
-      | inr l ↦ let bad = l.1 in absurd (cc)
-    ]
-  ]
-]
+mode_only : (word : Word) (mode : Mode) → mode_named word ≡ Some mode → Names word mode
+mode_only word mode e =
+    by_name Names word (codes "r") R _ mode e refl (λ e. by_name Names word (codes "w") W _ mode e refl (λ e.
+    by_name Names word (codes "rw") RW _ mode e refl (λ e. absurd (cc))))
 
 pub only_file : (args : List Word) (line : Line) → file_line_of args ≡ Some line → Says line (codes "file" ∷ args)
 unfolding file_line_of contents_of
@@ -65,3 +55,15 @@ only_file args line e =
     let others = front_some number.1 second e2 ∙ ap (λ w. w ∷ second.1) (mode_only second.0 mode n2) ∙ ap (λ ws. mode_text mode ∷ ws) last in
     let words = is ∙ ap (λ ws. n ∷ ws) others in
     subst (λ l. Says l (codes "file" ∷ args)) same (n, l, s, ap (λ ws. codes "file" ∷ ws) words, spelled, length, byte, small)
+
+-- ---- the bytes of a file, made one after another
+
+pub bytes_more : (seed n next : ℕ) (old new : List ℕ) (byte : ℕ) → next ≡ n + 1 → byte ≡ (seed + n) % 256 → new ≡ old ++ byte ∷ []
+    → old ≡ map (λ i. (seed + i) % 256) (range_with_len 0 n) → new ≡ map (λ i. (seed + i) % 256) (range_with_len 0 next)
+bytes_more seed n next old new byte e b h was =
+    h ∙ ap (λ l. l ++ byte ∷ []) was ∙ ap (λ x. map (λ i. (seed + i) % 256) (range_with_len 0 n) ++ x ∷ []) b
+    ∙ sym (map-range_with_len_more (λ i. (seed + i) % 256) 0 n n (omega arith))
+    ∙ ap (λ m. map (λ i. (seed + i) % 256) (range_with_len 0 m)) (sym e)
+
+pub byte_more : (seed n next byte after : ℕ) → next ≡ n + 1 → byte ≡ (seed + n) % 256 → after ≡ (byte + 1) % 256 → after ≡ (seed + next) % 256
+byte_more seed n next byte after e b h = omega (arith, e, b, h)

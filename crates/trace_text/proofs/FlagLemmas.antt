@@ -1,16 +1,18 @@
 -- Rights and flags: what spells them is read, and what is read spells them.
 use Rattle.std.proofs.Common.{◌≡◌, inl, inr, ℕ, ◌+◌, ◌≤◌, Bool, true, false, cond, not, ◌&&◌, eqb, [], ◌∷◌, ◌++◌}
 use Rattle.std.proofs.Common.{length, Option, Some, None, codes, arith, refl, sym, ap, ◌∙◌, subst}
+use Rattle.std.proofs.lemmas.Bool.{and_from, and_parts, eqb-true, not-true}
 use Rattle.std.proofs.lemmas.Bool.Decides.{nat_tests}
 use Rattle.std.proofs.lemmas.Slice.Eq.{bytes_eq-Decides}
 use Rattle.std.specs.Prelude.{option_and_then}
+use Rattle.std.specs.List.{list_all}
 use Rattle.std.specs.Str.{bytes_eq}
 use Rattle.vm_base.specs.declared.rights.Prot.{Prot}
 use Rattle.vm_base.specs.declared.requests.Flags.{Flags}
 use Rattle.trace_text.specs.Words.{Word}
 use Rattle.trace_text.specs.Request.{mark_of, prot_of, no_flags, flag_more, flags_from, flags_of}
 use Rattle.trace_text.specs.Spelling.{mark, rights_text, occurrences, times, SpellsLetters, SpellsFlags}
-use Rattle.trace_text.proofs.Choices.{bind_some, chosen}
+use Rattle.trace_text.proofs.Choices.{bind_some, chosen, of_three}
 
 -- ---- rights
 
@@ -27,17 +29,9 @@ mark_only letter c b e = elim (chosen (eqb c letter) (Some true) (cond (eqb c 45
 
 pub rights_all : (word : Word) (prot : Prot) → word ≡ rights_text prot → prot_of word ≡ Some prot
 unfolding prot_of
-rights_all word prot e = ap prot_of e ∙ go prot.read prot.write prot.exec
-  where
-    go : (r w x : Bool) → prot_of (mark r (codes "r") ++ mark w (codes "w") ++ mark x (codes "x")) ≡ Some (record { read = r; write = w; exec = x })
-    go true true true = refl
-    go true true false = refl
-    go true false true = refl
-    go true false false = refl
-    go false true true = refl
-    go false true false = refl
-    go false false true = refl
-    go false false false = refl
+rights_all word prot e =
+    ap prot_of e ∙ of_three (λ r w x. prot_of (rights_text (record { read = r; write = w; exec = x })) ≡ Some (record { read = r; write = w; exec = x }))
+    (refl, refl, refl, refl, refl, refl, refl, refl) prot.read prot.write prot.exec
 
 marked : (r w x : ℕ) (read write exec : Bool) → r ∷ [] ≡ mark read (codes "r") → w ∷ [] ≡ mark write (codes "w") → x ∷ [] ≡ mark exec (codes "x")
     → r ∷ w ∷ x ∷ [] ≡ rights_text (record { read = read; write = write; exec = exec })
@@ -79,14 +73,6 @@ pub record IsMore (f : Flags) (c : ℕ) (g : Flags) : Type 0 where
   pub anon : times f.anon + cond (eqb c 97) 1 0 ≡ times g.anon
   pub others : times f.private + times f.shared + times f.fixed + times f.anon + 1 ≡ times g.private + times g.shared + times g.fixed + times g.anon
 
-both : (a b : Bool) → (a && b) ≡ true → (a ≡ true) × (b ≡ true)
-both true b e = (refl, e)
-both false b e = absurd (cc)
-
-negated : (b : Bool) → not b ≡ true → b ≡ false
-negated true e = absurd (cc)
-negated false e = refl
-
 -- a flag that isn't set is set
 put_private : (f : Flags) → f.private ≡ false → IsMore f 112 (record f { private = true })
 put_private f off = let none : times f.private ≡ 0 = ap times off in
@@ -105,7 +91,7 @@ put_anon f off = let none : times f.anon ≡ 0 = ap times off in
     record { private = omega arith; shared = omega arith; fixed = omega arith; anon = omega arith; others = omega arith }
 
 letter_is : (c letter : ℕ) (b : Bool) → (eqb c letter && not b) ≡ true → (c ≡ letter) × (b ≡ false)
-letter_is c letter b e = let (t, n) = both (eqb c letter) (not b) e in (grind (arith, nat_tests, t), negated b n)
+letter_is c letter b e = let parts = and_parts (eqb c letter) (not b) e in (eqb-true c letter parts.0, not-true b parts.1)
 
 put_is : (f : Flags) (c letter : ℕ) (m g : Flags) → c ≡ letter → Some m ≡ Some g → IsMore f letter m → IsMore f c g
 put_is f c letter m g is e h = let same : m ≡ g = cc in subst (λ x. IsMore f x g) (sym is) (subst (IsMore f letter) same h)
@@ -209,33 +195,21 @@ pub record HasMore (f : Flags) (c : ℕ) : Type 0 where
   pub is : flag_more f c ≡ Some more
   pub by : IsMore f c more
 
+-- by a flag that isn't set
+put_more : (f m : Flags) (c : ℕ) (set : Bool) → set ≡ false → flag_more f c ≡ cond (true && not set) (Some m) None → IsMore f c m → HasMore f c
+put_more f m c set off is by = record { more = m; is = is ∙ ap (λ b. cond (true && not b) (Some m) None) off; by = by }
+
 more_private : (f : Flags) → f.private ≡ false → HasMore f 112
-more_private f off = record {
-  more = record f { private = true };
-  is = ap (λ b. cond (true && not b) (Some (record f { private = true })) None) off;
-  by = put_private f off;
-}
+more_private f off = put_more f (record f { private = true }) 112 f.private off refl (put_private f off)
 
 more_shared : (f : Flags) → f.shared ≡ false → HasMore f 115
-more_shared f off = record {
-  more = record f { shared = true };
-  is = ap (λ b. cond (true && not b) (Some (record f { shared = true })) None) off;
-  by = put_shared f off;
-}
+more_shared f off = put_more f (record f { shared = true }) 115 f.shared off refl (put_shared f off)
 
 more_fixed : (f : Flags) → f.fixed ≡ false → HasMore f 102
-more_fixed f off = record {
-  more = record f { fixed = true };
-  is = ap (λ b. cond (true && not b) (Some (record f { fixed = true })) None) off;
-  by = put_fixed f off;
-}
+more_fixed f off = put_more f (record f { fixed = true }) 102 f.fixed off refl (put_fixed f off)
 
 more_anon : (f : Flags) → f.anon ≡ false → HasMore f 97
-more_anon f off = record {
-  more = record f { anon = true };
-  is = ap (λ b. cond (true && not b) (Some (record f { anon = true })) None) off;
-  by = put_anon f off;
-}
+more_anon f off = put_more f (record f { anon = true }) 97 f.anon off refl (put_anon f off)
 
 -- a letter that stands in the word and isn't taken yet
 off_before : (b g : Bool) (n m : ℕ) → times b + (n + m) ≡ times g → n ≡ 1 → b ≡ false
@@ -310,3 +284,30 @@ flags_only word flags e = elim (chosen (bytes_eq word (codes "-")) (Some no_flag
         others = let g = a.others in omega arith;
       })
 ]
+
+-- ---- bytes of flags
+
+-- what holds of each letter, and of the dash for none
+abbrev pub HasLetters : (ℕ → Bool) → Type 0
+HasLetters p = (p 112 ≡ true) × (p 115 ≡ true) × (p 102 ≡ true) × (p 97 ≡ true) × (p 45 ≡ true)
+
+letters_have : (p : ℕ → Bool) → HasLetters p → (word : Word)
+    → occurrences 112 word + occurrences 115 word + occurrences 102 word + occurrences 97 word ≡ length word → list_all p word ≡ true
+letters_have p h [] e = refl
+letters_have p h (c ∷ cs) e =
+    let one = one_letter c in
+    let low = letters_low cs in
+    let byte : p c ≡ true = elim (which c) [
+      | is_private k ↦ ap p k ∙ h.0
+      | is_shared k ↦ ap p k ∙ h.1
+      | is_fixed k ↦ ap p k ∙ h.2
+      | is_anon k ↦ ap p k ∙ h.3
+      | is_other k l m n ↦
+          let none : cond (eqb c 112) 1 0 + cond (eqb c 115) 1 0 + cond (eqb c 102) 1 0 + cond (eqb c 97) 1 0 ≡ 0 = rw (k, l, m, n) (omega arith) in
+          absurd (omega arith)
+    ] in
+    and_from (p c) (list_all p cs) byte (letters_have p h cs (omega arith))
+
+pub flags_have : (p : ℕ → Bool) → HasLetters p → (word : Word) (flags : Flags) → SpellsFlags word flags → list_all p word ≡ true
+flags_have p h word flags (inl s) = letters_have p h word (omega (arith, s.private, s.shared, s.fixed, s.anon, s.others))
+flags_have p h word flags (inr (e, n)) = ap (list_all p) e ∙ and_from (p 45) true h.4 refl

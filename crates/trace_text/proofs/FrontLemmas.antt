@@ -3,8 +3,9 @@ use Rattle.std.proofs.Common.{inl, inr, ◌≡◌, ◌≢◌, ℕ, zero, suc, �
 use Rattle.std.proofs.Common.{length, take, drop, get_or, Option, Some, None, arith, refl, sym, ap, ◌∙◌, subst, length-take-le}
 use Rattle.std.proofs.Math.Nat.{mul-le-mul_left, pow-suc}
 use Rattle.std.proofs.lemmas.List.{get_or-take, take_more}
-use Rattle.std.proofs.Common.{decimal, ◌/◌, ◌%◌, ◌-◌}
-use Rattle.std.proofs.lemmas.Bool.{cases_lt}
+use Rattle.std.proofs.Common.{append_assoc, decimal, ◌/◌, ◌%◌, ◌-◌}
+use Rattle.std.specs.List.{list_all}
+use Rattle.std.proofs.lemmas.Bool.{lt-ltb}
 use Rattle.std.proofs.lemmas.Fmt.{decimal_digit}
 use Rattle.std.proofs.lemmas.Bool.Decides.{nat_tests}
 use Rattle.std.specs.Prelude.{option_and_then, option_map, IfSome, is_some, ◌&&◌, ◌==◌, codes, nat_lt, if◌then◌else◌}
@@ -18,7 +19,8 @@ use Rattle.trace_text.proofs.CoreLemmas.{core_all, two_digits}
 use Rattle.trace_text.proofs.LineLemmas.{acts, now_read}
 use Rattle.trace_text.proofs.PrintableLemmas.{line_printable}
 use Rattle.trace_text.proofs.Choices.{chosen}
-use Rattle.trace_text.proofs.WordLemmas.{words-front}
+use Rattle.trace_text.proofs.BytesLemmas.{append_has, decimal_has}
+use Rattle.trace_text.proofs.WordLemmas.{one_word, unspaced, words-front, words_join}
 use Rattle.trace_text.specs.Action.{action_of, evict_of, walk_of}
 use Rattle.trace_text.specs.declared.action.Action.{Action}
 use Rattle.trace_text.specs.declared.action.Action.TheVariants.{Flush, Review}
@@ -27,16 +29,13 @@ use Rattle.vm_base.specs.declared.requests.Request.TheVariants.{Load, Store}
 
 -- ---- values, digit by digit
 
-ltb-yes : (a b : ℕ) → a < b → ltb a b ≡ true
-ltb-yes a b h = grind (arith, nat_tests)
-
 -- a digit behind others
 value_snoc : (base m : ℕ) (xs : List ℕ) (c n d : ℕ) → value_from base m xs ≡ Some n → digit_of c ≡ Some d → d < base
     → value_from base m (xs ++ c ∷ []) ≡ Some (n * base + d)
 value_snoc base m [] c n d e is low =
     let same : m ≡ n = cc in
     ap (option_and_then (λ y. cond (ltb y base) (Some (m * base + y)) None)) is
-    ∙ ap (λ b. cond b (Some (m * base + d)) None) (ltb-yes d base low) ∙ ap (λ k. Some (k * base + d)) same
+    ∙ ap (λ b. cond b (Some (m * base + d)) None) (lt-ltb d base low) ∙ ap (λ k. Some (k * base + d)) same
 value_snoc base m (x ∷ xs) c n d e is low = go (λ k f. value_snoc base k xs c n d f is low) (digit_of x) e
   where
     go : ((k : ℕ) → value_from base k xs ≡ Some n → value_from base k (xs ++ c ∷ []) ≡ Some (n * base + d)) → (o : Option ℕ)
@@ -48,7 +47,8 @@ value_snoc base m (x ∷ xs) c n d e is low = go (λ k f. value_snoc base k xs c
       | inr h ↦ let bad = h.1 in absurd (cc)
     ]
 
-pub value_next : (base : ℕ) (cs : List ℕ) (i n d : ℕ) → i < length cs → value_from base 0 (take i cs) ≡ Some n → Some d ≡ digit_of (get_or cs i 0) → d < base
+pub value_next : (base : ℕ) (cs : List ℕ) (i n d : ℕ) → i < length cs → value_from base 0 (take i cs) ≡ Some n
+    → Some d ≡ digit_of (get_or cs i 0) → d < base
     → value_from base 0 (take (i + 1) cs) ≡ Some (n * base + d)
 value_next base cs i n d h e is low = ap (value_from base 0) (take_more cs i 0 h) ∙ value_snoc base 0 (take i cs) (get_or cs i 0) n d e (sym is) low
 
@@ -78,7 +78,7 @@ value_unspaced base m (x ∷ xs) n e k h = go (λ j f. value_unspaced base j xs 
 -- ---- the number of a word
 
 below : (n : ℕ) → n < 2 ^ 64 → below_word (Some n) ≡ Some n
-below n h = ap (λ b. cond b (Some n) None) (ltb-yes n (2 ^ 64) h)
+below n h = ap (λ b. cond b (Some n) None) (lt-ltb n (2 ^ 64) h)
 
 -- decimal digits don't begin with 0x
 decimal_number : (w : Word) (n : ℕ) → 0 < length w → value_from 10 0 w ≡ Some n → n < 2 ^ 64 → number_of w ≡ Some n
@@ -177,7 +177,8 @@ unfolding store_of front_byte
 store_ends args rest digits last addr byte is same digit small none =
     let fits : nat_lt 255 byte ≡ false = grind (arith, nat_tests) in
     let value : Some (byte, words_of last) ≡ front_byte (words_of rest) =
-    ap (λ b. if b then None else Some (byte, words_of last)) (sym fits) ∙ ap (λ o. o >>= λ n. if nat_lt 255 n.0 then None else Some n) (digit ∙ ap front_number same) in
+    ap (λ b. if b then None else Some (byte, words_of last)) (sym fits)
+    ∙ ap (λ o. o >>= λ n. if nat_lt 255 n.0 then None else Some n) (digit ∙ ap front_number same) in
     ap (λ ws. ended ws (Store addr byte)) (sym (nothing last none))
     ∙ ap (λ o. o >>= λ v. ended v.1 (Store addr v.0)) value
     ∙ ap (λ o. o >>= λ n. front_byte n.1 >>= λ v. ended v.1 (Store n.0 v.0)) is
@@ -218,26 +219,16 @@ unfolding request_of
 mprotect_named words bytes args same e = named words bytes (codes "mprotect " ++ args) same e
 
 -- a call of a core
-now_words : (x : ℕ) (args : List ℕ) → eqb x 32 ≡ false → words_of (99 ∷ x ∷ 33 ∷ 32 ∷ args) ≡ (99 ∷ x ∷ 33 ∷ []) ∷ words_of args
-now_words x args e = rw e refl
-
-now_words_of_two : (x y : ℕ) (args : List ℕ) → eqb x 32 ≡ false → eqb y 32 ≡ false
-    → words_of (99 ∷ x ∷ y ∷ 33 ∷ 32 ∷ args) ≡ (99 ∷ x ∷ y ∷ 33 ∷ []) ∷ words_of args
-now_words_of_two x y args e f = rw (e, f) refl
+core_unspaced : (core : ℕ) → core < 64 → list_all unspaced (decimal core) ≡ true
+core_unspaced core small = decimal_has unspaced (refl, refl, refl) core (omega (arith, small))
 
 named_words : (core : ℕ) (args : List ℕ) → core < 64
     → words_of (99 ∷ (decimal core ++ 33 ∷ 32 ∷ args)) ≡ (99 ∷ (decimal core ++ 33 ∷ [])) ∷ words_of args
-named_words core args small = elim (cases_lt core 10) [
-  | inl low ↦
-      let letter : eqb (48 + core) 32 ≡ false = grind (arith, nat_tests) in
-      let is : decimal core ≡ (48 + core) ∷ [] = decimal_digit core low in
-      rw is (now_words (48 + core) args letter)
-  | inr high ↦
-      let tens : eqb (48 + core / 10) 32 ≡ false = grind (arith, nat_tests) in
-      let ones : eqb (48 + core % 10) 32 ≡ false = grind (arith, nat_tests) in
-      let is : decimal core ≡ (48 + core / 10) ∷ (48 + core % 10) ∷ [] = two_digits core high small in
-      rw is (now_words_of_two (48 + core / 10) (48 + core % 10) args tens ones)
-]
+named_words core args small =
+    let name : Word = decimal core ++ 33 ∷ [] in
+    let is : words_of (99 ∷ name) ≡ (99 ∷ name) ∷ [] = one_word 99 name (append_has unspaced (decimal core) (33 ∷ []) (core_unspaced core small) refl) in
+    ap (λ l. words_of (99 ∷ l)) (sym (append_assoc (decimal core) (33 ∷ []) (32 ∷ args)))
+    ∙ words_join (99 ∷ name) args ∙ ap (λ l. l ++ words_of args) is
 
 now_is : (core : ℕ) (args : List ℕ) → core < 64
     → line_of_words (words_of (99 ∷ (decimal core ++ 33 ∷ 32 ∷ args))) ≡ (request_of (words_of args) >>= λ q. Some (Now core q))
@@ -276,25 +267,9 @@ now_printable bytes words core request begins e =
 -- ---- an action that is known by the bytes that it begins with
 
 -- a core that is told it
-core_words : (x : ℕ) (args : List ℕ) → eqb x 32 ≡ false → words_of (99 ∷ x ∷ 32 ∷ args) ≡ (99 ∷ x ∷ []) ∷ words_of args
-core_words x args e = rw e refl
-
-core_words_of_two : (x y : ℕ) (args : List ℕ) → eqb x 32 ≡ false → eqb y 32 ≡ false
-    → words_of (99 ∷ x ∷ y ∷ 32 ∷ args) ≡ (99 ∷ x ∷ y ∷ []) ∷ words_of args
-core_words_of_two x y args e f = rw (e, f) refl
-
 told_words : (core : ℕ) (args : List ℕ) → core < 64 → words_of (99 ∷ (decimal core ++ 32 ∷ args)) ≡ (99 ∷ decimal core) ∷ words_of args
-told_words core args small = elim (cases_lt core 10) [
-  | inl low ↦
-      let letter : eqb (48 + core) 32 ≡ false = grind (arith, nat_tests) in
-      let is : decimal core ≡ (48 + core) ∷ [] = decimal_digit core low in
-      rw is (core_words (48 + core) args letter)
-  | inr high ↦
-      let tens : eqb (48 + core / 10) 32 ≡ false = grind (arith, nat_tests) in
-      let ones : eqb (48 + core % 10) 32 ≡ false = grind (arith, nat_tests) in
-      let is : decimal core ≡ (48 + core / 10) ∷ (48 + core % 10) ∷ [] = two_digits core high small in
-      rw is (core_words_of_two (48 + core / 10) (48 + core % 10) args tens ones)
-]
+told_words core args small =
+    words_join (99 ∷ decimal core) args ∙ ap (λ l. l ++ words_of args) (one_word 99 (decimal core) (core_unspaced core small))
 
 pub told_some : (bytes args : List ℕ) (core : ℕ) (action : Action) → BeginsCore bytes core args → Some (Act core action) ≡ task_of core (words_of args)
     → Some (Act core action) ≡ line_of_words (words_of bytes)

@@ -1,21 +1,10 @@
 -- Where the sign of a line stands.
-use Rattle.std.proofs.Common.{◌≡◌, ℕ, Bool, true, false, cond, not, eqb, List, [], ◌∷◌, ◌++◌, arith, refl, sym, ap, ◌∙◌, subst, Option}
+use Rattle.std.proofs.Common.{◌≡◌, ℕ, true, false, cond, not, eqb, List, [], ◌∷◌, ◌++◌, arith, refl, sym, ap, ◌∙◌, subst, Option}
 use Rattle.std.proofs.Common.{Some, None, append_assoc, zero, suc, ◌<◌, length, take, drop, get_or}
+use Rattle.std.proofs.lemmas.Bool.{and_parts, not-true}
 use Rattle.std.proofs.lemmas.List.{take-append-drop}
-use Rattle.std.specs.Prelude.{◌&&◌, IfNone}
+use Rattle.std.specs.Prelude.{IfNone}
 use Rattle.trace_text.specs.Halves.{are_clear, AreHalves}
-
-flip : (b : Bool) → not b ≡ true → b ≡ false
-flip true e = absurd (cc)
-flip false e = refl
-
-first : (a b : Bool) → (a && b) ≡ true → a ≡ true
-first true b e = refl
-first false b e = absurd (cc)
-
-second : (a b : Bool) → (a && b) ≡ true → b ≡ true
-second true b e = e
-second false b e = absurd (cc)
 
 -- where the last sign stands
 pub record Cut : Type 0 where
@@ -37,8 +26,9 @@ cut_none : (xs : List ℕ) → are_clear xs ≡ true → cut xs ≡ None
 unfolding cut cut_later
 cut_none [] e = refl
 cut_none (x ∷ xs) e =
-    let more : cut xs ≡ None = cut_none xs (second (not (eqb x 61)) (are_clear xs) e) in
-    let one : eqb x 61 ≡ false = flip (eqb x 61) (first (not (eqb x 61)) (are_clear xs) e) in
+    let parts = and_parts (not (eqb x 61)) (are_clear xs) e in
+    let more : cut xs ≡ None = cut_none xs parts.1 in
+    let one : eqb x 61 ≡ false = not-true (eqb x 61) parts.0 in
     rw (more, one) refl
 
 cut_at : (f b : List ℕ) → are_clear b ≡ true → cut (f ++ 61 ∷ b) ≡ Some (at_sign f b)

@@ -4,6 +4,7 @@ pub mod FlagLemmas
 pub mod CoreLemmas
 pub mod FileLemmas
 pub mod LineLemmas
+pub mod BytesLemmas
 pub mod PrintableLemmas
 pub mod RequestLemmas
 pub mod ActionLemmas
@@ -11,5 +12,6 @@ pub mod PrintingLemmas
 pub mod NumberLemmas
 pub mod FrontLemmas
 pub mod WordLemmas
+pub mod ValueLemmas
 pub mod DigitTable
 pub mod HalvesLemmas

@@ -1,55 +1,34 @@
 -- Lines and their grammar.
-use Rattle.std.proofs.Common.{◌≡◌, ◌⊎◌, inl, inr, Bool, ℕ, ◌<◌, ◌≤◌, true, false, cond, List, [], ◌∷◌, ◌++◌, Some, None, codes}
+use Rattle.std.proofs.Common.{◌≡◌, ◌⊎◌, inl, inr, Bool, ℕ, ◌<◌, ◌≤◌, true, false, cond, List, [], ◌∷◌, ◌++◌, Some, codes}
 use Rattle.std.proofs.Common.{arith, refl, sym, ap, ◌∙◌, subst, eqb, length, take, get_or, ◌-◌, suc, zero}
+use Rattle.std.proofs.lemmas.Bool.{cases_lt}
 use Rattle.std.proofs.lemmas.Bool.Decides.{nat_tests}
-use Rattle.std.specs.Prelude.{nat_le, nat_lt, ◌&&◌, ◌+◌, ◌*◌}
-use Rattle.std.specs.Str.{bytes_eq}
-use Rattle.std.proofs.lemmas.Slice.Eq.{bytes_eq-Decides}
+use Rattle.std.proofs.lemmas.Fmt.{decimal_digit}
+use Rattle.std.specs.Prelude.{◌+◌, ◌/◌, ◌%◌}
 use Rattle.std.specs.Io.BufRead.{ends_with_byte, strip_last}
-use Rattle.trace_text.proofs.Choices.{bind_some, ended_some, front_some, chosen}
+use Rattle.trace_text.proofs.Choices.{bind_some, by_word, ended_some, front_some, chosen}
 use Rattle.trace_text.proofs.RequestLemmas.{asked_is_read, read_is_asked}
 use Rattle.trace_text.proofs.SpellingLemmas.{front_all, front_only}
-use Rattle.trace_text.proofs.ActionLemmas.{act_is_read, page_all, page_only, only_action}
-use Rattle.trace_text.proofs.CoreLemmas.{core_all, core_only}
+use Rattle.trace_text.proofs.ActionLemmas.{act_is_read, page_all, page_only, only_action, with_word}
+use Rattle.trace_text.proofs.CoreLemmas.{core_all, core_only, two_digits}
 use Rattle.trace_text.proofs.FileLemmas.{said_file, only_file}
 use Rattle.trace_text.specs.Words.{Word, front_word, words_of}
 use Rattle.trace_text.specs.Request.{◌>>=◌, ended, front_number, request_of}
 use Rattle.trace_text.specs.Action.{action_of, page_alone}
-use Rattle.trace_text.specs.Spelling.{mode_text}
-use Rattle.trace_text.specs.Line.{limit_of, space_of, file_line_of, core_number, core_of, act_of, task_of, fold_of, now_of, event_of, line_of_words, line_of}
+use Rattle.trace_text.specs.Spelling.{SpellsPage, mode_text}
+use Rattle.trace_text.specs.Line.{limit_of, space_of, core_of, act_of, task_of, fold_of, now_of, event_of, line_of_words, line_of}
 use Rattle.trace_text.specs.Grammar.{Limits, Says, BytesSay, ReadsAll, ReadsOnly}
 use Rattle.trace_text.specs.declared.line.Line.{Line}
 use Rattle.trace_text.specs.declared.line.Line.TheVariants.{Blank, Space, File, Act, Fold, Finish, Now}
 
 -- the bytes that name a core
-number_shape : (ds : List ℕ) (c : ℕ) → core_number ds ≡ Some c
-    → ((d : ℕ) × (ds ≡ d ∷ []) × (48 ≤ d)) ⊎ ((d : ℕ) × (e : ℕ) × (ds ≡ d ∷ e ∷ []) × (48 ≤ e))
-number_shape [] c p = absurd (cc)
-number_shape (d ∷ []) c p = elim (chosen (nat_le 48 d && nat_le d 57) (Some (d - 48)) None (Some c) p) [
-  | inl h ↦ inl (d, refl, grind (arith, nat_tests, h.0))
-  | inr h ↦ let bad = h.1 in absurd (cc)
-]
-number_shape (d ∷ e ∷ []) c p = elim (chosen (nat_le 49 d && nat_le d 57 && nat_le 48 e && nat_le e 57)
-    (cond (nat_lt 63 (10 * (d - 48) + (e - 48))) None (Some (10 * (d - 48) + (e - 48)))) None (Some c) p) [
-      | inl h ↦ inr (d, e, refl, grind (arith, nat_tests, h.0))
-      | inr h ↦ let bad = h.1 in absurd (cc)
-    ]
-number_shape (d ∷ e ∷ f ∷ fs) c p = absurd (cc)
-
-core_first : (w : Word) (c : ℕ) → core_of w ≡ Some c → (ds : Word) × (w ≡ 99 ∷ ds) × (core_number ds ≡ Some c)
-core_first [] c p = absurd (cc)
-core_first (x ∷ ds) c p = elim (chosen (eqb x 99) (core_number ds) None (Some c) p) [
-  | inl h ↦ (ds, ap (λ y. y ∷ ds) (grind (arith, nat_tests, h.0)), h.1)
-  | inr h ↦ let bad = h.1 in absurd (cc)
-]
-
 core_shape : (w : Word) (c : ℕ) → core_of w ≡ Some c
     → ((d : ℕ) × (w ≡ 99 ∷ d ∷ []) × (48 ≤ d)) ⊎ ((d : ℕ) × (e : ℕ) × (w ≡ 99 ∷ d ∷ e ∷ []) × (48 ≤ e))
 core_shape w c p =
-    let (ds, is, n) = core_first w c p in
-    elim (number_shape ds c n) [
-      | inl (d, e, h) ↦ inl (d, is ∙ ap (λ l. 99 ∷ l) e, h)
-      | inr (d, f, e, h) ↦ inr (d, f, is ∙ ap (λ l. 99 ∷ l) e, h)
+    let (small, is) = core_only w c p in
+    elim (cases_lt c 10) [
+      | inl low ↦ inl (48 + c, is ∙ ap (λ l. 99 ∷ l) (decimal_digit c low), omega arith)
+      | inr high ↦ inr (48 + c / 10, 48 + c % 10, is ∙ ap (λ l. 99 ∷ l) (two_digits c high small), omega arith)
     ]
 
 no_bang : (d : ℕ) → 48 ≤ d → eqb d 33 ≡ false
@@ -143,11 +122,7 @@ only_now name args line b e =
 
 only_fold : (args : List Word) (line : Line) → fold_of args ≡ Some line → Says line (codes "fold" ∷ args)
 unfolding fold_of
-only_fold args line e =
-    let (page, k, e1) = bind_some (page_alone args) (λ p. Some (Fold p)) line e in
-    let same : Fold page ≡ line = cc in
-    let (a, is, s) = page_only args page k in
-    subst (λ l. Says l (codes "fold" ∷ args)) same (a, ap (λ ws. codes "fold" ∷ ws) is, s)
+only_fold args line e = with_word page_alone SpellsPage page_only Fold Says (codes "fold") (λ page a s. (a, refl, s)) args line e
 
 only_act : (name : Word) (core : ℕ) (verb : Word) (args : List Word) (line : Line) → core_of name ≡ Some core → act_of core verb args ≡ Some line
     → Says line (name ∷ verb ∷ args)
@@ -157,25 +132,15 @@ only_act name core verb args line k e =
     let same : Act core action ≡ line = cc in
     subst (λ l. Says l (name ∷ verb ∷ args)) same (name, verb ∷ args, refl, core_only name core k, only_action verb args action d)
 
--- a word that the test knew
-word_is : (w t : Word) → bytes_eq w t ≡ true → w ≡ t
-word_is w t b = (bytes_eq-Decides w t).0 b
-
 only_task : (name : Word) (core : ℕ) (args : List Word) (line : Line) → core_of name ≡ Some core → task_of core args ≡ Some line → Says line (name ∷ args)
 unfolding task_of
 only_task name core args line k a =
     let (verb, ev, e1) = bind_some (front_word args) _ line a in
-    let is = front_some args verb ev in
-    elim (chosen (bytes_eq verb.0 (codes "finish")) _ _ (Some line) e1) [
-      | inl f ↦ let (none, same) = ended_some verb.1 (Finish core) line f.1 in
-          subst (λ l. Says l (name ∷ args)) same (
-            name,
-            ap (λ ws. name ∷ ws) (is ∙ ap (λ w. w ∷ verb.1) (word_is verb.0 (codes "finish") f.0)
-                ∙ ap (λ ws. codes "finish" ∷ ws) none),
-            core_only name core k,
-          )
-      | inr f ↦ subst (λ ws. Says line (name ∷ ws)) (sym is) (only_act name core verb.0 verb.1 line k f.1)
-    ]
+    subst (λ ws. Says line (name ∷ ws)) (sym (front_some args verb ev))
+    (by_word (λ w. Says line (name ∷ w ∷ verb.1)) verb.0 (codes "finish") _ _ line e1 (λ e.
+    let (none, same) = ended_some verb.1 (Finish core) line e in
+    subst (λ l. Says l (name ∷ codes "finish" ∷ verb.1)) same (name, ap (λ ws. name ∷ codes "finish" ∷ ws) none, core_only name core k))
+    (only_act name core verb.0 verb.1 line k))
 
 only_event : (name : Word) (args : List Word) (line : Line) → event_of name args ≡ Some line → Says line (name ∷ args)
 unfolding event_of
@@ -188,16 +153,11 @@ only_event name args line e = elim (chosen (ends_with_byte 33 name) (now_of (str
 pub read_is_said : ReadsOnly
 unfolding line_of_words
 read_is_said line [] e = let same : Blank ≡ line = cc in subst (λ l. Says l []) same refl
-read_is_said line (name ∷ args) e = elim (chosen (bytes_eq name (codes "vm")) (space_of args) _ (Some line) e) [
-  | inl h ↦ subst (λ w. Says line (w ∷ args)) (sym (word_is name (codes "vm") h.0)) (only_space args line h.1)
-  | inr h ↦ elim (chosen (bytes_eq name (codes "file")) (file_line_of args) _ (Some line) h.1) [
-    | inl k ↦ subst (λ w. Says line (w ∷ args)) (sym (word_is name (codes "file") k.0)) (only_file args line k.1)
-    | inr k ↦ elim (chosen (bytes_eq name (codes "fold")) (fold_of args) (event_of name args) (Some line) k.1) [
-      | inl l ↦ subst (λ w. Says line (w ∷ args)) (sym (word_is name (codes "fold") l.0)) (only_fold args line l.1)
-      | inr l ↦ only_event name args line l.1
-    ]
-  ]
-]
+read_is_said line (name ∷ args) e =
+    let says : Word → Type 0 = (λ w. Says line (w ∷ args)) in
+    by_word says name (codes "vm") _ _ line e (only_space args line) (λ e.
+    by_word says name (codes "file") _ _ line e (only_file args line) (λ e.
+    by_word says name (codes "fold") _ _ line e (only_fold args line) (only_event name args line)))
 
 -- what a line is read as is what its bytes say
 pub line_is_said : (bytes : List ℕ) (line : Line) → line_of bytes ≡ Some line → BytesSay line bytes

@@ -2,15 +2,13 @@
 use Rattle.std.proofs.Common.{◌≡◌, ℕ, suc, ◌+◌, ◌*◌, ◌^◌, ◌<◌, ◌≤◌, Bool, true, false, cond, ltb, List, [], ◌∷◌, length, drop}
 use Rattle.std.proofs.Common.{get_or, Option, Some, None, arith, refl, sym, ap, ◌∙◌, drop-cons, drop_of_length-le}
 use Rattle.std.proofs.Math.Nat.{pow-le-pow_right, mul-le-mul_left}
+use Rattle.std.proofs.lemmas.Bool.{lt-ltb}
 use Rattle.std.proofs.lemmas.Bool.Decides.{nat_tests}
 use Rattle.std.specs.Prelude.{option_and_then}
 use Rattle.trace_text.specs.Number.{digit_of, value_from, below_word}
 
 grows : (base n d : ℕ) → 1 < base → 2 ^ 64 ≤ n → 2 ^ 64 ≤ n * base + d
 grows base n d p q = grind arith
-
-ltb-yes : (a b : ℕ) → a < b → ltb a b ≡ true
-ltb-yes a b h = grind (arith, nat_tests)
 
 passed_test : (base n d : ℕ) (b : Bool) (rest : ℕ → Option ℕ) → 1 < base → 2 ^ 64 ≤ n → ((m : ℕ) → 2 ^ 64 ≤ m → below_word (rest m) ≡ None)
     → below_word (cond b (rest (n * base + d)) None) ≡ None
@@ -31,7 +29,7 @@ too_big base n (c ∷ cs) p q = passed_digit base n (λ m. value_from base m cs)
 pub value_more : (base n i d : ℕ) (cs : List ℕ) → i < length cs → Some d ≡ digit_of (get_or cs i 0) → d < base
     → value_from base n (drop i cs) ≡ value_from base (n * base + d) (drop (suc i) cs)
 value_more base n i d cs h e q =
-    let test : ltb d base ≡ true = ltb-yes d base q in
+    let test : ltb d base ≡ true = lt-ltb d base q in
     ap (value_from base n) (drop-cons cs i 0 h) ∙ ap (option_and_then (λ x. cond (ltb x base) (value_from base (n * base + x) (drop (suc i) cs)) None)) (sym e)
     ∙ ap (λ b. cond b (value_from base (n * base + d) (drop (suc i) cs)) None) test
 
@@ -45,7 +43,7 @@ value_past base n i d cs whole p h e q big same =
 pub value_end : (base n : ℕ) (cs : List ℕ) (i : ℕ) (whole : Option ℕ) → length cs ≤ i → n < 2 ^ 64 → value_from base n (drop i cs) ≡ whole
     → Some n ≡ below_word whole
 value_end base n cs i whole h fits same =
-    let test : ltb n (2 ^ 64) ≡ true = ltb-yes n (2 ^ 64) fits in
+    let test : ltb n (2 ^ 64) ≡ true = lt-ltb n (2 ^ 64) fits in
     sym (ap (λ b. cond b (Some n) None) test) ∙ ap below_word (sym (ap (value_from base n) (drop_of_length-le cs h)) ∙ same)
 
 -- at most fifteen digits leave room for another

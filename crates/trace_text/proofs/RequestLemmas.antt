@@ -1,14 +1,13 @@
 -- Requests and their grammar.
-use Rattle.std.proofs.Common.{◌≡◌, inl, inr, ℕ, true, List, [], ◌∷◌, Some, None, codes, refl, sym, ap, ◌∙◌, subst}
-use Rattle.std.specs.Str.{bytes_eq}
-use Rattle.std.proofs.lemmas.Slice.Eq.{bytes_eq-Decides}
+use Rattle.std.proofs.Common.{◌≡◌, inl, inr, ℕ, List, [], ◌∷◌, Some, None, codes, refl, sym, ap, ◌∙◌, subst}
 use Rattle.vm_base.specs.declared.rights.Prot.{Prot}
 use Rattle.vm_base.specs.declared.requests.Flags.{Flags}
 use Rattle.trace_text.specs.Words.{Word, front_word}
-use Rattle.trace_text.specs.Request.{ended, front_byte, front_number, request_of, load_of, store_of, fetch_of, mmap_of, munmap_of}
+use Rattle.trace_text.specs.Request.{◌>>=◌, ended, front_byte, front_number, request_of, load_of, store_of, fetch_of, mmap_of, munmap_of}
 use Rattle.trace_text.specs.Request.{mprotect_of, protected_of, prot_of, flags_of, backed_of}
+use Rattle.trace_text.specs.Spelling.{SpellsNumber}
 use Rattle.trace_text.specs.Grammar.{Asks, Backs}
-use Rattle.trace_text.proofs.Choices.{bind_some, ended_some, front_some, chosen}
+use Rattle.trace_text.proofs.Choices.{bind_some, by_word, ended_some, front_some, chosen}
 use Rattle.trace_text.proofs.SpellingLemmas.{byte_all, byte_only, front_all, front_only}
 use Rattle.trace_text.proofs.FlagLemmas.{rights_all, rights_only, flags_all, flags_only}
 use Rattle.vm_base.specs.declared.requests.Request.{Request}
@@ -47,21 +46,14 @@ asked_is_read (Mmap addr len prot flags file off) words (a, l, p, f, more, e, n,
     let t : flags_of f ≡ Some flags = flags_all f flags fe in
     rw (e, k, i, r, t) (backs_all addr len prot flags file off more be)
 
-only_load : (args : List Word) (r : Request) → load_of args ≡ Some r → Asks r (codes "load" ∷ args)
-unfolding load_of
-only_load args r e =
-    let (addr, ea, e1) = bind_some (front_number args) (λ addr. ended addr.1 (Load addr.0)) r e in
+-- what has one address
+only_address : (make : ℕ → Request) (name : Word) → ((addr : ℕ) (w : Word) → SpellsNumber w addr → Asks (make addr) (name ∷ w ∷ []))
+    → (args : List Word) (r : Request) → (front_number args >>= λ addr. ended addr.1 (make addr.0)) ≡ Some r → Asks r (name ∷ args)
+only_address make name asks args r e =
+    let (addr, ea, e1) = bind_some (front_number args) (λ addr. ended addr.1 (make addr.0)) r e in
     let (a, is, n) = front_only args addr ea in
-    let (none, same) = ended_some addr.1 (Load addr.0) r e1 in
-    subst (λ q. Asks q (codes "load" ∷ args)) same (a, ap (λ ws. codes "load" ∷ ws) (is ∙ ap (λ ws. a ∷ ws) none), n)
-
-only_fetch : (args : List Word) (r : Request) → fetch_of args ≡ Some r → Asks r (codes "fetch" ∷ args)
-unfolding fetch_of
-only_fetch args r e =
-    let (addr, ea, e1) = bind_some (front_number args) (λ addr. ended addr.1 (Fetch addr.0)) r e in
-    let (a, is, n) = front_only args addr ea in
-    let (none, same) = ended_some addr.1 (Fetch addr.0) r e1 in
-    subst (λ q. Asks q (codes "fetch" ∷ args)) same (a, ap (λ ws. codes "fetch" ∷ ws) (is ∙ ap (λ ws. a ∷ ws) none), n)
+    let (none, same) = ended_some addr.1 (make addr.0) r e1 in
+    subst (λ q. Asks q (name ∷ args)) same (subst (λ ws. Asks (make addr.0) (name ∷ ws)) (sym (is ∙ ap (λ ws. a ∷ ws) none)) (asks addr.0 a n))
 
 only_store : (args : List Word) (r : Request) → store_of args ≡ Some r → Asks r (codes "store" ∷ args)
 unfolding store_of
@@ -144,31 +136,15 @@ only_mmap args r e =
       backs,
     )
 
--- a name that the test knew
-named : (r : Request) (w t : Word) (args words : List Word) → bytes_eq w t ≡ true → words ≡ w ∷ args → Asks r (t ∷ args) → Asks r words
-named r w t args words b e s = subst (λ ws. Asks r ws) (sym (e ∙ ap (λ x. x ∷ args) ((bytes_eq-Decides w t).0 b))) s
-
 pub read_is_asked : (r : Request) (words : List Word) → request_of words ≡ Some r → Asks r words
-unfolding request_of
+unfolding request_of load_of fetch_of
 read_is_asked r words e =
     let (name, en, e1) = bind_some (front_word words) _ r e in
-    let is = front_some words name en in
-    elim (chosen (bytes_eq name.0 (codes "mmap")) _ _ (Some r) e1) [
-      | inl h ↦ named r name.0 (codes "mmap") name.1 words h.0 is (only_mmap name.1 r h.1)
-      | inr h ↦ elim (chosen (bytes_eq name.0 (codes "munmap")) _ _ (Some r) h.1) [
-        | inl k ↦ named r name.0 (codes "munmap") name.1 words k.0 is (only_munmap name.1 r k.1)
-        | inr k ↦ elim (chosen (bytes_eq name.0 (codes "mprotect")) _ _ (Some r) k.1) [
-          | inl l ↦ named r name.0 (codes "mprotect") name.1 words l.0 is (only_mprotect name.1 r l.1)
-          | inr l ↦ elim (chosen (bytes_eq name.0 (codes "load")) _ _ (Some r) l.1) [
-            | inl m ↦ named r name.0 (codes "load") name.1 words m.0 is (only_load name.1 r m.1)
-            | inr m ↦ elim (chosen (bytes_eq name.0 (codes "store")) _ _ (Some r) m.1) [
-              | inl n ↦ named r name.0 (codes "store") name.1 words n.0 is (only_store name.1 r n.1)
-              | inr n ↦ elim (chosen (bytes_eq name.0 (codes "fetch")) _ _ (Some r) n.1) [
-                | inl o ↦ named r name.0 (codes "fetch") name.1 words o.0 is (only_fetch name.1 r o.1)
-                | inr o ↦ let bad = o.1 in absurd (cc)
-              ]
-            ]
-          ]
-        ]
-      ]
-    ]
+    let asks : Word → Type 0 = (λ w. Asks r (w ∷ name.1)) in
+    subst (Asks r) (sym (front_some words name en))
+    (by_word asks name.0 (codes "mmap") _ _ r e1 (only_mmap name.1 r) (λ e.
+    by_word asks name.0 (codes "munmap") _ _ r e (only_munmap name.1 r) (λ e.
+    by_word asks name.0 (codes "mprotect") _ _ r e (only_mprotect name.1 r) (λ e.
+    by_word asks name.0 (codes "load") _ _ r e (only_address Load (codes "load") (λ addr w s. (w, refl, s)) name.1 r) (λ e.
+    by_word asks name.0 (codes "store") _ _ r e (only_store name.1 r) (λ e.
+    by_word asks name.0 (codes "fetch") _ _ r e (only_address Fetch (codes "fetch") (λ addr w s. (w, refl, s)) name.1 r) (λ e. absurd (cc))))))))

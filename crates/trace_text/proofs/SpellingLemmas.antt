@@ -1,7 +1,7 @@
 -- Numbers: what spells them is read, and what is read spells them.
 use Rattle.std.proofs.Common.{◌≡◌, ◌≢◌, inl, inr, ℕ, zero, suc, ◌+◌, ◌-◌, ◌*◌, ◌^◌, ◌<◌, ◌≤◌, true, false, cond, eqb, ltb, List, [], ◌∷◌, ◌++◌}
 use Rattle.std.proofs.Common.{length, map, Option, Some, None, codes, decimal, arith, refl, sym, ap, ◌∙◌, subst, slice_get}
-use Rattle.std.proofs.lemmas.Bool.{cases_lt}
+use Rattle.std.proofs.lemmas.Bool.{cases_lt, lt-ltb}
 use Rattle.std.proofs.lemmas.Bool.Decides.{nat_tests}
 use Rattle.std.proofs.lemmas.Fmt.{decimal_digit, decimal-digits_of}
 use Rattle.std.proofs.lemmas.Int.Digits.{all_below_base_digits_of, number_digits_of}
@@ -98,16 +98,13 @@ digit_only base c d e h = elim (chosen (nat_le 48 c && nat_le c 57) (Some (c - 4
 
 -- ---- values
 
-below : (a b : ℕ) → a < b → ltb a b ≡ true
-below a b h = grind (arith, nat_tests)
-
 value_all : (base n : ℕ) (cs ds : List ℕ) → AllZip (IsDigit base) cs ds → value_from base n cs ≡ Some (number_from_digits_after base n ds)
 value_all base n [] [] z = refl
 value_all base n [] (d ∷ ds) z = absurd z
 value_all base n (c ∷ cs) [] z = absurd z
 value_all base n (c ∷ cs) (d ∷ ds) z =
     let digit : digit_of c ≡ Some d = digit_all base c d z.0 in
-    let test : ltb d base ≡ true = below d base z.0.0 in
+    let test : ltb d base ≡ true = lt-ltb d base z.0.0 in
     ap (option_and_then (λ x. cond (ltb x base) (value_from base (n * base + x) cs) None)) digit
     ∙ ap (λ b. cond b (value_from base (n * base + d) cs) None) test ∙ value_all base (n * base + d) cs ds z.1
 
@@ -135,7 +132,7 @@ fits : (o : Option ℕ) (n : ℕ) → o ≡ Some n → n < 2 ^ 64 → below_word
 fits None n e h = absurd (cc)
 fits (Some m) n e h =
     let same : m ≡ n = cc in
-    let test : ltb m (2 ^ 64) ≡ true = below m (2 ^ 64) (subst (λ k. k < 2 ^ 64) (sym same) h) in
+    let test : ltb m (2 ^ 64) ≡ true = lt-ltb m (2 ^ 64) (subst (λ k. k < 2 ^ 64) (sym same) h) in
     ap (λ b. cond b (Some m) None) test ∙ ap Some same
 
 fitted : (o : Option ℕ) (n : ℕ) → below_word o ≡ Some n → (o ≡ Some n) × (n < 2 ^ 64)
@@ -198,7 +195,7 @@ number_only (c ∷ (d ∷ (x ∷ xs))) n e = elim (chosen (eqb c 48 && eqb d 120
 
 glyph : (d : ℕ) → d < 16 → IsDigit 16 (digit_glyph false d) d
 glyph d h = elim (cases_lt d 10) [
-  | inl low ↦ (h, inl (ten d low ∙ ap Some (sym (ap (λ b. cond b (48 + d) (87 + d)) (below d 10 low)))))
+  | inl low ↦ (h, inl (ten d low ∙ ap Some (sym (ap (λ b. cond b (48 + d) (87 + d)) (lt-ltb d 10 low)))))
   | inr high ↦
       let test : ltb d 10 ≡ false = grind (arith, nat_tests) in
       let place : d ≡ 10 + (d - 10) = omega arith in
@@ -243,11 +240,22 @@ hexadecimal_spells n some =
       value = sym value;
     })
 
+-- and of 0
+zero_is : (base : ℕ) → 0 < base → SpellsIn base (codes "0") 0
+zero_is base h = record { digits = 0 ∷ []; each = ((h, inl refl), tt); some = omega arith; value = omega arith }
+
+pub decimal_is : (n : ℕ) → n < 2 ^ 64 → SpellsIn 10 (decimal n) n
+decimal_is zero h = subst (λ w. SpellsIn 10 w 0) (sym (decimal_digit 0 (omega arith))) (zero_is 10 (omega arith))
+decimal_is (suc n) h = decimal_spells (suc n) (omega arith) h
+
+pub hexadecimal_is : (n : ℕ) → SpellsIn 16 (hexadecimal n) n
+hexadecimal_is zero = zero_is 16 (omega arith)
+hexadecimal_is (suc n) = hexadecimal_spells (suc n) (omega arith)
+
 pub reads_printed : ReadsPrinted
-reads_printed zero h = (ap number_of (decimal_digit 0 (omega arith)), refl)
-reads_printed (suc n) h = (
-  number_all (decimal (suc n)) (suc n) (h, inl (decimal_spells (suc n) (omega arith) h)),
-  number_all (address_of (suc n)) (suc n) (h, inr (hexadecimal (suc n), refl, hexadecimal_spells (suc n) (omega arith))),
+reads_printed n h = (
+  number_all (decimal n) n (h, inl (decimal_is n h)),
+  number_all (address_of n) n (h, inr (hexadecimal n, refl, hexadecimal_is n)),
 )
 
 -- ---- a number at the front of words

@@ -9,3 +9,4 @@ pub mod Spelling
 pub mod Lists
 pub mod Grammar
 pub mod Halves
+pub mod Values

@@ -37,6 +37,11 @@ abbrev pub mark : Bool → List ℕ → List ℕ
 mark true letter = letter
 mark false letter = codes "-"
 
+-- a flag's letter, where it is set
+abbrev pub letter : Bool → List ℕ → List ℕ
+letter true text = text
+letter false text = []
+
 abbrev pub rights_text : Prot → Word
 rights_text prot =
     mark prot.read (codes "r") ++ mark prot.write (codes "w") ++ mark prot.exec (codes "x")

@@ -1,11 +1,12 @@
 //! The line `file N MODE LEN SEED`, which says for what a file is open and which bytes it has.
-ghost use Rattle.std.specs.Prelude.{◌≡◌, option_map};
+ghost use Rattle.std.specs.Prelude.{◌≡◌, ◌≤◌, IfOk, option_map};
 ghost use Rattle.trace_text.specs.Words.{words_of};
-ghost use Rattle.trace_text.specs.Line.{contents_of, file_line_of, mode_named};
+ghost use Rattle.trace_text.specs.Line.{contents_of, file_line_of, mode_named, seeded};
 
 use crate::line::Line;
 use crate::number::{next_byte, next_number};
 use crate::words::next_word;
+use std::alloc::{AllocError, Allocator};
 use vm_base::Mode;
 
 // For what a file is open.
@@ -51,4 +52,18 @@ pub fn read_file(args: &[u8]) -> Option<Line>
     let (mode, rest) = next_word(rest)?;
     let mode = read_mode(mode)?;
     read_contents(number, mode, rest)
+}
+
+/// The bytes of a file: each is one more than the one before it, modulo 256.
+pub fn file_bytes<A: Allocator>(alloc: A, len: u64, seed: u8) -> Result<Vec<u8, A>, AllocError>
+    requires { len ≤ 1048576 }
+    ensures { IfOk result (λ bytes. bytes.items ≡ seeded len seed) }
+{
+    let mut bytes = Vec::with_capacity(alloc, len as usize)?;
+    let mut byte = seed;
+    'bytes: for _at in 0..len {
+        bytes.push_reserved(byte);
+        byte = byte.wrapping_add(1);
+    }
+    Ok(bytes)
 }

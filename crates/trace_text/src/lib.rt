@@ -14,6 +14,7 @@ pub mod printing;
 pub mod request;
 pub mod sign;
 pub mod space_line;
+pub mod value;
 pub mod words;
 
 pub use access_line::{AskedAccess, read_access};
@@ -23,4 +24,7 @@ pub use line::{
     read_words,
 };
 pub use lists::{push_rights, push_start, write_answer, write_detach, write_map_line};
-pub use printing::{LineText, ShortText, address_text, number_text, push_number, push_reply};
+pub use printing::{
+    LineText, ShortText, address_text, number_text, push_address, push_count, push_letter,
+    push_number, push_reply, push_word,
+};

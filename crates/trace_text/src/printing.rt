@@ -1,9 +1,10 @@
 //! What numbers, addresses and replies are written as, in texts of fixed size that take no memory.
-ghost use Rattle.std.specs.Prelude.{◌≡◌, ◌+◌, ◌<◌, ◌≤◌, ◌++◌, false, length, decimal, map};
+ghost use Rattle.std.specs.Prelude.{◌≡◌, ◌+◌, ◌<◌, ◌≤◌, ◌++◌, codes, false, length, decimal, map};
 ghost use Rattle.std.specs.Fmt.{digit_glyph};
 ghost use Rattle.std.specs.Int.Digits.{digits_of};
 ghost use Rattle.arrayvec.specs.ArrayString.{array_string_len};
 ghost use Rattle.trace_text.specs.Printing.{address_of, refusal_of, text_of};
+ghost use Rattle.trace_text.specs.Spelling.{letter};
 
 use arrayvec::ArrayString;
 use vm_base::{Errno, Reply, SegvCode};
@@ -135,5 +136,45 @@ pub fn push_reply(text: &mut LineText, reply: Reply)
         Reply::Bus => text.push_str("bus"),
         Reply::NoFrame => text.push_str("noframe"),
         Reply::NoMemory => text.push_str("nomemory"),
+    }
+}
+
+/// Appends a space and the word.
+pub fn push_word(text: &mut LineText, word: &str)
+    requires { length text.old.bytes + length word.now + 1 ≤ 256 }
+    ensures bytes { text.new.bytes ≡ text.old.bytes ++ codes " " ++ word.now }
+    ensures long { length text.new.bytes ≡ length text.old.bytes + length word.now + 1 }
+{
+    text.push_str(" ");
+    text.push_str(word);
+}
+
+/// Appends a space and the address.
+pub fn push_address(text: &mut LineText, address: u64)
+    requires { length text.old.bytes + 21 ≤ 256 }
+    ensures bytes { text.new.bytes ≡ text.old.bytes ++ codes " " ++ address_of address }
+    ensures short { length text.new.bytes ≤ length text.old.bytes + 21 }
+{
+    push_word(text, address_text(address).as_str());
+}
+
+/// Appends a space and the number.
+pub fn push_count(text: &mut LineText, number: u64)
+    requires { length text.old.bytes + 21 ≤ 256 }
+    ensures bytes { text.new.bytes ≡ text.old.bytes ++ codes " " ++ decimal number }
+    ensures short { length text.new.bytes ≤ length text.old.bytes + 21 }
+{
+    push_word(text, number_text(number).as_str());
+}
+
+/// Appends a flag's letter, if it is set.
+pub fn push_letter(text: &mut LineText, is_set: bool, word: &str)
+    requires room { length text.old.bytes + 1 ≤ 256 }
+    requires one { length word.now ≤ 1 }
+    ensures bytes { text.new.bytes ≡ text.old.bytes ++ letter is_set word.now }
+    ensures short { length text.new.bytes ≤ length text.old.bytes + 1 }
+{
+    if is_set {
+        text.push_str(word);
     }
 }
