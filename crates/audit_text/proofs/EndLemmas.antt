@@ -14,7 +14,7 @@ use Rattle.audit_text.specs.Faults.{IsReadFault}
 use Rattle.audit_text.specs.Legal.{first_map}
 use Rattle.audit_text.specs.Steps.{EndsFront, IsCall}
 use Rattle.audit_text.specs.declared.input.AuditFault.{AuditFault}
-use Rattle.audit_text.specs.declared.input.AuditFault.TheVariants.{BadLine, TooLong, ReadFailed, NoVmLine, NoMemory, WriteFailed}
+use Rattle.audit_text.specs.declared.input.AuditFault.TheVariants.{ReadFailed, NoMemory, WriteFailed}
 use Rattle.audit_text.specs.declared.judging.Verdict.{Verdict}
 use Rattle.audit_text.specs.declared.reading.Said.{Said}
 
@@ -65,12 +65,9 @@ breaks_off any input text old new verdict around f is v e w =
 
 pub fails_so : (any : Bool) (input : List ℕ) (o : Option (List ℕ)) (f : AuditFault) → IsAtFault any (lines_of input) f
     → AuditEnds any input o o (Err f)
-fails_so any input o (BadLine n) h = (h, keeps_same o)
-fails_so any input o (TooLong n) h = (h, keeps_same o)
-fails_so any input o NoVmLine h = (h, keeps_same o)
-fails_so any input o NoMemory h = (h, keeps_same o)
 fails_so any input o ReadFailed h = absurd h
 fails_so any input o WriteFailed h = absurd h
+fails_so any input o f h = (h, keeps_same o)
 
 pub not_read : (any : Bool) (lines : List (List ℕ)) → IsAtFault any lines ReadFailed → ⊥
 not_read any lines h = h
@@ -79,12 +76,9 @@ pub not_written : (any : Bool) (lines : List (List ℕ)) → IsAtFault any lines
 not_written any lines h = h
 
 unread_fails : (any : Bool) (input : List ℕ) (o : Option (List ℕ)) (f : AuditFault) → IsReadFault f → AuditEnds any input o o (Err f)
-unread_fails any input o (BadLine n) h = absurd h
-unread_fails any input o (TooLong n) h = absurd h
-unread_fails any input o NoVmLine h = absurd h
 unread_fails any input o NoMemory h = (tt, keeps_same o)
 unread_fails any input o ReadFailed h = keeps_same o
-unread_fails any input o WriteFailed h = absurd h
+unread_fails any input o f h = absurd h
 
 pub stopped : (a b : Stream) (any : Bool) (o : Option (List ℕ)) (f : AuditFault) → IsReadFault f → Reads a b (λ xs ys. xs ≡ xs)
     → Reads a b (λ input unread. AuditEnds any input o o (Err f))

@@ -14,7 +14,7 @@ use Rattle.audit_text.specs.Legal.{Follows, IsLegal, IsPlace, IsWrong, first_map
 use Rattle.audit_text.specs.Steps.{EndsFront, HasEnded, Hears, IsAtLine, IsCall, IsFound, IsRefused, TurnsOut}
 use Rattle.audit_text.specs.declared.hearing.Turn.TheVariants.{Legal, Illegal}
 use Rattle.audit_text.specs.declared.input.AuditFault.{AuditFault}
-use Rattle.audit_text.specs.declared.input.AuditFault.TheVariants.{BadLine, TooLong, ReadFailed, NoVmLine, NoMemory, WriteFailed}
+use Rattle.audit_text.specs.declared.input.AuditFault.TheVariants.{BadLine, TooLong, NoMemory}
 use Rattle.audit_text.specs.declared.judging.Verdict.{Verdict}
 use Rattle.audit_text.specs.declared.judging.Verdict.TheVariants as Of
 use Rattle.audit_text.specs.declared.reading.Said.{Said}
@@ -89,10 +89,8 @@ fault_here any lines rest more n s t line (TooLong k) p h e (is, long) = record 
   replies = h;
   long = long;
 }
-fault_here any lines rest more n s t line NoVmLine p h e says = absurd says
 fault_here any lines rest more n s t line NoMemory p h e says = tt
-fault_here any lines rest more n s t line ReadFailed p h e says = absurd says
-fault_here any lines rest more n s t line WriteFailed p h e says = absurd says
+fault_here any lines rest more n s t line f p h e says = absurd says
 
 pub bad_at : (any : Bool) (lines more : List (List ℕ)) (n : ℕ) (s : Stage) (t : Plain) (said : Said) → IsAtLine lines n said more s → Follows any s t
     → stage_after s said ≡ None → IsAtFault any lines (BadLine n)
@@ -190,11 +188,8 @@ pub turn_fault : (any : Bool) (lines more : List (List ℕ)) (d : Declared) (h k
 turn_fault any lines more d h k t u said n (BadLine m) c turns =
     subst (λ i. IsAtFault any lines (BadLine i)) (sym turns.0)
     (bad_at any lines more n c.stage t said c.at c.follows (c.after ∙ ap (behind d) turns.1))
-turn_fault any lines more d h k t u said n (TooLong m) c turns = absurd turns
-turn_fault any lines more d h k t u said n NoVmLine c turns = absurd turns
 turn_fault any lines more d h k t u said n NoMemory c turns = tt
-turn_fault any lines more d h k t u said n ReadFailed c turns = absurd turns
-turn_fault any lines more d h k t u said n WriteFailed c turns = absurd turns
+turn_fault any lines more d h k t u said n f c turns = absurd turns
 
 -- ---- the same of a turn whose rule is known by an equation
 

@@ -1,8 +1,7 @@
 -- Replies and their texts.
-use Rattle.std.proofs.Common.{◌≡◌, inl, inr, ℕ, zero, suc, ◌<◌, ◌≤◌, ◌^◌, Bool, true, false, cond, eqb, List, [], ◌∷◌, Option, Some, None}
+use Rattle.std.proofs.Common.{◌≡◌, inl, inr, ℕ, ◌<◌, ◌≤◌, ◌^◌, Bool, true, false, cond, eqb, List, [], ◌∷◌, Option, Some, None}
 use Rattle.std.proofs.Common.{codes, decimal, arith, refl, sym, ap, ◌∙◌, subst}
 use Rattle.std.proofs.lemmas.Bool.Decides.{nat_tests}
-use Rattle.std.proofs.lemmas.Fmt.{decimal_digit}
 use Rattle.std.proofs.lemmas.Slice.Eq.{bytes_eq-Decides}
 use Rattle.std.specs.Prelude.{nat_lt, IfSome}
 use Rattle.std.specs.Str.{bytes_eq}
@@ -11,55 +10,29 @@ use Rattle.vm_base.specs.declared.replies.SegvCode.TheVariants.{MapErr, AccErr}
 use Rattle.vm_base.specs.declared.replies.Reply.{Reply}
 use Rattle.vm_base.specs.declared.replies.Reply.TheVariants.{Mapped, Done, Byte, Refused, Segv, Bus, NoFrame, NoMemory}
 use Rattle.trace_text.specs.Number.{number_of}
-use Rattle.trace_text.specs.Printing.{address_of, text_of}
+use Rattle.trace_text.specs.Printing.{address_of, hexadecimal, text_of}
 use Rattle.trace_text.specs.Request.{◌>>=◌}
-use Rattle.trace_text.specs.Spelling.{SpellsIn}
 use Rattle.trace_text.proofs.Choices.{bind_some, chosen}
-use Rattle.trace_text.proofs.SpellingLemmas.{decimal_spells, no_x, number_only, reads_printed}
-use Rattle.audit_text.specs.Replies.{IsReply, NamesReply, is_hexadecimal, is_wait, named_of, or_word, reply_of, value_of, word_reply}
+use Rattle.trace_text.specs.Values.{is_hexadecimal, value_of}
+use Rattle.trace_text.proofs.SpellingLemmas.{decimal_is, hexadecimal_is, number_only}
+use Rattle.trace_text.proofs.ValueLemmas.{decimal_value, hexadecimal_value}
+use Rattle.audit_text.specs.Replies.{IsReply, NamesReply, is_wait, named_of, or_word, reply_of, word_reply}
 
 -- ---- what is written is read
 
-not_hexadecimal : (w : List ℕ) (n : ℕ) → SpellsIn 10 w n → is_hexadecimal w ≡ false
-not_hexadecimal [] n s = refl
-not_hexadecimal (c ∷ []) n s = refl
-not_hexadecimal (c ∷ (d ∷ ds)) n s = no_x c d ds s.digits s.each
-
-decimal_plain : (n : ℕ) → n < 2 ^ 64 → is_hexadecimal (decimal n) ≡ false
-decimal_plain zero h = ap is_hexadecimal (decimal_digit 0 (omega arith))
-decimal_plain (suc n) h = not_hexadecimal (decimal (suc n)) (suc n) (decimal_spells (suc n) (omega arith) h)
-
 value_byte : (b : ℕ) → b ≤ 255 → value_of (decimal b) ≡ Some (Byte b)
-unfolding value_of
-value_byte b h =
-    let k : number_of (decimal b) ≡ Some b = (reads_printed b (omega (arith, h))).0 in
-    let no : is_hexadecimal (decimal b) ≡ false = decimal_plain b (omega (arith, h)) in
-    let test : nat_lt 255 b ≡ false = grind (arith, nat_tests) in
-    ap (λ o. o >>= λ m. cond (is_hexadecimal (decimal b)) (Some (Mapped m)) (cond (nat_lt 255 m) None (Some (Byte m)))) k
-    ∙ ap (λ x. cond x (Some (Mapped b)) (cond (nat_lt 255 b) None (Some (Byte b)))) no
-    ∙ ap (λ x. cond x None (Some (Byte b))) test
+value_byte b h = decimal_value (decimal b) b (decimal_is b (omega (arith, h))) h
 
 value_address : (a : ℕ) → a < 2 ^ 64 → value_of (address_of a) ≡ Some (Mapped a)
-unfolding value_of
-value_address a h =
-    let k : number_of (address_of a) ≡ Some a = (reads_printed a h).1 in
-    ap (λ o. o >>= λ m. cond (is_hexadecimal (address_of a)) (Some (Mapped m)) (cond (nat_lt 255 m) None (Some (Byte m)))) k
+value_address a h = hexadecimal_value (hexadecimal a) a (hexadecimal_is a) h
 
 named : (r : Reply) → IsReply r → named_of (text_of r) ≡ Some r
 unfolding value_of
 named (Mapped a) h = ap (λ o. or_word o (address_of a)) (value_address a h)
-named Done h = refl
 named (Byte b) h = ap (λ o. or_word o (decimal b)) (value_byte b h)
 named (Refused EINVAL) h = refl
-named (Refused ENOMEM) h = refl
-named (Refused EACCES) h = refl
-named (Refused EBADF) h = refl
-named (Refused EOVERFLOW) h = refl
 named (Segv MapErr) h = refl
-named (Segv AccErr) h = refl
-named Bus h = refl
-named NoFrame h = refl
-named NoMemory h = refl
+named r h = refl
 
 pub reply_read : (r : Reply) (text : List ℕ) → NamesReply r text → reply_of text ≡ Some r
 unfolding reply_of
@@ -179,18 +152,10 @@ not_valued text r e = go (is_wait text) refl
 
 waits_not : (r : Reply) → IsReply r → is_wait (text_of r) ≡ false
 waits_not (Mapped a) h = not_valued (address_of a) (Mapped a) (value_address a h)
-waits_not Done h = refl
 waits_not (Byte b) h = not_valued (decimal b) (Byte b) (value_byte b h)
 waits_not (Refused EINVAL) h = refl
-waits_not (Refused ENOMEM) h = refl
-waits_not (Refused EACCES) h = refl
-waits_not (Refused EBADF) h = refl
-waits_not (Refused EOVERFLOW) h = refl
 waits_not (Segv MapErr) h = refl
-waits_not (Segv AccErr) h = refl
-waits_not Bus h = refl
-waits_not NoFrame h = refl
-waits_not NoMemory h = refl
+waits_not r h = refl
 
 pub reply_waits_not : (r : Reply) (text : List ℕ) → NamesReply r text → is_wait text ≡ false
 reply_waits_not r text (is, h) = ap is_wait is ∙ waits_not r h

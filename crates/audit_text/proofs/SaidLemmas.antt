@@ -1,5 +1,6 @@
 -- What a line says, and how it is read.
 use Rattle.std.proofs.Common.{◌≡◌, ◌⊎◌, inl, inr, ℕ, Bool, true, false, cond, eqb, List, [], ◌∷◌, Option, Some, None, refl, sym, ap, ◌∙◌, subst}
+use Rattle.std.proofs.lemmas.Bool.{and_from, and_parts}
 use Rattle.std.specs.Prelude.{◌&&◌, IfSome, IfNone}
 use Rattle.vm_base.specs.declared.requests.Request.{Request}
 use Rattle.trace_text.specs.Grammar.{BytesSay, Says}
@@ -18,13 +19,6 @@ use Rattle.audit_text.specs.declared.reading.Said.TheVariants.{Blank, Space, Fil
 use Rattle.audit_text.proofs.ReplyLemmas.{reply_only, reply_read, reply_waits_not}
 use Rattle.trace_text.specs.Halves.{AreHalves}
 use Rattle.trace_text.proofs.HalvesLemmas.{halves_one}
-
-both : (a b : Bool) → a && b ≡ true → (a ≡ true) × (b ≡ true)
-both true b e = (refl, e)
-both false b e = absurd (cc)
-
-both_true : (a b : Bool) → a ≡ true → b ≡ true → a && b ≡ true
-both_true a b e f = rw (e, f) refl
 
 -- ---- events
 
@@ -51,33 +45,22 @@ comes_end core text said e = elim (chosen (is_wait text) (Some (StillWaits core)
 
 comes_passed : (line : Line) (text : List ℕ) (said : Said) → passed_said line text ≡ Some said → Comes said line text
 comes_passed line text said e = elim (chosen (is_passed line && is_step text) (Some Passes) None (Some said) e) [
-  | inl h ↦ let same : Passes ≡ said = (let g = h.1 in cc) in subst (λ s. Comes s line text) same (both (is_passed line) (is_step text) h.0)
+  | inl h ↦ let same : Passes ≡ said = (let g = h.1 in cc) in subst (λ s. Comes s line text) same (and_parts (is_passed line) (is_step text) h.0)
   | inr h ↦ let bad = h.1 in absurd (cc)
 ]
 
 comes_only : (line : Line) (text : List ℕ) (said : Said) → event_said line text ≡ Some said → Comes said line text
-comes_only Of.Blank text said e = comes_passed Of.Blank text said e
-comes_only (Of.Space cores frames calls) text said e = comes_passed (Of.Space cores frames calls) text said e
-comes_only (Of.File number mode len seed) text said e = comes_passed (Of.File number mode len seed) text said e
-comes_only (Of.Act core action) text said e = comes_passed (Of.Act core action) text said e
-comes_only (Of.Fold page) text said e = comes_passed (Of.Fold page) text said e
 comes_only (Of.Finish core) text said e = comes_end core text said e
 comes_only (Of.Now core request) text said e = comes_call core request text said e
+comes_only line text said e = comes_passed line text said e
 
 passes_read : (line : Line) (text : List ℕ) → is_passed line ≡ true → is_step text ≡ true → event_said line text ≡ Some Passes
-passes_read Of.Blank text e f = absurd (cc)
-passes_read (Of.Space cores frames calls) text e f = absurd (cc)
-passes_read (Of.File number mode len seed) text e f = absurd (cc)
-passes_read (Of.Act core action) text e f = ap (λ b. cond b (Some Passes) None) (both_true _ _ e f)
+passes_read (Of.Act core action) text e f = ap (λ b. cond b (Some Passes) None) (and_from _ _ e f)
 passes_read (Of.Fold page) text e f = ap (λ b. cond b (Some Passes) None) f
-passes_read (Of.Finish core) text e f = absurd (cc)
-passes_read (Of.Now core request) text e f = absurd (cc)
+passes_read line text e f = absurd (cc)
 
 pub comes_read : (said : Said) (line : Line) (text : List ℕ) → Comes said line text → event_said line text ≡ Some said
 unfolding call_said end_said
-comes_read Blank line text h = absurd h
-comes_read (Space cores frames calls) line text h = absurd h
-comes_read (File number mode len seed) line text h = absurd h
 comes_read (Answered call) line text (is, names) =
     ap (λ l. event_said l text) is
     ∙ ap (λ b. cond b (Some (Waits call.core call.request)) (reply_of text >>= λ r. Some
@@ -95,6 +78,7 @@ comes_read (Ends core reply) line text (is, names) =
 comes_read (StillWaits core) line text (is, waits) =
     ap (λ l. event_said l text) is ∙ ap (λ b. cond b (Some (StillWaits core)) (reply_of text >>= λ r. Some (Ends core r))) waits
 comes_read Passes line text (e, f) = passes_read line text e f
+comes_read said line text h = absurd h
 
 -- ---- an event's line
 
@@ -137,11 +121,7 @@ pub event_means : (said : Said) (bytes : List ℕ) → TellsEvent said bytes →
 event_means Blank bytes t = absurd t.comes
 event_means (Space cores frames calls) bytes t = absurd t.comes
 event_means (File number mode len seed) bytes t = absurd t.comes
-event_means (Answered call) bytes t = t
-event_means (Waits core request) bytes t = t
-event_means (Ends core reply) bytes t = t
-event_means (StillWaits core) bytes t = t
-event_means Passes bytes t = t
+event_means said bytes t = t
 
 -- an event's line, if it is printable
 pub shown_some : (r : Option Said) (bytes : List ℕ) (said : Said) → TellsEvent said bytes → r ≡ cond (are_printable bytes) (Some said) None
@@ -166,10 +146,7 @@ declared_only : (bytes : List ℕ) (line : Line) (said : Said) → BytesSay line
 declared_only bytes Of.Blank said h e = let same : Blank ≡ said = cc in subst (λ s. Means s bytes) same h
 declared_only bytes (Of.Space cores frames calls) said h e = let same : Space cores frames calls ≡ said = cc in subst (λ s. Means s bytes) same h
 declared_only bytes (Of.File number mode len seed) said h e = let same : File number mode len seed ≡ said = cc in subst (λ s. Means s bytes) same h
-declared_only bytes (Of.Act core action) said h e = absurd (cc)
-declared_only bytes (Of.Fold page) said h e = absurd (cc)
-declared_only bytes (Of.Finish core) said h e = absurd (cc)
-declared_only bytes (Of.Now core request) said h e = absurd (cc)
+declared_only bytes line said h e = absurd (cc)
 
 -- what a line says is what it is read as
 bytes_read : (bytes : List ℕ) (line : Line) → BytesSay line bytes → line_of bytes ≡ Some line
@@ -187,11 +164,7 @@ unfolding declaration_of
 means_either Blank bytes h = inr (ap (λ o. o >>= declared_said) (bytes_read bytes Of.Blank h))
 means_either (Space cores frames calls) bytes h = inr (ap (λ o. o >>= declared_said) (bytes_read bytes (Of.Space cores frames calls) h))
 means_either (File number mode len seed) bytes h = inr (ap (λ o. o >>= declared_said) (bytes_read bytes (Of.File number mode len seed) h))
-means_either (Answered call) bytes h = inl h
-means_either (Waits core request) bytes h = inl h
-means_either (Ends core reply) bytes h = inl h
-means_either (StillWaits core) bytes h = inl h
-means_either Passes bytes h = inl h
+means_either said bytes h = inl h
 
 declared_read : (bytes : List ℕ) (said : Said) → (TellsEvent said bytes → ⊥) → Means said bytes → declaration_of bytes ≡ Some said
 declared_read bytes said never h = elim (means_either said bytes h) [

@@ -1,15 +1,14 @@
 -- What a text of a reply says.
-use Rattle.std.specs.Prelude.{◌≡◌, ℕ, ◌^◌, ◌<◌, ◌≤◌, ⊤, ◌&&◌, ◌||◌, Bool, false, List, [], ◌∷◌, Option, None, Some}
-use Rattle.std.specs.Prelude.{if◌then◌else◌, ◌==◌, nat_lt, codes}
+use Rattle.std.specs.Prelude.{◌≡◌, ℕ, ◌^◌, ◌<◌, ◌≤◌, ⊤, ◌||◌, Bool, false, List, [], ◌∷◌, Option, None, Some}
+use Rattle.std.specs.Prelude.{if◌then◌else◌, codes}
 use Rattle.std.specs.Str.{bytes_eq}
 use Rattle.vm_base.specs.declared.replies.Errno.TheVariants.{EINVAL, ENOMEM, EACCES, EBADF, EOVERFLOW}
 use Rattle.vm_base.specs.declared.replies.SegvCode.TheVariants.{MapErr, AccErr}
 use Rattle.vm_base.specs.declared.replies.Reply.{Reply}
 use Rattle.vm_base.specs.declared.replies.Reply.TheVariants.{Mapped, Done, Byte, Refused, Segv, Bus, NoFrame, NoMemory}
-use Rattle.trace_text.specs.Number.{number_of}
 use Rattle.trace_text.specs.Printing.{text_of}
 use Rattle.trace_text.specs.Request.{◌>>=◌}
-use Rattle.trace_text.specs.Words.{byte}
+use Rattle.trace_text.specs.Values.{value_of}
 
 -- ---- what is written so
 
@@ -37,17 +36,6 @@ abbrev pub is_step : List ℕ → Bool
 is_step text = bytes_eq text (codes "step") || bytes_eq text (codes "idle")
 
 -- ---- how it is read
-
-abbrev pub is_hexadecimal : List ℕ → Bool
-is_hexadecimal [] = false
-is_hexadecimal (c ∷ []) = false
-is_hexadecimal (c ∷ d ∷ ds) = (c == byte (codes "0")) && (d == byte (codes "x"))
-
--- a reply that is a number: an address in hexadecimal digits, a byte in decimal ones
-unfoldable pub value_of : List ℕ → Option Reply
-value_of text = do
-  n ← number_of text
-  if is_hexadecimal text then Some (Mapped n) else if nat_lt 255 n then None else Some (Byte n)
 
 abbrev pub word_reply : List ℕ → Option Reply
 word_reply text = if bytes_eq text (codes "done") then Some Done

@@ -1,9 +1,7 @@
 //! A text is read whole, its replies are judged, and the verdict is written.
-ghost use Rattle.std.specs.Prelude.{◌≡◌, ◌⊎◌, ◌+◌, ◌<◌, ◌≤◌, ◌^◌, [], Bool, Err, IfErr, IfOk, OnErr, OnOk, List, ℕ, Some, length, true};
+ghost use Rattle.std.specs.Prelude.{◌≡◌, ◌⊎◌, ◌+◌, ◌<◌, ◌≤◌, ◌^◌, [], Bool, Err, IfErr, IfOk, OnOk, List, ℕ, Some, length, true};
 ghost use Rattle.trace_io.specs.Lines.{lines_of};
-ghost use Rattle.std.specs.Io.KnownBytes.{Appends};
-ghost use Rattle.trace_io.specs.Sink.{AppendsFront};
-ghost use Rattle.trace_io.specs.Source.{HasStopped, Reads};
+ghost use Rattle.trace_io.specs.Source.{Reads};
 ghost use Rattle.slot_lock.specs.Slots.{IsNew};
 ghost use Rattle.map_list.specs.Walked.{slot_metas};
 ghost use Rattle.audit_text.specs.Ends.{AuditEnds, IsAtFault, IsVerdict, TellsAudit};
@@ -21,7 +19,7 @@ use crate::telling::verdict_text;
 use map_list::MapLine;
 use slot_lock::SlotMap;
 use std::alloc::Allocator;
-use trace_io::sink::{Sink, write_all};
+use trace_io::sink::{Sink, write_out};
 use trace_io::source::Source;
 
 /// A verdict, and the mappings around the request of the reply that is illegal.
@@ -159,24 +157,6 @@ pub fn judge_text<M: SlotMap + Drop, A: Allocator + Clone + Drop>(
     }
 }
 
-// Writes all of the bytes, which have gone out then.
-fn write_out<W: Sink>(writer: &mut W, bytes: &[u8]) -> Result<(), AuditFault>
-    ensures ok { OnOk result (Appends (W.contents writer.old) (W.contents writer.new) bytes.now) }
-    ensures out { OnOk result (W.is_flushed writer.new ≡ true) }
-    ensures kept { OnOk result (W.failed writer.new ≡ W.failed writer.old) }
-    ensures front { OnErr result (AppendsFront (W.contents writer.old) (W.contents writer.new) bytes.now) }
-    ensures err { OnErr result (W.failed writer.new ≡ true) }
-    ensures fault { IfErr result (λ f. f ≡ AuditFault.WriteFailed) }
-{
-    if let Err(_) = write_all(writer, bytes) {
-        return Err(AuditFault::WriteFailed);
-    }
-    if let Err(_) = writer.flush() {
-        return Err(AuditFault::WriteFailed);
-    }
-    Ok(())
-}
-
 // Judges a text, and writes the verdict.
 #[tactic(auto, using(crate::proofs::EndLemmas::judges_all, crate::proofs::EndLemmas::breaks_off, crate::proofs::EndLemmas::fails_so, crate::proofs::EndLemmas::keeps_same))]
 fn judge_out<M: SlotMap + Drop, A: Allocator + Clone + Drop, W: Sink>(
@@ -205,7 +185,7 @@ fn judge_out<M: SlotMap + Drop, A: Allocator + Clone + Drop, W: Sink>(
     };
     match write_out(writer, told.as_slice()) {
         Ok(()) => Ok(judged.verdict),
-        Err(fault) => Err(fault),
+        Err(_) => Err(AuditFault::WriteFailed),
     }
 }
 

@@ -1,15 +1,16 @@
 //! What the lines in front of the calls declare.
 ghost use Rattle.std.specs.Prelude.{◌≡◌, ◌+◌, ◌≤◌, Bool, IfErr, IfOk, OnOk, length};
 ghost use Rattle.trace_io.specs.Lines.{lines_of};
-ghost use Rattle.trace_text.specs.Line.{seeded};
 ghost use Rattle.audit_text.specs.Ends.{IsAtFault};
 ghost use Rattle.audit_text.specs.Heard.{undeclared};
 ghost use Rattle.audit_text.specs.Steps.{EndsFront, declared_of};
 
-use crate::input::{AuditFault, front_line, said_at};
+use crate::input::{AuditFault, said_at};
 use crate::reading::Said;
 use backing::FileSpec;
-use std::alloc::{AllocError, Allocator};
+use std::alloc::Allocator;
+use trace_io::lines::front_line;
+use trace_text::file_line::file_bytes;
 use vm_base::limits::{FILE_BYTES, FILE_COUNT};
 use vm_base::{Mode, NoMemory};
 
@@ -42,20 +43,6 @@ pub struct Behind<'a> {
     pub number: u64,
     /// The lines behind that one.
     pub rest: &'a [u8],
-}
-
-// The bytes of a file: each is one more than the one before it, modulo 256.
-fn bytes_of<A: Allocator>(alloc: A, len: u64, seed: u8) -> Result<Vec<u8, A>, AllocError>
-    requires { len ≤ 1048576 }
-    ensures { IfOk result (λ bytes. bytes.items ≡ seeded len seed) }
-{
-    let mut bytes = Vec::with_capacity(alloc, len as usize)?;
-    let mut byte = seed;
-    'bytes: for _at in 0..len {
-        bytes.push_reserved(byte);
-        byte = byte.wrapping_add(1);
-    }
-    Ok(bytes)
 }
 
 impl<A: Allocator + Clone> Declaration<A> {
@@ -116,7 +103,7 @@ impl<A: Allocator + Clone> Declaration<A> {
         if number != next || next >= FILE_COUNT || len > FILE_BYTES {
             return Ok(Declares::Bad);
         }
-        let bytes = bytes_of(alloc, len, seed)?;
+        let bytes = file_bytes(alloc, len, seed)?;
         self.files.push(FileSpec { mode, bytes })?;
         Ok(Declares::Part)
     }

@@ -7,11 +7,12 @@ ghost use Rattle.audit_text.specs.Heard.{Declared};
 ghost use Rattle.audit_text.specs.Steps.{IsCall, IsCounted, IsFound, TurnsOut, heard_of};
 
 use crate::hearing::{Hearing, Turn};
-use crate::input::{AuditFault, front_line, said_at};
+use crate::input::{AuditFault, said_at};
 use crate::reading::Said;
 use audit::Call;
 use slot_lock::SlotMap;
 use std::alloc::Allocator;
+use trace_io::lines::front_line;
 use vm_base::Reply;
 
 /// What judging the replies of a text comes to.

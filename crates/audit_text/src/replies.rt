@@ -2,36 +2,11 @@
 ghost use Rattle.std.specs.Prelude.{◌≡◌};
 ghost use Rattle.std.specs.Str.{bytes_eq};
 ghost use Rattle.trace_text.specs.Printing.{text_of};
-ghost use Rattle.audit_text.specs.Replies.{is_hexadecimal, is_step, is_wait, reply_of, value_of, word_reply};
+ghost use Rattle.audit_text.specs.Replies.{is_step, is_wait, reply_of, word_reply};
 
-use trace_text::number::read_number;
+use trace_text::value::read_value;
 use trace_text::{LineText, address_text, number_text, push_reply};
 use vm_base::{Errno, Reply, SegvCode};
-
-// Tells whether the text begins as an address does.
-fn is_hexadecimal(text: &[u8]) -> bool
-    ensures { result ≡ is_hexadecimal text.now }
-{
-    match text {
-        [b'0', b'x', ..] => true,
-        _ => false,
-    }
-}
-
-// The reply that is a number: an address in hexadecimal digits, a byte in decimal ones.
-#[tactic(auto, unfolding(crate::specs::Replies::value_of))]
-fn read_value(text: &[u8]) -> Option<Reply>
-    ensures { result ≡ value_of text.now }
-{
-    let number = read_number(text)?;
-    if is_hexadecimal(text) {
-        return Some(Reply::Mapped(number));
-    }
-    if number > 255 {
-        return None;
-    }
-    Some(Reply::Byte(number as u8))
-}
 
 // The reply that is no number.
 fn read_word(text: &[u8]) -> Option<Reply>
